@@ -1,5 +1,6 @@
 -- The boot words represent the start state.
-use Rattle.std.proofs.Common.{◌≡◌, inl, inr, ℕ, ◌+◌, ◌-◌, ◌*◌, ◌^◌, ◌<◌, ◌≤◌, Bool, true, false, refl, sym, ◌∙◌, ap, subst, arith, ◌==◌, nat_lt, if◌then◌else◌, [], ◌∷◌, length, Option, Some, None, pos, ◌+ℤ◌}
+use Rattle.std.proofs.Common.{◌≡◌, inl, inr, ℕ, ◌+◌, ◌-◌, ◌*◌, ◌^◌, ◌<◌, ◌≤◌, Bool, true, false, refl, sym, ◌∙◌, ap}
+use Rattle.std.proofs.Common.{subst, arith, ◌==◌, nat_lt, if◌then◌else◌, [], ◌∷◌, length, Option, Some, None, pos, ◌+ℤ◌}
 use Rattle.std.specs.List.{slice_get}
 use Rattle.std.proofs.lemmas.Bool.{cases_eq, ne_eqb, ltb-true, true≢false}
 use Rattle.std.proofs.lemmas.Int.{ints}
@@ -29,7 +30,8 @@ use Rattle.tcap_words.proofs.HeadLemmas as heads
 use Rattle.tcap_words.proofs.QualityLemmas as qualities
 use Rattle.tcap_words.proofs.StackLemmas as stacks
 use Rattle.tcap_words.proofs.ThreadLemmas as threads
-use Rattle.kernel_rules.specs.State.{Place, Free, Holds, Quiescing, TcapFields, Blank, Table, Leaf, Pages, Pleaf, Comp, Thread, Tcap, Frame, Untyped, User, Kernel}
+use Rattle.kernel_rules.specs.State.{Place, Free, Holds, Quiescing, TcapFields, Blank, Table, Leaf}
+use Rattle.kernel_rules.specs.State.{Pages, Pleaf, Comp, Thread, Tcap, Frame, Untyped, User, Kernel}
 use Rattle.word_map.specs.Word.{Word, EntryAt, FrameAt, CountAt, CoreAt, FlushAt, LiveAt, ClockAt}
 use Rattle.kernel_rules.specs.Start.{start, start_place, start_cap, core_cap, start_comp, start_frame, start_number, place_with, granted}
 use Rattle.kernel_rules.specs.References.{refs}
@@ -71,7 +73,8 @@ one_high h = elim (cases_eq h 0) [
   | inr other ↦ subst PlaceFits (sym (slice_get_past (3 ∷ []) h (omega arith))) tt
 ]
 
-are_thread : (c : ℕ) → c < 8 → AreThread (record { stack = 3 ∷ []; runs_on = Some c }) (λ i. boot_thread (record { stack = 3 ∷ []; runs_on = Some c }) i)
+are_thread : (c : ℕ) → c < 8
+    → AreThread (record { stack = 3 ∷ []; runs_on = Some c }) (λ i. boot_thread (record { stack = 3 ∷ []; runs_on = Some c }) i)
 are_thread c h = record {
   runs = threads.spelling.reads (Running c 1) (h, (omega arith, omega arith));
   stack = λ n k. let back : 1 + n - 1 ≡ n = omega arith in
@@ -100,7 +103,12 @@ one_pair p fits j = elim (cases_eq j 0) [
 ]
 
 granted_fits : (o : Option Grant) → ((g : Grant) → o ≡ Some g → GrantFits g) → FitsTcap (granted o)
-granted_fits None h = record { budget = omega arith; pairs = λ j. subst PairFits (sym (slice_get_past {X = ℕ × ℕ} [] j (omega arith))) tt; most = omega arith }
+granted_fits None h = record {
+  budget = omega arith;
+  pairs =
+      λ j. subst PairFits (sym (slice_get_past {X = ℕ × ℕ} [] j (omega arith))) tt;
+  most = omega arith;
+}
 granted_fits (Some g) h =
     let fits = h g refl in
     record { budget = omega (arith, fits.0); pairs = one_pair (g.sched, g.quality) (fits.1, fits.2, fits.3); most = omega arith }
@@ -127,9 +135,11 @@ module _ (setup : Setting) (lim : IsSetting setup) where
   core_fits i =
       let n = lim.most_cores in
       choose CapFits (nat_lt i 4) _ _ (λ e. tt) λ e.
-      choose CapFits (nat_lt i (4 + setup.cores)) _ _ (λ e. (omega (arith, n, ltb-true i (4 + setup.cores) e), omega arith, omega arith)) λ e.
+      choose CapFits (nat_lt i (4 + setup.cores)) _ _
+      (λ e. (omega (arith, n, ltb-true i (4 + setup.cores) e), omega arith, omega arith)) λ e.
       choose CapFits (nat_lt i 12) _ _ (λ e. tt) λ e.
-      choose CapFits (nat_lt i (12 + setup.cores)) _ _ (λ e. (omega (arith, n, ltb-true i (12 + setup.cores) e), omega arith, omega arith)) λ e. tt
+      choose CapFits (nat_lt i (12 + setup.cores)) _ _
+      (λ e. (omega (arith, n, ltb-true i (12 + setup.cores) e), omega arith, omega arith)) λ e. tt
 
   cap_fits : (i : ℕ) → CapFits (start_cap setup i)
   cap_fits i =
@@ -147,14 +157,20 @@ module _ (setup : Setting) (lim : IsSetting setup) where
   objects : (f : ℕ) → AreFrame (start_frame setup f) (start_place setup f) (λ i. boot_frame (start_frame setup f) (start_place setup f) i)
   objects f =
       let P : Frame → Type 0 = λ x. AreFrame x (start_place setup f) (λ i. boot_frame x (start_place setup f) i) in
-      let node : (i : ℕ) → i < 64 → SaysPlace (start_place setup f i) (entry_of_word (word_of_entry (boot_entry (start_place setup f i)))) = λ i h. says_place (start_place setup f i) (place_fits f i) in
+      let node : (i : ℕ) → i < 64 → SaysPlace (start_place setup f i) (entry_of_word (word_of_entry (boot_entry (start_place setup f i)))) =
+      λ i h. says_place (start_place setup f i) (place_fits f i) in
       let n = lim.most_cores in
       choose P (f == 0) _ _ (λ e. node) λ e.
       choose P (f == 1) _ _ (λ e. node) λ e.
       choose P (f == 2) _ _ (λ e. node) λ e.
-      choose P (f == 3) _ _ (λ e. record { table = refl; pages = refl; live = comps.spelling.reads (record { number = 0; epoch = 1 }) (omega arith, omega arith, omega arith) }) λ e.
+      choose P (f == 3) _ _ (λ e. record {
+        table = refl;
+        pages = refl;
+        live = comps.spelling.reads (record { number = 0; epoch = 1 }) (omega arith, omega arith, omega arith);
+      }) λ e.
       choose P (nat_lt f (4 + setup.cores)) _ _ (λ e. are_thread (f - 4) (omega (arith, n, ltb-true f (4 + setup.cores) e))) λ e.
-      choose P (nat_lt f (4 + 2 * setup.cores)) _ _ (λ e. are_tcap (granted (slice_get setup.grants (f - 4 - setup.cores))) (granted_fits _ (grant_fits setup lim (f - 4 - setup.cores)))) λ e. tt
+      choose P (nat_lt f (4 + 2 * setup.cores)) _ _ (λ e. are_tcap (granted (slice_get setup.grants (f - 4 - setup.cores)))
+      (granted_fits _ (grant_fits setup lim (f - 4 - setup.cores)))) λ e. tt
 
   bare : (f : ℕ) → holds_node (start_frame setup f) ≡ false → HoldNothing (start_place setup f)
   bare f leafless i h = elim (cases_eq f 0) [
@@ -177,18 +193,21 @@ module _ (setup : Setting) (lim : IsSetting setup) where
   entry_small (Quiescing k) h = absurd h
 
   thread_small : (c i : ℕ) → c < 8 → boot_thread (record { stack = 3 ∷ []; runs_on = Some c }) i < 2 ^ 64
-  thread_small c i h = choose (λ (x : ℕ). x < 2 ^ 64) (i == 0) _ _ (λ e. threads.spelling.small (Running c 1) (h, (omega arith, omega arith)))
+  thread_small c i h =
+      choose (λ (x : ℕ). x < 2 ^ 64) (i == 0) _ _ (λ e. threads.spelling.small (Running c 1) (h, (omega arith, omega arith)))
       (λ e. stacks.spelling.small (record { 0 = at_height (3 ∷ []) (i - 1) }) (one_high (i - 1)))
 
   tcap_small : (q : TcapFields) (i : ℕ) → FitsTcap q → boot_tcap q i < 2 ^ 64
-  tcap_small q i h = choose (λ (x : ℕ). x < 2 ^ 64) (i == 0) _ _ (λ e. heads.spelling.small (record { budget = q.budget; mark = None; version = 0 }) (h.budget, tt, omega arith))
+  tcap_small q i h = choose (λ (x : ℕ). x < 2 ^ 64) (i == 0) _ _
+      (λ e. heads.spelling.small (record { budget = q.budget; mark = None; version = 0 }) (h.budget, tt, omega arith))
       (λ e. qualities.spelling.small (record { 0 = slice_get q.qualities (i - 1) }) (h.pairs (i - 1)))
 
   comp_small : (i : ℕ) → comp_word start_comp i < 2 ^ 64
   comp_small i =
       choose (λ (x : ℕ). x < 2 ^ 64) (i == 0) _ _ (λ e. omega arith) λ e.
       choose (λ (x : ℕ). x < 2 ^ 64) (i == 1) _ _ (λ e. omega arith) λ e.
-      choose (λ (x : ℕ). x < 2 ^ 64) (i == 2) _ _ (λ e. comps.spelling.small (record { number = 0; epoch = 1 }) (omega arith, omega arith, omega arith)) λ e. omega arith
+      choose (λ (x : ℕ). x < 2 ^ 64) (i == 2) _ _
+      (λ e. comps.spelling.small (record { number = 0; epoch = 1 }) (omega arith, omega arith, omega arith)) λ e. omega arith
 
   frame_small : (f i : ℕ) → boot_frame (start_frame setup f) (start_place setup f) i < 2 ^ 64
   frame_small f i =
@@ -200,10 +219,15 @@ module _ (setup : Setting) (lim : IsSetting setup) where
       choose P (f == 2) _ _ (λ e. node) λ e.
       choose P (f == 3) _ _ (λ e. comp_small i) λ e.
       choose P (nat_lt f (4 + setup.cores)) _ _ (λ e. thread_small (f - 4) i (omega (arith, n, ltb-true f (4 + setup.cores) e))) λ e.
-      choose P (nat_lt f (4 + 2 * setup.cores)) _ _ (λ e. tcap_small (granted (slice_get setup.grants (f - 4 - setup.cores))) i (granted_fits _ (grant_fits setup lim (f - 4 - setup.cores)))) λ e. omega arith
+      choose P (nat_lt f (4 + 2 * setup.cores)) _ _ (λ e. tcap_small (granted (slice_get setup.grants (f - 4 - setup.cores)))
+      i (granted_fits _ (grant_fits setup lim (f - 4 - setup.cores)))) λ e. omega arith
 
   count_small : (f n : ℕ) → n ≤ refs (start setup) f → word_of_count (record { hold = Unheld; count = pos n; stamp = 0 }) < 2 ^ 64
-  count_small f n most = counts.spelling.small (record { hold = Unheld; count = pos n; stamp = 0 }) (tt, (let m = refs_most setup lim f in omega (arith, m, most)), omega arith)
+  count_small f n most = counts.spelling.small (record { hold = Unheld; count = pos n; stamp = 0 }) (
+    tt,
+    (let m = refs_most setup lim f in omega (arith, m, most)),
+    omega arith,
+  )
 
   pub boot_small : (w : Word) → boot_word setup w < 2 ^ 64
   boot_small (EntryAt f i) = frame_small f i
@@ -217,7 +241,11 @@ module _ (setup : Setting) (lim : IsSetting setup) where
   boot_small ClockAt = omega arith
 
   count_reads : (f : ℕ) → count_at (boot_word setup) f 0 ≡ Some (record { hold = Unheld; count = pos (refs (start setup) f); stamp = 0 })
-  count_reads f = counts.spelling.reads (record { hold = Unheld; count = pos (refs (start setup) f); stamp = 0 }) (tt, (let m = refs_most setup lim f in omega (arith, m)), omega arith)
+  count_reads f = counts.spelling.reads (record { hold = Unheld; count = pos (refs (start setup) f); stamp = 0 }) (
+    tt,
+    (let m = refs_most setup lim f in omega (arith, m)),
+    omega arith,
+  )
 
   represents : BootRepresents setup
   represents = record {
@@ -230,7 +258,8 @@ module _ (setup : Setting) (lim : IsSetting setup) where
       ends = λ c h. refl;
     };
     counts = λ f h. record {
-      unheld = All-cons (λ c. IsUnheld (count_at (boot_word setup) f c)) 0 [] (subst IsUnheld (sym (count_reads f)) refl) (All-nil (λ c. IsUnheld (count_at (boot_word setup) f c)));
+      unheld = All-cons (λ c. IsUnheld (count_at (boot_word setup) f c)) 0 []
+          (subst IsUnheld (sym (count_reads f)) refl) (All-nil (λ c. IsUnheld (count_at (boot_word setup) f c)));
       sum = ap (λ o. count_in o +ℤ pos 0) (count_reads f) ∙ omega (arith, ints);
     };
   }

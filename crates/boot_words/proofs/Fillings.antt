@@ -11,9 +11,11 @@ use Rattle.kernel_history.specs.BootWords.{boot_word, shape_of}
 use Rattle.boot_words.specs.Filling.{IsRight, Fills, Puts, IsFrameRight, IsCoreRight}
 
 pub shape_fits : (setup : Setting) → IsSetting setup → IsShape (shape_of setup)
-shape_fits setup h = record { some_core = h.some_core; most_cores = h.most_cores; least_frames = h.least_frames; most_frames = h.most_frames }
+shape_fits setup h =
+    record { some_core = h.some_core; most_cores = h.most_cores; least_frames = h.least_frames; most_frames = h.most_frames }
 
-module _ (setup : Setting) (lim : IsSetting setup) (words : List ℕ) (w : Word) (size : length words ≡ size_of (shape_of setup)) (is_in : IsIn (shape_of setup) w) where
+module _ (setup : Setting) (lim : IsSetting setup) (words : List ℕ) (w : Word)
+    (size : length words ≡ size_of (shape_of setup)) (is_in : IsIn (shape_of setup) w) where
   places : HasPlaces (shape_of setup)
   places = has_places (shape_of setup) (shape_fits setup lim)
 
@@ -23,7 +25,8 @@ module _ (setup : Setting) (lim : IsSetting setup) (words : List ℕ) (w : Word)
   put_here : (v : ℕ) → v ≡ boot_word setup (shared w) → IsRight setup (set words (place_of (shape_of setup) w) v) w
   put_here v is = get_or-set_same words (place_of (shape_of setup) w) v 0 below ∙ is
 
-  keeps : (v : ℕ) → v ≡ boot_word setup (shared w) → (u : Word) → IsIn (shape_of setup) u → IsRight setup words u → IsRight setup (set words (place_of (shape_of setup) w) v) u
+  keeps : (v : ℕ) → v ≡ boot_word setup (shared w) → (u : Word) → IsIn (shape_of setup) u
+      → IsRight setup words u → IsRight setup (set words (place_of (shape_of setup) w) v) u
   keeps v is u u_in right = elim (cases_eq (place_of (shape_of setup) u) (place_of (shape_of setup) w)) [
     | inl same ↦
         ap (λ p. get_or (set words (place_of (shape_of setup) w) v) p 0) same ∙ put_here v is
@@ -45,7 +48,8 @@ fills_none setup words = record { size = refl; kept = λ w is_in right. right }
 pub fills_both : (setup : Setting) (a b c : List ℕ) → Fills setup a b → Fills setup b c → Fills setup a c
 fills_both setup a b c p q = record { size = q.size ∙ p.size; kept = λ w is_in right. q.kept w is_in (p.kept w is_in right) }
 
-pub frame_kept : (setup : Setting) (a b : List ℕ) (f : ℕ) → Fills setup a b → f < setup.frames → IsFrameRight setup a f → IsFrameRight setup b f
+pub frame_kept : (setup : Setting) (a b : List ℕ) (f : ℕ) → Fills setup a b
+    → f < setup.frames → IsFrameRight setup a f → IsFrameRight setup b f
 frame_kept setup a b f p h right = record {
   entries = λ i k. p.kept (EntryAt f i) (h, k) (right.entries i k);
   kind = p.kept (FrameAt f) h right.kind;
@@ -56,7 +60,8 @@ pub core_kept : (setup : Setting) (a b : List ℕ) (c : ℕ) → Fills setup a b
 core_kept setup a b c p h right = record { core = p.kept (CoreAt c) h right.core; flush = p.kept (FlushAt c) h right.flush }
 
 -- The count word of core 0 is that of every core.
-pub counts_right : (setup : Setting) → IsSetting setup → (words : List ℕ) (f : ℕ) → IsRight setup words (CountAt f 0) → (c : ℕ) → IsRight setup words (CountAt f c)
+pub counts_right : (setup : Setting) → IsSetting setup → (words : List ℕ) (f : ℕ)
+    → IsRight setup words (CountAt f 0) → (c : ℕ) → IsRight setup words (CountAt f c)
 counts_right setup lim words f right c =
     ap (λ p. get_or words p 0) (sym ((has_places (shape_of setup) (shape_fits setup lim)).together (CountAt f c))) ∙ right
 

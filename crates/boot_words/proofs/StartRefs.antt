@@ -1,10 +1,12 @@
 -- The references to each frame at the start.
-use Rattle.std.proofs.Common.{◌≡◌, ◌≢◌, inl, inr, ℕ, ◌+◌, ◌-◌, ◌*◌, ◌<◌, ◌≤◌, Bool, true, false, refl, sym, ap, ◌∙◌, arith, ◌==◌, nat_lt, [], ◌∷◌}
+use Rattle.std.proofs.Common.{◌≡◌, ◌≢◌, inl, inr, ℕ, ◌+◌, ◌-◌, ◌*◌, ◌<◌, ◌≤◌, Bool, true}
+use Rattle.std.proofs.Common.{false, refl, sym, ap, ◌∙◌, arith, ◌==◌, nat_lt, [], ◌∷◌}
 use Rattle.std.proofs.lemmas.Bool.{ne_eqb, ltb-true, lt-ltb, cases_eq, cases_lt}
 use Rattle.spk_nums.specs.Setting.{Setting, IsSetting}
 use Rattle.kernel_rules.specs.Start.{start, start_place, start_cap, core_cap, start_frame, start_number, place_with}
 use Rattle.kernel_rules.specs.References.{place_names, frame_names, number_names, core_names, sum_below, times, node_refs, refs}
-use Rattle.kernel_history.proofs.Sums.{sum_same, sum_zero, sum_const, sum_both, sum_split, times_append, one_same, one_other, hits, hits_in, hits_out}
+use Rattle.kernel_history.proofs.Sums.{sum_same, sum_zero, sum_const, sum_both, sum_split}
+use Rattle.kernel_history.proofs.Sums.{times_append, one_same, one_other, hits, hits_in, hits_out}
 
 pub not_below : (a b : ℕ) → b ≤ a → nat_lt a b ≡ false
 not_below a b h = tested (nat_lt a b) refl where
@@ -15,7 +17,12 @@ not_below a b h = tested (nat_lt a b) refl where
 -- Past the first four, the capabilities are the cores'.
 cap_core : (setup : Setting) (i : ℕ) → 4 ≤ i → start_cap setup i ≡ core_cap setup i
 cap_core setup i h =
-    rw (ne_eqb i 0 (λ e. omega (arith, h, e)), ne_eqb i 1 (λ e. omega (arith, h, e)), ne_eqb i 2 (λ e. omega (arith, h, e)), ne_eqb i 3 (λ e. omega (arith, h, e)))
+    rw (
+      ne_eqb i 0 (λ e. omega (arith, h, e)),
+      ne_eqb i 1 (λ e. omega (arith, h, e)),
+      ne_eqb i 2 (λ e. omega (arith, h, e)),
+      ne_eqb i 3 (λ e. omega (arith, h, e)),
+    )
 
 -- The references of one entry of the first leaf to f.
 abbrev entry_refs : Setting → ℕ → ℕ → ℕ
@@ -28,21 +35,41 @@ module _ (setup : Setting) (lim : IsSetting setup) (f : ℕ) where
 
   between : (j : ℕ) → j < 8 - setup.cores → entry_refs setup f (4 + setup.cores + j) ≡ 0
   between j h = let n = lim.most_cores in
-      rw (cap_core setup (4 + setup.cores + j) (omega arith), not_below (4 + setup.cores + j) 4 (omega arith), not_below (4 + setup.cores + j) (4 + setup.cores) (omega arith), lt-ltb (4 + setup.cores + j) 12 (omega (arith, h, n)))
+      rw (
+        cap_core setup (4 + setup.cores + j) (omega arith),
+        not_below (4 + setup.cores + j) 4 (omega arith),
+        not_below (4 + setup.cores + j) (4 + setup.cores) (omega arith),
+        lt-ltb (4 + setup.cores + j) 12 (omega (arith, h, n)),
+      )
 
   tcaps : (j : ℕ) → j < setup.cores → entry_refs setup f (12 + j) ≡ times f ((4 + setup.cores + j) ∷ [])
   tcaps j h = let n = lim.most_cores in let e : 12 + j - 12 ≡ j = omega arith in
-      rw (cap_core setup (12 + j) (omega arith), not_below (12 + j) 4 (omega arith), not_below (12 + j) (4 + setup.cores) (omega (arith, n)), not_below (12 + j) 12 (omega arith), lt-ltb (12 + j) (12 + setup.cores) (omega (arith, h)), e)
+      rw (
+        cap_core setup (12 + j) (omega arith),
+        not_below (12 + j) 4 (omega arith),
+        not_below (12 + j) (4 + setup.cores)
+            (omega (arith, n)),
+        not_below (12 + j) 12 (omega arith),
+        lt-ltb (12 + j) (12 + setup.cores) (omega (arith, h)),
+        e,
+      )
 
   behind : (j : ℕ) → entry_refs setup f (12 + setup.cores + j) ≡ 0
   behind j = let n = lim.most_cores in
-      rw (cap_core setup (12 + setup.cores + j) (omega arith), not_below (12 + setup.cores + j) 4 (omega arith), not_below (12 + setup.cores + j) (4 + setup.cores) (omega arith), not_below (12 + setup.cores + j) 12 (omega arith), not_below (12 + setup.cores + j) (12 + setup.cores) (omega arith))
+      rw (
+        cap_core setup (12 + setup.cores + j) (omega arith),
+        not_below (12 + setup.cores + j) 4 (omega arith),
+        not_below (12 + setup.cores + j) (4 + setup.cores) (omega arith),
+        not_below (12 + setup.cores + j) 12 (omega arith),
+        not_below (12 + setup.cores + j) (12 + setup.cores) (omega arith),
+      )
 
   first : sum_below (entry_refs setup f) 4 ≡ times f (0 ∷ []) + times f (2 ∷ []) + times f (3 ∷ [])
   unfolding sum_below
   first = omega arith
 
-  leaf : sum_below (entry_refs setup f) 64 ≡ times f (0 ∷ []) + times f (2 ∷ []) + times f (3 ∷ []) + hits f 4 setup.cores + hits f (4 + setup.cores) setup.cores
+  leaf : sum_below (entry_refs setup f) 64
+      ≡ times f (0 ∷ []) + times f (2 ∷ []) + times f (3 ∷ []) + hits f 4 setup.cores + hits f (4 + setup.cores) setup.cores
   leaf =
       let n = lim.most_cores in
       let g : ℕ → ℕ = entry_refs setup f in
@@ -68,7 +95,8 @@ module _ (setup : Setting) (lim : IsSetting setup) (f : ℕ) where
       let p = sum_zero (λ i. g (1 + i)) 63 (λ i h. root_past i) in
       omega (arith, a, p)
 
-  leaf_node : node_refs (start setup) f 1 ≡ times f (0 ∷ []) + times f (2 ∷ []) + times f (3 ∷ []) + hits f 4 setup.cores + hits f (4 + setup.cores) setup.cores
+  leaf_node : node_refs (start setup) f 1
+      ≡ times f (0 ∷ []) + times f (2 ∷ []) + times f (3 ∷ []) + hits f 4 setup.cores + hits f (4 + setup.cores) setup.cores
   unfolding node_refs
   leaf_node = leaf
 
@@ -80,7 +108,8 @@ module _ (setup : Setting) (lim : IsSetting setup) (f : ℕ) where
       free i = rw (ne_eqb (2 + g) 0 (λ e. omega (arith, e)), ne_eqb (2 + g) 1 (λ e. omega (arith, e)))
 
   nodes : sum_below (node_refs (start setup) f) setup.frames
-      ≡ times f (1 ∷ []) + (times f (0 ∷ []) + times f (2 ∷ []) + times f (3 ∷ []) + hits f 4 setup.cores + hits f (4 + setup.cores) setup.cores)
+      ≡ times f (1 ∷ []) + (times f (0 ∷ []) + times f (2 ∷ []) + times f
+      (3 ∷ []) + hits f 4 setup.cores + hits f (4 + setup.cores) setup.cores)
   unfolding sum_below
   nodes =
       let n = lim.least_frames in
@@ -94,7 +123,12 @@ module _ (setup : Setting) (lim : IsSetting setup) (f : ℕ) where
   object_refs g = times f (frame_names (start_frame setup g))
 
   past_three : (g : ℕ) → 4 ≤ g → (g == 0 ≡ false) × (g == 1 ≡ false) × (g == 2 ≡ false) × (g == 3 ≡ false)
-  past_three g h = (ne_eqb g 0 (λ e. omega (arith, h, e)), ne_eqb g 1 (λ e. omega (arith, h, e)), ne_eqb g 2 (λ e. omega (arith, h, e)), ne_eqb g 3 (λ e. omega (arith, h, e)))
+  past_three g h = (
+    ne_eqb g 0 (λ e. omega (arith, h, e)),
+    ne_eqb g 1 (λ e. omega (arith, h, e)),
+    ne_eqb g 2 (λ e. omega (arith, h, e)),
+    ne_eqb g 3 (λ e. omega (arith, h, e)),
+  )
 
   thread_object : (j : ℕ) → j < setup.cores → object_refs (4 + j) ≡ times f (3 ∷ [])
   unfolding object_refs
@@ -106,13 +140,27 @@ module _ (setup : Setting) (lim : IsSetting setup) (f : ℕ) where
   unfolding object_refs
   tcap_object j h =
       let p = past_three (4 + setup.cores + j) (omega arith) in
-      rw (p.0, p.1, p.2, p.3, not_below (4 + setup.cores + j) (4 + setup.cores) (omega arith), lt-ltb (4 + setup.cores + j) (4 + 2 * setup.cores) (omega (arith, h)))
+      rw (
+        p.0,
+        p.1,
+        p.2,
+        p.3,
+        not_below (4 + setup.cores + j) (4 + setup.cores) (omega arith),
+        lt-ltb (4 + setup.cores + j) (4 + 2 * setup.cores) (omega (arith, h)),
+      )
 
   untyped_object : (j : ℕ) → object_refs (4 + 2 * setup.cores + j) ≡ 0
   unfolding object_refs
   untyped_object j =
       let p = past_three (4 + 2 * setup.cores + j) (omega arith) in
-      rw (p.0, p.1, p.2, p.3, not_below (4 + 2 * setup.cores + j) (4 + setup.cores) (omega arith), not_below (4 + 2 * setup.cores + j) (4 + 2 * setup.cores) (omega arith))
+      rw (
+        p.0,
+        p.1,
+        p.2,
+        p.3,
+        not_below (4 + 2 * setup.cores + j) (4 + setup.cores) (omega arith),
+        not_below (4 + 2 * setup.cores + j) (4 + 2 * setup.cores) (omega arith),
+      )
 
   objects_first : sum_below object_refs 4 ≡ times f (0 ∷ (2 ∷ []))
   unfolding sum_below object_refs
@@ -130,9 +178,11 @@ module _ (setup : Setting) (lim : IsSetting setup) (f : ℕ) where
       let s = times_append f (0 ∷ []) (2 ∷ []) in
       omega (arith, a, b, d, p, q, r, s, objects_first)
 
-  cores : sum_below (λ c. times f (core_names ((start setup).core c))) setup.cores ≡ hits f 4 setup.cores + hits f (4 + setup.cores) setup.cores
+  cores : sum_below (λ c. times f (core_names ((start setup).core c))) setup.cores
+      ≡ hits f 4 setup.cores + hits f (4 + setup.cores) setup.cores
   cores =
-      sum_same (λ c. times f (core_names ((start setup).core c))) (λ c. times f ((4 + c) ∷ []) + times f ((4 + setup.cores + c) ∷ [])) setup.cores
+      sum_same (λ c. times f (core_names ((start setup).core c)))
+      (λ c. times f ((4 + c) ∷ []) + times f ((4 + setup.cores + c) ∷ [])) setup.cores
       (λ c h. times_append f ((4 + c) ∷ []) ((4 + setup.cores + c) ∷ []))
       ∙ sum_both (λ c. times f ((4 + c) ∷ [])) (λ c. times f ((4 + setup.cores + c) ∷ [])) setup.cores
 
@@ -243,7 +293,11 @@ module _ (setup : Setting) (lim : IsSetting setup) (f : ℕ) where
   pub refs_most : refs (start setup) f ≤ 10
   refs_most = elim (cases_lt f 4) [
     | inl low ↦ first_four low
-    | inr high ↦ elim (cases_lt f (4 + 2 * setup.cores)) [ inl below ↦ omega (arith, refs_object high below) | inr above ↦ omega (arith, refs_untyped above) ]
+    | inr high ↦ elim (cases_lt f (4 + 2 * setup.cores)) [
+      | inl below ↦
+          omega (arith, refs_object high below)
+      | inr above ↦ omega (arith, refs_untyped above)
+    ]
   ]
     where
       first_four : f < 4 → refs (start setup) f ≤ 10

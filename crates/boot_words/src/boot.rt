@@ -12,7 +12,8 @@ ghost use Rattle.frame_words.specs.Count.{CountFits};
 ghost use Rattle.frame_words.specs.Live.{LiveFits};
 ghost use Rattle.frame_words.specs.declared.count_word.Hold.TheVariants.{Unheld};
 ghost use Rattle.kernel_rules.specs.State.{Holds, Free};
-ghost use Rattle.kernel_rules.specs.Start.{start, start_cap, core_cap, start_frame, start_comp, start_number, granted, plain_cap, place_with};
+ghost use Rattle.kernel_rules.specs.Start.{start, start_cap, core_cap, start_frame, start_comp};
+ghost use Rattle.kernel_rules.specs.Start.{start_number, granted, plain_cap, place_with};
 ghost use Rattle.kernel_rules.specs.References.{refs};
 ghost use Rattle.word_map.specs.Word.{Word, EntryAt, FrameAt, CountAt, CoreAt, FlushAt, LiveAt, ClockAt};
 ghost use Rattle.word_map.specs.Places.{IsIn, size_of, shared};
@@ -433,7 +434,8 @@ fn filled(alloc: Global, setup: &Setup, layout: &Layout) -> Result<Vec<u64>, All
     requires limits { IsSetting setup.now }
     requires shape { layout.now ≡ shape_of setup.now }
     ensures length { IfOk result (λ words. length words.items ≡ size_of (shape_of setup.now)) }
-    ensures words { IfOk result (λ words. (w : Word) → IsIn (shape_of setup.now) w → word_in (shape_of setup.now) words.items w ≡ boot_word setup.now (shared w)) }
+    ensures words { IfOk result (λ words. (w : Word) → IsIn (shape_of setup.now) w
+        → word_in (shape_of setup.now) words.items w ≡ boot_word setup.now (shared w)) }
 {
     let mut words = vec![in alloc; 0; layout.size() as usize]?;
     put_all(&mut words, setup, layout);
@@ -448,7 +450,8 @@ fn filled(alloc: Global, setup: &Setup, layout: &Layout) -> Result<Vec<u64>, All
 /// `Memory` where memory has run out.
 pub fn boot_words(alloc: Global, setup: &Setup) -> Result<Vec<u64>, Memory>
     ensures length { IfOk result (λ words. length words.items ≡ size_of (shape_of setup.now)) }
-    ensures words { IfOk result (λ words. (w : Word) → IsIn (shape_of setup.now) w → word_in (shape_of setup.now) words.items w ≡ boot_word setup.now (shared w)) }
+    ensures words { IfOk result (λ words. (w : Word) → IsIn (shape_of setup.now) w
+        → word_in (shape_of setup.now) words.items w ≡ boot_word setup.now (shared w)) }
 {
     let cores = setup.cores();
     let frames = setup.frames();

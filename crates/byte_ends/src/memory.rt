@@ -1,5 +1,6 @@
 //! A source and a sink in memory, which tell their bytes and fail where they are told to.
-ghost use Rattle.std.specs.Prelude.{◌≡◌, ◌↔◌, ◌+◌, ◌-◌, ◌^◌, ◌<◌, ◌≤◌, ◌++◌, List, [], take, drop, length, min, Some, Contains, IsTrue, IsErr, IfOk, OnOk, OnErr};
+ghost use Rattle.std.specs.Prelude.{◌≡◌, ◌↔◌, ◌+◌, ◌-◌, ◌^◌, ◌<◌, ◌≤◌, ◌++◌, List, [], take, drop};
+ghost use Rattle.std.specs.Prelude.{length, min, Some, Contains, IsTrue, IsErr, IfOk, OnOk, OnErr};
 ghost use Rattle.byte_ends.specs.Ends.{HasRisen, Takes, Adds};
 ghost use Rattle.byte_ends.specs.Memory.{Given, Taken, one_more, IsBadRead, IsBadWrite};
 

@@ -1,5 +1,6 @@
 //! A source and a sink that never fail.
-ghost use Rattle.std.specs.Prelude.{◌≡◌, ℕ, ◌+◌, ◌-◌, ◌^◌, ◌<◌, ◌≤◌, List, [], drop, take, length, min, Option, Some, None, Ok, IfOk, OnErr};
+ghost use Rattle.std.specs.Prelude.{◌≡◌, ℕ, ◌+◌, ◌-◌, ◌^◌, ◌<◌, ◌≤◌, List, [], drop, take};
+ghost use Rattle.std.specs.Prelude.{length, min, Option, Some, None, Ok, IfOk, OnErr};
 ghost use Rattle.byte_ends.specs.Ends.{HasRisen, Takes, Adds};
 ghost use Rattle.byte_ends.specs.Memory.{Served};
 

@@ -5,13 +5,15 @@ use Rattle.spk_nums.specs.declared.kinds.Kind.{Kind}
 use Rattle.spk_nums.specs.declared.replies.Reply.{Reply}
 use Rattle.kernel_rules.specs.State.{State}
 use Rattle.kernel_rules.specs.Access.{Named, found}
-use Rattle.kernel_rules.specs.Rules.{Rule, Name as name_rule, Vacant as vacant_rule, Held as held_rule, Mapped as mapped_rule, Does, and_then, name_of, outcome, NameMay, VacantMay, HeldMay, MappedMay, RuleMay}
+use Rattle.kernel_rules.specs.Rules.{Rule, Name as name_rule, Vacant as vacant_rule, Held as held_rule, Mapped as mapped_rule}
+use Rattle.kernel_rules.specs.Rules.{Does, and_then, name_of, outcome, NameMay, VacantMay, HeldMay, MappedMay, RuleMay}
 use Rattle.call_plans.specs.declared.plans.Name.{Name}
 use Rattle.call_plans.specs.declared.plans.Target.{Target}
 use Rattle.call_plans.specs.declared.plans.Target.TheVariants.{Nowhere, Free, Held, Own}
 use Rattle.call_plans.specs.declared.plans.Plan.{Plan}
 use Rattle.call_plans.specs.GoesBy.{OwnPages, GoesBy, GoesOn, wants}
-use Rattle.call_plans.specs.After.{rule_after, with_found, names_after, Leads, LeadsIn, Next, NextName, NextFree, NextHeld, NextOwn, NextNothing, next_target, next_in, next_of, NextMay}
+use Rattle.call_plans.specs.After.{rule_after, with_found, names_after, Leads, LeadsIn, Next, NextName, NextFree}
+use Rattle.call_plans.specs.After.{NextHeld, NextOwn, NextNothing, next_target, next_in, next_of, NextMay}
 use Rattle.call_plans.specs.Laws.{LeftGoesBy, OutcomeIsLeft, LeftMayRefuse, NextMayRefuse, NextLeads, LeadsMore}
 
 -- What is true of a rule whose first name leads on to a rule of which it is true, is true of the rule before the names that lead.

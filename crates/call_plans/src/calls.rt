@@ -4,7 +4,8 @@ ghost use Rattle.std.specs.Prelude.{◌≡◌, ℕ};
 ghost use Rattle.spk_nums.specs.declared.kinds.Kind.TheVariants.{Tcap};
 ghost use Rattle.kernel_rules.specs.State.{State};
 ghost use Rattle.kernel_rules.specs.CallRelation.{rule_of};
-ghost use Rattle.call_plans.specs.PlanOf.{any_cap, a_root, of_kind, fills, removes, names_alone, on_two_tcaps, plan_of_retype, plan_of_make, plan_for, a_leaf};
+ghost use Rattle.call_plans.specs.PlanOf.{any_cap, a_root, of_kind, fills, removes, names_alone};
+ghost use Rattle.call_plans.specs.PlanOf.{on_two_tcaps, plan_of_retype, plan_of_make, plan_for, a_leaf};
 ghost use Rattle.call_plans.specs.GoesBy.{GoesBy, own_pages};
 
 use crate::plans::{Decides, Name, Names, Nth, Plan, Spot, Target, Wanted};

@@ -1,7 +1,8 @@
--- What a call that makes a component knows of its rule: what is left of it after its names, and what refuses it; and what it knows of the frame
--- and of the number that it has marked.
+-- What a call that makes a component knows of its rule: what is left of it after its names, and what refuses it; and what it knows of the
+-- frame and of the number that it has marked.
 use Rattle.std.specs.Prelude.{if◌then◌else◌, List}
-use Rattle.std.proofs.Common.{◌≡◌, ◌+◌, arith, Bool, true, false, Option, Some, None, refl, ℕ, ◌<◌, ◌≢◌, sym, ◌&&◌, [], ◌∷◌, ap, ◌∙◌, subst, IsTrue, not, inr}
+use Rattle.std.proofs.Common.{◌≡◌, ◌+◌, arith, Bool, true, false, Option, Some, None, refl, ℕ}
+use Rattle.std.proofs.Common.{◌<◌, ◌≢◌, sym, ◌&&◌, [], ◌∷◌, ap, ◌∙◌, subst, IsTrue, not, inr}
 use Rattle.std.proofs.lemmas.Bool.{lt-ltb, false≢true}
 use Rattle.spk_nums.specs.Capability.{Capability}
 use Rattle.spk_nums.specs.Setting.{Setting, IsSetting}

@@ -1,6 +1,7 @@
 -- The first steps by which a call makes a component: the load of the frame's word, and the compare that marks it.
 use Rattle.std.specs.Prelude.{if◌then◌else◌, List}
-use Rattle.std.proofs.Common.{◌≡◌, ◌≤◌, Bool, true, false, cond, Option, Some, None, refl, ℕ, ◌<◌, ◌^◌, ◌==◌, arith, ◌≢◌, ◌+◌, sym, nat_lt, ◌&&◌, [], ◌∷◌, ◌++◌, length, ap, ◌∙◌, subst, IsTrue, inl, inr, not, is_some, map}
+use Rattle.std.proofs.Common.{◌≡◌, ◌≤◌, Bool, true, false, cond, Option, Some, None, refl, ℕ, ◌<◌, ◌^◌, ◌==◌, arith, ◌≢◌, ◌+◌}
+use Rattle.std.proofs.Common.{sym, nat_lt, ◌&&◌, [], ◌∷◌, ◌++◌, length, ap, ◌∙◌, subst, IsTrue, inl, inr, not, is_some, map}
 use Rattle.std.proofs.lemmas.Bool.{lt-ltb, eqb-true, eqb-false, ltb-false, cases_eq, eq-eqb, false≢true}
 use Rattle.spk_nums.specs.Capability.{Capability}
 use Rattle.spk_nums.specs.Setting.{Setting, IsSetting}
@@ -27,7 +28,8 @@ use Rattle.kernel_rules.specs.Alone.{alone}
 use Rattle.kernel_rules.specs.CallRelation.{rule_of, change_of, are_calls_spent}
 use Rattle.kernel_rules.specs.CapabilityCalls.{is_frame, is_blank}
 use Rattle.kernel_rules.specs.Rules.{Refused, RuleMay}
-use Rattle.kernel_rules.specs.State.{Untyped, Blank, Table, Pages, User, Kernel, State, put, Leaf, Pleaf, Comp, Thread, Tcap, Frame, PlaceOf}
+use Rattle.kernel_rules.specs.State.{Untyped, Blank, Table, Pages, User, Kernel, State}
+use Rattle.kernel_rules.specs.State.{put, Leaf, Pleaf, Comp, Thread, Tcap, Frame, PlaceOf}
 use Rattle.trace_laws.proofs.AloneCalls.{refused_first}
 use Rattle.trace_laws.proofs.Carries.{Carries}
 use Rattle.kernel_history.proofs.Names.{same_word-other}

@@ -1,7 +1,8 @@
--- The steps by which the making of a component takes its liveness number: the load of the number's word, the scan for a number that has died,
--- and what refuses them.
+-- The steps by which the making of a component takes its liveness number: the load of the number's word, the scan for a number that has
+-- died, and what refuses them.
 use Rattle.std.specs.Prelude.{if◌then◌else◌, List, ◌==◌, ◌||◌}
-use Rattle.std.proofs.Common.{◌≡◌, ◌≤◌, Bool, true, false, Option, Some, None, refl, ℕ, ◌<◌, ◌^◌, ◌==◌, arith, ◌≢◌, ◌+◌, sym, nat_lt, ◌&&◌, [], ◌∷◌, ◌++◌, ap, ◌∙◌, subst, IsTrue, inl, inr, map, ◌⊎◌, nat_le, if◌then◌else◌, List, ◌||◌}
+use Rattle.std.proofs.Common.{◌≡◌, ◌≤◌, Bool, true, false, Option, Some, None, refl, ℕ, ◌<◌, ◌^◌, ◌==◌, arith, ◌≢◌, ◌+◌, sym, nat_lt}
+use Rattle.std.proofs.Common.{◌&&◌, [], ◌∷◌, ◌++◌, ap, ◌∙◌, subst, IsTrue, inl, inr, map, ◌⊎◌, nat_le, if◌then◌else◌, List, ◌||◌}
 use Rattle.std.proofs.lemmas.Bool.{false≢true, ltb-false, eq-eqb, leb-true, leb-false, ltb-true}
 use Rattle.spk_nums.specs.Setting.{Setting, IsSetting}
 use Rattle.spk_nums.specs.declared.kinds.Obj.TheVariants as obj
@@ -31,7 +32,8 @@ use Rattle.kernel_history.specs.Trace.{Trace, Open, phase, state_after, Step, la
 use Rattle.call_plans.specs.GoesBy.{own_pages}
 use Rattle.plan_ways.proofs.Ways.{asked_left}
 use Rattle.stage_pins.specs.declared.held.Acquired.{Acquired}
-use Rattle.act_states.specs.Comps.{comp_dues, comp_due_list, comp_goes, comp_refuses, takes_number, scans_number, number_met, number_shown, number_scanned, CompAtFits}
+use Rattle.act_states.specs.Comps.{comp_dues, comp_due_list, comp_goes, comp_refuses, takes_number}
+use Rattle.act_states.specs.Comps.{scans_number, number_met, number_shown, number_scanned, CompAtFits}
 use Rattle.act_states.specs.declared.comps.CompMaking.{CompMaking}
 use Rattle.act_states.specs.declared.comps.CompAt.{CompAt}
 use Rattle.act_states.specs.declared.comps.CompAt.TheVariants.{Scan, Close}
@@ -48,7 +50,8 @@ use Rattle.step_ways.proofs.Counting as counting
 use Rattle.step_ways.proofs.Loads.{step_to, OnlyLooks, loads_on, IsOfCall, inner, call_is, core_is, decides_with}
 use Rattle.step_ways.proofs.Refusals.{GoodTook, ticks_at, not_spent, busy_leaving}
 use Rattle.core_invariant.specs.Holding.{holds_counts, settled_by, keeps}
-use Rattle.core_invariant.specs.Knows.{phase_at, due_of, KnowsUndecided, KnowsComp, KnowsCompAt, HasPassed, IsScanned, SaysBlank, MayTake, ScansNumber, KnowsUnmark, HasFlushed}
+use Rattle.core_invariant.specs.Knows.{phase_at, due_of, KnowsUndecided, KnowsComp, KnowsCompAt, HasPassed}
+use Rattle.core_invariant.specs.Knows.{IsScanned, SaysBlank, MayTake, ScansNumber, KnowsUnmark, HasFlushed}
 use Rattle.core_invariant.specs.Invariant.{holds_in, Invariant, holds, held_by, holds_comp}
 use Rattle.core_invariant.specs.Words.{NumberIs}
 use Rattle.count_invariant.proofs.CompCounts.{IsCompCall, makes_comp_on, comp_changes, comp_argument, number_near}
@@ -64,7 +67,8 @@ use Rattle.kernel_history.proofs.Laws.{not_inside}
 use Rattle.trace_laws.proofs.Waiting.{out_passed, later_passed, may_wait}
 use Rattle.stage_quiet.specs.declared.quiet.Quiet.{Quiet}
 use Rattle.stage_quiet.specs.declared.quiet.Quiet.TheVariants.{AtCore}
-use Rattle.stage_quiet.specs.Scan.{next_other, core_scan, flush_scan, core_refuses, scan_end, scan_after, quiet_next, quiet_end, quiet_after, quiet_scan}
+use Rattle.stage_quiet.specs.Scan.{next_other, core_scan, flush_scan, core_refuses, scan_end}
+use Rattle.stage_quiet.specs.Scan.{scan_after, quiet_next, quiet_end, quiet_after, quiet_scan}
 use Rattle.core_invariant.proofs.Sounds.{limits_of}
 use Rattle.scan_invariant.proofs.Scans.{ScanBegins, AtCores, AtFlushes, before_next, scan_begins, scan_none}
 use Rattle.frame_words.specs.Live.{live_of_word}
@@ -300,7 +304,8 @@ module _ (setup : Setting) (setting : IsSetting setup) (cores : ℕ → Core) (t
     takes_good last there spent may = by (nat_lt last.epoch m.epochs) refl
       where
         by : (b : Bool) → nat_lt last.epoch m.epochs ≡ b
-            → GoodTook setup cores t c move (landed a (if b then comp_goes m (Close word last) else comp_refuses m word refusal.EpochsSpent))
+            → GoodTook setup cores t c move
+            (landed a (if b then comp_goes m (Close word last) else comp_refuses m word refusal.EpochsSpent))
         by true low = goes_good (Close word last) refl refl there
             (λ carries. (
               says,
@@ -309,7 +314,8 @@ module _ (setup : Setting) (setting : IsSetting setup) (cores : ℕ → Core) (t
                 own = (may carries).1;
               },
             ))
-        by false high = spent_good (spent (let most = ltb-false last.epoch m.epochs high in let same = knows.epochs in omega (arith, most, same)))
+        by false high = spent_good
+            (spent (let most = ltb-false last.epoch m.epochs high in let same = knows.epochs in omega (arith, most, same)))
 
   -- The load of the number's word.
   abbrev found_there : ℕ
@@ -325,7 +331,8 @@ module _ (setup : Setting) (setting : IsSetting setup) (cores : ℕ → Core) (t
   looking = record { of_call = number_of_call (LoadOf (LiveAt l)) refl; kept = refl; apart = λ d. refl }
 
   says_number : marked_by setup t (LiveAt l) ≡ None → NumberIs (s.number l) (stamp setup t thing) (live_of_word found_there)
-  says_number bare = subst (λ o. NumberIs (s.number l) (stamp setup t thing) (live_of_word (settled_by o (held_by cores) (LiveAt l) found_there)))
+  says_number bare = subst
+      (λ o. NumberIs (s.number l) (stamp setup t thing) (live_of_word (settled_by o (held_by cores) (LiveAt l) found_there)))
       bare (stands.words (LiveAt l))
 
   closing_good : (d : ℕ) → marked_by setup t (LiveAt l) ≡ Some d

@@ -1,7 +1,8 @@
--- The steps of the making of a component from its number on: the compare that marks it, the stores of the words, a compare of the target that
--- is lost; and the store that gives the number's word back.
+-- The steps of the making of a component from its number on: the compare that marks it, the stores of the words, a compare of the target
+-- that is lost; and the store that gives the number's word back.
 use Rattle.std.specs.Prelude.{if◌then◌else◌, ◌==◌, ◌||◌}
-use Rattle.std.proofs.Common.{◌≡◌, ◌≤◌, Bool, true, false, Option, Some, None, refl, ℕ, ◌<◌, ◌^◌, arith, ◌≢◌, ◌+◌, sym, nat_lt, ◌&&◌, ◌∷◌, ◌++◌, ap, ◌∙◌, subst, IsTrue, inl, inr, ◌⊎◌}
+use Rattle.std.proofs.Common.{◌≡◌, ◌≤◌, Bool, true, false, Option, Some, None, refl, ℕ, ◌<◌, ◌^◌, arith}
+use Rattle.std.proofs.Common.{◌≢◌, ◌+◌, sym, nat_lt, ◌&&◌, ◌∷◌, ◌++◌, ap, ◌∙◌, subst, IsTrue, inl, inr, ◌⊎◌}
 use Rattle.std.proofs.lemmas.Bool.{eqb-true, eqb-false, ltb-false, cases_eq, eq-eqb}
 use Rattle.spk_nums.specs.Setting.{Setting, IsSetting}
 use Rattle.spk_nums.specs.WordSteps.{left_if}
@@ -45,17 +46,20 @@ use Rattle.step_ways.proofs.Loads.{IsOfCall, core_in_call, inner, call_is}
 use Rattle.step_ways.proofs.Refusals.{GoodTook, ticks_at, raced_leaving}
 use Rattle.step_ways.proofs.Writes.{stores_on}
 use Rattle.core_invariant.specs.Holding.{holds_counts, Holding, settled_by, settled, keeps}
-use Rattle.core_invariant.specs.Knows.{phase_at, KnowsUndecided, KnowsUnmark, KnowsComp, KnowsCompAt, SaysBlank, MayTake, TakesNumber, HasWords, KnowsLive}
+use Rattle.core_invariant.specs.Knows.{phase_at, KnowsUndecided, KnowsUnmark, KnowsComp, KnowsCompAt}
+use Rattle.core_invariant.specs.Knows.{SaysBlank, MayTake, TakesNumber, HasWords, KnowsLive}
 use Rattle.core_invariant.specs.Invariant.{holds_at, holds_in, Invariant, done_by, holds, held_by, holds_comp}
 use Rattle.core_invariant.specs.Words.{IsFrameWord, count_room}
 use Rattle.look_invariant.proofs.Lookups.{near_way}
 use Rattle.count_invariant.proofs.MakingCounts.{blank_left}
 use Rattle.place_invariant.proofs.Fills.{target_way, changes_node}
-use Rattle.act_states.specs.Comps.{comp_dues, comp_due_list, comp_goes, CompAtFits, CompMakingFits, comp_word_at, comp_stored, closes_number, comp_published}
+use Rattle.act_states.specs.Comps.{comp_dues, comp_due_list, comp_goes, CompAtFits, CompMakingFits}
+use Rattle.act_states.specs.Comps.{comp_word_at, comp_stored, closes_number, comp_published}
 use Rattle.act_states.specs.declared.comps.CompMaking.{CompMaking}
 use Rattle.act_states.specs.declared.comps.CompAt.{CompAt}
 use Rattle.act_states.specs.declared.comps.CompAt.TheVariants.{Close, Store, Fill}
-use Rattle.count_invariant.proofs.CompCounts.{IsCompCall, makes_comp_on, comp_changes, comp_argument, number_near, comp_places, comp_numbers, comp_near}
+use Rattle.count_invariant.proofs.CompCounts.{IsCompCall, makes_comp_on, comp_changes, comp_argument}
+use Rattle.count_invariant.proofs.CompCounts.{number_near, comp_places, comp_numbers, comp_near}
 use Rattle.comp_invariant.proofs.CompCalls as calls
 use Rattle.kernel_rules.specs.Rules as rules
 use Rattle.frame_words.specs.Live.{live_of_word, LiveFits, word_of_live}
@@ -394,7 +398,8 @@ module _ (setup : Setting) (setting : IsSetting setup) (cores : ℕ → Core) (t
       })
       (λ b. refl) (λ h. cc) (λ g b h. cc) lands
       (stored_holds (nat_lt n 2) ∙ sym held_store) (unlent_word setup cores t stands f n (ap may_keep blank)) opens_now
-      (subst (λ x. IsFrameWord now.limits.frames (count_room now) x (now.place f n) (stamp setup t (PlaceOf f n)) n (words n)) (sym blank) tt)
+      (subst (λ x. IsFrameWord now.limits.frames (count_room now) x (now.place f n) (stamp setup t (PlaceOf f n)) n (words n))
+      (sym blank) tt)
       (spares_blank setup t e f n refl blank own_mark)
       (λ carries. record {
         names = names_on setup setting t e stands.legal c a.call open_now carries (cores c).own.table a.plan a.found has.names;
@@ -453,7 +458,8 @@ module _ (setup : Setting) (setting : IsSetting setup) (cores : ℕ → Core) (t
   put_of_call = record {
     moves = changes_node a.call (st_now.frame m.fill.node) (comp_places a.call a.found m call_of)
         (calls.in_node setup setting cores t stands c here a active m stage_is has);
-    near = inl (near_way st_now c a.call m.fill.node m.fill.entry (next_on_way st_now c (own_pages st_now c) a.plan (rule_of st_now c a.call)
+    near = inl (near_way st_now c a.call m.fill.node m.fill.entry
+        (next_on_way st_now c (own_pages st_now c) a.plan (rule_of st_now c a.call)
         a.found
         (calls.by_plan setup setting cores t stands c here a active m stage_is has)
         (calls.leads setup setting cores t stands c here a active m stage_is has) so.spot.target m.fill.node m.fill.entry
@@ -532,7 +538,8 @@ module _ (setup : Setting) (setting : IsSetting setup) (cores : ℕ → Core) (t
         sym (ap (λ h. h.marks w) was_held ∙ ap (λ b. if b then true else rest.marks w) (same_word-other w (LiveAt l) there)),
         sym (ap (λ h. h.stands w) was_held ∙ ap (λ b. if b then live else rest.stands w) (same_word-other w (LiveAt l) there)),
       ))
-      (as_none (holds (cores c)) (holds after) (LiveAt l) (λ g i. ap (λ h. h.bare g i) was_held ∙ counts_bare (done_by r drawn) a.counts g i)
+      (as_none (holds (cores c)) (holds after) (LiveAt l)
+      (λ g i. ap (λ h. h.bare g i) was_held ∙ counts_bare (done_by r drawn) a.counts g i)
       (counts_bare (done_by r drawn) a.counts))
       (has.bare ∙ sym (ap (λ b. if b then Some c else None) (no_number (done_by r drawn) a.counts l)))
       (λ b other is. other (sym (some_inj c b (sym its_mark ∙ is))))

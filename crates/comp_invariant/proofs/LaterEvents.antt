@@ -1,6 +1,7 @@
--- The events of a longer trace are those of the shorter one and later ones; so a liveness number that was dead at a moment of a call is past
--- the epoch in which it died.
-use Rattle.std.proofs.Common.{◌≡◌, ◌≤◌, ◌<◌, ◌⊎◌, inl, inr, arith, ℕ, Bool, true, false, ◌&&◌, ◌==◌, List, [], ◌∷◌, ◌++◌, Option, Some, None, is_some, refl, sym, ◌∙◌, ap, subst}
+-- The events of a longer trace are those of the shorter one and later ones; so a liveness number that was dead at a moment of a call is
+-- past the epoch in which it died.
+use Rattle.std.proofs.Common.{◌≡◌, ◌≤◌, ◌<◌, ◌⊎◌, inl, inr, arith, ℕ, Bool, true, false, ◌&&◌, ◌==◌, List}
+use Rattle.std.proofs.Common.{[], ◌∷◌, ◌++◌, Option, Some, None, is_some, refl, sym, ◌∙◌, ap, subst}
 use Rattle.spk_nums.specs.Setting.{Setting, IsSetting}
 use Rattle.spk_nums.specs.declared.calls.Call.{Call}
 use Rattle.spk_nums.specs.declared.replies.Reply.{Reply}
@@ -59,7 +60,8 @@ was_past : (setup : Setting) (t : Trace) → IsLegal setup t → (c l d : ℕ) �
     → IsPast d ((state_after setup t).number l)
 was_past setup [] legal c l d was = absurd was
 was_past setup (e ∷ t) legal c l d (inl now) = subst (IsPast d) (sym now) (omega arith)
-was_past setup (e ∷ t) legal c l d (inr was) = past_on setup t e legal l d (was_past setup t legal.0 c l d (before (c == e.core && is_some e.enters) was))
+was_past setup (e ∷ t) legal c l d (inr was) =
+    past_on setup t e legal l d (was_past setup t legal.0 c l d (before (c == e.core && is_some e.enters) was))
   where
     before : (b : Bool) → IfNot b (WasAt (IsDeadIn l d) setup t c) → WasAt (IsDeadIn l d) setup t c
     before true h = absurd h

@@ -1,7 +1,8 @@
--- The decision of a call that makes a component: the compare of its target, where it is won, makes the frame the component, its number live for
--- it, and puts its capability there.
+-- The decision of a call that makes a component: the compare of its target, where it is won, makes the frame the component, its number live
+-- for it, and puts its capability there.
 use Rattle.std.specs.Prelude.{if◌then◌else◌, pos, All, List, ◌==◌, ◌||◌}
-use Rattle.std.proofs.Common.{◌≡◌, Bool, true, false, Some, None, refl, ℕ, ◌<◌, ◌^◌, arith, ◌≢◌, ◌+◌, sym, ◌&&◌, [], ◌∷◌, ap, ◌∙◌, subst, ◌≤◌, IsTrue, ◌⊎◌, inl, inr, max, map, ◌+ℤ◌, Option, ◌++◌, zero, suc}
+use Rattle.std.proofs.Common.{◌≡◌, Bool, true, false, Some, None, refl, ℕ, ◌<◌, ◌^◌, arith, ◌≢◌, ◌+◌, sym, ◌&&◌, []}
+use Rattle.std.proofs.Common.{◌∷◌, ap, ◌∙◌, subst, ◌≤◌, IsTrue, ◌⊎◌, inl, inr, max, map, ◌+ℤ◌, Option, ◌++◌, zero, suc}
 use Rattle.std.proofs.lemmas.List.Elements.{All-nil, All-cons, All-head, All-tail}
 use Rattle.std.proofs.lemmas.Bool.{ne_eqb, eqb-true, cases_eq, false≢true}
 use Rattle.spk_nums.specs.Capability.{Capability}
@@ -35,7 +36,9 @@ use Rattle.kernel_rules.specs.Laws.{calls_counted}
 use Rattle.kernel_rules.specs.References.{refs, place_names, times, number_names, frame_names}
 use Rattle.kernel_rules.specs.Relies.{is_node}
 use Rattle.kernel_rules.specs.Rules.{Found, IsFoundAnd, first_of, waits_of, vacant}
-use Rattle.kernel_rules.specs.State.{Blank, Kernel, State, put, comp_of, thread_in, thread_of, first_of_stack, Object, FrameOf, with_frame, Thing, NumberOf, comp_in, Holds, PlaceOf, with_place, Live, Dead, Liveness, Comp, CompFields, with_number, Unused}
+use Rattle.kernel_rules.specs.State.{Blank, Kernel, State, put, comp_of, thread_in, thread_of, first_of_stack}
+use Rattle.kernel_rules.specs.State.{Object, FrameOf, with_frame, Thing, NumberOf, comp_in, Holds, PlaceOf}
+use Rattle.kernel_rules.specs.State.{with_place, Live, Dead, Liveness, Comp, CompFields, with_number, Unused}
 use Rattle.trace_laws.proofs.AloneCalls.{ok_first}
 use Rattle.kernel_history.proofs.Inside.{decided-inside}
 use Rattle.kernel_history.proofs.Names.{cases_word, same_word-other}
@@ -75,7 +78,8 @@ use Rattle.kept_words.proofs.WordFrames.{ReadsAlike, StaysSaid, word_stays, Same
 use Rattle.step_ways.proofs.Writes.{same_marks, decides_writing}
 use Rattle.core_invariant.specs.CountWords.{IsWithin}
 use Rattle.core_invariant.specs.Holding.{holds_counts, settled_by, settled, keeps}
-use Rattle.core_invariant.specs.Knows.{AreDuesApart, HasFound, own_in, phase_at, due_of, KnowsUndecided, WorksIn, MayFill, KnowsComp, KnowsCompAt, MayTake, KnowsLive, untypes}
+use Rattle.core_invariant.specs.Knows.{AreDuesApart, HasFound, own_in, phase_at, due_of, KnowsUndecided}
+use Rattle.core_invariant.specs.Knows.{WorksIn, MayFill, KnowsComp, KnowsCompAt, MayTake, KnowsLive, untypes}
 use Rattle.core_invariant.specs.Invariant.{holds_at, holds_in, Invariant, holds, held_by, times_of, SumIs, counted_in, holds_comp}
 use Rattle.core_invariant.specs.Words.{PlaceIs, count_room, IsFrameWord, WordIs, NumberIs, IsCompWord}
 use Rattle.look_invariant.proofs.Findings.{found_named, own_is, way_gone}
@@ -109,7 +113,8 @@ use Rattle.frame_words.proofs.CompLemmas as comps
 use Rattle.trace_laws.proofs.GraceSteps.{cases_bool}
 use Rattle.kernel_history.specs.Legal.{IsLegal}
 use Rattle.comp_invariant.proofs.UnusedNumbers.{unused_waits}
-use Rattle.comp_invariant.proofs.CompStores.{held_fill, at_fill, frame_marked, frame_stands, number_marked, number_stands, put_of_call, put_lost, close_good, store_good}
+use Rattle.comp_invariant.proofs.CompStores.{held_fill, at_fill, frame_marked, frame_stands, number_marked}
+use Rattle.comp_invariant.proofs.CompStores.{number_stands, put_of_call, put_lost, close_good, store_good}
 use Rattle.comp_invariant.proofs.CompMarks.{load_good, mark_good}
 use Rattle.frame_words.proofs.LiveLemmas as lives_words
 use Rattle.core_invariant.proofs.Bare.{counts_bare}
@@ -128,7 +133,8 @@ record IsTaken (s : State) (c l last : ℕ) : Type 0 where
 module _ (setup : Setting) (setting : IsSetting setup) (cores : ℕ → Core) (t : Trace) (stands : Invariant setup cores t) (c : ℕ)
     (here : c < setup.cores)
     (a : ActiveCall) (active : (cores c).active ≡ Some a) (m : CompMaking) (stage_is : a.stage ≡ Undecided (Act (comp_act m)))
-    (has : KnowsUndecided setup t c (cores c).own.table a (Act (comp_act m))) (word : ℕ) (last : LastEpoch) (at_is : m.at ≡ Fill word last) where
+    (has : KnowsUndecided setup t c (cores c).own.table a (Act (comp_act m)))
+    (word : ℕ) (last : LastEpoch) (at_is : m.at ≡ Fill word last) where
   abbrev s : State
   s = state_after setup t
 
@@ -266,7 +272,8 @@ module _ (setup : Setting) (setting : IsSetting setup) (cores : ℕ → Core) (t
   word_says (suc (suc (suc i))) = tt
 
   fits : EntryFits (Held k)
-  fits = subst (λ x. EntryFits (Held x)) (sym knows.cap) (let few = few_frames in let low = below in (omega (arith, few, low), omega arith, omega arith))
+  fits = subst (λ x. EntryFits (Held x)) (sym knows.cap) (let few = few_frames in
+      let low = below in (omega (arith, few, low), omega arith, omega arith))
 
   new_says : entry_of_word new ≡ Some (Held k)
   new_says = entries.spelling.reads (Held k) fits
@@ -338,7 +345,8 @@ module _ (setup : Setting) (setting : IsSetting setup) (cores : ℕ → Core) (t
           last_is = ap epoch_of died.dead ∙ may.0;
           names = ap number_names died.dead;
           waits = none_waits s c thing (λ d low other. may.1.passed d
-              (let same : s.limits.cores ≡ setup.cores = ap (λ y. y.cores) (limits_of setup t) in omega (arith, low, same)) other died.same);
+              (let same : s.limits.cores ≡ setup.cores = ap (λ y. y.cores) (limits_of setup t) in
+              omega (arith, low, same)) other died.same);
         }
 
     takes : IsTaken s c l last.epoch
@@ -353,7 +361,8 @@ module _ (setup : Setting) (setting : IsSetting setup) (cores : ℕ → Core) (t
     taken_none =
         ap (λ b. first_of (if b then Some reply.Occupied else None) (first_of (waits_of s c thing)
         (first_of (if epoch_of (s.number l) == s.limits.epochs then Some reply.EpochsSpent else None) None))) takes.dead
-        ∙ ap (λ o. first_of o (first_of (if epoch_of (s.number l) == s.limits.epochs then Some reply.EpochsSpent else None) None)) takes.waits
+        ∙ ap (λ o. first_of o (first_of (if epoch_of (s.number l) == s.limits.epochs then Some reply.EpochsSpent else None) None))
+        takes.waits
         ∙ ap (λ b. first_of (if b then Some reply.EpochsSpent else None) None) not_spent_yet
 
     change_is : change_of s c a.call ≡ Found (makes_comp s f fields slot)
@@ -515,7 +524,8 @@ module _ (setup : Setting) (setting : IsSetting setup) (cores : ℕ → Core) (t
 
     -- the word of the target
     word_now : WordIs s' (times_of setup (e ∷ t)) (EntryAt node index) new
-    word_now = node_word s'.limits.frames (count_room s') (s'.frame node) (s'.place node index) (stamp setup (e ∷ t) (PlaceOf node index)) index new
+    word_now = node_word s'.limits.frames (count_room s') (s'.frame node)
+        (s'.place node index) (stamp setup (e ∷ t) (PlaceOf node index)) index new
         (subst (λ x. IsTrue (is_node x)) (sym (frame_there node (λ h. apart (sym h)))) in_node)
         (subst (λ p. PlaceIs s'.limits.frames p (stamp setup (e ∷ t) (PlaceOf node index)) (entry_of_word new)) (sym place_target) (
           new_says ∙ ap (λ x. Some (Held x)) knows.cap,
@@ -619,7 +629,8 @@ module _ (setup : Setting) (setting : IsSetting setup) (cores : ℕ → Core) (t
     not_table = All-head (λ d. f ≢ d.frame) (due_by m.table 1) (due_by m.pages 1 ∷ []) differ.0
 
     not_pages : f ≢ m.pages
-    not_pages = All-head (λ d. f ≢ d.frame) (due_by m.pages 1) [] (All-tail (λ d. f ≢ d.frame) (due_by m.table 1) (due_by m.pages 1 ∷ []) differ.0)
+    not_pages = All-head (λ d. f ≢ d.frame) (due_by m.pages 1) []
+        (All-tail (λ d. f ≢ d.frame) (due_by m.table 1) (due_by m.pages 1 ∷ []) differ.0)
 
     not_both : m.table ≢ m.pages
     not_both = All-head (λ d. m.table ≢ d.frame) (due_by m.pages 1) [] differ.1.0
@@ -738,7 +749,8 @@ module _ (setup : Setting) (setting : IsSetting setup) (cores : ℕ → Core) (t
   put_good : GoodTook setup cores t c put_it (landed a (comp_published m word last (was == m.fill.word)))
   put_good = by_test (was == m.fill.word) refl
     where
-      by_test : (equal : Bool) → (was == m.fill.word) ≡ equal → GoodTook setup cores t c put_it (landed a (comp_published m word last equal))
+      by_test : (equal : Bool) → (was == m.fill.word) ≡ equal
+          → GoodTook setup cores t c put_it (landed a (comp_published m word last equal))
       by_test true is = put_won is
       by_test false is = put_lost setup setting cores t stands c here a active m stage_is has word last at_is is
 

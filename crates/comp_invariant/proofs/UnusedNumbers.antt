@@ -1,5 +1,6 @@
 -- No core waits for a liveness number that was never used: where its grace period begins, it dies, and it is never unused again.
-use Rattle.std.proofs.Common.{◌≡◌, ◌<◌, ◌≤◌, inl, inr, arith, ℕ, Bool, true, false, ◌==◌, ◌||◌, if◌then◌else◌, List, [], ◌∷◌, Option, Some, None, refl, sym, ◌∙◌, ap, subst}
+use Rattle.std.proofs.Common.{◌≡◌, ◌<◌, ◌≤◌, inl, inr, arith, ℕ, Bool, true, false, ◌==◌, ◌||◌}
+use Rattle.std.proofs.Common.{if◌then◌else◌, List, [], ◌∷◌, Option, Some, None, refl, sym, ◌∙◌, ap, subst}
 use Rattle.std.proofs.lemmas.Bool.{false≢true, cases_eq, ne_eqb}
 use Rattle.std.specs.List.{list_any}
 use Rattle.std.specs.Prelude.{take}
@@ -9,12 +10,15 @@ use Rattle.spk_nums.specs.declared.kinds.FrameKind.TheVariants as frame_kind
 use Rattle.spk_nums.specs.declared.calls.Make.{Make}
 use Rattle.spk_nums.specs.declared.calls.Make.TheVariants as make
 use Rattle.spk_nums.specs.declared.calls.Call.{Call}
-use Rattle.spk_nums.specs.declared.calls.Call.TheVariants.{Look, Copy, Remove, Grow, Shrink, Retype, Make as make_call, Map, Unmap, Touch, Flush, Gate, Kill, Call as call_gate, Ret, Switch, Tick, Transfer, Delegate, Test}
+use Rattle.spk_nums.specs.declared.calls.Call.TheVariants.{Look, Copy, Remove, Grow, Shrink, Retype, Make as make_call}
+use Rattle.spk_nums.specs.declared.calls.Call.TheVariants.{Map, Unmap, Touch, Flush, Gate, Kill, Call as call_gate}
+use Rattle.spk_nums.specs.declared.calls.Call.TheVariants.{Ret, Switch, Tick, Transfer, Delegate, Test}
 use Rattle.spk_nums.specs.declared.translations.Translation.{Translation}
 use Rattle.spk_nums.specs.declared.replies.Value.{Value}
 use Rattle.spk_nums.specs.declared.replies.Reply.{Reply}
 use Rattle.spk_nums.specs.declared.replies.Reply.TheVariants as reply
-use Rattle.kernel_rules.specs.State.{Liveness, Unused, Live, Dead, State, Thing, NumberOf, put, comp_in, comp_of, thread_in, thread_of, Holds}
+use Rattle.kernel_rules.specs.State.{Liveness, Unused, Live, Dead, State, Thing, NumberOf}
+use Rattle.kernel_rules.specs.State.{put, comp_in, comp_of, thread_in, thread_of, Holds}
 use Rattle.kernel_rules.specs.Access.{Named, found}
 use Rattle.kernel_rules.specs.GracePeriods.{same_thing}
 use Rattle.kernel_rules.specs.Ranges.{InRanges, NumberInRange}
@@ -35,7 +39,8 @@ use Rattle.trace_laws.proofs.Waiting.{waits_falls}
 use Rattle.kernel_history.specs.Events.{events_of}
 use Rattle.kernel_history.specs.Legal.{IsLegal, MayFollow, MayDecide}
 use Rattle.kernel_history.specs.Stamps.{begins_at, begins_in as begins_then}
-use Rattle.kernel_history.specs.Trace.{Trace, Step, Phase, Out, Open, Decided, phase, after_enter, state_after, state_before, state_returned, state_decided}
+use Rattle.kernel_history.specs.Trace.{Trace, Step, Phase, Out, Open, Decided, phase, after_enter}
+use Rattle.kernel_history.specs.Trace.{state_after, state_before, state_returned, state_decided}
 use Rattle.state_laws.proofs.Lives.{IsPast}
 use Rattle.comp_invariant.proofs.LaterEvents.{past_on}
 

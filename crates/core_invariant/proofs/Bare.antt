@@ -81,8 +81,8 @@ core_bare cores c after f i same d = elim (cases_eq d c) [
   | inr other ↦ ap (λ k. (holds k).bare f i) (put_other cores c after d other)
 ]
 
--- After a step its core keeps without a mark what it kept, but for the word of the step, which it has given back; and where it has marked the
--- first word of a frame of which it keeps a word still, it holds that still.
+-- After a step its core keeps without a mark what it kept, but for the word of the step, which it has given back; and where it has marked
+-- the first word of a frame of which it keeps a word still, it holds that still.
 pub record AsBefore (before after : Holding) (w : Word) : Type 0 where
   pub there : (f i : ℕ) → EntryAt f i ≢ w → after.bare f i ≡ before.bare f i
   pub here : (f i : ℕ) → EntryAt f i ≡ w → after.bare f i ≡ None

@@ -64,7 +64,8 @@ switching_over m (LoadTable to) h g w same = keeps_over (EntryAt to.thread 0) w 
 switching_over m (LoadPages to table) h g w same = keeps_over (EntryAt to.thread 0) w (word_of_thread (Idle to.depth)) h g same
 switching_over m (Leave to table pages) h g w same = keeps_over (EntryAt to.thread 0) w (word_of_thread (Idle to.depth)) h g same
 switching_over m (Draw to table pages) h g w same =
-    keeps_over (EntryAt to.thread 0) w (word_of_thread (Idle to.depth)) (keeps (EntryAt m.old 0) (word_of_thread (Running m.core m.old_depth)) h)
+    keeps_over (EntryAt to.thread 0) w (word_of_thread (Idle to.depth))
+    (keeps (EntryAt m.old 0) (word_of_thread (Running m.core m.old_depth)) h)
     (keeps (EntryAt m.old 0) (word_of_thread (Running m.core m.old_depth)) g)
     (keeps_over (EntryAt m.old 0) w (word_of_thread (Running m.core m.old_depth)) h g same)
 
@@ -99,4 +100,5 @@ claimed_idle m (Claim (AtStack f depth)) h is = idle_here f depth h
 claimed_idle m (LoadTable to) h is = idle_here to.thread to.depth h
 claimed_idle m (LoadPages to table) h is = idle_here to.thread to.depth h
 claimed_idle m (Leave to table pages) h is = idle_here to.thread to.depth h
-claimed_idle m (Draw to table pages) h is = idle_here to.thread to.depth (keeps (EntryAt m.old 0) (word_of_thread (Running m.core m.old_depth)) h)
+claimed_idle m (Draw to table pages) h is =
+    idle_here to.thread to.depth (keeps (EntryAt m.old 0) (word_of_thread (Running m.core m.old_depth)) h)

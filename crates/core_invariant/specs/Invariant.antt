@@ -38,20 +38,24 @@ use Rattle.spk_nums.specs.declared.replies.Reply.{Reply}
 use Rattle.spk_nums.specs.declared.replies.Reply.TheVariants.{Ok}
 use Rattle.stage_pins.specs.declared.held.Acquired.{Acquired}
 use Rattle.act_states.specs.declared.work.Act.{Act}
-use Rattle.act_states.specs.declared.work.Act.TheVariants.{Fill, Remove, Retype, Make, Outside, Tick, Flush, Kill, Untype, Map as map_act, MakeComp, Invoke, Return, Touch, Share, Switch}
+use Rattle.act_states.specs.declared.work.Act.TheVariants.{Fill, Remove, Retype, Make, Outside, Tick, Flush, Kill, Untype}
+use Rattle.act_states.specs.declared.work.Act.TheVariants.{Map as map_act, MakeComp, Invoke, Return, Touch, Share, Switch}
 use Rattle.act_states.specs.declared.work.Work.{Work}
 use Rattle.act_states.specs.declared.work.Work.TheVariants.{Lookup, Read, Scan, Acquire, Act as act_work}
 use Rattle.act_states.specs.declared.work.Tail.{Tail}
-use Rattle.act_states.specs.declared.work.Tail.TheVariants.{Nothing, Quiesce, Unmark, StoreDead, StoreFlush, Release, StoreLive, Push, Pop, Share as share_tail, StoreRunning, StoreIdle}
+use Rattle.act_states.specs.declared.work.Tail.TheVariants.{Nothing, Quiesce, Unmark, StoreDead, StoreFlush, Release}
+use Rattle.act_states.specs.declared.work.Tail.TheVariants.{StoreLive, Push, Pop, Share as share_tail, StoreRunning, StoreIdle}
 use Rattle.tcap_words.specs.Head.{word_of_head}
 use Rattle.stage_tcap.specs.Heads.{credited}
 use Rattle.stage_tcap.specs.Lists.{in_order}
 use Rattle.stage_tcap.specs.Pairs.{amount_of, left_a, word_of_list}
 use Rattle.stage_tcap.specs.declared.pair.Pair.{Pair}
 use Rattle.stage_tcap.specs.declared.pair.PairAt.{PairAt}
-use Rattle.stage_tcap.specs.declared.pair.PairAt.TheVariants.{LoadA, MarkA, ListA, LoadB, ListB, CompareB, AgainB, StoreList, StoreB, StoreA}
+use Rattle.stage_tcap.specs.declared.pair.PairAt.TheVariants.{LoadA, MarkA, ListA, LoadB, ListB, CompareB}
+use Rattle.stage_tcap.specs.declared.pair.PairAt.TheVariants.{AgainB, StoreList, StoreB, StoreA}
 use Rattle.call_stages.specs.View.{Core}
-use Rattle.core_invariant.specs.Holding.{Holding, nothing, holds_counts, holds_closed, holds_drawn, settled, MarkIs, keeps, will_store, keeps_bare, keeps_list}
+use Rattle.core_invariant.specs.Holding.{Holding, nothing, holds_counts, holds_closed, holds_drawn}
+use Rattle.core_invariant.specs.Holding.{settled, MarkIs, keeps, will_store, keeps_bare, keeps_list}
 use Rattle.core_invariant.specs.Frozen.{holds_untyping, holds_release}
 use Rattle.core_invariant.specs.Threads.{holds_switching, holds_running, holds_idle}
 use Rattle.core_invariant.specs.Shares.{HasTcap}

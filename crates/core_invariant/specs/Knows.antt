@@ -21,7 +21,8 @@ use Rattle.act_states.specs.declared.makings.MakingAt.TheVariants.{Load as makin
 use Rattle.act_states.specs.declared.makings.MakingAt.{MakingAt}
 use Rattle.act_states.specs.declared.makings.Making.{Making}
 use Rattle.act_states.specs.declared.objects.NewObject.{NewObject}
-use Rattle.std.specs.Prelude.{◌≡◌, ◌≢◌, ◌<◌, ◌≤◌, ◌+◌, ◌++◌, ◌/◌, ℕ, ℤ, Bool, true, false, map, All, List, [], ◌∷◌, length, Option, Some, None, IsSome, IsTrue, not, ◌^◌, ◌⊎◌, is_some}
+use Rattle.std.specs.Prelude.{◌≡◌, ◌≢◌, ◌<◌, ◌≤◌, ◌+◌, ◌++◌, ◌/◌, ℕ, ℤ, Bool, true, false, map, All, List}
+use Rattle.std.specs.Prelude.{[], ◌∷◌, length, Option, Some, None, IsSome, IsTrue, not, ◌^◌, ◌⊎◌, is_some}
 use Rattle.spk_nums.specs.Capability.{Capability}
 use Rattle.spk_nums.specs.Setting.{Setting}
 use Rattle.spk_nums.specs.declared.kinds.Kind.{Kind}
@@ -54,7 +55,8 @@ use Rattle.kernel_history.specs.BootWords.{shape_of}
 use Rattle.kernel_history.specs.Trace.{Trace, Phase, Out, Open, phase, state_after, own_left, own_read, steps_in_call, WasAt, last_left}
 use Rattle.kernel_history.specs.Trace as history
 use Rattle.kernel_history.specs.Ways.{root_passed}
-use Rattle.kernel_history.specs.Discipline.{counts_references, changes_places, changes_frames, changes_numbers, stores_flush, changes_threads}
+use Rattle.kernel_history.specs.Discipline.{counts_references, changes_places, changes_frames}
+use Rattle.kernel_history.specs.Discipline.{changes_numbers, stores_flush, changes_threads}
 use Rattle.stage_thread.specs.declared.stack.Push.{Push as PushOf}
 use Rattle.stage_thread.specs.declared.stack.Push.TheVariants as push
 use Rattle.stage_thread.specs.declared.stack.Pop.{Pop as PopOf}
@@ -84,12 +86,17 @@ use Rattle.act_states.specs.declared.typings.TypingAt.TheVariants.{Load, Compare
 use Rattle.act_states.specs.Typings.{is_typing}
 use Rattle.kernel_rules.specs.CapabilityCalls.{has_frame}
 use Rattle.act_states.specs.declared.work.Act.{Act as ActOf}
-use Rattle.act_states.specs.declared.work.Act.TheVariants.{Fill as fill_act, Remove as remove_act, Retype as type_act, Make as make_act, Outside, Tick as tick_act, Flush as flush_act, Kill as kill_act, Untype as untype_act, Map as map_act, MakeComp as comp_act, Invoke as invoke_act, Return as return_act, Touch as touch_act, Share as share_act, Switch as switch_act}
+use Rattle.act_states.specs.declared.work.Act.TheVariants.{Fill as fill_act, Remove as remove_act, Retype as type_act}
+use Rattle.act_states.specs.declared.work.Act.TheVariants.{Make as make_act, Outside, Tick as tick_act, Flush as flush_act}
+use Rattle.act_states.specs.declared.work.Act.TheVariants.{Kill as kill_act, Untype as untype_act, Map as map_act}
+use Rattle.act_states.specs.declared.work.Act.TheVariants.{MakeComp as comp_act, Invoke as invoke_act, Return as return_act}
+use Rattle.act_states.specs.declared.work.Act.TheVariants.{Touch as touch_act, Share as share_act, Switch as switch_act}
 use Rattle.act_states.specs.declared.work.Work.{Work}
 use Rattle.act_states.specs.declared.work.Due.{Due}
 use Rattle.act_states.specs.declared.work.Work.TheVariants.{Lookup, Read, Scan, Acquire, Act}
 use Rattle.act_states.specs.declared.work.Tail.{Tail}
-use Rattle.act_states.specs.declared.work.Tail.TheVariants.{Nothing, Quiesce, Unmark, StoreDead, StoreFlush, Release, StoreLive, Push, Pop, Share, StoreRunning, StoreIdle}
+use Rattle.act_states.specs.declared.work.Tail.TheVariants.{Nothing, Quiesce, Unmark, StoreDead, StoreFlush, Release}
+use Rattle.act_states.specs.declared.work.Tail.TheVariants.{StoreLive, Push, Pop, Share, StoreRunning, StoreIdle}
 use Rattle.call_stages.specs.declared.stages.Stage.{Stage}
 use Rattle.call_stages.specs.declared.stages.Stage.TheVariants.{Enter, Undecided, Decided, Leave}
 use Rattle.call_stages.specs.declared.stages.ActiveCall.{ActiveCall}
@@ -105,8 +112,16 @@ use Rattle.core_invariant.specs.Holding.{count_of, holds_counts, AreApart}
 pub use Rattle.core_invariant.specs.Components.{HasComp, HasLife, IsRead, ReadIs, KnowsInvoking, KnowsReturning}
 use Rattle.core_invariant.specs.Threads.{KnowsSwitch, KnowsRunning, KnowsIdle}
 use Rattle.core_invariant.specs.Sweeps.{KnowsUntyping, KnowsRelease}
-pub use Rattle.core_invariant.specs.Reaching.{root_frame, ReliesOn, IsReached, HasFound, IsAtRoot, IsAtLeaf, IsAtEntry, LookIs, LooksUp, own_in, NamesAre, LooksFor, HasPassed, HasFlushed, IsScanned, MayFill, IsSpot, IsUser, HasUser, IsFill, untypes, is_mapping, mapped_frame, IsMapping, IsRemoval, IsClosing, KnowsClose}
-pub use Rattle.core_invariant.specs.Acting.{IsTyped, TypesBy, HasMet, HasMetAt, KnowsTyping, IsMade, MakesBy, IsOutside, OutsideObject, OutsideComp, OutsideBy, blank_word, HasBlank, HasStored, KnowsMakingAt, KnowsMaking, KnowsOutside, charged_tcap, IsCharge, ChargesBy, HasHead, HasHeadAt, KnowsTick, IsKilled, KillsBy, SaysLive, HasMetLive, HasClosed, KnowsKillingAt, KnowsKilling, IsCompMade, MakesCompBy, MayTake, SaysBlank, ScansNumber, KnowsNumber, TakesNumber, HasMetNumber, HasWords, KnowsCompAt, KnowsComp, KnowsTouch, KnowsFlushing}
+pub use Rattle.core_invariant.specs.Reaching.{root_frame, ReliesOn, IsReached, HasFound, IsAtRoot, IsAtLeaf, IsAtEntry}
+pub use Rattle.core_invariant.specs.Reaching.{LookIs, LooksUp, own_in, NamesAre, LooksFor, HasPassed, HasFlushed}
+pub use Rattle.core_invariant.specs.Reaching.{IsScanned, MayFill, IsSpot, IsUser, HasUser, IsFill, untypes, is_mapping}
+pub use Rattle.core_invariant.specs.Reaching.{mapped_frame, IsMapping, IsRemoval, IsClosing, KnowsClose}
+pub use Rattle.core_invariant.specs.Acting.{IsTyped, TypesBy, HasMet, HasMetAt, KnowsTyping, IsMade, MakesBy, IsOutside}
+pub use Rattle.core_invariant.specs.Acting.{OutsideObject, OutsideComp, OutsideBy, blank_word, HasBlank, HasStored, KnowsMakingAt}
+pub use Rattle.core_invariant.specs.Acting.{KnowsMaking, KnowsOutside, charged_tcap, IsCharge, ChargesBy, HasHead, HasHeadAt}
+pub use Rattle.core_invariant.specs.Acting.{KnowsTick, IsKilled, KillsBy, SaysLive, HasMetLive, HasClosed, KnowsKillingAt}
+pub use Rattle.core_invariant.specs.Acting.{KnowsKilling, IsCompMade, MakesCompBy, MayTake, SaysBlank, ScansNumber, KnowsNumber}
+pub use Rattle.core_invariant.specs.Acting.{TakesNumber, HasMetNumber, HasWords, KnowsCompAt, KnowsComp, KnowsTouch, KnowsFlushing}
 
 -- What a call with this plan knows of its act, where its names have led to these and the cores below `upto` were scanned, with their
 -- flushes.

@@ -1,5 +1,6 @@
 -- What a call on two temporal capabilities knows where it stands, and which steps on the words of a temporal capability it relies on.
-use Rattle.std.specs.Prelude.{◌≡◌, ◌≢◌, ◌⊎◌, ◌<◌, ◌≤◌, ◌==◌, ◌&&◌, not, ℕ, zero, suc, Bool, true, false, IsTrue, IsSome, List, [], ◌∷◌, ◌^◌, ◌+◌, Option, Some, None, if◌then◌else◌, slice_get}
+use Rattle.std.specs.Prelude.{◌≡◌, ◌≢◌, ◌⊎◌, ◌<◌, ◌≤◌, ◌==◌, ◌&&◌, not, ℕ, zero, suc, Bool, true, false, IsTrue}
+use Rattle.std.specs.Prelude.{IsSome, List, [], ◌∷◌, ◌^◌, ◌+◌, Option, Some, None, if◌then◌else◌, slice_get}
 use Rattle.spk_nums.specs.Setting.{Setting}
 use Rattle.spk_nums.specs.Capability.{Capability}
 use Rattle.spk_nums.specs.declared.kinds.Kind.TheVariants.{Tcap as tcap_kind}
@@ -22,7 +23,8 @@ use Rattle.stage_tcap.specs.Lists.{read_word, in_order}
 use Rattle.stage_tcap.specs.Pairs.{amount_of, whole_b, judged}
 use Rattle.stage_tcap.specs.declared.pair.Pair.{Pair}
 use Rattle.stage_tcap.specs.declared.pair.PairAt.{PairAt}
-use Rattle.stage_tcap.specs.declared.pair.PairAt.TheVariants.{LoadA, MarkA, ListA, LoadB, ListB, CompareB, AgainB, StoreList, StoreB, StoreA}
+use Rattle.stage_tcap.specs.declared.pair.PairAt.TheVariants.{LoadA, MarkA, ListA, LoadB, ListB, CompareB}
+use Rattle.stage_tcap.specs.declared.pair.PairAt.TheVariants.{AgainB, StoreList, StoreB, StoreA}
 use Rattle.stage_tcap.specs.declared.pair.PairWork.{PairWork}
 use Rattle.stage_tcap.specs.declared.pair.PairWork.TheVariants as share
 

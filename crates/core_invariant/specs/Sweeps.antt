@@ -1,6 +1,7 @@
--- What a call knows that makes a frame untyped: of the frame's word, of the counters that it has frozen, of those who may still use the frame,
--- and of the object in it.
-use Rattle.std.specs.Prelude.{◌≡◌, ◌≢◌, ◌<◌, ◌≤◌, ◌&&◌, ◌==◌, nat_lt, nat_le, ℕ, pos, Bool, true, false, All, List, [], ◌∷◌, ◌++◌, length, Option, Some, None, IsTrue, if◌then◌else◌}
+-- What a call knows that makes a frame untyped: of the frame's word, of the counters that it has frozen, of those who may still use the
+-- frame, and of the object in it.
+use Rattle.std.specs.Prelude.{◌≡◌, ◌≢◌, ◌<◌, ◌≤◌, ◌&&◌, ◌==◌, nat_lt, nat_le, ℕ, pos, Bool, true, false}
+use Rattle.std.specs.Prelude.{All, List, [], ◌∷◌, ◌++◌, length, Option, Some, None, IsTrue, if◌then◌else◌}
 use Rattle.spk_nums.specs.Capability.{Capability}
 use Rattle.spk_nums.specs.Setting.{Setting}
 use Rattle.spk_nums.specs.declared.calls.Call.{Call}
@@ -70,7 +71,8 @@ pub record AreFrozen (cores : ℕ) (kept : List CountWord) : Type 0 where
   pub all : length kept ≡ length (counters cores)
   pub none : sum_of_counts kept ≡ pos 0
 
--- A stamp is past, and while it is the frame's, no core below `upto` waits for the frame, but for c, and none below `flushes` is to flush it.
+-- A stamp is past, and while it is the frame's, no core below `upto` waits for the frame, but for c, and none below `flushes` is to flush
+-- it.
 pub record IsQuiet (setup : Setting) (t : Trace) (c f at upto flushes : ℕ) : Type 0 where
   pub past : at < clock setup t
   pub passed : (d : ℕ) → d < upto → d ≢ c → stamp setup t (FrameOf f) ≡ at → ((state_after setup t).grace (FrameOf f)).waits d ≡ false

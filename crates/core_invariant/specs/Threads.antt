@@ -1,5 +1,5 @@
--- What a switch holds of the words of threads, and what it knows: the thread to which it goes on, the component at the top of its stack, and
--- the thread that it leaves.
+-- What a switch holds of the words of threads, and what it knows: the thread to which it goes on, the component at the top of its stack,
+-- and the thread that it leaves.
 use Rattle.std.specs.Prelude.{◌≡◌, ◌≢◌, ℕ, Bool, true, false, length, List, [], ◌∷◌, Some, IsTrue}
 use Rattle.spk_nums.specs.Capability.{Capability}
 use Rattle.spk_nums.specs.Setting.{Setting}

@@ -19,7 +19,9 @@ use Rattle.tcap_words.specs.Stack.{stack_of_word}
 use Rattle.tcap_words.specs.Thread.{thread_of_word}
 use Rattle.tcap_words.specs.declared.head_word.HeadWord.{HeadWord}
 use Rattle.word_map.specs.Word.{Word, EntryAt, FrameAt, CountAt, CoreAt, FlushAt, LiveAt, ClockAt}
-use Rattle.kernel_rules.specs.State.{Place, Free, Holds, Quiescing, CompFields, ThreadFields, TcapFields, Object, Blank, Table, Leaf, Pages, Pleaf, Comp, Thread, Tcap, Frame, Untyped, User, Kernel, Liveness, Unused, Live, Dead, Thing, PlaceOf, NumberOf, State}
+use Rattle.kernel_rules.specs.State.{Place, Free, Holds, Quiescing, CompFields, ThreadFields, TcapFields, Object}
+use Rattle.kernel_rules.specs.State.{Blank, Table, Leaf, Pages, Pleaf, Comp, Thread, Tcap, Frame, Untyped, User}
+use Rattle.kernel_rules.specs.State.{Kernel, Liveness, Unused, Live, Dead, Thing, PlaceOf, NumberOf, State}
 use Rattle.kernel_rules.specs.References.{sum_below, refs}
 use Rattle.kernel_history.specs.Counts.{counters, count_sum}
 use Rattle.core_invariant.specs.CountWords.{IsWithin, newest_of}
@@ -84,7 +86,8 @@ IsFrameWord frames room Untyped place stamp i x = Unit {0}
 IsFrameWord frames room User place stamp i x = Unit {0}
 IsFrameWord frames room (Kernel object) place stamp i x = IsObjectWord frames room object place stamp i x
 
--- How far a count may be from 0: a call that is counted changes it by 4 at most. No version of a head is greater: such a call raises it by 1.
+-- How far a count may be from 0: a call that is counted changes it by 4 at most. No version of a head is greater: such a call raises it by
+-- 1.
 abbrev pub count_room : State → ℕ
 count_room s = 16 + 4 * sum_below (λ c. (s.core c).counted) s.limits.cores
 

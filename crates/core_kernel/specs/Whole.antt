@@ -1,5 +1,6 @@
 -- Whole lists of calls, made by threads.
-use Rattle.std.specs.Prelude.{◌≡◌, ℕ, zero, suc, ◌+◌, ◌<◌, ◌^◌, Bool, false, List, [], ◌∷◌, ◌++◌, length, slice_get, slice_index_or, Some, All}
+use Rattle.std.specs.Prelude.{◌≡◌, ℕ, zero, suc, ◌+◌, ◌<◌, ◌^◌, Bool, false, List, []}
+use Rattle.std.specs.Prelude.{◌∷◌, ◌++◌, length, slice_get, slice_index_or, Some, All}
 use Rattle.spk_nums.specs.CallLimits.{InLimits}
 use Rattle.spk_nums.specs.declared.calls.Call.{Call}
 use Rattle.spk_nums.specs.declared.replies.Reply.{Reply}

@@ -18,14 +18,17 @@ use Rattle.act_states.specs.declared.kills.KillingAt.{KillingAt}
 use Rattle.act_states.specs.declared.kills.KillingAt.TheVariants.{LoadComp, LoadLive, Close as kill_close, Draw as kill_draw}
 use Rattle.act_states.specs.declared.makings.MakingAt.TheVariants.{Load as making_load, Mark, Store, Fill as making_fill}
 use Rattle.act_states.specs.declared.makings.MakingAt.{MakingAt}
-use Rattle.std.proofs.Common.{◌≡◌, ◌≢◌, ℕ, suc, ℤ, pos, negsuc, ◌+◌, ◌++◌, ◌==◌, ◌^◌, ◌<◌, ◌≤◌, map, slice_get, length, length-append, Bool, true, false, if◌then◌else◌, nat_le, cond, List, [], ◌∷◌, Option, Some, None, IsTrue, inl, inr, arith, refl, sym, ◌∙◌, ap, subst, lt-ltb, not}
+use Rattle.std.proofs.Common.{◌≡◌, ◌≢◌, ℕ, suc, ℤ, pos, negsuc, ◌+◌, ◌++◌, ◌==◌, ◌^◌, ◌<◌, ◌≤◌, map, slice_get}
+use Rattle.std.proofs.Common.{length, length-append, Bool, true, false, if◌then◌else◌, nat_le, cond, List, [], ◌∷◌}
+use Rattle.std.proofs.Common.{Option, Some, None, IsTrue, inl, inr, arith, refl, sym, ◌∙◌, ap, subst, lt-ltb, not}
 use Rattle.std.specs.Prelude.{All, is_some}
 use Rattle.std.proofs.lemmas.Bool.{false≢true, eq-eqb, eqb-true, eqb-false}
 use Rattle.std.proofs.lemmas.List.Elements.{All-nil, All-cons, All-head, All-tail, All-append}
 use Rattle.spk_nums.specs.Setting.{Setting, IsSetting}
 use Rattle.spk_nums.specs.Capability.{Capability}
 use Rattle.spk_nums.specs.declared.calls.Call.{Call}
-use Rattle.spk_nums.specs.declared.calls.Call.TheVariants.{Remove, Shrink, Unmap, Look, Copy, Retype, Make as make_call, Touch, Flush, Tick, Kill}
+use Rattle.spk_nums.specs.declared.calls.Call.TheVariants.{Remove, Shrink, Unmap, Look, Copy, Retype}
+use Rattle.spk_nums.specs.declared.calls.Call.TheVariants.{Make as make_call, Touch, Flush, Tick, Kill}
 use Rattle.spk_nums.specs.declared.replies.Reply.{Reply}
 use Rattle.spk_nums.specs.declared.replies.Reply.TheVariants as reply
 use Rattle.frame_words.specs.Count.{CountFits, word_of_count, count_of_word}
@@ -77,7 +80,11 @@ use Rattle.look_invariant.proofs.Findings.{found_named}
 use Rattle.act_states.specs.declared.refusals.Refusal.TheVariants as refusal
 use Rattle.act_states.specs.declared.work.Due.{Due}
 use Rattle.act_states.specs.declared.work.Act.{Act as ActOf}
-use Rattle.act_states.specs.declared.work.Act.TheVariants.{Fill as fill_act, Remove as remove_act, Retype as type_act, Make as make_act, Outside, Tick as tick_act, Flush as flush_act, Kill as kill_act, Untype as untype_act, Map as map_act, MakeComp as comp_act, Invoke as invoke_act, Return as return_act, Touch as touch_act, Share as share_act, Switch as switch_act}
+use Rattle.act_states.specs.declared.work.Act.TheVariants.{Fill as fill_act, Remove as remove_act, Retype as type_act}
+use Rattle.act_states.specs.declared.work.Act.TheVariants.{Make as make_act, Outside, Tick as tick_act, Flush as flush_act}
+use Rattle.act_states.specs.declared.work.Act.TheVariants.{Kill as kill_act, Untype as untype_act, Map as map_act}
+use Rattle.act_states.specs.declared.work.Act.TheVariants.{MakeComp as comp_act, Invoke as invoke_act, Return as return_act}
+use Rattle.act_states.specs.declared.work.Act.TheVariants.{Touch as touch_act, Share as share_act, Switch as switch_act}
 use Rattle.act_states.specs.declared.work.Tail.TheVariants.{Nothing}
 use Rattle.act_states.specs.declared.work.Work.TheVariants.{Acquire}
 use Rattle.call_stages.specs.declared.stages.Stage.TheVariants.{Undecided, Decided}
@@ -94,9 +101,13 @@ use Rattle.act_states.specs.declared.untypings.UntypingAt.TheVariants as untype
 use Rattle.act_states.specs.Untypings.{is_drawing}
 use Rattle.core_invariant.specs.Holding.{Holding, count_of, committed, holds_counts, AreApart, settled_by, settled, keeps}
 use Rattle.core_invariant.specs.Words.{SaysCount, count_room}
-use Rattle.core_invariant.specs.Knows.{AreDuesApart, own_in, HasFound, NamesAre, due_of, pin_frame, pin_core, IsRemoval, KnowsClose, KnowsAct, KnowsWork, KnowsUndecided, IsCount, HasRead, phase_at, KnowsTail, goes_on, is_counting, untypes}
-use Rattle.core_invariant.specs.Invariant.{done_by, holds_act, holds_work, holds_at, holds_in, holds, held_by, Invariant, holds_tail, holds_making, holds_killing, holds_comp}
-use Rattle.kept_knowledge.proofs.Carries.{names_on, act_on, counts_on, KeepsUsers, KeepsThreads, claimed_in, ReadsSame, freezes_at, reads_counts, due_pairs}
+use Rattle.core_invariant.specs.Knows.{AreDuesApart, own_in, HasFound, NamesAre, due_of, pin_frame}
+use Rattle.core_invariant.specs.Knows.{pin_core, IsRemoval, KnowsClose, KnowsAct, KnowsWork, KnowsUndecided}
+use Rattle.core_invariant.specs.Knows.{IsCount, HasRead, phase_at, KnowsTail, goes_on, is_counting, untypes}
+use Rattle.core_invariant.specs.Invariant.{done_by, holds_act, holds_work, holds_at, holds_in, holds, held_by}
+use Rattle.core_invariant.specs.Invariant.{Invariant, holds_tail, holds_making, holds_killing, holds_comp}
+use Rattle.kept_knowledge.proofs.Carries.{names_on, act_on, counts_on, KeepsUsers, KeepsThreads}
+use Rattle.kept_knowledge.proofs.Carries.{claimed_in, ReadsSame, freezes_at, reads_counts, due_pairs}
 use Rattle.kept_knowledge.proofs.Swept.{LeavesFrame}
 use Rattle.step_ways.proofs.Writes.{same_marks}
 use Rattle.step_ways.proofs.Good.{IsGood, spares_other}
@@ -141,7 +152,8 @@ not_acquired : (xs : List Acquired) (d : Due) (ds : List Due) → AreDuesApart (
 not_acquired [] d ds apart n = refl
 not_acquired (x ∷ xs) d ds apart n =
     ap (λ b. if b then true else (holds_counts None xs).marks (CountAt d.frame n))
-    (same_word-other (CountAt d.frame n) (count_of x) (λ h. in_middle x.pin.frame (map due_of xs) d ds apart.0 (sym (same_frame _ _ _ _ h))))
+    (same_word-other (CountAt d.frame n) (count_of x)
+    (λ h. in_middle x.pin.frame (map due_of xs) d ds apart.0 (sym (same_frame _ _ _ _ h))))
     ∙ not_acquired xs d ds apart.1 n
   where
     same_frame : (f d g b : ℕ) → CountAt f d ≡ CountAt g b → f ≡ g
@@ -244,7 +256,8 @@ module _ (setup : Setting) (setting : IsSetting setup) (cores : ℕ → Core) (t
     (stage_is : a.stage ≡ Undecided (Acquire pin change act)) (has : KnowsUndecided setup t c (cores c).own.table a
     (Acquire pin change act))
     (counting : IsTrue (counts_references a.call)) (near : (b : ℕ) → IsNearIn c a.call (CountAt frame b) (state_after setup t))
-    (left : (e : Step) → IsRefusing setup t c e → KnowsTail setup (e ∷ t) c a.call a.counts (undo act)) (spares : SparesSwept act frame) where
+    (left : (e : Step) → IsRefusing setup t c e
+    → KnowsTail setup (e ∷ t) c a.call a.counts (undo act)) (spares : SparesSwept act frame) where
   abbrev s : State
   s = state_after setup t
 
@@ -310,7 +323,8 @@ module _ (setup : Setting) (setting : IsSetting setup) (cores : ℕ → Core) (t
     counts = λ freezes. absurd (false≢true (sym (counting_unread act has.knows.starts) ∙ freezes));
     rests = λ f looked. rests f;
     threads = threads;
-    pairs = due_pairs setup t e c act (map due_of a.counts) (record { frame = pin_frame pin; change = change }) has.knows.rest has.knows.due;
+    pairs = due_pairs setup t e c act (map due_of a.counts)
+        (record { frame = pin_frame pin; change = change }) has.knows.rest has.knows.due;
   }
     where
       entry_apart : (f i : ℕ) → EntryAt f i ≢ at
@@ -544,12 +558,14 @@ acquire_near : (setup : Setting) → IsSetting setup → (cores : ℕ → Core) 
     → (pin : Pin) (change : ℤ) (act : ActOf) → a.stage ≡ Undecided (Acquire pin change act)
     → KnowsUndecided setup t c (cores c).own.table a (Acquire pin change act)
     → IsTrue (counts_references a.call) → ((b : ℕ) → IsNearIn c a.call (CountAt (pin_frame pin) b) (state_after setup t))
-    → ((e : Step) → IsRefusing setup t c e → KnowsTail setup (e ∷ t) c a.call a.counts (undo act)) → SparesSwept act (pin_frame pin) → goes_on act ≡ true
+    → ((e : Step) → IsRefusing setup t c e → KnowsTail setup (e ∷ t) c a.call a.counts (undo act))
+    → SparesSwept act (pin_frame pin) → goes_on act ≡ true
     → GoodTook setup cores t c (pin_move pin)
     (landed a (took_count (cores c).own.core (length a.counts) change act (pin_after pin (last_left setup t (word_of (pin_move pin))))
     (pin_end pin (last_left setup t (word_of (pin_move pin))))))
 acquire_near setup setting cores t stands c here a active (AtLoad frame d) change act is has counting near left spares goes =
-    load_good setup setting cores t stands c here a active frame d (AtLoad frame d) change act refl refl is has counting near left spares refl
+    load_good setup setting cores t stands c here a active frame d
+    (AtLoad frame d) change act refl refl is has counting near left spares refl
 acquire_near setup setting cores t stands c here a active (AtCompare frame d count stamp) change act is has counting near left spares goes =
     compare_good setup setting cores t stands c here a active frame d (AtCompare frame d count stamp) change act refl refl is has counting
     near left spares count stamp has.knows.loaded refl goes
@@ -634,7 +650,8 @@ module _ (setup : Setting) (setting : IsSetting setup) (cores : ℕ → Core) (t
   removal_does (AtStore node index at) cap has = absurd has
 
 -- The frame of a count that an act changes is near the call, which is one that changes references.
-pub acquire_good : (setup : Setting) → IsSetting setup → (cores : ℕ → Core) (t : Trace) → Invariant setup cores t → (c : ℕ) → c < setup.cores
+pub acquire_good : (setup : Setting) → IsSetting setup
+    → (cores : ℕ → Core) (t : Trace) → Invariant setup cores t → (c : ℕ) → c < setup.cores
     → (a : ActiveCall) → (cores c).active ≡ Some a
     → (pin : Pin) (change : ℤ) (act : ActOf) → a.stage ≡ Undecided (Acquire pin change act)
     → KnowsUndecided setup t c (cores c).own.table a (Acquire pin change act)
@@ -726,7 +743,8 @@ acquire_good setup setting cores t stands c here a active pin change (comp_act m
     (λ b. comp_due_near (state_after setup t) c a.call a.found m of
     (call_leads setup setting cores t stands c here a active has.names) m.at (map due_of a.counts)
     (record { frame = pin_frame pin; change = change }) has.knows.rest has.knows.due)
-    (λ e by. comp_left setup t (e ∷ t) c a.counts a.call a.found m of m.at (not_true (comp_meets_number m.at) has.knows.starts) has.knows.knows.at) tt refl
+    (λ e by. comp_left setup t (e ∷ t) c a.counts a.call a.found m of m.at
+    (not_true (comp_meets_number m.at) has.knows.starts) has.knows.knows.at) tt refl
   where
     not_true : (b : Bool) → not b ≡ true → b ≡ false
     not_true true h = cc

@@ -1,5 +1,5 @@
--- What an act holds beside its counts: no count, and of another word what does not depend on the counts; and while these are acquired, what a
--- refusal has then to store.
+-- What an act holds beside its counts: no count, and of another word what does not depend on the counts; and while these are acquired, what
+-- a refusal has then to store.
 use Rattle.entry_words.specs.declared.entry.Entry.TheVariants.{Held}
 use Rattle.entry_words.specs.EntryWord.{word_of_entry}
 use Rattle.act_states.specs.Comps.{comp_undo}
@@ -19,7 +19,11 @@ use Rattle.stage_quiet.specs.declared.close.Close.{Close}
 use Rattle.stage_quiet.specs.declared.close.Close.TheVariants.{AtCompare as close_compare, AtDraw, AtStore}
 use Rattle.stage_pins.specs.Counts.{acquired}
 use Rattle.act_states.specs.declared.work.Act.{Act as ActOf}
-use Rattle.act_states.specs.declared.work.Act.TheVariants.{Fill as fill_act, Remove as remove_act, Retype as type_act, Make as make_act, Outside, Tick as tick_act, Kill as kill_act, MakeComp as comp_act, Map as map_act, Flush as flush_act, Untype as untype_act, Touch as touch_act, Share as share_act, Invoke as invoke_act, Return as return_act, Switch as switch_act}
+use Rattle.act_states.specs.declared.work.Act.TheVariants.{Fill as fill_act, Remove as remove_act, Retype as type_act}
+use Rattle.act_states.specs.declared.work.Act.TheVariants.{Make as make_act, Outside, Tick as tick_act, Kill as kill_act}
+use Rattle.act_states.specs.declared.work.Act.TheVariants.{MakeComp as comp_act, Map as map_act, Flush as flush_act}
+use Rattle.act_states.specs.declared.work.Act.TheVariants.{Untype as untype_act, Touch as touch_act, Share as share_act}
+use Rattle.act_states.specs.declared.work.Act.TheVariants.{Invoke as invoke_act, Return as return_act, Switch as switch_act}
 use Rattle.act_states.specs.Acts.{undo}
 use Rattle.act_states.specs.declared.untypings.UntypingAt.{UntypingAt}
 use Rattle.act_states.specs.declared.untypings.UntypingAt.TheVariants as untype
@@ -33,7 +37,8 @@ use Rattle.core_invariant.specs.Knows.{is_counting}
 use Rattle.core_invariant.proofs.ThreadHolds.{switching_count, switching_over, switching_undo_holds}
 use Rattle.core_invariant.specs.Invariant.{holds_act, holds, holds_tail, holds_making, holds_killing, holds_comp, holds_head, holds_share}
 use Rattle.stage_tcap.specs.declared.pair.PairAt.{PairAt}
-use Rattle.stage_tcap.specs.declared.pair.PairAt.TheVariants.{LoadA, MarkA, ListA, LoadB, ListB, CompareB, AgainB, StoreList, StoreB, StoreA}
+use Rattle.stage_tcap.specs.declared.pair.PairAt.TheVariants.{LoadA, MarkA, ListA, LoadB, ListB, CompareB}
+use Rattle.stage_tcap.specs.declared.pair.PairAt.TheVariants.{AgainB, StoreList, StoreB, StoreA}
 use Rattle.stage_tcap.specs.Pairs.{amount_of, left_a}
 use Rattle.tcap_words.specs.Head.{word_of_head}
 
@@ -208,7 +213,8 @@ act_over (kill_act m) h g w same = by m.at
     by (kill_draw life word) = keeps_over (LiveAt life.number) w word h g same
 act_over (share_act p) h g w same = by p.at
   where
-    head : ((holds_head p false h).marks w ≡ (holds_head p false g).marks w) × ((holds_head p false h).stands w ≡ (holds_head p false g).stands w)
+    head : ((holds_head p false h).marks w ≡ (holds_head p false g).marks w)
+        × ((holds_head p false h).stands w ≡ (holds_head p false g).stands w)
     head = keeps_over (EntryAt p.a 0) w (word_of_head (left_a false p.head_a (amount_of p.what))) h g same
 
     by : (at : PairAt) → ((holds_share p at h).marks w ≡ (holds_share p at g).marks w)

@@ -32,7 +32,8 @@ use Rattle.act_states.specs.declared.work.Due.{Due}
 use Rattle.core_invariant.specs.Knows.{KnowsTail, MakesCompBy, KnowsCompAt}
 use Rattle.count_invariant.proofs.MakingCounts.{argument_near, blank_left, named_kind, no_due}
 
--- It makes this component in this frame, which the range has to which its first name has led, with what its third and its fourth have led to.
+-- It makes this component in this frame, which the range has to which its first name has led, with what its third and its fourth have led
+-- to.
 pub record IsCompCall (call : Call) (ks : List Capability) (m : CompMaking) : Type 0 where
   pub x : ℕ
   pub p : ℕ
@@ -171,7 +172,8 @@ module _ (s : State) (c : ℕ) (call : Call) (ks : List Capability) (m : CompMak
   comp_due_near (comp_at.Fill word last) xs d rest h = list_near xs d rest h
 
 -- While its counts are acquired it has to store the word of its frame, as it was found.
-pub comp_left : (setup : Setting) (t u : Trace) (c : ℕ) (counts : List Acquired) (call : Call) (ks : List Capability) (m : CompMaking) → IsCompCall call ks m
+pub comp_left : (setup : Setting) (t u : Trace) (c : ℕ) (counts : List Acquired) (call : Call) (ks : List Capability) (m : CompMaking)
+    → IsCompCall call ks m
     → (at : CompAt) → comp_meets_number at ≡ false → KnowsCompAt setup t c m at → KnowsTail setup u c call counts (comp_undo m at)
 comp_left setup t u c counts call ks m is comp_at.Load early knows = tt
 comp_left setup t u c counts call ks m is (comp_at.Mark word) early knows = tt

@@ -1,6 +1,7 @@
 -- What a decision makes of the counts that its call has acquired: each stands for what its commit will store, and so the counts of each
 -- frame sum to the references that the decision leaves.
-use Rattle.std.proofs.Common.{◌≡◌, ◌≢◌, ◌⊎◌, ℕ, suc, zero, ℤ, pos, negsuc, ◌+ℤ◌, ◌+◌, ◌^◌, ◌<◌, ◌≤◌, max, map, slice_get, true, false, if◌then◌else◌, List, [], ◌∷◌, Option, Some, None, inl, inr, arith, refl, sym, ◌∙◌, ap, subst}
+use Rattle.std.proofs.Common.{◌≡◌, ◌≢◌, ◌⊎◌, ℕ, suc, zero, ℤ, pos, negsuc, ◌+ℤ◌, ◌+◌, ◌^◌, ◌<◌, ◌≤◌, max, map, slice_get, true}
+use Rattle.std.proofs.Common.{false, if◌then◌else◌, List, [], ◌∷◌, Option, Some, None, inl, inr, arith, refl, sym, ◌∙◌, ap, subst}
 use Rattle.std.proofs.lemmas.Bool.{false≢true, cases_eq}
 use Rattle.std.specs.Prelude.{All}
 use Rattle.std.proofs.lemmas.List.Elements.{All-nil, All-cons, All-head, All-tail, All-map, All-weaker}
@@ -159,8 +160,8 @@ count_word (x ∷ xs) w mark = elim (cases_word w (count_of x)) [
       ∙ mark)
 ]
 
--- The call has drawn this stamp or none, and the dues of the counts that it has acquired are these. Of a frame that is spared the core holds
--- no count beside those; the frames of these are spared.
+-- The call has drawn this stamp or none, and the dues of the counts that it has acquired are these. Of a frame that is spared the core
+-- holds no count beside those; the frames of these are spared.
 module _ (setup : Setting) (setting : IsSetting setup) (cores : ℕ → Core) (t : Trace) (stands : Invariant setup cores t) (c : ℕ)
     (here : c < setup.cores)
     (a : ActiveCall) (active : (cores c).active ≡ Some a) (drawn : Option ℕ) (drawn_small : later 0 drawn < 2 ^ 28)
@@ -351,7 +352,8 @@ module _ (setup : Setting) (setting : IsSetting setup) (cores : ℕ → Core) (t
             sum = ap (λ (n : ℕ). count_sum (shown' has.x.pin.frame) (counters n)) cores_same
                 ∙ sum_here f has ∙ ap (λ y. y +ℤ has.x.change) (stands.sums has.x.pin.frame).sum ∙ sym change.0;
             newest = ap (λ (n : ℕ). newest_of (shown' has.x.pin.frame) (counters n)) cores_same
-                ∙ newest_here f has ∙ ap (λ (n : ℕ). max n (later 0 (stamp_of_change has.x.change drawn))) (stands.sums has.x.pin.frame).newest
+                ∙ newest_here f has ∙ ap (λ (n : ℕ). max n (later 0 (stamp_of_change has.x.change drawn)))
+                (stands.sums has.x.pin.frame).newest
                 ∙ sym change.1;
           }
 

@@ -1,6 +1,7 @@
 -- The counts and the frame of a call that makes an object, and what it has still to store where it is refused.
 use Rattle.std.specs.Prelude.{List, ℤ, pos, if◌then◌else◌}
-use Rattle.std.proofs.Common.{◌≡◌, Bool, true, false, Option, Some, None, ◌∙◌, refl, ℕ, ◌<◌, ◌^◌, ◌==◌, sym, [], ◌∷◌, ◌++◌, ap, subst, IsTrue, ◌||◌, map}
+use Rattle.std.proofs.Common.{◌≡◌, Bool, true, false, Option, Some, None, ◌∙◌, refl, ℕ, ◌<◌}
+use Rattle.std.proofs.Common.{◌^◌, ◌==◌, sym, [], ◌∷◌, ◌++◌, ap, subst, IsTrue, ◌||◌, map}
 use Rattle.std.proofs.lemmas.Bool.{eqb-true, eq-eqb, false≢true}
 use Rattle.spk_nums.specs.Capability.{Capability}
 use Rattle.spk_nums.specs.Setting.{Setting}

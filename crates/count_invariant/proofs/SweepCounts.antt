@@ -1,6 +1,7 @@
 -- The counts that a call acquires which makes a frame untyped: of the frames that its object names itself. None of them is the frame, since
 -- nothing refers to that; and they are near the call.
-use Rattle.std.proofs.Common.{◌^◌, ◌≡◌, ◌≢◌, ◌⊎◌, inl, inr, ℕ, ℤ, negsuc, ◌<◌, ◌≤◌, ◌+◌, ◌++◌, ◌||◌, ◌==◌, map, cond, Bool, true, false, IsTrue, List, [], ◌∷◌, Option, Some, None, arith, refl, sym, ◌∙◌, ap, subst}
+use Rattle.std.proofs.Common.{◌^◌, ◌≡◌, ◌≢◌, ◌⊎◌, inl, inr, ℕ, ℤ, negsuc, ◌<◌, ◌≤◌, ◌+◌, ◌++◌, ◌||◌, ◌==◌, map, cond, Bool}
+use Rattle.std.proofs.Common.{true, false, IsTrue, List, [], ◌∷◌, Option, Some, None, arith, refl, sym, ◌∙◌, ap, subst}
 use Rattle.std.specs.Prelude.{All}
 use Rattle.std.specs.List.{flat_map}
 use Rattle.std.proofs.lemmas.Bool.{eq-eqb, eqb-true, false≢true}
@@ -19,7 +20,8 @@ use Rattle.kernel_invariant.proofs.Sums.{times_cons}
 use Rattle.kernel_history.specs.Discipline.{counts_references, changes_frames}
 use Rattle.kernel_history.specs.Marks.{frame_mark}
 use Rattle.frame_words.proofs.FrameLemmas as frames
-use Rattle.kernel_history.specs.Footprint.{IsNearIn, is_one_of, frames_named, frame_at_slot, frame_argument, frames_about, frames_own, frames_near}
+use Rattle.kernel_history.specs.Footprint.{IsNearIn, is_one_of, frames_named, frame_at_slot}
+use Rattle.kernel_history.specs.Footprint.{frame_argument, frames_about, frames_own, frames_near}
 use Rattle.kernel_history.specs.Marking.{marked_by}
 use Rattle.kernel_history.specs.Trace.{Step, Trace, state_after, last_left}
 use Rattle.kernel_history.specs.Ways.{wide_ways, target_of}
@@ -88,7 +90,8 @@ of_many g l f (x ∷ xs) is here = by (x == f) refl is (λ h. of_many g l f xs h
     by false same h rest = one_right l (g x) (flat_map g xs) (rest h)
 
 -- The counts that are due are of the frames named.
-dues_are : (first second : Option ℕ) → released_dues first second ≡ map (λ f. record { frame = f; change = negsuc 0 }) (names_of first second)
+dues_are : (first second : Option ℕ)
+    → released_dues first second ≡ map (λ f. record { frame = f; change = negsuc 0 }) (names_of first second)
 dues_are None None = refl
 dues_are None (Some g) = refl
 dues_are (Some f) None = refl

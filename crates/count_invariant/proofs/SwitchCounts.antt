@@ -1,7 +1,8 @@
 -- The counts of a call that switches, and the frames that it names.
 use Rattle.std.specs.Prelude.{List, All, pos, negsuc}
 use Rattle.std.specs.List.{flat_map}
-use Rattle.std.proofs.Common.{◌≡◌, ◌+◌, ◌<◌, inl, inr, refl, ℕ, Bool, true, false, sym, ◌∙◌, [], ◌∷◌, ◌++◌, map, ap, subst, IsTrue, ◌||◌, ◌==◌, arith}
+use Rattle.std.proofs.Common.{◌≡◌, ◌+◌, ◌<◌, inl, inr, refl, ℕ, Bool, true, false, sym, ◌∙◌}
+use Rattle.std.proofs.Common.{[], ◌∷◌, ◌++◌, map, ap, subst, IsTrue, ◌||◌, ◌==◌, arith}
 use Rattle.std.proofs.lemmas.Bool.{eq-eqb}
 use Rattle.std.proofs.lemmas.List.Elements.{All-nil, All-cons, All-head, All-tail}
 use Rattle.spk_nums.specs.Setting.{Setting}
@@ -134,7 +135,8 @@ module _ (s : State) (c : ℕ) (call : Call) (ks : List Capability) (m : Switchi
 
   tcaps_near : (b : Bool) → is_one_of m.tcap (frames_near s c call) ≡ true → All IsNear (tcap_dues b m.tcap m.old_tcap)
   tcaps_near true near = All-nil IsNear
-  tcaps_near false near = All-cons IsNear (record { frame = m.tcap; change = pos 1 }) (record { frame = m.old_tcap; change = negsuc 0 } ∷ []) near
+  tcaps_near false near =
+      All-cons IsNear (record { frame = m.tcap; change = pos 1 }) (record { frame = m.old_tcap; change = negsuc 0 } ∷ []) near
       (All-cons IsNear (record { frame = m.old_tcap; change = negsuc 0 }) [] (old_tcap_near s c call m leaves) (All-nil IsNear))
 
   all_near : (to : Claimed) → is_one_of to.thread (frames_near s c call) ≡ true → is_one_of m.tcap (frames_near s c call) ≡ true
@@ -181,7 +183,8 @@ counted_thread s c f has = record {
     guarded (inr waits) = inr waits
 
 -- What a refused switch has to store, where it has claimed the thread.
-pub switch_left : (setup : Setting) (t : Trace) (e : Step) (c : ℕ) (call : Call) (ks : List Capability) (counts : List Acquired) (m : Switching)
+pub switch_left : (setup : Setting) (t : Trace) (e : Step) (c : ℕ)
+    (call : Call) (ks : List Capability) (counts : List Acquired) (m : Switching)
     (at : SwitchAt) (is : IsSwitch call ks (claimed_by at) m.tcap) → Leads (LeadsIn (state_after setup t) c) (plan_for call).names [] ks
     → phase t c ≡ Open call → IsRefusing setup t c e → HasThread (state_after setup t) c (claimed_by at)
     → KnowsTail setup (e ∷ t) c call counts (switching_undo at)

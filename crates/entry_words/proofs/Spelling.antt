@@ -1,5 +1,6 @@
 -- One spelling for each entry.
-use Rattle.std.proofs.Common.{◌≡◌, ◌≢◌, ℕ, ◌+◌, ◌*◌, ◌/◌, ◌%◌, ◌^◌, ◌<◌, ◌≤◌, ◌==◌, ◌&&◌, nat_lt, nat_le, Option, Some, None, IfSome, refl, subst, arith}
+use Rattle.std.proofs.Common.{◌≡◌, ◌≢◌, ℕ, ◌+◌, ◌*◌, ◌/◌, ◌%◌, ◌^◌, ◌<◌, ◌≤◌, ◌==◌, ◌&&◌}
+use Rattle.std.proofs.Common.{nat_lt, nat_le, Option, Some, None, IfSome, refl, subst, arith}
 use Rattle.std.proofs.lemmas.Bool.{ne_eqb, lt-ltb, le-leb, and_parts, ltb-true, leb-true, eqb-true}
 use Rattle.std.proofs.lemmas.Bool.Decides.{nat_tests}
 use Rattle.spk_nums.proofs.Choices.{kept, chosen}
@@ -47,7 +48,17 @@ reads (Held cap) h =
     let kind : w / 2 ^ 2 % 2 ^ 4 ≡ k = omega arith in
     let frame : w / 2 ^ 6 % 2 ^ 10 ≡ cap.frame = omega arith in
     let arg : w / 2 ^ 16 ≡ cap.arg = omega arith in
-    rw (ne_eqb w 0 some, tag, kind, frame, arg, n.back, lt-ltb cap.frame 512 h.0, le-leb (least_arg cap.kind) cap.arg h.1, lt-ltb cap.arg (end_of_arg cap.kind) h.2)
+    rw (
+      ne_eqb w 0 some,
+      tag,
+      kind,
+      frame,
+      arg,
+      n.back,
+      lt-ltb cap.frame 512 h.0,
+      le-leb (least_arg cap.kind) cap.arg h.1,
+      lt-ltb cap.arg (end_of_arg cap.kind) h.2,
+    )
 reads (Closing by) h =
     let w : ℕ = 2 + 2 ^ 2 * by in
     let some : w ≢ 0 = omega arith in
@@ -72,13 +83,15 @@ spells_free w v none h =
     let value : Free ≡ v = cc in
     subst (Spells w) value (tt, omega arith)
 
-spells_held : (o : Option Kind) (w : ℕ) (v : Entry) → o ≡ kind_of_number (w / 2 ^ 2 % 2 ^ 4) → w % 2 ^ 2 ≡ 1 → held_of o (w / 2 ^ 6 % 2 ^ 10) (w / 2 ^ 16) ≡ Some v → Spells w v
+spells_held : (o : Option Kind) (w : ℕ) (v : Entry) → o ≡ kind_of_number (w / 2 ^ 2 % 2 ^ 4)
+    → w % 2 ^ 2 ≡ 1 → held_of o (w / 2 ^ 6 % 2 ^ 10) (w / 2 ^ 16) ≡ Some v → Spells w v
 unfolding Spells word_of_entry
 spells_held None w v from tag h = absurd (cc)
 spells_held (Some k) w v from tag h =
     let f : ℕ = w / 2 ^ 6 % 2 ^ 10 in
     let a : ℕ = w / 2 ^ 16 in
-    let (tests, value) = kept (nat_lt f 512 && (nat_le (least_arg k) a && nat_lt a (end_of_arg k))) (Held (record { kind = k; frame = f; arg = a })) v h in
+    let (tests, value) =
+    kept (nat_lt f 512 && (nat_le (least_arg k) a && nat_lt a (end_of_arg k))) (Held (record { kind = k; frame = f; arg = a })) v h in
     let (frame, arg) = and_parts (nat_lt f 512) _ tests in
     let (least, last) = and_parts (nat_le (least_arg k) a) _ arg in
     let kind : number_of_kind k ≡ w / 2 ^ 2 % 2 ^ 4 = number_of_kind_of (w / 2 ^ 2 % 2 ^ 4) k (cc) in

@@ -14,7 +14,8 @@ use Rattle.tcap_words.specs.Thread.{thread_of_word}
 use Rattle.tcap_words.specs.Stack.{stack_of_word}
 use Rattle.tcap_words.specs.Head.{head_of_word}
 use Rattle.tcap_words.specs.Quality.{quality_of_word}
-use Rattle.kernel_rules.specs.State.{Place, Object, Blank, Table, Leaf, Pages, Pleaf, Comp, Thread, Tcap, Frame, Untyped, User, Kernel, State}
+use Rattle.kernel_rules.specs.State.{Place, Object, Blank, Table, Leaf, Pages, Pleaf, Comp}
+use Rattle.kernel_rules.specs.State.{Thread, Tcap, Frame, Untyped, User, Kernel, State}
 use Rattle.kernel_history.specs.BootWords.{shape_of}
 use Rattle.kernel_history.specs.Counts.{counters, count_at, count_in, count_sum, IsUnheld, RepresentCounts}
 use Rattle.kernel_history.specs.FinalWords.{Represent, AreEntries, AreObject, AreFrame, SaysPlace, SaysNumber, SaysOut}

@@ -1,6 +1,7 @@
 -- The start stands for no step.
 use Rattle.core_invariant.proofs.Bare.{none_value}
-use Rattle.std.proofs.Common.{◌≡◌, inl, inr, ℕ, zero, suc, ◌+◌, ◌<◌, ◌≤◌, ◌==◌, ◌*◌, ◌-◌, ◌∷◌, nat_lt, length, slice_get, Bool, true, false, [], Option, Some, None, arith, refl, sym, ◌∙◌, ap, subst, IsTrue, if◌then◌else◌, pos, ◌+ℤ◌, max}
+use Rattle.std.proofs.Common.{◌≡◌, inl, inr, ℕ, zero, suc, ◌+◌, ◌<◌, ◌≤◌, ◌==◌, ◌*◌, ◌-◌, ◌∷◌, nat_lt, length, slice_get, Bool, true}
+use Rattle.std.proofs.Common.{false, [], Option, Some, None, arith, refl, sym, ◌∙◌, ap, subst, IsTrue, if◌then◌else◌, pos, ◌+ℤ◌, max}
 use Rattle.std.proofs.lemmas.Bool.{cases_lt, false≢true, lt-ltb, eqb-true}
 use Rattle.spk_nums.specs.Capability.{Capability}
 use Rattle.spk_nums.specs.Setting.{Setting, IsSetting}
@@ -21,7 +22,8 @@ use Rattle.frame_words.proofs.FlushLemmas as flushes
 use Rattle.frame_words.proofs.FrameLemmas as frames
 use Rattle.frame_words.proofs.LiveLemmas as lives
 use Rattle.word_map.specs.Word.{Word, EntryAt, FrameAt, CountAt, CoreAt, FlushAt, LiveAt, ClockAt}
-use Rattle.kernel_rules.specs.State.{Place, Free, Holds, Quiescing, Object, Blank, Table, Leaf, Pages, Pleaf, Comp, Thread, Tcap, TcapFields, Frame, Untyped, User, Kernel, State, comp_in, thread_in, thread_of, first_of_stack}
+use Rattle.kernel_rules.specs.State.{Place, Free, Holds, Quiescing, Object, Blank, Table, Leaf, Pages, Pleaf, Comp, Thread, Tcap}
+use Rattle.kernel_rules.specs.State.{TcapFields, Frame, Untyped, User, Kernel, State, comp_in, thread_in, thread_of, first_of_stack}
 use Rattle.kernel_rules.specs.Start.{start, start_place, start_cap, place_with, start_frame, start_number, granted}
 use Rattle.kernel_rules.specs.References.{refs}
 use Rattle.kernel_rules.specs.Fitting.{fits, IsGood, EndsWithin}
@@ -126,7 +128,8 @@ first_version : (q : TcapFields) (version : ℕ)
     ≡ Some (record { budget = q.budget; mark = None; version = version }) → version ≤ 16
 first_version q version says =
     let fits = (heads.spelling.spells _ (record { budget = q.budget; mark = None; version = version }) says).0 in
-    let none : Some (record { budget = q.budget; mark = None; version = 0 }) ≡ Some (record { budget = q.budget; mark = None; version = version })
+    let none : Some (record { budget = q.budget; mark = None; version = 0 })
+    ≡ Some (record { budget = q.budget; mark = None; version = version })
     = sym (heads.spelling.reads (record { budget = q.budget; mark = None; version = 0 }) (fits.0, tt, omega arith)) ∙ says in
     let same = version_of _ _ none in omega (arith, same)
   where
@@ -201,7 +204,13 @@ module _ (setup : Setting) (setting : IsSetting setup) where
       λ below. subst (λ (j : ℕ). Rattle.tcap_words.specs.Stack.stack_of_word (boot_object (Thread t) (start_place setup f) j) ≡ Some
       (record { 0 = Rattle.kernel_history.specs.ObjectWords.at_height t.stack i }))
       (next i) (h.stack i below)
-  object_says f (Tcap q) h zero = record { version = h.version; says = h.head; within = (let few = first_version q h.version h.head in omega (arith, few)); most = h.most }
+  object_says f (Tcap q) h zero = record {
+    version = h.version;
+    says = h.head;
+    within =
+        (let few = first_version q h.version h.head in omega (arith, few));
+    most = h.most;
+  }
   object_says f (Tcap q) h (suc i) =
       λ below. subst (λ (j : ℕ). Rattle.tcap_words.specs.Quality.quality_of_word (boot_object (Tcap q) (start_place setup f) j) ≡ Some
       (record { 0 = slice_get q.qualities i }))

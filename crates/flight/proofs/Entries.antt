@@ -1,11 +1,14 @@
 -- The entry of a call is good: its calls are spent, its first name has no slot, or it looks that name up.
-use Rattle.std.proofs.Common.{◌≡◌, ℕ, ◌+◌, ◌<◌, ◌≤◌, [], ◌∷◌, Bool, true, false, nat_le, length, Some, None, arith, refl, sym, ◌∙◌, ap, subst, inl, if◌then◌else◌}
+use Rattle.std.proofs.Common.{◌≡◌, ℕ, ◌+◌, ◌<◌, ◌≤◌, [], ◌∷◌, Bool, true, false, nat_le, length}
+use Rattle.std.proofs.Common.{Some, None, arith, refl, sym, ◌∙◌, ap, subst, inl, if◌then◌else◌}
 use Rattle.std.proofs.lemmas.Bool.{leb-true, leb-false, lt-ltb}
 use Rattle.spk_nums.specs.Setting.{Setting, IsSetting}
 use Rattle.spk_nums.specs.declared.kinds.Kind.{Kind}
 use Rattle.spk_nums.specs.declared.calls.Call.{Call}
 use Rattle.spk_nums.specs.declared.kinds.FrameKind.TheVariants.{Untyped, User, Kernel}
-use Rattle.spk_nums.specs.declared.calls.Call.TheVariants.{Look as look_call, Copy, Remove, Shrink, Unmap, Retype, Make as make_call, Tick, Gate, Kill, Grow, Touch, Flush, Map, Call as call_gate, Ret, Transfer, Delegate, Test, Switch}
+use Rattle.spk_nums.specs.declared.calls.Call.TheVariants.{Look as look_call, Copy, Remove, Shrink, Unmap, Retype}
+use Rattle.spk_nums.specs.declared.calls.Call.TheVariants.{Make as make_call, Tick, Gate, Kill, Grow, Touch, Flush, Map}
+use Rattle.spk_nums.specs.declared.calls.Call.TheVariants.{Call as call_gate, Ret, Transfer, Delegate, Test, Switch}
 use Rattle.spk_nums.specs.declared.calls.Make.TheVariants as make
 use Rattle.spk_nums.specs.declared.replies.Reply.TheVariants as reply
 use Rattle.word_map.specs.Word.{CoreAt}

@@ -1,6 +1,7 @@
 -- At each moment the words say what the state is; and where all cores are between calls, they represent it with the cores' ends.
 use Rattle.core_invariant.proofs.Bare.{none_value}
-use Rattle.std.proofs.Common.{◌≡◌, ◌≢◌, ◌⊎◌, inl, inr, ℕ, suc, ◌+◌, ◌<◌, true, false, List, [], ◌∷◌, slice_get, Option, Some, None, arith, refl, sym, ◌∙◌, ap, subst, IsTrue}
+use Rattle.std.proofs.Common.{◌≡◌, ◌≢◌, ◌⊎◌, inl, inr, ℕ, suc, ◌+◌, ◌<◌, true, false, List, [], ◌∷◌}
+use Rattle.std.proofs.Common.{slice_get, Option, Some, None, arith, refl, sym, ◌∙◌, ap, subst, IsTrue}
 use Rattle.std.proofs.lemmas.Bool.{cases_lt, false≢true, true≢false}
 use Rattle.std.proofs.lemmas.List.Elements.{All-nil, All-cons}
 use Rattle.std.specs.Prelude.{All}
@@ -16,7 +17,8 @@ use Rattle.frame_words.specs.declared.live_word.LiveWord.{LiveWord}
 use Rattle.frame_words.specs.Count.{count_of_word}
 use Rattle.frame_words.specs.declared.count_word.CountWord.{CountWord}
 use Rattle.word_map.specs.Word.{Word, EntryAt, FrameAt, CountAt, CoreAt, LiveAt}
-use Rattle.kernel_rules.specs.State.{Place, Free, Holds, Quiescing, Blank, Table, Leaf, Pages, Pleaf, Comp, Thread, Tcap, Frame, Untyped, User, Kernel, Liveness, Unused, Live, Dead, PlaceOf, NumberOf, State}
+use Rattle.kernel_rules.specs.State.{Place, Free, Holds, Quiescing, Blank, Table, Leaf, Pages, Pleaf, Comp, Thread, Tcap}
+use Rattle.kernel_rules.specs.State.{Frame, Untyped, User, Kernel, Liveness, Unused, Live, Dead, PlaceOf, NumberOf, State}
 use Rattle.kernel_rules.specs.Access.{held_in}
 use Rattle.kernel_rules.specs.Relies.{holds_node as is_sound_node}
 use Rattle.kernel_rules.specs.Start.{start}
@@ -189,7 +191,8 @@ module _ (setup : Setting) (setting : IsSetting setup) (cores : ℕ → Core) (t
 
   words_represent : Represent (last_left setup t) (λ c. end_of (cores c)) (state_after setup t)
   words_represent = record {
-    objects = λ f here. frame_parts (state_after setup t).limits.frames (Rattle.core_invariant.specs.Words.count_room (state_after setup t)) ((state_after setup t).frame f) ((state_after setup t).place f)
+    objects = λ f here. frame_parts (state_after setup t).limits.frames
+        (Rattle.core_invariant.specs.Words.count_room (state_after setup t)) ((state_after setup t).frame f) ((state_after setup t).place f)
         (λ i. stamp setup t (PlaceOf f i)) (λ i. last_left setup t (EntryAt f i))
         (λ i. word_is (EntryAt f i));
     bare = λ f here none i below. none_held ((state_after setup t).place f i)

@@ -28,13 +28,15 @@ made_good setup lim t e step stands =
   where
     Goal : ℕ → Type 0
     Goal found =
-        IsGood setup (cores_after setup t) t (step_of e.core e.enters (stepping_core setup t e) found) (core_after (stepping_core setup t e) found)
+        IsGood setup (cores_after setup t) t (step_of e.core e.enters (stepping_core setup t e) found)
+        (core_after (stepping_core setup t e) found)
 
 pub made_stands : MadeStands
 made_stands setup lim [] made = boots setup lim
 made_stands setup lim (e ∷ t) made =
     let stands = made_stands setup lim t made.0 in
-    stands_on setup lim (cores_after setup t) t stands e (core_after (stepping_core setup t e) e.found) (made_good setup lim t e made.1 stands)
+    stands_on setup lim (cores_after setup t) t stands e
+    (core_after (stepping_core setup t e) e.found) (made_good setup lim t e made.1 stands)
 
 -- A made step keeps time.
 pub made_times : (setup : Setting) → IsSetting setup → (t : Trace) (e : Step) → IsMade setup (e ∷ t) → KeepsTime setup t e

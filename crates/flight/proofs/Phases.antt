@@ -7,7 +7,8 @@ use Rattle.spk_nums.specs.declared.replies.Reply.{Reply}
 use Rattle.spk_nums.specs.Setting.{Setting}
 use Rattle.word_map.specs.Moves.{told_of}
 use Rattle.kernel_rules.proofs.Within.{put_same, put_other}
-use Rattle.kernel_history.specs.Trace.{Step, Trace, Phase, Out, Open, Decided as decided_phase, phase, after_enter, after_decide, after_return}
+use Rattle.kernel_history.specs.Trace.{Step, Trace, Phase, Out, Open, Decided as decided_phase}
+use Rattle.kernel_history.specs.Trace.{phase, after_enter, after_decide, after_return}
 use Rattle.kernel_history.specs.Order.{IsDecided}
 use Rattle.kernel_history.proofs.Steps.{phase-own, phase-other, calls_of-other}
 use Rattle.call_stages.specs.View.{Core}

@@ -1,6 +1,7 @@
 //! The step machine of a core: that each trace of its steps is a history of the kernel.
 //!
-//! The steps themselves are those of `call_stages`, as functions of plain values, and the invariant that they keep is that of `core_invariant`.
+//! The steps themselves are those of `call_stages`, as functions of plain values, and the invariant that they keep is that of
+//! `core_invariant`.
 //!
 //! See docs/CLAIMS.md, 'The step machine's laws', and docs/PROOF.md, 'The invariant of the step machine'.
 #![tactic(auto)]

@@ -1,5 +1,6 @@
 -- What holds of frames that are made untyped, and that a node through which a call has looked stays till the call returns.
-use Rattle.std.proofs.Common.{◌≡◌, ◌≢◌, ◌⊎◌, inl, inr, ℕ, ◌<◌, Bool, true, false, IsTrue, [], ◌∷◌, ◌++◌, Option, Some, None, refl, sym, ◌∙◌, ap, subst}
+use Rattle.std.proofs.Common.{◌≡◌, ◌≢◌, ◌⊎◌, inl, inr, ℕ, ◌<◌, Bool, true, false, IsTrue}
+use Rattle.std.proofs.Common.{[], ◌∷◌, ◌++◌, Option, Some, None, refl, sym, ◌∙◌, ap, subst}
 use Rattle.std.proofs.lemmas.Bool.{cases_eq, eq-eqb, eqb-true, false≢true}
 use Rattle.spk_nums.specs.Setting.{Setting, IsSetting}
 use Rattle.spk_nums.specs.CallLimits.{InLimits}
@@ -24,7 +25,8 @@ use Rattle.kernel_invariant.proofs.SoundRuns.{opened, open_limits}
 use Rattle.kernel_history.specs.Legal.{MayEnter, DecidesBy, MayDecide, MayFollow, IsLegal}
 use Rattle.kernel_history.specs.Marking.{marked_by}
 use Rattle.kernel_history.specs.Stamps.{is_in, ends_at, ends_in}
-use Rattle.kernel_history.specs.Trace.{Step, Trace, Phase, Out, Open, Decided, phase, after_enter, after_decide, after_return, state_after, state_before, state_entered, state_decided, state_returned, own_read, only_reads}
+use Rattle.kernel_history.specs.Trace.{Step, Trace, Phase, Out, Open, Decided, phase, after_enter, after_decide, after_return}
+use Rattle.kernel_history.specs.Trace.{state_after, state_before, state_entered, state_decided, state_returned, own_read, only_reads}
 use Rattle.kernel_history.specs.Events.{plain_phase}
 use Rattle.kernel_history.proofs.Events.{entered_events, entered_phase, entered_run, run_of}
 use Rattle.kernel_history.proofs.Names.{cases_word}
@@ -38,7 +40,9 @@ use Rattle.core_invariant.specs.Invariant.{Invariant}
 use Rattle.flight_laws.specs.Frames.{MakesUntyped, IsUnused, UntypedFramesAreUnused, CountedFramesStay, GoesOn, IsLooked, LookedNodesStay}
 use Rattle.flight.specs.Made.{cores_after, IsMade}
 use Rattle.flight.proofs.Made.{made_stands, made_counted}
-use Rattle.flight_laws.proofs.Places.{IsNoEntry, IsBeside, beside_other, beside_own, beside_no_node, WasOpen, was_open, has_read, entered_none, comp_no_node, tcap_no_node, swept_other, swept_own, no_entry_kept, enters_none, read_rests}
+use Rattle.flight_laws.proofs.Places.{IsNoEntry, IsBeside, beside_other, beside_own, beside_no_node}
+use Rattle.flight_laws.proofs.Places.{WasOpen, was_open, has_read, entered_none, comp_no_node, tcap_no_node}
+use Rattle.flight_laws.proofs.Places.{swept_other, swept_own, no_entry_kept, enters_none, read_rests}
 use Rattle.flight_laws.proofs.Sweeping.{IsSwept, swept_no_node}
 
 -- It is the end of the frame's grace period.

@@ -1,5 +1,6 @@
 -- A call through a gate that is carried out enters a component that lives.
-use Rattle.std.proofs.Common.{◌≡◌, ◌<◌, ◌&&◌, ℕ, ◌==◌, nat_le, length, not, List, [], ◌∷◌, ◌++◌, Bool, true, false, if◌then◌else◌, Option, Some, None, refl, sym, ◌∙◌, ap, subst}
+use Rattle.std.proofs.Common.{◌≡◌, ◌<◌, ◌&&◌, ℕ, ◌==◌, nat_le, length, not, List, [], ◌∷◌, ◌++◌, Bool}
+use Rattle.std.proofs.Common.{true, false, if◌then◌else◌, Option, Some, None, refl, sym, ◌∙◌, ap, subst}
 use Rattle.std.proofs.lemmas.Bool.{eqb-true, false≢true}
 use Rattle.spk_nums.specs.Capability.{Capability}
 use Rattle.spk_nums.specs.Setting.{Setting, IsSetting}

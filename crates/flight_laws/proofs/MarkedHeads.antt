@@ -1,5 +1,6 @@
 -- What the head of a temporal capability says that a core has marked in a call that is not decided: the mark, and the budget still.
-use Rattle.std.proofs.Common.{◌≡◌, ◌<◌, inl, inr, ℕ, zero, suc, true, false, if◌then◌else◌, Option, Some, None, IsTrue, arith, refl, sym, ◌∙◌, ap, subst}
+use Rattle.std.proofs.Common.{◌≡◌, ◌<◌, inl, inr, ℕ, zero, suc, true, false, if◌then◌else◌}
+use Rattle.std.proofs.Common.{Option, Some, None, IsTrue, arith, refl, sym, ◌∙◌, ap, subst}
 use Rattle.std.proofs.lemmas.Bool.{false≢true}
 use Rattle.spk_nums.specs.Setting.{Setting, IsSetting}
 use Rattle.spk_nums.specs.declared.kinds.Kind.TheVariants as kind
@@ -36,7 +37,11 @@ use Rattle.act_states.specs.declared.untypings.UntypingAt.{UntypingAt}
 use Rattle.act_states.specs.declared.untypings.UntypingAt.TheVariants as untype
 use Rattle.act_states.specs.Untypings.{release_of}
 use Rattle.act_states.specs.declared.work.Act.{Act as ActOf}
-use Rattle.act_states.specs.declared.work.Act.TheVariants.{Fill as fill_act, Remove as remove_act, Retype as type_act, Make as make_act, Outside, Tick as tick_act, Touch as touch_act, Flush as flush_act, Kill as kill_act, Untype as untype_act, Map as map_act, MakeComp as comp_act, Invoke as invoke_act, Return as return_act, Share as share_act, Switch as switch_act}
+use Rattle.act_states.specs.declared.work.Act.TheVariants.{Fill as fill_act, Remove as remove_act, Retype as type_act}
+use Rattle.act_states.specs.declared.work.Act.TheVariants.{Make as make_act, Outside, Tick as tick_act, Touch as touch_act}
+use Rattle.act_states.specs.declared.work.Act.TheVariants.{Flush as flush_act, Kill as kill_act, Untype as untype_act}
+use Rattle.act_states.specs.declared.work.Act.TheVariants.{Map as map_act, MakeComp as comp_act, Invoke as invoke_act}
+use Rattle.act_states.specs.declared.work.Act.TheVariants.{Return as return_act, Share as share_act, Switch as switch_act}
 use Rattle.act_states.specs.declared.work.Work.{Work}
 use Rattle.act_states.specs.declared.work.Work.TheVariants.{Lookup, Read, Scan, Acquire, Act}
 use Rattle.call_stages.specs.declared.stages.Stage.{Stage}
@@ -50,7 +55,8 @@ use Rattle.core_invariant.specs.Threads.{holds_switching, claimed_by}
 use Rattle.core_invariant.specs.Words.{HeadIs, count_room}
 use Rattle.core_invariant.specs.Knows.{KnowsAct, KnowsWork, KnowsAt, CallIs, phase_at}
 use Rattle.core_invariant.specs.Shares.{HasMarkedA, KnowsPairAt}
-use Rattle.core_invariant.specs.Invariant.{holds_act, holds_making, holds_killing, holds_comp, holds_share, holds_head, holds_work, holds_at, holds_in, holds, held_by, Invariant}
+use Rattle.core_invariant.specs.Invariant.{holds_act, holds_making, holds_killing, holds_comp, holds_share}
+use Rattle.core_invariant.specs.Invariant.{holds_head, holds_work, holds_at, holds_in, holds, held_by, Invariant}
 use Rattle.kept_knowledge.proofs.Carries.{slot_relies}
 use Rattle.core_invariant.proofs.Freezing.{release_entry}
 use Rattle.lent_words.proofs.Tcaps.{is_tcap}

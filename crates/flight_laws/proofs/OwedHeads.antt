@@ -1,6 +1,7 @@
 -- What the head of a temporal capability shows that a core has marked in a call that is decided: the mark, and the budget but for the ticks
 -- that the call has still to store there.
-use Rattle.std.proofs.Common.{◌≡◌, ◌⊎◌, inl, inr, ℕ, ◌+◌, ◌<◌, ◌^◌, Bool, true, false, if◌then◌else◌, List, [], ◌∷◌, Option, Some, None, IsTrue, arith, refl, sym, ◌∙◌, ap, subst}
+use Rattle.std.proofs.Common.{◌≡◌, ◌⊎◌, inl, inr, ℕ, ◌+◌, ◌<◌, ◌^◌, Bool, true, false, if◌then◌else◌}
+use Rattle.std.proofs.Common.{List, [], ◌∷◌, Option, Some, None, IsTrue, arith, refl, sym, ◌∙◌, ap, subst}
 use Rattle.std.proofs.lemmas.Bool.{false≢true}
 use Rattle.word_map.proofs.WordLemmas.{same_same}
 use Rattle.spk_nums.specs.Setting.{Setting, IsSetting}
@@ -28,7 +29,8 @@ use Rattle.stage_tcap.specs.declared.pair.PairAt.TheVariants as pair
 use Rattle.stage_thread.specs.declared.stack.Push.TheVariants as push
 use Rattle.stage_thread.specs.declared.stack.Pop.TheVariants as pop
 use Rattle.act_states.specs.declared.work.Tail.{Tail}
-use Rattle.act_states.specs.declared.work.Tail.TheVariants.{Nothing, Quiesce, Unmark, StoreDead, StoreFlush, Release, StoreLive, Push, Pop, Share, StoreRunning, StoreIdle}
+use Rattle.act_states.specs.declared.work.Tail.TheVariants.{Nothing, Quiesce, Unmark, StoreDead, StoreFlush, Release}
+use Rattle.act_states.specs.declared.work.Tail.TheVariants.{StoreLive, Push, Pop, Share, StoreRunning, StoreIdle}
 use Rattle.call_stages.specs.declared.stages.Stage.{Stage}
 use Rattle.call_stages.specs.declared.stages.Stage.TheVariants.{Enter, Undecided, Decided, Leave}
 use Rattle.call_stages.specs.declared.stages.ActiveCall.{ActiveCall}

@@ -1,6 +1,7 @@
 -- What the heads owe that a decided call on two temporal capabilities has marked, along a trace that is the machine's: its deciding step
 -- tells it, and each store after it leaves it so.
-use Rattle.std.proofs.Common.{◌≡◌, ◌≢◌, inl, inr, ℕ, zero, suc, ◌+◌, ◌-◌, ◌<◌, ◌≤◌, ◌^◌, ◌==◌, ◌&&◌, nat_lt, Bool, true, false, if◌then◌else◌, List, [], ◌∷◌, length, Option, Some, None, arith, refl, sym, ◌∙◌, ap, subst}
+use Rattle.std.proofs.Common.{◌≡◌, ◌≢◌, inl, inr, ℕ, zero, suc, ◌+◌, ◌-◌, ◌<◌, ◌≤◌, ◌^◌, ◌==◌, ◌&&◌, nat_lt, Bool, true, false}
+use Rattle.std.proofs.Common.{if◌then◌else◌, List, [], ◌∷◌, length, Option, Some, None, arith, refl, sym, ◌∙◌, ap, subst}
 use Rattle.std.specs.Prelude.{min, is_some, IsSome}
 use Rattle.std.proofs.lemmas.Bool.{false≢true, cases_eq, eq-eqb, ne_eqb}
 use Rattle.spk_nums.specs.Setting.{Setting, IsSetting}
@@ -39,10 +40,13 @@ use Rattle.stage_quiet.specs.declared.close.Close.TheVariants.{AtCompare, AtDraw
 use Rattle.stage_tcap.specs.Charging.{end_by_mark, head_end, charge_end, charge_after}
 use Rattle.stage_tcap.specs.Heads.{debited, credited}
 use Rattle.stage_tcap.specs.Lists.{in_order, same_list}
-use Rattle.stage_tcap.specs.Pairs.{amount_of, noted_by, pair_after, pair_end, pair_move, judged, by_alike, by_room, at_decided, compared_after, giving_back, at_by_mark, at_by_head, at_marked, at_read, b_next, a_next, marked_end, decided_by_mark, b_end, list_end, again_end, again_value}
+use Rattle.stage_tcap.specs.Pairs.{amount_of, noted_by, pair_after, pair_end, pair_move, judged, by_alike, by_room}
+use Rattle.stage_tcap.specs.Pairs.{at_decided, compared_after, giving_back, at_by_mark, at_by_head, at_marked, at_read}
+use Rattle.stage_tcap.specs.Pairs.{b_next, a_next, marked_end, decided_by_mark, b_end, list_end, again_end, again_value}
 use Rattle.stage_tcap.specs.declared.pair.Pair.{Pair}
 use Rattle.stage_tcap.specs.declared.pair.PairAt.{PairAt}
-use Rattle.stage_tcap.specs.declared.pair.PairAt.TheVariants.{LoadA, MarkA, ListA, LoadB, ListB, CompareB, AgainB, StoreList, StoreB, StoreA}
+use Rattle.stage_tcap.specs.declared.pair.PairAt.TheVariants.{LoadA, MarkA, ListA, LoadB, ListB, CompareB}
+use Rattle.stage_tcap.specs.declared.pair.PairAt.TheVariants.{AgainB, StoreList, StoreB, StoreA}
 use Rattle.stage_tcap.specs.declared.pair.PairWork.{PairWork}
 use Rattle.stage_tcap.specs.declared.pair.PairWork.TheVariants as share
 use Rattle.stage_tcap.specs.declared.charge.Charge.{Charge}
@@ -58,7 +62,11 @@ use Rattle.act_states.specs.declared.refusals.Refusal.TheVariants as refusal
 use Rattle.act_states.specs.declared.typings.Typing.{Typing}
 use Rattle.act_states.specs.declared.untypings.Untyping.{Untyping}
 use Rattle.act_states.specs.declared.work.Act.{Act as ActOf}
-use Rattle.act_states.specs.declared.work.Act.TheVariants.{Fill as fill_act, Remove as remove_act, Retype as type_act, Make as make_act, Outside, Tick as tick_act, Touch as touch_act, Flush as flush_act, Kill as kill_act, Untype as untype_act, Map as map_act, MakeComp as comp_act, Invoke as invoke_act, Return as return_act, Share as share_act, Switch as switch_act}
+use Rattle.act_states.specs.declared.work.Act.TheVariants.{Fill as fill_act, Remove as remove_act, Retype as type_act}
+use Rattle.act_states.specs.declared.work.Act.TheVariants.{Make as make_act, Outside, Tick as tick_act, Touch as touch_act}
+use Rattle.act_states.specs.declared.work.Act.TheVariants.{Flush as flush_act, Kill as kill_act, Untype as untype_act}
+use Rattle.act_states.specs.declared.work.Act.TheVariants.{Map as map_act, MakeComp as comp_act, Invoke as invoke_act}
+use Rattle.act_states.specs.declared.work.Act.TheVariants.{Return as return_act, Share as share_act, Switch as switch_act}
 use Rattle.act_states.specs.declared.work.Tail.{Tail}
 use Rattle.act_states.specs.declared.work.Tail.TheVariants.{Share as share_tail}
 use Rattle.act_states.specs.declared.work.Work.{Work}
@@ -72,11 +80,13 @@ use Rattle.call_stages.specs.declared.stages.Stage.{Stage}
 use Rattle.call_stages.specs.declared.stages.Stage.TheVariants.{Enter, Undecided, Decided, Leave}
 use Rattle.call_stages.specs.declared.stages.ActiveCall.{ActiveCall}
 use Rattle.call_stages.specs.Cores.{move_of, told_in, told_by, absorbed_in, fresh, core_after as after_took}
-use Rattle.call_stages.specs.Steps.{stage_move, Took, GoesOn, Decides, Returns, Changes, landed, took, took_at, took_count, took_scan, took_look, took_read, is_spent}
+use Rattle.call_stages.specs.Steps.{stage_move, Took, GoesOn, Decides, Returns, Changes, landed, took}
+use Rattle.call_stages.specs.Steps.{took_at, took_count, took_scan, took_look, took_read, is_spent}
 use Rattle.call_stages.specs.Tails.{took_tail, tail_counts}
 use Rattle.call_stages.specs.View.{Core}
 use Rattle.core_invariant.specs.Events.{decided_in}
-use Rattle.core_invariant.specs.Knows.{KnowsAct, KnowsUndecided, KnowsAt, Knows, CallIs, TypesBy, MakesBy, OutsideBy, KillsBy, MakesCompBy, is_mapping}
+use Rattle.core_invariant.specs.Knows.{KnowsAct, KnowsUndecided, KnowsAt, Knows, CallIs, TypesBy}
+use Rattle.core_invariant.specs.Knows.{MakesBy, OutsideBy, KillsBy, MakesCompBy, is_mapping}
 use Rattle.core_invariant.specs.Components.{InvokesBy}
 use Rattle.core_invariant.specs.Sweeps.{UntypesBy}
 use Rattle.core_invariant.specs.Threads.{SwitchesBy}
@@ -90,7 +100,8 @@ use Rattle.flight.specs.Made.{turned, MayStep, core_after, cores_after, stepping
 use Rattle.flight.specs.Theorems.{found_by}
 use Rattle.flight_laws.specs.Time.{LeadsTo, Owes, state_of_decision}
 use Rattle.flight.proofs.Made.{made_stands, finds}
-use Rattle.flight_laws.proofs.ShareTails.{OwesAt, OwesStage, OwesIn, OwesTook, StoresNone, LeavesNone, tail_on, landed_none, enter_none, end_none, reading_none, scan_none}
+use Rattle.flight_laws.proofs.ShareTails.{OwesAt, OwesStage, OwesIn, OwesTook, StoresNone, LeavesNone}
+use Rattle.flight_laws.proofs.ShareTails.{tail_on, landed_none, enter_none, end_none, reading_none, scan_none}
 
 -- The acts of the calls that change budgets
 

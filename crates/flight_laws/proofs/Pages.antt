@@ -1,5 +1,6 @@
 -- What cores have cached stands, as in the sequential kernel, and stays cached till they flush; and what a touch answers is cached.
-use Rattle.std.proofs.Common.{◌≡◌, ◌≢◌, ◌⊎◌, inl, inr, ℕ, ◌≤◌, true, false, List, [], ◌∷◌, ◌++◌, length, Option, Some, None, refl, sym, ◌∙◌, ap, subst}
+use Rattle.std.proofs.Common.{◌≡◌, ◌≢◌, ◌⊎◌, inl, inr, ℕ, ◌≤◌, true, false, List, [], ◌∷◌}
+use Rattle.std.proofs.Common.{◌++◌, length, Option, Some, None, refl, sym, ◌∙◌, ap, subst}
 use Rattle.std.proofs.lemmas.Bool.{false≢true}
 use Rattle.std.specs.List.{AllByRecursion}
 use Rattle.spk_nums.specs.Setting.{Setting, IsSetting}
@@ -24,7 +25,8 @@ use Rattle.state_laws.proofs.Touched.{touches_cache as run_caches}
 use Rattle.kernel_history.specs.Events.{with_decision, events_of}
 use Rattle.kernel_history.specs.Legal.{IsLegal}
 use Rattle.kernel_history.specs.Stamps.{flushes_in}
-use Rattle.kernel_history.specs.Trace.{Step, Trace, Phase, Out, Open, Decided, phase, after_enter, state_after, state_before, state_entered, state_decided, state_returned}
+use Rattle.kernel_history.specs.Trace.{Step, Trace, Phase, Out, Open, Decided, phase, after_enter, state_after}
+use Rattle.kernel_history.specs.Trace.{state_before, state_entered, state_decided, state_returned}
 use Rattle.kernel_history.proofs.Events.{entered_events, state_is, before_is, run_of, decided_run}
 use Rattle.flight.specs.Made.{IsMade}
 use Rattle.flight_laws.specs.Pages.{CachedFramesStay, FlushesNone, CachedTillFlush, TouchesCache}

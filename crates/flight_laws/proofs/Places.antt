@@ -1,5 +1,6 @@
 -- What an undecided call has found held stays usable; and whom a scan has passed is waited for no longer.
-use Rattle.std.proofs.Common.{◌≡◌, ◌≢◌, ◌⊎◌, inl, inr, ℕ, ◌<◌, ◌/◌, ◌&&◌, Bool, true, false, IsTrue, cond, [], ◌∷◌, ◌++◌, Option, Some, None, refl, sym, ◌∙◌, ap, subst}
+use Rattle.std.proofs.Common.{◌≡◌, ◌≢◌, ◌⊎◌, inl, inr, ℕ, ◌<◌, ◌/◌, ◌&&◌, Bool, true, false, IsTrue}
+use Rattle.std.proofs.Common.{cond, [], ◌∷◌, ◌++◌, Option, Some, None, refl, sym, ◌∙◌, ap, subst}
 use Rattle.std.specs.Prelude.{is_some, IsTrue}
 use Rattle.std.proofs.lemmas.Bool.{cases_eq, eqb-true, false≢true}
 use Rattle.spk_nums.specs.Capability.{Capability}
@@ -26,7 +27,8 @@ use Rattle.stage_tcap.specs.declared.charge.Charge.{Charge}
 use Rattle.stage_tcap.specs.declared.charge.Charge.TheVariants.{AtLoad as charge_load, AtCompare as charge_compare}
 use Rattle.kernel_invariant.proofs.Facts.{some_inj, none_some}
 use Rattle.kernel_rules.proofs.Within.{put_same, put_other}
-use Rattle.kernel_history.specs.Trace.{Step, Trace, Phase, Out, Open, Decided as decided_phase, phase, after_enter, after_decide, after_return, state_after, last_left, own_read, reads, only_reads}
+use Rattle.kernel_history.specs.Trace.{Step, Trace, Phase, Out, Open, Decided as decided_phase, phase, after_enter}
+use Rattle.kernel_history.specs.Trace.{after_decide, after_return, state_after, last_left, own_read, reads, only_reads}
 use Rattle.kernel_history.specs.Graces.{KeepsTime}
 use Rattle.kernel_history.specs.Legal.{IsLegal, MayFollow}
 use Rattle.kernel_history.specs.Stamps.{stamp, clock, exit_of, is_in}
@@ -44,7 +46,8 @@ use Rattle.stage_quiet.specs.declared.quiet.Quiet.TheVariants.{AtCore, AtFlush}
 use Rattle.stage_quiet.specs.Removal.{close_move}
 use Rattle.call_plans.specs.After.{Next, NextName, NextFree, NextHeld, NextOwn, NextNothing, next_of}
 use Rattle.act_states.specs.declared.own.Own.{Own}
-use Rattle.act_states.specs.declared.work.Act.TheVariants.{Fill, Remove, Retype, Make, Outside, Tick as tick_act, Flush, Kill, Untype, Map as map_act, MakeComp, Invoke, Return, Touch, Share, Switch}
+use Rattle.act_states.specs.declared.work.Act.TheVariants.{Fill, Remove, Retype, Make, Outside, Tick as tick_act, Flush, Kill}
+use Rattle.act_states.specs.declared.work.Act.TheVariants.{Untype, Map as map_act, MakeComp, Invoke, Return, Touch, Share, Switch}
 use Rattle.act_states.specs.declared.typings.Typing.{Typing}
 use Rattle.act_states.specs.declared.typings.TypingAt.{TypingAt}
 use Rattle.act_states.specs.declared.typings.TypingAt.TheVariants.{Load, Compare as type_compare}
@@ -87,7 +90,8 @@ use Rattle.call_stages.specs.Steps.{work_move, stage_move}
 use Rattle.call_stages.specs.Cores.{move_in, move_of, absorbed, absorbed_in, told_in, told_of_step}
 use Rattle.call_stages.specs.View.{Core}
 use Rattle.core_invariant.specs.Events.{decided_in, returned_in}
-use Rattle.core_invariant.specs.Knows.{IsSpot, LooksUp, own_in, LooksFor, KnowsClose, ChargesBy, KnowsWork, KnowsAt, CallIs, phase_at, HasComp}
+use Rattle.core_invariant.specs.Knows.{IsSpot, LooksUp, own_in, LooksFor, KnowsClose, ChargesBy}
+use Rattle.core_invariant.specs.Knows.{KnowsWork, KnowsAt, CallIs, phase_at, HasComp}
 use Rattle.core_invariant.specs.Components.{HasLoadedBelow}
 use Rattle.core_invariant.specs.Shares.{HasTcap, KnowsPairAt}
 use Rattle.core_invariant.specs.Threads.{HasThread, KnowsSwitchAt, claimed_by}
@@ -104,7 +108,8 @@ use Rattle.flight.specs.Made.{turned, MayStep, core_after, cores_after, stepping
 use Rattle.flight_laws.specs.Places.{MayUse, PlacesFound, ShowsPassed, ScannedCores}
 use Rattle.flight.proofs.Made.{made_stands, made_times}
 use Rattle.flight.proofs.Spelling.{moves_are_words}
-use Rattle.flight_laws.proofs.Sweeping.{untyping_in, untyping_of, untyping_now, IsSwept, swept_on, swept_no_node, looks_untypes, looks_swept}
+use Rattle.flight_laws.proofs.Sweeping.{untyping_in, untyping_of, untyping_now, IsSwept}
+use Rattle.flight_laws.proofs.Sweeping.{swept_on, swept_no_node, looks_untypes, looks_swept}
 
 -- The frame of an entry's word.
 abbrev frame_in : Word → ℕ
@@ -524,7 +529,8 @@ module _ (setup : Setting) (setting : IsSetting setup) where
         through = stays_plain setup t e e.core no_entry no_decision no_return
 
         after_is : (cores_after setup (e ∷ t) e.core).active ≡ (absorbed_in core.own core.active w).active
-        after_is = ap (λ (k : Core). k.active) (put_same (cores_after setup t) e.core (core_after (stepping_core setup t e) e.found) e.core refl)
+        after_is = ap (λ (k : Core). k.active)
+            (put_same (cores_after setup t) e.core (core_after (stepping_core setup t e) e.found) e.core refl)
             ∙ ap (λ o. (absorbed (turned o core) (told_of (move_of (turned o core)) e.found)).active) no_entry
             ∙ ap (λ (n : ℕ). (absorbed core n).active) (told_read (move_of core) reads_it e.found ∙ read.found)
 

@@ -24,7 +24,8 @@ use Rattle.stage_tcap.specs.Heads.{debited, credited}
 use Rattle.stage_tcap.specs.Pairs.{amount_of, store_next, pair_after}
 use Rattle.stage_tcap.specs.declared.pair.Pair.{Pair}
 use Rattle.stage_tcap.specs.declared.pair.PairAt.{PairAt}
-use Rattle.stage_tcap.specs.declared.pair.PairAt.TheVariants.{LoadA, MarkA, ListA, LoadB, ListB, CompareB, AgainB, StoreList, StoreB, StoreA}
+use Rattle.stage_tcap.specs.declared.pair.PairAt.TheVariants.{LoadA, MarkA, ListA, LoadB, ListB, CompareB}
+use Rattle.stage_tcap.specs.declared.pair.PairAt.TheVariants.{AgainB, StoreList, StoreB, StoreA}
 use Rattle.stage_tcap.specs.declared.pair.PairWork.{PairWork}
 use Rattle.stage_tcap.specs.declared.pair.PairWork.TheVariants as share
 use Rattle.stage_thread.specs.declared.stack.Push.TheVariants as push
@@ -40,7 +41,8 @@ use Rattle.act_states.specs.declared.untypings.Release.{Release as ReleaseOf}
 use Rattle.act_states.specs.declared.work.Act.{Act as ActOf}
 use Rattle.act_states.specs.declared.work.Act.TheVariants.{Outside}
 use Rattle.act_states.specs.declared.work.Tail.{Tail}
-use Rattle.act_states.specs.declared.work.Tail.TheVariants.{Nothing, Quiesce, Unmark, StoreDead, StoreFlush, Release, StoreLive, Push, Pop, Share, StoreRunning, StoreIdle}
+use Rattle.act_states.specs.declared.work.Tail.TheVariants.{Nothing, Quiesce, Unmark, StoreDead, StoreFlush, Release}
+use Rattle.act_states.specs.declared.work.Tail.TheVariants.{StoreLive, Push, Pop, Share, StoreRunning, StoreIdle}
 use Rattle.act_states.specs.declared.work.Work.{Work}
 use Rattle.act_states.specs.declared.work.Work.TheVariants.{Lookup, Read, Scan, Acquire, Act}
 use Rattle.act_states.specs.declared.work.WorkStep.{WorkStep}
@@ -55,7 +57,8 @@ use Rattle.act_states.specs.WorkSteps.{refuse}
 use Rattle.call_stages.specs.declared.stages.Stage.{Stage}
 use Rattle.call_stages.specs.declared.stages.Stage.TheVariants.{Enter, Undecided, Decided, Leave}
 use Rattle.call_stages.specs.declared.stages.ActiveCall.{ActiveCall}
-use Rattle.call_stages.specs.Steps.{Took, GoesOn, Decides, Returns, Changes, landed, next_by, found_more, read_more, took_enter, named_one, took_found, took_end, took_read, took_scan}
+use Rattle.call_stages.specs.Steps.{Took, GoesOn, Decides, Returns, Changes, landed, next_by, found_more}
+use Rattle.call_stages.specs.Steps.{read_more, took_enter, named_one, took_found, took_end, took_read, took_scan}
 use Rattle.call_stages.specs.Tails.{took_tail}
 use Rattle.flight_laws.specs.Time.{Owes}
 

@@ -1,6 +1,7 @@
 -- A call that makes a frame untyped looks at the object in it. What it finds held in the entry of a node refuses it; so a word of the frame
 -- that it reads and goes on from, and that says that something is held, is of no node.
-use Rattle.std.proofs.Common.{◌≡◌, ℕ, ℤ, ◌+◌, nat_le, Bool, true, false, List, [], ◌∷◌, length, slice_get, Option, Some, None, refl, sym, ◌∙◌, ap, subst}
+use Rattle.std.proofs.Common.{◌≡◌, ℕ, ℤ, ◌+◌, nat_le, Bool, true, false, List, [], ◌∷◌, length}
+use Rattle.std.proofs.Common.{slice_get, Option, Some, None, refl, sym, ◌∙◌, ap, subst}
 use Rattle.std.proofs.lemmas.Bool.{false≢true}
 use Rattle.spk_nums.specs.Capability.{Capability}
 use Rattle.spk_nums.specs.Setting.{Setting}
@@ -242,7 +243,8 @@ refuses_held frames o at found k held node none = by o node none
     by obj.Pleaf node none = shown none
     by _ node none = absurd (false≢true node)
 
--- A load of an entry by which a call looks at an object, and goes on, though it has found there that something is held: the frame is no node.
+-- A load of an entry by which a call looks at an object, and goes on, though it has found there that something is held: the frame is no
+-- node.
 module _ (setup : Setting) (t : Trace) (c : ℕ) (own : Own) (a : ActiveCall) (m : Untyping) (f i found : ℕ) (k : Capability)
     (held : entry_of_word found ≡ Some (entry.Held k)) where
   -- what it leads to

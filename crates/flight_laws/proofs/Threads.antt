@@ -38,7 +38,8 @@ module _ (setup : Setting) (setting : IsSetting setup) (cores : ℕ → Core) (t
   abbrev s : State
   s = state_after setup t
 
-  mark_is : (v : ThreadWord) → thread_of_word (last_left setup t (EntryAt f 0)) ≡ Some v → marked_by setup t (EntryAt f 0) ≡ thread_mark (Some v)
+  mark_is : (v : ThreadWord) → thread_of_word (last_left setup t (EntryAt f 0)) ≡ Some v
+      → marked_by setup t (EntryAt f 0) ≡ thread_mark (Some v)
   mark_is v says = first_mark (s.frame f) (last_left setup t (EntryAt f 0)) thread ∙ ap thread_mark says
 
   runs_of : (c : ℕ) → c < setup.cores → (s.core c).thread ≡ f → (thread_in (s.frame f)).runs_on ≡ Some c
@@ -49,13 +50,15 @@ module _ (setup : Setting) (setting : IsSetting setup) (cores : ℕ → Core) (t
   runs_back d runs =
       let back = (threads_run setup setting (events_of t) (run_of setup t stands.legal) f d).current
       (ap (λ (y : State). (thread_in (y.frame f)).runs_on) (sym (state_is setup t)) ∙ runs) in (
-        subst (λ (n : ℕ). d < n) (ap (λ (y : State). y.limits.cores) (sym (state_is setup t)) ∙ ap (λ l. l.cores) (limits_of setup t)) back.0,
+        subst (λ (n : ℕ). d < n)
+            (ap (λ (y : State). y.limits.cores) (sym (state_is setup t)) ∙ ap (λ l. l.cores) (limits_of setup t)) back.0,
         ap (λ (y : State). (y.core d).thread) (state_is setup t) ∙ back.1,
       )
 
   shown : (v : ThreadWord) → thread_of_word (last_left setup t (EntryAt f 0)) ≡ Some v → IsShown setup t f v
   shown (Idle depth) says = λ c below same. by (thread_in (s.frame f)).runs_on refl
-      (shows setup setting cores t stands f thread (thread_in (s.frame f)).runs_on refl (mark_is (Idle depth) says)) c (runs_of c below same)
+      (shows setup setting cores t stands f thread (thread_in (s.frame f)).runs_on refl (mark_is (Idle depth) says))
+      c (runs_of c below same)
     where
       by : (o : Option ℕ) → (thread_in (s.frame f)).runs_on ≡ o
           → ShowsRun o (length (thread_in (s.frame f)).stack) (last_left setup t (EntryAt f 0)) → (c : ℕ)

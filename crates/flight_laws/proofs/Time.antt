@@ -1,6 +1,7 @@
 -- The time of a machine is that of the sequential kernel, whose laws hold of each legal trace; and heads say it.
 use Rattle.lent_words.proofs.Lent.{unlent_head_value}
-use Rattle.std.proofs.Common.{◌≡◌, ℕ, ◌+◌, ◌∷◌, [], ◌&&◌, ◌==◌, Bool, true, false, Option, Some, None, if◌then◌else◌, refl, sym, ◌∙◌, ap, subst}
+use Rattle.std.proofs.Common.{◌≡◌, ℕ, ◌+◌, ◌∷◌, [], ◌&&◌, ◌==◌, Bool, true, false, Option}
+use Rattle.std.proofs.Common.{Some, None, if◌then◌else◌, refl, sym, ◌∙◌, ap, subst}
 use Rattle.spk_nums.specs.Setting.{Setting, IsSetting}
 use Rattle.tcap_words.specs.Head.{head_of_word}
 use Rattle.word_map.specs.Word.{EntryAt}
@@ -52,9 +53,11 @@ heads_say setup setting t made f q is unmarked = record { version = says.version
     says : HeadIs q (count_room (state_after setup t)) (head_of_word (last_left setup t (EntryAt f 0)))
     says = subst (λ (n : ℕ). HeadIs q (count_room (state_after setup t)) (head_of_word n))
         (unlent_head_value setup (cores_after setup t) t stands f q is (last_left setup t (EntryAt f 0)))
-        (subst (λ o. HeadIs q (count_room (state_after setup t)) (head_of_word (settled_by o (held_by (cores_after setup t)) (EntryAt f 0) (last_left setup t (EntryAt f 0)))))
+        (subst (λ o. HeadIs q (count_room (state_after setup t))
+        (head_of_word (settled_by o (held_by (cores_after setup t)) (EntryAt f 0) (last_left setup t (EntryAt f 0)))))
         unmarked
-        (subst (λ x. IsFrameWord (state_after setup t).limits.frames (count_room (state_after setup t)) x ((state_after setup t).place f 0) (stamp setup t (PlaceOf f 0)) 0
+        (subst (λ x. IsFrameWord (state_after setup t).limits.frames (count_room (state_after setup t))
+        x ((state_after setup t).place f 0) (stamp setup t (PlaceOf f 0)) 0
         (settled setup (held_by (cores_after setup t)) t (EntryAt f 0))) is (stands.words (EntryAt f 0))))
 
 pub lists_say : ListsSay

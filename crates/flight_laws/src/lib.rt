@@ -1,5 +1,5 @@
-//! Laws of the machine's traces, beside the theorem of `flight`: what calls have found, frames and references, cached translations, gates and
-//! components, threads, and the time of the machine, at each moment of each trace.
+//! Laws of the machine's traces, beside the theorem of `flight`: what calls have found, frames and references, cached translations, gates
+//! and components, threads, and the time of the machine, at each moment of each trace.
 //!
 //! See docs/CLAIMS.md, 'The step machine's laws'.
 #![tactic(auto)]

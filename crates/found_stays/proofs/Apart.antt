@@ -1,9 +1,11 @@
 -- What a change by core d leaves to the other cores in opened calls: each part of a change.
-use Rattle.std.proofs.Common.{◌≡◌, ◌≢◌, inl, inr, ℕ, ◌<◌, Bool, true, false, ◌&&◌, cond, refl, sym, ◌∙◌, ap, subst, ◌==◌, IsTrue, List, ◌∷◌, Some, None}
+use Rattle.std.proofs.Common.{◌≡◌, ◌≢◌, inl, inr, ℕ, ◌<◌, Bool, true, false, ◌&&◌, cond}
+use Rattle.std.proofs.Common.{refl, sym, ◌∙◌, ap, subst, ◌==◌, IsTrue, List, ◌∷◌, Some, None}
 use Rattle.std.proofs.lemmas.Bool.{cases_eq, false≢true, true≢false, eq-eqb, ne_eqb, eqb-true, or_from, or_left}
 use Rattle.std.specs.List.{list_any}
 use Rattle.spk_nums.specs.Capability.{Capability}
-use Rattle.kernel_rules.specs.State.{Place, Free, Holds, Quiescing, Table, Leaf, Pages, Pleaf, Frame, Kernel, Liveness, Core, Grace, Thing, PlaceOf, FrameOf, State, put, with_place, with_frame, with_number, with_core}
+use Rattle.kernel_rules.specs.State.{Place, Free, Holds, Quiescing, Table, Leaf, Pages, Pleaf, Frame, Kernel, Liveness, Core}
+use Rattle.kernel_rules.specs.State.{Grace, Thing, PlaceOf, FrameOf, State, put, with_place, with_frame, with_number, with_core}
 use Rattle.kernel_rules.specs.Start.{no_grace}
 use Rattle.kernel_rules.specs.References.{place_names}
 use Rattle.kernel_rules.specs.GracePeriods.{same_thing, new_grace, begun, flushed}
@@ -22,7 +24,8 @@ pub record IsApart (s t : State) (o : ℕ → Bool) (d : ℕ) : Type 0 where
   pub frame : (f : ℕ) → IsTrue (is_fixed (s.frame f)) → t.frame f ≡ s.frame f
   pub thread : (c : ℕ) → c ≢ d → c < s.limits.cores → t.frame (s.core c).thread ≡ s.frame (s.core c).thread
   pub place : (c f i : ℕ) (k : Capability) → c ≢ d → o c ≡ true → IsTrue (is_node (s.frame f))
-      → usable_in (s.place f i) ((s.grace (PlaceOf f i)).waits c) ≡ Some k → usable_in (t.place f i) ((t.grace (PlaceOf f i)).waits c) ≡ Some k
+      → usable_in (s.place f i) ((s.grace (PlaceOf f i)).waits c) ≡ Some k
+      → usable_in (t.place f i) ((t.grace (PlaceOf f i)).waits c) ≡ Some k
   pub waits : (c f : ℕ) → c ≢ d → o c ≡ true → IsTrue ((s.grace (FrameOf f)).waits c) → IsTrue ((t.grace (FrameOf f)).waits c)
   pub limits : t.limits ≡ s.limits
 
@@ -48,9 +51,11 @@ apart_then s t u o d a b = record {
   core = λ c other. b.core c other ∙ a.core c other;
   frame = λ f fixed. b.frame f (subst (λ x. IsTrue (is_fixed x)) (sym (a.frame f fixed)) fixed) ∙ a.frame f fixed;
   thread = λ c other below.
-      subst (λ k. u.frame k.thread ≡ t.frame k.thread) (a.core c other) (b.thread c other (subst (λ l. c < l.cores) (sym a.limits) below)) ∙ a.thread c other below;
+      subst (λ k. u.frame k.thread ≡ t.frame k.thread) (a.core c other) (b.thread c other (subst (λ l. c < l.cores) (sym a.limits) below))
+      ∙ a.thread c other below;
   place = λ c f i k other opened node had.
-      b.place c f i k other opened (subst (λ x. IsTrue (is_node x)) (sym (a.frame f (node_fixed (s.frame f) node))) node) (a.place c f i k other opened node had);
+      b.place c f i k other opened (subst (λ x. IsTrue (is_node x)) (sym (a.frame f (node_fixed (s.frame f) node))) node)
+      (a.place c f i k other opened node had);
   waits = λ c f other opened w. b.waits c f other opened (a.waits c f other opened w);
   limits = b.limits ∙ a.limits;
 }
@@ -67,7 +72,8 @@ slot_is f g i j e = let p = both (f == g) (i == j) e in (eqb-true f g p.0, eqb-t
 pub place_here : (s : State) (g j : ℕ) (p : Place) (f i : ℕ) → f ≡ g → i ≡ j → put s.place g (put (s.place g) j p) f i ≡ p
 place_here s g j p f i same at = ap (λ r. r i) (put_same s.place g (put (s.place g) j p) f same) ∙ put_same (s.place g) j p i at
 
-pub place_there : (s : State) (g j : ℕ) (p : Place) (f i : ℕ) → (f == g && i == j) ≡ false → put s.place g (put (s.place g) j p) f i ≡ s.place f i
+pub place_there : (s : State) (g j : ℕ) (p : Place) (f i : ℕ)
+    → (f == g && i == j) ≡ false → put s.place g (put (s.place g) j p) f i ≡ s.place f i
 place_there s g j p f i apart = elim (cases_eq f g) [
   | inl same ↦
       ap (λ r. r i) (put_same s.place g (put (s.place g) j p) f same)
@@ -90,11 +96,13 @@ fill_apart s o d g j k none = record {
 }
   where
     by_slot : (c f i : ℕ) (m : Capability) → c ≢ d → o c ≡ true → usable_in (s.place f i) ((s.grace (PlaceOf f i)).waits c) ≡ Some m
-        → (b : Bool) → (f == g && i == j) ≡ b → usable_in (put s.place g (put (s.place g) j (Holds k)) f i) ((s.grace (PlaceOf f i)).waits c) ≡ Some m
+        → (b : Bool) → (f == g && i == j) ≡ b
+        → usable_in (put s.place g (put (s.place g) j (Holds k)) f i) ((s.grace (PlaceOf f i)).waits c) ≡ Some m
     by_slot c f i m other opened had true is =
         let at : (f ≡ g) × (i ≡ j) = slot_is f g i j is in
         let here : usable_in (s.place g j) ((s.grace (PlaceOf g j)).waits c) ≡ usable_in (s.place f i) ((s.grace (PlaceOf f i)).waits c) =
-        ap (λ n. usable_in (s.place n j) ((s.grace (PlaceOf n j)).waits c)) (sym at.0) ∙ ap (λ n. usable_in (s.place f n) ((s.grace (PlaceOf f n)).waits c)) (sym at.1) in
+        ap (λ n. usable_in (s.place n j) ((s.grace (PlaceOf n j)).waits c)) (sym at.0)
+        ∙ ap (λ n. usable_in (s.place f n) ((s.grace (PlaceOf f n)).waits c)) (sym at.1) in
         absurd (none_some m (sym (none c other opened) ∙ here ∙ had))
     by_slot c f i m other opened had false is =
         ap (λ p. usable_in p ((s.grace (PlaceOf f i)).waits c)) (place_there s g j (Holds k) f i is) ∙ had
@@ -113,14 +121,16 @@ frame_waits s true x h c inside w = inside
 frame_waits s false x h c inside w = w
 
 -- A place that holds a capability is removed.
-pub remove_apart : (s : State) (o : ℕ → Bool) (d g j : ℕ) (k : Capability) → ((c : ℕ) → o c ≡ true → IsTrue (s.core c).inside) → s.place g j ≡ Holds k
+pub remove_apart : (s : State) (o : ℕ → Bool) (d g j : ℕ) (k : Capability)
+    → ((c : ℕ) → o c ≡ true → IsTrue (s.core c).inside) → s.place g j ≡ Holds k
     → IsApart s (begun s (PlaceOf g j ∷ frames_of (place_names (Holds k))) (with_place s g j (Quiescing k))) o d
 remove_apart s o d g j k inside held = record {
   core = λ c other. refl;
   frame = λ f fixed. refl;
   thread = λ c other below. refl;
   place = λ c f i m other opened node had. by_slot c f i m opened had (f == g && i == j) refl;
-  waits = λ c f other opened w. frame_waits s (list_any (same_thing (FrameOf f)) things) (FrameOf f) (s.grace (FrameOf f)) c (inside c opened) w;
+  waits = λ c f other opened w. frame_waits s (list_any (same_thing (FrameOf f)) things)
+      (FrameOf f) (s.grace (FrameOf f)) c (inside c opened) w;
   limits = refl;
 }
   where
@@ -135,16 +145,20 @@ remove_apart s o d g j k inside held = record {
     by_slot c f i m opened had true is =
         let at : (f ≡ g) × (i ≡ j) = slot_is f g i j is in
         let place : s.place f i ≡ Holds k = ap (λ n. s.place n i) at.0 ∙ ap (s.place g) at.1 ∙ held in
-        let mine : list_any (same_thing (PlaceOf f i)) things ≡ true = or_left (f == g && i == j) (list_any (same_thing (PlaceOf f i)) (frames_of (place_names (Holds k)))) is in
+        let mine : list_any (same_thing (PlaceOf f i)) things ≡ true =
+        or_left (f == g && i == j) (list_any (same_thing (PlaceOf f i)) (frames_of (place_names (Holds k)))) is in
         let same : k ≡ m = some_inj k m (ap (λ p. usable_in p ((s.grace (PlaceOf f i)).waits c)) (sym place) ∙ had) in
         ap (λ p. usable_in p ((new.grace (PlaceOf f i)).waits c)) (place_here s g j (Quiescing k) f i at.0 at.1)
-        ∙ ap (λ h. usable_in (Quiescing k) (h.waits c)) (chosen (list_any (same_thing (PlaceOf f i)) things) (new_grace s (PlaceOf f i)) (s.grace (PlaceOf f i)) mine)
+        ∙ ap (λ h. usable_in (Quiescing k) (h.waits c))
+        (chosen (list_any (same_thing (PlaceOf f i)) things) (new_grace s (PlaceOf f i)) (s.grace (PlaceOf f i)) mine)
         ∙ ap (usable_in (Quiescing k)) (inside c opened) ∙ ap Some same
     by_slot c f i m opened had false is =
         let not_mine : list_any (same_thing (PlaceOf f i)) things ≡ false =
-        or_from (f == g && i == j) (list_any (same_thing (PlaceOf f i)) (frames_of (place_names (Holds k)))) is (frames_no_place f i (place_names (Holds k))) in
+        or_from (f == g && i == j) (list_any (same_thing (PlaceOf f i)) (frames_of (place_names (Holds k))))
+        is (frames_no_place f i (place_names (Holds k))) in
         ap (λ p. usable_in p ((new.grace (PlaceOf f i)).waits c)) (place_there s g j (Quiescing k) f i is)
-        ∙ ap (λ h. usable_in (s.place f i) (h.waits c)) (left (list_any (same_thing (PlaceOf f i)) things) (new_grace s (PlaceOf f i)) (s.grace (PlaceOf f i)) not_mine)
+        ∙ ap (λ h. usable_in (s.place f i) (h.waits c))
+        (left (list_any (same_thing (PlaceOf f i)) things) (new_grace s (PlaceOf f i)) (s.grace (PlaceOf f i)) not_mine)
         ∙ had
 
 -- The grace periods of things begin that are no places.
@@ -155,8 +169,10 @@ begin_apart s next o d things inside apart = record {
   frame = λ f fixed. refl;
   thread = λ c other below. refl;
   place = λ c f i m other opened node had.
-      ap (λ h. usable_in (next.place f i) (h.waits c)) (left (list_any (same_thing (PlaceOf f i)) things) (new_grace s (PlaceOf f i)) (next.grace (PlaceOf f i)) (apart f i)) ∙ had;
-  waits = λ c f other opened w. frame_waits s (list_any (same_thing (FrameOf f)) things) (FrameOf f) (next.grace (FrameOf f)) c (inside c opened) w;
+      ap (λ h. usable_in (next.place f i) (h.waits c))
+      (left (list_any (same_thing (PlaceOf f i)) things) (new_grace s (PlaceOf f i)) (next.grace (PlaceOf f i)) (apart f i)) ∙ had;
+  waits = λ c f other opened w. frame_waits s (list_any (same_thing (FrameOf f)) things)
+      (FrameOf f) (next.grace (FrameOf f)) c (inside c opened) w;
   limits = refl;
 }
 

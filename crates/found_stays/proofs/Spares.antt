@@ -1,5 +1,6 @@
 -- Each call that is carried out spares what the other cores in calls rely on.
-use Rattle.std.proofs.Common.{◌≡◌, ◌≢◌, inl, inr, ℕ, ◌<◌, Bool, true, false, not, refl, sym, ◌∙◌, ap, subst, ◌==◌, cond, nat_lt, if◌then◌else◌, ◌+◌, ◌-◌, ◌≤◌, arith, IsTrue, List, [], ◌∷◌, take, Option, Some, None}
+use Rattle.std.proofs.Common.{◌≡◌, ◌≢◌, inl, inr, ℕ, ◌<◌, Bool, true, false, not, refl, sym, ◌∙◌, ap, subst, ◌==◌, cond}
+use Rattle.std.proofs.Common.{nat_lt, if◌then◌else◌, ◌+◌, ◌-◌, ◌≤◌, arith, IsTrue, List, [], ◌∷◌, take, Option, Some, None}
 use Rattle.std.proofs.lemmas.Bool.{cases_eq, false≢true, ne_eqb}
 use Rattle.std.specs.List.{list_any}
 use Rattle.spk_nums.specs.Capability.{Capability}
@@ -10,16 +11,21 @@ use Rattle.spk_nums.specs.declared.kinds.FrameKind.TheVariants as frame_kind
 use Rattle.spk_nums.specs.declared.calls.Make.{Make}
 use Rattle.spk_nums.specs.declared.calls.Make.TheVariants as make
 use Rattle.spk_nums.specs.declared.calls.Call.{Call}
-use Rattle.spk_nums.specs.declared.calls.Call.TheVariants.{Look, Copy, Remove, Grow, Shrink, Retype, Make as make_call, Map, Unmap, Touch, Flush, Gate, Kill, Call as call_gate, Ret, Switch, Tick, Transfer, Delegate, Test}
+use Rattle.spk_nums.specs.declared.calls.Call.TheVariants.{Look, Copy, Remove, Grow, Shrink, Retype, Make as make_call}
+use Rattle.spk_nums.specs.declared.calls.Call.TheVariants.{Map, Unmap, Touch, Flush, Gate, Kill, Call as call_gate}
+use Rattle.spk_nums.specs.declared.calls.Call.TheVariants.{Ret, Switch, Tick, Transfer, Delegate, Test}
 use Rattle.spk_nums.specs.declared.translations.Translation.{Translation}
 use Rattle.spk_nums.specs.declared.replies.Reply.{Reply}
 use Rattle.spk_nums.specs.declared.replies.Reply.TheVariants as reply
-use Rattle.kernel_rules.specs.State.{Place, Free, Holds, Quiescing, CompFields, ThreadFields, TcapFields, Object, Blank, Table, Leaf, Pages, Pleaf, Comp, Thread, Tcap, Frame, Untyped, User, Kernel, Core, Thing, PlaceOf, FrameOf, State, put, with_frame, with_core, with_number, Live, Dead, comp_of, comp_in, thread_in, thread_of}
+use Rattle.kernel_rules.specs.State.{Place, Free, Holds, Quiescing, CompFields, ThreadFields, TcapFields, Object, Blank, Table, Leaf}
+use Rattle.kernel_rules.specs.State.{Pages, Pleaf, Comp, Thread, Tcap, Frame, Untyped, User, Kernel, Core, Thing, PlaceOf, FrameOf}
+use Rattle.kernel_rules.specs.State.{State, put, with_frame, with_core, with_number, Live, Dead, comp_of, comp_in, thread_in, thread_of}
 use Rattle.kernel_rules.specs.Start.{plain_cap, no_grace}
 use Rattle.kernel_rules.specs.References.{refs, times, frame_names, number_names, core_names}
 use Rattle.kernel_rules.specs.Access.{Slot, found, Target, Under, InRoot, place_at, usable_in, reached}
 use Rattle.kernel_rules.specs.GracePeriods.{same_thing, new_grace, begun, flushed}
-use Rattle.kernel_rules.specs.Rules.{Change, Cause, When, WaitedFor, Unflushed, Found, named, vacant, held, unless, not_vacant, first_cause, refusal_of, waits_of, flushes_of, frames_of, fills, removes}
+use Rattle.kernel_rules.specs.Rules.{Change, Cause, When, WaitedFor, Unflushed, Found, named, vacant, held, unless}
+use Rattle.kernel_rules.specs.Rules.{not_vacant, first_cause, refusal_of, waits_of, flushes_of, frames_of, fills, removes}
 use Rattle.kernel_rules.specs.CapabilityCalls.{outside, epoch_of, makes, cleared, make_node, makes_comp, make_rule, not_taken}
 use Rattle.kernel_rules.specs.MemoryCalls.{is_untyped_now, is_empty, not_retyped, retypes, retype_rule, touch_by, translation_of}
 use Rattle.kernel_rules.specs.InvocationCalls.{kills, with_thread, pushes, call_rule, pops, ret_rule, running, switches, switch_to}
@@ -32,8 +38,10 @@ use Rattle.kernel_invariant.proofs.Sound.{put_all}
 use Rattle.kernel_invariant.proofs.SoundRemovals.{frames_no_place, unnamed, none_waits, none_waiting}
 use Rattle.kernel_invariant.proofs.SoundCalls.{IsOpen, blank_by, untyped_by, zero_refs}
 use Rattle.kernel_invariant.proofs.Sums.{times_first}
-use Rattle.kernel_invariant.proofs.Facts.{ChangesFrom, named_fit, held_facts, then_parts, found_inj, some_inj, some_none, refused_found, none_parts, when_not}
-use Rattle.found_stays.proofs.Apart.{IsApart, apart_same, apart_then, fill_apart, remove_apart, begin_apart, frame_apart, core_apart, number_apart, clear_apart, flush_apart, frame_waits}
+use Rattle.kernel_invariant.proofs.Facts.{ChangesFrom, named_fit, held_facts, then_parts, found_inj}
+use Rattle.kernel_invariant.proofs.Facts.{some_inj, some_none, refused_found, none_parts, when_not}
+use Rattle.found_stays.proofs.Apart.{IsApart, apart_same, apart_then, fill_apart, remove_apart, begin_apart}
+use Rattle.found_stays.proofs.Apart.{frame_apart, core_apart, number_apart, clear_apart, flush_apart, frame_waits}
 
 -- The current thread of a core runs on it.
 abbrev pub RunsOn : State → ℕ → Type 0
@@ -55,7 +63,8 @@ pub record Spares (s t : State) (o : ℕ → Bool) (d : ℕ) : Type 0 where
   pub named : (f : ℕ) → IsTrue (is_fixed (s.frame f)) → 0 < refs s f → t.frame f ≡ s.frame f
   pub thread : (c : ℕ) → c ≢ d → c < s.limits.cores → t.frame (s.core c).thread ≡ s.frame (s.core c).thread
   pub place : (c f i : ℕ) (k : Capability) → c ≢ d → o c ≡ true → IsTrue (is_node (s.frame f))
-      → usable_in (s.place f i) ((s.grace (PlaceOf f i)).waits c) ≡ Some k → usable_in (t.place f i) ((t.grace (PlaceOf f i)).waits c) ≡ Some k
+      → usable_in (s.place f i) ((s.grace (PlaceOf f i)).waits c) ≡ Some k
+      → usable_in (t.place f i) ((t.grace (PlaceOf f i)).waits c) ≡ Some k
   pub waits : (c f : ℕ) → c ≢ d → o c ≡ true → IsTrue ((s.grace (FrameOf f)).waits c) → IsTrue ((t.grace (FrameOf f)).waits c)
   pub limits : t.limits ≡ s.limits
   pub runs : RunsOn t d
@@ -85,7 +94,8 @@ module _ (s : State) (o : ℕ → Bool) (d : ℕ) (h : HasTurn s o d) where
   -- a change that begins the grace periods of no place
   done : (next : State) (things : List Thing) → ((f i : ℕ) → list_any (same_thing (PlaceOf f i)) things ≡ false)
       → IsApart s next o d → RunsOn next d → Spares s (begun s things next) o d
-  done next things apart a runs = spares_by s (begun s things next) o d (apart_then s next (begun s things next) o d a (begin_apart s next o d things inside apart)) runs
+  done next things apart a runs = spares_by s (begun s things next) o d
+      (apart_then s next (begun s things next) o d a (begin_apart s next o d things inside apart)) runs
 
   plain : (next : State) → IsApart s next o d → RunsOn next d → Spares s (begun s [] next) o d
   plain next a runs = done next [] (λ f i. refl) a runs
@@ -94,8 +104,10 @@ module _ (s : State) (o : ℕ → Bool) (d : ℕ) (h : HasTurn s o d) where
   pub vacant_none : (target : Target) (at : Slot) → vacant s d target ≡ Found at
       → (c : ℕ) → c ≢ d → o c ≡ true → usable_in (s.place at.node at.index) ((s.grace (PlaceOf at.node at.index)).waits c) ≡ None
   vacant_none target at e c other q =
-      let a = then_parts (Rattle.kernel_rules.specs.Rules.or_refuse (reached s d target) reply.NoSlot) (λ at. unless (not_vacant s d (PlaceOf at.node at.index) (place_at s at)) at) at e in
-      let u : (not_vacant s d (PlaceOf a.0.node a.0.index) (place_at s a.0) ≡ None) × (a.0 ≡ at) = unless_parts (not_vacant s d (PlaceOf a.0.node a.0.index) (place_at s a.0)) a.0 a.2 in
+      let a = then_parts (Rattle.kernel_rules.specs.Rules.or_refuse (reached s d target) reply.NoSlot)
+      (λ at. unless (not_vacant s d (PlaceOf at.node at.index) (place_at s at)) at) at e in
+      let u : (not_vacant s d (PlaceOf a.0.node a.0.index) (place_at s a.0) ≡ None) × (a.0 ≡ at) =
+      unless_parts (not_vacant s d (PlaceOf a.0.node a.0.index) (place_at s a.0)) a.0 a.2 in
       subst (λ (x : Slot). usable_in (s.place x.node x.index) ((s.grace (PlaceOf x.node x.index)).waits c) ≡ None) u.1
       (by_place (PlaceOf a.0.node a.0.index) (place_at s a.0) u.0)
     where
@@ -114,14 +126,17 @@ module _ (s : State) (o : ℕ → Bool) (d : ℕ) (h : HasTurn s o d) where
 
   removed : (target : Target) (at : Slot) (k : Capability) → held s d target ≡ Found (at, k) → SparesBy s o d (removes s at k)
   removed target at k e =
-      spares_by s (begun s (removes s at k).begins (removes s at k).next) o d (remove_apart s o d at.node at.index k inside (held_facts s d target at k e).1) own_runs
+      spares_by s (begun s (removes s at k).begins (removes s at k).next) o d
+      (remove_apart s o d at.node at.index k inside (held_facts s d target at k e).1) own_runs
 
   -- the thread of another core is a thread
   thread_away : (f : ℕ) → fits kind.Thread (s.frame f) ≡ false → (c : ℕ) → c ≢ d → c < s.limits.cores → (s.core c).thread ≢ f
-  thread_away f apart c other below same = false≢true (sym apart ∙ ap (λ n. fits kind.Thread (s.frame n)) (sym same) ∙ (h.opens.sound.cores c below).0)
+  thread_away f apart c other below same =
+      false≢true (sym apart ∙ ap (λ n. fits kind.Thread (s.frame n)) (sym same) ∙ (h.opens.sound.cores c below).0)
 
   own_away : (f : ℕ) → fits kind.Thread (s.frame f) ≡ false → (s.core d).thread ≢ f
-  own_away f apart same = false≢true (sym apart ∙ ap (λ n. fits kind.Thread (s.frame n)) (sym same) ∙ (h.opens.sound.cores d (h.opens.sound.inside d h.opens.is).1).0)
+  own_away f apart same = false≢true
+      (sym apart ∙ ap (λ n. fits kind.Thread (s.frame n)) (sym same) ∙ (h.opens.sound.cores d (h.opens.sound.inside d h.opens.is).1).0)
 
 -- A frame changes that is not core d's thread.
 runs_put : (s : State) (f : ℕ) (y : Frame) (d : ℕ) → (s.core d).thread ≢ f → RunsOn s d → RunsOn (with_frame s f y) d
@@ -129,7 +144,8 @@ runs_put s f y d away runs = ap (λ x. (thread_in x).runs_on) (put_other s.frame
 
 -- Core d keeps its thread.
 runs_core : (s : State) (d : ℕ) (k : Core) → k.thread ≡ (s.core d).thread → RunsOn s d → RunsOn (with_core s d k) d
-runs_core s d k same runs = ap (λ (x : Core). (thread_in (s.frame x.thread)).runs_on) (put_same s.core d k d refl) ∙ ap (λ n. (thread_in (s.frame n)).runs_on) same ∙ runs
+runs_core s d k same runs = ap (λ (x : Core). (thread_in (s.frame x.thread)).runs_on) (put_same s.core d k d refl)
+    ∙ ap (λ n. (thread_in (s.frame n)).runs_on) same ∙ runs
 
 -- Frames by what they are.
 pub thread_loose : (x : Frame) → IsTrue (fits kind.Thread x) → is_fixed x ≡ false
@@ -164,7 +180,8 @@ with_thread_fit : (x : Frame) (t : ThreadFields) → IsTrue (fits kind.Thread x)
 with_thread_fit (Kernel (Thread u)) t h = refl
 with_thread_fit _ t h = absurd (false≢true h)
 
-loose_put : (s : State) (f : ℕ) (y : Frame) (g : ℕ) → is_fixed y ≡ false → is_fixed (s.frame g) ≡ false → is_fixed (put s.frame f y g) ≡ false
+loose_put : (s : State) (f : ℕ) (y : Frame) (g : ℕ) → is_fixed y ≡ false
+    → is_fixed (s.frame g) ≡ false → is_fixed (put s.frame f y g) ≡ false
 loose_put s f y g new old = put_all (λ g x. is_fixed x ≡ false) s.frame f y g (λ same. new) (λ other. old)
 
 -- `make`: a blank frame of s has the object, and a place its capability.
@@ -178,13 +195,17 @@ made s o d f object k at blank away none =
     (fill_apart (with_frame s f (Kernel object)) o d at.node at.index (plain_cap k f) none)
 
 -- A place in which a core may use nothing is so where the places of a frame are freed.
-cleared_none : (s : State) (f : ℕ) (at : Slot) (c : ℕ) → usable_in (s.place at.node at.index) ((s.grace (PlaceOf at.node at.index)).waits c) ≡ None
+cleared_none : (s : State) (f : ℕ) (at : Slot) (c : ℕ)
+    → usable_in (s.place at.node at.index) ((s.grace (PlaceOf at.node at.index)).waits c) ≡ None
     → usable_in ((cleared s f).place at.node at.index) (((cleared s f).grace (PlaceOf at.node at.index)).waits c) ≡ None
 cleared_none s f at c none = elim (cases_eq at.node f) [
-  | inl same ↦ ap (λ r. usable_in (r at.index) (((cleared s f).grace (PlaceOf at.node at.index)).waits c)) (put_same s.place f (λ i. Free) at.node same)
+  | inl same ↦ ap (λ r. usable_in (r at.index) (((cleared s f).grace (PlaceOf at.node at.index)).waits c))
+      (put_same s.place f (λ i. Free) at.node same)
   | inr other ↦
-      ap (λ r. usable_in (r at.index) (((cleared s f).grace (PlaceOf at.node at.index)).waits c)) (put_other s.place f (λ i. Free) at.node other)
-      ∙ ap (λ b. usable_in (s.place at.node at.index) ((cond b no_grace (s.grace (PlaceOf at.node at.index))).waits c)) (ne_eqb at.node f other) ∙ none
+      ap (λ r. usable_in (r at.index) (((cleared s f).grace (PlaceOf at.node at.index)).waits c))
+      (put_other s.place f (λ i. Free) at.node other)
+      ∙ ap (λ b. usable_in (s.place at.node at.index) ((cond b no_grace (s.grace (PlaceOf at.node at.index))).waits c))
+      (ne_eqb at.node f other) ∙ none
 ]
 
 module _ (s : State) (o : ℕ → Bool) (d : ℕ) (h : HasTurn s o d) where
@@ -198,7 +219,8 @@ module _ (s : State) (o : ℕ → Bool) (d : ℕ) (h : HasTurn s o d) where
       (λ c other q. cleared_none s f at c (vacant_none s o d h (Under (found table) b) at v c other q))))
       (runs_put s f (Kernel object) d (own_away s o d h f (ap (fits kind.Thread) blank)) (own_runs s o d h))
 
-  object_spares : (f : ℕ) (object : Object) (k : Kind) (target : Target) (at : Slot) → s.frame f ≡ Kernel Blank → vacant s d target ≡ Found at
+  object_spares : (f : ℕ) (object : Object) (k : Kind) (target : Target) (at : Slot)
+      → s.frame f ≡ Kernel Blank → vacant s d target ≡ Found at
       → Spares s (begun s [] (makes s f object k at).next) o d
   object_spares f object k target at blank v =
       plain s o d h (makes s f object k at).next
@@ -211,9 +233,11 @@ module _ (s : State) (o : ℕ → Bool) (d : ℕ) (h : HasTurn s o d) where
   make_spares make.Pages r f t b = node_spares Pages kind.Pages r f t b
   make_spares make.Pleaf r f t b = node_spares Pleaf kind.Pleaf r f t b
   make_spares (make.Thread comp) r f t b = λ range e table g k j at v calm.
-      object_spares f (Thread (record { stack = k.frame ∷ []; runs_on = None })) kind.Thread (Under (found table) b) at (blank_by s h.opened d r f range [] h.opens e calm).1 v
+      object_spares f (Thread (record { stack = k.frame ∷ []; runs_on = None })) kind.Thread
+      (Under (found table) b) at (blank_by s h.opened d r f range [] h.opens e calm).1 v
   make_spares (make.Tcap sched quality) r f t b = λ range e table g at v calm.
-      object_spares f (Tcap (record { budget = 0; qualities = (sched, quality) ∷ [] })) kind.Tcap (Under (found table) b) at (blank_by s h.opened d r f range [] h.opens e calm).1 v
+      object_spares f (Tcap (record { budget = 0; qualities = (sched, quality) ∷ [] })) kind.Tcap
+      (Under (found table) b) at (blank_by s h.opened d r f range [] h.opens e calm).1 v
   make_spares (make.Comp x y l) r f t b = λ range e table g own_table a own_pages k at v calm.
       let blank : s.frame f ≡ Kernel Blank = (blank_by s h.opened d r f range (not_taken s l) h.opens e calm).1 in
       let comp : CompFields = record { table = own_table.frame; pages = own_pages.frame; number = l; epoch = epoch_of (s.number l) + 1 } in
@@ -237,15 +261,18 @@ module _ (s : State) (o : ℕ → Bool) (d : ℕ) (h : HasTurn s o d) where
   untype_spares f zero none = record {
     core = λ c other. refl;
     frame = λ c g other q fixed guarded. put_other s.frame f Untyped g (guarded_away c g other q guarded);
-    named = λ g fixed some. put_other s.frame f Untyped g (λ same. (let r : refs s g ≡ refs s f = ap (refs s) same in omega (arith, some, r, zero)));
+    named = λ g fixed some. put_other s.frame f Untyped g
+        (λ same. (let r : refs s g ≡ refs s f = ap (refs s) same in omega (arith, some, r, zero)));
     thread = λ c other below. put_other s.frame f Untyped (s.core c).thread (thread_named c below);
     place = λ c g i k other q node had.
-        ap (λ b. usable_in (s.place g i) ((cond b (new_grace s (PlaceOf g i)) (s.grace (PlaceOf g i))).waits c)) (frames_no_place g i (frame_names (s.frame f))) ∙ had;
+        ap (λ b. usable_in (s.place g i) ((cond b (new_grace s (PlaceOf g i)) (s.grace (PlaceOf g i))).waits c))
+        (frames_no_place g i (frame_names (s.frame f))) ∙ had;
     waits = λ c g other q w. frame_waits s (list_any (same_thing (FrameOf g)) (frames_of (frame_names (s.frame f)))) (FrameOf g)
         (cond (g == f) no_grace (s.grace (FrameOf g))) c (inside s o d h c q)
         (subst (λ b. IsTrue ((cond b no_grace (s.grace (FrameOf g))).waits c)) (sym (ne_eqb g f (waits_away c g other q w))) w);
     limits = refl;
-    runs = ap (λ x. (thread_in x).runs_on) (put_other s.frame f Untyped (s.core d).thread (thread_named d (h.opens.sound.inside d h.opens.is).1)) ∙ own_runs s o d h;
+    runs = ap (λ x. (thread_in x).runs_on)
+        (put_other s.frame f Untyped (s.core d).thread (thread_named d (h.opens.sound.inside d h.opens.is).1)) ∙ own_runs s o d h;
   }
     where
       thread_named : (c : ℕ) → c < s.limits.cores → (s.core c).thread ≢ f
@@ -272,13 +299,15 @@ module _ (s : State) (o : ℕ → Bool) (d : ℕ) (h : HasTurn s o d) where
       let held : Cause = When (not (is_empty s f (s.frame f))) reply.NotEmpty in
       let referenced : Cause = When (nat_lt 0 (refs s f)) (reply.Referenced (refs s f)) in
       let p = none_parts (refusal_of s d (outside (found range) f)) (first_cause s d (not_retyped s f frame_kind.Untyped)) calm in
-      let p1 = none_parts (refusal_of s d (is_untyped_now s f)) (first_cause s d (referenced ∷ WaitedFor (FrameOf f) ∷ Unflushed (FrameOf f) ∷ held ∷ [])) p.1 in
+      let p1 = none_parts (refusal_of s d (is_untyped_now s f))
+      (first_cause s d (referenced ∷ WaitedFor (FrameOf f) ∷ Unflushed (FrameOf f) ∷ held ∷ [])) p.1 in
       let p2 = none_parts (refusal_of s d referenced) (first_cause s d (WaitedFor (FrameOf f) ∷ Unflushed (FrameOf f) ∷ held ∷ [])) p1.1 in
       let p3 = none_parts (waits_of s d (FrameOf f)) (first_cause s d (Unflushed (FrameOf f) ∷ held ∷ [])) p2.1 in
       untype_spares f (zero_refs (refs s f) (when_not (nat_lt 0 (refs s f)) (reply.Referenced (refs s f)) p2.0)) (none_waits s d f p3.0)
 
   touch_spares : (pages v : ℕ) (t : Option Translation) → ChangesFrom (SparesBy s o d) s d (touch_by s d pages v t)
-  touch_spares pages v None = λ mapping e calm. plain s o d h (with_core s d _) (core_apart s o d _) (runs_core s d _ refl (own_runs s o d h))
+  touch_spares pages v None =
+      λ mapping e calm. plain s o d h (with_core s d _) (core_apart s o d _) (runs_core s d _ refl (own_runs s o d h))
   touch_spares pages v (Some t) = λ calm. plain s o d h s (apart_same s o d) (own_runs s o d h)
 
   -- the thread on which core d runs is that of no other core
@@ -296,9 +325,11 @@ module _ (s : State) (o : ℕ → Bool) (d : ℕ) (h : HasTurn s o d) where
   stack_runs : (stack : List ℕ) → RunsOn (Rattle.kernel_rules.specs.InvocationCalls.with_stack s d stack) d
   stack_runs stack =
       ap (λ x. (thread_in x).runs_on) (put_same s.frame (s.core d).thread _ (s.core d).thread refl)
-      ∙ ap (λ (t : ThreadFields). t.runs_on) (thread_with (s.frame (s.core d).thread) (record (thread_of s d) { stack = stack }) own_fits) ∙ own_runs s o d h
+      ∙ ap (λ (t : ThreadFields). t.runs_on) (thread_with (s.frame (s.core d).thread) (record (thread_of s d) { stack = stack }) own_fits)
+      ∙ own_runs s o d h
 
-  switch_spares : (j : Capability) (q : ℕ) → IsTrue (fits kind.Thread (s.frame j.frame)) → (e : Option ℕ) → (thread_in (s.frame j.frame)).runs_on ≡ e
+  switch_spares : (j : Capability) (q : ℕ) → IsTrue (fits kind.Thread (s.frame j.frame))
+      → (e : Option ℕ) → (thread_in (s.frame j.frame)).runs_on ≡ e
       → ChangesFrom (SparesBy s o d) s d (switch_to s d (found j) q e)
   switch_spares j q fit (Some e) is = λ calm. absurd (some_none (reply.Running e) (none_parts (Some (reply.Running e)) None calm).0)
   switch_spares j q fit None is = λ calm.
@@ -306,21 +337,25 @@ module _ (s : State) (o : ℕ → Bool) (d : ℕ) (h : HasTurn s o d) where
       let old : ℕ = (s.core d).thread in
       let idle : State = running s old None in
       let next : State = running idle f (Some d) in
-      let idle_fit : IsTrue (fits kind.Thread (idle.frame f)) = put_all (λ g x. IsTrue (fits kind.Thread x)) s.frame old (with_thread (s.frame old) (record (thread_in (s.frame old)) { runs_on = None })) f
+      let idle_fit : IsTrue (fits kind.Thread (idle.frame f)) = put_all (λ g x. IsTrue (fits kind.Thread x))
+      s.frame old (with_thread (s.frame old) (record (thread_in (s.frame old)) { runs_on = None })) f
       (λ same. with_thread_fit (s.frame old) _ own_fits) (λ other. fit) in
       done s o d h (switches s d (s.core d) f q).next (switches s d (s.core d) f q).begins
       (λ g i. frames_no_place g i (old ∷ (if q == (s.core d).tcap then [] else (s.core d).tcap ∷ [])))
       (apart_then s idle (switches s d (s.core d) f q).next o d
       (frame_apart s o d old _ (thread_loose (s.frame old) own_fits) others_run)
       (apart_then idle next (switches s d (s.core d) f q).next o d
-      (frame_apart idle o d f _ (thread_loose (idle.frame f) idle_fit) (λ c other below same. some_none c (sym (h.runs c below) ∙ ap (λ n. (thread_in (s.frame n)).runs_on) same ∙ is)))
+      (frame_apart idle o d f _ (thread_loose (idle.frame f) idle_fit)
+      (λ c other below same. some_none c (sym (h.runs c below) ∙ ap (λ n. (thread_in (s.frame n)).runs_on) same ∙ is)))
       (core_apart next o d (record (s.core d) { thread = f; tcap = q }))))
-      (ap (λ (x : Core). (thread_in (next.frame x.thread)).runs_on) (put_same next.core d (record (s.core d) { thread = f; tcap = q }) d refl)
+      (ap (λ (x : Core). (thread_in (next.frame x.thread)).runs_on)
+      (put_same next.core d (record (s.core d) { thread = f; tcap = q }) d refl)
       ∙ ap (λ x. (thread_in x).runs_on) (put_same idle.frame f _ f refl)
       ∙ ap (λ (t : ThreadFields). t.runs_on) (thread_with (idle.frame f) (record (thread_in (idle.frame f)) { runs_on = Some d }) idle_fit))
 
 -- A temporal capability changes.
-tcap_apart : (s : State) (o : ℕ → Bool) (d f : ℕ) (q : TcapFields) → is_fixed (s.frame f) ≡ false → ((c : ℕ) → c ≢ d → c < s.limits.cores → (s.core c).thread ≢ f)
+tcap_apart : (s : State) (o : ℕ → Bool) (d f : ℕ) (q : TcapFields)
+    → is_fixed (s.frame f) ≡ false → ((c : ℕ) → c ≢ d → c < s.limits.cores → (s.core c).thread ≢ f)
     → IsApart s (with_frame s f (with_tcap (s.frame f) q)) o d
 tcap_apart s o d f q loose away = frame_apart s o d f (with_tcap (s.frame f) q) loose away
 
@@ -340,10 +375,12 @@ module _ (s : State) (o : ℕ → Bool) (d : ℕ) (h : HasTurn s o d) where
       runs_put (with_budget s a ((tcap_at s a).budget - m)) b _ d (own_away s o d h b (tcap_no_thread (s.frame b) fb))
       (runs_put s a _ d (own_away s o d h a (tcap_no_thread (s.frame a) fa)) (own_runs s o d h))
 
-  moved_loose : (a b m : ℕ) → IsTrue (fits kind.Tcap (s.frame a)) → IsTrue (fits kind.Tcap (s.frame b)) → is_fixed ((moved s a b m).frame b) ≡ false
+  moved_loose : (a b m : ℕ) → IsTrue (fits kind.Tcap (s.frame a))
+      → IsTrue (fits kind.Tcap (s.frame b)) → is_fixed ((moved s a b m).frame b) ≡ false
   moved_loose a b m fa fb =
       let first : State = with_budget s a ((tcap_at s a).budget - m) in
-      let fit : IsTrue (fits kind.Tcap (first.frame b)) = put_all (λ g x. IsTrue (fits kind.Tcap x)) s.frame a _ b (λ same. with_tcap_fit (s.frame a) _ fa) (λ other. fb) in
+      let fit : IsTrue (fits kind.Tcap (first.frame b)) =
+      put_all (λ g x. IsTrue (fits kind.Tcap x)) s.frame a _ b (λ same. with_tcap_fit (s.frame a) _ fa) (λ other. fb) in
       ap is_fixed (put_same first.frame b _ b refl) ∙ with_tcap_loose (first.frame b) _ fit
 
   -- Every call that is carried out.
@@ -355,25 +392,30 @@ module _ (s : State) (o : ℕ → Bool) (d : ℕ) (h : HasTurn s o d) where
   rule_spares (Shrink t i) = λ table e at k g calm. removed s o d h (InRoot (found table) i) at k g
   rule_spares (Retype r f k) = retype_spares s o d h r f k
   rule_spares (make_call what r f t b) = make_spares s o d h what r f t b
-  rule_spares (Map p v r f w) = λ pages e range g at u calm. filled s o d h (Under (found pages) v) at (record { kind = kind.Page; frame = f; arg = w.0 }) u
+  rule_spares (Map p v r f w) =
+      λ pages e range g at u calm. filled s o d h (Under (found pages) v) at (record { kind = kind.Page; frame = f; arg = w.0 }) u
   rule_spares (Unmap p v) = λ pages e at k g calm. removed s o d h (Under (found pages) v) at k g
   rule_spares (Touch v) = touch_spares s o d h (comp_of s d).pages v (translation_of (s.core d).cached (comp_of s d).pages v)
   rule_spares Flush = λ calm. plain s o d h (flushed s d) (flush_apart s o d) (runs_core s d _ refl (own_runs s o d h))
-  rule_spares (Gate k t b) = λ comp e table f at g calm. filled s o d h (Under (found table) b) at (record { kind = kind.Gate; frame = comp.frame; arg = _ }) g
+  rule_spares (Gate k t b) =
+      λ comp e table f at g calm. filled s o d h (Under (found table) b) at (record { kind = kind.Gate; frame = comp.frame; arg = _ }) g
   rule_spares (Kill k) = λ comp e calm.
       let fields : CompFields = comp_in (s.frame comp.frame) in
       done s o d h (kills s fields).next (kills s fields).begins (λ f i. frames_no_place f i (number_names (s.number fields.number)))
       (number_apart s o d fields.number (Dead fields.epoch)) (own_runs s o d h)
   rule_spares (call_gate g) = λ gate e calm. plain s o d h (pushes s d gate.frame).next (stack_apart s o d h _) (stack_runs s o d h _)
   rule_spares Ret = λ calm.
-      done s o d h (pops s d).next (pops s d).begins (λ f i. frames_no_place f i (take 1 (thread_of s d).stack)) (stack_apart s o d h _) (stack_runs s o d h _)
+      done s o d h (pops s d).next (pops s d).begins
+      (λ f i. frames_no_place f i (take 1 (thread_of s d).stack)) (stack_apart s o d h _) (stack_runs s o d h _)
   rule_spares (Switch f q) = λ thread e tcap g.
-      switch_spares s o d h thread tcap.frame (named_fit s h.opened d f kind.Thread thread h.opens.sound h.opens.is e) (thread_in (s.frame thread.frame)).runs_on refl
+      switch_spares s o d h thread tcap.frame (named_fit s h.opened d f kind.Thread thread h.opens.sound h.opens.is e)
+      (thread_in (s.frame thread.frame)).runs_on refl
   rule_spares (Tick n) = λ calm.
       let q : ℕ = (s.core d).tcap in
       let fit : IsTrue (fits kind.Tcap (s.frame q)) = (h.opens.sound.cores d (h.opens.sound.inside d h.opens.is).1).1 in
       plain s o d h (with_core (with_budget s q _) d _)
-      (apart_then s (with_budget s q _) _ o d (tcap_apart s o d q _ (tcap_loose (s.frame q) fit) (tcap_away q fit)) (core_apart (with_budget s q _) o d _))
+      (apart_then s (with_budget s q _) _ o d (tcap_apart s o d q _ (tcap_loose (s.frame q) fit) (tcap_away q fit))
+      (core_apart (with_budget s q _) o d _))
       (runs_core (with_budget s q _) d _ refl (runs_put s q _ d (own_away s o d h q (tcap_no_thread (s.frame q) fit)) (own_runs s o d h)))
   rule_spares (Transfer a b m) = λ j e k f calm.
       let fa : IsTrue (fits kind.Tcap (s.frame j.frame)) = named_fit s h.opened d a kind.Tcap j h.opens.sound h.opens.is e in
@@ -385,5 +427,6 @@ module _ (s : State) (o : ℕ → Bool) (d : ℕ) (h : HasTurn s o d) where
       plain s o d h (with_qualities (moved s j.frame k.frame m) k.frame (merged_list s j.frame k.frame))
       (apart_then s (moved s j.frame k.frame m) _ o d (moved_apart j.frame k.frame m fa fb)
       (tcap_apart (moved s j.frame k.frame m) o d k.frame _ (moved_loose j.frame k.frame m fa fb) (tcap_away k.frame fb)))
-      (runs_put (moved s j.frame k.frame m) k.frame _ d (own_away s o d h k.frame (tcap_no_thread (s.frame k.frame) fb)) (moved_runs j.frame k.frame m fa fb))
+      (runs_put (moved s j.frame k.frame m) k.frame _ d
+      (own_away s o d h k.frame (tcap_no_thread (s.frame k.frame) fb)) (moved_runs j.frame k.frame m fa fb))
   rule_spares (Test a b) = λ j e k f calm. plain s o d h s (apart_same s o d) (own_runs s o d h)

@@ -1,5 +1,6 @@
 -- In every state that a run reaches each core's thread runs on it; and each event spares what the other cores in calls rely on.
-use Rattle.std.proofs.Common.{◌≡◌, ◌≢◌, inl, inr, ℕ, zero, suc, ◌+◌, ◌-◌, ◌<◌, arith, Bool, true, false, refl, sym, ◌∙◌, ap, subst, ◌==◌, cond, nat_lt, IsTrue, List, [], ◌∷◌}
+use Rattle.std.proofs.Common.{◌≡◌, ◌≢◌, inl, inr, ℕ, zero, suc, ◌+◌, ◌-◌, ◌<◌, arith, Bool, true, false}
+use Rattle.std.proofs.Common.{refl, sym, ◌∙◌, ap, subst, ◌==◌, cond, nat_lt, IsTrue, List, [], ◌∷◌}
 use Rattle.std.proofs.lemmas.Bool.{false≢true, cases_eq, eq-eqb, ne_eqb, ltb-false, or_left, or_right}
 use Rattle.std.specs.List.{list_any}
 use Rattle.spk_nums.specs.Setting.{Setting, IsSetting}
@@ -18,7 +19,8 @@ use Rattle.kernel_rules.specs.GracePeriods.{same_thing, new_grace, begun, entere
 use Rattle.kernel_rules.specs.Rules.{Change, Judged, Refused, Found, IsFoundAnd}
 use Rattle.kernel_rules.specs.CallRelation.{rule_of, change_of, changed, counted, owed_by, state_by, MayReply}
 use Rattle.kernel_rules.specs.Laws.{released}
-use Rattle.kernel_rules.specs.Runs.{Event, Enters, Decides, Returns, after, core_of, Out, is_in, is_open, is_decided, phase_by, phase_of, MayFollow, IsRun}
+use Rattle.kernel_rules.specs.Runs.{Event, Enters, Decides, Returns, after, core_of, Out, is_in}
+use Rattle.kernel_rules.specs.Runs.{is_open, is_decided, phase_by, phase_of, MayFollow, IsRun}
 use Rattle.kernel_rules.proofs.Changes.{IfFound}
 use Rattle.kernel_rules.proofs.Within.{put_same, put_other}
 use Rattle.kernel_invariant.proofs.Sums.{sum_same, times_cons}
@@ -32,7 +34,8 @@ use Rattle.found_stays.proofs.Apart.{apart_same}
 use Rattle.found_stays.proofs.Spares.{RunsOn, HasTurn, Spares, SparesBy, spares_by, rule_spares}
 
 -- From s to t by core d, whose own fields change then, but for its thread.
-spares_core : (s t : State) (o : ℕ → Bool) (d : ℕ) (k : Core) → k.thread ≡ (t.core d).thread → Spares s t o d → Spares s (with_core t d k) o d
+spares_core : (s t : State) (o : ℕ → Bool) (d : ℕ) (k : Core)
+    → k.thread ≡ (t.core d).thread → Spares s t o d → Spares s (with_core t d k) o d
 spares_core s t o d k same a = record {
   core = λ c other. put_other t.core d k c other ∙ a.core c other;
   frame = a.frame;
@@ -41,7 +44,8 @@ spares_core s t o d k same a = record {
   place = a.place;
   waits = a.waits;
   limits = a.limits;
-  runs = ap (λ (x : Core). (thread_in (t.frame x.thread)).runs_on) (put_same t.core d k d refl) ∙ ap (λ n. (thread_in (t.frame n)).runs_on) same ∙ a.runs;
+  runs = ap (λ (x : Core). (thread_in (t.frame x.thread)).runs_on) (put_same t.core d k d refl)
+      ∙ ap (λ n. (thread_in (t.frame n)).runs_on) same ∙ a.runs;
 }
 
 -- And what other cores in calls guard, they guard still.
@@ -50,12 +54,15 @@ pub record SparesAll (s t : State) (o : ℕ → Bool) (d : ℕ) : Type 0 where
   pub guarded : (c f : ℕ) → c ≢ d → o c ≡ true → IsGuarded s c f → IsGuarded t c f
 
 -- A core that keeps its thread and temporal capability changes no reference.
-pub core_same_refs : (s : State) (c : ℕ) (k : Core) → k.thread ≡ (s.core c).thread → k.tcap ≡ (s.core c).tcap → (f : ℕ) → refs (with_core s c k) f ≡ refs s f
+pub core_same_refs : (s : State) (c : ℕ) (k : Core) → k.thread ≡ (s.core c).thread
+    → k.tcap ≡ (s.core c).tcap → (f : ℕ) → refs (with_core s c k) f ≡ refs s f
 unfolding refs node_refs
 core_same_refs s c k thread tcap f =
-    let a = sum_same (λ d. times f (core_names (s.core d))) (λ d. times f (core_names ((with_core s c k).core d))) s.limits.cores (λ d below.
+    let a = sum_same (λ d. times f (core_names (s.core d)))
+    (λ d. times f (core_names ((with_core s c k).core d))) s.limits.cores (λ d below.
     put_all (λ d x. times f (core_names x) ≡ times f (core_names (s.core d))) s.core c k d
-    (λ same. ap (λ n. times f (n ∷ k.tcap ∷ [])) thread ∙ ap (λ n. times f ((s.core c).thread ∷ n ∷ [])) tcap ∙ ap (λ n. times f (core_names (s.core n))) (sym same))
+    (λ same. ap (λ n. times f (n ∷ k.tcap ∷ [])) thread ∙ ap (λ n. times f ((s.core c).thread ∷ n ∷ [])) tcap
+    ∙ ap (λ n. times f (core_names (s.core n))) (sym same))
     (λ other. refl)) in
     omega (arith, a)
 
@@ -79,7 +86,8 @@ among f (FrameOf g ∷ things) some = elim (cases_eq f g) [
       or_right (f == g) (list_any (same_thing (FrameOf f)) things) (among f things (omega (arith, some, p, q)))
 ]
 
-begun_guarded : (s : State) (o : ℕ → Bool) (d : ℕ) (change : Change) → ((c : ℕ) → o c ≡ true → IsTrue (s.core c).inside) → RefsBy s change → SparesBy s o d change
+begun_guarded : (s : State) (o : ℕ → Bool) (d : ℕ) (change : Change)
+    → ((c : ℕ) → o c ≡ true → IsTrue (s.core c).inside) → RefsBy s change → SparesBy s o d change
     → (c f : ℕ) → c ≢ d → o c ≡ true → IsGuarded s c f → IsGuarded (begun s change.begins change.next) c f
 begun_guarded s o d change inside by spares c f other q (inr w) = inr (spares.waits c f other q w)
 begun_guarded s o d change inside by spares c f other q (inl some) = by_refs (refs (begun s change.begins change.next) f) refl
@@ -110,7 +118,8 @@ counted_spares s t o d a = record {
 changed_spares : (s : State) (o : ℕ → Bool) (d : ℕ) (v : Value) (found : Judged Change) → ((c : ℕ) → o c ≡ true → IsTrue (s.core c).inside)
     → IfFound found (SparesBy s o d) → IfFound found (RefsBy s) → IsFoundAnd found (λ k. k.value ≡ v) → SparesAll s (changed s found) o d
 changed_spares s o d v (Refused r) inside spares by ok = absurd ok
-changed_spares s o d v (Found change) inside spares by ok = record { spares = spares; guarded = begun_guarded s o d change inside by spares }
+changed_spares s o d v (Found change) inside spares by ok =
+    record { spares = spares; guarded = begun_guarded s o d change inside by spares }
 
 pub decided_spares : (s : State) (o : ℕ → Bool) (d : ℕ) (call : Call) (r : Reply) → HasTurn s o d → InLimits call → MayReply s d call r
     → SparesAll s (state_by s d call r) o d
@@ -167,12 +176,14 @@ start_runs setting c below =
     (λ e. (let p : (4 + c) - 4 ≡ c = omega arith in ap Some p))
     (λ e. absurd (let p = ltb-false (4 + c) (4 + setting.cores) e in omega (arith, p, below)))
 
-runs_on : (s t : State) (o : ℕ → Bool) (d : ℕ) → SparesAll s t o d → ((c : ℕ) → c < s.limits.cores → RunsOn s c) → (c : ℕ) → c < t.limits.cores → RunsOn t c
+runs_on : (s t : State) (o : ℕ → Bool) (d : ℕ) → SparesAll s t o d
+    → ((c : ℕ) → c < s.limits.cores → RunsOn s c) → (c : ℕ) → c < t.limits.cores → RunsOn t c
 runs_on s t o d all runs c below = elim (cases_eq c d) [
   | inl same ↦ subst (RunsOn t) (sym same) all.spares.runs
   | inr other ↦
       let less : c < s.limits.cores = subst (λ l. c < l.cores) all.spares.limits below in
-      ap (λ (x : Core). (thread_in (t.frame x.thread)).runs_on) (all.spares.core c other) ∙ ap (λ x. (thread_in x).runs_on) (all.spares.thread c other less) ∙ runs c less
+      ap (λ (x : Core). (thread_in (t.frame x.thread)).runs_on) (all.spares.core c other)
+      ∙ ap (λ x. (thread_in x).runs_on) (all.spares.thread c other less) ∙ runs c less
 ]
 
 -- A core that is not out is one of the machine.
@@ -186,7 +197,8 @@ in_machine setting (e ∷ events) c run in_call = elim (cases_eq c (core_of e)) 
     phase_apart : c ≢ core_of e → phase_of (e ∷ events) c ≡ phase_of events c
     phase_apart other = ap (λ b. cond b (phase_by e) (phase_of events c)) (ne_eqb c (core_of e) other)
 
-    of_event : ((d : ℕ) → phase_of events d ≢ Out → d < setting.cores) → (e : Event) → MayFollow setting events e → core_of e < setting.cores
+    of_event : ((d : ℕ) → phase_of events d ≢ Out → d < setting.cores)
+        → (e : Event) → MayFollow setting events e → core_of e < setting.cores
     of_event before (Enters d call) may = may.is_core
     of_event before (Decides d call r) may = before d (λ out. false≢true (ap is_open (sym out ∙ may.is_open)))
     of_event before (Returns d) may = before d (λ out. false≢true (sym (ap is_decided out) ∙ may))
@@ -199,7 +211,8 @@ pub inside_facts : (setting : Setting) (events : List Event) → IsRun setting e
     → IsTrue ((after setting events).core c).inside × (c < (after setting events).limits.cores)
 inside_facts setting events run c q = (
   inside_is setting events run c ∙ q,
-  subst (λ l. c < l.cores) (sym (limits_stay setting events)) (in_machine setting events c run (λ out. false≢true (sym (ap is_in out) ∙ q))),
+  subst (λ l. c < l.cores) (sym (limits_stay setting events))
+      (in_machine setting events c run (λ out. false≢true (sym (ap is_in out) ∙ q))),
 )
 
 -- An event of a run, where each core's thread runs on it, spares what other cores in calls rely on.
@@ -207,19 +220,27 @@ by_event : (setting : Setting) → IsSetting setting → (e : Event) (events : L
     → ((c : ℕ) → c < (after setting events).limits.cores → RunsOn (after setting events) c)
     → SparesAll (after setting events) (after setting (e ∷ events)) (inside_of events) (core_of e)
 by_event setting lim (Enters d call) events run runs =
-    entered_spares (after setting events) (inside_of events) d (runs d (subst (λ l. d < l.cores) (sym (limits_stay setting events)) run.1.is_core))
+    entered_spares (after setting events) (inside_of events) d
+    (runs d (subst (λ l. d < l.cores) (sym (limits_stay setting events)) run.1.is_core))
 by_event setting lim (Returns d) events run runs =
     returned_spares (after setting events) (inside_of events) d (runs d (subst (λ l. d < l.cores) (sym (limits_stay setting events))
     (in_machine setting events d run.0 (λ out. false≢true (sym (ap is_decided out) ∙ run.1)))))
 by_event setting lim (Decides d call r) events run runs =
     decided_spares (after setting events) (inside_of events) d call r
-    (record { opened = opened events; opens = open_is setting lim events d run.0 (ap is_open run.1.is_open); inside = inside_facts setting events run.0; runs = runs })
+    (record {
+      opened = opened events;
+      opens = open_is setting lim events d run.0 (ap is_open run.1.is_open);
+      inside = inside_facts setting events run.0;
+      runs = runs;
+    })
     (open_limits setting events d call run.0 run.1.is_open) run.1.permitted
 
-pub runs_of : (setting : Setting) → IsSetting setting → (events : List Event) → IsRun setting events → (c : ℕ) → c < (after setting events).limits.cores → RunsOn (after setting events) c
+pub runs_of : (setting : Setting) → IsSetting setting → (events : List Event) → IsRun setting events
+    → (c : ℕ) → c < (after setting events).limits.cores → RunsOn (after setting events) c
 runs_of setting lim [] run c below = start_runs setting c below
 runs_of setting lim (e ∷ events) run c below =
-    runs_on (after setting events) (after setting (e ∷ events)) (inside_of events) (core_of e) (by_event setting lim e events run (runs_of setting lim events run.0)) (runs_of setting lim events run.0) c below
+    runs_on (after setting events) (after setting (e ∷ events)) (inside_of events) (core_of e)
+    (by_event setting lim e events run (runs_of setting lim events run.0)) (runs_of setting lim events run.0) c below
 
 pub event_spares : (setting : Setting) → IsSetting setting → (e : Event) (events : List Event) → IsRun setting (e ∷ events)
     → SparesAll (after setting events) (after setting (e ∷ events)) (inside_of events) (core_of e)

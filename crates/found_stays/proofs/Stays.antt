@@ -1,14 +1,17 @@
 -- What a core in an open call has found, and relies on, stays through the events of other cores.
-use Rattle.std.proofs.Common.{◌≡◌, ◌≢◌, inl, inr, ℕ, zero, suc, ◌<◌, ◌≤◌, ◌%◌, ◌&&◌, arith, Bool, true, false, refl, sym, ◌∙◌, ap, subst, nat_le, if◌then◌else◌, IsTrue, List, [], ◌∷◌, Option, Some, None}
+use Rattle.std.proofs.Common.{◌≡◌, ◌≢◌, inl, inr, ℕ, zero, suc, ◌<◌, ◌≤◌, ◌%◌, ◌&&◌, arith, Bool, true, false, refl}
+use Rattle.std.proofs.Common.{sym, ◌∙◌, ap, subst, nat_le, if◌then◌else◌, IsTrue, List, [], ◌∷◌, Option, Some, None}
 use Rattle.std.proofs.lemmas.Bool.{false≢true, cases_lt}
 use Rattle.spk_nums.specs.Setting.{Setting, IsSetting}
 use Rattle.spk_nums.specs.Capability.{Capability}
 use Rattle.spk_nums.specs.declared.kinds.Kind.{Kind}
 use Rattle.spk_nums.specs.declared.kinds.Kind.TheVariants as kind
 use Rattle.spk_nums.specs.declared.replies.Reply.TheVariants as reply
-use Rattle.kernel_rules.specs.State.{Place, Free, Holds, Quiescing, CompFields, Table, Leaf, Pages, Pleaf, Comp, Thread, Frame, Kernel, Core, PlaceOf, State, comp_in, thread_in, first_of_stack, thread_of, comp_of}
+use Rattle.kernel_rules.specs.State.{Place, Free, Holds, Quiescing, CompFields, Table, Leaf, Pages, Pleaf, Comp, Thread, Frame}
+use Rattle.kernel_rules.specs.State.{Kernel, Core, PlaceOf, State, comp_in, thread_in, first_of_stack, thread_of, comp_of}
 use Rattle.kernel_rules.specs.References.{named_by, place_names, frame_names, times, refs}
-use Rattle.kernel_rules.specs.Access.{Slot, Named, Under, place_at, usable_in, usable, linked, slot_in, reached, root_slot, root_at, only, own}
+use Rattle.kernel_rules.specs.Access.{Slot, Named, Under, place_at, usable_in, usable, linked}
+use Rattle.kernel_rules.specs.Access.{slot_in, reached, root_slot, root_at, only, own}
 use Rattle.kernel_rules.specs.Rules.{Found, and_then, or_refuse, of_kind, named}
 use Rattle.kernel_rules.specs.Fitting.{fits, IsGood}
 use Rattle.kernel_rules.specs.Runs.{Event, after, core_of, Phase, Out, Open, Decided, is_in, is_open, phase_of, IsRun}
@@ -30,7 +33,8 @@ pub record Stay (s t : State) (c : ℕ) : Type 0 where
   pub frame : (f : ℕ) → IsTrue (is_fixed (s.frame f)) → IsGuarded s c f → t.frame f ≡ s.frame f
   pub relies : (f : ℕ) → Relies s c f → Relies t c f
   pub usable : (at : Slot) (k : Capability) → Relies s c at.node → usable s c at ≡ Some k → usable t c at ≡ Some k
-  pub reached : (table : Named) (n : ℕ) (at : Slot) → Relies s c table.frame → reached s c (Under table n) ≡ Some at → reached t c (Under table n) ≡ Some at
+  pub reached : (table : Named) (n : ℕ) (at : Slot) → Relies s c table.frame
+      → reached s c (Under table n) ≡ Some at → reached t c (Under table n) ≡ Some at
   pub named : (n : ℕ) (wanted : Kind → Bool) (k : Capability) → named s c n wanted ≡ Found k → named t c n wanted ≡ Found k
 
 pub stay_same : (s : State) (c : ℕ) → Stay s s c
@@ -52,7 +56,8 @@ stay_then s t u c a b = record {
   thread = b.thread ∙ a.thread;
   comp = b.comp ∙ a.comp;
   guarded = λ f g. b.guarded f (a.guarded f g);
-  frame = λ f fixed g. let e : t.frame f ≡ s.frame f = a.frame f fixed g in b.frame f (subst (λ x. IsTrue (is_fixed x)) (sym e) fixed) (a.guarded f g) ∙ e;
+  frame = λ f fixed g. let e : t.frame f ≡ s.frame f = a.frame f fixed g in
+      b.frame f (subst (λ x. IsTrue (is_fixed x)) (sym e) fixed) (a.guarded f g) ∙ e;
   relies = λ f r. b.relies f (a.relies f r);
   usable = λ at k r e. b.usable at k (a.relies at.node r) (a.usable at k r e);
   reached = λ table n at r e. b.reached table n at (a.relies table.frame r) (a.reached table n at r e);
@@ -73,7 +78,8 @@ object_named s o g f h one = by_refs (refs s f) refl
     by_refs zero is = absurd (let z = none is in omega (arith, one, z))
     by_refs (suc n) is = omega (arith, is)
 
-pub place_named : (s : State) (o : ℕ → Bool) (g i f : ℕ) (k : Capability) → IsSound s o → s.place g i ≡ Holds k → 1 ≤ times f (named_by k.kind k.frame) → 0 < refs s f
+pub place_named : (s : State) (o : ℕ → Bool) (g i f : ℕ) (k : Capability) → IsSound s o
+    → s.place g i ≡ Holds k → 1 ≤ times f (named_by k.kind k.frame) → 0 < refs s f
 place_named s o g i f k h at one = by_refs (refs s f) refl
   where
     none : refs s f ≡ 0 → times f (named_by k.kind k.frame) ≡ 0
@@ -160,7 +166,8 @@ module _ (s : State) (o : ℕ → Bool) (c : ℕ) (h : IsSound s o) (below : c <
 
   pub comp_named : 0 < refs s (own_comp s c)
   comp_named = object_named s o (s.core c).thread (own_comp s c) h
-      (subst (λ l. 1 ≤ times (own_comp s c) l) (sym (names_of (s.frame (s.core c).thread) own_thread)) (top_named (thread_of s c).stack own_stack))
+      (subst (λ l. 1 ≤ times (own_comp s c) l) (sym (names_of (s.frame (s.core c).thread) own_thread))
+      (top_named (thread_of s c).stack own_stack))
 
 comp_is : (x : Frame) → IsTrue (fits kind.Comp x) → (x ≡ Kernel (Comp (comp_in x))) × IsTrue (is_fixed x)
 comp_is (Kernel (Comp k)) fit = (refl, refl)
@@ -168,20 +175,24 @@ comp_is _ fit = absurd (false≢true fit)
 
 module _ (s : State) (o : ℕ → Bool) (c : ℕ) (h : IsSound s o) (q : o c ≡ true) where
   -- The frame that a capability names which core c may use, but a range, is guarded for it.
-  pub usable_guarded : (at : Slot) (k : Capability) → named_by k.kind k.frame ≡ k.frame ∷ [] → usable s c at ≡ Some k → IsGuarded s c k.frame
+  pub usable_guarded : (at : Slot) (k : Capability)
+      → named_by k.kind k.frame ≡ k.frame ∷ [] → usable s c at ≡ Some k → IsGuarded s c k.frame
   usable_guarded at k names e = by_place (place_at s at) refl e
     where
       by_wait : (j : Capability) (b : Bool) → (if b then Some j else None) ≡ Some k → (b ≡ true) × (j ≡ k)
       by_wait j true q = (refl, some_inj j k q)
       by_wait j false q = absurd (none_some k q)
 
-      by_place : (p : Place) → place_at s at ≡ p → usable_in p ((s.grace (PlaceOf at.node at.index)).waits c) ≡ Some k → IsGuarded s c k.frame
+      by_place : (p : Place) → place_at s at ≡ p
+          → usable_in p ((s.grace (PlaceOf at.node at.index)).waits c) ≡ Some k → IsGuarded s c k.frame
       by_place Free is e = absurd (none_some k e)
       by_place (Holds j) is e =
           let same : j ≡ k = some_inj j k e in
-          inl (place_named s o at.node at.index k.frame k h (is ∙ ap Holds same) (subst (λ l. 1 ≤ times k.frame l) (sym names) (times_first k.frame [])))
+          inl (place_named s o at.node at.index k.frame k h (is ∙ ap Holds same)
+          (subst (λ l. 1 ≤ times k.frame l) (sym names) (times_first k.frame [])))
       by_place (Quiescing j) is e =
-          let w : ((s.grace (PlaceOf at.node at.index)).waits c ≡ true) × (j ≡ k) = by_wait j ((s.grace (PlaceOf at.node at.index)).waits c) e in
+          let w : ((s.grace (PlaceOf at.node at.index)).waits c ≡ true) × (j ≡ k) =
+          by_wait j ((s.grace (PlaceOf at.node at.index)).waits c) e in
           let a : IsGood s k × WaitsForAll s c (named_by k.kind k.frame) = h.waiting at.node at.index k c (is ∙ ap Quiescing w.1) q w.0 in
           let l : WaitsForAll s c (k.frame ∷ []) = subst (WaitsForAll s c) names a.1 in
           inr l.0
@@ -220,7 +231,8 @@ module _ (s : State) (o : ℕ → Bool) (c : ℕ) (h : IsSound s o) (q : o c ≡
     node = node_fit kind.Pages (s.frame (comp_of s c).pages) refl fields.1;
     guarded = inl (object_named s o (own_comp s c) (comp_of s c).pages h
         (subst (λ l. 1 ≤ times (comp_of s c).pages l) (sym field_names)
-        (let p = times_cons (comp_of s c).pages (comp_of s c).table ((comp_of s c).pages ∷ []) in let q = times_first (comp_of s c).pages [] in omega (arith, p, q))));
+        (let p = times_cons (comp_of s c).pages (comp_of s c).table ((comp_of s c).pages ∷ []) in
+        let q = times_first (comp_of s c).pages [] in omega (arith, p, q))));
   }
 
   -- The leaf in which a slot is reached under a number.
@@ -233,11 +245,13 @@ module _ (s : State) (o : ℕ → Bool) (c : ℕ) (h : IsSound s o) (q : o c ≡
 pub name_parts : (s : State) (c n : ℕ) (wanted : Kind → Bool) (k : Capability) → named s c n wanted ≡ Found k
     → (at : Slot) × (reached s c (own s c n) ≡ Some at) × (j : Capability) × (usable s c at ≡ Some j) × (of_kind wanted j ≡ Found k)
 name_parts s c n wanted k e =
-    let a = then_parts (or_refuse (reached s c (own s c n)) reply.NoSlot) (λ at. and_then (or_refuse (usable s c at) reply.Empty) λ k. of_kind wanted k) k e in
+    let a = then_parts (or_refuse (reached s c (own s c n)) reply.NoSlot)
+    (λ at. and_then (or_refuse (usable s c at) reply.Empty) λ k. of_kind wanted k) k e in
     let b = then_parts (or_refuse (usable s c a.0) reply.Empty) (λ k. of_kind wanted k) k a.2 in
     (a.0, or_found (reached s c (own s c n)) reply.NoSlot a.0 a.1, b.0, or_found (usable s c a.0) reply.Empty b.0 b.1, b.2)
 
-name_from : (s : State) (c n : ℕ) (wanted : Kind → Bool) (at : Slot) (j k : Capability) → reached s c (own s c n) ≡ Some at → usable s c at ≡ Some j
+name_from : (s : State) (c n : ℕ) (wanted : Kind → Bool) (at : Slot) (j k : Capability)
+    → reached s c (own s c n) ≡ Some at → usable s c at ≡ Some j
     → of_kind wanted j ≡ Found k → named s c n wanted ≡ Found k
 name_from s c n wanted at j k r u f =
     ap (λ x. and_then (or_refuse x reply.NoSlot) λ at. and_then (or_refuse (usable s c at) reply.Empty) λ k. of_kind wanted k) r
@@ -260,7 +274,8 @@ own_by s t o u d c h below other a = record { core = core; thread = thread; comp
 
     comp : comp_of t c ≡ comp_of s c
     comp = ap (λ x. comp_in (t.frame (first_of_stack x.stack))) thread
-        ∙ ap comp_in (a.spares.named (own_comp s c) (comp_is (s.frame (own_comp s c)) (comp_fit s o c h below)).1 (comp_named s o c h below))
+        ∙ ap comp_in (a.spares.named (own_comp s c)
+        (comp_is (s.frame (own_comp s c)) (comp_fit s o c h below)).1 (comp_named s o c h below))
 
 -- What core c, in a call, relies on in s, it relies on in t.
 pub record StayIn (s t : State) (c : ℕ) : Type 0 where
@@ -269,7 +284,8 @@ pub record StayIn (s t : State) (c : ℕ) : Type 0 where
   pub frame : (f : ℕ) → IsTrue (is_fixed (s.frame f)) → IsGuarded s c f → t.frame f ≡ s.frame f
   pub relies : (f : ℕ) → Relies s c f → Relies t c f
   pub usable : (at : Slot) (k : Capability) → Relies s c at.node → usable s c at ≡ Some k → usable t c at ≡ Some k
-  pub reached : (table : Named) (n : ℕ) (at : Slot) → Relies s c table.frame → reached s c (Under table n) ≡ Some at → reached t c (Under table n) ≡ Some at
+  pub reached : (table : Named) (n : ℕ) (at : Slot) → Relies s c table.frame
+      → reached s c (Under table n) ≡ Some at → reached t c (Under table n) ≡ Some at
 
 pub stay_in_same : (s : State) (c : ℕ) → StayIn s s c
 stay_in_same s c = record {
@@ -285,19 +301,25 @@ pub stay_in_then : (s t u : State) (c : ℕ) → StayIn s t c → StayIn t u c �
 stay_in_then s t u c a b = record {
   own = record { core = b.own.core ∙ a.own.core; thread = b.own.thread ∙ a.own.thread; comp = b.own.comp ∙ a.own.comp };
   guarded = λ f g. b.guarded f (a.guarded f g);
-  frame = λ f fixed g. let e : t.frame f ≡ s.frame f = a.frame f fixed g in b.frame f (subst (λ x. IsTrue (is_fixed x)) (sym e) fixed) (a.guarded f g) ∙ e;
+  frame = λ f fixed g. let e : t.frame f ≡ s.frame f = a.frame f fixed g in
+      b.frame f (subst (λ x. IsTrue (is_fixed x)) (sym e) fixed) (a.guarded f g) ∙ e;
   relies = λ f r. b.relies f (a.relies f r);
   usable = λ at k r e. b.usable at k (a.relies at.node r) (a.usable at k r e);
   reached = λ table n at r e. b.reached table n at (a.relies table.frame r) (a.reached table n at r e);
 }
 
 -- What another core's change spares stays; u are cores in a call.
-pub stay_in_by : (s t : State) (o u : ℕ → Bool) (d c : ℕ) → IsSound s o → c < s.limits.cores → u c ≡ true → c ≢ d → SparesAll s t u d → StayIn s t c
+pub stay_in_by : (s t : State) (o u : ℕ → Bool) (d c : ℕ) → IsSound s o
+    → c < s.limits.cores → u c ≡ true → c ≢ d → SparesAll s t u d → StayIn s t c
 stay_in_by s t o u d c h below q other a = record {
   own = own_by s t o u d c h below other a;
   guarded = λ f g. a.guarded c f other q g;
   frame = λ f fixed g. a.spares.frame c f other q fixed g;
-  relies = λ f r. record { node = subst (λ x. IsTrue (is_node x)) (sym (a.spares.frame c f other q (node_fixed (s.frame f) r.node) r.guarded)) r.node; guarded = a.guarded c f other q r.guarded };
+  relies = λ f r. record {
+    node = subst (λ x. IsTrue (is_node x))
+        (sym (a.spares.frame c f other q (node_fixed (s.frame f) r.node) r.guarded)) r.node;
+    guarded = a.guarded c f other q r.guarded;
+  };
   usable = λ at k r e. stays at k r e;
   reached = λ table n at r e. reaches table n at r e;
 }
@@ -305,10 +327,12 @@ stay_in_by s t o u d c h below q other a = record {
     stays : (at : Slot) (k : Capability) → Relies s c at.node → usable s c at ≡ Some k → usable t c at ≡ Some k
     stays at k r e = a.spares.place c at.node at.index k other q r.node e
 
-    reaches : (table : Named) (n : ℕ) (at : Slot) → Relies s c table.frame → reached s c (Under table n) ≡ Some at → reached t c (Under table n) ≡ Some at
+    reaches : (table : Named) (n : ℕ) (at : Slot) → Relies s c table.frame
+        → reached s c (Under table n) ≡ Some at → reached t c (Under table n) ≡ Some at
     reaches table n at r e =
         let l = link_of (usable s c (root_slot table.frame n)) (table.found && nat_le n 4095) (n % 64) at e in
-        ap (λ u. if table.found && nat_le n 4095 then slot_in (linked u) (n % 64) else None) (stays (root_slot table.frame n) l.0 r l.1 ∙ sym l.1) ∙ e
+        ap (λ u. if table.found && nat_le n 4095 then slot_in (linked u) (n % 64) else None)
+        (stays (root_slot table.frame n) l.0 r l.1 ∙ sym l.1) ∙ e
 
 -- Where its call is open, a name that it has found stays found.
 stay_by : (s t : State) (o : ℕ → Bool) (c : ℕ) → IsSound s o → o c ≡ true → StayIn s t c → Stay s t c
@@ -333,7 +357,8 @@ stay_by s t o c h q a = record {
 pub event_stay_in : (setting : Setting) → IsSetting setting → (e : Event) (events : List Event) → IsRun setting (e ∷ events)
     → (c : ℕ) → c ≢ core_of e → inside_of events c ≡ true → StayIn (after setting events) (after setting (e ∷ events)) c
 event_stay_in setting lim e events run c other inside =
-    stay_in_by (after setting events) (after setting (e ∷ events)) (opened events) (inside_of events) (core_of e) c (runs_sound setting lim events run.0)
+    stay_in_by (after setting events) (after setting (e ∷ events)) (opened events)
+    (inside_of events) (core_of e) c (runs_sound setting lim events run.0)
     (inside_facts setting events run.0 c inside).1 inside other (event_spares setting lim e events run)
 
 open_in : (p : Phase) → IsTrue (is_open p) → is_in p ≡ true
@@ -350,5 +375,6 @@ event_stay setting lim e events run c other is =
 pub event_own : (setting : Setting) → IsSetting setting → (e : Event) (events : List Event) → IsRun setting (e ∷ events)
     → (c : ℕ) → c < setting.cores → c ≢ core_of e → OwnStay (after setting events) (after setting (e ∷ events)) c
 event_own setting lim e events run c below other =
-    own_by (after setting events) (after setting (e ∷ events)) (opened events) (inside_of events) (core_of e) c (runs_sound setting lim events run.0)
+    own_by (after setting events) (after setting (e ∷ events)) (opened events)
+    (inside_of events) (core_of e) c (runs_sound setting lim events run.0)
     (subst (λ l. c < l.cores) (sym (limits_stay setting events)) below) other (event_spares setting lim e events run)

@@ -1,7 +1,8 @@
 -- The words of a frame past its 64: no step is on one, so they stay as at the start, where they are 0, and carry no mark.
 use Rattle.std.specs.List.{slice_get}
 use Rattle.std.specs.Prelude.{if◌then◌else◌}
-use Rattle.std.proofs.Common.{◌≡◌, Bool, true, false, Option, Some, None, refl, ℕ, ◌-◌, ◌*◌, ◌==◌, arith, ◌≢◌, ◌+◌, sym, nat_lt, [], ◌∷◌, length, ap, ◌∙◌, ◌≤◌}
+use Rattle.std.proofs.Common.{◌≡◌, Bool, true, false, Option, Some, None, refl, ℕ, ◌-◌, ◌*◌}
+use Rattle.std.proofs.Common.{◌==◌, arith, ◌≢◌, ◌+◌, sym, nat_lt, [], ◌∷◌, length, ap, ◌∙◌, ◌≤◌}
 use Rattle.std.proofs.lemmas.Bool.{ltb-true, eqb-true}
 use Rattle.std.proofs.lemmas.Option.{slice_get_past}
 use Rattle.spk_nums.specs.Capability.{Capability}

@@ -3,7 +3,8 @@
 use Rattle.core_invariant.proofs.Bare.{counts_bare}
 use Rattle.lent_words.proofs.Lent.{may_keep, unlent_value, unlent_word, node_keeps_none}
 use Rattle.std.specs.Prelude.{if◌then◌else◌, pos, All}
-use Rattle.std.proofs.Common.{◌≡◌, List, Bool, true, false, Some, None, refl, ℕ, ◌<◌, ◌^◌, ◌==◌, arith, ◌≢◌, ◌+◌, sym, ◌&&◌, [], ◌∷◌, ap, ◌∙◌, subst, ◌≤◌, IsTrue, ◌⊎◌, inl, inr, max, map, ◌+ℤ◌}
+use Rattle.std.proofs.Common.{◌≡◌, List, Bool, true, false, Some, None, refl, ℕ, ◌<◌, ◌^◌, ◌==◌, arith, ◌≢◌, ◌+◌}
+use Rattle.std.proofs.Common.{sym, ◌&&◌, [], ◌∷◌, ap, ◌∙◌, subst, ◌≤◌, IsTrue, ◌⊎◌, inl, inr, max, map, ◌+ℤ◌}
 use Rattle.std.proofs.lemmas.List.Elements.{All-nil, All-cons, All-head, All-tail}
 use Rattle.std.proofs.lemmas.Bool.{ne_eqb, eqb-true, cases_eq, false≢true}
 use Rattle.spk_nums.specs.Capability.{Capability}
@@ -37,7 +38,8 @@ use Rattle.kernel_rules.specs.Laws.{calls_counted}
 use Rattle.kernel_rules.specs.References.{refs, place_names, times}
 use Rattle.kernel_rules.specs.Relies.{is_node}
 use Rattle.kernel_rules.specs.Rules.{Found, IsFoundAnd}
-use Rattle.kernel_rules.specs.State.{Blank, Kernel, State, put, comp_of, thread_in, thread_of, first_of_stack, Object, FrameOf, with_frame, Thing, NumberOf, comp_in, Holds, PlaceOf, with_place}
+use Rattle.kernel_rules.specs.State.{Blank, Kernel, State, put, comp_of, thread_in, thread_of, first_of_stack, Object}
+use Rattle.kernel_rules.specs.State.{FrameOf, with_frame, Thing, NumberOf, comp_in, Holds, PlaceOf, with_place}
 use Rattle.trace_laws.proofs.AloneCalls.{ok_first}
 use Rattle.kernel_history.proofs.Inside.{decided-inside}
 use Rattle.kernel_history.proofs.Names.{cases_word, same_word-other}
@@ -82,7 +84,8 @@ use Rattle.kept_words.proofs.WordFrames.{ReadsAlike, StaysSaid, word_stays, Same
 use Rattle.step_ways.proofs.Writes.{same_marks, decides_writing}
 use Rattle.core_invariant.specs.CountWords.{IsWithin}
 use Rattle.core_invariant.specs.Holding.{holds_counts, settled_by, settled, keeps}
-use Rattle.core_invariant.specs.Knows.{AreDuesApart, HasFound, own_in, phase_at, due_of, KnowsUndecided, KnowsMaking, KnowsMakingAt, KnowsUnmark, WorksIn, MayFill, HasStored}
+use Rattle.core_invariant.specs.Knows.{AreDuesApart, HasFound, own_in, phase_at, due_of, KnowsUndecided}
+use Rattle.core_invariant.specs.Knows.{KnowsMaking, KnowsMakingAt, KnowsUnmark, WorksIn, MayFill, HasStored}
 use Rattle.core_invariant.specs.Invariant.{holds_at, holds_in, Invariant, holds, held_by, holds_making, times_of, SumIs, counted_in}
 use Rattle.core_invariant.specs.Words.{PlaceIs, count_room, IsFrameWord, WordIs}
 use Rattle.look_invariant.proofs.Findings.{found_named, own_is, way_gone}
@@ -97,7 +100,8 @@ use Rattle.place_invariant.proofs.Vacancy.{IsVacant}
 use Rattle.frame_invariant.proofs.Beyond.{free_beyond}
 use Rattle.frame_invariant.proofs.MakeCalls as calls
 use Rattle.frame_invariant.proofs.MakeCalls.{IsObjectCall}
-use Rattle.frame_invariant.proofs.NewObjects.{made_value, made_fits, made_cap, made_caps, cap_names, made_ends, SaysNew, says_new, bare_new, PlaceReady, place_ready, ready_there, word_new, new_refs}
+use Rattle.frame_invariant.proofs.NewObjects.{made_value, made_fits, made_cap, made_caps, cap_names, made_ends, SaysNew}
+use Rattle.frame_invariant.proofs.NewObjects.{says_new, bare_new, PlaceReady, place_ready, ready_there, word_new, new_refs}
 use Rattle.frame_invariant.proofs.Makes.{load_good, mark_good, store_good, put_lost, put_of_call}
 
 -- Each frame of a list without repetition occurs once, and no other does.
@@ -442,7 +446,8 @@ module _ (setup : Setting) (setting : IsSetting setup) (cores : ℕ → Core) (t
 
     -- the word of the target
     word_now : WordIs s' (times_of setup (e ∷ t)) (EntryAt node index) new
-    word_now = node_word s'.limits.frames (count_room s') (s'.frame node) (s'.place node index) (stamp setup (e ∷ t) (PlaceOf node index)) index new
+    word_now = node_word s'.limits.frames (count_room s') (s'.frame node)
+        (s'.place node index) (stamp setup (e ∷ t) (PlaceOf node index)) index new
         (subst (λ x. IsTrue (is_node x)) (sym (frame_there node (λ h. apart (sym h)))) in_node)
         (subst (λ p. PlaceIs s'.limits.frames p (stamp setup (e ∷ t) (PlaceOf node index)) (entry_of_word new)) (sym place_target) (
           new_says ∙ ap (λ x. Some (Held x)) knows.cap,

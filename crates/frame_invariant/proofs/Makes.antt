@@ -3,7 +3,8 @@
 use Rattle.core_invariant.proofs.Bare.{as_none, counts_bare}
 use Rattle.lent_words.proofs.Lent.{may_keep, unlent_word, lent_elsewhere}
 use Rattle.std.specs.Prelude.{if◌then◌else◌, List}
-use Rattle.std.proofs.Common.{◌≡◌, ◌≤◌, Bool, true, false, cond, Option, Some, None, refl, ℕ, ◌<◌, ◌^◌, ◌==◌, arith, ◌≢◌, ◌+◌, sym, nat_lt, ◌&&◌, [], ◌∷◌, ◌++◌, length, ap, ◌∙◌, subst, IsTrue, inl, inr, not, is_some, map}
+use Rattle.std.proofs.Common.{◌≡◌, ◌≤◌, Bool, true, false, cond, Option, Some, None, refl, ℕ, ◌<◌, ◌^◌, ◌==◌, arith, ◌≢◌, ◌+◌}
+use Rattle.std.proofs.Common.{sym, nat_lt, ◌&&◌, [], ◌∷◌, ◌++◌, length, ap, ◌∙◌, subst, IsTrue, inl, inr, not, is_some, map}
 use Rattle.std.proofs.lemmas.Bool.{lt-ltb, eqb-true, eqb-false, ltb-false, cases_eq, eq-eqb, false≢true}
 use Rattle.spk_nums.specs.Capability.{Capability}
 use Rattle.spk_nums.specs.Setting.{Setting, IsSetting}
@@ -31,7 +32,8 @@ use Rattle.kernel_rules.specs.Alone.{alone}
 use Rattle.kernel_rules.specs.CallRelation.{rule_of, change_of, are_calls_spent}
 use Rattle.kernel_rules.specs.CapabilityCalls.{is_frame, is_blank}
 use Rattle.kernel_rules.specs.Rules.{Refused, RuleMay}
-use Rattle.kernel_rules.specs.State.{Untyped, Blank, Table, Pages, User, Kernel, State, put, Leaf, Pleaf, Comp, Thread, Tcap, Frame, PlaceOf}
+use Rattle.kernel_rules.specs.State.{Untyped, Blank, Table, Pages, User, Kernel, State}
+use Rattle.kernel_rules.specs.State.{put, Leaf, Pleaf, Comp, Thread, Tcap, Frame, PlaceOf}
 use Rattle.trace_laws.proofs.AloneCalls.{refused_first}
 use Rattle.trace_laws.proofs.Carries.{Carries}
 use Rattle.kernel_history.proofs.Names.{same_word-other}
@@ -75,7 +77,8 @@ use Rattle.step_ways.proofs.Loads.{decides_on, step_to, OnlyLooks, next_at, load
 use Rattle.step_ways.proofs.Refusals.{GoodTook, ticks_at, refuses_busy, refuses_raced, raced_leaving, not_spent}
 use Rattle.step_ways.proofs.Writes.{stores_on}
 use Rattle.core_invariant.specs.Holding.{holds_counts, Holding, settled_by, settled, keeps}
-use Rattle.core_invariant.specs.Knows.{phase_at, due_of, KnowsUndecided, KnowsMaking, MakesBy, KnowsMakingAt, KnowsUnmark, blank_word, HasStored, HasBlank}
+use Rattle.core_invariant.specs.Knows.{phase_at, due_of, KnowsUndecided, KnowsMaking, MakesBy}
+use Rattle.core_invariant.specs.Knows.{KnowsMakingAt, KnowsUnmark, blank_word, HasStored, HasBlank}
 use Rattle.core_invariant.specs.Invariant.{holds_at, holds_in, Invariant, done_by, holds, held_by, holds_making}
 use Rattle.core_invariant.specs.Words.{IsFrameWord, count_room}
 use Rattle.look_invariant.proofs.Lookups.{near_way}

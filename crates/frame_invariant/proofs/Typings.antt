@@ -2,7 +2,8 @@
 -- frame a user frame or a blank kernel frame.
 use Rattle.std.specs.Prelude.{IsSome}
 use Rattle.std.proofs.lemmas.List.Elements.{All-nil}
-use Rattle.std.proofs.Common.{◌≡◌, ◌≢◌, inl, inr, ℕ, ◌||◌, map, ◌++◌, ◌+◌, ◌^◌, ◌<◌, ◌≤◌, ◌==◌, ◌&&◌, not, Bool, true, false, List, [], ◌∷◌, Option, Some, None, arith, refl, sym, ◌∙◌, ap, subst, IsTrue, if◌then◌else◌}
+use Rattle.std.proofs.Common.{◌≡◌, ◌≢◌, inl, inr, ℕ, ◌||◌, map, ◌++◌, ◌+◌, ◌^◌, ◌<◌, ◌≤◌, ◌==◌, ◌&&◌, not, Bool, true, false}
+use Rattle.std.proofs.Common.{List, [], ◌∷◌, Option, Some, None, arith, refl, sym, ◌∙◌, ap, subst, IsTrue, if◌then◌else◌}
 use Rattle.std.proofs.lemmas.Bool.{eqb-true, eqb-false, eq-eqb, cases_eq, lt-ltb, false≢true}
 use Rattle.spk_nums.specs.Capability.{Capability}
 use Rattle.spk_nums.specs.Setting.{Setting, IsSetting}
@@ -19,7 +20,8 @@ use Rattle.frame_words.specs.declared.frame_word.FrameWord.{FrameWord}
 use Rattle.frame_words.proofs.FrameLemmas.{spelling}
 use Rattle.word_map.specs.Word.{Word, EntryAt, FrameAt, CountAt, CoreAt, FlushAt, LiveAt, ClockAt}
 use Rattle.word_map.specs.Moves.{Move, LoadOf, CompareOf, word_of, left_of, told_of}
-use Rattle.kernel_rules.specs.State.{Place, PlaceOf, NumberOf, Frame, Untyped, User, Kernel, Blank, Thing, State, put, with_frame, thread_in, comp_in}
+use Rattle.kernel_rules.specs.State.{Place, PlaceOf, NumberOf, Frame, Untyped, User, Kernel}
+use Rattle.kernel_rules.specs.State.{Blank, Thing, State, put, with_frame, thread_in, comp_in}
 use Rattle.kernel_rules.specs.References.{refs, frame_names, times}
 use Rattle.kernel_rules.specs.Access.{Slot, found, own}
 use Rattle.kernel_rules.specs.Rules.{Change, Cause, Found, Does, RuleMay, outcome, unless, first_of, leaves, IsFoundAnd}
@@ -66,7 +68,8 @@ use Rattle.core_invariant.specs.Holding.{holds_counts, settled_by, settled}
 use Rattle.core_invariant.specs.Words.{IsFrameWord, WordIs, count_room}
 use Rattle.core_invariant.specs.Knows.{HasFound, own_in, due_of, TypesBy, HasMet, KnowsUndecided, WorksIn, phase_at, untypes}
 use Rattle.core_invariant.specs.Invariant.{holds_at, holds_in, holds, held_by, times_of, counted_in, Invariant}
-use Rattle.kept_words.proofs.Calm.{counts, calm_counted, own_works, counted_rises, room_rises, IsUntimed, plain_begins, plain_stamp, plain_flush, plain_exit}
+use Rattle.kept_words.proofs.Calm.{counts, calm_counted, own_works, counted_rises, room_rises}
+use Rattle.kept_words.proofs.Calm.{IsUntimed, plain_begins, plain_stamp, plain_flush, plain_exit}
 use Rattle.kept_knowledge.proofs.Carries.{names_on, own_kept}
 use Rattle.kept_words.proofs.CountSums.{counted_refs}
 use Rattle.step_ways.proofs.Good.{spares_other}

@@ -1,5 +1,6 @@
 -- One spelling for each core word.
-use Rattle.std.proofs.Common.{◌≡◌, ℕ, Bool, true, false, ◌+◌, ◌*◌, ◌/◌, ◌%◌, ◌^◌, ◌<◌, nat_lt, ◌==◌, Option, Some, IfSome, refl, subst, arith}
+use Rattle.std.proofs.Common.{◌≡◌, ℕ, Bool, true, false, ◌+◌, ◌*◌, ◌/◌, ◌%◌, ◌^◌, ◌<◌}
+use Rattle.std.proofs.Common.{nat_lt, ◌==◌, Option, Some, IfSome, refl, subst, arith}
 use Rattle.std.proofs.lemmas.Bool.{lt-ltb, ltb-true, eqb-true, eqb-false}
 use Rattle.spk_nums.proofs.Choices.{kept}
 use Rattle.spk_nums.proofs.OneSpelling.{spelling_reads, spelling_spells}
@@ -7,7 +8,8 @@ use Rattle.spk_nums.specs.Spelling.{IsOneSpelling}
 use Rattle.frame_words.specs.Core.{CoreFits, word_of_core, core_of_word}
 use Rattle.frame_words.specs.declared.core_word.CoreWord.{CoreWord}
 
-reads_bit : (b : Bool) (s : ℕ) → s < 2 ^ 28 → core_of_word (word_of_core (record { inside = b; stamp = s })) ≡ Some (record { inside = b; stamp = s })
+reads_bit : (b : Bool) (s : ℕ) → s < 2 ^ 28
+    → core_of_word (word_of_core (record { inside = b; stamp = s })) ≡ Some (record { inside = b; stamp = s })
 unfolding word_of_core core_of_word
 reads_bit true s h =
     let inside : (1 + 2 * s) % 2 ≡ 1 = omega arith in

@@ -1,11 +1,13 @@
 -- One spelling for each count word.
-use Rattle.std.proofs.Common.{◌≡◌, ◌≢◌, true, ℕ, ◌+◌, ◌-◌, ◌*◌, ◌/◌, ◌%◌, ◌^◌, ◌<◌, ◌≤◌, nat_lt, ◌==◌, Option, Some, None, IfSome, refl, subst, arith}
+use Rattle.std.proofs.Common.{◌≡◌, ◌≢◌, true, ℕ, ◌+◌, ◌-◌, ◌*◌, ◌/◌, ◌%◌, ◌^◌, ◌<◌, ◌≤◌}
+use Rattle.std.proofs.Common.{nat_lt, ◌==◌, Option, Some, None, IfSome, refl, subst, arith}
 use Rattle.std.specs.Prelude.{ℤ, pos, negsuc}
 use Rattle.std.proofs.lemmas.Bool.{ne_eqb, lt-ltb, le-ltb, ltb-true, ltb-false, eqb-true, eqb-false}
 use Rattle.spk_nums.proofs.Choices.{kept, chosen}
 use Rattle.spk_nums.proofs.OneSpelling.{spelling_reads, spelling_spells}
 use Rattle.spk_nums.specs.Spelling.{IsOneSpelling}
-use Rattle.frame_words.specs.Count.{HoldFits, NumberFits, CountFits, number_of_count, count_of_number, number_of_hold, hold_of_number, word_of_count, count_of, count_of_word}
+use Rattle.frame_words.specs.Count.{HoldFits, NumberFits, CountFits, number_of_count, count_of_number}
+use Rattle.frame_words.specs.Count.{number_of_hold, hold_of_number, word_of_count, count_of, count_of_word}
 use Rattle.frame_words.specs.declared.count_word.CountWord.{CountWord}
 use Rattle.frame_words.specs.declared.count_word.Hold.{Hold}
 use Rattle.frame_words.specs.declared.count_word.Hold.TheVariants.{Unheld, Pinned, Closed}
@@ -106,7 +108,8 @@ record CountFrom (n : ℕ) (z : ℤ) : Type 0 where
   number : number_of_count z ≡ n
 
 count_from : (n : ℕ) → n < 2 ^ 31 → CountFrom n (count_of_number n)
-count_from n small = chosen (nat_lt n (2 ^ 30)) _ _ (count_of_number n) refl (λ low f. below (ltb-true n (2 ^ 30) low) f) (λ high f. above (ltb-false n (2 ^ 30) high) f)
+count_from n small = chosen (nat_lt n (2 ^ 30)) _ _ (count_of_number n) refl
+    (λ low f. below (ltb-true n (2 ^ 30) low) f) (λ high f. above (ltb-false n (2 ^ 30) high) f)
   where
     below : n < 2 ^ 30 → negsuc (2 ^ 30 - 1 - n) ≡ count_of_number n → CountFrom n (count_of_number n)
     below low f = subst (CountFrom n) f (record { in_range = omega arith; number = omega arith })
@@ -132,7 +135,8 @@ reads v h =
 Spells : ℕ → CountWord → Type 0
 Spells w v = CountFits v × (word_of_count v ≡ w)
 
-spells_fields : (o : Option Hold) (w : ℕ) (v : CountWord) → hold_of_number (w / 2 ^ 59) ≡ o → count_of o (count_of_number (w / 2 ^ 28 % 2 ^ 31)) (w % 2 ^ 28) ≡ Some v → Spells w v
+spells_fields : (o : Option Hold) (w : ℕ) (v : CountWord) → hold_of_number (w / 2 ^ 59) ≡ o
+    → count_of o (count_of_number (w / 2 ^ 28 % 2 ^ 31)) (w % 2 ^ 28) ≡ Some v → Spells w v
 unfolding Spells word_of_count
 spells_fields None w v of_hold h = absurd (cc)
 spells_fields (Some k) w v of_hold h =

@@ -65,7 +65,9 @@ reads v h =
 Spells : ℕ → FrameWord → Type 0
 Spells w v = FrameFits v × (word_of_frame v ≡ w)
 
-spells_fields : (a : Option FrameKind) (b : Option Obj) (c : Option (Option ℕ)) (w : ℕ) (v : FrameWord) → frame_kind_of_number (w % 2 ^ 2) ≡ a → object_of_number (w / 2 ^ 2 % 2 ^ 4) ≡ b → mark_of_number (w / 2 ^ 6) ≡ c → frame_of a b c ≡ Some v → Spells w v
+spells_fields : (a : Option FrameKind) (b : Option Obj) (c : Option (Option ℕ)) (w : ℕ) (v : FrameWord)
+    → frame_kind_of_number (w % 2 ^ 2) ≡ a → object_of_number (w / 2 ^ 2 % 2 ^ 4) ≡ b
+    → mark_of_number (w / 2 ^ 6) ≡ c → frame_of a b c ≡ Some v → Spells w v
 unfolding Spells word_of_frame
 spells_fields (Some k) (Some o) (Some m) w v of_kind of_object of_mark h =
     let (holds, value) = kept (nat_lt (number_of_object o) (end_of_object k)) (record { kind = k; object = o; mark = m }) v h in

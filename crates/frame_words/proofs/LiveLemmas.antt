@@ -1,5 +1,6 @@
 -- One spelling for each liveness word.
-use Rattle.std.proofs.Common.{◌≡◌, ◌≢◌, ℕ, ◌+◌, ◌*◌, ◌/◌, ◌%◌, ◌^◌, ◌<◌, ◌==◌, ◌&&◌, nat_lt, nat_le, Option, Some, IfSome, refl, subst, arith}
+use Rattle.std.proofs.Common.{◌≡◌, ◌≢◌, ℕ, ◌+◌, ◌*◌, ◌/◌, ◌%◌, ◌^◌, ◌<◌, ◌==◌, ◌&&◌}
+use Rattle.std.proofs.Common.{nat_lt, nat_le, Option, Some, IfSome, refl, subst, arith}
 use Rattle.std.proofs.lemmas.Bool.{and_parts, ne_eqb, lt-ltb, le-leb, ltb-true, leb-true, eqb-true}
 use Rattle.spk_nums.proofs.Choices.{kept, chosen}
 use Rattle.spk_nums.proofs.OneSpelling.{spelling_reads, spelling_spells}
@@ -57,7 +58,8 @@ spells_live w v tag h =
     let (least, frame) = and_parts (nat_le 1 e) _ tests in
     subst (Spells w) value ((leb-true 1 e least, omega arith, ltb-true f 512 frame), omega arith)
 
-spells_closing : (w : ℕ) (v : LiveWord) → w % 2 ^ 2 ≡ 2 → w / 2 ^ 18 % 2 ^ 9 ≡ 0 → closing_of (w / 2 ^ 2 % 2 ^ 16) (w / 2 ^ 27) ≡ Some v → Spells w v
+spells_closing : (w : ℕ) (v : LiveWord) → w % 2 ^ 2 ≡ 2 → w / 2 ^ 18 % 2 ^ 9 ≡ 0
+    → closing_of (w / 2 ^ 2 % 2 ^ 16) (w / 2 ^ 27) ≡ Some v → Spells w v
 unfolding Spells word_of_live
 spells_closing w v tag between h =
     let e : ℕ = w / 2 ^ 2 % 2 ^ 16 in
@@ -65,7 +67,8 @@ spells_closing w v tag between h =
     let (core, value) = kept (nat_lt c 8) (Closing e c) v h in
     subst (Spells w) value ((omega arith, ltb-true c 8 core), omega arith)
 
-spells_dead : (w : ℕ) (v : LiveWord) → w % 2 ^ 2 ≡ 3 → w / 2 ^ 18 % 2 ^ 18 ≡ 0 → dead_of (w / 2 ^ 2 % 2 ^ 16) (w / 2 ^ 36) ≡ Some v → Spells w v
+spells_dead : (w : ℕ) (v : LiveWord) → w % 2 ^ 2 ≡ 3 → w / 2 ^ 18 % 2 ^ 18 ≡ 0
+    → dead_of (w / 2 ^ 2 % 2 ^ 16) (w / 2 ^ 36) ≡ Some v → Spells w v
 unfolding Spells word_of_live
 spells_dead w v tag between h =
     let e : ℕ = w / 2 ^ 2 % 2 ^ 16 in
@@ -83,9 +86,11 @@ spells w v h =
     (λ _ h1. chosen (w % 2 ^ 2 == 1) _ _ (Some v) h1
     (λ e f. spells_live w v (eqb-true (w % 2 ^ 2) 1 e) f)
     (λ _ h2. chosen (w % 2 ^ 2 == 2 && w / 2 ^ 18 % 2 ^ 9 == 0) _ _ (Some v) h2
-    (λ e f. let p = and_parts (w % 2 ^ 2 == 2) (w / 2 ^ 18 % 2 ^ 9 == 0) e in spells_closing w v (eqb-true (w % 2 ^ 2) 2 p.0) (eqb-true (w / 2 ^ 18 % 2 ^ 9) 0 p.1) f)
+    (λ e f. let p = and_parts (w % 2 ^ 2 == 2) (w / 2 ^ 18 % 2 ^ 9 == 0) e in
+    spells_closing w v (eqb-true (w % 2 ^ 2) 2 p.0) (eqb-true (w / 2 ^ 18 % 2 ^ 9) 0 p.1) f)
     (λ _ h3. chosen (w % 2 ^ 2 == 3 && w / 2 ^ 18 % 2 ^ 18 == 0) _ _ (Some v) h3
-    (λ e f. let p = and_parts (w % 2 ^ 2 == 3) (w / 2 ^ 18 % 2 ^ 18 == 0) e in spells_dead w v (eqb-true (w % 2 ^ 2) 3 p.0) (eqb-true (w / 2 ^ 18 % 2 ^ 18) 0 p.1) f)
+    (λ e f. let p = and_parts (w % 2 ^ 2 == 3) (w / 2 ^ 18 % 2 ^ 18 == 0) e in
+    spells_dead w v (eqb-true (w % 2 ^ 2) 3 p.0) (eqb-true (w / 2 ^ 18 % 2 ^ 18) 0 p.1) f)
     (λ _ f. absurd (cc)))))
 
 small : (v : LiveWord) → LiveFits v → word_of_live v < 2 ^ 64

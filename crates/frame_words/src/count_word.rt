@@ -2,7 +2,8 @@
 
 ghost use Rattle.std.specs.Prelude.{◌≡◌, ◌<◌, ◌^◌, IfSome, Some};
 ghost use Rattle.spk_nums.specs.Spelling.{IsOneSpelling};
-ghost use Rattle.frame_words.specs.Count.{CountFits, NumberFits, number_of_count, count_of_number, number_of_hold, hold_of_number, word_of_count, count_of_word};
+ghost use Rattle.frame_words.specs.Count.{CountFits, NumberFits, number_of_count, count_of_number};
+ghost use Rattle.frame_words.specs.Count.{number_of_hold, hold_of_number, word_of_count, count_of_word};
 ghost use Rattle.frame_words.specs.declared.count_word.CountWord.{CountWord};
 
 use spk_nums::{CoreNo, Stamp};

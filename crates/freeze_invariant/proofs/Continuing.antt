@@ -1,6 +1,8 @@
--- Where a sweep goes on when its counters are frozen and its scans are over: its object is looked at, or, where it has none, its draw comes.
+-- Where a sweep goes on when its counters are frozen and its scans are over: its object is looked at, or, where it has none, its draw
+-- comes.
 use Rattle.std.specs.Prelude.{if◌then◌else◌}
-use Rattle.std.proofs.Common.{◌≡◌, ◌≢◌, ℕ, ◌+◌, ◌<◌, ◌≤◌, ◌==◌, ◌++◌, map, length, Bool, true, false, List, [], ◌∷◌, Option, Some, None, arith, refl, sym, ◌∙◌, ap, subst}
+use Rattle.std.proofs.Common.{◌≡◌, ◌≢◌, ℕ, ◌+◌, ◌<◌, ◌≤◌, ◌==◌, ◌++◌, map, length, Bool, true, false}
+use Rattle.std.proofs.Common.{List, [], ◌∷◌, Option, Some, None, arith, refl, sym, ◌∙◌, ap, subst}
 use Rattle.std.proofs.lemmas.Bool.{eqb-true, false≢true}
 use Rattle.spk_nums.specs.Setting.{Setting}
 use Rattle.spk_nums.specs.Capability.{Capability}
@@ -108,13 +110,15 @@ module _ (setup : Setting) (c table : ℕ) (a : ActiveCall) (no_counts : a.count
       → KnowsWork setup u c table (next_at a a.found (Undecided (next_work core 0 (untype_act (draws swept)))))
       (next_work core 0 (untype_act (draws swept)))
   done_knows u swept knows apart = knows_next setup u c table
-      (next_at a a.found (Undecided (next_work core 0 (untype_act (draws swept))))) core (untype_act (draws swept)) (owned_dues swept.owned) own
+      (next_at a a.found (Undecided (next_work core 0 (untype_act (draws swept)))))
+      core (untype_act (draws swept)) (owned_dues swept.owned) own
       (record { untypes = untypes (draws swept) refl; core = own; at = knows })
       (ap (λ (xs : List Acquired). map due_of xs ++ owned_dues swept.owned) (sym no_counts)) apart 0
       (ap (λ (xs : List Acquired). length xs) (sym no_counts)) refl refl
 
   -- What comes after the scans.
-  module _ (g : ℕ) (v : FrameWord) (b : ℕ) (same_core : b ≡ c) (kept : List CountWord) (o : Owned) (at : SweepAt) (same : g ≡ f) (met : SaysTyped word v)
+  module _ (g : ℕ) (v : FrameWord) (b : ℕ) (same_core : b ≡ c) (kept : List CountWord)
+      (o : Owned) (at : SweepAt) (same : g ≡ f) (met : SaysTyped word v)
       (fits : AreKept kept) (owned_by : OwnedBy v.object o) where
     abbrev after : Sweep
     after = sweeping g v b kept o (at_after at None (empty_next v.object))

@@ -1,7 +1,10 @@
--- The steps by which a call that makes a frame untyped freezes its counters: the load, which finds another core's mark or a count that no core
--- holds; and the compare, which is lost to another core or freezes the counter. After the last, references refuse the call, or the scan begins.
+-- The steps by which a call that makes a frame untyped freezes its counters: the load, which finds another core's mark or a count that no
+-- core holds; and the compare, which is lost to another core or freezes the counter. After the last, references refuse the call, or the
+-- scan begins.
 use Rattle.std.specs.Prelude.{if◌then◌else◌, min, All}
-use Rattle.std.proofs.Common.{◌≡◌, ◌≢◌, inl, inr, ℕ, ℤ, pos, negsuc, ◌+ℤ◌, ◌+◌, ◌^◌, ◌<◌, ◌≤◌, ◌==◌, ◌++◌, map, max, nat_lt, length, slice_get, Bool, true, false, List, [], ◌∷◌, Option, Some, None, IsTrue, arith, refl, sym, ◌∙◌, ap, subst, lt-ltb}
+use Rattle.std.proofs.Common.{◌≡◌, ◌≢◌, inl, inr, ℕ, ℤ, pos, negsuc, ◌+ℤ◌, ◌+◌, ◌^◌, ◌<◌, ◌≤◌, ◌==◌}
+use Rattle.std.proofs.Common.{◌++◌, map, max, nat_lt, length, slice_get, Bool, true, false, List, []}
+use Rattle.std.proofs.Common.{◌∷◌, Option, Some, None, IsTrue, arith, refl, sym, ◌∙◌, ap, subst, lt-ltb}
 use Rattle.std.proofs.lemmas.Bool.{eqb-true, eqb-false, eq-eqb, false≢true, ltb-true, ltb-false}
 use Rattle.std.proofs.lemmas.Int.{ints}
 use Rattle.std.proofs.lemmas.List.Elements.{All-nil, All-cons}
@@ -142,7 +145,8 @@ module _ (setup : Setting) (setting : IsSetting setup) (cores : ℕ → Core) (t
   )
 
   -- a step on one of its counters is one of the call
-  pub counter_near : (move : Move) (d : ℕ) → word_of move ≡ CountAt w.frame d → IsTrue (Rattle.kernel_history.specs.Discipline.counts_references a.call)
+  pub counter_near : (move : Move) (d : ℕ) → word_of move ≡ CountAt w.frame d
+      → IsTrue (Rattle.kernel_history.specs.Discipline.counts_references a.call)
   counter_near move d at = calls.untype_counts a.call a.found f sweep_is
 
   pub near_counter : (d : ℕ) → Rattle.kernel_history.specs.Footprint.IsNearIn c a.call (CountAt w.frame d) (state_after setup t)
@@ -230,7 +234,8 @@ module _ (setup : Setting) (setting : IsSetting setup) (cores : ℕ → Core) (t
         (next_bare setup setting cores t stands c here a active f core word w stage_is has (length kept) (omega arith)) mark tt
 
     free_good : (count : ℤ) (stamp : ℕ) → count_of_word was ≡ Some (unheld count stamp)
-        → GoodTook setup cores t c load (landed a (Goes (Act (untype_act (untyping_by f core word (sweeping g v b kept o (Compare count stamp)))))))
+        → GoodTook setup cores t c load
+        (landed a (Goes (Act (untype_act (untyping_by f core word (sweeping g v b kept o (Compare count stamp)))))))
     free_good count stamp shown lands =
         let e : Step = step_to c None load was None None in
         let is_open = calls.is_open setup setting cores t stands c here a active m stage_is has in

@@ -1,7 +1,8 @@
 -- The step of a retype to untyped that scans a core's word: it is refused where the core may still use the frame.
 use Rattle.std.specs.Prelude.{if◌then◌else◌}
 use Rattle.std.specs.List.{list_any}
-use Rattle.std.proofs.Common.{◌≡◌, ◌≢◌, ◌⊎◌, inl, inr, ℕ, ◌+◌, ◌<◌, ◌≤◌, ◌==◌, ◌&&◌, ◌||◌, nat_lt, nat_le, length, Bool, true, false, List, [], ◌∷◌, Option, Some, None, IsTrue, arith, refl, sym, ◌∙◌, ap, subst}
+use Rattle.std.proofs.Common.{◌≡◌, ◌≢◌, ◌⊎◌, inl, inr, ℕ, ◌+◌, ◌<◌, ◌≤◌, ◌==◌, ◌&&◌, ◌||◌, nat_lt, nat_le, length, Bool}
+use Rattle.std.proofs.Common.{true, false, List, [], ◌∷◌, Option, Some, None, IsTrue, arith, refl, sym, ◌∙◌, ap, subst}
 use Rattle.std.proofs.lemmas.Bool.{cases_eq, eq-eqb, eqb-true, false≢true, ltb-true, ltb-false, leb-true, leb-false}
 use Rattle.spk_nums.specs.Setting.{Setting, IsSetting}
 use Rattle.spk_nums.specs.declared.calls.Call.{Call}
@@ -35,7 +36,8 @@ use Rattle.call_plans.specs.GoesBy.{own_pages}
 use Rattle.plan_ways.proofs.Ways.{asked_left}
 use Rattle.stage_quiet.specs.declared.quiet.Quiet.{Quiet}
 use Rattle.stage_quiet.specs.declared.quiet.Quiet.TheVariants.{AtCore, AtFlush}
-use Rattle.stage_quiet.specs.Scan.{next_other, core_scan, flush_scan, core_refuses, flush_refuses, scan_end, scan_after, quiet_next, quiet_end, quiet_after}
+use Rattle.stage_quiet.specs.Scan.{next_other, core_scan, flush_scan, core_refuses, flush_refuses}
+use Rattle.stage_quiet.specs.Scan.{scan_end, scan_after, quiet_next, quiet_end, quiet_after}
 use Rattle.stage_sweep.specs.Counters.{latest_stamp}
 use Rattle.stage_sweep.specs.Emptiness.{may_be_cached}
 use Rattle.stage_sweep.specs.Freeze.{refusal_of, scan_goes, empty_next, at_after, end_by, swept_of}
@@ -69,7 +71,8 @@ use Rattle.core_invariant.proofs.Sounds.{limits_of}
 use Rattle.scan_invariant.proofs.FlushScans.{flush_is_stored, flush_shown, lowest_is, still_unflushed, unflushed_shown}
 use Rattle.scan_invariant.proofs.Scans.{before_next}
 use Rattle.place_invariant.proofs.Vacancy.{none_waits}
-use Rattle.freeze_invariant.proofs.Counters.{sweeping, untyping_by, sweep_knows, sweep_held, sweep_counts, sweep_frame, sweep_refs, sweep_since, undo_with, undo_known}
+use Rattle.freeze_invariant.proofs.Counters.{sweeping, untyping_by, sweep_knows, sweep_held, sweep_counts}
+use Rattle.freeze_invariant.proofs.Counters.{sweep_frame, sweep_refs, sweep_since, undo_with, undo_known}
 use Rattle.freeze_invariant.proofs.FrameScans.{all_scanned, scans_on, page_known, known_typed}
 use Rattle.freeze_invariant.proofs.FrameQuiet as quieting
 use Rattle.freeze_invariant.proofs.FrameQuiet.{cached_is, unpaged_frame}
@@ -169,9 +172,11 @@ module _ (setup : Setting) (setting : IsSetting setup) (cores : ℕ → Core) (t
 
   abbrev Judged : Option Reply → Option Quiet → Type 0
   Judged r next = GoodTook setup cores t c load (landed a (took_sweep m word
-      (sweeping g v b kept o (at_after (Scan q) (refusal_of (scan_end r next)) (scan_goes v.object (scan_end r next) (scan_after q r next))))
+      (sweeping g v b kept o
+      (at_after (Scan q) (refusal_of (scan_end r next)) (scan_goes v.object (scan_end r next) (scan_after q r next))))
       (end_by (refusal_of (scan_end r next)) (scan_goes v.object (scan_end r next) (scan_after q r next)) (swept_of
-      (sweeping g v b kept o (at_after (Scan q) (refusal_of (scan_end r next)) (scan_goes v.object (scan_end r next) (scan_after q r next))))))))
+      (sweeping g v b kept o
+      (at_after (Scan q) (refusal_of (scan_end r next)) (scan_goes v.object (scan_end r next) (scan_after q r next))))))))
 
   -- The core has passed.
   module _ (passed : stamp setup t thing ≡ x → (s.grace thing).waits at ≡ false) where

@@ -1,12 +1,14 @@
 -- Who waits for a frame of which all counters are frozen, and where the scan for them begins.
 use Rattle.std.specs.Prelude.{if◌then◌else◌}
-use Rattle.std.proofs.Common.{◌≡◌, ◌≢◌, ℕ, ◌+◌, ◌<◌, ◌≤◌, ◌==◌, ◌++◌, map, length, Bool, true, false, List, [], ◌∷◌, Option, Some, None, inl, inr, arith, refl, sym, ◌∙◌, ap, subst}
+use Rattle.std.proofs.Common.{◌≡◌, ◌≢◌, ℕ, ◌+◌, ◌<◌, ◌≤◌, ◌==◌, ◌++◌, map, length, Bool, true, false, List}
+use Rattle.std.proofs.Common.{[], ◌∷◌, Option, Some, None, inl, inr, arith, refl, sym, ◌∙◌, ap, subst}
 use Rattle.std.proofs.lemmas.Bool.{eqb-true, eqb-false, false≢true}
 use Rattle.spk_nums.specs.Setting.{Setting, IsSetting}
 use Rattle.spk_nums.specs.declared.kinds.FrameKind.TheVariants as kind
 use Rattle.frame_words.specs.declared.count_word.CountWord.{CountWord}
 use Rattle.frame_words.specs.declared.frame_word.FrameWord.{FrameWord}
-use Rattle.kernel_rules.specs.State.{Object, Blank, Table, Leaf, Pages, Pleaf, Comp, Thread, Tcap, Frame, Untyped, User, Kernel, FrameOf, State}
+use Rattle.kernel_rules.specs.State.{Object, Blank, Table, Leaf, Pages, Pleaf, Comp, Thread}
+use Rattle.kernel_rules.specs.State.{Tcap, Frame, Untyped, User, Kernel, FrameOf, State}
 use Rattle.kernel_rules.specs.GracePeriods.{is_translated}
 use Rattle.kernel_history.specs.ObjectWords.{frame_value}
 use Rattle.kernel_history.specs.Stamps.{clock, stamp}
@@ -124,7 +126,8 @@ module _ (setup : Setting) (setting : IsSetting setup) (cores : ℕ → Core) (t
 
   -- What comes after the last counter: the scan, or what comes after it.
   module _ (table : ℕ) (a : ActiveCall) (no_counts : a.counts ≡ []) (core word : ℕ) (own : core ≡ c)
-      (untypes : (m : Untyping) → m.frame ≡ f → UntypesBy a.call a.found m) (g : ℕ) (v : FrameWord) (b : ℕ) (same_core : b ≡ c) (kept : List CountWord) (o : Owned)
+      (untypes : (m : Untyping) → m.frame ≡ f → UntypesBy a.call a.found m) (g : ℕ)
+      (v : FrameWord) (b : ℕ) (same_core : b ≡ c) (kept : List CountWord) (o : Owned)
       (at : SweepAt) (same : g ≡ f) (met : SaysTyped word v) (fits : AreKept kept) (owned_by : OwnedBy v.object o)
       (frozen : AreFrozen setup.cores kept) (latest : x ≡ latest_stamp kept) (shown : v ≡ frame_value ((state_after setup t).frame f)) where
     abbrev page : Bool
@@ -150,7 +153,8 @@ module _ (setup : Setting) (setting : IsSetting setup) (cores : ℕ → Core) (t
     -- nobody waits: it goes on to the object
     pub past_scans : IsQuiet setup t c f x setup.cores setup.cores → Begins (After (empty_next v.object))
     past_scans quiet =
-        let next = going.continues setup c table a no_counts f core word own untypes g v b same_core kept o at same met fits owned_by in record {
+        let next = going.continues setup c table a no_counts f core word own untypes g v b same_core kept o at same met fits owned_by in
+        record {
           work = next.work;
           goes = next.goes;
           holds = next.holds;

@@ -1,8 +1,9 @@
--- A step of the scan for a frame that is made untyped: it is refused by a core that may still use the frame, or that may not have flushed it, or
--- goes on to the next word, and from the last to the object in the frame.
+-- A step of the scan for a frame that is made untyped: it is refused by a core that may still use the frame, or that may not have flushed
+-- it, or goes on to the next word, and from the last to the object in the frame.
 use Rattle.std.specs.Prelude.{if◌then◌else◌}
 use Rattle.std.specs.List.{list_any}
-use Rattle.std.proofs.Common.{◌≡◌, ◌≢◌, ◌⊎◌, inl, inr, ℕ, ◌+◌, ◌<◌, ◌≤◌, ◌==◌, ◌&&◌, ◌||◌, nat_lt, nat_le, length, Bool, true, false, List, [], ◌∷◌, Option, Some, None, IsTrue, arith, refl, sym, ◌∙◌, ap, subst}
+use Rattle.std.proofs.Common.{◌≡◌, ◌≢◌, ◌⊎◌, inl, inr, ℕ, ◌+◌, ◌<◌, ◌≤◌, ◌==◌, ◌&&◌, ◌||◌, nat_lt, nat_le, length, Bool}
+use Rattle.std.proofs.Common.{true, false, List, [], ◌∷◌, Option, Some, None, IsTrue, arith, refl, sym, ◌∙◌, ap, subst}
 use Rattle.std.proofs.lemmas.Bool.{cases_eq, eq-eqb, eqb-true, false≢true, ltb-true, ltb-false, leb-true, leb-false}
 use Rattle.spk_nums.specs.Setting.{Setting, IsSetting}
 use Rattle.spk_nums.specs.declared.calls.Call.{Call}
@@ -36,7 +37,8 @@ use Rattle.call_plans.specs.GoesBy.{own_pages}
 use Rattle.plan_ways.proofs.Ways.{asked_left}
 use Rattle.stage_quiet.specs.declared.quiet.Quiet.{Quiet}
 use Rattle.stage_quiet.specs.declared.quiet.Quiet.TheVariants.{AtCore, AtFlush}
-use Rattle.stage_quiet.specs.Scan.{next_other, core_scan, flush_scan, core_refuses, flush_refuses, scan_end, scan_after, quiet_next, quiet_end, quiet_after}
+use Rattle.stage_quiet.specs.Scan.{next_other, core_scan, flush_scan, core_refuses, flush_refuses}
+use Rattle.stage_quiet.specs.Scan.{scan_end, scan_after, quiet_next, quiet_end, quiet_after}
 use Rattle.stage_sweep.specs.Counters.{latest_stamp}
 use Rattle.stage_sweep.specs.Emptiness.{may_be_cached}
 use Rattle.stage_sweep.specs.Freeze.{refusal_of, scan_goes, empty_next, at_after, end_by, swept_of}
@@ -70,7 +72,8 @@ use Rattle.core_invariant.proofs.Sounds.{limits_of}
 use Rattle.scan_invariant.proofs.FlushScans.{flush_is_stored, flush_shown, lowest_is, still_unflushed, unflushed_shown}
 use Rattle.scan_invariant.proofs.Scans.{before_next}
 use Rattle.place_invariant.proofs.Vacancy.{none_waits}
-use Rattle.freeze_invariant.proofs.Counters.{sweeping, untyping_by, sweep_knows, sweep_held, sweep_counts, sweep_frame, sweep_refs, sweep_since, undo_with, undo_known}
+use Rattle.freeze_invariant.proofs.Counters.{sweeping, untyping_by, sweep_knows, sweep_held, sweep_counts}
+use Rattle.freeze_invariant.proofs.Counters.{sweep_frame, sweep_refs, sweep_since, undo_with, undo_known}
 use Rattle.freeze_invariant.proofs.FrameQuiet as quieting
 use Rattle.freeze_invariant.proofs.FrameQuiet.{cached_is, unpaged_frame}
 use Rattle.freeze_invariant.proofs.UntypeCalls as calls
@@ -117,7 +120,8 @@ module _ (setup : Setting) (setting : IsSetting setup) (cores : ℕ → Core) (t
 
   abbrev pub Result : Option Reply → Option SweepAt → Type 0
   Result r next = GoodTook setup cores t c move (landed a
-      (took_sweep m word (sweeping g v b kept o (at_after (Scan q) r next)) (end_by r next (swept_of (sweeping g v b kept o (at_after (Scan q) r next))))))
+      (took_sweep m word (sweeping g v b kept o (at_after (Scan q) r next))
+      (end_by r next (swept_of (sweeping g v b kept o (at_after (Scan q) r next))))))
 
   -- it goes on, to what it knows after the step
   pub goes_by : (ws : WorkStep) (work : Work) → ws ≡ Goes work
@@ -150,7 +154,8 @@ module _ (setup : Setting) (setting : IsSetting setup) (cores : ℕ → Core) (t
       next.work next.goes next.holds next.knows
 
   -- the next word is scanned
-  pub scans_on : (r : Quiet) → ((u : Trace) → ((y upto flushes : ℕ) → IsQuiet setup t c f y upto flushes → IsQuiet setup u c f y upto flushes)
+  pub scans_on : (r : Quiet)
+      → ((u : Trace) → ((y upto flushes : ℕ) → IsQuiet setup t c f y upto flushes → IsQuiet setup u c f y upto flushes)
       → KnowsSweepScan setup u c f (sweeping g v b kept o (Scan r)) r) → Result None (Some (Scan r))
   scans_on r known =
       goes_by (took_sweep m word (sweeping g v b kept o (Scan r)) (end_by None (Some (Scan r)) (swept_of (sweeping g v b kept o (Scan r)))))

@@ -1,7 +1,8 @@
--- The compare by which a counter is frozen: it is lost to another core; or the core holds the counter, which stands for what was found. After the
--- last, references refuse the call, or the scan begins.
+-- The compare by which a counter is frozen: it is lost to another core; or the core holds the counter, which stands for what was found.
+-- After the last, references refuse the call, or the scan begins.
 use Rattle.std.specs.Prelude.{if◌then◌else◌, min, All}
-use Rattle.std.proofs.Common.{◌≡◌, ◌≢◌, inl, inr, ℕ, ℤ, pos, negsuc, ◌+ℤ◌, ◌+◌, ◌-◌, ◌^◌, ◌<◌, ◌≤◌, ◌==◌, ◌++◌, map, max, nat_lt, length, Bool, true, false, List, [], ◌∷◌, Option, Some, None, IsTrue, arith, refl, sym, ◌∙◌, ap, subst, lt-ltb}
+use Rattle.std.proofs.Common.{◌≡◌, ◌≢◌, inl, inr, ℕ, ℤ, pos, negsuc, ◌+ℤ◌, ◌+◌, ◌-◌, ◌^◌, ◌<◌, ◌≤◌, ◌==◌, ◌++◌, map, max, nat_lt, length}
+use Rattle.std.proofs.Common.{Bool, true, false, List, [], ◌∷◌, Option, Some, None, IsTrue, arith, refl, sym, ◌∙◌, ap, subst, lt-ltb}
 use Rattle.std.proofs.lemmas.Bool.{eqb-true, eqb-false, eq-eqb, false≢true}
 use Rattle.std.proofs.lemmas.Int.{ints}
 use Rattle.std.proofs.lemmas.List.Elements.{All-nil, All-cons}
@@ -33,7 +34,8 @@ use Rattle.stage_pins.specs.declared.held.Acquired.{Acquired}
 use Rattle.stage_quiet.specs.Scan.{quiet_scan}
 use Rattle.stage_sweep.specs.Counters.{counters_of, sum_of_counts, latest_stamp}
 use Rattle.stage_sweep.specs.Emptiness.{may_be_cached}
-use Rattle.stage_sweep.specs.Freeze.{frozen, frozen_if, kept_with, compare_refuses, compare_next, sum_refuses, some_referenced, scan_next, at_after, end_by, swept_of}
+use Rattle.stage_sweep.specs.Freeze.{frozen, frozen_if, kept_with, compare_refuses, compare_next}
+use Rattle.stage_sweep.specs.Freeze.{sum_refuses, some_referenced, scan_next, at_after, end_by, swept_of}
 use Rattle.stage_sweep.specs.Release.{released, thaw_of}
 use Rattle.stage_sweep.specs.declared.empty.Owned.{Owned}
 use Rattle.stage_sweep.specs.declared.sweep.Sweep.{Sweep}
@@ -69,7 +71,8 @@ use Rattle.step_ways.proofs.Good.{spares_other}
 use Rattle.lent_words.proofs.Lent.{lent_elsewhere}
 use Rattle.step_ways.proofs.Loads.{IsOfCall, next_at, core_in_call, inner, call_is}
 use Rattle.step_ways.proofs.Refusals.{GoodTook, ticks_at, raced_leaving}
-use Rattle.freeze_invariant.proofs.Counters.{sweeping, untyping_by, sweep_is, sweep_knows, sweep_held, sweep_counts, sweep_frame, undo_with, undo_known, near_counter}
+use Rattle.freeze_invariant.proofs.Counters.{sweeping, untyping_by, sweep_is, sweep_knows, sweep_held}
+use Rattle.freeze_invariant.proofs.Counters.{sweep_counts, sweep_frame, undo_with, undo_known, near_counter}
 use Rattle.freeze_invariant.proofs.FrameQuiet as quieting
 use Rattle.freeze_invariant.proofs.Refusing as refusing
 use Rattle.freeze_invariant.proofs.UntypeCalls as calls
@@ -93,7 +96,8 @@ sum_is x n h = omega (arith, ints)
 
 module _ (setup : Setting) (setting : IsSetting setup) (cores : ℕ → Core) (t : Trace) (stands : Invariant setup cores t) (c : ℕ)
     (here : c < setup.cores)
-    (a : ActiveCall) (active : (cores c).active ≡ Some a) (f core word g : ℕ) (v : FrameWord) (b : ℕ) (o : Owned) (count : ℤ) (stamp_found : ℕ)
+    (a : ActiveCall) (active : (cores c).active ≡ Some a) (f core word g : ℕ)
+    (v : FrameWord) (b : ℕ) (o : Owned) (count : ℤ) (stamp_found : ℕ)
     (stage_is : a.stage ≡ Undecided (Act (untype_act (untyping_by f core word (sweeping g v b [] o (Compare count stamp_found))))))
     (has : KnowsUndecided setup t c (cores c).own.table a
     (Act (untype_act (untyping_by f core word (sweeping g v b [] o (Compare count stamp_found)))))) where
@@ -296,7 +300,8 @@ module _ (setup : Setting) (setting : IsSetting setup) (cores : ℕ → Core) (t
       are_some = (some_refs, ap reply.Referenced exact)
 
       kind_known : Rattle.kernel_rules.specs.Rules.refusal_of s c (Rattle.kernel_rules.specs.MemoryCalls.is_untyped_now s f) ≡ None
-      kind_known = calls.kind_none setup setting cores t stands c here a active m stage_is has (typed_is (s.frame f) v frame_is knows.met.kind)
+      kind_known = calls.kind_none setup setting cores t stands c here a
+          active m stage_is has (typed_is (s.frame f) v frame_is knows.met.kind)
 
       referenced : Result (u ∷ []) (Some answer) None
       referenced lands =
@@ -305,7 +310,8 @@ module _ (setup : Setting) (setting : IsSetting setup) (cores : ℕ → Core) (t
           (λ d. refl) (λ h. cc) (λ h i. λ is. cc) of_call lands
           (subst (λ (k : ℕ). k < 2 ^ 64) (sym leaves_it) (counts.spelling.small (frozen b count stamp_found) held_fits))
           elsewhere (as_none (holds (cores c)) held_then at bares_before (counts_bare None a.counts))
-          (ap (λ (k : ℕ). count_mark (count_of_word k)) leaves_it ∙ ap count_mark (counts.spelling.reads (frozen b count stamp_found) held_fits)
+          (ap (λ (k : ℕ). count_mark (count_of_word k)) leaves_it
+          ∙ ap count_mark (counts.spelling.reads (frozen b count stamp_found) held_fits)
           ∙ ap (λ (k : ℕ). Some k) knows.core ∙ sym (ap (λ x. if x then Some c else None) marks_it))
           (λ d other is. none_some d (sym unmarked ∙ is))
           (ap (λ x. settled_by (if x then Some c else None)
@@ -320,7 +326,8 @@ module _ (setup : Setting) (setting : IsSetting setup) (cores : ℕ → Core) (t
           tt
           (λ is_alone. refused_first s c a.call answer (calls.unspent setup setting cores t stands c here a active m stage_is has)
           (calls.by_causes setup setting cores t stands c here a active m stage_is has None (Some answer) _ _ _ kind_known
-          (ap (λ x. if x then Some (reply.Referenced (refs s f)) else None) some_refs ∙ ap (λ (k : ℕ). Some (reply.Referenced k)) (sym exact))
+          (ap (λ x. if x then Some (reply.Referenced (refs s f)) else None) some_refs
+          ∙ ap (λ (k : ℕ). Some (reply.Referenced k)) (sym exact))
           refl refl refl))
           (undo_known setup setting cores t stands c here a active f core word w stage_is has
           (refusing.e setup setting cores t stands c here a active compare answer
@@ -355,7 +362,8 @@ module _ (setup : Setting) (setting : IsSetting setup) (cores : ℕ → Core) (t
           (λ q there. let rest = elsewhere q there in (ap (λ h. h.marks q) after_is ∙ rest.0, ap (λ h. h.stands q) after_is ∙ rest.1))
           (as_none (holds (cores c)) (holds after) at bares_before
           (λ h i. ap (λ k. k.bare h i) after_is ∙ counts_bare None a.counts h i))
-          (ap (λ (k : ℕ). count_mark (count_of_word k)) leaves_it ∙ ap count_mark (counts.spelling.reads (frozen b count stamp_found) held_fits)
+          (ap (λ (k : ℕ). count_mark (count_of_word k)) leaves_it
+          ∙ ap count_mark (counts.spelling.reads (frozen b count stamp_found) held_fits)
           ∙ ap (λ (k : ℕ). Some k) knows.core
           ∙ sym (ap (λ x. if x then Some c else None) (ap (λ h. h.marks at) after_is ∙ marks_it)))
           (λ d other is. none_some d (sym unmarked ∙ is))
@@ -375,8 +383,10 @@ module _ (setup : Setting) (setting : IsSetting setup) (cores : ℕ → Core) (t
 
       scanned : Result (u ∷ []) None (scan_next v.object (quiet_scan (latest_stamp (u ∷ [])) b setup.cores (may_be_cached v.kind v.object)))
       scanned =
-          let begun = quieting.begins setup setting cores t stands c f (latest_stamp (u ∷ [])) since (cores c).own.table a no_counts core word has.knows.knows.core
-          (λ n is. untypes_on a.call a.found m n is has.knows.knows.untypes) g v b knows.core (u ∷ []) o (Compare count stamp_found) knows.frame knows.met
+          let begun = quieting.begins setup setting cores t stands c f (latest_stamp (u ∷ []))
+          since (cores c).own.table a no_counts core word has.knows.knows.core
+          (λ n is. untypes_on a.call a.found m n is has.knows.knows.untypes) g v b
+          knows.core (u ∷ []) o (Compare count stamp_found) knows.frame knows.met
           kept_fit now_fits.at.object all_frozen refl frame_is in
           won_by _ begun.work begun.goes begun.holds begun.knows
 

@@ -1,7 +1,8 @@
--- The steps by which a call that makes a frame untyped marks its word: the load, which finds another core's mark or a frame that is untyped, and
--- the compare, which is lost to another core or holds the word for the call.
+-- The steps by which a call that makes a frame untyped marks its word: the load, which finds another core's mark or a frame that is
+-- untyped, and the compare, which is lost to another core or holds the word for the call.
 use Rattle.std.specs.Prelude.{if◌then◌else◌}
-use Rattle.std.proofs.Common.{◌≡◌, ◌≢◌, inl, inr, ℕ, ◌+◌, ◌^◌, ◌<◌, ◌==◌, ◌&&◌, map, Bool, true, false, List, [], ◌∷◌, Option, Some, None, IsTrue, arith, refl, sym, ◌∙◌, ap, subst}
+use Rattle.std.proofs.Common.{◌≡◌, ◌≢◌, inl, inr, ℕ, ◌+◌, ◌^◌, ◌<◌, ◌==◌, ◌&&◌, map, Bool, true, false}
+use Rattle.std.proofs.Common.{List, [], ◌∷◌, Option, Some, None, IsTrue, arith, refl, sym, ◌∙◌, ap, subst}
 use Rattle.std.proofs.lemmas.Bool.{eqb-true, eqb-false, eq-eqb}
 use Rattle.std.proofs.lemmas.List.Elements.{All-nil}
 use Rattle.spk_nums.specs.Setting.{Setting, IsSetting}

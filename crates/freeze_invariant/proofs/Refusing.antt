@@ -1,6 +1,7 @@
--- The way in which a call is refused at a step by which its core marks a word: it leaves all as it was but counts the call, and has what it holds
--- still to store.
-use Rattle.std.proofs.Common.{◌≡◌, ◌≢◌, inr, ℕ, ◌+◌, ◌^◌, ◌<◌, ◌≤◌, Bool, true, false, if◌then◌else◌, ◌∷◌, Option, Some, None, arith, refl, sym, ◌∙◌, ap, subst}
+-- The way in which a call is refused at a step by which its core marks a word: it leaves all as it was but counts the call, and has what it
+-- holds still to store.
+use Rattle.std.proofs.Common.{◌≡◌, ◌≢◌, inr, ℕ, ◌+◌, ◌^◌, ◌<◌, ◌≤◌, Bool, true, false, if◌then◌else◌}
+use Rattle.std.proofs.Common.{◌∷◌, Option, Some, None, arith, refl, sym, ◌∙◌, ap, subst}
 use Rattle.spk_nums.specs.Setting.{Setting, IsSetting}
 use Rattle.spk_nums.specs.declared.replies.Reply.{Reply}
 use Rattle.word_map.specs.Word.{Word, CountAt, EntryAt, FlushAt, ClockAt, same_word}
@@ -27,7 +28,8 @@ use Rattle.core_invariant.specs.Holding.{settled_by, settled}
 use Rattle.core_invariant.specs.Knows.{phase_at, KnowsTail, flushing_in}
 use Rattle.core_invariant.specs.Invariant.{holds, held_by, times_of, Invariant}
 use Rattle.core_invariant.proofs.Bare.{AsBefore}
-use Rattle.kept_words.proofs.Calm.{IsCalm, calm_counted, calm_words, counted_rises, none_stored, IsUntimed, plain_begins, plain_exit, none_time, none_flushed}
+use Rattle.kept_words.proofs.Calm.{IsCalm, calm_counted, calm_words, counted_rises, none_stored}
+use Rattle.kept_words.proofs.Calm.{IsUntimed, plain_begins, plain_exit, none_time, none_flushed}
 use Rattle.step_ways.proofs.Flushing.{open_flushed}
 use Rattle.step_ways.proofs.Good.{IsGood, spares_other}
 use Rattle.lent_words.proofs.Lent.{given_kept, lent_open, lent_elsewhere}

@@ -1,6 +1,7 @@
 -- What a call that makes a frame untyped knows of its rule: what is left of it after its name, and what refuses it.
 use Rattle.std.specs.Prelude.{min, nat_lt, if◌then◌else◌}
-use Rattle.std.proofs.Common.{◌≡◌, ◌≢◌, inl, inr, ℕ, ◌+◌, ◌^◌, ◌<◌, ◌≤◌, ◌==◌, ◌&&◌, ◌||◌, ◌++◌, not, map, Bool, true, false, List, [], ◌∷◌, Option, Some, None, IsTrue, arith, refl, sym, ◌∙◌, ap, subst, lt-ltb}
+use Rattle.std.proofs.Common.{◌≡◌, ◌≢◌, inl, inr, ℕ, ◌+◌, ◌^◌, ◌<◌, ◌≤◌, ◌==◌, ◌&&◌, ◌||◌, ◌++◌, not, map, Bool, true}
+use Rattle.std.proofs.Common.{false, List, [], ◌∷◌, Option, Some, None, IsTrue, arith, refl, sym, ◌∙◌, ap, subst, lt-ltb}
 use Rattle.std.proofs.lemmas.Bool.{false≢true, eq-eqb}
 use Rattle.spk_nums.specs.Capability.{Capability}
 use Rattle.spk_nums.specs.Setting.{Setting, IsSetting}
@@ -17,7 +18,8 @@ use Rattle.word_map.specs.Word.{Word, FrameAt, CountAt}
 use Rattle.kernel_rules.specs.State.{Frame, Untyped, User, Kernel, FrameOf, State}
 use Rattle.kernel_rules.specs.Access.{found}
 use Rattle.kernel_rules.specs.References.{refs}
-use Rattle.kernel_rules.specs.Rules.{Cause, Change, Does, RuleMay, outcome, unless, first_of, first_cause, refusal_of, waits_of, flushes_of, When, WaitedFor, Unflushed, Refused, Found}
+use Rattle.kernel_rules.specs.Rules.{Cause, Change, Does, RuleMay, outcome, unless, first_of, first_cause}
+use Rattle.kernel_rules.specs.Rules.{refusal_of, waits_of, flushes_of, When, WaitedFor, Unflushed, Refused, Found}
 use Rattle.kernel_rules.specs.CapabilityCalls.{outside, is_frame, has_frame}
 use Rattle.kernel_rules.specs.MemoryCalls.{is_untyped, is_untyped_now, is_empty, not_retyped, retypes}
 use Rattle.kernel_rules.specs.CallRelation.{rule_of, change_of, are_calls_spent}

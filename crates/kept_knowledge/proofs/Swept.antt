@@ -1,6 +1,7 @@
--- What the frozen counters of a frame say: while a core holds them all, nothing refers to the frame where their sum is 0, and their latest stamp
--- is that of the frame's last release. So nobody else uses the frame, and what was found of its object stays.
-use Rattle.std.proofs.Common.{◌≡◌, ◌≢◌, ◌⊎◌, inl, inr, ℕ, suc, ℤ, pos, ◌+ℤ◌, ◌+◌, ◌<◌, ◌≤◌, max, Bool, true, false, List, [], ◌∷◌, length, slice_get, Option, Some, None, IsTrue, arith, refl, sym, ◌∙◌, ap, subst}
+-- What the frozen counters of a frame say: while a core holds them all, nothing refers to the frame where their sum is 0, and their latest
+-- stamp is that of the frame's last release. So nobody else uses the frame, and what was found of its object stays.
+use Rattle.std.proofs.Common.{◌≡◌, ◌≢◌, ◌⊎◌, inl, inr, ℕ, suc, ℤ, pos, ◌+ℤ◌, ◌+◌, ◌<◌, ◌≤◌, max, Bool, true, false, List}
+use Rattle.std.proofs.Common.{[], ◌∷◌, length, slice_get, Option, Some, None, IsTrue, arith, refl, sym, ◌∙◌, ap, subst}
 use Rattle.std.specs.Prelude.{All}
 use Rattle.std.proofs.lemmas.Bool.{false≢true, true≢false}
 use Rattle.std.proofs.lemmas.Int.{ints}
@@ -14,7 +15,8 @@ use Rattle.frame_words.specs.declared.count_word.CountWord.{CountWord}
 use Rattle.frame_words.specs.declared.frame_word.FrameWord.{FrameWord}
 use Rattle.frame_words.proofs.CountLemmas as counts
 use Rattle.word_map.specs.Word.{Word, CountAt, FrameAt}
-use Rattle.kernel_rules.specs.State.{Frame, Untyped, User, Kernel, Object, Blank, Table, Leaf, Pages, Pleaf, Comp, Thread, Tcap, FrameOf, State}
+use Rattle.kernel_rules.specs.State.{Frame, Untyped, User, Kernel, Object, Blank, Table}
+use Rattle.kernel_rules.specs.State.{Leaf, Pages, Pleaf, Comp, Thread, Tcap, FrameOf, State}
 use Rattle.kernel_rules.specs.Access.{held_in}
 use Rattle.kernel_rules.specs.References.{refs}
 use Rattle.kernel_rules.specs.Relies.{is_node}
@@ -79,7 +81,8 @@ release_counter f word w clear h d same below =
     let here = thaw_here (thaw_from w clear) h d (omega arith) below in
     (all.0 ∙ here.0, all.1 ∙ here.1))
 
-pub release_swept : (f word : ℕ) (w : Swept) (h : Holding) → w.frame ≡ f → HoldsSwept (holds_release (release_of f word w false) h) f word w.words
+pub release_swept : (f word : ℕ) (w : Swept) (h : Holding) → w.frame ≡ f
+    → HoldsSwept (holds_release (release_of f word w false) h) f word w.words
 release_swept f word w h same = record {
   marks = (release_frame (release_of f word w false) h).0;
   stands = (release_frame (release_of f word w false) h).1;

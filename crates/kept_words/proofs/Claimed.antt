@@ -1,6 +1,7 @@
--- What a step of another core leaves of threads: one that a core in a call guards stays a thread that it guards, and one that it has claimed
--- is idle before the step and after it, so it is as it was.
-use Rattle.std.proofs.Common.{◌≡◌, ◌≢◌, ℕ, ◌+◌, ◌*◌, ◌^◌, ◌∷◌, Bool, true, false, Option, Some, None, IsTrue, arith, refl, sym, ◌∙◌, ap, subst}
+-- What a step of another core leaves of threads: one that a core in a call guards stays a thread that it guards, and one that it has
+-- claimed is idle before the step and after it, so it is as it was.
+use Rattle.std.proofs.Common.{◌≡◌, ◌≢◌, ℕ, ◌+◌, ◌*◌, ◌^◌, ◌∷◌, Bool, true, false, Option}
+use Rattle.std.proofs.Common.{Some, None, IsTrue, arith, refl, sym, ◌∙◌, ap, subst}
 use Rattle.std.proofs.lemmas.Bool.{false≢true}
 use Rattle.spk_nums.specs.Setting.{Setting, IsSetting}
 use Rattle.spk_nums.specs.declared.kinds.Kind.TheVariants as kind

@@ -1,10 +1,12 @@
 -- What is said of a word stays where the step leaves the word, and what is said of it, as they were; of every kind of word at once.
-use Rattle.std.proofs.Common.{◌≡◌, ◌≢◌, ◌≤◌, inl, inr, ℕ, zero, suc, arith, Bool, true, false, if◌then◌else◌, ◌∷◌, Option, Some, None, refl, sym, ◌∙◌, ap, subst}
+use Rattle.std.proofs.Common.{◌≡◌, ◌≢◌, ◌≤◌, inl, inr, ℕ, zero, suc, arith, Bool, true, false}
+use Rattle.std.proofs.Common.{if◌then◌else◌, ◌∷◌, Option, Some, None, refl, sym, ◌∙◌, ap, subst}
 use Rattle.std.proofs.lemmas.Bool.{cases_eq}
 use Rattle.spk_nums.specs.Setting.{Setting}
 use Rattle.word_map.specs.Word.{Word, EntryAt, FrameAt, CountAt, CoreAt, FlushAt, LiveAt, ClockAt}
 use Rattle.word_map.specs.Moves.{word_of, left_of}
-use Rattle.kernel_rules.specs.State.{Place, TcapFields, Object, Blank, Table, Leaf, Pages, Pleaf, Comp, Thread, Tcap, Frame, Untyped, User, Kernel, Liveness, PlaceOf, NumberOf, State, put}
+use Rattle.kernel_rules.specs.State.{Place, TcapFields, Object, Blank, Table, Leaf, Pages, Pleaf, Comp, Thread}
+use Rattle.kernel_rules.specs.State.{Tcap, Frame, Untyped, User, Kernel, Liveness, PlaceOf, NumberOf, State, put}
 use Rattle.kernel_rules.proofs.Within.{put_same, put_other}
 use Rattle.frame_words.specs.Live.{live_of_word}
 use Rattle.kernel_history.specs.ObjectWords.{frame_value}

@@ -7,7 +7,8 @@ use Rattle.spk_nums.specs.Setting.{Setting}
 use Rattle.kernel_rules.specs.State.{State}
 use Rattle.kernel_rules.specs.CallRelation.{MayReply}
 use Rattle.kernel_rules.specs.Runs.{Event, Enters, Decides, Returns, after, is_decided, core_of, phase_by, phase_of, IsRun}
-use Rattle.kernel_history.specs.Trace.{Step, Trace, Phase, Out, Open, Decided, phase, after_enter, after_decide, after_return, state_after, state_entered, state_decided, state_returned, state_before}
+use Rattle.kernel_history.specs.Trace.{Step, Trace, Phase, Out, Open, Decided, phase, after_enter, after_decide}
+use Rattle.kernel_history.specs.Trace.{after_return, state_after, state_entered, state_decided, state_returned, state_before}
 use Rattle.kernel_history.specs.Events.{with_entry, with_decision, with_return, events_of, plain_phase}
 use Rattle.kernel_history.specs.Legal.{MayEnter, MayDecide, MayReturn, MayFollow, IsLegal}
 use Rattle.kernel_history.proofs.Steps.{phase-own, phase-other}
@@ -78,13 +79,15 @@ pub entry_apart : (o : Option Call) (d : ℕ) (events : List Event) (c : ℕ) �
 entry_apart None d events c other = refl
 entry_apart (Some call) d events c other = apart_phase (Enters d call) events c other
 
-pub decision_apart : (o : Option Reply) (p : Phase) (d : ℕ) (events : List Event) (c : ℕ) → c ≢ d → phase_of (with_decision o p d events) c ≡ phase_of events c
+pub decision_apart : (o : Option Reply) (p : Phase) (d : ℕ) (events : List Event) (c : ℕ)
+    → c ≢ d → phase_of (with_decision o p d events) c ≡ phase_of events c
 decision_apart None p d events c other = refl
 decision_apart (Some r) Out d events c other = refl
 decision_apart (Some r) (Open call) d events c other = apart_phase (Decides d call r) events c other
 decision_apart (Some r) (Decided call q) d events c other = refl
 
-pub return_apart : (o : Option Reply) (d : ℕ) (events : List Event) (c : ℕ) → c ≢ d → phase_of (with_return o d events) c ≡ phase_of events c
+pub return_apart : (o : Option Reply) (d : ℕ) (events : List Event) (c : ℕ)
+    → c ≢ d → phase_of (with_return o d events) c ≡ phase_of events c
 return_apart None d events c other = refl
 return_apart (Some r) d events c other = apart_phase (Returns d) events c other
 
@@ -108,7 +111,8 @@ phase_is (e ∷ t) c = elim (cases_eq c e.core) [
 pub entered_phase : (t : Trace) (e : Step) → phase_of (entered_events t e) e.core ≡ plain_phase (after_enter e.enters (phase t e.core))
 entered_phase t e = entry_phase e.enters e.core (events_of t) (phase t e.core) (phase_is t e.core)
 
-pub decided_phase : (t : Trace) (e : Step) → phase_of (decided_events t e) e.core ≡ plain_phase (after_decide e.decides (after_enter e.enters (phase t e.core)))
+pub decided_phase : (t : Trace) (e : Step)
+    → phase_of (decided_events t e) e.core ≡ plain_phase (after_decide e.decides (after_enter e.enters (phase t e.core)))
 decided_phase t e = decision_phase e.decides (after_enter e.enters (phase t e.core)) e.core (entered_events t e) (entered_phase t e)
 
 -- the run
@@ -116,10 +120,12 @@ decided_phase t e = decision_phase e.decides (after_enter e.enters (phase t e.co
 entry_run : (setup : Setting) (o : Option Call) (c : ℕ) (events : List Event) (p : Phase) → c < setup.cores → MayEnter o p
     → phase_of events c ≡ plain_phase p → IsRun setup events → IsRun setup (with_entry o c events)
 entry_run setup None c events p core may is run = run
-entry_run setup (Some call) c events p core may is run = (run, record { is_core = core; is_out = is ∙ ap plain_phase may.0; in_limits = may.1 })
+entry_run setup (Some call) c events p core may is run =
+    (run, record { is_core = core; is_out = is ∙ ap plain_phase may.0; in_limits = may.1 })
 
 decision_run : (setup : Setting) (t : Trace) (e : Step) (o : Option Reply) (p : Phase) → MayDecide setup t e o p
-    → phase_of (entered_events t e) e.core ≡ plain_phase p → IsRun setup (entered_events t e) → IsRun setup (with_decision o p e.core (entered_events t e))
+    → phase_of (entered_events t e) e.core ≡ plain_phase p → IsRun setup (entered_events t e)
+    → IsRun setup (with_decision o p e.core (entered_events t e))
 decision_run setup t e None p may is run = run
 decision_run setup t e (Some r) Out may is run = run
 decision_run setup t e (Some r) (Decided call q) may is run = run
@@ -140,7 +146,8 @@ return_run : (setup : Setting) (o : Option Reply) (c : ℕ) (events : List Event
 return_run setup None c events p may is run = run
 return_run setup (Some r) c events p may is run = (run, ap is_decided (is ∙ ap plain_phase may.was_decided))
 
-module _ (setup : Setting) (t : Trace) (e : Step) (legal : IsLegal setup t) (follows : MayFollow setup t e) (run : IsRun setup (events_of t)) where
+module _ (setup : Setting) (t : Trace) (e : Step) (legal : IsLegal setup t)
+    (follows : MayFollow setup t e) (run : IsRun setup (events_of t)) where
   pub entered_run : IsRun setup (entered_events t e)
   entered_run = entry_run setup e.enters e.core (events_of t) (phase t e.core) follows.is_core follows.enters (phase_is t e.core) run
 
@@ -148,7 +155,8 @@ module _ (setup : Setting) (t : Trace) (e : Step) (legal : IsLegal setup t) (fol
   decided_run = decision_run setup t e e.decides (after_enter e.enters (phase t e.core)) follows.decides (entered_phase t e) entered_run
 
   pub step_run : IsRun setup (events_of (e ∷ t))
-  step_run = return_run setup e.returns e.core (decided_events t e) (after_decide e.decides (after_enter e.enters (phase t e.core))) follows.returns (decided_phase t e) decided_run
+  step_run = return_run setup e.returns e.core (decided_events t e)
+      (after_decide e.decides (after_enter e.enters (phase t e.core))) follows.returns (decided_phase t e) decided_run
 
 -- The events of a legal trace are a run.
 pub run_of : (setup : Setting) (t : Trace) → IsLegal setup t → IsRun setup (events_of t)

@@ -8,7 +8,8 @@ use Rattle.spk_nums.specs.Setting.{Setting}
 use Rattle.kernel_rules.specs.State.{State}
 use Rattle.kernel_rules.proofs.Within.{put_same, put_other}
 use Rattle.kernel_rules.proofs.AloneLaw.{decided_stays}
-use Rattle.kernel_history.specs.Trace.{Step, Trace, Phase, Out, Open, Decided, phase, after_enter, after_decide, after_return, state_after, state_entered, state_decided, state_returned}
+use Rattle.kernel_history.specs.Trace.{Step, Trace, Phase, Out, Open, Decided, phase, after_enter, after_decide}
+use Rattle.kernel_history.specs.Trace.{after_return, state_after, state_entered, state_decided, state_returned}
 use Rattle.kernel_history.specs.Stamps.{is_in}
 use Rattle.kernel_history.proofs.Steps.{phase-own, phase-other}
 
@@ -24,7 +25,8 @@ abbrev pub inside_after : Option Call → Option Reply → Bool → Bool
 inside_after o None b = cond (is_some o) true b
 inside_after o (Some r) b = false
 
-entered-own : (o : Option Call) (s : State) (c d : ℕ) → d ≡ c → ((state_entered o s c).core d).inside ≡ cond (is_some o) true (s.core d).inside
+entered-own : (o : Option Call) (s : State) (c d : ℕ) → d ≡ c
+    → ((state_entered o s c).core d).inside ≡ cond (is_some o) true (s.core d).inside
 entered-own None s c d own = refl
 entered-own (Some call) s c d own = ap (λ k. k.inside) (put_same s.core c _ d own)
 
@@ -48,10 +50,12 @@ module _ (setup : Setting) (e : Step) (t : Trace) where
       ∙ decided-inside e.decides (after_enter e.enters (phase t e.core)) _ e.core c
       ∙ entered-inside e.enters (state_after setup t) e.core c other
 
-  pub inside-own : (c : ℕ) → c ≡ e.core → ((state_after setup (e ∷ t)).core c).inside ≡ inside_after e.enters e.returns ((state_after setup t).core c).inside
+  pub inside-own : (c : ℕ) → c ≡ e.core
+      → ((state_after setup (e ∷ t)).core c).inside ≡ inside_after e.enters e.returns ((state_after setup t).core c).inside
   inside-own c own =
       returned-own e.enters e.returns _ e.core c ((state_after setup t).core c).inside own
-      (decided-inside e.decides (after_enter e.enters (phase t e.core)) _ e.core c ∙ entered-own e.enters (state_after setup t) e.core c own)
+      (decided-inside e.decides (after_enter e.enters (phase t e.core)) _ e.core c
+      ∙ entered-own e.enters (state_after setup t) e.core c own)
 
 in-decided : (d : Option Reply) (p : Phase) → is_in (after_decide d p) ≡ is_in p
 in-decided None p = refl
@@ -59,7 +63,8 @@ in-decided (Some r) Out = refl
 in-decided (Some r) (Open call) = refl
 in-decided (Some r) (Decided call q) = refl
 
-in-after : (o : Option Call) (d q : Option Reply) (p : Phase) → is_in (after_return q (after_decide d (after_enter o p))) ≡ inside_after o q (is_in p)
+in-after : (o : Option Call) (d q : Option Reply) (p : Phase)
+    → is_in (after_return q (after_decide d (after_enter o p))) ≡ inside_after o q (is_in p)
 in-after None d None p = in-decided d p
 in-after (Some call) d None p = in-decided d (Open call)
 in-after o d (Some r) p = refl

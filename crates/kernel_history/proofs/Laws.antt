@@ -1,5 +1,6 @@
 -- The laws of legal traces.
-use Rattle.std.proofs.Common.{◌≡◌, ◌≢◌, inl, inr, ℕ, ◌+◌, ◌==◌, ◌&&◌, ◌++◌, cond, Bool, true, false, arith, List, [], ◌∷◌, length, Option, Some, None, refl, sym, ◌∙◌, ap, subst, IsTrue}
+use Rattle.std.proofs.Common.{◌≡◌, ◌≢◌, inl, inr, ℕ, ◌+◌, ◌==◌, ◌&&◌, ◌++◌, cond, Bool, true, false, arith}
+use Rattle.std.proofs.Common.{List, [], ◌∷◌, length, Option, Some, None, refl, sym, ◌∙◌, ap, subst, IsTrue}
 use Rattle.std.specs.Prelude.{is_some, option_to_list}
 use Rattle.std.proofs.lemmas.Bool.{cases_eq, eq-eqb, ne_eqb, eqb-true, false≢true}
 use Rattle.std.proofs.lemmas.List.{length-append}
@@ -11,14 +12,16 @@ use Rattle.word_map.specs.Word.{Word}
 use Rattle.word_map.specs.Moves.{word_of, left_of}
 use Rattle.kernel_rules.specs.Runs.{after, phase_of}
 use Rattle.kernel_rules.specs.CallRelation.{rule_of}
-use Rattle.kernel_history.specs.Trace.{Step, Trace, Phase, Out, Open, Decided, phase, after_enter, after_decide, after_return, state_after, state_before, calls_of, last_left, own_left, reads, own_read}
+use Rattle.kernel_history.specs.Trace.{Step, Trace, Phase, Out, Open, Decided, phase, after_enter, after_decide, after_return}
+use Rattle.kernel_history.specs.Trace.{state_after, state_before, calls_of, last_left, own_left, reads, own_read}
 use Rattle.kernel_history.specs.Stamps.{is_in}
 use Rattle.kernel_history.specs.Justified.{IsJustifiedIn, own_read_before}
 use Rattle.kernel_history.specs.Legal.{MayEnter, MayDecide, MayReturn, MayFollow}
 use Rattle.kernel_history.specs.Laws.{LegalRuns, EventsDetermine, LegalUpTo, returned_calls, OneCallAtATime, IsNotHeldUp, AloneGoesOn}
 use Rattle.kernel_history.specs.Alone.{UnlessEnters, IsUndisturbed, IsAlone}
 use Rattle.kernel_history.proofs.Names.{cases_word}
-use Rattle.kernel_history.proofs.Steps.{phase-own, phase-other, calls_of-own, calls_of-other, own_left-here, own_left-there, own_left-other, own_read-here, own_read-there, own_read-other, last_left-here, last_left-there}
+use Rattle.kernel_history.proofs.Steps.{phase-own, phase-other, calls_of-own, calls_of-other, own_left-here, own_left-there}
+use Rattle.kernel_history.proofs.Steps.{own_left-other, own_read-here, own_read-there, own_read-other, last_left-here, last_left-there}
 use Rattle.kernel_history.proofs.Events.{state_is, phase_is, run_of, plain_inj}
 use Rattle.kernel_history.proofs.Inside.{inside_is, entered-inside}
 
@@ -72,7 +75,8 @@ own_count setup t e follows before =
     let entry : length (calls_of t e.core ++ option_to_list e.enters) ≡ returned_calls t e.core + one_in p =
     entry_count e.enters (phase t e.core) (calls_of t e.core) (returned_calls t e.core) follows.enters before in
     ap length (calls_of-own e.core e t refl)
-    ∙ return_count e.returns (after_decide e.decides p) (length (calls_of t e.core ++ option_to_list e.enters)) (returned_calls t e.core) follows.returns
+    ∙ return_count e.returns (after_decide e.decides p)
+    (length (calls_of t e.core ++ option_to_list e.enters)) (returned_calls t e.core) follows.returns
     (entry ∙ ap (λ k. returned_calls t e.core + k) (sym (decision_count e.decides p)))
     ∙ ap (λ n. n + one_in (after_return e.returns (after_decide e.decides p)))
     (sym (ap (λ b. cond (b && is_some e.returns) (returned_calls t e.core + 1) (returned_calls t e.core)) (eq-eqb e.core e.core refl)))
@@ -84,18 +88,21 @@ one_call_at_a_time setup (e ∷ t) legal c = elim (cases_eq c e.core) [
   | inl own ↦ subst (λ (d : ℕ). Counts (e ∷ t) d) (sym own) (own_count setup t e legal.1 (one_call_at_a_time setup t legal.0 e.core))
   | inr other ↦
       ap length (calls_of-other c e t other) ∙ one_call_at_a_time setup t legal.0 c
-      ∙ ap (λ n. n + one_in (phase t c)) (sym (ap (λ b. cond (b && is_some e.returns) (returned_calls t c + 1) (returned_calls t c)) (ne_eqb c e.core other)))
+      ∙ ap (λ n. n + one_in (phase t c))
+      (sym (ap (λ b. cond (b && is_some e.returns) (returned_calls t c + 1) (returned_calls t c)) (ne_eqb c e.core other)))
       ∙ ap (λ p. returned_calls (e ∷ t) c + one_in p) (sym (phase-other c e t other))
 ]
 
 -- a call that is alone
 
 -- What a core's call left in a word is what the word has, while the core alone has stepped since.
-own_is_last : (setup : Setting) (t : Trace) (c : ℕ) (w : Word) (v : ℕ) → IsUndisturbed t c → own_left t c w ≡ Some v → last_left setup t w ≡ v
+own_is_last : (setup : Setting) (t : Trace) (c : ℕ) (w : Word) (v : ℕ)
+    → IsUndisturbed t c → own_left t c w ≡ Some v → last_left setup t w ≡ v
 own_is_last setup [] c w v alone own = absurd (cc)
 own_is_last setup (e ∷ t) c w v alone own = elim (cases_word w (word_of e.move)) [
   | inl here ↦ last_left-here setup w e t here ∙ some_inj (left_of e.move e.found) v (sym (own_left-here c e t (sym alone.0) w here) ∙ own)
-  | inr there ↦ last_left-there setup w e t there ∙ by_entry e.enters alone.1 (sym (own_left-there c e t (sym alone.0) w there) ∙ own) (own_is_last setup t c w v)
+  | inr there ↦ last_left-there setup w e t there
+      ∙ by_entry e.enters alone.1 (sym (own_left-there c e t (sym alone.0) w there) ∙ own) (own_is_last setup t c w v)
 ]
   where
     some_inj : (a b : ℕ) → Some a ≡ Some b → a ≡ b
@@ -115,7 +122,8 @@ read_is_left [] c w v has = absurd (cc)
 read_is_left (e ∷ t) c w v has = elim (cases_eq c e.core) [
   | inr other ↦ own_left-other c e t other w ∙ read_is_left t c w v (sym (own_read-other c e t other w) ∙ has)
   | inl own ↦ elim (cases_word w (word_of e.move)) [
-    | inl here ↦ own_left-here c e t own w here ∙ by_reads (reads e.move) (left_of e.move e.found == e.found) refl (sym (own_read-here c e t own w here) ∙ has)
+    | inl here ↦ own_left-here c e t own w here
+        ∙ by_reads (reads e.move) (left_of e.move e.found == e.found) refl (sym (own_read-here c e t own w here) ∙ has)
     | inr there ↦ own_left-there c e t own w there ∙ by_entry e.enters (sym (own_read-there c e t own w there) ∙ has) (read_is_left t c w v)
   ]
 ]
@@ -123,7 +131,8 @@ read_is_left (e ∷ t) c w v has = elim (cases_eq c e.core) [
     none_some : None ≡ Some v → ⊥
     none_some q = cc
 
-    by_reads : (r b : Bool) → (left_of e.move e.found == e.found) ≡ b → cond (r && b) (Some e.found) None ≡ Some v → Some (left_of e.move e.found) ≡ Some v
+    by_reads : (r b : Bool) → (left_of e.move e.found == e.found) ≡ b
+        → cond (r && b) (Some e.found) None ≡ Some v → Some (left_of e.move e.found) ≡ Some v
     by_reads true true same has = ap (λ (n : ℕ). Some n) (eqb-true (left_of e.move e.found) e.found same) ∙ has
     by_reads true false same has = absurd (none_some has)
     by_reads false b same has = absurd (none_some has)
@@ -137,7 +146,8 @@ read_is_left (e ∷ t) c w v has = elim (cases_eq c e.core) [
 module _ (setup : Setting) (t : Trace) (e : Step) (found : e.found ≡ last_left setup t (word_of e.move)) (alone : IsAlone t e) where
   pub not_inside : (d : ℕ) → d ≢ e.core → IsTrue ((state_before setup t e).core d).inside → ⊥
   not_inside d other inside =
-      false≢true (sym (entered-inside e.enters (state_after setup t) e.core d other ∙ inside_is setup t d ∙ ap is_in (alone.others_out d other)) ∙ inside)
+      false≢true (sym (entered-inside e.enters (state_after setup t) e.core d
+      other ∙ inside_is setup t d ∙ ap is_in (alone.others_out d other)) ∙ inside)
 
   pub not_changed : (own : ℕ) → own_read_before t e ≡ Some own → e.found ≢ own → ⊥
   not_changed own was changed = by_entry e.enters refl alone.undisturbed was
@@ -145,11 +155,14 @@ module _ (setup : Setting) (t : Trace) (e : Step) (found : e.found ≡ last_left
       none_some : None ≡ Some own → ⊥
       none_some q = cc
 
-      by_entry : (o : Option Call) → e.enters ≡ o → UnlessEnters o (IsUndisturbed t e.core) → cond (is_some o) None (own_read t e.core (word_of e.move)) ≡ Some own → ⊥
-      by_entry None is undisturbed was = changed (found ∙ own_is_last setup t e.core (word_of e.move) own undisturbed (read_is_left t e.core (word_of e.move) own was))
+      by_entry : (o : Option Call) → e.enters ≡ o → UnlessEnters o (IsUndisturbed t e.core)
+          → cond (is_some o) None (own_read t e.core (word_of e.move)) ≡ Some own → ⊥
+      by_entry None is undisturbed was =
+          changed (found ∙ own_is_last setup t e.core (word_of e.move) own undisturbed (read_is_left t e.core (word_of e.move) own was))
       by_entry (Some call) is undisturbed was = none_some was
 
-  calm : (r : Reply) (call : Call) → IsJustifiedIn setup t e (state_before setup t e) (rule_of (state_before setup t e) e.core call) r → IsNotHeldUp (Some r)
+  calm : (r : Reply) (call : Call) → IsJustifiedIn setup t e (state_before setup t e) (rule_of (state_before setup t e) e.core call) r
+      → IsNotHeldUp (Some r)
   calm reply.Raced call lost = not_changed lost.own lost.has_read lost.changed
   calm (reply.Busy d) call held = not_inside d held.other held.is_inside
   calm (reply.Quiescing d) call waits = not_inside d waits.may_wait.other waits.may_wait.is_inside
@@ -160,4 +173,5 @@ module _ (setup : Setting) (t : Trace) (e : Step) (found : e.found ≡ last_left
   decides_calm (Some r) p may = calm r may.call may.justified
 
 pub alone_goes_on : AloneGoesOn
-alone_goes_on setup t e legal alone = decides_calm setup t e legal.1.found alone e.decides (after_enter e.enters (phase t e.core)) legal.1.decides
+alone_goes_on setup t e legal alone =
+    decides_calm setup t e legal.1.found alone e.decides (after_enter e.enters (phase t e.core)) legal.1.decides

@@ -34,7 +34,8 @@ marked_on setup t e marks bare marked w d is = elim (cases_mark (marked_by setup
   ]
 ]
   where
-    still : (b : Bool) → (d == e.core) ≡ b → (o : Option Call) → e.enters ≡ o → marked_by setup t w ≡ Some d → IfNot (b && is_some o) (HasMarked setup t w d)
+    still : (b : Bool) → (d == e.core) ≡ b → (o : Option Call) → e.enters ≡ o
+        → marked_by setup t w ≡ Some d → IfNot (b && is_some o) (HasMarked setup t w d)
     still false is o os was = marked w d was
     still true is None os was = marked w d was
     still true is (Some call) os was = absurd (bare call os w (was ∙ ap (λ (n : ℕ). Some n) (eqb-true d e.core is)))

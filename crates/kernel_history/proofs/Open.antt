@@ -30,4 +30,5 @@ pub none_if_in : (t : Trace) (e : Step) (c : ℕ) → e.core ≡ c → phase (e 
 none_if_in t e c own inside = by_cases e.returns refl where
   by_cases : (o : Option Reply) → e.returns ≡ o → o ≡ None
   by_cases None is = refl
-  by_cases (Some r) is = absurd (inside (phase-own c e t (sym own) ∙ ap (λ o. after_return o (after_decide e.decides (after_enter e.enters (phase t c)))) is))
+  by_cases (Some r) is =
+      absurd (inside (phase-own c e t (sym own) ∙ ap (λ o. after_return o (after_decide e.decides (after_enter e.enters (phase t c)))) is))

@@ -1,5 +1,6 @@
 -- A race is lost only to another core.
-use Rattle.std.proofs.Common.{◌≡◌, ◌≢◌, inl, inr, ℕ, ◌==◌, ◌&&◌, ◌||◌, cond, Bool, true, false, [], ◌∷◌, Option, Some, None, refl, sym, ◌∙◌, ap, subst}
+use Rattle.std.proofs.Common.{◌≡◌, ◌≢◌, inl, inr, ℕ, ◌==◌, ◌&&◌, ◌||◌, cond, Bool, true}
+use Rattle.std.proofs.Common.{false, [], ◌∷◌, Option, Some, None, refl, sym, ◌∙◌, ap, subst}
 use Rattle.std.specs.Prelude.{is_some}
 use Rattle.std.proofs.lemmas.Bool.{cases_eq, ne_eqb, eqb-true, true≢false}
 use Rattle.spk_nums.specs.Setting.{Setting}
@@ -30,12 +31,14 @@ if_not true Said is said = absurd (true≢false is)
 if_not false Said is said = said
 
 -- Where a word is no longer what core c's call has read last in it, another core has changed it.
-changed_since : (setup : Setting) (t : Trace) → IsLegal setup t → (c : ℕ) (w : Word) (own : ℕ) → own_read t c w ≡ Some own → last_left setup t w ≢ own → WasChanged t c w
+changed_since : (setup : Setting) (t : Trace) → IsLegal setup t → (c : ℕ) (w : Word) (own : ℕ)
+    → own_read t c w ≡ Some own → last_left setup t w ≢ own → WasChanged t c w
 changed_since setup [] legal c w own has changed = absurd (none_some own has)
 changed_since setup (e ∷ t) legal c w own has changed = elim (cases_eq c e.core) [
   | inl mine ↦ elim (cases_word w (word_of e.move)) [
     | inl here ↦ absurd (changed (last_left-here setup w e t here
-        ∙ kept_read (reads e.move) (left_of e.move e.found == e.found) e.found (left_of e.move e.found) own refl (sym (own_read-here c e t mine w here) ∙ has)))
+        ∙ kept_read (reads e.move) (left_of e.move e.found == e.found) e.found
+        (left_of e.move e.found) own refl (sym (own_read-here c e t mine w here) ∙ has)))
     | inr there ↦ inr (mine_there e.enters refl (same_word-other w (word_of e.move) there) (sym (own_read-there c e t mine w there) ∙ has)
         (λ has. changed_since setup t legal.0 c w own has (λ same. changed (last_left-there setup w e t there ∙ same))))
   ]
@@ -53,9 +56,11 @@ changed_since setup (e ∷ t) legal c w own has changed = elim (cases_eq c e.cor
 ]
   where
     mine_there : (o : Option Call) → e.enters ≡ o → same_word w (word_of e.move) ≡ false → cond (is_some o) None (own_read t c w) ≡ Some own
-        → (own_read t c w ≡ Some own → WasChanged t c w) → IfNot (c == e.core && (same_word w (word_of e.move) || is_some e.enters)) (WasChanged t c w)
+        → (own_read t c w ≡ Some own → WasChanged t c w)
+        → IfNot (c == e.core && (same_word w (word_of e.move) || is_some e.enters)) (WasChanged t c w)
     mine_there None os not has before = if_not _ _
-        (ap (λ b. c == e.core && (b || is_some e.enters)) not ∙ ap (λ x. c == e.core && is_some x) os ∙ and_false (c == e.core)) (before has)
+        (ap (λ b. c == e.core && (b || is_some e.enters)) not
+        ∙ ap (λ x. c == e.core && is_some x) os ∙ and_false (c == e.core)) (before has)
       where
         and_false : (b : Bool) → (b && false) ≡ false
         and_false true = refl
@@ -63,12 +68,15 @@ changed_since setup (e ∷ t) legal c w own has changed = elim (cases_eq c e.cor
     mine_there (Some call) os not has before = absurd (none_some own has)
 
 pub raced_by_another : RacedByAnother
-raced_by_another setup t e legal is = by_decision (subst (λ o. MayDecide setup t e o (after_enter e.enters (phase t e.core))) is legal.1.decides)
+raced_by_another setup t e legal is =
+    by_decision (subst (λ o. MayDecide setup t e o (after_enter e.enters (phase t e.core))) is legal.1.decides)
   where
-    by_entry : (o : Option Call) (own : ℕ) → cond (is_some o) None (own_read t e.core (word_of e.move)) ≡ Some own → own_read t e.core (word_of e.move) ≡ Some own
+    by_entry : (o : Option Call) (own : ℕ) → cond (is_some o) None (own_read t e.core (word_of e.move)) ≡ Some own
+        → own_read t e.core (word_of e.move) ≡ Some own
     by_entry None own has = has
     by_entry (Some call) own has = absurd (none_some own has)
 
     by_decision : MayDecide setup t e (Some reply.Raced) (after_enter e.enters (phase t e.core)) → WasChanged t e.core (word_of e.move)
-    by_decision may = changed_since setup t legal.0 e.core (word_of e.move) may.justified.own (by_entry e.enters may.justified.own may.justified.has_read)
+    by_decision may = changed_since setup t legal.0 e.core (word_of e.move)
+        may.justified.own (by_entry e.enters may.justified.own may.justified.has_read)
         (λ same. may.justified.changed (legal.1.found ∙ same))

@@ -33,7 +33,8 @@ grant sched quality = record { budget = 100; sched = sched; quality = quality }
 
 -- Two cores and 32 frames, with these qualities of core 1's grant and these limits.
 machine : ℕ → ℕ → ℕ → ℕ → Setting
-machine sched quality calls epochs = record { cores = 2; frames = 32; grants = grant 0 1 ∷ grant sched quality ∷ []; calls = calls; epochs = epochs }
+machine sched quality calls epochs =
+    record { cores = 2; frames = 32; grants = grant 0 1 ∷ grant sched quality ∷ []; calls = calls; epochs = epochs }
 
 -- Core 0 is in a call, after these calls of it.
 behind : List Call → State
@@ -105,13 +106,16 @@ with_pages : List Call → List Call
 with_pages rest =
     call.Retype 0 8 frame_kind.Kernel ∷ call.Make make.Pleaf 0 8 1 20 ∷ call.Grow 2 0 20 ∷ call.Retype 0 9 frame_kind.User ∷ rest
 
-is_unflushed : MayReply (behind (with_pages (call.Map 2 0 0 9 flags ∷ call.Unmap 2 0 ∷ call.Flush ∷ []))) 0 (call.Map 2 0 0 9 flags) (reply.Unflushed 1)
+is_unflushed : MayReply (behind (with_pages (call.Map 2 0 0 9 flags ∷ call.Unmap 2 0 ∷ call.Flush ∷ [])))
+    0 (call.Map 2 0 0 9 flags) (reply.Unflushed 1)
 unfolding grant machine behind flags with_pages
 is_unflushed = (refl, inr (inr (inl (record { is_core = omega arith; flush_unknown = refl }))))
 
-is_flushed : MayReply (behind (with_pages (call.Map 2 0 0 9 flags ∷ call.Unmap 2 0 ∷ call.Flush ∷ []))) 0 (call.Map 2 0 0 9 flags) (reply.Unflushed 0) → ⊥
+is_flushed : MayReply (behind (with_pages (call.Map 2 0 0 9 flags ∷ call.Unmap 2 0 ∷ call.Flush ∷ [])))
+    0 (call.Map 2 0 0 9 flags) (reply.Unflushed 0) → ⊥
 unfolding grant machine behind flags with_pages
-is_flushed may = neither none (neither none (neither (λ x. let unknown = x.flush_unknown in absurd (cc)) (neither (λ x. absurd (cc)) (neither (λ x. absurd (cc)) none)))) may.1
+is_flushed may = neither none (neither none
+    (neither (λ x. let unknown = x.flush_unknown in absurd (cc)) (neither (λ x. absurd (cc)) (neither (λ x. absurd (cc)) none)))) may.1
 
 is_untyped : MayReply at_start 0 (call.Retype 0 8 frame_kind.Untyped) reply.FrameKind
 unfolding grant machine behind at_start sum_below node_refs refs holds_nothing
@@ -140,13 +144,15 @@ is_referenced = (refl, inr (inr (inr (inl (refl, refl)))))
 is_referenced_once : MayReply with_leaf 0 (call.Retype 0 8 frame_kind.Untyped) (reply.Referenced 2) → ⊥
 unfolding grant machine behind with_leaf sum_below node_refs refs holds_nothing
 is_referenced_once may =
-    neither none (neither (λ x. absurd (cc)) (neither (λ x. absurd (cc)) (neither (λ x. let k = x.1 in absurd (cc)) (neither none (neither none (neither (λ x. absurd (cc)) none))))))
+    neither none (neither (λ x. absurd (cc)) (neither (λ x. absurd (cc))
+    (neither (λ x. let k = x.1 in absurd (cc)) (neither none (neither none (neither (λ x. absurd (cc)) none))))))
     may.1
 
 -- A leaf that has an entry, and has lost its link and its capability.
 with_entry : List Call
 with_entry =
-    call.Retype 0 9 frame_kind.Kernel ∷ call.Make make.Leaf 0 9 1 20 ∷ call.Grow 1 1 20 ∷ call.Copy 0 1 64 ∷ call.Shrink 1 1 ∷ call.Remove 1 20 ∷ []
+    call.Retype 0 9 frame_kind.Kernel ∷ call.Make make.Leaf 0 9 1 20
+    ∷ call.Grow 1 1 20 ∷ call.Copy 0 1 64 ∷ call.Shrink 1 1 ∷ call.Remove 1 20 ∷ []
 
 is_not_empty : MayReply (behind with_entry) 0 (call.Retype 0 9 frame_kind.Untyped) reply.NotEmpty
 unfolding grant machine behind with_entry sum_below node_refs refs holds_nothing
@@ -155,7 +161,8 @@ is_not_empty = (refl, inr (inr (inr (inr (inr (inr (inl (refl, refl))))))))
 is_bare : MayReply with_leaf 0 (call.Retype 0 8 frame_kind.Untyped) reply.NotEmpty → ⊥
 unfolding grant machine behind with_leaf sum_below node_refs refs holds_nothing
 is_bare may =
-    neither none (neither (λ x. absurd (cc)) (neither (λ x. absurd (cc)) (neither (λ x. let k = x.1 in absurd (cc)) (neither none (neither none (neither (λ x. absurd (cc)) none))))))
+    neither none (neither (λ x. absurd (cc)) (neither (λ x. absurd (cc))
+    (neither (λ x. let k = x.1 in absurd (cc)) (neither none (neither none (neither (λ x. absurd (cc)) none))))))
     may.1
 
 is_dead : MayReply (behind (call.Kill 3 ∷ [])) 0 (call.Kill 3) reply.Dead
@@ -201,7 +208,8 @@ is_short = (refl, inr (inr (inr (inl (refl, refl)))))
 
 is_not_short : MayReply at_start 0 (call.Transfer 12 13 100) (reply.Short 100) → ⊥
 unfolding grant machine behind at_start
-is_not_short may = neither none (neither none (neither (λ x. absurd (cc)) (neither (λ x. absurd (cc)) (neither (λ x. absurd (cc)) none)))) may.1
+is_not_short may = neither none
+    (neither none (neither (λ x. absurd (cc)) (neither (λ x. absurd (cc)) (neither (λ x. absurd (cc)) none)))) may.1
 
 -- A second scheduler.
 two_schedulers : State
@@ -233,7 +241,8 @@ is_one_too_many = (refl, inr (inr (inr (inr (inl (refl, refl))))))
 
 is_room_for_one : MayReply (all_delegate 7) 0 (call.Delegate 12 20 0) reply.TooMany → ⊥
 unfolding grant machine behind all_delegate each_delegates
-is_room_for_one may = neither none (neither none (neither (λ x. absurd (cc)) (neither (λ x. absurd (cc)) (neither (λ x. absurd (cc)) none)))) may.1
+is_room_for_one may =
+    neither none (neither none (neither (λ x. absurd (cc)) (neither (λ x. absurd (cc)) (neither (λ x. absurd (cc)) none)))) may.1
 
 is_same : MayReply at_start 0 (call.Test 12 12) reply.Same
 unfolding grant machine behind at_start
@@ -256,7 +265,8 @@ is_epoch_left : MayReply (killed 2) 0 (call.Make (make.Comp 1 2 1) 0 9 1 21) rep
 unfolding grant machine killed
 is_epoch_left may =
     neither none (neither none (neither none (neither none (neither none
-    (neither (λ x. absurd (cc)) (neither (λ x. absurd (cc)) (neither (λ x. absurd (cc)) (neither none (neither (λ x. absurd (cc)) none)))))))))
+    (neither (λ x. absurd (cc))
+    (neither (λ x. absurd (cc)) (neither (λ x. absurd (cc)) (neither none (neither (λ x. absurd (cc)) none)))))))))
     may.1
 
 -- A core that may make no call.

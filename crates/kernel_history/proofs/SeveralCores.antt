@@ -46,7 +46,8 @@ abbrev flags : ℕ → PageFlags
 flags w = record { 0 = w }
 
 -- Both cores are ready to fill a place; the first wins, and the second has lost a race.
-race : Permitted (Returns 1 ∷ Returns 0 ∷ Decides 1 (call.Copy 0 1 20) reply.Raced ∷ Decides 0 (call.Copy 0 1 20) done ∷ Enters 1 (call.Copy 0 1 20) ∷ Enters 0 (call.Copy 0 1 20) ∷ [])
+race : Permitted (Returns 1 ∷ Returns 0 ∷ Decides 1 (call.Copy 0 1 20) reply.Raced
+    ∷ Decides 0 (call.Copy 0 1 20) done ∷ Enters 1 (call.Copy 0 1 20) ∷ Enters 0 (call.Copy 0 1 20) ∷ [])
 unfolding two_cores
 race = ((tt, (refl, refl)), (refl, tt))
 
@@ -64,7 +65,16 @@ removal_waits : Permitted (
     Enters 1 (call.Look 0)
     ∷ whole 0 (call.Copy 0 1 20) done []))))
 unfolding two_cores
-removal_waits = (((((tt, (refl, refl)), (refl, refl)), (refl, inr (inr (inl (record { is_core = omega arith; other = λ e. omega (arith, e); is_inside = refl; not_passed = refl }))))), (refl, refl)), (refl, refl))
+removal_waits = (
+  (
+    (
+      ((tt, (refl, refl)), (refl, refl)),
+      (refl, inr (inr (inl (record { is_core = omega arith; other = λ e. omega (arith, e); is_inside = refl; not_passed = refl })))),
+    ),
+    (refl, refl),
+  ),
+  (refl, refl),
+)
 
 -- A core that entered after the removal may be told to be waited for, too.
 removal_may_wait : Permitted (
@@ -74,7 +84,16 @@ removal_may_wait : Permitted (
     Enters 1 (call.Look 0)
     ∷ whole 0 (call.Remove 1 20) done (whole 0 (call.Copy 0 1 20) done []))))
 unfolding two_cores
-removal_may_wait = (((((tt, (refl, refl)), (refl, refl)), (refl, inr (inr (inl (record { is_core = omega arith; other = λ e. omega (arith, e); is_inside = refl; not_passed = refl }))))), (refl, refl)), (refl, refl))
+removal_may_wait = (
+  (
+    (
+      ((tt, (refl, refl)), (refl, refl)),
+      (refl, inr (inr (inl (record { is_core = omega arith; other = λ e. omega (arith, e); is_inside = refl; not_passed = refl })))),
+    ),
+    (refl, refl),
+  ),
+  (refl, refl),
+)
 
 -- A call that had looked a capability up before it was removed still copies it.
 still_copies : Permitted (
@@ -100,7 +119,10 @@ pinned : Permitted (
     Enters 1 (call.Map 2 0 0 9 (flags 0))
     ∷ with_pages)))
 unfolding two_cores sum_below node_refs refs holds_nothing
-pinned = (((((((tt, (refl, refl)), (refl, refl)), (refl, refl)), (refl, refl)), (refl, tt)), (refl, refl)), (refl, inr (inr (inr (inl (refl, refl))))))
+pinned = (
+  ((((((tt, (refl, refl)), (refl, refl)), (refl, refl)), (refl, refl)), (refl, tt)), (refl, refl)),
+  (refl, inr (inr (inr (inl (refl, refl))))),
+)
 
 -- A mapping that finds the frame marked is held up; then the retype is carried out.
 marked : Permitted (
@@ -120,4 +142,10 @@ flushed_by_both : Permitted (
     whole 0 (call.Map 2 0 0 9 (flags 0)) done
     with_pages)))))
 unfolding two_cores sum_below node_refs refs holds_nothing
-flushed_by_both = (((((((((tt, (refl, refl)), (refl, refl)), (refl, refl)), (refl, refl)), (refl, refl)), (refl, refl)), (refl, refl)), (refl, refl)), (refl, refl))
+flushed_by_both = (
+  (
+    (((((((tt, (refl, refl)), (refl, refl)), (refl, refl)), (refl, refl)), (refl, refl)), (refl, refl)), (refl, refl)),
+    (refl, refl),
+  ),
+  (refl, refl),
+)

@@ -7,8 +7,10 @@ use Rattle.word_map.specs.Word.{Word, FlushAt, ClockAt, same_word}
 use Rattle.word_map.specs.Moves.{word_of, left_of}
 use Rattle.kernel_rules.specs.State.{Thing}
 use Rattle.kernel_rules.specs.GracePeriods.{needs_flush}
-use Rattle.kernel_history.specs.Trace.{Step, Trace, phase, after_enter, after_decide, after_return, last_left, calls_of, steps_in_call, own_left, only_reads, own_read, state_before}
-use Rattle.kernel_history.specs.Stamps.{begins_at, ends_at, flushes_at, stamp, awaits_flushes, clock_seen, exit_after, exit_of, flush_of, flush_stored}
+use Rattle.kernel_history.specs.Trace.{Step, Trace, phase, after_enter, after_decide, after_return, last_left}
+use Rattle.kernel_history.specs.Trace.{calls_of, steps_in_call, own_left, only_reads, own_read, state_before}
+use Rattle.kernel_history.specs.Stamps.{begins_at, ends_at, flushes_at, stamp, awaits_flushes}
+use Rattle.kernel_history.specs.Stamps.{clock_seen, exit_after, exit_of, flush_of, flush_stored}
 use Rattle.kernel_history.proofs.Names.{same_word-same, same_word-other}
 
 module _ (c : ℕ) (e : Step) (t : Trace) (own : c ≡ e.core) where

@@ -1,5 +1,6 @@
 -- Sums over the numbers below a bound, in parts; and how often a run of numbers has a number.
-use Rattle.std.proofs.Common.{◌≡◌, ◌≢◌, inl, inr, ℕ, zero, suc, ◌+◌, ◌*◌, ◌<◌, ◌≤◌, arith, refl, sym, ap, ◌∙◌, ◌==◌, cond, List, [], ◌∷◌, ◌++◌, fold}
+use Rattle.std.proofs.Common.{◌≡◌, ◌≢◌, inl, inr, ℕ, zero, suc, ◌+◌, ◌*◌, ◌<◌, ◌≤◌, arith}
+use Rattle.std.proofs.Common.{refl, sym, ap, ◌∙◌, ◌==◌, cond, List, [], ◌∷◌, ◌++◌, fold}
 use Rattle.std.proofs.lemmas.Bool.{cases_eq, eq-eqb, ne_eqb}
 use Rattle.kernel_rules.specs.References.{sum_below, times}
 
@@ -64,10 +65,12 @@ times_append f (x ∷ xs) ys =
 
 -- One number is another, or is not.
 pub one_same : (f g : ℕ) → g ≡ f → times f (g ∷ []) ≡ 1
-one_same f g is = let one : ℕ = 1 in let p : cond (g == f) 1 0 ≡ one = ap (λ b. cond b 1 0) (eq-eqb g f is) in let q = times_cons f g [] in omega arith
+one_same f g is = let one : ℕ = 1 in let p : cond (g == f) 1 0 ≡ one = ap (λ b. cond b 1 0) (eq-eqb g f is) in
+    let q = times_cons f g [] in omega arith
 
 pub one_other : (f g : ℕ) → g ≢ f → times f (g ∷ []) ≡ 0
-one_other f g other = let none : ℕ = 0 in let p : cond (g == f) 1 0 ≡ none = ap (λ b. cond b 1 0) (ne_eqb g f other) in let q = times_cons f g [] in omega arith
+one_other f g other = let none : ℕ = 0 in
+    let p : cond (g == f) 1 0 ≡ none = ap (λ b. cond b 1 0) (ne_eqb g f other) in let q = times_cons f g [] in omega arith
 
 -- How often the n numbers from k on are f.
 abbrev pub hits : ℕ → ℕ → ℕ → ℕ

@@ -74,14 +74,16 @@ held_up = decides 0 (LoadOf (EntryAt 1 20)) 6 (reply.Busy 1)
 -- No core puts the mark of another,
 no_mark_of_another : KeepsDiscipline two_cores marked → ⊥
 unfolding two_cores inside marked word_of_entry entry_of_word
-no_mark_of_another keeps = neither (λ h. let was : None ≡ Some 1 = h in cc) (λ own. let other : 0 ≡ 1 = own.0 in omega (arith, other)) (keeps.1.marks (EntryAt 1 20) 1 refl)
+no_mark_of_another keeps = neither (λ h. let was : None ≡ Some 1 = h in
+    cc) (λ own. let other : 0 ≡ 1 = own.0 in omega (arith, other)) (keeps.1.marks (EntryAt 1 20) 1 refl)
   where
     neither : {A B : Type 0} → (A → ⊥) → (B → ⊥) → A ⊎ B → ⊥
     neither a b (inl x) = a x
     neither a b (inr y) = b y
 
 -- and nobody is held up by a core that has put no mark.
-not_held_up : IsHeldUp two_cores marked held_up (state_before two_cores marked held_up) (rule_of (state_before two_cores marked held_up) 0 (call.Copy 0 1 20)) 1 → ⊥
+not_held_up : IsHeldUp two_cores marked held_up (state_before two_cores marked held_up)
+    (rule_of (state_before two_cores marked held_up) 0 (call.Copy 0 1 20)) 1 → ⊥
 unfolding two_cores inside marked held_up
 not_held_up held = never held.has_marked
   where
@@ -95,7 +97,8 @@ not_held_up held = never held.has_marked
 -- permits the second as well.
 
 copied : Trace
-copied = makes 0 (LoadOf (EntryAt 0 0)) 101 ∷ makes 0 (LoadOf (EntryAt 1 63)) 0 ∷ makes 0 (LoadOf (EntryAt 0 0)) 101 ∷ enters 0 (call.Copy 63 0 20) ∷ []
+copied = makes 0 (LoadOf (EntryAt 0 0)) 101 ∷ makes 0 (LoadOf (EntryAt 1 63)) 0
+    ∷ makes 0 (LoadOf (EntryAt 0 0)) 101 ∷ enters 0 (call.Copy 63 0 20) ∷ []
 
 wrong : Step
 wrong = decides 0 (LoadOf (EntryAt 1 0)) 0 reply.WrongCap

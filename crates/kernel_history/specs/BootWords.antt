@@ -16,7 +16,8 @@ use Rattle.tcap_words.specs.Head.{word_of_head}
 use Rattle.tcap_words.specs.Thread.{word_of_thread}
 use Rattle.word_map.specs.Places.{Shape}
 use Rattle.word_map.specs.Word.{Word, EntryAt, FrameAt, CountAt, CoreAt, FlushAt, LiveAt, ClockAt}
-use Rattle.kernel_rules.specs.State.{Place, Free, Holds, Quiescing, ThreadFields, TcapFields, Object, Blank, Table, Leaf, Pages, Pleaf, Comp, Thread, Tcap, Frame, Untyped, User, Kernel, Liveness, Unused, Live, Dead}
+use Rattle.kernel_rules.specs.State.{Place, Free, Holds, Quiescing, ThreadFields, TcapFields, Object, Blank, Table, Leaf, Pages}
+use Rattle.kernel_rules.specs.State.{Pleaf, Comp, Thread, Tcap, Frame, Untyped, User, Kernel, Liveness, Unused, Live, Dead}
 use Rattle.kernel_rules.specs.Start.{start}
 use Rattle.kernel_rules.specs.References.{refs}
 use Rattle.kernel_history.specs.ObjectWords.{frame_value, comp_word, thread_value, stack_word, quality_word}
@@ -62,7 +63,8 @@ boot_live (Dead epoch) = live_word.Free
 abbrev pub boot_word : Setting → Word → ℕ
 boot_word setup (EntryAt f i) = boot_frame ((start setup).frame f) ((start setup).place f) i
 boot_word setup (FrameAt f) = word_of_frame (frame_value ((start setup).frame f))
-boot_word setup (CountAt f c) = word_of_count (record { hold = Unheld; count = pos (if c == 0 then refs (start setup) f else 0); stamp = 0 })
+boot_word setup (CountAt f c) =
+    word_of_count (record { hold = Unheld; count = pos (if c == 0 then refs (start setup) f else 0); stamp = 0 })
 boot_word setup (CoreAt c) = word_of_core (record { inside = false; stamp = 0 })
 boot_word setup (FlushAt c) = word_of_flush (record { stamp = 0 })
 boot_word setup (LiveAt l) = word_of_live (boot_live ((start setup).number l))

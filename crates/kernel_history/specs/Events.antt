@@ -2,7 +2,8 @@
 use Rattle.std.specs.Prelude.{ℕ, List, [], ◌∷◌, Option, Some, None}
 use Rattle.spk_nums.specs.declared.calls.Call.{Call}
 use Rattle.spk_nums.specs.declared.replies.Reply.{Reply}
-use Rattle.kernel_rules.specs.Runs.{Event, Enters, Decides, Returns, Phase as event_phase, Out as is_out, Open as is_open, Decided as is_decided}
+use Rattle.kernel_rules.specs.Runs.{Event, Enters, Decides, Returns, Phase as event_phase}
+use Rattle.kernel_rules.specs.Runs.{Out as is_out, Open as is_open, Decided as is_decided}
 use Rattle.kernel_history.specs.Trace.{Trace, Phase, Out, Open, Decided, phase, after_enter}
 
 -- The events with that of a step that may enter a call.

@@ -17,7 +17,9 @@ use Rattle.tcap_words.specs.Stack.{stack_of_word}
 use Rattle.tcap_words.specs.Thread.{thread_of_word}
 use Rattle.word_map.specs.Word.{Word, EntryAt, FrameAt, CoreAt, LiveAt}
 use Rattle.word_map.specs.Places.{Shape, place_of}
-use Rattle.kernel_rules.specs.State.{Place, Free, Holds, Quiescing, CompFields, ThreadFields, TcapFields, Object, Blank, Table, Leaf, Pages, Pleaf, Comp, Thread, Tcap, Frame, Untyped, User, Kernel, Liveness, Unused, Live, Dead, State, first_of_stack, thread_of}
+use Rattle.kernel_rules.specs.State.{Place, Free, Holds, Quiescing, CompFields, ThreadFields, TcapFields, Object}
+use Rattle.kernel_rules.specs.State.{Blank, Table, Leaf, Pages, Pleaf, Comp, Thread, Tcap, Frame, Untyped, User}
+use Rattle.kernel_rules.specs.State.{Kernel, Liveness, Unused, Live, Dead, State, first_of_stack, thread_of}
 use Rattle.kernel_rules.specs.Access.{held_in}
 use Rattle.kernel_history.specs.ObjectWords.{holds_node, frame_value, thread_value, at_height}
 

@@ -23,11 +23,13 @@ pub record FitsFlush (awaits unflushed flush_unknown : Bool) (decided stored at 
 
 abbrev pub FitsOf : Setting → Trace → Thing → ℕ → Type 0
 FitsOf setup t x c =
-    Fits (((state_after setup t).grace x).waits c) (((state_after setup t).grace x).not_passed c) ((state_after setup t).core c).inside (exit_of t c) (stamp setup t x)
+    Fits (((state_after setup t).grace x).waits c) (((state_after setup t).grace x).not_passed c)
+    ((state_after setup t).core c).inside (exit_of t c) (stamp setup t x)
 
 abbrev pub FitsFlushOf : Setting → Trace → Thing → ℕ → Type 0
 FitsFlushOf setup t x c =
-    FitsFlush (awaits_flushes setup t x) (((state_after setup t).grace x).unflushed c) (((state_after setup t).grace x).flush_unknown c) (flush_of t c) (flush_stored t c) (stamp setup t x)
+    FitsFlush (awaits_flushes setup t x) (((state_after setup t).grace x).unflushed c)
+    (((state_after setup t).grace x).flush_unknown c) (flush_of t c) (flush_stored t c) (stamp setup t x)
 
 -- A thing's stamp is past, and its sets go with it.
 pub record GraceIs (setup : Setting) (t : Trace) (x : Thing) : Type 0 where

@@ -1,5 +1,6 @@
 -- When a decision is justified by the steps of its own call.
-use Rattle.std.specs.Prelude.{◌≡◌, ◌≢◌, ◌⊎◌, ℕ, ◌==◌, ◌&&◌, Bool, Option, Some, None, List, ◌∷◌, IsSome, is_some, IsTrue, All, if◌then◌else◌}
+use Rattle.std.specs.Prelude.{◌≡◌, ◌≢◌, ◌⊎◌, ℕ, ◌==◌, ◌&&◌, Bool, Option, Some, None}
+use Rattle.std.specs.Prelude.{List, ◌∷◌, IsSome, is_some, IsTrue, All, if◌then◌else◌}
 use Rattle.std.specs.List.{list_any}
 use Rattle.spk_nums.specs.declared.calls.Call.{Call}
 use Rattle.spk_nums.specs.declared.replies.Reply.{Reply}
@@ -7,7 +8,8 @@ use Rattle.spk_nums.specs.declared.replies.Reply.TheVariants as reply
 use Rattle.spk_nums.specs.Setting.{Setting}
 use Rattle.word_map.specs.Word.{Word, EntryAt, FrameAt, CountAt, CoreAt, FlushAt, LiveAt, ClockAt}
 use Rattle.word_map.specs.Moves.{word_of}
-use Rattle.kernel_rules.specs.State.{Place, Free, Holds, Quiescing, Thread, Tcap, Frame, Kernel, Liveness, Unused, Live, Dead, Thing, PlaceOf, FrameOf, NumberOf, State}
+use Rattle.kernel_rules.specs.State.{Place, Free, Holds, Quiescing, Thread, Tcap, Frame, Kernel, Liveness}
+use Rattle.kernel_rules.specs.State.{Unused, Live, Dead, Thing, PlaceOf, FrameOf, NumberOf, State}
 use Rattle.kernel_rules.specs.Access.{Slot}
 use Rattle.kernel_rules.specs.GracePeriods.{same_thing, MayWait, MayBeUnflushed}
 use Rattle.kernel_rules.specs.CallRelation.{rule_of}

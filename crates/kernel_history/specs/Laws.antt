@@ -41,7 +41,8 @@ returned_calls (e ∷ t) c = if c == e.core && is_some e.returns then returned_c
 
 -- In a legal trace a core has entered the calls that have returned, and one more exactly where it is in a call.
 abbrev pub OneCallAtATime : Type 0
-OneCallAtATime = (setup : Setting) (t : Trace) → IsLegal setup t → (c : ℕ) → length (calls_of t c) ≡ returned_calls t c + (if is_in (phase t c) then 1 else 0)
+OneCallAtATime = (setup : Setting) (t : Trace) → IsLegal setup t → (c : ℕ)
+    → length (calls_of t c) ≡ returned_calls t c + (if is_in (phase t c) then 1 else 0)
 
 -- The step decides none of `raced`, `busy` and `quiescing`.
 abbrev pub IsNotHeldUp : Option Reply → Type 0
@@ -68,4 +69,5 @@ WasChanged (e ∷ t) c w = ChangesWord c e w ⊎ IfNot (c == e.core && (same_wor
 
 -- A call is answered `raced` only where another core has changed the word that it read, since it read it.
 abbrev pub RacedByAnother : Type 0
-RacedByAnother = (setup : Setting) (t : Trace) (e : Step) → IsLegal setup (e ∷ t) → e.decides ≡ Some reply.Raced → WasChanged t e.core (word_of e.move)
+RacedByAnother = (setup : Setting) (t : Trace) (e : Step) → IsLegal setup (e ∷ t)
+    → e.decides ≡ Some reply.Raced → WasChanged t e.core (word_of e.move)

@@ -1,5 +1,6 @@
 -- Traces that have the calls of lists, and that follow an order.
-use Rattle.std.specs.Prelude.{◌≡◌, ◌⊎◌, ℕ, zero, suc, Bool, List, [], ◌∷◌, ◌++◌, length, All, slice_index_or, Option, None, IsSome, IsTrue, IsFalse}
+use Rattle.std.specs.Prelude.{◌≡◌, ◌⊎◌, ℕ, zero, suc, Bool, List, [], ◌∷◌, ◌++◌, length}
+use Rattle.std.specs.Prelude.{All, slice_index_or, Option, None, IsSome, IsTrue, IsFalse}
 use Rattle.spk_nums.specs.declared.calls.Call.{Call}
 use Rattle.spk_nums.specs.declared.replies.Reply.{Reply}
 use Rattle.spk_nums.specs.declared.steps.Item.{Item}
@@ -81,7 +82,8 @@ Stretch ready Return c t u = GoesThrough (λ e. e.returns) c t u
 
 -- From t to u by an item: nothing where the core is idle, else the item's stretch.
 abbrev pub FollowsItem : (Trace → ℕ → Bool) → List (List Call) → Item → Trace → Trace → Type 0
-FollowsItem ready lists item t u = (IsIdle lists t item.core × (u ≡ t)) ⊎ ((IsIdle lists t item.core → ⊥) × Stretch ready item.how item.core t u)
+FollowsItem ready lists item t u = (IsIdle lists t item.core × (u ≡ t))
+    ⊎ ((IsIdle lists t item.core → ⊥) × Stretch ready item.how item.core t u)
 
 -- From t to u by the items, one after another.
 abbrev pub FollowsItems : (Trace → ℕ → Bool) → List (List Call) → List Item → Trace → Trace → Type 0

@@ -3,7 +3,9 @@ use Rattle.std.specs.Prelude.{ℕ, zero, suc, ◌==◌, ◌||◌, ◌&&◌, Bool
 use Rattle.std.specs.List.{flat_map}
 use Rattle.spk_nums.specs.Texts.{cap_text}
 use Rattle.spk_nums.specs.declared.translations.Translation.{Translation}
-use Rattle.kernel_rules.specs.State.{Place, Free, Holds, Quiescing, CompFields, ThreadFields, TcapFields, Object, Blank, Table, Leaf, Pages, Pleaf, Comp, Thread, Tcap, Frame, Untyped, User, Kernel, Liveness, Unused, Live, Dead, Core, State, first_of_stack, thread_of}
+use Rattle.kernel_rules.specs.State.{Place, Free, Holds, Quiescing, CompFields, ThreadFields, TcapFields, Object}
+use Rattle.kernel_rules.specs.State.{Blank, Table, Leaf, Pages, Pleaf, Comp, Thread, Tcap, Frame, Untyped, User}
+use Rattle.kernel_rules.specs.State.{Kernel, Liveness, Unused, Live, Dead, Core, State, first_of_stack, thread_of}
 use Rattle.kernel_rules.specs.References.{refs}
 use Rattle.kernel_rules.specs.Laws.{ticks}
 
@@ -80,7 +82,8 @@ frame_lines f (Kernel object) place k = frame_line f (object_word object) k ++ o
 -- The line of a liveness number that is live or dead.
 abbrev pub number_line : ℕ → Liveness → List ℕ
 number_line l Unused = []
-number_line l (Live epoch f) = codes "live" ++ (number l ++ (codes " epoch" ++ (number epoch ++ (codes " frame" ++ (number f ++ line_end)))))
+number_line l (Live epoch f) = codes "live"
+    ++ (number l ++ (codes " epoch" ++ (number epoch ++ (codes " frame" ++ (number f ++ line_end)))))
 number_line l (Dead epoch) = codes "dead" ++ (number l ++ (codes " epoch" ++ (number epoch ++ line_end)))
 
 -- The line of a translation: its page root, its page, the frame and the flags.
@@ -105,7 +108,8 @@ ascending (t ∷ ts) = inserted t (ascending ts)
 abbrev pub core_lines : ℕ → Core → ℕ → List ℕ
 core_lines c k comp =
     codes "core" ++ (number c ++ (codes " thread" ++ (number k.thread ++ (codes " tcap" ++ (number k.tcap ++ (codes " comp" ++ (number comp
-    ++ (codes " spent" ++ (number k.spent ++ (codes " owed" ++ (number k.owed ++ (line_end ++ flat_map translation_line (ascending k.cached)))))))))))))
+    ++ (codes " spent" ++ (number k.spent
+    ++ (codes " owed" ++ (number k.owed ++ (line_end ++ flat_map translation_line (ascending k.cached)))))))))))))
 
 -- The line of all ticks: the budgets and what the cores have spent.
 abbrev pub total_line : ℕ → List ℕ

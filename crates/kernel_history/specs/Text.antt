@@ -39,7 +39,8 @@ text_by_cores setup t = lines_below (λ c. reply_lines (calls_of t) (decisions_b
 -- The reply lines of core c's calls that are made alone, one after another, from a state on; the first has this index.
 abbrev pub plain_lines : State → ℕ → ℕ → List Call → List ℕ
 plain_lines s c index [] = []
-plain_lines s c index (call ∷ calls) = reply_line_text c index call (plain_reply s c call) ++ plain_lines (plain_step s c call) c (index + 1) calls
+plain_lines s c index (call ∷ calls) = reply_line_text c index call (plain_reply s c call)
+    ++ plain_lines (plain_step s c call) c (index + 1) calls
 
 -- The state after the calls of the first n lists, core 0's first.
 unfoldable pub plain_state : (ℕ → List Call) → ℕ → State → State

@@ -1,5 +1,6 @@
 -- Traces of atomic steps, and what they leave. A trace lists its steps with the newest first.
-use Rattle.std.specs.Prelude.{ℕ, Bool, true, false, ◌⊎◌, ◌+◌, ◌==◌, ◌&&◌, List, [], ◌∷◌, ◌++◌, Option, Some, None, is_some, if◌then◌else◌, option_to_list, length}
+use Rattle.std.specs.Prelude.{ℕ, Bool, true, false, ◌⊎◌, ◌+◌, ◌==◌, ◌&&◌, List, [], ◌∷◌, ◌++◌}
+use Rattle.std.specs.Prelude.{Option, Some, None, is_some, if◌then◌else◌, option_to_list, length}
 use Rattle.spk_nums.specs.declared.calls.Call.{Call}
 use Rattle.spk_nums.specs.declared.replies.Reply.{Reply}
 use Rattle.spk_nums.specs.declared.replies.Decision.{Decision}
@@ -126,7 +127,8 @@ abbrev pub own_read : Trace → ℕ → Word → Option ℕ
 own_read [] c w = None
 own_read (e ∷ t) c w =
     if c == e.core
-    then (if same_word w (word_of e.move) then (if only_reads e then Some e.found else None) else (if is_some e.enters then None else own_read t c w))
+    then (if same_word w (word_of e.move) then (if only_reads e then Some e.found else None)
+    else (if is_some e.enters then None else own_read t c w))
     else own_read t c w
 
 -- The decision of a step that may decide.

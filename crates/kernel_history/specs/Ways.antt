@@ -3,7 +3,8 @@ use Rattle.std.specs.Prelude.{ℕ, ◌%◌, ◌&&◌, nat_le, if◌then◌else�
 use Rattle.spk_nums.specs.Capability.{Capability}
 use Rattle.kernel_rules.specs.State.{Place, Free, Holds, Quiescing, Thing, PlaceOf, State}
 use Rattle.kernel_rules.specs.Access.{Slot, Target, Under, InRoot, place_at, linked, slot_in, root_slot, reached, root_at, own}
-use Rattle.kernel_rules.specs.Rules.{Rule, Name, Vacant, Held, Mapped, Does, Cause, When, WaitedFor, Unflushed, Judged, Refused, Found, named, held, name_of, slot_of}
+use Rattle.kernel_rules.specs.Rules.{Rule, Name, Vacant, Held, Mapped, Does, Cause, When, WaitedFor}
+use Rattle.kernel_rules.specs.Rules.{Unflushed, Judged, Refused, Found, named, held, name_of, slot_of}
 
 -- The capability of a place, also where it is removed.
 abbrev pub capability_in : Place → Option Capability
@@ -13,7 +14,8 @@ capability_in (Quiescing k) = Some k
 
 -- The slot of a target where a root entry leads on though its link is removed.
 abbrev pub led_to : State → Target → Option Slot
-led_to s (Under table n) = if table.found && nat_le n 4095 then slot_in (linked (capability_in (place_at s (root_slot table.frame n)))) (n % 64) else None
+led_to s (Under table n) = if table.found
+    && nat_le n 4095 then slot_in (linked (capability_in (place_at s (root_slot table.frame n)))) (n % 64) else None
 led_to s (InRoot table i) = if table.found && nat_le i 63 then Some record { node = table.frame; index = i } else None
 
 -- The root entry that a target passes.

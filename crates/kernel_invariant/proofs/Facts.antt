@@ -1,14 +1,19 @@
 -- What is known where a rule is carried out.
-use Rattle.std.proofs.Common.{◌&&◌, ◌≡◌, ℕ, ◌<◌, ◌≤◌, ◌%◌, Bool, true, false, not, refl, sym, ◌∙◌, ap, subst, arith, nat_le, if◌then◌else◌, IsTrue, List, ◌∷◌, Option, Some, None}
+use Rattle.std.proofs.Common.{◌&&◌, ◌≡◌, ℕ, ◌<◌, ◌≤◌, ◌%◌, Bool, true, false, not, refl, sym, ◌∙◌, ap}
+use Rattle.std.proofs.Common.{subst, arith, nat_le, if◌then◌else◌, IsTrue, List, ◌∷◌, Option, Some, None}
 use Rattle.std.proofs.lemmas.Bool.{false≢true, true≢false, leb-true}
 use Rattle.spk_nums.specs.Capability.{Capability}
 use Rattle.spk_nums.specs.declared.kinds.Kind.{Kind}
 use Rattle.spk_nums.specs.declared.kinds.Kind.TheVariants as kind
 use Rattle.spk_nums.specs.declared.replies.Reply.{Reply}
 use Rattle.spk_nums.specs.declared.replies.Reply.TheVariants as reply
-use Rattle.kernel_rules.specs.State.{Place, Free, Holds, Quiescing, Frame, Untyped, User, Kernel, Table, Leaf, Pages, Pleaf, Comp, Thread, Tcap, PlaceOf, State}
-use Rattle.kernel_rules.specs.Access.{Slot, found, Target, Under, InRoot, place_at, held_in, usable_in, usable, linked, slot_in, reached, root_slot, only, own}
-use Rattle.kernel_rules.specs.Rules.{Change, Cause, Rule, Name, Vacant, Held, Mapped, Does, Judged, Refused, Found, and_then, unless, or_refuse, of_kind, named, first_of, not_vacant, vacant, held, mapped, refusal_of, first_cause, outcome}
+use Rattle.kernel_rules.specs.State.{Place, Free, Holds, Quiescing, Frame, Untyped, User, Kernel}
+use Rattle.kernel_rules.specs.State.{Table, Leaf, Pages, Pleaf, Comp, Thread, Tcap, PlaceOf, State}
+use Rattle.kernel_rules.specs.Access.{Slot, found, Target, Under, InRoot, place_at, held_in, usable_in}
+use Rattle.kernel_rules.specs.Access.{usable, linked, slot_in, reached, root_slot, only, own}
+use Rattle.kernel_rules.specs.Rules.{Change, Cause, Rule, Name, Vacant, Held, Mapped, Does, Judged}
+use Rattle.kernel_rules.specs.Rules.{Refused, Found, and_then, unless, or_refuse, of_kind, named, first_of}
+use Rattle.kernel_rules.specs.Rules.{not_vacant, vacant, held, mapped, refusal_of, first_cause, outcome}
 use Rattle.kernel_rules.proofs.Changes.{IfFound}
 use Rattle.kernel_rules.specs.Fitting.{fits, IsGood}
 use Rattle.kernel_rules.specs.Relies.{is_node}
@@ -22,7 +27,8 @@ ChangesFrom P s c (Held target rest) = (at : Slot) (k : Capability) → held s c
 ChangesFrom P s c (Mapped table v rest) = (k : Capability) → mapped s c table v ≡ Found k → ChangesFrom P s c (rest k)
 ChangesFrom P s c (Does causes change) = first_cause s c causes ≡ None → P change
 
-then_found : {A B : Type 0} (x : Judged A) (f : A → Judged B) (P : B → Type 0) → ((a : A) → x ≡ Found a → IfFound (f a) P) → IfFound (and_then x f) P
+then_found : {A B : Type 0} (x : Judged A) (f : A → Judged B) (P : B → Type 0)
+    → ((a : A) → x ≡ Found a → IfFound (f a) P) → IfFound (and_then x f) P
 then_found (Refused r) f P h = tt
 then_found (Found a) f P h = h a refl
 
@@ -31,10 +37,14 @@ unless_found None x P h = h refl
 unless_found (Some r) x P h = tt
 
 pub outcome_from : (P : Change → Type 0) (s : State) (c : ℕ) (rule : Rule) → ChangesFrom P s c rule → IfFound (outcome s c rule) P
-outcome_from P s c (Name n wanted rest) h = then_found (named s c n wanted) (λ k. outcome s c (rest (found k))) P λ k e. outcome_from P s c (rest (found k)) (h k e)
-outcome_from P s c (Vacant target rest) h = then_found (vacant s c target) (λ at. outcome s c (rest at)) P λ at e. outcome_from P s c (rest at) (h at e)
-outcome_from P s c (Held target rest) h = then_found (held s c target) (λ p. outcome s c (rest p.0 p.1)) P λ p e. outcome_from P s c (rest p.0 p.1) (h p.0 p.1 e)
-outcome_from P s c (Mapped table v rest) h = then_found (mapped s c table v) (λ k. outcome s c (rest k)) P λ k e. outcome_from P s c (rest k) (h k e)
+outcome_from P s c (Name n wanted rest) h =
+    then_found (named s c n wanted) (λ k. outcome s c (rest (found k))) P λ k e. outcome_from P s c (rest (found k)) (h k e)
+outcome_from P s c (Vacant target rest) h =
+    then_found (vacant s c target) (λ at. outcome s c (rest at)) P λ at e. outcome_from P s c (rest at) (h at e)
+outcome_from P s c (Held target rest) h =
+    then_found (held s c target) (λ p. outcome s c (rest p.0 p.1)) P λ p e. outcome_from P s c (rest p.0 p.1) (h p.0 p.1 e)
+outcome_from P s c (Mapped table v rest) h =
+    then_found (mapped s c table v) (λ k. outcome s c (rest k)) P λ k e. outcome_from P s c (rest k) (h k e)
 outcome_from P s c (Does causes change) h = unless_found (first_cause s c causes) change P h
 
 pub some_inj : {A : Type 0} (x y : A) → Some x ≡ Some y → x ≡ y
@@ -53,7 +63,8 @@ pub found_inj : {A : Type 0} (x y : A) → Found x ≡ Found y → x ≡ y
 found_inj x y e = cc
 
 -- What is found after another finding.
-pub then_parts : {A B : Type 0} (x : Judged A) (f : A → Judged B) (b : B) → and_then x f ≡ Found b → (a : A) × (x ≡ Found a) × (f a ≡ Found b)
+pub then_parts : {A B : Type 0} (x : Judged A) (f : A → Judged B) (b : B)
+    → and_then x f ≡ Found b → (a : A) × (x ≡ Found a) × (f a ≡ Found b)
 then_parts (Refused r) f b e = absurd (refused_found r b e)
 then_parts (Found a) f b e = (a, refl, e)
 
@@ -62,7 +73,8 @@ or_found None r x e = absurd (refused_found r x e)
 or_found (Some y) r x e = ap Some (found_inj y x e)
 
 -- What a core in an open call may use is good.
-pub usable_good : (s : State) (o : ℕ → Bool) (c : ℕ) (at : Slot) (k : Capability) → IsSound s o → o c ≡ true → usable s c at ≡ Some k → IsGood s k
+pub usable_good : (s : State) (o : ℕ → Bool) (c : ℕ) (at : Slot) (k : Capability)
+    → IsSound s o → o c ≡ true → usable s c at ≡ Some k → IsGood s k
 usable_good s o c at k h inc e = by_place (place_at s at) refl e
   where
     by_wait : (j : Capability) (b : Bool) → (if b then Some j else None) ≡ Some k → (b ≡ true) × (j ≡ k)
@@ -73,20 +85,23 @@ usable_good s o c at k h inc e = by_place (place_at s at) refl e
     by_place Free is q = absurd (none_some k q)
     by_place (Holds j) is q = subst (IsGood s) (some_inj j k q) (h.held at.node at.index j is)
     by_place (Quiescing j) is q =
-        let w : ((s.grace (PlaceOf at.node at.index)).waits c ≡ true) × (j ≡ k) = by_wait j ((s.grace (PlaceOf at.node at.index)).waits c) q in
+        let w : ((s.grace (PlaceOf at.node at.index)).waits c ≡ true) × (j ≡ k) =
+        by_wait j ((s.grace (PlaceOf at.node at.index)).waits c) q in
         subst (IsGood s) w.1 (h.waiting at.node at.index j c is inc w.0).0
 
 -- A named capability is good, and of a wanted kind.
 pub named_good : (s : State) (o : ℕ → Bool) (c n : ℕ) (wanted : Kind → Bool) (k : Capability) → IsSound s o → o c ≡ true
     → named s c n wanted ≡ Found k → IsGood s k × IsTrue (wanted k.kind)
 named_good s o c n wanted k h inc e =
-    let a = then_parts (or_refuse (reached s c (own s c n)) reply.NoSlot) (λ at. and_then (or_refuse (usable s c at) reply.Empty) λ k. of_kind wanted k) k e in
+    let a = then_parts (or_refuse (reached s c (own s c n)) reply.NoSlot)
+    (λ at. and_then (or_refuse (usable s c at) reply.Empty) λ k. of_kind wanted k) k e in
     let b = then_parts (or_refuse (usable s c a.0) reply.Empty) (λ k. of_kind wanted k) k a.2 in
     let u : usable s c a.0 ≡ Some b.0 = or_found (usable s c a.0) reply.Empty b.0 b.1 in
     let w : (b.0 ≡ k) × IsTrue (wanted b.0.kind) = of_wanted b.0 (wanted b.0.kind) refl b.2 in
     (subst (IsGood s) w.0 (usable_good s o c a.0 b.0 h inc u), subst (λ j. IsTrue (wanted j.kind)) w.0 w.1)
   where
-    of_wanted : (j : Capability) (b : Bool) → wanted j.kind ≡ b → (if b then Found j else Refused reply.WrongCap) ≡ Found k → (j ≡ k) × IsTrue (wanted j.kind)
+    of_wanted : (j : Capability) (b : Bool) → wanted j.kind ≡ b
+        → (if b then Found j else Refused reply.WrongCap) ≡ Found k → (j ≡ k) × IsTrue (wanted j.kind)
     of_wanted j true is q = (found_inj j k q, is)
     of_wanted j false is q = absurd (refused_found reply.WrongCap k q)
 
@@ -116,7 +131,8 @@ pub reached_node : (s : State) (o : ℕ → Bool) (c : ℕ) (target : Target) (a
     → reached s c target ≡ Some at → IsTrue (is_node (s.frame at.node)) × (at.index < 64)
 reached_node s o c (Under table n) at h inc node e = by_number (table.found && nat_le n 4095) e
   where
-    by_slot : (l : Option ℕ) → linked (usable s c (root_slot table.frame n)) ≡ l → slot_in l (n % 64) ≡ Some at → IsTrue (is_node (s.frame at.node)) × (at.index < 64)
+    by_slot : (l : Option ℕ) → linked (usable s c (root_slot table.frame n)) ≡ l
+        → slot_in l (n % 64) ≡ Some at → IsTrue (is_node (s.frame at.node)) × (at.index < 64)
     by_slot None is q = absurd (none_some at q)
     by_slot (Some leaf) is q = by_link (usable s c (root_slot table.frame n)) refl is
       where
@@ -126,11 +142,13 @@ reached_node s o c (Under table n) at h inc node e = by_number (table.found && n
         small : at.index < 64
         small = let i : n % 64 ≡ at.index = ap (λ x. x.index) (some_inj record { node = leaf; index = n % 64 } at q) in omega (arith, i)
 
-        by_kind : (j : Capability) (b : Bool) → only kind.Link j.kind ≡ b → (if b then Some j.frame else None) ≡ Some leaf → (IsTrue (only kind.Link j.kind)) × (j.frame ≡ leaf)
+        by_kind : (j : Capability) (b : Bool) → only kind.Link j.kind ≡ b
+            → (if b then Some j.frame else None) ≡ Some leaf → (IsTrue (only kind.Link j.kind)) × (j.frame ≡ leaf)
         by_kind j true is q = (is, some_inj j.frame leaf q)
         by_kind j false is q = absurd (none_some leaf q)
 
-        by_link : (u : Option Capability) → usable s c (root_slot table.frame n) ≡ u → linked u ≡ Some leaf → IsTrue (is_node (s.frame at.node)) × (at.index < 64)
+        by_link : (u : Option Capability) → usable s c (root_slot table.frame n) ≡ u
+            → linked u ≡ Some leaf → IsTrue (is_node (s.frame at.node)) × (at.index < 64)
         by_link None is q = absurd (none_some leaf q)
         by_link (Some j) is q =
             let k : (IsTrue (only kind.Link j.kind)) × (j.frame ≡ leaf) = by_kind j (only kind.Link j.kind) refl q in
@@ -140,7 +158,8 @@ reached_node s o c (Under table n) at h inc node e = by_number (table.found && n
               small,
             )
 
-    by_number : (b : Bool) → (if b then slot_in (linked (usable s c (root_slot table.frame n))) (n % 64) else None) ≡ Some at → IsTrue (is_node (s.frame at.node)) × (at.index < 64)
+    by_number : (b : Bool) → (if b then slot_in (linked (usable s c (root_slot table.frame n))) (n % 64) else None) ≡ Some at
+        → IsTrue (is_node (s.frame at.node)) × (at.index < 64)
     by_number true q = by_slot (linked (usable s c (root_slot table.frame n))) refl q
     by_number false q = absurd (none_some at q)
 reached_node s o c (InRoot table i) at h inc node e = by_entry (table.found && nat_le i 63) refl e
@@ -148,7 +167,8 @@ reached_node s o c (InRoot table i) at h inc node e = by_entry (table.found && n
     slot : Slot
     slot = record { node = table.frame; index = i }
 
-    by_entry : (b : Bool) → (table.found && nat_le i 63) ≡ b → (if b then Some slot else None) ≡ Some at → IsTrue (is_node (s.frame at.node)) × (at.index < 64)
+    by_entry : (b : Bool) → (table.found && nat_le i 63) ≡ b
+        → (if b then Some slot else None) ≡ Some at → IsTrue (is_node (s.frame at.node)) × (at.index < 64)
     by_entry true is q =
         let small : i ≤ 63 = leb-true i 63 (second table.found (nat_le i 63) is) in
         let index : i ≡ at.index = ap (λ x. x.index) (some_inj slot at q) in
@@ -156,11 +176,14 @@ reached_node s o c (InRoot table i) at h inc node e = by_entry (table.found && n
     by_entry false is q = absurd (none_some at q)
 
 -- A vacant target is reached, and holds nothing.
-pub vacant_facts : (s : State) (c : ℕ) (target : Target) (at : Slot) → vacant s c target ≡ Found at → (reached s c target ≡ Some at) × (held_in (place_at s at) ≡ None)
+pub vacant_facts : (s : State) (c : ℕ) (target : Target) (at : Slot)
+    → vacant s c target ≡ Found at → (reached s c target ≡ Some at) × (held_in (place_at s at) ≡ None)
 vacant_facts s c target at e =
-    let a = then_parts (or_refuse (reached s c target) reply.NoSlot) (λ at. unless (not_vacant s c (PlaceOf at.node at.index) (place_at s at)) at) at e in
+    let a = then_parts (or_refuse (reached s c target) reply.NoSlot)
+    (λ at. unless (not_vacant s c (PlaceOf at.node at.index) (place_at s at)) at) at e in
     let r : reached s c target ≡ Some a.0 = or_found (reached s c target) reply.NoSlot a.0 a.1 in
-    let u : (not_vacant s c (PlaceOf a.0.node a.0.index) (place_at s a.0) ≡ None) × (a.0 ≡ at) = unless_parts (not_vacant s c (PlaceOf a.0.node a.0.index) (place_at s a.0)) a.0 a.2 in
+    let u : (not_vacant s c (PlaceOf a.0.node a.0.index) (place_at s a.0) ≡ None) × (a.0 ≡ at) =
+    unless_parts (not_vacant s c (PlaceOf a.0.node a.0.index) (place_at s a.0)) a.0 a.2 in
     (r ∙ ap Some u.1, subst (λ x. held_in (place_at s x) ≡ None) u.1 (nothing (PlaceOf a.0.node a.0.index) (place_at s a.0) u.0))
   where
     unless_parts : (o : Option Reply) (x : Slot) → unless o x ≡ Found at → (o ≡ None) × (x ≡ at)
@@ -173,14 +196,17 @@ vacant_facts s c target at e =
     nothing x (Quiescing k) q = refl
 
 -- A held target is reached, and holds the capability.
-pub held_facts : (s : State) (c : ℕ) (target : Target) (at : Slot) (k : Capability) → held s c target ≡ Found (at, k) → (reached s c target ≡ Some at) × (place_at s at ≡ Holds k)
+pub held_facts : (s : State) (c : ℕ) (target : Target) (at : Slot) (k : Capability)
+    → held s c target ≡ Found (at, k) → (reached s c target ≡ Some at) × (place_at s at ≡ Holds k)
 held_facts s c target at k e =
-    let a = then_parts (or_refuse (reached s c target) reply.NoSlot) (λ at. and_then (or_refuse (held_in (place_at s at)) reply.Empty) λ k. Found (at, k)) (at, k) e in
+    let a = then_parts (or_refuse (reached s c target) reply.NoSlot)
+    (λ at. and_then (or_refuse (held_in (place_at s at)) reply.Empty) λ k. Found (at, k)) (at, k) e in
     let b = then_parts (or_refuse (held_in (place_at s a.0)) reply.Empty) (λ k. Found (a.0, k)) (at, k) a.2 in
     let p : (a.0, b.0) ≡ (at, k) = found_inj (a.0, b.0) (at, k) b.2 in
     let same : a.0 ≡ at = ap (λ q. q.0) p in (
       or_found (reached s c target) reply.NoSlot a.0 a.1 ∙ ap Some same,
-      ap (place_at s) (sym same) ∙ holds (place_at s a.0) b.0 (or_found (held_in (place_at s a.0)) reply.Empty b.0 b.1) ∙ ap (λ q. Holds q.1) p,
+      ap (place_at s) (sym same) ∙ holds (place_at s a.0) b.0 (or_found (held_in (place_at s a.0)) reply.Empty b.0 b.1)
+          ∙ ap (λ q. Holds q.1) p,
     )
   where
     holds : (p : Place) (j : Capability) → held_in p ≡ Some j → p ≡ Holds j
@@ -203,7 +229,8 @@ not_not true e = refl
 not_not false e = absurd (true≢false e)
 
 -- The first two causes do not stand.
-pub first_two : (s : State) (c : ℕ) (x y : Cause) (causes : List Cause) → first_cause s c (x ∷ y ∷ causes) ≡ None → (refusal_of s c x ≡ None) × (refusal_of s c y ≡ None)
+pub first_two : (s : State) (c : ℕ) (x y : Cause) (causes : List Cause)
+    → first_cause s c (x ∷ y ∷ causes) ≡ None → (refusal_of s c x ≡ None) × (refusal_of s c y ≡ None)
 first_two s c x y causes calm =
     let p = none_parts (refusal_of s c x) (first_cause s c (y ∷ causes)) calm in
     let q = none_parts (refusal_of s c y) (first_cause s c causes) p.1 in

@@ -9,11 +9,14 @@ use Rattle.spk_nums.specs.declared.kinds.FrameKind.TheVariants as frame_kind
 use Rattle.spk_nums.specs.declared.calls.Make.{Make}
 use Rattle.spk_nums.specs.declared.calls.Make.TheVariants as make
 use Rattle.spk_nums.specs.declared.calls.Call.{Call}
-use Rattle.spk_nums.specs.declared.calls.Call.TheVariants.{Look, Copy, Remove, Grow, Shrink, Retype, Make as make_call, Map, Unmap, Touch, Flush, Gate, Kill, Call as call_gate, Ret, Switch, Tick, Transfer, Delegate, Test}
+use Rattle.spk_nums.specs.declared.calls.Call.TheVariants.{Look, Copy, Remove, Grow, Shrink, Retype, Make as make_call}
+use Rattle.spk_nums.specs.declared.calls.Call.TheVariants.{Map, Unmap, Touch, Flush, Gate, Kill, Call as call_gate}
+use Rattle.spk_nums.specs.declared.calls.Call.TheVariants.{Ret, Switch, Tick, Transfer, Delegate, Test}
 use Rattle.spk_nums.specs.declared.translations.Translation.{Translation}
 use Rattle.spk_nums.specs.declared.replies.Reply.{Reply}
 use Rattle.spk_nums.specs.declared.replies.Reply.TheVariants as reply
-use Rattle.kernel_rules.specs.State.{ThreadFields, TcapFields, Object, Blank, Table, Leaf, Pages, Pleaf, Comp, Thread, Tcap, Frame, Untyped, User, Kernel, PlaceOf, FrameOf, State, put, comp_of, thread_in}
+use Rattle.kernel_rules.specs.State.{ThreadFields, TcapFields, Object, Blank, Table, Leaf, Pages, Pleaf, Comp, Thread}
+use Rattle.kernel_rules.specs.State.{Tcap, Frame, Untyped, User, Kernel, PlaceOf, FrameOf, State, put, comp_of, thread_in}
 use Rattle.kernel_rules.specs.GracePeriods.{is_translated}
 use Rattle.kernel_rules.specs.Access.{Named, found}
 use Rattle.kernel_rules.specs.Rules.{Change, Judged, Refused, Found}
@@ -91,7 +94,8 @@ thread_turns call f (Kernel (Comp k)) t = turns_same call f (Kernel (Comp k))
 thread_turns call f (Kernel (Tcap q)) t = turns_same call f (Kernel (Tcap q))
 
 -- One frame is put.
-put_turns : (call : Call) (s : State) (g : ℕ) (y : Frame) → Turns call g (s.frame g) y → (f : ℕ) → Turns call f (s.frame f) (put s.frame g y f)
+put_turns : (call : Call) (s : State) (g : ℕ) (y : Frame)
+    → Turns call g (s.frame g) y → (f : ℕ) → Turns call f (s.frame f) (put s.frame g y f)
 put_turns call s g y h f = put_all (λ f x. Turns call f (s.frame f) x) s.frame g y f
     (λ same. subst (λ (n : ℕ). Turns call n (s.frame n) y) (sym same) h) (λ other. turns_same call f (s.frame f))
 
@@ -100,13 +104,15 @@ abbrev pub TurnsBy : State → Call → Change → Type 0
 TurnsBy s call change = (f : ℕ) → Turns call f (s.frame f) (change.next.frame f)
 
 -- A blank frame has an object that is no node; and one that is.
-blank_turns : (call : Call) (f : ℕ) (x : Frame) (object : Object) → x ≡ Kernel Blank → is_node (Kernel object) ≡ false → Turns call f x (Kernel object)
+blank_turns : (call : Call) (f : ℕ) (x : Frame) (object : Object) → x ≡ Kernel Blank
+    → is_node (Kernel object) ≡ false → Turns call f x (Kernel object)
 blank_turns call f x object blank none = record {
   node = λ i n. absurd (false≢true (sym none ∙ n));
   typed = λ h. absurd (false≢true (ap is_typed (sym blank) ∙ h));
 }
 
-made_turns : (call : Call) (f : ℕ) (x : Frame) (object : Object) → x ≡ Kernel Blank → ((i : ℕ) → ends_by call (PlaceOf f i) ≡ true) → Turns call f x (Kernel object)
+made_turns : (call : Call) (f : ℕ) (x : Frame) (object : Object) → x ≡ Kernel Blank
+    → ((i : ℕ) → ends_by call (PlaceOf f i) ≡ true) → Turns call f x (Kernel object)
 made_turns call f x object blank ends = record {
   node = λ i n. inl (ends i);
   typed = λ h. absurd (false≢true (ap is_typed (sym blank) ∙ h));
@@ -117,7 +123,8 @@ node_turns : (call : Call) (s : State) (o : ℕ → Bool) (d : ℕ) → IsOpen s
 node_turns call s o d h object k r f t b ends = λ range e table g at v calm.
     put_turns call s f (Kernel object) (made_turns call f (s.frame f) object (blank_by s o d r f range [] h e calm).1 ends)
 
-make_turns : (s : State) (o : ℕ → Bool) (d : ℕ) → IsOpen s o d → (what : Make) (r f t b : ℕ) → ChangesFrom (TurnsBy s (make_call what r f t b)) s d (make_rule s what r f t b)
+make_turns : (s : State) (o : ℕ → Bool) (d : ℕ) → IsOpen s o d → (what : Make) (r f t b : ℕ)
+    → ChangesFrom (TurnsBy s (make_call what r f t b)) s d (make_rule s what r f t b)
 make_turns s o d h make.Table r f t b = node_turns (make_call make.Table r f t b) s o d h Table kind.Table r f t b (λ i. eq-eqb f f refl)
 make_turns s o d h make.Leaf r f t b = node_turns (make_call make.Leaf r f t b) s o d h Leaf kind.Leaf r f t b (λ i. eq-eqb f f refl)
 make_turns s o d h make.Pages r f t b = node_turns (make_call make.Pages r f t b) s o d h Pages kind.Pages r f t b (λ i. eq-eqb f f refl)
@@ -139,9 +146,11 @@ typed_turns call f x y untyped none = record {
   typed = λ h. absurd (false≢true (ap is_typed (sym untyped) ∙ h));
 }
 
-retype_turns : (s : State) (o : ℕ → Bool) (d : ℕ) → IsOpen s o d → (r f : ℕ) (k : FrameKind) → ChangesFrom (TurnsBy s (Retype r f k)) s d (retype_rule s r f k)
+retype_turns : (s : State) (o : ℕ → Bool) (d : ℕ) → IsOpen s o d → (r f : ℕ) (k : FrameKind)
+    → ChangesFrom (TurnsBy s (Retype r f k)) s d (retype_rule s r f k)
 retype_turns s o d h r f frame_kind.Untyped = λ range e calm.
-    put_turns (Retype r f frame_kind.Untyped) s f Untyped (record { node = λ i n. absurd (false≢true n); typed = λ h. inl (eq-eqb f f refl) })
+    put_turns (Retype r f frame_kind.Untyped) s f Untyped
+    (record { node = λ i n. absurd (false≢true n); typed = λ h. inl (eq-eqb f f refl) })
 retype_turns s o d h r f frame_kind.User = λ range e calm.
     put_turns (Retype r f frame_kind.User) s f User
     (typed_turns (Retype r f frame_kind.User) f (s.frame f) User (untyped_by s o d r f range h e calm).1 refl)
@@ -188,17 +197,22 @@ rule_turns s o d opens (Touch v) = touch_turns s d v (comp_of s d).pages (transl
 rule_turns s o d opens Flush = λ calm f. turns_same Flush f (s.frame f)
 rule_turns s o d opens (Gate k t b) = λ comp e table g at v calm f. turns_same (Gate k t b) f (s.frame f)
 rule_turns s o d opens (Kill k) = λ comp e calm f. turns_same (Kill k) f (s.frame f)
-rule_turns s o d opens (call_gate g) = λ gate e calm. put_turns (call_gate g) s (s.core d).thread _ (thread_turns (call_gate g) (s.core d).thread (s.frame (s.core d).thread) _)
+rule_turns s o d opens (call_gate g) = λ gate e calm.
+    put_turns (call_gate g) s (s.core d).thread _ (thread_turns (call_gate g) (s.core d).thread (s.frame (s.core d).thread) _)
 rule_turns s o d opens Ret = λ calm. put_turns Ret s (s.core d).thread _ (thread_turns Ret (s.core d).thread (s.frame (s.core d).thread) _)
-rule_turns s o d opens (Switch b q) = λ thread e tcap g. switch_turns s d b q (found thread) tcap.frame (thread_in (s.frame thread.frame)).runs_on
-rule_turns s o d opens (Tick n) = λ calm. put_turns (Tick n) s (s.core d).tcap _ (tcap_turns (Tick n) (s.core d).tcap (s.frame (s.core d).tcap) _)
+rule_turns s o d opens (Switch b q) =
+    λ thread e tcap g. switch_turns s d b q (found thread) tcap.frame (thread_in (s.frame thread.frame)).runs_on
+rule_turns s o d opens (Tick n) =
+    λ calm. put_turns (Tick n) s (s.core d).tcap _ (tcap_turns (Tick n) (s.core d).tcap (s.frame (s.core d).tcap) _)
 rule_turns s o d opens (Transfer a b m) = λ j e k g calm. moved_turns (Transfer a b m) s j.frame k.frame m
 rule_turns s o d opens (Delegate a b m) = λ j e k g calm f.
     turns_then (Delegate a b m) f (s.frame f) ((moved s j.frame k.frame m).frame f) _ (moved_turns (Delegate a b m) s j.frame k.frame m f)
-    (put_turns (Delegate a b m) (moved s j.frame k.frame m) k.frame _ (tcap_turns (Delegate a b m) k.frame ((moved s j.frame k.frame m).frame k.frame) _) f)
+    (put_turns (Delegate a b m) (moved s j.frame k.frame m) k.frame _
+    (tcap_turns (Delegate a b m) k.frame ((moved s j.frame k.frame m).frame k.frame) _) f)
 rule_turns s o d opens (Test a b) = λ j e k g calm f. turns_same (Test a b) f (s.frame f)
 
-found_turns : (s : State) (call : Call) (x : Judged Change) → IfFound x (TurnsBy s call) → (f : ℕ) → Turns call f (s.frame f) ((changed s x).frame f)
+found_turns : (s : State) (call : Call) (x : Judged Change) → IfFound x (TurnsBy s call)
+    → (f : ℕ) → Turns call f (s.frame f) ((changed s x).frame f)
 found_turns s call (Refused r) by f = turns_same call f (s.frame f)
 found_turns s call (Found change) by f = by f
 
@@ -217,7 +231,8 @@ turns_in_same call r f x y same = record {
   typed = λ h. inr (subst (λ x. IsTrue (is_typed x)) (sym same) h, ap is_translated same);
 }
 
-pub decided_turns : (s : State) (o : ℕ → Bool) (d : ℕ) → IsOpen s o d → (call : Call) (r : Reply) (f : ℕ) → TurnsIn call r f (s.frame f) ((state_by s d call r).frame f)
+pub decided_turns : (s : State) (o : ℕ → Bool) (d : ℕ) → IsOpen s o d
+    → (call : Call) (r : Reply) (f : ℕ) → TurnsIn call r f (s.frame f) ((state_by s d call r).frame f)
 decided_turns s o d opens call (reply.Ok v) f =
     let a : Turns call f (s.frame f) ((changed s (change_of s d call)).frame f) =
     found_turns s call (change_of s d call) (outcome_from (TurnsBy s call) s d (rule_of s d call) (rule_turns s o d opens call)) f in

@@ -9,7 +9,9 @@ use Rattle.std.proofs.lemmas.Bool.{false≢true}
 use Rattle.std.specs.Prelude.{Option, Some, None}
 use Rattle.std.specs.List.{list_any}
 use Rattle.spk_nums.specs.declared.calls.Call.{Call}
-use Rattle.spk_nums.specs.declared.calls.Call.TheVariants.{Look, Copy, Remove, Grow, Shrink, Retype, Make as make_call, Map, Unmap, Touch, Flush, Gate, Kill, Call as call_gate, Ret, Switch, Tick, Transfer, Delegate, Test}
+use Rattle.spk_nums.specs.declared.calls.Call.TheVariants.{Look, Copy, Remove, Grow, Shrink, Retype, Make as make_call}
+use Rattle.spk_nums.specs.declared.calls.Call.TheVariants.{Map, Unmap, Touch, Flush, Gate, Kill, Call as call_gate}
+use Rattle.spk_nums.specs.declared.calls.Call.TheVariants.{Ret, Switch, Tick, Transfer, Delegate, Test}
 use Rattle.spk_nums.specs.declared.replies.Value.{Value}
 use Rattle.spk_nums.specs.declared.replies.Reply.{Reply}
 use Rattle.spk_nums.specs.declared.replies.Reply.TheVariants as reply
@@ -21,7 +23,8 @@ use Rattle.kernel_rules.specs.Rules.{Change, Judged, Refused, Found, IsFoundAnd}
 use Rattle.kernel_rules.specs.CapabilityCalls.{make_rule}
 use Rattle.kernel_rules.specs.MemoryCalls.{retype_rule, touch_by, translation_of}
 use Rattle.kernel_rules.specs.InvocationCalls.{switch_to}
-use Rattle.kernel_rules.specs.CallRelation.{rule_of, change_of, changed, owed_by, state_by, MayReply, begins, begins_in, ends, ends_by, flushes, flushes_by}
+use Rattle.kernel_rules.specs.CallRelation.{rule_of, change_of, changed, owed_by, state_by, MayReply}
+use Rattle.kernel_rules.specs.CallRelation.{begins, begins_in, ends, ends_by, flushes, flushes_by}
 use Rattle.kernel_rules.proofs.Changes.{AllChanges, IfFound, outcome_all}
 
 -- A grace period as core c flushes.
@@ -36,7 +39,8 @@ kept_by call c x g = cond (ends_by call x) no_grace (cond (flushes_by call) (flu
 abbrev LeavesGrace : State → ℕ → Call → Change → Type 0
 LeavesGrace s c call change = (x : Thing) → change.next.grace x ≡ kept_by call c x (s.grace x)
 
-make_grace : (s : State) (c : ℕ) (what : Make) (r f t b : ℕ) → AllChanges (LeavesGrace s c (make_call what r f t b)) (make_rule s what r f t b)
+make_grace : (s : State) (c : ℕ) (what : Make) (r f t b : ℕ)
+    → AllChanges (LeavesGrace s c (make_call what r f t b)) (make_rule s what r f t b)
 make_grace s c make.Table r f t b = λ range table at x. refl
 make_grace s c make.Leaf r f t b = λ range table at x. refl
 make_grace s c make.Pages r f t b = λ range table at x. refl
@@ -82,9 +86,11 @@ rule_grace s c (Test a b) = λ a b x. refl
 
 -- The grace period of a thing after a decision.
 abbrev pub grace_by : State → ℕ → Call → Reply → Thing → Grace
-grace_by s c call r x = cond (begins s c call r x) (new_grace s x) (cond (ends call r x) no_grace (cond (flushes call r) (flushed_by c (s.grace x)) (s.grace x)))
+grace_by s c call r x = cond (begins s c call r x) (new_grace s x)
+    (cond (ends call r x) no_grace (cond (flushes call r) (flushed_by c (s.grace x)) (s.grace x)))
 
-changed_grace : (s : State) (c : ℕ) (call : Call) (v : Value) (found : Judged Change) → IfFound found (LeavesGrace s c call) → IsFoundAnd found (λ k. k.value ≡ v)
+changed_grace : (s : State) (c : ℕ) (call : Call) (v : Value) (found : Judged Change)
+    → IfFound found (LeavesGrace s c call) → IsFoundAnd found (λ k. k.value ≡ v)
     → (x : Thing) → (changed s found).grace x ≡ cond (begins_in found x) (new_grace s x) (kept_by call c x (s.grace x))
 changed_grace s c call v (Refused r) by ok x = absurd ok
 changed_grace s c call v (Found change) by ok x = ap (cond (list_any (same_thing x) change.begins) (new_grace s x)) (by x)
@@ -93,15 +99,18 @@ owed_grace : (s : State) (c : ℕ) (call : Call) (x : Thing) → (owed_by s c ca
 owed_grace s c (Tick n) x = refl
 owed_grace s c _ x = refl
 
-pub grace_is : (s : State) (c : ℕ) (call : Call) (r : Reply) → MayReply s c call r → (x : Thing) → (state_by s c call r).grace x ≡ grace_by s c call r x
-grace_is s c call (reply.Ok v) may x = changed_grace s c call v (change_of s c call) (outcome_all (LeavesGrace s c call) s c (rule_of s c call) (rule_grace s c call)) may.1 x
+pub grace_is : (s : State) (c : ℕ) (call : Call) (r : Reply) → MayReply s c call r
+    → (x : Thing) → (state_by s c call r).grace x ≡ grace_by s c call r x
+grace_is s c call (reply.Ok v) may x =
+    changed_grace s c call v (change_of s c call) (outcome_all (LeavesGrace s c call) s c (rule_of s c call) (rule_grace s c call)) may.1 x
 grace_is s c call reply.CallsSpent may x = refl
 grace_is s c call reply.Raced may x = owed_grace s c call x
 grace_is s c call (reply.Busy d) may x = owed_grace s c call x
 grace_is s c call _ may x = refl
 
 -- A flush begins no grace period, and ends none.
-pub flush_begins : (s : State) (c : ℕ) (call : Call) (r : Reply) (x : Thing) → flushes call r ≡ true → (begins s c call r x ≡ false) × (ends call r x ≡ false)
+pub flush_begins : (s : State) (c : ℕ) (call : Call) (r : Reply) (x : Thing)
+    → flushes call r ≡ true → (begins s c call r x ≡ false) × (ends call r x ≡ false)
 flush_begins s c Flush (reply.Ok v) x h = (refl, refl)
 flush_begins s c call (reply.Ok v) x h = absurd (false≢true h)
 flush_begins s c call _ x h = absurd (false≢true h)

@@ -1,5 +1,6 @@
 -- Every call that is carried out changes the references to a frame by those that it takes less those that it releases.
-use Rattle.std.proofs.Common.{◌≡◌, ℕ, ◌+◌, ◌-◌, ◌<◌, Bool, true, false, not, refl, sym, ◌∙◌, ap, arith, ◌==◌, if◌then◌else◌, IsTrue, List, [], ◌∷◌, take, drop, Option, Some, None}
+use Rattle.std.proofs.Common.{◌≡◌, ℕ, ◌+◌, ◌-◌, ◌<◌, Bool, true, false, not, refl, sym, ◌∙◌, ap, arith}
+use Rattle.std.proofs.Common.{◌==◌, if◌then◌else◌, IsTrue, List, [], ◌∷◌, take, drop, Option, Some, None}
 use Rattle.std.proofs.lemmas.Bool.{false≢true, true≢false, eqb-true}
 use Rattle.spk_nums.specs.Capability.{Capability}
 use Rattle.spk_nums.specs.CallLimits.{InLimits}
@@ -10,10 +11,15 @@ use Rattle.spk_nums.specs.declared.kinds.FrameKind.TheVariants as frame_kind
 use Rattle.spk_nums.specs.declared.calls.Make.{Make}
 use Rattle.spk_nums.specs.declared.calls.Make.TheVariants as make
 use Rattle.spk_nums.specs.declared.calls.Call.{Call}
-use Rattle.spk_nums.specs.declared.calls.Call.TheVariants.{Look, Copy, Remove, Grow, Shrink, Retype, Make as make_call, Map, Unmap, Touch, Flush, Gate, Kill, Call as call_gate, Ret, Switch, Tick, Transfer, Delegate, Test}
+use Rattle.spk_nums.specs.declared.calls.Call.TheVariants.{Look, Copy, Remove, Grow, Shrink, Retype, Make as make_call}
+use Rattle.spk_nums.specs.declared.calls.Call.TheVariants.{Map, Unmap, Touch, Flush, Gate, Kill, Call as call_gate}
+use Rattle.spk_nums.specs.declared.calls.Call.TheVariants.{Ret, Switch, Tick, Transfer, Delegate, Test}
 use Rattle.spk_nums.specs.declared.translations.Translation.{Translation}
 use Rattle.spk_nums.specs.declared.replies.Reply.TheVariants as reply
-use Rattle.kernel_rules.specs.State.{Place, Free, Holds, Quiescing, CompFields, ThreadFields, TcapFields, Object, Blank, Table, Leaf, Pages, Pleaf, Comp, Thread, Tcap, Frame, Untyped, User, Kernel, Liveness, Unused, Live, Dead, Core, Thing, FrameOf, State, put, with_place, with_frame, with_number, with_core, with_grace, Grace, comp_of, comp_in, thread_in, thread_of}
+use Rattle.kernel_rules.specs.State.{Place, Free, Holds, Quiescing, CompFields, ThreadFields, TcapFields, Object, Blank}
+use Rattle.kernel_rules.specs.State.{Table, Leaf, Pages, Pleaf, Comp, Thread, Tcap, Frame, Untyped, User, Kernel, Liveness}
+use Rattle.kernel_rules.specs.State.{Unused, Live, Dead, Core, Thing, FrameOf, State, put, with_place, with_frame}
+use Rattle.kernel_rules.specs.State.{with_number, with_core, with_grace, Grace, comp_of, comp_in, thread_in, thread_of}
 use Rattle.kernel_rules.specs.Start.{plain_cap, no_grace}
 use Rattle.kernel_rules.specs.GracePeriods.{same_thing}
 use Rattle.kernel_rules.specs.References.{place_names, frame_names, number_names, core_names, sum_below, times, node_refs, refs}
@@ -31,8 +37,10 @@ use Rattle.kernel_rules.specs.Fitting.{fits, IsGood}
 use Rattle.kernel_rules.specs.Relies.{is_node}
 use Rattle.kernel_invariant.proofs.Sound.{IsSound, put_all}
 use Rattle.kernel_invariant.proofs.SoundRemovals.{below_by}
-use Rattle.kernel_invariant.proofs.Facts.{ChangesFrom, named_good, named_fit, RootIsNode, vacant_facts, held_facts, none_parts, when_not, not_not}
-use Rattle.kernel_invariant.proofs.SoundCalls.{IsOpen, node_of, in_range, blank_by, own_thread, thread_below, tcap_below, untyped_by, root_node}
+use Rattle.kernel_invariant.proofs.Facts.{ChangesFrom, named_good, named_fit, RootIsNode}
+use Rattle.kernel_invariant.proofs.Facts.{vacant_facts, held_facts, none_parts, when_not, not_not}
+use Rattle.kernel_invariant.proofs.SoundCalls.{IsOpen, node_of, in_range, blank_by, own_thread}
+use Rattle.kernel_invariant.proofs.SoundCalls.{thread_below, tcap_below, untyped_by, root_node}
 
 -- What a change of a place makes of the references.
 pub place_refs : (s : State) (g i : ℕ) (p : Place) (f : ℕ) → g < s.limits.frames → i < 64
@@ -56,7 +64,8 @@ unfolding refs node_refs
 frame_refs s g y f below =
     let a = sum_one (λ j. times f (frame_names (s.frame j))) (λ j. times f (frame_names (put s.frame g y j))) s.limits.frames g below
     (λ j other. ap (λ x. times f (frame_names x)) (put_other s.frame g y j other)) in
-    let b : times f (frame_names (put s.frame g y g)) ≡ times f (frame_names y) = ap (λ x. times f (frame_names x)) (put_same s.frame g y g refl) in
+    let b : times f (frame_names (put s.frame g y g)) ≡ times f (frame_names y) =
+    ap (λ x. times f (frame_names x)) (put_same s.frame g y g refl) in
     omega (arith, a, b)
 
 -- What a change of a core makes of them.
@@ -66,7 +75,8 @@ unfolding refs node_refs
 core_refs s c k f below =
     let a = sum_one (λ j. times f (core_names (s.core j))) (λ j. times f (core_names (put s.core c k j))) s.limits.cores c below
     (λ j other. ap (λ x. times f (core_names x)) (put_other s.core c k j other)) in
-    let b : times f (core_names (put s.core c k c)) ≡ times f (core_names k) = ap (λ x. times f (core_names x)) (put_same s.core c k c refl) in
+    let b : times f (core_names (put s.core c k c)) ≡ times f (core_names k) =
+    ap (λ x. times f (core_names x)) (put_same s.core c k c refl) in
     omega (arith, a, b)
 
 -- What a change of a liveness number makes of them.
@@ -76,7 +86,8 @@ unfolding refs node_refs
 number_refs s l x f small =
     let a = sum_one (λ j. times f (number_names (s.number j))) (λ j. times f (number_names (put s.number l x j))) 64 l small
     (λ j other. ap (λ x. times f (number_names x)) (put_other s.number l x j other)) in
-    let b : times f (number_names (put s.number l x l)) ≡ times f (number_names x) = ap (λ x. times f (number_names x)) (put_same s.number l x l refl) in
+    let b : times f (number_names (put s.number l x l)) ≡ times f (number_names x) =
+    ap (λ x. times f (number_names x)) (put_same s.number l x l refl) in
     omega (arith, a, b)
 
 -- Grace periods are no references.
@@ -133,7 +144,8 @@ removed_refs s o c target at k h e f =
     let n : IsTrue (is_node (s.frame at.node)) × (at.index < 64) = h.sound.bare at.node at.index k p in
     let a = place_refs s at.node at.index (Quiescing k) f (node_below s o at.node h.sound n.0) n.1 in
     let b : times f (place_names (s.place at.node at.index)) ≡ times f (place_names (Holds k)) = ap (λ x. times f (place_names x)) p in
-    let d : times f (released (frames_of (place_names (Holds k)))) ≡ times f (place_names (Holds k)) = ap (times f) (released_frames (place_names (Holds k))) in
+    let d : times f (released (frames_of (place_names (Holds k)))) ≡ times f (place_names (Holds k)) =
+    ap (times f) (released_frames (place_names (Holds k))) in
     omega (arith, a, b, d)
 
 -- The capability and the object of a `make` are taken.
@@ -156,8 +168,10 @@ record Made (s : State) (at : Slot) (f : ℕ) : Type 0 where
   below : f < s.limits.frames
   blank : s.frame f ≡ Kernel Blank
 
-made_facts : (s : State) (o : ℕ → Bool) (c r f : ℕ) (range : Capability) (target : Target) (at : Slot) (causes : List Cause) → IsOpen s o c → RootIsNode s target
-    → named s c r (only kind.Range) ≡ Found range → vacant s c target ≡ Found at → first_cause s c (outside (found range) f ∷ not_blank s f ∷ causes) ≡ None → Made s at f
+made_facts : (s : State) (o : ℕ → Bool) (c r f : ℕ) (range : Capability) (target : Target) (at : Slot) (causes : List Cause)
+    → IsOpen s o c → RootIsNode s target
+    → named s c r (only kind.Range) ≡ Found range → vacant s c target ≡ Found at
+    → first_cause s c (outside (found range) f ∷ not_blank s f ∷ causes) ≡ None → Made s at f
 made_facts s o c r f range target at causes h node e v calm =
     let n : IsTrue (is_node (s.frame at.node)) × (at.index < 64) = node_of s o c target at h node v in
     let p = blank_by s o c r f range causes h e calm in
@@ -172,10 +186,12 @@ made_facts s o c r f range target at causes h node e v calm =
 object_refs : (s : State) (at : Slot) (f : ℕ) (object : Object) (k : Kind) → Made s at f → RefsBy s (makes s f object k at)
 object_refs s at f object k m g = let a = made_refs s at f object k m.node m.small m.nothing m.below m.blank g in omega (arith, a)
 
-blank_bare : (s : State) (o : ℕ → Bool) (f : ℕ) → IsSound s o → s.frame f ≡ Kernel Blank → (i : ℕ) (k : Capability) → s.place f i ≡ Holds k → ⊥
+blank_bare : (s : State) (o : ℕ → Bool) (f : ℕ) → IsSound s o
+    → s.frame f ≡ Kernel Blank → (i : ℕ) (k : Capability) → s.place f i ≡ Holds k → ⊥
 blank_bare s o f h blank i k e = false≢true (sym (ap is_node blank) ∙ (h.bare f i k e).0)
 
-node_refs_by : (s : State) (o : ℕ → Bool) (at : Slot) (f : ℕ) (object : Object) (k : Kind) → IsSound s o → Made s at f → RefsBy s (makes (cleared s f) f object k at)
+node_refs_by : (s : State) (o : ℕ → Bool) (at : Slot) (f : ℕ) (object : Object) (k : Kind)
+    → IsSound s o → Made s at f → RefsBy s (makes (cleared s f) f object k at)
 node_refs_by s o at f object k h m g =
     let a = made_refs (cleared s f) at f object k m.node m.small
     (put_all (λ j r. place_names (r at.index) ≡ []) s.place f (λ i. Free) at.node (λ same. refl) (λ other. m.nothing)) m.below m.blank g in
@@ -187,7 +203,8 @@ not_live_names Unused e = refl
 not_live_names (Live d f) e = absurd (true≢false e)
 not_live_names (Dead d) e = refl
 
-comp_refs : (s : State) (at : Slot) (f : ℕ) (comp : CompFields) → comp.number < 64 → is_live (s.number comp.number) ≡ false → Made s at f → RefsBy s (makes_comp s f comp at)
+comp_refs : (s : State) (at : Slot) (f : ℕ) (comp : CompFields) → comp.number < 64
+    → is_live (s.number comp.number) ≡ false → Made s at f → RefsBy s (makes_comp s f comp at)
 comp_refs s at f comp small dead m g =
     let t : State = with_number s comp.number (Live comp.epoch f) in
     let a = made_refs t at f (Comp comp) kind.Comp m.node m.small m.nothing m.below m.blank g in
@@ -196,13 +213,20 @@ comp_refs s at f comp small dead m g =
     let q = times_append g (number_names (Live comp.epoch f)) (makes t f (Comp comp) kind.Comp at).takes in
     omega (arith, a, b, d, q)
 
-make_refs : (s : State) (o : ℕ → Bool) (c : ℕ) → IsOpen s o c → (what : Make) (r f t b : ℕ) → InLimits (make_call what r f t b) → ChangesFrom (RefsBy s) s c (make_rule s what r f t b)
-make_refs s o c h make.Table r f t b lim = λ range e table g at v calm. node_refs_by s o at f Table kind.Table h.sound (made_facts s o c r f range (Under (found table) b) at [] h tt e v calm)
-make_refs s o c h make.Leaf r f t b lim = λ range e table g at v calm. node_refs_by s o at f Leaf kind.Leaf h.sound (made_facts s o c r f range (Under (found table) b) at [] h tt e v calm)
-make_refs s o c h make.Pages r f t b lim = λ range e table g at v calm. node_refs_by s o at f Pages kind.Pages h.sound (made_facts s o c r f range (Under (found table) b) at [] h tt e v calm)
-make_refs s o c h make.Pleaf r f t b lim = λ range e table g at v calm. node_refs_by s o at f Pleaf kind.Pleaf h.sound (made_facts s o c r f range (Under (found table) b) at [] h tt e v calm)
-make_refs s o c h (make.Thread comp) r f t b lim = λ range e table g k j at v calm. object_refs s at f (Thread _) kind.Thread (made_facts s o c r f range (Under (found table) b) at [] h tt e v calm)
-make_refs s o c h (make.Tcap sched quality) r f t b lim = λ range e table g at v calm. object_refs s at f (Tcap _) kind.Tcap (made_facts s o c r f range (Under (found table) b) at [] h tt e v calm)
+make_refs : (s : State) (o : ℕ → Bool) (c : ℕ) → IsOpen s o c → (what : Make) (r f t b : ℕ)
+    → InLimits (make_call what r f t b) → ChangesFrom (RefsBy s) s c (make_rule s what r f t b)
+make_refs s o c h make.Table r f t b lim = λ range e table g at v calm.
+    node_refs_by s o at f Table kind.Table h.sound (made_facts s o c r f range (Under (found table) b) at [] h tt e v calm)
+make_refs s o c h make.Leaf r f t b lim = λ range e table g at v calm.
+    node_refs_by s o at f Leaf kind.Leaf h.sound (made_facts s o c r f range (Under (found table) b) at [] h tt e v calm)
+make_refs s o c h make.Pages r f t b lim = λ range e table g at v calm.
+    node_refs_by s o at f Pages kind.Pages h.sound (made_facts s o c r f range (Under (found table) b) at [] h tt e v calm)
+make_refs s o c h make.Pleaf r f t b lim = λ range e table g at v calm.
+    node_refs_by s o at f Pleaf kind.Pleaf h.sound (made_facts s o c r f range (Under (found table) b) at [] h tt e v calm)
+make_refs s o c h (make.Thread comp) r f t b lim = λ range e table g k j at v calm.
+    object_refs s at f (Thread _) kind.Thread (made_facts s o c r f range (Under (found table) b) at [] h tt e v calm)
+make_refs s o c h (make.Tcap sched quality) r f t b lim = λ range e table g at v calm.
+    object_refs s at f (Tcap _) kind.Tcap (made_facts s o c r f range (Under (found table) b) at [] h tt e v calm)
 make_refs s o c h (make.Comp x p l) r f t b lim = λ range e table g own_table a own_pages d at v calm.
     let q1 = none_parts (refusal_of s c (outside (found range) f)) (first_cause s c (not_blank s f ∷ not_taken s l)) calm in
     let q2 = none_parts (refusal_of s c (not_blank s f)) (first_cause s c (not_taken s l)) q1.1 in
@@ -211,7 +235,8 @@ make_refs s o c h (make.Comp x p l) r f t b lim = λ range e table g own_table a
     (when_not (is_live (s.number l)) reply.Occupied q3.0)
     (made_facts s o c r f range (Under (found table) b) at (not_taken s l) h tt e v calm)
 
-retype_refs : (s : State) (o : ℕ → Bool) (c : ℕ) → IsOpen s o c → (r f : ℕ) (k : FrameKind) → ChangesFrom (RefsBy s) s c (retype_rule s r f k)
+retype_refs : (s : State) (o : ℕ → Bool) (c : ℕ) → IsOpen s o c
+    → (r f : ℕ) (k : FrameKind) → ChangesFrom (RefsBy s) s c (retype_rule s r f k)
 retype_refs s o c h r f frame_kind.User = λ range e calm g.
     let p = untyped_by s o c r f range h e calm in
     let a = frame_refs s f User g p.0 in
@@ -226,23 +251,28 @@ retype_refs s o c h r f frame_kind.Untyped = λ range e calm g.
     let p = none_parts (refusal_of s c (outside (found range) f)) (first_cause s c (not_retyped s f frame_kind.Untyped)) calm in
     let a = frame_refs s f Untyped g (in_range s o c r f range h e p.0) in
     let d = grace_refs (with_frame s f Untyped) (λ x. if same_thing x (FrameOf f) then no_grace else s.grace x) g in
-    let b : times g (released (frames_of (frame_names (s.frame f)))) ≡ times g (frame_names (s.frame f)) = ap (times g) (released_frames (frame_names (s.frame f))) in
+    let b : times g (released (frames_of (frame_names (s.frame f)))) ≡ times g (frame_names (s.frame f)) =
+    ap (times g) (released_frames (frame_names (s.frame f))) in
     omega (arith, a, b, d)
 
 own_core : (s : State) (o : ℕ → Bool) (c : ℕ) → IsOpen s o c → c < s.limits.cores
 own_core s o c h = (h.sound.inside c h.is).1
 
 -- A core that keeps its thread and temporal capability keeps its references.
-same_core : (s : State) (c : ℕ) (k : Core) (f : ℕ) → c < s.limits.cores → k.thread ≡ (s.core c).thread → k.tcap ≡ (s.core c).tcap → refs (with_core s c k) f ≡ refs s f
+same_core : (s : State) (c : ℕ) (k : Core) (f : ℕ) → c < s.limits.cores
+    → k.thread ≡ (s.core c).thread → k.tcap ≡ (s.core c).tcap → refs (with_core s c k) f ≡ refs s f
 same_core s c k f below thread tcap =
     let a = core_refs s c k f below in
-    let b : times f (core_names k) ≡ times f (core_names (s.core c)) = ap (λ t. times f (t ∷ k.tcap ∷ [])) thread ∙ ap (λ t. times f ((s.core c).thread ∷ t ∷ [])) tcap in
+    let b : times f (core_names k) ≡ times f (core_names (s.core c)) =
+    ap (λ t. times f (t ∷ k.tcap ∷ [])) thread ∙ ap (λ t. times f ((s.core c).thread ∷ t ∷ [])) tcap in
     omega (arith, a, b)
 
-same_frame : (s : State) (g : ℕ) (y : Frame) (f : ℕ) → g < s.limits.frames → frame_names y ≡ frame_names (s.frame g) → refs (with_frame s g y) f ≡ refs s f
+same_frame : (s : State) (g : ℕ) (y : Frame) (f : ℕ) → g < s.limits.frames
+    → frame_names y ≡ frame_names (s.frame g) → refs (with_frame s g y) f ≡ refs s f
 same_frame s g y f below e = let a = frame_refs s g y f below in let b = ap (times f) e in omega (arith, a, b)
 
-touch_refs : (s : State) (o : ℕ → Bool) (c : ℕ) → IsOpen s o c → (pages v : ℕ) (t : Option Translation) → ChangesFrom (RefsBy s) s c (touch_by s c pages v t)
+touch_refs : (s : State) (o : ℕ → Bool) (c : ℕ) → IsOpen s o c
+    → (pages v : ℕ) (t : Option Translation) → ChangesFrom (RefsBy s) s c (touch_by s c pages v t)
 touch_refs s o c h pages v None = λ mapping e calm f. let a = same_core s c _ f (own_core s o c h) refl refl in ap (λ n. n + 0) a
 touch_refs s o c h pages v (Some t) = λ calm f. refl
 
@@ -274,7 +304,8 @@ stack_own (Kernel (Tcap q)) h = absurd (false≢true h)
 own_fit : (s : State) (o : ℕ → Bool) (c : ℕ) → IsOpen s o c → IsTrue (fits kind.Thread (s.frame (s.core c).thread))
 own_fit s o c h = (h.sound.cores c (own_core s o c h)).0
 
-stack_refs : (s : State) (o : ℕ → Bool) (c : ℕ) → IsOpen s o c → (stack : List ℕ) (f : ℕ) → refs (with_stack s c stack) f + times f (thread_of s c).stack ≡ refs s f + times f stack
+stack_refs : (s : State) (o : ℕ → Bool) (c : ℕ) → IsOpen s o c → (stack : List ℕ) (f : ℕ)
+    → refs (with_stack s c stack) f + times f (thread_of s c).stack ≡ refs s f + times f stack
 stack_refs s o c h stack f =
     let x : Frame = s.frame (s.core c).thread in
     let t : ThreadFields = record (thread_of s c) { stack = stack } in
@@ -298,7 +329,8 @@ running_names (Kernel (Tcap q)) core = refl
 running_refs : (s : State) (g : ℕ) (core : Option ℕ) (f : ℕ) → g < s.limits.frames → refs (running s g core) f ≡ refs s f
 running_refs s g core f below = same_frame s g _ f below (running_names (s.frame g) core)
 
-switch_refs : (s : State) (o : ℕ → Bool) (c : ℕ) → IsOpen s o c → (j : Capability) (q : ℕ) → IsTrue (fits kind.Thread (s.frame j.frame)) → (e : Option ℕ) → ChangesFrom (RefsBy s) s c (switch_to s c (found j) q e)
+switch_refs : (s : State) (o : ℕ → Bool) (c : ℕ) → IsOpen s o c → (j : Capability) (q : ℕ)
+    → IsTrue (fits kind.Thread (s.frame j.frame)) → (e : Option ℕ) → ChangesFrom (RefsBy s) s c (switch_to s c (found j) q e)
 switch_refs s o c h j q fit (Some e) = λ calm. absurd (some_none (none_parts (Some (reply.Running e)) None calm).0)
   where
     some_none : Some (reply.Running e) ≡ None → ⊥
@@ -324,7 +356,8 @@ switch_refs s o c h j q fit None = λ calm f. by_same f (q == (s.core c).tcap) r
         omega (arith, a, b, d)
 
     by_same : (f : ℕ) (b : Bool) → (q == p) ≡ b
-        → refs (switches s c (s.core c) t q).next f + times f (released (frames_of (old ∷ (if b then [] else p ∷ [])))) ≡ refs s f + times f (t ∷ (if b then [] else q ∷ []))
+        → refs (switches s c (s.core c) t q).next f + times f (released (frames_of (old ∷ (if b then [] else p ∷ []))))
+        ≡ refs s f + times f (t ∷ (if b then [] else q ∷ []))
     by_same f true e =
         let a = total f in
         let x = times_cons f old (p ∷ []) in
@@ -347,7 +380,8 @@ tcap_names (Kernel Pleaf) q = refl
 tcap_names (Kernel (Comp k)) q = refl
 tcap_names (Kernel (Thread t)) q = refl
 
-tcap_refs : (s : State) (g : ℕ) (q : TcapFields) (f : ℕ) → g < s.limits.frames → refs (with_frame s g (with_tcap (s.frame g) q)) f ≡ refs s f
+tcap_refs : (s : State) (g : ℕ) (q : TcapFields) (f : ℕ) → g < s.limits.frames
+    → refs (with_frame s g (with_tcap (s.frame g) q)) f ≡ refs s f
 tcap_refs s g q f below = same_frame s g _ f below (tcap_names (s.frame g) q)
 
 moved_refs : (s : State) (a b m f : ℕ) → a < s.limits.frames → b < s.limits.frames → refs (moved s a b m) f ≡ refs s f
@@ -374,7 +408,8 @@ popped_refs s o c h f = by_stack (thread_of s c).stack (stack_refs s o c h (drop
 killed_refs : (s : State) (comp : CompFields) → comp.number < 64 → RefsBy s (kills s comp)
 killed_refs s comp small f =
     let a = number_refs s comp.number (Dead comp.epoch) f small in
-    let b : times f (released (frames_of (number_names (s.number comp.number)))) ≡ times f (number_names (s.number comp.number)) = ap (times f) (released_frames (number_names (s.number comp.number))) in
+    let b : times f (released (frames_of (number_names (s.number comp.number)))) ≡ times f (number_names (s.number comp.number)) =
+    ap (times f) (released_frames (number_names (s.number comp.number))) in
     omega (arith, a, b)
 
 -- A liveness number that is live is one of the 64.
@@ -389,25 +424,30 @@ live_small s o l e h live = by_number (s.number l) refl live
 plus_none : (n m : ℕ) → n ≡ m → n + 0 ≡ m + 0
 plus_none n m e = ap (λ k. k + 0) e
 
-pub rule_refs : (s : State) (o : ℕ → Bool) (c : ℕ) → IsOpen s o c → (call : Call) → InLimits call → ChangesFrom (RefsBy s) s c (rule_of s c call)
+pub rule_refs : (s : State) (o : ℕ → Bool) (c : ℕ) → IsOpen s o c
+    → (call : Call) → InLimits call → ChangesFrom (RefsBy s) s c (rule_of s c call)
 rule_refs s o c h (Look a) lim = λ k e calm f. refl
 rule_refs s o c h (Copy a t b) lim = λ k e table f at g calm. filled_refs s o c (Under (found table) b) at k h tt g
 rule_refs s o c h (Remove t b) lim = λ table e at k g calm. removed_refs s o c (Under (found table) b) at k h g
 rule_refs s o c h (Grow t i l) lim = λ table e leaf f at g calm.
     let a : IsGood s table × IsTrue (root table.kind) = named_good s o c t root table h.sound h.is e in
-    filled_refs s o c (InRoot (found table) i) at (plain_cap kind.Link leaf.frame) h (root_node table.kind (s.frame table.frame) a.1 a.0.fit) g
+    filled_refs s o c (InRoot (found table) i) at (plain_cap kind.Link leaf.frame)
+    h (root_node table.kind (s.frame table.frame) a.1 a.0.fit) g
 rule_refs s o c h (Shrink t i) lim = λ table e at k g calm. removed_refs s o c (InRoot (found table) i) at k h g
 rule_refs s o c h (Retype r f k) lim = retype_refs s o c h r f k
 rule_refs s o c h (make_call what r f t b) lim = make_refs s o c h what r f t b lim
 rule_refs s o c h (Map p v r f w) lim = λ pages e range g at u calm. filled_refs s o c (Under (found pages) v) at _ h tt u
 rule_refs s o c h (Unmap p v) lim = λ pages e at k g calm. removed_refs s o c (Under (found pages) v) at k h g
 rule_refs s o c h (Touch v) lim = touch_refs s o c h (comp_of s c).pages v (translation_of (s.core c).cached (comp_of s c).pages v)
-rule_refs s o c h Flush lim = λ calm f. plus_none _ _ (grace_refs (with_core s c (record (s.core c) { cached = [] })) _ f ∙ same_core s c (record (s.core c) { cached = [] }) f (own_core s o c h) refl refl)
+rule_refs s o c h Flush lim = λ calm f. plus_none _ _ (grace_refs (with_core s c (record (s.core c) { cached = [] })) _ f
+    ∙ same_core s c (record (s.core c) { cached = [] }) f (own_core s o c h) refl refl)
 rule_refs s o c h (Gate k t b) lim = λ comp e table f at g calm. filled_refs s o c (Under (found table) b) at _ h tt g
 rule_refs s o c h (Kill k) lim = λ comp e calm.
-    let p = none_parts (refusal_of s c (When (not (is_live_in (s.number (comp_in (s.frame comp.frame)).number) (comp_in (s.frame comp.frame)).epoch)) reply.Dead)) None calm in
+    let p = none_parts (refusal_of s c (When
+    (not (is_live_in (s.number (comp_in (s.frame comp.frame)).number) (comp_in (s.frame comp.frame)).epoch)) reply.Dead)) None calm in
     killed_refs s (comp_in (s.frame comp.frame))
-    (live_small s o (comp_in (s.frame comp.frame)).number (comp_in (s.frame comp.frame)).epoch h.sound (not_not _ (when_not _ reply.Dead p.0)))
+    (live_small s o (comp_in (s.frame comp.frame)).number
+    (comp_in (s.frame comp.frame)).epoch h.sound (not_not _ (when_not _ reply.Dead p.0)))
 rule_refs s o c h (call_gate g) lim = λ gate e calm. pushed_refs s o c h gate.frame
 rule_refs s o c h Ret lim = λ calm. popped_refs s o c h
 rule_refs s o c h (Switch f q) lim = λ thread e tcap g.
@@ -417,7 +457,8 @@ rule_refs s o c h (Tick n) lim = λ calm f.
     plus_none _ _ (same_core (with_budget s q _) c _ f (own_core s o c h) refl refl
     ∙ tcap_refs s q _ f (tcap_below s o q h.sound (h.sound.cores c (own_core s o c h)).1))
 rule_refs s o c h (Transfer a b m) lim = λ j e k g calm f.
-    plus_none _ _ (moved_refs s j.frame k.frame m f (tcap_below s o j.frame h.sound (named_fit s o c a kind.Tcap j h.sound h.is e)) (tcap_below s o k.frame h.sound (named_fit s o c b kind.Tcap k h.sound h.is g)))
+    plus_none _ _ (moved_refs s j.frame k.frame m f (tcap_below s o j.frame h.sound (named_fit s o c a kind.Tcap j h.sound h.is e))
+    (tcap_below s o k.frame h.sound (named_fit s o c b kind.Tcap k h.sound h.is g)))
 rule_refs s o c h (Delegate a b m) lim = λ j e k g calm f.
     let kb : k.frame < s.limits.frames = tcap_below s o k.frame h.sound (named_fit s o c b kind.Tcap k h.sound h.is g) in
     plus_none _ _ (tcap_refs (moved s j.frame k.frame m) k.frame _ f kb

@@ -25,7 +25,8 @@ counted_refs s c f =
     omega (arith, a)
 
 changed_refs : (s : State) (c : ℕ) (v : Value) (found : Judged Change) → IfFound found (RefsBy s) → IsFoundAnd found (λ k. k.value ≡ v)
-    → IsFoundAnd found λ change. (f : ℕ) → refs (counted (changed s found) c) f + times f (released change.begins) ≡ refs s f + times f change.takes
+    → IsFoundAnd found λ change. (f : ℕ)
+    → refs (counted (changed s found) c) f + times f (released change.begins) ≡ refs s f + times f change.takes
 changed_refs s c v (Refused r) by ok = absurd ok
 changed_refs s c v (Found change) by ok = λ f.
     let a = counted_refs (begun s change.begins change.next) c f in

@@ -1,5 +1,6 @@
 -- References are released only to frames that are something; and a decision that ends a grace period does not begin it.
-use Rattle.std.proofs.Common.{◌≡◌, ◌⊎◌, inl, inr, ℕ, ◌≤◌, arith, Bool, true, false, ◌||◌, ◌==◌, refl, sym, ◌∙◌, ap, subst, IsTrue, if◌then◌else◌, List, [], ◌∷◌, take, Option, Some, None}
+use Rattle.std.proofs.Common.{◌≡◌, ◌⊎◌, inl, inr, ℕ, ◌≤◌, arith, Bool, true, false, ◌||◌, ◌==◌, refl, sym}
+use Rattle.std.proofs.Common.{◌∙◌, ap, subst, IsTrue, if◌then◌else◌, List, [], ◌∷◌, take, Option, Some, None}
 use Rattle.std.proofs.lemmas.Bool.{false≢true, eqb-true, cases_lt}
 use Rattle.std.specs.List.{list_any}
 use Rattle.spk_nums.specs.Capability.{Capability}
@@ -10,11 +11,14 @@ use Rattle.spk_nums.specs.declared.kinds.FrameKind.TheVariants as frame_kind
 use Rattle.spk_nums.specs.declared.calls.Make.{Make}
 use Rattle.spk_nums.specs.declared.calls.Make.TheVariants as make
 use Rattle.spk_nums.specs.declared.calls.Call.{Call}
-use Rattle.spk_nums.specs.declared.calls.Call.TheVariants.{Look, Copy, Remove, Grow, Shrink, Retype, Make as make_call, Map, Unmap, Touch, Flush, Gate, Kill, Call as call_gate, Ret, Switch, Tick, Transfer, Delegate, Test}
+use Rattle.spk_nums.specs.declared.calls.Call.TheVariants.{Look, Copy, Remove, Grow, Shrink, Retype, Make as make_call}
+use Rattle.spk_nums.specs.declared.calls.Call.TheVariants.{Map, Unmap, Touch, Flush, Gate, Kill, Call as call_gate}
+use Rattle.spk_nums.specs.declared.calls.Call.TheVariants.{Ret, Switch, Tick, Transfer, Delegate, Test}
 use Rattle.spk_nums.specs.declared.translations.Translation.{Translation}
 use Rattle.spk_nums.specs.declared.replies.Reply.{Reply}
 use Rattle.spk_nums.specs.declared.replies.Reply.TheVariants as reply
-use Rattle.kernel_rules.specs.State.{Untyped, Blank, Comp, Thread, Frame, Kernel, Liveness, Unused, Live, Dead, Thing, PlaceOf, FrameOf, NumberOf, State, comp_of, comp_in, thread_in, thread_of}
+use Rattle.kernel_rules.specs.State.{Untyped, Blank, Comp, Thread, Frame, Kernel, Liveness, Unused, Live, Dead, Thing}
+use Rattle.kernel_rules.specs.State.{PlaceOf, FrameOf, NumberOf, State, comp_of, comp_in, thread_in, thread_of}
 use Rattle.kernel_rules.specs.References.{named_by, frame_names, number_names, times, refs}
 use Rattle.kernel_rules.specs.GracePeriods.{same_thing}
 use Rattle.kernel_rules.specs.Access.{Slot, Named, found, Target, Under, InRoot}
@@ -38,7 +42,8 @@ abbrev pub AreTyped : State → List ℕ → Type 0
 AreTyped s [] = Unit {0}
 AreTyped s (f ∷ fs) = IsTrue (is_typed (s.frame f)) × AreTyped s fs
 
-one_typed : (s : State) (f : ℕ) (fs : List ℕ) → AreTyped s fs → list_any (same_thing (FrameOf f)) (frames_of fs) ≡ true → IsTrue (is_typed (s.frame f))
+one_typed : (s : State) (f : ℕ) (fs : List ℕ) → AreTyped s fs
+    → list_any (same_thing (FrameOf f)) (frames_of fs) ≡ true → IsTrue (is_typed (s.frame f))
 one_typed s f [] h is = absurd (false≢true is)
 one_typed s f (g ∷ fs) h is = by_first (one_typed s f fs h.1) (f == g) refl is
   where
@@ -92,7 +97,8 @@ module _ (s : State) (o : ℕ → Bool) (d : ℕ) (h : IsOpen s o d) where
 
   removed : (target : Target) (at : Slot) (k : Capability) → held s d target ≡ Found (at, k) → ReleasesTyped s (removes s at k)
   removed target at k e f is =
-      one_typed s f (named_by k.kind k.frame) (names_typed s k.kind k.frame (h.sound.held at.node at.index k (held_facts s d target at k e).1).fit) is
+      one_typed s f (named_by k.kind k.frame)
+      (names_typed s k.kind k.frame (h.sound.held at.node at.index k (held_facts s d target at k e).1).fit) is
 
   make_releases : (what : Make) (r f t b : ℕ) → ChangesFrom (ReleasesTyped s) s d (make_rule s what r f t b)
   make_releases make.Table r f t b = λ range e table g at v calm. none_released
@@ -104,7 +110,8 @@ module _ (s : State) (o : ℕ → Bool) (d : ℕ) (h : IsOpen s o d) where
   make_releases (make.Comp x y l) r f t b = λ range e table g own_table a own_pages k at v calm. none_released
 
   retype_releases : (r f : ℕ) (k : FrameKind) → ChangesFrom (ReleasesTyped s) s d (retype_rule s r f k)
-  retype_releases r f frame_kind.Untyped = λ range e calm g is. one_typed s g (frame_names (s.frame f)) (object_typed s (s.frame f) (h.sound.objects f)) is
+  retype_releases r f frame_kind.Untyped =
+      λ range e calm g is. one_typed s g (frame_names (s.frame f)) (object_typed s (s.frame f) (h.sound.objects f)) is
   retype_releases r f frame_kind.User = λ range e calm. none_released
   retype_releases r f frame_kind.Kernel = λ range e calm. none_released
 
@@ -114,7 +121,8 @@ module _ (s : State) (o : ℕ → Bool) (d : ℕ) (h : IsOpen s o d) where
 
   cores_typed : IsTrue (is_typed (s.frame (s.core d).thread)) × IsTrue (is_typed (s.frame (s.core d).tcap))
   cores_typed =
-      let fit : IsTrue (fits kind.Thread (s.frame (s.core d).thread)) × IsTrue (fits kind.Tcap (s.frame (s.core d).tcap)) = h.sound.cores d (h.sound.inside d h.is).1 in
+      let fit : IsTrue (fits kind.Thread (s.frame (s.core d).thread)) × IsTrue (fits kind.Tcap (s.frame (s.core d).tcap)) =
+      h.sound.cores d (h.sound.inside d h.is).1 in
       ((names_typed s kind.Thread (s.core d).thread fit.0).0, (names_typed s kind.Tcap (s.core d).tcap fit.1).0)
 
   left_typed : (b : Bool) → AreTyped s ((s.core d).thread ∷ (if b then [] else (s.core d).tcap ∷ []))
@@ -122,8 +130,10 @@ module _ (s : State) (o : ℕ → Bool) (d : ℕ) (h : IsOpen s o d) where
   left_typed false = (cores_typed.0, (cores_typed.1, tt))
 
   switch_releases : (j : Named) (q : ℕ) (e : Option ℕ) → ChangesFrom (ReleasesTyped s) s d (switch_to s d j q e)
-  switch_releases j q None = λ calm f is. one_typed s f ((s.core d).thread ∷ (if q == (s.core d).tcap then [] else (s.core d).tcap ∷ [])) (left_typed (q == (s.core d).tcap)) is
-  switch_releases j q (Some e) = λ calm f is. one_typed s f ((s.core d).thread ∷ (if q == (s.core d).tcap then [] else (s.core d).tcap ∷ [])) (left_typed (q == (s.core d).tcap)) is
+  switch_releases j q None = λ calm f is. one_typed s f
+      ((s.core d).thread ∷ (if q == (s.core d).tcap then [] else (s.core d).tcap ∷ [])) (left_typed (q == (s.core d).tcap)) is
+  switch_releases j q (Some e) = λ calm f is.
+      one_typed s f ((s.core d).thread ∷ (if q == (s.core d).tcap then [] else (s.core d).tcap ∷ [])) (left_typed (q == (s.core d).tcap)) is
 
   number_typed : (l : ℕ) (x : Liveness) → s.number l ≡ x → AreTyped s (number_names x)
   number_typed l Unused is = tt
@@ -148,17 +158,20 @@ module _ (s : State) (o : ℕ → Bool) (d : ℕ) (h : IsOpen s o d) where
   rule_releases Flush = λ calm. none_released
   rule_releases (Gate k t b) = λ comp e table g at v calm. none_released
   rule_releases (Kill k) = λ comp e calm f is.
-      one_typed s f (number_names (s.number (comp_in (s.frame comp.frame)).number)) (number_typed (comp_in (s.frame comp.frame)).number _ refl) is
+      one_typed s f (number_names (s.number (comp_in (s.frame comp.frame)).number))
+      (number_typed (comp_in (s.frame comp.frame)).number _ refl) is
   rule_releases (call_gate g) = λ gate e calm. none_released
   rule_releases Ret = λ calm f is. one_typed s f (take 1 (thread_of s d).stack)
-      (take_typed s (thread_of s d).stack (own_typed (s.frame (s.core d).thread) (h.sound.cores d (h.sound.inside d h.is).1).0 (h.sound.objects (s.core d).thread))) is
+      (take_typed s (thread_of s d).stack
+      (own_typed (s.frame (s.core d).thread) (h.sound.cores d (h.sound.inside d h.is).1).0 (h.sound.objects (s.core d).thread))) is
   rule_releases (Switch f q) = λ thread e tcap g. switch_releases (found thread) tcap.frame (thread_in (s.frame thread.frame)).runs_on
   rule_releases (Tick n) = λ calm. none_released
   rule_releases (Transfer a b m) = λ j e k g calm. none_released
   rule_releases (Delegate a b m) = λ j e k g calm. none_released
   rule_releases (Test a b) = λ j e k g calm. none_released
 
-  found_releases : (x : Judged Change) → IfFound x (ReleasesTyped s) → (f : ℕ) → begins_in x (FrameOf f) ≡ true → IsTrue (is_typed (s.frame f))
+  found_releases : (x : Judged Change) → IfFound x (ReleasesTyped s)
+      → (f : ℕ) → begins_in x (FrameOf f) ≡ true → IsTrue (is_typed (s.frame f))
   found_releases (Refused r) by f is = absurd (false≢true is)
   found_releases (Found change) by f is = by f is
 
@@ -179,7 +192,8 @@ not_among f (g ∷ fs) none = by_first (f == g) refl (not_among f fs (let p = ti
         let at : times f (f ∷ fs) ≡ 0 = ap (λ n. times f (n ∷ fs)) same ∙ none in
         omega (arith, one, at)
 
-    by_first : (b : Bool) → (f == g) ≡ b → list_any (same_thing (FrameOf f)) (frames_of fs) ≡ false → (b || list_any (same_thing (FrameOf f)) (frames_of fs)) ≡ false
+    by_first : (b : Bool) → (f == g) ≡ b → list_any (same_thing (FrameOf f)) (frames_of fs) ≡ false
+        → (b || list_any (same_thing (FrameOf f)) (frames_of fs)) ≡ false
     by_first true same rest = absurd (away (eqb-true f g same))
     by_first false same rest = rest
 
@@ -205,21 +219,26 @@ make_begins s d x (make.Thread comp) r f t b = λ range e table g k j at v calm.
 make_begins s d x (make.Tcap sched quality) r f t b = λ range e table g at v calm. refl
 make_begins s d x (make.Comp y p l) r f t b = λ range e table g own_table a own_pages k at v calm. refl
 
-pub ends_begins : (s : State) (o : ℕ → Bool) (d : ℕ) (call : Call) (r : Reply) (x : Thing) → IsOpen s o d → MayReply s d call r → ends call r x ≡ true → begins s d call r x ≡ false
+pub ends_begins : (s : State) (o : ℕ → Bool) (d : ℕ) (call : Call) (r : Reply) (x : Thing)
+    → IsOpen s o d → MayReply s d call r → ends call r x ≡ true → begins s d call r x ≡ false
 ends_begins s o d call (reply.Ok v) x h may is = by_call call may is
   where
     by_call : (call : Call) → MayReply s d call (reply.Ok v) → ends_by call x ≡ true → begins_in (change_of s d call) x ≡ false
     by_call (make_call what r f t b) may is =
-        found_not (change_of s d (make_call what r f t b)) x (outcome_from (BeginsNot x) s d (rule_of s d (make_call what r f t b)) (make_begins s d x what r f t b))
-    by_call (Retype r f frame_kind.Untyped) may is = by_thing x is (ends_by_rule s o d h (Retype r f frame_kind.Untyped) (reply.Ok v) x may is)
+        found_not (change_of s d (make_call what r f t b)) x
+        (outcome_from (BeginsNot x) s d (rule_of s d (make_call what r f t b)) (make_begins s d x what r f t b))
+    by_call (Retype r f frame_kind.Untyped) may is =
+        by_thing x is (ends_by_rule s o d h (Retype r f frame_kind.Untyped) (reply.Ok v) x may is)
       where
-        by_thing : (x : Thing) → same_thing x (FrameOf f) ≡ true → MayEnd s d x → begins_in (change_of s d (Retype r f frame_kind.Untyped)) x ≡ false
+        by_thing : (x : Thing) → same_thing x (FrameOf f) ≡ true → MayEnd s d x
+            → begins_in (change_of s d (Retype r f frame_kind.Untyped)) x ≡ false
         by_thing (PlaceOf g i) is may = absurd (false≢true is)
         by_thing (NumberOf l) is may = absurd (false≢true is)
         by_thing (FrameOf g) is may =
             let same : g ≡ f = eqb-true g f is in
             found_not (change_of s d (Retype r f frame_kind.Untyped)) (FrameOf g)
             (outcome_from (BeginsNot (FrameOf g)) s d (rule_of s d (Retype r f frame_kind.Untyped))
-            (λ range e calm. not_among g (frame_names (s.frame f)) (ap (λ n. times g (frame_names (s.frame n))) (sym same) ∙ own_names s o g h.sound may.0)))
+            (λ range e calm. not_among g (frame_names (s.frame f))
+            (ap (λ n. times g (frame_names (s.frame n))) (sym same) ∙ own_names s o g h.sound may.0)))
     by_call call may is = absurd (false≢true is)
 ends_begins s o d call _ x h may is = absurd (false≢true is)

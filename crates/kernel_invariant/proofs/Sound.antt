@@ -1,11 +1,13 @@
 -- In every state that a run reaches, capabilities name frames with an object of their kind, and no frame that is referenced
 -- is untyped. `open` are the cores in a call that is not decided.
-use Rattle.std.proofs.Common.{◌≡◌, ◌≢◌, inl, inr, ℕ, ◌<◌, ◌≤◌, Bool, true, refl, sym, ◌∙◌, ap, subst, arith, ◌==◌, if◌then◌else◌, IsTrue, List, [], ◌∷◌}
+use Rattle.std.proofs.Common.{◌≡◌, ◌≢◌, inl, inr, ℕ, ◌<◌, ◌≤◌, Bool, true, refl, sym, ◌∙◌}
+use Rattle.std.proofs.Common.{ap, subst, arith, ◌==◌, if◌then◌else◌, IsTrue, List, [], ◌∷◌}
 use Rattle.std.proofs.lemmas.Bool.{cases_eq, false≢true, eq-eqb, ne_eqb, eqb-true}
 use Rattle.spk_nums.specs.Capability.{Capability}
 use Rattle.spk_nums.specs.declared.kinds.Kind.{Kind}
 use Rattle.spk_nums.specs.declared.kinds.Kind.TheVariants as kind
-use Rattle.kernel_rules.specs.State.{Holds, Quiescing, Blank, Comp, Thread, Frame, Untyped, Kernel, Live, PlaceOf, FrameOf, State, put, with_frame}
+use Rattle.kernel_rules.specs.State.{Holds, Quiescing, Blank, Comp, Thread, Frame, Untyped}
+use Rattle.kernel_rules.specs.State.{Kernel, Live, PlaceOf, FrameOf, State, put, with_frame}
 use Rattle.kernel_rules.specs.References.{named_by}
 use Rattle.kernel_rules.specs.Access.{kind_number, only}
 use Rattle.kernel_rules.specs.Fitting.{fits, IsGood}
@@ -37,7 +39,8 @@ pub record IsSound (s : State) (opened : ℕ → Bool) : Type 0 where
   pub waiting : (f i : ℕ) (k : Capability) (c : ℕ) → s.place f i ≡ Quiescing k → opened c ≡ true
       → IsTrue ((s.grace (PlaceOf f i)).waits c) → IsGood s k × WaitsForAll s c (named_by k.kind k.frame)
   pub objects : (f : ℕ) → IsObjectGood s (s.frame f)
-  pub cores : (c : ℕ) → c < s.limits.cores → IsTrue (fits kind.Thread (s.frame (s.core c).thread)) × IsTrue (fits kind.Tcap (s.frame (s.core c).tcap))
+  pub cores : (c : ℕ) → c < s.limits.cores
+      → IsTrue (fits kind.Thread (s.frame (s.core c).thread)) × IsTrue (fits kind.Tcap (s.frame (s.core c).tcap))
   pub numbers : (l e f : ℕ) → s.number l ≡ Live e f → IsTrue (fits kind.Comp (s.frame f)) × (l < 64)
   pub beyond : (f : ℕ) → s.limits.frames ≤ f → s.frame f ≡ Untyped
   pub bare : (f i : ℕ) (k : Capability) → s.place f i ≡ Holds k → IsTrue (is_node (s.frame f)) × (i < 64)
@@ -122,7 +125,8 @@ put_all P f i x j hx hf = elim (cases_eq j i) [
   | inr other ↦ subst (P j) (sym (put_other f i x j other)) (hf other)
 ]
 
-section_fit : (s : State) (f : ℕ) (y : Frame) → Extends (s.frame f) y → (k : Kind) (g : ℕ) → IsTrue (fits k (s.frame g)) → IsTrue (fits k (put s.frame f y g))
+section_fit : (s : State) (f : ℕ) (y : Frame) → Extends (s.frame f) y
+    → (k : Kind) (g : ℕ) → IsTrue (fits k (s.frame g)) → IsTrue (fits k (put s.frame f y g))
 section_fit s f y e k g h = put_all (λ g x. IsTrue (fits k x)) s.frame f y g
     (λ same. e.fit k (subst (λ i. IsTrue (fits k (s.frame i))) same h)) (λ other. h)
 
@@ -147,13 +151,22 @@ pub frame_step : (s : State) (o : ℕ → Bool) (f : ℕ) (y : Frame) → f < s.
     → IsObjectGood s y → IsSound s o → IsSound (with_frame s f y) o
 frame_step s o f y below e good h = record {
   held = λ g i k p. good_fit s f y e k (h.held g i k p);
-  waiting = λ g i k c p q w. let a : IsGood s k × WaitsForAll s c (named_by k.kind k.frame) = h.waiting g i k c p q w in (good_fit s f y e k a.0, waits_same (named_by k.kind k.frame) c a.1);
-  objects = λ g. put_all (λ g x. IsObjectGood (with_frame s f y) x) s.frame f y g (λ same. object_fit s f y e y good) (λ other. object_fit s f y e (s.frame g) (h.objects g));
-  cores = λ c m. (section_fit s f y e kind.Thread (s.core c).thread (h.cores c m).0, section_fit s f y e kind.Tcap (s.core c).tcap (h.cores c m).1);
+  waiting = λ g i k c p q w. let a : IsGood s k × WaitsForAll s c (named_by k.kind k.frame) = h.waiting g i k c p q w in
+      (good_fit s f y e k a.0, waits_same (named_by k.kind k.frame) c a.1);
+  objects = λ g. put_all (λ g x. IsObjectGood (with_frame s f y) x) s.frame f y g
+      (λ same. object_fit s f y e y good) (λ other. object_fit s f y e (s.frame g) (h.objects g));
+  cores = λ c m. (
+    section_fit s f y e kind.Thread (s.core c).thread (h.cores c m).0,
+    section_fit s f y e kind.Tcap (s.core c).tcap (h.cores c m).1,
+  );
   numbers = λ l d g n. (section_fit s f y e kind.Comp g (h.numbers l d g n).0, (h.numbers l d g n).1);
-  beyond = λ g past. put_all (λ g x. x ≡ Untyped) s.frame f y g (λ same. absurd (omega (arith, past, below, same))) (λ other. h.beyond g past);
-  bare = λ g i k p. let a : IsTrue (is_node (s.frame g)) × (i < 64) = h.bare g i k p in
-      (put_all (λ g x. IsTrue (is_node x)) s.frame f y g (λ same. e.node (subst (λ j. IsTrue (is_node (s.frame j))) same a.0)) (λ other. a.0), a.1);
+  beyond = λ g past. put_all (λ g x. x ≡ Untyped) s.frame f y g
+      (λ same. absurd (omega (arith, past, below, same))) (λ other. h.beyond g past);
+  bare = λ g i k p. let a : IsTrue (is_node (s.frame g)) × (i < 64) = h.bare g i k p in (
+    put_all (λ g x. IsTrue (is_node x)) s.frame f y g
+        (λ same. e.node (subst (λ j. IsTrue (is_node (s.frame j))) same a.0)) (λ other. a.0),
+    a.1,
+  );
   inside = h.inside;
 }
   where

@@ -1,5 +1,7 @@
 -- Each call that is carried out keeps a state sound.
-use Rattle.std.proofs.Common.{◌≡◌, inl, inr, ℕ, zero, suc, ◌+◌, ◌-◌, ◌<◌, ◌≤◌, Bool, true, false, not, ◌&&◌, ◌||◌, refl, sym, ◌∙◌, ap, subst, arith, ◌==◌, nat_lt, nat_le, if◌then◌else◌, IsTrue, IsFalse, List, [], ◌∷◌, length, take, drop, Option, Some, None, is_some}
+use Rattle.std.proofs.Common.{◌≡◌, inl, inr, ℕ, zero, suc, ◌+◌, ◌-◌, ◌<◌, ◌≤◌, Bool, true, false, not, ◌&&◌}
+use Rattle.std.proofs.Common.{◌||◌, refl, sym, ◌∙◌, ap, subst, arith, ◌==◌, nat_lt, nat_le, if◌then◌else◌}
+use Rattle.std.proofs.Common.{IsTrue, IsFalse, List, [], ◌∷◌, length, take, drop, Option, Some, None, is_some}
 use Rattle.std.proofs.lemmas.Bool.{cases_eq, false≢true, true≢false, ltb-true, ltb-false, lt-ltb}
 use Rattle.std.specs.List.{list_any, range_with_len}
 use Rattle.spk_nums.specs.Capability.{Capability}
@@ -11,28 +13,38 @@ use Rattle.spk_nums.specs.declared.kinds.PageFlags.{PageFlags}
 use Rattle.spk_nums.specs.declared.calls.Make.{Make}
 use Rattle.spk_nums.specs.declared.calls.Make.TheVariants as make
 use Rattle.spk_nums.specs.declared.calls.Call.{Call}
-use Rattle.spk_nums.specs.declared.calls.Call.TheVariants.{Look, Copy, Remove, Grow, Shrink, Retype, Make as make_call, Map, Unmap, Touch, Flush, Gate, Kill, Call as call_gate, Ret, Switch, Tick, Transfer, Delegate, Test}
+use Rattle.spk_nums.specs.declared.calls.Call.TheVariants.{Look, Copy, Remove, Grow, Shrink, Retype, Make as make_call}
+use Rattle.spk_nums.specs.declared.calls.Call.TheVariants.{Map, Unmap, Touch, Flush, Gate, Kill, Call as call_gate}
+use Rattle.spk_nums.specs.declared.calls.Call.TheVariants.{Ret, Switch, Tick, Transfer, Delegate, Test}
 use Rattle.spk_nums.specs.CallLimits.{InLimits}
 use Rattle.spk_nums.specs.declared.translations.Translation.{Translation}
 use Rattle.spk_nums.specs.declared.replies.Reply.TheVariants as reply
-use Rattle.kernel_rules.specs.State.{Holds, CompFields, ThreadFields, TcapFields, Object, Blank, Table, Leaf, Pages, Pleaf, Comp, Thread, Tcap, Frame, Untyped, User, Kernel, Core, Thing, PlaceOf, FrameOf, State, put, with_frame, with_core, comp_of, comp_in, thread_in, thread_of}
+use Rattle.kernel_rules.specs.State.{Holds, CompFields, ThreadFields, TcapFields, Object, Blank, Table, Leaf, Pages}
+use Rattle.kernel_rules.specs.State.{Pleaf, Comp, Thread, Tcap, Frame, Untyped, User, Kernel, Core, Thing, PlaceOf}
+use Rattle.kernel_rules.specs.State.{FrameOf, State, put, with_frame, with_core, comp_of, comp_in, thread_in, thread_of}
 use Rattle.kernel_rules.specs.Start.{plain_cap}
 use Rattle.kernel_rules.specs.References.{refs, frame_names, number_names}
 use Rattle.kernel_rules.specs.Access.{Slot, found, Target, Under, InRoot, held_in, only, root}
 use Rattle.kernel_rules.specs.GracePeriods.{same_thing, begun, flushed}
-use Rattle.kernel_rules.specs.Rules.{Change, Cause, When, WaitedFor, Unflushed, Found, named, vacant, held, first_cause, refusal_of, waits_of, flushes_of, frames_of, fills, removes}
-use Rattle.kernel_rules.specs.CapabilityCalls.{grow_rule, leaf_of, has_frame, outside, epoch_of, is_frame, is_blank, not_blank, makes, cleared, make_node, makes_comp, make_rule, not_taken}
-use Rattle.kernel_rules.specs.MemoryCalls.{is_untyped, is_untyped_now, not_untyped, is_user, holds_nothing, is_empty, not_retyped, retype_rule, not_user, map_rule, touch_by, translation_of}
+use Rattle.kernel_rules.specs.Rules.{Change, Cause, When, WaitedFor, Unflushed, Found, named, vacant, held}
+use Rattle.kernel_rules.specs.Rules.{first_cause, refusal_of, waits_of, flushes_of, frames_of, fills, removes}
+use Rattle.kernel_rules.specs.CapabilityCalls.{grow_rule, leaf_of, has_frame, outside, epoch_of, is_frame, is_blank}
+use Rattle.kernel_rules.specs.CapabilityCalls.{not_blank, makes, cleared, make_node, makes_comp, make_rule, not_taken}
+use Rattle.kernel_rules.specs.MemoryCalls.{is_untyped, is_untyped_now, not_untyped, is_user, holds_nothing, is_empty}
+use Rattle.kernel_rules.specs.MemoryCalls.{not_retyped, retype_rule, not_user, map_rule, touch_by, translation_of}
 use Rattle.kernel_rules.specs.InvocationCalls.{kills, with_thread, pushes, call_rule, pops, ret_rule, running, switches, switch_to}
 use Rattle.kernel_rules.specs.TimeCalls.{with_tcap, with_budget, with_qualities, tcap_at, moved, merged_list}
 use Rattle.kernel_rules.specs.CallRelation.{rule_of}
 use Rattle.kernel_rules.proofs.Within.{put_same, put_other}
 use Rattle.kernel_rules.specs.Fitting.{fits, IsGood, EndsWithin}
 use Rattle.kernel_rules.specs.Relies.{is_node}
-use Rattle.kernel_invariant.proofs.Sound.{AreComps, IsStack, IsObjectGood, IsSound, weaken, only_is, Extends, from_blank, from_untyped, put_all, frame_step}
+use Rattle.kernel_invariant.proofs.Sound.{AreComps, IsStack, IsObjectGood, IsSound, weaken, only_is}
+use Rattle.kernel_invariant.proofs.Sound.{Extends, from_blank, from_untyped, put_all, frame_step}
 use Rattle.kernel_invariant.proofs.SoundSteps.{fill_step, core_step, live_step, dead_step, clear_step, grace_step}
-use Rattle.kernel_invariant.proofs.SoundRemovals.{frames_no_place, begin_step, remove_step, unnamed, untyped, untype_step, none_waits, below_by}
-use Rattle.kernel_invariant.proofs.Facts.{ChangesFrom, named_good, named_fit, RootIsNode, reached_node, vacant_facts, held_facts, none_parts, when_not, not_not, first_two}
+use Rattle.kernel_invariant.proofs.SoundRemovals.{frames_no_place, begin_step, remove_step, unnamed}
+use Rattle.kernel_invariant.proofs.SoundRemovals.{untyped, untype_step, none_waits, below_by}
+use Rattle.kernel_invariant.proofs.Facts.{ChangesFrom, named_good, named_fit, RootIsNode, reached_node}
+use Rattle.kernel_invariant.proofs.Facts.{vacant_facts, held_facts, none_parts, when_not, not_not, first_two}
 
 -- The state after a change, in which the call of core c is no longer open, is sound.
 abbrev pub Keeps : State → (ℕ → Bool) → ℕ → Change → Type 0
@@ -132,18 +144,24 @@ pub in_range : (s : State) (o : ℕ → Bool) (c r f : ℕ) (range : Capability)
     → refusal_of s c (outside (found range) f) ≡ None → f < s.limits.frames
 in_range s o c r f range h e none =
     let a : IsGood s range × IsTrue (only kind.Range range.kind) = named_good s o c r (only kind.Range) range h.sound h.is e in
-    let ends : EndsWithin kind.Range range.frame range.arg s.limits.frames = subst (λ k. EndsWithin k range.frame range.arg s.limits.frames) (only_is kind.Range range.kind a.1) a.0.within in
-    let has : has_frame (found range) f ≡ true = not_not (has_frame (found range) f) (when_not (not (has_frame (found range) f)) reply.OutOfRange none) in
-    let below : f < range.frame + range.arg = ltb-true f (range.frame + range.arg) (both (nat_le range.frame f) (nat_lt f (range.frame + range.arg)) has).1 in
+    let ends : EndsWithin kind.Range range.frame range.arg s.limits.frames =
+    subst (λ k. EndsWithin k range.frame range.arg s.limits.frames) (only_is kind.Range range.kind a.1) a.0.within in
+    let has : has_frame (found range) f ≡ true =
+    not_not (has_frame (found range) f) (when_not (not (has_frame (found range) f)) reply.OutOfRange none) in
+    let below : f < range.frame + range.arg =
+    ltb-true f (range.frame + range.arg) (both (nat_le range.frame f) (nat_lt f (range.frame + range.arg)) has).1 in
     omega (arith, ends, below)
 
 -- A frame of the machine is of the kind that a cause of `frame-kind` asks for, where the cause does not stand.
-pub kind_by : (s : State) (f : ℕ) (wanted : Bool) → f < s.limits.frames → (if is_frame s f && not wanted then Some reply.FrameKind else None) ≡ None → wanted ≡ true
+pub kind_by : (s : State) (f : ℕ) (wanted : Bool) → f < s.limits.frames
+    → (if is_frame s f && not wanted then Some reply.FrameKind else None) ≡ None → wanted ≡ true
 kind_by s f wanted below none =
-    not_not wanted (sym (ap (λ b. b && not wanted) (lt-ltb f s.limits.frames below)) ∙ when_not (is_frame s f && not wanted) reply.FrameKind none)
+    not_not wanted (sym (ap (λ b. b && not wanted) (lt-ltb f s.limits.frames below))
+    ∙ when_not (is_frame s f && not wanted) reply.FrameKind none)
 
 -- Where no cause of a `make` stands, its frame is a blank frame of the machine.
-pub blank_by : (s : State) (o : ℕ → Bool) (c r f : ℕ) (range : Capability) (causes : List Cause) → IsOpen s o c → named s c r (only kind.Range) ≡ Found range
+pub blank_by : (s : State) (o : ℕ → Bool) (c r f : ℕ) (range : Capability) (causes : List Cause)
+    → IsOpen s o c → named s c r (only kind.Range) ≡ Found range
     → first_cause s c (outside (found range) f ∷ not_blank s f ∷ causes) ≡ None → (f < s.limits.frames) × (s.frame f ≡ Kernel Blank)
 blank_by s o c r f range causes h e calm =
     let p = first_two s c (outside (found range) f) (not_blank s f) causes calm in
@@ -163,7 +181,8 @@ made : (s : State) (o : ℕ → Bool) (f : ℕ) (object : Object) (k : Kind) (at
     → IsObjectGood s (Kernel object) → IsTrue (fits k (Kernel object)) → IsFalse (fits k Untyped)
     → IsTrue (is_node (s.frame at.node)) → at.index < 64 → IsSound s o → IsSound (makes s f object k at).next o
 made s o f object k at below blank good fit real node small h =
-    fill_step next o at.node at.index (plain_cap k f) (record { fit = at_frame; within = ends k real }) still small (frame_step s o f (Kernel object) below extends good h)
+    fill_step next o at.node at.index (plain_cap k f) (record { fit = at_frame; within = ends k real })
+    still small (frame_step s o f (Kernel object) below extends good h)
   where
     next : State
     next = with_frame s f (Kernel object)
@@ -182,7 +201,8 @@ made s o f object k at below blank good fit real node small h =
     still = put_all (λ g x. IsTrue (is_node x)) s.frame f (Kernel object) at.node
         (λ same. extends.node (subst (λ g. IsTrue (is_node (s.frame g))) same node)) (λ other. node)
 
-node_keeps : (s : State) (o : ℕ → Bool) (c : ℕ) → IsOpen s o c → (object : Object) (k : Kind) → IsTrue (fits k (Kernel object)) → IsFalse (fits k Untyped)
+node_keeps : (s : State) (o : ℕ → Bool) (c : ℕ) → IsOpen s o c
+    → (object : Object) (k : Kind) → IsTrue (fits k (Kernel object)) → IsFalse (fits k Untyped)
     → ((f : ℕ) → IsObjectGood (cleared s f) (Kernel object))
     → (r f t b : ℕ) → ChangesFrom (Keeps s o c) s c (make_node s object k r f t b)
 node_keeps s o c h object k fit real good r f t b = λ range e table g at v calm.
@@ -216,8 +236,10 @@ make_keeps s o c h (make.Comp x p l) r f t b lim = λ range e table g own_table 
     plain s (makes_comp s f comp at).next o c h
     (live_step (makes s f (Comp comp) kind.Comp at).next o l comp.epoch f
     (subst (λ y. IsTrue (fits kind.Comp y)) (sym (put_same s.frame f (Kernel (Comp comp)) f refl)) refl) lim
-    (made s o f (Comp comp) kind.Comp at p1.0 p1.1
-    (named_fit s o c x kind.Table own_table h.sound h.is a, named_fit s o c p kind.Pages own_pages h.sound h.is d) refl refl n.0 n.1 h.sound))
+    (made s o f (Comp comp) kind.Comp at p1.0 p1.1 (
+      named_fit s o c x kind.Table own_table h.sound h.is a,
+      named_fit s o c p kind.Pages own_pages h.sound h.is d,
+    ) refl refl n.0 n.1 h.sound))
 
 -- Each call on memory.
 from_untyped_at : (s : State) (f : ℕ) (y : Frame) → s.frame f ≡ Untyped → Extends (s.frame f) y
@@ -251,7 +273,8 @@ empty_node s f _ e n = absurd (false≢true n)
 pub zero_refs : (n : ℕ) → nat_lt 0 n ≡ false → n ≡ 0
 zero_refs n e = let p = ltb-false 0 n e in omega (arith, p)
 
-retype_keeps : (s : State) (o : ℕ → Bool) (c : ℕ) → IsOpen s o c → (r f : ℕ) (k : FrameKind) → ChangesFrom (Keeps s o c) s c (retype_rule s r f k)
+retype_keeps : (s : State) (o : ℕ → Bool) (c : ℕ) → IsOpen s o c
+    → (r f : ℕ) (k : FrameKind) → ChangesFrom (Keeps s o c) s c (retype_rule s r f k)
 retype_keeps s o c h r f frame_kind.User = λ range e calm.
     let p = untyped_by s o c r f range h e calm in
     plain s (with_frame s f User) o c h (frame_step s o f User p.0 (from_untyped_at s f User p.1) tt h.sound)
@@ -262,20 +285,24 @@ retype_keeps s o c h r f frame_kind.Untyped = λ range e calm.
     let held : Cause = When (not (is_empty s f (s.frame f))) reply.NotEmpty in
     let referenced : Cause = When (nat_lt 0 (refs s f)) (reply.Referenced (refs s f)) in
     let p = none_parts (refusal_of s c (outside (found range) f)) (first_cause s c (not_retyped s f frame_kind.Untyped)) calm in
-    let p1 = none_parts (refusal_of s c (is_untyped_now s f)) (first_cause s c (referenced ∷ WaitedFor (FrameOf f) ∷ Unflushed (FrameOf f) ∷ held ∷ [])) p.1 in
+    let p1 = none_parts (refusal_of s c (is_untyped_now s f))
+    (first_cause s c (referenced ∷ WaitedFor (FrameOf f) ∷ Unflushed (FrameOf f) ∷ held ∷ [])) p.1 in
     let p2 = none_parts (refusal_of s c referenced) (first_cause s c (WaitedFor (FrameOf f) ∷ Unflushed (FrameOf f) ∷ held ∷ [])) p1.1 in
     let p3 = none_parts (waits_of s c (FrameOf f)) (first_cause s c (Unflushed (FrameOf f) ∷ held ∷ [])) p2.1 in
     let p4 = none_parts (flushes_of s (FrameOf f)) (first_cause s c (held ∷ [])) p3.1 in
     let p5 = none_parts (refusal_of s c held) None p4.1 in
     let zero : refs s f ≡ 0 = zero_refs (refs s f) (when_not (nat_lt 0 (refs s f)) (reply.Referenced (refs s f)) p2.0) in
-    let empty : is_empty s f (s.frame f) ≡ true = not_not (is_empty s f (s.frame f)) (when_not (not (is_empty s f (s.frame f))) reply.NotEmpty p5.0) in
+    let empty : is_empty s f (s.frame f) ≡ true =
+    not_not (is_empty s f (s.frame f)) (when_not (not (is_empty s f (s.frame f))) reply.NotEmpty p5.0) in
     begin_step s (untyped s f) (put o c false) (frames_of (frame_names (s.frame f))) (λ g i. frames_no_place g i (frame_names (s.frame f)))
     (λ d q. (h.sound.inside d (closed o c d q)).0)
     (untype_step s o c f (in_range s o c r f range h e p.0) (unnamed s f zero) (none_waits s c f p3.0)
-    (λ i k at. let b : IsTrue (is_node (s.frame f)) × (i < 64) = h.sound.bare f i k at in nothing_held s f i k (empty_node s f (s.frame f) empty b.0) b.1 at)
+    (λ i k at. let b : IsTrue (is_node (s.frame f)) × (i < 64) = h.sound.bare f i k at in
+    nothing_held s f i k (empty_node s f (s.frame f) empty b.0) b.1 at)
     h.sound)
 
-map_keeps : (s : State) (o : ℕ → Bool) (c : ℕ) → IsOpen s o c → (p v r f : ℕ) (w : PageFlags) → ChangesFrom (Keeps s o c) s c (map_rule s p v r f w)
+map_keeps : (s : State) (o : ℕ → Bool) (c : ℕ) → IsOpen s o c
+    → (p v r f : ℕ) (w : PageFlags) → ChangesFrom (Keeps s o c) s c (map_rule s p v r f w)
 map_keeps s o c h p v r f w = λ pages e range g at u calm.
     let q = first_two s c (outside (found range) f) (not_user s f) [] calm in
     let user : s.frame f ≡ User = user_is (s.frame f) (kind_by s f (is_user (s.frame f)) (in_range s o c r f range h g q.0) q.1) in
@@ -283,19 +310,25 @@ map_keeps s o c h p v r f w = λ pages e range g at u calm.
     (record { fit = subst (λ x. IsTrue (fits kind.Page x)) (sym user) refl; within = tt })
 
 -- A core keeps its thread and temporal capability.
-pub core_keeps : (s : State) (o : ℕ → Bool) (c : ℕ) (k : Core) → k.inside ≡ (s.core c).inside → k.thread ≡ (s.core c).thread → k.tcap ≡ (s.core c).tcap
+pub core_keeps : (s : State) (o : ℕ → Bool) (c : ℕ) (k : Core)
+    → k.inside ≡ (s.core c).inside → k.thread ≡ (s.core c).thread → k.tcap ≡ (s.core c).tcap
     → IsSound s o → IsSound (with_core s c k) o
 core_keeps s o c k inside thread tcap h =
-    core_step s o c k inside (λ m. (subst (λ f. IsTrue (fits kind.Thread (s.frame f))) (sym thread) (h.cores c m).0, subst (λ f. IsTrue (fits kind.Tcap (s.frame f))) (sym tcap) (h.cores c m).1)) h
+    core_step s o c k inside (λ m. (
+      subst (λ f. IsTrue (fits kind.Thread (s.frame f))) (sym thread) (h.cores c m).0,
+      subst (λ f. IsTrue (fits kind.Tcap (s.frame f))) (sym tcap) (h.cores c m).1,
+    )) h
 
-touch_keeps : (s : State) (o : ℕ → Bool) (c : ℕ) → IsOpen s o c → (pages v : ℕ) (t : Option Translation) → ChangesFrom (Keeps s o c) s c (touch_by s c pages v t)
+touch_keeps : (s : State) (o : ℕ → Bool) (c : ℕ) → IsOpen s o c
+    → (pages v : ℕ) (t : Option Translation) → ChangesFrom (Keeps s o c) s c (touch_by s c pages v t)
 touch_keeps s o c h pages v None = λ mapping e calm.
     plain s (with_core s c _) o c h (core_keeps s o c _ refl refl refl h.sound)
 touch_keeps s o c h pages v (Some t) = λ calm. plain s s o c h h.sound
 
 flush_keeps : (s : State) (o : ℕ → Bool) (c : ℕ) → IsOpen s o c → IsSound (flushed s c) o
 flush_keeps s o c h =
-    grace_step (with_core s c (record (s.core c) { cached = [] })) o (λ x. record (s.grace x) { unflushed = put (s.grace x).unflushed c false })
+    grace_step (with_core s c (record (s.core c) { cached = [] })) o
+    (λ x. record (s.grace x) { unflushed = put (s.grace x).unflushed c false })
     (λ f i d q w. w) (λ f d q w. w) (core_keeps s o c (record (s.core c) { cached = [] }) refl refl refl h.sound)
 
 -- Each call of invocation.
@@ -322,7 +355,8 @@ thread_extends Untyped t = record { fit = λ k h. h; node = λ h. h }
 thread_extends User t = record { fit = λ k h. h; node = λ h. h }
 thread_extends (Kernel _) t = record { fit = λ k h. h; node = λ h. h }
 
-thread_good : (s : State) (x : Frame) (t : ThreadFields) → IsObjectGood s x → (IsStack s (thread_in x).stack → IsStack s t.stack) → IsObjectGood s (with_thread x t)
+thread_good : (s : State) (x : Frame) (t : ThreadFields) → IsObjectGood s x
+    → (IsStack s (thread_in x).stack → IsStack s t.stack) → IsObjectGood s (with_thread x t)
 thread_good s (Kernel (Thread u)) t h stack = stack h
 thread_good s Untyped t h stack = h
 thread_good s User t h stack = h
@@ -357,7 +391,8 @@ popped s (f ∷ g ∷ fs) e h = (h.1.0, h.1.1)
 
 call_keeps : (s : State) (o : ℕ → Bool) (c : ℕ) → IsOpen s o c → (g : ℕ) → ChangesFrom (Keeps s o c) s c (call_rule s c g)
 call_keeps s o c h g = λ gate e calm.
-    let fit : IsTrue (fits kind.Comp (s.frame gate.frame)) = gate_comp (s.frame gate.frame) (named_fit s o c g kind.Gate gate h.sound h.is e) in
+    let fit : IsTrue (fits kind.Comp (s.frame gate.frame)) =
+    gate_comp (s.frame gate.frame) (named_fit s o c g kind.Gate gate h.sound h.is e) in
     plain s (pushes s c gate.frame).next o c h
     (thread_step s o (s.core c).thread (record (thread_of s c) { stack = gate.frame ∷ (thread_of s c).stack }) (own_thread s o c h)
     (λ stack. (fit, stack_comps s (thread_of s c).stack stack)) h.sound)
@@ -373,11 +408,15 @@ ret_keeps s o c h = λ calm.
 running_step : (s : State) (o : ℕ → Bool) (f : ℕ) (core : Option ℕ) → f < s.limits.frames → IsSound s o → IsSound (running s f core) o
 running_step s o f core below h = thread_step s o f (record (thread_in (s.frame f)) { runs_on = core }) below (λ stack. stack) h
 
-pub running_fit : (s : State) (f : ℕ) (core : Option ℕ) (k : Kind) (g : ℕ) → IsTrue (fits k (s.frame g)) → IsTrue (fits k ((running s f core).frame g))
-running_fit s f core k g h = put_all (λ g x. IsTrue (fits k x)) s.frame f (with_thread (s.frame f) (record (thread_in (s.frame f)) { runs_on = core })) g
-    (λ same. (thread_extends (s.frame f) (record (thread_in (s.frame f)) { runs_on = core })).fit k (subst (λ n. IsTrue (fits k (s.frame n))) same h)) (λ other. h)
+pub running_fit : (s : State) (f : ℕ) (core : Option ℕ) (k : Kind) (g : ℕ)
+    → IsTrue (fits k (s.frame g)) → IsTrue (fits k ((running s f core).frame g))
+running_fit s f core k g h =
+    put_all (λ g x. IsTrue (fits k x)) s.frame f (with_thread (s.frame f) (record (thread_in (s.frame f)) { runs_on = core })) g
+    (λ same. (thread_extends (s.frame f) (record (thread_in (s.frame f)) { runs_on = core })).fit
+    k (subst (λ n. IsTrue (fits k (s.frame n))) same h)) (λ other. h)
 
-switch_keeps : (s : State) (o : ℕ → Bool) (c : ℕ) → IsOpen s o c → (j : Capability) (q : ℕ) → IsTrue (fits kind.Thread (s.frame j.frame)) → IsTrue (fits kind.Tcap (s.frame q))
+switch_keeps : (s : State) (o : ℕ → Bool) (c : ℕ) → IsOpen s o c → (j : Capability) (q : ℕ)
+    → IsTrue (fits kind.Thread (s.frame j.frame)) → IsTrue (fits kind.Tcap (s.frame q))
     → (e : Option ℕ) → ChangesFrom (Keeps s o c) s c (switch_to s c (found j) q e)
 switch_keeps s o c h j q thread tcap (Some e) = λ calm. absurd (some_none (none_parts (Some (reply.Running e)) None calm).0)
   where
@@ -388,7 +427,8 @@ switch_keeps s o c h j q thread tcap None = λ calm.
     let old : ℕ = (s.core c).thread in
     let idle : State = running s old None in
     let next : State = running idle f (Some c) in
-    let sound : IsSound next o = running_step idle o f (Some c) (thread_below s o f h.sound thread) (running_step s o old None (own_thread s o c h) h.sound) in
+    let sound : IsSound next o =
+    running_step idle o f (Some c) (thread_below s o f h.sound thread) (running_step s o old None (own_thread s o c h) h.sound) in
     done s (switches s c (s.core c) f q).next o c (switches s c (s.core c) f q).begins h
     (λ g i. frames_no_place g i (old ∷ (if q == (s.core c).tcap then [] else (s.core c).tcap ∷ [])))
     (core_step next o c (record (s.core c) { thread = f; tcap = q }) refl
@@ -422,20 +462,24 @@ tcap_good s (Kernel Pleaf) q h = h
 tcap_good s (Kernel (Comp k)) q h = h
 tcap_good s (Kernel (Thread t)) q h = h
 
-tcap_step : (s : State) (o : ℕ → Bool) (f : ℕ) (q : TcapFields) → f < s.limits.frames → IsSound s o → IsSound (with_frame s f (with_tcap (s.frame f) q)) o
-tcap_step s o f q below h = frame_step s o f (with_tcap (s.frame f) q) below (tcap_extends (s.frame f) q) (tcap_good s (s.frame f) q (h.objects f)) h
+tcap_step : (s : State) (o : ℕ → Bool) (f : ℕ) (q : TcapFields) → f < s.limits.frames
+    → IsSound s o → IsSound (with_frame s f (with_tcap (s.frame f) q)) o
+tcap_step s o f q below h =
+    frame_step s o f (with_tcap (s.frame f) q) below (tcap_extends (s.frame f) q) (tcap_good s (s.frame f) q (h.objects f)) h
 
 pub tcap_below : (s : State) (o : ℕ → Bool) (f : ℕ) → IsSound s o → IsTrue (fits kind.Tcap (s.frame f)) → f < s.limits.frames
 tcap_below s o f h fit = below_by s o f h (fits kind.Tcap) refl fit
 
-moved_step : (s : State) (o : ℕ → Bool) (a b m : ℕ) → IsTrue (fits kind.Tcap (s.frame a)) → IsTrue (fits kind.Tcap (s.frame b)) → IsSound s o → IsSound (moved s a b m) o
+moved_step : (s : State) (o : ℕ → Bool) (a b m : ℕ) → IsTrue (fits kind.Tcap (s.frame a))
+    → IsTrue (fits kind.Tcap (s.frame b)) → IsSound s o → IsSound (moved s a b m) o
 moved_step s o a b m fa fb h =
     let first : State = with_budget s a ((tcap_at s a).budget - m) in
     tcap_step first o b (record (tcap_at first b) { budget = (tcap_at s b).budget + m }) (tcap_below s o b h fb)
     (tcap_step s o a (record (tcap_at s a) { budget = (tcap_at s a).budget - m }) (tcap_below s o a h fa) h)
 
 -- Every call that is carried out keeps the state sound.
-pub rule_keeps : (s : State) (o : ℕ → Bool) (c : ℕ) → IsOpen s o c → (call : Call) → InLimits call → ChangesFrom (Keeps s o c) s c (rule_of s c call)
+pub rule_keeps : (s : State) (o : ℕ → Bool) (c : ℕ) → IsOpen s o c
+    → (call : Call) → InLimits call → ChangesFrom (Keeps s o c) s c (rule_of s c call)
 rule_keeps s o c h (Look a) lim = λ k e calm. plain s s o c h h.sound
 rule_keeps s o c h (Copy a t b) lim = λ k e table f at g calm.
     filled s o c (Under (found table) b) at k h tt g (named_good s o c a (λ k. true) k h.sound h.is e).0
@@ -458,18 +502,23 @@ rule_keeps s o c h (Kill k) lim = λ comp e calm.
 rule_keeps s o c h (call_gate g) lim = call_keeps s o c h g
 rule_keeps s o c h Ret lim = ret_keeps s o c h
 rule_keeps s o c h (Switch f q) lim = λ thread e tcap g.
-    switch_keeps s o c h thread tcap.frame (named_fit s o c f kind.Thread thread h.sound h.is e) (named_fit s o c q kind.Tcap tcap h.sound h.is g) (thread_in (s.frame thread.frame)).runs_on
+    switch_keeps s o c h thread tcap.frame (named_fit s o c f kind.Thread thread h.sound h.is e)
+    (named_fit s o c q kind.Tcap tcap h.sound h.is g) (thread_in (s.frame thread.frame)).runs_on
 rule_keeps s o c h (Tick n) lim = λ calm.
     let q : ℕ = (s.core c).tcap in
     let fit : IsTrue (fits kind.Tcap (s.frame q)) = (h.sound.cores c (h.sound.inside c h.is).1).1 in
     plain s (with_core (with_budget s q _) c _) o c h
-    (core_keeps (with_budget s q _) o c _ refl refl refl (tcap_step s o q (record (tcap_at s q) { budget = _ }) (tcap_below s o q h.sound fit) h.sound))
+    (core_keeps (with_budget s q _) o c _ refl refl refl
+    (tcap_step s o q (record (tcap_at s q) { budget = _ }) (tcap_below s o q h.sound fit) h.sound))
 rule_keeps s o c h (Transfer a b m) lim = λ j e k f calm.
     plain s (moved s j.frame k.frame m) o c h
     (moved_step s o j.frame k.frame m (named_fit s o c a kind.Tcap j h.sound h.is e) (named_fit s o c b kind.Tcap k h.sound h.is f) h.sound)
 rule_keeps s o c h (Delegate a b m) lim = λ j e k f calm.
     let fb : IsTrue (fits kind.Tcap (s.frame k.frame)) = named_fit s o c b kind.Tcap k h.sound h.is f in
     plain s (with_qualities (moved s j.frame k.frame m) k.frame (merged_list s j.frame k.frame)) o c h
-    (tcap_step (moved s j.frame k.frame m) o k.frame (record (tcap_at (moved s j.frame k.frame m) k.frame) { qualities = merged_list s j.frame k.frame }) (tcap_below s o k.frame h.sound fb)
+    (tcap_step (moved s j.frame k.frame m) o k.frame (record (tcap_at (moved s j.frame k.frame m) k.frame) {
+      qualities =
+          merged_list s j.frame k.frame;
+    }) (tcap_below s o k.frame h.sound fb)
     (moved_step s o j.frame k.frame m (named_fit s o c a kind.Tcap j h.sound h.is e) fb h.sound))
 rule_keeps s o c h (Test a b) lim = λ j e k f calm. plain s s o c h h.sound

@@ -1,11 +1,13 @@
 -- Removals, releases and retypes to untyped keep a state sound.
-use Rattle.std.proofs.Common.{◌≡◌, ◌≢◌, inl, inr, ℕ, zero, suc, ◌+◌, ◌<◌, ◌≤◌, Bool, true, false, not, ◌&&◌, refl, sym, ◌∙◌, ap, subst, arith, ◌==◌, cond, if◌then◌else◌, IsTrue, List, [], ◌∷◌, Option, Some, None, find}
+use Rattle.std.proofs.Common.{◌≡◌, ◌≢◌, inl, inr, ℕ, zero, suc, ◌+◌, ◌<◌, ◌≤◌, Bool, true, false, not, ◌&&◌, refl, sym, ◌∙◌}
+use Rattle.std.proofs.Common.{ap, subst, arith, ◌==◌, cond, if◌then◌else◌, IsTrue, List, [], ◌∷◌, Option, Some, None, find}
 use Rattle.std.proofs.lemmas.Bool.{cases_eq, false≢true, true≢false, eq-eqb, ne_eqb, eqb-true, or_from, or_left, or_right, cases_lt}
 use Rattle.std.specs.List.{list_any, range_with_len}
 use Rattle.spk_nums.specs.Capability.{Capability}
 use Rattle.spk_nums.specs.declared.kinds.Kind.{Kind}
 use Rattle.spk_nums.specs.declared.kinds.Kind.TheVariants as kind
-use Rattle.kernel_rules.specs.State.{Holds, Quiescing, Comp, Thread, Frame, Untyped, Kernel, Grace, Thing, PlaceOf, FrameOf, State, put, with_place, with_frame, with_grace}
+use Rattle.kernel_rules.specs.State.{Holds, Quiescing, Comp, Thread, Frame, Untyped, Kernel, Grace, Thing}
+use Rattle.kernel_rules.specs.State.{PlaceOf, FrameOf, State, put, with_place, with_frame, with_grace}
 use Rattle.kernel_rules.specs.Start.{no_grace}
 use Rattle.kernel_rules.specs.References.{named_by, place_names, frame_names, number_names, core_names, times, node_refs, refs}
 use Rattle.kernel_rules.specs.GracePeriods.{same_thing, new_grace, begun, other_waiting, quiescing_by}
@@ -39,7 +41,8 @@ pub begin_step : (s next : State) (o : ℕ → Bool) (things : List Thing)
     → IsSound next o → IsSound (begun s things next) o
 begin_step s next o things apart inside h =
     grace_step next o (λ x. if list_any (same_thing x) things then new_grace s x else next.grace x)
-    (λ f i c q w. not_chosen (list_any (same_thing (PlaceOf f i)) things) (new_grace s (PlaceOf f i)) (next.grace (PlaceOf f i)) c (apart f i) w)
+    (λ f i c q w. not_chosen (list_any (same_thing (PlaceOf f i)) things)
+    (new_grace s (PlaceOf f i)) (next.grace (PlaceOf f i)) c (apart f i) w)
     (λ f c q w. frame_waits s (list_any (same_thing (FrameOf f)) things) (FrameOf f) (next.grace (FrameOf f)) c (inside c q) w)
     h
 
@@ -49,13 +52,17 @@ pub remove_step : (s : State) (o : ℕ → Bool) (g j : ℕ) (k : Capability) �
 remove_step s o g j k at h = record {
   held = λ f i m. place_all (λ f i x. x ≡ Holds m → IsGood new m) s g j (Quiescing k) f i
       (λ same is e. absurd (quiescing_holds k m e)) (λ e. good m (h.held f i m e));
-  waiting = λ f i m c. place_all (λ f i x. x ≡ Quiescing m → o c ≡ true → IsTrue ((new.grace (PlaceOf f i)).waits c) → IsGood new m × WaitsForAll new c (named_by m.kind m.frame)) s g j (Quiescing k) f i
+  waiting = λ f i m c. place_all (λ f i x. x ≡ Quiescing m → o c ≡ true → IsTrue ((new.grace (PlaceOf f i)).waits c)
+      → IsGood new m × WaitsForAll new c (named_by m.kind m.frame)) s g j (Quiescing k) f i
       (λ same is e q w. (
         good m (subst (IsGood s) (quiescing_inj k m e) (h.held g j k at)),
         subst (λ n. WaitsForAll new c (named_by n.kind n.frame)) (quiescing_inj k m e) (begun_all c (named_by k.kind k.frame) (begins c q)),
       ))
-      (λ e q w. let a : IsGood s m × WaitsForAll s c (named_by m.kind m.frame) = h.waiting f i m c e q (elsewhere f i c m e w) in
-      (good m a.0, waits_all s new c (λ f w. frame_waits s (list_any (same_thing (FrameOf f)) things) (FrameOf f) (s.grace (FrameOf f)) c (h.inside c q).0 w) (named_by m.kind m.frame) a.1));
+      (λ e q w. let a : IsGood s m × WaitsForAll s c (named_by m.kind m.frame) = h.waiting f i m c e q (elsewhere f i c m e w) in (
+        good m a.0,
+        waits_all s new c (λ f w. frame_waits s (list_any (same_thing (FrameOf f)) things)
+            (FrameOf f) (s.grace (FrameOf f)) c (h.inside c q).0 w) (named_by m.kind m.frame) a.1,
+      ));
   objects = h.objects;
   cores = h.cores;
   numbers = h.numbers;
@@ -86,7 +93,8 @@ remove_step s o g j k at h = record {
         let q : (i == j) ≡ true = (both (f == g) (i == j) is).1 in
         absurd (holds_quiescing k m (sym at ∙ ap (λ n. s.place n j) (sym (eqb-true f g p)) ∙ ap (s.place f) (sym (eqb-true i j q)) ∙ e))
 
-    elsewhere : (f i c : ℕ) (m : Capability) → s.place f i ≡ Quiescing m → IsTrue ((new.grace (PlaceOf f i)).waits c) → IsTrue ((s.grace (PlaceOf f i)).waits c)
+    elsewhere : (f i c : ℕ) (m : Capability) → s.place f i ≡ Quiescing m
+        → IsTrue ((new.grace (PlaceOf f i)).waits c) → IsTrue ((s.grace (PlaceOf f i)).waits c)
     elsewhere f i c m e w = not_chosen (list_any (same_thing (PlaceOf f i)) things) (new_grace s (PlaceOf f i)) (s.grace (PlaceOf f i)) c
         (or_from (f == g && i == j) (list_any (same_thing (PlaceOf f i)) (frames_of (place_names (Holds k))))
         (this f i c m e (f == g && i == j) refl) (frames_no_place f i (place_names (Holds k)))) w
@@ -100,9 +108,11 @@ remove_step s o g j k at h = record {
     begins : (c : ℕ) → o c ≡ true → (f : ℕ) → list_any (same_thing (FrameOf f)) things ≡ true → IsTrue ((new.grace (FrameOf f)).waits c)
     begins c q f e = chosen (list_any (same_thing (FrameOf f)) things) (new_grace s (FrameOf f)) (s.grace (FrameOf f)) c e (h.inside c q).0
 
-    begun_all : (c : ℕ) → (fs : List ℕ) → ((f : ℕ) → list_any (same_thing (FrameOf f)) (frames_of fs) ≡ true → IsTrue ((new.grace (FrameOf f)).waits c)) → WaitsForAll new c fs
+    begun_all : (c : ℕ) → (fs : List ℕ) → ((f : ℕ) → list_any (same_thing (FrameOf f)) (frames_of fs) ≡ true
+        → IsTrue ((new.grace (FrameOf f)).waits c)) → WaitsForAll new c fs
     begun_all c [] each = tt
-    begun_all c (f ∷ fs) each = (each f (among f fs), begun_all c fs (λ g e. each g (or_right (g == f) (list_any (same_thing (FrameOf g)) (frames_of fs)) e)))
+    begun_all c (f ∷ fs) each =
+        (each f (among f fs), begun_all c fs (λ g e. each g (or_right (g == f) (list_any (same_thing (FrameOf g)) (frames_of fs)) e)))
 
 -- A list that does not name a frame does not begin with it.
 apart : (f g : ℕ) (fs : List ℕ) → times f (g ∷ fs) ≡ 0 → g ≢ f
@@ -138,14 +148,16 @@ unnamed s f none = record {
 }
 
 -- What an untyped frame is not, is a frame of the machine.
-pub below_by : (s : State) (o : ℕ → Bool) (g : ℕ) → IsSound s o → (P : Frame → Bool) → P Untyped ≡ false → P (s.frame g) ≡ true → g < s.limits.frames
+pub below_by : (s : State) (o : ℕ → Bool) (g : ℕ) → IsSound s o → (P : Frame → Bool)
+    → P Untyped ≡ false → P (s.frame g) ≡ true → g < s.limits.frames
 below_by s o g h P none fit = elim (cases_lt g s.limits.frames) [
   | inl below ↦ below
   | inr past ↦ absurd (false≢true (sym none ∙ ap P (sym (h.beyond g past)) ∙ fit))
 ]
 
 -- A frame that is not named fits what names others.
-fit_apart : (s : State) (f : ℕ) (k : Kind) (g : ℕ) → times f (named_by k g) ≡ 0 → IsTrue (fits k (s.frame g)) → IsTrue (fits k (put s.frame f Untyped g))
+fit_apart : (s : State) (f : ℕ) (k : Kind) (g : ℕ) → times f (named_by k g) ≡ 0
+    → IsTrue (fits k (s.frame g)) → IsTrue (fits k (put s.frame f Untyped g))
 fit_apart s f kind.Range g e h = refl
 fit_apart s f k g e h = subst (λ x. IsTrue (fits k x)) (sym (put_other s.frame f Untyped g (apart f g [] e))) h
 
@@ -194,15 +206,18 @@ untype_step s o c f below un none bare h = record {
   cores = λ d m.
       let e : times f ((s.core d).thread ∷ (s.core d).tcap ∷ []) ≡ 0 = un.cores d m in (
         fit_other s f kind.Thread (s.core d).thread (apart f (s.core d).thread ((s.core d).tcap ∷ []) e) (h.cores d m).0,
-        fit_other s f kind.Tcap (s.core d).tcap (apart f (s.core d).tcap [] (rest_apart f (s.core d).thread ((s.core d).tcap ∷ []) e)) (h.cores d m).1,
+        fit_other s f kind.Tcap (s.core d).tcap (apart f (s.core d).tcap [] (rest_apart f (s.core d).thread ((s.core d).tcap ∷ []) e))
+            (h.cores d m).1,
       );
   numbers = λ l e g n.
       let a : IsTrue (fits kind.Comp (s.frame g)) × (l < 64) = h.numbers l e g n in
       (fit_other s f kind.Comp g (apart f g [] (subst (λ x. times f (number_names x) ≡ 0) n (un.numbers l a.1))) a.0, a.1);
   beyond = λ g past. put_all (λ g x. x ≡ Untyped) s.frame f Untyped g (λ same. refl) (λ other. h.beyond g past);
   bare = λ g i k p.
-      let b : IsTrue (is_node (s.frame g)) × (i < 64) = h.bare g i k p in
-      (subst (λ x. IsTrue (is_node x)) (sym (put_other s.frame f Untyped g (λ same. bare i k (sym (ap (λ n. s.place n i) same) ∙ p)))) b.0, b.1);
+      let b : IsTrue (is_node (s.frame g)) × (i < 64) = h.bare g i k p in (
+        subst (λ x. IsTrue (is_node x)) (sym (put_other s.frame f Untyped g (λ same. bare i k (sym (ap (λ n. s.place n i) same) ∙ p)))) b.0,
+        b.1,
+      );
   inside = λ d q. h.inside d (opened d q);
 }
   where
@@ -234,8 +249,10 @@ untype_step s o c f below un none bare h = record {
 
     still : (d : ℕ) → (s.grace (FrameOf f)).waits d ≡ false → (fs : List ℕ) → WaitsForAll s d fs → WaitsForAll (untyped s f) d fs
     still d none [] w = tt
-    still d none (g ∷ fs) w =
-        (subst (λ b. IsTrue ((if b then no_grace else s.grace (FrameOf g)).waits d)) (sym (ne_eqb g f (away d none g w.0))) w.0, still d none fs w.1)
+    still d none (g ∷ fs) w = (
+      subst (λ b. IsTrue ((if b then no_grace else s.grace (FrameOf g)).waits d)) (sym (ne_eqb g f (away d none g w.0))) w.0,
+      still d none fs w.1,
+    )
 
 -- A range without a number that passes has none that does.
 pub find_not : (p : ℕ → Bool) (a n e : ℕ) → find p (range_with_len a n) ≡ None → a ≤ e → e < a + n → p e ≡ false
@@ -254,9 +271,11 @@ find_not p a (suc n) e h low high = tested (find_not p (a + 1) n e) (p a) refl h
     ]
 
 -- Where no other core is found waiting for a thing, none waits.
-pub none_waiting : (s : State) (c : ℕ) (x : Thing) → waits_of s c x ≡ None → (d : ℕ) → d < s.limits.cores → d ≢ c → (s.grace x).waits d ≡ false
+pub none_waiting : (s : State) (c : ℕ) (x : Thing) → waits_of s c x ≡ None
+    → (d : ℕ) → d < s.limits.cores → d ≢ c → (s.grace x).waits d ≡ false
 none_waiting s c x h d below other = waits_not ((s.grace x).waits d)
-    (ap (λ b. (s.grace x).waits d && not b) (sym (ne_eqb d c other)) ∙ find_not (λ e. (s.grace x).waits e && not (e == c)) 0 s.limits.cores d (not_found (other_waiting s c x) h) (omega arith) (omega (arith, below)))
+    (ap (λ b. (s.grace x).waits d && not b) (sym (ne_eqb d c other)) ∙ find_not (λ e. (s.grace x).waits e && not (e == c))
+    0 s.limits.cores d (not_found (other_waiting s c x) h) (omega arith) (omega (arith, below)))
   where
     not_found : (w : Option ℕ) → quiescing_by w ≡ None → w ≡ None
     not_found None e = refl

@@ -1,5 +1,6 @@
 -- In every state that a run reaches, what is named is sound.
-use Rattle.std.proofs.Common.{◌≡◌, ◌≢◌, inl, inr, ℕ, ◌<◌, Bool, true, false, refl, sym, ◌∙◌, ap, subst, if◌then◌else◌, IsTrue, List, [], ◌∷◌}
+use Rattle.std.proofs.Common.{◌≡◌, ◌≢◌, inl, inr, ℕ, ◌<◌, Bool, true, false, refl, sym}
+use Rattle.std.proofs.Common.{◌∙◌, ap, subst, if◌then◌else◌, IsTrue, List, [], ◌∷◌}
 use Rattle.std.proofs.lemmas.Bool.{cases_eq, false≢true, eq-eqb, ne_eqb}
 use Rattle.spk_nums.specs.Setting.{Setting, IsSetting}
 use Rattle.spk_nums.specs.declared.kinds.Kind.TheVariants as kind
@@ -14,7 +15,8 @@ use Rattle.kernel_rules.specs.Start.{start}
 use Rattle.kernel_rules.specs.GracePeriods.{entered, returned}
 use Rattle.kernel_rules.specs.Rules.{Change, Judged, Refused, Found, IsFoundAnd}
 use Rattle.kernel_rules.specs.CallRelation.{rule_of, change_of, changed, counted, owed_by, state_by, MayReply}
-use Rattle.kernel_rules.specs.Runs.{Event, Enters, Decides, Returns, after, Phase, Out, Open, Decided, is_in, is_open, core_of, phase_by, phase_of, MayFollow, IsRun}
+use Rattle.kernel_rules.specs.Runs.{Event, Enters, Decides, Returns, after, Phase, Out, Open, Decided}
+use Rattle.kernel_rules.specs.Runs.{is_in, is_open, core_of, phase_by, phase_of, MayFollow, IsRun}
 use Rattle.kernel_rules.proofs.Changes.{IfFound}
 use Rattle.kernel_rules.proofs.Within.{put_same, put_other}
 use Rattle.kernel_rules.proofs.AloneLaw.{waits_inside, decided_stays}
@@ -44,20 +46,25 @@ limits_stay setting (Returns c ∷ events) = limits_stay setting events
 limits_stay setting (Decides c call r ∷ events) = (decided_stays (after setting events) c call r).limits ∙ limits_stay setting events
 
 -- A core is in a call where its phase says so.
-pub inside_is : (setting : Setting) (events : List Event) → IsRun setting events → (d : ℕ) → ((after setting events).core d).inside ≡ is_in (phase_of events d)
+pub inside_is : (setting : Setting) (events : List Event) → IsRun setting events
+    → (d : ℕ) → ((after setting events).core d).inside ≡ is_in (phase_of events d)
 inside_is setting [] run d = refl
 inside_is setting (Enters c call ∷ events) run d = elim (cases_eq d c) [
-  | inl same ↦ ap (λ k. k.inside) (put_same (after setting events).core c _ d same) ∙ sym (ap is_in (phase_own (Enters c call) events d same))
-  | inr other ↦ ap (λ k. k.inside) (put_other (after setting events).core c _ d other) ∙ inside_is setting events run.0 d ∙ sym (ap is_in (phase_other (Enters c call) events d other))
+  | inl same ↦ ap (λ k. k.inside) (put_same (after setting events).core c _ d same)
+      ∙ sym (ap is_in (phase_own (Enters c call) events d same))
+  | inr other ↦ ap (λ k. k.inside) (put_other (after setting events).core c _ d other)
+      ∙ inside_is setting events run.0 d ∙ sym (ap is_in (phase_other (Enters c call) events d other))
 ]
 inside_is setting (Returns c ∷ events) run d = elim (cases_eq d c) [
   | inl same ↦ ap (λ k. k.inside) (put_same (after setting events).core c _ d same) ∙ sym (ap is_in (phase_own (Returns c) events d same))
-  | inr other ↦ ap (λ k. k.inside) (put_other (after setting events).core c _ d other) ∙ inside_is setting events run.0 d ∙ sym (ap is_in (phase_other (Returns c) events d other))
+  | inr other ↦ ap (λ k. k.inside) (put_other (after setting events).core c _ d other)
+      ∙ inside_is setting events run.0 d ∙ sym (ap is_in (phase_other (Returns c) events d other))
 ]
 inside_is setting (Decides c call r ∷ events) run d = elim (cases_eq d c) [
   | inl same ↦ (decided_stays (after setting events) c call r).inside d ∙ inside_is setting events run.0 d
       ∙ ap (λ n. is_in (phase_of events n)) same ∙ ap is_in run.1.is_open ∙ sym (ap is_in (phase_own (Decides c call r) events d same))
-  | inr other ↦ (decided_stays (after setting events) c call r).inside d ∙ inside_is setting events run.0 d ∙ sym (ap is_in (phase_other (Decides c call r) events d other))
+  | inr other ↦ (decided_stays (after setting events) c call r).inside d
+      ∙ inside_is setting events run.0 d ∙ sym (ap is_in (phase_other (Decides c call r) events d other))
 ]
 
 -- A core that is out enters.
@@ -83,13 +90,17 @@ enter_sound s o o' c below calm others h = record {
 }
 
 -- A core whose call is not open returns.
-return_sound : (s : State) (o o' : ℕ → Bool) (c : ℕ) → ((d : ℕ) → o' d ≡ true → (d ≢ c) × (o d ≡ true)) → IsSound s o → IsSound (returned s c) o'
+return_sound : (s : State) (o o' : ℕ → Bool) (c : ℕ)
+    → ((d : ℕ) → o' d ≡ true → (d ≢ c) × (o d ≡ true)) → IsSound s o → IsSound (returned s c) o'
 return_sound s o o' c others h = record {
   held = λ f i m p. let a : IsGood s m = h.held f i m p in record { fit = a.fit; within = a.within };
   waiting = λ f i m d p q w.
       let b : (d ≢ c) × (o d ≡ true) = others d q in
-      let a : IsGood s m × WaitsForAll s d (_) = h.waiting f i m d p b.1 (sym (put_other (s.grace (PlaceOf f i)).waits c false d b.0) ∙ w) in
-      (record { fit = a.0.fit; within = a.0.within }, waits_all s (returned s c) d (λ f w. put_other (s.grace (FrameOf f)).waits c false d b.0 ∙ w) _ a.1);
+      let a : IsGood s m × WaitsForAll s d (_) =
+      h.waiting f i m d p b.1 (sym (put_other (s.grace (PlaceOf f i)).waits c false d b.0) ∙ w) in (
+        record { fit = a.0.fit; within = a.0.within },
+        waits_all s (returned s c) d (λ f w. put_other (s.grace (FrameOf f)).waits c false d b.0 ∙ w) _ a.1,
+      );
   objects = h.objects;
   cores = λ d m. put_all (λ d x. IsTrue (fits kind.Thread (s.frame x.thread)) × IsTrue (fits kind.Tcap (s.frame x.tcap))) s.core c _ d
       (λ same. h.cores c (subst (λ n. n < s.limits.cores) same m)) (λ other. h.cores d m);
@@ -114,7 +125,8 @@ shut s o c h = weaken s o (put o c false) (λ d q. elim (cases_eq d c) [
   | inr other ↦ sym (put_other o c false d other) ∙ q
 ]) h
 
-changed_sound : (s : State) (o : ℕ → Bool) (c : ℕ) (v : Value) (found : Judged Change) → IfFound found (Keeps s o c) → IsFoundAnd found (λ k. k.value ≡ v)
+changed_sound : (s : State) (o : ℕ → Bool) (c : ℕ) (v : Value) (found : Judged Change)
+    → IfFound found (Keeps s o c) → IsFoundAnd found (λ k. k.value ≡ v)
     → IsSound (changed s found) (put o c false)
 changed_sound s o c v (Refused r) keeps ok = absurd ok
 changed_sound s o c v (Found change) keeps ok = keeps
@@ -124,8 +136,10 @@ decided_sound : (s : State) (o : ℕ → Bool) (c : ℕ) (call : Call) (r : Repl
 decided_sound s o c call (reply.Ok v) h lim may = counted_sound (changed s (change_of s c call)) (put o c false) c
     (changed_sound s o c v (change_of s c call) (outcome_from (Keeps s o c) s c (rule_of s c call) (rule_keeps s o c h call lim)) may.1)
 decided_sound s o c call reply.CallsSpent h lim may = shut s o c h.sound
-decided_sound s o c call reply.Raced h lim may = counted_sound (owed_by s c call) (put o c false) c (shut (owed_by s c call) o c (owed_sound s o c call h.sound))
-decided_sound s o c call (reply.Busy e) h lim may = counted_sound (owed_by s c call) (put o c false) c (shut (owed_by s c call) o c (owed_sound s o c call h.sound))
+decided_sound s o c call reply.Raced h lim may =
+    counted_sound (owed_by s c call) (put o c false) c (shut (owed_by s c call) o c (owed_sound s o c call h.sound))
+decided_sound s o c call (reply.Busy e) h lim may =
+    counted_sound (owed_by s c call) (put o c false) c (shut (owed_by s c call) o c (owed_sound s o c call h.sound))
 decided_sound s o c call _ h lim may = counted_sound s (put o c false) c (shut s o c h.sound)
 
 nobody : (b : Bool) → (IsTrue b → ⊥) → b ≡ false
@@ -150,10 +164,12 @@ open_within setting (e ∷ events) run c = elim (cases_eq c (core_of e)) [
     by_event (Decides d call r) may = tt
     by_event (Returns d) may = tt
 
-pub open_limits : (setting : Setting) (events : List Event) (c : ℕ) (call : Call) → IsRun setting events → phase_of events c ≡ Open call → InLimits call
+pub open_limits : (setting : Setting) (events : List Event) (c : ℕ) (call : Call)
+    → IsRun setting events → phase_of events c ≡ Open call → InLimits call
 open_limits setting events c call run is = subst OpenWithin is (open_within setting events run c)
 
-pub runs_sound : (setting : Setting) → IsSetting setting → (events : List Event) → IsRun setting events → IsSound (after setting events) (opened events)
+pub runs_sound : (setting : Setting) → IsSetting setting → (events : List Event)
+    → IsRun setting events → IsSound (after setting events) (opened events)
 runs_sound setting lim [] run = start_sound setting lim
 runs_sound setting lim (Enters c call ∷ events) run =
     enter_sound (after setting events) (opened events) (opened (Enters c call ∷ events)) c
@@ -180,7 +196,8 @@ runs_sound setting lim (Decides c call r ∷ events) run =
     (open_limits setting events c call run.0 run.1.is_open) run.1.permitted)
 
 -- The state in which a core's call is open.
-pub open_is : (setting : Setting) → IsSetting setting → (events : List Event) (c : ℕ) → IsRun setting events → IsTrue (is_open (phase_of events c))
+pub open_is : (setting : Setting) → IsSetting setting → (events : List Event) (c : ℕ)
+    → IsRun setting events → IsTrue (is_open (phase_of events c))
     → IsOpen (after setting events) (opened events) c
 open_is setting lim events c run is = record { sound = runs_sound setting lim events run; is = is }
 

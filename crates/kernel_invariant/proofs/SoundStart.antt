@@ -1,5 +1,6 @@
 -- The start state is sound.
-use Rattle.std.proofs.Common.{◌≡◌, ℕ, ◌+◌, ◌-◌, ◌*◌, ◌<◌, ◌≤◌, Bool, true, false, refl, sym, ◌∙◌, ap, subst, arith, ◌==◌, nat_lt, if◌then◌else◌, IsTrue, [], ◌∷◌, Option, Some, None, slice_get}
+use Rattle.std.proofs.Common.{◌≡◌, ℕ, ◌+◌, ◌-◌, ◌*◌, ◌<◌, ◌≤◌, Bool, true, false, refl, sym, ◌∙◌, ap, subst}
+use Rattle.std.proofs.Common.{arith, ◌==◌, nat_lt, if◌then◌else◌, IsTrue, [], ◌∷◌, Option, Some, None, slice_get}
 use Rattle.std.proofs.lemmas.Bool.{false≢true, ne_eqb, eqb-true, ltb-true, ltb-false, lt-ltb}
 use Rattle.spk_nums.specs.Capability.{Capability}
 use Rattle.spk_nums.specs.Setting.{Setting, IsSetting}
@@ -44,7 +45,8 @@ thread_frame setting f past below = subst (λ x. IsTrue (fits kind.Thread x)) (s
     (choose (λ x. IsTrue (fits kind.Thread x)) (nat_lt f (4 + setting.cores)) _ _
     (λ e. refl) (λ e. absurd (false≢true (sym e ∙ lt-ltb f (4 + setting.cores) below))))
 
-tcap_frame : (setting : Setting) (f : ℕ) → 4 + setting.cores ≤ f → f < 4 + 2 * setting.cores → IsTrue (fits kind.Tcap (start_frame setting f))
+tcap_frame : (setting : Setting) (f : ℕ) → 4 + setting.cores ≤ f
+    → f < 4 + 2 * setting.cores → IsTrue (fits kind.Tcap (start_frame setting f))
 tcap_frame setting f past below = subst (λ x. IsTrue (fits kind.Tcap x)) (sym (past_three setting f (omega (arith, past))))
     (choose (λ x. IsTrue (fits kind.Tcap x)) (nat_lt f (4 + setting.cores)) _ _
     (λ e. absurd (false≢true (sym (not_below f (4 + setting.cores) past) ∙ e)))
@@ -76,8 +78,10 @@ core_good setting lim i =
     (λ e.
     let low : 12 ≤ i = ltb-false i 12 past2 in
     let high : i < 12 + setting.cores = ltb-true i (12 + setting.cores) e in
-    let n = lim.most_cores in
-    (record { fit = tcap_frame setting (4 + setting.cores + (i - 12)) (omega arith) (omega (arith, low, high)); within = tt }, omega (arith, high, n)))
+    let n = lim.most_cores in (
+      record { fit = tcap_frame setting (4 + setting.cores + (i - 12)) (omega arith) (omega (arith, low, high)); within = tt },
+      omega (arith, high, n),
+    ))
     λ e2. tt
 
 range_within : (n frames : ℕ) → 4 + 2 * n ≤ frames → (4 + 2 * n) + (frames - 4 - 2 * n) ≤ frames
@@ -86,7 +90,8 @@ range_within n frames h = omega (arith, h)
 cap_good : (setting : Setting) → IsSetting setting → (i : ℕ) → CapGood setting i (start_cap setting i)
 cap_good setting lim i =
     choose (CapGood setting i) (i == 0) _ _
-    (λ e. let p = eqb-true i 0 e in (record { fit = refl; within = range_within setting.cores setting.frames lim.least_frames }, omega (arith, p)))
+    (λ e. let p = eqb-true i 0 e in
+    (record { fit = refl; within = range_within setting.cores setting.frames lim.least_frames }, omega (arith, p)))
     λ e. choose (CapGood setting i) (i == 1) _ _
     (λ e. let p = eqb-true i 1 e in (record { fit = refl; within = tt }, omega (arith, p)))
     λ e. choose (CapGood setting i) (i == 2) _ _
@@ -121,7 +126,8 @@ place_good setting lim f i =
 not_quiescing : (setting : Setting) (f i : ℕ) (k : Capability) → start_place setting f i ≡ Quiescing k → ⊥
 not_quiescing setting f i k =
     choose (λ p. p ≡ Quiescing k → ⊥) (f == 0) _ _
-    (λ e. choose (λ p. p ≡ Quiescing k → ⊥) (i == 0) _ _ (λ q is. holds_quiescing (plain_cap kind.Link 1) k is) (λ q is. free_quiescing k is))
+    (λ e. choose (λ p. p ≡ Quiescing k → ⊥) (i == 0) _ _
+    (λ q is. holds_quiescing (plain_cap kind.Link 1) k is) (λ q is. free_quiescing k is))
     λ e. choose (λ p. p ≡ Quiescing k → ⊥) (f == 1) _ _
     (λ q. cap_not (start_cap setting i)) (λ q is. free_quiescing k is)
   where
@@ -141,7 +147,10 @@ object_good setting f =
 number_good : (setting : Setting) (l e f : ℕ) → start_number l ≡ Live e f → IsTrue (fits kind.Comp (start_frame setting f)) × (l < 64)
 number_good setting l e f =
     choose (λ x. x ≡ Live e f → IsTrue (fits kind.Comp (start_frame setting f)) × (l < 64)) (l == 0) _ _
-    (λ q is. (subst (λ n. IsTrue (fits kind.Comp (start_frame setting n))) (live_inj is) refl, (let p = eqb-true l 0 q in omega (arith, p))))
+    (λ q is. (
+      subst (λ n. IsTrue (fits kind.Comp (start_frame setting n))) (live_inj is) refl,
+      (let p = eqb-true l 0 q in omega (arith, p)),
+    ))
     (λ q is. absurd (unused_live is))
   where
     live_inj : Live 1 3 ≡ Live e f → 3 ≡ f
@@ -155,9 +164,13 @@ start_sound setting lim = record {
   held = λ f i k e. (place_good setting lim f i k e).0;
   waiting = λ f i k c e. absurd (not_quiescing setting f i k e);
   objects = object_good setting;
-  cores = λ c m. (thread_frame setting (4 + c) (omega arith) (omega (arith, m)), tcap_frame setting (4 + setting.cores + c) (omega arith) (omega (arith, m)));
+  cores = λ c m. (
+    thread_frame setting (4 + c) (omega arith) (omega (arith, m)),
+    tcap_frame setting (4 + setting.cores + c) (omega arith) (omega (arith, m)),
+  );
   numbers = number_good setting;
   beyond = λ f past. let p = lim.least_frames in untyped_frame setting f (omega (arith, p, past));
-  bare = λ f i k e. let p : IsGood (start setting) k × IsTrue (is_node (start_frame setting f)) × (i < 64) = place_good setting lim f i k e in (p.1, p.2);
+  bare = λ f i k e. let p : IsGood (start setting) k × IsTrue (is_node (start_frame setting f)) × (i < 64) =
+      place_good setting lim f i k e in (p.1, p.2);
   inside = λ c q. absurd (false≢true q);
 }

@@ -3,7 +3,8 @@ use Rattle.std.proofs.Common.{◌≡◌, ◌≢◌, ℕ, ◌<◌, Bool, true, sy
 use Rattle.std.proofs.lemmas.Bool.{ne_eqb}
 use Rattle.spk_nums.specs.Capability.{Capability}
 use Rattle.spk_nums.specs.declared.kinds.Kind.TheVariants as kind
-use Rattle.kernel_rules.specs.State.{Place, Free, Holds, Quiescing, Live, Dead, Core, Grace, Thing, PlaceOf, FrameOf, State, put, with_place, with_number, with_core, with_grace}
+use Rattle.kernel_rules.specs.State.{Place, Free, Holds, Quiescing, Live, Dead, Core, Grace, Thing, PlaceOf}
+use Rattle.kernel_rules.specs.State.{FrameOf, State, put, with_place, with_number, with_core, with_grace}
 use Rattle.kernel_rules.specs.Start.{no_grace}
 use Rattle.kernel_rules.specs.References.{named_by}
 use Rattle.kernel_rules.specs.CapabilityCalls.{cleared}
@@ -67,11 +68,15 @@ fill_step s o g j k good node small h = record {
         (λ same at e. subst (λ n. IsGood s n) (holds_inj k m e) good) (h.held f i m)
 
     waiting : (f i : ℕ) (m : Capability) (c : ℕ) → put s.place g (put (s.place g) j (Holds k)) f i ≡ Quiescing m → o c ≡ true
-        → IsTrue ((s.grace (PlaceOf f i)).waits c) → IsGood (with_place s g j (Holds k)) m × WaitsForAll (with_place s g j (Holds k)) c (named_by m.kind m.frame)
-    waiting f i m c = place_all (λ f i x. x ≡ Quiescing m → o c ≡ true → IsTrue ((s.grace (PlaceOf f i)).waits c) → IsGood (with_place s g j (Holds k)) m × WaitsForAll (with_place s g j (Holds k)) c (named_by m.kind m.frame)) s g j (Holds k) f i
+        → IsTrue ((s.grace (PlaceOf f i)).waits c)
+        → IsGood (with_place s g j (Holds k)) m × WaitsForAll (with_place s g j (Holds k)) c (named_by m.kind m.frame)
+    waiting f i m c = place_all (λ f i x. x ≡ Quiescing m → o c ≡ true → IsTrue ((s.grace (PlaceOf f i)).waits c)
+        → IsGood (with_place s g j (Holds k)) m × WaitsForAll (with_place s g j (Holds k)) c (named_by m.kind m.frame)) s g j (Holds k) f i
         (λ same at e q w. absurd (holds_quiescing k m e))
-        (λ e q w. let a : IsGood s m × WaitsForAll s c (named_by m.kind m.frame) = h.waiting f i m c e q w in
-        (record { fit = a.0.fit; within = a.0.within }, waits_all s (with_place s g j (Holds k)) c (λ f w. w) (named_by m.kind m.frame) a.1))
+        (λ e q w. let a : IsGood s m × WaitsForAll s c (named_by m.kind m.frame) = h.waiting f i m c e q w in (
+          record { fit = a.0.fit; within = a.0.within },
+          waits_all s (with_place s g j (Holds k)) c (λ f w. w) (named_by m.kind m.frame) a.1,
+        ))
 
 -- Another core that has the same kind of thread and temporal capability, and is in a call where it was.
 pub core_step : (s : State) (o : ℕ → Bool) (c : ℕ) (k : Core) → k.inside ≡ (s.core c).inside
@@ -138,7 +143,8 @@ pub clear_step : (s : State) (o : ℕ → Bool) (f : ℕ) → IsSound s o → Is
 clear_step s o f h = record {
   held = λ g i m. put_all (λ g r. r i ≡ Holds m → IsGood (cleared s f) m) s.place f (λ i. Free) g (λ same e. absurd (free_holds m e))
       (λ other e. let a : IsGood s m = h.held g i m e in record { fit = a.fit; within = a.within });
-  waiting = λ g i m c. put_all (λ g r. r i ≡ Quiescing m → o c ≡ true → IsTrue (((cleared s f).grace (PlaceOf g i)).waits c) → IsGood (cleared s f) m × WaitsForAll (cleared s f) c (named_by m.kind m.frame)) s.place f (λ i. Free) g
+  waiting = λ g i m c. put_all (λ g r. r i ≡ Quiescing m → o c ≡ true → IsTrue (((cleared s f).grace (PlaceOf g i)).waits c)
+      → IsGood (cleared s f) m × WaitsForAll (cleared s f) c (named_by m.kind m.frame)) s.place f (λ i. Free) g
       (λ same e. absurd (free_quiescing m e))
       (λ other e q w. let a : IsGood s m × WaitsForAll s c (named_by m.kind m.frame) = h.waiting g i m c e q (kept g i c other w) in
       (record { fit = a.0.fit; within = a.0.within }, waits_all s (cleared s f) c (λ f w. w) (named_by m.kind m.frame) a.1));
@@ -146,11 +152,13 @@ clear_step s o f h = record {
   cores = h.cores;
   numbers = h.numbers;
   beyond = h.beyond;
-  bare = λ g i m. put_all (λ g r. r i ≡ Holds m → IsTrue (is_node (s.frame g)) × (i < 64)) s.place f (λ i. Free) g (λ same e. absurd (free_holds m e)) (λ other. h.bare g i m);
+  bare = λ g i m. put_all (λ g r. r i ≡ Holds m
+      → IsTrue (is_node (s.frame g)) × (i < 64)) s.place f (λ i. Free) g (λ same e. absurd (free_holds m e)) (λ other. h.bare g i m);
   inside = h.inside;
 }
   where
-    kept : (g i c : ℕ) → g ≢ f → IsTrue ((if g == f then no_grace else s.grace (PlaceOf g i)).waits c) → IsTrue ((s.grace (PlaceOf g i)).waits c)
+    kept : (g i c : ℕ) → g ≢ f → IsTrue ((if g == f then no_grace else s.grace (PlaceOf g i)).waits c)
+        → IsTrue ((s.grace (PlaceOf g i)).waits c)
     kept g i c other w = subst (λ b. IsTrue ((if b then no_grace else s.grace (PlaceOf g i)).waits c)) (ne_eqb g f other) w
 
 -- Other grace periods in which nobody waits for more places, and everybody waits for as many frames.

@@ -4,7 +4,8 @@
 //!
 //! **References.** A call changes the references to a frame by those that it takes less those that it releases.
 //!
-//! What a core in a call has found stays usable by it: see `found_stays`. The definitions are those of `kernel_rules`; the lemmas stand in this crate's proofs.
+//! What a core in a call has found stays usable by it: see `found_stays`. The definitions are those of `kernel_rules`; the lemmas stand in
+//! this crate's proofs.
 //!
 //! See docs/MODEL.md, 'The sequential kernel'.
 #![tactic(auto)]

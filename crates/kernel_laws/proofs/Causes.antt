@@ -1,5 +1,7 @@
 -- Each reply that the relation permits has its cause.
-use Rattle.std.proofs.Common.{◌≡◌, ◌≢◌, ◌⊎◌, inl, inr, ℕ, zero, suc, ◌+◌, ◌<◌, ◌≤◌, Bool, true, false, not, ◌&&◌, ◌||◌, refl, sym, ◌∙◌, ap, subst, arith, ◌==◌, nat_lt, nat_le, if◌then◌else◌, IsTrue, IsFalse, IsSomeAnd, is_some, List, [], ◌∷◌, length, Option, Some, None}
+use Rattle.std.proofs.Common.{◌≡◌, ◌≢◌, ◌⊎◌, inl, inr, ℕ, zero, suc, ◌+◌, ◌<◌, ◌≤◌, Bool, true, false, not}
+use Rattle.std.proofs.Common.{◌&&◌, ◌||◌, refl, sym, ◌∙◌, ap, subst, arith, ◌==◌, nat_lt, nat_le, if◌then◌else◌}
+use Rattle.std.proofs.Common.{IsTrue, IsFalse, IsSomeAnd, is_some, List, [], ◌∷◌, length, Option, Some, None}
 use Rattle.std.proofs.lemmas.Bool.{false≢true, true≢false, eqb-true, eqb-false, ltb-true, ltb-false, leb-true, leb-false}
 use Rattle.std.specs.List.{list_any, range_with_len}
 use Rattle.spk_nums.specs.Capability.{Capability}
@@ -11,21 +13,28 @@ use Rattle.spk_nums.specs.declared.kinds.PageFlags.{PageFlags}
 use Rattle.spk_nums.specs.declared.calls.Make.{Make}
 use Rattle.spk_nums.specs.declared.calls.Make.TheVariants as make
 use Rattle.spk_nums.specs.declared.calls.Call.{Call}
-use Rattle.spk_nums.specs.declared.calls.Call.TheVariants.{Look, Copy, Remove, Grow, Shrink, Retype, Make as make_call, Map, Unmap, Touch, Flush, Gate, Kill, Call as call_gate, Ret, Switch, Tick, Transfer, Delegate, Test}
+use Rattle.spk_nums.specs.declared.calls.Call.TheVariants.{Look, Copy, Remove, Grow, Shrink, Retype, Make as make_call}
+use Rattle.spk_nums.specs.declared.calls.Call.TheVariants.{Map, Unmap, Touch, Flush, Gate, Kill, Call as call_gate}
+use Rattle.spk_nums.specs.declared.calls.Call.TheVariants.{Ret, Switch, Tick, Transfer, Delegate, Test}
 use Rattle.spk_nums.specs.declared.translations.Translation.{Translation}
 use Rattle.spk_nums.specs.declared.replies.Reply.{Reply}
 use Rattle.spk_nums.specs.declared.replies.Reply.TheVariants as reply
-use Rattle.kernel_rules.specs.State.{Object, Blank, Table, Leaf, Pages, Pleaf, Comp, Thread, Tcap, Frame, Untyped, User, Kernel, Liveness, Live, Thing, FrameOf, NumberOf, State, comp_in, comp_of, thread_in, tcap_in, thread_of}
+use Rattle.kernel_rules.specs.State.{Object, Blank, Table, Leaf, Pages, Pleaf, Comp, Thread, Tcap, Frame, Untyped, User, Kernel}
+use Rattle.kernel_rules.specs.State.{Liveness, Live, Thing, FrameOf, NumberOf, State, comp_in, comp_of, thread_in, tcap_in, thread_of}
 use Rattle.kernel_rules.specs.References.{refs}
-use Rattle.kernel_rules.specs.Access.{Slot, Named, found, Target, Under, InRoot, held_in, usable, reached, has_no_slot, any, only, root, own}
+use Rattle.kernel_rules.specs.Access.{Slot, Named, found, Target, Under, InRoot, held_in}
+use Rattle.kernel_rules.specs.Access.{usable, reached, has_no_slot, any, only, root, own}
 use Rattle.kernel_rules.specs.GracePeriods.{MayWait, MayBeUnflushed}
-use Rattle.kernel_rules.specs.Rules.{Judged, Refused, Found, and_then, or_refuse, of_kind, named, mapped, NameMay, VacantMay, HeldMay, MappedMay, WaitedMay, UnflushedMay, CauseMay, OneMay, RuleMay, IsFoundAnd, name_of}
-use Rattle.kernel_rules.specs.CapabilityCalls.{leaf_for, outside, has_frame, is_frame, is_blank, not_blank, make_node, make_rule, not_taken, epoch_of}
+use Rattle.kernel_rules.specs.Rules.{Judged, Refused, Found, and_then, or_refuse, of_kind, named, mapped, NameMay, VacantMay}
+use Rattle.kernel_rules.specs.Rules.{HeldMay, MappedMay, WaitedMay, UnflushedMay, CauseMay, OneMay, RuleMay, IsFoundAnd, name_of}
+use Rattle.kernel_rules.specs.CapabilityCalls.{leaf_for, outside, has_frame, is_frame, is_blank}
+use Rattle.kernel_rules.specs.CapabilityCalls.{not_blank, make_node, make_rule, not_taken, epoch_of}
 use Rattle.kernel_rules.specs.MemoryCalls.{is_untyped, is_user, holds_nothing, is_empty, not_retyped, retype_rule, touch_by, translation_of}
 use Rattle.kernel_rules.specs.InvocationCalls.{is_live_in, switch_to}
 use Rattle.kernel_rules.specs.TimeCalls.{are_alike, are_same, is_short}
 use Rattle.kernel_rules.specs.CallRelation.{rule_of}
-use Rattle.kernel_laws.specs.Causes.{OneIs, used_at, as_wanted, leads_as, Name, name, names_of, fills_at, empties_at, LiesOutside, HeldIn, IsDeadIn, BothAre, tcap_named, tcap_of, HasLess, HasCause}
+use Rattle.kernel_laws.specs.Causes.{OneIs, used_at, as_wanted, leads_as, Name, name, names_of, fills_at, empties_at}
+use Rattle.kernel_laws.specs.Causes.{LiesOutside, HeldIn, IsDeadIn, BothAre, tcap_named, tcap_of, HasLess, HasCause}
 use Rattle.kernel_laws.specs.Laws.{CausesStand}
 
 -- What a rule finds under a name is what the name leads to.
@@ -167,7 +176,11 @@ module _ (s : State) (c : ℕ) where
   lies : (range : Named) (f : ℕ) → IsTrue (range.found && not (has_frame range f)) → LiesOutside range f
   lies range f h =
       let p = both range.found (not (has_frame range f)) h in
-      record { found = p.0; outside = by_test (nat_le range.frame f) (nat_lt f (range.frame + range.arg)) refl refl (not_is (has_frame range f) p.1) }
+      record {
+        found = p.0;
+        outside =
+            by_test (nat_le range.frame f) (nat_lt f (range.frame + range.arg)) refl refl (not_is (has_frame range f) p.1);
+      }
     where
       by_test : (a b : Bool) → nat_le range.frame f ≡ a → nat_lt f (range.frame + range.arg) ≡ b → (a && b) ≡ false
           → (f < range.frame) ⊎ (range.frame + range.arg ≤ f)
@@ -179,7 +192,8 @@ module _ (s : State) (c : ℕ) where
       → CauseMay s c (outside (name_of (named s c r (only kind.Range))) f) q → HasCause s c call q
   named_lies call r f q is h =
       when_cause s c call _ reply.OutOfRange q
-      (λ (t : IsTrue _). is (subst (λ (x : Named). LiesOutside x f) (leads_is s c (only kind.Range) r) (lies (name_of (named s c r (only kind.Range))) f t))) h
+      (λ (t : IsTrue _). is (subst (λ (x : Named). LiesOutside x f)
+      (leads_is s c (only kind.Range) r) (lies (name_of (named s c r (only kind.Range))) f t))) h
 
   -- The kind of a frame of the machine.
   is_machine : (f : ℕ) (b : Bool) → IsTrue (is_frame s f && b) → (f < s.limits.frames) × IsTrue b
@@ -198,7 +212,8 @@ module _ (s : State) (c : ℕ) where
 
   -- `make`.
   made_own : (what : Make) (r f t b : ℕ) (q : Reply)
-      → CauseMay s c (outside (name_of (named s c r (only kind.Range))) f) q ⊎ CauseMay s c (not_blank s f) q → HasCause s c (make_call what r f t b) q
+      → CauseMay s c (outside (name_of (named s c r (only kind.Range))) f) q ⊎ CauseMay s c (not_blank s f) q
+      → HasCause s c (make_call what r f t b) q
   made_own what r f t b q (inl h) = named_lies (make_call what r f t b) r f q (λ l. l) h
   made_own what r f t b q (inr h) =
       when_cause s c (make_call what r f t b) _ reply.FrameKind q (λ t. differs f (Kernel Blank) is_blank refl t) h
@@ -206,7 +221,8 @@ module _ (s : State) (c : ℕ) where
   made_fill : (what : Make) (r f t b : ℕ) (q : Reply) → VacantMay s c (Under (name_of (named s c t (only kind.Table))) b) q
       → HasCause s c (make_call what r f t b) q
   made_fill what r f t b q v =
-      fill_cause s c (make_call what r f t b) q _ refl (subst (λ (x : Named). VacantMay s c (Under x b) q) (leads_is s c (only kind.Table) t) v)
+      fill_cause s c (make_call what r f t b) q _ refl
+      (subst (λ (x : Named). VacantMay s c (Under x b) q) (leads_is s c (only kind.Table) t) v)
 
   node_cause : (what : Make) (object : Object) (k : Kind) (r f t b : ℕ) (q : Reply) → RuleMay s c (make_node s object k r f t b) q
       → HasCause s c (make_call what r f t b) q
@@ -290,7 +306,8 @@ module _ (s : State) (c : ℕ) where
   held_at : (f : ℕ) → IsTrue (not (holds_nothing s f)) → HeldIn s f
   unfolding holds_nothing
   held_at f h =
-      let m = any_in (λ i. is_some (held_in (s.place f i))) 0 64 (not_not (list_any (λ i. is_some (held_in (s.place f i))) (range_with_len 0 64)) h) in
+      let m = any_in (λ i. is_some (held_in (s.place f i))) 0 64
+      (not_not (list_any (λ i. is_some (held_in (s.place f i))) (range_with_len 0 64)) h) in
       record { index = m.0; below = (let l = m.1 in omega (arith, l)); held = m.2 }
 
   not_empty : (f : ℕ) (x : Frame) → s.frame f ≡ x → IsTrue (not (is_empty s f x))
@@ -394,7 +411,8 @@ module _ (s : State) (c : ℕ) where
   switch_cause h q r (inl n) = name_cause s c (Switch h q) r (inl n)
   switch_cause h q r (inr (inl n)) = name_cause s c (Switch h q) r (inr (inl n))
   switch_cause h q r (inr (inr may)) =
-      switch_own h q (name_of (named s c h (only kind.Thread))) (name_of (named s c q (only kind.Tcap))).frame r (leads_is s c (only kind.Thread) h)
+      switch_own h q (name_of (named s c h (only kind.Thread)))
+      (name_of (named s c q (only kind.Tcap))).frame r (leads_is s c (only kind.Thread) h)
       (thread_in (s.frame (name_of (named s c h (only kind.Thread))).frame)).runs_on refl may
 
   -- Two temporal capabilities.
@@ -415,7 +433,8 @@ module _ (s : State) (c : ℕ) where
       → (BothAre (tcap_named s c a) (tcap_named s c b) (λ f g. f ≡ g) → HasCause s c call reply.Same)
       → CauseMay s c (are_same (name_of (named s c a (only kind.Tcap))) (name_of (named s c b (only kind.Tcap)))) r → HasCause s c call r
   same_cause call a b r f h = when_cause s c call _ reply.Same r
-      (λ t. f (both_are a b (λ f g. f ≡ g) (two_found (name_of (named s c a (only kind.Tcap))) (name_of (named s c b (only kind.Tcap))) _ (λ f g. f ≡ g) (eqb-true _ _) t))) h
+      (λ t. f (both_are a b (λ f g. f ≡ g) (two_found (name_of (named s c a (only kind.Tcap)))
+      (name_of (named s c b (only kind.Tcap))) _ (λ f g. f ≡ g) (eqb-true _ _) t))) h
 
   short_cause : (call : Call) (a m : ℕ) (r : Reply) → ((n : ℕ) → HasLess s (tcap_named s c a) m n → HasCause s c call (reply.Short n))
       → CauseMay s c (is_short s (name_of (named s c a (only kind.Tcap))) m) r → HasCause s c call r

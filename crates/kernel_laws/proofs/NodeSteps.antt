@@ -1,11 +1,13 @@
 -- Each part of a change keeps what nodes hold fitting them.
-use Rattle.std.proofs.Common.{◌≡◌, ◌≢◌, ℕ, ◌<◌, ◌≤◌, Bool, true, false, ◌&&◌, refl, sym, ◌∙◌, ap, subst, arith, ◌==◌, if◌then◌else◌, IsTrue, List, [], ◌∷◌}
+use Rattle.std.proofs.Common.{◌≡◌, ◌≢◌, ℕ, ◌<◌, ◌≤◌, Bool, true, false, ◌&&◌, refl, sym, ◌∙◌}
+use Rattle.std.proofs.Common.{ap, subst, arith, ◌==◌, if◌then◌else◌, IsTrue, List, [], ◌∷◌}
 use Rattle.std.proofs.lemmas.Bool.{false≢true, eqb-true, ne_eqb, or_from}
 use Rattle.std.specs.List.{list_any}
 use Rattle.spk_nums.specs.Capability.{Capability}
 use Rattle.spk_nums.specs.declared.kinds.Kind.{Kind}
 use Rattle.spk_nums.specs.declared.kinds.Kind.TheVariants as kind
-use Rattle.kernel_rules.specs.State.{Free, Holds, Quiescing, Blank, Table, Leaf, Pages, Pleaf, Frame, Untyped, User, Kernel, Comp, Thread, Tcap, Thing, PlaceOf, FrameOf, State, put, with_place, with_frame}
+use Rattle.kernel_rules.specs.State.{Free, Holds, Quiescing, Blank, Table, Leaf, Pages, Pleaf, Frame, Untyped, User, Kernel}
+use Rattle.kernel_rules.specs.State.{Comp, Thread, Tcap, Thing, PlaceOf, FrameOf, State, put, with_place, with_frame}
 use Rattle.kernel_rules.specs.Start.{no_grace}
 use Rattle.kernel_rules.specs.References.{named_by, place_names, times}
 use Rattle.kernel_rules.specs.GracePeriods.{same_thing, new_grace, begun}
@@ -15,7 +17,8 @@ use Rattle.kernel_rules.specs.Relies.{is_node}
 use Rattle.kernel_rules.proofs.Within.{put_same, put_other}
 use Rattle.kernel_invariant.proofs.Sums.{times_first}
 use Rattle.kernel_invariant.proofs.Sound.{WaitsForAll, IsSound, only_is, put_all}
-use Rattle.kernel_invariant.proofs.SoundSteps.{place_all, free_holds, free_quiescing, holds_quiescing, quiescing_holds, holds_inj, quiescing_inj}
+use Rattle.kernel_invariant.proofs.SoundSteps.{place_all, free_holds, free_quiescing, holds_quiescing}
+use Rattle.kernel_invariant.proofs.SoundSteps.{quiescing_holds, holds_inj, quiescing_inj}
 use Rattle.kernel_invariant.proofs.SoundRemovals.{frames_no_place, not_chosen, IsUnnamed, NoneWaits, below_by, untyped}
 use Rattle.kernel_laws.specs.Nodes.{takes, leads_to, FitsNode}
 
@@ -89,7 +92,8 @@ alike_fits x y k m n a b h =
 pub alike_step : (s t : State) (o : ℕ → Bool) → ((f i : ℕ) → t.place f i ≡ s.place f i) → ((f : ℕ) → IsAlike (s.frame f) (t.frame f))
     → ((f i c : ℕ) → IsTrue ((t.grace (PlaceOf f i)).waits c) → IsTrue ((s.grace (PlaceOf f i)).waits c)) → IsFitted s o → IsFitted t o
 alike_step s t o place frame waits h = record {
-  held = λ f i k p. alike_fits (s.frame f) (t.frame f) k.kind (s.frame k.frame) (t.frame k.frame) (frame f) (frame k.frame) (h.held f i k (sym (place f i) ∙ p));
+  held = λ f i k p. alike_fits (s.frame f) (t.frame f) k.kind (s.frame k.frame)
+      (t.frame k.frame) (frame f) (frame k.frame) (h.held f i k (sym (place f i) ∙ p));
   waiting = λ f i k c p q n w. alike_fits (s.frame f) (t.frame f) k.kind (s.frame k.frame) (t.frame k.frame) (frame f) (frame k.frame)
       (h.waiting f i k c (sym (place f i) ∙ p) q (subst (λ x. IsTrue (is_node x)) ((frame f).old n) n) (waits f i c w));
 }
@@ -103,7 +107,8 @@ fill_fits s o g j k fits h = record {
       (subst (λ n. FitsNode (s.frame n) k.kind (s.frame k.frame)) (sym same) fits))
       (h.held f i m);
   waiting =
-      λ f i m c. place_all (λ f i x. x ≡ Quiescing m → o c ≡ true → IsTrue (is_node (s.frame f)) → IsTrue ((s.grace (PlaceOf f i)).waits c) → FitsNode (s.frame f) m.kind (s.frame m.frame)) s g j (Holds k) f i
+      λ f i m c. place_all (λ f i x. x ≡ Quiescing m → o c ≡ true → IsTrue (is_node (s.frame f))
+      → IsTrue ((s.grace (PlaceOf f i)).waits c) → FitsNode (s.frame f) m.kind (s.frame m.frame)) s g j (Holds k) f i
       (λ same at e q n w. absurd (holds_quiescing k m e)) (h.waiting f i m c);
 }
 
@@ -114,7 +119,8 @@ remove_fits s o g j k at h = record {
   held = λ f i m. place_all (λ f i x. x ≡ Holds m → FitsNode (s.frame f) m.kind (s.frame m.frame)) s g j (Quiescing k) f i
       (λ same is e. absurd (quiescing_holds k m e)) (h.held f i m);
   waiting =
-      λ f i m c. place_all (λ f i x. x ≡ Quiescing m → o c ≡ true → IsTrue (is_node (s.frame f)) → IsTrue ((new.grace (PlaceOf f i)).waits c) → FitsNode (s.frame f) m.kind (s.frame m.frame)) s g j (Quiescing k) f i
+      λ f i m c. place_all (λ f i x. x ≡ Quiescing m → o c ≡ true → IsTrue (is_node (s.frame f))
+      → IsTrue ((new.grace (PlaceOf f i)).waits c) → FitsNode (s.frame f) m.kind (s.frame m.frame)) s g j (Quiescing k) f i
       (λ same is e q n w. subst (λ (n : Capability). FitsNode (s.frame f) n.kind (s.frame n.frame)) (quiescing_inj k m e)
       (subst (λ n. FitsNode (s.frame n) k.kind (s.frame k.frame)) (sym same) (h.held g j k at)))
       (λ e q n w. h.waiting f i m c e q n (elsewhere f i c m e w));
@@ -167,13 +173,15 @@ object_fits s o f y none h = record {
     fits : (g : ℕ) (k : Capability) → FitsNode (s.frame g) k.kind (s.frame k.frame)
         → FitsNode (put s.frame f y g) k.kind (put s.frame f y k.frame)
     fits g k a =
-        let other : g ≢ f = λ same. false≢true (sym none ∙ ap (λ n. is_node (s.frame n)) (sym same) ∙ takes_node (s.frame g) k.kind a.kind) in
+        let other : g ≢ f = λ same.
+        false≢true (sym none ∙ ap (λ n. is_node (s.frame n)) (sym same) ∙ takes_node (s.frame g) k.kind a.kind) in
         let e : put s.frame f y g ≡ s.frame g = put_other s.frame f y g other in
         record {
           kind = subst (λ x. IsTrue (takes x k.kind)) (sym e) a.kind;
           leaf = subst (λ x. IsTrue (leads_to x (put s.frame f y k.frame))) (sym e)
               (put_all (λ n x. IsTrue (leads_to (s.frame g) x)) s.frame f y k.frame
-              (λ same. leads_any (s.frame g) (s.frame f) y none (subst (λ n. IsTrue (leads_to (s.frame g) (s.frame n))) same a.leaf)) (λ at. a.leaf));
+              (λ same. leads_any (s.frame g) (s.frame f) y none (subst (λ n. IsTrue (leads_to (s.frame g) (s.frame n))) same a.leaf))
+              (λ at. a.leaf));
         }
 
 -- A frame that leads to some frames alone is a root, and takes links.
@@ -197,7 +205,8 @@ untype_fits s o c f un none bare sound h = record {
   held = λ g i k p.
       let b : IsTrue (is_node (s.frame g)) × (i < 64) = sound.bare g i k p in
       fits g k (λ same. bare i k (sym (ap (λ n. s.place n i) same) ∙ p))
-      (λ link same. not_named k link same (subst (λ x. times f (place_names x) ≡ 0) p (un.places g i (below_by s o g sound is_node refl b.0) b.1)))
+      (λ link same. not_named k link same
+      (subst (λ x. times f (place_names x) ≡ 0) p (un.places g i (below_by s o g sound is_node refl b.0) b.1)))
       (h.held g i k p);
   waiting = λ g i k d p q n w.
       let away : g ≢ f = λ same. false≢true (ap is_node (sym (put_same s.frame f Untyped g same)) ∙ n) in

@@ -1,5 +1,6 @@
 -- In every state that a run reaches, nodes hold what fits them.
-use Rattle.std.proofs.Common.{◌≡◌, ◌≢◌, inl, inr, ℕ, ◌+◌, ◌-◌, ◌<◌, ◌%◌, Bool, true, false, not, ◌&&◌, refl, sym, ◌∙◌, ap, subst, ◌==◌, nat_lt, nat_le, if◌then◌else◌, IsTrue, List, [], ◌∷◌, take, Option, Some, None}
+use Rattle.std.proofs.Common.{◌≡◌, ◌≢◌, inl, inr, ℕ, ◌+◌, ◌-◌, ◌<◌, ◌%◌, Bool, true, false, not, ◌&&◌, refl, sym, ◌∙◌, ap}
+use Rattle.std.proofs.Common.{subst, ◌==◌, nat_lt, nat_le, if◌then◌else◌, IsTrue, List, [], ◌∷◌, take, Option, Some, None}
 use Rattle.std.proofs.lemmas.Bool.{cases_eq, false≢true, eq-eqb, ne_eqb, eqb-true}
 use Rattle.std.specs.List.{list_any}
 use Rattle.spk_nums.specs.Setting.{Setting, IsSetting}
@@ -11,17 +12,23 @@ use Rattle.spk_nums.specs.declared.kinds.FrameKind.TheVariants as frame_kind
 use Rattle.spk_nums.specs.declared.calls.Make.{Make}
 use Rattle.spk_nums.specs.declared.calls.Make.TheVariants as make
 use Rattle.spk_nums.specs.declared.calls.Call.{Call}
-use Rattle.spk_nums.specs.declared.calls.Call.TheVariants.{Look, Copy, Remove, Grow, Shrink, Retype, Make as make_call, Map, Unmap, Touch, Flush, Gate, Kill, Call as call_gate, Ret, Switch, Tick, Transfer, Delegate, Test}
+use Rattle.spk_nums.specs.declared.calls.Call.TheVariants.{Look, Copy, Remove, Grow, Shrink, Retype, Make as make_call}
+use Rattle.spk_nums.specs.declared.calls.Call.TheVariants.{Map, Unmap, Touch, Flush, Gate, Kill, Call as call_gate}
+use Rattle.spk_nums.specs.declared.calls.Call.TheVariants.{Ret, Switch, Tick, Transfer, Delegate, Test}
 use Rattle.spk_nums.specs.declared.translations.Translation.{Translation}
 use Rattle.spk_nums.specs.declared.replies.Value.{Value}
 use Rattle.spk_nums.specs.declared.replies.Reply.{Reply}
 use Rattle.spk_nums.specs.declared.replies.Reply.TheVariants as reply
-use Rattle.kernel_rules.specs.State.{Place, Free, Holds, Quiescing, CompFields, ThreadFields, TcapFields, Object, Blank, Table, Leaf, Pages, Pleaf, Comp, Thread, Tcap, Frame, Untyped, User, Kernel, Thing, PlaceOf, FrameOf, State, put, with_frame, with_core, comp_in, comp_of, thread_in, thread_of}
+use Rattle.kernel_rules.specs.State.{Place, Free, Holds, Quiescing, CompFields, ThreadFields, TcapFields, Object, Blank, Table}
+use Rattle.kernel_rules.specs.State.{Leaf, Pages, Pleaf, Comp, Thread, Tcap, Frame, Untyped, User, Kernel, Thing, PlaceOf}
+use Rattle.kernel_rules.specs.State.{FrameOf, State, put, with_frame, with_core, comp_in, comp_of, thread_in, thread_of}
 use Rattle.kernel_rules.specs.Start.{plain_cap, start, start_frame, start_cap, core_cap, place_with}
 use Rattle.kernel_rules.specs.References.{refs, frame_names, number_names}
-use Rattle.kernel_rules.specs.Access.{Slot, Named, found, root_at, Target, Under, InRoot, place_at, held_in, usable_in, usable, reached, root_slot, only, root}
+use Rattle.kernel_rules.specs.Access.{Slot, Named, found, root_at, Target, Under, InRoot, place_at}
+use Rattle.kernel_rules.specs.Access.{held_in, usable_in, usable, reached, root_slot, only, root}
 use Rattle.kernel_rules.specs.GracePeriods.{same_thing, begun}
-use Rattle.kernel_rules.specs.Rules.{Change, Cause, When, WaitedFor, Unflushed, Judged, Refused, Found, IsFoundAnd, named, held, mapped, and_then, or_refuse, unless, first_cause, refusal_of, waits_of, flushes_of, frames_of, fills, removes}
+use Rattle.kernel_rules.specs.Rules.{Change, Cause, When, WaitedFor, Unflushed, Judged, Refused, Found, IsFoundAnd, named, held, mapped}
+use Rattle.kernel_rules.specs.Rules.{and_then, or_refuse, unless, first_cause, refusal_of, waits_of, flushes_of, frames_of, fills, removes}
 use Rattle.kernel_rules.specs.CapabilityCalls.{leaf_of, outside, cleared, makes, make_node, make_rule, not_taken}
 use Rattle.kernel_rules.specs.MemoryCalls.{is_untyped_now, is_empty, not_retyped, retypes, retype_rule, touch_by, translation_of}
 use Rattle.kernel_rules.specs.InvocationCalls.{kills, with_thread, pops, running, switches, switch_to}
@@ -39,10 +46,12 @@ use Rattle.kernel_invariant.proofs.SoundCalls.{IsOpen, blank_by, untyped_by, zer
 use Rattle.kernel_invariant.proofs.SoundSteps.{free_holds, holds_inj}
 use Rattle.kernel_invariant.proofs.SoundStart.{choose}
 use Rattle.kernel_invariant.proofs.SoundRuns.{opened, open_is, inside_is}
-use Rattle.kernel_invariant.proofs.Facts.{ChangesFrom, outcome_from, named_good, named_fit, vacant_facts, held_facts, none_parts, when_not, not_not, then_parts, or_found, some_inj, none_some, found_inj, refused_found}
+use Rattle.kernel_invariant.proofs.Facts.{ChangesFrom, outcome_from, named_good, named_fit, vacant_facts, held_facts, none_parts}
+use Rattle.kernel_invariant.proofs.Facts.{when_not, not_not, then_parts, or_found, some_inj, none_some, found_inj, refused_found}
 use Rattle.found_stays.proofs.Stays.{link_of, name_parts, fields, table_relies}
 use Rattle.kernel_laws.specs.Nodes.{takes, leads_to, FitsNode, NodesHoldWhatFits}
-use Rattle.kernel_laws.proofs.NodeSteps.{IsFitted, fewer, IsAlike, alike_same, alike_none, alike_then, alike_step, fill_fits, remove_fits, object_fits, untype_fits}
+use Rattle.kernel_laws.proofs.NodeSteps.{IsFitted, fewer, IsAlike, alike_same, alike_none, alike_then}
+use Rattle.kernel_laws.proofs.NodeSteps.{alike_step, fill_fits, remove_fits, object_fits, untype_fits}
 
 -- What is known where a call is carried out
 
@@ -98,14 +107,16 @@ module _ (s : State) (o : ℕ → Bool) (c : ℕ) (h : IsOpen s o c) (w : IsFitt
       → s.frame at.node ≡ Kernel Leaf
   in_leaf t b table at e r =
       let fit = named_fit s o c t kind.Table table h.sound h.is e in
-      table_leaf (s.frame table.frame) fit (s.frame at.node) (leaf_fits (found table) b at ((fit_node kind.Table (s.frame table.frame) fit).0 refl) r)
+      table_leaf (s.frame table.frame) fit (s.frame at.node)
+      (leaf_fits (found table) b at ((fit_node kind.Table (s.frame table.frame) fit).0 refl) r)
 
   in_pleaf : (p v : ℕ) (pages : Capability) (at : Slot) → named s c p (only kind.Pages) ≡ Found pages
       → reached s c (Under (found pages) v) ≡ Some at
       → s.frame at.node ≡ Kernel Pleaf
   in_pleaf p v pages at e r =
       let fit = named_fit s o c p kind.Pages pages h.sound h.is e in
-      pages_leaf (s.frame pages.frame) fit (s.frame at.node) (leaf_fits (found pages) v at ((fit_node kind.Pages (s.frame pages.frame) fit).1 refl) r)
+      pages_leaf (s.frame pages.frame) fit (s.frame at.node)
+      (leaf_fits (found pages) v at ((fit_node kind.Pages (s.frame pages.frame) fit).1 refl) r)
 
   -- What a name leads to is no link and no page.
   name_takes : (n : ℕ) (wanted : Kind → Bool) (k : Capability) → named s c n wanted ≡ Found k → IsTrue (takes (Kernel Leaf) k.kind)
@@ -113,7 +124,8 @@ module _ (s : State) (o : ℕ → Bool) (c : ℕ) (h : IsOpen s o c) (w : IsFitt
       let p = name_parts s c n wanted k e in
       let fit : IsTrue (fits kind.Table (s.frame (comp_of s c).table)) = (fields s o c h.sound h.is).0 in
       let at : s.frame p.0.node ≡ Kernel Leaf =
-      table_leaf (s.frame (comp_of s c).table) fit (s.frame p.0.node) (leaf_fits (root_at (comp_of s c).table) n p.0 (table_relies s o c h.sound h.is).node p.1) in
+      table_leaf (s.frame (comp_of s c).table) fit (s.frame p.0.node)
+      (leaf_fits (root_at (comp_of s c).table) n p.0 (table_relies s o c h.sound h.is).node p.1) in
       let a = usable_fits p.0 p.2 (subst (λ x. IsTrue (is_node x)) (sym at) refl) p.3 in
       subst (λ (j : Capability). IsTrue (takes (Kernel Leaf) j.kind)) (wanted_is p.2 (wanted p.2.kind) p.4)
       (subst (λ x. IsTrue (takes x p.2.kind)) at a.kind)
@@ -153,7 +165,8 @@ module _ (s : State) (o : ℕ → Bool) (c : ℕ) (h : IsOpen s o c) (w : IsFitt
 
   framed : (next : State) (things : List Thing) → ((f i : ℕ) → list_any (same_thing (PlaceOf f i)) things ≡ false)
       → ((f i : ℕ) → next.place f i ≡ s.place f i) → ((f : ℕ) → IsAlike (s.frame f) (next.frame f))
-      → ((f i d : ℕ) → IsTrue ((next.grace (PlaceOf f i)).waits d) → IsTrue ((s.grace (PlaceOf f i)).waits d)) → IsFitted (begun s things next) (put o c false)
+      → ((f i d : ℕ) → IsTrue ((next.grace (PlaceOf f i)).waits d) → IsTrue ((s.grace (PlaceOf f i)).waits d))
+      → IsFitted (begun s things next) (put o c false)
   framed next things apart place frame waits = done next things apart (alike_step s next o place frame waits w)
 
   filled : (at : Slot) (k : Capability) → FitsNode (s.frame at.node) k.kind (s.frame k.frame) → Keeps (fills s at k)
@@ -167,7 +180,8 @@ module _ (s : State) (o : ℕ → Bool) (c : ℕ) (h : IsOpen s o c) (w : IsFitt
   -- One frame is put that is alike.
   put_alike : (t : State) (f : ℕ) (y : Frame) → IsAlike (t.frame f) y → (g : ℕ) → IsAlike (t.frame g) (put t.frame f y g)
   put_alike t f y a g =
-      put_all (λ g x. IsAlike (t.frame g) x) t.frame f y g (λ at. subst (λ n. IsAlike (t.frame n) y) (sym at) a) (λ other. alike_same (t.frame g))
+      put_all (λ g x. IsAlike (t.frame g) x) t.frame f y g
+      (λ at. subst (λ n. IsAlike (t.frame n) y) (sym at) a) (λ other. alike_same (t.frame g))
 
   thread_alike : (x : Frame) (t : ThreadFields) → IsAlike x (with_thread x t)
   thread_alike (Kernel (Thread u)) t = alike_none (Kernel (Thread u)) (Kernel (Thread t)) refl refl
@@ -207,8 +221,10 @@ module _ (s : State) (o : ℕ → Bool) (c : ℕ) (h : IsOpen s o c) (w : IsFitt
       → IsTrue (takes (Kernel Leaf) k)
       → IsFitted (with_frame (cleared s f) f (Kernel object)) o → Keeps (makes (cleared s f) f object k at)
   made_fits f object k at blank leaf take fitted =
-      plain (makes (cleared s f) f object k at).next (fill_fits (with_frame (cleared s f) f (Kernel object)) o at.node at.index (plain_cap k f)
-      (subst (λ x. FitsNode x k (put s.frame f (Kernel object) f)) (sym (put_other s.frame f (Kernel object) at.node apart ∙ leaf)) (record { kind = take; leaf = refl })) fitted)
+      plain (makes (cleared s f) f object k at).next
+      (fill_fits (with_frame (cleared s f) f (Kernel object)) o at.node at.index (plain_cap k f)
+      (subst (λ x. FitsNode x k (put s.frame f (Kernel object) f))
+      (sym (put_other s.frame f (Kernel object) at.node apart ∙ leaf)) (record { kind = take; leaf = refl })) fitted)
     where
       apart : at.node ≢ f
       apart e = false≢true (sym (blank_none f blank) ∙ ap (λ n. is_node (s.frame n)) (sym e) ∙ ap is_node leaf)
@@ -225,9 +241,11 @@ module _ (s : State) (o : ℕ → Bool) (c : ℕ) (h : IsOpen s o c) (w : IsFitt
       → IsTrue (takes (Kernel Leaf) k) → IsFitted (makes s f object k at).next o
   object_keeps f object k at none blank leaf take =
       fill_fits (with_frame s f (Kernel object)) o at.node at.index (plain_cap k f)
-      (subst (λ x. FitsNode x k (put s.frame f (Kernel object) f)) (sym (put_other s.frame f (Kernel object) at.node apart ∙ leaf)) (record { kind = take; leaf = refl }))
+      (subst (λ x. FitsNode x k (put s.frame f (Kernel object) f))
+      (sym (put_other s.frame f (Kernel object) at.node apart ∙ leaf)) (record { kind = take; leaf = refl }))
       (alike_step s (with_frame s f (Kernel object)) o (λ g i. refl)
-      (put_alike s f (Kernel object) (subst (λ x. IsAlike x (Kernel object)) (sym blank) (alike_none (Kernel Blank) (Kernel object) refl none))) (λ g i d q. q) w)
+      (put_alike s f (Kernel object)
+      (subst (λ x. IsAlike x (Kernel object)) (sym blank) (alike_none (Kernel Blank) (Kernel object) refl none))) (λ g i d q. q) w)
     where
       apart : at.node ≢ f
       apart e = false≢true (sym (blank_none f blank) ∙ ap (λ n. is_node (s.frame n)) (sym e) ∙ ap is_node leaf)
@@ -238,10 +256,12 @@ module _ (s : State) (o : ℕ → Bool) (c : ℕ) (h : IsOpen s o c) (w : IsFitt
   make_keeps make.Pages r f t b = node_keeps Pages kind.Pages refl r f t b
   make_keeps make.Pleaf r f t b = node_keeps Pleaf kind.Pleaf refl r f t b
   make_keeps (make.Thread comp) r f t b = λ range e table g k j at v calm.
-      plain _ (object_keeps f (Thread (record { stack = k.frame ∷ []; runs_on = None })) kind.Thread at refl (blank_by s o c r f range [] h e calm).1
+      plain _ (object_keeps f (Thread (record { stack = k.frame ∷ []; runs_on = None }))
+      kind.Thread at refl (blank_by s o c r f range [] h e calm).1
       (in_leaf t b table at g (vacant_facts s c (Under (found table) b) at v).0) refl)
   make_keeps (make.Tcap sched quality) r f t b = λ range e table g at v calm.
-      plain _ (object_keeps f (Tcap (record { budget = 0; qualities = (sched, quality) ∷ [] })) kind.Tcap at refl (blank_by s o c r f range [] h e calm).1
+      plain _ (object_keeps f (Tcap (record { budget = 0; qualities = (sched, quality) ∷ [] }))
+      kind.Tcap at refl (blank_by s o c r f range [] h e calm).1
       (in_leaf t b table at g (vacant_facts s c (Under (found table) b) at v).0) refl)
   make_keeps (make.Comp x p l) r f t b = λ range e table g own_table a own_pages d at v calm.
       let fitted = object_keeps f (Comp _) kind.Comp at refl (blank_by s o c r f range (not_taken s l) h e calm).1
@@ -254,7 +274,8 @@ module _ (s : State) (o : ℕ → Bool) (c : ℕ) (h : IsOpen s o c) (w : IsFitt
 
   retype_keeps : (r f : ℕ) (k : FrameKind) → ChangesFrom Keeps s c (retype_rule s r f k)
   retype_keeps r f frame_kind.User = λ range e calm.
-      framed (with_frame s f User) [] (λ g i. refl) (λ g i. refl) (put_alike s f User (typed_alike f User (untyped_by s o c r f range h e calm).1 refl)) (λ g i d q. q)
+      framed (with_frame s f User) [] (λ g i. refl) (λ g i. refl)
+      (put_alike s f User (typed_alike f User (untyped_by s o c r f range h e calm).1 refl)) (λ g i d q. q)
   retype_keeps r f frame_kind.Kernel = λ range e calm.
       framed (with_frame s f (Kernel Blank)) [] (λ g i. refl) (λ g i. refl)
       (put_alike s f (Kernel Blank) (typed_alike f (Kernel Blank) (untyped_by s o c r f range h e calm).1 refl)) (λ g i d q. q)
@@ -262,19 +283,24 @@ module _ (s : State) (o : ℕ → Bool) (c : ℕ) (h : IsOpen s o c) (w : IsFitt
       let held : Cause = When (not (is_empty s f (s.frame f))) reply.NotEmpty in
       let referenced : Cause = When (nat_lt 0 (refs s f)) (reply.Referenced (refs s f)) in
       let p = none_parts (refusal_of s c (outside (found range) f)) (first_cause s c (not_retyped s f frame_kind.Untyped)) calm in
-      let p1 = none_parts (refusal_of s c (is_untyped_now s f)) (first_cause s c (referenced ∷ WaitedFor (FrameOf f) ∷ Unflushed (FrameOf f) ∷ held ∷ [])) p.1 in
+      let p1 = none_parts (refusal_of s c (is_untyped_now s f))
+      (first_cause s c (referenced ∷ WaitedFor (FrameOf f) ∷ Unflushed (FrameOf f) ∷ held ∷ [])) p.1 in
       let p2 = none_parts (refusal_of s c referenced) (first_cause s c (WaitedFor (FrameOf f) ∷ Unflushed (FrameOf f) ∷ held ∷ [])) p1.1 in
       let p3 = none_parts (waits_of s c (FrameOf f)) (first_cause s c (Unflushed (FrameOf f) ∷ held ∷ [])) p2.1 in
       let p4 = none_parts (flushes_of s (FrameOf f)) (first_cause s c (held ∷ [])) p3.1 in
       let p5 = none_parts (refusal_of s c held) None p4.1 in
       let zero : refs s f ≡ 0 = zero_refs (refs s f) (when_not (nat_lt 0 (refs s f)) (reply.Referenced (refs s f)) p2.0) in
-      let empty : is_empty s f (s.frame f) ≡ true = not_not (is_empty s f (s.frame f)) (when_not (not (is_empty s f (s.frame f))) reply.NotEmpty p5.0) in
+      let empty : is_empty s f (s.frame f) ≡ true =
+      not_not (is_empty s f (s.frame f)) (when_not (not (is_empty s f (s.frame f))) reply.NotEmpty p5.0) in
       let fitted = untype_fits s o c f (unnamed s f zero) (none_waits s c f p3.0)
-      (λ i k at. let b : IsTrue (is_node (s.frame f)) × (i < 64) = h.sound.bare f i k at in nothing_held s f i k (empty_node s f (s.frame f) empty b.0) b.1 at)
+      (λ i k at. let b : IsTrue (is_node (s.frame f)) × (i < 64) = h.sound.bare f i k at in
+      nothing_held s f i k (empty_node s f (s.frame f) empty b.0) b.1 at)
       h.sound w in
-      alike_step (retypes s f frame_kind.Untyped).next (begun s (retypes s f frame_kind.Untyped).begins (retypes s f frame_kind.Untyped).next) (put o c false)
+      alike_step (retypes s f frame_kind.Untyped).next
+      (begun s (retypes s f frame_kind.Untyped).begins (retypes s f frame_kind.Untyped).next) (put o c false)
       (λ g i. refl) (λ g. alike_same _)
-      (λ g i d q. not_chosen (list_any (same_thing (PlaceOf g i)) (frames_of (frame_names (s.frame f)))) _ _ d (frames_no_place g i (frame_names (s.frame f))) q) fitted
+      (λ g i d q. not_chosen (list_any (same_thing (PlaceOf g i)) (frames_of (frame_names (s.frame f))))
+      _ _ d (frames_no_place g i (frame_names (s.frame f))) q) fitted
 
   touch_keeps : (pages v : ℕ) (t : Option Translation) → ChangesFrom Keeps s c (touch_by s c pages v t)
   touch_keeps pages v None =
@@ -300,7 +326,8 @@ module _ (s : State) (o : ℕ → Bool) (c : ℕ) (h : IsOpen s o c) (w : IsFitt
   rule_keeps : (call : Call) → ChangesFrom Keeps s c (rule_of s c call)
   rule_keeps (Look a) = λ k e calm. same
   rule_keeps (Copy a t b) = λ k e table f at g calm.
-      filled at k (in_leaf_fits at k.kind (s.frame k.frame) (in_leaf t b table at f (vacant_facts s c (Under (found table) b) at g).0) (name_takes a (λ k. true) k e))
+      filled at k (in_leaf_fits at k.kind (s.frame k.frame)
+      (in_leaf t b table at f (vacant_facts s c (Under (found table) b) at g).0) (name_takes a (λ k. true) k e))
   rule_keeps (Remove t b) = λ table e at k g calm. removed (Under (found table) b) at k g
   rule_keeps (Grow t i l) = λ table e leaf f at g calm. grown t l table leaf at e f (vacant_facts s c (InRoot (found table) i) at g).0
     where
@@ -327,13 +354,15 @@ module _ (s : State) (o : ℕ → Bool) (c : ℕ) (h : IsOpen s o c) (w : IsFitt
           let a : IsGood s table × IsTrue (root table.kind) = named_good s o c t root table h.sound h.is e in
           let fit : IsTrue (fits (leaf_of table.kind) (s.frame leaf.frame)) = named_fit s o c l (leaf_of table.kind) leaf h.sound h.is f in
           filled at (plain_cap kind.Link leaf.frame)
-          (subst (λ n. FitsNode (s.frame n) kind.Link (s.frame leaf.frame)) (in_root table at r) (root_fits table.kind (s.frame table.frame) (s.frame leaf.frame) a.1 a.0.fit fit))
+          (subst (λ n. FitsNode (s.frame n) kind.Link (s.frame leaf.frame)) (in_root table at r)
+          (root_fits table.kind (s.frame table.frame) (s.frame leaf.frame) a.1 a.0.fit fit))
   rule_keeps (Shrink t i) = λ table e at k g calm. removed (InRoot (found table) i) at k g
   rule_keeps (Retype r f k) = retype_keeps r f k
   rule_keeps (make_call what r f t b) = make_keeps what r f t b
   rule_keeps (Map p v r f m) = λ pages e range g at u calm.
       filled at (record { kind = kind.Page; frame = f; arg = m.0 })
-      (subst (λ x. FitsNode x kind.Page (s.frame f)) (sym (in_pleaf p v pages at e (vacant_facts s c (Under (found pages) v) at u).0)) (record { kind = refl; leaf = refl }))
+      (subst (λ x. FitsNode x kind.Page (s.frame f))
+      (sym (in_pleaf p v pages at e (vacant_facts s c (Under (found pages) v) at u).0)) (record { kind = refl; leaf = refl }))
   rule_keeps (Unmap p v) = λ pages e at k g calm. removed (Under (found pages) v) at k g
   rule_keeps (Touch v) = touch_keeps (comp_of s c).pages v (translation_of (s.core c).cached (comp_of s c).pages v)
   rule_keeps Flush = λ calm. framed _ [] (λ g i. refl) (λ g i. refl) (λ g. alike_same (s.frame g)) (λ g i d q. q)
@@ -357,7 +386,8 @@ module _ (s : State) (o : ℕ → Bool) (c : ℕ) (h : IsOpen s o c) (w : IsFitt
   rule_keeps (Delegate a b m) = λ j e k f calm.
       let next : State = moved s j.frame k.frame m in
       framed _ [] (λ g i. refl) (λ g i. refl)
-      (λ g. alike_then (s.frame g) (next.frame g) _ (moved_alike j.frame k.frame m g) (put_alike next k.frame _ (tcap_alike (next.frame k.frame) _) g)) (λ g i d q. q)
+      (λ g. alike_then (s.frame g) (next.frame g) _ (moved_alike j.frame k.frame m g)
+      (put_alike next k.frame _ (tcap_alike (next.frame k.frame) _) g)) (λ g i d q. q)
   rule_keeps (Test a b) = λ j e k f calm. same
 
 -- Runs
@@ -436,8 +466,10 @@ start_fits setting = record { held = held; waiting = λ f i k c p q. absurd (fal
     held f i k =
         choose P (f == 0) _ _
         (λ is. choose P (i == 0) _ _
-        (λ first at. subst (λ (n : Capability). FitsNode (start_frame setting f) n.kind (start_frame setting n.frame)) (holds_inj (plain_cap kind.Link 1) k at)
-        (subst (λ n. FitsNode (start_frame setting n) kind.Link (start_frame setting 1)) (sym (eqb-true f 0 is)) (record { kind = refl; leaf = refl })))
+        (λ first at. subst (λ (n : Capability). FitsNode (start_frame setting f) n.kind (start_frame setting n.frame))
+        (holds_inj (plain_cap kind.Link 1) k at)
+        (subst (λ n. FitsNode (start_frame setting n) kind.Link (start_frame setting 1))
+        (sym (eqb-true f 0 is)) (record { kind = refl; leaf = refl })))
         (λ none at. absurd (free_holds k at)))
         (λ other. choose P (f == 1) _ _
         (λ is at. subst (λ n. FitsNode (start_frame setting n) k.kind (start_frame setting k.frame)) (sym (eqb-true f 1 is))
@@ -481,7 +513,8 @@ runs_fit setting lim (Decides c call r ∷ events) run =
       | inl same ↦ absurd (false≢true (sym (ap is_open (phase_own (Decides c call r) events d same)) ∙ q))
       | inr other ↦ put_other (opened events) c false d other ∙ sym (ap is_open (phase_other (Decides c call r) events d other)) ∙ q
     ])
-    (decided_fits (after setting events) (opened events) c call r (open_is setting lim events c run.0 (ap is_open run.1.is_open)) run.1.permitted
+    (decided_fits (after setting events) (opened events) c call r
+    (open_is setting lim events c run.0 (ap is_open run.1.is_open)) run.1.permitted
     (runs_fit setting lim events run.0))
 
 -- What is found mapped is a page.
@@ -497,13 +530,17 @@ module _ (s : State) (o : ℕ → Bool) (c : ℕ) (h : IsOpen s o c) (w : IsFitt
   pub mapped_page : (v : ℕ) (k : Capability) → mapped s c (comp_of s c).pages v ≡ Found k → k.kind ≡ kind.Page
   mapped_page v k e =
       let a = then_parts (unless (if nat_lt 4095 v then Some reply.NoSlot else None) v)
-      (λ v. and_then (or_refuse (reached s c (Under (root_at (comp_of s c).pages) v)) reply.Fault) λ at. or_refuse (held_in (place_at s at)) reply.Fault) k e in
-      let b = then_parts (or_refuse (reached s c (Under (root_at (comp_of s c).pages) a.0)) reply.Fault) (λ at. or_refuse (held_in (place_at s at)) reply.Fault) k a.2 in
-      let at : reached s c (Under (root_at (comp_of s c).pages) a.0) ≡ Some b.0 = or_found (reached s c (Under (root_at (comp_of s c).pages) a.0)) reply.Fault b.0 b.1 in
+      (λ v. and_then (or_refuse (reached s c (Under (root_at (comp_of s c).pages) v)) reply.Fault)
+      λ at. or_refuse (held_in (place_at s at)) reply.Fault) k e in
+      let b = then_parts (or_refuse (reached s c (Under (root_at (comp_of s c).pages) a.0)) reply.Fault)
+      (λ at. or_refuse (held_in (place_at s at)) reply.Fault) k a.2 in
+      let at : reached s c (Under (root_at (comp_of s c).pages) a.0) ≡ Some b.0 =
+      or_found (reached s c (Under (root_at (comp_of s c).pages) a.0)) reply.Fault b.0 b.1 in
       let fit : IsTrue (fits kind.Pages (s.frame (comp_of s c).pages)) = (fields s o c h.sound h.is).1 in
       let leaf : s.frame b.0.node ≡ Kernel Pleaf =
       pages_leaf s o c h w (s.frame (comp_of s c).pages) fit (s.frame b.0.node)
-      (leaf_fits s o c h w (root_at (comp_of s c).pages) a.0 b.0 ((fit_node s o c h w kind.Pages (s.frame (comp_of s c).pages) fit).1 refl) at) in
+      (leaf_fits s o c h w (root_at (comp_of s c).pages) a.0 b.0
+      ((fit_node s o c h w kind.Pages (s.frame (comp_of s c).pages) fit).1 refl) at) in
       page_of (s.frame b.0.node) k.kind leaf
       (w.held b.0.node b.0.index k (held_is (place_at s b.0) k (or_found (held_in (place_at s b.0)) reply.Fault k b.2))).kind
 

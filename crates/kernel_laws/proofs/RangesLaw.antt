@@ -1,5 +1,6 @@
 -- In every state that a run reaches, the numbers are in range.
-use Rattle.std.proofs.Common.{◌≡◌, ◌≢◌, inl, inr, ℕ, zero, suc, ◌+◌, ◌*◌, ◌<◌, ◌≤◌, ◌-◌, ◌^◌, ◌==◌, Bool, true, false, refl, sym, ◌∙◌, ap, subst, arith, nat_le, nat_lt, List, [], ◌∷◌, length, slice_get, fold, All}
+use Rattle.std.proofs.Common.{◌≡◌, ◌≢◌, inl, inr, ℕ, zero, suc, ◌+◌, ◌*◌, ◌<◌, ◌≤◌, ◌-◌, ◌^◌, ◌==◌, Bool, true, false, refl}
+use Rattle.std.proofs.Common.{sym, ◌∙◌, ap, subst, arith, nat_le, nat_lt, List, [], ◌∷◌, length, slice_get, fold, All}
 use Rattle.std.proofs.lemmas.Bool.{cases_eq, cases_lt, leb-false, ltb-true, ltb-false}
 use Rattle.spk_nums.specs.Setting.{Setting, IsSetting, GrantFits}
 use Rattle.spk_nums.specs.CallLimits.{InLimits}
@@ -56,7 +57,8 @@ limited s t e frames numbers cores = record {
 }
 
 found_shape : (s : State) (c : ℕ) (v : Value) (x : Judged Change) → nat_le s.limits.calls (s.core c).counted ≡ false → Shaped s
-    → IfFound x (ShapedBy s c) → IsFoundAnd x (λ k. k.value ≡ v) → (counted (changed s x) c).limits ≡ s.limits → Shaped (counted (changed s x) c)
+    → IfFound x (ShapedBy s c) → IsFoundAnd x (λ k. k.value ≡ v)
+    → (counted (changed s x) c).limits ≡ s.limits → Shaped (counted (changed s x) c)
 found_shape s c v (Refused r) more h by ok e = absurd ok
 found_shape s c v (Found change) more h by ok e = limited s (counted (changed s (Found change)) c) e by.frames by.numbers
     (λ d. put_all (λ d k. CoreShape s.limits.calls k) change.next.core c _ d
@@ -83,20 +85,23 @@ twice s c k h = record {
   cores = λ d. put_all (λ d k. CoreShape s.limits.calls k) (put s.core c k) c _ d
       (λ same. subst (λ (m : Core). CoreShape s.limits.calls (record m { counted = m.counted + 1 })) (sym (put_same s.core c k c refl))
       (subst (CoreShape s.limits.calls) (put_same s.core c (record k { counted = k.counted + 1 }) c refl) (h.cores c)))
-      (λ other. subst (CoreShape s.limits.calls) (put_other s.core c (record k { counted = k.counted + 1 }) d other ∙ sym (put_other s.core c k d other)) (h.cores d));
+      (λ other. subst (CoreShape s.limits.calls)
+      (put_other s.core c (record k { counted = k.counted + 1 }) d other ∙ sym (put_other s.core c k d other)) (h.cores d));
 }
 
 owed_shape : (s : State) (c : ℕ) (call : Call) → InLimits call → nat_le s.limits.calls (s.core c).counted ≡ false → Shaped s
     → Shaped (counted (owed_by s c call) c)
 owed_shape s c (Tick n) lim more h =
     twice s c (record (s.core c) { owed = (s.core c).owed + n })
-    (refused_shape s c (record (s.core c) { owed = (s.core c).owed + n }) more (record { counted = refl; owed = omega (arith, lim); cached = (h.cores c).cached }) h)
+    (refused_shape s c (record (s.core c) { owed = (s.core c).owed + n }) more
+    (record { counted = refl; owed = omega (arith, lim); cached = (h.cores c).cached }) h)
 owed_shape s c _ lim more h = refused_shape s c (s.core c) more (stays s c h) h
 
 decided_shape : (s : State) (o : ℕ → Bool) (c : ℕ) (call : Call) (r : Reply) → IsOpen s o c → InLimits call → MayReply s c call r
     → Shaped s → Shaped (state_by s c call r)
 decided_shape s o c call (reply.Ok v) turn lim may h = found_shape s c v (change_of s c call) may.0 h
-    (outcome_from (ShapedBy s c) s c (rule_of s c call) (rule_shape s o c turn h call lim)) may.1 (decided_stays s c call (reply.Ok v)).limits
+    (outcome_from (ShapedBy s c) s c (rule_of s c call) (rule_shape s o c turn h call lim))
+    may.1 (decided_stays s c call (reply.Ok v)).limits
 decided_shape s o c call reply.CallsSpent turn lim may h = h
 decided_shape s o c call reply.Raced turn lim may h = owed_shape s c call lim may.0 h
 decided_shape s o c call (reply.Busy e) turn lim may h = owed_shape s c call lim may.0 h
@@ -127,7 +132,8 @@ start_shape setting lim = record {
       choose P (nat_lt f (4 + setting.cores)) _ _ (λ e. record { least = omega arith; most = omega arith }) λ a.
       choose P (nat_lt f (4 + 2 * setting.cores)) _ _
       (λ b. grant_shape setting.grants lim.grants_fit (f - 4 - setting.cores)
-      (let low = ltb-false f (4 + setting.cores) a in let high = ltb-true f (4 + 2 * setting.cores) b in let n = lim.granted in omega (arith, low, high, n)))
+      (let low = ltb-false f (4 + setting.cores) a in let high = ltb-true f (4 + 2 * setting.cores) b in
+      let n = lim.granted in omega (arith, low, high, n)))
       (λ b. tt);
   numbers = λ l. choose (NumberInRange setting.epochs) (l == 0) _ _ (λ e. record { least = omega arith; most = lim.some_epoch }) (λ e. tt);
   cores = λ c. record { counted = omega arith; owed = omega arith; cached = omega arith };

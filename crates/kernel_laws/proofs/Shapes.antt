@@ -1,5 +1,6 @@
 -- Every decision keeps the lengths, lists, epochs and counts of a state in range.
-use Rattle.std.proofs.Common.{◌≡◌, ◌≢◌, ℕ, ◌+◌, ◌-◌, ◌*◌, ◌<◌, ◌≤◌, Bool, true, false, not, refl, sym, ◌∙◌, ap, subst, arith, ◌==◌, nat_lt, nat_le, if◌then◌else◌, IsTrue, List, [], ◌∷◌, ◌++◌, length, length-append, drop, Option, Some, None}
+use Rattle.std.proofs.Common.{◌≡◌, ◌≢◌, ℕ, ◌+◌, ◌-◌, ◌*◌, ◌<◌, ◌≤◌, Bool, true, false, not, refl, sym, ◌∙◌, ap, subst, arith, ◌==◌}
+use Rattle.std.proofs.Common.{nat_lt, nat_le, if◌then◌else◌, IsTrue, List, [], ◌∷◌, ◌++◌, length, length-append, drop, Option, Some, None}
 use Rattle.std.proofs.lemmas.Bool.{false≢true, eqb-true, eqb-false, ltb-true, ltb-false, leb-false}
 use Rattle.spk_nums.specs.CallLimits.{InLimits}
 use Rattle.spk_nums.specs.Qualities.{IsQualityList}
@@ -9,10 +10,14 @@ use Rattle.spk_nums.specs.declared.kinds.FrameKind.TheVariants as frame_kind
 use Rattle.spk_nums.specs.declared.calls.Make.{Make}
 use Rattle.spk_nums.specs.declared.calls.Make.TheVariants as make
 use Rattle.spk_nums.specs.declared.calls.Call.{Call}
-use Rattle.spk_nums.specs.declared.calls.Call.TheVariants.{Look, Copy, Remove, Grow, Shrink, Retype, Make as make_call, Map, Unmap, Touch, Flush, Gate, Kill, Call as call_gate, Ret, Switch, Tick, Transfer, Delegate, Test}
+use Rattle.spk_nums.specs.declared.calls.Call.TheVariants.{Look, Copy, Remove, Grow, Shrink, Retype, Make as make_call}
+use Rattle.spk_nums.specs.declared.calls.Call.TheVariants.{Map, Unmap, Touch, Flush, Gate, Kill, Call as call_gate}
+use Rattle.spk_nums.specs.declared.calls.Call.TheVariants.{Ret, Switch, Tick, Transfer, Delegate, Test}
 use Rattle.spk_nums.specs.declared.translations.Translation.{Translation}
 use Rattle.spk_nums.specs.declared.replies.Reply.TheVariants as reply
-use Rattle.kernel_rules.specs.State.{CompFields, ThreadFields, TcapFields, Blank, Table, Leaf, Pages, Pleaf, Comp, Thread, Tcap, Frame, Untyped, User, Kernel, Liveness, Unused, Live, Dead, Core, State, put, comp_of, comp_in, thread_in, tcap_in, thread_of, NumberOf}
+use Rattle.kernel_rules.specs.State.{CompFields, ThreadFields, TcapFields, Blank, Table, Leaf, Pages, Pleaf, Comp}
+use Rattle.kernel_rules.specs.State.{Thread, Tcap, Frame, Untyped, User, Kernel, Liveness, Unused, Live, Dead}
+use Rattle.kernel_rules.specs.State.{Core, State, put, comp_of, comp_in, thread_in, tcap_in, thread_of, NumberOf}
 use Rattle.kernel_rules.specs.Access.{Named, found}
 use Rattle.kernel_rules.specs.Rules.{Change, Cause, When, WaitedFor, refusal_of, waits_of, first_cause}
 use Rattle.kernel_rules.specs.CapabilityCalls.{outside, not_blank, make_rule, is_live, epoch_of, not_taken}
@@ -139,7 +144,8 @@ moved_shape : (s : State) (e a b m : ℕ) → ((g : ℕ) → FrameShape e (s.fra
 moved_shape s e a b m h =
     let first : State = with_budget s a ((tcap_at s a).budget - m) in
     frame_put first e b _ (budget_shape s e a ((tcap_at s a).budget - m) h)
-    (tcap_shape e (first.frame b) (record (tcap_at first b) { budget = (tcap_at s b).budget + m }) (budget_shape s e a ((tcap_at s a).budget - m) h b) (λ l. l))
+    (tcap_shape e (first.frame b) (record (tcap_at first b) { budget = (tcap_at s b).budget + m })
+    (budget_shape s e a ((tcap_at s a).budget - m) h b) (λ l. l))
 
 running_shape : (s : State) (e f : ℕ) (core : Option ℕ) → ((g : ℕ) → FrameShape e (s.frame g)) → (g : ℕ)
     → FrameShape e ((running s f core).frame g)
@@ -161,7 +167,8 @@ comp_shape s c l h calm =
     let p = none_parts (refusal_of s c live) (first_cause s c (WaitedFor (NumberOf l) ∷ spent ∷ [])) calm in
     let q = none_parts (waits_of s c (NumberOf l)) (first_cause s c (spent ∷ [])) p.1 in
     let r = none_parts (refusal_of s c spent) None q.1 in
-    let other : epoch_of (s.number l) ≢ s.limits.epochs = eqb-false (epoch_of (s.number l)) s.limits.epochs (when_not (epoch_of (s.number l) == s.limits.epochs) reply.EpochsSpent r.0) in
+    let other : epoch_of (s.number l) ≢ s.limits.epochs =
+    eqb-false (epoch_of (s.number l)) s.limits.epochs (when_not (epoch_of (s.number l) == s.limits.epochs) reply.EpochsSpent r.0) in
     let most : epoch_of (s.number l) ≤ s.limits.epochs = below (s.number l) (h.numbers l) in
     record { least = omega arith; most = omega (arith, other, most) }
   where
@@ -183,7 +190,8 @@ make_shape s c h make.Pleaf r f t b lim =
 make_shape s c h (make.Thread comp) r f t b lim = λ range e table g k j at v calm.
     framed s c _ h (frame_put s s.limits.epochs f _ h.frames (record { least = omega arith; most = omega arith })) refl refl
 make_shape s c h (make.Tcap sched quality) r f t b lim = λ range e table g at v calm.
-    framed s c _ h (frame_put s s.limits.epochs f _ h.frames (record { least = omega arith; most = omega arith; pairs = (lim, tt, tt) })) refl refl
+    framed s c _ h (frame_put s s.limits.epochs f _ h.frames
+    (record { least = omega arith; most = omega arith; pairs = (lim, tt, tt) })) refl refl
 make_shape s c h (make.Comp x p l) r f t b lim = λ range e table g own_table a own_pages d at v calm.
     let q = none_parts (refusal_of s c (outside (found range) f)) (first_cause s c (not_blank s f ∷ not_taken s l)) calm in
     let n = none_parts (refusal_of s c (not_blank s f)) (first_cause s c (not_taken s l)) q.1 in
@@ -215,7 +223,8 @@ caching_short cached t h = tested (nat_lt (length cached) 64) refl
 touch_shape : (s : State) (c : ℕ) → Shaped s → (pages v : ℕ) (t : Option Translation)
     → ChangesFrom (ShapedBy s c) s c (touch_by s c pages v t)
 touch_shape s c h pages v None = λ mapping e calm.
-    cored s c _ _ h h.frames refl refl (record { counted = refl; owed = omega arith; cached = caching_short (s.core c).cached _ (h.cores c).cached })
+    cored s c _ _ h h.frames refl refl
+    (record { counted = refl; owed = omega arith; cached = caching_short (s.core c).cached _ (h.cores c).cached })
 touch_shape s c h pages v (Some t) = λ calm. same s c _ h refl refl refl
 
 -- A number that is live in an epoch has it in range.
@@ -228,8 +237,10 @@ kill_shape : (s : State) (c : ℕ) → Shaped s → (k : ℕ) → ChangesFrom (S
 kill_shape s c h k = λ comp e calm.
     let fields : CompFields = comp_in (s.frame comp.frame) in
     let p = none_parts (refusal_of s c (not_live s (found comp) fields.number fields.epoch)) None calm in
-    let live : is_live_in (s.number fields.number) fields.epoch ≡ true = not_not (is_live_in (s.number fields.number) fields.epoch) (when_not (not (is_live_in (s.number fields.number) fields.epoch)) reply.Dead p.0) in
-    let epoch : EpochInRange s.limits.epochs fields.epoch = live_shape s.limits.epochs fields.epoch (s.number fields.number) live (h.numbers fields.number) in
+    let live : is_live_in (s.number fields.number) fields.epoch ≡ true = not_not (is_live_in (s.number fields.number) fields.epoch)
+    (when_not (not (is_live_in (s.number fields.number) fields.epoch)) reply.Dead p.0) in
+    let epoch : EpochInRange s.limits.epochs fields.epoch =
+    live_shape s.limits.epochs fields.epoch (s.number fields.number) live (h.numbers fields.number) in
     record {
       frames = h.frames;
       numbers = λ m. put_all (λ l x. NumberInRange s.limits.epochs x) s.number fields.number _ m (λ same. epoch) (λ other. h.numbers m);
@@ -240,9 +251,12 @@ kill_shape s c h k = λ comp e calm.
 call_shape : (s : State) (c : ℕ) → Shaped s → (g : ℕ) → ChangesFrom (ShapedBy s c) s c (rule_of s c (call_gate g))
 call_shape s c h g = λ gate e calm.
     let deep : Cause = When (nat_le 16 (length (thread_of s c).stack)) reply.Deep in
-    let p = none_parts (refusal_of s c deep) (first_cause s c (not_live s (found gate) (comp_in (s.frame gate.frame)).number gate.arg ∷ [])) calm in
-    let less : length (thread_of s c).stack < 16 = leb-false 16 (length (thread_of s c).stack) (when_not (nat_le 16 (length (thread_of s c).stack)) reply.Deep p.0) in
-    framed s c _ h (stack_shape s s.limits.epochs c (gate.frame ∷ (thread_of s c).stack) h.frames (λ t. (omega arith, omega (arith, less)))) refl refl
+    let p = none_parts (refusal_of s c deep)
+    (first_cause s c (not_live s (found gate) (comp_in (s.frame gate.frame)).number gate.arg ∷ [])) calm in
+    let less : length (thread_of s c).stack < 16 =
+    leb-false 16 (length (thread_of s c).stack) (when_not (nat_le 16 (length (thread_of s c).stack)) reply.Deep p.0) in
+    framed s c _ h (stack_shape s s.limits.epochs c (gate.frame ∷ (thread_of s c).stack)
+    h.frames (λ t. (omega arith, omega (arith, less)))) refl refl
 
 ret_shape : (s : State) (c : ℕ) → Shaped s → ChangesFrom (ShapedBy s c) s c (rule_of s c Ret)
 ret_shape s c h = λ calm.
@@ -259,11 +273,13 @@ switch_shape : (s : State) (c : ℕ) → Shaped s → (q : ℕ) (name : Named) (
     → ChangesFrom (ShapedBy s c) s c (switch_to s c name q e)
 switch_shape s c h q name None = λ calm.
     cored s c _ (record (s.core c) { thread = name.frame; tcap = q }) h
-    (running_shape (running s (s.core c).thread None) s.limits.epochs name.frame (Some c) (running_shape s s.limits.epochs (s.core c).thread None h.frames)) refl refl
+    (running_shape (running s (s.core c).thread None) s.limits.epochs name.frame
+    (Some c) (running_shape s s.limits.epochs (s.core c).thread None h.frames)) refl refl
     (record { counted = refl; owed = omega arith; cached = (h.cores c).cached })
 switch_shape s c h q name (Some e) = λ calm.
     cored s c _ (record (s.core c) { thread = name.frame; tcap = q }) h
-    (running_shape (running s (s.core c).thread None) s.limits.epochs name.frame (Some c) (running_shape s s.limits.epochs (s.core c).thread None h.frames)) refl refl
+    (running_shape (running s (s.core c).thread None) s.limits.epochs name.frame
+    (Some c) (running_shape s s.limits.epochs (s.core c).thread None h.frames)) refl refl
     (record { counted = refl; owed = omega arith; cached = (h.cores c).cached })
 
 tick_shape : (s : State) (c : ℕ) → Shaped s → (n : ℕ) → n ≤ 1000000 → ChangesFrom (ShapedBy s c) s c (rule_of s c (Tick n))
@@ -283,16 +299,24 @@ delegate_shape : (s : State) (o : ℕ → Bool) (c : ℕ) → IsOpen s o c → S
     → ChangesFrom (ShapedBy s c) s c (rule_of s c (Delegate a b m))
 delegate_shape s o c turn h a b m = λ j e k f calm.
     let next : State = moved s j.frame k.frame m in
-    let first : ListInRange (tcap_at s j.frame).qualities = list_shape s.limits.epochs (s.frame j.frame) (named_fit s o c a kind.Tcap j turn.sound turn.is e) (h.frames j.frame) in
-    let second : ListInRange (tcap_at s k.frame).qualities = list_shape s.limits.epochs (s.frame k.frame) (named_fit s o c b kind.Tcap k turn.sound turn.is f) (h.frames k.frame) in
+    let first : ListInRange (tcap_at s j.frame).qualities =
+    list_shape s.limits.epochs (s.frame j.frame) (named_fit s o c a kind.Tcap j turn.sound turn.is e) (h.frames j.frame) in
+    let second : ListInRange (tcap_at s k.frame).qualities =
+    list_shape s.limits.epochs (s.frame k.frame) (named_fit s o c b kind.Tcap k turn.sound turn.is f) (h.frames k.frame) in
     let list : List (ℕ × ℕ) = merged_list s j.frame k.frame in
-    let p = none_parts (refusal_of s c (are_same (found j) (found k))) (first_cause s c (is_short s (found j) m ∷ are_many s (found j) (found k) ∷ [])) calm in
+    let p = none_parts (refusal_of s c (are_same (found j) (found k)))
+    (first_cause s c (is_short s (found j) m ∷ are_many s (found j) (found k) ∷ [])) calm in
     let q = none_parts (refusal_of s c (is_short s (found j) m)) (first_cause s c (are_many s (found j) (found k) ∷ [])) p.1 in
     let r = none_parts (refusal_of s c (are_many s (found j) (found k))) None q.1 in
     let few : length list ≤ 8 = ltb-false 8 (length list) (when_not (nat_lt 8 (length list)) reply.TooMany r.0) in
     framed s c _ h (frame_put next s.limits.epochs k.frame _ (moved_shape s s.limits.epochs j.frame k.frame m h.frames)
-    (tcap_shape s.limits.epochs (next.frame k.frame) (record (tcap_at next k.frame) { qualities = list }) (moved_shape s s.limits.epochs j.frame k.frame m h.frames k.frame)
-    (λ l. record { least = merged_some (tcap_at s j.frame).qualities (tcap_at s k.frame).qualities first.least; most = few; pairs = merged_list_is (tcap_at s j.frame).qualities (tcap_at s k.frame).qualities first.pairs second.pairs }))) refl refl
+    (tcap_shape s.limits.epochs (next.frame k.frame) (record (tcap_at next k.frame) { qualities = list })
+    (moved_shape s s.limits.epochs j.frame k.frame m h.frames k.frame)
+    (λ l. record {
+      least = merged_some (tcap_at s j.frame).qualities (tcap_at s k.frame).qualities first.least;
+      most = few;
+      pairs = merged_list_is (tcap_at s j.frame).qualities (tcap_at s k.frame).qualities first.pairs second.pairs;
+    }))) refl refl
 
 -- Every call that is carried out.
 pub rule_shape : (s : State) (o : ℕ → Bool) (c : ℕ) → IsOpen s o c → Shaped s → (call : Call) → InLimits call

@@ -1,12 +1,15 @@
 -- What a core has spent and owes is the sum of its decided ticks.
-use Rattle.std.proofs.Common.{◌≡◌, ◌≢◌, ◌⊎◌, inl, inr, ℕ, ◌+◌, ◌-◌, ◌≤◌, min, arith, true, false, refl, sym, ◌∙◌, ap, ◌==◌, if◌then◌else◌, [], ◌∷◌, Option, Some, None}
+use Rattle.std.proofs.Common.{◌≡◌, ◌≢◌, ◌⊎◌, inl, inr, ℕ, ◌+◌, ◌-◌, ◌≤◌, min, arith, true, false}
+use Rattle.std.proofs.Common.{refl, sym, ◌∙◌, ap, ◌==◌, if◌then◌else◌, [], ◌∷◌, Option, Some, None}
 use Rattle.std.proofs.lemmas.Bool.{cases_eq, eq-eqb, ne_eqb}
 use Rattle.spk_nums.specs.declared.kinds.FrameKind.{FrameKind}
 use Rattle.spk_nums.specs.declared.kinds.FrameKind.TheVariants as frame_kind
 use Rattle.spk_nums.specs.declared.calls.Make.{Make}
 use Rattle.spk_nums.specs.declared.calls.Make.TheVariants as make
 use Rattle.spk_nums.specs.declared.calls.Call.{Call}
-use Rattle.spk_nums.specs.declared.calls.Call.TheVariants.{Look, Copy, Remove, Grow, Shrink, Retype, Make as make_call, Map, Unmap, Touch, Flush, Gate, Kill, Call as call_gate, Ret, Switch, Tick, Transfer, Delegate, Test}
+use Rattle.spk_nums.specs.declared.calls.Call.TheVariants.{Look, Copy, Remove, Grow, Shrink, Retype, Make as make_call}
+use Rattle.spk_nums.specs.declared.calls.Call.TheVariants.{Map, Unmap, Touch, Flush, Gate, Kill, Call as call_gate}
+use Rattle.spk_nums.specs.declared.calls.Call.TheVariants.{Ret, Switch, Tick, Transfer, Delegate, Test}
 use Rattle.spk_nums.specs.declared.translations.Translation.{Translation}
 use Rattle.spk_nums.specs.declared.replies.Value.{Value}
 use Rattle.spk_nums.specs.declared.replies.Reply.{Reply}
@@ -142,7 +145,8 @@ counts s c call t by =
 decided_due : (s : State) (c : ℕ) (call : Call) (r : Reply) → MayReply s c call r
     → Counts s c (ticks_counted call r) (state_by s c call r).core
 decided_due s c call (reply.Ok v) may =
-    counts s c call (changed s (change_of s c call)) (found_due s c call v (change_of s c call) (outcome_all (By s c call) s c (rule_of s c call) (rule_due s c call)) may.1)
+    counts s c call (changed s (change_of s c call))
+    (found_due s c call v (change_of s c call) (outcome_all (By s c call) s c (rule_of s c call) (rule_due s c call)) may.1)
 decided_due s c call reply.CallsSpent may = record { own = omega arith; others = λ d other. refl }
 decided_due s c call reply.Raced may = counts s c call (owed_by s c call) (owed_due s c call)
 decided_due s c call (reply.Busy e) may = counts s c call (owed_by s c call) (owed_due s c call)
@@ -177,7 +181,8 @@ spending_sums setting (Decides d call r ∷ events) run c = by_core (spending_su
         → due ((after setting (Decides d call r ∷ events)).core c) ≡ ticks_by (Decides d call r) c + decided_ticks events c
     by_core old (inl same) =
         let a : due ((state_by (after setting events) d call r).core c) ≡ due ((after setting events).core c) + ticks_counted call r =
-        ap (λ n. due ((state_by (after setting events) d call r).core n)) same ∙ by.own ∙ ap (λ n. due ((after setting events).core n) + ticks_counted call r) (sym same) in
+        ap (λ n. due ((state_by (after setting events) d call r).core n)) same ∙ by.own
+        ∙ ap (λ n. due ((after setting events).core n) + ticks_counted call r) (sym same) in
         let b = old c in
         let e = by_own c d (ticks_counted call r) same in
         omega (arith, a, b, e)

@@ -1,5 +1,6 @@
 -- In every state that a run reaches, budgets and spent ticks sum to the grants.
-use Rattle.std.proofs.Common.{◌≡◌, ℕ, zero, suc, ◌+◌, ◌-◌, ◌*◌, ◌<◌, ◌≤◌, Bool, refl, sym, ◌∙◌, ap, arith, ◌==◌, nat_lt, List, [], ◌∷◌, length, slice_get, fold, sum_by}
+use Rattle.std.proofs.Common.{◌≡◌, ℕ, zero, suc, ◌+◌, ◌-◌, ◌*◌, ◌<◌, ◌≤◌, Bool, refl, sym, ◌∙◌, ap}
+use Rattle.std.proofs.Common.{arith, ◌==◌, nat_lt, List, [], ◌∷◌, length, slice_get, fold, sum_by}
 use Rattle.std.proofs.lemmas.Bool.{false≢true, lt-ltb}
 use Rattle.spk_nums.specs.Setting.{Setting, IsSetting}
 use Rattle.spk_nums.specs.declared.grants.Grant.{Grant}
@@ -86,7 +87,8 @@ low_none setting f below =
     P : Frame → Type 0
     P x = (tcap_in x).budget ≡ 0
 
-tcap_budget : (setting : Setting) (i : ℕ) → i < setting.cores → budget_of setting (4 + setting.cores + i) ≡ (granted (slice_get setting.grants i)).budget
+tcap_budget : (setting : Setting) (i : ℕ) → i < setting.cores
+    → budget_of setting (4 + setting.cores + i) ≡ (granted (slice_get setting.grants i)).budget
 tcap_budget setting i below =
     let f : ℕ = 4 + setting.cores + i in
     let same : f - 4 - setting.cores ≡ i = omega arith in
@@ -112,14 +114,16 @@ start_ticks setting lim =
     let b = sum_split (budget_of setting) ((4 + n) + n) rest in
     let c = sum_split (budget_of setting) (4 + n) n in
     let d = sum_none (budget_of setting) (4 + n) (λ f h. low_none setting f h) in
-    let e = sum_same (λ i. (granted (slice_get setting.grants i)).budget) (λ i. budget_of setting ((4 + n) + i)) n (λ i h. tcap_budget setting i h) in
+    let e = sum_same (λ i. (granted (slice_get setting.grants i)).budget)
+    (λ i. budget_of setting ((4 + n) + i)) n (λ i h. tcap_budget setting i h) in
     let f = sum_none (λ i. budget_of setting (((4 + n) + n) + i)) rest (λ i h. high_none setting (((4 + n) + n) + i) (omega arith)) in
     let g = grant_sum setting.grants in
     let k = ap (sum_below (λ i. (granted (slice_get setting.grants i)).budget)) lim.granted in
     let m = sum_none (λ c. ((start setting).core c).spent) n (λ c h. refl) in
     omega (arith, a, b, c, d, e, f, g, k, m)
 
-changed_ticks : (s : State) (v : Value) (found : Judged Change) → IfFound found (TicksStay s) → IsFoundAnd found (λ k. k.value ≡ v) → ticks (changed s found) ≡ ticks s
+changed_ticks : (s : State) (v : Value) (found : Judged Change) → IfFound found (TicksStay s)
+    → IsFoundAnd found (λ k. k.value ≡ v) → ticks (changed s found) ≡ ticks s
 changed_ticks s v (Refused r) stays ok = absurd ok
 changed_ticks s v (Found change) stays ok = stays
 
@@ -127,7 +131,8 @@ owed_ticks : (s : State) (c : ℕ) (call : Call) → ticks (owed_by s c call) �
 owed_ticks s c (Tick n) = same_spent s c _ refl
 owed_ticks s c _ = refl
 
-decided_ticks : (s : State) (o : ℕ → Bool) (c : ℕ) (call : Call) (r : Reply) → IsOpen s o c → MayReply s c call r → ticks (state_by s c call r) ≡ ticks s
+decided_ticks : (s : State) (o : ℕ → Bool) (c : ℕ) (call : Call) (r : Reply)
+    → IsOpen s o c → MayReply s c call r → ticks (state_by s c call r) ≡ ticks s
 decided_ticks s o c call (reply.Ok v) h may = same_spent (changed s (change_of s c call)) c _ refl
     ∙ changed_ticks s v (change_of s c call) (outcome_from (TicksStay s) s c (rule_of s c call) (rule_ticks s o c h call)) may.1
 decided_ticks s o c call reply.CallsSpent h may = refl
@@ -140,5 +145,6 @@ ticks_kept setting lim [] run = start_ticks setting lim
 ticks_kept setting lim (Enters c call ∷ events) run = same_spent (after setting events) c _ refl ∙ ticks_kept setting lim events run.0
 ticks_kept setting lim (Returns c ∷ events) run = same_spent (after setting events) c _ refl ∙ ticks_kept setting lim events run.0
 ticks_kept setting lim (Decides c call r ∷ events) run =
-    decided_ticks (after setting events) (opened events) c call r (open_is setting lim events c run.0 (ap is_open run.1.is_open)) run.1.permitted
+    decided_ticks (after setting events) (opened events) c call r
+    (open_is setting lim events c run.0 (ap is_open run.1.is_open)) run.1.permitted
     ∙ ticks_kept setting lim events run.0

@@ -71,7 +71,10 @@ not_yet may = may.1
 -- and is told that it waits for core 1.
 waits_for_one : Permits removed_meanwhile 0 (call.Copy 0 1 20) (reply.Quiescing 1)
 unfolding two_cores done whole removed_meanwhile
-waits_for_one = (refl, inr (inr (inl (record { is_core = omega arith; other = λ e. omega (arith, e); is_inside = refl; not_passed = refl }))))
+waits_for_one = (
+  refl,
+  inr (inr (inl (record { is_core = omega arith; other = λ e. omega (arith, e); is_inside = refl; not_passed = refl }))),
+)
 
 -- Once core 1 has returned, the place is free.
 free_then : Permits (Returns 1 ∷ Decides 1 copies done ∷ removed_meanwhile) 0 (call.Copy 0 1 20) done
@@ -90,7 +93,10 @@ later_free = (refl, refl)
 -- but as none of its calls has returned since, the refusal is permitted too.
 later_refused : Permits entered_later 0 (call.Copy 0 1 20) (reply.Quiescing 1)
 unfolding two_cores done whole entered_later
-later_refused = (refl, inr (inr (inl (record { is_core = omega arith; other = λ e. omega (arith, e); is_inside = refl; not_passed = refl }))))
+later_refused = (
+  refl,
+  inr (inr (inl (record { is_core = omega arith; other = λ e. omega (arith, e); is_inside = refl; not_passed = refl }))),
+)
 
 -- What was removed is gone for a call that entered later.
 gone : MayReply (after two_cores entered_later) 1 copies done → ⊥
@@ -131,7 +137,10 @@ again_free = (refl, refl)
 
 again_refused : Permits entered_again 0 (call.Copy 0 1 20) (reply.Quiescing 1)
 unfolding two_cores done range whole removed_meanwhile entered_again
-again_refused = (refl, inr (inr (inl (record { is_core = omega arith; other = λ e. omega (arith, e); is_inside = refl; not_passed = refl }))))
+again_refused = (
+  refl,
+  inr (inr (inl (record { is_core = omega arith; other = λ e. omega (arith, e); is_inside = refl; not_passed = refl }))),
+)
 
 -- Once such a call has returned, the refusal is not permitted any more.
 passed_by : List Event

@@ -1,5 +1,6 @@
 -- The cause of each refusal, by its reply: what must be so where a call is refused with it. Said apart from the rules of calls.
-use Rattle.std.specs.Prelude.{◌≡◌, ◌≢◌, ◌⊎◌, ℕ, ◌+◌, ◌<◌, ◌≤◌, Bool, if◌then◌else◌, List, [], ◌∷◌, length, Option, Some, None, is_some, IsTrue, IsFalse, IsSomeAnd}
+use Rattle.std.specs.Prelude.{◌≡◌, ◌≢◌, ◌⊎◌, ℕ, ◌+◌, ◌<◌, ◌≤◌, Bool, if◌then◌else◌, List, [], ◌∷◌}
+use Rattle.std.specs.Prelude.{length, Option, Some, None, is_some, IsTrue, IsFalse, IsSomeAnd}
 use Rattle.spk_nums.specs.Capability.{Capability}
 use Rattle.spk_nums.specs.Merging.{merged}
 use Rattle.spk_nums.specs.declared.kinds.Kind.{Kind}
@@ -8,12 +9,15 @@ use Rattle.spk_nums.specs.declared.kinds.FrameKind.TheVariants as frame_kind
 use Rattle.spk_nums.specs.declared.calls.Make.{Make}
 use Rattle.spk_nums.specs.declared.calls.Make.TheVariants as make
 use Rattle.spk_nums.specs.declared.calls.Call.{Call}
-use Rattle.spk_nums.specs.declared.calls.Call.TheVariants.{Look, Copy, Remove, Grow, Shrink, Retype, Make as make_call, Map, Unmap, Touch, Gate, Kill, Call as call_gate, Ret, Switch, Transfer, Delegate, Test}
+use Rattle.spk_nums.specs.declared.calls.Call.TheVariants.{Look, Copy, Remove, Grow, Shrink, Retype, Make as make_call, Map, Unmap}
+use Rattle.spk_nums.specs.declared.calls.Call.TheVariants.{Touch, Gate, Kill, Call as call_gate, Ret, Switch, Transfer, Delegate, Test}
 use Rattle.spk_nums.specs.declared.replies.Reply.{Reply}
 use Rattle.spk_nums.specs.declared.replies.Reply.TheVariants as reply
-use Rattle.kernel_rules.specs.State.{TcapFields, Blank, Untyped, User, Kernel, Live, Thing, PlaceOf, FrameOf, NumberOf, State, comp_in, thread_in, tcap_in, thread_of, comp_of}
+use Rattle.kernel_rules.specs.State.{TcapFields, Blank, Untyped, User, Kernel, Live, Thing, PlaceOf, FrameOf}
+use Rattle.kernel_rules.specs.State.{NumberOf, State, comp_in, thread_in, tcap_in, thread_of, comp_of}
 use Rattle.kernel_rules.specs.References.{refs}
-use Rattle.kernel_rules.specs.Access.{Slot, Named, found, not_found, root_at, Target, Under, InRoot, place_at, held_in, usable, reached, has_no_slot, root_slot, holds_link, any, only, root, own}
+use Rattle.kernel_rules.specs.Access.{Slot, Named, found, not_found, root_at, Target, Under, InRoot, place_at, held_in}
+use Rattle.kernel_rules.specs.Access.{usable, reached, has_no_slot, root_slot, holds_link, any, only, root, own}
 use Rattle.kernel_rules.specs.GracePeriods.{MayWait, MayBeUnflushed}
 use Rattle.kernel_rules.specs.CapabilityCalls.{leaf_for, is_live, epoch_of}
 use Rattle.kernel_rules.specs.MemoryCalls.{translation_of}

@@ -36,7 +36,8 @@ pub record FitsNode (node : Frame) (k : Kind) (named : Frame) : Type 0 where
 pub record NodesFit (setting : Setting) (events : List Event) : Type 0 where
   pub held : (f i : ℕ) (k : Capability) → (after setting events).place f i ≡ Holds k
       → FitsNode ((after setting events).frame f) k.kind ((after setting events).frame k.frame)
-  pub used : (c : ℕ) (at : Slot) (k : Capability) → IsTrue (is_open (phase_of events c)) → IsTrue (is_node ((after setting events).frame at.node))
+  pub used : (c : ℕ) (at : Slot) (k : Capability) → IsTrue (is_open (phase_of events c))
+      → IsTrue (is_node ((after setting events).frame at.node))
       → usable (after setting events) c at ≡ Some k
       → FitsNode ((after setting events).frame at.node) k.kind ((after setting events).frame k.frame)
   pub pages : (c v : ℕ) (k : Capability) → IsTrue (is_open (phase_of events c))

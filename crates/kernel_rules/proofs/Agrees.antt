@@ -1,6 +1,9 @@
 -- The first refusal in order is one that the relation permits, where those who wait are in calls.
-use Rattle.std.proofs.Common.{◌≡◌, ◌≢◌, ◌⊎◌, inl, inr, ℕ, zero, suc, ◌+◌, ◌<◌, Bool, true, false, not, ◌&&◌, ◌||◌, refl, sym, ◌∙◌, ap, subst, arith, cond, ◌==◌, nat_lt, nat_le, if◌then◌else◌, IsTrue, IsFalse, IsSomeAnd, is_some, List, [], ◌∷◌, Option, Some, None, find, ◌%◌}
-use Rattle.std.proofs.lemmas.Bool.{false≢true, true≢false, eqb-false, ltb-false, leb-false, le-leb, lt-ltb, or_left, or_right, not_from_false}
+use Rattle.std.proofs.Common.{◌≡◌, ◌≢◌, ◌⊎◌, inl, inr, ℕ, zero, suc, ◌+◌, ◌<◌, Bool, true, false, not, ◌&&◌}
+use Rattle.std.proofs.Common.{◌||◌, refl, sym, ◌∙◌, ap, subst, arith, cond, ◌==◌, nat_lt, nat_le, if◌then◌else◌}
+use Rattle.std.proofs.Common.{IsTrue, IsFalse, IsSomeAnd, is_some, List, [], ◌∷◌, Option, Some, None, find, ◌%◌}
+use Rattle.std.proofs.lemmas.Bool.{false≢true, true≢false, eqb-false, ltb-false, leb-false}
+use Rattle.std.proofs.lemmas.Bool.{le-leb, lt-ltb, or_left, or_right, not_from_false}
 use Rattle.std.specs.List.{range_with_len}
 use Rattle.spk_nums.specs.Capability.{Capability}
 use Rattle.spk_nums.specs.declared.kinds.Kind.{Kind}
@@ -8,9 +11,13 @@ use Rattle.spk_nums.specs.declared.kinds.Kind.TheVariants as kind
 use Rattle.spk_nums.specs.declared.replies.Reply.{Reply}
 use Rattle.spk_nums.specs.declared.replies.Reply.TheVariants as reply
 use Rattle.kernel_rules.specs.State.{Place, Free, Holds, Quiescing, Thing, PlaceOf, State}
-use Rattle.kernel_rules.specs.Access.{Slot, found, root_at, Target, Under, InRoot, place_at, held_in, usable_in, usable, linked, slot_in, reached, root_slot, only, holds_link, has_no_slot, own}
+use Rattle.kernel_rules.specs.Access.{Slot, found, root_at, Target, Under, InRoot, place_at, held_in, usable_in}
+use Rattle.kernel_rules.specs.Access.{usable, linked, slot_in, reached, root_slot, only, holds_link, has_no_slot, own}
 use Rattle.kernel_rules.specs.GracePeriods.{lowest, other_waiting, quiescing_by, unflushed_by, MayWait, MayBeUnflushed}
-use Rattle.kernel_rules.specs.Rules.{name_of, slot_of, Cause, When, WaitedFor, Unflushed, Rule, Name, Vacant, Held, Mapped, Does, Judged, Refused, Found, and_then, unless, or_refuse, of_kind, named, first_of, waits_of, flushes_of, not_vacant, vacant, held, mapped, first_cause, outcome, IsFoundAnd, NameMay, VacantMay, HeldMay, MappedMay, WaitedMay, UnflushedMay, OneMay, RuleMay}
+use Rattle.kernel_rules.specs.Rules.{name_of, slot_of, Cause, When, WaitedFor, Unflushed, Rule, Name, Vacant, Held, Mapped}
+use Rattle.kernel_rules.specs.Rules.{Does, Judged, Refused, Found, and_then, unless, or_refuse, of_kind, named, first_of}
+use Rattle.kernel_rules.specs.Rules.{waits_of, flushes_of, not_vacant, vacant, held, mapped, first_cause, outcome, IsFoundAnd}
+use Rattle.kernel_rules.specs.Rules.{NameMay, VacantMay, HeldMay, MappedMay, WaitedMay, UnflushedMay, OneMay, RuleMay}
 
 -- Who waits is in a call and has not passed, and what is unflushed is unknown.
 pub record IsBounded (s : State) : Type 0 where
@@ -103,7 +110,8 @@ no_slot s c (Under table n) is h =
     tested : (t : Bool) → nat_le n 4095 ≡ t → (if t then slot_in (linked (usable s c at)) (n % 64) else None) ≡ None
         → (nat_lt 4095 n || not (holds_link (place_at s at))) ≡ true
     tested true e q = or_right (nat_lt 4095 n) (not (holds_link (place_at s at)))
-        (not_from_false (holds_link (place_at s at)) (no_link (place_at s at) ((s.grace (PlaceOf at.node at.index)).waits c) (no_leaf (linked (usable s c at)) (n % 64) q)))
+        (not_from_false (holds_link (place_at s at))
+        (no_link (place_at s at) ((s.grace (PlaceOf at.node at.index)).waits c) (no_leaf (linked (usable s c at)) (n % 64) q)))
     tested false e q = or_left (nat_lt 4095 n) (not (holds_link (place_at s at))) (lt-ltb 4095 n (leb-false n 4095 e))
 no_slot s c (InRoot table i) is h = tested (nat_le i 63) refl (sym (ap (λ t. if t && nat_le i 63 then Some at else None) is) ∙ h)
   where
@@ -219,7 +227,8 @@ flush_refused s x P calm h r e = tested (lowest s (s.grace x).unflushed) refl e
 vacant_refused : (s : State) (c : ℕ) (target : Target) → IsTrue (has_root target) → IsBounded s
     → IfRefused (vacant s c target) (λ r. VacantMay s c target r × IsPlain r)
 vacant_refused s c target named calm =
-    then_refused (or_refuse (reached s c target) reply.NoSlot) (λ at. unless (not_vacant s c (PlaceOf at.node at.index) (place_at s at)) at) P
+    then_refused (or_refuse (reached s c target) reply.NoSlot)
+    (λ at. unless (not_vacant s c (PlaceOf at.node at.index) (place_at s at)) at) P
     (or_refused (reached s c target) reply.NoSlot P (λ e. (no_slot s c target named e, tt)))
     λ at e. unless_refused (not_vacant s c (PlaceOf at.node at.index) (place_at s at)) at P
     (place_refused at (or_found (reached s c target) reply.NoSlot at e) (place_at s at) refl)
@@ -235,17 +244,19 @@ vacant_refused s c target named calm =
     place_refused at e Free is r h = absurd (some_none r (sym h))
     place_refused at e (Holds k) is r h = subst P (occupied r h)
         (some_and (reached s c target) at (λ at. IsTrue (is_some (held_in (place_at s at)))) e (ap (λ p. is_some (held_in p)) is), tt)
-    place_refused at e (Quiescing k) is r h = elim (first_parts (waits_of s c (PlaceOf at.node at.index)) (flushes_of s (PlaceOf at.node at.index)) r h) [
-      | inl waits ↦ wait_refused s c (PlaceOf at.node at.index) P calm
-          (λ d may. (some_and (reached s c target) at (λ at. MayWait s c (PlaceOf at.node at.index) d) e may, tt)) r waits
-      | inr flushes ↦ flush_refused s (PlaceOf at.node at.index) P calm
-          (λ d may. (some_and (reached s c target) at (λ at. MayBeUnflushed s (PlaceOf at.node at.index) d) e may, tt)) r flushes
-    ]
+    place_refused at e (Quiescing k) is r h =
+        elim (first_parts (waits_of s c (PlaceOf at.node at.index)) (flushes_of s (PlaceOf at.node at.index)) r h) [
+          | inl waits ↦ wait_refused s c (PlaceOf at.node at.index) P calm
+              (λ d may. (some_and (reached s c target) at (λ at. MayWait s c (PlaceOf at.node at.index) d) e may, tt)) r waits
+          | inr flushes ↦ flush_refused s (PlaceOf at.node at.index) P calm
+              (λ d may. (some_and (reached s c target) at (λ at. MayBeUnflushed s (PlaceOf at.node at.index) d) e may, tt)) r flushes
+        ]
 
 none_held : (o : Option Capability) → o ≡ None → IsFalse (is_some o)
 none_held o e = ap is_some e
 
-held_refused : (s : State) (c : ℕ) (target : Target) → IsTrue (has_root target) → IfRefused (held s c target) (λ r. HeldMay s c target r × IsPlain r)
+held_refused : (s : State) (c : ℕ) (target : Target) → IsTrue (has_root target)
+    → IfRefused (held s c target) (λ r. HeldMay s c target r × IsPlain r)
 held_refused s c target named =
     then_refused (or_refuse (reached s c target) reply.NoSlot) rest P
     (or_refused (reached s c target) reply.NoSlot P (λ e. (no_slot s c target named e, tt)))
@@ -278,13 +289,16 @@ mapped_refused s c table v = tested (nat_lt 4095 v) refl
     no false false h e = refl
 
     tested : (t : Bool) → nat_lt 4095 v ≡ t
-        → IfRefused (and_then (unless (if t then Some reply.NoSlot else None) v) λ v. and_then (or_refuse (reached s c (Under (root_at table) v)) reply.Fault) λ at. rest at) P
+        → IfRefused (and_then (unless (if t then Some reply.NoSlot else None) v)
+        λ v. and_then (or_refuse (reached s c (Under (root_at table) v)) reply.Fault) λ at. rest at) P
     tested true e = (e, tt)
     tested false e =
         let small : nat_le v 4095 ≡ true = le-leb v 4095 (ltb-false 4095 v e) in
         then_refused (or_refuse (reached s c (Under (root_at table) v)) reply.Fault) rest P
-        (or_refused (reached s c (Under (root_at table) v)) reply.Fault P λ q.
-        ((small, inl (no (nat_lt 4095 v) (holds_link (place_at s (root_slot table v))) (no_slot s c (Under (root_at table) v) refl q) e)), tt))
+        (or_refused (reached s c (Under (root_at table) v)) reply.Fault P λ q. (
+          (small, inl (no (nat_lt 4095 v) (holds_link (place_at s (root_slot table v))) (no_slot s c (Under (root_at table) v) refl q) e)),
+          tt,
+        ))
         λ at q. or_refused (held_in (place_at s at)) reply.Fault P λ u. (
           (
             small,
@@ -308,7 +322,8 @@ vacant_found s c target at h = tested (reached s c target) h
     kept None b e = found_inj b at e
     kept (Some r) b e = absurd (refused_found r at e)
 
-    tested : (o : Option Slot) → and_then (or_refuse o reply.NoSlot) (λ at. unless (not_vacant s c (PlaceOf at.node at.index) (place_at s at)) at) ≡ Found at
+    tested : (o : Option Slot)
+        → and_then (or_refuse o reply.NoSlot) (λ at. unless (not_vacant s c (PlaceOf at.node at.index) (place_at s at)) at) ≡ Found at
         → o ≡ Some at
     tested None e = absurd (refused_found reply.NoSlot at e)
     tested (Some b) e = ap Some (kept (not_vacant s c (PlaceOf b.node b.index) (place_at s b)) b e)
@@ -362,28 +377,32 @@ rule_refused s c (Name n wanted rest) calm plain =
     then_refused (named s c n wanted) (λ k. outcome s c (rest (found k))) (λ r. RuleMay s c (Name n wanted rest) r × IsPlain r)
     (refused_map (named s c n wanted) (λ r. NameMay s c n wanted r × IsPlain r) (λ r. RuleMay s c (Name n wanted rest) r × IsPlain r)
     (λ r h. (inl h.0, h.1)) (name_refused s c n wanted))
-    λ k e. refused_map (outcome s c (rest (found k))) (λ r. RuleMay s c (rest (found k)) r × IsPlain r) (λ r. RuleMay s c (Name n wanted rest) r × IsPlain r)
+    λ k e. refused_map (outcome s c (rest (found k))) (λ r. RuleMay s c (rest (found k)) r × IsPlain r)
+    (λ r. RuleMay s c (Name n wanted rest) r × IsPlain r)
     (λ r h. (inr (subst (λ j. RuleMay s c (rest (name_of j)) r) (sym e) h.0), h.1))
     (rule_refused s c (rest (found k)) calm (plain k))
 rule_refused s c (Vacant target rest) calm plain =
     then_refused (vacant s c target) (λ at. outcome s c (rest at)) (λ r. RuleMay s c (Vacant target rest) r × IsPlain r)
     (refused_map (vacant s c target) (λ r. VacantMay s c target r × IsPlain r) (λ r. RuleMay s c (Vacant target rest) r × IsPlain r)
     (λ r h. (inl h.0, h.1)) (vacant_refused s c target plain.0 calm))
-    λ at e. refused_map (outcome s c (rest at)) (λ r. RuleMay s c (rest at) r × IsPlain r) (λ r. RuleMay s c (Vacant target rest) r × IsPlain r)
+    λ at e. refused_map (outcome s c (rest at)) (λ r. RuleMay s c (rest at) r × IsPlain r)
+    (λ r. RuleMay s c (Vacant target rest) r × IsPlain r)
     (λ r h. (inr (subst (λ o. RuleMay s c (rest (slot_of o)) r) (sym (vacant_found s c target at e)) h.0), h.1))
     (rule_refused s c (rest at) calm (plain.1 at))
 rule_refused s c (Held target rest) calm plain =
     then_refused (held s c target) (λ p. outcome s c (rest p.0 p.1)) (λ r. RuleMay s c (Held target rest) r × IsPlain r)
     (refused_map (held s c target) (λ r. HeldMay s c target r × IsPlain r) (λ r. RuleMay s c (Held target rest) r × IsPlain r)
     (λ r h. (inl h.0, h.1)) (held_refused s c target plain.0))
-    λ p e. refused_map (outcome s c (rest p.0 p.1)) (λ r. RuleMay s c (rest p.0 p.1) r × IsPlain r) (λ r. RuleMay s c (Held target rest) r × IsPlain r)
+    λ p e. refused_map (outcome s c (rest p.0 p.1)) (λ r. RuleMay s c (rest p.0 p.1) r × IsPlain r)
+    (λ r. RuleMay s c (Held target rest) r × IsPlain r)
     (λ r h. (inr (found_and (held s c target) p (λ p. RuleMay s c (rest p.0 p.1) r) e h.0), h.1))
     (rule_refused s c (rest p.0 p.1) calm (plain.1 p.0 p.1))
 rule_refused s c (Mapped table v rest) calm plain =
     then_refused (mapped s c table v) (λ k. outcome s c (rest k)) (λ r. RuleMay s c (Mapped table v rest) r × IsPlain r)
     (refused_map (mapped s c table v) (λ r. MappedMay s c table v r × IsPlain r) (λ r. RuleMay s c (Mapped table v rest) r × IsPlain r)
     (λ r h. (inl h.0, h.1)) (mapped_refused s c table v))
-    λ k e. refused_map (outcome s c (rest k)) (λ r. RuleMay s c (rest k) r × IsPlain r) (λ r. RuleMay s c (Mapped table v rest) r × IsPlain r)
+    λ k e. refused_map (outcome s c (rest k)) (λ r. RuleMay s c (rest k) r × IsPlain r)
+    (λ r. RuleMay s c (Mapped table v rest) r × IsPlain r)
     (λ r h. (inr (found_and (mapped s c table v) k (λ k. RuleMay s c (rest k) r) e h.0), h.1))
     (rule_refused s c (rest k) calm (plain k))
 rule_refused s c (Does causes change) calm plain =

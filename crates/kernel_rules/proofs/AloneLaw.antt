@@ -1,5 +1,6 @@
 -- Who waits is in a call; so in every reached state the relation and the first reply in order agree.
-use Rattle.std.proofs.Common.{◌≡◌, inl, inr, ℕ, Bool, true, false, refl, sym, ◌∙◌, ap, subst, if◌then◌else◌, IsTrue, IsFalse, List, [], ◌∷◌, Option, Some, None}
+use Rattle.std.proofs.Common.{◌≡◌, inl, inr, ℕ, Bool, true, false, refl, sym, ◌∙◌, ap, subst}
+use Rattle.std.proofs.Common.{if◌then◌else◌, IsTrue, IsFalse, List, [], ◌∷◌, Option, Some, None}
 use Rattle.std.proofs.lemmas.Bool.{cases_eq, false≢true}
 use Rattle.std.specs.List.{list_any}
 use Rattle.spk_nums.specs.Setting.{Setting}
@@ -9,7 +10,9 @@ use Rattle.spk_nums.specs.declared.calls.Make.{Make}
 use Rattle.spk_nums.specs.declared.calls.Make.TheVariants as make
 use Rattle.spk_nums.specs.declared.translations.Translation.{Translation}
 use Rattle.spk_nums.specs.declared.calls.Call.{Call}
-use Rattle.spk_nums.specs.declared.calls.Call.TheVariants.{Look, Copy, Remove, Grow, Shrink, Retype, Make as make_call, Map, Unmap, Touch, Flush, Gate, Kill, Call as call_gate, Ret, Switch, Tick, Transfer, Delegate, Test}
+use Rattle.spk_nums.specs.declared.calls.Call.TheVariants.{Look, Copy, Remove, Grow, Shrink, Retype, Make as make_call}
+use Rattle.spk_nums.specs.declared.calls.Call.TheVariants.{Map, Unmap, Touch, Flush, Gate, Kill, Call as call_gate}
+use Rattle.spk_nums.specs.declared.calls.Call.TheVariants.{Ret, Switch, Tick, Transfer, Delegate, Test}
 use Rattle.spk_nums.specs.declared.replies.Value.{Value}
 use Rattle.spk_nums.specs.declared.replies.Reply.{Reply}
 use Rattle.spk_nums.specs.declared.replies.Reply.TheVariants as reply
@@ -60,7 +63,8 @@ make_waits s (make.Tcap sched quality) r f t b = λ range table at. record { ins
 make_waits s (make.Comp x p live) r f t b = λ range table k j at. record { inside = λ d. refl; waits = λ x d h. h; limits = refl }
 
 retype_waits : (s : State) (r f : ℕ) (k : FrameKind) → AllChanges (Waits s) (retype_rule s r f k)
-retype_waits s r f frame_kind.Untyped = λ range. record { inside = λ d. refl; waits = node_waits s f (λ x. same_thing x (FrameOf f)); limits = refl }
+retype_waits s r f frame_kind.Untyped =
+    λ range. record { inside = λ d. refl; waits = node_waits s f (λ x. same_thing x (FrameOf f)); limits = refl }
 retype_waits s r f frame_kind.User = λ range. record { inside = λ d. refl; waits = λ x d h. h; limits = refl }
 retype_waits s r f frame_kind.Kernel = λ range. record { inside = λ d. refl; waits = λ x d h. h; limits = refl }
 

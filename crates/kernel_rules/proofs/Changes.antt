@@ -4,7 +4,8 @@ use Rattle.spk_nums.specs.Capability.{Capability}
 use Rattle.spk_nums.specs.declared.replies.Reply.{Reply}
 use Rattle.kernel_rules.specs.State.{State}
 use Rattle.kernel_rules.specs.Access.{Slot, found}
-use Rattle.kernel_rules.specs.Rules.{Change, Rule, Name, Vacant, Held, Mapped, Does, Judged, Refused, Found, and_then, unless, named, vacant, held, mapped, first_cause, outcome}
+use Rattle.kernel_rules.specs.Rules.{Change, Rule, Name, Vacant, Held, Mapped, Does, Judged, Refused, Found}
+use Rattle.kernel_rules.specs.Rules.{and_then, unless, named, vacant, held, mapped, first_cause, outcome}
 use Rattle.std.specs.Prelude.{Option, Some, None}
 
 -- P holds of every change that the rule can make.
@@ -29,8 +30,12 @@ unless_all None x P h = h
 unless_all (Some r) x P h = tt
 
 pub outcome_all : (P : Change → Type 0) (s : State) (c : ℕ) (rule : Rule) → AllChanges P rule → IfFound (outcome s c rule) P
-outcome_all P s c (Name n wanted rest) h = then_all (named s c n wanted) (λ k. outcome s c (rest (found k))) P λ k. outcome_all P s c (rest (found k)) (h k)
-outcome_all P s c (Vacant target rest) h = then_all (vacant s c target) (λ at. outcome s c (rest at)) P λ at. outcome_all P s c (rest at) (h at)
-outcome_all P s c (Held target rest) h = then_all (held s c target) (λ p. outcome s c (rest p.0 p.1)) P λ p. outcome_all P s c (rest p.0 p.1) (h p.0 p.1)
-outcome_all P s c (Mapped table v rest) h = then_all (mapped s c table v) (λ k. outcome s c (rest k)) P λ k. outcome_all P s c (rest k) (h k)
+outcome_all P s c (Name n wanted rest) h =
+    then_all (named s c n wanted) (λ k. outcome s c (rest (found k))) P λ k. outcome_all P s c (rest (found k)) (h k)
+outcome_all P s c (Vacant target rest) h =
+    then_all (vacant s c target) (λ at. outcome s c (rest at)) P λ at. outcome_all P s c (rest at) (h at)
+outcome_all P s c (Held target rest) h =
+    then_all (held s c target) (λ p. outcome s c (rest p.0 p.1)) P λ p. outcome_all P s c (rest p.0 p.1) (h p.0 p.1)
+outcome_all P s c (Mapped table v rest) h =
+    then_all (mapped s c table v) (λ k. outcome s c (rest k)) P λ k. outcome_all P s c (rest k) (h k)
 outcome_all P s c (Does causes change) h = unless_all (first_cause s c causes) change P h

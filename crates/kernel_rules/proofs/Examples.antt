@@ -21,7 +21,13 @@ use Rattle.kernel_rules.specs.Alone.{plain_replies, plain_steps}
 -- One core with 100 ticks, and 32 frames, of which 6 is the first that is untyped.
 abbrev one_core : State
 one_core =
-    start (record { cores = 1; frames = 32; grants = record { budget = 100; sched = 0; quality = 1 } ∷ []; calls = 4194304; epochs = 65535 })
+    start (record {
+      cores = 1;
+      frames = 32;
+      grants = record { budget = 100; sched = 0; quality = 1 } ∷ [];
+      calls = 4194304;
+      epochs = 65535;
+    })
 
 abbrev done : Reply
 done = reply.Ok Nothing
@@ -74,7 +80,8 @@ beyond_no_kind may = by_cause may.1
     by_range e = cc
 
     by_cause : {A B C D : Type 0}
-        → ⊥ ⊎ ((A × (reply.FrameKind ≡ reply.OutOfRange)) ⊎ ((IsTrue false × B) ⊎ ((IsTrue false × C) ⊎ (⊥ ⊎ (⊥ ⊎ ((IsTrue false × D) ⊎ ⊥)))))) → ⊥
+        → ⊥ ⊎ ((A × (reply.FrameKind ≡ reply.OutOfRange))
+        ⊎ ((IsTrue false × B) ⊎ ((IsTrue false × C) ⊎ (⊥ ⊎ (⊥ ⊎ ((IsTrue false × D) ⊎ ⊥)))))) → ⊥
     by_cause (inl x) = x
     by_cause (inr (inl x)) = by_range x.1
     by_cause (inr (inr (inl x))) = false≢true x.0

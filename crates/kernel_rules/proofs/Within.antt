@@ -9,7 +9,9 @@ use Rattle.spk_nums.specs.declared.calls.Make.{Make}
 use Rattle.spk_nums.specs.declared.calls.Make.TheVariants as make
 use Rattle.spk_nums.specs.declared.translations.Translation.{Translation}
 use Rattle.spk_nums.specs.declared.calls.Call.{Call}
-use Rattle.spk_nums.specs.declared.calls.Call.TheVariants.{Look, Copy, Remove, Grow, Shrink, Retype, Make as make_call, Map, Unmap, Touch, Flush, Gate, Kill, Call as call_gate, Ret, Switch, Tick, Transfer, Delegate, Test}
+use Rattle.spk_nums.specs.declared.calls.Call.TheVariants.{Look, Copy, Remove, Grow, Shrink, Retype, Make as make_call}
+use Rattle.spk_nums.specs.declared.calls.Call.TheVariants.{Map, Unmap, Touch, Flush, Gate, Kill, Call as call_gate}
+use Rattle.spk_nums.specs.declared.calls.Call.TheVariants.{Ret, Switch, Tick, Transfer, Delegate, Test}
 use Rattle.spk_nums.specs.declared.replies.Reply.{Reply}
 use Rattle.spk_nums.specs.declared.replies.Reply.TheVariants as reply
 use Rattle.kernel_rules.specs.State.{Grace, Thing, FrameOf, State, put, comp_of, thread_in}
@@ -81,16 +83,20 @@ abbrev Keeps : State → Change → Type 0
 Keeps s change = (x : Thing) (c : ℕ) → IsWithin (s.grace x) c → IsWithin (change.next.grace x) c
 
 make_keeps : (s : State) (what : Make) (r f t b : ℕ) → AllChanges (Keeps s) (make_rule s what r f t b)
-make_keeps s make.Table r f t b = λ range table at x c h. either (λ g. IsWithin g c) (is_place_of f x) no_grace (s.grace x) (none_within c) h
+make_keeps s make.Table r f t b =
+    λ range table at x c h. either (λ g. IsWithin g c) (is_place_of f x) no_grace (s.grace x) (none_within c) h
 make_keeps s make.Leaf r f t b = λ range table at x c h. either (λ g. IsWithin g c) (is_place_of f x) no_grace (s.grace x) (none_within c) h
-make_keeps s make.Pages r f t b = λ range table at x c h. either (λ g. IsWithin g c) (is_place_of f x) no_grace (s.grace x) (none_within c) h
-make_keeps s make.Pleaf r f t b = λ range table at x c h. either (λ g. IsWithin g c) (is_place_of f x) no_grace (s.grace x) (none_within c) h
+make_keeps s make.Pages r f t b =
+    λ range table at x c h. either (λ g. IsWithin g c) (is_place_of f x) no_grace (s.grace x) (none_within c) h
+make_keeps s make.Pleaf r f t b =
+    λ range table at x c h. either (λ g. IsWithin g c) (is_place_of f x) no_grace (s.grace x) (none_within c) h
 make_keeps s (make.Thread comp) r f t b = λ range table k at x c h. h
 make_keeps s (make.Tcap sched quality) r f t b = λ range table at x c h. h
 make_keeps s (make.Comp x p live) r f t b = λ range table k j at x c h. h
 
 retype_keeps : (s : State) (r f : ℕ) (k : FrameKind) → AllChanges (Keeps s) (retype_rule s r f k)
-retype_keeps s r f frame_kind.Untyped = λ range x c h. either (λ g. IsWithin g c) (same_thing x (FrameOf f)) no_grace (s.grace x) (none_within c) h
+retype_keeps s r f frame_kind.Untyped =
+    λ range x c h. either (λ g. IsWithin g c) (same_thing x (FrameOf f)) no_grace (s.grace x) (none_within c) h
 retype_keeps s r f frame_kind.User = λ range x c h. h
 retype_keeps s r f frame_kind.Kernel = λ range x c h. h
 

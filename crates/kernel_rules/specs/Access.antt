@@ -98,9 +98,11 @@ slot_in (Some leaf) i = Some record { node = leaf; index = i }
 abbrev pub root_slot : ℕ → ℕ → Slot
 root_slot table n = record { node = table; index = n / 64 }
 
--- The slot that core c reaches, if the root was found: under a number up to 4,095 by a link that the core may use, or at a root entry up to 63.
+-- The slot that core c reaches, if the root was found: under a number up to 4,095 by a link that the core may use, or at a root entry up to
+-- 63.
 abbrev pub reached : State → ℕ → Target → Option Slot
-reached s c (Under table n) = if table.found && nat_le n 4095 then slot_in (linked (usable s c (root_slot table.frame n))) (n % 64) else None
+reached s c (Under table n) = if table.found
+    && nat_le n 4095 then slot_in (linked (usable s c (root_slot table.frame n))) (n % 64) else None
 reached s c (InRoot table i) = if table.found && nat_le i 63 then Some record { node = table.frame; index = i } else None
 
 -- Whether a place holds a link.

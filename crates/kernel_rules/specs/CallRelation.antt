@@ -2,7 +2,9 @@
 use Rattle.std.specs.Prelude.{ℕ, ◌+◌, Bool, true, false, nat_le, IsTrue, IsFalse}
 use Rattle.std.specs.List.{list_any}
 use Rattle.spk_nums.specs.declared.calls.Call.{Call}
-use Rattle.spk_nums.specs.declared.calls.Call.TheVariants.{Look, Copy, Remove, Grow, Shrink, Retype, Make as make_call, Map, Unmap, Touch, Flush, Gate, Kill, Call as call_gate, Ret, Switch, Tick, Transfer, Delegate, Test}
+use Rattle.spk_nums.specs.declared.calls.Call.TheVariants.{Look, Copy, Remove, Grow, Shrink, Retype, Make as make_call}
+use Rattle.spk_nums.specs.declared.calls.Call.TheVariants.{Map, Unmap, Touch, Flush, Gate, Kill, Call as call_gate}
+use Rattle.spk_nums.specs.declared.calls.Call.TheVariants.{Ret, Switch, Tick, Transfer, Delegate, Test}
 use Rattle.spk_nums.specs.declared.calls.Make.TheVariants as make
 use Rattle.spk_nums.specs.declared.kinds.FrameKind.TheVariants as frame_kind
 use Rattle.spk_nums.specs.declared.replies.Reply.{Reply}
@@ -42,7 +44,8 @@ rule_of s c (Test a b) = test_rule s a b
 abbrev pub are_calls_spent : State → ℕ → Bool
 are_calls_spent s c = nat_le s.limits.calls (s.core c).counted
 
--- A call that is carried out answers its value; `raced` and `busy` are permitted here, and justified elsewhere; any other refusal is its rule's.
+-- A call that is carried out answers its value; `raced` and `busy` are permitted here, and justified elsewhere; any other refusal is its
+-- rule's.
 abbrev pub MayAnswer : State → ℕ → Rule → Reply → Type 0
 MayAnswer s c rule (reply.Ok v) = RuleAnswers s c rule v
 MayAnswer s c rule reply.Raced = Unit {0}

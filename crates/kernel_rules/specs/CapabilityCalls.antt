@@ -6,7 +6,9 @@ use Rattle.spk_nums.specs.declared.calls.Make.{Make}
 use Rattle.spk_nums.specs.declared.calls.Make.TheVariants as make
 use Rattle.spk_nums.specs.declared.replies.Value.TheVariants.{Nothing, Cap}
 use Rattle.spk_nums.specs.declared.replies.Reply.TheVariants as reply
-use Rattle.kernel_rules.specs.State.{Free, Holds, CompFields, Object, Blank, Table, Leaf, Pages, Pleaf, Comp, Thread, Tcap, Frame, Kernel, Liveness, Unused, Live, Dead, Thing, PlaceOf, FrameOf, NumberOf, State, put, with_place, with_frame, with_number}
+use Rattle.kernel_rules.specs.State.{Free, Holds, CompFields, Object, Blank, Table, Leaf, Pages, Pleaf, Comp}
+use Rattle.kernel_rules.specs.State.{Thread, Tcap, Frame, Kernel, Liveness, Unused, Live, Dead, Thing, PlaceOf}
+use Rattle.kernel_rules.specs.State.{FrameOf, NumberOf, State, put, with_place, with_frame, with_number}
 use Rattle.kernel_rules.specs.Start.{plain_cap, no_grace}
 use Rattle.kernel_rules.specs.References.{place_names, frame_names, number_names}
 use Rattle.kernel_rules.specs.Access.{Slot, Named, capability, Under, InRoot, any, only, root}

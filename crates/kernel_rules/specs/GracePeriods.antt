@@ -3,7 +3,8 @@ use Rattle.std.specs.Prelude.{◌≢◌, ◌<◌, ℕ, Bool, true, false, not, �
 use Rattle.std.specs.List.{list_any, range_with_len}
 use Rattle.spk_nums.specs.declared.replies.Reply.{Reply}
 use Rattle.spk_nums.specs.declared.replies.Reply.TheVariants as reply
-use Rattle.kernel_rules.specs.State.{Frame, User, Kernel, Pages, Pleaf, Grace, Thing, PlaceOf, FrameOf, NumberOf, State, put, with_core, with_grace}
+use Rattle.kernel_rules.specs.State.{Frame, User, Kernel, Pages, Pleaf, Grace, Thing, PlaceOf}
+use Rattle.kernel_rules.specs.State.{FrameOf, NumberOf, State, put, with_core, with_grace}
 
 -- Whether two things are one.
 abbrev pub same_thing : Thing → Thing → Bool

@@ -3,7 +3,8 @@ use Rattle.std.specs.Prelude.{ℕ, Bool, false, not, ◌&&◌, ◌==◌, nat_le,
 use Rattle.spk_nums.specs.declared.kinds.Kind.TheVariants as kind
 use Rattle.spk_nums.specs.declared.replies.Value.TheVariants.{Nothing}
 use Rattle.spk_nums.specs.declared.replies.Reply.TheVariants as reply
-use Rattle.kernel_rules.specs.State.{CompFields, ThreadFields, Frame, Kernel, Thread, Liveness, Unused, Live, Dead, Core, NumberOf, State, with_frame, with_number, with_core, comp_in, thread_in, thread_of}
+use Rattle.kernel_rules.specs.State.{CompFields, ThreadFields, Frame, Kernel, Thread, Liveness, Unused, Live, Dead, Core}
+use Rattle.kernel_rules.specs.State.{NumberOf, State, with_frame, with_number, with_core, comp_in, thread_in, thread_of}
 use Rattle.kernel_rules.specs.References.{number_names}
 use Rattle.kernel_rules.specs.Access.{Named, Under, only}
 use Rattle.kernel_rules.specs.Rules.{Change, Cause, When, Rule, Name, Vacant, Does, fills, frames_of}

@@ -1,5 +1,6 @@
 -- The calls on memory: retyping frames, and mapping, touching and flushing pages.
-use Rattle.std.specs.Prelude.{ℕ, Bool, true, false, not, ◌&&◌, ◌==◌, nat_lt, nat_le, if◌then◌else◌, List, [], ◌∷◌, ◌++◌, length, Option, Some, None, is_some, find}
+use Rattle.std.specs.Prelude.{ℕ, Bool, true, false, not, ◌&&◌, ◌==◌, nat_lt, nat_le, if◌then◌else◌}
+use Rattle.std.specs.Prelude.{List, [], ◌∷◌, ◌++◌, length, Option, Some, None, is_some, find}
 use Rattle.std.specs.List.{list_any, range_with_len}
 use Rattle.spk_nums.specs.declared.kinds.Kind.TheVariants as kind
 use Rattle.spk_nums.specs.declared.kinds.FrameKind.{FrameKind}
@@ -9,12 +10,14 @@ use Rattle.spk_nums.specs.declared.translations.Translation.{Translation}
 use Rattle.spk_nums.specs.declared.replies.Value.{Value}
 use Rattle.spk_nums.specs.declared.replies.Value.TheVariants.{Nothing, Page}
 use Rattle.spk_nums.specs.declared.replies.Reply.TheVariants as reply
-use Rattle.kernel_rules.specs.State.{Object, Blank, Comp, Thread, Tcap, Frame, Untyped, User, Kernel, FrameOf, State, with_frame, with_core, with_grace, comp_of}
+use Rattle.kernel_rules.specs.State.{Object, Blank, Comp, Thread, Tcap, Frame, Untyped, User, Kernel}
+use Rattle.kernel_rules.specs.State.{FrameOf, State, with_frame, with_core, with_grace, comp_of}
 use Rattle.kernel_rules.specs.Start.{no_grace}
 use Rattle.kernel_rules.specs.References.{refs, frame_names}
 use Rattle.kernel_rules.specs.Access.{Under, only, held_in}
 use Rattle.kernel_rules.specs.GracePeriods.{same_thing, flushed}
-use Rattle.kernel_rules.specs.Rules.{Change, Cause, When, WaitedFor, Unflushed, Rule, Name, Vacant, Held, Mapped, Does, answers, leaves, fills, frames_of, removes}
+use Rattle.kernel_rules.specs.Rules.{Change, Cause, When, WaitedFor, Unflushed, Rule, Name, Vacant}
+use Rattle.kernel_rules.specs.Rules.{Held, Mapped, Does, answers, leaves, fills, frames_of, removes}
 use Rattle.kernel_rules.specs.CapabilityCalls.{outside, is_frame}
 
 -- Whether a frame is untyped.

@@ -1,7 +1,8 @@
 -- The rule of a call: the capabilities that it names, its target, its own causes of refusal in order, and what it does.
 -- A rule is judged once in the order written, for what is carried out: no cause stands, in the exact sets. It is judged once
 -- more widely, for what may be refused: a refusal may come where its own cause stands, whatever else does.
-use Rattle.std.specs.Prelude.{◌≡◌, ◌⊎◌, ℕ, Bool, nat_lt, nat_le, if◌then◌else◌, List, [], ◌∷◌, Option, Some, None, IsSomeAnd, is_some, IsTrue, IsFalse}
+use Rattle.std.specs.Prelude.{◌≡◌, ◌⊎◌, ℕ, Bool, nat_lt, nat_le, if◌then◌else◌, List, []}
+use Rattle.std.specs.Prelude.{◌∷◌, Option, Some, None, IsSomeAnd, is_some, IsTrue, IsFalse}
 use Rattle.spk_nums.specs.Capability.{Capability}
 use Rattle.spk_nums.specs.declared.kinds.Kind.{Kind}
 use Rattle.spk_nums.specs.declared.replies.Value.{Value}
@@ -10,7 +11,8 @@ use Rattle.spk_nums.specs.declared.replies.Reply.{Reply}
 use Rattle.spk_nums.specs.declared.replies.Reply.TheVariants as reply
 use Rattle.kernel_rules.specs.State.{Place, Free, Holds, Quiescing, Thing, PlaceOf, FrameOf, State, with_place}
 use Rattle.kernel_rules.specs.References.{place_names}
-use Rattle.kernel_rules.specs.Access.{Slot, Named, found, not_found, root_at, Target, Under, place_at, held_in, usable, reached, has_no_slot, root_slot, holds_link, own}
+use Rattle.kernel_rules.specs.Access.{Slot, Named, found, not_found, root_at, Target, Under, place_at}
+use Rattle.kernel_rules.specs.Access.{held_in, usable, reached, has_no_slot, root_slot, holds_link, own}
 use Rattle.kernel_rules.specs.GracePeriods.{lowest, other_waiting, quiescing_by, unflushed_by, MayWait, MayBeUnflushed}
 
 -- What a call does that is carried out: the value that it answers, the state that it leaves but for the grace periods that it

@@ -5,7 +5,8 @@ use Rattle.spk_nums.specs.Setting.{Setting}
 use Rattle.spk_nums.specs.declared.grants.Grant.{Grant}
 use Rattle.spk_nums.specs.declared.kinds.Kind.{Kind}
 use Rattle.spk_nums.specs.declared.kinds.Kind.TheVariants as kind
-use Rattle.kernel_rules.specs.State.{Place, Free, Holds, CompFields, TcapFields, Frame, Untyped, Kernel, Table, Leaf, Pages, Comp, Thread, Tcap, Liveness, Unused, Live, Core, Grace, State}
+use Rattle.kernel_rules.specs.State.{Place, Free, Holds, CompFields, TcapFields, Frame, Untyped, Kernel, Table}
+use Rattle.kernel_rules.specs.State.{Leaf, Pages, Comp, Thread, Tcap, Liveness, Unused, Live, Core, Grace, State}
 
 -- A capability to a frame, without a number of its own.
 abbrev pub plain_cap : Kind → ℕ → Capability

@@ -1,13 +1,15 @@
 -- Who keeps a word without a mark: the core whose current thread has it, or the one whose mark the head carries of the temporal capability
 -- whose list has it. So no word has two keepers, and another word settles to itself where it carries no mark.
-use Rattle.std.proofs.Common.{◌≡◌, ◌≢◌, ◌≤◌, ◌<◌, ◌⊎◌, inl, inr, ℕ, suc, [], ◌∷◌, length, Bool, true, false, Option, Some, None, IsTrue, if◌then◌else◌, arith, refl, sym, ◌∙◌, ap, subst}
+use Rattle.std.proofs.Common.{◌≡◌, ◌≢◌, ◌≤◌, ◌<◌, ◌⊎◌, inl, inr, ℕ, suc, [], ◌∷◌, length, Bool, true, false}
+use Rattle.std.proofs.Common.{Option, Some, None, IsTrue, if◌then◌else◌, arith, refl, sym, ◌∙◌, ap, subst}
 use Rattle.std.proofs.lemmas.Bool.{false≢true, ne_eqb}
 use Rattle.spk_nums.specs.Setting.{Setting, IsSetting}
 use Rattle.spk_nums.specs.declared.calls.Call.{Call}
 use Rattle.word_map.specs.Word.{Word, EntryAt}
 use Rattle.word_map.specs.Moves.{word_of, left_of}
 use Rattle.kernel_rules.specs.Relies.{is_node}
-use Rattle.kernel_rules.specs.State.{Frame, Kernel, Untyped, User, Blank, Table, Leaf, Pages, Pleaf, Comp, Thread, Tcap, TcapFields, thread_in, thread_of, put}
+use Rattle.kernel_rules.specs.State.{Frame, Kernel, Untyped, User, Blank, Table, Leaf, Pages, Pleaf}
+use Rattle.kernel_rules.specs.State.{Comp, Thread, Tcap, TcapFields, thread_in, thread_of, put}
 use Rattle.kernel_rules.proofs.Within.{put_same}
 use Rattle.kernel_history.specs.Trace.{Step, Trace, Open, phase, state_after, last_left}
 use Rattle.kernel_history.specs.Stamps.{is_in}
@@ -209,8 +211,10 @@ module _ (setup : Setting) (setting : IsSetting setup) (cores : ℕ → Core) (t
 
       alike : mark_of (state_after setup (e ∷ t)) (EntryAt f 0) (last_left setup (e ∷ t) (EntryAt f 0))
           ≡ mark_of (state_after setup t) (EntryAt f 0) (last_left setup (e ∷ t) (EntryAt f 0))
-      alike = ap (λ x. mark_in_frame x 0 (last_left setup (e ∷ t) (EntryAt f 0))) (tcap_of ((state_after setup (e ∷ t)).frame f) stays.tcap).is
-          ∙ sym (ap (λ x. mark_in_frame x 0 (last_left setup (e ∷ t) (EntryAt f 0))) (tcap_of ((state_after setup t).frame f) w.tcap.tcap).is)
+      alike = ap (λ x. mark_in_frame x 0 (last_left setup (e ∷ t) (EntryAt f 0)))
+          (tcap_of ((state_after setup (e ∷ t)).frame f) stays.tcap).is
+          ∙ sym (ap (λ x. mark_in_frame x 0 (last_left setup (e ∷ t) (EntryAt f 0)))
+          (tcap_of ((state_after setup t).frame f) w.tcap.tcap).is)
 
       head_left : last_left setup (e ∷ t) (EntryAt f 0) ≡ last_left setup t (EntryAt f 0)
       head_left = elim (cases_word (EntryAt f 0) (word_of e.move)) [
@@ -226,7 +230,8 @@ module _ (setup : Setting) (setting : IsSetting setup) (cores : ℕ → Core) (t
       by (inl w) = of_thread w
       by (inr w) = of_list w
 
--- A word that a core keeps is one of its thread, where its frame is no temporal capability, or where the core has not marked its first word.
+-- A word that a core keeps is one of its thread, where its frame is no temporal capability, or where the core has not marked its first
+-- word.
 pub lent_thread : (setup : Setting) (t : Trace) (d f i : ℕ) → IsLent setup t d f i
     → (IsTrue (is_tcap ((state_after setup t).frame f)) → ⊥) → IsOfThread setup t d f i
 lent_thread setup t d f i has not = by has.word

@@ -1,5 +1,6 @@
 -- What a call knows of two temporal capabilities it knows still after a step that spares their words.
-use Rattle.std.proofs.Common.{◌≡◌, ◌≢◌, ◌⊎◌, inl, inr, ℕ, zero, suc, ◌<◌, ◌≤◌, ◌==◌, ◌&&◌, not, Bool, true, false, IsTrue, IsSome, is_some, if◌then◌else◌, List, Option, Some, None, arith, refl, sym, ◌∙◌, ap, subst, ◌∷◌}
+use Rattle.std.proofs.Common.{◌≡◌, ◌≢◌, ◌⊎◌, inl, inr, ℕ, zero, suc, ◌<◌, ◌≤◌, ◌==◌, ◌&&◌, not, Bool, true, false, IsTrue}
+use Rattle.std.proofs.Common.{IsSome, is_some, if◌then◌else◌, List, Option, Some, None, arith, refl, sym, ◌∙◌, ap, subst, ◌∷◌}
 use Rattle.std.proofs.lemmas.Bool.{cases_eq, eq-eqb, ne_eqb, false≢true}
 use Rattle.spk_nums.specs.Setting.{Setting}
 use Rattle.tcap_words.specs.Head.{word_of_head, head_of_word}
@@ -18,8 +19,10 @@ use Rattle.stage_tcap.specs.Heads.{marked}
 use Rattle.stage_tcap.specs.Lists.{read_word}
 use Rattle.stage_tcap.specs.declared.pair.Pair.{Pair}
 use Rattle.stage_tcap.specs.declared.pair.PairAt.{PairAt}
-use Rattle.stage_tcap.specs.declared.pair.PairAt.TheVariants.{LoadA, MarkA, ListA, LoadB, ListB, CompareB, AgainB, StoreList, StoreB, StoreA}
-use Rattle.core_invariant.specs.Shares.{turns_list, list_changed, MayTurn, TurnsHead, SparesTcap, list_word, read_up, ReadsHead, HasMarkedA, HasSeenB, HasReadB, HasBoth, KnowsPairAt, StoresA}
+use Rattle.stage_tcap.specs.declared.pair.PairAt.TheVariants.{LoadA, MarkA, ListA, LoadB, ListB, CompareB}
+use Rattle.stage_tcap.specs.declared.pair.PairAt.TheVariants.{AgainB, StoreList, StoreB, StoreA}
+use Rattle.core_invariant.specs.Shares.{turns_list, list_changed, MayTurn, TurnsHead, SparesTcap, list_word, read_up}
+use Rattle.core_invariant.specs.Shares.{ReadsHead, HasMarkedA, HasSeenB, HasReadB, HasBoth, KnowsPairAt, StoresA}
 
 -- A list is read alike from words that are alike.
 pub read_alike : (w v : ℕ → ℕ) (n : ℕ) → ((j : ℕ) → w j ≡ v j) → read_up w n ≡ read_up v n

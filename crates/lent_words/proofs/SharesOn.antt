@@ -18,7 +18,8 @@ use Rattle.trace_laws.proofs.Carries.{was_stays}
 use Rattle.stage_tcap.specs.Heads.{marked}
 use Rattle.stage_tcap.specs.declared.pair.Pair.{Pair}
 use Rattle.stage_tcap.specs.declared.pair.PairAt.{PairAt}
-use Rattle.stage_tcap.specs.declared.pair.PairAt.TheVariants.{LoadA, MarkA, ListA, LoadB, ListB, CompareB, AgainB, StoreList, StoreB, StoreA}
+use Rattle.stage_tcap.specs.declared.pair.PairAt.TheVariants.{LoadA, MarkA, ListA, LoadB, ListB, CompareB}
+use Rattle.stage_tcap.specs.declared.pair.PairAt.TheVariants.{AgainB, StoreList, StoreB, StoreA}
 use Rattle.core_invariant.specs.Shares.{SparesTcap, HasTcap, KnowsShare, StoresA, StoresB, KnowsStoresAt, KnowsShared}
 use Rattle.lent_words.proofs.Pairs.{tcap_mark, kept_all, left_same, pair_other, stores_on_a}
 use Rattle.lent_words.proofs.Tcaps.{TcapOf, tcap_of, tcap_stays}

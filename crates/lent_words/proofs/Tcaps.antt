@@ -1,5 +1,6 @@
 -- Each step leaves each temporal capability one, though its budget or its list may change, but for the end of its frame's grace period.
-use Rattle.std.proofs.Common.{◌≡◌, ◌≢◌, ◌⊎◌, ◌<◌, arith, inl, inr, ℕ, ◌-◌, [], ◌∷◌, Bool, true, false, Option, Some, None, refl, sym, ◌∙◌, ap, subst, IsTrue}
+use Rattle.std.proofs.Common.{◌≡◌, ◌≢◌, ◌⊎◌, ◌<◌, arith, inl, inr, ℕ, ◌-◌, [], ◌∷◌, Bool, true}
+use Rattle.std.proofs.Common.{false, Option, Some, None, refl, sym, ◌∙◌, ap, subst, IsTrue}
 use Rattle.std.proofs.lemmas.Bool.{false≢true, eq-eqb}
 use Rattle.spk_nums.specs.Setting.{Setting, IsSetting}
 use Rattle.spk_nums.specs.declared.kinds.Kind.{Kind}
@@ -9,11 +10,14 @@ use Rattle.spk_nums.specs.declared.kinds.FrameKind.TheVariants as frame_kind
 use Rattle.spk_nums.specs.declared.calls.Make.{Make}
 use Rattle.spk_nums.specs.declared.calls.Make.TheVariants as make
 use Rattle.spk_nums.specs.declared.calls.Call.{Call}
-use Rattle.spk_nums.specs.declared.calls.Call.TheVariants.{Look, Copy, Remove, Grow, Shrink, Retype, Make as make_call, Map, Unmap, Touch, Flush, Gate, Kill, Call as call_gate, Ret, Switch, Tick, Transfer, Delegate, Test}
+use Rattle.spk_nums.specs.declared.calls.Call.TheVariants.{Look, Copy, Remove, Grow, Shrink, Retype, Make as make_call}
+use Rattle.spk_nums.specs.declared.calls.Call.TheVariants.{Map, Unmap, Touch, Flush, Gate, Kill, Call as call_gate}
+use Rattle.spk_nums.specs.declared.calls.Call.TheVariants.{Ret, Switch, Tick, Transfer, Delegate, Test}
 use Rattle.spk_nums.specs.declared.translations.Translation.{Translation}
 use Rattle.spk_nums.specs.declared.replies.Reply.{Reply}
 use Rattle.spk_nums.specs.declared.replies.Reply.TheVariants as reply
-use Rattle.kernel_rules.specs.State.{ThreadFields, TcapFields, Object, Blank, Table, Leaf, Pages, Pleaf, Comp, Thread, Tcap, Frame, Untyped, User, Kernel, FrameOf, State, put, comp_of, thread_in}
+use Rattle.kernel_rules.specs.State.{ThreadFields, TcapFields, Object, Blank, Table, Leaf, Pages, Pleaf, Comp, Thread}
+use Rattle.kernel_rules.specs.State.{Tcap, Frame, Untyped, User, Kernel, FrameOf, State, put, comp_of, thread_in}
 use Rattle.kernel_rules.specs.Access.{Named, found}
 use Rattle.kernel_rules.specs.Fitting.{fits}
 use Rattle.kernel_rules.specs.Rules.{Change, Judged, Refused, Found}
@@ -31,7 +35,8 @@ use Rattle.kernel_invariant.proofs.SoundRuns.{opened}
 use Rattle.found_stays.proofs.SparesRuns.{core_same_refs}
 use Rattle.kernel_rules.specs.Relies.{IsGuarded}
 use Rattle.kernel_history.specs.Legal.{MayDecide, MayFollow, IsLegal}
-use Rattle.kernel_history.specs.Trace.{Step, Trace, Phase, Out, Open, phase, after_enter, state_after, state_entered, state_decided, state_returned, state_before}
+use Rattle.kernel_history.specs.Trace.{Step, Trace, Phase, Out, Open, phase, after_enter, state_after}
+use Rattle.kernel_history.specs.Trace.{state_entered, state_decided, state_returned, state_before}
 use Rattle.kernel_history.specs.Trace as history
 use Rattle.kernel_history.specs.Stamps.{is_in}
 use Rattle.kernel_history.proofs.Events.{entered_events}
@@ -65,7 +70,8 @@ with_thread_keeps : (call : Call) (f : ℕ) (x : Frame) (t : ThreadFields) → K
 with_thread_keeps call f (Kernel (Tcap p)) t is = inr is
 with_thread_keeps call f x t is = absurd (false≢true is)
 
-put_keeps : (call : Call) (s : State) (g : ℕ) (y : Frame) → KeepsTcap call g (s.frame g) y → (f : ℕ) → KeepsTcap call f (s.frame f) (put s.frame g y f)
+put_keeps : (call : Call) (s : State) (g : ℕ) (y : Frame) → KeepsTcap call g (s.frame g) y
+    → (f : ℕ) → KeepsTcap call f (s.frame f) (put s.frame g y f)
 put_keeps call s g y h f = put_all (λ f x. KeepsTcap call f (s.frame f) x) s.frame g y f
     (λ same. subst (λ (n : ℕ). KeepsTcap call n (s.frame n) y) (sym same) h) (λ other. keeps_same call f (s.frame f))
 
@@ -84,26 +90,32 @@ node_keeps : (call : Call) (s : State) (o : ℕ → Bool) (d : ℕ) → IsOpen s
 node_keeps call s o d h object k r f t b = λ range e table g at v calm.
     put_keeps call s f (Kernel object) (blank_keeps call f (s.frame f) (Kernel object) (blank_by s o d r f range [] h e calm).1)
 
-make_keeps : (s : State) (o : ℕ → Bool) (d : ℕ) → IsOpen s o d → (what : Make) (r f t b : ℕ) → ChangesFrom (KeepsBy s (make_call what r f t b)) s d (make_rule s what r f t b)
+make_keeps : (s : State) (o : ℕ → Bool) (d : ℕ) → IsOpen s o d → (what : Make) (r f t b : ℕ)
+    → ChangesFrom (KeepsBy s (make_call what r f t b)) s d (make_rule s what r f t b)
 make_keeps s o d h make.Table r f t b = node_keeps (make_call make.Table r f t b) s o d h Table kind.Table r f t b
 make_keeps s o d h make.Leaf r f t b = node_keeps (make_call make.Leaf r f t b) s o d h Leaf kind.Leaf r f t b
 make_keeps s o d h make.Pages r f t b = node_keeps (make_call make.Pages r f t b) s o d h Pages kind.Pages r f t b
 make_keeps s o d h make.Pleaf r f t b = node_keeps (make_call make.Pleaf r f t b) s o d h Pleaf kind.Pleaf r f t b
 make_keeps s o d h (make.Thread comp) r f t b = λ range e table g k j at v calm.
-    put_keeps (make_call (make.Thread comp) r f t b) s f _ (λ is. absurd (false≢true (ap is_tcap (sym (blank_by s o d r f range [] h e calm).1) ∙ is)))
+    put_keeps (make_call (make.Thread comp) r f t b) s f _
+    (λ is. absurd (false≢true (ap is_tcap (sym (blank_by s o d r f range [] h e calm).1) ∙ is)))
 make_keeps s o d h (make.Tcap sched quality) r f t b = λ range e table g at v calm.
-    put_keeps (make_call (make.Tcap sched quality) r f t b) s f _ (λ is. absurd (false≢true (ap is_tcap (sym (blank_by s o d r f range [] h e calm).1) ∙ is)))
+    put_keeps (make_call (make.Tcap sched quality) r f t b) s f _
+    (λ is. absurd (false≢true (ap is_tcap (sym (blank_by s o d r f range [] h e calm).1) ∙ is)))
 make_keeps s o d h (make.Comp x y l) r f t b = λ range e table g own_table a own_pages k at v calm.
     put_keeps (make_call (make.Comp x y l) r f t b) s f _
     (λ is. absurd (false≢true (ap is_tcap (sym (blank_by s o d r f range (not_taken s l) h e calm).1) ∙ is)))
 
-retype_keeps : (s : State) (o : ℕ → Bool) (d : ℕ) → IsOpen s o d → (r f : ℕ) (k : FrameKind) → ChangesFrom (KeepsBy s (Retype r f k)) s d (retype_rule s r f k)
+retype_keeps : (s : State) (o : ℕ → Bool) (d : ℕ) → IsOpen s o d → (r f : ℕ) (k : FrameKind)
+    → ChangesFrom (KeepsBy s (Retype r f k)) s d (retype_rule s r f k)
 retype_keeps s o d h r f frame_kind.Untyped = λ range e calm.
     put_keeps (Retype r f frame_kind.Untyped) s f Untyped (λ is. inl (eq-eqb f f refl))
 retype_keeps s o d h r f frame_kind.User = λ range e calm.
-    put_keeps (Retype r f frame_kind.User) s f User (untyped_keeps (Retype r f frame_kind.User) f (s.frame f) User (untyped_by s o d r f range h e calm).1)
+    put_keeps (Retype r f frame_kind.User) s f User
+    (untyped_keeps (Retype r f frame_kind.User) f (s.frame f) User (untyped_by s o d r f range h e calm).1)
 retype_keeps s o d h r f frame_kind.Kernel = λ range e calm.
-    put_keeps (Retype r f frame_kind.Kernel) s f (Kernel Blank) (untyped_keeps (Retype r f frame_kind.Kernel) f (s.frame f) (Kernel Blank) (untyped_by s o d r f range h e calm).1)
+    put_keeps (Retype r f frame_kind.Kernel) s f (Kernel Blank)
+    (untyped_keeps (Retype r f frame_kind.Kernel) f (s.frame f) (Kernel Blank) (untyped_by s o d r f range h e calm).1)
 
 touch_keeps : (s : State) (d v pages : ℕ) (t : Option Translation) → ChangesFrom (KeepsBy s (Touch v)) s d (touch_by s d pages v t)
 touch_keeps s d v pages None = λ mapping e calm f. keeps_same (Touch v) f (s.frame f)
@@ -144,14 +156,19 @@ rule_keeps s o d opens (Touch v) = touch_keeps s d v (comp_of s d).pages (transl
 rule_keeps s o d opens Flush = λ calm f. keeps_same Flush f (s.frame f)
 rule_keeps s o d opens (Gate k t b) = λ comp e table g at v calm f. keeps_same (Gate k t b) f (s.frame f)
 rule_keeps s o d opens (Kill k) = λ comp e calm f. keeps_same (Kill k) f (s.frame f)
-rule_keeps s o d opens (call_gate g) = λ gate e calm. put_keeps (call_gate g) s (s.core d).thread _ (with_thread_keeps (call_gate g) (s.core d).thread (s.frame (s.core d).thread) _)
-rule_keeps s o d opens Ret = λ calm. put_keeps Ret s (s.core d).thread _ (with_thread_keeps Ret (s.core d).thread (s.frame (s.core d).thread) _)
-rule_keeps s o d opens (Switch b q) = λ thread e tcap g. switch_keeps s d b q (found thread) tcap.frame (thread_in (s.frame thread.frame)).runs_on
-rule_keeps s o d opens (Tick n) = λ calm. put_keeps (Tick n) s (s.core d).tcap _ (with_tcap_keeps (Tick n) (s.core d).tcap (s.frame (s.core d).tcap) _)
+rule_keeps s o d opens (call_gate g) = λ gate e calm.
+    put_keeps (call_gate g) s (s.core d).thread _ (with_thread_keeps (call_gate g) (s.core d).thread (s.frame (s.core d).thread) _)
+rule_keeps s o d opens Ret =
+    λ calm. put_keeps Ret s (s.core d).thread _ (with_thread_keeps Ret (s.core d).thread (s.frame (s.core d).thread) _)
+rule_keeps s o d opens (Switch b q) =
+    λ thread e tcap g. switch_keeps s d b q (found thread) tcap.frame (thread_in (s.frame thread.frame)).runs_on
+rule_keeps s o d opens (Tick n) =
+    λ calm. put_keeps (Tick n) s (s.core d).tcap _ (with_tcap_keeps (Tick n) (s.core d).tcap (s.frame (s.core d).tcap) _)
 rule_keeps s o d opens (Transfer a b m) = λ j e k g calm. moved_keeps (Transfer a b m) s j.frame k.frame m
 rule_keeps s o d opens (Delegate a b m) = λ j e k g calm f.
     keeps_then (Delegate a b m) f (s.frame f) ((moved s j.frame k.frame m).frame f) _ (moved_keeps (Delegate a b m) s j.frame k.frame m f)
-    (put_keeps (Delegate a b m) (moved s j.frame k.frame m) k.frame _ (with_tcap_keeps (Delegate a b m) k.frame ((moved s j.frame k.frame m).frame k.frame) _) f)
+    (put_keeps (Delegate a b m) (moved s j.frame k.frame m) k.frame _
+    (with_tcap_keeps (Delegate a b m) k.frame ((moved s j.frame k.frame m).frame k.frame) _) f)
 rule_keeps s o d opens (Test a b) = λ j e k g calm f. keeps_same (Test a b) f (s.frame f)
 
 found_keeps : (s : State) (call : Call) (x : Judged Change) → IfFound x (KeepsBy s call) → (f : ℕ)
@@ -207,7 +224,8 @@ returned_frame (Some r) s d f = refl
 
 -- A step of another core leaves a temporal capability that this core guards.
 module _ (setup : Setting) (setting : IsSetting setup) (t : Trace) (legal : IsLegal setup t) (e : Step) (follows : MayFollow setup t e)
-    (c : ℕ) (here : c < setup.cores) (other : c ≢ e.core) (inside : is_in (phase t c) ≡ true) (f : ℕ) (has : HasTcap (state_after setup t) c f) where
+    (c : ℕ) (here : c < setup.cores) (other : c ≢ e.core) (inside : is_in (phase t c) ≡ true)
+    (f : ℕ) (has : HasTcap (state_after setup t) c f) where
   abbrev before : State
   before = state_before setup t e
 

@@ -4,7 +4,8 @@ use Rattle.core_invariant.proofs.Bare.{as_none, counts_bare}
 use Rattle.lent_words.proofs.Lent.{lent_elsewhere}
 use Rattle.std.specs.Prelude.{IsSome}
 use Rattle.std.specs.List.{list_any}
-use Rattle.std.proofs.Common.{◌≡◌, ◌≢◌, inl, inr, ℕ, pos, negsuc, ◌+ℤ◌, max, length, ◌+◌, ◌^◌, ◌<◌, ◌≤◌, ◌==◌, ◌||◌, Bool, true, false, if◌then◌else◌, List, [], ◌∷◌, Option, Some, None, IsTrue, arith, refl, sym, ◌∙◌, ap, subst}
+use Rattle.std.proofs.Common.{◌≡◌, ◌≢◌, inl, inr, ℕ, pos, negsuc, ◌+ℤ◌, max, length, ◌+◌, ◌^◌, ◌<◌, ◌≤◌, ◌==◌, ◌||◌, Bool, true}
+use Rattle.std.proofs.Common.{false, if◌then◌else◌, List, [], ◌∷◌, Option, Some, None, IsTrue, arith, refl, sym, ◌∙◌, ap, subst}
 use Rattle.std.proofs.Math.IntN.{pos-+ℤ-pos, +ℤ_assoc, +ℤ_invr, +ℤ_idr}
 use Rattle.std.proofs.lemmas.Bool.{cases_eq, eq-eqb, ne_eqb, false≢true}
 use Rattle.std.proofs.lemmas.List.Elements.{All-nil}
@@ -23,7 +24,8 @@ use Rattle.frame_words.proofs.LiveLemmas as lives
 use Rattle.word_map.specs.Word.{Word, EntryAt, FrameAt, CountAt, CoreAt, FlushAt, LiveAt, ClockAt, same_word}
 use Rattle.word_map.specs.Moves.{Move, AddOf, StoreOf, word_of, told_of}
 use Rattle.word_map.proofs.WordLemmas.{same_same}
-use Rattle.kernel_rules.specs.State.{Liveness, Live, Dead, Thing, PlaceOf, FrameOf, NumberOf, Grace, State, put, comp_in, thread_in, with_number, with_grace}
+use Rattle.kernel_rules.specs.State.{Liveness, Live, Dead, Thing, PlaceOf, FrameOf, NumberOf, Grace}
+use Rattle.kernel_rules.specs.State.{State, put, comp_in, thread_in, with_number, with_grace}
 use Rattle.kernel_rules.specs.Access.{Slot, own}
 use Rattle.kernel_rules.specs.Rules.{Change, Found, IsFoundAnd, frames_of}
 use Rattle.kernel_rules.specs.References.{number_names, times, refs}
@@ -37,7 +39,8 @@ use Rattle.kernel_rules.proofs.Within.{put_same, put_other}
 use Rattle.kernel_history.specs.Footprint.{IsNearIn}
 use Rattle.kernel_history.specs.Justified.{HasReached}
 use Rattle.kernel_history.specs.Marking.{marked_by}
-use Rattle.kernel_history.specs.Stamps.{begins_in as begins_then, ends_in, flushes_in, begins_at, ends_at, flushes_at, stamp, clock, flush_stored}
+use Rattle.kernel_history.specs.Stamps.{begins_in as begins_then, ends_in, flushes_in, begins_at}
+use Rattle.kernel_history.specs.Stamps.{ends_at, flushes_at, stamp, clock, flush_stored}
 use Rattle.kernel_history.specs.Trace.{Step, Trace, Out, Open, WasAt, phase, state_after, state_decided_in, last_left, own_left}
 use Rattle.kernel_history.specs.Ways.{way_to, ways}
 use Rattle.trace_laws.proofs.AloneCalls.{ok_first}
@@ -474,7 +477,8 @@ module _ (setup : Setting) (setting : IsSetting setup) (cores : ℕ → Core) (t
   draw_good = draw_at (drawn_stamp x) drawn
 
 -- The step of a killing.
-pub killing_good : (setup : Setting) → IsSetting setup → (cores : ℕ → Core) (t : Trace) → Invariant setup cores t → (c : ℕ) → c < setup.cores
+pub killing_good : (setup : Setting) → IsSetting setup
+    → (cores : ℕ → Core) (t : Trace) → Invariant setup cores t → (c : ℕ) → c < setup.cores
     → (a : ActiveCall) → (cores c).active ≡ Some a → (f by : ℕ) (at : KillingAt)
     → a.stage ≡ Undecided (Act (kill_act (record { comp = f; core = by; at = at })))
     → KnowsUndecided setup t c (cores c).own.table a (Act (kill_act (record { comp = f; core = by; at = at })))

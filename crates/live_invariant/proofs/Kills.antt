@@ -2,7 +2,8 @@
 -- the number, which is lost to another core or holds it for the call.
 use Rattle.core_invariant.proofs.Bare.{as_none, counts_bare}
 use Rattle.lent_words.proofs.Lent.{may_keep, unlent_value, lent_elsewhere}
-use Rattle.std.proofs.Common.{◌≡◌, ◌≢◌, inl, ℕ, ◌+◌, ◌++◌, ◌^◌, ◌<◌, ◌==◌, map, length, Bool, true, false, if◌then◌else◌, List, [], ◌∷◌, Option, Some, None, IsTrue, arith, refl, sym, ◌∙◌, ap, subst}
+use Rattle.std.proofs.Common.{◌≡◌, ◌≢◌, inl, ℕ, ◌+◌, ◌++◌, ◌^◌, ◌<◌, ◌==◌, map, length, Bool, true, false, if◌then◌else◌}
+use Rattle.std.proofs.Common.{List, [], ◌∷◌, Option, Some, None, IsTrue, arith, refl, sym, ◌∙◌, ap, subst}
 use Rattle.std.proofs.lemmas.Bool.{eqb-true, eqb-false, eq-eqb, false≢true}
 use Rattle.spk_nums.specs.Setting.{Setting, IsSetting}
 use Rattle.spk_nums.specs.WordSteps.{left_if}

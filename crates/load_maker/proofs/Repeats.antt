@@ -1,5 +1,6 @@
 -- Numbers that are drawn, and things drawn one after another.
-use Rattle.std.proofs.Common.{◌≡◌, ℕ, zero, suc, ◌+◌, ◌*◌, ◌/◌, ◌%◌, ◌^◌, ◌<◌, List, [], ◌∷◌, ◌++◌, length, All, refl, sym, ap, ◌∙◌, arith, append_assoc}
+use Rattle.std.proofs.Common.{◌≡◌, ℕ, zero, suc, ◌+◌, ◌*◌, ◌/◌, ◌%◌, ◌^◌, ◌<◌, List, [], ◌∷◌}
+use Rattle.std.proofs.Common.{◌++◌, length, All, refl, sym, ap, ◌∙◌, arith, append_assoc}
 use Rattle.std.proofs.Math.Nat.{add-mul-mod_self_left, div-add-mod}
 use Rattle.std.proofs.lemmas.Nat.{mod_below}
 use Rattle.std.proofs.lemmas.List.{append-nil}
@@ -19,7 +20,8 @@ unfolding below
 below_range m x some = mod_below (behind x / 2 ^ 33) m some
 
 -- one more is drawn after those drawn
-repeated_suc : {A : Type 0} (n : ℕ) (d : Draw A) (x : ℕ) → repeated (suc n) d x ≡ ((repeated n d x).0 ++ (d (repeated n d x).1).0 ∷ [], (d (repeated n d x).1).1)
+repeated_suc : {A : Type 0} (n : ℕ) (d : Draw A) (x : ℕ)
+    → repeated (suc n) d x ≡ ((repeated n d x).0 ++ (d (repeated n d x).1).0 ∷ [], (d (repeated n d x).1).1)
 unfolding repeated
 repeated_suc zero d x = refl
 repeated_suc (suc n) d x = ap (λ p. ((d x).0 ∷ p.0, p.1)) (repeated_suc n d (d x).1)
@@ -33,7 +35,8 @@ pub drawn_none : {A : Type 0} (d : Draw A) (first : List A) (from : ℕ) → Dra
 unfolding repeated
 drawn_none d first from = record { all = sym (append-nil first); goes_on = refl }
 
-pub drawn_more : {A : Type 0} (d : Draw A) (first : List A) (from n : ℕ) (items : List A) (at : ℕ) (one : A) (next : ℕ) → Drawn d first from n items at → one ≡ (d at).0 → next ≡ (d at).1 →
+pub drawn_more : {A : Type 0} (d : Draw A) (first : List A) (from n : ℕ) (items : List A) (at : ℕ) (one : A) (next : ℕ)
+    → Drawn d first from n items at → one ≡ (d at).0 → next ≡ (d at).1 →
     Drawn d first from (n + 1) (items ++ one ∷ []) next
 drawn_more d first from n items at one next h is goes =
     let more : n + 1 ≡ suc n = omega arith in

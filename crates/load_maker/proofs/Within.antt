@@ -17,7 +17,9 @@ use Rattle.script_printer.specs.Law.{IsMakeWithin, IsCallWithin, IsWithin, most_
 use Rattle.script_printer.proofs.LineCounts.{few_lines}
 use Rattle.script_printer.proofs.PrintedLines.{printed_read}
 use Rattle.load_maker.specs.Draws.{Draw, below, done}
-use Rattle.load_maker.specs.Loads.{a_slot, a_frame, a_tcap, a_look, a_copy, a_remove, a_retype, a_make, a_map, an_unmap, a_touch, a_tick, a_transfer, a_test, a_call, call_numbered, the_grant, the_setup, first_calls, drawn_calls, drawn_lists, an_item, first_items, drawn_items, script_made, load_text}
+use Rattle.load_maker.specs.Loads.{a_slot, a_frame, a_tcap, a_look, a_copy, a_remove, a_retype, a_make, a_map, an_unmap, a_touch}
+use Rattle.load_maker.specs.Loads.{a_tick, a_transfer, a_test, a_call, call_numbered, the_grant, the_setup, first_calls}
+use Rattle.load_maker.specs.Loads.{drawn_calls, drawn_lists, an_item, first_items, drawn_items, script_made, load_text}
 use Rattle.load_maker.specs.Accepted.{IsAccepted}
 use Rattle.load_maker.proofs.Repeats.{below_range, repeated_all, repeated_length}
 
@@ -56,8 +58,13 @@ make_in x = (tt, omega arith, frame_small x, omega arith, slot_small (a_frame x)
 
 map_in : Draws_within a_map
 map_in x =
-    let y = (below 64 x).1 in
-    (omega arith, small 64 x 65535 (omega arith) (omega arith), omega arith, frame_small y, (let flags = below_range 4 (a_frame y).1 (omega arith) in omega arith))
+    let y = (below 64 x).1 in (
+      omega arith,
+      small 64 x 65535 (omega arith) (omega arith),
+      omega arith,
+      frame_small y,
+      (let flags = below_range 4 (a_frame y).1 (omega arith) in omega arith),
+    )
 
 unmap_in : Draws_within an_unmap
 unmap_in x = (omega arith, small 64 x 65535 (omega arith) (omega arith))
@@ -78,9 +85,13 @@ test_in x = (tcap_small x, tcap_small (a_tcap x).1)
 
 numbered_in : (n : ℕ) → Draws_within (call_numbered n)
 numbered_in n =
-    let draws : List (Draw Call) = a_look ∷ a_copy ∷ a_remove ∷ a_retype ∷ a_make ∷ a_map ∷ an_unmap ∷ a_touch ∷ a_tick ∷ a_transfer ∷ done Flush ∷ [] in
+    let draws : List (Draw Call) = a_look ∷ a_copy ∷ a_remove ∷ a_retype ∷ a_make
+    ∷ a_map ∷ an_unmap ∷ a_touch ∷ a_tick ∷ a_transfer ∷ done Flush ∷ [] in
     let all : All Draws_within draws =
-    All-from_recursion Draws_within draws (look_in, (copy_in, (remove_in, (retype_in, (make_in, (map_in, (unmap_in, (touch_in, (tick_in, (transfer_in, ((λ x. tt), tt))))))))))) in
+    All-from_recursion Draws_within draws (
+      look_in,
+      (copy_in, (remove_in, (retype_in, (make_in, (map_in, (unmap_in, (touch_in, (tick_in, (transfer_in, ((λ x. tt), tt)))))))))),
+    ) in
     elim (cases_lt n (length draws)) [
       | inl h ↦ All-get_or Draws_within draws n a_test h all
       | inr past ↦ subst Draws_within (sym (get_or_past draws n a_test past)) test_in
@@ -115,13 +126,19 @@ unfolding drawn_calls
 calls_length x = repeated_length a_call 500 x
 
 first_in : All IsCallWithin first_calls
-first_in = All-from_recursion IsCallWithin first_calls ((omega arith, omega arith), ((tt, omega arith, omega arith, omega arith, omega arith), ((omega arith, omega arith, omega arith), tt)))
+first_in = All-from_recursion IsCallWithin first_calls (
+  (omega arith, omega arith),
+  ((tt, omega arith, omega arith, omega arith, omega arith), ((omega arith, omega arith, omega arith), tt)),
+)
 
 lists_in : (x : ℕ) → All (All IsCallWithin) (drawn_lists x).0
 lists_in x =
     let y = (drawn_calls x).1 in
     let z = (drawn_calls y).1 in
-    All-from_recursion (All IsCallWithin) (drawn_lists x).0 (All-append IsCallWithin first_calls (drawn_calls x).0 first_in (calls_in x), (calls_in y, (calls_in z, (calls_in (drawn_calls z).1, tt))))
+    All-from_recursion (All IsCallWithin) (drawn_lists x).0 (
+      All-append IsCallWithin first_calls (drawn_calls x).0 first_in (calls_in x),
+      (calls_in y, (calls_in z, (calls_in (drawn_calls z).1, tt))),
+    )
 
 -- ---- the order
 
@@ -141,7 +158,8 @@ unfolding drawn_items
 items_length x = repeated_length an_item 6000 x
 
 order_in : (x : ℕ) → BelowCores 4 (first_items ++ (drawn_items x).0)
-order_in x = All-append Is_below first_items (drawn_items x).0 (All-from_recursion Is_below first_items (omega arith, (omega arith, (omega arith, tt)))) (items_in x)
+order_in x = All-append Is_below first_items (drawn_items x).0
+    (All-from_recursion Is_below first_items (omega arith, (omega arith, (omega arith, tt)))) (items_in x)
 
 -- ---- the script
 

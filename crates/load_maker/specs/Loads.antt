@@ -4,7 +4,8 @@ use Rattle.spk_nums.specs.declared.kinds.FrameKind.{FrameKind}
 use Rattle.spk_nums.specs.declared.kinds.FrameKind.TheVariants.{Untyped, User, Kernel}
 use Rattle.spk_nums.specs.declared.calls.Make.TheVariants.{Leaf, Pleaf}
 use Rattle.spk_nums.specs.declared.calls.Call.{Call}
-use Rattle.spk_nums.specs.declared.calls.Call.TheVariants.{Look, Copy, Remove, Grow, Retype, Make as make_call, Map, Unmap, Touch, Flush, Tick, Transfer, Test}
+use Rattle.spk_nums.specs.declared.calls.Call.TheVariants.{Look, Copy, Remove, Grow, Retype, Make as make_call}
+use Rattle.spk_nums.specs.declared.calls.Call.TheVariants.{Map, Unmap, Touch, Flush, Tick, Transfer, Test}
 use Rattle.spk_nums.specs.declared.grants.Grant.{Grant}
 use Rattle.spk_nums.specs.declared.steps.How.{How}
 use Rattle.spk_nums.specs.declared.steps.How.TheVariants.{One, Ready, Decide, Return}
@@ -103,7 +104,8 @@ a_test = do
 
 -- the calls, by number from 0 on
 abbrev pub call_numbered : ℕ → Draw Call
-call_numbered n = slice_index_or (a_look ∷ a_copy ∷ a_remove ∷ a_retype ∷ a_make ∷ a_map ∷ an_unmap ∷ a_touch ∷ a_tick ∷ a_transfer ∷ done Flush ∷ []) n a_test
+call_numbered n = slice_index_or
+    (a_look ∷ a_copy ∷ a_remove ∷ a_retype ∷ a_make ∷ a_map ∷ an_unmap ∷ a_touch ∷ a_tick ∷ a_transfer ∷ done Flush ∷ []) n a_test
 
 -- a call: its number is drawn first
 unfoldable pub a_call : Draw Call

@@ -2,7 +2,8 @@
 
 ghost use Rattle.std.specs.Prelude.{◌≡◌};
 ghost use Rattle.load_maker.specs.Draws.{below};
-ghost use Rattle.load_maker.specs.Loads.{a_call, a_copy, a_frame, a_look, a_make, a_map, a_remove, a_retype, a_slot, a_tcap, a_test, a_tick, a_touch, a_transfer, an_unmap, call_numbered, kind_numbered};
+ghost use Rattle.load_maker.specs.Loads.{a_call, a_copy, a_frame, a_look, a_make, a_map, a_remove, a_retype, a_slot, a_tcap};
+ghost use Rattle.load_maker.specs.Loads.{a_test, a_tick, a_touch, a_transfer, an_unmap, call_numbered, kind_numbered};
 
 use crate::draws::Draws;
 use spk_nums::{Call, CapId, FrameArg, FrameKind, Make, PageFlags, PageNo};

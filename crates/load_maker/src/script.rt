@@ -2,7 +2,8 @@
 
 ghost use Rattle.std.specs.Prelude.{◌≡◌, ◌<◌, [], ◌∷◌, ◌++◌, length, IfOk, OnOk, string_bytes};
 ghost use Rattle.script_reader.specs.Readings.{lists_of, script_of, script_view, IsScript};
-ghost use Rattle.load_maker.specs.Loads.{the_grant, the_setup, first_calls, whole_call, first_items, drawn_calls, drawn_lists, an_item, drawn_items, how_numbered, script_made, load_text};
+ghost use Rattle.load_maker.specs.Loads.{the_grant, the_setup, first_calls, whole_call, first_items, drawn_calls};
+ghost use Rattle.load_maker.specs.Loads.{drawn_lists, an_item, drawn_items, how_numbered, script_made, load_text};
 
 use crate::calls::draw_call;
 use crate::draws::Draws;

@@ -2,13 +2,19 @@
 use Rattle.std.proofs.Common.{◌≡◌, ℕ, ◌<◌, List, [], ◌∷◌, refl, sym, ap, ◌∙◌, arith, slice_index_or}
 use Rattle.std.specs.Prelude.{codes}
 use Rattle.spk_nums.specs.declared.replies.Reply.{Reply}
-use Rattle.spk_nums.specs.declared.replies.Reply.TheVariants.{Ok as ok_reply, NoSlot, Empty, WrongCap, Occupied, Quiescing, Unflushed, FrameKind as wrong_frame, OutOfRange, Referenced, NotEmpty, Dead, Deep, Bottom, Running, Short, Unlike, TooMany, Same, EpochsSpent, Raced, Busy, Fault, CallsSpent}
+use Rattle.spk_nums.specs.declared.replies.Reply.TheVariants.{Ok as ok_reply, NoSlot, Empty, WrongCap, Occupied, Quiescing}
+use Rattle.spk_nums.specs.declared.replies.Reply.TheVariants.{Unflushed, FrameKind as wrong_frame, OutOfRange, Referenced}
+use Rattle.spk_nums.specs.declared.replies.Reply.TheVariants.{NotEmpty, Dead, Deep, Bottom, Running, Short, Unlike}
+use Rattle.spk_nums.specs.declared.replies.Reply.TheVariants.{TooMany, Same, EpochsSpent, Raced, Busy, Fault, CallsSpent}
 use Rattle.spk_nums.specs.Names.{reply_code, reply_word}
 use Rattle.load_summary.specs.Summaries.{IsCounted}
 
 -- the words of the numbers, from 0 on
 unfoldable word_numbered : ℕ → List ℕ
-word_numbered n = slice_index_or (codes "ok" ∷ codes "no-slot" ∷ codes "empty" ∷ codes "wrong-cap" ∷ codes "occupied" ∷ codes "quiescing" ∷ codes "unflushed" ∷ codes "frame-kind" ∷ codes "out-of-range" ∷ codes "referenced" ∷ codes "not-empty" ∷ codes "dead" ∷ codes "deep" ∷ codes "bottom" ∷ codes "running" ∷ codes "short" ∷ codes "unlike" ∷ codes "too-many" ∷ codes "same" ∷ codes "epochs-spent" ∷ codes "raced" ∷ codes "busy" ∷ codes "fault" ∷ codes "calls-spent" ∷ []) n []
+word_numbered n = slice_index_or (codes "ok" ∷ codes "no-slot" ∷ codes "empty" ∷ codes "wrong-cap" ∷ codes "occupied" ∷ codes "quiescing"
+    ∷ codes "unflushed" ∷ codes "frame-kind" ∷ codes "out-of-range" ∷ codes "referenced" ∷ codes "not-empty" ∷ codes "dead" ∷ codes "deep"
+    ∷ codes "bottom" ∷ codes "running" ∷ codes "short" ∷ codes "unlike" ∷ codes "too-many" ∷ codes "same"
+    ∷ codes "epochs-spent" ∷ codes "raced" ∷ codes "busy" ∷ codes "fault" ∷ codes "calls-spent" ∷ []) n []
 
 numbered : (r : Reply) → reply_word r ≡ word_numbered (reply_code r)
 unfolding word_numbered

@@ -1,5 +1,6 @@
 -- Decisions of one number, counted one after another.
-use Rattle.std.proofs.Common.{◌≡◌, ℕ, ◌+◌, ◌<◌, ◌≤◌, Bool, true, false, cond, eqb, List, [], ◌∷◌, ◌++◌, length, get_or, take, sym, ap, subst, ◌∙◌, arith, length-append}
+use Rattle.std.proofs.Common.{◌≡◌, ℕ, ◌+◌, ◌<◌, ◌≤◌, Bool, true, false, cond, eqb, List, [], ◌∷◌}
+use Rattle.std.proofs.Common.{◌++◌, length, get_or, take, sym, ap, subst, ◌∙◌, arith, length-append}
 use Rattle.std.proofs.lemmas.Bool.{eq-eqb, ne_eqb}
 use Rattle.std.proofs.lemmas.List.{append-nil}
 use Rattle.std.proofs.lemmas.List.Elements.{filter_more}
@@ -13,12 +14,14 @@ Tally name count [] = count ≡ 0
 Tally name count (d ∷ ds) = (name ≡ reply_word d.reply) × (count ≡ 1 + length ds)
 
 -- the first
-pub tally_first : (name name' : List ℕ) (count : ℕ) (ds : List Decision) (d : Decision) → Tally name count ds → count ≡ 0 → name' ≡ reply_word d.reply → Tally name' (count + 1) (ds ++ d ∷ [])
+pub tally_first : (name name' : List ℕ) (count : ℕ) (ds : List Decision) (d : Decision)
+    → Tally name count ds → count ≡ 0 → name' ≡ reply_word d.reply → Tally name' (count + 1) (ds ++ d ∷ [])
 tally_first name name' count [] d h none is = (is, omega arith)
 tally_first name name' count (e ∷ ds) d h none is = let some : count ≡ 1 + length ds = h.1 in absurd (omega arith)
 
 -- one more
-pub tally_more : (name name' : List ℕ) (count : ℕ) (ds : List Decision) (d : Decision) → Tally name count ds → (count ≡ 0 → ⊥) → name' ≡ name → Tally name' (count + 1) (ds ++ d ∷ [])
+pub tally_more : (name name' : List ℕ) (count : ℕ) (ds : List Decision) (d : Decision)
+    → Tally name count ds → (count ≡ 0 → ⊥) → name' ≡ name → Tally name' (count + 1) (ds ++ d ∷ [])
 tally_more name name' count [] d h some is = absurd (some h)
 tally_more name name' count (e ∷ ds) d h some is = (is ∙ h.0, omega (arith, h.1, length-append ds (d ∷ [])))
 
@@ -41,21 +44,28 @@ pub record Tallied (n : ℕ) (xs : List Decision) (i : ℕ) (name : List ℕ) (c
   pub tally : Tally name count (with_number n (take i xs))
   pub most : count ≤ i
 
-module _ (n : ℕ) (xs : List Decision) (i : ℕ) (d : Decision) (here : i < length xs) (is : d ≡ get_or xs i d) (name : List ℕ) (count : ℕ) (so_far : Tallied n xs i name count) where
-  pub tallied_first : (name' : List ℕ) (count' : ℕ) → reply_code d.reply ≡ n → count ≡ 0 → name' ≡ reply_word d.reply → count' ≡ count + 1 → Tallied n xs (i + 1) name' count'
+module _ (n : ℕ) (xs : List Decision) (i : ℕ) (d : Decision) (here : i < length xs)
+    (is : d ≡ get_or xs i d) (name : List ℕ) (count : ℕ) (so_far : Tallied n xs i name count) where
+  pub tallied_first : (name' : List ℕ) (count' : ℕ) → reply_code d.reply ≡ n → count ≡ 0
+      → name' ≡ reply_word d.reply → count' ≡ count + 1 → Tallied n xs (i + 1) name' count'
   tallied_first name' count' e none same more = record {
-    tally = subst (λ k. Tally name' k (with_number n (take (i + 1) xs))) (sym more) (subst (Tally name' (count + 1)) (sym (step_yes n xs i d here is e)) (tally_first name name' count _ d so_far.tally none same));
+    tally = subst (λ k. Tally name' k (with_number n (take (i + 1) xs))) (sym more)
+        (subst (Tally name' (count + 1)) (sym (step_yes n xs i d here is e)) (tally_first name name' count _ d so_far.tally none same));
     most = omega (arith, so_far.most);
   }
 
-  pub tallied_more : (name' : List ℕ) (count' : ℕ) → reply_code d.reply ≡ n → (count ≡ 0 → ⊥) → name' ≡ name → count' ≡ count + 1 → Tallied n xs (i + 1) name' count'
+  pub tallied_more : (name' : List ℕ) (count' : ℕ) → reply_code d.reply ≡ n
+      → (count ≡ 0 → ⊥) → name' ≡ name → count' ≡ count + 1 → Tallied n xs (i + 1) name' count'
   tallied_more name' count' e some same more = record {
-    tally = subst (λ k. Tally name' k (with_number n (take (i + 1) xs))) (sym more) (subst (Tally name' (count + 1)) (sym (step_yes n xs i d here is e)) (tally_more name name' count _ d so_far.tally some same));
+    tally = subst (λ k. Tally name' k (with_number n (take (i + 1) xs))) (sym more)
+        (subst (Tally name' (count + 1)) (sym (step_yes n xs i d here is e)) (tally_more name name' count _ d so_far.tally some same));
     most = omega (arith, so_far.most);
   }
 
-  pub tallied_other : (name' : List ℕ) (count' : ℕ) → (reply_code d.reply ≡ n → ⊥) → name' ≡ name → count' ≡ count → Tallied n xs (i + 1) name' count'
+  pub tallied_other : (name' : List ℕ) (count' : ℕ) → (reply_code d.reply ≡ n → ⊥)
+      → name' ≡ name → count' ≡ count → Tallied n xs (i + 1) name' count'
   tallied_other name' count' e same kept = record {
-    tally = subst (λ k. Tally name' k (with_number n (take (i + 1) xs))) (sym kept) (subst (λ w. Tally w count (with_number n (take (i + 1) xs))) (sym same) (subst (Tally name count) (sym (step_no n xs i d here is e)) so_far.tally));
+    tally = subst (λ k. Tally name' k (with_number n (take (i + 1) xs))) (sym kept) (subst (λ w. Tally w count
+        (with_number n (take (i + 1) xs))) (sym same) (subst (Tally name count) (sym (step_no n xs i d here is e)) so_far.tally));
     most = omega (arith, so_far.most);
   }

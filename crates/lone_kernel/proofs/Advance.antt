@@ -1,5 +1,6 @@
 -- A machine that stands for a trace stands, after a step, for the trace with that step.
-use Rattle.std.proofs.Common.{◌≡◌, ◌≢◌, inl, inr, ℕ, ◌+◌, ◌<◌, ◌≤◌, ◌++◌, List, [], ◌∷◌, length, take, get_or, Option, Some, None, arith, refl, sym, ◌∙◌, ap, subst, get_or-set_same, get_or-set_other}
+use Rattle.std.proofs.Common.{◌≡◌, ◌≢◌, inl, inr, ℕ, ◌+◌, ◌<◌, ◌≤◌, ◌++◌, List, [], ◌∷◌, length, take, get_or, Option}
+use Rattle.std.proofs.Common.{Some, None, arith, refl, sym, ◌∙◌, ap, subst, get_or-set_same, get_or-set_other}
 use Rattle.std.specs.Prelude.{option_to_list, option_map, IsSome}
 use Rattle.std.proofs.lemmas.Bool.{cases_eq}
 use Rattle.std.proofs.lemmas.List.{append-nil, length-take-le, take_more, take_all}
@@ -26,7 +27,8 @@ use Rattle.flight.proofs.Spelling.{moves_are_words}
 use Rattle.call_stages.specs.declared.stages.ActiveCall.{ActiveCall}
 use Rattle.lone_kernel.specs.declared.seats.Turn.{Turn}
 use Rattle.lone_kernel.specs.declared.seats.Turn.TheVariants.{Begins, GoesOn}
-use Rattle.lone_kernel.specs.Machine.{Machine, seat_at, core_at, list_at, turn_if, turn_at, IsFinished, IsFit, CanTake, enters_as, core_in, begun_by, place_next, found_by, stepped, step_in}
+use Rattle.lone_kernel.specs.Machine.{Machine, seat_at, core_at, list_at, turn_if, turn_at, IsFinished, IsFit}
+use Rattle.lone_kernel.specs.Machine.{CanTake, enters_as, core_in, begun_by, place_next, found_by, stepped, step_in}
 use Rattle.lone_kernel.specs.Stands.{StandsFor}
 use Rattle.lone_kernel.specs.Moves.{calls_begun, GoesFurther, MovesTo, StaysIdle, StepsOnce}
 use Rattle.lone_kernel.proofs.Fits.{IsOf, is_of, seat_same, seat_there}

@@ -1,5 +1,6 @@
 -- A machine that has just booted is fit, and stands for the empty trace.
-use Rattle.std.proofs.Common.{◌≡◌, inl, inr, ℕ, ◌+◌, ◌*◌, ◌<◌, ◌≤◌, ◌^◌, ◌++◌, List, [], ◌∷◌, length, get_or, map, suc, take, fold, arith, refl, sym, ◌∙◌, ap, subst, sum_by, Bool, true, false}
+use Rattle.std.proofs.Common.{◌≡◌, inl, inr, ℕ, ◌+◌, ◌*◌, ◌<◌, ◌≤◌, ◌^◌, ◌++◌, List, [], ◌∷◌, length, get_or}
+use Rattle.std.proofs.Common.{map, suc, take, fold, arith, refl, sym, ◌∙◌, ap, subst, sum_by, Bool, true, false}
 use Rattle.std.specs.Prelude.{Some, None, Option}
 use Rattle.std.proofs.lemmas.Bool.{cases_eq, cases_lt}
 use Rattle.std.proofs.lemmas.List.{length-map, length-append, get_or-map, get_or_push, get_or_past, get_or_append_left}

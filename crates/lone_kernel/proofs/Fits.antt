@@ -1,5 +1,6 @@
 -- A machine that fits still does after a step, and has less to do.
-use Rattle.std.proofs.Common.{◌≡◌, ◌≢◌, inl, inr, ℕ, ◌+◌, ◌<◌, ◌≤◌, List, [], length, get_or, Option, Some, None, arith, refl, sym, ◌∙◌, ap, subst, false, get_or-set_same, get_or-set_other}
+use Rattle.std.proofs.Common.{◌≡◌, ◌≢◌, inl, inr, ℕ, ◌+◌, ◌<◌, ◌≤◌, List, [], length, get_or, Option, Some}
+use Rattle.std.proofs.Common.{None, arith, refl, sym, ◌∙◌, ap, subst, false, get_or-set_same, get_or-set_other}
 use Rattle.std.specs.Prelude.{slice_set, sum_by, All, option_map, IsSome}
 use Rattle.std.proofs.lemmas.Bool.{cases_eq}
 use Rattle.std.proofs.lemmas.List.{length-set}
@@ -23,7 +24,8 @@ use Rattle.lone_kernel.specs.declared.seats.Seat.{Seat}
 use Rattle.lone_kernel.specs.declared.seats.Turn.{Turn}
 use Rattle.lone_kernel.specs.declared.seats.Turn.TheVariants.{Begins, GoesOn}
 use Rattle.flight.specs.Decided.{is_decided_at, is_decided_in, Turns}
-use Rattle.lone_kernel.specs.Machine.{Machine, seat_at, core_at, list_at, fresh_seat, turn_if, turn_of, turn_at, due_at, due_in, IsFitSeat, IsFit, CanTake, core_in, begun_by, decisions_in, said_by, seat_after, found_by, stepped}
+use Rattle.lone_kernel.specs.Machine.{Machine, seat_at, core_at, list_at, fresh_seat, turn_if, turn_of, turn_at, due_at, due_in}
+use Rattle.lone_kernel.specs.Machine.{IsFitSeat, IsFit, CanTake, core_in, begun_by, decisions_in, said_by, seat_after, found_by, stepped}
 use Rattle.lone_kernel.specs.Moves.{calls_begun, GoesFurther}
 use Rattle.flight.proofs.Phases.{took_turns}
 use Rattle.lone_kernel.proofs.Small.{steps_small}

@@ -20,7 +20,8 @@ use Rattle.core_invariant.specs.Events.{decided_in}
 use Rattle.call_stages.specs.declared.stages.Absorbed.{Absorbed}
 use Rattle.lone_kernel.specs.declared.seats.Seat.{Seat}
 use Rattle.lone_kernel.specs.declared.seats.Turn.{Turn}
-use Rattle.lone_kernel.specs.Machine.{Machine, fresh_seat, seat_at, core_at, list_at, turn_of, turn_at, IsFit, IsFitSeat, core_in, begun_by, decisions_in, place_next, words_after, said_by, seat_after, found_by, stepped, MakesTurn, TakesTurn}
+use Rattle.lone_kernel.specs.Machine.{Machine, fresh_seat, seat_at, core_at, list_at, turn_of, turn_at, IsFit, IsFitSeat, core_in, begun_by}
+use Rattle.lone_kernel.specs.Machine.{decisions_in, place_next, words_after, said_by, seat_after, found_by, stepped, MakesTurn, TakesTurn}
 
 pub makes_turn : (shape : Shape) (seat seat' : Seat) (before after : List ℕ) (said : Absorbed) (op : WordOp) (found told due : ℕ) →
     op ≡ op_of shape (move_of seat.state) → found ≡ get_or before (place_in op) 0

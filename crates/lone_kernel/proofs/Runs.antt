@@ -1,5 +1,6 @@
 -- Moves: steps of one core, one after another, until it is there.
-use Rattle.std.proofs.Common.{◌≡◌, ◌≢◌, ◌⊎◌, inl, inr, ℕ, ◌-◌, ◌<◌, ◌≤◌, ◌++◌, [], ◌∷◌, length, get_or, arith, refl, sym, ◌∙◌, ap, subst, true, false, Bool}
+use Rattle.std.proofs.Common.{◌≡◌, ◌≢◌, ◌⊎◌, inl, inr, ℕ, ◌-◌, ◌<◌, ◌≤◌, ◌++◌, [], ◌∷◌, length}
+use Rattle.std.proofs.Common.{get_or, arith, refl, sym, ◌∙◌, ap, subst, true, false, Bool}
 use Rattle.std.specs.Prelude.{Option, Some, None, IsSome, IsTrue, IsFalse, option_map}
 use Rattle.std.proofs.lemmas.List.{length-take-le}
 use Rattle.std.proofs.lemmas.List.Elements.{All-cons, All-nil}

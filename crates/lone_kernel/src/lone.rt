@@ -8,7 +8,8 @@
 //! a word.
 //!
 //! **Decisions.** A step that decides a call notes the reply at once, so the decisions are in the order of the trace.
-ghost use Rattle.std.specs.Prelude.{◌≡◌, ◌≢◌, ◌↔◌, false, IsSome, None, Some, [], ℕ, ◌+◌, ◌<◌, ◌≤◌, ◌^◌, ◌++◌, IsTrue, All, IfOk, map, sum_by, length, slice_index, slice_set, vec_len, vec_capacity};
+ghost use Rattle.std.specs.Prelude.{◌≡◌, ◌≢◌, ◌↔◌, false, IsSome, None, Some, [], ℕ, ◌+◌, ◌<◌, ◌≤◌, ◌^◌, ◌++◌, IsTrue};
+ghost use Rattle.std.specs.Prelude.{All, IfOk, map, sum_by, length, slice_index, slice_set, vec_len, vec_capacity};
 ghost use Rattle.spk_nums.specs.WordSteps.{place_in, left_by, told_by};
 ghost use Rattle.word_map.specs.Places.{size_of, place_of, shared};
 ghost use Rattle.kernel_history.specs.Trace.{Trace, state_after, decision_at};
@@ -20,13 +21,15 @@ ghost use Rattle.call_stages.specs.Cores.{end_of};
 ghost use Rattle.core_invariant.specs.Events.{decided_in};
 ghost use Rattle.spk_nums.specs.declared.steps.How.TheVariants.{One, Ready, Decide, Return};
 ghost use Rattle.flight.specs.Decided.{is_decided_in};
-ghost use Rattle.lone_kernel.specs.Machine.{IsFitSeat, turn_of, begun_by, core_in, said_by, CanTake, MakesTurn, TakesTurn, seat_after, words_after, place_next, decisions_in, IsFinished, IsInCall, HasDecided, IsReady, IsThere, IsDone, list_at, seat_at, core_at, AreLists, AreFresh};
+ghost use Rattle.lone_kernel.specs.Machine.{IsFitSeat, turn_of, begun_by, core_in, said_by, CanTake, MakesTurn, TakesTurn};
+ghost use Rattle.lone_kernel.specs.Machine.{seat_after, words_after, place_next, decisions_in, IsFinished, IsInCall, HasDecided};
+ghost use Rattle.lone_kernel.specs.Machine.{IsReady, IsThere, IsDone, list_at, seat_at, core_at, AreLists, AreFresh};
 ghost use Rattle.lone_kernel.specs.Stands.{StandsFor};
 ghost use Rattle.lone_kernel.specs.Moves.{MovesBy, StepsOnce, GoesBy, GoesFurther, calls_left};
 
 use crate::seats::{Seat, Turn};
-use call_steps::{Absorbed, CoreState};
 use boot_words::boot_words;
+use call_steps::{Absorbed, CoreState};
 use spk_nums::{Call, CoreEnd, CoreNo, Decision, How, Memory, Setup, WordOp};
 use std::alloc::{AllocError, Global};
 use std::marker::Model;

@@ -1,5 +1,6 @@
 -- What a look-up that has arrived has found: the name of a call, or the place of its target.
-use Rattle.std.proofs.Common.{◌≡◌, ℕ, ◌%◌, ◌&&◌, ◌||◌, ◌++◌, ◌∷◌, [], Bool, true, false, not, nat_le, if◌then◌else◌, Option, Some, None, refl, sym, ◌∙◌, ap, subst, IsTrue, IsFalse}
+use Rattle.std.proofs.Common.{◌≡◌, ℕ, ◌%◌, ◌&&◌, ◌||◌, ◌++◌, ◌∷◌, [], Bool, true, false, not, nat_le}
+use Rattle.std.proofs.Common.{if◌then◌else◌, Option, Some, None, refl, sym, ◌∙◌, ap, subst, IsTrue, IsFalse}
 use Rattle.std.specs.Prelude.{IsSome, IsSomeAnd, is_some, option_to_list}
 use Rattle.std.proofs.lemmas.Bool.{leb-false, lt-ltb}
 use Rattle.std.proofs.lemmas.List.Elements.{All-nil, All-cons, All-append}
@@ -12,7 +13,8 @@ use Rattle.entry_words.specs.declared.entry.Entry.TheVariants.{Held}
 use Rattle.word_map.specs.Word.{EntryAt}
 use Rattle.word_map.specs.Moves.{LoadOf, word_of}
 use Rattle.kernel_rules.specs.State.{Free as Vacant, Holds, Quiescing as Removed, PlaceOf, State, comp_of}
-use Rattle.kernel_rules.specs.Access.{Slot, Named, found, Target, Under, InRoot, place_at, held_in, usable_in, usable, reached, has_no_slot, own}
+use Rattle.kernel_rules.specs.Access.{Slot, Named, found, Target, Under, InRoot, place_at}
+use Rattle.kernel_rules.specs.Access.{held_in, usable_in, usable, reached, has_no_slot, own}
 use Rattle.kernel_rules.specs.Rules.{Refused, Found, and_then, or_refuse, of_kind, named, ReachesNone, ReachesHeld, ReachesOther}
 use Rattle.kernel_history.specs.Trace.{Step, Trace, state_after, own_left}
 use Rattle.kernel_history.specs.Ways.{root_passed, way_to}

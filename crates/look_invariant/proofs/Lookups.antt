@@ -1,5 +1,6 @@
 -- A step of a look-up is good, whatever the call looks for: it goes on to the leaf, is refused, or arrives at the place.
-use Rattle.std.proofs.Common.{◌≡◌, ◌⊎◌, inl, inr, ℕ, ◌<◌, ◌≤◌, ◌/◌, ◌%◌, ◌&&◌, ◌||◌, ◌==◌, ◌++◌, ◌∷◌, List, [], map, Bool, true, false, not, nat_le, nat_lt, if◌then◌else◌, Option, Some, None, arith, refl, sym, ◌∙◌, ap, subst, IsTrue}
+use Rattle.std.proofs.Common.{◌≡◌, ◌⊎◌, inl, inr, ℕ, ◌<◌, ◌≤◌, ◌/◌, ◌%◌, ◌&&◌, ◌||◌, ◌==◌, ◌++◌, ◌∷◌, List, [], map, Bool, true}
+use Rattle.std.proofs.Common.{false, not, nat_le, nat_lt, if◌then◌else◌, Option, Some, None, arith, refl, sym, ◌∙◌, ap, subst, IsTrue}
 use Rattle.std.specs.Prelude.{IsSome, option_to_list}
 use Rattle.std.specs.List.{list_any}
 use Rattle.std.proofs.lemmas.Bool.{le-leb, eq-eqb}
@@ -18,7 +19,8 @@ use Rattle.entry_words.proofs.Spelling.{spelling}
 use Rattle.word_map.specs.Word.{EntryAt}
 use Rattle.word_map.specs.Moves.{LoadOf, word_of}
 use Rattle.kernel_rules.specs.State.{Place, Free as Vacant, Holds, Quiescing as Removed, PlaceOf, State}
-use Rattle.kernel_rules.specs.Access.{Slot, Named, Target, Under, InRoot, place_at, only, usable_in, usable, linked, slot_in, root_slot, reached, holds_link, has_no_slot}
+use Rattle.kernel_rules.specs.Access.{Slot, Named, Target, Under, InRoot, place_at, only, usable_in}
+use Rattle.kernel_rules.specs.Access.{usable, linked, slot_in, root_slot, reached, holds_link, has_no_slot}
 use Rattle.kernel_rules.specs.Rules.{RuleMay, Refused}
 use Rattle.kernel_rules.specs.CallRelation.{rule_of, change_of}
 use Rattle.kernel_rules.specs.Relies.{Relies}

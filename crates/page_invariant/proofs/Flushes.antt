@@ -18,7 +18,8 @@ use Rattle.kept_words.proofs.Calm.{plain_exit}
 use Rattle.kept_knowledge.proofs.Carries.{counts_on}
 use Rattle.kept_words.proofs.CountSums.{counted_refs, calm_refs}
 use Rattle.step_ways.proofs.Good.{spares_kept, spares_other}
-use Rattle.step_ways.proofs.Loads.{IsOfCall, next_at, core_in_call, core_is, call_is, in_call, inner, inner_within, inner_disciplined, inner_near, is_active}
+use Rattle.step_ways.proofs.Loads.{IsOfCall, next_at, core_in_call, core_is, call_is, in_call}
+use Rattle.step_ways.proofs.Loads.{inner, inner_within, inner_disciplined, inner_near, is_active}
 use Rattle.step_ways.proofs.OwnChanges.{decides_owning}
 use Rattle.step_ways.proofs.Refusals.{GoodTook, not_spent}
 use Rattle.core_invariant.proofs.Sounds.{limits_of}
@@ -41,7 +42,8 @@ use Rattle.kernel_history.proofs.Steps.{phase-own, steps_in_call-own, stamp-kept
 use Rattle.kernel_history.specs.Discipline.{stores_flush}
 use Rattle.kernel_history.specs.Justified.{IsJustified, HasReached}
 use Rattle.kernel_history.specs.Marking.{marked_by}
-use Rattle.kernel_history.specs.Stamps.{begins_in, ends_in, flushes_in, begins_at, ends_at, flushes_at, stamp, clock, flush_of, flush_stored}
+use Rattle.kernel_history.specs.Stamps.{begins_in, ends_in, flushes_in, begins_at, ends_at}
+use Rattle.kernel_history.specs.Stamps.{flushes_at, stamp, clock, flush_of, flush_stored}
 use Rattle.kernel_history.specs.Trace.{Step, Trace, Open, phase, state_after, state_decided_in, last_left, own_left}
 use Rattle.kernel_history.specs.Ways.{ways}
 use Rattle.found_stays.proofs.SparesRuns.{core_same_refs}
@@ -52,7 +54,8 @@ use Rattle.kernel_rules.specs.Alone.{alone}
 use Rattle.kernel_rules.specs.CallRelation.{rule_of, counted, state_by, begins, ends, flushes, MayReply}
 use Rattle.kernel_rules.specs.GracePeriods.{flushed}
 use Rattle.kernel_rules.specs.References.{refs, sum_below}
-use Rattle.kernel_rules.specs.State.{Core as CoreFields, Thing, PlaceOf, FrameOf, NumberOf, State, put, with_core, thread_in, comp_in, first_of_stack, thread_of, comp_of}
+use Rattle.kernel_rules.specs.State.{Core as CoreFields, Thing, PlaceOf, FrameOf, NumberOf, State, put}
+use Rattle.kernel_rules.specs.State.{with_core, thread_in, comp_in, first_of_stack, thread_of, comp_of}
 use Rattle.spk_nums.specs.declared.calls.Call.TheVariants.{Flush}
 use Rattle.spk_nums.specs.declared.replies.Reply.{Reply}
 use Rattle.spk_nums.specs.declared.replies.Reply.TheVariants as reply
@@ -60,7 +63,8 @@ use Rattle.spk_nums.specs.declared.replies.Value.TheVariants as value
 use Rattle.spk_nums.specs.Setting.{Setting, IsSetting}
 use Rattle.stage_pins.specs.declared.held.Acquired.{Acquired}
 use Rattle.stage_quiet.specs.Clocks.{stamp_of_clock}
-use Rattle.std.proofs.Common.{◌≡◌, ◌≢◌, inl, inr, ℕ, ◌+◌, ◌*◌, ◌<◌, ◌≤◌, ◌&&◌, true, false, if◌then◌else◌, cond, List, [], ◌∷◌, map, length, Option, Some, None, IsSome, arith, refl, sym, ◌∙◌, ap, subst}
+use Rattle.std.proofs.Common.{◌≡◌, ◌≢◌, inl, inr, ℕ, ◌+◌, ◌*◌, ◌<◌, ◌≤◌, ◌&&◌, true, false, if◌then◌else◌, cond, List}
+use Rattle.std.proofs.Common.{[], ◌∷◌, map, length, Option, Some, None, IsSome, arith, refl, sym, ◌∙◌, ap, subst}
 use Rattle.std.proofs.lemmas.Bool.{cases_eq, false≢true, eq-eqb}
 use Rattle.std.proofs.lemmas.List.Elements.{All-nil}
 use Rattle.word_map.proofs.WordLemmas.{same_same}
@@ -299,7 +303,8 @@ module _ (setup : Setting) (setting : IsSetting setup) (cores : ℕ → Core) (t
           (sym (ap (λ b. if b then reply.CallsSpent else r) (not_spent setup (cores c) t c (stands.each c here) unspent_room)))
 
   pub flush_good : GoodTook setup cores t c load (landed a (took_flush by now_at))
-  flush_good = subst (λ (x : ℕ). GoodTook setup cores t c load (landed a (work_changes r Empties None (StoreFlush by x)))) (sym fits) flush_now
+  flush_good = subst (λ (x : ℕ). GoodTook setup cores t c load (landed a (work_changes r Empties None (StoreFlush by x))))
+      (sym fits) flush_now
     where
       fits : stamp_of_clock now_at ≡ now_at
       fits = let low = clock_small setup setting cores t stands in omega arith

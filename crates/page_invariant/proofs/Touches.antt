@@ -1,6 +1,8 @@
 -- The two steps of a touch: the load of the root entry of its page, which answers a translation that is cached, and the load of the page's
 -- entry.
-use Rattle.std.proofs.Common.{◌≡◌, ◌≢◌, ◌⊎◌, inl, inr, ℕ, ◌+◌, ◌*◌, ◌/◌, ◌%◌, ◌^◌, ◌<◌, ◌≤◌, ◌||◌, ◌++◌, ◌==◌, nat_le, nat_lt, Bool, true, false, List, [], ◌∷◌, map, length, Option, Some, None, arith, refl, sym, ◌∙◌, ap, subst, if◌then◌else◌, IsTrue}
+use Rattle.std.proofs.Common.{◌≡◌, ◌≢◌, ◌⊎◌, inl, inr, ℕ, ◌+◌, ◌*◌, ◌/◌, ◌%◌, ◌^◌, ◌<◌, ◌≤◌, ◌||◌, ◌++◌}
+use Rattle.std.proofs.Common.{◌==◌, nat_le, nat_lt, Bool, true, false, List, [], ◌∷◌, map, length, Option}
+use Rattle.std.proofs.Common.{Some, None, arith, refl, sym, ◌∙◌, ap, subst, if◌then◌else◌, IsTrue}
 use Rattle.std.specs.Prelude.{IsSome, is_some, option_to_list}
 use Rattle.std.proofs.lemmas.Bool.{false≢true, eq-eqb, le-leb, le-ltb}
 use Rattle.std.proofs.lemmas.List.Elements.{All-nil}
@@ -18,8 +20,10 @@ use Rattle.entry_words.specs.declared.entry.Entry.TheVariants.{Free, Held, Closi
 use Rattle.entry_words.specs.EntryWord.{EntryFits}
 use Rattle.word_map.specs.Word.{Word, EntryAt, FrameAt, CountAt, CoreAt, FlushAt, LiveAt, ClockAt}
 use Rattle.word_map.specs.Moves.{Move, LoadOf, word_of, told_of}
-use Rattle.kernel_rules.specs.State.{Core as CoreFields, Thing, PlaceOf, FrameOf, NumberOf, State, Holds, put, with_core, thread_in, comp_in, first_of_stack, thread_of, comp_of}
-use Rattle.kernel_rules.specs.Access.{Slot, root_at, Target, Under, place_at, usable_in, usable, linked, slot_in, root_slot, reached, holds_link, held_in}
+use Rattle.kernel_rules.specs.State.{Core as CoreFields, Thing, PlaceOf, FrameOf, NumberOf, State, Holds}
+use Rattle.kernel_rules.specs.State.{put, with_core, thread_in, comp_in, first_of_stack, thread_of, comp_of}
+use Rattle.kernel_rules.specs.Access.{Slot, root_at, Target, Under, place_at, usable_in, usable}
+use Rattle.kernel_rules.specs.Access.{linked, slot_in, root_slot, reached, holds_link, held_in}
 use Rattle.kernel_rules.specs.References.{refs, sum_below}
 use Rattle.kernel_rules.specs.Relies.{Relies}
 use Rattle.kernel_rules.specs.Rules.{Rule, Refused, Found, IsFoundAnd, mapped, outcome, RuleMay, answers}
@@ -87,8 +91,10 @@ use Rattle.step_ways.proofs.Refusals.{GoodTook, NobodyWaits, ticks_at, not_spent
 use Rattle.core_invariant.proofs.Sounds.{limits_of}
 use Rattle.kept_words.proofs.Sums.{sums_keep}
 use Rattle.kept_words.proofs.WordFrames.{SameFor, marks_own, settled_on, load_keeps, load_marks, load_words}
-use Rattle.look_invariant.proofs.Lookups.{Shows, ShowsHeld, shown_of, link_kind, link_none, link_shown, passes, root_slots, slot_left, slot_right, slot_one, near_way, use_removed, leaf_reached}
-use Rattle.page_invariant.proofs.TouchCalls.{told_by, unlinked_may, empty_may, unreached_first, empty_first, cached_first, mapped_is, mapped_first}
+use Rattle.look_invariant.proofs.Lookups.{Shows, ShowsHeld, shown_of, link_kind, link_none, link_shown, passes, root_slots}
+use Rattle.look_invariant.proofs.Lookups.{slot_left, slot_right, slot_one, near_way, use_removed, leaf_reached}
+use Rattle.page_invariant.proofs.TouchCalls.{told_by, unlinked_may, empty_may, unreached_first}
+use Rattle.page_invariant.proofs.TouchCalls.{empty_first, cached_first, mapped_is, mapped_first}
 
 -- What a touch takes from the load of its look-up, where this translation is cached or none.
 abbrev touched_at : Touching → Look → Option Translation → ℕ → WorkStep
@@ -522,7 +528,8 @@ module _ (setup : Setting) (setting : IsSetting setup) (cores : ℕ → Core) (t
             (subst (λ (p : ℕ). mapped s c p m.page ≡ Found k) knows.root found_it)
 
         page_good : GoodTook setup cores t c page_load (landed a (meets_page m (Held k)))
-        page_good = subst (λ x. GoodTook setup cores t c page_load (landed a (work_changes (reply.Ok (translated x)) (Caches x) None Nothing)))
+        page_good = subst (λ x. GoodTook setup cores t c page_load
+            (landed a (work_changes (reply.Ok (translated x)) (Caches x) None Nothing)))
             (sym (flags_of m k is_page fits)) cached_now
 
       abbrev FromPage : Option Entry → Type 0

@@ -1,6 +1,6 @@
-//! `grow`. A grow enters (1), looks up its root (2 and 3) and its leaf (4 and 5), loads the root entry (6), acquires the count of the leaf (7
-//! and 8), compares the root entry, which decides (9), commits the count (10) and leaves (11 and 12). Where the entry is quiescing it scans
-//! between 6 and 7: the other core's word, and for a page table then the flush words of both cores.
+//! `grow`. A grow enters (1), looks up its root (2 and 3) and its leaf (4 and 5), loads the root entry (6), acquires the count of the leaf
+//! (7 and 8), compares the root entry, which decides (9), commits the count (10) and leaves (11 and 12). Where the entry is quiescing it
+//! scans between 6 and 7: the other core's word, and for a page table then the flush words of both cores.
 
 use crate::shared::{Added, ends, items_of, order_of, tables};
 use core_kernel::FreeGate;

@@ -1,5 +1,5 @@
-//! Tests of the calls on pages: `grow` and `map`, which fill places of roots and of page tables, `touch`, which answers what a page maps and
-//! caches its translation, and `flush`, which drops the translations of a core.
+//! Tests of the calls on pages: `grow` and `map`, which fill places of roots and of page tables, `touch`, which answers what a page maps
+//! and caches its translation, and `flush`, which drops the translations of a core.
 //!
 //! See docs/CLAIMS.md, 'Crate by crate'.
 #![tactic(auto)]

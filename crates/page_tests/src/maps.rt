@@ -1,6 +1,6 @@
-//! `map`. A map enters (1), looks up its pages (2 and 3), its range (4 and 5) and its place (6 and 7), acquires the count of the frame (8 and
-//! 9), loads the frame's word (10), compares the place, which decides (11), commits the count (12) and leaves (13 and 14). Where the place is
-//! quiescing it scans between 7 and 8: the other core's word, then the flush words of both cores.
+//! `map`. A map enters (1), looks up its pages (2 and 3), its range (4 and 5) and its place (6 and 7), acquires the count of the frame (8
+//! and 9), loads the frame's word (10), compares the place, which decides (11), commits the count (12) and leaves (13 and 14). Where the
+//! place is quiescing it scans between 7 and 8: the other core's word, then the flush words of both cores.
 
 use crate::shared::{Added, ends, items_of, order_of, tables};
 use core_kernel::FreeGate;
@@ -161,8 +161,8 @@ fn what_a_frame_is_is_judged_at_the_load_of_its_word(rt: HostRuntime) -> Result<
     Ok(())
 }
 
-// Core 0 maps one frame in a page and core 1 another, and their steps on it come in every order: the load of the entry, the two on the count,
-// the load of the frame's word, the compare and the commit. The first to compare has it.
+// Core 0 maps one frame in a page and core 1 another, and their steps on it come in every order: the load of the entry, the two on the
+// count, the load of the frame's word, the compare and the commit. The first to compare has it.
 #[test]
 fn of_two_maps_of_one_page_one_is_carried_out(rt: HostRuntime) -> Result<(), Fail> {
     let alloc = rt.alloc();

@@ -1,5 +1,6 @@
 -- The load of the head of the first of two temporal capabilities, and the loads of its list.
-use Rattle.std.proofs.Common.{◌≡◌, ℕ, suc, ◌+◌, ◌<◌, nat_lt, Bool, true, false, if◌then◌else◌, List, ◌∷◌, Option, Some, None, arith, refl, sym, ◌∙◌, ap, subst}
+use Rattle.std.proofs.Common.{◌≡◌, ℕ, suc, ◌+◌, ◌<◌, nat_lt, Bool, true, false, if◌then◌else◌}
+use Rattle.std.proofs.Common.{List, ◌∷◌, Option, Some, None, arith, refl, sym, ◌∙◌, ap, subst}
 use Rattle.std.proofs.lemmas.Bool.{eq-eqb, ltb-false, false≢true}
 use Rattle.spk_nums.specs.Setting.{Setting, IsSetting}
 use Rattle.tcap_words.specs.Head.{head_of_word}
@@ -59,7 +60,8 @@ module _ (setup : Setting) (setting : IsSetting setup) (cores : ℕ → Core) (t
   abbrev e : Step
   e = step_to c None (LoadOf at) was None None
 
-  near : Rattle.kernel_history.specs.Footprint.is_one_of p.a (Rattle.kernel_history.specs.Footprint.frames_near (state_after setup t) c a.call) ≡ true
+  near : Rattle.kernel_history.specs.Footprint.is_one_of p.a
+      (Rattle.kernel_history.specs.Footprint.frames_near (state_after setup t) c a.call) ≡ true
   near = calls.near_a setup setting cores t stands c here a active now_p stage_is has
 
   tcap : Rattle.lent_words.proofs.Tcaps.TcapOf ((state_after setup t).frame p.a)
@@ -86,7 +88,8 @@ module _ (setup : Setting) (setting : IsSetting setup) (cores : ℕ → Core) (t
 
   busy_good : (d : ℕ) → marked_by setup t at ≡ Some d → GoodTook setup cores t c (LoadOf at) (landed a (refuse (refusal.Busy d)))
   busy_good d mark =
-      refuses_busy setup setting cores t stands c here a active (calls.opens setup setting cores t stands c here a active now_p stage_is has)
+      refuses_busy setup setting cores t stands c here a active
+      (calls.opens setup setting cores t stands c here a active now_p stage_is has)
       (calls.held_is setup setting cores t stands c here a active now_p stage_is has)
       (calls.room setup setting cores t stands c here a active now_p stage_is has) (LoadOf at)
       (loading setup setting cores t stands c here a active now_p stage_is has p.a 0 near) (ap ticks_at stage_is) d
@@ -97,7 +100,8 @@ module _ (setup : Setting) (setting : IsSetting setup) (cores : ℕ → Core) (t
       → GoodTook setup cores t c (LoadOf at)
       (landed a (took_shared (record p { head_a = head budget version; at = at_by_mark MarkA LoadA mark }) (end_by_mark mark)))
   by_mark budget version None shown = free_good budget version shown
-  by_mark budget version (Some d) shown = busy_good d (mark_is setup setting cores t stands p.a tcap.fields tcap.is was ∙ ap head_mark shown)
+  by_mark budget version (Some d) shown =
+      busy_good d (mark_is setup setting cores t stands p.a tcap.fields tcap.is was ∙ ap head_mark shown)
 
   by_word : (o : Option HeadWord) → head_of_word was ≡ o
       → GoodTook setup cores t c (LoadOf at)

@@ -1,5 +1,6 @@
 -- The load of the head of the second of two temporal capabilities, and the loads of its list.
-use Rattle.std.proofs.Common.{◌≡◌, ◌≢◌, ◌⊎◌, inl, inr, ℕ, zero, suc, ◌+◌, ◌<◌, nat_lt, Bool, true, false, if◌then◌else◌, List, ◌∷◌, Option, Some, None, IsSome, is_some, arith, refl, sym, ◌∙◌, ap, subst}
+use Rattle.std.proofs.Common.{◌≡◌, ◌≢◌, ◌⊎◌, inl, inr, ℕ, zero, suc, ◌+◌, ◌<◌, nat_lt, Bool, true, false, if◌then◌else◌}
+use Rattle.std.proofs.Common.{List, ◌∷◌, Option, Some, None, IsSome, is_some, arith, refl, sym, ◌∙◌, ap, subst}
 use Rattle.std.proofs.lemmas.Bool.{eq-eqb, ltb-false, false≢true}
 use Rattle.spk_nums.specs.Setting.{Setting, IsSetting}
 use Rattle.spk_nums.specs.Capability.{Capability}
@@ -26,7 +27,8 @@ use Rattle.kernel_history.proofs.Names.{same_word-other}
 use Rattle.kernel_history.proofs.Steps.{own_read-here, own_read-there, last_left-here}
 use Rattle.stage_tcap.specs.Heads.{head}
 use Rattle.stage_tcap.specs.Lists.{read_word, in_order, same_list}
-use Rattle.stage_tcap.specs.Pairs.{at_by_mark, at_by_head, at_read, b_next, b_end, decided_by_mark, noted, list_end, judged, by_alike, by_room, whole_b, read_b, giving_back}
+use Rattle.stage_tcap.specs.Pairs.{at_by_mark, at_by_head, at_read, b_next, b_end, decided_by_mark, noted}
+use Rattle.stage_tcap.specs.Pairs.{list_end, judged, by_alike, by_room, whole_b, read_b, giving_back}
 use Rattle.stage_tcap.specs.declared.pair.Pair.{Pair}
 use Rattle.stage_tcap.specs.declared.pair.PairAt.{PairAt}
 use Rattle.stage_tcap.specs.declared.pair.PairAt.TheVariants.{LoadB, ListB}
@@ -42,7 +44,8 @@ use Rattle.call_stages.specs.Steps.{landed}
 use Rattle.call_stages.specs.View.{Core}
 use Rattle.core_invariant.specs.Holding.{Holding, holds_counts}
 use Rattle.core_invariant.specs.Knows.{KnowsUndecided}
-use Rattle.core_invariant.specs.Shares.{list_word, read_up, SparesTcap, HasMarkedA, HasSeenB, HasReadB, HasBoth, ReadsHead, SharesBy, KnowsPairAt}
+use Rattle.core_invariant.specs.Shares.{list_word, read_up, SparesTcap, HasMarkedA, HasSeenB}
+use Rattle.core_invariant.specs.Shares.{HasReadB, HasBoth, ReadsHead, SharesBy, KnowsPairAt}
 use Rattle.core_invariant.specs.Invariant.{holds_in, holds_head, holds_share, held_by, Invariant}
 use Rattle.step_ways.proofs.Loads.{step_to, inner, core_is}
 use Rattle.core_invariant.proofs.Markers.{marker_inside}
@@ -79,10 +82,14 @@ judged_same (Transfer m) p q first second list_a list_b =
     ∙ ap (λ xs. by_alike (same_list (in_order p.list_a) (in_order xs))) list_b
 judged_same (Delegate m) p q first second list_a list_b = ap by_room list_b
 judged_same Test p q first second list_a list_b =
-    ap (λ h. Rattle.stage_tcap.specs.Pairs.by_preempting (Rattle.spk_nums.specs.Merging.preempts_by h.budget (in_order q.list_a) q.head_b.budget (in_order q.list_b))) first
-    ∙ ap (λ h. Rattle.stage_tcap.specs.Pairs.by_preempting (Rattle.spk_nums.specs.Merging.preempts_by p.head_a.budget (in_order q.list_a) h.budget (in_order q.list_b))) second
-    ∙ ap (λ xs. Rattle.stage_tcap.specs.Pairs.by_preempting (Rattle.spk_nums.specs.Merging.preempts_by p.head_a.budget (in_order xs) p.head_b.budget (in_order q.list_b))) list_a
-    ∙ ap (λ xs. Rattle.stage_tcap.specs.Pairs.by_preempting (Rattle.spk_nums.specs.Merging.preempts_by p.head_a.budget (in_order p.list_a) p.head_b.budget (in_order xs))) list_b
+    ap (λ h. Rattle.stage_tcap.specs.Pairs.by_preempting
+    (Rattle.spk_nums.specs.Merging.preempts_by h.budget (in_order q.list_a) q.head_b.budget (in_order q.list_b))) first
+    ∙ ap (λ h. Rattle.stage_tcap.specs.Pairs.by_preempting
+    (Rattle.spk_nums.specs.Merging.preempts_by p.head_a.budget (in_order q.list_a) h.budget (in_order q.list_b))) second
+    ∙ ap (λ xs. Rattle.stage_tcap.specs.Pairs.by_preempting
+    (Rattle.spk_nums.specs.Merging.preempts_by p.head_a.budget (in_order xs) p.head_b.budget (in_order q.list_b))) list_a
+    ∙ ap (λ xs. Rattle.stage_tcap.specs.Pairs.by_preempting
+    (Rattle.spk_nums.specs.Merging.preempts_by p.head_a.budget (in_order p.list_a) p.head_b.budget (in_order xs))) list_b
 
 record IsJudged (setup : Setting) (t : Trace) (c : ℕ) (q : Pair) (h : Holding) (at : PairAt) : Type 0 where
   holds_same : holds_share q at h ≡ holds_head q false h
@@ -176,7 +183,8 @@ module _ (setup : Setting) (setting : IsSetting setup) (cores : ℕ → Core) (t
             (calls.room setup setting cores t stands c here a active now_p stage_is has),
         tt,
       ) blocked
-      (λ is_alone. absurd (not_inside setup t (inner setup setting cores t stands c here a active (LoadOf at) (Some (reply.Busy d)) None) refl
+      (λ is_alone. absurd (not_inside setup t
+      (inner setup setting cores t stands c here a active (LoadOf at) (Some (reply.Busy d)) None) refl
       is_alone d blocked.other blocked.is_inside)) lands
     where
       apart : at ≢ EntryAt p.a 0
@@ -203,7 +211,8 @@ module _ (setup : Setting) (setting : IsSetting setup) (cores : ℕ → Core) (t
 
   by_mark : (budget version : ℕ) (mark : Option ℕ) → head_of_word was ≡ Some (record { budget = budget; mark = mark; version = version })
       → GoodTook setup cores t c (LoadOf at)
-      (landed a (took_shared (record p { head_b = head budget version; at = at_by_mark (ListB 1) giving_back mark }) (decided_by_mark mark)))
+      (landed a (took_shared (record p { head_b = head budget version; at = at_by_mark (ListB 1) giving_back mark })
+      (decided_by_mark mark)))
   by_mark budget version None shown = free_good budget version shown
   by_mark budget version (Some d) shown =
       subst (λ (h : HeadWord). GoodTook setup cores t c (LoadOf at)

@@ -1,5 +1,6 @@
 -- What a call on two temporal capabilities knows of both, where the head of the second is as it was read: their budgets and their lists.
-use Rattle.std.proofs.Common.{◌≡◌, ◌⊎◌, inl, inr, ℕ, ◌+◌, ◌<◌, ◌≤◌, ◌^◌, ◌==◌, ◌&&◌, Bool, true, false, List, [], ◌∷◌, Option, Some, None, IsSome, is_some, refl, sym, ◌∙◌, ap, subst}
+use Rattle.std.proofs.Common.{◌≡◌, ◌⊎◌, inl, inr, ℕ, ◌+◌, ◌<◌, ◌≤◌, ◌^◌, ◌==◌, ◌&&◌, Bool, true, false}
+use Rattle.std.proofs.Common.{List, [], ◌∷◌, Option, Some, None, IsSome, is_some, refl, sym, ◌∙◌, ap, subst}
 use Rattle.std.proofs.lemmas.Bool.{false≢true}
 use Rattle.std.proofs.lemmas.List.Elements.{All-nil}
 use Rattle.spk_nums.specs.Setting.{Setting, IsSetting}
@@ -160,7 +161,8 @@ module _ (setup : Setting) (setting : IsSetting setup) (cores : ℕ → Core) (t
       (rule_of (state_after setup t) c a.call) a.found
       (calls.by_plan setup setting cores t stands c here a active p stage_is has)
       (leads_by (λ n wanted q. HasFound setup t c (own_in (cores c).own.table n) wanted q)
-      (λ n wanted q. LeadsIn (state_after setup t) c n wanted q × HasReached (e ∷ t) c (way_to (state_after setup t) c (own (state_after setup t) c n)))
+      (λ n wanted q. LeadsIn (state_after setup t) c n wanted q
+      × HasReached (e ∷ t) c (way_to (state_after setup t) c (own (state_after setup t) c n)))
       own_gone a.plan.names [] a.found has.names)
       (subst (λ x. HasReached (e ∷ t) c (ways (state_after setup t) c x))
       (sym (calls.left setup setting cores t stands c here a active p stage_is has))

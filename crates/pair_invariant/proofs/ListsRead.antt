@@ -1,5 +1,6 @@
 -- The list that is read from the words of a temporal capability is its list.
-use Rattle.std.proofs.Common.{◌≡◌, ℕ, zero, suc, ◌<◌, ◌≤◌, ◌++◌, List, [], ◌∷◌, length, Option, Some, None, arith, refl, sym, ◌∙◌, ap, subst, if◌then◌else◌}
+use Rattle.std.proofs.Common.{◌≡◌, ℕ, zero, suc, ◌<◌, ◌≤◌, ◌++◌, List, [], ◌∷◌, length, Option}
+use Rattle.std.proofs.Common.{Some, None, arith, refl, sym, ◌∙◌, ap, subst, if◌then◌else◌}
 use Rattle.std.specs.Prelude.{slice_get, take, drop}
 use Rattle.std.proofs.lemmas.Bool.{lt-ltb}
 use Rattle.spk_nums.specs.Qualities.{IsQualityList}
@@ -51,7 +52,8 @@ pub reads_list : (qs : List (ℕ × ℕ)) (words : ℕ → ℕ) (n : ℕ) → Is
     → read_up words n ≡ Some (take n qs)
 reads_list qs words zero sorted few says = refl
 reads_list qs words (suc n) sorted few says =
-    ap (λ o. read_word o (quality_of_word (words n))) (reads_list qs words n sorted (omega (arith, few)) (λ j low. says j (omega (arith, low))))
+    ap (λ o. read_word o (quality_of_word (words n)))
+    (reads_list qs words n sorted (omega (arith, few)) (λ j low. says j (omega (arith, low))))
     ∙ ap (λ o. read_word (Some (take n qs)) o) (says n (omega arith)) ∙ next (slice_get qs n) refl
   where
     next : (o : Option (ℕ × ℕ)) → slice_get qs n ≡ o → read_pair (take n qs) o ≡ Some (take (suc n) qs)

@@ -1,5 +1,6 @@
 -- The compare that marks the head of the first of two temporal capabilities.
-use Rattle.std.proofs.Common.{◌≡◌, inl, inr, ℕ, ◌+◌, ◌<◌, ◌≤◌, ◌^◌, ◌==◌, ◌&&◌, not, nat_lt, Bool, true, false, if◌then◌else◌, [], ◌∷◌, Some, None, arith, refl, sym, ◌∙◌, ap, subst}
+use Rattle.std.proofs.Common.{◌≡◌, inl, inr, ℕ, ◌+◌, ◌<◌, ◌≤◌, ◌^◌, ◌==◌, ◌&&◌, not, nat_lt, Bool, true}
+use Rattle.std.proofs.Common.{false, if◌then◌else◌, [], ◌∷◌, Some, None, arith, refl, sym, ◌∙◌, ap, subst}
 use Rattle.std.proofs.lemmas.Bool.{eq-eqb, ne_eqb, eqb-true, eqb-false, ltb-true, ltb-false}
 use Rattle.spk_nums.specs.Setting.{Setting, IsSetting}
 use Rattle.spk_nums.specs.WordSteps.{left_if}
@@ -268,11 +269,13 @@ module _ (setup : Setting) (setting : IsSetting setup) (cores : ℕ → Core) (t
         decides_marking setup setting cores t stands c here a active compare r (share_tail (record p { at = giving_back }))
         (λ b. refl) (λ h. cc) of_call lands small
         (λ w there. (
-          ap (λ b. if b then true else (holds_counts None a.counts).marks w) (same_word-other w at there) ∙ sym (ap (λ h. h.marks w) held_before),
+          ap (λ b. if b then true else (holds_counts None a.counts).marks w) (same_word-other w at there)
+              ∙ sym (ap (λ h. h.marks w) held_before),
           ap (λ b. if b then old else (holds_counts None a.counts).stands w) (same_word-other w at there)
               ∙ sym (ap (λ h. h.stands w) held_before),
         ))
-        (as_none (holds (cores c)) _ at (λ g i. ap (λ h. h.bare g i) held_before ∙ counts_bare None a.counts g i) (counts_bare None a.counts))
+        (as_none (holds (cores c)) _ at (λ g i. ap (λ h. h.bare g i) held_before ∙ counts_bare None a.counts g i)
+        (counts_bare None a.counts))
         (now_marked ∙ sym (ap (λ b. if b then Some c else None)
         (ap (λ b. if b then true else (holds_counts None a.counts).marks at) (same_same at))))
         (λ b other is_marked. none_some b (sym bare ∙ is_marked))
@@ -331,7 +334,8 @@ module _ (setup : Setting) (setting : IsSetting setup) (cores : ℕ → Core) (t
         let is_open = calls.is_open setup setting cores t stands c here a active mark_p stage_is has in
         counters.holds_on setup setting cores t stands c here a active compare next (λ b. refl) (λ h. cc) refl of_call lands small
         (λ w there. (
-          ap (λ b. if b then true else (holds_counts None a.counts).marks w) (same_word-other w at there) ∙ sym (ap (λ h. h.marks w) held_before),
+          ap (λ b. if b then true else (holds_counts None a.counts).marks w) (same_word-other w at there)
+              ∙ sym (ap (λ h. h.marks w) held_before),
           ap (λ b. if b then old else (holds_counts None a.counts).stands w) (same_word-other w at there)
               ∙ sym (ap (λ h. h.stands w) held_before),
         ))
@@ -384,7 +388,8 @@ module _ (setup : Setting) (setting : IsSetting setup) (cores : ℕ → Core) (t
       by_short equal false is_short = won_good equal is_short
 
       by_same : (equal : Bool) → (was == old) ≡ equal
-          → GoodTook setup cores t c compare (landed a (took_shared (record p { at = at_marked equal (nat_lt p.head_a.budget (amount_of p.what)) })
+          → GoodTook setup cores t c compare
+          (landed a (took_shared (record p { at = at_marked equal (nat_lt p.head_a.budget (amount_of p.what)) })
           (marked_end equal (nat_lt p.head_a.budget (amount_of p.what)) p.head_a.budget)))
       by_same true is_same = by_short is_same (nat_lt p.head_a.budget (amount_of p.what)) refl
       by_same false is_same = lost_good is_same

@@ -1,13 +1,15 @@
 -- A decision by which two temporal capabilities have other budgets, or another list: what else of the state it leaves, and what is said of
 -- the other words then.
-use Rattle.std.proofs.Common.{◌≡◌, ◌≢◌, ◌⊎◌, inl, inr, ℕ, zero, suc, ◌+◌, ◌-◌, ◌*◌, ◌<◌, ◌≤◌, ◌==◌, Bool, true, false, if◌then◌else◌, List, ◌∷◌, length, slice_get, Some, None, IsTrue, arith, refl, sym, ◌∙◌, ap, subst}
+use Rattle.std.proofs.Common.{◌≡◌, ◌≢◌, ◌⊎◌, inl, inr, ℕ, zero, suc, ◌+◌, ◌-◌, ◌*◌, ◌<◌, ◌≤◌, ◌==◌, Bool, true, false}
+use Rattle.std.proofs.Common.{if◌then◌else◌, List, ◌∷◌, length, slice_get, Some, None, IsTrue, arith, refl, sym, ◌∙◌, ap, subst}
 use Rattle.std.proofs.lemmas.Bool.{cases_eq}
 use Rattle.spk_nums.specs.Setting.{Setting, IsSetting}
 use Rattle.spk_nums.specs.declared.replies.Reply.TheVariants as reply
 use Rattle.spk_nums.specs.declared.replies.Value.TheVariants as value
 use Rattle.word_map.specs.Word.{Word, EntryAt, FrameAt, CountAt, CoreAt, FlushAt, LiveAt, ClockAt}
 use Rattle.word_map.specs.Moves.{Move}
-use Rattle.kernel_rules.specs.State.{Core as CoreFields, Frame, Kernel, Tcap, TcapFields, PlaceOf, FrameOf, NumberOf, State, put, tcap_in, with_frame, thread_in, comp_in, thread_of, comp_of, first_of_stack}
+use Rattle.kernel_rules.specs.State.{Core as CoreFields, Frame, Kernel, Tcap, TcapFields, PlaceOf, FrameOf, NumberOf, State}
+use Rattle.kernel_rules.specs.State.{put, tcap_in, with_frame, thread_in, comp_in, thread_of, comp_of, first_of_stack}
 use Rattle.kernel_rules.specs.References.{sum_below, refs, frame_names, times}
 use Rattle.kernel_rules.specs.Relies.{IsGuarded}
 use Rattle.kernel_rules.specs.TimeCalls.{tcap_at, with_tcap, with_budget, with_qualities, moved}

@@ -12,7 +12,8 @@ use Rattle.kernel_rules.specs.State.{Thing, State}
 use Rattle.kernel_rules.specs.Access.{Named, found}
 use Rattle.kernel_rules.specs.References.{named_by}
 use Rattle.kernel_rules.specs.Rules.{Change, Cause, Does, RuleMay, answers, leaves, outcome, unless, first_cause}
-use Rattle.kernel_rules.specs.TimeCalls.{tcap_at, moved, with_qualities, merged_list, are_same, is_short, are_unlike, are_many, preemption, preempts}
+use Rattle.kernel_rules.specs.TimeCalls.{tcap_at, moved, with_qualities, merged_list, are_same}
+use Rattle.kernel_rules.specs.TimeCalls.{is_short, are_unlike, are_many, preemption, preempts}
 use Rattle.kernel_rules.specs.CallRelation.{rule_of, change_of, ends_by, flushes_by}
 use Rattle.kernel_history.specs.Discipline.{changes_budgets}
 use Rattle.kernel_history.specs.Footprint.{is_one_of, frames_near}
@@ -73,7 +74,15 @@ share_of s c (call_as.Transfer x y m) (a ∷ b ∷ []) p is = record {
   a = a;
   b = b;
   found_is = refl;
-  shared = record { first = is.first; second = is.second; first_kind = is.first_kind; second_kind = is.second_kind; differ = is.differ; work = refl };
+  shared = record {
+    first = is.first;
+    second = is.second;
+    first_kind =
+        is.first_kind;
+    second_kind = is.second_kind;
+    differ = is.differ;
+    work = refl;
+  };
   left = ap (λ w. Does (causes_of s w (found a) (found b)) (change_by s w a.frame b.frame)) (sym is.work);
   budgets = refl;
   ends_none = λ x. refl;
@@ -83,7 +92,15 @@ share_of s c (call_as.Delegate x y m) (a ∷ b ∷ []) p is = record {
   a = a;
   b = b;
   found_is = refl;
-  shared = record { first = is.first; second = is.second; first_kind = is.first_kind; second_kind = is.second_kind; differ = is.differ; work = refl };
+  shared = record {
+    first = is.first;
+    second = is.second;
+    first_kind =
+        is.first_kind;
+    second_kind = is.second_kind;
+    differ = is.differ;
+    work = refl;
+  };
   left = ap (λ w. Does (causes_of s w (found a) (found b)) (change_by s w a.frame b.frame)) (sym is.work);
   budgets = refl;
   ends_none = λ x. refl;
@@ -93,7 +110,15 @@ share_of s c (call_as.Test x y) (a ∷ b ∷ []) p is = record {
   a = a;
   b = b;
   found_is = refl;
-  shared = record { first = is.first; second = is.second; first_kind = is.first_kind; second_kind = is.second_kind; differ = is.differ; work = refl };
+  shared = record {
+    first = is.first;
+    second = is.second;
+    first_kind =
+        is.first_kind;
+    second_kind = is.second_kind;
+    differ = is.differ;
+    work = refl;
+  };
   left = ap (λ w. Does (causes_of s w (found a) (found b)) (change_by s w a.frame b.frame)) (sym is.work);
   budgets = refl;
   ends_none = λ x. refl;
@@ -165,13 +190,16 @@ module _ (setup : Setting) (setting : IsSetting setup) (cores : ℕ → Core) (t
   names = is.a ∷ is.b ∷ []
 
   call_leads : Leads (LeadsIn s c) (plan_for a.call).names [] a.found
-  call_leads = subst (λ (q : Plan). Leads (LeadsIn s c) q.names [] a.found) (is_active setup setting cores t stands c here a active).plan leads
+  call_leads = subst (λ (q : Plan). Leads (LeadsIn s c) q.names [] a.found)
+      (is_active setup setting cores t stands c here a active).plan leads
 
   pub near_a : is_one_of p.a (frames_near s c a.call) ≡ true
-  near_a = name_near s c a.call a.found call_leads First is.a (ap (λ xs. at_place xs First) is.found_is) is.shared.first_kind p.a is.shared.first
+  near_a = name_near s c a.call a.found call_leads First is.a
+      (ap (λ xs. at_place xs First) is.found_is) is.shared.first_kind p.a is.shared.first
 
   pub near_b : is_one_of p.b (frames_near s c a.call) ≡ true
-  near_b = name_near s c a.call a.found call_leads Second is.b (ap (λ xs. at_place xs Second) is.found_is) is.shared.second_kind p.b is.shared.second
+  near_b = name_near s c a.call a.found call_leads Second is.b
+      (ap (λ xs. at_place xs Second) is.found_is) is.shared.second_kind p.b is.shared.second
 
   -- what is left of the rule
   pub left : rule_after (rule_of s c a.call) a.found

@@ -1,5 +1,6 @@
 -- A call on two temporal capabilities begins where its names have led to them.
-use Rattle.std.proofs.Common.{◌≡◌, inl, ℕ, ◌<◌, ◌==◌, map, Bool, true, false, if◌then◌else◌, List, [], ◌∷◌, Some, None, refl, sym, ◌∙◌, ap, subst}
+use Rattle.std.proofs.Common.{◌≡◌, inl, ℕ, ◌<◌, ◌==◌, map, Bool, true, false, if◌then◌else◌}
+use Rattle.std.proofs.Common.{List, [], ◌∷◌, Some, None, refl, sym, ◌∙◌, ap, subst}
 use Rattle.std.proofs.lemmas.Bool.{eqb-false}
 use Rattle.spk_nums.specs.Capability.{Capability}
 use Rattle.spk_nums.specs.Setting.{Setting, IsSetting}
@@ -121,7 +122,8 @@ module _ (setup : Setting) (setting : IsSetting setup) (cores : ℕ → Core) (t
   module _ (j k : Capability) (what : PairWork) (leads : Leads (LeadsIn s c) a.plan.names [] (j ∷ k ∷ []))
       (names : Carries setup t e c → NamesAre setup (e ∷ t) c (cores c).own.table a.plan (j ∷ k ∷ []))
       (first : IsNamed s c j) (second : IsNamed s c k)
-      (left : rule_after (rule_of s c a.call) (j ∷ k ∷ []) ≡ Does (causes_of s what (named_by_found j) (named_by_found k)) (change_by s what j.frame k.frame))
+      (left : rule_after (rule_of s c a.call) (j ∷ k ∷ [])
+      ≡ Does (causes_of s what (named_by_found j) (named_by_found k)) (change_by s what j.frame k.frame))
       (shares : (p : Pair) → IsShared j k what p → SharesBy a.call (j ∷ k ∷ []) p) where
     -- the causes of each begin with `same`
     same_may : (w : PairWork) → (j.frame == k.frame) ≡ true
@@ -131,7 +133,8 @@ module _ (setup : Setting) (setting : IsSetting setup) (cores : ℕ → Core) (t
     same_may share.Test same = inl (same, refl)
 
     same_first : (w : PairWork) → (j.frame == k.frame) ≡ true
-        → unless (first_cause s c (causes_of s w (named_by_found j) (named_by_found k))) (change_by s w j.frame k.frame) ≡ Refused reply.Same
+        → unless (first_cause s c (causes_of s w (named_by_found j) (named_by_found k))) (change_by s w j.frame k.frame)
+        ≡ Refused reply.Same
     same_first (share.Transfer m) same = ap (λ b. unless (first_of (if b then Some reply.Same else None)
         (first_cause s c (Rattle.kernel_rules.specs.TimeCalls.is_short s (named_by_found j) m
         ∷ Rattle.kernel_rules.specs.TimeCalls.are_unlike s (named_by_found j) (named_by_found k) ∷ [])))
@@ -140,7 +143,8 @@ module _ (setup : Setting) (setting : IsSetting setup) (cores : ℕ → Core) (t
         (first_cause s c (Rattle.kernel_rules.specs.TimeCalls.is_short s (named_by_found j) m
         ∷ Rattle.kernel_rules.specs.TimeCalls.are_many s (named_by_found j) (named_by_found k) ∷ [])))
         (change_by s (share.Delegate m) j.frame k.frame)) same
-    same_first share.Test same = ap (λ b. unless (first_of (if b then Some reply.Same else None) None) (change_by s share.Test j.frame k.frame)) same
+    same_first share.Test same =
+        ap (λ b. unless (first_of (if b then Some reply.Same else None) None) (change_by s share.Test j.frame k.frame)) same
 
     abbrev Begins : Bool → Type 0
     Begins same = GoodTook setup cores t c move
@@ -158,7 +162,8 @@ module _ (setup : Setting) (setting : IsSetting setup) (cores : ℕ → Core) (t
               (subst (λ x. RuleMay s c x reply.Same) (sym left) (same_may what same)),
         ) tt
         (λ is_alone. refused_first s c a.call reply.Same unspent
-        (outcome_left s c (own_pages s c) a.plan (rule_of s c a.call) (j ∷ k ∷ []) by_plan leads ∙ ap (outcome s c) left ∙ same_first what same))
+        (outcome_left s c (own_pages s c) a.plan (rule_of s c a.call) (j ∷ k ∷ []) by_plan leads
+        ∙ ap (outcome s c) left ∙ same_first what same))
 
     begins : (j.frame == k.frame) ≡ false → Begins false
     begins other lands =
@@ -198,8 +203,10 @@ module _ (setup : Setting) (setting : IsSetting setup) (cores : ℕ → Core) (t
       (none : names_after a.plan.names ks ≡ [])
       (names : Carries setup t e c → NamesAre setup (e ∷ t) c (cores c).own.table a.plan ks)
       (x y : ℕ) (what : PairWork) (names_so : (plan_for call).names ≡ two_names x y)
-      (begun_so : (j k : Capability) → act_begun (cores c).own call (j ∷ k ∷ []) None None ≡ shares_if (j.frame == k.frame) (cores c).own.core what j.frame k.frame)
-      (left_so : (j k : Capability) → rule_after (rule_of s c call) (j ∷ k ∷ []) ≡ Does (causes_of s what (named_by_found j) (named_by_found k)) (change_by s what j.frame k.frame))
+      (begun_so : (j k : Capability)
+      → act_begun (cores c).own call (j ∷ k ∷ []) None None ≡ shares_if (j.frame == k.frame) (cores c).own.core what j.frame k.frame)
+      (left_so : (j k : Capability) → rule_after (rule_of s c call) (j ∷ k ∷ [])
+      ≡ Does (causes_of s what (named_by_found j) (named_by_found k)) (change_by s what j.frame k.frame))
       (shares_so : (j k : Capability) (p : Pair) → IsShared j k what p → SharesBy call (j ∷ k ∷ []) p) where
     plan_names : a.plan.names ≡ two_names x y
     plan_names = ap (λ (p : Plan). p.names) ((is_active setup setting cores t stands c here a active).plan ∙ ap plan_for call_so) ∙ names_so
@@ -209,9 +216,11 @@ module _ (setup : Setting) (setting : IsSetting setup) (cores : ℕ → Core) (t
         (subst (λ (ns : List Name). names_after ns ks ≡ []) plan_names none)
 
     starts : GoodTook setup cores t c move (landed (found_more a ks) (act_begun (cores c).own call ks None None))
-    starts = subst (λ (xs : List Capability). GoodTook setup cores t c move (landed (found_more a xs) (act_begun (cores c).own call xs None None)))
+    starts = subst (λ (xs : List Capability).
+        GoodTook setup cores t c move (landed (found_more a xs) (act_begun (cores c).own call xs None None)))
         (sym led.both)
-        (subst (λ w. GoodTook setup cores t c move (landed (found_more a (led.first ∷ led.second ∷ [])) w)) (sym (begun_so led.first led.second))
+        (subst (λ w. GoodTook setup cores t c move (landed (found_more a (led.first ∷ led.second ∷ [])) w))
+        (sym (begun_so led.first led.second))
         (two_good led.first led.second what
         (subst (λ (xs : List Capability). Leads (LeadsIn s c) a.plan.names [] xs) led.both leads)
         (λ carries. subst (λ (xs : List Capability). NamesAre setup (e ∷ t) c (cores c).own.table a.plan xs) led.both (names carries))
@@ -224,11 +233,13 @@ module _ (setup : Setting) (setting : IsSetting setup) (cores : ℕ → Core) (t
       (names : Carries setup t e c → NamesAre setup (e ∷ t) c (cores c).own.table a.plan ks) (x y : ℕ) where
     pub transfers_good : (m : ℕ) → a.call ≡ Transfer x y m
         → GoodTook setup cores t c move (landed (found_more a ks) (act_begun (cores c).own (Transfer x y m) ks None None))
-    transfers_good m is = starts (Transfer x y m) is ks leads none names x y (share.Transfer m) refl (λ j k. refl) (λ j k. refl) (λ j k p h. h)
+    transfers_good m is =
+        starts (Transfer x y m) is ks leads none names x y (share.Transfer m) refl (λ j k. refl) (λ j k. refl) (λ j k p h. h)
 
     pub delegates_good : (m : ℕ) → a.call ≡ Delegate x y m
         → GoodTook setup cores t c move (landed (found_more a ks) (act_begun (cores c).own (Delegate x y m) ks None None))
-    delegates_good m is = starts (Delegate x y m) is ks leads none names x y (share.Delegate m) refl (λ j k. refl) (λ j k. refl) (λ j k p h. h)
+    delegates_good m is =
+        starts (Delegate x y m) is ks leads none names x y (share.Delegate m) refl (λ j k. refl) (λ j k. refl) (λ j k p h. h)
 
     pub tests_good : a.call ≡ Test x y
         → GoodTook setup cores t c move (landed (found_more a ks) (act_begun (cores c).own (Test x y) ks None None))

@@ -1,5 +1,6 @@
 -- What the words of two temporal capabilities say, and the ways in which a call on them goes on by a load, or is decided by one.
-use Rattle.std.proofs.Common.{◌≡◌, inl, inr, ℕ, suc, ◌+◌, ◌<◌, ◌≤◌, ◌^◌, Bool, true, false, if◌then◌else◌, List, [], ◌∷◌, Some, None, IsTrue, map, slice_get, arith, refl, sym, ◌∙◌, ap, subst}
+use Rattle.std.proofs.Common.{◌≡◌, inl, inr, ℕ, suc, ◌+◌, ◌<◌, ◌≤◌, ◌^◌, Bool, true, false, if◌then◌else◌, List}
+use Rattle.std.proofs.Common.{[], ◌∷◌, Some, None, IsTrue, map, slice_get, arith, refl, sym, ◌∙◌, ap, subst}
 use Rattle.std.proofs.lemmas.Bool.{ne_eqb}
 use Rattle.spk_nums.specs.Setting.{Setting, IsSetting}
 use Rattle.spk_nums.specs.Capability.{Capability}
@@ -179,7 +180,8 @@ module _ (setup : Setting) (setting : IsSetting setup) (cores : ℕ → Core) (t
             tcap_b = subst (HasTcap before c) (sym second) has.knows.knows.tcap_b;
             at = knows;
           };
-          all = ap (λ (xs : List Acquired). map due_of xs) (sym (calls.no_counts setup setting cores t stands c here a active p stage_is has));
+          all = ap (λ (xs : List Acquired). map due_of xs)
+              (sym (calls.no_counts setup setting cores t stands c here a active p stage_is has));
           goes = refl;
         };
       })
@@ -192,7 +194,8 @@ module _ (setup : Setting) (setting : IsSetting setup) (cores : ℕ → Core) (t
 
     pub own_mark : marked_by setup t at_a ≡ Some c
     own_mark = (stands.marks at_a c).kept
-        (ap (λ h. h.marks at_a) (ap holds_in active ∙ held) ∙ ap (λ b. if b then true else (holds_counts None a.counts).marks at_a) (same_same at_a))
+        (ap (λ h. h.marks at_a) (ap holds_in active ∙ held)
+        ∙ ap (λ b. if b then true else (holds_counts None a.counts).marks at_a) (same_same at_a))
 
     stands_it : (held_by cores c).stands at_a ≡ word_of_head p.head_a
     stands_it = ap (λ h. h.stands at_a) (ap holds_in active ∙ held)
@@ -212,7 +215,8 @@ module _ (setup : Setting) (setting : IsSetting setup) (cores : ℕ → Core) (t
     pub a_list : (j : ℕ) → j < 8
         → quality_of_word (last_left setup t (EntryAt p.a (suc j))) ≡ Some (record { 0 = slice_get fields_a.qualities j })
     a_list j low =
-        list_says setup setting cores t stands p.a fields_a (calls.tcap_a setup setting cores t stands c here a active p stage_is has).is j low
+        list_says setup setting cores t stands p.a fields_a
+        (calls.tcap_a setup setting cores t stands c here a active p stage_is has).is j low
         (λ d mark. subst (λ (b : ℕ). (held_by cores b).bare p.a (suc j) ≡ None) (same_core d (sym own_mark ∙ mark))
         (ap (λ o. (holds_in o).bare p.a (suc j)) active ∙ open_bare a a.call opens_at p.a (suc j)))
       where
@@ -259,13 +263,15 @@ module _ (setup : Setting) (setting : IsSetting setup) (cores : ℕ → Core) (t
     -- it is decided by a load, or by a lost compare, and head A is given back
     pub load_decides : (move : Move) → OnlyLooks setup t c a.call move → (r : Reply) (q : Pair) (v : Value)
         → q.a ≡ p.a → q.core ≡ p.core → q.head_a ≡ p.head_a → q.at ≡ StoreA false v
-        → Rattle.core_invariant.specs.Invariant.holds_shared q q.at (holds_counts (Rattle.core_invariant.specs.Invariant.done_by r None) a.counts)
+        → Rattle.core_invariant.specs.Invariant.holds_shared q q.at
+        (holds_counts (Rattle.core_invariant.specs.Invariant.done_by r None) a.counts)
         ≡ holds_in (Some a)
         → state_by before c a.call r ≡ counted before c → calls_counted r ≡ 1
         → ((x : Thing) → begins before c a.call r x ≡ false) → ((x : Thing) → ends a.call r x ≡ false) → flushes a.call r ≡ false
         → MayReply before c a.call r → IsJustified setup t (inner setup setting cores t stands c here a active move (Some r) None) a.call r
         → (IsAlone t (inner setup setting cores t stands c here a active move (Some r) None) → r ≡ alone before c a.call)
-        → Lands setup (core_in_call (cores c) ((cores c).own.made + calls_counted r) (next_at a a.found (Decided r None (share_tail q)))) (word_of move)
+        → Lands setup (core_in_call (cores c) ((cores c).own.made + calls_counted r) (next_at a a.found (Decided r None (share_tail q))))
+        (word_of move)
         → Rattle.step_ways.proofs.Good.IsGood setup cores t (inner setup setting cores t stands c here a active move (Some r) None)
         (core_in_call (cores c) ((cores c).own.made + calls_counted r) (next_at a a.found (Decided r None (share_tail q))))
     load_decides move looks r q v first core head at_is held_so state one none_begins none_ends no_flush permitted justified answers lands =

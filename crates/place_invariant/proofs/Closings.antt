@@ -3,7 +3,8 @@
 use Rattle.core_invariant.proofs.Bare.{as_none, counts_bare}
 use Rattle.lent_words.proofs.Lent.{unlent_value, unlent_word, unlent_after, node_keeps_none, lent_free}
 use Rattle.step_ways.proofs.Good.{spares_node}
-use Rattle.std.proofs.Common.{◌≡◌, ◌≢◌, inl, inr, ℕ, ◌^◌, ◌<◌, ◌==◌, ◌∷◌, [], Bool, true, false, List, Option, Some, None, arith, refl, sym, ◌∙◌, ap, subst, IsTrue, if◌then◌else◌}
+use Rattle.std.proofs.Common.{◌≡◌, ◌≢◌, inl, inr, ℕ, ◌^◌, ◌<◌, ◌==◌, ◌∷◌, [], Bool, true, false, List}
+use Rattle.std.proofs.Common.{Option, Some, None, arith, refl, sym, ◌∙◌, ap, subst, IsTrue, if◌then◌else◌}
 use Rattle.std.proofs.lemmas.Bool.{eqb-true, eqb-false, eq-eqb}
 use Rattle.spk_nums.specs.Capability.{Capability}
 use Rattle.spk_nums.specs.Setting.{Setting, IsSetting}
@@ -274,7 +275,8 @@ module _ (setup : Setting) (setting : IsSetting setup) (cores : ℕ → Core) (t
 
     says : IsSpelled stored
     says = spelled s.limits.frames (s.place node index) (stamp setup t (PlaceOf node index)) stored
-        (node_says s.limits.frames (count_room s) (s.frame node) (s.place node index) (stamp setup t (PlaceOf node index)) index stored has.relies.node
+        (node_says s.limits.frames (count_room s) (s.frame node) (s.place node index)
+        (stamp setup t (PlaceOf node index)) index stored has.relies.node
         entry_fits.1
         (subst (λ (n : ℕ). Rattle.core_invariant.specs.Words.WordIs s (times_of setup t) at n) settles (stands.words at)))
 

@@ -1,14 +1,17 @@
 -- The filling compare of a copy is good: it is lost to another core, or the place is free and takes the capability.
 use Rattle.lent_words.proofs.Lent.{unlent_word, node_keeps_none}
 use Rattle.step_ways.proofs.Good.{spares_node}
-use Rattle.std.proofs.Common.{◌≡◌, ◌≢◌, ◌⊎◌, inl, inr, not, ℕ, pos, length, ◌≤◌, ◌+◌, ◌^◌, ◌/◌, ◌%◌, ◌<◌, ◌==◌, ◌&&◌, nat_le, if◌then◌else◌, ◌∷◌, [], Bool, true, false, List, Option, Some, None, arith, refl, sym, ◌∙◌, ap, subst, IsTrue, ◌+ℤ◌, max}
+use Rattle.std.proofs.Common.{◌≡◌, ◌≢◌, ◌⊎◌, inl, inr, not, ℕ, pos, length, ◌≤◌, ◌+◌, ◌^◌, ◌/◌, ◌%◌, ◌<◌, ◌==◌, ◌&&◌, nat_le, if◌then◌else◌}
+use Rattle.std.proofs.Common.{◌∷◌, [], Bool, true, false, List, Option, Some, None, arith, refl, sym, ◌∙◌, ap, subst, IsTrue, ◌+ℤ◌, max}
 use Rattle.std.specs.Prelude.{option_to_list}
 use Rattle.std.proofs.lemmas.Bool.{eqb-true, eqb-false, eq-eqb, false≢true}
 use Rattle.spk_nums.specs.Capability.{Capability}
 use Rattle.spk_nums.specs.Setting.{Setting, IsSetting}
 use Rattle.spk_nums.specs.declared.kinds.Kind.TheVariants as kind
 use Rattle.spk_nums.specs.declared.calls.Call.{Call}
-use Rattle.spk_nums.specs.declared.calls.Call.TheVariants.{Look, Copy, Remove, Shrink, Unmap, Retype, Make as make_call, Tick, Gate, Kill, Grow, Flush, Map, Touch, Call as call_gate, Ret, Transfer, Delegate, Test, Switch}
+use Rattle.spk_nums.specs.declared.calls.Call.TheVariants.{Look, Copy, Remove, Shrink, Unmap, Retype, Make as make_call}
+use Rattle.spk_nums.specs.declared.calls.Call.TheVariants.{Tick, Gate, Kill, Grow, Flush, Map, Touch, Call as call_gate}
+use Rattle.spk_nums.specs.declared.calls.Call.TheVariants.{Ret, Transfer, Delegate, Test, Switch}
 use Rattle.spk_nums.specs.declared.kinds.Kind.{Kind}
 use Rattle.spk_nums.specs.declared.replies.Value.TheVariants.{Nothing}
 use Rattle.spk_nums.specs.declared.replies.Reply.TheVariants as reply
@@ -19,13 +22,16 @@ use Rattle.entry_words.proofs.Spelling.{spelling}
 use Rattle.word_map.specs.Word.{Word, EntryAt, CountAt}
 use Rattle.word_map.specs.Moves.{Move, CompareOf, left_of}
 use Rattle.spk_nums.specs.WordSteps.{left_if}
-use Rattle.kernel_rules.specs.State.{Place, comp_of, comp_in, Free as Vacant, Holds, Quiescing as Removed, Frame, Kernel, Table, Leaf, Pages, Pleaf, Thing, PlaceOf, FrameOf, State, with_place, User}
+use Rattle.kernel_rules.specs.State.{Place, comp_of, comp_in, Free as Vacant, Holds, Quiescing as Removed, Frame, Kernel}
+use Rattle.kernel_rules.specs.State.{Table, Leaf, Pages, Pleaf, Thing, PlaceOf, FrameOf, State, with_place, User}
 use Rattle.kernel_rules.specs.Start.{plain_cap}
-use Rattle.kernel_rules.specs.Access.{Slot, found, Target, Under, InRoot, only, place_at, usable_in, linked, slot_in, root_slot, reached, own}
+use Rattle.kernel_rules.specs.Access.{Slot, found, Target, Under, InRoot, only, place_at}
+use Rattle.kernel_rules.specs.Access.{usable_in, linked, slot_in, root_slot, reached, own}
 use Rattle.spk_nums.specs.declared.kinds.PageFlags.{PageFlags}
 use Rattle.kernel_rules.specs.CapabilityCalls.{has_frame, outside, is_frame}
 use Rattle.kernel_rules.specs.MemoryCalls.{is_user, not_user}
-use Rattle.kernel_rules.specs.Rules.{Cause, first_cause, first_of, Found, IsFoundAnd, Vacant as to_be_free, Does, and_then, or_refuse, unless, not_vacant, named, outcome, fills}
+use Rattle.kernel_rules.specs.Rules.{Cause, first_cause, first_of, Found, IsFoundAnd, Vacant as to_be_free}
+use Rattle.kernel_rules.specs.Rules.{Does, and_then, or_refuse, unless, not_vacant, named, outcome, fills}
 use Rattle.kernel_rules.specs.CallRelation.{MayReply, rule_of, ends_by, flushes_by, changed, change_of, counted, begins_in}
 use Rattle.kernel_rules.specs.Laws.{calls_counted}
 use Rattle.kernel_rules.specs.Relies.{is_node}
@@ -313,7 +319,8 @@ module _ (setup : Setting) (setting : IsSetting setup) (cores : ℕ → Core) (t
     new_says = spelling.reads (Held k) fits
 
     word_now : WordIs (state_after setup (e ∷ t)) (times_of setup (e ∷ t)) (EntryAt node index) new
-    word_now = node_word (state_after setup (e ∷ t)).limits.frames (count_room (state_after setup (e ∷ t))) ((state_after setup (e ∷ t)).frame node)
+    word_now = node_word (state_after setup (e ∷ t)).limits.frames
+        (count_room (state_after setup (e ∷ t))) ((state_after setup (e ∷ t)).frame node)
         ((state_after setup (e ∷ t)).place node index)
         (stamp setup (e ∷ t) (PlaceOf node index)) index new
         (subst (λ x. IsTrue (is_node x)) (sym (calm.frame node)) in_node)

@@ -1,6 +1,7 @@
 -- The load of the word of a frame that is to be mapped: one that a core has marked is `busy`, one that is no user frame `frame-kind`, and a
 -- user frame is mapped next. The call has acquired the count of the frame, and while it holds that no other core makes it anything else.
-use Rattle.std.proofs.Common.{◌≡◌, ℕ, ℤ, pos, ◌<◌, ◌&&◌, map, not, Bool, true, false, IsTrue, List, [], ◌∷◌, Option, Some, None, inl, inr, refl, sym, ◌∙◌, ap, subst, if◌then◌else◌}
+use Rattle.std.proofs.Common.{◌≡◌, ℕ, ℤ, pos, ◌<◌, ◌&&◌, map, not, Bool, true, false, IsTrue, List, []}
+use Rattle.std.proofs.Common.{◌∷◌, Option, Some, None, inl, inr, refl, sym, ◌∙◌, ap, subst, if◌then◌else◌}
 use Rattle.std.specs.Prelude.{All, ◌||◌}
 use Rattle.std.proofs.lemmas.List.Elements.{All-head}
 use Rattle.std.proofs.lemmas.Bool.{lt-ltb, eq-eqb, false≢true}
@@ -57,7 +58,8 @@ use Rattle.call_stages.specs.Fits.{StageFits, HasRoom}
 use Rattle.call_stages.specs.Steps.{landed}
 use Rattle.call_stages.specs.View.{Core}
 use Rattle.core_invariant.specs.Holding.{holds_counts, settled_by}
-use Rattle.core_invariant.specs.Knows.{ReadIs, HasUser, IsUser, IsCount, due_of, IsMapping, mapped_frame, is_mapping, KnowsUndecided, phase_at}
+use Rattle.core_invariant.specs.Knows.{ReadIs, HasUser, IsUser, IsCount, due_of, IsMapping}
+use Rattle.core_invariant.specs.Knows.{mapped_frame, is_mapping, KnowsUndecided, phase_at}
 use Rattle.core_invariant.specs.Invariant.{holds_at, holds_in, held_by, Invariant}
 use Rattle.step_ways.proofs.Counting.{first_marked}
 use Rattle.kept_knowledge.proofs.Carries.{names_on, spot_on, slot_relies}

@@ -1,5 +1,6 @@
 -- The refusal of a call whose frame is outside its range.
-use Rattle.std.proofs.Common.{◌≡◌, ◌⊎◌, inl, inr, ℕ, ◌<◌, not, Bool, false, IsTrue, List, [], ◌∷◌, Option, Some, None, refl, sym, ◌∙◌, ap, subst, if◌then◌else◌}
+use Rattle.std.proofs.Common.{◌≡◌, ◌⊎◌, inl, inr, ℕ, ◌<◌, not, Bool, false, IsTrue, List, []}
+use Rattle.std.proofs.Common.{◌∷◌, Option, Some, None, refl, sym, ◌∙◌, ap, subst, if◌then◌else◌}
 use Rattle.std.specs.Prelude.{IsSome}
 use Rattle.std.proofs.lemmas.Bool.{cases_eq, false≢true}
 use Rattle.spk_nums.specs.Capability.{Capability}
@@ -19,7 +20,8 @@ use Rattle.kernel_rules.specs.Access.{Slot, Target, Under, found, place_at, reac
 use Rattle.act_states.specs.Acts.{page_cap}
 use Rattle.kernel_rules.specs.MemoryCalls.{not_user}
 use Rattle.kept_knowledge.proofs.Carries.{slot_relies}
-use Rattle.kernel_rules.specs.Rules.{Rule, Cause, Change, Vacant, Does, fills, RuleMay, Refused, Found, and_then, or_refuse, unless, first_of, first_cause, vacant, not_vacant, outcome}
+use Rattle.kernel_rules.specs.Rules.{Rule, Cause, Change, Vacant, Does, fills, RuleMay, Refused, Found, and_then}
+use Rattle.kernel_rules.specs.Rules.{or_refuse, unless, first_of, first_cause, vacant, not_vacant, outcome}
 use Rattle.kernel_rules.specs.Relies.{is_node}
 use Rattle.kernel_rules.specs.CapabilityCalls.{has_frame, outside, not_blank, not_taken, makes, makes_comp}
 use Rattle.kernel_rules.specs.CallRelation.{rule_of, change_of}

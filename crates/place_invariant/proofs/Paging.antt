@@ -1,7 +1,8 @@
 -- Which places that a call fills are those of page tables.
 use Rattle.spk_nums.specs.declared.calls.Make.TheVariants as make
 use Rattle.place_invariant.proofs.CompMakes.{IsCompMake, comp_make}
-use Rattle.std.proofs.Common.{◌≡◌, ℕ, ◌&&◌, nat_le, if◌then◌else◌, Bool, true, false, List, [], ◌∷◌, Option, Some, None, refl, sym, ◌∙◌, ap, subst, IsTrue}
+use Rattle.std.proofs.Common.{◌≡◌, ℕ, ◌&&◌, nat_le, if◌then◌else◌, Bool, true, false, List}
+use Rattle.std.proofs.Common.{[], ◌∷◌, Option, Some, None, refl, sym, ◌∙◌, ap, subst, IsTrue}
 use Rattle.std.proofs.lemmas.Bool.{false≢true}
 use Rattle.spk_nums.specs.Capability.{Capability}
 use Rattle.spk_nums.specs.Setting.{Setting, IsSetting}
@@ -9,7 +10,9 @@ use Rattle.spk_nums.specs.declared.kinds.FrameKind.TheVariants as frame_kind
 use Rattle.spk_nums.specs.declared.kinds.Kind.{Kind}
 use Rattle.spk_nums.specs.declared.kinds.Kind.TheVariants as kind
 use Rattle.spk_nums.specs.declared.calls.Call.{Call}
-use Rattle.spk_nums.specs.declared.calls.Call.TheVariants.{Look, Copy, Remove, Grow, Shrink, Map, Unmap, Retype, Make as make_call, Tick, Kill, Gate, Touch, Flush, Call as call_gate, Ret, Transfer, Delegate, Test, Switch}
+use Rattle.spk_nums.specs.declared.calls.Call.TheVariants.{Look, Copy, Remove, Grow, Shrink, Map, Unmap, Retype}
+use Rattle.spk_nums.specs.declared.calls.Call.TheVariants.{Make as make_call, Tick, Kill, Gate, Touch, Flush}
+use Rattle.spk_nums.specs.declared.calls.Call.TheVariants.{Call as call_gate, Ret, Transfer, Delegate, Test, Switch}
 use Rattle.kernel_rules.specs.State.{Table, Pages, Frame, Kernel, State}
 use Rattle.kernel_rules.specs.Access.{Slot, Named, found, root, only, Target, Under, InRoot, reached}
 use Rattle.kernel_rules.specs.Fitting.{fits, IsGood}

@@ -1,7 +1,8 @@
 -- A removal draws its stamp and is decided: what its target held is removed, the reference is released, and the grace periods of both
 -- begin at the stamp.
 use Rattle.core_invariant.proofs.Bare.{counts_bare}
-use Rattle.std.proofs.Common.{◌≡◌, ◌≢◌, ◌⊎◌, inl, inr, ℕ, pos, negsuc, ◌+ℤ◌, max, length, ◌≤◌, ◌+◌, ◌^◌, ◌<◌, ◌==◌, ◌&&◌, ◌||◌, ◌∷◌, [], Bool, true, false, List, Option, Some, None, arith, refl, sym, ◌∙◌, ap, subst, IsTrue, if◌then◌else◌}
+use Rattle.std.proofs.Common.{◌≡◌, ◌≢◌, ◌⊎◌, inl, inr, ℕ, pos, negsuc, ◌+ℤ◌, max, length, ◌≤◌, ◌+◌, ◌^◌, ◌<◌, ◌==◌, ◌&&◌, ◌||◌, ◌∷◌}
+use Rattle.std.proofs.Common.{[], Bool, true, false, List, Option, Some, None, arith, refl, sym, ◌∙◌, ap, subst, IsTrue, if◌then◌else◌}
 use Rattle.std.specs.List.{list_any}
 use Rattle.std.proofs.Math.IntN.{pos-+ℤ-pos, +ℤ_assoc, +ℤ_invr, +ℤ_idr}
 use Rattle.std.proofs.lemmas.Bool.{cases_eq, eq-eqb, ne_eqb, false≢true}
@@ -21,7 +22,8 @@ use Rattle.entry_words.proofs.Spelling.{spelling}
 use Rattle.word_map.specs.Word.{Word, EntryAt, FrameAt, CountAt, CoreAt, FlushAt, LiveAt, ClockAt, same_word}
 use Rattle.word_map.specs.Moves.{AddOf, word_of, told_of}
 use Rattle.word_map.proofs.WordLemmas.{same_same}
-use Rattle.kernel_rules.specs.State.{Place, Free, Holds, Quiescing, Thing, PlaceOf, FrameOf, NumberOf, Grace, State, comp_of, with_place, with_grace}
+use Rattle.kernel_rules.specs.State.{Place, Free, Holds, Quiescing, Thing, PlaceOf, FrameOf}
+use Rattle.kernel_rules.specs.State.{NumberOf, Grace, State, comp_of, with_place, with_grace}
 use Rattle.kernel_rules.specs.Access.{Slot, Target, Under, InRoot, found, own, place_at, held_in, reached}
 use Rattle.kernel_rules.specs.Rules.{Found, IsFoundAnd, Does, and_then, or_refuse, outcome, removes, frames_of}
 use Rattle.kernel_rules.specs.Rules as rules
@@ -38,7 +40,8 @@ use Rattle.kernel_history.specs.Ways.{way_to, ways, wide_ways}
 use Rattle.kernel_history.specs.Footprint.{IsNearIn}
 use Rattle.kernel_history.specs.Justified.{is_slot_in, HasReached}
 use Rattle.kernel_history.specs.Marking.{marked_by}
-use Rattle.kernel_history.specs.Stamps.{begins_in as begins_then, ends_in, flushes_in, begins_at, ends_at, flushes_at, stamp, clock, flush_stored, is_in}
+use Rattle.kernel_history.specs.Stamps.{begins_in as begins_then, ends_in, flushes_in, begins_at}
+use Rattle.kernel_history.specs.Stamps.{ends_at, flushes_at, stamp, clock, flush_stored, is_in}
 use Rattle.trace_laws.proofs.AloneCalls.{ok_first}
 use Rattle.trace_laws.proofs.Carries.{was_now, was_stays}
 use Rattle.kernel_history.proofs.Inside.{inside_is, decided-inside}
@@ -398,7 +401,8 @@ module _ (setup : Setting) (setting : IsSetting setup) (cores : ℕ → Core) (t
     stored_fits = let low = small in let is = drawn_is in omega arith
 
     entry_now : WordIs s' (times_of setup (e ∷ t)) at (word_of_entry (entry.Quiescing now_at))
-    entry_now = node_word s'.limits.frames (count_room s') (s'.frame node) (s'.place node index) (stamp setup (e ∷ t) (PlaceOf node index)) index
+    entry_now = node_word s'.limits.frames (count_room s') (s'.frame node)
+        (s'.place node index) (stamp setup (e ∷ t) (PlaceOf node index)) index
         (word_of_entry (entry.Quiescing now_at))
         (subst (λ y. IsTrue (is_node y)) (sym (calm.frame node)) relies.node)
         (subst (λ p. PlaceIs s'.limits.frames p (stamp setup (e ∷ t) (PlaceOf node index))

@@ -1,5 +1,6 @@
 -- A place that a call may fill is vacant for it: it is free, or no other core waits in its grace period, and none is to flush it.
-use Rattle.std.proofs.Common.{◌≡◌, ◌≢◌, ℕ, zero, suc, find, cond, ◌+◌, ◌<◌, ◌≤◌, ◌==◌, ◌&&◌, not, inl, inr, Bool, true, false, [], Option, Some, None, IsTrue, arith, refl, sym, ◌∙◌, ap, subst}
+use Rattle.std.proofs.Common.{◌≡◌, ◌≢◌, ℕ, zero, suc, find, cond, ◌+◌, ◌<◌, ◌≤◌, ◌==◌, ◌&&◌, not, inl, inr, Bool}
+use Rattle.std.proofs.Common.{true, false, [], Option, Some, None, IsTrue, arith, refl, sym, ◌∙◌, ap, subst}
 use Rattle.std.proofs.lemmas.Bool.{false≢true, eqb-false}
 use Rattle.std.specs.List.{range_with_len}
 use Rattle.trace_laws.proofs.GraceSteps.{cases_bool}

@@ -46,7 +46,8 @@ fn decide(alloc: Global, k: &mut SeqKernel, core: CoreNo, call: &Call) -> Result
     requires limits { InLimits call.now }
     requires core { core < (state_of k.old).limits.cores }
     ensures answers { IsOk result }
-    ensures exact { IsInRange (state_of k.old) core call.now → IfOk result (λ r. IsCarriedOut (state_of k.old) (change_of (state_of k.old) core call.now) r k.new) }
+    ensures exact { IsInRange (state_of k.old) core call.now
+        → IfOk result (λ r. IsCarriedOut (state_of k.old) (change_of (state_of k.old) core call.now) r k.new) }
 {
     match family_of(call) {
         Family::Caps => seq_caps::step(alloc, k, core, call),
@@ -80,7 +81,8 @@ fn count(k: &mut SeqKernel, core: CoreNo)
 
 /// Counts the call of a core, and returns from it. Of a core that the machine does not have nothing is counted.
 fn finish(k: &mut SeqKernel, core: CoreNo)
-    ensures { core < (state_of k.old).limits.cores → ((state_of k.old).core core).counted < 4194304 → Represents k.new (returned (counted (state_of k.old) core) core) }
+    ensures { core < (state_of k.old).limits.cores → ((state_of k.old).core core).counted < 4194304
+        → Represents k.new (returned (counted (state_of k.old) core) core) }
 {
     if core.number() < k.cores() {
         count(k, core);

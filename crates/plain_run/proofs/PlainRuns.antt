@@ -1,5 +1,6 @@
 -- Making the calls of lists alone, one call and one list at a time.
-use Rattle.std.proofs.Common.{◌≡◌, ℕ, zero, suc, ◌+◌, ◌<◌, ◌≤◌, refl, sym, ◌∙◌, ap, subst, arith, List, [], ◌∷◌, ◌++◌, length, drop, append_assoc, append-nil, get_or, drop-cons, map}
+use Rattle.std.proofs.Common.{◌≡◌, ℕ, zero, suc, ◌+◌, ◌<◌, ◌≤◌, refl, sym, ◌∙◌, ap, subst, arith, List, []}
+use Rattle.std.proofs.Common.{◌∷◌, ◌++◌, length, drop, append_assoc, append-nil, get_or, drop-cons, map}
 use Rattle.std.proofs.lemmas.List.{drop_all, length-map, get_or-map}
 use Rattle.kernel_history.specs.Order.{list_of}
 use Rattle.spk_nums.specs.Setting.{Setting, IsSetting}

@@ -86,7 +86,8 @@ fn run_lists(
     requires reached { HasReached setup.now kernel.old }
     requires one_each { length lists.now ≡ setup.now.cores }
     requires can_run { AreRunnable (map (λ v. v.items) lists.now) }
-    ensures { OnOk result (RunsLists setup.now kernel.old kernel.new (list_of (map (λ v. v.items) lists.now)) setup.now.cores (string_bytes text.old) (string_bytes text.new)) }
+    ensures { OnOk result (RunsLists setup.now kernel.old kernel.new (list_of (map (λ v. v.items) lists.now))
+        setup.now.cores (string_bytes text.old) (string_bytes text.new)) }
 {
     'cores: for core in 0..setup.cores() {
         let calls = lists[usize::from(core)].as_slice();

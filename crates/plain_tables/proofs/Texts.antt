@@ -5,7 +5,8 @@ use Rattle.kernel_rules.specs.State.{Frame, Liveness, Core, Limits, State, tcap_
 use Rattle.kernel_rules.specs.References.{sum_below, times, place_names, frame_names, core_names, number_names, node_refs, refs}
 use Rattle.kernel_rules.specs.Laws.{ticks}
 use Rattle.kernel_invariant.proofs.Sums.{sum_same}
-use Rattle.kernel_history.specs.Tables.{lines_below, frame_lines, object_lines, number_line, core_lines, total_line, tables_of, node_lines, entry_line, frame_line, object_word}
+use Rattle.kernel_history.specs.Tables.{lines_below, frame_lines, object_lines, number_line, core_lines}
+use Rattle.kernel_history.specs.Tables.{total_line, tables_of, node_lines, entry_line, frame_line, object_word}
 use Rattle.seq_state.specs.Representation.{SameState}
 use Rattle.seq_state.proofs.Same.{same_refs}
 use Rattle.table_lines.specs.Counting.{Adds, AreCounts}

@@ -26,7 +26,8 @@ fn push_number(text: &mut String, number: u8, value: &Liveness) -> Result<(), Al
 
 /// Appends the lines of all liveness numbers.
 pub fn push_numbers(text: &mut String, k: &SeqKernel) -> Result<(), AllocError>
-    ensures { OnOk result (string_bytes text.new ≡ string_bytes text.old ++ lines_below (λ l. number_line l ((state_of k.now).number l)) 64) }
+    ensures { OnOk result (string_bytes text.new
+        ≡ string_bytes text.old ++ lines_below (λ l. number_line l ((state_of k.now).number l)) 64) }
 {
     'numbers: for number in 0..64 {
         let value = k.number(number);

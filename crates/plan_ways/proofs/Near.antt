@@ -9,10 +9,12 @@ use Rattle.spk_nums.specs.declared.calls.Call.{Call}
 use Rattle.kernel_rules.specs.State.{State}
 use Rattle.kernel_rules.specs.Access.{Named, found}
 use Rattle.kernel_rules.specs.References.{named_by, frame_names}
-use Rattle.kernel_rules.specs.Rules.{Rule, Name as name_rule, Vacant as vacant_rule, Held as held_rule, Mapped as mapped_rule, Does, Found, named, name_of}
+use Rattle.kernel_rules.specs.Rules.{Rule, Name as name_rule, Vacant as vacant_rule, Held as held_rule}
+use Rattle.kernel_rules.specs.Rules.{Mapped as mapped_rule, Does, Found, named, name_of}
 use Rattle.kernel_rules.specs.CallRelation.{rule_of}
 use Rattle.kernel_history.specs.Ways.{wide_ways, target_of}
-use Rattle.kernel_history.specs.Footprint.{frame_of_name, frames_named, frame_at_slot, frame_argument, frames_about, frames_own, frames_near, is_one_of}
+use Rattle.kernel_history.specs.Footprint.{frame_of_name, frames_named, frame_at_slot, frame_argument}
+use Rattle.kernel_history.specs.Footprint.{frames_about, frames_own, frames_near, is_one_of}
 use Rattle.call_plans.specs.declared.plans.Nth.{Nth}
 use Rattle.call_plans.specs.declared.plans.Nth.TheVariants.{First, Second, Third, Fourth}
 use Rattle.call_plans.specs.declared.plans.Name.{Name}

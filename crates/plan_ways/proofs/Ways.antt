@@ -9,7 +9,8 @@ use Rattle.std.proofs.Math.Bool.{or-true}
 use Rattle.spk_nums.specs.declared.replies.Reply.{Reply}
 use Rattle.kernel_rules.specs.State.{State}
 use Rattle.kernel_rules.specs.Access.{Slot, found, own, reached, Target as place}
-use Rattle.kernel_rules.specs.Rules.{Rule, Name as name_rule, Vacant as vacant_rule, Held as held_rule, Mapped as mapped_rule, Does, Refused, and_then, named, name_of, vacant, held, mapped, outcome}
+use Rattle.kernel_rules.specs.Rules.{Rule, Name as name_rule, Vacant as vacant_rule, Held as held_rule, Mapped as mapped_rule}
+use Rattle.kernel_rules.specs.Rules.{Does, Refused, and_then, named, name_of, vacant, held, mapped, outcome}
 use Rattle.kernel_history.specs.Ways.{way_to, ways, wide_way_to, wide_ways, target_of, asked_of}
 use Rattle.kernel_history.specs.Justified.{is_slot_in, HasReached}
 use Rattle.call_plans.specs.GoesBy.{OwnPages}
@@ -21,22 +22,27 @@ slot_left : (xs ys : List Slot) (f i : ℕ) → is_slot_in xs f i ≡ true → i
 slot_left xs ys f i h = list_any-append (λ at. at.node == f && at.index == i) xs ys ∙ ap (λ b. b || is_slot_in ys f i) h
 
 slot_right : (xs ys : List Slot) (f i : ℕ) → is_slot_in ys f i ≡ true → is_slot_in (xs ++ ys) f i ≡ true
-slot_right xs ys f i h = list_any-append (λ at. at.node == f && at.index == i) xs ys ∙ ap (λ b. is_slot_in xs f i || b) h ∙ or-true (is_slot_in xs f i)
+slot_right xs ys f i h = list_any-append (λ at. at.node == f && at.index == i) xs ys
+    ∙ ap (λ b. is_slot_in xs f i || b) h ∙ or-true (is_slot_in xs f i)
 
-first_on_way : (s : State) (c : ℕ) (pages : OwnPages) (next : Next) (rule : Rule) (target : place) (f i : ℕ) → Begins pages next rule → NextPlace s c next target
+first_on_way : (s : State) (c : ℕ) (pages : OwnPages) (next : Next) (rule : Rule) (target : place) (f i : ℕ)
+    → Begins pages next rule → NextPlace s c next target
     → is_slot_in (wide_way_to s target) f i ≡ true → is_slot_in (wide_ways s c rule) f i ≡ true
 first_on_way s c pages (NextName n wanted) (name_rule m w rest) target f i is at h =
     slot_left (wide_way_to s (own s c m)) (wide_ways s c (rest (name_of (named s c m w)))) f i
     (subst (λ (x : place). is_slot_in (wide_way_to s x) f i ≡ true) (at ∙ ap (own s c) (sym is.0)) h)
-first_on_way s c pages (NextFree t) (vacant_rule u rest) target f i is at h = subst (λ (x : place). is_slot_in (wide_way_to s x) f i ≡ true) (at ∙ sym is) h
-first_on_way s c pages (NextHeld t) (held_rule u rest) target f i is at h = subst (λ (x : place). is_slot_in (wide_way_to s x) f i ≡ true) (at ∙ sym is) h
+first_on_way s c pages (NextFree t) (vacant_rule u rest) target f i is at h =
+    subst (λ (x : place). is_slot_in (wide_way_to s x) f i ≡ true) (at ∙ sym is) h
+first_on_way s c pages (NextHeld t) (held_rule u rest) target f i is at h =
+    subst (λ (x : place). is_slot_in (wide_way_to s x) f i ≡ true) (at ∙ sym is) h
 first_on_way s c pages (NextOwn v) rule target f i is at h = absurd at
 first_on_way s c pages NextNothing rule target f i is at h = absurd at
 first_on_way s c pages (NextName n wanted) _ target f i is at h = absurd is
 first_on_way s c pages (NextFree t) _ target f i is at h = absurd is
 first_on_way s c pages (NextHeld t) _ target f i is at h = absurd is
 
-first_target : (s : State) (c : ℕ) (pages : OwnPages) (next : Next) (rule : Rule) → Begins pages next rule → IsTargetOf s c next (target_of s c rule)
+first_target : (s : State) (c : ℕ) (pages : OwnPages) (next : Next) (rule : Rule)
+    → Begins pages next rule → IsTargetOf s c next (target_of s c rule)
 first_target s c pages (NextName n wanted) rule is = tt
 first_target s c pages (NextFree t) (vacant_rule u rest) is = ap (reached s c) is
 first_target s c pages (NextHeld t) (held_rule u rest) is = ap (reached s c) is
@@ -74,11 +80,14 @@ both : (b : Bool) → IsTrue b → IsFalse b → ⊥
 both true is other = cc
 both false is other = cc
 
-first_refused : (s : State) (c : ℕ) (pages : OwnPages) (next : Next) (rule : Rule) (r : Reply) → Begins pages next rule → NextRefused s c pages next r → outcome s c rule ≡ Refused r
+first_refused : (s : State) (c : ℕ) (pages : OwnPages) (next : Next) (rule : Rule) (r : Reply)
+    → Begins pages next rule → NextRefused s c pages next r → outcome s c rule ≡ Refused r
 first_refused s c pages (NextName n wanted) (name_rule m w rest) r is refused =
     ap (λ x. and_then x λ k. outcome s c (rest (found k))) (ap (λ m. named s c m w) is.0 ∙ ap (named s c n) is.1 ∙ refused)
-first_refused s c pages (NextFree t) (vacant_rule u rest) r is refused = ap (λ x. and_then x λ at. outcome s c (rest at)) (ap (vacant s c) is ∙ refused)
-first_refused s c pages (NextHeld t) (held_rule u rest) r is refused = ap (λ x. and_then x λ p. outcome s c (rest p.0 p.1)) (ap (held s c) is ∙ refused)
+first_refused s c pages (NextFree t) (vacant_rule u rest) r is refused =
+    ap (λ x. and_then x λ at. outcome s c (rest at)) (ap (vacant s c) is ∙ refused)
+first_refused s c pages (NextHeld t) (held_rule u rest) r is refused =
+    ap (λ x. and_then x λ p. outcome s c (rest p.0 p.1)) (ap (held s c) is ∙ refused)
 first_refused s c pages (NextOwn v) (mapped_rule table n rest) r is refused =
     ap (λ x. and_then x λ k. outcome s c (rest k)) (ap (λ t. mapped s c t n) is.0 ∙ ap (mapped s c pages.table) is.1 ∙ refused.1)
 first_refused s c pages (NextOwn v) (Does causes change) r is refused = absurd (both (pages.cached v) is refused.0)
@@ -96,6 +105,7 @@ next_first s c pages plan rule ks goes leads r refused =
 pub all_ways : AllWays
 all_ways s c pages t plan rule ks goes leads gone =
     before (λ n wanted k. LeadsIn s c n wanted k × HasReached t c (way_to s c (own s c n))) (λ x. HasReached t c (ways s c x))
-    (λ n wanted rest k is h. All-append (λ (at : Slot). IsSome (own_left t c (EntryAt at.node at.index))) (way_to s c (own s c n)) (ways s c (rest (name_of (named s c n wanted)))) is.1
+    (λ n wanted rest k is h. All-append (λ (at : Slot). IsSome (own_left t c (EntryAt at.node at.index)))
+    (way_to s c (own s c n)) (ways s c (rest (name_of (named s c n wanted)))) is.1
     (subst (λ x. HasReached t c (ways s c (rest (name_of x)))) (sym is.0) h))
     pages plan.names plan.target [] rule ks goes leads gone

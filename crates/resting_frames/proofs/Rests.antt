@@ -1,6 +1,7 @@
 -- A frame that nothing names, and for which a core does not wait, rests where the core's call is carried out: it stays, with what its
 -- places hold, or it is made untyped.
-use Rattle.std.proofs.Common.{◌≡◌, ◌≢◌, ◌⊎◌, inl, inr, ℕ, ◌<◌, ◌≤◌, ◌+◌, ◌-◌, ◌==◌, ◌&&◌, nat_le, Bool, true, false, arith, refl, sym, ◌∙◌, ap, subst, if◌then◌else◌, IsTrue, List, [], ◌∷◌, Option, Some, None}
+use Rattle.std.proofs.Common.{◌≡◌, ◌≢◌, ◌⊎◌, inl, inr, ℕ, ◌<◌, ◌≤◌, ◌+◌, ◌-◌, ◌==◌, ◌&&◌, nat_le, Bool, true, false}
+use Rattle.std.proofs.Common.{arith, refl, sym, ◌∙◌, ap, subst, if◌then◌else◌, IsTrue, List, [], ◌∷◌, Option, Some, None}
 use Rattle.std.proofs.lemmas.Bool.{false≢true, cases_eq}
 use Rattle.spk_nums.specs.Capability.{Capability}
 use Rattle.spk_nums.specs.Setting.{Setting, IsSetting}
@@ -11,11 +12,14 @@ use Rattle.spk_nums.specs.declared.kinds.FrameKind.TheVariants as frame_kind
 use Rattle.spk_nums.specs.declared.calls.Make.{Make}
 use Rattle.spk_nums.specs.declared.calls.Make.TheVariants as make
 use Rattle.spk_nums.specs.declared.calls.Call.{Call}
-use Rattle.spk_nums.specs.declared.calls.Call.TheVariants.{Look, Copy, Remove, Grow, Shrink, Retype, Make as make_call, Map, Unmap, Touch, Flush, Gate, Kill, Call as call_gate, Ret, Switch, Tick, Transfer, Delegate, Test}
+use Rattle.spk_nums.specs.declared.calls.Call.TheVariants.{Look, Copy, Remove, Grow, Shrink, Retype, Make as make_call}
+use Rattle.spk_nums.specs.declared.calls.Call.TheVariants.{Map, Unmap, Touch, Flush, Gate, Kill, Call as call_gate}
+use Rattle.spk_nums.specs.declared.calls.Call.TheVariants.{Ret, Switch, Tick, Transfer, Delegate, Test}
 use Rattle.spk_nums.specs.declared.translations.Translation.{Translation}
 use Rattle.spk_nums.specs.declared.replies.Reply.{Reply}
 use Rattle.spk_nums.specs.declared.replies.Reply.TheVariants as reply
-use Rattle.kernel_rules.specs.State.{Place, Free, Holds, Quiescing, Object, Blank, Comp, Thread, Tcap, Frame, Untyped, Kernel, FrameOf, State, put, with_place, with_frame, with_core, with_number, comp_of, thread_in, Live}
+use Rattle.kernel_rules.specs.State.{Place, Free, Holds, Quiescing, Object, Blank, Comp, Thread, Tcap, Frame, Untyped, Kernel}
+use Rattle.kernel_rules.specs.State.{FrameOf, State, put, with_place, with_frame, with_core, with_number, comp_of, thread_in, Live}
 use Rattle.kernel_rules.specs.References.{named_by, core_names, times, refs}
 use Rattle.kernel_rules.specs.Access.{Slot, Named, found, Target, Under, InRoot, reached, usable, only, root}
 use Rattle.kernel_rules.specs.Rules.{Change, Judged, Refused, Found, named, of_kind, vacant, held, fills, removes}
@@ -37,7 +41,8 @@ use Rattle.kernel_invariant.proofs.FrameTurns.{is_typed}
 use Rattle.kernel_invariant.proofs.SoundRuns.{opened}
 use Rattle.found_stays.proofs.Stays.{name_parts, usable_guarded, reached_relies}
 use Rattle.kernel_history.specs.Legal.{MayFollow, IsLegal}
-use Rattle.kernel_history.specs.Trace.{Step, Trace, Phase, Out, Open, Decided, phase, after_enter, state_after, state_entered, state_decided, state_returned, state_before}
+use Rattle.kernel_history.specs.Trace.{Step, Trace, Phase, Out, Open, Decided, phase, after_enter, state_after}
+use Rattle.kernel_history.specs.Trace.{state_entered, state_decided, state_returned, state_before}
 use Rattle.kernel_history.proofs.Events.{entered_events}
 use Rattle.trace_laws.proofs.Opens.{opens}
 
@@ -279,7 +284,8 @@ entered_rests : (o : Option Call) (s : State) (c f : ℕ) → Rests s (state_ent
 entered_rests None s c f = rests_same s f
 entered_rests (Some call) s c f = record { frame = refl; place = λ i. refl }
 
-entered_waits : (o : Option Call) (s : State) (c d f : ℕ) → ((state_entered o s c).grace (FrameOf f)).waits d ≡ (s.grace (FrameOf f)).waits d
+entered_waits : (o : Option Call) (s : State) (c d f : ℕ)
+    → ((state_entered o s c).grace (FrameOf f)).waits d ≡ (s.grace (FrameOf f)).waits d
 entered_waits None s c d f = refl
 entered_waits (Some call) s c d f = refl
 

@@ -7,7 +7,8 @@ use Rattle.spk_nums.specs.declared.replies.Reply.{Reply}
 use Rattle.kernel_rules.specs.State.{Frame, Grace, Thing, PlaceOf, FrameOf, NumberOf, State}
 use Rattle.kernel_rules.specs.Access.{Slot, found, Target}
 use Rattle.kernel_rules.specs.GracePeriods.{same_thing, needs_flush, is_paging, is_translated, new_grace, begun}
-use Rattle.kernel_rules.specs.Rules.{Change, Cause, When, WaitedFor, Unflushed, Rule, Name, Vacant, Held, Mapped, Does, Judged, Refused, Found, and_then, unless, named, vacant, held, mapped, first_of, refusal_of, first_cause, outcome}
+use Rattle.kernel_rules.specs.Rules.{Change, Cause, When, WaitedFor, Unflushed, Rule, Name, Vacant, Held, Mapped, Does, Judged, Refused}
+use Rattle.kernel_rules.specs.Rules.{Found, and_then, unless, named, vacant, held, mapped, first_of, refusal_of, first_cause, outcome}
 use Rattle.kernel_rules.specs.CallRelation.{changed}
 use Rattle.kernel_rules.specs.Relies.{is_node}
 use Rattle.kernel_invariant.proofs.Sound.{IsSound}

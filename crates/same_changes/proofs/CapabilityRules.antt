@@ -1,5 +1,6 @@
 -- The calls on capabilities come to the same.
-use Rattle.std.proofs.Common.{◌≡◌, ℕ, ◌+◌, ◌<◌, ◌==◌, Bool, true, false, not, ◌&&◌, ◌||◌, refl, sym, ◌∙◌, ap, subst, nat_le, nat_lt, if◌then◌else◌, List, [], ◌∷◌, Option, None, IsTrue}
+use Rattle.std.proofs.Common.{◌≡◌, ℕ, ◌+◌, ◌<◌, ◌==◌, Bool, true, false, not, ◌&&◌, ◌||◌, refl, sym, ◌∙◌}
+use Rattle.std.proofs.Common.{ap, subst, nat_le, nat_lt, if◌then◌else◌, List, [], ◌∷◌, Option, None, IsTrue}
 use Rattle.std.proofs.lemmas.Bool.{false≢true, ltb-true}
 use Rattle.spk_nums.specs.Capability.{Capability}
 use Rattle.spk_nums.specs.declared.kinds.Kind.{Kind}
@@ -8,11 +9,15 @@ use Rattle.spk_nums.specs.declared.calls.Make.{Make}
 use Rattle.spk_nums.specs.declared.calls.Make.TheVariants as make
 use Rattle.spk_nums.specs.CallLimits.{MakeInLimits}
 use Rattle.spk_nums.specs.declared.replies.Reply.TheVariants as reply
-use Rattle.kernel_rules.specs.State.{Place, Free, Holds, Quiescing, CompFields, Object, Table, Leaf, Pages, Pleaf, Comp, Thread, Tcap, Frame, Kernel, Liveness, Live, Thing, NumberOf, Limits, State, put, with_place, with_frame, with_number}
+use Rattle.kernel_rules.specs.State.{Place, Free, Holds, Quiescing, CompFields, Object, Table, Leaf, Pages}
+use Rattle.kernel_rules.specs.State.{Pleaf, Comp, Thread, Tcap, Frame, Kernel, Liveness, Live, Thing}
+use Rattle.kernel_rules.specs.State.{NumberOf, Limits, State, put, with_place, with_frame, with_number}
 use Rattle.kernel_rules.specs.Start.{plain_cap, no_grace}
 use Rattle.kernel_rules.specs.Access.{Slot, Named, capability, Under, InRoot, found, only, root}
 use Rattle.kernel_rules.specs.Rules.{Change, Found, Cause, When, named, refusal_of, fills, removes}
-use Rattle.kernel_rules.specs.CapabilityCalls.{look_rule, copy_rule, remove_rule, grow_rule, shrink_rule, outside, is_blank, not_blank, makes, is_place_of, cleared, make_node, make_thread, make_tcap, is_live, epoch_of, not_taken, makes_comp, make_comp, make_rule}
+use Rattle.kernel_rules.specs.CapabilityCalls.{look_rule, copy_rule, remove_rule, grow_rule, shrink_rule, outside}
+use Rattle.kernel_rules.specs.CapabilityCalls.{is_blank, not_blank, makes, is_place_of, cleared, make_node, make_thread}
+use Rattle.kernel_rules.specs.CapabilityCalls.{make_tcap, is_live, epoch_of, not_taken, makes_comp, make_comp, make_rule}
 use Rattle.kernel_rules.specs.Fitting.{fits, IsGood}
 use Rattle.kernel_rules.specs.Relies.{is_node}
 use Rattle.kernel_invariant.proofs.Sound.{only_is}
@@ -181,7 +186,12 @@ make_comp_same {t} {s} w r f x b y p l small =
                       (same_by _ _ (ap (λ n. (makes_comp t f (record
                       { table = own_table.frame; pages = own_pages.frame; number = l; epoch = epoch_of n + 1 }) at).next) number))
                       (same_place _ _ at.node at.index (Holds (plain_cap kind.Comp f)) (same_frame _ _ f
-                      (Kernel (Comp (record { table = own_table.frame; pages = own_pages.frame; number = l; epoch = epoch_of (s.number l) + 1 })))
+                      (Kernel (Comp (record {
+                        table = own_table.frame;
+                        pages = own_pages.frame;
+                        number = l;
+                        epoch = epoch_of (s.number l) + 1;
+                      })))
                       (same_number t s l (Live (epoch_of (s.number l) + 1) f) w.same)));
                   begins = refl;
                 },

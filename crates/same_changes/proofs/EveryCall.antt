@@ -3,7 +3,9 @@ use Rattle.std.proofs.Common.{◌≡◌, ℕ, ◌≤◌, sym, ap, subst, List}
 use Rattle.spk_nums.specs.Setting.{Setting, IsSetting}
 use Rattle.spk_nums.specs.CallLimits.{InLimits}
 use Rattle.spk_nums.specs.declared.calls.Call.{Call}
-use Rattle.spk_nums.specs.declared.calls.Call.TheVariants.{Look, Copy, Remove, Grow, Shrink, Retype, Make as make_call, Map, Unmap, Touch, Flush, Gate, Kill, Call as call_gate, Ret, Switch, Tick, Transfer, Delegate, Test}
+use Rattle.spk_nums.specs.declared.calls.Call.TheVariants.{Look, Copy, Remove, Grow, Shrink, Retype, Make as make_call}
+use Rattle.spk_nums.specs.declared.calls.Call.TheVariants.{Map, Unmap, Touch, Flush, Gate, Kill, Call as call_gate}
+use Rattle.spk_nums.specs.declared.calls.Call.TheVariants.{Ret, Switch, Tick, Transfer, Delegate, Test}
 use Rattle.kernel_rules.specs.State.{Limits, State}
 use Rattle.kernel_rules.specs.CallRelation.{rule_of, change_of}
 use Rattle.kernel_rules.specs.Runs.{Event, after, Open, is_open, phase_of, IsRun}
@@ -17,7 +19,8 @@ use Rattle.same_changes.proofs.InRange.{in_range}
 use Rattle.same_changes.proofs.Alike.{SameRule, outcome_same}
 use Rattle.same_changes.proofs.CapabilityRules.{look_same, copy_same, remove_same, grow_same, shrink_same, make_same}
 use Rattle.same_changes.proofs.MemoryRules.{retype_same, map_same, unmap_same, touch_same, flush_same}
-use Rattle.same_changes.proofs.TimeRules.{gate_same, kill_same, call_same, ret_same, switch_same, tick_same, transfer_same, delegate_same, test_same}
+use Rattle.same_changes.proofs.TimeRules.{gate_same, kill_same, call_same, ret_same, switch_same}
+use Rattle.same_changes.proofs.TimeRules.{tick_same, transfer_same, delegate_same, test_same}
 
 pub rule_same : {t s : State} {o : ℕ → _} {c : ℕ} → Twins t s o c → (call : Call) → InLimits call
     → SameRule s c (rule_of t c call) (rule_of s c call)

@@ -9,8 +9,11 @@ use Rattle.spk_nums.specs.CallLimits.{InLimits, MakeInLimits}
 use Rattle.spk_nums.specs.declared.calls.Make.{Make}
 use Rattle.spk_nums.specs.declared.calls.Make.TheVariants as make
 use Rattle.spk_nums.specs.declared.calls.Call.{Call}
-use Rattle.spk_nums.specs.declared.calls.Call.TheVariants.{Look, Copy, Remove, Grow, Shrink, Retype, Make as make_call, Map, Unmap, Touch, Flush, Gate, Kill, Call as call_gate, Ret, Switch, Tick, Transfer, Delegate, Test}
-use Rattle.kernel_rules.specs.State.{CompFields, Comp, Frame, Kernel, Liveness, Unused, Live, Dead, Core, Limits, State, comp_in, tcap_in, comp_of}
+use Rattle.spk_nums.specs.declared.calls.Call.TheVariants.{Look, Copy, Remove, Grow, Shrink, Retype, Make as make_call}
+use Rattle.spk_nums.specs.declared.calls.Call.TheVariants.{Map, Unmap, Touch, Flush, Gate, Kill, Call as call_gate}
+use Rattle.spk_nums.specs.declared.calls.Call.TheVariants.{Ret, Switch, Tick, Transfer, Delegate, Test}
+use Rattle.kernel_rules.specs.State.{CompFields, Comp, Frame, Kernel, Liveness, Unused, Live}
+use Rattle.kernel_rules.specs.State.{Dead, Core, Limits, State, comp_in, tcap_in, comp_of}
 use Rattle.kernel_rules.specs.Access.{only}
 use Rattle.kernel_rules.specs.Rules.{Judged, Refused, Found, named, mapped}
 use Rattle.kernel_rules.specs.CapabilityCalls.{epoch_of}

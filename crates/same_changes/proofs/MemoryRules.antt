@@ -1,5 +1,6 @@
 -- The calls on memory come to the same.
-use Rattle.std.proofs.Common.{◌≡◌, ℕ, ◌+◌, ◌<◌, ◌≤◌, ◌==◌, Bool, true, false, not, ◌&&◌, refl, sym, ◌∙◌, ap, subst, arith, nat_le, nat_lt, if◌then◌else◌, zero, suc, List, [], ◌∷◌, length, Option, Some, None, is_some, IsTrue}
+use Rattle.std.proofs.Common.{◌≡◌, ℕ, ◌+◌, ◌<◌, ◌≤◌, ◌==◌, Bool, true, false, not, ◌&&◌, refl, sym, ◌∙◌, ap, subst, arith, nat_le}
+use Rattle.std.proofs.Common.{nat_lt, if◌then◌else◌, zero, suc, List, [], ◌∷◌, length, Option, Some, None, is_some, IsTrue}
 use Rattle.std.specs.List.{list_any, range_with_len}
 use Rattle.std.proofs.lemmas.Bool.{false≢true, ltb-true}
 use Rattle.spk_nums.specs.Capability.{Capability}
@@ -10,14 +11,16 @@ use Rattle.spk_nums.specs.declared.kinds.PageFlags.{PageFlags}
 use Rattle.spk_nums.specs.declared.translations.Translation.{Translation}
 use Rattle.spk_nums.specs.declared.replies.Reply.{Reply}
 use Rattle.spk_nums.specs.declared.replies.Reply.TheVariants as reply
-use Rattle.kernel_rules.specs.State.{Holds, Object, Blank, Table, Leaf, Pages, Pleaf, Comp, Thread, Tcap, Frame, Untyped, User, Kernel, Grace, Thing, FrameOf, CompFields, Core, State, put, with_frame, with_core, with_grace, comp_of}
+use Rattle.kernel_rules.specs.State.{Holds, Object, Blank, Table, Leaf, Pages, Pleaf, Comp, Thread, Tcap, Frame, Untyped, User, Kernel}
+use Rattle.kernel_rules.specs.State.{Grace, Thing, FrameOf, CompFields, Core, State, put, with_frame, with_core, with_grace, comp_of}
 use Rattle.kernel_rules.specs.Start.{no_grace}
 use Rattle.kernel_rules.specs.References.{refs, frame_names}
 use Rattle.kernel_rules.specs.Access.{Named, Under, found, only, held_in}
 use Rattle.kernel_rules.specs.GracePeriods.{same_thing, flushed}
 use Rattle.kernel_rules.specs.Rules.{Change, Cause, Found, named, refusal_of, fills, frames_of}
 use Rattle.kernel_rules.specs.CapabilityCalls.{outside, has_frame}
-use Rattle.kernel_rules.specs.MemoryCalls.{is_untyped, is_user, holds_nothing, is_empty_object, is_empty, not_retyped, retypes, retype_rule, map_rule, unmap_rule, translation_of, caching, caches, touch_by, touch_rule, flush_rule}
+use Rattle.kernel_rules.specs.MemoryCalls.{is_untyped, is_user, holds_nothing, is_empty_object, is_empty, not_retyped, retypes, retype_rule}
+use Rattle.kernel_rules.specs.MemoryCalls.{map_rule, unmap_rule, translation_of, caching, caches, touch_by, touch_rule, flush_rule}
 use Rattle.kernel_rules.specs.Fitting.{IsGood, EndsWithin}
 use Rattle.kernel_rules.specs.Relies.{is_node}
 use Rattle.kernel_invariant.proofs.Sound.{only_is}
@@ -189,7 +192,8 @@ touched_same {t} {s} {o} {c} w v None = (
   λ mapping is. (
     tt,
     λ none.
-        let tr : Translation = record { pages = (comp_of s c).pages; page = v; frame = mapping.frame; flags = record { 0 = mapping.arg } } in
+        let tr : Translation =
+        record { pages = (comp_of s c).pages; page = v; frame = mapping.frame; flags = record { 0 = mapping.arg } } in
         record {
           value = refl;
           next = same_then _ _ _

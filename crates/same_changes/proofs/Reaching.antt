@@ -1,5 +1,6 @@
 -- What an open call looks up is the same in two states that are one for all that the machine has, one of them reached.
-use Rattle.std.proofs.Common.{◌≡◌, ◌≢◌, inl, inr, ℕ, ◌+◌, ◌/◌, ◌%◌, ◌<◌, ◌≤◌, ◌==◌, Bool, true, false, not, ◌&&◌, refl, sym, ◌∙◌, ap, subst, arith, nat_le, nat_lt, if◌then◌else◌, IsTrue, List, [], ◌∷◌, Option, Some, None}
+use Rattle.std.proofs.Common.{◌≡◌, ◌≢◌, inl, inr, ℕ, ◌+◌, ◌/◌, ◌%◌, ◌<◌, ◌≤◌, ◌==◌, Bool, true, false, not, ◌&&◌, refl, sym}
+use Rattle.std.proofs.Common.{◌∙◌, ap, subst, arith, nat_le, nat_lt, if◌then◌else◌, IsTrue, List, [], ◌∷◌, Option, Some, None}
 use Rattle.std.specs.Prelude.{find}
 use Rattle.std.specs.List.{range_with_len}
 use Rattle.std.proofs.lemmas.Bool.{cases_lt, false≢true, true≢false, leb-true}
@@ -8,10 +9,14 @@ use Rattle.spk_nums.specs.declared.kinds.Kind.{Kind}
 use Rattle.spk_nums.specs.declared.kinds.Kind.TheVariants as kind
 use Rattle.spk_nums.specs.declared.replies.Reply.{Reply}
 use Rattle.spk_nums.specs.declared.replies.Reply.TheVariants as reply
-use Rattle.kernel_rules.specs.State.{Place, Free, Holds, Quiescing, CompFields, ThreadFields, Object, Blank, Table, Leaf, Pages, Pleaf, Comp, Thread, Tcap, Frame, Untyped, User, Kernel, Grace, Thing, PlaceOf, FrameOf, NumberOf, Limits, Core, State, thread_in, comp_in, first_of_stack, thread_of, comp_of}
-use Rattle.kernel_rules.specs.Access.{Slot, Named, root_at, Target, Under, InRoot, place_at, held_in, usable_in, usable, linked, slot_in, reached, root_slot, own}
+use Rattle.kernel_rules.specs.State.{Place, Free, Holds, Quiescing, CompFields, ThreadFields, Object, Blank, Table, Leaf, Pages}
+use Rattle.kernel_rules.specs.State.{Pleaf, Comp, Thread, Tcap, Frame, Untyped, User, Kernel, Grace, Thing, PlaceOf, FrameOf}
+use Rattle.kernel_rules.specs.State.{NumberOf, Limits, Core, State, thread_in, comp_in, first_of_stack, thread_of, comp_of}
+use Rattle.kernel_rules.specs.Access.{Slot, Named, root_at, Target, Under, InRoot, place_at, held_in}
+use Rattle.kernel_rules.specs.Access.{usable_in, usable, linked, slot_in, reached, root_slot, own}
 use Rattle.kernel_rules.specs.GracePeriods.{lowest, other_waiting, quiescing_by, unflushed_by}
-use Rattle.kernel_rules.specs.Rules.{Judged, Refused, Found, and_then, unless, or_refuse, of_kind, named, first_of, waits_of, flushes_of, not_vacant, vacant, held, mapped}
+use Rattle.kernel_rules.specs.Rules.{Judged, Refused, Found, and_then, unless, or_refuse, of_kind, named}
+use Rattle.kernel_rules.specs.Rules.{first_of, waits_of, flushes_of, not_vacant, vacant, held, mapped}
 use Rattle.kernel_rules.specs.Fitting.{fits, IsGood}
 use Rattle.kernel_rules.specs.Ranges.{InRanges}
 use Rattle.kernel_rules.specs.Relies.{is_node}

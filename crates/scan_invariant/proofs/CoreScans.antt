@@ -1,7 +1,8 @@
 -- A step of a scan on the word of another core is good: it is refused by a core that may still use what was removed, or goes on to the
 -- next core, and from the last to the flush words or to the counts of the act.
 use Rattle.place_invariant.proofs.Starts.{IsRefusedOutside as RefusedOutside, starts_good}
-use Rattle.std.proofs.Common.{◌≡◌, ◌≢◌, ◌⊎◌, ℕ, ◌<◌, ◌≤◌, ◌&&◌, ◌++◌, nat_lt, nat_le, if◌then◌else◌, Bool, true, false, [], ◌∷◌, Option, Some, None, IsTrue, inl, inr, arith, refl, sym, ◌∙◌, ap, subst}
+use Rattle.std.proofs.Common.{◌≡◌, ◌≢◌, ◌⊎◌, ℕ, ◌<◌, ◌≤◌, ◌&&◌, ◌++◌, nat_lt, nat_le, if◌then◌else◌, Bool, true}
+use Rattle.std.proofs.Common.{false, [], ◌∷◌, Option, Some, None, IsTrue, inl, inr, arith, refl, sym, ◌∙◌, ap, subst}
 use Rattle.std.specs.Prelude.{IsSomeAnd, ◌==◌, ◌||◌}
 use Rattle.std.specs.List.{list_any}
 use Rattle.std.proofs.lemmas.Bool.{eq-eqb, ltb-false, leb-true, leb-false, false≢true}
@@ -30,14 +31,16 @@ use Rattle.kernel_history.proofs.Steps.{own_read-there, last_left-there}
 use Rattle.trace_laws.proofs.Waiting.{out_passed, later_passed, may_wait}
 use Rattle.stage_quiet.specs.declared.quiet.Quiet.{Quiet}
 use Rattle.stage_quiet.specs.declared.quiet.Quiet.TheVariants.{AtCore, AtFlush}
-use Rattle.stage_quiet.specs.Scan.{next_other, core_scan, flush_scan, quiet_move, core_refuses, scan_end, scan_after, quiet_next, quiet_end, quiet_after}
+use Rattle.stage_quiet.specs.Scan.{next_other, core_scan, flush_scan, quiet_move, core_refuses}
+use Rattle.stage_quiet.specs.Scan.{scan_end, scan_after, quiet_next, quiet_end, quiet_after}
 use Rattle.call_plans.specs.GoesBy.{GoesBy, OwnPages, own_pages}
 use Rattle.call_plans.specs.After.{Leads, LeadsIn, NextFree, rule_after, NextMay, next_of}
 use Rattle.call_plans.proofs.AfterNames.{Begins, left_begins, next_may}
 use Rattle.plan_ways.proofs.Ways.{asked_left}
 use Rattle.act_states.specs.declared.refusals.Refusal.TheVariants as refusal
 use Rattle.act_states.specs.declared.work.Act.{Act as ActOf}
-use Rattle.act_states.specs.declared.work.Act.TheVariants.{Fill as fill_act, Remove as remove_act, Retype as type_act, Make as make_act, Outside, Tick as tick_act, Kill as kill_act}
+use Rattle.act_states.specs.declared.work.Act.TheVariants.{Fill as fill_act, Remove as remove_act, Retype as type_act}
+use Rattle.act_states.specs.declared.work.Act.TheVariants.{Make as make_act, Outside, Tick as tick_act, Kill as kill_act}
 use Rattle.act_states.specs.declared.work.Work.TheVariants.{Scan}
 use Rattle.call_stages.specs.declared.stages.Stage.TheVariants.{Undecided}
 use Rattle.call_stages.specs.declared.stages.ActiveCall.{ActiveCall}
@@ -48,7 +51,8 @@ use Rattle.call_stages.specs.Fits.{StageFits, CountsAt, HasRoom}
 use Rattle.call_stages.specs.Steps.{landed, took_scan}
 use Rattle.call_stages.specs.View.{Core}
 use Rattle.core_invariant.specs.Holding.{holds_counts}
-use Rattle.core_invariant.specs.Knows.{HasPassed, IsScanned, MayFill, KnowsAct, KnowsUndecided, phase_at, IsSpot, goes_on as goes_on_act, HasFlushed, KnowsScan, KnowsQuiet, scanned_for}
+use Rattle.core_invariant.specs.Knows.{HasPassed, IsScanned, MayFill, KnowsAct, KnowsUndecided, phase_at, IsSpot}
+use Rattle.core_invariant.specs.Knows.{goes_on as goes_on_act, HasFlushed, KnowsScan, KnowsQuiet, scanned_for}
 use Rattle.core_invariant.specs.Invariant.{holds_at, holds_in, Invariant}
 use Rattle.kept_knowledge.proofs.Carries.{start_pairs, names_on, act_on, ReadsSame, slot_relies}
 use Rattle.step_ways.proofs.Users.{users_kept}

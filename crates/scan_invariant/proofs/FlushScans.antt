@@ -1,6 +1,7 @@
 -- A step of a scan on a flush word is good: it is refused by a core that may not have flushed since the removal, or goes on to the next
 -- flush word, and from the last to the counts of the act.
-use Rattle.std.proofs.Common.{◌≡◌, ◌≢◌, ◌⊎◌, ℕ, zero, suc, ◌+◌, ◌<◌, ◌≤◌, ◌==◌, find, cond, nat_lt, nat_le, if◌then◌else◌, Bool, true, false, [], ◌∷◌, Option, Some, None, IfSome, IsTrue, inl, inr, arith, refl, sym, ◌∙◌, ap, subst}
+use Rattle.std.proofs.Common.{◌≡◌, ◌≢◌, ◌⊎◌, ℕ, zero, suc, ◌+◌, ◌<◌, ◌≤◌, ◌==◌, find, cond, nat_lt, nat_le, if◌then◌else◌, Bool}
+use Rattle.std.proofs.Common.{true, false, [], ◌∷◌, Option, Some, None, IfSome, IsTrue, inl, inr, arith, refl, sym, ◌∙◌, ap, subst}
 use Rattle.std.specs.Prelude.{IsSomeAnd}
 use Rattle.std.specs.List.{list_any, range_with_len}
 use Rattle.std.proofs.lemmas.Bool.{cases_eq, eqb-true, eq-eqb, ltb-true, ltb-false, leb-true, leb-false, false≢true}
@@ -53,7 +54,8 @@ use Rattle.call_stages.specs.Steps.{landed, took_scan}
 use Rattle.call_stages.specs.View.{Core}
 use Rattle.core_invariant.specs.Holding.{holds_counts}
 use Rattle.core_invariant.specs.Words.{PlaceIs}
-use Rattle.core_invariant.specs.Knows.{HasPassed, HasFlushed, MayFill, KnowsAct, KnowsUndecided, scanned_for, phase_at, IsSpot, CallIs, goes_on as goes_on_act}
+use Rattle.core_invariant.specs.Knows.{HasPassed, HasFlushed, MayFill, KnowsAct, KnowsUndecided}
+use Rattle.core_invariant.specs.Knows.{scanned_for, phase_at, IsSpot, CallIs, goes_on as goes_on_act}
 use Rattle.core_invariant.specs.Invariant.{holds_at, holds_in, Invariant}
 use Rattle.kept_words.proofs.Calm.{stored_by}
 use Rattle.step_ways.proofs.Flushing.{none_flushing}
@@ -91,7 +93,8 @@ module _ (setup : Setting) (cores : ℕ → Core) (t : Trace) (stands : Invarian
   flush_is_stored d below undecided = (stands.each d below).flushed (none_flushing (cores d).active (phase t d)
       (by (cores d).active (stands.each d below).active) undecided)
     where
-      by : (active : Option ActiveCall) → CallIs setup t d (cores d).own.table active → IfSome active (λ a. phase t d ≡ phase_at a.call a.stage)
+      by : (active : Option ActiveCall) → CallIs setup t d (cores d).own.table active
+          → IfSome active (λ a. phase t d ≡ phase_at a.call a.stage)
       by None is = tt
       by (Some a) is = is.phase
 

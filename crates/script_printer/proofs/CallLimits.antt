@@ -14,7 +14,10 @@ use Rattle.script_reader.specs.declared.first_words.Verb.TheVariants as verb
 use Rattle.script_reader.specs.Causes.{◌>>=◌}
 use Rattle.script_reader.specs.Numerals.{number_of}
 use Rattle.script_reader.specs.Arguments.{is_word, word_at, number_at, end_at, frame_kind_at}
-use Rattle.script_reader.specs.CallLines.{call_line, look_line, copy_line, remove_line, grow_line, shrink_line, retype_line, map_line, unmap_line, touch_line, flush_line, gate_line, kill_line, enter_line, ret_line, switch_line, tick_line, transfer_line, delegate_line, test_line, object_of, object_at, thread_at, tcap_at, comp_at, plain_at, made_at, make_line}
+use Rattle.script_reader.specs.CallLines.{call_line, look_line, copy_line, remove_line, grow_line, shrink_line, retype_line}
+use Rattle.script_reader.specs.CallLines.{map_line, unmap_line, touch_line, flush_line, gate_line, kill_line, enter_line}
+use Rattle.script_reader.specs.CallLines.{ret_line, switch_line, tick_line, transfer_line, delegate_line, test_line}
+use Rattle.script_reader.specs.CallLines.{object_of, object_at, thread_at, tcap_at, comp_at, plain_at, made_at, make_line}
 use Rattle.script_printer.specs.Law.{IsName, IsMakeWithin, IsCallWithin}
 use Rattle.script_printer.proofs.Spans.{both_left, both_right}
 
@@ -38,7 +41,8 @@ pub args_none : {C : Type 0} (d : Result Unit Cause) (x c : C) → (d >>= λ don
 args_none (Ok done) x c e = judged_is x c e
 args_none (Err k) x c e = absurd cc
 
-pub args_one : {A C : Type 0} (r : Result A Cause) (d : Result Unit Cause) (f : A → C) (c : C) → (r >>= λ a. d >>= λ done. Ok (f a)) ≡ Ok c → (a : A) × (r ≡ Ok a) × (f a ≡ c)
+pub args_one : {A C : Type 0} (r : Result A Cause) (d : Result Unit Cause) (f : A → C) (c : C)
+    → (r >>= λ a. d >>= λ done. Ok (f a)) ≡ Ok c → (a : A) × (r ≡ Ok a) × (f a ≡ c)
 args_one (Ok a) d f c e = (a, refl, args_none d (f a) c e)
 args_one (Err k) d f c e = absurd cc
 
@@ -49,12 +53,14 @@ pub record Two {A B C : Type 0} (r : Result A Cause) (s : Result B Cause) (f : A
   pub second : s ≡ Ok b
   pub whole : f a b ≡ c
 
-pub args_two : {A B C : Type 0} (r : Result A Cause) (s : Result B Cause) (d : Result Unit Cause) (f : A → B → C) (c : C) → (r >>= λ a. s >>= λ b. d >>= λ done. Ok (f a b)) ≡ Ok c → Two r s f c
+pub args_two : {A B C : Type 0} (r : Result A Cause) (s : Result B Cause) (d : Result Unit Cause) (f : A → B → C) (c : C)
+    → (r >>= λ a. s >>= λ b. d >>= λ done. Ok (f a b)) ≡ Ok c → Two r s f c
 args_two (Ok a) (Ok b) d f c e = record { a = a; b = b; first = refl; second = refl; whole = args_none d (f a b) c e }
 args_two (Ok a) (Err k) d f c e = absurd cc
 args_two (Err k) s d f c e = absurd cc
 
-pub record Three {A B D C : Type 0} (r : Result A Cause) (s : Result B Cause) (t : Result D Cause) (f : A → B → D → C) (c : C) : Type 0 where
+pub record Three {A B D C : Type 0} (r : Result A Cause) (s : Result B Cause) (t : Result D Cause) (f : A
+    → B → D → C) (c : C) : Type 0 where
   pub a : A
   pub b : B
   pub d : D
@@ -63,7 +69,8 @@ pub record Three {A B D C : Type 0} (r : Result A Cause) (s : Result B Cause) (t
   pub third : t ≡ Ok d
   pub whole : f a b d ≡ c
 
-pub args_three : {A B D C : Type 0} (r : Result A Cause) (s : Result B Cause) (t : Result D Cause) (e : Result Unit Cause) (f : A → B → D → C) (c : C) → (r >>= λ a. s >>= λ b. t >>= λ d. e >>= λ done. Ok (f a b d)) ≡ Ok c → Three r s t f c
+pub args_three : {A B D C : Type 0} (r : Result A Cause) (s : Result B Cause) (t : Result D Cause) (e : Result Unit Cause) (f : A
+    → B → D → C) (c : C) → (r >>= λ a. s >>= λ b. t >>= λ d. e >>= λ done. Ok (f a b d)) ≡ Ok c → Three r s t f c
 args_three (Ok a) s t e f c h =
     let two = args_two s t e (f a) c h in
     record { a = a; b = two.a; d = two.b; first = refl; second = two.first; third = two.second; whole = two.whole }
@@ -90,20 +97,26 @@ name_in words place n e = (number_in words place 0 65535 n e).1
 
 -- ---- the lines
 
-name_line : (words : List (List ℕ)) (f : ℕ → Call) (d : Result Unit Cause) (c : Call) → ((a : ℕ) → IsName a → IsCallWithin (f a)) → (number_at words 1 0 65535 >>= λ a. d >>= λ done. Ok (f a)) ≡ Ok c → IsCallWithin c
+name_line : (words : List (List ℕ)) (f : ℕ → Call) (d : Result Unit Cause) (c : Call)
+    → ((a : ℕ) → IsName a → IsCallWithin (f a)) → (number_at words 1 0 65535 >>= λ a. d >>= λ done. Ok (f a)) ≡ Ok c → IsCallWithin c
 name_line words f d c within e =
     let r = args_one (number_at words 1 0 65535) d f c e in
     subst IsCallWithin r.2 (within r.0 (name_in words 1 r.0 r.1))
 
-names_line : (words : List (List ℕ)) (f : ℕ → ℕ → Call) (d : Result Unit Cause) (c : Call) → ((a b : ℕ) → IsName a → IsName b → IsCallWithin (f a b)) → (number_at words 1 0 65535 >>= λ a. number_at words 2 0 65535 >>= λ b. d >>= λ done. Ok (f a b)) ≡ Ok c → IsCallWithin c
+names_line : (words : List (List ℕ)) (f : ℕ → ℕ → Call) (d : Result Unit Cause) (c : Call) → ((a b : ℕ) → IsName a → IsName b
+    → IsCallWithin (f a b)) → (number_at words 1 0 65535 >>= λ a. number_at words 2 0 65535 >>= λ b. d >>= λ done. Ok (f a b)) ≡ Ok c
+    → IsCallWithin c
 names_line words f d c within e =
     let r = args_two (number_at words 1 0 65535) (number_at words 2 0 65535) d f c e in
     subst IsCallWithin r.whole (within r.a r.b (name_in words 1 r.a r.first) (name_in words 2 r.b r.second))
 
-three_line : (words : List (List ℕ)) (most : ℕ) (f : ℕ → ℕ → ℕ → Call) (d : Result Unit Cause) (c : Call) → ((a b m : ℕ) → IsName a → IsName b → m ≤ most → IsCallWithin (f a b m)) → (number_at words 1 0 65535 >>= λ a. number_at words 2 0 65535 >>= λ b. number_at words 3 0 most >>= λ m. d >>= λ done. Ok (f a b m)) ≡ Ok c → IsCallWithin c
+three_line : (words : List (List ℕ)) (most : ℕ) (f : ℕ → ℕ → ℕ → Call) (d : Result Unit Cause) (c : Call)
+    → ((a b m : ℕ) → IsName a → IsName b → m ≤ most → IsCallWithin (f a b m)) → (number_at words 1 0 65535 >>=
+    λ a. number_at words 2 0 65535 >>= λ b. number_at words 3 0 most >>= λ m. d >>= λ done. Ok (f a b m)) ≡ Ok c → IsCallWithin c
 three_line words most f d c within e =
     let r = args_three (number_at words 1 0 65535) (number_at words 2 0 65535) (number_at words 3 0 most) d f c e in
-    subst IsCallWithin r.whole (within r.a r.b r.d (name_in words 1 r.a r.first) (name_in words 2 r.b r.second) (number_in words 3 0 most r.d r.third).1)
+    subst IsCallWithin r.whole
+    (within r.a r.b r.d (name_in words 1 r.a r.first) (name_in words 2 r.b r.second) (number_in words 3 0 most r.d r.third).1)
 
 retype_in : (words : List (List ℕ)) (c : Call) → retype_line words ≡ Ok c → IsCallWithin c
 unfolding retype_line
@@ -114,10 +127,20 @@ retype_in words c e =
 map_in : (words : List (List ℕ)) (c : Call) → map_line words ≡ Ok c → IsCallWithin c
 unfolding map_line
 map_in words c e =
-    let p = bind_ok (number_at words 1 0 65535) (λ p. number_at words 2 0 65535 >>= λ v. number_at words 3 0 65535 >>= λ r. number_at words 4 0 65535 >>= λ f. number_at words 5 0 3 >>= λ w. end_at words 6 >>= λ done. Ok (call.Map p v r f (record { 0 = w }))) c e in
-    let v = bind_ok (number_at words 2 0 65535) (λ v. number_at words 3 0 65535 >>= λ r. number_at words 4 0 65535 >>= λ f. number_at words 5 0 3 >>= λ w. end_at words 6 >>= λ done. Ok (call.Map p.0 v r f (record { 0 = w }))) c p.2 in
-    let r = args_three (number_at words 3 0 65535) (number_at words 4 0 65535) (number_at words 5 0 3) (end_at words 6) (λ r f w. call.Map p.0 v.0 r f (record { 0 = w })) c v.2 in
-    subst IsCallWithin r.whole (name_in words 1 p.0 p.1, name_in words 2 v.0 v.1, name_in words 3 r.a r.first, name_in words 4 r.b r.second, (number_in words 5 0 3 r.d r.third).1)
+    let p = bind_ok (number_at words 1 0 65535) (λ p. number_at words 2 0 65535 >>= λ v. number_at words 3 0 65535 >>=
+    λ r. number_at words 4 0 65535 >>= λ f. number_at words 5 0 3 >>=
+    λ w. end_at words 6 >>= λ done. Ok (call.Map p v r f (record { 0 = w }))) c e in
+    let v = bind_ok (number_at words 2 0 65535) (λ v. number_at words 3 0 65535 >>= λ r. number_at words 4 0 65535 >>=
+    λ f. number_at words 5 0 3 >>= λ w. end_at words 6 >>= λ done. Ok (call.Map p.0 v r f (record { 0 = w }))) c p.2 in
+    let r = args_three (number_at words 3 0 65535) (number_at words 4 0 65535) (number_at words 5 0 3)
+    (end_at words 6) (λ r f w. call.Map p.0 v.0 r f (record { 0 = w })) c v.2 in
+    subst IsCallWithin r.whole (
+      name_in words 1 p.0 p.1,
+      name_in words 2 v.0 v.1,
+      name_in words 3 r.a r.first,
+      name_in words 4 r.b r.second,
+      (number_in words 5 0 3 r.d r.third).1,
+    )
 
 plain_in : (words : List (List ℕ)) (x what : Make) → IsMakeWithin x → plain_at words x ≡ Ok what → IsMakeWithin what
 unfolding plain_at
@@ -142,7 +165,8 @@ comp_in words what e =
     let r = args_three (number_at words 6 0 65535) (number_at words 7 0 65535) (number_at words 8 0 63) (end_at words 9) make.Comp what e in
     subst IsMakeWithin r.whole (name_in words 6 r.a r.first, name_in words 7 r.b r.second, (number_in words 8 0 63 r.d r.third).1)
 
-word_made : (words : List (List ℕ)) (w : List ℕ) (what : Make) → (ok_or (object_of w) S2 >>= λ o. made_at words o) ≡ Ok what → IsMakeWithin what
+word_made : (words : List (List ℕ)) (w : List ℕ) (what : Make)
+    → (ok_or (object_of w) S2 >>= λ o. made_at words o) ≡ Ok what → IsMakeWithin what
 unfolding object_of made_at
 word_made words w what e =
     elim (cases_Bool (is_word w (codes "table"))) [
@@ -171,7 +195,8 @@ word_made words w what e =
     no_object : (x : Make) → failed S2 ≡ Ok x → ⊥
     no_object x k = cc
 
-result_made : (words : List (List ℕ)) (r : Result (List ℕ) Cause) (what : Make) → ((r >>= λ w. ok_or (object_of w) S2) >>= λ o. made_at words o) ≡ Ok what → IsMakeWithin what
+result_made : (words : List (List ℕ)) (r : Result (List ℕ) Cause) (what : Make)
+    → ((r >>= λ w. ok_or (object_of w) S2) >>= λ o. made_at words o) ≡ Ok what → IsMakeWithin what
 result_made words (Ok w) what e = word_made words w what e
 result_made words (Err k) what e = absurd cc
 
@@ -182,18 +207,30 @@ made_in words what e = result_made words (word_at words 1) what e
 make_in : (words : List (List ℕ)) (c : Call) → make_line words ≡ Ok c → IsCallWithin c
 unfolding make_line
 make_in words c e =
-    let o = bind_ok (object_at words) (λ o. number_at words 2 0 65535 >>= λ r. number_at words 3 0 65535 >>= λ f. number_at words 4 0 65535 >>= λ t. number_at words 5 0 65535 >>= λ b. made_at words o >>= λ what. Ok (call.Make what r f t b)) c e in
-    let r = bind_ok (number_at words 2 0 65535) (λ r. number_at words 3 0 65535 >>= λ f. number_at words 4 0 65535 >>= λ t. number_at words 5 0 65535 >>= λ b. made_at words o.0 >>= λ what. Ok (call.Make what r f t b)) c o.2 in
-    let f = bind_ok (number_at words 3 0 65535) (λ f. number_at words 4 0 65535 >>= λ t. number_at words 5 0 65535 >>= λ b. made_at words o.0 >>= λ what. Ok (call.Make what r.0 f t b)) c r.2 in
-    let t = bind_ok (number_at words 4 0 65535) (λ t. number_at words 5 0 65535 >>= λ b. made_at words o.0 >>= λ what. Ok (call.Make what r.0 f.0 t b)) c f.2 in
+    let o = bind_ok (object_at words) (λ o. number_at words 2 0 65535 >>= λ r. number_at words 3 0 65535 >>=
+    λ f. number_at words 4 0 65535 >>= λ t. number_at words 5 0 65535 >>=
+    λ b. made_at words o >>= λ what. Ok (call.Make what r f t b)) c e in
+    let r = bind_ok (number_at words 2 0 65535) (λ r. number_at words 3 0 65535 >>= λ f. number_at words 4 0 65535 >>=
+    λ t. number_at words 5 0 65535 >>= λ b. made_at words o.0 >>= λ what. Ok (call.Make what r f t b)) c o.2 in
+    let f = bind_ok (number_at words 3 0 65535) (λ f. number_at words 4 0 65535 >>=
+    λ t. number_at words 5 0 65535 >>= λ b. made_at words o.0 >>= λ what. Ok (call.Make what r.0 f t b)) c r.2 in
+    let t = bind_ok (number_at words 4 0 65535)
+    (λ t. number_at words 5 0 65535 >>= λ b. made_at words o.0 >>= λ what. Ok (call.Make what r.0 f.0 t b)) c f.2 in
     let b = bind_ok (number_at words 5 0 65535) (λ b. made_at words o.0 >>= λ what. Ok (call.Make what r.0 f.0 t.0 b)) c t.2 in
     let w = bind_ok (made_at words o.0) (λ what. judged (call.Make what r.0 f.0 t.0 b.0)) c b.2 in
     let what : IsMakeWithin w.0 = made_in words w.0 (ap (λ x. x >>= λ o. made_at words o) o.1 ∙ w.1) in
-    subst IsCallWithin (judged_is (call.Make w.0 r.0 f.0 t.0 b.0) c w.2) (what, name_in words 2 r.0 r.1, name_in words 3 f.0 f.1, name_in words 4 t.0 t.1, name_in words 5 b.0 b.1)
+    subst IsCallWithin (judged_is (call.Make w.0 r.0 f.0 t.0 b.0) c w.2) (
+      what,
+      name_in words 2 r.0 r.1,
+      name_in words 3 f.0 f.1,
+      name_in words 4 t.0 t.1,
+      name_in words 5 b.0 b.1,
+    )
 
 -- what the line of a call says is within its limits
 pub call_in : (words : List (List ℕ)) (v : Verb) (c : Call) → call_line words v ≡ Ok c → IsCallWithin c
-unfolding call_line look_line copy_line remove_line grow_line shrink_line unmap_line touch_line flush_line gate_line kill_line enter_line ret_line switch_line tick_line transfer_line delegate_line test_line
+unfolding call_line look_line copy_line remove_line grow_line shrink_line unmap_line touch_line flush_line
+    gate_line kill_line enter_line ret_line switch_line tick_line transfer_line delegate_line test_line
 call_in words verb.Look c e = name_line words call.Look (end_at words 2) c (λ a h. h) e
 call_in words verb.Copy c e = three_line words 65535 call.Copy (end_at words 4) c (λ a b m h k l. (h, k, l)) e
 call_in words verb.Remove c e = names_line words call.Remove (end_at words 3) c (λ a b h k. (h, k)) e

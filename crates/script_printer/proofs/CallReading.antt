@@ -8,7 +8,9 @@ use Rattle.spk_nums.specs.declared.kinds.FrameKind.TheVariants.{Untyped, User, K
 use Rattle.spk_nums.specs.declared.calls.Make.{Make}
 use Rattle.spk_nums.specs.declared.calls.Make.TheVariants as make
 use Rattle.spk_nums.specs.declared.calls.Call.{Call}
-use Rattle.spk_nums.specs.declared.calls.Call.TheVariants.{Look, Copy, Remove, Grow, Shrink, Retype, Make as make_call, Map, Unmap, Touch, Flush, Gate, Kill, Call as call_gate, Ret, Switch, Tick, Transfer, Delegate, Test}
+use Rattle.spk_nums.specs.declared.calls.Call.TheVariants.{Look, Copy, Remove, Grow, Shrink, Retype, Make as make_call}
+use Rattle.spk_nums.specs.declared.calls.Call.TheVariants.{Map, Unmap, Touch, Flush, Gate, Kill, Call as call_gate}
+use Rattle.spk_nums.specs.declared.calls.Call.TheVariants.{Ret, Switch, Tick, Transfer, Delegate, Test}
 use Rattle.script_reader.specs.declared.first_words.Verb.{Verb}
 use Rattle.script_reader.specs.declared.first_words.Verb.TheVariants as verb
 use Rattle.script_reader.specs.declared.first_words.FirstWord.TheVariants as first
@@ -17,7 +19,10 @@ use Rattle.script_reader.specs.declared.head.Head.{Head}
 use Rattle.script_reader.specs.declared.head.Line.TheVariants as line
 use Rattle.script_reader.specs.FirstWords.{first_word, verb_of, later_verb_of}
 use Rattle.script_reader.specs.Arguments.{is_word, word_at, end_at, frame_kind_of, frame_kind_at}
-use Rattle.script_reader.specs.CallLines.{call_line, look_line, copy_line, remove_line, grow_line, shrink_line, retype_line, map_line, unmap_line, touch_line, flush_line, gate_line, kill_line, enter_line, ret_line, switch_line, tick_line, transfer_line, delegate_line, test_line, object_of, object_at, thread_at, tcap_at, comp_at, plain_at, made_at, make_line}
+use Rattle.script_reader.specs.CallLines.{call_line, look_line, copy_line, remove_line, grow_line, shrink_line, retype_line}
+use Rattle.script_reader.specs.CallLines.{map_line, unmap_line, touch_line, flush_line, gate_line, kill_line, enter_line}
+use Rattle.script_reader.specs.CallLines.{ret_line, switch_line, tick_line, transfer_line, delegate_line, test_line}
+use Rattle.script_reader.specs.CallLines.{object_of, object_at, thread_at, tcap_at, comp_at, plain_at, made_at, make_line}
 use Rattle.script_reader.specs.Heads.{line_of, line_by}
 use Rattle.script_printer.specs.Law.{IsName, IsMakeWithin, IsCallWithin}
 use Rattle.script_printer.proofs.NumberWords.{number_back, name_back}
@@ -85,7 +90,8 @@ kind_back w a b Untyped = refl
 kind_back w a b User = refl
 kind_back w a b Kernel = refl
 
-make_read : (what : Make) (r f t b : ℕ) → IsMakeWithin what → IsName r → IsName f → IsName t → IsName b → make_line (make_words what r f t b) ≡ Ok (make_call what r f t b)
+make_read : (what : Make) (r f t b : ℕ) → IsMakeWithin what → IsName r → IsName f
+    → IsName t → IsName b → make_line (make_words what r f t b) ≡ Ok (make_call what r f t b)
 unfolding make_line object_at word_at object_of is_word made_at plain_at thread_at tcap_at comp_at end_at
 make_read make.Table r f t b h hr hf ht hb =
     let ws = make_words make.Table r f t b in
@@ -101,30 +107,62 @@ make_read make.Pleaf r f t b h hr hf ht hb =
     rw (name_back ws 2 r refl hr, name_back ws 3 f refl hf, name_back ws 4 t refl ht, name_back ws 5 b refl hb) refl
 make_read (make.Thread comp) r f t b h hr hf ht hb =
     let ws = make_words (make.Thread comp) r f t b in
-    rw (name_back ws 2 r refl hr, name_back ws 3 f refl hf, name_back ws 4 t refl ht, name_back ws 5 b refl hb, name_back ws 6 comp refl h) refl
+    rw (
+      name_back ws 2 r refl hr,
+      name_back ws 3 f refl hf,
+      name_back ws 4 t refl ht,
+      name_back ws 5 b refl hb,
+      name_back ws 6 comp refl h,
+    ) refl
 make_read (make.Tcap sched quality) r f t b h hr hf ht hb =
     let ws = make_words (make.Tcap sched quality) r f t b in
-    rw (name_back ws 2 r refl hr, name_back ws 3 f refl hf, name_back ws 4 t refl ht, name_back ws 5 b refl hb, number_back ws 6 0 63 sched refl (omega arith) h.0 (omega arith), number_back ws 7 1 16777215 quality refl h.1 h.2 (omega arith)) refl
+    rw (
+      name_back ws 2 r refl hr,
+      name_back ws 3 f refl hf,
+      name_back ws 4 t refl ht,
+      name_back ws 5 b refl hb,
+      number_back ws 6 0 63 sched refl (omega arith) h.0 (omega arith),
+      number_back ws 7 1 16777215 quality refl h.1 h.2 (omega arith),
+    ) refl
 make_read (make.Comp table pages live) r f t b h hr hf ht hb =
     let ws = make_words (make.Comp table pages live) r f t b in
-    rw (name_back ws 2 r refl hr, name_back ws 3 f refl hf, name_back ws 4 t refl ht, name_back ws 5 b refl hb, name_back ws 6 table refl h.0, name_back ws 7 pages refl h.1, number_back ws 8 0 63 live refl (omega arith) h.2 (omega arith)) refl
+    rw (
+      name_back ws 2 r refl hr,
+      name_back ws 3 f refl hf,
+      name_back ws 4 t refl ht,
+      name_back ws 5 b refl hb,
+      name_back ws 6 table refl h.0,
+      name_back ws 7 pages refl h.1,
+      number_back ws 8 0 63 live refl (omega arith) h.2 (omega arith),
+    ) refl
 
 call_read : (c : Call) → IsCallWithin c → call_line (call_words c) (call_verb c) ≡ Ok c
-unfolding call_line look_line copy_line remove_line grow_line shrink_line retype_line map_line unmap_line touch_line flush_line gate_line kill_line enter_line ret_line switch_line tick_line transfer_line delegate_line test_line end_at
+unfolding call_line look_line copy_line remove_line grow_line shrink_line retype_line map_line unmap_line touch_line
+    flush_line gate_line kill_line enter_line ret_line switch_line tick_line transfer_line delegate_line test_line end_at
 call_read (Look a) h = let ws = call_words (Look a) in rw (name_back ws 1 a refl h) refl
-call_read (Copy a t b) h = let ws = call_words (Copy a t b) in rw (name_back ws 1 a refl h.0, name_back ws 2 t refl h.1, name_back ws 3 b refl h.2) refl
+call_read (Copy a t b) h = let ws = call_words (Copy a t b) in
+    rw (name_back ws 1 a refl h.0, name_back ws 2 t refl h.1, name_back ws 3 b refl h.2) refl
 call_read (Remove t b) h = let ws = call_words (Remove t b) in rw (name_back ws 1 t refl h.0, name_back ws 2 b refl h.1) refl
-call_read (Grow t i l) h = let ws = call_words (Grow t i l) in rw (name_back ws 1 t refl h.0, name_back ws 2 i refl h.1, name_back ws 3 l refl h.2) refl
+call_read (Grow t i l) h = let ws = call_words (Grow t i l) in
+    rw (name_back ws 1 t refl h.0, name_back ws 2 i refl h.1, name_back ws 3 l refl h.2) refl
 call_read (Shrink t i) h = let ws = call_words (Shrink t i) in rw (name_back ws 1 t refl h.0, name_back ws 2 i refl h.1) refl
-call_read (Retype r f k) h = let ws = call_words (Retype r f k) in rw (name_back ws 1 r refl h.0, name_back ws 2 f refl h.1, kind_back (codes "retype") (decimal r) (decimal f) k) refl
+call_read (Retype r f k) h = let ws = call_words (Retype r f k) in
+    rw (name_back ws 1 r refl h.0, name_back ws 2 f refl h.1, kind_back (codes "retype") (decimal r) (decimal f) k) refl
 call_read (make_call what range frame table slot) h = make_read what range frame table slot h.0 h.1 h.2 h.3 h.4
 call_read (Map p v r f w) h =
     let ws = call_words (Map p v r f w) in
-    rw (name_back ws 1 p refl h.0, name_back ws 2 v refl h.1, name_back ws 3 r refl h.2, name_back ws 4 f refl h.3, number_back ws 5 0 3 w.0 refl (omega arith) h.4 (omega arith)) refl
+    rw (
+      name_back ws 1 p refl h.0,
+      name_back ws 2 v refl h.1,
+      name_back ws 3 r refl h.2,
+      name_back ws 4 f refl h.3,
+      number_back ws 5 0 3 w.0 refl (omega arith) h.4 (omega arith),
+    ) refl
 call_read (Unmap p v) h = let ws = call_words (Unmap p v) in rw (name_back ws 1 p refl h.0, name_back ws 2 v refl h.1) refl
 call_read (Touch v) h = let ws = call_words (Touch v) in rw (name_back ws 1 v refl h) refl
 call_read Flush h = refl
-call_read (Gate c t b) h = let ws = call_words (Gate c t b) in rw (name_back ws 1 c refl h.0, name_back ws 2 t refl h.1, name_back ws 3 b refl h.2) refl
+call_read (Gate c t b) h = let ws = call_words (Gate c t b) in
+    rw (name_back ws 1 c refl h.0, name_back ws 2 t refl h.1, name_back ws 3 b refl h.2) refl
 call_read (Kill c) h = let ws = call_words (Kill c) in rw (name_back ws 1 c refl h) refl
 call_read (call_gate g) h = let ws = call_words (call_gate g) in rw (name_back ws 1 g refl h) refl
 call_read Ret h = refl

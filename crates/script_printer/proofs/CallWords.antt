@@ -8,7 +8,9 @@ use Rattle.spk_nums.specs.declared.kinds.FrameKind.TheVariants.{Untyped, User, K
 use Rattle.spk_nums.specs.declared.calls.Make.{Make}
 use Rattle.spk_nums.specs.declared.calls.Make.TheVariants as make
 use Rattle.spk_nums.specs.declared.calls.Call.{Call}
-use Rattle.spk_nums.specs.declared.calls.Call.TheVariants.{Look, Copy, Remove, Grow, Shrink, Retype, Make as make_call, Map, Unmap, Touch, Flush, Gate, Kill, Call as call_gate, Ret, Switch, Tick, Transfer, Delegate, Test}
+use Rattle.spk_nums.specs.declared.calls.Call.TheVariants.{Look, Copy, Remove, Grow, Shrink, Retype, Make as make_call}
+use Rattle.spk_nums.specs.declared.calls.Call.TheVariants.{Map, Unmap, Touch, Flush, Gate, Kill, Call as call_gate}
+use Rattle.spk_nums.specs.declared.calls.Call.TheVariants.{Ret, Switch, Tick, Transfer, Delegate, Test}
 use Rattle.script_printer.specs.Printing.{call_line}
 use Rattle.script_printer.specs.Law.{IsName, IsMakeWithin, IsCallWithin}
 use Rattle.script_printer.proofs.Spans.{is_text, is_line, line_onto}
@@ -21,8 +23,10 @@ make_words make.Leaf r f t b = codes "make" ∷ codes "leaf" ∷ decimal r ∷ d
 make_words make.Pages r f t b = codes "make" ∷ codes "pages" ∷ decimal r ∷ decimal f ∷ decimal t ∷ decimal b ∷ []
 make_words make.Pleaf r f t b = codes "make" ∷ codes "pleaf" ∷ decimal r ∷ decimal f ∷ decimal t ∷ decimal b ∷ []
 make_words (make.Thread comp) r f t b = codes "make" ∷ codes "thread" ∷ decimal r ∷ decimal f ∷ decimal t ∷ decimal b ∷ decimal comp ∷ []
-make_words (make.Tcap sched quality) r f t b = codes "make" ∷ codes "tcap" ∷ decimal r ∷ decimal f ∷ decimal t ∷ decimal b ∷ decimal sched ∷ decimal quality ∷ []
-make_words (make.Comp table pages live) r f t b = codes "make" ∷ codes "comp" ∷ decimal r ∷ decimal f ∷ decimal t ∷ decimal b ∷ decimal table ∷ decimal pages ∷ decimal live ∷ []
+make_words (make.Tcap sched quality) r f t b =
+    codes "make" ∷ codes "tcap" ∷ decimal r ∷ decimal f ∷ decimal t ∷ decimal b ∷ decimal sched ∷ decimal quality ∷ []
+make_words (make.Comp table pages live) r f t b =
+    codes "make" ∷ codes "comp" ∷ decimal r ∷ decimal f ∷ decimal t ∷ decimal b ∷ decimal table ∷ decimal pages ∷ decimal live ∷ []
 
 -- the words of the line of a call
 abbrev pub call_words : Call → List (List ℕ)
@@ -91,19 +95,36 @@ kind_text Untyped = refl
 kind_text User = refl
 kind_text Kernel = refl
 
-make_is_line : (what : Make) (r f t b : ℕ) → IsMakeWithin what → IsName r → IsName f → IsName t → IsName b → is_line (make_words what r f t b) ≡ true
+make_is_line : (what : Make) (r f t b : ℕ) → IsMakeWithin what → IsName r
+    → IsName f → IsName t → IsName b → is_line (make_words what r f t b) ≡ true
 make_is_line make.Table r f t b h hr hf ht hb = rw (name_text r hr, name_text f hf, name_text t ht, name_text b hb) refl
 make_is_line make.Leaf r f t b h hr hf ht hb = rw (name_text r hr, name_text f hf, name_text t ht, name_text b hb) refl
 make_is_line make.Pages r f t b h hr hf ht hb = rw (name_text r hr, name_text f hf, name_text t ht, name_text b hb) refl
 make_is_line make.Pleaf r f t b h hr hf ht hb = rw (name_text r hr, name_text f hf, name_text t ht, name_text b hb) refl
-make_is_line (make.Thread comp) r f t b h hr hf ht hb = rw (name_text r hr, name_text f hf, name_text t ht, name_text b hb, name_text comp h) refl
+make_is_line (make.Thread comp) r f t b h hr hf ht hb =
+    rw (name_text r hr, name_text f hf, name_text t ht, name_text b hb, name_text comp h) refl
 make_is_line (make.Tcap sched quality) r f t b h hr hf ht hb =
     let least : sched ≤ 63 = h.0 in
     let most : quality ≤ 16777215 = h.2 in
-    rw (name_text r hr, name_text f hf, name_text t ht, name_text b hb, number_text sched (omega arith), number_text quality (omega arith)) refl
+    rw (
+      name_text r hr,
+      name_text f hf,
+      name_text t ht,
+      name_text b hb,
+      number_text sched (omega arith),
+      number_text quality (omega arith),
+    ) refl
 make_is_line (make.Comp table pages live) r f t b h hr hf ht hb =
     let most : live ≤ 63 = h.2 in
-    rw (name_text r hr, name_text f hf, name_text t ht, name_text b hb, name_text table h.0, name_text pages h.1, number_text live (omega arith)) refl
+    rw (
+      name_text r hr,
+      name_text f hf,
+      name_text t ht,
+      name_text b hb,
+      name_text table h.0,
+      name_text pages h.1,
+      number_text live (omega arith),
+    ) refl
 
 pub call_is_line : (c : Call) → IsCallWithin c → is_line (call_words c) ≡ true
 call_is_line (Look a) h = rw (name_text a h) refl

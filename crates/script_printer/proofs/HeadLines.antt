@@ -10,7 +10,8 @@ use Rattle.script_reader.specs.declared.head.Line.TheVariants as line
 use Rattle.script_reader.specs.Numerals.{number_of}
 use Rattle.script_reader.specs.FirstWords.{first_word}
 use Rattle.script_reader.specs.Arguments.{is_word, word_at, number_at, end_at}
-use Rattle.script_reader.specs.Heads.{no_head, granted, line_of, line_by, speck_line, cores_line, frames_line, grant_line, calls_line, epochs_line, core_line, order_line}
+use Rattle.script_reader.specs.Heads.{no_head, granted, line_of, line_by, speck_line, cores_line, frames_line}
+use Rattle.script_reader.specs.Heads.{grant_line, calls_line, epochs_line, core_line, order_line}
 use Rattle.script_printer.proofs.NumberWords.{number_back, core_back}
 
 -- the words of the lines
@@ -46,31 +47,42 @@ pub speck_back : line_of no_head speck_words ≡ Ok (line.Head (record no_head {
 unfolding line_of line_by speck_line number_at word_at number_of end_at first_word is_word
 speck_back = refl
 
-pub cores_back : (h : Head) (n : ℕ) → h.section ≡ section.Cores → 1 ≤ n → n ≤ 8 → line_of h (cores_words n) ≡ Ok (line.Head (record h { section = section.Frames; cores = n }))
+pub cores_back : (h : Head) (n : ℕ) → h.section ≡ section.Cores → 1 ≤ n → n ≤ 8
+    → line_of h (cores_words n) ≡ Ok (line.Head (record h { section = section.Frames; cores = n }))
 unfolding line_of line_by cores_line end_at first_word is_word
 cores_back h n e low high = rw (e, number_back (cores_words n) 1 1 8 n refl low high (omega arith)) refl
 
-pub frames_back : (h : Head) (n : ℕ) → h.section ≡ section.Frames → 4 + 2 * h.cores ≤ n → n ≤ 512 → line_of h (frames_words n) ≡ Ok (line.Head (record h { section = section.Grants; frames = n }))
+pub frames_back : (h : Head) (n : ℕ) → h.section ≡ section.Frames → 4 + 2 * h.cores ≤ n → n ≤ 512
+    → line_of h (frames_words n) ≡ Ok (line.Head (record h { section = section.Grants; frames = n }))
 unfolding line_of line_by frames_line end_at first_word is_word
 frames_back h n e low high = rw (e, number_back (frames_words n) 1 (4 + 2 * h.cores) 512 n refl low high (omega arith)) refl
 
-pub grant_back : (h : Head) (g : Grant) → h.section ≡ section.Grants → GrantFits g → line_of h (grant_words g) ≡ Ok (line.Head (granted h g))
+pub grant_back : (h : Head) (g : Grant) → h.section ≡ section.Grants
+    → GrantFits g → line_of h (grant_words g) ≡ Ok (line.Head (granted h g))
 unfolding line_of line_by grant_line end_at first_word is_word
 grant_back h g e fits =
     let budget : g.budget ≤ 500000000 = fits.0 in
     let sched : g.sched < 64 = fits.1 in
     let quality : g.quality < 2 ^ 24 = fits.3 in
-    rw (e, number_back (grant_words g) 1 0 500000000 g.budget refl (omega arith) budget (omega arith), number_back (grant_words g) 2 0 63 g.sched refl (omega arith) (omega arith) (omega arith), number_back (grant_words g) 3 1 16777215 g.quality refl fits.2 (omega arith) (omega arith)) refl
+    rw (
+      e,
+      number_back (grant_words g) 1 0 500000000 g.budget refl (omega arith) budget (omega arith),
+      number_back (grant_words g) 2 0 63 g.sched refl (omega arith) (omega arith) (omega arith),
+      number_back (grant_words g) 3 1 16777215 g.quality refl fits.2 (omega arith) (omega arith),
+    ) refl
 
-pub calls_back : (h : Head) (n : ℕ) → h.section ≡ section.Calls → n ≤ 4194304 → line_of h (calls_words n) ≡ Ok (line.Head (record h { section = section.Epochs; calls = n }))
+pub calls_back : (h : Head) (n : ℕ) → h.section ≡ section.Calls → n ≤ 4194304
+    → line_of h (calls_words n) ≡ Ok (line.Head (record h { section = section.Epochs; calls = n }))
 unfolding line_of line_by calls_line end_at first_word is_word
 calls_back h n e high = rw (e, number_back (calls_words n) 1 0 4194304 n refl (omega arith) high (omega arith)) refl
 
-pub epochs_back : (h : Head) (n : ℕ) → h.section ≡ section.Epochs → 1 ≤ n → n ≤ 65535 → line_of h (epochs_words n) ≡ Ok (line.Head (record h { section = section.Lists; epochs = n }))
+pub epochs_back : (h : Head) (n : ℕ) → h.section ≡ section.Epochs → 1 ≤ n → n ≤ 65535
+    → line_of h (epochs_words n) ≡ Ok (line.Head (record h { section = section.Lists; epochs = n }))
 unfolding line_of line_by epochs_line end_at first_word is_word
 epochs_back h n e low high = rw (e, number_back (epochs_words n) 1 1 65535 n refl low high (omega arith)) refl
 
-pub core_line_back : (h : Head) (n : ℕ) → IsListing h.section → n < h.cores → h.cores ≤ 8 → line_of h (core_words n) ≡ Ok (line.Head (record h { section = section.List; core = n }))
+pub core_line_back : (h : Head) (n : ℕ) → IsListing h.section → n < h.cores → h.cores ≤ 8
+    → line_of h (core_words n) ≡ Ok (line.Head (record h { section = section.List; core = n }))
 unfolding line_of line_by core_line end_at first_word is_word
 core_line_back h n (inl e) below fits = rw (e, core_back (core_words n) 1 h.cores n refl below fits) refl
 core_line_back h n (inr e) below fits = rw (e, core_back (core_words n) 1 h.cores n refl below fits) refl

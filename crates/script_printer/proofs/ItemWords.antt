@@ -1,5 +1,6 @@
 -- The items of an order as words: ten a line, and each is read as it was printed.
-use Rattle.std.proofs.Common.{◌≡◌, ℕ, zero, suc, ◌+◌, ◌%◌, ◌<◌, ◌≤◌, Bool, true, false, cond, List, [], ◌∷◌, ◌++◌, All, Some, Ok, refl, sym, ap, ◌∙◌, arith, append_assoc, inl, inr}
+use Rattle.std.proofs.Common.{◌≡◌, ℕ, zero, suc, ◌+◌, ◌%◌, ◌<◌, ◌≤◌, Bool, true, false, cond, List, []}
+use Rattle.std.proofs.Common.{◌∷◌, ◌++◌, All, Some, Ok, refl, sym, ap, ◌∙◌, arith, append_assoc, inl, inr}
 use Rattle.std.specs.Prelude.{codes, decimal, ◌==◌}
 use Rattle.std.proofs.lemmas.Bool.{cases_Bool, lt-ltb}
 use Rattle.std.proofs.lemmas.List.{append-nil}
@@ -21,7 +22,8 @@ in_front w (ws ∷ lines) = (w ∷ ws) ∷ lines
 -- the lines of items, the first of which stands at that place of the order
 abbrev pub item_rows : ℕ → Item → List Item → List (List (List ℕ))
 item_rows at i [] = (item_text i ∷ []) ∷ []
-item_rows at i (j ∷ js) = cond ((at + 1) % 10 == 0) ((item_text i ∷ []) ∷ item_rows (at + 1) j js) (in_front (item_text i) (item_rows (at + 1) j js))
+item_rows at i (j ∷ js) =
+    cond ((at + 1) % 10 == 0) ((item_text i ∷ []) ∷ item_rows (at + 1) j js) (in_front (item_text i) (item_rows (at + 1) j js))
 
 -- the lines of an order
 abbrev pub order_rows : List Item → List (List (List ℕ))
@@ -48,22 +50,28 @@ rows_start at i (j ∷ js) =
       | inr e ↦ rw e (front_starts (item_text i) (item_rows (at + 1) j js))
     ]
 
-front_onto : (w : List ℕ) (lines : List (List (List ℕ))) → starts lines ≡ true → lines_onto (in_front w lines) [] ≡ w ++ 32 ∷ lines_onto lines []
+front_onto : (w : List ℕ) (lines : List (List (List ℕ))) → starts lines ≡ true
+    → lines_onto (in_front w lines) [] ≡ w ++ 32 ∷ lines_onto lines []
 front_onto w [] h = absurd cc
 front_onto w ([] ∷ lines) h = absurd cc
 front_onto w ((v ∷ vs) ∷ lines) h = refl
 
-pub items_onto : (at : ℕ) (i : Item) (is : List Item) → items_text at (i ∷ is) ++ 10 ∷ [] ≡ before_item at ++ lines_onto (item_rows at i is) []
-items_onto at i [] = ap (λ t. t ++ 10 ∷ []) (append-nil (before_item at ++ item_text i)) ∙ append_assoc (before_item at) (item_text i) (10 ∷ [])
+pub items_onto : (at : ℕ) (i : Item) (is : List Item)
+    → items_text at (i ∷ is) ++ 10 ∷ [] ≡ before_item at ++ lines_onto (item_rows at i is) []
+items_onto at i [] = ap (λ t. t ++ 10 ∷ []) (append-nil (before_item at ++ item_text i))
+    ∙ append_assoc (before_item at) (item_text i) (10 ∷ [])
 items_onto at i (j ∷ js) =
     let here = before_item at in
-    let more : items_text (at + 1) (j ∷ js) ++ 10 ∷ [] ≡ before_item (at + 1) ++ lines_onto (item_rows (at + 1) j js) [] = items_onto (at + 1) j js in
+    let more : items_text (at + 1) (j ∷ js) ++ 10 ∷ [] ≡ before_item (at + 1) ++ lines_onto (item_rows (at + 1) j js) [] =
+    items_onto (at + 1) j js in
     append_assoc (here ++ item_text i) (items_text (at + 1) (j ∷ js)) (10 ∷ [])
     ∙ ap (λ t. (here ++ item_text i) ++ t) more
     ∙ append_assoc here (item_text i) (before_item (at + 1) ++ lines_onto (item_rows (at + 1) j js) [])
     ∙ ap (λ t. here ++ t) (split at i (item_rows (at + 1) j js) (rows_start (at + 1) j js))
   where
-    split : (at : ℕ) (i : Item) (rows : List (List (List ℕ))) → starts rows ≡ true → item_text i ++ (before_item (at + 1) ++ lines_onto rows []) ≡ lines_onto (cond ((at + 1) % 10 == 0) ((item_text i ∷ []) ∷ rows) (in_front (item_text i) rows)) []
+    split : (at : ℕ) (i : Item) (rows : List (List (List ℕ))) → starts rows ≡ true → item_text i
+        ++ (before_item (at + 1) ++ lines_onto rows [])
+        ≡ lines_onto (cond ((at + 1) % 10 == 0) ((item_text i ∷ []) ∷ rows) (in_front (item_text i) rows)) []
     split at i rows h =
         elim (cases_Bool ((at + 1) % 10 == 0)) [
           | inl e ↦ rw e refl
@@ -105,12 +113,17 @@ item_is_text i h = ap is_text (item_digit i.core i.how h) ∙ digit_text i.how i
 
 digit_parts : (how : How) (core : ℕ) → core < 8 → parts_of (digit_item core how) ≡ Some (record { digits = (48 + core) ∷ []; how = how })
 unfolding parts_of
-digit_parts One core h = below_eight (λ n. parts_of (digit_item n One) ≡ Some (record { digits = (48 + n) ∷ []; how = One })) refl refl refl refl refl refl refl refl core h
-digit_parts Ready core h = below_eight (λ n. parts_of (digit_item n Ready) ≡ Some (record { digits = (48 + n) ∷ []; how = Ready })) refl refl refl refl refl refl refl refl core h
-digit_parts Decide core h = below_eight (λ n. parts_of (digit_item n Decide) ≡ Some (record { digits = (48 + n) ∷ []; how = Decide })) refl refl refl refl refl refl refl refl core h
-digit_parts Return core h = below_eight (λ n. parts_of (digit_item n Return) ≡ Some (record { digits = (48 + n) ∷ []; how = Return })) refl refl refl refl refl refl refl refl core h
+digit_parts One core h = below_eight (λ n. parts_of (digit_item n One) ≡ Some (record { digits = (48 + n) ∷ []; how = One }))
+    refl refl refl refl refl refl refl refl core h
+digit_parts Ready core h = below_eight (λ n. parts_of (digit_item n Ready) ≡ Some (record { digits = (48 + n) ∷ []; how = Ready }))
+    refl refl refl refl refl refl refl refl core h
+digit_parts Decide core h = below_eight (λ n. parts_of (digit_item n Decide) ≡ Some (record { digits = (48 + n) ∷ []; how = Decide }))
+    refl refl refl refl refl refl refl refl core h
+digit_parts Return core h = below_eight (λ n. parts_of (digit_item n Return) ≡ Some (record { digits = (48 + n) ∷ []; how = Return }))
+    refl refl refl refl refl refl refl refl core h
 
-digit_read : (cores core : ℕ) (how : How) → core < cores → core < 8 → item_of cores (digit_item core how) ≡ Ok (record { core = core; how = how })
+digit_read : (cores core : ℕ) (how : How) → core < cores → core < 8
+    → item_of cores (digit_item core how) ≡ Ok (record { core = core; how = how })
 unfolding item_of
 digit_read cores core how below h =
     let value : value_of ((48 + core) ∷ []) ≡ core = omega arith in
@@ -118,7 +131,8 @@ digit_read cores core how below h =
 
 -- an item is read as it was printed
 pub item_read : (cores : ℕ) (i : Item) → i.core < cores → cores ≤ 8 → item_of cores (item_text i) ≡ Ok i
-item_read cores i below fits = ap (item_of cores) (item_digit i.core i.how (omega arith)) ∙ digit_read cores i.core i.how below (omega arith)
+item_read cores i below fits = ap (item_of cores) (item_digit i.core i.how (omega arith))
+    ∙ digit_read cores i.core i.how below (omega arith)
 
 front_lines : (w : List ℕ) (lines : List (List (List ℕ))) → is_text w ≡ true → are_lines lines ≡ true → are_lines (in_front w lines) ≡ true
 front_lines w [] h hs = rw h refl
@@ -128,10 +142,12 @@ front_lines w ((v ∷ vs) ∷ lines) h hs = rw h hs
 first_line : (w : List ℕ) (lines : List (List (List ℕ))) → is_text w ≡ true → are_lines lines ≡ true → are_lines ((w ∷ []) ∷ lines) ≡ true
 first_line w lines h hs = rw h hs
 
-pub rows_lines : (at : ℕ) (i : Item) (is : List Item) → i.core < 8 → All (λ (j : Item). j.core < 8) is → are_lines (item_rows at i is) ≡ true
+pub rows_lines : (at : ℕ) (i : Item) (is : List Item) → i.core < 8
+    → All (λ (j : Item). j.core < 8) is → are_lines (item_rows at i is) ≡ true
 rows_lines at i [] h hs = rw (item_is_text i h) refl
 rows_lines at i (j ∷ js) h hs =
-    let more : are_lines (item_rows (at + 1) j js) ≡ true = rows_lines (at + 1) j js (All-head (λ (j : Item). j.core < 8) j js hs) (All-tail (λ (j : Item). j.core < 8) j js hs) in
+    let more : are_lines (item_rows (at + 1) j js) ≡ true =
+    rows_lines (at + 1) j js (All-head (λ (j : Item). j.core < 8) j js hs) (All-tail (λ (j : Item). j.core < 8) j js hs) in
     elim (cases_Bool ((at + 1) % 10 == 0)) [
       | inl e ↦ rw e (first_line (item_text i) (item_rows (at + 1) j js) (item_is_text i h) more)
       | inr e ↦ rw e (front_lines (item_text i) (item_rows (at + 1) j js) (item_is_text i h) more)

@@ -28,7 +28,8 @@ core_length : (core : ℕ) (cs : List Call) (lines : List (List (List ℕ))) →
 core_length core [] lines = omega arith
 core_length core (c ∷ cs) lines = omega (arith, calls_length cs lines)
 
-lists_length : (core : ℕ) (lists : List (List Call)) (lines : List (List (List ℕ))) → length (lists_then core lists lines) ≤ most_list_lines lists + length lines
+lists_length : (core : ℕ) (lists : List (List Call)) (lines : List (List (List ℕ)))
+    → length (lists_then core lists lines) ≤ most_list_lines lists + length lines
 lists_length core [] lines = omega arith
 lists_length core (l ∷ ls) lines = omega (arith, core_length core l (lists_then (core + 1) ls lines), lists_length (core + 1) ls lines)
 
@@ -44,7 +45,8 @@ rows_length : (at : ℕ) (i : Item) (is : List Item) → length (item_rows at i 
 rows_length at i [] = omega arith
 rows_length at i (j ∷ js) =
     let more = rows_length (at + 1) j js in
-    either_length ((at + 1) % 10 == 0) ((item_text i ∷ []) ∷ item_rows (at + 1) j js) (in_front (item_text i) (item_rows (at + 1) j js)) (1 + length (j ∷ js))
+    either_length ((at + 1) % 10 == 0) ((item_text i ∷ []) ∷ item_rows (at + 1) j js)
+    (in_front (item_text i) (item_rows (at + 1) j js)) (1 + length (j ∷ js))
     (omega (arith, more)) (omega (arith, more, front_length (item_text i) (item_rows (at + 1) j js)))
 
 order_length : (items : List Item) → length (order_rows items) ≤ 1 + length items
@@ -55,10 +57,19 @@ one_more : (b : Bool) → cond b 1 0 ≤ 1
 one_more true = omega arith
 one_more false = omega arith
 
-pub few_lines : (m : Meaning) → IsSetting m.setup → length m.lists ≡ m.setup.cores → All (All IsCallWithin) m.lists → BelowCores m.setup.cores m.order → line_count (printed m) ≤ most_lines m
+pub few_lines : (m : Meaning) → IsSetting m.setup → length m.lists ≡ m.setup.cores
+    → All (All IsCallWithin) m.lists → BelowCores m.setup.cores m.order → line_count (printed m) ≤ most_lines m
 few_lines m setting pairs calls below =
     let text = printed m in
     let order = order_rows m.order in
     let limited : List (List (List ℕ)) = calls_words m.setup.calls ∷ epochs_words m.setup.epochs ∷ lists_then 0 m.lists order in
-    let feeds : count_by is_feed text ≡ length (script_lines m) = ap (count_by is_feed) (printed_onto m) ∙ lines_count (script_lines m) (script_are_lines m setting pairs calls below) in
-    omega (arith, feeds, one_more (ends_open (slice_get text (length text - 1))), grants_length m.setup.grants limited, lists_length 0 m.lists order, order_length m.order)
+    let feeds : count_by is_feed text ≡ length (script_lines m) =
+    ap (count_by is_feed) (printed_onto m) ∙ lines_count (script_lines m) (script_are_lines m setting pairs calls below) in
+    omega (
+      arith,
+      feeds,
+      one_more (ends_open (slice_get text (length text - 1))),
+      grants_length m.setup.grants limited,
+      lists_length 0 m.lists order,
+      order_length m.order,
+    )

@@ -42,14 +42,17 @@ pub number_text : (n : ℕ) → n < 2 ^ 64 → is_text (decimal n) ≡ true
 number_text n h = some_text (decimal n) (decimal_nonempty n h) (digits_bytes (decimal n) (number_digits n h))
 
 -- the number at a place of a line
-pub number_back : (words : List (List ℕ)) (place least most n : ℕ) → slice_get words place ≡ Some (decimal n) → least ≤ n → n ≤ most → most < 2 ^ 64 → number_at words place least most ≡ Ok n
+pub number_back : (words : List (List ℕ)) (place least most n : ℕ) → slice_get words place ≡ Some (decimal n)
+    → least ≤ n → n ≤ most → most < 2 ^ 64 → number_at words place least most ≡ Ok n
 unfolding number_at word_at
 number_back words place least most n e low high fits = rw (e, number_read n (omega arith), le-leb least n low, le-leb n most high) refl
 
-pub name_back : (words : List (List ℕ)) (place n : ℕ) → slice_get words place ≡ Some (decimal n) → n ≤ 65535 → number_at words place 0 65535 ≡ Ok n
+pub name_back : (words : List (List ℕ)) (place n : ℕ)
+    → slice_get words place ≡ Some (decimal n) → n ≤ 65535 → number_at words place 0 65535 ≡ Ok n
 name_back words place n e high = number_back words place 0 65535 n e (omega arith) high (omega arith)
 
-pub core_back : (words : List (List ℕ)) (place cores n : ℕ) → slice_get words place ≡ Some (decimal n) → n < cores → cores ≤ 8 → core_at words place cores ≡ Ok n
+pub core_back : (words : List (List ℕ)) (place cores n : ℕ)
+    → slice_get words place ≡ Some (decimal n) → n < cores → cores ≤ 8 → core_at words place cores ≡ Ok n
 unfolding core_at word_at
 core_back words place cores n e below fits = rw (e, number_read n (omega arith), lt-ltb n cores below) refl
 

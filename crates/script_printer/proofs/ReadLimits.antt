@@ -1,5 +1,6 @@
 -- What bytes say is a script within the limits.
-use Rattle.std.proofs.Common.{◌≡◌, ℕ, ◌+◌, ◌*◌, ◌≤◌, ◌<◌, Bool, true, false, cond, eqb, ltb, List, [], ◌∷◌, ◌++◌, length, All, Option, Some, None, Result, Ok, Err, refl, sym, ap, subst, ◌∙◌, arith, inl, inr}
+use Rattle.std.proofs.Common.{◌≡◌, ℕ, ◌+◌, ◌*◌, ◌≤◌, ◌<◌, Bool, true, false, cond, eqb, ltb, List, [], ◌∷◌, ◌++◌, length}
+use Rattle.std.proofs.Common.{All, Option, Some, None, Result, Ok, Err, refl, sym, ap, subst, ◌∙◌, arith, inl, inr}
 use Rattle.std.specs.Prelude.{slice_get}
 use Rattle.std.specs.Option.{ok_or, option_and_then}
 use Rattle.std.proofs.lemmas.Bool.{cases_Bool, cases_lt, eqb-true, eqb-false, ltb-true}
@@ -27,9 +28,12 @@ use Rattle.script_reader.specs.Numerals.{value_of}
 use Rattle.script_reader.specs.Arguments.{number_at, core_at, end_at}
 use Rattle.script_reader.specs.FirstWords.{first_word}
 use Rattle.script_reader.specs.CallLines.{call_line}
-use Rattle.script_reader.specs.Heads.{may_stand, granted, is_whole, AreFrames, HasCome, IsHead, line_of, line_by, speck_line, cores_line, frames_line, grant_line, calls_line, epochs_line, core_line, order_line}
+use Rattle.script_reader.specs.Heads.{may_stand, granted, is_whole, AreFrames, HasCome, IsHead, line_of, line_by, speck_line}
+use Rattle.script_reader.specs.Heads.{cores_line, frames_line, grant_line, calls_line, epochs_line, core_line, order_line}
 use Rattle.script_reader.specs.Orders.{Parts, parts_of, no_item, item_of, judged, with_item, items_of}
-use Rattle.script_reader.specs.Readings.{Row, Draft_of, Meaning, First_fault, no_draft, calls_of, with_call, with_line, is_order, behind_line, draft_behind, at_line, and_then, draft_from, rows_of, meaning_of, meaning_at, script_of, BelowCores}
+use Rattle.script_reader.specs.Readings.{Row, Draft_of, Meaning, First_fault, no_draft, calls_of, with_call}
+use Rattle.script_reader.specs.Readings.{with_line, is_order, behind_line, draft_behind, at_line, and_then}
+use Rattle.script_reader.specs.Readings.{draft_from, rows_of, meaning_of, meaning_at, script_of, BelowCores}
 use Rattle.script_printer.specs.Printing.{printed}
 use Rattle.script_printer.specs.Law.{IsCallWithin, IsWithin}
 use Rattle.script_printer.proofs.CallLimits.{judged_is, bind_ok, args_none, args_one, args_three, number_in, call_in}
@@ -87,23 +91,49 @@ speck_in : (h g : Head) (words : List (List ℕ)) → IsHead h → may_stand h.s
 unfolding speck_line
 speck_in h g words is t e =
     let r = args_one (number_at words 1 1 1) (end_at words 2) (λ n. record h { section = section.Cores }) g e in
-    subst IsHead r.2 (record { some_core = is.some_core; most_cores = is.most_cores; fit = is.fit; most_calls = is.most_calls; some_epoch = is.some_epoch; most_epochs = is.most_epochs; come = no_grants h.section h t is.come })
+    subst IsHead r.2 (record {
+      some_core = is.some_core;
+      most_cores = is.most_cores;
+      fit = is.fit;
+      most_calls = is.most_calls;
+      some_epoch = is.some_epoch;
+      most_epochs = is.most_epochs;
+      come = no_grants h.section h t is.come;
+    })
 
 cores_in : (h g : Head) (words : List (List ℕ)) → IsHead h → may_stand h.section first.Cores ≡ true → cores_line h words ≡ Ok g → IsHead g
 unfolding cores_line
 cores_in h g words is t e =
     let r = args_one (number_at words 1 1 8) (end_at words 2) (λ n. record h { section = section.Frames; cores = n }) g e in
     let n = number_in words 1 1 8 r.0 r.1 in
-    subst IsHead r.2 (record { some_core = n.0; most_cores = n.1; fit = is.fit; most_calls = is.most_calls; some_epoch = is.some_epoch; most_epochs = is.most_epochs; come = no_grants_cores h.section h t is.come })
+    subst IsHead r.2 (record {
+      some_core = n.0;
+      most_cores = n.1;
+      fit = is.fit;
+      most_calls = is.most_calls;
+      some_epoch = is.some_epoch;
+      most_epochs = is.most_epochs;
+      come = no_grants_cores h.section h t is.come;
+    })
 
-frames_in : (h g : Head) (words : List (List ℕ)) → IsHead h → may_stand h.section first.Frames ≡ true → frames_line h words ≡ Ok g → IsHead g
+frames_in : (h g : Head) (words : List (List ℕ)) → IsHead h
+    → may_stand h.section first.Frames ≡ true → frames_line h words ≡ Ok g → IsHead g
 unfolding frames_line
 frames_in h g words is t e =
-    let r = args_one (number_at words 1 (4 + 2 * h.cores) 512) (end_at words 2) (λ n. record h { section = section.Grants; frames = n }) g e in
+    let r = args_one (number_at words 1 (4 + 2 * h.cores) 512) (end_at words 2)
+    (λ n. record h { section = section.Grants; frames = n }) g e in
     let none : h.grants ≡ [] = no_grants_frames h.section h t is.come in
     let some : 1 ≤ h.cores = is.some_core in
     let few : length h.grants < h.cores = subst (λ (gs : List Grant). length gs < h.cores) (sym none) (omega arith) in
-    subst IsHead r.2 (record { some_core = is.some_core; most_cores = is.most_cores; fit = is.fit; most_calls = is.most_calls; some_epoch = is.some_epoch; most_epochs = is.most_epochs; come = (number_in words 1 (4 + 2 * h.cores) 512 r.0 r.1, few) })
+    subst IsHead r.2 (record {
+      some_core = is.some_core;
+      most_cores = is.most_cores;
+      fit = is.fit;
+      most_calls = is.most_calls;
+      some_epoch = is.some_epoch;
+      most_epochs = is.most_epochs;
+      come = (number_in words 1 (4 + 2 * h.cores) 512 r.0 r.1, few);
+    })
 
 granted_in : (h : Head) (g : Grant) → IsHead h → AreFrames h × (length h.grants < h.cores) → GrantFits g → IsHead (granted h g)
 granted_in h g is come fits =
@@ -113,56 +143,111 @@ granted_in h g is come fits =
     elim (cases_Bool (eqb (length h.grants + 1) h.cores)) [
       | inl e ↦
           let last : length h.grants + 1 ≡ h.cores = eqb-true _ _ e in
-          rw e (record { some_core = is.some_core; most_cores = is.most_cores; fit = all; most_calls = is.most_calls; some_epoch = is.some_epoch; most_epochs = is.most_epochs; come = (come.0, long ∙ last) })
+          rw e (record {
+            some_core = is.some_core;
+            most_cores = is.most_cores;
+            fit = all;
+            most_calls = is.most_calls;
+            some_epoch = is.some_epoch;
+            most_epochs = is.most_epochs;
+            come = (come.0, long ∙ last);
+          })
       | inr e ↦
           let more : ¬ (length h.grants + 1 ≡ h.cores) = eqb-false _ _ e in
-          rw e (record { some_core = is.some_core; most_cores = is.most_cores; fit = all; most_calls = is.most_calls; some_epoch = is.some_epoch; most_epochs = is.most_epochs; come = (come.0, omega arith) })
+          rw e (record {
+            some_core = is.some_core;
+            most_cores = is.most_cores;
+            fit = all;
+            most_calls = is.most_calls;
+            some_epoch = is.some_epoch;
+            most_epochs = is.most_epochs;
+            come = (come.0, omega arith);
+          })
     ]
 
 grant_in : (h g : Head) (words : List (List ℕ)) → IsHead h → may_stand h.section first.Grant ≡ true → grant_line h words ≡ Ok g → IsHead g
 unfolding grant_line
 grant_in h g words is t e =
-    let r = args_three (number_at words 1 0 500000000) (number_at words 2 0 63) (number_at words 3 1 16777215) (end_at words 4) (λ b s w. granted h (record { budget = b; sched = s; quality = w })) g e in
+    let r = args_three (number_at words 1 0 500000000) (number_at words 2 0 63) (number_at words 3 1 16777215)
+    (end_at words 4) (λ b s w. granted h (record { budget = b; sched = s; quality = w })) g e in
     let sched : r.b ≤ 63 = (number_in words 2 0 63 r.b r.second).1 in
     let quality = number_in words 3 1 16777215 r.d r.third in
     let most : r.d ≤ 16777215 = quality.1 in
-    subst IsHead r.whole (granted_in h (record { budget = r.a; sched = r.b; quality = r.d }) is (some_grants h.section h t is.come) ((number_in words 1 0 500000000 r.a r.first).1, omega arith, quality.0, omega arith))
+    subst IsHead r.whole (granted_in h (record { budget = r.a; sched = r.b; quality = r.d }) is
+    (some_grants h.section h t is.come) ((number_in words 1 0 500000000 r.a r.first).1, omega arith, quality.0, omega arith))
 
 calls_in : (h g : Head) (words : List (List ℕ)) → IsHead h → may_stand h.section first.Calls ≡ true → calls_line h words ≡ Ok g → IsHead g
 unfolding calls_line
 calls_in h g words is t e =
     let r = args_one (number_at words 1 0 4194304) (end_at words 2) (λ n. record h { section = section.Epochs; calls = n }) g e in
-    subst IsHead r.2 (record { some_core = is.some_core; most_cores = is.most_cores; fit = is.fit; most_calls = (number_in words 1 0 4194304 r.0 r.1).1; some_epoch = is.some_epoch; most_epochs = is.most_epochs; come = all_grants_calls h.section h t is.come })
+    subst IsHead r.2 (record {
+      some_core = is.some_core;
+      most_cores = is.most_cores;
+      fit = is.fit;
+      most_calls = (number_in words 1 0 4194304 r.0 r.1).1;
+      some_epoch =
+          is.some_epoch;
+      most_epochs = is.most_epochs;
+      come = all_grants_calls h.section h t is.come;
+    })
 
-epochs_in : (h g : Head) (words : List (List ℕ)) → IsHead h → may_stand h.section first.Epochs ≡ true → epochs_line h words ≡ Ok g → IsHead g
+epochs_in : (h g : Head) (words : List (List ℕ)) → IsHead h
+    → may_stand h.section first.Epochs ≡ true → epochs_line h words ≡ Ok g → IsHead g
 unfolding epochs_line
 epochs_in h g words is t e =
     let r = args_one (number_at words 1 1 65535) (end_at words 2) (λ n. record h { section = section.Lists; epochs = n }) g e in
     let n = number_in words 1 1 65535 r.0 r.1 in
     let most : r.0 ≤ 65535 = n.1 in
-    subst IsHead r.2 (record { some_core = is.some_core; most_cores = is.most_cores; fit = is.fit; most_calls = is.most_calls; some_epoch = n.0; most_epochs = omega arith; come = all_grants_epochs h.section h t is.come })
+    subst IsHead r.2 (record {
+      some_core = is.some_core;
+      most_cores = is.most_cores;
+      fit = is.fit;
+      most_calls = is.most_calls;
+      some_epoch = n.0;
+      most_epochs = omega arith;
+      come = all_grants_epochs h.section h t is.come;
+    })
 
 core_in : (h g : Head) (words : List (List ℕ)) → IsHead h → may_stand h.section first.Core ≡ true → core_line h words ≡ Ok g → IsHead g
 unfolding core_line
 core_in h g words is t e =
     let r = args_one (core_at words 1 h.cores) (end_at words 2) (λ n. record h { section = section.List; core = n }) g e in
-    subst IsHead r.2 (record { some_core = is.some_core; most_cores = is.most_cores; fit = is.fit; most_calls = is.most_calls; some_epoch = is.some_epoch; most_epochs = is.most_epochs; come = all_grants_core h.section h t is.come })
+    subst IsHead r.2 (record {
+      some_core = is.some_core;
+      most_cores = is.most_cores;
+      fit = is.fit;
+      most_calls = is.most_calls;
+      some_epoch = is.some_epoch;
+      most_epochs = is.most_epochs;
+      come = all_grants_core h.section h t is.come;
+    })
 
 order_in : (h g : Head) (words : List (List ℕ)) → IsHead h → may_stand h.section first.Order ≡ true → order_line h words ≡ Ok g → IsHead g
 unfolding order_line
 order_in h g words is t e =
-    subst IsHead (args_none (end_at words 1) (record h { section = section.Order }) g e) (record { some_core = is.some_core; most_cores = is.most_cores; fit = is.fit; most_calls = is.most_calls; some_epoch = is.some_epoch; most_epochs = is.most_epochs; come = all_grants_order h.section h t is.come })
+    subst IsHead (args_none (end_at words 1) (record h { section = section.Order }) g e) (record {
+      some_core = is.some_core;
+      most_cores = is.most_cores;
+      fit = is.fit;
+      most_calls = is.most_calls;
+      some_epoch =
+          is.some_epoch;
+      most_epochs = is.most_epochs;
+      come = all_grants_order h.section h t is.come;
+    })
 
 -- what a line says is within the limits
 abbrev IsLineWithin : Line → Type 0
 IsLineWithin (line.Head head) = IsHead head
 IsLineWithin (line.Call call) = IsCallWithin call
 
-head_line : (r : Result Head Cause) (l : Line) → ((g : Head) → r ≡ Ok g → IsHead g) → (r >>= λ head. Ok (line.Head head)) ≡ Ok l → IsLineWithin l
+head_line : (r : Result Head Cause) (l : Line) → ((g : Head) → r ≡ Ok g → IsHead g)
+    → (r >>= λ head. Ok (line.Head head)) ≡ Ok l → IsLineWithin l
 head_line (Ok g) l within e = subst IsLineWithin (judged_is (line.Head g) l e) (within g refl)
 head_line (Err k) l within e = absurd cc
 
-line_by_in : (h : Head) (words : List (List ℕ)) (w : FirstWord) (l : Line) → IsHead h → may_stand h.section w ≡ true → line_by h words w ≡ Ok l → IsLineWithin l
+line_by_in : (h : Head) (words : List (List ℕ)) (w : FirstWord) (l : Line)
+    → IsHead h → may_stand h.section w ≡ true → line_by h words w ≡ Ok l → IsLineWithin l
 unfolding line_by
 line_by_in h words first.Speck l is t e = head_line (speck_line h words) l (λ g. speck_in h g words is t) e
 line_by_in h words first.Cores l is t e = head_line (cores_line h words) l (λ g. cores_in h g words is t) e
@@ -185,7 +270,8 @@ no_value x k e = cc
 line_in : (h : Head) (words : List (List ℕ)) (l : Line) → IsHead h → line_of h words ≡ Ok l → IsLineWithin l
 unfolding line_of
 line_in h words l is e =
-    let w = bind_ok (ok_or (option_and_then first_word (slice_get words 0)) S2) (λ word. cond (may_stand h.section word) (line_by h words word) (Err S7)) l e in
+    let w = bind_ok (ok_or (option_and_then first_word (slice_get words 0)) S2)
+    (λ word. cond (may_stand h.section word) (line_by h words word) (Err S7)) l e in
     elim (cases_Bool (may_stand h.section w.0)) [
       | inl t ↦ line_by_in h words w.0 l is t (rw t at w.2)
       | inr t ↦ absurd (no_value l S7 (rw t at w.2))
@@ -200,7 +286,8 @@ below_in false n m e = absurd (no_value m S6 e)
 parts_in : (cores : ℕ) (word : List ℕ) (o : Option Parts) (i : Item) → judged cores word o ≡ Ok i → i.core < cores
 parts_in cores word None i e = absurd (no_value i (no_item word) e)
 parts_in cores word (Some p) i e =
-    let r = bind_ok (cond (ltb (value_of p.digits) cores) (Ok (value_of p.digits)) (failed S6)) (λ core. Ok (record { core = core; how = p.how })) i e in
+    let r = bind_ok (cond (ltb (value_of p.digits) cores) (Ok (value_of p.digits)) (failed S6))
+    (λ core. Ok (record { core = core; how = p.how })) i e in
     let t = below_in (ltb (value_of p.digits) cores) (value_of p.digits) r.0 r.1 in
     let below : value_of p.digits < cores = ltb-true (value_of p.digits) cores t.0 in
     let same : value_of p.digits ≡ r.0 = t.1 in
@@ -220,7 +307,8 @@ with_in : (b : Bool) (o more : List Item) (i : Item) → cond b (Ok (o ++ i ∷ 
 with_in true o more i e = (refl, judged_is (o ++ i ∷ []) more e)
 with_in false o more i e = absurd (no_value more S9 e)
 
-items_in : (cores : ℕ) (o : List Item) (words : List (List ℕ)) (r : List Item) → IsOrder cores o → items_of cores o words ≡ Ok r → IsOrder cores r
+items_in : (cores : ℕ) (o : List Item) (words : List (List ℕ)) (r : List Item)
+    → IsOrder cores o → items_of cores o words ≡ Ok r → IsOrder cores r
 items_in cores o [] r is e = subst (IsOrder cores) (judged_is o r e) is
 items_in cores o (word ∷ words) r is e =
     let i = bind_ok (item_of cores word) (λ item. with_item o item >>= λ more. items_of cores more words) r e in
@@ -228,7 +316,8 @@ items_in cores o (word ∷ words) r is e =
     let t = with_in (ltb (length o) 200000) o m.0 i.0 m.1 in
     let room : length o < 200000 = ltb-true (length o) 200000 t.0 in
     let long : length (o ++ i.0 ∷ []) ≡ length o + 1 = length_push o i.0 in
-    let pushed : IsOrder cores (o ++ i.0 ∷ []) = record { below = All-push (λ (x : Item). x.core < cores) o i.0 is.below (item_in cores word i.0 i.1); room = omega arith } in
+    let pushed : IsOrder cores (o ++ i.0 ∷ []) =
+    record { below = All-push (λ (x : Item). x.core < cores) o i.0 is.below (item_in cores word i.0 i.1); room = omega arith } in
     items_in cores m.0 words r (subst (IsOrder cores) t.1 pushed) m.2
 
 -- ---- drafts
@@ -244,7 +333,8 @@ record IsRead (d : Draft_of) : Type 0 where
 no_order : (cores : ℕ) (order : List Item) → order ≡ [] → IsOrder cores order
 no_order cores order e = subst (IsOrder cores) (sym e) (record { below = All-nil (λ (x : Item). x.core < cores); room = omega arith })
 
-call_more : (lists : List (List Call)) (core : ℕ) (c : Call) → All (All IsCallWithin) lists → IsCallWithin c → All (All IsCallWithin) (with_call lists core c)
+call_more : (lists : List (List Call)) (core : ℕ) (c : Call) → All (All IsCallWithin) lists
+    → IsCallWithin c → All (All IsCallWithin) (with_call lists core c)
 call_more lists core c h k =
     let old : All IsCallWithin (calls_of lists core) =
     elim (cases_lt core (length lists)) [
@@ -254,7 +344,8 @@ call_more lists core c h k =
     All-set (All IsCallWithin) lists core (calls_of lists core ++ c ∷ []) (All-push IsCallWithin (calls_of lists core) c old k) h
 
 line_read : (d : Draft_of) (l : Line) → IsRead d → is_order d.head.section ≡ false → IsLineWithin l → IsRead (with_line d l)
-line_read d (line.Head g) is none h = record { head = h; eight = is.eight; calls = is.calls; order = no_order g.cores d.order (is.before none); before = λ t. is.before none }
+line_read d (line.Head g) is none h =
+    record { head = h; eight = is.eight; calls = is.calls; order = no_order g.cores d.order (is.before none); before = λ t. is.before none }
 line_read d (line.Call c) is none h =
     record {
       head = is.head;
@@ -271,7 +362,8 @@ behind_read d e words is h =
       | inl t ↦
           let r = bind_ok (items_of d.head.cores d.order words) (λ order. Ok (record d { order = order })) e (rw t at h) in
           let order : IsOrder d.head.cores r.0 = items_in d.head.cores d.order words r.0 is.order r.1 in
-          subst IsRead (judged_is (record d { order = r.0 }) e r.2) (record { head = is.head; eight = is.eight; calls = is.calls; order = order; before = λ f. absurd (both t f) })
+          subst IsRead (judged_is (record d { order = r.0 }) e r.2)
+          (record { head = is.head; eight = is.eight; calls = is.calls; order = order; before = λ f. absurd (both t f) })
       | inr t ↦
           let r = bind_ok (line_of d.head words) (λ l. Ok (with_line d l)) e (rw t at h) in
           subst IsRead (judged_is (with_line d r.0) e r.2) (line_read d r.0 is t (line_in d.head words r.0 is.head r.1))
@@ -286,7 +378,8 @@ read x = Ok x
 read_is : {A : Type 0} (x y : A) → read x ≡ read y → x ≡ y
 read_is x y e = cc
 
-then_ok : {A B : Type 0} (r : Result A First_fault) (f : A → Result B First_fault) (y : B) → and_then r f ≡ Ok y → (x : A) × (r ≡ Ok x) × (f x ≡ Ok y)
+then_ok : {A B : Type 0} (r : Result A First_fault) (f : A → Result B First_fault) (y : B)
+    → and_then r f ≡ Ok y → (x : A) × (r ≡ Ok x) × (f x ≡ Ok y)
 then_ok (Ok x) f y e = (x, refl, e)
 then_ok (Err c) f y e = absurd cc
 
@@ -303,7 +396,15 @@ from_read d e (row ∷ rows) is h =
 none_read : IsRead no_draft
 none_read =
     record {
-      head = record { some_core = omega arith; most_cores = omega arith; fit = All-nil GrantFits; most_calls = omega arith; some_epoch = omega arith; most_epochs = omega arith; come = refl };
+      head = record {
+        some_core = omega arith;
+        most_cores = omega arith;
+        fit = All-nil GrantFits;
+        most_calls = omega arith;
+        some_epoch = omega arith;
+        most_epochs = omega arith;
+        come = refl;
+      };
       eight = refl;
       calls = All-replicate (All IsCallWithin) 8 [] (All-nil IsCallWithin);
       order = no_order 1 [] refl;
@@ -325,7 +426,18 @@ meaning_in d is whole =
     let few : d.head.cores ≤ 8 = is.head.most_cores in
     let eight : length d.lists ≡ 8 = is.eight in
     record {
-      setup = record { some_core = is.head.some_core; most_cores = is.head.most_cores; least_frames = come.0.0; most_frames = come.0.1; granted = come.1; grants_fit = is.head.fit; most_calls = is.head.most_calls; some_epoch = is.head.some_epoch; most_epochs = is.head.most_epochs };
+      setup = record {
+        some_core = is.head.some_core;
+        most_cores = is.head.most_cores;
+        least_frames = come.0.0;
+        most_frames = come.0.1;
+        granted = come.1;
+        grants_fit = is.head.fit;
+        most_calls =
+            is.head.most_calls;
+        some_epoch = is.head.some_epoch;
+        most_epochs = is.head.most_epochs;
+      };
       lists = length-take-le d.head.cores d.lists (omega arith);
       calls = All-take (All IsCallWithin) d.head.cores d.lists is.calls;
       order = is.order;

@@ -3,7 +3,9 @@ use Rattle.std.specs.Prelude.{◌≡◌, ◌≤◌, ℕ, ◌+◌, List, [], ◌�
 use Rattle.spk_nums.specs.declared.calls.Make.{Make}
 use Rattle.spk_nums.specs.declared.calls.Make.TheVariants.{Thread, Tcap, Comp}
 use Rattle.spk_nums.specs.declared.calls.Call.{Call}
-use Rattle.spk_nums.specs.declared.calls.Call.TheVariants.{Look, Copy, Remove, Grow, Shrink, Retype, Make as make_call, Map, Unmap, Touch, Flush, Gate, Kill, Call as call_gate, Ret, Switch, Tick, Transfer, Delegate, Test}
+use Rattle.spk_nums.specs.declared.calls.Call.TheVariants.{Look, Copy, Remove, Grow, Shrink, Retype, Make as make_call}
+use Rattle.spk_nums.specs.declared.calls.Call.TheVariants.{Map, Unmap, Touch, Flush, Gate, Kill, Call as call_gate}
+use Rattle.spk_nums.specs.declared.calls.Call.TheVariants.{Ret, Switch, Tick, Transfer, Delegate, Test}
 use Rattle.spk_nums.specs.Setting.{IsSetting}
 use Rattle.script_tokens.specs.Words.{line_count}
 use Rattle.script_reader.specs.Readings.{Meaning, BelowCores, script_of}
@@ -76,4 +78,5 @@ most_lines m = 7 + length m.setup.grants + most_list_lines m.lists + length m.or
 
 -- a script whose parts are within the limits has at most so many lines in its printed form
 abbrev pub HasFewLines : Meaning → Type 0
-HasFewLines m = IsSetting m.setup → length m.lists ≡ m.setup.cores → All (All IsCallWithin) m.lists → BelowCores m.setup.cores m.order → line_count (printed m) ≤ most_lines m
+HasFewLines m = IsSetting m.setup → length m.lists ≡ m.setup.cores → All (All IsCallWithin) m.lists
+    → BelowCores m.setup.cores m.order → line_count (printed m) ≤ most_lines m

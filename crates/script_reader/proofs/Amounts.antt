@@ -1,5 +1,6 @@
 -- No list of a script has more calls than the script has words.
-use Rattle.std.proofs.Common.{◌≡◌, ℕ, suc, ◌+◌, ◌≤◌, eqb, List, [], ◌∷◌, ◌++◌, length, All, IfOk, Result, Ok, Err, refl, sym, ap, subst, ◌∙◌, arith, inl, inr}
+use Rattle.std.proofs.Common.{◌≡◌, ℕ, suc, ◌+◌, ◌≤◌, eqb, List, [], ◌∷◌, ◌++◌, length, All}
+use Rattle.std.proofs.Common.{IfOk, Result, Ok, Err, refl, sym, ap, subst, ◌∙◌, arith, inl, inr}
 use Rattle.std.proofs.lemmas.Bool.{cases_Bool, cases_lt}
 use Rattle.std.proofs.lemmas.List.{get_or_past, length_push}
 use Rattle.std.proofs.lemmas.List.Elements.{All-set, All-get_or, All-weaker, All-take, All-replicate}
@@ -16,7 +17,9 @@ use Rattle.script_reader.specs.declared.reading.Script.{Script}
 use Rattle.script_reader.specs.Causes.{◌>>=◌}
 use Rattle.script_reader.specs.Heads.{line_of, is_whole}
 use Rattle.script_reader.specs.Orders.{items_of}
-use Rattle.script_reader.specs.Readings.{Row, with_word, rows_of, Draft_of, Meaning, First_fault, no_draft, calls_of, with_call, with_line, is_order, behind_line, draft_behind, at_line, and_then, draft_from, meaning_of, meaning_at, script_of, AtMost, Gives, script_view, lists_of}
+use Rattle.script_reader.specs.Readings.{Row, with_word, rows_of, Draft_of, Meaning, First_fault, no_draft, calls_of}
+use Rattle.script_reader.specs.Readings.{with_call, with_line, is_order, behind_line, draft_behind, at_line, and_then}
+use Rattle.script_reader.specs.Readings.{draft_from, meaning_of, meaning_at, script_of, AtMost, Gives, script_view, lists_of}
 
 abbrev judged : {A : Type 0} → A → Result A Cause
 judged x = Ok x
@@ -35,7 +38,8 @@ bind_ok : {A B : Type 0} (r : Result A Cause) (f : A → Result B Cause) (y : B)
 bind_ok (Ok x) f y e = (x, refl, e)
 bind_ok (Err c) f y e = absurd cc
 
-then_ok : {A B : Type 0} (r : Result A First_fault) (f : A → Result B First_fault) (y : B) → and_then r f ≡ Ok y → (x : A) × (r ≡ Ok x) × (f x ≡ Ok y)
+then_ok : {A B : Type 0} (r : Result A First_fault) (f : A → Result B First_fault) (y : B)
+    → and_then r f ≡ Ok y → (x : A) × (r ≡ Ok x) × (f x ≡ Ok y)
 then_ok (Ok x) f y e = (x, refl, e)
 then_ok (Err c) f y e = absurd cc
 
@@ -53,13 +57,15 @@ few_call n core call lists h =
       | inl lt ↦ All-get_or (AtMost n) lists core [] lt h
       | inr le ↦ rw (get_or_past lists core [] le) (omega arith)
     ] in
-    All-set (AtMost (n + 1)) lists core (calls_of lists core ++ call ∷ []) (omega (arith, length_push (calls_of lists core) call)) (few_weaker n (n + 1) lists (omega arith) h)
+    All-set (AtMost (n + 1)) lists core (calls_of lists core ++ call ∷ [])
+    (omega (arith, length_push (calls_of lists core) call)) (few_weaker n (n + 1) lists (omega arith) h)
 
 few_line : (n : ℕ) (d : Draft_of) (l : Line) → All (AtMost n) d.lists → All (AtMost (n + 1)) (with_line d l).lists
 few_line n d (line.Head head) h = few_weaker n (n + 1) d.lists (omega arith) h
 few_line n d (line.Call call) h = few_call n d.head.core call d.lists h
 
-few_behind : (n : ℕ) (d e : Draft_of) (words : List (List ℕ)) → draft_behind d words ≡ Ok e → All (AtMost n) d.lists → All (AtMost (n + 1)) e.lists
+few_behind : (n : ℕ) (d e : Draft_of) (words : List (List ℕ))
+    → draft_behind d words ≡ Ok e → All (AtMost n) d.lists → All (AtMost (n + 1)) e.lists
 unfolding draft_behind behind_line
 few_behind n d e words is h =
     elim (cases_Bool (is_order d.head.section)) [
@@ -73,8 +79,10 @@ few_behind n d e words is h =
           subst (λ (x : Draft_of). All (AtMost (n + 1)) x.lists) same (few_line n d b.0 h)
     ]
 
-few_from : (n : ℕ) (d e : Draft_of) (rows : List Row) → draft_from d rows ≡ Ok e → All (AtMost n) d.lists → All (AtMost (n + length rows)) e.lists
-few_from n d e [] is h = subst (λ (x : Draft_of). All (AtMost (n + 0)) x.lists) (read_is d e is) (few_weaker n (n + 0) d.lists (omega arith) h)
+few_from : (n : ℕ) (d e : Draft_of) (rows : List Row) → draft_from d rows ≡ Ok e
+    → All (AtMost n) d.lists → All (AtMost (n + length rows)) e.lists
+few_from n d e [] is h =
+    subst (λ (x : Draft_of). All (AtMost (n + 0)) x.lists) (read_is d e is) (few_weaker n (n + 0) d.lists (omega arith) h)
 few_from n d e (row ∷ rows) is h =
     let b = then_ok (at_line row.number (draft_behind d row.words)) (λ more. draft_from more rows) e is in
     let one = few_behind n d b.0 row.words (at_line_ok row.number (draft_behind d row.words) b.0 b.1) h in
@@ -93,7 +101,8 @@ few_at n d (Fault (NotAscii number)) m is h = absurd cc
 few_at n d (Fault TooManyLines) m is h = absurd cc
 few_at n d (Whole lines) m is h =
     elim (cases_Bool (is_whole d.head.section)) [
-      | inl whole ↦ subst (λ (x : Meaning). All (AtMost n) x.lists) (read_is (meaning_of d) m (rw whole at is)) (All-take (AtMost n) d.head.cores d.lists h)
+      | inl whole ↦ subst (λ (x : Meaning). All (AtMost n) x.lists)
+          (read_is (meaning_of d) m (rw whole at is)) (All-take (AtMost n) d.head.cores d.lists h)
       | inr whole ↦ absurd (none_ok m (rw whole at is))
     ]
   where
@@ -106,10 +115,13 @@ few_calls source m is =
     let b = then_ok (draft_from no_draft (rows_of (words_of source))) (λ d. meaning_at d (ending_of source)) m is in
     let none : All (AtMost 0) no_draft.lists = All-replicate (AtMost 0) 8 [] (omega arith) in
     let few = few_from 0 no_draft b.0 (rows_of (words_of source)) b.1 none in
-    few_at (length (words_of source)) b.0 (ending_of source) m b.2 (few_weaker (0 + length (rows_of (words_of source))) (length (words_of source)) b.0.lists (omega (arith, few_rows (words_of source))) few)
+    few_at (length (words_of source)) b.0 (ending_of source) m b.2 (few_weaker (0 + length (rows_of (words_of source)))
+    (length (words_of source)) b.0.lists (omega (arith, few_rows (words_of source))) few)
 
 -- what is read has no more calls than bytes
-pub few_read : (source : List ℕ) (r : Result Script ReadFault) → Gives script_view r (script_of source) → IfOk r (λ s. length (words_of source) ≤ length source)
+pub few_read : (source : List ℕ) (r : Result Script ReadFault)
+    → Gives script_view r (script_of source) → IfOk r (λ s. length (words_of source) ≤ length source)
     → IfOk r (λ s. All (AtMost (length source)) (lists_of s.lists.items))
-few_read source (Ok s) gives words = few_weaker (length (words_of source)) (length source) (lists_of s.lists.items) words (few_calls source (script_view s) gives)
+few_read source (Ok s) gives words =
+    few_weaker (length (words_of source)) (length source) (lists_of s.lists.items) words (few_calls source (script_view s) gives)
 few_read source (Err e) gives words = tt

@@ -1,5 +1,6 @@
 -- What a draft keeps, line by line.
-use Rattle.std.proofs.Common.{◌≡◌, ℕ, zero, suc, ◌+◌, ◌<◌, ◌≤◌, true, List, [], ◌∷◌, ◌++◌, length, get_or, take, drop, All, Ok, refl, sym, ap, subst, ◌∙◌, arith, inl, inr}
+use Rattle.std.proofs.Common.{◌≡◌, ℕ, zero, suc, ◌+◌, ◌<◌, ◌≤◌, true, List, [], ◌∷◌, ◌++◌, length}
+use Rattle.std.proofs.Common.{get_or, take, drop, All, Ok, refl, sym, ap, subst, ◌∙◌, arith, inl, inr}
 use Rattle.std.specs.Prelude.{slice_set, slice_index_or}
 use Rattle.std.specs.Global.{Vec}
 use Rattle.std.proofs.lemmas.Bool.{cases_lt, eq-eqb, ne_eqb}
@@ -13,7 +14,8 @@ use Rattle.script_tokens.specs.declared.scanning.Ending.{Ending}
 use Rattle.script_tokens.specs.declared.scanning.Ending.TheVariants.{Whole}
 use Rattle.script_reader.specs.declared.reading.Script.{Script}
 use Rattle.script_reader.specs.Heads.{is_whole}
-use Rattle.script_reader.specs.Readings.{words_in, lists_of, with_call, calls_of, setting_of, meaning_of, meaning_at, script_view, Draft_of, IsDraft, IsScript, BelowCores}
+use Rattle.script_reader.specs.Readings.{words_in, lists_of, with_call, calls_of, setting_of, meaning_of}
+use Rattle.script_reader.specs.Readings.{meaning_at, script_view, Draft_of, IsDraft, IsScript, BelowCores}
 
 -- ---- the words of a line
 
@@ -22,15 +24,19 @@ pub record Counts (tokens : List Token) (line i n : ℕ) : Type 0 where
   pub so_far : n ≡ i
   pub value : n + words_in line (views (drop i tokens)) ≡ words_in line (views tokens)
 
-cut : (tokens : List Token) (i : ℕ) (d : Token) → i < length tokens → views (drop i tokens) ≡ view (get_or tokens i d) ∷ views (drop (i + 1) tokens)
+cut : (tokens : List Token) (i : ℕ) (d : Token) → i < length tokens
+    → views (drop i tokens) ≡ view (get_or tokens i d) ∷ views (drop (i + 1) tokens)
 cut tokens i d lt = ap views (drop_more tokens i d lt)
 
-pub counts_more : (tokens : List Token) (line i n : ℕ) (d : Token) → i < length tokens → (get_or tokens i d).line ≡ line → Counts tokens line i n → Counts tokens line (i + 1) (n + 1)
+pub counts_more : (tokens : List Token) (line i n : ℕ) (d : Token) → i < length tokens
+    → (get_or tokens i d).line ≡ line → Counts tokens line i n → Counts tokens line (i + 1) (n + 1)
 counts_more tokens line i n d lt e c =
-    let step : words_in line (views (drop i tokens)) ≡ words_in line (views (drop (i + 1) tokens)) + 1 = ap (words_in line) (cut tokens i d lt) ∙ rw (eq-eqb _ _ e) refl in
+    let step : words_in line (views (drop i tokens)) ≡ words_in line (views (drop (i + 1) tokens)) + 1 =
+    ap (words_in line) (cut tokens i d lt) ∙ rw (eq-eqb _ _ e) refl in
     record { so_far = omega (arith, c.so_far); value = omega (arith, step, c.value) }
 
-pub counts_end : (tokens : List Token) (line i n : ℕ) (d : Token) → i < length tokens → ¬ ((get_or tokens i d).line ≡ line) → Counts tokens line i n → n ≡ words_in line (views tokens)
+pub counts_end : (tokens : List Token) (line i n : ℕ) (d : Token) → i < length tokens
+    → ¬ ((get_or tokens i d).line ≡ line) → Counts tokens line i n → n ≡ words_in line (views tokens)
 counts_end tokens line i n d lt e c =
     let step : words_in line (views (drop i tokens)) ≡ 0 = ap (words_in line) (cut tokens i d lt) ∙ rw (ne_eqb _ _ e) refl in
     omega (arith, step, c.value)
@@ -42,29 +48,36 @@ counts_all tokens line i n le c =
 
 -- ---- one more call
 
-get_or_lists : (lists : List (Vec Call)) (i : ℕ) (d : Vec Call) → i < length lists → slice_index_or (lists_of lists) i [] ≡ (get_or lists i d).items
+get_or_lists : (lists : List (Vec Call)) (i : ℕ) (d : Vec Call) → i < length lists
+    → slice_index_or (lists_of lists) i [] ≡ (get_or lists i d).items
 get_or_lists [] i d lt = absurd (omega arith)
 get_or_lists (v ∷ vs) zero d lt = refl
 get_or_lists (v ∷ vs) (suc i) d lt = get_or_lists vs i d (omega arith)
 
-pub call_added : (lists : List (Vec Call)) (i core : ℕ) (call : Call) (old new : Vec Call) → i < length lists → i ≡ core → old ≡ get_or lists i old → new.items ≡ old.items ++ call ∷ [] → lists_of (slice_set lists i new) ≡ with_call (lists_of lists) core call
+pub call_added : (lists : List (Vec Call)) (i core : ℕ) (call : Call) (old new : Vec Call) → i < length lists → i ≡ core
+    → old ≡ get_or lists i old → new.items ≡ old.items ++ call ∷ []
+    → lists_of (slice_set lists i new) ≡ with_call (lists_of lists) core call
 call_added lists i core call old new lt at is more =
     let had : calls_of (lists_of lists) i ≡ old.items = get_or_lists lists i old lt ∙ ap (λ v. v.items) (sym is) in
     let same : lists_of (slice_set lists i new) ≡ slice_set (lists_of lists) i new.items = map-set (λ v. v.items) lists i new in
-    let step : with_call (lists_of lists) i call ≡ slice_set (lists_of lists) i new.items = ap (λ l. slice_set (lists_of lists) i (l ++ call ∷ [])) had ∙ ap (slice_set (lists_of lists) i) (sym more) in
+    let step : with_call (lists_of lists) i call ≡ slice_set (lists_of lists) i new.items =
+    ap (λ l. slice_set (lists_of lists) i (l ++ call ∷ [])) had ∙ ap (slice_set (lists_of lists) i) (sym more) in
     same ∙ sym step ∙ ap (λ k. with_call (lists_of lists) k call) at
 
 -- a call in range leaves the lists in range
-pub calls_in_range : (d : Draft_of) (core : ℕ) (call : Call) → All (All InLimits) d.lists → InLimits call → All (All InLimits) (with_call d.lists core call)
+pub calls_in_range : (d : Draft_of) (core : ℕ) (call : Call) → All (All InLimits) d.lists
+    → InLimits call → All (All InLimits) (with_call d.lists core call)
 calls_in_range d core call limits fits =
     let old : All InLimits (calls_of d.lists core) =
     elim (cases_lt core (length d.lists)) [
       | inl lt ↦ All-get_or (All InLimits) d.lists core [] lt limits
       | inr le ↦ subst (All InLimits) (sym (get_or_past d.lists core [] le)) (All-nil InLimits)
     ] in
-    All-set (All InLimits) d.lists core (calls_of d.lists core ++ call ∷ []) (All-push InLimits (calls_of d.lists core) call old fits) limits
+    All-set (All InLimits) d.lists core (calls_of d.lists core ++ call ∷ [])
+    (All-push InLimits (calls_of d.lists core) call old fits) limits
 
-pub call_kept : (d : Draft_of) (lists : List (List Call)) (call : Call) → IsDraft d → InLimits call → lists ≡ with_call d.lists d.head.core call → IsDraft (record d { lists = lists })
+pub call_kept : (d : Draft_of) (lists : List (List Call)) (call : Call) → IsDraft d
+    → InLimits call → lists ≡ with_call d.lists d.head.core call → IsDraft (record d { lists = lists })
 call_kept d lists call h fits new =
     record {
       head = h.head;
@@ -76,12 +89,15 @@ call_kept d lists call h fits new =
 
 -- ---- the end
 
-pub finished : (d : Draft_of) (ending : Ending) (lines : ℕ) (s : Script) → ending ≡ Whole lines → is_whole d.head.section ≡ true → s.setup ≡ setting_of d.head → lists_of s.lists.items ≡ take d.head.cores d.lists → s.order.items ≡ d.order → meaning_at d ending ≡ Ok (script_view s)
+pub finished : (d : Draft_of) (ending : Ending) (lines : ℕ) (s : Script) → ending ≡ Whole lines → is_whole d.head.section ≡ true
+    → s.setup ≡ setting_of d.head → lists_of s.lists.items ≡ take d.head.cores d.lists
+    → s.order.items ≡ d.order → meaning_at d ending ≡ Ok (script_view s)
 finished d ending lines s end whole setup lists order =
     let same : meaning_of d ≡ script_view s = λ i. record { setup = sym setup i; lists = sym lists i; order = sym order i } in
     ap (meaning_at d) end ∙ rw whole (ap Ok same)
 
-pub is_script : (d : Draft_of) (s : Script) → IsDraft d → s.setup ≡ setting_of d.head → lists_of s.lists.items ≡ take d.head.cores d.lists → s.order.items ≡ d.order → IsScript s
+pub is_script : (d : Draft_of) (s : Script) → IsDraft d → s.setup ≡ setting_of d.head
+    → lists_of s.lists.items ≡ take d.head.cores d.lists → s.order.items ≡ d.order → IsScript s
 is_script d s h setup lists order =
     let cores : s.setup.cores ≡ d.head.cores = ap (λ x. x.cores) setup in
     let few : d.head.cores ≤ length d.lists = omega (arith, h.head.most_cores, h.eight) in

@@ -1,5 +1,6 @@
 -- The arguments of a line. A line is the list of its words; the first word is at 0, and its arguments stand after it.
-use Rattle.std.specs.Prelude.{ℕ, List, Bool, Option, Some, None, Result, Ok, Err, length, map, codes, slice_get, ◌&&◌, nat_le, nat_lt, if◌then◌else◌}
+use Rattle.std.specs.Prelude.{ℕ, List, Bool, Option, Some, None, Result, Ok, Err, length}
+use Rattle.std.specs.Prelude.{map, codes, slice_get, ◌&&◌, nat_le, nat_lt, if◌then◌else◌}
 use Rattle.std.specs.Option.{ok_or}
 use Rattle.std.specs.Str.{bytes_eq}
 use Rattle.script_tokens.specs.declared.token.Token.{Token}

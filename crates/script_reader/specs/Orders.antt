@@ -1,5 +1,6 @@
 -- The items of an order of steps.
-use Rattle.std.specs.Prelude.{ℕ, List, [], ◌∷◌, ◌++◌, Option, Some, None, Result, Ok, Err, length, take, slice_get, ◌-◌, ◌==◌, nat_lt, is_some, if◌then◌else◌}
+use Rattle.std.specs.Prelude.{ℕ, List, [], ◌∷◌, ◌++◌, Option, Some, None, Result, Ok, Err}
+use Rattle.std.specs.Prelude.{length, take, slice_get, ◌-◌, ◌==◌, nat_lt, is_some, if◌then◌else◌}
 use Rattle.std.specs.Option.{option_and_then}
 use Rattle.spk_nums.specs.declared.steps.How.{How}
 use Rattle.spk_nums.specs.declared.steps.How.TheVariants.{One, Ready, Decide, Return}
@@ -29,7 +30,8 @@ lent_parts parts (Some p) = Some (parts p)
 
 -- digits with a suffix directly after
 abbrev pub suffixed : List ℕ → Option Parts
-suffixed word = option_and_then (λ last. option_and_then (with_digits (take (length word - 1) word)) (how_of last)) (slice_get word (length word - 1))
+suffixed word = option_and_then (λ last. option_and_then (with_digits (take (length word - 1) word)) (how_of last))
+    (slice_get word (length word - 1))
 
 -- the digits of an item, and its suffix if it has one
 unfoldable pub parts_of : List ℕ → Option Parts

@@ -1,5 +1,6 @@
 -- A script as a whole: the lines of its bytes, one after another, and the end.
-use Rattle.std.specs.Prelude.{◌≡◌, ◌<◌, ◌≤◌, ℕ, List, [], ◌∷◌, ◌++◌, Bool, true, false, Result, Ok, Err, map, take, length, slice_set, slice_index_or, ◌+◌, ◌==◌, All, replicate, if◌then◌else◌}
+use Rattle.std.specs.Prelude.{◌≡◌, ◌<◌, ◌≤◌, ℕ, List, [], ◌∷◌, ◌++◌, Bool, true, false, Result, Ok, Err, map}
+use Rattle.std.specs.Prelude.{take, length, slice_set, slice_index_or, ◌+◌, ◌==◌, All, replicate, if◌then◌else◌}
 use Rattle.std.specs.Global.{Vec}
 use Rattle.spk_nums.specs.declared.calls.Call.{Call}
 use Rattle.spk_nums.specs.declared.steps.Item.{Item}

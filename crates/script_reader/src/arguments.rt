@@ -1,7 +1,8 @@
 //! The arguments of a line, each with its own judgement.
 
 ghost use Rattle.std.specs.Prelude.{◌≡◌, ◌≤◌, ◌<◌, IfOk};
-ghost use Rattle.script_reader.specs.Arguments.{texts, lent, is_word, word_at, number_at, name_at, amount_at, core_at, end_at, frame_kind_of, frame_kind_at};
+ghost use Rattle.script_reader.specs.Arguments.{texts, lent, is_word, word_at, number_at, name_at};
+ghost use Rattle.script_reader.specs.Arguments.{amount_at, core_at, end_at, frame_kind_of, frame_kind_at};
 
 use crate::cause::Cause;
 use crate::numerals::read_number;

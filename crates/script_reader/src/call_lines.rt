@@ -3,7 +3,10 @@
 ghost use Rattle.std.specs.Prelude.{◌≡◌, IfOk};
 ghost use Rattle.spk_nums.specs.CallLimits.{InLimits, MakeInLimits};
 ghost use Rattle.script_reader.specs.Arguments.{texts};
-ghost use Rattle.script_reader.specs.CallLines.{look_line, copy_line, remove_line, grow_line, shrink_line, retype_line, map_line, unmap_line, touch_line, flush_line, gate_line, kill_line, enter_line, ret_line, switch_line, tick_line, transfer_line, delegate_line, test_line, object_of, object_at, thread_at, tcap_at, comp_at, plain_at, made_at, make_line, call_line};
+ghost use Rattle.script_reader.specs.CallLines.{look_line, copy_line, remove_line, grow_line, shrink_line, retype_line, map_line};
+ghost use Rattle.script_reader.specs.CallLines.{unmap_line, touch_line, flush_line, gate_line, kill_line, enter_line, ret_line};
+ghost use Rattle.script_reader.specs.CallLines.{switch_line, tick_line, transfer_line, delegate_line, test_line, object_of};
+ghost use Rattle.script_reader.specs.CallLines.{object_at, thread_at, tcap_at, comp_at, plain_at, made_at, make_line, call_line};
 
 use crate::arguments::{
     amount_at, byte_at, capability_at, end_at, entry_at, frame_at, frame_kind_at, is_word, page_at,

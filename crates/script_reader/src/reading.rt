@@ -6,7 +6,9 @@ ghost use Rattle.script_reader.specs.Arguments.{texts};
 ghost use Rattle.script_reader.specs.declared.cause.LineFault.TheVariants as line_fault;
 ghost use Rattle.script_reader.specs.declared.cause.ReadFault.TheVariants as read_fault;
 ghost use Rattle.script_reader.specs.Heads.{is_whole, IsHead};
-ghost use Rattle.script_reader.specs.Readings.{draft_view, script_view, draft_behind, draft_from, rows_of, script_of, no_draft, meaning_at, words_in, lists_of, with_call, behind_line, fault_at, is_order, setting_of, Takes, Leads, Gives, IsDraft, IsScript, AtMost};
+ghost use Rattle.script_reader.specs.Readings.{draft_view, script_view, draft_behind, draft_from, rows_of, script_of};
+ghost use Rattle.script_reader.specs.Readings.{no_draft, meaning_at, words_in, lists_of, with_call, behind_line, fault_at};
+ghost use Rattle.script_reader.specs.Readings.{is_order, setting_of, Takes, Leads, Gives, IsDraft, IsScript, AtMost};
 
 use crate::cause::{Cause, LineFault, ReadFault};
 use crate::head::{Head, Line, Section, is_whole, line_of, no_head};

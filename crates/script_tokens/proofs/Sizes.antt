@@ -1,5 +1,6 @@
 -- How many lines and words a source has at most.
-use Rattle.std.proofs.Common.{◌≡◌, ℕ, suc, ◌+◌, ◌-◌, ◌≤◌, Bool, true, false, cond, eqb, ltb, List, [], ◌∷◌, length, Option, Some, None, refl, sym, ap, ◌∙◌, arith, inl, inr}
+use Rattle.std.proofs.Common.{◌≡◌, ℕ, suc, ◌+◌, ◌-◌, ◌≤◌, Bool, true, false, cond, eqb, ltb, List, []}
+use Rattle.std.proofs.Common.{◌∷◌, length, Option, Some, None, refl, sym, ap, ◌∙◌, arith, inl, inr}
 use Rattle.std.specs.Prelude.{count_by, slice_get, ◌||◌}
 use Rattle.std.proofs.lemmas.Bool.{cases_Bool, ltb-false}
 use Rattle.std.proofs.lemmas.List.{length-map}
@@ -9,7 +10,8 @@ use Rattle.script_tokens.specs.declared.scanning.Ending.{Ending}
 use Rattle.script_tokens.specs.declared.scanning.Ending.TheVariants.{Whole, Fault}
 use Rattle.script_tokens.specs.declared.token.Token.{Token}
 use Rattle.script_tokens.specs.Bytes.{is_feed, is_hash, is_word_byte, is_allowed}
-use Rattle.script_tokens.specs.Words.{Span, joined, spans, spans_of, first_fault, line_count, ends_open, ending_from, ending_of, before_fault, view, views, word_at, words_of, line_of_fault, FewLines}
+use Rattle.script_tokens.specs.Words.{Span, joined, spans, spans_of, first_fault, line_count, ends_open, ending_from}
+use Rattle.script_tokens.specs.Words.{ending_of, before_fault, view, views, word_at, words_of, line_of_fault, FewLines}
 
 -- 1 where the last byte is no line feed
 abbrev open_lines : List ℕ → ℕ

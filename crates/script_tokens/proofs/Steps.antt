@@ -1,7 +1,9 @@
 -- The pass over the bytes, as it goes on.
-use Rattle.std.proofs.Common.{◌≡◌, ℕ, zero, suc, ◌+◌, ◌<◌, ◌≤◌, Bool, true, false, cond, eqb, ltb, List, [], ◌∷◌, ◌++◌, length, get_or, take, drop, map, All, IfSome, Option, Some, None, refl, sym, ap, subst, ◌∙◌, append_assoc, arith, inl, inr}
+use Rattle.std.proofs.Common.{◌≡◌, ℕ, zero, suc, ◌+◌, ◌<◌, ◌≤◌, Bool, true, false, cond, eqb, ltb, List, [], ◌∷◌, ◌++◌, length, get_or}
+use Rattle.std.proofs.Common.{take, drop, map, All, IfSome, Option, Some, None, refl, sym, ap, subst, ◌∙◌, append_assoc, arith, inl, inr}
 use Rattle.std.specs.Prelude.{count_by, filter, slice_get, slice_range, not, ◌||◌}
-use Rattle.std.proofs.lemmas.Bool.{cases_Bool, or_parts, not-true, not-false, eqb-true, eqb-false, eq-eqb, ne_eqb, ltb-true, ltb-false, le-ltb, lt-ltb}
+use Rattle.std.proofs.lemmas.Bool.{cases_Bool, or_parts, not-true, not-false, eqb-true, eqb-false}
+use Rattle.std.proofs.lemmas.Bool.{eq-eqb, ne_eqb, ltb-true, ltb-false, le-ltb, lt-ltb}
 use Rattle.std.proofs.lemmas.List.{append-nil, drop_more, drop_all, take-append-le, length-append, take_all, length-map}
 use Rattle.std.proofs.lemmas.List.Sums.{sum_by-cons}
 use Rattle.std.proofs.lemmas.List.Elements.{filter-append, All-head, All-tail}
@@ -11,8 +13,10 @@ use Rattle.script_tokens.specs.Bytes.{is_feed, is_hash, is_word_byte, is_allowed
 use Rattle.script_tokens.specs.declared.scanning.Ending.{Ending}
 use Rattle.script_tokens.specs.declared.scanning.Ending.TheVariants.{Whole, Fault}
 use Rattle.script_tokens.specs.declared.token.Token.{Token}
-use Rattle.script_tokens.specs.Words.{Span, joined, spans, spans_of, first_fault, line_of_fault, line_count, ending_from, ending_of, before_fault, word_at, words_of, views, Ascend}
-use Rattle.script_tokens.specs.Scanning.{span_of, IsSlice, after_in, place_after, word_before, last_word, ended, line_after, whole_after, fault_at, is_fault}
+use Rattle.script_tokens.specs.Words.{Span, joined, spans, spans_of, first_fault, line_of_fault, line_count}
+use Rattle.script_tokens.specs.Words.{ending_from, ending_of, before_fault, word_at, words_of, views, Ascend}
+use Rattle.script_tokens.specs.Scanning.{span_of, IsSlice, after_in, place_after, word_before}
+use Rattle.script_tokens.specs.Scanning.{last_word, ended, line_after, whole_after, fault_at, is_fault}
 
 -- the words of the bytes that follow, where the byte before stands at that place
 abbrev pub behind : Place → ℕ → ℕ → List ℕ → List Span

@@ -1,5 +1,6 @@
 -- The words of a script's bytes, and the first byte or line that may not stand there.
-use Rattle.std.specs.Prelude.{◌≡◌, ℕ, List, [], ◌∷◌, Bool, true, false, Option, Some, None, ◌==◌, ◌||◌, not, nat_lt, count_by, filter, map, slice_get, slice_range, length, ◌+◌, ◌-◌, ◌<◌, ◌≤◌, if◌then◌else◌}
+use Rattle.std.specs.Prelude.{◌≡◌, ℕ, List, [], ◌∷◌, Bool, true, false, Option, Some, None, ◌==◌, ◌||◌, not, nat_lt}
+use Rattle.std.specs.Prelude.{count_by, filter, map, slice_get, slice_range, length, ◌+◌, ◌-◌, ◌<◌, ◌≤◌, if◌then◌else◌}
 use Rattle.script_tokens.specs.declared.scanning.ByteFault.{ByteFault}
 use Rattle.script_tokens.specs.declared.scanning.ByteFault.TheVariants.{NotAscii, TooManyLines}
 use Rattle.script_tokens.specs.declared.scanning.TokenFault.{TokenFault}

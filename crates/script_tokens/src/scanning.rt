@@ -8,7 +8,8 @@ ghost use Rattle.std.specs.Prelude.{◌≡◌, ◌<◌, ◌≤◌, ◌^◌, ◌+
 ghost use Rattle.std.specs.Option.{ForSome};
 ghost use Rattle.script_tokens.specs.Bytes.{is_feed};
 ghost use Rattle.script_tokens.specs.Words.{views, words_of, ending_of, line_count, first_fault, Ascend, IsFault, FewLines};
-ghost use Rattle.script_tokens.specs.Scanning.{span_of, IsSlice, place_after, word_before, last_word, ended, line_after, whole_after, fault_at, is_fault};
+ghost use Rattle.script_tokens.specs.Scanning.{span_of, IsSlice, place_after, word_before, last_word};
+ghost use Rattle.script_tokens.specs.Scanning.{ended, line_after, whole_after, fault_at, is_fault};
 
 use crate::bytes::{is_allowed, is_word_byte};
 use crate::token::Token;

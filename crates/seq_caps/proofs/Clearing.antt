@@ -30,7 +30,8 @@ pub begins : (s : State) (f : ℕ) → SameState s (cleared_to s f 0)
 begins s f = record {
   limits = refl;
   place = λ g i _ _. elim (cases_eq g f) [
-    | inl e ↦ ap (λ h. s.place h i) e ∙ sym (ap (λ b. if b then Free else s.place f i) (le-ltb i 0 (omega arith))) ∙ sym (in_node s f _ g i e)
+    | inl e ↦ ap (λ h. s.place h i) e ∙ sym (ap (λ b. if b then Free else s.place f i) (le-ltb i 0 (omega arith)))
+        ∙ sym (in_node s f _ g i e)
     | inr ne ↦ sym (ap (λ (r : ℕ → Place). r i) (put_other s.place f _ g ne))
   ];
   frame = λ g _. refl;
@@ -49,7 +50,8 @@ begins s f = record {
     graces (NumberOf l) = refl
 
 -- One place more.
-one_more : (s : State) (f n : ℕ) → SameState (with_grace_of (with_place (cleared_to s f n) f n Free) (PlaceOf f n) no_grace) (cleared_to s f (n + 1))
+one_more : (s : State) (f n : ℕ)
+    → SameState (with_grace_of (with_place (cleared_to s f n) f n Free) (PlaceOf f n) no_grace) (cleared_to s f (n + 1))
 one_more s f n = record {
   limits = refl;
   place = λ g i _ _. places g i;
@@ -64,7 +66,8 @@ one_more s f n = record {
 
     row : (i : ℕ) → put ((cleared_to s f n).place f) n Free i ≡ (if nat_lt i (n + 1) then Free else s.place f i)
     row i = elim (cases_eq i n) [
-      | inl e ↦ put_same ((cleared_to s f n).place f) n Free i e ∙ sym (ap (λ b. if b then Free else s.place f i) (lt-ltb i (n + 1) (omega arith)))
+      | inl e ↦ put_same ((cleared_to s f n).place f) n Free i e
+          ∙ sym (ap (λ b. if b then Free else s.place f i) (lt-ltb i (n + 1) (omega arith)))
       | inr ne ↦ put_other ((cleared_to s f n).place f) n Free i ne ∙ in_node s f old f i refl ∙ (elim (cases_lt i n) [
         | inl lt ↦ ap (λ b. if b then Free else s.place f i) (lt-ltb i n lt ∙ sym (lt-ltb i (n + 1) (omega arith)))
         | inr ge ↦ ap (λ b. if b then Free else s.place f i) (le-ltb i n ge ∙ sym (le-ltb i (n + 1) (omega arith)))
@@ -74,7 +77,8 @@ one_more s f n = record {
     places : (g i : ℕ) → put (cleared_to s f n).place f (put ((cleared_to s f n).place f) n Free) g i ≡ (cleared_to s f (n + 1)).place g i
     places g i = elim (cases_eq g f) [
       | inl e ↦ ap (λ (r : ℕ → Place). r i) (put_same (cleared_to s f n).place f _ g e) ∙ row i ∙ sym (in_node s f _ g i e)
-      | inr ne ↦ ap (λ (r : ℕ → Place). r i) (put_other (cleared_to s f n).place f _ g ne ∙ put_other s.place f _ g ne ∙ sym (put_other s.place f _ g ne))
+      | inr ne ↦ ap (λ (r : ℕ → Place). r i)
+          (put_other (cleared_to s f n).place f _ g ne ∙ put_other s.place f _ g ne ∙ sym (put_other s.place f _ g ne))
     ]
 
     chosen : (a b d : Bool) (g : Grace) → (b ≡ true → d ≡ true) → (b ≡ false → d ≡ a)
@@ -107,17 +111,22 @@ one_more s f n = record {
 freed_more : (s t u v : State) (f n : ℕ) → SameState t (cleared_to s f n) → SameState u (with_place t f n Free)
     → SameState v (with_grace_of u (PlaceOf f n) no_grace) → SameState v (cleared_to s f (n + 1))
 freed_more s t u v f n here placed graced =
-    let moved = same_then u (with_place t f n Free) (with_place (cleared_to s f n) f n Free) placed (same_place t (cleared_to s f n) f n Free here) in
-    let freed = same_grace_of u (with_place (cleared_to s f n) f n Free) (PlaceOf f n) no_grace no_grace (same_grace_by s.limits.cores no_grace no_grace refl) moved in
+    let moved = same_then u (with_place t f n Free) (with_place (cleared_to s f n) f n Free)
+    placed (same_place t (cleared_to s f n) f n Free here) in
+    let freed = same_grace_of u (with_place (cleared_to s f n) f n Free) (PlaceOf f n)
+    no_grace no_grace (same_grace_by s.limits.cores no_grace no_grace refl) moved in
     same_then v (with_grace_of u (PlaceOf f n) no_grace) (cleared_to s f (n + 1)) graced
-    (same_then (with_grace_of u (PlaceOf f n) no_grace) (with_grace_of (with_place (cleared_to s f n) f n Free) (PlaceOf f n) no_grace) (cleared_to s f (n + 1))
+    (same_then (with_grace_of u (PlaceOf f n) no_grace)
+    (with_grace_of (with_place (cleared_to s f n) f n Free) (PlaceOf f n) no_grace) (cleared_to s f (n + 1))
     freed (one_more s f n))
 
-pub goes_on : (s t u v : State) (f n i : ℕ) (g : Grace) → i ≡ n → g ≡ no_grace → SameState t (cleared_to s f n) → SameState u (with_place t f i Free)
+pub goes_on : (s t u v : State) (f n i : ℕ) (g : Grace) → i ≡ n → g ≡ no_grace
+    → SameState t (cleared_to s f n) → SameState u (with_place t f i Free)
     → SameState v (with_grace_of u (PlaceOf f i) g) → SameState v (cleared_to s f (n + 1))
 goes_on s t u v f n i g is none here placed graced =
     freed_more s t u v f n here (subst (λ m. SameState u (with_place t f m Free)) is placed)
-    (subst (λ m. SameState v (with_grace_of u (PlaceOf f m) no_grace)) is (subst (λ h. SameState v (with_grace_of u (PlaceOf f i) h)) none graced))
+    (subst (λ m. SameState v (with_grace_of u (PlaceOf f m) no_grace)) is
+    (subst (λ h. SameState v (with_grace_of u (PlaceOf f i) h)) none graced))
 
 pub ends : (s t : State) (f : ℕ) → SameState t (cleared_to s f 64) → SameState t (cleared s f)
 ends s t f same = same_then t (cleared_to s f 64) (cleared s f) same record {

@@ -8,7 +8,8 @@ use Rattle.kernel_rules.specs.State.{Holds, Object, Thread, Tcap, Kernel, CompFi
 use Rattle.kernel_rules.specs.Start.{plain_cap}
 use Rattle.kernel_rules.specs.Access.{Slot, Under, found, only}
 use Rattle.kernel_rules.specs.Rules.{Cause, Refused, Found, unless, first_of, named, vacant, refusal_of, first_cause, outcome}
-use Rattle.kernel_rules.specs.CapabilityCalls.{outside, not_blank, not_taken, cleared, makes, makes_comp, make_node, make_thread, make_tcap, make_comp, epoch_of}
+use Rattle.kernel_rules.specs.CapabilityCalls.{outside, not_blank, not_taken, cleared, makes, makes_comp}
+use Rattle.kernel_rules.specs.CapabilityCalls.{make_node, make_thread, make_tcap, make_comp, epoch_of}
 use Rattle.seq_state.specs.Representation.{SameState}
 use Rattle.seq_state.proofs.Same.{same_then, same_place, same_frame}
 use Rattle.seq_lookups.proofs.Outcomes.{unless_calm, unless_stands}
@@ -27,12 +28,14 @@ two_of : (s : State) (c : ℕ) (range : Capability) (f : ℕ) (causes : List Cau
     → first_cause s c (blank_causes s range f causes) ≡ first_cause s c causes
 two_of s c range f causes calm = from (refusal_of s c (outside (found range) f)) (refusal_of s c (not_blank s f)) calm
   where
-    from : (x y : Option Reply) → None ≡ first_of x (first_of y None) → first_of x (first_of y (first_cause s c causes)) ≡ first_cause s c causes
+    from : (x y : Option Reply) → None ≡ first_of x (first_of y None)
+        → first_of x (first_of y (first_cause s c causes)) ≡ first_cause s c causes
     from None None e = refl
     from None (Some r) e = cc
     from (Some r) y e = cc
 
-one_of : (s : State) (c : ℕ) (range : Capability) (f : ℕ) (causes : List Cause) (r : Reply) → Some r ≡ first_cause s c (blank_causes s range f [])
+one_of : (s : State) (c : ℕ) (range : Capability) (f : ℕ) (causes : List Cause) (r : Reply)
+    → Some r ≡ first_cause s c (blank_causes s range f [])
     → first_cause s c (blank_causes s range f causes) ≡ Some r
 one_of s c range f causes r stands = from (refusal_of s c (outside (found range) f)) (refusal_of s c (not_blank s f)) stands
   where
@@ -54,13 +57,15 @@ node_found s c object k r f t b range table at g h e =
     rw (← h.has_range, ← h.has_table, ← h.has_place, ← unless_calm (first_cause s c (blank_causes s range f [])) f g e)
 
 pub thread_refused : (s : State) (c r f t b n : ℕ) (range table comp : Capability) (at : Slot) (q : Reply)
-    → Reached s c r t b range table at → Found comp ≡ named s c n (only kind.Comp) → Refused q ≡ unless (first_cause s c (blank_causes s range f [])) f
+    → Reached s c r t b range table at → Found comp ≡ named s c n (only kind.Comp)
+    → Refused q ≡ unless (first_cause s c (blank_causes s range f [])) f
     → outcome s c (make_thread s r f t b n) ≡ Refused q
 thread_refused s c r f t b n range table comp at q h is e =
     rw (← h.has_range, ← h.has_table, ← is, ← h.has_place, ← unless_stands (first_cause s c (blank_causes s range f [])) f q e)
 
 pub thread_found : (s : State) (c r f t b n : ℕ) (range table comp : Capability) (at : Slot) (g : ℕ)
-    → Reached s c r t b range table at → Found comp ≡ named s c n (only kind.Comp) → Found g ≡ unless (first_cause s c (blank_causes s range f [])) f
+    → Reached s c r t b range table at → Found comp ≡ named s c n (only kind.Comp)
+    → Found g ≡ unless (first_cause s c (blank_causes s range f [])) f
     → outcome s c (make_thread s r f t b n) ≡ Found (makes s f (Thread (record { stack = comp.frame ∷ []; runs_on = None })) kind.Thread at)
 thread_found s c r f t b n range table comp at g h is e =
     rw (← h.has_range, ← h.has_table, ← is, ← h.has_place, ← unless_calm (first_cause s c (blank_causes s range f [])) f g e)
@@ -73,7 +78,8 @@ tcap_refused s c r f t b sched quality range table at q h e =
 
 pub tcap_found : (s : State) (c r f t b sched quality : ℕ) (range table : Capability) (at : Slot) (g : ℕ)
     → Reached s c r t b range table at → Found g ≡ unless (first_cause s c (blank_causes s range f [])) f
-    → outcome s c (make_tcap s r f t b sched quality) ≡ Found (makes s f (Tcap (record { budget = 0; qualities = (sched, quality) ∷ [] })) kind.Tcap at)
+    → outcome s c (make_tcap s r f t b sched quality)
+    ≡ Found (makes s f (Tcap (record { budget = 0; qualities = (sched, quality) ∷ [] })) kind.Tcap at)
 tcap_found s c r f t b sched quality range table at g h e =
     rw (← h.has_range, ← h.has_table, ← h.has_place, ← unless_calm (first_cause s c (blank_causes s range f [])) f g e)
 
@@ -83,7 +89,8 @@ pub record Owned (s : State) (c x p : ℕ) (own_table own_pages : Capability) : 
   pub has_pages : Found own_pages ≡ named s c p (only kind.Pages)
 
 pub comp_refused : (s : State) (c r f t b x p l : ℕ) (range table own_table own_pages : Capability) (at : Slot) (q : Reply)
-    → Reached s c r t b range table at → Owned s c x p own_table own_pages → Refused q ≡ unless (first_cause s c (blank_causes s range f [])) f
+    → Reached s c r t b range table at → Owned s c x p own_table own_pages
+    → Refused q ≡ unless (first_cause s c (blank_causes s range f [])) f
     → outcome s c (make_comp s r f t b x p l) ≡ Refused q
 comp_refused s c r f t b x p l range table own_table own_pages at q h own e =
     rw (
@@ -96,7 +103,8 @@ comp_refused s c r f t b x p l range table own_table own_pages at q h own e =
     )
 
 pub epoch_refused : (s : State) (c r f t b x p l : ℕ) (range table own_table own_pages : Capability) (at : Slot) (g : ℕ) (q : Reply)
-    → Reached s c r t b range table at → Owned s c x p own_table own_pages → Found g ≡ unless (first_cause s c (blank_causes s range f [])) f
+    → Reached s c r t b range table at → Owned s c x p own_table own_pages
+    → Found g ≡ unless (first_cause s c (blank_causes s range f [])) f
     → Refused q ≡ unless (first_cause s c (not_taken s l)) (epoch_of (s.number l) + 1)
     → outcome s c (make_comp s r f t b x p l) ≡ Refused q
 epoch_refused s c r f t b x p l range table own_table own_pages at g q h own e n =
@@ -112,10 +120,12 @@ epoch_refused s c r f t b x p l range table own_table own_pages at g q h own e n
 
 -- The component that a `make` makes.
 abbrev pub comp_made : State → ℕ → Capability → Capability → CompFields
-comp_made s l own_table own_pages = record { table = own_table.frame; pages = own_pages.frame; number = l; epoch = epoch_of (s.number l) + 1 }
+comp_made s l own_table own_pages =
+    record { table = own_table.frame; pages = own_pages.frame; number = l; epoch = epoch_of (s.number l) + 1 }
 
 pub comp_found : (s : State) (c r f t b x p l : ℕ) (range table own_table own_pages : Capability) (at : Slot) (g n : ℕ)
-    → Reached s c r t b range table at → Owned s c x p own_table own_pages → Found g ≡ unless (first_cause s c (blank_causes s range f [])) f
+    → Reached s c r t b range table at → Owned s c x p own_table own_pages
+    → Found g ≡ unless (first_cause s c (blank_causes s range f [])) f
     → Found n ≡ unless (first_cause s c (not_taken s l)) (epoch_of (s.number l) + 1)
     → outcome s c (make_comp s r f t b x p l) ≡ Found (makes_comp s f (comp_made s l own_table own_pages) at)
 comp_found s c r f t b x p l range table own_table own_pages at g n h own e free =

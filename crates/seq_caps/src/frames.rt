@@ -26,7 +26,8 @@ fn is_blank(frame: Frame) -> bool
 
 /// The blank frame of a range: `out-of-range` where the range does not have it, `frame-kind` where it is not blank.
 pub(crate) fn blank_in(k: &SeqKernel, range: &Cap, frame: FrameArg) -> Result<FrameNo, Reply>
-    ensures refusal { range.now.frame + range.now.arg ≤ (state_of k.now).limits.frames → judged result ≡ unless (first_cause (state_of k.now) 0 (outside (found range.now) frame ∷ not_blank (state_of k.now) frame ∷ [])) frame }
+    ensures refusal { range.now.frame + range.now.arg ≤ (state_of k.now).limits.frames → judged result
+        ≡ unless (first_cause (state_of k.now) 0 (outside (found range.now) frame ∷ not_blank (state_of k.now) frame ∷ [])) frame }
     ensures frame { IfOk result (λ f. (f ≡ frame) × (f < (state_of k.now).limits.frames)) }
 {
     let found = frame_in(k, range, frame)?;
@@ -90,7 +91,8 @@ fn epoch_of(number: &Liveness) -> u16
 /// The next epoch of a liveness number that may be taken: `occupied` where it is live, `quiescing` where another core waits
 /// for it, `epochs-spent` where it has had its last epoch.
 pub(crate) fn next_epoch(k: &SeqKernel, core: CoreNo, live: u8) -> Result<u16, Reply>
-    ensures { epoch_of ((state_of k.now).number live) ≤ (state_of k.now).limits.epochs → judged result ≡ unless (first_cause (state_of k.now) core (not_taken (state_of k.now) live)) (epoch_of ((state_of k.now).number live) + 1) }
+    ensures { epoch_of ((state_of k.now).number live) ≤ (state_of k.now).limits.epochs → judged result
+        ≡ unless (first_cause (state_of k.now) core (not_taken (state_of k.now) live)) (epoch_of ((state_of k.now).number live) + 1) }
 {
     let number = k.number(live);
     if is_live(&number) {

@@ -45,7 +45,8 @@ fn make_node(
     requires core { core < (state_of k.old).limits.cores }
     requires least { least_arg kind ≡ 0 }
     requires end { 0 < end_of_arg kind }
-    ensures { RangeEnds (state_of k.old) core r → IsCarriedOut (state_of k.old) (outcome (state_of k.old) core (make_node (state_of k.old) (object_of object) kind r f t b)) (answered result) k.new }
+    ensures { RangeEnds (state_of k.old) core r → IsCarriedOut (state_of k.old)
+        (outcome (state_of k.old) core (make_node (state_of k.old) (object_of object) kind r f t b)) (answered result) k.new }
 {
     let range = named(k, core, r, Wanted::Only(Kind::Range))?;
     let table = named(k, core, t, Wanted::Only(Kind::Table))?;
@@ -67,7 +68,8 @@ fn make_thread(
     c: CapId,
 ) -> Result<Value, Reply>
     requires { core < (state_of k.old).limits.cores }
-    ensures { RangeEnds (state_of k.old) core r → IsCarriedOut (state_of k.old) (outcome (state_of k.old) core (make_thread (state_of k.old) r f t b c)) (answered result) k.new }
+    ensures { RangeEnds (state_of k.old) core r
+        → IsCarriedOut (state_of k.old) (outcome (state_of k.old) core (make_thread (state_of k.old) r f t b c)) (answered result) k.new }
 {
     let range = named(k, core, r, Wanted::Only(Kind::Range))?;
     let table = named(k, core, t, Wanted::Only(Kind::Table))?;
@@ -103,7 +105,8 @@ fn make_tcap(
     requires scheduler { sched < 64 }
     requires least { 1 ≤ quality }
     requires end { quality < 2 ^ 24 }
-    ensures { RangeEnds (state_of k.old) core r → IsCarriedOut (state_of k.old) (outcome (state_of k.old) core (make_tcap (state_of k.old) r f t b sched quality)) (answered result) k.new }
+    ensures { RangeEnds (state_of k.old) core r → IsCarriedOut (state_of k.old)
+        (outcome (state_of k.old) core (make_tcap (state_of k.old) r f t b sched quality)) (answered result) k.new }
 {
     let range = named(k, core, r, Wanted::Only(Kind::Range))?;
     let table = named(k, core, t, Wanted::Only(Kind::Table))?;
@@ -137,7 +140,9 @@ fn make_comp(
 ) -> Result<Value, Reply>
     requires core { core < (state_of k.old).limits.cores }
     requires number { live < 64 }
-    ensures { RangeEnds (state_of k.old) core r → epoch_of ((state_of k.old).number live) ≤ (state_of k.old).limits.epochs → IsCarriedOut (state_of k.old) (outcome (state_of k.old) core (make_comp (state_of k.old) r f t b x p live)) (answered result) k.new }
+    ensures { RangeEnds (state_of k.old) core r → epoch_of ((state_of k.old).number live) ≤ (state_of k.old).limits.epochs
+        → IsCarriedOut (state_of k.old) (outcome (state_of k.old) core (make_comp (state_of k.old) r f t b x p live))
+        (answered result) k.new }
 {
     let range = named(k, core, r, Wanted::Only(Kind::Range))?;
     let table = named(k, core, t, Wanted::Only(Kind::Table))?;
@@ -175,7 +180,8 @@ pub(crate) fn make(
 ) -> Result<Value, Reply>
     requires core { core < (state_of k.old).limits.cores }
     requires limits { MakeInLimits what.now }
-    ensures { IsInRange (state_of k.old) core (make_call what.now r f t b) → IsCarriedOut (state_of k.old) (change_of (state_of k.old) core (make_call what.now r f t b)) (answered result) k.new }
+    ensures { IsInRange (state_of k.old) core (make_call what.now r f t b)
+        → IsCarriedOut (state_of k.old) (change_of (state_of k.old) core (make_call what.now r f t b)) (answered result) k.new }
 {
     match *what {
         Make::Table => make_node(k, core, Object::Table, Kind::Table, r, f, t, b),

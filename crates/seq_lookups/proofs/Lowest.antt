@@ -1,5 +1,6 @@
 -- The lowest number below an end of which a test holds, found from a number on.
-use Rattle.std.proofs.Common.{◌≡◌, ℕ, zero, suc, ◌+◌, ◌-◌, ◌<◌, ◌≤◌, Bool, true, false, not, ◌&&◌, ◌==◌, if◌then◌else◌, cond, refl, ◌∙◌, ap, arith, Some, None}
+use Rattle.std.proofs.Common.{◌≡◌, ℕ, zero, suc, ◌+◌, ◌-◌, ◌<◌, ◌≤◌, Bool, true, false, not}
+use Rattle.std.proofs.Common.{◌&&◌, ◌==◌, if◌then◌else◌, cond, refl, ◌∙◌, ap, arith, Some, None}
 use Rattle.std.specs.Prelude.{find}
 use Rattle.std.specs.List.{range_with_len}
 
@@ -13,7 +14,8 @@ from_here p a n below =
 pub found_here : (p : ℕ → Bool) (a n : ℕ) → a < n → p a ≡ true → find p (range_with_len a (n - a)) ≡ Some a
 found_here p a n below is = from_here p a n below ∙ ap (λ b. cond b (Some a) (find p (range_with_len (a + 1) (n - (a + 1))))) is
 
-pub found_later : (p : ℕ → Bool) (a n : ℕ) → a < n → p a ≡ false → find p (range_with_len a (n - a)) ≡ find p (range_with_len (a + 1) (n - (a + 1)))
+pub found_later : (p : ℕ → Bool) (a n : ℕ) → a < n → p a ≡ false
+    → find p (range_with_len a (n - a)) ≡ find p (range_with_len (a + 1) (n - (a + 1)))
 found_later p a n below is = from_here p a n below ∙ ap (λ b. cond b (Some a) (find p (range_with_len (a + 1) (n - (a + 1))))) is
 
 pub found_nowhere : (p : ℕ → Bool) (a n : ℕ) → n ≤ a → find p (range_with_len a (n - a)) ≡ None
@@ -22,7 +24,8 @@ found_nowhere p a n past =
     ap (λ m. find p (range_with_len a m)) none
 
 -- Two tests that agree below the end find the same.
-pub found_alike : (p q : ℕ → Bool) (a n : ℕ) → ((e : ℕ) → a ≤ e → e < a + n → p e ≡ q e) → find p (range_with_len a n) ≡ find q (range_with_len a n)
+pub found_alike : (p q : ℕ → Bool) (a n : ℕ) → ((e : ℕ) → a ≤ e → e < a + n → p e ≡ q e)
+    → find p (range_with_len a n) ≡ find q (range_with_len a n)
 found_alike p q a zero same = refl
 found_alike p q a (suc n) same =
     ap (λ b. cond b (Some a) (find p (range_with_len (a + 1) n))) (same a (omega arith) (omega arith))

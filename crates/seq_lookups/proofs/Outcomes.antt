@@ -8,7 +8,8 @@ use Rattle.spk_nums.specs.declared.replies.Reply.{Reply}
 use Rattle.spk_nums.specs.declared.replies.Reply.TheVariants as reply
 use Rattle.kernel_rules.specs.State.{State}
 use Rattle.kernel_rules.specs.Access.{Slot, Named, found, Target, only}
-use Rattle.kernel_rules.specs.Rules.{Change, Cause, Rule, Name, Vacant, Held, Mapped, Does, Judged, Refused, Found, and_then, unless, named, vacant, held, mapped, first_of, refusal_of, first_cause, outcome}
+use Rattle.kernel_rules.specs.Rules.{Change, Cause, Rule, Name, Vacant, Held, Mapped, Does, Judged, Refused, Found, and_then}
+use Rattle.kernel_rules.specs.Rules.{unless, named, vacant, held, mapped, first_of, refusal_of, first_cause, outcome}
 use Rattle.kernel_rules.specs.CallRelation.{changed}
 use Rattle.seq_state.specs.Maps.{Maps, state_of}
 use Rattle.seq_state.specs.Representation.{Represents}
@@ -34,7 +35,8 @@ pub vacant_refused : (s : State) (c : ℕ) (target : Target) (rest : Slot → Ru
     → outcome s c (Vacant target rest) ≡ Refused r
 vacant_refused s c target rest r e = ap (λ j. and_then j (λ at. outcome s c (rest at))) (sym e)
 
-pub held_found : (s : State) (c : ℕ) (target : Target) (rest : Slot → Capability → Rule) (at : Slot) (k : Capability) → Found (at, k) ≡ held s c target
+pub held_found : (s : State) (c : ℕ) (target : Target) (rest : Slot → Capability → Rule) (at : Slot) (k : Capability)
+    → Found (at, k) ≡ held s c target
     → outcome s c (Held target rest) ≡ outcome s c (rest at k)
 held_found s c target rest at k e = ap (λ j. and_then j (λ p. outcome s c (rest p.0 p.1))) (sym e)
 
@@ -52,7 +54,8 @@ mapped_refused s c table v rest r e = ap (λ j. and_then j (λ k. outcome s c (r
 
 -- ---- the call's own causes
 
-pub does_found : (s : State) (c : ℕ) (causes : List Cause) (change : Change) → None ≡ first_cause s c causes → outcome s c (Does causes change) ≡ Found change
+pub does_found : (s : State) (c : ℕ) (causes : List Cause) (change : Change)
+    → None ≡ first_cause s c causes → outcome s c (Does causes change) ≡ Found change
 does_found s c causes change e = ap (λ o. unless o change) (sym e)
 
 pub does_refused : (s : State) (c : ℕ) (causes : List Cause) (change : Change) (r : Reply) → Some r ≡ first_cause s c causes
@@ -62,7 +65,8 @@ does_refused s c causes change r e = ap (λ o. unless o change) (sym e)
 pub cause_calm : (s : State) (c : ℕ) (x : Cause) (xs : List Cause) → None ≡ refusal_of s c x → first_cause s c (x ∷ xs) ≡ first_cause s c xs
 cause_calm s c x xs e = ap (λ o. first_of o (first_cause s c xs)) (sym e)
 
-pub cause_stands : (s : State) (c : ℕ) (x : Cause) (xs : List Cause) (r : Reply) → Some r ≡ refusal_of s c x → first_cause s c (x ∷ xs) ≡ Some r
+pub cause_stands : (s : State) (c : ℕ) (x : Cause) (xs : List Cause) (r : Reply)
+    → Some r ≡ refusal_of s c x → first_cause s c (x ∷ xs) ≡ Some r
 cause_stands s c x xs r e = ap (λ o. first_of o (first_cause s c xs)) (sym e)
 
 -- What is found unless a cause stands shows that none does.
@@ -91,7 +95,11 @@ found_is (Some r) x y e = cc
 -- ---- what is carried out
 
 pub refused : (k : Maps) (o : Judged Change) (r : Reply) → o ≡ Refused r → IsCarriedOut (state_of k) o r k
-refused k o r e = subst (λ (j : Judged Change). IsCarriedOut (state_of k) j r k) (sym e) record { reply = refl; state = same_by (state_of k) (state_of k) refl }
+refused k o r e = subst (λ (j : Judged Change). IsCarriedOut (state_of k) j r k) (sym e) record {
+  reply =
+      refl;
+  state = same_by (state_of k) (state_of k) refl;
+}
 
 pub carried : (s : State) (o : Judged Change) (change : Change) (v : Value) (k : Maps) → o ≡ Found change → v ≡ change.value
     → Represents k (changed s (Found change)) → IsCarriedOut s o (reply.Ok v) k

@@ -93,7 +93,8 @@ pub fn named(k: &SeqKernel, core: CoreNo, name: CapId, wanted: Wanted) -> Result
 /// The frame of a range: `out-of-range` where the range does not have it. Of a range that ends past the machine's frames
 /// nothing is said.
 pub fn frame_in(k: &SeqKernel, range: &Cap, frame: FrameArg) -> Result<FrameNo, Reply>
-    ensures refusal { range.now.frame + range.now.arg ≤ (state_of k.now).limits.frames → judged result ≡ unless (refusal_of (state_of k.now) 0 (outside (found range.now) frame)) frame }
+    ensures refusal { range.now.frame + range.now.arg ≤ (state_of k.now).limits.frames
+        → judged result ≡ unless (refusal_of (state_of k.now) 0 (outside (found range.now) frame)) frame }
     ensures frame { IfOk result (λ f. (f ≡ frame) × (f < (state_of k.now).limits.frames)) }
 {
     let number = frame.number();

@@ -18,12 +18,14 @@ use Rattle.seq_lookups.proofs.Outcomes.{unless_calm, unless_stands}
 pub out_of_range : (s : State) (c r f : ℕ) (k : FrameKind) (range : Capability) (q : Reply) → Found range ≡ named s c r (only kind.Range)
     → Refused q ≡ unless (refusal_of s c (outside (found range) f)) f → outcome s c (retype_rule s r f k) ≡ Refused q
 out_of_range s c r f k range q is e =
-    rw (← is) (ap (λ o. unless (first_of o (first_cause s c (not_retyped s f k))) (retypes s f k)) (sym (unless_stands (refusal_of s c (outside (found range) f)) f q e)))
+    rw (← is) (ap (λ o. unless (first_of o (first_cause s c (not_retyped s f k))) (retypes s f k))
+    (sym (unless_stands (refusal_of s c (outside (found range) f)) f q e)))
 
 pub in_range : (s : State) (c r f g : ℕ) (k : FrameKind) (range : Capability) → Found range ≡ named s c r (only kind.Range)
     → Found g ≡ unless (refusal_of s c (outside (found range) f)) f → outcome s c (retype_rule s r f k) ≡ outcome s c (retyping s f k)
 in_range s c r f g k range is e =
-    rw (← is) (ap (λ o. unless (first_of o (first_cause s c (not_retyped s f k))) (retypes s f k)) (sym (unless_calm (refusal_of s c (outside (found range) f)) f g e)))
+    rw (← is) (ap (λ o. unless (first_of o (first_cause s c (not_retyped s f k))) (retypes s f k))
+    (sym (unless_calm (refusal_of s c (outside (found range) f)) f g e)))
 
 -- ---- map
 
@@ -37,12 +39,14 @@ pub record Reached (s : State) (c p v r : ℕ) (pages range : Capability) (at : 
 abbrev pub user_causes : State → Capability → ℕ → List Cause
 user_causes s range f = outside (found range) f ∷ not_user s f ∷ []
 
-pub map_refused : (s : State) (c p v r f : ℕ) (w : PageFlags) (pages range : Capability) (at : Slot) (q : Reply) → Reached s c p v r pages range at
+pub map_refused : (s : State) (c p v r f : ℕ) (w : PageFlags) (pages range : Capability) (at : Slot) (q : Reply)
+    → Reached s c p v r pages range at
     → Refused q ≡ unless (first_cause s c (user_causes s range f)) f → outcome s c (map_rule s p v r f w) ≡ Refused q
 map_refused s c p v r f w pages range at q h e =
     rw (← h.has_pages, ← h.has_range, ← h.has_place, ← unless_stands (first_cause s c (user_causes s range f)) f q e)
 
-pub map_found : (s : State) (c p v r f : ℕ) (w : PageFlags) (pages range : Capability) (at : Slot) (g : ℕ) → Reached s c p v r pages range at
+pub map_found : (s : State) (c p v r f : ℕ) (w : PageFlags) (pages range : Capability) (at : Slot) (g : ℕ)
+    → Reached s c p v r pages range at
     → Found g ≡ unless (first_cause s c (user_causes s range f)) f
     → outcome s c (map_rule s p v r f w) ≡ Found (fills s at (record { kind = kind.Page; frame = f; arg = w.0 }))
 map_found s c p v r f w pages range at g h e =

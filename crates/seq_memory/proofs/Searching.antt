@@ -1,10 +1,12 @@
 -- A search from a number on: in the numbers below an end, and in a list.
-use Rattle.std.proofs.Common.{◌≡◌, ℕ, suc, ◌+◌, ◌-◌, ◌<◌, ◌≤◌, ◌||◌, Bool, true, false, cond, ◌∙◌, ap, arith, List, ◌∷◌, Some, length, drop, slice_get, drop-cons, add-one}
+use Rattle.std.proofs.Common.{◌≡◌, ℕ, suc, ◌+◌, ◌-◌, ◌<◌, ◌≤◌, ◌||◌, Bool, true, false, cond, ◌∙◌, ap}
+use Rattle.std.proofs.Common.{arith, List, ◌∷◌, Some, length, drop, slice_get, drop-cons, add-one}
 use Rattle.std.specs.Prelude.{find}
 use Rattle.std.specs.List.{list_any, range_with_len}
 use Rattle.std.proofs.lemmas.Option.{slice_get_within, get_or_from_slice_get}
 
-any_from : (p : ℕ → Bool) (a n : ℕ) → a < n → list_any p (range_with_len a (n - a)) ≡ (p a || list_any p (range_with_len (a + 1) (n - (a + 1))))
+any_from : (p : ℕ → Bool) (a n : ℕ) → a < n
+    → list_any p (range_with_len a (n - a)) ≡ (p a || list_any p (range_with_len (a + 1) (n - (a + 1))))
 any_from p a n below =
     let more : n - a ≡ suc (n - (a + 1)) = omega arith in
     ap (λ m. list_any p (range_with_len a m)) more
@@ -12,7 +14,8 @@ any_from p a n below =
 pub any_here : (p : ℕ → Bool) (a n : ℕ) → a < n → p a ≡ true → list_any p (range_with_len a (n - a)) ≡ true
 any_here p a n below is = any_from p a n below ∙ ap (λ b. b || list_any p (range_with_len (a + 1) (n - (a + 1)))) is
 
-pub any_later : (p : ℕ → Bool) (a n : ℕ) → a < n → p a ≡ false → list_any p (range_with_len a (n - a)) ≡ list_any p (range_with_len (a + 1) (n - (a + 1)))
+pub any_later : (p : ℕ → Bool) (a n : ℕ) → a < n → p a ≡ false
+    → list_any p (range_with_len a (n - a)) ≡ list_any p (range_with_len (a + 1) (n - (a + 1)))
 any_later p a n below is = any_from p a n below ∙ ap (λ b. b || list_any p (range_with_len (a + 1) (n - (a + 1)))) is
 
 pub any_nowhere : (p : ℕ → Bool) (a n : ℕ) → n ≤ a → list_any p (range_with_len a (n - a)) ≡ false
@@ -26,8 +29,10 @@ item_first {A = A} xs i x is =
     let below : i < length xs = slice_get_within xs i x is in
     rw (add-one, drop-cons xs i x) (ap (λ y. y ∷ drop (suc i) xs) (get_or_from_slice_get xs i x x is))
 
-pub found_here : {A : Type 0} (p : A → Bool) (xs : List A) (i : ℕ) (x : A) → slice_get xs i ≡ Some x → p x ≡ true → find p (drop i xs) ≡ Some x
+pub found_here : {A : Type 0} (p : A → Bool) (xs : List A) (i : ℕ) (x : A)
+    → slice_get xs i ≡ Some x → p x ≡ true → find p (drop i xs) ≡ Some x
 found_here {A = A} p xs i x is yes_is = ap (find p) (item_first xs i x is) ∙ ap (λ b. cond b (Some x) (find p (drop (i + 1) xs))) yes_is
 
-pub found_later : {A : Type 0} (p : A → Bool) (xs : List A) (i : ℕ) (x : A) → slice_get xs i ≡ Some x → p x ≡ false → find p (drop i xs) ≡ find p (drop (i + 1) xs)
+pub found_later : {A : Type 0} (p : A → Bool) (xs : List A) (i : ℕ) (x : A)
+    → slice_get xs i ≡ Some x → p x ≡ false → find p (drop i xs) ≡ find p (drop (i + 1) xs)
 found_later {A = A} p xs i x is no_is = ap (find p) (item_first xs i x is) ∙ ap (λ b. cond b (Some x) (find p (drop (i + 1) xs))) no_is

@@ -125,7 +125,8 @@ pub(crate) fn not_taken(k: &SeqKernel, core: CoreNo, frame: FrameNo) -> Option<R
 
 /// The user frame of a range: `out-of-range` where the range does not have it, `frame-kind` where it is no user frame.
 pub(crate) fn user_in(k: &SeqKernel, range: &Cap, frame: FrameArg) -> Result<FrameNo, Reply>
-    ensures refusal { range.now.frame + range.now.arg ≤ (state_of k.now).limits.frames → judged result ≡ unless (first_cause (state_of k.now) 0 (outside (found range.now) frame ∷ not_user (state_of k.now) frame ∷ [])) frame }
+    ensures refusal { range.now.frame + range.now.arg ≤ (state_of k.now).limits.frames → judged result
+        ≡ unless (first_cause (state_of k.now) 0 (outside (found range.now) frame ∷ not_user (state_of k.now) frame ∷ [])) frame }
     ensures frame { IfOk result (λ f. (f ≡ frame) × (f < (state_of k.now).limits.frames)) }
 {
     let found = frame_in(k, range, frame)?;

@@ -21,7 +21,8 @@ fn carry_out(k: &mut SeqKernel, core: CoreNo, call: &Call) -> Result<Value, Repl
     requires own { IsMemoryCall call.now }
     requires limits { InLimits call.now }
     requires core { core < (state_of k.old).limits.cores }
-    ensures { IsInRange (state_of k.old) core call.now → IsCarriedOut (state_of k.old) (change_of (state_of k.old) core call.now) (answered result) k.new }
+    ensures { IsInRange (state_of k.old) core call.now
+        → IsCarriedOut (state_of k.old) (change_of (state_of k.old) core call.now) (answered result) k.new }
 {
     match *call {
         Call::Retype { r, f, k: kind } => retype(k, core, r, f, kind),
@@ -40,7 +41,8 @@ pub fn step(_alloc: Global, k: &mut SeqKernel, core: CoreNo, call: &Call) -> Res
     requires limits { InLimits call.now }
     requires core { core < (state_of k.old).limits.cores }
     ensures answers { IsOk result }
-    ensures exact { IsInRange (state_of k.old) core call.now → IfOk result (λ r. IsCarriedOut (state_of k.old) (change_of (state_of k.old) core call.now) r k.new) }
+    ensures exact { IsInRange (state_of k.old) core call.now
+        → IfOk result (λ r. IsCarriedOut (state_of k.old) (change_of (state_of k.old) core call.now) r k.new) }
 {
     match carry_out(k, core, call) {
         Ok(value) => Ok(Reply::Ok(value)),

@@ -35,7 +35,8 @@ pub(crate) fn map(
 ) -> Result<Value, Reply>
     requires core { core < (state_of k.old).limits.cores }
     requires flags { w.0 < 4 }
-    ensures { RangeEnds (state_of k.old) core r → IsCarriedOut (state_of k.old) (change_of (state_of k.old) core (Map p v r f w)) (answered result) k.new }
+    ensures { RangeEnds (state_of k.old) core r
+        → IsCarriedOut (state_of k.old) (change_of (state_of k.old) core (Map p v r f w)) (answered result) k.new }
 {
     let pages = named(k, core, p, Wanted::Only(Kind::Pages))?;
     let range = named(k, core, r, Wanted::Only(Kind::Range))?;

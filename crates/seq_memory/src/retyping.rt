@@ -67,7 +67,8 @@ fn free(k: &mut SeqKernel, frame: FrameNo)
 /// A frame of the machine becomes untyped.
 fn to_untyped(k: &mut SeqKernel, core: CoreNo, frame: FrameNo) -> Result<Value, Reply>
     requires { frame < (state_of k.old).limits.frames }
-    ensures { IsCarriedOut (state_of k.old) (outcome (state_of k.old) core (retyping (state_of k.old) frame frame_kind.Untyped)) (answered result) k.new }
+    ensures { IsCarriedOut (state_of k.old) (outcome (state_of k.old) core (retyping (state_of k.old) frame frame_kind.Untyped))
+        (answered result) k.new }
 {
     match not_freed(k, core, frame) {
         Some(refusal) => Err(refusal),
@@ -81,7 +82,8 @@ fn to_untyped(k: &mut SeqKernel, core: CoreNo, frame: FrameNo) -> Result<Value, 
 /// An untyped frame of the machine becomes a user frame.
 fn to_user(k: &mut SeqKernel, core: CoreNo, frame: FrameNo) -> Result<Value, Reply>
     requires { frame < (state_of k.old).limits.frames }
-    ensures { IsCarriedOut (state_of k.old) (outcome (state_of k.old) core (retyping (state_of k.old) frame frame_kind.User)) (answered result) k.new }
+    ensures { IsCarriedOut (state_of k.old) (outcome (state_of k.old) core (retyping (state_of k.old) frame frame_kind.User))
+        (answered result) k.new }
 {
     match not_taken(k, core, frame) {
         Some(refusal) => Err(refusal),
@@ -95,7 +97,8 @@ fn to_user(k: &mut SeqKernel, core: CoreNo, frame: FrameNo) -> Result<Value, Rep
 /// An untyped frame of the machine becomes a blank kernel frame.
 fn to_kernel(k: &mut SeqKernel, core: CoreNo, frame: FrameNo) -> Result<Value, Reply>
     requires { frame < (state_of k.old).limits.frames }
-    ensures { IsCarriedOut (state_of k.old) (outcome (state_of k.old) core (retyping (state_of k.old) frame frame_kind.Kernel)) (answered result) k.new }
+    ensures { IsCarriedOut (state_of k.old) (outcome (state_of k.old) core (retyping (state_of k.old) frame frame_kind.Kernel))
+        (answered result) k.new }
 {
     match not_taken(k, core, frame) {
         Some(refusal) => Err(refusal),
@@ -133,7 +136,8 @@ pub(crate) fn retype(
     kind: FrameKind,
 ) -> Result<Value, Reply>
     requires { core < (state_of k.old).limits.cores }
-    ensures { RangeEnds (state_of k.old) core r → IsCarriedOut (state_of k.old) (change_of (state_of k.old) core (Retype r f kind)) (answered result) k.new }
+    ensures { RangeEnds (state_of k.old) core r
+        → IsCarriedOut (state_of k.old) (change_of (state_of k.old) core (Retype r f kind)) (answered result) k.new }
 {
     let range = named(k, core, r, Wanted::Only(Kind::Range))?;
     let frame = frame_in(k, &range, f)?;

@@ -76,7 +76,8 @@ fn cache(k: &mut SeqKernel, core: CoreNo, item: Translation)
 /// `touch`: answers the frame and flags of a page of the caller's component, from the cached translations or the page table.
 pub(crate) fn touch(k: &mut SeqKernel, core: CoreNo, v: PageNo) -> Result<Value, Reply>
     requires { core < (state_of k.old).limits.cores }
-    ensures { PageFound (state_of k.old) core v → IsCarriedOut (state_of k.old) (change_of (state_of k.old) core (Touch v)) (answered result) k.new }
+    ensures { PageFound (state_of k.old) core v
+        → IsCarriedOut (state_of k.old) (change_of (state_of k.old) core (Touch v)) (answered result) k.new }
 {
     let pages = comp_of(k, core).pages;
     if let Some(item) = translation_of(&k.core(core).cached, pages, v) {

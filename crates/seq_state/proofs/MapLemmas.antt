@@ -1,5 +1,6 @@
 -- Reading and changing the maps is reading and changing the state that they stand for.
-use Rattle.std.proofs.Common.{◌≡◌, ◌≢◌, inl, inr, ℕ, ◌+◌, ◌*◌, ◌<◌, true, false, ◌&&◌, ◌==◌, nat_lt, if◌then◌else◌, refl, sym, ◌∙◌, ap, arith, List, Option, Some, None, unwrap_or}
+use Rattle.std.proofs.Common.{◌≡◌, ◌≢◌, inl, inr, ℕ, ◌+◌, ◌*◌, ◌<◌, true, false, ◌&&◌, ◌==◌, nat_lt}
+use Rattle.std.proofs.Common.{if◌then◌else◌, refl, sym, ◌∙◌, ap, arith, List, Option, Some, None, unwrap_or}
 use Rattle.std.proofs.lemmas.Bool.{cases_eq, cases_lt, lt-ltb, le-ltb, eq-eqb, ne_eqb}
 use Rattle.kernel_rules.specs.State as state
 use Rattle.kernel_rules.specs.State.{put, with_place, with_frame, with_number, with_core, State, Limits}
@@ -12,7 +13,8 @@ use Rattle.seq_state.specs.declared.parts.Core.{Core}
 use Rattle.seq_state.specs.declared.parts.Grace.{Grace}
 use Rattle.kernel_rules.proofs.Within.{put_same, put_other}
 use Rattle.seq_state.specs.Parts.{place_held, frame_of, number_of, core_of, grace_of}
-use Rattle.seq_state.specs.Maps.{Maps, at, at_place, state_of, place_or_free, frame_or_untyped, number_or_unused, core_or_none, grace_or_none, grace_in}
+use Rattle.seq_state.specs.Maps.{Maps, at, at_place, state_of, place_or_free, frame_or_untyped}
+use Rattle.seq_state.specs.Maps.{number_or_unused, core_or_none, grace_or_none, grace_in}
 use Rattle.seq_state.specs.Representation.{with_grace_of}
 
 -- A map is another with a value at one key.
@@ -26,7 +28,8 @@ unfolding state_of
 limits_of t u same = ap (λ (v : Maps). v.limits) (sym same)
 
 -- A part that a map gives, with a value where there is none.
-or_default : {X A : Type 0} (part : Option X → A) (d : X) → part (Some d) ≡ part None → (o : Option X) → part (Some (unwrap_or o d)) ≡ part o
+or_default : {X A : Type 0} (part : Option X → A) (d : X)
+    → part (Some d) ≡ part None → (o : Option X) → part (Some (unwrap_or o d)) ≡ part o
 or_default part d same None = same
 or_default part d same (Some x) = refl
 
@@ -54,7 +57,8 @@ place_apart old new f i k x small is w g j apart = elim (cases_lt j 64) [
 pub place_reads : (t : Maps) (f i k : ℕ) (d : Place) → i < 64 → k ≡ 64 * f + i → place_held d ≡ state.Free
     → place_held (unwrap_or (at t.places k) d) ≡ (state_of t).place f i
 unfolding state_of
-place_reads t f i k d small is free = or_default place_or_free d free (at t.places k) ∙ sym (ap place_or_free (at_place_is t.places f i k small is))
+place_reads t f i k d small is free = or_default place_or_free d free (at t.places k)
+    ∙ sym (ap place_or_free (at_place_is t.places f i k small is))
 
 pub places_written : (t : Maps) (es : List (ℕ × Place)) (f i k : ℕ) (p : Place) → i < 64 → k ≡ 64 * f + i → IsWritten t.places es k p
     → state_of (record t { places = es }) ≡ with_place (state_of t) f i (place_held p)
@@ -76,7 +80,8 @@ places_written t es f i k p small is w = λ j. record {
       | inl e ↦ elim (cases_eq h i) [
         | inl e' ↦
             let a : at_place es g h ≡ Some p = place_at_key es g h k p (omega arith) (omega arith) w.here in
-            ap place_or_free a ∙ sym (ap (λ r. r h) (put_same row f (put (row f) i (place_held p)) g e) ∙ put_same (row f) i (place_held p) h e')
+            ap place_or_free a ∙ sym
+            (ap (λ r. r h) (put_same row f (put (row f) i (place_held p)) g e) ∙ put_same (row f) i (place_held p) h e')
         | inr ne' ↦
             ap place_or_free (place_apart t.places es f i k p small is w g h (λ _ e'. ne' e'))
             ∙ ap (λ x. row x h) e
@@ -113,7 +118,8 @@ frames_written t es f k x is w = λ j. record {
   limits = t.limits;
 }
 
-pub number_reads : (t : Maps) (l k : ℕ) (d : Liveness) → k ≡ l → number_of d ≡ state.Unused → number_of (unwrap_or (at t.numbers k) d) ≡ (state_of t).number l
+pub number_reads : (t : Maps) (l k : ℕ) (d : Liveness) → k ≡ l → number_of d ≡ state.Unused
+    → number_of (unwrap_or (at t.numbers k) d) ≡ (state_of t).number l
 unfolding state_of
 number_reads t l k d is unused = or_default number_or_unused d unused (at t.numbers k) ∙ ap (λ q. number_or_unused (at t.numbers q)) is
 
@@ -161,9 +167,11 @@ frame_grace_reads t f k d is none = or_default grace_or_none d none (at t.frame_
 pub number_grace_reads : (t : Maps) (f k : ℕ) (d : Grace) → k ≡ f → grace_of d ≡ no_grace
     → grace_of (unwrap_or (at t.number_graces k) d) ≡ (state_of t).grace (state.NumberOf f)
 unfolding state_of
-number_grace_reads t f k d is none = or_default grace_or_none d none (at t.number_graces k) ∙ ap (λ q. grace_or_none (at t.number_graces q)) is
+number_grace_reads t f k d is none = or_default grace_or_none d none (at t.number_graces k)
+    ∙ ap (λ q. grace_or_none (at t.number_graces q)) is
 
-pub place_graces_written : (t : Maps) (es : List (ℕ × Grace)) (f i k : ℕ) (g : Grace) → i < 64 → k ≡ 64 * f + i → IsWritten t.place_graces es k g
+pub place_graces_written : (t : Maps) (es : List (ℕ × Grace)) (f i k : ℕ) (g : Grace)
+    → i < 64 → k ≡ 64 * f + i → IsWritten t.place_graces es k g
     → state_of (record t { place_graces = es }) ≡ with_grace_of (state_of t) (state.PlaceOf f i) (grace_of g)
 unfolding state_of
 place_graces_written t es f i k g small is w = λ j. record {
@@ -175,7 +183,8 @@ place_graces_written t es f i k g small is w = λ j. record {
   limits = t.limits;
 }
   where
-    point : (y : state.Thing) → grace_in (record t { place_graces = es }) y ≡ (if same_thing y (state.PlaceOf f i) then grace_of g else grace_in t y)
+    point : (y : state.Thing)
+        → grace_in (record t { place_graces = es }) y ≡ (if same_thing y (state.PlaceOf f i) then grace_of g else grace_in t y)
     point (state.PlaceOf h m) = elim (cases_eq h f) [
       | inl e ↦ elim (cases_eq m i) [
         | inl e' ↦
@@ -206,7 +215,8 @@ frame_graces_written t es f k g is w = λ j. record {
   limits = t.limits;
 }
   where
-    point : (y : state.Thing) → grace_in (record t { frame_graces = es }) y ≡ (if same_thing y (state.FrameOf f) then grace_of g else grace_in t y)
+    point : (y : state.Thing)
+        → grace_in (record t { frame_graces = es }) y ≡ (if same_thing y (state.FrameOf f) then grace_of g else grace_in t y)
     point (state.PlaceOf h m) = refl
     point (state.FrameOf h) = put_written grace_or_none t.frame_graces es f k g is w h
     point (state.NumberOf l) = refl
@@ -223,7 +233,8 @@ number_graces_written t es l k g is w = λ j. record {
   limits = t.limits;
 }
   where
-    point : (y : state.Thing) → grace_in (record t { number_graces = es }) y ≡ (if same_thing y (state.NumberOf l) then grace_of g else grace_in t y)
+    point : (y : state.Thing)
+        → grace_in (record t { number_graces = es }) y ≡ (if same_thing y (state.NumberOf l) then grace_of g else grace_in t y)
     point (state.PlaceOf h m) = refl
     point (state.FrameOf h) = refl
     point (state.NumberOf m) = put_written grace_or_none t.number_graces es l k g is w m

@@ -24,10 +24,12 @@ became n f (Some g) None most stands b = absurd b
 became n f (Some g) (Some h) most stands b = fewer n (grace_of h) (f (grace_of g)) most b
 
 became_at : (n : ℕ) (f : Grace → Grace) (old new : List (ℕ × GraceSets)) (g i : ℕ) → i < 64 → n ≤ 8 → IsSome (at old (64 * g + i))
-    → Becomes f (at old (64 * g + i)) (at new (64 * g + i)) → SameGrace n (grace_or_none (at_place new g i)) (f (grace_or_none (at_place old g i)))
+    → Becomes f (at old (64 * g + i)) (at new (64 * g + i))
+    → SameGrace n (grace_or_none (at_place new g i)) (f (grace_or_none (at_place old g i)))
 became_at n f old new g i small most stands b =
     subst (λ o. SameGrace n (grace_or_none o) (f (grace_or_none (at_place old g i)))) (sym (at_place_is new g i (64 * g + i) small refl))
-    (subst (λ o. SameGrace n (grace_or_none (at new (64 * g + i))) (f (grace_or_none o))) (sym (at_place_is old g i (64 * g + i) small refl))
+    (subst (λ o. SameGrace n (grace_or_none (at new (64 * g + i))) (f (grace_or_none o)))
+    (sym (at_place_is old g i (64 * g + i) small refl))
     (became n f (at old (64 * g + i)) (at new (64 * g + i)) most stands b))
 
 pub all_become : (t : Maps) (f : Grace → Grace) (ps fs ns : List (ℕ × GraceSets)) → IsWhole t

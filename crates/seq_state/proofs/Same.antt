@@ -1,7 +1,8 @@
 -- States that are one for all that a machine has: changes keep them so, and references are counted alike.
 use Rattle.std.proofs.Common.{◌≡◌, ℕ, ◌+◌, ◌<◌, ◌==◌, Bool, true, false, refl, sym, ◌∙◌, ap, subst, if◌then◌else◌}
 use Rattle.std.proofs.lemmas.Bool.{eqb-true}
-use Rattle.kernel_rules.specs.State.{put, Place, Frame, Liveness, Core, Grace, Thing, Limits, State, with_place, with_frame, with_number, with_core}
+use Rattle.kernel_rules.specs.State.{put, Place, Frame, Liveness, Core, Grace, Thing, Limits}
+use Rattle.kernel_rules.specs.State.{State, with_place, with_frame, with_number, with_core}
 use Rattle.kernel_rules.specs.GracePeriods.{same_thing}
 use Rattle.kernel_rules.specs.References.{place_names, frame_names, number_names, core_names, sum_below, times, node_refs, refs}
 use Rattle.seq_state.specs.Representation.{IsThing, SameGrace, SameState, with_grace_of}
@@ -44,7 +45,8 @@ same_then s t u a b =
       number = λ l ll. a.number l ll ∙ b.number l ll;
       core = λ c lc. a.core c (subst (λ n. c < n) (sym cores_is) lc) ∙ b.core c lc;
       grace = λ x is. same_grace_then u.limits.cores _ _ _
-          (subst (λ n. SameGrace n (s.grace x) (t.grace x)) cores_is (a.grace x (subst (λ l. IsThing l x) (sym b.limits) is))) (b.grace x is);
+          (subst (λ n. SameGrace n (s.grace x) (t.grace x)) cores_is (a.grace x (subst (λ l. IsThing l x) (sym b.limits) is)))
+          (b.grace x is);
     }
 
 -- A value of `put` follows from the values that it is made of.
@@ -119,10 +121,14 @@ same_refs s t f a =
     let frames_is : s.limits.frames ≡ t.limits.frames = ap (λ (l : Limits). l.frames) a.limits in
     let cores_is : s.limits.cores ≡ t.limits.cores = ap (λ (l : Limits). l.cores) a.limits in
     let in_places = ap (sum_below (node_refs s f)) frames_is ∙ sum_same (node_refs t f) (node_refs s f) t.limits.frames (λ g lg.
-    sum_same (λ i. times f (place_names (t.place g i))) (λ i. times f (place_names (s.place g i))) 64 (λ i li. ap (λ p. times f (place_names p)) (a.place g i lg li))) in
+    sum_same (λ i. times f (place_names (t.place g i))) (λ i. times f (place_names (s.place g i)))
+    64 (λ i li. ap (λ p. times f (place_names p)) (a.place g i lg li))) in
     let in_frames = ap (sum_below (λ g. times f (frame_names (s.frame g)))) frames_is
-    ∙ sum_same (λ g. times f (frame_names (t.frame g))) (λ g. times f (frame_names (s.frame g))) t.limits.frames (λ g lg. ap (λ x. times f (frame_names x)) (a.frame g lg)) in
+    ∙ sum_same (λ g. times f (frame_names (t.frame g))) (λ g. times f (frame_names (s.frame g)))
+    t.limits.frames (λ g lg. ap (λ x. times f (frame_names x)) (a.frame g lg)) in
     let in_cores = ap (sum_below (λ c. times f (core_names (s.core c)))) cores_is
-    ∙ sum_same (λ c. times f (core_names (t.core c))) (λ c. times f (core_names (s.core c))) t.limits.cores (λ c lc. ap (λ x. times f (core_names x)) (a.core c lc)) in
-    let in_numbers = sum_same (λ l. times f (number_names (t.number l))) (λ l. times f (number_names (s.number l))) 64 (λ l ll. ap (λ x. times f (number_names x)) (a.number l ll)) in
+    ∙ sum_same (λ c. times f (core_names (t.core c))) (λ c. times f (core_names (s.core c)))
+    t.limits.cores (λ c lc. ap (λ x. times f (core_names x)) (a.core c lc)) in
+    let in_numbers = sum_same (λ l. times f (number_names (t.number l)))
+    (λ l. times f (number_names (s.number l))) 64 (λ l ll. ap (λ x. times f (number_names x)) (a.number l ll)) in
     λ j. in_places j + in_frames j + in_cores j + in_numbers j

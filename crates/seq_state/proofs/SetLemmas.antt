@@ -1,5 +1,6 @@
 -- A change of the maps is that change of the state, for all that the machine has.
-use Rattle.std.proofs.Common.{◌≡◌, ◌≢◌, inl, inr, ℕ, ◌+◌, ◌*◌, ◌<◌, ◌≤◌, ◌&&◌, ◌==◌, if◌then◌else◌, refl, sym, ◌∙◌, ap, arith, List, Some, IsSome}
+use Rattle.std.proofs.Common.{◌≡◌, ◌≢◌, inl, inr, ℕ, ◌+◌, ◌*◌, ◌<◌, ◌≤◌, ◌&&◌, ◌==◌}
+use Rattle.std.proofs.Common.{if◌then◌else◌, refl, sym, ◌∙◌, ap, arith, List, Some, IsSome}
 use Rattle.std.proofs.lemmas.Bool.{cases_lt, ne_eqb}
 use Rattle.kernel_rules.specs.State.{put, with_place, with_frame, with_number, Thing, PlaceOf, FrameOf, NumberOf}
 use Rattle.kernel_rules.specs.GracePeriods.{same_thing}
@@ -8,9 +9,11 @@ use Rattle.seq_state.specs.declared.parts.Frame.{Frame}
 use Rattle.seq_state.specs.declared.parts.Liveness.{Liveness}
 use Rattle.seq_state.specs.declared.parts.Grace.{Grace as GraceSets}
 use Rattle.seq_state.specs.Parts.{place_held, frame_of, number_of, grace_of}
-use Rattle.seq_state.specs.Maps.{Maps, at, at_place, IsWhole, state_of, place_or_free, frame_or_untyped, number_or_unused, grace_or_none, grace_in}
+use Rattle.seq_state.specs.Maps.{Maps, at, at_place, IsWhole, state_of, place_or_free}
+use Rattle.seq_state.specs.Maps.{frame_or_untyped, number_or_unused, grace_or_none, grace_in}
 use Rattle.seq_state.specs.Representation.{IsThing, with_grace_of, SameState}
-use Rattle.seq_state.proofs.MapLemmas.{IsWritten, at_place_is, places_written, frames_written, numbers_written, place_graces_written, frame_graces_written, number_graces_written}
+use Rattle.seq_state.proofs.MapLemmas.{IsWritten, at_place_is, places_written, frames_written, numbers_written}
+use Rattle.seq_state.proofs.MapLemmas.{place_graces_written, frame_graces_written, number_graces_written}
 use Rattle.kernel_rules.proofs.Within.{put_other}
 use Rattle.seq_state.proofs.Same.{same_by, same_grace_by}
 
@@ -23,7 +26,8 @@ pub record IsSet {X : Type 0} (old new : List (ℕ × X)) (k : ℕ) (x : X) : Ty
 pub written : {X : Type 0} (old new : List (ℕ × X)) (k : ℕ) (x : X) → IsSome (at old k) → IsSet old new k x → IsWritten old new k x
 written old new k x stands s = record { here = s.here stands; others = s.others }
 
-at_apart : {X : Type 0} (new old : List (ℕ × X)) (g j : ℕ) → j < 64 → at new (64 * g + j) ≡ at old (64 * g + j) → at_place new g j ≡ at_place old g j
+at_apart : {X : Type 0} (new old : List (ℕ × X)) (g j : ℕ) → j < 64
+    → at new (64 * g + j) ≡ at old (64 * g + j) → at_place new g j ≡ at_place old g j
 at_apart new old g j small same = at_place_is new g j (64 * g + j) small refl ∙ same ∙ sym (at_place_is old g j (64 * g + j) small refl)
 
 pub places_set : (t : Maps) (es : List (ℕ × Place)) (f i k : ℕ) (p : Place) → IsWhole t → i < 64 → k ≡ 64 * f + i → IsSet t.places es k p
@@ -37,7 +41,8 @@ places_set t es f i k p whole small is s = elim (cases_lt f t.limits.frames) [
         let ne : 64 * g + j ≢ k = λ e. omega arith in
         let apart : g ≢ f = λ e. omega arith in
         ap place_or_free (at_apart es t.places g j j_below (s.others (64 * g + j) ne))
-        ∙ sym (ap (λ r. r j) (put_other (λ g j. place_or_free (at_place t.places g j)) f (put (λ j. place_or_free (at_place t.places f j)) i (place_held p)) g apart));
+        ∙ sym (ap (λ r. r j) (put_other (λ g j. place_or_free (at_place t.places g j))
+        f (put (λ j. place_or_free (at_place t.places f j)) i (place_held p)) g apart));
     frame = λ g _. refl;
     number = λ l _. refl;
     core = λ c _. refl;
@@ -53,7 +58,8 @@ frames_set t es f k x whole is s = elim (cases_lt f t.limits.frames) [
   | inr past ↦ record {
     limits = refl;
     place = λ g j _ _. refl;
-    frame = λ g below. ap frame_or_untyped (s.others g (λ e. omega arith)) ∙ sym (put_other (λ g. frame_or_untyped (at t.frames g)) f (frame_of x) g (λ e. omega arith));
+    frame = λ g below. ap frame_or_untyped (s.others g (λ e. omega arith))
+        ∙ sym (put_other (λ g. frame_or_untyped (at t.frames g)) f (frame_of x) g (λ e. omega arith));
     number = λ l _. refl;
     core = λ c _. refl;
     grace = λ x _. same_grace_by t.limits.cores _ _ refl;
@@ -69,17 +75,20 @@ numbers_set t es l k x whole is s = elim (cases_lt l 64) [
     limits = refl;
     place = λ g j _ _. refl;
     frame = λ g _. refl;
-    number = λ m below. ap number_or_unused (s.others m (λ e. omega arith)) ∙ sym (put_other (λ m. number_or_unused (at t.numbers m)) l (number_of x) m (λ e. omega arith));
+    number = λ m below. ap number_or_unused (s.others m (λ e. omega arith))
+        ∙ sym (put_other (λ m. number_or_unused (at t.numbers m)) l (number_of x) m (λ e. omega arith));
     core = λ c _. refl;
     grace = λ x _. same_grace_by t.limits.cores _ _ refl;
   }
 ]
 
-pub place_graces_set : (t : Maps) (es : List (ℕ × GraceSets)) (f i k : ℕ) (g : GraceSets) → IsWhole t → i < 64 → k ≡ 64 * f + i → IsSet t.place_graces es k g
+pub place_graces_set : (t : Maps) (es : List (ℕ × GraceSets)) (f i k : ℕ) (g : GraceSets)
+    → IsWhole t → i < 64 → k ≡ 64 * f + i → IsSet t.place_graces es k g
     → SameState (state_of (record t { place_graces = es })) (with_grace_of (state_of t) (PlaceOf f i) (grace_of g))
 unfolding state_of
 place_graces_set t es f i k g whole small is s = elim (cases_lt f t.limits.frames) [
-  | inl below ↦ same_by _ _ (place_graces_written t es f i k g small is (written t.place_graces es k g (whole.place_graces k (omega arith)) s))
+  | inl below ↦ same_by _ _
+      (place_graces_written t es f i k g small is (written t.place_graces es k g (whole.place_graces k (omega arith)) s))
   | inr past ↦ record {
     limits = refl;
     place = λ h j _ _. refl;
@@ -90,7 +99,8 @@ place_graces_set t es f i k g whole small is s = elim (cases_lt f t.limits.frame
   }
 ]
   where
-    point : t.limits.frames ≤ f → (y : Thing) → IsThing t.limits y → grace_in (record t { place_graces = es }) y ≡ (if same_thing y (PlaceOf f i) then grace_of g else grace_in t y)
+    point : t.limits.frames ≤ f → (y : Thing) → IsThing t.limits y
+        → grace_in (record t { place_graces = es }) y ≡ (if same_thing y (PlaceOf f i) then grace_of g else grace_in t y)
     point past (PlaceOf h m) (h_below, m_below) =
         let ne : 64 * h + m ≢ k = λ e. omega arith in
         let apart : h ≢ f = λ e. omega arith in
@@ -114,10 +124,12 @@ frame_graces_set t es f k g whole is s = elim (cases_lt f t.limits.frames) [
   }
 ]
   where
-    point : t.limits.frames ≤ f → (y : Thing) → IsThing t.limits y → grace_in (record t { frame_graces = es }) y ≡ (if same_thing y (FrameOf f) then grace_of g else grace_in t y)
+    point : t.limits.frames ≤ f → (y : Thing) → IsThing t.limits y
+        → grace_in (record t { frame_graces = es }) y ≡ (if same_thing y (FrameOf f) then grace_of g else grace_in t y)
     point past (PlaceOf h m) _ = refl
     point past (FrameOf h) below =
-        ap grace_or_none (s.others h (λ e. omega arith)) ∙ sym (ap (λ b. if b then grace_of g else grace_in t (FrameOf h)) (ne_eqb h f (λ e. omega arith)))
+        ap grace_or_none (s.others h (λ e. omega arith))
+        ∙ sym (ap (λ b. if b then grace_of g else grace_in t (FrameOf h)) (ne_eqb h f (λ e. omega arith)))
     point past (NumberOf l) _ = refl
 
 pub number_graces_set : (t : Maps) (es : List (ℕ × GraceSets)) (l k : ℕ) (g : GraceSets) → IsWhole t → k ≡ l → IsSet t.number_graces es k g
@@ -135,8 +147,10 @@ number_graces_set t es l k g whole is s = elim (cases_lt l 64) [
   }
 ]
   where
-    point : 64 ≤ l → (y : Thing) → IsThing t.limits y → grace_in (record t { number_graces = es }) y ≡ (if same_thing y (NumberOf l) then grace_of g else grace_in t y)
+    point : 64 ≤ l → (y : Thing) → IsThing t.limits y
+        → grace_in (record t { number_graces = es }) y ≡ (if same_thing y (NumberOf l) then grace_of g else grace_in t y)
     point past (PlaceOf h m) _ = refl
     point past (FrameOf h) _ = refl
     point past (NumberOf m) below =
-        ap grace_or_none (s.others m (λ e. omega arith)) ∙ sym (ap (λ b. if b then grace_of g else grace_in t (NumberOf m)) (ne_eqb m l (λ e. omega arith)))
+        ap grace_or_none (s.others m (λ e. omega arith))
+        ∙ sym (ap (λ b. if b then grace_of g else grace_in t (NumberOf m)) (ne_eqb m l (λ e. omega arith)))

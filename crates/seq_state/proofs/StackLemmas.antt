@@ -1,5 +1,6 @@
 -- The cells of a stack.
-use Rattle.std.proofs.Common.{◌≡◌, ℕ, suc, ◌+◌, ◌-◌, ◌≤◌, List, [], ◌∷◌, ◌++◌, length, take, drop, replicate, reverse, refl, sym, ap, ◌∙◌, arith}
+use Rattle.std.proofs.Common.{◌≡◌, ℕ, suc, ◌+◌, ◌-◌, ◌≤◌, List, [], ◌∷◌, ◌++◌, length}
+use Rattle.std.proofs.Common.{take, drop, replicate, reverse, refl, sym, ap, ◌∙◌, arith}
 use Rattle.std.specs.Prelude.{slice_set}
 use Rattle.std.proofs.lemmas.List.{drop-set, length-set, length-reverse, reverse-append}
 use Rattle.spk_nums.specs.Listed.{IsListed, length-listed}
@@ -19,7 +20,8 @@ removed {A} blank room len at cells is h =
     rw before record {
       most = omega arith;
       whole = length-set cells at blank ∙ whole;
-      rest = drop-set cells at blank (omega arith) ∙ ap (λ k. blank ∷ drop k cells) is ∙ ap (λ (xs : List A). blank ∷ xs) h.rest ∙ sym (ap (λ k. replicate k blank) left);
+      rest = drop-set cells at blank (omega arith) ∙ ap (λ k. blank ∷ drop k cells) is
+          ∙ ap (λ (xs : List A). blank ∷ xs) h.rest ∙ sym (ap (λ k. replicate k blank) left);
     }
 
 -- A stack has as many frames as its cells say.

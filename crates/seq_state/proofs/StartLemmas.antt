@@ -1,11 +1,13 @@
 -- The maps of the start stand for the start state.
-use Rattle.std.proofs.Common.{◌≡◌, ◌≢◌, inl, inr, ℕ, ◌+◌, ◌*◌, ◌/◌, ◌%◌, ◌<◌, if◌then◌else◌, sym, ◌∙◌, ap, subst, arith, List, Option, Some, None, IsSomeAnd}
+use Rattle.std.proofs.Common.{◌≡◌, ◌≢◌, inl, inr, ℕ, ◌+◌, ◌*◌, ◌/◌, ◌%◌, ◌<◌, if◌then◌else◌}
+use Rattle.std.proofs.Common.{sym, ◌∙◌, ap, subst, arith, List, Option, Some, None, IsSomeAnd}
 use Rattle.std.proofs.lemmas.Bool.{cases_eq, lt-ltb}
 use Rattle.spk_nums.specs.Setting.{Setting}
 use Rattle.kernel_rules.specs.State.{Thing, PlaceOf, FrameOf, NumberOf, Limits}
 use Rattle.kernel_rules.specs.Start.{start, start_place, start_frame, start_number, start_core, no_grace}
 use Rattle.seq_state.specs.Parts.{place_held, frame_of, number_of, core_of, grace_of}
-use Rattle.seq_state.specs.Maps.{Maps, at, at_place, HasAll, state_of, place_or_free, frame_or_untyped, number_or_unused, core_or_none, grace_or_none, grace_in}
+use Rattle.seq_state.specs.Maps.{Maps, at, at_place, HasAll, state_of, place_or_free, frame_or_untyped}
+use Rattle.seq_state.specs.Maps.{number_or_unused, core_or_none, grace_or_none, grace_in}
 use Rattle.seq_state.specs.Representation.{IsThing, SameState}
 use Rattle.seq_state.proofs.Same.{same_grace_by}
 
@@ -53,7 +55,8 @@ starts t s limits places frames numbers cores place_graces frame_graces number_g
   place = λ f i f_below i_below.
       let node : (64 * f + i) / 64 ≡ f = omega arith in
       let index : (64 * f + i) % 64 ≡ i = omega arith in
-      place_is place_or_free t.places f i (start_place s ((64 * f + i) / 64) ((64 * f + i) % 64)) i_below (places (64 * f + i) (omega arith))
+      place_is place_or_free t.places f i (start_place s ((64 * f + i) / 64) ((64 * f + i) % 64))
+      i_below (places (64 * f + i) (omega arith))
       ∙ ap (λ g. start_place s g ((64 * f + i) % 64)) node ∙ ap (λ j. start_place s f j) index;
   frame = λ f below. part_is frame_or_untyped (at t.frames f) (start_frame s f) (frames f below);
   number = λ l below. part_is number_or_unused (at t.numbers l) (start_number l) (numbers l below);

@@ -20,6 +20,7 @@ stack_cells xs = record { cells = padded 0 16 (reverse xs); len = length (revers
 pub stack_cells-back : (a : Inside) → IsStack a → stack_cells (stacked a) ≡ a
 stack_cells-back a h =
     let again : reverse (reverse (take a.len a.cells)) ≡ take a.len a.cells = reverse-reverse (take a.len a.cells) in
-    let same : padded 0 16 (reverse (reverse (take a.len a.cells))) ≡ a.cells = ap (padded 0 16) again ∙ padded-listed 0 16 a.len a.cells h in
+    let same : padded 0 16 (reverse (reverse (take a.len a.cells))) ≡ a.cells =
+    ap (padded 0 16) again ∙ padded-listed 0 16 a.len a.cells h in
     let n : length (reverse (reverse (take a.len a.cells))) ≡ a.len = ap length again ∙ length-listed 0 16 a.len a.cells h in
     λ i. record { cells = same i; len = n i }

@@ -1,7 +1,8 @@
 //! The references to a frame, counted afresh.
 
 ghost use Rattle.std.specs.Prelude.{◌≡◌, ◌<◌, ◌≤◌, ◌*◌, [], ◌∷◌};
-ghost use Rattle.kernel_rules.specs.References.{named_by, place_names, frame_names, number_names, core_names, sum_below, times, node_refs, refs};
+ghost use Rattle.kernel_rules.specs.References.{named_by, place_names, frame_names, number_names};
+ghost use Rattle.kernel_rules.specs.References.{core_names, sum_below, times, node_refs, refs};
 ghost use Rattle.seq_state.specs.Parts.{place_held, object_of, frame_of, number_of, core_of};
 ghost use Rattle.seq_state.specs.Maps.{state_of};
 
@@ -128,7 +129,8 @@ impl SeqKernel {
 
     /// The references to a frame that stand in objects.
     fn refs_of_frames(&self, frame: FrameNo) -> u32
-        ensures count { result ≡ sum_below (λ g. times frame (frame_names ((state_of self.now).frame g))) (state_of self.now).limits.frames }
+        ensures count { result
+            ≡ sum_below (λ g. times frame (frame_names ((state_of self.now).frame g))) (state_of self.now).limits.frames }
         ensures most { result ≤ 8192 }
     {
         let mut count = 0;

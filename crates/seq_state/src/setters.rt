@@ -18,7 +18,8 @@ impl SeqKernel {
     pub fn set_place(&mut self, node: FrameNo, index: EntryNo, place: Place)
         requires { index < 64 }
         ensures machine { Represents self.new (with_place (state_of self.old) node index (place_held place)) }
-        ensures exact { node < (state_of self.old).limits.frames → state_of self.new ≡ with_place (state_of self.old) node index (place_held place) }
+        ensures exact { node < (state_of self.old).limits.frames
+            → state_of self.new ≡ with_place (state_of self.old) node index (place_held place) }
     {
         write_at(&mut self.places, place_key(node, index), place);
     }
@@ -26,7 +27,8 @@ impl SeqKernel {
     /// Sets a frame; its places stay.
     pub fn set_frame(&mut self, frame: FrameNo, value: Frame)
         ensures machine { Represents self.new (with_frame (state_of self.old) frame (frame_of value)) }
-        ensures exact { frame < (state_of self.old).limits.frames → state_of self.new ≡ with_frame (state_of self.old) frame (frame_of value) }
+        ensures exact { frame < (state_of self.old).limits.frames
+            → state_of self.new ≡ with_frame (state_of self.old) frame (frame_of value) }
     {
         write_at(&mut self.frames, frame.number(), value);
     }
@@ -51,7 +53,8 @@ impl SeqKernel {
     pub fn set_grace(&mut self, thing: Thing, grace: Grace)
         requires { HasIndex (thing_of thing) }
         ensures machine { Represents self.new (with_grace_of (state_of self.old) (thing_of thing) (grace_of grace)) }
-        ensures exact { IsThing (state_of self.old).limits (thing_of thing) → state_of self.new ≡ with_grace_of (state_of self.old) (thing_of thing) (grace_of grace) }
+        ensures exact { IsThing (state_of self.old).limits (thing_of thing)
+            → state_of self.new ≡ with_grace_of (state_of self.old) (thing_of thing) (grace_of grace) }
     {
         match thing {
             Thing::PlaceOf { node, index } => write_at(

@@ -1,5 +1,6 @@
 -- Calls that are refused, and calls that are carried out, by what was judged.
-use Rattle.std.proofs.Common.{◌≡◌, ◌≢◌, ℕ, ◌+◌, ◌<◌, ◌≤◌, ◌^◌, ◌==◌, Bool, true, false, if◌then◌else◌, nat_lt, refl, sym, ap, subst, ◌∙◌, arith, List, [], ◌∷◌, length, Option, Some, None}
+use Rattle.std.proofs.Common.{◌≡◌, ◌≢◌, ℕ, ◌+◌, ◌<◌, ◌≤◌, ◌^◌, ◌==◌, Bool, true, false, if◌then◌else◌, nat_lt}
+use Rattle.std.proofs.Common.{refl, sym, ap, subst, ◌∙◌, arith, List, [], ◌∷◌, length, Option, Some, None}
 use Rattle.std.proofs.lemmas.Bool.{eq-eqb}
 use Rattle.std.proofs.lemmas.Bool.Decides.{nat_tests}
 use Rattle.spk_nums.specs.Capability.{Capability}
@@ -8,7 +9,8 @@ use Rattle.spk_nums.specs.declared.replies.Reply.{Reply}
 use Rattle.spk_nums.specs.declared.replies.Reply.TheVariants as reply
 use Rattle.kernel_rules.specs.State.{State}
 use Rattle.kernel_rules.specs.Access.{Named, found, only}
-use Rattle.kernel_rules.specs.Rules.{Change, Cause, When, Rule, Name, Does, Judged, Refused, Found, and_then, unless, named, first_of, first_cause, outcome}
+use Rattle.kernel_rules.specs.Rules.{Change, Cause, When, Rule, Name, Does, Judged, Refused, Found}
+use Rattle.kernel_rules.specs.Rules.{and_then, unless, named, first_of, first_cause, outcome}
 use Rattle.kernel_rules.specs.CallRelation.{changed}
 use Rattle.kernel_invariant.proofs.Facts.{then_parts}
 use Rattle.seq_lookups.proofs.Outcomes.{where_found}

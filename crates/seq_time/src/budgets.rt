@@ -3,7 +3,8 @@
 ghost use Rattle.std.specs.Prelude.{◌≡◌, ◌≢◌, ◌<◌, ◌≤◌, ◌+◌, ◌^◌, ℕ, List, [], ◌∷◌, length, Some, SomeIff};
 ghost use Rattle.kernel_rules.specs.Access.{found};
 ghost use Rattle.kernel_rules.specs.Rules.{first_cause, outcome};
-ghost use Rattle.kernel_rules.specs.TimeCalls.{with_tcap, are_alike, are_same, is_short, are_unlike, are_many, moved, merged_list, with_qualities, transfer_rule, delegate_rule, test_rule, tcap_at, preemption};
+ghost use Rattle.kernel_rules.specs.TimeCalls.{with_tcap, are_alike, are_same, is_short, are_unlike, are_many, moved, merged_list};
+ghost use Rattle.kernel_rules.specs.TimeCalls.{with_qualities, transfer_rule, delegate_rule, test_rule, tcap_at, preemption};
 ghost use Rattle.seq_state.specs.Parts.{frame_of, tcap_fields_of};
 ghost use Rattle.seq_state.specs.Maps.{state_of};
 ghost use Rattle.seq_state.specs.Representation.{Represents};
@@ -51,7 +52,8 @@ fn not_moved(k: &SeqKernel, a: Cap, b: Cap, amount: u32) -> Option<Reply>
 
 /// Why ticks are not transferred: as above, or the lists differ.
 fn not_transferred(k: &SeqKernel, a: Cap, b: Cap, amount: u32) -> Option<Reply>
-    ensures { result ≡ first_cause (state_of k.now) 0 (are_same (found a) (found b) ∷ is_short (state_of k.now) (found a) amount ∷ are_unlike (state_of k.now) (found a) (found b) ∷ []) }
+    ensures { result ≡ first_cause (state_of k.now) 0
+        (are_same (found a) (found b) ∷ is_short (state_of k.now) (found a) amount ∷ are_unlike (state_of k.now) (found a) (found b) ∷ []) }
 {
     if let Some(refusal) = not_moved(k, a, b, amount) {
         return Some(refusal);
@@ -75,7 +77,8 @@ fn merged_for(k: &SeqKernel, a: FrameNo, b: FrameNo) -> Option<Qualities>
 
 /// Why ticks are not delegated: as they are not moved, or the merged list has more than 8 schedulers.
 fn not_delegated(k: &SeqKernel, a: Cap, b: Cap, amount: u32) -> Option<Reply>
-    ensures { result ≡ first_cause (state_of k.now) 0 (are_same (found a) (found b) ∷ is_short (state_of k.now) (found a) amount ∷ are_many (state_of k.now) (found a) (found b) ∷ []) }
+    ensures { result ≡ first_cause (state_of k.now) 0
+        (are_same (found a) (found b) ∷ is_short (state_of k.now) (found a) amount ∷ are_many (state_of k.now) (found a) (found b) ∷ []) }
 {
     if let Some(refusal) = not_moved(k, a, b, amount) {
         return Some(refusal);
@@ -95,7 +98,8 @@ fn to_transfer(
     amount: u32,
 ) -> Result<(Cap, Cap), Reply>
     requires { core < (state_of k.now).limits.cores }
-    ensures { judged result ≡ tcaps_named (state_of k.now) core a b (λ x y. are_same (found x) (found y) ∷ is_short (state_of k.now) (found x) amount ∷ are_unlike (state_of k.now) (found x) (found y) ∷ []) }
+    ensures { judged result ≡ tcaps_named (state_of k.now) core a b (λ x y.
+        are_same (found x) (found y) ∷ is_short (state_of k.now) (found x) amount ∷ are_unlike (state_of k.now) (found x) (found y) ∷ []) }
 {
     let from = named(k, core, a, Wanted::Only(Kind::Tcap))?;
     let to = named(k, core, b, Wanted::Only(Kind::Tcap))?;
@@ -114,7 +118,8 @@ fn to_delegate(
     amount: u32,
 ) -> Result<(Cap, Cap), Reply>
     requires { core < (state_of k.now).limits.cores }
-    ensures { judged result ≡ tcaps_named (state_of k.now) core a b (λ x y. are_same (found x) (found y) ∷ is_short (state_of k.now) (found x) amount ∷ are_many (state_of k.now) (found x) (found y) ∷ []) }
+    ensures { judged result ≡ tcaps_named (state_of k.now) core a b (λ x y.
+        are_same (found x) (found y) ∷ is_short (state_of k.now) (found x) amount ∷ are_many (state_of k.now) (found x) (found y) ∷ []) }
 {
     let from = named(k, core, a, Wanted::Only(Kind::Tcap))?;
     let to = named(k, core, b, Wanted::Only(Kind::Tcap))?;
@@ -167,7 +172,8 @@ pub(crate) fn transfer(
     amount: u32,
 ) -> Result<Value, Reply>
     requires { core < (state_of k.old).limits.cores }
-    ensures { BudgetsFit (state_of k.old) core a b → IsCarriedOut (state_of k.old) (outcome (state_of k.old) core (transfer_rule (state_of k.old) a b amount)) (answered result) k.new }
+    ensures { BudgetsFit (state_of k.old) core a b → IsCarriedOut (state_of k.old)
+        (outcome (state_of k.old) core (transfer_rule (state_of k.old) a b amount)) (answered result) k.new }
 {
     match to_transfer(k, core, a, b, amount) {
         Err(refusal) => Err(refusal),
@@ -180,7 +186,8 @@ pub(crate) fn transfer(
 
 /// Moves ticks from one temporal capability to another, and gives the other the merged list, where it has at most 8 schedulers.
 fn delegate_ticks(k: &mut SeqKernel, a: FrameNo, b: FrameNo, amount: u32)
-    ensures { a ≢ b → (tcap_at (state_of k.old) b).budget + amount < 2 ^ 32 → length (merged_list (state_of k.old) a b) ≤ 8 → Represents k.new (with_qualities (moved (state_of k.old) a b amount) b (merged_list (state_of k.old) a b)) }
+    ensures { a ≢ b → (tcap_at (state_of k.old) b).budget + amount < 2 ^ 32 → length (merged_list (state_of k.old) a b) ≤ 8
+        → Represents k.new (with_qualities (moved (state_of k.old) a b amount) b (merged_list (state_of k.old) a b)) }
 {
     let list = merged_for(k, a, b);
     let from = tcap_at(k, a);
@@ -208,7 +215,8 @@ pub(crate) fn delegate(
     amount: u32,
 ) -> Result<Value, Reply>
     requires { core < (state_of k.old).limits.cores }
-    ensures { BudgetsFit (state_of k.old) core a b → IsCarriedOut (state_of k.old) (outcome (state_of k.old) core (delegate_rule (state_of k.old) a b amount)) (answered result) k.new }
+    ensures { BudgetsFit (state_of k.old) core a b → IsCarriedOut (state_of k.old)
+        (outcome (state_of k.old) core (delegate_rule (state_of k.old) a b amount)) (answered result) k.new }
 {
     match to_delegate(k, core, a, b, amount) {
         Err(refusal) => Err(refusal),

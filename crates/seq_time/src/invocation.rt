@@ -40,7 +40,8 @@ fn is_live_in(number: &Liveness, epoch: u32) -> bool
 
 /// A gate to the component of a frame, in the component's epoch; in epoch 1 where the frame has none.
 fn gate_to(k: &SeqKernel, frame: FrameNo) -> Cap
-    ensures { 1 ≤ (comp_in ((state_of k.now).frame frame)).epoch → result ≡ record { kind = kinds.Gate; frame = frame; arg = (comp_in ((state_of k.now).frame frame)).epoch } }
+    ensures { 1 ≤ (comp_in ((state_of k.now).frame frame)).epoch
+        → result ≡ record { kind = kinds.Gate; frame = frame; arg = (comp_in ((state_of k.now).frame frame)).epoch } }
 {
     let epoch = comp_at(k, frame).epoch.max(1);
     Cap::new(Kind::Gate, frame, u32::from(epoch))
@@ -55,7 +56,8 @@ pub(crate) fn gate(
     b: CapId,
 ) -> Result<Value, Reply>
     requires { core < (state_of k.old).limits.cores }
-    ensures { HasEpoch (state_of k.old) core c → IsCarriedOut (state_of k.old) (change_of (state_of k.old) core (Gate c t b)) (answered result) k.new }
+    ensures { HasEpoch (state_of k.old) core c
+        → IsCarriedOut (state_of k.old) (change_of (state_of k.old) core (Gate c t b)) (answered result) k.new }
 {
     let comp = named(k, core, c, Wanted::Only(Kind::Comp))?;
     let table = named(k, core, t, Wanted::Only(Kind::Table))?;
@@ -71,7 +73,8 @@ pub(crate) fn gate(
 
 /// The liveness number of a component is dead. Its grace period begins, and that of the component's frame.
 fn end_life(k: &mut SeqKernel, number: u8, epoch: u16, frame: FrameNo)
-    ensures { Represents k.new (begun (state_of k.old) (NumberOf number ∷ FrameOf frame ∷ []) (with_number (state_of k.old) number (Dead epoch))) }
+    ensures { Represents k.new
+        (begun (state_of k.old) (NumberOf number ∷ FrameOf frame ∷ []) (with_number (state_of k.old) number (Dead epoch))) }
 {
     begin(k, Thing::NumberOf(number));
     begin(k, Thing::FrameOf(frame));

@@ -62,7 +62,8 @@ fn charge(k: &mut SeqKernel, core: CoreNo, due: u64, charged: u32)
 /// `tick N` charges the N ticks and those owed to the current temporal capability, and answers how many it charged.
 pub(crate) fn tick(k: &mut SeqKernel, core: CoreNo, ticks: u32) -> Value
     requires { core < (state_of k.old).limits.cores }
-    ensures { TicksFit (state_of k.old) core ticks → IsCarriedOut (state_of k.old) (outcome (state_of k.old) core (tick_rule (state_of k.old) core ticks)) (Ok result) k.new }
+    ensures { TicksFit (state_of k.old) core ticks
+        → IsCarriedOut (state_of k.old) (outcome (state_of k.old) core (tick_rule (state_of k.old) core ticks)) (Ok result) k.new }
 {
     let due = u64::from(ticks).saturating_add(k.core(core).owed);
     let charged = charged(k, core, due);

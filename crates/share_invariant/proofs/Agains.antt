@@ -1,5 +1,6 @@
 -- The second load of the head of the second of two temporal capabilities: it has changed, or it is as it was read, and the call is decided.
-use Rattle.std.proofs.Common.{◌≡◌, inl, inr, ℕ, ◌<◌, ◌≤◌, ◌==◌, not, nat_lt, nat_le, Bool, true, false, if◌then◌else◌, List, [], ◌∷◌, length, Option, Some, None, arith, refl, sym, ◌∙◌, ap, subst}
+use Rattle.std.proofs.Common.{◌≡◌, inl, inr, ℕ, ◌<◌, ◌≤◌, ◌==◌, not, nat_lt, nat_le, Bool, true, false, if◌then◌else◌}
+use Rattle.std.proofs.Common.{List, [], ◌∷◌, length, Option, Some, None, arith, refl, sym, ◌∙◌, ap, subst}
 use Rattle.std.proofs.lemmas.Bool.{eq-eqb, eqb-true, eqb-false, le-ltb, leb-false, lt-ltb}
 use Rattle.spk_nums.specs.Setting.{Setting, IsSetting}
 use Rattle.spk_nums.specs.Merging.{preempts_by}
@@ -99,7 +100,8 @@ module _ (setup : Setting) (setting : IsSetting setup) (cores : ℕ → Core) (t
       (calls.near_b setup setting cores t stands c here a active now_p stage_is has)
 
   abbrev Decides : Value → Reply → Type 0
-  Decides v reply_is = GoodTook setup cores t c (LoadOf at) (landed a (took_shared (record p { at = StoreA false v }) (ends.Decided reply_is)))
+  Decides v reply_is =
+      GoodTook setup cores t c (LoadOf at) (landed a (took_shared (record p { at = StoreA false v }) (ends.Decided reply_is)))
 
   abbrev raced_e : Step
   raced_e = inner setup setting cores t stands c here a active (LoadOf at) (Some reply.Raced) None
@@ -133,7 +135,8 @@ module _ (setup : Setting) (setting : IsSetting setup) (cores : ℕ → Core) (t
     -- a transfer of which the lists differ
     module _ (m : ℕ) (what_is : p.what ≡ Transfer m) (told : same_list (in_order p.list_a) (in_order p.list_b) ≡ false) where
       list_b : Some (in_order p.list_b) ≡ Some (tcap_at s p.b).qualities
-      list_b = ap (λ o. Some (in_order o)) (both.whole ∙ ap (λ w. whole_b w (in_order p.list_a) (in_order both.read)) what_is) ∙ some_read both.read read.list_b
+      list_b = ap (λ o. Some (in_order o)) (both.whole ∙ ap (λ w. whole_b w (in_order p.list_a) (in_order both.read)) what_is)
+          ∙ some_read both.read read.list_b
         where
           some_read : (o : Option (List (ℕ × ℕ))) → o ≡ Some (tcap_at s p.b).qualities → Some (in_order o) ≡ Some (tcap_at s p.b).qualities
           some_read o h = ap (λ x. Some (in_order x)) h
@@ -155,7 +158,8 @@ module _ (setup : Setting) (setting : IsSetting setup) (cores : ℕ → Core) (t
           ∙ ap (λ (n : ℕ). nat_lt n m) (sym read.budget_a)
           ∙ le-ltb p.head_a.budget m (subst (λ w. Rattle.stage_tcap.specs.Pairs.amount_of w ≤ p.head_a.budget) what_is both.a.enough)
 
-      may_unlike : RuleMay s c (Does (causes_of s (Transfer m) (named_by is.a) (named_by is.b)) (change_by s (Transfer m) is.a.frame is.b.frame))
+      may_unlike : RuleMay s c
+          (Does (causes_of s (Transfer m) (named_by is.a) (named_by is.b)) (change_by s (Transfer m) is.a.frame is.b.frame))
           reply.Unlike
       may_unlike = inr (inr (inl (ap not unlike_named, refl)))
 
@@ -178,7 +182,8 @@ module _ (setup : Setting) (setting : IsSetting setup) (cores : ℕ → Core) (t
           refl refl (λ x. refl) (λ x. refl) refl (
             unspent,
             calls.may setup setting cores t stands c here a active now_p stage_is has reply.Unlike
-                (subst (λ w. RuleMay s c (Does (causes_of s w (named_by is.a) (named_by is.b)) (change_by s w is.a.frame is.b.frame)) reply.Unlike)
+                (subst (λ w. RuleMay s c
+                (Does (causes_of s w (named_by is.a) (named_by is.b)) (change_by s w is.a.frame is.b.frame)) reply.Unlike)
                 (sym what_is) may_unlike),
           ) tt
           (λ is_alone. refused_first s c a.call reply.Unlike unspent
@@ -203,7 +208,8 @@ module _ (setup : Setting) (setting : IsSetting setup) (cores : ℕ → Core) (t
           ∙ ap (λ (n : ℕ). nat_lt n m) (sym read.budget_a)
           ∙ le-ltb p.head_a.budget m (subst (λ w. Rattle.stage_tcap.specs.Pairs.amount_of w ≤ p.head_a.budget) what_is both.a.enough)
 
-      may_many : RuleMay s c (Does (causes_of s (Delegate m) (named_by is.a) (named_by is.b)) (change_by s (Delegate m) is.a.frame is.b.frame))
+      may_many : RuleMay s c
+          (Does (causes_of s (Delegate m) (named_by is.a) (named_by is.b)) (change_by s (Delegate m) is.a.frame is.b.frame))
           reply.TooMany
       may_many = inr (inr (inl (many_named, refl)))
 
@@ -216,7 +222,8 @@ module _ (setup : Setting) (setting : IsSetting setup) (cores : ℕ → Core) (t
           (calls.not_same setup setting cores t stands c here a active now_p stage_is has)
           ∙ ap (λ b. unless (first_of (if b then Some (reply.Short (tcap_at s is.a.frame).budget) else None)
           (first_cause s c (are_many s (named_by is.a) (named_by is.b) ∷ []))) (change_by s (Delegate m) is.a.frame is.b.frame)) is_enough
-          ∙ ap (λ b. unless (first_of (if b then Some reply.TooMany else None) None) (change_by s (Delegate m) is.a.frame is.b.frame)) many_named
+          ∙ ap (λ b. unless (first_of (if b then Some reply.TooMany else None) None)
+          (change_by s (Delegate m) is.a.frame is.b.frame)) many_named
 
       many_good : Decides value.Nothing reply.TooMany
       many_good lands =
@@ -225,7 +232,8 @@ module _ (setup : Setting) (setting : IsSetting setup) (cores : ℕ → Core) (t
           refl refl (λ x. refl) (λ x. refl) refl (
             unspent,
             calls.may setup setting cores t stands c here a active now_p stage_is has reply.TooMany
-                (subst (λ w. RuleMay s c (Does (causes_of s w (named_by is.a) (named_by is.b)) (change_by s w is.a.frame is.b.frame)) reply.TooMany)
+                (subst (λ w. RuleMay s c (Does (causes_of s w (named_by is.a) (named_by is.b)) (change_by s w is.a.frame is.b.frame))
+                reply.TooMany)
                 (sym what_is) may_many),
           ) tt
           (λ is_alone. refused_first s c a.call reply.TooMany unspent

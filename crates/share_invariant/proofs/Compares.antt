@@ -1,5 +1,6 @@
 -- The compare of the head of the second of two temporal capabilities: it carries out a transfer, or is lost.
-use Rattle.std.proofs.Common.{◌≡◌, ◌≢◌, inl, inr, ℕ, ◌+◌, ◌-◌, ◌<◌, ◌≤◌, ◌^◌, ◌==◌, not, nat_lt, Bool, true, false, if◌then◌else◌, [], ◌∷◌, Some, None, arith, refl, sym, ◌∙◌, ap, subst}
+use Rattle.std.proofs.Common.{◌≡◌, ◌≢◌, inl, inr, ℕ, ◌+◌, ◌-◌, ◌<◌, ◌≤◌, ◌^◌, ◌==◌, not, nat_lt, Bool, true}
+use Rattle.std.proofs.Common.{false, if◌then◌else◌, [], ◌∷◌, Some, None, arith, refl, sym, ◌∙◌, ap, subst}
 use Rattle.std.proofs.lemmas.Bool.{le-ltb}
 use Rattle.spk_nums.specs.Setting.{Setting, IsSetting}
 use Rattle.spk_nums.specs.declared.replies.Reply.TheVariants as reply
@@ -167,7 +168,8 @@ module _ (setup : Setting) (setting : IsSetting setup) (cores : ℕ → Core) (t
     reads_new = spelling.reads new_head new_fits
 
     bare_now : mark_of s at (left_of compare was) ≡ None
-    bare_now = ap (mark_of s at) leaves_it ∙ mark_is setup setting cores t stands p.b qb tcap_b.is (word_of_head new_head) ∙ ap head_mark reads_new
+    bare_now = ap (mark_of s at) leaves_it ∙ mark_is setup setting cores t stands p.b qb tcap_b.is (word_of_head new_head)
+        ∙ ap head_mark reads_new
 
     -- nothing refuses the transfer
     alike : same_list (in_order p.list_a) (in_order p.list_b) ≡ true
@@ -195,9 +197,11 @@ module _ (setup : Setting) (setting : IsSetting setup) (cores : ℕ → Core) (t
         (first_cause s c (are_unlike s (named_by is.a) (named_by is.b) ∷ []))) (sym is.shared.first)
         ∙ ap (λ b. first_of (if b then Some (reply.Short (tcap_at s is.a.frame).budget) else None)
         (first_cause s c (are_unlike s (named_by is.a) (named_by is.b) ∷ []))) not_short
-        ∙ ap (λ (f : ℕ). first_of (if not (are_alike (tcap_at s f).qualities (tcap_at s is.b.frame).qualities) then Some reply.Unlike else None) None)
+        ∙ ap (λ (f : ℕ). first_of (if not (are_alike (tcap_at s f).qualities (tcap_at s is.b.frame).qualities)
+        then Some reply.Unlike else None) None)
         (sym is.shared.first)
-        ∙ ap (λ (f : ℕ). first_of (if not (are_alike (tcap_at s p.a).qualities (tcap_at s f).qualities) then Some reply.Unlike else None) None)
+        ∙ ap (λ (f : ℕ). first_of (if not (are_alike (tcap_at s p.a).qualities (tcap_at s f).qualities)
+        then Some reply.Unlike else None) None)
         (sym is.shared.second)
         ∙ ap (λ b. first_of (if not b then Some reply.Unlike else None) None) lists_alike
       where
@@ -265,7 +269,8 @@ module _ (setup : Setting) (setting : IsSetting setup) (cores : ℕ → Core) (t
 
     now_says : WordIs s' (times_of setup (e ∷ t)) at (left_of compare was)
     now_says = subst (WordIs s' (times_of setup (e ∷ t)) at) (sym leaves_it)
-        (subst (λ x. IsFrameWord s'.limits.frames (count_room s') x (s'.place p.b 0) (stamp setup (e ∷ t) (PlaceOf p.b 0)) 0 (word_of_head new_head))
+        (subst (λ x. IsFrameWord s'.limits.frames (count_room s') x (s'.place p.b 0)
+        (stamp setup (e ∷ t) (PlaceOf p.b 0)) 0 (word_of_head new_head))
         (sym frame_b)
         (compared.credited_is setup setting cores t stands c here a active what_p stage_is has equal (count_room s') room_more qb.qualities
         (known.range_of setup setting cores t stands p.b qb tcap_b.is).most))
@@ -314,7 +319,8 @@ module _ (setup : Setting) (setting : IsSetting setup) (cores : ℕ → Core) (t
     still w = same_held w ∙ ap (λ o. (holds_in o).marks w) (sym active)
       where
         same_held : (w : Word) → (holds_at stage a.counts).marks w ≡ (holds_in (Some a)).marks w
-        same_held w = ap (λ b. if same_word w at_a then true else b) (same_marks (Some None) None a.counts w) ∙ sym (ap (λ h. h.marks w) held)
+        same_held w = ap (λ b. if same_word w at_a then true else b) (same_marks (Some None) None a.counts w)
+            ∙ sym (ap (λ h. h.marks w) held)
 
     pub won_good : GoodTook setup cores t c compare
         (landed a (took_shared left_p (again_end true (reply.Ok value.Nothing))))

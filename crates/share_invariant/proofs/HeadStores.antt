@@ -1,6 +1,7 @@
 -- A decided call gives the head of a temporal capability back that carries its core's mark: the word becomes what it stands for. What the
 -- call knows of the temporal capabilities it knows still.
-use Rattle.std.proofs.Common.{◌≡◌, ◌≢◌, ◌⊎◌, ◌<◌, ◌==◌, ◌&&◌, not, ℕ, zero, suc, Bool, true, false, if◌then◌else◌, List, [], ◌∷◌, Option, Some, None, inl, inr, arith, refl, sym, ◌∙◌, ap, subst}
+use Rattle.std.proofs.Common.{◌≡◌, ◌≢◌, ◌⊎◌, ◌<◌, ◌==◌, ◌&&◌, not, ℕ, zero, suc, Bool, true, false, if◌then◌else◌}
+use Rattle.std.proofs.Common.{List, [], ◌∷◌, Option, Some, None, inl, inr, arith, refl, sym, ◌∙◌, ap, subst}
 use Rattle.std.proofs.lemmas.Bool.{cases_eq, ne_eqb}
 use Rattle.spk_nums.specs.Setting.{Setting, IsSetting}
 use Rattle.spk_nums.specs.declared.calls.Call.{Call}
@@ -83,7 +84,8 @@ shared_on setup t e c call p x no_entry still has at = record {
 }
 
 -- The head of the temporal capability in frame f was this one as core c marked it; the core gives it back as the next, and holds the rest.
-pub record GivesBack (setup : Setting) (t : Trace) (c : ℕ) (call : Call) (f : ℕ) (head next : HeadWord) (before rest : Holding) : Type 0 where
+pub record GivesBack (setup : Setting) (t : Trace) (c : ℕ) (call : Call)
+    (f : ℕ) (head next : HeadWord) (before rest : Holding) : Type 0 where
   pub budgets : changes_budgets call ≡ true
   pub near : WasAt (IsNearIn c call (EntryAt f 0)) setup t c
   pub tcap : HasTcap (state_after setup t) c f

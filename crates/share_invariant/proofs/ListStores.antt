@@ -1,5 +1,6 @@
 -- A delegation stores a word of the second one's list, which its core keeps without a mark: the word becomes what it settles to.
-use Rattle.std.proofs.Common.{◌≡◌, ◌≢◌, inl, inr, ℕ, zero, suc, ◌+◌, ◌-◌, ◌≤◌, ◌<◌, ◌==◌, ◌&&◌, nat_le, nat_lt, Bool, true, false, if◌then◌else◌, IsSome, ◌∷◌, Option, Some, None, slice_get, arith, refl, sym, ◌∙◌, ap, subst}
+use Rattle.std.proofs.Common.{◌≡◌, ◌≢◌, inl, inr, ℕ, zero, suc, ◌+◌, ◌-◌, ◌≤◌, ◌<◌, ◌==◌, ◌&&◌, nat_le, nat_lt, Bool, true}
+use Rattle.std.proofs.Common.{false, if◌then◌else◌, IsSome, ◌∷◌, Option, Some, None, slice_get, arith, refl, sym, ◌∙◌, ap, subst}
 use Rattle.std.proofs.lemmas.Bool.{cases_eq, cases_lt, eq-eqb, ne_eqb, le-leb, lt-leb, leb-true, ltb-true, ltb-false}
 use Rattle.spk_nums.specs.Setting.{Setting, IsSetting}
 use Rattle.spk_nums.specs.declared.calls.Call.{Call}
@@ -33,7 +34,8 @@ use Rattle.call_stages.specs.View.{Core}
 use Rattle.core_invariant.specs.Holding.{Holding, holds_counts, settled_by}
 use Rattle.core_invariant.specs.Knows.{KnowsTail, phase_at}
 use Rattle.core_invariant.specs.Shares.{SparesTcap, HasTcap, StoresB, KnowsStoresAt}
-use Rattle.core_invariant.specs.Invariant.{done_by, holds_head, holds_heads, holds_list, holds_shared, holds_at, holds_in, holds, held_by, Invariant}
+use Rattle.core_invariant.specs.Invariant.{done_by, holds_head, holds_heads, holds_list, holds_shared}
+use Rattle.core_invariant.specs.Invariant.{holds_at, holds_in, holds, held_by, Invariant}
 use Rattle.core_invariant.proofs.Bare.{AsBefore, counts_bare, none_kept}
 use Rattle.kept_knowledge.proofs.Carries.{counts_on}
 use Rattle.step_ways.proofs.Counting as counters

@@ -55,7 +55,8 @@ module _ (setup : Setting) (setting : IsSetting setup) (cores : ℕ → Core) (t
   rises true = inl (let few = knows.few in omega (arith, few))
   rises false = inr (refl, knows.clean)
 
-  pub store_a_good : GoodTook setup cores t c (StoreOf (EntryAt p.a 0) (word_of_head final)) (GoesOn (went_with a a.counts (Decided r drawn no_tail)))
+  pub store_a_good : GoodTook setup cores t c (StoreOf (EntryAt p.a 0) (word_of_head final))
+      (GoesOn (went_with a a.counts (Decided r drawn no_tail)))
   store_a_good =
       head_good setup setting cores t stands c here a active r drawn (share_tail (record p { at = StoreA moved v })) no_tail stage_is p.a
       p.head_a final (record {

@@ -23,7 +23,8 @@ takes_item Idle m m' item stays t stands = record {
   stands = subst (λ x. StandsFor x t) (sym stays.same) stands;
   follows = inl (stays.idle t stands, refl);
 }
-takes_item Went m m' item goes t stands = let g = goes t stands in record { after = g.after; stands = g.stands; follows = inr (g.busy, g.is) }
+takes_item Went m m' item goes t stands = let g = goes t stands in
+    record { after = g.after; stands = g.stands; follows = inr (g.busy, g.is) }
 
 pub items_none : (m : Machine) → GoesByItems m m []
 items_none m t stands = record { after = t; stands = stands; follows = refl }
@@ -33,7 +34,8 @@ follows_more : (ready : Trace → ℕ → Bool) (lists : List (List Call)) (item
 follows_more ready lists [] item t u v is one = (v, subst (λ x. FollowsItem ready lists item x v) is one, refl)
 follows_more ready lists (i ∷ items) item t u v (m, first, rest) one = (m, first, follows_more ready lists items item m u v rest one)
 
-pub items_more : (m m' m'' : Machine) (items : List Item) (item : Item) → m'.setup ≡ m.setup → m'.lists ≡ m.lists → GoesByItems m m' items → GoesByItem m' m'' item
+pub items_more : (m m' m'' : Machine) (items : List Item) (item : Item)
+    → m'.setup ≡ m.setup → m'.lists ≡ m.lists → GoesByItems m m' items → GoesByItem m' m'' item
     → GoesByItems m m'' (items ++ item ∷ [])
 items_more m m' m'' items item setup same goes one t stands =
     let g = goes t stands in

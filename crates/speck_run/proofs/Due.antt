@@ -1,5 +1,6 @@
 -- What is due is the status that the input has.
-use Rattle.std.proofs.Common.{◌≡◌, ◌⊎◌, ℕ, List, [], ◌∷◌, Option, Some, None, Result, Ok, Err, Bool, IfOk, refl, sym, ap, subst, ◌∙◌, arith, inl, inr, eqb, get_or}
+use Rattle.std.proofs.Common.{◌≡◌, ◌⊎◌, ℕ, List, [], ◌∷◌, Option, Some, None, Result, Ok, Err}
+use Rattle.std.proofs.Common.{Bool, IfOk, refl, sym, ap, subst, ◌∙◌, arith, inl, inr, eqb, get_or}
 use Rattle.std.specs.Prelude.{◌≤◌, if◌then◌else◌, length, codes, string_bytes}
 use lib.Pointwise.{pointwise}
 use Rattle.spk_nums.specs.declared.memory.Memory.{Memory as Out_of_memory}
@@ -14,7 +15,9 @@ use Rattle.speck_run.specs.declared.top.Status.{Status}
 use Rattle.speck_run.specs.declared.top.Status.TheVariants.{Done, Words, Script, ReadFault, WriteFault, Memory, TooLong, Stopped}
 use Rattle.whole_ends.specs.Ends.{GivesAll}
 use Rattle.speck_run.specs.Script.{AreScript, IsAnswer, IsMade}
-use Rattle.speck_run.specs.Top.{CommandLine, texts_of, Asked, Asks, AsksNumber, HasNumber, AsksMake, AsksLoad, IsCommand, IsMake, IsLoad, IsUnderstood, IsNumberOf, IsNumberIn, IsDue, IsDueOf, IsSummary, IsDone, InputMakes, CarriesOut, IsStatusOf, Answers, IsAccepted, Writes, InputRuns}
+use Rattle.speck_run.specs.Top.{CommandLine, texts_of, Asked, Asks, AsksNumber, HasNumber, AsksMake, AsksLoad, IsCommand}
+use Rattle.speck_run.specs.Top.{IsMake, IsLoad, IsUnderstood, IsNumberOf, IsNumberIn, IsDue, IsDueOf, IsSummary, IsDone}
+use Rattle.speck_run.specs.Top.{InputMakes, CarriesOut, IsStatusOf, Answers, IsAccepted, Writes, InputRuns}
 
 abbrev Reading : Type 0
 Reading = Result Meaning First_fault
@@ -27,7 +30,8 @@ is_word : List (List ℕ) → List ℕ → Bool
 is_word texts word = pointwise (λ x y. pointwise eqb x y) texts (word ∷ [])
 
 told : List (List ℕ) → Option Command
-told texts = if is_word texts (codes "replay") then Some Replay else if is_word texts (codes "run") then Some Run else if is_word texts (codes "plain") then Some Plain else if is_word texts (codes "print") then Some Print else None
+told texts = if is_word texts (codes "replay") then Some Replay else if is_word texts (codes "run") then Some Run
+    else if is_word texts (codes "plain") then Some Plain else if is_word texts (codes "print") then Some Print else None
 
 asks_told : (words : CommandLine) (command : Command) → Asks words command → told (texts_of words) ≡ Some command
 unfolding told is_word
@@ -50,7 +54,8 @@ one_word words Plain p = ap length p
 one_word words Print p = ap length p
 
 asks_apart : (name : List ℕ) (words : CommandLine) (command : Command) → Asks words command → HasNumber name words → ⊥
-asks_apart name words command asks m = let one : length (texts_of words) ≡ 1 = one_word words command asks in let two : length (texts_of words) ≡ 2 = ap length m.asks.asks in omega arith
+asks_apart name words command asks m = let one : length (texts_of words) ≡ 1 = one_word words command asks in
+    let two : length (texts_of words) ≡ 2 = ap length m.asks.asks in omega arith
 
 -- They ask for one number.
 second_same : (v w x y : List ℕ) → v ∷ x ∷ [] ≡ w ∷ y ∷ [] → x ≡ y
@@ -60,7 +65,8 @@ number_same : (o : Option ℕ) (m n : ℕ) → o ≡ Some m → o ≡ Some n →
 number_same o m n p q = cc
 
 -- The number of such words is that of their digits.
-pub number_told : (name : List ℕ) (words : CommandLine) (digits : List ℕ) (o : Option ℕ) → texts_of words ≡ name ∷ digits ∷ [] → IsNumberIn digits o → IsNumberOf name words o
+pub number_told : (name : List ℕ) (words : CommandLine) (digits : List ℕ) (o : Option ℕ)
+    → texts_of words ≡ name ∷ digits ∷ [] → IsNumberIn digits o → IsNumberOf name words o
 number_told name words digits (Some n) e h = record { digits = digits; asks = e; says = h.0; range = h.1 }
 number_told name words digits None e h = λ m.
     let same : digits ≡ m.asks.digits = second_same _ _ _ _ (sym e ∙ m.asks.asks) in
@@ -99,7 +105,8 @@ status_same bytes Done Stopped p q = absurd q
 status_same bytes Words s' p q = absurd p
 status_same bytes (Script line cause) Done p q = absurd (script_fault bytes _ q.1 p.1)
 status_same bytes (Script line cause) Words p q = absurd q
-status_same bytes (Script line cause) (Script line' cause') p q = ap (λ (f : First_fault). Script f.line f.cause) (same_fault _ _ (script_of bytes) p.1 q.1)
+status_same bytes (Script line cause) (Script line' cause') p q =
+    ap (λ (f : First_fault). Script f.line f.cause) (same_fault _ _ (script_of bytes) p.1 q.1)
 status_same bytes (Script line cause) ReadFault p q = absurd q
 status_same bytes (Script line cause) WriteFault p q = absurd q
 status_same bytes (Script line cause) Memory p q = absurd q
@@ -119,8 +126,10 @@ status_same bytes TooLong Stopped p q = absurd q
 status_same bytes Stopped s' p q = absurd p
 
 -- What is due for an input that was read to its end is due.
-pub due_input : (words : CommandLine) (left left' : Option (List ℕ)) (f f' : ℕ) (command : Command) (bytes : List ℕ) (s : Status) (text : List ℕ) → Asks words command →
-    GivesAll bytes left left' → length bytes ≤ 1048576 → IsDueOf command bytes s text → IsDue (record { words = words; left = left; left' = left'; faults = f; faults' = f' }) s text
+pub due_input : (words : CommandLine) (left left' : Option (List ℕ)) (f f' : ℕ)
+    (command : Command) (bytes : List ℕ) (s : Status) (text : List ℕ) → Asks words command →
+    GivesAll bytes left left' → length bytes ≤ 1048576 → IsDueOf command bytes s text
+    → IsDue (record { words = words; left = left; left' = left'; faults = f; faults' = f' }) s text
 due_input words left left' f f' command bytes Done text asks input small d = inl record {
   command = command;
   asks = asks;
@@ -148,17 +157,22 @@ due_input words left left' f f' command bytes Stopped text asks input small d = 
 )
 
 -- An answer is due whose status and text are.
-pub answer_due : (a : Asked) (s : Status) (text : List ℕ) (r : Result Answer Out_of_memory) → IsDue a s text → IfOk r (λ answer. answer.status ≡ s) → IfOk r (λ answer. string_bytes answer.text ≡ text) →
+pub answer_due : (a : Asked) (s : Status) (text : List ℕ) (r : Result Answer Out_of_memory) → IsDue a s text
+    → IfOk r (λ answer. answer.status ≡ s) → IfOk r (λ answer. string_bytes answer.text ≡ text) →
     IfOk r (λ answer. IsDue a answer.status (string_bytes answer.text))
-answer_due a s text (Ok answer) d is same = subst (λ (due : Status). IsDue a due (string_bytes answer.text)) (sym is) (subst (IsDue a s) (sym same) d)
+answer_due a s text (Ok answer) d is same =
+    subst (λ (due : Status). IsDue a due (string_bytes answer.text)) (sym is) (subst (IsDue a s) (sym same) d)
 answer_due a s text (Err e) d is same = tt
 
 -- An answer that is due for an input is due.
-pub answer_of_input : (words : CommandLine) (left left' : Option (List ℕ)) (f f' : ℕ) (command : Command) (given bytes : List ℕ) (r : Result Answer Out_of_memory) → Asks words command → GivesAll given left left' →
+pub answer_of_input : (words : CommandLine) (left left' : Option (List ℕ)) (f f' : ℕ) (command : Command)
+    (given bytes : List ℕ) (r : Result Answer Out_of_memory) → Asks words command → GivesAll given left left' →
     length given ≤ 1048576 → bytes ≡ given → IfOk r (λ answer. IsDueOf command bytes answer.status (string_bytes answer.text)) →
-    IfOk r (λ answer. IsDue (record { words = words; left = left; left' = left'; faults = f; faults' = f' }) answer.status (string_bytes answer.text))
+    IfOk r (λ answer. IsDue (record { words = words; left = left; left' = left'; faults = f; faults' = f' })
+    answer.status (string_bytes answer.text))
 answer_of_input words left left' f f' command given bytes (Ok answer) asks input small same d =
-    due_input words left left' f f' command given answer.status (string_bytes answer.text) asks input small (subst (λ b. IsDueOf command b answer.status (string_bytes answer.text)) same d)
+    due_input words left left' f f' command given answer.status (string_bytes answer.text) asks
+    input small (subst (λ b. IsDueOf command b answer.status (string_bytes answer.text)) same d)
 answer_of_input words left left' f f' command given bytes (Err e) asks input small same d = tt
 
 -- What a command makes of an input, it makes of a script.
@@ -167,20 +181,26 @@ made_script Is bytes text d = record { script = d.script; is_script = d.is_scrip
 
 module _ (words : CommandLine) (command : Command) (asks : Asks words command) where
   -- With the command that the words are.
-  makes_as : (left left' : Option (List ℕ)) (f f' : ℕ) (text : List ℕ) → IsDone (record { words = words; left = left; left' = left'; faults = f; faults' = f' }) text →
+  makes_as : (left left' : Option (List ℕ)) (f f' : ℕ) (text : List ℕ)
+      → IsDone (record { words = words; left = left; left' = left'; faults = f; faults' = f' }) text →
       InputMakes (IsAnswer command) left left' text
-  makes_as left left' f f' text (inl d) = subst (λ (c : Command). InputMakes (IsAnswer c) left left' text) (asks_same words d.command command d.asks asks) d.makes
-  makes_as left left' f f' text (inr (inl d)) = absurd (asks_apart (codes "make") words command asks record { number = d.number; asks = d.asks })
-  makes_as left left' f f' text (inr (inr d)) = absurd (asks_apart (codes "load") words command asks record { number = d.number; asks = d.asks })
+  makes_as left left' f f' text (inl d) =
+      subst (λ (c : Command). InputMakes (IsAnswer c) left left' text) (asks_same words d.command command d.asks asks) d.makes
+  makes_as left left' f f' text (inr (inl d)) =
+      absurd (asks_apart (codes "make") words command asks record { number = d.number; asks = d.asks })
+  makes_as left left' f f' text (inr (inr d)) =
+      absurd (asks_apart (codes "load") words command asks record { number = d.number; asks = d.asks })
 
   -- What is due for an input that the source tells.
   status_due : (left : List ℕ) (left' : Option (List ℕ)) (f f' : ℕ) (s : Status) (text : List ℕ) →
-      IsDue (record { words = words; left = Some left; left' = left'; faults = f; faults' = f' }) s text → IsStatusOf left s ⊎ ((s ≡ Stopped) ⊎ (s ≡ ReadFault))
+      IsDue (record { words = words; left = Some left; left' = left'; faults = f; faults' = f' }) s text
+      → IsStatusOf left s ⊎ ((s ≡ Stopped) ⊎ (s ≡ ReadFault))
   status_due left left' f f' Done text d =
       let a = makes_as (Some left) left' f f' text d in
       inl (subst (λ (l : List ℕ). IsStatusOf l Done) a.input.all (a.small, made_script (IsAnswer command) a.bytes text a.made))
   status_due left left' f f' Words text d = absurd (d.0 (inl (record { command = command; asks = asks })))
-  status_due left left' f f' (Script line cause) text (i, d, t) = inl (subst (λ (l : List ℕ). IsStatusOf l (Script line cause)) d.input.all (d.small, d.fault))
+  status_due left left' f f' (Script line cause) text (i, d, t) =
+      inl (subst (λ (l : List ℕ). IsStatusOf l (Script line cause)) d.input.all (d.small, d.fault))
   status_due left left' f f' ReadFault text d = inr (inr refl)
   status_due left left' f f' Stopped text d = inr (inl refl)
   status_due left left' f f' WriteFault text d = absurd d
@@ -200,12 +220,14 @@ module _ (words : CommandLine) (command : Command) (asks : Asks words command) w
 
   -- An input that the command takes is done, where reading has not failed.
   pub completes : (left left' : Option (List ℕ)) (f f' : ℕ) (s : Status) (text : List ℕ) →
-      IsDue (record { words = words; left = left; left' = left'; faults = f; faults' = f' }) s text → IsAccepted left → (s ≡ Stopped → ⊥) → (HasRisen f f' → ⊥) → s ≡ Done
+      IsDue (record { words = words; left = left; left' = left'; faults = f; faults' = f' }) s text
+      → IsAccepted left → (s ≡ Stopped → ⊥) → (HasRisen f f' → ⊥) → s ≡ Done
   completes None left' f f' s text d accepted goes sure = absurd accepted
   completes (Some left) left' f f' s text d accepted goes sure = elim (status_due left left' f f' s text d) [
     | inl p ↦ status_same left s Done p accepted
     | inr (inl e) ↦ absurd (goes e)
-    | inr (inr e) ↦ absurd (sure (subst (λ (due : Status). IsDue (record { words = words; left = Some left; left' = left'; faults = f; faults' = f' }) due text) e d).1)
+    | inr (inr e) ↦ absurd (sure (subst
+        (λ (due : Status). IsDue (record { words = words; left = Some left; left' = left'; faults = f; faults' = f' }) due text) e d).1)
   ]
 
   -- The text of a call that is done, and that the sink has taken.
@@ -214,7 +236,8 @@ module _ (words : CommandLine) (command : Command) (asks : Asks words command) w
       CarriesOut (IsAnswer command) left left' held held'
   carried_out left left' f f' s text held held' d e written = record {
     text = text;
-    makes = makes_as left left' f f' text (subst (λ (due : Status). IsDue (record { words = words; left = left; left' = left'; faults = f; faults' = f' }) due text) e d);
+    makes = makes_as left left' f f' text
+        (subst (λ (due : Status). IsDue (record { words = words; left = left; left' = left'; faults = f; faults' = f' }) due text) e d);
     written = written;
   }
 
@@ -223,7 +246,8 @@ answers_fault None s e = tt
 answers_fault (Some left) s e = λ due h. inr (inr (inr e))
 
 -- What is written with what is due.
-pub writes_due : (a : Asked) (held held' : Option (List ℕ)) (s : Status) (text : List ℕ) → IsDue a s text → Adds text held held' → Writes a held held' s
+pub writes_due : (a : Asked) (held held' : Option (List ℕ)) (s : Status) (text : List ℕ)
+    → IsDue a s text → Adds text held held' → Writes a held held' s
 writes_due a held held' Done text d w = (text, d, w)
 writes_due a held held' Words text d w = subst (λ (t : List ℕ). Adds t held held') d.1 w
 writes_due a held held' (Script line cause) text d w = subst (λ (t : List ℕ). Adds t held held') d.2 w
@@ -260,9 +284,11 @@ module _ (words : CommandLine) (number : ℕ) (asks : AsksMake words number) whe
   not_load = make_apart words understood
 
   -- Nothing but its text is due.
-  pub load_due : (left left' : Option (List ℕ)) (f f' : ℕ) (s : Status) (text : List ℕ) → IsDue (record { words = words; left = left; left' = left'; faults = f; faults' = f' }) s text → (s ≡ Done) × (text ≡ load_text number)
+  pub load_due : (left left' : Option (List ℕ)) (f f' : ℕ) (s : Status) (text : List ℕ) → IsDue
+      (record { words = words; left = left; left' = left'; faults = f; faults' = f' }) s text → (s ≡ Done) × (text ≡ load_text number)
   load_due left left' f f' Done text (inl d) = absurd (apart record { command = d.command; asks = d.asks })
-  load_due left left' f f' Done text (inr (inl d)) = (refl, d.is_text ∙ ap load_text (numbers_same (codes "make") words d.number number d.asks asks))
+  load_due left left' f f' Done text (inr (inl d)) =
+      (refl, d.is_text ∙ ap load_text (numbers_same (codes "make") words d.number number d.asks asks))
   load_due left left' f f' Done text (inr (inr d)) = absurd (not_load record { number = d.number; asks = d.asks })
   load_due left left' f f' Words text d = absurd (d.0 (inr (inl understood)))
   load_due left left' f f' (Script line cause) text d = absurd (apart d.0)
@@ -283,7 +309,8 @@ module _ (words : CommandLine) (number : ℕ) (asks : AsksLoad words number) whe
   same_load n other = numbers_same (codes "load") words n number other asks
 
   -- Nothing but its summary is due.
-  pub summary_due : (left left' : Option (List ℕ)) (f f' : ℕ) (s : Status) (text : List ℕ) → IsDue (record { words = words; left = left; left' = left'; faults = f; faults' = f' }) s text → (s ≡ Done) × IsSummary number text
+  pub summary_due : (left left' : Option (List ℕ)) (f f' : ℕ) (s : Status) (text : List ℕ)
+      → IsDue (record { words = words; left = left; left' = left'; faults = f; faults' = f' }) s text → (s ≡ Done) × IsSummary number text
   summary_due left left' f f' Done text (inl d) = absurd (no_script record { command = d.command; asks = d.asks })
   summary_due left left' f f' Done text (inr (inl d)) = absurd (make_apart words record { number = d.number; asks = d.asks } sums_up)
   summary_due left left' f f' Done text (inr (inr d)) = (refl, subst (λ n. IsSummary n text) (same_load d.number d.asks) d.is_text)
@@ -296,8 +323,11 @@ module _ (words : CommandLine) (number : ℕ) (asks : AsksLoad words number) whe
   summary_due left left' f f' Stopped text d = absurd (no_script record { command = Run; asks = d.0.asks })
 
   -- An answer that is the summary is due.
-  pub answer_of_load : (left left' : Option (List ℕ)) (f f' : ℕ) (r : Result Answer Out_of_memory) → IfOk r (λ answer. answer.status ≡ Done) → IfOk r (λ answer. IsSummary number (string_bytes answer.text)) →
-      IfOk r (λ answer. IsDue (record { words = words; left = left; left' = left'; faults = f; faults' = f' }) answer.status (string_bytes answer.text))
-  answer_of_load left left' f f' (Ok answer) done is = subst (λ (due : Status). IsDue (record { words = words; left = left; left' = left'; faults = f; faults' = f' }) due (string_bytes answer.text)) (sym done)
+  pub answer_of_load : (left left' : Option (List ℕ)) (f f' : ℕ) (r : Result Answer Out_of_memory)
+      → IfOk r (λ answer. answer.status ≡ Done) → IfOk r (λ answer. IsSummary number (string_bytes answer.text)) →
+      IfOk r (λ answer. IsDue (record { words = words; left = left; left' = left'; faults = f; faults' = f' })
+      answer.status (string_bytes answer.text))
+  answer_of_load left left' f f' (Ok answer) done is = subst (λ (due : Status).
+      IsDue (record { words = words; left = left; left' = left'; faults = f; faults' = f' }) due (string_bytes answer.text)) (sym done)
       (inr (inr record { number = number; asks = asks; is_text = is }))
   answer_of_load left left' f f' (Err e) done is = tt

@@ -27,7 +27,8 @@ use Rattle.speck_run.specs.Summary.{GivenSummary}
 use Rattle.speck_run.specs.Written.{lines_of}
 
 -- a machine that stands for a trace in which its cores are idle
-module _ (m : Machine) (t : Trace) (setting : IsSetting m.setup) (stands : StandsFor m t) (idle : (c : ℕ) → c < m.setup.cores → IsIdle m.lists t c) where
+module _ (m : Machine) (t : Trace) (setting : IsSetting m.setup) (stands : StandsFor m t) (idle : (c : ℕ)
+    → c < m.setup.cores → IsIdle m.lists t c) where
   -- no core has a active call
   pub all_out : (c : ℕ) → c < m.setup.cores → (core_at m c).active ≡ None
   all_out c here = none_of (core_at m c).active (λ inside. (phase_is m t c setting here stands).in_call inside (idle c here).out)
@@ -56,7 +57,8 @@ pub record IsRun (setup : Setting) (lists : List (List Call)) (items : List Item
 module _ (setup : Setting) (lists : List (List Call)) (items : List Item) (k0 k1 k2 : Machine)
     (setup0 : k0.setup ≡ setup) (setup1 : k1.setup ≡ k0.setup) (setup2 : k2.setup ≡ k1.setup)
     (lists0 : k0.lists ≡ lists) (lists1 : k1.lists ≡ k0.lists) (lists2 : k2.lists ≡ k1.lists)
-    (setting : IsSetting setup) (one_each : length lists ≡ setup.cores) (boots : StandsFor k0 []) (first : GoesByItems k0 k1 items) (then_out : RunsCoresOut k1 k2 k1.setup.cores) where
+    (setting : IsSetting setup) (one_each : length lists ≡ setup.cores) (boots : StandsFor k0 [])
+    (first : GoesByItems k0 k1 items) (then_out : RunsCoresOut k1 k2 k1.setup.cores) where
   pub run : IsRun setup lists items k2
   run =
       let a = first [] boots in
@@ -68,15 +70,22 @@ module _ (setup : Setting) (lists : List (List Call)) (items : List Item) (k0 k1
       let cores1 : k1.setup.cores ≡ length lists = ap (λ s. s.cores) s1 ∙ sym one_each in
       let cores2 : k2.setup.cores ≡ length lists = ap (λ s. s.cores) s2 ∙ sym one_each in
       let by_cores : FollowsCores lists (length lists) a.after b.after =
-      subst (λ (k : ℕ). FollowsCores lists k a.after b.after) cores1 (subst (λ l. FollowsCores l k1.setup.cores a.after b.after) l1 b.out) in
+      subst (λ (k : ℕ). FollowsCores lists k a.after b.after) cores1
+      (subst (λ l. FollowsCores l k1.setup.cores a.after b.after) l1 b.out) in
       let idle : (c : ℕ) → c < k2.setup.cores → IsIdle k2.lists b.after c = λ c h.
       subst (λ l. IsIdle l b.after c) (sym l2) (all_idle lists (length lists) a.after b.after by_cores c (omega arith)) in
-      let items_follow : FollowsItems (ready_after setup) k0.lists items [] a.after = subst (λ s. FollowsItems (ready_after s) k0.lists items [] a.after) setup0 a.follows in
+      let items_follow : FollowsItems (ready_after setup) k0.lists items [] a.after =
+      subst (λ s. FollowsItems (ready_after s) k0.lists items [] a.after) setup0 a.follows in
       record {
         trace = b.after;
         stands = b.stands;
         idle = idle;
-        order = record { ordered = a.after; by_items = subst (λ l. FollowsItems (ready_after setup) l items [] a.after) lists0 items_follow; by_cores = by_cores };
+        order = record {
+          ordered = a.after;
+          by_items =
+              subst (λ l. FollowsItems (ready_after setup) l items [] a.after) lists0 items_follow;
+          by_cores = by_cores;
+        };
       }
 
   setup_same : k2.setup ≡ setup
@@ -95,25 +104,30 @@ module _ (setup : Setting) (lists : List (List Call)) (items : List Item) (k0 k1
     history_is histories = histories setup setting r.trace (subst (λ s. IsMade s r.trace) setup_same r.stands.made)
 
     -- the text of a machine at the end of its run is that of given steps
-    pub given : (histories : MadeHistories) (tables text : List ℕ) → tables ≡ tables_of (state_after k2.setup r.trace) → text ≡ lines_of lists k2.decisions ++ tables → GivenSteps setup lists items text
+    pub given : (histories : MadeHistories) (tables text : List ℕ) → tables ≡ tables_of (state_after k2.setup r.trace)
+        → text ≡ lines_of lists k2.decisions ++ tables → GivenSteps setup lists items text
     given histories tables text shown is =
         let lines : lines_of lists k2.decisions ≡ reply_lines (calls_of r.trace) (decisions_of r.trace) =
-        ap (λ l. lines_of l k2.decisions) (sym lists_same) ∙ lines_are k2 r.trace (subst IsSetting (sym setup_same) setting) r.stands r.idle calls_are in
+        ap (λ l. lines_of l k2.decisions) (sym lists_same)
+        ∙ lines_are k2 r.trace (subst IsSetting (sym setup_same) setting) r.stands r.idle calls_are in
         record {
           trace = r.trace;
           history = history_is histories;
           calls = subst (λ l. HasCalls l r.trace) lists_same calls_are;
           order = r.order;
-          is_text = is ∙ ap (λ x. x ++ tables) lines ∙ ap (λ x. reply_lines (calls_of r.trace) (decisions_of r.trace) ++ x) shown ∙ ap (λ s. text_of s r.trace) setup_same;
+          is_text = is ∙ ap (λ x. x ++ tables) lines
+              ∙ ap (λ x. reply_lines (calls_of r.trace) (decisions_of r.trace) ++ x) shown ∙ ap (λ s. text_of s r.trace) setup_same;
         }
 
     -- and its summary
-    pub summed_up : (histories : MadeHistories) (total : ℕ) (text : List ℕ) → total ≡ ticks (state_after k2.setup r.trace) → text ≡ summary_text k2.decisions total → GivenSummary setup lists items text
+    pub summed_up : (histories : MadeHistories) (total : ℕ) (text : List ℕ) → total ≡ ticks (state_after k2.setup r.trace)
+        → text ≡ summary_text k2.decisions total → GivenSummary setup lists items text
     summed_up histories total text shown is = record {
       trace = r.trace;
       history = history_is histories;
       calls = subst (λ l. HasCalls l r.trace) lists_same calls_are;
       order = r.order;
-      is_text = is ∙ ap (summary_text k2.decisions) shown ∙ ap (λ ds. summary_text ds (ticks (state_after k2.setup r.trace))) r.stands.decisions
+      is_text = is ∙ ap (summary_text k2.decisions) shown
+          ∙ ap (λ ds. summary_text ds (ticks (state_after k2.setup r.trace))) r.stands.decisions
           ∙ ap (λ (s : Setting). summary_text (decisions_of r.trace) (ticks (state_after s r.trace))) setup_same;
     }

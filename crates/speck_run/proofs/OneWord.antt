@@ -19,7 +19,8 @@ bytes_own (x ∷ xs) = and_from (eqb x x) (pointwise eqb xs xs) (eq-eqb x x refl
 head_inj : (x y : List ℕ) (xs ys : List (List ℕ)) → x ∷ xs ≡ y ∷ ys → x ≡ y
 head_inj x y xs ys h = cc
 
-pub one_word : {S : Type 0} (bytes : S → List ℕ) (ws : List S) (w : S) (text : List ℕ) (b : Bool) → length ws ≡ 1 → w ≡ get_or ws 0 w → b ≡ pointwise eqb (bytes w) text →
+pub one_word : {S : Type 0} (bytes : S → List ℕ) (ws : List S) (w : S) (text : List ℕ) (b : Bool)
+    → length ws ≡ 1 → w ≡ get_or ws 0 w → b ≡ pointwise eqb (bytes w) text →
     (b ≡ true → map bytes ws ≡ text ∷ []) × (map bytes ws ≡ text ∷ [] → b ≡ true)
 one_word bytes [] w text b one is test = absurd (omega arith)
 one_word bytes (x ∷ []) w text b one is test = (
@@ -28,7 +29,8 @@ one_word bytes (x ∷ []) w text b one is test = (
 )
 one_word bytes (x ∷ y ∷ ws) w text b one is test = absurd (omega arith)
 
-pub two_words : {S : Type 0} (bytes : S → List ℕ) (ws : List S) (w v : S) (text : List ℕ) → length ws ≡ 2 → w ≡ get_or ws 0 w → v ≡ get_or ws 1 v → true ≡ pointwise eqb (bytes w) text → map bytes ws ≡ text ∷ bytes v ∷ []
+pub two_words : {S : Type 0} (bytes : S → List ℕ) (ws : List S) (w v : S) (text : List ℕ) → length ws ≡ 2
+    → w ≡ get_or ws 0 w → v ≡ get_or ws 1 v → true ≡ pointwise eqb (bytes w) text → map bytes ws ≡ text ∷ bytes v ∷ []
 two_words bytes [] w v text two is other test = absurd (omega arith)
 two_words bytes (x ∷ []) w v text two is other test = absurd (omega arith)
 two_words bytes (x ∷ y ∷ []) w v text two is other test =
@@ -37,7 +39,8 @@ two_words bytes (x ∷ y ∷ []) w v text two is other test =
 two_words bytes (x ∷ y ∷ z ∷ ws) w v text two is other test = absurd (omega arith)
 
 -- the first word of such words is that text
-pub first_word : {S : Type 0} (bytes : S → List ℕ) (ws : List S) (w : S) (text digits : List ℕ) → w ≡ get_or ws 0 w → map bytes ws ≡ text ∷ digits ∷ [] → pointwise eqb (bytes w) text ≡ true
+pub first_word : {S : Type 0} (bytes : S → List ℕ) (ws : List S) (w : S) (text digits : List ℕ)
+    → w ≡ get_or ws 0 w → map bytes ws ≡ text ∷ digits ∷ [] → pointwise eqb (bytes w) text ≡ true
 first_word bytes [] w text digits is same = cc
 first_word bytes (x ∷ ws) w text digits is same =
     ap (λ l. pointwise eqb l text) (ap bytes is ∙ head_inj (bytes x) text (map bytes ws) (digits ∷ []) same) ∙ bytes_own text

@@ -237,7 +237,8 @@ IsAccepted (Some left) = (length left ≤ 1048576) × AreScript left
 -- The text is written and the status stands, or the sink has failed and holds the text's front.
 abbrev pub Finishes : Status → List ℕ → ℕ → ℕ → Option (List ℕ) → Option (List ℕ) → Status → Type 0
 Finishes due text faults faults' held held' status =
-    ((status ≡ due) × (faults' ≡ faults) × Adds text held held') ⊎ ((status ≡ WriteFault) × HasRisen faults faults' × AddsFront text held held')
+    ((status ≡ due) × (faults' ≡ faults) × Adds text held held')
+    ⊎ ((status ≡ WriteFault) × HasRisen faults faults' × AddsFront text held held')
 
 -- The number with which the program ends.
 abbrev pub status_number : Status → ℕ

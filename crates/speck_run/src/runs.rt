@@ -23,7 +23,8 @@ pub fn run_lists<R: Threads + Sync, G: Gate>(
 ) -> Result<Option<String>, Memory>
     requires can_run { AreLists (map (λ v. v.items) script.now.lists.items) }
     requires one_each { length script.now.lists.items ≡ script.now.setup.cores }
-    ensures text { IfOk result (λ text. IfSome text (λ text. TakenSteps script.now.setup (map (λ v. v.items) script.now.lists.items) (string_bytes text))) }
+    ensures text { IfOk result
+        (λ text. IfSome text (λ text. TakenSteps script.now.setup (map (λ v. v.items) script.now.lists.items) (string_bytes text))) }
     ensures free { IfOk result (λ text. G.is_free gate.now ≡ true → IsSome text) }
 {
     let Some(ran) = run_whole(rt, alloc, &script.setup, &script.lists, gate)? else {

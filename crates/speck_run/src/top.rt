@@ -12,7 +12,9 @@ ghost use Rattle.load_maker.specs.Loads.{load_text};
 ghost use Rattle.speck_run.specs.declared.words.Command.{Command};
 ghost use Rattle.speck_run.specs.declared.words.Command.TheVariants as commands;
 ghost use Rattle.whole_ends.specs.Ends.{Gives, GivesAll, GivesAtMost};
-ghost use Rattle.speck_run.specs.Top.{Asks, AsksMake, AsksLoad, IsCommand, IsMake, IsLoad, IsUnderstood, IsDue, IsDueOf, IsSummary, InputFaults, InputRuns, IsRunOf, CarriesOut, WritesSummary, Writes, Answers, IsUnlessUnwritten, IsAccepted, Finishes, script_line, status_number};
+ghost use Rattle.speck_run.specs.Top.{Asks, AsksMake, AsksLoad, IsCommand, IsMake, IsLoad, IsUnderstood, IsDue, IsDueOf};
+ghost use Rattle.speck_run.specs.Top.{IsSummary, InputFaults, InputRuns, IsRunOf, CarriesOut, WritesSummary, Writes};
+ghost use Rattle.speck_run.specs.Top.{Answers, IsUnlessUnwritten, IsAccepted, Finishes, script_line, status_number};
 
 use crate::replay::replay;
 use crate::runs::run_lists;
@@ -116,7 +118,8 @@ fn answer_run<R: Threads + Sync, G: Gate>(
 ) -> Result<Answer, Memory>
     requires can_run { AreLists (map (λ v. v.items) script.now.lists.items) }
     requires one_each { length script.now.lists.items ≡ script.now.setup.cores }
-    ensures due { IfOk result (λ answer. IsRunOf script.now.setup (map (λ v. v.items) script.now.lists.items) answer.status (string_bytes answer.text)) }
+    ensures due { IfOk result
+        (λ answer. IsRunOf script.now.setup (map (λ v. v.items) script.now.lists.items) answer.status (string_bytes answer.text)) }
     ensures free { IfOk result (λ answer. answer.status ≡ Status.Stopped → G.is_free gate.now ≡ true → ⊥) }
 {
     match run_lists(rt, alloc, script, gate)? {

@@ -1,4 +1,5 @@
-use Rattle.std.proofs.Common.{◌≡◌, ℕ, ◌+◌, ◌-◌, ◌<◌, Bool, true, false, ◌&&◌, List, [], ◌∷◌, ◌++◌, length, take, drop, replicate, refl, sym, ap, ◌∙◌, arith, nat_lt, nat_le}
+use Rattle.std.proofs.Common.{◌≡◌, ℕ, ◌+◌, ◌-◌, ◌<◌, Bool, true, false, ◌&&◌, List, [], ◌∷◌, ◌++◌}
+use Rattle.std.proofs.Common.{length, take, drop, replicate, refl, sym, ap, ◌∙◌, arith, nat_lt, nat_le}
 use Rattle.std.specs.Prelude.{slice_set}
 use Rattle.std.specs.List.{list_all}
 use Rattle.std.proofs.lemmas.List.{drop-drop, drop-set-lt, drop-replicate, length-set, take_more_set}
@@ -13,7 +14,8 @@ pub added : {A : Type 0} (blank : A) (room len at : ℕ) (cells : List A) (x : A
 added blank room len at cells x is small h = rw is record {
   most = omega (arith, small);
   whole = length-set cells len x ∙ h.whole;
-  rest = drop-set-lt (len + 1) cells len x (omega arith) ∙ sym (drop-drop 1 len cells) ∙ ap (drop 1) h.rest ∙ drop-replicate 1 (room - len) blank ∙ ap (λ k. replicate k blank) (omega (arith, small));
+  rest = drop-set-lt (len + 1) cells len x (omega arith) ∙ sym (drop-drop 1 len cells) ∙ ap (drop 1) h.rest
+      ∙ drop-replicate 1 (room - len) blank ∙ ap (λ k. replicate k blank) (omega (arith, small));
 }
 
 -- each scheduler of the list is below n
@@ -42,7 +44,8 @@ both false b h = absurd (cc)
 
 all_below : (xs : List (ℕ × ℕ)) (n : ℕ) → list_all (λ (x : ℕ × ℕ). nat_lt x.0 n) xs ≡ true → IsBelow n xs
 all_below [] n h = tt
-all_below (x ∷ xs) n h = let b = both (nat_lt x.0 n) (list_all (λ (x : ℕ × ℕ). nat_lt x.0 n) xs) h in (ltb-true x.0 n b.0, all_below xs n b.1)
+all_below (x ∷ xs) n h = let b = both (nat_lt x.0 n) (list_all (λ (x : ℕ × ℕ). nat_lt x.0 n) xs) h in
+    (ltb-true x.0 n b.0, all_below xs n b.1)
 
 pub taken : (xs : List (ℕ × ℕ)) (p : ℕ × ℕ) → takes_pair xs p ≡ true → MayAppend xs p
 taken xs p h =
@@ -50,7 +53,12 @@ taken xs p h =
     let b = both (nat_lt p.0 64) _ a.1 in
     let c = both (nat_le 1 p.1) _ b.1 in
     let d = both (nat_lt p.1 16777216) _ c.1 in
-    record { room = ltb-true (length xs) 8 a.0; fits = (ltb-true p.0 64 b.0, leb-true 1 p.1 c.0, ltb-true p.1 16777216 d.0); below = all_below xs p.0 d.1 }
+    record {
+      room = ltb-true (length xs) 8 a.0;
+      fits =
+          (ltb-true p.0 64 b.0, leb-true 1 p.1 c.0, ltb-true p.1 16777216 d.0);
+      below = all_below xs p.0 d.1;
+    }
 
 -- a pair that may be appended keeps the cells of a list of qualities
 pub filled : (a : Inside) (at : ℕ) (p : ℕ × ℕ) → at ≡ a.len → AreQualities a → takes_pair (take a.len a.cells) p ≡ true

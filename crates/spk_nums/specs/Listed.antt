@@ -13,7 +13,8 @@ abbrev pub padded : {A : Type 0} → A → ℕ → List A → List A
 padded blank room xs = xs ++ replicate (room - length xs) blank
 
 -- the list that an array holds gives the array's cells back
-pub padded-listed : {A : Type 0} (blank : A) (room len : ℕ) (cells : List A) → IsListed blank room len cells → padded blank room (take len cells) ≡ cells
+pub padded-listed : {A : Type 0} (blank : A) (room len : ℕ) (cells : List A)
+    → IsListed blank room len cells → padded blank room (take len cells) ≡ cells
 padded-listed blank room len cells h =
     let n : length (take len cells) ≡ len = length-take-le len cells (omega (arith, h.most, h.whole)) in
     ap (λ k. take len cells ++ replicate (room - k) blank) n ∙ ap (λ ys. take len cells ++ ys) (sym h.rest) ∙ take-append-drop len cells

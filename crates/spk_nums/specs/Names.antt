@@ -4,9 +4,14 @@ use Rattle.spk_nums.specs.declared.kinds.Kind.TheVariants as kind
 use Rattle.spk_nums.specs.declared.kinds.FrameKind.{FrameKind}
 use Rattle.spk_nums.specs.declared.kinds.FrameKind.TheVariants as frame_kind
 use Rattle.spk_nums.specs.declared.calls.Call.{Call}
-use Rattle.spk_nums.specs.declared.calls.Call.TheVariants.{Look, Copy, Remove, Grow, Shrink, Retype, Make as make_call, Map, Unmap, Touch, Flush, Gate, Kill, Call as call_gate, Ret, Switch, Tick, Transfer, Delegate, Test}
+use Rattle.spk_nums.specs.declared.calls.Call.TheVariants.{Look, Copy, Remove, Grow, Shrink, Retype, Make as make_call}
+use Rattle.spk_nums.specs.declared.calls.Call.TheVariants.{Map, Unmap, Touch, Flush, Gate, Kill, Call as call_gate}
+use Rattle.spk_nums.specs.declared.calls.Call.TheVariants.{Ret, Switch, Tick, Transfer, Delegate, Test}
 use Rattle.spk_nums.specs.declared.replies.Reply.{Reply}
-use Rattle.spk_nums.specs.declared.replies.Reply.TheVariants.{Ok as ok_reply, NoSlot, Empty, WrongCap, Occupied, Quiescing, Unflushed, FrameKind as wrong_frame, OutOfRange, Referenced, NotEmpty, Dead, Deep, Bottom, Running, Short, Unlike, TooMany, Same, EpochsSpent, Raced, Busy, Fault, CallsSpent}
+use Rattle.spk_nums.specs.declared.replies.Reply.TheVariants.{Ok as ok_reply, NoSlot, Empty, WrongCap, Occupied, Quiescing}
+use Rattle.spk_nums.specs.declared.replies.Reply.TheVariants.{Unflushed, FrameKind as wrong_frame, OutOfRange, Referenced}
+use Rattle.spk_nums.specs.declared.replies.Reply.TheVariants.{NotEmpty, Dead, Deep, Bottom, Running, Short, Unlike}
+use Rattle.spk_nums.specs.declared.replies.Reply.TheVariants.{TooMany, Same, EpochsSpent, Raced, Busy, Fault, CallsSpent}
 
 -- the word of a kind of entry
 abbrev pub kind_word : Kind → List ℕ

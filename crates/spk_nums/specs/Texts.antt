@@ -6,11 +6,16 @@ use Rattle.spk_nums.specs.declared.kinds.Kind.TheVariants.{Range, Gate as gate_k
 use Rattle.spk_nums.specs.declared.calls.Make.{Make}
 use Rattle.spk_nums.specs.declared.calls.Make.TheVariants as make
 use Rattle.spk_nums.specs.declared.calls.Call.{Call}
-use Rattle.spk_nums.specs.declared.calls.Call.TheVariants.{Look, Copy, Remove, Grow, Shrink, Retype, Make as make_call, Map, Unmap, Touch, Flush, Gate, Kill, Call as call_gate, Ret, Switch, Tick, Transfer, Delegate, Test}
+use Rattle.spk_nums.specs.declared.calls.Call.TheVariants.{Look, Copy, Remove, Grow, Shrink, Retype, Make as make_call}
+use Rattle.spk_nums.specs.declared.calls.Call.TheVariants.{Map, Unmap, Touch, Flush, Gate, Kill, Call as call_gate}
+use Rattle.spk_nums.specs.declared.calls.Call.TheVariants.{Ret, Switch, Tick, Transfer, Delegate, Test}
 use Rattle.spk_nums.specs.declared.replies.Value.{Value}
 use Rattle.spk_nums.specs.declared.replies.Value.TheVariants.{Nothing, Cap as cap_value, Page, Amount, Preempts, Stays}
 use Rattle.spk_nums.specs.declared.replies.Reply.{Reply}
-use Rattle.spk_nums.specs.declared.replies.Reply.TheVariants.{Ok as ok_reply, NoSlot, Empty, WrongCap, Occupied, Quiescing, Unflushed, FrameKind as wrong_frame, OutOfRange, Referenced, NotEmpty, Dead, Deep, Bottom, Running, Short, Unlike, TooMany, Same, EpochsSpent, Raced, Busy, Fault, CallsSpent}
+use Rattle.spk_nums.specs.declared.replies.Reply.TheVariants.{Ok as ok_reply, NoSlot, Empty, WrongCap, Occupied, Quiescing}
+use Rattle.spk_nums.specs.declared.replies.Reply.TheVariants.{Unflushed, FrameKind as wrong_frame, OutOfRange, Referenced}
+use Rattle.spk_nums.specs.declared.replies.Reply.TheVariants.{NotEmpty, Dead, Deep, Bottom, Running, Short, Unlike}
+use Rattle.spk_nums.specs.declared.replies.Reply.TheVariants.{TooMany, Same, EpochsSpent, Raced, Busy, Fault, CallsSpent}
 use Rattle.spk_nums.specs.declared.replies.Decision.{Decision}
 
 -- a word, and after it one, two, three or five numbers, each after a space
@@ -24,7 +29,8 @@ abbrev pub with_three : List ℕ → ℕ → ℕ → ℕ → List ℕ
 with_three word a b c = word ++ codes " " ++ decimal a ++ codes " " ++ decimal b ++ codes " " ++ decimal c
 
 abbrev pub with_five : List ℕ → ℕ → ℕ → ℕ → ℕ → ℕ → List ℕ
-with_five word a b c d e = word ++ codes " " ++ decimal a ++ codes " " ++ decimal b ++ codes " " ++ decimal c ++ codes " " ++ decimal d ++ codes " " ++ decimal e
+with_five word a b c d e = word ++ codes " " ++ decimal a ++ codes " " ++ decimal b
+    ++ codes " " ++ decimal c ++ codes " " ++ decimal d ++ codes " " ++ decimal e
 
 -- a capability by its kind: the kind's word, the frame, and the number of the kinds that have one
 abbrev pub cap_text_by : Kind → ℕ → ℕ → List ℕ
@@ -52,7 +58,8 @@ make_text make.Leaf r f t b = codes "make leaf " ++ site_text r f t b
 make_text make.Pages r f t b = codes "make pages " ++ site_text r f t b
 make_text make.Pleaf r f t b = codes "make pleaf " ++ site_text r f t b
 make_text (make.Thread comp) r f t b = codes "make thread " ++ site_text r f t b ++ codes " " ++ decimal comp
-make_text (make.Tcap sched quality) r f t b = codes "make tcap " ++ site_text r f t b ++ codes " " ++ decimal sched ++ codes " " ++ decimal quality
+make_text (make.Tcap sched quality) r f t b =
+    codes "make tcap " ++ site_text r f t b ++ codes " " ++ decimal sched ++ codes " " ++ decimal quality
 make_text (make.Comp table pages live) r f t b = codes "make comp " ++ site_text r f t b ++ codes " " ++ basis_text table pages live
 
 -- a call as it is written: its word, then its arguments
@@ -116,7 +123,8 @@ reply_text CallsSpent = codes "calls-spent"
 
 -- a reply line: the core, the call's index, the call and the reply
 abbrev pub reply_line_text : ℕ → ℕ → Call → Reply → List ℕ
-reply_line_text core index call reply = decimal core ++ codes "." ++ decimal index ++ codes " " ++ call_text call ++ codes " = " ++ reply_text reply ++ 10 ∷ []
+reply_line_text core index call reply = decimal core ++ codes "." ++ decimal index
+    ++ codes " " ++ call_text call ++ codes " = " ++ reply_text reply ++ 10 ∷ []
 
 -- a decision: the core, the call's index and the reply
 abbrev pub decision_text : Decision → List ℕ

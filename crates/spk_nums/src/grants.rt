@@ -84,7 +84,8 @@ impl Grants {
 
     /// Appends a grant. Answers false and changes nothing exactly where there are 8 already.
     pub fn add(&mut self, item: Grant) -> bool
-        ensures { MatchBool result ((length self.old < 8) × (self.new ≡ self.old ++ item ∷ [])) ((length self.old ≡ 8) × (self.new ≡ self.old)) }
+        ensures { MatchBool result ((length self.old < 8) × (self.new ≡ self.old ++ item ∷ []))
+            ((length self.old ≡ 8) × (self.new ≡ self.old)) }
     {
         if self.len == 8 {
             return false;

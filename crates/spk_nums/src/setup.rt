@@ -25,7 +25,13 @@ impl Model for Setup {
 
     ghost view = { λ s. record { cores = s.cores; frames = s.frames; grants = s.grants; calls = s.calls; epochs = s.epochs } };
 
-    ghost invariant = { λ s. IsSetting record { cores = s.cores; frames = s.frames; grants = s.grants; calls = s.calls; epochs = s.epochs } };
+    ghost invariant = { λ s. IsSetting record {
+      cores = s.cores;
+      frames = s.frames;
+      grants = s.grants;
+      calls = s.calls;
+      epochs = s.epochs;
+    } };
 
     ghost inverse = { λ s. record { cores = s.cores; frames = s.frames; grants = s.grants; calls = s.calls; epochs = s.epochs } };
 }
@@ -34,7 +40,8 @@ impl Setup {
     /// The setup of these parts: None exactly where one of them is outside the limits of a setup, or where the
     /// number of grants is not `cores`.
     pub fn new(cores: u8, frames: u16, grants: Grants, calls: u32, epochs: u16) -> Option<Setup>
-        ensures { let setting : Setting = record { cores = cores; frames = frames; grants = grants; calls = calls; epochs = epochs } in SomeIff result (IsSetting setting) setting }
+        ensures { let setting : Setting = record { cores = cores; frames = frames; grants = grants; calls = calls; epochs = epochs } in
+            SomeIff result (IsSetting setting) setting }
     {
         let sized = 1 <= cores && cores <= 8 && 4 + 2 * u16::from(cores) <= frames && frames <= 512;
         let limited = calls <= 4_194_304 && 1 <= epochs;

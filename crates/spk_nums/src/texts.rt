@@ -1,7 +1,8 @@
 //! Printed texts.
 
 ghost use Rattle.std.specs.Prelude.{Some, decimal};
-ghost use Rattle.spk_nums.specs.Texts.{call_text, cap_text, decision_text, reply_line_text, reply_text, basis_text, make_text, ok_text, site_text};
+ghost use Rattle.spk_nums.specs.Texts.{call_text, cap_text, decision_text, reply_line_text};
+ghost use Rattle.spk_nums.specs.Texts.{reply_text, basis_text, make_text, ok_text, site_text};
 
 use crate::calls::{Call, Make};
 use crate::cap::Cap;

@@ -87,7 +87,8 @@ impl Translations {
 
     /// Appends a translation. Answers false and changes nothing exactly where there are 64 already.
     pub fn add(&mut self, item: Translation) -> bool
-        ensures { MatchBool result ((length self.old < 64) × (self.new ≡ self.old ++ item ∷ [])) ((length self.old ≡ 64) × (self.new ≡ self.old)) }
+        ensures { MatchBool result ((length self.old < 64) × (self.new ≡ self.old ++ item ∷ []))
+            ((length self.old ≡ 64) × (self.new ≡ self.old)) }
     {
         if self.len == 64 {
             return false;

@@ -14,7 +14,8 @@ use Rattle.stage_look.specs.Lookup.{LookFits, look_move, end_by_link, place_end,
 use Rattle.stage_look.specs.declared.look.Look.{Look}
 use Rattle.stage_look.specs.declared.look.Look.TheVariants.{AtRoot, AtLeaf, AtEntry}
 
-held_names : (within : Bool) (frames : ℕ) (k : Capability) → within ≡ nat_le (end_of_frames k.kind k.frame k.arg) frames → IfSome (held_if within k) (EntryNames frames)
+held_names : (within : Bool) (frames : ℕ) (k : Capability)
+    → within ≡ nat_le (end_of_frames k.kind k.frame k.arg) frames → IfSome (held_if within k) (EntryNames frames)
 held_names true frames k h = leb-true (end_of_frames k.kind k.frame k.arg) frames (cc)
 held_names false frames k h = tt
 
@@ -34,12 +35,14 @@ pub leaf_below : (frames : ℕ) (kind : Kind) (frame arg : ℕ) → is_link kind
 leaf_below frames Link frame arg h names = omega arith
 leaf_below frames kind frame arg h names = absurd (cc)
 
-after_link_fits : (s : Shape) (linked : Bool) (root number : ℕ) (k : Capability) → linked ≡ is_link k.kind → CapNames s.frames k → LookFits s (AtRoot root number) → LookFits s (after_link linked root number k.frame)
+after_link_fits : (s : Shape) (linked : Bool) (root number : ℕ) (k : Capability) → linked ≡ is_link k.kind
+    → CapNames s.frames k → LookFits s (AtRoot root number) → LookFits s (after_link linked root number k.frame)
 after_link_fits s true root number k is names h = leaf_below s.frames k.kind k.frame k.arg (cc) names
 after_link_fits s false root number k is names h = h
 
 -- it names frames of the machine after each step
-pub after_fits : (s : Shape) (look : Look) (shown : Option Entry) → IfSome shown (EntryNames s.frames) → LookFits s look → LookFits s (look_after look shown)
+pub after_fits : (s : Shape) (look : Look) (shown : Option Entry)
+    → IfSome shown (EntryNames s.frames) → LookFits s look → LookFits s (look_after look shown)
 after_fits s (AtRoot root number) None names h = h
 after_fits s (AtRoot root number) (Some Free) names h = h
 after_fits s (AtRoot root number) (Some (Held k)) names h = after_link_fits s _ root number k refl names h
@@ -52,7 +55,8 @@ link_end_fits : (s : Shape) (linked : Bool) → EndFits s (end_by_link linked)
 link_end_fits s true = tt
 link_end_fits s false = tt
 
-place_end_fits : (s : Shape) (node entry word : ℕ) (shown : Option Entry) → IfSome shown (EntryNames s.frames) → node < s.frames → entry < 64 → EndFits s (place_end node entry word shown)
+place_end_fits : (s : Shape) (node entry word : ℕ) (shown : Option Entry) → IfSome shown (EntryNames s.frames)
+    → node < s.frames → entry < 64 → EndFits s (place_end node entry word shown)
 place_end_fits s node entry word None names n e = tt
 place_end_fits s node entry word (Some Free) names n e = record { node = n; entry = e; names = tt }
 place_end_fits s node entry word (Some (Held k)) names n e = record { node = n; entry = e; names = names }
@@ -60,7 +64,8 @@ place_end_fits s node entry word (Some (Closing by)) names n e = tt
 place_end_fits s node entry word (Some (Quiescing stamp)) names n e = record { node = n; entry = e; names = tt }
 
 -- the place that it finds is one of the machine
-pub end_fits : (s : Shape) (look : Look) (word : ℕ) (shown : Option Entry) → IfSome shown (EntryNames s.frames) → LookFits s look → EndFits s (look_end look word shown)
+pub end_fits : (s : Shape) (look : Look) (word : ℕ) (shown : Option Entry)
+    → IfSome shown (EntryNames s.frames) → LookFits s look → EndFits s (look_end look word shown)
 end_fits s (AtRoot root number) word None names h = tt
 end_fits s (AtRoot root number) word (Some Free) names h = tt
 end_fits s (AtRoot root number) word (Some (Held k)) names h = link_end_fits s (is_link k.kind)

@@ -11,7 +11,8 @@ use Rattle.word_map.specs.Word.{CountAt}
 use Rattle.word_map.specs.Places.{Shape, IsIn, counter_of}
 use Rattle.word_map.specs.Moves.{word_of, StoreOf}
 use Rattle.stage_pins.specs.Counts.{unheld, in_field, changed}
-use Rattle.stage_pins.specs.Acquire.{PinFits, pinned_at, pin_move, expected_by, pin_after, pin_end, load_end, end_by_hold, after_hold, after_load}
+use Rattle.stage_pins.specs.Acquire.{PinFits, pinned_at, pin_move, expected_by, pin_after}
+use Rattle.stage_pins.specs.Acquire.{pin_end, load_end, end_by_hold, after_hold, after_load}
 use Rattle.stage_pins.specs.Commit.{SettleFits, settle_move}
 use Rattle.stage_pins.specs.declared.pin.Pin.{Pin}
 use Rattle.stage_pins.specs.declared.pin.Pin.TheVariants.{AtLoad, AtCompare}

@@ -60,7 +60,8 @@ compare_end same pin = if same then Done pin else Refuse reply.Raced
 -- what a step leads to that finds this word
 abbrev pub pin_end : Pin → ℕ → StageEnd Pinned
 pin_end (AtLoad frame core) found = load_end (count_of_word found)
-pin_end (AtCompare frame core count stamp) found = compare_end (found == word_of_count (unheld count stamp)) (pinned_at frame core count stamp)
+pin_end (AtCompare frame core count stamp) found =
+    compare_end (found == word_of_count (unheld count stamp)) (pinned_at frame core count stamp)
 
 -- where it stands after a load of a word that is held thus
 abbrev pub after_hold : ℕ → ℕ → ℤ → ℕ → Hold → Pin

@@ -1,5 +1,6 @@
 -- The counts that a call has acquired, the earliest first, and the commit of each.
-use Rattle.std.specs.Prelude.{ℕ, ℤ, pos, negsuc, Bool, true, false, nat_lt, Option, Some, None, List, [], ◌∷◌, ◌++◌, length, All, if◌then◌else◌}
+use Rattle.std.specs.Prelude.{ℕ, ℤ, pos, negsuc, Bool, true, false, nat_lt, Option, Some}
+use Rattle.std.specs.Prelude.{None, List, [], ◌∷◌, ◌++◌, length, All, if◌then◌else◌}
 use Rattle.word_map.specs.Places.{Shape}
 use Rattle.stage_pins.specs.Acquire.{PinnedFits}
 use Rattle.stage_pins.specs.declared.held.Acquired.{Acquired}
@@ -36,7 +37,8 @@ stamp_of_change (negsuc n) drawn = drawn
 
 -- the commit of a count, where the call is or is not carried out and has drawn a stamp or none
 abbrev pub commit_of : Bool → Option ℕ → Acquired → Settle
-commit_of carried_out drawn x = record { pin = x.pin; change = change_if carried_out x.change; stamp = stamp_of_change (change_if carried_out x.change) drawn }
+commit_of carried_out drawn x =
+    record { pin = x.pin; change = change_if carried_out x.change; stamp = stamp_of_change (change_if carried_out x.change) drawn }
 
 -- an acquired count is that of a frame and a core of the machine, and within its range
 abbrev pub AcquiredFits : Shape → Acquired → Type 0

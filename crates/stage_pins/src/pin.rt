@@ -17,7 +17,8 @@ ghost use Rattle.word_map.specs.Places.{size_of};
 ghost use Rattle.spk_nums.specs.WordSteps.{place_in};
 ghost use Rattle.word_map.specs.Moves.{op_of};
 ghost use Rattle.stage_pins.specs.Counts.{unheld, acquired};
-ghost use Rattle.stage_pins.specs.Acquire.{PinCounts, PinFits, expected_by, pin_move, end_by_hold, load_end, pinned_at, compare_end, pin_end, after_hold, after_load, pin_after, EndFits};
+ghost use Rattle.stage_pins.specs.Acquire.{PinCounts, PinFits, expected_by, pin_move, end_by_hold, load_end, pinned_at};
+ghost use Rattle.stage_pins.specs.Acquire.{compare_end, pin_end, after_hold, after_load, pin_after, EndFits};
 
 use frame_words::{CountWord, Hold};
 use spk_nums::{CoreNo, FrameNo, Reply, StageEnd, Stamp, WordOp};
@@ -234,7 +235,8 @@ fn compare_end(same: bool, pin: Pinned) -> StageEnd<Pinned>
 
 /// Where the load goes on, the compare expects the word that was loaded.
 pub fn acquires_what_it_found()
-    ensures { (frame core found : ℕ) → pin_end (Pin.AtLoad frame core) found ≡ Going → expected_by (pin_move (pin_after (Pin.AtLoad frame core) found)) ≡ Some found }
+    ensures { (frame core found : ℕ) → pin_end (Pin.AtLoad frame core) found ≡ Going
+        → expected_by (pin_move (pin_after (Pin.AtLoad frame core) found)) ≡ Some found }
 {}
 
 #[cfg(test)]

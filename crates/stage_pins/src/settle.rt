@@ -114,7 +114,11 @@ fn later(stamp: Stamp, drawn: Option<Stamp>) -> Stamp
 
 /// With no change and no stamp a commit gives back the word that was found.
 pub fn gives_back_what_it_found()
-    ensures { (frame core stamp : ℕ) (count : ℤ) → NumberFits count → settle_move (record { pin = pinned_at frame core count stamp; change = pos 0; stamp = None }) ≡ StoreOf (CountAt frame (counter_of core)) (word_of_count (unheld count stamp)) }
+    ensures { (frame core stamp : ℕ) (count : ℤ) → NumberFits count → settle_move (record {
+      pin = pinned_at frame core count stamp;
+      change = pos 0;
+      stamp = None;
+    }) ≡ StoreOf (CountAt frame (counter_of core)) (word_of_count (unheld count stamp)) }
 {}
 
 #[cfg(test)]

@@ -1,11 +1,13 @@
 -- The scans and the steps of a removal and of a flush stay on the words of the machine, whatever words are found.
-use Rattle.std.proofs.Common.{◌≡◌, ◌≢◌, ℕ, ◌+◌, ◌==◌, ◌<◌, ◌≤◌, ◌^◌, Bool, true, false, nat_lt, Option, Some, None, IfSome, if◌then◌else◌, refl, arith}
+use Rattle.std.proofs.Common.{◌≡◌, ◌≢◌, ℕ, ◌+◌, ◌==◌, ◌<◌, ◌≤◌, ◌^◌, Bool, true, false}
+use Rattle.std.proofs.Common.{nat_lt, Option, Some, None, IfSome, if◌then◌else◌, refl, arith}
 use Rattle.std.proofs.lemmas.Bool.{ltb-true}
 use Rattle.spk_nums.specs.declared.replies.Reply.{Reply}
 use Rattle.word_map.specs.Places.{Shape, IsIn}
 use Rattle.word_map.specs.Moves.{word_of}
 use Rattle.stage_quiet.specs.Clocks.{stamp_of_clock, drawn_stamp}
-use Rattle.stage_quiet.specs.Scan.{QuietFits, quiet_move, first_other, next_other, flush_scan, core_scan, quiet_scan, quiet_next, quiet_refuses, scan_after, quiet_after}
+use Rattle.stage_quiet.specs.Scan.{QuietFits, quiet_move, first_other, next_other, flush_scan, core_scan}
+use Rattle.stage_quiet.specs.Scan.{quiet_scan, quiet_next, quiet_refuses, scan_after, quiet_after}
 use Rattle.stage_quiet.specs.Removal.{CloseFits, close_move, close_at, close_after}
 use Rattle.stage_quiet.specs.Flushing.{FlushMarkFits, flush_move, flush_after}
 use Rattle.stage_quiet.specs.declared.quiet.Quiet.{Quiet}
@@ -31,24 +33,30 @@ flush_scan_fits : (s : Shape) (page : Bool) (stamp : ℕ) → 0 < s.cores → If
 flush_scan_fits s true stamp h = h
 flush_scan_fits s false stamp h = tt
 
-core_scan_fits : (s : Shape) (there : Bool) (stamp core at : ℕ) (page : Bool) → there ≡ nat_lt at s.cores → at ≢ core → 0 < s.cores → IfSome (core_scan there stamp core at page) (QuietFits s)
+core_scan_fits : (s : Shape) (there : Bool) (stamp core at : ℕ) (page : Bool) → there ≡ nat_lt at s.cores
+    → at ≢ core → 0 < s.cores → IfSome (core_scan there stamp core at page) (QuietFits s)
 core_scan_fits s true stamp core at page is other some = (ltb-true at s.cores (cc), other)
 core_scan_fits s false stamp core at page is other some = flush_scan_fits s page stamp some
 
-stamped_fits : (s : Shape) (none : Bool) (stamp core : ℕ) (page : Bool) → core < s.cores → IfSome (if none then None else core_scan (nat_lt (first_other core) s.cores) stamp core (first_other core) page) (QuietFits s)
+stamped_fits : (s : Shape) (none : Bool) (stamp core : ℕ) (page : Bool) → core < s.cores
+    → IfSome (if none then None else core_scan (nat_lt (first_other core) s.cores) stamp core (first_other core) page) (QuietFits s)
 stamped_fits s true stamp core page h = tt
-stamped_fits s false stamp core page h = core_scan_fits s _ stamp core (first_other core) page refl (first_differs core _ refl) (omega (arith, h))
+stamped_fits s false stamp core page h =
+    core_scan_fits s _ stamp core (first_other core) page refl (first_differs core _ refl) (omega (arith, h))
 
 -- a scan begins on a core of the machine
-pub quiet_scan_fits : (s : Shape) (stamp core : ℕ) (page : Bool) → core < s.cores → IfSome (quiet_scan stamp core s.cores page) (QuietFits s)
+pub quiet_scan_fits : (s : Shape) (stamp core : ℕ) (page : Bool)
+    → core < s.cores → IfSome (quiet_scan stamp core s.cores page) (QuietFits s)
 quiet_scan_fits s stamp core page h = stamped_fits s (stamp == 0) stamp core page h
 
 -- where it goes on it is on a core of the machine
 pub next_fits : (s : Shape) (q : Quiet) → QuietFits s q → IfSome (quiet_next s.cores q) (QuietFits s)
-next_fits s (AtCore stamp core at page) h = core_scan_fits s _ stamp core (next_other core at) page refl (next_differs core at h.1) (omega arith)
+next_fits s (AtCore stamp core at page) h =
+    core_scan_fits s _ stamp core (next_other core at) page refl (next_differs core at h.1) (omega arith)
 next_fits s (AtFlush stamp at) h = grind arith
 
-scan_after_fits : (s : Shape) (q : Quiet) (r : Option Reply) (next : Option Quiet) → QuietFits s q → IfSome next (QuietFits s) → QuietFits s (scan_after q r next)
+scan_after_fits : (s : Shape) (q : Quiet) (r : Option Reply) (next : Option Quiet)
+    → QuietFits s q → IfSome next (QuietFits s) → QuietFits s (scan_after q r next)
 scan_after_fits s q (Some r) next h n = h
 scan_after_fits s q None (Some q2) h n = n
 scan_after_fits s q None None h n = h
@@ -76,7 +84,8 @@ stamp_in_range clock = omega arith
 pub stamp_same : (clock : ℕ) → clock < 2 ^ 28 → stamp_of_clock clock ≡ clock
 stamp_same clock small = omega arith
 
-close_compared_fits : (s : Shape) (b : Bool) (node entry word core : ℕ) → (node < s.frames) × (entry < 64) → CloseFits s (close_at b node entry word core)
+close_compared_fits : (s : Shape) (b : Bool) (node entry word core : ℕ)
+    → (node < s.frames) × (entry < 64) → CloseFits s (close_at b node entry word core)
 close_compared_fits s true node entry word core h = h
 close_compared_fits s false node entry word core h = h
 

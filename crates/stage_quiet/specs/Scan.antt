@@ -42,7 +42,8 @@ core_scan there stamp core at page = if there then Some (AtCore stamp core at pa
 
 -- the scan for a stamp, where one was drawn and there is a word to load
 abbrev pub quiet_scan : ℕ → ℕ → ℕ → Bool → Option Quiet
-quiet_scan stamp core cores page = if stamp == 0 then None else core_scan (nat_lt (first_other core) cores) stamp core (first_other core) page
+quiet_scan stamp core cores page = if stamp == 0 then None
+    else core_scan (nat_lt (first_other core) cores) stamp core (first_other core) page
 
 -- the scan after the word at which it stands, where there is one more
 abbrev pub quiet_next : ℕ → Quiet → Option Quiet

@@ -16,7 +16,8 @@ counts_more [] v h n = (n, tt)
 counts_more (x ∷ xs) v h n = (h.0, counts_more xs v h.1 n)
 
 -- a count word put into the first unused cell is added to the list
-pub filled : (a : Inside) (at : ℕ) (v : CountWord) → at ≡ a.len → a.len < 8 → AreCounts a → NumberFits v.count → AreCounts record { cells = slice_set a.cells at v; len = a.len + 1 }
+pub filled : (a : Inside) (at : ℕ) (v : CountWord) → at ≡ a.len → a.len < 8 → AreCounts a
+    → NumberFits v.count → AreCounts record { cells = slice_set a.cells at v; len = a.len + 1 }
 filled a at v is room h n = record {
   listed = added blank_count 8 a.len at a.cells v is room h.listed;
   fit = rw (is, take_more_set a.cells a.len v (omega (arith, room, h.listed.whole))) (counts_more _ v h.fit n);

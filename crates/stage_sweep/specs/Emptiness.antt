@@ -21,7 +21,8 @@ use Rattle.stage_look.specs.Shown.{shown_in}
 use Rattle.stage_look.specs.declared.look.Found.{Found}
 use Rattle.stage_sweep.specs.declared.empty.Owned.{Owned}
 
--- how many words of an object are looked at: a node's entries, a component's table and pages, a thread and its bottom component, a temporal capability's head
+-- how many words of an object are looked at: a node's entries, a component's table and pages, a thread and its bottom component, a temporal
+-- capability's head
 abbrev pub loads_of : Obj → ℕ
 loads_of Blank = 0
 loads_of Table = 64
@@ -105,7 +106,8 @@ empty_refuses frames Leaf at found = entry_refuses (shown_in frames found)
 empty_refuses frames Pages at found = entry_refuses (shown_in frames found)
 empty_refuses frames Pleaf at found = entry_refuses (shown_in frames found)
 empty_refuses frames Comp at found = field_refuses (nat_lt found frames)
-empty_refuses frames Thread at found = by_turn (at == 0) (thread_refuses (thread_of_word found)) (stack_refuses frames (stack_of_word found))
+empty_refuses frames Thread at found =
+    by_turn (at == 0) (thread_refuses (thread_of_word found)) (stack_refuses frames (stack_of_word found))
 empty_refuses frames Tcap at found = head_refuses (head_of_word found)
 
 -- a frame of the machine

@@ -1,5 +1,7 @@
--- The steps of a sweep: it freezes the counters of a frame in order, judges their sum, scans for the latest of their stamps, and looks whether the object is empty.
-use Rattle.std.specs.Prelude.{ℕ, ℤ, pos, negsuc, ◌+◌, ◌-◌, ◌^◌, ◌<◌, ◌==◌, nat_lt, min, Bool, Option, Some, None, List, [], ◌∷◌, ◌++◌, length, if◌then◌else◌}
+-- The steps of a sweep: it freezes the counters of a frame in order, judges their sum, scans for the latest of their stamps, and looks
+-- whether the object is empty.
+use Rattle.std.specs.Prelude.{ℕ, ℤ, pos, negsuc, ◌+◌, ◌-◌, ◌^◌, ◌<◌, ◌==◌, nat_lt, min, Bool}
+use Rattle.std.specs.Prelude.{Option, Some, None, List, [], ◌∷◌, ◌++◌, length, if◌then◌else◌}
 use Rattle.spk_nums.specs.declared.kinds.Obj.{Obj}
 use Rattle.spk_nums.specs.declared.replies.Reply.{Reply}
 use Rattle.spk_nums.specs.declared.replies.Reply.TheVariants as reply
@@ -44,7 +46,8 @@ pub record SweepFits (s : Shape) (w : Sweep) : Type 0 where
 -- the next step loads the first counter that is not frozen, or freezes it, or scans, or loads a word of the object
 abbrev pub move_at : ℕ → ℕ → ℕ → SweepAt → Move
 move_at frame core counter Load = LoadOf (CountAt frame counter)
-move_at frame core counter (Compare count stamp) = CompareOf (CountAt frame counter) (word_of_count (unheld count stamp)) (word_of_count (frozen core count stamp))
+move_at frame core counter (Compare count stamp) =
+    CompareOf (CountAt frame counter) (word_of_count (unheld count stamp)) (word_of_count (frozen core count stamp))
 move_at frame core counter (Scan q) = quiet_move q
 move_at frame core counter (Empty entry) = LoadOf (EntryAt frame entry)
 
@@ -119,7 +122,8 @@ TookFits s (Empty entry) = entry < 64
 -- the refusal to which a step leads that finds this word, if it does to one; `kept` are the counters kept after it
 abbrev pub refuses_at : Shape → Obj → List CountWord → SweepAt → ℕ → Option Reply
 refuses_at s object kept Load found = load_refuses (count_of_word found)
-refuses_at s object kept (Compare count stamp) found = compare_refuses (found == word_of_count (unheld count stamp)) (nat_lt (length kept) (counters_of s)) (sum_of_counts kept)
+refuses_at s object kept (Compare count stamp) found =
+    compare_refuses (found == word_of_count (unheld count stamp)) (nat_lt (length kept) (counters_of s)) (sum_of_counts kept)
 refuses_at s object kept (Scan q) found = refusal_of (quiet_end s.cores q found)
 refuses_at s object kept (Empty entry) found = empty_refuses s.frames object entry found
 
@@ -149,7 +153,8 @@ scan_goes object (Refuse r) q = None
 -- where a sweep stands after a step that finds this word, where it goes on; `kept` are the counters kept after it
 abbrev pub next_at : Shape → FrameWord → ℕ → List CountWord → SweepAt → ℕ → Option SweepAt
 next_at s word core kept Load found = load_next (count_of_word found)
-next_at s word core kept (Compare count stamp) found = compare_next (nat_lt (length kept) (counters_of s)) word.object (quiet_scan (latest_stamp kept) core s.cores (may_be_cached word.kind word.object))
+next_at s word core kept (Compare count stamp) found = compare_next (nat_lt (length kept) (counters_of s))
+    word.object (quiet_scan (latest_stamp kept) core s.cores (may_be_cached word.kind word.object))
 next_at s word core kept (Scan q) found = scan_goes word.object (quiet_end s.cores q found) (quiet_after s.cores q found)
 next_at s word core kept (Empty entry) found = if nat_lt (entry + 1) (loads_of word.object) then Some (Empty (entry + 1)) else None
 

@@ -82,7 +82,8 @@ impl CountWords {
     /// 8 already.
     pub fn add(&mut self, item: CountWord) -> bool
         requires { NumberFits item.count }
-        ensures { MatchBool result ((length self.old < 8) × (self.new ≡ self.old ++ item ∷ [])) ((length self.old ≡ 8) × (self.new ≡ self.old)) }
+        ensures { MatchBool result ((length self.old < 8) × (self.new ≡ self.old ++ item ∷ []))
+            ((length self.old ≡ 8) × (self.new ≡ self.old)) }
     {
         if self.len == 8 {
             return false;

@@ -22,7 +22,10 @@ ghost use Rattle.stage_pins.specs.Counts.{unheld};
 ghost use Rattle.stage_quiet.specs.Scan.{quiet_scan, QuietFits, quiet_end, quiet_after};
 ghost use Rattle.stage_sweep.specs.Counters.{counters_of, sum_of_counts, latest_stamp};
 ghost use Rattle.stage_sweep.specs.Emptiness.{may_be_cached};
-ghost use Rattle.stage_sweep.specs.Freeze.{frozen, AtFits, StepFits, KeepFits, TookFits, kept_by, SweepFits, sweep_move, frozen_at, hold_refuses, load_refuses, sum_refuses, compare_refuses, refusal_of, refuses_at, load_next, empty_next, scan_next, compare_next, scan_goes, next_at, owned_at, sweep_kept, sweep_refuses, sweep_next, at_after, sweep_after, swept_of, end_by, sweep_end};
+ghost use Rattle.stage_sweep.specs.Freeze.{frozen, AtFits, StepFits, KeepFits, TookFits, kept_by, SweepFits, sweep_move, frozen_at};
+ghost use Rattle.stage_sweep.specs.Freeze.{hold_refuses, load_refuses, sum_refuses, compare_refuses, refusal_of, refuses_at};
+ghost use Rattle.stage_sweep.specs.Freeze.{load_next, empty_next, scan_next, compare_next, scan_goes, next_at, owned_at, sweep_kept};
+ghost use Rattle.stage_sweep.specs.Freeze.{sweep_refuses, sweep_next, at_after, sweep_after, swept_of, end_by, sweep_end};
 
 use crate::count_words::CountWords;
 use crate::empty::{Owned, empty_refuses, loads_of, may_be_cached, owned_after};
@@ -79,7 +82,14 @@ pub struct Swept {
 impl Sweep {
     /// The sweep by a core of a frame that it has marked, whose word was found to be this.
     pub fn new(frame: FrameNo, word: FrameWord, core: CoreNo) -> Sweep
-        ensures { result ≡ record { frame = frame; word = word; core = core; kept = []; owned = record { first = None; second = None }; at = SweepAt.Load } }
+        ensures { result ≡ record {
+          frame = frame;
+          word = word;
+          core = core;
+          kept = [];
+          owned = record { first = None; second = None };
+          at = SweepAt.Load;
+        } }
     {
         Sweep {
             frame,
@@ -223,7 +233,8 @@ impl Sweep {
     // After a counter the next one is loaded, and after the last the scan begins.
     fn compare_next(&self, layout: &Layout, more: bool) -> Option<SweepAt>
         requires { self.now.core < layout.now.cores }
-        ensures { result ≡ compare_next more self.now.word.object (quiet_scan (latest_stamp self.now.kept) self.now.core layout.now.cores (may_be_cached self.now.word.kind self.now.word.object)) }
+        ensures { result ≡ compare_next more self.now.word.object (quiet_scan (latest_stamp self.now.kept)
+            self.now.core layout.now.cores (may_be_cached self.now.word.kind self.now.word.object)) }
     {
         if more {
             return Some(SweepAt::Load);

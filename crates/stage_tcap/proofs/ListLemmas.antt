@@ -1,5 +1,6 @@
 -- Lists of qualities: when two are equal, and that each pair of one is within its range.
-use Rattle.std.proofs.Common.{rules, ◌≡◌, ◌↔◌, ℕ, ◌==◌, ◌≤◌, Bool, true, false, ◌&&◌, IsTrue, List, [], ◌∷◌, length, zero, suc, Option, Some, None, IfSome, nat_le, refl, sym, ap, ◌∙◌}
+use Rattle.std.proofs.Common.{rules, ◌≡◌, ◌↔◌, ℕ, ◌==◌, ◌≤◌, Bool, true, false, ◌&&◌, IsTrue, List, [], ◌∷◌}
+use Rattle.std.proofs.Common.{length, zero, suc, Option, Some, None, IfSome, nat_le, refl, sym, ap, ◌∙◌}
 use Rattle.std.specs.Prelude.{slice_get}
 use Rattle.std.specs.Option.{SomeIff}
 use Rattle.std.proofs.lemmas.Bool.{and_parts, and_from, eqb-true, eq-eqb, leb-true, le-leb}
@@ -22,7 +23,8 @@ equal_lists (x ∷ xs) (y ∷ ys) h =
 
 own_list : (xs : List (ℕ × ℕ)) → same_list xs xs ≡ true
 own_list [] = refl
-own_list (x ∷ xs) = and_from (x.0 == x.0) (x.1 == x.1 && same_list xs xs) (eq-eqb x.0 x.0 refl) (and_from (x.1 == x.1) (same_list xs xs) (eq-eqb x.1 x.1 refl) (own_list xs))
+own_list (x ∷ xs) = and_from (x.0 == x.0) (x.1 == x.1 && same_list xs xs) (eq-eqb x.0 x.0 refl)
+    (and_from (x.1 == x.1) (same_list xs xs) (eq-eqb x.1 x.1 refl) (own_list xs))
 
 -- and equal lists are found so
 pub found_equal : (xs ys : List (ℕ × ℕ)) → xs ≡ ys → same_list xs ys ≡ true
@@ -44,14 +46,16 @@ got_pair [] k h = tt
 got_pair (x ∷ xs) zero h = h.0
 got_pair (x ∷ xs) (suc k) h = got_pair xs k h.2
 
-merged_by : (t : Bool) (o : Option (List (ℕ × ℕ))) (m : List (ℕ × ℕ)) → t ≡ nat_le (length m) 8 → SomeIff o (length m ≤ 8) m → o ≡ merged_if t m
+merged_by : (t : Bool) (o : Option (List (ℕ × ℕ))) (m : List (ℕ × ℕ))
+    → t ≡ nat_le (length m) 8 → SomeIff o (length m ≤ 8) m → o ≡ merged_if t m
 merged_by true None m is h = absurd (h (leb-true (length m) 8 (sym is)))
 merged_by false None m is h = refl
 merged_by true (Some v) m is h = ap Some h.1
 merged_by false (Some v) m is h = absurd (let e : nat_le (length m) 8 ≡ true = le-leb (length m) 8 h.0 in cc)
 
 -- a merge that is there exactly where it has room is that of the definition
-pub merge_by : (o : Option (List (ℕ × ℕ))) (xs ys : List (ℕ × ℕ)) → SomeIff o (length (merged xs ys) ≤ 8) (merged xs ys) → o ≡ merge_of xs ys
+pub merge_by : (o : Option (List (ℕ × ℕ))) (xs ys : List (ℕ × ℕ))
+    → SomeIff o (length (merged xs ys) ≤ 8) (merged xs ys) → o ≡ merge_of xs ys
 merge_by o xs ys h = merged_by _ o (merged xs ys) refl h
 
 -- a word can hold such a pair

@@ -10,12 +10,15 @@ use Rattle.word_map.specs.Places.{Shape, IsIn}
 use Rattle.word_map.specs.Moves.{word_of}
 use Rattle.stage_tcap.specs.Heads.{VersionFits}
 use Rattle.stage_tcap.specs.Charging.{ChargeFits, charge_move, after_mark, after_head, charge_after}
-use Rattle.stage_tcap.specs.Pairs.{EntryFits, AtFits, PairFits, move_at, pair_move, noted, head_a_after, head_b_after, noted_by, giving_back, by_alike, by_room, judged, at_by_mark, at_by_head, at_by_budget, at_marked, at_read, a_next, b_next, store_next, at_decided, compared_after, at_after, pair_after}
+use Rattle.stage_tcap.specs.Pairs.{EntryFits, AtFits, PairFits, move_at, pair_move, noted, head_a_after, head_b_after, noted_by}
+use Rattle.stage_tcap.specs.Pairs.{giving_back, by_alike, by_room, judged, at_by_mark, at_by_head, at_by_budget, at_marked}
+use Rattle.stage_tcap.specs.Pairs.{at_read, a_next, b_next, store_next, at_decided, compared_after, at_after, pair_after}
 use Rattle.stage_tcap.specs.declared.charge.Charge.{Charge}
 use Rattle.stage_tcap.specs.declared.charge.Charge.TheVariants as charge
 use Rattle.stage_tcap.specs.declared.pair.Pair.{Pair}
 use Rattle.stage_tcap.specs.declared.pair.PairAt.{PairAt}
-use Rattle.stage_tcap.specs.declared.pair.PairAt.TheVariants.{LoadA, MarkA, ListA, LoadB, ListB, CompareB, AgainB, StoreList, StoreB, StoreA}
+use Rattle.stage_tcap.specs.declared.pair.PairAt.TheVariants.{LoadA, MarkA, ListA, LoadB, ListB, CompareB}
+use Rattle.stage_tcap.specs.declared.pair.PairAt.TheVariants.{AgainB, StoreList, StoreB, StoreA}
 use Rattle.stage_tcap.specs.declared.pair.PairWork.{PairWork}
 use Rattle.stage_tcap.specs.declared.pair.PairWork.TheVariants.{Transfer, Delegate, Test}
 
@@ -24,11 +27,13 @@ pub charge_is_in : (s : Shape) (c : Charge) → ChargeFits s c → IsIn s (word_
 charge_is_in s (charge.AtLoad t ticks) h = (h, omega arith)
 charge_is_in s (charge.AtCompare t ticks budget version) h = (h.0, omega arith)
 
-after_mark_fits : (s : Shape) (t ticks budget version : ℕ) (mark : Option ℕ) → t < s.frames → version < 2 ^ 28 → ChargeFits s (after_mark t ticks budget version mark)
+after_mark_fits : (s : Shape) (t ticks budget version : ℕ) (mark : Option ℕ)
+    → t < s.frames → version < 2 ^ 28 → ChargeFits s (after_mark t ticks budget version mark)
 after_mark_fits s t ticks budget version None h v = (h, v)
 after_mark_fits s t ticks budget version (Some by) h v = h
 
-after_head_fits : (s : Shape) (t ticks found : ℕ) (o : Option HeadWord) → head_of_word found ≡ o → t < s.frames → ChargeFits s (after_head t ticks o)
+after_head_fits : (s : Shape) (t ticks found : ℕ) (o : Option HeadWord)
+    → head_of_word found ≡ o → t < s.frames → ChargeFits s (after_head t ticks o)
 after_head_fits s t ticks found None is h = h
 after_head_fits s t ticks found (Some v) is h = after_mark_fits s t ticks v.budget v.version v.mark h (heads.spelling.spells found v is).0.2
 

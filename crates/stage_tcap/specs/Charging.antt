@@ -27,7 +27,8 @@ ChargeFits s (AtCompare t ticks budget version) = (t < s.frames) × (version < 2
 -- the next step loads the head, then puts the one that is charged in its place: by the ticks, or by the whole budget where that is less
 abbrev pub charge_move : Charge → Move
 charge_move (AtLoad t ticks) = LoadOf (EntryAt t 0)
-charge_move (AtCompare t ticks budget version) = CompareOf (EntryAt t 0) (word_of_head (head budget version)) (word_of_head (debited (head budget version) (min ticks budget)))
+charge_move (AtCompare t ticks budget version) =
+    CompareOf (EntryAt t 0) (word_of_head (head budget version)) (word_of_head (debited (head budget version) (min ticks budget)))
 
 -- a head that a core has marked is busy
 abbrev pub end_by_mark : Option ℕ → StageEnd Value

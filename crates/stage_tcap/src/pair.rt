@@ -22,7 +22,11 @@ ghost use Rattle.word_map.specs.Word.{EntryAt};
 ghost use Rattle.word_map.specs.Moves.{LoadOf, op_of};
 ghost use Rattle.stage_tcap.specs.Heads.{head, credited, VersionFits};
 ghost use Rattle.stage_tcap.specs.Lists.{read_word, in_order};
-ghost use Rattle.stage_tcap.specs.Pairs.{AtFits, PairFits, amount_of, next_b, left_a, move_at, pair_move, noted, head_a_after, head_b_after, list_a_after, whole_b, read_b, list_b_after, noted_by, giving_back, by_alike, by_room, by_preempting, judged, at_by_mark, at_by_head, at_by_budget, at_marked, at_read, a_next, b_next, store_next, at_decided, compared_after, again_value, at_after, pair_after, end_at, pair_end};
+ghost use Rattle.stage_tcap.specs.Pairs.{AtFits, PairFits, amount_of, next_b, left_a, move_at, pair_move, noted};
+ghost use Rattle.stage_tcap.specs.Pairs.{head_a_after, head_b_after, list_a_after, whole_b, read_b, list_b_after};
+ghost use Rattle.stage_tcap.specs.Pairs.{noted_by, giving_back, by_alike, by_room, by_preempting, judged, at_by_mark};
+ghost use Rattle.stage_tcap.specs.Pairs.{at_by_head, at_by_budget, at_marked, at_read, a_next, b_next, store_next};
+ghost use Rattle.stage_tcap.specs.Pairs.{at_decided, compared_after, again_value, at_after, pair_after, end_at, pair_end};
 
 use crate::charge::head_end;
 use crate::ends::{again_end, again_value, b_end, list_end, marked_end};
@@ -95,7 +99,17 @@ pub struct Pair {
 impl Pair {
     /// A core's call on two different temporal capabilities.
     pub fn new(a: FrameNo, b: FrameNo, what: PairWork, core: CoreNo) -> Pair
-        ensures { result ≡ record { a = a; b = b; what = what; core = core; head_a = head 0 0; head_b = head 0 0; list_a = Some []; list_b = Some []; at = PairAt.LoadA } }
+        ensures { result ≡ record {
+          a = a;
+          b = b;
+          what = what;
+          core = core;
+          head_a = head 0 0;
+          head_b = head 0 0;
+          list_a = Some [];
+          list_b = Some [];
+          at = PairAt.LoadA;
+        } }
     {
         Pair {
             a,

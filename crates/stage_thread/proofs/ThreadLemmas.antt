@@ -21,13 +21,15 @@ claim_is_in s (AtLoad t core) h = (h, omega arith)
 claim_is_in s (AtCompare t core depth) h = (h.0, omega arith)
 claim_is_in s (AtStack t depth) h = (h.0, omega (arith, h.1.1))
 
-thread_after_fits : (s : Shape) (t core found : ℕ) (o : Option ThreadWord) → thread_of_word found ≡ o → t < s.frames → ClaimFits s (thread_after t core o)
+thread_after_fits : (s : Shape) (t core found : ℕ) (o : Option ThreadWord)
+    → thread_of_word found ≡ o → t < s.frames → ClaimFits s (thread_after t core o)
 thread_after_fits s t core found None is h = h
 thread_after_fits s t core found (Some (state.Idle depth)) is h = (h, (words.spelling.spells found (state.Idle depth) is).0)
 thread_after_fits s t core found (Some (state.Running c depth)) is h = h
 thread_after_fits s t core found (Some (state.Claimed c depth)) is h = h
 
-compared_fits : (s : Shape) (same : Bool) (t core depth : ℕ) → (t < s.frames) × DepthFits depth → ClaimFits s (compared_after same t core depth)
+compared_fits : (s : Shape) (same : Bool) (t core depth : ℕ)
+    → (t < s.frames) × DepthFits depth → ClaimFits s (compared_after same t core depth)
 compared_fits s true t core depth h = h
 compared_fits s false t core depth h = h
 

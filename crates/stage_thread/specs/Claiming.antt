@@ -30,7 +30,8 @@ ClaimFits s (AtStack t depth) = (t < s.frames) × DepthFits depth
 -- the next step loads the thread's word, then puts the claimed word in the place of the idle one, then loads the top of the stack
 abbrev pub claim_move : Claim → Move
 claim_move (AtLoad t core) = LoadOf (EntryAt t 0)
-claim_move (AtCompare t core depth) = CompareOf (EntryAt t 0) (word_of_thread (thread.Idle depth)) (word_of_thread (thread.Claimed core depth))
+claim_move (AtCompare t core depth) =
+    CompareOf (EntryAt t 0) (word_of_thread (thread.Idle depth)) (word_of_thread (thread.Claimed core depth))
 claim_move (AtStack t depth) = LoadOf (EntryAt t depth)
 
 -- a thread that runs, or that a core has claimed, is refused

@@ -13,7 +13,8 @@ ghost use Rattle.tcap_words.specs.Thread.{DepthFits, word_of_thread};
 ghost use Rattle.tcap_words.specs.declared.thread_word.ThreadWord.TheVariants as state;
 ghost use Rattle.word_map.specs.Places.{size_of};
 ghost use Rattle.word_map.specs.Moves.{op_of};
-ghost use Rattle.stage_thread.specs.Claiming.{ClaimPacks, ClaimFits, claim_move, thread_end, claim_compared, claimed_at, claimed_within, top_end, stack_end, claim_end, thread_after, compared_after, claim_after, EndFits};
+ghost use Rattle.stage_thread.specs.Claiming.{ClaimPacks, ClaimFits, claim_move, thread_end, claim_compared, claimed_at, claimed_within};
+ghost use Rattle.stage_thread.specs.Claiming.{top_end, stack_end, claim_end, thread_after, compared_after, claim_after, EndFits};
 
 use spk_nums::{CoreNo, EntryNo, FrameNo, Reply, StageEnd, WordOp};
 use tcap_words::{StackWord, ThreadWord};

@@ -1,5 +1,6 @@
 -- In every state that a run reaches, what a core has cached stands.
-use Rattle.std.proofs.Common.{◌≡◌, ◌≢◌, ◌⊎◌, inl, inr, ℕ, ◌<◌, ◌≤◌, ◌/◌, ◌%◌, arith, Bool, true, false, refl, sym, ◌∙◌, ap, subst, nat_lt, nat_le, if◌then◌else◌, IsTrue, List, [], ◌∷◌, ◌++◌, length, Option, Some, None}
+use Rattle.std.proofs.Common.{◌≡◌, ◌≢◌, ◌⊎◌, inl, inr, ℕ, ◌<◌, ◌≤◌, ◌/◌, ◌%◌, arith, Bool, true, false, refl, sym, ◌∙◌, ap}
+use Rattle.std.proofs.Common.{subst, nat_lt, nat_le, if◌then◌else◌, IsTrue, List, [], ◌∷◌, ◌++◌, length, Option, Some, None}
 use Rattle.std.proofs.lemmas.Bool.{cases_eq, false≢true, ltb-false}
 use Rattle.std.specs.List.{AllByRecursion}
 use Rattle.spk_nums.specs.Setting.{Setting, IsSetting}
@@ -11,14 +12,18 @@ use Rattle.spk_nums.specs.declared.kinds.FrameKind.TheVariants as frame_kind
 use Rattle.spk_nums.specs.declared.calls.Make.{Make}
 use Rattle.spk_nums.specs.declared.calls.Make.TheVariants as make
 use Rattle.spk_nums.specs.declared.calls.Call.{Call}
-use Rattle.spk_nums.specs.declared.calls.Call.TheVariants.{Look, Copy, Remove, Grow, Shrink, Retype, Make as make_call, Map, Unmap, Touch, Flush, Gate, Kill, Call as call_gate, Ret, Switch, Tick, Transfer, Delegate, Test}
+use Rattle.spk_nums.specs.declared.calls.Call.TheVariants.{Look, Copy, Remove, Grow, Shrink, Retype, Make as make_call}
+use Rattle.spk_nums.specs.declared.calls.Call.TheVariants.{Map, Unmap, Touch, Flush, Gate, Kill, Call as call_gate}
+use Rattle.spk_nums.specs.declared.calls.Call.TheVariants.{Ret, Switch, Tick, Transfer, Delegate, Test}
 use Rattle.spk_nums.specs.declared.translations.Translation.{Translation}
 use Rattle.spk_nums.specs.declared.replies.Value.{Value}
 use Rattle.spk_nums.specs.declared.replies.Reply.{Reply}
 use Rattle.spk_nums.specs.declared.replies.Reply.TheVariants as reply
-use Rattle.kernel_rules.specs.State.{Place, Free, Holds, Quiescing, Pages, Pleaf, Frame, User, Kernel, Core, Thing, PlaceOf, FrameOf, NumberOf, State, put, with_core, comp_of, thread_in}
+use Rattle.kernel_rules.specs.State.{Place, Free, Holds, Quiescing, Pages, Pleaf, Frame, User, Kernel, Core}
+use Rattle.kernel_rules.specs.State.{Thing, PlaceOf, FrameOf, NumberOf, State, put, with_core, comp_of, thread_in}
 use Rattle.kernel_rules.specs.References.{named_by, times, refs}
-use Rattle.kernel_rules.specs.Access.{Slot, Named, found, root_at, Under, place_at, held_in, usable_in, usable, linked, slot_in, reached, root_slot}
+use Rattle.kernel_rules.specs.Access.{Slot, Named, found, root_at, Under, place_at, held_in}
+use Rattle.kernel_rules.specs.Access.{usable_in, usable, linked, slot_in, reached, root_slot}
 use Rattle.kernel_rules.specs.GracePeriods.{is_paging, is_translated, needs_flush, entered, returned}
 use Rattle.kernel_rules.specs.Rules.{Change, Judged, Refused, Found, IsFoundAnd, and_then, or_refuse, unless, mapped}
 use Rattle.kernel_rules.specs.CapabilityCalls.{make_rule}
@@ -66,7 +71,8 @@ mapping_held t (Holds k) h = (k, refl)
 mapping_held t (Quiescing k) h = absurd h
 
 -- A translation that stands for core d stands after a decision, but for d's own flush.
-module _ (s : State) (o : ℕ → Bool) (c : ℕ) (call : Call) (r : Reply) (h : IsOpen s o c) (lim : InLimits call) (may : MayReply s c call r) where
+module _ (s : State) (o : ℕ → Bool) (c : ℕ) (call : Call) (r : Reply)
+    (h : IsOpen s o c) (lim : InLimits call) (may : MayReply s c call r) where
   or_was : (P : Place → Type 0) (d f i : ℕ) → ((p : Place) → P p → (k : Capability) × (p ≡ Holds k)) → IsTrue (is_paging (s.frame f))
       → (flushes call r ≡ true → d ≢ c)
       → IsOrWas s d P f i → IsOrWas (state_by s c call r) d P f i
@@ -93,8 +99,10 @@ module _ (s : State) (o : ℕ → Bool) (c : ℕ) (call : Call) (r : Reply) (h :
         leaf_there = there_stays s o c call r h lim may d a.leaf below leaf other a.leaf_there;
         user = frame_stays s o c call r h lim may d t.frame below user a.frame_there ∙ a.user;
         frame_there = there_stays s o c call r h lim may d t.frame below user other a.frame_there;
-        entry = or_was (IsLinkTo a.leaf) d t.pages (t.page / 64) (link_held a.leaf) (subst (λ x. IsTrue (is_paging x)) (sym a.root) refl) other a.entry;
-        mapping = or_was (IsMappingOf t) d a.leaf (t.page % 64) (mapping_held t) (subst (λ x. IsTrue (is_paging x)) (sym a.through) refl) other a.mapping;
+        entry = or_was (IsLinkTo a.leaf) d t.pages (t.page / 64) (link_held a.leaf)
+            (subst (λ x. IsTrue (is_paging x)) (sym a.root) refl) other a.entry;
+        mapping = or_was (IsMappingOf t) d a.leaf (t.page % 64) (mapping_held t)
+            (subst (λ x. IsTrue (is_paging x)) (sym a.through) refl) other a.mapping;
       }
 
 -- Each core's translations stand.
@@ -104,7 +112,8 @@ AllStand s core = (d : ℕ) → d < s.limits.cores → AllByRecursion (Stands s 
 core_stand : (s : State) (core : ℕ → Core) (c : ℕ) (k : Core) → AllByRecursion (Stands s c) k.cached → AllStand s core
     → AllStand s (put core c k)
 core_stand s core c k own h d below =
-    put_all (λ d x. AllByRecursion (Stands s d) x.cached) core c k d (λ same. subst (λ n. AllByRecursion (Stands s n) k.cached) (sym same) own) (λ other. h d below)
+    put_all (λ d x. AllByRecursion (Stands s d) x.cached) core c k d
+    (λ same. subst (λ n. AllByRecursion (Stands s n) k.cached) (sym same) own) (λ other. h d below)
 
 -- What a change makes of the lists of translations.
 record Caches (s : State) (c : ℕ) (call : Call) (change : Change) : Type 0 where
@@ -150,19 +159,24 @@ module _ (s : State) (o : ℕ → Bool) (c : ℕ) (h : IsOpen s o c) (w : IsFitt
   touched v k e =
       let pages : ℕ = (comp_of s c).pages in
       let a = then_parts (unless (if nat_lt 4095 v then Some reply.NoSlot else None) v)
-      (λ v. and_then (or_refuse (reached s c (Under (root_at pages) v)) reply.Fault) λ at. or_refuse (held_in (place_at s at)) reply.Fault) k e in
-      let b = then_parts (or_refuse (reached s c (Under (root_at pages) a.0)) reply.Fault) (λ at. or_refuse (held_in (place_at s at)) reply.Fault) k a.2 in
+      (λ v. and_then (or_refuse (reached s c (Under (root_at pages) v)) reply.Fault)
+      λ at. or_refuse (held_in (place_at s at)) reply.Fault) k e in
+      let b = then_parts (or_refuse (reached s c (Under (root_at pages) a.0)) reply.Fault)
+      (λ at. or_refuse (held_in (place_at s at)) reply.Fault) k a.2 in
       let small : v ≤ 4095 = by_test (nat_lt 4095 v) refl a.1 in
       let v_is : v ≡ a.0 = page_is (nat_lt 4095 v) a.1 in
-      let r0 : reached s c (Under (root_at pages) a.0) ≡ Some b.0 = or_found (reached s c (Under (root_at pages) a.0)) reply.Fault b.0 b.1 in
+      let r0 : reached s c (Under (root_at pages) a.0) ≡ Some b.0 =
+      or_found (reached s c (Under (root_at pages) a.0)) reply.Fault b.0 b.1 in
       let r : reached s c (Under (root_at pages) v) ≡ Some b.0 = ap (λ n. reached s c (Under (root_at pages) n)) v_is ∙ r0 in
       let l = link_of (usable s c (root_slot pages v)) (nat_le v 4095) (v % 64) b.0 r in
       let index : v % 64 ≡ b.0.index = index_of (linked (usable s c (root_slot pages v))) (nat_le v 4095) (v % 64) b.0 r in
       let fit : IsTrue (fits kind.Pages (s.frame pages)) = (fields s o c h.sound h.is).1 in
       let root : s.frame pages ≡ Kernel Pages = pages_root (s.frame pages) fit in
       let leaf : s.frame b.0.node ≡ Kernel Pleaf =
-      pages_leaf s o c h w (s.frame pages) fit (s.frame b.0.node) (leaf_fits s o c h w (root_at pages) v b.0 ((fit_node s o c h w kind.Pages (s.frame pages) fit).1 refl) r) in
-      let held : s.place b.0.node b.0.index ≡ Holds k = held_is s o c h w (place_at s b.0) k (or_found (held_in (place_at s b.0)) reply.Fault k b.2) in
+      pages_leaf s o c h w (s.frame pages) fit (s.frame b.0.node)
+      (leaf_fits s o c h w (root_at pages) v b.0 ((fit_node s o c h w kind.Pages (s.frame pages) fit).1 refl) r) in
+      let held : s.place b.0.node b.0.index ≡ Holds k =
+      held_is s o c h w (place_at s b.0) k (or_found (held_in (place_at s b.0)) reply.Fault k b.2) in
       let page : k.kind ≡ kind.Page = mapped_page s o c h w v k e in
       let link : l.0.kind ≡ kind.Link = only_is kind.Link l.0.kind l.2 in
       let user : s.frame k.frame ≡ User = user_of k page (h.sound.held b.0.node b.0.index k held) in
@@ -173,14 +187,20 @@ module _ (s : State) (o : ℕ → Bool) (c : ℕ) (h : IsOpen s o c) (w : IsFitt
         root_there = guarded_there pages (subst (λ x. IsTrue (is_translated x)) (sym root) refl) (pages_relies s o c h.sound h.is).guarded;
         through = leaf;
         leaf_there = guarded_there b.0.node (subst (λ x. IsTrue (is_translated x)) (sym leaf) refl)
-            (subst (IsGuarded s c) l.3 (usable_guarded s o c h.sound h.is (root_slot pages v) l.0 (ap (λ j. named_by j l.0.frame) link) l.1));
+            (subst (IsGuarded s c) l.3
+            (usable_guarded s o c h.sound h.is (root_slot pages v) l.0 (ap (λ j. named_by j l.0.frame) link) l.1));
         user = user;
         frame_there = inl (place_named s o b.0.node b.0.index k.frame k h.sound held
             (subst (λ xs. 1 ≤ times k.frame xs) (sym (ap (λ j. named_by j k.frame) page)) (times_first k.frame [])));
         entry = entry_of pages (v / 64) l.0 b.0.node (subst (λ x. IsTrue (is_paging x)) (sym root) refl) l.1 link l.3;
         mapping =
-            inl (subst (λ i. IsMappingOf (record { pages = pages; page = v; frame = k.frame; flags = record { 0 = k.arg } }) (s.place b.0.node i)) (sym index)
-            (subst (IsMappingOf (record { pages = pages; page = v; frame = k.frame; flags = record { 0 = k.arg } })) (sym held) (page, refl, refl)));
+            inl (subst (λ i. IsMappingOf (record { pages = pages; page = v; frame = k.frame; flags = record { 0 = k.arg } })
+            (s.place b.0.node i)) (sym index)
+            (subst (IsMappingOf (record { pages = pages; page = v; frame = k.frame; flags = record { 0 = k.arg } })) (sym held) (
+              page,
+              refl,
+              refl,
+            )));
       }
     where
       by_test : (t : Bool) → nat_lt 4095 v ≡ t → {n : ℕ} → unless (if t then Some reply.NoSlot else None) v ≡ Found n → v ≤ 4095
@@ -209,7 +229,8 @@ module _ (s : State) (o : ℕ → Bool) (c : ℕ) (h : IsOpen s o c) (w : IsFitt
     kept : (call : Call) (change : Change) (k : Core) → flushes_by call ≡ false → k.cached ≡ (s.core c).cached
         → change.next.core ≡ put s.core c k → Caches s c call change
     kept call change k none same core = record {
-      stand = subst (AllStand s) (sym core) (core_stand s s.core c k (subst (AllByRecursion (Stands s c)) (sym same) (own_stays c refl)) all);
+      stand = subst (AllStand s) (sym core)
+          (core_stand s s.core c k (subst (AllByRecursion (Stands s c)) (sym same) (own_stays c refl)) all);
       flushed = λ is. absurd (false≢true (sym none ∙ is));
     }
 
@@ -302,7 +323,8 @@ decided_lists : (s : State) (o : ℕ → Bool) (c : ℕ) (call : Call) (r : Repl
     → Lists s (state_by s c call r) c (flushes call r)
 decided_lists s o c call (reply.Ok v) h may w u all =
     same_lists s (changed s (change_of s c call)) c (flushes_by call) _ (h.sound.inside c h.is).1 refl
-    (found_lists s c call v (change_of s c call) (outcome_from (Caches s c call) s c (rule_of s c call) (rule_caches s o c h w u all call)) may.1)
+    (found_lists s c call v (change_of s c call)
+    (outcome_from (Caches s c call) s c (rule_of s c call) (rule_caches s o c h w u all call)) may.1)
 decided_lists s o c call reply.CallsSpent h may w u all = none_flushed s c all
 decided_lists s o c call reply.Raced h may w u all =
     same_lists s (owed_by s c call) c false _ (h.sound.inside c h.is).1 refl (owed_lists s c call (h.sound.inside c h.is).1 all)
@@ -334,7 +356,8 @@ decided_stand s o c call r h lim may w u all d below =
     by_flush false is same = moves (λ flush. absurd (false≢true (sym is ∙ flush)))
     by_flush true is (inr other) = moves (λ flush. other)
     by_flush true is (inl same) =
-        subst (AllByRecursion (Stands (state_by s c call r) d)) (sym (ap (λ n. ((state_by s c call r).core n).cached) same ∙ lists.flushed is)) tt
+        subst (AllByRecursion (Stands (state_by s c call r) d))
+        (sym (ap (λ n. ((state_by s c call r).core n).cached) same ∙ lists.flushed is)) tt
 
 -- Entries and returns.
 
@@ -378,7 +401,8 @@ entered_stand s c all = moved_stand s (entered s c) c (record (s.core c) { insid
 returned_stand : (s : State) (c : ℕ) → AllStand s s.core → AllStand (returned s c) (returned s c).core
 returned_stand s c all = moved_stand s (returned s c) c (record (s.core c) { inside = false }) refl refl refl
     (λ d t. same_stands s (returned s c) d t (λ f. refl) (λ f i. refl)
-    (λ f. grace_refs (with_core s c (record (s.core c) { inside = false })) (returned s c).grace f ∙ core_same_refs s c (record (s.core c) { inside = false }) refl refl f) (λ x. refl)) all
+    (λ f. grace_refs (with_core s c (record (s.core c) { inside = false })) (returned s c).grace f
+    ∙ core_same_refs s c (record (s.core c) { inside = false }) refl refl f) (λ x. refl)) all
 
 enter_waited : (setting : Setting) (events : List Event) (c : ℕ) (call : Call) → IsRun setting (Enters c call ∷ events)
     → IsWaited (after setting events) (opened events)
@@ -405,7 +429,8 @@ return_waited setting events c old = record {
     | inr other ↦ old.unflushed x d (sym (ap is_open (phase_other (Returns c) events d other)) ∙ q)
         (sym (put_other ((after setting events).grace x).waits c false d other) ∙ wait) (need_of x need)
   ];
-  bare = λ f d none. put_all (λ d b. b ≡ false) ((after setting events).grace (FrameOf f)).waits c false d (λ same. refl) (λ other. old.bare f d none);
+  bare = λ f d none. put_all (λ d b. b ≡ false) ((after setting events).grace (FrameOf f)).waits
+      c false d (λ same. refl) (λ other. old.bare f d none);
 }
   where
     need_of : (x : Thing) → IsTrue (needs_flush (after setting (Returns c ∷ events)) x) → IsTrue (needs_flush (after setting events) x)
@@ -437,7 +462,8 @@ runs_stand setting lim (Enters c call ∷ events) run = entered_stand (after set
 runs_stand setting lim (Returns c ∷ events) run = returned_stand (after setting events) c (runs_stand setting lim events run.0)
 runs_stand setting lim (Decides c call r ∷ events) run =
     decided_stand (after setting events) (opened events) c call r (open_is setting lim events c run.0 (ap is_open run.1.is_open))
-    (open_limits setting events c call run.0 run.1.is_open) run.1.permitted (runs_fit setting lim events run.0) (runs_waited setting lim events run.0)
+    (open_limits setting events c call run.0 run.1.is_open) run.1.permitted
+    (runs_fit setting lim events run.0) (runs_waited setting lim events run.0)
     (runs_stand setting lim events run.0)
 
 pub translations_stand : TranslationsStand

@@ -1,6 +1,7 @@
 -- What decisions make of who has to flush: whoever waits for a thing that translations reach, has not flushed it; and what is
 -- referenced, or not yet flushed by a core, stays so until that core flushes.
-use Rattle.std.proofs.Common.{◌≡◌, ◌≢◌, ◌⊎◌, inl, inr, ℕ, zero, suc, ◌<◌, arith, Bool, true, false, not, refl, sym, ◌∙◌, ap, subst, cond, nat_lt, IsTrue, [], ◌∷◌, Option, Some, None}
+use Rattle.std.proofs.Common.{◌≡◌, ◌≢◌, ◌⊎◌, inl, inr, ℕ, zero, suc, ◌<◌, arith, Bool, true, false, not}
+use Rattle.std.proofs.Common.{refl, sym, ◌∙◌, ap, subst, cond, nat_lt, IsTrue, [], ◌∷◌, Option, Some, None}
 use Rattle.std.proofs.lemmas.Bool.{false≢true, eqb-true}
 use Rattle.spk_nums.specs.Capability.{Capability}
 use Rattle.spk_nums.specs.CallLimits.{InLimits}
@@ -16,10 +17,12 @@ use Rattle.kernel_rules.specs.Start.{no_grace}
 use Rattle.kernel_rules.specs.References.{refs}
 use Rattle.kernel_rules.specs.Access.{found}
 use Rattle.kernel_rules.specs.GracePeriods.{new_grace, begun, lowest, unflushed_by, needs_flush, is_paging, is_translated}
-use Rattle.kernel_rules.specs.Rules.{Change, Cause, When, WaitedFor, Unflushed, Judged, Refused, Found, IsFoundAnd, refusal_of, first_cause, waits_of, flushes_of}
+use Rattle.kernel_rules.specs.Rules.{Change, Cause, When, WaitedFor, Unflushed, Judged, Refused}
+use Rattle.kernel_rules.specs.Rules.{Found, IsFoundAnd, refusal_of, first_cause, waits_of, flushes_of}
 use Rattle.kernel_rules.specs.CapabilityCalls.{outside}
 use Rattle.kernel_rules.specs.MemoryCalls.{is_untyped_now, is_empty, not_retyped}
-use Rattle.kernel_rules.specs.CallRelation.{rule_of, change_of, changed, counted, owed_by, state_by, MayReply, begins, begins_in, ends, ends_by, flushes}
+use Rattle.kernel_rules.specs.CallRelation.{rule_of, change_of, changed, counted, owed_by, state_by}
+use Rattle.kernel_rules.specs.CallRelation.{MayReply, begins, begins_in, ends, ends_by, flushes}
 use Rattle.kernel_rules.specs.Relies.{is_node}
 use Rattle.kernel_rules.proofs.Changes.{IfFound}
 use Rattle.kernel_rules.proofs.Within.{put_same, put_other}
@@ -64,7 +67,8 @@ retype_flushed s d r f = λ range e calm.
     let held : Cause = When (not (is_empty s f (s.frame f))) reply.NotEmpty in
     let referenced : Cause = When (nat_lt 0 (refs s f)) (reply.Referenced (refs s f)) in
     let p = none_parts (refusal_of s d (outside (found range) f)) (first_cause s d (not_retyped s f frame_kind.Untyped)) calm in
-    let p1 = none_parts (refusal_of s d (is_untyped_now s f)) (first_cause s d (referenced ∷ WaitedFor (FrameOf f) ∷ Unflushed (FrameOf f) ∷ held ∷ [])) p.1 in
+    let p1 = none_parts (refusal_of s d (is_untyped_now s f))
+    (first_cause s d (referenced ∷ WaitedFor (FrameOf f) ∷ Unflushed (FrameOf f) ∷ held ∷ [])) p.1 in
     let p2 = none_parts (refusal_of s d referenced) (first_cause s d (WaitedFor (FrameOf f) ∷ Unflushed (FrameOf f) ∷ held ∷ [])) p1.1 in
     let p3 = none_parts (waits_of s d (FrameOf f)) (first_cause s d (Unflushed (FrameOf f) ∷ held ∷ [])) p2.1 in
     let p4 = none_parts (flushes_of s (FrameOf f)) (first_cause s d (held ∷ [])) p3.1 in
@@ -79,7 +83,8 @@ frame_ends s d call (reply.Ok v) f may is = by_call call may is
         let same : f ≡ g = eqb-true f g is in
         subst (λ (n : ℕ). AreFlushed s (FrameOf n)) (sym same)
         (found_fact (change_of s d (Retype r g frame_kind.Untyped)) (λ k. k.value ≡ v)
-        (outcome_from (λ change. AreFlushed s (FrameOf g)) s d (rule_of s d (Retype r g frame_kind.Untyped)) (retype_flushed s d r g)) may.1)
+        (outcome_from (λ change. AreFlushed s (FrameOf g)) s d
+        (rule_of s d (Retype r g frame_kind.Untyped)) (retype_flushed s d r g)) may.1)
     by_call (make_call make.Table r g t b) may is = absurd (false≢true is)
     by_call (make_call make.Leaf r g t b) may is = absurd (false≢true is)
     by_call (make_call make.Pages r g t b) may is = absurd (false≢true is)
@@ -112,7 +117,8 @@ owed_refs : (s : State) (c : ℕ) (call : Call) (f : ℕ) → refs (owed_by s c 
 owed_refs s c (Tick n) f = core_same_refs s c _ refl refl f
 owed_refs s c _ f = refl
 
-pub decided_refs : (s : State) (o : ℕ → Bool) (c : ℕ) (call : Call) (r : Reply) → IsOpen s o c → InLimits call → MayReply s c call r → (f : ℕ)
+pub decided_refs : (s : State) (o : ℕ → Bool) (c : ℕ) (call : Call) (r : Reply)
+    → IsOpen s o c → InLimits call → MayReply s c call r → (f : ℕ)
     → 0 < refs s f
     → (0 < refs (state_by s c call r) f) ⊎ (begins s c call r (FrameOf f) ≡ true)
 decided_refs s o c call (reply.Ok v) h lim may f some =
@@ -125,7 +131,8 @@ decided_refs s o c call (reply.Busy e) h lim may f some =
 decided_refs s o c call _ h lim may f some = let a = counted_refs s c f in inl (omega (arith, some, a))
 
 -- The unflushed after a decision.
-module _ (s : State) (o : ℕ → Bool) (c : ℕ) (call : Call) (r : Reply) (h : IsOpen s o c) (lim : InLimits call) (may : MayReply s c call r) where
+module _ (s : State) (o : ℕ → Bool) (c : ℕ) (call : Call) (r : Reply)
+    (h : IsOpen s o c) (lim : InLimits call) (may : MayReply s c call r) where
   cases : (b : Bool) → (b ≡ true) ⊎ (b ≡ false)
   cases true = inl refl
   cases false = inr refl
@@ -137,7 +144,8 @@ module _ (s : State) (o : ℕ → Bool) (c : ℕ) (call : Call) (r : Reply) (h :
   begun_unflushed : (x : Thing) (d : ℕ) → begins s c call r x ≡ true → IsTrue (needs_flush s x) → IsUnflushedBy (state_by s c call r) d x
   begun_unflushed x d is need =
       ap (λ (g : Grace). g.unflushed d) (grace_at x)
-      ∙ ap (λ b. (cond b (new_grace s x) (cond (ends call r x) no_grace (cond (flushes call r) (flushed_by c (s.grace x)) (s.grace x)))).unflushed d) is ∙ need
+      ∙ ap (λ b. (cond b (new_grace s x)
+      (cond (ends call r x) no_grace (cond (flushes call r) (flushed_by c (s.grace x)) (s.grace x)))).unflushed d) is ∙ need
 
   -- What core d has not flushed, it has not flushed after another core's decision that does not end the grace period.
   kept_unflushed : (x : Thing) (d : ℕ) → begins s c call r x ≡ false → ends call r x ≡ false → (flushes call r ≡ true → d ≢ c)
@@ -145,7 +153,8 @@ module _ (s : State) (o : ℕ → Bool) (c : ℕ) (call : Call) (r : Reply) (h :
       → IsUnflushedBy (state_by s c call r) d x
   kept_unflushed x d not not_end other un =
       ap (λ (g : Grace). g.unflushed d) (grace_at x)
-      ∙ ap (λ b. (cond b (new_grace s x) (cond (ends call r x) no_grace (cond (flushes call r) (flushed_by c (s.grace x)) (s.grace x)))).unflushed d) not
+      ∙ ap (λ b. (cond b (new_grace s x)
+      (cond (ends call r x) no_grace (cond (flushes call r) (flushed_by c (s.grace x)) (s.grace x)))).unflushed d) not
       ∙ ap (λ b. (cond b no_grace (cond (flushes call r) (flushed_by c (s.grace x)) (s.grace x))).unflushed d) not_end
       ∙ by_flush (flushes call r) refl
     where
@@ -215,7 +224,8 @@ pub record IsWaited (s : State) (o : ℕ → Bool) : Type 0 where
   pub unflushed : (x : Thing) (d : ℕ) → o d ≡ true → IsTrue ((s.grace x).waits d) → IsTrue (needs_flush s x) → IsUnflushedBy s d x
   pub bare : (f d : ℕ) → is_typed (s.frame f) ≡ false → (s.grace (FrameOf f)).waits d ≡ false
 
-module _ (s : State) (o : ℕ → Bool) (c : ℕ) (call : Call) (r : Reply) (h : IsOpen s o c) (lim : InLimits call) (may : MayReply s c call r) (w : IsWaited s o) where
+module _ (s : State) (o : ℕ → Bool) (c : ℕ) (call : Call) (r : Reply) (h : IsOpen s o c)
+    (lim : InLimits call) (may : MayReply s c call r) (w : IsWaited s o) where
   two : (b : Bool) → (b ≡ true) ⊎ (b ≡ false)
   two true = inl refl
   two false = inr refl
@@ -251,7 +261,8 @@ module _ (s : State) (o : ℕ → Bool) (c : ℕ) (call : Call) (r : Reply) (h :
 
   no_wait : (x : Thing) (d : ℕ) → begins s c call r x ≡ false → ends call r x ≡ true → (grace_by s c call r x).waits d ≡ false
   no_wait x d not is =
-      ap (λ b. (cond b (new_grace s x) (cond (ends call r x) no_grace (cond (flushes call r) (flushed_by c (s.grace x)) (s.grace x)))).waits d) not
+      ap (λ b. (cond b (new_grace s x) (cond (ends call r x) no_grace (cond (flushes call r) (flushed_by c (s.grace x)) (s.grace x)))).waits
+      d) not
       ∙ ap (λ b. (cond b no_grace (cond (flushes call r) (flushed_by c (s.grace x)) (s.grace x))).waits d) is
 
   kept_waits : (x : Thing) (d : ℕ) → o d ≡ true → d ≢ c → begins s c call r x ≡ false → IsTrue ((grace_by s c call r x).waits d)
@@ -299,7 +310,8 @@ module _ (s : State) (o : ℕ → Bool) (c : ℕ) (call : Call) (r : Reply) (h :
           → (is_typed (s.frame f) ≡ true) ⊎ (is_typed (s.frame f) ≡ false) → ((state_by s c call r).grace (FrameOf f)).waits d ≡ false
       bare_waits f d none not (inr old) =
           nobody (((state_by s c call r).grace (FrameOf f)).waits d) (λ wait.
-          false≢true (sym (w.bare f d old) ∙ waited s c call r (FrameOf f) d not (subst (λ (g : Grace). IsTrue (g.waits d)) (grace_is s c call r may (FrameOf f)) wait)))
+          false≢true (sym (w.bare f d old)
+          ∙ waited s c call r (FrameOf f) d not (subst (λ (g : Grace). IsTrue (g.waits d)) (grace_is s c call r may (FrameOf f)) wait)))
       bare_waits f d none not (inl typed) = elim ((turns f).typed typed) [
         | inl ends ↦ ap (λ (g : Grace). g.waits d) (grace_is s c call r may (FrameOf f)) ∙ no_wait (FrameOf f) d not ends
         | inr is ↦ absurd (false≢true (sym none ∙ is.0))

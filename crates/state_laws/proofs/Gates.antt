@@ -1,5 +1,6 @@
 -- A gate's epoch is that in which its component was made.
-use Rattle.std.proofs.Common.{◌≡◌, ◌≢◌, ◌⊎◌, inl, inr, ℕ, ◌+◌, ◌≤◌, arith, Bool, true, false, not, refl, sym, ◌∙◌, ap, subst, cond, ◌==◌, nat_lt, if◌then◌else◌, IsTrue, List, [], ◌∷◌, Option, Some, None, is_some}
+use Rattle.std.proofs.Common.{◌≡◌, ◌≢◌, ◌⊎◌, inl, inr, ℕ, ◌+◌, ◌≤◌, arith, Bool, true, false, not, refl, sym, ◌∙◌, ap}
+use Rattle.std.proofs.Common.{subst, cond, ◌==◌, nat_lt, if◌then◌else◌, IsTrue, List, [], ◌∷◌, Option, Some, None, is_some}
 use Rattle.std.proofs.lemmas.Bool.{cases_eq, false≢true}
 use Rattle.spk_nums.specs.Setting.{Setting, IsSetting}
 use Rattle.spk_nums.specs.Capability.{Capability}
@@ -10,12 +11,15 @@ use Rattle.spk_nums.specs.declared.kinds.FrameKind.TheVariants as frame_kind
 use Rattle.spk_nums.specs.declared.calls.Make.{Make}
 use Rattle.spk_nums.specs.declared.calls.Make.TheVariants as make
 use Rattle.spk_nums.specs.declared.calls.Call.{Call}
-use Rattle.spk_nums.specs.declared.calls.Call.TheVariants.{Look, Copy, Remove, Grow, Shrink, Retype, Make as make_call, Map, Unmap, Touch, Flush, Gate, Kill, Call as call_gate, Ret, Switch, Tick, Transfer, Delegate, Test}
+use Rattle.spk_nums.specs.declared.calls.Call.TheVariants.{Look, Copy, Remove, Grow, Shrink, Retype, Make as make_call}
+use Rattle.spk_nums.specs.declared.calls.Call.TheVariants.{Map, Unmap, Touch, Flush, Gate, Kill, Call as call_gate}
+use Rattle.spk_nums.specs.declared.calls.Call.TheVariants.{Ret, Switch, Tick, Transfer, Delegate, Test}
 use Rattle.spk_nums.specs.declared.translations.Translation.{Translation}
 use Rattle.spk_nums.specs.declared.replies.Value.{Value}
 use Rattle.spk_nums.specs.declared.replies.Reply.{Reply}
 use Rattle.spk_nums.specs.declared.replies.Reply.TheVariants as reply
-use Rattle.kernel_rules.specs.State.{Place, Free, Holds, Quiescing, Object, Thing, PlaceOf, FrameOf, State, Grace, put, comp_in, comp_of, thread_in}
+use Rattle.kernel_rules.specs.State.{Place, Free, Holds, Quiescing, Object, Thing, PlaceOf}
+use Rattle.kernel_rules.specs.State.{FrameOf, State, Grace, put, comp_in, comp_of, thread_in}
 use Rattle.kernel_rules.specs.Start.{start, no_grace, plain_cap, start_cap, place_with}
 use Rattle.kernel_rules.specs.References.{named_by, times}
 use Rattle.kernel_rules.specs.Access.{Slot, Named, found, place_at, held_in, usable_in, usable, only}
@@ -78,7 +82,8 @@ stays s change place = record { gate = λ f i k e. inl (sym (place f i) ∙ e) }
 
 filled : (s t : State) (change : Change) (at : Slot) (k : Capability)
     → ((f i : ℕ) (j : Capability) → t.place f i ≡ Holds j → s.place f i ≡ Holds j)
-    → ((f i : ℕ) → change.next.place f i ≡ put t.place at.node (put (t.place at.node) at.index (Holds k)) f i) → IsOfEpoch change.next k → NewGates s change
+    → ((f i : ℕ) → change.next.place f i ≡ put t.place at.node (put (t.place at.node) at.index (Holds k)) f i)
+    → IsOfEpoch change.next k → NewGates s change
 filled s t change at k old next epoch = record {
   gate = λ f i j e. place_all (λ f i p. p ≡ Holds j → (s.place f i ≡ Holds j) ⊎ IsOfEpoch change.next j) t at.node at.index (Holds k) f i
       (λ same index q. inr (subst (IsOfEpoch change.next) (holds_inj k j q) epoch)) (λ q. inl (old f i j q)) (sym (next f i) ∙ e);
@@ -87,13 +92,15 @@ filled s t change at k old next epoch = record {
 -- A place is filled with what is no gate.
 other : (s t : State) (change : Change) (at : Slot) (k : Capability)
     → ((f i : ℕ) (j : Capability) → t.place f i ≡ Holds j → s.place f i ≡ Holds j)
-    → ((f i : ℕ) → change.next.place f i ≡ put t.place at.node (put (t.place at.node) at.index (Holds k)) f i) → only kind.Gate k.kind ≡ false → NewGates s change
+    → ((f i : ℕ) → change.next.place f i ≡ put t.place at.node (put (t.place at.node) at.index (Holds k)) f i)
+    → only kind.Gate k.kind ≡ false → NewGates s change
 other s t change at k old next none = filled s t change at k old next (no_gate change.next k none)
 
 removed : (s : State) (at : Slot) (k : Capability) → NewGates s (removes s at k)
 removed s at k = record {
   gate =
-      λ f i j. place_all (λ f i p. p ≡ Holds j → (s.place f i ≡ Holds j) ⊎ IsOfEpoch (removes s at k).next j) s at.node at.index (Quiescing k) f i
+      λ f i j. place_all (λ f i p. p ≡ Holds j
+      → (s.place f i ≡ Holds j) ⊎ IsOfEpoch (removes s at k).next j) s at.node at.index (Quiescing k) f i
       (λ same index q. absurd (quiescing_holds k j q)) (λ q. inl q);
 }
 
@@ -190,7 +197,9 @@ decided_new s o c call _ h may w = λ f i k e. inl e
 pub waited : (s : State) (c : ℕ) (call : Call) (r : Reply) (x : Thing) (d : ℕ) → begins s c call r x ≡ false
     → IsTrue ((grace_by s c call r x).waits d) → IsTrue ((s.grace x).waits d)
 waited s c call r x d not w =
-    by_end (ends call r x) (subst (λ b. IsTrue ((cond b (new_grace s x) (cond (ends call r x) no_grace (cond (flushes call r) (flushed_by c (s.grace x)) (s.grace x)))).waits d)) not w)
+    by_end (ends call r x)
+    (subst (λ b. IsTrue ((cond b (new_grace s x)
+    (cond (ends call r x) no_grace (cond (flushes call r) (flushed_by c (s.grace x)) (s.grace x)))).waits d)) not w)
   where
     by_flush : (b : Bool) → IsTrue ((cond b (flushed_by c (s.grace x)) (s.grace x)).waits d) → IsTrue ((s.grace x).waits d)
     by_flush true w = w
@@ -201,7 +210,8 @@ waited s c call r x d not w =
     by_end true w = absurd (false≢true w)
     by_end false w = by_flush (flushes call r) w
 
-module _ (s : State) (o : ℕ → Bool) (c : ℕ) (call : Call) (r : Reply) (h : IsOpen s o c) (may : MayReply s c call r) (w : AreGates s o) where
+module _ (s : State) (o : ℕ → Bool) (c : ℕ) (call : Call) (r : Reply)
+    (h : IsOpen s o c) (may : MayReply s c call r) (w : AreGates s o) where
   kept : Kept s c call r
   kept = decided_kept s o c call r h may
 
@@ -218,7 +228,8 @@ module _ (s : State) (o : ℕ → Bool) (c : ℕ) (call : Call) (r : Reply) (h :
     | inl same ↦ w.held f i k at is ∙ ap (λ x. (comp_in x).epoch) (sym same)
     | inr ends ↦
         let zero = (ends_by_rule s o c h call r (FrameOf k.frame) may ends).0 in
-        let some = place_named s o f i k.frame k h.sound at (subst (λ l. 1 ≤ times k.frame l) (sym (gate_named k is)) (times_first k.frame [])) in
+        let some = place_named s o f i k.frame k h.sound at
+        (subst (λ l. 1 ≤ times k.frame l) (sym (gate_named k is)) (times_first k.frame [])) in
         absurd (omega (arith, zero, some))
   ]
 
@@ -288,9 +299,11 @@ start_gates setting = record {
   held = λ f i k.
       choose (λ p. p ≡ Holds k → IsOfEpoch (start setting) k) (f == 0) _ _
       (λ is. choose (λ p. p ≡ Holds k → IsOfEpoch (start setting) k) (i == 0) _ _
-      (λ first at. no_gate (start setting) k (ap (λ (n : Capability). only kind.Gate n.kind) (sym (holds_inj (plain_cap kind.Link 1) k at)))) (λ none at. absurd (free_holds k at)))
+      (λ first at. no_gate (start setting) k (ap (λ (n : Capability). only kind.Gate n.kind)
+      (sym (holds_inj (plain_cap kind.Link 1) k at)))) (λ none at. absurd (free_holds k at)))
       (λ other. choose (λ p. p ≡ Holds k → IsOfEpoch (start setting) k) (f == 1) _ _
-      (λ is at. no_gate (start setting) k (place_none (start_cap setting i) k (start_none setting i) at)) (λ none at. absurd (free_holds k at)));
+      (λ is at. no_gate (start setting) k (place_none (start_cap setting i) k (start_none setting i) at))
+      (λ none at. absurd (free_holds k at)));
   waiting = λ f i k c p q. absurd (false≢true q);
 }
 
@@ -331,7 +344,8 @@ runs_gates setting lim (Decides c call r ∷ events) run =
       | inl same ↦ absurd (false≢true (sym (ap is_open (phase_own (Decides c call r) events d same)) ∙ q))
       | inr other ↦ put_other (opened events) c false d other ∙ sym (ap is_open (phase_other (Decides c call r) events d other)) ∙ q
     ])
-    (decided_gates (after setting events) (opened events) c call r (open_is setting lim events c run.0 (ap is_open run.1.is_open)) run.1.permitted
+    (decided_gates (after setting events) (opened events) c call r
+    (open_is setting lim events c run.0 (ap is_open run.1.is_open)) run.1.permitted
     (runs_gates setting lim events run.0))
 
 pub gates_fit : GatesFit

@@ -1,6 +1,7 @@
 -- What a call that is carried out makes of frames and places: a user frame, a node or a component stays but for the end of its
 -- frame's grace period, and what a place holds stays but for the start or the end of the place's.
-use Rattle.std.proofs.Common.{◌≡◌, ◌⊎◌, inl, inr, ℕ, ◌+◌, ◌-◌, Bool, true, false, ◌&&◌, ◌||◌, refl, sym, ◌∙◌, ap, subst, ◌==◌, if◌then◌else◌, IsTrue, [], ◌∷◌, take, Option, Some, None, is_some}
+use Rattle.std.proofs.Common.{◌≡◌, ◌⊎◌, inl, inr, ℕ, ◌+◌, ◌-◌, Bool, true, false, ◌&&◌, ◌||◌, refl, sym, ◌∙◌, ap}
+use Rattle.std.proofs.Common.{subst, ◌==◌, if◌then◌else◌, IsTrue, [], ◌∷◌, take, Option, Some, None, is_some}
 use Rattle.std.proofs.lemmas.Bool.{false≢true, eq-eqb, eqb-true, or_left}
 use Rattle.std.specs.List.{list_any}
 use Rattle.spk_nums.specs.Capability.{Capability}
@@ -11,12 +12,16 @@ use Rattle.spk_nums.specs.declared.kinds.FrameKind.TheVariants as frame_kind
 use Rattle.spk_nums.specs.declared.calls.Make.{Make}
 use Rattle.spk_nums.specs.declared.calls.Make.TheVariants as make
 use Rattle.spk_nums.specs.declared.calls.Call.{Call}
-use Rattle.spk_nums.specs.declared.calls.Call.TheVariants.{Look, Copy, Remove, Grow, Shrink, Retype, Make as make_call, Map, Unmap, Touch, Flush, Gate, Kill, Call as call_gate, Ret, Switch, Tick, Transfer, Delegate, Test}
+use Rattle.spk_nums.specs.declared.calls.Call.TheVariants.{Look, Copy, Remove, Grow, Shrink, Retype, Make as make_call}
+use Rattle.spk_nums.specs.declared.calls.Call.TheVariants.{Map, Unmap, Touch, Flush, Gate, Kill, Call as call_gate}
+use Rattle.spk_nums.specs.declared.calls.Call.TheVariants.{Ret, Switch, Tick, Transfer, Delegate, Test}
 use Rattle.spk_nums.specs.declared.translations.Translation.{Translation}
 use Rattle.spk_nums.specs.declared.replies.Value.{Value}
 use Rattle.spk_nums.specs.declared.replies.Reply.{Reply}
 use Rattle.spk_nums.specs.declared.replies.Reply.TheVariants as reply
-use Rattle.kernel_rules.specs.State.{Place, Free, Holds, Quiescing, ThreadFields, TcapFields, Object, Blank, Table, Leaf, Pages, Pleaf, Comp, Thread, Tcap, Frame, Untyped, User, Kernel, Thing, PlaceOf, FrameOf, State, put, comp_of, comp_in, thread_in, thread_of}
+use Rattle.kernel_rules.specs.State.{Place, Free, Holds, Quiescing, ThreadFields, TcapFields, Object, Blank}
+use Rattle.kernel_rules.specs.State.{Table, Leaf, Pages, Pleaf, Comp, Thread, Tcap, Frame, Untyped, User, Kernel}
+use Rattle.kernel_rules.specs.State.{Thing, PlaceOf, FrameOf, State, put, comp_of, comp_in, thread_in, thread_of}
 use Rattle.kernel_rules.specs.Start.{plain_cap}
 use Rattle.kernel_rules.specs.References.{place_names, frame_names, number_names}
 use Rattle.kernel_rules.specs.Access.{Slot, found, Target, Under, InRoot, place_at, held_in}
@@ -136,19 +141,24 @@ not_held (Quiescing j) k e q = cc
 
 filled : (s t : State) (call : Call) (change : Change) (at : Slot) (k : Capability) → BeginsNone change
     → ((f i : ℕ) → t.place f i ≡ s.place f i ⊎ ((t.place f i ≡ Free) × (ends_by call (PlaceOf f i) ≡ true)))
-    → held_in (place_at s at) ≡ None → ((f i : ℕ) → change.next.place f i ≡ put t.place at.node (put (t.place at.node) at.index (Holds k)) f i)
+    → held_in (place_at s at) ≡ None
+    → ((f i : ℕ) → change.next.place f i ≡ put t.place at.node (put (t.place at.node) at.index (Holds k)) f i)
     → ((f : ℕ) → IsTrue (is_kept (s.frame f)) → change.next.frame f ≡ s.frame f) → Keeps s call change
 filled s t call change at k apart place none next frame = record {
   removed = λ f i. none_removed change apart f i;
   frame = λ f kept. inl (frame f kept);
   holds =
-      λ f i j e. subst (λ p. (p ≡ Holds j) ⊎ ((list_any (same_thing (PlaceOf f i)) change.begins ≡ true) ⊎ (ends_by call (PlaceOf f i) ≡ true))) (sym (next f i))
-      (place_all (λ f i p. s.place f i ≡ Holds j → (p ≡ Holds j) ⊎ ((list_any (same_thing (PlaceOf f i)) change.begins ≡ true) ⊎ (ends_by call (PlaceOf f i) ≡ true)))
+      λ f i j e. subst (λ p. (p ≡ Holds j)
+      ⊎ ((list_any (same_thing (PlaceOf f i)) change.begins ≡ true) ⊎ (ends_by call (PlaceOf f i) ≡ true))) (sym (next f i))
+      (place_all (λ f i p. s.place f i ≡ Holds j
+      → (p ≡ Holds j) ⊎ ((list_any (same_thing (PlaceOf f i)) change.begins ≡ true) ⊎ (ends_by call (PlaceOf f i) ≡ true)))
       t at.node at.index (Holds k) f i
-      (λ same index e. absurd (not_held (s.place f i) j (ap (λ n. held_in (s.place n i)) same ∙ ap (λ n. held_in (s.place at.node n)) index ∙ none) e))
+      (λ same index e. absurd
+      (not_held (s.place f i) j (ap (λ n. held_in (s.place n i)) same ∙ ap (λ n. held_in (s.place at.node n)) index ∙ none) e))
       (λ e. old f i j e (place f i)) e);
   quiescing =
-      λ f i j e. place_all (λ f i p. p ≡ Quiescing j → (s.place f i ≡ Quiescing j) ⊎ (s.place f i ≡ Holds j)) t at.node at.index (Holds k) f i
+      λ f i j e. place_all (λ f i p. p ≡ Quiescing j
+      → (s.place f i ≡ Quiescing j) ⊎ (s.place f i ≡ Holds j)) t at.node at.index (Holds k) f i
       (λ same index q. absurd (holds_quiescing k j q)) (λ q. was f i j q (place f i)) (sym (next f i) ∙ e);
 }
   where
@@ -176,12 +186,16 @@ module _ (s : State) (o : ℕ → Bool) (c : ℕ) (h : IsOpen s o c) where
     removed = λ f i b. by_place f i (f == at.node && i == at.index) refl b;
     frame = λ f kept. inl refl;
     holds = λ f i j is. place_all (λ f i p. s.place f i ≡ Holds j → (p ≡ Holds j)
-        ⊎ ((list_any (same_thing (PlaceOf f i)) (removes s at k).begins ≡ true) ⊎ (ends_by call (PlaceOf f i) ≡ true))) s at.node at.index (Quiescing k) f i
-        (λ same index q. inr (inl (or_left (f == at.node && i == at.index) (list_any (same_thing (PlaceOf f i)) (frames_of (place_names (Holds k))))
+        ⊎ ((list_any (same_thing (PlaceOf f i)) (removes s at k).begins ≡ true) ⊎ (ends_by call (PlaceOf f i) ≡ true)))
+        s at.node at.index (Quiescing k) f i
+        (λ same index q. inr
+        (inl (or_left (f == at.node && i == at.index) (list_any (same_thing (PlaceOf f i)) (frames_of (place_names (Holds k))))
         (and (f == at.node) (i == at.index) (eq-eqb f at.node same) (eq-eqb i at.index index))))) (λ q. inl q) is;
     quiescing =
-        λ f i j. place_all (λ f i p. p ≡ Quiescing j → (s.place f i ≡ Quiescing j) ⊎ (s.place f i ≡ Holds j)) s at.node at.index (Quiescing k) f i
-        (λ same index q. inr (ap (λ n. s.place n i) same ∙ ap (s.place at.node) index ∙ (held_facts s c target at k e).1 ∙ ap Holds (quiescing_inj k j q))) (λ q. inl q);
+        λ f i j. place_all (λ f i p. p ≡ Quiescing j
+        → (s.place f i ≡ Quiescing j) ⊎ (s.place f i ≡ Holds j)) s at.node at.index (Quiescing k) f i
+        (λ same index q. inr (ap (λ n. s.place n i) same ∙ ap (s.place at.node) index
+        ∙ (held_facts s c target at k e).1 ∙ ap Holds (quiescing_inj k j q))) (λ q. inl q);
   }
     where
       and : (a b : Bool) → a ≡ true → b ≡ true → (a && b) ≡ true
@@ -196,7 +210,8 @@ module _ (s : State) (o : ℕ → Bool) (c : ℕ) (h : IsOpen s o c) where
           → IsTrue (is_some (held_in (s.place f i)))
       by_place f i true is b =
           let p = both (f == at.node) (i == at.index) is in
-          ap (λ n. is_some (held_in (s.place n i))) (eqb-true f at.node p.0) ∙ ap (λ n. is_some (held_in (s.place at.node n))) (eqb-true i at.index p.1)
+          ap (λ n. is_some (held_in (s.place n i))) (eqb-true f at.node p.0)
+          ∙ ap (λ n. is_some (held_in (s.place at.node n))) (eqb-true i at.index p.1)
           ∙ ap (λ p. is_some (held_in p)) (held_facts s c target at k e).1
       by_place f i false is b = absurd (false≢true (sym (frames_no_place f i (place_names (Holds k))) ∙ b))
 
@@ -210,13 +225,15 @@ module _ (s : State) (o : ℕ → Bool) (c : ℕ) (h : IsOpen s o c) where
   node_keeps : (call : Call) (object : Object) (k : Kind) (r f t b : ℕ) → ((i : ℕ) → ends_by call (PlaceOf f i) ≡ true)
       → ChangesFrom (Keeps s call) s c (make_node s object k r f t b)
   node_keeps call object k r f t b ends = λ range e table g at v calm.
-      filled s (cleared s f) call (makes (cleared s f) f object k at) at (plain_cap k f) (λ g i. refl) (cleared_place call f ends) (vacant_facts s c (Under (found table) b) at v).1 (λ g i. refl)
+      filled s (cleared s f) call (makes (cleared s f) f object k at) at (plain_cap k f) (λ g i. refl)
+      (cleared_place call f ends) (vacant_facts s c (Under (found table) b) at v).1 (λ g i. refl)
       (put_kept s f (Kernel object) (blank_kept s f (Kernel object) (blank_by s o c r f range [] h e calm).1))
 
   object_keeps : (call : Call) (f : ℕ) (object : Object) (k : Kind) (target : Target) (at : Slot) → vacant s c target ≡ Found at
       → s.frame f ≡ Kernel Blank → Keeps s call (makes s f object k at)
   object_keeps call f object k target at v blank =
-      filled s s call (makes s f object k at) at (plain_cap k f) (λ g i. refl) (λ f i. inl refl) (vacant_facts s c target at v).1 (λ g i. refl)
+      filled s s call (makes s f object k at) at (plain_cap k f) (λ g i. refl)
+      (λ f i. inl refl) (vacant_facts s c target at v).1 (λ g i. refl)
       (put_kept s f (Kernel object) (blank_kept s f (Kernel object) blank))
 
   make_keeps : (what : Make) (r f t b : ℕ) → ChangesFrom (Keeps s (make_call what r f t b)) s c (make_rule s what r f t b)
@@ -225,25 +242,38 @@ module _ (s : State) (o : ℕ → Bool) (c : ℕ) (h : IsOpen s o c) where
   make_keeps make.Pages r f t b = node_keeps (make_call make.Pages r f t b) Pages kind.Pages r f t b (λ i. eq-eqb f f refl)
   make_keeps make.Pleaf r f t b = node_keeps (make_call make.Pleaf r f t b) Pleaf kind.Pleaf r f t b (λ i. eq-eqb f f refl)
   make_keeps (make.Thread comp) r f t b = λ range e table g k j at v calm.
-      object_keeps (make_call (make.Thread comp) r f t b) f (Thread _) kind.Thread (Under (found table) b) at v (blank_by s o c r f range [] h e calm).1
+      object_keeps (make_call (make.Thread comp) r f t b) f (Thread _) kind.Thread
+      (Under (found table) b) at v (blank_by s o c r f range [] h e calm).1
   make_keeps (make.Tcap sched quality) r f t b = λ range e table g at v calm.
-      object_keeps (make_call (make.Tcap sched quality) r f t b) f (Tcap _) kind.Tcap (Under (found table) b) at v (blank_by s o c r f range [] h e calm).1
+      object_keeps (make_call (make.Tcap sched quality) r f t b) f (Tcap _)
+      kind.Tcap (Under (found table) b) at v (blank_by s o c r f range [] h e calm).1
   make_keeps (make.Comp x p l) r f t b = λ range e table g own_table a own_pages d at v calm.
-      let k = object_keeps (make_call (make.Comp x p l) r f t b) f (Comp _) kind.Comp (Under (found table) b) at v (blank_by s o c r f range (not_taken s l) h e calm).1 in
-      record { frame = k.frame; holds = k.holds; quiescing = k.quiescing; removed = λ f i. none_removed (makes_comp s f (record { table = own_table.frame; pages = own_pages.frame; number = l; epoch = epoch_of (s.number l) + 1 }) at) (λ f i. refl) f i }
+      let k = object_keeps (make_call (make.Comp x p l) r f t b) f (Comp _) kind.Comp
+      (Under (found table) b) at v (blank_by s o c r f range (not_taken s l) h e calm).1 in
+      record {
+        frame = k.frame;
+        holds = k.holds;
+        quiescing = k.quiescing;
+        removed = λ f i. none_removed
+            (makes_comp s f (record { table = own_table.frame; pages = own_pages.frame; number = l; epoch = epoch_of (s.number l) + 1 }) at)
+            (λ f i. refl) f i;
+      }
 
   -- `retype`.
   retype_keeps : (r f : ℕ) (k : FrameKind) → ChangesFrom (Keeps s (Retype r f k)) s c (retype_rule s r f k)
   retype_keeps r f frame_kind.Untyped = λ range e calm.
-      placed s (Retype r f frame_kind.Untyped) _ (λ g i. frames_no_place g i (frame_names (s.frame f))) (λ g kept. put_all (λ g x. (x ≡ s.frame g) ⊎ (ends_by (Retype r f frame_kind.Untyped) (FrameOf g) ≡ true)) s.frame f Untyped g
+      placed s (Retype r f frame_kind.Untyped) _ (λ g i. frames_no_place g i (frame_names (s.frame f)))
+      (λ g kept. put_all (λ g x. (x ≡ s.frame g) ⊎ (ends_by (Retype r f frame_kind.Untyped) (FrameOf g) ≡ true)) s.frame f Untyped g
       (λ at. inr (eq-eqb g f at)) (λ other. inl refl)) (λ g i. refl)
   retype_keeps r f frame_kind.User = λ range e calm.
-      placed s (Retype r f frame_kind.User) _ (λ f i. refl) (λ g kept. inl (put_kept s f User (untyped_kept (untyped_by s o c r f range h e calm).1) g kept)) (λ g i. refl)
+      placed s (Retype r f frame_kind.User) _ (λ f i. refl)
+      (λ g kept. inl (put_kept s f User (untyped_kept (untyped_by s o c r f range h e calm).1) g kept)) (λ g i. refl)
     where
       untyped_kept : s.frame f ≡ Untyped → IsTrue (is_kept (s.frame f)) → User ≡ s.frame f
       untyped_kept is kept = absurd (false≢true (ap is_kept (sym is) ∙ kept))
   retype_keeps r f frame_kind.Kernel = λ range e calm.
-      placed s (Retype r f frame_kind.Kernel) _ (λ f i. refl) (λ g kept. inl (put_kept s f (Kernel Blank) (untyped_kept (untyped_by s o c r f range h e calm).1) g kept)) (λ g i. refl)
+      placed s (Retype r f frame_kind.Kernel) _ (λ f i. refl)
+      (λ g kept. inl (put_kept s f (Kernel Blank) (untyped_kept (untyped_by s o c r f range h e calm).1) g kept)) (λ g i. refl)
     where
       untyped_kept : s.frame f ≡ Untyped → IsTrue (is_kept (s.frame f)) → Kernel Blank ≡ s.frame f
       untyped_kept is kept = absurd (false≢true (ap is_kept (sym is) ∙ kept))
@@ -261,9 +291,11 @@ module _ (s : State) (o : ℕ → Bool) (c : ℕ) (h : IsOpen s o c) where
 
       by_core : (e : Option ℕ) → ChangesFrom (Keeps s (Switch a b)) s c (switch_to s c (found j) q e)
       by_core None =
-          λ calm. placed s (Switch a b) _ (λ f i. frames_no_place f i ((s.core c).thread ∷ (if q == (s.core c).tcap then [] else (s.core c).tcap ∷ []))) (λ f kept. inl (frames f kept)) (λ f i. refl)
+          λ calm. placed s (Switch a b) _ (λ f i. frames_no_place f i ((s.core c).thread
+          ∷ (if q == (s.core c).tcap then [] else (s.core c).tcap ∷ []))) (λ f kept. inl (frames f kept)) (λ f i. refl)
       by_core (Some e) =
-          λ calm. placed s (Switch a b) _ (λ f i. frames_no_place f i ((s.core c).thread ∷ (if q == (s.core c).tcap then [] else (s.core c).tcap ∷ []))) (λ f kept. inl (frames f kept)) (λ f i. refl)
+          λ calm. placed s (Switch a b) _ (λ f i. frames_no_place f i ((s.core c).thread
+          ∷ (if q == (s.core c).tcap then [] else (s.core c).tcap ∷ []))) (λ f kept. inl (frames f kept)) (λ f i. refl)
 
   rule_keeps : (call : Call) → ChangesFrom (Keeps s call) s c (rule_of s c call)
   rule_keeps (Look a) = λ k e calm. same s (Look a) _ (λ f i. refl) (λ f. refl) (λ f i. refl)
@@ -279,18 +311,22 @@ module _ (s : State) (o : ℕ → Bool) (c : ℕ) (h : IsOpen s o c) where
   rule_keeps Flush = λ calm. same s Flush _ (λ f i. refl) (λ f. refl) (λ f i. refl)
   rule_keeps (Gate k t b) = λ comp e table f at v calm. fill_keeps (Gate k t b) (Under (found table) b) at _ v
   rule_keeps (Kill k) =
-      λ comp e calm. same s (Kill k) _ (λ f i. frames_no_place f i (number_names (s.number (comp_in (s.frame comp.frame)).number))) (λ f. refl) (λ f i. refl)
+      λ comp e calm. same s (Kill k) _ (λ f i. frames_no_place f i (number_names (s.number (comp_in (s.frame comp.frame)).number)))
+      (λ f. refl) (λ f i. refl)
   rule_keeps (call_gate g) =
       λ gate e calm. placed s (call_gate g) _ (λ f i. refl) (λ f kept. inl (thread_put s (s.core c).thread _ f kept)) (λ f i. refl)
   rule_keeps Ret =
-      λ calm. placed s Ret _ (λ f i. frames_no_place f i (take 1 (thread_of s c).stack)) (λ f kept. inl (thread_put s (s.core c).thread _ f kept)) (λ f i. refl)
+      λ calm. placed s Ret _ (λ f i. frames_no_place f i (take 1 (thread_of s c).stack))
+      (λ f kept. inl (thread_put s (s.core c).thread _ f kept)) (λ f i. refl)
   rule_keeps (Switch a b) = λ thread e tcap g. switch_keeps a b thread tcap.frame (thread_in (s.frame thread.frame)).runs_on
   rule_keeps (Tick n) = λ calm. placed s (Tick n) _ (λ f i. refl) (λ f kept. inl (budget_put s (s.core c).tcap _ f kept)) (λ f i. refl)
   rule_keeps (Transfer a b m) =
       λ j e k f calm. placed s (Transfer a b m) _ (λ f i. refl) (λ f kept. inl (moved_put s j.frame k.frame m f kept)) (λ f i. refl)
   rule_keeps (Delegate a b m) = λ j e k f calm.
       let next : State = moved s j.frame k.frame m in
-      placed s (Delegate a b m) _ (λ f i. refl) (λ f kept. inl (then_kept s next (with_qualities next k.frame (merged_list s j.frame k.frame)) (moved_put s j.frame k.frame m) (put_kept next k.frame _ (tcap_kept (next.frame k.frame) _)) f kept)) (λ f i. refl)
+      placed s (Delegate a b m) _ (λ f i. refl)
+      (λ f kept. inl (then_kept s next (with_qualities next k.frame (merged_list s j.frame k.frame))
+      (moved_put s j.frame k.frame m) (put_kept next k.frame _ (tcap_kept (next.frame k.frame) _)) f kept)) (λ f i. refl)
   rule_keeps (Test a b) = λ j e k f calm. same s (Test a b) _ (λ f i. refl) (λ f. refl) (λ f i. refl)
 
 -- What a decision makes of kept frames and of places.

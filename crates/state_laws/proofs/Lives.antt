@@ -1,5 +1,6 @@
 -- The frame of a live number has its component; gates have their component's epoch; a dead epoch never lives again.
-use Rattle.std.proofs.Common.{◌≡◌, ◌⊎◌, inl, inr, ℕ, ◌+◌, ◌<◌, ◌≤◌, arith, Bool, true, false, not, refl, sym, ◌∙◌, ap, subst, ◌==◌, if◌then◌else◌, IsTrue, List, [], ◌∷◌, ◌++◌, Option, Some, None}
+use Rattle.std.proofs.Common.{◌≡◌, ◌⊎◌, inl, inr, ℕ, ◌+◌, ◌<◌, ◌≤◌, arith, Bool, true, false, not, refl, sym, ◌∙◌}
+use Rattle.std.proofs.Common.{ap, subst, ◌==◌, if◌then◌else◌, IsTrue, List, [], ◌∷◌, ◌++◌, Option, Some, None}
 use Rattle.std.proofs.lemmas.Bool.{false≢true, eqb-true}
 use Rattle.spk_nums.specs.Setting.{Setting, IsSetting}
 use Rattle.spk_nums.specs.declared.kinds.Kind.TheVariants as kind
@@ -8,12 +9,15 @@ use Rattle.spk_nums.specs.declared.kinds.FrameKind.TheVariants as frame_kind
 use Rattle.spk_nums.specs.declared.calls.Make.{Make}
 use Rattle.spk_nums.specs.declared.calls.Make.TheVariants as make
 use Rattle.spk_nums.specs.declared.calls.Call.{Call}
-use Rattle.spk_nums.specs.declared.calls.Call.TheVariants.{Look, Copy, Remove, Grow, Shrink, Retype, Make as make_call, Map, Unmap, Touch, Flush, Gate, Kill, Call as call_gate, Ret, Switch, Tick, Transfer, Delegate, Test}
+use Rattle.spk_nums.specs.declared.calls.Call.TheVariants.{Look, Copy, Remove, Grow, Shrink, Retype, Make as make_call}
+use Rattle.spk_nums.specs.declared.calls.Call.TheVariants.{Map, Unmap, Touch, Flush, Gate, Kill, Call as call_gate}
+use Rattle.spk_nums.specs.declared.calls.Call.TheVariants.{Ret, Switch, Tick, Transfer, Delegate, Test}
 use Rattle.spk_nums.specs.declared.translations.Translation.{Translation}
 use Rattle.spk_nums.specs.declared.replies.Value.{Value}
 use Rattle.spk_nums.specs.declared.replies.Reply.{Reply}
 use Rattle.spk_nums.specs.declared.replies.Reply.TheVariants as reply
-use Rattle.kernel_rules.specs.State.{CompFields, Comp, Frame, Kernel, Liveness, Unused, Live, Dead, FrameOf, State, put, comp_in, comp_of, thread_in}
+use Rattle.kernel_rules.specs.State.{CompFields, Comp, Frame, Kernel, Liveness, Unused, Live}
+use Rattle.kernel_rules.specs.State.{Dead, FrameOf, State, put, comp_in, comp_of, thread_in}
 use Rattle.kernel_rules.specs.Start.{start}
 use Rattle.kernel_rules.specs.References.{number_names, times, refs}
 use Rattle.kernel_rules.specs.Access.{Named, found}
@@ -89,7 +93,8 @@ make_numbers s c (make.Comp x p n) r f t b = λ range e table g own_table a own_
     let dead : is_live (s.number n) ≡ false = when_not (is_live (s.number n)) reply.Occupied (none_parts (refusal_of s c live) _ m.1).0 in
     record {
       live =
-          λ l e g. put_all (λ l x. x ≡ Live e g → (s.number l ≡ Live e g) ⊎ IsCompOf (put s.frame f (Kernel (Comp comp)) g) l e) s.number n (Live comp.epoch f) l
+          λ l e g. put_all (λ l x. x ≡ Live e g
+          → (s.number l ≡ Live e g) ⊎ IsCompOf (put s.frame f (Kernel (Comp comp)) g) l e) s.number n (Live comp.epoch f) l
           (λ same is. inr (made comp l e g same (live_inj comp.epoch e f g is))) (λ other is. inl is);
       past = λ l e old. put_all (λ l x. IsPast e (s.number l) → IsPast e x) s.number n (Live comp.epoch f) l
           (λ same past. later e (s.number n) f dead (subst (λ m. IsPast e (s.number m)) same past)) (λ other past. past) old;
@@ -105,13 +110,16 @@ kill_numbers s c k = λ comp e calm.
     let fields : CompFields = comp_in (s.frame comp.frame) in
     let p = none_parts (refusal_of s c (not_live s (found comp) fields.number fields.epoch)) None calm in
     let is : is_live_in (s.number fields.number) fields.epoch ≡ true =
-    not_not (is_live_in (s.number fields.number) fields.epoch) (when_not (not (is_live_in (s.number fields.number) fields.epoch)) reply.Dead p.0) in
+    not_not (is_live_in (s.number fields.number) fields.epoch)
+    (when_not (not (is_live_in (s.number fields.number) fields.epoch)) reply.Dead p.0) in
     record {
       live =
-          λ l e g. put_all (λ l x. x ≡ Live e g → (s.number l ≡ Live e g) ⊎ IsCompOf (s.frame g) l e) s.number fields.number (Dead fields.epoch) l
+          λ l e g. put_all (λ l x. x ≡ Live e g → (s.number l ≡ Live e g) ⊎ IsCompOf (s.frame g) l e)
+          s.number fields.number (Dead fields.epoch) l
           (λ same q. absurd (dead_live fields.epoch e g q)) (λ other q. inl q);
       past = λ l e old. put_all (λ l x. IsPast e (s.number l) → IsPast e x) s.number fields.number (Dead fields.epoch) l
-          (λ same past. killed e fields.epoch (s.number fields.number) is (subst (λ m. IsPast e (s.number m)) same past)) (λ other past. past) old;
+          (λ same past. killed e fields.epoch (s.number fields.number) is (subst (λ m. IsPast e (s.number m)) same past))
+          (λ other past. past) old;
     }
 
 touch_numbers : (s : State) (c pages v : ℕ) (t : Option Translation) → ChangesFrom (Numbers s) s c (touch_by s c pages v t)
@@ -222,7 +230,8 @@ runs_lives setting lim [] run = start_lives setting
 runs_lives setting lim (Enters c call ∷ events) run = runs_lives setting lim events run.0
 runs_lives setting lim (Returns c ∷ events) run = runs_lives setting lim events run.0
 runs_lives setting lim (Decides c call r ∷ events) run =
-    decided_lives (after setting events) (opened events) c call r (open_is setting lim events c run.0 (ap is_open run.1.is_open)) run.1.permitted (runs_lives setting lim events run.0)
+    decided_lives (after setting events) (opened events) c call r
+    (open_is setting lim events c run.0 (ap is_open run.1.is_open)) run.1.permitted (runs_lives setting lim events run.0)
 
 pub live_numbers_fit : LiveNumbersFit
 unfolding LivesAre

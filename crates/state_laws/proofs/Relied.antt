@@ -28,7 +28,8 @@ module _ (s : State) (o : ℕ → Bool) (c : ℕ) (call : Call) (r : Reply) (h :
   t = state_by s c call r
 
   grace_at : (b : Bool) → begins s c call r (FrameOf f) ≡ b
-      → t.grace (FrameOf f) ≡ cond b (new_grace s (FrameOf f)) (cond (flushes call r) (flushed_by c (s.grace (FrameOf f))) (s.grace (FrameOf f)))
+      → t.grace (FrameOf f)
+      ≡ cond b (new_grace s (FrameOf f)) (cond (flushes call r) (flushed_by c (s.grace (FrameOf f))) (s.grace (FrameOf f)))
   grace_at b is = grace_is s c call r may (FrameOf f)
       ∙ ap (λ b. cond b (new_grace s (FrameOf f)) (cond (ends call r (FrameOf f)) no_grace
       (cond (flushes call r) (flushed_by c (s.grace (FrameOf f))) (s.grace (FrameOf f))))) is

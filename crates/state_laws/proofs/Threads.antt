@@ -1,5 +1,6 @@
 -- A thread runs on a core exactly where it is that core's current one.
-use Rattle.std.proofs.Common.{◌≡◌, ◌≢◌, inl, inr, ℕ, ◌+◌, ◌-◌, ◌*◌, ◌<◌, ◌≤◌, arith, Bool, refl, sym, ◌∙◌, ap, subst, ◌==◌, nat_lt, List, [], ◌∷◌, Option, Some, None}
+use Rattle.std.proofs.Common.{◌≡◌, ◌≢◌, inl, inr, ℕ, ◌+◌, ◌-◌, ◌*◌, ◌<◌, ◌≤◌, arith, Bool, refl}
+use Rattle.std.proofs.Common.{sym, ◌∙◌, ap, subst, ◌==◌, nat_lt, List, [], ◌∷◌, Option, Some, None}
 use Rattle.std.proofs.lemmas.Bool.{cases_eq, eqb-false, ltb-true}
 use Rattle.spk_nums.specs.Setting.{Setting, IsSetting}
 use Rattle.spk_nums.specs.Capability.{Capability}
@@ -8,12 +9,15 @@ use Rattle.spk_nums.specs.declared.kinds.FrameKind.TheVariants as frame_kind
 use Rattle.spk_nums.specs.declared.calls.Make.{Make}
 use Rattle.spk_nums.specs.declared.calls.Make.TheVariants as make
 use Rattle.spk_nums.specs.declared.calls.Call.{Call}
-use Rattle.spk_nums.specs.declared.calls.Call.TheVariants.{Look, Copy, Remove, Grow, Shrink, Retype, Make as make_call, Map, Unmap, Touch, Flush, Gate, Kill, Call as call_gate, Ret, Switch, Tick, Transfer, Delegate, Test}
+use Rattle.spk_nums.specs.declared.calls.Call.TheVariants.{Look, Copy, Remove, Grow, Shrink, Retype, Make as make_call}
+use Rattle.spk_nums.specs.declared.calls.Call.TheVariants.{Map, Unmap, Touch, Flush, Gate, Kill, Call as call_gate}
+use Rattle.spk_nums.specs.declared.calls.Call.TheVariants.{Ret, Switch, Tick, Transfer, Delegate, Test}
 use Rattle.spk_nums.specs.declared.translations.Translation.{Translation}
 use Rattle.spk_nums.specs.declared.replies.Value.{Value}
 use Rattle.spk_nums.specs.declared.replies.Reply.{Reply}
 use Rattle.spk_nums.specs.declared.replies.Reply.TheVariants as reply
-use Rattle.kernel_rules.specs.State.{ThreadFields, TcapFields, Blank, Table, Leaf, Pages, Pleaf, Comp, Thread, Tcap, Frame, Untyped, User, Kernel, Core, State, put, comp_of, thread_in, thread_of}
+use Rattle.kernel_rules.specs.State.{ThreadFields, TcapFields, Blank, Table, Leaf, Pages, Pleaf, Comp, Thread, Tcap}
+use Rattle.kernel_rules.specs.State.{Frame, Untyped, User, Kernel, Core, State, put, comp_of, thread_in, thread_of}
 use Rattle.kernel_rules.specs.Start.{start}
 use Rattle.kernel_rules.specs.Access.{found}
 use Rattle.kernel_rules.specs.Rules.{Change, Judged, Refused, Found, IsFoundAnd}
@@ -89,8 +93,11 @@ moved_back s n a b m h = tcap_back (with_budget s a ((tcap_at s a).budget - m)) 
 core_back : (s : State) (n c : ℕ) (k : Core) (frame : ℕ → Frame) → k.thread ≡ (s.core c).thread → RunBack n frame s.core
     → RunBack n frame (put s.core c k)
 core_back s n c k frame thread h f d e =
-    let p = h f d e in
-    (p.0, put_all (λ d x. (s.core d).thread ≡ f → x.thread ≡ f) s.core c k d (λ same q. thread ∙ ap (λ m. (s.core m).thread) (sym same) ∙ q) (λ other q. q) p.1)
+    let p = h f d e in (
+      p.0,
+      put_all (λ d x. (s.core d).thread ≡ f
+          → x.thread ≡ f) s.core c k d (λ same q. thread ∙ ap (λ m. (s.core m).thread) (sym same) ∙ q) (λ other q. q) p.1,
+    )
 
 record Back (s : State) (change : Change) : Type 0 where
   run : RunBack s.limits.cores change.next.frame change.next.core
@@ -117,7 +124,8 @@ module _ (s : State) (o : ℕ → Bool) (c : ℕ) (h : IsOpen s o c) (w : RunBac
 
   -- Core c goes on as a thread that runs nowhere.
   switched : (g q : ℕ)
-      → RunBack s.limits.cores (running (running s (s.core c).thread None) g (Some c)).frame (put s.core c (record (s.core c) { thread = g; tcap = q }))
+      → RunBack s.limits.cores (running (running s (s.core c).thread None) g (Some c)).frame
+      (put s.core c (record (s.core c) { thread = g; tcap = q }))
   switched g q f d e = elim (cases_eq f g) [
     | inl same ↦
         let is : Some c ≡ Some d = (thread_at (idle.frame g) _ d (ap runs_at (sym (put_same idle.frame g _ f same)) ∙ e)) in
@@ -138,7 +146,8 @@ module _ (s : State) (o : ℕ → Bool) (c : ℕ) (h : IsOpen s o c) (w : RunBac
       by_old : f ≢ g → runs_at (idle.frame f) ≡ Some d
           → (d < s.limits.cores) × (((put s.core c (record (s.core c) { thread = g; tcap = q })) d).thread ≡ f)
       by_old other e = elim (cases_eq f (s.core c).thread) [
-        | inl old ↦ absurd (none_some d (thread_at (s.frame (s.core c).thread) (record (thread_of s c) { runs_on = None }) d (ap runs_at (sym (put_same s.frame (s.core c).thread _ f old)) ∙ e)))
+        | inl old ↦ absurd (none_some d (thread_at (s.frame (s.core c).thread) (record (thread_of s c) { runs_on = None })
+            d (ap runs_at (sym (put_same s.frame (s.core c).thread _ f old)) ∙ e)))
         | inr apart ↦
             let p = w f d (ap runs_at (sym (put_other s.frame (s.core c).thread _ f apart)) ∙ e) in
             let away : d ≢ c = λ same. apart (sym p.1 ∙ ap (λ m. (s.core m).thread) same) in
@@ -150,16 +159,19 @@ module _ (s : State) (o : ℕ → Bool) (c : ℕ) (h : IsOpen s o c) (w : RunBac
   switch_back j q (Some e) = λ calm. record { run = switched j.frame q }
 
   stack_back : (stack : List ℕ)
-      → RunBack s.limits.cores (put s.frame (s.core c).thread (with_thread (s.frame (s.core c).thread) (record (thread_of s c) { stack = stack }))) s.core
+      → RunBack s.limits.cores
+      (put s.frame (s.core c).thread (with_thread (s.frame (s.core c).thread) (record (thread_of s c) { stack = stack }))) s.core
   stack_back stack =
-      put_back s s.limits.cores (s.core c).thread _ (λ d e. thread_at (s.frame (s.core c).thread) (record (thread_of s c) { stack = stack }) d e) w
+      put_back s s.limits.cores (s.core c).thread _
+      (λ d e. thread_at (s.frame (s.core c).thread) (record (thread_of s c) { stack = stack }) d e) w
 
   charged : (spent owed : ℕ) → RunBack s.limits.cores (with_budget s (s.core c).tcap ((tcap_at s (s.core c).tcap).budget - spent)).frame
       (put s.core c (record (s.core c) { spent = (s.core c).spent + spent; owed = owed }))
   charged spent owed =
       core_back s s.limits.cores c (record (s.core c) { spent = (s.core c).spent + spent; owed = owed })
       (with_budget s (s.core c).tcap ((tcap_at s (s.core c).tcap).budget - spent)).frame refl
-      (tcap_back s s.limits.cores (s.core c).tcap (record (tcap_at s (s.core c).tcap) { budget = (tcap_at s (s.core c).tcap).budget - spent }) w)
+      (tcap_back s s.limits.cores (s.core c).tcap
+      (record (tcap_at s (s.core c).tcap) { budget = (tcap_at s (s.core c).tcap).budget - spent }) w)
 
   rule_back : (call : Call) → ChangesFrom (Back s) s c (rule_of s c call)
   rule_back (Look a) = λ k e calm. record { run = w }
@@ -182,7 +194,10 @@ module _ (s : State) (o : ℕ → Bool) (c : ℕ) (h : IsOpen s o c) (w : RunBac
       λ calm. record { run = charged (charge s c (m + (s.core c).owed)) ((m + (s.core c).owed) - charge s c (m + (s.core c).owed)) }
   rule_back (Transfer a b m) = λ j e k f calm. record { run = moved_back s s.limits.cores j.frame k.frame m w }
   rule_back (Delegate a b m) =
-      λ j e k f calm. record { run = tcap_back (moved s j.frame k.frame m) s.limits.cores k.frame _ (moved_back s s.limits.cores j.frame k.frame m w) }
+      λ j e k f calm. record {
+        run =
+            tcap_back (moved s j.frame k.frame m) s.limits.cores k.frame _ (moved_back s s.limits.cores j.frame k.frame m w);
+      }
   rule_back (Test a b) = λ j e k f calm. record { run = w }
 
 -- A decision.
@@ -237,13 +252,16 @@ runs_back : (setting : Setting) → IsSetting setting → (events : List Event) 
     → RunBack (after setting events).limits.cores (after setting events).frame (after setting events).core
 runs_back setting lim [] run = start_back setting
 runs_back setting lim (Enters c call ∷ events) run =
-    core_back (after setting events) (after setting events).limits.cores c _ (after setting events).frame refl (runs_back setting lim events run.0)
+    core_back (after setting events) (after setting events).limits.cores c
+    _ (after setting events).frame refl (runs_back setting lim events run.0)
 runs_back setting lim (Returns c ∷ events) run =
-    core_back (after setting events) (after setting events).limits.cores c _ (after setting events).frame refl (runs_back setting lim events run.0)
+    core_back (after setting events) (after setting events).limits.cores c
+    _ (after setting events).frame refl (runs_back setting lim events run.0)
 runs_back setting lim (Decides c call r ∷ events) run =
     subst (λ n. RunBack n (after setting (Decides c call r ∷ events)).frame (after setting (Decides c call r ∷ events)).core)
     (ap (λ l. l.cores) (sym (decided_stays (after setting events) c call r).limits))
-    (decided_back (after setting events) (opened events) c call r (open_is setting lim events c run.0 (ap is_open run.1.is_open)) run.1.permitted (runs_back setting lim events run.0))
+    (decided_back (after setting events) (opened events) c call r
+    (open_is setting lim events c run.0 (ap is_open run.1.is_open)) run.1.permitted (runs_back setting lim events run.0))
 
 pub threads_run : ThreadsRun
 threads_run setting lim events run f c = record {

@@ -1,6 +1,7 @@
 -- A touch that answers a frame and flags has them cached from then on.
 use Rattle.std.specs.Option.{option_or}
-use Rattle.std.proofs.Common.{◌≡◌, ◌⊎◌, ◌+◌, inl, inr, ℕ, ◌<◌, ◌≤◌, Bool, true, false, refl, sym, ◌∙◌, ap, subst, ◌==◌, ◌&&◌, nat_lt, if◌then◌else◌, cond, List, [], ◌∷◌, ◌++◌, length, find, Option, Some, None}
+use Rattle.std.proofs.Common.{◌≡◌, ◌⊎◌, ◌+◌, inl, inr, ℕ, ◌<◌, ◌≤◌, Bool, true, false, refl, sym, ◌∙◌, ap, subst, ◌==◌}
+use Rattle.std.proofs.Common.{◌&&◌, nat_lt, if◌then◌else◌, cond, List, [], ◌∷◌, ◌++◌, length, find, Option, Some, None}
 use Rattle.std.proofs.lemmas.Bool.{and_parts, eq-eqb, eqb-true, ltb-false}
 use Rattle.std.proofs.lemmas.List.Folds.{find-append}
 use Rattle.std.specs.List.{AllByRecursion}
@@ -116,7 +117,8 @@ module _ (s : State) (o : ℕ → Bool) (c : ℕ) (h : IsOpen s o c) (w : IsFitt
           let same = answer_is (item k) f flags is in
           let item_is : item k ≡ x = fields_are (item k) pages v f flags refl refl same.0 same.1 in
           let list : ((after_it (judged (Found k))).core c).cached ≡ caching (s.core c).cached (item k) =
-          ap (λ (y : Core). y.cached) (put_same (with_core s c (record (s.core c) { cached = caching (s.core c).cached (item k) })).core c _ c
+          ap (λ (y : Core). y.cached)
+          (put_same (with_core s c (record (s.core c) { cached = caching (s.core c).cached (item k) })).core c _ c
           refl ∙ ap (λ (y : Core). record y { counted = y.counted + 1 })
           (put_same s.core c (record (s.core c) { cached = caching (s.core c).cached (item k) }) c refl)) in
           record {

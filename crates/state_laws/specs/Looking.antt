@@ -49,4 +49,5 @@ AreOfOthers c (e ∷ events) = (c ≢ core_of e) × AreOfOthers c events
 -- other cores do.
 abbrev pub FoundStays : Type 0
 FoundStays = (setting : Setting) → IsSetting setting → (later earlier : List Event) → IsRun setting (later ++ earlier)
-    → (c : ℕ) → AreOfOthers c later → IsTrue (is_open (phase_of earlier c)) → FindsStill (after setting earlier) (after setting (later ++ earlier)) c
+    → (c : ℕ) → AreOfOthers c later → IsTrue (is_open (phase_of earlier c))
+    → FindsStill (after setting earlier) (after setting (later ++ earlier)) c

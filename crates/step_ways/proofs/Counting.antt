@@ -1,5 +1,6 @@
 -- The way in which a call makes a step by which its core marks a word or gives it back; and what the counts are that it then holds.
-use Rattle.std.proofs.Common.{◌≡◌, ◌≢◌, ℕ, ◌+◌, ◌++◌, ◌^◌, ◌<◌, Bool, true, false, if◌then◌else◌, List, [], ◌∷◌, Option, Some, None, arith, refl, sym, ◌∙◌, ap}
+use Rattle.std.proofs.Common.{◌≡◌, ◌≢◌, ℕ, ◌+◌, ◌++◌, ◌^◌, ◌<◌, Bool, true, false, if◌then◌else◌}
+use Rattle.std.proofs.Common.{List, [], ◌∷◌, Option, Some, None, arith, refl, sym, ◌∙◌, ap}
 use Rattle.std.specs.Prelude.{All}
 use Rattle.std.proofs.lemmas.Bool.{false≢true}
 use Rattle.spk_nums.specs.Setting.{Setting, IsSetting}
@@ -28,10 +29,11 @@ use Rattle.core_invariant.proofs.Bare.{AsBefore}
 use Rattle.lent_words.proofs.Lent.{SparesLent, keeps_given, lent_still}
 use Rattle.step_ways.proofs.Good.{IsGood, SparesBlanks}
 use Rattle.step_ways.proofs.Users.{spares_none}
-use Rattle.step_ways.proofs.Loads.{Lands, IsOfCall, core_in_call, core_is, call_is, in_call, inner, inner_within, inner_disciplined, inner_near}
+use Rattle.step_ways.proofs.Loads.{Lands, IsOfCall, core_in_call, core_is, call_is, in_call}
+use Rattle.step_ways.proofs.Loads.{inner, inner_within, inner_disciplined, inner_near}
 
--- A step of a call, within it, on the word of a count, of an entry or of a frame: what the core holds of other words stays, no other core has marked
--- the word, and what the word stands for stays too.
+-- A step of a call, within it, on the word of a count, of an entry or of a frame: what the core holds of other words stays, no other core
+-- has marked the word, and what the word stands for stays too.
 module _ (setup : Setting) (setting : IsSetting setup) (cores : ℕ → Core) (t : Trace) (stands : Invariant setup cores t) (c : ℕ)
     (here : c < setup.cores)
     (a : ActiveCall) (active : (cores c).active ≡ Some a) (move : Move) (next : ActiveCall) where

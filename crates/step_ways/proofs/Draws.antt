@@ -1,5 +1,6 @@
 -- The way in which a call draws a stamp by raising the clock, and is decided: grace periods begin at the stamp.
-use Rattle.std.proofs.Common.{◌≡◌, ◌≢◌, ℕ, ◌+◌, ◌%◌, ◌^◌, ◌<◌, ◌≤◌, true, false, if◌then◌else◌, ◌∷◌, Some, None, IsTrue, inl, arith, refl, sym, ◌∙◌, ap, subst}
+use Rattle.std.proofs.Common.{◌≡◌, ◌≢◌, ℕ, ◌+◌, ◌%◌, ◌^◌, ◌<◌, ◌≤◌, true, false, if◌then◌else◌}
+use Rattle.std.proofs.Common.{◌∷◌, Some, None, IsTrue, inl, arith, refl, sym, ◌∙◌, ap, subst}
 use Rattle.spk_nums.specs.Setting.{Setting, IsSetting}
 use Rattle.spk_nums.specs.declared.replies.Reply.{Reply}
 use Rattle.word_map.specs.Word.{Word, EntryAt, ClockAt}
@@ -27,7 +28,8 @@ use Rattle.step_ways.proofs.Flushing.{open_flushed}
 use Rattle.step_ways.proofs.Good.{IsGood, spares_other}
 use Rattle.step_ways.proofs.Users.{SparesBy, spared}
 use Rattle.step_ways.proofs.Writes.{clock_small}
-use Rattle.step_ways.proofs.Loads.{Lands, core_in_call, next_at, core_is, call_is, in_call, inner, inner_within, inner_disciplined, inner_near}
+use Rattle.step_ways.proofs.Loads.{Lands, core_in_call, next_at, core_is, call_is, in_call}
+use Rattle.step_ways.proofs.Loads.{inner, inner_within, inner_disciplined, inner_near}
 
 module _ (setup : Setting) (setting : IsSetting setup) (cores : ℕ → Core) (t : Trace) (stands : Invariant setup cores t) (c : ℕ)
     (here : c < setup.cores)

@@ -5,12 +5,14 @@ use Rattle.act_states.specs.declared.kills.KillingAt.TheVariants.{LoadComp, Load
 use Rattle.act_states.specs.declared.makings.MakingAt.{MakingAt}
 use Rattle.act_states.specs.declared.makings.MakingAt.TheVariants.{Load, Mark, Store, Fill as making_fill}
 use Rattle.act_states.specs.declared.work.Act.{Act as ActOf}
-use Rattle.act_states.specs.declared.work.Act.TheVariants.{Fill, Remove, Retype, Make, Map, Outside, Tick, Flush, Kill, Untype, MakeComp, Invoke, Return, Touch, Share as share_act, Switch as switch_act}
+use Rattle.act_states.specs.declared.work.Act.TheVariants.{Fill, Remove, Retype, Make, Map, Outside, Tick, Flush, Kill, Untype}
+use Rattle.act_states.specs.declared.work.Act.TheVariants.{MakeComp, Invoke, Return, Touch, Share as share_act, Switch as switch_act}
 use Rattle.act_states.specs.declared.comps.CompMaking.{CompMaking}
 use Rattle.act_states.specs.declared.comps.CompAt.{CompAt}
 use Rattle.act_states.specs.declared.comps.CompAt.TheVariants as comp_at
 use Rattle.act_states.specs.declared.work.Tail.{Tail}
-use Rattle.act_states.specs.declared.work.Tail.TheVariants.{Nothing, Quiesce, Unmark, StoreDead, StoreFlush, StoreLive, Push, Pop, Release, Share, StoreRunning, StoreIdle}
+use Rattle.act_states.specs.declared.work.Tail.TheVariants.{Nothing, Quiesce, Unmark, StoreDead, StoreFlush, StoreLive}
+use Rattle.act_states.specs.declared.work.Tail.TheVariants.{Push, Pop, Release, Share, StoreRunning, StoreIdle}
 use Rattle.act_states.specs.declared.work.Work.{Work}
 use Rattle.act_states.specs.declared.work.Work.TheVariants.{Lookup, Read, Scan, Acquire, Act as act_work}
 use Rattle.call_stages.specs.declared.stages.ActiveCall.{ActiveCall}
@@ -25,14 +27,16 @@ use Rattle.core_invariant.proofs.Freezing.{release_flush}
 use Rattle.core_invariant.specs.Holding.{Holding, holds_counts, holds_closed, holds_drawn}
 use Rattle.core_invariant.specs.Knows.{flushes_tail, is_flushing, flushing_in, phase_at, KnowsAt}
 use Rattle.core_invariant.proofs.ThreadHolds.{switching_flush}
-use Rattle.core_invariant.specs.Invariant.{is_done, holds_making, holds_killing, holds_comp, holds_act, holds_tail, holds_work, holds_stage, holds_at, holds_share, holds_shared, holds_push, holds_pop}
+use Rattle.core_invariant.specs.Invariant.{is_done, holds_making, holds_killing, holds_comp, holds_act, holds_tail, holds_work}
+use Rattle.core_invariant.specs.Invariant.{holds_stage, holds_at, holds_share, holds_shared, holds_push, holds_pop}
 use Rattle.stage_thread.specs.declared.stack.Push.{Push as PushOf}
 use Rattle.stage_thread.specs.declared.stack.Push.TheVariants as push
 use Rattle.stage_thread.specs.declared.stack.Pop.{Pop as PopOf}
 use Rattle.stage_thread.specs.declared.stack.Pop.TheVariants as pop
 use Rattle.stage_tcap.specs.declared.pair.Pair.{Pair}
 use Rattle.stage_tcap.specs.declared.pair.PairAt.{PairAt}
-use Rattle.stage_tcap.specs.declared.pair.PairAt.TheVariants.{LoadA, MarkA, ListA, LoadB, ListB, CompareB, AgainB, StoreList, StoreB, StoreA}
+use Rattle.stage_tcap.specs.declared.pair.PairAt.TheVariants.{LoadA, MarkA, ListA, LoadB, ListB, CompareB}
+use Rattle.stage_tcap.specs.declared.pair.PairAt.TheVariants.{AgainB, StoreList, StoreB, StoreA}
 use Rattle.kernel_history.specs.Trace.{Trace, Phase, Out, Open, Decided as Decided_phase}
 use Rattle.spk_nums.specs.declared.replies.Reply.{Reply}
 use Rattle.spk_nums.specs.Capability.{Capability}
@@ -41,7 +45,8 @@ use Rattle.spk_nums.specs.Setting.{Setting}
 use Rattle.stage_pins.specs.declared.held.Acquired.{Acquired}
 use Rattle.stage_quiet.specs.declared.close.Close.{Close}
 use Rattle.stage_quiet.specs.declared.close.Close.TheVariants.{AtCompare, AtDraw, AtStore}
-use Rattle.std.proofs.Common.{◌≡◌, ℕ, ◌≤◌, Bool, true, false, if◌then◌else◌, List, [], ◌∷◌, Option, Some, None, IfSome, ◌⊎◌, inl, inr, arith, refl, sym, ◌∙◌, ap, subst}
+use Rattle.std.proofs.Common.{◌≡◌, ℕ, ◌≤◌, Bool, true, false, if◌then◌else◌, List, [], ◌∷◌, Option}
+use Rattle.std.proofs.Common.{Some, None, IfSome, ◌⊎◌, inl, inr, arith, refl, sym, ◌∙◌, ap, subst}
 use Rattle.std.proofs.lemmas.Bool.{false≢true}
 use Rattle.word_map.proofs.WordLemmas.{same_same}
 use Rattle.word_map.specs.Word.{FlushAt}
@@ -50,7 +55,8 @@ counts_flush : (fate : Option (Option ℕ)) (xs : List Acquired) (c : ℕ) → (
 counts_flush fate [] c = refl
 counts_flush fate (x ∷ xs) c = counts_flush fate xs c
 
-closed_flush : (close : Close) (cap : Capability) (h : Holding) (c : ℕ) → (holds_closed close cap h).stands (FlushAt c) ≡ h.stands (FlushAt c)
+closed_flush : (close : Close) (cap : Capability) (h : Holding) (c : ℕ)
+    → (holds_closed close cap h).stands (FlushAt c) ≡ h.stands (FlushAt c)
 closed_flush (AtCompare node entry word core) cap h c = refl
 closed_flush (AtDraw node entry) cap h c = refl
 closed_flush (AtStore node entry stamp) cap h c = refl

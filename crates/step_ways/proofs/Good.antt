@@ -12,7 +12,11 @@ use Rattle.act_states.specs.declared.makings.MakingAt.TheVariants.{Load as makin
 use Rattle.act_states.specs.declared.makings.MakingAt.{MakingAt}
 use Rattle.act_states.specs.declared.work.Work.TheVariants.{Lookup, Read, Scan, Acquire, Act as act_work}
 use Rattle.act_states.specs.declared.work.Work.{Work}
-use Rattle.act_states.specs.declared.work.Act.TheVariants.{Fill as fill_act, Remove as remove_act, Retype as type_act, Make as make_act, Outside, Tick as tick_act, Flush as flush_act, Kill as kill_act, Untype as untype_act, Map as map_act, MakeComp as comp_act, Invoke as invoke_act, Return as return_act, Touch as touch_act, Share as share_act, Switch as switch_act}
+use Rattle.act_states.specs.declared.work.Act.TheVariants.{Fill as fill_act, Remove as remove_act, Retype as type_act}
+use Rattle.act_states.specs.declared.work.Act.TheVariants.{Make as make_act, Outside, Tick as tick_act, Flush as flush_act}
+use Rattle.act_states.specs.declared.work.Act.TheVariants.{Kill as kill_act, Untype as untype_act, Map as map_act}
+use Rattle.act_states.specs.declared.work.Act.TheVariants.{MakeComp as comp_act, Invoke as invoke_act, Return as return_act}
+use Rattle.act_states.specs.declared.work.Act.TheVariants.{Touch as touch_act, Share as share_act, Switch as switch_act}
 use Rattle.act_states.specs.declared.work.Act.{Act as ActOf}
 use Rattle.stage_quiet.specs.declared.quiet.Quiet.TheVariants.{AtCore, AtFlush}
 use Rattle.call_plans.specs.declared.plans.Plan.{Plan}
@@ -23,12 +27,14 @@ use Rattle.word_map.proofs.WordLemmas.{same_same}
 use Rattle.word_map.specs.Moves.{word_of, left_of}
 use Rattle.frame_words.specs.Frame.{frame_of_word}
 use Rattle.spk_nums.specs.Capability.{Capability}
-use Rattle.std.proofs.Common.{suc, zero, ◌≡◌, ◌≢◌, inl, inr, ℕ, ◌+◌, ◌<◌, ◌≤◌, ◌∷◌, length, Option, Some, None, arith, sym, ◌∙◌, ap, subst, ◌⊎◌, ◌&&◌, ◌==◌, not, Bool, true, false, List, IsTrue, if◌then◌else◌, refl}
+use Rattle.std.proofs.Common.{suc, zero, ◌≡◌, ◌≢◌, inl, inr, ℕ, ◌+◌, ◌<◌, ◌≤◌, ◌∷◌, length, Option, Some, None, arith, sym}
+use Rattle.std.proofs.Common.{◌∙◌, ap, subst, ◌⊎◌, ◌&&◌, ◌==◌, not, Bool, true, false, List, IsTrue, if◌then◌else◌, refl}
 use Rattle.std.proofs.lemmas.Bool.{cases_eq, true≢false, eqb-true, false≢true}
 use Rattle.spk_nums.specs.Setting.{Setting, IsSetting}
 use Rattle.spk_nums.specs.declared.calls.Call.{Call}
 use Rattle.word_map.specs.Word.{Word, EntryAt, FrameAt, LiveAt}
-use Rattle.kernel_rules.specs.State.{put, first_of_stack, Frame, Untyped, User, Kernel, Blank, Table, Leaf, Pages, Pleaf, Comp, Thread, Tcap, Object}
+use Rattle.kernel_rules.specs.State.{put, first_of_stack, Frame, Untyped, User, Kernel, Blank}
+use Rattle.kernel_rules.specs.State.{Table, Leaf, Pages, Pleaf, Comp, Thread, Tcap, Object}
 use Rattle.kernel_rules.proofs.Within.{put_same, put_other}
 use Rattle.kernel_history.specs.Trace.{Step, Trace, Out, Open, phase, state_after, last_left}
 use Rattle.kernel_history.specs.Bounds.{IsWithin}
@@ -38,7 +44,8 @@ use Rattle.kernel_history.specs.Footprint.{StepsNear, IsNearIn}
 use Rattle.kernel_history.specs.Alone.{AnswersAlone}
 use Rattle.kernel_history.specs.Legal.{MayEnter, MayFollow}
 use Rattle.kernel_history.specs.Stamps.{is_in, clock}
-use Rattle.kernel_history.proofs.Steps.{phase-other, calls_of-other, steps_in_call-other, own_read-other, exit_of-other, flush_of-other, flush_stored-other, last_left-here, last_left-there}
+use Rattle.kernel_history.proofs.Steps.{phase-other, calls_of-other, steps_in_call-other, own_read-other, exit_of-other}
+use Rattle.kernel_history.proofs.Steps.{flush_of-other, flush_stored-other, last_left-here, last_left-there}
 use Rattle.kernel_history.specs.Graces.{KeepsTime, LeavesBy}
 use Rattle.found_stays.proofs.Stays.{OwnStay}
 use Rattle.trace_laws.proofs.Stays.{own_stays_other, stays_in_other}
@@ -51,7 +58,8 @@ use Rattle.call_stages.specs.declared.stages.Stage.{Stage}
 use Rattle.call_stages.specs.declared.stages.Stage.TheVariants.{Enter, Undecided, Decided, Leave}
 use Rattle.call_stages.specs.declared.stages.ActiveCall.{ActiveCall}
 use Rattle.act_states.specs.declared.own.Own.{Own}
-use Rattle.act_states.specs.declared.work.Tail.TheVariants.{Nothing, Quiesce, Unmark, StoreDead, StoreFlush, Release, StoreLive, Push, Pop, Share, StoreRunning, StoreIdle}
+use Rattle.act_states.specs.declared.work.Tail.TheVariants.{Nothing, Quiesce, Unmark, StoreDead, StoreFlush, Release}
+use Rattle.act_states.specs.declared.work.Tail.TheVariants.{StoreLive, Push, Pop, Share, StoreRunning, StoreIdle}
 use Rattle.call_stages.specs.View.{Core}
 use Rattle.core_invariant.specs.Threads.{HasThread, holds_switching, claimed_by, is_claimed, KnowsIdle, KnowsRunning}
 use Rattle.core_invariant.proofs.ThreadHolds.{IsIdleIn, claimed_idle}
@@ -60,15 +68,19 @@ use Rattle.step_ways.proofs.Users.{SparesCounted, users_stay}
 use Rattle.core_invariant.specs.Holding.{settled, MarkIs, Holding, keeps, holds_counts, settled_by}
 use Rattle.core_invariant.specs.Words.{WordIs}
 use Rattle.core_invariant.specs.Shares.{SparesTcap}
-use Rattle.core_invariant.specs.Knows.{phase_at, CallIs, KnowsAt, WorksIn, CoreIs, blank_word, is_start, KnowsMakingAt, KnowsAct, KnowsWork, KnowsCompAt}
-use Rattle.core_invariant.specs.Invariant.{held_by, times_of, counted_in, SumIs, Invariant, is_done, holds_making, holds_act, holds_work, holds_at, holds_in, holds, holds_comp, IsLent}
+use Rattle.core_invariant.specs.Knows.{phase_at, CallIs, KnowsAt, WorksIn, CoreIs, blank_word}
+use Rattle.core_invariant.specs.Knows.{is_start, KnowsMakingAt, KnowsAct, KnowsWork, KnowsCompAt}
+use Rattle.core_invariant.specs.Invariant.{held_by, times_of, counted_in, SumIs, Invariant, is_done, holds_making}
+use Rattle.core_invariant.specs.Invariant.{holds_act, holds_work, holds_at, holds_in, holds, holds_comp, IsLent}
 use Rattle.core_invariant.proofs.Markers.{marker_inside}
-use Rattle.kept_knowledge.proofs.Carries.{KeepsUsers, undecided_on, counts_on, store_on, stores_in, stores_of, dead_on, live_on, looks_at, looks_in, looked_in, looked_of, claimed_in, claimed_of, KeepsThreads}
+use Rattle.kept_knowledge.proofs.Carries.{KeepsUsers, undecided_on, counts_on, store_on, stores_in, stores_of, dead_on, live_on}
+use Rattle.kept_knowledge.proofs.Carries.{looks_at, looks_in, looked_in, looked_of, claimed_in, claimed_of, KeepsThreads}
 use Rattle.stage_sweep.specs.Counters.{latest_stamp}
 use Rattle.stage_sweep.specs.Freeze.{swept_of}
 use Rattle.stage_sweep.specs.declared.sweep.Sweep.{Sweep}
 use Rattle.stage_sweep.specs.declared.sweep.SweepAt.{SweepAt}
-use Rattle.stage_sweep.specs.declared.sweep.SweepAt.TheVariants.{Load as sweep_load, Compare as sweep_compare, Scan as sweep_scan, Empty as sweep_empty}
+use Rattle.stage_sweep.specs.declared.sweep.SweepAt.TheVariants.{Load as sweep_load, Compare as sweep_compare}
+use Rattle.stage_sweep.specs.declared.sweep.SweepAt.TheVariants.{Scan as sweep_scan, Empty as sweep_empty}
 use Rattle.stage_sweep.specs.declared.sweep.Swept.{Swept}
 use Rattle.act_states.specs.Untypings.{release_of}
 use Rattle.act_states.specs.declared.untypings.UntypingAt.{UntypingAt}
@@ -79,7 +91,8 @@ use Rattle.kept_knowledge.proofs.Swept.{LeavesFrame, HoldsSwept, kernel_is, rele
 use Rattle.lent_words.proofs.SharesOn.{SharesStay, shares_other}
 use Rattle.lent_words.proofs.Lent.{SparesLent, lent_other}
 
--- A step changes a word of a blank frame only where its core has marked the frame, and a word of a temporal capability as `SparesTcap` says.
+-- A step changes a word of a blank frame only where its core has marked the frame, and a word of a temporal capability as `SparesTcap`
+-- says.
 abbrev pub Spared : Setting → Trace → Step → ℕ → ℕ → Frame → Type 0
 Spared setup t e f i (Kernel Blank) = (marked_by setup t (FrameAt f) ≡ Some e.core) ⊎ (left_of e.move e.found ≡ e.found)
 Spared setup t e f i (Kernel (Tcap q)) = SparesTcap setup t e f i
@@ -402,7 +415,8 @@ module _ (setup : Setting) (setting : IsSetting setup) (cores : ℕ → Core) (t
   act_claimed : (c : ℕ) (act : ActOf) (h : Holding) → ClaimRests c (holds_act act h) → (f : ℕ) → claimed_in act f ≡ true
       → HasThread (state_after setup t) c f → (state_after setup (e ∷ t)).frame f ≡ (state_after setup t).frame f
   act_claimed c (switch_act m) h rests f is has =
-      rests f (subst (IsIdleIn (holds_switching m m.at h)) (sym (eqb-true f (claimed_by m.at) (last (is_claimed m.at) (f == claimed_by m.at) is)))
+      rests f (subst (IsIdleIn (holds_switching m m.at h))
+      (sym (eqb-true f (claimed_by m.at) (last (is_claimed m.at) (f == claimed_by m.at) is)))
       (claimed_idle m m.at h (first (is_claimed m.at) (f == claimed_by m.at) is))) has
     where
       first : (x y : Bool) → (x && y) ≡ true → x ≡ true
@@ -472,7 +486,8 @@ module _ (setup : Setting) (setting : IsSetting setup) (cores : ℕ → Core) (t
       (λ f i is. filled_stays follows blanks c (holds_at (Undecided work) a.counts) other held f
       (filled_work setup t c table f a work (holds_counts (is_done (Undecided work)) a.counts) has.knows is) i) users
       (looked_stays follows c table other a work (holds_counts (is_done (Undecided work)) a.counts) (λ w is. (held w is).1) typed has.knows)
-      (threads_stay follows c table other (ap is_in at) a work (holds_counts (is_done (Undecided work)) a.counts) (claims (ap is_in at)) has.knows)
+      (threads_stay follows c table other (ap is_in at) a work
+      (holds_counts (is_done (Undecided work)) a.counts) (claims (ap is_in at)) has.knows)
       has
   knows_other follows time blanks c users shares table a other (Decided r drawn Nothing) held typed claims at has = has
   knows_other follows time blanks c users shares table a other (Decided r drawn (Unmark f word)) held typed claims at has = has
@@ -488,7 +503,8 @@ module _ (setup : Setting) (setting : IsSetting setup) (cores : ℕ → Core) (t
   knows_other follows time blanks c users shares table a other (Decided r drawn (Release release)) held typed claims at has = has
   knows_other follows time blanks c users shares table a other (Decided r drawn (Share p)) held typed claims at has =
       shares.decided (ap is_in at) a.call p has
-  knows_other follows time blanks c users shares table a other (Decided r drawn (StoreRunning f core depth old old_depth)) held typed claims at has =
+  knows_other follows time blanks c users shares table a other
+      (Decided r drawn (StoreRunning f core depth old old_depth)) held typed claims at has =
       running_other follows c other (ap is_in at) a.call f core old has
   knows_other follows time blanks c users shares table a other (Decided r drawn (StoreIdle f depth)) held typed claims at has =
       idle_other follows c other (ap is_in at) a.call f has
@@ -541,7 +557,8 @@ module _ (setup : Setting) (setting : IsSetting setup) (cores : ℕ → Core) (t
         works = works_on setup t e core.own c (own_stays_other setup setting t stands.legal e follows c here other) is.works;
         exit = is.exit ∙ sym (exit_of-other c e t other);
         flushed = λ done. flush_stored-other c e t other ∙ is.flushed done ∙ sym (flush_of-other c e t other);
-        active = call_other follows time blanks c users (shares_stay follows blanks c here other) core.own.table other core.active (held_words c) typed claims is.active;
+        active = call_other follows time blanks c users (shares_stay follows blanks c here other)
+            core.own.table other core.active (held_words c) typed claims is.active;
       }
 
   -- what a frame is stays, by a good step of another core than the one that has marked its word
@@ -599,7 +616,8 @@ module _ (setup : Setting) (setting : IsSetting setup) (cores : ℕ → Core) (t
           (core_other good.follows good.time good.blanks c
           (users_stay setup setting t stands.legal e good.follows good.disciplined.keeps good.counted c here other) here other
           (value_stays after good c other)
-          (λ inside f idle has. claimed_rests setup setting cores t stands e good.follows c other inside after good.marks good.words f has idle)
+          (λ inside f idle has. claimed_rests setup setting cores t stands e
+          good.follows c other inside after good.marks good.words f has idle)
           (stands.each c here))
     ];
     away = λ c past.

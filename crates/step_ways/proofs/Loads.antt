@@ -16,7 +16,8 @@ use Rattle.kernel_rules.specs.Alone.{alone}
 use Rattle.kernel_rules.specs.Laws.{calls_counted}
 use Rattle.kernel_rules.proofs.Within.{put_same}
 use Rattle.kernel_history.proofs.Inside.{decided-inside}
-use Rattle.kernel_history.specs.Trace.{Step, Trace, Out, Open, phase, after_decide, after_return, state_after, state_decided_in, last_left, steps_in_call, WasAt}
+use Rattle.kernel_history.specs.Trace.{Step, Trace, Out, Open, phase, after_decide, after_return}
+use Rattle.kernel_history.specs.Trace.{state_after, state_decided_in, last_left, steps_in_call, WasAt}
 use Rattle.kernel_history.specs.BootWords.{shape_of}
 use Rattle.kernel_history.specs.Discipline.{MayMove, MarksOwn, KeepsMarked, IsDisciplined}
 use Rattle.kernel_history.specs.Footprint.{IsNearIn, StepsNear}
@@ -44,7 +45,8 @@ use Rattle.core_invariant.specs.Holding.{holds_counts}
 use Rattle.step_ways.proofs.Flushing.{still_flushed, open_flushed}
 use Rattle.step_ways.proofs.Good.{IsGood, spares_kept}
 use Rattle.step_ways.proofs.Users.{spares_none}
-use Rattle.kept_words.proofs.Calm.{IsCalm, calm_same, calm_counted, calm_own, calm_words, counted_rises, stored_by, IsUntimed, plain_time, plain_exit, BeginsNone, plain_begins, none_flushed}
+use Rattle.kept_words.proofs.Calm.{IsCalm, calm_same, calm_counted, calm_own, calm_words, counted_rises, stored_by}
+use Rattle.kept_words.proofs.Calm.{IsUntimed, plain_time, plain_exit, BeginsNone, plain_begins, none_flushed}
 use Rattle.lent_words.proofs.Lent.{keeps_loads, lent_still, lent_open, lent_kept}
 
 -- A step of core c.
@@ -348,7 +350,8 @@ module _ (setup : Setting) (setting : IsSetting setup) (cores : ℕ → Core) (t
 
   -- It has nothing to store.
   pub decides_on : (move : Move) (r : Reply) (found : List Capability) → OnlyLooks setup t c a.call move
-      → Lands setup (core_in_call (cores c) ((cores c).own.made + calls_counted r) (next_at a found (Decided r None Nothing))) (word_of move)
+      → Lands setup (core_in_call (cores c) ((cores c).own.made + calls_counted r) (next_at a found (Decided r None Nothing)))
+      (word_of move)
       → holds_counts (done_by r None) a.counts ≡ holds_in (Some a)
       → phase_at a.call a.stage ≡ Open a.call → state_by (state_after setup t) c a.call r ≡ counted (state_after setup t) c
       → calls_counted r ≡ 1

@@ -66,12 +66,15 @@ place_reads setup cores t stands f i node below = by_mark (marked_by setup t (En
       says = subst (λ n. PlaceIs n ((state_after setup t).place f i) (stamp setup t (PlaceOf f i))
           (entry_of_word (last_left setup t (EntryAt f i))))
           (ap (λ l. l.frames) (limits_of setup t))
-          (node_says (state_after setup t).limits.frames (count_room (state_after setup t)) ((state_after setup t).frame f) ((state_after setup t).place f i)
+          (node_says (state_after setup t).limits.frames (count_room (state_after setup t))
+          ((state_after setup t).frame f) ((state_after setup t).place f i)
           (stamp setup t (PlaceOf f i)) i (last_left setup t (EntryAt f i)) node below
-          (subst (λ (n : ℕ). IsFrameWord (state_after setup t).limits.frames (count_room (state_after setup t)) ((state_after setup t).frame f)
+          (subst (λ (n : ℕ). IsFrameWord (state_after setup t).limits.frames
+          (count_room (state_after setup t)) ((state_after setup t).frame f)
           ((state_after setup t).place f i) (stamp setup t (PlaceOf f i)) i n)
           (unlent_value setup cores t stands f (node_keeps_none ((state_after setup t).frame f) node) i (last_left setup t (EntryAt f i)))
-          (subst (λ o. IsFrameWord (state_after setup t).limits.frames (count_room (state_after setup t)) ((state_after setup t).frame f) ((state_after setup t).place f i)
+          (subst (λ o. IsFrameWord (state_after setup t).limits.frames (count_room (state_after setup t))
+          ((state_after setup t).frame f) ((state_after setup t).place f i)
           (stamp setup t (PlaceOf f i)) i
           (settled_by o (held_by cores) (EntryAt f i) (last_left setup t (EntryAt f i)))) is (stands.words (EntryAt f i)))));
     })

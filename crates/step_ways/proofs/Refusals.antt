@@ -1,10 +1,13 @@
 -- The refusals of a call at a load: each leaves all as it was, but counts the call.
 use Rattle.act_states.specs.declared.work.Tail.{Tail}
-use Rattle.std.proofs.Common.{◌≡◌, ◌≢◌, ℕ, ◌+◌, ◌<◌, Option, Bool, true, false, Some, None, arith, refl, sym, ◌∙◌, ap, subst, List, [], ◌∷◌, inl, inr}
+use Rattle.std.proofs.Common.{◌≡◌, ◌≢◌, ℕ, ◌+◌, ◌<◌, Option, Bool, true, false, Some, None}
+use Rattle.std.proofs.Common.{arith, refl, sym, ◌∙◌, ap, subst, List, [], ◌∷◌, inl, inr}
 use Rattle.std.proofs.lemmas.Bool.{false≢true, lt-leb}
 use Rattle.spk_nums.specs.Setting.{Setting, IsSetting}
 use Rattle.spk_nums.specs.declared.calls.Call.{Call}
-use Rattle.spk_nums.specs.declared.calls.Call.TheVariants.{Look, Copy, Remove, Shrink, Unmap, Retype, Make, Tick, Gate, Kill, Call as call_gate, Ret, Grow, Flush, Map, Touch, Transfer, Delegate, Test, Switch}
+use Rattle.spk_nums.specs.declared.calls.Call.TheVariants.{Look, Copy, Remove, Shrink, Unmap, Retype, Make}
+use Rattle.spk_nums.specs.declared.calls.Call.TheVariants.{Tick, Gate, Kill, Call as call_gate, Ret, Grow}
+use Rattle.spk_nums.specs.declared.calls.Call.TheVariants.{Flush, Map, Touch, Transfer, Delegate, Test, Switch}
 use Rattle.spk_nums.specs.declared.replies.Reply.{Reply}
 use Rattle.spk_nums.specs.declared.replies.Reply.TheVariants as reply
 use Rattle.word_map.specs.Moves.{Move, word_of}
@@ -28,7 +31,11 @@ use Rattle.stage_look.specs.declared.look.Look.{Look as LookOf}
 use Rattle.stage_quiet.specs.declared.close.Close.TheVariants.{AtCompare, AtDraw, AtStore}
 use Rattle.stage_quiet.specs.declared.quiet.Quiet.TheVariants.{AtCore, AtFlush}
 use Rattle.act_states.specs.declared.work.Act.{Act as ActOf}
-use Rattle.act_states.specs.declared.work.Act.TheVariants.{Fill as fill_act, Remove as remove_act, Retype as type_act, Make as make_act, Outside, Tick as tick_act, Flush as flush_act, Kill as kill_act, Untype as untype_act, Map as map_act, MakeComp as comp_act, Invoke as invoke_act, Return as return_act, Touch as touch_act, Share as share_act, Switch as switch_act}
+use Rattle.act_states.specs.declared.work.Act.TheVariants.{Fill as fill_act, Remove as remove_act, Retype as type_act}
+use Rattle.act_states.specs.declared.work.Act.TheVariants.{Make as make_act, Outside, Tick as tick_act, Flush as flush_act}
+use Rattle.act_states.specs.declared.work.Act.TheVariants.{Kill as kill_act, Untype as untype_act, Map as map_act}
+use Rattle.act_states.specs.declared.work.Act.TheVariants.{MakeComp as comp_act, Invoke as invoke_act, Return as return_act}
+use Rattle.act_states.specs.declared.work.Act.TheVariants.{Touch as touch_act, Share as share_act, Switch as switch_act}
 use Rattle.act_states.specs.declared.work.Work.{Work}
 use Rattle.act_states.specs.declared.work.Work.TheVariants.{Lookup, Read, Scan, Acquire, Act}
 use Rattle.call_stages.specs.View.{Core}
@@ -43,7 +50,8 @@ use Rattle.core_invariant.specs.Knows.{phase_at, CoreIs, KnowsTail, NamesAre, Lo
 use Rattle.core_invariant.specs.Invariant.{holds_in, held_by, Invariant, holds_tail}
 use Rattle.core_invariant.specs.Events.{decided_in, returned_in}
 use Rattle.step_ways.proofs.Good.{IsGood}
-use Rattle.step_ways.proofs.Loads.{Lands, OnlyLooks, step_to, next_at, core_in_call, core_is, call_is, is_active, inner, decides_on, decides_with}
+use Rattle.step_ways.proofs.Loads.{Lands, OnlyLooks, step_to, next_at, core_in_call, core_is}
+use Rattle.step_ways.proofs.Loads.{call_is, is_active, inner, decides_on, decides_with}
 use Rattle.core_invariant.proofs.Sounds.{limits_of}
 use Rattle.core_invariant.proofs.Markers.{marker_inside}
 
@@ -287,7 +295,8 @@ module _ (setup : Setting) (setting : IsSetting setup) (cores : ℕ → Core) (t
       (first_of (reply.Running d) first)
 
   -- a word that has changed since the call's last step on it
-  pub refuses_raced : ticks_at a.stage ≡ false → IsRaceLost t (inner setup setting cores t stands c here a active move (Some reply.Raced) None) (state_after setup t)
+  pub refuses_raced : ticks_at a.stage ≡ false
+      → IsRaceLost t (inner setup setting cores t stands c here a active move (Some reply.Raced) None) (state_after setup t)
       (rule_of (state_after setup t) c a.call) → RefusedWith reply.Raced
   refuses_raced plain lost lands =
       decides_on setup setting cores t stands c here a active move reply.Raced a.found looks lands (still None refl) opens
@@ -297,7 +306,8 @@ module _ (setup : Setting) (setting : IsSetting setup) (cores : ℕ → Core) (t
       is_alone lost.own lost.has_read lost.changed))
 
   -- another core's mark
-  pub refuses_busy : ticks_at a.stage ≡ false → (d : ℕ) → (holds_counts None a.counts).marks (word_of move) ≡ false → marked_by setup t (word_of move) ≡ Some d
+  pub refuses_busy : ticks_at a.stage ≡ false → (d : ℕ)
+      → (holds_counts None a.counts).marks (word_of move) ≡ false → marked_by setup t (word_of move) ≡ Some d
       → IsOnWay (state_after setup t) c (rule_of (state_after setup t) c a.call) (word_of move) → RefusedWith (reply.Busy d)
   refuses_busy plain d bare mark on_way lands =
       decides_on setup setting cores t stands c here a active move (reply.Busy d) a.found looks lands (still None refl) opens
@@ -353,7 +363,8 @@ module _ (setup : Setting) (setting : IsSetting setup) (cores : ℕ → Core) (t
         ((call_is setup setting cores t stands c here a active).phase ∙ opens) ∙ state;
   }
 
-  pub raced_knowing : ticks_at a.stage ≡ false → IsRaceLost t (inner setup setting cores t stands c here a active move (Some reply.Raced) None) (state_after setup t)
+  pub raced_knowing : ticks_at a.stage ≡ false
+      → IsRaceLost t (inner setup setting cores t stands c here a active move (Some reply.Raced) None) (state_after setup t)
       (rule_of (state_after setup t) c a.call) → RefusedLeaving reply.Raced
   raced_knowing plain lost lands =
       decides_with setup setting cores t stands c here a active move reply.Raced tail a.found looks lands same opens
@@ -364,7 +375,8 @@ module _ (setup : Setting) (setting : IsSetting setup) (cores : ℕ → Core) (t
       (left (inner setup setting cores t stands c here a active move (Some reply.Raced) None)
       (refusing reply.Raced (ap (λ s. counted s c) (owes_not plain))))
 
-  pub busy_knowing : ticks_at a.stage ≡ false → (d : ℕ) → (holds_in (Some a)).marks (word_of move) ≡ false → marked_by setup t (word_of move) ≡ Some d
+  pub busy_knowing : ticks_at a.stage ≡ false → (d : ℕ)
+      → (holds_in (Some a)).marks (word_of move) ≡ false → marked_by setup t (word_of move) ≡ Some d
       → IsOnWay (state_after setup t) c (rule_of (state_after setup t) c a.call) (word_of move) → RefusedLeaving (reply.Busy d)
   busy_knowing plain d bare mark on_way lands =
       decides_with setup setting cores t stands c here a active move (reply.Busy d) tail a.found looks lands same opens
@@ -393,14 +405,17 @@ module _ (setup : Setting) (setting : IsSetting setup) (cores : ℕ → Core) (t
     (same : holds_tail tail (holds_counts None a.counts) ≡ holds_in (Some a))
     (left : (e : Step) → KnowsTail setup (e ∷ t) c a.call a.counts tail)
     (room : (cores c).own.made < (cores c).own.limit) (move : Move) (looks : OnlyLooks setup t c a.call move) where
-  pub raced_leaving : ticks_at a.stage ≡ false → IsRaceLost t (inner setup setting cores t stands c here a active move (Some reply.Raced) None) (state_after setup t)
+  pub raced_leaving : ticks_at a.stage ≡ false
+      → IsRaceLost t (inner setup setting cores t stands c here a active move (Some reply.Raced) None) (state_after setup t)
       (rule_of (state_after setup t) c a.call)
       → RefusedLeaving setup setting cores t stands c here a active opens tail same (λ e is. left e) room move looks reply.Raced
   raced_leaving plain lost lands =
       raced_knowing setup setting cores t stands c here a active opens tail same (λ e is. left e) room move looks plain lost lands
 
-  pub busy_leaving : ticks_at a.stage ≡ false → (d : ℕ) → (holds_in (Some a)).marks (word_of move) ≡ false → marked_by setup t (word_of move) ≡ Some d
+  pub busy_leaving : ticks_at a.stage ≡ false → (d : ℕ)
+      → (holds_in (Some a)).marks (word_of move) ≡ false → marked_by setup t (word_of move) ≡ Some d
       → IsOnWay (state_after setup t) c (rule_of (state_after setup t) c a.call) (word_of move)
       → RefusedLeaving setup setting cores t stands c here a active opens tail same (λ e is. left e) room move looks (reply.Busy d)
   busy_leaving plain d bare mark on_way lands =
-      busy_knowing setup setting cores t stands c here a active opens tail same (λ e is. left e) room move looks plain d bare mark on_way lands
+      busy_knowing setup setting cores t stands c here a active opens tail
+      same (λ e is. left e) room move looks plain d bare mark on_way lands

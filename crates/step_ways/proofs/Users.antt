@@ -1,6 +1,7 @@
 -- A user frame stays one while a call holds its count of it: only a retype to untyped makes it another, and that by the core which holds
 -- all counters of the frame.
-use Rattle.std.proofs.Common.{◌≡◌, ◌≢◌, ◌⊎◌, ◌<◌, ℕ, inl, inr, Bool, true, false, ◌∷◌, Option, Some, None, refl, sym, ◌∙◌, ap, subst, IsTrue}
+use Rattle.std.proofs.Common.{◌≡◌, ◌≢◌, ◌⊎◌, ◌<◌, ℕ, inl, inr, Bool, true, false, ◌∷◌}
+use Rattle.std.proofs.Common.{Option, Some, None, refl, sym, ◌∙◌, ap, subst, IsTrue}
 use Rattle.std.specs.Prelude.{All}
 use Rattle.std.proofs.lemmas.Bool.{false≢true}
 use Rattle.spk_nums.specs.Setting.{Setting, IsSetting}
@@ -27,7 +28,8 @@ use Rattle.kernel_history.specs.Legal.{MayDecide, MayFollow, IsLegal}
 use Rattle.kernel_history.specs.Marking.{marked_by}
 use Rattle.kernel_history.specs.Marks.{count_mark}
 use Rattle.kernel_history.specs.Stamps.{ends_at, ends_in}
-use Rattle.kernel_history.specs.Trace.{Step, Trace, Phase, Out, Open, phase, after_enter, state_after, state_entered, state_decided, state_returned, state_before, last_left}
+use Rattle.kernel_history.specs.Trace.{Step, Trace, Phase, Out, Open, phase, after_enter, state_after}
+use Rattle.kernel_history.specs.Trace.{state_entered, state_decided, state_returned, state_before, last_left}
 use Rattle.kernel_history.specs.Trace as history
 use Rattle.kernel_history.proofs.Events.{entered_events}
 use Rattle.kernel_history.proofs.Names.{cases_word}

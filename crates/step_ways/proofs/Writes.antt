@@ -1,7 +1,8 @@
 -- The ways in which a core makes a step that writes its word: a decided call writes an entry; a call enters or leaves, and the
 -- core's own word is stored.
 use Rattle.trace_laws.proofs.Carries.{Carries, carries_own}
-use Rattle.std.proofs.Common.{◌≡◌, ◌≢◌, ℕ, zero, suc, ◌+◌, ◌*◌, ◌^◌, ◌<◌, ◌≤◌, Bool, true, false, if◌then◌else◌, List, [], ◌∷◌, Option, Some, None, arith, refl, sym, ◌∙◌, ap, subst, inl, inr}
+use Rattle.std.proofs.Common.{◌≡◌, ◌≢◌, ℕ, zero, suc, ◌+◌, ◌*◌, ◌^◌, ◌<◌, ◌≤◌, Bool, true, false, if◌then◌else◌}
+use Rattle.std.proofs.Common.{List, [], ◌∷◌, Option, Some, None, arith, refl, sym, ◌∙◌, ap, subst, inl, inr}
 use Rattle.std.proofs.lemmas.Bool.{cases_eq, eq-eqb}
 use Rattle.spk_nums.specs.Bounds.{bound_of}
 use Rattle.spk_nums.specs.Capability.{Capability}
@@ -37,7 +38,8 @@ use Rattle.core_invariant.specs.Words.{count_room, WordIs}
 use Rattle.core_invariant.proofs.Sounds.{limits_of}
 use Rattle.core_invariant.specs.Knows.{phase_at, KnowsAt, Knows, IsCount, CallIs, WorksIn, CoreIs, is_flushing, flushing_in}
 use Rattle.core_invariant.specs.Invariant.{is_done, holds_at, holds_in, holds, held_by, times_of, counted_in, SumIs, Invariant}
-use Rattle.kept_words.proofs.WordFrames.{marks_own, settled_on, write_marks, write_words, ReadsAlike, reads_alike, StaysSaid, word_stays, carry_marks, carry_words}
+use Rattle.kept_words.proofs.WordFrames.{marks_own, settled_on, write_marks, write_words, ReadsAlike}
+use Rattle.kept_words.proofs.WordFrames.{reads_alike, StaysSaid, word_stays, carry_marks, carry_words}
 use Rattle.kept_words.proofs.Sums.{sums_stay}
 use Rattle.core_invariant.proofs.Bare.{IsNotKept, free_value, counts_bare}
 use Rattle.lent_words.proofs.Lent.{keeps_there, lent_still, lent_open, lent_none, lent_free, lent_elsewhere}
@@ -48,8 +50,10 @@ use Rattle.std.proofs.lemmas.List.Elements.{All-nil}
 use Rattle.step_ways.proofs.Flushing.{still_flushed, open_flushed}
 use Rattle.step_ways.proofs.Good.{IsGood, SparesBlanks, spares_other}
 use Rattle.step_ways.proofs.Users.{SparesBy, spared, spares_none}
-use Rattle.kept_words.proofs.Calm.{IsCalm, calm_returned, calm_own, calm_words, counted_rises, none_stored, IsUntimed, plain_time, plain_exit, plain_flushed, BeginsNone, plain_begins, none_time, calm_same}
-use Rattle.step_ways.proofs.Loads.{Lands, IsOfCall, step_to, next_at, core_in_call, some_left, core_is, call_is, in_call, inner, inner_within, inner_disciplined, inner_near, inner_works, inner_own, is_active}
+use Rattle.kept_words.proofs.Calm.{IsCalm, calm_returned, calm_own, calm_words, counted_rises, none_stored, IsUntimed}
+use Rattle.kept_words.proofs.Calm.{plain_time, plain_exit, plain_flushed, BeginsNone, plain_begins, none_time, calm_same}
+use Rattle.step_ways.proofs.Loads.{Lands, IsOfCall, step_to, next_at, core_in_call, some_left, core_is, call_is, in_call}
+use Rattle.step_ways.proofs.Loads.{inner, inner_within, inner_disciplined, inner_near, inner_works, inner_own, is_active}
 
 -- The clock fits a stamp: each stamp was drawn by a call that was counted.
 
@@ -139,7 +143,8 @@ module _ (setup : Setting) (setting : IsSetting setup) (cores : ℕ → Core) (t
         → (IsAlone t e → r ≡ alone (state_after setup t) c a.call)
         → Knows setup (e ∷ t) c (cores c).own.table (next_at a found stage)
         → IsGood setup cores t e (core_in_call (cores c) made (next_at a found stage)))
-    decides_writing move made r found stage was now small of_call lands opens closes same_held same_bare unlent alike plain blanks counted rises
+    decides_writing move made r found stage was now small of_call lands
+        opens closes same_held same_bare unlent alike plain blanks counted rises
         works same
         new commits sums may first knows =
         let e : Step = inner setup setting cores t stands c here a active move (Some r) None in
@@ -207,7 +212,8 @@ module _ (setup : Setting) (setting : IsSetting setup) (cores : ℕ → Core) (t
         → (IsAlone t e → r ≡ alone (state_after setup t) c a.call)
         → Knows setup (e ∷ t) c (cores c).own.table (next_at a found stage)
         → IsGood setup cores t e (core_in_call (cores c) made (next_at a found stage)))
-    writes_on move made r found stage was now small of_call lands opens closes bare_stage unlent alike plain blanks counted rises works same new
+    writes_on move made r found stage was now small of_call lands opens
+        closes bare_stage unlent alike plain blanks counted rises works same new
         held
         commits sums may first knows =
         let e : Step = inner setup setting cores t stands c here a active move (Some r) None in
@@ -252,7 +258,8 @@ module _ (setup : Setting) (setting : IsSetting setup) (cores : ℕ → Core) (t
         (ap (λ w. mark_of (state_after setup t) w (left_of move (last_left setup t w))) at ∙ now)
         (subst (λ w. left_of move (last_left setup t w) < 2 ^ 64) (sym at) small) of_call lands opens closes bare_stage
         (subst (IsNotKept (held_by cores)) (sym at) unlent)
-        (reads_alike setup t e calm.frame) (plain_begins setup t e plain) blanks (inr (spares_none setup t e (λ f. plain.ends (FrameOf f)))) (counted_rises setup (state_after setup t)
+        (reads_alike setup t e calm.frame) (plain_begins setup t e plain) blanks
+        (inr (spares_none setup t e (λ f. plain.ends (FrameOf f)))) (counted_rises setup (state_after setup t)
         (state_after setup (e ∷ t)) c calm)
         (inner_works setup setting cores t stands c here a active move (Some r) None made calm counts)
         (λ v there free. word_stays (state_after setup t) (state_after setup (e ∷ t)) (times_of setup t) (times_of setup (e ∷ t)) v

@@ -1,7 +1,8 @@
 -- Of a frame that was swept: its object is empty, and the references that it names itself are due to be released, once each.
 use Rattle.std.specs.Prelude.{if◌then◌else◌, not, is_some}
 use Rattle.std.specs.List.{list_any, range_with_len}
-use Rattle.std.proofs.Common.{◌≡◌, ◌≢◌, ◌⊎◌, inl, inr, ℕ, negsuc, zero, suc, ◌+◌, ◌<◌, ◌≤◌, ◌==◌, ◌&&◌, ◌||◌, nat_le, length, Bool, true, false, cond, List, [], ◌∷◌, All, map, Option, Some, None, arith, refl, sym, ◌∙◌, ap, subst}
+use Rattle.std.proofs.Common.{◌≡◌, ◌≢◌, ◌⊎◌, inl, inr, ℕ, negsuc, zero, suc, ◌+◌, ◌<◌, ◌≤◌, ◌==◌, ◌&&◌, ◌||◌, nat_le, length, Bool}
+use Rattle.std.proofs.Common.{true, false, cond, List, [], ◌∷◌, All, map, Option, Some, None, arith, refl, sym, ◌∙◌, ap, subst}
 use Rattle.std.proofs.lemmas.Bool.{false≢true, eq-eqb, ne_eqb, le-leb, eqb-true}
 use Rattle.std.proofs.lemmas.List.Elements.{All-nil, All-cons, All-head, All-tail}
 use Rattle.kernel_rules.specs.State.{Blank, Table, Leaf, Pages, Pleaf, Comp, Thread, Tcap, Frame, Untyped, User, Kernel, State}
@@ -35,7 +36,8 @@ node_empty s f none = ap not (none_passes (λ i. is_some (held_in (s.place f i))
     (λ i from below. ap is_some (none i (omega (arith, below)))))
 
 -- An object that was looked at whole is empty.
-pub looked_empty : (s : State) (f n : ℕ) (owned : Owned) → loads_of (frame_value (s.frame f)).object ≤ n → IsLookedAt s f (s.frame f) n owned
+pub looked_empty : (s : State) (f n : ℕ) (owned : Owned)
+    → loads_of (frame_value (s.frame f)).object ≤ n → IsLookedAt s f (s.frame f) n owned
     → is_empty s f (s.frame f) ≡ true
 looked_empty s f n owned whole looked = by (s.frame f) whole looked
   where
@@ -101,9 +103,11 @@ due_small (Some i) (Some j) = All-cons (λ (d : Due). IsWithin d.change 4) (rele
     (All-cons (λ (d : Due). IsWithin d.change 4) (released_one j) [] (omega arith) (All-nil (λ (d : Due). IsWithin d.change 4)))
 
 -- What holds of the frames of dues holds of the counts that are acquired for them.
-pub acquired_all : (P : ℕ → Type 0) (xs : List Acquired) → All (λ (d : Due). P d.frame) (map due_of xs) → All (λ (x : Acquired). P x.pin.frame) xs
+pub acquired_all : (P : ℕ → Type 0) (xs : List Acquired)
+    → All (λ (d : Due). P d.frame) (map due_of xs) → All (λ (x : Acquired). P x.pin.frame) xs
 acquired_all P [] all = All-nil (λ (x : Acquired). P x.pin.frame)
-acquired_all P (x ∷ xs) all = All-cons (λ (x : Acquired). P x.pin.frame) x xs (All-head (λ (d : Due). P d.frame) (due_of x) (map due_of xs) all)
+acquired_all P (x ∷ xs) all =
+    All-cons (λ (x : Acquired). P x.pin.frame) x xs (All-head (λ (d : Due). P d.frame) (due_of x) (map due_of xs) all)
     (acquired_all P xs (All-tail (λ (d : Due). P d.frame) (due_of x) (map due_of xs) all))
 
 -- No count that is acquired is one of a frame that none names.

@@ -1,7 +1,8 @@
--- No core holds or keeps a word of the object in a frame to which nothing refers, and for which no other core waits: who holds one, relies on
--- its frame.
+-- No core holds or keeps a word of the object in a frame to which nothing refers, and for which no other core waits: who holds one, relies
+-- on its frame.
 use Rattle.std.specs.Prelude.{if◌then◌else◌}
-use Rattle.std.proofs.Common.{◌≡◌, ◌≢◌, ◌⊎◌, inl, inr, ℕ, zero, suc, ◌+◌, ◌<◌, ◌≤◌, ◌==◌, ◌&&◌, Bool, true, false, List, [], ◌∷◌, Option, Some, None, arith, refl, sym, ◌∙◌, ap, subst}
+use Rattle.std.proofs.Common.{◌≡◌, ◌≢◌, ◌⊎◌, inl, inr, ℕ, zero, suc, ◌+◌, ◌<◌, ◌≤◌, ◌==◌, ◌&&◌, Bool, true}
+use Rattle.std.proofs.Common.{false, List, [], ◌∷◌, Option, Some, None, arith, refl, sym, ◌∙◌, ap, subst}
 use Rattle.std.proofs.lemmas.Bool.{cases_eq, cases_lt, false≢true, ne_eqb}
 use Rattle.spk_nums.specs.Setting.{Setting, IsSetting}
 use Rattle.spk_nums.specs.Capability.{Capability}
@@ -16,7 +17,8 @@ use Rattle.stage_thread.specs.declared.stack.Pop.{Pop as PopOf}
 use Rattle.stage_thread.specs.declared.stack.Pop.TheVariants as pop
 use Rattle.stage_tcap.specs.declared.pair.Pair.{Pair}
 use Rattle.stage_tcap.specs.declared.pair.PairAt.{PairAt}
-use Rattle.stage_tcap.specs.declared.pair.PairAt.TheVariants.{LoadA, MarkA, ListA, LoadB, ListB, CompareB, AgainB, StoreList, StoreB, StoreA}
+use Rattle.stage_tcap.specs.declared.pair.PairAt.TheVariants.{LoadA, MarkA, ListA, LoadB, ListB, CompareB}
+use Rattle.stage_tcap.specs.declared.pair.PairAt.TheVariants.{AgainB, StoreList, StoreB, StoreA}
 use Rattle.stage_pins.specs.declared.held.Acquired.{Acquired}
 use Rattle.word_map.specs.Word.{EntryAt}
 use Rattle.kernel_rules.specs.State.{State, FrameOf}
@@ -43,9 +45,11 @@ use Rattle.act_states.specs.declared.switches.Switching.{Switching}
 use Rattle.act_states.specs.declared.switches.SwitchAt.{SwitchAt}
 use Rattle.act_states.specs.declared.switches.SwitchAt.TheVariants as switch_at
 use Rattle.act_states.specs.declared.work.Act.{Act as ActOf}
-use Rattle.act_states.specs.declared.work.Act.TheVariants.{Fill, Remove, Retype, Make, Outside, Tick, Flush, Kill, Untype, Map as map_act, MakeComp, Invoke, Return, Touch, Share, Switch}
+use Rattle.act_states.specs.declared.work.Act.TheVariants.{Fill, Remove, Retype, Make, Outside, Tick, Flush, Kill, Untype}
+use Rattle.act_states.specs.declared.work.Act.TheVariants.{Map as map_act, MakeComp, Invoke, Return, Touch, Share, Switch}
 use Rattle.act_states.specs.declared.work.Tail.{Tail}
-use Rattle.act_states.specs.declared.work.Tail.TheVariants.{Nothing, Quiesce, Unmark, StoreDead, StoreFlush, Release, StoreLive, Push, Pop, Share as share_tail, StoreRunning, StoreIdle}
+use Rattle.act_states.specs.declared.work.Tail.TheVariants.{Nothing, Quiesce, Unmark, StoreDead, StoreFlush, Release}
+use Rattle.act_states.specs.declared.work.Tail.TheVariants.{StoreLive, Push, Pop, Share as share_tail, StoreRunning, StoreIdle}
 use Rattle.act_states.specs.declared.work.Work.{Work}
 use Rattle.act_states.specs.declared.work.Work.TheVariants.{Lookup, Read, Scan, Acquire, Act as act_work}
 use Rattle.call_stages.specs.declared.stages.ActiveCall.{ActiveCall}
@@ -58,7 +62,9 @@ use Rattle.core_invariant.specs.Holding.{Holding, holds_counts, holds_closed, ho
 use Rattle.core_invariant.specs.Frozen.{holds_untyping}
 use Rattle.core_invariant.specs.Knows.{KnowsAct, KnowsAt, KnowsClose, KnowsStore, KnowsTail, KnowsWork, CallIs, phase_at}
 use Rattle.core_invariant.specs.Shares.{KnowsShare, KnowsShared, KnowsStoresAt}
-use Rattle.core_invariant.specs.Invariant.{Invariant, holds, held_by, holds_act, holds_at, holds_comp, holds_head, holds_heads, holds_in, holds_killing, holds_making, holds_pop, holds_push, holds_share, holds_shared, holds_stage, holds_tail, holds_work, is_done}
+use Rattle.core_invariant.specs.Invariant.{Invariant, holds, held_by, holds_act, holds_at, holds_comp, holds_head}
+use Rattle.core_invariant.specs.Invariant.{holds_heads, holds_in, holds_killing, holds_making, holds_pop, holds_push}
+use Rattle.core_invariant.specs.Invariant.{holds_share, holds_shared, holds_stage, holds_tail, holds_work, is_done}
 use Rattle.core_invariant.specs.Threads.{KnowsSwitch, holds_switching}
 use Rattle.kept_knowledge.proofs.Carries.{slot_relies}
 use Rattle.core_invariant.proofs.Freezing.{release_entry}
@@ -135,7 +141,8 @@ module _ (f i : ℕ) where
   switch_entry m (switch_at.LoadPages to table) h old new = keep_other to.thread 0 (h.marks (EntryAt f i)) f i new
   switch_entry m (switch_at.Leave to table pages) h old new = keep_other to.thread 0 (h.marks (EntryAt f i)) f i new
   switch_entry m (switch_at.Draw to table pages) h old new =
-      keep_other to.thread 0 (if f == m.old && i == 0 then true else h.marks (EntryAt f i)) f i new ∙ keep_other m.old 0 (h.marks (EntryAt f i)) f i old
+      keep_other to.thread 0 (if f == m.old && i == 0 then true else h.marks (EntryAt f i)) f i new
+      ∙ keep_other m.old 0 (h.marks (EntryAt f i)) f i old
 
 module _ (setup : Setting) (setting : IsSetting setup) (cores : ℕ → Core) (t : Trace) (stands : Invariant setup cores t) (f : ℕ)
     (zero_refs : refs (state_after setup t) f ≡ 0) where
@@ -146,7 +153,8 @@ module _ (setup : Setting) (setting : IsSetting setup) (cores : ℕ → Core) (t
   pub no_thread : (d : ℕ) → d < setup.cores → (s.core d).thread ≢ f
   no_thread d below same =
       let none : times f (core_names (s.core d)) ≡ 0 =
-      (unnamed s f zero_refs).cores d (subst (λ (n : ℕ). d < n) (sym (ap (λ l. l.cores) (Rattle.core_invariant.proofs.Sounds.limits_of setup t))) below) in
+      (unnamed s f zero_refs).cores d
+      (subst (λ (n : ℕ). d < n) (sym (ap (λ l. l.cores) (Rattle.core_invariant.proofs.Sounds.limits_of setup t))) below) in
       let one : 1 ≤ times f (f ∷ (s.core d).tcap ∷ []) = times_first f ((s.core d).tcap ∷ []) in
       let at : times f (f ∷ (s.core d).tcap ∷ []) ≡ 0 = ap (λ n. times f (n ∷ (s.core d).tcap ∷ [])) (sym same) ∙ none in
       omega (arith, one, at)
@@ -161,14 +169,16 @@ module _ (setup : Setting) (setting : IsSetting setup) (cores : ℕ → Core) (t
           → KnowsClose setup t d call plan found close cap → (h : Holding) → Same f i (holds_closed close cap h) h
       closed_entry call is_open plan found (AtCompare node index word by) cap knows h = refl
       closed_entry call is_open plan found (AtDraw node index) cap knows h =
-          keep_other node index (h.marks (EntryAt f i)) f i (apart node (slot_relies setup setting t stands.legal d call is_open knows.target
+          keep_other node index (h.marks (EntryAt f i)) f i
+          (apart node (slot_relies setup setting t stands.legal d call is_open knows.target
           (record { node = node; index = index }) knows.way).guarded)
       closed_entry call is_open plan found (AtStore node index at) cap knows h = refl
 
       stored_entry : (call : Call) (close : Close) → KnowsStore setup t d call close → (h : Holding) → Same f i (holds_drawn close h) h
       stored_entry call (AtCompare node index word by) knows h = refl
       stored_entry call (AtDraw node index) knows h = refl
-      stored_entry call (AtStore node index at) knows h = keep_other node index (h.marks (EntryAt f i)) f i (apart node knows.relies.guarded)
+      stored_entry call (AtStore node index at) knows h =
+          keep_other node index (h.marks (EntryAt f i)) f i (apart node knows.relies.guarded)
 
       act_entry : (call : Call) → phase t d ≡ Open call → (plan : Plan) (found : List Capability) (upto : ℕ) (act : ActOf)
           → KnowsAct setup t d call plan found upto act → (h : Holding) → Same f i (holds_act act h) h

@@ -1,8 +1,9 @@
--- The step of a retype to untyped that looks at a word of the object in its frame: what it finds is what the object is, and it goes on, or the
--- object is not empty.
+-- The step of a retype to untyped that looks at a word of the object in its frame: what it finds is what the object is, and it goes on, or
+-- the object is not empty.
 use Rattle.std.specs.Prelude.{if◌then◌else◌, not}
 use Rattle.std.specs.List.{list_any}
-use Rattle.std.proofs.Common.{◌≡◌, ◌≢◌, ◌⊎◌, inl, inr, ℕ, ◌+◌, ◌<◌, ◌≤◌, ◌==◌, ◌&&◌, ◌||◌, nat_lt, nat_le, length, Bool, true, false, List, [], ◌∷◌, Option, Some, None, IsTrue, arith, refl, sym, ◌∙◌, ap, subst}
+use Rattle.std.proofs.Common.{◌≡◌, ◌≢◌, ◌⊎◌, inl, inr, ℕ, ◌+◌, ◌<◌, ◌≤◌, ◌==◌, ◌&&◌, ◌||◌, nat_lt, nat_le, length, Bool}
+use Rattle.std.proofs.Common.{true, false, List, [], ◌∷◌, Option, Some, None, IsTrue, arith, refl, sym, ◌∙◌, ap, subst}
 use Rattle.std.proofs.lemmas.Bool.{cases_eq, eq-eqb, eqb-true, false≢true, ltb-true, ltb-false, leb-true, leb-false}
 use Rattle.spk_nums.specs.Setting.{Setting, IsSetting}
 use Rattle.spk_nums.specs.declared.calls.Call.{Call}
@@ -36,7 +37,8 @@ use Rattle.call_plans.specs.GoesBy.{own_pages}
 use Rattle.plan_ways.proofs.Ways.{asked_left}
 use Rattle.stage_quiet.specs.declared.quiet.Quiet.{Quiet}
 use Rattle.stage_quiet.specs.declared.quiet.Quiet.TheVariants.{AtCore, AtFlush}
-use Rattle.stage_quiet.specs.Scan.{next_other, core_scan, flush_scan, core_refuses, flush_refuses, scan_end, scan_after, quiet_next, quiet_end, quiet_after}
+use Rattle.stage_quiet.specs.Scan.{next_other, core_scan, flush_scan, core_refuses, flush_refuses}
+use Rattle.stage_quiet.specs.Scan.{scan_end, scan_after, quiet_next, quiet_end, quiet_after}
 use Rattle.stage_sweep.specs.Counters.{latest_stamp}
 use Rattle.stage_sweep.specs.Emptiness.{may_be_cached, loads_of, empty_refuses, owned_after}
 use Rattle.stage_sweep.specs.Freeze.{refusal_of, scan_goes, empty_next, at_after, end_by, swept_of}
@@ -72,7 +74,8 @@ use Rattle.core_invariant.proofs.Sounds.{limits_of}
 use Rattle.scan_invariant.proofs.FlushScans.{flush_is_stored, flush_shown, lowest_is, still_unflushed, unflushed_shown}
 use Rattle.scan_invariant.proofs.Scans.{before_next}
 use Rattle.place_invariant.proofs.Vacancy.{none_waits, none_unflushed}
-use Rattle.freeze_invariant.proofs.Counters.{sweeping, untyping_by, sweep_knows, sweep_held, sweep_counts, sweep_frame, sweep_refs, sweep_since, undo_with, undo_known}
+use Rattle.freeze_invariant.proofs.Counters.{sweeping, untyping_by, sweep_knows, sweep_held, sweep_counts}
+use Rattle.freeze_invariant.proofs.Counters.{sweep_frame, sweep_refs, sweep_since, undo_with, undo_known}
 use Rattle.freeze_invariant.proofs.FrameQuiet as quieting
 use Rattle.freeze_invariant.proofs.FrameQuiet.{cached_is, unpaged_frame}
 use Rattle.freeze_invariant.proofs.UntypeCalls as calls
@@ -242,7 +245,8 @@ module _ (setup : Setting) (setting : IsSetting setup) (cores : ℕ → Core) (t
                     kept = knows.kept;
                     at = record {
                       frozen = swept.frozen;
-                      quiet = quiet_then (e ∷ t) (λ y upto flushes. quiet_frame_on setup setting t e stands.legal c a.call is_open carries f y upto
+                      quiet = quiet_then (e ∷ t)
+                          (λ y upto flushes. quiet_frame_on setup setting t e stands.legal c a.call is_open carries f y upto
                           flushes);
                       looked = looked;
                     };
@@ -258,7 +262,8 @@ module _ (setup : Setting) (setting : IsSetting setup) (cores : ℕ → Core) (t
             let e : Step = step_to c None load (last_left setup t (EntryAt g i)) None None in
             let no_counts = sweep_counts setup setting cores t stands c here a active f core word w stage_is has in
             let done : Swept = swept_of (sweeping g v b kept owned (Empty i)) in
-            let apart : OwnedApart f (owned_dues owned) = owned_apart f owned.first owned.second (subst (Rattle.sweep_invariant.proofs.OwnedFrames.Differ f) (sym (names last))
+            let apart : OwnedApart f (owned_dues owned) =
+            owned_apart f owned.first owned.second (subst (Rattle.sweep_invariant.proofs.OwnedFrames.Differ f) (sym (names last))
             (names_differ s (opened (events_of t)) (sound_of setup setting t stands.legal) f (i + 1) owned
             (subst (λ (x : FrameWord). loads_of x.object ≤ i + 1) object_frame last) looked)) in
             loads_on setup setting cores t stands c here a active load a.found
@@ -278,7 +283,8 @@ module _ (setup : Setting) (setting : IsSetting setup) (cores : ℕ → Core) (t
                     kept = knows.kept;
                     swept = record {
                       frozen = swept.frozen;
-                      quiet = quiet_then (e ∷ t) (λ y upto flushes. quiet_frame_on setup setting t e stands.legal c a.call is_open carries f y
+                      quiet = quiet_then (e ∷ t)
+                          (λ y upto flushes. quiet_frame_on setup setting t e stands.legal c a.call is_open carries f y
                           upto flushes);
                       looked = subst (λ (n : ℕ). IsLookedAt s f (s.frame f) n owned)
                           (let l = last in let k = entry_below in omega (arith, l, k)) looked;

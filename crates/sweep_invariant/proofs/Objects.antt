@@ -1,6 +1,7 @@
 -- Whether the object in a frame that is made untyped is empty: by one word of it after another.
 use Rattle.std.specs.Prelude.{if◌then◌else◌, slice_get, reverse}
-use Rattle.std.proofs.Common.{◌≡◌, ◌≢◌, ◌⊎◌, inl, inr, ℕ, zero, suc, ◌+◌, ◌<◌, ◌≤◌, ◌==◌, nat_lt, nat_le, length, Bool, true, false, List, [], ◌∷◌, Option, Some, None, IsTrue, arith, refl, sym, ◌∙◌, ap, subst}
+use Rattle.std.proofs.Common.{◌≡◌, ◌≢◌, ◌⊎◌, inl, inr, ℕ, zero, suc, ◌+◌, ◌<◌, ◌≤◌, ◌==◌, nat_lt, nat_le, length, Bool}
+use Rattle.std.proofs.Common.{true, false, List, [], ◌∷◌, Option, Some, None, IsTrue, arith, refl, sym, ◌∙◌, ap, subst}
 use Rattle.std.proofs.lemmas.Bool.{cases_eq, cases_lt, false≢true, eqb-true, eqb-false, lt-ltb, leb-true}
 use Rattle.spk_nums.specs.Capability.{Capability}
 use Rattle.spk_nums.specs.Setting.{Setting, IsSetting}
@@ -19,7 +20,8 @@ use Rattle.tcap_words.specs.Stack.{stack_of_word}
 use Rattle.tcap_words.specs.Thread.{thread_of_word}
 use Rattle.tcap_words.specs.declared.head_word.HeadWord.{HeadWord}
 use Rattle.word_map.specs.Word.{EntryAt}
-use Rattle.kernel_rules.specs.State.{Object, Blank, Table, Leaf, Pages, Pleaf, Comp, Thread, Tcap, CompFields, ThreadFields, TcapFields, Frame, Untyped, User, Kernel, Place, Free, Holds, Quiescing, PlaceOf, State}
+use Rattle.kernel_rules.specs.State.{Object, Blank, Table, Leaf, Pages, Pleaf, Comp, Thread, Tcap, CompFields, ThreadFields}
+use Rattle.kernel_rules.specs.State.{TcapFields, Frame, Untyped, User, Kernel, Place, Free, Holds, Quiescing, PlaceOf, State}
 use Rattle.kernel_rules.specs.Access.{held_in}
 use Rattle.kernel_rules.specs.Fitting.{fits}
 use Rattle.kernel_rules.specs.MemoryCalls.{is_empty, holds_nothing}
@@ -34,7 +36,9 @@ use Rattle.kernel_history.specs.Trace.{Trace, state_after, last_left}
 use Rattle.trace_laws.proofs.GraceSteps.{cases_bool}
 use Rattle.trace_laws.proofs.Stays.{sound_of}
 use Rattle.stage_look.specs.Shown.{shown_in}
-use Rattle.stage_sweep.specs.Emptiness.{loads_of, empty_refuses, entry_refuses, field_refuses, head_refuses, head_by_mark, owned_after, owns, frame_if, place_owned, place_refuses, stack_owned, stack_refuses, thread_refuses, depth_refuses}
+use Rattle.stage_sweep.specs.Emptiness.{loads_of, empty_refuses, entry_refuses, field_refuses, head_refuses}
+use Rattle.stage_sweep.specs.Emptiness.{head_by_mark, owned_after, owns, frame_if, place_owned, place_refuses}
+use Rattle.stage_sweep.specs.Emptiness.{stack_owned, stack_refuses, thread_refuses, depth_refuses}
 use Rattle.stage_sweep.specs.declared.empty.Owned.{Owned}
 use Rattle.stage_sweep.specs.declared.sweep.SweepAt.TheVariants.{Empty}
 use Rattle.act_states.specs.Untypings.{OwnedBy}
@@ -50,7 +54,8 @@ use Rattle.core_invariant.specs.Words.{HeadIs, IsFrameWord, PlaceIs, count_room}
 use Rattle.core_invariant.proofs.Sounds.{limits_of}
 use Rattle.look_invariant.proofs.Lookups.{IsShown, Shows, ShowsHeld, shown_of}
 use Rattle.freeze_invariant.proofs.Counters.{sweeping, untyping_by}
-use Rattle.sweep_invariant.proofs.ObjectLoads.{Result, entry_below, goes_on, holds_some, looked_so_far, object_frame, object_says, owned_fits}
+use Rattle.sweep_invariant.proofs.ObjectLoads.{Result, entry_below, goes_on, holds_some}
+use Rattle.sweep_invariant.proofs.ObjectLoads.{looked_so_far, object_frame, object_says, owned_fits}
 
 -- A frame that fits a kind is one of the machine.
 section_below : (s : State) (o : ℕ → Bool) → IsSound s o → (k : Kind) → fits k Untyped ≡ false → (f : ℕ) → IsTrue (fits k (s.frame f))
@@ -171,7 +176,8 @@ module _ (setup : Setting) (setting : IsSetting setup) (cores : ℕ → Core) (t
             (on (record { first = Some k.table; second = o.second })
             (look (record { first = Some k.table; second = o.second })
             (record { first = λ some. refl; second = λ two. absurd (omega (arith, two, is)) }))
-            (λ last. absurd (let l : 2 ≤ i + 1 = subst (λ x. loads_of x ≤ i + 1) (object_is (Kernel (Comp k)) at) last in omega (arith, l, is)))))
+            (λ last. absurd (let l : 2 ≤ i + 1 = subst (λ x. loads_of x ≤ i + 1) (object_is (Kernel (Comp k)) at) last in
+            omega (arith, l, is)))))
         by (suc zero) is = within k.pages
             (subst (λ x. IsFrameWord n (count_room s) x (s.place f 1) (stamp setup t (PlaceOf f 1)) 1 was) at
             (subst (λ (j : ℕ). IsFrameWord n (count_room s) (s.frame f) (s.place f j) (stamp setup t (PlaceOf f j)) j was) is says))
@@ -211,7 +217,8 @@ module _ (setup : Setting) (setting : IsSetting setup) (cores : ℕ → Core) (t
           bottom = 0;
           first = λ two. absurd (omega (arith, two, is));
           stack = λ two. absurd (omega (arith, two, is));
-        })) (λ last. absurd (let l : 2 ≤ i + 1 = subst (λ x. loads_of x ≤ i + 1) (object_is (Kernel (Thread k)) at) last in omega (arith, l, is)))
+        })) (λ last. absurd (let l : 2 ≤ i + 1 = subst (λ x. loads_of x ≤ i + 1) (object_is (Kernel (Thread k)) at) last in
+            omega (arith, l, is)))
         by_depth false more is = full o (ap (is_empty s f) at ∙ deep (nat_le (length k.stack) 1) refl)
           where
             deep : (x : Bool) → nat_le (length k.stack) 1 ≡ x → x ≡ false

@@ -1,11 +1,13 @@
--- The frames that an object itself names differ from one another, and from its own: so their counts may be acquired while its own counters are
--- frozen.
+-- The frames that an object itself names differ from one another, and from its own: so their counts may be acquired while its own counters
+-- are frozen.
 use Rattle.std.specs.Prelude.{All}
-use Rattle.std.proofs.Common.{◌≡◌, ◌≢◌, ℕ, ◌+◌, ◌<◌, ◌≤◌, Bool, true, false, List, [], ◌∷◌, length, Option, Some, None, IsTrue, arith, refl, sym, ◌∙◌, ap, subst}
+use Rattle.std.proofs.Common.{◌≡◌, ◌≢◌, ℕ, ◌+◌, ◌<◌, ◌≤◌, Bool, true, false, List, [], ◌∷◌, length}
+use Rattle.std.proofs.Common.{Option, Some, None, IsTrue, arith, refl, sym, ◌∙◌, ap, subst}
 use Rattle.std.proofs.lemmas.Bool.{false≢true}
 use Rattle.std.proofs.lemmas.List.Elements.{All-nil, All-cons, All-head, All-tail}
 use Rattle.spk_nums.specs.declared.kinds.Kind.TheVariants as kind
-use Rattle.kernel_rules.specs.State.{CompFields, ThreadFields, Object, Blank, Table, Leaf, Pages, Pleaf, Comp, Thread, Tcap, Frame, Untyped, User, Kernel, State}
+use Rattle.kernel_rules.specs.State.{CompFields, ThreadFields, Object, Blank, Table, Leaf, Pages}
+use Rattle.kernel_rules.specs.State.{Pleaf, Comp, Thread, Tcap, Frame, Untyped, User, Kernel, State}
 use Rattle.kernel_rules.specs.Fitting.{fits}
 use Rattle.kernel_rules.specs.References.{frame_names}
 use Rattle.kernel_invariant.proofs.Sound.{IsSound, IsObjectGood, IsStack}
@@ -35,7 +37,8 @@ module _ (s : State) (o : ℕ → Bool) (h : IsSound s o) (f : ℕ) where
   comp_differs k at =
       let good : IsObjectGood s (Kernel (Comp k)) = subst (IsObjectGood s) at (h.objects f) in record {
         two = λ x y same both. both_fit (s.frame k.table) good.0
-            (subst (λ (n : ℕ). IsTrue (fits kind.Pages (s.frame n))) (sym (first k.table x k.pages y same ∙ both ∙ sym (second k.table x k.pages y same)))
+            (subst (λ (n : ℕ). IsTrue (fits kind.Pages (s.frame n)))
+            (sym (first k.table x k.pages y same ∙ both ∙ sym (second k.table x k.pages y same)))
             good.1);
         own = All-cons (λ g. g ≢ f) k.table (k.pages ∷ [])
             (λ same. false≢true (sym (ap (fits kind.Table) (ap s.frame same ∙ at)) ∙ good.0))

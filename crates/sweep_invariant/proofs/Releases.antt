@@ -1,7 +1,8 @@
--- The stores of a call that has swept a frame: after its decision it commits its counts, then it gives back the frame's counters, as they were
--- found or cleared, and at last the frame's word.
+-- The stores of a call that has swept a frame: after its decision it commits its counts, then it gives back the frame's counters, as they
+-- were found or cleared, and at last the frame's word.
 use Rattle.std.specs.Prelude.{if◌then◌else◌, slice_get}
-use Rattle.std.proofs.Common.{◌≡◌, ◌≢◌, ◌⊎◌, inl, inr, ℕ, ◌+◌, ◌^◌, ◌<◌, ◌≤◌, ◌==◌, ◌&&◌, nat_lt, nat_le, length, All, Bool, true, false, List, [], ◌∷◌, Option, Some, None, IsTrue, arith, refl, sym, ◌∙◌, ap, subst}
+use Rattle.std.proofs.Common.{◌≡◌, ◌≢◌, ◌⊎◌, inl, inr, ℕ, ◌+◌, ◌^◌, ◌<◌, ◌≤◌, ◌==◌, ◌&&◌, nat_lt, nat_le, length, All, Bool}
+use Rattle.std.proofs.Common.{true, false, List, [], ◌∷◌, Option, Some, None, IsTrue, arith, refl, sym, ◌∙◌, ap, subst}
 use Rattle.std.proofs.lemmas.Bool.{cases_eq, false≢true, ne_eqb, eqb-true, le-leb, leb-true, leb-false, ltb-true, ltb-false}
 use Rattle.std.proofs.lemmas.List.Elements.{All-head, All-tail}
 use Rattle.spk_nums.specs.Setting.{Setting, IsSetting}
@@ -229,7 +230,8 @@ module _ (setup : Setting) (setting : IsSetting setup) (cores : ℕ → Core) (t
     was_held = held_is o stage_is ∙ ap (λ ys. holds_release (release o) (holds_counts fate ys)) counts_are
 
     count_away : (h : Holding) → SameAt (holds_release (release o) h) h (count_of x)
-    count_away h = release_away (release o) h x.pin.frame (Rattle.word_map.specs.Places.counter_of x.pin.core) release_known.thaws other_frame
+    count_away h = release_away (release o) h x.pin.frame
+        (Rattle.word_map.specs.Places.counter_of x.pin.core) release_known.thaws other_frame
 
     own_mark : marked_by setup t (count_of x) ≡ Some c
     own_mark = (stands.marks (count_of x) c).kept (ap (λ h. h.marks (count_of x)) was_held
@@ -405,7 +407,8 @@ module _ (setup : Setting) (setting : IsSetting setup) (cores : ℕ → Core) (t
         (spares_other setup t e (λ g i h. cc)) (lent_elsewhere cores e (λ g i h. cc))
 
 -- The step of a call that has still to release a frame.
-pub release_good : (setup : Setting) → IsSetting setup → (cores : ℕ → Core) (t : Trace) → Invariant setup cores t → (c : ℕ) → c < setup.cores
+pub release_good : (setup : Setting) → IsSetting setup
+    → (cores : ℕ → Core) (t : Trace) → Invariant setup cores t → (c : ℕ) → c < setup.cores
     → (a : ActiveCall) → (cores c).active ≡ Some a → (r : Reply) (drawn : Option ℕ) (x : Release)
     → a.stage ≡ Decided r drawn (release_tail x) → KnowsTail setup t c a.call a.counts (release_tail x)
     → GoodTook setup cores t c (tail_move r drawn (release_tail x) a.counts)
@@ -425,5 +428,6 @@ release_good setup setting cores t stands c here a active r drawn x is has = by 
         → KnowsTail setup t c a.call a.counts (release_tail (record { frame = x.frame; word = x.word; thaw = o })) → Goal xs o
     by (y ∷ ys) counts_are o at knows =
         commit_beside setup setting cores t stands c here a active r drawn x.frame x.word o at knows y ys counts_are
-    by [] counts_are (Some th) at knows = thaw_good setup setting cores t stands c here a active r drawn x.frame x.word th at knows counts_are
+    by [] counts_are (Some th) at knows =
+        thaw_good setup setting cores t stands c here a active r drawn x.frame x.word th at knows counts_are
     by [] counts_are None at knows = bare_good setup setting cores t stands c here a active r drawn x.frame x.word at knows counts_are

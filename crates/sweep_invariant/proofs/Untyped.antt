@@ -1,8 +1,9 @@
--- The draw of a retype to untyped: the call is carried out, and the frame is untyped from then on. Nothing referred to it, and nobody waited
--- for it; its grace period is ended, and the references of its object are released.
+-- The draw of a retype to untyped: the call is carried out, and the frame is untyped from then on. Nothing referred to it, and nobody
+-- waited for it; its grace period is ended, and the references of its object are released.
 use Rattle.std.specs.Prelude.{if◌then◌else◌, IsSome, slice_get}
 use Rattle.std.specs.List.{list_any}
-use Rattle.std.proofs.Common.{◌≡◌, ◌≢◌, ◌⊎◌, inl, inr, ℕ, pos, negsuc, ◌+ℤ◌, max, length, ◌+◌, ◌^◌, ◌<◌, ◌≤◌, ◌==◌, ◌&&◌, ◌||◌, Bool, true, false, All, map, List, [], ◌∷◌, Option, Some, None, IsTrue, arith, refl, sym, ◌∙◌, ap, subst}
+use Rattle.std.proofs.Common.{◌≡◌, ◌≢◌, ◌⊎◌, inl, inr, ℕ, pos, negsuc, ◌+ℤ◌, max, length, ◌+◌, ◌^◌, ◌<◌, ◌≤◌, ◌==◌, ◌&&◌, ◌||◌, Bool}
+use Rattle.std.proofs.Common.{true, false, All, map, List, [], ◌∷◌, Option, Some, None, IsTrue, arith, refl, sym, ◌∙◌, ap, subst}
 use Rattle.std.proofs.Math.IntN.{pos-+ℤ-pos, +ℤ_assoc, +ℤ_invr, +ℤ_idr}
 use Rattle.std.proofs.lemmas.Bool.{cases_eq, eq-eqb, eqb-true, ne_eqb, false≢true}
 use Rattle.std.proofs.lemmas.List.Elements.{All-nil, All-cons}
@@ -24,7 +25,8 @@ use Rattle.frame_words.proofs.FrameLemmas as frames
 use Rattle.word_map.specs.Word.{Word, EntryAt, FrameAt, CountAt, CoreAt, FlushAt, LiveAt, ClockAt, same_word}
 use Rattle.word_map.specs.Moves.{Move, AddOf, word_of}
 use Rattle.word_map.proofs.WordLemmas.{same_same}
-use Rattle.kernel_rules.specs.State.{Frame, Kernel, Untyped, Thing, PlaceOf, FrameOf, NumberOf, Grace, State, put, comp_in, thread_in, with_frame, with_grace}
+use Rattle.kernel_rules.specs.State.{Frame, Kernel, Untyped, Thing, PlaceOf, FrameOf, NumberOf}
+use Rattle.kernel_rules.specs.State.{Grace, State, put, comp_in, thread_in, with_frame, with_grace}
 use Rattle.kernel_rules.specs.Access.{Slot, own}
 use Rattle.kernel_rules.specs.Rules.{Change, Found, IsFoundAnd, When, frames_of, refusal_of}
 use Rattle.kernel_rules.specs.MemoryCalls.{is_empty, retypes}
@@ -44,7 +46,8 @@ use Rattle.kernel_history.specs.Justified.{HasReached}
 use Rattle.kernel_history.specs.Marking.{marked_by}
 use Rattle.kernel_history.specs.Marks.{mark_of, mark_in_frame}
 use Rattle.kernel_history.specs.ObjectWords.{frame_value}
-use Rattle.kernel_history.specs.Stamps.{begins_in as begins_then, ends_in, flushes_in, begins_at, ends_at, flushes_at, stamp, clock, flush_stored}
+use Rattle.kernel_history.specs.Stamps.{begins_in as begins_then, ends_in, flushes_in, begins_at}
+use Rattle.kernel_history.specs.Stamps.{ends_at, flushes_at, stamp, clock, flush_stored}
 use Rattle.kernel_history.specs.Trace.{Step, Trace, Open, phase, state_after, state_decided_in, last_left, own_left}
 use Rattle.kernel_history.specs.Ways.{way_to, ways}
 use Rattle.trace_laws.proofs.AloneCalls.{ok_first}
@@ -90,7 +93,8 @@ use Rattle.core_invariant.proofs.Bare.{counts_bare}
 use Rattle.kept_words.proofs.Calm.{counts as calm_counts, calm_counted, same_works, plain_exit, room_grows, counted_grows}
 use Rattle.kept_words.proofs.CountSums.{counted_refs}
 use Rattle.step_ways.proofs.Draws as drawing
-use Rattle.core_invariant.proofs.Freezing.{IsFrozenWord, frozen_word, release_away, release_bare, release_entry, release_frame, thaw_all, thaw_from, thaws_own}
+use Rattle.core_invariant.proofs.Freezing.{IsFrozenWord, frozen_word, release_away, release_bare}
+use Rattle.core_invariant.proofs.Freezing.{release_entry, release_frame, thaw_all, thaw_from, thaws_own}
 use Rattle.step_ways.proofs.Loads.{inner}
 use Rattle.step_ways.proofs.Refusals.{GoodTook}
 use Rattle.core_invariant.proofs.Sounds.{limits_of}
@@ -395,7 +399,8 @@ module _ (setup : Setting) (setting : IsSetting setup) (cores : ℕ → Core) (t
     stays (EntryAt g i) no_clock bare = elim (cases_eq g f) [
       | inl same ↦ λ is. subst (λ y. Rattle.core_invariant.specs.Words.IsFrameWord s'.limits.frames (count_room s') y (s'.place g i)
           (stamp setup (e ∷ t) (PlaceOf g i)) i (settled setup (held_by cores) t (EntryAt g i))) (sym (ap s'.frame same ∙ frame_now)) tt
-      | inr other ↦ word_stays s s' (times_of setup t) (times_of setup (e ∷ t)) (EntryAt g i) (settled setup (held_by cores) t (EntryAt g i))
+      | inr other ↦ word_stays s s' (times_of setup t) (times_of setup (e ∷ t))
+          (EntryAt g i) (settled setup (held_by cores) t (EntryAt g i))
           (record {
             frames = ap (λ l. l.frames) limits;
             frame = frames_now g other;
@@ -416,7 +421,8 @@ module _ (setup : Setting) (setting : IsSetting setup) (cores : ℕ → Core) (t
         word_stays s s' (times_of setup t) (times_of setup (e ∷ t)) (CoreAt d) (settled setup (held_by cores) t (CoreAt d))
         (record { inside = decided-inside (Some r) (phase t c) s c d; exit = plain_exit t e refl d })
     stays (FlushAt d) no_clock bare =
-        word_stays s s' (times_of setup t) (times_of setup (e ∷ t)) (FlushAt d) (settled setup (held_by cores) t (FlushAt d)) (stored_same d)
+        word_stays s s' (times_of setup t) (times_of setup (e ∷ t)) (FlushAt d)
+        (settled setup (held_by cores) t (FlushAt d)) (stored_same d)
     stays (LiveAt l) no_clock bare =
         word_stays s s' (times_of setup t) (times_of setup (e ∷ t)) (LiveAt l) (settled setup (held_by cores) t (LiveAt l))
         (record { number = ap (λ y. y.number l) now; stamp = stamp_number l })
@@ -513,7 +519,8 @@ module _ (setup : Setting) (setting : IsSetting setup) (cores : ℕ → Core) (t
     sums g = elim (cases_eq g f) [
       | inl same ↦ subst (SumIs setup (held_by (put cores c after)) (e ∷ t)) (sym same) own_sum
       | inr other ↦ spared_sum setup setting cores t stands c here a active (Some now_at) drawn_small ds has.knows.all
-          (due_small w.owned.first w.owned.second) (λ (n : ℕ). n ≢ f) away (AddOf ClockAt 1) r after still before_count after_count alike refl
+          (due_small w.owned.first w.owned.second) (λ (n : ℕ). n ≢ f) away
+          (AddOf ClockAt 1) r after still before_count after_count alike refl
           refl no_count (ap (λ l. l.cores) limits) kept changes g other
     ]
 

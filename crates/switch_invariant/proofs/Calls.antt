@@ -1,5 +1,6 @@
 -- What a call that switches knows of its rule: what is left of it after its names, and what refuses it; and of the two threads.
-use Rattle.std.proofs.Common.{◌≡◌, ◌≢◌, inl, inr, ℕ, ◌<◌, ◌++◌, ◌||◌, map, Bool, true, false, List, [], ◌∷◌, Option, Some, None, IsTrue, refl, sym, ◌∙◌, ap, subst}
+use Rattle.std.proofs.Common.{◌≡◌, ◌≢◌, inl, inr, ℕ, ◌<◌, ◌++◌, ◌||◌, map, Bool, true, false, List}
+use Rattle.std.proofs.Common.{[], ◌∷◌, Option, Some, None, IsTrue, refl, sym, ◌∙◌, ap, subst}
 use Rattle.std.proofs.lemmas.Bool.{eq-eqb, false≢true}
 use Rattle.std.specs.List.{flat_map}
 use Rattle.spk_nums.specs.Capability.{Capability}
@@ -132,7 +133,8 @@ module _ (setup : Setting) (setting : IsSetting setup) (cores : ℕ → Core) (t
   core_below = subst (λ (n : ℕ). c < n) (sym (ap (λ l. l.cores) (limits_of setup t))) here
 
   -- the thread, and the core's own thread and temporal capability
-  pub holds_thread : (state_after setup t).frame (claimed_by m.at) ≡ Kernel (Thread (thread_in ((state_after setup t).frame (claimed_by m.at))))
+  pub holds_thread : (state_after setup t).frame (claimed_by m.at)
+      ≡ Kernel (Thread (thread_in ((state_after setup t).frame (claimed_by m.at))))
   holds_thread = thread_is (s.frame f) knows.thread.thread
 
   pub own_thread : IsTrue (fits kind.Thread ((state_after setup t).frame m.old))
@@ -159,10 +161,12 @@ module _ (setup : Setting) (setting : IsSetting setup) (cores : ℕ → Core) (t
   left_rule o = switch_to (state_after setup t) c (found is_switch.thread) is_switch.tcap.frame o
 
   pub left : rule_after (rule_of (state_after setup t) c a.call) a.found
-      ≡ switch_to (state_after setup t) c (found is_switch.thread) is_switch.tcap.frame (thread_in ((state_after setup t).frame (claimed_by m.at))).runs_on
+      ≡ switch_to (state_after setup t) c (found is_switch.thread) is_switch.tcap.frame
+      (thread_in ((state_after setup t).frame (claimed_by m.at))).runs_on
   left = ap (λ x. rule_after (rule_of s c x) a.found) is_switch.call_is
       ∙ ap (rule_after (rule_of s c (Switch is_switch.name is_switch.other))) is_switch.found_is
-      ∙ ap (λ (g : ℕ). switch_to s c (found is_switch.thread) is_switch.tcap.frame (thread_in (s.frame g)).runs_on) (sym is_switch.thread_is)
+      ∙ ap (λ (g : ℕ). switch_to s c (found is_switch.thread) is_switch.tcap.frame (thread_in (s.frame g)).runs_on)
+      (sym is_switch.thread_is)
 
   abbrev pub outcome_by : Option ℕ → Judged Change
   outcome_by None = Found (switches (state_after setup t) c ((state_after setup t).core c) is_switch.thread.frame is_switch.tcap.frame)
@@ -231,14 +235,16 @@ module _ (setup : Setting) (setting : IsSetting setup) (cores : ℕ → Core) (t
     at = now;
   }
 
-  pub looks_at : (g i : ℕ) → is_one_of g (frames_near (state_after setup t) c a.call) ≡ true → OnlyLooks setup t c a.call (LoadOf (EntryAt g i))
+  pub looks_at : (g i : ℕ) → is_one_of g (frames_near (state_after setup t) c a.call) ≡ true
+      → OnlyLooks setup t c a.call (LoadOf (EntryAt g i))
   looks_at g i near_it = record { of_call = record { moves = refl; near = inl near_it }; kept = refl; apart = λ d. refl }
 
   abbrev pub load : ℕ → ℕ → Step
   load g i = step_to c None (LoadOf (EntryAt g i)) (last_left setup t (EntryAt g i)) None None
 
   -- it goes on after a load
-  pub goes_on_to : (g i : ℕ) → is_one_of g (frames_near (state_after setup t) c a.call) ≡ true → (at : SwitchAt) → claimed_by at ≡ claimed_by m.at
+  pub goes_on_to : (g i : ℕ) → is_one_of g (frames_near (state_after setup t) c a.call) ≡ true
+      → (at : SwitchAt) → claimed_by at ≡ claimed_by m.at
       → holds_at (Undecided (Act (switch_act (record m { at = at })))) a.counts ≡ holds_in (Some a)
       → KnowsSwitchAt setup (load g i ∷ t) c at
       → dues (switch_act (record m { at = at })) ≡ map due_of a.counts

@@ -1,6 +1,7 @@
 -- The steps by which a call that switches claims a thread are good: the load of the thread's word, which refuses a thread that runs or that
 -- another core has claimed; the compare, which is lost or holds the word for the call; and the load of the top of the stack.
-use Rattle.std.proofs.Common.{◌≡◌, ◌≢◌, ◌<◌, ◌^◌, ◌-◌, ◌==◌, inl, inr, ℕ, suc, length, Bool, true, false, if◌then◌else◌, Option, Some, None, IsTrue, arith, refl, sym, ◌∙◌, ap, subst}
+use Rattle.std.proofs.Common.{◌≡◌, ◌≢◌, ◌<◌, ◌^◌, ◌-◌, ◌==◌, inl, inr, ℕ, suc, length, Bool, true, false}
+use Rattle.std.proofs.Common.{if◌then◌else◌, Option, Some, None, IsTrue, arith, refl, sym, ◌∙◌, ap, subst}
 use Rattle.std.proofs.lemmas.Bool.{eqb-true, eqb-false, eq-eqb, lt-ltb}
 use Rattle.spk_nums.specs.Setting.{Setting, IsSetting}
 use Rattle.spk_nums.specs.WordSteps.{left_if}
@@ -52,7 +53,8 @@ use Rattle.step_ways.proofs.Refusals.{GoodTook, refuses_raced, refuses_busy, ref
 use Rattle.thread_invariant.proofs.CompWords.{comp_below}
 use Rattle.thread_invariant.proofs.EntryMarks.{counts_apart}
 use Rattle.switch_invariant.proofs.Calls as calls
-use Rattle.switch_invariant.proofs.ThreadWords.{none_some, same_value, thread_is, first_mark, stack_mark, no_node, raced_head, idle_value, top_height}
+use Rattle.switch_invariant.proofs.ThreadWords.{none_some, same_value, thread_is, first_mark}
+use Rattle.switch_invariant.proofs.ThreadWords.{stack_mark, no_node, raced_head, idle_value, top_height}
 use Rattle.switch_invariant.proofs.Words.{ShowsRun, shows, idle_unkept, plain_says, marked_says, top_comp}
 
 -- A step on a word of a thread spares blank frames and temporal capabilities.
@@ -147,7 +149,8 @@ module _ (setup : Setting) (setting : IsSetting setup) (cores : ℕ → Core) (t
             same d n h = cc
 
         runs : (thread_in (s.frame f)).runs_on ≡ Some e
-        runs = by_run (thread_in (s.frame f)).runs_on refl (shows setup setting cores t stands f thread_at (thread_in (s.frame f)).runs_on refl bare)
+        runs = by_run (thread_in (s.frame f)).runs_on refl
+            (shows setup setting cores t stands f thread_at (thread_in (s.frame f)).runs_on refl bare)
 
     claimed_good : (d depth : ℕ) → thread_of_word was ≡ Some (Claimed d depth) → Goal (Some (Claimed d depth))
     claimed_good d depth says =
@@ -265,7 +268,8 @@ module _ (setup : Setting) (setting : IsSetting setup) (cores : ℕ → Core) (t
 
       unkept : (d : ℕ) → (held_by cores d).bare f 0 ≡ None
       unkept = idle_unkept setup setting cores t stands f is_thread
-          (runs_none (thread_in (s.frame f)).runs_on refl (shows setup setting cores t stands f is_thread (thread_in (s.frame f)).runs_on refl bare)) 0
+          (runs_none (thread_in (s.frame f)).runs_on refl
+          (shows setup setting cores t stands f is_thread (thread_in (s.frame f)).runs_on refl bare)) 0
 
       claimed_fits : ThreadFits (Claimed by depth)
       claimed_fits = (
@@ -349,7 +353,8 @@ module _ (setup : Setting) (setting : IsSetting setup) (cores : ℕ → Core) (t
     mark = (stands.marks (EntryAt f 0) c).kept (ap (λ h. h.marks (EntryAt f 0)) (ap holds_in active ∙ idle_held)
         ∙ ap (λ b. if b then true else (holds_counts None a.counts).marks (EntryAt f 0)) (same_same (EntryAt f 0)))
 
-    idle_says : thread_of_word (word_of_thread (Idle depth)) ≡ Some (thread_value (thread_in (s.frame f)).runs_on (length (thread_in (s.frame f)).stack))
+    idle_says : thread_of_word (word_of_thread (Idle depth))
+        ≡ Some (thread_value (thread_in (s.frame f)).runs_on (length (thread_in (s.frame f)).stack))
     idle_says = ap thread_of_word (sym (ap (λ h. h.stands (EntryAt f 0)) (ap holds_in active ∙ idle_held)
         ∙ ap (λ b. if b then word_of_thread (Idle depth) else (holds_counts None a.counts).stands (EntryAt f 0)) (same_same (EntryAt f 0))))
         ∙ marked_says setup setting cores t stands f fit 0 c mark
@@ -395,7 +400,8 @@ module _ (setup : Setting) (setting : IsSetting setup) (cores : ℕ → Core) (t
 
     pub stack_good : GoodTook setup cores t c (LoadOf (EntryAt f depth))
         (landed a (took_claim m (AtStack f depth) (stack_end m.frames f depth (stack_of_word (last_left setup t (EntryAt f depth))))))
-    stack_good = subst (λ o. GoodTook setup cores t c (LoadOf (EntryAt f depth)) (landed a (took_claim m (AtStack f depth) (stack_end m.frames f depth o))))
+    stack_good = subst (λ o. GoodTook setup cores t c (LoadOf (EntryAt f depth))
+        (landed a (took_claim m (AtStack f depth) (stack_end m.frames f depth o))))
         (sym top_says)
         (subst (λ b. GoodTook setup cores t c (LoadOf (EntryAt f depth)) (landed a (took_claim m (AtStack f depth) (claimed_within b to))))
         (sym (lt-ltb top m.frames within)) goes)

@@ -1,5 +1,6 @@
 -- The store of the core's own thread as claimed is good: no other core has marked or keeps its word, and the core holds it then.
-use Rattle.std.proofs.Common.{◌≡◌, ◌≢◌, ◌<◌, ◌≤◌, ◌+◌, ◌^◌, inl, inr, ℕ, map, length, true, false, if◌then◌else◌, Option, Some, None, IsTrue, arith, refl, sym, ◌∙◌, ap, subst}
+use Rattle.std.proofs.Common.{◌≡◌, ◌≢◌, ◌<◌, ◌≤◌, ◌+◌, ◌^◌, inl, inr, ℕ, map, length, true, false}
+use Rattle.std.proofs.Common.{if◌then◌else◌, Option, Some, None, IsTrue, arith, refl, sym, ◌∙◌, ap, subst}
 use Rattle.std.proofs.lemmas.Bool.{cases_eq}
 use Rattle.spk_nums.specs.Setting.{Setting, IsSetting}
 use Rattle.spk_nums.specs.declared.kinds.Kind.TheVariants as kind
@@ -166,7 +167,8 @@ module _ (setup : Setting) (setting : IsSetting setup) (cores : ℕ → Core) (t
         names = names_on setup setting t e stands.legal c a.call is_open carries (cores c).own.table a.plan a.found has.names;
         knows = record {
           knows = calls.carried setup setting cores t stands c here a active m stage_is has store (Draw to table pages)
-              (sym (ap claimed_by is)) (calls.known_at setup setting cores t stands c here a active m stage_is has (Leave to table pages) is);
+              (sym (ap claimed_by is))
+              (calls.known_at setup setting cores t stands c here a active m stage_is has (Leave to table pages) is);
           all = calls.dues_at setup setting cores t stands c here a active m stage_is has (Leave to table pages) is;
           goes = refl;
         };

@@ -1,6 +1,7 @@
 -- The stores after the decision of a switch are good: the word of the thread to which the core went on, as running, and that of a thread
 -- that it gives back, as idle.
-use Rattle.std.proofs.Common.{◌≡◌, ◌≢◌, ◌<◌, ◌^◌, ◌∷◌, inl, inr, ℕ, true, false, if◌then◌else◌, Option, Some, None, IsTrue, arith, refl, sym, ◌∙◌, ap, subst}
+use Rattle.std.proofs.Common.{◌≡◌, ◌≢◌, ◌<◌, ◌^◌, ◌∷◌, inl, inr, ℕ, true, false, if◌then◌else◌}
+use Rattle.std.proofs.Common.{Option, Some, None, IsTrue, arith, refl, sym, ◌∙◌, ap, subst}
 use Rattle.spk_nums.specs.Setting.{Setting, IsSetting}
 use Rattle.spk_nums.specs.declared.kinds.Kind.TheVariants as kind
 use Rattle.spk_nums.specs.declared.replies.Reply.{Reply}
@@ -111,9 +112,11 @@ module _ (setup : Setting) (setting : IsSetting setup) (cores : ℕ → Core) (t
       (words.spelling.small v v_fits)
       (λ w other. (
         sym (ap (λ h. h.marks w) held_is ∙ before w
-            ∙ ap (λ b. if b then true else (holds_tail left (holds_counts (done_by r drawn) a.counts)).marks w) (same_word-other w at other)),
+            ∙ ap (λ b. if b then true else (holds_tail left (holds_counts (done_by r drawn) a.counts)).marks w)
+            (same_word-other w at other)),
         sym (ap (λ h. h.stands w) held_is ∙ before_stands w
-            ∙ ap (λ b. if b then stored else (holds_tail left (holds_counts (done_by r drawn) a.counts)).stands w) (same_word-other w at other)),
+            ∙ ap (λ b. if b then stored else (holds_tail left (holds_counts (done_by r drawn) a.counts)).stands w)
+            (same_word-other w at other)),
       ))
       (as_none (holds (cores c)) (holds after) at (λ g i. ap (λ h. h.bare g i) held_is ∙ bare_before g i) bare_after)
       (first_mark (s.frame f) stored thread ∙ ap thread_mark (words.spelling.reads v v_fits) ∙ unmarked
@@ -155,8 +158,11 @@ module _ (setup : Setting) (setting : IsSetting setup) (cores : ℕ → Core) (t
       → GoodTook setup cores t c (running_move f core depth) (GoesOn (went_with a a.counts (Decided r drawn (StoreIdle old old_depth))))
   running_good f core depth old old_depth stage_is knows =
       word_good setup setting cores t stands c here a active r drawn (StoreRunning f core depth old old_depth) (StoreIdle old old_depth)
-      stage_is f (Running core depth) knows.rest.threads knows.near thread
-      ((let below : c < setup.cores = here in let most = setting.most_cores in let own = knows.core in omega (arith, below, most, own)), depth_fits)
+      stage_is f (Running core depth) knows.rest.threads knows.near thread (
+        (let below : c < setup.cores = here in let most = setting.most_cores in
+            let own = knows.core in omega (arith, below, most, own)),
+        depth_fits,
+      )
       refl (λ w. refl) (λ w. refl)
       (ap (λ b. if b then true else rest.marks (EntryAt f 0)) (same_word-other (EntryAt f 0) (EntryAt old 0) apart)
       ∙ counts_apart (done_by r drawn) a.counts f 0)

@@ -1,8 +1,10 @@
--- The draw of a stamp by which a core switches: the call is decided, and the core goes on as the thread that it has claimed, with the temporal
--- capability. The references to what it leaves are released at the stamp.
+-- The draw of a stamp by which a core switches: the call is decided, and the core goes on as the thread that it has claimed, with the
+-- temporal capability. The references to what it leaves are released at the stamp.
 use Rattle.std.specs.List.{list_any}
 use Rattle.std.specs.Prelude.{All, IsSome}
-use Rattle.std.proofs.Common.{◌≡◌, ◌≢◌, ◌⊎◌, inl, inr, ℕ, zero, suc, ℤ, pos, negsuc, ◌+ℤ◌, max, map, length, ◌+◌, ◌*◌, ◌^◌, ◌<◌, ◌≤◌, ◌==◌, ◌||◌, Bool, true, false, if◌then◌else◌, List, [], ◌∷◌, Option, Some, None, IsTrue, arith, refl, sym, ◌∙◌, ap, subst}
+use Rattle.std.proofs.Common.{◌≡◌, ◌≢◌, ◌⊎◌, inl, inr, ℕ, zero, suc, ℤ, pos, negsuc, ◌+ℤ◌, max, map, length}
+use Rattle.std.proofs.Common.{◌+◌, ◌*◌, ◌^◌, ◌<◌, ◌≤◌, ◌==◌, ◌||◌, Bool, true, false, if◌then◌else◌, List}
+use Rattle.std.proofs.Common.{[], ◌∷◌, Option, Some, None, IsTrue, arith, refl, sym, ◌∙◌, ap, subst}
 use Rattle.std.proofs.lemmas.Bool.{cases_eq, eq-eqb, ne_eqb, false≢true}
 use Rattle.std.proofs.lemmas.List.Elements.{All-nil, All-cons}
 use Rattle.spk_nums.specs.CallLimits.{InLimits}
@@ -20,7 +22,8 @@ use Rattle.word_map.specs.Word.{Word, EntryAt, FrameAt, CountAt, CoreAt, FlushAt
 use Rattle.word_map.specs.Moves.{Move, AddOf, word_of}
 use Rattle.word_map.proofs.WordLemmas.{same_same}
 use Rattle.kernel_rules.specs.Access.{Slot}
-use Rattle.kernel_rules.specs.State.{CompFields, Frame, ThreadFields, Comp, Thread, Kernel, Thing, PlaceOf, FrameOf, NumberOf, Grace, State, first_of_stack, comp_in, comp_of, thread_in, thread_of, put}
+use Rattle.kernel_rules.specs.State.{CompFields, Frame, ThreadFields, Comp, Thread, Kernel, Thing, PlaceOf, FrameOf}
+use Rattle.kernel_rules.specs.State.{NumberOf, Grace, State, first_of_stack, comp_in, comp_of, thread_in, thread_of, put}
 use Rattle.kernel_rules.specs.Fitting.{fits}
 use Rattle.kernel_rules.specs.Rules.{Change, Judged, Found, IsFoundAnd, frames_of}
 use Rattle.kernel_rules.specs.References.{times, refs, sum_below}
@@ -43,7 +46,8 @@ use Rattle.kernel_history.specs.Justified.{HasReached}
 use Rattle.kernel_history.specs.Marking.{marked_by}
 use Rattle.kernel_history.specs.Marks.{mark_in_frame}
 use Rattle.kernel_history.specs.ObjectWords.{frame_value, thread_value}
-use Rattle.kernel_history.specs.Stamps.{begins_in as begins_then, ends_in, flushes_in, begins_at, ends_at, flushes_at, stamp, clock, flush_of, flush_stored}
+use Rattle.kernel_history.specs.Stamps.{begins_in as begins_then, ends_in, flushes_in, begins_at}
+use Rattle.kernel_history.specs.Stamps.{ends_at, flushes_at, stamp, clock, flush_of, flush_stored}
 use Rattle.kernel_history.specs.Trace.{Step, Trace, Open, WasAt, phase, state_after, state_decided_in, last_left, own_left}
 use Rattle.kernel_history.specs.Ways.{way_to, ways}
 use Rattle.trace_laws.proofs.AloneCalls.{ok_first}
@@ -104,7 +108,8 @@ use Rattle.look_invariant.proofs.Findings.{own_is, found_named, way_gone}
 use Rattle.thread_invariant.proofs.CompWords.{holds_comp}
 use Rattle.thread_invariant.proofs.OwnStack.{own_thread}
 use Rattle.switch_invariant.proofs.Calls as calls
-use Rattle.switch_invariant.proofs.Switchings.{switched_to, frame_new, frame_old, frame_away, core_new, core_away, AreApart, takes, releases, all_dues, frames_kept, frames_changed}
+use Rattle.switch_invariant.proofs.Switchings.{switched_to, frame_new, frame_old, frame_away, core_new, core_away}
+use Rattle.switch_invariant.proofs.Switchings.{AreApart, takes, releases, all_dues, frames_kept, frames_changed}
 use Rattle.switch_invariant.proofs.ThreadWords.{idle_value, none_some, same_value, thread_is}
 use Rattle.switch_invariant.proofs.Tops.{apart_own, apart_tcap, is_idle, to_tcap}
 use Rattle.switch_invariant.proofs.Words.{marked_says}
@@ -267,7 +272,8 @@ module _ (setup : Setting) (setting : IsSetting setup) (cores : ℕ → Core) (t
   alike : ReadsAlike setup t e
   alike (EntryAt g i) = by (which g)
     where
-      by : Which g → mark_in_frame (s'.frame g) i (last_left setup (e ∷ t) (EntryAt g i)) ≡ mark_in_frame (s.frame g) i (last_left setup (e ∷ t) (EntryAt g i))
+      by : Which g → mark_in_frame (s'.frame g) i (last_left setup (e ∷ t) (EntryAt g i))
+          ≡ mark_in_frame (s.frame g) i (last_left setup (e ∷ t) (EntryAt g i))
       by (inl same) = ap (λ y. mark_in_frame y i (last_left setup (e ∷ t) (EntryAt g i))) (new_frame g same)
           ∙ sym (ap (λ y. mark_in_frame y i (last_left setup (e ∷ t) (EntryAt g i))) (ap s.frame same ∙ new_is))
       by (inr (inl same)) = ap (λ y. mark_in_frame y i (last_left setup (e ∷ t) (EntryAt g i))) (old_frame g same)
@@ -342,11 +348,13 @@ module _ (setup : Setting) (setting : IsSetting setup) (cores : ℕ → Core) (t
   held_is : holds (cores c) ≡ Rattle.core_invariant.specs.Threads.holds_switching m (Draw to table pages) (holds_counts None a.counts)
   held_is = ap holds_in active ∙ calls.held_at setup setting cores t stands c here a active m stage_is has (Draw to table pages) is
 
-  marks_before : (w : Word) → (holds (cores c)).marks w ≡ (if same_word w new_at then true else if same_word w old_at then true else rest.marks w)
+  marks_before : (w : Word)
+      → (holds (cores c)).marks w ≡ (if same_word w new_at then true else if same_word w old_at then true else rest.marks w)
   marks_before w = ap (λ h. h.marks w) held_is
 
   still : (w : Word) → (holds after).marks w ≡ (holds (cores c)).marks w
-  still w = ap (λ b. if same_word w new_at then true else if same_word w old_at then true else b) (same_marks (Some (Some now_at)) None a.counts w)
+  still w = ap (λ b. if same_word w new_at then true else if same_word w old_at then true else b)
+      (same_marks (Some (Some now_at)) None a.counts w)
       ∙ sym (marks_before w)
 
   none_before : (g i : ℕ) → (holds (cores c)).bare g i ≡ None
@@ -399,7 +407,8 @@ module _ (setup : Setting) (setting : IsSetting setup) (cores : ℕ → Core) (t
   above k o zero v not says = absurd (not refl)
   above k o (suc h) v not says = says
 
-  thread_word : (k : ThreadFields) (o : Option ℕ) (g i : ℕ) → s.frame g ≡ Kernel (Thread k) → s'.frame g ≡ Kernel (Thread (record k { runs_on = o }))
+  thread_word : (k : ThreadFields) (o : Option ℕ) (g i : ℕ)
+      → s.frame g ≡ Kernel (Thread k) → s'.frame g ≡ Kernel (Thread (record k { runs_on = o }))
       → i ≢ 0 → StaysSaid setup cores t e (EntryAt g i)
   thread_word k o g i was will not before =
       subst (λ y. Says y g i (settled setup (held_by cores) t (EntryAt g i))) (sym will)
@@ -415,7 +424,8 @@ module _ (setup : Setting) (setting : IsSetting setup) (cores : ℕ → Core) (t
 
   entry_stays : (g i : ℕ) → marked_by setup t (EntryAt g i) ≢ Some c → Which g → StaysSaid setup cores t e (EntryAt g i)
   entry_stays g i free (inl same) = thread_word (thread_in (s.frame to.thread)) (Some c) g i (ap s.frame same ∙ new_is) (new_frame g same)
-      (λ first. free (ap (λ (n : ℕ). marked_by setup t (EntryAt g n)) first ∙ ap (λ (n : ℕ). marked_by setup t (EntryAt n 0)) same ∙ new_mark))
+      (λ first. free (ap (λ (n : ℕ). marked_by setup t (EntryAt g n)) first
+      ∙ ap (λ (n : ℕ). marked_by setup t (EntryAt n 0)) same ∙ new_mark))
   entry_stays g i free (inr (inl same)) = thread_word (thread_of s c) None g i (ap s.frame same ∙ old_is) (old_frame g same)
       (λ first. free (ap (λ (n : ℕ). marked_by setup t (EntryAt g n)) first
       ∙ ap (λ (n : ℕ). marked_by setup t (EntryAt n 0)) (same ∙ sym old_same) ∙ old_mark))
@@ -443,7 +453,8 @@ module _ (setup : Setting) (setting : IsSetting setup) (cores : ℕ → Core) (t
     exit = plain_exit t e refl d;
   })
   stays (FlushAt d) there free = said (FlushAt d) (stored_same d)
-  stays (LiveAt l) there free = said (LiveAt l) (record { number = ap (λ y. y.number l) now; stamp = stamp_stays (NumberOf l) (no_number same_tcap l) })
+  stays (LiveAt l) there free =
+      said (LiveAt l) (record { number = ap (λ y. y.number l) now; stamp = stamp_stays (NumberOf l) (no_number same_tcap l) })
   stays ClockAt there free = absurd (there refl)
 
   -- what is said of those that it holds
@@ -476,7 +487,8 @@ module _ (setup : Setting) (setting : IsSetting setup) (cores : ℕ → Core) (t
 
   small_tcaps : (b : Bool) → All IsSmall (tcap_dues b m.tcap (s.core c).tcap)
   small_tcaps true = All-nil IsSmall
-  small_tcaps false = All-cons IsSmall (record { frame = m.tcap; change = pos 1 }) (record { frame = (s.core c).tcap; change = negsuc 0 } ∷ []) up_small
+  small_tcaps false = All-cons IsSmall (record { frame = m.tcap; change = pos 1 })
+      (record { frame = (s.core c).tcap; change = negsuc 0 } ∷ []) up_small
       (All-cons IsSmall (record { frame = (s.core c).tcap; change = negsuc 0 }) [] down_small (All-nil IsSmall))
 
   small_changes : All IsSmall (all_dues (m.tcap == (s.core c).tcap) to.thread (s.core c).thread m.tcap (s.core c).tcap)
@@ -494,15 +506,20 @@ module _ (setup : Setting) (setting : IsSetting setup) (cores : ℕ → Core) (t
   balance g = ap (λ y. refs y g + times g (releases same_tcap (s.core c).thread (s.core c).tcap)) now
       ∙ by same_tcap (by_rule g)
     where
-      by_rule : (g : ℕ) → refs (switches s c (s.core c) to.thread m.tcap).next g + times g (released (switches s c (s.core c) to.thread m.tcap).begins)
+      by_rule : (g : ℕ) → refs (switches s c (s.core c) to.thread m.tcap).next
+          g + times g (released (switches s c (s.core c) to.thread m.tcap).begins)
           ≡ refs s g + times g (switches s c (s.core c) to.thread m.tcap).takes
       by_rule = subst (λ z. IfFound z (RefsBy s)) changes_so
           (outcome_from (RefsBy s) s c (rule_of s c a.call)
           (rule_refs s (opened (events_of t)) c
-          (record { sound = calls.sound setup setting cores t stands c here a active m stage_is has; is = opened_is t c a.call is_open }) a.call
+          (record {
+            sound = calls.sound setup setting cores t stands c here a active m stage_is has;
+            is = opened_is t c a.call is_open;
+          }) a.call
           (subst (λ z. InLimits z) (sym call_so) tt)))
 
-      by : (b : Bool) → refs (switches s c (s.core c) to.thread m.tcap).next g + times g (released (frames_of (releases b (s.core c).thread (s.core c).tcap)))
+      by : (b : Bool) → refs (switches s c (s.core c) to.thread m.tcap).next g + times
+          g (released (frames_of (releases b (s.core c).thread (s.core c).tcap)))
           ≡ refs s g + times g (takes b to.thread m.tcap)
           → refs (switched_to s c to.thread m.tcap graces) g + times g (releases b (s.core c).thread (s.core c).tcap)
           ≡ refs s g + times g (takes b to.thread m.tcap)
@@ -529,10 +546,14 @@ module _ (setup : Setting) (setting : IsSetting setup) (cores : ℕ → Core) (t
   sums_now = dues_sum setup setting cores t stands c here a active (Some now_at) drawn_small
       (all_dues (m.tcap == (s.core c).tcap) to.thread (s.core c).thread m.tcap (s.core c).tcap) dues_are small_changes move r after still
       counts_before (λ g d. refl) alike refl refl no_count (ap (λ l. l.cores) limits)
-      (frames_kept (refs s) (refs s') (λ g. stamp setup t (FrameOf g)) (λ g. stamp setup (e ∷ t) (FrameOf g)) x now_at to.thread (s.core c).thread
-      m.tcap (s.core c).tcap all_away drawn_is past same_tcap refl balance (λ g at. stamp_begins (FrameOf g) at) (λ g at. stamp_stays (FrameOf g) at))
-      (frames_changed (refs s) (refs s') (λ g. stamp setup t (FrameOf g)) (λ g. stamp setup (e ∷ t) (FrameOf g)) x now_at to.thread (s.core c).thread
-      m.tcap (s.core c).tcap all_away drawn_is past same_tcap refl balance (λ g at. stamp_begins (FrameOf g) at) (λ g at. stamp_stays (FrameOf g) at))
+      (frames_kept (refs s) (refs s') (λ g. stamp setup t (FrameOf g))
+      (λ g. stamp setup (e ∷ t) (FrameOf g)) x now_at to.thread (s.core c).thread
+      m.tcap (s.core c).tcap all_away drawn_is past same_tcap refl balance
+      (λ g at. stamp_begins (FrameOf g) at) (λ g at. stamp_stays (FrameOf g) at))
+      (frames_changed (refs s) (refs s') (λ g. stamp setup t (FrameOf g))
+      (λ g. stamp setup (e ∷ t) (FrameOf g)) x now_at to.thread (s.core c).thread
+      m.tcap (s.core c).tcap all_away drawn_is past same_tcap refl balance
+      (λ g at. stamp_begins (FrameOf g) at) (λ g at. stamp_stays (FrameOf g) at))
 
   commits : (w : Word) → (holds_counts None a.counts).marks w ≡ true
       → WordIs s' (times_of setup (e ∷ t)) w ((holds_counts (Some (Some now_at)) a.counts).stands w)
@@ -544,7 +565,8 @@ module _ (setup : Setting) (setting : IsSetting setup) (cores : ℕ → Core) (t
   held_now w mark = elim (cases_word w new_at) [
     | inl same ↦ subst (λ v. WordIs s' (times_of setup (e ∷ t)) v ((holds after).stands v)) (sym same)
         (subst (WordIs s' (times_of setup (e ∷ t)) new_at)
-        (sym (ap (λ b. if b then running_word else if same_word new_at old_at then idle_word else done.stands new_at) (same_same new_at))) new_says)
+        (sym (ap (λ b. if b then running_word else if same_word new_at old_at then idle_word else done.stands new_at) (same_same new_at)))
+        new_says)
     | inr other ↦ elim (cases_word w old_at) [
       | inl same ↦ subst (λ v. WordIs s' (times_of setup (e ∷ t)) v ((holds after).stands v)) (sym same)
           (subst (WordIs s' (times_of setup (e ∷ t)) old_at)
@@ -552,7 +574,8 @@ module _ (setup : Setting) (setting : IsSetting setup) (cores : ℕ → Core) (t
           (same_word-other old_at new_at (λ h. other (same ∙ h)))
           ∙ ap (λ b. if b then idle_word else done.stands old_at) (same_same old_at))) old_says)
       | inr another ↦ subst (WordIs s' (times_of setup (e ∷ t)) w)
-          (sym (ap (λ b. if b then running_word else if same_word w old_at then idle_word else done.stands w) (same_word-other w new_at other)
+          (sym (ap (λ b. if b then running_word else if same_word w old_at then idle_word else done.stands w)
+          (same_word-other w new_at other)
           ∙ ap (λ b. if b then idle_word else done.stands w) (same_word-other w old_at another)))
           (commits w (sym (ap (λ b. if b then true else if same_word w old_at then true else rest.marks w) (same_word-other w new_at other)
           ∙ ap (λ b. if b then true else rest.marks w) (same_word-other w old_at another)) ∙ sym (marks_before w)
@@ -653,7 +676,8 @@ module _ (setup : Setting) (setting : IsSetting setup) (cores : ℕ → Core) (t
     };
   }
     where
-      released_it : (b : Bool) → list_any (same_thing (FrameOf (s.core c).thread)) (frames_of (releases b (s.core c).thread (s.core c).tcap)) ≡ true
+      released_it : (b : Bool)
+          → list_any (same_thing (FrameOf (s.core c).thread)) (frames_of (releases b (s.core c).thread (s.core c).tcap)) ≡ true
       released_it true = ap (λ b. b || false) (eq-eqb old old refl)
       released_it false = ap (λ b. b || (old == p || false)) (eq-eqb old old refl)
 

@@ -1,7 +1,8 @@
--- What a switch leaves of the state: the old thread is idle, the new one runs on the core, and all else of frames and of other cores is as it
--- was. And what it makes of references: each frame is released or taken once, or is none of these.
+-- What a switch leaves of the state: the old thread is idle, the new one runs on the core, and all else of frames and of other cores is as
+-- it was. And what it makes of references: each frame is released or taken once, or is none of these.
 use Rattle.std.specs.List.{list_any}
-use Rattle.std.proofs.Common.{◌≡◌, ◌≢◌, inl, inr, ℕ, ℤ, pos, negsuc, ◌+ℤ◌, max, ◌+◌, ◌<◌, ◌≤◌, ◌==◌, ◌||◌, cond, Bool, true, false, if◌then◌else◌, List, [], ◌∷◌, Option, Some, None, arith, refl, sym, ◌∙◌, ap, subst}
+use Rattle.std.proofs.Common.{◌≡◌, ◌≢◌, inl, inr, ℕ, ℤ, pos, negsuc, ◌+ℤ◌, max, ◌+◌, ◌<◌, ◌≤◌, ◌==◌, ◌||◌, cond, Bool, true}
+use Rattle.std.proofs.Common.{false, if◌then◌else◌, List, [], ◌∷◌, Option, Some, None, arith, refl, sym, ◌∙◌, ap, subst}
 use Rattle.std.proofs.Math.IntN.{pos-+ℤ-pos, +ℤ_assoc, +ℤ_invr, +ℤ_idr}
 use Rattle.std.proofs.lemmas.Bool.{cases_eq, eq-eqb, ne_eqb, eqb-true}
 use Rattle.std.proofs.lemmas.List.Elements.{All-nil, All-cons, All-head, All-tail}
@@ -36,13 +37,15 @@ module _ (s : State) (c f q : ℕ) (graces : Thing → Grace) (own : s.frame (s.
   abbrev s' : State
   s' = switched_to s c f q graces
 
-  pub frame_new : (g : ℕ) → g ≡ f → (switched_to s c f q graces).frame g ≡ Kernel (Thread (record (thread_in (s.frame f)) { runs_on = Some c }))
+  pub frame_new : (g : ℕ) → g ≡ f
+      → (switched_to s c f q graces).frame g ≡ Kernel (Thread (record (thread_in (s.frame f)) { runs_on = Some c }))
   frame_new g is = put_same idle.frame f (with_thread (idle.frame f) (record (thread_in (idle.frame f)) { runs_on = Some c })) g is
       ∙ ap (λ x. with_thread x (record (thread_in x) { runs_on = Some c }))
       (put_other s.frame old (with_thread (s.frame old) (record (thread_in (s.frame old)) { runs_on = None })) f apart)
       ∙ ap (λ x. with_thread x (record (thread_in (s.frame f)) { runs_on = Some c })) new
 
-  pub frame_old : (g : ℕ) → g ≡ (s.core c).thread → (switched_to s c f q graces).frame g ≡ Kernel (Thread (record (thread_of s c) { runs_on = None }))
+  pub frame_old : (g : ℕ) → g ≡ (s.core c).thread
+      → (switched_to s c f q graces).frame g ≡ Kernel (Thread (record (thread_of s c) { runs_on = None }))
   frame_old g is = put_other idle.frame f (with_thread (idle.frame f) (record (thread_in (idle.frame f)) { runs_on = Some c })) g
       (λ same. apart (sym same ∙ is))
       ∙ put_same s.frame old (with_thread (s.frame old) (record (thread_in (s.frame old)) { runs_on = None })) g is
@@ -121,9 +124,11 @@ module _ (before after stamp stamp' : ℕ → ℕ) (x now_at f old q p : ℕ) (a
       → ((g : ℕ) → list_any (same_thing (FrameOf g)) (frames_of (releases b old p)) ≡ false → stamp' g ≡ stamp g)
       → (g : ℕ) → All (λ d. g ≢ d.frame) (all_dues b f old q p) → Kept g
   kept_by true moved stay g others =
-      let f_away = All-head (λ (d : Due). g ≢ d.frame) (record { frame = f; change = pos 1 }) (record { frame = old; change = negsuc 0 } ∷ []) others in
+      let f_away = All-head (λ (d : Due). g ≢ d.frame) (record { frame = f; change = pos 1 })
+      (record { frame = old; change = negsuc 0 } ∷ []) others in
       let old_away = All-head (λ (d : Due). g ≢ d.frame) (record { frame = old; change = negsuc 0 }) []
-      (All-tail (λ (d : Due). g ≢ d.frame) (record { frame = f; change = pos 1 }) (record { frame = old; change = negsuc 0 } ∷ []) others) in (
+      (All-tail (λ (d : Due). g ≢ d.frame) (record { frame = f; change = pos 1 })
+      (record { frame = old; change = negsuc 0 } ∷ []) others) in (
         (let all = moved g in let a = counts_away g old [] old_away in let b = counts_away g f [] f_away in omega (arith, all, a, b)),
         stay g (ap (λ b. b || false) (ne_eqb g old old_away)),
       )
@@ -132,12 +137,14 @@ module _ (before after stamp stamp' : ℕ → ℕ) (x now_at f old q p : ℕ) (a
       ∷ record { frame = q; change = pos 1 } ∷ record { frame = p; change = negsuc 0 } ∷ []) others in
       let more = All-tail (λ (d : Due). g ≢ d.frame) (record { frame = old; change = negsuc 0 })
       (record { frame = q; change = pos 1 } ∷ record { frame = p; change = negsuc 0 } ∷ []) rest in
-      let last = All-tail (λ (d : Due). g ≢ d.frame) (record { frame = q; change = pos 1 }) (record { frame = p; change = negsuc 0 } ∷ []) more in
+      let last = All-tail (λ (d : Due). g ≢ d.frame) (record { frame = q; change = pos 1 })
+      (record { frame = p; change = negsuc 0 } ∷ []) more in
       let f_away = All-head (λ (d : Due). g ≢ d.frame) (record { frame = f; change = pos 1 }) (record { frame = old; change = negsuc 0 }
       ∷ record { frame = q; change = pos 1 } ∷ record { frame = p; change = negsuc 0 } ∷ []) others in
       let old_away = All-head (λ (d : Due). g ≢ d.frame) (record { frame = old; change = negsuc 0 })
       (record { frame = q; change = pos 1 } ∷ record { frame = p; change = negsuc 0 } ∷ []) rest in
-      let q_away = All-head (λ (d : Due). g ≢ d.frame) (record { frame = q; change = pos 1 }) (record { frame = p; change = negsuc 0 } ∷ []) more in
+      let q_away = All-head (λ (d : Due). g ≢ d.frame) (record { frame = q; change = pos 1 })
+      (record { frame = p; change = negsuc 0 } ∷ []) more in
       let p_away = All-head (λ (d : Due). g ≢ d.frame) (record { frame = p; change = negsuc 0 }) [] last in (
         (let all = moved g in let a = counts_away g old (p ∷ []) old_away in let b = counts_away g p [] p_away in
             let d = counts_away g f (q ∷ []) f_away in let e = counts_away g q [] q_away in omega (arith, all, a, b, d, e)),
@@ -187,7 +194,8 @@ module _ (before after stamp stamp' : ℕ → ℕ) (x now_at f old q p : ℕ) (a
       (let all = moved f in let a = counts_away f old (p ∷ []) apart.new_old in let b = counts_away f p [] apart.new_from in
       let d = counts_here f f (q ∷ []) refl in let e = counts_away f q [] apart.new_to in omega (arith, all, a, b, d, e))
       (ap (λ b. b || (f == p || false)) (ne_eqb f old apart.new_old) ∙ ap (λ b. b || false) (ne_eqb f p apart.new_from)) (stay f))
-      (All-cons Changes (record { frame = old; change = negsuc 0 }) (record { frame = q; change = pos 1 } ∷ record { frame = p; change = negsuc 0 } ∷ [])
+      (All-cons Changes (record { frame = old; change = negsuc 0 })
+      (record { frame = q; change = pos 1 } ∷ record { frame = p; change = negsuc 0 } ∷ [])
       (fallen false old
       (let all = moved old in let a = counts_here old old (p ∷ []) refl in let b = counts_away old p [] apart.old_from in
       let d = counts_away old f (q ∷ []) (λ h. apart.new_old (sym h)) in let e = counts_away old q [] apart.old_to in

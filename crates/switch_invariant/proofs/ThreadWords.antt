@@ -1,6 +1,7 @@
 -- The words of threads: what a thread's first word shows, and the word of the top of its stack.
 -- The words of threads: what a thread's first word shows, and the word of the top of its stack.
-use Rattle.std.proofs.Common.{◌≡◌, ◌∙◌, ◌<◌, ◌+◌, cond, if◌then◌else◌, ℕ, suc, refl, List, [], ◌∷◌, length, Option, Some, None, IsTrue, arith, ap}
+use Rattle.std.proofs.Common.{◌≡◌, ◌∙◌, ◌<◌, ◌+◌, cond, if◌then◌else◌, ℕ, suc, refl, List}
+use Rattle.std.proofs.Common.{[], ◌∷◌, length, Option, Some, None, IsTrue, arith, ap}
 use Rattle.std.proofs.lemmas.Bool.{false≢true, lt-ltb, ne_eqb}
 use Rattle.spk_nums.specs.declared.kinds.Kind.TheVariants as kind
 use Rattle.tcap_words.specs.Thread.{thread_of_word}
@@ -41,7 +42,8 @@ first_mark (Kernel (Thread t)) w h = refl
 first_mark _ w h = absurd (false≢true h)
 
 pub stack_mark : (x : Frame) (i w : ℕ) → IsTrue (fits kind.Thread x) → mark_in_frame x (suc i) w ≡ None
-stack_mark (Kernel (Thread t)) i w h = ap (λ b. cond b (thread_mark (thread_of_word w)) None) (ne_eqb (suc i) 0 (λ is. absurd (omega (arith, is))))
+stack_mark (Kernel (Thread t)) i w h =
+    ap (λ b. cond b (thread_mark (thread_of_word w)) None) (ne_eqb (suc i) 0 (λ is. absurd (omega (arith, is))))
 stack_mark _ i w h = absurd (false≢true h)
 
 -- What a thread's value is.

@@ -1,6 +1,7 @@
 -- A thread that is claimed is idle, and the loads of the table and of the pages of the component at the top of its stack are good: then the
 -- counts are acquired.
-use Rattle.std.proofs.Common.{◌≡◌, ◌≢◌, ◌<◌, ◌≤◌, ◌++◌, ◌==◌, ◌||◌, inl, inr, ℕ, map, length, Bool, true, false, List, [], ◌∷◌, Option, Some, None, IsTrue, pos, negsuc, arith, refl, sym, ◌∙◌, ap, subst}
+use Rattle.std.proofs.Common.{◌≡◌, ◌≢◌, ◌<◌, ◌≤◌, ◌++◌, ◌==◌, ◌||◌, inl, inr, ℕ, map, length, Bool, true, false, List}
+use Rattle.std.proofs.Common.{[], ◌∷◌, Option, Some, None, IsTrue, pos, negsuc, arith, refl, sym, ◌∙◌, ap, subst}
 use Rattle.std.proofs.lemmas.Bool.{eq-eqb, eqb-false, false≢true}
 use Rattle.std.proofs.lemmas.List.Elements.{All-nil, All-cons}
 use Rattle.spk_nums.specs.Setting.{Setting, IsSetting}
@@ -108,7 +109,8 @@ module _ (setup : Setting) (setting : IsSetting setup) (cores : ℕ → Core) (t
   pub is_idle : is_claimed m.at ≡ true
       → IsIdle (thread_in ((state_after setup t).frame (claimed_by m.at))).runs_on
       (length (thread_in ((state_after setup t).frame (claimed_by m.at))).stack)
-  is_idle claimed = says_idle idle.depth (thread_in (s.frame (claimed_by m.at))).runs_on (length (thread_in (s.frame (claimed_by m.at))).stack)
+  is_idle claimed = says_idle idle.depth (thread_in (s.frame (claimed_by m.at))).runs_on
+      (length (thread_in (s.frame (claimed_by m.at))).stack)
       (ap thread_of_word (sym (ap (λ h. h.stands (EntryAt (claimed_by m.at) 0)) held ∙ idle.stands))
       ∙ marked_says setup setting cores t stands (claimed_by m.at) has.knows.knows.thread.thread 0 c mark)
     where
@@ -120,7 +122,8 @@ module _ (setup : Setting) (setting : IsSetting setup) (cores : ℕ → Core) (t
 
   -- it is another than the core's own
   pub apart_own : is_claimed m.at ≡ true → claimed_by m.at ≢ m.old
-  apart_own claimed same = not_some c (sym (is_idle claimed).none ∙ ap (λ (g : ℕ). (thread_in (s.frame g)).runs_on) (same ∙ has.knows.knows.leaves.thread)
+  apart_own claimed same =
+      not_some c (sym (is_idle claimed).none ∙ ap (λ (g : ℕ). (thread_in (s.frame g)).runs_on) (same ∙ has.knows.knows.leaves.thread)
       ∙ runs_on_own setup setting cores t stands c here)
     where
       not_some : (d : ℕ) → None ≡ Some d → ⊥
@@ -130,7 +133,8 @@ module _ (setup : Setting) (setting : IsSetting setup) (cores : ℕ → Core) (t
   pub to_tcap : IsTrue (fits kind.Tcap ((state_after setup t).frame m.tcap))
   to_tcap = calls.named_tcap setup setting cores t stands c here a active m stage_is has
 
-  pub apart_tcap : (f q : ℕ) → IsTrue (fits kind.Thread ((state_after setup t).frame f)) → IsTrue (fits kind.Tcap ((state_after setup t).frame q)) → f ≢ q
+  pub apart_tcap : (f q : ℕ) → IsTrue (fits kind.Thread ((state_after setup t).frame f))
+      → IsTrue (fits kind.Tcap ((state_after setup t).frame q)) → f ≢ q
   apart_tcap f q thread tcap same = tcap_no_thread (s.frame q) tcap (subst (λ (g : ℕ). IsTrue (fits kind.Thread (s.frame g))) same thread)
 
   -- the frames of the dues are apart
@@ -158,7 +162,8 @@ module _ (setup : Setting) (setting : IsSetting setup) (cores : ℕ → Core) (t
 
   -- the load of the table
   pub table_good : (to : ClaimedOf) → m.at ≡ LoadTable to
-      → GoodTook setup cores t c (LoadOf (EntryAt to.comp 0)) (landed a (switch_table m to (frame_in m.frames (last_left setup t (EntryAt to.comp 0)))))
+      → GoodTook setup cores t c (LoadOf (EntryAt to.comp 0))
+      (landed a (switch_table m to (frame_in m.frames (last_left setup t (EntryAt to.comp 0)))))
   table_good to is =
       let at : IsTop s c to = calls.known_at setup setting cores t stands c here a active m stage_is has (LoadTable to) is in
       let table = (comp_in (s.frame to.comp)).table in
@@ -198,14 +203,17 @@ module _ (setup : Setting) (setting : IsSetting setup) (cores : ℕ → Core) (t
         ∙ sym (calls.held_at setup setting cores t stands c here a active m stage_is has (LoadPages to table) is))
         (calls.opens setup setting cores t stands c here a active m stage_is has)
         (λ carries. record {
-          names = names_on setup setting t e stands.legal c a.call (calls.is_open setup setting cores t stands c here a active m stage_is has)
+          names = names_on setup setting t e stands.legal c a.call
+              (calls.is_open setup setting cores t stands c here a active m stage_is has)
               carries (cores c).own.table a.plan a.found has.names;
-          knows = knows_next setup (e ∷ t) c (cores c).own.table (next_at a a.found (Undecided (next_work m.core 0 act))) m.core act (dues act)
+          knows = knows_next setup (e ∷ t) c (cores c).own.table
+              (next_at a a.found (Undecided (next_work m.core 0 act))) m.core act (dues act)
               has.knows.knows.leaves.core
               (calls.carried setup setting cores t stands c here a active m stage_is has (LoadOf (EntryAt to.comp 1))
               (Leave to table (comp_in (s.frame to.comp)).pages) (sym (ap claimed_by is))
               (record { has_table = at_table; pages = refl }))
-              (ap (λ (xs : List Acquired). map due_of xs ++ dues act) (sym no_counts)) (all_apart (ap is_claimed is) to (sym (ap claimed_by is))) 0
+              (ap (λ (xs : List Acquired). map due_of xs ++ dues act) (sym no_counts))
+              (all_apart (ap is_claimed is) to (sym (ap claimed_by is))) 0
               (ap (λ (xs : List Acquired). length xs) (sym no_counts)) refl refl;
         })
 

@@ -1,5 +1,6 @@
 -- What the first word of a thread shows where it carries no mark, who may keep it, and what the words of a claimed thread show.
-use Rattle.std.proofs.Common.{◌≡◌, ◌≢◌, ◌<◌, ◌≤◌, inl, inr, ℕ, List, [], ◌∷◌, length, Option, Some, None, IsTrue, arith, refl, sym, ◌∙◌, ap, subst}
+use Rattle.std.proofs.Common.{◌≡◌, ◌≢◌, ◌<◌, ◌≤◌, inl, inr, ℕ, List, [], ◌∷◌, length}
+use Rattle.std.proofs.Common.{Option, Some, None, IsTrue, arith, refl, sym, ◌∙◌, ap, subst}
 use Rattle.std.proofs.lemmas.Bool.{cases_eq, false≢true}
 use Rattle.spk_nums.specs.Setting.{Setting, IsSetting}
 use Rattle.spk_nums.specs.declared.kinds.Kind.TheVariants as kind
@@ -50,7 +51,8 @@ module _ (setup : Setting) (setting : IsSetting setup) (cores : ℕ → Core) (t
   pub plain_says : (i : ℕ) → marked_by setup t (EntryAt f i) ≡ None → ((d : ℕ) → (held_by cores d).bare f i ≡ None)
       → IsThreadWord (thread_in ((state_after setup t).frame f)) i (last_left setup t (EntryAt f i))
   plain_says i bare none =
-      subst (λ x. IsFrameWord s.limits.frames (count_room s) x (s.place f i) (stamp setup t (PlaceOf f i)) i (last_left setup t (EntryAt f i)))
+      subst (λ x. IsFrameWord s.limits.frames (count_room s) x (s.place f i)
+      (stamp setup t (PlaceOf f i)) i (last_left setup t (EntryAt f i)))
       frame_is
       (subst (λ (n : ℕ). IsFrameWord s.limits.frames (count_room s) (s.frame f) (s.place f i) (stamp setup t (PlaceOf f i)) i n)
       (none_kept 8 (held_by cores) f i (last_left setup t (EntryAt f i)) none)

@@ -8,16 +8,19 @@ use Rattle.frame_words.specs.Live.{live_of_word}
 use Rattle.frame_words.specs.declared.live_word.LiveWord.{LiveWord}
 use Rattle.word_map.specs.Word.{LiveAt}
 use Rattle.word_map.specs.Places.{Shape}
-use Rattle.kernel_rules.specs.State.{Place, Free, Holds, Quiescing, Object, Blank, Table, Leaf, Pages, Pleaf, Comp, Thread, Tcap, Frame, Untyped, User, Kernel, Liveness, Unused, Live, Dead, State, first_of_stack, thread_of, tcap_in}
+use Rattle.kernel_rules.specs.State.{Place, Free, Holds, Quiescing, Object, Blank, Table, Leaf, Pages, Pleaf, Comp, Thread, Tcap, Frame}
+use Rattle.kernel_rules.specs.State.{Untyped, User, Kernel, Liveness, Unused, Live, Dead, State, first_of_stack, thread_of, tcap_in}
 use Rattle.kernel_rules.specs.References.{sum_below, refs}
 use Rattle.kernel_rules.specs.Laws.{ticks}
 use Rattle.kernel_history.specs.ObjectWords.{holds_node, is_node_object}
 use Rattle.kernel_history.specs.FinalWords.{SaysPlace, AreEntries, AreFrame, SaysNumber, Represent, word_in, end_in}
 use Rattle.kernel_history.specs.Counts.{counters, count_at, count_sum, RepresentCounts}
-use Rattle.kernel_history.specs.Tables.{lines_below, frame_line, object_word, entry_line, object_lines, frame_lines, number_line, core_lines, total_line, tables_of}
+use Rattle.kernel_history.specs.Tables.{lines_below, frame_line, object_word, entry_line, object_lines}
+use Rattle.kernel_history.specs.Tables.{frame_lines, number_line, core_lines, total_line, tables_of}
 use Rattle.kernel_history.proofs.Sums.{sum_same}
 use Rattle.table_lines.specs.Ends.{core_shown}
-use Rattle.table_report.specs.Shown.{place_shown, place_in, number_shown, frame_shown, words_of, frame_at, place_at, number_at, natural, counted_at, core_shown_at, shown, frames_text, numbers_text, cores_text, tables_shown}
+use Rattle.table_report.specs.Shown.{place_shown, place_in, number_shown, frame_shown, words_of, frame_at, place_at, number_at}
+use Rattle.table_report.specs.Shown.{natural, counted_at, core_shown_at, shown, frames_text, numbers_text, cores_text, tables_shown}
 use Rattle.table_lines.proofs.Lines.{lines_same}
 use Rattle.table_report.proofs.ShownObjects.{told, frame_is}
 
@@ -78,7 +81,8 @@ says_line i (Holds k) shown h = ap (λ o. entry_line i (place_shown o)) h
 says_line i (Quiescing k) shown h = ap (λ o. entry_line i (place_shown o)) h.says
 
 -- The lines of an object hang on the lines of its entries alone, and only where it is a node.
-object_lines_same : (object : Object) (p q : ℕ → Place) → (is_node_object object ≡ true → (i : ℕ) → i < 64 → entry_line i (p i) ≡ entry_line i (q i))
+object_lines_same : (object : Object) (p q : ℕ → Place)
+    → (is_node_object object ≡ true → (i : ℕ) → i < 64 → entry_line i (p i) ≡ entry_line i (q i))
     → object_lines object p ≡ object_lines object q
 object_lines_same Blank p q same = refl
 object_lines_same Table p q same = lines_same (λ i. entry_line i (p i)) (λ i. entry_line i (q i)) 64 (same refl)
@@ -89,7 +93,8 @@ object_lines_same (Comp k) p q same = refl
 object_lines_same (Thread t) p q same = refl
 object_lines_same (Tcap fields) p q same = refl
 
-frame_lines_same : (f : ℕ) (x : Frame) (p q : ℕ → Place) (k : ℕ) → (holds_node x ≡ true → (i : ℕ) → i < 64 → entry_line i (p i) ≡ entry_line i (q i))
+frame_lines_same : (f : ℕ) (x : Frame) (p q : ℕ → Place) (k : ℕ)
+    → (holds_node x ≡ true → (i : ℕ) → i < 64 → entry_line i (p i) ≡ entry_line i (q i))
     → frame_lines f x p k ≡ frame_lines f x q k
 frame_lines_same f Untyped p q k same = refl
 frame_lines_same f User p q k same = refl
@@ -114,18 +119,22 @@ module _ (shape : Shape) (words : List ℕ) (ends : List CoreEnd) (s : State)
   node_told : (f : ℕ) → f < shape.frames → holds_node (frame_at shape words f) ≡ holds_node (s.frame f)
   node_told f below = ap holds_node (frame_told f below) ∙ told_node (s.frame f)
 
-  node_place : (f i : ℕ) → f < shape.frames → holds_node (s.frame f) ≡ true → place_at shape words f i ≡ place_shown (entry_of_word (words_of shape words f i))
+  node_place : (f i : ℕ) → f < shape.frames → holds_node (s.frame f) ≡ true
+      → place_at shape words f i ≡ place_shown (entry_of_word (words_of shape words f i))
   node_place f i below node = ap (λ b. place_in b (words_of shape words f i)) (node_told f below ∙ node)
 
-  says : (f i : ℕ) → f < shape.frames → i < 64 → holds_node (s.frame f) ≡ true → SaysPlace (s.place f i) (entry_of_word (words_of shape words f i))
+  says : (f i : ℕ) → f < shape.frames → i < 64 → holds_node (s.frame f) ≡ true
+      → SaysPlace (s.place f i) (entry_of_word (words_of shape words f i))
   says f i below small node = entries_of (s.frame f) (s.place f) (words_of shape words f) node (h.objects f (within f below)) i small
 
-  lines_told : (f k n : ℕ) → f < shape.frames → k ≡ n → frame_lines f (frame_at shape words f) (place_at shape words f) k ≡ frame_lines f (s.frame f) (s.place f) n
+  lines_told : (f k n : ℕ) → f < shape.frames → k ≡ n
+      → frame_lines f (frame_at shape words f) (place_at shape words f) k ≡ frame_lines f (s.frame f) (s.place f) n
   lines_told f k n below same =
       ap (λ x. frame_lines f x (place_at shape words f) k) (frame_told f below)
       ∙ told_lines f (s.frame f) (place_at shape words f) k
       ∙ frame_lines_same f (s.frame f) (place_at shape words f) (s.place f) k
-      (λ node i small. ap (entry_line i) (node_place f i below node) ∙ says_line i (s.place f i) (entry_of_word (words_of shape words f i)) (says f i below small node))
+      (λ node i small. ap (entry_line i) (node_place f i below node)
+      ∙ says_line i (s.place f i) (entry_of_word (words_of shape words f i)) (says f i below small node))
       ∙ ap (frame_lines f (s.frame f) (s.place f)) same
 
   pub ticks_told : ticks (shown shape words ends) ≡ ticks s
@@ -142,9 +151,11 @@ module _ (shape : Shape) (words : List ℕ) (ends : List CoreEnd) (s : State)
   numbers_told = lines_same (λ l. number_line l (number_at shape words l)) (λ l. number_line l (s.number l)) 64
       (λ l small. ap (number_line l) (says_number (s.number l) (live_of_word (word_in shape words (LiveAt l))) (h.numbers l small)))
 
-  cores_told : cores_text ends shape.cores ≡ lines_below (λ c. core_lines c (s.core c) (first_of_stack (thread_of s c).stack)) s.limits.cores
+  cores_told : cores_text ends shape.cores
+      ≡ lines_below (λ c. core_lines c (s.core c) (first_of_stack (thread_of s c).stack)) s.limits.cores
   cores_told =
-      lines_same (λ c. core_lines c (core_shown_at ends c) (end_in ends c).comp) (λ c. core_lines c (s.core c) (first_of_stack (thread_of s c).stack)) shape.cores
+      lines_same (λ c. core_lines c (core_shown_at ends c) (end_in ends c).comp)
+      (λ c. core_lines c (s.core c) (first_of_stack (thread_of s c).stack)) shape.cores
       (λ c below. ap (λ e. core_lines c (core_shown e) e.comp) (h.ends c (omega (arith, below, cores))))
       ∙ ap (lines_below (λ c. core_lines c (s.core c) (first_of_stack (thread_of s c).stack))) (sym cores)
 
@@ -163,10 +174,14 @@ module _ (shape : Shape) (words : List ℕ) (ends : List CoreEnd) (s : State)
 
     pub determined : tables_shown shape words ends ≡ tables_of s
     determined =
-        ap (λ a. a ++ (numbers_text shape words 64 ++ (cores_text ends shape.cores ++ total_line (ticks (shown shape words ends))))) frames_told
-        ∙ ap (λ b. lines_below (λ f. frame_lines f (s.frame f) (s.place f) (refs s f)) s.limits.frames ++ (b ++ (cores_text ends shape.cores ++ total_line (ticks (shown shape words ends))))) numbers_told
-        ∙ ap (λ d. lines_below (λ f. frame_lines f (s.frame f) (s.place f) (refs s f)) s.limits.frames ++ (lines_below (λ l. number_line l (s.number l)) 64 ++ (d ++ total_line (ticks (shown shape words ends))))) cores_told
-        ∙ ap (λ n. lines_below (λ f. frame_lines f (s.frame f) (s.place f) (refs s f)) s.limits.frames ++ (lines_below (λ l. number_line l (s.number l)) 64
+        ap (λ a. a ++ (numbers_text shape words 64 ++ (cores_text ends shape.cores ++ total_line (ticks (shown shape words ends)))))
+        frames_told
+        ∙ ap (λ b. lines_below (λ f. frame_lines f (s.frame f) (s.place f) (refs s f)) s.limits.frames
+        ++ (b ++ (cores_text ends shape.cores ++ total_line (ticks (shown shape words ends))))) numbers_told
+        ∙ ap (λ d. lines_below (λ f. frame_lines f (s.frame f) (s.place f) (refs s f)) s.limits.frames
+        ++ (lines_below (λ l. number_line l (s.number l)) 64 ++ (d ++ total_line (ticks (shown shape words ends))))) cores_told
+        ∙ ap (λ n. lines_below (λ f. frame_lines f (s.frame f) (s.place f) (refs s f)) s.limits.frames
+        ++ (lines_below (λ l. number_line l (s.number l)) 64
         ++ (lines_below (λ c. core_lines c (s.core c) (first_of_stack (thread_of s c).stack)) s.limits.cores ++ total_line n))) ticks_told
 
 -- The text that the pieces make, one after the other.
@@ -185,6 +200,7 @@ whole_text shape words ends begun a b d e total cores ticked none pa pb pd pe =
     let l : List ℕ = total_line (ticks (shown shape words ends)) in
     let first : a ≡ f = pa ∙ ap (λ x. x ++ f) none in
     let second : b ≡ f ++ n = pb ∙ ap (λ x. x ++ n) first in
-    let third : d ≡ (f ++ n) ++ c = pd ∙ ap (λ x. x ++ cores_text ends (length ends)) second ∙ ap (λ k. (f ++ n) ++ cores_text ends k) cores in
+    let third : d ≡ (f ++ n) ++ c = pd ∙ ap (λ x. x ++ cores_text ends (length ends)) second
+    ∙ ap (λ k. (f ++ n) ++ cores_text ends k) cores in
     pe ∙ ap (λ x. x ++ total_line total) third ∙ ap (λ k. ((f ++ n) ++ c) ++ total_line k) ticked
     ∙ append_assoc (f ++ n) c l ∙ append_assoc f n (c ++ l)

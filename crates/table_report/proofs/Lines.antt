@@ -25,7 +25,8 @@ pub qualities_none : (word : ℕ → ℕ) → qualities_shown word 0 ≡ []
 unfolding qualities_shown
 qualities_none word = refl
 
-pub qualities_more : (word : ℕ → ℕ) (n : ℕ) → qualities_shown word (n + 1) ≡ qualities_shown word n ++ listed (quality_of_word (word (1 + n)))
+pub qualities_more : (word : ℕ → ℕ) (n : ℕ)
+    → qualities_shown word (n + 1) ≡ qualities_shown word n ++ listed (quality_of_word (word (1 + n)))
 unfolding qualities_shown
 qualities_more word n = let e : n + 1 ≡ suc n = omega arith in rw e
 

@@ -1,5 +1,6 @@
 -- What the words of an object show is the object, where they represent it.
-use Rattle.std.proofs.Common.{◌≡◌, ℕ, zero, suc, ◌+◌, ◌<◌, ◌≤◌, ◌++◌, List, [], ◌∷◌, Option, Some, None, refl, sym, ap, ◌∙◌, arith, length, take, reverse}
+use Rattle.std.proofs.Common.{◌≡◌, ℕ, zero, suc, ◌+◌, ◌<◌, ◌≤◌, ◌++◌, List, [], ◌∷◌, Option}
+use Rattle.std.proofs.Common.{Some, None, refl, sym, ap, ◌∙◌, arith, length, take, reverse}
 use Rattle.std.specs.Prelude.{option_to_list}
 use Rattle.std.specs.List.{slice_get}
 use Rattle.std.proofs.lemmas.List.{reverse-append, length-reverse, reverse-reverse}
@@ -8,7 +9,8 @@ use Rattle.tcap_words.specs.Quality.{quality_of_word}
 use Rattle.tcap_words.specs.Thread.{ThreadFits}
 use Rattle.tcap_words.proofs.ThreadLemmas as threads
 use Rattle.frame_words.specs.Comp.{comp_of_word}
-use Rattle.kernel_rules.specs.State.{Place, CompFields, ThreadFields, TcapFields, Blank, Table, Leaf, Pages, Pleaf, Comp, Thread, Tcap, Frame, Untyped, User, Kernel}
+use Rattle.kernel_rules.specs.State.{Place, CompFields, ThreadFields, TcapFields, Blank, Table, Leaf}
+use Rattle.kernel_rules.specs.State.{Pages, Pleaf, Comp, Thread, Tcap, Frame, Untyped, User, Kernel}
 use Rattle.kernel_history.specs.ObjectWords.{thread_value, frame_value}
 use Rattle.kernel_history.specs.FinalWords.{AreComp, AreThread, AreTcap, AreFrame}
 use Rattle.table_report.specs.Shown.{stacked, listed, stack_shown, qualities_shown, comp_shown, budget_shown, frame_shown}
@@ -31,7 +33,8 @@ back_one None = refl
 back_one (Some f) = refl
 
 -- The stack that the first n words show.
-stack_taken : (bottom_up : List ℕ) (word : ℕ → ℕ) (n : ℕ) → ((h : ℕ) → h < n → stack_of_word (word (1 + h)) ≡ Some (record { 0 = slice_get bottom_up h }))
+stack_taken : (bottom_up : List ℕ) (word : ℕ → ℕ) (n : ℕ)
+    → ((h : ℕ) → h < n → stack_of_word (word (1 + h)) ≡ Some (record { 0 = slice_get bottom_up h }))
     → stack_shown word n ≡ reverse (take n bottom_up)
 unfolding stack_shown
 stack_taken xs word zero says = refl
@@ -42,7 +45,8 @@ stack_taken xs word (suc n) says =
     ∙ sym (reverse-append (take n xs) (option_to_list (slice_get xs n)))
     ∙ ap reverse (sym (take_option xs n))
 
-qualities_taken : (qs : List (ℕ × ℕ)) (word : ℕ → ℕ) (n : ℕ) → ((j : ℕ) → j < n → quality_of_word (word (1 + j)) ≡ Some (record { 0 = slice_get qs j }))
+qualities_taken : (qs : List (ℕ × ℕ)) (word : ℕ → ℕ) (n : ℕ)
+    → ((j : ℕ) → j < n → quality_of_word (word (1 + j)) ≡ Some (record { 0 = slice_get qs j }))
     → qualities_shown word n ≡ take n qs
 unfolding qualities_shown
 qualities_taken qs word zero says = refl
@@ -58,7 +62,8 @@ depth_most (Some c) depth h = h.1.1
 stack_is : (t : ThreadFields) (word : ℕ → ℕ) → AreThread t word → stack_shown word 16 ≡ t.stack
 stack_is t word h =
     let fits = (threads.spelling.spells (word 0) (thread_value t.runs_on (length t.stack)) h.runs).0 in
-    let most : length (reverse t.stack) ≤ 16 = (let n = depth_most t.runs_on (length t.stack) fits in let e = length-reverse t.stack in omega (arith, n, e)) in
+    let most : length (reverse t.stack) ≤ 16 =
+    (let n = depth_most t.runs_on (length t.stack) fits in let e = length-reverse t.stack in omega (arith, n, e)) in
     stack_taken (reverse t.stack) word 16 h.stack ∙ ap reverse (take_whole (reverse t.stack) 16 most) ∙ reverse-reverse t.stack
 
 qualities_is : (q : TcapFields) (word : ℕ → ℕ) → AreTcap q word → qualities_shown word 8 ≡ q.qualities

@@ -24,7 +24,8 @@ use Rattle.tcap_words.specs.declared.quality_word.QualityWord.{QualityWord}
 use Rattle.tcap_words.specs.declared.stack_word.StackWord.{StackWord}
 use Rattle.word_map.specs.Word.{EntryAt, FrameAt, LiveAt}
 use Rattle.word_map.specs.Places.{Shape}
-use Rattle.kernel_rules.specs.State.{Place, Free, Holds, CompFields, Object, Blank, Table, Leaf, Pages, Pleaf, Comp, Thread, Tcap, Frame, Untyped, User, Kernel, Liveness, Unused, Live, Dead, Core, State}
+use Rattle.kernel_rules.specs.State.{Place, Free, Holds, CompFields, Object, Blank, Table, Leaf, Pages, Pleaf, Comp}
+use Rattle.kernel_rules.specs.State.{Thread, Tcap, Frame, Untyped, User, Kernel, Liveness, Unused, Live, Dead, Core, State}
 use Rattle.kernel_rules.specs.Start.{no_grace}
 use Rattle.kernel_rules.specs.Laws.{ticks}
 use Rattle.kernel_history.specs.ObjectWords.{holds_node}

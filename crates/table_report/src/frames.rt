@@ -40,7 +40,9 @@ fn push_object(
 ) -> Result<(), AllocError>
     requires size { length words.now ≡ size_of layout.now }
     requires frame_in { frame < layout.now.frames }
-    ensures { OnOk result (string_bytes text.new ≡ string_bytes text.old ++ object_lines (object_shown object (words_of layout.now words.now frame)) (λ i. place_in (is_node_object (object_shown object (words_of layout.now words.now frame))) (words_of layout.now words.now frame i))) }
+    ensures { OnOk result (string_bytes text.new ≡ string_bytes text.old ++ object_lines (object_shown object
+        (words_of layout.now words.now frame)) (λ i.
+        place_in (is_node_object (object_shown object (words_of layout.now words.now frame))) (words_of layout.now words.now frame i))) }
 {
     match object {
         Obj::Blank => Ok(()),
@@ -64,7 +66,10 @@ fn push_kernel(
 ) -> Result<(), AllocError>
     requires size { length words.now ≡ size_of layout.now }
     requires frame_in { frame < layout.now.frames }
-    ensures { OnOk result (string_bytes text.new ≡ string_bytes text.old ++ (frame_line frame (object_word (object_shown object (words_of layout.now words.now frame))) refs ++ object_lines (object_shown object (words_of layout.now words.now frame)) (λ i. place_in (is_node_object (object_shown object (words_of layout.now words.now frame))) (words_of layout.now words.now frame i)))) }
+    ensures { OnOk result (string_bytes text.new
+        ≡ string_bytes text.old ++ (frame_line frame (object_word (object_shown object (words_of layout.now words.now frame))) refs
+        ++ object_lines (object_shown object (words_of layout.now words.now frame)) (λ i. place_in
+        (is_node_object (object_shown object (words_of layout.now words.now frame))) (words_of layout.now words.now frame i)))) }
 {
     table_lines::push_frame(text, frame, object_name(object), refs)?;
     push_object(text, layout, words, frame, object)
@@ -79,7 +84,8 @@ fn push_frame(
 ) -> Result<(), AllocError>
     requires size { length words.now ≡ size_of layout.now }
     requires frame_in { frame < layout.now.frames }
-    ensures { OnOk result (string_bytes text.new ≡ string_bytes text.old ++ frame_lines frame (frame_at layout.now words.now frame) (place_at layout.now words.now frame) (counted_at layout.now words.now frame)) }
+    ensures { OnOk result (string_bytes text.new ≡ string_bytes text.old ++ frame_lines frame
+        (frame_at layout.now words.now frame) (place_at layout.now words.now frame) (counted_at layout.now words.now frame)) }
 {
     let refs = references(layout, words, frame);
     match FrameWord::unpack(frame_word(layout, words, frame)) {

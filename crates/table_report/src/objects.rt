@@ -38,7 +38,8 @@ pub fn push_node(
 ) -> Result<(), AllocError>
     requires size { length words.now ≡ size_of layout.now }
     requires frame_in { frame < layout.now.frames }
-    ensures { OnOk result (string_bytes text.new ≡ string_bytes text.old ++ node_lines (λ i. place_shown (entry_of_word (words_of layout.now words.now frame i)))) }
+    ensures { OnOk result (string_bytes text.new
+        ≡ string_bytes text.old ++ node_lines (λ i. place_shown (entry_of_word (words_of layout.now words.now frame i)))) }
 {
     'entries: for index in 0..64 {
         push_entry(text, index, entry_word(layout, words, frame, index))?;
@@ -55,7 +56,9 @@ pub fn push_comp(
 ) -> Result<(), AllocError>
     requires size { length words.now ≡ size_of layout.now }
     requires frame_in { frame < layout.now.frames }
-    ensures { OnOk result (string_bytes text.new ≡ string_bytes text.old ++ comp_line (comp_shown (comp_of_word (words_of layout.now words.now frame 2)) (words_of layout.now words.now frame 0) (words_of layout.now words.now frame 1))) }
+    ensures { OnOk result (string_bytes text.new ≡ string_bytes text.old ++ comp_line (comp_shown
+        (comp_of_word (words_of layout.now words.now frame 2))
+        (words_of layout.now words.now frame 0) (words_of layout.now words.now frame 1))) }
 {
     let table = entry_word(layout, words, frame, 0);
     let pages = entry_word(layout, words, frame, 1);
@@ -83,7 +86,8 @@ fn push_stack(
 ) -> Result<(), AllocError>
     requires size { length words.now ≡ size_of layout.now }
     requires frame_in { frame < layout.now.frames }
-    ensures { OnOk result (string_bytes text.new ≡ string_bytes text.old ++ flat_map number (reverse (stack_shown (words_of layout.now words.now frame) 16))) }
+    ensures { OnOk result (string_bytes text.new
+        ≡ string_bytes text.old ++ flat_map number (reverse (stack_shown (words_of layout.now words.now frame) 16))) }
 {
     'heights: for height in 0..16 {
         push_stacked(text, entry_word(layout, words, frame, 1 + height))?;
@@ -100,7 +104,8 @@ pub fn push_thread(
 ) -> Result<(), AllocError>
     requires size { length words.now ≡ size_of layout.now }
     requires frame_in { frame < layout.now.frames }
-    ensures { OnOk result (string_bytes text.new ≡ string_bytes text.old ++ thread_line (record { stack = stack_shown (words_of layout.now words.now frame) 16; runs_on = None })) }
+    ensures { OnOk result (string_bytes text.new
+        ≡ string_bytes text.old ++ thread_line (record { stack = stack_shown (words_of layout.now words.now frame) 16; runs_on = None })) }
 {
     push_stack_start(text)?;
     push_stack(text, layout, words, frame)?;
@@ -127,7 +132,8 @@ fn push_qualities(
 ) -> Result<(), AllocError>
     requires size { length words.now ≡ size_of layout.now }
     requires frame_in { frame < layout.now.frames }
-    ensures { OnOk result (string_bytes text.new ≡ string_bytes text.old ++ flat_map quality_line (qualities_shown (words_of layout.now words.now frame) 8)) }
+    ensures { OnOk result (string_bytes text.new
+        ≡ string_bytes text.old ++ flat_map quality_line (qualities_shown (words_of layout.now words.now frame) 8)) }
 {
     'pairs: for place in 0..8 {
         push_quality(text, entry_word(layout, words, frame, 1 + place))?;
@@ -154,7 +160,12 @@ pub fn push_tcap(
 ) -> Result<(), AllocError>
     requires size { length words.now ≡ size_of layout.now }
     requires frame_in { frame < layout.now.frames }
-    ensures { OnOk result (string_bytes text.new ≡ string_bytes text.old ++ tcap_lines (record { budget = budget_shown (head_of_word (words_of layout.now words.now frame 0)); qualities = qualities_shown (words_of layout.now words.now frame) 8 })) }
+    ensures { OnOk result (string_bytes text.new ≡ string_bytes text.old ++ tcap_lines (record {
+      budget =
+          budget_shown (head_of_word (words_of layout.now words.now frame 0));
+      qualities =
+          qualities_shown (words_of layout.now words.now frame) 8;
+    })) }
 {
     let budget = budget(entry_word(layout, words, frame, 0));
     push_budget(text, budget)?;

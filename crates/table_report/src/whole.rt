@@ -60,7 +60,10 @@ pub fn report(alloc: Global, closed: &Closed) -> Result<String, Memory>
     // What is printed is what the words and the ends show, whatever they are.
     ensures shown { IfOk result (λ text. string_bytes text ≡ tables_shown closed.now.layout closed.now.words.items closed.now.ends.items) }
     // It is the tables of every state that they represent, and whose references the count words represent.
-    ensures tables { IfOk result (λ text. (s : State) → s.limits.cores ≡ closed.now.layout.cores → s.limits.frames ≡ closed.now.layout.frames → Represent (word_in closed.now.layout closed.now.words.items) (end_in closed.now.ends.items) s → RepresentCounts (word_in closed.now.layout closed.now.words.items) s → string_bytes text ≡ tables_of s) }
+    ensures tables { IfOk result (λ text. (s : State) → s.limits.cores ≡ closed.now.layout.cores
+        → s.limits.frames ≡ closed.now.layout.frames → Represent (word_in closed.now.layout closed.now.words.items)
+        (end_in closed.now.ends.items) s → RepresentCounts (word_in closed.now.layout closed.now.words.items) s
+        → string_bytes text ≡ tables_of s) }
 {
     let text = tables(alloc, &closed.layout, &closed.words, &closed.ends)?;
     Ok(text)
@@ -76,7 +79,8 @@ pub fn total(closed: &Closed) -> u128
     // It is what the words and the ends show, whatever they are.
     ensures shown { result ≡ ticks (shown closed.now.layout closed.now.words.items closed.now.ends.items) }
     // It is the total of every state that they represent.
-    ensures total { (s : State) → s.limits.cores ≡ closed.now.layout.cores → s.limits.frames ≡ closed.now.layout.frames → Represent (word_in closed.now.layout closed.now.words.items) (end_in closed.now.ends.items) s → result ≡ ticks s }
+    ensures total { (s : State) → s.limits.cores ≡ closed.now.layout.cores → s.limits.frames ≡ closed.now.layout.frames
+        → Represent (word_in closed.now.layout closed.now.words.items) (end_in closed.now.ends.items) s → result ≡ ticks s }
 {
     total_ticks(&closed.layout, &closed.words, &closed.ends)
 }

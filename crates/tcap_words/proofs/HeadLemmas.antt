@@ -25,7 +25,8 @@ reads v h =
 Spells : ℕ → HeadWord → Type 0
 Spells w v = HeadFits v × (word_of_head v ≡ w)
 
-spells_fields : (o : Option (Option ℕ)) (w : ℕ) (v : HeadWord) → mark_of_number (w / 2 ^ 32 % 2 ^ 4) ≡ o → head_of (w % 2 ^ 32) o (w / 2 ^ 36) ≡ Some v → Spells w v
+spells_fields : (o : Option (Option ℕ)) (w : ℕ) (v : HeadWord)
+    → mark_of_number (w / 2 ^ 32 % 2 ^ 4) ≡ o → head_of (w % 2 ^ 32) o (w / 2 ^ 36) ≡ Some v → Spells w v
 unfolding Spells word_of_head
 spells_fields None w v of_mark h = absurd (cc)
 spells_fields (Some m) w v of_mark h =

@@ -1,5 +1,6 @@
 -- One spelling for each quality word.
-use Rattle.std.proofs.Common.{◌≡◌, ◌≢◌, true, ℕ, ◌+◌, ◌*◌, ◌/◌, ◌%◌, ◌^◌, ◌<◌, ◌≤◌, ◌==◌, ◌&&◌, nat_lt, nat_le, Option, Some, None, IfSome, refl, subst, arith}
+use Rattle.std.proofs.Common.{◌≡◌, ◌≢◌, true, ℕ, ◌+◌, ◌*◌, ◌/◌, ◌%◌, ◌^◌, ◌<◌, ◌≤◌, ◌==◌, ◌&&◌}
+use Rattle.std.proofs.Common.{nat_lt, nat_le, Option, Some, None, IfSome, refl, subst, arith}
 use Rattle.std.proofs.lemmas.Bool.{and_parts, ne_eqb, lt-ltb, le-leb, ltb-true, leb-true, eqb-true}
 use Rattle.spk_nums.proofs.Choices.{chosen}
 use Rattle.spk_nums.proofs.OneSpelling.{spelling_reads, spelling_spells}
@@ -35,7 +36,8 @@ spells_none w v none h =
     let value : u ≡ v = cc in
     subst (Spells w) value (tt, omega arith)
 
-spells_some : (w : ℕ) (v : QualityWord) → (nat_le 1 (w % 2 ^ 24) && nat_lt (w / 2 ^ 24) 64) ≡ true → Some (record { 0 = Some (w / 2 ^ 24, w % 2 ^ 24) }) ≡ Some v → Spells w v
+spells_some : (w : ℕ) (v : QualityWord) → (nat_le 1 (w % 2 ^ 24) && nat_lt (w / 2 ^ 24) 64) ≡ true
+    → Some (record { 0 = Some (w / 2 ^ 24, w % 2 ^ 24) }) ≡ Some v → Spells w v
 unfolding Spells word_of_quality
 spells_some w v tests h =
     let (least, scheduler) = and_parts (nat_le 1 (w % 2 ^ 24)) _ tests in
@@ -63,7 +65,8 @@ unfolding Spells
 spelling = record { reads = reads; spells = spells; small = small }
 
 -- what `unpack` says of the value read from a word
-pub quality_reads : (o : Option QualityWord) (w : ℕ) → o ≡ quality_of_word w → (v : QualityWord) → QualityFits v → word_of_quality v ≡ w → o ≡ Some v
+pub quality_reads : (o : Option QualityWord) (w : ℕ) → o ≡ quality_of_word w
+    → (v : QualityWord) → QualityFits v → word_of_quality v ≡ w → o ≡ Some v
 quality_reads = spelling_reads spelling
 
 pub quality_spells : (o : Option QualityWord) (w : ℕ) → o ≡ quality_of_word w → IfSome o (λ v. QualityFits v × (word_of_quality v ≡ w))

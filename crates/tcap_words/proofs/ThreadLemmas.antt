@@ -9,7 +9,8 @@ use Rattle.tcap_words.specs.declared.thread_word.ThreadWord.{ThreadWord}
 use Rattle.tcap_words.specs.declared.thread_word.ThreadWord.TheVariants.{Idle, Running, Claimed}
 
 -- a word is read by its three numbers, where the depth is within its range
-read_by : (w state core depth : ℕ) → state < 4 → core < 8 → DepthFits depth → w ≡ state + 2 ^ 2 * core + 2 ^ 5 * depth → thread_of_word w ≡ state_of state core depth
+read_by : (w state core depth : ℕ) → state < 4 → core < 8 → DepthFits depth
+    → w ≡ state + 2 ^ 2 * core + 2 ^ 5 * depth → thread_of_word w ≡ state_of state core depth
 unfolding thread_of_word
 read_by w state core depth small_state small_core fits is =
     let state_is : w % 2 ^ 2 ≡ state = omega arith in
@@ -27,19 +28,22 @@ reads (Claimed c d) h = read_by (2 + 2 ^ 2 * c + 2 ^ 5 * d) 2 c d (omega arith) 
 Spells : ℕ → ThreadWord → Type 0
 Spells w v = ThreadFits v × (word_of_thread v ≡ w)
 
-spells_idle : (w : ℕ) (v : ThreadWord) → w % 2 ^ 2 ≡ 0 → w / 2 ^ 2 % 2 ^ 3 ≡ 0 → DepthFits (w / 2 ^ 5) → Some (Idle (w / 2 ^ 5)) ≡ Some v → Spells w v
+spells_idle : (w : ℕ) (v : ThreadWord) → w % 2 ^ 2 ≡ 0 → w / 2 ^ 2 % 2 ^ 3 ≡ 0
+    → DepthFits (w / 2 ^ 5) → Some (Idle (w / 2 ^ 5)) ≡ Some v → Spells w v
 unfolding Spells word_of_thread
 spells_idle w v state core depth h =
     let value : Idle (w / 2 ^ 5) ≡ v = cc in
     subst (Spells w) value (depth, omega arith)
 
-spells_running : (w : ℕ) (v : ThreadWord) → w % 2 ^ 2 ≡ 1 → DepthFits (w / 2 ^ 5) → Some (Running (w / 2 ^ 2 % 2 ^ 3) (w / 2 ^ 5)) ≡ Some v → Spells w v
+spells_running : (w : ℕ) (v : ThreadWord) → w % 2 ^ 2 ≡ 1 → DepthFits (w / 2 ^ 5)
+    → Some (Running (w / 2 ^ 2 % 2 ^ 3) (w / 2 ^ 5)) ≡ Some v → Spells w v
 unfolding Spells word_of_thread
 spells_running w v state depth h =
     let value : Running (w / 2 ^ 2 % 2 ^ 3) (w / 2 ^ 5) ≡ v = cc in
     subst (Spells w) value ((omega arith, depth), omega arith)
 
-spells_claimed : (w : ℕ) (v : ThreadWord) → w % 2 ^ 2 ≡ 2 → DepthFits (w / 2 ^ 5) → Some (Claimed (w / 2 ^ 2 % 2 ^ 3) (w / 2 ^ 5)) ≡ Some v → Spells w v
+spells_claimed : (w : ℕ) (v : ThreadWord) → w % 2 ^ 2 ≡ 2 → DepthFits (w / 2 ^ 5)
+    → Some (Claimed (w / 2 ^ 2 % 2 ^ 3) (w / 2 ^ 5)) ≡ Some v → Spells w v
 unfolding Spells word_of_thread
 spells_claimed w v state depth h =
     let value : Claimed (w / 2 ^ 2 % 2 ^ 3) (w / 2 ^ 5) ≡ v = cc in
@@ -48,7 +52,8 @@ spells_claimed w v state depth h =
 spells_state : (w : ℕ) (v : ThreadWord) → DepthFits (w / 2 ^ 5) → state_of (w % 2 ^ 2) (w / 2 ^ 2 % 2 ^ 3) (w / 2 ^ 5) ≡ Some v → Spells w v
 spells_state w v depth h =
     chosen (w % 2 ^ 2 == 0 && w / 2 ^ 2 % 2 ^ 3 == 0) _ _ (Some v) h
-    (λ e f. let p = and_parts (w % 2 ^ 2 == 0) (w / 2 ^ 2 % 2 ^ 3 == 0) e in spells_idle w v (eqb-true (w % 2 ^ 2) 0 p.0) (eqb-true (w / 2 ^ 2 % 2 ^ 3) 0 p.1) depth f)
+    (λ e f. let p = and_parts (w % 2 ^ 2 == 0) (w / 2 ^ 2 % 2 ^ 3 == 0) e in
+    spells_idle w v (eqb-true (w % 2 ^ 2) 0 p.0) (eqb-true (w / 2 ^ 2 % 2 ^ 3) 0 p.1) depth f)
     (λ _ h1. chosen (w % 2 ^ 2 == 1) _ _ (Some v) h1
     (λ e f. spells_running w v (eqb-true (w % 2 ^ 2) 1 e) depth f)
     (λ _ h2. chosen (w % 2 ^ 2 == 2) _ _ (Some v) h2
@@ -59,7 +64,8 @@ spells : (w : ℕ) (v : ThreadWord) → thread_of_word w ≡ Some v → Spells w
 unfolding thread_of_word
 spells w v h =
     chosen (nat_le 1 (w / 2 ^ 5) && nat_le (w / 2 ^ 5) 16) _ _ (Some v) h
-    (λ e f. let p = and_parts (nat_le 1 (w / 2 ^ 5)) (nat_le (w / 2 ^ 5) 16) e in spells_state w v (leb-true 1 (w / 2 ^ 5) p.0, leb-true (w / 2 ^ 5) 16 p.1) f)
+    (λ e f. let p = and_parts (nat_le 1 (w / 2 ^ 5)) (nat_le (w / 2 ^ 5) 16) e in
+    spells_state w v (leb-true 1 (w / 2 ^ 5) p.0, leb-true (w / 2 ^ 5) 16 p.1) f)
     (λ _ f. absurd (cc))
 
 small : (v : ThreadWord) → ThreadFits v → word_of_thread v < 2 ^ 64
@@ -73,7 +79,8 @@ unfolding Spells
 spelling = record { reads = reads; spells = spells; small = small }
 
 -- what `unpack` says of the value read from a word
-pub thread_reads : (o : Option ThreadWord) (w : ℕ) → o ≡ thread_of_word w → (v : ThreadWord) → ThreadFits v → word_of_thread v ≡ w → o ≡ Some v
+pub thread_reads : (o : Option ThreadWord) (w : ℕ) → o ≡ thread_of_word w
+    → (v : ThreadWord) → ThreadFits v → word_of_thread v ≡ w → o ≡ Some v
 thread_reads = spelling_reads spelling
 
 pub thread_spells : (o : Option ThreadWord) (w : ℕ) → o ≡ thread_of_word w → IfSome o (λ v. ThreadFits v × (word_of_thread v ≡ w))

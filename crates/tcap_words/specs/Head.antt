@@ -13,7 +13,8 @@ word_of_head v = v.budget + 2 ^ 32 * number_of_mark v.mark + 2 ^ 36 * v.version
 -- the head word of these fields, where each is within its range
 abbrev pub head_of : ℕ → Option (Option ℕ) → ℕ → Option HeadWord
 head_of budget None version = None
-head_of budget (Some mark) version = if nat_lt version (2 ^ 28) then Some (record { budget = budget; mark = mark; version = version }) else None
+head_of budget (Some mark) version = if nat_lt version (2 ^ 28)
+    then Some (record { budget = budget; mark = mark; version = version }) else None
 
 -- the head word of a word
 unfoldable pub head_of_word : ℕ → Option HeadWord

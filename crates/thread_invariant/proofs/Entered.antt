@@ -2,7 +2,8 @@
 -- decided, and the component stands on top of the core's stack.
 use Rattle.std.specs.List.{list_any}
 use Rattle.std.specs.Prelude.{min}
-use Rattle.std.proofs.Common.{◌≡◌, ◌≢◌, ◌⊎◌, inl, inr, ℕ, suc, pos, ◌+ℤ◌, max, length, ◌+◌, ◌-◌, ◌^◌, ◌<◌, ◌≤◌, ◌==◌, Bool, true, false, if◌then◌else◌, cond, List, [], ◌∷◌, Option, Some, None, arith, refl, sym, ◌∙◌, ap, subst}
+use Rattle.std.proofs.Common.{◌≡◌, ◌≢◌, ◌⊎◌, inl, inr, ℕ, suc, pos, ◌+ℤ◌, max, length, ◌+◌, ◌-◌, ◌^◌, ◌<◌, ◌≤◌, ◌==◌, Bool, true}
+use Rattle.std.proofs.Common.{false, if◌then◌else◌, cond, List, [], ◌∷◌, Option, Some, None, arith, refl, sym, ◌∙◌, ap, subst}
 use Rattle.std.proofs.lemmas.Bool.{eqb-true, eq-eqb}
 use Rattle.spk_nums.specs.Setting.{Setting, IsSetting}
 use Rattle.spk_nums.specs.declared.replies.Reply.{Reply}
@@ -19,7 +20,8 @@ use Rattle.tcap_words.proofs.StackLemmas as stacks
 use Rattle.tcap_words.proofs.ThreadLemmas as threads
 use Rattle.word_map.specs.Word.{Word, EntryAt, CountAt, LiveAt, ClockAt}
 use Rattle.word_map.specs.Moves.{Move, LoadOf, word_of, told_of}
-use Rattle.kernel_rules.specs.State.{CompFields, ThreadFields, Comp, Thread, Kernel, Thing, PlaceOf, FrameOf, NumberOf, Grace, State, first_of_stack, comp_in, comp_of, thread_of, put}
+use Rattle.kernel_rules.specs.State.{CompFields, ThreadFields, Comp, Thread, Kernel, Thing, PlaceOf, FrameOf}
+use Rattle.kernel_rules.specs.State.{NumberOf, Grace, State, first_of_stack, comp_in, comp_of, thread_of, put}
 use Rattle.kernel_rules.specs.Rules.{Found, IsFoundAnd}
 use Rattle.kernel_rules.specs.References.{times, refs}
 use Rattle.kernel_rules.specs.InvocationCalls.{is_live_in, pushes}
@@ -78,9 +80,11 @@ use Rattle.thread_invariant.proofs.EntryMarks.{counts_apart}
 use Rattle.thread_invariant.proofs.CompWords.{holds_comp, comp_below}
 use Rattle.thread_invariant.proofs.Heights.{at_top, beside_top}
 use Rattle.thread_invariant.proofs.InvokeCalls as calls
-use Rattle.thread_invariant.proofs.Invokes.{knows_at, loaded, looking, says, lives_so, dead_good, closing_good, load_table_good, load_pages_good, load_comp_good}
+use Rattle.thread_invariant.proofs.Invokes.{knows_at, loaded, looking, says, lives_so, dead_good}
+use Rattle.thread_invariant.proofs.Invokes.{closing_good, load_table_good, load_pages_good, load_comp_good}
 use Rattle.thread_invariant.proofs.OwnStack.{own_thread}
-use Rattle.thread_invariant.proofs.Restacks.{IsRestack, frame_away, core_now, limits, whose, refs_now, grows, more_room, alike, restack_words, restack_lent}
+use Rattle.thread_invariant.proofs.Restacks.{IsRestack, frame_away, core_now, limits, whose, refs_now}
+use Rattle.thread_invariant.proofs.Restacks.{grows, more_room, alike, restack_words, restack_lent}
 use Rattle.thread_invariant.proofs.Stacked.{stacked}
 use Rattle.thread_invariant.proofs.Stacks.{kept_here, kept_there, kept_is}
 
@@ -377,7 +381,8 @@ module _ (setup : Setting) (setting : IsSetting setup) (cores : ℕ → Core) (t
       (plain_begins setup t e plain) (spares_kept setup t e refl) (inr (spares_none setup t e (λ f. none_ends (FrameOf f))))
       (let more = grows setup setting cores t stands c here a active move r after fs m.depth graces restack in omega (arith, more))
       works marks
-      (restack_words setup setting cores t stands c here a active move r after fs m.depth graces restack still none_kept none_marked no_entry
+      (restack_words setup setting cores t stands c here a active move r
+      after fs m.depth graces restack still none_kept none_marked no_entry
       unmarked
       unmarked number_said held)
       (restack_lent setup setting cores t stands c here a active move r after fs m.depth graces restack still none_kept none_marked no_entry

@@ -1,6 +1,7 @@
 -- Who may have marked a word of a thread: the core that runs the thread, or one that has claimed the thread while it was idle. So no word
 -- of a running thread carries the mark of another core.
-use Rattle.std.proofs.Common.{◌≡◌, ◌≢◌, ◌⊎◌, ◌<◌, ◌^◌, ◌+◌, ◌*◌, inl, inr, ℕ, zero, suc, Bool, true, false, if◌then◌else◌, List, [], ◌∷◌, length, Option, Some, None, IsTrue, arith, refl, sym, ◌∙◌, ap, subst}
+use Rattle.std.proofs.Common.{◌≡◌, ◌≢◌, ◌⊎◌, ◌<◌, ◌^◌, ◌+◌, ◌*◌, inl, inr, ℕ, zero, suc, Bool, true, false, if◌then◌else◌}
+use Rattle.std.proofs.Common.{List, [], ◌∷◌, length, Option, Some, None, IsTrue, arith, refl, sym, ◌∙◌, ap, subst}
 use Rattle.std.proofs.lemmas.Bool.{false≢true, cases_eq, cases_lt, ne_eqb}
 use Rattle.spk_nums.specs.Setting.{Setting, IsSetting}
 use Rattle.spk_nums.specs.declared.kinds.Kind.TheVariants as kind
@@ -41,9 +42,14 @@ use Rattle.act_states.specs.declared.untypings.UntypingAt.{UntypingAt}
 use Rattle.act_states.specs.declared.untypings.UntypingAt.TheVariants as untype
 use Rattle.act_states.specs.Untypings.{release_of}
 use Rattle.act_states.specs.declared.work.Act.{Act as ActOf}
-use Rattle.act_states.specs.declared.work.Act.TheVariants.{Fill as fill_act, Remove as remove_act, Retype as type_act, Make as make_act, Outside, Tick as tick_act, Touch as touch_act, Flush as flush_act, Kill as kill_act, Untype as untype_act, Map as map_act, MakeComp as comp_act, Invoke as invoke_act, Return as return_act, Share as share_act, Switch as switch_act}
+use Rattle.act_states.specs.declared.work.Act.TheVariants.{Fill as fill_act, Remove as remove_act, Retype as type_act}
+use Rattle.act_states.specs.declared.work.Act.TheVariants.{Make as make_act, Outside, Tick as tick_act, Touch as touch_act}
+use Rattle.act_states.specs.declared.work.Act.TheVariants.{Flush as flush_act, Kill as kill_act, Untype as untype_act}
+use Rattle.act_states.specs.declared.work.Act.TheVariants.{Map as map_act, MakeComp as comp_act, Invoke as invoke_act}
+use Rattle.act_states.specs.declared.work.Act.TheVariants.{Return as return_act, Share as share_act, Switch as switch_act}
 use Rattle.act_states.specs.declared.work.Tail.{Tail}
-use Rattle.act_states.specs.declared.work.Tail.TheVariants.{Nothing, Quiesce, Unmark, StoreDead, StoreFlush, Release, StoreLive, Push, Pop, Share, StoreRunning, StoreIdle}
+use Rattle.act_states.specs.declared.work.Tail.TheVariants.{Nothing, Quiesce, Unmark, StoreDead, StoreFlush, Release}
+use Rattle.act_states.specs.declared.work.Tail.TheVariants.{StoreLive, Push, Pop, Share, StoreRunning, StoreIdle}
 use Rattle.act_states.specs.declared.work.Work.{Work}
 use Rattle.act_states.specs.declared.work.Work.TheVariants.{Lookup, Read, Scan, Acquire, Act}
 use Rattle.call_stages.specs.declared.stages.Stage.{Stage}
@@ -57,7 +63,8 @@ use Rattle.core_invariant.specs.Threads.{holds_idle, holds_switching, claimed_by
 use Rattle.core_invariant.specs.Words.{IsFrameWord, count_room}
 use Rattle.core_invariant.specs.Knows.{KnowsAct, KnowsWork, KnowsTail, KnowsAt, CallIs, phase_at}
 use Rattle.core_invariant.specs.Shares.{KnowsStoresAt}
-use Rattle.core_invariant.specs.Invariant.{holds_act, holds_making, holds_killing, holds_comp, holds_share, holds_shared, holds_head, holds_heads, holds_work, holds_tail, is_done, holds_at, holds_in, holds, held_by, Invariant}
+use Rattle.core_invariant.specs.Invariant.{holds_act, holds_making, holds_killing, holds_comp, holds_share, holds_shared, holds_head}
+use Rattle.core_invariant.specs.Invariant.{holds_heads, holds_work, holds_tail, is_done, holds_at, holds_in, holds, held_by, Invariant}
 use Rattle.kept_knowledge.proofs.Carries.{slot_relies}
 use Rattle.core_invariant.proofs.Freezing.{release_entry}
 use Rattle.lent_words.proofs.Lent.{runs_on_own}
@@ -163,7 +170,8 @@ module _ (setup : Setting) (setting : IsSetting setup) (cores : ℕ → Core) (t
   shares p pair.StoreB h not below = below
   shares p (pair.StoreA moved v) h not below = below
 
-  heads : (p : Pair) (h : Holding) → is_thread ((state_after setup t).frame p.a) ≡ false → is_thread ((state_after setup t).frame p.b) ≡ false
+  heads : (p : Pair) (h : Holding) → is_thread ((state_after setup t).frame p.a) ≡ false
+      → is_thread ((state_after setup t).frame p.b) ≡ false
       → Claimed h → Claimed (holds_heads p h)
   heads p h not_a not_b below = no_thread (holds_head p true h) p.b 0 _ (no_thread h p.a 0 _ below not_a) not_b
 

@@ -1,7 +1,9 @@
 -- The draw of a stamp by which a core leaves a component: the call is decided, and the component below stands on top of the core's stack.
 -- The reference to the component that is left is released at the stamp.
 use Rattle.std.specs.List.{list_any}
-use Rattle.std.proofs.Common.{◌≡◌, ◌≢◌, ◌⊎◌, inl, inr, ℕ, suc, pos, negsuc, ◌+ℤ◌, max, length, take, drop, ◌+◌, ◌-◌, ◌^◌, ◌<◌, ◌≤◌, ◌==◌, ◌||◌, Bool, true, false, if◌then◌else◌, List, [], ◌∷◌, Option, Some, None, IsTrue, arith, refl, sym, ◌∙◌, ap, subst}
+use Rattle.std.proofs.Common.{◌≡◌, ◌≢◌, ◌⊎◌, inl, inr, ℕ, suc, pos, negsuc, ◌+ℤ◌, max, length, take, drop}
+use Rattle.std.proofs.Common.{◌+◌, ◌-◌, ◌^◌, ◌<◌, ◌≤◌, ◌==◌, ◌||◌, Bool, true, false, if◌then◌else◌, List}
+use Rattle.std.proofs.Common.{[], ◌∷◌, Option, Some, None, IsTrue, arith, refl, sym, ◌∙◌, ap, subst}
 use Rattle.std.proofs.Math.IntN.{pos-+ℤ-pos, +ℤ_assoc, +ℤ_invr, +ℤ_idr}
 use Rattle.std.proofs.lemmas.Bool.{cases_eq, eq-eqb, ne_eqb, false≢true}
 use Rattle.spk_nums.specs.Setting.{Setting, IsSetting}
@@ -15,7 +17,8 @@ use Rattle.tcap_words.proofs.StackLemmas as stacks
 use Rattle.tcap_words.proofs.ThreadLemmas as threads
 use Rattle.word_map.specs.Word.{Word, EntryAt, CountAt, FlushAt, ClockAt}
 use Rattle.word_map.specs.Moves.{Move, AddOf, word_of, told_of}
-use Rattle.kernel_rules.specs.State.{CompFields, ThreadFields, Comp, Thread, Kernel, Thing, PlaceOf, FrameOf, NumberOf, Grace, State, first_of_stack, comp_in, comp_of, thread_of, put}
+use Rattle.kernel_rules.specs.State.{CompFields, ThreadFields, Comp, Thread, Kernel, Thing, PlaceOf, FrameOf}
+use Rattle.kernel_rules.specs.State.{NumberOf, Grace, State, first_of_stack, comp_in, comp_of, thread_of, put}
 use Rattle.kernel_rules.specs.Rules.{Found, IsFoundAnd, frames_of}
 use Rattle.kernel_rules.specs.References.{times, refs}
 use Rattle.kernel_rules.specs.InvocationCalls.{pops}
@@ -26,7 +29,8 @@ use Rattle.kernel_history.specs.Discipline.{changes_threads, raises_clock}
 use Rattle.kernel_history.specs.Graces.{KeepsTime}
 use Rattle.kernel_history.specs.Marking.{marked_by}
 use Rattle.kernel_history.specs.ObjectWords.{at_height}
-use Rattle.kernel_history.specs.Stamps.{begins_in as begins_then, ends_in, flushes_in, begins_at, ends_at, flushes_at, stamp, clock, flush_of, flush_stored}
+use Rattle.kernel_history.specs.Stamps.{begins_in as begins_then, ends_in, flushes_in, begins_at}
+use Rattle.kernel_history.specs.Stamps.{ends_at, flushes_at, stamp, clock, flush_of, flush_stored}
 use Rattle.kernel_history.specs.Trace.{Step, Trace, Open, phase, state_after, state_decided_in, last_left}
 use Rattle.trace_laws.proofs.AloneCalls.{ok_first}
 use Rattle.kernel_history.proofs.Steps.{stamp-begins, stamp-kept, flush_of-own, flush_stored-own, flush_stored-other}
@@ -73,9 +77,11 @@ use Rattle.count_invariant.proofs.CapChanges.{counts_commit, counts_sum, dues_of
 use Rattle.thread_invariant.proofs.EntryMarks.{counts_apart}
 use Rattle.thread_invariant.proofs.CompWords.{holds_comp}
 use Rattle.thread_invariant.proofs.Heights.{above_top, beside_top}
-use Rattle.thread_invariant.proofs.Returns.{opens, is_open, room, return_fits, deep, change, nothing_gone, return_held, loaded_at, load_below_good, load_table_good, load_pages_good}
+use Rattle.thread_invariant.proofs.Returns.{opens, is_open, room, return_fits, deep, change, nothing_gone}
+use Rattle.thread_invariant.proofs.Returns.{return_held, loaded_at, load_below_good, load_table_good, load_pages_good}
 use Rattle.thread_invariant.proofs.OwnStack.{own_thread, split_stack}
-use Rattle.thread_invariant.proofs.Restacks.{IsRestack, frame_away, core_now, limits, whose, refs_now, grows, more_room, alike, restack_words, restack_lent}
+use Rattle.thread_invariant.proofs.Restacks.{IsRestack, frame_away, core_now, limits, whose, refs_now}
+use Rattle.thread_invariant.proofs.Restacks.{grows, more_room, alike, restack_words, restack_lent}
 use Rattle.thread_invariant.proofs.Stacked.{stacked}
 use Rattle.thread_invariant.proofs.Stacks.{kept_here, kept_there, kept_is}
 
@@ -440,7 +446,8 @@ module _ (setup : Setting) (setting : IsSetting setup) (cores : ℕ → Core) (t
       (record { threads = ap changes_threads knows.call_is; core = knows.core })
 
 -- A step by which a core leaves a component is good.
-pub returning_good : (setup : Setting) → IsSetting setup → (cores : ℕ → Core) (t : Trace) → Invariant setup cores t → (c : ℕ) → c < setup.cores
+pub returning_good : (setup : Setting) → IsSetting setup
+    → (cores : ℕ → Core) (t : Trace) → Invariant setup cores t → (c : ℕ) → c < setup.cores
     → (a : ActiveCall) → (cores c).active ≡ Some a → (m : Returning) → a.stage ≡ Undecided (Act (return_act m))
     → KnowsUndecided setup t c (cores c).own.table a (Act (return_act m))
     → GoodTook setup cores t c (returning_move m)

@@ -1,12 +1,14 @@
 -- A store of a word of its thread that a core keeps without a mark, after its call is decided: the word settles to what is stored, and the
 -- core keeps it no longer.
-use Rattle.std.proofs.Common.{◌≡◌, ◌≢◌, inl, inr, ℕ, ◌≤◌, ◌^◌, ◌<◌, ◌==◌, ◌||◌, true, false, if◌then◌else◌, List, [], ◌∷◌, ◌++◌, length, Option, Some, None, IsTrue, arith, refl, sym, ◌∙◌, ap, subst}
+use Rattle.std.proofs.Common.{◌≡◌, ◌≢◌, inl, inr, ℕ, ◌≤◌, ◌^◌, ◌<◌, ◌==◌, ◌||◌, true, false, if◌then◌else◌, List}
+use Rattle.std.proofs.Common.{[], ◌∷◌, ◌++◌, length, Option, Some, None, IsTrue, arith, refl, sym, ◌∙◌, ap, subst}
 use Rattle.std.proofs.lemmas.Bool.{cases_eq, eq-eqb}
 use Rattle.spk_nums.specs.Setting.{Setting, IsSetting}
 use Rattle.spk_nums.specs.declared.replies.Reply.{Reply}
 use Rattle.word_map.specs.Word.{Word, EntryAt, ClockAt}
 use Rattle.word_map.specs.Moves.{Move, StoreOf}
-use Rattle.kernel_rules.specs.State.{ThreadFields, Frame, Untyped, User, Kernel, Blank, Table, Leaf, Pages, Pleaf, Comp, Thread, Tcap, State, thread_in, thread_of, comp_of, put}
+use Rattle.kernel_rules.specs.State.{ThreadFields, Frame, Untyped, User, Kernel, Blank, Table, Leaf, Pages}
+use Rattle.kernel_rules.specs.State.{Pleaf, Comp, Thread, Tcap, State, thread_in, thread_of, comp_of, put}
 use Rattle.kernel_rules.proofs.Within.{put_same, put_other}
 use Rattle.kernel_history.specs.Discipline.{changes_threads, changes_in_frame}
 use Rattle.kernel_history.specs.Footprint.{is_one_of, frames_own, frames_near}

@@ -1,6 +1,7 @@
 -- What each call makes of a frame with a thread: it keeps a thread, unless it is made untyped; and a thread that runs nowhere, before the
 -- call and after it, is as it was.
-use Rattle.std.proofs.Common.{◌≡◌, ◌≢◌, ◌⊎◌, inl, inr, ℕ, ◌-◌, Bool, true, false, refl, sym, ◌∙◌, ap, subst, IsTrue, List, [], ◌∷◌, Option, Some, None}
+use Rattle.std.proofs.Common.{◌≡◌, ◌≢◌, ◌⊎◌, inl, inr, ℕ, ◌-◌, Bool, true, false, refl, sym}
+use Rattle.std.proofs.Common.{◌∙◌, ap, subst, IsTrue, List, [], ◌∷◌, Option, Some, None}
 use Rattle.std.proofs.lemmas.Bool.{false≢true, cases_eq, eq-eqb}
 use Rattle.spk_nums.specs.declared.kinds.Kind.{Kind}
 use Rattle.spk_nums.specs.declared.kinds.Kind.TheVariants as kind
@@ -9,11 +10,14 @@ use Rattle.spk_nums.specs.declared.kinds.FrameKind.TheVariants as frame_kind
 use Rattle.spk_nums.specs.declared.calls.Make.{Make}
 use Rattle.spk_nums.specs.declared.calls.Make.TheVariants as make
 use Rattle.spk_nums.specs.declared.calls.Call.{Call}
-use Rattle.spk_nums.specs.declared.calls.Call.TheVariants.{Look, Copy, Remove, Grow, Shrink, Retype, Make as make_call, Map, Unmap, Touch, Flush, Gate, Kill, Call as call_gate, Ret, Switch, Tick, Transfer, Delegate, Test}
+use Rattle.spk_nums.specs.declared.calls.Call.TheVariants.{Look, Copy, Remove, Grow, Shrink, Retype, Make as make_call}
+use Rattle.spk_nums.specs.declared.calls.Call.TheVariants.{Map, Unmap, Touch, Flush, Gate, Kill, Call as call_gate}
+use Rattle.spk_nums.specs.declared.calls.Call.TheVariants.{Ret, Switch, Tick, Transfer, Delegate, Test}
 use Rattle.spk_nums.specs.declared.translations.Translation.{Translation}
 use Rattle.spk_nums.specs.declared.replies.Reply.{Reply}
 use Rattle.spk_nums.specs.declared.replies.Reply.TheVariants as reply
-use Rattle.kernel_rules.specs.State.{ThreadFields, TcapFields, Object, Blank, Table, Leaf, Pages, Pleaf, Comp, Thread, Tcap, Frame, Untyped, User, Kernel, FrameOf, State, put, comp_of, thread_in, thread_of}
+use Rattle.kernel_rules.specs.State.{ThreadFields, TcapFields, Object, Blank, Table, Leaf, Pages, Pleaf, Comp, Thread, Tcap}
+use Rattle.kernel_rules.specs.State.{Frame, Untyped, User, Kernel, FrameOf, State, put, comp_of, thread_in, thread_of}
 use Rattle.kernel_rules.specs.Access.{Named, found}
 use Rattle.kernel_rules.specs.Fitting.{fits}
 use Rattle.kernel_rules.specs.Rules.{Change, Judged, Refused, Found}
@@ -51,7 +55,8 @@ still call f x y same = record {
 rests_same : (call : Call) (f : ℕ) (x : Frame) → Rests call f x x
 rests_same call f x = still call f x x (λ is. refl)
 
-put_rests : (call : Call) (s : State) (g : ℕ) (y : Frame) → Rests call g (s.frame g) y → (f : ℕ) → Rests call f (s.frame f) (put s.frame g y f)
+put_rests : (call : Call) (s : State) (g : ℕ) (y : Frame)
+    → Rests call g (s.frame g) y → (f : ℕ) → Rests call f (s.frame f) (put s.frame g y f)
 put_rests call s g y h f = put_all (λ f x. Rests call f (s.frame f) x) s.frame g y f
     (λ same. subst (λ (n : ℕ). Rests call n (s.frame n) y) (sym same) h) (λ other. rests_same call f (s.frame f))
 
@@ -187,7 +192,8 @@ module _ (s : State) (d : ℕ) (runs : RunsOn s d) (call : Call) where
         where
           now : IsTrue (is_thread (s.frame f)) → (running idle_state g (Some d)).frame f ≡ Kernel (Thread to_thread)
           now is = put_same idle_state.frame g (with_thread (idle_state.frame g) to_thread) f here
-              ∙ with_thread_is (idle_state.frame g) to_thread (subst (λ (n : ℕ). IsTrue (is_thread (idle_state.frame n))) here (thread_first is))
+              ∙ with_thread_is (idle_state.frame g) to_thread
+              (subst (λ (n : ℕ). IsTrue (is_thread (idle_state.frame n))) here (thread_first is))
 
 switch_rests : (s : State) (d : ℕ) → RunsOn s d → (a b : ℕ) (h : Named) (q : ℕ) (e : Option ℕ)
     → ChangesFrom (RestsBy s (Switch a b)) s d (switch_to s d h q e)

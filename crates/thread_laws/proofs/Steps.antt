@@ -1,5 +1,6 @@
 -- What a step of another core leaves of a thread that a core in a call guards.
-use Rattle.std.proofs.Common.{◌≡◌, ◌≢◌, ◌⊎◌, inl, inr, ℕ, ◌<◌, Bool, true, false, refl, sym, ◌∙◌, ap, subst, IsTrue, ◌∷◌, Option, Some, None, arith}
+use Rattle.std.proofs.Common.{◌≡◌, ◌≢◌, ◌⊎◌, inl, inr, ℕ, ◌<◌, Bool, true, false, refl}
+use Rattle.std.proofs.Common.{sym, ◌∙◌, ap, subst, IsTrue, ◌∷◌, Option, Some, None, arith}
 use Rattle.std.proofs.lemmas.Bool.{false≢true}
 use Rattle.spk_nums.specs.Setting.{Setting, IsSetting}
 use Rattle.spk_nums.specs.declared.calls.Call.{Call}
@@ -18,7 +19,8 @@ use Rattle.found_stays.proofs.Stays.{event_stay_in}
 use Rattle.kernel_history.specs.Events.{with_entry, events_of, plain_phase}
 use Rattle.kernel_history.specs.Legal.{MayDecide, MayFollow, IsLegal}
 use Rattle.kernel_history.specs.Stamps.{is_in}
-use Rattle.kernel_history.specs.Trace.{Step, Trace, Phase, Out, Open, Decided, phase, after_enter, state_after, state_entered, state_decided, state_returned, state_before}
+use Rattle.kernel_history.specs.Trace.{Step, Trace, Phase, Out, Open, Decided, phase, after_enter, state_after}
+use Rattle.kernel_history.specs.Trace.{state_entered, state_decided, state_returned, state_before}
 use Rattle.kernel_history.proofs.Events.{entered_events, before_is, entry_apart, entered_run, phase_is, run_of, state_is}
 use Rattle.trace_laws.proofs.Opens.{opens, open_inj}
 use Rattle.thread_laws.proofs.IdleThreads.{is_thread, runs_at, RestsIn, decided_rests}
@@ -80,7 +82,8 @@ module _ (setup : Setting) (setting : IsSetting setup) (t : Trace) (legal : IsLe
     runs = subst (λ s. RunsOn s e.core) (sym (before_is setup t e))
         (runs_of setup setting (entered_events t e) run e.core
         (subst (λ s. e.core < s.limits.cores) (before_is setup t e)
-        ((opens setup setting t legal e follows call is_open).sound.inside e.core (opens setup setting t legal e follows call is_open).is).1))
+        ((opens setup setting t legal e follows call is_open).sound.inside
+        e.core (opens setup setting t legal e follows call is_open).is).1))
 
     rests : RestsIn call r f (before.frame f) ((state_decided (Some r) (Open call) before e.core).frame f)
     rests = decided_rests before (opened (entered_events t e)) e.core (opens setup setting t legal e follows call is_open) runs call r f

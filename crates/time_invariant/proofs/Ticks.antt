@@ -4,7 +4,8 @@ use Rattle.core_invariant.proofs.Bare.{counts_bare}
 use Rattle.lent_words.proofs.Lent.{unlent_head_value, unlent_head_word, lent_none, lent_kept, lent_free}
 use Rattle.std.specs.Prelude.{min, IsSome}
 use Rattle.std.proofs.lemmas.List.Elements.{All-nil}
-use Rattle.std.proofs.Common.{◌≡◌, ◌≢◌, inl, inr, ℕ, zero, suc, map, ◌+◌, ◌-◌, ◌*◌, ◌^◌, ◌<◌, ◌≤◌, ◌==◌, true, false, List, [], ◌∷◌, length, Option, Some, None, arith, refl, sym, ◌∙◌, ap, subst, if◌then◌else◌}
+use Rattle.std.proofs.Common.{◌≡◌, ◌≢◌, inl, inr, ℕ, zero, suc, map, ◌+◌, ◌-◌, ◌*◌, ◌^◌, ◌<◌, ◌≤◌, ◌==◌, true, false}
+use Rattle.std.proofs.Common.{List, [], ◌∷◌, length, Option, Some, None, arith, refl, sym, ◌∙◌, ap, subst, if◌then◌else◌}
 use Rattle.std.proofs.lemmas.Bool.{eqb-true, eqb-false, eq-eqb, cases_eq, false≢true}
 use Rattle.spk_nums.specs.Setting.{Setting, IsSetting}
 use Rattle.spk_nums.specs.CallLimits.{InLimits}
@@ -19,7 +20,8 @@ use Rattle.tcap_words.specs.declared.head_word.HeadWord.{HeadWord}
 use Rattle.tcap_words.proofs.HeadLemmas.{spelling}
 use Rattle.word_map.specs.Word.{Word, EntryAt, FrameAt, CountAt, CoreAt, FlushAt, LiveAt, ClockAt}
 use Rattle.word_map.specs.Moves.{Move, LoadOf, CompareOf, word_of, left_of}
-use Rattle.kernel_rules.specs.State.{Core as CoreFields, Kernel, Tcap, TcapFields, tcap_in, Thing, PlaceOf, NumberOf, State, put, with_frame, with_core, thread_in, comp_in, thread_of, comp_of, first_of_stack}
+use Rattle.kernel_rules.specs.State.{Core as CoreFields, Kernel, Tcap, TcapFields, tcap_in, Thing, PlaceOf, NumberOf, State}
+use Rattle.kernel_rules.specs.State.{put, with_frame, with_core, thread_in, comp_in, thread_of, comp_of, first_of_stack}
 use Rattle.kernel_rules.specs.References.{sum_below, refs, frame_names, times}
 use Rattle.kernel_rules.specs.Rules.{Change, Found, IsFoundAnd}
 use Rattle.kernel_rules.specs.TimeCalls.{owing, with_tcap, charge, charges}
@@ -79,7 +81,8 @@ use Rattle.step_ways.proofs.OwnChanges.{IsSameCore, decides_changing}
 use Rattle.step_ways.proofs.Refusals.{GoodTook, not_spent}
 use Rattle.core_invariant.proofs.Sounds.{limits_of}
 use Rattle.kept_words.proofs.Sums.{sums_keep}
-use Rattle.kept_words.proofs.WordFrames.{SameFor, ReadsAlike, StaysSaid, marks_own, settled_on, load_keeps, load_marks, load_words, word_stays, carry_marks, carry_words, others_settled}
+use Rattle.kept_words.proofs.WordFrames.{SameFor, ReadsAlike, StaysSaid, marks_own, settled_on, load_keeps}
+use Rattle.kept_words.proofs.WordFrames.{load_marks, load_words, word_stays, carry_marks, carry_words, others_settled}
 use Rattle.step_ways.proofs.Writes.{same_marks, room_left}
 use Rattle.time_invariant.proofs.Budgets.{tcap_is, IsTcap, Numbers, numbers_of}
 use Rattle.time_invariant.proofs.TickCalls.{IsTick, tick_of, own_near, raced_head}
@@ -157,7 +160,8 @@ module _ (setup : Setting) (setting : IsSetting setup) (cores : ℕ → Core) (t
   head_says : marked_by setup t at ≡ None → HeadIs q (count_room s) (head_of_word was)
   head_says unmarked = subst (λ (n : ℕ). HeadIs q (count_room s) (head_of_word n)) (unlent_head_value setup cores t stands f q tcap.is was)
       (subst (λ o. HeadIs q (count_room s) (head_of_word (settled_by o (held_by cores) at was))) unmarked
-      (subst (λ x. IsFrameWord s.limits.frames (count_room s) x (s.place f 0) (stamp setup t (PlaceOf f 0)) 0 (settled setup (held_by cores) t at))
+      (subst (λ x. IsFrameWord s.limits.frames (count_room s) x (s.place f 0)
+      (stamp setup t (PlaceOf f 0)) 0 (settled setup (held_by cores) t at))
       tcap.is (stands.words at)))
 
   mark_is : (x : ℕ) → mark_of s at x ≡ head_mark (head_of_word x)
@@ -634,8 +638,10 @@ module _ (setup : Setting) (setting : IsSetting setup) (cores : ℕ → Core) (t
     said_won : (w : Word) → SameFor s s_won (times_of setup t) (times_of setup (e_won ∷ t)) w → StaysSaid setup cores t e_won w
     said_won w same = word_stays s s_won (times_of setup t) (times_of setup (e_won ∷ t)) w (settled setup (held_by cores) t w) same
 
-    list_stays : (i x : ℕ) → i ≢ 0 → IsFrameWord s.limits.frames (count_room s) (Kernel (Tcap q)) (s.place f i) (stamp setup t (PlaceOf f i)) i x
-        → IsFrameWord s_won.limits.frames (count_room s_won) (Kernel (Tcap q_less)) (s_won.place f i) (stamp setup (e_won ∷ t) (PlaceOf f i)) i x
+    list_stays : (i x : ℕ) → i ≢ 0
+        → IsFrameWord s.limits.frames (count_room s) (Kernel (Tcap q)) (s.place f i) (stamp setup t (PlaceOf f i)) i x
+        → IsFrameWord s_won.limits.frames (count_room s_won) (Kernel (Tcap q_less))
+        (s_won.place f i) (stamp setup (e_won ∷ t) (PlaceOf f i)) i x
     list_stays zero x some h = absurd (some refl)
     list_stays (suc j) x some h = h
 
@@ -675,7 +681,8 @@ module _ (setup : Setting) (setting : IsSetting setup) (cores : ℕ → Core) (t
 
     now_says : WordIs s_won (times_of setup (e_won ∷ t)) at (left_of charging was)
     now_says = subst (WordIs s_won (times_of setup (e_won ∷ t)) at) (sym leaves_it)
-        (subst (λ x. IsFrameWord s_won.limits.frames (count_room s_won) x (s_won.place f 0) (stamp setup (e_won ∷ t) (PlaceOf f 0)) 0 (word_of_head less))
+        (subst (λ x. IsFrameWord s_won.limits.frames (count_room s_won) x
+        (s_won.place f 0) (stamp setup (e_won ∷ t) (PlaceOf f 0)) 0 (word_of_head less))
         (sym (frame_here f refl))
         (record {
           version = raised version;

@@ -11,7 +11,8 @@ use Rattle.kernel_rules.specs.Rules.{Judged, Refused, Found, IsFoundAnd}
 use Rattle.kernel_rules.specs.CallRelation.{MayReply, are_calls_spent, change_of}
 use Rattle.kernel_rules.specs.Alone.{reply_in, alone}
 use Rattle.kernel_rules.proofs.AloneLaw.{AreInside, waits_inside}
-use Rattle.kernel_history.specs.Trace.{Step, Trace, Phase, Out, Open, Decided, phase, after_enter, after_decide, after_return, state_after, state_entered, state_before}
+use Rattle.kernel_history.specs.Trace.{Step, Trace, Phase, Out, Open, Decided, phase, after_enter}
+use Rattle.kernel_history.specs.Trace.{after_decide, after_return, state_after, state_entered, state_before}
 use Rattle.kernel_history.specs.Stamps.{is_in}
 use Rattle.kernel_history.specs.Legal.{MayEnter, IsLegal}
 use Rattle.kernel_history.specs.Events.{events_of}
@@ -25,7 +26,8 @@ use Rattle.trace_laws.proofs.Stays.{state_plain}
 
 -- An `ok` that the call relation permits is the reply to a call made alone.
 pub ok_first : (s : State) (c : ℕ) (call : Call) (v : Value) → MayReply s c call (reply.Ok v) → reply.Ok v ≡ alone s c call
-ok_first s c call v may = sym (ap (λ b. if b then reply.CallsSpent else reply_in (change_of s c call)) may.0 ∙ found (change_of s c call) may.1)
+ok_first s c call v may =
+    sym (ap (λ b. if b then reply.CallsSpent else reply_in (change_of s c call)) may.0 ∙ found (change_of s c call) may.1)
   where
     found : (j : Judged Rattle.kernel_rules.specs.Rules.Change) → IsFoundAnd j (λ k. k.value ≡ v) → reply_in j ≡ reply.Ok v
     found (Refused r) h = absurd h
@@ -35,7 +37,8 @@ ok_first s c call v may = sym (ap (λ b. if b then reply.CallsSpent else reply_i
 pub spent_first : (s : State) (c : ℕ) (call : Call) → are_calls_spent s c ≡ true → reply.CallsSpent ≡ alone s c call
 spent_first s c call is = sym (ap (λ b. if b then reply.CallsSpent else reply_in (change_of s c call)) is)
 
-pub refused_first : (s : State) (c : ℕ) (call : Call) (r : Reply) → are_calls_spent s c ≡ false → change_of s c call ≡ Refused r → r ≡ alone s c call
+pub refused_first : (s : State) (c : ℕ) (call : Call) (r : Reply)
+    → are_calls_spent s c ≡ false → change_of s c call ≡ Refused r → r ≡ alone s c call
 refused_first s c call r not is = sym (ap (λ b. if b then reply.CallsSpent else reply_in (change_of s c call)) not ∙ ap reply_in is)
 
 -- for whom a core waits
@@ -56,7 +59,8 @@ entered_waits None s c d x = refl
 entered_waits (Some call) s c d x = refl
 
 -- A step after which its core's call is open neither decides nor returns.
-stays_open : (d q : Option Reply) (p : Phase) (call : Call) → after_return q (after_decide d p) ≡ Open call → (d ≡ None) × (q ≡ None) × (p ≡ Open call)
+stays_open : (d q : Option Reply) (p : Phase) (call : Call)
+    → after_return q (after_decide d p) ≡ Open call → (d ≡ None) × (q ≡ None) × (p ≡ Open call)
 stays_open None None p call is = (refl, refl, is)
 stays_open (Some r) None Out call is = absurd (cc)
 stays_open (Some r) None (Open k) call is = absurd (cc)
@@ -73,8 +77,10 @@ alone_waits_none setup (e ∷ t) legal c call is alone x =
     stays_open e.decides e.returns (after_enter e.enters (phase t c)) call (sym (phase-own c e t (sym alone.0)) ∙ is) in
     by_entry e.enters refl is_open.0 is_open.1 is_open.2 alone.1 (alone_waits_none setup t legal.0 c call)
   where
-    by_entry : (o : Option Call) → e.enters ≡ o → e.decides ≡ None → e.returns ≡ None → after_enter e.enters (phase t c) ≡ Open call → UnlessEnters e.enters (IsUndisturbed t c)
-        → (phase t c ≡ Open call → IsUndisturbed t c → (y : Thing) → ((state_after setup t).grace y).waits c ≡ false) → ((state_after setup (e ∷ t)).grace x).waits c ≡ false
+    by_entry : (o : Option Call) → e.enters ≡ o → e.decides ≡ None → e.returns ≡ None
+        → after_enter e.enters (phase t c) ≡ Open call → UnlessEnters e.enters (IsUndisturbed t c)
+        → (phase t c ≡ Open call → IsUndisturbed t c → (y : Thing) → ((state_after setup t).grace y).waits c ≡ false)
+        → ((state_after setup (e ∷ t)).grace x).waits c ≡ false
     by_entry None os no_decision no_return opens rest before =
         ap (λ s. (s.grace x).waits c) (state_plain setup t e os no_decision no_return)
         ∙ before (ap (λ o. after_enter o (phase t c)) (sym os) ∙ opens) (subst (λ o. UnlessEnters o (IsUndisturbed t c)) os rest) x
@@ -82,10 +88,12 @@ alone_waits_none setup (e ∷ t) legal c call is alone x =
         ap (λ o. ((state_of o e.decides e.returns).grace x).waits c) os
         ∙ ap (λ d. ((state_of (Some k) d e.returns).grace x).waits c) no_decision
         ∙ ap (λ q. ((state_of (Some k) None q).grace x).waits c) no_return
-        ∙ out_waits_none setup t c (subst (λ (d : ℕ). phase t d ≡ Out) alone.0 (subst (λ o. MayEnter o (phase t e.core)) os legal.1.enters).0) x
+        ∙ out_waits_none setup t c
+        (subst (λ (d : ℕ). phase t d ≡ Out) alone.0 (subst (λ o. MayEnter o (phase t e.core)) os legal.1.enters).0) x
       where
         state_of : Option Call → Option Reply → Option Reply → State
-        state_of o d q = state_after setup (record { core = e.core; move = e.move; found = e.found; enters = o; decides = d; returns = q } ∷ t)
+        state_of o d q = state_after setup
+            (record { core = e.core; move = e.move; found = e.found; enters = o; decides = d; returns = q } ∷ t)
 
 -- At the step at which a call that is alone is still open, its core waits in no grace period, and nor does any other.
 alone_before : (setup : Setting) (t : Trace) (e : Step) → IsLegal setup t → MayEnter e.enters (phase t e.core) → IsAlone t e → (call : Call)
@@ -93,12 +101,14 @@ alone_before : (setup : Setting) (t : Trace) (e : Step) → IsLegal setup t → 
 alone_before setup t e legal enters alone call is x =
     entered_waits e.enters (state_after setup t) e.core e.core x ∙ by_entry e.enters refl enters alone.undisturbed is
   where
-    by_entry : (o : Option Call) → e.enters ≡ o → MayEnter o (phase t e.core) → UnlessEnters o (IsUndisturbed t e.core) → after_enter o (phase t e.core) ≡ Open call
+    by_entry : (o : Option Call) → e.enters ≡ o → MayEnter o (phase t e.core)
+        → UnlessEnters o (IsUndisturbed t e.core) → after_enter o (phase t e.core) ≡ Open call
         → ((state_after setup t).grace x).waits e.core ≡ false
     by_entry None os may rest is = alone_waits_none setup t legal e.core call is rest x
     by_entry (Some k) os may rest is = out_waits_none setup t e.core may.0 x
 
-pub nobody_waits : (setup : Setting) (t : Trace) (e : Step) → IsLegal setup t → MayEnter e.enters (phase t e.core) → IsAlone t e → (call : Call)
+pub nobody_waits : (setup : Setting) (t : Trace) (e : Step) → IsLegal setup t
+    → MayEnter e.enters (phase t e.core) → IsAlone t e → (call : Call)
     → after_enter e.enters (phase t e.core) ≡ Open call → (x : Thing) (d : ℕ) → ((state_before setup t e).grace x).waits d ≡ false
 nobody_waits setup t e legal enters alone call is x d = elim (cases_eq d e.core) [
   | inl own ↦ ap ((state_before setup t e).grace x).waits own ∙ alone_before setup t e legal enters alone call is x

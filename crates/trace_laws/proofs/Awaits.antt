@@ -1,5 +1,6 @@
 -- A grace period that stands waits for flushes exactly where its thing needs them now.
-use Rattle.std.proofs.Common.{◌≡◌, ◌⊎◌, inl, inr, ℕ, ◌<◌, arith, Bool, true, false, refl, sym, ◌∙◌, ap, subst, IsTrue, [], ◌∷◌, Option, Some, None}
+use Rattle.std.proofs.Common.{◌≡◌, ◌⊎◌, inl, inr, ℕ, ◌<◌, arith, Bool, true, false, refl}
+use Rattle.std.proofs.Common.{sym, ◌∙◌, ap, subst, IsTrue, [], ◌∷◌, Option, Some, None}
 use Rattle.std.proofs.lemmas.Bool.{false≢true}
 use Rattle.spk_nums.specs.Setting.{Setting, IsSetting}
 use Rattle.spk_nums.specs.declared.calls.Call.{Call}
@@ -12,7 +13,8 @@ use Rattle.kernel_invariant.proofs.SoundRuns.{opened}
 use Rattle.kernel_invariant.proofs.SoundCalls.{IsOpen}
 use Rattle.kernel_invariant.proofs.FrameTurns.{is_typed, TurnsIn, decided_turns}
 use Rattle.kernel_invariant.proofs.Releases.{begins_typed, ends_begins}
-use Rattle.kernel_history.specs.Trace.{Step, Trace, Phase, Out, Open, Decided, phase, after_enter, state_after, state_entered, state_decided, state_returned, state_before}
+use Rattle.kernel_history.specs.Trace.{Step, Trace, Phase, Out, Open, Decided, phase, after_enter, state_after}
+use Rattle.kernel_history.specs.Trace.{state_entered, state_decided, state_returned, state_before}
 use Rattle.kernel_history.specs.Stamps.{begins_in, ends_in, begins_at, ends_at, stamp, awaits_flushes}
 use Rattle.kernel_history.specs.Legal.{MayDecide, MayFollow, IsLegal}
 use Rattle.kernel_history.proofs.Steps.{stamp-ends, stamp-kept, awaits-begins, awaits-kept}
@@ -30,9 +32,11 @@ pub record AwaitsAre (setup : Setting) (t : Trace) (f : ℕ) : Type 0 where
 
 -- How a step turns a frame.
 record TurnsAt (setup : Setting) (t : Trace) (e : Step) (f : ℕ) : Type 0 where
-  node : (i : ℕ) → IsTrue (is_node ((state_after setup (e ∷ t)).frame f)) → (ends_at t e (PlaceOf f i) ≡ true) ⊎ ((state_after setup (e ∷ t)).frame f ≡ (state_after setup t).frame f)
+  node : (i : ℕ) → IsTrue (is_node ((state_after setup (e ∷ t)).frame f))
+      → (ends_at t e (PlaceOf f i) ≡ true) ⊎ ((state_after setup (e ∷ t)).frame f ≡ (state_after setup t).frame f)
   typed : IsTrue (is_typed ((state_after setup t).frame f)) → (ends_at t e (FrameOf f) ≡ true)
-      ⊎ (IsTrue (is_typed ((state_after setup (e ∷ t)).frame f)) × (is_translated ((state_after setup (e ∷ t)).frame f) ≡ is_translated ((state_after setup t).frame f)))
+      ⊎ (IsTrue (is_typed ((state_after setup (e ∷ t)).frame f))
+      × (is_translated ((state_after setup (e ∷ t)).frame f) ≡ is_translated ((state_after setup t).frame f)))
 
 entered_frame : (o : Option Call) (s : State) (c f : ℕ) → (state_entered o s c).frame f ≡ s.frame f
 entered_frame None s c f = refl
@@ -43,18 +47,23 @@ returned_frame None s c f = refl
 returned_frame (Some r) s c f = refl
 
 record DecidesTurn (o : Option Reply) (p : Phase) (s : State) (c f : ℕ) : Type 0 where
-  node : (i : ℕ) → IsTrue (is_node ((state_decided o p s c).frame f)) → (ends_in o p (PlaceOf f i) ≡ true) ⊎ ((state_decided o p s c).frame f ≡ s.frame f)
+  node : (i : ℕ) → IsTrue (is_node ((state_decided o p s c).frame f))
+      → (ends_in o p (PlaceOf f i) ≡ true) ⊎ ((state_decided o p s c).frame f ≡ s.frame f)
   typed : IsTrue (is_typed (s.frame f)) → (ends_in o p (FrameOf f) ≡ true)
-      ⊎ (IsTrue (is_typed ((state_decided o p s c).frame f)) × (is_translated ((state_decided o p s c).frame f) ≡ is_translated (s.frame f)))
+      ⊎ (IsTrue (is_typed ((state_decided o p s c).frame f))
+      × (is_translated ((state_decided o p s c).frame f) ≡ is_translated (s.frame f)))
 
-decision_turns : (o : Option Reply) (p : Phase) (s : State) (opened_in : ℕ → Bool) (c f : ℕ) → ((call : Call) → p ≡ Open call → IsOpen s opened_in c) → DecidesTurn o p s c f
+decision_turns : (o : Option Reply) (p : Phase) (s : State) (opened_in : ℕ → Bool) (c f : ℕ)
+    → ((call : Call) → p ≡ Open call → IsOpen s opened_in c) → DecidesTurn o p s c f
 decision_turns None p s opened_in c f opens_at = record { node = λ i n. inr refl; typed = λ h. inr (h, refl) }
 decision_turns (Some r) Out s opened_in c f opens_at = record { node = λ i n. inr refl; typed = λ h. inr (h, refl) }
 decision_turns (Some r) (Open call) s opened_in c f opens_at =
-    let a : TurnsIn call r f (s.frame f) _ = decided_turns s opened_in c (opens_at call refl) call r f in record { node = a.node; typed = a.typed }
+    let a : TurnsIn call r f (s.frame f) _ = decided_turns s opened_in c (opens_at call refl) call r f in
+    record { node = a.node; typed = a.typed }
 decision_turns (Some r) (Decided call q) s opened_in c f opens_at = record { node = λ i n. inr refl; typed = λ h. inr (h, refl) }
 
-step_turns : (setup : Setting) → IsSetting setup → (t : Trace) → IsLegal setup t → (e : Step) → MayFollow setup t e → (f : ℕ) → TurnsAt setup t e f
+step_turns : (setup : Setting) → IsSetting setup → (t : Trace) → IsLegal setup t
+    → (e : Step) → MayFollow setup t e → (f : ℕ) → TurnsAt setup t e f
 step_turns setup lim t legal e follows f = record {
   node = λ i n. by_node i (a.node i (subst (λ x. IsTrue (is_node x)) after n));
   typed = λ h. by_typed (a.typed (subst (λ x. IsTrue (is_typed x)) (sym before) h));
@@ -64,7 +73,8 @@ step_turns setup lim t legal e follows f = record {
     middle = state_decided e.decides (after_enter e.enters (phase t e.core)) (state_before setup t e) e.core
 
     a : DecidesTurn e.decides (after_enter e.enters (phase t e.core)) (state_before setup t e) e.core f
-    a = decision_turns e.decides (after_enter e.enters (phase t e.core)) (state_before setup t e) (opened (entered_events t e)) e.core f (opens setup lim t legal e follows)
+    a = decision_turns e.decides (after_enter e.enters (phase t e.core)) (state_before setup t e)
+        (opened (entered_events t e)) e.core f (opens setup lim t legal e follows)
 
     after : (state_after setup (e ∷ t)).frame f ≡ middle.frame f
     after = returned_frame e.returns middle e.core f
@@ -77,9 +87,11 @@ step_turns setup lim t legal e follows f = record {
     by_node i (inl ends) = inl ends
     by_node i (inr same) = inr (after ∙ same ∙ before)
 
-    by_typed : (ends_at t e (FrameOf f) ≡ true) ⊎ (IsTrue (is_typed (middle.frame f)) × (is_translated (middle.frame f) ≡ is_translated ((state_before setup t e).frame f)))
+    by_typed : (ends_at t e (FrameOf f) ≡ true)
+        ⊎ (IsTrue (is_typed (middle.frame f)) × (is_translated (middle.frame f) ≡ is_translated ((state_before setup t e).frame f)))
         → (ends_at t e (FrameOf f) ≡ true)
-        ⊎ (IsTrue (is_typed ((state_after setup (e ∷ t)).frame f)) × (is_translated ((state_after setup (e ∷ t)).frame f) ≡ is_translated ((state_after setup t).frame f)))
+        ⊎ (IsTrue (is_typed ((state_after setup (e ∷ t)).frame f))
+        × (is_translated ((state_after setup (e ∷ t)).frame f) ≡ is_translated ((state_after setup t).frame f)))
     by_typed (inl ends) = inl ends
     by_typed (inr is) = inr (subst (λ x. IsTrue (is_typed x)) (sym after) is.0, ap is_translated after ∙ is.1 ∙ ap is_translated before)
 
@@ -92,19 +104,23 @@ module _ (setup : Setting) (lim : IsSetting setup) (t : Trace) (legal : IsLegal 
           → begins_in o p (state_before setup t e) e.core x ≡ false
       by_phase None p at may is = refl
       by_phase (Some r) Out at may is = refl
-      by_phase (Some r) (Open call) at may is = ends_begins (state_before setup t e) (opened (entered_events t e)) e.core call r x (opens setup lim t legal e follows call at)
+      by_phase (Some r) (Open call) at may is =
+          ends_begins (state_before setup t e) (opened (entered_events t e)) e.core call r x (opens setup lim t legal e follows call at)
           (subst (λ k. MayReply (state_before setup t e) e.core k r) (open_inj may.call call may.is_open) may.permitted) is
       by_phase (Some r) (Decided call q) at may is = refl
 
   -- the grace period of a frame begins only where it is something
   begins_of : (f : ℕ) → begins_at setup t e (FrameOf f) ≡ true → IsTrue (is_typed ((state_after setup t).frame f))
-  begins_of f is = subst (λ x. IsTrue (is_typed x)) (entered_frame e.enters (state_after setup t) e.core f) (by_phase e.decides (after_enter e.enters (phase t e.core)) refl is)
+  begins_of f is = subst (λ x. IsTrue (is_typed x)) (entered_frame e.enters (state_after setup t) e.core f)
+      (by_phase e.decides (after_enter e.enters (phase t e.core)) refl is)
     where
-      by_phase : (o : Option Reply) (p : Phase) → after_enter e.enters (phase t e.core) ≡ p → begins_in o p (state_before setup t e) e.core (FrameOf f) ≡ true
+      by_phase : (o : Option Reply) (p : Phase) → after_enter e.enters (phase t e.core) ≡ p
+          → begins_in o p (state_before setup t e) e.core (FrameOf f) ≡ true
           → IsTrue (is_typed ((state_before setup t e).frame f))
       by_phase None p at is = absurd (false≢true is)
       by_phase (Some r) Out at is = absurd (false≢true is)
-      by_phase (Some r) (Open call) at is = begins_typed (state_before setup t e) (opened (entered_events t e)) e.core (opens setup lim t legal e follows call at) call r f is
+      by_phase (Some r) (Open call) at is =
+          begins_typed (state_before setup t e) (opened (entered_events t e)) e.core (opens setup lim t legal e follows call at) call r f is
       by_phase (Some r) (Decided call q) at is = absurd (false≢true is)
 
   awaits_step : (f : ℕ) → AwaitsAre setup t f → AwaitsAre setup (e ∷ t) f
@@ -123,7 +139,8 @@ module _ (setup : Setting) (lim : IsSetting setup) (t : Trace) (legal : IsLegal 
       met : (state_before setup t e).frame f ≡ (state_after setup t).frame f
       met = entered_frame e.enters (state_after setup t) e.core f
 
-      place : (i : ℕ) → IsTrue (is_node ((state_after setup t).frame f)) → (state_after setup (e ∷ t)).frame f ≡ (state_after setup t).frame f → 0 < stamp setup (e ∷ t) (PlaceOf f i)
+      place : (i : ℕ) → IsTrue (is_node ((state_after setup t).frame f))
+          → (state_after setup (e ∷ t)).frame f ≡ (state_after setup t).frame f → 0 < stamp setup (e ∷ t) (PlaceOf f i)
           → awaits_flushes setup (e ∷ t) (PlaceOf f i) ≡ is_paging ((state_after setup (e ∷ t)).frame f)
       place i n same some = elim (cases_bool (begins_at setup t e (PlaceOf f i))) [
         | inl is ↦ awaits-begins setup e t (PlaceOf f i) is ∙ ap is_paging met ∙ sym (ap is_paging same)
@@ -135,7 +152,8 @@ module _ (setup : Setting) (lim : IsSetting setup) (t : Trace) (legal : IsLegal 
       ]
 
       Goal : Type 0
-      Goal = IsTrue (is_typed ((state_after setup (e ∷ t)).frame f)) × (awaits_flushes setup (e ∷ t) (FrameOf f) ≡ is_translated ((state_after setup (e ∷ t)).frame f))
+      Goal = IsTrue (is_typed ((state_after setup (e ∷ t)).frame f))
+          × (awaits_flushes setup (e ∷ t) (FrameOf f) ≡ is_translated ((state_after setup (e ∷ t)).frame f))
 
       with_turn : 0 < stamp setup (e ∷ t) (FrameOf f) → IsTrue (is_typed ((state_after setup t).frame f))
           → awaits_flushes setup (e ∷ t) (FrameOf f) ≡ is_translated ((state_after setup t).frame f) → Goal

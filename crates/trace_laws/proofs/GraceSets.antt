@@ -50,7 +50,11 @@ fits_new i i' n exit decided stored at inside low early = record {
 -- It ends.
 pub fits_none : (i : Bool) (exit decided stored at : ℕ) → at ≡ 0 → FitsAll sets_none i exit false decided stored at
 fits_none i exit decided stored at nothing = record {
-  fits = record { is_in = λ h. absurd (false≢true h); early = λ h. absurd (false≢true h); is_left = λ some h. absurd (omega (arith, some, nothing)) };
+  fits = record {
+    is_in = λ h. absurd (false≢true h);
+    early = λ h. absurd (false≢true h);
+    is_left = λ some h. absurd (omega (arith, some, nothing));
+  };
   flushes = record {
     awaited = λ h. absurd (false≢true h);
     early = λ h. absurd (false≢true h);
@@ -73,7 +77,8 @@ fits_kept k i i' a exit decided stored stored' at inside rises h = record {
 }
 
 -- The core flushes.
-pub fits_flushed : (k : Sets) (i i' a : Bool) (exit decided decided' stored stored' at : ℕ) → (i ≡ true → i' ≡ true) → stored ≤ stored' → at < decided'
+pub fits_flushed : (k : Sets) (i i' a : Bool) (exit decided decided' stored stored' at : ℕ)
+    → (i ≡ true → i' ≡ true) → stored ≤ stored' → at < decided'
     → FitsAll k i exit a decided stored at → FitsAll (sets_flushed k) i' exit a decided' stored' at
 fits_flushed k i i' a exit decided decided' stored stored' at inside rises past h = record {
   fits = record { is_in = λ w. inside (h.fits.is_in w); early = h.fits.early; is_left = h.fits.is_left };
@@ -86,7 +91,8 @@ fits_flushed k i i' a exit decided decided' stored stored' at inside rises past 
 }
 
 -- The core returns, with a later exit at which it waited for what began since, and with its last flush stored.
-pub fits_passed : (k : Sets) (i i' a : Bool) (exit exit' decided stored stored' at : ℕ) → (exit' ≤ at → k.waits ≡ true) → decided ≤ stored' → stored ≤ decided
+pub fits_passed : (k : Sets) (i i' a : Bool) (exit exit' decided stored stored' at : ℕ)
+    → (exit' ≤ at → k.waits ≡ true) → decided ≤ stored' → stored ≤ decided
     → FitsAll k i exit a decided stored at → FitsAll (sets_passed k) i' exit' a decided stored' at
 fits_passed k i i' a exit exit' decided stored stored' at stays kept rises h = record {
   fits = record {

@@ -1,5 +1,6 @@
 -- Grace periods go with stamps: after each step that keeps time and leaves by the rule.
-use Rattle.std.proofs.Common.{◌≡◌, ◌≢◌, ◌⊎◌, inl, inr, ℕ, ◌<◌, ◌≤◌, arith, Bool, true, false, cond, refl, sym, ◌∙◌, ap, subst, [], ◌∷◌, Option, Some, None}
+use Rattle.std.proofs.Common.{◌≡◌, ◌≢◌, ◌⊎◌, inl, inr, ℕ, ◌<◌, ◌≤◌, arith, Bool, true, false}
+use Rattle.std.proofs.Common.{cond, refl, sym, ◌∙◌, ap, subst, [], ◌∷◌, Option, Some, None}
 use Rattle.std.proofs.lemmas.Bool.{false≢true, cases_eq}
 use Rattle.spk_nums.specs.declared.calls.Call.{Call}
 use Rattle.spk_nums.specs.declared.replies.Reply.{Reply}
@@ -12,19 +13,28 @@ use Rattle.kernel_rules.specs.GracePeriods.{new_grace, needs_flush, passed}
 use Rattle.kernel_rules.specs.CallRelation.{MayReply}
 use Rattle.kernel_rules.proofs.Within.{put_same, put_other}
 use Rattle.kernel_invariant.proofs.GraceChanges.{flushed_by, grace_is, flush_begins}
-use Rattle.kernel_history.specs.Trace.{Step, Trace, Phase, Out, Open, Decided, phase, after_enter, state_after, state_entered, state_decided, state_returned, state_before}
-use Rattle.kernel_history.specs.Stamps.{begins_in, ends_in, flushes_in, begins_at, ends_at, flushes_at, stamp, awaits_flushes, clock, clock_seen, exit_after, exit_of, flush_of, flush_stored}
+use Rattle.kernel_history.specs.Trace.{Step, Trace, Phase, Out, Open, Decided, phase, after_enter, state_after}
+use Rattle.kernel_history.specs.Trace.{state_entered, state_decided, state_returned, state_before}
+use Rattle.kernel_history.specs.Stamps.{begins_in, ends_in, flushes_in, begins_at, ends_at, flushes_at, stamp}
+use Rattle.kernel_history.specs.Stamps.{awaits_flushes, clock, clock_seen, exit_after, exit_of, flush_of, flush_stored}
 use Rattle.kernel_history.specs.Legal.{MayDecide, MayFollow}
-use Rattle.kernel_history.proofs.Steps.{stamp-begins, stamp-ends, stamp-kept, awaits-begins, awaits-ends, awaits-kept, exit_of-own, exit_of-other, flush_of-own, flush_of-other, flush_stored-own, flush_stored-other}
+use Rattle.kernel_history.proofs.Steps.{stamp-begins, stamp-ends, stamp-kept, awaits-begins, awaits-ends, awaits-kept, exit_of-own}
+use Rattle.kernel_history.proofs.Steps.{exit_of-other, flush_of-own, flush_of-other, flush_stored-own, flush_stored-other}
 use Rattle.kernel_history.proofs.Inside.{decided-inside, entered-inside, inside-other}
 use Rattle.kernel_history.specs.Graces.{GraceIs, TimesAre, KeepsTime, IsLeave, Leaving, LeavesBy}
-use Rattle.trace_laws.proofs.GraceSets.{Sets, sets_of, sets_new, sets_none, sets_flushed, sets_passed, FitsAll, fits_new, fits_none, fits_kept, fits_flushed, fits_passed, left_of, left_other, passed_own}
+use Rattle.trace_laws.proofs.GraceSets.{Sets, sets_of, sets_new, sets_none, sets_flushed, sets_passed, FitsAll, fits_new}
+use Rattle.trace_laws.proofs.GraceSets.{fits_none, fits_kept, fits_flushed, fits_passed, left_of, left_other, passed_own}
 
 -- Grace periods go with stamps at the start.
 pub grace_start : (setup : Setting) (x : Thing) → GraceIs setup [] x
 grace_start setup x = record {
   past = omega arith;
-  fits = λ c. record { is_in = λ h. absurd (false≢true h); early = λ h. absurd (false≢true h); is_left = λ some low. absurd (omega (arith, some)) };
+  fits = λ c. record {
+    is_in = λ h. absurd (false≢true h);
+    early =
+        λ h. absurd (false≢true h);
+    is_left = λ some low. absurd (omega (arith, some));
+  };
   flushes = λ c. record {
     awaited = λ h. absurd (false≢true h);
     early = λ h. absurd (false≢true h);
@@ -58,7 +68,8 @@ returned_grace None s c x = refl
 returned_grace (Some r) s c x = refl
 
 -- A flush begins and ends no grace period.
-flush_apart : (o : Option Reply) (p : Phase) (s : State) (c : ℕ) (x : Thing) → flushes_in o p ≡ true → (begins_in o p s c x ≡ false) × (ends_in o p x ≡ false)
+flush_apart : (o : Option Reply) (p : Phase) (s : State) (c : ℕ) (x : Thing)
+    → flushes_in o p ≡ true → (begins_in o p s c x ≡ false) × (ends_in o p x ≡ false)
 flush_apart None p s c x h = absurd (false≢true h)
 flush_apart (Some r) Out s c x h = absurd (false≢true h)
 flush_apart (Some r) (Open call) s c x h = flush_begins s c call r x h
@@ -94,7 +105,8 @@ module _ (setup : Setting) (t : Trace) (e : Step) (follows : MayFollow setup t e
       ∙ ap (λ b. grace_by false false b (state_before setup t e) e.core x) is
       ∙ ap (flushed_by e.core) (entered_grace e.enters (state_after setup t) e.core x)
 
-  pub then_kept : begins_at setup t e x ≡ false → ends_at t e x ≡ false → flushes_at t e ≡ false → grace_then ≡ (state_after setup t).grace x
+  pub then_kept : begins_at setup t e x ≡ false → ends_at t e x ≡ false
+      → flushes_at t e ≡ false → grace_then ≡ (state_after setup t).grace x
   then_kept not kept calm =
       ap (λ b. grace_by b (ends_at t e x) (flushes_at t e) (state_before setup t e) e.core x) not
       ∙ ap (λ b. grace_by false b (flushes_at t e) (state_before setup t e) e.core x) kept
@@ -112,7 +124,8 @@ met_inside (Some call) s d c h = elim (cases_eq c d) [
 -- What goes with a thing's stamp at one core.
 abbrev FitsAt : Setting → Trace → Thing → ℕ → Sets → Type 0
 FitsAt setup t x c k =
-    FitsAll k ((state_after setup t).core c).inside (exit_of t c) (awaits_flushes setup t x) (flush_of t c) (flush_stored t c) (stamp setup t x)
+    FitsAll k ((state_after setup t).core c).inside (exit_of t c)
+    (awaits_flushes setup t x) (flush_of t c) (flush_stored t c) (stamp setup t x)
 
 abbrev FitsNow : Setting → Trace → Thing → ℕ → Type 0
 FitsNow setup t x c = FitsAt setup t x c (sets_of ((state_after setup t).grace x) c)
@@ -127,7 +140,8 @@ stored_rises t e c low = elim (cases_eq c e.core) [
     by_word true is = omega (arith, is, low)
     by_word false is = omega (arith, is)
 
-module _ (setup : Setting) (t : Trace) (e : Step) (follows : MayFollow setup t e) (time : KeepsTime setup t e) (times : (c : ℕ) → TimesAre setup t c)
+module _ (setup : Setting) (t : Trace) (e : Step) (follows : MayFollow setup t e) (time : KeepsTime setup t e) (times : (c : ℕ)
+    → TimesAre setup t c)
     (graces : (x : Thing) → GraceIs setup t x) where
   old : (x : Thing) (c : ℕ) → FitsNow setup t x c
   old x c = record { fits = (graces x).fits c; flushes = (graces x).flushes c }
@@ -151,9 +165,11 @@ module _ (setup : Setting) (t : Trace) (e : Step) (follows : MayFollow setup t e
         let low = (times c).exit in
         let early = (times c).flush in
         goes (sets_new (met c) (needs_flush (state_before setup t e) x)) (ap (λ g. sets_of g c) (then_begins setup t e follows x is))
-        (subst (λ a. FitsAll (sets_new (met c) (needs_flush (state_before setup t e) x)) (now c) (exit_of (e ∷ t) c) a (flush_of (e ∷ t) c) (flush_stored (e ∷ t) c) (stamp setup (e ∷ t) x))
+        (subst (λ a. FitsAll (sets_new (met c) (needs_flush (state_before setup t e) x)) (now c)
+        (exit_of (e ∷ t) c) a (flush_of (e ∷ t) c) (flush_stored (e ∷ t) c) (stamp setup (e ∷ t) x))
         (sym (awaits-begins setup e t x is))
-        (fits_new (met c) (now c) (needs_flush (state_before setup t e) x) (exit_of (e ∷ t) c) (flush_of (e ∷ t) c) (flush_stored (e ∷ t) c) (stamp setup (e ∷ t) x)
+        (fits_new (met c) (now c) (needs_flush (state_before setup t e) x) (exit_of (e ∷ t) c)
+        (flush_of (e ∷ t) c) (flush_stored (e ∷ t) c) (stamp setup (e ∷ t) x)
         inside (omega (arith, s, d, low, exit)) (omega (arith, s, d, early, flush))))
 
     ended : begins_at setup t e x ≡ false → ends_at t e x ≡ true → FitsNow setup (e ∷ t) x c
@@ -161,31 +177,42 @@ module _ (setup : Setting) (t : Trace) (e : Step) (follows : MayFollow setup t e
         goes sets_none (ap (λ g. sets_of g c) (then_ends setup t e follows x not ends))
         (subst (λ a. FitsAll sets_none (now c) (exit_of (e ∷ t) c) a (flush_of (e ∷ t) c) (flush_stored (e ∷ t) c) (stamp setup (e ∷ t) x))
         (sym (awaits-ends setup e t x not ends))
-        (fits_none (now c) (exit_of (e ∷ t) c) (flush_of (e ∷ t) c) (flush_stored (e ∷ t) c) (stamp setup (e ∷ t) x) (stamp-ends setup e t x not ends)))
+        (fits_none (now c) (exit_of (e ∷ t) c) (flush_of (e ∷ t) c)
+        (flush_stored (e ∷ t) c) (stamp setup (e ∷ t) x) (stamp-ends setup e t x not ends)))
 
     -- the thing's grace period neither begins nor ends
     module _ (not : begins_at setup t e x ≡ false) (kept : ends_at t e x ≡ false) where
-      carried : (k : Sets) → FitsAll k (now c) (exit_of t c) (awaits_flushes setup t x) (flush_of (e ∷ t) c) (flush_stored (e ∷ t) c) (stamp setup t x) → FitsAt setup (e ∷ t) x c k
+      carried : (k : Sets) → FitsAll k (now c) (exit_of t c) (awaits_flushes setup t x)
+          (flush_of (e ∷ t) c) (flush_stored (e ∷ t) c) (stamp setup t x) → FitsAt setup (e ∷ t) x c k
       carried k h = rw (exit, awaits-kept setup e t x not kept, stamp-kept setup e t x not kept) h
 
-      stays : sets_of (grace_then setup t e follows x) c ≡ sets_of ((state_after setup t).grace x) c → flush_of (e ∷ t) c ≡ flush_of t c → FitsNow setup (e ∷ t) x c
+      stays : sets_of (grace_then setup t e follows x) c ≡ sets_of ((state_after setup t).grace x) c
+          → flush_of (e ∷ t) c ≡ flush_of t c → FitsNow setup (e ∷ t) x c
       stays same flush =
           goes (sets_of ((state_after setup t).grace x) c) same
           (carried (sets_of ((state_after setup t).grace x) c)
-          (rw flush (fits_kept (sets_of ((state_after setup t).grace x) c) ((state_after setup t).core c).inside (now c) (awaits_flushes setup t x) (exit_of t c) (flush_of t c)
+          (rw flush (fits_kept (sets_of ((state_after setup t).grace x) c)
+          ((state_after setup t).core c).inside (now c) (awaits_flushes setup t x) (exit_of t c) (flush_of t c)
           (flush_stored t c) (flush_stored (e ∷ t) c) (stamp setup t x) (λ h. inside (met_inside e.enters (state_after setup t) e.core c h))
           (stored_rises t e c (times c).stored) (old x c))))
 
   -- another core
   module _ (x : Thing) (c : ℕ) (other : c ≢ e.core) where
     other_sets : sets_of ((state_after setup (e ∷ t)).grace x) c ≡ sets_of (grace_then setup t e follows x) c
-    other_sets = ap (λ g. sets_of g c) (grace_now setup t e follows x) ∙ left_other e.returns e.core c (grace_then setup t e follows x) other
+    other_sets = ap (λ g. sets_of g c) (grace_now setup t e follows x)
+        ∙ left_other e.returns e.core c (grace_then setup t e follows x) other
 
     other_inside : met c ≡ true → now c ≡ true
     other_inside h = inside-other setup e t c other ∙ sym (entered-inside e.enters (state_after setup t) e.core c other) ∙ h
 
     same_sets : sets_of (flushed_by e.core ((state_after setup t).grace x)) c ≡ sets_of ((state_after setup t).grace x) c
-    same_sets = ap (λ b. record { waits = ((state_after setup t).grace x).waits c; not_passed = ((state_after setup t).grace x).not_passed c; unflushed = b; unknown = ((state_after setup t).grace x).flush_unknown c })
+    same_sets = ap (λ b. record {
+      waits = ((state_after setup t).grace x).waits c;
+      not_passed =
+          ((state_after setup t).grace x).not_passed c;
+      unflushed = b;
+      unknown = ((state_after setup t).grace x).flush_unknown c;
+    })
         (put_other ((state_after setup t).grace x).unflushed e.core false c other)
 
     fits_other : FitsNow setup (e ∷ t) x c
@@ -209,7 +236,8 @@ module _ (setup : Setting) (t : Trace) (e : Step) (follows : MayFollow setup t e
 
     own_inside : met e.core ≡ true → now e.core ≡ true
     own_inside h =
-        ap (λ q. ((state_returned q (state_decided e.decides (after_enter e.enters (phase t e.core)) (state_before setup t e) e.core) e.core).core e.core).inside) none
+        ap (λ q. ((state_returned q (state_decided e.decides (after_enter e.enters (phase t e.core)) (state_before setup t e) e.core)
+        e.core).core e.core).inside) none
         ∙ decided-inside e.decides (after_enter e.enters (phase t e.core)) (state_before setup t e) e.core e.core ∙ h
 
     own_exit : exit_of (e ∷ t) e.core ≡ exit_of t e.core
@@ -230,8 +258,16 @@ module _ (setup : Setting) (t : Trace) (e : Step) (follows : MayFollow setup t e
         ]
       ]
     ] where
-      flushed_sets : sets_of (flushed_by e.core ((state_after setup t).grace x)) e.core ≡ sets_flushed (sets_of ((state_after setup t).grace x) e.core)
-      flushed_sets = ap (λ b. record { waits = ((state_after setup t).grace x).waits e.core; not_passed = ((state_after setup t).grace x).not_passed e.core; unflushed = b; unknown = ((state_after setup t).grace x).flush_unknown e.core })
+      flushed_sets : sets_of (flushed_by e.core ((state_after setup t).grace x)) e.core
+          ≡ sets_flushed (sets_of ((state_after setup t).grace x) e.core)
+      flushed_sets = ap (λ b. record {
+        waits = ((state_after setup t).grace x).waits e.core;
+        not_passed =
+            ((state_after setup t).grace x).not_passed e.core;
+        unflushed =
+            b;
+        unknown = ((state_after setup t).grace x).flush_unknown e.core;
+      })
           (put_same ((state_after setup t).grace x).unflushed e.core false e.core refl)
 
       fits_flush : flushes_at t e ≡ true → FitsNow setup (e ∷ t) x e.core
@@ -239,11 +275,15 @@ module _ (setup : Setting) (t : Trace) (e : Step) (follows : MayFollow setup t e
           let apart = flush_apart e.decides (after_enter e.enters (phase t e.core)) (state_before setup t e) e.core x flushes in
           let k : Sets = sets_of ((state_after setup t).grace x) e.core in
           let p = (graces x).past in
-          let f : flush_of (e ∷ t) e.core ≡ clock setup t = flush_of-own e.core e t refl ∙ ap (λ b. cond b e.found (flush_of t e.core)) flushes ∙ time.flushes flushes in
-          goes x e.core own_sets own_inside own_exit (sets_flushed k) (ap (λ g. sets_of g e.core) (then_flushes setup t e follows x flushes) ∙ flushed_sets)
+          let f : flush_of (e ∷ t) e.core ≡ clock setup t =
+          flush_of-own e.core e t refl ∙ ap (λ b. cond b e.found (flush_of t e.core)) flushes ∙ time.flushes flushes in
+          goes x e.core own_sets own_inside own_exit (sets_flushed k)
+          (ap (λ g. sets_of g e.core) (then_flushes setup t e follows x flushes) ∙ flushed_sets)
           (carried x e.core own_sets own_inside own_exit apart.0 apart.1 (sets_flushed k)
-          (fits_flushed k ((state_after setup t).core e.core).inside (now e.core) (awaits_flushes setup t x) (exit_of t e.core) (flush_of t e.core) (flush_of (e ∷ t) e.core)
-          (flush_stored t e.core) (flush_stored (e ∷ t) e.core) (stamp setup t x) (λ h. own_inside (met_inside e.enters (state_after setup t) e.core e.core h))
+          (fits_flushed k ((state_after setup t).core e.core).inside (now e.core)
+          (awaits_flushes setup t x) (exit_of t e.core) (flush_of t e.core) (flush_of (e ∷ t) e.core)
+          (flush_stored t e.core) (flush_stored (e ∷ t) e.core) (stamp setup t x)
+          (λ h. own_inside (met_inside e.enters (state_after setup t) e.core e.core h))
           (stored_rises t e e.core (times e.core).stored) (omega (arith, p, f)) (old x e.core)))
 
   -- the step's own core, where it returns
@@ -258,12 +298,16 @@ module _ (setup : Setting) (t : Trace) (e : Step) (follows : MayFollow setup t e
         let k : Sets = sets_of g e.core in
         let same : grace_then setup t e follows x ≡ g = then_kept setup t e follows x no_begin no_end no_flush in
         let sets : sets_of ((state_after setup (e ∷ t)).grace x) e.core ≡ sets_passed k =
-        ap (λ g. sets_of g e.core) (grace_now setup t e follows x ∙ ap (λ q. left_of q e.core (grace_then setup t e follows x)) is ∙ ap (passed e.core) same) ∙ passed_own e.core g in
-        let exit : exit_of (e ∷ t) e.core ≡ clock_seen t e.core = exit_of-own e.core e t refl ∙ ap (λ q. exit_after q (clock_seen t e.core) (exit_of t e.core)) is in
-        let flush : flush_of (e ∷ t) e.core ≡ flush_of t e.core = flush_of-own e.core e t refl ∙ ap (λ b. cond b e.found (flush_of t e.core)) no_flush in
+        ap (λ g. sets_of g e.core) (grace_now setup t e follows x
+        ∙ ap (λ q. left_of q e.core (grace_then setup t e follows x)) is ∙ ap (passed e.core) same) ∙ passed_own e.core g in
+        let exit : exit_of (e ∷ t) e.core ≡ clock_seen t e.core =
+        exit_of-own e.core e t refl ∙ ap (λ q. exit_after q (clock_seen t e.core) (exit_of t e.core)) is in
+        let flush : flush_of (e ∷ t) e.core ≡ flush_of t e.core =
+        flush_of-own e.core e t refl ∙ ap (λ b. cond b e.found (flush_of t e.core)) no_flush in
         subst (FitsAt setup (e ∷ t) x e.core) (sym sets)
         (rw (awaits-kept setup e t x no_begin no_end, stamp-kept setup e t x no_begin no_end, flush)
-        (fits_passed k ((state_after setup t).core e.core).inside (now e.core) (awaits_flushes setup t x) (exit_of t e.core) (exit_of (e ∷ t) e.core)
+        (fits_passed k ((state_after setup t).core e.core).inside (now e.core)
+        (awaits_flushes setup t x) (exit_of t e.core) (exit_of (e ∷ t) e.core)
         (flush_of t e.core) (flush_stored t e.core) (flush_stored (e ∷ t) e.core) (stamp setup t x)
         (λ low. knows.stays x (omega (arith, low, exit, seen))) (omega (arith, kept, rises)) (times e.core).stored (old x e.core)))
       where
@@ -326,7 +370,8 @@ times_on setup t e time leaves c times = record {
   ];
   stored = elim (cases_eq c e.core) [
     | inl own ↦ by_word own (same_word (FlushAt c) (word_of e.move)) (flush_stored-own c e t own) (rises own)
-    | inr other ↦ (let k = flush_of-other c e t other in let j = flush_stored-other c e t other in let l = times.stored in omega (arith, k, j, l))
+    | inr other ↦ (let k = flush_of-other c e t other in
+        let j = flush_stored-other c e t other in let l = times.stored in omega (arith, k, j, l))
   ];
 } where
   flushed : c ≡ e.core → flushes_at t e ≡ true → flush_of (e ∷ t) c ≡ clock setup t
@@ -355,6 +400,7 @@ times_on setup t e time leaves c times = record {
       let l = knows.low in
       omega (arith, k, s, r, l)
 
-  by_word : c ≡ e.core → (b : Bool) → flush_stored (e ∷ t) c ≡ cond b (flush_of t c) (flush_stored t c) → flush_of t c ≤ flush_of (e ∷ t) c → flush_stored (e ∷ t) c ≤ flush_of (e ∷ t) c
+  by_word : c ≡ e.core → (b : Bool) → flush_stored (e ∷ t) c ≡ cond b (flush_of t c) (flush_stored t c)
+      → flush_of t c ≤ flush_of (e ∷ t) c → flush_stored (e ∷ t) c ≤ flush_of (e ∷ t) c
   by_word own true is rises = omega (arith, is, rises)
   by_word own false is rises = let l = times.stored in omega (arith, is, rises, l)

@@ -18,5 +18,6 @@ pub all_idle : (lists : List (List Call)) (n : ℕ) (t u : Trace) → FollowsCor
 all_idle lists zero t u follows c h = absurd (omega arith)
 all_idle lists (suc n) t u (m, before, out) c h = elim (cases_eq c n) [
   | inl last ↦ subst (λ (k : ℕ). IsIdle lists u k) (sym last) out.idle
-  | inr earlier ↦ subst (λ x. IsIdle lists x c) (sym out.adds) (idle_stays lists out.steps m c n out.own earlier (all_idle lists n t m before c (omega arith)))
+  | inr earlier ↦ subst (λ x. IsIdle lists x c) (sym out.adds)
+      (idle_stays lists out.steps m c n out.own earlier (all_idle lists n t m before c (omega arith)))
 ]

@@ -13,7 +13,8 @@ use Rattle.kernel_history.proofs.Events.{entered_events, before_is, entered_phas
 pub opens : (setup : Setting) → IsSetting setup → (t : Trace) → IsLegal setup t → (e : Step) → MayFollow setup t e → (call : Call)
     → after_enter e.enters (phase t e.core) ≡ Open call → IsOpen (state_before setup t e) (opened (entered_events t e)) e.core
 opens setup lim t legal e follows call is = subst (λ s. IsOpen s (opened (entered_events t e)) e.core) (sym (before_is setup t e))
-    (open_is setup lim (entered_events t e) e.core (entered_run setup t e legal follows (run_of setup t legal)) (ap is_open (entered_phase t e ∙ ap plain_phase is)))
+    (open_is setup lim (entered_events t e) e.core (entered_run setup t e legal follows (run_of setup t legal))
+    (ap is_open (entered_phase t e ∙ ap plain_phase is)))
 
 pub open_inj : (k j : Call) → Open j ≡ Open k → k ≡ j
 open_inj k j same = cc

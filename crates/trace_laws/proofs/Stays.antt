@@ -18,12 +18,15 @@ use Rattle.kernel_invariant.proofs.SoundRuns.{opened, runs_sound}
 use Rattle.found_stays.proofs.SparesRuns.{inside_of}
 use Rattle.kernel_invariant.proofs.Facts.{usable_good}
 use Rattle.kernel_rules.specs.Relies.{IsGuarded, Relies}
-use Rattle.found_stays.proofs.Stays.{Stay, StayIn, OwnStay, stay_in_same, stay_in_then, event_own, event_stay_in, stay_same, stay_then, event_stay, names_node, usable_guarded, usable_relies, table_relies, pages_relies, reached_relies}
-use Rattle.kernel_history.specs.Trace.{Step, Trace, Phase, Out, Open, Decided, phase, after_enter, state_after, state_entered, state_decided, state_returned}
+use Rattle.found_stays.proofs.Stays.{Stay, StayIn, OwnStay, stay_in_same, stay_in_then, event_own, event_stay_in, stay_same, stay_then}
+use Rattle.found_stays.proofs.Stays.{event_stay, names_node, usable_guarded, usable_relies, table_relies, pages_relies, reached_relies}
+use Rattle.kernel_history.specs.Trace.{Step, Trace, Phase, Out, Open, Decided, phase, after_enter}
+use Rattle.kernel_history.specs.Trace.{state_after, state_entered, state_decided, state_returned}
 use Rattle.kernel_history.specs.Stamps.{is_in}
 use Rattle.kernel_history.specs.Legal.{MayFollow, IsLegal}
 use Rattle.kernel_history.specs.Events.{with_entry, with_decision, with_return, events_of, plain_phase}
-use Rattle.kernel_history.proofs.Events.{entered_events, decided_events, entry_apart, decision_apart, state_is, phase_is, run_of, entered_run, decided_run, step_run}
+use Rattle.kernel_history.proofs.Events.{entered_events, decided_events, entry_apart, decision_apart}
+use Rattle.kernel_history.proofs.Events.{state_is, phase_is, run_of, entered_run, decided_run, step_run}
 
 -- Core c has and relies on after e what it had and relied on before. Its parts: `core`, `thread` and `comp` (its own fields, its
 -- thread and the component in which it works), `guarded` and `frame` (frames that no other core may retype), `relies` (nodes),
@@ -37,13 +40,15 @@ ReliesOn setup t c f = Relies (state_after setup t) c f
 
 -- The state after a legal trace is sound.
 pub sound_of : (setup : Setting) → IsSetting setup → (t : Trace) → IsLegal setup t → IsSound (state_after setup t) (opened (events_of t))
-sound_of setup lim t legal = subst (λ s. IsSound s (opened (events_of t))) (sym (state_is setup t)) (runs_sound setup lim (events_of t) (run_of setup t legal))
+sound_of setup lim t legal =
+    subst (λ s. IsSound s (opened (events_of t))) (sym (state_is setup t)) (runs_sound setup lim (events_of t) (run_of setup t legal))
 
 pub opened_is : (t : Trace) (c : ℕ) (call : Call) → phase t c ≡ Open call → opened (events_of t) c ≡ true
 opened_is t c call is = ap is_open (phase_is t c ∙ ap plain_phase is)
 
 -- What core c, in an open call, may rely on.
-module _ (setup : Setting) (lim : IsSetting setup) (t : Trace) (legal : IsLegal setup t) (c : ℕ) (call : Call) (is : phase t c ≡ Open call) where
+module _ (setup : Setting) (lim : IsSetting setup) (t : Trace)
+    (legal : IsLegal setup t) (c : ℕ) (call : Call) (is : phase t c ≡ Open call) where
   sound : IsSound (state_after setup t) (opened (events_of t))
   sound = sound_of setup lim t legal
 
@@ -58,7 +63,8 @@ module _ (setup : Setting) (lim : IsSetting setup) (t : Trace) (legal : IsLegal 
       → IsGuarded (state_after setup t) c k.frame
   guarded_usable = usable_guarded (state_after setup t) (opened (events_of t)) c sound inside
 
-  pub relies_usable : (at : Slot) (k : Capability) → IsTrue (names_node k.kind) → usable (state_after setup t) c at ≡ Some k → ReliesOn setup t c k.frame
+  pub relies_usable : (at : Slot) (k : Capability) → IsTrue (names_node k.kind)
+      → usable (state_after setup t) c at ≡ Some k → ReliesOn setup t c k.frame
   relies_usable = usable_relies (state_after setup t) (opened (events_of t)) c sound inside
 
   -- its own component, and the table and the pages of this
@@ -69,7 +75,8 @@ module _ (setup : Setting) (lim : IsSetting setup) (t : Trace) (legal : IsLegal 
   relies_pages = pages_relies (state_after setup t) (opened (events_of t)) c sound inside
 
   -- the leaf in which it reaches a slot
-  pub relies_reached : (table : Named) (n : ℕ) (at : Slot) → reached (state_after setup t) c (Under table n) ≡ Some at → ReliesOn setup t c at.node
+  pub relies_reached : (table : Named) (n : ℕ) (at : Slot)
+      → reached (state_after setup t) c (Under table n) ≡ Some at → ReliesOn setup t c at.node
   relies_reached = reached_relies (state_after setup t) (opened (events_of t)) c sound inside
 
 -- Through the events of one step.
@@ -79,7 +86,8 @@ module _ (setup : Setting) (lim : IsSetting setup) (d c : ℕ) (other : c ≢ d)
   entry_stay None events run is = stay_same (after setup events) c
   entry_stay (Some call) events run is = event_stay setup lim (Enters d call) events run c other is
 
-  decision_stay : (o : Option Reply) (p : Phase) (events : List Event) → IsRun setup (with_decision o p d events) → IsTrue (is_open (phase_of events c))
+  decision_stay : (o : Option Reply) (p : Phase) (events : List Event)
+      → IsRun setup (with_decision o p d events) → IsTrue (is_open (phase_of events c))
       → Stay (after setup events) (after setup (with_decision o p d events)) c
   decision_stay None p events run is = stay_same (after setup events) c
   decision_stay (Some r) Out events run is = stay_same (after setup events) c
@@ -100,10 +108,12 @@ stays_other setup lim t legal e follows c other call is =
     (stay_then (after setup (events_of t)) (after setup (entered_events t e)) (after setup (events_of (e ∷ t))) c
     (entry_stay setup lim e.core c other e.enters (events_of t) (entered_run setup t e legal follows run) opened_at)
     (stay_then (after setup (entered_events t e)) (after setup (decided_events t e)) (after setup (events_of (e ∷ t))) c
-    (decision_stay setup lim e.core c other e.decides (after_enter e.enters (phase t e.core)) (entered_events t e) (decided_run setup t e legal follows run)
+    (decision_stay setup lim e.core c other e.decides (after_enter e.enters (phase t e.core))
+    (entered_events t e) (decided_run setup t e legal follows run)
     (ap is_open (entry_apart e.enters e.core (events_of t) c other) ∙ opened_at))
     (return_stay setup lim e.core c other e.returns (decided_events t e) (step_run setup t e legal follows run)
-    (ap is_open (decision_apart e.decides (after_enter e.enters (phase t e.core)) e.core (entered_events t e) c other ∙ entry_apart e.enters e.core (events_of t) c other) ∙ opened_at)))))
+    (ap is_open (decision_apart e.decides (after_enter e.enters (phase t e.core)) e.core
+    (entered_events t e) c other ∙ entry_apart e.enters e.core (events_of t) c other) ∙ opened_at)))))
   where
     run : IsRun setup (events_of t)
     run = run_of setup t legal
@@ -143,10 +153,12 @@ stays_in_other setup lim t legal e follows c other is =
     (stay_in_then (after setup (events_of t)) (after setup (entered_events t e)) (after setup (events_of (e ∷ t))) c
     (entry_in setup lim e.core c other e.enters (events_of t) (entered_run setup t e legal follows run) inside_at)
     (stay_in_then (after setup (entered_events t e)) (after setup (decided_events t e)) (after setup (events_of (e ∷ t))) c
-    (decision_in setup lim e.core c other e.decides (after_enter e.enters (phase t e.core)) (entered_events t e) (decided_run setup t e legal follows run)
+    (decision_in setup lim e.core c other e.decides (after_enter e.enters (phase t e.core))
+    (entered_events t e) (decided_run setup t e legal follows run)
     (ap plain.is_in (entry_apart e.enters e.core (events_of t) c other) ∙ inside_at))
     (return_in setup lim e.core c other e.returns (decided_events t e) (step_run setup t e legal follows run)
-    (ap plain.is_in (decision_apart e.decides (after_enter e.enters (phase t e.core)) e.core (entered_events t e) c other ∙ entry_apart e.enters e.core (events_of t) c other) ∙ inside_at)))))
+    (ap plain.is_in (decision_apart e.decides (after_enter e.enters (phase t e.core)) e.core
+    (entered_events t e) c other ∙ entry_apart e.enters e.core (events_of t) c other) ∙ inside_at)))))
   where
     run : IsRun setup (events_of t)
     run = run_of setup t legal
@@ -159,7 +171,8 @@ module _ (setup : Setting) (lim : IsSetting setup) (d c : ℕ) (core : c < setup
   own_same : (s : State) → OwnStay s s c
   own_same s = record { core = refl; thread = refl; comp = refl }
 
-  entry_own : (o : Option Call) (events : List Event) → IsRun setup (with_entry o d events) → OwnStay (after setup events) (after setup (with_entry o d events)) c
+  entry_own : (o : Option Call) (events : List Event) → IsRun setup (with_entry o d events)
+      → OwnStay (after setup events) (after setup (with_entry o d events)) c
   entry_own None events run = own_same (after setup events)
   entry_own (Some call) events run = event_own setup lim (Enters d call) events run c core other
 
@@ -170,7 +183,8 @@ module _ (setup : Setting) (lim : IsSetting setup) (d c : ℕ) (core : c < setup
   decision_own (Some r) (Open call) events run = event_own setup lim (Decides d call r) events run c core other
   decision_own (Some r) (Decided call q) events run = own_same (after setup events)
 
-  return_own : (o : Option Reply) (events : List Event) → IsRun setup (with_return o d events) → OwnStay (after setup events) (after setup (with_return o d events)) c
+  return_own : (o : Option Reply) (events : List Event) → IsRun setup (with_return o d events)
+      → OwnStay (after setup events) (after setup (with_return o d events)) c
   return_own None events run = own_same (after setup events)
   return_own (Some r) events run = event_own setup lim (Returns d) events run c core other
 
@@ -188,28 +202,36 @@ own_stays_other setup lim t legal e follows c core other =
     a = entry_own setup lim e.core c core other e.enters (events_of t) (entered_run setup t e legal follows run)
 
     b : OwnStay (after setup (entered_events t e)) (after setup (decided_events t e)) c
-    b = decision_own setup lim e.core c core other e.decides (after_enter e.enters (phase t e.core)) (entered_events t e) (decided_run setup t e legal follows run)
+    b = decision_own setup lim e.core c core other e.decides (after_enter e.enters (phase t e.core))
+        (entered_events t e) (decided_run setup t e legal follows run)
 
     c2 : OwnStay (after setup (decided_events t e)) (after setup (events_of (e ∷ t))) c
     c2 = return_own setup lim e.core c core other e.returns (decided_events t e) (step_run setup t e legal follows run)
 
 -- An own step without event leaves the state.
-pub state_plain : (setup : Setting) (t : Trace) (e : Step) → e.enters ≡ None → e.decides ≡ None → e.returns ≡ None → state_after setup (e ∷ t) ≡ state_after setup t
+pub state_plain : (setup : Setting) (t : Trace) (e : Step) → e.enters ≡ None
+    → e.decides ≡ None → e.returns ≡ None → state_after setup (e ∷ t) ≡ state_after setup t
 state_plain setup t e no_entry no_decision no_return =
-    ap (λ q. state_returned q (state_decided e.decides (after_enter e.enters (phase t e.core)) (state_entered e.enters (state_after setup t) e.core) e.core) e.core) no_return
-    ∙ ap (λ o. state_decided o (after_enter e.enters (phase t e.core)) (state_entered e.enters (state_after setup t) e.core) e.core) no_decision
+    ap (λ q. state_returned q (state_decided e.decides (after_enter e.enters (phase t e.core))
+    (state_entered e.enters (state_after setup t) e.core) e.core) e.core) no_return
+    ∙ ap (λ o. state_decided o (after_enter e.enters (phase t e.core))
+    (state_entered e.enters (state_after setup t) e.core) e.core) no_decision
     ∙ ap (λ o. state_entered o (state_after setup t) e.core) no_entry
 
-pub stays_plain : (setup : Setting) (t : Trace) (e : Step) (c : ℕ) → e.enters ≡ None → e.decides ≡ None → e.returns ≡ None → Stays setup t e c
+pub stays_plain : (setup : Setting) (t : Trace) (e : Step) (c : ℕ)
+    → e.enters ≡ None → e.decides ≡ None → e.returns ≡ None → Stays setup t e c
 stays_plain setup t e c no_entry no_decision no_return =
-    subst (λ s. Stay (state_after setup t) s c) (sym (state_plain setup t e no_entry no_decision no_return)) (stay_same (state_after setup t) c)
+    subst (λ s. Stay (state_after setup t) s c)
+    (sym (state_plain setup t e no_entry no_decision no_return)) (stay_same (state_after setup t) c)
 
 -- A step that enters, and does no more, leaves the state with its core inside.
 pub state_entry : (setup : Setting) (t : Trace) (e : Step) (call : Call) → e.enters ≡ Some call → e.decides ≡ None → e.returns ≡ None
     → state_after setup (e ∷ t) ≡ entered (state_after setup t) e.core
 state_entry setup t e call entry no_decision no_return =
-    ap (λ q. state_returned q (state_decided e.decides (after_enter e.enters (phase t e.core)) (state_entered e.enters (state_after setup t) e.core) e.core) e.core) no_return
-    ∙ ap (λ o. state_decided o (after_enter e.enters (phase t e.core)) (state_entered e.enters (state_after setup t) e.core) e.core) no_decision
+    ap (λ q. state_returned q (state_decided e.decides (after_enter e.enters (phase t e.core))
+    (state_entered e.enters (state_after setup t) e.core) e.core) e.core) no_return
+    ∙ ap (λ o. state_decided o (after_enter e.enters (phase t e.core))
+    (state_entered e.enters (state_after setup t) e.core) e.core) no_decision
     ∙ ap (λ o. state_entered o (state_after setup t) e.core) entry
 
 -- An entry leaves the component in which its core works.

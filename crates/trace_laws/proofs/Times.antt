@@ -20,7 +20,8 @@ module _ (setup : Setting) (t : Trace) (e : Step) where
   }
 
   -- a load of the clock, at which no grace period begins
-  pub time_load : ClockAt ≡ word_of e.move → e.found ≡ clock setup t → left_of e.move e.found ≡ e.found → ((x : Thing) → begins_at setup t e x ≡ false) → KeepsTime setup t e
+  pub time_load : ClockAt ≡ word_of e.move → e.found ≡ clock setup t → left_of e.move e.found ≡ e.found
+      → ((x : Thing) → begins_at setup t e x ≡ false) → KeepsTime setup t e
   time_load at found left none = record {
     rises = (let k = last_left-here setup ClockAt e t at in omega (arith, k, found, left));
     draws = λ x is. absurd (false≢true (sym (none x) ∙ is));

@@ -1,5 +1,6 @@
 -- What one step makes of those who wait and of stamps, and what a scan may conclude.
-use Rattle.std.proofs.Common.{◌≡◌, ◌≢◌, inl, inr, ℕ, ◌<◌, ◌≤◌, arith, Bool, true, false, cond, refl, sym, ◌∙◌, ap, subst, ◌∷◌, Option, Some, None, IsTrue}
+use Rattle.std.proofs.Common.{◌≡◌, ◌≢◌, inl, inr, ℕ, ◌<◌, ◌≤◌, arith, Bool, true, false, cond}
+use Rattle.std.proofs.Common.{refl, sym, ◌∙◌, ap, subst, ◌∷◌, Option, Some, None, IsTrue}
 use Rattle.std.proofs.lemmas.Bool.{false≢true, cases_eq}
 use Rattle.spk_nums.specs.Setting.{Setting, IsSetting}
 use Rattle.spk_nums.specs.declared.calls.Call.{Call}
@@ -13,7 +14,8 @@ use Rattle.kernel_rules.proofs.Within.{put_same, put_other}
 use Rattle.kernel_rules.specs.Relies.{is_node}
 use Rattle.kernel_invariant.proofs.Ends.{MayEnd, ends_by_rule}
 use Rattle.kernel_history.specs.Trace.{Step, Trace, Phase, Out, Open, Decided, phase, after_enter, state_after, state_entered, state_before}
-use Rattle.kernel_history.specs.Stamps.{ends_in, begins_at, ends_at, flushes_at, stamp, awaits_flushes, clock, clock_seen, exit_of, flush_of, flush_stored}
+use Rattle.kernel_history.specs.Stamps.{ends_in, begins_at, ends_at, flushes_at, stamp, awaits_flushes}
+use Rattle.kernel_history.specs.Stamps.{clock, clock_seen, exit_of, flush_of, flush_stored}
 use Rattle.kernel_invariant.proofs.SoundRuns.{opened}
 use Rattle.kernel_history.specs.Legal.{MayDecide, MayFollow, IsLegal}
 use Rattle.kernel_history.proofs.Events.{entered_events}
@@ -65,7 +67,8 @@ module _ (setup : Setting) (t : Trace) (x : Thing) (grace : GraceIs setup t x) (
   ]
 
   -- one that stored none later may not have flushed, where the grace period waits for flushes
-  pub may_be_unflushed : (s : ℕ) → awaits_flushes setup t x ≡ true → s ≤ stamp setup t x → flush_stored t c ≤ s → ((state_after setup t).grace x).flush_unknown c ≡ true
+  pub may_be_unflushed : (s : ℕ) → awaits_flushes setup t x ≡ true → s ≤ stamp setup t x
+      → flush_stored t c ≤ s → ((state_after setup t).grace x).flush_unknown c ≡ true
   may_be_unflushed s awaits old early = (grace.flushes c).is_unknown awaits (omega (arith, early, old))
 
 -- What a step makes of them.
@@ -82,20 +85,25 @@ module _ (setup : Setting) (t : Trace) (e : Step) (follows : MayFollow setup t e
   left_unflushed (Some r) c d g = refl
 
   -- another core waits in what begins if it is inside, and else as before
-  pub waits_begun : (d : ℕ) → d ≢ e.core → begins_at setup t e x ≡ true → waits_for setup (e ∷ t) x d ≡ ((state_after setup t).core d).inside
+  pub waits_begun : (d : ℕ) → d ≢ e.core → begins_at setup t e x ≡ true
+      → waits_for setup (e ∷ t) x d ≡ ((state_after setup t).core d).inside
   waits_begun d other is =
-      ap (λ g. g.waits d) (grace_now setup t e follows x) ∙ ap (λ k. k.waits) (left_other e.returns e.core d (grace_then setup t e follows x) other)
+      ap (λ g. g.waits d) (grace_now setup t e follows x)
+      ∙ ap (λ k. k.waits) (left_other e.returns e.core d (grace_then setup t e follows x) other)
       ∙ ap (λ g. g.waits d) (then_begins setup t e follows x is) ∙ entered-inside e.enters (state_after setup t) e.core d other
 
-  then_waits : begins_at setup t e x ≡ false → ends_at t e x ≡ false → (grace_then setup t e follows x).waits ≡ ((state_after setup t).grace x).waits
+  then_waits : begins_at setup t e x ≡ false → ends_at t e x ≡ false
+      → (grace_then setup t e follows x).waits ≡ ((state_after setup t).grace x).waits
   then_waits not kept = elim (cases_bool (flushes_at t e)) [
     | inl flushes ↦ ap (λ g. g.waits) (then_flushes setup t e follows x flushes)
     | inr calm ↦ ap (λ g. g.waits) (then_kept setup t e follows x not kept calm)
   ]
 
-  pub waits_kept : (d : ℕ) → d ≢ e.core → begins_at setup t e x ≡ false → ends_at t e x ≡ false → waits_for setup (e ∷ t) x d ≡ waits_for setup t x d
+  pub waits_kept : (d : ℕ) → d ≢ e.core → begins_at setup t e x ≡ false
+      → ends_at t e x ≡ false → waits_for setup (e ∷ t) x d ≡ waits_for setup t x d
   waits_kept d other not kept =
-      ap (λ g. g.waits d) (grace_now setup t e follows x) ∙ ap (λ k. k.waits) (left_other e.returns e.core d (grace_then setup t e follows x) other)
+      ap (λ g. g.waits d) (grace_now setup t e follows x)
+      ∙ ap (λ k. k.waits) (left_other e.returns e.core d (grace_then setup t e follows x) other)
       ∙ ap (λ w. w d) (then_waits not kept)
 
   -- who does not wait begins to only where the grace period begins, and so with who is not unflushed
@@ -125,14 +133,17 @@ module _ (setup : Setting) (t : Trace) (e : Step) (follows : MayFollow setup t e
       ]
 
 -- What is known where a step ends a grace period.
-pub ends_known : (setup : Setting) → IsSetting setup → (t : Trace) → IsLegal setup t → (e : Step) → MayFollow setup t e → (x : Thing) → ends_at t e x ≡ true
+pub ends_known : (setup : Setting) → IsSetting setup → (t : Trace) → IsLegal setup t
+    → (e : Step) → MayFollow setup t e → (x : Thing) → ends_at t e x ≡ true
     → MayEnd (state_before setup t e) e.core x
 ends_known setup lim t legal e follows x = by_phase e.decides (after_enter e.enters (phase t e.core)) refl follows.decides
   where
-    by_phase : (o : Option Reply) (p : Phase) → after_enter e.enters (phase t e.core) ≡ p → MayDecide setup t e o p → ends_in o p x ≡ true → MayEnd (state_before setup t e) e.core x
+    by_phase : (o : Option Reply) (p : Phase) → after_enter e.enters (phase t e.core) ≡ p
+        → MayDecide setup t e o p → ends_in o p x ≡ true → MayEnd (state_before setup t e) e.core x
     by_phase None p at may h = absurd (false≢true h)
     by_phase (Some r) Out at may h = absurd (false≢true h)
-    by_phase (Some r) (Open call) at may h = ends_by_rule (state_before setup t e) (opened (entered_events t e)) e.core (opens setup lim t legal e follows call at) call r x
+    by_phase (Some r) (Open call) at may h =
+        ends_by_rule (state_before setup t e) (opened (entered_events t e)) e.core (opens setup lim t legal e follows call at) call r x
         (subst (λ k. MayReply (state_before setup t e) e.core k r) (open_inj may.call call may.is_open) may.permitted) h
     by_phase (Some r) (Decided call q) at may h = absurd (false≢true h)
 
@@ -141,20 +152,24 @@ entered_frame None s c f = refl
 entered_frame (Some call) s c f = refl
 
 -- The grace period of a place of a node does not end, and that of a liveness number ends never.
-pub node_goes_on : (setup : Setting) → IsSetting setup → (t : Trace) → IsLegal setup t → (e : Step) → MayFollow setup t e → (f i : ℕ) → IsTrue (is_node ((state_after setup t).frame f)) → ends_at t e (PlaceOf f i) ≡ false
+pub node_goes_on : (setup : Setting) → IsSetting setup → (t : Trace) → IsLegal setup t → (e : Step)
+    → MayFollow setup t e → (f i : ℕ) → IsTrue (is_node ((state_after setup t).frame f)) → ends_at t e (PlaceOf f i) ≡ false
 node_goes_on setup lim t legal e follows f i node = elim (cases_bool (ends_at t e (PlaceOf f i))) [
-  | inl ends ↦ absurd (false≢true (ap is_node (sym (sym (entered_frame e.enters (state_after setup t) e.core f) ∙ ends_known setup lim t legal e follows (PlaceOf f i) ends)) ∙ node))
+  | inl ends ↦ absurd (false≢true (ap is_node (sym
+      (sym (entered_frame e.enters (state_after setup t) e.core f) ∙ ends_known setup lim t legal e follows (PlaceOf f i) ends)) ∙ node))
   | inr kept ↦ kept
 ]
 
-pub number_goes_on : (setup : Setting) → IsSetting setup → (t : Trace) → IsLegal setup t → (e : Step) → MayFollow setup t e → (l : ℕ) → ends_at t e (NumberOf l) ≡ false
+pub number_goes_on : (setup : Setting) → IsSetting setup → (t : Trace) → IsLegal setup t
+    → (e : Step) → MayFollow setup t e → (l : ℕ) → ends_at t e (NumberOf l) ≡ false
 number_goes_on setup lim t legal e follows l = elim (cases_bool (ends_at t e (NumberOf l))) [
   | inl ends ↦ absurd (ends_known setup lim t legal e follows (NumberOf l) ends)
   | inr kept ↦ kept
 ]
 
 -- Stamps, and what is known by them.
-module _ (setup : Setting) (t : Trace) (e : Step) (follows : MayFollow setup t e) (time : KeepsTime setup t e) (graces : (x : Thing) → GraceIs setup t x) where
+module _ (setup : Setting) (t : Trace) (e : Step) (follows : MayFollow setup t e) (time : KeepsTime setup t e) (graces : (x : Thing)
+    → GraceIs setup t x) where
   -- a stamp that is past stays past
   pub still_past : (s : ℕ) → s < clock setup t → s < clock setup (e ∷ t)
   still_past s past = let r = time.rises in omega (arith, past, r)
@@ -187,7 +202,8 @@ module _ (setup : Setting) (t : Trace) (e : Step) (follows : MayFollow setup t e
 
     waits_ended : begins_at setup t e x ≡ false → ends_at t e x ≡ true → waits_for setup (e ∷ t) x d ≡ false
     waits_ended not ends =
-        ap (λ g. g.waits d) (grace_now setup t e follows x) ∙ ap (λ g. (left_of e.returns e.core g).waits d) (then_ends setup t e follows x not ends)
+        ap (λ g. g.waits d) (grace_now setup t e follows x)
+        ∙ ap (λ g. (left_of e.returns e.core g).waits d) (then_ends setup t e follows x not ends)
         ∙ left_none e.returns e.core
 
   pub flushed_on : (x : Thing) (s d : ℕ) → s < clock setup t → Flushed setup t x s d → Flushed setup (e ∷ t) x s d
@@ -204,7 +220,8 @@ module _ (setup : Setting) (t : Trace) (e : Step) (follows : MayFollow setup t e
 
     unflushed_ended : begins_at setup t e x ≡ false → ends_at t e x ≡ true → is_unflushed setup (e ∷ t) x d ≡ false
     unflushed_ended not ends =
-        ap (λ g. g.unflushed d) (grace_now setup t e follows x) ∙ ap (λ g. (left_of e.returns e.core g).unflushed d) (then_ends setup t e follows x not ends)
+        ap (λ g. g.unflushed d) (grace_now setup t e follows x)
+        ∙ ap (λ g. (left_of e.returns e.core g).unflushed d) (then_ends setup t e follows x not ends)
         ∙ left_none e.returns e.core
 
   -- a core that is leaving still waits in each grace period that began since it loaded the clock, after another core's step
@@ -217,13 +234,15 @@ module _ (setup : Setting) (t : Trace) (e : Step) (follows : MayFollow setup t e
       | inl is ↦ waits_begun setup t e follows x c other is ∙ inside
       | inr not ↦ elim (cases_bool (ends_at t e x)) [
         | inl ends ↦ (let s = stamp-ends setup e t x not ends in let p = leave.some in absurd (omega (arith, s, p, late)))
-        | inr kept ↦ waits_kept setup t e follows x c other not kept ∙ leave.stays x (let s = stamp-kept setup e t x not kept in omega (arith, s, late))
+        | inr kept ↦ waits_kept setup t e follows x c other not kept
+            ∙ leave.stays x (let s = stamp-kept setup e t x not kept in omega (arith, s, late))
       ]
     ];
   }
 
   -- a core that loads the clock may leave
-  pub leave_starts : ClockAt ≡ word_of e.move → e.found ≡ clock setup t → ((x : Thing) → begins_at setup t e x ≡ false) → IsLeave setup (e ∷ t) e.core e.found
+  pub leave_starts : ClockAt ≡ word_of e.move → e.found ≡ clock setup t
+      → ((x : Thing) → begins_at setup t e x ≡ false) → IsLeave setup (e ∷ t) e.core e.found
   leave_starts at found none = record {
     seen = clock_seen-own e.core e t refl ∙ ap (λ b. cond b e.found (clock_seen t e.core)) (ap (same_word ClockAt) (sym at));
     some = (let p = (graces (NumberOf 0)).past in omega (arith, p, found));

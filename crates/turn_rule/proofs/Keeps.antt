@@ -1,5 +1,7 @@
 -- A step of a core keeps the rule.
-use Rattle.std.proofs.Common.{◌≡◌, ◌≢◌, ℕ, ◌<◌, ◌≤◌, ◌==◌, List, [], ◌∷◌, ◌++◌, length, get_or, set, length-set, get_or-set_other, get_or-set_same, if◌then◌else◌, Option, Some, refl, sym, ap, ◌∙◌, subst, ⊎_elim, arith, eq-eqb, ne_eqb, append-nil}
+use Rattle.std.proofs.Common.{◌≡◌, ◌≢◌, ℕ, ◌<◌, ◌≤◌, ◌==◌, List, [], ◌∷◌, ◌++◌, length, get_or, set}
+use Rattle.std.proofs.Common.{length-set, get_or-set_other, get_or-set_same, if◌then◌else◌, Option, Some}
+use Rattle.std.proofs.Common.{refl, sym, ap, ◌∙◌, subst, ⊎_elim, arith, eq-eqb, ne_eqb, append-nil}
 use mathlib.Core.Logic.{dite}
 use mathlib.Core.Option.{some}
 use native.Mathlib.Decide.{ℕ_discrete}
@@ -108,12 +110,14 @@ module _ {P C : Type 0} (T : Steps P C) (start : Start P) where
           sound = (h.sound, follows);
           owner = h.owner;
           own = λ j u is. ⊎_elim
-              (λ (t : (j ≡ id) × (w ≡ u)). subst (λ (z : ℕ × View P C). Fits start (e ∷ h.trace) h.owner z.0 z.1.own) (λ x. (sym t.0 x, t.1 x))
+              (λ (t : (j ≡ id) × (w ≡ u)). subst (λ (z : ℕ × View P C). Fits start (e ∷ h.trace) h.owner z.0 z.1.own)
+              (λ x. (sym t.0 x, t.1 x))
               record { same = λ _. same_start; begins = has_all v.start v.from v.to (e ∷ h.trace); owns = mine.owns })
               (λ (t : (j ≢ id) × (get_elem? s.views j ≡ some u)). fits_more start h.trace h.owner j id u.own e (h.own j u t.1) its t.0)
               (at_set s.views id j w u is);
           told = λ j u is. ⊎_elim
-              (λ (t : (j ≡ id) × (w ≡ u)). subst (λ (z : ℕ × View P C). Fits start (e ∷ h.trace) h.owner z.0 z.1.told) (λ x. (sym t.0 x, t.1 x))
+              (λ (t : (j ≡ id) × (w ≡ u)). subst (λ (z : ℕ × View P C). Fits start (e ∷ h.trace) h.owner z.0 z.1.told)
+              (λ x. (sym t.0 x, t.1 x))
               (fits_nothing start (e ∷ h.trace) h.owner id))
               (λ (t : (j ≢ id) × (get_elem? s.views j ≡ some u)). fits_more start h.trace h.owner j id u.told e (h.told j u t.1) its t.0)
               (at_set s.views id j w u is);

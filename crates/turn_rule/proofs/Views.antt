@@ -1,5 +1,6 @@
 -- Views that are cut, joined and brought up to date keep the rule.
-use Rattle.std.proofs.Common.{◌≡◌, ◌≢◌, ◌⊎◌, ℕ, zero, suc, ◌<◌, ◌≤◌, ◌==◌, true, List, [], ◌∷◌, ◌++◌, length, get_or, set, if◌then◌else◌, refl, sym, ap, ◌∙◌, subst, ⊎_elim, inl, inr, arith, eq-eqb, ne_eqb, lt_of_not-le}
+use Rattle.std.proofs.Common.{◌≡◌, ◌≢◌, ◌⊎◌, ℕ, zero, suc, ◌<◌, ◌≤◌, ◌==◌, true, List, [], ◌∷◌, ◌++◌, length, get_or, set}
+use Rattle.std.proofs.Common.{if◌then◌else◌, refl, sym, ap, ◌∙◌, subst, ⊎_elim, inl, inr, arith, eq-eqb, ne_eqb, lt_of_not-le}
 use mathlib.Core.Option.{none, some, some-injective, some-ne-none}
 use native.Mathlib.Decide.{dec_le}
 use lib.ListN.{get_elem?}
@@ -11,7 +12,8 @@ use Rattle.turn_rule.specs.declared.view.Part.{Part}
 use Rattle.turn_rule.specs.declared.view.View.{View}
 use Rattle.turn_rule.specs.Steps.{Steps}
 use Rattle.turn_rule.specs.Trace.{program_after, IsSound}
-use Rattle.turn_rule.specs.Rule.{part, nothing, view, note_of, joined, first_core, other_cores, Fits, Kept, IsSeated, Stays, Gathers, met, gathered, starts}
+use Rattle.turn_rule.specs.Rule.{part, nothing, view, note_of, joined, first_core, other_cores}
+use Rattle.turn_rule.specs.Rule.{Fits, Kept, IsSeated, Stays, Gathers, met, gathered, starts}
 use Rattle.turn_rule.proofs.Keeps.{has_all, fits_nothing, program_seen}
 
 set_same : (l : List ℕ) (i : ℕ) → set l i (get_or l i 0) ≡ l

@@ -1,5 +1,6 @@
 -- A trace of atomic steps, the newest first, and what it leaves.
-use Rattle.std.specs.Prelude.{◌≡◌, ◌≢◌, ℕ, ◌<◌, ◌^◌, ◌==◌, List, [], ◌∷◌, ◌++◌, length, if◌then◌else◌, slice_get, slice_index, Option, Some, None, IsNone}
+use Rattle.std.specs.Prelude.{◌≡◌, ◌≢◌, ℕ, ◌<◌, ◌^◌, ◌==◌, List, [], ◌∷◌, ◌++◌, length}
+use Rattle.std.specs.Prelude.{if◌then◌else◌, slice_get, slice_index, Option, Some, None, IsNone}
 use Rattle.std.specs.Option.{option_map}
 use Rattle.spk_nums.specs.declared.steps.WordOp.{WordOp}
 use Rattle.turn_rule.specs.declared.view.Entry.{Entry}

@@ -1,5 +1,6 @@
 -- Two cores that take tickets, from the start to the end.
-use Rattle.std.proofs.Common.{◌≡◌, ℕ, ◌+◌, ◌*◌, ◌%◌, ◌^◌, ◌<◌, List, [], ◌∷◌, ◌++◌, length, take, get_or, slice_get, slice_index, slice_set, sum_by, Some, Result, Ok, Err, IfOk, refl, sym, ap, ◌∙◌, subst, arith, length-append}
+use Rattle.std.proofs.Common.{◌≡◌, ℕ, ◌+◌, ◌*◌, ◌%◌, ◌^◌, ◌<◌, List, [], ◌∷◌, ◌++◌, length, take, get_or, slice_get, slice_index}
+use Rattle.std.proofs.Common.{slice_set, sum_by, Some, Result, Ok, Err, IfOk, refl, sym, ap, ◌∙◌, subst, arith, length-append}
 use Rattle.turn_rule.specs.Trace.{program_after}
 use Rattle.turn_rule.specs.Seats.{TableValue, SeatValue, AreAllSeats, AreFresh, EndsAt, FollowsTrace}
 use Rattle.turn_rule.proofs.Traces.{program_stays}

@@ -51,7 +51,8 @@ below s h (FlushAt c) p = omega arith
 below s h (LiveAt l) p = omega arith
 below s h ClockAt p = omega arith
 
-distinct : (s : Shape) → IsShape s → (w u : Word) → IsIn s w → IsIn s u → Row s w → Row s u → place_of s w ≡ place_of s u → shared w ≡ shared u
+distinct : (s : Shape) → IsShape s → (w u : Word) → IsIn s w → IsIn s u
+    → Row s w → Row s u → place_of s w ≡ place_of s u → shared w ≡ shared u
 unfolding place_of Row
 distinct s h (EntryAt f i) (EntryAt g j) p q r t same =
     let frame : f ≡ g = omega arith in

@@ -23,7 +23,8 @@ IsIn s (FlushAt c) = c < s.cores
 IsIn s (LiveAt l) = l < 64
 IsIn s ClockAt = Unit {0}
 
--- the place of a word: first the frames' 64 words each, then a word for each frame, its counts, the cores' words, the liveness words, the clock
+-- the place of a word: first the frames' 64 words each, then a word for each frame, its counts, the cores' words, the liveness words, the
+-- clock
 unfoldable pub place_of : Shape → Word → ℕ
 place_of s (EntryAt f i) = 64 * f + i
 place_of s (FrameAt f) = 64 * s.frames + f

@@ -1,7 +1,8 @@
 -- The act with which a call begins at a target that is to be free: it fills the place, it makes an object in a frame of its range, or this
 -- frame is out of range.
 use Rattle.std.specs.Prelude.{IsSome}
-use Rattle.std.proofs.Common.{◌≡◌, inl, ℕ, ◌<◌, ◌&&◌, nat_lt, Bool, true, false, List, [], ◌∷◌, Option, Some, refl, sym, ◌∙◌, ap, subst, IsTrue, arith, if◌then◌else◌, None, ◌≤◌, inr}
+use Rattle.std.proofs.Common.{◌≡◌, inl, ℕ, ◌<◌, ◌&&◌, nat_lt, Bool, true, false, List, [], ◌∷◌, Option}
+use Rattle.std.proofs.Common.{Some, refl, sym, ◌∙◌, ap, subst, IsTrue, arith, if◌then◌else◌, None, ◌≤◌, inr}
 use Rattle.std.proofs.lemmas.Bool.{lt-ltb, le-leb, false≢true}
 use Rattle.spk_nums.specs.Capability.{Capability}
 use Rattle.spk_nums.specs.Setting.{Setting, IsSetting}
@@ -9,7 +10,9 @@ use Rattle.spk_nums.specs.declared.kinds.FrameKind.TheVariants as frame_kind
 use Rattle.spk_nums.specs.declared.kinds.Kind.{Kind}
 use Rattle.spk_nums.specs.declared.kinds.Kind.TheVariants as kind
 use Rattle.spk_nums.specs.declared.calls.Call.{Call}
-use Rattle.spk_nums.specs.declared.calls.Call.TheVariants.{Look as look_call, Copy, Remove, Shrink, Unmap, Retype, Make as make_call, Tick, Gate, Kill, Grow, Flush, Map, Touch, Call as call_gate, Ret, Transfer, Delegate, Test, Switch}
+use Rattle.spk_nums.specs.declared.calls.Call.TheVariants.{Look as look_call, Copy, Remove, Shrink, Unmap, Retype}
+use Rattle.spk_nums.specs.declared.calls.Call.TheVariants.{Make as make_call, Tick, Gate, Kill, Grow, Flush, Map, Touch}
+use Rattle.spk_nums.specs.declared.calls.Call.TheVariants.{Call as call_gate, Ret, Transfer, Delegate, Test, Switch}
 use Rattle.spk_nums.specs.declared.calls.Make.{Make}
 use Rattle.spk_nums.specs.declared.calls.Make.TheVariants as make
 use Rattle.spk_nums.specs.CallLimits.{InLimits}
@@ -46,7 +49,9 @@ use Rattle.act_states.specs.declared.objects.NewObject.TheVariants as objects
 use Rattle.act_states.specs.declared.work.Act.{Act as ActOf}
 use Rattle.act_states.specs.declared.work.Act.TheVariants.{Outside}
 use Rattle.act_states.specs.Objects.{object_made}
-use Rattle.act_states.specs.Acts.{gate_if, gate_to, put_by, reads_of, fills_with, scans, stamp_in, stamp_shown, stamp_of_act, filling, making, making_if, makes_at, act_begun, fills_page, page_cap, mapping, mapping_if, maps_if, made_begun, comp_making, comp_if}
+use Rattle.act_states.specs.Acts.{gate_if, gate_to, put_by, reads_of, fills_with, scans, stamp_in, stamp_shown}
+use Rattle.act_states.specs.Acts.{stamp_of_act, filling, making, making_if, makes_at, act_begun, fills_page}
+use Rattle.act_states.specs.Acts.{page_cap, mapping, mapping_if, maps_if, made_begun, comp_making, comp_if}
 use Rattle.core_invariant.specs.Knows.{IsRead, ReadIs, IsSpot, KnowsAct, OutsideBy, is_start, goes_on, HasUser}
 use Rattle.place_invariant.proofs.CompMakes.{IsCompMake, comp_make}
 use Rattle.core_invariant.proofs.Sounds.{limits_of}
@@ -123,7 +128,8 @@ module _ (own : Own) (plan : Plan) (read : Option ℕ) (c : ℕ) (own_core : own
     map_scan act = scans own.core (quiet_scan (stamp_in at.value) own.core own.layout.cores true) act
 
     map_within : (has : Bool) → has_frame (found range) f ≡ has → w.0 < 4
-        → act_begun own (Map p v r f w) (pages ∷ range ∷ rest) read (Some at) ≡ map_scan (mapping_if (has && nat_lt f own.layout.frames) f w at)
+        → act_begun own (Map p v r f w) (pages ∷ range ∷ rest) read (Some at)
+        ≡ map_scan (mapping_if (has && nat_lt f own.layout.frames) f w at)
     map_within has is flags = ap (λ b. maps_if b own range f w at) (lt-ltb w.0 4 flags)
         ∙ ap (λ b. map_scan (mapping_if (b && nat_lt f own.layout.frames) f w at)) is
 
@@ -326,7 +332,8 @@ begins_free own (Retype r f frame_kind.Untyped) limits small spot to s plan ks r
   where
     not_target : Nowhere ≡ Free spot → ⊥
     not_target h = cc
-begins_free own (Retype r f frame_kind.User) limits small spot to s plan ks read c core none leads fits within reads at = absurd (not_target to)
+begins_free own (Retype r f frame_kind.User) limits small spot to s plan ks read c core none leads fits within reads at =
+    absurd (not_target to)
   where
     not_target : Nowhere ≡ Free spot → ⊥
     not_target h = cc
@@ -363,7 +370,8 @@ begins_free own (Gate n u b) limits small spot to s plan [] read c core none lea
     not_none h = cc
 begins_free own (Gate n u b) limits small spot to s plan (k ∷ ks) read c core none leads fits within reads at =
     let gate : GateOf k read = gate_of s c k read reads (fits First k refl) in
-    begins_fill own plan read c core at (Gate n u b) (k ∷ ks) gate.cap (ap (λ o. fills_with own o false (Some at)) gate.is) gate.fits gate.is
+    begins_fill own plan read c core at (Gate n u b) (k ∷ ks) gate.cap
+    (ap (λ o. fills_with own o false (Some at)) gate.is) gate.fits gate.is
     (λ setup t. tt)
 begins_free own (Kill n) limits small spot to s plan ks read c core none leads fits within reads at = absurd (not_target to)
   where

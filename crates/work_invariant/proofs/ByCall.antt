@@ -1,9 +1,12 @@
 -- What look-ups end in, call by call: the causes that refuse a target, the act that begins at one, and what a look answers.
-use Rattle.std.proofs.Common.{◌≡◌, ℕ, nat_le, nat_lt, ◌&&◌, Bool, true, false, if◌then◌else◌, IsTrue, List, [], ◌∷◌, Some, None, refl, sym, ◌∙◌, ap, subst}
+use Rattle.std.proofs.Common.{◌≡◌, ℕ, nat_le, nat_lt, ◌&&◌, Bool, true, false, if◌then◌else◌}
+use Rattle.std.proofs.Common.{IsTrue, List, [], ◌∷◌, Some, None, refl, sym, ◌∙◌, ap, subst}
 use Rattle.std.proofs.lemmas.Bool.{leb-false, lt-ltb}
 use Rattle.spk_nums.specs.Capability.{Capability}
 use Rattle.spk_nums.specs.declared.calls.Call.{Call}
-use Rattle.spk_nums.specs.declared.calls.Call.TheVariants.{Look as look_call, Copy, Remove, Shrink, Unmap, Retype, Make as make_call, Tick, Gate, Kill, Grow, Flush, Map, Touch, Call as call_gate, Ret, Transfer, Delegate, Test, Switch}
+use Rattle.spk_nums.specs.declared.calls.Call.TheVariants.{Look as look_call, Copy, Remove, Shrink, Unmap, Retype}
+use Rattle.spk_nums.specs.declared.calls.Call.TheVariants.{Make as make_call, Tick, Gate, Kill, Grow, Flush, Map, Touch}
+use Rattle.spk_nums.specs.declared.calls.Call.TheVariants.{Call as call_gate, Ret, Transfer, Delegate, Test, Switch}
 use Rattle.spk_nums.specs.declared.calls.Make.{Make}
 use Rattle.spk_nums.specs.declared.calls.Make.TheVariants as make
 use Rattle.spk_nums.specs.declared.kinds.FrameKind.TheVariants as frame_kind
@@ -11,7 +14,8 @@ use Rattle.spk_nums.specs.declared.replies.Value.TheVariants.{Cap}
 use Rattle.spk_nums.specs.declared.replies.Reply.TheVariants as reply
 use Rattle.kernel_rules.specs.State.{State, Thing, Holds, PlaceOf}
 use Rattle.kernel_rules.specs.Access.{Slot, Named, found, capability, any, place_at, held_in, reached, own, Target as place, InRoot}
-use Rattle.kernel_rules.specs.Rules.{Refused, IsFoundAnd, Does, outcome, answers, Found as Found_it, and_then, or_refuse, unless, not_vacant, named, vacant, held}
+use Rattle.kernel_rules.specs.Rules.{Refused, IsFoundAnd, Does, outcome, answers, Found as Found_it}
+use Rattle.kernel_rules.specs.Rules.{and_then, or_refuse, unless, not_vacant, named, vacant, held}
 use Rattle.kernel_rules.specs.CallRelation.{change_of, changed, counted, begins_in}
 use Rattle.kernel_rules.specs.CapabilityCalls.{look_rule}
 use Rattle.kernel_invariant.proofs.Facts.{some_inj}

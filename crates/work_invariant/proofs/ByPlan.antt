@@ -1,12 +1,15 @@
 -- A step of any look-up of a call is good: the look-up goes by the call's plan.
 use Rattle.thread_invariant.proofs.InvokeStarts.{invokes_good}
-use Rattle.std.proofs.Common.{◌≡◌, inl, inr, ℕ, suc, negsuc, ◌≢◌, ◌<◌, ◌≤◌, ◌+◌, map, length, arith, Bool, true, false, if◌then◌else◌, IsTrue, List, [], ◌∷◌, ◌++◌, Option, Some, None, refl, sym, ◌∙◌, ap, subst}
+use Rattle.std.proofs.Common.{◌≡◌, inl, inr, ℕ, suc, negsuc, ◌≢◌, ◌<◌, ◌≤◌, ◌+◌, map, length, arith, Bool, true, false}
+use Rattle.std.proofs.Common.{if◌then◌else◌, IsTrue, List, [], ◌∷◌, ◌++◌, Option, Some, None, refl, sym, ◌∙◌, ap, subst}
 use Rattle.std.proofs.lemmas.Bool.{eq-eqb}
 use Rattle.spk_nums.specs.Capability.{Capability}
 use Rattle.spk_nums.specs.Setting.{Setting, IsSetting}
 use Rattle.spk_nums.specs.declared.kinds.Kind.{Kind}
 use Rattle.spk_nums.specs.declared.calls.Call.{Call}
-use Rattle.spk_nums.specs.declared.calls.Call.TheVariants.{Look as look_call, Copy, Remove, Shrink, Unmap, Retype, Make as make_call, Tick, Gate, Kill, Grow, Touch, Flush, Map, Call as call_gate, Ret, Transfer, Delegate, Test, Switch}
+use Rattle.spk_nums.specs.declared.calls.Call.TheVariants.{Look as look_call, Copy, Remove, Shrink, Unmap, Retype}
+use Rattle.spk_nums.specs.declared.calls.Call.TheVariants.{Make as make_call, Tick, Gate, Kill, Grow, Touch, Flush, Map}
+use Rattle.spk_nums.specs.declared.calls.Call.TheVariants.{Call as call_gate, Ret, Transfer, Delegate, Test, Switch}
 use Rattle.spk_nums.specs.declared.replies.Reply.{Reply}
 use Rattle.spk_nums.specs.declared.replies.Reply.TheVariants as reply
 use Rattle.entry_words.specs.declared.entry.Entry.{Entry}
@@ -37,7 +40,8 @@ use Rattle.call_plans.specs.declared.plans.Plan.{Plan}
 use Rattle.call_plans.specs.Plans.{at_place}
 use Rattle.call_plans.specs.PlanOf.{any_cap, plan_for, of_kind}
 use Rattle.call_plans.specs.GoesBy.{GoesBy, own_pages, earlier, wants, place_of_spot}
-use Rattle.call_plans.specs.After.{with_found, names_after, Leads, LeadsIn, Next, NextName, NextFree, NextHeld, NextOwn, NextNothing, next_in, next_of, NextMay}
+use Rattle.call_plans.specs.After.{with_found, names_after, Leads, LeadsIn, Next, NextName, NextFree}
+use Rattle.call_plans.specs.After.{NextHeld, NextOwn, NextNothing, next_in, next_of, NextMay}
 use Rattle.call_plans.proofs.CallsGoBy.{calls_go}
 use Rattle.call_plans.proofs.FewNames.{few_names}
 use Rattle.call_plans.proofs.Roots.{count_led, pushed_one}
@@ -65,7 +69,8 @@ use Rattle.act_states.specs.declared.typings.TypingAt.TheVariants.{Load as type_
 use Rattle.act_states.specs.declared.work.Act.TheVariants.{Retype as type_act}
 use Rattle.call_stages.specs.Fits.{CountsAt, HasRoom}
 use Rattle.core_invariant.specs.Holding.{holds_counts}
-use Rattle.core_invariant.specs.Knows.{due_of, ReadIs, ReadBefore, IsScanned, MayFill, KnowsAct, KnowsQuiet, LooksUp, own_in, HasFound, NamesAre, LooksFor, KnowsUndecided, phase_at, HasFlushed}
+use Rattle.core_invariant.specs.Knows.{due_of, ReadIs, ReadBefore, IsScanned, MayFill, KnowsAct, KnowsQuiet, LooksUp}
+use Rattle.core_invariant.specs.Knows.{own_in, HasFound, NamesAre, LooksFor, KnowsUndecided, phase_at, HasFlushed}
 use Rattle.count_invariant.proofs.Acquiring.{knows_next, next_holds, one_apart}
 use Rattle.scan_invariant.proofs.Scans.{ScanBegins, AtCores, AtFlushes, scan_begins, scan_none, ShowsSince, since_is}
 use Rattle.place_invariant.proofs.Starts.{starts_good}
@@ -85,9 +90,11 @@ use Rattle.step_ways.proofs.Loads.{OnlyLooks, next_at, call_is, is_active, loads
 use Rattle.core_invariant.proofs.Sounds.{limits_of}
 use Rattle.step_ways.proofs.Refusals.{GoodTook, refuses_empty, refuses_wrong, refuses_occupied}
 use Rattle.look_invariant.proofs.Lookups.{Shows, ShowsHeld, Arrives, under_step, in_root_step}
-use Rattle.look_invariant.proofs.Findings.{own_is, reaches_none, reaches_held, reaches_other, use_held, use_free, use_removed_at, named_of, named_no_slot, named_empty, named_wrong, found_named, arriving, reached_now, found_now}
+use Rattle.look_invariant.proofs.Findings.{own_is, reaches_none, reaches_held, reaches_other, use_held, use_free, use_removed_at, named_of}
+use Rattle.look_invariant.proofs.Findings.{named_no_slot, named_empty, named_wrong, found_named, arriving, reached_now, found_now}
 use Rattle.look_invariant.proofs.Next.{MayUse, Rest, ANameLeft, NoneLeft, rest_of, next_name, next_end}
-use Rattle.work_invariant.proofs.ByCall.{none_after, vacant_no_slot, vacant_occupied, held_no_slot, held_empty, make_target, BeginsRemoval, begins_removal, free_somewhere, held_somewhere, own_somewhere}
+use Rattle.work_invariant.proofs.ByCall.{none_after, vacant_no_slot, vacant_occupied, held_no_slot, held_empty, make_target}
+use Rattle.work_invariant.proofs.ByCall.{BeginsRemoval, begins_removal, free_somewhere, held_somewhere, own_somewhere}
 use Rattle.work_invariant.proofs.AtTarget.{Begins, begins_free, range_within}
 use Rattle.work_invariant.proofs.FoundFits.{found_fits}
 use Rattle.work_invariant.proofs.ScanStarts.{ScanStarts, scan_starts}
@@ -314,7 +321,8 @@ module _ (setup : Setting) (setting : IsSetting setup) (cores : ℕ → Core) (t
     found_good : GoodTook setup cores t c (LoadOf (EntryAt at.node at.index)) (named_one (cores c).own a (Finds k))
     found_good = subst (λ ks. GoodTook setup cores t c (LoadOf (EntryAt at.node at.index))
         (landed (found_more a ks) (what_next (cores c).own (found_more a ks)))) (sym (pushed_one a.found k few))
-        (next_good setup setting cores t stands c here a active opens held_is no_counts room at looks more leads_then uses_then names_then is_named
+        (next_good setup setting cores t stands c here a active opens held_is
+        no_counts room at looks more leads_then uses_then names_then is_named
         (λ nowhere none. acts_at_name a.call refl (ap (λ (p : Plan). p.target) (sym plan_is) ∙ nowhere) none))
       where
         few : length a.found < 4

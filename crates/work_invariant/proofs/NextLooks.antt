@@ -26,7 +26,8 @@ use Rattle.call_plans.specs.declared.plans.Plan.{Plan}
 use Rattle.call_plans.specs.PlanOf.{plan_for}
 use Rattle.call_plans.specs.GoesBy.{GoesBy, own_pages, earlier, wants, place_of_spot}
 use Rattle.call_plans.specs.Rooted.{IsRooted}
-use Rattle.call_plans.specs.After.{with_found, names_after, Leads, LeadsIn, Next, NextName, NextFree, NextHeld, next_target, next_of, NextMay}
+use Rattle.call_plans.specs.After.{with_found, names_after, Leads, LeadsIn, Next, NextName}
+use Rattle.call_plans.specs.After.{NextFree, NextHeld, next_target, next_of, NextMay}
 use Rattle.call_plans.proofs.CallsGoBy.{calls_go}
 use Rattle.call_plans.proofs.RootedTargets.{rooted}
 use Rattle.call_plans.proofs.AfterNames.{next_may}

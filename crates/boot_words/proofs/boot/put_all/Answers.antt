@@ -5,7 +5,8 @@ use Rattle.boot_words.proofs.boot.put_all.Goals as goal
 pub returns-clause-right : goal.returns-clause-right
 returns-clause-right c =
     let setup = c.args.setup.now in
-    let fills = fills_both setup c.put_cores.new.words c.put_lives.new.words c.put_clock.new.words c.put_lives.ensures.fills c.put_clock.ensures.fills in
+    let fills = fills_both setup c.put_cores.new.words c.put_lives.new.words
+    c.put_clock.new.words c.put_lives.ensures.fills c.put_clock.ensures.fills in
     let all = fills_both setup c.put_frames.new.words c.put_cores.new.words c.put_clock.new.words c.put_cores.ensures.fills fills in
     all_right setup c.put_clock.new.words
     (λ f h. frame_kept setup c.put_frames.new.words c.put_clock.new.words f all h (c.put_frames.ensures.right f h))

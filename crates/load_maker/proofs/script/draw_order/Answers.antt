@@ -9,8 +9,10 @@ items-init c = drawn_none an_item c.in_ok-items.items.items c.args.draws.now.at
 
 pub items-preserved : goal.items-preserved
 items-preserved c =
-    subst (λ items. Drawn an_item c.in_ok-items.items.items c.args.draws.now.at (c.items.counter + 1) items c.draw_item.new.draws.at) (sym c.in_ok-push.ensures.items)
-    (drawn_more an_item c.in_ok-items.items.items c.args.draws.now.at c.items.counter c.items.items.items c.items.draws.at _ _ c.items.invariant c.draw_item.ensures.value c.draw_item.ensures.goes_on)
+    subst (λ items. Drawn an_item c.in_ok-items.items.items c.args.draws.now.at (c.items.counter + 1) items c.draw_item.new.draws.at)
+    (sym c.in_ok-push.ensures.items)
+    (drawn_more an_item c.in_ok-items.items.items c.args.draws.now.at c.items.counter c.items.items.items
+    c.items.draws.at _ _ c.items.invariant c.draw_item.ensures.value c.draw_item.ensures.goes_on)
 
 pub returns-clause-value : goal.returns-clause-value
 unfolding drawn_items

@@ -9,8 +9,10 @@ calls-init c = drawn_none a_call c.args.calls.now.items c.args.draws.now.at
 
 pub calls-preserved : goal.calls-preserved
 calls-preserved c =
-    subst (λ calls. Drawn a_call c.args.calls.now.items c.args.draws.now.at (c.calls.counter + 1) calls c.draw_call.new.draws.at) (sym c.in_ok-push.ensures.items)
-    (drawn_more a_call c.args.calls.now.items c.args.draws.now.at c.calls.counter c.calls.calls.items c.calls.draws.at _ _ c.calls.invariant c.draw_call.ensures.value c.draw_call.ensures.goes_on)
+    subst (λ calls. Drawn a_call c.args.calls.now.items c.args.draws.now.at (c.calls.counter + 1) calls c.draw_call.new.draws.at)
+    (sym c.in_ok-push.ensures.items)
+    (drawn_more a_call c.args.calls.now.items c.args.draws.now.at c.calls.counter c.calls.calls.items
+    c.calls.draws.at _ _ c.calls.invariant c.draw_call.ensures.value c.draw_call.ensures.goes_on)
 
 pub returns-clause-value : goal.returns-clause-value
 unfolding drawn_calls

@@ -16,12 +16,15 @@ decisions-preserved c =
     elim c.if-reply_number-number.branch [
       | then-reply_number-number w ↦ elim w.if-count-eq0.branch [
         | then-count-eq0 w' ↦
-            tallied_first n xs i d c.decisions-test.true c.decision-item.is _ _ so_far _ _ (sym c.reply_number.ensures ∙ w.if-reply_number-number.true) w'.if-count-eq0.true
+            tallied_first n xs i d c.decisions-test.true c.decision-item.is _ _ so_far _ _
+            (sym c.reply_number.ensures ∙ w.if-reply_number-number.true) w'.if-count-eq0.true
             (ap (λ b. b.now) w.name-is ∙ ap (λ b. b.now) w'.name-is ∙ w'.reply_name-name.ensures) w.count-is
         | else-count-eq0 w' ↦
-            tallied_more n xs i d c.decisions-test.true c.decision-item.is _ _ so_far _ _ (sym c.reply_number.ensures ∙ w.if-reply_number-number.true) w'.if-count-eq0.false
+            tallied_more n xs i d c.decisions-test.true c.decision-item.is _ _ so_far _ _
+            (sym c.reply_number.ensures ∙ w.if-reply_number-number.true) w'.if-count-eq0.false
             (ap (λ b. b.now) w.name-is ∙ ap (λ b. b.now) w'.name-is) w.count-is
       ]
       | else-reply_number-number w ↦
-          tallied_other n xs i d c.decisions-test.true c.decision-item.is _ _ so_far _ _ (λ e. w.if-reply_number-number.false (c.reply_number.ensures ∙ e)) (ap (λ b. b.now) w.name-is) w.count-is
+          tallied_other n xs i d c.decisions-test.true c.decision-item.is _ _ so_far _ _
+          (λ e. w.if-reply_number-number.false (c.reply_number.ensures ∙ e)) (ap (λ b. b.now) w.name-is) w.count-is
     ]

@@ -5,4 +5,5 @@ use Rattle.script_printer.specs.Printing.{list_lines}
 use Rattle.script_printer.proofs.printing.push_lists.Given as goal
 
 abbrev pub invariant-cores : goal.invariant-cores
-invariant-cores l = string_bytes l.text ++ list_lines l.core (lists_of (drop l.core l.lists)) ≡ string_bytes l.initial.text ++ list_lines 0 (lists_of l.lists)
+invariant-cores l = string_bytes l.text ++ list_lines l.core (lists_of (drop l.core l.lists)) ≡ string_bytes l.initial.text
+    ++ list_lines 0 (lists_of l.lists)

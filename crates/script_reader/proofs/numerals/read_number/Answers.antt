@@ -9,19 +9,22 @@ returns-then-is_empty c =
     number_none c.args.word.now (and_left _ _ (le-ltb 0 (length c.args.word.now) (omega arith)))
 
 pub returns-then-not-is_digit : goal.returns-then-not-is_digit
-returns-then-not-is_digit c = reads_none c.args.word.now c.digits.byte-index c.digits.number (slice_index_or c.args.word.now c.digits.byte-index 0) c.digits-test.true refl (sym c.is_digit.ensures ∙ c.if-not-is_digit.true) c.digits.invariant
+returns-then-not-is_digit c = reads_none c.args.word.now c.digits.byte-index c.digits.number (slice_index_or c.args.word.now
+    c.digits.byte-index 0) c.digits-test.true refl (sym c.is_digit.ensures ∙ c.if-not-is_digit.true) c.digits.invariant
 
 pub returns-in_err-checked_mul : goal.returns-in_err-checked_mul
 returns-in_err-checked_mul c =
     let b = slice_index_or c.args.word.now c.digits.byte-index 0 in
     let past : 2 ^ 64 ≤ 10 * c.digits.number + (b - 48) = omega (arith, c.in_err-checked_mul.ensures) in
-    c.from_residual.ensures ∙ reads_past c.args.word.now c.digits.byte-index c.digits.number b c.digits-test.true refl past c.digits.invariant
+    c.from_residual.ensures
+    ∙ reads_past c.args.word.now c.digits.byte-index c.digits.number b c.digits-test.true refl past c.digits.invariant
 
 pub returns-in_err-number : goal.returns-in_err-number
 returns-in_err-number c =
     let b = slice_index_or c.args.word.now c.digits.byte-index 0 in
     let past : 2 ^ 64 ≤ 10 * c.digits.number + (b - 48) = omega (arith, c.in_ok-checked_mul.ensures, c.in_err-number.ensures) in
-    c.from_residual-in_err-number.ensures ∙ reads_past c.args.word.now c.digits.byte-index c.digits.number b c.digits-test.true refl past c.digits.invariant
+    c.from_residual-in_err-number.ensures
+    ∙ reads_past c.args.word.now c.digits.byte-index c.digits.number b c.digits-test.true refl past c.digits.invariant
 
 pub returns : goal.returns
 returns c =

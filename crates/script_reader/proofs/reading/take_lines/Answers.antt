@@ -5,9 +5,14 @@ use Rattle.script_reader.proofs.reading.take_lines.Goals as goal
 
 pub returns-in-Err-clause-value : goal.returns-in-Err-clause-value
 returns-in-Err-clause-value c =
-    rw c.fault_at.ensures (goes_fault (draft_view c.args.draft.now) (draft_view c.lines.draft) (draft_view c.take_line.new.draft) c.args.tokens.now c.lines.at c.line_length.result _ c.in-Err.fault c.lines.invariant c.lines-test.true c.line_length.ensures.value c.in-Err.ensures.value)
+    rw c.fault_at.ensures (goes_fault (draft_view c.args.draft.now) (draft_view c.lines.draft) (draft_view c.take_line.new.draft)
+    c.args.tokens.now c.lines.at c.line_length.result _ c.in-Err.fault c.lines.invariant
+    c.lines-test.true c.line_length.ensures.value c.in-Err.ensures.value)
 
 pub lines-preserved : goal.lines-preserved
 lines-preserved c =
-    let within : c.lines.at + c.line_length.result ≤ length c.args.tokens.now = within_line c.args.tokens.now c.lines.at c.line_length.result c.lines-test.true c.line_length.ensures.within in
-    goes_more (draft_view c.args.draft.now) (draft_view c.lines.draft) (draft_view c.take_line.new.draft) c.args.tokens.now c.lines.at c.line_length.result _ c.lines.invariant c.lines-test.true c.line_length.ensures.value c.in_default.ensures.value c.in_default.ensures.draft within
+    let within : c.lines.at + c.line_length.result ≤ length c.args.tokens.now =
+    within_line c.args.tokens.now c.lines.at c.line_length.result c.lines-test.true c.line_length.ensures.within in
+    goes_more (draft_view c.args.draft.now) (draft_view c.lines.draft) (draft_view c.take_line.new.draft) c.args.tokens.now c.lines.at
+    c.line_length.result _ c.lines.invariant c.lines-test.true c.line_length.ensures.value
+    c.in_default.ensures.value c.in_default.ensures.draft within

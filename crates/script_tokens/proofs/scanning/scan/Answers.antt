@@ -13,7 +13,8 @@ pub returns-then-is_fault-clause-words : goal.returns-then-is_fault-clause-words
 returns-then-is_fault-clause-words c =
     let bad : is_fault c.bytes.line (slice_index_or c.args.source.now c.bytes.at 0) (slice_get c.args.source.now (c.bytes.at + 1)) ≡ true =
     cc in
-    let s = stops c.args.source.now c.bytes.at c.bytes.place c.bytes.line c.bytes.whole _ _ c.bytes.invariant.holds c.bytes-test.true refl bad in
+    let s = stops c.args.source.now c.bytes.at c.bytes.place c.bytes.line
+    c.bytes.whole _ _ c.bytes.invariant.holds c.bytes-test.true refl bad in
     let same : map span_of c.truncate.new.self.items ≡ spans_of c.args.source.now = ap (map span_of) c.truncate.ensures.items
     ∙ sym (take-map span_of c.bytes.whole c.bytes.words.items) ∙ s.words in
     let texts = subst (All (IsSlice c.args.source.now)) (sym c.truncate.ensures.items)
@@ -24,14 +25,16 @@ pub returns-then-is_fault-clause-ending : goal.returns-then-is_fault-clause-endi
 returns-then-is_fault-clause-ending c =
     let bad : is_fault c.bytes.line (slice_index_or c.args.source.now c.bytes.at 0) (slice_get c.args.source.now (c.bytes.at + 1)) ≡ true =
     cc in
-    let s = stops c.args.source.now c.bytes.at c.bytes.place c.bytes.line c.bytes.whole _ _ c.bytes.invariant.holds c.bytes-test.true refl bad in
+    let s = stops c.args.source.now c.bytes.at c.bytes.place c.bytes.line
+    c.bytes.whole _ _ c.bytes.invariant.holds c.bytes-test.true refl bad in
     ap Fault c.fault.ensures ∙ sym s.ending
 
 pub returns-then-is_fault-clause-ascend : goal.returns-then-is_fault-clause-ascend
 returns-then-is_fault-clause-ascend c =
     let bad : is_fault c.bytes.line (slice_index_or c.args.source.now c.bytes.at 0) (slice_get c.args.source.now (c.bytes.at + 1)) ≡ true =
     cc in
-    let s = stops c.args.source.now c.bytes.at c.bytes.place c.bytes.line c.bytes.whole _ _ c.bytes.invariant.holds c.bytes-test.true refl bad in
+    let s = stops c.args.source.now c.bytes.at c.bytes.place c.bytes.line
+    c.bytes.whole _ _ c.bytes.invariant.holds c.bytes-test.true refl bad in
     rises c.args.source.now c.truncate.new.self.items
     (ap (map span_of) c.truncate.ensures.items ∙ sym (take-map span_of c.bytes.whole c.bytes.words.items) ∙ s.words)
 
@@ -47,7 +50,9 @@ bytes-preserved c =
     ∙ ap (λ o. map span_of c.bytes.words.items ++ ended o c.bytes.line c.bytes.at) c.word_before.ensures in
     let whole : c.whole_after-whole.result ≡ whole_after c.bytes.whole b (length c.end_word.new.words.items) = c.whole_after-whole.ensures
     ∙ ap (whole_after c.bytes.whole b) (c.len.ensures ∙ c.end_word.new.words.ok.0) in
-    rw (place, line, whole) (turns source c.bytes.at c.bytes.place c.bytes.line c.bytes.whole b c.bytes.words.items c.end_word.new.words.items c.bytes.invariant c.bytes-test.true refl fine new (c.in_ok-end_word.ensures.texts c.bytes.invariant.texts))
+    rw (place, line, whole) (turns source c.bytes.at c.bytes.place c.bytes.line c.bytes.whole b c.bytes.words.items
+    c.end_word.new.words.items c.bytes.invariant c.bytes-test.true refl
+    fine new (c.in_ok-end_word.ensures.texts c.bytes.invariant.texts))
 
 pub returns-clause-words : goal.returns-clause-words
 returns-clause-words c =

@@ -10,8 +10,10 @@ each-init c = begins (state_of c.args.k.now) c.args.frame
 
 pub each-preserved : goal.each-preserved
 each-preserved c =
-    goes_on (state_of c.args.k.now) (state_of c.each.k) (state_of c.set_place.new.self) (state_of c.set_grace.new.self) c.args.frame c.each.number
-    c.new-index.result (grace_of c.none.result) c.new-index.ensures c.none.ensures c.each.invariant c.set_place.ensures.machine c.set_grace.ensures.machine
+    goes_on (state_of c.args.k.now) (state_of c.each.k) (state_of c.set_place.new.self)
+    (state_of c.set_grace.new.self) c.args.frame c.each.number
+    c.new-index.result (grace_of c.none.result) c.new-index.ensures c.none.ensures
+    c.each.invariant c.set_place.ensures.machine c.set_grace.ensures.machine
 
 pub returns : goal.returns
 returns c =

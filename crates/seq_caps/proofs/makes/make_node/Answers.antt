@@ -37,8 +37,10 @@ returns c = λ ends.
       has_place = c.in_ok-at.ensures ∙ ap (λ x. vacant (state_of c.args.k.now) c.args.core (target_of x)) c.in_table.ensures;
     })
     e in
-    let frame_is = found_is (first_cause (state_of c.args.k.now) c.args.core (blank_causes (state_of c.args.k.now) c.in_ok-range.range c.args.f [])) c.args.f c.in_ok-frame.frame e in
-    carried (state_of c.args.k.now) _ (makes (cleared (state_of c.args.k.now) c.args.f) c.args.f (object_of c.args.object) c.args.kind c.in_ok-at.at) _ c.put.new.k o refl
+    let frame_is = found_is (first_cause (state_of c.args.k.now) c.args.core
+    (blank_causes (state_of c.args.k.now) c.in_ok-range.range c.args.f [])) c.args.f c.in_ok-frame.frame e in
+    carried (state_of c.args.k.now) _
+    (makes (cleared (state_of c.args.k.now) c.args.f) c.args.f (object_of c.args.object) c.args.kind c.in_ok-at.at) _ c.put.new.k o refl
     (put_after (cleared (state_of c.args.k.now) c.args.f) (state_of c.clear.new.k) (state_of c.put.new.k) c.in_ok-frame.frame c.args.f
     (object_of c.args.object) (object_of c.args.object) c.plain_cap.result.kind c.args.kind c.in_ok-at.at frame_is refl
     (ap (λ (k : Capability). k.kind) c.plain_cap.ensures) (rw (← frame_is) c.clear.ensures) c.put.ensures)

@@ -39,9 +39,11 @@ returns c = λ ends.
       has_place = c.in_ok-at.ensures ∙ ap (λ x. vacant (state_of c.args.k.now) c.args.core (target_of x)) c.in_table.ensures;
     })
     e in
-    let frame_is = found_is (first_cause (state_of c.args.k.now) c.args.core (blank_causes (state_of c.args.k.now) c.in_ok-range.range c.args.f [])) c.args.f c.in_ok-frame.frame e in
+    let frame_is = found_is (first_cause (state_of c.args.k.now) c.args.core
+    (blank_causes (state_of c.args.k.now) c.in_ok-range.range c.args.f [])) c.args.f c.in_ok-frame.frame e in
     carried (state_of c.args.k.now) _
-    (makes (state_of c.args.k.now) c.args.f (Tcap (record { budget = 0; qualities = (c.args.sched, c.args.quality) ∷ [] })) kind.Tcap c.in_ok-at.at) _ c.put.new.k o refl
+    (makes (state_of c.args.k.now) c.args.f (Tcap (record { budget = 0; qualities = (c.args.sched, c.args.quality) ∷ [] }))
+    kind.Tcap c.in_ok-at.at) _ c.put.new.k o refl
     (put_after (state_of c.args.k.now) (state_of c.args.k.now) (state_of c.put.new.k) c.in_ok-frame.frame c.args.f
     (Tcap (record { budget = 0; qualities = c.one.result })) (Tcap (record { budget = 0; qualities = (c.args.sched, c.args.quality) ∷ [] }))
     c.plain_cap.result.kind kind.Tcap c.in_ok-at.at frame_is

@@ -9,8 +9,10 @@ use Rattle.seq_lookups.proofs.waiting.other_waiting.Goals as goal
 pub returns : goal.returns
 returns c =
     c.lowest.ensures.first
-    ∙ found_alike (has_core c.without.result) (λ e. ((state_of c.args.k.now).grace (thing_of c.args.thing)).waits e && not (e == c.args.core))
+    ∙ found_alike (has_core c.without.result)
+    (λ e. ((state_of c.args.k.now).grace (thing_of c.args.thing)).waits e && not (e == c.args.core))
     0 (state_of c.args.k.now).limits.cores (λ e _ below.
     let most = c.lowest.ensures.most in
-    without c.args.core e (has_core c.without.result e) (has_core c.grace.result.waits e) (((state_of c.args.k.now).grace (thing_of c.args.thing)).waits e)
+    without c.args.core e (has_core c.without.result e) (has_core c.grace.result.waits e)
+    (((state_of c.args.k.now).grace (thing_of c.args.thing)).waits e)
     (c.without.ensures e (omega arith)) (ap (λ (g : Grace). g.waits e) c.grace.ensures))

@@ -30,7 +30,8 @@ pub returns : goal.returns
 returns c = λ ends.
     let fits = ends_within (state_of c.args.k.now) c.args.core c.args.r c.in_ok-range.range c.in_ok-range.ensures ends in
     let e = c.in_ok-frame.ensures.refusal fits in
-    let frame_is = found_is (first_cause (state_of c.args.k.now) c.args.core (user_causes (state_of c.args.k.now) c.in_ok-range.range c.args.f)) c.args.f c.in_ok-frame.frame e in
+    let frame_is = found_is (first_cause (state_of c.args.k.now) c.args.core
+    (user_causes (state_of c.args.k.now) c.in_ok-range.range c.args.f)) c.args.f c.in_ok-frame.frame e in
     let o = map_found (state_of c.args.k.now) c.args.core c.args.p c.args.v c.args.r c.args.f c.args.w
     c.in_ok-pages.pages c.in_ok-range.range c.in_ok-at.at c.in_ok-frame.frame
     (record {
@@ -41,5 +42,7 @@ returns c = λ ends.
     e in
     let page_is : c.new-page.result ≡ record { kind = kind.Page; frame = c.args.f; arg = c.args.w.0 } =
     c.new-page.ensures ∙ (λ i. record { kind = kind.Page; frame = frame_is i; arg = (c.from.ensures ∙ c.number.ensures) i }) in
-    carried (state_of c.args.k.now) _ (fills (state_of c.args.k.now) c.in_ok-at.at (record { kind = kind.Page; frame = c.args.f; arg = c.args.w.0 })) _ c.fill.new.k o refl
-    (subst (λ (k : Capability). Represents c.fill.new.k (changed (state_of c.args.k.now) (Found (fills (state_of c.args.k.now) c.in_ok-at.at k)))) page_is c.fill.ensures)
+    carried (state_of c.args.k.now) _ (fills (state_of c.args.k.now) c.in_ok-at.at
+    (record { kind = kind.Page; frame = c.args.f; arg = c.args.w.0 })) _ c.fill.new.k o refl
+    (subst (λ (k : Capability). Represents c.fill.new.k
+    (changed (state_of c.args.k.now) (Found (fills (state_of c.args.k.now) c.in_ok-at.at k)))) page_is c.fill.ensures)

@@ -10,6 +10,8 @@ pub returns : goal.returns
 returns c = λ ends.
     let fits = ends_within (state_of c.args.k.now) c.args.core c.args.r c.in_ok-range.range c.in_ok-range.ensures ends in
     let e = c.in_ok-frame.ensures.refusal fits in
-    let frame_is = found_is (refusal_of (state_of c.args.k.now) c.args.core (outside (found c.in_ok-range.range) c.args.f)) c.args.f c.in_ok-frame.frame e in
-    let o = in_range (state_of c.args.k.now) c.args.core c.args.r c.args.f c.in_ok-frame.frame c.args.kind c.in_ok-range.range c.in_ok-range.ensures e in
+    let frame_is = found_is (refusal_of (state_of c.args.k.now) c.args.core (outside (found c.in_ok-range.range) c.args.f))
+    c.args.f c.in_ok-frame.frame e in
+    let o = in_range (state_of c.args.k.now) c.args.core c.args.r c.args.f
+    c.in_ok-frame.frame c.args.kind c.in_ok-range.range c.in_ok-range.ensures e in
     rw (o, ← frame_is) c.retype_frame.ensures

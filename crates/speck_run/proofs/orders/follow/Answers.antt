@@ -12,7 +12,8 @@ loop-item-preserved c =
     let i = c.loop-item.invariant in
     let s = c.take.ensures in
     let so_far = take c.loop-item.item-index c.args.items.now in
-    let items = take_more c.args.items.now c.loop-item.item-index c.item-item.result c.loop-item-test.true ∙ ap (λ x. so_far ++ x ∷ []) (sym c.item-item.is) in
+    let items = take_more c.args.items.now c.loop-item.item-index c.item-item.result c.loop-item-test.true
+    ∙ ap (λ x. so_far ++ x ∷ []) (sym c.item-item.is) in
     record {
       setup = s.setup ∙ i.setup;
       lists = s.lists ∙ i.lists;

@@ -10,7 +10,8 @@ pub loop-core-preserved : goal.loop-core-preserved
 loop-core-preserved c =
     let i = c.loop-core.invariant in
     let s = c.run_out.ensures in
-    let out : RunsCoreOut c.loop-core.kernel c.run_out.new.kernel c.loop-core.core = subst (λ (k : ℕ). RunsCoreOut c.loop-core.kernel c.run_out.new.kernel k) c.new.ensures s.goes in
+    let out : RunsCoreOut c.loop-core.kernel c.run_out.new.kernel c.loop-core.core =
+    subst (λ (k : ℕ). RunsCoreOut c.loop-core.kernel c.run_out.new.kernel k) c.new.ensures s.goes in
     record {
       setup = s.setup ∙ i.setup;
       lists = s.lists ∙ i.lists;

@@ -6,4 +6,5 @@ use Rattle.speck_run.proofs.summary.sum_up.Goals as goal
 pub summarize-requires-clause-can_run : goal.summarize-requires-clause-can_run
 summarize-requires-clause-can_run c =
     let small = c.requires in
-    accepted (length c.args.bytes.now) (lists_of c.in-Ok.script.lists.items) c.in-Ok.ensures.script.limits c.in-Ok.ensures.calls (omega arith)
+    accepted (length c.args.bytes.now) (lists_of c.in-Ok.script.lists.items)
+    c.in-Ok.ensures.script.limits c.in-Ok.ensures.calls (omega arith)

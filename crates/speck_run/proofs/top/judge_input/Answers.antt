@@ -7,12 +7,14 @@ use Rattle.speck_run.proofs.top.judge_input.Goals as goal
 pub replay-requires-clause-can_run : goal.replay-requires-clause-can_run
 replay-requires-clause-can_run g c =
     let small = c.requires in
-    accepted (length c.args.bytes.now) (lists_of c.in-Ok.script.lists.items) c.in-Ok.ensures.script.limits c.in-Ok.ensures.calls (omega arith)
+    accepted (length c.args.bytes.now) (lists_of c.in-Ok.script.lists.items)
+    c.in-Ok.ensures.script.limits c.in-Ok.ensures.calls (omega arith)
 
 pub answer_run-requires-clause-can_run : goal.answer_run-requires-clause-can_run
 answer_run-requires-clause-can_run g c κs bounds =
     let small = c.requires in
-    accepted (length c.args.bytes.now) (lists_of c.in-Ok.script.lists.items) c.in-Ok.ensures.script.limits c.in-Ok.ensures.calls (omega arith)
+    accepted (length c.args.bytes.now) (lists_of c.in-Ok.script.lists.items)
+    c.in-Ok.ensures.script.limits c.in-Ok.ensures.calls (omega arith)
 
 pub plain-requires-clause-can_run : goal.plain-requires-clause-can_run
 plain-requires-clause-can_run g c =

@@ -3,20 +3,23 @@ use Rattle.speck_run.specs.declared.words.Command.TheVariants as commands
 use Rattle.speck_run.specs.declared.top.Status.TheVariants.{Stopped}
 use Rattle.byte_ends.specs.Ends.{Adds}
 use Rattle.speck_run.specs.Top.{Asked, Answers, Writes}
-use Rattle.speck_run.proofs.Due.{answers_due, answers_fault, asks_same, carried_out, completes, load_due, stops_run, summary_due, writes_due}
+use Rattle.speck_run.proofs.Due.{answers_due, answers_fault, asks_same, carried_out}
+use Rattle.speck_run.proofs.Due.{completes, load_due, stops_run, summary_due, writes_due}
 use Rattle.speck_run.proofs.top.speck.Goals as goal
 
 pub returns-in-Ok-clause-replay : goal.returns-in-Ok-clause-replay
 returns-in-Ok-clause-replay g c asks done =
     elim c.finish.ensures [
-      | inl p ↦ carried_out c.args.words.now commands.Replay asks (g.S.Source.left c.args.source.now) _ _ _ c.in-Ok.answer.status _ _ _ c.in-Ok.ensures.due (sym p.0 ∙ done) p.2
+      | inl p ↦ carried_out c.args.words.now commands.Replay asks (g.S.Source.left c.args.source.now)
+          _ _ _ c.in-Ok.answer.status _ _ _ c.in-Ok.ensures.due (sym p.0 ∙ done) p.2
       | inr p ↦ let wrong = sym p.0 ∙ done in cc
     ]
 
 pub returns-in-Ok-clause-run : goal.returns-in-Ok-clause-run
 returns-in-Ok-clause-run g c asks done =
     elim c.finish.ensures [
-      | inl p ↦ carried_out c.args.words.now commands.Run asks (g.S.Source.left c.args.source.now) _ _ _ c.in-Ok.answer.status _ _ _ c.in-Ok.ensures.due (sym p.0 ∙ done) p.2
+      | inl p ↦ carried_out c.args.words.now commands.Run asks (g.S.Source.left c.args.source.now)
+          _ _ _ c.in-Ok.answer.status _ _ _ c.in-Ok.ensures.due (sym p.0 ∙ done) p.2
       | inr p ↦ let wrong = sym p.0 ∙ done in cc
     ]
 
@@ -37,14 +40,16 @@ returns-in-Ok-clause-stopped g c stopped =
 pub returns-in-Ok-clause-plain : goal.returns-in-Ok-clause-plain
 returns-in-Ok-clause-plain g c asks done =
     elim c.finish.ensures [
-      | inl p ↦ carried_out c.args.words.now commands.Plain asks (g.S.Source.left c.args.source.now) _ _ _ c.in-Ok.answer.status _ _ _ c.in-Ok.ensures.due (sym p.0 ∙ done) p.2
+      | inl p ↦ carried_out c.args.words.now commands.Plain asks (g.S.Source.left c.args.source.now)
+          _ _ _ c.in-Ok.answer.status _ _ _ c.in-Ok.ensures.due (sym p.0 ∙ done) p.2
       | inr p ↦ let wrong = sym p.0 ∙ done in cc
     ]
 
 pub returns-in-Ok-clause-print : goal.returns-in-Ok-clause-print
 returns-in-Ok-clause-print g c asks done =
     elim c.finish.ensures [
-      | inl p ↦ carried_out c.args.words.now commands.Print asks (g.S.Source.left c.args.source.now) _ _ _ c.in-Ok.answer.status _ _ _ c.in-Ok.ensures.due (sym p.0 ∙ done) p.2
+      | inl p ↦ carried_out c.args.words.now commands.Print asks (g.S.Source.left c.args.source.now)
+          _ _ _ c.in-Ok.answer.status _ _ _ c.in-Ok.ensures.due (sym p.0 ∙ done) p.2
       | inr p ↦ let wrong = sym p.0 ∙ done in cc
     ]
 
@@ -53,14 +58,16 @@ returns-in-Ok-clause-make g c number asks done =
     let held = g.K.Sink.held c.args.sink.now in
     let held' = g.K.Sink.held c.finish.new.sink in
     elim c.finish.ensures [
-      | inl p ↦ subst (λ text. Adds text held held') (load_due c.args.words.now number asks (g.S.Source.left c.args.source.now) _ _ _ c.in-Ok.answer.status _ c.in-Ok.ensures.due).1 p.2
+      | inl p ↦ subst (λ text. Adds text held held') (load_due c.args.words.now number asks
+          (g.S.Source.left c.args.source.now) _ _ _ c.in-Ok.answer.status _ c.in-Ok.ensures.due).1 p.2
       | inr p ↦ let wrong = sym p.0 ∙ done in cc
     ]
 
 pub returns-in-Ok-clause-made : goal.returns-in-Ok-clause-made
 returns-in-Ok-clause-made g c number asks =
     elim c.finish.ensures [
-      | inl p ↦ inl (p.0 ∙ (load_due c.args.words.now number asks (g.S.Source.left c.args.source.now) _ _ _ c.in-Ok.answer.status _ c.in-Ok.ensures.due).0)
+      | inl p ↦ inl (p.0 ∙ (load_due c.args.words.now number asks
+          (g.S.Source.left c.args.source.now) _ _ _ c.in-Ok.answer.status _ c.in-Ok.ensures.due).0)
       | inr p ↦ inr (inl p.0)
     ]
 
@@ -69,7 +76,8 @@ returns-in-Ok-clause-load g c number asks done =
     elim c.finish.ensures [
       | inl p ↦ record {
         text = _;
-        is_text = (summary_due c.args.words.now number asks (g.S.Source.left c.args.source.now) _ _ _ c.in-Ok.answer.status _ c.in-Ok.ensures.due).1;
+        is_text = (summary_due c.args.words.now number asks (g.S.Source.left c.args.source.now)
+            _ _ _ c.in-Ok.answer.status _ c.in-Ok.ensures.due).1;
         written = p.2;
       }
       | inr p ↦ let wrong = sym p.0 ∙ done in cc
@@ -78,7 +86,8 @@ returns-in-Ok-clause-load g c number asks done =
 pub returns-in-Ok-clause-loaded : goal.returns-in-Ok-clause-loaded
 returns-in-Ok-clause-loaded g c number asks =
     elim c.finish.ensures [
-      | inl p ↦ inl (p.0 ∙ (summary_due c.args.words.now number asks (g.S.Source.left c.args.source.now) _ _ _ c.in-Ok.answer.status _ c.in-Ok.ensures.due).0)
+      | inl p ↦ inl (p.0 ∙ (summary_due c.args.words.now number asks
+          (g.S.Source.left c.args.source.now) _ _ _ c.in-Ok.answer.status _ c.in-Ok.ensures.due).0)
       | inr p ↦ inr (inl p.0)
     ]
 
@@ -86,7 +95,8 @@ pub returns-in-Ok-clause-answers : goal.returns-in-Ok-clause-answers
 returns-in-Ok-clause-answers g c asked =
     let left = g.S.Source.left c.args.source.now in
     elim c.finish.ensures [
-      | inl p ↦ subst (Answers left) (sym p.0) (answers_due c.args.words.now asked.command asked.asks left _ _ _ c.in-Ok.answer.status _ c.in-Ok.ensures.due)
+      | inl p ↦ subst (Answers left) (sym p.0)
+          (answers_due c.args.words.now asked.command asked.asks left _ _ _ c.in-Ok.answer.status _ c.in-Ok.ensures.due)
       | inr p ↦ answers_fault left c.finish.result (inl p.0)
     ]
 
@@ -100,9 +110,11 @@ returns-in-Ok-clause-complete g c command asks accepted gate sure_source sure_si
       faults' = g.S.Source.faults c.judge.new.source;
     } in
     let goes : c.in-Ok.answer.status ≡ Stopped → ⊥ = λ stopped.
-    c.in-Ok.ensures.free stopped (gate (asks_same c.args.words.now command commands.Run asks (stops_run asked c.in-Ok.answer.status _ c.in-Ok.ensures.due stopped).asks)) in
+    c.in-Ok.ensures.free stopped (gate (asks_same c.args.words.now command commands.Run
+    asks (stops_run asked c.in-Ok.answer.status _ c.in-Ok.ensures.due stopped).asks)) in
     elim c.finish.ensures [
-      | inl p ↦ inl (p.0 ∙ completes c.args.words.now command asks (g.S.Source.left c.args.source.now) _ _ _ c.in-Ok.answer.status _ c.in-Ok.ensures.due accepted goes sure_source)
+      | inl p ↦ inl (p.0 ∙ completes c.args.words.now command asks (g.S.Source.left c.args.source.now)
+          _ _ _ c.in-Ok.answer.status _ c.in-Ok.ensures.due accepted goes sure_source)
       | inr p ↦ absurd (sure_sink p.1)
     ]
 
@@ -119,5 +131,6 @@ returns-in-Ok-clause-writes g c =
     let held' = g.K.Sink.held c.finish.new.sink in
     elim c.finish.ensures [
       | inl p ↦ subst (Writes asked held held') (sym p.0) (writes_due asked held held' c.in-Ok.answer.status _ c.in-Ok.ensures.due p.2)
-      | inr p ↦ subst (Writes asked held held') (sym p.0) (record { status = c.in-Ok.answer.status; text = _; due = c.in-Ok.ensures.due; front = p.2 })
+      | inr p ↦ subst (Writes asked held held') (sym p.0)
+          (record { status = c.in-Ok.answer.status; text = _; due = c.in-Ok.ensures.due; front = p.2 })
     ]

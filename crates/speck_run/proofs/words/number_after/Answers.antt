@@ -10,7 +10,8 @@ pub returns-in-len2 : goal.returns-in-len2
 returns-in-len2 c =
     let words = c.args.words.now in
     let s = c.as_slice.ensures.value in
-    let two : length words.items ≡ 2 = let l = ap length s in let a = c.in-len2.len_at_least in let b = c.in-len2.len_below in omega arith in
+    let two : length words.items ≡ 2 = let l = ap length s in
+    let a = c.in-len2.len_at_least in let b = c.in-len2.len_below in omega arith in
     let first = c.word-item.is ∙ ap (λ l. get_or l 0 c.word-item.result) s in
     let second = c.number-item.is ∙ ap (λ l. get_or l 1 c.number-item.result) s in
     let test : true ≡ pointwise eqb (string_bytes c.word-item.result) c.args.name.now =

@@ -6,4 +6,5 @@ use Rattle.table_report.specs.Shown.{qualities_shown, words_of}
 use Rattle.table_report.proofs.objects.push_qualities.Given as goal
 
 abbrev pub invariant-pairs : goal.invariant-pairs
-invariant-pairs l = string_bytes l.text ≡ string_bytes l.initial.text ++ flat_map quality_line (qualities_shown (words_of l.layout l.words l.frame) l.place)
+invariant-pairs l = string_bytes l.text ≡ string_bytes l.initial.text
+    ++ flat_map quality_line (qualities_shown (words_of l.layout l.words l.frame) l.place)

@@ -10,7 +10,9 @@ cores-init c = record { sum = sym (sum_none _); most = omega arith }
 
 pub cores-preserved : goal.cores-preserved
 cores-preserved c =
-    let e : (core_shown_at c.args.ends.now c.cores.core).spent ≡ c.index-ends-core.result.spent = ap (λ e. (core_shown e).spent) (ends_read c.args.ends.now c.cores.core c.index-ends-core.result (omega arith) c.index-ends-core.is) in
+    let e : (core_shown_at c.args.ends.now c.cores.core).spent ≡ c.index-ends-core.result.spent =
+    ap (λ e. (core_shown e).spent)
+    (ends_read c.args.ends.now c.cores.core c.index-ends-core.result (omega arith) c.index-ends-core.is) in
     let m = sum_more (λ k. (core_shown_at c.args.ends.now k).spent) c.cores.core in
     let r = ap (λ e. e.spent) c.index-ends-core.is in
     record { sum = omega (arith, m, e, r, c.from-sum.ensures); most = omega (arith, c.index-ends-core.element_fits, c.from-sum.ensures) }

@@ -1,4 +1,5 @@
-use Rattle.std.proofs.Common.{rules, arith, ◌≡◌, ◌≢◌, ◌<◌, ℕ, zero, suc, List, [], ◌∷◌, length, get_or, set, sym, ◌∙◌, length-set, get_or-set_other, get_or-set_same, below_more}
+use Rattle.std.proofs.Common.{rules, arith, ◌≡◌, ◌≢◌, ◌<◌, ℕ, zero, suc, List, [], ◌∷◌, length, get_or}
+use Rattle.std.proofs.Common.{set, sym, ◌∙◌, length-set, get_or-set_other, get_or-set_same, below_more}
 use mathlib.Core.Option.{some, some-injective, some-ne-none}
 use lib.ListN.{get_elem?}
 use Rattle.std.specs.Slots.{slots_items, slots_counts}

@@ -4,7 +4,8 @@ use Rattle.load_maker.proofs.draws.Draws.below.Goals as goal
 
 pub returns-clause-value : goal.returns-clause-value
 unfolding below
-returns-clause-value c = ap (λ k. (c.behind-self.result / 8589934592) % k) c.from.ensures ∙ ap (λ k. (k / 8589934592) % c.args.most) c.behind-self.ensures
+returns-clause-value c = ap (λ k. (c.behind-self.result / 8589934592) % k) c.from.ensures
+    ∙ ap (λ k. (k / 8589934592) % c.args.most) c.behind-self.ensures
 
 pub returns-clause-goes_on : goal.returns-clause-goes_on
 unfolding below

@@ -3,7 +3,8 @@ use Rattle.std.proofs.lemmas.List.{length-append}
 use Rattle.kernel_history.specs.Trace.{decision_at}
 use Rattle.core_invariant.specs.Events.{decided_in}
 use Rattle.lone_kernel.specs.declared.seats.Seat.{Seat}
-use Rattle.lone_kernel.specs.Machine.{Machine, seat_at, core_at, list_at, IsFit, IsFitSeat, IsFinished, stepped, turn_at, turn_of, seat_after, found_by, decisions_in}
+use Rattle.lone_kernel.specs.Machine.{Machine, seat_at, core_at, list_at, IsFit, IsFitSeat, IsFinished}
+use Rattle.lone_kernel.specs.Machine.{stepped, turn_at, turn_of, seat_after, found_by, decisions_in}
 use Rattle.lone_kernel.specs.Moves.{StepsOnce}
 use Rattle.lone_kernel.proofs.OneStep.{list_is, seat_is, turn_here, fit_here, calls_here, takes_here, stepped_is, fits_behind, fewer_behind}
 use Rattle.lone_kernel.proofs.Fits.{IsOf, turn_is, fits_on, due_on, further, one_decision, count_decided, undecided_due}

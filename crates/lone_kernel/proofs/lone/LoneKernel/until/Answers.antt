@@ -2,7 +2,8 @@ use Rattle.std.proofs.Common.{◌<◌, ◌∙◌, inl, refl, ap, sym, arith, sub
 use Rattle.std.proofs.lemmas.Bool.{false≢true}
 use Rattle.spk_nums.specs.Setting.{IsSetting}
 use Rattle.lone_kernel.specs.Machine.{IsThere, IsInCall}
-use Rattle.lone_kernel.proofs.Runs.{begins_in_call, short_none, short_more, open_first, open_after, inside_after, there_at_last, works_on, counted_more}
+use Rattle.lone_kernel.proofs.Runs.{begins_in_call, short_none, short_more, open_first, open_after}
+use Rattle.lone_kernel.proofs.Runs.{inside_after, there_at_last, works_on, counted_more}
 use Rattle.lone_kernel.proofs.lone.LoneKernel.until.Goals as goal
 
 pub going-init : goal.going-init

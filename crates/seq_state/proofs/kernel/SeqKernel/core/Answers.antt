@@ -10,4 +10,5 @@ standing-requires c =
     c.self.invariant.cores c.from.result (omega arith)
 
 pub returns : goal.returns
-returns c = rw (← c.self.view_is) (maps.core_reads (maps_of c.self.inside) c.args.core c.from.result c.standing.result.now (omega arith) c.standing.ensures)
+returns c = rw (← c.self.view_is)
+    (maps.core_reads (maps_of c.self.inside) c.args.core c.from.result c.standing.result.now (omega arith) c.standing.ensures)

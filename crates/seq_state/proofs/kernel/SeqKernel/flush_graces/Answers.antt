@@ -6,5 +6,6 @@ use Rattle.seq_state.proofs.kernel.SeqKernel.flush_graces.Goals as goal
 pub returns : goal.returns
 returns c =
     rw (← c.self.view_is)
-    (all_become (maps_of c.self.inside) (without_flush c.args.core) c.flush_below.new.map.entries c.flush_below-2.new.map.entries c.flush_below-3.new.map.entries c.self.invariant
+    (all_become (maps_of c.self.inside) (without_flush c.args.core) c.flush_below.new.map.entries
+    c.flush_below-2.new.map.entries c.flush_below-3.new.map.entries c.self.invariant
     c.flush_below.ensures c.flush_below-2.ensures c.flush_below-3.ensures)

@@ -9,6 +9,8 @@ each-init c = record { count = sum_none _; most = omega arith }
 
 pub each-preserved : goal.each-preserved
 each-preserved c = record {
-  count = counted (λ d. times c.args.frame (core_names ((state_of c.args.self.now).core d))) c.each.core c.new.result c.each.count c.refs_in_core-count.result c.each.invariant.count c.new.ensures (c.refs_in_core-count.ensures.count ∙ ap (λ x. times c.args.frame (core_names x)) c.core.ensures);
+  count = counted (λ d. times c.args.frame (core_names ((state_of c.args.self.now).core d))) c.each.core c.new.result c.each.count
+      c.refs_in_core-count.result c.each.invariant.count c.new.ensures
+      (c.refs_in_core-count.ensures.count ∙ ap (λ x. times c.args.frame (core_names x)) c.core.ensures);
   most = omega arith;
 }

@@ -9,6 +9,8 @@ each-init c = record { count = sum_none _; most = omega arith }
 
 pub each-preserved : goal.each-preserved
 each-preserved c = record {
-  count = counted (λ l. times c.args.frame (number_names ((state_of c.args.self.now).number l))) c.each.number c.each.number c.each.count c.refs_in_number-count.result c.each.invariant.count refl (c.refs_in_number-count.ensures.count ∙ ap (λ x. times c.args.frame (number_names x)) c.number.ensures);
+  count = counted (λ l. times c.args.frame (number_names ((state_of c.args.self.now).number l))) c.each.number c.each.number c.each.count
+      c.refs_in_number-count.result c.each.invariant.count refl
+      (c.refs_in_number-count.ensures.count ∙ ap (λ x. times c.args.frame (number_names x)) c.number.ensures);
   most = omega arith;
 }

@@ -9,6 +9,7 @@ each-init c = record { count = sum_none _; most = omega arith }
 
 pub each-preserved : goal.each-preserved
 each-preserved c = record {
-  count = counted (node_refs (state_of c.args.self.now) c.args.frame) c.each.node c.new.result c.each.count c.refs_of_node-count.result c.each.invariant.count c.new.ensures (c.refs_of_node-count.ensures.count);
+  count = counted (node_refs (state_of c.args.self.now) c.args.frame) c.each.node c.new.result c.each.count
+      c.refs_of_node-count.result c.each.invariant.count c.new.ensures (c.refs_of_node-count.ensures.count);
   most = omega arith;
 }

@@ -8,5 +8,6 @@ pub returns : goal.returns
 returns c =
     let e = ap (λ (l : Limits). l.cores) (maps.limits_of c.args.self.now (maps_of c.self.inside) c.self.view_is) in
     let stands = c.self.invariant.cores c.from.result (omega arith) in
-    rw (← c.self.view_is) (maps.cores_written (maps_of c.self.inside) c.write_at.new.map.entries c.args.core c.from.result c.args.value (omega arith)
+    rw (← c.self.view_is)
+    (maps.cores_written (maps_of c.self.inside) c.write_at.new.map.entries c.args.core c.from.result c.args.value (omega arith)
     (record { here = c.write_at.ensures.here stands; others = c.write_at.ensures.others }))

@@ -7,11 +7,14 @@ use Rattle.seq_state.proofs.kernel.SeqKernel.set_place.Goals as goal
 
 pub returns-clause-machine : goal.returns-clause-machine
 returns-clause-machine c =
-    rw (← c.self.view_is) (sets.places_set (maps_of c.self.inside) c.write_at.new.map.entries c.args.node c.args.index c.place_key.result c.args.place c.self.invariant c.requires c.place_key.ensures (record { here = c.write_at.ensures.here; others = c.write_at.ensures.others }))
+    rw (← c.self.view_is) (sets.places_set (maps_of c.self.inside) c.write_at.new.map.entries c.args.node c.args.index c.place_key.result
+    c.args.place c.self.invariant c.requires c.place_key.ensures
+    (record { here = c.write_at.ensures.here; others = c.write_at.ensures.others }))
 
 pub returns-clause-exact : goal.returns-clause-exact
 returns-clause-exact c = λ below.
     let e = ap (λ (l : Limits). l.frames) (maps.limits_of c.args.self.now (maps_of c.self.inside) c.self.view_is) in
     let stands = c.self.invariant.places c.place_key.result (omega arith) in
-    rw (← c.self.view_is) (maps.places_written (maps_of c.self.inside) c.write_at.new.map.entries c.args.node c.args.index c.place_key.result c.args.place c.requires c.place_key.ensures
+    rw (← c.self.view_is) (maps.places_written (maps_of c.self.inside) c.write_at.new.map.entries
+    c.args.node c.args.index c.place_key.result c.args.place c.requires c.place_key.ensures
     (record { here = c.write_at.ensures.here stands; others = c.write_at.ensures.others }))

@@ -13,6 +13,14 @@ returns-clause-fits c = λ goes.
     let w = c.args.self.now in
     let found = c.args.found in
     let ends : c.end.result ≡ sweep_end s w found = search rules in
-    let new : Sweep = record { frame = c.keep.new.self.frame; word = c.keep.new.self.word; core = c.keep.new.self.core; kept = c.keep.new.self.kept; owned = c.owned_at-self.result; at = c.at_after-self.result } in
+    let new : Sweep = record {
+      frame = c.keep.new.self.frame;
+      word = c.keep.new.self.word;
+      core =
+          c.keep.new.self.core;
+      kept = c.keep.new.self.kept;
+      owned = c.owned_at-self.result;
+      at = c.at_after-self.result;
+    } in
     let after : new ≡ sweep_after s w found = search rules in
     rw after (sweep_after_fits s w found (sym ends ∙ goes) c.requires)

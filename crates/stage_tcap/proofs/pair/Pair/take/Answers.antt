@@ -19,6 +19,17 @@ after-self-requires-clause-b c = rw c.note.ensures (head_b_fits c.args.self.now.
 pub returns-clause-fits : goal.returns-clause-fits
 returns-clause-fits c =
     let p = c.args.self.now in
-    let new : Pair = record { a = c.note.new.self.a; b = c.note.new.self.b; what = c.note.new.self.what; core = c.note.new.self.core; head_a = c.note.new.self.head_a; head_b = c.note.new.self.head_b; list_a = c.note.new.self.list_a; list_b = c.note.new.self.list_b; at = c.after-self.result } in
+    let new : Pair = record {
+      a = c.note.new.self.a;
+      b = c.note.new.self.b;
+      what = c.note.new.self.what;
+      core = c.note.new.self.core;
+      head_a = c.note.new.self.head_a;
+      head_b = c.note.new.self.head_b;
+      list_a =
+          c.note.new.self.list_a;
+      list_b = c.note.new.self.list_b;
+      at = c.after-self.result;
+    } in
     let after : new ≡ pair_after p c.args.found = search rules in
     rw after (pair_after_fits c.args._layout.now p c.args.found c.requires)

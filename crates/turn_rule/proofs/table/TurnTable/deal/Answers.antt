@@ -13,7 +13,9 @@ use Rattle.turn_rule.proofs.table.TurnTable.deal.Goals as goal
 
 pub split_seat-seat-requires : goal.split_seat-seat-requires
 split_seat-seat-requires g c =
-    let turn = YieldsList-turn (YieldsList-from_vec {s = c.into_iter-program-iterator.result} c.args.programs.items (search rules) (search rules)) c.loop-program.yielded c.loop-program.program-iterator c.loop-program.yielded_by c.next.result c.next.new.self c.in-Some.program c.in-Some.is c.next.ensures.steps in
+    let turn = YieldsList-turn (YieldsList-from_vec {s = c.into_iter-program-iterator.result} c.args.programs.items (search rules)
+    (search rules)) c.loop-program.yielded c.loop-program.program-iterator c.loop-program.yielded_by
+    c.next.result c.next.new.self c.in-Some.program c.in-Some.is c.next.ensures.steps in
     let i = c.loop-program.invariant in
     let F : Part g.row.P.Denot g.row.P-Call.Denot → Type 0 = λ v. v.from < v.to in
     let some_core : F c.loop-program.rest.me.0.own = subst F (sym i.rest) turn.0 in
@@ -21,7 +23,9 @@ split_seat-seat-requires g c =
 
 pub invariant_of-push : goal.invariant_of-push
 invariant_of-push g c =
-    let turn = YieldsList-turn (YieldsList-from_vec {s = c.into_iter-program-iterator.result} c.args.programs.items (search rules) (search rules)) c.loop-program.yielded c.loop-program.program-iterator c.loop-program.yielded_by c.next.result c.next.new.self c.in-Some.program c.in-Some.is c.next.ensures.steps in
+    let turn = YieldsList-turn (YieldsList-from_vec {s = c.into_iter-program-iterator.result} c.args.programs.items (search rules)
+    (search rules)) c.loop-program.yielded c.loop-program.program-iterator c.loop-program.yielded_by
+    c.next.result c.next.new.self c.in-Some.program c.in-Some.is c.next.ensures.steps in
     let i = c.loop-program.invariant in
     let T = g.P.CoreProgram.steps in
     let start = c.args.self.now.start in
@@ -38,7 +42,9 @@ invariant_of-push g c =
 
 pub loop-program-preserved : goal.loop-program-preserved
 loop-program-preserved g c =
-    let turn = YieldsList-turn (YieldsList-from_vec {s = c.into_iter-program-iterator.result} c.args.programs.items (search rules) (search rules)) c.loop-program.yielded c.loop-program.program-iterator c.loop-program.yielded_by c.next.result c.next.new.self c.in-Some.program c.in-Some.is c.next.ensures.steps in
+    let turn = YieldsList-turn (YieldsList-from_vec {s = c.into_iter-program-iterator.result} c.args.programs.items (search rules)
+    (search rules)) c.loop-program.yielded c.loop-program.program-iterator c.loop-program.yielded_by
+    c.next.result c.next.new.self c.in-Some.program c.in-Some.is c.next.ensures.steps in
     let i = c.loop-program.invariant in
     let ps = c.args.programs.items in
     let n : ℕ = length c.loop-program.yielded in
@@ -64,7 +70,9 @@ loop-program-preserved g c =
 
 pub returns-clause-seats : goal.returns-clause-seats
 returns-clause-seats g c =
-    let end = YieldsList-end (YieldsList-from_vec {s = c.into_iter-program-iterator.result} c.args.programs.items (search rules) (search rules)) c.loop-program.yielded c.loop-program.program-iterator c.loop-program.yielded_by c.next.result c.next.new.self c.in-None.is c.next.ensures.steps in
+    let end = YieldsList-end (YieldsList-from_vec {s = c.into_iter-program-iterator.result} c.args.programs.items (search rules)
+    (search rules)) c.loop-program.yielded c.loop-program.program-iterator
+    c.loop-program.yielded_by c.next.result c.next.new.self c.in-None.is c.next.ensures.steps in
     let i = c.loop-program.invariant in record {
       count = i.count ∙ ap length (sym (map-id c.loop-program.yielded) ∙ end.0) ∙ ap length (sym c.requires.table.1);
       table = λ k s e. (i.seats k s e).0;

@@ -13,7 +13,9 @@ use Rattle.turn_rule.proofs.table.TurnTable.gather.Goals as goal
 
 pub join_seat-requires : goal.join_seat-requires
 join_seat-requires g c =
-    let turn = YieldsList-turn (YieldsList-from_vec {s = c.into_iter-one-iterator.result} c.args.seats.items (search rules) (search rules)) c.loop-one.yielded c.loop-one.one-iterator c.loop-one.yielded_by c.next.result c.next.new.self c.in-Some.one c.in-Some.is c.next.ensures.steps in
+    let turn = YieldsList-turn (YieldsList-from_vec {s = c.into_iter-one-iterator.result} c.args.seats.items (search rules) (search rules))
+    c.loop-one.yielded c.loop-one.one-iterator c.loop-one.yielded_by c.next.result
+    c.next.new.self c.in-Some.one c.in-Some.is c.next.ensures.steps in
     let here = slice_get_read c.args.seats.items (length c.args.seats.items) (length c.loop-one.yielded) c.in-Some.one refl turn.0 turn.1 in
     let id = sym (ap (λ t. t.id) c.self.view_is) in (
       c.loop-one.invariant.table ∙ c.requires.table.0 ∙ id,
@@ -25,7 +27,9 @@ join_seat-requires g c =
 
 pub load-requires : goal.load-requires
 load-requires g c =
-    let turn = YieldsList-turn (YieldsList-from_vec {s = c.into_iter-one-iterator.result} c.args.seats.items (search rules) (search rules)) c.loop-one.yielded c.loop-one.one-iterator c.loop-one.yielded_by c.next.result c.next.new.self c.in-Some.one c.in-Some.is c.next.ensures.steps in
+    let turn = YieldsList-turn (YieldsList-from_vec {s = c.into_iter-one-iterator.result} c.args.seats.items (search rules) (search rules))
+    c.loop-one.yielded c.loop-one.one-iterator c.loop-one.yielded_by c.next.result
+    c.next.new.self c.in-Some.one c.in-Some.is c.next.ensures.steps in
     let here = slice_get_read c.args.seats.items (length c.args.seats.items) (length c.loop-one.yielded) c.in-Some.one refl turn.0 turn.1 in
     let is = c.join_seat.ensures.2 in
     let i = c.loop-one.invariant in
@@ -44,7 +48,9 @@ loop-one-preserved g c =
     let Value : Type 0 = SeatValue g.row.P.Denot g.row.P-Call.Denot in
     let T = g.P.CoreProgram.steps in
     let start = c.args.self.now.start in
-    let turn = YieldsList-turn (YieldsList-from_vec {s = c.into_iter-one-iterator.result} c.args.seats.items (search rules) (search rules)) c.loop-one.yielded c.loop-one.one-iterator c.loop-one.yielded_by c.next.result c.next.new.self c.in-Some.one c.in-Some.is c.next.ensures.steps in
+    let turn = YieldsList-turn (YieldsList-from_vec {s = c.into_iter-one-iterator.result} c.args.seats.items (search rules) (search rules))
+    c.loop-one.yielded c.loop-one.one-iterator c.loop-one.yielded_by c.next.result
+    c.next.new.self c.in-Some.one c.in-Some.is c.next.ensures.steps in
     let n : ℕ = length c.loop-one.yielded in
     let one = c.in-Some.one in
     let here = slice_get_read c.args.seats.items (length c.args.seats.items) n one refl turn.0 turn.1 in
@@ -55,7 +61,8 @@ loop-one-preserved g c =
     let core = ap (λ z. z.core) c.one.view_is ∙ c.requires.seats.core _ _ here in
     let got : Gathers T v w w.to x = subst (λ (z : View g.row.P.Denot g.row.P-Call.Denot). Gathers T z.own z.told z.told.to x)
     (ap (λ z. z.0) c.join_seat.ensures.2) c.load.ensures.2.0 in
-    let all = gathered_on T c.one.inside.seat.table_id.words c.one.inside.core n c.args.all.now.me.0.own v c.one.inside.seat.me x c.one.inside.program c.requires.table.1 i.all c.one.invariant core got in
+    let all = gathered_on T c.one.inside.seat.table_id.words c.one.inside.core n c.args.all.now.me.0.own
+    v c.one.inside.seat.me x c.one.inside.program c.requires.table.1 i.all c.one.invariant core got in
     let more = length_push c.loop-one.yielded one in
     let count = i.count in
     let low = i.all.from ∙ c.requires.table.1 in

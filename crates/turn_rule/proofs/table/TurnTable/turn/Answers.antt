@@ -6,7 +6,9 @@ pub invariant_of-seat : goal.invariant_of-seat
 invariant_of-seat g c =
     let seat = c.seat.inside in
     let make = c.make-found in
-    seated_on g.P.CoreProgram.steps seat.seat.table_id.words _ seat.core seat.seat.me make.new.seat.me seat.program _ None c.in-Some.op make.result c.seat.invariant tt (sym c.next_op.ensures.next ∙ c.in-Some.is) make.ensures.goes.0 make.ensures.goes.1 c.absorb.ensures.after
+    seated_on g.P.CoreProgram.steps seat.seat.table_id.words _ seat.core seat.seat.me make.new.seat.me seat.program _ None c.in-Some.op
+    make.result c.seat.invariant tt (sym c.next_op.ensures.next ∙ c.in-Some.is)
+    make.ensures.goes.0 make.ensures.goes.1 c.absorb.ensures.after
     (c.absorb.ensures.size ∙ c.seat.invariant.size ∙ sym (ap (λ z. z.words) make.ensures.table))
 
 pub returns-in-Some-clause-follows : goal.returns-in-Some-clause-follows
