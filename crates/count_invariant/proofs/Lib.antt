@@ -1,5 +1,6 @@
 -- Acquiring and committing.
 pub mod ActBares
+pub mod DueLists
 pub mod Acquiring
 pub mod ActHolds
 -- What a decision makes of the counts acquired.
