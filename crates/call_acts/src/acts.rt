@@ -507,6 +507,7 @@ fn maps_word(fill: &Fill, shown: Option<FrameWord>) -> WorkStep
     }
 }
 
+// What that load leads to, where the word shows a frame.
 #[inline]
 fn maps_frame(fill: &Fill, shown: &FrameWord) -> WorkStep
     ensures { result ≡ maps_frame fill.now shown.now.kind shown.now.mark }
@@ -598,6 +599,7 @@ fn made_begun(
         ),
     }
 }
+
 // A component is made in a frame of the range to which the first name has led, with the table and the pages of the third and the fourth.
 #[inline]
 fn comps_at(own: &Own, live: u8, found: &Caps, frame: FrameArg, target: &Option<Found>) -> WorkStep
@@ -616,6 +618,7 @@ fn comps_at(own: &Own, live: u8, found: &Caps, frame: FrameArg, target: &Option<
         _ => refuse(Refusal::Raced),
     }
 }
+
 // A component with this table and these pages is made in a frame, where the range has it, after a scan where the target is quiescing.
 #[inline]
 fn comps_in(

@@ -35,7 +35,7 @@ use spk_nums::{EntryNo, FrameKind, FrameNo, Obj, StageEnd, Value, WordOp};
 use stage_quiet::Quiet;
 use word_map::Layout;
 
-/// The next step. What it names is of the layout's machine.
+/// The next step of the making of a component. What it names is of the layout's machine.
 #[inline]
 pub(crate) fn comp_op(making: &CompMaking, layout: &Layout) -> WordOp
     requires { CompMakingFits layout.now making.now }
@@ -76,10 +76,10 @@ pub(crate) fn comp_op(making: &CompMaking, layout: &Layout) -> WordOp
     }
 }
 
-/// Takes the word that the step found: a frame that another core has marked is `busy`, one that is no blank kernel frame
-/// `frame-kind`. A number that another core is closing is `busy`, one that is live `occupied`, one that a core in a call
-/// that it entered before its death may still use `quiescing`, and one that was live in each epoch `epochs-spent`. A lost
-/// compare is `raced`. After the mark the counts are acquired. The layout is that of the machine.
+/// What the making of a component takes from the word that its step found: a frame that another core has marked is `busy`, one that is no
+/// blank kernel frame `frame-kind`. A number that another core is closing is `busy`, one that is live `occupied`, one that a core in a call
+/// that it entered before its death may still use `quiescing`, and one that was live in each epoch `epochs-spent`. A lost compare is
+/// `raced`. After the mark the counts are acquired. The layout is that of the machine.
 #[inline]
 pub(crate) fn comp_took(making: &CompMaking, layout: &Layout, found: u64) -> WorkStep
     requires { CompMakingFits layout.now making.now }
@@ -100,7 +100,7 @@ pub(crate) fn comp_took(making: &CompMaking, layout: &Layout, found: u64) -> Wor
     }
 }
 
-/// Whether the next step is the compare of the target.
+/// Whether the next step of the making of a component is the compare of the target.
 #[inline]
 pub(crate) fn comp_ready(making: &CompMaking) -> bool
     ensures { result ≡ comp_filling making.now.at }
@@ -200,6 +200,7 @@ fn meets(making: &CompMaking, word: u64, shown: Option<FrameWord>) -> WorkStep
     }
 }
 
+// What that load leads to, where the word shows a frame.
 #[inline]
 fn meets_frame(making: &CompMaking, word: u64, shown: &FrameWord) -> WorkStep
     ensures { result ≡ comp_meets_blank making.now word shown.now.kind shown.now.object shown.now.mark }
@@ -239,6 +240,7 @@ fn meets_live(making: &CompMaking, word: u64, live: u64, shown: Option<LiveWord>
     }
 }
 
+// What that load leads to, where the word shows a number.
 #[inline]
 fn meets_number(making: &CompMaking, word: u64, live: u64, shown: &LiveWord) -> WorkStep
     requires core { making.now.core < making.now.cores }

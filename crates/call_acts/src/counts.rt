@@ -97,6 +97,7 @@ fn comp_due(making: &CompMaking, n: u8) -> Option<Due>
     }
 }
 
+// The count of this number that changes where a component is made in a frame that is marked.
 #[inline]
 fn comp_due_at(making: &CompMaking, n: u8) -> Option<Due>
     ensures { result ≡ slice_get (comp_due_list making.now) n }

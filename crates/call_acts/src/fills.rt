@@ -16,7 +16,7 @@ use entry_words::Entry;
 use spk_nums::{Cap, Value, WordOp};
 use word_map::Layout;
 
-/// The next step: the place's word is compared with the one found. The node and the frames of what it is to hold are
+/// The next step of a filling: the place's word is compared with the one found. The node and the frames of what it is to hold are
 /// below the layout's.
 #[inline]
 pub(crate) fn fill_op(fill: &Fill, layout: &Layout) -> WordOp
@@ -31,7 +31,7 @@ pub(crate) fn fill_op(fill: &Fill, layout: &Layout) -> WordOp
     }
 }
 
-/// Takes the word that the compare found: the call is carried out where it is the one expected, and else `raced`.
+/// What a filling takes from the word that its compare found: the call is carried out where it is the one expected, and else `raced`.
 #[inline]
 pub(crate) fn fill_took(fill: &Fill, found: u64) -> WorkStep
     ensures { result ≡ took_fill fill.now found }

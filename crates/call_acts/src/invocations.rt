@@ -33,7 +33,7 @@ use stage_thread::{Pop, Push};
 use tcap_words::StackWord;
 use word_map::Layout;
 
-/// The next step. What it names is of the layout's machine.
+/// The next step of an entering. What it names is of the layout's machine.
 #[inline]
 pub(crate) fn invoking_op(invoking: &Invoking, layout: &Layout) -> WordOp
     requires { InvokingFits layout.now invoking.now }
@@ -60,9 +60,9 @@ pub(crate) fn invoking_op(invoking: &Invoking, layout: &Layout) -> WordOp
     }
 }
 
-/// Takes the word that the step found. After the loads of the component's words the count of its frame is acquired. The load of the
-/// number's word carries the call out where the number is live in the gate's epoch; a number that another core is closing is `busy`,
-/// and else the component is `dead`. A word that is none of its place is `raced`. What it names is of the layout's machine.
+/// What an entering takes from the word that its step found. After the loads of the component's words the count of its frame is acquired.
+/// The load of the number's word carries the call out where the number is live in the gate's epoch; a number that another core is closing
+/// is `busy`, and else the component is `dead`. A word that is none of its place is `raced`. What it names is of the layout's machine.
 #[inline]
 pub(crate) fn invoking_took(invoking: &Invoking, layout: &Layout, found: u64) -> WorkStep
     requires { InvokingFits layout.now invoking.now }
@@ -84,7 +84,7 @@ pub(crate) fn invoking_took(invoking: &Invoking, layout: &Layout, found: u64) ->
     }
 }
 
-/// Whether the next step is the load of the number's word.
+/// Whether the next step of an entering is the load of the number's word.
 #[inline]
 pub(crate) fn invoking_ready(invoking: &Invoking) -> bool
     ensures { result ≡ is_entering invoking.now.at }
@@ -169,6 +169,7 @@ fn enters_live(
     }
 }
 
+// What that load leads to, where the word shows a number.
 #[inline]
 fn enters_number(invoking: &Invoking, table: FrameNo, pages: FrameNo, shown: &LiveWord) -> WorkStep
     ensures { result ≡ enters_number invoking.now table pages shown.now }
@@ -183,6 +184,7 @@ fn enters_number(invoking: &Invoking, table: FrameNo, pages: FrameNo, shown: &Li
     }
 }
 
+// The component is entered where it lives in the gate's epoch, and is dead else.
 #[inline]
 fn enters_if(invoking: &Invoking, table: FrameNo, pages: FrameNo, lives: bool) -> WorkStep
     ensures { result ≡ enters_if invoking.now table pages lives }
@@ -211,7 +213,7 @@ fn enters_if(invoking: &Invoking, table: FrameNo, pages: FrameNo, lives: bool) -
     }
 }
 
-/// The next step. What it names is of the layout's machine.
+/// The next step of a leaving. What it names is of the layout's machine.
 #[inline]
 pub(crate) fn returning_op(returning: &Returning, layout: &Layout) -> WordOp
     requires { ReturningFits layout.now returning.now }
@@ -242,8 +244,8 @@ pub(crate) fn returning_op(returning: &Returning, layout: &Layout) -> WordOp
     }
 }
 
-/// Takes the word that the step found. After the loads the count of the top's frame is acquired. The draw carries the call out, with
-/// the clock found as its stamp. A word that is none of its place is `raced`. What it names is of the layout's machine.
+/// What a leaving takes from the word that its step found. After the loads the count of the top's frame is acquired. The draw carries the
+/// call out, with the clock found as its stamp. A word that is none of its place is `raced`. What it names is of the layout's machine.
 #[inline]
 pub(crate) fn returning_took(returning: &Returning, layout: &Layout, found: u64) -> WorkStep
     requires { ReturningFits layout.now returning.now }
@@ -263,7 +265,7 @@ pub(crate) fn returning_took(returning: &Returning, layout: &Layout, found: u64)
     }
 }
 
-/// Whether the next step draws the stamp.
+/// Whether the next step of a leaving draws the stamp.
 #[inline]
 pub(crate) fn returning_ready(returning: &Returning) -> bool
     ensures { result ≡ is_leaving returning.now.at }
@@ -404,6 +406,7 @@ fn invokes_in(own: &Own, kind: Kind, comp: FrameNo, epoch: u32) -> WorkStep
     }
 }
 
+// The component is entered, unless the stack is full.
 #[inline]
 fn invokes_if(deep: bool, own: &Own, comp: FrameNo, epoch: u32) -> WorkStep
     ensures { result ≡ invokes_if deep own.now comp epoch }
@@ -437,6 +440,7 @@ pub(crate) fn returns_at(own: &Own) -> WorkStep
     returns_if(own.depth <= 1, own)
 }
 
+// The component is left, unless it is at the bottom.
 #[inline]
 fn returns_if(bottom: bool, own: &Own) -> WorkStep
     ensures { result ≡ returns_if bottom own.now }

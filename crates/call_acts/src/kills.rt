@@ -27,7 +27,7 @@ use spk_nums::{CoreNo, EntryNo, Stamp, Value, WordOp};
 use stage_quiet::drawn;
 use word_map::Layout;
 
-/// The next step. What it names is of the layout's machine.
+/// The next step of a killing. What it names is of the layout's machine.
 #[inline]
 pub(crate) fn killing_op(killing: &Killing, layout: &Layout) -> WordOp
     requires { KillingFits layout.now killing.now }
@@ -53,9 +53,9 @@ pub(crate) fn killing_op(killing: &Killing, layout: &Layout) -> WordOp
     }
 }
 
-/// Takes the word that the step found: a number that another core is closing is `busy`, one that is not live in the component's epoch
-/// `dead`. A lost compare is `raced`. After the load of the number's word the count of the component's frame is acquired. The draw
-/// carries the call out, with the clock found as its stamp.
+/// What a killing takes from the word that its step found: a number that another core is closing is `busy`, one that is not live in the
+/// component's epoch `dead`. A lost compare is `raced`. After the load of the number's word the count of the component's frame is acquired.
+/// The draw carries the call out, with the clock found as its stamp.
 #[inline]
 pub(crate) fn killing_took(killing: &Killing, found: u64) -> WorkStep
     ensures { result ≡ took_killing killing.now found }
@@ -78,7 +78,7 @@ pub(crate) fn killing_took(killing: &Killing, found: u64) -> WorkStep
     }
 }
 
-/// Whether the next step draws the stamp.
+/// Whether the next step of a killing draws the stamp.
 #[inline]
 pub(crate) fn killing_ready(killing: &Killing) -> bool
     ensures { result ≡ is_killing killing.now.at }
@@ -122,6 +122,7 @@ fn meets_live(killing: &Killing, life: CompWord, word: u64, shown: Option<LiveWo
     }
 }
 
+// What that load leads to, where the word shows a number.
 #[inline]
 fn meets_number(killing: &Killing, life: CompWord, word: u64, shown: &LiveWord) -> WorkStep
     ensures { result ≡ meets_number killing.now life word shown.now }
@@ -136,6 +137,7 @@ fn meets_number(killing: &Killing, life: CompWord, word: u64, shown: &LiveWord) 
     }
 }
 
+// The number is closed next where the component lives, after its frame's count is acquired; else the component is dead.
 #[inline]
 fn meets_life(killing: &Killing, life: CompWord, word: u64, lives: bool) -> WorkStep
     ensures { result ≡ meets_life killing.now life word lives }

@@ -25,7 +25,7 @@ use frame_words::FrameWord;
 use spk_nums::{CoreNo, EntryNo, FrameKind, Obj, Value, WordOp};
 use word_map::Layout;
 
-/// The next step. What it names is of the layout's machine.
+/// The next step of a making. What it names is of the layout's machine.
 #[inline]
 pub(crate) fn making_op(making: &Making, layout: &Layout) -> WordOp
     requires { MakingFits layout.now making.now }
@@ -49,7 +49,7 @@ pub(crate) fn making_op(making: &Making, layout: &Layout) -> WordOp
     }
 }
 
-/// Takes the word that the step found: a frame that another core has marked is `busy`, one that is no blank kernel frame
+/// What a making takes from the word that its step found: a frame that another core has marked is `busy`, one that is no blank kernel frame
 /// `frame-kind`. A lost compare is `raced`. After the mark the object's counts are acquired.
 #[inline]
 pub(crate) fn making_took(making: &Making, found: u64) -> WorkStep
@@ -82,7 +82,7 @@ pub(crate) fn making_took(making: &Making, found: u64) -> WorkStep
     }
 }
 
-/// Whether the next step is the compare of the target.
+/// Whether the next step of a making is the compare of the target.
 #[inline]
 pub(crate) fn making_ready(making: &Making) -> bool
     ensures { result ≡ is_filling making.now.at }
@@ -130,6 +130,7 @@ fn meets(making: &Making, word: u64, shown: Option<FrameWord>) -> WorkStep
     }
 }
 
+// What the load leads to, where the word shows a frame.
 #[inline]
 fn meets_frame(making: &Making, word: u64, shown: &FrameWord) -> WorkStep
     ensures { result ≡ meets_blank making.now word shown.now.kind shown.now.object shown.now.mark }

@@ -79,7 +79,7 @@ fn shared(pair: Pair, reply: Reply) -> WorkStep
     }
 }
 
-/// Whether the next step is the one that decides `ok`.
+/// Whether the next step of a call on two temporal capabilities is the one that decides `ok`.
 #[inline]
 pub(crate) fn is_sharing(pair: &Pair) -> bool
     ensures { result ≡ is_sharing pair.now.at }
@@ -145,6 +145,7 @@ pub(crate) fn shares_at(core: CoreNo, what: PairWork, a: &Option<Cap>, b: &Optio
     }
 }
 
+// The call begins, unless both are one.
 #[inline]
 fn shares_in(core: CoreNo, what: PairWork, a: FrameNo, b: FrameNo) -> WorkStep
     ensures { result ≡ shares_if (a == b) core what a b }

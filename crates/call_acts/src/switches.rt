@@ -36,7 +36,7 @@ use stage_thread::{Claim, Claimed};
 use tcap_words::ThreadWord;
 use word_map::Layout;
 
-/// The next step. What it names is of the layout's machine.
+/// The next step of a switch. What it names is of the layout's machine.
 #[inline]
 pub(crate) fn switching_op(switching: &Switching, layout: &Layout) -> WordOp
     requires { SwitchingFits layout.now switching.now }
@@ -70,9 +70,9 @@ pub(crate) fn switching_op(switching: &Switching, layout: &Layout) -> WordOp
     }
 }
 
-/// Takes the word that the step found. A thread that runs is `running`, one that another core has claimed `busy`, and a lost compare
-/// `raced`, as is a word that is none of its place. After the loads the counts are acquired. The draw carries the call out, with the
-/// clock found as its stamp. What it names is of the layout's machine.
+/// What a switch takes from the word that its step found. A thread that runs is `running`, one that another core has claimed `busy`, and a
+/// lost compare `raced`, as is a word that is none of its place. After the loads the counts are acquired. The draw carries the call out,
+/// with the clock found as its stamp. What it names is of the layout's machine.
 #[inline]
 pub(crate) fn switching_took(switching: &Switching, layout: &Layout, found: u64) -> WorkStep
     requires { SwitchingFits layout.now switching.now }
@@ -96,7 +96,7 @@ pub(crate) fn switching_took(switching: &Switching, layout: &Layout, found: u64)
     }
 }
 
-/// Whether the next step draws the stamp.
+/// Whether the next step of a switch draws the stamp.
 #[inline]
 pub(crate) fn switching_ready(switching: &Switching) -> bool
     ensures { result ≡ is_switching switching.now.at }
@@ -126,7 +126,7 @@ pub(crate) fn switching_undo(switching: &Switching) -> Tail
     }
 }
 
-/// The count of this number that it changes.
+/// The count of this number that a switch changes.
 #[inline]
 pub(crate) fn switching_due(switching: &Switching, n: u8) -> Option<Due>
     ensures { result ≡ slice_get (switching_dues switching.now switching.now.at) n }
@@ -148,6 +148,7 @@ pub(crate) fn switching_due(switching: &Switching, n: u8) -> Option<Due>
     }
 }
 
+// The count of this number that a switch to a claimed thread changes.
 #[inline]
 fn due_to(switching: &Switching, to: &Claimed, n: u8) -> Option<Due>
     ensures { result ≡ slice_get (switch_due_list switching.now to.now) n }

@@ -123,7 +123,7 @@ pub(crate) fn charges(own: &Own, ticks: u32) -> WorkStep
     }
 }
 
-/// Whether the next step is the compare.
+/// Whether the next step of a charge is the compare.
 #[inline]
 pub(crate) fn is_charging(charge: &Charge) -> bool
     ensures { result ≡ is_charging charge.now }

@@ -26,7 +26,7 @@ use spk_nums::{
 use stage_look::{Found, Look};
 use word_map::Layout;
 
-/// The next load. Its frame is below the layout's.
+/// The next load of a touch. Its frame is below the layout's.
 #[inline]
 pub(crate) fn touch_op(touching: &Touching, layout: &Layout) -> WordOp
     requires { TouchFits layout.now touching.now }
@@ -36,8 +36,8 @@ pub(crate) fn touch_op(touching: &Touching, layout: &Layout) -> WordOp
     touching.look.next(layout)
 }
 
-/// Takes the word that the load found: no link at the root entry, and nothing at the page's, is `fault`, and an entry that another
-/// core has closed `busy`. The frames are the layout's.
+/// What a touch takes from the word that its load found: no link at the root entry, and nothing at the page's, is `fault`, and an entry
+/// that another core has closed `busy`. The frames are the layout's.
 #[inline]
 pub(crate) fn touch_took(touching: &Touching, layout: &Layout, found: u64) -> WorkStep
     requires { TouchFits layout.now touching.now }
@@ -106,7 +106,7 @@ fn mapping_of(touching: &Touching, cap: &Cap) -> Translation
     }
 }
 
-/// Whether the next load is the one that decides `ok`.
+/// Whether the next load of a touch is the one that decides `ok`.
 #[inline]
 pub(crate) fn touch_ready(touching: &Touching) -> bool
     ensures { result ≡ is_answering touching.now }

@@ -16,7 +16,7 @@ use frame_words::FrameWord;
 use spk_nums::{FrameKind, Obj, Value, WordOp};
 use word_map::Layout;
 
-/// The next step. The frame is below the layout's.
+/// The next step of a typing. The frame is below the layout's.
 #[inline]
 pub(crate) fn typing_op(typing: &Typing, layout: &Layout) -> WordOp
     requires { TypingFits layout.now typing.now }
@@ -35,8 +35,8 @@ pub(crate) fn typing_op(typing: &Typing, layout: &Layout) -> WordOp
     }
 }
 
-/// Takes the word that the step found: a frame that a core has marked is `busy`, one that is not untyped `frame-kind`. The call
-/// is carried out where the compare finds the word expected, and else `raced`.
+/// What a typing takes from the word that its step found: a frame that a core has marked is `busy`, one that is not untyped `frame-kind`.
+/// The call is carried out where the compare finds the word expected, and else `raced`.
 #[inline]
 pub(crate) fn typing_took(typing: &Typing, found: u64) -> WorkStep
     ensures { result ≡ took_typing typing.now found }
@@ -57,7 +57,7 @@ pub(crate) fn typing_took(typing: &Typing, found: u64) -> WorkStep
     }
 }
 
-/// Whether the next step is the compare.
+/// Whether the next step of a typing is the compare.
 #[inline]
 pub(crate) fn typing_ready(typing: &Typing) -> bool
     ensures { result ≡ is_typing typing.now.at }
@@ -76,6 +76,7 @@ fn meets(typing: &Typing, word: u64, shown: Option<FrameWord>) -> WorkStep
     }
 }
 
+// What the load leads to, where the word shows a frame.
 #[inline]
 fn meets_frame(typing: &Typing, word: u64, shown: &FrameWord) -> WorkStep
     ensures { result ≡ meets_frame typing.now word shown.now.kind shown.now.mark }

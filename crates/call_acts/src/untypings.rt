@@ -36,7 +36,7 @@ use stage_quiet::drawn;
 use stage_sweep::{Sweep, Swept, Thaw};
 use word_map::Layout;
 
-/// The next step. What it names is of the layout's machine.
+/// The next step of an untyping. What it names is of the layout's machine.
 #[inline]
 pub(crate) fn untyping_op(untyping: &Untyping, layout: &Layout) -> WordOp
     requires { UntypingFits layout.now untyping.now }
@@ -60,9 +60,9 @@ pub(crate) fn untyping_op(untyping: &Untyping, layout: &Layout) -> WordOp
     }
 }
 
-/// Takes the word that the step found: a frame that another core has marked is `busy`, one that is untyped already `frame-kind`.
-/// A lost compare is `raced`. What the sweep refuses the call refuses: `busy` a counter that a core holds, `referenced` by how many
-/// references stand, `quiescing` and `unflushed` where the frame may still be used, `not-empty` where its object holds something.
+/// What an untyping takes from the word that its step found: a frame that another core has marked is `busy`, one that is untyped already
+/// `frame-kind`. A lost compare is `raced`. What the sweep refuses the call refuses: `busy` a counter that a core holds, `referenced` by
+/// how many references stand, `quiescing` and `unflushed` where the frame may still be used, `not-empty` where its object holds something.
 /// After the sweep the counts of the object's own references are acquired. The draw carries the call out, with the clock found as its
 /// stamp.
 #[inline]
@@ -82,7 +82,7 @@ pub(crate) fn untyping_took(untyping: &Untyping, layout: &Layout, found: u64) ->
     }
 }
 
-/// Whether the next step draws the stamp.
+/// Whether the next step of an untyping draws the stamp.
 #[inline]
 pub(crate) fn untyping_ready(untyping: &Untyping) -> bool
     ensures { result ≡ is_drawing untyping.now.at }
@@ -132,6 +132,7 @@ fn meets(untyping: &Untyping, word: u64, shown: Option<FrameWord>) -> WorkStep
     }
 }
 
+// What the load leads to, where the word shows a frame.
 #[inline]
 fn meets_frame(untyping: &Untyping, word: u64, shown: &FrameWord) -> WorkStep
     ensures { result ≡ meets_untyped untyping.now word shown.now shown.now.kind shown.now.mark }
@@ -243,7 +244,7 @@ fn release_of(frame: FrameNo, word: u64, swept: &Swept, clear: bool) -> Release
     }
 }
 
-/// The next step, a store. What it names is of the layout's machine.
+/// The next step of a release, a store. What it names is of the layout's machine.
 #[inline]
 pub fn release_op(release: &Release, layout: &Layout) -> WordOp
     requires { ReleaseFits layout.now release.now }
@@ -259,7 +260,7 @@ pub fn release_op(release: &Release, layout: &Layout) -> WordOp
     }
 }
 
-/// What is still to be stored after that step: after the frame's word nothing.
+/// What of a release is still to be stored after its next step: after the frame's word nothing.
 #[inline]
 pub fn release_took(release: &Release, layout: &Layout, found: u64) -> Tail
     requires { ReleaseFits layout.now release.now }
