@@ -10,6 +10,7 @@ use core_kernel::FreeGate;
 use speck_run::Status;
 use std::alloc::Global;
 use std::test::Fail;
+use std::thread::Threads;
 use test_machine::{FROM_ENTRIES, MACHINE, TO_ENTRIES, leads_to, runs, steps};
 
 // The steps of a make of a component that is carried out, without a scan.
@@ -78,10 +79,28 @@ fn a_component_is_made_in_the_next_epoch_of_its_number(rt: HostRuntime) -> Resul
     Ok(())
 }
 
+// Whether a make of these lines is refused so and gives its frame back, with these lines of numbers and so many references to the
+// component of the start.
+fn gives_back<R: Threads + Sync>(
+    rt: &R,
+    alloc: Global,
+    lines: &str,
+    replies: &str,
+    lives: &str,
+    refs: u32,
+) -> Result<bool, Fail> {
+    let shown = Shown {
+        entries: "",
+        frames: "frame 8 kernel refs 0\n",
+        lives,
+        refs: (2, 2, refs),
+    };
+    leads_to(rt, alloc, lines, replies, &tables(alloc, &shown)?)
+}
+
 #[test]
 fn a_number_that_is_not_taken_gives_the_frame_back(rt: HostRuntime) -> Result<(), Fail> {
     let alloc = rt.alloc();
-    let blank = "frame 8 kernel refs 0\n";
     let rows = [
         (
             "core 0\nretype 0 8 kernel\nmake comp 0 8 1 20 1 2 0\n",
@@ -109,29 +128,32 @@ fn a_number_that_is_not_taken_gives_the_frame_back(rt: HostRuntime) -> Result<()
             "dead 0 epoch 1\n",
             3,
         ),
-        // Each earlier cause, in order.
+    ];
+    for (lines, replies, lives, refs) in rows {
+        assert!(rt;
+            gives_back(&rt, alloc, lines, replies, lives, refs)?,
+            "{lines}"
+        );
+    }
+    Ok(())
+}
+
+#[test]
+fn each_cause_before_the_number_is_told_first(rt: HostRuntime) -> Result<(), Fail> {
+    let alloc = rt.alloc();
+    let rows = [
         (
             "core 0\nretype 0 8 kernel\nmake comp 1 8 1 20 1 2 0\nmake comp 0 8 0 20 1 2 0\nmake comp 0 8 1 20 2 2 0\nmake comp 0 8 1 20 1 1 0\n",
             "0.1 retype 0 8 kernel = ok\n0.2 make comp 1 8 1 20 1 2 0 = wrong-cap\n0.3 make comp 0 8 0 20 1 2 0 = wrong-cap\n0.4 make comp 0 8 1 20 2 2 0 = wrong-cap\n0.5 make comp 0 8 1 20 1 1 0 = wrong-cap\n",
-            START,
-            4,
         ),
         (
             "core 0\nretype 0 8 kernel\nmake comp 0 8 1 3 1 2 0\nmake comp 0 7 1 20 1 2 0\nmake comp 0 9 1 20 1 2 0\n",
             "0.1 retype 0 8 kernel = ok\n0.2 make comp 0 8 1 3 1 2 0 = occupied\n0.3 make comp 0 7 1 20 1 2 0 = out-of-range\n0.4 make comp 0 9 1 20 1 2 0 = frame-kind\n",
-            START,
-            4,
         ),
     ];
-    for (lines, replies, lives, refs) in rows {
-        let shown = Shown {
-            entries: "",
-            frames: blank,
-            lives,
-            refs: (2, 2, refs),
-        };
+    for (lines, replies) in rows {
         assert!(rt;
-            leads_to(&rt, alloc, lines, replies, &tables(alloc, &shown)?)?,
+            gives_back(&rt, alloc, lines, replies, START, 4)?,
             "{lines}"
         );
     }
@@ -148,11 +170,13 @@ fn two_makes(alloc: Global, zero: usize) -> Result<String, Fail> {
     Ok(text)
 }
 
+// The replies to the calls before the two makes.
+const BEFORE: &str =
+    "0.1 retype 0 8 kernel = ok\n0.2 retype 0 9 kernel = ok\n0.3 retype 0 10 kernel = ok\n0.4 make table 0 10 1 22 = ok\n0.5 retype 0 11 kernel = ok\n0.6 make pages 0 11 1 23 = ok\n";
+
 #[test]
 fn of_two_components_one_takes_the_number(rt: HostRuntime) -> Result<(), Fail> {
     let alloc = rt.alloc();
-    let before =
-        "0.1 retype 0 8 kernel = ok\n0.2 retype 0 9 kernel = ok\n0.3 retype 0 10 kernel = ok\n0.4 make table 0 10 1 22 = ok\n0.5 retype 0 11 kernel = ok\n0.6 make pages 0 11 1 23 = ok\n";
     let zero_made = Shown {
         entries: "  20 comp 8\n  22 table 10\n  23 pages 11\n",
         frames: "frame 8 comp refs 2\n  fields 0 2 1 1\nframe 9 kernel refs 0\nframe 10 table refs 1\nframe 11 pages refs 1\n",
@@ -176,7 +200,7 @@ fn of_two_components_one_takes_the_number(rt: HostRuntime) -> Result<(), Fail> {
             _ => ((zero_call, "ok"), (one_call, "occupied")),
         };
         let replies = format!(in alloc;
-            "{before}{} = {}\n{} = {}\n",
+            "{BEFORE}{} = {}\n{} = {}\n",
             first.0, first.1, second.0, second.1
         )?;
         let lines = two_makes(alloc, zero)?;

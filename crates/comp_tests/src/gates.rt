@@ -371,7 +371,15 @@ fn a_gate_and_a_kill_of_its_component_meet_at_its_count(rt: HostRuntime) -> Resu
         }
     }
     assert!(rt; races > 0);
-    // One whole kill at each step of the gate.
+    Ok(())
+}
+
+// One whole kill at each step of the gate.
+#[test]
+fn a_kill_between_two_steps_of_a_gate_is_answered_by_what_the_gate_holds(
+    rt: HostRuntime,
+) -> Result<(), Fail> {
+    let alloc = rt.alloc();
     let whole = [
         ("1.1 kill 3 = ok\n0.1 gate 3 1 20 = ok\n", 0, 9),
         ("1.1 kill 3 = ok\n0.1 gate 3 1 20 = raced\n", 9, 10),

@@ -118,7 +118,12 @@ fn a_call_that_is_refused_enters_nothing(rt: HostRuntime) -> Result<(), Fail> {
             "{lines}"
         );
     }
-    // The gate of a component that was killed leads nowhere.
+    Ok(())
+}
+
+#[test]
+fn a_gate_of_a_component_that_was_killed_leads_nowhere(rt: HostRuntime) -> Result<(), Fail> {
+    let alloc = rt.alloc();
     let lines = "core 0\ngate 3 1 20\ncall 20\nkill 3\ncall 20\nret\ncall 20\n";
     let replies =
         "0.1 gate 3 1 20 = ok\n0.2 call 20 = ok\n0.3 kill 3 = ok\n0.4 call 20 = dead\n0.5 ret = ok\n0.6 call 20 = dead\n";

@@ -121,7 +121,7 @@ fn a_component_found_before_its_removal_is_killed(rt: HostRuntime) -> Result<(),
 }
 
 #[test]
-fn a_kill_and_a_copy_of_the_component_meet_at_its_count(rt: HostRuntime) -> Result<(), Fail> {
+fn a_copy_of_the_component_meets_a_kill_at_its_count(rt: HostRuntime) -> Result<(), Fail> {
     let alloc = rt.alloc();
     let added = "  20 comp 3\n";
     // The kill makes so many steps, then the copy comes whole.
@@ -146,6 +146,13 @@ fn a_kill_and_a_copy_of_the_component_meet_at_its_count(rt: HostRuntime) -> Resu
             "{order}"
         );
     }
+    Ok(())
+}
+
+#[test]
+fn a_kill_meets_a_copy_of_the_component_at_its_count(rt: HostRuntime) -> Result<(), Fail> {
+    let alloc = rt.alloc();
+    let added = "  20 comp 3\n";
     // The copy, which acquires its count at 8 and 9 and decides at 10, makes so many steps, then the kill comes whole.
     for zero in 0..STEPS + 1 {
         let (replies, added, refs, lives) = match zero {
@@ -247,6 +254,22 @@ impl Kill {
         decided
     }
 
+    fn loads_count(&mut self, words: &Words) -> Option<Answer> {
+        self.loaded = words.changed;
+        match words.holder {
+            None => None,
+            Some(by) => Some(Answer::Busy { by }),
+        }
+    }
+
+    fn acquires_count(&self, words: &mut Words) -> Option<Answer> {
+        if words.holder.is_some() || words.changed != self.loaded {
+            return Some(Answer::Raced);
+        }
+        words.holder = Some(self.core);
+        None
+    }
+
     fn decided(&mut self, words: &mut Words) -> Option<Answer> {
         match self.made {
             5 => match words.live {
@@ -254,20 +277,8 @@ impl Kill {
                 Live::Closing { by } => Some(Answer::Busy { by }),
                 Live::Dead => Some(Answer::Dead),
             },
-            6 => {
-                self.loaded = words.changed;
-                match words.holder {
-                    None => None,
-                    Some(by) => Some(Answer::Busy { by }),
-                }
-            }
-            7 => {
-                if words.holder.is_some() || words.changed != self.loaded {
-                    return Some(Answer::Raced);
-                }
-                words.holder = Some(self.core);
-                None
-            }
+            6 => self.loads_count(words),
+            7 => self.acquires_count(words),
             8 => {
                 if words.live != Live::Live {
                     return Some(Answer::Raced);

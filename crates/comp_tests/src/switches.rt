@@ -219,6 +219,20 @@ fn two_cores_switch_to_one_thread(rt: HostRuntime) -> Result<(), Fail> {
     Ok(())
 }
 
+// The replies where core 1 switches to the thread that core 0 leaves, after so many steps of core 0's switch.
+fn left_at(steps: usize) -> &'static str {
+    if steps < 15 {
+        "1.1 switch 4 13 = running 0\n0.3 switch 20 12 = ok\n"
+    } else if steps < 16 {
+        "1.1 switch 4 13 = busy 0\n0.3 switch 20 12 = ok\n"
+    } else if steps < 20 {
+        // until the thread is stored as idle, and then until its count is committed
+        "0.3 switch 20 12 = ok\n1.1 switch 4 13 = busy 0\n"
+    } else {
+        "0.3 switch 20 12 = ok\n1.1 switch 4 13 = ok\n"
+    }
+}
+
 #[test]
 fn a_core_goes_on_as_the_thread_that_another_has_left(rt: HostRuntime) -> Result<(), Fail> {
     let alloc = rt.alloc();
@@ -242,16 +256,7 @@ fn a_core_goes_on_as_the_thread_that_another_has_left(rt: HostRuntime) -> Result
         let lines = format!(in alloc;
             "{MAKES}switch 20 12\ncore 1\nswitch 4 13\norder\n0. 0. {items}1. 0.\n"
         )?;
-        let replies = if number < 15 {
-            "1.1 switch 4 13 = running 0\n0.3 switch 20 12 = ok\n"
-        } else if number < 16 {
-            "1.1 switch 4 13 = busy 0\n0.3 switch 20 12 = ok\n"
-        } else if number < 20 {
-            // until the thread is stored as idle, and then until its count is committed
-            "0.3 switch 20 12 = ok\n1.1 switch 4 13 = busy 0\n"
-        } else {
-            "0.3 switch 20 12 = ok\n1.1 switch 4 13 = ok\n"
-        };
+        let replies = left_at(number);
         let replies = format!(in alloc; "{MADE}{replies}")?;
         let is = if number < 20 {
             leads_to(&rt, alloc, &lines, &replies, &tables(alloc, &left)?)?

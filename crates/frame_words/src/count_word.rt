@@ -139,7 +139,7 @@ mod tests {
     }
 
     #[test]
-    fn spells_worked_words_and_ends(rt: HostRuntime) {
+    fn spells_counts_that_no_core_holds(rt: HostRuntime) {
         spells(
             &rt,
             &CountWord {
@@ -167,6 +167,10 @@ mod tests {
             },
             0x07ff_ffff_ffff_ffff,
         );
+    }
+
+    #[test]
+    fn spells_counts_that_a_core_holds(rt: HostRuntime) {
         spells(
             &rt,
             &CountWord {

@@ -112,7 +112,7 @@ mod tests {
     }
 
     #[test]
-    fn spells_worked_words_and_ends(rt: HostRuntime) {
+    fn spells_each_kind(rt: HostRuntime) {
         spells(
             &rt,
             &FrameWord {
@@ -140,6 +140,10 @@ mod tests {
             },
             2,
         );
+    }
+
+    #[test]
+    fn spells_marks_and_objects(rt: HostRuntime) {
         spells(
             &rt,
             &FrameWord {

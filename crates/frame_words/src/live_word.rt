@@ -152,7 +152,7 @@ mod tests {
     }
 
     #[test]
-    fn spells_worked_words_and_ends(rt: HostRuntime) {
+    fn spells_free_and_live_numbers(rt: HostRuntime) {
         spells(&rt, &LiveWord::Free, 0);
         spells(
             &rt,
@@ -170,6 +170,10 @@ mod tests {
             },
             0x7ff_fffd,
         );
+    }
+
+    #[test]
+    fn spells_closing_and_dead_numbers(rt: HostRuntime) {
         spells(
             &rt,
             &LiveWord::Closing {

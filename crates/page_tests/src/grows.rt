@@ -2,7 +2,7 @@
 //! (7 and 8), compares the root entry, which decides (9), commits the count (10) and leaves (11 and 12). Where the entry is quiescing it
 //! scans between 6 and 7: the other core's word, and for a page table then the flush words of both cores.
 
-use crate::shared::{Added, ends, items_of, order_of, tables};
+use crate::shared::{Added, ends, first_to_fill, items_of, order_of, tables};
 use core_kernel::FreeGate;
 use speck_run::Status;
 use std::alloc::Global;
@@ -75,29 +75,25 @@ fn a_grow_is_refused_in_the_order_of_its_names_and_its_entry(rt: HostRuntime) ->
         let lines = format!(in alloc; "{LEAVES}{call}\n")?;
         let replies = format!(in alloc; "{LEAVES_MADE}0.5 {call} = {reply}\n")?;
         assert!(rt;
-            ends(
-                &rt,
-                alloc,
-                &["replay", "run", "plain"],
-                &lines,
-                &replies,
-                &added
-            )?,
+            ends(&rt, alloc, &COMMANDS, &lines, &replies, &added)?,
             "{call}"
         );
     }
+    Ok(())
+}
+
+#[test]
+fn a_grow_is_refused_once_the_calls_are_spent(rt: HostRuntime) -> Result<(), Fail> {
+    let alloc = rt.alloc();
+    let added = Added {
+        root: "",
+        leaf: BOTH,
+        pages: "",
+        frames: UNLINKED,
+    };
     let lines = format!(in alloc; "calls 4\n{LEAVES}grow 1 1 20\n")?;
     let replies = format!(in alloc; "{LEAVES_MADE}0.5 grow 1 1 20 = calls-spent\n")?;
-    assert!(rt;
-        ends(
-            &rt,
-            alloc,
-            &["replay", "run", "plain"],
-            &lines,
-            &replies,
-            &added
-        )?
-    );
+    assert!(rt; ends(&rt, alloc, &COMMANDS, &lines, &replies, &added)?);
     Ok(())
 }
 
@@ -182,8 +178,28 @@ fn a_shrunk_entry_of_pages_waits_for_flushes_too(rt: HostRuntime) -> Result<(), 
     Ok(())
 }
 
-// Core 0 grows an entry by one leaf and core 1 by another, and their steps on it come in every order: the load of the entry, the two on
-// the count of its leaf, the compare and the commit. The first to compare has it.
+// What is left where an entry is grown by the leaf of core 0, in frame 8, or by that of core 1, in frame 9.
+fn linked(zero_wins: bool) -> Added<'static> {
+    let leaf = "  20 leaf 8\n  21 leaf 9\n";
+    if zero_wins {
+        Added {
+            root: "  1 link 8\n",
+            leaf,
+            pages: "",
+            frames: "frame 8 leaf refs 2\nframe 9 leaf refs 1\n",
+        }
+    } else {
+        Added {
+            root: "  1 link 9\n",
+            leaf,
+            pages: "",
+            frames: "frame 8 leaf refs 1\nframe 9 leaf refs 2\n",
+        }
+    }
+}
+
+// Core 0 grows an entry by one leaf and core 1 by another, and their steps on it come in every order: the load of the entry, the two
+// on the count of its leaf, the compare and the commit. The first to compare has it.
 #[test]
 fn of_two_grows_of_one_entry_one_is_carried_out(rt: HostRuntime) -> Result<(), Fail> {
     let alloc = rt.alloc();
@@ -194,49 +210,20 @@ fn of_two_grows_of_one_entry_one_is_carried_out(rt: HostRuntime) -> Result<(), F
     let (zero, one) = (steps(alloc, 0, 5)?, steps(alloc, 1, 5)?);
     for number in 0..1024 {
         if let Some(order) = order_of(number, 10, 5) {
-            let (Some(load_zero), Some(load_one), Some(fill_zero), Some(fill_one)) = (
-                place_of(&order, 0, 0),
-                place_of(&order, 1, 0),
-                place_of(&order, 0, 3),
-                place_of(&order, 1, 3),
-            ) else {
+            let Some((zero_wins, lost)) = first_to_fill(&order, 3) else {
                 continue;
             };
-            let zero_wins = fill_zero < fill_one;
             let later = if zero_wins {
-                let lost = if load_one > fill_zero {
-                    "occupied"
-                } else {
-                    "raced"
-                };
                 format!(in alloc; "0.5 grow 1 1 20 = ok\n1.1 grow 1 1 21 = {lost}\n")?
             } else {
-                let lost = if load_zero > fill_one {
-                    "occupied"
-                } else {
-                    "raced"
-                };
                 format!(in alloc; "1.1 grow 1 1 21 = ok\n0.5 grow 1 1 20 = {lost}\n")?
-            };
-            let added = Added {
-                root: if zero_wins {
-                    "  1 link 8\n"
-                } else {
-                    "  1 link 9\n"
-                },
-                leaf: "  20 leaf 8\n  21 leaf 9\n",
-                pages: "",
-                frames: if zero_wins {
-                    "frame 8 leaf refs 2\nframe 9 leaf refs 1\n"
-                } else {
-                    "frame 8 leaf refs 1\nframe 9 leaf refs 2\n"
-                },
             };
             let items = items_of(alloc, &order)?;
             let lines = format!(in alloc;
                 "{made}grow 1 1 20\ncore 1\ngrow 1 1 21\norder\n0. 0. 0. 0. {zero}{one}{items}0. 1.\n"
             )?;
             let replies = format!(in alloc; "{first}{later}")?;
+            let added = linked(zero_wins);
             assert!(rt;
                 ends(&rt, alloc, &["replay"], &lines, &replies, &added)?,
                 "{items}"
@@ -246,40 +233,46 @@ fn of_two_grows_of_one_entry_one_is_carried_out(rt: HostRuntime) -> Result<(), F
     Ok(())
 }
 
-// Two grows link one leaf in two entries, and core 1's is made whole after so many steps of core 0's: they meet at the count of the leaf.
+// The links in the root, the references to the leaf and the replies where core 1's grow comes whole after so many steps of core 0's.
+fn met_at(number: usize) -> (&'static str, u32, &'static str) {
+    match number {
+        0..=6 => (
+            "  1 link 8\n  2 link 8\n",
+            3,
+            "1.1 grow 1 2 20 = ok\n0.5 grow 1 1 20 = ok\n",
+        ),
+        // Core 0 has loaded the count, and core 1 changes it.
+        7 => (
+            "  2 link 8\n",
+            2,
+            "1.1 grow 1 2 20 = ok\n0.5 grow 1 1 20 = raced\n",
+        ),
+        // Core 0 holds the count.
+        8 => (
+            "  1 link 8\n",
+            2,
+            "1.1 grow 1 2 20 = busy 0\n0.5 grow 1 1 20 = ok\n",
+        ),
+        9 => (
+            "  1 link 8\n",
+            2,
+            "0.5 grow 1 1 20 = ok\n1.1 grow 1 2 20 = busy 0\n",
+        ),
+        _ => (
+            "  1 link 8\n  2 link 8\n",
+            3,
+            "0.5 grow 1 1 20 = ok\n1.1 grow 1 2 20 = ok\n",
+        ),
+    }
+}
+
+// Two grows link one leaf in two entries, and core 1's is made whole after so many steps of core 0's: they meet at the count of the
+// leaf.
 #[test]
 fn two_grows_of_one_leaf_meet_at_its_count(rt: HostRuntime) -> Result<(), Fail> {
     let alloc = rt.alloc();
     for number in 0..13 {
-        let (root, refs, later) = match number {
-            0..=6 => (
-                "  1 link 8\n  2 link 8\n",
-                3,
-                "1.1 grow 1 2 20 = ok\n0.5 grow 1 1 20 = ok\n",
-            ),
-            // Core 0 has loaded the count, and core 1 changes it.
-            7 => (
-                "  2 link 8\n",
-                2,
-                "1.1 grow 1 2 20 = ok\n0.5 grow 1 1 20 = raced\n",
-            ),
-            // Core 0 holds the count.
-            8 => (
-                "  1 link 8\n",
-                2,
-                "1.1 grow 1 2 20 = busy 0\n0.5 grow 1 1 20 = ok\n",
-            ),
-            9 => (
-                "  1 link 8\n",
-                2,
-                "0.5 grow 1 1 20 = ok\n1.1 grow 1 2 20 = busy 0\n",
-            ),
-            _ => (
-                "  1 link 8\n  2 link 8\n",
-                3,
-                "0.5 grow 1 1 20 = ok\n1.1 grow 1 2 20 = ok\n",
-            ),
-        };
+        let (root, refs, later) = met_at(number);
         let items = steps(alloc, 0, number)?;
         let lines = format!(in alloc;
             "{LEAVES}grow 1 1 20\ncore 1\ngrow 1 2 20\norder\n0. 0. 0. 0. {items}1. 0.\n"
@@ -300,9 +293,20 @@ fn two_grows_of_one_leaf_meet_at_its_count(rt: HostRuntime) -> Result<(), Fail> 
     Ok(())
 }
 
-// Core 0 shrinks an entry, and core 1 grows it, in every order of the steps at which they meet: core 0 closes the entry, draws its stamp,
-// which decides, stores the quiescing entry, commits the count, loads the clock and stores its core word; core 1 loads the entry, and
-// where it is quiescing core 0's word.
+// The replies where the entry is loaded after so many steps of the shrink, and where core 0 has left before its word is loaded.
+fn shrunk_at(loads: usize, late: bool) -> &'static str {
+    match loads {
+        _ if late => "0.6 shrink 1 1 = ok\n1.1 grow 1 1 20 = ok\n",
+        0 => "1.1 grow 1 1 20 = occupied\n0.6 shrink 1 1 = ok\n",
+        1 => "1.1 grow 1 1 20 = busy 0\n0.6 shrink 1 1 = ok\n",
+        2 => "0.6 shrink 1 1 = ok\n1.1 grow 1 1 20 = busy 0\n",
+        _ => "0.6 shrink 1 1 = ok\n1.1 grow 1 1 20 = quiescing 0\n",
+    }
+}
+
+// Core 0 shrinks an entry, and core 1 grows it, in every order of the steps at which they meet: core 0 closes the entry, draws its
+// stamp, which decides, stores the quiescing entry, commits the count, loads the clock and stores its core word; core 1 loads the entry,
+// and where it is quiescing core 0's word.
 #[test]
 fn a_grow_meets_a_shrink_of_its_entry(rt: HostRuntime) -> Result<(), Fail> {
     let alloc = rt.alloc();
@@ -315,16 +319,7 @@ fn a_grow_meets_a_shrink_of_its_entry(rt: HostRuntime) -> Result<(), Fail> {
             // So many of core 0's steps come before the load of the entry, and before that of its word.
             let scans = scans.saturating_sub(1);
             let late = scans == 6 && loads >= 3;
-            let later = if late {
-                "0.6 shrink 1 1 = ok\n1.1 grow 1 1 20 = ok\n"
-            } else {
-                match loads {
-                    0 => "1.1 grow 1 1 20 = occupied\n0.6 shrink 1 1 = ok\n",
-                    1 => "1.1 grow 1 1 20 = busy 0\n0.6 shrink 1 1 = ok\n",
-                    2 => "0.6 shrink 1 1 = ok\n1.1 grow 1 1 20 = busy 0\n",
-                    _ => "0.6 shrink 1 1 = ok\n1.1 grow 1 1 20 = quiescing 0\n",
-                }
-            };
+            let later = shrunk_at(loads, late);
             let items = items_of(alloc, &order)?;
             let lines = format!(in alloc;
                 "{LEAVES}grow 1 1 20\nshrink 1 1\ncore 1\ngrow 1 1 20\norder\n0. 0. 0. 0. 0. {zero}{one}{items}0. 1.\n"

@@ -2,11 +2,11 @@
 //! and 9), loads the frame's word (10), compares the place, which decides (11), commits the count (12) and leaves (13 and 14). Where the
 //! place is quiescing it scans between 7 and 8: the other core's word, then the flush words of both cores.
 
-use crate::shared::{Added, ends, items_of, order_of, tables};
+use crate::shared::{Added, ends, first_to_fill, items_of, order_of, tables};
 use core_kernel::FreeGate;
 use speck_run::Status;
 use std::test::Fail;
-use test_machine::{MACHINE, place_of, runs, steps};
+use test_machine::{COMMANDS, MACHINE, runs, steps};
 
 // A leaf of the page table in frame 8, linked in its first entry, and a user frame 9.
 const PAGES: &str =
@@ -35,16 +35,7 @@ fn a_user_frame_is_mapped_as_often_as_asked(rt: HostRuntime) -> Result<(), Fail>
         "{PAGES_MADE}0.5 map 2 5 0 9 3 = ok\n0.6 map 2 63 0 9 0 = ok\n0.7 map 2 5 0 9 1 = occupied\n0.8 unmap 2 63 = ok\n0.9 map 2 6 0 9 2 = ok\n"
     )?;
     let added = mapped("frame 8 pleaf refs 2\n  5 page 9 3\n  6 page 9 2\nframe 9 user refs 2\n");
-    assert!(rt;
-        ends(
-            &rt,
-            alloc,
-            &["replay", "run", "plain"],
-            &lines,
-            &replies,
-            &added
-        )?
-    );
+    assert!(rt; ends(&rt, alloc, &COMMANDS, &lines, &replies, &added)?);
     Ok(())
 }
 
@@ -77,14 +68,7 @@ fn a_map_is_refused_in_the_order_of_its_names_its_place_and_its_frame(
         let lines = format!(in alloc; "{PAGES}{call}\n")?;
         let replies = format!(in alloc; "{PAGES_MADE}0.5 {call} = {reply}\n")?;
         assert!(rt;
-            ends(
-                &rt,
-                alloc,
-                &["replay", "run", "plain"],
-                &lines,
-                &replies,
-                &added
-            )?,
+            ends(&rt, alloc, &COMMANDS, &lines, &replies, &added)?,
             "{call}"
         );
     }
@@ -169,21 +153,9 @@ fn of_two_maps_of_one_page_one_is_carried_out(rt: HostRuntime) -> Result<(), Fai
     let (zero, one) = (steps(alloc, 0, 6)?, steps(alloc, 1, 6)?);
     for number in 0..4096 {
         if let Some(order) = order_of(number, 12, 6) {
-            let (Some(load_zero), Some(load_one), Some(fill_zero), Some(fill_one)) = (
-                place_of(&order, 0, 0),
-                place_of(&order, 1, 0),
-                place_of(&order, 0, 4),
-                place_of(&order, 1, 4),
-            ) else {
+            let Some((zero_wins, lost)) = first_to_fill(&order, 4) else {
                 continue;
             };
-            let zero_wins = fill_zero < fill_one;
-            let late = if zero_wins {
-                load_one > fill_zero
-            } else {
-                load_zero > fill_one
-            };
-            let lost = if late { "occupied" } else { "raced" };
             let later = if zero_wins {
                 format!(in alloc; "0.6 map 2 0 0 9 1 = ok\n1.1 map 2 0 0 10 2 = {lost}\n")?
             } else {

@@ -3,10 +3,10 @@
 use std::alloc::Global;
 use std::test::Fail;
 use std::thread::Threads;
-use test_machine::{FROM_ENTRIES, MACHINE, TO_ENTRIES, writes};
+use test_machine::{FROM_ENTRIES, MACHINE, TO_ENTRIES, place_of, writes};
 
-/// What the tables of the start have besides: the entries of the table's root, of its leaf and of the pages' root, and what is in frames 8
-/// and on.
+/// What the tables of the start have besides: the entries of the table's root, of its leaf and of the pages' root, and what is in
+/// frames 8 and on.
 #[derive(Clone, Copy)]
 pub struct Added<'a> {
     pub root: &'a str,
@@ -58,6 +58,23 @@ pub fn order_of(number: u32, length: u32, ones: u32) -> Option<[u8; 12]> {
         }
     }
     Some(order)
+}
+
+/// Whether core 0 is the first of two to compare an entry in an order, where the load of the entry is the first step and the compare
+/// the step of this number, from 0; and how the other is answered: by what it loads after that compare, or by its own compare.
+pub fn first_to_fill(order: &[u8; 12], compare: usize) -> Option<(bool, &'static str)> {
+    let order = order.as_slice();
+    let load_zero = place_of(order, 0, 0)?;
+    let load_one = place_of(order, 1, 0)?;
+    let fill_zero = place_of(order, 0, compare)?;
+    let fill_one = place_of(order, 1, compare)?;
+    let zero_wins = fill_zero < fill_one;
+    let late = if zero_wins {
+        load_one > fill_zero
+    } else {
+        load_zero > fill_one
+    };
+    Some((zero_wins, if late { "occupied" } else { "raced" }))
 }
 
 /// The items of an order of two cores: of its steps, without the places after them.

@@ -155,17 +155,19 @@ fn a_shrunk_leaf_is_touched_by_what_is_cached_alone(rt: HostRuntime) -> Result<(
     Ok(())
 }
 
-#[test]
-fn sixty_four_translations_are_cached_and_one_more_is_answered(
-    rt: HostRuntime,
-) -> Result<(), Fail> {
-    let alloc = rt.alloc();
-    let mut lines = format!(in alloc;
-        "{PAGES}retype 0 11 kernel\nmake pleaf 0 11 1 21\ngrow 2 1 21\nmap 2 64 0 10 2\n"
-    )?;
-    let mut replies = format!(in alloc;
-        "{PAGES_MADE}0.7 retype 0 11 kernel = ok\n0.8 make pleaf 0 11 1 21 = ok\n0.9 grow 2 1 21 = ok\n0.10 map 2 64 0 10 2 = ok\n"
-    )?;
+// Calls that map frame 9 in the other pages of the leaf, and then touch each page of it; with their replies, the entries of these other
+// pages, and the translations.
+#[derive(Drop)]
+struct Filled {
+    lines: String,
+    replies: String,
+    pages: String,
+    cached: String,
+}
+
+fn filled(alloc: Global) -> Result<Filled, Fail> {
+    let mut lines = String::new(alloc);
+    let mut replies = String::new(alloc);
     let mut pages = String::new(alloc);
     let mut cached = String::new(alloc);
     for page in 1_u32..64 {
@@ -180,12 +182,30 @@ fn sixty_four_translations_are_cached_and_one_more_is_answered(
         write!(replies, "0.{call} touch {page} = ok 9 1\n")?;
         write!(cached, "  cached 2 {page} 9 1\n")?;
     }
+    Ok(Filled {
+        lines,
+        replies,
+        pages,
+        cached,
+    })
+}
+
+#[test]
+fn sixty_four_translations_are_cached_and_one_more_is_answered(
+    rt: HostRuntime,
+) -> Result<(), Fail> {
+    let alloc = rt.alloc();
+    let filled = filled(alloc)?;
     // The last is answered from the table each time, and so not once its page is unmapped.
-    lines.push_str("touch 64\ntouch 64\nunmap 2 64\ntouch 64\nunmap 2 63\ntouch 63\n")?;
-    replies.push_str(
-        "0.138 touch 64 = ok 10 2\n0.139 touch 64 = ok 10 2\n0.140 unmap 2 64 = ok\n0.141 touch 64 = fault\n0.142 unmap 2 63 = ok\n0.143 touch 63 = ok 9 1\n",
+    let lines = format!(in alloc;
+        "{PAGES}retype 0 11 kernel\nmake pleaf 0 11 1 21\ngrow 2 1 21\nmap 2 64 0 10 2\n{}touch 64\ntouch 64\nunmap 2 64\ntouch 64\nunmap 2 63\ntouch 63\n",
+        filled.lines
     )?;
-    let pages = pages.replace(alloc, "  63 page 9 1\n", "")?;
+    let replies = format!(in alloc;
+        "{PAGES_MADE}0.7 retype 0 11 kernel = ok\n0.8 make pleaf 0 11 1 21 = ok\n0.9 grow 2 1 21 = ok\n0.10 map 2 64 0 10 2 = ok\n{}0.138 touch 64 = ok 10 2\n0.139 touch 64 = ok 10 2\n0.140 unmap 2 64 = ok\n0.141 touch 64 = fault\n0.142 unmap 2 63 = ok\n0.143 touch 63 = ok 9 1\n",
+        filled.replies
+    )?;
+    let pages = filled.pages.replace(alloc, "  63 page 9 1\n", "")?;
     let frames = format!(in alloc;
         "frame 8 pleaf refs 2\n  0 page 9 1\n{pages}frame 9 user refs 63\nframe 10 user refs 0\nframe 11 pleaf refs 2\n"
     )?;
@@ -196,34 +216,34 @@ fn sixty_four_translations_are_cached_and_one_more_is_answered(
         frames: &frames,
     };
     let made = tables(alloc, &added)?;
-    let made = with_cached(
-        alloc,
-        &made,
-        &Cached {
-            zero: &cached,
-            one: "",
-        },
-    )?;
+    let cached = Cached {
+        zero: &filled.cached,
+        one: "",
+    };
+    let made = with_cached(alloc, &made, &cached)?;
     let text = format!(in alloc; "{replies}{made}")?;
     assert!(rt; is_answered(&rt, alloc, &["replay", "run", "plain"], &lines, &text)?);
     Ok(())
 }
 
 // What core 0's touch meets after so many steps of core 1's removal. The first is where the entry that it loads last is found held; from
-// the second on it is closed, and from the third on it is quiescing.
+// the second on it is closed, and from the third on it is quiescing. The removal decides at the draw between them.
 struct Met {
     closes: usize,
+    draws: usize,
     stores: usize,
 }
 
 // An unmap compares at its 8th step, draws at its 9th and stores at its 10th; a shrink at its 6th, 7th and 8th.
 const UNMAP: Met = Met {
     closes: 8,
+    draws: 9,
     stores: 10,
 };
 
 const SHRINK: Met = Met {
     closes: 7,
+    draws: 8,
     stores: 9,
 };
 
@@ -238,62 +258,73 @@ impl Met {
             "fault"
         }
     }
-}
 
-// Core 1 makes so many steps of its removal, then core 0 its touch whole.
-#[test]
-fn a_touch_meets_an_unmap_and_a_shrink_at_each_step(rt: HostRuntime) -> Result<(), Fail> {
-    let alloc = rt.alloc();
-    for (call, met, draws, pages, frames) in [
-        (
-            "unmap 2 0",
-            &UNMAP,
-            9,
-            "  0 link 8\n",
-            "frame 8 pleaf refs 2\nframe 9 user refs 0\nframe 10 user refs 0\n",
-        ),
-        (
-            "shrink 2 0",
-            &SHRINK,
-            8,
-            "",
-            "frame 8 pleaf refs 1\n  0 page 9 1\nframe 9 user refs 1\nframe 10 user refs 0\n",
-        ),
-    ] {
-        for made in 0..13_usize {
-            let answer = met.answer(made);
-            let items = steps(alloc, 1, made)?;
-            let lines = format!(in alloc;
-                "{PAGES}touch 0\ncore 1\n{call}\norder\n{PAGES_FIRST}{items}0. 1.\n"
-            )?;
-            let replies = if made < draws {
-                format!(in alloc; "0.7 touch 0 = {answer}\n1.1 {call} = ok\n")?
-            } else {
-                format!(in alloc; "1.1 {call} = ok\n0.7 touch 0 = {answer}\n")?
-            };
-            let added = Added {
-                root: "",
-                leaf: "  20 pleaf 8\n",
-                pages,
-                frames,
-            };
-            let left = tables(alloc, &added)?;
-            let cached = if made < met.closes {
-                Cached {
-                    zero: ZERO_NINE,
-                    one: "",
-                }
-            } else {
-                NONE
-            };
-            let left = with_cached(alloc, &left, &cached)?;
-            let text = format!(in alloc; "{PAGES_MADE}{replies}{left}")?;
-            assert!(rt;
-                is_answered(&rt, alloc, &["replay"], &lines, &text)?,
-                "{call} {made}"
-            );
+    // What is then cached.
+    fn cached(&self, made: usize) -> Cached<'static> {
+        if made < self.closes {
+            Cached {
+                zero: ZERO_NINE,
+                one: "",
+            }
+        } else {
+            NONE
         }
     }
+}
+
+// The least number of steps of core 1's removal after which core 0's touch, made whole, is not answered as it must be or leaves
+// something else than these tables, if there is one.
+fn first_unlike<R: Threads + Sync>(
+    rt: &R,
+    alloc: Global,
+    call: &str,
+    met: &Met,
+    added: &Added,
+) -> Result<Option<usize>, Fail> {
+    let left = tables(alloc, added)?;
+    for made in 0..13_usize {
+        let answer = met.answer(made);
+        let items = steps(alloc, 1, made)?;
+        let lines = format!(in alloc;
+            "{PAGES}touch 0\ncore 1\n{call}\norder\n{PAGES_FIRST}{items}0. 1.\n"
+        )?;
+        let replies = if made < met.draws {
+            format!(in alloc; "0.7 touch 0 = {answer}\n1.1 {call} = ok\n")?
+        } else {
+            format!(in alloc; "1.1 {call} = ok\n0.7 touch 0 = {answer}\n")?
+        };
+        let left = with_cached(alloc, &left, &met.cached(made))?;
+        let text = format!(in alloc; "{PAGES_MADE}{replies}{left}")?;
+        if !is_answered(rt, alloc, &["replay"], &lines, &text)? {
+            return Ok(Some(made));
+        }
+    }
+    Ok(None)
+}
+
+#[test]
+fn a_touch_meets_an_unmap_at_each_step(rt: HostRuntime) -> Result<(), Fail> {
+    let added = Added {
+        root: "",
+        leaf: "  20 pleaf 8\n",
+        pages: "  0 link 8\n",
+        frames: "frame 8 pleaf refs 2\nframe 9 user refs 0\nframe 10 user refs 0\n",
+    };
+    let unlike = first_unlike(&rt, rt.alloc(), "unmap 2 0", &UNMAP, &added)?;
+    assert_eq!(rt; unlike, None);
+    Ok(())
+}
+
+#[test]
+fn a_touch_meets_a_shrink_at_each_step(rt: HostRuntime) -> Result<(), Fail> {
+    let added = Added {
+        root: "",
+        leaf: "  20 pleaf 8\n",
+        pages: "",
+        frames: "frame 8 pleaf refs 1\n  0 page 9 1\nframe 9 user refs 1\nframe 10 user refs 0\n",
+    };
+    let unlike = first_unlike(&rt, rt.alloc(), "shrink 2 0", &SHRINK, &added)?;
+    assert_eq!(rt; unlike, None);
     Ok(())
 }
 

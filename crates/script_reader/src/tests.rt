@@ -39,67 +39,80 @@ fn refuse_behind(
     Ok(())
 }
 
-#[test]
-fn heads_that_are_none_are_refused(rt: HostRuntime) {
-    let table: [(&[u8], u32, Cause); 26] = [
-        (b"", 1, Cause::S7),
-        (b"speck 1\ncores 2\nfra", 3, Cause::S2),
-        (b"speck 1\ncores 9", 2, Cause::S5),
-        (
-            b"speck 1\ncores 2\nframes 32\ngrant 100 0 1\n",
-            5,
-            Cause::S7,
-        ),
-        (b"speck 1\ncores 2\nframes 32\ngrant 100 0 1", 5, Cause::S7),
-        (b"\n\n#\n", 4, Cause::S7),
-        (b"speck 2", 1, Cause::S5),
-        (b"speck", 1, Cause::S3),
-        (b"speck one", 1, Cause::S1),
-        (b"speck 1 1", 1, Cause::S4),
-        (b"Speck 1", 1, Cause::S2),
-        (b"cores 2", 1, Cause::S7),
-        (b"speck 1\nspeck 1", 2, Cause::S7),
-        (b"speck 1\nframes 32", 2, Cause::S7),
-        (b"speck 1\r\ncores 0\r\n", 2, Cause::S5),
-        (b"speck 1\r\ncores 2\r\nframes 7\r\n", 3, Cause::S5),
-        (b"speck 1\ncores 8\nframes 19", 3, Cause::S5),
-        (b"speck 1\ncores 2\nframes 513", 3, Cause::S5),
-        (b"speck 1\ncores 2\nframes", 3, Cause::S3),
-        (
-            b"speck 1\ncores 1\nframes 6\ngrant 500000001 0 1",
-            4,
-            Cause::S5,
-        ),
-        (b"speck 1\ncores 1\nframes 6\ngrant 1 64 1", 4, Cause::S5),
-        (b"speck 1\ncores 1\nframes 6\ngrant 1 0 0", 4, Cause::S5),
-        (
-            b"speck 1\ncores 1\nframes 6\ngrant 1 0 16777216",
-            4,
-            Cause::S5,
-        ),
-        (b"speck 1\ncores 1\nframes 6\ngrant 1 0", 4, Cause::S3),
-        (b"speck 1\ncores 1\nframes 6\ncore 0", 4, Cause::S7),
-        (b"speck 1\ncores 1\nframes 6\nlook 0", 4, Cause::S7),
-    ];
-    for (source, line, cause) in table {
-        assert!(&rt; source.len() < 1_000_000);
-        refuses(&rt, rt.alloc(), source, line, cause);
+// Each text is no head, and is refused at that line for that cause.
+fn refuse_heads(rt: &impl Abort, alloc: Global, texts: &[(&[u8], u32, Cause)]) {
+    for (source, line, cause) in texts {
+        assert!(rt; source.len() < 1_000_000);
+        refuses(rt, alloc, source, *line, *cause);
     }
 }
 
 #[test]
-fn lines_that_are_no_calls_are_refused(rt: HostRuntime) -> Result<(), Fail> {
+fn heads_that_end_early_or_are_out_of_order_are_refused(rt: HostRuntime) {
+    refuse_heads(
+        &rt,
+        rt.alloc(),
+        &[
+            (b"", 1, Cause::S7),
+            (b"speck 1\ncores 2\nfra", 3, Cause::S2),
+            (
+                b"speck 1\ncores 2\nframes 32\ngrant 100 0 1\n",
+                5,
+                Cause::S7,
+            ),
+            (b"speck 1\ncores 2\nframes 32\ngrant 100 0 1", 5, Cause::S7),
+            (b"\n\n#\n", 4, Cause::S7),
+            (b"cores 2", 1, Cause::S7),
+            (b"speck 1\nspeck 1", 2, Cause::S7),
+            (b"speck 1\nframes 32", 2, Cause::S7),
+            (b"speck 1\ncores 1\nframes 6\ncore 0", 4, Cause::S7),
+            (b"speck 1\ncores 1\nframes 6\nlook 0", 4, Cause::S7),
+        ],
+    );
+}
+
+#[test]
+fn head_lines_of_other_words_and_numbers_are_refused(rt: HostRuntime) {
+    refuse_heads(
+        &rt,
+        rt.alloc(),
+        &[
+            (b"speck 2", 1, Cause::S5),
+            (b"speck", 1, Cause::S3),
+            (b"speck one", 1, Cause::S1),
+            (b"speck 1 1", 1, Cause::S4),
+            (b"Speck 1", 1, Cause::S2),
+            (b"speck 1\ncores 9", 2, Cause::S5),
+            (b"speck 1\r\ncores 0\r\n", 2, Cause::S5),
+            (b"speck 1\r\ncores 2\r\nframes 7\r\n", 3, Cause::S5),
+            (b"speck 1\ncores 8\nframes 19", 3, Cause::S5),
+            (b"speck 1\ncores 2\nframes 513", 3, Cause::S5),
+            (b"speck 1\ncores 2\nframes", 3, Cause::S3),
+            (
+                b"speck 1\ncores 1\nframes 6\ngrant 500000001 0 1",
+                4,
+                Cause::S5,
+            ),
+            (b"speck 1\ncores 1\nframes 6\ngrant 1 64 1", 4, Cause::S5),
+            (b"speck 1\ncores 1\nframes 6\ngrant 1 0 0", 4, Cause::S5),
+            (
+                b"speck 1\ncores 1\nframes 6\ngrant 1 0 16777216",
+                4,
+                Cause::S5,
+            ),
+            (b"speck 1\ncores 1\nframes 6\ngrant 1 0", 4, Cause::S3),
+        ],
+    );
+}
+
+#[test]
+fn bad_numbers_and_unknown_words_are_refused(rt: HostRuntime) -> Result<(), Fail> {
     refuse_behind(
         &rt,
         rt.alloc(),
         &[
-            (b"core 0\nlook", 7, Cause::S3),
-            (b"core 0\nlook x", 7, Cause::S1),
-            (b"core 0\nlook 65536", 7, Cause::S5),
-            (b"core 0\nlook 1 2", 7, Cause::S4),
-            (b"core 0\ncore 2", 7, Cause::S6),
-            (b"core 0\nlook 0 \xc8", 7, Cause::S8),
             // A bad number: signs, other bases, letters, one past the last.
+            (b"core 0\nlook x", 7, Cause::S1),
             (b"core 0\nlook -1", 7, Cause::S1),
             (b"core 0\nlook +1", 7, Cause::S1),
             (b"core 0\ncopy 0 0x1 20", 7, Cause::S1),
@@ -117,7 +130,18 @@ fn lines_that_are_no_calls_are_refused(rt: HostRuntime) -> Result<(), Fail> {
             (b"core 0\nmake make", 7, Cause::S2),
             (b"core 0\n0.", 7, Cause::S2),
             (b"core 0\n7", 7, Cause::S2),
+        ],
+    )
+}
+
+#[test]
+fn missing_words_and_words_too_many_are_refused(rt: HostRuntime) -> Result<(), Fail> {
+    refuse_behind(
+        &rt,
+        rt.alloc(),
+        &[
             // A missing word: after a comment, and before another fault.
+            (b"core 0\nlook", 7, Cause::S3),
             (b"core 0\ncopy 0 1 # 20", 7, Cause::S3),
             (b"core 0\ncopy 0#1 20", 7, Cause::S3),
             (b"core 0\nretype 0 8", 7, Cause::S3),
@@ -126,13 +150,25 @@ fn lines_that_are_no_calls_are_refused(rt: HostRuntime) -> Result<(), Fail> {
             (b"core 0\nmake thread 0 8 1 20", 7, Cause::S3),
             (b"core", 6, Cause::S3),
             // A word too many.
+            (b"core 0\nlook 1 2", 7, Cause::S4),
             (b"core 0\nflush 0", 7, Cause::S4),
             (b"core 0\nret x", 7, Cause::S4),
             (b"core 0\nmake table 0 8 1 20 3", 7, Cause::S4),
             (b"core 0\nmake comp 0 8 1 20 1 2 1 1", 7, Cause::S4),
             (b"core 0 0", 6, Cause::S4),
             (b"order 0", 6, Cause::S4),
+        ],
+    )
+}
+
+#[test]
+fn numbers_past_their_range_and_unknown_cores_are_refused(rt: HostRuntime) -> Result<(), Fail> {
+    refuse_behind(
+        &rt,
+        rt.alloc(),
+        &[
             // A number past its range.
+            (b"core 0\nlook 65536", 7, Cause::S5),
             (b"core 0\ntick 1000001", 7, Cause::S5),
             (b"core 0\ntransfer 12 13 4000000001", 7, Cause::S5),
             (b"core 0\nmap 2 0 0 9 4", 7, Cause::S5),
@@ -143,10 +179,21 @@ fn lines_that_are_no_calls_are_refused(rt: HostRuntime) -> Result<(), Fail> {
             (b"epochs 0", 6, Cause::S5),
             (b"epochs 65536", 6, Cause::S5),
             // No such core.
+            (b"core 0\ncore 2", 7, Cause::S6),
             (b"core 70000", 6, Cause::S6),
             (b"core 2\n\xff", 6, Cause::S6),
             (b"core 18446744073709551615 1", 6, Cause::S6),
-            // The first of two faults: from left to right, and each word in the order of its judgements.
+        ],
+    )
+}
+
+// Lines are judged from left to right, and each word in the order of its judgements.
+#[test]
+fn the_first_of_two_faults_is_told(rt: HostRuntime) -> Result<(), Fail> {
+    refuse_behind(
+        &rt,
+        rt.alloc(),
+        &[
             (b"core 0\nlook 65536 x", 7, Cause::S5),
             (b"core 0\ncopy 65536 x", 7, Cause::S5),
             (b"core 0\ncopy x 65536", 7, Cause::S1),
@@ -193,6 +240,7 @@ fn bytes_and_lines_past_the_limits_are_refused(rt: HostRuntime) -> Result<(), Fa
         rt.alloc(),
         &[
             (b"# \x80", 6, Cause::S8),
+            (b"core 0\nlook 0 \xc8", 7, Cause::S8),
             (b"core 0\rlook 0", 6, Cause::S8),
             (b"core 0\r", 6, Cause::S8),
             (b"core 2\n\x00", 6, Cause::S6),
@@ -248,7 +296,15 @@ fn cap(number: u16) -> CapId {
     CapId::new(number)
 }
 
-fn first_calls() -> [Call; 14] {
+// The calls of core 0, in the order of the script.
+fn first_calls(alloc: Global) -> Result<Vec<Call>, Fail> {
+    let mut calls = Vec::from_slice(alloc, &calls_on_places_and_frames())?;
+    calls.extend_from_slice(&makes())?;
+    calls.extend_from_slice(&calls_on_pages_and_budgets())?;
+    Ok(calls)
+}
+
+fn calls_on_places_and_frames() -> [Call; 6] {
     [
         Call::Look { a: cap(7) },
         Call::Copy {
@@ -274,41 +330,45 @@ fn first_calls() -> [Call; 14] {
             f: FrameArg::new(8),
             k: FrameKind::Kernel,
         },
-        Call::Make {
-            what: Make::Pleaf,
-            range: cap(0),
-            frame: FrameArg::new(8),
-            table: cap(1),
-            slot: cap(20),
-        },
-        Call::Make {
-            what: Make::Thread { comp: cap(3) },
-            range: cap(0),
-            frame: FrameArg::new(9),
-            table: cap(1),
-            slot: cap(21),
-        },
-        Call::Make {
-            what: Make::Tcap {
+    ]
+}
+
+fn make(what: Make, frame: u16, slot: u16) -> Call {
+    Call::Make {
+        what,
+        range: cap(0),
+        frame: FrameArg::new(frame),
+        table: cap(1),
+        slot: cap(slot),
+    }
+}
+
+fn makes() -> [Call; 4] {
+    [
+        make(Make::Pleaf, 8, 20),
+        make(Make::Thread { comp: cap(3) }, 9, 21),
+        make(
+            Make::Tcap {
                 sched: 63,
                 quality: 16_777_215,
             },
-            range: cap(0),
-            frame: FrameArg::new(10),
-            table: cap(1),
-            slot: cap(22),
-        },
-        Call::Make {
-            what: Make::Comp {
+            10,
+            22,
+        ),
+        make(
+            Make::Comp {
                 table: cap(1),
                 pages: cap(2),
                 live: 63,
             },
-            range: cap(0),
-            frame: FrameArg::new(11),
-            table: cap(1),
-            slot: cap(23),
-        },
+            11,
+            23,
+        ),
+    ]
+}
+
+fn calls_on_pages_and_budgets() -> [Call; 4] {
+    [
         Call::Map {
             p: cap(2),
             v: PageNo::new(4095),
@@ -333,6 +393,7 @@ fn first_calls() -> [Call; 14] {
     ]
 }
 
+// The calls of core 1, in the order of the script.
 fn second_calls() -> [Call; 9] {
     [
         Call::Unmap {
@@ -387,7 +448,8 @@ fn every_call_is_read(rt: HostRuntime) -> Result<(), Fail> {
         Ok(script) => {
             check_setup(&rt, &script.setup);
             assert_eq!(&rt; script.lists.len(), 2);
-            assert_eq!(&rt; script.lists[0].as_slice(), first_calls().as_slice());
+            let first = first_calls(rt.alloc())?;
+            assert_eq!(&rt; script.lists[0].as_slice(), first.as_slice());
             assert_eq!(&rt; script.lists[1].as_slice(), second_calls().as_slice());
             check_order(&rt, &script.order);
         }

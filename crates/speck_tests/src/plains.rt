@@ -11,6 +11,21 @@ use std::thread::Threads;
 
 const MACHINE: &str = "speck 1\ncores 2\nframes 32\ngrant 100 0 1\ngrant 100 0 1\n";
 
+// The same machine, whose grants are of two schedulers.
+const UNLIKE: &str = "speck 1\ncores 2\nframes 32\ngrant 100 0 1\ngrant 100 1 7\n";
+
+// The lines of a temporal capability to which eight schedulers have delegated.
+const EIGHT: &str = "  budget 14
+  quality 0 5
+  quality 1 7
+  quality 2 9
+  quality 3 9
+  quality 4 9
+  quality 5 9
+  quality 6 9
+  quality 7 9
+";
+
 // Appends the calls of a core to a script, and their reply lines to a text.
 fn add_core(
     script: &mut String,
@@ -228,7 +243,7 @@ fn ticks_are_charged_and_owed(rt: HostRuntime) -> Result<(), Fail> {
 }
 
 #[test]
-fn delegations_merge_up_to_eight_schedulers(rt: HostRuntime) -> Result<(), Fail> {
+fn a_delegation_adds_the_schedulers_of_its_source(rt: HostRuntime) -> Result<(), Fail> {
     let rows = &[
         ("test 12 13", "ok preempts"),
         ("test 13 12", "ok preempts"),
@@ -242,6 +257,19 @@ fn delegations_merge_up_to_eight_schedulers(rt: HostRuntime) -> Result<(), Fail>
         ("transfer 12 20 1", "unlike"),
         ("delegate 12 12 1", "same"),
         ("delegate 12 20 91", "short 90"),
+    ];
+    let pieces = &["  budget 14\n  quality 0 5\n  quality 1 7\nlive"];
+    assert!(rt; is_answered(&rt, rt.alloc(), UNLIKE, &[rows], pieces, "total 200\n")?);
+    Ok(())
+}
+
+#[test]
+fn delegations_merge_up_to_eight_schedulers(rt: HostRuntime) -> Result<(), Fail> {
+    let rows = &[
+        ("retype 0 8 kernel", "ok"),
+        ("make tcap 0 8 1 20 0 5", "ok"),
+        ("delegate 12 20 10", "ok"),
+        ("delegate 13 20 4", "ok"),
         ("retype 0 9 kernel", "ok"),
         ("make tcap 0 9 1 21 2 9", "ok"),
         ("delegate 21 20 0", "ok"),
@@ -266,18 +294,7 @@ fn delegations_merge_up_to_eight_schedulers(rt: HostRuntime) -> Result<(), Fail>
         ("test 21 12", "ok stays"),
         ("test 12 21", "ok preempts"),
     ];
-    assert!(rt;
-        is_answered(
-            &rt,
-            rt.alloc(),
-            "speck 1\ncores 2\nframes 32\ngrant 100 0 1\ngrant 100 1 7\n",
-            &[rows],
-            &[
-                "  budget 14\n  quality 0 5\n  quality 1 7\n  quality 2 9\n  quality 3 9\n  quality 4 9\n  quality 5 9\n  quality 6 9\n  quality 7 9\n"
-            ],
-            "total 200\n"
-        )?
-    );
+    assert!(rt; is_answered(&rt, rt.alloc(), UNLIKE, &[rows], &[EIGHT], "total 200\n")?);
     Ok(())
 }
 
@@ -348,70 +365,76 @@ fn calls_are_spent(rt: HostRuntime) -> Result<(), Fail> {
     Ok(())
 }
 
+// The machine of four cores in which a server is booted.
+const SERVED: &str =
+    "speck 1\ncores 4\nframes 128\ngrant 1000 0 1\ngrant 1000 0 1\ngrant 1000 0 1\ngrant 1000 0 1\n";
+
+// What core 0 does: it makes a component with its own tables and a gate to it, calls it, and switches to a thread of its own.
+const BOOT: [(&str, &str); 35] = [
+    ("retype 0 12 kernel", "ok"),
+    ("make table 0 12 1 20", "ok"),
+    ("retype 0 13 kernel", "ok"),
+    ("make leaf 0 13 1 21", "ok"),
+    ("grow 20 0 21", "ok"),
+    ("retype 0 14 kernel", "ok"),
+    ("make pages 0 14 1 22", "ok"),
+    ("retype 0 15 kernel", "ok"),
+    ("make pleaf 0 15 1 23", "ok"),
+    ("grow 22 0 23", "ok"),
+    ("retype 0 16 kernel", "ok"),
+    ("make comp 0 16 1 24 20 22 1", "ok"),
+    ("gate 24 1 25", "ok"),
+    ("copy 20 20 1", "ok"),
+    ("copy 4 20 4", "ok"),
+    ("copy 12 20 12", "ok"),
+    ("retype 0 17 user", "ok"),
+    ("map 22 0 0 17 1", "ok"),
+    ("call 25", "ok"),
+    ("look 1", "ok table 12"),
+    ("look 0", "empty"),
+    ("touch 0", "ok 17 1"),
+    ("tick 40", "ok 40"),
+    ("ret", "ok"),
+    ("touch 0", "fault"),
+    ("retype 0 18 kernel", "ok"),
+    ("make thread 0 18 1 26 24", "ok"),
+    ("retype 0 19 kernel", "ok"),
+    ("make tcap 0 19 1 27 0 4", "ok"),
+    ("delegate 12 27 500", "ok"),
+    ("switch 26 27", "ok"),
+    ("look 12", "ok tcap 8"),
+    ("tick 100", "ok 100"),
+    ("switch 4 12", "ok"),
+    ("look 24", "ok comp 16"),
+];
+
+// What is left of it.
+const BOOTED: [&str; 11] = [
+    "frame 3 comp refs 6\n",
+    "frame 4 thread refs 3\n",
+    "frame 8 tcap refs 3\n  budget 460\n",
+    "frame 12 table refs 3\n",
+    "frame 16 comp refs 4\n  fields 12 14 1 1\n",
+    "frame 17 user refs 1\n",
+    "frame 18 thread refs 1\n  stack 16\n",
+    "frame 19 tcap refs 1\n  budget 400\n  quality 0 4\n",
+    "live 1 epoch 1 frame 16\n",
+    "core 0 thread 4 tcap 8 comp 3 spent 140 owed 0\n  cached 14 0 17 1\n",
+    "core 1 thread 5 tcap 9 comp 3 spent 400 owed 0\n",
+];
+
 #[test]
 fn a_server_is_booted_and_called(rt: HostRuntime) -> Result<(), Fail> {
-    let boot = &[
-        ("retype 0 12 kernel", "ok"),
-        ("make table 0 12 1 20", "ok"),
-        ("retype 0 13 kernel", "ok"),
-        ("make leaf 0 13 1 21", "ok"),
-        ("grow 20 0 21", "ok"),
-        ("retype 0 14 kernel", "ok"),
-        ("make pages 0 14 1 22", "ok"),
-        ("retype 0 15 kernel", "ok"),
-        ("make pleaf 0 15 1 23", "ok"),
-        ("grow 22 0 23", "ok"),
-        ("retype 0 16 kernel", "ok"),
-        ("make comp 0 16 1 24 20 22 1", "ok"),
-        ("gate 24 1 25", "ok"),
-        ("copy 20 20 1", "ok"),
-        ("copy 4 20 4", "ok"),
-        ("copy 12 20 12", "ok"),
-        ("retype 0 17 user", "ok"),
-        ("map 22 0 0 17 1", "ok"),
-        ("call 25", "ok"),
-        ("look 1", "ok table 12"),
-        ("look 0", "empty"),
-        ("touch 0", "ok 17 1"),
-        ("tick 40", "ok 40"),
-        ("ret", "ok"),
-        ("touch 0", "fault"),
-        ("retype 0 18 kernel", "ok"),
-        ("make thread 0 18 1 26 24", "ok"),
-        ("retype 0 19 kernel", "ok"),
-        ("make tcap 0 19 1 27 0 4", "ok"),
-        ("delegate 12 27 500", "ok"),
-        ("switch 26 27", "ok"),
-        ("look 12", "ok tcap 8"),
-        ("tick 100", "ok 100"),
-        ("switch 4 12", "ok"),
-        ("look 24", "ok comp 16"),
-    ];
     let mut others = [("tick 10", "ok 10"); 42];
     others[0] = ("look 0", "ok range 12 116");
     others[41] = ("touch 0", "fault");
-    let pieces = &[
-        "frame 3 comp refs 6\n",
-        "frame 4 thread refs 3\n",
-        "frame 8 tcap refs 3\n  budget 460\n",
-        "frame 12 table refs 3\n",
-        "frame 16 comp refs 4\n  fields 12 14 1 1\n",
-        "frame 17 user refs 1\n",
-        "frame 18 thread refs 1\n  stack 16\n",
-        "frame 19 tcap refs 1\n  budget 400\n  quality 0 4\n",
-        "live 1 epoch 1 frame 16\n",
-        "core 0 thread 4 tcap 8 comp 3 spent 140 owed 0\n  cached 14 0 17 1\n",
-        "core 1 thread 5 tcap 9 comp 3 spent 400 owed 0\n",
-    ];
-    let head =
-        "speck 1\ncores 4\nframes 128\ngrant 1000 0 1\ngrant 1000 0 1\ngrant 1000 0 1\ngrant 1000 0 1\n";
     assert!(rt;
         is_answered(
             &rt,
             rt.alloc(),
-            head,
-            &[boot, &others, &others, &others],
-            pieces,
+            SERVED,
+            &[&BOOT, &others, &others, &others],
+            &BOOTED,
             "total 4000\n"
         )?
     );

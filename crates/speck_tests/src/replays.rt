@@ -61,6 +61,17 @@ fn is_refused<R: Threads + Sync>(
     answers(rt, alloc, &["replay"], bytes, &AMPLE, status, text.as_str())
 }
 
+// Whether the smallest machine's script ends with this status and text over these ends.
+fn ends_so<R: Threads + Sync>(
+    rt: &R,
+    alloc: Global,
+    ends: &Ends,
+    status: Status,
+    text: &str,
+) -> Result<bool, Fail> {
+    answers(rt, alloc, &["replay"], ALONE.as_bytes(), ends, status, text)
+}
+
 #[test]
 fn the_tables_of_the_start_are_written(rt: HostRuntime) -> Result<(), Fail> {
     let alloc = rt.alloc();
@@ -72,15 +83,7 @@ fn the_tables_of_the_start_are_written(rt: HostRuntime) -> Result<(), Fail> {
     assert_eq!(rt; ALONE_TABLES.len(), 341);
     for ends in [AMPLE, by_one] {
         assert!(rt;
-            answers(
-                &rt,
-                alloc,
-                &["replay"],
-                ALONE.as_bytes(),
-                &ends,
-                Status::Done,
-                ALONE_TABLES
-            )?,
+            ends_so(&rt, alloc, &ends, Status::Done, ALONE_TABLES)?,
             "reads of at most {} bytes",
             ends.read_most
         );
@@ -139,31 +142,58 @@ fn a_copy_of_an_object_is_a_reference_to_it(rt: HostRuntime) -> Result<(), Fail>
     Ok(())
 }
 
+// Both cores copy the component, to places of their own.
+const COMPONENT: &str = "core 0\ncopy 3 1 20\ncore 1\ncopy 3 1 21\n";
+
+// Whether these copies, under this order, end with these replies, these entry lines added and so many references.
+//
+// A copy of a component enters, loads six entries, loads the component's count and compares it; then it is ready. It holds
+// the count until it has committed it, after its decision.
+fn component_copies_end<R: Threads + Sync>(
+    rt: &R,
+    alloc: Global,
+    order: &str,
+    replies: &str,
+    added: &str,
+    refs: u32,
+) -> Result<bool, Fail> {
+    let lines = format!(in alloc; "{COMPONENT}{order}")?;
+    is_counted(rt, alloc, lines.as_str(), replies, added, refs)
+}
+
 #[test]
-fn two_cores_copy_one_component(rt: HostRuntime) -> Result<(), Fail> {
+fn a_copy_of_a_component_holds_its_count(rt: HostRuntime) -> Result<(), Fail> {
     let alloc = rt.alloc();
-    let copies = "core 0\ncopy 3 1 20\ncore 1\ncopy 3 1 21\n";
-    // A copy of a component enters, loads six entries, loads the component's count and compares it; then it is ready. It holds
-    // the count until it has committed it, after its decision.
     let rows = [
         (
             "order\n0< 1. 0.\n",
             "1.1 copy 3 1 21 = busy 0\n0.1 copy 3 1 20 = ok\n",
             "  20 comp 3\n",
-            5,
         ),
         (
             "order\n1< 0. 1.\n",
             "0.1 copy 3 1 20 = busy 1\n1.1 copy 3 1 21 = ok\n",
             "  21 comp 3\n",
-            5,
         ),
         (
             "order\n0! 1. 0.\n",
             "0.1 copy 3 1 20 = ok\n1.1 copy 3 1 21 = busy 0\n",
             "  20 comp 3\n",
-            5,
         ),
+    ];
+    for (order, replies, added) in rows {
+        assert!(rt;
+            component_copies_end(&rt, alloc, order, replies, added, 5)?,
+            "{order}"
+        );
+    }
+    Ok(())
+}
+
+#[test]
+fn two_copies_of_a_component_meet_at_its_count(rt: HostRuntime) -> Result<(), Fail> {
+    let alloc = rt.alloc();
+    let rows = [
         (
             "order\n0 0 0 0 0 0 0 0 1 1 1 1 1 1 1 1 0. 1.\n",
             "0.1 copy 3 1 20 = ok\n1.1 copy 3 1 21 = raced\n",
@@ -178,13 +208,18 @@ fn two_cores_copy_one_component(rt: HostRuntime) -> Result<(), Fail> {
         ),
     ];
     for (order, replies, added, refs) in rows {
-        let lines = format!(in alloc; "{copies}{order}")?;
         assert!(rt;
-            is_counted(&rt, alloc, lines.as_str(), replies, added, refs)?,
+            component_copies_end(&rt, alloc, order, replies, added, refs)?,
             "{order}"
         );
     }
-    // A copy that is refused gives the count back: the next one acquires it.
+    Ok(())
+}
+
+#[test]
+fn a_copy_that_is_refused_gives_the_count_back(rt: HostRuntime) -> Result<(), Fail> {
+    let alloc = rt.alloc();
+    // The next copy acquires it.
     assert!(rt;
         is_counted(
             &rt,
@@ -423,6 +458,13 @@ fn scripts_are_printed_in_one_form(rt: HostRuntime) -> Result<(), Fail> {
             "{lines}"
         );
     }
+    Ok(())
+}
+
+#[test]
+fn a_script_that_is_none_is_not_printed(rt: HostRuntime) -> Result<(), Fail> {
+    let alloc = rt.alloc();
+    let print = ["print"];
     assert!(rt;
         answers(
             &rt,
@@ -441,7 +483,7 @@ fn scripts_are_printed_in_one_form(rt: HostRuntime) -> Result<(), Fail> {
 }
 
 #[test]
-fn faults_have_their_statuses(rt: HostRuntime) -> Result<(), Fail> {
+fn a_write_that_fails_has_its_status(rt: HostRuntime) -> Result<(), Fail> {
     let alloc = rt.alloc();
     let second_write = Ends {
         write_most: 100,
@@ -449,6 +491,27 @@ fn faults_have_their_statuses(rt: HostRuntime) -> Result<(), Fail> {
         ..AMPLE
     };
     let full = Ends { room: 10, ..AMPLE };
+    // These ends would go on after their one failure.
+    let first_write = Ends {
+        write_fails: 1,
+        ..AMPLE
+    };
+    let rows = [
+        ("the second write fails", second_write, FRONT),
+        ("the sink is full", full, "frame 0 ta"),
+        ("the first write fails", first_write, ""),
+    ];
+    assert_eq!(rt; FRONT.len(), 100);
+    for (what, ends, text) in rows {
+        let status = Status::WriteFault;
+        assert!(rt; ends_so(&rt, alloc, &ends, status, text)?, "{what}");
+    }
+    Ok(())
+}
+
+#[test]
+fn a_read_that_fails_has_its_status(rt: HostRuntime) -> Result<(), Fail> {
+    let alloc = rt.alloc();
     let first_read = Ends {
         read_fails: 1,
         ..AMPLE
@@ -459,44 +522,14 @@ fn faults_have_their_statuses(rt: HostRuntime) -> Result<(), Fail> {
         read_fails: 2,
         ..AMPLE
     };
-    let first_write = Ends {
-        write_fails: 1,
-        ..AMPLE
-    };
     let rows = [
-        (
-            "the second write fails",
-            second_write,
-            Status::WriteFault,
-            FRONT,
-        ),
-        ("the sink is full", full, Status::WriteFault, "frame 0 ta"),
-        ("the first write fails", first_write, Status::WriteFault, ""),
-        (
-            "the first read fails",
-            first_read,
-            Status::ReadFault,
-            "read failed\n",
-        ),
-        (
-            "the second read fails",
-            second_read,
-            Status::ReadFault,
-            "read failed\n",
-        ),
+        ("the first read fails", first_read),
+        ("the second read fails", second_read),
     ];
-    assert_eq!(rt; FRONT.len(), 100);
-    for (what, ends, status, text) in rows {
+    for (what, ends) in rows {
+        let status = Status::ReadFault;
         assert!(rt;
-            answers(
-                &rt,
-                alloc,
-                &["replay"],
-                ALONE.as_bytes(),
-                &ends,
-                status,
-                text
-            )?,
+            ends_so(&rt, alloc, &ends, status, "read failed\n")?,
             "{what}"
         );
     }
@@ -504,7 +537,7 @@ fn faults_have_their_statuses(rt: HostRuntime) -> Result<(), Fail> {
 }
 
 #[test]
-fn words_and_length_are_judged_first(rt: HostRuntime) -> Result<(), Fail> {
+fn words_are_judged_first(rt: HostRuntime) -> Result<(), Fail> {
     let alloc = rt.alloc();
     let rows: [(&str, &[&str]); 6] = [
         ("no word", &[]),
@@ -528,6 +561,12 @@ fn words_and_length_are_judged_first(rt: HostRuntime) -> Result<(), Fail> {
             "{what}"
         );
     }
+    Ok(())
+}
+
+#[test]
+fn a_source_past_the_longest_is_told(rt: HostRuntime) -> Result<(), Fail> {
+    let alloc = rt.alloc();
     let spaces = vec![in alloc; b' '; 1_048_577]?;
     let replay = ["replay"];
     assert!(rt;

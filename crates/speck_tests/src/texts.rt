@@ -27,7 +27,7 @@ fn made(what: Make) -> Call {
 }
 
 #[test]
-fn capability_calls_print_as_they_are_written(rt: HostRuntime) -> Result<(), Fail> {
+fn looks_copies_and_removals_print_as_they_are_written(rt: HostRuntime) -> Result<(), Fail> {
     let alloc = rt.alloc();
     assert!(rt; prints(alloc, &Call::Look { a: id(65535) }, "look 65535")?);
     assert!(rt;
@@ -51,6 +51,12 @@ fn capability_calls_print_as_they_are_written(rt: HostRuntime) -> Result<(), Fai
             "remove 1 20"
         )?
     );
+    Ok(())
+}
+
+#[test]
+fn grows_shrinks_and_retypes_print_as_they_are_written(rt: HostRuntime) -> Result<(), Fail> {
+    let alloc = rt.alloc();
     assert!(rt;
         prints(
             alloc,
@@ -72,6 +78,23 @@ fn capability_calls_print_as_they_are_written(rt: HostRuntime) -> Result<(), Fai
             "shrink 1 63"
         )?
     );
+    assert!(rt;
+        prints(
+            alloc,
+            &Call::Retype {
+                r: id(0),
+                f: FrameArg::new(9),
+                k: FrameKind::Untyped
+            },
+            "retype 0 9 untyped"
+        )?
+    );
+    Ok(())
+}
+
+#[test]
+fn makes_print_as_they_are_written(rt: HostRuntime) -> Result<(), Fail> {
+    let alloc = rt.alloc();
     assert!(rt; prints(alloc, &made(Make::Table), "make table 0 8 1 20")?);
     assert!(rt; prints(alloc, &made(Make::Leaf), "make leaf 0 8 1 20")?);
     assert!(rt; prints(alloc, &made(Make::Pages), "make pages 0 8 1 20")?);
@@ -104,24 +127,13 @@ fn capability_calls_print_as_they_are_written(rt: HostRuntime) -> Result<(), Fai
             "make comp 0 8 1 20 1 2 7"
         )?
     );
+    assert_eq!(rt; call_name(&made(Make::Leaf)), "make");
     Ok(())
 }
 
 #[test]
-fn other_calls_print_as_they_are_written(rt: HostRuntime) -> Result<(), Fail> {
+fn calls_on_pages_print_as_they_are_written(rt: HostRuntime) -> Result<(), Fail> {
     let alloc = rt.alloc();
-    let frame = FrameArg::new(9);
-    assert!(rt;
-        prints(
-            alloc,
-            &Call::Retype {
-                r: id(0),
-                f: frame,
-                k: FrameKind::Untyped
-            },
-            "retype 0 9 untyped"
-        )?
-    );
     assert!(rt;
         prints(
             alloc,
@@ -129,7 +141,7 @@ fn other_calls_print_as_they_are_written(rt: HostRuntime) -> Result<(), Fail> {
                 p: id(2),
                 v: PageNo::new(0),
                 r: id(0),
-                f: frame,
+                f: FrameArg::new(9),
                 w: PageFlags::WRITE
             },
             "map 2 0 0 9 1"
@@ -147,6 +159,12 @@ fn other_calls_print_as_they_are_written(rt: HostRuntime) -> Result<(), Fail> {
     );
     assert!(rt; prints(alloc, &Call::Touch { v: PageNo::new(3) }, "touch 3")?);
     assert!(rt; prints(alloc, &Call::Flush, "flush")?);
+    Ok(())
+}
+
+#[test]
+fn calls_on_components_and_threads_print_as_they_are_written(rt: HostRuntime) -> Result<(), Fail> {
+    let alloc = rt.alloc();
     assert!(rt;
         prints(
             alloc,
@@ -171,6 +189,12 @@ fn other_calls_print_as_they_are_written(rt: HostRuntime) -> Result<(), Fail> {
             "switch 4 12"
         )?
     );
+    Ok(())
+}
+
+#[test]
+fn calls_on_budgets_print_as_they_are_written(rt: HostRuntime) -> Result<(), Fail> {
+    let alloc = rt.alloc();
     assert!(rt; prints(alloc, &Call::Tick { n: 1000000 }, "tick 1000000")?);
     assert!(rt;
         prints(
@@ -204,14 +228,12 @@ fn other_calls_print_as_they_are_written(rt: HostRuntime) -> Result<(), Fail> {
             "test 12 13"
         )?
     );
-    assert_eq!(rt; call_name(&made(Make::Leaf)), "make");
     Ok(())
 }
 
 #[test]
-fn replies_print_their_word_and_number(rt: HostRuntime) -> Result<(), Fail> {
+fn answers_and_capabilities_print_what_they_tell(rt: HostRuntime) -> Result<(), Fail> {
     let alloc = rt.alloc();
-    let core = CoreNo::new(1);
     let range = Cap::new(Kind::Range, FrameNo::new(8), 24);
     assert!(rt; prints(alloc, &Reply::Ok(Value::Nothing), "ok")?);
     assert!(rt; prints(alloc, &Reply::Ok(Value::Cap(range)), "ok range 8 24")?);
@@ -229,6 +251,13 @@ fn replies_print_their_word_and_number(rt: HostRuntime) -> Result<(), Fail> {
     );
     assert!(rt; prints(alloc, &Reply::Ok(Value::Amount(5)), "ok 5")?);
     assert!(rt; prints(alloc, &Reply::Ok(Value::Preempts), "ok preempts")?);
+    Ok(())
+}
+
+#[test]
+fn replies_print_their_word_and_number(rt: HostRuntime) -> Result<(), Fail> {
+    let alloc = rt.alloc();
+    let core = CoreNo::new(1);
     assert!(rt; prints(alloc, &Reply::Quiescing(core), "quiescing 1")?);
     assert!(rt; prints(alloc, &Reply::Referenced(2), "referenced 2")?);
     assert!(rt; prints(alloc, &Reply::CallsSpent, "calls-spent")?);
