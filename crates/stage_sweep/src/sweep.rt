@@ -11,7 +11,7 @@
 //! **Giving back.** A refused sweep leaves the counters that it has frozen; they are kept as they were found, to be
 //! released again.
 
-ghost use Rattle.std.specs.Prelude.{◌≡◌, ◌<◌, ◌≤◌, ◌==◌, nat_lt, length, [], None, IfSome};
+ghost use Rattle.std.specs.Prelude.{◌≡◌, ◌+◌, ◌<◌, ◌≤◌, ◌==◌, nat_lt, if◌then◌else◌, length, [], None, Some, IfSome};
 ghost use Rattle.spk_nums.specs.declared.steps.StageEnd.TheVariants.{Going};
 ghost use Rattle.spk_nums.specs.WordSteps.{place_in};
 ghost use Rattle.frame_words.specs.Count.{NumberFits, word_of_count, count_of_word};
@@ -21,7 +21,7 @@ ghost use Rattle.word_map.specs.Moves.{op_of};
 ghost use Rattle.stage_pins.specs.Counts.{unheld};
 ghost use Rattle.stage_quiet.specs.Scan.{quiet_scan, QuietFits, quiet_end, quiet_after};
 ghost use Rattle.stage_sweep.specs.Counters.{counters_of, sum_of_counts, latest_stamp};
-ghost use Rattle.stage_sweep.specs.Emptiness.{may_be_cached};
+ghost use Rattle.stage_sweep.specs.Emptiness.{loads_of, may_be_cached};
 ghost use Rattle.stage_sweep.specs.Freeze.{frozen, AtFits, StepFits, KeepFits, TookFits, kept_by, SweepFits, sweep_move, frozen_at};
 ghost use Rattle.stage_sweep.specs.Freeze.{hold_refuses, load_refuses, sum_refuses, compare_refuses, refusal_of, refuses_at};
 ghost use Rattle.stage_sweep.specs.Freeze.{load_next, empty_next, scan_next, compare_next, scan_goes, next_at, owned_at, sweep_kept};
@@ -214,17 +214,9 @@ impl Sweep {
             }
             SweepAt::Empty { entry } => {
                 let object = self.word.object;
-                let at = entry.number();
-                let next = if at + 1 < loads_of(object) {
-                    Some(SweepAt::Empty {
-                        entry: EntryNo::new(at + 1),
-                    })
-                } else {
-                    None
-                };
                 (
                     empty_refuses(layout, self.frame, object, entry, found),
-                    next,
+                    entry_next(object, entry),
                 )
             }
         }
@@ -412,6 +404,22 @@ fn empty_next(object: Obj) -> Option<SweepAt>
         Some(SweepAt::Empty {
             entry: EntryNo::new(0),
         })
+    }
+}
+
+// After a word of the object the next one is looked at, where there is one more.
+#[inline]
+fn entry_next(object: Obj, entry: EntryNo) -> Option<SweepAt>
+    requires { entry < 64 }
+    ensures { result ≡ (if nat_lt (entry + 1) (loads_of object) then Some (SweepAt.Empty (entry + 1)) else None) }
+{
+    let next = entry.number() + 1;
+    if next < loads_of(object) {
+        Some(SweepAt::Empty {
+            entry: EntryNo::new(next),
+        })
+    } else {
+        None
     }
 }
 

@@ -4,7 +4,9 @@
 
 use crate::delegations::{BOTH, DELEGATE_STEPS, OTHER, OWN, TWO_SCHEDULERS, lists_left};
 use crate::ticks::tables;
+use std::alloc::Global;
 use std::test::Fail;
+use std::thread::Threads;
 use test_machine::{MACHINE, steps, writes};
 
 // The steps of a test.
@@ -80,6 +82,18 @@ fn a_delegation_is_busy_at_the_head_that_a_test_has_marked(rt: HostRuntime) -> R
     Ok(())
 }
 
+// The tables that are left where a temporal capability is made in frame 8 and entry 20, 10 ticks are delegated to it, and none to 13.
+fn left_with_a_third(alloc: Global) -> Result<String, Fail> {
+    let left = lists_left(alloc, (90, 100), (OWN, BOTH))?;
+    let left = left.replace(alloc, "  13 tcap 7\n", "  13 tcap 7\n  20 tcap 8\n")?;
+    let left = left.replace(
+        alloc,
+        "live 0",
+        "frame 8 tcap refs 1\n  budget 10\n  quality 0 5\nlive 0",
+    )?;
+    Ok(left)
+}
+
 #[test]
 fn a_reader_of_a_list_that_is_being_stored_is_raced_or_busy(rt: HostRuntime) -> Result<(), Fail> {
     let alloc = rt.alloc();
@@ -89,13 +103,7 @@ fn a_reader_of_a_list_that_is_being_stored_is_raced_or_busy(rt: HostRuntime) -> 
         "0.1 retype 0 8 kernel = ok\n0.2 make tcap 0 8 1 20 0 5 = ok\n0.3 delegate 12 20 10 = ok\n";
     // No tick is moved, and still the head of 13 is another one after that.
     let moved = "0.4 delegate 12 13 0 = ok\n";
-    let left = lists_left(alloc, (90, 100), (OWN, BOTH))?;
-    let left = left.replace(alloc, "  13 tcap 7\n", "  13 tcap 7\n  20 tcap 8\n")?;
-    let left = left.replace(
-        alloc,
-        "live 0",
-        "frame 8 tcap refs 1\n  budget 10\n  quality 0 5\nlive 0",
-    )?;
+    let left = left_with_a_third(alloc)?;
     // The test has not loaded the head of 13, or has, with none, some or all of the words of its list.
     for one in [0_usize, 15, 16, 17, 20, 24] {
         let before = steps(alloc, 1, one)?;
@@ -130,13 +138,7 @@ fn a_list_read_word_by_word_beside_its_stores_is_not_judged(rt: HostRuntime) -> 
     let made =
         "0.1 retype 0 8 kernel = ok\n0.2 make tcap 0 8 1 20 0 5 = ok\n0.3 delegate 12 20 10 = ok\n";
     let replies = "0.4 delegate 12 13 0 = ok\n1.1 test 20 13 = raced\n1.2 test 20 13 = ok stays\n";
-    let left = lists_left(alloc, (90, 100), (OWN, BOTH))?;
-    let left = left.replace(alloc, "  13 tcap 7\n", "  13 tcap 7\n  20 tcap 8\n")?;
-    let left = left.replace(
-        alloc,
-        "live 0",
-        "frame 8 tcap refs 1\n  budget 10\n  quality 0 5\nlive 0",
-    )?;
+    let left = left_with_a_third(alloc)?;
     let loaded = steps(alloc, 1, 16)?;
     let decided = steps(alloc, 0, 25)?;
     // Each word is loaded after its store, and before it.
@@ -154,35 +156,39 @@ fn a_list_read_word_by_word_beside_its_stores_is_not_judged(rt: HostRuntime) -> 
     Ok(())
 }
 
+// The replies, the budgets, and what core 1 has spent and owes, where its tick comes whole after so many steps of the delegation.
+fn ticked_at(number: usize) -> (&'static str, (u32, u32), (u32, u32)) {
+    match number {
+        0..16 => (
+            "1.1 tick 7 = ok 7\n0.1 delegate 12 13 10 = ok\n",
+            (90, 103),
+            (7, 0),
+        ),
+        16..25 => (
+            "1.1 tick 7 = ok 7\n0.1 delegate 12 13 10 = raced\n",
+            (100, 93),
+            (7, 0),
+        ),
+        25..34 => (
+            "0.1 delegate 12 13 10 = ok\n1.1 tick 7 = busy 0\n",
+            (90, 110),
+            (0, 7),
+        ),
+        _ => (
+            "0.1 delegate 12 13 10 = ok\n1.1 tick 7 = ok 7\n",
+            (90, 103),
+            (7, 0),
+        ),
+    }
+}
+
 #[test]
 fn a_tick_of_the_second_temporal_capability_loses_or_stops_a_delegation(
     rt: HostRuntime,
 ) -> Result<(), Fail> {
     let alloc = rt.alloc();
-    // The tick comes whole after so many steps of the delegation.
     for number in 0..DELEGATE_STEPS + 1 {
-        let (replies, budgets, charged) = match number {
-            0..16 => (
-                "1.1 tick 7 = ok 7\n0.1 delegate 12 13 10 = ok\n",
-                (90, 103),
-                (7, 0),
-            ),
-            16..25 => (
-                "1.1 tick 7 = ok 7\n0.1 delegate 12 13 10 = raced\n",
-                (100, 93),
-                (7, 0),
-            ),
-            25..34 => (
-                "0.1 delegate 12 13 10 = ok\n1.1 tick 7 = busy 0\n",
-                (90, 110),
-                (0, 7),
-            ),
-            _ => (
-                "0.1 delegate 12 13 10 = ok\n1.1 tick 7 = ok 7\n",
-                (90, 103),
-                (7, 0),
-            ),
-        };
+        let (replies, budgets, charged) = ticked_at(number);
         let items = steps(alloc, 0, number)?;
         let script = format!(in alloc;
             "{MACHINE}core 0\ndelegate 12 13 10\ncore 1\ntick 7\norder\n{items}1. 0.\n"
@@ -197,29 +203,55 @@ fn a_tick_of_the_second_temporal_capability_loses_or_stops_a_delegation(
     Ok(())
 }
 
+// Whether a delegation of core 0 and one of core 1 the other way end under this order with these replies, budgets and lists.
+fn delegations_end<R: Threads + Sync>(
+    rt: &R,
+    alloc: Global,
+    order: &str,
+    replies: &str,
+    budgets: (u32, u32),
+    lists: (&str, &str),
+) -> Result<bool, Fail> {
+    let script = format!(in alloc;
+        "{TWO_SCHEDULERS}core 0\ndelegate 12 13 10\ncore 1\ndelegate 13 12 5\norder\n{order}\n"
+    )?;
+    let left = lists_left(alloc, budgets, lists)?;
+    let text = format!(in alloc; "{replies}{left}")?;
+    writes(rt, alloc, &["replay"], &script, &text)
+}
+
+#[test]
+fn delegations_in_both_directions_follow_each_other(rt: HostRuntime) -> Result<(), Fail> {
+    let alloc = rt.alloc();
+    let rows = [
+        (
+            "0. 1.",
+            "0.1 delegate 12 13 10 = ok\n1.1 delegate 13 12 5 = ok\n",
+        ),
+        (
+            "1. 0.",
+            "1.1 delegate 13 12 5 = ok\n0.1 delegate 12 13 10 = ok\n",
+        ),
+    ];
+    for (order, replies) in rows {
+        assert!(rt;
+            delegations_end(&rt, alloc, order, replies, (95, 105), (BOTH, BOTH))?,
+            "{order}"
+        );
+    }
+    Ok(())
+}
+
 #[test]
 fn delegations_in_both_directions_meet(rt: HostRuntime) -> Result<(), Fail> {
     let alloc = rt.alloc();
-    let lists = "core 0\ndelegate 12 13 10\ncore 1\ndelegate 13 12 5\norder\n";
     let rows = [
-        // Core 0 has decided, and its lists and heads are still to be stored; then nothing of it is.
+        // Core 0 has decided, and its lists and heads are still to be stored.
         (
             "0! 1. 0.",
             "0.1 delegate 12 13 10 = ok\n1.1 delegate 13 12 5 = busy 0\n",
             (90, 110),
             (OWN, BOTH),
-        ),
-        (
-            "0. 1.",
-            "0.1 delegate 12 13 10 = ok\n1.1 delegate 13 12 5 = ok\n",
-            (95, 105),
-            (BOTH, BOTH),
-        ),
-        (
-            "1. 0.",
-            "1.1 delegate 13 12 5 = ok\n0.1 delegate 12 13 10 = ok\n",
-            (95, 105),
-            (BOTH, BOTH),
         ),
         // Core 0 is ready; core 1 meets its mark, gives its own head back as it was, and core 0 finds that unchanged.
         (
@@ -236,11 +268,11 @@ fn delegations_in_both_directions_meet(rt: HostRuntime) -> Result<(), Fail> {
             (OWN, OTHER),
         ),
     ];
-    for (order, replies, budgets, lists_of) in rows {
-        let script = format!(in alloc; "{TWO_SCHEDULERS}{lists}{order}\n")?;
-        let left = lists_left(alloc, budgets, lists_of)?;
-        let text = format!(in alloc; "{replies}{left}")?;
-        assert!(rt; writes(&rt, alloc, &["replay"], &script, &text)?, "{order}");
+    for (order, replies, budgets, lists) in rows {
+        assert!(rt;
+            delegations_end(&rt, alloc, order, replies, budgets, lists)?,
+            "{order}"
+        );
     }
     Ok(())
 }

@@ -4,6 +4,7 @@
 use crate::ticks::tables;
 use std::alloc::Global;
 use std::test::Fail;
+use std::thread::Threads;
 use test_machine::{leads_to, place_of};
 
 // The orders of six steps of two cores.
@@ -109,10 +110,27 @@ fn of_two_ticks_of_one_temporal_capability_one_is_carried_out_in_each_order_of_t
     Ok(())
 }
 
+// Whether two ticks of 70 on one budget of 100, and a tick of nothing after each, end under this order with these replies and these
+// ticks spent and owed.
+fn ticks_end<R: Threads + Sync>(
+    rt: &R,
+    alloc: Global,
+    order: &str,
+    replies: &str,
+    zero: (u32, u32),
+    one: (u32, u32),
+) -> Result<bool, Fail> {
+    let lines = format!(in alloc;
+        "{MAKES}tick 70\ntick 0\n{SWITCHES}tick 70\ntick 0\n{FIRST}{order}\n"
+    )?;
+    let replies = format!(in alloc; "{MADE}{replies}")?;
+    let left = shared(alloc, 0, zero, one)?;
+    leads_to(rt, alloc, &lines, &replies, &left)
+}
+
 #[test]
 fn two_cores_spend_one_budget_and_owe_the_rest(rt: HostRuntime) -> Result<(), Fail> {
     let alloc = rt.alloc();
-    let lists = format!(in alloc; "{MAKES}tick 70\ntick 0\n{SWITCHES}tick 70\ntick 0\n{FIRST}")?;
     let rows = [
         (
             "0. 1. 0. 1.",
@@ -126,18 +144,35 @@ fn two_cores_spend_one_budget_and_owe_the_rest(rt: HostRuntime) -> Result<(), Fa
             (30, 40),
             (70, 0),
         ),
-        // Core 0 has loaded the head, and then decided; then core 1 has loaded it.
-        (
-            "0< 1. 0. 0. 1.",
-            "1.2 tick 70 = ok 70\n0.3 tick 70 = raced\n0.4 tick 0 = ok 30\n1.3 tick 0 = ok 0\n",
-            (30, 40),
-            (70, 0),
-        ),
+        // Core 0 has decided, and is still inside.
         (
             "0! 1. 0. 0. 1.",
             "0.3 tick 70 = ok 70\n1.2 tick 70 = ok 30\n0.4 tick 0 = ok 0\n1.3 tick 0 = ok 0\n",
             (70, 0),
             (30, 40),
+        ),
+    ];
+    for (order, replies, zero, one) in rows {
+        assert!(rt;
+            ticks_end(&rt, alloc, order, replies, zero, one)?,
+            "{order}"
+        );
+    }
+    Ok(())
+}
+
+// Where a core has loaded the head before the other's tick.
+#[test]
+fn a_tick_that_is_raced_is_charged_by_the_next_as_far_as_the_budget_goes(
+    rt: HostRuntime,
+) -> Result<(), Fail> {
+    let alloc = rt.alloc();
+    let rows = [
+        (
+            "0< 1. 0. 0. 1.",
+            "1.2 tick 70 = ok 70\n0.3 tick 70 = raced\n0.4 tick 0 = ok 30\n1.3 tick 0 = ok 0\n",
+            (30, 40),
+            (70, 0),
         ),
         (
             "1< 0. 1. 0. 1.",
@@ -147,10 +182,10 @@ fn two_cores_spend_one_budget_and_owe_the_rest(rt: HostRuntime) -> Result<(), Fa
         ),
     ];
     for (order, replies, zero, one) in rows {
-        let lines = format!(in alloc; "{lists}{order}\n")?;
-        let replies = format!(in alloc; "{MADE}{replies}")?;
-        let left = shared(alloc, 0, zero, one)?;
-        assert!(rt; leads_to(&rt, alloc, &lines, &replies, &left)?, "{order}");
+        assert!(rt;
+            ticks_end(&rt, alloc, order, replies, zero, one)?,
+            "{order}"
+        );
     }
     Ok(())
 }

@@ -2,7 +2,9 @@
 //! (16) and list B (17 to 24), and then compare head B, or load it again, which decides (25); then head A is stored (26).
 
 use crate::ticks::tables;
+use std::alloc::Global;
 use std::test::Fail;
+use std::thread::Threads;
 use test_machine::{COMMANDS, FROM_ENTRIES, MACHINE, TO_ENTRIES, leads_to, writes};
 
 #[test]
@@ -60,26 +62,52 @@ fn a_test_tells_which_is_better_and_moves_nothing(rt: HostRuntime) -> Result<(),
     Ok(())
 }
 
+// Whether a transfer of core 0 and one of core 1 the other way end under this order with these replies and budgets.
+fn transfers_end<R: Threads + Sync>(
+    rt: &R,
+    alloc: Global,
+    order: &str,
+    replies: &str,
+    budgets: (u32, u32),
+) -> Result<bool, Fail> {
+    let lines = format!(in alloc;
+        "core 0\ntransfer 12 13 10\ncore 1\ntransfer 13 12 5\norder\n{order}\n"
+    )?;
+    let left = tables(alloc, budgets, (0, 0), (0, 0))?;
+    leads_to(rt, alloc, &lines, replies, &left)
+}
+
 #[test]
-fn transfers_in_both_directions_meet(rt: HostRuntime) -> Result<(), Fail> {
+fn transfers_in_both_directions_follow_each_other(rt: HostRuntime) -> Result<(), Fail> {
     let alloc = rt.alloc();
-    let lists = "core 0\ntransfer 12 13 10\ncore 1\ntransfer 13 12 5\n";
     let rows = [
-        // Core 0 has decided, and its head is still to be stored; then nothing of it is.
-        (
-            "0! 1. 0.",
-            "0.1 transfer 12 13 10 = ok\n1.1 transfer 13 12 5 = busy 0\n",
-            (90, 110),
-        ),
         (
             "0. 1.",
             "0.1 transfer 12 13 10 = ok\n1.1 transfer 13 12 5 = ok\n",
-            (95, 105),
         ),
         (
             "1. 0.",
             "1.1 transfer 13 12 5 = ok\n0.1 transfer 12 13 10 = ok\n",
-            (95, 105),
+        ),
+    ];
+    for (order, replies) in rows {
+        assert!(rt;
+            transfers_end(&rt, alloc, order, replies, (95, 105))?,
+            "{order}"
+        );
+    }
+    Ok(())
+}
+
+#[test]
+fn transfers_in_both_directions_meet(rt: HostRuntime) -> Result<(), Fail> {
+    let alloc = rt.alloc();
+    let rows = [
+        // Core 0 has decided, and its head is still to be stored.
+        (
+            "0! 1. 0.",
+            "0.1 transfer 12 13 10 = ok\n1.1 transfer 13 12 5 = busy 0\n",
+            (90, 110),
         ),
         // Core 0 is ready; core 1 meets its mark, gives its own head back as it was, and core 0 finds that unchanged.
         (
@@ -95,109 +123,129 @@ fn transfers_in_both_directions_meet(rt: HostRuntime) -> Result<(), Fail> {
         ),
     ];
     for (order, replies, budgets) in rows {
-        let lines = format!(in alloc; "{lists}order\n{order}\n")?;
-        let left = tables(alloc, budgets, (0, 0), (0, 0))?;
-        assert!(rt; leads_to(&rt, alloc, &lines, replies, &left)?, "{order}");
+        assert!(rt;
+            transfers_end(&rt, alloc, order, replies, budgets)?,
+            "{order}"
+        );
     }
     Ok(())
 }
 
 #[test]
-fn a_head_that_changes_is_lost(rt: HostRuntime) -> Result<(), Fail> {
+fn a_call_whose_second_head_a_tick_changes_is_raced(rt: HostRuntime) -> Result<(), Fail> {
     let alloc = rt.alloc();
     let rows = [
-        // A tick of B's core changes B's head.
         (
             "transfer 12 13 10",
             "tick 7",
-            "0< 1. 0.",
             "1.1 tick 7 = ok 7\n0.1 transfer 12 13 10 = raced\n",
             (100, 93),
-            (0, 0),
             (7, 0),
         ),
         (
             "test 12 13",
             "tick 7",
-            "0< 1. 0.",
             "1.1 tick 7 = ok 7\n0.1 test 12 13 = raced\n",
             (100, 93),
-            (0, 0),
             (7, 0),
         ),
-        // A tick of no ticks changes it too; a load before head B does not meet it.
+        // A tick of no ticks changes it too.
         (
             "test 12 13",
             "tick 0",
-            "0< 1. 0.",
             "1.1 tick 0 = ok 0\n0.1 test 12 13 = raced\n",
             (100, 100),
             (0, 0),
-            (0, 0),
         ),
+    ];
+    for (call, tick, replies, budgets, one) in rows {
+        let lines = format!(in alloc; "core 0\n{call}\ncore 1\n{tick}\norder\n0< 1. 0.\n")?;
+        let left = tables(alloc, budgets, (0, 0), one)?;
+        assert!(rt;
+            leads_to(&rt, alloc, &lines, replies, &left)?,
+            "{call}, {tick}"
+        );
+    }
+    Ok(())
+}
+
+#[test]
+fn a_tick_before_the_second_head_is_loaded_does_not_meet_the_test(
+    rt: HostRuntime,
+) -> Result<(), Fail> {
+    let alloc = rt.alloc();
+    let lines = "core 0\ntest 12 13\ncore 1\ntick 7\norder\n0 0 0 0 0 0 0 0 1. 0.\n";
+    let replies = "1.1 tick 7 = ok 7\n0.1 test 12 13 = ok stays\n";
+    let left = tables(alloc, (100, 93), (0, 0), (7, 0))?;
+    assert!(rt; leads_to(&rt, alloc, lines, replies, &left)?);
+    Ok(())
+}
+
+#[test]
+fn a_tick_loses_its_head_or_meets_a_mark_and_its_ticks_are_owed(
+    rt: HostRuntime,
+) -> Result<(), Fail> {
+    let alloc = rt.alloc();
+    let rows = [
+        // The tick has loaded the head, and then meets the mark.
         (
-            "test 12 13",
-            "tick 7",
-            "0 0 0 0 0 0 0 0 1. 0.",
-            "1.1 tick 7 = ok 7\n0.1 test 12 13 = ok stays\n",
-            (100, 93),
-            (0, 0),
-            (7, 0),
-        ),
-        // A tick whose head was loaded loses it to a transfer, and meets a mark; its ticks are owed.
-        (
-            "tick 7",
             "transfer 12 13 10",
             "0< 1. 0.",
             "1.1 transfer 12 13 10 = ok\n0.1 tick 7 = raced\n",
             (90, 110),
-            (0, 7),
-            (0, 0),
         ),
         (
-            "tick 7",
             "transfer 12 13 10",
             "1! 0. 1.",
             "1.1 transfer 12 13 10 = ok\n0.1 tick 7 = busy 1\n",
             (90, 110),
-            (0, 7),
-            (0, 0),
         ),
         (
-            "tick 7",
             "test 12 13",
             "1< 0. 1.",
             "0.1 tick 7 = busy 1\n1.1 test 12 13 = ok stays\n",
             (100, 100),
-            (0, 7),
-            (0, 0),
         ),
-        // A test gives head A back in the version in which it found it, so a tick that has loaded it is not lost.
+    ];
+    for (call, order, replies, budgets) in rows {
+        let lines = format!(in alloc; "core 0\ntick 7\ncore 1\n{call}\norder\n{order}\n")?;
+        let left = tables(alloc, budgets, (0, 7), (0, 0))?;
+        assert!(rt;
+            leads_to(&rt, alloc, &lines, replies, &left)?,
+            "{call}: {order}"
+        );
+    }
+    Ok(())
+}
+
+// It gives head A back in the version in which it found it.
+#[test]
+fn what_has_loaded_the_head_that_a_test_gives_back_is_not_lost(
+    rt: HostRuntime,
+) -> Result<(), Fail> {
+    let alloc = rt.alloc();
+    let rows = [
         (
             "tick 7",
             "test 12 13",
-            "0< 1. 0.",
             "1.1 test 12 13 = ok stays\n0.1 tick 7 = ok 7\n",
             (93, 100),
             (7, 0),
-            (0, 0),
         ),
         (
             "test 12 13",
             "test 13 12",
-            "0< 1. 0.",
             "1.1 test 13 12 = busy 0\n0.1 test 12 13 = ok stays\n",
             (100, 100),
             (0, 0),
-            (0, 0),
         ),
     ];
-    for (first, second, order, replies, budgets, zero, one) in rows {
-        let lines = format!(in alloc; "core 0\n{first}\ncore 1\n{second}\norder\n{order}\n")?;
-        let left = tables(alloc, budgets, zero, one)?;
+    for (first, second, replies, budgets, zero) in rows {
+        let lines = format!(in alloc; "core 0\n{first}\ncore 1\n{second}\norder\n0< 1. 0.\n")?;
+        let left = tables(alloc, budgets, zero, (0, 0))?;
         assert!(rt;
             leads_to(&rt, alloc, &lines, replies, &left)?,
-            "{first}, {second}: {order}"
+            "{first}, {second}"
         );
     }
     Ok(())
