@@ -8,5 +8,5 @@
 //!
 //! The lemmas stand in this crate's proofs: of all acts, of scans, and of each family of acts.
 //!
-//! See docs/PROOF.md, 'The step machine'.
+//! See docs/PROOF.md, 'The invariant of the step machine'.
 #![tactic(auto)]

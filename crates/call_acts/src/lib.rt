@@ -15,8 +15,7 @@
 //!
 //! **Grow.** A link to the leaf is put at a root entry as a copy puts its capability, and the leaf's count is acquired. An entry of a page
 //! table that is quiescing waits for flushes too: after the other cores all flush words are scanned, the own one among them, since a
-//! core
-//! may go on by a translation until it flushes.
+//! core may go on by a translation until it flushes.
 //!
 //! **Map.** The count of the frame is acquired, and the frame's word is loaded, which says that it is a user frame and that no core has
 //! marked it; then the place is filled with the mapping as a copy fills its target. A place that is quiescing waits for flushes too.

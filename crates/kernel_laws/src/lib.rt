@@ -1,5 +1,5 @@
-//! Laws of the sequential kernel that no other crate needs: what a reader would ask of its definitions. Each is the contract
-//! of a function. Worked examples of calls, which the checker computes, stand in the proofs.
+//! Laws of the sequential kernel that a reader would ask of its definitions: the cause of each refusal, sums of ticks, ranges, what
+//! nodes hold. Each is the contract of a function. Worked examples of calls, which the checker computes, stand in the proofs.
 //!
 //! See docs/MODEL.md, 'What is proved of these definitions', and docs/PROOF.md, 'The laws of the sequential kernel'.
 #![tactic(auto)]

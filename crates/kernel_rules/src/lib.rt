@@ -1,8 +1,8 @@
 //! The sequential kernel as definitions: its state, and what each call needs, does and answers.
 //!
 //! The definitions stand in this crate's specs. A call is a rule: the capabilities that it names, its target, its own
-//! causes of refusal in order, and what it does. The laws below are of who waits and of the first reply in order; those of
-//! capabilities and references stand in `kernel_invariant`, and laws that nothing above needs in `kernel_laws`.
+//! causes of refusal in order, and what it does. The laws below are of refusals, of who waits and of the first reply in order; those of
+//! capabilities and references stand in `kernel_invariant`, and further ones in `kernel_laws` and `state_laws`.
 //!
 //! See docs/MODEL.md, 'The sequential kernel'.
 #![tactic(auto)]

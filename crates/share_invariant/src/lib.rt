@@ -1,8 +1,7 @@
-//! The acts on two temporal capabilities keep the invariant of the step machine.
+//! The steps that decide a call on two temporal capabilities, and the stores after them, keep the invariant of the step machine.
 //!
-//! **One moment.** The head of the first, A, is marked, by which no other core changes A or its list. The head of the second, B, is read,
-//! and then its list; each change of B by another core raises B's version, or stands under a mark in B's head. So where the head is
-//! found again as it was read, B's list is the one that was read, and what the lists and the budgets lead to is true of that moment.
+//! **The second head.** The step that finds the head of the second, B, as it was read decides, by a compare or a load; where another core
+//! has changed it, the call is refused. How the call has read both is shown in `pair_invariant`.
 //!
 //! **The move.** A transfer is decided by the compare that puts the ticks in B. From then on A's head stands for what is still to be
 //! stored there.

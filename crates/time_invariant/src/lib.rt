@@ -1,4 +1,4 @@
-//! The acts that charge ticks, move budgets and compare temporal capabilities keep the invariant of the step machine.
+//! The act that charges ticks keeps the invariant of the step machine.
 //!
 //! **A tick.** The load of the head finds another core's mark, or the head as it is; the compare is lost to another core, or takes the
 //! ticks that are due from the budget, as far as it has them. A lost tick changes the state too: its ticks are owed. So each way in
