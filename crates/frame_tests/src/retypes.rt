@@ -219,10 +219,16 @@ fn two_retypes_of_one_frame_meet_at_its_word_alone(rt: HostRuntime) -> Result<()
         let typed = tables(alloc, "", frames)?;
         assert!(rt; leads_to(&rt, alloc, &lines, replies, &typed)?, "{order}");
     }
+    Ok(())
+}
+
+#[test]
+fn retypes_of_two_frames_do_not_meet(rt: HostRuntime) -> Result<(), Fail> {
+    let alloc = rt.alloc();
     // Another frame of the range has another word.
     let lines = "core 0\nretype 0 8 user\ncore 1\nretype 0 9 kernel\norder\n0< 1< 1! 0!\n";
     let replies = "1.1 retype 0 9 kernel = ok\n0.1 retype 0 8 user = ok\n";
-    let typed = tables(alloc, "", user)?;
+    let typed = tables(alloc, "", "frame 8 user refs 0\nframe 9 kernel refs 0\n")?;
     assert!(rt; leads_to(&rt, alloc, lines, replies, &typed)?);
     Ok(())
 }

@@ -27,6 +27,32 @@ const RELEASED: (&str, &str) = ("", "frame 8 leaf refs 0\n");
 
 const HELD: (&str, &str) = ("  20 leaf 8\n", "frame 8 leaf refs 1\n");
 
+// The replies, and what is left of the leaf, where the retype comes whole after so many steps of the removal.
+fn untyped_at(number: usize) -> (&'static str, (&'static str, &'static str)) {
+    match number {
+        0..7 => (
+            "1.1 retype 0 8 untyped = referenced 1\n0.3 remove 1 20 = ok\n",
+            RELEASED,
+        ),
+        7..9 => (
+            "1.1 retype 0 8 untyped = busy 0\n0.3 remove 1 20 = ok\n",
+            RELEASED,
+        ),
+        9..11 => (
+            "0.3 remove 1 20 = ok\n1.1 retype 0 8 untyped = busy 0\n",
+            RELEASED,
+        ),
+        11..13 => (
+            "0.3 remove 1 20 = ok\n1.1 retype 0 8 untyped = quiescing 0\n",
+            RELEASED,
+        ),
+        _ => (
+            "0.3 remove 1 20 = ok\n1.1 retype 0 8 untyped = ok\n",
+            UNTYPED,
+        ),
+    }
+}
+
 #[test]
 fn a_frame_is_made_untyped_once_its_capability_is_removed_and_the_remover_has_left(
     rt: HostRuntime,
@@ -34,28 +60,7 @@ fn a_frame_is_made_untyped_once_its_capability_is_removed_and_the_remover_has_le
     let alloc = rt.alloc();
     // Core 1's retype comes whole after so many steps of core 0's removal.
     for number in 0..REMOVE_STEPS + 1 {
-        let (replies, left) = match number {
-            0..7 => (
-                "1.1 retype 0 8 untyped = referenced 1\n0.3 remove 1 20 = ok\n",
-                RELEASED,
-            ),
-            7..9 => (
-                "1.1 retype 0 8 untyped = busy 0\n0.3 remove 1 20 = ok\n",
-                RELEASED,
-            ),
-            9..11 => (
-                "0.3 remove 1 20 = ok\n1.1 retype 0 8 untyped = busy 0\n",
-                RELEASED,
-            ),
-            11..13 => (
-                "0.3 remove 1 20 = ok\n1.1 retype 0 8 untyped = quiescing 0\n",
-                RELEASED,
-            ),
-            _ => (
-                "0.3 remove 1 20 = ok\n1.1 retype 0 8 untyped = ok\n",
-                UNTYPED,
-            ),
-        };
+        let (replies, left) = untyped_at(number);
         let items = steps(alloc, 0, number)?;
         let calls =
             "core 0\nretype 0 8 kernel\nmake leaf 0 8 1 20\nremove 1 20\ncore 1\nretype 0 8 untyped\n";

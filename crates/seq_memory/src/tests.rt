@@ -63,41 +63,16 @@ fn page() -> Reply {
 fn retypes_a_frame_there_and_back(rt: HostRuntime) -> Result<(), Fail> {
     let setup = machine().ok_or("a setup")?;
     let mut kernel = SeqKernel::start(rt.alloc(), &setup)?;
-    is_answered(
-        &rt,
-        &mut kernel,
-        rt.alloc(),
-        &retype(6, FrameKind::Kernel),
-        done(),
-    );
-    is_answered(
-        &rt,
-        &mut kernel,
-        rt.alloc(),
-        &retype(6, FrameKind::User),
-        Reply::FrameKind,
-    );
-    is_answered(
-        &rt,
-        &mut kernel,
-        rt.alloc(),
-        &retype(6, FrameKind::Untyped),
-        done(),
-    );
-    is_answered(
-        &rt,
-        &mut kernel,
-        rt.alloc(),
-        &retype(6, FrameKind::Untyped),
-        Reply::FrameKind,
-    );
-    is_answered(
-        &rt,
-        &mut kernel,
-        rt.alloc(),
-        &retype(5, FrameKind::Untyped),
-        Reply::OutOfRange,
-    );
+    let rows = [
+        (6, FrameKind::Kernel, done()),
+        (6, FrameKind::User, Reply::FrameKind),
+        (6, FrameKind::Untyped, done()),
+        (6, FrameKind::Untyped, Reply::FrameKind),
+        (5, FrameKind::Untyped, Reply::OutOfRange),
+    ];
+    for (frame, kind, reply) in rows {
+        is_answered(&rt, &mut kernel, rt.alloc(), &retype(frame, kind), reply);
+    }
     Ok(())
 }
 
@@ -108,13 +83,8 @@ fn touches_what_it_mapped_until_it_flushes(rt: HostRuntime) -> Result<(), Fail> 
     kernel.set_frame(FrameNo::new(7), Frame::Kernel(Object::Pleaf));
     let link = Cap::new(Kind::Link, FrameNo::new(7), 0);
     kernel.set_place(FrameNo::new(2), EntryNo::new(0), Place::Holds(link));
-    is_answered(
-        &rt,
-        &mut kernel,
-        rt.alloc(),
-        &retype(6, FrameKind::User),
-        done(),
-    );
+    let user = retype(6, FrameKind::User);
+    is_answered(&rt, &mut kernel, rt.alloc(), &user, done());
     let map = Call::Map {
         p: CapId::new(2),
         v: PageNo::new(5),
@@ -131,22 +101,11 @@ fn touches_what_it_mapped_until_it_flushes(rt: HostRuntime) -> Result<(), Fail> 
     };
     is_answered(&rt, &mut kernel, rt.alloc(), &unmap, done());
     is_answered(&rt, &mut kernel, rt.alloc(), &touch, page());
-    let core = CoreNo::new(0);
-    is_answered(
-        &rt,
-        &mut kernel,
-        rt.alloc(),
-        &retype(6, FrameKind::Untyped),
-        Reply::Unflushed(core),
-    );
+    let untype = retype(6, FrameKind::Untyped);
+    let unflushed = Reply::Unflushed(CoreNo::new(0));
+    is_answered(&rt, &mut kernel, rt.alloc(), &untype, unflushed);
     is_answered(&rt, &mut kernel, rt.alloc(), &Call::Flush, done());
     is_answered(&rt, &mut kernel, rt.alloc(), &touch, Reply::Fault);
-    is_answered(
-        &rt,
-        &mut kernel,
-        rt.alloc(),
-        &retype(6, FrameKind::Untyped),
-        done(),
-    );
+    is_answered(&rt, &mut kernel, rt.alloc(), &untype, done());
     Ok(())
 }

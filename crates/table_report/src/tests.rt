@@ -29,14 +29,8 @@ core 0 thread 4 tcap 5 comp 3 spent 0 owed 0
 total 100
 ";
 
-// What a machine of the start leaves, where core 0 has cached these.
-fn closed(
-    alloc: Global,
-    cores: u8,
-    frames: u16,
-    budget: u32,
-    cached: Translations,
-) -> Option<Closed> {
+// The setup of these sizes, with the same grant for each core.
+fn setup_of(cores: u8, frames: u16, budget: u32) -> Option<Setup> {
     let mut grants = Grants::empty();
     for _ in 0..cores {
         grants.add(Grant {
@@ -45,7 +39,18 @@ fn closed(
             quality: 1,
         });
     }
-    let setup = Setup::new(cores, frames, grants, 10, 10)?;
+    Setup::new(cores, frames, grants, 10, 10)
+}
+
+// What a machine of the start leaves, where core 0 has cached these.
+fn closed(
+    alloc: Global,
+    cores: u8,
+    frames: u16,
+    budget: u32,
+    cached: Translations,
+) -> Option<Closed> {
+    let setup = setup_of(cores, frames, budget)?;
     let layout = Layout::new(cores, frames)?;
     let words = boot_words(alloc, &setup).ok()?;
     let mut ends = Vec::new(alloc);
