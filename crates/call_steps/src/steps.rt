@@ -492,7 +492,8 @@ fn look_free(active: &mut ActiveCall, spot: Spot) -> Told
 #[inline(never)]
 fn read_at(active: &mut ActiveCall, comp: FrameNo, spot: Spot) -> Told
     requires { active.old.steps < 1000 }
-    ensures told { result ≡ told (landed active.old (read_first (Some comp) (looks_at (place_of_spot (with_found [] active.old.found) spot)))) }
+    ensures told { result
+        ≡ told (landed active.old (read_first (Some comp) (looks_at (place_of_spot (with_found [] active.old.found) spot)))) }
     ensures after { active.new
         ≡ call_after active.old (landed active.old (read_first (Some comp) (looks_at (place_of_spot (with_found [] active.old.found) spot)))) }
 {
@@ -606,7 +607,8 @@ fn look_entry(active: &mut ActiveCall, root: FrameNo, entry: EntryNo) -> Told
 fn look_at(active: &mut ActiveCall, spot: Spot) -> Told
     requires { active.old.steps < 1000 }
     ensures told { result ≡ told (landed active.old (looks_at (place_of_spot (with_found [] active.old.found) spot))) }
-    ensures after { active.new ≡ call_after active.old (landed active.old (looks_at (place_of_spot (with_found [] active.old.found) spot))) }
+    ensures after { active.new
+        ≡ call_after active.old (landed active.old (looks_at (place_of_spot (with_found [] active.old.found) spot))) }
 {
     match spot {
         Spot::Under { root, number } => {

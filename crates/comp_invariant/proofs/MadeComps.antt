@@ -71,7 +71,7 @@ use Rattle.kept_knowledge.proofs.Carries.{own_kept}
 use Rattle.kept_words.proofs.CountSums.{counted_refs, times_here, times_there}
 use Rattle.step_ways.proofs.Good.{spares_node}
 use Rattle.step_ways.proofs.Loads.{next_at, IsOfCall, core_in_call, inner, call_is}
-use Rattle.step_ways.proofs.Places.{IsMarked, place_reads, IsPlain as IsUnmarked, node_mark}
+use Rattle.step_ways.proofs.Places.{IsMarked, place_reads, IsUnmarked, node_mark}
 use Rattle.step_ways.proofs.Refusals.{GoodTook, not_spent}
 use Rattle.core_invariant.proofs.Sounds.{limits_of}
 use Rattle.kept_words.proofs.WordFrames.{ReadsAlike, StaysSaid, word_stays, SameFor}

@@ -41,7 +41,7 @@ use Rattle.flight.specs.Theorems.{SaysWords, AreBetween, Represents, RepresentsC
 use Rattle.kept_words.proofs.CountSums.{sum_same}
 use Rattle.core_invariant.proofs.Sounds.{limits_of}
 use Rattle.core_invariant.proofs.Markers.{marker_inside}
-use Rattle.step_ways.proofs.Places.{IsMarked, IsPlain, place_reads}
+use Rattle.step_ways.proofs.Places.{IsMarked, IsUnmarked, place_reads}
 
 sound_node : (x : Frame) → IsTrue (holds_node x) → IsTrue (is_sound_node x)
 sound_node Untyped h = absurd (false≢true h)
@@ -88,7 +88,7 @@ says_words setup setting cores t stands = record { entries = entries; cores = co
     entries : (f i : ℕ) → f < setup.frames → i < 64 → IsTrue (holds_node ((state_after setup t).frame f)) → EntrySays setup t f i
     entries f i here below node = by_read (place_reads setup cores t stands f i (sound_node ((state_after setup t).frame f) node) below)
       where
-        by_read : IsMarked setup t f i ⊎ IsPlain setup t f i → EntrySays setup t f i
+        by_read : IsMarked setup t f i ⊎ IsUnmarked setup t f i → EntrySays setup t f i
         by_read (inl m) = inr (record {
           by = m.by;
           says = m.says;

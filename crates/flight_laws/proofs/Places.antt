@@ -100,7 +100,7 @@ use Rattle.kept_words.proofs.Claimed.{guarded_thread}
 use Rattle.core_invariant.proofs.Sounds.{limits_of}
 use Rattle.lent_words.proofs.Tcaps.{tcap_stays}
 use Rattle.kept_knowledge.proofs.Carries.{slot_relies}
-use Rattle.step_ways.proofs.Places.{IsMarked, IsPlain, place_reads}
+use Rattle.step_ways.proofs.Places.{IsMarked, IsUnmarked, place_reads}
 use Rattle.look_invariant.proofs.Lookups.{leaf_reached}
 use Rattle.place_invariant.proofs.Removals.{holds_place}
 use Rattle.flight_laws.specs.Frames.{IsLooked, is_held}
@@ -479,7 +479,7 @@ module _ (setup : Setting) (setting : IsSetting setup) where
   holds_it t made c f i k relies below held =
       by_read (place_reads setup (cores_after setup t) t (made_stands setup setting t made) f i relies.node below)
     where
-      by_read : IsMarked setup t f i ⊎ IsPlain setup t f i → MayUse (state_after setup t) c (record { node = f; index = i }) k
+      by_read : IsMarked setup t f i ⊎ IsUnmarked setup t f i → MayUse (state_after setup t) c (record { node = f; index = i }) k
       by_read (inl m) = absurd (not_closing (sym m.says ∙ held))
         where
           not_closing : Some (Closing m.by) ≡ Some (Held k) → ⊥

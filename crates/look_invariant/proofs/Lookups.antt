@@ -51,7 +51,7 @@ use Rattle.core_invariant.specs.Words.{PlaceIs}
 use Rattle.core_invariant.specs.Knows.{ReliesOn, LooksUp, Knows, phase_at}
 use Rattle.core_invariant.specs.Invariant.{holds_at, holds_in, Invariant}
 use Rattle.step_ways.proofs.Loads.{OnlyLooks, step_to, next_at, is_active, loads_on}
-use Rattle.step_ways.proofs.Places.{IsMarked, IsPlain, place_reads}
+use Rattle.step_ways.proofs.Places.{IsMarked, IsUnmarked, place_reads}
 use Rattle.step_ways.proofs.Refusals.{GoodTook, ticks_at, NobodyWaits, refuses_no_slot, refuses_busy}
 
 -- What an entry shows of a place.
@@ -115,7 +115,7 @@ pub record Arrives (setup : Setting) (t : Trace) (c : ℕ) (target : Target) (at
   pub leaf : Relies (state_after setup t) c at.node
   pub below : at.index < 64
   pub passed : HasReached t c (root_passed target)
-  pub plain : IsPlain setup t at.node at.index
+  pub plain : IsUnmarked setup t at.node at.index
 
 -- A slot is in lists that have it.
 or_right : (a : Bool) → (a || true) ≡ true
@@ -343,7 +343,7 @@ module _ (setup : Setting) (setting : IsSetting setup) (cores : ℕ → Core) (t
           (unlinked (state_after setup t) table n looks.at.found (ap holds_link shows.removed))
           (λ nobody. unreached (ap linked (use_removed _ shows.held _ shows.removed (nobody (PlaceOf table.frame (n / 64)) c))))
 
-      by_read : IsMarked setup t table.frame (n / 64) ⊎ IsPlain setup t table.frame (n / 64)
+      by_read : IsMarked setup t table.frame (n / 64) ⊎ IsUnmarked setup t table.frame (n / 64)
           → Takes setup setting cores t stands c here a active (Under table n) is_open no_slot no_way on_way goes done
           (AtRoot table.frame n) table.frame (n / 64)
       by_read (inl m) = subst (Shown (AtRoot table.frame n) table.frame (n / 64)) (sym (ap (entry_within setup.frames) m.says))
@@ -383,7 +383,7 @@ module _ (setup : Setting) (setting : IsSetting setup) (cores : ℕ → Core) (t
       relies : Relies (state_after setup t) c leaf
       relies = relies_reached setup setting t stands.legal c a.call is_open table n slot reaches
 
-      arrives : IsPlain setup t leaf (n % 64) → Arrives setup t c (Under table n) slot
+      arrives : IsUnmarked setup t leaf (n % 64) → Arrives setup t c (Under table n) slot
       arrives p = record {
         relies = looks.relies;
         reached = reaches;
@@ -395,14 +395,14 @@ module _ (setup : Setting) (setting : IsSetting setup) (cores : ℕ → Core) (t
         plain = p;
       }
 
-      by_value : IsPlain setup t leaf (n % 64) → (v : Entry) → entry_of_word (last_left setup t (EntryAt leaf (n % 64))) ≡ Some v
+      by_value : IsUnmarked setup t leaf (n % 64) → (v : Entry) → entry_of_word (last_left setup t (EntryAt leaf (n % 64))) ≡ Some v
           → Shows setup.frames ((state_after setup t).place leaf (n % 64)) v → Shown (AtLeaf leaf n) leaf (n % 64) (Some v)
       by_value p Free reads shows = done slot Free (arrives p) reads shows looks_here
       by_value p (Held k) reads shows = done slot (Held k) (arrives p) reads shows looks_here
       by_value p (Closing d) reads shows = absurd shows
       by_value p (Quiescing s) reads shows = done slot (Quiescing s) (arrives p) reads shows looks_here
 
-      by_read : IsMarked setup t leaf (n % 64) ⊎ IsPlain setup t leaf (n % 64)
+      by_read : IsMarked setup t leaf (n % 64) ⊎ IsUnmarked setup t leaf (n % 64)
           → Takes setup setting cores t stands c here a active (Under table n) is_open no_slot no_way on_way goes done (AtLeaf leaf n)
           leaf (n % 64)
       by_read (inl m) = subst (Shown (AtLeaf leaf n) leaf (n % 64)) (sym (ap (entry_within setup.frames) m.says))
@@ -485,7 +485,7 @@ module _ (setup : Setting) (setting : IsSetting setup) (cores : ℕ → Core) (t
       looks_here = looks_at setup setting cores t stands c here a active (InRoot table i) is_open no_slot no_way on_way goes done
           table.frame i way
 
-      arrives : IsPlain setup t table.frame i → Arrives setup t c (InRoot table i) slot
+      arrives : IsUnmarked setup t table.frame i → Arrives setup t c (InRoot table i) slot
       arrives p = record {
         relies = looks.relies;
         reached = reaches;
@@ -495,14 +495,14 @@ module _ (setup : Setting) (setting : IsSetting setup) (cores : ℕ → Core) (t
         plain = p;
       }
 
-      by_value : IsPlain setup t table.frame i → (v : Entry) → entry_of_word (last_left setup t (EntryAt table.frame i)) ≡ Some v
+      by_value : IsUnmarked setup t table.frame i → (v : Entry) → entry_of_word (last_left setup t (EntryAt table.frame i)) ≡ Some v
           → Shows setup.frames ((state_after setup t).place table.frame i) v → ShownHere i (Some v)
       by_value p Free reads shows = done slot Free (arrives p) reads shows looks_here
       by_value p (Held k) reads shows = done slot (Held k) (arrives p) reads shows looks_here
       by_value p (Closing d) reads shows = absurd shows
       by_value p (Quiescing s) reads shows = done slot (Quiescing s) (arrives p) reads shows looks_here
 
-      by_read : IsMarked setup t table.frame i ⊎ IsPlain setup t table.frame i
+      by_read : IsMarked setup t table.frame i ⊎ IsUnmarked setup t table.frame i
           → Takes setup setting cores t stands c here a active (InRoot table i) is_open no_slot no_way on_way goes done
           (AtEntry table.frame i) table.frame i
       by_read (inl m) = subst (ShownHere i) (sym (ap (entry_within setup.frames) m.says))

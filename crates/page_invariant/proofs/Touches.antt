@@ -86,7 +86,7 @@ use Rattle.kept_words.proofs.CountSums.{counted_refs}
 use Rattle.step_ways.proofs.Good.{spares_kept}
 use Rattle.step_ways.proofs.Loads.{OnlyLooks, step_to, next_at, inner, call_is, core_is, is_active, loads_on, decides_on}
 use Rattle.step_ways.proofs.OwnChanges.{decides_changing}
-use Rattle.step_ways.proofs.Places.{IsMarked, IsUntimed as ReadsPlain, place_reads}
+use Rattle.step_ways.proofs.Places.{IsMarked, IsUnmarked, place_reads}
 use Rattle.step_ways.proofs.Refusals.{GoodTook, NobodyWaits, ticks_at, not_spent, refuses_fault, refuses_busy}
 use Rattle.core_invariant.proofs.Sounds.{limits_of}
 use Rattle.kept_words.proofs.Sums.{sums_keep}
@@ -318,7 +318,7 @@ module _ (setup : Setting) (setting : IsSetting setup) (cores : ℕ → Core) (t
       root_good : FromRoot (shown_in setup.frames (last_left setup t (EntryAt m.pages top)))
       root_good = by_read (place_reads setup cores t stands m.pages top relies.node (let w = within in omega arith))
         where
-          by_read : IsMarked setup t m.pages top ⊎ ReadsPlain setup t m.pages top
+          by_read : IsMarked setup t m.pages top ⊎ IsUnmarked setup t m.pages top
               → FromRoot (shown_in setup.frames (last_left setup t (EntryAt m.pages top)))
           by_read (inl marked) = subst FromRoot (sym (ap (entry_within setup.frames) marked.says))
               (busy m.pages top root_near root_way marked.by marked.mark)
@@ -545,7 +545,7 @@ module _ (setup : Setting) (setting : IsSetting setup) (cores : ℕ → Core) (t
       leaf_good : FromPage (shown_in setup.frames (last_left setup t (EntryAt leaf index)))
       leaf_good = by_read (place_reads setup cores t stands leaf index relies_leaf.node (omega arith))
         where
-          by_read : IsMarked setup t leaf index ⊎ ReadsPlain setup t leaf index
+          by_read : IsMarked setup t leaf index ⊎ IsUnmarked setup t leaf index
               → FromPage (shown_in setup.frames (last_left setup t (EntryAt leaf index)))
           by_read (inl marked) = subst FromPage (sym (ap (entry_within setup.frames) marked.says))
               (busy leaf index page_near page_way marked.by marked.mark)

@@ -83,7 +83,7 @@ use Rattle.core_invariant.specs.Knows.{HasFound, IsRead, ReadIs, MayFill, KnowsU
 use Rattle.core_invariant.specs.Invariant.{holds_at, holds_in, holds, times_of, Invariant}
 use Rattle.kept_knowledge.proofs.Carries.{own_kept, slot_relies}
 use Rattle.step_ways.proofs.Loads.{IsOfCall, next_at, core_in_call, inner, call_is, is_active}
-use Rattle.step_ways.proofs.Places.{IsMarked, IsUntimed as IsUnmarked, node_mark, place_reads}
+use Rattle.step_ways.proofs.Places.{IsMarked, IsUnmarked, node_mark, place_reads}
 use Rattle.step_ways.proofs.Refusals.{GoodTook, ticks_at, not_spent, refuses_raced}
 use Rattle.look_invariant.proofs.Lookups.{slot_right, slot_one, near_way}
 use Rattle.look_invariant.proofs.Findings.{own_is, found_named, way_gone}

@@ -40,7 +40,7 @@ use Rattle.call_stages.specs.View.{Core}
 use Rattle.core_invariant.specs.Knows.{IsSpot, MayFill, OutsideBy, OutsideObject, OutsideComp, NamesAre, phase_at}
 use Rattle.core_invariant.specs.Invariant.{Invariant}
 use Rattle.step_ways.proofs.Loads.{step_to, call_is, is_active}
-use Rattle.step_ways.proofs.Places.{IsMarked, IsPlain as IsUnmarked, place_reads}
+use Rattle.step_ways.proofs.Places.{IsMarked, IsUnmarked, place_reads}
 use Rattle.core_invariant.proofs.Sounds.{limits_of}
 use Rattle.count_invariant.proofs.Acquiring.{plan_leads, goes_by}
 use Rattle.look_invariant.proofs.Next.{Rest, ANameLeft, NoneLeft, rest_of, next_name}

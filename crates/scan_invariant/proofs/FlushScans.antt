@@ -62,7 +62,7 @@ use Rattle.step_ways.proofs.Flushing.{none_flushing}
 use Rattle.kept_knowledge.proofs.Carries.{start_pairs, ReadsSame, slot_relies, names_on, act_on}
 use Rattle.step_ways.proofs.Users.{users_kept}
 use Rattle.step_ways.proofs.Loads.{OnlyLooks, step_to, next_at, inner, core_is, call_is, is_active, loads_on, decides_on}
-use Rattle.step_ways.proofs.Places.{IsMarked, IsPlain as IsUnmarked, place_reads}
+use Rattle.step_ways.proofs.Places.{IsMarked, IsUnmarked, place_reads}
 use Rattle.step_ways.proofs.Refusals.{GoodTook, not_spent}
 use Rattle.core_invariant.proofs.Sounds.{limits_of}
 use Rattle.count_invariant.proofs.Acquiring.{plan_leads, goes_by}

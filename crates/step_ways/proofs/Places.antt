@@ -27,7 +27,7 @@ pub record IsMarked (setup : Setting) (t : Trace) (f i : ℕ) : Type 0 where
   pub mark : marked_by setup t (EntryAt f i) ≡ Some by
 
 -- It carries no mark, and says what the place is.
-pub record IsPlain (setup : Setting) (t : Trace) (f i : ℕ) : Type 0 where
+pub record IsUnmarked (setup : Setting) (t : Trace) (f i : ℕ) : Type 0 where
   pub mark : marked_by setup t (EntryAt f i) ≡ None
   pub says : PlaceIs setup.frames ((state_after setup t).place f i) (stamp setup t (PlaceOf f i))
       (entry_of_word (last_left setup t (EntryAt f i)))
@@ -57,10 +57,10 @@ closing_by (Some (Quiescing s)) d h = absurd (cc)
 -- What is read at a place of a node.
 pub place_reads : (setup : Setting) (cores : ℕ → Core) (t : Trace) → Invariant setup cores t → (f i : ℕ)
     → IsTrue (is_node ((state_after setup t).frame f)) → i < 64
-    → IsMarked setup t f i ⊎ IsPlain setup t f i
+    → IsMarked setup t f i ⊎ IsUnmarked setup t f i
 place_reads setup cores t stands f i node below = by_mark (marked_by setup t (EntryAt f i)) refl
   where
-    by_mark : (o : Option ℕ) → marked_by setup t (EntryAt f i) ≡ o → IsMarked setup t f i ⊎ IsPlain setup t f i
+    by_mark : (o : Option ℕ) → marked_by setup t (EntryAt f i) ≡ o → IsMarked setup t f i ⊎ IsUnmarked setup t f i
     by_mark None is = inr (record {
       mark = is;
       says = subst (λ n. PlaceIs n ((state_after setup t).place f i) (stamp setup t (PlaceOf f i))
