@@ -20,7 +20,7 @@ use Rattle.word_map.specs.Word.{Word, EntryAt, FrameAt, CountAt, CoreAt, LiveAt}
 use Rattle.kernel_rules.specs.State.{Place, Free, Holds, Quiescing, Blank, Table, Leaf, Pages, Pleaf, Comp, Thread, Tcap}
 use Rattle.kernel_rules.specs.State.{Frame, Untyped, User, Kernel, Liveness, Unused, Live, Dead, PlaceOf, NumberOf, State}
 use Rattle.kernel_rules.specs.Access.{held_in}
-use Rattle.kernel_rules.specs.Relies.{holds_node as is_sound_node}
+use Rattle.kernel_rules.specs.Relies.{is_node as is_sound_node}
 use Rattle.kernel_rules.specs.Start.{start}
 use Rattle.kernel_history.specs.Counts.{counters, count_at, IsUnheld, RepresentCounts}
 use Rattle.kernel_history.specs.ObjectWords.{holds_node, at_height}

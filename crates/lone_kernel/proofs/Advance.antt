@@ -20,7 +20,7 @@ use Rattle.kernel_history.specs.BootWords.{shape_of}
 use Rattle.call_stages.specs.View.{Core}
 use Rattle.call_stages.specs.Fits.{IsCore}
 use Rattle.call_stages.specs.Cores.{move_of}
-use Rattle.flight.specs.Made.{turned, MayStep, core_after, cores_after, stepping_core as core_of_step, IsMadeStep}
+use Rattle.flight.specs.Made.{turned, MayStep, core_after, cores_after, stepping_core, IsMadeStep}
 use Rattle.flight.specs.Phases.{IsWord, IsInPhase}
 use Rattle.flight.proofs.Phases.{made_phases}
 use Rattle.flight.proofs.Spelling.{moves_are_words}
@@ -117,7 +117,7 @@ module _ (m : Machine) (t : Trace) (c : ℕ) (f : Turn) (fit : IsFit m) (setting
   found_here = stands.words (word_of (move_of core1)) word.is_in word.is_named
 
   -- the core of the trace is that of the machine
-  core_here : core_of_step m.setup t e ≡ core1
+  core_here : stepping_core m.setup t e ≡ core1
   core_here = ap (turned (enters_as f)) (sym (stands.cores c here))
 
   made : IsMadeStep m.setup t e
@@ -133,11 +133,11 @@ module _ (m : Machine) (t : Trace) (c : ℕ) (f : Turn) (fit : IsFit m) (setting
     | inl same ↦
         ap (λ s. s.state) (seat_same m c f fit here begins d same)
         ∙ ap (λ k. core_after k (found_by m c f)) (sym core_here)
-        ∙ sym (put_same (cores_after m.setup t) c (core_after (core_of_step m.setup t e) (found_by m c f)) d same)
+        ∙ sym (put_same (cores_after m.setup t) c (core_after (stepping_core m.setup t e) (found_by m c f)) d same)
     | inr apart ↦
         ap (λ s. s.state) (seat_there m c f fit here begins d apart)
         ∙ stands.cores d h
-        ∙ sym (put_other (cores_after m.setup t) c (core_after (core_of_step m.setup t e) (found_by m c f)) d apart)
+        ∙ sym (put_other (cores_after m.setup t) c (core_after (stepping_core m.setup t e) (found_by m c f)) d apart)
   ]
 
   in_words : place_next shape core1 < length m.words

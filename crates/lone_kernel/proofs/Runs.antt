@@ -16,7 +16,7 @@ use Rattle.call_stages.specs.Fits.{left_for}
 use Rattle.call_stages.specs.View.{Core}
 use Rattle.call_stages.specs.Cores.{ready_of}
 use Rattle.flight.specs.Decided.{is_decided_in}
-use Rattle.flight.specs.Made.{turned, core_after, cores_after, stepping_core as core_of_step, ready_after}
+use Rattle.flight.specs.Made.{turned, core_after, cores_after, stepping_core, ready_after}
 use Rattle.flight.specs.Phases.{AreEvents}
 use Rattle.flight.proofs.Phases.{made_events, decided_is_ready}
 use Rattle.call_stages.specs.declared.stages.ActiveCall.{ActiveCall}
@@ -128,10 +128,10 @@ pub events_are : (m' m'' : Machine) (c : ℕ) (t : Trace) (e : Step) → m''.set
 events_are m' m'' c t e same here own stands stands' =
     let setup = m''.setup in
     let here' : c < setup.cores = subst (λ s. c < s.cores) (sym same) here in
-    let are : AreEvents (core_of_step setup t e) (core_after (core_of_step setup t e) e.found) e.decides e.returns =
+    let are : AreEvents (stepping_core setup t e) (core_after (stepping_core setup t e) e.found) e.decides e.returns =
     made_events setup t e stands'.made.1 in
-    let now : core_at m'' c ≡ core_after (core_of_step setup t e) e.found =
-    stands'.cores c here' ∙ put_same (cores_after setup t) e.core (core_after (core_of_step setup t e) e.found) c (sym own) in
+    let now : core_at m'' c ≡ core_after (stepping_core setup t e) e.found =
+    stands'.cores c here' ∙ put_same (cores_after setup t) e.core (core_after (stepping_core setup t e) e.found) c (sym own) in
     let was : core_at m' c ≡ cores_after setup t e.core =
     stands.cores c here ∙ ap (λ s. cores_after s t c) (sym same) ∙ ap (cores_after setup t) (sym own) in
     record {
