@@ -65,7 +65,7 @@ use Rattle.call_stages.specs.Steps.{GoesOn, landed, went_with}
 use Rattle.call_stages.specs.View.{Core}
 use Rattle.call_stages.specs.declared.stages.ActiveCall.{ActiveCall}
 use Rattle.call_stages.specs.declared.stages.Stage.TheVariants.{Undecided, Decided}
-use Rattle.kept_knowledge.proofs.Carries.{names_on, counts_on, spot_on}
+use Rattle.kept_facts.proofs.Carries.{names_on, counts_on, spot_on}
 use Rattle.step_ways.proofs.Counting as counting
 use Rattle.step_ways.proofs.Good.{spares_other, blank_is}
 use Rattle.step_ways.proofs.Loads.{decides_on, step_to, OnlyLooks, next_at, loads_on, IsOfCall, core_in_call, inner, call_is, core_is}
@@ -75,7 +75,7 @@ use Rattle.core_invariant.specs.Holding.{holds_counts, Holding, settled_by, sett
 use Rattle.core_invariant.specs.Knows.{phase_at, due_of, KnowsUndecided, KnowsComp, KnowsCompAt, blank_word, HasBlank}
 use Rattle.core_invariant.specs.Invariant.{holds_at, holds_in, Invariant, done_by, holds, held_by, holds_comp}
 use Rattle.core_invariant.specs.Words.{IsFrameWord}
-use Rattle.look_invariant.proofs.Lookups.{near_way}
+use Rattle.count_invariant.proofs.Lookups.{near_way}
 use Rattle.count_invariant.proofs.Acquiring.{knows_next, next_holds}
 use Rattle.count_invariant.proofs.CompCounts.{IsCompCall, makes_comp_on, comp_changes, comp_near}
 use Rattle.place_invariant.proofs.Fills.{target_way, changes_node}
@@ -83,7 +83,7 @@ use Rattle.place_invariant.proofs.Outside.{vacant_slot, vacant_here, stands_alon
 use Rattle.comp_invariant.proofs.CompCalls as calls
 use Rattle.frame_invariant.proofs.Makes.{made_looks, not_blank_by, not_kernel_by, marked_fits}
 use Rattle.core_invariant.proofs.Bare.{as_none, counts_bare}
-use Rattle.lent_words.proofs.Lent.{lent_elsewhere}
+use Rattle.kept_facts.proofs.Lent.{lent_elsewhere}
 
 module _ (setup : Setting) (setting : IsSetting setup) (cores : ℕ → Core) (t : Trace) (stands : Invariant setup cores t) (c : ℕ)
     (here : c < setup.cores)

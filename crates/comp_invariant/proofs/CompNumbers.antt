@@ -45,7 +45,7 @@ use Rattle.call_stages.specs.Steps.{landed}
 use Rattle.call_stages.specs.View.{Core}
 use Rattle.call_stages.specs.declared.stages.ActiveCall.{ActiveCall}
 use Rattle.call_stages.specs.declared.stages.Stage.TheVariants.{Undecided}
-use Rattle.kept_knowledge.proofs.Carries.{names_on, spot_on, number_on}
+use Rattle.kept_facts.proofs.Carries.{names_on, spot_on, number_on}
 use Rattle.step_ways.proofs.Counting as counting
 use Rattle.step_ways.proofs.Loads.{step_to, OnlyLooks, loads_on, IsOfCall, inner, call_is, core_is, decides_with}
 use Rattle.step_ways.proofs.Refusals.{GoodTook, ticks_at, not_spent, busy_leaving}

@@ -39,7 +39,7 @@ use Rattle.call_stages.specs.Steps.{GoesOn, landed, went_with, went}
 use Rattle.call_stages.specs.View.{Core}
 use Rattle.call_stages.specs.declared.stages.ActiveCall.{ActiveCall}
 use Rattle.call_stages.specs.declared.stages.Stage.TheVariants.{Undecided, Decided}
-use Rattle.kept_knowledge.proofs.Carries.{names_on, counts_on, spot_on, takes_on}
+use Rattle.kept_facts.proofs.Carries.{names_on, counts_on, spot_on, takes_on}
 use Rattle.step_ways.proofs.Counting as counting
 use Rattle.step_ways.proofs.Good.{spares_blank, spares_other}
 use Rattle.step_ways.proofs.Loads.{IsOfCall, core_in_call, inner, call_is}
@@ -50,7 +50,7 @@ use Rattle.core_invariant.specs.Knows.{phase_at, KnowsUndecided, KnowsUnmark, Kn
 use Rattle.core_invariant.specs.Knows.{SaysBlank, MayTake, TakesNumber, HasWords, KnowsLive}
 use Rattle.core_invariant.specs.Invariant.{holds_at, holds_in, Invariant, done_by, holds, held_by, holds_comp}
 use Rattle.core_invariant.specs.Words.{IsFrameWord, count_room}
-use Rattle.look_invariant.proofs.Lookups.{near_way}
+use Rattle.count_invariant.proofs.Lookups.{near_way}
 use Rattle.count_invariant.proofs.MakingCounts.{blank_left}
 use Rattle.place_invariant.proofs.Fills.{target_way, changes_node}
 use Rattle.act_states.specs.Comps.{comp_dues, comp_due_list, comp_goes, CompAtFits, CompMakingFits}
@@ -72,7 +72,7 @@ use Rattle.comp_invariant.proofs.CompNumbers.{no_number}
 use Rattle.frame_words.proofs.CompLemmas as comps
 use Rattle.spk_nums.specs.declared.calls.Make.TheVariants as make
 use Rattle.core_invariant.proofs.Bare.{as_none, counts_bare}
-use Rattle.lent_words.proofs.Lent.{may_keep, unlent_word, lent_elsewhere}
+use Rattle.kept_facts.proofs.Lent.{may_keep, unlent_word, lent_elsewhere}
 
 none_some : (d : ℕ) → None ≡ Some d → ⊥
 none_some d h = cc

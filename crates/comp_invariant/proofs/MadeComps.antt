@@ -66,15 +66,15 @@ use Rattle.call_stages.specs.View.{Core}
 use Rattle.call_stages.specs.declared.stages.ActiveCall.{ActiveCall}
 use Rattle.call_stages.specs.declared.stages.Stage.{Stage}
 use Rattle.call_stages.specs.declared.stages.Stage.TheVariants.{Undecided, Decided}
-use Rattle.kept_words.proofs.Calm.{calm_counted, plain_exit, counted_rises, BeginsNone, room_grows, counts, same_works, none_flush}
-use Rattle.kept_knowledge.proofs.Carries.{own_kept}
-use Rattle.kept_words.proofs.CountSums.{counted_refs, times_here, times_there}
+use Rattle.kept_facts.proofs.Calm.{calm_counted, plain_exit, counted_rises, BeginsNone, room_grows, counts, same_works, none_flush}
+use Rattle.kept_facts.proofs.Carries.{own_kept}
+use Rattle.kept_facts.proofs.CountSums.{counted_refs, times_here, times_there}
 use Rattle.step_ways.proofs.Good.{spares_node}
 use Rattle.step_ways.proofs.Loads.{next_at, IsOfCall, core_in_call, inner, call_is}
 use Rattle.step_ways.proofs.Places.{IsMarked, place_reads, IsUnmarked, node_mark}
 use Rattle.step_ways.proofs.Refusals.{GoodTook, not_spent}
 use Rattle.core_invariant.proofs.Sounds.{limits_of}
-use Rattle.kept_words.proofs.WordFrames.{ReadsAlike, StaysSaid, word_stays, SameFor}
+use Rattle.kept_facts.proofs.WordFrames.{ReadsAlike, StaysSaid, word_stays, SameFor}
 use Rattle.step_ways.proofs.Writes.{same_marks, decides_writing}
 use Rattle.core_invariant.specs.CountWords.{IsWithin}
 use Rattle.core_invariant.specs.Holding.{holds_counts, settled_by, settled, keeps}
@@ -82,7 +82,7 @@ use Rattle.core_invariant.specs.Knows.{AreDuesApart, HasFound, own_in, phase_at,
 use Rattle.core_invariant.specs.Knows.{WorksIn, MayFill, KnowsComp, KnowsCompAt, MayTake, KnowsLive, untypes}
 use Rattle.core_invariant.specs.Invariant.{holds_at, holds_in, Invariant, holds, held_by, times_of, SumIs, counted_in, holds_comp}
 use Rattle.core_invariant.specs.Words.{PlaceIs, count_room, IsFrameWord, WordIs, NumberIs, IsCompWord}
-use Rattle.look_invariant.proofs.Findings.{found_named, own_is, way_gone}
+use Rattle.count_invariant.proofs.Findings.{found_named, own_is, way_gone}
 use Rattle.stage_pins.specs.Counts.{later}
 use Rattle.stage_pins.specs.Held.{stamp_of_change}
 use Rattle.count_invariant.proofs.CountChanges.{dues_commit, dues_sum}
@@ -118,7 +118,7 @@ use Rattle.comp_invariant.proofs.CompStores.{number_stands, put_of_call, put_los
 use Rattle.comp_invariant.proofs.CompMarks.{load_good, mark_good}
 use Rattle.frame_words.proofs.LiveLemmas as lives_words
 use Rattle.core_invariant.proofs.Bare.{counts_bare}
-use Rattle.lent_words.proofs.Lent.{may_keep, unlent_value, unlent_word, node_keeps_none}
+use Rattle.kept_facts.proofs.Lent.{may_keep, unlent_value, unlent_word, node_keeps_none}
 
 abbrev due_by : ℕ → ℕ → Due
 due_by f n = record { frame = f; change = pos n }

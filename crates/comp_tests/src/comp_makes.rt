@@ -6,12 +6,10 @@
 //! the number's word (20) and closes it (21), stores three words (22 to 24) and compares the target, which decides (25). Then it stores the
 //! number's word (26) and the frame's (27), commits its counts (28 to 30) and leaves (31 and 32).
 
-use core_kernel::FreeGate;
-use speck_run::Status;
 use std::alloc::Global;
 use std::test::Fail;
 use std::thread::Threads;
-use test_machine::{FROM_ENTRIES, MACHINE, TO_ENTRIES, leads_to, runs, steps};
+use test_machine::{FROM_ENTRIES, FreeGate, MACHINE, Status, TO_ENTRIES, leads_to, runs, steps};
 
 // The steps of a make of a component that is carried out, without a scan.
 const STEPS: usize = 32;

@@ -5,11 +5,9 @@
 //! and 14). Where the place is quiescing the other core's word is loaded after 8.
 
 use crate::shared::{order_of, tables};
-use core_kernel::FreeGate;
-use speck_run::Status;
 use std::alloc::Global;
 use std::test::Fail;
-use test_machine::{MACHINE, leads_to, runs};
+use test_machine::{FreeGate, MACHINE, Status, leads_to, runs};
 
 // The steps of a gate and of a kill that are carried out.
 const STEPS: usize = 14;

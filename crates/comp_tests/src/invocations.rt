@@ -9,11 +9,9 @@
 //! and 12).
 
 use crate::shared::{self, order_of};
-use core_kernel::FreeGate;
-use speck_run::Status;
 use std::alloc::Global;
 use std::test::Fail;
-use test_machine::{MACHINE, leads_to, leads_to_each_way, runs, steps};
+use test_machine::{FreeGate, MACHINE, Status, leads_to, leads_to_each_way, runs, steps};
 
 // The steps of a call and of a return that are carried out.
 const CALL_STEPS: usize = 14;

@@ -5,11 +5,9 @@
 //! and 13).
 
 use crate::shared::{order_of, tables};
-use core_kernel::FreeGate;
-use speck_run::Status;
 use std::alloc::Global;
 use std::test::Fail;
-use test_machine::{MACHINE, leads_to, runs};
+use test_machine::{FreeGate, MACHINE, Status, leads_to, runs};
 
 // The steps of a kill that is carried out.
 const STEPS: usize = 13;

@@ -6,11 +6,11 @@
 //! threads (11 to 14), stores the core's own thread as claimed (15), draws its stamp, which decides (16), stores the thread as running and
 //! the one that is left as idle (17 and 18), commits the counts (19 and 20) and leaves (21 and 22).
 
-use core_kernel::FreeGate;
-use speck_run::Status;
 use std::alloc::Global;
 use std::test::Fail;
-use test_machine::{FROM_ENTRIES, MACHINE, TO_ENTRIES, leads_to, leads_to_each_way, runs, steps};
+use test_machine::{
+    FROM_ENTRIES, FreeGate, MACHINE, Status, TO_ENTRIES, leads_to, leads_to_each_way, runs, steps,
+};
 
 // The steps of a switch that is carried out, to the temporal capability of the core.
 const STEPS: usize = 22;

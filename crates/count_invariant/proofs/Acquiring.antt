@@ -1,6 +1,6 @@
 -- A step by which a call acquires a count that its act changes is good: the count is held by another core, is lost to another core, or
 -- is acquired; and so is the step by which a decided call commits it.
-use Rattle.lent_words.proofs.Lent.{lent_elsewhere}
+use Rattle.kept_facts.proofs.Lent.{lent_elsewhere}
 use Rattle.count_invariant.proofs.SwitchCounts.{switch_of, switch_counts, switch_due_near, switch_left}
 use Rattle.core_invariant.specs.Threads.{claimed_by}
 use Rattle.count_invariant.proofs.StackCounts.{invoke_counts, invoke_near, invoking_due, returning_due, top_near}
@@ -76,7 +76,7 @@ use Rattle.call_plans.proofs.CallsGoBy.{calls_go}
 use Rattle.count_invariant.proofs.MakingCounts.{no_due, made_counts, made_changes, made_argument, due_near, made_left, due_named}
 use Rattle.count_invariant.proofs.SweepCounts.{sweep_counts, sweep_near, sweep_left, sweep_spares}
 use Rattle.count_invariant.proofs.KillingCounts.{kill_counts, kill_near, killing_due}
-use Rattle.look_invariant.proofs.Findings.{found_named}
+use Rattle.count_invariant.proofs.Findings.{found_named}
 use Rattle.act_states.specs.declared.refusals.Refusal.TheVariants as refusal
 use Rattle.act_states.specs.declared.work.Due.{Due}
 use Rattle.act_states.specs.declared.work.Act.{Act as ActOf}
@@ -106,9 +106,9 @@ use Rattle.core_invariant.specs.Knows.{pin_core, IsRemoval, KnowsClose, KnowsAct
 use Rattle.core_invariant.specs.Knows.{IsCount, HasRead, phase_at, KnowsTail, goes_on, is_counting, untypes}
 use Rattle.core_invariant.specs.Invariant.{done_by, holds_act, holds_work, holds_at, holds_in, holds, held_by}
 use Rattle.core_invariant.specs.Invariant.{Invariant, holds_tail, holds_making, holds_killing, holds_comp}
-use Rattle.kept_knowledge.proofs.Carries.{names_on, act_on, counts_on, KeepsUsers, KeepsThreads}
-use Rattle.kept_knowledge.proofs.Carries.{claimed_in, ReadsSame, freezes_at, reads_counts, due_pairs}
-use Rattle.kept_knowledge.proofs.Swept.{LeavesFrame}
+use Rattle.kept_facts.proofs.Carries.{names_on, act_on, counts_on, KeepsUsers, KeepsThreads}
+use Rattle.kept_facts.proofs.Carries.{claimed_in, ReadsSame, freezes_at, reads_counts, due_pairs}
+use Rattle.kept_facts.proofs.Swept.{LeavesFrame}
 use Rattle.step_ways.proofs.Writes.{same_marks}
 use Rattle.step_ways.proofs.Good.{IsGood, spares_other}
 use Rattle.step_ways.proofs.Counting as counters

@@ -27,7 +27,7 @@ use Rattle.core_invariant.specs.Knows.{due_of}
 use Rattle.core_invariant.specs.Invariant.{holds, held_by, times_of, SumIs, Invariant}
 use Rattle.step_ways.proofs.Loads.{inner}
 use Rattle.core_invariant.proofs.Ranges.{within_more}
-use Rattle.kept_words.proofs.WordFrames.{ReadsAlike}
+use Rattle.kept_facts.proofs.WordFrames.{ReadsAlike}
 use Rattle.count_invariant.proofs.CountChanges.{dues_sum, dues_commit}
 
 -- What a capability has due, by what it names.

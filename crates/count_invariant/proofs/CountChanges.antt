@@ -33,12 +33,12 @@ use Rattle.core_invariant.specs.Holding.{count_of, committed, holds_counts, AreA
 use Rattle.core_invariant.specs.Words.{SaysCount, count_room, WordIs}
 use Rattle.core_invariant.specs.Knows.{due_of, IsCount}
 use Rattle.core_invariant.specs.Invariant.{holds, held_by, times_of, count_shown, SumIs, Invariant}
-use Rattle.kept_words.proofs.CountSums.{counter_once, sum_same, sum_by, newest_same, newest_one}
+use Rattle.kept_facts.proofs.CountSums.{counter_once, sum_same, sum_by, newest_same, newest_one}
 use Rattle.step_ways.proofs.Counting.{first_marked, first_stands}
 use Rattle.step_ways.proofs.Loads.{call_is, inner}
 use Rattle.core_invariant.proofs.Ranges.{within_more, within_step, within_fits, changed_is}
 use Rattle.core_invariant.proofs.Sounds.{limits_of}
-use Rattle.kept_words.proofs.WordFrames.{ReadsAlike, others_settled, own_settled}
+use Rattle.kept_facts.proofs.WordFrames.{ReadsAlike, others_settled, own_settled}
 use Rattle.step_ways.proofs.Writes.{room_small}
 
 some_word : (v u : CountWord) → Some v ≡ Some u → v ≡ u

@@ -1,3 +1,7 @@
+-- Look-ups.
+pub mod Lookups
+pub mod Findings
+pub mod Next
 -- Acquiring and committing.
 pub mod ActBares
 pub mod DueLists

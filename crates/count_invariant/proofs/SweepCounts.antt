@@ -50,7 +50,7 @@ use Rattle.core_invariant.specs.Sweeps.{KnowsSwept, KnowsUntyping, KnowsUntyping
 use Rattle.core_invariant.proofs.Freezing.{thaws_own}
 use Rattle.step_ways.proofs.Loads.{is_active}
 use Rattle.core_invariant.proofs.Sounds.{limits_of}
-use Rattle.kept_knowledge.proofs.Swept.{HoldsSwept, no_refs, release_swept}
+use Rattle.kept_facts.proofs.Swept.{HoldsSwept, no_refs, release_swept}
 use Rattle.count_invariant.proofs.ActHolds.{SparesAt, SparesSwept}
 use Rattle.count_invariant.proofs.MakingCounts.{due_named}
 

@@ -3,8 +3,7 @@ ghost use Rattle.std.specs.Prelude.{◌≡◌, ◌↔◌, ◌∷◌, [], map, st
 ghost use Rattle.example_runs.specs.declared.runs.Outcome.TheVariants as outcomes;
 
 use byte_ends::{MemSink, MemSource};
-use core_kernel::FreeGate;
-use speck_run::speck;
+use speck_run::{FreeGate, speck};
 use spk_nums::Memory;
 use std::alloc::{AllocError, Global};
 use std::fmt;

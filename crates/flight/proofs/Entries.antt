@@ -58,13 +58,13 @@ use Rattle.core_invariant.specs.Knows.{LooksUp, own_in, LooksFor, ReadBefore, Ca
 use Rattle.core_invariant.specs.Invariant.{Invariant}
 use Rattle.core_invariant.proofs.Sounds.{limits_of}
 use Rattle.step_ways.proofs.Good.{IsGood}
-use Rattle.kept_words.proofs.Calm.{calm_entered, calm_counted, calm_then}
+use Rattle.kept_facts.proofs.Calm.{calm_entered, calm_counted, calm_then}
 use Rattle.step_ways.proofs.Loads.{Lands, step_to}
 use Rattle.step_ways.proofs.Writes.{clock_small, core_small, enters_on}
 use Rattle.flight.specs.Made.{MayBegin}
 use Rattle.plan_ways.specs.Laws.{NextRefused}
 use Rattle.plan_ways.proofs.Ways.{next_first}
-use Rattle.look_invariant.proofs.Findings.{past_slot, past_unreached, named_no_slot}
+use Rattle.count_invariant.proofs.Findings.{past_slot, past_unreached, named_no_slot}
 use Rattle.page_invariant.proofs.TouchCalls.{past_may, past_first}
 
 module _ (setup : Setting) (setting : IsSetting setup) (cores : ℕ → Core) (t : Trace) (stands : Invariant setup cores t) (c : ℕ)

@@ -38,7 +38,7 @@ use Rattle.core_invariant.specs.Words.{PlaceIs, IsFrameWord, SaysCount, count_ro
 use Rattle.core_invariant.specs.Knows.{CallIs, WorksIn}
 use Rattle.core_invariant.specs.Invariant.{holds_in, held_by, times_of, count_shown, Invariant}
 use Rattle.flight.specs.Theorems.{SaysWords, AreBetween, Represents, RepresentsCounts}
-use Rattle.kept_words.proofs.CountSums.{sum_same}
+use Rattle.kept_facts.proofs.CountSums.{sum_same}
 use Rattle.core_invariant.proofs.Sounds.{limits_of}
 use Rattle.core_invariant.proofs.Markers.{marker_inside}
 use Rattle.step_ways.proofs.Places.{IsMarked, IsUnmarked, place_reads}

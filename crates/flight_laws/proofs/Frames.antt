@@ -35,7 +35,7 @@ use Rattle.trace_laws.proofs.Stays.{Stays, stays_other, stays_in_other, stays_pl
 use Rattle.kernel_history.proofs.Steps.{phase-own, phase-other, own_read-here, own_read-there, own_read-other}
 use Rattle.state_laws.proofs.Flushes.{frame_flushed}
 use Rattle.state_laws.proofs.Relied.{own_frame, own_relies}
-use Rattle.kept_words.proofs.CountSums.{counter_all}
+use Rattle.kept_facts.proofs.CountSums.{counter_all}
 use Rattle.core_invariant.specs.Invariant.{Invariant}
 use Rattle.flight_laws.specs.Frames.{MakesUntyped, IsUnused, UntypedFramesAreUnused, CountedFramesStay, GoesOn, IsLooked, LookedNodesStay}
 use Rattle.flight.specs.Made.{cores_after, IsMade}

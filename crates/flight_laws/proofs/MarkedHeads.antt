@@ -57,9 +57,9 @@ use Rattle.core_invariant.specs.Knows.{KnowsAct, KnowsWork, KnowsAt, CallIs, pha
 use Rattle.core_invariant.specs.Shares.{HasMarkedA, KnowsPairAt}
 use Rattle.core_invariant.specs.Invariant.{holds_act, holds_making, holds_killing, holds_comp, holds_share}
 use Rattle.core_invariant.specs.Invariant.{holds_head, holds_work, holds_at, holds_in, holds, held_by, Invariant}
-use Rattle.kept_knowledge.proofs.Carries.{slot_relies}
+use Rattle.kept_facts.proofs.Carries.{slot_relies}
 use Rattle.core_invariant.proofs.Freezing.{release_entry}
-use Rattle.lent_words.proofs.Tcaps.{is_tcap}
+use Rattle.kept_facts.proofs.Tcaps.{is_tcap}
 use Rattle.pair_invariant.proofs.ShareSteps.{marked_says}
 use Rattle.thread_invariant.proofs.EntryMarks.{counts_apart, holder_below}
 use Rattle.thread_invariant.proofs.OwnStack.{own_thread}

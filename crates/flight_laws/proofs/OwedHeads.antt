@@ -43,7 +43,7 @@ use Rattle.core_invariant.specs.Knows.{KnowsTail, KnowsAt, CallIs, phase_at}
 use Rattle.core_invariant.specs.Shares.{StoresA, StoresB, KnowsStoresAt}
 use Rattle.core_invariant.specs.Invariant.{holds_head, holds_heads, holds_shared, holds_tail, is_done, holds_at, holds_in, holds, Invariant}
 use Rattle.core_invariant.proofs.Freezing.{release_entry}
-use Rattle.lent_words.proofs.Tcaps.{is_tcap}
+use Rattle.kept_facts.proofs.Tcaps.{is_tcap}
 use Rattle.pair_invariant.proofs.ShareSteps.{marked_says}
 use Rattle.thread_invariant.proofs.EntryMarks.{counts_apart, holder_below}
 use Rattle.thread_invariant.proofs.OwnStack.{own_thread}

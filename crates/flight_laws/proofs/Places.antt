@@ -96,12 +96,12 @@ use Rattle.core_invariant.specs.Components.{HasLoadedBelow}
 use Rattle.core_invariant.specs.Shares.{HasTcap, KnowsPairAt}
 use Rattle.core_invariant.specs.Threads.{HasThread, KnowsSwitchAt, claimed_by}
 use Rattle.core_invariant.specs.Invariant.{Invariant}
-use Rattle.kept_words.proofs.Claimed.{guarded_thread}
+use Rattle.kept_facts.proofs.Claimed.{guarded_thread}
 use Rattle.core_invariant.proofs.Sounds.{limits_of}
-use Rattle.lent_words.proofs.Tcaps.{tcap_stays}
-use Rattle.kept_knowledge.proofs.Carries.{slot_relies}
+use Rattle.kept_facts.proofs.Tcaps.{tcap_stays}
+use Rattle.kept_facts.proofs.Carries.{slot_relies}
 use Rattle.step_ways.proofs.Places.{IsMarked, IsUnmarked, place_reads}
-use Rattle.look_invariant.proofs.Lookups.{leaf_reached}
+use Rattle.count_invariant.proofs.Lookups.{leaf_reached}
 use Rattle.place_invariant.proofs.Removals.{holds_place}
 use Rattle.flight_laws.specs.Frames.{IsLooked, is_held}
 use Rattle.flight.specs.Made.{turned, MayStep, core_after, cores_after, stepping_core, IsMadeStep, IsMade}

@@ -13,7 +13,7 @@ use Rattle.kernel_history.specs.Marks.{thread_mark}
 use Rattle.kernel_history.specs.Trace.{Trace, state_after, last_left}
 use Rattle.call_stages.specs.View.{Core}
 use Rattle.core_invariant.specs.Invariant.{holds, Invariant}
-use Rattle.lent_words.proofs.Lent.{runs_on_own}
+use Rattle.kept_facts.proofs.Lent.{runs_on_own}
 use Rattle.core_invariant.proofs.Markers.{marker_inside}
 use Rattle.core_invariant.proofs.Sounds.{limits_of}
 use Rattle.kernel_history.proofs.Events.{state_is, run_of}

@@ -1,7 +1,7 @@
 -- The decision of a call that makes an object: the compare of its target, where it is won, makes the frame that object, and puts its
 -- capability there.
 use Rattle.core_invariant.proofs.Bare.{counts_bare}
-use Rattle.lent_words.proofs.Lent.{may_keep, unlent_value, unlent_word, node_keeps_none}
+use Rattle.kept_facts.proofs.Lent.{may_keep, unlent_value, unlent_word, node_keeps_none}
 use Rattle.std.specs.Prelude.{if◌then◌else◌, pos, All}
 use Rattle.std.proofs.Common.{◌≡◌, List, Bool, true, false, Some, None, refl, ℕ, ◌<◌, ◌^◌, ◌==◌, arith, ◌≢◌, ◌+◌}
 use Rattle.std.proofs.Common.{sym, ◌&&◌, [], ◌∷◌, ap, ◌∙◌, subst, ◌≤◌, IsTrue, ◌⊎◌, inl, inr, max, map, ◌+ℤ◌}
@@ -72,15 +72,15 @@ use Rattle.call_stages.specs.View.{Core}
 use Rattle.call_stages.specs.declared.stages.ActiveCall.{ActiveCall}
 use Rattle.call_stages.specs.declared.stages.Stage.{Stage}
 use Rattle.call_stages.specs.declared.stages.Stage.TheVariants.{Undecided, Decided}
-use Rattle.kept_words.proofs.Calm.{calm_counted, plain_exit, counted_rises, BeginsNone, room_grows, counts, same_works, none_flush}
-use Rattle.kept_knowledge.proofs.Carries.{own_kept}
-use Rattle.kept_words.proofs.CountSums.{counted_refs, times_here, times_there}
+use Rattle.kept_facts.proofs.Calm.{calm_counted, plain_exit, counted_rises, BeginsNone, room_grows, counts, same_works, none_flush}
+use Rattle.kept_facts.proofs.Carries.{own_kept}
+use Rattle.kept_facts.proofs.CountSums.{counted_refs, times_here, times_there}
 use Rattle.step_ways.proofs.Good.{spares_node}
 use Rattle.step_ways.proofs.Loads.{next_at, IsOfCall, core_in_call, inner, call_is}
 use Rattle.step_ways.proofs.Places.{IsMarked, place_reads, IsUnmarked, node_mark}
 use Rattle.step_ways.proofs.Refusals.{GoodTook, not_spent}
 use Rattle.core_invariant.proofs.Sounds.{limits_of}
-use Rattle.kept_words.proofs.WordFrames.{ReadsAlike, StaysSaid, word_stays, SameFor}
+use Rattle.kept_facts.proofs.WordFrames.{ReadsAlike, StaysSaid, word_stays, SameFor}
 use Rattle.step_ways.proofs.Writes.{same_marks, decides_writing}
 use Rattle.core_invariant.specs.CountWords.{IsWithin}
 use Rattle.core_invariant.specs.Holding.{holds_counts, settled_by, settled, keeps}
@@ -88,7 +88,7 @@ use Rattle.core_invariant.specs.Knows.{AreDuesApart, HasFound, own_in, phase_at,
 use Rattle.core_invariant.specs.Knows.{KnowsMaking, KnowsMakingAt, KnowsUnmark, WorksIn, MayFill, HasStored}
 use Rattle.core_invariant.specs.Invariant.{holds_at, holds_in, Invariant, holds, held_by, holds_making, times_of, SumIs, counted_in}
 use Rattle.core_invariant.specs.Words.{PlaceIs, count_room, IsFrameWord, WordIs}
-use Rattle.look_invariant.proofs.Findings.{found_named, own_is, way_gone}
+use Rattle.count_invariant.proofs.Findings.{found_named, own_is, way_gone}
 use Rattle.count_invariant.proofs.MakingCounts.{made_changes, made_types, made_argument}
 use Rattle.stage_pins.specs.Counts.{later}
 use Rattle.stage_pins.specs.Held.{stamp_of_change}

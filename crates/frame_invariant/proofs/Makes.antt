@@ -1,7 +1,7 @@
 -- The steps by which a call makes a node, up to its decision: the load of the frame's word, the compare that marks it, the stores of its
 -- places, and a compare of the target that is lost; and the store that gives the frame's word back.
 use Rattle.core_invariant.proofs.Bare.{as_none, counts_bare}
-use Rattle.lent_words.proofs.Lent.{may_keep, unlent_word, lent_elsewhere}
+use Rattle.kept_facts.proofs.Lent.{may_keep, unlent_word, lent_elsewhere}
 use Rattle.std.specs.Prelude.{if◌then◌else◌, List}
 use Rattle.std.proofs.Common.{◌≡◌, ◌≤◌, Bool, true, false, cond, Option, Some, None, refl, ℕ, ◌<◌, ◌^◌, ◌==◌, arith, ◌≢◌, ◌+◌}
 use Rattle.std.proofs.Common.{sym, nat_lt, ◌&&◌, [], ◌∷◌, ◌++◌, length, ap, ◌∙◌, subst, IsTrue, inl, inr, not, is_some, map}
@@ -70,7 +70,7 @@ use Rattle.call_stages.specs.Steps.{GoesOn, landed, went_with}
 use Rattle.call_stages.specs.View.{Core}
 use Rattle.call_stages.specs.declared.stages.ActiveCall.{ActiveCall}
 use Rattle.call_stages.specs.declared.stages.Stage.TheVariants.{Undecided, Decided}
-use Rattle.kept_knowledge.proofs.Carries.{names_on, counts_on, spot_on}
+use Rattle.kept_facts.proofs.Carries.{names_on, counts_on, spot_on}
 use Rattle.step_ways.proofs.Counting as counting
 use Rattle.step_ways.proofs.Good.{spares_blank, spares_other, blank_is}
 use Rattle.step_ways.proofs.Loads.{decides_on, step_to, OnlyLooks, next_at, loads_on, IsOfCall, core_in_call, inner, call_is, core_is}
@@ -81,7 +81,7 @@ use Rattle.core_invariant.specs.Knows.{phase_at, due_of, KnowsUndecided, KnowsMa
 use Rattle.core_invariant.specs.Knows.{KnowsMakingAt, KnowsUnmark, blank_word, HasStored, HasBlank}
 use Rattle.core_invariant.specs.Invariant.{holds_at, holds_in, Invariant, done_by, holds, held_by, holds_making}
 use Rattle.core_invariant.specs.Words.{IsFrameWord, count_room}
-use Rattle.look_invariant.proofs.Lookups.{near_way}
+use Rattle.count_invariant.proofs.Lookups.{near_way}
 use Rattle.count_invariant.proofs.Acquiring.{knows_next, next_holds}
 use Rattle.count_invariant.proofs.MakingCounts.{blank_left, made_changes, made_argument, made_near, argument_near}
 use Rattle.place_invariant.proofs.Fills.{target_way, changes_node}

@@ -34,7 +34,7 @@ use Rattle.act_states.specs.declared.objects.NewObject.TheVariants as objects
 use Rattle.act_states.specs.Objects.{object_cap, object_word, thread_word, tcap_word, last_word, object_names, PairFits, NamesFit}
 use Rattle.act_states.specs.Makings.{made}
 use Rattle.core_invariant.specs.Words.{PlaceIs, IsThreadWord, IsTcapWord, IsFrameWord}
-use Rattle.kept_words.proofs.WordFrames.{entry_more}
+use Rattle.kept_facts.proofs.WordFrames.{entry_more}
 use Rattle.place_invariant.proofs.ObjectMakes.{new_object, ready_place, readied}
 
 pub made_value : (o : NewObject) → frame_value (Kernel (new_object o)) ≡ made o

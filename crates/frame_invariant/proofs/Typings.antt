@@ -68,18 +68,18 @@ use Rattle.core_invariant.specs.Holding.{holds_counts, settled_by, settled}
 use Rattle.core_invariant.specs.Words.{IsFrameWord, WordIs, count_room}
 use Rattle.core_invariant.specs.Knows.{HasFound, own_in, due_of, TypesBy, HasMet, KnowsUndecided, WorksIn, phase_at, untypes}
 use Rattle.core_invariant.specs.Invariant.{holds_at, holds_in, holds, held_by, times_of, counted_in, Invariant}
-use Rattle.kept_words.proofs.Calm.{counts, calm_counted, own_works, counted_rises, room_rises}
-use Rattle.kept_words.proofs.Calm.{IsUntimed, plain_begins, plain_stamp, plain_flush, plain_exit}
-use Rattle.kept_knowledge.proofs.Carries.{names_on, own_kept}
-use Rattle.kept_words.proofs.CountSums.{counted_refs}
+use Rattle.kept_facts.proofs.Calm.{counts, calm_counted, own_works, counted_rises, room_rises}
+use Rattle.kept_facts.proofs.Calm.{IsUntimed, plain_begins, plain_stamp, plain_flush, plain_exit}
+use Rattle.kept_facts.proofs.Carries.{names_on, own_kept}
+use Rattle.kept_facts.proofs.CountSums.{counted_refs}
 use Rattle.step_ways.proofs.Good.{spares_other}
 use Rattle.step_ways.proofs.Loads.{IsOfCall, OnlyLooks, step_to, next_at, core_in_call, inner, call_is, is_active, loads_on}
 use Rattle.step_ways.proofs.Refusals.{GoodTook, ticks_at, not_spent, refuses_raced, refuses_busy, refuses_frame_kind}
 use Rattle.core_invariant.proofs.Sounds.{limits_of}
-use Rattle.kept_words.proofs.Sums.{sums_keep}
-use Rattle.kept_words.proofs.WordFrames.{SameFor, ReadsAlike, StaysSaid, word_stays, others_settled}
+use Rattle.kept_facts.proofs.Sums.{sums_keep}
+use Rattle.kept_facts.proofs.WordFrames.{SameFor, ReadsAlike, StaysSaid, word_stays, others_settled}
 use Rattle.step_ways.proofs.Writes.{same_marks, writes_on}
-use Rattle.look_invariant.proofs.Findings.{own_is, found_named, way_gone}
+use Rattle.count_invariant.proofs.Findings.{own_is, found_named, way_gone}
 use Rattle.count_invariant.proofs.Acquiring.{plan_leads, goes_by}
 
 -- What a frame becomes, and what its word then says.

@@ -3,12 +3,12 @@
 //! decides (76). It stores the frame's word as that of the node (77), commits the count (78) and leaves (79 and 80). Where the target
 //! is quiescing it scans the other core between 7 and 8.
 
-use core_kernel::FreeGate;
-use speck_run::Status;
 use std::alloc::Global;
 use std::test::Fail;
 use std::thread::Threads;
-use test_machine::{MACHINE, leads_to, leads_to_each_way, place_of, runs, steps, tables};
+use test_machine::{
+    FreeGate, MACHINE, Status, leads_to, leads_to_each_way, place_of, runs, steps, tables,
+};
 
 // One more than the steps of a make that scans nothing.
 const PAST: usize = 81;

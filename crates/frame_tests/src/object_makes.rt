@@ -5,12 +5,10 @@
 //! 11), acquires the counts of the frame and of the component (12 and 13, 14 and 15), stores seventeen words (16 to 32), and compares the
 //! target, which decides (33). It stores the frame's word (34), commits the counts (35 and 36) and leaves (37 and 38).
 
-use core_kernel::FreeGate;
-use speck_run::Status;
 use std::alloc::Global;
 use std::test::Fail;
 use std::thread::Threads;
-use test_machine::{MACHINE, leads_to, leads_to_each_way, runs, steps, tables};
+use test_machine::{FreeGate, MACHINE, Status, leads_to, leads_to_each_way, runs, steps, tables};
 
 const TCAP: &str = "frame 8 tcap refs 1\n  budget 0\n  quality 5 7\n";
 

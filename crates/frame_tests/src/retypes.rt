@@ -2,12 +2,10 @@
 //! word found, which decides (5), and leaves (6 and 7). A frame that the range does not have is refused at 3, and one that is not
 //! untyped at 4.
 
-use core_kernel::FreeGate;
-use speck_run::Status;
 use std::alloc::Global;
 use std::test::Fail;
 use std::thread::Threads;
-use test_machine::{MACHINE, leads_to, place_of, runs, tables};
+use test_machine::{FreeGate, MACHINE, Status, leads_to, place_of, runs, tables};
 
 // The steps of a retype that is carried out, of which the load of the frame's word is the fourth and the compare the fifth.
 const STEPS: usize = 7;

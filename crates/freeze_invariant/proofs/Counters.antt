@@ -64,9 +64,9 @@ use Rattle.core_invariant.specs.Invariant.{holds, holds_in, holds_tail, held_by,
 use Rattle.core_invariant.specs.Sweeps.{AreFrozen, AreKept, HasReadCount, KnowsRelease, KnowsSweep, KnowsUntyping, SaysTyped, ThawsFrame}
 use Rattle.core_invariant.specs.Words.{SaysCount, count_room}
 use Rattle.core_invariant.proofs.Bare.{as_none, counts_bare}
-use Rattle.kept_knowledge.proofs.Carries.{names_on, counts_on}
+use Rattle.kept_facts.proofs.Carries.{names_on, counts_on}
 use Rattle.core_invariant.proofs.Freezing.{SameAt, IsFrozenWord, frozen_word, thaw_all, thaw_from, thaws_own, release_bare}
-use Rattle.kept_knowledge.proofs.Swept.{HoldsSwept, release_swept, frame_says, no_refs, stamp_is}
+use Rattle.kept_facts.proofs.Swept.{HoldsSwept, release_swept, frame_says, no_refs, stamp_is}
 use Rattle.step_ways.proofs.Loads.{IsOfCall, OnlyLooks, step_to, next_at, core_in_call, inner, call_is, loads_on}
 use Rattle.step_ways.proofs.Refusals.{GoodTook, ticks_at, raced_leaving, busy_leaving}
 use Rattle.freeze_invariant.proofs.UntypeCalls as calls

@@ -64,11 +64,11 @@ use Rattle.core_invariant.specs.Knows.{due_of, KnowsUndecided}
 use Rattle.core_invariant.specs.Invariant.{holds, holds_in, held_by, count_shown, Invariant}
 use Rattle.core_invariant.specs.Sweeps.{AreFrozen, AreKept, HasReadCount, IsQuiet, KnowsSweep, UntypesBy}
 use Rattle.core_invariant.proofs.Bare.{as_none, counts_bare}
-use Rattle.kept_knowledge.proofs.Carries.{names_on, counts_on, quiet_frame_on}
+use Rattle.kept_facts.proofs.Carries.{names_on, counts_on, quiet_frame_on}
 use Rattle.step_ways.proofs.Counting as counting
 use Rattle.core_invariant.proofs.Freezing.{SameAt, IsFrozenWord, frozen_word, thaw_here}
 use Rattle.step_ways.proofs.Good.{spares_other}
-use Rattle.lent_words.proofs.Lent.{lent_elsewhere}
+use Rattle.kept_facts.proofs.Lent.{lent_elsewhere}
 use Rattle.step_ways.proofs.Loads.{IsOfCall, next_at, core_in_call, inner, call_is}
 use Rattle.step_ways.proofs.Refusals.{GoodTook, ticks_at, raced_leaving}
 use Rattle.freeze_invariant.proofs.Counters.{sweeping, untyping_by, sweep_is, sweep_knows, sweep_held}

@@ -48,10 +48,10 @@ use Rattle.core_invariant.specs.Knows.{due_of, KnowsUndecided}
 use Rattle.core_invariant.specs.Invariant.{holds, holds_in, held_by, Invariant}
 use Rattle.core_invariant.specs.Sweeps.{HasMetTyped, KnowsUntyping, SaysTyped}
 use Rattle.core_invariant.proofs.Bare.{as_none, counts_bare}
-use Rattle.kept_knowledge.proofs.Carries.{names_on, counts_on}
+use Rattle.kept_facts.proofs.Carries.{names_on, counts_on}
 use Rattle.step_ways.proofs.Counting as counting
 use Rattle.step_ways.proofs.Good.{spares_other}
-use Rattle.lent_words.proofs.Lent.{lent_elsewhere}
+use Rattle.kept_facts.proofs.Lent.{lent_elsewhere}
 use Rattle.step_ways.proofs.Loads.{IsOfCall, step_to, next_at, core_in_call, inner, call_is, loads_on}
 use Rattle.step_ways.proofs.Refusals.{GoodTook, ticks_at, refuses_raced, refuses_busy, refuses_frame_kind}
 use Rattle.freeze_invariant.proofs.UntypeCalls as calls

@@ -28,16 +28,16 @@ use Rattle.core_invariant.specs.Holding.{settled_by, settled}
 use Rattle.core_invariant.specs.Knows.{phase_at, KnowsTail, flushing_in}
 use Rattle.core_invariant.specs.Invariant.{holds, held_by, times_of, Invariant}
 use Rattle.core_invariant.proofs.Bare.{AsBefore}
-use Rattle.kept_words.proofs.Calm.{IsCalm, calm_counted, calm_words, counted_rises, none_stored}
-use Rattle.kept_words.proofs.Calm.{IsUntimed, plain_begins, plain_exit, none_time, none_flushed}
+use Rattle.kept_facts.proofs.Calm.{IsCalm, calm_counted, calm_words, counted_rises, none_stored}
+use Rattle.kept_facts.proofs.Calm.{IsUntimed, plain_begins, plain_exit, none_time, none_flushed}
 use Rattle.step_ways.proofs.Flushing.{open_flushed}
 use Rattle.step_ways.proofs.Good.{IsGood, spares_other}
-use Rattle.lent_words.proofs.Lent.{given_kept, lent_open, lent_elsewhere}
+use Rattle.kept_facts.proofs.Lent.{given_kept, lent_open, lent_elsewhere}
 use Rattle.step_ways.proofs.Loads.{IsOfCall, Lands, next_at, core_in_call, core_is, call_is, inner, inner_works}
 use Rattle.step_ways.proofs.OwnChanges as owning
-use Rattle.kept_words.proofs.Sums.{sums_stay}
+use Rattle.kept_facts.proofs.Sums.{sums_stay}
 use Rattle.step_ways.proofs.Users.{spares_none}
-use Rattle.kept_words.proofs.WordFrames.{marks_own, hold_marks, hold_words, settled_stays}
+use Rattle.kept_facts.proofs.WordFrames.{marks_own, hold_marks, hold_words, settled_stays}
 
 module _ (setup : Setting) (setting : IsSetting setup) (cores : ℕ → Core) (t : Trace) (stands : Invariant setup cores t) (c : ℕ)
     (here : c < setup.cores)

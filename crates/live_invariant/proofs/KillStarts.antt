@@ -33,7 +33,7 @@ use Rattle.call_stages.specs.View.{Core}
 use Rattle.core_invariant.specs.Holding.{holds_counts}
 use Rattle.core_invariant.specs.Knows.{due_of, HasComp, KillsBy, NamesAre, phase_at}
 use Rattle.core_invariant.specs.Invariant.{holds_in, Invariant}
-use Rattle.kept_knowledge.proofs.Carries.{has_comp_on}
+use Rattle.kept_facts.proofs.Carries.{has_comp_on}
 use Rattle.step_ways.proofs.Loads.{OnlyLooks, step_to, call_is, loads_on}
 use Rattle.step_ways.proofs.Refusals.{GoodTook}
 

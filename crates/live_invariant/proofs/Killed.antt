@@ -1,7 +1,7 @@
 -- A killing draws its stamp and is decided: the number is dead, its reference to the component's frame is released, and the grace periods
 -- of both begin at the stamp. And the store of the dead number's word is good.
 use Rattle.core_invariant.proofs.Bare.{as_none, counts_bare}
-use Rattle.lent_words.proofs.Lent.{lent_elsewhere}
+use Rattle.kept_facts.proofs.Lent.{lent_elsewhere}
 use Rattle.std.specs.Prelude.{IsSome}
 use Rattle.std.specs.List.{list_any}
 use Rattle.std.proofs.Common.{◌≡◌, ◌≢◌, inl, inr, ℕ, pos, negsuc, ◌+ℤ◌, max, length, ◌+◌, ◌^◌, ◌<◌, ◌≤◌, ◌==◌, ◌||◌, Bool, true}
@@ -71,20 +71,20 @@ use Rattle.core_invariant.specs.Holding.{Holding, holds_counts, settled_by, sett
 use Rattle.core_invariant.specs.Words.{NumberIs, WordIs, count_room}
 use Rattle.core_invariant.specs.Knows.{HasFound, KnowsUndecided, KnowsDead, WorksIn, own_in, phase_at}
 use Rattle.core_invariant.specs.Invariant.{done_by, holds_at, holds_in, holds, held_by, times_of, counted_in, Invariant}
-use Rattle.kept_words.proofs.Calm.{counts, calm_counted, own_works, plain_exit, room_grows, counted_grows}
-use Rattle.kept_knowledge.proofs.Carries.{own_kept, counts_on}
-use Rattle.kept_words.proofs.CountSums.{counted_refs}
+use Rattle.kept_facts.proofs.Calm.{counts, calm_counted, own_works, plain_exit, room_grows, counted_grows}
+use Rattle.kept_facts.proofs.Carries.{own_kept, counts_on}
+use Rattle.kept_facts.proofs.CountSums.{counted_refs}
 use Rattle.step_ways.proofs.Counting as counters
 use Rattle.step_ways.proofs.Draws as drawing
 use Rattle.step_ways.proofs.Good.{spares_other}
 use Rattle.step_ways.proofs.Loads.{call_is, core_in_call, inner}
 use Rattle.step_ways.proofs.Refusals.{GoodTook, not_spent}
 use Rattle.core_invariant.proofs.Sounds.{limits_of}
-use Rattle.kept_words.proofs.WordFrames.{SameFor, ReadsAlike, reads_alike, StaysSaid, word_stays}
+use Rattle.kept_facts.proofs.WordFrames.{SameFor, ReadsAlike, reads_alike, StaysSaid, word_stays}
 use Rattle.step_ways.proofs.Writes.{clock_small, same_marks}
 use Rattle.count_invariant.proofs.CapChanges.{counts_commit, counts_sum, dues_of}
 use Rattle.count_invariant.proofs.KillingCounts.{kill_numbers, kill_raises, kill_types}
-use Rattle.look_invariant.proofs.Findings.{own_is, found_named, way_gone}
+use Rattle.count_invariant.proofs.Findings.{own_is, found_named, way_gone}
 use Rattle.live_invariant.proofs.Numbers.{IsSpelled, spelled, no_number, number_is, lives_for}
 use Rattle.live_invariant.proofs.KillCalls as calls
 use Rattle.live_invariant.proofs.Kills.{load_comp_good, load_live_good, close_good}

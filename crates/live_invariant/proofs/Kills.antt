@@ -1,7 +1,7 @@
 -- The steps of a killing before its draw are good: the loads of the component's word and of its number's word, and the compare that marks
 -- the number, which is lost to another core or holds it for the call.
 use Rattle.core_invariant.proofs.Bare.{as_none, counts_bare}
-use Rattle.lent_words.proofs.Lent.{may_keep, unlent_value, lent_elsewhere}
+use Rattle.kept_facts.proofs.Lent.{may_keep, unlent_value, lent_elsewhere}
 use Rattle.std.proofs.Common.{◌≡◌, ◌≢◌, inl, ℕ, ◌+◌, ◌++◌, ◌^◌, ◌<◌, ◌==◌, map, length, Bool, true, false, if◌then◌else◌}
 use Rattle.std.proofs.Common.{List, [], ◌∷◌, Option, Some, None, IsTrue, arith, refl, sym, ◌∙◌, ap, subst}
 use Rattle.std.proofs.lemmas.Bool.{eqb-true, eqb-false, eq-eqb, false≢true}
@@ -44,7 +44,7 @@ use Rattle.core_invariant.specs.Holding.{holds_counts, settled_by}
 use Rattle.core_invariant.specs.Words.{IsFrameWord, NumberIs, count_room}
 use Rattle.core_invariant.specs.Knows.{due_of, KnowsUndecided}
 use Rattle.core_invariant.specs.Invariant.{holds_at, holds_in, holds, held_by, Invariant}
-use Rattle.kept_knowledge.proofs.Carries.{names_on, has_comp_on, life_on, counts_on}
+use Rattle.kept_facts.proofs.Carries.{names_on, has_comp_on, life_on, counts_on}
 use Rattle.step_ways.proofs.Counting as counters
 use Rattle.step_ways.proofs.Good.{spares_other}
 use Rattle.step_ways.proofs.Loads.{IsOfCall, OnlyLooks, step_to, next_at, core_in_call, inner, call_is, loads_on}

@@ -14,20 +14,20 @@ use Rattle.call_stages.specs.declared.stages.Stage.TheVariants.{Undecided, Decid
 use Rattle.call_stages.specs.Fits.{HasRoom}
 use Rattle.call_stages.specs.Steps.{GoesOn, went_with, landed}
 use Rattle.call_stages.specs.View.{Core}
-use Rattle.kept_words.proofs.Calm.{plain_exit}
-use Rattle.kept_knowledge.proofs.Carries.{counts_on}
-use Rattle.kept_words.proofs.CountSums.{counted_refs, calm_refs}
+use Rattle.kept_facts.proofs.Calm.{plain_exit}
+use Rattle.kept_facts.proofs.Carries.{counts_on}
+use Rattle.kept_facts.proofs.CountSums.{counted_refs, calm_refs}
 use Rattle.step_ways.proofs.Good.{spares_kept, spares_other}
 use Rattle.step_ways.proofs.Loads.{IsOfCall, next_at, core_in_call, core_is, call_is, in_call}
 use Rattle.step_ways.proofs.Loads.{inner, inner_within, inner_disciplined, inner_near, is_active}
 use Rattle.step_ways.proofs.OwnChanges.{decides_owning}
 use Rattle.step_ways.proofs.Refusals.{GoodTook, not_spent}
 use Rattle.core_invariant.proofs.Sounds.{limits_of}
-use Rattle.kept_words.proofs.Sums.{sums_since}
-use Rattle.kept_words.proofs.WordFrames.{SameFor, marks_own, word_stays, reads_alike, carry_marks, carry_words, others_settled, own_settled}
+use Rattle.kept_facts.proofs.Sums.{sums_since}
+use Rattle.kept_facts.proofs.WordFrames.{SameFor, marks_own, word_stays, reads_alike, carry_marks, carry_words, others_settled, own_settled}
 use Rattle.step_ways.proofs.Users.{spares_none}
 use Rattle.core_invariant.proofs.Bare.{counts_bare}
-use Rattle.lent_words.proofs.Lent.{lent_none, lent_kept, lent_elsewhere}
+use Rattle.kept_facts.proofs.Lent.{lent_none, lent_kept, lent_elsewhere}
 use Rattle.step_ways.proofs.Writes.{clock_small}
 use Rattle.core_invariant.specs.Holding.{Holding, holds_counts, settled_by, settled}
 use Rattle.core_invariant.specs.Knows.{due_of, KnowsUndecided, KnowsFlush, WorksIn, CoreIs, phase_at, untypes}

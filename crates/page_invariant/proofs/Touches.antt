@@ -79,20 +79,20 @@ use Rattle.core_invariant.specs.Knows.{due_of, LooksUp, KnowsTouch, KnowsUndecid
 use Rattle.core_invariant.specs.Invariant.{holds_at, holds_in, holds, held_by, times_of, counted_in, Invariant}
 use Rattle.core_invariant.specs.Words.{WordIs, count_room}
 use Rattle.core_invariant.proofs.Bare.{counts_bare}
-use Rattle.lent_words.proofs.Lent.{lent_none, lent_kept}
-use Rattle.kept_words.proofs.Calm.{IsUntimed, plain_begins, plain_stamp, plain_flush, plain_exit}
-use Rattle.kept_knowledge.proofs.Carries.{names_on}
-use Rattle.kept_words.proofs.CountSums.{counted_refs}
+use Rattle.kept_facts.proofs.Lent.{lent_none, lent_kept}
+use Rattle.kept_facts.proofs.Calm.{IsUntimed, plain_begins, plain_stamp, plain_flush, plain_exit}
+use Rattle.kept_facts.proofs.Carries.{names_on}
+use Rattle.kept_facts.proofs.CountSums.{counted_refs}
 use Rattle.step_ways.proofs.Good.{spares_kept}
 use Rattle.step_ways.proofs.Loads.{OnlyLooks, step_to, next_at, inner, call_is, core_is, is_active, loads_on, decides_on}
 use Rattle.step_ways.proofs.OwnChanges.{decides_changing}
 use Rattle.step_ways.proofs.Places.{IsMarked, IsUnmarked, place_reads}
 use Rattle.step_ways.proofs.Refusals.{GoodTook, NobodyWaits, ticks_at, not_spent, refuses_fault, refuses_busy}
 use Rattle.core_invariant.proofs.Sounds.{limits_of}
-use Rattle.kept_words.proofs.Sums.{sums_keep}
-use Rattle.kept_words.proofs.WordFrames.{SameFor, marks_own, settled_on, load_keeps, load_marks, load_words}
-use Rattle.look_invariant.proofs.Lookups.{Shows, ShowsHeld, shown_of, link_kind, link_none, link_shown, passes, root_slots}
-use Rattle.look_invariant.proofs.Lookups.{slot_left, slot_right, slot_one, near_way, use_removed, leaf_reached}
+use Rattle.kept_facts.proofs.Sums.{sums_keep}
+use Rattle.kept_facts.proofs.WordFrames.{SameFor, marks_own, settled_on, load_keeps, load_marks, load_words}
+use Rattle.count_invariant.proofs.Lookups.{Shows, ShowsHeld, shown_of, link_kind, link_none, link_shown, passes, root_slots}
+use Rattle.count_invariant.proofs.Lookups.{slot_left, slot_right, slot_one, near_way, use_removed, leaf_reached}
 use Rattle.page_invariant.proofs.TouchCalls.{told_by, unlinked_may, empty_may, unreached_first}
 use Rattle.page_invariant.proofs.TouchCalls.{empty_first, cached_first, mapped_is, mapped_first}
 

@@ -1,10 +1,10 @@
 //! `flush`. A flush enters (1), loads the clock, which decides (2), stores its core's flush word (3), and leaves (4 and 5).
 
-use core_kernel::FreeGate;
-use speck_run::Status;
 use std::alloc::Global;
 use std::test::Fail;
-use test_machine::{FROM_ENTRIES, MACHINE, TO_ENTRIES, is_counted, is_done, leads_to, runs};
+use test_machine::{
+    FROM_ENTRIES, FreeGate, MACHINE, Status, TO_ENTRIES, is_counted, is_done, leads_to, runs,
+};
 
 const ZERO: &str = "0.1 flush = ok\n";
 

@@ -3,11 +3,9 @@
 //! scans between 6 and 7: the other core's word, and for a page table then the flush words of both cores.
 
 use crate::shared::{Added, ends, first_to_fill, items_of, order_of, tables};
-use core_kernel::FreeGate;
-use speck_run::Status;
 use std::alloc::Global;
 use std::test::Fail;
-use test_machine::{COMMANDS, MACHINE, place_of, runs, steps, writes};
+use test_machine::{COMMANDS, FreeGate, MACHINE, Status, place_of, runs, steps, writes};
 
 // A leaf in frame 8, named by 20, and a leaf of a page table in frame 9, named by 21.
 const LEAVES: &str =

@@ -3,10 +3,8 @@
 //! place is quiescing it scans between 7 and 8: the other core's word, then the flush words of both cores.
 
 use crate::shared::{Added, ends, first_to_fill, items_of, order_of, tables};
-use core_kernel::FreeGate;
-use speck_run::Status;
 use std::test::Fail;
-use test_machine::{COMMANDS, MACHINE, runs, steps};
+use test_machine::{COMMANDS, FreeGate, MACHINE, Status, runs, steps};
 
 // A leaf of the page table in frame 8, linked in its first entry, and a user frame 9.
 const PAGES: &str =

@@ -2,12 +2,10 @@
 //! which else decides (3), and leaves (4 and 5).
 
 use crate::shared::{Added, items_of, order_of, tables};
-use core_kernel::FreeGate;
-use speck_run::Status;
 use std::alloc::Global;
 use std::test::Fail;
 use std::thread::Threads;
-use test_machine::{MACHINE, place_of, runs, steps, writes};
+use test_machine::{FreeGate, MACHINE, Status, place_of, runs, steps, writes};
 
 // A leaf of the page table in frame 8, linked in its first entry, and the user frames 9 and 10, of which 9 is mapped in page 0.
 const PAGES: &str =

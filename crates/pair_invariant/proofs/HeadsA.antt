@@ -37,7 +37,7 @@ use Rattle.core_invariant.specs.Knows.{KnowsUndecided}
 use Rattle.core_invariant.specs.Shares.{list_word, read_up, HasMarkedA, KnowsPairAt}
 use Rattle.core_invariant.specs.Invariant.{Invariant}
 use Rattle.step_ways.proofs.Loads.{step_to}
-use Rattle.lent_words.proofs.Pairs.{marked_on}
+use Rattle.kept_facts.proofs.Pairs.{marked_on}
 use Rattle.step_ways.proofs.Refusals.{GoodTook, ticks_at, refuses_busy}
 use Rattle.pair_invariant.proofs.ShareCalls as calls
 use Rattle.pair_invariant.proofs.ShareSteps.{mark_is, head_says, a_list, loading, load_goes}
@@ -64,7 +64,7 @@ module _ (setup : Setting) (setting : IsSetting setup) (cores : ℕ → Core) (t
       (Rattle.kernel_history.specs.Footprint.frames_near (state_after setup t) c a.call) ≡ true
   near = calls.near_a setup setting cores t stands c here a active now_p stage_is has
 
-  tcap : Rattle.lent_words.proofs.Tcaps.TcapOf ((state_after setup t).frame p.a)
+  tcap : Rattle.kept_facts.proofs.Tcaps.TcapOf ((state_after setup t).frame p.a)
   tcap = calls.tcap_a setup setting cores t stands c here a active now_p stage_is has
 
   none_some : (v : HeadWord) → None ≡ Some v → ⊥
@@ -136,7 +136,7 @@ module _ (setup : Setting) (setting : IsSetting setup) (cores : ℕ → Core) (t
   low : n < 8
   low = let fits = (calls.fits setup setting cores t stands c here a active list_p stage_is has).at.1 in omega (arith, fits)
 
-  tcap_here : Rattle.lent_words.proofs.Tcaps.TcapOf ((state_after setup t).frame p.a)
+  tcap_here : Rattle.kept_facts.proofs.Tcaps.TcapOf ((state_after setup t).frame p.a)
   tcap_here = calls.tcap_a setup setting cores t stands c here a active list_p stage_is has
 
   -- what is known of A after the load, with the word that it has found
@@ -152,7 +152,7 @@ module _ (setup : Setting) (setting : IsSetting setup) (cores : ℕ → Core) (t
         enough = on.enough;
         list = ap (λ o. read_word o (quality_of_word found)) on.list
             ∙ ap (λ (x : ℕ). read_word (read_up (list_word setup (loads ∷ t) p.a) n) (quality_of_word x))
-            (sym (Rattle.lent_words.proofs.Pairs.left_same setup t loads refl word_at (λ h. refl)));
+            (sym (Rattle.kept_facts.proofs.Pairs.left_same setup t loads refl word_at (λ h. refl)));
         clean = on.clean;
       }
 

@@ -49,9 +49,9 @@ use Rattle.core_invariant.specs.Shares.{HasReadB, HasBoth, ReadsHead, SharesBy, 
 use Rattle.core_invariant.specs.Invariant.{holds_in, holds_head, holds_share, held_by, Invariant}
 use Rattle.step_ways.proofs.Loads.{step_to, inner, core_is}
 use Rattle.core_invariant.proofs.Markers.{marker_inside}
-use Rattle.lent_words.proofs.Pairs.{marked_on, seen_on, tcap_mark, left_same}
+use Rattle.kept_facts.proofs.Pairs.{marked_on, seen_on, tcap_mark, left_same}
 use Rattle.step_ways.proofs.Refusals.{GoodTook, not_spent}
-use Rattle.lent_words.proofs.Tcaps.{TcapOf}
+use Rattle.kept_facts.proofs.Tcaps.{TcapOf}
 use Rattle.pair_invariant.proofs.ShareCalls as calls
 use Rattle.pair_invariant.proofs.ShareSteps.{mark_is, head_says, list_plain, loading, load_goes, load_decides}
 

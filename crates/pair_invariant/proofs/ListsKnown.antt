@@ -28,7 +28,7 @@ use Rattle.call_plans.proofs.AfterNames.{leads_by}
 use Rattle.call_plans.specs.After.{LeadsIn}
 use Rattle.call_plans.specs.GoesBy.{own_pages}
 use Rattle.plan_ways.proofs.Ways.{all_ways}
-use Rattle.look_invariant.proofs.Findings.{found_named, own_is, way_gone}
+use Rattle.count_invariant.proofs.Findings.{found_named, own_is, way_gone}
 use Rattle.stage_tcap.specs.Lists.{same_list}
 use Rattle.stage_tcap.specs.declared.pair.Pair.{Pair}
 use Rattle.act_states.specs.declared.work.Act.TheVariants.{Share as share_act}
@@ -41,8 +41,8 @@ use Rattle.core_invariant.specs.Knows.{HasFound, own_in, KnowsUndecided}
 use Rattle.core_invariant.specs.Shares.{list_changed, list_word, read_up, HasBoth}
 use Rattle.core_invariant.specs.Invariant.{holds_in, holds_head, Invariant}
 use Rattle.core_invariant.specs.Words.{HeadIs, count_room}
-use Rattle.kept_knowledge.proofs.Carries.{own_kept}
-use Rattle.lent_words.proofs.Tcaps.{TcapOf}
+use Rattle.kept_facts.proofs.Carries.{own_kept}
+use Rattle.kept_facts.proofs.Tcaps.{TcapOf}
 use Rattle.pair_invariant.proofs.ListsRead.{reads_whole}
 use Rattle.pair_invariant.proofs.ShareCalls as calls
 use Rattle.pair_invariant.proofs.ShareSteps.{mark_is, head_says, list_plain, a_says, a_list}

@@ -49,13 +49,13 @@ use Rattle.core_invariant.specs.Knows.{KnowsUndecided}
 use Rattle.core_invariant.specs.Shares.{list_changed, TurnsHead, SparesTcap, HasTcap, HasMarkedA}
 use Rattle.core_invariant.specs.Invariant.{holds_in, holds, held_by, Invariant}
 use Rattle.core_invariant.proofs.Bare.{as_none, counts_bare}
-use Rattle.kept_knowledge.proofs.Carries.{names_on, counts_on}
+use Rattle.kept_facts.proofs.Carries.{names_on, counts_on}
 use Rattle.step_ways.proofs.Counting as counters
 use Rattle.step_ways.proofs.Good.{Spared, SparesBlanks}
-use Rattle.lent_words.proofs.Lent.{unlent_head_value, unlent_head_word, lent_free}
+use Rattle.kept_facts.proofs.Lent.{unlent_head_value, unlent_head_word, lent_free}
 use Rattle.step_ways.proofs.Loads.{IsOfCall, core_in_call, core_is, call_is, inner}
 use Rattle.step_ways.proofs.Refusals.{GoodTook, ticks_at, not_spent, refuses_raced}
-use Rattle.lent_words.proofs.Tcaps.{TcapOf}
+use Rattle.kept_facts.proofs.Tcaps.{TcapOf}
 use Rattle.step_ways.proofs.Writes.{room_left}
 use Rattle.pair_invariant.proofs.Marking.{decides_marking}
 use Rattle.pair_invariant.proofs.ShareCalls as calls

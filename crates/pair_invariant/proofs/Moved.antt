@@ -29,11 +29,11 @@ use Rattle.core_invariant.specs.Knows.{WorksIn}
 use Rattle.core_invariant.specs.Shares.{HasTcap}
 use Rattle.core_invariant.specs.Invariant.{held_by, times_of, counted_in, Invariant}
 use Rattle.core_invariant.specs.Words.{IsFrameWord, count_room}
-use Rattle.kept_words.proofs.Calm.{IsUntimed, plain_stamp, plain_flush, plain_exit}
-use Rattle.kept_words.proofs.CountSums.{counted_refs}
+use Rattle.kept_facts.proofs.Calm.{IsUntimed, plain_stamp, plain_flush, plain_exit}
+use Rattle.kept_facts.proofs.CountSums.{counted_refs}
 use Rattle.step_ways.proofs.Loads.{inner}
 use Rattle.core_invariant.proofs.Sounds.{limits_of}
-use Rattle.kept_words.proofs.WordFrames.{SameFor, ReadsAlike, StaysSaid, word_stays}
+use Rattle.kept_facts.proofs.WordFrames.{SameFor, ReadsAlike, StaysSaid, word_stays}
 
 -- A frame is the first, the second, or another.
 pub record Away (a b g : ℕ) : Type 0 where

@@ -27,7 +27,7 @@ use Rattle.call_plans.specs.GoesBy.{GoesBy, own_pages}
 use Rattle.call_plans.specs.After.{rule_after, Leads, LeadsIn}
 use Rattle.call_plans.proofs.AfterNames.{leads_by, outcome_left, left_may}
 use Rattle.call_plans.proofs.CallsGoBy.{calls_go}
-use Rattle.look_invariant.proofs.Findings.{found_named}
+use Rattle.count_invariant.proofs.Findings.{found_named}
 use Rattle.plan_ways.proofs.Near.{near_found}
 use Rattle.stage_pins.specs.declared.held.Acquired.{Acquired}
 use Rattle.stage_tcap.specs.Pairs.{PairFits}
@@ -45,7 +45,7 @@ use Rattle.core_invariant.specs.Knows.{due_of, KnowsUndecided, phase_at, HasFoun
 use Rattle.core_invariant.specs.Shares.{IsShared, SharesBy}
 use Rattle.core_invariant.specs.Invariant.{holds_share, holds_at, holds_in, Invariant}
 use Rattle.step_ways.proofs.Loads.{call_is, is_active}
-use Rattle.lent_words.proofs.Tcaps.{TcapOf, tcap_of}
+use Rattle.kept_facts.proofs.Tcaps.{TcapOf, tcap_of}
 
 -- What refuses such a call after its names, in order, and what it changes.
 abbrev pub causes_of : State → PairWork → Named → Named → List Cause

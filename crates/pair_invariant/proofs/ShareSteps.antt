@@ -47,12 +47,12 @@ use Rattle.core_invariant.specs.Words.{HeadIs, IsFrameWord, count_room}
 use Rattle.core_invariant.specs.Knows.{due_of, KnowsUndecided, phase_at}
 use Rattle.core_invariant.specs.Shares.{HasTcap, HasMarkedA, IsShared, SharesBy, KnowsPairAt, StoresA, KnowsShared}
 use Rattle.core_invariant.specs.Invariant.{holds_share, holds_at, holds_in, holds, held_by, Invariant}
-use Rattle.kept_knowledge.proofs.Carries.{names_on}
-use Rattle.kept_words.proofs.CountSums.{counted_refs}
+use Rattle.kept_facts.proofs.Carries.{names_on}
+use Rattle.kept_facts.proofs.CountSums.{counted_refs}
 use Rattle.core_invariant.proofs.ActBares.{open_bare}
-use Rattle.lent_words.proofs.Lent.{unlent_head_value, unlent_list_value}
+use Rattle.kept_facts.proofs.Lent.{unlent_head_value, unlent_list_value}
 use Rattle.step_ways.proofs.Loads.{OnlyLooks, Lands, step_to, next_at, core_in_call, inner, loads_on, decides_with}
-use Rattle.lent_words.proofs.Pairs.{marked_on}
+use Rattle.kept_facts.proofs.Pairs.{marked_on}
 use Rattle.step_ways.proofs.Refusals.{GoodTook}
 use Rattle.step_ways.proofs.Writes.{room_left}
 use Rattle.pair_invariant.proofs.ShareCalls as calls

@@ -1,7 +1,7 @@
 -- The entry of a removal is closed and given back: the compare that marks it is lost to another core or holds it for the call, and the
 -- store of a decided removal leaves the quiescing entry for which it stood.
 use Rattle.core_invariant.proofs.Bare.{as_none, counts_bare}
-use Rattle.lent_words.proofs.Lent.{unlent_value, unlent_word, unlent_after, node_keeps_none, lent_free}
+use Rattle.kept_facts.proofs.Lent.{unlent_value, unlent_word, unlent_after, node_keeps_none, lent_free}
 use Rattle.step_ways.proofs.Good.{spares_node}
 use Rattle.std.proofs.Common.{◌≡◌, ◌≢◌, inl, inr, ℕ, ◌^◌, ◌<◌, ◌==◌, ◌∷◌, [], Bool, true, false, List}
 use Rattle.std.proofs.Common.{Option, Some, None, arith, refl, sym, ◌∙◌, ap, subst, IsTrue, if◌then◌else◌}
@@ -49,14 +49,14 @@ use Rattle.core_invariant.specs.Holding.{Holding, holds_counts, settled_by, sett
 use Rattle.core_invariant.specs.Words.{PlaceIs, count_room}
 use Rattle.core_invariant.specs.Knows.{IsStored, KnowsUndecided, phase_at}
 use Rattle.core_invariant.specs.Invariant.{done_by, holds_at, holds_in, holds, held_by, times_of, Invariant}
-use Rattle.kept_knowledge.proofs.Carries.{names_on, removal_on, slot_relies, counts_on}
+use Rattle.kept_facts.proofs.Carries.{names_on, removal_on, slot_relies, counts_on}
 use Rattle.step_ways.proofs.Counting as counters
 use Rattle.step_ways.proofs.Loads.{IsOfCall, core_in_call, inner, call_is, is_active}
 use Rattle.step_ways.proofs.Places.{node_mark, node_says}
 use Rattle.step_ways.proofs.Refusals.{GoodTook, ticks_at, refuses_raced}
 use Rattle.count_invariant.proofs.Acquiring.{removal_places, plan_leads, goes_by}
 use Rattle.place_invariant.proofs.Fills.{changes_node, target_way}
-use Rattle.look_invariant.proofs.Lookups.{near_way}
+use Rattle.count_invariant.proofs.Lookups.{near_way}
 
 -- The clock is no entry, and no count is one.
 not_clock : (f i : ℕ) → ClockAt ≢ EntryAt f i

@@ -1,5 +1,5 @@
 -- The filling compare of a copy is good: it is lost to another core, or the place is free and takes the capability.
-use Rattle.lent_words.proofs.Lent.{unlent_word, node_keeps_none}
+use Rattle.kept_facts.proofs.Lent.{unlent_word, node_keeps_none}
 use Rattle.step_ways.proofs.Good.{spares_node}
 use Rattle.std.proofs.Common.{◌≡◌, ◌≢◌, ◌⊎◌, inl, inr, not, ℕ, pos, length, ◌≤◌, ◌+◌, ◌^◌, ◌/◌, ◌%◌, ◌<◌, ◌==◌, ◌&&◌, nat_le, if◌then◌else◌}
 use Rattle.std.proofs.Common.{◌∷◌, [], Bool, true, false, List, Option, Some, None, arith, refl, sym, ◌∙◌, ap, subst, IsTrue, ◌+ℤ◌, max}
@@ -65,9 +65,9 @@ use Rattle.act_states.specs.Fills.{FillFits, filled_if, fill_move}
 use Rattle.act_states.specs.Acts.{cap_dues, gate_if, gate_to, put_by, reads_of, page_cap}
 use Rattle.act_fits.proofs.DuesFit.{cap_one}
 use Rattle.kernel_rules.specs.References.{named_by, times, refs}
-use Rattle.kept_words.proofs.WordFrames.{reads_alike}
-use Rattle.kept_words.proofs.Calm.{room_grows, IsCalm, calm_core, IsUntimed, plain_stamp}
-use Rattle.kept_words.proofs.CountSums.{fill_refs}
+use Rattle.kept_facts.proofs.WordFrames.{reads_alike}
+use Rattle.kept_facts.proofs.Calm.{room_grows, IsCalm, calm_core, IsUntimed, plain_stamp}
+use Rattle.kept_facts.proofs.CountSums.{fill_refs}
 use Rattle.core_invariant.proofs.Sounds.{limits_of}
 use Rattle.count_invariant.proofs.CapChanges.{counts_commit, counts_sum}
 use Rattle.count_invariant.proofs.Acquiring.{plan_leads}
@@ -81,13 +81,13 @@ use Rattle.call_stages.specs.Fits.{StageFits, HasRoom}
 use Rattle.core_invariant.specs.Words.{PlaceIs, IsFrameWord, WordIs, count_room}
 use Rattle.core_invariant.specs.Knows.{HasFound, IsRead, ReadIs, MayFill, KnowsUndecided, own_in, phase_at, HasUser}
 use Rattle.core_invariant.specs.Invariant.{holds_at, holds_in, holds, times_of, Invariant}
-use Rattle.kept_knowledge.proofs.Carries.{own_kept, slot_relies}
+use Rattle.kept_facts.proofs.Carries.{own_kept, slot_relies}
 use Rattle.step_ways.proofs.Loads.{IsOfCall, next_at, core_in_call, inner, call_is, is_active}
 use Rattle.step_ways.proofs.Places.{IsMarked, IsUnmarked, node_mark, place_reads}
 use Rattle.step_ways.proofs.Refusals.{GoodTook, ticks_at, not_spent, refuses_raced}
-use Rattle.look_invariant.proofs.Lookups.{slot_right, slot_one, near_way}
-use Rattle.look_invariant.proofs.Findings.{own_is, found_named, way_gone}
-use Rattle.look_invariant.proofs.Next.{Rest, ANameLeft, NoneLeft, rest_of, next_name}
+use Rattle.count_invariant.proofs.Lookups.{slot_right, slot_one, near_way}
+use Rattle.count_invariant.proofs.Findings.{own_is, found_named, way_gone}
+use Rattle.count_invariant.proofs.Next.{Rest, ANameLeft, NoneLeft, rest_of, next_name}
 
 -- What a call puts at its target: what is left of its rule after its names fills the target with k, where no own cause stands, and it
 -- changes

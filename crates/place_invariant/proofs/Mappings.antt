@@ -62,7 +62,7 @@ use Rattle.core_invariant.specs.Knows.{ReadIs, HasUser, IsUser, IsCount, due_of,
 use Rattle.core_invariant.specs.Knows.{mapped_frame, is_mapping, KnowsUndecided, phase_at}
 use Rattle.core_invariant.specs.Invariant.{holds_at, holds_in, held_by, Invariant}
 use Rattle.step_ways.proofs.Counting.{first_marked}
-use Rattle.kept_knowledge.proofs.Carries.{names_on, spot_on, slot_relies}
+use Rattle.kept_facts.proofs.Carries.{names_on, spot_on, slot_relies}
 use Rattle.step_ways.proofs.Loads.{OnlyLooks, step_to, inner, core_is, call_is, is_active, loads_on, decides_on}
 use Rattle.step_ways.proofs.Refusals.{GoodTook, ticks_at, not_spent, refuses_busy}
 use Rattle.core_invariant.proofs.Sounds.{limits_of}

@@ -19,7 +19,7 @@ use Rattle.kernel_rules.specs.State.{State, PlaceOf, Kernel, Leaf}
 use Rattle.kernel_rules.specs.Access.{Slot, Target, Under, found, place_at, reached}
 use Rattle.act_states.specs.Acts.{page_cap}
 use Rattle.kernel_rules.specs.MemoryCalls.{not_user}
-use Rattle.kept_knowledge.proofs.Carries.{slot_relies}
+use Rattle.kept_facts.proofs.Carries.{slot_relies}
 use Rattle.kernel_rules.specs.Rules.{Rule, Cause, Change, Vacant, Does, fills, RuleMay, Refused, Found, and_then}
 use Rattle.kernel_rules.specs.Rules.{or_refuse, unless, first_of, first_cause, vacant, not_vacant, outcome}
 use Rattle.kernel_rules.specs.Relies.{is_node}
@@ -43,7 +43,7 @@ use Rattle.step_ways.proofs.Loads.{step_to, call_is, is_active}
 use Rattle.step_ways.proofs.Places.{IsMarked, IsUnmarked, place_reads}
 use Rattle.core_invariant.proofs.Sounds.{limits_of}
 use Rattle.count_invariant.proofs.Acquiring.{plan_leads, goes_by}
-use Rattle.look_invariant.proofs.Next.{Rest, ANameLeft, NoneLeft, rest_of, next_name}
+use Rattle.count_invariant.proofs.Next.{Rest, ANameLeft, NoneLeft, rest_of, next_name}
 use Rattle.place_invariant.proofs.ObjectMakes.{new_object, readied, make_rest, IsObjectMake, object_make}
 use Rattle.place_invariant.proofs.Starts.{IsRefusedOutside}
 use Rattle.place_invariant.proofs.Vacancy.{in_leaf, IsVacant, vacant_by}

@@ -31,7 +31,7 @@ use Rattle.call_plans.specs.PlanOf.{plan_for}
 use Rattle.call_plans.specs.After.{Next, Leads, LeadsIn, NextNothing, NextHeld, NextOwn, NextFree, next_of}
 use Rattle.act_states.specs.declared.objects.NewObject.{NewObject}
 use Rattle.act_states.specs.Acts.{fills_page}
-use Rattle.look_invariant.proofs.Next.{next_end}
+use Rattle.count_invariant.proofs.Next.{next_end}
 use Rattle.place_invariant.proofs.ObjectMakes.{made_of, IsObjectMake, object_make}
 use Rattle.place_invariant.proofs.Outside.{none_left_of}
 use Rattle.place_invariant.proofs.Vacancy.{in_leaf, in_pleaf}

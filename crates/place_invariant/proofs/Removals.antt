@@ -75,23 +75,23 @@ use Rattle.core_invariant.specs.Holding.{Holding, holds_counts, settled_by, sett
 use Rattle.core_invariant.specs.Words.{PlaceIs, WordIs, count_room}
 use Rattle.core_invariant.specs.Knows.{HasFound, KnowsStore, KnowsUndecided, own_in, phase_at}
 use Rattle.core_invariant.specs.Invariant.{holds_at, holds_in, holds, held_by, times_of, Invariant}
-use Rattle.kept_words.proofs.Calm.{IsCalm, calm_core, plain_exit, room_rises, room_grows, counted_grows}
-use Rattle.kept_knowledge.proofs.Carries.{own_kept, slot_relies}
-use Rattle.kept_words.proofs.CountSums.{removed_refs}
+use Rattle.kept_facts.proofs.Calm.{IsCalm, calm_core, plain_exit, room_rises, room_grows, counted_grows}
+use Rattle.kept_facts.proofs.Carries.{own_kept, slot_relies}
+use Rattle.kept_facts.proofs.CountSums.{removed_refs}
 use Rattle.step_ways.proofs.Draws as drawing
 use Rattle.step_ways.proofs.Loads.{call_is, inner_works, is_active}
 use Rattle.step_ways.proofs.Places.{node_says}
 use Rattle.step_ways.proofs.Refusals.{GoodTook, not_spent}
 use Rattle.core_invariant.proofs.Sounds.{limits_of}
-use Rattle.kept_words.proofs.WordFrames.{SameFor, ReadsAlike, reads_alike, StaysSaid, word_stays}
+use Rattle.kept_facts.proofs.WordFrames.{SameFor, ReadsAlike, reads_alike, StaysSaid, word_stays}
 use Rattle.step_ways.proofs.Writes.{clock_small, same_marks}
 use Rattle.count_invariant.proofs.Acquiring.{removal_places, removal_raises, removal_types, plan_leads, goes_by}
 use Rattle.place_invariant.proofs.Closings.{close_good, store_at}
 use Rattle.count_invariant.proofs.CapChanges.{counts_commit, counts_sum}
 use Rattle.place_invariant.proofs.Fills.{node_word, target_way}
-use Rattle.look_invariant.proofs.Findings.{own_is, found_named, way_gone}
-use Rattle.look_invariant.proofs.Lookups.{near_way}
-use Rattle.look_invariant.proofs.Next.{Rest, ANameLeft, NoneLeft, rest_of, next_name}
+use Rattle.count_invariant.proofs.Findings.{own_is, found_named, way_gone}
+use Rattle.count_invariant.proofs.Lookups.{near_way}
+use Rattle.count_invariant.proofs.Next.{Rest, ANameLeft, NoneLeft, rest_of, next_name}
 
 -- What a call takes away at its target: what is left of its rule after its names removes what the target holds.
 pub record TakesAway (s : State) (c : ℕ) (call : Call) (ks : List Capability) (target : Target) : Type 0 where

@@ -42,7 +42,7 @@ use Rattle.call_stages.specs.View.{Core}
 use Rattle.core_invariant.specs.Holding.{Holding, holds_counts}
 use Rattle.core_invariant.specs.Knows.{AreDuesApart, due_of, KnowsAct, NamesAre, is_start, is_counting, goes_on, phase_at}
 use Rattle.core_invariant.specs.Invariant.{holds_act, holds_making, holds_in, Invariant, holds_killing, holds_comp}
-use Rattle.kept_knowledge.proofs.Carries.{names_on}
+use Rattle.kept_facts.proofs.Carries.{names_on}
 use Rattle.step_ways.proofs.Loads.{OnlyLooks, step_to, next_at, core_is, call_is, loads_on, decides_on}
 use Rattle.step_ways.proofs.Refusals.{GoodTook, not_spent}
 use Rattle.count_invariant.proofs.Acquiring.{knows_next, next_holds, one_apart}

@@ -4,11 +4,10 @@
 //! (7), stores the quiescing entry (8) and leaves. One of a component acquires the component's count before it closes (6 and 7), so
 //! it closes at 8 and draws at 9, and commits the count after the store. A copy looks up its three places at 2 to 7.
 
-use speck_run::Status;
 use std::alloc::Global;
 use std::test::Fail;
 use std::thread::Threads;
-use test_machine::{AMPLE, FROM_ENTRIES, TO_ENTRIES, is_counted, replays};
+use test_machine::{AMPLE, FROM_ENTRIES, Status, TO_ENTRIES, is_counted, replays};
 
 // Nothing is added to the tables of the start, in which the component has four references.
 const AS_AT_THE_START: (&str, u32) = ("", 4);

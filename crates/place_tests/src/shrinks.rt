@@ -2,11 +2,10 @@
 //! of the leaf (5 and 6), closes the entry (7), draws its stamp, which decides (8), stores the quiescing entry (9), commits the count
 //! (10) and leaves.
 
-use speck_run::Status;
 use std::alloc::Global;
 use std::test::Fail;
 use std::thread::Threads;
-use test_machine::{AMPLE, FROM_ENTRIES, TO_ENTRIES, is_done, replays};
+use test_machine::{AMPLE, FROM_ENTRIES, Status, TO_ENTRIES, is_done, replays};
 
 // Whether the script of these lines ends with these reply lines, and with the tables of the start less the link to the leaf, to
 // which no reference is left.

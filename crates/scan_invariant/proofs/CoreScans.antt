@@ -54,7 +54,7 @@ use Rattle.core_invariant.specs.Holding.{holds_counts}
 use Rattle.core_invariant.specs.Knows.{HasPassed, IsScanned, MayFill, KnowsAct, KnowsUndecided, phase_at, IsSpot}
 use Rattle.core_invariant.specs.Knows.{goes_on as goes_on_act, HasFlushed, KnowsScan, KnowsQuiet, scanned_for}
 use Rattle.core_invariant.specs.Invariant.{holds_at, holds_in, Invariant}
-use Rattle.kept_knowledge.proofs.Carries.{start_pairs, names_on, act_on, ReadsSame, slot_relies}
+use Rattle.kept_facts.proofs.Carries.{start_pairs, names_on, act_on, ReadsSame, slot_relies}
 use Rattle.step_ways.proofs.Users.{users_kept}
 use Rattle.step_ways.proofs.Loads.{OnlyLooks, step_to, inner, core_is, call_is, is_active, loads_on, decides_on, next_at}
 use Rattle.step_ways.proofs.Refusals.{GoodTook, not_spent}

@@ -57,9 +57,9 @@ use Rattle.core_invariant.specs.Words.{PlaceIs}
 use Rattle.core_invariant.specs.Knows.{HasPassed, HasFlushed, MayFill, KnowsAct, KnowsUndecided}
 use Rattle.core_invariant.specs.Knows.{scanned_for, phase_at, IsSpot, CallIs, goes_on as goes_on_act}
 use Rattle.core_invariant.specs.Invariant.{holds_at, holds_in, Invariant}
-use Rattle.kept_words.proofs.Calm.{stored_by}
+use Rattle.kept_facts.proofs.Calm.{stored_by}
 use Rattle.step_ways.proofs.Flushing.{none_flushing}
-use Rattle.kept_knowledge.proofs.Carries.{start_pairs, ReadsSame, slot_relies, names_on, act_on}
+use Rattle.kept_facts.proofs.Carries.{start_pairs, ReadsSame, slot_relies, names_on, act_on}
 use Rattle.step_ways.proofs.Users.{users_kept}
 use Rattle.step_ways.proofs.Loads.{OnlyLooks, step_to, next_at, inner, core_is, call_is, is_active, loads_on, decides_on}
 use Rattle.step_ways.proofs.Places.{IsMarked, IsUnmarked, place_reads}

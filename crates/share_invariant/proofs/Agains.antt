@@ -40,7 +40,7 @@ use Rattle.core_invariant.specs.Shares.{HasBoth}
 use Rattle.core_invariant.specs.Invariant.{holds_in, holds_head, Invariant}
 use Rattle.step_ways.proofs.Loads.{OnlyLooks, core_is, inner}
 use Rattle.step_ways.proofs.Refusals.{GoodTook, not_spent}
-use Rattle.lent_words.proofs.Tcaps.{TcapOf}
+use Rattle.kept_facts.proofs.Tcaps.{TcapOf}
 use Rattle.pair_invariant.proofs.HeadsB.{owes_share}
 use Rattle.pair_invariant.proofs.ListsKnown as known
 use Rattle.pair_invariant.proofs.ListsKnown.{AreRead, same_alike, all_gone}

@@ -40,7 +40,7 @@ use Rattle.core_invariant.specs.Words.{HeadIs, count_room}
 use Rattle.step_ways.proofs.Loads.{IsOfCall, core_is, inner}
 use Rattle.step_ways.proofs.Refusals.{GoodTook, not_spent}
 use Rattle.core_invariant.proofs.Sounds.{limits_of}
-use Rattle.lent_words.proofs.Tcaps.{TcapOf}
+use Rattle.kept_facts.proofs.Tcaps.{TcapOf}
 use Rattle.step_ways.proofs.Writes.{room_left}
 use Rattle.pair_invariant.proofs.HeadsB.{owes_share}
 use Rattle.pair_invariant.proofs.ListsKnown as known

@@ -53,16 +53,16 @@ use Rattle.core_invariant.specs.Shares.{list_changed, TurnsHead, SparesTcap, Has
 use Rattle.core_invariant.specs.Invariant.{holds_in, holds_head, holds, held_by, times_of, IsLent, Invariant}
 use Rattle.core_invariant.specs.Words.{IsFrameWord, WordIs, count_room}
 use Rattle.core_invariant.proofs.Bare.{counts_bare}
-use Rattle.kept_words.proofs.Calm.{IsUntimed, plain_begins}
-use Rattle.lent_words.proofs.Lent.{lent_free, unlent_list, unlent_head_word}
+use Rattle.kept_facts.proofs.Calm.{IsUntimed, plain_begins}
+use Rattle.kept_facts.proofs.Lent.{lent_free, unlent_list, unlent_head_word}
 use Rattle.step_ways.proofs.Loads.{next_at, core_in_call, core_is, inner}
 use Rattle.step_ways.proofs.OwnChanges.{decides_changing}
-use Rattle.lent_words.proofs.Pairs.{marked_on}
+use Rattle.kept_facts.proofs.Pairs.{marked_on}
 use Rattle.step_ways.proofs.Refusals.{GoodTook, not_spent}
-use Rattle.kept_words.proofs.Sums.{sums_keep}
-use Rattle.lent_words.proofs.Tcaps.{TcapOf}
+use Rattle.kept_facts.proofs.Sums.{sums_keep}
+use Rattle.kept_facts.proofs.Tcaps.{TcapOf}
 use Rattle.step_ways.proofs.Users.{spares_none}
-use Rattle.kept_words.proofs.WordFrames.{ReadsAlike, StaysSaid, marks_own}
+use Rattle.kept_facts.proofs.WordFrames.{ReadsAlike, StaysSaid, marks_own}
 use Rattle.step_ways.proofs.Writes.{same_marks}
 use Rattle.share_invariant.proofs.Compared as compared
 use Rattle.pair_invariant.proofs.ListsKnown as known

@@ -36,12 +36,12 @@ use Rattle.core_invariant.specs.Knows.{KnowsTail, phase_at}
 use Rattle.core_invariant.specs.Shares.{turns_list, list_changed, TurnsHead, SparesTcap, HasTcap, StoresA, KnowsStoresAt, KnowsShared}
 use Rattle.core_invariant.specs.Invariant.{done_by, holds_tail, holds_at, holds_in, holds, held_by, Invariant}
 use Rattle.core_invariant.proofs.Bare.{IsNotKept, as_none, free_value}
-use Rattle.kept_knowledge.proofs.Carries.{counts_on}
+use Rattle.kept_facts.proofs.Carries.{counts_on}
 use Rattle.step_ways.proofs.Counting as counters
-use Rattle.lent_words.proofs.Lent.{unlent_head_word, lent_free}
+use Rattle.kept_facts.proofs.Lent.{unlent_head_word, lent_free}
 use Rattle.step_ways.proofs.Loads.{IsOfCall, core_in_call, call_is, inner}
 use Rattle.step_ways.proofs.Refusals.{GoodTook}
-use Rattle.lent_words.proofs.Tcaps.{TcapOf, tcap_of}
+use Rattle.kept_facts.proofs.Tcaps.{TcapOf, tcap_of}
 use Rattle.pair_invariant.proofs.MarksA.{spares_one}
 use Rattle.pair_invariant.proofs.ShareSteps.{mark_is}
 

@@ -37,12 +37,12 @@ use Rattle.core_invariant.specs.Shares.{SparesTcap, HasTcap, StoresB, KnowsStore
 use Rattle.core_invariant.specs.Invariant.{done_by, holds_head, holds_heads, holds_list, holds_shared}
 use Rattle.core_invariant.specs.Invariant.{holds_at, holds_in, holds, held_by, Invariant}
 use Rattle.core_invariant.proofs.Bare.{AsBefore, counts_bare, none_kept}
-use Rattle.kept_knowledge.proofs.Carries.{counts_on}
+use Rattle.kept_facts.proofs.Carries.{counts_on}
 use Rattle.step_ways.proofs.Counting as counters
-use Rattle.lent_words.proofs.Lent.{one_keeper, own_value}
+use Rattle.kept_facts.proofs.Lent.{one_keeper, own_value}
 use Rattle.step_ways.proofs.Loads.{IsOfCall, core_in_call, call_is, inner}
 use Rattle.step_ways.proofs.Refusals.{GoodTook}
-use Rattle.lent_words.proofs.Tcaps.{TcapOf, tcap_of}
+use Rattle.kept_facts.proofs.Tcaps.{TcapOf, tcap_of}
 use Rattle.share_invariant.proofs.HeadStores.{counts_free, a_stored, shared_on}
 use Rattle.pair_invariant.proofs.MarksA.{spares_one}
 use Rattle.pair_invariant.proofs.ShareSteps.{list_bare}

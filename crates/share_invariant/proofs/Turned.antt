@@ -17,7 +17,7 @@ use Rattle.core_invariant.specs.Holding.{Holding, settled_by, settled, MarkIs}
 use Rattle.core_invariant.specs.Words.{WordIs}
 use Rattle.core_invariant.specs.Invariant.{holds, held_by, times_of, Invariant}
 use Rattle.core_invariant.proofs.Bare.{own_kept, same_value, core_bare}
-use Rattle.kept_words.proofs.WordFrames.{ReadsAlike, StaysSaid}
+use Rattle.kept_facts.proofs.WordFrames.{ReadsAlike, StaysSaid}
 
 none_some : (v : ℕ) → None ≡ Some v → ⊥
 none_some v h = cc

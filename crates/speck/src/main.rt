@@ -11,8 +11,7 @@ ghost use Rattle.speck_run.specs.Top.{status_number};
 ghost use Rattle.speck_run.specs.declared.top.Status.TheVariants as statuses;
 
 use byte_ends::{StdSink, StdSource};
-use core_kernel::FreeGate;
-use speck_run::{Status, speck};
+use speck_run::{FreeGate, Status, speck};
 use std::alloc::{AllocError, Global};
 use std::env::{self, Args};
 use std::io;

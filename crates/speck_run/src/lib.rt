@@ -11,6 +11,7 @@ mod text;
 mod top;
 mod words;
 
+pub use core_kernel::{FreeGate, Gate};
 pub use runs::run_lists;
 pub use summary::{Summed, sum_up};
 pub use top::{Status, speck};

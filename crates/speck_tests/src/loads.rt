@@ -1,8 +1,7 @@
 //! The scripts that numbers make, through the top call.
 
 use byte_ends::{MemSink, MemSource};
-use core_kernel::FreeGate;
-use speck_run::{Status, Summed, speck, sum_up};
+use speck_run::{FreeGate, Status, Summed, speck, sum_up};
 use std::alloc::Global;
 use std::str::from_utf8;
 use std::test::Fail;

@@ -3,8 +3,7 @@
 //! A row is a call with its reply. The reply lines of all rows must come first, in order, and then the tables.
 
 use byte_ends::{MemSink, MemSource};
-use core_kernel::FreeGate;
-use speck_run::{Status, speck};
+use speck_run::{FreeGate, Status, speck};
 use std::alloc::Global;
 use std::test::Fail;
 use std::thread::Threads;

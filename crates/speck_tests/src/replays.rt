@@ -3,9 +3,8 @@
 ghost use Rattle.std.specs.Prelude.{◌≡◌};
 
 use byte_ends::{SureSink, SureSource};
-use core_kernel::FreeGate;
 use script_reader::Cause;
-use speck_run::{Status, speck};
+use speck_run::{FreeGate, Status, speck};
 use std::alloc::Global;
 use std::test::Fail;
 use std::thread::Threads;

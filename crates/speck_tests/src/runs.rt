@@ -2,8 +2,7 @@
 
 ghost use Rattle.std.specs.Prelude.{◌≡◌, false};
 
-use core_kernel::{FreeGate, Gate};
-use speck_run::Status;
+use speck_run::{FreeGate, Gate, Status};
 use spk_nums::CoreNo;
 use std::sync::atomic::{AtomicU64, Ordering};
 use std::test::Fail;

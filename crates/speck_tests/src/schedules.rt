@@ -9,8 +9,7 @@
 
 ghost use Rattle.std.specs.Prelude.{◌≡◌, false};
 
-use core_kernel::Gate;
-use speck_run::Status;
+use speck_run::{Gate, Status};
 use spk_nums::CoreNo;
 use std::alloc::Global;
 use std::sync::atomic::{AtomicU64, Ordering};

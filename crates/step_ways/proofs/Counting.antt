@@ -21,12 +21,12 @@ use Rattle.call_stages.specs.View.{Core}
 use Rattle.core_invariant.specs.Holding.{count_of, committed, holds_counts, AreApart, settled_by, settled}
 use Rattle.core_invariant.specs.Knows.{phase_at, Knows, IsCount, CoreIs, flushing_in}
 use Rattle.core_invariant.specs.Invariant.{holds_in, holds, held_by, Invariant}
-use Rattle.kept_words.proofs.WordFrames.{marks_own, hold_marks, hold_words, settled_stays}
-use Rattle.kept_words.proofs.Sums.{sums_stay}
-use Rattle.kept_words.proofs.Calm.{calm_same, calm_words, none_stored, IsUntimed, plain_time, plain_exit, plain_flushed}
+use Rattle.kept_facts.proofs.WordFrames.{marks_own, hold_marks, hold_words, settled_stays}
+use Rattle.kept_facts.proofs.Sums.{sums_stay}
+use Rattle.kept_facts.proofs.Calm.{calm_same, calm_words, none_stored, IsUntimed, plain_time, plain_exit, plain_flushed}
 use Rattle.step_ways.proofs.Flushing.{still_flushed}
 use Rattle.core_invariant.proofs.Bare.{AsBefore}
-use Rattle.lent_words.proofs.Lent.{SparesLent, keeps_given, lent_still}
+use Rattle.kept_facts.proofs.Lent.{SparesLent, keeps_given, lent_still}
 use Rattle.step_ways.proofs.Good.{IsGood, SparesBlanks}
 use Rattle.step_ways.proofs.Users.{spares_none}
 use Rattle.step_ways.proofs.Loads.{Lands, IsOfCall, core_in_call, core_is, call_is, in_call}

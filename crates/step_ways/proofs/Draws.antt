@@ -20,10 +20,10 @@ use Rattle.call_stages.specs.View.{Core}
 use Rattle.core_invariant.specs.Words.{WordIs}
 use Rattle.core_invariant.specs.Knows.{phase_at, Knows, WorksIn, CoreIs, flushing_in}
 use Rattle.core_invariant.specs.Invariant.{holds, held_by, times_of, counted_in, SumIs, Invariant}
-use Rattle.kept_words.proofs.WordFrames.{ReadsAlike, StaysSaid, marks_own, carry_marks, carry_words}
-use Rattle.kept_words.proofs.Calm.{plain_exit}
-use Rattle.lent_words.proofs.Lent.{lent_open, lent_elsewhere}
-use Rattle.kept_knowledge.proofs.Carries.{counts_on}
+use Rattle.kept_facts.proofs.WordFrames.{ReadsAlike, StaysSaid, marks_own, carry_marks, carry_words}
+use Rattle.kept_facts.proofs.Calm.{plain_exit}
+use Rattle.kept_facts.proofs.Lent.{lent_open, lent_elsewhere}
+use Rattle.kept_facts.proofs.Carries.{counts_on}
 use Rattle.step_ways.proofs.Flushing.{open_flushed}
 use Rattle.step_ways.proofs.Good.{IsGood, spares_other}
 use Rattle.step_ways.proofs.Users.{SparesBy, spared}

@@ -63,7 +63,7 @@ use Rattle.act_states.specs.declared.work.Tail.TheVariants.{StoreLive, Push, Pop
 use Rattle.call_stages.specs.View.{Core}
 use Rattle.core_invariant.specs.Threads.{HasThread, holds_switching, claimed_by, is_claimed, KnowsIdle, KnowsRunning}
 use Rattle.core_invariant.proofs.ThreadHolds.{IsIdleIn, claimed_idle}
-use Rattle.kept_words.proofs.Claimed.{guarded_thread, claimed_rests}
+use Rattle.kept_facts.proofs.Claimed.{guarded_thread, claimed_rests}
 use Rattle.step_ways.proofs.Users.{SparesCounted, users_stay}
 use Rattle.core_invariant.specs.Holding.{settled, MarkIs, Holding, keeps, holds_counts, settled_by}
 use Rattle.core_invariant.specs.Words.{WordIs}
@@ -73,8 +73,8 @@ use Rattle.core_invariant.specs.Knows.{is_start, KnowsMakingAt, KnowsAct, KnowsW
 use Rattle.core_invariant.specs.Invariant.{held_by, times_of, counted_in, SumIs, Invariant, is_done, holds_making}
 use Rattle.core_invariant.specs.Invariant.{holds_act, holds_work, holds_at, holds_in, holds, holds_comp, IsLent}
 use Rattle.core_invariant.proofs.Markers.{marker_inside}
-use Rattle.kept_knowledge.proofs.Carries.{KeepsUsers, undecided_on, counts_on, store_on, stores_in, stores_of, dead_on, live_on}
-use Rattle.kept_knowledge.proofs.Carries.{looks_at, looks_in, looked_in, looked_of, claimed_in, claimed_of, KeepsThreads}
+use Rattle.kept_facts.proofs.Carries.{KeepsUsers, undecided_on, counts_on, store_on, stores_in, stores_of, dead_on, live_on}
+use Rattle.kept_facts.proofs.Carries.{looks_at, looks_in, looked_in, looked_of, claimed_in, claimed_of, KeepsThreads}
 use Rattle.stage_sweep.specs.Counters.{latest_stamp}
 use Rattle.stage_sweep.specs.Freeze.{swept_of}
 use Rattle.stage_sweep.specs.declared.sweep.Sweep.{Sweep}
@@ -87,9 +87,9 @@ use Rattle.act_states.specs.declared.untypings.UntypingAt.{UntypingAt}
 use Rattle.act_states.specs.declared.untypings.UntypingAt.TheVariants as untype
 use Rattle.core_invariant.specs.Frozen.{holds_release, holds_untyping}
 use Rattle.core_invariant.specs.Sweeps.{AreFrozen, AreKept, IsQuiet, KnowsSweep, KnowsSweepAt, KnowsSwept, KnowsUntypingAt, SaysTyped}
-use Rattle.kept_knowledge.proofs.Swept.{LeavesFrame, HoldsSwept, kernel_is, release_swept, swept_rests}
-use Rattle.lent_words.proofs.SharesOn.{SharesStay, shares_other}
-use Rattle.lent_words.proofs.Lent.{SparesLent, lent_other}
+use Rattle.kept_facts.proofs.Swept.{LeavesFrame, HoldsSwept, kernel_is, release_swept, swept_rests}
+use Rattle.kept_facts.proofs.SharesOn.{SharesStay, shares_other}
+use Rattle.kept_facts.proofs.Lent.{SparesLent, lent_other}
 
 -- A step changes a word of a blank frame only where its core has marked the frame, and a word of a temporal capability as `SparesTcap`
 -- says.

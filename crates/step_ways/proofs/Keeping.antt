@@ -17,8 +17,8 @@ use Rattle.core_invariant.specs.Holding.{bare_value, settled_by, settled}
 use Rattle.core_invariant.specs.Words.{WordIs}
 use Rattle.core_invariant.specs.Invariant.{holds, held_by, times_of, Invariant}
 use Rattle.core_invariant.proofs.Bare.{own_kept, same_value, core_bare, free_value}
-use Rattle.lent_words.proofs.Lent.{runs_on_own, runs_no_tcap, lent_thread}
-use Rattle.kept_words.proofs.WordFrames.{ReadsAlike, StaysSaid, others_settled, own_settled}
+use Rattle.kept_facts.proofs.Lent.{runs_on_own, runs_no_tcap, lent_thread}
+use Rattle.kept_facts.proofs.WordFrames.{ReadsAlike, StaysSaid, others_settled, own_settled}
 
 none_some : (v : ℕ) → None ≡ Some v → ⊥
 none_some v h = cc

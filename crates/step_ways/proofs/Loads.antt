@@ -38,16 +38,16 @@ use Rattle.call_stages.specs.Fits.{IsCore, IsActive, CallFits, left_at}
 use Rattle.core_invariant.specs.Knows.{phase_at, Knows, IsIn, CallIs, WorksIn, CoreIs, KnowsTail, is_flushing, flushing_in}
 use Rattle.core_invariant.specs.Invariant.{done_by, holds_at, holds_in, holds, held_by, Invariant}
 use Rattle.core_invariant.proofs.Markers.{phase_in, phase_call}
-use Rattle.kept_words.proofs.WordFrames.{marks_own, settled_on, load_keeps, load_marks, load_words}
-use Rattle.kept_words.proofs.Sums.{sums_stay}
-use Rattle.kept_knowledge.proofs.Carries.{counts_on}
+use Rattle.kept_facts.proofs.WordFrames.{marks_own, settled_on, load_keeps, load_marks, load_words}
+use Rattle.kept_facts.proofs.Sums.{sums_stay}
+use Rattle.kept_facts.proofs.Carries.{counts_on}
 use Rattle.core_invariant.specs.Holding.{holds_counts}
 use Rattle.step_ways.proofs.Flushing.{still_flushed, open_flushed}
 use Rattle.step_ways.proofs.Good.{IsGood, spares_kept}
 use Rattle.step_ways.proofs.Users.{spares_none}
-use Rattle.kept_words.proofs.Calm.{IsCalm, calm_same, calm_counted, calm_own, calm_words, counted_rises, stored_by}
-use Rattle.kept_words.proofs.Calm.{IsUntimed, plain_time, plain_exit, BeginsNone, plain_begins, none_flushed}
-use Rattle.lent_words.proofs.Lent.{keeps_loads, lent_still, lent_open, lent_kept}
+use Rattle.kept_facts.proofs.Calm.{IsCalm, calm_same, calm_counted, calm_own, calm_words, counted_rises, stored_by}
+use Rattle.kept_facts.proofs.Calm.{IsUntimed, plain_time, plain_exit, BeginsNone, plain_begins, none_flushed}
+use Rattle.kept_facts.proofs.Lent.{keeps_loads, lent_still, lent_open, lent_kept}
 
 -- A step of core c.
 abbrev pub step_to : ℕ → Option Call → Move → ℕ → Option Reply → Option Reply → Step

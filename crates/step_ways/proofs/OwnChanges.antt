@@ -22,12 +22,12 @@ use Rattle.core_invariant.specs.Holding.{MarkIs, settled}
 use Rattle.core_invariant.specs.Words.{WordIs}
 use Rattle.core_invariant.specs.Knows.{phase_at, Knows, WorksIn, CoreIs, is_flushing, flushing_in}
 use Rattle.core_invariant.specs.Invariant.{held_by, times_of, counted_in, SumIs, Invariant, holds, IsLent}
-use Rattle.kept_words.proofs.Calm.{BeginsNone, none_time, none_flushed, plain_exit}
-use Rattle.kept_knowledge.proofs.Carries.{counts_on}
+use Rattle.kept_facts.proofs.Calm.{BeginsNone, none_time, none_flushed, plain_exit}
+use Rattle.kept_facts.proofs.Carries.{counts_on}
 use Rattle.step_ways.proofs.Flushing.{open_flushed}
 use Rattle.step_ways.proofs.Good.{IsGood, SparesBlanks}
 use Rattle.step_ways.proofs.Users.{SparesBy, spared}
-use Rattle.lent_words.proofs.Lent.{SparesLent}
+use Rattle.kept_facts.proofs.Lent.{SparesLent}
 use Rattle.step_ways.proofs.Loads.{Lands, IsOfCall, next_at, core_is, call_is, in_call, inner, inner_within, inner_disciplined, inner_near}
 
 -- A core is where it was, on its machine.

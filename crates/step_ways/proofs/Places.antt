@@ -18,7 +18,7 @@ use Rattle.core_invariant.specs.Holding.{settled_by}
 use Rattle.core_invariant.specs.Words.{PlaceIs, IsFrameWord, count_room}
 use Rattle.core_invariant.specs.Invariant.{held_by, Invariant}
 use Rattle.core_invariant.proofs.Sounds.{limits_of}
-use Rattle.lent_words.proofs.Lent.{unlent_value, node_keeps_none}
+use Rattle.kept_facts.proofs.Lent.{unlent_value, node_keeps_none}
 
 -- The word of a place carries the mark of a core.
 pub record IsMarked (setup : Setting) (t : Trace) (f i : ℕ) : Type 0 where

@@ -36,8 +36,8 @@ use Rattle.kernel_history.proofs.Names.{cases_word}
 use Rattle.trace_laws.proofs.Opens.{opens, open_inj}
 use Rattle.kernel_history.proofs.Steps.{last_left-here, last_left-there}
 use Rattle.core_invariant.specs.Knows.{untypes}
-use Rattle.kept_knowledge.proofs.Carries.{KeepsUsers}
-use Rattle.kept_words.proofs.CountSums.{counter_all}
+use Rattle.kept_facts.proofs.Carries.{KeepsUsers}
+use Rattle.kept_facts.proofs.CountSums.{counter_all}
 
 -- A step that ends the grace period of a frame, and so makes it untyped, is by a core that holds all counters of the frame.
 abbrev pub SparesCounted : Setting → Trace → Step → Type 0

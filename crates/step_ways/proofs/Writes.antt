@@ -38,11 +38,11 @@ use Rattle.core_invariant.specs.Words.{count_room, WordIs}
 use Rattle.core_invariant.proofs.Sounds.{limits_of}
 use Rattle.core_invariant.specs.Knows.{phase_at, KnowsAt, Knows, IsCount, CallIs, WorksIn, CoreIs, is_flushing, flushing_in}
 use Rattle.core_invariant.specs.Invariant.{is_done, holds_at, holds_in, holds, held_by, times_of, counted_in, SumIs, Invariant}
-use Rattle.kept_words.proofs.WordFrames.{marks_own, settled_on, write_marks, write_words, ReadsAlike}
-use Rattle.kept_words.proofs.WordFrames.{reads_alike, StaysSaid, word_stays, carry_marks, carry_words}
-use Rattle.kept_words.proofs.Sums.{sums_stay}
+use Rattle.kept_facts.proofs.WordFrames.{marks_own, settled_on, write_marks, write_words, ReadsAlike}
+use Rattle.kept_facts.proofs.WordFrames.{reads_alike, StaysSaid, word_stays, carry_marks, carry_words}
+use Rattle.kept_facts.proofs.Sums.{sums_stay}
 use Rattle.core_invariant.proofs.Bare.{IsNotKept, free_value, counts_bare}
-use Rattle.lent_words.proofs.Lent.{keeps_there, lent_still, lent_open, lent_none, lent_free, lent_elsewhere}
+use Rattle.kept_facts.proofs.Lent.{keeps_there, lent_still, lent_open, lent_none, lent_free, lent_elsewhere}
 use Rattle.core_invariant.specs.Holding.{nothing, count_of, holds_counts, settled}
 use Rattle.stage_pins.specs.declared.held.Acquired.{Acquired}
 use Rattle.call_stages.specs.Fits.{CountsAt}
@@ -50,8 +50,8 @@ use Rattle.std.proofs.lemmas.List.Elements.{All-nil}
 use Rattle.step_ways.proofs.Flushing.{still_flushed, open_flushed}
 use Rattle.step_ways.proofs.Good.{IsGood, SparesBlanks, spares_other}
 use Rattle.step_ways.proofs.Users.{SparesBy, spared, spares_none}
-use Rattle.kept_words.proofs.Calm.{IsCalm, calm_returned, calm_own, calm_words, counted_rises, none_stored, IsUntimed}
-use Rattle.kept_words.proofs.Calm.{plain_time, plain_exit, plain_flushed, BeginsNone, plain_begins, none_time, calm_same}
+use Rattle.kept_facts.proofs.Calm.{IsCalm, calm_returned, calm_own, calm_words, counted_rises, none_stored, IsUntimed}
+use Rattle.kept_facts.proofs.Calm.{plain_time, plain_exit, plain_flushed, BeginsNone, plain_begins, none_time, calm_same}
 use Rattle.step_ways.proofs.Loads.{Lands, IsOfCall, step_to, next_at, core_in_call, some_left, core_is, call_is, in_call}
 use Rattle.step_ways.proofs.Loads.{inner, inner_within, inner_disciplined, inner_near, inner_works, inner_own, is_active}
 

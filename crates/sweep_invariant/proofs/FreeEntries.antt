@@ -66,9 +66,9 @@ use Rattle.core_invariant.specs.Invariant.{Invariant, holds, held_by, holds_act,
 use Rattle.core_invariant.specs.Invariant.{holds_heads, holds_in, holds_killing, holds_making, holds_pop, holds_push}
 use Rattle.core_invariant.specs.Invariant.{holds_share, holds_shared, holds_stage, holds_tail, holds_work, is_done}
 use Rattle.core_invariant.specs.Threads.{KnowsSwitch, holds_switching}
-use Rattle.kept_knowledge.proofs.Carries.{slot_relies}
+use Rattle.kept_facts.proofs.Carries.{slot_relies}
 use Rattle.core_invariant.proofs.Freezing.{release_entry}
-use Rattle.lent_words.proofs.Lent.{lent_unmarked}
+use Rattle.kept_facts.proofs.Lent.{lent_unmarked}
 
 none_some : (x : ℕ) → None ≡ Some x → ⊥
 none_some x h = cc

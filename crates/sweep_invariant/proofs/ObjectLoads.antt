@@ -67,7 +67,7 @@ use Rattle.core_invariant.specs.Holding.{Holding, holds_counts}
 use Rattle.core_invariant.specs.Knows.{KnowsUndecided, KnowsWork, AreDuesApart}
 use Rattle.core_invariant.specs.Invariant.{holds_in, holds_work, Invariant, holds, held_by}
 use Rattle.core_invariant.specs.Sweeps.{AreFrozen, IsQuiet, IsScanning, KnowsSweep, KnowsSweepScan, IsLookedAt, IsSwept, names_of}
-use Rattle.kept_knowledge.proofs.Carries.{names_on, quiet_frame_on}
+use Rattle.kept_facts.proofs.Carries.{names_on, quiet_frame_on}
 use Rattle.step_ways.proofs.Loads.{OnlyLooks, step_to, next_at, inner, loads_on, decides_with}
 use Rattle.step_ways.proofs.Refusals.{GoodTook}
 use Rattle.core_invariant.proofs.Sounds.{limits_of}

@@ -52,7 +52,7 @@ use Rattle.core_invariant.specs.Invariant.{Invariant}
 use Rattle.core_invariant.specs.Sweeps.{HoldsNone, IsLookedAt, NamesBottom, NamesFields, names_of}
 use Rattle.core_invariant.specs.Words.{HeadIs, IsFrameWord, PlaceIs, count_room}
 use Rattle.core_invariant.proofs.Sounds.{limits_of}
-use Rattle.look_invariant.proofs.Lookups.{IsShown, Shows, ShowsHeld, shown_of}
+use Rattle.count_invariant.proofs.Lookups.{IsShown, Shows, ShowsHeld, shown_of}
 use Rattle.freeze_invariant.proofs.Counters.{sweeping, untyping_by}
 use Rattle.sweep_invariant.proofs.ObjectLoads.{Result, entry_below, goes_on, holds_some}
 use Rattle.sweep_invariant.proofs.ObjectLoads.{looked_so_far, object_frame, object_says, owned_fits}

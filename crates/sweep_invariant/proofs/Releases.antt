@@ -41,11 +41,11 @@ use Rattle.core_invariant.specs.Invariant.{Invariant, done_by, held_by, holds, h
 use Rattle.core_invariant.specs.Sweeps.{KnowsRelease, ThawsFrame}
 use Rattle.core_invariant.specs.Words.{SaysCount, count_room}
 use Rattle.core_invariant.proofs.Bare.{as_none, counts_bare}
-use Rattle.kept_knowledge.proofs.Carries.{counts_on}
+use Rattle.kept_facts.proofs.Carries.{counts_on}
 use Rattle.step_ways.proofs.Counting as counting
 use Rattle.core_invariant.proofs.Freezing.{SameAt, is_count, release_away, release_bare, release_frame, release_over, thaw_here, thaw_plain}
 use Rattle.step_ways.proofs.Good.{spares_other}
-use Rattle.lent_words.proofs.Lent.{lent_elsewhere}
+use Rattle.kept_facts.proofs.Lent.{lent_elsewhere}
 use Rattle.step_ways.proofs.Loads.{call_is, core_in_call, inner, is_active}
 use Rattle.step_ways.proofs.Refusals.{GoodTook}
 use Rattle.step_ways.proofs.Writes.{same_marks}

@@ -90,20 +90,20 @@ use Rattle.core_invariant.specs.Knows.{HasFound, KnowsUndecided, WorksIn, own_in
 use Rattle.core_invariant.specs.Invariant.{holds, holds_in, held_by, times_of, counted_in, count_shown, SumIs, Invariant}
 use Rattle.core_invariant.specs.Sweeps.{IsLookedAt, KnowsSwept, ThawsFrame, names_of}
 use Rattle.core_invariant.proofs.Bare.{counts_bare}
-use Rattle.kept_words.proofs.Calm.{counts as calm_counts, calm_counted, same_works, plain_exit, room_grows, counted_grows}
-use Rattle.kept_words.proofs.CountSums.{counted_refs}
+use Rattle.kept_facts.proofs.Calm.{counts as calm_counts, calm_counted, same_works, plain_exit, room_grows, counted_grows}
+use Rattle.kept_facts.proofs.CountSums.{counted_refs}
 use Rattle.step_ways.proofs.Draws as drawing
 use Rattle.core_invariant.proofs.Freezing.{IsFrozenWord, frozen_word, release_away, release_bare}
 use Rattle.core_invariant.proofs.Freezing.{release_entry, release_frame, thaw_all, thaw_from, thaws_own}
 use Rattle.step_ways.proofs.Loads.{inner}
 use Rattle.step_ways.proofs.Refusals.{GoodTook}
 use Rattle.core_invariant.proofs.Sounds.{limits_of}
-use Rattle.kept_knowledge.proofs.Swept.{HoldsSwept, frame_says, no_refs, release_counter, release_swept, stamp_is}
-use Rattle.kept_words.proofs.WordFrames.{SameFor, ReadsAlike, StaysSaid, mark_same, own_settled, word_stays}
+use Rattle.kept_facts.proofs.Swept.{HoldsSwept, frame_says, no_refs, release_counter, release_swept, stamp_is}
+use Rattle.kept_facts.proofs.WordFrames.{SameFor, ReadsAlike, StaysSaid, mark_same, own_settled, word_stays}
 use Rattle.step_ways.proofs.Writes.{clock_small, same_marks}
 use Rattle.count_invariant.proofs.CountChanges.{spared_commit, spared_sum}
-use Rattle.look_invariant.proofs.Findings.{own_is, found_named, way_gone}
-use Rattle.kept_knowledge.proofs.Carries.{own_kept}
+use Rattle.count_invariant.proofs.Findings.{own_is, found_named, way_gone}
+use Rattle.kept_facts.proofs.Carries.{own_kept}
 use Rattle.place_invariant.proofs.Removals.{frame_none, frame_some}
 use Rattle.place_invariant.proofs.Vacancy.{none_unflushed, none_waits}
 use Rattle.sweep_invariant.proofs.Emptied.{acquired_all, acquired_away, count_word, due_each, due_none, due_small, looked_empty}

@@ -52,7 +52,7 @@ use Rattle.core_invariant.specs.Knows.{due_of, KnowsUndecided, phase_at}
 use Rattle.core_invariant.specs.Invariant.{holds, holds_at, holds_in, Invariant}
 use Rattle.core_invariant.specs.Threads.{HasThread, KnowsSwitch, KnowsSwitchAt, SwitchesBy, claimed_by, holds_switching}
 use Rattle.core_invariant.proofs.Bare.{counts_bare}
-use Rattle.kept_knowledge.proofs.Carries.{names_on}
+use Rattle.kept_facts.proofs.Carries.{names_on}
 use Rattle.step_ways.proofs.Loads.{OnlyLooks, step_to, call_is, is_active, loads_on}
 use Rattle.step_ways.proofs.Refusals.{GoodTook, ticks_at}
 use Rattle.core_invariant.proofs.Sounds.{limits_of}

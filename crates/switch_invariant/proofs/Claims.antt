@@ -44,10 +44,10 @@ use Rattle.core_invariant.specs.Invariant.{holds, held_by, holds_in, Invariant}
 use Rattle.core_invariant.specs.Components.{HasComp}
 use Rattle.core_invariant.specs.Threads.{IsTop, claimed_by, holds_idle}
 use Rattle.core_invariant.proofs.Bare.{IsNotKept, as_none, counts_bare, none_kept}
-use Rattle.kept_knowledge.proofs.Carries.{names_on, counts_on}
+use Rattle.kept_facts.proofs.Carries.{names_on, counts_on}
 use Rattle.step_ways.proofs.Counting as counters
 use Rattle.step_ways.proofs.Good.{Spared, SparesBlanks}
-use Rattle.lent_words.proofs.Lent.{lent_free}
+use Rattle.kept_facts.proofs.Lent.{lent_free}
 use Rattle.step_ways.proofs.Loads.{IsOfCall, core_in_call, inner, call_is}
 use Rattle.step_ways.proofs.Refusals.{GoodTook, refuses_raced, refuses_busy, refuses_running}
 use Rattle.thread_invariant.proofs.CompWords.{comp_below}

@@ -33,9 +33,9 @@ use Rattle.core_invariant.specs.Knows.{KnowsUndecided}
 use Rattle.core_invariant.specs.Invariant.{holds, holds_in, held_by, Invariant}
 use Rattle.core_invariant.specs.Threads.{claimed_by, holds_idle, is_claimed}
 use Rattle.core_invariant.proofs.Bare.{as_none, counts_bare, none_kept}
-use Rattle.kept_knowledge.proofs.Carries.{names_on, counts_on}
+use Rattle.kept_facts.proofs.Carries.{names_on, counts_on}
 use Rattle.step_ways.proofs.Counting as counters
-use Rattle.lent_words.proofs.Lent.{lent_free, runs_on_own}
+use Rattle.kept_facts.proofs.Lent.{lent_free, runs_on_own}
 use Rattle.step_ways.proofs.Loads.{IsOfCall, core_in_call, inner, call_is}
 use Rattle.step_ways.proofs.Refusals.{GoodTook}
 use Rattle.thread_invariant.proofs.EntryMarks.{counts_apart, thread_unmarked}

@@ -34,9 +34,9 @@ use Rattle.core_invariant.specs.Knows.{KnowsTail, phase_at}
 use Rattle.core_invariant.specs.Invariant.{done_by, holds, holds_at, holds_in, holds_tail, held_by, Invariant}
 use Rattle.core_invariant.specs.Threads.{KnowsIdle, KnowsRunning, holds_idle}
 use Rattle.core_invariant.proofs.Bare.{as_none, core_bare, counts_bare, none_kept}
-use Rattle.kept_knowledge.proofs.Carries.{counts_on}
+use Rattle.kept_facts.proofs.Carries.{counts_on}
 use Rattle.step_ways.proofs.Counting as counters
-use Rattle.lent_words.proofs.Lent.{lent_free}
+use Rattle.kept_facts.proofs.Lent.{lent_free}
 use Rattle.step_ways.proofs.Loads.{core_in_call, inner, call_is, is_active}
 use Rattle.step_ways.proofs.Refusals.{GoodTook}
 use Rattle.thread_invariant.proofs.EntryMarks.{counts_apart}

@@ -88,23 +88,23 @@ use Rattle.core_invariant.specs.Knows.{HasFound, due_of, flushing_in, KnowsUndec
 use Rattle.core_invariant.specs.Invariant.{holds, holds_in, held_by, times_of, counted_in, SumIs, Invariant}
 use Rattle.core_invariant.specs.Threads.{HasRoots, HasThread, KnowsRunning, claimed_by, is_claimed, holds_idle}
 use Rattle.core_invariant.proofs.Bare.{counts_bare}
-use Rattle.kept_words.proofs.Calm.{plain_exit}
+use Rattle.kept_facts.proofs.Calm.{plain_exit}
 use Rattle.kernel_history.proofs.Inside.{decided-inside}
-use Rattle.kept_knowledge.proofs.Carries.{own_kept}
+use Rattle.kept_facts.proofs.Carries.{own_kept}
 use Rattle.step_ways.proofs.Draws.{raised}
 use Rattle.step_ways.proofs.Flushing.{open_flushed}
 use Rattle.step_ways.proofs.Good.{spares_other}
-use Rattle.lent_words.proofs.Lent.{lent_elsewhere, lent_none, runs_on_own}
+use Rattle.kept_facts.proofs.Lent.{lent_elsewhere, lent_none, runs_on_own}
 use Rattle.step_ways.proofs.Loads.{inner, next_at}
 use Rattle.step_ways.proofs.OwnChanges.{decides_timed}
 use Rattle.step_ways.proofs.Refusals.{GoodTook, not_spent}
 use Rattle.core_invariant.proofs.Sounds.{limits_of}
 use Rattle.step_ways.proofs.Users.{spares_none}
-use Rattle.kept_words.proofs.WordFrames.{ReadsAlike, SameFor, StaysSaid, word_stays, marks_own, carry_marks, carry_words}
+use Rattle.kept_facts.proofs.WordFrames.{ReadsAlike, SameFor, StaysSaid, word_stays, marks_own, carry_marks, carry_words}
 use Rattle.step_ways.proofs.Writes.{same_marks, clock_small}
 use Rattle.count_invariant.proofs.CountChanges.{dues_commit, dues_sum}
 use Rattle.count_invariant.proofs.SwitchCounts.{was_here}
-use Rattle.look_invariant.proofs.Findings.{own_is, found_named, way_gone}
+use Rattle.count_invariant.proofs.Findings.{own_is, found_named, way_gone}
 use Rattle.thread_invariant.proofs.CompWords.{holds_comp}
 use Rattle.thread_invariant.proofs.OwnStack.{own_thread}
 use Rattle.switch_invariant.proofs.Calls as calls

@@ -38,8 +38,8 @@ use Rattle.core_invariant.specs.Holding.{holds_counts}
 use Rattle.core_invariant.specs.Knows.{AreDuesApart, due_of, KnowsUndecided}
 use Rattle.core_invariant.specs.Invariant.{holds, holds_in, Invariant}
 use Rattle.core_invariant.specs.Threads.{HasRoots, HasTable, IsTop, claimed_by, is_claimed, holds_idle, holds_switching}
-use Rattle.kept_knowledge.proofs.Carries.{names_on}
-use Rattle.lent_words.proofs.Lent.{runs_on_own}
+use Rattle.kept_facts.proofs.Carries.{names_on}
+use Rattle.kept_facts.proofs.Lent.{runs_on_own}
 use Rattle.step_ways.proofs.Loads.{next_at, step_to, loads_on}
 use Rattle.step_ways.proofs.Refusals.{GoodTook}
 use Rattle.core_invariant.proofs.ThreadHolds.{IsIdleIn, claimed_idle}

@@ -27,8 +27,8 @@ use Rattle.core_invariant.specs.Holding.{settled_by}
 use Rattle.core_invariant.specs.Invariant.{held_by, IsOfThread, SaysRunning, Invariant}
 use Rattle.core_invariant.specs.Words.{IsFrameWord, IsThreadWord, count_room}
 use Rattle.core_invariant.proofs.Bare.{none_kept}
-use Rattle.lent_words.proofs.Lent.{lent_thread, runs_on_own}
-use Rattle.lent_words.proofs.Tcaps.{is_tcap}
+use Rattle.kept_facts.proofs.Lent.{lent_thread, runs_on_own}
+use Rattle.kept_facts.proofs.Tcaps.{is_tcap}
 use Rattle.switch_invariant.proofs.ThreadWords.{same_some, thread_is}
 
 -- What the first word of a thread shows, by the core on which it runs.

@@ -2,8 +2,7 @@
 
 use crate::start_tables::{FROM_ENTRIES, MACHINE, TO_ENTRIES};
 use byte_ends::{MemSink, MemSource};
-use core_kernel::{FreeGate, Gate};
-use speck_run::{Status, speck};
+use speck_run::{FreeGate, Gate, Status, speck};
 use std::alloc::Global;
 use std::test::Fail;
 use std::thread::Threads;

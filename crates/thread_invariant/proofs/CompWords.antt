@@ -19,7 +19,7 @@ use Rattle.call_stages.specs.View.{Core}
 use Rattle.core_invariant.specs.Holding.{settled_by}
 use Rattle.core_invariant.specs.Invariant.{held_by, Invariant}
 use Rattle.core_invariant.specs.Words.{IsCompWord, IsFrameWord, count_room}
-use Rattle.lent_words.proofs.Lent.{may_keep, unlent_value}
+use Rattle.kept_facts.proofs.Lent.{may_keep, unlent_value}
 use Rattle.core_invariant.proofs.Sounds.{limits_of}
 use Rattle.live_invariant.proofs.Numbers.{comp_is}
 

@@ -63,14 +63,14 @@ use Rattle.core_invariant.specs.Words.{WordIs, NumberIs}
 use Rattle.core_invariant.specs.Knows.{KnowsUndecided, WorksIn}
 use Rattle.core_invariant.specs.Invariant.{holds_at, holds_in, holds, held_by, times_of, Invariant}
 use Rattle.core_invariant.proofs.Bare.{counts_bare}
-use Rattle.kept_words.proofs.Calm.{IsUntimed, plain_begins, plain_stamp, plain_flush}
+use Rattle.kept_facts.proofs.Calm.{IsUntimed, plain_begins, plain_stamp, plain_flush}
 use Rattle.step_ways.proofs.Good.{spares_kept}
-use Rattle.lent_words.proofs.Lent.{lent_kept}
+use Rattle.kept_facts.proofs.Lent.{lent_kept}
 use Rattle.step_ways.proofs.Loads.{inner, next_at}
 use Rattle.step_ways.proofs.OwnChanges.{decides_changing}
 use Rattle.step_ways.proofs.Refusals.{GoodTook, not_spent}
 use Rattle.step_ways.proofs.Users.{spares_none}
-use Rattle.kept_words.proofs.WordFrames.{marks_own, carry_marks, word_stays}
+use Rattle.kept_facts.proofs.WordFrames.{marks_own, carry_marks, word_stays}
 use Rattle.trace_laws.proofs.Small.{last_small}
 use Rattle.step_ways.proofs.Writes.{same_marks}
 use Rattle.count_invariant.proofs.CapChanges.{counts_commit, counts_sum, dues_of}

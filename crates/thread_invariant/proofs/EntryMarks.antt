@@ -65,9 +65,9 @@ use Rattle.core_invariant.specs.Knows.{KnowsAct, KnowsWork, KnowsTail, KnowsAt, 
 use Rattle.core_invariant.specs.Shares.{KnowsStoresAt}
 use Rattle.core_invariant.specs.Invariant.{holds_act, holds_making, holds_killing, holds_comp, holds_share, holds_shared, holds_head}
 use Rattle.core_invariant.specs.Invariant.{holds_heads, holds_work, holds_tail, is_done, holds_at, holds_in, holds, held_by, Invariant}
-use Rattle.kept_knowledge.proofs.Carries.{slot_relies}
+use Rattle.kept_facts.proofs.Carries.{slot_relies}
 use Rattle.core_invariant.proofs.Freezing.{release_entry}
-use Rattle.lent_words.proofs.Lent.{runs_on_own}
+use Rattle.kept_facts.proofs.Lent.{runs_on_own}
 use Rattle.thread_invariant.proofs.OwnStack.{own_thread}
 
 pub counts_apart : (fate : Option (Option ℕ)) (xs : List Acquired) (f i : ℕ) → (holds_counts fate xs).marks (EntryAt f i) ≡ false

@@ -35,9 +35,9 @@ use Rattle.call_stages.specs.Fits.{StageFits, HasRoom}
 use Rattle.call_stages.specs.View.{Core}
 use Rattle.core_invariant.specs.Knows.{HasFound, KnowsUndecided, own_in, phase_at}
 use Rattle.core_invariant.specs.Invariant.{Invariant}
-use Rattle.kept_knowledge.proofs.Carries.{own_kept}
+use Rattle.kept_facts.proofs.Carries.{own_kept}
 use Rattle.step_ways.proofs.Loads.{call_is, is_active}
-use Rattle.look_invariant.proofs.Findings.{own_is, found_named, way_gone}
+use Rattle.count_invariant.proofs.Findings.{own_is, found_named, way_gone}
 use Rattle.count_invariant.proofs.Acquiring.{plan_leads, goes_by}
 use Rattle.count_invariant.proofs.StackCounts.{IsInvoke, invoke_of, invoke_near}
 use Rattle.live_invariant.proofs.Numbers.{one_of_many, comp_is}

@@ -46,7 +46,7 @@ use Rattle.core_invariant.specs.Components.{HasComp, InvokesBy}
 use Rattle.core_invariant.specs.Holding.{holds_counts}
 use Rattle.core_invariant.specs.Knows.{due_of, NamesAre, phase_at}
 use Rattle.core_invariant.specs.Invariant.{holds_in, Invariant}
-use Rattle.kept_knowledge.proofs.Carries.{invoking_on}
+use Rattle.kept_facts.proofs.Carries.{invoking_on}
 use Rattle.step_ways.proofs.Loads.{OnlyLooks, step_to, call_is, core_is, loads_on, decides_on}
 use Rattle.step_ways.proofs.Refusals.{GoodTook, not_spent}
 use Rattle.thread_invariant.proofs.InvokeCalls.{entering}

@@ -43,7 +43,7 @@ use Rattle.core_invariant.specs.Holding.{holds_counts, settled_by}
 use Rattle.core_invariant.specs.Words.{NumberIs}
 use Rattle.core_invariant.specs.Knows.{due_of, KnowsUndecided}
 use Rattle.core_invariant.specs.Invariant.{holds_at, holds_in, held_by, Invariant}
-use Rattle.kept_knowledge.proofs.Carries.{names_on, invoking_on}
+use Rattle.kept_facts.proofs.Carries.{names_on, invoking_on}
 use Rattle.step_ways.proofs.Loads.{OnlyLooks, step_to, next_at, loads_on}
 use Rattle.step_ways.proofs.Refusals.{GoodTook, refuses_busy, refuses_dead, ticks_at}
 use Rattle.count_invariant.proofs.Acquiring.{knows_next, next_holds, one_apart}

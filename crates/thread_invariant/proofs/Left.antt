@@ -66,12 +66,12 @@ use Rattle.core_invariant.proofs.Bare.{counts_bare}
 use Rattle.step_ways.proofs.Draws.{raised}
 use Rattle.step_ways.proofs.Flushing.{open_flushed}
 use Rattle.step_ways.proofs.Good.{spares_other}
-use Rattle.lent_words.proofs.Lent.{lent_elsewhere}
+use Rattle.kept_facts.proofs.Lent.{lent_elsewhere}
 use Rattle.step_ways.proofs.Loads.{inner, next_at}
 use Rattle.step_ways.proofs.OwnChanges.{decides_timed}
 use Rattle.step_ways.proofs.Refusals.{GoodTook, not_spent}
 use Rattle.step_ways.proofs.Users.{spares_none}
-use Rattle.kept_words.proofs.WordFrames.{marks_own, carry_marks}
+use Rattle.kept_facts.proofs.WordFrames.{marks_own, carry_marks}
 use Rattle.step_ways.proofs.Writes.{same_marks, clock_small}
 use Rattle.count_invariant.proofs.CapChanges.{counts_commit, counts_sum, dues_of}
 use Rattle.thread_invariant.proofs.EntryMarks.{counts_apart}

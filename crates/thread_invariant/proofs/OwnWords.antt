@@ -11,7 +11,7 @@ use Rattle.core_invariant.specs.Holding.{settled_by}
 use Rattle.core_invariant.specs.Words.{IsFrameWord, IsThreadWord, count_room}
 use Rattle.core_invariant.specs.Invariant.{holds, held_by, Invariant}
 use Rattle.core_invariant.proofs.Bare.{none_kept}
-use Rattle.lent_words.proofs.Lent.{lent_thread, runs_no_tcap, runs_on_own}
+use Rattle.kept_facts.proofs.Lent.{lent_thread, runs_no_tcap, runs_on_own}
 use Rattle.thread_invariant.proofs.EntryMarks.{thread_unmarked}
 use Rattle.thread_invariant.proofs.OwnStack.{own_thread}
 

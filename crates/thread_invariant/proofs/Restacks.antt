@@ -25,12 +25,12 @@ use Rattle.call_stages.specs.View.{Core}
 use Rattle.core_invariant.specs.Holding.{settled}
 use Rattle.core_invariant.specs.Words.{IsFrameWord, IsThreadWord, WordIs, count_room}
 use Rattle.core_invariant.specs.Invariant.{holds, held_by, times_of, counted_in, IsLent, SaysRunning, Invariant}
-use Rattle.kept_words.proofs.Calm.{plain_exit}
+use Rattle.kept_facts.proofs.Calm.{plain_exit}
 use Rattle.step_ways.proofs.Keeping.{keeping_words}
-use Rattle.lent_words.proofs.Lent.{runs_on_own}
+use Rattle.kept_facts.proofs.Lent.{runs_on_own}
 use Rattle.step_ways.proofs.Loads.{inner}
 use Rattle.core_invariant.proofs.Sounds.{limits_of}
-use Rattle.kept_words.proofs.WordFrames.{ReadsAlike, SameFor, StaysSaid, word_stays}
+use Rattle.kept_facts.proofs.WordFrames.{ReadsAlike, SameFor, StaysSaid, word_stays}
 use Rattle.thread_invariant.proofs.EntryMarks.{thread_unmarked}
 use Rattle.thread_invariant.proofs.OwnStack.{own_thread, thread_below}
 use Rattle.thread_invariant.proofs.OwnWords.{thread_says as own_says}

@@ -40,7 +40,7 @@ use Rattle.core_invariant.specs.Holding.{holds_counts}
 use Rattle.core_invariant.specs.Knows.{due_of, KnowsUndecided, phase_at}
 use Rattle.core_invariant.specs.Invariant.{holds_at, holds_in, holds, Invariant}
 use Rattle.core_invariant.proofs.Bare.{counts_bare}
-use Rattle.kept_knowledge.proofs.Carries.{names_on, returning_on}
+use Rattle.kept_facts.proofs.Carries.{names_on, returning_on}
 use Rattle.step_ways.proofs.Loads.{OnlyLooks, step_to, next_at, call_is, is_active, loads_on}
 use Rattle.step_ways.proofs.Refusals.{GoodTook}
 use Rattle.count_invariant.proofs.Acquiring.{knows_next, next_holds, one_apart}

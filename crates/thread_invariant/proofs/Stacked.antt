@@ -6,7 +6,7 @@ use Rattle.kernel_rules.specs.InvocationCalls.{with_thread, with_stack}
 use Rattle.kernel_rules.specs.CallRelation.{counted}
 use Rattle.kernel_invariant.proofs.Refs.{frame_refs, grace_refs}
 use Rattle.kernel_rules.proofs.Within.{put_same, put_other}
-use Rattle.kept_words.proofs.CountSums.{counted_refs}
+use Rattle.kept_facts.proofs.CountSums.{counted_refs}
 
 abbrev pub stacked : State → ℕ → List ℕ → (Thing → Grace) → State
 stacked s c fs graces = counted (with_grace (with_stack s c fs) graces) c

@@ -26,10 +26,10 @@ use Rattle.core_invariant.specs.Holding.{Holding, holds_counts, settled_by}
 use Rattle.core_invariant.specs.Knows.{phase_at, KnowsTail}
 use Rattle.core_invariant.specs.Invariant.{done_by, holds_tail, holds_at, holds_in, holds, held_by, IsLent, IsOfThread, Invariant}
 use Rattle.core_invariant.proofs.Bare.{AsBefore, none_kept}
-use Rattle.kept_knowledge.proofs.Carries.{counts_on}
+use Rattle.kept_facts.proofs.Carries.{counts_on}
 use Rattle.step_ways.proofs.Counting as counters
 use Rattle.step_ways.proofs.Good.{Spared}
-use Rattle.lent_words.proofs.Lent.{lent_unmarked, one_keeper, own_value}
+use Rattle.kept_facts.proofs.Lent.{lent_unmarked, one_keeper, own_value}
 use Rattle.step_ways.proofs.Loads.{core_in_call, inner, call_is}
 use Rattle.step_ways.proofs.Refusals.{GoodTook}
 

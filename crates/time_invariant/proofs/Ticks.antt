@@ -1,7 +1,7 @@
 -- The steps of a tick are good: the load of the head of its core's temporal capability, and the compare, which is lost to another core or
 -- charges the ticks that are due.
 use Rattle.core_invariant.proofs.Bare.{counts_bare}
-use Rattle.lent_words.proofs.Lent.{unlent_head_value, unlent_head_word, lent_none, lent_kept, lent_free}
+use Rattle.kept_facts.proofs.Lent.{unlent_head_value, unlent_head_word, lent_none, lent_kept, lent_free}
 use Rattle.std.specs.Prelude.{min, IsSome}
 use Rattle.std.proofs.lemmas.List.Elements.{All-nil}
 use Rattle.std.proofs.Common.{◌≡◌, ◌≢◌, inl, inr, ℕ, zero, suc, map, ◌+◌, ◌-◌, ◌*◌, ◌^◌, ◌<◌, ◌≤◌, ◌==◌, true, false}
@@ -37,7 +37,7 @@ use Rattle.kernel_history.specs.Alone.{IsAlone}
 use Rattle.kernel_history.specs.ObjectWords.{holds_node, frame_value}
 use Rattle.kernel_history.specs.Ways.{ways}
 use Rattle.kernel_rules.specs.Access.{Slot}
-use Rattle.kept_knowledge.proofs.Carries.{names_on}
+use Rattle.kept_facts.proofs.Carries.{names_on}
 use Rattle.kernel_history.specs.Discipline.{changes_in_frame}
 use Rattle.kernel_history.specs.Footprint.{is_one_of, frames_near}
 use Rattle.kernel_history.specs.Justified.{HasReached, IsJustified, IsRaceLost, IsHeldUp}
@@ -71,8 +71,8 @@ use Rattle.core_invariant.specs.Holding.{holds_counts, settled_by, settled}
 use Rattle.core_invariant.specs.Words.{HeadIs, IsFrameWord, WordIs, count_room}
 use Rattle.core_invariant.specs.Knows.{due_of, charged_tcap, ChargesBy, HasHead, KnowsUndecided, WorksIn, phase_at, untypes}
 use Rattle.core_invariant.specs.Invariant.{holds_at, holds_in, holds, held_by, times_of, counted_in, Invariant, done_by}
-use Rattle.kept_words.proofs.Calm.{IsUntimed, plain_begins, plain_stamp, plain_flush, plain_exit}
-use Rattle.kept_words.proofs.CountSums.{counted_refs}
+use Rattle.kept_facts.proofs.Calm.{IsUntimed, plain_begins, plain_stamp, plain_flush, plain_exit}
+use Rattle.kept_facts.proofs.CountSums.{counted_refs}
 use Rattle.core_invariant.specs.Shares.{list_changed, TurnsHead, SparesTcap}
 use Rattle.step_ways.proofs.Good.{Spared, SparesBlanks, spares_kept}
 use Rattle.step_ways.proofs.Loads.{IsOfCall, OnlyLooks, next_at, inner, call_is, is_active, loads_on}
@@ -80,9 +80,9 @@ use Rattle.core_invariant.proofs.Markers.{marker_inside}
 use Rattle.step_ways.proofs.OwnChanges.{IsSameCore, decides_changing}
 use Rattle.step_ways.proofs.Refusals.{GoodTook, not_spent}
 use Rattle.core_invariant.proofs.Sounds.{limits_of}
-use Rattle.kept_words.proofs.Sums.{sums_keep}
-use Rattle.kept_words.proofs.WordFrames.{SameFor, ReadsAlike, StaysSaid, marks_own, settled_on, load_keeps}
-use Rattle.kept_words.proofs.WordFrames.{load_marks, load_words, word_stays, carry_marks, carry_words, others_settled}
+use Rattle.kept_facts.proofs.Sums.{sums_keep}
+use Rattle.kept_facts.proofs.WordFrames.{SameFor, ReadsAlike, StaysSaid, marks_own, settled_on, load_keeps}
+use Rattle.kept_facts.proofs.WordFrames.{load_marks, load_words, word_stays, carry_marks, carry_words, others_settled}
 use Rattle.step_ways.proofs.Writes.{same_marks, room_left}
 use Rattle.time_invariant.proofs.Budgets.{tcap_is, IsTcap, Numbers, numbers_of}
 use Rattle.time_invariant.proofs.TickCalls.{IsTick, tick_of, own_near, raced_head}

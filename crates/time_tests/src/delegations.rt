@@ -3,11 +3,9 @@
 //! is too long. It stores list B (26 to 33), head B (34) and head A (35), and leaves (36 and 37).
 
 use crate::ticks::tables;
-use core_kernel::FreeGate;
-use speck_run::Status;
 use std::alloc::Global;
 use std::test::Fail;
-use test_machine::{COMMANDS, MACHINE, runs, steps, writes};
+use test_machine::{COMMANDS, FreeGate, MACHINE, Status, runs, steps, writes};
 
 /// The steps of a delegation that is carried out.
 pub(crate) const DELEGATE_STEPS: usize = 37;

@@ -1,11 +1,9 @@
 //! `tick`. A tick enters (1), loads the head of its core's temporal capability (2), compares it with the head found, which decides (3),
 //! and leaves (4 and 5).
 
-use core_kernel::FreeGate;
-use speck_run::Status;
 use std::alloc::Global;
 use std::test::Fail;
-use test_machine::{FROM_ENTRIES, MACHINE, TO_ENTRIES, leads_to, runs};
+use test_machine::{FROM_ENTRIES, FreeGate, MACHINE, Status, TO_ENTRIES, leads_to, runs};
 
 /// The tables of the start, with these budgets of the temporal capabilities 12 and 13, and these ticks spent and owed of the two cores.
 pub(crate) fn tables(

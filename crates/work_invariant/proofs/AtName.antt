@@ -50,9 +50,9 @@ use Rattle.kernel_rules.specs.Alone.{alone}
 use Rattle.kernel_history.specs.Ways.{way_to}
 use Rattle.kernel_history.specs.Justified.{HasReached, IsJustified}
 use Rattle.call_plans.specs.declared.plans.Name.{Name}
-use Rattle.kept_knowledge.proofs.Carries.{own_kept}
-use Rattle.look_invariant.proofs.Lookups.{Arrives}
-use Rattle.look_invariant.proofs.Findings.{own_is, way_gone, gone_with}
+use Rattle.kept_facts.proofs.Carries.{own_kept}
+use Rattle.count_invariant.proofs.Lookups.{Arrives}
+use Rattle.count_invariant.proofs.Findings.{own_is, way_gone, gone_with}
 use Rattle.work_invariant.proofs.ByCall.{one_left, first_same, look_state, look_begins, look_answers}
 use Rattle.step_ways.proofs.Loads.{OnlyLooks, step_to, core_is, loads_on, decides_on}
 use Rattle.step_ways.proofs.Refusals.{GoodTook, not_spent}

@@ -85,14 +85,14 @@ use Rattle.call_stages.specs.Steps.{landed, found_more, next_by as what_next, na
 use Rattle.act_fits.proofs.DuesFit.{cap_one}
 use Rattle.call_stages.specs.View.{Core}
 use Rattle.core_invariant.specs.Invariant.{holds_at, holds_in, Invariant}
-use Rattle.kept_knowledge.proofs.Carries.{names_on, read_before_on}
+use Rattle.kept_facts.proofs.Carries.{names_on, read_before_on}
 use Rattle.step_ways.proofs.Loads.{OnlyLooks, next_at, call_is, is_active, loads_on}
 use Rattle.core_invariant.proofs.Sounds.{limits_of}
 use Rattle.step_ways.proofs.Refusals.{GoodTook, refuses_empty, refuses_wrong, refuses_occupied}
-use Rattle.look_invariant.proofs.Lookups.{Shows, ShowsHeld, Arrives, under_step, in_root_step}
-use Rattle.look_invariant.proofs.Findings.{own_is, reaches_none, reaches_held, reaches_other, use_held, use_free, use_removed_at, named_of}
-use Rattle.look_invariant.proofs.Findings.{named_no_slot, named_empty, named_wrong, found_named, arriving, reached_now, found_now}
-use Rattle.look_invariant.proofs.Next.{MayUse, Rest, ANameLeft, NoneLeft, rest_of, next_name, next_end}
+use Rattle.count_invariant.proofs.Lookups.{Shows, ShowsHeld, Arrives, under_step, in_root_step}
+use Rattle.count_invariant.proofs.Findings.{own_is, reaches_none, reaches_held, reaches_other, use_held, use_free, use_removed_at, named_of}
+use Rattle.count_invariant.proofs.Findings.{named_no_slot, named_empty, named_wrong, found_named, arriving, reached_now, found_now}
+use Rattle.count_invariant.proofs.Next.{MayUse, Rest, ANameLeft, NoneLeft, rest_of, next_name, next_end}
 use Rattle.work_invariant.proofs.ByCall.{none_after, vacant_no_slot, vacant_occupied, held_no_slot, held_empty, make_target}
 use Rattle.work_invariant.proofs.ByCall.{BeginsRemoval, begins_removal, free_somewhere, held_somewhere, own_somewhere}
 use Rattle.work_invariant.proofs.AtTarget.{Begins, begins_free, range_within}

@@ -7,3 +7,4 @@ pub mod ScanStarts
 pub mod NextLooks
 pub mod ByPlan
 pub mod Work
+pub mod Stages

@@ -49,8 +49,8 @@ use Rattle.call_stages.specs.View.{Core}
 use Rattle.core_invariant.specs.Invariant.{holds_in, Invariant}
 use Rattle.step_ways.proofs.Loads.{OnlyLooks, core_is, call_is, is_active, loads_on, decides_on, step_to}
 use Rattle.step_ways.proofs.Refusals.{GoodTook, not_spent}
-use Rattle.look_invariant.proofs.Findings.{own_is, past_slot, past_unreached, named_no_slot}
-use Rattle.look_invariant.proofs.Next.{MayUse, spot_relies, Rest, ANameLeft, NoneLeft, rest_of, next_name, next_end}
+use Rattle.count_invariant.proofs.Findings.{own_is, past_slot, past_unreached, named_no_slot}
+use Rattle.count_invariant.proofs.Next.{MayUse, spot_relies, Rest, ANameLeft, NoneLeft, rest_of, next_name, next_end}
 use Rattle.work_invariant.proofs.ByCall.{vacant_no_slot, held_no_slot, past_entry, past_entry_unreached, own_unnamed}
 use Rattle.work_invariant.proofs.Reading.{reads_comp}
 

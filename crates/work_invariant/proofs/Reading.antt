@@ -42,13 +42,13 @@ use Rattle.core_invariant.specs.Holding.{settled_by}
 use Rattle.core_invariant.specs.Words.{IsFrameWord, count_room}
 use Rattle.core_invariant.specs.Knows.{HasComp, LooksFor, ReadIs, ReadBefore, KnowsUndecided, phase_at}
 use Rattle.core_invariant.specs.Invariant.{holds_at, held_by, Invariant}
-use Rattle.kept_knowledge.proofs.Carries.{names_on, looks_on}
+use Rattle.kept_facts.proofs.Carries.{names_on, looks_on}
 use Rattle.step_ways.proofs.Loads.{OnlyLooks, step_to, call_is, is_active, reads_on}
 use Rattle.step_ways.proofs.Refusals.{GoodTook}
 use Rattle.live_invariant.proofs.KillStarts.{comp_named}
 use Rattle.live_invariant.proofs.Numbers.{comp_is}
 use Rattle.count_invariant.proofs.Acquiring.{plan_leads}
-use Rattle.lent_words.proofs.Lent.{may_keep, unlent_value}
+use Rattle.kept_facts.proofs.Lent.{may_keep, unlent_value}
 
 -- It is a component, which no other core may retype.
 pub reads_comp : (setup : Setting) → IsSetting setup → (t : Trace) → IsLegal setup t → (c : ℕ) (call : Call) → phase t c ≡ Open call

@@ -21,7 +21,7 @@ use Rattle.call_stages.specs.View.{Core}
 use Rattle.core_invariant.specs.Knows.{HasFlushed, IsScanned}
 use Rattle.core_invariant.specs.Invariant.{Invariant}
 use Rattle.step_ways.proofs.Loads.{step_to, is_active}
-use Rattle.look_invariant.proofs.Lookups.{Arrives}
+use Rattle.count_invariant.proofs.Lookups.{Arrives}
 use Rattle.place_invariant.proofs.Paging.{paging_by}
 use Rattle.scan_invariant.proofs.Scans.{ShowsSince, since_is}
 use Rattle.place_invariant.proofs.Vacancy.{unpaged_flushed}

@@ -15,7 +15,7 @@ use Rattle.kernel_invariant.proofs.Sums as sums
 use Rattle.kernel_invariant.proofs.Refs.{place_refs, grace_refs}
 use Rattle.kernel_history.specs.Counts.{counters, count_in, count_sum}
 use Rattle.core_invariant.specs.CountWords.{stamp_in, newest_of}
-use Rattle.kept_words.proofs.Calm.{IsCalm, calm_counted}
+use Rattle.kept_facts.proofs.Calm.{IsCalm, calm_counted}
 
 -- The word of a core's counter is one of a frame's count words, and occurs once among them.
 pub counter_once : (n core : ℕ) → core < n → times (counter_of core) (counters n) ≡ 1

@@ -109,10 +109,10 @@ use Rattle.act_states.specs.declared.switches.SwitchAt.{SwitchAt}
 use Rattle.act_states.specs.declared.switches.SwitchAt.TheVariants as switch_at
 use Rattle.core_invariant.specs.Threads.{HasThread, IsTop, HasTable, HasRoots, KnowsSwitchAt, claimed_by, is_claimed}
 use Rattle.core_invariant.specs.Sweeps.{IsQuiet, IsSwept, KnowsSweepScan, KnowsSweepAt, KnowsUntypingAt}
-use Rattle.kept_knowledge.proofs.Swept.{LeavesFrame, looked_on}
-pub use Rattle.kept_knowledge.proofs.KeptReads.{stores_in, stores_of, freezes, looks_at, freezes_at, looks_in}
-pub use Rattle.kept_knowledge.proofs.KeptReads.{reads_counts, looked_in, looked_of, claimed_in, claimed_of, KeepsThreads}
-pub use Rattle.kept_knowledge.proofs.KeptReads.{KeepsUsers, PairsStay, start_pairs, due_pairs, quiet_starts, ReadsSame}
+use Rattle.kept_facts.proofs.Swept.{LeavesFrame, looked_on}
+pub use Rattle.kept_facts.proofs.KeptReads.{stores_in, stores_of, freezes, looks_at, freezes_at, looks_in}
+pub use Rattle.kept_facts.proofs.KeptReads.{reads_counts, looked_in, looked_of, claimed_in, claimed_of, KeepsThreads}
+pub use Rattle.kept_facts.proofs.KeptReads.{KeepsUsers, PairsStay, start_pairs, due_pairs, quiet_starts, ReadsSame}
 
 -- The words on which a call has stepped, after a step of it.
 pub own_kept : (t : Trace) (e : Step) (c : ℕ) → c ≡ e.core → e.enters ≡ None → (w : Word) → IsSome (own_left t c w)

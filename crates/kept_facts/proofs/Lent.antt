@@ -37,7 +37,7 @@ use Rattle.core_invariant.specs.Invariant.{holds, holds_in, held_by, IsLent, IsO
 use Rattle.core_invariant.proofs.ActBares.{open_bare}
 use Rattle.core_invariant.proofs.Bare.{AsBefore, IsNotKept, none_kept, own_kept, core_bare}
 use Rattle.core_invariant.proofs.Markers.{marker_inside}
-use Rattle.lent_words.proofs.Tcaps.{TcapOf, is_tcap, tcap_of, tcap_stays}
+use Rattle.kept_facts.proofs.Tcaps.{TcapOf, is_tcap, tcap_of, tcap_stays}
 
 none_some : (v : ℕ) → None ≡ Some v → ⊥
 none_some v h = cc

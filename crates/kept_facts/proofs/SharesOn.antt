@@ -21,8 +21,8 @@ use Rattle.stage_tcap.specs.declared.pair.PairAt.{PairAt}
 use Rattle.stage_tcap.specs.declared.pair.PairAt.TheVariants.{LoadA, MarkA, ListA, LoadB, ListB, CompareB}
 use Rattle.stage_tcap.specs.declared.pair.PairAt.TheVariants.{AgainB, StoreList, StoreB, StoreA}
 use Rattle.core_invariant.specs.Shares.{SparesTcap, HasTcap, KnowsShare, StoresA, StoresB, KnowsStoresAt, KnowsShared}
-use Rattle.lent_words.proofs.Pairs.{tcap_mark, kept_all, left_same, pair_other, stores_on_a}
-use Rattle.lent_words.proofs.Tcaps.{TcapOf, tcap_of, tcap_stays}
+use Rattle.kept_facts.proofs.Pairs.{tcap_mark, kept_all, left_same, pair_other, stores_on_a}
+use Rattle.kept_facts.proofs.Tcaps.{TcapOf, tcap_of, tcap_stays}
 
 -- What core c knows of them stays known, while its call is undecided and after.
 pub record SharesStay (setup : Setting) (t : Trace) (e : Step) (c : ℕ) : Type 0 where

@@ -24,7 +24,7 @@ use Rattle.act_states.specs.declared.own.Own.{Own}
 use Rattle.core_invariant.specs.Words.{count_room}
 use Rattle.core_invariant.specs.Knows.{WorksIn}
 use Rattle.core_invariant.specs.Invariant.{times_of, counted_in}
-use Rattle.kept_words.proofs.WordFrames.{SameFor}
+use Rattle.kept_facts.proofs.WordFrames.{SameFor}
 
 -- A core that is or is not inside, and has counted so many calls; all else of it stays.
 abbrev pub counts : CoreFields → Bool → ℕ → CoreFields

@@ -11,8 +11,8 @@ use Rattle.kernel_history.specs.Trace.{Step, Trace, state_after}
 use Rattle.core_invariant.specs.Holding.{Holding, settled}
 use Rattle.core_invariant.specs.CountWords.{stamp_in, newest_of}
 use Rattle.core_invariant.specs.Invariant.{count_shown, SumIs}
-use Rattle.kept_words.proofs.Calm.{IsCalm, IsUntimed, plain_stamp}
-use Rattle.kept_words.proofs.CountSums.{sum_same, newest_same, calm_refs}
+use Rattle.kept_facts.proofs.Calm.{IsCalm, IsUntimed, plain_stamp}
+use Rattle.kept_facts.proofs.CountSums.{sum_same, newest_same, calm_refs}
 
 module _ (setup : Setting) (t : Trace) (e : Step) (held held' : ℕ → Holding)
     (same : (f d : ℕ) → settled setup held' (e ∷ t) (CountAt f d) ≡ settled setup held t (CountAt f d)) where

@@ -108,7 +108,7 @@ use Rattle.act_states.specs.declared.switches.SwitchAt.{SwitchAt}
 use Rattle.act_states.specs.declared.switches.SwitchAt.TheVariants as switch_at
 use Rattle.core_invariant.specs.Threads.{HasThread, IsTop, HasTable, HasRoots, KnowsSwitchAt, claimed_by, is_claimed}
 use Rattle.core_invariant.specs.Sweeps.{IsQuiet, IsSwept, KnowsSweepScan, KnowsSweepAt, KnowsUntypingAt}
-use Rattle.kept_knowledge.proofs.Swept.{LeavesFrame, looked_on}
+use Rattle.kept_facts.proofs.Swept.{LeavesFrame, looked_on}
 
 -- The frame whose words an act has stored.
 abbrev pub stores_in : ActOf → ℕ → Bool

@@ -21,10 +21,10 @@ use Rattle.kernel_history.specs.Ways.{root_passed, way_to}
 use Rattle.kernel_history.specs.Justified.{HasReached}
 use Rattle.kernel_history.proofs.Steps.{own_left-here}
 use Rattle.core_invariant.specs.Knows.{IsReached, HasFound, own_in}
-use Rattle.kept_knowledge.proofs.Carries.{own_kept}
+use Rattle.kept_facts.proofs.Carries.{own_kept}
 use Rattle.step_ways.proofs.Loads.{step_to}
 use Rattle.step_ways.proofs.Refusals.{NobodyWaits}
-use Rattle.look_invariant.proofs.Lookups.{Arrives, use_removed}
+use Rattle.count_invariant.proofs.Lookups.{Arrives, use_removed}
 
 -- the target of an own name
 pub own_is : (s : State) (c table n : ℕ) → table ≡ (comp_of s c).table → own_in table n ≡ own s c n
