@@ -1,28 +1,24 @@
 -- What the head of a temporal capability shows that a core has marked in a call that is decided: the mark, and the budget but for the ticks
 -- that the call has still to store there.
-use Rattle.std.proofs.Common.{◌≡◌, ◌⊎◌, inl, inr, ℕ, ◌+◌, ◌<◌, ◌^◌, Bool, true, false, if◌then◌else◌}
-use Rattle.std.proofs.Common.{List, [], ◌∷◌, Option, Some, None, IsTrue, arith, refl, sym, ◌∙◌, ap, subst}
+use Rattle.std.proofs.Common.{◌≡◌, inl, inr, ℕ, ◌<◌, true, false, if◌then◌else◌}
+use Rattle.std.proofs.Common.{Option, Some, None, IsTrue, arith, refl, sym, ◌∙◌, ap, subst}
 use Rattle.std.proofs.lemmas.Bool.{false≢true}
 use Rattle.word_map.proofs.WordLemmas.{same_same}
 use Rattle.spk_nums.specs.Setting.{Setting, IsSetting}
-use Rattle.spk_nums.specs.declared.kinds.Kind.TheVariants as kind
 use Rattle.spk_nums.specs.declared.calls.Call.{Call}
 use Rattle.spk_nums.specs.declared.replies.Reply.{Reply}
 use Rattle.tcap_words.specs.Head.{HeadFits, word_of_head, head_of_word}
 use Rattle.tcap_words.specs.declared.head_word.HeadWord.{HeadWord}
 use Rattle.tcap_words.proofs.HeadLemmas.{spelling}
-use Rattle.word_map.specs.Word.{Word, EntryAt, FrameAt}
-use Rattle.kernel_rules.specs.State.{Frame, Kernel, Table, Leaf, Pages, Pleaf, Thread, Tcap, TcapFields, State}
-use Rattle.kernel_rules.specs.Fitting.{fits}
-use Rattle.kernel_rules.specs.Relies.{is_node}
+use Rattle.word_map.specs.Word.{EntryAt, FrameAt}
+use Rattle.kernel_rules.specs.State.{State}
 use Rattle.kernel_history.specs.Discipline.{changes_budgets}
-use Rattle.kernel_history.specs.Marking.{marked_by}
-use Rattle.kernel_history.specs.Trace.{Trace, Phase, phase, state_after, last_left}
+use Rattle.kernel_history.specs.Trace.{Trace, phase, state_after, last_left}
 use Rattle.kernel_history.specs.Trace as history
 use Rattle.kernel_history.proofs.Names.{cases_word, same_word-other}
 use Rattle.stage_quiet.specs.declared.close.Close.TheVariants.{AtCompare, AtDraw, AtStore}
 use Rattle.stage_tcap.specs.Heads.{marked, debited, credited}
-use Rattle.stage_tcap.specs.Pairs.{amount_of, left_a}
+use Rattle.stage_tcap.specs.Pairs.{amount_of}
 use Rattle.stage_tcap.specs.declared.pair.Pair.{Pair}
 use Rattle.stage_tcap.specs.declared.pair.PairAt.{PairAt}
 use Rattle.stage_tcap.specs.declared.pair.PairAt.TheVariants as pair
@@ -47,8 +43,8 @@ use Rattle.kept_facts.proofs.Tcaps.{is_tcap}
 use Rattle.pair_invariant.proofs.ShareSteps.{marked_says}
 use Rattle.thread_invariant.proofs.EntryMarks.{counts_apart, holder_below}
 use Rattle.thread_invariant.proofs.OwnStack.{own_thread}
-use Rattle.flight.specs.Made.{IsMade, cores_after}
-use Rattle.flight_laws.specs.Time.{ShowsMarked, Owes, ShowsOwed, state_of_decision, MarkedHeadsSay}
+use Rattle.flight.specs.Made.{cores_after}
+use Rattle.flight_laws.specs.Time.{Owes, state_of_decision, MarkedHeadsSay}
 use Rattle.flight.proofs.Made.{made_stands}
 use Rattle.flight_laws.proofs.MarkedHeads.{node_no_tcap, thread_no_tcap, same_frame}
 use Rattle.flight_laws.proofs.ShareTails.{OwesFirst, OwesAt, OwesTail, OwesStage, OwesIn}
@@ -148,7 +144,7 @@ module _ (setup : Setting) (setting : IsSetting setup) (cores : ℕ → Core) (t
   shared r call p (pair.ListB n) h has core owes free = absurd has
   shared r call p pair.CompareB h has core owes free = absurd has
   shared r call p (pair.AgainB x) h has core owes free = absurd has
-  shared r call p (pair.StoreList n) h has core owes free is =
+  shared r call p (pair.StoreList n) h has core owes free = λ is.
       let told = both r call p h has.2 core owes free is in
       record {
         head = told.head;

@@ -1,16 +1,13 @@
 -- What the heads owe that a decided call on two temporal capabilities has marked, along a trace that is the machine's: its deciding step
 -- tells it, and each store after it leaves it so.
-use Rattle.std.proofs.Common.{◌≡◌, ◌≢◌, inl, inr, ℕ, zero, suc, ◌+◌, ◌-◌, ◌<◌, ◌≤◌, ◌^◌, ◌==◌, ◌&&◌, nat_lt, Bool, true, false}
+use Rattle.std.proofs.Common.{◌≡◌, ◌≢◌, inl, inr, ℕ, ◌+◌, ◌-◌, ◌<◌, ◌≤◌, ◌^◌, ◌==◌, ◌&&◌, nat_lt, Bool, true, false}
 use Rattle.std.proofs.Common.{if◌then◌else◌, List, [], ◌∷◌, length, Option, Some, None, arith, refl, sym, ◌∙◌, ap, subst}
-use Rattle.std.specs.Prelude.{min, is_some, IsSome}
+use Rattle.std.specs.Prelude.{is_some, IsSome}
 use Rattle.std.proofs.lemmas.Bool.{false≢true, cases_eq, eq-eqb, ne_eqb}
 use Rattle.spk_nums.specs.Setting.{Setting, IsSetting}
 use Rattle.spk_nums.specs.Capability.{Capability}
 use Rattle.spk_nums.specs.declared.calls.Call.{Call}
 use Rattle.spk_nums.specs.declared.calls.Call.TheVariants as call_as
-use Rattle.spk_nums.specs.declared.kinds.Kind.TheVariants as kind
-use Rattle.spk_nums.specs.declared.kinds.FrameKind.TheVariants.{Untyped}
-use Rattle.spk_nums.specs.declared.calls.Make.TheVariants as make
 use Rattle.spk_nums.specs.declared.replies.Reply.{Reply}
 use Rattle.spk_nums.specs.declared.replies.Reply.TheVariants as reply
 use Rattle.spk_nums.specs.declared.replies.Value.{Value}
@@ -23,32 +20,24 @@ use Rattle.tcap_words.specs.declared.head_word.HeadWord.{HeadWord}
 use Rattle.tcap_words.specs.declared.quality_word.QualityWord.{QualityWord}
 use Rattle.word_map.specs.Word.{EntryAt}
 use Rattle.word_map.specs.Moves.{Move, word_of, told_of}
-use Rattle.kernel_rules.specs.Access.{only}
-use Rattle.kernel_rules.specs.Rules.{Found, named}
-use Rattle.kernel_rules.specs.State.{State, TcapFields}
+use Rattle.kernel_rules.specs.State.{State}
 use Rattle.kernel_rules.proofs.Within.{put_same, put_other}
 use Rattle.kernel_history.specs.Discipline.{changes_budgets}
 use Rattle.kernel_history.specs.Trace.{Step, Trace, state_after, state_entered, state_before, last_left}
 use Rattle.stage_pins.specs.declared.pin.Pin.{Pin}
 use Rattle.stage_pins.specs.declared.pin.Pinned.{Pinned}
 use Rattle.stage_pins.specs.Acquire.{pin_after, pin_end}
-use Rattle.stage_look.specs.Shown.{shown_in}
-use Rattle.stage_look.specs.Lookup.{look_end, look_after}
-use Rattle.frame_words.specs.Comp.{comp_of_word}
 use Rattle.stage_quiet.specs.Scan.{quiet_after, quiet_end}
 use Rattle.stage_quiet.specs.declared.close.Close.TheVariants.{AtCompare, AtDraw, AtStore}
-use Rattle.stage_tcap.specs.Charging.{end_by_mark, head_end, charge_end, charge_after}
-use Rattle.stage_tcap.specs.Heads.{debited, credited}
+use Rattle.stage_tcap.specs.Charging.{end_by_mark, head_end}
 use Rattle.stage_tcap.specs.Lists.{in_order, same_list}
-use Rattle.stage_tcap.specs.Pairs.{amount_of, noted_by, pair_after, pair_end, pair_move, judged, by_alike, by_room}
+use Rattle.stage_tcap.specs.Pairs.{amount_of, noted_by, pair_after, pair_move, judged, by_alike, by_room}
 use Rattle.stage_tcap.specs.Pairs.{at_decided, compared_after, giving_back, at_by_mark, at_by_head, at_marked, at_read}
 use Rattle.stage_tcap.specs.Pairs.{b_next, a_next, marked_end, decided_by_mark, b_end, list_end, again_end, again_value}
 use Rattle.stage_tcap.specs.declared.pair.Pair.{Pair}
 use Rattle.stage_tcap.specs.declared.pair.PairAt.{PairAt}
 use Rattle.stage_tcap.specs.declared.pair.PairAt.TheVariants.{LoadA, MarkA, ListA, LoadB, ListB, CompareB}
 use Rattle.stage_tcap.specs.declared.pair.PairAt.TheVariants.{AgainB, StoreList, StoreB, StoreA}
-use Rattle.stage_tcap.specs.declared.pair.PairWork.{PairWork}
-use Rattle.stage_tcap.specs.declared.pair.PairWork.TheVariants as share
 use Rattle.stage_tcap.specs.declared.charge.Charge.{Charge}
 use Rattle.call_plans.specs.declared.plans.Plan.{Plan}
 use Rattle.call_plans.specs.After.{Leads, LeadsIn}
@@ -67,25 +56,22 @@ use Rattle.act_states.specs.declared.work.Act.TheVariants.{Make as make_act, Out
 use Rattle.act_states.specs.declared.work.Act.TheVariants.{Flush as flush_act, Kill as kill_act, Untype as untype_act}
 use Rattle.act_states.specs.declared.work.Act.TheVariants.{Map as map_act, MakeComp as comp_act, Invoke as invoke_act}
 use Rattle.act_states.specs.declared.work.Act.TheVariants.{Return as return_act, Share as share_act, Switch as switch_act}
-use Rattle.act_states.specs.declared.work.Tail.{Tail}
-use Rattle.act_states.specs.declared.work.Tail.TheVariants.{Share as share_tail}
 use Rattle.act_states.specs.declared.work.Work.{Work}
 use Rattle.act_states.specs.declared.work.Work.TheVariants.{Lookup, Read, Scan, Acquire, Act}
 use Rattle.act_states.specs.declared.work.WorkStep.{WorkStep}
 use Rattle.act_states.specs.Acts.{took_act, put_by, removes_by, undo}
 use Rattle.act_states.specs.Refusals.{reply_of, refusal_of}
 use Rattle.act_states.specs.Shares.{shared, took_shared, took_share, is_carried}
-use Rattle.act_states.specs.Ticks.{took_charge, took_tick, ticks_of}
+use Rattle.act_states.specs.Ticks.{took_charge, ticks_of}
 use Rattle.call_stages.specs.declared.stages.Stage.{Stage}
 use Rattle.call_stages.specs.declared.stages.Stage.TheVariants.{Enter, Undecided, Decided, Leave}
 use Rattle.call_stages.specs.declared.stages.ActiveCall.{ActiveCall}
 use Rattle.call_stages.specs.Cores.{move_of, told_in, told_by, absorbed_in, fresh, core_after as after_took}
 use Rattle.call_stages.specs.Steps.{stage_move, Took, GoesOn, Decides, Returns, Changes, landed, took}
-use Rattle.call_stages.specs.Steps.{took_at, took_count, took_scan, took_look, took_read, is_spent}
-use Rattle.call_stages.specs.Tails.{took_tail, tail_counts}
+use Rattle.call_stages.specs.Steps.{took_at, took_count, took_scan, is_spent}
 use Rattle.call_stages.specs.View.{Core}
 use Rattle.core_invariant.specs.Events.{decided_in}
-use Rattle.core_invariant.specs.Knows.{KnowsAct, KnowsUndecided, KnowsAt, Knows, CallIs, TypesBy}
+use Rattle.core_invariant.specs.Knows.{KnowsAct, KnowsUndecided, KnowsAt, CallIs, TypesBy}
 use Rattle.core_invariant.specs.Knows.{MakesBy, OutsideBy, KillsBy, MakesCompBy, is_mapping}
 use Rattle.core_invariant.specs.Components.{InvokesBy}
 use Rattle.core_invariant.specs.Sweeps.{UntypesBy}
@@ -98,7 +84,7 @@ use Rattle.pair_invariant.proofs.ShareCalls as calls
 use Rattle.pair_invariant.proofs.ShareSteps.{shares_same}
 use Rattle.flight.specs.Made.{turned, MayStep, core_after, cores_after, stepping_core, IsMadeStep, IsMade}
 use Rattle.flight.specs.Theorems.{found_by}
-use Rattle.flight_laws.specs.Time.{LeadsTo, Owes, state_of_decision}
+use Rattle.flight_laws.specs.Time.{Owes, state_of_decision}
 use Rattle.flight.proofs.Made.{made_stands, finds}
 use Rattle.flight_laws.proofs.ShareTails.{OwesAt, OwesStage, OwesIn, OwesTook, StoresNone, LeavesNone}
 use Rattle.flight_laws.proofs.ShareTails.{tail_on, landed_none, enter_none, end_none, reading_none, scan_none}
@@ -381,18 +367,30 @@ module _ (setup : Setting) (setting : IsSetting setup) (cores : ℕ → Core) (t
   WorkOwes work = OwesTook s before c
       (took_at (cores c).own a (Undecided work) (ToldBy (stage_move (cores c).own a.counts (Undecided work))))
 
+  -- what it finds
+  abbrev FoundAt : Work → ℕ
+  FoundAt work = ToldBy (stage_move (cores c).own a.counts (Undecided work))
+
   act_owes : (act : ActOf) → a.stage ≡ Undecided (Act act) → KnowsUndecided setup t c (cores c).own.table a (Act act) → WorkOwes (Act act)
   act_owes (share_act p) is has = share_owes p is has
-  act_owes (tick_act charge) is has = landed_none s before c a _ (λ budgets. tick_none (ticks_of charge) _ _)
-  act_owes act is has = landed_none s before c a _ (λ budgets. absurd
-      (budget_acts setup t c a.call a.plan a.found setup.cores budgets act has.knows.knows))
+  act_owes (tick_act charge) is has =
+      landed_none s before c a (took_act (cores c).own.layout (tick_act charge) (FoundAt (Act (tick_act charge))))
+      (λ budgets. tick_none (ticks_of charge) _ _)
+  act_owes act is has =
+      landed_none s before c a (took_act (cores c).own.layout act (FoundAt (Act act)))
+      (λ budgets. absurd (budget_acts setup t c a.call a.plan a.found setup.cores budgets act has.knows.knows))
 
   work_owes : (work : Work) → a.stage ≡ Undecided work → KnowsUndecided setup t c (cores c).own.table a work → WorkOwes work
   work_owes (Lookup look) is has = end_none s before c (cores c).own a _ _
   work_owes (Read comp look) is has = reading_none s before c a look _
-  work_owes (Scan q act) is has = landed_none s before c a _ (λ budgets. scan_none (cores c).own.core act _ _)
+  work_owes (Scan q act) is has =
+      landed_none s before c a (took_scan (cores c).own.core act (quiet_after (cores c).own.layout.cores q (FoundAt (Scan q act)))
+      (quiet_end (cores c).own.layout.cores q (FoundAt (Scan q act))))
+      (λ budgets. scan_none (cores c).own.core act _ _)
   work_owes (Acquire pin change act) is has =
-      landed_none s before c a _ (λ budgets. count_none (cores c).own.core (length a.counts) change act _ _
+      landed_none s before c a (took_count (cores c).own.core (length a.counts) change act
+      (pin_after pin (FoundAt (Acquire pin change act))) (pin_end pin (FoundAt (Acquire pin change act))))
+      (λ budgets. count_none (cores c).own.core (length a.counts) change act _ _
       (budget_acts setup t c a.call a.plan a.found setup.cores budgets act has.knows.knows))
   work_owes (Act act) is has = act_owes act is has
 
@@ -458,7 +456,8 @@ module _ (setup : Setting) (setting : IsSetting setup) (t : Trace) (e : Step) (m
       call_owes setup setting cores t (made_stands setup setting t made) e.core step.is_core before may owes
   own_owes (Some call) may =
       after_owes (state_entered (Some call) (state_after setup t) e.core) before e.core (cores e.core).own
-      (took (cores e.core).own (fresh call) _)
+      (took (cores e.core).own (fresh call)
+      (told_of (move_of (turned (Some call) (cores e.core))) (found_by setup t (turned (Some call) (cores e.core)))))
       (enter_none (state_entered (Some call) (state_after setup t) e.core) before e.core (is_spent (cores e.core).own) (cores e.core).own
       (fresh call))
 

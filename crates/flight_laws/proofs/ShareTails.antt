@@ -1,6 +1,6 @@
 -- What a decided call on two temporal capabilities has still to store: what each head that it has marked owes. And which steps of a call
 -- lead to it: those of its act alone.
-use Rattle.std.proofs.Common.{◌≡◌, ℕ, ◌+◌, ◌-◌, ◌==◌, nat_lt, nat_le, Bool, true, false, List, [], ◌∷◌, Option, Some, None, refl}
+use Rattle.std.proofs.Common.{◌≡◌, ℕ, ◌-◌, ◌==◌, nat_lt, nat_le, Bool, true, false, List, [], ◌∷◌, Option, Some, None}
 use Rattle.std.proofs.lemmas.Bool.{false≢true}
 use Rattle.spk_nums.specs.Capability.{Capability}
 use Rattle.spk_nums.specs.declared.calls.Call.{Call}
@@ -43,7 +43,6 @@ use Rattle.act_states.specs.declared.work.Act.TheVariants.{Outside}
 use Rattle.act_states.specs.declared.work.Tail.{Tail}
 use Rattle.act_states.specs.declared.work.Tail.TheVariants.{Nothing, Quiesce, Unmark, StoreDead, StoreFlush, Release}
 use Rattle.act_states.specs.declared.work.Tail.TheVariants.{StoreLive, Push, Pop, Share, StoreRunning, StoreIdle}
-use Rattle.act_states.specs.declared.work.Work.{Work}
 use Rattle.act_states.specs.declared.work.Work.TheVariants.{Lookup, Read, Scan, Acquire, Act}
 use Rattle.act_states.specs.declared.work.WorkStep.{WorkStep}
 use Rattle.act_states.specs.declared.work.WorkStep.TheVariants.{Goes, Acquires, Refuses, Answers, Changes as work_changes}
@@ -51,11 +50,11 @@ use Rattle.act_states.specs.Acts.{act_begun, reads_of, starts}
 use Rattle.act_states.specs.Lookups.{looks_under, looks_entry, looks_at, read_first, next_step, met_name, met_free, met_held}
 use Rattle.act_states.specs.Refusals.{reply_of, refusal_of}
 use Rattle.act_states.specs.Shares.{shares_if, shares_at, after_share}
-use Rattle.act_states.specs.Touches.{touches_if, touches}
+use Rattle.act_states.specs.Touches.{touches_if}
 use Rattle.act_states.specs.Untypings.{after_store, release_after}
 use Rattle.act_states.specs.WorkSteps.{refuse}
 use Rattle.call_stages.specs.declared.stages.Stage.{Stage}
-use Rattle.call_stages.specs.declared.stages.Stage.TheVariants.{Enter, Undecided, Decided, Leave}
+use Rattle.call_stages.specs.declared.stages.Stage.TheVariants.{Decided}
 use Rattle.call_stages.specs.declared.stages.ActiveCall.{ActiveCall}
 use Rattle.call_stages.specs.Steps.{Took, GoesOn, Decides, Returns, Changes, landed, next_by, found_more}
 use Rattle.call_stages.specs.Steps.{read_more, took_enter, named_one, took_found, took_end, took_read, took_scan}
