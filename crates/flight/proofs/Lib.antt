@@ -10,5 +10,5 @@ pub mod Advance
 pub mod Final
 pub mod Alike
 pub mod Made
--- Laws of the machine's traces.
+-- The phases of calls.
 pub mod Phases
