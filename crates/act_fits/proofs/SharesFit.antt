@@ -14,7 +14,7 @@ use Rattle.tcap_words.specs.declared.quality_word.QualityWord.{QualityWord}
 use Rattle.word_map.specs.Places.{Shape}
 use Rattle.stage_tcap.specs.Charging.{end_by_mark, head_end}
 use Rattle.stage_tcap.specs.Lists.{in_order, same_list}
-use Rattle.stage_tcap.specs.Pairs.{EntryFits, AtFits, PairFits, amount_of, by_alike, by_room, judged, giving_back, at_by_mark}
+use Rattle.stage_tcap.specs.Pairs.{AtFits, PairFits, amount_of, by_alike, by_room, judged, giving_back, at_by_mark}
 use Rattle.stage_tcap.specs.Pairs.{at_by_head, at_marked, at_read, a_next, b_next, store_next, at_decided, compared_after}
 use Rattle.stage_tcap.specs.Pairs.{again_value, marked_end, decided_by_mark, b_end, list_end, again_end, noted_by, pair_after}
 use Rattle.stage_tcap.specs.declared.pair.Pair.{Pair}
@@ -28,7 +28,6 @@ use Rattle.act_states.specs.declared.refusals.Refusal.{Refusal}
 use Rattle.act_states.specs.declared.refusals.Refusal.TheVariants as refusal
 use Rattle.act_states.specs.declared.own.Own.{Own}
 use Rattle.act_states.specs.declared.work.Act.TheVariants.{Share as share_act}
-use Rattle.act_states.specs.declared.work.Tail.{Tail}
 use Rattle.act_states.specs.declared.work.Tail.TheVariants.{Share as share_tail}
 use Rattle.act_states.specs.declared.work.Work.TheVariants.{Act}
 use Rattle.act_states.specs.declared.work.WorkStep.TheVariants.{Goes, Refuses, Answers}

@@ -1,22 +1,21 @@
 -- Where the steps of a switch lead to fits their machine, and leaves fewer steps.
-use Rattle.std.proofs.Common.{◌≡◌, ℕ, ◌+◌, ◌*◌, ◌-◌, ◌==◌, ◌<◌, ◌≤◌, nat_lt, if◌then◌else◌, Bool, true}
-use Rattle.std.proofs.Common.{false, length, Option, Some, None, refl, sym, ap, subst, arith, slice_get}
+use Rattle.std.proofs.Common.{◌≡◌, ℕ, ◌+◌, ◌==◌, ◌<◌, ◌≤◌, nat_lt, Bool, true}
+use Rattle.std.proofs.Common.{false, length, Option, Some, None, refl, sym, subst, arith, slice_get}
 use Rattle.std.proofs.lemmas.Bool.{ltb-true}
 use Rattle.tcap_words.specs.Stack.{stack_of_word}
-use Rattle.tcap_words.specs.Thread.{DepthFits, word_of_thread, thread_of_word}
+use Rattle.tcap_words.specs.Thread.{word_of_thread, thread_of_word}
 use Rattle.tcap_words.specs.declared.stack_word.StackWord.{StackWord}
 use Rattle.tcap_words.specs.declared.thread_word.ThreadWord.{ThreadWord}
 use Rattle.tcap_words.specs.declared.thread_word.ThreadWord.TheVariants as thread
 use Rattle.tcap_words.proofs.ThreadLemmas as words
-use Rattle.stage_thread.specs.Claiming.{ClaimFits, ClaimedFits, claimed_at, claimed_within, top_end, stack_end}
-use Rattle.stage_thread.specs.Claiming.{thread_end, thread_after, claim_compared, compared_after, claim_after, claim_end}
-use Rattle.stage_thread.specs.declared.claim.Claim.{Claim as ClaimOf}
+use Rattle.stage_thread.specs.Claiming.{claimed_at, claimed_within, top_end, stack_end}
+use Rattle.stage_thread.specs.Claiming.{thread_end, thread_after, claim_compared, compared_after}
 use Rattle.stage_thread.specs.declared.claim.Claim.TheVariants.{AtLoad, AtCompare, AtStack}
 use Rattle.stage_thread.specs.declared.claim.Claimed.{Claimed}
 use Rattle.stage_quiet.specs.Clocks.{drawn_stamp}
 use Rattle.act_states.specs.Invocations.{frame_in}
-use Rattle.act_states.specs.Switches.{SwitchAtFits, SwitchingFits, switching_dues, switch_due_list, tcap_dues, switching_left, claim_left}
-use Rattle.act_states.specs.Switches.{claim_undo, gives_back, switching_undo, switch_goes, took_claim, switch_table, switched}
+use Rattle.act_states.specs.Switches.{SwitchAtFits, SwitchingFits, switching_dues, switching_left}
+use Rattle.act_states.specs.Switches.{switching_undo, switch_goes, took_claim, switch_table, switched}
 use Rattle.act_states.specs.Acts.{dues, next_work, switch_pages, took_switching_at}
 use Rattle.act_states.specs.declared.own.Own.{Own}
 use Rattle.act_states.specs.declared.refusals.Refusal.{Refusal}

@@ -3,9 +3,9 @@ use Rattle.std.proofs.lemmas.List.Elements.{All-nil, All-cons, All-tail, All-app
 use Rattle.frame_words.specs.Count.{word_of_count, count_of_word}
 use Rattle.stage_pins.specs.Counts.{unheld}
 use Rattle.stage_pins.proofs.PinLemmas.{after_fits}
-use Rattle.std.proofs.Common.{◌≡◌, ℕ, suc, ℤ, nat_lt, if◌then◌else◌, ◌+◌, ◌*◌, ◌-◌, ◌++◌, slice_get, ◌%◌}
+use Rattle.std.proofs.Common.{◌≡◌, ℕ, suc, ℤ, nat_lt, if◌then◌else◌, ◌+◌, ◌*◌, ◌-◌, ◌++◌, slice_get}
 use Rattle.std.proofs.Common.{◌<◌, ◌≤◌, Bool, true, false, ◌==◌, List, [], ◌∷◌, length, length-append}
-use Rattle.std.proofs.Common.{lt-ltb, Option, Some, None, IfSome, refl, sym, ◌∙◌, ap, subst, arith, negsuc}
+use Rattle.std.proofs.Common.{lt-ltb, Option, Some, None, refl, sym, ap, subst, arith, negsuc}
 use Rattle.std.proofs.lemmas.Bool.{leb-false, ltb-true}
 use Rattle.spk_nums.specs.declared.replies.Value.TheVariants.{Nothing as nothing, Amount}
 use Rattle.stage_quiet.specs.Clocks.{drawn_stamp, stamp_of_clock}
@@ -31,28 +31,13 @@ use Rattle.spk_nums.specs.declared.kinds.FrameKind.TheVariants.{Untyped}
 use Rattle.spk_nums.specs.Capability.{Capability}
 use Rattle.spk_nums.specs.declared.replies.Reply.{Reply}
 use Rattle.spk_nums.specs.declared.replies.Reply.TheVariants as reply
-use Rattle.entry_words.specs.declared.entry.Entry.{Entry}
-use Rattle.entry_words.specs.declared.entry.Entry.TheVariants as entry
 use Rattle.word_map.specs.Places.{Shape}
 use Rattle.kernel_rules.specs.Access.{found}
-use Rattle.stage_look.specs.Shown.{CapNames, EntryNames, shown_in, is_link}
-use Rattle.stage_look.specs.Lookup.{LookFits, end_by_link, place_end, after_link, FoundFits as PlaceFits}
+use Rattle.stage_look.specs.Shown.{CapNames, shown_in}
+use Rattle.stage_look.specs.Lookup.{LookFits}
 use Rattle.stage_look.specs.declared.look.Look.{Look}
-use Rattle.stage_look.specs.declared.look.Look.TheVariants.{AtRoot, AtLeaf, AtEntry}
-use Rattle.stage_look.proofs.LookLemmas.{shown_names, leaf_below}
-use Rattle.stage_look.specs.declared.look.Found.{Found}
-use Rattle.call_plans.specs.declared.plans.Nth.TheVariants.{First}
-use Rattle.call_plans.specs.declared.plans.Name.{Name}
-use Rattle.call_plans.specs.declared.plans.Target.{Target}
-use Rattle.call_plans.specs.declared.plans.Target.TheVariants.{Nowhere, Free, Held, Own as own_page}
-use Rattle.call_plans.specs.declared.plans.Plan.{Plan}
-use Rattle.call_plans.specs.Plans.{at_place, pushed}
-use Rattle.call_plans.specs.GoesBy.{wants}
-use Rattle.call_plans.specs.After.{with_found, names_after, next_in}
+use Rattle.stage_look.proofs.LookLemmas.{shown_names}
 use Rattle.call_plans.specs.Bounds.{look_steps, act_steps}
-use Rattle.call_plans.proofs.Roots.{count_led, after_more, pushed_one}
-use Rattle.call_plans.proofs.FewNames.{few_names}
-use Rattle.call_plans.proofs.AfterNames.{NextBy, one_more}
 use Rattle.act_states.specs.declared.refusals.Refusal.{Refusal}
 use Rattle.act_states.specs.declared.refusals.Refusal.TheVariants as refusal
 use Rattle.act_states.specs.declared.own.Own.{Own}
@@ -67,7 +52,6 @@ use Rattle.tcap_words.proofs.HeadLemmas.{spelling}
 use Rattle.std.specs.Prelude.{◌^◌, min}
 use Rattle.tcap_words.specs.Head.{word_of_head, head_of_word}
 use Rattle.tcap_words.specs.declared.head_word.HeadWord.{HeadWord}
-use Rattle.act_states.specs.declared.lookups.Met.TheVariants.{Finds, Refused}
 use Rattle.spk_nums.specs.declared.kinds.FrameKind.TheVariants as frame_kind
 use Rattle.frame_words.specs.Frame.{frame_of_word}
 use Rattle.frame_words.specs.declared.frame_word.FrameWord.{FrameWord}
@@ -85,11 +69,11 @@ use Rattle.act_states.specs.Makings.{MakingFits, making_left, undo_at}
 use Rattle.frame_words.specs.Comp.{comp_of_word}
 use Rattle.frame_words.specs.declared.comp_word.CompWord.{CompWord}
 use Rattle.call_stages.specs.Tails.{tail_left, took_tail, tail_counts}
-use Rattle.call_stages.specs.Fits.{TailFits, WorkFits, StageFits, IsWanted, FoundFits, HasRoom, CountsWait}
-use Rattle.call_stages.specs.Fits.{CountsAt, looks_later, after_reading, acts_later, names_left, steps_later}
+use Rattle.call_stages.specs.Fits.{TailFits, WorkFits, StageFits, HasRoom, CountsWait}
+use Rattle.call_stages.specs.Fits.{CountsAt, names_left, steps_later}
 use Rattle.call_stages.specs.Fits.{left_of_look, left_of_pin, work_left, left_at, left_of, IsActive, IsOwn}
-use Rattle.act_states.specs.Scans.{left_of_cores, ScanFits, left_of_scan}
-use Rattle.act_fits.proofs.StepsFit.{starts_fit, first_named, act_fits}
+use Rattle.act_states.specs.Scans.{ScanFits, left_of_scan}
+use Rattle.act_fits.proofs.StepsFit.{starts_fit}
 use Rattle.act_fits.proofs.DuesFit.{StepFits, few_dues, object_count, work_next, counts_next, ChangeFits}
 use Rattle.act_states.specs.declared.work.Act.{Act as ActType}
 use Rattle.act_states.specs.declared.work.Act.TheVariants.{Fill as fill_act, Remove as remove_act, Retype as type_act}
@@ -105,18 +89,16 @@ use Rattle.call_stages.specs.declared.stages.Stage.TheVariants.{Enter, Undecided
 use Rattle.call_stages.specs.declared.stages.ActiveCall.{ActiveCall}
 use Rattle.act_states.specs.declared.work.Work.{Work}
 use Rattle.act_states.specs.declared.work.Work.TheVariants.{Lookup, Read, Scan, Acquire, Act}
-use Rattle.act_states.specs.declared.work.WorkStep.{WorkStep}
 use Rattle.act_states.specs.declared.work.WorkStep.TheVariants.{Goes, Acquires, Refuses, Answers, Changes as work_changes}
 use Rattle.act_states.specs.Refusals.{refusal_of}
 use Rattle.act_states.specs.Fills.{filled_if}
 use Rattle.act_states.specs.WorkSteps.{refuse}
 use Rattle.act_states.specs.Acts.{ActFits, close_left, act_left, took_close, maps_frame, maps_word, took_act}
-use Rattle.act_states.specs.Acts.{dues, next_work, act_begun, cap_dues, starts, undo, made_dues, meets_object}
+use Rattle.act_states.specs.Acts.{dues, next_work, cap_dues, starts, undo, made_dues, meets_object}
 use Rattle.act_states.specs.Acts.{meets_blank, meets_making, marks_if, published, took_making_at}
-use Rattle.act_states.specs.Lookups.{met_name, met_free, met_held}
-use Rattle.call_stages.specs.Steps.{GoesOn, landed, found_more, next_by, took_enter, named_one, read_more, took_read, took_found}
-use Rattle.call_stages.specs.Steps.{took_end, took_look, took_scan, took_count, took_work, went_with, is_spent, took_at, took}
-use Rattle.act_fits.proofs.LandsFit.{TookFits, Facts, names_object, next_fits, landed_fits}
+use Rattle.call_stages.specs.Steps.{GoesOn, landed, took_enter, read_more, took_read}
+use Rattle.call_stages.specs.Steps.{took_look, took_scan, took_count, took_work, went_with, is_spent, took_at, took}
+use Rattle.act_fits.proofs.LandsFit.{TookFits, Facts, next_fits, landed_fits}
 use Rattle.act_fits.proofs.ScansFit.{scan_goes, scan_left}
 use Rattle.act_fits.proofs.KillsFit.{kill_fits}
 use Rattle.act_fits.proofs.UntypingsFit.{untype_fits, undone_fits, released_fits}

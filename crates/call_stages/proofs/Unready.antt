@@ -3,57 +3,30 @@ use Rattle.stage_quiet.specs.declared.close.Close.{Close}
 use Rattle.stage_quiet.specs.declared.close.Close.TheVariants.{AtCompare, AtDraw, AtStore}
 use Rattle.stage_quiet.specs.declared.quiet.Quiet.{Quiet}
 use Rattle.stage_quiet.specs.Removal.{close_compared, close_end, close_after}
-use Rattle.stage_quiet.specs.Scan.{quiet_after, quiet_end, quiet_scan}
-use Rattle.stage_pins.specs.declared.pin.Pin.{Pin}
-use Rattle.stage_pins.specs.declared.pin.Pinned.{Pinned}
-use Rattle.stage_pins.specs.declared.held.Acquired.{Acquired}
-use Rattle.stage_pins.specs.Acquire.{pin_after, pin_end}
-use Rattle.std.proofs.Common.{◌≡◌, ℕ, ℤ, ◌+◌, ◌==◌, ◌&&◌, nat_lt, Bool, true, false, List, [], ◌∷◌, length, Option}
-use Rattle.std.proofs.Common.{Some, None, refl, sym, ◌∙◌, ap, subst, arith, eqb-true, if◌then◌else◌, nat_le, ◌||◌}
-use Rattle.call_plans.specs.Plans.{pushed, at_place}
+use Rattle.std.proofs.Common.{◌≡◌, ℕ, ◌==◌, nat_lt, Bool, true, false, Option}
+use Rattle.std.proofs.Common.{Some, None, if◌then◌else◌, ◌||◌}
 use Rattle.spk_nums.specs.Capability.{Capability}
-use Rattle.spk_nums.specs.declared.kinds.PageFlags.{PageFlags}
 use Rattle.spk_nums.specs.declared.kinds.FrameKind.{FrameKind}
 use Rattle.spk_nums.specs.declared.kinds.FrameKind.TheVariants.{Untyped, User, Kernel}
-use Rattle.spk_nums.specs.declared.calls.Make.{Make}
-use Rattle.spk_nums.specs.declared.calls.Make.TheVariants as make
-use Rattle.spk_nums.specs.declared.calls.Call.{Call}
-use Rattle.spk_nums.specs.declared.calls.Call.TheVariants.{Look as look_call, Copy, Remove, Shrink, Unmap, Retype}
-use Rattle.spk_nums.specs.declared.calls.Call.TheVariants.{Make as make_call, Tick, Gate, Kill, Grow, Flush, Map}
-use Rattle.spk_nums.specs.declared.calls.Call.TheVariants.{Call as call_gate, Ret, Switch, Transfer, Delegate, Test}
-use Rattle.spk_nums.specs.declared.replies.Reply.{Reply}
 use Rattle.entry_words.specs.declared.entry.Entry.{Entry}
 use Rattle.entry_words.specs.declared.entry.Entry.TheVariants as entry
-use Rattle.kernel_rules.specs.Access.{found, Target as place, Under, InRoot}
-use Rattle.stage_look.specs.Shown.{shown_in, is_link}
-use Rattle.stage_look.specs.Lookup.{look_end, look_after, end_by_link, root_end, place_end}
+use Rattle.kernel_rules.specs.Access.{found}
+use Rattle.stage_look.specs.Shown.{shown_in}
+use Rattle.stage_look.specs.Lookup.{look_end, look_after, end_by_link, root_end}
 use Rattle.stage_look.specs.declared.look.Look.{Look}
 use Rattle.stage_look.specs.declared.look.Look.TheVariants.{AtRoot, AtLeaf, AtEntry}
-use Rattle.stage_look.specs.declared.look.Found.{Found}
 use Rattle.spk_nums.specs.declared.steps.StageEnd.{StageEnd}
 use Rattle.spk_nums.specs.declared.steps.StageEnd.TheVariants as ends
-use Rattle.call_plans.specs.declared.plans.Name.{Name}
-use Rattle.call_plans.specs.declared.plans.Target.{Target}
-use Rattle.call_plans.specs.declared.plans.Target.TheVariants.{Nowhere}
-use Rattle.call_plans.specs.declared.plans.Plan.{Plan}
-use Rattle.call_plans.specs.PlanOf.{any_cap, plan_of_retype, plan_of_make, plan_for}
 use Rattle.act_states.specs.declared.refusals.Refusal.TheVariants as refusal
-use Rattle.act_states.specs.declared.own.Own.{Own}
 use Rattle.act_states.specs.Ticks.{took_charge, took_tick, is_charging}
 use Rattle.stage_tcap.specs.declared.charge.Charge.{Charge}
 use Rattle.stage_tcap.specs.declared.charge.Charge.TheVariants.{AtLoad as charge_load, AtCompare as charge_compare}
-use Rattle.stage_tcap.specs.Charging.{end_by_mark, head_end, charged_end}
-use Rattle.stage_tcap.specs.Heads.{head}
-use Rattle.tcap_words.specs.Head.{word_of_head, head_of_word}
+use Rattle.stage_tcap.specs.Charging.{end_by_mark, head_end}
+use Rattle.tcap_words.specs.Head.{head_of_word}
 use Rattle.tcap_words.specs.declared.head_word.HeadWord.{HeadWord}
-use Rattle.kernel_rules.specs.Laws.{IsRefusal}
-use Rattle.std.specs.Prelude.{min, nat_le, is_some}
-use Rattle.act_states.specs.declared.lookups.Met.{Met}
-use Rattle.act_states.specs.declared.lookups.Met.TheVariants.{Finds, Refused}
+use Rattle.std.specs.Prelude.{is_some}
 use Rattle.spk_nums.specs.declared.kinds.Obj.{Obj}
 use Rattle.spk_nums.specs.declared.kinds.Obj.TheVariants.{Blank}
-use Rattle.act_states.specs.declared.objects.NewObject.{NewObject}
-use Rattle.act_states.specs.Objects.{object_made}
 use Rattle.act_states.specs.declared.makings.Making.{Making}
 use Rattle.act_states.specs.declared.makings.MakingAt.{MakingAt}
 use Rattle.act_states.specs.declared.makings.MakingAt.TheVariants.{Load as make_load, Mark, Store, Fill as fill_at}
@@ -64,39 +37,22 @@ use Rattle.act_states.specs.declared.work.Act.TheVariants.{Make as make_act, Out
 use Rattle.act_states.specs.declared.work.Act.TheVariants.{Kill as kill_act, Untype as untype_act, Map as map_act}
 use Rattle.act_states.specs.declared.work.Act.TheVariants.{MakeComp as comp_act, Invoke as invoke_act, Return as return_act}
 use Rattle.act_states.specs.declared.work.Act.TheVariants.{Switch as switch_act, Touch as touch_act, Share as share_act}
-use Rattle.act_states.specs.declared.work.Work.{Work}
-use Rattle.act_states.specs.declared.work.Work.TheVariants.{Lookup, Read, Scan, Acquire, Act}
-use Rattle.call_stages.specs.declared.stages.Stage.{Stage}
-use Rattle.call_stages.specs.declared.stages.Stage.TheVariants.{Enter, Undecided, Decided, Leave}
-use Rattle.act_states.specs.declared.work.Tail.{Tail}
-use Rattle.act_states.specs.declared.work.Tail.TheVariants.{Nothing, Quiesce, Unmark, StoreDead, StoreFlush, Release, StoreLive}
-use Rattle.act_states.specs.declared.work.Tail.TheVariants.{Push as push_tail, Pop as pop_tail, StoreRunning, StoreIdle, Share}
-use Rattle.call_stages.specs.declared.stages.ActiveCall.{ActiveCall}
-use Rattle.act_states.specs.declared.work.WorkStep.{WorkStep}
-use Rattle.act_states.specs.declared.work.WorkStep.TheVariants.{Goes, Acquires, Refuses as refuses_to, Answers, Changes as work_changes}
-use Rattle.act_states.specs.Refusals.{refusal_of}
-use Rattle.act_states.proofs.Refusing.{refusal_refuses}
-use Rattle.act_states.specs.Fills.{filled_if}
-use Rattle.act_states.specs.WorkSteps.{refuse}
-use Rattle.act_states.specs.Acts.{took_close, is_draw, took_act, act_ready, reads_of, fills_with, removes_held, removes_at, act_begun}
-use Rattle.act_states.specs.Acts.{types_if, types_at, stamp_in, filling, starts, scans, makes_at, meets_object, meets_blank, meets_making}
-use Rattle.act_states.specs.Acts.{marks_if, published, took_making_at, kills_in, kills_at, meets_comp, meets_live, meets_number, meets_life}
+use Rattle.act_states.specs.Acts.{took_close, is_draw, took_act, act_ready}
+use Rattle.act_states.specs.Acts.{meets_object, meets_blank, meets_making}
+use Rattle.act_states.specs.Acts.{marks_if, took_making_at, meets_comp, meets_live, meets_number, meets_life}
 use Rattle.act_states.specs.Acts.{closes_if, took_killing_at, meets_untyped, meets_untyping, sweeps_if, took_sweep, took_untyping_at}
-use Rattle.act_states.specs.Acts.{maps_frame, maps_word, maps_if, maps_at, comps_at, made_begun, comp_marks, took_comp_at, invokes_if}
-use Rattle.act_states.specs.Acts.{invokes_in, invokes_at, returns_if, meets_table, meets_pages, meets_gate, took_invoking_at, meets_below}
-use Rattle.act_states.specs.Acts.{meets_below_table, meets_below_pages, took_returning_at, switches_at, switch_pages, took_switching_at}
-use Rattle.call_plans.specs.declared.plans.Nth.TheVariants.{First, Second, Third, Fourth}
+use Rattle.act_states.specs.Acts.{maps_frame, maps_word, comp_marks, took_comp_at}
+use Rattle.act_states.specs.Acts.{meets_table, meets_pages, meets_gate, took_invoking_at, meets_below}
+use Rattle.act_states.specs.Acts.{meets_below_table, meets_below_pages, took_returning_at, switch_pages, took_switching_at}
 use Rattle.act_states.specs.declared.fills.Fill.{Fill}
 use Rattle.act_states.specs.Comps.{comp_filling, comp_goes, comp_refuses, comp_meets, comp_meets_object, comp_meets_blank, number_met}
-use Rattle.act_states.specs.Comps.{number_shown, takes_number, scans_number, number_scanned, closes_number, comp_published}
+use Rattle.act_states.specs.Comps.{number_shown, takes_number, scans_number, number_scanned, closes_number}
 use Rattle.frame_words.specs.Live.{live_of_word}
 use Rattle.act_states.specs.declared.comps.CompAt.{CompAt}
 use Rattle.act_states.specs.declared.comps.CompAt.TheVariants as comp_at_as
 use Rattle.act_states.specs.declared.comps.CompMaking.{CompMaking}
 use Rattle.act_states.specs.declared.comps.LastEpoch.{LastEpoch}
 use Rattle.frame_words.specs.declared.frame_word.FrameWord.{FrameWord}
-use Rattle.spk_nums.specs.declared.kinds.Kind.{Kind}
-use Rattle.spk_nums.specs.declared.kinds.Kind.TheVariants as kind
 use Rattle.frame_words.specs.declared.comp_word.CompWord.{CompWord}
 use Rattle.frame_words.specs.Comp.{comp_of_word}
 use Rattle.frame_words.specs.declared.live_word.LiveWord.{LiveWord}
@@ -118,7 +74,7 @@ use Rattle.act_states.specs.declared.invocations.InvokingAt.TheVariants as invok
 use Rattle.act_states.specs.declared.invocations.Returning.{Returning}
 use Rattle.act_states.specs.declared.invocations.ReturningAt.{ReturningAt}
 use Rattle.act_states.specs.declared.invocations.ReturningAt.TheVariants as returning
-use Rattle.act_states.specs.Invocations.{is_entering, frame_in, enters_if, enters_live, is_leaving, below_in}
+use Rattle.act_states.specs.Invocations.{is_entering, frame_in, is_leaving, below_in}
 use Rattle.act_states.specs.declared.switches.Switching.{Switching}
 use Rattle.act_states.specs.declared.switches.SwitchAt.{SwitchAt}
 use Rattle.act_states.specs.declared.switches.SwitchAt.TheVariants as switch_at
@@ -129,21 +85,12 @@ use Rattle.stage_thread.specs.declared.claim.Claimed.{Claimed}
 use Rattle.act_states.specs.declared.typings.Typing.{Typing}
 use Rattle.act_states.specs.declared.typings.TypingAt.{TypingAt}
 use Rattle.act_states.specs.declared.typings.TypingAt.TheVariants.{Load, Compare as type_compare}
-use Rattle.act_states.specs.Typings.{meets_frame, meets_word, typed_if, took_typing_at, is_typing}
-use Rattle.act_states.specs.Lookups.{looks_under, looks_entry, looks_at, read_first, next_step, met_free, met_held}
+use Rattle.act_states.specs.Typings.{meets_frame, meets_word, took_typing_at, is_typing}
 use Rattle.spk_nums.specs.declared.translations.Translation.{Translation}
 use Rattle.act_states.specs.declared.touches.Touching.{Touching}
-use Rattle.act_states.specs.Touches.{touches_if, touch_end, touched, is_at_page}
-use Rattle.call_stages.specs.Fits.{FoundFits, IsFirst, IsActive}
-use Rattle.call_stages.specs.Tails.{took_tail, tail_counts}
-use Rattle.call_plans.specs.After.{with_found, names_after, next_in, Next, NextName, NextFree, NextHeld, NextOwn, NextNothing, next_of}
-use Rattle.call_stages.specs.Steps.{GoesOn, landed, next_by, found_more, took_enter, named_one, read_more, took_read}
-use Rattle.call_stages.specs.Steps.{took_found, took_end, took_look, took_scan, took_count, gives_up, took_work}
-use Rattle.call_stages.specs.Steps.{went_with, took_at, is_last, decides_at_name, is_last_name, work_ready, ready_at}
-use Rattle.stage_tcap.specs.declared.pair.PairWork.TheVariants as share
-use Rattle.call_stages.proofs.Answering.{NoAnswer, IsOver}
-use Rattle.call_stages.proofs.ShareDecisions.{shares_no, share_unready, share_over}
-use Rattle.call_stages.specs.Laws.{reply_at, Turns, DecidesOnce, Refuses, UnreadyRefuses, IsDecision, ReadyDecides}
+use Rattle.act_states.specs.Touches.{touch_end, touched, is_at_page}
+use Rattle.call_stages.proofs.Answering.{NoAnswer}
+use Rattle.call_stages.proofs.ShareDecisions.{share_unready}
 
 -- a step of an act that is not ready answers nothing
 pub compare_no : (cap : Capability) (close : Close) (same : Bool) → NoAnswer (took_close cap close (close_compared same))

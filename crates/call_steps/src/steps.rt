@@ -292,8 +292,7 @@ fn absorb_later(active: &mut ActiveCall, own: &Own, found: u64) -> Told
                 land(active, &step)
             }
             Work::Acquire { pin, change, act } => {
-                let n = active.counts.count();
-                let step = count_step(own, n, pin, change, act, found);
+                let step = count_step(own, active.counts.count(), pin, change, act, found);
                 land(active, &step)
             }
             Work::Act { act } => {
@@ -303,8 +302,7 @@ fn absorb_later(active: &mut ActiveCall, own: &Own, found: u64) -> Told
         },
         Stage::Decided { reply, drawn, tail } => {
             let (reply, drawn, tail) = (*reply, *drawn, *tail);
-            store(active, own, reply, drawn, &tail, found);
-            Told::Going
+            store(active, own, reply, drawn, &tail, found)
         }
         Stage::Leave { reply, stamp } => Told::Returned {
             reply: *reply,

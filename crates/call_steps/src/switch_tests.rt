@@ -302,21 +302,25 @@ fn stores(tail: &Tail) -> Stage
     decided(&ok, &Some(Stamp::new(9)), tail)
 }
 
+// What the core is told at the draw: it goes on as the thread, in the thread's component.
+fn switched() -> Told {
+    Told::Changed {
+        reply: Reply::Ok(Value::Nothing),
+        change: OwnChange::Switches {
+            thread: FrameNo::new(NEW),
+            depth: 1,
+            comp: FrameNo::new(3),
+            table: FrameNo::new(0),
+            pages: FrameNo::new(2),
+            tcap: FrameNo::new(NEW_TCAP),
+        },
+    }
+}
+
 #[test]
 fn a_switch_draws_a_stamp_and_stores_both_threads(rt: HostRuntime) {
     if let Some(layout) = Layout::new(1, 8) {
         let (thread, old, core) = (FrameNo::new(NEW), FrameNo::new(OLD), CoreNo::new(0));
-        let told = Told::Changed {
-            reply: Reply::Ok(Value::Nothing),
-            change: OwnChange::Switches {
-                thread,
-                depth: 1,
-                comp: FrameNo::new(3),
-                table: FrameNo::new(0),
-                pages: FrameNo::new(2),
-                tcap: FrameNo::new(NEW_TCAP),
-            },
-        };
         let runs = Tail::StoreRunning {
             thread,
             core,
@@ -326,7 +330,7 @@ fn a_switch_draws_a_stamp_and_stores_both_threads(rt: HostRuntime) {
         };
         let at = step(&layout, acts(switch(&draws())), 9);
         let next = stores(&runs);
-        assert_eq!(rt; at, (WordOp::Add { at: 594, by: 1 }, told, next));
+        assert_eq!(rt; at, (WordOp::Add { at: 594, by: 1 }, switched(), next));
         let running = WordOp::Store {
             at: 384,
             word: RUNNING,

@@ -343,7 +343,6 @@ fn a_removal_closes_draws_and_releases_the_reference(rt: HostRuntime) {
         at: 522,
         word: ONE_SINCE_7,
     };
-    let leaves = WordOp::Store { at: 528, word: 16 };
     let rows = [
         (5, WordOp::Load { at: 522 }),
         (6, acquires),
@@ -352,7 +351,7 @@ fn a_removal_closes_draws_and_releases_the_reference(rt: HostRuntime) {
         (9, stores),
         (10, commits),
         (11, WordOp::Load { at: 594 }),
-        (12, leaves),
+        (12, WordOp::Store { at: 528, word: 16 }),
     ];
     assert!(rt; has_steps(&steps, &rows));
     assert_eq!(rt; words[TARGET], QUIESCES_7);
