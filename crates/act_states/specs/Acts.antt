@@ -1,6 +1,6 @@
 -- The acts of calls, and the counts that they change.
-use Rattle.std.specs.Prelude.{ℕ, ℤ, ◌<◌, ◌==◌, pos, negsuc, Bool, true, false, ◌&&◌, nat_lt, nat_le}
-use Rattle.std.specs.Prelude.{Option, Some, None, List, map, slice_get, if◌then◌else◌, [], ◌∷◌}
+use Rattle.std.specs.Prelude.{ℕ, ◌<◌, Bool, true, false, ◌&&◌, nat_lt, nat_le}
+use Rattle.std.specs.Prelude.{Option, Some, None, List, if◌then◌else◌}
 use Rattle.spk_nums.specs.Capability.{Capability}
 use Rattle.spk_nums.specs.declared.calls.Call.{Call}
 use Rattle.spk_nums.specs.declared.calls.Call.TheVariants.{Look, Copy, Remove, Shrink, Retype, Make as make_call, Unmap, Tick, Gate, Kill}
@@ -18,47 +18,37 @@ use Rattle.stage_quiet.specs.declared.close.Close.{Close}
 use Rattle.stage_quiet.specs.declared.close.Close.TheVariants.{AtCompare as close_compare, AtDraw, AtStore}
 use Rattle.stage_quiet.specs.declared.quiet.Quiet.{Quiet}
 use Rattle.stage_quiet.specs.Removal.{CloseFits, close_move, close_end, close_after}
-use Rattle.stage_quiet.specs.Scan.{quiet_scan, quiet_after, quiet_end}
+use Rattle.stage_quiet.specs.Scan.{quiet_scan}
 use Rattle.act_states.specs.declared.own.Own.{Own}
-use Rattle.kernel_rules.specs.References.{named_by}
 use Rattle.word_map.specs.Places.{Shape}
 use Rattle.word_map.specs.Moves.{Move, LoadOf}
 use Rattle.stage_look.specs.declared.look.Found.{Found}
-use Rattle.stage_pins.specs.declared.pin.Pin.TheVariants.{AtLoad}
 use Rattle.call_plans.specs.declared.plans.Nth.TheVariants.{First, Second, Third, Fourth}
 use Rattle.call_plans.specs.Plans.{at_place}
-use Rattle.act_states.specs.declared.refusals.Refusal.TheVariants.{Raced, OutOfRange, Busy, FrameKind as wrong_kind}
-use Rattle.act_states.specs.declared.refusals.Refusal.TheVariants.{Dead as is_dead, Deep, Bottom}
+use Rattle.act_states.specs.declared.refusals.Refusal.TheVariants.{Raced, OutOfRange}
+use Rattle.act_states.specs.declared.refusals.Refusal.TheVariants.{Deep, Bottom}
 use Rattle.act_states.specs.declared.work.Act.{Act}
 use Rattle.act_states.specs.declared.work.Act.TheVariants.{Fill as fill_act, Remove as remove_act, Retype as type_act}
 use Rattle.act_states.specs.declared.work.Act.TheVariants.{Make as make_act, Outside, Tick as tick_act, Flush as flush_act}
 use Rattle.act_states.specs.declared.work.Act.TheVariants.{Kill as kill_act, Untype as untype_act, Map as map_act}
 use Rattle.act_states.specs.declared.work.Act.TheVariants.{MakeComp as comp_act, Invoke as invoke_act, Return as return_act}
 use Rattle.act_states.specs.declared.work.Act.TheVariants.{Switch as switch_act, Touch as touch_act, Share as share_act}
-use Rattle.act_states.specs.declared.work.Due.{Due}
-use Rattle.act_states.specs.declared.work.Work.{Work}
-use Rattle.act_states.specs.declared.work.Work.TheVariants.{Scan, Acquire, Act as act_work}
+use Rattle.act_states.specs.declared.work.Work.TheVariants.{Scan, Act as act_work}
 use Rattle.act_states.specs.declared.work.Tail.{Tail}
-use Rattle.act_states.specs.declared.work.Tail.TheVariants.{Nothing, Quiesce, Unmark, StoreDead, Release as release_tail}
+use Rattle.act_states.specs.declared.work.Tail.TheVariants.{Nothing, Quiesce}
 use Rattle.act_states.specs.declared.work.WorkStep.{WorkStep}
-use Rattle.act_states.specs.declared.work.WorkStep.TheVariants.{Goes, Refuses, Answers}
+use Rattle.act_states.specs.declared.work.WorkStep.TheVariants.{Goes, Answers}
 use Rattle.act_states.specs.Refusals.{refusal_of}
 use Rattle.act_states.specs.WorkSteps.{refuse}
-use Rattle.act_states.specs.declared.fills.Fill.{Fill}
 use Rattle.act_states.specs.Fills.{FillFits, fill_move, took_fill}
 use Rattle.act_states.specs.declared.typings.TypingAt.TheVariants.{Load}
-use Rattle.act_states.specs.Typings.{TypingFits, typing_move, took_typing, is_typing, typing_left, typed}
+use Rattle.act_states.specs.Typings.{TypingFits, typing_move, took_typing, is_typing, typing_left}
 use Rattle.act_states.specs.declared.objects.NewObject.{NewObject}
-use Rattle.act_states.specs.Objects.{object_cap, object_made, object_dues}
-use Rattle.act_states.specs.declared.makings.MakingAt.{MakingAt}
-use Rattle.act_states.specs.declared.makings.MakingAt.TheVariants.{Load as make_load, Mark, Store, Fill as fill_at}
-use Rattle.act_states.specs.declared.makings.Making.{Making}
-use Rattle.act_states.specs.declared.comps.CompMaking.{CompMaking}
-use Rattle.act_states.specs.declared.comps.CompAt.{CompAt}
+use Rattle.act_states.specs.Objects.{object_cap, object_made}
+use Rattle.act_states.specs.declared.makings.MakingAt.TheVariants.{Load as make_load}
 use Rattle.act_states.specs.declared.comps.CompAt.TheVariants as comp_at_as
-use Rattle.act_states.specs.Comps.{CompMakingFits, comp_move, comp_dues, comp_undo, comp_filling, comp_left, comp_meets}
-use Rattle.act_states.specs.Comps.{number_met, number_scanned, closes_number, comp_goes, comp_stored, comp_published}
-use Rattle.act_states.specs.Makings.{made, MakingFits, making_move, stored, undo_at, is_filling, making_left}
+use Rattle.act_states.specs.Comps.{CompMakingFits, comp_move, comp_undo, comp_filling, comp_left}
+use Rattle.act_states.specs.Makings.{MakingFits, making_move, undo_at, is_filling, making_left}
 use Rattle.stage_tcap.specs.Charging.{ChargeFits, charge_move}
 use Rattle.act_states.specs.Ticks.{charges, took_tick, is_charging, charge_left}
 use Rattle.stage_tcap.specs.Pairs.{PairFits, pair_move}
@@ -69,50 +59,25 @@ use Rattle.stage_quiet.specs.declared.flush_mark.FlushMark.TheVariants.{AtLoad a
 use Rattle.act_states.specs.Flushes.{flushes, took_flush}
 use Rattle.stage_look.specs.Lookup.{look_move}
 use Rattle.act_states.specs.Touches.{TouchFits, took_touch, is_answering, touch_left}
-use Rattle.act_states.specs.declared.kills.Killing.{Killing}
-use Rattle.act_states.specs.declared.kills.KillingAt.{KillingAt}
-use Rattle.act_states.specs.declared.kills.KillingAt.TheVariants.{LoadComp, LoadLive, Close as kill_close, Draw as kill_draw}
-use Rattle.act_states.specs.declared.invocations.Invoking.{Invoking}
-use Rattle.act_states.specs.declared.invocations.InvokingAt.{InvokingAt}
+use Rattle.act_states.specs.declared.kills.KillingAt.TheVariants.{LoadComp}
 use Rattle.act_states.specs.declared.invocations.InvokingAt.TheVariants as invoking
-use Rattle.act_states.specs.declared.invocations.Returning.{Returning}
-use Rattle.act_states.specs.declared.invocations.ReturningAt.{ReturningAt}
 use Rattle.act_states.specs.declared.invocations.ReturningAt.TheVariants as returning
-use Rattle.act_states.specs.Invocations.{InvokingFits, invoking_move, is_entering, invoking_left, frame_in, enters_live}
-use Rattle.act_states.specs.Invocations.{ReturningFits, returning_move, is_leaving, returning_left, below_in, left_to}
+use Rattle.act_states.specs.Invocations.{InvokingFits, invoking_move, is_entering, invoking_left}
+use Rattle.act_states.specs.Invocations.{ReturningFits, returning_move, is_leaving, returning_left}
 use Rattle.act_states.specs.declared.switches.Switching.{Switching}
-use Rattle.act_states.specs.declared.switches.SwitchAt.{SwitchAt}
 use Rattle.act_states.specs.declared.switches.SwitchAt.TheVariants as switch_at
-use Rattle.act_states.specs.Switches.{SwitchingFits, switching_move, switching_dues, is_switching, switching_left}
-use Rattle.act_states.specs.Switches.{switching_undo, gives_back, switch_goes, took_claim, switch_table, switched}
-use Rattle.stage_thread.specs.Claiming.{claim_after, claim_end}
+use Rattle.act_states.specs.Switches.{SwitchingFits, switching_move, is_switching, switching_left}
+use Rattle.act_states.specs.Switches.{switching_undo}
 use Rattle.stage_thread.specs.declared.claim.Claim.TheVariants as claim
-use Rattle.stage_thread.specs.declared.claim.Claimed.{Claimed}
 use Rattle.act_states.specs.Kills.{KillingFits, killing_move, is_killing, killing_left}
-use Rattle.act_states.specs.declared.untypings.Untyping.{Untyping}
-use Rattle.act_states.specs.declared.untypings.UntypingAt.{UntypingAt}
-use Rattle.act_states.specs.declared.untypings.UntypingAt.TheVariants.{Load as untype_load, Mark as untype_mark}
-use Rattle.act_states.specs.declared.untypings.UntypingAt.TheVariants.{Sweep as untype_sweep, Draw as untype_draw}
-use Rattle.act_states.specs.Untypings.{UntypingFits, untyping_move, is_drawing, untyping_dues, untyping_undo, release_of, untyping_left}
-use Rattle.stage_sweep.specs.Freeze.{swept_of, sweep_end, sweep_after}
-use Rattle.stage_sweep.specs.declared.sweep.Sweep.{Sweep}
-use Rattle.stage_sweep.specs.declared.sweep.SweepAt.TheVariants as sweep
-use Rattle.stage_sweep.specs.declared.sweep.Swept.{Swept}
-use Rattle.frame_words.specs.Comp.{comp_of_word}
-use Rattle.frame_words.specs.Live.{live_of_word}
-use Rattle.frame_words.specs.declared.comp_word.CompWord.{CompWord}
-use Rattle.frame_words.specs.declared.live_word.LiveWord.{LiveWord}
-use Rattle.frame_words.specs.declared.live_word.LiveWord.TheVariants as live
-use Rattle.stage_quiet.specs.Clocks.{drawn_stamp}
+use Rattle.act_states.specs.declared.untypings.UntypingAt.TheVariants.{Load as untype_load}
+use Rattle.act_states.specs.Untypings.{UntypingFits, untyping_move, is_drawing, untyping_undo, untyping_left}
 use Rattle.spk_nums.specs.declared.kinds.Kind.{Kind}
 use Rattle.spk_nums.specs.declared.kinds.Kind.TheVariants as kind
 use Rattle.spk_nums.specs.declared.kinds.FrameKind.{FrameKind}
 use Rattle.spk_nums.specs.declared.kinds.FrameKind.TheVariants.{Untyped, User, Kernel}
 use Rattle.spk_nums.specs.declared.kinds.PageFlags.{PageFlags}
-use Rattle.spk_nums.specs.declared.kinds.Obj.{Obj}
-use Rattle.spk_nums.specs.declared.kinds.Obj.TheVariants.{Blank}
-use Rattle.frame_words.specs.Frame.{word_of_frame, frame_of_word}
-use Rattle.frame_words.specs.declared.frame_word.FrameWord.{FrameWord}
+use Rattle.frame_words.specs.Frame.{frame_of_word}
 use Rattle.word_map.specs.Word.{EntryAt, FrameAt}
 use Rattle.kernel_rules.specs.Access.{found as named, only}
 use Rattle.kernel_rules.specs.Start.{plain_cap}

@@ -28,7 +28,6 @@ use Rattle.act_states.specs.declared.comps.CompAt.{CompAt}
 use Rattle.act_states.specs.declared.comps.CompAt.TheVariants.{Load, Mark, LoadLive, Scan, Close, Store, Fill as fill_at}
 use Rattle.act_states.specs.declared.comps.CompMaking.{CompMaking}
 use Rattle.act_states.specs.declared.comps.LastEpoch.{LastEpoch}
-use Rattle.act_states.specs.declared.fills.Fill.{Fill}
 use Rattle.act_states.specs.declared.refusals.Refusal.{Refusal}
 use Rattle.act_states.specs.declared.refusals.Refusal.TheVariants.{Raced, Busy, Occupied, EpochsSpent, FrameKind as wrong_kind}
 use Rattle.act_states.specs.declared.work.Act.TheVariants.{MakeComp}

@@ -10,7 +10,7 @@ use Rattle.stage_look.specs.declared.look.Look.TheVariants.{AtRoot, AtEntry}
 use Rattle.stage_look.specs.declared.look.Found.{Found}
 use Rattle.call_plans.specs.After.{Next, NextName, NextFree, NextHeld, NextOwn, NextNothing}
 use Rattle.act_states.specs.declared.own.Own.{Own}
-use Rattle.act_states.specs.declared.refusals.Refusal.TheVariants.{NoSlot, Empty, WrongCap, Occupied, Busy, Raced}
+use Rattle.act_states.specs.declared.refusals.Refusal.TheVariants.{NoSlot, Empty, WrongCap, Occupied, Busy}
 use Rattle.act_states.specs.declared.lookups.Met.{Met}
 use Rattle.act_states.specs.declared.lookups.Met.TheVariants.{Finds, Refused}
 use Rattle.act_states.specs.declared.work.Work.TheVariants.{Lookup, Read}

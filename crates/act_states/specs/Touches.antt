@@ -1,5 +1,5 @@
 -- The act that touches a page of the core's own pages.
-use Rattle.std.specs.Prelude.{◌≡◌, ◌≤◌, ◌%◌, ◌||◌, ℕ, Bool, true, false, nat_le, if◌then◌else◌, is_some, Option, Some, None}
+use Rattle.std.specs.Prelude.{◌≡◌, ◌%◌, ◌||◌, ℕ, Bool, true, false, nat_le, if◌then◌else◌, is_some, Option, Some, None}
 use Rattle.spk_nums.specs.Capability.{Capability}
 use Rattle.spk_nums.specs.declared.replies.Reply.{Reply}
 use Rattle.spk_nums.specs.declared.replies.Reply.TheVariants as reply

@@ -389,10 +389,15 @@ fn a_switch_acquires_the_counts_of_its_threads_and_of_temporal_capabilities_that
     for tcap in [OLD_TCAP, NEW_TCAP] {
         let act = switch_with(tcap);
         let goes = Work::Act { act };
-        let (third, fourth) = if tcap == OLD_TCAP {
-            (goes, goes)
+        let third = if tcap == OLD_TCAP {
+            goes
         } else {
-            (acquires(NEW_TCAP, 1, act), acquires(OLD_TCAP, -1, act))
+            acquires(NEW_TCAP, 1, act)
+        };
+        let fourth = if tcap == OLD_TCAP {
+            goes
+        } else {
+            acquires(OLD_TCAP, -1, act)
         };
         let due = [
             acquires(NEW, 1, act),
