@@ -1,5 +1,5 @@
--- A step of a call is good, by the stage where the call stands: its work, the stores after its decision, the counts that it then commits, the
--- load of the clock, and the store of its core word.
+-- A step of a call is good, by the stage where the call stands: its work, the stores after its decision, the counts that it then commits,
+-- the load of the clock, and the store of its core word.
 use Rattle.std.proofs.Common.{◌≡◌, ◌∙◌, inl, ℕ, ◌^◌, ◌<◌, ◌∷◌, Option, Some, None, List, [], arith, false, refl, sym, ap, subst}
 use Rattle.std.proofs.lemmas.Bool.{lt-ltb}
 use Rattle.spk_nums.specs.Setting.{Setting, IsSetting}
