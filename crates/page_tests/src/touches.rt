@@ -163,7 +163,7 @@ struct Filled {
     cached: String,
 }
 
-fn filled(alloc: Global) -> Result<Filled, Fail> {
+fn fill_cache(alloc: Global) -> Result<Filled, Fail> {
     let mut lines = String::new(alloc);
     let mut replies = String::new(alloc);
     let mut pages = String::new(alloc);
@@ -193,7 +193,7 @@ fn sixty_four_translations_are_cached_and_one_more_is_answered(
     rt: HostRuntime,
 ) -> Result<(), Fail> {
     let alloc = rt.alloc();
-    let filled = filled(alloc)?;
+    let filled = fill_cache(alloc)?;
     // The last is answered from the table each time, and so not once its page is unmapped.
     let lines = format!(in alloc;
         "{PAGES}retype 0 11 kernel\nmake pleaf 0 11 1 21\ngrow 2 1 21\nmap 2 64 0 10 2\n{}touch 64\ntouch 64\nunmap 2 64\ntouch 64\nunmap 2 63\ntouch 63\n",
