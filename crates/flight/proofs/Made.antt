@@ -1,15 +1,15 @@
 -- A trace that is the machine's is a history of the machine.
 use Rattle.std.proofs.Common.{◌≡◌, ℕ, [], ◌∷◌, sym, ◌∙◌, ap, subst}
-use Rattle.spk_nums.specs.Setting.{Setting, IsSetting}
-use Rattle.word_map.specs.Moves.{word_of}
-use Rattle.kernel_history.specs.Moments.{WordsSayAlong}
-use Rattle.kernel_history.specs.Trace.{Step, Trace, last_left}
+use Rattle.boot_words.specs.spk_nums.specs.Setting.{Setting, IsSetting}
+use Rattle.boot_words.specs.word_map.specs.Moves.{word_of}
+use Rattle.boot_words.specs.kernel_history.specs.Moments.{WordsSayAlong}
+use Rattle.boot_words.specs.kernel_history.specs.Trace.{Step, Trace, last_left}
 use Rattle.flight.specs.Made.{step_of, core_after, cores_after, stepping_core, IsMadeStep, IsMade}
 use Rattle.flight.specs.Histories.{MadeHistories}
-use Rattle.kernel_history.specs.Graces.{KeepsTime}
-use Rattle.core_invariant.specs.Invariant.{Invariant}
-use Rattle.step_ways.proofs.Good.{IsGood, stands_on}
-use Rattle.step_ways.proofs.Users.{SparesCounted}
+use Rattle.boot_words.specs.kernel_history.specs.Graces.{KeepsTime}
+use Rattle.work_invariant.specs.core_invariant.specs.Invariant.{Invariant}
+use Rattle.work_invariant.specs.step_ways.proofs.Good.{IsGood, stands_on}
+use Rattle.work_invariant.specs.step_ways.proofs.Users.{SparesCounted}
 use Rattle.flight.specs.Theorems.{found_by, MadeStands}
 use Rattle.flight.proofs.Boot.{boots}
 use Rattle.flight.proofs.Advance.{good_on}

@@ -1,12 +1,12 @@
 -- What each command that makes atomic steps has of its trace.
-use Rattle.spk_nums.specs.Setting.{Setting, IsSetting}
-use Rattle.kernel_history.specs.Trace.{Trace}
-use Rattle.kernel_history.specs.Legal.{IsLegal}
-use Rattle.kernel_history.specs.Bounds.{KeepsBounds}
-use Rattle.kernel_history.specs.Discipline.{KeepsDiscipline}
-use Rattle.kernel_history.specs.Footprint.{KeepsFootprints}
-use Rattle.kernel_history.specs.Alone.{KeepsFirst}
-use Rattle.kernel_history.specs.Moments.{WordsSayAlong}
+use Rattle.boot_words.specs.spk_nums.specs.Setting.{Setting, IsSetting}
+use Rattle.boot_words.specs.kernel_history.specs.Trace.{Trace}
+use Rattle.boot_words.specs.kernel_history.specs.Legal.{IsLegal}
+use Rattle.boot_words.specs.kernel_history.specs.Bounds.{KeepsBounds}
+use Rattle.boot_words.specs.kernel_history.specs.Discipline.{KeepsDiscipline}
+use Rattle.boot_words.specs.kernel_history.specs.Footprint.{KeepsFootprints}
+use Rattle.boot_words.specs.kernel_history.specs.Alone.{KeepsFirst}
+use Rattle.boot_words.specs.kernel_history.specs.Moments.{WordsSayAlong}
 use Rattle.flight.specs.Made.{IsMade}
 
 -- The trace is the machine's, and is a legal history: its replies are those of the sequential kernel, each at a step of its call,

@@ -3,31 +3,31 @@ use Rattle.std.proofs.Common.{◌≡◌, ◌≢◌, ◌⊎◌, inl, inr, ℕ, �
 use Rattle.std.proofs.Common.{◌++◌, length, Option, Some, None, refl, sym, ◌∙◌, ap, subst}
 use Rattle.std.proofs.lemmas.Bool.{false≢true}
 use Rattle.std.specs.List.{AllByRecursion}
-use Rattle.spk_nums.specs.Setting.{Setting, IsSetting}
-use Rattle.spk_nums.specs.declared.calls.Call.{Call}
-use Rattle.spk_nums.specs.declared.calls.Call.TheVariants.{Touch}
-use Rattle.spk_nums.specs.declared.kinds.PageFlags.{PageFlags}
-use Rattle.spk_nums.specs.declared.replies.Reply.{Reply}
-use Rattle.spk_nums.specs.declared.replies.Reply.TheVariants.{Ok}
-use Rattle.spk_nums.specs.declared.replies.Value.TheVariants.{Page}
-use Rattle.spk_nums.specs.declared.translations.Translation.{Translation}
-use Rattle.kernel_rules.specs.State.{Core, User, State, comp_of}
-use Rattle.kernel_rules.specs.GracePeriods.{returned}
-use Rattle.kernel_rules.specs.MemoryCalls.{translation_of}
-use Rattle.kernel_rules.specs.CallRelation.{state_by}
-use Rattle.kernel_rules.specs.Runs.{MayDecide, IsRun}
-use Rattle.kernel_invariant.proofs.Sound.{put_all}
-use Rattle.kernel_rules.proofs.Within.{put_same}
-use Rattle.state_laws.specs.Cached.{Stands, Begins, Answers}
-use Rattle.state_laws.proofs.CachedLaw.{translations_stand}
-use Rattle.state_laws.proofs.Lists.{begins_same, begins_then, decided_keeps}
-use Rattle.state_laws.proofs.Touched.{touches_cache as run_caches}
-use Rattle.kernel_history.specs.Events.{with_decision, events_of}
-use Rattle.kernel_history.specs.Legal.{IsLegal}
-use Rattle.kernel_history.specs.Stamps.{flushes_in}
-use Rattle.kernel_history.specs.Trace.{Step, Trace, Phase, Out, Open, Decided, phase, after_enter, state_after}
-use Rattle.kernel_history.specs.Trace.{state_before, state_entered, state_decided, state_returned}
-use Rattle.kernel_history.proofs.Events.{entered_events, state_is, before_is, run_of, decided_run}
+use Rattle.flight.specs.spk_nums.specs.Setting.{Setting, IsSetting}
+use Rattle.flight.specs.spk_nums.specs.declared.calls.Call.{Call}
+use Rattle.flight.specs.spk_nums.specs.declared.calls.Call.TheVariants.{Touch}
+use Rattle.flight.specs.spk_nums.specs.declared.kinds.PageFlags.{PageFlags}
+use Rattle.flight.specs.spk_nums.specs.declared.replies.Reply.{Reply}
+use Rattle.flight.specs.spk_nums.specs.declared.replies.Reply.TheVariants.{Ok}
+use Rattle.flight.specs.spk_nums.specs.declared.replies.Value.TheVariants.{Page}
+use Rattle.flight.specs.spk_nums.specs.declared.translations.Translation.{Translation}
+use Rattle.flight.specs.kernel_rules.specs.State.{Core, User, State, comp_of}
+use Rattle.flight.specs.kernel_rules.specs.GracePeriods.{returned}
+use Rattle.flight.specs.kernel_rules.specs.MemoryCalls.{translation_of}
+use Rattle.flight.specs.kernel_rules.specs.CallRelation.{state_by}
+use Rattle.flight.specs.kernel_rules.specs.Runs.{MayDecide, IsRun}
+use Rattle.flight.specs.kernel_invariant.proofs.Sound.{put_all}
+use Rattle.flight.specs.kernel_rules.proofs.Within.{put_same}
+use Rattle.flight.specs.state_laws.specs.Cached.{Stands, Begins, Answers}
+use Rattle.flight.specs.state_laws.proofs.CachedLaw.{translations_stand}
+use Rattle.flight.specs.state_laws.proofs.Lists.{begins_same, begins_then, decided_keeps}
+use Rattle.flight.specs.state_laws.proofs.Touched.{touches_cache as run_caches}
+use Rattle.flight.specs.kernel_history.specs.Events.{with_decision, events_of}
+use Rattle.flight.specs.kernel_history.specs.Legal.{IsLegal}
+use Rattle.flight.specs.kernel_history.specs.Stamps.{flushes_in}
+use Rattle.flight.specs.kernel_history.specs.Trace.{Step, Trace, Phase, Out, Open, Decided, phase, after_enter, state_after}
+use Rattle.flight.specs.kernel_history.specs.Trace.{state_before, state_entered, state_decided, state_returned}
+use Rattle.flight.specs.kernel_history.proofs.Events.{entered_events, state_is, before_is, run_of, decided_run}
 use Rattle.flight.specs.Made.{IsMade}
 use Rattle.flight_laws.specs.Pages.{CachedFramesStay, FlushesNone, CachedTillFlush, TouchesCache}
 use Rattle.flight.proofs.Made.{made_stands}

@@ -1,36 +1,37 @@
 -- The time of a machine is that of the sequential kernel, whose laws hold of each legal trace; and heads say it.
-use Rattle.kept_facts.proofs.Lent.{unlent_head_value}
+use Rattle.flight.specs.kept_facts.proofs.Lent.{unlent_head_value}
 use Rattle.std.proofs.Common.{◌≡◌, ℕ, ◌+◌, ◌∷◌, [], ◌&&◌, ◌==◌, Bool, true, false, Option}
 use Rattle.std.proofs.Common.{Some, None, if◌then◌else◌, refl, sym, ◌∙◌, ap, subst}
-use Rattle.spk_nums.specs.Setting.{Setting, IsSetting}
-use Rattle.tcap_words.specs.Head.{head_of_word}
-use Rattle.word_map.specs.Word.{EntryAt}
-use Rattle.kernel_rules.specs.Laws.{ticks}
-use Rattle.kernel_rules.specs.State.{PlaceOf, State}
-use Rattle.kernel_laws.proofs.TicksLaw.{ticks_kept}
-use Rattle.kernel_laws.proofs.Spending.{spending_sums}
-use Rattle.kernel_history.specs.Events.{events_of}
-use Rattle.kernel_history.specs.Legal.{IsLegal, MayDecide}
-use Rattle.kernel_history.specs.Stamps.{stamp}
-use Rattle.kernel_history.specs.Trace.{Trace, state_after, last_left, Step, Open, phase, after_enter, state_before}
-use Rattle.kernel_history.proofs.Events.{state_is, run_of}
-use Rattle.core_invariant.specs.Holding.{settled_by, settled}
-use Rattle.core_invariant.specs.Invariant.{held_by, Invariant}
-use Rattle.core_invariant.specs.Words.{HeadIs, IsFrameWord, count_room}
+use Rattle.flight.specs.spk_nums.specs.Setting.{Setting, IsSetting}
+use Rattle.flight.specs.tcap_words.specs.Head.{head_of_word}
+use Rattle.flight.specs.word_map.specs.Word.{EntryAt}
+use Rattle.flight.specs.kernel_rules.specs.Laws.{ticks}
+use Rattle.flight.specs.kernel_rules.specs.State.{PlaceOf, State}
+use Rattle.flight.specs.kernel_laws.proofs.TicksLaw.{ticks_kept}
+use Rattle.flight.specs.kernel_laws.proofs.Spending.{spending_sums}
+use Rattle.flight.specs.kernel_history.specs.Events.{events_of}
+use Rattle.flight.specs.kernel_history.specs.Legal.{IsLegal, MayDecide}
+use Rattle.flight.specs.kernel_history.specs.Stamps.{stamp}
+use Rattle.flight.specs.kernel_history.specs.Trace.{Trace, state_after, last_left, Step, Open, phase, after_enter, state_before}
+use Rattle.flight.specs.kernel_history.proofs.Events.{state_is, run_of}
+use Rattle.flight.specs.core_invariant.specs.Holding.{settled_by, settled}
+use Rattle.flight.specs.core_invariant.specs.Invariant.{held_by, Invariant}
+use Rattle.flight.specs.core_invariant.specs.Words.{HeadIs, IsFrameWord, count_room}
 use Rattle.flight.specs.Made.{IsMade, cores_after}
 use Rattle.flight_laws.specs.Time.{TimeIsKept, TicksAreCounted, HeadsSay, ListsSay, TellsOf, TestsTell}
 use Rattle.flight.proofs.Made.{made_stands}
-use Rattle.pair_invariant.proofs.ShareSteps.{list_plain}
-use Rattle.spk_nums.specs.Capability.{Capability}
-use Rattle.spk_nums.specs.declared.calls.Call.{Call}
-use Rattle.spk_nums.specs.declared.calls.Call.TheVariants.{Test}
-use Rattle.spk_nums.specs.declared.kinds.Kind.TheVariants as kind
-use Rattle.spk_nums.specs.declared.replies.Reply.TheVariants as reply
-use Rattle.spk_nums.specs.declared.replies.Value.{Value}
-use Rattle.kernel_rules.specs.Access.{only, found}
-use Rattle.kernel_rules.specs.Rules.{Judged, Found, Refused, IsFoundAnd, named, and_then, unless, first_of, answers}
-use Rattle.kernel_rules.specs.TimeCalls.{tcap_at, preemption, preempts}
-use Rattle.kernel_rules.specs.CallRelation.{change_of, MayReply}
+use Rattle.flight.specs.pair_invariant.proofs.ShareSteps.{list_plain}
+use Rattle.flight.specs.spk_nums.specs.Capability.{Capability}
+use Rattle.flight.specs.spk_nums.specs.declared.calls.Call.{Call}
+use Rattle.flight.specs.spk_nums.specs.declared.calls.Call.TheVariants.{Test}
+use Rattle.flight.specs.spk_nums.specs.declared.kinds.Kind.TheVariants as kind
+use Rattle.flight.specs.spk_nums.specs.declared.replies.Reply.TheVariants as reply
+use Rattle.flight.specs.spk_nums.specs.declared.replies.Value.{Value}
+use Rattle.flight.specs.kernel_rules.specs.Access.{only, found}
+use Rattle.flight.specs.kernel_rules.specs.Rules.{Judged, Found, Refused, IsFoundAnd, named, and_then, unless, first_of, answers}
+use Rattle.flight.specs.kernel_rules.specs.TimeCalls.{tcap_at, preemption, preempts}
+use Rattle.flight.specs.kernel_rules.specs.CallRelation.{change_of, MayReply}
+use Rattle.flight.specs.kernel_rules.specs.Rules.{Change}
 
 legal_of : (setup : Setting) → IsSetting setup → (t : Trace) → IsMade setup t → IsLegal setup t
 legal_of setup setting t made = (made_stands setup setting t made).legal
@@ -68,7 +69,7 @@ lists_say setup setting t made f q is unmarked j low =
 told_by : (s : State) (c x y : ℕ) (v : Value) → IsFoundAnd (change_of s c (Test x y)) (λ change. change.value ≡ v) → TellsOf s c x y v
 told_by s c x y v h = by (named s c x (only kind.Tcap)) (named s c y (only kind.Tcap)) refl refl h
   where
-    rest : Capability → Capability → Judged Rattle.kernel_rules.specs.Rules.Change
+    rest : Capability → Capability → Judged Change
     rest a b = unless (first_of (if true && (true && a.frame == b.frame) then Some reply.Same else None) None)
         (answers s (preemption (preempts (tcap_at s a.frame) (tcap_at s b.frame))))
 

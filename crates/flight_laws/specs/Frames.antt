@@ -1,22 +1,22 @@
 -- Frames that are made untyped again: what then held, and which frames stay as they are.
 use Rattle.std.specs.Prelude.{◌≡◌, ◌≢◌, ◌<◌, ◌⊎◌, ℕ, Bool, true, false, [], ◌∷◌, ◌++◌, Option, Some, None, IsTrue}
-use Rattle.spk_nums.specs.Setting.{Setting, IsSetting}
-use Rattle.spk_nums.specs.declared.kinds.FrameKind.TheVariants.{Untyped}
-use Rattle.spk_nums.specs.declared.calls.Call.{Call}
-use Rattle.spk_nums.specs.declared.calls.Call.TheVariants.{Retype}
-use Rattle.spk_nums.specs.declared.replies.Value.{Value}
-use Rattle.spk_nums.specs.declared.replies.Reply.TheVariants.{Ok}
-use Rattle.entry_words.specs.EntryWord.{entry_of_word}
-use Rattle.entry_words.specs.declared.entry.Entry.{Entry}
-use Rattle.entry_words.specs.declared.entry.Entry.TheVariants.{Held}
-use Rattle.word_map.specs.Word.{EntryAt, CountAt}
-use Rattle.word_map.specs.Places.{counter_of}
-use Rattle.kernel_rules.specs.State.{FrameOf, State}
-use Rattle.kernel_rules.specs.References.{refs}
-use Rattle.kernel_rules.specs.Relies.{is_node}
-use Rattle.kernel_history.specs.Marking.{marked_by}
-use Rattle.kernel_history.specs.Trace.{Step, Trace, Open, phase, after_enter, state_after, state_before, own_read}
-use Rattle.core_invariant.specs.Knows.{untypes}
+use Rattle.flight.specs.spk_nums.specs.Setting.{Setting, IsSetting}
+use Rattle.flight.specs.spk_nums.specs.declared.kinds.FrameKind.TheVariants.{Untyped}
+use Rattle.flight.specs.spk_nums.specs.declared.calls.Call.{Call}
+use Rattle.flight.specs.spk_nums.specs.declared.calls.Call.TheVariants.{Retype}
+use Rattle.flight.specs.spk_nums.specs.declared.replies.Value.{Value}
+use Rattle.flight.specs.spk_nums.specs.declared.replies.Reply.TheVariants.{Ok}
+use Rattle.flight.specs.entry_words.specs.EntryWord.{entry_of_word}
+use Rattle.flight.specs.entry_words.specs.declared.entry.Entry.{Entry}
+use Rattle.flight.specs.entry_words.specs.declared.entry.Entry.TheVariants.{Held}
+use Rattle.flight.specs.word_map.specs.Word.{EntryAt, CountAt}
+use Rattle.flight.specs.word_map.specs.Places.{counter_of}
+use Rattle.flight.specs.kernel_rules.specs.State.{FrameOf, State}
+use Rattle.flight.specs.kernel_rules.specs.References.{refs}
+use Rattle.flight.specs.kernel_rules.specs.Relies.{is_node}
+use Rattle.flight.specs.kernel_history.specs.Marking.{marked_by}
+use Rattle.flight.specs.kernel_history.specs.Trace.{Step, Trace, Open, phase, after_enter, state_after, state_before, own_read}
+use Rattle.flight.specs.core_invariant.specs.Knows.{untypes}
 use Rattle.flight.specs.Made.{IsMade}
 
 -- The step e after t decides `ok` of a retype of the frame to untyped.

@@ -1,3 +1,8 @@
+-- What the crates above name through this one.
+pub use Rattle.flight.specs.trace_laws
+pub use Rattle.flight.specs.core_invariant
+pub use Rattle.flight
+-- Its own.
 pub mod Places
 pub mod Threads
 pub mod Time

@@ -1,16 +1,16 @@
 -- The translations that cores have cached.
 use Rattle.std.specs.Prelude.{◌≡◌, ◌<◌, ◌++◌, ℕ, false, List, [], ◌∷◌, Some}
 use Rattle.std.specs.List.{AllByRecursion}
-use Rattle.spk_nums.specs.Setting.{Setting, IsSetting}
-use Rattle.spk_nums.specs.declared.calls.Call.TheVariants.{Touch}
-use Rattle.spk_nums.specs.declared.kinds.PageFlags.{PageFlags}
-use Rattle.spk_nums.specs.declared.replies.Reply.TheVariants.{Ok}
-use Rattle.spk_nums.specs.declared.replies.Value.TheVariants.{Page}
-use Rattle.spk_nums.specs.declared.translations.Translation.{Translation}
-use Rattle.kernel_rules.specs.State.{User, State, comp_of}
-use Rattle.state_laws.specs.Cached.{Stands, Begins, Answers}
-use Rattle.kernel_history.specs.Stamps.{flushes_at}
-use Rattle.kernel_history.specs.Trace.{state_after, state_before, Open, phase, after_enter, Step, Trace}
+use Rattle.flight.specs.spk_nums.specs.Setting.{Setting, IsSetting}
+use Rattle.flight.specs.spk_nums.specs.declared.calls.Call.TheVariants.{Touch}
+use Rattle.flight.specs.spk_nums.specs.declared.kinds.PageFlags.{PageFlags}
+use Rattle.flight.specs.spk_nums.specs.declared.replies.Reply.TheVariants.{Ok}
+use Rattle.flight.specs.spk_nums.specs.declared.replies.Value.TheVariants.{Page}
+use Rattle.flight.specs.spk_nums.specs.declared.translations.Translation.{Translation}
+use Rattle.flight.specs.kernel_rules.specs.State.{User, State, comp_of}
+use Rattle.flight.specs.state_laws.specs.Cached.{Stands, Begins, Answers}
+use Rattle.flight.specs.kernel_history.specs.Stamps.{flushes_at}
+use Rattle.flight.specs.kernel_history.specs.Trace.{state_after, state_before, Open, phase, after_enter, Step, Trace}
 use Rattle.flight.specs.Made.{IsMade}
 
 -- At each moment each translation that a core has cached names a user frame, and it stands: what it was found by is there still, or the

@@ -1,19 +1,19 @@
 -- What may be concluded from a word that a step has found: that of a place which is held, and that of a core which has passed a stamp.
 use Rattle.std.specs.Prelude.{◌≡◌, ◌<◌, ◌⊎◌, ℕ, false, ◌∷◌, ◌++◌, Some, IsTrue}
-use Rattle.spk_nums.specs.Capability.{Capability}
-use Rattle.spk_nums.specs.Setting.{Setting, IsSetting}
-use Rattle.spk_nums.specs.declared.calls.Call.{Call}
-use Rattle.entry_words.specs.EntryWord.{entry_of_word}
-use Rattle.entry_words.specs.declared.entry.Entry.TheVariants.{Held}
-use Rattle.frame_words.specs.Core.{core_of_word}
-use Rattle.frame_words.specs.declared.core_word.CoreWord.{CoreWord}
-use Rattle.word_map.specs.Word.{EntryAt, CoreAt}
-use Rattle.word_map.specs.Moves.{word_of}
-use Rattle.kernel_rules.specs.State.{Thing, State}
-use Rattle.kernel_rules.specs.Access.{Slot, usable}
-use Rattle.kernel_rules.specs.Relies.{is_node, Relies}
-use Rattle.kernel_history.specs.Trace.{Step, Trace, Open, phase, state_after, own_read}
-use Rattle.kernel_history.specs.Stamps.{stamp, clock}
+use Rattle.flight.specs.spk_nums.specs.Capability.{Capability}
+use Rattle.flight.specs.spk_nums.specs.Setting.{Setting, IsSetting}
+use Rattle.flight.specs.spk_nums.specs.declared.calls.Call.{Call}
+use Rattle.flight.specs.entry_words.specs.EntryWord.{entry_of_word}
+use Rattle.flight.specs.entry_words.specs.declared.entry.Entry.TheVariants.{Held}
+use Rattle.flight.specs.frame_words.specs.Core.{core_of_word}
+use Rattle.flight.specs.frame_words.specs.declared.core_word.CoreWord.{CoreWord}
+use Rattle.flight.specs.word_map.specs.Word.{EntryAt, CoreAt}
+use Rattle.flight.specs.word_map.specs.Moves.{word_of}
+use Rattle.flight.specs.kernel_rules.specs.State.{Thing, State}
+use Rattle.flight.specs.kernel_rules.specs.Access.{Slot, usable}
+use Rattle.flight.specs.kernel_rules.specs.Relies.{is_node, Relies}
+use Rattle.flight.specs.kernel_history.specs.Trace.{Step, Trace, Open, phase, state_after, own_read}
+use Rattle.flight.specs.kernel_history.specs.Stamps.{stamp, clock}
 use Rattle.flight.specs.Made.{IsMade}
 
 -- Core c may use this capability at a slot: the place holds it, or it is quiescing, held it, and c is among those for whom it waits.

@@ -1,27 +1,27 @@
 -- The time of a machine: what its temporal capabilities hold and its cores have spent and owe.
 use Rattle.std.specs.Prelude.{◌≡◌, ℕ, suc, ◌+◌, ◌<◌, ◌==◌, ◌&&◌, ◌⊎◌, [], ◌∷◌, slice_get, Option, Some, None, is_some, if◌then◌else◌}
-use Rattle.spk_nums.specs.Setting.{Setting, IsSetting}
-use Rattle.spk_nums.specs.Capability.{Capability}
-use Rattle.spk_nums.specs.declared.kinds.Kind.TheVariants as kind
-use Rattle.spk_nums.specs.declared.calls.Call.{Call}
-use Rattle.spk_nums.specs.declared.calls.Call.TheVariants.{Transfer, Delegate, Test}
-use Rattle.spk_nums.specs.declared.replies.Reply.{Reply}
-use Rattle.spk_nums.specs.declared.replies.Reply.TheVariants.{Ok}
-use Rattle.spk_nums.specs.declared.replies.Value.{Value}
-use Rattle.tcap_words.specs.Quality.{quality_of_word}
-use Rattle.tcap_words.specs.Head.{head_of_word}
-use Rattle.tcap_words.specs.declared.head_word.HeadWord.{HeadWord}
-use Rattle.word_map.specs.Word.{EntryAt}
-use Rattle.kernel_rules.specs.Access.{only}
-use Rattle.kernel_rules.specs.Laws.{ticks}
-use Rattle.kernel_rules.specs.Rules.{Found, named}
-use Rattle.kernel_rules.specs.Start.{start}
-use Rattle.kernel_rules.specs.State.{Kernel, Tcap, TcapFields, State}
-use Rattle.kernel_rules.specs.TimeCalls.{tcap_at, preemption, preempts}
-use Rattle.kernel_laws.specs.Laws.{grants_sum, decided_ticks}
-use Rattle.kernel_history.specs.Events.{events_of}
-use Rattle.kernel_history.specs.Marking.{marked_by}
-use Rattle.kernel_history.specs.Trace.{Step, Trace, Open, Decided, phase, after_enter, state_after, state_before, last_left}
+use Rattle.flight.specs.spk_nums.specs.Setting.{Setting, IsSetting}
+use Rattle.flight.specs.spk_nums.specs.Capability.{Capability}
+use Rattle.flight.specs.spk_nums.specs.declared.kinds.Kind.TheVariants as kind
+use Rattle.flight.specs.spk_nums.specs.declared.calls.Call.{Call}
+use Rattle.flight.specs.spk_nums.specs.declared.calls.Call.TheVariants.{Transfer, Delegate, Test}
+use Rattle.flight.specs.spk_nums.specs.declared.replies.Reply.{Reply}
+use Rattle.flight.specs.spk_nums.specs.declared.replies.Reply.TheVariants.{Ok}
+use Rattle.flight.specs.spk_nums.specs.declared.replies.Value.{Value}
+use Rattle.flight.specs.tcap_words.specs.Quality.{quality_of_word}
+use Rattle.flight.specs.tcap_words.specs.Head.{head_of_word}
+use Rattle.flight.specs.tcap_words.specs.declared.head_word.HeadWord.{HeadWord}
+use Rattle.flight.specs.word_map.specs.Word.{EntryAt}
+use Rattle.flight.specs.kernel_rules.specs.Access.{only}
+use Rattle.flight.specs.kernel_rules.specs.Laws.{ticks}
+use Rattle.flight.specs.kernel_rules.specs.Rules.{Found, named}
+use Rattle.flight.specs.kernel_rules.specs.Start.{start}
+use Rattle.flight.specs.kernel_rules.specs.State.{Kernel, Tcap, TcapFields, State}
+use Rattle.flight.specs.kernel_rules.specs.TimeCalls.{tcap_at, preemption, preempts}
+use Rattle.flight.specs.kernel_laws.specs.Laws.{grants_sum, decided_ticks}
+use Rattle.flight.specs.kernel_history.specs.Events.{events_of}
+use Rattle.flight.specs.kernel_history.specs.Marking.{marked_by}
+use Rattle.flight.specs.kernel_history.specs.Trace.{Step, Trace, Open, Decided, phase, after_enter, state_after, state_before, last_left}
 use Rattle.flight.specs.Made.{IsMade}
 
 -- At each moment the budgets of all temporal capabilities and the ticks that all cores have spent sum to the grants.
