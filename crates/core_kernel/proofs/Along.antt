@@ -21,14 +21,15 @@ use Rattle.turn_rule.proofs.Traces.{kept_along, word_here, word_elsewhere, progr
 use Rattle.call_steps.specs.call_stages.specs.declared.stages.ActiveCall.{ActiveCall}
 use Rattle.call_steps.specs.call_stages.specs.View.{Core}
 use Rattle.call_steps.specs.call_stages.specs.Fits.{IsCore}
-use Rattle.flight_laws.specs.flight.specs.Histories.{IsHistory}
+use Rattle.flight_laws.specs.Histories.{IsHistory}
 use Rattle.flight_laws.specs.flight.specs.Made.{turned, MayStep, core_after, cores_after, IsMade, IsMadeStep}
 use Rattle.flight_laws.specs.flight.specs.Phases.{IsWord}
 use Rattle.flight_laws.specs.core_invariant.specs.Invariant.{Invariant}
 use Rattle.call_steps.specs.call_stages.specs.Cores.{started, move_of, absorbed}
 use Rattle.flight_laws.specs.flight.proofs.ByPlace.{place_is, left_is, told_is, apart_places}
 use Rattle.flight_laws.specs.flight.proofs.CoreFits.{begun_fits}
-use Rattle.flight_laws.specs.flight.proofs.Made.{made_stands, made_histories}
+use Rattle.flight_laws.specs.flight.proofs.Made.{made_stands}
+use Rattle.flight_laws.proofs.Histories.{made_histories}
 use Rattle.flight_laws.specs.flight.proofs.Phases.{made_phases}
 use Rattle.flight_laws.specs.flight.proofs.Spelling.{moves_are_words}
 use Rattle.core_kernel.specs.declared.core_run.CoreRun.{CoreRun}

@@ -8,7 +8,7 @@ use Rattle.boot_words.specs.kernel_history.specs.BootWords.{shape_of}
 use Rattle.boot_words.specs.kernel_history.specs.Counts.{RepresentCounts}
 use Rattle.boot_words.specs.kernel_history.specs.FinalWords.{Represent, word_in, end_in}
 use Rattle.boot_words.specs.kernel_history.specs.Trace.{Trace, Out, phase, calls_of, state_after}
-use Rattle.flight_laws.specs.flight.specs.Histories.{IsHistory}
+use Rattle.flight_laws.specs.Histories.{IsHistory}
 use Rattle.core_kernel.specs.Replies.{replies_of, AreOfOthers, EndsWith}
 use Rattle.core_kernel.specs.Kernel.{KernelValue, CoreSeatValue, CoreNoteValue}
 

@@ -5,7 +5,7 @@ use Rattle.spk_nums.specs.Setting.{Setting}
 use Rattle.boot_words.specs.kernel_history.specs.Order.{HasCalls}
 use Rattle.boot_words.specs.kernel_history.specs.Text.{text_by_cores}
 use Rattle.boot_words.specs.kernel_history.specs.Trace.{Trace}
-use Rattle.flight_laws.specs.flight.specs.Histories.{IsHistory}
+use Rattle.flight_laws.specs.Histories.{IsHistory}
 
 -- There is one trace that is a history of the machine and has the calls of the lists once and in order, and whose text, core by
 -- core, this is.

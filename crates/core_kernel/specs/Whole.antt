@@ -14,7 +14,7 @@ use Rattle.boot_words.specs.kernel_history.specs.Order.{HasCalls}
 use Rattle.boot_words.specs.kernel_history.specs.Text.{decisions_by}
 use Rattle.boot_words.specs.kernel_history.specs.Trace.{Trace, state_after}
 use Rattle.core_kernel.specs.declared.whole.Ran.{Ran}
-use Rattle.flight_laws.specs.flight.specs.Histories.{IsHistory}
+use Rattle.flight_laws.specs.Histories.{IsHistory}
 use Rattle.core_kernel.specs.Kernel.{CoreSeatValue}
 use Rattle.core_kernel.specs.Runs.{RunnerValue}
 

@@ -33,7 +33,6 @@ pub use Rattle.work_invariant.specs.thread_invariant
 pub use Rattle.work_invariant.specs.switch_invariant
 -- Its own.
 pub mod Made
-pub mod Histories
 pub mod Decided
 pub mod Theorems
 pub mod Phases

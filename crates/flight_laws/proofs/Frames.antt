@@ -76,7 +76,7 @@ ends_untyping t e f ended = by e.decides refl (after_enter e.enters (phase t e.c
     by (Some r) decides (Open call) is h = by_call call r decides is h
     by (Some r) decides (Decided call q) is h = absurd (false≢true h)
 
-pub counted_frames_stay : CountedFramesStay
+pub counted_frames_stay : (setup : Setting) → IsSetting setup → (t : Trace) (e : Step) → IsMade setup (e ∷ t) → CountedFramesStay setup t e
 counted_frames_stay setup setting t e made f is d below c mark = same_core c e.core (sym mark
     ∙ counter_all (λ k. marked_by setup t (CountAt f k) ≡ Some e.core) setup.cores d below
     (made_counted setup setting t e made f (untyping_ends t e f is)))
@@ -84,7 +84,7 @@ counted_frames_stay setup setting t e made f is d below c mark = same_core c e.c
     same_core : (x y : ℕ) → Some x ≡ Some y → x ≡ y
     same_core x y h = cc
 
-pub untyped_unused : UntypedFramesAreUnused
+pub untyped_unused : (setup : Setting) → IsSetting setup → (t : Trace) (e : Step) → IsMade setup (e ∷ t) → UntypedFramesAreUnused setup t e
 untyped_unused setup setting t e made f is = record { none = ended.0; waits = ended.1; flushed = all_flushed }
   where
     legal : IsLegal setup (e ∷ t)
@@ -292,7 +292,7 @@ there_along setup setting (e ∷ u) t made c f x there goes =
     not_true true never = absurd (never refl)
     not_true false never = refl
 
-pub looked_nodes_stay : LookedNodesStay
+pub looked_nodes_stay : (setup : Setting) → IsSetting setup → (u t : Trace) → IsMade setup (u ++ t) → LookedNodesStay setup u t
 looked_nodes_stay setup setting u t made c call is f i w read looked node goes =
     (there_along setup setting u t made c f ((state_after setup t).frame f) (record {
       inside = ap is_in is;

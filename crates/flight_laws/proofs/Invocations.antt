@@ -50,7 +50,7 @@ module _ (s : State) (c n : ℕ) (v : Value) (gate : Capability) where
       by_causes (nat_le 16 (length (thread_of s c).stack)) (is_live_in (s.number (comp_in (s.frame gate.frame)).number) gate.arg)
       (subst (λ o. IsFoundAnd (and_then o λ k. outcome s c (entering (found k))) (λ change. change.value ≡ v)) leads answers)
 
-pub enters_the_living : EntersTheLiving
+pub enters_the_living : (setup : Setting) → IsSetting setup → (t : Trace) (e : Step) → IsMade setup (e ∷ t) → EntersTheLiving setup t e
 enters_the_living setup setting t e made gate is =
     lives_at (state_before setup t e) e.core is.name is.value gate is.leads (subst
     (λ k. MayReply (state_before setup t e) e.core k (reply.Ok is.value))
@@ -78,7 +78,8 @@ entered_number : (o : Option Call) (s : State) (c l : ℕ) → (state_entered o 
 entered_number None s c l = refl
 entered_number (Some call) s c l = refl
 
-pub enters_none_killed : EntersNoneKilled
+pub enters_none_killed : (setup : Setting) → IsSetting setup
+    → (u t : Trace) (e : Step) → IsMade setup (e ∷ u ++ t) → EntersNoneKilled setup (e ∷ u) t
 enters_none_killed setup setting u t e made gate is epoch dead =
     let stands : Invariant setup (cores_after setup (u ++ t)) (u ++ t) = made_stands setup setting (u ++ t) made.0 in
     let had : Later (events_of (u ++ t)) (events_of t) = later_events u t in

@@ -21,7 +21,7 @@ use Rattle.flight_laws.specs.Lives.{DeadForGood}
 use Rattle.flight.specs.Made.{cores_after}
 use Rattle.flight.proofs.Made.{made_stands}
 
-pub dead_for_good : DeadForGood
+pub dead_for_good : (setup : Setting) → IsSetting setup → (u t : Trace) → IsMade setup (u ++ t) → DeadForGood setup u t
 dead_for_good setup setting u t made l e d f dead shows =
     let stands : Invariant setup (cores_after setup (u ++ t)) (u ++ t) = made_stands setup setting (u ++ t) made in
     let had : Later (events_of (u ++ t)) (events_of t) = later_events u t in

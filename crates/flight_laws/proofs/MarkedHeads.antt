@@ -226,7 +226,7 @@ module _ (setup : Setting) (setting : IsSetting setup) (cores : ℕ → Core) (t
   by_call call table None undecided at = none nothing refl
   by_call call table (Some a) undecided at = by_stage a call table a.stage undecided at.phase at.knows
 
-pub open_heads_say : OpenHeadsSay
+pub open_heads_say : (setup : Setting) → IsSetting setup → (t : Trace) → IsMade setup t → OpenHeadsSay setup t
 open_heads_say setup setting t made f q d call is mark undecided = record {
   version = told.head.version;
   says = ap head_of_word told.raw ∙ spelling.reads (marked d told.head) fits

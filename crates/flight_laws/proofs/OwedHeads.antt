@@ -216,7 +216,7 @@ module _ (setup : Setting) (setting : IsSetting setup) (cores : ℕ → Core) (t
   by_call call r table None is at owes = none r call nothing refl
   by_call call r table (Some a) is at owes = by_stage a call r table a.stage is at.phase at.knows owes
 
-pub marked_heads_say : MarkedHeadsSay
+pub marked_heads_say : (setup : Setting) → IsSetting setup → (t : Trace) → IsMade setup t → MarkedHeadsSay setup t
 marked_heads_say setup setting t made f q d call r is mark decided = record {
   shown = told.head.budget;
   shows = record { version = told.head.version; says = ap head_of_word told.raw ∙ spelling.reads (marked d told.head) fits };

@@ -32,7 +32,7 @@ use Rattle.flight.specs.Made.{IsMade}
 use Rattle.flight_laws.specs.Pages.{CachedFramesStay, FlushesNone, CachedTillFlush, TouchesCache}
 use Rattle.flight.proofs.Made.{made_stands}
 
-pub cached_frames_stay : CachedFramesStay
+pub cached_frames_stay : (setup : Setting) → IsSetting setup → (t : Trace) → IsMade setup t → CachedFramesStay setup t
 cached_frames_stay setup setting t made c here =
     subst (λ s. AllByRecursion (Stands s c) (s.core c).cached) (sym (state_is setup t))
     (translations_stand setup setting (events_of t) (run_of setup t (made_stands setup setting t made).legal) c here)
@@ -83,7 +83,7 @@ first_all : (P Q : Translation → Type 0) → ((x : Translation) → P x → Q 
 first_all P Q f [] more all = tt
 first_all P Q f (x ∷ xs) more all = (f x all.0, first_all P Q f xs more all.1)
 
-pub cached_till_flush : CachedTillFlush
+pub cached_till_flush : (setup : Setting) → IsSetting setup → (u t : Trace) → IsMade setup (u ++ t) → CachedTillFlush setup u t
 cached_till_flush setup setting u t made c here none =
     let begins = trace_begins setup u t c none in
     let s' : State = state_after setup (u ++ t) in
@@ -108,7 +108,7 @@ returns_still (Some r) s t c x a = record { user = a.user; cached = by a.cached 
     by (inl has) = inl (ap (λ l. translation_of l x.pages x.page) list ∙ has)
     by (inr full) = inr (full.0, list ∙ full.1)
 
-pub touches_cache : TouchesCache
+pub touches_cache : (setup : Setting) → IsSetting setup → (e : Step) (t : Trace) → IsMade setup (e ∷ t) → TouchesCache setup t e
 touches_cache setup setting e t made v f flags opens decides =
     subst (λ o. Answers before (state_returned e.returns (state_decided o p before e.core) e.core) e.core x) (sym decides)
     (subst (λ q. Answers before (state_returned e.returns (state_decided (Some r) q before e.core) e.core) e.core x) (sym opens)

@@ -615,7 +615,7 @@ module _ (setup : Setting) (setting : IsSetting setup) where
   lasts_along [] made = λ c call is f i w k own held. absurd (none_some w own)
   lasts_along (e ∷ t) made = lasts_on t e made (lasts_along t made.0)
 
-pub places_found : PlacesFound
+pub places_found : (setup : Setting) → IsSetting setup → (t : Trace) → IsMade setup t → PlacesFound setup t
 places_found setup setting t made c call is f i w k own held node = by (lasts_along setup setting t made c call is f i w k own held)
   where
     stands : Invariant setup (cores_after setup t) t
@@ -677,6 +677,7 @@ module _ (setup : Setting) (setting : IsSetting setup) where
   passes_along (g ∷ u) t e made d v on shows at past passed x =
       passes_on (u ++ e ∷ t) g made x at d (passes_along u t e made.0 d v on shows at past passed x)
 
-pub scanned_cores : ScannedCores
+pub scanned_cores : (setup : Setting) → IsSetting setup
+    → (u t : Trace) (e : Step) → IsMade setup (u ++ e ∷ t) → ScannedCores setup u (e ∷ t)
 scanned_cores setup setting u t e made d v on shows at past passed x is =
     (passes_along setup setting u t e made d v on shows at past passed x).passed is

@@ -26,7 +26,7 @@ use Rattle.flight.specs.Made.{cores_after}
 use Rattle.flight_laws.specs.Threads.{IsShown, ThreadsRunApart, ThreadWordsSay}
 use Rattle.flight.proofs.Made.{made_stands}
 
-pub threads_apart : ThreadsRunApart
+pub threads_apart : (setup : Setting) → IsSetting setup → (t : Trace) → IsMade setup t → ThreadsRunApart setup t
 threads_apart setup setting t made c d c_below d_below same =
     let stands : Invariant setup (cores_after setup t) t = made_stands setup setting t made in
     same_some c d (sym (runs_on_own setup setting (cores_after setup t) t stands c c_below)
@@ -93,6 +93,6 @@ module _ (setup : Setting) (setting : IsSetting setup) (cores : ℕ → Core) (t
       by c below mark true mine = same_some c d (sym ((stands.marks (EntryAt (s.core c).thread 0) c).kept mine) ∙ mark)
       by c below mark false mine = absurd (none_some d (sym (thread_unmarked setup setting cores t stands c below 0 mine) ∙ mark))
 
-pub words_say : ThreadWordsSay
+pub words_say : (setup : Setting) → IsSetting setup → (t : Trace) → IsMade setup t → ThreadWordsSay setup t
 words_say setup setting t made f thread v says =
     shown setup setting (cores_after setup t) t (made_stands setup setting t made) f thread v says

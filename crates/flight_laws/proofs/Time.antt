@@ -36,16 +36,16 @@ use Rattle.flight.specs.kernel_rules.specs.Rules.{Change}
 legal_of : (setup : Setting) → IsSetting setup → (t : Trace) → IsMade setup t → IsLegal setup t
 legal_of setup setting t made = (made_stands setup setting t made).legal
 
-pub time_kept : TimeIsKept
+pub time_kept : (setup : Setting) → IsSetting setup → (t : Trace) → IsMade setup t → TimeIsKept setup t
 time_kept setup setting t made =
     ap ticks (state_is setup t) ∙ ticks_kept setup setting (events_of t) (run_of setup t (legal_of setup setting t made))
 
-pub ticks_counted : TicksAreCounted
+pub ticks_counted : (setup : Setting) → IsSetting setup → (t : Trace) → IsMade setup t → TicksAreCounted setup t
 ticks_counted setup setting t made c =
     ap (λ s. (s.core c).spent + (s.core c).owed) (state_is setup t)
     ∙ spending_sums setup (events_of t) (run_of setup t (legal_of setup setting t made)) c
 
-pub heads_say : HeadsSay
+pub heads_say : (setup : Setting) → IsSetting setup → (t : Trace) → IsMade setup t → HeadsSay setup t
 heads_say setup setting t made f q is unmarked = record { version = says.version; says = says.says }
   where
     stands : Invariant setup (cores_after setup t) t
@@ -61,7 +61,7 @@ heads_say setup setting t made f q is unmarked = record { version = says.version
         x ((state_after setup t).place f 0) (stamp setup t (PlaceOf f 0)) 0
         (settled setup (held_by (cores_after setup t)) t (EntryAt f 0))) is (stands.words (EntryAt f 0))))
 
-pub lists_say : ListsSay
+pub lists_say : (setup : Setting) → IsSetting setup → (t : Trace) → IsMade setup t → ListsSay setup t
 lists_say setup setting t made f q is unmarked j low =
     list_plain setup setting (cores_after setup t) t (made_stands setup setting t made) f q is unmarked j low
 
@@ -85,7 +85,7 @@ told_by s c x y v h = by (named s c x (only kind.Tcap)) (named s c y (only kind.
     by (Found a) (Refused r) first second h = absurd h
     by (Found a) (Found b) first second h = last a b first second (true && (true && a.frame == b.frame)) h
 
-pub tests_tell : TestsTell
+pub tests_tell : (setup : Setting) → IsSetting setup → (e : Step) (t : Trace) → IsMade setup (e ∷ t) → TestsTell setup t e
 tests_tell setup setting e t made x y v opens decides = told_by (state_before setup t e) e.core x y v
     (subst (λ (call : Call). MayReply (state_before setup t e) e.core call (reply.Ok v)) (sym (same_call may.is_open)) may.permitted).1
   where

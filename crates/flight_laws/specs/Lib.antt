@@ -2,7 +2,8 @@
 pub use Rattle.flight.specs.trace_laws
 pub use Rattle.flight.specs.core_invariant
 pub use Rattle.flight
--- Its own.
+-- Its own: the laws, and the record that has them.
+pub mod Moments
 pub mod Places
 pub mod Threads
 pub mod Time
@@ -10,3 +11,4 @@ pub mod Lives
 pub mod Invocations
 pub mod Pages
 pub mod Frames
+pub mod Histories

@@ -7,7 +7,7 @@ use Rattle.boot_words.specs.kernel_history.specs.Trace.{Trace}
 use Rattle.boot_words.specs.kernel_history.specs.Order.{HasCalls, Follows}
 use Rattle.boot_words.specs.kernel_history.specs.Text.{text_of}
 use Rattle.flight_laws.specs.flight.specs.Made.{ready_after}
-use Rattle.flight_laws.specs.flight.specs.Histories.{IsHistory}
+use Rattle.flight_laws.specs.Histories.{IsHistory}
 
 -- There is one trace that is a history of the machine, has the calls of the lists once and in order, follows the order, and whose
 -- text this is.

@@ -6,6 +6,7 @@ pub use Rattle.flight_laws.specs.trace_laws
 pub use Rattle.call_steps.specs.call_stages
 pub use Rattle.flight_laws.specs.core_invariant
 pub use Rattle.flight_laws.specs.flight
+pub use Rattle.flight_laws
 -- Its own.
 pub mod Machine
 pub mod Stands

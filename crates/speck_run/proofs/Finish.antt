@@ -13,7 +13,7 @@ use Rattle.lone_kernel.specs.kernel_history.specs.Tables.{tables_of}
 use Rattle.lone_kernel.specs.kernel_history.specs.Text.{reply_lines, text_of}
 use Rattle.lone_kernel.specs.trace_laws.proofs.Idle.{all_idle}
 use Rattle.lone_kernel.specs.flight.specs.Made.{ready_after, IsMade}
-use Rattle.lone_kernel.specs.flight.specs.Histories.{IsHistory, MadeHistories}
+use Rattle.lone_kernel.specs.flight_laws.specs.Histories.{IsHistory, MadeHistories}
 use Rattle.lone_kernel.specs.call_stages.specs.declared.stages.ActiveCall.{ActiveCall}
 use Rattle.lone_kernel.specs.flight.proofs.Phases.{made_of_its_cores}
 use Rattle.lone_kernel.specs.GivenSteps.{GivenSteps}

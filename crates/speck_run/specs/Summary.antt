@@ -7,7 +7,7 @@ use Rattle.lone_kernel.specs.kernel_rules.specs.Laws.{ticks}
 use Rattle.lone_kernel.specs.kernel_history.specs.Trace.{Trace, state_after, decisions_of}
 use Rattle.lone_kernel.specs.kernel_history.specs.Order.{HasCalls, Follows}
 use Rattle.lone_kernel.specs.flight.specs.Made.{ready_after}
-use Rattle.lone_kernel.specs.flight.specs.Histories.{IsHistory}
+use Rattle.lone_kernel.specs.flight_laws.specs.Histories.{IsHistory}
 use Rattle.script_reader.specs.Readings.{Meaning}
 use Rattle.load_summary.specs.Summaries.{summary_text}
 use Rattle.speck_run.specs.declared.summary.Summed.{Summed}

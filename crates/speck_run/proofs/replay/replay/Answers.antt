@@ -8,7 +8,7 @@ use Rattle.lone_kernel.specs.kernel_history.specs.Counts.{RepresentCounts}
 use Rattle.lone_kernel.specs.kernel_history.specs.FinalWords.{Represent, word_in, end_in}
 use Rattle.spk_nums.specs.Setting.{IsSetting}
 use Rattle.lone_kernel.specs.core_invariant.proofs.Sounds.{limits_of}
-use Rattle.lone_kernel.specs.flight.proofs.Made.{made_histories}
+use Rattle.lone_kernel.specs.flight_laws.proofs.Histories.{made_histories}
 use Rattle.speck_run.specs.Written.{lines_of}
 use Rattle.speck_run.proofs.Finish.{all_out, run, given}
 use Rattle.speck_run.proofs.replay.replay.Goals as goal

@@ -7,7 +7,7 @@ use Rattle.lone_kernel.specs.kernel_history.specs.Trace.{state_after}
 use Rattle.lone_kernel.specs.kernel_history.specs.FinalWords.{Represent, word_in, end_in}
 use Rattle.spk_nums.specs.Setting.{IsSetting}
 use Rattle.lone_kernel.specs.core_invariant.proofs.Sounds.{limits_of}
-use Rattle.lone_kernel.specs.flight.proofs.Made.{made_histories}
+use Rattle.lone_kernel.specs.flight_laws.proofs.Histories.{made_histories}
 use Rattle.load_summary.specs.Summaries.{summary_text}
 use Rattle.load_summary.proofs.Parts.{summary_is}
 use Rattle.speck_run.proofs.Finish.{all_out, run, summed_up}
