@@ -1,4 +1,5 @@
 -- What the crates above name through this one.
+pub use Rattle.flight.specs.kernel_laws
 pub use Rattle.flight.specs.trace_laws
 pub use Rattle.flight.specs.core_invariant
 pub use Rattle.flight
