@@ -41,8 +41,7 @@ node_blank s o d h object k r f t b = λ range e table g at v calm. (blank_by s 
 
 node_end : (s : State) (d f : ℕ) (x : Thing) → is_place_of f x ≡ true → s.frame f ≡ Kernel Blank → MayEnd s d x
 node_end s d f (PlaceOf g i) same blank = ap s.frame (eqb-true g f same) ∙ blank
-node_end s d f (FrameOf g) same blank = absurd (false≢true same)
-node_end s d f (NumberOf l) same blank = absurd (false≢true same)
+node_end s d f _ same blank = absurd (false≢true same)
 
 retype_end : (s : State) (d r f : ℕ) → ChangesFrom (λ change. MayEnd s d (FrameOf f)) s d (rule_of s d (Retype r f frame_kind.Untyped))
 retype_end s d r f = λ range e calm.
@@ -56,9 +55,8 @@ retype_end s d r f = λ range e calm.
     (zero_refs (refs s f) (when_not (nat_lt 0 (refs s f)) (reply.Referenced (refs s f)) p2.0), none_waiting s d (FrameOf f) p3.0)
 
 frame_end : (s : State) (d f : ℕ) (x : Thing) → same_thing x (FrameOf f) ≡ true → MayEnd s d (FrameOf f) → MayEnd s d x
-frame_end s d f (PlaceOf g i) same may = absurd (false≢true same)
 frame_end s d f (FrameOf g) same may = subst (λ (n : ℕ). MayEnd s d (FrameOf n)) (sym (eqb-true g f same)) may
-frame_end s d f (NumberOf l) same may = absurd (false≢true same)
+frame_end s d f _ same may = absurd (false≢true same)
 
 call_end : (s : State) (o : ℕ → Bool) (d : ℕ) → IsOpen s o d → (call : Call) (v : Value) (x : Thing)
     → MayReply s d call (reply.Ok v) → ends_by call x ≡ true → MayEnd s d x

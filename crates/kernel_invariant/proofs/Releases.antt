@@ -101,13 +101,9 @@ module _ (s : State) (o : ℕ → Bool) (d : ℕ) (h : IsOpen s o d) where
       (names_typed s k.kind k.frame (h.sound.held at.node at.index k (held_facts s d target at k e).1).fit) is
 
   make_releases : (what : Make) (r f t b : ℕ) → ChangesFrom (ReleasesTyped s) s d (make_rule s what r f t b)
-  make_releases make.Table r f t b = λ range e table g at v calm. none_released
-  make_releases make.Leaf r f t b = λ range e table g at v calm. none_released
-  make_releases make.Pages r f t b = λ range e table g at v calm. none_released
-  make_releases make.Pleaf r f t b = λ range e table g at v calm. none_released
   make_releases (make.Thread comp) r f t b = λ range e table g k j at v calm. none_released
-  make_releases (make.Tcap sched quality) r f t b = λ range e table g at v calm. none_released
   make_releases (make.Comp x y l) r f t b = λ range e table g own_table a own_pages k at v calm. none_released
+  make_releases _ r f t b = λ range e table g at v calm. none_released
 
   retype_releases : (r f : ℕ) (k : FrameKind) → ChangesFrom (ReleasesTyped s) s d (retype_rule s r f k)
   retype_releases r f frame_kind.Untyped =
@@ -136,9 +132,8 @@ module _ (s : State) (o : ℕ → Bool) (d : ℕ) (h : IsOpen s o d) where
       one_typed s f ((s.core d).thread ∷ (if q == (s.core d).tcap then [] else (s.core d).tcap ∷ [])) (left_typed (q == (s.core d).tcap)) is
 
   number_typed : (l : ℕ) (x : Liveness) → s.number l ≡ x → AreTyped s (number_names x)
-  number_typed l Unused is = tt
   number_typed l (Live epoch f) is = (comp_typed s f (h.sound.numbers l epoch f is).0, tt)
-  number_typed l (Dead epoch) is = tt
+  number_typed l _ is = tt
 
   own_typed : (x : Frame) → IsTrue (fits kind.Thread x) → IsObjectGood s x → AreTyped s (thread_in x).stack
   own_typed (Kernel (Thread t)) fit good = stack_typed s t.stack good
@@ -211,13 +206,9 @@ own_names s o f h none = elim (cases_lt f s.limits.frames) [
 ]
 
 make_begins : (s : State) (d : ℕ) (x : Thing) (what : Make) (r f t b : ℕ) → ChangesFrom (BeginsNot x) s d (make_rule s what r f t b)
-make_begins s d x make.Table r f t b = λ range e table g at v calm. refl
-make_begins s d x make.Leaf r f t b = λ range e table g at v calm. refl
-make_begins s d x make.Pages r f t b = λ range e table g at v calm. refl
-make_begins s d x make.Pleaf r f t b = λ range e table g at v calm. refl
 make_begins s d x (make.Thread comp) r f t b = λ range e table g k j at v calm. refl
-make_begins s d x (make.Tcap sched quality) r f t b = λ range e table g at v calm. refl
 make_begins s d x (make.Comp y p l) r f t b = λ range e table g own_table a own_pages k at v calm. refl
+make_begins s d x _ r f t b = λ range e table g at v calm. refl
 
 pub ends_begins : (s : State) (o : ℕ → Bool) (d : ℕ) (call : Call) (r : Reply) (x : Thing)
     → IsOpen s o d → MayReply s d call r → ends call r x ≡ true → begins s d call r x ≡ false
