@@ -1,6 +1,6 @@
 -- Every call that is carried out is a list of edits, and what is known where each is made.
-use Rattle.std.proofs.Common.{◌≡◌, ◌≢◌, ℕ, ◌+◌, ◌-◌, ◌<◌, ◌≤◌, Bool, true, false, not, refl, sym, ◌∙◌, ap, subst, arith, cond}
-use Rattle.std.proofs.Common.{◌==◌, nat_lt, if◌then◌else◌, IsTrue, List, [], ◌∷◌, Option, Some, None}
+use Rattle.std.proofs.Common.{◌≡◌, ◌≢◌, ℕ, ◌+◌, ◌-◌, ◌<◌, ◌≤◌, Bool, true, false, not, refl, sym, ◌∙◌, ap, subst, cond}
+use Rattle.std.proofs.Common.{◌==◌, nat_lt, IsTrue, List, [], ◌∷◌, Option, Some, None}
 use Rattle.std.proofs.lemmas.Bool.{false≢true, eqb-false, ltb-false}
 use Rattle.spk_nums.specs.Capability.{Capability}
 use Rattle.spk_nums.specs.CallLimits.{InLimits}
@@ -16,27 +16,27 @@ use Rattle.spk_nums.specs.declared.translations.Translation.{Translation}
 use Rattle.spk_nums.specs.declared.replies.Value.{Value}
 use Rattle.spk_nums.specs.declared.replies.Value.TheVariants.{Nothing, Amount}
 use Rattle.spk_nums.specs.declared.replies.Reply.TheVariants as reply
-use Rattle.kernel_rules.specs.State.{Free, Holds, Place, Object, Blank, Table, Leaf, Pages, Pleaf, Comp, Thread, Tcap, Frame, Untyped, User, Kernel}
-use Rattle.kernel_rules.specs.State.{CompFields, TcapFields, Liveness, Live, Grace, Thing, FrameOf, State, put, with_frame, tcap_in, comp_in, comp_of, thread_in}
+use Rattle.kernel_rules.specs.State.{Free, Holds, Object, Blank, Table, Leaf, Pages, Pleaf, Comp, Thread, Tcap, Frame, Untyped, User, Kernel}
+use Rattle.kernel_rules.specs.State.{CompFields, TcapFields, Liveness, Live, Grace, Thing, FrameOf, State, put, tcap_in, comp_in, comp_of, thread_in}
 use Rattle.kernel_rules.specs.Start.{plain_cap, no_grace}
-use Rattle.kernel_rules.specs.References.{refs, frame_names}
+use Rattle.kernel_rules.specs.References.{refs}
 use Rattle.kernel_rules.specs.Access.{Slot, Target, Under, InRoot, found, held_in, place_at, only, root}
 use Rattle.kernel_rules.specs.Fitting.{fits, IsGood}
 use Rattle.kernel_rules.specs.Relies.{is_node}
-use Rattle.kernel_rules.specs.Rules.{Change, fills, removes, leaves, answers, Cause, When, WaitedFor, Unflushed, Found, named, vacant, held}
-use Rattle.kernel_rules.specs.Rules.{first_cause, refusal_of, waits_of, flushes_of, Judged}
-use Rattle.kernel_rules.specs.CapabilityCalls.{outside, not_blank, makes, make_node, make_rule, not_taken, is_live, epoch_of, cleared}
-use Rattle.kernel_rules.specs.MemoryCalls.{is_untyped_now, not_untyped, is_empty, not_retyped, retype_rule, touch_by, translation_of, translated}
+use Rattle.kernel_rules.specs.Rules.{Change, fills, removes, answers, Cause, When, WaitedFor, Unflushed, Found, named, vacant, held}
+use Rattle.kernel_rules.specs.Rules.{first_cause, refusal_of, waits_of, flushes_of}
+use Rattle.kernel_rules.specs.CapabilityCalls.{outside, not_blank, makes, make_node, make_rule, not_taken, is_live, epoch_of}
+use Rattle.kernel_rules.specs.MemoryCalls.{is_untyped_now, is_empty, not_retyped, retype_rule, touch_by, translation_of, translated}
 use Rattle.kernel_rules.specs.InvocationCalls.{is_live_in, not_live, switch_to}
-use Rattle.kernel_rules.specs.TimeCalls.{tcap_at, with_tcap, with_budget, charge, merged_list, are_same, is_short, are_unlike, are_many, moved}
+use Rattle.kernel_rules.specs.TimeCalls.{tcap_at, with_tcap, with_budget, merged_list, are_same, is_short, are_unlike, are_many, moved}
 use Rattle.kernel_rules.specs.CallRelation.{rule_of, change_of, ends_by, flushes_by}
 use Rattle.kernel_rules.proofs.Changes.{IfFound}
-use Rattle.kernel_invariant.proofs.Sound.{IsSound, put_all}
-use Rattle.kernel_invariant.proofs.SoundRemovals.{below_by}
+use Rattle.kernel_invariant.proofs.Sound.{put_all}
+use Rattle.kernel_invariant.proofs.SoundRemovals.{below_by, none_waiting}
 use Rattle.kernel_invariant.proofs.Facts.{ChangesFrom, changes_map, outcome_from, named_good, named_fit, RootIsNode, vacant_facts, held_facts, none_parts, when_not, not_not, first_two}
-use Rattle.kernel_invariant.proofs.SoundCalls.{IsOpen, node_of, in_range, blank_by, untyped_by, own_thread, thread_below, tcap_below, root_node}
+use Rattle.kernel_invariant.proofs.SoundCalls.{IsOpen, node_of, in_range, blank_by, untyped_by, own_thread, thread_below, tcap_below, root_node, zero_refs}
 use Rattle.kernel_invariant.specs.Edits.{Edit, Fill, Remove, Node, Become, Untype, Component, Deaden, Push, Pop, Switch, Cache, Flush}
-use Rattle.kernel_invariant.specs.Edits.{Charge, Move, Merge, edited, after_edits, ends_all, flush_in, kept_all, does}
+use Rattle.kernel_invariant.specs.Edits.{Charge, Move, Merge, edited, begins_in, ends_in, begins_all, ends_all, flush_in, kept_all, does}
 
 -- A frame without an object.
 abbrev pub is_bare : Frame → Bool
@@ -87,13 +87,22 @@ pub record Switches (s : State) (c h : ℕ) : Type 0 where
   pub new : HasThread s h
   pub idle : (thread_in (s.frame h)).runs_on ≡ None
 
+-- A frame is untyped that holds nothing, is not referenced, and for which no other core waits and none has to flush.
+pub record Untypes (s : State) (c f : ℕ) : Type 0 where
+  pub below : f < s.limits.frames
+  pub empty : is_empty s f (s.frame f) ≡ true
+  pub unnamed : refs s f ≡ 0
+  pub unwaited : (d : ℕ) → d < s.limits.cores → d ≢ c → (s.grace (FrameOf f)).waits d ≡ false
+  pub flushed : flushes_of s (FrameOf f) ≡ None
+
 -- What is known of a sound state where core c makes an edit of it.
 abbrev pub Known : ℕ → State → Edit → Type 0
 Known c s (Fill at k) = PlaceKnown s.limits.frames at × (held_in (place_at s at) ≡ None)
 Known c s (Remove at k) = PlaceKnown s.limits.frames at × (place_at s at ≡ Holds k)
-Known c s (Node f object) = ((i : ℕ) (k : Capability) → s.place f i ≡ Holds k → ⊥) × TakesFresh s f (Kernel object)
+Known c s (Node f object) =
+    (s.frame f ≡ Kernel Blank) × ((i : ℕ) (k : Capability) → s.place f i ≡ Holds k → ⊥) × TakesFresh s f (Kernel object)
 Known c s (Become f x) = (is_node x ≡ false) × TakesFresh s f x
-Known c s (Untype f) = (f < s.limits.frames) × (is_empty s f (s.frame f) ≡ true)
+Known c s (Untype f) = Untypes s c f
 Known c s (Component f k) = TakesFresh s f (Kernel (Comp k))
 Known c s (Deaden l e) = l < 64
 Known c s (Push f) = HasThread s (s.core c).thread
@@ -118,11 +127,17 @@ Agrees call c list =
     × ((x : Thing) (g : Grace) → kept_all c list x g
     ≡ cond (ends_by call x) no_grace (cond (flushes_by call) (record g { unflushed = put g.unflushed c false }) g))
 
+-- The grace periods that a list begins and ends are those that its first edit begins and ends.
+abbrev pub Calm : ℕ → State → List Edit → Type 0
+Calm c s [] = Unit {0}
+Calm c s (e ∷ es) = (begins_all c s (e ∷ es) ≡ begins_in c s e) × ((x : Thing) → ends_all (e ∷ es) x ≡ ends_in e x)
+
 -- The change of a call of core c is that of a list of edits.
 pub record Edits (call : Call) (c : ℕ) (s : State) (change : Change) : Type 0 where
   pub list : List Edit
   pub is : change ≡ does c s change.value list
   pub agrees : Agrees call c list
+  pub calm : Calm c s list
   pub tested : Each Tested c s list
   pub limited : InLimits call → Each Limited c s list
   pub known : (o : ℕ → Bool) → IsOpen s o c → Each Known c s list
@@ -179,6 +194,7 @@ module _ (s : State) (c : ℕ) (o : ℕ → Bool) (h : IsOpen s o c) where
   node_fresh r f range object at k e poor idle calm place =
       let blank = (blank_by s o c r f range [] h e calm).1 in (
         (
+          blank,
           λ i k e. false≢true (sym (ap is_node blank) ∙ (h.sound.bare f i k e).0),
           fresh r f range [] object e poor idle calm,
         ),
@@ -216,7 +232,7 @@ module _ (s : State) (c : ℕ) (o : ℕ → Bool) (h : IsOpen s o c) where
 -- The calls.
 module _ (s : State) (c : ℕ) where
   nothing : {v : Value} (call : Call) → Agrees call c [] → Edits call c s (answers s v)
-  nothing call agrees = record { list = []; is = refl; agrees = agrees; tested = tt; limited = λ lim. tt; known = λ o h. tt }
+  nothing call agrees = record { list = []; is = refl; agrees = agrees; calm = tt; tested = tt; limited = λ lim. tt; known = λ o h. tt }
 
   one : (call : Call) (e : Edit) (v : Value) → Agrees call c (e ∷ []) → Tested c s e → (InLimits call → Limited c s e)
       → ((o : ℕ → Bool) → IsOpen s o c → Known c s e) → Edits call c s (does c s v (e ∷ []))
@@ -224,18 +240,20 @@ module _ (s : State) (c : ℕ) where
     list = e ∷ [];
     is = refl;
     agrees = agrees;
+    calm = (refl, λ x. refl);
     tested = (tested, tt);
     limited = λ lim. (limited lim, tt);
     known = λ o h. (known o h, tt);
   }
 
-  two : (call : Call) (e x : Edit) (v : Value) → Agrees call c (e ∷ x ∷ []) → Tested c s e × Tested c (edited c s e) x
+  two : (call : Call) (e x : Edit) (v : Value) → Agrees call c (e ∷ x ∷ []) → Calm c s (e ∷ x ∷ []) → Tested c s e × Tested c (edited c s e) x
       → (InLimits call → Limited c s e × Limited c (edited c s e) x)
       → ((o : ℕ → Bool) → IsOpen s o c → Known c s e × Known c (edited c s e) x) → Edits call c s (does c s v (e ∷ x ∷ []))
-  two call e x v agrees tested limited known = record {
+  two call e x v agrees calm tested limited known = record {
     list = e ∷ x ∷ [];
     is = refl;
     agrees = agrees;
+    calm = calm;
     tested = (tested.0, (tested.1, tt));
     limited = λ lim. ((limited lim).0, ((limited lim).1, tt));
     known = λ o h. ((known o h).0, ((known o h).1, tt));
@@ -253,7 +271,7 @@ module _ (s : State) (c : ℕ) where
       → (thread_in (Kernel object)).runs_on ≡ None → ((at : Slot) → Agrees call c (Node f object ∷ Fill at (plain_cap k f) ∷ []))
       → ChangesFrom (Edits call c s) s c (make_node s object k r f t b)
   made_node call object k r f t b poor idle agrees = λ range e table g at v calm.
-      two call (Node f object) (Fill at (plain_cap k f)) Nothing (agrees at) (tt, tt) (λ lim. (tt, tt))
+      two call (Node f object) (Fill at (plain_cap k f)) Nothing (agrees at) (refl, λ x. refl) (tt, tt) (λ lim. (tt, tt))
       (λ o h. node_fresh s c o h r f range object at (plain_cap k f) e poor idle calm
       (fill_known s c o h (Under (found table) b) at (plain_cap k f) tt v))
 
@@ -263,7 +281,7 @@ module _ (s : State) (c : ℕ) where
       → named s c r (only kind.Range) ≡ Found range → vacant s c target ≡ Found at
       → first_cause s c (outside (found range) f ∷ not_blank s f ∷ []) ≡ None → Edits call c s (makes s f object k at)
   made call object k r f range target at none poor idle agrees node e v calm =
-      two call (Become f (Kernel object)) (Fill at (plain_cap k f)) Nothing agrees (tt, tt) (λ lim. (tt, tt))
+      two call (Become f (Kernel object)) (Fill at (plain_cap k f)) Nothing agrees (refl, λ x. refl) (tt, tt) (λ lim. (tt, tt))
       (λ o h. ((none, fresh s c o h r f range [] object e poor idle calm), fill_known s c o h target at (plain_cap k f) node v))
 
   make_edits : (what : Make) (r f t b : ℕ) → ChangesFrom (Edits (call.Make what r f t b) c s) s c (make_rule s what r f t b)
@@ -287,7 +305,7 @@ module _ (s : State) (c : ℕ) where
       let q3 = none_parts (refusal_of s c (When (is_live (s.number l)) reply.Occupied)) _ q2.1 in
       let fields : CompFields = record { table = own_table.frame; pages = own_pages.frame; number = l; epoch = epoch_of (s.number l) + 1 } in
       two (call.Make (make.Comp x p l) r f t b) (Component f fields) (Fill at (plain_cap kind.Comp f)) Nothing
-      (λ x. refl, refl, λ x g. refl) ((when_not (is_live (s.number l)) reply.Occupied q3.0, refl), tt) (λ lim. (lim, tt))
+      (λ x. refl, refl, λ x g. refl) (refl, λ x. refl) ((when_not (is_live (s.number l)) reply.Occupied q3.0, refl), tt) (λ lim. (lim, tt))
       (λ o h. (
         fresh s c o h r f range (not_taken s l) (Comp fields) e refl refl calm,
         fill_known s c o h (Under (found table) b) at (plain_cap kind.Comp f) tt v,
@@ -310,10 +328,13 @@ module _ (s : State) (c : ℕ) where
       let p3 = none_parts (waits_of s c (FrameOf f)) (first_cause s c (Unflushed (FrameOf f) ∷ full ∷ [])) p2.1 in
       let p4 = none_parts (flushes_of s (FrameOf f)) (first_cause s c (full ∷ [])) p3.1 in
       let p5 = none_parts (refusal_of s c full) None p4.1 in
-      one (call.Retype r f frame_kind.Untyped) (Untype f) Nothing (λ x. refl, refl, λ x g. refl) tt (λ lim. tt) (λ o h. (
-        in_range s o c r f range h e p.0,
-        not_not (is_empty s f (s.frame f)) (when_not (not (is_empty s f (s.frame f))) reply.NotEmpty p5.0),
-      ))
+      one (call.Retype r f frame_kind.Untyped) (Untype f) Nothing (λ x. refl, refl, λ x g. refl) tt (λ lim. tt) (λ o h. record {
+        below = in_range s o c r f range h e p.0;
+        empty = not_not (is_empty s f (s.frame f)) (when_not (not (is_empty s f (s.frame f))) reply.NotEmpty p5.0);
+        unnamed = zero_refs (refs s f) (when_not (nat_lt 0 (refs s f)) (reply.Referenced (refs s f)) p2.0);
+        unwaited = none_waiting s c (FrameOf f) p3.0;
+        flushed = p4.0;
+      })
 
   touch_edits : (pages v n : ℕ) (t : Option Translation) → ChangesFrom (Edits (call.Touch n) c s) s c (touch_by s c pages v t)
   touch_edits pages v n None = λ mapping e calm.
@@ -379,7 +400,7 @@ module _ (s : State) (c : ℕ) where
       (λ o h. moves_known s c o h a b m j k (are_unlike s (found j) (found k) ∷ []) e f calm)
   rule_edits (call.Delegate a b m) = λ j e k f calm.
       two (call.Delegate a b m) (Move j.frame k.frame m) (Merge k.frame (merged_list s j.frame k.frame)) Nothing
-      (λ x. refl, refl, λ x g. refl) (tt, tt) (λ lim. (tt, tt)) (λ o h. (
+      (λ x. refl, refl, λ x g. refl) (refl, λ x. refl) (tt, tt) (λ lim. (tt, tt)) (λ o h. (
         moves_known s c o h a b m j k (are_many s (found j) (found k) ∷ []) e f calm,
         moved_known s c o h j.frame k.frame m (tcap_known s c o h b k f),
       ))

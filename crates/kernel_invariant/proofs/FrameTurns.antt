@@ -1,13 +1,13 @@
 -- How a call that is carried out turns frames: a node is made only with the end of its places' grace periods, and what a frame is
 -- changes only with the end of its own; and only frames that are something have references released.
-use Rattle.std.proofs.Common.{◌≡◌, ◌⊎◌, inl, inr, ℕ, ◌-◌, Bool, true, false, ◌||◌, refl, sym, ◌∙◌, ap, subst, IsTrue, List, [], ◌∷◌, Some, None}
+use Rattle.std.proofs.Common.{◌≡◌, ◌⊎◌, inl, inr, ℕ, ◌-◌, Bool, true, false, ◌||◌, refl, sym, ◌∙◌, ap, subst, IsTrue, List, [], ◌∷◌, None}
 use Rattle.std.proofs.lemmas.Bool.{false≢true, eq-eqb}
 use Rattle.spk_nums.specs.declared.calls.Call.{Call}
 use Rattle.spk_nums.specs.declared.calls.Call.TheVariants.{Tick}
 use Rattle.spk_nums.specs.declared.replies.Reply.{Reply}
 use Rattle.spk_nums.specs.declared.replies.Reply.TheVariants as reply
 use Rattle.kernel_rules.specs.State.{ThreadFields, TcapFields, Blank, Comp, Thread, Tcap}
-use Rattle.kernel_rules.specs.State.{Frame, Untyped, User, Kernel, Thing, PlaceOf, FrameOf, State, put}
+use Rattle.kernel_rules.specs.State.{Frame, Untyped, Kernel, Thing, PlaceOf, FrameOf, State, put}
 use Rattle.kernel_rules.specs.GracePeriods.{is_translated}
 use Rattle.kernel_rules.specs.Rules.{Change, Judged, Refused, Found}
 use Rattle.kernel_rules.specs.InvocationCalls.{with_thread, running}
@@ -87,7 +87,7 @@ node_turns ends f x y bare places = record { node = λ i n. inl (places i); type
 
 edit_turns : (c : ℕ) (s : State) (e : Edit) → Known c s e → (f : ℕ) → Turns (ends_in e) f (s.frame f) ((edited c s e).frame f)
 edit_turns c s (Node g object) k =
-    put_turns _ s g (Kernel object) (node_turns _ g (s.frame g) (Kernel object) k.1.bare (λ i. eq-eqb g g refl))
+    put_turns _ s g (Kernel object) (node_turns _ g (s.frame g) (Kernel object) k.2.bare (λ i. eq-eqb g g refl))
 edit_turns c s (Become g x) k = put_turns _ s g x (bare_turns _ g (s.frame g) x k.1.bare k.0)
 edit_turns c s (Component g fields) k = put_turns _ s g (Kernel (Comp fields)) (bare_turns _ g (s.frame g) _ k.bare refl)
 edit_turns c s (Untype g) k =

@@ -7,8 +7,8 @@ use Rattle.spk_nums.specs.CallLimits.{InLimits}
 use Rattle.spk_nums.specs.declared.calls.Call.{Call}
 use Rattle.spk_nums.specs.declared.kinds.Kind.TheVariants as kind
 use Rattle.kernel_rules.specs.State.{Place, Free, Holds, Quiescing, ThreadFields, TcapFields, Comp, Blank}
-use Rattle.kernel_rules.specs.State.{Thread, Tcap, Frame, Untyped, User, Kernel, Liveness}
-use Rattle.kernel_rules.specs.State.{Unused, Live, Dead, Core, Thing, FrameOf, State, put, with_place, with_frame}
+use Rattle.kernel_rules.specs.State.{Thread, Tcap, Frame, Untyped, Kernel, Liveness}
+use Rattle.kernel_rules.specs.State.{Live, Dead, Core, Thing, FrameOf, State, put, with_place, with_frame}
 use Rattle.kernel_rules.specs.State.{with_number, with_core, with_grace, Grace, thread_in, thread_of}
 use Rattle.kernel_rules.specs.References.{place_names, frame_names, number_names, core_names, sum_below, times, node_refs, refs}
 use Rattle.kernel_rules.specs.Access.{held_in}
@@ -16,7 +16,7 @@ use Rattle.kernel_rules.specs.Rules.{Change, frames_of}
 use Rattle.kernel_rules.specs.CapabilityCalls.{cleared, is_live}
 use Rattle.kernel_rules.specs.CallRelation.{rule_of}
 use Rattle.kernel_rules.specs.InvocationCalls.{with_thread, with_stack, running}
-use Rattle.kernel_rules.specs.TimeCalls.{tcap_at, with_tcap, with_budget, moved}
+use Rattle.kernel_rules.specs.TimeCalls.{tcap_at, with_tcap, with_budget}
 use Rattle.kernel_rules.specs.Laws.{released}
 use Rattle.kernel_rules.specs.Fitting.{fits}
 use Rattle.kernel_rules.proofs.Within.{put_same, put_other}
@@ -193,14 +193,14 @@ edit_refs c s (Remove at k) tested lim h f =
     let d = ap (times f) (released_frames (place_names (Holds k))) in
     omega (arith, a, b, d)
 edit_refs c s (Node g object) tested lim h f =
-    let a = frame_refs (cleared s g) g (Kernel object) f h.1.below in
-    let b = ap (times f) (bare_names (s.frame g) h.1.bare) in
-    let d = cleared_refs s g f h.0 in
+    let a = frame_refs (cleared s g) g (Kernel object) f h.2.below in
+    let b = ap (times f) (bare_names (s.frame g) h.2.bare) in
+    let d = cleared_refs s g f h.1 in
     omega (arith, a, b, d)
 edit_refs c s (Become g x) tested lim h f =
     let a = frame_refs s g x f h.1.below in let b = ap (times f) (bare_names (s.frame g) h.1.bare) in omega (arith, a, b)
 edit_refs c s (Untype g) tested lim h f =
-    let a = frame_refs s g Untyped f h.0 in
+    let a = frame_refs s g Untyped f h.below in
     let d = grace_refs (with_frame s g Untyped) (edited c s (Untype g)).grace f in
     let b = ap (times f) (released_frames (frame_names (s.frame g))) in
     omega (arith, a, b, d)
