@@ -1,5 +1,6 @@
 -- A liveness number that was killed lives later in higher epochs alone.
 use Rattle.std.proofs.Common.{◌≡◌, ℕ, List, [], ◌∷◌, ◌++◌, Option, Some, None, refl, sym, ◌∙◌, ap, subst}
+use Rattle.flight.specs.spk_nums.specs.Setting.{Setting, IsSetting}
 use Rattle.flight.specs.spk_nums.specs.declared.calls.Call.{Call}
 use Rattle.flight.specs.spk_nums.specs.declared.replies.Reply.{Reply}
 use Rattle.flight.specs.frame_words.specs.Live.{live_of_word}
@@ -18,7 +19,7 @@ use Rattle.flight.specs.core_invariant.specs.Invariant.{held_by, Invariant}
 use Rattle.flight.specs.comp_invariant.proofs.LaterEvents.{Later, later_events}
 use Rattle.flight.specs.live_invariant.proofs.Numbers.{number_is}
 use Rattle.flight_laws.specs.Lives.{DeadForGood}
-use Rattle.flight.specs.Made.{cores_after}
+use Rattle.flight.specs.Made.{cores_after, IsMade}
 use Rattle.flight.proofs.Made.{made_stands}
 
 pub dead_for_good : (setup : Setting) → IsSetting setup → (u t : Trace) → IsMade setup (u ++ t) → DeadForGood setup u t

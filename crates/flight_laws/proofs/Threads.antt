@@ -22,7 +22,7 @@ use Rattle.flight.specs.state_laws.proofs.Threads.{threads_run}
 use Rattle.flight.specs.switch_invariant.proofs.ThreadWords.{first_mark, none_some, same_some, same_value}
 use Rattle.flight.specs.switch_invariant.proofs.Words.{ShowsRun, shows}
 use Rattle.flight.specs.thread_invariant.proofs.EntryMarks.{thread_unmarked}
-use Rattle.flight.specs.Made.{cores_after}
+use Rattle.flight.specs.Made.{cores_after, IsMade}
 use Rattle.flight_laws.specs.Threads.{IsShown, ThreadsRunApart, ThreadWordsSay}
 use Rattle.flight.proofs.Made.{made_stands}
 

@@ -1,5 +1,5 @@
 -- Which components calls through gates enter.
-use Rattle.std.specs.Prelude.{◌≡◌, ◌<◌, ℕ, ◌∷◌, ◌++◌, true, Some}
+use Rattle.std.specs.Prelude.{◌≡◌, ◌<◌, ℕ, [], ◌∷◌, ◌++◌, true, Some}
 use Rattle.flight.specs.spk_nums.specs.Capability.{Capability}
 use Rattle.flight.specs.spk_nums.specs.Setting.{Setting}
 use Rattle.flight.specs.spk_nums.specs.declared.calls.Call.TheVariants.{Call as call_gate}

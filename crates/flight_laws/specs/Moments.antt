@@ -12,4 +12,4 @@ AtEachStep Holds t = (u : Trace) (e : Step) (v : Trace) → t ≡ u ++ e ∷ v �
 
 -- This holds of each stretch u of the trace, made after v.
 abbrev pub OfEachStretch : (Trace → Trace → Type 0) → Trace → Type 0
-OfEachStretch Holds t = (w u v : Trace) → t ≡ w ++ u ++ v → Holds u v
+OfEachStretch Holds t = (w u v : Trace) → t ≡ w ++ (u ++ v) → Holds u v

@@ -1,5 +1,5 @@
 -- What may be concluded from a word that a step has found: that of a place which is held, and that of a core which has passed a stamp.
-use Rattle.std.specs.Prelude.{◌≡◌, ◌<◌, ◌⊎◌, ℕ, false, ◌∷◌, ◌++◌, Some, IsTrue}
+use Rattle.std.specs.Prelude.{◌≡◌, ◌<◌, ◌⊎◌, ℕ, false, [], ◌∷◌, ◌++◌, Some, IsTrue}
 use Rattle.flight.specs.spk_nums.specs.Capability.{Capability}
 use Rattle.flight.specs.spk_nums.specs.Setting.{Setting}
 use Rattle.flight.specs.spk_nums.specs.declared.calls.Call.{Call}
