@@ -38,7 +38,7 @@ use Rattle.kernel_invariant.proofs.SoundRemovals.{below_by, none_waiting}
 use Rattle.kernel_invariant.proofs.Facts.{ChangesFrom, changes_map, outcome_from, named_good, named_fit, RootIsNode, vacant_facts, held_facts, none_parts, when_not, not_not, first_two}
 use Rattle.kernel_invariant.proofs.SoundCalls.{IsOpen, node_of, in_range, blank_by, untyped_by, own_thread, thread_below, tcap_below, root_node, zero_refs}
 use Rattle.kernel_invariant.specs.Edits.{Edit, Fill, Remove, Node, Become, Untype, Component, Deaden, Push, Pop, Switch, Cache, Flush}
-use Rattle.kernel_invariant.specs.Edits.{Charge, Move, Merge, edited, begins_in, ends_in, begins_all, ends_all, flush_in, kept_all, charged_by, charged_all, does}
+use Rattle.kernel_invariant.specs.Edits.{Charge, Move, Merge, edited, after_edits, begins_in, ends_in, begins_all, ends_all, flush_in, kept_all, charged_by, charged_all, does}
 
 -- A frame without an object.
 abbrev pub is_bare : Frame → Bool
@@ -50,6 +50,7 @@ is_bare _ = false
 abbrev pub Tested : ℕ → State → Edit → Type 0
 Tested c s (Component f k) =
     (is_live (s.number k.number) ≡ false) × (k.epoch ≡ epoch_of (s.number k.number) + 1) × (epoch_of (s.number k.number) ≢ s.limits.epochs)
+Tested c s (Untype f) = flushes_of s (FrameOf f) ≡ None
 Tested c s (Deaden l e) = is_live_in (s.number l) e ≡ true
 Tested c s (Push f) = length (thread_of s c).stack < 16
 Tested c s Pop = 1 < length (thread_of s c).stack
@@ -59,7 +60,9 @@ Tested c s _ = Unit {0}
 
 -- What the limits of a call's arguments, and the rule that makes an object, say of an edit.
 abbrev pub Limited : ℕ → State → Edit → Type 0
+Limited c s (Node f object) = IsTrue (is_node (Kernel object))
 Limited c s (Component f k) = k.number < 64
+Limited c s (Become f (Kernel (Comp k))) = ⊥
 Limited c s (Become f (Kernel (Thread t))) = length t.stack ≡ 1
 Limited c s (Become f (Kernel (Tcap q))) = (length q.qualities ≡ 1) × IsQualityList q.qualities
 Limited c s (Charge n) = n ≤ 1000000
@@ -105,13 +108,12 @@ pub record Switches (s : State) (c h : ℕ) : Type 0 where
   pub new : HasThread s h
   pub idle : (thread_in (s.frame h)).runs_on ≡ None
 
--- A frame is untyped that holds nothing, is not referenced, and for which no other core waits and none has to flush.
+-- A frame is untyped that holds nothing, is not referenced, and for which no other core waits.
 pub record Untypes (s : State) (c f : ℕ) : Type 0 where
   pub below : f < s.limits.frames
   pub empty : is_empty s f (s.frame f) ≡ true
   pub unnamed : refs s f ≡ 0
   pub unwaited : (d : ℕ) → d < s.limits.cores → d ≢ c → (s.grace (FrameOf f)).waits d ≡ false
-  pub flushed : flushes_of s (FrameOf f) ≡ None
 
 -- What is known of a sound state where core c makes an edit of it.
 abbrev pub Known : ℕ → State → Edit → Type 0
@@ -146,10 +148,30 @@ Agrees call c list =
     ≡ cond (ends_by call x) no_grace (cond (flushes_by call) (record g { unflushed = put g.unflushed c false }) g))
     × (charged_by call ≡ charged_all list)
 
--- The grace periods that a list begins and ends are those that its first edit begins and ends.
+-- Edits after the first fill places and put lists alone.
+abbrev pub AreLater : List Edit → Type 0
+AreLater [] = Unit {0}
+AreLater (Fill at k ∷ es) = AreLater es
+AreLater (Merge f qs ∷ es) = AreLater es
+AreLater _ = ⊥
+
+-- So the grace periods that a list begins and ends are those that its first edit begins and ends.
 abbrev pub Calm : ℕ → State → List Edit → Type 0
 Calm c s [] = Unit {0}
-Calm c s (e ∷ es) = (begins_all c s (e ∷ es) ≡ begins_in c s e) × ((x : Thing) → ends_all (e ∷ es) x ≡ ends_in e x)
+Calm c s (e ∷ es) = (begins_all c s (e ∷ es) ≡ begins_in c s e) × ((x : Thing) → ends_all (e ∷ es) x ≡ ends_in e x) × AreLater es
+
+-- They change no core and no number.
+pub later_core : (c : ℕ) (s : State) (es : List Edit) → AreLater es → (after_edits c s es).core ≡ s.core
+later_core c s [] l = refl
+later_core c s (Fill at k ∷ es) l = later_core c (edited c s (Fill at k)) es l
+later_core c s (Merge f qs ∷ es) l = later_core c (edited c s (Merge f qs)) es l
+later_core c s (_ ∷ es) l = absurd l
+
+pub later_number : (c : ℕ) (s : State) (es : List Edit) → AreLater es → (after_edits c s es).number ≡ s.number
+later_number c s [] l = refl
+later_number c s (Fill at k ∷ es) l = later_number c (edited c s (Fill at k)) es l
+later_number c s (Merge f qs ∷ es) l = later_number c (edited c s (Merge f qs)) es l
+later_number c s (_ ∷ es) l = absurd l
 
 -- The change of a call of core c is that of a list of edits.
 pub record Edits (call : Call) (c : ℕ) (s : State) (change : Change) : Type 0 where
@@ -274,7 +296,7 @@ module _ (s : State) (c : ℕ) where
     list = e ∷ [];
     is = refl;
     agrees = agrees;
-    calm = (refl, λ x. refl);
+    calm = (refl, λ x. refl, tt);
     tested = (tested, tt);
     limited = λ lim. (limited lim, tt);
     known = λ o h. (known o h, tt);
@@ -301,11 +323,11 @@ module _ (s : State) (c : ℕ) where
       → held s c target ≡ Found (at, k) → Edits call c s (removes s at k)
   removed call target at k agrees e = one call (Remove at k) Nothing agrees tt (λ lim. tt) (λ o h. remove_known s c o h target at k e)
 
-  made_node : (call : Call) (object : Object) (k : Kind) (r f t b : ℕ) → (tcap_in (Kernel object)).budget ≡ 0
-      → (thread_in (Kernel object)).runs_on ≡ None → ((at : Slot) → Agrees call c (Node f object ∷ Fill at (plain_cap k f) ∷ []))
+  made_node : (call : Call) (object : Object) (k : Kind) (r f t b : ℕ) → IsTrue (is_node (Kernel object))
+      → (tcap_in (Kernel object)).budget ≡ 0 → (thread_in (Kernel object)).runs_on ≡ None → ((at : Slot) → Agrees call c (Node f object ∷ Fill at (plain_cap k f) ∷ []))
       → ChangesFrom (Edits call c s) s c (make_node s object k r f t b)
-  made_node call object k r f t b poor idle agrees = λ range e table g at v calm.
-      two call (Node f object) (Fill at (plain_cap k f)) Nothing (agrees at) (refl, λ x. refl) (tt, tt) (λ lim. (tt, tt))
+  made_node call object k r f t b node poor idle agrees = λ range e table g at v calm.
+      two call (Node f object) (Fill at (plain_cap k f)) Nothing (agrees at) (refl, λ x. refl, tt) (tt, tt) (λ lim. (node, tt))
       (λ o h. node_fresh s c o h r f range object at (plain_cap k f) e poor idle calm
       (fill_known s c o h (Under (found table) b) at (plain_cap k f) tt v))
 
@@ -316,18 +338,18 @@ module _ (s : State) (c : ℕ) where
       → named s c r (only kind.Range) ≡ Found range → vacant s c target ≡ Found at
       → first_cause s c (outside (found range) f ∷ not_blank s f ∷ []) ≡ None → Edits call c s (makes s f object k at)
   made call object k r f range target at none poor idle agrees limited node e v calm =
-      two call (Become f (Kernel object)) (Fill at (plain_cap k f)) Nothing agrees (refl, λ x. refl) (tt, tt) (λ lim. (limited lim, tt))
+      two call (Become f (Kernel object)) (Fill at (plain_cap k f)) Nothing agrees (refl, λ x. refl, tt) (tt, tt) (λ lim. (limited lim, tt))
       (λ o h. ((none, fresh s c o h r f range [] object e poor idle calm), fill_known s c o h target at (plain_cap k f) node v))
 
   make_edits : (what : Make) (r f t b : ℕ) → ChangesFrom (Edits (call.Make what r f t b) c s) s c (make_rule s what r f t b)
   make_edits make.Table r f t b =
-      made_node (call.Make make.Table r f t b) Table kind.Table r f t b refl refl (λ at. (λ x. refl, refl, λ x g. refl, refl))
+      made_node (call.Make make.Table r f t b) Table kind.Table r f t b refl refl refl (λ at. (λ x. refl, refl, λ x g. refl, refl))
   make_edits make.Leaf r f t b =
-      made_node (call.Make make.Leaf r f t b) Leaf kind.Leaf r f t b refl refl (λ at. (λ x. refl, refl, λ x g. refl, refl))
+      made_node (call.Make make.Leaf r f t b) Leaf kind.Leaf r f t b refl refl refl (λ at. (λ x. refl, refl, λ x g. refl, refl))
   make_edits make.Pages r f t b =
-      made_node (call.Make make.Pages r f t b) Pages kind.Pages r f t b refl refl (λ at. (λ x. refl, refl, λ x g. refl, refl))
+      made_node (call.Make make.Pages r f t b) Pages kind.Pages r f t b refl refl refl (λ at. (λ x. refl, refl, λ x g. refl, refl))
   make_edits make.Pleaf r f t b =
-      made_node (call.Make make.Pleaf r f t b) Pleaf kind.Pleaf r f t b refl refl (λ at. (λ x. refl, refl, λ x g. refl, refl))
+      made_node (call.Make make.Pleaf r f t b) Pleaf kind.Pleaf r f t b refl refl refl (λ at. (λ x. refl, refl, λ x g. refl, refl))
   make_edits (make.Thread comp) r f t b = λ range e table g k j at v calm.
       made (call.Make (make.Thread comp) r f t b) (Thread (record { stack = k.frame ∷ []; runs_on = None })) kind.Thread r f range
       (Under (found table) b) at refl refl refl (λ x. refl, refl, λ x g. refl, refl) (λ lim. refl) tt e v calm
@@ -342,7 +364,7 @@ module _ (s : State) (c : ℕ) where
       let q5 = none_parts (refusal_of s c (When (epoch_of (s.number l) == s.limits.epochs) reply.EpochsSpent)) None q4.1 in
       let fields : CompFields = record { table = own_table.frame; pages = own_pages.frame; number = l; epoch = epoch_of (s.number l) + 1 } in
       two (call.Make (make.Comp x p l) r f t b) (Component f fields) (Fill at (plain_cap kind.Comp f)) Nothing
-      (λ x. refl, refl, λ x g. refl, refl) (refl, λ x. refl) ((
+      (λ x. refl, refl, λ x g. refl, refl) (refl, λ x. refl, tt) ((
         when_not (is_live (s.number l)) reply.Occupied q3.0,
         refl,
         eqb-false (epoch_of (s.number l)) s.limits.epochs (when_not (epoch_of (s.number l) == s.limits.epochs) reply.EpochsSpent q5.0),
@@ -369,12 +391,11 @@ module _ (s : State) (c : ℕ) where
       let p3 = none_parts (waits_of s c (FrameOf f)) (first_cause s c (Unflushed (FrameOf f) ∷ full ∷ [])) p2.1 in
       let p4 = none_parts (flushes_of s (FrameOf f)) (first_cause s c (full ∷ [])) p3.1 in
       let p5 = none_parts (refusal_of s c full) None p4.1 in
-      one (call.Retype r f frame_kind.Untyped) (Untype f) Nothing (λ x. refl, refl, λ x g. refl, refl) tt (λ lim. tt) (λ o h. record {
+      one (call.Retype r f frame_kind.Untyped) (Untype f) Nothing (λ x. refl, refl, λ x g. refl, refl) p4.0 (λ lim. tt) (λ o h. record {
         below = in_range s o c r f range h e p.0;
         empty = not_not (is_empty s f (s.frame f)) (when_not (not (is_empty s f (s.frame f))) reply.NotEmpty p5.0);
         unnamed = zero_refs (refs s f) (when_not (nat_lt 0 (refs s f)) (reply.Referenced (refs s f)) p2.0);
         unwaited = none_waiting s c (FrameOf f) p3.0;
-        flushed = p4.0;
       })
 
   touch_edits : (v : ℕ) (t : Option Translation) → ChangesFrom (Edits (call.Touch v) c s) s c (touch_by s c (comp_of s c).pages v t)
@@ -449,7 +470,7 @@ module _ (s : State) (c : ℕ) where
       let q = none_parts (refusal_of s c (is_short s (found j) m)) _ p.1 in
       let r = none_parts (refusal_of s c (are_many s (found j) (found k))) None q.1 in
       two (call.Delegate a b m) (Move j.frame k.frame m) (Merge k.frame (merged_list s j.frame k.frame)) Nothing
-      (λ x. refl, refl, λ x g. refl, refl) (refl, λ x. refl) (tt, tt) (λ lim. (tt, tt)) (λ o h. (
+      (λ x. refl, refl, λ x g. refl, refl) (refl, λ x. refl, tt) (tt, tt) (λ lim. (tt, tt)) (λ o h. (
         moves_known s c o h a b m j k (are_many s (found j) (found k) ∷ []) e f calm,
         record {
           to = moved_known s c o h j.frame k.frame m k.frame (tcap_known s c o h b k f);
