@@ -230,9 +230,7 @@ in_frame : (epochs : ℕ) (x : Frame) → FrameShape epochs x → (tcap_in x).bu
 in_frame epochs (Kernel (Tcap q)) h small = record { least = h.least; most = h.most; pairs = h.pairs; budget = small }
 in_frame epochs (Kernel (Comp k)) h small = h
 in_frame epochs (Kernel (Thread t)) h small = h
-in_frame epochs Untyped h small = tt
-in_frame epochs User h small = tt
-in_frame epochs (Kernel _) h small = tt
+in_frame epochs _ h small = tt
 
 pub ranges_hold : RangesHold
 ranges_hold setting lim events run = record {

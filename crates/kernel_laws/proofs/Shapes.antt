@@ -114,28 +114,12 @@ cored s c change k h frames number core grows = record {
 thread_shape : (e : ℕ) (x : Frame) (t : ThreadFields) → FrameShape e x → (ThreadInRange (thread_in x) → ThreadInRange t)
     → FrameShape e (with_thread x t)
 thread_shape e (Kernel (Thread u)) t h new = new h
-thread_shape e Untyped t h new = h
-thread_shape e User t h new = h
-thread_shape e (Kernel Blank) t h new = h
-thread_shape e (Kernel Table) t h new = h
-thread_shape e (Kernel Leaf) t h new = h
-thread_shape e (Kernel Pages) t h new = h
-thread_shape e (Kernel Pleaf) t h new = h
-thread_shape e (Kernel (Comp k)) t h new = h
-thread_shape e (Kernel (Tcap q)) t h new = h
+thread_shape e _ t h new = h
 
 tcap_shape : (e : ℕ) (x : Frame) (q : TcapFields) → FrameShape e x → (ListInRange (tcap_in x).qualities → ListInRange q.qualities)
     → FrameShape e (with_tcap x q)
 tcap_shape e (Kernel (Tcap p)) q h new = new h
-tcap_shape e Untyped q h new = h
-tcap_shape e User q h new = h
-tcap_shape e (Kernel Blank) q h new = h
-tcap_shape e (Kernel Table) q h new = h
-tcap_shape e (Kernel Leaf) q h new = h
-tcap_shape e (Kernel Pages) q h new = h
-tcap_shape e (Kernel Pleaf) q h new = h
-tcap_shape e (Kernel (Comp k)) q h new = h
-tcap_shape e (Kernel (Thread t)) q h new = h
+tcap_shape e _ q h new = h
 
 budget_shape : (s : State) (e f n : ℕ) → ((g : ℕ) → FrameShape e (s.frame g)) → (g : ℕ) → FrameShape e ((with_budget s f n).frame g)
 budget_shape s e f n h = frame_put s e f _ h (tcap_shape e (s.frame f) (record (tcap_at s f) { budget = n }) (h f) (λ l. l))
@@ -174,8 +158,7 @@ comp_shape s c l h calm =
   where
     below : (x : Liveness) → NumberInRange s.limits.epochs x → epoch_of x ≤ s.limits.epochs
     below Unused r = omega arith
-    below (Live e f) r = r.most
-    below (Dead e) r = r.most
+    below _ r = r.most
 
 make_shape : (s : State) (c : ℕ) → Shaped s → (what : Make) (r f t b : ℕ) → InLimits (make_call what r f t b)
     → ChangesFrom (ShapedBy s c) s c (make_rule s what r f t b)
@@ -229,9 +212,8 @@ touch_shape s c h pages v (Some t) = λ calm. same s c _ h refl refl refl
 
 -- A number that is live in an epoch has it in range.
 live_shape : (epochs e : ℕ) (x : Liveness) → is_live_in x e ≡ true → NumberInRange epochs x → EpochInRange epochs e
-live_shape epochs e Unused is h = absurd (false≢true is)
 live_shape epochs e (Live d f) is h = subst (EpochInRange epochs) (eqb-true d e is) h
-live_shape epochs e (Dead d) is h = absurd (false≢true is)
+live_shape epochs e _ is h = absurd (false≢true is)
 
 kill_shape : (s : State) (c : ℕ) → Shaped s → (k : ℕ) → ChangesFrom (ShapedBy s c) s c (rule_of s c (Kill k))
 kill_shape s c h k = λ comp e calm.

@@ -54,18 +54,13 @@ abbrev By : State → ℕ → Call → Change → Type 0
 By s c call change = Charges s c call change.next.core
 
 make_due : (s : State) (c : ℕ) (what : Make) (r f t b : ℕ) → AllChanges (By s c (make_call what r f t b)) (make_rule s what r f t b)
-make_due s c make.Table r f t b = λ range table at. same s c _ _ refl refl
-make_due s c make.Leaf r f t b = λ range table at. same s c _ _ refl refl
-make_due s c make.Pages r f t b = λ range table at. same s c _ _ refl refl
-make_due s c make.Pleaf r f t b = λ range table at. same s c _ _ refl refl
 make_due s c (make.Thread comp) r f t b = λ range table k at. same s c _ _ refl refl
-make_due s c (make.Tcap sched quality) r f t b = λ range table at. same s c _ _ refl refl
 make_due s c (make.Comp x p l) r f t b = λ range table k j at. same s c _ _ refl refl
+make_due s c _ r f t b = λ range table at. same s c _ _ refl refl
 
 retype_due : (s : State) (c r f : ℕ) (k : FrameKind) → AllChanges (By s c (Retype r f k)) (retype_rule s r f k)
 retype_due s c r f frame_kind.Untyped = λ range. same s c _ _ refl refl
-retype_due s c r f frame_kind.User = λ range. same s c _ _ refl refl
-retype_due s c r f frame_kind.Kernel = λ range. same s c _ _ refl refl
+retype_due s c r f _ = λ range. same s c _ _ refl refl
 
 none : (s : State) (c : ℕ) (call : Call) (k : Core) → ticks_of call ≡ 0 → due k ≡ due (s.core c) → due k ≡ due (s.core c) + ticks_of call
 none s c call k zero e = omega (arith, zero, e)

@@ -92,15 +92,7 @@ make_ticks s o c h (make.Comp x p l) r f t b =
 
 empty_budget : (s : State) (f : ℕ) (x : Frame) → is_empty s f x ≡ true → budget x ≡ 0
 empty_budget s f (Kernel (Tcap q)) e = eqb-true q.budget 0 e
-empty_budget s f (Kernel Blank) e = refl
-empty_budget s f (Kernel Table) e = refl
-empty_budget s f (Kernel Leaf) e = refl
-empty_budget s f (Kernel Pages) e = refl
-empty_budget s f (Kernel Pleaf) e = refl
-empty_budget s f (Kernel (Comp k)) e = refl
-empty_budget s f (Kernel (Thread t)) e = refl
-empty_budget s f Untyped e = refl
-empty_budget s f User e = refl
+empty_budget s f _ e = refl
 
 retype_ticks : (s : State) (o : ℕ → Bool) (c : ℕ) → IsOpen s o c
     → (r f : ℕ) (k : FrameKind) → ChangesFrom (TicksStay s) s c (retype_rule s r f k)
@@ -126,15 +118,7 @@ retype_ticks s o c h r f frame_kind.Untyped = λ range e calm.
 
 thread_budget : (x : Frame) (t : ThreadFields) → budget (with_thread x t) ≡ budget x
 thread_budget (Kernel (Thread u)) t = refl
-thread_budget Untyped t = refl
-thread_budget User t = refl
-thread_budget (Kernel Blank) t = refl
-thread_budget (Kernel Table) t = refl
-thread_budget (Kernel Leaf) t = refl
-thread_budget (Kernel Pages) t = refl
-thread_budget (Kernel Pleaf) t = refl
-thread_budget (Kernel (Comp k)) t = refl
-thread_budget (Kernel (Tcap q)) t = refl
+thread_budget _ t = refl
 
 stack_ticks : (s : State) (o : ℕ → Bool) (c : ℕ) → IsOpen s o c → (stack : List ℕ) → ticks (with_stack s c stack) ≡ ticks s
 stack_ticks s o c h stack = same_budget s (s.core c).thread _ (own_thread s o c h) (thread_budget (s.frame (s.core c).thread) _)
@@ -165,15 +149,7 @@ switch_ticks s o c h j q thread (Some e) = λ calm. absurd (some_none (none_part
 -- The budget of a frame with a temporal capability is the one that is put there.
 put_budget : (x : Frame) (q : TcapFields) → IsTrue (fits kind.Tcap x) → budget (with_tcap x q) ≡ q.budget
 put_budget (Kernel (Tcap p)) q h = refl
-put_budget Untyped q h = absurd (false≢true h)
-put_budget User q h = absurd (false≢true h)
-put_budget (Kernel Blank) q h = absurd (false≢true h)
-put_budget (Kernel Table) q h = absurd (false≢true h)
-put_budget (Kernel Leaf) q h = absurd (false≢true h)
-put_budget (Kernel Pages) q h = absurd (false≢true h)
-put_budget (Kernel Pleaf) q h = absurd (false≢true h)
-put_budget (Kernel (Comp k)) q h = absurd (false≢true h)
-put_budget (Kernel (Thread t)) q h = absurd (false≢true h)
+put_budget _ q h = absurd (false≢true h)
 
 budget_ticks : (s : State) (o : ℕ → Bool) (f n : ℕ) → IsSound s o
     → IsTrue (fits kind.Tcap (s.frame f)) → ticks (with_budget s f n) + budget (s.frame f) ≡ ticks s + n
@@ -214,15 +190,7 @@ moved_ticks s o a b m h fa fb other enough =
 
 quality_budget : (x : Frame) (qs : List (ℕ × ℕ)) → budget (with_tcap x (record (tcap_in x) { qualities = qs })) ≡ budget x
 quality_budget (Kernel (Tcap p)) qs = refl
-quality_budget Untyped qs = refl
-quality_budget User qs = refl
-quality_budget (Kernel Blank) qs = refl
-quality_budget (Kernel Table) qs = refl
-quality_budget (Kernel Leaf) qs = refl
-quality_budget (Kernel Pages) qs = refl
-quality_budget (Kernel Pleaf) qs = refl
-quality_budget (Kernel (Comp k)) qs = refl
-quality_budget (Kernel (Thread t)) qs = refl
+quality_budget _ qs = refl
 
 apart : (a b : ℕ) → (if a == b then Some reply.Same else None) ≡ None → a ≢ b
 apart a b e = eqb-false a b (when_not (a == b) reply.Same e)

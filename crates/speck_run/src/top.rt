@@ -2,8 +2,8 @@
 
 ghost use Rattle.std.specs.Prelude.{◌≡◌, ℕ, ◌<◌, ◌≤◌, ◌⊎◌, ◌↔◌, true, IsTrue, IfOk, map, length, string_bytes};
 ghost use Rattle.byte_ends.specs.Ends.{HasRisen, Adds};
-ghost use Rattle.kernel_history.specs.Order.{list_of};
-ghost use Rattle.kernel_history.specs.Text.{plain_text};
+ghost use Rattle.lone_kernel.specs.kernel_history.specs.Order.{list_of};
+ghost use Rattle.lone_kernel.specs.kernel_history.specs.Text.{plain_text};
 ghost use Rattle.core_kernel.specs.TakenSteps.{TakenSteps};
 ghost use Rattle.lone_kernel.specs.GivenSteps.{GivenSteps};
 ghost use Rattle.lone_kernel.specs.Machine.{AreLists};

@@ -61,14 +61,12 @@ all_more P (y ∷ ys) x h new = (h.0, all_more P ys x h.1 new)
 
 -- What a place that links or maps holds.
 link_held : (leaf : ℕ) (p : Place) → IsLinkTo leaf p → (k : Capability) × (p ≡ Holds k)
-link_held leaf Free h = absurd h
 link_held leaf (Holds k) h = (k, refl)
-link_held leaf (Quiescing k) h = absurd h
+link_held leaf _ h = absurd h
 
 mapping_held : (t : Translation) (p : Place) → IsMappingOf t p → (k : Capability) × (p ≡ Holds k)
-mapping_held t Free h = absurd h
 mapping_held t (Holds k) h = (k, refl)
-mapping_held t (Quiescing k) h = absurd h
+mapping_held t _ h = absurd h
 
 -- A translation that stands for core d stands after a decision, but for d's own flush.
 module _ (s : State) (o : ℕ → Bool) (c : ℕ) (call : Call) (r : Reply)
@@ -235,18 +233,13 @@ module _ (s : State) (o : ℕ → Bool) (c : ℕ) (h : IsOpen s o c) (w : IsFitt
     }
 
     make_caches : (what : Make) (r f t b : ℕ) → ChangesFrom (Caches s c (make_call what r f t b)) s c (make_rule s what r f t b)
-    make_caches make.Table r f t b = λ range e table g at v calm. stays _ _ refl refl
-    make_caches make.Leaf r f t b = λ range e table g at v calm. stays _ _ refl refl
-    make_caches make.Pages r f t b = λ range e table g at v calm. stays _ _ refl refl
-    make_caches make.Pleaf r f t b = λ range e table g at v calm. stays _ _ refl refl
     make_caches (make.Thread comp) r f t b = λ range e table g k j at v calm. stays _ _ refl refl
-    make_caches (make.Tcap sched quality) r f t b = λ range e table g at v calm. stays _ _ refl refl
     make_caches (make.Comp x p l) r f t b = λ range e table g own_table a own_pages d at v calm. stays _ _ refl refl
+    make_caches _ r f t b = λ range e table g at v calm. stays _ _ refl refl
 
     retype_caches : (r f : ℕ) (k : FrameKind) → ChangesFrom (Caches s c (Retype r f k)) s c (retype_rule s r f k)
     retype_caches r f frame_kind.Untyped = λ range e calm. stays _ _ refl refl
-    retype_caches r f frame_kind.User = λ range e calm. stays _ _ refl refl
-    retype_caches r f frame_kind.Kernel = λ range e calm. stays _ _ refl refl
+    retype_caches r f _ = λ range e calm. stays _ _ refl refl
 
     longer : (cached : List Translation) (t : Translation) → AllByRecursion (Stands s c) cached → Stands s c t
         → AllByRecursion (Stands s c) (caching cached t)
@@ -418,8 +411,7 @@ enter_waited setting events c call run old = record {
   where
     need_of : (x : Thing) → IsTrue (needs_flush (after setting (Enters c call ∷ events)) x) → IsTrue (needs_flush (after setting events) x)
     need_of (PlaceOf f i) n = n
-    need_of (FrameOf f) n = n
-    need_of (NumberOf l) n = n
+    need_of _ n = n
 
 return_waited : (setting : Setting) (events : List Event) (c : ℕ) → IsWaited (after setting events) (opened events)
     → IsWaited (after setting (Returns c ∷ events)) (opened (Returns c ∷ events))
@@ -435,8 +427,7 @@ return_waited setting events c old = record {
   where
     need_of : (x : Thing) → IsTrue (needs_flush (after setting (Returns c ∷ events)) x) → IsTrue (needs_flush (after setting events) x)
     need_of (PlaceOf f i) n = n
-    need_of (FrameOf f) n = n
-    need_of (NumberOf l) n = n
+    need_of _ n = n
 
 fewer : (s : State) (o o' : ℕ → Bool) → ((c : ℕ) → o' c ≡ true → o c ≡ true) → IsWaited s o → IsWaited s o'
 fewer s o o' less h = record { unflushed = λ x d q. h.unflushed x d (less d q); bare = h.bare }

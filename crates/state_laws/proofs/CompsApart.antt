@@ -78,27 +78,11 @@ none_back frame number g y none h = put_back frame number g y (λ is. absurd (fa
 
 thread_back : (x : Frame) (t : ThreadFields) → IsTrue (is_comp (with_thread x t)) → with_thread x t ≡ x
 thread_back (Kernel (Thread u)) t is = absurd (false≢true is)
-thread_back Untyped t is = refl
-thread_back User t is = refl
-thread_back (Kernel Blank) t is = refl
-thread_back (Kernel Table) t is = refl
-thread_back (Kernel Leaf) t is = refl
-thread_back (Kernel Pages) t is = refl
-thread_back (Kernel Pleaf) t is = refl
-thread_back (Kernel (Comp k)) t is = refl
-thread_back (Kernel (Tcap q)) t is = refl
+thread_back _ t is = refl
 
 tcap_back : (x : Frame) (q : TcapFields) → IsTrue (is_comp (with_tcap x q)) → with_tcap x q ≡ x
 tcap_back (Kernel (Tcap p)) q is = absurd (false≢true is)
-tcap_back Untyped q is = refl
-tcap_back User q is = refl
-tcap_back (Kernel Blank) q is = refl
-tcap_back (Kernel Table) q is = refl
-tcap_back (Kernel Leaf) q is = refl
-tcap_back (Kernel Pages) q is = refl
-tcap_back (Kernel Pleaf) q is = refl
-tcap_back (Kernel (Comp k)) q is = refl
-tcap_back (Kernel (Thread t)) q is = refl
+tcap_back _ q is = refl
 
 threads_back : (frame : ℕ → Frame) (number : ℕ → Liveness) (g : ℕ) (t : ThreadFields) → CompsAre frame number
     → CompsAre (put frame g (with_thread (frame g) t)) number
@@ -175,9 +159,8 @@ made_back frame number f l k of_number of_epoch h = record { low = low; apart = 
 
 -- A number that is live in an epoch, and is dead after it.
 live_epoch : (x : Liveness) (e : ℕ) → is_live_in x e ≡ true → epoch_of x ≡ e
-live_epoch Unused e is = absurd (false≢true is)
 live_epoch (Live d f) e is = eqb-true d e is
-live_epoch (Dead d) e is = absurd (false≢true is)
+live_epoch _ e is = absurd (false≢true is)
 
 record Apart (change : Change) : Type 0 where
   comps : CompsAre change.next.frame change.next.number

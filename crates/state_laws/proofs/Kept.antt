@@ -91,27 +91,11 @@ blank_kept s g y blank kept = absurd (false≢true (ap is_kept (sym blank) ∙ k
 
 thread_kept : (x : Frame) (t : ThreadFields) → IsTrue (is_kept x) → with_thread x t ≡ x
 thread_kept (Kernel (Thread u)) t h = absurd (false≢true h)
-thread_kept Untyped t h = refl
-thread_kept User t h = refl
-thread_kept (Kernel Blank) t h = refl
-thread_kept (Kernel Table) t h = refl
-thread_kept (Kernel Leaf) t h = refl
-thread_kept (Kernel Pages) t h = refl
-thread_kept (Kernel Pleaf) t h = refl
-thread_kept (Kernel (Comp k)) t h = refl
-thread_kept (Kernel (Tcap q)) t h = refl
+thread_kept _ t h = refl
 
 tcap_kept : (x : Frame) (q : TcapFields) → IsTrue (is_kept x) → with_tcap x q ≡ x
 tcap_kept (Kernel (Tcap p)) q h = absurd (false≢true h)
-tcap_kept Untyped q h = refl
-tcap_kept User q h = refl
-tcap_kept (Kernel Blank) q h = refl
-tcap_kept (Kernel Table) q h = refl
-tcap_kept (Kernel Leaf) q h = refl
-tcap_kept (Kernel Pages) q h = refl
-tcap_kept (Kernel Pleaf) q h = refl
-tcap_kept (Kernel (Comp k)) q h = refl
-tcap_kept (Kernel (Thread t)) q h = refl
+tcap_kept _ q h = refl
 
 -- One change of frames after another.
 then_kept : (s t u : State) → ((f : ℕ) → IsTrue (is_kept (s.frame f)) → t.frame f ≡ s.frame f)
@@ -132,12 +116,11 @@ moved_put s a b m = then_kept s (with_budget s a ((tcap_at s a).budget - m)) (mo
 
 -- A place that holds nothing is filled.
 not_held : (p : Place) (k : Capability) → held_in p ≡ None → p ≡ Holds k → ⊥
-not_held Free k e q = cc
 not_held (Holds j) k e q = some_none j e
   where
     some_none : (j : Capability) → Some j ≡ None → ⊥
     some_none j e = cc
-not_held (Quiescing j) k e q = cc
+not_held _ k e q = cc
 
 filled : (s t : State) (call : Call) (change : Change) (at : Slot) (k : Capability) → BeginsNone change
     → ((f i : ℕ) → t.place f i ≡ s.place f i ⊎ ((t.place f i ≡ Free) × (ends_by call (PlaceOf f i) ≡ true)))

@@ -76,18 +76,13 @@ module _ (s : State) (c : ℕ) where
       (stay s c (flushes_by call))
 
   make_keeps : (what : Make) (r f t b : ℕ) → AllChanges (Keeps (make_call what r f t b)) (make_rule s what r f t b)
-  make_keeps make.Table r f t b = λ range table at. stay s c false
-  make_keeps make.Leaf r f t b = λ range table at. stay s c false
-  make_keeps make.Pages r f t b = λ range table at. stay s c false
-  make_keeps make.Pleaf r f t b = λ range table at. stay s c false
   make_keeps (make.Thread comp) r f t b = λ range table k at. stay s c false
-  make_keeps (make.Tcap sched quality) r f t b = λ range table at. stay s c false
   make_keeps (make.Comp x p l) r f t b = λ range table own_table own_pages at. stay s c false
+  make_keeps _ r f t b = λ range table at. stay s c false
 
   retype_keeps : (r f : ℕ) (k : FrameKind) → AllChanges (Keeps (Retype r f k)) (retype_rule s r f k)
   retype_keeps r f frame_kind.Untyped = λ range. stay s c false
-  retype_keeps r f frame_kind.User = λ range. stay s c false
-  retype_keeps r f frame_kind.Kernel = λ range. stay s c false
+  retype_keeps r f _ = λ range. stay s c false
 
   touch_keeps : (v : ℕ) (t : Option Translation) → AllChanges (Keeps (Touch v)) (touch_by s c (comp_of s c).pages v t)
   touch_keeps v None = λ mapping. puts s c false s.core _ (λ none. begins_caching (s.core c).cached _) (stay s c false)

@@ -79,12 +79,7 @@ killed e d (Live n f) is past = let same : n ≡ d = eqb-true n d is in omega (a
 killed e d (Dead n) is past = absurd (false≢true is)
 
 make_numbers : (s : State) (c : ℕ) (what : Make) (r f t b : ℕ) → ChangesFrom (Numbers s) s c (make_rule s what r f t b)
-make_numbers s c make.Table r f t b = λ range e table g at v calm. stays s _ (λ l. refl)
-make_numbers s c make.Leaf r f t b = λ range e table g at v calm. stays s _ (λ l. refl)
-make_numbers s c make.Pages r f t b = λ range e table g at v calm. stays s _ (λ l. refl)
-make_numbers s c make.Pleaf r f t b = λ range e table g at v calm. stays s _ (λ l. refl)
 make_numbers s c (make.Thread comp) r f t b = λ range e table g k j at v calm. stays s _ (λ l. refl)
-make_numbers s c (make.Tcap sched quality) r f t b = λ range e table g at v calm. stays s _ (λ l. refl)
 make_numbers s c (make.Comp x p n) r f t b = λ range e table g own_table a own_pages d at v calm.
     let comp : CompFields = record { table = own_table.frame; pages = own_pages.frame; number = n; epoch = epoch_of (s.number n) + 1 } in
     let q = none_parts (refusal_of s c (outside (found range) f)) (first_cause s c (not_blank s f ∷ not_taken s n)) calm in
@@ -104,6 +99,7 @@ make_numbers s c (make.Comp x p n) r f t b = λ range e table g own_table a own_
         → IsCompOf (put s.frame f (Kernel (Comp comp)) g) l e
     made comp l e g same is = subst (λ x. IsCompOf x l e) (sym (put_same s.frame f (Kernel (Comp comp)) g (sym is.1)))
         (record { comp = refl; number = sym same; epoch = is.0 })
+make_numbers s c _ r f t b = λ range e table g at v calm. stays s _ (λ l. refl)
 
 kill_numbers : (s : State) (c k : ℕ) → ChangesFrom (Numbers s) s c (rule_of s c (Kill k))
 kill_numbers s c k = λ comp e calm.
@@ -128,8 +124,7 @@ touch_numbers s c pages v (Some t) = λ calm. stays s _ (λ l. refl)
 
 retype_numbers : (s : State) (c r f : ℕ) (k : FrameKind) → ChangesFrom (Numbers s) s c (retype_rule s r f k)
 retype_numbers s c r f frame_kind.Untyped = λ range e calm. stays s _ (λ l. refl)
-retype_numbers s c r f frame_kind.User = λ range e calm. stays s _ (λ l. refl)
-retype_numbers s c r f frame_kind.Kernel = λ range e calm. stays s _ (λ l. refl)
+retype_numbers s c r f _ = λ range e calm. stays s _ (λ l. refl)
 
 switch_numbers : (s : State) (c q : ℕ) (name : Named) (e : Option ℕ) → ChangesFrom (Numbers s) s c (switch_to s c name q e)
 switch_numbers s c q name None = λ calm. stays s _ (λ l. refl)

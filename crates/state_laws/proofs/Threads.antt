@@ -61,27 +61,11 @@ idle_back s n g y none h = put_back s n g y (nowhere (s.frame g) y none) h
 
 thread_at : (x : Frame) (t : ThreadFields) → (d : ℕ) → runs_at (with_thread x t) ≡ Some d → t.runs_on ≡ Some d
 thread_at (Kernel (Thread u)) t d e = e
-thread_at Untyped t d e = absurd (none_some d e)
-thread_at User t d e = absurd (none_some d e)
-thread_at (Kernel Blank) t d e = absurd (none_some d e)
-thread_at (Kernel Table) t d e = absurd (none_some d e)
-thread_at (Kernel Leaf) t d e = absurd (none_some d e)
-thread_at (Kernel Pages) t d e = absurd (none_some d e)
-thread_at (Kernel Pleaf) t d e = absurd (none_some d e)
-thread_at (Kernel (Comp k)) t d e = absurd (none_some d e)
-thread_at (Kernel (Tcap q)) t d e = absurd (none_some d e)
+thread_at _ t d e = absurd (none_some d e)
 
 tcap_runs : (x : Frame) (q : TcapFields) → runs_at (with_tcap x q) ≡ runs_at x
 tcap_runs (Kernel (Tcap p)) q = refl
-tcap_runs Untyped q = refl
-tcap_runs User q = refl
-tcap_runs (Kernel Blank) q = refl
-tcap_runs (Kernel Table) q = refl
-tcap_runs (Kernel Leaf) q = refl
-tcap_runs (Kernel Pages) q = refl
-tcap_runs (Kernel Pleaf) q = refl
-tcap_runs (Kernel (Comp k)) q = refl
-tcap_runs (Kernel (Thread t)) q = refl
+tcap_runs _ q = refl
 
 tcap_back : (s : State) (n g : ℕ) (q : TcapFields) → RunBack n s.frame s.core → RunBack n (put s.frame g (with_tcap (s.frame g) q)) s.core
 tcap_back s n g q h = put_back s n g _ (λ d e. sym (tcap_runs (s.frame g) q) ∙ e) h
