@@ -20,3 +20,5 @@ pub mod Moments
 pub mod Tables
 pub mod Text
 pub mod Laws
+pub mod Scenes
+pub mod Refusals
