@@ -20,7 +20,7 @@ MayEnd s d (PlaceOf f i) = s.frame f ≡ Kernel Blank
 MayEnd s d (FrameOf f) = (refs s f ≡ 0) × ((c : ℕ) → c < s.limits.cores → c ≢ d → (s.grace (FrameOf f)).waits c ≡ false)
 MayEnd s d (NumberOf l) = ⊥
 
-found_fact : {A P : Type 0} (x : Judged A) (Q : A → Type 0) → IfFound x (λ a. P) → IsFoundAnd x Q → P
+pub found_fact : {A P : Type 0} (x : Judged A) (Q : A → Type 0) → IfFound x (λ a. P) → IsFoundAnd x Q → P
 found_fact (Refused r) Q fact ok = absurd ok
 found_fact (Found a) Q fact ok = fact
 

@@ -99,7 +99,7 @@ edit_turns c s (Switch h q) k = λ f.
     let idle : State = running s old None in
     turns_then _ _ f (s.frame f) (idle.frame f) _ (put_turns (λ t. false) s old _ (thread_turns _ old (s.frame old) _) f)
     (put_turns (λ t. false) idle h _ (thread_turns _ h (idle.frame h) _) f)
-edit_turns c s (Charge due) k = put_turns _ s (s.core c).tcap _ (tcap_turns _ (s.core c).tcap (s.frame (s.core c).tcap) _)
+edit_turns c s (Charge n) k = put_turns _ s (s.core c).tcap _ (tcap_turns _ (s.core c).tcap (s.frame (s.core c).tcap) _)
 edit_turns c s (Move a b m) k = λ f.
     let first : State = with_budget s a ((tcap_at s a).budget - m) in
     turns_then _ _ f (s.frame f) (first.frame f) _ (put_turns (λ t. false) s a _ (tcap_turns _ a (s.frame a) _) f)

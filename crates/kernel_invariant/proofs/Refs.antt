@@ -232,11 +232,11 @@ edit_refs c s (Switch t q) tested lim h f =
 edit_refs c s (Cache t) tested lim h f = plus_none _ _ (same_core s c _ f h refl refl)
 edit_refs c s Flush tested lim h f =
     plus_none _ _ (grace_refs (with_core s c (record (s.core c) { cached = [] })) _ f ∙ same_core s c _ f h refl refl)
-edit_refs c s (Charge due) tested lim h f =
+edit_refs c s (Charge n) tested lim h f =
     plus_none _ _ (same_core (with_budget s (s.core c).tcap _) c _ f h.0 refl refl ∙ tcap_refs s (s.core c).tcap _ f h.1.below)
 edit_refs c s (Move a b m) tested lim h f =
     plus_none _ _ (tcap_refs (with_budget s a ((tcap_at s a).budget - m)) b _ f h.to.below ∙ tcap_refs s a _ f h.from.below)
-edit_refs c s (Merge g qs) tested lim h f = plus_none _ _ (tcap_refs s g _ f h.below)
+edit_refs c s (Merge g qs) tested lim h f = plus_none _ _ (tcap_refs s g _ f h.to.below)
 
 times_released : (f : ℕ) (xs ys : List Thing) → times f (released (xs ++ ys)) ≡ times f (released xs) + times f (released ys)
 times_released f [] ys = omega arith

@@ -1,6 +1,8 @@
 -- What a call makes of a state, as a list of edits of it.
-use Rattle.std.specs.Prelude.{ℕ, ◌==◌, ◌||◌, Bool, true, false, if◌then◌else◌, List, [], ◌∷◌, ◌++◌, take, drop}
+use Rattle.std.specs.Prelude.{ℕ, ◌+◌, ◌==◌, ◌||◌, Bool, true, false, if◌then◌else◌, List, [], ◌∷◌, ◌++◌, take, drop}
 use Rattle.spk_nums.specs.Capability.{Capability}
+use Rattle.spk_nums.specs.declared.calls.Call.{Call}
+use Rattle.spk_nums.specs.declared.calls.Call.TheVariants.{Tick}
 use Rattle.spk_nums.specs.declared.replies.Value.{Value}
 use Rattle.spk_nums.specs.declared.translations.Translation.{Translation}
 use Rattle.kernel_rules.specs.State.{CompFields, Object, Comp, Kernel, Holds, Quiescing, Frame, Untyped, Live, Dead}
@@ -18,7 +20,8 @@ use Rattle.kernel_rules.specs.TimeCalls.{charge, charges, moved, with_qualities}
 
 -- One edit of the state by a core: a place is filled or removed; a frame has a node whose places are free, has another object,
 -- is untyped, or has a component with its number; a number dies; the core's thread enters a component or leaves one; the core
--- goes on as a thread with a temporal capability; it caches, flushes, is charged; ticks move; a list of qualities is put.
+-- goes on as a thread with a temporal capability; it caches, flushes, is charged ticks beside those owed; ticks move; a list of
+-- qualities is put.
 pub data Edit : Type 0 where
   Fill : Slot → Capability → Edit
   Remove : Slot → Capability → Edit
@@ -50,7 +53,7 @@ edited c s Pop = with_stack s c (drop 1 (thread_of s c).stack)
 edited c s (Switch h q) = (switches s c (s.core c) h q).next
 edited c s (Cache t) = with_core s c (record (s.core c) { cached = caching (s.core c).cached t })
 edited c s Flush = flushed s c
-edited c s (Charge due) = (charges s c due (charge s c due)).next
+edited c s (Charge n) = (charges s c (n + (s.core c).owed) (charge s c (n + (s.core c).owed))).next
 edited c s (Move a b m) = moved s a b m
 edited c s (Merge f qs) = with_qualities s f qs
 
@@ -84,6 +87,15 @@ abbrev pub is_flush : Edit → Bool
 is_flush Flush = true
 is_flush _ = false
 
+-- The ticks that a call charges, beside those that are owed, and those that an edit charges.
+abbrev pub charged_by : Call → ℕ
+charged_by (Tick n) = n
+charged_by _ = 0
+
+abbrev pub charged_in : Edit → ℕ
+charged_in (Charge n) = n
+charged_in _ = 0
+
 -- What it leaves of the grace period of a thing.
 abbrev pub kept_in : ℕ → Edit → Thing → Grace → Grace
 kept_in c (Node f object) x g = if is_place_of f x then no_grace else g
@@ -114,6 +126,11 @@ ends_all (e ∷ (y ∷ es)) x = ends_all (y ∷ es) x || ends_in e x
 abbrev pub flush_in : List Edit → Bool
 flush_in [] = false
 flush_in (e ∷ es) = is_flush e || flush_in es
+
+abbrev pub charged_all : List Edit → ℕ
+charged_all [] = 0
+charged_all (e ∷ []) = charged_in e
+charged_all (e ∷ (x ∷ es)) = charged_in e + charged_all (x ∷ es)
 
 abbrev pub kept_all : ℕ → List Edit → Thing → Grace → Grace
 kept_all c [] x g = g
