@@ -1,5 +1,5 @@
 -- Endpoint histories: the sends and receives that were not refused, the newest first.
-use Rattle.std.specs.Prelude.{◌≡◌, ◌≢◌, ℕ, ◌+◌, ◌<◌, ◌==◌, List, [], ◌∷◌, ◌++◌, All, if◌then◌else◌}
+use Rattle.std.specs.Prelude.{◌≡◌, ◌≢◌, ℕ, ◌+◌, ◌<◌, ◌==◌, List, [], ◌∷◌, ◌++◌, if◌then◌else◌}
 use Rattle.async_ends.specs.declared.endpoint.EndAct.{EndAct}
 use Rattle.async_ends.specs.declared.endpoint.EndAct.TheVariants.{Sent, Taken, Raced}
 
@@ -51,7 +51,8 @@ Moves Raced = ⊥
 
 -- None of the events is core c's.
 abbrev pub AreOfOthers : ℕ → List Event → Type 0
-AreOfOthers c h = All (λ e. e.core ≢ c) h
+AreOfOthers c [] = Unit {0}
+AreOfOthers c (e ∷ h) = (e.core ≢ c) × AreOfOthers c h
 
 -- After core c's newest event, or from the start if it has none, another core sent to frame f or took some there.
 pub record WasCrossed (h : List Event) (c f : ℕ) : Type 0 where

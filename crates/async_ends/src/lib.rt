@@ -19,8 +19,8 @@
 #![tactic(auto)]
 
 mod authority;
-mod closing;
 mod endpoint;
+mod ends;
 mod run;
 mod seat;
 mod table;

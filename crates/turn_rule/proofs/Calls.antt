@@ -3,7 +3,6 @@ use Rattle.std.proofs.Common.{◌≡◌, ◌↔◌, ℕ, zero, suc, Bool, false,
 use Rattle.std.proofs.Common.{refl, subst}
 use Rattle.spk_nums.specs.declared.steps.WordOp.{WordOp}
 use Rattle.turn_rule.specs.Steps.{Steps}
-use Rattle.turn_rule.specs.Trace.{called}
 use Rattle.turn_rule.specs.Seats.{SeatValue, FollowsTrace, MakesStep, Turns, TurnsOn}
 
 module _ {P C : Type 0} (T : Steps P C) where

@@ -1,6 +1,6 @@
 //! How a table of endpoints begins, with a seat for each core, and how it ends.
 
-ghost use Rattle.std.specs.Prelude.{◌≡◌, ◌<◌, ◌≤◌, IfOk, All, map};
+ghost use Rattle.std.specs.Prelude.{◌≡◌, ◌<◌, ◌≤◌, IfOk, All, map, replicate};
 ghost use Rattle.async_ends.specs.Running.{unused};
 ghost use Rattle.async_ends.specs.Tables.{AreAllSeats, AreFresh, AreWrapped, EndsAt, IsSeat, seat_value};
 
@@ -10,6 +10,17 @@ use crate::table::EndTable;
 use spk_nums::Memory;
 use std::alloc::{AllocError, Global};
 use turn_rule::{TurnSeat, TurnTable};
+
+// A core that has begun no call, for each core.
+fn programs_of(alloc: Global, frames: u16, cores: u8) -> Result<Vec<EndRun>, AllocError>
+    ensures { IfOk result (λ v. v.items ≡ replicate cores (unused frames)) }
+{
+    let mut programs = Vec::with_capacity(alloc, usize::from(cores))?;
+    for _ in 0..cores {
+        programs.push(EndRun::new(frames))?;
+    }
+    Ok(programs)
+}
 
 // The seats of the shared words as those of the endpoints, with which no call was made.
 fn seats_of(
@@ -59,7 +70,7 @@ impl EndTable {
         ensures fresh { IfOk result (λ r. AreFresh r.1.items) }
     {
         let words = vec![in alloc; 0; usize::from(frames)]?;
-        let programs = vec![in alloc; EndRun::new(frames); usize::from(cores)]?;
+        let programs = programs_of(alloc, frames, cores)?;
         let (table, turn_seats) = TurnTable::new(alloc, words, programs)?;
         let seats = seats_of(alloc, frames, cores, turn_seats)?;
         Ok((
