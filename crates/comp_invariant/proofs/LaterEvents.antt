@@ -2,21 +2,22 @@
 -- past the epoch in which it died.
 use Rattle.std.proofs.Common.{◌≡◌, ◌≤◌, ◌<◌, ◌⊎◌, inl, inr, arith, ℕ, Bool, true, false, ◌&&◌, ◌==◌, List}
 use Rattle.std.proofs.Common.{[], ◌∷◌, ◌++◌, Option, Some, None, is_some, refl, sym, ◌∙◌, ap, subst}
-use Rattle.spk_nums.specs.Setting.{Setting, IsSetting}
-use Rattle.spk_nums.specs.declared.calls.Call.{Call}
-use Rattle.spk_nums.specs.declared.replies.Reply.{Reply}
-use Rattle.kernel_rules.specs.CapabilityCalls.{is_live, epoch_of}
-use Rattle.kernel_rules.specs.Ranges.{InRanges, NumberInRange}
-use Rattle.kernel_rules.specs.Runs.{Event, Enters, Decides, Returns, after, IsRun}
-use Rattle.kernel_rules.specs.State.{Liveness, Unused, Live, Dead, State}
-use Rattle.kernel_laws.proofs.RangesLaw.{ranges_hold}
-use Rattle.trace_laws.proofs.Carries.{IsDeadIn}
-use Rattle.kernel_history.proofs.Events.{state_is, run_of}
-use Rattle.kernel_history.specs.Events.{with_entry, with_decision, with_return, events_of}
-use Rattle.kernel_history.specs.Legal.{IsLegal}
-use Rattle.kernel_history.specs.Trace.{Trace, Step, Phase, Out, Open, Decided, phase, after_enter, state_after, WasAt, IfNot}
+use Rattle.state_laws.specs.spk_nums.specs.Setting.{Setting, IsSetting}
+use Rattle.state_laws.specs.spk_nums.specs.declared.calls.Call.{Call}
+use Rattle.state_laws.specs.spk_nums.specs.declared.replies.Reply.{Reply}
+use Rattle.state_laws.specs.kernel_rules.specs.CapabilityCalls.{is_live, epoch_of}
+use Rattle.state_laws.specs.kernel_rules.specs.Ranges.{InRanges, NumberInRange}
+use Rattle.state_laws.specs.kernel_rules.specs.Runs.{Event, Enters, Decides, Returns, after, IsRun}
+use Rattle.state_laws.specs.kernel_rules.specs.State.{Liveness, Unused, Live, Dead, State}
+use Rattle.state_laws.specs.kernel_laws.proofs.RangesLaw.{ranges_hold}
+use Rattle.scan_invariant.specs.trace_laws.proofs.Carries.{IsDeadIn}
+use Rattle.scan_invariant.specs.kernel_history.proofs.Events.{state_is, run_of}
+use Rattle.scan_invariant.specs.kernel_history.specs.Events.{with_entry, with_decision, with_return, events_of}
+use Rattle.scan_invariant.specs.kernel_history.specs.Legal.{IsLegal}
+use Rattle.scan_invariant.specs.kernel_history.specs.Trace.{Trace, Step, Phase, Out, Open, Decided, phase, after_enter, state_after}
+use Rattle.scan_invariant.specs.kernel_history.specs.Trace.{WasAt, IfNot}
 use Rattle.state_laws.proofs.Lives.{IsPast, past_stays}
-use Rattle.core_invariant.proofs.Sounds.{limits_of}
+use Rattle.scan_invariant.specs.core_invariant.proofs.Sounds.{limits_of}
 
 -- The events of a longer trace are those of the shorter one, and later ones.
 pub record Later (more events : List Event) : Type 0 where

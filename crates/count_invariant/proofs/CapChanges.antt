@@ -4,30 +4,30 @@ use Rattle.std.proofs.Common.{if◌then◌else◌, List, [], ◌∷◌, Option, 
 use Rattle.std.proofs.lemmas.Bool.{eq-eqb, ne_eqb}
 use Rattle.std.specs.Prelude.{All}
 use Rattle.std.proofs.lemmas.List.Elements.{All-nil, All-cons, All-head}
-use Rattle.spk_nums.specs.Setting.{Setting, IsSetting}
-use Rattle.spk_nums.specs.declared.replies.Reply.{Reply}
-use Rattle.word_map.specs.Word.{Word, CountAt}
-use Rattle.word_map.specs.Moves.{Move, word_of, left_of}
-use Rattle.kernel_rules.specs.State.{FrameOf, State, put}
-use Rattle.kernel_rules.specs.References.{times, refs}
-use Rattle.kernel_invariant.proofs.Sums as sums
-use Rattle.kernel_history.specs.Marks.{mark_of}
-use Rattle.kernel_history.specs.Marking.{marked_by}
-use Rattle.kernel_history.specs.Stamps.{stamp}
-use Rattle.kernel_history.specs.Trace.{Step, Trace, state_after, last_left}
-use Rattle.stage_pins.specs.Counts.{later}
-use Rattle.stage_pins.specs.Held.{stamp_of_change}
-use Rattle.act_states.specs.declared.work.Due.{Due}
-use Rattle.call_stages.specs.declared.stages.ActiveCall.{ActiveCall}
-use Rattle.call_stages.specs.View.{Core}
-use Rattle.core_invariant.specs.CountWords.{IsWithin}
-use Rattle.core_invariant.specs.Holding.{holds_counts}
-use Rattle.core_invariant.specs.Words.{count_room, WordIs}
-use Rattle.core_invariant.specs.Knows.{due_of}
-use Rattle.core_invariant.specs.Invariant.{holds, held_by, times_of, SumIs, Invariant}
+use Rattle.plan_ways.specs.spk_nums.specs.Setting.{Setting, IsSetting}
+use Rattle.plan_ways.specs.spk_nums.specs.declared.replies.Reply.{Reply}
+use Rattle.plan_ways.specs.word_map.specs.Word.{Word, CountAt}
+use Rattle.plan_ways.specs.word_map.specs.Moves.{Move, word_of, left_of}
+use Rattle.plan_ways.specs.kernel_rules.specs.State.{FrameOf, State, put}
+use Rattle.plan_ways.specs.kernel_rules.specs.References.{times, refs}
+use Rattle.plan_ways.specs.kernel_invariant.proofs.Sums as sums
+use Rattle.plan_ways.specs.kernel_history.specs.Marks.{mark_of}
+use Rattle.plan_ways.specs.kernel_history.specs.Marking.{marked_by}
+use Rattle.plan_ways.specs.kernel_history.specs.Stamps.{stamp}
+use Rattle.plan_ways.specs.kernel_history.specs.Trace.{Step, Trace, state_after, last_left}
+use Rattle.act_fits.specs.stage_pins.specs.Counts.{later}
+use Rattle.act_fits.specs.stage_pins.specs.Held.{stamp_of_change}
+use Rattle.act_fits.specs.act_states.specs.declared.work.Due.{Due}
+use Rattle.act_fits.specs.call_stages.specs.declared.stages.ActiveCall.{ActiveCall}
+use Rattle.act_fits.specs.call_stages.specs.View.{Core}
+use Rattle.step_ways.specs.core_invariant.specs.CountWords.{IsWithin}
+use Rattle.step_ways.specs.core_invariant.specs.Holding.{holds_counts}
+use Rattle.step_ways.specs.core_invariant.specs.Words.{count_room, WordIs}
+use Rattle.step_ways.specs.core_invariant.specs.Knows.{due_of}
+use Rattle.step_ways.specs.core_invariant.specs.Invariant.{holds, held_by, times_of, SumIs, Invariant}
 use Rattle.step_ways.proofs.Loads.{inner}
-use Rattle.core_invariant.proofs.Ranges.{within_more}
-use Rattle.kept_facts.proofs.WordFrames.{ReadsAlike}
+use Rattle.step_ways.specs.core_invariant.proofs.Ranges.{within_more}
+use Rattle.step_ways.specs.kept_facts.proofs.WordFrames.{ReadsAlike}
 use Rattle.count_invariant.proofs.CountChanges.{dues_sum, dues_commit}
 
 -- What a capability has due, by what it names.

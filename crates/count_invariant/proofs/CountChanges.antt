@@ -5,40 +5,40 @@ use Rattle.std.proofs.Common.{false, if◌then◌else◌, List, [], ◌∷◌, O
 use Rattle.std.proofs.lemmas.Bool.{false≢true, cases_eq}
 use Rattle.std.specs.Prelude.{All}
 use Rattle.std.proofs.lemmas.List.Elements.{All-nil, All-cons, All-head, All-tail, All-map, All-weaker}
-use Rattle.spk_nums.specs.Setting.{Setting, IsSetting}
-use Rattle.spk_nums.specs.declared.replies.Reply.{Reply}
-use Rattle.frame_words.specs.Count.{CountFits, word_of_count, count_of_word}
-use Rattle.frame_words.specs.declared.count_word.CountWord.{CountWord}
-use Rattle.frame_words.proofs.CountLemmas as counts
-use Rattle.word_map.specs.Word.{Word, CountAt, same_word}
-use Rattle.word_map.specs.Places.{counter_of}
-use Rattle.word_map.specs.Moves.{Move, word_of, left_of}
-use Rattle.kernel_rules.specs.State.{FrameOf, State, put}
-use Rattle.kernel_rules.specs.References.{refs}
-use Rattle.kernel_history.specs.Counts.{counters, count_in, count_sum}
-use Rattle.kernel_history.specs.Marks.{mark_of}
-use Rattle.kernel_history.specs.Marking.{marked_by}
-use Rattle.kernel_history.specs.Stamps.{stamp}
-use Rattle.kernel_history.specs.Trace.{Step, Trace, state_after, last_left}
-use Rattle.kernel_history.proofs.Names.{cases_word, same_word-other}
-use Rattle.stage_pins.specs.Counts.{unheld, later}
-use Rattle.stage_pins.specs.Held.{stamp_of_change}
-use Rattle.stage_pins.specs.declared.held.Acquired.{Acquired}
-use Rattle.stage_pins.proofs.PinLemmas.{changed_none}
-use Rattle.act_states.specs.declared.work.Due.{Due}
-use Rattle.call_stages.specs.declared.stages.ActiveCall.{ActiveCall}
-use Rattle.call_stages.specs.View.{Core}
-use Rattle.core_invariant.specs.CountWords.{stamp_in, newest_of, IsWithin}
-use Rattle.core_invariant.specs.Holding.{count_of, committed, holds_counts, AreApart, settled_by, settled}
-use Rattle.core_invariant.specs.Words.{SaysCount, count_room, WordIs}
-use Rattle.core_invariant.specs.Knows.{due_of, IsCount}
-use Rattle.core_invariant.specs.Invariant.{holds, held_by, times_of, count_shown, SumIs, Invariant}
-use Rattle.kept_facts.proofs.CountSums.{counter_once, sum_same, sum_by, newest_same, newest_one}
+use Rattle.plan_ways.specs.spk_nums.specs.Setting.{Setting, IsSetting}
+use Rattle.plan_ways.specs.spk_nums.specs.declared.replies.Reply.{Reply}
+use Rattle.plan_ways.specs.frame_words.specs.Count.{CountFits, word_of_count, count_of_word}
+use Rattle.plan_ways.specs.frame_words.specs.declared.count_word.CountWord.{CountWord}
+use Rattle.plan_ways.specs.frame_words.proofs.CountLemmas as counts
+use Rattle.plan_ways.specs.word_map.specs.Word.{Word, CountAt, same_word}
+use Rattle.plan_ways.specs.word_map.specs.Places.{counter_of}
+use Rattle.plan_ways.specs.word_map.specs.Moves.{Move, word_of, left_of}
+use Rattle.plan_ways.specs.kernel_rules.specs.State.{FrameOf, State, put}
+use Rattle.plan_ways.specs.kernel_rules.specs.References.{refs}
+use Rattle.plan_ways.specs.kernel_history.specs.Counts.{counters, count_in, count_sum}
+use Rattle.plan_ways.specs.kernel_history.specs.Marks.{mark_of}
+use Rattle.plan_ways.specs.kernel_history.specs.Marking.{marked_by}
+use Rattle.plan_ways.specs.kernel_history.specs.Stamps.{stamp}
+use Rattle.plan_ways.specs.kernel_history.specs.Trace.{Step, Trace, state_after, last_left}
+use Rattle.plan_ways.specs.kernel_history.proofs.Names.{cases_word, same_word-other}
+use Rattle.act_fits.specs.stage_pins.specs.Counts.{unheld, later}
+use Rattle.act_fits.specs.stage_pins.specs.Held.{stamp_of_change}
+use Rattle.act_fits.specs.stage_pins.specs.declared.held.Acquired.{Acquired}
+use Rattle.act_fits.specs.stage_pins.proofs.PinLemmas.{changed_none}
+use Rattle.act_fits.specs.act_states.specs.declared.work.Due.{Due}
+use Rattle.act_fits.specs.call_stages.specs.declared.stages.ActiveCall.{ActiveCall}
+use Rattle.act_fits.specs.call_stages.specs.View.{Core}
+use Rattle.step_ways.specs.core_invariant.specs.CountWords.{stamp_in, newest_of, IsWithin}
+use Rattle.step_ways.specs.core_invariant.specs.Holding.{count_of, committed, holds_counts, AreApart, settled_by, settled}
+use Rattle.step_ways.specs.core_invariant.specs.Words.{SaysCount, count_room, WordIs}
+use Rattle.step_ways.specs.core_invariant.specs.Knows.{due_of, IsCount}
+use Rattle.step_ways.specs.core_invariant.specs.Invariant.{holds, held_by, times_of, count_shown, SumIs, Invariant}
+use Rattle.step_ways.specs.kept_facts.proofs.CountSums.{counter_once, sum_same, sum_by, newest_same, newest_one}
 use Rattle.step_ways.proofs.Counting.{first_marked, first_stands}
 use Rattle.step_ways.proofs.Loads.{call_is, inner}
-use Rattle.core_invariant.proofs.Ranges.{within_more, within_step, within_fits, changed_is}
-use Rattle.core_invariant.proofs.Sounds.{limits_of}
-use Rattle.kept_facts.proofs.WordFrames.{ReadsAlike, others_settled, own_settled}
+use Rattle.step_ways.specs.core_invariant.proofs.Ranges.{within_more, within_step, within_fits, changed_is}
+use Rattle.step_ways.specs.core_invariant.proofs.Sounds.{limits_of}
+use Rattle.step_ways.specs.kept_facts.proofs.WordFrames.{ReadsAlike, others_settled, own_settled}
 use Rattle.step_ways.proofs.Writes.{room_small}
 
 some_word : (v u : CountWord) → Some v ≡ Some u → v ≡ u

@@ -2,22 +2,22 @@
 use Rattle.std.proofs.Common.{◌≡◌, ℕ, ◌<◌, Option, Some, None, true, refl, sym, subst}
 use Rattle.std.specs.Prelude.{IsSome}
 use Rattle.std.proofs.lemmas.Bool.{false≢true}
-use Rattle.spk_nums.specs.Setting.{Setting, IsSetting}
-use Rattle.spk_nums.specs.declared.calls.Call.{Call}
-use Rattle.word_map.specs.Word.{CoreAt}
-use Rattle.word_map.specs.Places.{IsIn as IsInShape}
-use Rattle.word_map.specs.Moves.{StoreOf, word_of}
-use Rattle.kernel_history.specs.Trace.{Trace, last_left}
+use Rattle.boot_words.specs.spk_nums.specs.Setting.{Setting, IsSetting}
+use Rattle.boot_words.specs.spk_nums.specs.declared.calls.Call.{Call}
+use Rattle.boot_words.specs.word_map.specs.Word.{CoreAt}
+use Rattle.boot_words.specs.word_map.specs.Places.{IsIn as IsInShape}
+use Rattle.boot_words.specs.word_map.specs.Moves.{StoreOf, word_of}
+use Rattle.boot_words.specs.kernel_history.specs.Trace.{Trace, last_left}
 use Rattle.call_stages.specs.declared.stages.ActiveCall.{ActiveCall}
 use Rattle.call_stages.specs.View.{Core}
 use Rattle.call_stages.specs.Fits.{IsActive}
 use Rattle.call_stages.specs.Steps.{core_word, stage_move, Took, took_enter, is_spent}
 use Rattle.call_stages.specs.Cores.{fresh, begun, told_by}
 use Rattle.call_stages.specs.Cores as cores_of
-use Rattle.core_invariant.specs.Knows.{Knows, CallIs}
-use Rattle.core_invariant.specs.Invariant.{Invariant}
-use Rattle.step_ways.proofs.Good.{IsGood, stands_on}
-use Rattle.step_ways.proofs.Loads.{is_active}
+use Rattle.work_invariant.specs.core_invariant.specs.Knows.{Knows, CallIs}
+use Rattle.work_invariant.specs.core_invariant.specs.Invariant.{Invariant}
+use Rattle.work_invariant.specs.step_ways.proofs.Good.{IsGood, stands_on}
+use Rattle.work_invariant.specs.step_ways.proofs.Loads.{is_active}
 use Rattle.flight.specs.Made.{turned, MayBegin, MayStep, step_at, step_of, core_after}
 use Rattle.flight.specs.Theorems.{found_by, StepsOn}
 use Rattle.flight.specs.Phases.{IsWord}

@@ -362,9 +362,8 @@ event_stay_in setting lim e events run c other inside =
     (inside_facts setting events run.0 c inside).1 inside other (event_spares setting lim e events run)
 
 open_in : (p : Phase) → IsTrue (is_open p) → is_in p ≡ true
-open_in Out h = absurd (false≢true h)
 open_in (Open call) h = refl
-open_in (Decided call r) h = absurd (false≢true h)
+open_in _ h = absurd (false≢true h)
 
 pub event_stay : (setting : Setting) → IsSetting setting → (e : Event) (events : List Event) → IsRun setting (e ∷ events)
     → (c : ℕ) → c ≢ core_of e → IsTrue (is_open (phase_of events c)) → Stay (after setting events) (after setting (e ∷ events)) c

@@ -126,13 +126,11 @@ blank_is _ h = absurd (false≢true h)
 
 pub untyped_is : (x : Frame) → is_untyped x ≡ true → x ≡ Untyped
 untyped_is Untyped h = refl
-untyped_is User h = absurd (false≢true h)
-untyped_is (Kernel x) h = absurd (false≢true h)
+untyped_is _ h = absurd (false≢true h)
 
 pub user_is : (x : Frame) → is_user x ≡ true → x ≡ User
 user_is User h = refl
-user_is Untyped h = absurd (false≢true h)
-user_is (Kernel x) h = absurd (false≢true h)
+user_is _ h = absurd (false≢true h)
 
 both : (x y : Bool) → (x && y) ≡ true → (x ≡ true) × (y ≡ true)
 both true true e = (refl, refl)
@@ -334,15 +332,11 @@ flush_keeps s o c h =
 -- Each call of invocation.
 pub gate_comp : (x : Frame) → IsTrue (fits kind.Gate x) → IsTrue (fits kind.Comp x)
 gate_comp (Kernel (Comp k)) h = refl
-gate_comp Untyped h = absurd (false≢true h)
-gate_comp User h = absurd (false≢true h)
-gate_comp (Kernel _) h = absurd (false≢true h)
+gate_comp _ h = absurd (false≢true h)
 
 comp_gate : (x : Frame) → IsTrue (fits kind.Comp x) → IsTrue (fits kind.Gate x)
 comp_gate (Kernel (Comp k)) h = refl
-comp_gate Untyped h = absurd (false≢true h)
-comp_gate User h = absurd (false≢true h)
-comp_gate (Kernel _) h = absurd (false≢true h)
+comp_gate _ h = absurd (false≢true h)
 
 pub thread_extends : (x : Frame) (t : ThreadFields) → Extends x (with_thread x t)
 thread_extends (Kernel (Thread u)) t = record { fit = λ k h. thread_kind k h; node = λ h. h }
@@ -351,22 +345,12 @@ thread_extends (Kernel (Thread u)) t = record { fit = λ k h. thread_kind k h; n
     thread_kind kind.Range h = refl
     thread_kind kind.Thread h = refl
     thread_kind _ h = absurd (false≢true h)
-thread_extends Untyped t = record { fit = λ k h. h; node = λ h. h }
-thread_extends User t = record { fit = λ k h. h; node = λ h. h }
-thread_extends (Kernel _) t = record { fit = λ k h. h; node = λ h. h }
+thread_extends _ t = record { fit = λ k h. h; node = λ h. h }
 
 thread_good : (s : State) (x : Frame) (t : ThreadFields) → IsObjectGood s x
     → (IsStack s (thread_in x).stack → IsStack s t.stack) → IsObjectGood s (with_thread x t)
 thread_good s (Kernel (Thread u)) t h stack = stack h
-thread_good s Untyped t h stack = h
-thread_good s User t h stack = h
-thread_good s (Kernel Blank) t h stack = h
-thread_good s (Kernel Table) t h stack = h
-thread_good s (Kernel Leaf) t h stack = h
-thread_good s (Kernel Pages) t h stack = h
-thread_good s (Kernel Pleaf) t h stack = h
-thread_good s (Kernel (Comp k)) t h stack = h
-thread_good s (Kernel (Tcap q)) t h stack = h
+thread_good s _ t h stack = h
 
 -- A thread of the machine is changed.
 thread_step : (s : State) (o : ℕ → Bool) (f : ℕ) (t : ThreadFields) → f < s.limits.frames
@@ -446,21 +430,11 @@ tcap_extends (Kernel (Tcap p)) q = record { fit = λ k h. tcap_kind k h; node = 
     tcap_kind kind.Range h = refl
     tcap_kind kind.Tcap h = refl
     tcap_kind _ h = absurd (false≢true h)
-tcap_extends Untyped q = record { fit = λ k h. h; node = λ h. h }
-tcap_extends User q = record { fit = λ k h. h; node = λ h. h }
-tcap_extends (Kernel _) q = record { fit = λ k h. h; node = λ h. h }
+tcap_extends _ q = record { fit = λ k h. h; node = λ h. h }
 
 tcap_good : (s : State) (x : Frame) (q : TcapFields) → IsObjectGood s x → IsObjectGood s (with_tcap x q)
 tcap_good s (Kernel (Tcap p)) q h = tt
-tcap_good s Untyped q h = h
-tcap_good s User q h = h
-tcap_good s (Kernel Blank) q h = h
-tcap_good s (Kernel Table) q h = h
-tcap_good s (Kernel Leaf) q h = h
-tcap_good s (Kernel Pages) q h = h
-tcap_good s (Kernel Pleaf) q h = h
-tcap_good s (Kernel (Comp k)) q h = h
-tcap_good s (Kernel (Thread t)) q h = h
+tcap_good s _ q h = h
 
 tcap_step : (s : State) (o : ℕ → Bool) (f : ℕ) (q : TcapFields) → f < s.limits.frames
     → IsSound s o → IsSound (with_frame s f (with_tcap (s.frame f) q)) o

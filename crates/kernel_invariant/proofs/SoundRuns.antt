@@ -161,8 +161,7 @@ open_within setting (e ∷ events) run c = elim (cases_eq c (core_of e)) [
   where
     by_event : (e : Event) → MayFollow setting events e → OpenWithin (phase_by e)
     by_event (Enters d call) may = may.in_limits
-    by_event (Decides d call r) may = tt
-    by_event (Returns d) may = tt
+    by_event _ may = tt
 
 pub open_limits : (setting : Setting) (events : List Event) (c : ℕ) (call : Call)
     → IsRun setting events → phase_of events c ≡ Open call → InLimits call

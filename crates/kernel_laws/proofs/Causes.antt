@@ -207,8 +207,7 @@ module _ (s : State) (c : ℕ) where
 
   untyped_is : (x : Frame) → is_untyped x ≡ true → x ≡ Untyped
   untyped_is Untyped h = refl
-  untyped_is User h = absurd (false≢true h)
-  untyped_is (Kernel k) h = absurd (false≢true h)
+  untyped_is _ h = absurd (false≢true h)
 
   -- `make`.
   made_own : (what : Make) (r f t b : ℕ) (q : Reply)
@@ -312,16 +311,13 @@ module _ (s : State) (c : ℕ) where
 
   not_empty : (f : ℕ) (x : Frame) → s.frame f ≡ x → IsTrue (not (is_empty s f x))
       → (1 < length (thread_in x).stack) ⊎ ((0 < (tcap_in x).budget) ⊎ HeldIn s f)
-  not_empty f Untyped is h = absurd (false≢true h)
-  not_empty f User is h = absurd (false≢true h)
-  not_empty f (Kernel Blank) is h = absurd (false≢true h)
-  not_empty f (Kernel (Comp k)) is h = absurd (false≢true h)
   not_empty f (Kernel (Thread t)) is h = inl (leb-false (length t.stack) 1 (not_is (nat_le (length t.stack) 1) h))
   not_empty f (Kernel (Tcap q)) is h = inr (inl (let n = eqb-false q.budget 0 (not_is (q.budget == 0) h) in omega (arith, n)))
   not_empty f (Kernel Table) is h = inr (inr (held_at f h))
   not_empty f (Kernel Leaf) is h = inr (inr (held_at f h))
   not_empty f (Kernel Pages) is h = inr (inr (held_at f h))
   not_empty f (Kernel Pleaf) is h = inr (inr (held_at f h))
+  not_empty f _ is h = absurd (false≢true h)
 
   retype_own : (r f : ℕ) (k : FrameKind) (q : Reply) → OneMay s c (not_retyped s f k) q → HasCause s c (Retype r f k) q
   retype_own r f frame_kind.Untyped q (inl h) =

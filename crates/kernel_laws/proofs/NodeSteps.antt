@@ -46,14 +46,8 @@ leads_any (Kernel Table) (Kernel Leaf) y none h = absurd (false≢true (sym none
 leads_any (Kernel Table) _ y none h = absurd (false≢true h)
 leads_any (Kernel Pages) (Kernel Pleaf) y none h = absurd (false≢true (sym none))
 leads_any (Kernel Pages) _ y none h = absurd (false≢true h)
-leads_any (Kernel Leaf) x y none h = refl
-leads_any (Kernel Pleaf) x y none h = refl
-leads_any (Kernel Blank) x y none h = refl
 leads_any (Kernel (Comp k)) x y none h = refl
-leads_any (Kernel (Thread t)) x y none h = refl
-leads_any (Kernel (Tcap q)) x y none h = refl
-leads_any Untyped x y none h = refl
-leads_any User x y none h = refl
+leads_any _ x y none h = refl
 
 -- From x to y: nodes stay, and none is new.
 pub record IsAlike (x y : Frame) : Type 0 where
@@ -190,12 +184,7 @@ root_links (Kernel Table) k y h none = only_is kind.Link k h
 root_links (Kernel Pages) k y h none = only_is kind.Link k h
 root_links (Kernel Leaf) k y h none = absurd (false≢true (sym none))
 root_links (Kernel Pleaf) k y h none = absurd (false≢true (sym none))
-root_links (Kernel Blank) k y h none = absurd (false≢true h)
-root_links (Kernel (Comp m)) k y h none = absurd (false≢true h)
-root_links (Kernel (Thread t)) k y h none = absurd (false≢true h)
-root_links (Kernel (Tcap q)) k y h none = absurd (false≢true h)
-root_links Untyped k y h none = absurd (false≢true h)
-root_links User k y h none = absurd (false≢true h)
+root_links _ k y h none = absurd (false≢true h)
 
 -- A frame that nothing names, for which no other core waits, and which holds nothing, becomes untyped by the call of core c.
 pub untype_fits : (s : State) (o : ℕ → Bool) (c f : ℕ) → IsUnnamed s f → NoneWaits s c f

@@ -185,27 +185,11 @@ module _ (s : State) (o : ℕ → Bool) (c : ℕ) (h : IsOpen s o c) (w : IsFitt
 
   thread_alike : (x : Frame) (t : ThreadFields) → IsAlike x (with_thread x t)
   thread_alike (Kernel (Thread u)) t = alike_none (Kernel (Thread u)) (Kernel (Thread t)) refl refl
-  thread_alike Untyped t = alike_same Untyped
-  thread_alike User t = alike_same User
-  thread_alike (Kernel Blank) t = alike_same (Kernel Blank)
-  thread_alike (Kernel Table) t = alike_same (Kernel Table)
-  thread_alike (Kernel Leaf) t = alike_same (Kernel Leaf)
-  thread_alike (Kernel Pages) t = alike_same (Kernel Pages)
-  thread_alike (Kernel Pleaf) t = alike_same (Kernel Pleaf)
-  thread_alike (Kernel (Comp k)) t = alike_same (Kernel (Comp k))
-  thread_alike (Kernel (Tcap q)) t = alike_same (Kernel (Tcap q))
+  thread_alike x t = alike_same x
 
   tcap_alike : (x : Frame) (q : TcapFields) → IsAlike x (with_tcap x q)
   tcap_alike (Kernel (Tcap p)) q = alike_none (Kernel (Tcap p)) (Kernel (Tcap q)) refl refl
-  tcap_alike Untyped q = alike_same Untyped
-  tcap_alike User q = alike_same User
-  tcap_alike (Kernel Blank) q = alike_same (Kernel Blank)
-  tcap_alike (Kernel Table) q = alike_same (Kernel Table)
-  tcap_alike (Kernel Leaf) q = alike_same (Kernel Leaf)
-  tcap_alike (Kernel Pages) q = alike_same (Kernel Pages)
-  tcap_alike (Kernel Pleaf) q = alike_same (Kernel Pleaf)
-  tcap_alike (Kernel (Comp k)) q = alike_same (Kernel (Comp k))
-  tcap_alike (Kernel (Thread t)) q = alike_same (Kernel (Thread t))
+  tcap_alike x q = alike_same x
 
   moved_alike : (a b m f : ℕ) → IsAlike (s.frame f) ((moved s a b m).frame f)
   moved_alike a b m f =
@@ -523,9 +507,8 @@ module _ (s : State) (o : ℕ → Bool) (c : ℕ) (h : IsOpen s o c) (w : IsFitt
   page_of x k is take = only_is kind.Page k (subst (λ y. IsTrue (takes y k)) is take)
 
   pub held_is : (p : Place) (k : Capability) → held_in p ≡ Some k → p ≡ Holds k
-  held_is Free k e = absurd (none_some k e)
   held_is (Holds j) k e = ap Holds (some_inj j k e)
-  held_is (Quiescing j) k e = absurd (none_some k e)
+  held_is _ k e = absurd (none_some k e)
 
   pub mapped_page : (v : ℕ) (k : Capability) → mapped s c (comp_of s c).pages v ≡ Found k → k.kind ≡ kind.Page
   mapped_page v k e =

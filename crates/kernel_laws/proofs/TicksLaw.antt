@@ -19,11 +19,11 @@ use Rattle.kernel_rules.specs.Laws.{ticks}
 use Rattle.kernel_laws.specs.Laws.{grants_sum, TicksKept}
 use Rattle.kernel_rules.proofs.Changes.{IfFound}
 use Rattle.kernel_invariant.proofs.Sums.{sum_same}
-use Rattle.kernel_invariant.proofs.Facts.{outcome_from}
+use Rattle.kernel_invariant.proofs.Edited.{found_by}
 use Rattle.kernel_invariant.proofs.SoundCalls.{IsOpen}
 use Rattle.kernel_invariant.proofs.SoundStart.{choose, if_not, not_below, past_three}
 use Rattle.kernel_invariant.proofs.SoundRuns.{opened, open_is}
-use Rattle.kernel_laws.proofs.Ticks.{TicksStay, same_spent, rule_ticks}
+use Rattle.kernel_laws.proofs.Ticks.{TicksStay, same_spent, ticks_stay}
 
 -- A sum over two stretches.
 sum_split : (f : ℕ → ℕ) (a b : ℕ) → sum_below f (a + b) ≡ sum_below f a + sum_below (λ i. f (a + i)) b
@@ -134,7 +134,7 @@ owed_ticks s c _ = refl
 decided_ticks : (s : State) (o : ℕ → Bool) (c : ℕ) (call : Call) (r : Reply)
     → IsOpen s o c → MayReply s c call r → ticks (state_by s c call r) ≡ ticks s
 decided_ticks s o c call (reply.Ok v) h may = same_spent (changed s (change_of s c call)) c _ refl
-    ∙ changed_ticks s v (change_of s c call) (outcome_from (TicksStay s) s c (rule_of s c call) (rule_ticks s o c h call)) may.1
+    ∙ changed_ticks s v (change_of s c call) (found_by s c call (TicksStay s) (ticks_stay s o c h call)) may.1
 decided_ticks s o c call reply.CallsSpent h may = refl
 decided_ticks s o c call reply.Raced h may = same_spent (owed_by s c call) c _ refl ∙ owed_ticks s c call
 decided_ticks s o c call (reply.Busy e) h may = same_spent (owed_by s c call) c _ refl ∙ owed_ticks s c call

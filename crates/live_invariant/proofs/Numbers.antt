@@ -3,30 +3,30 @@ use Rattle.std.proofs.Common.{◌≡◌, ℕ, ◌^◌, ◌<◌, ◌==◌, ◌||�
 use Rattle.std.proofs.Common.{◌++◌, Option, Some, None, IsTrue, refl, sym, ◌∙◌, ap, subst}
 use Rattle.std.specs.List.{flat_map}
 use Rattle.std.proofs.lemmas.Bool.{eqb-true, false≢true}
-use Rattle.spk_nums.specs.Setting.{Setting, IsSetting}
-use Rattle.spk_nums.specs.declared.kinds.Kind.TheVariants as kind
-use Rattle.frame_words.specs.Live.{live_of_word}
-use Rattle.frame_words.specs.declared.live_word.LiveWord.{LiveWord}
-use Rattle.frame_words.specs.declared.live_word.LiveWord.TheVariants as live_word
-use Rattle.frame_words.proofs.LiveLemmas as lives
-use Rattle.kernel_rules.specs.State.{Comp, Frame, Kernel, Liveness, Unused, Live, Dead, State, comp_in}
-use Rattle.kernel_rules.specs.Fitting.{fits}
-use Rattle.kernel_rules.specs.InvocationCalls.{is_live_in}
-use Rattle.kernel_history.specs.Footprint.{is_one_of}
-use Rattle.kernel_history.specs.Marks.{live_mark}
-use Rattle.kernel_history.specs.Legal.{IsLegal}
-use Rattle.kernel_history.specs.Trace.{Trace, state_after}
-use Rattle.kernel_history.proofs.Events.{state_is, run_of}
-use Rattle.kernel_rules.specs.Runs.{after}
-use Rattle.kernel_history.specs.Events.{events_of}
-use Rattle.plan_ways.proofs.Near.{one_left, one_right}
-use Rattle.stage_pins.specs.declared.held.Acquired.{Acquired}
-use Rattle.word_map.specs.Word.{LiveAt}
+use Rattle.state_laws.specs.spk_nums.specs.Setting.{Setting, IsSetting}
+use Rattle.state_laws.specs.spk_nums.specs.declared.kinds.Kind.TheVariants as kind
+use Rattle.count_invariant.specs.frame_words.specs.Live.{live_of_word}
+use Rattle.count_invariant.specs.frame_words.specs.declared.live_word.LiveWord.{LiveWord}
+use Rattle.count_invariant.specs.frame_words.specs.declared.live_word.LiveWord.TheVariants as live_word
+use Rattle.count_invariant.specs.frame_words.proofs.LiveLemmas as lives
+use Rattle.state_laws.specs.kernel_rules.specs.State.{Comp, Frame, Kernel, Liveness, Unused, Live, Dead, State, comp_in}
+use Rattle.state_laws.specs.kernel_rules.specs.Fitting.{fits}
+use Rattle.state_laws.specs.kernel_rules.specs.InvocationCalls.{is_live_in}
+use Rattle.count_invariant.specs.kernel_history.specs.Footprint.{is_one_of}
+use Rattle.count_invariant.specs.kernel_history.specs.Marks.{live_mark}
+use Rattle.count_invariant.specs.kernel_history.specs.Legal.{IsLegal}
+use Rattle.count_invariant.specs.kernel_history.specs.Trace.{Trace, state_after}
+use Rattle.count_invariant.specs.kernel_history.proofs.Events.{state_is, run_of}
+use Rattle.state_laws.specs.kernel_rules.specs.Runs.{after}
+use Rattle.count_invariant.specs.kernel_history.specs.Events.{events_of}
+use Rattle.count_invariant.specs.plan_ways.proofs.Near.{one_left, one_right}
+use Rattle.count_invariant.specs.stage_pins.specs.declared.held.Acquired.{Acquired}
+use Rattle.count_invariant.specs.word_map.specs.Word.{LiveAt}
 use Rattle.state_laws.specs.Lives.{IsCompOf}
 use Rattle.state_laws.proofs.Lives.{live_numbers_fit}
 use Rattle.state_laws.proofs.CompsApart.{comps_apart}
-use Rattle.core_invariant.specs.Holding.{holds_counts}
-use Rattle.core_invariant.specs.Words.{NumberIs}
+use Rattle.count_invariant.specs.core_invariant.specs.Holding.{holds_counts}
+use Rattle.count_invariant.specs.core_invariant.specs.Words.{NumberIs}
 
 -- No count is the word of a liveness number.
 pub no_number : (fate : Option (Option ℕ)) (xs : List Acquired) (l : ℕ) → (holds_counts fate xs).marks (LiveAt l) ≡ false

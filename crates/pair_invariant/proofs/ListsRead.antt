@@ -3,11 +3,11 @@ use Rattle.std.proofs.Common.{◌≡◌, ℕ, zero, suc, ◌<◌, ◌≤◌, ◌
 use Rattle.std.proofs.Common.{Some, None, arith, refl, sym, ◌∙◌, ap, subst, if◌then◌else◌}
 use Rattle.std.specs.Prelude.{slice_get, take, drop}
 use Rattle.std.proofs.lemmas.Bool.{lt-ltb}
-use Rattle.spk_nums.specs.Qualities.{IsQualityList}
-use Rattle.tcap_words.specs.Quality.{quality_of_word}
+use Rattle.quality_lists.specs.spk_nums.specs.Qualities.{IsQualityList}
+use Rattle.count_invariant.specs.tcap_words.specs.Quality.{quality_of_word}
 use Rattle.quality_lists.proofs.Merges.{takes_next}
-use Rattle.stage_tcap.specs.Lists.{read_pair, read_word}
-use Rattle.core_invariant.specs.Shares.{read_up}
+use Rattle.count_invariant.specs.stage_tcap.specs.Lists.{read_pair, read_word}
+use Rattle.count_invariant.specs.core_invariant.specs.Shares.{read_up}
 
 -- A list is its first pairs, the next one, and the others.
 record Split (qs : List (ℕ × ℕ)) (n : ℕ) (p : ℕ × ℕ) : Type 0 where

@@ -135,8 +135,7 @@ module _ (s : State) (o : ℕ → Bool) (c : ℕ) (h : IsOpen s o c) (w : AreGat
 
   retype_gates : (r f : ℕ) (k : FrameKind) → ChangesFrom (NewGates s) s c (retype_rule s r f k)
   retype_gates r f frame_kind.Untyped = λ range e calm. stays s _ (λ f i. refl)
-  retype_gates r f frame_kind.User = λ range e calm. stays s _ (λ f i. refl)
-  retype_gates r f frame_kind.Kernel = λ range e calm. stays s _ (λ f i. refl)
+  retype_gates r f _ = λ range e calm. stays s _ (λ f i. refl)
 
   touch_gates : (pages v : ℕ) (t : Option Translation) → ChangesFrom (NewGates s) s c (touch_by s c pages v t)
   touch_gates pages v None = λ mapping e calm. stays s _ (λ f i. refl)

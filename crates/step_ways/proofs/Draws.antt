@@ -1,25 +1,25 @@
 -- The way in which a call draws a stamp by raising the clock, and is decided: grace periods begin at the stamp.
 use Rattle.std.proofs.Common.{◌≡◌, ◌≢◌, ℕ, ◌+◌, ◌%◌, ◌^◌, ◌<◌, ◌≤◌, true, false, if◌then◌else◌}
 use Rattle.std.proofs.Common.{◌∷◌, Some, None, IsTrue, inl, arith, refl, sym, ◌∙◌, ap, subst}
-use Rattle.spk_nums.specs.Setting.{Setting, IsSetting}
-use Rattle.spk_nums.specs.declared.replies.Reply.{Reply}
-use Rattle.word_map.specs.Word.{Word, EntryAt, ClockAt}
-use Rattle.word_map.specs.Moves.{AddOf, Move}
-use Rattle.kernel_rules.specs.State.{put}
-use Rattle.kernel_rules.specs.Alone.{alone}
-use Rattle.kernel_history.specs.Trace.{Step, Trace, Open, Decided, phase, after_decide, state_after}
-use Rattle.kernel_history.specs.Alone.{IsAlone, IsFirst}
-use Rattle.kernel_history.specs.Discipline.{raises_clock}
-use Rattle.kernel_history.specs.Legal.{MayDecide}
-use Rattle.kernel_history.specs.Marking.{marked_by}
-use Rattle.kernel_history.specs.Stamps.{flushes_at, clock, flush_of}
-use Rattle.kernel_history.proofs.Steps.{phase-own, steps_in_call-own, flush_of-own, flush_stored-own}
-use Rattle.call_stages.specs.declared.stages.Stage.{Stage}
-use Rattle.call_stages.specs.declared.stages.ActiveCall.{ActiveCall}
-use Rattle.call_stages.specs.View.{Core}
-use Rattle.core_invariant.specs.Words.{WordIs}
-use Rattle.core_invariant.specs.Knows.{phase_at, Knows, WorksIn, CoreIs, flushing_in}
-use Rattle.core_invariant.specs.Invariant.{holds, held_by, times_of, counted_in, SumIs, Invariant}
+use Rattle.kept_facts.specs.spk_nums.specs.Setting.{Setting, IsSetting}
+use Rattle.kept_facts.specs.spk_nums.specs.declared.replies.Reply.{Reply}
+use Rattle.kept_facts.specs.word_map.specs.Word.{Word, EntryAt, ClockAt}
+use Rattle.kept_facts.specs.word_map.specs.Moves.{AddOf, Move}
+use Rattle.kept_facts.specs.kernel_rules.specs.State.{put}
+use Rattle.kept_facts.specs.kernel_rules.specs.Alone.{alone}
+use Rattle.kept_facts.specs.kernel_history.specs.Trace.{Step, Trace, Open, Decided, phase, after_decide, state_after}
+use Rattle.kept_facts.specs.kernel_history.specs.Alone.{IsAlone, IsFirst}
+use Rattle.kept_facts.specs.kernel_history.specs.Discipline.{raises_clock}
+use Rattle.kept_facts.specs.kernel_history.specs.Legal.{MayDecide}
+use Rattle.kept_facts.specs.kernel_history.specs.Marking.{marked_by}
+use Rattle.kept_facts.specs.kernel_history.specs.Stamps.{flushes_at, clock, flush_of}
+use Rattle.kept_facts.specs.kernel_history.proofs.Steps.{phase-own, steps_in_call-own, flush_of-own, flush_stored-own}
+use Rattle.kept_facts.specs.call_stages.specs.declared.stages.Stage.{Stage}
+use Rattle.kept_facts.specs.call_stages.specs.declared.stages.ActiveCall.{ActiveCall}
+use Rattle.kept_facts.specs.call_stages.specs.View.{Core}
+use Rattle.kept_facts.specs.core_invariant.specs.Words.{WordIs}
+use Rattle.kept_facts.specs.core_invariant.specs.Knows.{phase_at, Knows, WorksIn, CoreIs, flushing_in}
+use Rattle.kept_facts.specs.core_invariant.specs.Invariant.{holds, held_by, times_of, counted_in, SumIs, Invariant}
 use Rattle.kept_facts.proofs.WordFrames.{ReadsAlike, StaysSaid, marks_own, carry_marks, carry_words}
 use Rattle.kept_facts.proofs.Calm.{plain_exit}
 use Rattle.kept_facts.proofs.Lent.{lent_open, lent_elsewhere}

@@ -5,24 +5,26 @@ use Rattle.std.proofs.Common.{◌≡◌, ◌≢◌, ◌⊎◌, inl, inr, ℕ, ne
 use Rattle.std.proofs.Common.{true, false, cond, List, [], ◌∷◌, All, map, Option, Some, None, arith, refl, sym, ◌∙◌, ap, subst}
 use Rattle.std.proofs.lemmas.Bool.{false≢true, eq-eqb, ne_eqb, le-leb, eqb-true}
 use Rattle.std.proofs.lemmas.List.Elements.{All-nil, All-cons, All-head, All-tail}
-use Rattle.kernel_rules.specs.State.{Blank, Table, Leaf, Pages, Pleaf, Comp, Thread, Tcap, Frame, Untyped, User, Kernel, State}
-use Rattle.kernel_rules.specs.Access.{held_in}
-use Rattle.kernel_rules.specs.MemoryCalls.{is_empty, holds_nothing}
-use Rattle.kernel_rules.specs.References.{times}
-use Rattle.kernel_invariant.proofs.Sums as sums
-use Rattle.kernel_history.specs.ObjectWords.{frame_value}
-use Rattle.stage_pins.specs.declared.held.Acquired.{Acquired}
-use Rattle.stage_sweep.specs.Emptiness.{loads_of}
-use Rattle.stage_sweep.specs.declared.empty.Owned.{Owned}
-use Rattle.act_states.specs.Untypings.{released_dues, released_one}
-use Rattle.act_states.specs.declared.work.Due.{Due}
-use Rattle.word_map.specs.Word.{Word, CountAt}
-use Rattle.kernel_history.proofs.Names.{cases_word, same_word-other}
-use Rattle.core_invariant.specs.CountWords.{IsWithin}
-use Rattle.core_invariant.specs.Holding.{count_of, holds_counts}
-use Rattle.core_invariant.specs.Knows.{due_of}
-use Rattle.core_invariant.specs.Sweeps.{HoldsNone, IsLookedAt, names_of}
+use Rattle.freeze_invariant.specs.kernel_rules.specs.State.{Blank, Table, Leaf, Pages, Pleaf, Comp, Thread, Tcap, Frame, Untyped, User}
+use Rattle.freeze_invariant.specs.kernel_rules.specs.State.{Kernel, State}
+use Rattle.freeze_invariant.specs.kernel_rules.specs.Access.{held_in}
+use Rattle.freeze_invariant.specs.kernel_rules.specs.MemoryCalls.{is_empty, holds_nothing}
+use Rattle.freeze_invariant.specs.kernel_rules.specs.References.{times}
+use Rattle.freeze_invariant.specs.kernel_invariant.proofs.Sums as sums
+use Rattle.freeze_invariant.specs.kernel_history.specs.ObjectWords.{frame_value}
+use Rattle.freeze_invariant.specs.stage_pins.specs.declared.held.Acquired.{Acquired}
+use Rattle.freeze_invariant.specs.stage_sweep.specs.Emptiness.{loads_of}
+use Rattle.freeze_invariant.specs.stage_sweep.specs.declared.empty.Owned.{Owned}
+use Rattle.freeze_invariant.specs.act_states.specs.Untypings.{released_dues, released_one}
+use Rattle.freeze_invariant.specs.act_states.specs.declared.work.Due.{Due}
+use Rattle.freeze_invariant.specs.word_map.specs.Word.{Word, CountAt}
+use Rattle.freeze_invariant.specs.kernel_history.proofs.Names.{cases_word, same_word-other}
+use Rattle.freeze_invariant.specs.core_invariant.specs.CountWords.{IsWithin}
+use Rattle.freeze_invariant.specs.core_invariant.specs.Holding.{count_of, holds_counts}
+use Rattle.freeze_invariant.specs.core_invariant.specs.Knows.{due_of}
+use Rattle.freeze_invariant.specs.core_invariant.specs.Sweeps.{HoldsNone, IsLookedAt, names_of}
 use Rattle.sweep_invariant.proofs.OwnedFrames.{Differ}
+use Rattle.freeze_invariant.specs.word_map.specs.Places.{counter_of}
 
 -- No number of a range passes a test.
 none_passes : (p : ℕ → Bool) (a n : ℕ) → ((i : ℕ) → a ≤ i → i < a + n → p i ≡ false) → list_any p (range_with_len a n) ≡ false
@@ -115,7 +117,7 @@ pub acquired_away : (fate : Option (Option ℕ)) (f d : ℕ) (xs : List Acquired
     → (holds_counts fate xs).marks (CountAt f d) ≡ false
 acquired_away fate f d [] all = refl
 acquired_away fate f d (x ∷ xs) all =
-    ap (λ b. if b && d == Rattle.word_map.specs.Places.counter_of x.pin.core then true else (holds_counts fate xs).marks (CountAt f d))
+    ap (λ b. if b && d == counter_of x.pin.core then true else (holds_counts fate xs).marks (CountAt f d))
     (ne_eqb f x.pin.frame (λ same. All-head (λ (x : Acquired). x.pin.frame ≢ f) x xs all (sym same)))
     ∙ acquired_away fate f d xs (All-tail (λ (x : Acquired). x.pin.frame ≢ f) x xs all)
 
@@ -123,7 +125,7 @@ acquired_away fate f d (x ∷ xs) all =
 pub count_word : (xs : List Acquired) (w : Word) → (holds_counts None xs).marks w ≡ true → (f : ℕ) × (d : ℕ) × (w ≡ CountAt f d)
 count_word [] w mark = absurd (false≢true mark)
 count_word (x ∷ xs) w mark = elim (cases_word w (count_of x)) [
-  | inl same ↦ (x.pin.frame, Rattle.word_map.specs.Places.counter_of x.pin.core, same)
+  | inl same ↦ (x.pin.frame, counter_of x.pin.core, same)
   | inr other ↦ count_word xs w (sym (ap (λ b. if b then true else (holds_counts None xs).marks w) (same_word-other w (count_of x) other))
       ∙ mark)
 ]

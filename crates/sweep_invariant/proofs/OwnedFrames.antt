@@ -5,19 +5,19 @@ use Rattle.std.proofs.Common.{◌≡◌, ◌≢◌, ℕ, ◌+◌, ◌<◌, ◌�
 use Rattle.std.proofs.Common.{Option, Some, None, IsTrue, arith, refl, sym, ◌∙◌, ap, subst}
 use Rattle.std.proofs.lemmas.Bool.{false≢true}
 use Rattle.std.proofs.lemmas.List.Elements.{All-nil, All-cons, All-head, All-tail}
-use Rattle.spk_nums.specs.declared.kinds.Kind.TheVariants as kind
-use Rattle.kernel_rules.specs.State.{CompFields, ThreadFields, Object, Blank, Table, Leaf, Pages}
-use Rattle.kernel_rules.specs.State.{Pleaf, Comp, Thread, Tcap, Frame, Untyped, User, Kernel, State}
-use Rattle.kernel_rules.specs.Fitting.{fits}
-use Rattle.kernel_rules.specs.References.{frame_names}
-use Rattle.kernel_invariant.proofs.Sound.{IsSound, IsObjectGood, IsStack}
-use Rattle.kernel_history.specs.ObjectWords.{frame_value}
-use Rattle.stage_sweep.specs.Emptiness.{loads_of}
-use Rattle.stage_sweep.specs.declared.empty.Owned.{Owned}
-use Rattle.act_states.specs.declared.work.Due.{Due}
-use Rattle.act_states.specs.Untypings.{released_one, released_dues}
-use Rattle.core_invariant.specs.Knows.{AreDuesApart}
-use Rattle.core_invariant.specs.Sweeps.{IsLookedAt, names_of}
+use Rattle.freeze_invariant.specs.spk_nums.specs.declared.kinds.Kind.TheVariants as kind
+use Rattle.freeze_invariant.specs.kernel_rules.specs.State.{CompFields, ThreadFields, Object, Blank, Table, Leaf, Pages}
+use Rattle.freeze_invariant.specs.kernel_rules.specs.State.{Pleaf, Comp, Thread, Tcap, Frame, Untyped, User, Kernel, State}
+use Rattle.freeze_invariant.specs.kernel_rules.specs.Fitting.{fits}
+use Rattle.freeze_invariant.specs.kernel_rules.specs.References.{frame_names}
+use Rattle.freeze_invariant.specs.kernel_invariant.proofs.Sound.{IsSound, IsObjectGood, IsStack}
+use Rattle.freeze_invariant.specs.kernel_history.specs.ObjectWords.{frame_value}
+use Rattle.freeze_invariant.specs.stage_sweep.specs.Emptiness.{loads_of}
+use Rattle.freeze_invariant.specs.stage_sweep.specs.declared.empty.Owned.{Owned}
+use Rattle.freeze_invariant.specs.act_states.specs.declared.work.Due.{Due}
+use Rattle.freeze_invariant.specs.act_states.specs.Untypings.{released_one, released_dues}
+use Rattle.freeze_invariant.specs.core_invariant.specs.Knows.{AreDuesApart}
+use Rattle.freeze_invariant.specs.core_invariant.specs.Sweeps.{IsLookedAt, names_of}
 
 -- No frame is the root of a table of capabilities and of a page table.
 both_fit : (x : Frame) → IsTrue (fits kind.Table x) → IsTrue (fits kind.Pages x) → ⊥

@@ -7,19 +7,20 @@ use Rattle.std.proofs.Math.IntN.{pos-+ℤ-pos, +ℤ_assoc, +ℤ_invr, +ℤ_idr}
 use Rattle.std.proofs.lemmas.Bool.{cases_eq, eq-eqb, ne_eqb, eqb-true}
 use Rattle.std.proofs.lemmas.List.Elements.{All-nil, All-cons, All-head, All-tail}
 use Rattle.std.specs.Prelude.{All}
-use Rattle.kernel_rules.specs.State.{Core, Frame, Grace, Kernel, Thing, FrameOf, PlaceOf, State, Thread, put, thread_in, thread_of}
-use Rattle.kernel_rules.specs.CallRelation.{counted}
-use Rattle.kernel_rules.specs.GracePeriods.{same_thing}
-use Rattle.kernel_rules.specs.InvocationCalls.{running, with_thread}
-use Rattle.kernel_rules.specs.References.{times}
-use Rattle.kernel_rules.specs.Rules.{frames_of}
-use Rattle.kernel_rules.specs.State as state
-use Rattle.kernel_invariant.proofs.Sums.{times_cons}
-use Rattle.kernel_rules.proofs.Within.{put_same, put_other}
-use Rattle.stage_pins.specs.Counts.{later}
-use Rattle.stage_pins.specs.Held.{stamp_of_change}
-use Rattle.act_states.specs.Switches.{tcap_dues}
-use Rattle.act_states.specs.declared.work.Due.{Due}
+use Rattle.thread_invariant.specs.kernel_rules.specs.State.{Core, Frame, Grace, Kernel, Thing, FrameOf, PlaceOf, State, Thread, put}
+use Rattle.thread_invariant.specs.kernel_rules.specs.State.{thread_in, thread_of}
+use Rattle.thread_invariant.specs.kernel_rules.specs.CallRelation.{counted}
+use Rattle.thread_invariant.specs.kernel_rules.specs.GracePeriods.{same_thing}
+use Rattle.thread_invariant.specs.kernel_rules.specs.InvocationCalls.{running, with_thread}
+use Rattle.thread_invariant.specs.kernel_rules.specs.References.{times}
+use Rattle.thread_invariant.specs.kernel_rules.specs.Rules.{frames_of}
+use Rattle.thread_invariant.specs.kernel_rules.specs.State as state
+use Rattle.thread_invariant.specs.kernel_invariant.proofs.Sums.{times_cons}
+use Rattle.thread_invariant.specs.kernel_rules.proofs.Within.{put_same, put_other}
+use Rattle.thread_invariant.specs.stage_pins.specs.Counts.{later}
+use Rattle.thread_invariant.specs.stage_pins.specs.Held.{stamp_of_change}
+use Rattle.thread_invariant.specs.act_states.specs.Switches.{tcap_dues}
+use Rattle.thread_invariant.specs.act_states.specs.declared.work.Due.{Due}
 
 -- The state after the switch of core c to the thread in frame f, with this temporal capability and these grace periods.
 abbrev pub switched_to : State → ℕ → ℕ → ℕ → (Thing → Grace) → State

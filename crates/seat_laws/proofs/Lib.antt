@@ -1,0 +1,2 @@
+-- What holds at the last moment of a trace.
+pub mod Latest
