@@ -1,5 +1,5 @@
 -- What holds along a sound trace of the table: the words are the counts of a legal history.
-use Rattle.std.proofs.Common.{◌≡◌, ◌≢◌, ◌⊎◌, ℕ, ◌+◌, ◌*◌, ◌<◌, ◌≤◌, ◌^◌, List, [], ◌∷◌, ◌++◌, length, slice_get, Option, Some, None}
+use Rattle.std.proofs.Common.{◌≡◌, ◌≢◌, ◌⊎◌, ℕ, ◌+◌, ◌*◌, ◌<◌, ◌≤◌, ◌^◌, List, [], ◌∷◌, ◌++◌, Option, Some, None}
 use Rattle.std.proofs.Common.{inl, inr, ⊎_elim, refl, sym, ap, ◌∙◌, subst, arith}
 use mathlib.Core.Logic.{dite}
 use native.Mathlib.Decide.{ℕ_discrete}
@@ -11,7 +11,7 @@ use Rattle.async_ends.specs.declared.endpoint.EndCall.{EndCall}
 use Rattle.async_ends.specs.declared.run.EndStage.{EndStage}
 use Rattle.async_ends.specs.declared.run.EndStage.TheVariants.{Idle, Adds, Loads, Takes}
 use Rattle.async_ends.specs.Events.{Event, AreOfOthers, IsLegal, WasCrossed, untaken}
-use Rattle.async_ends.specs.Running.{EndCore, unused, most_calls, end_steps}
+use Rattle.async_ends.specs.Running.{EndCore, most_calls, end_steps}
 use Rattle.async_ends.specs.Seen.{noted, history_of}
 use Rattle.async_ends.specs.Tables.{IsStart}
 use Rattle.async_ends.proofs.Histories.{counted, sends, untaken_here, untaken_elsewhere, untaken_at_most, legal_noted, others_noted}

@@ -12,7 +12,7 @@ use Rattle.turn_rule.specs.Seats as turns
 use Rattle.turn_rule.specs.Seats.{TableValue, SeatValue}
 use Rattle.async_ends.specs.declared.endpoint.EndCall.{EndCall}
 use Rattle.async_ends.specs.Events.{ExtendsByOthers, taken_at}
-use Rattle.async_ends.specs.Running.{EndCore, unused, end_steps, most_calls}
+use Rattle.async_ends.specs.Running.{EndCore, unused, end_steps}
 use Rattle.async_ends.specs.Seen.{history_of}
 use Rattle.async_ends.specs.Tables.{EndSeatValue, table_value, seat_value, IsStart, IsSeat, AreAllSeats, AreFresh, EndsAt}
 use Rattle.async_ends.specs.Tables.{IsWrapped, AreWrapped}

@@ -1,11 +1,10 @@
 -- What a seat has seen, and what a whole call adds to it.
-use Rattle.std.proofs.Common.{◌≡◌, ◌≢◌, ℕ, zero, suc, ◌+◌, ◌<◌, ◌≤◌, ◌==◌, Bool, true, false, if◌then◌else◌, List, [], ◌∷◌, ◌++◌}
-use Rattle.std.proofs.Common.{Option, Some, None, IsNone, Result, Ok, Err, refl, sym, ap, ◌∙◌, subst, arith, append_assoc, eq-eqb, ne_eqb}
+use Rattle.std.proofs.Common.{◌≡◌, ◌≢◌, ℕ, zero, suc, ◌+◌, ◌<◌, ◌==◌, Bool, true, false, if◌then◌else◌, List, [], ◌∷◌, ◌++◌}
+use Rattle.std.proofs.Common.{Option, Some, None, IsNone, Err, refl, sym, ap, ◌∙◌, subst, arith, append_assoc, eq-eqb, ne_eqb}
 use Rattle.std.proofs.lemmas.Option.{none-some}
 use mathlib.Core.Logic.{dite}
 use native.Mathlib.Decide.{ℕ_discrete}
 use Rattle.spk_nums.specs.declared.replies.Reply.{Reply}
-use Rattle.spk_nums.specs.declared.steps.WordOp.{WordOp}
 use Rattle.spk_nums.specs.declared.steps.WordOp.TheVariants.{Load, Compare, Add}
 use Rattle.spk_nums.specs.WordSteps.{place_in, left_by, told_by}
 use Rattle.turn_rule.specs.declared.view.Entry.{Entry}
@@ -24,7 +23,7 @@ use Rattle.async_ends.specs.declared.run.EndStage.TheVariants.{Idle, Adds, Loads
 use Rattle.async_ends.specs.Events.{Event, event, AreOfOthers, IsLegal}
 use Rattle.async_ends.specs.Running.{EndCore, end_core, most_calls, next_at, end_steps}
 use Rattle.async_ends.specs.Seen.{act_later, act_of, noted, history_of}
-use Rattle.async_ends.specs.Tables.{EndSeatValue, table_value, seat_value, IsStart, IsSeat}
+use Rattle.async_ends.specs.Tables.{table_value, seat_value, IsStart, IsSeat}
 use Rattle.async_ends.specs.Calls.{Look, look, reached, reply_of, Fits, Does, ComesTo, Acts, MakesEndCall}
 use Rattle.async_ends.proofs.Along.{along}
 use Rattle.async_ends.proofs.Histories.{history_of-append, history_of-others, others_append}

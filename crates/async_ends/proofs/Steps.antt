@@ -1,5 +1,5 @@
 -- What the step of an entry has done, by the call and the stage.
-use Rattle.std.proofs.Common.{◌≡◌, ◌≢◌, ◌⊎◌, ℕ, ◌+◌, ◌<◌, ◌≤◌, ◌%◌, ◌^◌, ◌==◌, Bool, if◌then◌else◌, Option, Some, None, IsNone}
+use Rattle.std.proofs.Common.{◌≡◌, ◌≢◌, ◌⊎◌, ℕ, ◌+◌, ◌<◌, ◌≤◌, ◌%◌, ◌^◌, ◌==◌, Bool, if◌then◌else◌, Option, Some, None}
 use Rattle.std.proofs.Common.{List, inl, inr, refl, sym, ap, ◌∙◌, subst, arith, eq-eqb, ne_eqb}
 use Rattle.std.proofs.lemmas.Option.{none-some}
 use mathlib.Core.Logic.{dite}
@@ -16,8 +16,8 @@ use Rattle.async_ends.specs.declared.endpoint.EndAct.TheVariants.{Sent, Taken, R
 use Rattle.async_ends.specs.declared.run.EndStage.{EndStage}
 use Rattle.async_ends.specs.declared.run.EndStage.TheVariants.{Idle, Adds, Loads, Takes}
 use Rattle.async_ends.specs.Events.{Event, untaken, WasCrossed}
-use Rattle.async_ends.specs.Running.{EndCore, end_core, most_calls, next_at, stage_after, end_steps}
-use Rattle.async_ends.specs.Seen.{act_later, act_of}
+use Rattle.async_ends.specs.Running.{EndCore, most_calls, next_at, stage_after, end_steps}
+use Rattle.async_ends.specs.Seen.{act_of}
 use Rattle.async_ends.proofs.Histories.{counted, sends, MovesIt, May}
 
 -- what core c knows in the midst of a receive: the count is still the one that it loaded, or another core crossed it

@@ -1,5 +1,5 @@
 -- The program of an endpoint call.
-use Rattle.std.specs.Prelude.{◌≡◌, ℕ, ◌+◌, ◌<◌, ◌≤◌, ◌^◌, ◌==◌, if◌then◌else◌, Option, Some, None}
+use Rattle.std.specs.Prelude.{ℕ, ◌+◌, ◌<◌, ◌==◌, if◌then◌else◌, Option, Some, None}
 use Rattle.spk_nums.specs.declared.steps.WordOp.{WordOp}
 use Rattle.spk_nums.specs.declared.steps.WordOp.TheVariants.{Load, Compare, Add}
 use Rattle.turn_rule.specs.Steps.{Steps}

@@ -61,7 +61,13 @@ impl EndTable {
     }
 
     // Looks at the capability, and makes the call at the frame that it leads to, if it does.
-    fn ask<A: Authority>(&self, seat: &mut EndSeat, who: &mut A, op: EndOp, number: CapId) -> EndReply
+    fn ask<A: Authority>(
+        &self,
+        seat: &mut EndSeat,
+        who: &mut A,
+        op: EndOp,
+        number: CapId,
+    ) -> EndReply
         requires table { seat.old.table ≡ self.now }
         requires few { seat.old.made < most_calls }
         requires frames { A.frame_count who.old ≤ self.now.frames }
