@@ -4,7 +4,8 @@ use Rattle.std.proofs.Common.{List, [], ◌∷◌, Some, None}
 use Rattle.std.proofs.lemmas.Bool.{false≢true, eqb-true}
 use Rattle.spk_nums.specs.declared.calls.Call.{Call}
 use Rattle.spk_nums.specs.declared.kinds.Kind.TheVariants as kind
-use Rattle.kernel_rules.specs.State.{TcapFields, ThreadFields, Blank, Comp, Thread, Tcap, Frame, Untyped, User, Kernel, Core, State, put, with_frame, with_core, tcap_in}
+use Rattle.kernel_rules.specs.State.{TcapFields, ThreadFields, Blank, Comp, Thread, Tcap, Frame, Untyped, User, Kernel}
+use Rattle.kernel_rules.specs.State.{Core, State, put, with_frame, with_core, tcap_in}
 use Rattle.kernel_rules.specs.Fitting.{fits}
 use Rattle.kernel_rules.specs.Laws.{ticks}
 use Rattle.kernel_rules.specs.Rules.{Change}
@@ -116,13 +117,6 @@ edit_ticks c s (Move a b m) k = moved_ticks s a b m k
 edit_ticks c s (Merge f qs) k = same_budget s f _ k.to.below (put_budget (s.frame f) (record (tcap_at s f) { qualities = qs }) k.to.fit)
 edit_ticks c s _ k = refl
 
-edits_ticks : (c : ℕ) (s : State) (es : List Edit) → Each Known c s es → ticks (after_edits c s es) ≡ ticks s
+pub edits_ticks : (c : ℕ) (s : State) (es : List Edit) → Each Known c s es → ticks (after_edits c s es) ≡ ticks s
 edits_ticks c s [] k = refl
 edits_ticks c s (e ∷ es) k = edits_ticks c (edited c s e) es k.1 ∙ edit_ticks c s e k.0
-
-abbrev pub TicksStay : State → Change → Type 0
-TicksStay s change = ticks change.next ≡ ticks s
-
-pub ticks_stay : (s : State) (o : ℕ → Bool) (c : ℕ) → IsOpen s o c → (call : Call) (change : Change) → Edits call c s change
-    → TicksStay s change
-ticks_stay s o c h call change e = ap (λ (k : Change). ticks k.next) e.is ∙ edits_ticks c s e.list (e.known o h)

@@ -28,7 +28,7 @@ use Rattle.kernel_invariant.specs.Edits.{edited, after_edits}
 use Rattle.kernel_invariant.proofs.Sound.{put_all}
 use Rattle.kernel_invariant.proofs.SoundStart.{choose}
 use Rattle.kernel_invariant.proofs.SoundRuns.{open_limits}
-use Rattle.kernel_invariant.proofs.Edited.{Tested, Limited, Each, Edits, found_by}
+use Rattle.kernel_invariant.proofs.Edited.{Tested, Limited, Each, Edits, after_ok}
 use Rattle.state_laws.specs.Lives.{CompsApart}
 
 -- Whether a frame has a component.
@@ -192,11 +192,6 @@ edits_apart c s [] tested lim w = w
 edits_apart c s (e ∷ es) tested lim w = edits_apart c (edited c s e) es tested.1 lim.1 (edit_apart c s e tested.0 lim.0 w)
 
 -- A decision.
-found_apart : (s : State) (v : Value) (x : Judged Change) → IfFound x (λ change. Apart change.next) → IsFoundAnd x (λ k. k.value ≡ v)
-    → Apart (changed s x)
-found_apart s v (Refused r) by ok = absurd ok
-found_apart s v (Found change) by ok = by
-
 owed_apart : (s : State) (c : ℕ) (call : Call) → Apart s → Apart (owed_by s c call)
 owed_apart s c (Tick m) w = w
 owed_apart s c _ w = w
@@ -204,8 +199,7 @@ owed_apart s c _ w = w
 decided_apart : (s : State) (c : ℕ) (call : Call) (r : Reply) → InLimits call → MayReply s c call r → Apart s
     → Apart (state_by s c call r)
 decided_apart s c call (reply.Ok v) lim may w =
-    found_apart s v (change_of s c call) (found_by s c call (λ change. Apart change.next)
-    (λ change e. subst (λ (k : Change). Apart k.next) (sym e.is) (edits_apart c s e.list e.tested (e.limited lim) w))) may.1
+    after_ok s c call v Apart may (λ change e. edits_apart c s e.list e.tested (e.limited lim) w)
 decided_apart s c call reply.CallsSpent lim may w = w
 decided_apart s c call reply.Raced lim may w = owed_apart s c call w
 decided_apart s c call (reply.Busy e) lim may w = owed_apart s c call w

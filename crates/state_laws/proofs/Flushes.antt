@@ -24,6 +24,7 @@ use Rattle.kernel_rules.specs.CallRelation.{MayReply, begins, begins_in, ends, e
 use Rattle.kernel_rules.specs.Relies.{is_node}
 use Rattle.kernel_rules.proofs.Changes.{IfFound}
 use Rattle.kernel_rules.proofs.Within.{put_same, put_other}
+use Rattle.kernel_invariant.proofs.Facts.{some_none}
 use Rattle.kernel_invariant.proofs.SoundRemovals.{find_not}
 use Rattle.kernel_invariant.proofs.SoundCalls.{IsOpen}
 use Rattle.kernel_invariant.proofs.Refs.{RefsBy, refs_by, grace_refs}
@@ -46,10 +47,7 @@ none_unflushed s x h d below =
   where
     not_found : (w : Option ℕ) → unflushed_by w ≡ None → w ≡ None
     not_found None e = refl
-    not_found (Some e) q = absurd (some_none e q)
-      where
-        some_none : (e : ℕ) → unflushed_by (Some e) ≡ None → ⊥
-        some_none e q = cc
+    not_found (Some e) q = absurd (some_none (reply.Unflushed e) q)
 
 -- A frame whose grace period a decision ends is flushed by all cores.
 AreFlushed : State → Thing → Type 0

@@ -28,7 +28,7 @@ use Rattle.kernel_invariant.proofs.SoundRemovals.{unnamed}
 use Rattle.kernel_invariant.proofs.SoundCalls.{IsOpen}
 use Rattle.kernel_invariant.proofs.SoundRuns.{opened, open_is}
 use Rattle.kernel_invariant.specs.Edits.{Edit, Fill, Component, Deaden, Merge, edited, after_edits}
-use Rattle.kernel_invariant.proofs.Edited.{Tested, Each, AreLater, later_number, Calm, Edits, found_by}
+use Rattle.kernel_invariant.proofs.Edited.{Tested, Each, AreLater, later_number, Calm, Edits, after_ok}
 use Rattle.kernel_invariant.proofs.Ends.{ends_by_rule}
 use Rattle.state_laws.specs.Lives.{IsCompOf, LiveNumbersFit, DeadStays}
 use Rattle.state_laws.proofs.Kept.{is_kept, decided_kept}
@@ -122,11 +122,6 @@ edits_numbers c s (e ∷ es) calm tested = record {
     same = later_number c (edited c s e) es calm.2
 
 -- What a decision makes of them.
-found_numbers : (s : State) (v : Value) (x : Judged Change) → IfFound x (λ change. DecidedNumbers s change.next)
-    → IsFoundAnd x (λ k. k.value ≡ v) → DecidedNumbers s (changed s x)
-found_numbers s v (Refused r) by ok = absurd ok
-found_numbers s v (Found change) by ok = record { live = by.live; past = by.past }
-
 unchanged : (s t : State) → ((l : ℕ) → t.number l ≡ s.number l) → DecidedNumbers s t
 unchanged s t same = record { live = λ l e f is. inl (sym (same l) ∙ is); past = λ l e p. subst (IsPast e) (sym (same l)) p }
 
@@ -136,8 +131,8 @@ owed_number s c _ l = refl
 
 decided_numbers : (s : State) (c : ℕ) (call : Call) (r : Reply) → MayReply s c call r → DecidedNumbers s (state_by s c call r)
 decided_numbers s c call (reply.Ok v) may =
-    let n = found_numbers s v (change_of s c call) (found_by s c call (λ change. DecidedNumbers s change.next)
-    (λ change e. subst (λ (k : Change). DecidedNumbers s k.next) (sym e.is) (edits_numbers c s e.list e.calm e.tested))) may.1 in
+    let n = after_ok s c call v (DecidedNumbers s) may (λ change e.
+    let n = edits_numbers c s e.list e.calm e.tested in record { live = n.live; past = n.past }) in
     record { live = n.live; past = n.past }
 decided_numbers s c call reply.CallsSpent may = unchanged s _ (λ l. refl)
 decided_numbers s c call reply.Raced may = unchanged s _ (owed_number s c call)
