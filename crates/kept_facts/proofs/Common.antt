@@ -24,15 +24,19 @@ pub use Rattle.thread_laws.specs.spk_nums.specs.declared.replies.Reply.{Reply}
 pub use Rattle.thread_laws.specs.spk_nums.specs.declared.replies.Value.{Value}
 pub use Rattle.thread_laws.specs.spk_nums.specs.declared.steps.StageEnd.{StageEnd}
 pub use Rattle.thread_laws.specs.spk_nums.specs.declared.translations.Translation.{Translation}
-pub use Rattle.thread_laws.specs.entry_words.specs.EntryWord.{EntryFits, entry_of_word, word_of_entry}
+pub use Rattle.thread_laws.specs.entry_words.specs.EntryWord.{EntryFits, entry_of_word}
+unfoldable pub use Rattle.thread_laws.specs.entry_words.specs.EntryWord.{word_of_entry}
 pub use Rattle.thread_laws.specs.entry_words.specs.declared.entry.Entry.{Entry}
 pub use Rattle.thread_laws.specs.entry_words.specs.declared.entry.Entry.TheVariants.{Closing, Held}
 pub use Rattle.thread_laws.specs.frame_words.specs.Comp.{comp_of_word}
 pub use Rattle.thread_laws.specs.frame_words.specs.Core.{core_of_word}
-pub use Rattle.thread_laws.specs.frame_words.specs.Count.{CountFits, count_of_word, word_of_count}
+pub use Rattle.thread_laws.specs.frame_words.specs.Count.{CountFits, count_of_word}
+unfoldable pub use Rattle.thread_laws.specs.frame_words.specs.Count.{word_of_count}
 pub use Rattle.thread_laws.specs.frame_words.specs.Flush.{flush_of_word}
-pub use Rattle.thread_laws.specs.frame_words.specs.Frame.{FrameFits, frame_of_word, word_of_frame}
-pub use Rattle.thread_laws.specs.frame_words.specs.Live.{LiveFits, live_of_word, word_of_live}
+pub use Rattle.thread_laws.specs.frame_words.specs.Frame.{FrameFits, frame_of_word}
+unfoldable pub use Rattle.thread_laws.specs.frame_words.specs.Frame.{word_of_frame}
+pub use Rattle.thread_laws.specs.frame_words.specs.Live.{LiveFits, live_of_word}
+unfoldable pub use Rattle.thread_laws.specs.frame_words.specs.Live.{word_of_live}
 pub use Rattle.thread_laws.specs.frame_words.specs.declared.comp_word.CompWord.{CompWord}
 pub use Rattle.thread_laws.specs.frame_words.specs.declared.core_word.CoreWord.{CoreWord}
 pub use Rattle.thread_laws.specs.frame_words.specs.declared.count_word.CountWord.{CountWord}
@@ -40,10 +44,13 @@ pub use Rattle.thread_laws.specs.frame_words.specs.declared.flush_word.FlushWord
 pub use Rattle.thread_laws.specs.frame_words.specs.declared.frame_word.FrameWord.{FrameWord}
 pub use Rattle.thread_laws.specs.frame_words.specs.declared.live_word.LiveWord.{LiveWord}
 pub use Rattle.thread_laws.specs.tcap_words.proofs.HeadLemmas.{spelling}
-pub use Rattle.thread_laws.specs.tcap_words.specs.Head.{HeadFits, head_of_word, word_of_head}
+pub use Rattle.thread_laws.specs.tcap_words.specs.Head.{HeadFits, head_of_word}
+unfoldable pub use Rattle.thread_laws.specs.tcap_words.specs.Head.{word_of_head}
 pub use Rattle.thread_laws.specs.tcap_words.specs.Quality.{quality_of_word}
-pub use Rattle.thread_laws.specs.tcap_words.specs.Stack.{stack_of_word, word_of_stack}
-pub use Rattle.thread_laws.specs.tcap_words.specs.Thread.{DepthFits, ThreadFits, thread_of_word, word_of_thread}
+pub use Rattle.thread_laws.specs.tcap_words.specs.Stack.{stack_of_word}
+unfoldable pub use Rattle.thread_laws.specs.tcap_words.specs.Stack.{word_of_stack}
+pub use Rattle.thread_laws.specs.tcap_words.specs.Thread.{DepthFits, ThreadFits, thread_of_word}
+unfoldable pub use Rattle.thread_laws.specs.tcap_words.specs.Thread.{word_of_thread}
 pub use Rattle.thread_laws.specs.tcap_words.specs.declared.head_word.HeadWord.{HeadWord}
 pub use Rattle.thread_laws.specs.tcap_words.specs.declared.thread_word.ThreadWord.{ThreadWord}
 pub use Rattle.thread_laws.specs.tcap_words.specs.declared.thread_word.ThreadWord.TheVariants.{Claimed, Idle, Running}
@@ -67,7 +74,9 @@ pub use Rattle.thread_laws.specs.kernel_rules.specs.InvocationCalls.{is_live_in,
 pub use Rattle.thread_laws.specs.kernel_rules.specs.Laws.{calls_counted}
 pub use Rattle.thread_laws.specs.kernel_rules.specs.MemoryCalls.{is_empty, is_untyped, retypes, translation_of}
 pub use Rattle.thread_laws.specs.kernel_rules.specs.Ranges.{InRanges}
-pub use Rattle.thread_laws.specs.kernel_rules.specs.References.{frame_names, named_by, place_names, refs, sum_below, times}
+pub use Rattle.thread_laws.specs.kernel_rules.specs.References.{frame_names, named_by, place_names, times}
+unfoldable pub use Rattle.thread_laws.specs.kernel_rules.specs.References.{refs}
+unfoldable pub use Rattle.thread_laws.specs.kernel_rules.specs.References.{sum_below}
 pub use Rattle.thread_laws.specs.kernel_rules.specs.Relies.{IsGuarded, Relies, is_node}
 pub use Rattle.thread_laws.specs.kernel_rules.specs.Rules.{Cause, Change, Does, Found, IsFoundAnd, Judged, Refused, Rule, RuleMay, Vacant}
 pub use Rattle.thread_laws.specs.kernel_rules.specs.Rules.{When, and_then, answers, first_cause, first_of, frames_of, leaves, named}
@@ -155,7 +164,8 @@ pub use Rattle.core_invariant.specs.stage_quiet.specs.declared.close.Close.TheVa
 pub use Rattle.core_invariant.specs.stage_quiet.specs.declared.quiet.Quiet.{Quiet}
 pub use Rattle.core_invariant.specs.stage_quiet.specs.declared.quiet.Quiet.TheVariants.{AtCore, AtFlush}
 pub use Rattle.core_invariant.specs.stage_thread.specs.declared.claim.Claim.TheVariants.{AtStack}
-pub use Rattle.core_invariant.specs.stage_sweep.specs.Counters.{counters_of, latest_stamp}
+pub use Rattle.core_invariant.specs.stage_sweep.specs.Counters.{latest_stamp}
+unfoldable pub use Rattle.core_invariant.specs.stage_sweep.specs.Counters.{counters_of}
 pub use Rattle.core_invariant.specs.stage_sweep.specs.Emptiness.{loads_of, may_be_cached}
 pub use Rattle.core_invariant.specs.stage_sweep.specs.Freeze.{at_after, empty_next, end_by, refusal_of, scan_goes, swept_of}
 pub use Rattle.core_invariant.specs.stage_sweep.specs.Release.{thaw_of}
