@@ -9,6 +9,10 @@ pub mod OwedHeads
 pub mod Pages
 pub mod Frames
 pub mod Sweeping
+pub mod CountSteps
+pub mod CountHolds
+pub mod CountsTold
+pub mod Ready
 pub mod Invocations
 pub mod Threads
 -- The record of all of them.

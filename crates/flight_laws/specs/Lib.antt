@@ -12,4 +12,6 @@ pub mod Lives
 pub mod Invocations
 pub mod Pages
 pub mod Frames
+pub mod Counts
+pub mod Ready
 pub mod Histories
