@@ -18,27 +18,33 @@ use Rattle.spk_nums.specs.declared.translations.Translation.{Translation}
 use Rattle.spk_nums.specs.declared.replies.Value.{Value}
 use Rattle.spk_nums.specs.declared.replies.Value.TheVariants.{Nothing, Amount}
 use Rattle.spk_nums.specs.declared.replies.Reply.TheVariants as reply
-use Rattle.kernel_rules.specs.State.{Free, Holds, Object, Blank, Table, Leaf, Pages, Pleaf, Comp, Thread, Tcap, Frame, Untyped, User, Kernel}
-use Rattle.kernel_rules.specs.State.{CompFields, TcapFields, Liveness, Live, Grace, Thing, FrameOf, State, put, tcap_in, comp_in, comp_of, thread_in, thread_of, NumberOf}
+use Rattle.kernel_rules.specs.State.{Free, Holds, Object, Blank, Table, Leaf, Pages, Pleaf, Comp, Thread, Tcap, Frame}
+use Rattle.kernel_rules.specs.State.{Untyped, User, Kernel}
+use Rattle.kernel_rules.specs.State.{CompFields, TcapFields, Liveness, Live, Grace, Thing, FrameOf, NumberOf, State}
+use Rattle.kernel_rules.specs.State.{put, tcap_in, comp_in, comp_of, thread_in, thread_of}
 use Rattle.kernel_rules.specs.Start.{plain_cap, no_grace}
 use Rattle.kernel_rules.specs.References.{refs}
 use Rattle.kernel_rules.specs.Access.{Slot, Target, Under, InRoot, found, held_in, place_at, only, root}
 use Rattle.kernel_rules.specs.Fitting.{fits, IsGood}
 use Rattle.kernel_rules.specs.Relies.{is_node}
 use Rattle.kernel_rules.specs.Rules.{Change, fills, removes, answers, Cause, When, WaitedFor, Unflushed, Found, named, vacant, held, mapped}
-use Rattle.kernel_rules.specs.Rules.{first_cause, refusal_of, waits_of, flushes_of}
+use Rattle.kernel_rules.specs.Rules.{first_cause, refusal_of, waits_of, flushes_of, Judged, Refused, IsFoundAnd}
 use Rattle.kernel_rules.specs.CapabilityCalls.{outside, not_blank, makes, make_node, make_rule, not_taken, is_live, epoch_of}
 use Rattle.kernel_rules.specs.MemoryCalls.{is_untyped_now, is_empty, not_retyped, retype_rule, touch_by, translation_of, translated}
 use Rattle.kernel_rules.specs.InvocationCalls.{is_live_in, not_live, switch_to}
 use Rattle.kernel_rules.specs.TimeCalls.{tcap_at, with_tcap, with_budget, merged_list, are_same, is_short, are_unlike, are_many, moved}
-use Rattle.kernel_rules.specs.CallRelation.{rule_of, change_of, ends_by, flushes_by}
+use Rattle.kernel_rules.specs.GracePeriods.{begun}
+use Rattle.kernel_rules.specs.CallRelation.{rule_of, change_of, changed, MayReply, ends_by, flushes_by}
 use Rattle.kernel_rules.proofs.Changes.{IfFound}
 use Rattle.kernel_invariant.proofs.Sound.{put_all}
 use Rattle.kernel_invariant.proofs.SoundRemovals.{below_by, none_waiting}
-use Rattle.kernel_invariant.proofs.Facts.{ChangesFrom, changes_map, outcome_from, named_good, named_fit, RootIsNode, vacant_facts, held_facts, none_parts, when_not, not_not, first_two}
-use Rattle.kernel_invariant.proofs.SoundCalls.{IsOpen, node_of, in_range, blank_by, untyped_by, own_thread, thread_below, tcap_below, root_node, zero_refs}
+use Rattle.kernel_invariant.proofs.Facts.{ChangesFrom, changes_map, outcome_from, named_good, named_fit, RootIsNode, vacant_facts}
+use Rattle.kernel_invariant.proofs.Facts.{held_facts, none_parts, when_not, not_not, first_two, some_none}
+use Rattle.kernel_invariant.proofs.SoundCalls.{IsOpen, node_of, in_range, blank_by, untyped_by, own_thread}
+use Rattle.kernel_invariant.proofs.SoundCalls.{thread_below, tcap_below, root_node, zero_refs}
 use Rattle.kernel_invariant.specs.Edits.{Edit, Fill, Remove, Node, Become, Untype, Component, Deaden, Push, Pop, Switch, Cache, Flush}
-use Rattle.kernel_invariant.specs.Edits.{Charge, Move, Merge, edited, after_edits, begins_in, ends_in, begins_all, ends_all, flush_in, kept_all, charged_by, charged_all, does}
+use Rattle.kernel_invariant.specs.Edits.{Charge, Move, Merge, edited, after_edits, begins_in, ends_in, begins_all, ends_all}
+use Rattle.kernel_invariant.specs.Edits.{flush_in, kept_all, charged_by, charged_all, does}
 
 -- A frame without an object.
 abbrev pub is_bare : Frame → Bool
@@ -302,7 +308,8 @@ module _ (s : State) (c : ℕ) where
     known = λ o h. (known o h, tt);
   }
 
-  two : (call : Call) (e x : Edit) (v : Value) → Agrees call c (e ∷ x ∷ []) → Calm c s (e ∷ x ∷ []) → Tested c s e × Tested c (edited c s e) x
+  two : (call : Call) (e x : Edit) (v : Value) → Agrees call c (e ∷ x ∷ []) → Calm c s (e ∷ x ∷ [])
+      → Tested c s e × Tested c (edited c s e) x
       → (InLimits call → Limited c s e × Limited c (edited c s e) x)
       → ((o : ℕ → Bool) → IsOpen s o c → Known c s e × Known c (edited c s e) x) → Edits call c s (does c s v (e ∷ x ∷ []))
   two call e x v agrees calm tested limited known = record {
@@ -317,14 +324,16 @@ module _ (s : State) (c : ℕ) where
 
   filled : (call : Call) (target : Target) (at : Slot) (k : Capability) → Agrees call c (Fill at k ∷ [])
       → ((o : ℕ → Bool) → IsOpen s o c → RootIsNode s target) → vacant s c target ≡ Found at → Edits call c s (fills s at k)
-  filled call target at k agrees node e = one call (Fill at k) Nothing agrees tt (λ lim. tt) (λ o h. fill_known s c o h target at k (node o h) e)
+  filled call target at k agrees node e =
+      one call (Fill at k) Nothing agrees tt (λ lim. tt) (λ o h. fill_known s c o h target at k (node o h) e)
 
   removed : (call : Call) (target : Target) (at : Slot) (k : Capability) → Agrees call c (Remove at k ∷ [])
       → held s c target ≡ Found (at, k) → Edits call c s (removes s at k)
   removed call target at k agrees e = one call (Remove at k) Nothing agrees tt (λ lim. tt) (λ o h. remove_known s c o h target at k e)
 
   made_node : (call : Call) (object : Object) (k : Kind) (r f t b : ℕ) → IsTrue (is_node (Kernel object))
-      → (tcap_in (Kernel object)).budget ≡ 0 → (thread_in (Kernel object)).runs_on ≡ None → ((at : Slot) → Agrees call c (Node f object ∷ Fill at (plain_cap k f) ∷ []))
+      → (tcap_in (Kernel object)).budget ≡ 0 → (thread_in (Kernel object)).runs_on ≡ None
+      → ((at : Slot) → Agrees call c (Node f object ∷ Fill at (plain_cap k f) ∷ []))
       → ChangesFrom (Edits call c s) s c (make_node s object k r f t b)
   made_node call object k r f t b node poor idle agrees = λ range e table g at v calm.
       two call (Node f object) (Fill at (plain_cap k f)) Nothing (agrees at) (refl, λ x. refl, tt) (tt, tt) (λ lim. (node, tt))
@@ -354,21 +363,26 @@ module _ (s : State) (c : ℕ) where
       made (call.Make (make.Thread comp) r f t b) (Thread (record { stack = k.frame ∷ []; runs_on = None })) kind.Thread r f range
       (Under (found table) b) at refl refl refl (λ x. refl, refl, λ x g. refl, refl) (λ lim. refl) tt e v calm
   make_edits (make.Tcap sched quality) r f t b = λ range e table g at v calm.
-      made (call.Make (make.Tcap sched quality) r f t b) (Tcap (record { budget = 0; qualities = (sched, quality) ∷ [] })) kind.Tcap r f range
-      (Under (found table) b) at refl refl refl (λ x. refl, refl, λ x g. refl, refl) (λ lim. (refl, (lim, tt, tt))) tt e v calm
+      made (call.Make (make.Tcap sched quality) r f t b) (Tcap (record { budget = 0; qualities = (sched, quality) ∷ [] }))
+      kind.Tcap r f range (Under (found table) b) at refl refl refl (λ x. refl, refl, λ x g. refl, refl)
+      (λ lim. (refl, (lim, tt, tt))) tt e v calm
   make_edits (make.Comp x p l) r f t b = λ range e table g own_table a own_pages d at v calm.
       let q1 = none_parts (refusal_of s c (outside (found range) f)) (first_cause s c (not_blank s f ∷ not_taken s l)) calm in
       let q2 = none_parts (refusal_of s c (not_blank s f)) (first_cause s c (not_taken s l)) q1.1 in
       let q3 = none_parts (refusal_of s c (When (is_live (s.number l)) reply.Occupied)) _ q2.1 in
       let q4 = none_parts (waits_of s c (NumberOf l)) _ q3.1 in
       let q5 = none_parts (refusal_of s c (When (epoch_of (s.number l) == s.limits.epochs) reply.EpochsSpent)) None q4.1 in
-      let fields : CompFields = record { table = own_table.frame; pages = own_pages.frame; number = l; epoch = epoch_of (s.number l) + 1 } in
+      let fields : CompFields =
+      record { table = own_table.frame; pages = own_pages.frame; number = l; epoch = epoch_of (s.number l) + 1 } in
       two (call.Make (make.Comp x p l) r f t b) (Component f fields) (Fill at (plain_cap kind.Comp f)) Nothing
-      (λ x. refl, refl, λ x g. refl, refl) (refl, λ x. refl, tt) ((
-        when_not (is_live (s.number l)) reply.Occupied q3.0,
-        refl,
-        eqb-false (epoch_of (s.number l)) s.limits.epochs (when_not (epoch_of (s.number l) == s.limits.epochs) reply.EpochsSpent q5.0),
-      ), tt) (λ lim. (lim, tt))
+      (λ x. refl, refl, λ x g. refl, refl) (refl, λ x. refl, tt) (
+        (
+          when_not (is_live (s.number l)) reply.Occupied q3.0,
+          refl,
+          eqb-false (epoch_of (s.number l)) s.limits.epochs (when_not (epoch_of (s.number l) == s.limits.epochs) reply.EpochsSpent q5.0),
+        ),
+        tt,
+      ) (λ lim. (lim, tt))
       (λ o h. (
         fresh s c o h r f range (not_taken s l) (Comp fields) e refl refl calm,
         fill_known s c o h (Under (found table) b) at (plain_cap kind.Comp f) tt v,
@@ -401,16 +415,14 @@ module _ (s : State) (c : ℕ) where
   touch_edits : (v : ℕ) (t : Option Translation) → ChangesFrom (Edits (call.Touch v) c s) s c (touch_by s c (comp_of s c).pages v t)
   touch_edits v None = λ mapping e calm.
       let t : Translation = record { pages = (comp_of s c).pages; page = v; frame = mapping.frame; flags = record { 0 = mapping.arg } } in
-      one (call.Touch v) (Cache t) (translated t) (λ x. refl, refl, λ x g. refl, refl) (mapping, e, refl) (λ lim. tt) (λ o h. own_core s c o h)
+      one (call.Touch v) (Cache t) (translated t) (λ x. refl, refl, λ x g. refl, refl) (mapping, e, refl) (λ lim. tt)
+      (λ o h. own_core s c o h)
   touch_edits v (Some t) = λ calm. nothing (call.Touch v) (λ x. refl, refl, λ x g. refl, refl)
 
   switch_edits : (a b : ℕ) (j k : Capability) → named s c a (only kind.Thread) ≡ Found j → (e : Option ℕ)
       → (thread_in (s.frame j.frame)).runs_on ≡ e
       → ChangesFrom (Edits (call.Switch a b) c s) s c (switch_to s c (found j) k.frame e)
-  switch_edits a b j k g (Some e) is = λ calm. absurd (some_none (none_parts (Some (reply.Running e)) None calm).0)
-    where
-      some_none : Some (reply.Running e) ≡ None → ⊥
-      some_none p = cc
+  switch_edits a b j k g (Some e) is = λ calm. absurd (some_none (reply.Running e) (none_parts (Some (reply.Running e)) None calm).0)
   switch_edits a b j k g None is = λ calm.
       one (call.Switch a b) (Switch j.frame k.frame) Nothing (λ x. refl, refl, λ x g. refl, refl) tt (λ lim. tt)
       (λ o h. let fit = named_fit s o c a kind.Thread j h.sound h.is g in record {
@@ -490,3 +502,16 @@ module _ (s : State) (c : ℕ) where
   pub found_by : (call : Call) (P : Change → Type 0) → ((change : Change) → Edits call c s change → P change)
       → IfFound (change_of s c call) P
   found_by call P by = outcome_from P s c (rule_of s c call) (rule_by call P by)
+
+  -- What holds after the edits of a call, whose grace periods begin, holds after its answer `ok`.
+  pub after_ok : (call : Call) (v : Value) (Q : State → Type 0) → MayReply s c call (reply.Ok v)
+      → ((change : Change) (e : Edits call c s change) → Q (begun s (begins_all c s e.list) (after_edits c s e.list)))
+      → Q (changed s (change_of s c call))
+  after_ok call v Q may by = found_after (change_of s c call)
+      (found_by call (λ change. Q (begun s change.begins change.next))
+      (λ change e. subst (λ (k : Change). Q (begun s k.begins k.next)) (sym e.is) (by change e))) may.1
+    where
+      found_after : (x : Judged Change) → IfFound x (λ change. Q (begun s change.begins change.next))
+          → IsFoundAnd x (λ k. k.value ≡ v) → Q (changed s x)
+      found_after (Refused r) by ok = absurd ok
+      found_after (Found change) by ok = by

@@ -118,7 +118,8 @@ edits_turn c s (e ∷ (x ∷ es)) k f = turns_then _ _ f (s.frame f) ((edited c 
 abbrev TurnsBy : State → Call → Change → Type 0
 TurnsBy s call change = (f : ℕ) → Turns (ends_by call) f (s.frame f) (change.next.frame f)
 
-turns_by : (s : State) (o : ℕ → Bool) (d : ℕ) → IsOpen s o d → (call : Call) (change : Change) → Edits call d s change → TurnsBy s call change
+turns_by : (s : State) (o : ℕ → Bool) (d : ℕ) → IsOpen s o d → (call : Call) (change : Change) → Edits call d s change
+    → TurnsBy s call change
 turns_by s o d h call change e f =
     let t : Turns (ends_all e.list) f (s.frame f) (change.next.frame f) =
     subst (λ (k : Change). Turns (ends_all e.list) f (s.frame f) (k.next.frame f)) (sym e.is) (edits_turn d s e.list (e.known o h) f) in

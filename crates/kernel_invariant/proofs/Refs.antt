@@ -24,7 +24,7 @@ use Rattle.kernel_invariant.proofs.Sums.{sum_same, sum_one, times_cons, times_ap
 use Rattle.kernel_invariant.proofs.Sound.{put_all}
 use Rattle.kernel_invariant.specs.Edits.{Edit, Fill, Remove, Node, Become, Untype, Component, Deaden, Push, Pop, Switch, Cache, Flush}
 use Rattle.kernel_invariant.specs.Edits.{Charge, Move, Merge, edited, after_edits, takes_in, begins_in, takes_all, begins_all}
-use Rattle.kernel_invariant.proofs.Facts.{ChangesFrom}
+use Rattle.kernel_invariant.proofs.Facts.{ChangesFrom, some_none}
 use Rattle.kernel_invariant.proofs.SoundCalls.{IsOpen}
 use Rattle.kernel_invariant.proofs.Edited.{is_bare, Tested, Limited, Known, Each, Edits, HasThread, rule_by}
 
@@ -105,9 +105,6 @@ released_frames (f ∷ fs) = ap (λ xs. f ∷ xs) (released_frames fs)
 
 not_held_names : (p : Place) → held_in p ≡ None → place_names p ≡ []
 not_held_names (Holds k) e = absurd (some_none k e)
-  where
-    some_none : (k : Capability) → Some k ≡ None → ⊥
-    some_none k e = cc
 not_held_names _ e = refl
 
 not_live_names : (x : Liveness) → is_live x ≡ false → number_names x ≡ []

@@ -2,7 +2,7 @@
 use Rattle.std.proofs.Common.{◌≡◌, inl, inr, ℕ, zero, suc, ◌+◌, ◌-◌, ◌<◌, ◌≤◌, Bool, true, false, not, ◌&&◌}
 use Rattle.std.proofs.Common.{◌||◌, refl, sym, ◌∙◌, ap, subst, arith, ◌==◌, nat_lt, nat_le, if◌then◌else◌}
 use Rattle.std.proofs.Common.{IsTrue, IsFalse, List, [], ◌∷◌, length, take, drop, Option, Some, None, is_some}
-use Rattle.std.proofs.lemmas.Bool.{cases_eq, false≢true, true≢false, ltb-true, ltb-false, lt-ltb}
+use Rattle.std.proofs.lemmas.Bool.{cases_eq, false≢true, true≢false, ltb-true, ltb-false, lt-ltb, and_parts}
 use Rattle.std.specs.List.{list_any, range_with_len}
 use Rattle.spk_nums.specs.Capability.{Capability}
 use Rattle.spk_nums.specs.declared.kinds.Kind.{Kind}
@@ -44,7 +44,7 @@ use Rattle.kernel_invariant.proofs.SoundSteps.{fill_step, core_step, live_step, 
 use Rattle.kernel_invariant.proofs.SoundRemovals.{frames_no_place, begin_step, remove_step, unnamed}
 use Rattle.kernel_invariant.proofs.SoundRemovals.{untyped, untype_step, none_waits, below_by}
 use Rattle.kernel_invariant.proofs.Facts.{ChangesFrom, named_good, named_fit, RootIsNode, reached_node}
-use Rattle.kernel_invariant.proofs.Facts.{vacant_facts, held_facts, none_parts, when_not, not_not, first_two}
+use Rattle.kernel_invariant.proofs.Facts.{vacant_facts, held_facts, none_parts, when_not, not_not, first_two, some_none}
 
 -- The state after a change, in which the call of core c is no longer open, is sound.
 abbrev pub Keeps : State → (ℕ → Bool) → ℕ → Change → Type 0
@@ -132,11 +132,6 @@ pub user_is : (x : Frame) → is_user x ≡ true → x ≡ User
 user_is User h = refl
 user_is _ h = absurd (false≢true h)
 
-both : (x y : Bool) → (x && y) ≡ true → (x ≡ true) × (y ≡ true)
-both true true e = (refl, refl)
-both true false e = absurd (false≢true e)
-both false y e = absurd (false≢true e)
-
 -- A frame of a named range is a frame of the machine.
 pub in_range : (s : State) (o : ℕ → Bool) (c r f : ℕ) (range : Capability) → IsOpen s o c → named s c r (only kind.Range) ≡ Found range
     → refusal_of s c (outside (found range) f) ≡ None → f < s.limits.frames
@@ -147,7 +142,7 @@ in_range s o c r f range h e none =
     let has : has_frame (found range) f ≡ true =
     not_not (has_frame (found range) f) (when_not (not (has_frame (found range) f)) reply.OutOfRange none) in
     let below : f < range.frame + range.arg =
-    ltb-true f (range.frame + range.arg) (both (nat_le range.frame f) (nat_lt f (range.frame + range.arg)) has).1 in
+    ltb-true f (range.frame + range.arg) (and_parts (nat_le range.frame f) (nat_lt f (range.frame + range.arg)) has).1 in
     omega (arith, ends, below)
 
 -- A frame of the machine is of the kind that a cause of `frame-kind` asks for, where the cause does not stand.
@@ -402,10 +397,8 @@ running_fit s f core k g h =
 switch_keeps : (s : State) (o : ℕ → Bool) (c : ℕ) → IsOpen s o c → (j : Capability) (q : ℕ)
     → IsTrue (fits kind.Thread (s.frame j.frame)) → IsTrue (fits kind.Tcap (s.frame q))
     → (e : Option ℕ) → ChangesFrom (Keeps s o c) s c (switch_to s c (found j) q e)
-switch_keeps s o c h j q thread tcap (Some e) = λ calm. absurd (some_none (none_parts (Some (reply.Running e)) None calm).0)
-  where
-    some_none : Some (reply.Running e) ≡ None → ⊥
-    some_none p = cc
+switch_keeps s o c h j q thread tcap (Some e) =
+    λ calm. absurd (some_none (reply.Running e) (none_parts (Some (reply.Running e)) None calm).0)
 switch_keeps s o c h j q thread tcap None = λ calm.
     let f : ℕ = j.frame in
     let old : ℕ = (s.core c).thread in

@@ -8,16 +8,15 @@ use Rattle.spk_nums.specs.declared.replies.Value.{Value}
 use Rattle.spk_nums.specs.declared.replies.Reply.{Reply}
 use Rattle.spk_nums.specs.declared.replies.Reply.TheVariants as reply
 use Rattle.kernel_rules.specs.State.{Core, State, put}
-use Rattle.kernel_rules.specs.Rules.{Change, Judged, Refused, Found, IsFoundAnd, RuleMay}
+use Rattle.kernel_rules.specs.Rules.{RuleMay}
 use Rattle.kernel_rules.specs.MemoryCalls.{caching}
 use Rattle.kernel_rules.specs.TimeCalls.{tcap_at, charge}
 use Rattle.kernel_rules.specs.CallRelation.{rule_of, change_of, changed, counted, owed_by, state_by, MayReply}
 use Rattle.kernel_rules.specs.Runs.{Enters, Decides, Returns, after}
-use Rattle.kernel_rules.proofs.Changes.{IfFound}
 use Rattle.kernel_rules.proofs.Within.{put_same, put_other}
 use Rattle.kernel_invariant.specs.Edits.{Edit, Switch, Cache, Flush, Charge, edited, after_edits, charged_by, charged_in, charged_all}
 use Rattle.kernel_invariant.proofs.Sound.{put_all}
-use Rattle.kernel_invariant.proofs.Edited.{Edits, found_by}
+use Rattle.kernel_invariant.proofs.Edited.{after_ok}
 use Rattle.kernel_laws.specs.Laws.{ticks_of, ticks_counted, ticks_by, decided_ticks, SpendingSums}
 
 -- What a core has spent and owes.
@@ -62,23 +61,15 @@ edits_due c s (e ∷ (x ∷ es)) =
       others = λ d other. b.others d other ∙ a.others d other;
     }
 
-abbrev By : State → ℕ → Call → Change → Type 0
-By s c call change = Counts s c (ticks_of call) change.next.core
-
-due_by : (s : State) (c : ℕ) (call : Call) (change : Change) → Edits call c s change → By s c call change
-due_by s c call change e =
-    subst (λ (k : Change). Counts s c (ticks_of call) k.next.core) (sym e.is)
-    (subst (λ n. Counts s c n (after_edits c s e.list).core) (sym e.agrees.3 ∙ charged_ticks call) (edits_due c s e.list))
-  where
-    charged_ticks : (call : Call) → charged_by call ≡ ticks_of call
-    charged_ticks (Tick n) = refl
-    charged_ticks _ = refl
+charged_ticks : (call : Call) → charged_by call ≡ ticks_of call
+charged_ticks (Tick n) = refl
+charged_ticks _ = refl
 
 -- A decision: the counted ticks of a call by its reply.
-found_due : (s : State) (c : ℕ) (call : Call) (v : Value) (x : Judged Change) → IfFound x (By s c call) → IsFoundAnd x (λ k. k.value ≡ v)
-    → Counts s c (ticks_of call) (changed s x).core
-found_due s c call v (Refused r) by ok = absurd ok
-found_due s c call v (Found change) by ok = by
+changed_due : (s : State) (c : ℕ) (call : Call) (v : Value) → MayReply s c call (reply.Ok v)
+    → Counts s c (ticks_of call) (changed s (change_of s c call)).core
+changed_due s c call v may = after_ok s c call v (λ t. Counts s c (ticks_of call) t.core) may (λ change e.
+    subst (λ n. Counts s c n (after_edits c s e.list).core) (sym e.agrees.3 ∙ charged_ticks call) (edits_due c s e.list))
 
 -- A core is counted.
 counted_due : (s t : State) (c n : ℕ) (k : Core) → due k ≡ due (t.core c) → Counts s c n t.core → Counts s c n (put t.core c k)
@@ -104,7 +95,7 @@ decided_due : (s : State) (c : ℕ) (call : Call) (r : Reply) → MayReply s c c
     → Counts s c (ticks_counted call r) (state_by s c call r).core
 decided_due s c call (reply.Ok v) may =
     counts s c (ticks_of call) (changed s (change_of s c call))
-    (found_due s c call v (change_of s c call) (found_by s c call (By s c call) (due_by s c call)) may.1)
+    (changed_due s c call v may)
 decided_due s c call reply.CallsSpent may = same s c
 decided_due s c call reply.Raced may = counts s c (ticks_of call) (owed_by s c call) (owed_due s c call)
 decided_due s c call (reply.Busy e) may = counts s c (ticks_of call) (owed_by s c call) (owed_due s c call)

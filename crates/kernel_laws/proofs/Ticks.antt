@@ -1,23 +1,21 @@
 -- Every edit keeps the sum of budgets and spent ticks.
-use Rattle.std.proofs.Common.{◌≡◌, ◌≢◌, ℕ, ◌+◌, ◌-◌, ◌<◌, ◌≤◌, min, Bool, true, refl, sym, ◌∙◌, ap, subst, arith, IsTrue}
+use Rattle.std.proofs.Common.{◌≡◌, ◌≢◌, ℕ, ◌+◌, ◌-◌, ◌<◌, ◌≤◌, min, true, refl, sym, ◌∙◌, ap, subst, arith, IsTrue}
 use Rattle.std.proofs.Common.{List, [], ◌∷◌, Some, None}
 use Rattle.std.proofs.lemmas.Bool.{false≢true, eqb-true}
-use Rattle.spk_nums.specs.declared.calls.Call.{Call}
 use Rattle.spk_nums.specs.declared.kinds.Kind.TheVariants as kind
-use Rattle.kernel_rules.specs.State.{TcapFields, ThreadFields, Blank, Comp, Thread, Tcap, Frame, Untyped, User, Kernel, Core, State, put, with_frame, with_core, tcap_in}
+use Rattle.kernel_rules.specs.State.{TcapFields, ThreadFields, Blank, Comp, Thread, Tcap, Frame, Untyped, Kernel}
+use Rattle.kernel_rules.specs.State.{Core, State, put, with_frame, with_core, tcap_in}
 use Rattle.kernel_rules.specs.Fitting.{fits}
 use Rattle.kernel_rules.specs.Laws.{ticks}
-use Rattle.kernel_rules.specs.Rules.{Change}
 use Rattle.kernel_rules.specs.MemoryCalls.{is_empty}
 use Rattle.kernel_rules.specs.InvocationCalls.{with_thread, running}
 use Rattle.kernel_rules.specs.TimeCalls.{tcap_at, with_tcap, with_budget, charge, moved}
 use Rattle.kernel_rules.proofs.Within.{put_same, put_other}
 use Rattle.kernel_invariant.proofs.Sums.{sum_same, sum_one}
 use Rattle.kernel_invariant.proofs.Sound.{put_all}
-use Rattle.kernel_invariant.specs.Edits.{Edit, Fill, Remove, Node, Become, Untype, Component, Deaden, Push, Pop, Switch, Cache, Flush}
+use Rattle.kernel_invariant.specs.Edits.{Edit, Node, Become, Untype, Component, Push, Pop, Switch, Cache, Flush}
 use Rattle.kernel_invariant.specs.Edits.{Charge, Move, Merge, edited, after_edits}
-use Rattle.kernel_invariant.proofs.Edited.{is_bare, Known, Each, Edits, HasTcap, Moves}
-use Rattle.kernel_invariant.proofs.SoundCalls.{IsOpen}
+use Rattle.kernel_invariant.proofs.Edited.{is_bare, Known, Each, HasTcap, Moves}
 
 abbrev budget : Frame → ℕ
 budget x = (tcap_in x).budget
@@ -116,13 +114,6 @@ edit_ticks c s (Move a b m) k = moved_ticks s a b m k
 edit_ticks c s (Merge f qs) k = same_budget s f _ k.to.below (put_budget (s.frame f) (record (tcap_at s f) { qualities = qs }) k.to.fit)
 edit_ticks c s _ k = refl
 
-edits_ticks : (c : ℕ) (s : State) (es : List Edit) → Each Known c s es → ticks (after_edits c s es) ≡ ticks s
+pub edits_ticks : (c : ℕ) (s : State) (es : List Edit) → Each Known c s es → ticks (after_edits c s es) ≡ ticks s
 edits_ticks c s [] k = refl
 edits_ticks c s (e ∷ es) k = edits_ticks c (edited c s e) es k.1 ∙ edit_ticks c s e k.0
-
-abbrev pub TicksStay : State → Change → Type 0
-TicksStay s change = ticks change.next ≡ ticks s
-
-pub ticks_stay : (s : State) (o : ℕ → Bool) (c : ℕ) → IsOpen s o c → (call : Call) (change : Change) → Edits call c s change
-    → TicksStay s change
-ticks_stay s o c h call change e = ap (λ (k : Change). ticks k.next) e.is ∙ edits_ticks c s e.list (e.known o h)

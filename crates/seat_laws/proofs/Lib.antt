@@ -1,2 +1,0 @@
--- What holds at the last moment of a trace.
-pub mod Latest

@@ -17,7 +17,6 @@ use spk_nums::{Call, Make, Reply};
 /// Makes the call of the seat's core, and answers its reply. After all that the seat has then seen, budgets and spent ticks sum to the
 /// grants, no thread is the current one of two cores, and each translation that a core has cached names a user frame. The call is in its
 /// limits, and the seat is the kernel's.
-#[tactic(auto, using(crate::proofs::Latest::latest))]
 pub fn call_and_tell(kernel: &Kernel, seat: &mut CoreSeat, call: Call) -> Reply
     requires kernel { seat.old.kernel ≡ kernel.now }
     requires limits { InLimits call }

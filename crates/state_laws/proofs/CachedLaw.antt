@@ -10,22 +10,20 @@ use Rattle.spk_nums.specs.declared.kinds.Kind.TheVariants as kind
 use Rattle.spk_nums.specs.declared.calls.Call.{Call}
 use Rattle.spk_nums.specs.declared.calls.Call.TheVariants.{Tick}
 use Rattle.spk_nums.specs.declared.translations.Translation.{Translation}
-use Rattle.spk_nums.specs.declared.replies.Value.{Value}
 use Rattle.spk_nums.specs.declared.replies.Reply.{Reply}
 use Rattle.spk_nums.specs.declared.replies.Reply.TheVariants as reply
 use Rattle.kernel_rules.specs.State.{Place, Free, Holds, Quiescing, Pages, Pleaf, Frame, User, Kernel, Core}
-use Rattle.kernel_rules.specs.State.{Thing, PlaceOf, FrameOf, NumberOf, State, put, with_core, comp_of, thread_in}
+use Rattle.kernel_rules.specs.State.{Thing, PlaceOf, FrameOf, State, put, with_core, comp_of}
 use Rattle.kernel_rules.specs.References.{named_by, times, refs}
-use Rattle.kernel_rules.specs.Access.{Slot, Named, found, root_at, Under, place_at, held_in}
+use Rattle.kernel_rules.specs.Access.{Slot, root_at, Under, place_at, held_in}
 use Rattle.kernel_rules.specs.Access.{usable_in, usable, linked, slot_in, reached, root_slot}
 use Rattle.kernel_rules.specs.GracePeriods.{is_paging, is_translated, needs_flush, entered, returned}
-use Rattle.kernel_rules.specs.Rules.{Change, Judged, Refused, Found, IsFoundAnd, and_then, or_refuse, unless, mapped}
+use Rattle.kernel_rules.specs.Rules.{Found, and_then, or_refuse, unless, mapped}
 use Rattle.kernel_rules.specs.MemoryCalls.{caching}
 use Rattle.kernel_rules.specs.CallRelation.{change_of, changed, owed_by, state_by, MayReply, flushes, flushes_by}
 use Rattle.kernel_rules.specs.Fitting.{fits, IsGood}
 use Rattle.kernel_rules.specs.Relies.{IsGuarded}
 use Rattle.kernel_rules.specs.Runs.{Event, Enters, Decides, Returns, after, is_in, is_open, IsRun}
-use Rattle.kernel_rules.proofs.Changes.{IfFound}
 use Rattle.kernel_rules.proofs.Within.{put_same, put_other}
 use Rattle.kernel_rules.proofs.AloneLaw.{waits_inside, decided_stays}
 use Rattle.kernel_invariant.proofs.Sums.{times_first}
@@ -35,13 +33,13 @@ use Rattle.kernel_invariant.proofs.SoundRuns.{opened, open_is, open_limits, insi
 use Rattle.found_stays.proofs.SparesRuns.{core_same_refs}
 use Rattle.kernel_invariant.proofs.Refs.{grace_refs}
 use Rattle.kernel_invariant.specs.Edits.{Edit, Fill, Merge, Switch, Cache, Flush, Charge, edited, after_edits, is_flush, flush_in}
-use Rattle.kernel_invariant.proofs.Edited.{Tested, Each, AreLater, later_core, Calm, Edits, found_by}
+use Rattle.kernel_invariant.proofs.Edited.{Tested, Each, AreLater, later_core, Calm, after_ok}
 use Rattle.kernel_invariant.proofs.Facts.{then_parts, or_found, some_inj, none_some, found_inj, refused_found}
 use Rattle.found_stays.proofs.Stays.{link_of, fields, pages_relies, usable_guarded, place_named}
 use Rattle.state_laws.specs.Cached.{IsStillThere, IsLinkTo, IsMappingOf, IsOrWas, Stands, TranslationsStand}
 use Rattle.kernel_laws.proofs.NodeSteps.{IsFitted}
 use Rattle.kernel_laws.proofs.NodesLaw.{runs_fit, leaf_fits, pages_leaf, fit_node, held_is, mapped_page}
-use Rattle.state_laws.proofs.Phases.{phase_own, phase_other}
+use Rattle.kernel_invariant.proofs.SoundRuns.{phase_own, phase_other, decided_opened}
 use Rattle.state_laws.proofs.Flushes.{frame_stays, there_stays, place_unflushed, place_holds, IsWaited, decided_waited}
 
 -- All of a list.
@@ -253,23 +251,9 @@ module _ (s : State) (o : ℕ → Bool) (c : ℕ) (h : IsOpen s o c) (w : IsFitt
         first false (Merge f qs ∷ es) l = first false es l
         first false (_ ∷ es) l = absurd l
 
-    abbrev CachesBy : Call → Change → Type 0
-    CachesBy call change = Caches s c (flushes_by call) change.next.core
-
-    caches_by : (call : Call) (change : Change) → Edits call c s change → CachesBy call change
-    caches_by call change e = subst (λ (k : Change). CachesBy call k) (sym e.is)
-        (subst (λ b. Caches s c b (after_edits c s e.list).core) (sym e.agrees.1) (edits_cache e.list e.calm e.tested))
-
 -- The lists after a decision, of which all stand as they did before it; the flushing core has none.
-record Lists (s t : State) (c : ℕ) (flushes : Bool) : Type 0 where
-  stand : AllStand s t.core
-  flushed : flushes ≡ true → (t.core c).cached ≡ []
-
-found_lists : (s : State) (c : ℕ) (call : Call) (v : Value) (x : Judged Change)
-    → IfFound x (λ change. Caches s c (flushes_by call) change.next.core) → IsFoundAnd x (λ k. k.value ≡ v)
-    → Lists s (changed s x) c (flushes_by call)
-found_lists s c call v (Refused r) by ok = absurd ok
-found_lists s c call v (Found change) by ok = record { stand = by.stand; flushed = by.flushed }
+abbrev Lists : State → State → ℕ → Bool → Type 0
+Lists s t c flushes = Caches s c flushes t.core
 
 -- A core keeps its list.
 same_lists : (s t : State) (c : ℕ) (b : Bool) (k : Core) → c < s.limits.cores → k.cached ≡ (t.core c).cached → Lists s t c b
@@ -291,8 +275,8 @@ decided_lists : (s : State) (o : ℕ → Bool) (c : ℕ) (call : Call) (r : Repl
     → Lists s (state_by s c call r) c (flushes call r)
 decided_lists s o c call (reply.Ok v) h may w u all =
     same_lists s (changed s (change_of s c call)) c (flushes_by call) _ (h.sound.inside c h.is).1 refl
-    (found_lists s c call v (change_of s c call)
-    (found_by s c call (λ change. Caches s c (flushes_by call) change.next.core) (caches_by s o c h w u all call)) may.1)
+    (after_ok s c call v (λ t. Lists s t c (flushes_by call)) may (λ change e.
+    subst (λ b. Caches s c b (after_edits c s e.list).core) (sym e.agrees.1) (edits_cache s o c h w u all e.list e.calm e.tested)))
 decided_lists s o c call reply.CallsSpent h may w u all = none_flushed s c all
 decided_lists s o c call reply.Raced h may w u all =
     same_lists s (owed_by s c call) c false _ (h.sound.inside c h.is).1 refl (owed_lists s c call (h.sound.inside c h.is).1 all)
@@ -414,10 +398,7 @@ runs_waited setting lim (Enters c call ∷ events) run = enter_waited setting ev
 runs_waited setting lim (Returns c ∷ events) run = return_waited setting events c (runs_waited setting lim events run.0)
 runs_waited setting lim (Decides c call r ∷ events) run =
     fewer (after setting (Decides c call r ∷ events)) (put (opened events) c false) (opened (Decides c call r ∷ events))
-    (λ d q. elim (cases_eq d c) [
-      | inl same ↦ absurd (false≢true (sym (ap is_open (phase_own (Decides c call r) events d same)) ∙ q))
-      | inr other ↦ put_other (opened events) c false d other ∙ sym (ap is_open (phase_other (Decides c call r) events d other)) ∙ q
-    ])
+    (decided_opened events c call r)
     (decided_waited (after setting events) (opened events) c call r (open_is setting lim events c run.0 (ap is_open run.1.is_open))
     (open_limits setting events c call run.0 run.1.is_open) run.1.permitted (runs_waited setting lim events run.0))
 

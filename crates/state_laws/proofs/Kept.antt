@@ -1,8 +1,8 @@
 -- What a call that is carried out makes of frames and places: a user frame, a node or a component stays but for the end of its
 -- frame's grace period, and what a place holds stays but for the start or the end of the place's.
 use Rattle.std.proofs.Common.{◌≡◌, ◌⊎◌, inl, inr, ℕ, ◌-◌, Bool, true, false, ◌&&◌, ◌||◌, refl, sym, ◌∙◌, ap}
-use Rattle.std.proofs.Common.{subst, ◌==◌, if◌then◌else◌, IsTrue, List, [], ◌∷◌, take, Option, Some, None, is_some}
-use Rattle.std.proofs.lemmas.Bool.{false≢true, eq-eqb, eqb-true, or_left}
+use Rattle.std.proofs.Common.{subst, ◌==◌, if◌then◌else◌, IsTrue, List, [], ◌∷◌, take, Some, None, is_some}
+use Rattle.std.proofs.lemmas.Bool.{false≢true, eq-eqb, eqb-true, or_left, and_parts, and_from}
 use Rattle.std.specs.List.{list_any}
 use Rattle.spk_nums.specs.Capability.{Capability}
 use Rattle.spk_nums.specs.declared.calls.Call.{Call}
@@ -12,9 +12,9 @@ use Rattle.spk_nums.specs.declared.replies.Reply.{Reply}
 use Rattle.spk_nums.specs.declared.replies.Reply.TheVariants as reply
 use Rattle.kernel_rules.specs.State.{Place, Free, Holds, Quiescing, ThreadFields, TcapFields, Blank}
 use Rattle.kernel_rules.specs.State.{Table, Leaf, Pages, Pleaf, Comp, Thread, Tcap, Frame, Untyped, User, Kernel}
-use Rattle.kernel_rules.specs.State.{Thing, PlaceOf, FrameOf, State, put, thread_in, thread_of}
+use Rattle.kernel_rules.specs.State.{Thing, PlaceOf, FrameOf, State, put, thread_of}
 use Rattle.kernel_rules.specs.References.{place_names, frame_names, number_names}
-use Rattle.kernel_rules.specs.Access.{Slot, place_at, held_in}
+use Rattle.kernel_rules.specs.Access.{held_in}
 use Rattle.kernel_rules.specs.GracePeriods.{same_thing}
 use Rattle.kernel_rules.specs.Rules.{Change, Judged, Refused, Found, IsFoundAnd, frames_of}
 use Rattle.kernel_rules.specs.InvocationCalls.{with_thread, running}
@@ -22,12 +22,14 @@ use Rattle.kernel_rules.specs.TimeCalls.{with_tcap, with_budget, tcap_at, moved}
 use Rattle.kernel_rules.specs.CallRelation.{change_of, changed, owed_by, state_by, begins, ends, ends_by, MayReply}
 use Rattle.kernel_rules.specs.CallRelation.{begins_in as begun_in}
 use Rattle.kernel_rules.proofs.Changes.{IfFound}
-use Rattle.kernel_invariant.specs.Edits.{Edit, Fill, Remove, Node, Become, Untype, Component, Deaden, Push, Pop, Switch, Charge, Move, Merge}
+use Rattle.kernel_invariant.specs.Edits.{Edit, Fill, Remove, Node, Become, Untype, Component, Deaden}
+use Rattle.kernel_invariant.specs.Edits.{Push, Pop, Switch, Charge, Move, Merge}
 use Rattle.kernel_invariant.specs.Edits.{edited, after_edits, begins_in, begins_all, ends_in, ends_all}
 use Rattle.kernel_invariant.proofs.Sound.{put_all}
 use Rattle.kernel_invariant.proofs.SoundSteps.{place_all, free_quiescing, holds_quiescing, quiescing_inj}
 use Rattle.kernel_invariant.proofs.SoundRemovals.{frames_no_place}
 use Rattle.kernel_invariant.proofs.SoundCalls.{IsOpen}
+use Rattle.kernel_invariant.proofs.Facts.{some_none}
 use Rattle.kernel_invariant.proofs.Edited.{is_bare, Known, Each, AreLater, Calm, Edits, found_by}
 
 -- Whether a frame is what no call changes but a retype: a user frame, a node or a component.
@@ -84,12 +86,12 @@ kept_then s t u begins ends a b = record {
   where
     only : {P : Type 0} → P ⊎ (false ≡ true) → P
     only (inl p) = p
-    only (inr no) = absurd (false≢true no)
+    only (inr never) = absurd (false≢true never)
 
     or_false : {P : Type 0} → P ⊎ ((false ≡ true) ⊎ (false ≡ true)) → P ⊎ (false ≡ true)
     or_false (inl p) = inl p
-    or_false (inr (inl no)) = inr no
-    or_false (inr (inr no)) = inr no
+    or_false (inr (inl never)) = inr never
+    or_false (inr (inr never)) = inr never
 
     still : (f i : ℕ) (k : Capability) → t.place f i ≡ Holds k → u.place f i ≡ Holds k
     still f i k e = only (or_false (b.holds f i k e))
@@ -146,9 +148,6 @@ budget_put s g n = put_kept s g _ (tcap_kept (s.frame g) _)
 -- A place that holds nothing is filled.
 not_held : (p : Place) (k : Capability) → held_in p ≡ None → p ≡ Holds k → ⊥
 not_held (Holds j) k e q = some_none j e
-  where
-    some_none : (j : Capability) → Some j ≡ None → ⊥
-    some_none j e = cc
 not_held _ k e q = cc
 
 -- A frame is put, and places stay.
@@ -179,7 +178,7 @@ edit_keeps c s (Remove at k) known = record {
       s at.node at.index (Quiescing k) f i
       (λ same index q. inr
       (inl (or_left (f == at.node && i == at.index) (list_any (same_thing (PlaceOf f i)) (frames_of (place_names (Holds k))))
-      (and (f == at.node) (i == at.index) (eq-eqb f at.node same) (eq-eqb i at.index index))))) (λ q. inl q) is;
+      (and_from (f == at.node) (i == at.index) (eq-eqb f at.node same) (eq-eqb i at.index index))))) (λ q. inl q) is;
   quiescing =
       λ f i j. place_all (λ f i p. p ≡ Quiescing j
       → (s.place f i ≡ Quiescing j) ⊎ (s.place f i ≡ Holds j)) s at.node at.index (Quiescing k) f i
@@ -187,18 +186,11 @@ edit_keeps c s (Remove at k) known = record {
       ∙ known.1 ∙ ap Holds (quiescing_inj k j q))) (λ q. inl q);
 }
   where
-    and : (a b : Bool) → a ≡ true → b ≡ true → (a && b) ≡ true
-    and a b p q = ap (λ x. x && b) p ∙ q
-
-    both : (a b : Bool) → (a && b) ≡ true → (a ≡ true) × (b ≡ true)
-    both true b e = (refl, e)
-    both false b e = absurd (false≢true e)
-
     by_place : (f i : ℕ) (t : Bool) → (f == at.node && i == at.index) ≡ t
         → (t || list_any (same_thing (PlaceOf f i)) (frames_of (place_names (Holds k)))) ≡ true
         → IsTrue (is_some (held_in (s.place f i)))
     by_place f i true is b =
-        let p = both (f == at.node) (i == at.index) is in
+        let p = and_parts (f == at.node) (i == at.index) is in
         ap (λ n. is_some (held_in (s.place n i))) (eqb-true f at.node p.0)
         ∙ ap (λ n. is_some (held_in (s.place at.node n))) (eqb-true i at.index p.1)
         ∙ ap (λ p. is_some (held_in p)) known.1
@@ -206,7 +198,8 @@ edit_keeps c s (Remove at k) known = record {
 edit_keeps c s (Node f object) known = record {
   removed = λ g i b. absurd (false≢true b);
   frame = λ g kept. inl (put_kept s f (Kernel object) (bare_kept (s.frame f) (Kernel object) known.2.bare) g kept);
-  holds = λ g i j. put_all (λ g r. s.place g i ≡ Holds j → (r i ≡ Holds j) ⊎ ((false ≡ true) ⊎ (ends_in (Node f object) (PlaceOf g i) ≡ true)))
+  holds = λ g i j. put_all (λ g r. s.place g i ≡ Holds j
+      → (r i ≡ Holds j) ⊎ ((false ≡ true) ⊎ (ends_in (Node f object) (PlaceOf g i) ≡ true)))
       s.place f (λ i. Free) g (λ same e. inr (inr (eq-eqb g f same))) (λ other e. inl e);
   quiescing = λ g i j. put_all (λ g r. r i ≡ Quiescing j → (s.place g i ≡ Quiescing j) ⊎ (s.place g i ≡ Holds j))
       s.place f (λ i. Free) g (λ same e. absurd (free_quiescing j e)) (λ other e. inl e);

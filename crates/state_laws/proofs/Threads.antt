@@ -5,27 +5,24 @@ use Rattle.std.proofs.lemmas.Bool.{cases_eq, eqb-false, ltb-true}
 use Rattle.spk_nums.specs.Setting.{Setting, IsSetting}
 use Rattle.spk_nums.specs.declared.calls.Call.{Call}
 use Rattle.spk_nums.specs.declared.calls.Call.TheVariants.{Tick}
-use Rattle.spk_nums.specs.declared.replies.Value.{Value}
 use Rattle.spk_nums.specs.declared.replies.Reply.{Reply}
 use Rattle.spk_nums.specs.declared.replies.Reply.TheVariants as reply
 use Rattle.kernel_rules.specs.State.{ThreadFields, TcapFields, Comp, Thread, Tcap}
 use Rattle.kernel_rules.specs.State.{Frame, Untyped, Kernel, Core, State, put, thread_in, thread_of}
 use Rattle.kernel_rules.specs.Start.{start}
-use Rattle.kernel_rules.specs.Rules.{Change, Judged, Refused, Found, IsFoundAnd}
 use Rattle.kernel_rules.specs.InvocationCalls.{with_thread, running}
 use Rattle.kernel_rules.specs.TimeCalls.{with_tcap, with_budget, tcap_at, charge}
 use Rattle.kernel_rules.specs.CallRelation.{change_of, changed, counted, owed_by, state_by, MayReply}
 use Rattle.kernel_rules.specs.Runs.{Event, Enters, Decides, Returns, after, is_open, IsRun}
-use Rattle.kernel_rules.proofs.Changes.{IfFound}
 use Rattle.kernel_rules.proofs.Within.{put_same, put_other}
-use Rattle.kernel_invariant.specs.Edits.{Edit, Fill, Remove, Node, Become, Untype, Component, Deaden, Push, Pop, Switch, Cache, Flush}
+use Rattle.kernel_invariant.specs.Edits.{Edit, Node, Become, Untype, Component, Push, Pop, Switch, Cache, Flush}
 use Rattle.kernel_invariant.specs.Edits.{Charge, Move, Merge, edited, after_edits}
 use Rattle.kernel_invariant.proofs.Sound.{put_all}
 use Rattle.kernel_invariant.proofs.SoundStart.{choose}
 use Rattle.kernel_invariant.proofs.SoundCalls.{IsOpen}
 use Rattle.kernel_invariant.proofs.SoundRuns.{opened, open_is}
 use Rattle.kernel_invariant.proofs.Facts.{some_inj, none_some}
-use Rattle.kernel_invariant.proofs.Edited.{Known, Each, Edits, found_by}
+use Rattle.kernel_invariant.proofs.Edited.{Known, Each, after_ok}
 use Rattle.found_stays.proofs.SparesRuns.{runs_of}
 use Rattle.state_laws.specs.Lives.{ThreadsRun}
 
@@ -98,7 +95,8 @@ switched s c g q here w f d e = elim (cases_eq f g) [
     ]
 
 stack_back : (s : State) (c : ℕ) (stack : List ℕ) → Back s
-    → RunBack s.limits.cores (put s.frame (s.core c).thread (with_thread (s.frame (s.core c).thread) (record (thread_of s c) { stack = stack }))) s.core
+    → RunBack s.limits.cores (put s.frame (s.core c).thread (with_thread (s.frame (s.core c).thread)
+    (record (thread_of s c) { stack = stack }))) s.core
 stack_back s c stack w = put_back s s.limits.cores (s.core c).thread _
     (λ d e. thread_at (s.frame (s.core c).thread) (record (thread_of s c) { stack = stack }) d e) w
 
@@ -114,7 +112,10 @@ edit_back c s (Cache t) k w = core_back s s.limits.cores c _ s.frame refl w
 edit_back c s Flush k w = core_back s s.limits.cores c (record (s.core c) { cached = [] }) s.frame refl w
 edit_back c s (Charge n) k w =
     core_back s s.limits.cores c
-    (record (s.core c) { spent = (s.core c).spent + charge s c (n + (s.core c).owed); owed = (n + (s.core c).owed) - charge s c (n + (s.core c).owed) })
+    (record (s.core c) {
+      spent = (s.core c).spent + charge s c (n + (s.core c).owed);
+      owed = (n + (s.core c).owed) - charge s c (n + (s.core c).owed);
+    })
     (with_budget s (s.core c).tcap ((tcap_at s (s.core c).tcap).budget - charge s c (n + (s.core c).owed))).frame refl
     (tcap_back s s.limits.cores (s.core c).tcap
     (record (tcap_at s (s.core c).tcap) { budget = (tcap_at s (s.core c).tcap).budget - charge s c (n + (s.core c).owed) }) w)
@@ -130,11 +131,6 @@ edits_back c s [] k w = w
 edits_back c s (e ∷ es) k w = edits_back c (edited c s e) es k.1 (edit_back c s e k.0 w)
 
 -- A decision.
-found_back : (s : State) (v : Value) (x : Judged Change) → IfFound x (λ change. Back change.next) → IsFoundAnd x (λ k. k.value ≡ v)
-    → Back (changed s x)
-found_back s v (Refused r) by ok = absurd ok
-found_back s v (Found change) by ok = by
-
 counted_back : (t : State) (c : ℕ) → Back t → Back (counted t c)
 counted_back t c h = core_back t t.limits.cores c _ t.frame refl h
 
@@ -146,8 +142,7 @@ decided_back : (s : State) (o : ℕ → Bool) (c : ℕ) (call : Call) (r : Reply
     → Back (state_by s c call r)
 decided_back s o c call (reply.Ok v) h may w =
     counted_back (changed s (change_of s c call)) c
-    (found_back s v (change_of s c call) (found_by s c call (λ change. Back change.next)
-    (λ change e. subst (λ (k : Change). Back k.next) (sym e.is) (edits_back c s e.list (e.known o h) w))) may.1)
+    (after_ok s c call v Back may (λ change e. edits_back c s e.list (e.known o h) w))
 decided_back s o c call reply.CallsSpent h may w = w
 decided_back s o c call reply.Raced h may w = counted_back (owed_by s c call) c (owed_back s c call w)
 decided_back s o c call (reply.Busy e) h may w = counted_back (owed_by s c call) c (owed_back s c call w)
