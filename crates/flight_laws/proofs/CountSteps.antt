@@ -5,118 +5,119 @@ use Rattle.std.proofs.Common.{Option, Some, None, IfSome, arith, refl, sym, ◌�
 use Rattle.std.specs.Prelude.{IsSome}
 use Rattle.std.proofs.lemmas.Bool.{false≢true, eqb-true}
 use Rattle.std.proofs.lemmas.List.Elements.{All-head}
-use Rattle.flight.specs.spk_nums.specs.Capability.{Capability}
-use Rattle.flight.specs.spk_nums.specs.Setting.{Setting, IsSetting}
-use Rattle.flight.specs.spk_nums.specs.WordSteps.{left_if}
-use Rattle.flight.specs.spk_nums.specs.declared.calls.Call.{Call}
-use Rattle.flight.specs.spk_nums.specs.declared.calls.Call.TheVariants.{Retype}
-use Rattle.flight.specs.spk_nums.specs.declared.kinds.FrameKind.{FrameKind}
-use Rattle.flight.specs.spk_nums.specs.declared.kinds.FrameKind.TheVariants as frame_kind
-use Rattle.flight.specs.spk_nums.specs.declared.replies.Reply.{Reply}
-use Rattle.flight.specs.spk_nums.specs.declared.replies.Reply.TheVariants as reply
-use Rattle.flight.specs.frame_words.specs.Count.{CountFits, word_of_count, count_of_word}
-use Rattle.flight.specs.frame_words.specs.declared.count_word.CountWord.{CountWord}
-use Rattle.flight.specs.frame_words.proofs.CountLemmas as counts
-use Rattle.flight.specs.word_map.specs.Word.{CountAt}
-use Rattle.flight.specs.word_map.specs.Places.{counter_of}
-use Rattle.flight.specs.word_map.specs.Moves.{Move, word_of, left_of}
-use Rattle.flight.specs.kernel_history.specs.Marks.{count_mark}
-use Rattle.flight.specs.kernel_history.specs.Trace.{Step, Trace, Open, phase, state_after, last_left}
-use Rattle.flight.specs.stage_look.specs.Lookup.{look_move}
-use Rattle.flight.specs.stage_look.specs.declared.look.Look.{Look}
-use Rattle.flight.specs.stage_look.specs.declared.look.Look.TheVariants.{AtRoot, AtLeaf, AtEntry}
-use Rattle.flight.specs.stage_pins.specs.Acquire.{pin_move}
-use Rattle.flight.specs.stage_pins.specs.Commit.{settled_word}
-use Rattle.flight.specs.stage_pins.specs.Counts.{unheld, acquired}
-use Rattle.flight.specs.stage_pins.specs.Held.{commit_of}
-use Rattle.flight.specs.stage_pins.specs.declared.held.Acquired.{Acquired}
-use Rattle.flight.specs.stage_pins.specs.declared.pin.Pin.{Pin}
-use Rattle.flight.specs.stage_pins.specs.declared.pin.Pin.TheVariants.{AtLoad, AtCompare}
-use Rattle.flight.specs.stage_quiet.specs.Removal.{close_move}
-use Rattle.flight.specs.stage_quiet.specs.Scan.{quiet_move}
-use Rattle.flight.specs.stage_quiet.specs.declared.close.Close.{Close}
-use Rattle.flight.specs.stage_quiet.specs.declared.close.Close.TheVariants.{AtCompare as close_compare, AtDraw, AtStore}
-use Rattle.flight.specs.stage_quiet.specs.declared.quiet.Quiet.{Quiet}
-use Rattle.flight.specs.stage_quiet.specs.declared.quiet.Quiet.TheVariants.{AtCore, AtFlush}
-use Rattle.flight.specs.stage_sweep.specs.Freeze.{frozen, move_at}
-use Rattle.flight.specs.stage_sweep.specs.Release.{ThawFits, released}
-use Rattle.flight.specs.stage_sweep.specs.declared.sweep.Sweep.{Sweep}
-use Rattle.flight.specs.stage_sweep.specs.declared.sweep.SweepAt.{SweepAt}
-use Rattle.flight.specs.stage_sweep.specs.declared.sweep.SweepAt.TheVariants as sweep
-use Rattle.flight.specs.stage_sweep.specs.declared.thaw.Thaw.{Thaw}
-use Rattle.flight.specs.stage_tcap.specs.Charging.{charge_move}
-use Rattle.flight.specs.stage_tcap.specs.Pairs.{move_at as pair_at_move}
-use Rattle.flight.specs.stage_tcap.specs.declared.charge.Charge.{Charge}
-use Rattle.flight.specs.stage_tcap.specs.declared.charge.Charge.TheVariants.{AtLoad as charge_load, AtCompare as charge_compare}
-use Rattle.flight.specs.stage_tcap.specs.declared.pair.Pair.{Pair}
-use Rattle.flight.specs.stage_tcap.specs.declared.pair.PairAt.{PairAt}
-use Rattle.flight.specs.stage_tcap.specs.declared.pair.PairAt.TheVariants.{LoadA, MarkA, ListA, LoadB, ListB, CompareB}
-use Rattle.flight.specs.stage_tcap.specs.declared.pair.PairAt.TheVariants.{AgainB, StoreList, StoreB, StoreA}
-use Rattle.flight.specs.stage_thread.specs.Stacking.{push_move, pop_move}
-use Rattle.flight.specs.stage_thread.specs.declared.claim.Claim.TheVariants as claim
-use Rattle.flight.specs.stage_thread.specs.declared.stack.Pop.{Pop as PopOf}
-use Rattle.flight.specs.stage_thread.specs.declared.stack.Pop.TheVariants as pop
-use Rattle.flight.specs.stage_thread.specs.declared.stack.Push.{Push as PushOf}
-use Rattle.flight.specs.stage_thread.specs.declared.stack.Push.TheVariants as push
-use Rattle.flight.specs.act_states.specs.Acts.{act_move}
-use Rattle.flight.specs.act_states.specs.Comps.{comp_at}
-use Rattle.flight.specs.act_states.specs.Invocations.{invoking_at, returning_at}
-use Rattle.flight.specs.act_states.specs.Kills.{killing_at}
-use Rattle.flight.specs.act_states.specs.Makings.{making_at}
-use Rattle.flight.specs.act_states.specs.Switches.{switching_at}
-use Rattle.flight.specs.act_states.specs.Typings.{typing_at}
-use Rattle.flight.specs.act_states.specs.Untypings.{untyping_at, release_at}
-use Rattle.flight.specs.act_states.specs.declared.comps.CompAt.{CompAt}
-use Rattle.flight.specs.act_states.specs.declared.comps.CompAt.TheVariants as comp_stands
-use Rattle.flight.specs.act_states.specs.declared.comps.CompMaking.{CompMaking}
-use Rattle.flight.specs.act_states.specs.declared.fills.Fill.{Fill as FillOf}
-use Rattle.flight.specs.act_states.specs.declared.invocations.InvokingAt.{InvokingAt}
-use Rattle.flight.specs.act_states.specs.declared.invocations.InvokingAt.TheVariants as invoking
-use Rattle.flight.specs.act_states.specs.declared.invocations.ReturningAt.{ReturningAt}
-use Rattle.flight.specs.act_states.specs.declared.invocations.ReturningAt.TheVariants as returning
-use Rattle.flight.specs.act_states.specs.declared.kills.KillingAt.{KillingAt}
-use Rattle.flight.specs.act_states.specs.declared.kills.KillingAt.TheVariants.{LoadComp, LoadLive, Close as kill_close, Draw as kill_draw}
-use Rattle.flight.specs.act_states.specs.declared.makings.MakingAt.{MakingAt}
-use Rattle.flight.specs.act_states.specs.declared.makings.MakingAt.TheVariants as making
-use Rattle.flight.specs.act_states.specs.declared.objects.NewObject.{NewObject}
-use Rattle.flight.specs.act_states.specs.declared.switches.SwitchAt.{SwitchAt}
-use Rattle.flight.specs.act_states.specs.declared.switches.SwitchAt.TheVariants as switch_at
-use Rattle.flight.specs.act_states.specs.declared.switches.Switching.{Switching}
-use Rattle.flight.specs.act_states.specs.declared.typings.TypingAt.{TypingAt}
-use Rattle.flight.specs.act_states.specs.declared.typings.TypingAt.TheVariants.{Load, Compare as type_compare}
-use Rattle.flight.specs.act_states.specs.declared.untypings.Release.{Release as ReleaseOf}
-use Rattle.flight.specs.act_states.specs.declared.untypings.Untyping.{Untyping}
-use Rattle.flight.specs.act_states.specs.declared.untypings.UntypingAt.{UntypingAt}
-use Rattle.flight.specs.act_states.specs.declared.untypings.UntypingAt.TheVariants as untype
-use Rattle.flight.specs.act_states.specs.declared.work.Act.{Act as ActOf}
-use Rattle.flight.specs.act_states.specs.declared.work.Act.TheVariants.{Fill as fill_act, Remove as remove_act, Retype as type_act}
-use Rattle.flight.specs.act_states.specs.declared.work.Act.TheVariants.{Make as make_act, Outside, Tick as tick_act, Touch as touch_act}
-use Rattle.flight.specs.act_states.specs.declared.work.Act.TheVariants.{Flush as flush_act, Kill as kill_act, Untype as untype_act}
-use Rattle.flight.specs.act_states.specs.declared.work.Act.TheVariants.{Map as map_act, MakeComp as comp_act, Invoke as invoke_act}
-use Rattle.flight.specs.act_states.specs.declared.work.Act.TheVariants.{Return as return_act, Share as share_act, Switch as switch_act}
-use Rattle.flight.specs.act_states.specs.declared.work.Tail.{Tail}
-use Rattle.flight.specs.act_states.specs.declared.work.Tail.TheVariants.{Nothing, Quiesce, Unmark, StoreDead, StoreFlush, Release}
-use Rattle.flight.specs.act_states.specs.declared.work.Tail.TheVariants.{StoreLive, Push, Pop, Share, StoreRunning, StoreIdle}
-use Rattle.flight.specs.act_states.specs.declared.work.Work.TheVariants.{Lookup, Read, Scan, Acquire, Act}
-use Rattle.flight.specs.call_stages.specs.Cores.{move_in, move_of}
-use Rattle.flight.specs.call_stages.specs.Fits.{StageFits}
-use Rattle.flight.specs.call_stages.specs.Steps.{stage_move}
-use Rattle.flight.specs.call_stages.specs.Tails.{is_ok, tail_move}
-use Rattle.flight.specs.call_stages.specs.View.{Core}
-use Rattle.flight.specs.call_stages.specs.declared.stages.ActiveCall.{ActiveCall}
-use Rattle.flight.specs.call_stages.specs.declared.stages.Stage.{Stage}
-use Rattle.flight.specs.call_stages.specs.declared.stages.Stage.TheVariants.{Enter, Undecided, Decided, Leave}
-use Rattle.flight.specs.core_invariant.specs.Frozen.{holds_release, holds_thaw}
-use Rattle.flight.specs.core_invariant.specs.Holding.{count_of, committed, holds_counts, settled_by, settled}
-use Rattle.flight.specs.core_invariant.specs.Invariant.{done_by, holds_at, holds_in, holds, held_by, Invariant}
-use Rattle.flight.specs.core_invariant.specs.Knows.{CallIs, HasLoaded, KnowsAct, KnowsAt, phase_at, pin_core}
-use Rattle.flight.specs.core_invariant.specs.Sweeps.{HasReadCount, KnowsRelease, KnowsSweep, KnowsSweepAt, KnowsUntypingAt, UntypesBy}
-use Rattle.flight.specs.core_invariant.specs.Words.{SaysCount, count_room}
-use Rattle.flight.specs.core_invariant.proofs.Freezing.{is_count, release_away, thaw_here}
-use Rattle.flight.specs.step_ways.proofs.Counting.{first_marked, first_stands}
-use Rattle.flight.specs.step_ways.proofs.Loads.{is_active}
-use Rattle.flight.specs.Made.{turned, MayStep, cores_after, stepping_core, IsMade}
-use Rattle.flight.proofs.Made.{made_stands}
+use Rattle.time_laws.specs.spk_nums.specs.Capability.{Capability}
+use Rattle.time_laws.specs.spk_nums.specs.Setting.{Setting, IsSetting}
+use Rattle.time_laws.specs.spk_nums.specs.WordSteps.{left_if}
+use Rattle.time_laws.specs.spk_nums.specs.declared.calls.Call.{Call}
+use Rattle.time_laws.specs.spk_nums.specs.declared.calls.Call.TheVariants.{Retype}
+use Rattle.time_laws.specs.spk_nums.specs.declared.kinds.FrameKind.{FrameKind}
+use Rattle.time_laws.specs.spk_nums.specs.declared.kinds.FrameKind.TheVariants as frame_kind
+use Rattle.time_laws.specs.spk_nums.specs.declared.replies.Reply.{Reply}
+use Rattle.time_laws.specs.spk_nums.specs.declared.replies.Reply.TheVariants as reply
+use Rattle.time_laws.specs.frame_words.specs.Count.{CountFits, word_of_count, count_of_word}
+use Rattle.time_laws.specs.frame_words.specs.declared.count_word.CountWord.{CountWord}
+use Rattle.time_laws.specs.frame_words.proofs.CountLemmas as counts
+use Rattle.time_laws.specs.word_map.specs.Word.{CountAt}
+use Rattle.time_laws.specs.word_map.specs.Places.{counter_of}
+use Rattle.time_laws.specs.word_map.specs.Moves.{Move, word_of, left_of}
+use Rattle.time_laws.specs.kernel_history.specs.Marks.{count_mark}
+use Rattle.time_laws.specs.kernel_history.specs.Trace.{Step, Trace, Open, phase, state_after, last_left}
+use Rattle.time_laws.specs.stage_look.specs.Lookup.{look_move}
+use Rattle.time_laws.specs.stage_look.specs.declared.look.Look.{Look}
+use Rattle.time_laws.specs.stage_look.specs.declared.look.Look.TheVariants.{AtRoot, AtLeaf, AtEntry}
+use Rattle.time_laws.specs.stage_pins.specs.Acquire.{pin_move}
+use Rattle.time_laws.specs.stage_pins.specs.Commit.{settled_word}
+use Rattle.time_laws.specs.stage_pins.specs.Counts.{unheld, acquired}
+use Rattle.time_laws.specs.stage_pins.specs.Held.{commit_of}
+use Rattle.time_laws.specs.stage_pins.specs.declared.held.Acquired.{Acquired}
+use Rattle.time_laws.specs.stage_pins.specs.declared.pin.Pin.{Pin}
+use Rattle.time_laws.specs.stage_pins.specs.declared.pin.Pin.TheVariants.{AtLoad, AtCompare}
+use Rattle.time_laws.specs.stage_quiet.specs.Removal.{close_move}
+use Rattle.time_laws.specs.stage_quiet.specs.Scan.{quiet_move}
+use Rattle.time_laws.specs.stage_quiet.specs.declared.close.Close.{Close}
+use Rattle.time_laws.specs.stage_quiet.specs.declared.close.Close.TheVariants.{AtCompare as close_compare, AtDraw, AtStore}
+use Rattle.time_laws.specs.stage_quiet.specs.declared.quiet.Quiet.{Quiet}
+use Rattle.time_laws.specs.stage_quiet.specs.declared.quiet.Quiet.TheVariants.{AtCore, AtFlush}
+use Rattle.time_laws.specs.stage_sweep.specs.Freeze.{frozen, move_at}
+use Rattle.time_laws.specs.stage_sweep.specs.Release.{ThawFits, released}
+use Rattle.time_laws.specs.stage_sweep.specs.declared.sweep.Sweep.{Sweep}
+use Rattle.time_laws.specs.stage_sweep.specs.declared.sweep.SweepAt.{SweepAt}
+use Rattle.time_laws.specs.stage_sweep.specs.declared.sweep.SweepAt.TheVariants as sweep
+use Rattle.time_laws.specs.stage_sweep.specs.declared.thaw.Thaw.{Thaw}
+use Rattle.time_laws.specs.stage_tcap.specs.Charging.{charge_move}
+use Rattle.time_laws.specs.stage_tcap.specs.Pairs.{move_at as pair_at_move}
+use Rattle.time_laws.specs.stage_tcap.specs.declared.charge.Charge.{Charge}
+use Rattle.time_laws.specs.stage_tcap.specs.declared.charge.Charge.TheVariants.{AtLoad as charge_load, AtCompare as charge_compare}
+use Rattle.time_laws.specs.stage_tcap.specs.declared.pair.Pair.{Pair}
+use Rattle.time_laws.specs.stage_tcap.specs.declared.pair.PairAt.{PairAt}
+use Rattle.time_laws.specs.stage_tcap.specs.declared.pair.PairAt.TheVariants.{LoadA, MarkA, ListA, LoadB, ListB, CompareB}
+use Rattle.time_laws.specs.stage_tcap.specs.declared.pair.PairAt.TheVariants.{AgainB, StoreList, StoreB, StoreA}
+use Rattle.time_laws.specs.stage_thread.specs.Stacking.{push_move, pop_move}
+use Rattle.time_laws.specs.stage_thread.specs.declared.claim.Claim.TheVariants as claim
+use Rattle.time_laws.specs.stage_thread.specs.declared.stack.Pop.{Pop as PopOf}
+use Rattle.time_laws.specs.stage_thread.specs.declared.stack.Pop.TheVariants as pop
+use Rattle.time_laws.specs.stage_thread.specs.declared.stack.Push.{Push as PushOf}
+use Rattle.time_laws.specs.stage_thread.specs.declared.stack.Push.TheVariants as push
+use Rattle.time_laws.specs.act_states.specs.Acts.{act_move}
+use Rattle.time_laws.specs.act_states.specs.Comps.{comp_at}
+use Rattle.time_laws.specs.act_states.specs.Invocations.{invoking_at, returning_at}
+use Rattle.time_laws.specs.act_states.specs.Kills.{killing_at}
+use Rattle.time_laws.specs.act_states.specs.Makings.{making_at}
+use Rattle.time_laws.specs.act_states.specs.Switches.{switching_at}
+use Rattle.time_laws.specs.act_states.specs.Typings.{typing_at}
+use Rattle.time_laws.specs.act_states.specs.Untypings.{untyping_at, release_at}
+use Rattle.time_laws.specs.act_states.specs.declared.comps.CompAt.{CompAt}
+use Rattle.time_laws.specs.act_states.specs.declared.comps.CompAt.TheVariants as comp_stands
+use Rattle.time_laws.specs.act_states.specs.declared.comps.CompMaking.{CompMaking}
+use Rattle.time_laws.specs.act_states.specs.declared.fills.Fill.{Fill as FillOf}
+use Rattle.time_laws.specs.act_states.specs.declared.invocations.InvokingAt.{InvokingAt}
+use Rattle.time_laws.specs.act_states.specs.declared.invocations.InvokingAt.TheVariants as invoking
+use Rattle.time_laws.specs.act_states.specs.declared.invocations.ReturningAt.{ReturningAt}
+use Rattle.time_laws.specs.act_states.specs.declared.invocations.ReturningAt.TheVariants as returning
+use Rattle.time_laws.specs.act_states.specs.declared.kills.KillingAt.{KillingAt}
+use Rattle.time_laws.specs.act_states.specs.declared.kills.KillingAt.TheVariants.{LoadComp, LoadLive, Close as kill_close}
+use Rattle.time_laws.specs.act_states.specs.declared.kills.KillingAt.TheVariants.{Draw as kill_draw}
+use Rattle.time_laws.specs.act_states.specs.declared.makings.MakingAt.{MakingAt}
+use Rattle.time_laws.specs.act_states.specs.declared.makings.MakingAt.TheVariants as making
+use Rattle.time_laws.specs.act_states.specs.declared.objects.NewObject.{NewObject}
+use Rattle.time_laws.specs.act_states.specs.declared.switches.SwitchAt.{SwitchAt}
+use Rattle.time_laws.specs.act_states.specs.declared.switches.SwitchAt.TheVariants as switch_at
+use Rattle.time_laws.specs.act_states.specs.declared.switches.Switching.{Switching}
+use Rattle.time_laws.specs.act_states.specs.declared.typings.TypingAt.{TypingAt}
+use Rattle.time_laws.specs.act_states.specs.declared.typings.TypingAt.TheVariants.{Load, Compare as type_compare}
+use Rattle.time_laws.specs.act_states.specs.declared.untypings.Release.{Release as ReleaseOf}
+use Rattle.time_laws.specs.act_states.specs.declared.untypings.Untyping.{Untyping}
+use Rattle.time_laws.specs.act_states.specs.declared.untypings.UntypingAt.{UntypingAt}
+use Rattle.time_laws.specs.act_states.specs.declared.untypings.UntypingAt.TheVariants as untype
+use Rattle.time_laws.specs.act_states.specs.declared.work.Act.{Act as ActOf}
+use Rattle.time_laws.specs.act_states.specs.declared.work.Act.TheVariants.{Fill as fill_act, Remove as remove_act, Retype as type_act}
+use Rattle.time_laws.specs.act_states.specs.declared.work.Act.TheVariants.{Make as make_act, Outside, Tick as tick_act, Touch as touch_act}
+use Rattle.time_laws.specs.act_states.specs.declared.work.Act.TheVariants.{Flush as flush_act, Kill as kill_act, Untype as untype_act}
+use Rattle.time_laws.specs.act_states.specs.declared.work.Act.TheVariants.{Map as map_act, MakeComp as comp_act, Invoke as invoke_act}
+use Rattle.time_laws.specs.act_states.specs.declared.work.Act.TheVariants.{Return as return_act, Share as share_act, Switch as switch_act}
+use Rattle.time_laws.specs.act_states.specs.declared.work.Tail.{Tail}
+use Rattle.time_laws.specs.act_states.specs.declared.work.Tail.TheVariants.{Nothing, Quiesce, Unmark, StoreDead, StoreFlush, Release}
+use Rattle.time_laws.specs.act_states.specs.declared.work.Tail.TheVariants.{StoreLive, Push, Pop, Share, StoreRunning, StoreIdle}
+use Rattle.time_laws.specs.act_states.specs.declared.work.Work.TheVariants.{Lookup, Read, Scan, Acquire, Act}
+use Rattle.time_laws.specs.call_stages.specs.Cores.{move_in, move_of}
+use Rattle.time_laws.specs.call_stages.specs.Fits.{StageFits}
+use Rattle.time_laws.specs.call_stages.specs.Steps.{stage_move}
+use Rattle.time_laws.specs.call_stages.specs.Tails.{is_ok, tail_move}
+use Rattle.time_laws.specs.call_stages.specs.View.{Core}
+use Rattle.time_laws.specs.call_stages.specs.declared.stages.ActiveCall.{ActiveCall}
+use Rattle.time_laws.specs.call_stages.specs.declared.stages.Stage.{Stage}
+use Rattle.time_laws.specs.call_stages.specs.declared.stages.Stage.TheVariants.{Enter, Undecided, Decided, Leave}
+use Rattle.time_laws.specs.core_invariant.specs.Frozen.{holds_release, holds_thaw}
+use Rattle.time_laws.specs.core_invariant.specs.Holding.{count_of, committed, holds_counts, settled_by, settled}
+use Rattle.time_laws.specs.core_invariant.specs.Invariant.{done_by, holds_at, holds_in, holds, held_by, Invariant}
+use Rattle.time_laws.specs.core_invariant.specs.Knows.{CallIs, HasLoaded, KnowsAct, KnowsAt, phase_at, pin_core}
+use Rattle.time_laws.specs.core_invariant.specs.Sweeps.{HasReadCount, KnowsRelease, KnowsSweep, KnowsSweepAt, KnowsUntypingAt, UntypesBy}
+use Rattle.time_laws.specs.core_invariant.specs.Words.{SaysCount, count_room}
+use Rattle.time_laws.specs.core_invariant.proofs.Freezing.{is_count, release_away, thaw_here}
+use Rattle.time_laws.specs.step_ways.proofs.Counting.{first_marked, first_stands}
+use Rattle.time_laws.specs.step_ways.proofs.Loads.{is_active}
+use Rattle.time_laws.specs.flight.specs.Made.{turned, MayStep, cores_after, stepping_core, IsMade}
+use Rattle.time_laws.specs.flight.proofs.Made.{made_stands}
 
 -- Steps on other words
 
@@ -334,7 +335,8 @@ module _ (setup : Setting) (setting : IsSetting setup) (cores : ℕ → Core) (t
       where
         settled_is : settled setup (held_by cores) t (CountAt g j) ≡ x
         settled_is =
-            ap (λ o. settled_by o (held_by cores) (CountAt g j) (last_left setup t (CountAt g j))) ((stands.marks (CountAt g j) c).kept marks)
+            ap (λ o. settled_by o (held_by cores) (CountAt g j) (last_left setup t (CountAt g j)))
+            ((stands.marks (CountAt g j) c).kept marks)
             ∙ settles
 
         says : SaysCount (count_room (state_after setup t)) (count_of_word x)

@@ -5,46 +5,46 @@ use Rattle.std.proofs.Common.{if◌then◌else◌, List, [], ◌∷◌, Option, 
 use Rattle.std.specs.Prelude.{is_some}
 use Rattle.std.proofs.lemmas.Bool.{cases_eq, false≢true, true≢false, eq-eqb, ne_eqb, eqb-true}
 use Rattle.std.proofs.lemmas.Int.{ints}
-use Rattle.flight.specs.spk_nums.specs.Setting.{Setting, IsSetting}
-use Rattle.flight.specs.spk_nums.specs.declared.calls.Call.{Call}
-use Rattle.flight.specs.spk_nums.specs.declared.calls.Call.TheVariants.{Retype, Tick}
-use Rattle.flight.specs.spk_nums.specs.declared.kinds.FrameKind.TheVariants.{Untyped}
-use Rattle.flight.specs.spk_nums.specs.declared.replies.Reply.{Reply}
-use Rattle.flight.specs.spk_nums.specs.declared.replies.Reply.TheVariants as reply
-use Rattle.flight.specs.spk_nums.specs.declared.replies.Value.{Value}
-use Rattle.flight.specs.frame_words.specs.Count.{count_of_word}
-use Rattle.flight.specs.frame_words.specs.declared.count_word.CountWord.{CountWord}
-use Rattle.flight.specs.frame_words.specs.declared.count_word.Hold.{Hold}
-use Rattle.flight.specs.frame_words.specs.declared.count_word.Hold.TheVariants.{Unheld, Pinned, Closed}
-use Rattle.flight.specs.word_map.specs.Word.{Word, CountAt}
-use Rattle.flight.specs.word_map.specs.Places.{counter_of}
-use Rattle.flight.specs.kernel_rules.specs.State.{State}
-use Rattle.flight.specs.kernel_rules.specs.References.{times, refs}
-use Rattle.flight.specs.kernel_rules.specs.GracePeriods.{begun}
-use Rattle.flight.specs.kernel_rules.specs.Rules.{Change, Judged, Refused, Found}
-use Rattle.flight.specs.kernel_rules.specs.CallRelation.{rule_of, change_of, changed, counted, owed_by, state_by}
-use Rattle.flight.specs.kernel_rules.specs.Laws.{IsRefusal}
-use Rattle.flight.specs.kernel_rules.proofs.Changes.{IfFound}
-use Rattle.flight.specs.kernel_rules.proofs.Within.{put_other}
-use Rattle.flight.specs.kernel_invariant.proofs.Facts.{outcome_from}
-use Rattle.flight.specs.kernel_invariant.proofs.Refs.{core_refs, grace_refs, rule_refs}
-use Rattle.flight.specs.kernel_invariant.proofs.SoundCalls.{IsOpen}
-use Rattle.flight.specs.kernel_invariant.proofs.SoundRuns.{opened}
-use Rattle.flight.specs.kernel_history.specs.Counts.{count_at, count_in}
-use Rattle.flight.specs.kernel_history.specs.Legal.{MayDecide, IsLegal}
-use Rattle.flight.specs.kernel_history.specs.Marking.{marked_by}
-use Rattle.flight.specs.kernel_history.specs.Marks.{count_mark, hold_mark}
-use Rattle.flight.specs.kernel_history.specs.Trace.{Step, Trace, Phase, Out, Open, Decided, phase, after_enter, after_decide}
-use Rattle.flight.specs.kernel_history.specs.Trace.{state_after, state_before, state_decided, state_returned, last_left}
-use Rattle.flight.specs.kernel_history.proofs.Events.{entered_events}
-use Rattle.flight.specs.kernel_history.proofs.Steps.{phase-other}
-use Rattle.flight.specs.trace_laws.proofs.Opens.{opens}
-use Rattle.flight.specs.trace_laws.proofs.Stays.{state_plain}
-use Rattle.flight.specs.core_invariant.specs.Holding.{settled_by, settled}
-use Rattle.flight.specs.core_invariant.specs.Invariant.{count_shown, holds, held_by}
-use Rattle.flight.specs.kept_facts.proofs.CountSums.{counted_refs}
-use Rattle.flight.specs.Made.{core_after, cores_after, stepping_core, IsMade}
-use Rattle.flight.proofs.Made.{made_stands}
+use Rattle.time_laws.specs.spk_nums.specs.Setting.{Setting, IsSetting}
+use Rattle.time_laws.specs.spk_nums.specs.declared.calls.Call.{Call}
+use Rattle.time_laws.specs.spk_nums.specs.declared.calls.Call.TheVariants.{Retype, Tick}
+use Rattle.time_laws.specs.spk_nums.specs.declared.kinds.FrameKind.TheVariants.{Untyped}
+use Rattle.time_laws.specs.spk_nums.specs.declared.replies.Reply.{Reply}
+use Rattle.time_laws.specs.spk_nums.specs.declared.replies.Reply.TheVariants as reply
+use Rattle.time_laws.specs.spk_nums.specs.declared.replies.Value.{Value}
+use Rattle.time_laws.specs.frame_words.specs.Count.{count_of_word}
+use Rattle.time_laws.specs.frame_words.specs.declared.count_word.CountWord.{CountWord}
+use Rattle.time_laws.specs.frame_words.specs.declared.count_word.Hold.{Hold}
+use Rattle.time_laws.specs.frame_words.specs.declared.count_word.Hold.TheVariants.{Unheld, Pinned, Closed}
+use Rattle.time_laws.specs.word_map.specs.Word.{Word, CountAt}
+use Rattle.time_laws.specs.word_map.specs.Places.{counter_of}
+use Rattle.time_laws.specs.kernel_rules.specs.State.{State}
+use Rattle.time_laws.specs.kernel_rules.specs.References.{times, refs}
+use Rattle.time_laws.specs.kernel_rules.specs.GracePeriods.{begun}
+use Rattle.time_laws.specs.kernel_rules.specs.Rules.{Change, Judged, Refused, Found}
+use Rattle.time_laws.specs.kernel_rules.specs.CallRelation.{rule_of, change_of, changed, counted, owed_by, state_by}
+use Rattle.time_laws.specs.kernel_rules.specs.Laws.{IsRefusal}
+use Rattle.time_laws.specs.kernel_rules.proofs.Changes.{IfFound}
+use Rattle.time_laws.specs.kernel_rules.proofs.Within.{put_other}
+use Rattle.time_laws.specs.kernel_invariant.proofs.Facts.{outcome_from}
+use Rattle.time_laws.specs.kernel_invariant.proofs.Refs.{core_refs, grace_refs, rule_refs}
+use Rattle.time_laws.specs.kernel_invariant.proofs.SoundCalls.{IsOpen}
+use Rattle.time_laws.specs.kernel_invariant.proofs.SoundRuns.{opened}
+use Rattle.time_laws.specs.kernel_history.specs.Counts.{count_at, count_in}
+use Rattle.time_laws.specs.kernel_history.specs.Legal.{MayDecide, IsLegal}
+use Rattle.time_laws.specs.kernel_history.specs.Marking.{marked_by}
+use Rattle.time_laws.specs.kernel_history.specs.Marks.{count_mark, hold_mark}
+use Rattle.time_laws.specs.kernel_history.specs.Trace.{Step, Trace, Phase, Out, Open, Decided, phase, after_enter, after_decide}
+use Rattle.time_laws.specs.kernel_history.specs.Trace.{state_after, state_before, state_decided, state_returned, last_left}
+use Rattle.time_laws.specs.kernel_history.proofs.Events.{entered_events}
+use Rattle.time_laws.specs.kernel_history.proofs.Steps.{phase-other}
+use Rattle.time_laws.specs.trace_laws.proofs.Opens.{opens}
+use Rattle.time_laws.specs.trace_laws.proofs.Stays.{state_plain}
+use Rattle.time_laws.specs.core_invariant.specs.Holding.{settled_by, settled}
+use Rattle.time_laws.specs.core_invariant.specs.Invariant.{count_shown, holds, held_by}
+use Rattle.time_laws.specs.kept_facts.proofs.CountSums.{counted_refs}
+use Rattle.time_laws.specs.flight.specs.Made.{core_after, cores_after, stepping_core, IsMade}
+use Rattle.time_laws.specs.flight.proofs.Made.{made_stands}
 use Rattle.flight_laws.specs.Counts.{changed_by, is_carried_out, has_cleared, count_then, will_show, CountsTell, Untypes}
 use Rattle.flight_laws.proofs.CountHolds.{held_before, raw_other, kept, count_kept, still_marked, no_entry, no_return, entered_is}
 use Rattle.flight_laws.proofs.CountHolds.{before_is, phase_is, frozen_say}
@@ -226,7 +226,8 @@ module _ (setup : Setting) (setting : IsSetting setup) (f : ℕ) where
       changed_is =
           ap (λ b. if b && is_some e.decides then pos (names (e ∷ t)) -ℤ pos (refs (state_before setup t e) f)
           else changed_by setup t e.core f) (eq-eqb e.core e.core refl)
-          ∙ ap (λ (s : State). if is_some e.decides then pos (names (e ∷ t)) -ℤ pos (refs s f) else changed_by setup t e.core f) state_is_was
+          ∙ ap (λ (s : State). if is_some e.decides then pos (names (e ∷ t)) -ℤ pos (refs s f) else changed_by setup t e.core f)
+          state_is_was
 
       -- what it told before
       count_before : shown t +ℤ owed (is_carried_out p) (changed_by setup t e.core f) ≡ pos (names t)

@@ -1,9 +1,9 @@
 -- All that holds of a machine's history, from the invariant at each of its moments.
-use Rattle.flight.proofs.Common.{◌≡◌, [], ◌∷◌, ◌++◌, subst, Setting, IsSetting, Step, Trace}
-use Rattle.flight.specs.kernel_history.specs.Moments.{WordsSayAlong}
-use Rattle.flight.specs.Made.{cores_after, IsMade}
-use Rattle.flight.proofs.Final.{says_words}
-use Rattle.flight.proofs.Made.{made_stands}
+use Rattle.time_laws.proofs.Common.{◌≡◌, [], ◌∷◌, ◌++◌, subst, Setting, IsSetting, Step, Trace}
+use Rattle.time_laws.specs.kernel_history.specs.Moments.{WordsSayAlong}
+use Rattle.time_laws.specs.flight.specs.Made.{cores_after, IsMade}
+use Rattle.time_laws.specs.flight.proofs.Final.{says_words}
+use Rattle.time_laws.specs.flight.proofs.Made.{made_stands}
 use Rattle.flight_laws.specs.Moments.{AtEachMoment, AtEachStep, OfEachStretch}
 use Rattle.flight_laws.specs.Histories.{MadeHistories}
 use Rattle.flight_laws.specs.Places.{ScannedCores}
@@ -17,9 +17,9 @@ use Rattle.flight_laws.proofs.Pages.{cached_frames_stay, cached_till_flush, touc
 use Rattle.flight_laws.proofs.Lives.{dead_for_good}
 use Rattle.flight_laws.proofs.Invocations.{enters_none_killed, enters_the_living}
 use Rattle.flight_laws.proofs.Threads.{threads_apart, words_say}
-use Rattle.flight_laws.proofs.Time.{time_kept, ticks_counted, heads_say, lists_say, tests_tell}
-use Rattle.flight_laws.proofs.MarkedHeads.{open_heads_say}
-use Rattle.flight_laws.proofs.OwedHeads.{marked_heads_say}
+use Rattle.time_laws.proofs.Time.{time_kept, ticks_counted, heads_say, lists_say, tests_tell}
+use Rattle.time_laws.proofs.MarkedHeads.{open_heads_say}
+use Rattle.time_laws.proofs.OwedHeads.{marked_heads_say}
 
 says_along : (setup : Setting) → IsSetting setup → (t : Trace) → IsMade setup t → WordsSayAlong setup t
 says_along setup lim [] made = says_words setup lim (cores_after setup []) [] (made_stands setup lim [] made)

@@ -1,11 +1,6 @@
 -- The laws, one concern a file.
 pub mod Places
 pub mod Lives
-pub mod Time
-pub mod MarkedHeads
-pub mod ShareTails
-pub mod OwedTails
-pub mod OwedHeads
 pub mod Pages
 pub mod Frames
 pub mod Sweeping

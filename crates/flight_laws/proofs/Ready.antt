@@ -2,29 +2,29 @@
 use Rattle.std.proofs.Common.{◌≡◌, ℕ, true, false, ◌∷◌, Option, Some, None, refl, sym, ◌∙◌, ap, subst}
 use Rattle.std.specs.Prelude.{IsSome}
 use Rattle.std.proofs.lemmas.Bool.{false≢true}
-use Rattle.flight.specs.spk_nums.specs.Setting.{Setting, IsSetting}
-use Rattle.flight.specs.spk_nums.specs.declared.calls.Call.{Call}
-use Rattle.flight.specs.spk_nums.specs.declared.replies.Reply.{Reply}
-use Rattle.flight.specs.word_map.specs.Moves.{told_of}
-use Rattle.flight.specs.kernel_rules.specs.Laws.{IsRefusal}
-use Rattle.flight.specs.kernel_history.specs.Trace.{Step, Trace, Open, phase}
-use Rattle.flight.specs.kernel_history.specs.Trace as history
-use Rattle.flight.specs.act_states.specs.declared.own.Own.{Own}
-use Rattle.flight.specs.call_stages.specs.declared.stages.Stage.{Stage}
-use Rattle.flight.specs.call_stages.specs.declared.stages.Stage.TheVariants.{Enter, Undecided, Decided, Leave}
-use Rattle.flight.specs.call_stages.specs.declared.stages.ActiveCall.{ActiveCall}
-use Rattle.flight.specs.call_stages.specs.Cores.{fresh, begun, move_of, ready_in, told_in, told_by, told_of_step}
-use Rattle.flight.specs.call_stages.specs.Fits.{CallFits}
-use Rattle.flight.specs.call_stages.specs.Laws.{reply_at, Refuses, IsDecision}
-use Rattle.flight.specs.call_stages.specs.Steps.{Took, GoesOn, Decides, Returns, Changes, took}
-use Rattle.flight.specs.call_stages.specs.View.{Core}
-use Rattle.flight.specs.call_stages.proofs.Decisions as decisions
-use Rattle.flight.specs.core_invariant.specs.Events.{decided_in}
-use Rattle.flight.specs.core_invariant.specs.Knows.{CallIs, CoreIs, phase_at}
-use Rattle.flight.specs.core_invariant.specs.Invariant.{Invariant}
-use Rattle.flight.specs.Made.{turned, MayStep, cores_after, IsMade}
-use Rattle.flight.proofs.CoreFits.{begun_fits}
-use Rattle.flight.proofs.Made.{made_stands}
+use Rattle.time_laws.specs.spk_nums.specs.Setting.{Setting, IsSetting}
+use Rattle.time_laws.specs.spk_nums.specs.declared.calls.Call.{Call}
+use Rattle.time_laws.specs.spk_nums.specs.declared.replies.Reply.{Reply}
+use Rattle.time_laws.specs.word_map.specs.Moves.{told_of}
+use Rattle.time_laws.specs.kernel_rules.specs.Laws.{IsRefusal}
+use Rattle.time_laws.specs.kernel_history.specs.Trace.{Step, Trace, Open, phase}
+use Rattle.time_laws.specs.kernel_history.specs.Trace as history
+use Rattle.time_laws.specs.act_states.specs.declared.own.Own.{Own}
+use Rattle.time_laws.specs.call_stages.specs.declared.stages.Stage.{Stage}
+use Rattle.time_laws.specs.call_stages.specs.declared.stages.Stage.TheVariants.{Enter, Undecided, Decided, Leave}
+use Rattle.time_laws.specs.call_stages.specs.declared.stages.ActiveCall.{ActiveCall}
+use Rattle.time_laws.specs.call_stages.specs.Cores.{fresh, begun, move_of, ready_in, told_in, told_by, told_of_step}
+use Rattle.time_laws.specs.call_stages.specs.Fits.{CallFits}
+use Rattle.time_laws.specs.call_stages.specs.Laws.{reply_at, Refuses, IsDecision}
+use Rattle.time_laws.specs.call_stages.specs.Steps.{Took, GoesOn, Decides, Returns, Changes, took}
+use Rattle.time_laws.specs.call_stages.specs.View.{Core}
+use Rattle.time_laws.specs.call_stages.proofs.Decisions as decisions
+use Rattle.time_laws.specs.core_invariant.specs.Events.{decided_in}
+use Rattle.time_laws.specs.core_invariant.specs.Knows.{CallIs, CoreIs, phase_at}
+use Rattle.time_laws.specs.core_invariant.specs.Invariant.{Invariant}
+use Rattle.time_laws.specs.flight.specs.Made.{turned, MayStep, cores_after, IsMade}
+use Rattle.time_laws.specs.flight.proofs.CoreFits.{begun_fits}
+use Rattle.time_laws.specs.flight.proofs.Made.{made_stands}
 use Rattle.flight_laws.specs.Ready.{ReadyDecides, UnreadyRefuses}
 
 -- What a core tells of a step that led to this.

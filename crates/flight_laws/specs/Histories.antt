@@ -1,13 +1,13 @@
 -- What each command that makes atomic steps, and each seat of a kernel, has of its trace: all that holds of a machine's history.
-use Rattle.flight.specs.spk_nums.specs.Setting.{Setting, IsSetting}
-use Rattle.flight.specs.kernel_history.specs.Trace.{Trace}
-use Rattle.flight.specs.kernel_history.specs.Legal.{IsLegal}
-use Rattle.flight.specs.kernel_history.specs.Bounds.{KeepsBounds}
-use Rattle.flight.specs.kernel_history.specs.Discipline.{KeepsDiscipline}
-use Rattle.flight.specs.kernel_history.specs.Footprint.{KeepsFootprints}
-use Rattle.flight.specs.kernel_history.specs.Alone.{KeepsFirst}
-use Rattle.flight.specs.kernel_history.specs.Moments.{WordsSayAlong}
-use Rattle.flight.specs.Made.{IsMade}
+use Rattle.time_laws.specs.spk_nums.specs.Setting.{Setting, IsSetting}
+use Rattle.time_laws.specs.kernel_history.specs.Trace.{Trace}
+use Rattle.time_laws.specs.kernel_history.specs.Legal.{IsLegal}
+use Rattle.time_laws.specs.kernel_history.specs.Bounds.{KeepsBounds}
+use Rattle.time_laws.specs.kernel_history.specs.Discipline.{KeepsDiscipline}
+use Rattle.time_laws.specs.kernel_history.specs.Footprint.{KeepsFootprints}
+use Rattle.time_laws.specs.kernel_history.specs.Alone.{KeepsFirst}
+use Rattle.time_laws.specs.kernel_history.specs.Moments.{WordsSayAlong}
+use Rattle.time_laws.specs.flight.specs.Made.{IsMade}
 use Rattle.flight_laws.specs.Moments.{AtEachMoment, AtEachStep, OfEachStretch}
 use Rattle.flight_laws.specs.Places.{PlacesFound, ScannedCores}
 use Rattle.flight_laws.specs.Frames.{LookedNodesStay, CountedFramesStay, UntypedFramesAreUnused}
@@ -17,7 +17,7 @@ use Rattle.flight_laws.specs.Pages.{CachedFramesStay, CachedTillFlush, TouchesCa
 use Rattle.flight_laws.specs.Lives.{DeadForGood}
 use Rattle.flight_laws.specs.Invocations.{EntersTheLiving, EntersNoneKilled}
 use Rattle.flight_laws.specs.Threads.{ThreadsRunApart, ThreadWordsSay}
-use Rattle.flight_laws.specs.Time.{TimeIsKept, TicksAreCounted, HeadsSay, OpenHeadsSay, MarkedHeadsSay, ListsSay, TestsTell}
+use Rattle.time_laws.specs.Time.{TimeIsKept, TicksAreCounted, HeadsSay, OpenHeadsSay, MarkedHeadsSay, ListsSay, TestsTell}
 
 -- The trace is the machine's, and is a legal history: its replies are those of the sequential kernel, each at a step of its call,
 -- and justified. Its calls keep within their bounds of steps, each step keeps the discipline of words and is in the footprint of its

@@ -1,11 +1,11 @@
 -- When the calls of a machine are decided: what it is for a core to be ready.
 use Rattle.std.specs.Prelude.{◌≡◌, true, false, Some, IsSome}
-use Rattle.flight.specs.spk_nums.specs.Setting.{Setting}
-use Rattle.flight.specs.spk_nums.specs.declared.calls.Call.{Call}
-use Rattle.flight.specs.spk_nums.specs.declared.replies.Reply.{Reply}
-use Rattle.flight.specs.kernel_rules.specs.Laws.{IsRefusal}
-use Rattle.flight.specs.kernel_history.specs.Trace.{Step, Trace, Open, phase}
-use Rattle.flight.specs.Made.{ready_after}
+use Rattle.time_laws.specs.spk_nums.specs.Setting.{Setting}
+use Rattle.time_laws.specs.spk_nums.specs.declared.calls.Call.{Call}
+use Rattle.time_laws.specs.spk_nums.specs.declared.replies.Reply.{Reply}
+use Rattle.time_laws.specs.kernel_rules.specs.Laws.{IsRefusal}
+use Rattle.time_laws.specs.kernel_history.specs.Trace.{Step, Trace, Open, phase}
+use Rattle.time_laws.specs.flight.specs.Made.{ready_after}
 
 -- The step e after t decides where its core's call is open and ready there, whatever word it finds.
 abbrev pub ReadyDecides : Setting → Trace → Step → Type 0
