@@ -1,36 +1,21 @@
 -- What a look-up that has arrived has found: the name of a call, or the place of its target.
-use Rattle.std.proofs.Common.{◌≡◌, ℕ, ◌%◌, ◌&&◌, ◌||◌, ◌++◌, ◌∷◌, [], Bool, true, false, not, nat_le}
-use Rattle.std.proofs.Common.{if◌then◌else◌, Option, Some, None, refl, sym, ◌∙◌, ap, subst, IsTrue, IsFalse}
-use Rattle.std.specs.Prelude.{IsSome, IsSomeAnd, is_some, option_to_list}
-use Rattle.std.proofs.lemmas.Bool.{leb-false, lt-ltb}
-use Rattle.std.proofs.lemmas.List.Elements.{All-nil, All-cons, All-append}
-use Rattle.plan_ways.specs.spk_nums.specs.Capability.{Capability}
-use Rattle.plan_ways.specs.spk_nums.specs.Setting.{Setting}
-use Rattle.plan_ways.specs.spk_nums.specs.declared.kinds.Kind.{Kind}
+use Rattle.step_ways.proofs.Common.{◌≡◌, ℕ, ◌%◌, ◌&&◌, ◌||◌, ◌++◌, ◌∷◌, [], Bool, true, false, not, nat_le, if◌then◌else◌, Option, Some}
+use Rattle.step_ways.proofs.Common.{None, refl, sym, ◌∙◌, ap, subst, IsTrue, IsSome, IsSomeAnd, is_some, option_to_list, leb-false}
+use Rattle.step_ways.proofs.Common.{lt-ltb, All-nil, All-cons, All-append, Capability, Setting, Kind, EntryFits, Held, EntryAt, LoadOf}
+use Rattle.step_ways.proofs.Common.{word_of, Holds, PlaceOf, State, comp_of, Slot, Named, found, Target, Under, InRoot, place_at, held_in}
+use Rattle.step_ways.proofs.Common.{usable_in, usable, reached, has_no_slot, own, Refused, Found, and_then, or_refuse, named, Step, Trace}
+use Rattle.step_ways.proofs.Common.{state_after, own_left, root_passed, way_to, HasReached, HasFound, own_in, own_kept, holds_link}
+use Rattle.step_ways.proofs.Common.{linked, root_slot, slot_in, Word}
+use Rattle.std.proofs.Common.{IsFalse}
 use Rattle.plan_ways.specs.spk_nums.specs.declared.replies.Reply.TheVariants as reply
-use Rattle.plan_ways.specs.entry_words.specs.EntryWord.{EntryFits}
-use Rattle.plan_ways.specs.entry_words.specs.declared.entry.Entry.TheVariants.{Held}
-use Rattle.plan_ways.specs.word_map.specs.Word.{EntryAt}
-use Rattle.plan_ways.specs.word_map.specs.Moves.{LoadOf, word_of}
-use Rattle.plan_ways.specs.kernel_rules.specs.State.{Free as Vacant, Holds, Quiescing as Removed, PlaceOf, State, comp_of}
-use Rattle.plan_ways.specs.kernel_rules.specs.Access.{Slot, Named, found, Target, Under, InRoot, place_at}
-use Rattle.plan_ways.specs.kernel_rules.specs.Access.{held_in, usable_in, usable, reached, has_no_slot, own}
-use Rattle.plan_ways.specs.kernel_rules.specs.Rules.{Refused, Found, and_then, or_refuse, of_kind, named, ReachesNone, ReachesHeld}
+use Rattle.plan_ways.specs.kernel_rules.specs.State.{Free as Vacant, Quiescing as Removed}
+use Rattle.plan_ways.specs.kernel_rules.specs.Rules.{of_kind, ReachesNone, ReachesHeld}
 use Rattle.plan_ways.specs.kernel_rules.specs.Rules.{ReachesOther}
-use Rattle.plan_ways.specs.kernel_history.specs.Trace.{Step, Trace, state_after, own_left}
-use Rattle.plan_ways.specs.kernel_history.specs.Ways.{root_passed, way_to}
-use Rattle.plan_ways.specs.kernel_history.specs.Justified.{HasReached}
 use Rattle.plan_ways.specs.kernel_history.proofs.Steps.{own_left-here}
-use Rattle.step_ways.specs.core_invariant.specs.Knows.{IsReached, HasFound, own_in}
-use Rattle.step_ways.specs.kept_facts.proofs.Carries.{own_kept}
+use Rattle.step_ways.specs.core_invariant.specs.Knows.{IsReached}
 use Rattle.step_ways.proofs.Loads.{step_to}
 use Rattle.step_ways.proofs.Refusals.{NobodyWaits}
 use Rattle.count_invariant.proofs.Lookups.{Arrives, use_removed}
-use Rattle.plan_ways.specs.kernel_rules.specs.Access.{holds_link}
-use Rattle.plan_ways.specs.kernel_rules.specs.Access.{linked}
-use Rattle.plan_ways.specs.kernel_rules.specs.Access.{root_slot}
-use Rattle.plan_ways.specs.kernel_rules.specs.Access.{slot_in}
-use Rattle.plan_ways.specs.word_map.specs.Word.{Word}
 
 -- the target of an own name
 pub own_is : (s : State) (c table n : ℕ) → table ≡ (comp_of s c).table → own_in table n ≡ own s c n

@@ -1,19 +1,20 @@
 -- The start stands for no step.
+use Rattle.work_invariant.proofs.Common.{◌≡◌, inl, inr, ℕ, zero, suc, ◌+◌, ◌<◌, ◌≤◌, ◌==◌, ◌*◌, ◌-◌, ◌∷◌, nat_lt, length, slice_get, Bool}
+use Rattle.work_invariant.proofs.Common.{true, false, [], Option, Some, None, arith, refl, sym, ◌∙◌, ap, subst, IsTrue, if◌then◌else◌}
+use Rattle.work_invariant.proofs.Common.{pos, ◌+ℤ◌, max, cases_lt, false≢true, lt-ltb, eqb-true, Capability, Setting, IsSetting, Kind}
+use Rattle.work_invariant.proofs.Common.{Entry, word_of_entry, entry_of_word, frame_of_word, count_of_word, live_of_word, Word, EntryAt}
+use Rattle.work_invariant.proofs.Common.{FrameAt, CountAt, CoreAt, FlushAt, LiveAt, ClockAt, Place, Free, Holds, Quiescing, Object, Blank}
+use Rattle.work_invariant.proofs.Common.{Table, Leaf, Pages, Pleaf, Comp, Thread, Tcap, TcapFields, Frame, Untyped, User, Kernel, State}
+use Rattle.work_invariant.proofs.Common.{comp_in, thread_in, thread_of, first_of_stack, refs, fits, frame_value, entry_mark, frame_mark}
+use Rattle.work_invariant.proofs.Common.{count_mark, live_mark, thread_mark, head_mark, mark_in_frame, CapNames, marked_by, settled_by}
+use Rattle.work_invariant.proofs.Common.{PlaceIs, IsFrameWord, NumberIs, WordIs, count_room, word_of_head, head_of_word, HeadWord}
+use Rattle.work_invariant.proofs.Common.{held_by, times_of, count_shown, SumIs, stamp_in, count_in, word_of_count, word_of_frame}
+use Rattle.work_invariant.proofs.Common.{word_of_live, at_height, thread_value, quality_of_word, stack_of_word, thread_of_word}
+use Rattle.work_invariant.proofs.Common.{end_of_frames}
 use Rattle.work_invariant.specs.core_invariant.proofs.Bare.{none_value}
-use Rattle.std.proofs.Common.{◌≡◌, inl, inr, ℕ, zero, suc, ◌+◌, ◌<◌, ◌≤◌, ◌==◌, ◌*◌, ◌-◌, ◌∷◌, nat_lt, length, slice_get, Bool, true}
-use Rattle.std.proofs.Common.{false, [], Option, Some, None, arith, refl, sym, ◌∙◌, ap, subst, IsTrue, if◌then◌else◌, pos, ◌+ℤ◌, max}
-use Rattle.std.proofs.lemmas.Bool.{cases_lt, false≢true, lt-ltb, eqb-true}
-use Rattle.boot_words.specs.spk_nums.specs.Capability.{Capability}
-use Rattle.boot_words.specs.spk_nums.specs.Setting.{Setting, IsSetting}
-use Rattle.boot_words.specs.spk_nums.specs.declared.kinds.Kind.{Kind}
 use Rattle.boot_words.specs.spk_nums.specs.declared.kinds.Kind.TheVariants as kind
-use Rattle.boot_words.specs.entry_words.specs.declared.entry.Entry.{Entry}
 use Rattle.boot_words.specs.entry_words.specs.declared.entry.Entry.TheVariants as entry
-use Rattle.boot_words.specs.entry_words.specs.EntryWord.{word_of_entry, entry_of_word}
 use Rattle.boot_words.specs.entry_words.proofs.Spelling as entries
-use Rattle.boot_words.specs.frame_words.specs.Frame.{frame_of_word}
-use Rattle.boot_words.specs.frame_words.specs.Count.{count_of_word}
-use Rattle.boot_words.specs.frame_words.specs.Live.{live_of_word}
 use Rattle.boot_words.specs.frame_words.specs.declared.count_word.Hold.TheVariants.{Unheld}
 use Rattle.boot_words.specs.frame_words.specs.declared.live_word.LiveWord.TheVariants as live_word
 use Rattle.boot_words.specs.frame_words.proofs.CoreLemmas as core_words
@@ -21,48 +22,23 @@ use Rattle.boot_words.specs.frame_words.proofs.CountLemmas as counts
 use Rattle.boot_words.specs.frame_words.proofs.FlushLemmas as flushes
 use Rattle.boot_words.specs.frame_words.proofs.FrameLemmas as frames
 use Rattle.boot_words.specs.frame_words.proofs.LiveLemmas as lives
-use Rattle.boot_words.specs.word_map.specs.Word.{Word, EntryAt, FrameAt, CountAt, CoreAt, FlushAt, LiveAt, ClockAt}
-use Rattle.boot_words.specs.kernel_rules.specs.State.{Place, Free, Holds, Quiescing, Object, Blank, Table, Leaf, Pages, Pleaf, Comp}
-use Rattle.boot_words.specs.kernel_rules.specs.State.{Thread, Tcap}
-use Rattle.boot_words.specs.kernel_rules.specs.State.{TcapFields, Frame, Untyped, User, Kernel, State, comp_in, thread_in, thread_of}
-use Rattle.boot_words.specs.kernel_rules.specs.State.{first_of_stack}
 use Rattle.boot_words.specs.kernel_rules.specs.Start.{start, start_place, start_cap, place_with, start_frame, start_number, granted}
-use Rattle.boot_words.specs.kernel_rules.specs.References.{refs}
-use Rattle.boot_words.specs.kernel_rules.specs.Fitting.{fits, IsGood, EndsWithin}
+use Rattle.boot_words.specs.kernel_rules.specs.Fitting.{IsGood, EndsWithin}
 use Rattle.call_stages.specs.kernel_invariant.proofs.SoundStart.{past_three, start_sound}
 use Rattle.boot_words.specs.kernel_history.specs.BootWords.{boot_word, boot_entry, boot_object, boot_frame, boot_live}
-use Rattle.boot_words.specs.kernel_history.specs.ObjectWords.{frame_value}
 use Rattle.boot_words.specs.kernel_history.specs.FinalWords.{SaysPlace, AreObject, AreFrame, SaysNumber, Represent}
-use Rattle.boot_words.specs.kernel_history.specs.Marks.{entry_mark, frame_mark, count_mark, live_mark, thread_mark, head_mark}
-use Rattle.boot_words.specs.kernel_history.specs.Marks.{mark_in_frame, object_mark}
+use Rattle.boot_words.specs.kernel_history.specs.Marks.{object_mark}
 use Rattle.boot_words.proofs.BootRepresents.{boot_represents}
 use Rattle.boot_words.proofs.StartRefs.{refs_most}
 use Rattle.work_invariant.specs.trace_laws.proofs.GraceSteps.{grace_start, times_start}
-use Rattle.call_stages.specs.stage_look.specs.Shown.{CapNames}
-use Rattle.boot_words.specs.kernel_history.specs.Marking.{marked_by}
-use Rattle.work_invariant.specs.core_invariant.specs.Holding.{settled_by}
-use Rattle.work_invariant.specs.core_invariant.specs.Words.{PlaceIs, IsObjectWord, IsFrameWord, NumberIs, WordIs, count_room}
-use Rattle.boot_words.specs.tcap_words.specs.Head.{word_of_head, head_of_word}
-use Rattle.boot_words.specs.tcap_words.specs.declared.head_word.HeadWord.{HeadWord}
+use Rattle.work_invariant.specs.core_invariant.specs.Words.{IsObjectWord}
 use Rattle.boot_words.specs.tcap_words.proofs.HeadLemmas as heads
-use Rattle.work_invariant.specs.core_invariant.specs.Invariant.{held_by, times_of, count_shown, SumIs}
-use Rattle.work_invariant.specs.core_invariant.specs.CountWords.{stamp_in}
-use Rattle.boot_words.specs.kernel_history.specs.Counts.{count_in}
 use Rattle.std.proofs.lemmas.Int.{ints}
 use Rattle.flight.specs.Made.{boot_cores}
 use Rattle.flight.specs.Theorems.{Boots}
 use Rattle.flight.proofs.CoreFits.{started_fits}
-use Rattle.boot_words.specs.frame_words.specs.Count.{word_of_count}
-use Rattle.boot_words.specs.frame_words.specs.Frame.{word_of_frame}
-use Rattle.boot_words.specs.frame_words.specs.Live.{word_of_live}
 use Rattle.boot_words.specs.kernel_history.specs.FinalWords.{end_of}
-use Rattle.boot_words.specs.kernel_history.specs.ObjectWords.{at_height}
-use Rattle.boot_words.specs.kernel_history.specs.ObjectWords.{thread_value}
 use Rattle.boot_words.specs.tcap_words.specs.Head.{head_of_word as head_of_word_of_head}
-use Rattle.boot_words.specs.tcap_words.specs.Quality.{quality_of_word}
-use Rattle.boot_words.specs.tcap_words.specs.Stack.{stack_of_word}
-use Rattle.boot_words.specs.tcap_words.specs.Thread.{thread_of_word}
-use Rattle.call_stages.specs.stage_look.specs.Shown.{end_of_frames}
 
 -- A good capability names frames of the machine.
 good_names : (s : State) (k : Capability) → ((f : ℕ) → s.limits.frames ≤ f → s.frame f ≡ Untyped) → IsGood s k

@@ -1,46 +1,27 @@
 -- At each moment the words say what the state is; and where all cores are between calls, they represent it with the cores' ends.
+use Rattle.work_invariant.proofs.Common.{◌≡◌, ◌≢◌, ◌⊎◌, inl, inr, ℕ, suc, ◌+◌, ◌<◌, true, false, List, [], ◌∷◌, slice_get, Option, Some}
+use Rattle.work_invariant.proofs.Common.{None, arith, refl, sym, ◌∙◌, ap, subst, IsTrue, cases_lt, false≢true, All-nil, All-cons, All}
+use Rattle.work_invariant.proofs.Common.{Setting, IsSetting, Capability, Translation, Entry, entry_of_word, quality_of_word}
+use Rattle.work_invariant.proofs.Common.{stack_of_word, LiveWord, count_of_word, CountWord, Word, EntryAt, FrameAt, CountAt, CoreAt}
+use Rattle.work_invariant.proofs.Common.{LiveAt, Place, Free, Holds, Quiescing, Blank, Table, Leaf, Pages, Pleaf, Comp, Thread, Tcap}
+use Rattle.work_invariant.proofs.Common.{Frame, Untyped, User, Kernel, Liveness, Unused, Live, Dead, PlaceOf, NumberOf, State, held_in}
+use Rattle.work_invariant.proofs.Common.{counters, holds_node, at_height, Trace, Phase, Out, Open, phase, state_after, last_left, is_in}
+use Rattle.work_invariant.proofs.Common.{stamp, exit_of, sound_of, Core, marked_by, settled_by, settled, PlaceIs, IsFrameWord, SaysCount}
+use Rattle.work_invariant.proofs.Common.{count_room, NumberIs, WordIs, CallIs, WorksIn, holds_in, held_by, times_of, count_shown}
+use Rattle.work_invariant.proofs.Common.{Invariant, limits_of, marker_inside}
 use Rattle.work_invariant.specs.core_invariant.proofs.Bare.{none_value}
-use Rattle.std.proofs.Common.{◌≡◌, ◌≢◌, ◌⊎◌, inl, inr, ℕ, suc, ◌+◌, ◌<◌, true, false, List, [], ◌∷◌}
-use Rattle.std.proofs.Common.{slice_get, Option, Some, None, arith, refl, sym, ◌∙◌, ap, subst, IsTrue}
-use Rattle.std.proofs.lemmas.Bool.{cases_lt, false≢true, true≢false}
-use Rattle.std.proofs.lemmas.List.Elements.{All-nil, All-cons}
-use Rattle.std.specs.Prelude.{All}
-use Rattle.boot_words.specs.spk_nums.specs.Setting.{Setting, IsSetting}
-use Rattle.boot_words.specs.spk_nums.specs.Capability.{Capability}
-use Rattle.boot_words.specs.spk_nums.specs.declared.translations.Translation.{Translation}
+use Rattle.std.proofs.lemmas.Bool.{true≢false}
 use Rattle.boot_words.specs.spk_nums.specs.declared.translations.CoreEnd.{CoreEnd}
-use Rattle.boot_words.specs.entry_words.specs.declared.entry.Entry.{Entry}
-use Rattle.boot_words.specs.entry_words.specs.EntryWord.{entry_of_word}
-use Rattle.boot_words.specs.tcap_words.specs.Quality.{quality_of_word}
-use Rattle.boot_words.specs.tcap_words.specs.Stack.{stack_of_word}
-use Rattle.boot_words.specs.frame_words.specs.declared.live_word.LiveWord.{LiveWord}
-use Rattle.boot_words.specs.frame_words.specs.Count.{count_of_word}
-use Rattle.boot_words.specs.frame_words.specs.declared.count_word.CountWord.{CountWord}
-use Rattle.boot_words.specs.word_map.specs.Word.{Word, EntryAt, FrameAt, CountAt, CoreAt, LiveAt}
-use Rattle.boot_words.specs.kernel_rules.specs.State.{Place, Free, Holds, Quiescing, Blank, Table, Leaf, Pages, Pleaf, Comp, Thread, Tcap}
-use Rattle.boot_words.specs.kernel_rules.specs.State.{Frame, Untyped, User, Kernel, Liveness, Unused, Live, Dead, PlaceOf, NumberOf, State}
-use Rattle.boot_words.specs.kernel_rules.specs.Access.{held_in}
 use Rattle.boot_words.specs.kernel_rules.specs.Relies.{is_node as is_sound_node}
 use Rattle.boot_words.specs.kernel_rules.specs.Start.{start}
-use Rattle.boot_words.specs.kernel_history.specs.Counts.{counters, count_at, IsUnheld, RepresentCounts}
-use Rattle.boot_words.specs.kernel_history.specs.ObjectWords.{holds_node, at_height}
+use Rattle.boot_words.specs.kernel_history.specs.Counts.{count_at, IsUnheld, RepresentCounts}
 use Rattle.boot_words.specs.kernel_history.specs.FinalWords.{SaysPlace, AreFrame, SaysNumber, Represent, end_of as end_in}
 use Rattle.boot_words.specs.kernel_history.specs.Moments.{EntrySays, CoreSays}
-use Rattle.boot_words.specs.kernel_history.specs.Trace.{Trace, Phase, Out, Open, Decided, phase, state_after, last_left}
-use Rattle.boot_words.specs.kernel_history.specs.Stamps.{is_in, stamp, exit_of}
+use Rattle.boot_words.specs.kernel_history.specs.Trace.{Decided}
 use Rattle.boot_words.specs.kernel_history.proofs.Inside.{inside_is}
-use Rattle.work_invariant.specs.trace_laws.proofs.Stays.{sound_of}
-use Rattle.call_stages.specs.View.{Core}
 use Rattle.call_stages.specs.Cores.{end_of}
-use Rattle.boot_words.specs.kernel_history.specs.Marking.{marked_by}
-use Rattle.work_invariant.specs.core_invariant.specs.Holding.{settled_by, settled}
-use Rattle.work_invariant.specs.core_invariant.specs.Words.{PlaceIs, IsFrameWord, SaysCount, count_room, NumberIs, WordIs}
-use Rattle.work_invariant.specs.core_invariant.specs.Knows.{CallIs, WorksIn}
-use Rattle.work_invariant.specs.core_invariant.specs.Invariant.{holds_in, held_by, times_of, count_shown, Invariant}
 use Rattle.flight.specs.Theorems.{SaysWords, AreBetween, Represents, RepresentsCounts}
 use Rattle.work_invariant.specs.kept_facts.proofs.CountSums.{sum_same}
-use Rattle.work_invariant.specs.core_invariant.proofs.Sounds.{limits_of}
-use Rattle.work_invariant.specs.core_invariant.proofs.Markers.{marker_inside}
 use Rattle.work_invariant.specs.step_ways.proofs.Places.{IsMarked, IsUnmarked, place_reads}
 use Rattle.work_invariant.specs.core_invariant.specs.Words.{count_room as count_room_of_words}
 

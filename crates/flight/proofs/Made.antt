@@ -1,11 +1,7 @@
 -- Where the cores are after a trace that is the machine's, they stand for it, and each of its steps is good.
-use Rattle.std.proofs.Common.{◌≡◌, ℕ, [], ◌∷◌, sym, ◌∙◌, ap, subst}
-use Rattle.boot_words.specs.spk_nums.specs.Setting.{Setting, IsSetting}
-use Rattle.boot_words.specs.word_map.specs.Moves.{word_of}
-use Rattle.boot_words.specs.kernel_history.specs.Trace.{Step, Trace, last_left}
+use Rattle.work_invariant.proofs.Common.{◌≡◌, ℕ, [], ◌∷◌, sym, ◌∙◌, ap, subst, Setting, IsSetting, word_of, Step, Trace, last_left}
+use Rattle.work_invariant.proofs.Common.{KeepsTime, Invariant}
 use Rattle.flight.specs.Made.{step_of, core_after, cores_after, stepping_core, IsMadeStep, IsMade}
-use Rattle.boot_words.specs.kernel_history.specs.Graces.{KeepsTime}
-use Rattle.work_invariant.specs.core_invariant.specs.Invariant.{Invariant}
 use Rattle.work_invariant.specs.step_ways.proofs.Good.{IsGood, stands_on}
 use Rattle.work_invariant.specs.step_ways.proofs.Users.{SparesCounted}
 use Rattle.flight.specs.Theorems.{found_by, MadeStands}

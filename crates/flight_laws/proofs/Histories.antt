@@ -1,8 +1,6 @@
 -- All that holds of a machine's history, from the invariant at each of its moments.
-use Rattle.std.proofs.Common.{◌≡◌, [], ◌∷◌, ◌++◌, subst}
-use Rattle.flight.specs.spk_nums.specs.Setting.{Setting, IsSetting}
+use Rattle.flight.proofs.Common.{◌≡◌, [], ◌∷◌, ◌++◌, subst, Setting, IsSetting, Step, Trace}
 use Rattle.flight.specs.kernel_history.specs.Moments.{WordsSayAlong}
-use Rattle.flight.specs.kernel_history.specs.Trace.{Step, Trace}
 use Rattle.flight.specs.Made.{cores_after, IsMade}
 use Rattle.flight.proofs.Final.{says_words}
 use Rattle.flight.proofs.Made.{made_stands}

@@ -1,28 +1,16 @@
 -- A call through a gate that is carried out enters a component that lives.
-use Rattle.std.proofs.Common.{◌≡◌, ◌<◌, ◌&&◌, ℕ, ◌==◌, nat_le, length, not, List, [], ◌∷◌, ◌++◌, Bool}
-use Rattle.std.proofs.Common.{true, false, if◌then◌else◌, Option, Some, None, refl, sym, ◌∙◌, ap, subst}
-use Rattle.std.proofs.lemmas.Bool.{eqb-true, false≢true}
-use Rattle.flight.specs.spk_nums.specs.Capability.{Capability}
-use Rattle.flight.specs.spk_nums.specs.Setting.{Setting, IsSetting}
-use Rattle.flight.specs.spk_nums.specs.declared.calls.Call.{Call}
+use Rattle.flight.proofs.Common.{◌≡◌, ◌<◌, ◌&&◌, ℕ, ◌==◌, nat_le, length, not, List, [], ◌∷◌, ◌++◌, Bool, true, false, if◌then◌else◌}
+use Rattle.flight.proofs.Common.{Option, Some, None, refl, sym, ◌∙◌, ap, subst, eqb-true, false≢true, Capability, Setting, IsSetting}
+use Rattle.flight.proofs.Common.{Call, Value, Liveness, Unused, Live, Dead, State, comp_in, thread_of, Named, found, only, Found, Rule}
+use Rattle.flight.proofs.Common.{Does, When, IsFoundAnd, and_then, first_of, named, outcome, unless, is_live_in, pushes, MayReply, after}
+use Rattle.flight.proofs.Common.{IsRun, events_of, MayDecide, MayFollow, Step, Trace, Open, phase, after_enter, state_before}
+use Rattle.flight.proofs.Common.{state_entered, state_after, state_is, run_of, open_inj, Invariant}
 use Rattle.flight.specs.spk_nums.specs.declared.calls.Call.TheVariants.{Call as call_gate}
 use Rattle.flight.specs.spk_nums.specs.declared.kinds.Kind.TheVariants as kind
 use Rattle.flight.specs.spk_nums.specs.declared.replies.Reply.TheVariants as reply
-use Rattle.flight.specs.spk_nums.specs.declared.replies.Value.{Value}
-use Rattle.flight.specs.kernel_rules.specs.State.{Liveness, Unused, Live, Dead, State, comp_in, thread_of}
-use Rattle.flight.specs.kernel_rules.specs.Access.{Named, found, only}
-use Rattle.flight.specs.kernel_rules.specs.Rules.{Found, Rule, Does, When, IsFoundAnd, RuleAnswers, and_then, first_of, named, outcome}
-use Rattle.flight.specs.kernel_rules.specs.Rules.{unless}
-use Rattle.flight.specs.kernel_rules.specs.InvocationCalls.{call_rule, is_live_in, not_live, pushes}
-use Rattle.flight.specs.kernel_rules.specs.CallRelation.{MayReply}
-use Rattle.flight.specs.kernel_rules.specs.Runs.{after, IsRun}
-use Rattle.flight.specs.kernel_history.specs.Events.{events_of}
-use Rattle.flight.specs.kernel_history.specs.Legal.{MayDecide, MayFollow}
-use Rattle.flight.specs.kernel_history.specs.Trace.{Step, Trace, Open, phase, after_enter, state_before, state_entered, state_after}
-use Rattle.flight.specs.kernel_history.proofs.Events.{state_is, run_of}
-use Rattle.flight.specs.trace_laws.proofs.Opens.{open_inj}
+use Rattle.flight.specs.kernel_rules.specs.Rules.{RuleAnswers}
+use Rattle.flight.specs.kernel_rules.specs.InvocationCalls.{call_rule, not_live}
 use Rattle.flight.specs.state_laws.proofs.Lives.{dead_stays}
-use Rattle.flight.specs.core_invariant.specs.Invariant.{Invariant}
 use Rattle.flight.specs.comp_invariant.proofs.LaterEvents.{Later, later_events}
 use Rattle.flight_laws.specs.Invocations.{GoesThrough, number_through, EntersTheLiving, EntersNoneKilled}
 use Rattle.flight.specs.Made.{IsMade, cores_after}

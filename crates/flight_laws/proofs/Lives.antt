@@ -1,21 +1,12 @@
 -- A liveness number that was killed lives later in higher epochs alone.
-use Rattle.std.proofs.Common.{◌≡◌, ℕ, List, [], ◌∷◌, ◌++◌, Option, Some, None, refl, sym, ◌∙◌, ap, subst}
-use Rattle.flight.specs.spk_nums.specs.Setting.{Setting, IsSetting}
-use Rattle.flight.specs.spk_nums.specs.declared.calls.Call.{Call}
-use Rattle.flight.specs.spk_nums.specs.declared.replies.Reply.{Reply}
-use Rattle.flight.specs.frame_words.specs.Live.{live_of_word}
-use Rattle.flight.specs.word_map.specs.Word.{LiveAt}
-use Rattle.flight.specs.kernel_rules.specs.State.{Live, NumberOf, State}
-use Rattle.flight.specs.kernel_rules.specs.Runs.{Event, Enters, Decides, Returns, after, IsRun}
-use Rattle.flight.specs.kernel_history.specs.Events.{with_entry, with_decision, with_return, events_of}
-use Rattle.flight.specs.kernel_history.specs.Marks.{live_mark}
-use Rattle.flight.specs.kernel_history.specs.Stamps.{stamp}
-use Rattle.flight.specs.kernel_history.specs.Trace.{Trace, Phase, Out, Open, Decided, phase, after_enter, state_after, last_left}
-use Rattle.flight.specs.kernel_history.proofs.Events.{state_is, run_of}
+use Rattle.flight.proofs.Common.{◌≡◌, ℕ, List, [], ◌∷◌, ◌++◌, Option, Some, None, refl, sym, ◌∙◌, ap, subst, Setting, IsSetting, Call}
+use Rattle.flight.proofs.Common.{Reply, live_of_word, LiveAt, Live, NumberOf, State, after, IsRun, events_of, live_mark, stamp, Trace}
+use Rattle.flight.proofs.Common.{Phase, Out, Open, phase, after_enter, state_after, last_left, state_is, run_of, settled_by, NumberIs}
+use Rattle.flight.proofs.Common.{held_by, Invariant}
+use Rattle.flight.specs.kernel_rules.specs.Runs.{Event, Enters, Decides, Returns}
+use Rattle.flight.specs.kernel_history.specs.Events.{with_entry, with_decision, with_return}
+use Rattle.flight.specs.kernel_history.specs.Trace.{Decided}
 use Rattle.flight.specs.state_laws.proofs.Lives.{dead_stays}
-use Rattle.flight.specs.core_invariant.specs.Holding.{settled_by}
-use Rattle.flight.specs.core_invariant.specs.Words.{NumberIs}
-use Rattle.flight.specs.core_invariant.specs.Invariant.{held_by, Invariant}
 use Rattle.flight.specs.comp_invariant.proofs.LaterEvents.{Later, later_events}
 use Rattle.flight.specs.live_invariant.proofs.Numbers.{number_is}
 use Rattle.flight_laws.specs.Lives.{DeadForGood}

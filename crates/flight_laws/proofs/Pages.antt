@@ -1,33 +1,23 @@
 -- What cores have cached stands, as in the sequential kernel, and stays cached till they flush; and what a touch answers is cached.
-use Rattle.std.proofs.Common.{◌≡◌, ◌≢◌, ◌⊎◌, inl, inr, ℕ, ◌≤◌, true, false, List, [], ◌∷◌}
-use Rattle.std.proofs.Common.{◌++◌, length, Option, Some, None, refl, sym, ◌∙◌, ap, subst}
-use Rattle.std.proofs.lemmas.Bool.{false≢true}
+use Rattle.flight.proofs.Common.{◌≡◌, ◌≢◌, ◌⊎◌, inl, inr, ℕ, ◌≤◌, true, false, List, [], ◌∷◌, ◌++◌, length, Option, Some, None, refl, sym}
+use Rattle.flight.proofs.Common.{◌∙◌, ap, subst, false≢true, Setting, IsSetting, Call, Touch, PageFlags, Reply, Translation, User, State}
+use Rattle.flight.proofs.Common.{comp_of, translation_of, state_by, IsRun, put_same, events_of, IsLegal, flushes_in, Step, Trace, Phase}
+use Rattle.flight.proofs.Common.{Out, Open, phase, after_enter, state_after, state_before, state_entered, state_decided, state_returned}
+use Rattle.flight.proofs.Common.{state_is, run_of}
 use Rattle.std.specs.List.{AllByRecursion}
-use Rattle.flight.specs.spk_nums.specs.Setting.{Setting, IsSetting}
-use Rattle.flight.specs.spk_nums.specs.declared.calls.Call.{Call}
-use Rattle.flight.specs.spk_nums.specs.declared.calls.Call.TheVariants.{Touch}
-use Rattle.flight.specs.spk_nums.specs.declared.kinds.PageFlags.{PageFlags}
-use Rattle.flight.specs.spk_nums.specs.declared.replies.Reply.{Reply}
 use Rattle.flight.specs.spk_nums.specs.declared.replies.Reply.TheVariants.{Ok}
 use Rattle.flight.specs.spk_nums.specs.declared.replies.Value.TheVariants.{Page}
-use Rattle.flight.specs.spk_nums.specs.declared.translations.Translation.{Translation}
-use Rattle.flight.specs.kernel_rules.specs.State.{Core, User, State, comp_of}
+use Rattle.flight.specs.kernel_rules.specs.State.{Core}
 use Rattle.flight.specs.kernel_rules.specs.GracePeriods.{returned}
-use Rattle.flight.specs.kernel_rules.specs.MemoryCalls.{translation_of}
-use Rattle.flight.specs.kernel_rules.specs.CallRelation.{state_by}
-use Rattle.flight.specs.kernel_rules.specs.Runs.{MayDecide, IsRun}
+use Rattle.flight.specs.kernel_rules.specs.Runs.{MayDecide}
 use Rattle.flight.specs.kernel_invariant.proofs.Sound.{put_all}
-use Rattle.flight.specs.kernel_rules.proofs.Within.{put_same}
 use Rattle.flight.specs.state_laws.specs.Cached.{Stands, Begins, Answers}
 use Rattle.flight.specs.state_laws.proofs.CachedLaw.{translations_stand}
 use Rattle.flight.specs.state_laws.proofs.Lists.{begins_same, begins_then, decided_keeps}
 use Rattle.flight.specs.state_laws.proofs.Touched.{touches_cache as run_caches}
-use Rattle.flight.specs.kernel_history.specs.Events.{with_decision, events_of}
-use Rattle.flight.specs.kernel_history.specs.Legal.{IsLegal}
-use Rattle.flight.specs.kernel_history.specs.Stamps.{flushes_in}
-use Rattle.flight.specs.kernel_history.specs.Trace.{Step, Trace, Phase, Out, Open, Decided, phase, after_enter, state_after}
-use Rattle.flight.specs.kernel_history.specs.Trace.{state_before, state_entered, state_decided, state_returned}
-use Rattle.flight.specs.kernel_history.proofs.Events.{entered_events, state_is, before_is, run_of, decided_run}
+use Rattle.flight.specs.kernel_history.specs.Events.{with_decision}
+use Rattle.flight.specs.kernel_history.specs.Trace.{Decided}
+use Rattle.flight.specs.kernel_history.proofs.Events.{entered_events, before_is, decided_run}
 use Rattle.flight.specs.Made.{IsMade}
 use Rattle.flight_laws.specs.Pages.{CachedFramesStay, FlushesNone, CachedTillFlush, TouchesCache}
 use Rattle.flight.proofs.Made.{made_stands}

@@ -1,23 +1,9 @@
 -- No thread is the current one of two cores, and what the words of threads show is so.
-use Rattle.std.proofs.Common.{◌≡◌, ◌<◌, ℕ, length, Bool, true, false, Option, Some, None, IsTrue, refl, sym, ◌∙◌, ap, subst}
-use Rattle.flight.specs.spk_nums.specs.Setting.{Setting, IsSetting}
+use Rattle.flight.proofs.Common.{◌≡◌, ◌<◌, ℕ, length, Bool, true, false, Option, Some, None, IsTrue, refl, sym, ◌∙◌, ap, subst, Setting}
+use Rattle.flight.proofs.Common.{IsSetting, thread_of_word, ThreadWord, Idle, Running, Claimed, EntryAt, State, thread_in, fits}
+use Rattle.flight.proofs.Common.{marked_by, thread_mark, Trace, state_after, last_left, Core, holds, Invariant, runs_on_own}
+use Rattle.flight.proofs.Common.{marker_inside, limits_of, state_is, run_of, events_of}
 use Rattle.flight.specs.spk_nums.specs.declared.kinds.Kind.TheVariants as kind
-use Rattle.flight.specs.tcap_words.specs.Thread.{thread_of_word}
-use Rattle.flight.specs.tcap_words.specs.declared.thread_word.ThreadWord.{ThreadWord}
-use Rattle.flight.specs.tcap_words.specs.declared.thread_word.ThreadWord.TheVariants.{Idle, Running, Claimed}
-use Rattle.flight.specs.word_map.specs.Word.{EntryAt}
-use Rattle.flight.specs.kernel_rules.specs.State.{State, thread_in}
-use Rattle.flight.specs.kernel_rules.specs.Fitting.{fits}
-use Rattle.flight.specs.kernel_history.specs.Marking.{marked_by}
-use Rattle.flight.specs.kernel_history.specs.Marks.{thread_mark}
-use Rattle.flight.specs.kernel_history.specs.Trace.{Trace, state_after, last_left}
-use Rattle.flight.specs.call_stages.specs.View.{Core}
-use Rattle.flight.specs.core_invariant.specs.Invariant.{holds, Invariant}
-use Rattle.flight.specs.kept_facts.proofs.Lent.{runs_on_own}
-use Rattle.flight.specs.core_invariant.proofs.Markers.{marker_inside}
-use Rattle.flight.specs.core_invariant.proofs.Sounds.{limits_of}
-use Rattle.flight.specs.kernel_history.proofs.Events.{state_is, run_of}
-use Rattle.flight.specs.kernel_history.specs.Events.{events_of}
 use Rattle.flight.specs.state_laws.proofs.Threads.{threads_run}
 use Rattle.flight.specs.switch_invariant.proofs.ThreadWords.{first_mark, none_some, same_some, same_value}
 use Rattle.flight.specs.switch_invariant.proofs.Words.{ShowsRun, shows}

@@ -1,37 +1,20 @@
 -- The time of a machine is that of the sequential kernel, whose laws hold of each legal trace; and heads say it.
-use Rattle.flight.specs.kept_facts.proofs.Lent.{unlent_head_value}
-use Rattle.std.proofs.Common.{◌≡◌, ℕ, ◌+◌, ◌∷◌, [], ◌&&◌, ◌==◌, Bool, true, false, Option}
-use Rattle.std.proofs.Common.{Some, None, if◌then◌else◌, refl, sym, ◌∙◌, ap, subst}
-use Rattle.flight.specs.spk_nums.specs.Setting.{Setting, IsSetting}
-use Rattle.flight.specs.tcap_words.specs.Head.{head_of_word}
-use Rattle.flight.specs.word_map.specs.Word.{EntryAt}
+use Rattle.flight.proofs.Common.{unlent_head_value, ◌≡◌, ℕ, ◌+◌, ◌∷◌, [], ◌&&◌, ◌==◌, Bool, true, false, Option, Some, None}
+use Rattle.flight.proofs.Common.{if◌then◌else◌, refl, sym, ◌∙◌, ap, subst, Setting, IsSetting, head_of_word, EntryAt, PlaceOf, State}
+use Rattle.flight.proofs.Common.{events_of, IsLegal, MayDecide, stamp, Trace, state_after, last_left, Step, Open, phase, after_enter}
+use Rattle.flight.proofs.Common.{state_before, state_is, run_of, settled_by, settled, held_by, Invariant, HeadIs, IsFrameWord, count_room}
+use Rattle.flight.proofs.Common.{Capability, Call, Test, Value, only, found, Judged, Found, Refused, IsFoundAnd, named, and_then, unless}
+use Rattle.flight.proofs.Common.{first_of, answers, tcap_at, change_of, MayReply, Change}
 use Rattle.flight.specs.kernel_rules.specs.Laws.{ticks}
-use Rattle.flight.specs.kernel_rules.specs.State.{PlaceOf, State}
 use Rattle.flight.specs.kernel_laws.proofs.TicksLaw.{ticks_kept}
 use Rattle.flight.specs.kernel_laws.proofs.Spending.{spending_sums}
-use Rattle.flight.specs.kernel_history.specs.Events.{events_of}
-use Rattle.flight.specs.kernel_history.specs.Legal.{IsLegal, MayDecide}
-use Rattle.flight.specs.kernel_history.specs.Stamps.{stamp}
-use Rattle.flight.specs.kernel_history.specs.Trace.{Trace, state_after, last_left, Step, Open, phase, after_enter, state_before}
-use Rattle.flight.specs.kernel_history.proofs.Events.{state_is, run_of}
-use Rattle.flight.specs.core_invariant.specs.Holding.{settled_by, settled}
-use Rattle.flight.specs.core_invariant.specs.Invariant.{held_by, Invariant}
-use Rattle.flight.specs.core_invariant.specs.Words.{HeadIs, IsFrameWord, count_room}
 use Rattle.flight.specs.Made.{IsMade, cores_after}
 use Rattle.flight_laws.specs.Time.{TimeIsKept, TicksAreCounted, HeadsSay, ListsSay, TellsOf, TestsTell}
 use Rattle.flight.proofs.Made.{made_stands}
 use Rattle.flight.specs.pair_invariant.proofs.ShareSteps.{list_plain}
-use Rattle.flight.specs.spk_nums.specs.Capability.{Capability}
-use Rattle.flight.specs.spk_nums.specs.declared.calls.Call.{Call}
-use Rattle.flight.specs.spk_nums.specs.declared.calls.Call.TheVariants.{Test}
 use Rattle.flight.specs.spk_nums.specs.declared.kinds.Kind.TheVariants as kind
 use Rattle.flight.specs.spk_nums.specs.declared.replies.Reply.TheVariants as reply
-use Rattle.flight.specs.spk_nums.specs.declared.replies.Value.{Value}
-use Rattle.flight.specs.kernel_rules.specs.Access.{only, found}
-use Rattle.flight.specs.kernel_rules.specs.Rules.{Judged, Found, Refused, IsFoundAnd, named, and_then, unless, first_of, answers}
-use Rattle.flight.specs.kernel_rules.specs.TimeCalls.{tcap_at, preemption, preempts}
-use Rattle.flight.specs.kernel_rules.specs.CallRelation.{change_of, MayReply}
-use Rattle.flight.specs.kernel_rules.specs.Rules.{Change}
+use Rattle.flight.specs.kernel_rules.specs.TimeCalls.{preemption, preempts}
 
 legal_of : (setup : Setting) → IsSetting setup → (t : Trace) → IsMade setup t → IsLegal setup t
 legal_of setup setting t made = (made_stands setup setting t made).legal

@@ -14,7 +14,7 @@ use Rattle.kernel_rules.specs.Access.{Slot, Named, Under, place_at, usable_in, u
 use Rattle.kernel_rules.specs.Access.{slot_in, reached, root_slot, root_at, only, own}
 use Rattle.kernel_rules.specs.Rules.{Found, and_then, or_refuse, of_kind, named}
 use Rattle.kernel_rules.specs.Fitting.{fits, IsGood}
-use Rattle.kernel_rules.specs.Runs.{Event, after, core_of, Phase, Out, Open, Decided, is_in, is_open, phase_of, IsRun}
+use Rattle.kernel_rules.specs.Runs.{Event, after, core_of, Phase, Open, is_in, is_open, phase_of, IsRun}
 use Rattle.kernel_rules.specs.Relies.{is_node, is_fixed, IsGuarded, Relies}
 use Rattle.kernel_invariant.proofs.Sound.{IsStack, IsObjectGood, WaitsForAll, IsSound, only_is}
 use Rattle.kernel_invariant.proofs.SoundRemovals.{unnamed, below_by}

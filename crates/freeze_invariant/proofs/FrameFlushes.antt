@@ -1,73 +1,29 @@
 -- The step of a retype to untyped that scans a flush word: it is refused where the core may not have flushed since.
+use Rattle.scan_invariant.proofs.Common.{list_any, ◌≡◌, ◌≢◌, ◌⊎◌, inl, inr, ℕ, ◌+◌, ◌<◌, ◌≤◌, ◌==◌, ◌&&◌, ◌||◌, nat_lt, nat_le, length}
+use Rattle.scan_invariant.proofs.Common.{Bool, true, false, List, [], ◌∷◌, Option, Some, None, IsTrue, arith, refl, sym, ◌∙◌, ap, subst}
+use Rattle.scan_invariant.proofs.Common.{cases_eq, eq-eqb, eqb-true, false≢true, ltb-true, ltb-false, leb-true, leb-false, Setting}
+use Rattle.scan_invariant.proofs.Common.{IsSetting, Call, Reply, core_of_word, flush_of_word, CoreWord, FlushWord, CountWord, FrameWord}
+use Rattle.scan_invariant.proofs.Common.{CoreAt, FlushAt, same_word, Move, LoadOf, State, Thing, FrameOf, is_untyped, same_thing}
+use Rattle.scan_invariant.proofs.Common.{is_translated, lowest, unflushed_by, MayWait, MayBeUnflushed, Refused, rule_of, change_of}
+use Rattle.scan_invariant.proofs.Common.{IsAlone, IsRemoved, IsWaiting, IsUnflushed, frame_value, awaits_flushes, exit_of, flush_of}
+use Rattle.scan_invariant.proofs.Common.{flush_stored, stamp, Step, Trace, Out, Open, phase, state_after, last_left, asked_of, waited_in}
+use Rattle.scan_invariant.proofs.Common.{flushed_in, refused_first, nobody_waits, awaits_are, was_at_once, not_inside, out_passed}
+use Rattle.scan_invariant.proofs.Common.{later_passed, may_wait, own_pages, Quiet, AtCore, AtFlush, next_other, core_scan, flush_scan}
+use Rattle.scan_invariant.proofs.Common.{core_refuses, flush_refuses, scan_end, scan_after, quiet_next, quiet_end, quiet_after}
+use Rattle.scan_invariant.proofs.Common.{latest_stamp, may_be_cached, refusal_of, scan_goes, empty_next, at_after, end_by, swept_of}
+use Rattle.scan_invariant.proofs.Common.{Owned, Sweep, SweepAt, Empty, took_sweep, release_of, UntypingFits, Untyping, Work, Act}
+use Rattle.scan_invariant.proofs.Common.{WorkStep, Goes, Refuses, Undecided, ActiveCall, landed, Core, holds_release, Holding}
+use Rattle.scan_invariant.proofs.Common.{holds_counts, KnowsUndecided, KnowsWork, holds_in, holds_work, Invariant, AreFrozen, IsQuiet}
+use Rattle.scan_invariant.proofs.Common.{IsScanning, KnowsSweep, KnowsSweepScan, names_on, quiet_frame_on, limits_of}
 use Rattle.std.specs.Prelude.{if◌then◌else◌}
-use Rattle.std.specs.List.{list_any}
-use Rattle.std.proofs.Common.{◌≡◌, ◌≢◌, ◌⊎◌, inl, inr, ℕ, ◌+◌, ◌<◌, ◌≤◌, ◌==◌, ◌&&◌, ◌||◌, nat_lt, nat_le, length, Bool}
-use Rattle.std.proofs.Common.{true, false, List, [], ◌∷◌, Option, Some, None, IsTrue, arith, refl, sym, ◌∙◌, ap, subst}
-use Rattle.std.proofs.lemmas.Bool.{cases_eq, eq-eqb, eqb-true, false≢true, ltb-true, ltb-false, leb-true, leb-false}
-use Rattle.scan_invariant.specs.spk_nums.specs.Setting.{Setting, IsSetting}
-use Rattle.scan_invariant.specs.spk_nums.specs.declared.calls.Call.{Call}
-use Rattle.scan_invariant.specs.spk_nums.specs.declared.replies.Reply.{Reply}
 use Rattle.scan_invariant.specs.spk_nums.specs.declared.replies.Reply.TheVariants as reply
-use Rattle.scan_invariant.specs.frame_words.specs.Core.{core_of_word}
-use Rattle.scan_invariant.specs.frame_words.specs.Flush.{flush_of_word}
-use Rattle.scan_invariant.specs.frame_words.specs.declared.core_word.CoreWord.{CoreWord}
-use Rattle.scan_invariant.specs.frame_words.specs.declared.flush_word.FlushWord.{FlushWord}
-use Rattle.scan_invariant.specs.frame_words.specs.declared.count_word.CountWord.{CountWord}
-use Rattle.scan_invariant.specs.frame_words.specs.declared.frame_word.FrameWord.{FrameWord}
-use Rattle.scan_invariant.specs.word_map.specs.Word.{CoreAt, FlushAt, same_word}
-use Rattle.scan_invariant.specs.word_map.specs.Moves.{Move, LoadOf}
-use Rattle.scan_invariant.specs.kernel_rules.specs.State.{State, Thing, FrameOf}
-use Rattle.scan_invariant.specs.kernel_rules.specs.MemoryCalls.{is_untyped}
-use Rattle.scan_invariant.specs.kernel_rules.specs.GracePeriods.{same_thing, is_translated, lowest, unflushed_by, MayWait, MayBeUnflushed}
-use Rattle.scan_invariant.specs.kernel_rules.specs.Rules.{Refused}
-use Rattle.scan_invariant.specs.kernel_rules.specs.CallRelation.{rule_of, change_of}
-use Rattle.scan_invariant.specs.kernel_history.specs.Alone.{IsAlone}
-use Rattle.scan_invariant.specs.kernel_history.specs.Justified.{IsRemoved, IsWaiting, IsUnflushed}
-use Rattle.scan_invariant.specs.kernel_history.specs.ObjectWords.{frame_value}
-use Rattle.scan_invariant.specs.kernel_history.specs.Stamps.{awaits_flushes, exit_of, flush_of, flush_stored, stamp}
-use Rattle.scan_invariant.specs.kernel_history.specs.Trace.{Step, Trace, Out, Open, phase, state_after, last_left}
-use Rattle.scan_invariant.specs.kernel_history.specs.Ways.{asked_of, waited_in, flushed_in}
-use Rattle.scan_invariant.specs.trace_laws.proofs.AloneCalls.{refused_first, nobody_waits}
-use Rattle.scan_invariant.specs.trace_laws.proofs.Awaits.{awaits_are}
-use Rattle.scan_invariant.specs.trace_laws.proofs.Carries.{was_at_once}
-use Rattle.scan_invariant.specs.kernel_history.proofs.Laws.{not_inside}
-use Rattle.scan_invariant.specs.trace_laws.proofs.Waiting.{out_passed, later_passed, may_wait}
-use Rattle.scan_invariant.specs.call_plans.specs.GoesBy.{own_pages}
 use Rattle.scan_invariant.specs.plan_ways.proofs.Ways.{asked_left}
-use Rattle.scan_invariant.specs.stage_quiet.specs.declared.quiet.Quiet.{Quiet}
-use Rattle.scan_invariant.specs.stage_quiet.specs.declared.quiet.Quiet.TheVariants.{AtCore, AtFlush}
-use Rattle.scan_invariant.specs.stage_quiet.specs.Scan.{next_other, core_scan, flush_scan, core_refuses, flush_refuses}
-use Rattle.scan_invariant.specs.stage_quiet.specs.Scan.{scan_end, scan_after, quiet_next, quiet_end, quiet_after}
-use Rattle.scan_invariant.specs.stage_sweep.specs.Counters.{latest_stamp}
-use Rattle.scan_invariant.specs.stage_sweep.specs.Emptiness.{may_be_cached}
-use Rattle.scan_invariant.specs.stage_sweep.specs.Freeze.{refusal_of, scan_goes, empty_next, at_after, end_by, swept_of}
-use Rattle.scan_invariant.specs.stage_sweep.specs.declared.empty.Owned.{Owned}
-use Rattle.scan_invariant.specs.stage_sweep.specs.declared.sweep.Sweep.{Sweep}
-use Rattle.scan_invariant.specs.stage_sweep.specs.declared.sweep.SweepAt.{SweepAt}
-use Rattle.scan_invariant.specs.stage_sweep.specs.declared.sweep.SweepAt.TheVariants.{Scan, Empty}
-use Rattle.scan_invariant.specs.act_states.specs.Acts.{took_sweep}
-use Rattle.scan_invariant.specs.act_states.specs.Untypings.{release_of, UntypingFits}
-use Rattle.scan_invariant.specs.act_states.specs.declared.untypings.Untyping.{Untyping}
+use Rattle.scan_invariant.specs.stage_sweep.specs.declared.sweep.SweepAt.TheVariants.{Scan}
 use Rattle.scan_invariant.specs.act_states.specs.declared.work.Act.TheVariants.{Untype as untype_act}
-use Rattle.scan_invariant.specs.act_states.specs.declared.work.Work.{Work}
-use Rattle.scan_invariant.specs.act_states.specs.declared.work.Work.TheVariants.{Act}
-use Rattle.scan_invariant.specs.act_states.specs.declared.work.WorkStep.{WorkStep}
 use Rattle.scan_invariant.specs.act_states.specs.declared.refusals.Refusal.TheVariants as refusal
 use Rattle.scan_invariant.specs.act_states.specs.declared.work.Tail.TheVariants.{Release as release_tail}
-use Rattle.scan_invariant.specs.act_states.specs.declared.work.WorkStep.TheVariants.{Goes, Refuses}
-use Rattle.scan_invariant.specs.call_stages.specs.declared.stages.Stage.TheVariants.{Undecided}
-use Rattle.scan_invariant.specs.call_stages.specs.declared.stages.ActiveCall.{ActiveCall}
-use Rattle.scan_invariant.specs.call_stages.specs.Steps.{landed}
-use Rattle.scan_invariant.specs.call_stages.specs.View.{Core}
-use Rattle.scan_invariant.specs.core_invariant.specs.Frozen.{holds_release}
-use Rattle.scan_invariant.specs.core_invariant.specs.Holding.{Holding, holds_counts}
-use Rattle.scan_invariant.specs.core_invariant.specs.Knows.{KnowsUndecided, KnowsWork}
-use Rattle.scan_invariant.specs.core_invariant.specs.Invariant.{holds_in, holds_work, Invariant}
-use Rattle.scan_invariant.specs.core_invariant.specs.Sweeps.{AreFrozen, IsQuiet, IsScanning, KnowsSweep, KnowsSweepScan}
-use Rattle.scan_invariant.specs.kept_facts.proofs.Carries.{names_on, quiet_frame_on}
 use Rattle.scan_invariant.specs.step_ways.proofs.Loads.{OnlyLooks, step_to, next_at, inner, loads_on, decides_with}
 use Rattle.scan_invariant.specs.step_ways.proofs.Refusals.{GoodTook}
-use Rattle.scan_invariant.specs.core_invariant.proofs.Sounds.{limits_of}
 use Rattle.scan_invariant.proofs.FlushScans.{flush_is_stored, flush_shown, lowest_is, still_unflushed, unflushed_shown}
 use Rattle.scan_invariant.proofs.Scans.{before_next}
 use Rattle.scan_invariant.specs.place_invariant.proofs.Vacancy.{none_waits}

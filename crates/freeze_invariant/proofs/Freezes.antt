@@ -1,74 +1,39 @@
 -- The compare by which a counter is frozen: it is lost to another core; or the core holds the counter, which stands for what was found.
 -- After the last, references refuse the call, or the scan begins.
-use Rattle.std.specs.Prelude.{if◌then◌else◌, min, All}
-use Rattle.std.proofs.Common.{◌≡◌, ◌≢◌, inl, inr, ℕ, ℤ, pos, negsuc, ◌+ℤ◌, ◌+◌, ◌-◌, ◌^◌, ◌<◌, ◌≤◌, ◌==◌, ◌++◌, map, max, nat_lt, length}
-use Rattle.std.proofs.Common.{Bool, true, false, List, [], ◌∷◌, Option, Some, None, IsTrue, arith, refl, sym, ◌∙◌, ap, subst, lt-ltb}
-use Rattle.std.proofs.lemmas.Bool.{eqb-true, eqb-false, eq-eqb, false≢true}
+use Rattle.scan_invariant.proofs.Common.{min, All, ◌≡◌, ◌≢◌, inl, inr, ℕ, ℤ, pos, negsuc, ◌+ℤ◌, ◌+◌, ◌-◌, ◌^◌, ◌<◌, ◌≤◌, ◌==◌, ◌++◌, map}
+use Rattle.scan_invariant.proofs.Common.{max, nat_lt, length, Bool, true, false, List, [], ◌∷◌, Option, Some, None, IsTrue, arith, refl}
+use Rattle.scan_invariant.proofs.Common.{sym, ◌∙◌, ap, subst, eqb-true, eqb-false, eq-eqb, false≢true, All-nil, All-cons, Setting}
+use Rattle.scan_invariant.proofs.Common.{IsSetting, left_if, Reply, CountFits, word_of_count, count_of_word, CountWord, FrameWord, Word}
+use Rattle.scan_invariant.proofs.Common.{EntryAt, FrameAt, CountAt, ClockAt, FlushAt, same_word, Move, CompareOf, left_of, Shape, State}
+use Rattle.scan_invariant.proofs.Common.{FrameOf, put, refs, RuleMay, rule_of, put_same, counters, count_in, count_sum, count_mark}
+use Rattle.scan_invariant.proofs.Common.{marked_by, frame_value, stamp, Step, Trace, state_after, last_left, refused_first, unheld}
+use Rattle.scan_invariant.proofs.Common.{Acquired, quiet_scan, counters_of, latest_stamp, may_be_cached, at_after, end_by, swept_of}
+use Rattle.scan_invariant.proofs.Common.{thaw_of, Owned, Sweep, SweepAt, Compare, Empty, Swept, Thaw, took_sweep, OwnedBy, UntypingFits}
+use Rattle.scan_invariant.proofs.Common.{release_of, Untyping, Work, Act, WorkStep, Goes, Refuses, Undecided, ActiveCall, landed, Core}
+use Rattle.scan_invariant.proofs.Common.{stamp_in, holds_release, holds_thaw, is_frozen, Holding, holds_counts, settled_by, settled}
+use Rattle.scan_invariant.proofs.Common.{keeps, due_of, KnowsUndecided, holds, holds_in, held_by, count_shown, Invariant, AreFrozen}
+use Rattle.scan_invariant.proofs.Common.{AreKept, IsQuiet, KnowsSweep, UntypesBy, as_none, counts_bare, names_on, counts_on}
+use Rattle.scan_invariant.proofs.Common.{quiet_frame_on, lent_elsewhere, holds_work, KnowsWork}
+use Rattle.std.specs.Prelude.{if◌then◌else◌}
+use Rattle.std.proofs.Common.{lt-ltb}
 use Rattle.std.proofs.lemmas.Int.{ints}
-use Rattle.std.proofs.lemmas.List.Elements.{All-nil, All-cons}
-use Rattle.scan_invariant.specs.spk_nums.specs.Setting.{Setting, IsSetting}
-use Rattle.scan_invariant.specs.spk_nums.specs.WordSteps.{left_if}
-use Rattle.scan_invariant.specs.spk_nums.specs.declared.replies.Reply.{Reply}
 use Rattle.scan_invariant.specs.spk_nums.specs.declared.replies.Reply.TheVariants as reply
-use Rattle.scan_invariant.specs.frame_words.specs.Count.{CountFits, word_of_count, count_of_word}
-use Rattle.scan_invariant.specs.frame_words.specs.declared.count_word.CountWord.{CountWord}
-use Rattle.scan_invariant.specs.frame_words.specs.declared.frame_word.FrameWord.{FrameWord}
 use Rattle.scan_invariant.specs.frame_words.proofs.CountLemmas as counts
-use Rattle.scan_invariant.specs.word_map.specs.Word.{Word, EntryAt, FrameAt, CountAt, ClockAt, FlushAt, same_word}
-use Rattle.scan_invariant.specs.word_map.specs.Moves.{Move, CompareOf, left_of}
-use Rattle.scan_invariant.specs.word_map.specs.Places.{Shape}
-use Rattle.scan_invariant.specs.kernel_rules.specs.State.{State, FrameOf, put}
-use Rattle.scan_invariant.specs.kernel_rules.specs.References.{refs}
-use Rattle.scan_invariant.specs.kernel_rules.specs.Rules.{RuleMay}
-use Rattle.scan_invariant.specs.kernel_rules.specs.CallRelation.{rule_of}
-use Rattle.scan_invariant.specs.kernel_rules.proofs.Within.{put_same}
-use Rattle.scan_invariant.specs.kernel_history.specs.Counts.{counters, count_in, count_sum}
-use Rattle.scan_invariant.specs.kernel_history.specs.Marks.{count_mark}
-use Rattle.scan_invariant.specs.kernel_history.specs.Marking.{marked_by}
-use Rattle.scan_invariant.specs.kernel_history.specs.ObjectWords.{frame_value}
-use Rattle.scan_invariant.specs.kernel_history.specs.Stamps.{stamp}
-use Rattle.scan_invariant.specs.kernel_history.specs.Trace.{Step, Trace, state_after, last_left}
-use Rattle.scan_invariant.specs.trace_laws.proofs.AloneCalls.{refused_first}
-use Rattle.scan_invariant.specs.stage_pins.specs.Counts.{unheld}
-use Rattle.scan_invariant.specs.stage_pins.specs.declared.held.Acquired.{Acquired}
-use Rattle.scan_invariant.specs.stage_quiet.specs.Scan.{quiet_scan}
-use Rattle.scan_invariant.specs.stage_sweep.specs.Counters.{counters_of, sum_of_counts, latest_stamp}
-use Rattle.scan_invariant.specs.stage_sweep.specs.Emptiness.{may_be_cached}
+use Rattle.scan_invariant.specs.stage_sweep.specs.Counters.{sum_of_counts}
 use Rattle.scan_invariant.specs.stage_sweep.specs.Freeze.{frozen, frozen_if, kept_with, compare_refuses, compare_next}
-use Rattle.scan_invariant.specs.stage_sweep.specs.Freeze.{sum_refuses, some_referenced, scan_next, at_after, end_by, swept_of}
-use Rattle.scan_invariant.specs.stage_sweep.specs.Release.{released, thaw_of}
-use Rattle.scan_invariant.specs.stage_sweep.specs.declared.empty.Owned.{Owned}
-use Rattle.scan_invariant.specs.stage_sweep.specs.declared.sweep.Sweep.{Sweep}
-use Rattle.scan_invariant.specs.stage_sweep.specs.declared.sweep.SweepAt.{SweepAt}
-use Rattle.scan_invariant.specs.stage_sweep.specs.declared.sweep.SweepAt.TheVariants.{Load as sweep_load, Compare, Scan, Empty}
-use Rattle.scan_invariant.specs.stage_sweep.specs.declared.sweep.Swept.{Swept}
-use Rattle.scan_invariant.specs.stage_sweep.specs.declared.thaw.Thaw.{Thaw}
+use Rattle.scan_invariant.specs.stage_sweep.specs.Freeze.{sum_refuses, some_referenced, scan_next}
+use Rattle.scan_invariant.specs.stage_sweep.specs.Release.{released}
+use Rattle.scan_invariant.specs.stage_sweep.specs.declared.sweep.SweepAt.TheVariants.{Load as sweep_load, Scan}
 use Rattle.scan_invariant.specs.act_states.specs.declared.refusals.Refusal.TheVariants as refusal
-use Rattle.scan_invariant.specs.act_states.specs.Acts.{took_sweep}
-use Rattle.scan_invariant.specs.act_states.specs.Untypings.{OwnedBy, UntypingFits, SweepsFrame, release_of}
-use Rattle.scan_invariant.specs.act_states.specs.declared.untypings.Untyping.{Untyping}
+use Rattle.scan_invariant.specs.act_states.specs.Untypings.{SweepsFrame}
 use Rattle.scan_invariant.specs.act_states.specs.declared.work.Act.TheVariants.{Untype as untype_act}
 use Rattle.scan_invariant.specs.act_states.specs.declared.work.Tail.TheVariants.{Release as release_tail}
-use Rattle.scan_invariant.specs.act_states.specs.declared.work.Work.{Work}
-use Rattle.scan_invariant.specs.act_states.specs.declared.work.Work.TheVariants.{Act}
-use Rattle.scan_invariant.specs.act_states.specs.declared.work.WorkStep.{WorkStep}
-use Rattle.scan_invariant.specs.act_states.specs.declared.work.WorkStep.TheVariants.{Goes, Refuses}
-use Rattle.scan_invariant.specs.call_stages.specs.declared.stages.Stage.TheVariants.{Undecided}
-use Rattle.scan_invariant.specs.call_stages.specs.declared.stages.ActiveCall.{ActiveCall}
-use Rattle.scan_invariant.specs.call_stages.specs.Steps.{landed}
-use Rattle.scan_invariant.specs.call_stages.specs.View.{Core}
-use Rattle.scan_invariant.specs.core_invariant.specs.CountWords.{stamp_in, newest_of}
-use Rattle.scan_invariant.specs.core_invariant.specs.Frozen.{holds_release, holds_thaw, is_frozen, thawed}
-use Rattle.scan_invariant.specs.core_invariant.specs.Holding.{Holding, holds_counts, settled_by, settled, keeps}
-use Rattle.scan_invariant.specs.core_invariant.specs.Knows.{due_of, KnowsUndecided}
-use Rattle.scan_invariant.specs.core_invariant.specs.Invariant.{holds, holds_in, held_by, count_shown, Invariant}
-use Rattle.scan_invariant.specs.core_invariant.specs.Sweeps.{AreFrozen, AreKept, HasReadCount, IsQuiet, KnowsSweep, UntypesBy}
-use Rattle.scan_invariant.specs.core_invariant.proofs.Bare.{as_none, counts_bare}
-use Rattle.scan_invariant.specs.kept_facts.proofs.Carries.{names_on, counts_on, quiet_frame_on}
+use Rattle.scan_invariant.specs.core_invariant.specs.CountWords.{newest_of}
+use Rattle.scan_invariant.specs.core_invariant.specs.Frozen.{thawed}
+use Rattle.scan_invariant.specs.core_invariant.specs.Sweeps.{HasReadCount}
 use Rattle.scan_invariant.specs.step_ways.proofs.Counting as counting
 use Rattle.scan_invariant.specs.core_invariant.proofs.Freezing.{SameAt, IsFrozenWord, frozen_word, thaw_here}
 use Rattle.scan_invariant.specs.step_ways.proofs.Good.{spares_other}
-use Rattle.scan_invariant.specs.kept_facts.proofs.Lent.{lent_elsewhere}
 use Rattle.scan_invariant.specs.step_ways.proofs.Loads.{IsOfCall, next_at, core_in_call, inner, call_is}
 use Rattle.scan_invariant.specs.step_ways.proofs.Refusals.{GoodTook, ticks_at, raced_leaving}
 use Rattle.freeze_invariant.proofs.Counters.{sweeping, untyping_by, sweep_is, sweep_knows, sweep_held}
@@ -77,8 +42,6 @@ use Rattle.freeze_invariant.proofs.FrameQuiet as quieting
 use Rattle.freeze_invariant.proofs.Refusing as refusing
 use Rattle.freeze_invariant.proofs.UntypeCalls as calls
 use Rattle.freeze_invariant.proofs.UntypeCalls.{untypes_on, typed_is}
-use Rattle.scan_invariant.specs.core_invariant.specs.Invariant.{holds_work}
-use Rattle.scan_invariant.specs.core_invariant.specs.Knows.{KnowsWork}
 use Rattle.scan_invariant.specs.frame_words.specs.Count.{NumberFits}
 use Rattle.scan_invariant.specs.kernel_rules.specs.MemoryCalls.{is_untyped_now}
 use Rattle.scan_invariant.specs.kernel_rules.specs.Rules.{refusal_of}

@@ -16,3 +16,6 @@ pub mod Sums
 pub mod Replies
 pub mod SeveralCores
 pub mod Texts
+pub mod Computed
+pub mod Refused
+pub mod Unjustified

@@ -26,3 +26,5 @@ pub mod Moments
 pub mod Tables
 pub mod Text
 pub mod Laws
+pub mod Scenes
+pub mod Refusals

@@ -1,11 +1,14 @@
 //! What the kernel promises: traces of atomic steps, and when a trace is a legal history of the sequential kernel.
 //!
-//! The definitions stand in this crate's specs. The laws below say of them what a reader would ask of them.
+//! The definitions stand in this crate's specs. The laws below say of them what a reader would ask of them, and the refusals show
+//! that each refuses something: worked traces of two cores that break one of them and keep the others.
 //!
 //! See docs/MODEL.md, 'Traces and legal histories', and docs/PROOF.md, 'What holds of legal traces by the definitions alone'.
 #![tactic(auto)]
 
 ghost use Rattle.kernel_history.specs.Laws.{LegalRuns, EventsDetermine, LegalUpTo, OneCallAtATime, AloneGoesOn, RacedByAnother};
+ghost use Rattle.kernel_history.specs.Refusals.{DisciplineRefuses, FootprintsRefuse, BoundsRefuse};
+ghost use Rattle.kernel_history.specs.Refusals.{JustificationRefuses, WordsRefuse, OrderRefuses};
 
 pub use spk_nums;
 
@@ -47,4 +50,43 @@ pub fn alone_goes_on()
 #[tactic(auto, using(crate::proofs::Races::raced_by_another))]
 pub fn raced_by_another()
     ensures { RacedByAnother }
+{}
+
+/// The discipline refuses: each row of who may step on a word, and who may change it, is broken by a trace that is legal and keeps
+/// its footprints and its bounds.
+#[tactic(auto, using(crate::proofs::Refused::discipline_refuses))]
+pub fn discipline_refuses()
+    ensures { DisciplineRefuses }
+{}
+
+/// The footprints refuse a legal trace that steps on an entry, a frame's word, a count or a liveness number far from its call.
+#[tactic(auto, using(crate::proofs::Refused::footprints_refuse))]
+pub fn footprints_refuse()
+    ensures { FootprintsRefuse }
+{}
+
+/// The bounds refuse a legal trace in which a look makes a sixth step.
+#[tactic(auto, using(crate::proofs::Refused::bounds_refuse))]
+pub fn bounds_refuse()
+    ensures { BoundsRefuse }
+{}
+
+/// A legal trace refuses decisions that the call relation permits, and that no step of their call justifies: an `ok` off its way, a
+/// `busy` by a mark that is not on it, a `raced` for a word that it may not lose, and a `quiescing` for what was not removed.
+#[tactic(auto, using(crate::proofs::Unjustified::justification_refuses))]
+pub fn justification_refuses()
+    ensures { JustificationRefuses }
+{}
+
+/// What the words say refuses legal traces that change a core's word or an entry, and not the state.
+#[tactic(auto, using(crate::proofs::Refused::words_refuse))]
+pub fn words_refuse()
+    ensures { WordsRefuse }
+{}
+
+/// An order refuses a legal trace of its calls that goes otherwise than its item: one step, until ready, until decided, and until
+/// returned.
+#[tactic(auto, using(crate::proofs::Unjustified::order_refuses))]
+pub fn order_refuses()
+    ensures { OrderRefuses }
 {}

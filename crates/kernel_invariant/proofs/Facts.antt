@@ -7,8 +7,8 @@ use Rattle.spk_nums.specs.declared.kinds.Kind.{Kind}
 use Rattle.spk_nums.specs.declared.kinds.Kind.TheVariants as kind
 use Rattle.spk_nums.specs.declared.replies.Reply.{Reply}
 use Rattle.spk_nums.specs.declared.replies.Reply.TheVariants as reply
-use Rattle.kernel_rules.specs.State.{Place, Free, Holds, Quiescing, Frame, Untyped, User, Kernel}
-use Rattle.kernel_rules.specs.State.{Table, Leaf, Pages, Pleaf, Comp, Thread, Tcap, PlaceOf, State}
+use Rattle.kernel_rules.specs.State.{Place, Free, Holds, Quiescing, Frame, Kernel}
+use Rattle.kernel_rules.specs.State.{Leaf, Pleaf, PlaceOf, State}
 use Rattle.kernel_rules.specs.Access.{Slot, found, Target, Under, InRoot, place_at, held_in, usable_in}
 use Rattle.kernel_rules.specs.Access.{usable, linked, slot_in, reached, root_slot, only, own}
 use Rattle.kernel_rules.specs.Rules.{Change, Cause, Rule, Name, Vacant, Held, Mapped, Does, Judged}

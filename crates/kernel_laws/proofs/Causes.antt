@@ -23,7 +23,7 @@ use Rattle.kernel_rules.specs.State.{Object, Blank, Table, Leaf, Pages, Pleaf, C
 use Rattle.kernel_rules.specs.State.{Liveness, Live, Thing, FrameOf, NumberOf, State, comp_in, comp_of, thread_in, tcap_in, thread_of}
 use Rattle.kernel_rules.specs.References.{refs}
 use Rattle.kernel_rules.specs.Access.{Slot, Named, found, Target, Under, InRoot, held_in}
-use Rattle.kernel_rules.specs.Access.{usable, reached, has_no_slot, any, only, root, own}
+use Rattle.kernel_rules.specs.Access.{usable, reached, only, root, own}
 use Rattle.kernel_rules.specs.GracePeriods.{MayWait, MayBeUnflushed}
 use Rattle.kernel_rules.specs.Rules.{Judged, Refused, Found, and_then, or_refuse, of_kind, named, mapped, NameMay, VacantMay}
 use Rattle.kernel_rules.specs.Rules.{HeldMay, MappedMay, WaitedMay, UnflushedMay, CauseMay, OneMay, RuleMay, IsFoundAnd, name_of}

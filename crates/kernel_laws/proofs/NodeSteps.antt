@@ -6,8 +6,8 @@ use Rattle.std.specs.List.{list_any}
 use Rattle.spk_nums.specs.Capability.{Capability}
 use Rattle.spk_nums.specs.declared.kinds.Kind.{Kind}
 use Rattle.spk_nums.specs.declared.kinds.Kind.TheVariants as kind
-use Rattle.kernel_rules.specs.State.{Free, Holds, Quiescing, Blank, Table, Leaf, Pages, Pleaf, Frame, Untyped, User, Kernel}
-use Rattle.kernel_rules.specs.State.{Comp, Thread, Tcap, Thing, PlaceOf, FrameOf, State, put, with_place, with_frame}
+use Rattle.kernel_rules.specs.State.{Free, Holds, Quiescing, Table, Leaf, Pages, Pleaf, Frame, Untyped, Kernel}
+use Rattle.kernel_rules.specs.State.{Comp, Thing, PlaceOf, FrameOf, State, put, with_place, with_frame}
 use Rattle.kernel_rules.specs.Start.{no_grace}
 use Rattle.kernel_rules.specs.References.{named_by, place_names, times}
 use Rattle.kernel_rules.specs.GracePeriods.{same_thing, new_grace, begun}

@@ -1,7 +1,7 @@
 -- In every state that a run reaches, nodes hold what fits them.
 use Rattle.std.proofs.Common.{◌≡◌, ◌≢◌, inl, inr, ℕ, ◌+◌, ◌-◌, ◌<◌, ◌%◌, Bool, true, false, not, ◌&&◌, refl, sym, ◌∙◌, ap}
 use Rattle.std.proofs.Common.{subst, ◌==◌, nat_lt, nat_le, if◌then◌else◌, IsTrue, List, [], ◌∷◌, take, Option, Some, None}
-use Rattle.std.proofs.lemmas.Bool.{cases_eq, false≢true, eq-eqb, ne_eqb, eqb-true}
+use Rattle.std.proofs.lemmas.Bool.{cases_eq, false≢true, eqb-true}
 use Rattle.std.specs.List.{list_any}
 use Rattle.spk_nums.specs.Setting.{Setting, IsSetting}
 use Rattle.spk_nums.specs.Capability.{Capability}
@@ -34,11 +34,11 @@ use Rattle.kernel_rules.specs.MemoryCalls.{is_untyped_now, is_empty, not_retyped
 use Rattle.kernel_rules.specs.InvocationCalls.{kills, with_thread, pops, running, switches, switch_to}
 use Rattle.kernel_rules.specs.TimeCalls.{with_tcap, with_budget, tcap_at, moved}
 use Rattle.kernel_rules.specs.CallRelation.{rule_of, change_of, changed, counted, owed_by, state_by, MayReply}
-use Rattle.kernel_rules.specs.Runs.{Event, Enters, Decides, Returns, after, core_of, is_in, is_open, phase_by, phase_of, IsRun}
+use Rattle.kernel_rules.specs.Runs.{Event, Enters, Decides, Returns, after, is_in, is_open, IsRun}
 use Rattle.kernel_rules.specs.Relies.{is_node}
 use Rattle.kernel_rules.specs.Fitting.{fits, IsGood}
 use Rattle.kernel_rules.proofs.Changes.{IfFound}
-use Rattle.kernel_rules.proofs.Within.{put_same, put_other}
+use Rattle.kernel_rules.proofs.Within.{put_other}
 use Rattle.kernel_rules.proofs.AloneLaw.{waits_inside}
 use Rattle.kernel_invariant.proofs.Sound.{only_is, put_all}
 use Rattle.kernel_invariant.proofs.SoundRemovals.{frames_no_place, not_chosen, unnamed, none_waits}

@@ -10,11 +10,11 @@ use Rattle.spk_nums.specs.declared.calls.Call.TheVariants.{Tick}
 use Rattle.spk_nums.specs.declared.replies.Value.{Value}
 use Rattle.spk_nums.specs.declared.replies.Reply.{Reply}
 use Rattle.spk_nums.specs.declared.replies.Reply.TheVariants as reply
-use Rattle.kernel_rules.specs.State.{Untyped, Comp, Thread, Tcap, Frame, User, Kernel, Core, Limits, State, put, with_core, tcap_in}
+use Rattle.kernel_rules.specs.State.{Comp, Thread, Tcap, Frame, Kernel, Core, Limits, State, put, with_core, tcap_in}
 use Rattle.kernel_rules.specs.Start.{start, granted}
 use Rattle.kernel_rules.specs.References.{sum_below}
 use Rattle.kernel_rules.specs.Rules.{Change, Judged, Refused, Found, IsFoundAnd}
-use Rattle.kernel_rules.specs.CallRelation.{rule_of, change_of, changed, counted, owed_by, state_by, MayReply}
+use Rattle.kernel_rules.specs.CallRelation.{change_of, changed, counted, owed_by, state_by, MayReply}
 use Rattle.kernel_rules.specs.Ranges.{FrameInRange, NumberInRange, budget_at}
 use Rattle.kernel_rules.specs.Runs.{Event, Enters, Decides, Returns, after, is_open, IsRun}
 use Rattle.kernel_rules.specs.Laws.{ticks}
@@ -22,7 +22,6 @@ use Rattle.kernel_rules.proofs.Changes.{IfFound}
 use Rattle.kernel_rules.proofs.Within.{put_same, put_other}
 use Rattle.kernel_rules.proofs.AloneLaw.{decided_stays}
 use Rattle.kernel_invariant.proofs.Sound.{IsSound, put_all}
-use Rattle.kernel_invariant.proofs.Facts.{outcome_from}
 use Rattle.kernel_invariant.proofs.SoundCalls.{IsOpen}
 use Rattle.kernel_invariant.proofs.SoundStart.{choose}
 use Rattle.kernel_invariant.proofs.SoundRuns.{opened, open_is, open_limits, runs_sound}

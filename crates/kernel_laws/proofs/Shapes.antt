@@ -1,5 +1,5 @@
 -- Every decision keeps the lengths, lists, epochs and counts of a state in range.
-use Rattle.std.proofs.Common.{◌≡◌, ◌≢◌, ℕ, ◌+◌, ◌-◌, ◌*◌, ◌<◌, ◌≤◌, Bool, true, false, refl, sym, ◌∙◌, ap, subst, arith, ◌==◌}
+use Rattle.std.proofs.Common.{◌≡◌, ◌≢◌, ℕ, ◌+◌, ◌-◌, ◌*◌, ◌<◌, ◌≤◌, Bool, true, false, refl, sym, ◌∙◌, ap, subst, arith}
 use Rattle.std.proofs.Common.{nat_lt, if◌then◌else◌, IsTrue, List, [], ◌∷◌, ◌++◌, length, length-append, drop, Option, Some, None}
 use Rattle.std.proofs.lemmas.Bool.{false≢true, eqb-true, ltb-true}
 use Rattle.spk_nums.specs.CallLimits.{InLimits}
@@ -8,19 +8,19 @@ use Rattle.spk_nums.specs.declared.kinds.Kind.TheVariants as kind
 use Rattle.spk_nums.specs.declared.calls.Call.{Call}
 use Rattle.spk_nums.specs.declared.calls.Call.TheVariants.{Tick}
 use Rattle.spk_nums.specs.declared.translations.Translation.{Translation}
-use Rattle.kernel_rules.specs.State.{CompFields, ThreadFields, TcapFields, Blank, Comp}
-use Rattle.kernel_rules.specs.State.{Thread, Tcap, Frame, Untyped, User, Kernel, Liveness, Unused, Live, Dead}
+use Rattle.kernel_rules.specs.State.{ThreadFields, TcapFields, Comp}
+use Rattle.kernel_rules.specs.State.{Thread, Tcap, Frame, Untyped, Kernel, Liveness, Unused, Live, Dead}
 use Rattle.kernel_rules.specs.State.{Core, State, put, thread_in, tcap_in, thread_of}
 use Rattle.kernel_rules.specs.Rules.{Change}
 use Rattle.kernel_rules.specs.CapabilityCalls.{epoch_of}
 use Rattle.kernel_rules.specs.MemoryCalls.{caching}
 use Rattle.kernel_rules.specs.InvocationCalls.{is_live_in, with_thread, with_stack, running}
-use Rattle.kernel_rules.specs.TimeCalls.{tcap_at, with_tcap, with_budget, charge, moved}
+use Rattle.kernel_rules.specs.TimeCalls.{tcap_at, with_tcap, with_budget, charge}
 use Rattle.kernel_rules.specs.Ranges.{EpochInRange, CompInRange, ThreadInRange, NumberInRange}
 use Rattle.kernel_rules.specs.Fitting.{fits}
 use Rattle.kernel_rules.specs.Relies.{is_node}
 use Rattle.kernel_rules.proofs.Within.{put_same, put_other}
-use Rattle.kernel_invariant.specs.Edits.{Edit, Fill, Remove, Node, Become, Untype, Component, Deaden, Push, Pop, Switch, Cache, Flush}
+use Rattle.kernel_invariant.specs.Edits.{Edit, Fill, Node, Become, Untype, Component, Deaden, Push, Pop, Switch, Cache, Flush}
 use Rattle.kernel_invariant.specs.Edits.{Charge, Move, Merge, edited, after_edits, charged_by, charged_in, charged_all}
 use Rattle.kernel_invariant.proofs.Sound.{put_all}
 use Rattle.kernel_invariant.proofs.SoundCalls.{IsOpen}

@@ -1,24 +1,21 @@
 -- Every edit keeps the sum of budgets and spent ticks.
-use Rattle.std.proofs.Common.{◌≡◌, ◌≢◌, ℕ, ◌+◌, ◌-◌, ◌<◌, ◌≤◌, min, Bool, true, refl, sym, ◌∙◌, ap, subst, arith, IsTrue}
+use Rattle.std.proofs.Common.{◌≡◌, ◌≢◌, ℕ, ◌+◌, ◌-◌, ◌<◌, ◌≤◌, min, true, refl, sym, ◌∙◌, ap, subst, arith, IsTrue}
 use Rattle.std.proofs.Common.{List, [], ◌∷◌, Some, None}
 use Rattle.std.proofs.lemmas.Bool.{false≢true, eqb-true}
-use Rattle.spk_nums.specs.declared.calls.Call.{Call}
 use Rattle.spk_nums.specs.declared.kinds.Kind.TheVariants as kind
-use Rattle.kernel_rules.specs.State.{TcapFields, ThreadFields, Blank, Comp, Thread, Tcap, Frame, Untyped, User, Kernel}
+use Rattle.kernel_rules.specs.State.{TcapFields, ThreadFields, Blank, Comp, Thread, Tcap, Frame, Untyped, Kernel}
 use Rattle.kernel_rules.specs.State.{Core, State, put, with_frame, with_core, tcap_in}
 use Rattle.kernel_rules.specs.Fitting.{fits}
 use Rattle.kernel_rules.specs.Laws.{ticks}
-use Rattle.kernel_rules.specs.Rules.{Change}
 use Rattle.kernel_rules.specs.MemoryCalls.{is_empty}
 use Rattle.kernel_rules.specs.InvocationCalls.{with_thread, running}
 use Rattle.kernel_rules.specs.TimeCalls.{tcap_at, with_tcap, with_budget, charge, moved}
 use Rattle.kernel_rules.proofs.Within.{put_same, put_other}
 use Rattle.kernel_invariant.proofs.Sums.{sum_same, sum_one}
 use Rattle.kernel_invariant.proofs.Sound.{put_all}
-use Rattle.kernel_invariant.specs.Edits.{Edit, Fill, Remove, Node, Become, Untype, Component, Deaden, Push, Pop, Switch, Cache, Flush}
+use Rattle.kernel_invariant.specs.Edits.{Edit, Node, Become, Untype, Component, Push, Pop, Switch, Cache, Flush}
 use Rattle.kernel_invariant.specs.Edits.{Charge, Move, Merge, edited, after_edits}
-use Rattle.kernel_invariant.proofs.Edited.{is_bare, Known, Each, Edits, HasTcap, Moves}
-use Rattle.kernel_invariant.proofs.SoundCalls.{IsOpen}
+use Rattle.kernel_invariant.proofs.Edited.{is_bare, Known, Each, HasTcap, Moves}
 
 abbrev budget : Frame → ℕ
 budget x = (tcap_in x).budget

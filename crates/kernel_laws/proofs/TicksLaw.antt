@@ -6,18 +6,15 @@ use Rattle.spk_nums.specs.Setting.{Setting, IsSetting}
 use Rattle.spk_nums.specs.declared.grants.Grant.{Grant}
 use Rattle.spk_nums.specs.declared.calls.Call.{Call}
 use Rattle.spk_nums.specs.declared.calls.Call.TheVariants.{Tick}
-use Rattle.spk_nums.specs.declared.replies.Value.{Value}
 use Rattle.spk_nums.specs.declared.replies.Reply.{Reply}
 use Rattle.spk_nums.specs.declared.replies.Reply.TheVariants as reply
 use Rattle.kernel_rules.specs.State.{Frame, State, tcap_in}
 use Rattle.kernel_rules.specs.Start.{start, start_frame, granted}
 use Rattle.kernel_rules.specs.References.{sum_below}
-use Rattle.kernel_rules.specs.Rules.{Change, Judged, Refused, Found, IsFoundAnd}
-use Rattle.kernel_rules.specs.CallRelation.{rule_of, change_of, changed, owed_by, state_by, MayReply}
+use Rattle.kernel_rules.specs.CallRelation.{change_of, changed, owed_by, state_by, MayReply}
 use Rattle.kernel_rules.specs.Runs.{Enters, Decides, Returns, after, is_open}
 use Rattle.kernel_rules.specs.Laws.{ticks}
 use Rattle.kernel_laws.specs.Laws.{grants_sum, TicksKept}
-use Rattle.kernel_rules.proofs.Changes.{IfFound}
 use Rattle.kernel_invariant.proofs.Sums.{sum_same}
 use Rattle.kernel_invariant.proofs.Edited.{after_ok}
 use Rattle.kernel_invariant.proofs.SoundCalls.{IsOpen}

@@ -8,7 +8,7 @@ use Rattle.spk_nums.specs.declared.replies.Reply.TheVariants.{Unflushed, FrameKi
 use Rattle.spk_nums.specs.declared.replies.Reply.TheVariants.{NotEmpty, Dead, Deep, Bottom, Running, Short, Unlike}
 use Rattle.spk_nums.specs.declared.replies.Reply.TheVariants.{TooMany, Same, EpochsSpent, Raced, Busy, Fault, CallsSpent}
 use Rattle.spk_nums.specs.Names.{reply_code, reply_word}
-use Rattle.load_summary.specs.Summaries.{IsCounted}
+use Rattle.load_summary.specs.Laws.{IsCounted}
 
 -- the words of the numbers, from 0 on
 unfoldable the_words : List (List ℕ)

@@ -13,8 +13,8 @@ use Rattle.spk_nums.specs.declared.replies.Decision.{Decision}
 use Rattle.spk_nums.specs.Names.{reply_code, reply_word}
 use Rattle.spk_nums.specs.Texts.{with_one}
 use Rattle.script_printer.specs.Printing.{line}
-use Rattle.load_summary.specs.Summaries.{Count, IsCount, TellsEach, count_of, count_lines, counted, counts_below, counts_text}
-use Rattle.load_summary.specs.Summaries.{how_often, with_number}
+use Rattle.load_summary.specs.Laws.{Count, IsCount, TellsEach, count_of, count_lines, how_often}
+use Rattle.load_summary.specs.Summaries.{counted, counts_below, counts_text, with_number}
 use Rattle.load_summary.proofs.ReplyWords.{counted_once}
 
 same_or_not : (m n : ℕ) → (m ≡ n) ⊎ (m ≡ n → ⊥)
@@ -109,9 +109,12 @@ module _ (ds : List Decision) where
   group_has r [] same some = absurd (omega (arith, some))
   group_has r (d ∷ g) same some =
       let number = eqb-true (reply_code d.reply) (reply_code r)
-          (All-head (λ (x : Decision). eqb (reply_code x.reply) (reply_code r) ≡ true) d g same) in
-      (0, omega arith, ap (λ w. count w (1 + length g)) ((counted_once d.reply).word r number)
-      ∙ ap (λ (k : ℕ). count (reply_word r) k) (omega arith))
+      (All-head (λ (x : Decision). eqb (reply_code x.reply) (reply_code r) ≡ true) d g same) in (
+        0,
+        omega arith,
+        ap (λ w. count w (1 + length g)) ((counted_once d.reply).word r number)
+            ∙ ap (λ (k : ℕ). count (reply_word r) k) (omega arith),
+      )
 
   group_own : (n : ℕ) (g : List Decision) → g ≡ with_number n ds → All (λ (d : Decision). eqb (reply_code d.reply) n ≡ true) g
       → All (IsCount ds) (group g)

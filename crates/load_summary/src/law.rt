@@ -3,7 +3,8 @@
 ghost use Rattle.std.specs.Prelude.{List};
 ghost use Rattle.spk_nums.specs.declared.replies.Decision.{Decision};
 ghost use Rattle.spk_nums.specs.declared.replies.Reply.{Reply};
-ghost use Rattle.load_summary.specs.Summaries.{IsCounted, TellsEach, counts_text};
+ghost use Rattle.load_summary.specs.Laws.{IsCounted, TellsEach};
+ghost use Rattle.load_summary.specs.Summaries.{counts_text};
 
 /// A law: a summary counts each reply once, under the one word that replies of its number have, and no others.
 pub fn counts_once()

@@ -1,105 +1,62 @@
 -- The two steps of a touch: the load of the root entry of its page, which answers a translation that is cached, and the load of the page's
 -- entry.
-use Rattle.std.proofs.Common.{◌≡◌, ◌≢◌, ◌⊎◌, inl, inr, ℕ, ◌+◌, ◌*◌, ◌/◌, ◌%◌, ◌^◌, ◌<◌, ◌≤◌, ◌||◌, ◌++◌}
-use Rattle.std.proofs.Common.{◌==◌, nat_le, nat_lt, Bool, true, false, List, [], ◌∷◌, map, length, Option}
-use Rattle.std.proofs.Common.{Some, None, arith, refl, sym, ◌∙◌, ap, subst, if◌then◌else◌, IsTrue}
-use Rattle.std.specs.Prelude.{IsSome, is_some, option_to_list}
-use Rattle.std.proofs.lemmas.Bool.{false≢true, eq-eqb, le-leb, le-ltb}
-use Rattle.std.proofs.lemmas.List.Elements.{All-nil}
-use Rattle.kernel_laws.specs.spk_nums.specs.Capability.{Capability}
-use Rattle.kernel_laws.specs.spk_nums.specs.Setting.{Setting, IsSetting}
-use Rattle.kernel_laws.specs.spk_nums.specs.declared.calls.Call.{Call}
-use Rattle.kernel_laws.specs.spk_nums.specs.declared.calls.Call.TheVariants.{Touch}
-use Rattle.kernel_laws.specs.spk_nums.specs.declared.kinds.Kind.{Kind}
+use Rattle.count_invariant.proofs.Common.{◌≡◌, ◌≢◌, ◌⊎◌, inl, inr, ℕ, ◌+◌, ◌*◌, ◌/◌, ◌%◌, ◌^◌, ◌<◌, ◌≤◌, ◌||◌, ◌++◌, ◌==◌, nat_le, nat_lt}
+use Rattle.count_invariant.proofs.Common.{Bool, true, false, List, [], ◌∷◌, map, length, Option, Some, None, arith, refl, sym, ◌∙◌, ap}
+use Rattle.count_invariant.proofs.Common.{subst, if◌then◌else◌, IsTrue, IsSome, is_some, option_to_list, false≢true, eq-eqb, le-leb}
+use Rattle.count_invariant.proofs.Common.{le-ltb, All-nil, Capability, Setting, IsSetting, Call, Touch, Kind, Reply, Translation, Entry}
+use Rattle.count_invariant.proofs.Common.{Held, Closing, EntryFits, Word, EntryAt, FrameAt, CountAt, CoreAt, FlushAt, LiveAt, ClockAt}
+use Rattle.count_invariant.proofs.Common.{Move, LoadOf, word_of, told_of, Thing, PlaceOf, FrameOf, NumberOf, State, Holds, put, thread_in}
+use Rattle.count_invariant.proofs.Common.{comp_in, first_of_stack, thread_of, comp_of, Slot, root_at, Target, Under, place_at, usable_in}
+use Rattle.count_invariant.proofs.Common.{usable, linked, slot_in, root_slot, reached, holds_link, held_in, refs, sum_below, Relies, Rule}
+use Rattle.count_invariant.proofs.Common.{Refused, Found, IsFoundAnd, outcome, RuleMay, answers, translation_of, rule_of, change_of}
+use Rattle.count_invariant.proofs.Common.{changed, counted, state_by, begins, ends, flushes, MayReply, opened, core_same_refs, sum_one}
+use Rattle.count_invariant.proofs.Common.{put_same, put_other, events_of, is_one_of, frames_own, frames_near, is_slot_in, HasReached}
+use Rattle.count_invariant.proofs.Common.{IsJustified, marked_by, ends_in, flushes_in, stamp, Step, Trace, Open, phase, state_after}
+use Rattle.count_invariant.proofs.Common.{state_decided_in, last_left, own_left, root_passed, wide_way_to, ways, wide_ways, ok_first}
+use Rattle.count_invariant.proofs.Common.{Carries, state_is, run_of, decided-inside, last_small, sound_of, opened_is, shown_in, look_move}
+use Rattle.count_invariant.proofs.Common.{Look, AtRoot, AtLeaf, AtEntry, Acquired, Own, Nothing, Act, WorkStep, Goes, own_changed, refuse}
+use Rattle.count_invariant.proofs.Common.{own_decided, ActiveCall, Undecided, Decided, HasRoom, landed, Core, holds_counts, settled}
+use Rattle.count_invariant.proofs.Common.{due_of, LooksUp, KnowsUndecided, WorksIn, phase_at, untypes, holds_at, holds_in, holds, held_by}
+use Rattle.count_invariant.proofs.Common.{times_of, counted_in, Invariant, WordIs, count_room, counts_bare, lent_none, lent_kept}
+use Rattle.count_invariant.proofs.Common.{IsUntimed, plain_begins, plain_stamp, plain_flush, plain_exit, names_on, counted_refs}
+use Rattle.count_invariant.proofs.Common.{limits_of, sums_keep, SameFor, marks_own, settled_on, capability_in}
 use Rattle.kernel_laws.specs.spk_nums.specs.declared.kinds.Kind.TheVariants as kind
-use Rattle.kernel_laws.specs.spk_nums.specs.declared.replies.Reply.{Reply}
 use Rattle.kernel_laws.specs.spk_nums.specs.declared.replies.Reply.TheVariants as reply
-use Rattle.kernel_laws.specs.spk_nums.specs.declared.translations.Translation.{Translation}
-use Rattle.count_invariant.specs.entry_words.specs.declared.entry.Entry.{Entry}
-use Rattle.count_invariant.specs.entry_words.specs.declared.entry.Entry.TheVariants.{Free, Held, Closing, Quiescing}
-use Rattle.count_invariant.specs.entry_words.specs.EntryWord.{EntryFits}
-use Rattle.count_invariant.specs.word_map.specs.Word.{Word, EntryAt, FrameAt, CountAt, CoreAt, FlushAt, LiveAt, ClockAt}
-use Rattle.count_invariant.specs.word_map.specs.Moves.{Move, LoadOf, word_of, told_of}
-use Rattle.kernel_laws.specs.kernel_rules.specs.State.{Core as CoreFields, Thing, PlaceOf, FrameOf, NumberOf, State, Holds}
-use Rattle.kernel_laws.specs.kernel_rules.specs.State.{put, with_core, thread_in, comp_in, first_of_stack, thread_of, comp_of}
-use Rattle.kernel_laws.specs.kernel_rules.specs.Access.{Slot, root_at, Target, Under, place_at, usable_in, usable}
-use Rattle.kernel_laws.specs.kernel_rules.specs.Access.{linked, slot_in, root_slot, reached, holds_link, held_in}
-use Rattle.kernel_laws.specs.kernel_rules.specs.References.{refs, sum_below}
-use Rattle.kernel_laws.specs.kernel_rules.specs.Relies.{Relies}
-use Rattle.kernel_laws.specs.kernel_rules.specs.Rules.{Rule, Refused, Found, IsFoundAnd, mapped, outcome, RuleMay, answers}
-use Rattle.kernel_laws.specs.kernel_rules.specs.MemoryCalls.{translation_of, caching, translated, caches, touch_by}
-use Rattle.kernel_laws.specs.kernel_rules.specs.CallRelation.{rule_of, change_of, changed, counted, state_by, begins, ends, flushes}
-use Rattle.kernel_laws.specs.kernel_rules.specs.CallRelation.{MayReply}
+use Rattle.count_invariant.specs.entry_words.specs.declared.entry.Entry.TheVariants.{Free, Quiescing}
+use Rattle.kernel_laws.specs.kernel_rules.specs.State.{Core as CoreFields}
+use Rattle.kernel_laws.specs.kernel_rules.specs.State.{with_core}
+use Rattle.kernel_laws.specs.kernel_rules.specs.Rules.{mapped}
+use Rattle.kernel_laws.specs.kernel_rules.specs.MemoryCalls.{caching, translated, caches, touch_by}
 use Rattle.kernel_laws.specs.kernel_invariant.proofs.SoundCalls.{IsOpen}
-use Rattle.kernel_laws.specs.kernel_invariant.proofs.SoundRuns.{opened}
-use Rattle.kernel_laws.specs.found_stays.proofs.SparesRuns.{core_same_refs}
-use Rattle.kernel_laws.specs.kernel_invariant.proofs.Sums.{sum_one}
-use Rattle.kernel_laws.specs.kernel_rules.proofs.Within.{put_same, put_other}
 use Rattle.kernel_laws.proofs.NodeSteps.{IsFitted}
 use Rattle.kernel_laws.proofs.NodesLaw.{runs_fit, mapped_page}
-use Rattle.count_invariant.specs.kernel_history.specs.Events.{events_of}
-use Rattle.count_invariant.specs.kernel_history.specs.Footprint.{is_one_of, frames_own, frames_near}
-use Rattle.count_invariant.specs.kernel_history.specs.Justified.{is_slot_in, HasReached, IsJustified}
-use Rattle.count_invariant.specs.kernel_history.specs.Marking.{marked_by}
-use Rattle.count_invariant.specs.kernel_history.specs.Stamps.{begins_in, ends_in, flushes_in, stamp}
-use Rattle.count_invariant.specs.kernel_history.specs.Trace.{Step, Trace, Open, phase, state_after, state_decided_in, last_left, own_left}
-use Rattle.count_invariant.specs.kernel_history.specs.Ways.{led_to, root_passed, wide_way_to, ways, wide_ways}
-use Rattle.count_invariant.specs.trace_laws.proofs.AloneCalls.{ok_first}
-use Rattle.count_invariant.specs.trace_laws.proofs.Carries.{Carries}
-use Rattle.count_invariant.specs.kernel_history.proofs.Events.{state_is, run_of}
-use Rattle.count_invariant.specs.kernel_history.proofs.Inside.{decided-inside}
-use Rattle.count_invariant.specs.trace_laws.proofs.Small.{last_small}
-use Rattle.count_invariant.specs.trace_laws.proofs.Stays.{sound_of, opened_is, relies_reached}
+use Rattle.count_invariant.specs.kernel_history.specs.Stamps.{begins_in}
+use Rattle.count_invariant.specs.kernel_history.specs.Ways.{led_to}
+use Rattle.count_invariant.specs.trace_laws.proofs.Stays.{relies_reached}
 use Rattle.count_invariant.specs.kernel_history.proofs.Steps.{own_left-here}
 use Rattle.count_invariant.specs.plan_ways.proofs.Near.{one_left, one_right}
-use Rattle.count_invariant.specs.stage_look.specs.Shown.{entry_within, shown_in, is_link}
-use Rattle.count_invariant.specs.stage_look.specs.Lookup.{look_move, look_end, look_after, root_end, root_after, place_end, end_by_link}
+use Rattle.count_invariant.specs.stage_look.specs.Shown.{entry_within, is_link}
+use Rattle.count_invariant.specs.stage_look.specs.Lookup.{look_end, look_after, root_end, root_after, place_end, end_by_link}
 use Rattle.count_invariant.specs.stage_look.specs.Lookup.{after_link}
-use Rattle.count_invariant.specs.stage_look.specs.declared.look.Look.{Look}
-use Rattle.count_invariant.specs.stage_look.specs.declared.look.Look.TheVariants.{AtRoot, AtLeaf, AtEntry}
-use Rattle.count_invariant.specs.stage_pins.specs.declared.held.Acquired.{Acquired}
-use Rattle.count_invariant.specs.act_states.specs.declared.own.Own.{Own}
 use Rattle.count_invariant.specs.act_states.specs.declared.own.OwnChange.TheVariants.{Caches}
 use Rattle.count_invariant.specs.act_states.specs.declared.refusals.Refusal.TheVariants as refusal
 use Rattle.count_invariant.specs.act_states.specs.declared.touches.Touching.{Touching}
 use Rattle.count_invariant.specs.act_states.specs.declared.work.Act.TheVariants.{Touch as touch_act}
-use Rattle.count_invariant.specs.act_states.specs.declared.work.Tail.TheVariants.{Nothing}
-use Rattle.count_invariant.specs.act_states.specs.declared.work.Work.TheVariants.{Act}
-use Rattle.count_invariant.specs.act_states.specs.declared.work.WorkStep.{WorkStep}
-use Rattle.count_invariant.specs.act_states.specs.declared.work.WorkStep.TheVariants.{Goes, Answers, Changes as work_changes}
-use Rattle.count_invariant.specs.act_states.specs.OwnChanges.{own_changed}
+use Rattle.count_invariant.specs.act_states.specs.declared.work.WorkStep.TheVariants.{Answers, Changes as work_changes}
 use Rattle.count_invariant.specs.act_states.specs.Touches.{mapping_of, meets_page, touch_end, took_touch, is_at_page}
-use Rattle.count_invariant.specs.act_states.specs.WorkSteps.{refuse}
-use Rattle.count_invariant.specs.call_stages.specs.Cores.{own_decided}
-use Rattle.count_invariant.specs.call_stages.specs.declared.stages.ActiveCall.{ActiveCall}
-use Rattle.count_invariant.specs.call_stages.specs.declared.stages.Stage.TheVariants.{Undecided, Decided}
-use Rattle.count_invariant.specs.call_stages.specs.Fits.{HasRoom}
-use Rattle.count_invariant.specs.call_stages.specs.Steps.{landed}
-use Rattle.count_invariant.specs.call_stages.specs.View.{Core}
-use Rattle.count_invariant.specs.core_invariant.specs.Holding.{holds_counts, settled}
-use Rattle.count_invariant.specs.core_invariant.specs.Knows.{due_of, LooksUp, KnowsTouch, KnowsUndecided, WorksIn, phase_at, untypes}
-use Rattle.count_invariant.specs.core_invariant.specs.Invariant.{holds_at, holds_in, holds, held_by, times_of, counted_in, Invariant}
-use Rattle.count_invariant.specs.core_invariant.specs.Words.{WordIs, count_room}
-use Rattle.count_invariant.specs.core_invariant.proofs.Bare.{counts_bare}
-use Rattle.count_invariant.specs.kept_facts.proofs.Lent.{lent_none, lent_kept}
-use Rattle.count_invariant.specs.kept_facts.proofs.Calm.{IsUntimed, plain_begins, plain_stamp, plain_flush, plain_exit}
-use Rattle.count_invariant.specs.kept_facts.proofs.Carries.{names_on}
-use Rattle.count_invariant.specs.kept_facts.proofs.CountSums.{counted_refs}
+use Rattle.count_invariant.specs.core_invariant.specs.Knows.{KnowsTouch}
 use Rattle.count_invariant.specs.step_ways.proofs.Good.{spares_kept}
 use Rattle.count_invariant.specs.step_ways.proofs.Loads.{OnlyLooks, step_to, next_at, inner, call_is, core_is, is_active, loads_on}
 use Rattle.count_invariant.specs.step_ways.proofs.Loads.{decides_on}
 use Rattle.count_invariant.specs.step_ways.proofs.OwnChanges.{decides_changing}
 use Rattle.count_invariant.specs.step_ways.proofs.Places.{IsMarked, IsUnmarked, place_reads}
 use Rattle.count_invariant.specs.step_ways.proofs.Refusals.{GoodTook, NobodyWaits, ticks_at, not_spent, refuses_fault, refuses_busy}
-use Rattle.count_invariant.specs.core_invariant.proofs.Sounds.{limits_of}
-use Rattle.count_invariant.specs.kept_facts.proofs.Sums.{sums_keep}
-use Rattle.count_invariant.specs.kept_facts.proofs.WordFrames.{SameFor, marks_own, settled_on, load_keeps, load_marks, load_words}
+use Rattle.count_invariant.specs.kept_facts.proofs.WordFrames.{load_keeps, load_marks, load_words}
 use Rattle.count_invariant.proofs.Lookups.{Shows, ShowsHeld, shown_of, link_kind, link_none, link_shown, passes, root_slots}
 use Rattle.count_invariant.proofs.Lookups.{slot_left, slot_right, slot_one, near_way, use_removed, leaf_reached}
 use Rattle.page_invariant.proofs.TouchCalls.{told_by, unlinked_may, empty_may, unreached_first}
 use Rattle.page_invariant.proofs.TouchCalls.{empty_first, cached_first, mapped_is, mapped_first}
 use Rattle.count_invariant.specs.act_states.specs.Touches.{touched}
-use Rattle.count_invariant.specs.kernel_history.specs.Ways.{capability_in}
 use Rattle.kernel_laws.specs.kernel_rules.specs.CallRelation.{begins_in as begins_in_of_callrelation}
 use Rattle.kernel_laws.specs.spk_nums.specs.Limits.{end_of_arg}
 

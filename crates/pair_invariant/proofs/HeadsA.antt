@@ -1,51 +1,23 @@
 -- The load of the head of the first of two temporal capabilities, and the loads of its list.
-use Rattle.std.proofs.Common.{◌≡◌, ℕ, suc, ◌+◌, ◌<◌, nat_lt, Bool, true, false, if◌then◌else◌}
-use Rattle.std.proofs.Common.{List, ◌∷◌, Option, Some, None, arith, refl, sym, ◌∙◌, ap, subst}
-use Rattle.std.proofs.lemmas.Bool.{eq-eqb, ltb-false, false≢true}
-use Rattle.quality_lists.specs.spk_nums.specs.Setting.{Setting, IsSetting}
-use Rattle.count_invariant.specs.tcap_words.specs.Head.{head_of_word}
-use Rattle.count_invariant.specs.tcap_words.specs.Quality.{quality_of_word}
-use Rattle.count_invariant.specs.tcap_words.specs.declared.head_word.HeadWord.{HeadWord}
+use Rattle.count_invariant.proofs.Common.{◌≡◌, ℕ, suc, ◌+◌, ◌<◌, nat_lt, Bool, true, false, if◌then◌else◌, List, ◌∷◌, Option, Some, None}
+use Rattle.count_invariant.proofs.Common.{arith, refl, sym, ◌∙◌, ap, subst, eq-eqb, ltb-false, false≢true, Setting, IsSetting}
+use Rattle.count_invariant.proofs.Common.{head_of_word, quality_of_word, HeadWord, spelling, Word, EntryAt, LoadOf, head_mark, marked_by}
+use Rattle.count_invariant.proofs.Common.{holds_node, Step, Trace, state_after, last_left, own_read-here, head_end, head, Pair, PairAt}
+use Rattle.count_invariant.proofs.Common.{LoadA, MarkA, ListA, LoadB, Act, Goes, refuse, took_shared, took_share, Undecided, ActiveCall}
+use Rattle.count_invariant.proofs.Common.{landed, Core, holds_counts, KnowsUndecided, read_up, HasMarkedA, KnowsPairAt, Invariant}
+use Rattle.count_invariant.proofs.Common.{marked_on, holds_share, TcapOf, frames_near, is_one_of}
 use Rattle.count_invariant.specs.tcap_words.specs.declared.quality_word.QualityWord.{QualityWord}
-use Rattle.count_invariant.specs.tcap_words.proofs.HeadLemmas.{spelling}
-use Rattle.count_invariant.specs.word_map.specs.Word.{Word, EntryAt}
-use Rattle.count_invariant.specs.word_map.specs.Moves.{LoadOf}
-use Rattle.count_invariant.specs.kernel_history.specs.Marks.{head_mark}
-use Rattle.count_invariant.specs.kernel_history.specs.Marking.{marked_by}
-use Rattle.count_invariant.specs.kernel_history.specs.ObjectWords.{holds_node}
-use Rattle.count_invariant.specs.kernel_history.specs.Trace.{Step, Trace, state_after, last_left}
-use Rattle.count_invariant.specs.kernel_history.proofs.Steps.{own_read-here}
-use Rattle.count_invariant.specs.stage_tcap.specs.Charging.{end_by_mark, head_end}
-use Rattle.count_invariant.specs.stage_tcap.specs.Heads.{head}
+use Rattle.count_invariant.specs.stage_tcap.specs.Charging.{end_by_mark}
 use Rattle.count_invariant.specs.stage_tcap.specs.Lists.{read_word}
 use Rattle.count_invariant.specs.stage_tcap.specs.Pairs.{at_by_mark, at_by_head, at_read, a_next, noted, list_end}
-use Rattle.count_invariant.specs.stage_tcap.specs.declared.pair.Pair.{Pair}
-use Rattle.count_invariant.specs.stage_tcap.specs.declared.pair.PairAt.{PairAt}
-use Rattle.count_invariant.specs.stage_tcap.specs.declared.pair.PairAt.TheVariants.{LoadA, MarkA, ListA, LoadB}
 use Rattle.count_invariant.specs.act_states.specs.declared.refusals.Refusal.TheVariants as refusal
 use Rattle.count_invariant.specs.act_states.specs.declared.work.Act.TheVariants.{Share as share_act}
-use Rattle.count_invariant.specs.act_states.specs.declared.work.Work.TheVariants.{Act}
-use Rattle.count_invariant.specs.act_states.specs.declared.work.WorkStep.TheVariants.{Goes}
-use Rattle.count_invariant.specs.act_states.specs.WorkSteps.{refuse}
-use Rattle.count_invariant.specs.act_states.specs.Shares.{took_shared, took_share}
-use Rattle.count_invariant.specs.call_stages.specs.declared.stages.Stage.TheVariants.{Undecided}
-use Rattle.count_invariant.specs.call_stages.specs.declared.stages.ActiveCall.{ActiveCall}
-use Rattle.count_invariant.specs.call_stages.specs.Steps.{landed}
-use Rattle.count_invariant.specs.call_stages.specs.View.{Core}
-use Rattle.count_invariant.specs.core_invariant.specs.Holding.{holds_counts}
-use Rattle.count_invariant.specs.core_invariant.specs.Knows.{KnowsUndecided}
-use Rattle.count_invariant.specs.core_invariant.specs.Shares.{list_word, read_up, HasMarkedA, KnowsPairAt}
-use Rattle.count_invariant.specs.core_invariant.specs.Invariant.{Invariant}
+use Rattle.count_invariant.specs.core_invariant.specs.Shares.{list_word}
 use Rattle.count_invariant.specs.step_ways.proofs.Loads.{step_to}
-use Rattle.count_invariant.specs.kept_facts.proofs.Pairs.{marked_on}
 use Rattle.count_invariant.specs.step_ways.proofs.Refusals.{GoodTook, ticks_at, refuses_busy}
 use Rattle.pair_invariant.proofs.ShareCalls as calls
 use Rattle.pair_invariant.proofs.ShareSteps.{mark_is, head_says, a_list, loading, load_goes}
-use Rattle.count_invariant.specs.core_invariant.specs.Invariant.{holds_share}
 use Rattle.count_invariant.specs.kept_facts.proofs.Pairs.{left_same}
-use Rattle.count_invariant.specs.kept_facts.proofs.Tcaps.{TcapOf}
-use Rattle.count_invariant.specs.kernel_history.specs.Footprint.{frames_near}
-use Rattle.count_invariant.specs.kernel_history.specs.Footprint.{is_one_of}
 
 -- The load of head A.
 module _ (setup : Setting) (setting : IsSetting setup) (cores : ℕ → Core) (t : Trace) (stands : Invariant setup cores t) (c : ℕ)

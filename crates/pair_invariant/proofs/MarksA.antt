@@ -1,75 +1,35 @@
 -- The compare that marks the head of the first of two temporal capabilities.
-use Rattle.std.proofs.Common.{◌≡◌, inl, inr, ℕ, ◌+◌, ◌<◌, ◌≤◌, ◌^◌, ◌==◌, ◌&&◌, not, nat_lt, Bool, true}
-use Rattle.std.proofs.Common.{false, if◌then◌else◌, [], ◌∷◌, Some, None, arith, refl, sym, ◌∙◌, ap, subst}
-use Rattle.std.proofs.lemmas.Bool.{eq-eqb, ne_eqb, eqb-true, eqb-false, ltb-true, ltb-false}
-use Rattle.quality_lists.specs.spk_nums.specs.Setting.{Setting, IsSetting}
-use Rattle.quality_lists.specs.spk_nums.specs.WordSteps.{left_if}
-use Rattle.quality_lists.specs.spk_nums.specs.declared.replies.Reply.{Reply}
+use Rattle.count_invariant.proofs.Common.{◌≡◌, inl, inr, ℕ, ◌+◌, ◌<◌, ◌≤◌, ◌^◌, ◌==◌, ◌&&◌, not, nat_lt, Bool, true, false, if◌then◌else◌}
+use Rattle.count_invariant.proofs.Common.{[], ◌∷◌, Some, None, arith, refl, sym, ◌∙◌, ap, subst, eq-eqb, ne_eqb, eqb-true, eqb-false}
+use Rattle.count_invariant.proofs.Common.{ltb-true, ltb-false, Setting, IsSetting, left_if, Reply, HeadFits, word_of_head, head_of_word}
+use Rattle.count_invariant.proofs.Common.{HeadWord, spelling, Word, EntryAt, Move, CompareOf, left_of, same_same, Kernel, Tcap}
+use Rattle.count_invariant.proofs.Common.{TcapFields, State, put, tcap_in, Refused, Does, RuleMay, unless, first_cause, tcap_at, rule_of}
+use Rattle.count_invariant.proofs.Common.{change_of, put_same, changes_in_frame, HasRacedHead, mark_of, head_mark, marked_by, Step, Trace}
+use Rattle.count_invariant.proofs.Common.{state_after, last_left, state_decided_in, refused_first, same_word-other, last_left-here}
+use Rattle.count_invariant.proofs.Common.{was_stays, marked, amount_of, giving_back, Pair, MarkA, ListA, PairWork, Act, refuse}
+use Rattle.count_invariant.proofs.Common.{took_shared, took_share, Undecided, Decided, ActiveCall, landed, went, GoesOn, Core}
+use Rattle.count_invariant.proofs.Common.{holds_counts, settled_by, HeadIs, count_room, KnowsUndecided, list_changed, TurnsHead}
+use Rattle.count_invariant.proofs.Common.{SparesTcap, HasTcap, HasMarkedA, holds_in, holds, held_by, Invariant, as_none, counts_bare}
+use Rattle.count_invariant.proofs.Common.{names_on, counts_on, unlent_head_value, unlent_head_word, lent_free, TcapOf, settled, IsNearIn}
+use Rattle.count_invariant.proofs.Common.{word_of, counted, first_of, are_many, are_unlike}
 use Rattle.quality_lists.specs.spk_nums.specs.declared.replies.Reply.TheVariants as reply
-use Rattle.count_invariant.specs.tcap_words.specs.Head.{HeadFits, word_of_head, head_of_word}
-use Rattle.count_invariant.specs.tcap_words.specs.declared.head_word.HeadWord.{HeadWord}
-use Rattle.count_invariant.specs.tcap_words.proofs.HeadLemmas.{spelling}
-use Rattle.count_invariant.specs.word_map.specs.Word.{Word, EntryAt}
-use Rattle.count_invariant.specs.word_map.specs.Moves.{Move, CompareOf, left_of}
-use Rattle.count_invariant.specs.word_map.proofs.WordLemmas.{same_same}
-use Rattle.kernel_laws.specs.kernel_rules.specs.State.{Kernel, Tcap, TcapFields, State, put, tcap_in}
 use Rattle.kernel_laws.specs.kernel_rules.specs.Access.{found as named_by}
-use Rattle.kernel_laws.specs.kernel_rules.specs.Rules.{Refused, Does, RuleMay, unless, first_cause}
-use Rattle.kernel_laws.specs.kernel_rules.specs.TimeCalls.{tcap_at}
-use Rattle.kernel_laws.specs.kernel_rules.specs.CallRelation.{rule_of, change_of}
-use Rattle.kernel_laws.specs.kernel_rules.proofs.Within.{put_same}
-use Rattle.count_invariant.specs.kernel_history.specs.Discipline.{changes_in_frame}
-use Rattle.count_invariant.specs.kernel_history.specs.Justified.{HasRacedHead}
-use Rattle.count_invariant.specs.kernel_history.specs.Marks.{mark_of, head_mark}
-use Rattle.count_invariant.specs.kernel_history.specs.Marking.{marked_by}
-use Rattle.count_invariant.specs.kernel_history.specs.Trace.{Step, Trace, state_after, last_left, state_decided_in}
-use Rattle.count_invariant.specs.trace_laws.proofs.AloneCalls.{refused_first}
-use Rattle.count_invariant.specs.kernel_history.proofs.Names.{same_word-other}
-use Rattle.count_invariant.specs.kernel_history.proofs.Steps.{last_left-here}
-use Rattle.count_invariant.specs.trace_laws.proofs.Carries.{was_stays}
-use Rattle.count_invariant.specs.stage_tcap.specs.Heads.{marked}
-use Rattle.count_invariant.specs.stage_tcap.specs.Pairs.{amount_of, at_marked, marked_end, giving_back}
-use Rattle.count_invariant.specs.stage_tcap.specs.declared.pair.Pair.{Pair}
-use Rattle.count_invariant.specs.stage_tcap.specs.declared.pair.PairAt.TheVariants.{MarkA, ListA}
-use Rattle.count_invariant.specs.stage_tcap.specs.declared.pair.PairWork.{PairWork}
+use Rattle.count_invariant.specs.stage_tcap.specs.Pairs.{at_marked, marked_end}
 use Rattle.count_invariant.specs.stage_tcap.specs.declared.pair.PairWork.TheVariants.{Transfer, Delegate, Test}
 use Rattle.count_invariant.specs.act_states.specs.declared.refusals.Refusal.TheVariants as refusal
 use Rattle.count_invariant.specs.act_states.specs.declared.work.Act.TheVariants.{Share as share_act}
-use Rattle.count_invariant.specs.act_states.specs.declared.work.Work.TheVariants.{Act}
 use Rattle.count_invariant.specs.act_states.specs.declared.work.Tail.TheVariants.{Share as share_tail}
-use Rattle.count_invariant.specs.act_states.specs.WorkSteps.{refuse}
-use Rattle.count_invariant.specs.act_states.specs.Shares.{took_shared, took_share}
-use Rattle.count_invariant.specs.call_stages.specs.declared.stages.Stage.TheVariants.{Undecided, Decided}
-use Rattle.count_invariant.specs.call_stages.specs.declared.stages.ActiveCall.{ActiveCall}
-use Rattle.count_invariant.specs.call_stages.specs.Steps.{landed, went, GoesOn}
-use Rattle.count_invariant.specs.call_stages.specs.View.{Core}
-use Rattle.count_invariant.specs.core_invariant.specs.Holding.{holds_counts, settled_by}
-use Rattle.count_invariant.specs.core_invariant.specs.Words.{HeadIs, count_room}
-use Rattle.count_invariant.specs.core_invariant.specs.Knows.{KnowsUndecided}
-use Rattle.count_invariant.specs.core_invariant.specs.Shares.{list_changed, TurnsHead, SparesTcap, HasTcap, HasMarkedA}
-use Rattle.count_invariant.specs.core_invariant.specs.Invariant.{holds_in, holds, held_by, Invariant}
-use Rattle.count_invariant.specs.core_invariant.proofs.Bare.{as_none, counts_bare}
-use Rattle.count_invariant.specs.kept_facts.proofs.Carries.{names_on, counts_on}
 use Rattle.count_invariant.specs.step_ways.proofs.Counting as counters
 use Rattle.count_invariant.specs.step_ways.proofs.Good.{Spared, SparesBlanks}
-use Rattle.count_invariant.specs.kept_facts.proofs.Lent.{unlent_head_value, unlent_head_word, lent_free}
 use Rattle.count_invariant.specs.step_ways.proofs.Loads.{IsOfCall, core_in_call, core_is, call_is, inner}
 use Rattle.count_invariant.specs.step_ways.proofs.Refusals.{GoodTook, ticks_at, not_spent, refuses_raced}
-use Rattle.count_invariant.specs.kept_facts.proofs.Tcaps.{TcapOf}
 use Rattle.count_invariant.specs.step_ways.proofs.Writes.{room_left}
 use Rattle.pair_invariant.proofs.Marking.{decides_marking}
 use Rattle.pair_invariant.proofs.ShareCalls as calls
 use Rattle.pair_invariant.proofs.ShareCalls.{causes_of, change_by}
 use Rattle.pair_invariant.proofs.ShareSteps.{mark_is, head_says, now_was, counted_tcap, shares_same}
-use Rattle.count_invariant.specs.core_invariant.specs.Holding.{settled}
 use Rattle.count_invariant.specs.core_invariant.specs.Shares.{turns_list}
-use Rattle.count_invariant.specs.kernel_history.specs.Footprint.{IsNearIn}
 use Rattle.count_invariant.specs.step_ways.proofs.Loads.{next_at}
-use Rattle.count_invariant.specs.word_map.specs.Moves.{word_of}
-use Rattle.kernel_laws.specs.kernel_rules.specs.CallRelation.{counted}
-use Rattle.kernel_laws.specs.kernel_rules.specs.Rules.{first_of}
-use Rattle.kernel_laws.specs.kernel_rules.specs.TimeCalls.{are_many}
-use Rattle.kernel_laws.specs.kernel_rules.specs.TimeCalls.{are_unlike}
 use Rattle.kernel_laws.specs.kernel_rules.specs.TimeCalls.{is_short as is_short_of_timecalls}
 
 -- A step on a word of a temporal capability alone spares the words that others rely on, where it does so of this word.

@@ -1,41 +1,20 @@
 -- A decision by which two temporal capabilities have other budgets, or another list: what else of the state it leaves, and what is said of
 -- the other words then.
-use Rattle.std.proofs.Common.{◌≡◌, ◌≢◌, ◌⊎◌, inl, inr, ℕ, zero, suc, ◌+◌, ◌-◌, ◌*◌, ◌<◌, ◌≤◌, ◌==◌, Bool, true, false}
-use Rattle.std.proofs.Common.{if◌then◌else◌, List, ◌∷◌, length, slice_get, Some, None, IsTrue, arith, refl, sym, ◌∙◌, ap, subst}
-use Rattle.std.proofs.lemmas.Bool.{cases_eq}
-use Rattle.quality_lists.specs.spk_nums.specs.Setting.{Setting, IsSetting}
+use Rattle.count_invariant.proofs.Common.{◌≡◌, ◌≢◌, ◌⊎◌, inl, inr, ℕ, zero, suc, ◌+◌, ◌-◌, ◌*◌, ◌<◌, ◌≤◌, ◌==◌, Bool, true, false}
+use Rattle.count_invariant.proofs.Common.{if◌then◌else◌, List, ◌∷◌, length, slice_get, Some, None, IsTrue, arith, refl, sym, ◌∙◌, ap}
+use Rattle.count_invariant.proofs.Common.{subst, cases_eq, Setting, IsSetting, Word, EntryAt, FrameAt, CountAt, CoreAt, FlushAt, LiveAt}
+use Rattle.count_invariant.proofs.Common.{ClockAt, Move, Frame, Kernel, Tcap, TcapFields, PlaceOf, FrameOf, NumberOf, State, put, tcap_in}
+use Rattle.count_invariant.proofs.Common.{with_frame, thread_in, comp_in, thread_of, comp_of, first_of_stack, sum_below, refs}
+use Rattle.count_invariant.proofs.Common.{frame_names, times, IsGuarded, tcap_at, moved, counted, frame_refs, sum_one, put_same}
+use Rattle.count_invariant.proofs.Common.{put_other, mark_in_frame, frame_value, stamp, Step, Trace, phase, state_after, last_left}
+use Rattle.count_invariant.proofs.Common.{decided-inside, ActiveCall, Core, settled, WorksIn, HasTcap, held_by, times_of, counted_in}
+use Rattle.count_invariant.proofs.Common.{Invariant, IsFrameWord, count_room, IsUntimed, plain_stamp, plain_flush, plain_exit}
+use Rattle.count_invariant.proofs.Common.{counted_refs, limits_of, SameFor, ReadsAlike, StaysSaid, word_stays, fits}
 use Rattle.quality_lists.specs.spk_nums.specs.declared.replies.Reply.TheVariants as reply
 use Rattle.quality_lists.specs.spk_nums.specs.declared.replies.Value.TheVariants as value
-use Rattle.count_invariant.specs.word_map.specs.Word.{Word, EntryAt, FrameAt, CountAt, CoreAt, FlushAt, LiveAt, ClockAt}
-use Rattle.count_invariant.specs.word_map.specs.Moves.{Move}
-use Rattle.kernel_laws.specs.kernel_rules.specs.State.{Core as CoreFields, Frame, Kernel, Tcap, TcapFields, PlaceOf, FrameOf, NumberOf}
-use Rattle.kernel_laws.specs.kernel_rules.specs.State.{State}
-use Rattle.kernel_laws.specs.kernel_rules.specs.State.{put, tcap_in, with_frame, thread_in, comp_in, thread_of, comp_of, first_of_stack}
-use Rattle.kernel_laws.specs.kernel_rules.specs.References.{sum_below, refs, frame_names, times}
-use Rattle.kernel_laws.specs.kernel_rules.specs.Relies.{IsGuarded}
-use Rattle.kernel_laws.specs.kernel_rules.specs.TimeCalls.{tcap_at, with_tcap, with_budget, with_qualities, moved}
-use Rattle.kernel_laws.specs.kernel_rules.specs.CallRelation.{counted}
-use Rattle.kernel_laws.specs.kernel_invariant.proofs.Refs.{frame_refs}
-use Rattle.kernel_laws.specs.kernel_invariant.proofs.Sums.{sum_one}
-use Rattle.kernel_laws.specs.kernel_rules.proofs.Within.{put_same, put_other}
-use Rattle.count_invariant.specs.kernel_history.specs.Marks.{mark_in_frame}
-use Rattle.count_invariant.specs.kernel_history.specs.ObjectWords.{frame_value}
-use Rattle.count_invariant.specs.kernel_history.specs.Stamps.{stamp}
-use Rattle.count_invariant.specs.kernel_history.specs.Trace.{Step, Trace, phase, state_after, last_left}
-use Rattle.count_invariant.specs.kernel_history.proofs.Inside.{decided-inside}
-use Rattle.count_invariant.specs.call_stages.specs.declared.stages.ActiveCall.{ActiveCall}
-use Rattle.count_invariant.specs.call_stages.specs.View.{Core}
-use Rattle.count_invariant.specs.core_invariant.specs.Holding.{settled}
-use Rattle.count_invariant.specs.core_invariant.specs.Knows.{WorksIn}
-use Rattle.count_invariant.specs.core_invariant.specs.Shares.{HasTcap}
-use Rattle.count_invariant.specs.core_invariant.specs.Invariant.{held_by, times_of, counted_in, Invariant}
-use Rattle.count_invariant.specs.core_invariant.specs.Words.{IsFrameWord, count_room}
-use Rattle.count_invariant.specs.kept_facts.proofs.Calm.{IsUntimed, plain_stamp, plain_flush, plain_exit}
-use Rattle.count_invariant.specs.kept_facts.proofs.CountSums.{counted_refs}
+use Rattle.kernel_laws.specs.kernel_rules.specs.State.{Core as CoreFields}
+use Rattle.kernel_laws.specs.kernel_rules.specs.TimeCalls.{with_tcap, with_budget, with_qualities}
 use Rattle.count_invariant.specs.step_ways.proofs.Loads.{inner}
-use Rattle.count_invariant.specs.core_invariant.proofs.Sounds.{limits_of}
-use Rattle.count_invariant.specs.kept_facts.proofs.WordFrames.{SameFor, ReadsAlike, StaysSaid, word_stays}
-use Rattle.kernel_laws.specs.kernel_rules.specs.Fitting.{fits}
 use Rattle.quality_lists.specs.spk_nums.specs.declared.kinds.Kind.TheVariants.{Tcap as KindTcap}
 
 -- A frame is the first, the second, or another.

@@ -1,61 +1,26 @@
 -- A call on two temporal capabilities begins where its names have led to them.
-use Rattle.std.proofs.Common.{◌≡◌, inl, ℕ, ◌<◌, ◌==◌, map, Bool, true, false, if◌then◌else◌}
-use Rattle.std.proofs.Common.{List, [], ◌∷◌, Some, None, refl, sym, ◌∙◌, ap, subst}
-use Rattle.std.proofs.lemmas.Bool.{eqb-false}
-use Rattle.quality_lists.specs.spk_nums.specs.Capability.{Capability}
-use Rattle.quality_lists.specs.spk_nums.specs.Setting.{Setting, IsSetting}
-use Rattle.quality_lists.specs.spk_nums.specs.declared.kinds.Kind.{Kind}
+use Rattle.count_invariant.proofs.Common.{◌≡◌, inl, ℕ, ◌<◌, ◌==◌, map, Bool, true, false, if◌then◌else◌, List, [], ◌∷◌, Some, None, refl}
+use Rattle.count_invariant.proofs.Common.{sym, ◌∙◌, ap, subst, eqb-false, Capability, Setting, IsSetting, Kind, Call, Transfer, Delegate}
+use Rattle.count_invariant.proofs.Common.{Test, Move, word_of, State, only, named_by, Found, Refused, Does, RuleMay, named, outcome}
+use Rattle.count_invariant.proofs.Common.{unless, first_of, first_cause, rule_of, change_of, named_fit, only_is, opened, name_parts}
+use Rattle.count_invariant.proofs.Common.{events_of, IsLegal, Step, Trace, Open, phase, state_after, last_left, refused_first, Carries}
+use Rattle.count_invariant.proofs.Common.{sound_of, opened_is, guarded_usable, Name, Plan, rule_after, Leads, LeadsIn, names_after}
+use Rattle.count_invariant.proofs.Common.{GoesBy, own_pages, plan_for, of_kind, outcome_left, left_may, Acquired, Pair, PairWork, Act}
+use Rattle.count_invariant.proofs.Common.{act_begun, Undecided, ActiveCall, landed, found_more, Core, holds_counts, due_of, NamesAre}
+use Rattle.count_invariant.proofs.Common.{phase_at, HasTcap, SharesBy, holds_in, Invariant, are_calls_spent, are_many, are_unlike}
+use Rattle.count_invariant.proofs.Common.{is_short}
 use Rattle.quality_lists.specs.spk_nums.specs.declared.kinds.Kind.TheVariants as kind
-use Rattle.quality_lists.specs.spk_nums.specs.declared.calls.Call.{Call}
-use Rattle.quality_lists.specs.spk_nums.specs.declared.calls.Call.TheVariants.{Transfer, Delegate, Test}
 use Rattle.quality_lists.specs.spk_nums.specs.declared.replies.Reply.TheVariants as reply
-use Rattle.count_invariant.specs.word_map.specs.Moves.{Move, word_of}
-use Rattle.kernel_laws.specs.kernel_rules.specs.State.{State}
-use Rattle.kernel_laws.specs.kernel_rules.specs.Access.{only, found as named_by_found}
-use Rattle.kernel_laws.specs.kernel_rules.specs.References.{named_by}
-use Rattle.kernel_laws.specs.kernel_rules.specs.Rules.{Found, Refused, Does, RuleMay, named, of_kind as has_kind, outcome, unless}
-use Rattle.kernel_laws.specs.kernel_rules.specs.Rules.{first_of, first_cause}
+use Rattle.kernel_laws.specs.kernel_rules.specs.Access.{found as named_by_found}
+use Rattle.kernel_laws.specs.kernel_rules.specs.Rules.{of_kind as has_kind}
 use Rattle.kernel_laws.specs.kernel_rules.specs.TimeCalls.{are_same}
-use Rattle.kernel_laws.specs.kernel_rules.specs.CallRelation.{rule_of, change_of}
-use Rattle.kernel_laws.specs.kernel_invariant.proofs.Facts.{named_fit}
-use Rattle.kernel_laws.specs.kernel_invariant.proofs.Sound.{only_is}
-use Rattle.kernel_laws.specs.kernel_invariant.proofs.SoundRuns.{opened}
-use Rattle.kernel_laws.specs.found_stays.proofs.Stays.{name_parts}
-use Rattle.count_invariant.specs.kernel_history.specs.Events.{events_of}
-use Rattle.count_invariant.specs.kernel_history.specs.Legal.{IsLegal}
-use Rattle.count_invariant.specs.kernel_history.specs.Trace.{Step, Trace, Open, phase, state_after, last_left}
-use Rattle.count_invariant.specs.trace_laws.proofs.AloneCalls.{refused_first}
-use Rattle.count_invariant.specs.trace_laws.proofs.Carries.{Carries}
-use Rattle.count_invariant.specs.trace_laws.proofs.Stays.{sound_of, opened_is, guarded_usable}
-use Rattle.count_invariant.specs.call_plans.specs.declared.plans.Name.{Name}
-use Rattle.count_invariant.specs.call_plans.specs.declared.plans.Plan.{Plan}
-use Rattle.count_invariant.specs.call_plans.specs.After.{rule_after, Leads, LeadsIn, names_after}
-use Rattle.count_invariant.specs.call_plans.specs.GoesBy.{GoesBy, own_pages}
-use Rattle.count_invariant.specs.call_plans.specs.PlanOf.{plan_for, of_kind}
-use Rattle.count_invariant.specs.call_plans.proofs.AfterNames.{outcome_left, left_may}
-use Rattle.count_invariant.specs.stage_pins.specs.declared.held.Acquired.{Acquired}
-use Rattle.count_invariant.specs.stage_tcap.specs.declared.pair.Pair.{Pair}
-use Rattle.count_invariant.specs.stage_tcap.specs.declared.pair.PairWork.{PairWork}
 use Rattle.count_invariant.specs.stage_tcap.specs.declared.pair.PairWork.TheVariants as share
 use Rattle.count_invariant.specs.act_states.specs.declared.work.Act.TheVariants.{Share as share_act}
-use Rattle.count_invariant.specs.act_states.specs.declared.work.Work.TheVariants.{Act}
-use Rattle.count_invariant.specs.act_states.specs.Acts.{act_begun}
 use Rattle.count_invariant.specs.act_states.specs.Shares.{sharing, shares_if}
-use Rattle.count_invariant.specs.call_stages.specs.declared.stages.Stage.TheVariants.{Undecided}
-use Rattle.count_invariant.specs.call_stages.specs.declared.stages.ActiveCall.{ActiveCall}
-use Rattle.count_invariant.specs.call_stages.specs.Steps.{landed, found_more}
-use Rattle.count_invariant.specs.call_stages.specs.View.{Core}
-use Rattle.count_invariant.specs.core_invariant.specs.Holding.{holds_counts}
-use Rattle.count_invariant.specs.core_invariant.specs.Knows.{due_of, NamesAre, phase_at}
-use Rattle.count_invariant.specs.core_invariant.specs.Shares.{HasTcap, IsShared, SharesBy}
-use Rattle.count_invariant.specs.core_invariant.specs.Invariant.{holds_in, Invariant}
+use Rattle.count_invariant.specs.core_invariant.specs.Shares.{IsShared}
 use Rattle.count_invariant.specs.step_ways.proofs.Loads.{OnlyLooks, step_to, call_is, core_is, is_active, loads_on, decides_on}
 use Rattle.count_invariant.specs.step_ways.proofs.Refusals.{GoodTook, not_spent}
 use Rattle.pair_invariant.proofs.ShareCalls.{causes_of, change_by}
-use Rattle.kernel_laws.specs.kernel_rules.specs.CallRelation.{are_calls_spent}
-use Rattle.kernel_laws.specs.kernel_rules.specs.TimeCalls.{are_many}
-use Rattle.kernel_laws.specs.kernel_rules.specs.TimeCalls.{are_unlike}
-use Rattle.kernel_laws.specs.kernel_rules.specs.TimeCalls.{is_short}
 
 -- What a name leads to is of a wanted kind, and is what was found.
 same_found : (wanted : Kind → Bool) (j k : Capability) → has_kind wanted j ≡ Found k → (j ≡ k) × (wanted k.kind ≡ true)

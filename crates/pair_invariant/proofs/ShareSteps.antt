@@ -1,66 +1,28 @@
 -- What the words of two temporal capabilities say, and the ways in which a call on them goes on by a load, or is decided by one.
-use Rattle.std.proofs.Common.{◌≡◌, inl, inr, ℕ, suc, ◌+◌, ◌<◌, ◌≤◌, ◌^◌, Bool, true, false, if◌then◌else◌, List}
-use Rattle.std.proofs.Common.{[], ◌∷◌, Some, None, IsTrue, map, slice_get, arith, refl, sym, ◌∙◌, ap, subst}
-use Rattle.std.proofs.lemmas.Bool.{ne_eqb}
-use Rattle.quality_lists.specs.spk_nums.specs.Setting.{Setting, IsSetting}
-use Rattle.quality_lists.specs.spk_nums.specs.Capability.{Capability}
-use Rattle.quality_lists.specs.spk_nums.specs.declared.calls.Call.{Call}
+use Rattle.count_invariant.proofs.Common.{◌≡◌, inl, inr, ℕ, suc, ◌+◌, ◌<◌, ◌≤◌, ◌^◌, Bool, true, false, if◌then◌else◌, List, [], ◌∷◌}
+use Rattle.count_invariant.proofs.Common.{Some, None, IsTrue, map, slice_get, arith, refl, sym, ◌∙◌, ap, subst, ne_eqb, Setting}
+use Rattle.count_invariant.proofs.Common.{IsSetting, Capability, Call, Reply, Value, HeadFits, word_of_head, head_of_word}
+use Rattle.count_invariant.proofs.Common.{quality_of_word, HeadWord, spelling, Word, EntryAt, Move, LoadOf, word_of, left_of, same_same}
+use Rattle.count_invariant.proofs.Common.{Kernel, Tcap, TcapFields, PlaceOf, Thing, State, IsGuarded, state_by, begins, ends, flushes}
+use Rattle.count_invariant.proofs.Common.{counted, MayReply, calls_counted, alone, IsAlone, IsNearIn, is_one_of, frames_near, IsJustified}
+use Rattle.count_invariant.proofs.Common.{mark_of, mark_in_frame, head_mark, marked_by, stamp, Step, Trace, Open, phase, state_after}
+use Rattle.count_invariant.proofs.Common.{last_left, state_decided_in, WasAt, was_stays, marked, Pair, StoreA, PairWork, Acquired, Act}
+use Rattle.count_invariant.proofs.Common.{Goes, Undecided, Decided, ActiveCall, landed, Core, holds_counts, settled_by, settled, HeadIs}
+use Rattle.count_invariant.proofs.Common.{IsFrameWord, count_room, due_of, KnowsUndecided, phase_at, HasTcap, HasMarkedA, SharesBy}
+use Rattle.count_invariant.proofs.Common.{KnowsPairAt, StoresA, KnowsShared, holds_share, holds_at, holds_in, holds, held_by, Invariant}
+use Rattle.count_invariant.proofs.Common.{names_on, counted_refs, unlent_head_value, marked_on, done_by, holds_head, holds_shared}
+use Rattle.count_invariant.proofs.Common.{KnowsStoresAt, list_changed}
 use Rattle.quality_lists.specs.spk_nums.specs.declared.calls.Call.TheVariants as call_as
-use Rattle.quality_lists.specs.spk_nums.specs.declared.replies.Reply.{Reply}
-use Rattle.quality_lists.specs.spk_nums.specs.declared.replies.Value.{Value}
-use Rattle.count_invariant.specs.tcap_words.specs.Head.{HeadFits, word_of_head, head_of_word}
-use Rattle.count_invariant.specs.tcap_words.specs.Quality.{quality_of_word}
-use Rattle.count_invariant.specs.tcap_words.specs.declared.head_word.HeadWord.{HeadWord}
-use Rattle.count_invariant.specs.tcap_words.proofs.HeadLemmas.{spelling}
-use Rattle.count_invariant.specs.word_map.specs.Word.{Word, EntryAt}
-use Rattle.count_invariant.specs.word_map.specs.Moves.{Move, LoadOf, word_of, left_of}
-use Rattle.count_invariant.specs.word_map.proofs.WordLemmas.{same_same}
-use Rattle.kernel_laws.specs.kernel_rules.specs.State.{Kernel, Tcap, TcapFields, PlaceOf, Thing, State}
-use Rattle.kernel_laws.specs.kernel_rules.specs.Relies.{IsGuarded}
-use Rattle.kernel_laws.specs.kernel_rules.specs.CallRelation.{state_by, begins, ends, flushes, counted, MayReply}
-use Rattle.kernel_laws.specs.kernel_rules.specs.Laws.{calls_counted}
-use Rattle.kernel_laws.specs.kernel_rules.specs.Alone.{alone}
-use Rattle.count_invariant.specs.kernel_history.specs.Alone.{IsAlone}
-use Rattle.count_invariant.specs.kernel_history.specs.Footprint.{IsNearIn, is_one_of, frames_near}
-use Rattle.count_invariant.specs.kernel_history.specs.Justified.{IsJustified}
-use Rattle.count_invariant.specs.kernel_history.specs.Marks.{mark_of, mark_in_frame, head_mark}
-use Rattle.count_invariant.specs.kernel_history.specs.Marking.{marked_by}
-use Rattle.count_invariant.specs.kernel_history.specs.Stamps.{stamp}
-use Rattle.count_invariant.specs.kernel_history.specs.Trace.{Step, Trace, Open, phase, state_after, last_left, state_decided_in, WasAt}
-use Rattle.count_invariant.specs.trace_laws.proofs.Carries.{was_stays}
-use Rattle.count_invariant.specs.stage_tcap.specs.Heads.{marked}
-use Rattle.count_invariant.specs.stage_tcap.specs.declared.pair.Pair.{Pair}
-use Rattle.count_invariant.specs.stage_tcap.specs.declared.pair.PairAt.TheVariants.{StoreA}
-use Rattle.count_invariant.specs.stage_tcap.specs.declared.pair.PairWork.{PairWork}
 use Rattle.count_invariant.specs.stage_tcap.specs.declared.pair.PairWork.TheVariants as share
-use Rattle.count_invariant.specs.stage_pins.specs.declared.held.Acquired.{Acquired}
 use Rattle.count_invariant.specs.act_states.specs.declared.work.Act.TheVariants.{Share as share_act}
-use Rattle.count_invariant.specs.act_states.specs.declared.work.Work.TheVariants.{Act}
 use Rattle.count_invariant.specs.act_states.specs.declared.work.Tail.TheVariants.{Share as share_tail}
-use Rattle.count_invariant.specs.act_states.specs.declared.work.WorkStep.TheVariants.{Goes}
-use Rattle.count_invariant.specs.call_stages.specs.declared.stages.Stage.TheVariants.{Undecided, Decided}
-use Rattle.count_invariant.specs.call_stages.specs.declared.stages.ActiveCall.{ActiveCall}
-use Rattle.count_invariant.specs.call_stages.specs.Steps.{landed}
-use Rattle.count_invariant.specs.call_stages.specs.View.{Core}
-use Rattle.count_invariant.specs.core_invariant.specs.Holding.{holds_counts, settled_by, settled}
-use Rattle.count_invariant.specs.core_invariant.specs.Words.{HeadIs, IsFrameWord, count_room}
-use Rattle.count_invariant.specs.core_invariant.specs.Knows.{due_of, KnowsUndecided, phase_at}
-use Rattle.count_invariant.specs.core_invariant.specs.Shares.{HasTcap, HasMarkedA, IsShared, SharesBy, KnowsPairAt, StoresA, KnowsShared}
-use Rattle.count_invariant.specs.core_invariant.specs.Invariant.{holds_share, holds_at, holds_in, holds, held_by, Invariant}
-use Rattle.count_invariant.specs.kept_facts.proofs.Carries.{names_on}
-use Rattle.count_invariant.specs.kept_facts.proofs.CountSums.{counted_refs}
+use Rattle.count_invariant.specs.core_invariant.specs.Shares.{IsShared}
 use Rattle.count_invariant.specs.core_invariant.proofs.ActBares.{open_bare}
-use Rattle.count_invariant.specs.kept_facts.proofs.Lent.{unlent_head_value, unlent_list_value}
+use Rattle.count_invariant.specs.kept_facts.proofs.Lent.{unlent_list_value}
 use Rattle.count_invariant.specs.step_ways.proofs.Loads.{OnlyLooks, Lands, step_to, next_at, core_in_call, inner, loads_on, decides_with}
-use Rattle.count_invariant.specs.kept_facts.proofs.Pairs.{marked_on}
 use Rattle.count_invariant.specs.step_ways.proofs.Refusals.{GoodTook}
 use Rattle.count_invariant.specs.step_ways.proofs.Writes.{room_left}
 use Rattle.pair_invariant.proofs.ShareCalls as calls
-use Rattle.count_invariant.specs.core_invariant.specs.Invariant.{done_by}
-use Rattle.count_invariant.specs.core_invariant.specs.Invariant.{holds_head}
-use Rattle.count_invariant.specs.core_invariant.specs.Invariant.{holds_shared}
-use Rattle.count_invariant.specs.core_invariant.specs.Shares.{KnowsStoresAt}
-use Rattle.count_invariant.specs.core_invariant.specs.Shares.{list_changed}
 use Rattle.count_invariant.specs.step_ways.proofs.Good.{IsGood}
 
 -- Which call it is does not depend on how far it has come.

@@ -1,5 +1,5 @@
 //! Runs of the top call in memory, and what they show.
-ghost use Rattle.std.specs.Prelude.{◌≡◌, ◌↔◌, ⊥};
+ghost use Rattle.std.specs.Prelude.{◌≡◌, ◌↔◌};
 ghost use Rattle.row_runs.specs.declared.runs.Outcome.TheVariants as outcomes;
 
 use byte_ends::{MemSink, MemSource};

@@ -1,55 +1,33 @@
 -- The second load of the head of the second of two temporal capabilities: it has changed, or it is as it was read, and the call is decided.
-use Rattle.std.proofs.Common.{◌≡◌, inl, inr, ℕ, ◌<◌, ◌≤◌, ◌==◌, not, nat_lt, nat_le, Bool, true, false, if◌then◌else◌}
-use Rattle.std.proofs.Common.{List, [], ◌∷◌, length, Option, Some, None, arith, refl, sym, ◌∙◌, ap, subst}
-use Rattle.std.proofs.lemmas.Bool.{eq-eqb, eqb-true, eqb-false, le-ltb, leb-false, lt-ltb}
-use Rattle.pair_invariant.specs.spk_nums.specs.Setting.{Setting, IsSetting}
+use Rattle.pair_invariant.proofs.Common.{◌≡◌, inl, inr, ℕ, ◌<◌, ◌≤◌, ◌==◌, not, nat_lt, nat_le, Bool, true, false, if◌then◌else◌, List}
+use Rattle.pair_invariant.proofs.Common.{[], ◌∷◌, length, Option, Some, None, arith, refl, sym, ◌∙◌, ap, subst, eq-eqb, eqb-true}
+use Rattle.pair_invariant.proofs.Common.{eqb-false, le-ltb, leb-false, lt-ltb, Setting, IsSetting, Reply, Value, word_of_head, Word}
+use Rattle.pair_invariant.proofs.Common.{EntryAt, LoadOf, State, Found, Refused, Does, RuleMay, IsFoundAnd, unless, first_of, first_cause}
+use Rattle.pair_invariant.proofs.Common.{answers, tcap_at, is_short, are_unlike, are_many, rule_of, change_of, changed, counted, MayReply}
+use Rattle.pair_invariant.proofs.Common.{are_calls_spent, HasRacedHead, IsRaceLost, Step, Trace, state_after, last_left, ok_first}
+use Rattle.pair_invariant.proofs.Common.{refused_first, not_changed, in_order, same_list, again_end, by_alike, by_room, judged, Pair}
+use Rattle.pair_invariant.proofs.Common.{CompareB, AgainB, StoreA, PairWork, Act, took_shared, took_share, Undecided, ActiveCall, landed}
+use Rattle.pair_invariant.proofs.Common.{Core, holds_counts, KnowsUndecided, HasBoth, holds_in, holds_head, Invariant, TcapOf, amount_of}
 use Rattle.pair_invariant.specs.spk_nums.specs.Merging.{preempts_by}
-use Rattle.pair_invariant.specs.spk_nums.specs.declared.replies.Reply.{Reply}
 use Rattle.pair_invariant.specs.spk_nums.specs.declared.replies.Reply.TheVariants as reply
-use Rattle.pair_invariant.specs.spk_nums.specs.declared.replies.Value.{Value}
 use Rattle.pair_invariant.specs.spk_nums.specs.declared.replies.Value.TheVariants as value
-use Rattle.pair_invariant.specs.tcap_words.specs.Head.{word_of_head}
-use Rattle.pair_invariant.specs.word_map.specs.Word.{Word, EntryAt}
-use Rattle.pair_invariant.specs.word_map.specs.Moves.{LoadOf}
-use Rattle.pair_invariant.specs.kernel_rules.specs.State.{State}
 use Rattle.pair_invariant.specs.kernel_rules.specs.Access.{found as named_by}
-use Rattle.pair_invariant.specs.kernel_rules.specs.Rules.{Found, Refused, Does, RuleMay, IsFoundAnd, unless, first_of, first_cause, answers}
-use Rattle.pair_invariant.specs.kernel_rules.specs.TimeCalls.{tcap_at, is_short, are_unlike, are_alike, are_many, merged_list}
+use Rattle.pair_invariant.specs.kernel_rules.specs.TimeCalls.{are_alike, merged_list}
 use Rattle.pair_invariant.specs.kernel_rules.specs.TimeCalls.{preemption, preempts}
-use Rattle.pair_invariant.specs.kernel_rules.specs.CallRelation.{rule_of, change_of, changed, counted, MayReply, begins_in as begun_by}
-use Rattle.pair_invariant.specs.kernel_rules.specs.CallRelation.{are_calls_spent}
-use Rattle.pair_invariant.specs.kernel_history.specs.Justified.{HasRacedHead, IsRaceLost}
-use Rattle.pair_invariant.specs.kernel_history.specs.Trace.{Step, Trace, state_after, last_left}
-use Rattle.pair_invariant.specs.trace_laws.proofs.AloneCalls.{ok_first, refused_first}
-use Rattle.pair_invariant.specs.kernel_history.proofs.Laws.{not_changed}
-use Rattle.pair_invariant.specs.stage_tcap.specs.Lists.{in_order, same_list, merge_of, merged_if}
-use Rattle.pair_invariant.specs.stage_tcap.specs.Pairs.{again_end, again_value, value_of, by_alike, by_room, judged, whole_b}
+use Rattle.pair_invariant.specs.kernel_rules.specs.CallRelation.{begins_in as begun_by}
+use Rattle.pair_invariant.specs.stage_tcap.specs.Lists.{merge_of, merged_if}
+use Rattle.pair_invariant.specs.stage_tcap.specs.Pairs.{again_value, value_of, whole_b}
 use Rattle.pair_invariant.specs.spk_nums.specs.declared.steps.StageEnd.TheVariants as ends
-use Rattle.pair_invariant.specs.stage_tcap.specs.declared.pair.Pair.{Pair}
-use Rattle.pair_invariant.specs.stage_tcap.specs.declared.pair.PairAt.TheVariants.{CompareB, AgainB, StoreA}
-use Rattle.pair_invariant.specs.stage_tcap.specs.declared.pair.PairWork.{PairWork}
 use Rattle.pair_invariant.specs.stage_tcap.specs.declared.pair.PairWork.TheVariants.{Transfer, Delegate, Test}
 use Rattle.pair_invariant.specs.act_states.specs.declared.work.Act.TheVariants.{Share as share_act}
-use Rattle.pair_invariant.specs.act_states.specs.declared.work.Work.TheVariants.{Act}
-use Rattle.pair_invariant.specs.act_states.specs.Shares.{took_shared, took_share}
-use Rattle.pair_invariant.specs.call_stages.specs.declared.stages.Stage.TheVariants.{Undecided}
-use Rattle.pair_invariant.specs.call_stages.specs.declared.stages.ActiveCall.{ActiveCall}
-use Rattle.pair_invariant.specs.call_stages.specs.Steps.{landed}
-use Rattle.pair_invariant.specs.call_stages.specs.View.{Core}
-use Rattle.pair_invariant.specs.core_invariant.specs.Holding.{holds_counts}
-use Rattle.pair_invariant.specs.core_invariant.specs.Knows.{KnowsUndecided}
-use Rattle.pair_invariant.specs.core_invariant.specs.Shares.{HasBoth}
-use Rattle.pair_invariant.specs.core_invariant.specs.Invariant.{holds_in, holds_head, Invariant}
 use Rattle.pair_invariant.specs.step_ways.proofs.Loads.{OnlyLooks, core_is, inner}
 use Rattle.pair_invariant.specs.step_ways.proofs.Refusals.{GoodTook, not_spent}
-use Rattle.pair_invariant.specs.kept_facts.proofs.Tcaps.{TcapOf}
 use Rattle.pair_invariant.proofs.HeadsB.{owes_share}
 use Rattle.pair_invariant.proofs.ListsKnown as known
 use Rattle.pair_invariant.proofs.ListsKnown.{AreRead, same_alike, all_gone}
 use Rattle.pair_invariant.proofs.ShareCalls as calls
 use Rattle.pair_invariant.proofs.ShareCalls.{causes_of, change_by}
 use Rattle.pair_invariant.proofs.ShareSteps.{loading, load_decides}
-use Rattle.pair_invariant.specs.stage_tcap.specs.Pairs.{amount_of}
 
 -- A list that has no room is one of more than 8.
 no_room : (xs : List (ℕ × ℕ)) → merged_if (nat_le (length xs) 8) xs ≡ None → nat_lt 8 (length xs) ≡ true

@@ -1,28 +1,11 @@
 -- A delegation, whose list is stored, gives the head of the second of two temporal capabilities back with the ticks.
-use Rattle.std.proofs.Common.{◌≡◌, ◌≢◌, inl, ℕ, ◌<◌, true, if◌then◌else◌, Option, Some, None, arith, refl, sym, ◌∙◌, ap}
-use Rattle.pair_invariant.specs.spk_nums.specs.Setting.{Setting, IsSetting}
-use Rattle.pair_invariant.specs.spk_nums.specs.declared.replies.Reply.{Reply}
+use Rattle.pair_invariant.proofs.Common.{◌≡◌, ◌≢◌, inl, ℕ, ◌<◌, true, if◌then◌else◌, Option, Some, None, arith, refl, sym, ◌∙◌, ap}
+use Rattle.pair_invariant.proofs.Common.{Setting, IsSetting, Reply, HeadFits, word_of_head, HeadWord, EntryAt, Move, StoreOf, Step, Trace}
+use Rattle.pair_invariant.proofs.Common.{same_word-other, marked, credited, amount_of, Pair, StoreB, StoreA, Decided, ActiveCall}
+use Rattle.pair_invariant.proofs.Common.{went_with, GoesOn, Core, holds_counts, KnowsTail, done_by, Invariant, counts_bare}
 use Rattle.pair_invariant.specs.spk_nums.specs.declared.replies.Value.TheVariants as value
-use Rattle.pair_invariant.specs.tcap_words.specs.Head.{HeadFits, word_of_head}
-use Rattle.pair_invariant.specs.tcap_words.specs.declared.head_word.HeadWord.{HeadWord}
-use Rattle.pair_invariant.specs.word_map.specs.Word.{EntryAt}
-use Rattle.pair_invariant.specs.word_map.specs.Moves.{Move, StoreOf}
-use Rattle.pair_invariant.specs.kernel_history.specs.Trace.{Step, Trace}
-use Rattle.pair_invariant.specs.kernel_history.proofs.Names.{same_word-other}
-use Rattle.pair_invariant.specs.stage_tcap.specs.Heads.{marked, credited}
-use Rattle.pair_invariant.specs.stage_tcap.specs.Pairs.{amount_of}
-use Rattle.pair_invariant.specs.stage_tcap.specs.declared.pair.Pair.{Pair}
-use Rattle.pair_invariant.specs.stage_tcap.specs.declared.pair.PairAt.TheVariants.{StoreB, StoreA}
 use Rattle.pair_invariant.specs.act_states.specs.declared.work.Tail.TheVariants.{Share as share_tail}
-use Rattle.pair_invariant.specs.call_stages.specs.declared.stages.Stage.TheVariants.{Decided}
-use Rattle.pair_invariant.specs.call_stages.specs.declared.stages.ActiveCall.{ActiveCall}
-use Rattle.pair_invariant.specs.call_stages.specs.Steps.{went_with, GoesOn}
-use Rattle.pair_invariant.specs.call_stages.specs.View.{Core}
-use Rattle.pair_invariant.specs.core_invariant.specs.Holding.{holds_counts}
-use Rattle.pair_invariant.specs.core_invariant.specs.Knows.{KnowsTail}
 use Rattle.pair_invariant.specs.core_invariant.specs.Shares.{StoresB}
-use Rattle.pair_invariant.specs.core_invariant.specs.Invariant.{done_by, Invariant}
-use Rattle.pair_invariant.specs.core_invariant.proofs.Bare.{counts_bare}
 use Rattle.pair_invariant.specs.step_ways.proofs.Loads.{inner}
 use Rattle.pair_invariant.specs.step_ways.proofs.Refusals.{GoodTook}
 use Rattle.share_invariant.proofs.HeadStores.{counts_free, a_stored, shared_on, head_good}

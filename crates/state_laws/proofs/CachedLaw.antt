@@ -10,22 +10,20 @@ use Rattle.spk_nums.specs.declared.kinds.Kind.TheVariants as kind
 use Rattle.spk_nums.specs.declared.calls.Call.{Call}
 use Rattle.spk_nums.specs.declared.calls.Call.TheVariants.{Tick}
 use Rattle.spk_nums.specs.declared.translations.Translation.{Translation}
-use Rattle.spk_nums.specs.declared.replies.Value.{Value}
 use Rattle.spk_nums.specs.declared.replies.Reply.{Reply}
 use Rattle.spk_nums.specs.declared.replies.Reply.TheVariants as reply
 use Rattle.kernel_rules.specs.State.{Place, Free, Holds, Quiescing, Pages, Pleaf, Frame, User, Kernel, Core}
-use Rattle.kernel_rules.specs.State.{Thing, PlaceOf, FrameOf, NumberOf, State, put, with_core, comp_of, thread_in}
+use Rattle.kernel_rules.specs.State.{Thing, PlaceOf, FrameOf, State, put, with_core, comp_of}
 use Rattle.kernel_rules.specs.References.{named_by, times, refs}
-use Rattle.kernel_rules.specs.Access.{Slot, Named, found, root_at, Under, place_at, held_in}
+use Rattle.kernel_rules.specs.Access.{Slot, root_at, Under, place_at, held_in}
 use Rattle.kernel_rules.specs.Access.{usable_in, usable, linked, slot_in, reached, root_slot}
 use Rattle.kernel_rules.specs.GracePeriods.{is_paging, is_translated, needs_flush, entered, returned}
-use Rattle.kernel_rules.specs.Rules.{Change, Judged, Refused, Found, IsFoundAnd, and_then, or_refuse, unless, mapped}
+use Rattle.kernel_rules.specs.Rules.{Found, and_then, or_refuse, unless, mapped}
 use Rattle.kernel_rules.specs.MemoryCalls.{caching}
 use Rattle.kernel_rules.specs.CallRelation.{change_of, changed, owed_by, state_by, MayReply, flushes, flushes_by}
 use Rattle.kernel_rules.specs.Fitting.{fits, IsGood}
 use Rattle.kernel_rules.specs.Relies.{IsGuarded}
 use Rattle.kernel_rules.specs.Runs.{Event, Enters, Decides, Returns, after, is_in, is_open, IsRun}
-use Rattle.kernel_rules.proofs.Changes.{IfFound}
 use Rattle.kernel_rules.proofs.Within.{put_same, put_other}
 use Rattle.kernel_rules.proofs.AloneLaw.{waits_inside, decided_stays}
 use Rattle.kernel_invariant.proofs.Sums.{times_first}
@@ -35,7 +33,7 @@ use Rattle.kernel_invariant.proofs.SoundRuns.{opened, open_is, open_limits, insi
 use Rattle.found_stays.proofs.SparesRuns.{core_same_refs}
 use Rattle.kernel_invariant.proofs.Refs.{grace_refs}
 use Rattle.kernel_invariant.specs.Edits.{Edit, Fill, Merge, Switch, Cache, Flush, Charge, edited, after_edits, is_flush, flush_in}
-use Rattle.kernel_invariant.proofs.Edited.{Tested, Each, AreLater, later_core, Calm, Edits, after_ok}
+use Rattle.kernel_invariant.proofs.Edited.{Tested, Each, AreLater, later_core, Calm, after_ok}
 use Rattle.kernel_invariant.proofs.Facts.{then_parts, or_found, some_inj, none_some, found_inj, refused_found}
 use Rattle.found_stays.proofs.Stays.{link_of, fields, pages_relies, usable_guarded, place_named}
 use Rattle.state_laws.specs.Cached.{IsStillThere, IsLinkTo, IsMappingOf, IsOrWas, Stands, TranslationsStand}

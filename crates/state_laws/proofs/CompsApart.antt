@@ -1,34 +1,31 @@
 -- No two components have one liveness number and one epoch: a component is made in a later epoch than the last of its number.
 use Rattle.std.proofs.Common.{◌≡◌, ◌≢◌, inl, inr, ℕ, ◌+◌, ◌-◌, ◌*◌, ◌≤◌, arith, Bool, true, false, refl}
-use Rattle.std.proofs.Common.{sym, ◌∙◌, ap, subst, ◌==◌, nat_lt, IsTrue, List, [], ◌∷◌, Option, Some, None}
+use Rattle.std.proofs.Common.{sym, ◌∙◌, ap, subst, ◌==◌, nat_lt, IsTrue, List, [], ◌∷◌, None}
 use Rattle.std.proofs.lemmas.Bool.{false≢true, cases_eq, eqb-true}
 use Rattle.spk_nums.specs.Setting.{Setting}
 use Rattle.spk_nums.specs.CallLimits.{InLimits}
 use Rattle.spk_nums.specs.declared.kinds.Kind.TheVariants as kind
 use Rattle.spk_nums.specs.declared.calls.Call.{Call}
 use Rattle.spk_nums.specs.declared.calls.Call.TheVariants.{Tick}
-use Rattle.spk_nums.specs.declared.replies.Value.{Value}
 use Rattle.spk_nums.specs.declared.replies.Reply.{Reply}
 use Rattle.spk_nums.specs.declared.replies.Reply.TheVariants as reply
-use Rattle.kernel_rules.specs.State.{CompFields, ThreadFields, TcapFields, Object, Comp, Thread, Tcap, Frame}
+use Rattle.kernel_rules.specs.State.{CompFields, ThreadFields, TcapFields, Comp, Thread, Tcap, Frame}
 use Rattle.kernel_rules.specs.State.{Untyped, Kernel, Liveness, Live, Dead, State, put, comp_in}
 use Rattle.kernel_rules.specs.Start.{start}
-use Rattle.kernel_rules.specs.Rules.{Change, Judged, Refused, Found, IsFoundAnd}
 use Rattle.kernel_rules.specs.CapabilityCalls.{epoch_of}
 use Rattle.kernel_rules.specs.InvocationCalls.{with_thread, running, is_live_in}
 use Rattle.kernel_rules.specs.TimeCalls.{with_tcap, with_budget, tcap_at}
-use Rattle.kernel_rules.specs.CallRelation.{change_of, changed, owed_by, state_by, MayReply}
+use Rattle.kernel_rules.specs.CallRelation.{owed_by, state_by, MayReply}
 use Rattle.kernel_rules.specs.Fitting.{fits}
 use Rattle.kernel_rules.specs.Relies.{is_node}
 use Rattle.kernel_rules.specs.Runs.{Event, Enters, Decides, Returns, after, IsRun}
-use Rattle.kernel_rules.proofs.Changes.{IfFound}
 use Rattle.kernel_rules.proofs.Within.{put_same, put_other}
 use Rattle.kernel_invariant.specs.Edits.{Edit, Node, Become, Untype, Component, Deaden, Push, Pop, Switch, Charge, Move, Merge}
 use Rattle.kernel_invariant.specs.Edits.{edited, after_edits}
 use Rattle.kernel_invariant.proofs.Sound.{put_all}
 use Rattle.kernel_invariant.proofs.SoundStart.{choose}
 use Rattle.kernel_invariant.proofs.SoundRuns.{open_limits}
-use Rattle.kernel_invariant.proofs.Edited.{Tested, Limited, Each, Edits, after_ok}
+use Rattle.kernel_invariant.proofs.Edited.{Tested, Limited, Each, after_ok}
 use Rattle.state_laws.specs.Lives.{CompsApart}
 
 -- Whether a frame has a component.

@@ -1,7 +1,7 @@
 -- What decisions make of who has to flush: whoever waits for a thing that translations reach, has not flushed it; and what is
 -- referenced, or not yet flushed by a core, stays so until that core flushes.
 use Rattle.std.proofs.Common.{◌≡◌, ◌≢◌, ◌⊎◌, inl, inr, ℕ, zero, suc, ◌<◌, arith, Bool, true, false, not}
-use Rattle.std.proofs.Common.{refl, sym, ◌∙◌, ap, subst, cond, nat_lt, IsTrue, List, [], ◌∷◌, Option, Some, None}
+use Rattle.std.proofs.Common.{refl, sym, ◌∙◌, ap, subst, cond, IsTrue, List, [], ◌∷◌, Option, Some, None}
 use Rattle.std.proofs.lemmas.Bool.{false≢true, eqb-true}
 use Rattle.spk_nums.specs.Capability.{Capability}
 use Rattle.spk_nums.specs.CallLimits.{InLimits}
@@ -13,14 +13,11 @@ use Rattle.spk_nums.specs.declared.replies.Reply.TheVariants as reply
 use Rattle.kernel_rules.specs.State.{Holds, Pages, Pleaf, Frame, User, Kernel, Grace, Thing, PlaceOf, FrameOf, NumberOf, State, put}
 use Rattle.kernel_rules.specs.Start.{no_grace}
 use Rattle.kernel_rules.specs.References.{refs}
-use Rattle.kernel_rules.specs.Access.{found}
 use Rattle.kernel_rules.specs.GracePeriods.{new_grace, begun, lowest, unflushed_by, needs_flush, is_paging, is_translated}
-use Rattle.kernel_rules.specs.Rules.{Change, Cause, When, WaitedFor, Unflushed, Judged, Refused}
-use Rattle.kernel_rules.specs.Rules.{Found, IsFoundAnd, refusal_of, first_cause, waits_of, flushes_of}
-use Rattle.kernel_rules.specs.CapabilityCalls.{outside}
-use Rattle.kernel_rules.specs.MemoryCalls.{is_untyped_now, is_empty, not_retyped}
-use Rattle.kernel_rules.specs.CallRelation.{rule_of, change_of, changed, counted, owed_by, state_by}
-use Rattle.kernel_rules.specs.CallRelation.{MayReply, begins, begins_in, ends, ends_by, flushes}
+use Rattle.kernel_rules.specs.Rules.{Change, Unflushed, Judged, Refused}
+use Rattle.kernel_rules.specs.Rules.{Found, IsFoundAnd, flushes_of}
+use Rattle.kernel_rules.specs.CallRelation.{change_of, changed, counted, owed_by, state_by}
+use Rattle.kernel_rules.specs.CallRelation.{MayReply, begins, begins_in, ends, flushes}
 use Rattle.kernel_rules.specs.Relies.{is_node}
 use Rattle.kernel_rules.proofs.Changes.{IfFound}
 use Rattle.kernel_rules.proofs.Within.{put_same, put_other}

@@ -1,7 +1,7 @@
 -- What a call that is carried out makes of frames and places: a user frame, a node or a component stays but for the end of its
 -- frame's grace period, and what a place holds stays but for the start or the end of the place's.
 use Rattle.std.proofs.Common.{◌≡◌, ◌⊎◌, inl, inr, ℕ, ◌-◌, Bool, true, false, ◌&&◌, ◌||◌, refl, sym, ◌∙◌, ap}
-use Rattle.std.proofs.Common.{subst, ◌==◌, if◌then◌else◌, IsTrue, List, [], ◌∷◌, take, Option, Some, None, is_some}
+use Rattle.std.proofs.Common.{subst, ◌==◌, if◌then◌else◌, IsTrue, List, [], ◌∷◌, take, Some, None, is_some}
 use Rattle.std.proofs.lemmas.Bool.{false≢true, eq-eqb, eqb-true, or_left, and_parts, and_from}
 use Rattle.std.specs.List.{list_any}
 use Rattle.spk_nums.specs.Capability.{Capability}
@@ -12,9 +12,9 @@ use Rattle.spk_nums.specs.declared.replies.Reply.{Reply}
 use Rattle.spk_nums.specs.declared.replies.Reply.TheVariants as reply
 use Rattle.kernel_rules.specs.State.{Place, Free, Holds, Quiescing, ThreadFields, TcapFields, Blank}
 use Rattle.kernel_rules.specs.State.{Table, Leaf, Pages, Pleaf, Comp, Thread, Tcap, Frame, Untyped, User, Kernel}
-use Rattle.kernel_rules.specs.State.{Thing, PlaceOf, FrameOf, State, put, thread_in, thread_of}
+use Rattle.kernel_rules.specs.State.{Thing, PlaceOf, FrameOf, State, put, thread_of}
 use Rattle.kernel_rules.specs.References.{place_names, frame_names, number_names}
-use Rattle.kernel_rules.specs.Access.{Slot, place_at, held_in}
+use Rattle.kernel_rules.specs.Access.{held_in}
 use Rattle.kernel_rules.specs.GracePeriods.{same_thing}
 use Rattle.kernel_rules.specs.Rules.{Change, Judged, Refused, Found, IsFoundAnd, frames_of}
 use Rattle.kernel_rules.specs.InvocationCalls.{with_thread, running}

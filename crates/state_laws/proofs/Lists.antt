@@ -10,7 +10,6 @@ use Rattle.spk_nums.specs.declared.replies.Reply.TheVariants as reply
 use Rattle.kernel_rules.specs.State.{Core, State, put}
 use Rattle.kernel_rules.specs.Rules.{Change, Judged, Refused, Found}
 use Rattle.kernel_rules.specs.MemoryCalls.{caching}
-use Rattle.kernel_rules.specs.TimeCalls.{charge}
 use Rattle.kernel_rules.specs.CallRelation.{change_of, changed, counted, owed_by, state_by, flushes, flushes_by}
 use Rattle.kernel_rules.proofs.Changes.{IfFound}
 use Rattle.kernel_invariant.specs.Edits.{Edit, Switch, Cache, Flush, Charge, edited, after_edits, is_flush, flush_in}

@@ -1,26 +1,23 @@
 -- The frame of a live number has its component; gates have their component's epoch; a dead epoch never lives again.
-use Rattle.std.proofs.Common.{◌≡◌, ◌⊎◌, inl, inr, ℕ, ◌+◌, ◌<◌, ◌≤◌, arith, Bool, true, false, not, refl, sym, ◌∙◌}
-use Rattle.std.proofs.Common.{ap, subst, ◌==◌, if◌then◌else◌, IsTrue, List, [], ◌∷◌, ◌++◌, Option, Some, None}
+use Rattle.std.proofs.Common.{◌≡◌, ◌⊎◌, inl, inr, ℕ, ◌+◌, ◌<◌, ◌≤◌, arith, Bool, true, false, refl, sym, ◌∙◌}
+use Rattle.std.proofs.Common.{ap, subst, ◌==◌, if◌then◌else◌, IsTrue, List, [], ◌∷◌, ◌++◌}
 use Rattle.std.proofs.lemmas.Bool.{false≢true, eqb-true}
 use Rattle.spk_nums.specs.Setting.{Setting, IsSetting}
 use Rattle.spk_nums.specs.declared.kinds.Kind.TheVariants as kind
 use Rattle.spk_nums.specs.declared.calls.Call.{Call}
 use Rattle.spk_nums.specs.declared.calls.Call.TheVariants.{Tick}
-use Rattle.spk_nums.specs.declared.replies.Value.{Value}
 use Rattle.spk_nums.specs.declared.replies.Reply.{Reply}
 use Rattle.spk_nums.specs.declared.replies.Reply.TheVariants as reply
 use Rattle.kernel_rules.specs.State.{TcapFields, Tcap, Comp, Frame, Kernel, Liveness, Unused, Live}
-use Rattle.kernel_rules.specs.State.{Dead, FrameOf, State, put, comp_in}
+use Rattle.kernel_rules.specs.State.{Dead, FrameOf, State, put}
 use Rattle.kernel_rules.specs.Start.{start}
 use Rattle.kernel_rules.specs.References.{number_names, times, refs}
-use Rattle.kernel_rules.specs.Rules.{Change, Judged, Refused, Found, IsFoundAnd}
 use Rattle.kernel_rules.specs.CapabilityCalls.{is_live, epoch_of}
 use Rattle.kernel_rules.specs.InvocationCalls.{is_live_in}
 use Rattle.kernel_rules.specs.TimeCalls.{with_tcap}
-use Rattle.kernel_rules.specs.CallRelation.{change_of, changed, owed_by, state_by, ends, MayReply}
+use Rattle.kernel_rules.specs.CallRelation.{owed_by, state_by, ends, MayReply}
 use Rattle.kernel_rules.specs.Fitting.{fits}
 use Rattle.kernel_rules.specs.Runs.{Event, Enters, Decides, Returns, after, is_open, IsRun}
-use Rattle.kernel_rules.proofs.Changes.{IfFound}
 use Rattle.kernel_rules.proofs.Within.{put_same}
 use Rattle.kernel_invariant.proofs.Sums.{times_first}
 use Rattle.kernel_invariant.proofs.Sound.{IsSound, put_all}
@@ -28,7 +25,7 @@ use Rattle.kernel_invariant.proofs.SoundRemovals.{unnamed}
 use Rattle.kernel_invariant.proofs.SoundCalls.{IsOpen}
 use Rattle.kernel_invariant.proofs.SoundRuns.{opened, open_is}
 use Rattle.kernel_invariant.specs.Edits.{Edit, Fill, Component, Deaden, Merge, edited, after_edits}
-use Rattle.kernel_invariant.proofs.Edited.{Tested, Each, AreLater, later_number, Calm, Edits, after_ok}
+use Rattle.kernel_invariant.proofs.Edited.{Tested, Each, AreLater, later_number, Calm, after_ok}
 use Rattle.kernel_invariant.proofs.Ends.{ends_by_rule}
 use Rattle.state_laws.specs.Lives.{IsCompOf, LiveNumbersFit, DeadStays}
 use Rattle.state_laws.proofs.Kept.{is_kept, decided_kept}

@@ -1,82 +1,48 @@
 -- No core holds or keeps a word of the object in a frame to which nothing refers, and for which no other core waits: who holds one, relies
 -- on its frame.
+use Rattle.freeze_invariant.proofs.Common.{◌≡◌, ◌≢◌, ◌⊎◌, inl, inr, ℕ, zero, suc, ◌+◌, ◌<◌, ◌≤◌, ◌==◌, ◌&&◌, Bool, true, false, List, []}
+use Rattle.freeze_invariant.proofs.Common.{◌∷◌, Option, Some, None, arith, refl, sym, ◌∙◌, ap, subst, cases_eq, cases_lt, false≢true}
+use Rattle.freeze_invariant.proofs.Common.{ne_eqb, Setting, IsSetting, Capability, Call, Reply, Quiet, AtCore, AtFlush, AtStack, Pair}
+use Rattle.freeze_invariant.proofs.Common.{PairAt, LoadA, MarkA, ListA, LoadB, ListB, CompareB, AgainB, StoreList, StoreB, StoreA}
+use Rattle.freeze_invariant.proofs.Common.{Acquired, EntryAt, State, FrameOf, Slot, refs, times, IsGuarded, marked_by, Trace, Open, phase}
+use Rattle.freeze_invariant.proofs.Common.{state_after, last_left, Plan, Close, AtCompare, AtDraw, AtStore, MakingAt, CompMaking, CompAt}
+use Rattle.freeze_invariant.proofs.Common.{KillingAt, UntypingAt, Switching, SwitchAt, Fill, Outside, Untype, MakeComp, Invoke, Return}
+use Rattle.freeze_invariant.proofs.Common.{Tail, Nothing, Quiesce, Unmark, StoreDead, StoreFlush, Release, StoreLive, Push, Pop}
+use Rattle.freeze_invariant.proofs.Common.{StoreRunning, StoreIdle, Work, Lookup, Read, Scan, Acquire, ActiveCall, Stage, Enter}
+use Rattle.freeze_invariant.proofs.Common.{Undecided, Decided, Leave, release_of, swept_of, Core, Holding, holds_counts, keeps, settled}
+use Rattle.freeze_invariant.proofs.Common.{settled_by, holds_untyping, KnowsAct, KnowsAt, KnowsTail, KnowsWork, CallIs, phase_at}
+use Rattle.freeze_invariant.proofs.Common.{KnowsShared, KnowsStoresAt, Invariant, holds, held_by, holds_act, holds_at, holds_comp}
+use Rattle.freeze_invariant.proofs.Common.{holds_head, holds_heads, holds_in, holds_killing, holds_making, holds_share, holds_shared}
+use Rattle.freeze_invariant.proofs.Common.{holds_tail, holds_work, is_done, holds_switching, slot_relies, release_entry, limits_of}
+use Rattle.freeze_invariant.proofs.Common.{claimed_by}
 use Rattle.std.specs.Prelude.{if◌then◌else◌}
-use Rattle.std.proofs.Common.{◌≡◌, ◌≢◌, ◌⊎◌, inl, inr, ℕ, zero, suc, ◌+◌, ◌<◌, ◌≤◌, ◌==◌, ◌&&◌, Bool, true}
-use Rattle.std.proofs.Common.{false, List, [], ◌∷◌, Option, Some, None, arith, refl, sym, ◌∙◌, ap, subst}
-use Rattle.std.proofs.lemmas.Bool.{cases_eq, cases_lt, false≢true, ne_eqb}
-use Rattle.freeze_invariant.specs.spk_nums.specs.Setting.{Setting, IsSetting}
-use Rattle.freeze_invariant.specs.spk_nums.specs.Capability.{Capability}
-use Rattle.freeze_invariant.specs.spk_nums.specs.declared.calls.Call.{Call}
-use Rattle.freeze_invariant.specs.spk_nums.specs.declared.replies.Reply.{Reply}
-use Rattle.freeze_invariant.specs.stage_quiet.specs.declared.quiet.Quiet.{Quiet}
-use Rattle.freeze_invariant.specs.stage_quiet.specs.declared.quiet.Quiet.TheVariants.{AtCore, AtFlush}
-use Rattle.freeze_invariant.specs.stage_thread.specs.declared.claim.Claim.TheVariants.{AtLoad, AtCompare as claim_compare, AtStack}
+use Rattle.freeze_invariant.specs.stage_thread.specs.declared.claim.Claim.TheVariants.{AtLoad, AtCompare as claim_compare}
 use Rattle.freeze_invariant.specs.stage_thread.specs.declared.stack.Push.{Push as PushOf}
 use Rattle.freeze_invariant.specs.stage_thread.specs.declared.stack.Push.TheVariants as push
 use Rattle.freeze_invariant.specs.stage_thread.specs.declared.stack.Pop.{Pop as PopOf}
 use Rattle.freeze_invariant.specs.stage_thread.specs.declared.stack.Pop.TheVariants as pop
-use Rattle.freeze_invariant.specs.stage_tcap.specs.declared.pair.Pair.{Pair}
-use Rattle.freeze_invariant.specs.stage_tcap.specs.declared.pair.PairAt.{PairAt}
-use Rattle.freeze_invariant.specs.stage_tcap.specs.declared.pair.PairAt.TheVariants.{LoadA, MarkA, ListA, LoadB, ListB, CompareB}
-use Rattle.freeze_invariant.specs.stage_tcap.specs.declared.pair.PairAt.TheVariants.{AgainB, StoreList, StoreB, StoreA}
-use Rattle.freeze_invariant.specs.stage_pins.specs.declared.held.Acquired.{Acquired}
-use Rattle.freeze_invariant.specs.word_map.specs.Word.{EntryAt}
-use Rattle.freeze_invariant.specs.kernel_rules.specs.State.{State, FrameOf}
-use Rattle.freeze_invariant.specs.kernel_rules.specs.Access.{Slot}
-use Rattle.freeze_invariant.specs.kernel_rules.specs.References.{refs, times, core_names}
-use Rattle.freeze_invariant.specs.kernel_rules.specs.Relies.{IsGuarded}
+use Rattle.freeze_invariant.specs.kernel_rules.specs.References.{core_names}
 use Rattle.freeze_invariant.specs.kernel_invariant.proofs.SoundRemovals.{unnamed}
 use Rattle.freeze_invariant.specs.kernel_invariant.proofs.Sums.{times_first}
-use Rattle.freeze_invariant.specs.kernel_history.specs.Marking.{marked_by}
-use Rattle.freeze_invariant.specs.kernel_history.specs.Trace.{Trace, Open, phase, state_after, last_left}
-use Rattle.freeze_invariant.specs.call_plans.specs.declared.plans.Plan.{Plan}
-use Rattle.freeze_invariant.specs.stage_quiet.specs.declared.close.Close.{Close}
-use Rattle.freeze_invariant.specs.stage_quiet.specs.declared.close.Close.TheVariants.{AtCompare, AtDraw, AtStore}
-use Rattle.freeze_invariant.specs.act_states.specs.declared.makings.MakingAt.{MakingAt}
 use Rattle.freeze_invariant.specs.act_states.specs.declared.makings.MakingAt.TheVariants as making_at
-use Rattle.freeze_invariant.specs.act_states.specs.declared.comps.CompMaking.{CompMaking}
-use Rattle.freeze_invariant.specs.act_states.specs.declared.comps.CompAt.{CompAt}
 use Rattle.freeze_invariant.specs.act_states.specs.declared.comps.CompAt.TheVariants as comp_at
-use Rattle.freeze_invariant.specs.act_states.specs.declared.kills.KillingAt.{KillingAt}
 use Rattle.freeze_invariant.specs.act_states.specs.declared.kills.KillingAt.TheVariants as kill_at
-use Rattle.freeze_invariant.specs.act_states.specs.declared.untypings.UntypingAt.{UntypingAt}
 use Rattle.freeze_invariant.specs.act_states.specs.declared.untypings.UntypingAt.TheVariants as untype_at
-use Rattle.freeze_invariant.specs.act_states.specs.declared.switches.Switching.{Switching}
-use Rattle.freeze_invariant.specs.act_states.specs.declared.switches.SwitchAt.{SwitchAt}
 use Rattle.freeze_invariant.specs.act_states.specs.declared.switches.SwitchAt.TheVariants as switch_at
 use Rattle.freeze_invariant.specs.act_states.specs.declared.work.Act.{Act as ActOf}
-use Rattle.freeze_invariant.specs.act_states.specs.declared.work.Act.TheVariants.{Fill, Remove, Retype, Make, Outside, Tick, Flush, Kill}
-use Rattle.freeze_invariant.specs.act_states.specs.declared.work.Act.TheVariants.{Untype}
-use Rattle.freeze_invariant.specs.act_states.specs.declared.work.Act.TheVariants.{Map as map_act, MakeComp, Invoke, Return, Touch, Share}
+use Rattle.freeze_invariant.specs.act_states.specs.declared.work.Act.TheVariants.{Remove, Retype, Make, Tick, Flush, Kill}
+use Rattle.freeze_invariant.specs.act_states.specs.declared.work.Act.TheVariants.{Map as map_act, Touch, Share}
 use Rattle.freeze_invariant.specs.act_states.specs.declared.work.Act.TheVariants.{Switch}
-use Rattle.freeze_invariant.specs.act_states.specs.declared.work.Tail.{Tail}
-use Rattle.freeze_invariant.specs.act_states.specs.declared.work.Tail.TheVariants.{Nothing, Quiesce, Unmark, StoreDead, StoreFlush, Release}
-use Rattle.freeze_invariant.specs.act_states.specs.declared.work.Tail.TheVariants.{StoreLive, Push, Pop, Share as share_tail}
-use Rattle.freeze_invariant.specs.act_states.specs.declared.work.Tail.TheVariants.{StoreRunning, StoreIdle}
-use Rattle.freeze_invariant.specs.act_states.specs.declared.work.Work.{Work}
-use Rattle.freeze_invariant.specs.act_states.specs.declared.work.Work.TheVariants.{Lookup, Read, Scan, Acquire, Act as act_work}
-use Rattle.freeze_invariant.specs.call_stages.specs.declared.stages.ActiveCall.{ActiveCall}
-use Rattle.freeze_invariant.specs.call_stages.specs.declared.stages.Stage.{Stage}
-use Rattle.freeze_invariant.specs.call_stages.specs.declared.stages.Stage.TheVariants.{Enter, Undecided, Decided, Leave}
-use Rattle.freeze_invariant.specs.act_states.specs.Untypings.{release_of}
-use Rattle.freeze_invariant.specs.stage_sweep.specs.Freeze.{swept_of}
-use Rattle.freeze_invariant.specs.call_stages.specs.View.{Core}
-use Rattle.freeze_invariant.specs.core_invariant.specs.Holding.{Holding, holds_counts, holds_closed, holds_drawn, keeps, kept_below}
-use Rattle.freeze_invariant.specs.core_invariant.specs.Holding.{settled, settled_by}
-use Rattle.freeze_invariant.specs.core_invariant.specs.Frozen.{holds_untyping}
-use Rattle.freeze_invariant.specs.core_invariant.specs.Knows.{KnowsAct, KnowsAt, KnowsClose, KnowsStore, KnowsTail, KnowsWork, CallIs}
-use Rattle.freeze_invariant.specs.core_invariant.specs.Knows.{phase_at}
-use Rattle.freeze_invariant.specs.core_invariant.specs.Shares.{KnowsShare, KnowsShared, KnowsStoresAt}
-use Rattle.freeze_invariant.specs.core_invariant.specs.Invariant.{Invariant, holds, held_by, holds_act, holds_at, holds_comp, holds_head}
-use Rattle.freeze_invariant.specs.core_invariant.specs.Invariant.{holds_heads, holds_in, holds_killing, holds_making, holds_pop, holds_push}
-use Rattle.freeze_invariant.specs.core_invariant.specs.Invariant.{holds_share, holds_shared, holds_stage, holds_tail, holds_work, is_done}
-use Rattle.freeze_invariant.specs.core_invariant.specs.Threads.{KnowsSwitch, holds_switching}
-use Rattle.freeze_invariant.specs.kept_facts.proofs.Carries.{slot_relies}
-use Rattle.freeze_invariant.specs.core_invariant.proofs.Freezing.{release_entry}
+use Rattle.freeze_invariant.specs.act_states.specs.declared.work.Tail.TheVariants.{Share as share_tail}
+use Rattle.freeze_invariant.specs.act_states.specs.declared.work.Work.TheVariants.{Act as act_work}
+use Rattle.freeze_invariant.specs.core_invariant.specs.Holding.{holds_closed, holds_drawn, kept_below}
+use Rattle.freeze_invariant.specs.core_invariant.specs.Knows.{KnowsClose, KnowsStore}
+use Rattle.freeze_invariant.specs.core_invariant.specs.Shares.{KnowsShare}
+use Rattle.freeze_invariant.specs.core_invariant.specs.Invariant.{holds_pop, holds_push}
+use Rattle.freeze_invariant.specs.core_invariant.specs.Invariant.{holds_stage}
+use Rattle.freeze_invariant.specs.core_invariant.specs.Threads.{KnowsSwitch}
 use Rattle.freeze_invariant.specs.kept_facts.proofs.Lent.{lent_unmarked}
-use Rattle.freeze_invariant.specs.core_invariant.proofs.Sounds.{limits_of}
 use Rattle.freeze_invariant.specs.core_invariant.specs.Holding.{kept_or}
-use Rattle.freeze_invariant.specs.core_invariant.specs.Threads.{claimed_by}
 
 none_some : (x : ℕ) → None ≡ Some x → ⊥
 none_some x h = cc

@@ -1,51 +1,21 @@
 -- An entering starts where its name has led to a gate; or the core's stack is full.
-use Rattle.std.proofs.Common.{◌≡◌, ◌<◌, inl, ℕ, map, nat_le, not, Bool, true, false, if◌then◌else◌}
-use Rattle.std.proofs.Common.{List, [], ◌∷◌, length, Some, None, IsTrue, refl, sym, ◌∙◌, ap, subst}
-use Rattle.std.proofs.lemmas.Bool.{false≢true}
-use Rattle.live_invariant.specs.spk_nums.specs.Capability.{Capability}
-use Rattle.live_invariant.specs.spk_nums.specs.Setting.{Setting, IsSetting}
-use Rattle.live_invariant.specs.spk_nums.specs.declared.kinds.Kind.{Kind}
+use Rattle.live_invariant.proofs.Common.{◌≡◌, ◌<◌, inl, ℕ, map, nat_le, not, Bool, true, false, if◌then◌else◌, List, [], ◌∷◌, length}
+use Rattle.live_invariant.proofs.Common.{Some, None, IsTrue, refl, sym, ◌∙◌, ap, subst, false≢true, Capability, Setting, IsSetting, Kind}
+use Rattle.live_invariant.proofs.Common.{Call, Move, word_of, Comp, Frame, Kernel, State, comp_in, thread_of, only, fits, named_by, Found}
+use Rattle.live_invariant.proofs.Common.{Refused, RuleMay, named, outcome, unless, first_of, is_live_in, pushes, rule_of, change_of}
+use Rattle.live_invariant.proofs.Common.{are_calls_spent, named_fit, opened, name_parts, events_of, IsLegal, Step, Trace, Open, phase}
+use Rattle.live_invariant.proofs.Common.{state_after, last_left, refused_first, Carries, sound_of, opened_is, guarded_usable, Acquired}
+use Rattle.live_invariant.proofs.Common.{GoesBy, own_pages, rule_after, Leads, LeadsIn, outcome_left, left_may, Invoking, Act, Goes}
+use Rattle.live_invariant.proofs.Common.{refuse, Undecided, ActiveCall, landed, found_more, Core, HasComp, InvokesBy, holds_counts}
+use Rattle.live_invariant.proofs.Common.{due_of, NamesAre, phase_at, holds_in, Invariant}
 use Rattle.live_invariant.specs.spk_nums.specs.declared.kinds.Kind.TheVariants as kind
-use Rattle.live_invariant.specs.spk_nums.specs.declared.calls.Call.{Call}
 use Rattle.live_invariant.specs.spk_nums.specs.declared.calls.Call.TheVariants.{Call as call_gate}
 use Rattle.live_invariant.specs.spk_nums.specs.declared.replies.Reply.TheVariants as reply
-use Rattle.live_invariant.specs.word_map.specs.Moves.{Move, word_of}
-use Rattle.live_invariant.specs.kernel_rules.specs.State.{Comp, Frame, Kernel, State, comp_in, thread_of}
-use Rattle.live_invariant.specs.kernel_rules.specs.Access.{only}
-use Rattle.live_invariant.specs.kernel_rules.specs.Fitting.{fits}
-use Rattle.live_invariant.specs.kernel_rules.specs.References.{named_by}
-use Rattle.live_invariant.specs.kernel_rules.specs.Rules.{Found, Refused, RuleMay, named, of_kind, outcome, unless, first_of}
-use Rattle.live_invariant.specs.kernel_rules.specs.InvocationCalls.{is_live_in, pushes}
-use Rattle.live_invariant.specs.kernel_rules.specs.CallRelation.{rule_of, change_of, are_calls_spent}
-use Rattle.live_invariant.specs.kernel_invariant.proofs.Facts.{named_fit}
-use Rattle.live_invariant.specs.kernel_invariant.proofs.SoundRuns.{opened}
-use Rattle.live_invariant.specs.found_stays.proofs.Stays.{name_parts}
-use Rattle.live_invariant.specs.kernel_history.specs.Events.{events_of}
-use Rattle.live_invariant.specs.kernel_history.specs.Legal.{IsLegal}
-use Rattle.live_invariant.specs.kernel_history.specs.Trace.{Step, Trace, Open, phase, state_after, last_left}
-use Rattle.live_invariant.specs.trace_laws.proofs.AloneCalls.{refused_first}
-use Rattle.live_invariant.specs.trace_laws.proofs.Carries.{Carries}
-use Rattle.live_invariant.specs.trace_laws.proofs.Stays.{sound_of, opened_is, guarded_usable}
-use Rattle.live_invariant.specs.stage_pins.specs.declared.held.Acquired.{Acquired}
-use Rattle.live_invariant.specs.call_plans.specs.GoesBy.{GoesBy, own_pages}
-use Rattle.live_invariant.specs.call_plans.specs.After.{rule_after, Leads, LeadsIn}
-use Rattle.live_invariant.specs.call_plans.proofs.AfterNames.{outcome_left, left_may}
-use Rattle.live_invariant.specs.act_states.specs.declared.invocations.Invoking.{Invoking}
+use Rattle.live_invariant.specs.kernel_rules.specs.Rules.{of_kind}
 use Rattle.live_invariant.specs.act_states.specs.declared.invocations.InvokingAt.TheVariants.{LoadTable}
 use Rattle.live_invariant.specs.act_states.specs.declared.refusals.Refusal.TheVariants as refusal
 use Rattle.live_invariant.specs.act_states.specs.declared.work.Act.TheVariants.{Invoke as invoke_act}
-use Rattle.live_invariant.specs.act_states.specs.declared.work.Work.TheVariants.{Act}
-use Rattle.live_invariant.specs.act_states.specs.declared.work.WorkStep.TheVariants.{Goes}
-use Rattle.live_invariant.specs.act_states.specs.WorkSteps.{refuse}
 use Rattle.live_invariant.specs.act_states.specs.Acts.{invokes_if, invokes_in}
-use Rattle.live_invariant.specs.call_stages.specs.declared.stages.Stage.TheVariants.{Undecided}
-use Rattle.live_invariant.specs.call_stages.specs.declared.stages.ActiveCall.{ActiveCall}
-use Rattle.live_invariant.specs.call_stages.specs.Steps.{landed, found_more}
-use Rattle.live_invariant.specs.call_stages.specs.View.{Core}
-use Rattle.live_invariant.specs.core_invariant.specs.Components.{HasComp, InvokesBy}
-use Rattle.live_invariant.specs.core_invariant.specs.Holding.{holds_counts}
-use Rattle.live_invariant.specs.core_invariant.specs.Knows.{due_of, NamesAre, phase_at}
-use Rattle.live_invariant.specs.core_invariant.specs.Invariant.{holds_in, Invariant}
 use Rattle.live_invariant.specs.kept_facts.proofs.Carries.{invoking_on}
 use Rattle.live_invariant.specs.step_ways.proofs.Loads.{OnlyLooks, step_to, call_is, core_is, loads_on, decides_on}
 use Rattle.live_invariant.specs.step_ways.proofs.Refusals.{GoodTook, not_spent}

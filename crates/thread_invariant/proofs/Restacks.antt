@@ -1,42 +1,21 @@
 -- A decision by which a core's thread has another stack, of which one place has changed: what is said of words then, and what the core
 -- keeps.
-use Rattle.std.proofs.Common.{◌≡◌, ◌≢◌, ◌⊎◌, inl, inr, ◌<◌, ◌≤◌, ◌+◌, ◌*◌, ℕ, zero, suc, true, false}
-use Rattle.std.proofs.Common.{List, [], ◌∷◌, length, Option, Some, None, arith, refl, sym, ◌∙◌, ap, subst}
-use Rattle.std.proofs.lemmas.Bool.{cases_eq}
-use Rattle.live_invariant.specs.spk_nums.specs.Setting.{Setting, IsSetting}
-use Rattle.live_invariant.specs.spk_nums.specs.declared.replies.Reply.{Reply}
-use Rattle.live_invariant.specs.tcap_words.specs.Stack.{stack_of_word}
-use Rattle.live_invariant.specs.tcap_words.specs.Thread.{thread_of_word}
-use Rattle.live_invariant.specs.tcap_words.specs.declared.thread_word.ThreadWord.TheVariants.{Running}
-use Rattle.live_invariant.specs.word_map.specs.Word.{Word, EntryAt, FrameAt, CountAt, CoreAt, FlushAt, LiveAt, ClockAt}
-use Rattle.live_invariant.specs.word_map.specs.Moves.{Move, word_of, left_of}
-use Rattle.live_invariant.specs.kernel_rules.specs.State.{Grace, Thing, PlaceOf, NumberOf, ThreadFields, Kernel, Thread, State}
-use Rattle.live_invariant.specs.kernel_rules.specs.State.{thread_of, put}
-use Rattle.live_invariant.specs.kernel_rules.specs.References.{sum_below, times, refs}
-use Rattle.live_invariant.specs.kernel_invariant.proofs.Sums.{sum_one}
-use Rattle.live_invariant.specs.kernel_history.specs.Marks.{mark_of, mark_in_frame}
-use Rattle.live_invariant.specs.kernel_history.specs.Marking.{marked_by}
-use Rattle.live_invariant.specs.kernel_history.specs.ObjectWords.{at_height, thread_value}
-use Rattle.live_invariant.specs.kernel_history.specs.Stamps.{stamp, flush_stored}
-use Rattle.live_invariant.specs.kernel_history.specs.Trace.{Step, Trace, Open, phase, state_after, last_left}
-use Rattle.live_invariant.specs.kernel_history.proofs.Inside.{decided-inside}
-use Rattle.live_invariant.specs.kernel_history.proofs.Steps.{last_left-there}
-use Rattle.live_invariant.specs.call_stages.specs.declared.stages.ActiveCall.{ActiveCall}
-use Rattle.live_invariant.specs.call_stages.specs.View.{Core}
-use Rattle.live_invariant.specs.core_invariant.specs.Holding.{settled}
-use Rattle.live_invariant.specs.core_invariant.specs.Words.{IsFrameWord, IsThreadWord, WordIs, count_room}
-use Rattle.live_invariant.specs.core_invariant.specs.Invariant.{holds, held_by, times_of, counted_in, IsLent, SaysRunning, Invariant}
-use Rattle.live_invariant.specs.kept_facts.proofs.Calm.{plain_exit}
+use Rattle.live_invariant.proofs.Common.{◌≡◌, ◌≢◌, ◌⊎◌, inl, inr, ◌<◌, ◌≤◌, ◌+◌, ◌*◌, ℕ, zero, suc, true, false, List, [], ◌∷◌, length}
+use Rattle.live_invariant.proofs.Common.{Option, Some, None, arith, refl, sym, ◌∙◌, ap, subst, cases_eq, Setting, IsSetting, Reply}
+use Rattle.live_invariant.proofs.Common.{stack_of_word, thread_of_word, Running, Word, EntryAt, FrameAt, CountAt, CoreAt, FlushAt, LiveAt}
+use Rattle.live_invariant.proofs.Common.{ClockAt, Move, word_of, left_of, Grace, Thing, PlaceOf, NumberOf, ThreadFields, Kernel, Thread}
+use Rattle.live_invariant.proofs.Common.{State, thread_of, put, sum_below, times, refs, sum_one, mark_of, mark_in_frame, marked_by}
+use Rattle.live_invariant.proofs.Common.{at_height, thread_value, stamp, flush_stored, Step, Trace, Open, phase, state_after, last_left}
+use Rattle.live_invariant.proofs.Common.{decided-inside, last_left-there, ActiveCall, Core, settled, IsFrameWord, IsThreadWord, WordIs}
+use Rattle.live_invariant.proofs.Common.{count_room, holds, held_by, times_of, counted_in, IsLent, Invariant, plain_exit, runs_on_own}
+use Rattle.live_invariant.proofs.Common.{limits_of, ReadsAlike, SameFor, StaysSaid, word_stays, frame_value}
+use Rattle.live_invariant.specs.core_invariant.specs.Invariant.{SaysRunning}
 use Rattle.live_invariant.specs.step_ways.proofs.Keeping.{keeping_words}
-use Rattle.live_invariant.specs.kept_facts.proofs.Lent.{runs_on_own}
 use Rattle.live_invariant.specs.step_ways.proofs.Loads.{inner}
-use Rattle.live_invariant.specs.core_invariant.proofs.Sounds.{limits_of}
-use Rattle.live_invariant.specs.kept_facts.proofs.WordFrames.{ReadsAlike, SameFor, StaysSaid, word_stays}
 use Rattle.thread_invariant.proofs.EntryMarks.{thread_unmarked}
 use Rattle.thread_invariant.proofs.OwnStack.{own_thread, thread_below}
 use Rattle.thread_invariant.proofs.OwnWords.{thread_says as own_says}
 use Rattle.thread_invariant.proofs.Stacked.{stacked, frame_here, frame_there, core_own, core_other, thread_now, stack_refs}
-use Rattle.live_invariant.specs.kernel_history.specs.ObjectWords.{frame_value}
 
 -- After the step e the thread of its core has this stack, which differs from the one before at one height alone; the core keeps the words
 -- of the thread and of that place, each with the value that is still to be stored there.

@@ -1,60 +1,35 @@
 -- What comes next of a call whose names have led to one capability more: the next name, the target, or, before a target that is to be
 -- free, the word of the component that the call reads.
-use Rattle.std.proofs.Common.{◌≡◌, ℕ, ◌<◌, nat_le, Bool, true, false, IsTrue, List, [], ◌∷◌, Option, Some, None, refl, sym, ◌∙◌, ap, subst}
-use Rattle.std.proofs.lemmas.Bool.{leb-true}
-use Rattle.comp_invariant.specs.spk_nums.specs.Capability.{Capability}
-use Rattle.comp_invariant.specs.spk_nums.specs.Setting.{Setting, IsSetting}
-use Rattle.comp_invariant.specs.spk_nums.specs.declared.replies.Reply.{Reply}
+use Rattle.comp_invariant.proofs.Common.{◌≡◌, ℕ, ◌<◌, nat_le, Bool, true, false, IsTrue, List, [], ◌∷◌, Option, Some, None, refl, sym}
+use Rattle.comp_invariant.proofs.Common.{◌∙◌, ap, subst, leb-true, Capability, Setting, IsSetting, Reply, EntryAt, LoadOf, State, comp_of}
+use Rattle.comp_invariant.proofs.Common.{Slot, Named, found, root_at, reached, has_no_slot, own, Under, InRoot, RuleMay, Refused, rule_of}
+use Rattle.comp_invariant.proofs.Common.{change_of, are_calls_spent, Step, Trace, Open, phase, state_after, last_left, refused_first}
+use Rattle.comp_invariant.proofs.Common.{Carries, Look, AtRoot, AtEntry, Spot, Nowhere, Plan, plan_for, GoesBy, own_pages, wants}
+use Rattle.comp_invariant.proofs.Common.{with_found, names_after, Leads, LeadsIn, Next, NextName, NextFree, NextHeld, next_of, NextMay}
+use Rattle.comp_invariant.proofs.Common.{calls_go, next_may, Lookup, Read, Undecided, ActiveCall, Goes, WorkStep, refuse, reads_of}
+use Rattle.comp_invariant.proofs.Common.{act_begun, holds_counts, ReadIs, ReadBefore, LooksUp, own_in, NamesAre, LooksFor, phase_at}
+use Rattle.comp_invariant.proofs.Common.{landed, found_more, Core, holds_in, Invariant, Relies}
 use Rattle.comp_invariant.specs.spk_nums.specs.declared.replies.Reply.TheVariants as reply
-use Rattle.comp_invariant.specs.word_map.specs.Word.{EntryAt}
-use Rattle.comp_invariant.specs.word_map.specs.Moves.{LoadOf}
-use Rattle.comp_invariant.specs.kernel_rules.specs.State.{State, comp_of}
-use Rattle.comp_invariant.specs.kernel_rules.specs.Access.{Slot, Named, found, root_at, reached, has_no_slot, own, Target as place}
-use Rattle.comp_invariant.specs.kernel_rules.specs.Access.{Under, InRoot}
-use Rattle.comp_invariant.specs.kernel_rules.specs.Rules.{RuleMay, Refused}
-use Rattle.comp_invariant.specs.kernel_rules.specs.CallRelation.{rule_of, change_of, are_calls_spent}
-use Rattle.comp_invariant.specs.kernel_history.specs.Trace.{Step, Trace, Open, phase, state_after, last_left}
-use Rattle.comp_invariant.specs.trace_laws.proofs.AloneCalls.{refused_first}
-use Rattle.comp_invariant.specs.trace_laws.proofs.Carries.{Carries}
+use Rattle.comp_invariant.specs.kernel_rules.specs.Access.{Target as place}
 use Rattle.comp_invariant.specs.trace_laws.proofs.Stays.{relies_table}
-use Rattle.comp_invariant.specs.stage_look.specs.declared.look.Look.{Look}
-use Rattle.comp_invariant.specs.stage_look.specs.declared.look.Look.TheVariants.{AtRoot, AtEntry}
-use Rattle.comp_invariant.specs.call_plans.specs.declared.plans.Spot.{Spot}
 use Rattle.comp_invariant.specs.call_plans.specs.declared.plans.Spot.TheVariants as spot_of
 use Rattle.comp_invariant.specs.call_plans.specs.declared.plans.Target.{Target}
-use Rattle.comp_invariant.specs.call_plans.specs.declared.plans.Target.TheVariants.{Nowhere, Free, Held, Own as own_page}
-use Rattle.comp_invariant.specs.call_plans.specs.declared.plans.Plan.{Plan}
-use Rattle.comp_invariant.specs.call_plans.specs.PlanOf.{plan_for}
-use Rattle.comp_invariant.specs.call_plans.specs.GoesBy.{GoesBy, own_pages, earlier, wants, place_of_spot}
+use Rattle.comp_invariant.specs.call_plans.specs.declared.plans.Target.TheVariants.{Free, Held, Own as own_page}
+use Rattle.comp_invariant.specs.call_plans.specs.GoesBy.{earlier, place_of_spot}
 use Rattle.comp_invariant.specs.call_plans.specs.Rooted.{IsRooted}
-use Rattle.comp_invariant.specs.call_plans.specs.After.{with_found, names_after, Leads, LeadsIn, Next, NextName}
-use Rattle.comp_invariant.specs.call_plans.specs.After.{NextFree, NextHeld, next_target, next_of, NextMay}
-use Rattle.comp_invariant.specs.call_plans.proofs.CallsGoBy.{calls_go}
+use Rattle.comp_invariant.specs.call_plans.specs.After.{next_target}
 use Rattle.comp_invariant.specs.call_plans.proofs.RootedTargets.{rooted}
-use Rattle.comp_invariant.specs.call_plans.proofs.AfterNames.{next_may}
 use Rattle.comp_invariant.specs.plan_ways.specs.Laws.{NextRefused}
 use Rattle.comp_invariant.specs.plan_ways.proofs.Ways.{next_first}
 use Rattle.comp_invariant.specs.act_states.specs.declared.refusals.Refusal.TheVariants as refusal
-use Rattle.comp_invariant.specs.act_states.specs.declared.work.Work.TheVariants.{Lookup, Read}
-use Rattle.comp_invariant.specs.call_stages.specs.declared.stages.Stage.TheVariants.{Undecided}
-use Rattle.comp_invariant.specs.call_stages.specs.declared.stages.ActiveCall.{ActiveCall}
-use Rattle.comp_invariant.specs.act_states.specs.declared.work.WorkStep.TheVariants.{Goes}
-use Rattle.comp_invariant.specs.act_states.specs.declared.work.WorkStep.{WorkStep}
-use Rattle.comp_invariant.specs.act_states.specs.WorkSteps.{refuse}
-use Rattle.comp_invariant.specs.act_states.specs.Acts.{reads_of, act_begun}
-use Rattle.comp_invariant.specs.core_invariant.specs.Holding.{holds_counts}
-use Rattle.comp_invariant.specs.core_invariant.specs.Knows.{ReadIs, ReadBefore, LooksUp, own_in, NamesAre, LooksFor, phase_at}
 use Rattle.comp_invariant.specs.act_states.specs.Lookups.{read_first, looks_under, looks_entry, looks_at, next_step}
-use Rattle.comp_invariant.specs.call_stages.specs.Steps.{landed, found_more, next_by as what_next}
-use Rattle.comp_invariant.specs.call_stages.specs.View.{Core}
-use Rattle.comp_invariant.specs.core_invariant.specs.Invariant.{holds_in, Invariant}
+use Rattle.comp_invariant.specs.call_stages.specs.Steps.{next_by as what_next}
 use Rattle.comp_invariant.specs.step_ways.proofs.Loads.{OnlyLooks, core_is, call_is, is_active, loads_on, decides_on, step_to}
 use Rattle.comp_invariant.specs.step_ways.proofs.Refusals.{GoodTook, not_spent}
 use Rattle.comp_invariant.specs.count_invariant.proofs.Findings.{own_is, past_slot, past_unreached, named_no_slot}
 use Rattle.comp_invariant.specs.count_invariant.proofs.Next.{MayUse, spot_relies, Rest, ANameLeft, NoneLeft, rest_of, next_name, next_end}
 use Rattle.work_invariant.proofs.ByCall.{vacant_no_slot, held_no_slot, past_entry, past_entry_unreached, own_unnamed}
 use Rattle.work_invariant.proofs.Reading.{reads_comp}
-use Rattle.comp_invariant.specs.kernel_rules.specs.Relies.{Relies}
 
 module _ (setup : Setting) (setting : IsSetting setup) (cores : ℕ → Core) (t : Trace) (stands : Invariant setup cores t) (c : ℕ)
     (here : c < setup.cores)

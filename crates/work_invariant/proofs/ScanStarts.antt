@@ -1,25 +1,11 @@
 -- What a call knows that has found its target quiescing: since which stamp, and what is known of it before a core or a flush is scanned, or
 -- where there is none to be scanned.
-use Rattle.std.proofs.Common.{◌≡◌, ◌≢◌, ℕ, ◌<◌, ◌≤◌, false, List, [], ◌∷◌, Some, None, arith, refl, sym, ◌∙◌, ap, subst}
-use Rattle.comp_invariant.specs.spk_nums.specs.Setting.{Setting, IsSetting}
-use Rattle.comp_invariant.specs.entry_words.specs.EntryWord.{entry_of_word}
+use Rattle.comp_invariant.proofs.Common.{◌≡◌, ◌≢◌, ℕ, ◌<◌, ◌≤◌, false, List, [], ◌∷◌, Some, None, arith, refl, sym, ◌∙◌, ap, subst}
+use Rattle.comp_invariant.proofs.Common.{Setting, IsSetting, entry_of_word, EntryAt, LoadOf, Thing, PlaceOf, Slot, IsRemoved, clock}
+use Rattle.comp_invariant.proofs.Common.{stamp, Step, Trace, Open, phase, state_after, last_left, WasAt, was_now, Plan, plan_for, Leads}
+use Rattle.comp_invariant.proofs.Common.{LeadsIn, NextFree, next_of, fills_page, ActiveCall, Core, HasFlushed, IsScanned, Invariant}
 use Rattle.comp_invariant.specs.entry_words.specs.declared.entry.Entry.TheVariants as entry
-use Rattle.comp_invariant.specs.word_map.specs.Word.{EntryAt}
-use Rattle.comp_invariant.specs.word_map.specs.Moves.{LoadOf}
-use Rattle.comp_invariant.specs.kernel_rules.specs.State.{Thing, PlaceOf}
-use Rattle.comp_invariant.specs.kernel_rules.specs.Access.{Slot, Target as place}
-use Rattle.comp_invariant.specs.kernel_history.specs.Justified.{IsRemoved}
-use Rattle.comp_invariant.specs.kernel_history.specs.Stamps.{clock, stamp}
-use Rattle.comp_invariant.specs.kernel_history.specs.Trace.{Step, Trace, Open, phase, state_after, last_left, WasAt}
-use Rattle.comp_invariant.specs.trace_laws.proofs.Carries.{was_now}
-use Rattle.comp_invariant.specs.call_plans.specs.declared.plans.Plan.{Plan}
-use Rattle.comp_invariant.specs.call_plans.specs.PlanOf.{plan_for}
-use Rattle.comp_invariant.specs.call_plans.specs.After.{Leads, LeadsIn, NextFree, next_of}
-use Rattle.comp_invariant.specs.act_states.specs.Acts.{fills_page}
-use Rattle.comp_invariant.specs.call_stages.specs.declared.stages.ActiveCall.{ActiveCall}
-use Rattle.comp_invariant.specs.call_stages.specs.View.{Core}
-use Rattle.comp_invariant.specs.core_invariant.specs.Knows.{HasFlushed, IsScanned}
-use Rattle.comp_invariant.specs.core_invariant.specs.Invariant.{Invariant}
+use Rattle.comp_invariant.specs.kernel_rules.specs.Access.{Target as place}
 use Rattle.comp_invariant.specs.step_ways.proofs.Loads.{step_to, is_active}
 use Rattle.comp_invariant.specs.count_invariant.proofs.Lookups.{Arrives}
 use Rattle.comp_invariant.specs.place_invariant.proofs.Paging.{paging_by}

@@ -1,27 +1,15 @@
 -- A step of a call is good, by the stage where the call stands: its work, the stores after its decision, the counts that it then commits,
 -- the load of the clock, and the store of its core word.
-use Rattle.std.proofs.Common.{◌≡◌, ◌∙◌, inl, ℕ, ◌^◌, ◌<◌, ◌∷◌, Option, Some, None, List, [], arith, false, refl, sym, ap, subst}
-use Rattle.std.proofs.lemmas.Bool.{lt-ltb}
-use Rattle.comp_invariant.specs.spk_nums.specs.Setting.{Setting, IsSetting}
-use Rattle.comp_invariant.specs.spk_nums.specs.declared.replies.Reply.{Reply}
-use Rattle.comp_invariant.specs.word_map.specs.Word.{CoreAt, ClockAt}
-use Rattle.comp_invariant.specs.word_map.specs.Moves.{LoadOf, StoreOf, word_of, told_of}
-use Rattle.comp_invariant.specs.kernel_history.specs.Trace.{Step, Trace, last_left}
-use Rattle.comp_invariant.specs.kernel_history.specs.Stamps.{clock}
+use Rattle.comp_invariant.proofs.Common.{◌≡◌, ◌∙◌, inl, ℕ, ◌^◌, ◌<◌, ◌∷◌, Option, Some, None, List, [], arith, false, refl, sym, ap}
+use Rattle.comp_invariant.proofs.Common.{subst, lt-ltb, Setting, IsSetting, Reply, CoreAt, ClockAt, LoadOf, StoreOf, word_of, told_of}
+use Rattle.comp_invariant.proofs.Common.{Step, Trace, last_left, clock, Nothing, Quiesce, Unmark, StoreDead, StoreFlush, Release}
+use Rattle.comp_invariant.proofs.Common.{StoreLive, Push, Pop, Share, StoreRunning, StoreIdle, Stage, Enter, Undecided, Decided, Leave}
+use Rattle.comp_invariant.proofs.Common.{ActiveCall, Core, Acquired, holds_counts, core_word, stage_move, Took, GoesOn, Returns}
+use Rattle.comp_invariant.proofs.Common.{went_with, KnowsAt, Knows, done_by, holds_at, Invariant, phase_at}
 use Rattle.comp_invariant.specs.kernel_history.proofs.Steps.{clock_seen-own}
-use Rattle.comp_invariant.specs.act_states.specs.declared.work.Tail.TheVariants.{Nothing, Quiesce, Unmark, StoreDead, StoreFlush, Release}
-use Rattle.comp_invariant.specs.act_states.specs.declared.work.Tail.TheVariants.{StoreLive, Push, Pop, Share, StoreRunning, StoreIdle}
-use Rattle.comp_invariant.specs.call_stages.specs.declared.stages.Stage.{Stage}
-use Rattle.comp_invariant.specs.call_stages.specs.declared.stages.Stage.TheVariants.{Enter, Undecided, Decided, Leave}
-use Rattle.comp_invariant.specs.call_stages.specs.declared.stages.ActiveCall.{ActiveCall}
-use Rattle.comp_invariant.specs.call_stages.specs.View.{Core}
 use Rattle.comp_invariant.specs.call_stages.specs.Tails.{tail_move, stamp_if, stamp_of, took_tail, tail_counts}
-use Rattle.comp_invariant.specs.stage_pins.specs.declared.held.Acquired.{Acquired}
-use Rattle.comp_invariant.specs.core_invariant.specs.Holding.{holds_counts}
 use Rattle.comp_invariant.specs.count_invariant.proofs.Acquiring.{commit_good}
-use Rattle.comp_invariant.specs.call_stages.specs.Steps.{core_word, stage_move, Took, GoesOn, Returns, went_with, took_at}
-use Rattle.comp_invariant.specs.core_invariant.specs.Knows.{KnowsAt, Knows}
-use Rattle.comp_invariant.specs.core_invariant.specs.Invariant.{done_by, holds_at, Invariant}
+use Rattle.comp_invariant.specs.call_stages.specs.Steps.{took_at}
 use Rattle.comp_invariant.specs.step_ways.proofs.Loads.{step_to, loads_on}
 use Rattle.comp_invariant.specs.step_ways.proofs.Writes.{clock_small, leaves_on}
 use Rattle.comp_invariant.specs.step_ways.proofs.Refusals.{GoodTook}
@@ -35,7 +23,6 @@ use Rattle.page_invariant.proofs.Flushes.{flushed_good}
 use Rattle.switch_invariant.proofs.Stores.{running_good, idle_good}
 use Rattle.sweep_invariant.proofs.Releases.{release_good}
 use Rattle.work_invariant.proofs.Work.{work_good}
-use Rattle.comp_invariant.specs.core_invariant.specs.Knows.{phase_at}
 
 module _ (setup : Setting) (setting : IsSetting setup) (cores : ℕ → Core) (t : Trace) (stands : Invariant setup cores t) (c : ℕ)
     (here : c < setup.cores) where

@@ -1,33 +1,20 @@
 -- A step of the work of an undecided call is good.
+use Rattle.comp_invariant.proofs.Common.{◌≡◌, ℕ, ◌<◌, Some, sym, ap, subst, false≢true, Setting, IsSetting, word_of, told_of, Trace}
+use Rattle.comp_invariant.proofs.Common.{last_left, shown_in, look_move, Look, AtRoot, AtLeaf, AtEntry, Outside, Work, Lookup, Read, Scan}
+use Rattle.comp_invariant.proofs.Common.{Acquire, Act, Undecided, ActiveCall, Core, KnowsUndecided, Invariant, AtLoad}
 use Rattle.switch_invariant.specs.thread_invariant.proofs.Left.{returning_good}
 use Rattle.switch_invariant.specs.thread_invariant.proofs.Entered.{invoking_good}
-use Rattle.std.proofs.Common.{◌≡◌, ℕ, ◌<◌, Some, sym, ap, subst}
-use Rattle.std.proofs.lemmas.Bool.{false≢true}
-use Rattle.comp_invariant.specs.spk_nums.specs.Setting.{Setting, IsSetting}
-use Rattle.comp_invariant.specs.word_map.specs.Moves.{word_of, told_of}
-use Rattle.comp_invariant.specs.kernel_history.specs.Trace.{Trace, last_left}
-use Rattle.comp_invariant.specs.stage_look.specs.Shown.{shown_in}
-use Rattle.comp_invariant.specs.stage_look.specs.Lookup.{look_move}
-use Rattle.comp_invariant.specs.stage_look.specs.declared.look.Look.{Look}
-use Rattle.comp_invariant.specs.stage_look.specs.declared.look.Look.TheVariants.{AtRoot, AtLeaf, AtEntry}
 use Rattle.comp_invariant.specs.act_states.specs.declared.work.Act.TheVariants.{Fill as fill_act, Remove as remove_act, Retype as type_act}
-use Rattle.comp_invariant.specs.act_states.specs.declared.work.Act.TheVariants.{Make as make_act, Outside, Tick as tick_act}
+use Rattle.comp_invariant.specs.act_states.specs.declared.work.Act.TheVariants.{Make as make_act, Tick as tick_act}
 use Rattle.comp_invariant.specs.act_states.specs.declared.work.Act.TheVariants.{Flush as flush_act}
 use Rattle.comp_invariant.specs.act_states.specs.declared.work.Act.TheVariants.{Kill as kill_act, Untype as untype_act, Map as map_act}
 use Rattle.comp_invariant.specs.act_states.specs.declared.work.Act.TheVariants.{MakeComp as comp_act, Invoke as invoke_act}
 use Rattle.comp_invariant.specs.act_states.specs.declared.work.Act.TheVariants.{Return as return_act}
 use Rattle.comp_invariant.specs.act_states.specs.declared.work.Act.TheVariants.{Touch as touch_act, Share as share_act}
 use Rattle.comp_invariant.specs.act_states.specs.declared.work.Act.TheVariants.{Switch as switch_act}
-use Rattle.comp_invariant.specs.act_states.specs.declared.work.Work.{Work}
-use Rattle.comp_invariant.specs.act_states.specs.declared.work.Work.TheVariants.{Lookup, Read, Scan, Acquire, Act}
-use Rattle.comp_invariant.specs.call_stages.specs.declared.stages.Stage.TheVariants.{Undecided}
-use Rattle.comp_invariant.specs.call_stages.specs.declared.stages.ActiveCall.{ActiveCall}
-use Rattle.comp_invariant.specs.call_stages.specs.View.{Core}
 use Rattle.comp_invariant.specs.call_stages.specs.Steps.{work_move, took_look, took_work}
-use Rattle.comp_invariant.specs.core_invariant.specs.Knows.{KnowsUndecided}
-use Rattle.comp_invariant.specs.core_invariant.specs.Invariant.{Invariant}
 use Rattle.comp_invariant.specs.step_ways.proofs.Refusals.{GoodTook}
-use Rattle.comp_invariant.specs.stage_pins.specs.declared.pin.Pin.TheVariants.{AtLoad, AtCompare}
+use Rattle.comp_invariant.specs.stage_pins.specs.declared.pin.Pin.TheVariants.{AtCompare}
 use Rattle.comp_invariant.specs.count_invariant.proofs.Acquiring.{acquire_good}
 use Rattle.work_invariant.proofs.ByPlan.{lookup_good}
 use Rattle.work_invariant.proofs.Reading.{read_good}

@@ -1,0 +1,208 @@
+-- Tests of worked traces, which the checker computes: a step may follow, is near its call, keeps its call's bound; and what a call
+-- does out of the discipline, or far from its footprint, is refused.
+use Rattle.std.proofs.Common.{◌≡◌, ◌≢◌, ◌⊎◌, inl, inr, ℕ, ◌^◌, ◌==◌, ◌&&◌, Bool, true, false, [], ◌∷◌, List, Option, Some, None}
+use Rattle.std.proofs.Common.{refl, sym, ◌∙◌, ap, subst}
+use Rattle.std.specs.Prelude.{nat_lt, nat_le, is_some, IsSome}
+use Rattle.std.proofs.lemmas.Bool.{and_parts, ltb-true, leb-true, eqb-true, false≢true}
+use Rattle.std.proofs.lemmas.List.Elements.{All-nil, All-cons}
+use Rattle.spk_nums.specs.Bounds.{bound_of}
+use Rattle.spk_nums.specs.Setting.{Setting}
+use Rattle.spk_nums.specs.declared.calls.Call.{Call}
+use Rattle.word_map.specs.Word.{Word, EntryAt, FrameAt, CountAt, CoreAt, FlushAt, LiveAt, ClockAt}
+use Rattle.word_map.specs.Places.{Shape, IsIn, counter_of, shared}
+use Rattle.word_map.specs.Moves.{Move, LoadOf, CompareOf, StoreOf, AddOf, word_of, left_of}
+use Rattle.kernel_rules.specs.Access.{Slot}
+use Rattle.kernel_rules.specs.State.{State}
+use Rattle.kernel_history.specs.BootWords.{shape_of}
+use Rattle.kernel_history.specs.Bounds.{call_in, IsWithin, KeepsBounds}
+use Rattle.kernel_history.specs.Discipline.{may_load, may_change, raises_clock, MayRaise, MayMove, KeepsDiscipline}
+use Rattle.kernel_history.specs.Footprint.{frames_near, numbers_near, is_one_of, IsNearIn, StepsNear, KeepsFootprints}
+use Rattle.kernel_history.specs.Justified.{HasReached}
+use Rattle.kernel_history.specs.Legal.{MayEnter, MayDecide, MayReturn, MayFollow}
+use Rattle.kernel_history.specs.Stamps.{is_in}
+use Rattle.kernel_history.specs.Trace.{Step, Trace, Phase, Out, Open, Decided, phase, after_enter, after_decide}
+use Rattle.kernel_history.specs.Trace.{state_after, state_before, last_left, own_left, steps_in_call}
+
+pub neither : {A B : Type 0} → (A → ⊥) → (B → ⊥) → A ⊎ B → ⊥
+neither a b (inl x) = a x
+neither a b (inr y) = b y
+
+pub none : ⊥ → ⊥
+none x = x
+
+-- Whether the machine has a word by this name.
+abbrev has_word : Shape → Word → Bool
+has_word s (EntryAt f i) = nat_lt f s.frames && nat_lt i 64
+has_word s (FrameAt f) = nat_lt f s.frames
+has_word s (CountAt f d) = nat_lt f s.frames && (nat_lt d s.cores && counter_of d == d)
+has_word s (CoreAt d) = nat_lt d s.cores
+has_word s (FlushAt d) = nat_lt d s.cores
+has_word s (LiveAt l) = nat_lt l 64
+has_word s ClockAt = true
+
+word_is_in : (s : Shape) (w : Word) → has_word s w ≡ true → IsIn s w
+word_is_in s (EntryAt f i) has = let p = and_parts _ _ has in (ltb-true _ _ p.0, ltb-true _ _ p.1)
+word_is_in s (FrameAt f) has = ltb-true _ _ has
+word_is_in s (CountAt f d) has = let p = and_parts _ _ has in (ltb-true _ _ p.0, ltb-true _ _ (and_parts _ _ p.1).0)
+word_is_in s (CoreAt d) has = ltb-true _ _ has
+word_is_in s (FlushAt d) has = ltb-true _ _ has
+word_is_in s (LiveAt l) has = ltb-true _ _ has
+word_is_in s ClockAt has = tt
+
+word_is_named : (s : Shape) (w : Word) → has_word s w ≡ true → shared w ≡ w
+word_is_named s (EntryAt f i) has = refl
+word_is_named s (FrameAt f) has = refl
+word_is_named s (CountAt f d) has = ap (CountAt f) (eqb-true _ _ (and_parts _ _ (and_parts _ _ has).1).1)
+word_is_named s (CoreAt d) has = refl
+word_is_named s (FlushAt d) has = refl
+word_is_named s (LiveAt l) has = refl
+word_is_named s ClockAt has = refl
+
+in_call : (p : Phase) → is_in p ≡ true → p ≢ Out
+in_call Out is out = false≢true is
+in_call (Open call) is out = cc
+in_call (Decided call r) is out = cc
+
+-- Whether a step is of a core of the machine on a word of it, leaves 64 bits, and stands in a call.
+abbrev pub fits : Setting → Trace → Step → Bool
+fits setup t e =
+    nat_lt e.core setup.cores
+    && (has_word (shape_of setup) (word_of e.move)
+    && (nat_lt (left_of e.move e.found) (2 ^ 64) && is_in (after_enter e.enters (phase t e.core))))
+
+-- A step that fits, finds what was left, and enters, decides and returns by the rules, may follow.
+pub may_follow : {setup : Setting} {t : Trace} {e : Step} → fits setup t e ≡ true → e.found ≡ last_left setup t (word_of e.move)
+    → MayEnter e.enters (phase t e.core) → MayDecide setup t e e.decides (after_enter e.enters (phase t e.core))
+    → MayReturn e.returns (after_decide e.decides (after_enter e.enters (phase t e.core))) → MayFollow setup t e
+may_follow {setup} {t} {e} fit found enters decides returns =
+    let core = and_parts (nat_lt e.core setup.cores) _ fit in
+    let word = and_parts (has_word (shape_of setup) (word_of e.move)) _ core.1 in
+    let left = and_parts (nat_lt (left_of e.move e.found) (2 ^ 64)) _ word.1 in
+    record {
+      is_core = ltb-true _ _ core.0;
+      is_in = word_is_in (shape_of setup) (word_of e.move) word.0;
+      is_named = word_is_named (shape_of setup) (word_of e.move) word.0;
+      found = found;
+      small = ltb-true _ _ left.0;
+      enters = enters;
+      in_call = in_call (after_enter e.enters (phase t e.core)) left.1;
+      decides = decides;
+      returns = returns;
+    }
+
+-- Whether a step that may be in a call is within the call's bound.
+abbrev within_of : ℕ → ℕ → Option Call → Bool
+within_of n steps None = false
+within_of n steps (Some call) = nat_le steps (bound_of call n)
+
+abbrev pub is_within : ℕ → Trace → Bool
+is_within n [] = true
+is_within n (e ∷ t) = is_within n t && within_of n (steps_in_call (e ∷ t) e.core) (call_in (after_enter e.enters (phase t e.core)))
+
+pub keeps_bounds : (n : ℕ) (t : Trace) → is_within n t ≡ true → KeepsBounds n t
+keeps_bounds n [] is = tt
+keeps_bounds n (e ∷ t) is = let p = and_parts (is_within n t) _ is in
+    (keeps_bounds n t p.0, step (call_in (after_enter e.enters (phase t e.core))) refl p.1)
+  where
+    step : (o : Option Call) → call_in (after_enter e.enters (phase t e.core)) ≡ o
+        → within_of n (steps_in_call (e ∷ t) e.core) o ≡ true → IsWithin n t e
+    step None o is = absurd (false≢true is)
+    step (Some call) o is = record { call = call; is_of = o; steps = leb-true _ _ is }
+
+-- Whether a word is near a call.
+abbrev pub is_near_in : ℕ → Call → Word → State → Bool
+is_near_in c call (EntryAt f i) s = is_one_of f (frames_near s c call)
+is_near_in c call (FrameAt f) s = is_one_of f (frames_near s c call)
+is_near_in c call (CountAt f d) s = is_one_of f (frames_near s c call)
+is_near_in c call (CoreAt d) s = true
+is_near_in c call (FlushAt d) s = true
+is_near_in c call (LiveAt l) s = is_one_of l (numbers_near s c call)
+is_near_in c call ClockAt s = true
+
+near_in : (c : ℕ) (call : Call) (w : Word) (s : State) → is_near_in c call w s ≡ true → IsNearIn c call w s
+near_in c call (EntryAt f i) s is = is
+near_in c call (FrameAt f) s is = is
+near_in c call (CountAt f d) s is = is
+near_in c call (CoreAt d) s is = tt
+near_in c call (FlushAt d) s is = tt
+near_in c call (LiveAt l) s is = is
+near_in c call ClockAt s is = tt
+
+abbrev near_of : Setting → Trace → Step → Option Call → Bool
+near_of setup t e None = false
+near_of setup t e (Some call) = is_near_in e.core call (word_of e.move) (state_before setup t e)
+
+abbrev pub is_near : Setting → Trace → Bool
+is_near setup [] = true
+is_near setup (e ∷ t) = is_near setup t && near_of setup t e (call_in (after_enter e.enters (phase t e.core)))
+
+pub keeps_footprints : (setup : Setting) (t : Trace) → is_near setup t ≡ true → KeepsFootprints setup t
+keeps_footprints setup [] is = tt
+keeps_footprints setup (e ∷ t) is = let p = and_parts (is_near setup t) _ is in
+    (keeps_footprints setup t p.0, step (call_in (after_enter e.enters (phase t e.core))) refl p.1)
+  where
+    step : (o : Option Call) → call_in (after_enter e.enters (phase t e.core)) ≡ o → near_of setup t e o ≡ true → StepsNear setup t e
+    step None o is = absurd (false≢true is)
+    step (Some call) o is =
+        record { call = call; is_of = o; near = inl (near_in e.core call (word_of e.move) (state_before setup t e) is) }
+
+pub some_call : (j k : Call) → Some j ≡ Some k → j ≡ k
+some_call j k same = cc
+
+-- A word that is not near a call.
+pub not_near_in : (c : ℕ) (call : Call) (w : Word) (s : State) → is_near_in c call w s ≡ false → IsNearIn c call w s → ⊥
+not_near_in c call (EntryAt f i) s not is = false≢true (sym not ∙ is)
+not_near_in c call (FrameAt f) s not is = false≢true (sym not ∙ is)
+not_near_in c call (CountAt f d) s not is = false≢true (sym not ∙ is)
+not_near_in c call (CoreAt d) s not is = false≢true (sym not)
+not_near_in c call (FlushAt d) s not is = false≢true (sym not)
+not_near_in c call (LiveAt l) s not is = false≢true (sym not ∙ is)
+not_near_in c call ClockAt s not is = false≢true (sym not)
+
+-- Whether a call may make an operation.
+abbrev raises_well : Call → Word → ℕ → Bool
+raises_well call (EntryAt f i) by = false
+raises_well call (FrameAt f) by = false
+raises_well call (CountAt f d) by = false
+raises_well call (CoreAt d) by = false
+raises_well call (FlushAt d) by = false
+raises_well call (LiveAt l) by = false
+raises_well call ClockAt by = raises_clock call && by == 1
+
+abbrev pub moves_well : State → ℕ → Call → Move → Bool
+moves_well s c call (LoadOf w) = may_load call w
+moves_well s c call (CompareOf w expected new) = may_change s c call w
+moves_well s c call (StoreOf w new) = may_change s c call w
+moves_well s c call (AddOf w by) = raises_well call w by
+
+may_raise : (call : Call) (w : Word) (by : ℕ) → MayRaise call w by → raises_well call w by ≡ true
+may_raise call (EntryAt f i) by may = absurd may
+may_raise call (FrameAt f) by may = absurd may
+may_raise call (CountAt f d) by may = absurd may
+may_raise call (CoreAt d) by may = absurd may
+may_raise call (FlushAt d) by may = absurd may
+may_raise call (LiveAt l) by may = absurd may
+may_raise call ClockAt by may = rw (may.0, may.1)
+
+may_move : (s : State) (c : ℕ) (call : Call) (m : Move) → MayMove s c call m → moves_well s c call m ≡ true
+may_move s c call (LoadOf w) may = may
+may_move s c call (CompareOf w expected new) may = may
+may_move s c call (StoreOf w new) may = may
+may_move s c call (AddOf w by) may = may_raise call w by may
+
+-- A step that its call may not make breaks the discipline.
+pub undisciplined : {setup : Setting} {t : Trace} {e : Step} (call : Call) → call_in (after_enter e.enters (phase t e.core)) ≡ Some call
+    → moves_well (state_after setup t) e.core call e.move ≡ false → KeepsDiscipline setup (e ∷ t) → ⊥
+undisciplined {setup} {t} {e} call is not keeps = false≢true (sym not
+    ∙ may_move (state_after setup t) e.core call e.move
+    (subst (λ k. MayMove (state_after setup t) e.core k e.move) (some_call keeps.1.call call (sym keeps.1.is_of ∙ is)) keeps.1.moves))
+
+-- The places that a core's call has stepped on.
+abbrev pub has_stepped : Trace → ℕ → List Slot → Bool
+has_stepped t c [] = true
+has_stepped t c (at ∷ slots) = is_some (own_left t c (EntryAt at.node at.index)) && has_stepped t c slots
+
+pub has_reached : (t : Trace) (c : ℕ) (slots : List Slot) → has_stepped t c slots ≡ true → HasReached t c slots
+has_reached t c [] is = All-nil (λ at. IsSome (own_left t c (EntryAt at.node at.index)))
+has_reached t c (at ∷ slots) is = let p = and_parts (is_some (own_left t c (EntryAt at.node at.index))) _ is in
+    All-cons (λ at. IsSome (own_left t c (EntryAt at.node at.index))) at slots p.0 (has_reached t c slots p.1)

@@ -1,0 +1,146 @@
+-- What each permissive definition refuses: traces that break it, and keep the others.
+use Rattle.std.specs.Prelude.{◌≡◌, ◌<◌, ℕ, [], ◌∷◌, Some, None}
+use Rattle.spk_nums.specs.declared.kinds.FrameKind.TheVariants as frame_kind
+use Rattle.spk_nums.specs.declared.kinds.PageFlags.{PageFlags}
+use Rattle.spk_nums.specs.declared.steps.Item.{Item}
+use Rattle.spk_nums.specs.declared.steps.How.TheVariants.{One, Ready, Decide, Return}
+use Rattle.spk_nums.specs.declared.calls.Call.{Call}
+use Rattle.spk_nums.specs.declared.calls.Make.TheVariants as make
+use Rattle.spk_nums.specs.declared.calls.Call.TheVariants as call
+use Rattle.spk_nums.specs.declared.replies.Reply.{Reply}
+use Rattle.spk_nums.specs.declared.replies.Reply.TheVariants as reply
+use Rattle.word_map.specs.Word.{EntryAt, FrameAt, CountAt, CoreAt, FlushAt, LiveAt, ClockAt}
+use Rattle.word_map.specs.Moves.{Move, LoadOf, CompareOf, StoreOf, AddOf, word_of}
+use Rattle.kernel_rules.specs.CallRelation.{MayReply}
+use Rattle.kernel_history.specs.Trace.{Step, Trace, Open, phase, state_before}
+use Rattle.kernel_history.specs.Justified.{IsJustified}
+use Rattle.kernel_history.specs.Legal.{IsLegal}
+use Rattle.kernel_history.specs.Bounds.{KeepsBounds}
+use Rattle.kernel_history.specs.Footprint.{KeepsFootprints}
+use Rattle.kernel_history.specs.Discipline.{KeepsDiscipline}
+use Rattle.kernel_history.specs.Moments.{WordsSayAlong}
+use Rattle.kernel_history.specs.Order.{IsIdle, Follows}
+use Rattle.kernel_history.specs.Scenes.{two_cores, there, enters, goes, decides, loads, one_step, range_word, mark_word, done, retyped}
+use Rattle.kernel_history.specs.Scenes.{named, half_named, marked_beside, name_removed, other_enters, clock_raised, fills_again}
+use Rattle.kernel_history.specs.Scenes.{between, both_look, ready_to_look}
+
+-- The trace is legal, on words near its calls and within their bounds, but steps out of the discipline.
+pub record BreaksDiscipline (t : Trace) : Type 0 where
+  pub legal : IsLegal two_cores t
+  pub near : KeepsFootprints two_cores t
+  pub within : KeepsBounds 2 t
+  pub refused : KeepsDiscipline two_cores t → ⊥
+
+-- No page flags.
+abbrev pub no_flags : PageFlags
+no_flags = record { 0 = 0 }
+
+-- Each word is stepped on by its calls alone.
+pub record DisciplineRefuses : Type 0 where
+  -- a look that empties the place that it looks at
+  pub look_changes_a_place : BreaksDiscipline (one_step (call.Look 0) (StoreOf (EntryAt 1 0) 0))
+  -- a copy that writes a thread, a temporal capability or a component
+  pub copy_changes_a_thread : BreaksDiscipline (one_step (call.Copy 0 1 20) (StoreOf (EntryAt 4 1) 0))
+  pub copy_changes_a_budget : BreaksDiscipline (one_step (call.Copy 0 1 20) (StoreOf (EntryAt 6 0) 0))
+  pub return_changes_a_component : BreaksDiscipline (one_step call.Ret (StoreOf (EntryAt 3 0) 1))
+  -- a retype that writes in a frame that is untyped, of a user, or blank
+  pub retype_writes_untyped : BreaksDiscipline (one_step (call.Retype 0 8 frame_kind.User) (StoreOf (EntryAt 8 0) 1))
+  pub retype_writes_a_user_frame : BreaksDiscipline (goes 0 (StoreOf (EntryAt 8 0) 1) (retyped frame_kind.User 1))
+  pub retype_writes_a_blank_frame : BreaksDiscipline (goes 0 (StoreOf (EntryAt 8 0) 1) (retyped frame_kind.Kernel 2))
+  -- a copy that looks at what a frame is, and a map that changes it
+  pub copy_looks_at_a_frame : BreaksDiscipline (one_step (call.Copy 0 1 20) (LoadOf (FrameAt 1)))
+  pub map_changes_a_frame : BreaksDiscipline (one_step (call.Map 2 0 0 8 no_flags) (StoreOf (FrameAt 8) 1))
+  -- a copy that looks at a liveness number; a call through a gate, and a make of a leaf, that change one
+  pub copy_looks_at_a_number : BreaksDiscipline (one_step (call.Copy 0 1 20) (LoadOf (LiveAt 0)))
+  pub gate_changes_a_number : BreaksDiscipline (one_step (call.Call 0) (StoreOf (LiveAt 0) 0))
+  pub leaf_changes_a_number : BreaksDiscipline (one_step (call.Make make.Leaf 0 8 1 20) (StoreOf (LiveAt 0) 0))
+  -- a look that reads a count, and a tick that changes one
+  pub look_reads_a_count : BreaksDiscipline (one_step (call.Look 0) (LoadOf (CountAt 0 0)))
+  pub tick_changes_a_count : BreaksDiscipline (one_step (call.Tick 1) (StoreOf (CountAt 6 0) 0))
+  -- a call that changes the word or the flush word of another core, and a look that changes its own core's flush word
+  pub core_of_another : BreaksDiscipline (one_step (call.Look 0) (StoreOf (CoreAt 1) 1))
+  pub flush_of_another : BreaksDiscipline (one_step call.Flush (StoreOf (FlushAt 1) 1))
+  pub look_stores_a_flush : BreaksDiscipline (one_step (call.Look 0) (StoreOf (FlushAt 0) 1))
+  -- a removal that sets the clock back, or raises it by 2, or raises its core's word, and a copy that raises the clock
+  pub clock_is_set : BreaksDiscipline (one_step (call.Remove 1 0) (StoreOf ClockAt 0))
+  pub clock_jumps : BreaksDiscipline (one_step (call.Remove 1 0) (AddOf ClockAt 2))
+  pub own_word_is_raised : BreaksDiscipline (one_step (call.Remove 1 0) (AddOf (CoreAt 0) 1))
+  pub copy_raises_the_clock : BreaksDiscipline (one_step (call.Copy 0 1 20) (AddOf ClockAt 1))
+  -- core 0 puts the mark of core 1
+  pub puts_the_mark_of_another : BreaksDiscipline (one_step (call.Copy 0 1 20) (StoreOf (EntryAt 1 20) (mark_word 1)))
+  -- core 0 fills the place that core 1 has marked
+  pub fills_a_marked_place :
+      BreaksDiscipline (goes 0 (StoreOf (EntryAt 1 21) range_word) marked_beside)
+
+-- The trace is legal and within its bounds, but a step of it is on a word that is not near its call.
+pub record BreaksFootprint (t : Trace) : Type 0 where
+  pub legal : IsLegal two_cores t
+  pub within : KeepsBounds 2 t
+  pub refused : KeepsFootprints two_cores t → ⊥
+
+-- A call steps near itself alone: on entries, on a frame's word, on its count, and on liveness numbers.
+pub record FootprintsRefuse : Type 0 where
+  pub look_reads_a_far_entry : BreaksFootprint (one_step (call.Look 0) (LoadOf (EntryAt 8 0)))
+  pub map_reads_a_far_frame : BreaksFootprint (one_step (call.Map 2 0 0 8 no_flags) (LoadOf (FrameAt 9)))
+  pub copy_changes_a_far_count : BreaksFootprint (one_step (call.Copy 0 1 20) (StoreOf (CountAt 9 0) 0))
+  pub kill_reads_a_far_number : BreaksFootprint (one_step (call.Kill 3) (LoadOf (LiveAt 5)))
+
+-- A look of five steps is within its bound, and one more breaks it.
+pub record BoundsRefuse : Type 0 where
+  pub within : KeepsBounds 2 (loads 0 1 0 (loads 0 0 0 (loads 0 1 0 (loads 0 0 0 (enters 0 (call.Look 0) [])))))
+  pub legal : IsLegal two_cores (loads 0 0 0 (loads 0 1 0 (loads 0 0 0 (loads 0 1 0 (loads 0 0 0 (enters 0 (call.Look 0) []))))))
+  pub refused : KeepsBounds 2 (loads 0 0 0 (loads 0 1 0 (loads 0 0 0 (loads 0 1 0 (loads 0 0 0 (enters 0 (call.Look 0) [])))))) → ⊥
+
+-- The step at which core c decides.
+abbrev pub deciding : ℕ → Move → Reply → Trace → Step
+deciding c m r t = record { core = c; move = m; found = there t (word_of m); enters = None; decides = Some r; returns = None }
+
+-- Core c decides its call at an operation. But for the decision the step is legal, and the call relation permits the reply; it is
+-- not justified.
+pub record Unjustified (c : ℕ) (m : Move) (k : Call) (r : Reply) (t : Trace) : Type 0 where
+  pub legal : IsLegal two_cores (goes c m t)
+  pub near : KeepsFootprints two_cores (goes c m t)
+  pub within : KeepsBounds 2 (goes c m t)
+  pub is_open : phase t c ≡ Open k
+  pub permitted : MayReply (state_before two_cores t (deciding c m r t)) c k r
+  pub unjustified : IsJustified two_cores t (deciding c m r t) k r → ⊥
+  pub refused : IsLegal two_cores (decides c m r t) → ⊥
+
+pub record JustificationRefuses : Type 0 where
+  -- a copy is carried out, though it has not reached the place of its first name, or its target
+  pub ok_off_the_way : Unjustified 0 (CompareOf (EntryAt 1 20) 0 range_word) (call.Copy 0 1 20) done half_named
+  pub ok_off_its_target : Unjustified 0 (LoadOf (EntryAt 0 0)) (call.Copy 0 1 20) done named
+  -- a copy is held up by a mark in a place of the leaf that is not on its way
+  pub busy_beside_the_way : Unjustified 0 (LoadOf (EntryAt 1 21)) (call.Copy 0 1 20) (reply.Busy 1) marked_beside
+  -- a copy loses a race for the place of a name, for the word of a core, and for the clock
+  pub raced_for_a_name : Unjustified 0 (LoadOf (EntryAt 1 0)) (call.Copy 0 1 20) reply.Raced name_removed
+  pub raced_for_a_core : Unjustified 0 (LoadOf (CoreAt 1)) (call.Copy 0 1 20) reply.Raced other_enters
+  pub raced_for_the_clock : Unjustified 0 (LoadOf ClockAt) (call.Copy 0 1 20) reply.Raced clock_raised
+  -- a copy waits for a core that entered after the place, long removed, was filled again
+  pub waits_for_nothing : Unjustified 0 (LoadOf (EntryAt 1 13)) (call.Copy 0 1 13) (reply.Quiescing 1) fills_again
+
+-- The trace is legal, on words near its calls and within their bounds, but a word says otherwise than the state.
+pub record BreaksWords (t : Trace) : Type 0 where
+  pub legal : IsLegal two_cores t
+  pub near : KeepsFootprints two_cores t
+  pub within : KeepsBounds 2 t
+  pub refused : WordsSayAlong two_cores t → ⊥
+
+-- A core in a call whose word says that it is in none, and a place filled by no decision.
+pub record WordsRefuse : Type 0 where
+  pub core_says_out : BreaksWords (one_step (call.Look 0) (StoreOf (CoreAt 0) 0))
+  pub entry_is_filled : BreaksWords (one_step (call.Copy 0 1 20) (StoreOf (EntryAt 1 20) range_word))
+
+-- The trace does not follow an order of this one item.
+abbrev pub RefusesItem : Item → Trace → Type 0
+RefusesItem item t = Follows ready_to_look both_look (item ∷ []) t → ⊥
+
+-- In a legal trace core 1 looks from entry to return after core 0 has entered its look. It does not begin with a step of core 1,
+-- nor with core 0 up to where it is ready, has decided, or has returned.
+pub record OrderRefuses : Type 0 where
+  pub legal : IsLegal two_cores between
+  pub calls : (c : ℕ) → c < 2 → IsIdle both_look between c
+  pub one : RefusesItem (record { core = 1; how = One }) between
+  pub ready : RefusesItem (record { core = 0; how = Ready }) between
+  pub decide : RefusesItem (record { core = 0; how = Decide }) between
+  pub return : RefusesItem (record { core = 0; how = Return }) between

@@ -1,0 +1,83 @@
+-- What the wrong copies make is no history.
+use Rattle.std.proofs.Common.{◌≡◌, ◌≤◌, [], refl, sym, ap, arith}
+use Rattle.spk_nums.specs.Bounds.{bound_of}
+use Rattle.spk_nums.specs.declared.calls.Call.{Call}
+use Rattle.spk_nums.specs.declared.calls.Call.TheVariants as call
+use Rattle.entry_words.specs.EntryWord.{word_of_entry}
+use Rattle.kernel_history.specs.Legal.{IsLegal}
+use Rattle.kernel_history.specs.Scenes.{two_cores}
+use Rattle.kernel_history.proofs.Computed.{may_follow, some_call}
+use Rattle.kernel_history.proofs.Unjustified.{carried_out, not_permitted}
+use Rattle.wrong_steps.specs.Acts.{copying}
+use Rattle.wrong_steps.specs.Copies.{copied_once, copied_twice, lost, tried, CopiesOverwrite, RetriesGoOn}
+
+both_copying : IsLegal two_cores (copying 1 (copying 0 []))
+unfolding two_cores word_of_entry
+both_copying = (
+  (
+    (
+      (
+        (
+          (
+            (
+              (
+                ((tt, may_follow refl refl (refl, tt) tt tt), may_follow refl refl tt tt tt),
+                may_follow refl refl tt tt tt,
+              ),
+              may_follow refl refl tt tt tt,
+            ),
+            may_follow refl refl tt tt tt,
+          ),
+          may_follow refl refl (refl, tt) tt tt,
+        ),
+        may_follow refl refl tt tt tt,
+      ),
+      may_follow refl refl tt tt tt,
+    ),
+    may_follow refl refl tt tt tt,
+  ),
+  may_follow refl refl tt tt tt,
+)
+
+pub copies_overwrite : CopiesOverwrite
+unfolding two_cores copied_once copied_twice word_of_entry
+copies_overwrite = record {
+  legal = (both_copying, may_follow refl refl tt (carried_out {k = call.Copy 0 1 20} refl (refl, refl) refl) tt);
+  refused = λ legal. not_permitted (call.Copy 0 1 20) refl legal.1.decides (λ may. may.1);
+}
+
+-- Fifteen steps are past the bound of a copy on two cores.
+too_many : (k : Call) → k ≡ call.Copy 0 1 20 → 15 ≤ bound_of k 2 → ⊥
+too_many k is steps = let bound : bound_of k 2 ≡ 14 = ap (λ k. bound_of k 2) is in omega (arith, bound, steps)
+
+lost_legal : IsLegal two_cores lost
+unfolding two_cores lost word_of_entry
+lost_legal = (both_copying, may_follow refl refl tt (carried_out {k = call.Copy 0 1 20} refl (refl, refl) refl) tt)
+
+pub retries_go_on : RetriesGoOn
+unfolding two_cores lost tried word_of_entry
+retries_go_on = record {
+  legal = (
+    (
+      (
+        (
+          (
+            (
+              (
+                (((lost_legal, may_follow refl refl tt tt tt), may_follow refl refl tt tt tt), may_follow refl refl tt tt tt),
+                may_follow refl refl tt tt tt,
+              ),
+              may_follow refl refl tt tt tt,
+            ),
+            may_follow refl refl tt tt tt,
+          ),
+          may_follow refl refl tt tt tt,
+        ),
+        may_follow refl refl tt tt tt,
+      ),
+      may_follow refl refl tt tt tt,
+    ),
+    may_follow refl refl tt tt tt,
+  );
+  refused = λ keeps. too_many keeps.1.call (some_call keeps.1.call (call.Copy 0 1 20) (sym keeps.1.is_of)) keeps.1.steps;
+}

@@ -1,0 +1,7 @@
+pub mod Copies
+pub mod Removals
+pub mod Invocations
+pub mod Refusals
+pub mod Touches
+pub mod Charges
+pub mod Returns

@@ -1,0 +1,31 @@
+-- A wrong refusal leaves the count that its call has acquired.
+use Rattle.std.specs.Prelude.{◌≡◌, [], pos}
+use Rattle.spk_nums.specs.declared.calls.Call.TheVariants.{Copy}
+use Rattle.spk_nums.specs.declared.replies.Reply.TheVariants as reply
+use Rattle.kernel_history.specs.Counts.{RepresentCounts}
+use Rattle.kernel_history.specs.Legal.{IsLegal}
+use Rattle.kernel_history.specs.Trace.{Trace, Out, phase, state_after, last_left}
+use Rattle.kernel_history.specs.Scenes.{two_cores, enters, goes, loads, returns, done}
+use Rattle.stage_pins.specs.Acquire.{pin_move}
+use Rattle.stage_pins.specs.declared.pin.Pin.TheVariants.{AtLoad, AtCompare}
+use Rattle.act_states.specs.Fills.{fill_move, took_fill}
+use Rattle.wrong_steps.specs.Acts.{acts, fill, copying}
+
+-- Core 0 copies the table's capability to place 20, and has acquired its count of frame 0, to which there are 2 references.
+unfoldable pub acquired_count : Trace
+acquired_count =
+    goes 0 (pin_move (AtCompare 0 0 (pos 2) 0)) (goes 0 (pin_move (AtLoad 0 0))
+    (loads 0 1 20 (loads 0 1 1 (loads 0 0 0 (enters 0 (Copy 1 1 20) [])))))
+
+-- Core 1 fills the place, and returns.
+unfoldable pub filled_meanwhile : Trace
+filled_meanwhile = returns 1 done (acts 1 (fill_move fill) (took_fill fill) (copying 1 acquired_count))
+
+-- Core 0 has lost the race. Wrong: it has nothing to store after its refusal, and returns.
+unfoldable pub left_held : Trace
+left_held = returns 0 reply.Raced (acts 0 (fill_move fill) (took_fill fill) filled_meanwhile)
+
+pub record RefusalsHold : Type 0 where
+  pub legal : IsLegal two_cores left_held
+  pub out : (phase left_held 0 ≡ Out) × (phase left_held 1 ≡ Out)
+  pub refused : RepresentCounts (last_left two_cores left_held) (state_after two_cores left_held) → ⊥

@@ -1,0 +1,64 @@
+//! Step functions with a bug each, and the trace that each makes: it is no history of the kernel. What refuses it is a definition of a
+//! legal history, and not that the code is the step function.
+//!
+//! Each scene is worked step by step. A step of the wrong function makes its operation, finds what its word has, and takes from that what
+//! the function says; the steps about it are those of right calls.
+//!
+//! See docs/PROOF.md, and `kernel_history`, whose definitions refuse.
+#![tactic(auto)]
+
+ghost use Rattle.wrong_steps.specs.Copies.{CopiesOverwrite, RetriesGoOn};
+ghost use Rattle.wrong_steps.specs.Removals.{RemovalsDrawFirst};
+ghost use Rattle.wrong_steps.specs.Invocations.{CallsLookBefore};
+ghost use Rattle.wrong_steps.specs.Refusals.{RefusalsHold};
+ghost use Rattle.wrong_steps.specs.Touches.{TouchesFindNoSlot};
+ghost use Rattle.wrong_steps.specs.Returns.{ReturnsKeep};
+ghost use Rattle.wrong_steps.specs.Charges.{ChargesLose};
+
+/// A copy that stores in place of its compare: of two copies to one place both are carried out, and the second is not permitted.
+#[tactic(auto, using(crate::proofs::Copies::copies_overwrite))]
+pub fn copies_overwrite()
+    ensures { CopiesOverwrite }
+{}
+
+/// A copy that tries a lost compare again: it goes on past its bound.
+#[tactic(auto, using(crate::proofs::Copies::retries_go_on))]
+pub fn retries_go_on()
+    ensures { RetriesGoOn }
+{}
+
+/// A removal that draws before it closes: a look that is entered after it is carried out still finds the capability.
+#[tactic(auto, using(crate::proofs::Removals::removals_draw_first))]
+pub fn removals_draw_first()
+    ensures { RemovalsDrawFirst }
+{}
+
+/// A call through a gate that looks at liveness only before it acquires its count: it enters a component that is dead.
+#[tactic(auto, using(crate::proofs::Invocations::calls_look_before))]
+pub fn calls_look_before()
+    ensures { CallsLookBefore }
+{}
+
+/// A refusal that leaves a count held: both cores are out of their calls, and a count word is not given back.
+#[tactic(auto, using(crate::proofs::Refusals::refusals_hold))]
+pub fn refusals_hold()
+    ensures { RefusalsHold }
+{}
+
+/// A touch that answers `no-slot` where no leaf is linked, in place of `fault`.
+#[tactic(auto, using(crate::proofs::Touches::touches_find_no_slot))]
+pub fn touches_find_no_slot()
+    ensures { TouchesFindNoSlot }
+{}
+
+/// A charge whose remainder is lost: what the core has at the end is not what the state owes.
+#[tactic(auto, using(crate::proofs::Charges::charges_lose))]
+pub fn charges_lose()
+    ensures { ChargesLose }
+{}
+
+/// A return that keeps the reference to the component that it leaves: the count words sum to one more than the references.
+#[tactic(auto, using(crate::proofs::Returns::returns_keep))]
+pub fn returns_keep()
+    ensures { ReturnsKeep }
+{}
