@@ -1,34 +1,36 @@
 -- What holds of frames that are made untyped, and that a node through which a call has looked stays till the call returns.
-use Rattle.flight.proofs.Common.{◌≡◌, ◌≢◌, ◌⊎◌, inl, inr, ℕ, ◌<◌, Bool, true, false, IsTrue, [], ◌∷◌, ◌++◌, Option, Some, None, refl, sym}
-use Rattle.flight.proofs.Common.{◌∙◌, ap, subst, cases_eq, eq-eqb, eqb-true, false≢true, Setting, IsSetting, InLimits, Call, Retype}
-use Rattle.flight.proofs.Common.{Reply, EntryAt, CountAt, word_of, Frame, FrameOf, State, refs, fits, is_node, Relies, MayReply, ends}
-use Rattle.flight.proofs.Common.{opened, MayDecide, MayFollow, IsLegal, marked_by, is_in, ends_at, ends_in, Step, Trace, Phase, Out, Open}
-use Rattle.flight.proofs.Common.{phase, after_enter, after_decide, after_return, state_after, state_before, state_entered, state_decided}
-use Rattle.flight.proofs.Common.{state_returned, own_read, run_of, cases_word, open_inj, sound_of, opened_is, phase-own, phase-other}
-use Rattle.flight.proofs.Common.{own_read-here, own_read-there, Invariant}
-use Rattle.flight.specs.spk_nums.specs.declared.kinds.FrameKind.TheVariants as frame_kind
-use Rattle.flight.specs.spk_nums.specs.declared.kinds.Kind.TheVariants as kind
-use Rattle.flight.specs.spk_nums.specs.declared.calls.Call.TheVariants.{Make as make_call}
-use Rattle.flight.specs.spk_nums.specs.declared.calls.Make.TheVariants as make
-use Rattle.flight.specs.spk_nums.specs.declared.replies.Reply.TheVariants.{Ok}
-use Rattle.flight.specs.found_stays.proofs.Apart.{node_fixed}
-use Rattle.flight.specs.kernel_invariant.proofs.Ends.{ends_by_rule}
-use Rattle.flight.specs.kernel_invariant.proofs.SoundCalls.{IsOpen}
-use Rattle.flight.specs.kernel_invariant.proofs.SoundRuns.{open_limits}
-use Rattle.flight.specs.kernel_history.specs.Legal.{MayEnter, DecidesBy}
-use Rattle.flight.specs.kernel_history.specs.Trace.{Decided}
-use Rattle.flight.specs.kernel_history.specs.Trace.{only_reads}
-use Rattle.flight.specs.kernel_history.specs.Events.{plain_phase}
-use Rattle.flight.specs.kernel_history.proofs.Events.{entered_events, entered_phase, entered_run}
-use Rattle.flight.specs.trace_laws.proofs.Opens.{opens}
-use Rattle.flight.specs.trace_laws.proofs.Stays.{Stays, stays_other, stays_in_other, stays_plain}
-use Rattle.flight.specs.kernel_history.proofs.Steps.{own_read-other}
-use Rattle.flight.specs.state_laws.proofs.Flushes.{frame_flushed}
-use Rattle.flight.specs.state_laws.proofs.Relied.{own_frame, own_relies}
-use Rattle.flight.specs.kept_facts.proofs.CountSums.{counter_all}
+use Rattle.time_laws.proofs.Common.{◌≡◌, ◌≢◌, ◌⊎◌, inl, inr, ℕ, ◌<◌, Bool, true, false, IsTrue, [], ◌∷◌, ◌++◌, Option, Some, None, refl}
+use Rattle.time_laws.proofs.Common.{sym}
+use Rattle.time_laws.proofs.Common.{◌∙◌, ap, subst, cases_eq, eq-eqb, eqb-true, false≢true, Setting, IsSetting, InLimits, Call, Retype}
+use Rattle.time_laws.proofs.Common.{Reply, EntryAt, CountAt, word_of, Frame, FrameOf, State, refs, fits, is_node, Relies, MayReply, ends}
+use Rattle.time_laws.proofs.Common.{opened, MayDecide, MayFollow, IsLegal, marked_by, is_in, ends_at, ends_in, Step, Trace, Phase, Out}
+use Rattle.time_laws.proofs.Common.{Open}
+use Rattle.time_laws.proofs.Common.{phase, after_enter, after_decide, after_return, state_after, state_before, state_entered, state_decided}
+use Rattle.time_laws.proofs.Common.{state_returned, own_read, run_of, cases_word, open_inj, sound_of, opened_is, phase-own, phase-other}
+use Rattle.time_laws.proofs.Common.{own_read-here, own_read-there, Invariant}
+use Rattle.time_laws.specs.spk_nums.specs.declared.kinds.FrameKind.TheVariants as frame_kind
+use Rattle.time_laws.specs.spk_nums.specs.declared.kinds.Kind.TheVariants as kind
+use Rattle.time_laws.specs.spk_nums.specs.declared.calls.Call.TheVariants.{Make as make_call}
+use Rattle.time_laws.specs.spk_nums.specs.declared.calls.Make.TheVariants as make
+use Rattle.time_laws.specs.spk_nums.specs.declared.replies.Reply.TheVariants.{Ok}
+use Rattle.time_laws.specs.found_stays.proofs.Apart.{node_fixed}
+use Rattle.time_laws.specs.kernel_invariant.proofs.Ends.{ends_by_rule}
+use Rattle.time_laws.specs.kernel_invariant.proofs.SoundCalls.{IsOpen}
+use Rattle.time_laws.specs.kernel_invariant.proofs.SoundRuns.{open_limits}
+use Rattle.time_laws.specs.kernel_history.specs.Legal.{MayEnter, DecidesBy}
+use Rattle.time_laws.specs.kernel_history.specs.Trace.{Decided}
+use Rattle.time_laws.specs.kernel_history.specs.Trace.{only_reads}
+use Rattle.time_laws.specs.kernel_history.specs.Events.{plain_phase}
+use Rattle.time_laws.specs.kernel_history.proofs.Events.{entered_events, entered_phase, entered_run}
+use Rattle.time_laws.specs.trace_laws.proofs.Opens.{opens}
+use Rattle.time_laws.specs.trace_laws.proofs.Stays.{Stays, stays_other, stays_in_other, stays_plain}
+use Rattle.time_laws.specs.kernel_history.proofs.Steps.{own_read-other}
+use Rattle.time_laws.specs.state_laws.proofs.Flushes.{frame_flushed}
+use Rattle.time_laws.specs.state_laws.proofs.Relied.{own_frame, own_relies}
+use Rattle.time_laws.specs.kept_facts.proofs.CountSums.{counter_all}
 use Rattle.flight_laws.specs.Frames.{MakesUntyped, IsUnused, UntypedFramesAreUnused, CountedFramesStay, GoesOn, IsLooked, LookedNodesStay}
-use Rattle.flight.specs.Made.{cores_after, IsMade}
-use Rattle.flight.proofs.Made.{made_stands, made_counted}
+use Rattle.time_laws.specs.flight.specs.Made.{cores_after, IsMade}
+use Rattle.time_laws.specs.flight.proofs.Made.{made_stands, made_counted}
 use Rattle.flight_laws.proofs.Places.{IsNoEntry, IsBeside, beside_other, beside_own, beside_no_node}
 use Rattle.flight_laws.proofs.Places.{WasOpen, was_open, has_read, entered_none, comp_no_node, tcap_no_node}
 use Rattle.flight_laws.proofs.Places.{swept_other, swept_own, no_entry_kept, enters_none, read_rests}

@@ -1,22 +1,25 @@
 -- All that holds of a machine's history, from the invariant at each of its moments.
-use Rattle.flight.proofs.Common.{◌≡◌, [], ◌∷◌, ◌++◌, subst, Setting, IsSetting, Step, Trace}
-use Rattle.flight.specs.kernel_history.specs.Moments.{WordsSayAlong}
-use Rattle.flight.specs.Made.{cores_after, IsMade}
-use Rattle.flight.proofs.Final.{says_words}
-use Rattle.flight.proofs.Made.{made_stands}
+use Rattle.time_laws.proofs.Common.{◌≡◌, [], ◌∷◌, ◌++◌, subst, Setting, IsSetting, Step, Trace}
+use Rattle.time_laws.specs.kernel_history.specs.Moments.{WordsSayAlong}
+use Rattle.time_laws.specs.flight.specs.Made.{cores_after, IsMade}
+use Rattle.time_laws.specs.flight.proofs.Final.{says_words}
+use Rattle.time_laws.specs.flight.proofs.Made.{made_stands}
 use Rattle.flight_laws.specs.Moments.{AtEachMoment, AtEachStep, OfEachStretch}
 use Rattle.flight_laws.specs.Histories.{MadeHistories}
 use Rattle.flight_laws.specs.Places.{ScannedCores}
 use Rattle.flight_laws.specs.Invocations.{EntersNoneKilled}
 use Rattle.flight_laws.proofs.Places.{places_found, scanned_cores}
 use Rattle.flight_laws.proofs.Frames.{counted_frames_stay, looked_nodes_stay, untyped_unused}
+use Rattle.flight_laws.proofs.CountHolds.{frozen_say}
+use Rattle.flight_laws.proofs.CountsTold.{counts_tell}
+use Rattle.flight_laws.proofs.Ready.{ready_decides, unready_refuses}
 use Rattle.flight_laws.proofs.Pages.{cached_frames_stay, cached_till_flush, touches_cache}
 use Rattle.flight_laws.proofs.Lives.{dead_for_good}
 use Rattle.flight_laws.proofs.Invocations.{enters_none_killed, enters_the_living}
 use Rattle.flight_laws.proofs.Threads.{threads_apart, words_say}
-use Rattle.flight_laws.proofs.Time.{time_kept, ticks_counted, heads_say, lists_say, tests_tell}
-use Rattle.flight_laws.proofs.MarkedHeads.{open_heads_say}
-use Rattle.flight_laws.proofs.OwedHeads.{marked_heads_say}
+use Rattle.time_laws.proofs.Time.{time_kept, ticks_counted, heads_say, lists_say, tests_tell}
+use Rattle.time_laws.proofs.MarkedHeads.{open_heads_say}
+use Rattle.time_laws.proofs.OwedHeads.{marked_heads_say}
 
 says_along : (setup : Setting) → IsSetting setup → (t : Trace) → IsMade setup t → WordsSayAlong setup t
 says_along setup lim [] made = says_words setup lim (cores_after setup []) [] (made_stands setup lim [] made)
@@ -61,11 +64,15 @@ made_histories setup lim t made =
       footprints = stands.footprints;
       words = says_along setup lim t made;
       alone = stands.alone;
+      ready_decides = steps setup t made (λ v e is. ready_decides setup lim v e is);
+      unready_refuses = steps setup t made (λ v e is. unready_refuses setup lim v e is);
       places_found = moments setup t made (places_found setup lim);
       looked_nodes_stay = stretches setup t made (looked_nodes_stay setup lim);
       scanned_cores = stretches setup t made (scans setup lim);
       counted_frames_stay = steps setup t made (counted_frames_stay setup lim);
       untyped_frames_are_unused = steps setup t made (untyped_unused setup lim);
+      counts_tell = moments setup t made (counts_tell setup lim);
+      frozen_say = moments setup t made (frozen_say setup lim);
       cached_frames_stay = moments setup t made (cached_frames_stay setup lim);
       cached_till_flush = stretches setup t made (cached_till_flush setup lim);
       touches_cache = steps setup t made (λ v e is. touches_cache setup lim e v is);

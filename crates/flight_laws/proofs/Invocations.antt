@@ -1,20 +1,20 @@
 -- A call through a gate that is carried out enters a component that lives.
-use Rattle.flight.proofs.Common.{◌≡◌, ◌<◌, ◌&&◌, ℕ, ◌==◌, nat_le, length, not, List, [], ◌∷◌, ◌++◌, Bool, true, false, if◌then◌else◌}
-use Rattle.flight.proofs.Common.{Option, Some, None, refl, sym, ◌∙◌, ap, subst, eqb-true, false≢true, Capability, Setting, IsSetting}
-use Rattle.flight.proofs.Common.{Call, Value, Liveness, Unused, Live, Dead, State, comp_in, thread_of, Named, found, only, Found, Rule}
-use Rattle.flight.proofs.Common.{Does, When, IsFoundAnd, and_then, first_of, named, outcome, unless, is_live_in, pushes, MayReply, after}
-use Rattle.flight.proofs.Common.{IsRun, events_of, MayDecide, MayFollow, Step, Trace, Open, phase, after_enter, state_before}
-use Rattle.flight.proofs.Common.{state_entered, state_after, state_is, run_of, open_inj, Invariant}
-use Rattle.flight.specs.spk_nums.specs.declared.calls.Call.TheVariants.{Call as call_gate}
-use Rattle.flight.specs.spk_nums.specs.declared.kinds.Kind.TheVariants as kind
-use Rattle.flight.specs.spk_nums.specs.declared.replies.Reply.TheVariants as reply
-use Rattle.flight.specs.kernel_rules.specs.Rules.{RuleAnswers}
-use Rattle.flight.specs.kernel_rules.specs.InvocationCalls.{call_rule, not_live}
-use Rattle.flight.specs.state_laws.proofs.Lives.{dead_stays}
-use Rattle.flight.specs.comp_invariant.proofs.LaterEvents.{Later, later_events}
+use Rattle.time_laws.proofs.Common.{◌≡◌, ◌<◌, ◌&&◌, ℕ, ◌==◌, nat_le, length, not, List, [], ◌∷◌, ◌++◌, Bool, true, false, if◌then◌else◌}
+use Rattle.time_laws.proofs.Common.{Option, Some, None, refl, sym, ◌∙◌, ap, subst, eqb-true, false≢true, Capability, Setting, IsSetting}
+use Rattle.time_laws.proofs.Common.{Call, Value, Liveness, Unused, Live, Dead, State, comp_in, thread_of, Named, found, only, Found, Rule}
+use Rattle.time_laws.proofs.Common.{Does, When, IsFoundAnd, and_then, first_of, named, outcome, unless, is_live_in, pushes, MayReply, after}
+use Rattle.time_laws.proofs.Common.{IsRun, events_of, MayDecide, MayFollow, Step, Trace, Open, phase, after_enter, state_before}
+use Rattle.time_laws.proofs.Common.{state_entered, state_after, state_is, run_of, open_inj, Invariant}
+use Rattle.time_laws.specs.spk_nums.specs.declared.calls.Call.TheVariants.{Call as call_gate}
+use Rattle.time_laws.specs.spk_nums.specs.declared.kinds.Kind.TheVariants as kind
+use Rattle.time_laws.specs.spk_nums.specs.declared.replies.Reply.TheVariants as reply
+use Rattle.time_laws.specs.kernel_rules.specs.Rules.{RuleAnswers}
+use Rattle.time_laws.specs.kernel_rules.specs.InvocationCalls.{call_rule, not_live}
+use Rattle.time_laws.specs.state_laws.proofs.Lives.{dead_stays}
+use Rattle.time_laws.specs.comp_invariant.proofs.LaterEvents.{Later, later_events}
 use Rattle.flight_laws.specs.Invocations.{GoesThrough, number_through, EntersTheLiving, EntersNoneKilled}
-use Rattle.flight.specs.Made.{IsMade, cores_after}
-use Rattle.flight.proofs.Made.{made_stands}
+use Rattle.time_laws.specs.flight.specs.Made.{IsMade, cores_after}
+use Rattle.time_laws.specs.flight.proofs.Made.{made_stands}
 
 -- What the rule of a call answers through a gate.
 module _ (s : State) (c n : ℕ) (v : Value) (gate : Capability) where

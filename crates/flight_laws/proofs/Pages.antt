@@ -1,26 +1,27 @@
 -- What cores have cached stands, as in the sequential kernel, and stays cached till they flush; and what a touch answers is cached.
-use Rattle.flight.proofs.Common.{◌≡◌, ◌≢◌, ◌⊎◌, inl, inr, ℕ, ◌≤◌, true, false, List, [], ◌∷◌, ◌++◌, length, Option, Some, None, refl, sym}
-use Rattle.flight.proofs.Common.{◌∙◌, ap, subst, false≢true, Setting, IsSetting, Call, Touch, PageFlags, Reply, Translation, User, State}
-use Rattle.flight.proofs.Common.{comp_of, translation_of, state_by, IsRun, put_same, events_of, IsLegal, flushes_in, Step, Trace, Phase}
-use Rattle.flight.proofs.Common.{Out, Open, phase, after_enter, state_after, state_before, state_entered, state_decided, state_returned}
-use Rattle.flight.proofs.Common.{state_is, run_of}
+use Rattle.time_laws.proofs.Common.{◌≡◌, ◌≢◌, ◌⊎◌, inl, inr, ℕ, ◌≤◌, true, false, List, [], ◌∷◌, ◌++◌, length, Option, Some, None, refl}
+use Rattle.time_laws.proofs.Common.{sym}
+use Rattle.time_laws.proofs.Common.{◌∙◌, ap, subst, false≢true, Setting, IsSetting, Call, Touch, PageFlags, Reply, Translation, User, State}
+use Rattle.time_laws.proofs.Common.{comp_of, translation_of, state_by, IsRun, put_same, events_of, IsLegal, flushes_in, Step, Trace, Phase}
+use Rattle.time_laws.proofs.Common.{Out, Open, phase, after_enter, state_after, state_before, state_entered, state_decided, state_returned}
+use Rattle.time_laws.proofs.Common.{state_is, run_of}
 use Rattle.std.specs.List.{AllByRecursion}
-use Rattle.flight.specs.spk_nums.specs.declared.replies.Reply.TheVariants.{Ok}
-use Rattle.flight.specs.spk_nums.specs.declared.replies.Value.TheVariants.{Page}
-use Rattle.flight.specs.kernel_rules.specs.State.{Core}
-use Rattle.flight.specs.kernel_rules.specs.GracePeriods.{returned}
-use Rattle.flight.specs.kernel_rules.specs.Runs.{MayDecide}
-use Rattle.flight.specs.kernel_invariant.proofs.Sound.{put_all}
-use Rattle.flight.specs.state_laws.specs.Cached.{Stands, Begins, Answers}
-use Rattle.flight.specs.state_laws.proofs.CachedLaw.{translations_stand}
-use Rattle.flight.specs.state_laws.proofs.Lists.{begins_same, begins_then, decided_keeps}
-use Rattle.flight.specs.state_laws.proofs.Touched.{touches_cache as run_caches}
-use Rattle.flight.specs.kernel_history.specs.Events.{with_decision}
-use Rattle.flight.specs.kernel_history.specs.Trace.{Decided}
-use Rattle.flight.specs.kernel_history.proofs.Events.{entered_events, before_is, decided_run}
-use Rattle.flight.specs.Made.{IsMade}
+use Rattle.time_laws.specs.spk_nums.specs.declared.replies.Reply.TheVariants.{Ok}
+use Rattle.time_laws.specs.spk_nums.specs.declared.replies.Value.TheVariants.{Page}
+use Rattle.time_laws.specs.kernel_rules.specs.State.{Core}
+use Rattle.time_laws.specs.kernel_rules.specs.GracePeriods.{returned}
+use Rattle.time_laws.specs.kernel_rules.specs.Runs.{MayDecide}
+use Rattle.time_laws.specs.kernel_invariant.proofs.Sound.{put_all}
+use Rattle.time_laws.specs.state_laws.specs.Cached.{Stands, Begins, Answers}
+use Rattle.time_laws.specs.state_laws.proofs.CachedLaw.{translations_stand}
+use Rattle.time_laws.specs.state_laws.proofs.Lists.{begins_same, begins_then, decided_keeps}
+use Rattle.time_laws.specs.state_laws.proofs.Touched.{touches_cache as run_caches}
+use Rattle.time_laws.specs.kernel_history.specs.Events.{with_decision}
+use Rattle.time_laws.specs.kernel_history.specs.Trace.{Decided}
+use Rattle.time_laws.specs.kernel_history.proofs.Events.{entered_events, before_is, decided_run}
+use Rattle.time_laws.specs.flight.specs.Made.{IsMade}
 use Rattle.flight_laws.specs.Pages.{CachedFramesStay, FlushesNone, CachedTillFlush, TouchesCache}
-use Rattle.flight.proofs.Made.{made_stands}
+use Rattle.time_laws.specs.flight.proofs.Made.{made_stands}
 
 pub cached_frames_stay : (setup : Setting) → IsSetting setup → (t : Trace) → IsMade setup t → CachedFramesStay setup t
 cached_frames_stay setup setting t made c here =

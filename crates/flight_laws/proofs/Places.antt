@@ -1,73 +1,75 @@
 -- What an undecided call has found held stays usable; and whom a scan has passed is waited for no longer.
-use Rattle.flight.proofs.Common.{◌≡◌, ◌≢◌, ◌⊎◌, inl, inr, ℕ, ◌<◌, ◌/◌, ◌&&◌, Bool, true, false, IsTrue, cond, [], ◌∷◌, ◌++◌, Option, Some}
-use Rattle.flight.proofs.Common.{None, refl, sym, ◌∙◌, ap, subst, is_some, cases_eq, eqb-true, false≢true, Capability, Setting, IsSetting}
-use Rattle.flight.proofs.Common.{Call, Reply, Entry, Held, Closing, entry_of_word, core_of_word, CoreWord, Word, EntryAt, CoreAt, Move}
-use Rattle.flight.proofs.Common.{LoadOf, CompareOf, StoreOf, AddOf, word_of, left_of, told_of, IsIn, Thing, PlaceOf, Frame, Kernel, Tcap}
-use Rattle.flight.proofs.Common.{Comp, Thread, State, fits, Target, Under, InRoot, usable_in, is_node, Relies, Tick, Charge, some_inj}
-use Rattle.flight.proofs.Common.{none_some, put_same, put_other, Step, Trace, Phase, Out, Open, phase, after_enter, after_decide}
-use Rattle.flight.proofs.Common.{after_return, state_after, last_left, own_read, KeepsTime, IsLegal, MayFollow, stamp, clock, exit_of}
-use Rattle.flight.proofs.Common.{is_in, cases_word, sound_of, opened_is, phase-own, phase-other, own_read-here, own_read-there}
-use Rattle.flight.proofs.Common.{last_left-here, out_passed, later_passed, look_move, Look, AtRoot, AtLeaf, AtEntry, AtLoad, Close}
-use Rattle.flight.proofs.Common.{AtCompare, AtDraw, AtStore, AtCore, AtFlush, Next, NextName, NextFree, NextHeld, NextOwn, NextNothing}
-use Rattle.flight.proofs.Common.{next_of, Own, Fill, Outside, Untype, MakeComp, Invoke, Return, Load, CompAt, CompMaking, InvokingAt}
-use Rattle.flight.proofs.Common.{ReturningAt, Switching, SwitchAt, Pair, PairAt, KillingAt, LoadComp, LoadLive, MakingAt, NewObject}
-use Rattle.flight.proofs.Common.{Untyping, Work, Lookup, Read, Scan, Acquire, Act, Stage, Enter, Undecided, Decided, Leave, ActiveCall}
-use Rattle.flight.proofs.Common.{stage_move, absorbed, absorbed_in, told_in, Core, decided_in, returned_in, IsSpot, LooksUp, own_in}
-use Rattle.flight.proofs.Common.{LooksFor, ChargesBy, KnowsWork, KnowsAt, CallIs, phase_at, HasTcap, KnowsPairAt, HasThread, claimed_by}
-use Rattle.flight.proofs.Common.{Invariant, limits_of, slot_relies}
+use Rattle.time_laws.proofs.Common.{◌≡◌, ◌≢◌, ◌⊎◌, inl, inr, ℕ, ◌<◌, ◌/◌, ◌&&◌, Bool, true, false, IsTrue, cond, [], ◌∷◌, ◌++◌, Option}
+use Rattle.time_laws.proofs.Common.{Some}
+use Rattle.time_laws.proofs.Common.{None, refl, sym, ◌∙◌, ap, subst, is_some, cases_eq, eqb-true, false≢true, Capability, Setting}
+use Rattle.time_laws.proofs.Common.{IsSetting}
+use Rattle.time_laws.proofs.Common.{Call, Reply, Entry, Held, Closing, entry_of_word, core_of_word, CoreWord, Word, EntryAt, CoreAt, Move}
+use Rattle.time_laws.proofs.Common.{LoadOf, CompareOf, StoreOf, AddOf, word_of, left_of, told_of, IsIn, Thing, PlaceOf, Frame, Kernel, Tcap}
+use Rattle.time_laws.proofs.Common.{Comp, Thread, State, fits, Target, Under, InRoot, usable_in, is_node, Relies, Tick, Charge, some_inj}
+use Rattle.time_laws.proofs.Common.{none_some, put_same, put_other, Step, Trace, Phase, Out, Open, phase, after_enter, after_decide}
+use Rattle.time_laws.proofs.Common.{after_return, state_after, last_left, own_read, KeepsTime, IsLegal, MayFollow, stamp, clock, exit_of}
+use Rattle.time_laws.proofs.Common.{is_in, cases_word, sound_of, opened_is, phase-own, phase-other, own_read-here, own_read-there}
+use Rattle.time_laws.proofs.Common.{last_left-here, out_passed, later_passed, look_move, Look, AtRoot, AtLeaf, AtEntry, AtLoad, Close}
+use Rattle.time_laws.proofs.Common.{AtCompare, AtDraw, AtStore, AtCore, AtFlush, Next, NextName, NextFree, NextHeld, NextOwn, NextNothing}
+use Rattle.time_laws.proofs.Common.{next_of, Own, Fill, Outside, Untype, MakeComp, Invoke, Return, Load, CompAt, CompMaking, InvokingAt}
+use Rattle.time_laws.proofs.Common.{ReturningAt, Switching, SwitchAt, Pair, PairAt, KillingAt, LoadComp, LoadLive, MakingAt, NewObject}
+use Rattle.time_laws.proofs.Common.{Untyping, Work, Lookup, Read, Scan, Acquire, Act, Stage, Enter, Undecided, Decided, Leave, ActiveCall}
+use Rattle.time_laws.proofs.Common.{stage_move, absorbed, absorbed_in, told_in, Core, decided_in, returned_in, IsSpot, LooksUp, own_in}
+use Rattle.time_laws.proofs.Common.{LooksFor, ChargesBy, KnowsWork, KnowsAt, CallIs, phase_at, HasTcap, KnowsPairAt, HasThread, claimed_by}
+use Rattle.time_laws.proofs.Common.{Invariant, limits_of, slot_relies}
 use Rattle.std.specs.Prelude.{IsTrue}
-use Rattle.flight.specs.spk_nums.specs.declared.kinds.Kind.TheVariants.{Comp as comp_kind}
-use Rattle.flight.specs.kernel_rules.specs.Relies.{is_fixed}
-use Rattle.flight.specs.spk_nums.specs.declared.kinds.Kind.TheVariants as kind
-use Rattle.flight.specs.stage_tcap.specs.Charging.{charge_move}
-use Rattle.flight.specs.stage_tcap.specs.declared.charge.Charge.TheVariants.{AtLoad as charge_load, AtCompare as charge_compare}
-use Rattle.flight.specs.kernel_history.specs.Trace.{Decided as decided_phase}
-use Rattle.flight.specs.kernel_history.specs.Trace.{reads, only_reads}
-use Rattle.flight.specs.trace_laws.proofs.Stays.{Stays, stays_other, stays_plain, state_plain, relies_reached}
-use Rattle.flight.specs.kernel_history.proofs.Steps.{own_read-other}
-use Rattle.flight.specs.trace_laws.proofs.Waiting.{Passed, still_past, passed_on}
-use Rattle.flight.specs.stage_pins.specs.declared.pin.Pin.TheVariants.{AtCompare as pin_compare}
-use Rattle.flight.specs.stage_quiet.specs.Removal.{close_move}
-use Rattle.flight.specs.act_states.specs.declared.work.Act.TheVariants.{Remove, Retype, Make, Tick as tick_act, Flush, Kill}
-use Rattle.flight.specs.act_states.specs.declared.work.Act.TheVariants.{Map as map_act, Touch, Share}
-use Rattle.flight.specs.act_states.specs.declared.work.Act.TheVariants.{Switch}
-use Rattle.flight.specs.act_states.specs.declared.typings.Typing.{Typing}
-use Rattle.flight.specs.act_states.specs.declared.typings.TypingAt.{TypingAt}
-use Rattle.flight.specs.act_states.specs.declared.typings.TypingAt.TheVariants.{Compare as type_compare}
-use Rattle.flight.specs.act_states.specs.Typings.{typing_at}
-use Rattle.flight.specs.act_states.specs.Comps.{comp_at}
-use Rattle.flight.specs.act_states.specs.declared.comps.CompAt.TheVariants as comp_stands
-use Rattle.flight.specs.act_states.specs.Invocations.{invoking_at, returning_at}
-use Rattle.flight.specs.act_states.specs.declared.invocations.InvokingAt.TheVariants as invoking
-use Rattle.flight.specs.act_states.specs.declared.invocations.ReturningAt.TheVariants as returning
-use Rattle.flight.specs.act_states.specs.Switches.{switching_at}
-use Rattle.flight.specs.act_states.specs.declared.switches.SwitchAt.TheVariants as switch
-use Rattle.flight.specs.stage_thread.specs.declared.claim.Claim.TheVariants as claim
-use Rattle.flight.specs.stage_tcap.specs.Pairs.{move_at}
-use Rattle.flight.specs.stage_tcap.specs.declared.pair.PairAt.TheVariants as pair
-use Rattle.flight.specs.act_states.specs.declared.kills.KillingAt.TheVariants.{Close as kill_close, Draw as kill_draw}
-use Rattle.flight.specs.act_states.specs.Kills.{killing_at}
-use Rattle.flight.specs.act_states.specs.declared.fills.Fill.{Fill as FillOf}
-use Rattle.flight.specs.act_states.specs.declared.makings.MakingAt.TheVariants as making
-use Rattle.flight.specs.act_states.specs.Makings.{making_at}
-use Rattle.flight.specs.call_stages.specs.declared.stages.Absorbed.{Absorbed}
-use Rattle.flight.specs.call_stages.specs.declared.stages.Absorbed.TheVariants as told_as
-use Rattle.flight.specs.call_stages.specs.Steps.{work_move}
-use Rattle.flight.specs.call_stages.specs.Cores.{move_in, move_of, told_of_step}
-use Rattle.flight.specs.core_invariant.specs.Knows.{KnowsClose}
-use Rattle.flight.specs.core_invariant.specs.Knows.{HasComp}
-use Rattle.flight.specs.core_invariant.specs.Components.{HasLoadedBelow}
-use Rattle.flight.specs.core_invariant.specs.Threads.{KnowsSwitchAt}
-use Rattle.flight.specs.kept_facts.proofs.Claimed.{guarded_thread}
-use Rattle.flight.specs.kept_facts.proofs.Tcaps.{tcap_stays}
-use Rattle.flight.specs.step_ways.proofs.Places.{IsMarked, IsUnmarked, place_reads}
-use Rattle.flight.specs.count_invariant.proofs.Lookups.{leaf_reached}
-use Rattle.flight.specs.place_invariant.proofs.Removals.{holds_place}
+use Rattle.time_laws.specs.spk_nums.specs.declared.kinds.Kind.TheVariants.{Comp as comp_kind}
+use Rattle.time_laws.specs.kernel_rules.specs.Relies.{is_fixed}
+use Rattle.time_laws.specs.spk_nums.specs.declared.kinds.Kind.TheVariants as kind
+use Rattle.time_laws.specs.stage_tcap.specs.Charging.{charge_move}
+use Rattle.time_laws.specs.stage_tcap.specs.declared.charge.Charge.TheVariants.{AtLoad as charge_load, AtCompare as charge_compare}
+use Rattle.time_laws.specs.kernel_history.specs.Trace.{Decided as decided_phase}
+use Rattle.time_laws.specs.kernel_history.specs.Trace.{reads, only_reads}
+use Rattle.time_laws.specs.trace_laws.proofs.Stays.{Stays, stays_other, stays_plain, state_plain, relies_reached}
+use Rattle.time_laws.specs.kernel_history.proofs.Steps.{own_read-other}
+use Rattle.time_laws.specs.trace_laws.proofs.Waiting.{Passed, still_past, passed_on}
+use Rattle.time_laws.specs.stage_pins.specs.declared.pin.Pin.TheVariants.{AtCompare as pin_compare}
+use Rattle.time_laws.specs.stage_quiet.specs.Removal.{close_move}
+use Rattle.time_laws.specs.act_states.specs.declared.work.Act.TheVariants.{Remove, Retype, Make, Tick as tick_act, Flush, Kill}
+use Rattle.time_laws.specs.act_states.specs.declared.work.Act.TheVariants.{Map as map_act, Touch, Share}
+use Rattle.time_laws.specs.act_states.specs.declared.work.Act.TheVariants.{Switch}
+use Rattle.time_laws.specs.act_states.specs.declared.typings.Typing.{Typing}
+use Rattle.time_laws.specs.act_states.specs.declared.typings.TypingAt.{TypingAt}
+use Rattle.time_laws.specs.act_states.specs.declared.typings.TypingAt.TheVariants.{Compare as type_compare}
+use Rattle.time_laws.specs.act_states.specs.Typings.{typing_at}
+use Rattle.time_laws.specs.act_states.specs.Comps.{comp_at}
+use Rattle.time_laws.specs.act_states.specs.declared.comps.CompAt.TheVariants as comp_stands
+use Rattle.time_laws.specs.act_states.specs.Invocations.{invoking_at, returning_at}
+use Rattle.time_laws.specs.act_states.specs.declared.invocations.InvokingAt.TheVariants as invoking
+use Rattle.time_laws.specs.act_states.specs.declared.invocations.ReturningAt.TheVariants as returning
+use Rattle.time_laws.specs.act_states.specs.Switches.{switching_at}
+use Rattle.time_laws.specs.act_states.specs.declared.switches.SwitchAt.TheVariants as switch
+use Rattle.time_laws.specs.stage_thread.specs.declared.claim.Claim.TheVariants as claim
+use Rattle.time_laws.specs.stage_tcap.specs.Pairs.{move_at}
+use Rattle.time_laws.specs.stage_tcap.specs.declared.pair.PairAt.TheVariants as pair
+use Rattle.time_laws.specs.act_states.specs.declared.kills.KillingAt.TheVariants.{Close as kill_close, Draw as kill_draw}
+use Rattle.time_laws.specs.act_states.specs.Kills.{killing_at}
+use Rattle.time_laws.specs.act_states.specs.declared.fills.Fill.{Fill as FillOf}
+use Rattle.time_laws.specs.act_states.specs.declared.makings.MakingAt.TheVariants as making
+use Rattle.time_laws.specs.act_states.specs.Makings.{making_at}
+use Rattle.time_laws.specs.call_stages.specs.declared.stages.Absorbed.{Absorbed}
+use Rattle.time_laws.specs.call_stages.specs.declared.stages.Absorbed.TheVariants as told_as
+use Rattle.time_laws.specs.call_stages.specs.Steps.{work_move}
+use Rattle.time_laws.specs.call_stages.specs.Cores.{move_in, move_of, told_of_step}
+use Rattle.time_laws.specs.core_invariant.specs.Knows.{KnowsClose}
+use Rattle.time_laws.specs.core_invariant.specs.Knows.{HasComp}
+use Rattle.time_laws.specs.core_invariant.specs.Components.{HasLoadedBelow}
+use Rattle.time_laws.specs.core_invariant.specs.Threads.{KnowsSwitchAt}
+use Rattle.time_laws.specs.kept_facts.proofs.Claimed.{guarded_thread}
+use Rattle.time_laws.specs.kept_facts.proofs.Tcaps.{tcap_stays}
+use Rattle.time_laws.specs.step_ways.proofs.Places.{IsMarked, IsUnmarked, place_reads}
+use Rattle.time_laws.specs.count_invariant.proofs.Lookups.{leaf_reached}
+use Rattle.time_laws.specs.place_invariant.proofs.Removals.{holds_place}
 use Rattle.flight_laws.specs.Frames.{IsLooked, is_held}
-use Rattle.flight.specs.Made.{turned, MayStep, core_after, cores_after, stepping_core, IsMadeStep, IsMade}
+use Rattle.time_laws.specs.flight.specs.Made.{turned, MayStep, core_after, cores_after, stepping_core, IsMadeStep, IsMade}
 use Rattle.flight_laws.specs.Places.{MayUse, PlacesFound, ShowsPassed, ScannedCores}
-use Rattle.flight.proofs.Made.{made_stands, made_times}
-use Rattle.flight.proofs.Spelling.{moves_are_words}
+use Rattle.time_laws.specs.flight.proofs.Made.{made_stands, made_times}
+use Rattle.time_laws.specs.flight.proofs.Spelling.{moves_are_words}
 use Rattle.flight_laws.proofs.Sweeping.{untyping_in, untyping_of, untyping_now, IsSwept}
 use Rattle.flight_laws.proofs.Sweeping.{swept_on, swept_no_node, looks_untypes, looks_swept}
 

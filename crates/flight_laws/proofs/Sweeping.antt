@@ -1,37 +1,38 @@
 -- A call that makes a frame untyped looks at the object in it. What it finds held in the entry of a node refuses it; so a word of the frame
 -- that it reads and goes on from, and that says that something is held, is of no node.
-use Rattle.flight.proofs.Common.{◌≡◌, ℕ, ℤ, ◌+◌, nat_le, Bool, true, false, List, [], ◌∷◌, length, slice_get, Option, Some, None, refl}
-use Rattle.flight.proofs.Common.{sym, ◌∙◌, ap, subst, false≢true, Capability, Setting, Call, Retype, Obj, Reply, StageEnd, entry_of_word}
-use Rattle.flight.proofs.Common.{frame_of_word, FrameWord, Word, EntryAt, FrameAt, word_of, Frame, Untyped, User, Kernel, Object, Blank}
-use Rattle.flight.proofs.Common.{Table, Leaf, Pages, Pleaf, Comp, Thread, Tcap, is_node, frame_value, Trace, Open, phase, state_after}
-use Rattle.flight.proofs.Common.{last_left, open_inj, end_of_frames, shown_in, Pin, AtLoad, AtCore, AtFlush, end_by, swept_of, Sweep}
-use Rattle.flight.proofs.Common.{SweepAt, Compare, Empty, Swept, dues, next_work, took_sweep, release_of, Own, UntypingAt, Untyping}
-use Rattle.flight.proofs.Common.{Untype, Due, Work, Lookup, Read, Scan, Acquire, Act, absorbed, absorbed_in, core_after, told_by, told_in}
-use Rattle.flight.proofs.Common.{landed, stage_move, Core, ActiveCall, Stage, Enter, Undecided, Decided, Leave, holds_untyping, Holding}
-use Rattle.flight.proofs.Common.{holds_counts, settled, settled_by, Invariant, held_by, holds_act, holds_at, holds_in, CallIs, KnowsAt}
-use Rattle.flight.proofs.Common.{phase_at, untypes, KnowsSweep, KnowsUntypingAt, UntypesBy}
-use Rattle.flight.specs.spk_nums.specs.declared.kinds.FrameKind.TheVariants as frame_kind
-use Rattle.flight.specs.spk_nums.specs.declared.kinds.Obj.TheVariants as obj
-use Rattle.flight.specs.spk_nums.specs.declared.replies.Reply.TheVariants as reply
-use Rattle.flight.specs.spk_nums.specs.declared.steps.StageEnd.TheVariants as ends
-use Rattle.flight.specs.entry_words.specs.declared.entry.Entry.TheVariants as entry
-use Rattle.flight.specs.stage_look.specs.Shown.{entry_within, held_if}
-use Rattle.flight.specs.stage_pins.specs.Acquire.{pin_after, pin_end}
-use Rattle.flight.specs.stage_pins.specs.declared.pin.Pin.TheVariants.{AtCompare as pin_compare}
-use Rattle.flight.specs.stage_pins.specs.declared.pin.Pinned.{Pinned}
-use Rattle.flight.specs.stage_sweep.specs.Emptiness.{empty_refuses, entry_refuses}
-use Rattle.flight.specs.stage_sweep.specs.Freeze.{move_at, refuses_at, sweep_after, sweep_end, sweep_kept, sweep_next}
-use Rattle.flight.specs.stage_sweep.specs.Freeze.{sweep_refuses}
-use Rattle.flight.specs.stage_sweep.specs.declared.sweep.SweepAt.TheVariants.{Load as sweep_load, Scan as sweep_scan}
-use Rattle.flight.specs.act_states.specs.Acts.{acquires, took_untyping_at}
-use Rattle.flight.specs.act_states.specs.Untypings.{untyping_at}
-use Rattle.flight.specs.act_states.specs.declared.untypings.UntypingAt.TheVariants as untype
-use Rattle.flight.specs.act_states.specs.declared.work.Act.{Act as ActOf}
-use Rattle.flight.specs.act_states.specs.declared.work.WorkStep.TheVariants.{Acquires}
-use Rattle.flight.specs.call_stages.specs.Cores.{move_in, told_of_step}
-use Rattle.flight.specs.call_stages.specs.Steps.{took_at, took_count}
-use Rattle.flight.specs.call_stages.specs.declared.stages.Absorbed.TheVariants as told_as
-use Rattle.flight.specs.core_invariant.proofs.Freezing.{release_frame}
+use Rattle.time_laws.proofs.Common.{◌≡◌, ℕ, ℤ, ◌+◌, nat_le, Bool, true, false, List, [], ◌∷◌, length, slice_get, Option, Some, None, refl}
+use Rattle.time_laws.proofs.Common.{sym, ◌∙◌, ap, subst, false≢true, Capability, Setting, Call, Retype, Obj, Reply, StageEnd, entry_of_word}
+use Rattle.time_laws.proofs.Common.{frame_of_word, FrameWord, Word, EntryAt, FrameAt, word_of, Frame, Untyped, User, Kernel, Object, Blank}
+use Rattle.time_laws.proofs.Common.{Table, Leaf, Pages, Pleaf, Comp, Thread, Tcap, is_node, frame_value, Trace, Open, phase, state_after}
+use Rattle.time_laws.proofs.Common.{last_left, open_inj, end_of_frames, shown_in, Pin, AtLoad, AtCore, AtFlush, end_by, swept_of, Sweep}
+use Rattle.time_laws.proofs.Common.{SweepAt, Compare, Empty, Swept, dues, next_work, took_sweep, release_of, Own, UntypingAt, Untyping}
+use Rattle.time_laws.proofs.Common.{Untype, Due, Work, Lookup, Read, Scan, Acquire, Act, absorbed, absorbed_in, core_after, told_by}
+use Rattle.time_laws.proofs.Common.{told_in}
+use Rattle.time_laws.proofs.Common.{landed, stage_move, Core, ActiveCall, Stage, Enter, Undecided, Decided, Leave, holds_untyping, Holding}
+use Rattle.time_laws.proofs.Common.{holds_counts, settled, settled_by, Invariant, held_by, holds_act, holds_at, holds_in, CallIs, KnowsAt}
+use Rattle.time_laws.proofs.Common.{phase_at, untypes, KnowsSweep, KnowsUntypingAt, UntypesBy}
+use Rattle.time_laws.specs.spk_nums.specs.declared.kinds.FrameKind.TheVariants as frame_kind
+use Rattle.time_laws.specs.spk_nums.specs.declared.kinds.Obj.TheVariants as obj
+use Rattle.time_laws.specs.spk_nums.specs.declared.replies.Reply.TheVariants as reply
+use Rattle.time_laws.specs.spk_nums.specs.declared.steps.StageEnd.TheVariants as ends
+use Rattle.time_laws.specs.entry_words.specs.declared.entry.Entry.TheVariants as entry
+use Rattle.time_laws.specs.stage_look.specs.Shown.{entry_within, held_if}
+use Rattle.time_laws.specs.stage_pins.specs.Acquire.{pin_after, pin_end}
+use Rattle.time_laws.specs.stage_pins.specs.declared.pin.Pin.TheVariants.{AtCompare as pin_compare}
+use Rattle.time_laws.specs.stage_pins.specs.declared.pin.Pinned.{Pinned}
+use Rattle.time_laws.specs.stage_sweep.specs.Emptiness.{empty_refuses, entry_refuses}
+use Rattle.time_laws.specs.stage_sweep.specs.Freeze.{move_at, refuses_at, sweep_after, sweep_end, sweep_kept, sweep_next}
+use Rattle.time_laws.specs.stage_sweep.specs.Freeze.{sweep_refuses}
+use Rattle.time_laws.specs.stage_sweep.specs.declared.sweep.SweepAt.TheVariants.{Load as sweep_load, Scan as sweep_scan}
+use Rattle.time_laws.specs.act_states.specs.Acts.{acquires, took_untyping_at}
+use Rattle.time_laws.specs.act_states.specs.Untypings.{untyping_at}
+use Rattle.time_laws.specs.act_states.specs.declared.untypings.UntypingAt.TheVariants as untype
+use Rattle.time_laws.specs.act_states.specs.declared.work.Act.{Act as ActOf}
+use Rattle.time_laws.specs.act_states.specs.declared.work.WorkStep.TheVariants.{Acquires}
+use Rattle.time_laws.specs.call_stages.specs.Cores.{move_in, told_of_step}
+use Rattle.time_laws.specs.call_stages.specs.Steps.{took_at, took_count}
+use Rattle.time_laws.specs.call_stages.specs.declared.stages.Absorbed.TheVariants as told_as
+use Rattle.time_laws.specs.core_invariant.proofs.Freezing.{release_frame}
 
 -- Whether an object is a node, and whether a frame's word says so.
 abbrev is_node_object : Obj → Bool

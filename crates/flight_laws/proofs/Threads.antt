@@ -1,16 +1,16 @@
 -- No thread is the current one of two cores, and what the words of threads show is so.
-use Rattle.flight.proofs.Common.{◌≡◌, ◌<◌, ℕ, length, Bool, true, false, Option, Some, None, IsTrue, refl, sym, ◌∙◌, ap, subst, Setting}
-use Rattle.flight.proofs.Common.{IsSetting, thread_of_word, ThreadWord, Idle, Running, Claimed, EntryAt, State, thread_in, fits}
-use Rattle.flight.proofs.Common.{marked_by, thread_mark, Trace, state_after, last_left, Core, holds, Invariant, runs_on_own}
-use Rattle.flight.proofs.Common.{marker_inside, limits_of, state_is, run_of, events_of}
-use Rattle.flight.specs.spk_nums.specs.declared.kinds.Kind.TheVariants as kind
-use Rattle.flight.specs.state_laws.proofs.Threads.{threads_run}
-use Rattle.flight.specs.switch_invariant.proofs.ThreadWords.{first_mark, none_some, same_some, same_value}
-use Rattle.flight.specs.switch_invariant.proofs.Words.{ShowsRun, shows}
-use Rattle.flight.specs.thread_invariant.proofs.EntryMarks.{thread_unmarked}
-use Rattle.flight.specs.Made.{cores_after, IsMade}
+use Rattle.time_laws.proofs.Common.{◌≡◌, ◌<◌, ℕ, length, Bool, true, false, Option, Some, None, IsTrue, refl, sym, ◌∙◌, ap, subst, Setting}
+use Rattle.time_laws.proofs.Common.{IsSetting, thread_of_word, ThreadWord, Idle, Running, Claimed, EntryAt, State, thread_in, fits}
+use Rattle.time_laws.proofs.Common.{marked_by, thread_mark, Trace, state_after, last_left, Core, holds, Invariant, runs_on_own}
+use Rattle.time_laws.proofs.Common.{marker_inside, limits_of, state_is, run_of, events_of}
+use Rattle.time_laws.specs.spk_nums.specs.declared.kinds.Kind.TheVariants as kind
+use Rattle.time_laws.specs.state_laws.proofs.Threads.{threads_run}
+use Rattle.time_laws.specs.switch_invariant.proofs.ThreadWords.{first_mark, none_some, same_some, same_value}
+use Rattle.time_laws.specs.switch_invariant.proofs.Words.{ShowsRun, shows}
+use Rattle.time_laws.specs.thread_invariant.proofs.EntryMarks.{thread_unmarked}
+use Rattle.time_laws.specs.flight.specs.Made.{cores_after, IsMade}
 use Rattle.flight_laws.specs.Threads.{IsShown, ThreadsRunApart, ThreadWordsSay}
-use Rattle.flight.proofs.Made.{made_stands}
+use Rattle.time_laws.specs.flight.proofs.Made.{made_stands}
 
 pub threads_apart : (setup : Setting) → IsSetting setup → (t : Trace) → IsMade setup t → ThreadsRunApart setup t
 threads_apart setup setting t made c d c_below d_below same =

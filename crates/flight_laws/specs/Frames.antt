@@ -1,22 +1,22 @@
 -- Frames that are made untyped again: what then held, and which frames stay as they are.
 use Rattle.std.specs.Prelude.{◌≡◌, ◌≢◌, ◌<◌, ◌⊎◌, ℕ, Bool, true, false, [], ◌∷◌, ◌++◌, Option, Some, None, IsTrue}
-use Rattle.flight.specs.spk_nums.specs.Setting.{Setting}
-use Rattle.flight.specs.spk_nums.specs.declared.kinds.FrameKind.TheVariants.{Untyped}
-use Rattle.flight.specs.spk_nums.specs.declared.calls.Call.{Call}
-use Rattle.flight.specs.spk_nums.specs.declared.calls.Call.TheVariants.{Retype}
-use Rattle.flight.specs.spk_nums.specs.declared.replies.Value.{Value}
-use Rattle.flight.specs.spk_nums.specs.declared.replies.Reply.TheVariants.{Ok}
-use Rattle.flight.specs.entry_words.specs.EntryWord.{entry_of_word}
-use Rattle.flight.specs.entry_words.specs.declared.entry.Entry.{Entry}
-use Rattle.flight.specs.entry_words.specs.declared.entry.Entry.TheVariants.{Held}
-use Rattle.flight.specs.word_map.specs.Word.{EntryAt, CountAt}
-use Rattle.flight.specs.word_map.specs.Places.{counter_of}
-use Rattle.flight.specs.kernel_rules.specs.State.{FrameOf, State}
-use Rattle.flight.specs.kernel_rules.specs.References.{refs}
-use Rattle.flight.specs.kernel_rules.specs.Relies.{is_node}
-use Rattle.flight.specs.kernel_history.specs.Marking.{marked_by}
-use Rattle.flight.specs.kernel_history.specs.Trace.{Step, Trace, Open, phase, after_enter, state_after, state_before, own_read}
-use Rattle.flight.specs.core_invariant.specs.Knows.{untypes}
+use Rattle.time_laws.specs.spk_nums.specs.Setting.{Setting}
+use Rattle.time_laws.specs.spk_nums.specs.declared.kinds.FrameKind.TheVariants.{Untyped}
+use Rattle.time_laws.specs.spk_nums.specs.declared.calls.Call.{Call}
+use Rattle.time_laws.specs.spk_nums.specs.declared.calls.Call.TheVariants.{Retype}
+use Rattle.time_laws.specs.spk_nums.specs.declared.replies.Value.{Value}
+use Rattle.time_laws.specs.spk_nums.specs.declared.replies.Reply.TheVariants.{Ok}
+use Rattle.time_laws.specs.entry_words.specs.EntryWord.{entry_of_word}
+use Rattle.time_laws.specs.entry_words.specs.declared.entry.Entry.{Entry}
+use Rattle.time_laws.specs.entry_words.specs.declared.entry.Entry.TheVariants.{Held}
+use Rattle.time_laws.specs.word_map.specs.Word.{EntryAt, CountAt}
+use Rattle.time_laws.specs.word_map.specs.Places.{counter_of}
+use Rattle.time_laws.specs.kernel_rules.specs.State.{FrameOf, State}
+use Rattle.time_laws.specs.kernel_rules.specs.References.{refs}
+use Rattle.time_laws.specs.kernel_rules.specs.Relies.{is_node}
+use Rattle.time_laws.specs.kernel_history.specs.Marking.{marked_by}
+use Rattle.time_laws.specs.kernel_history.specs.Trace.{Step, Trace, Open, phase, after_enter, state_after, state_before, own_read}
+use Rattle.time_laws.specs.core_invariant.specs.Knows.{untypes}
 
 -- The step e after t decides `ok` of a retype of the frame to untyped.
 pub record MakesUntyped (t : Trace) (e : Step) (f : ℕ) : Type 0 where
@@ -56,6 +56,7 @@ IsLooked call w = (untypes call ≡ false) ⊎ (is_held (entry_of_word w) ≡ tr
 
 -- A node through which a call has looked stays what it is till the call returns, but where the call makes it untyped itself.
 abbrev pub LookedNodesStay : Setting → Trace → Trace → Type 0
-LookedNodesStay setup u t = (c : ℕ) (call : Call) → phase t c ≡ Open call → (f i w : ℕ) → own_read t c (EntryAt f i) ≡ Some w → IsLooked call w
+LookedNodesStay setup u t = (c : ℕ) (call : Call) → phase t c ≡ Open call
+    → (f i w : ℕ) → own_read t c (EntryAt f i) ≡ Some w → IsLooked call w
     → IsTrue (is_node ((state_after setup t).frame f)) → GoesOn u t c f
     → (state_after setup (u ++ t)).frame f ≡ (state_after setup t).frame f

@@ -1,26 +1,29 @@
 -- What each command that makes atomic steps, and each seat of a kernel, has of its trace: all that holds of a machine's history.
-use Rattle.flight.specs.spk_nums.specs.Setting.{Setting, IsSetting}
-use Rattle.flight.specs.kernel_history.specs.Trace.{Trace}
-use Rattle.flight.specs.kernel_history.specs.Legal.{IsLegal}
-use Rattle.flight.specs.kernel_history.specs.Bounds.{KeepsBounds}
-use Rattle.flight.specs.kernel_history.specs.Discipline.{KeepsDiscipline}
-use Rattle.flight.specs.kernel_history.specs.Footprint.{KeepsFootprints}
-use Rattle.flight.specs.kernel_history.specs.Alone.{KeepsFirst}
-use Rattle.flight.specs.kernel_history.specs.Moments.{WordsSayAlong}
-use Rattle.flight.specs.Made.{IsMade}
+use Rattle.time_laws.specs.spk_nums.specs.Setting.{Setting, IsSetting}
+use Rattle.time_laws.specs.kernel_history.specs.Trace.{Trace}
+use Rattle.time_laws.specs.kernel_history.specs.Legal.{IsLegal}
+use Rattle.time_laws.specs.kernel_history.specs.Bounds.{KeepsBounds}
+use Rattle.time_laws.specs.kernel_history.specs.Discipline.{KeepsDiscipline}
+use Rattle.time_laws.specs.kernel_history.specs.Footprint.{KeepsFootprints}
+use Rattle.time_laws.specs.kernel_history.specs.Alone.{KeepsFirst}
+use Rattle.time_laws.specs.kernel_history.specs.Moments.{WordsSayAlong}
+use Rattle.time_laws.specs.flight.specs.Made.{IsMade}
 use Rattle.flight_laws.specs.Moments.{AtEachMoment, AtEachStep, OfEachStretch}
 use Rattle.flight_laws.specs.Places.{PlacesFound, ScannedCores}
 use Rattle.flight_laws.specs.Frames.{LookedNodesStay, CountedFramesStay, UntypedFramesAreUnused}
+use Rattle.flight_laws.specs.Counts.{CountsTell, FrozenSay}
+use Rattle.flight_laws.specs.Ready.{ReadyDecides, UnreadyRefuses}
 use Rattle.flight_laws.specs.Pages.{CachedFramesStay, CachedTillFlush, TouchesCache}
 use Rattle.flight_laws.specs.Lives.{DeadForGood}
 use Rattle.flight_laws.specs.Invocations.{EntersTheLiving, EntersNoneKilled}
 use Rattle.flight_laws.specs.Threads.{ThreadsRunApart, ThreadWordsSay}
-use Rattle.flight_laws.specs.Time.{TimeIsKept, TicksAreCounted, HeadsSay, OpenHeadsSay, MarkedHeadsSay, ListsSay, TestsTell}
+use Rattle.time_laws.specs.Time.{TimeIsKept, TicksAreCounted, HeadsSay, OpenHeadsSay, MarkedHeadsSay, ListsSay, TestsTell}
 
 -- The trace is the machine's, and is a legal history: its replies are those of the sequential kernel, each at a step of its call,
 -- and justified. Its calls keep within their bounds of steps, each step keeps the discipline of words and is in the footprint of its
 -- call, at each moment the words say what the state is, and a call made alone answers as in the sequential kernel. Then come the
--- laws of places, frames, translations, components, threads and time; what each says stands with its definition.
+-- laws of when calls are decided, places, frames, counts, translations, components, threads and time; what each says stands with its
+-- definition.
 pub record IsHistory (setup : Setting) (t : Trace) : Type 0 where
   pub made : IsMade setup t
   pub legal : IsLegal setup t
@@ -29,6 +32,9 @@ pub record IsHistory (setup : Setting) (t : Trace) : Type 0 where
   pub footprints : KeepsFootprints setup t
   pub words : WordsSayAlong setup t
   pub alone : KeepsFirst setup t
+  -- when calls are decided: at the next step of a core that is ready, and with a refusal at one of a core that is not
+  pub ready_decides : AtEachStep (ReadyDecides setup) t
+  pub unready_refuses : AtEachStep (UnreadyRefuses setup) t
   -- what calls have found, and what scans have shown
   pub places_found : AtEachMoment (PlacesFound setup) t
   pub looked_nodes_stay : OfEachStretch (LookedNodesStay setup) t
@@ -36,6 +42,8 @@ pub record IsHistory (setup : Setting) (t : Trace) : Type 0 where
   -- frames and the references to them
   pub counted_frames_stay : AtEachStep (CountedFramesStay setup) t
   pub untyped_frames_are_unused : AtEachStep (UntypedFramesAreUnused setup) t
+  pub counts_tell : AtEachMoment (CountsTell setup) t
+  pub frozen_say : AtEachMoment (FrozenSay setup) t
   -- translations
   pub cached_frames_stay : AtEachMoment (CachedFramesStay setup) t
   pub cached_till_flush : OfEachStretch (CachedTillFlush setup) t

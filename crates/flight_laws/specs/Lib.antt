@@ -1,15 +1,18 @@
 -- What the crates above name through this one.
-pub use Rattle.flight.specs.kernel_laws
-pub use Rattle.flight.specs.trace_laws
-pub use Rattle.flight.specs.core_invariant
-pub use Rattle.flight
+pub use Rattle.time_laws.specs.kernel_laws
+pub use Rattle.time_laws.specs.trace_laws
+pub use Rattle.time_laws.specs.core_invariant
+pub use Rattle.time_laws.specs.flight
+pub use Rattle.time_laws
 -- Its own: the laws, and the record that has them.
 pub mod Moments
+pub use Rattle.time_laws.specs.Time
 pub mod Places
 pub mod Threads
-pub mod Time
 pub mod Lives
 pub mod Invocations
 pub mod Pages
 pub mod Frames
+pub mod Counts
+pub mod Ready
 pub mod Histories

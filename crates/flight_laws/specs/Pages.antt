@@ -1,16 +1,16 @@
 -- The translations that cores have cached.
 use Rattle.std.specs.Prelude.{◌≡◌, ◌<◌, ◌++◌, ℕ, false, List, [], ◌∷◌, Some}
 use Rattle.std.specs.List.{AllByRecursion}
-use Rattle.flight.specs.spk_nums.specs.Setting.{Setting}
-use Rattle.flight.specs.spk_nums.specs.declared.calls.Call.TheVariants.{Touch}
-use Rattle.flight.specs.spk_nums.specs.declared.kinds.PageFlags.{PageFlags}
-use Rattle.flight.specs.spk_nums.specs.declared.replies.Reply.TheVariants.{Ok}
-use Rattle.flight.specs.spk_nums.specs.declared.replies.Value.TheVariants.{Page}
-use Rattle.flight.specs.spk_nums.specs.declared.translations.Translation.{Translation}
-use Rattle.flight.specs.kernel_rules.specs.State.{User, State, comp_of}
-use Rattle.flight.specs.state_laws.specs.Cached.{Stands, Begins, Answers}
-use Rattle.flight.specs.kernel_history.specs.Stamps.{flushes_at}
-use Rattle.flight.specs.kernel_history.specs.Trace.{state_after, state_before, Open, phase, after_enter, Step, Trace}
+use Rattle.time_laws.specs.spk_nums.specs.Setting.{Setting}
+use Rattle.time_laws.specs.spk_nums.specs.declared.calls.Call.TheVariants.{Touch}
+use Rattle.time_laws.specs.spk_nums.specs.declared.kinds.PageFlags.{PageFlags}
+use Rattle.time_laws.specs.spk_nums.specs.declared.replies.Reply.TheVariants.{Ok}
+use Rattle.time_laws.specs.spk_nums.specs.declared.replies.Value.TheVariants.{Page}
+use Rattle.time_laws.specs.spk_nums.specs.declared.translations.Translation.{Translation}
+use Rattle.time_laws.specs.kernel_rules.specs.State.{User, State, comp_of}
+use Rattle.time_laws.specs.state_laws.specs.Cached.{Stands, Begins, Answers}
+use Rattle.time_laws.specs.kernel_history.specs.Stamps.{flushes_at}
+use Rattle.time_laws.specs.kernel_history.specs.Trace.{state_after, state_before, Open, phase, after_enter, Step, Trace}
 
 -- At each moment each translation that a core has cached names a user frame, and it stands: what it was found by is there still, or the
 -- core has decided no flush since it was removed.
@@ -37,6 +37,7 @@ CachedTillFlush setup u t = (c : ℕ) → c < setup.cores
 -- A step that decides a touch by a frame and flags leaves this translation cached, unless 64 others are: so it is what touches of the page
 -- answer till the core flushes.
 abbrev pub TouchesCache : Setting → Trace → Step → Type 0
-TouchesCache setup t e = (v f : ℕ) (flags : PageFlags) → after_enter e.enters (phase t e.core) ≡ Open (Touch v) → e.decides ≡ Some (Ok (Page f flags))
+TouchesCache setup t e = (v f : ℕ) (flags : PageFlags) → after_enter e.enters (phase t e.core) ≡ Open (Touch v)
+    → e.decides ≡ Some (Ok (Page f flags))
     → Answers (state_before setup t e) (state_after setup (e ∷ t)) e.core
     (record { pages = (comp_of (state_before setup t e) e.core).pages; page = v; frame = f; flags = flags })

@@ -1,19 +1,19 @@
 -- What may be concluded from a word that a step has found: that of a place which is held, and that of a core which has passed a stamp.
 use Rattle.std.specs.Prelude.{◌≡◌, ◌<◌, ◌⊎◌, ℕ, false, [], ◌∷◌, ◌++◌, Some, IsTrue}
-use Rattle.flight.specs.spk_nums.specs.Capability.{Capability}
-use Rattle.flight.specs.spk_nums.specs.Setting.{Setting}
-use Rattle.flight.specs.spk_nums.specs.declared.calls.Call.{Call}
-use Rattle.flight.specs.entry_words.specs.EntryWord.{entry_of_word}
-use Rattle.flight.specs.entry_words.specs.declared.entry.Entry.TheVariants.{Held}
-use Rattle.flight.specs.frame_words.specs.Core.{core_of_word}
-use Rattle.flight.specs.frame_words.specs.declared.core_word.CoreWord.{CoreWord}
-use Rattle.flight.specs.word_map.specs.Word.{EntryAt, CoreAt}
-use Rattle.flight.specs.word_map.specs.Moves.{word_of}
-use Rattle.flight.specs.kernel_rules.specs.State.{Thing, State}
-use Rattle.flight.specs.kernel_rules.specs.Access.{Slot, usable}
-use Rattle.flight.specs.kernel_rules.specs.Relies.{is_node, Relies}
-use Rattle.flight.specs.kernel_history.specs.Trace.{Step, Trace, Open, phase, state_after, own_read}
-use Rattle.flight.specs.kernel_history.specs.Stamps.{stamp, clock}
+use Rattle.time_laws.specs.spk_nums.specs.Capability.{Capability}
+use Rattle.time_laws.specs.spk_nums.specs.Setting.{Setting}
+use Rattle.time_laws.specs.spk_nums.specs.declared.calls.Call.{Call}
+use Rattle.time_laws.specs.entry_words.specs.EntryWord.{entry_of_word}
+use Rattle.time_laws.specs.entry_words.specs.declared.entry.Entry.TheVariants.{Held}
+use Rattle.time_laws.specs.frame_words.specs.Core.{core_of_word}
+use Rattle.time_laws.specs.frame_words.specs.declared.core_word.CoreWord.{CoreWord}
+use Rattle.time_laws.specs.word_map.specs.Word.{EntryAt, CoreAt}
+use Rattle.time_laws.specs.word_map.specs.Moves.{word_of}
+use Rattle.time_laws.specs.kernel_rules.specs.State.{Thing, State}
+use Rattle.time_laws.specs.kernel_rules.specs.Access.{Slot, usable}
+use Rattle.time_laws.specs.kernel_rules.specs.Relies.{is_node, Relies}
+use Rattle.time_laws.specs.kernel_history.specs.Trace.{Step, Trace, Open, phase, state_after, own_read}
+use Rattle.time_laws.specs.kernel_history.specs.Stamps.{stamp, clock}
 
 -- Core c may use this capability at a slot: the place holds it, or it is quiescing, held it, and c is among those for whom it waits.
 -- And c relies on the slot's node, which no other core may retype.
@@ -36,6 +36,7 @@ ShowsPassed v at = (v.inside ≡ false) ⊎ (at < v.stamp)
 -- period that began at this stamp waits for d: after e, and whatever steps come then.
 abbrev pub ScannedCores : Setting → Trace → Trace → Type 0
 ScannedCores setup u [] = Unit {0}
-ScannedCores setup u (e ∷ t) = (d : ℕ) (v : CoreWord) → word_of e.move ≡ CoreAt d → core_of_word e.found ≡ Some v → (at : ℕ) → at < clock setup t
+ScannedCores setup u (e ∷ t) = (d : ℕ) (v : CoreWord) → word_of e.move ≡ CoreAt d → core_of_word e.found ≡ Some v
+    → (at : ℕ) → at < clock setup t
     → ShowsPassed v at
     → (x : Thing) → stamp setup (u ++ e ∷ t) x ≡ at → ((state_after setup (u ++ e ∷ t)).grace x).waits d ≡ false

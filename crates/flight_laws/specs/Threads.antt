@@ -1,13 +1,13 @@
 -- The threads that cores run, and what the words of threads say of them.
 use Rattle.std.specs.Prelude.{◌≡◌, ◌≢◌, ◌<◌, ℕ, Some, IsTrue}
-use Rattle.flight.specs.spk_nums.specs.Setting.{Setting}
-use Rattle.flight.specs.spk_nums.specs.declared.kinds.Kind.TheVariants as kind
-use Rattle.flight.specs.tcap_words.specs.Thread.{thread_of_word}
-use Rattle.flight.specs.tcap_words.specs.declared.thread_word.ThreadWord.{ThreadWord}
-use Rattle.flight.specs.tcap_words.specs.declared.thread_word.ThreadWord.TheVariants.{Idle, Running, Claimed}
-use Rattle.flight.specs.word_map.specs.Word.{EntryAt}
-use Rattle.flight.specs.kernel_rules.specs.Fitting.{fits}
-use Rattle.flight.specs.kernel_history.specs.Trace.{Trace, state_after, last_left}
+use Rattle.time_laws.specs.spk_nums.specs.Setting.{Setting}
+use Rattle.time_laws.specs.spk_nums.specs.declared.kinds.Kind.TheVariants as kind
+use Rattle.time_laws.specs.tcap_words.specs.Thread.{thread_of_word}
+use Rattle.time_laws.specs.tcap_words.specs.declared.thread_word.ThreadWord.{ThreadWord}
+use Rattle.time_laws.specs.tcap_words.specs.declared.thread_word.ThreadWord.TheVariants.{Idle, Running, Claimed}
+use Rattle.time_laws.specs.word_map.specs.Word.{EntryAt}
+use Rattle.time_laws.specs.kernel_rules.specs.Fitting.{fits}
+use Rattle.time_laws.specs.kernel_history.specs.Trace.{Trace, state_after, last_left}
 
 -- At each moment no thread is the current one of two cores.
 abbrev pub ThreadsRunApart : Setting → Trace → Type 0

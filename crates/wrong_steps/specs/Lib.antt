@@ -6,3 +6,4 @@ pub mod Refusals
 pub mod Touches
 pub mod Charges
 pub mod Returns
+pub mod Untypings

@@ -12,6 +12,7 @@ ghost use Rattle.wrong_steps.specs.Removals.{RemovalsDrawFirst};
 ghost use Rattle.wrong_steps.specs.Invocations.{CallsLookBefore};
 ghost use Rattle.wrong_steps.specs.Refusals.{RefusalsHold};
 ghost use Rattle.wrong_steps.specs.Touches.{TouchesFindNoSlot};
+ghost use Rattle.wrong_steps.specs.Untypings.{RetypesSkip};
 ghost use Rattle.wrong_steps.specs.Returns.{ReturnsKeep};
 ghost use Rattle.wrong_steps.specs.Charges.{ChargesLose};
 
@@ -61,4 +62,10 @@ pub fn charges_lose()
 #[tactic(auto, using(crate::proofs::Returns::returns_keep))]
 pub fn returns_keep()
     ensures { ReturnsKeep }
+{}
+
+/// A retype to untyped that skips the flush word of one core: it is carried out on a frame that this core has not flushed.
+#[tactic(auto, using(crate::proofs::Untypings::retypes_skip))]
+pub fn retypes_skip()
+    ensures { RetypesSkip }
 {}

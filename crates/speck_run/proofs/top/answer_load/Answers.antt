@@ -23,10 +23,13 @@ summarize-requires-clause-one_each c =
 
 pub summarize-requires-clause-named : goal.summarize-requires-clause-named
 summarize-requires-clause-named c =
-    subst (λ (m : Meaning). BelowCores m.setup.cores m.order) (sym c.in_ok-script.ensures.value) (made_accepted c.args.number).within.below
+    subst (BelowCores c.in_ok-script.script.setup.cores) (sym c.deref.ensures.value)
+    (subst (λ (m : Meaning). BelowCores m.setup.cores m.order) (sym c.in_ok-script.ensures.value) (made_accepted c.args.number).within.below)
 
 pub returns-clause-text : goal.returns-clause-text
 returns-clause-text c =
+    let script = c.in_ok-script.script in
+    let lists = lists_of script.lists.items in
     subst (λ (m : Meaning). GivenSummary m.setup m.lists m.order (string_bytes c.made.result.text)) c.in_ok-script.ensures.value
-    (subst (GivenSummary c.in_ok-script.script.setup (lists_of c.in_ok-script.script.lists.items) c.in_ok-script.script.order.items)
-    (sym c.made.ensures.text) c.in_ok-text.ensures)
+    (subst (GivenSummary script.setup lists script.order.items) (sym c.made.ensures.text)
+    (subst (λ items. GivenSummary script.setup lists items (string_bytes c.in_ok-text.text)) c.deref.ensures.value c.in_ok-text.ensures))

@@ -19,11 +19,11 @@ use Rattle.flight.specs.pair_invariant.proofs.ShareSteps.{marked_says}
 use Rattle.flight.specs.thread_invariant.proofs.EntryMarks.{counts_apart, holder_below}
 use Rattle.flight.specs.thread_invariant.proofs.OwnStack.{own_thread}
 use Rattle.flight.specs.Made.{cores_after, IsMade}
-use Rattle.flight_laws.specs.Time.{Owes, state_of_decision, MarkedHeadsSay}
+use Rattle.time_laws.specs.Time.{Owes, state_of_decision, MarkedHeadsSay}
 use Rattle.flight.proofs.Made.{made_stands}
-use Rattle.flight_laws.proofs.MarkedHeads.{node_no_tcap, thread_no_tcap, same_frame}
-use Rattle.flight_laws.proofs.ShareTails.{OwesFirst, OwesAt, OwesTail, OwesStage, OwesIn}
-use Rattle.flight_laws.proofs.OwedTails.{made_owes}
+use Rattle.time_laws.proofs.MarkedHeads.{node_no_tcap, thread_no_tcap, same_frame}
+use Rattle.time_laws.proofs.ShareTails.{OwesFirst, OwesAt, OwesTail, OwesStage, OwesIn}
+use Rattle.time_laws.proofs.OwedTails.{made_owes}
 
 -- The word is a head with the core's mark, and stands for another that the core has still to store, which owes this.
 record IsOwedHead (setup : Setting) (t : Trace) (s : State) (r : Reply) (call : Call) (f d : ℕ) (h : Holding) : Type 0 where

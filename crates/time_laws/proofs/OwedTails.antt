@@ -46,10 +46,10 @@ use Rattle.flight.specs.pair_invariant.proofs.ShareCalls as calls
 use Rattle.flight.specs.pair_invariant.proofs.ShareSteps.{shares_same}
 use Rattle.flight.specs.Made.{turned, MayStep, core_after, cores_after, stepping_core, IsMadeStep, IsMade}
 use Rattle.flight.specs.Theorems.{found_by}
-use Rattle.flight_laws.specs.Time.{Owes, state_of_decision}
+use Rattle.time_laws.specs.Time.{Owes, state_of_decision}
 use Rattle.flight.proofs.Made.{made_stands, finds}
-use Rattle.flight_laws.proofs.ShareTails.{OwesAt, OwesStage, OwesIn, OwesTook, StoresNone, LeavesNone}
-use Rattle.flight_laws.proofs.ShareTails.{tail_on, landed_none, enter_none, end_none, reading_none, scan_none}
+use Rattle.time_laws.proofs.ShareTails.{OwesAt, OwesStage, OwesIn, OwesTook, StoresNone, LeavesNone}
+use Rattle.time_laws.proofs.ShareTails.{tail_on, landed_none, enter_none, end_none, reading_none, scan_none}
 
 -- The acts of the calls that change budgets
 

@@ -31,7 +31,7 @@ use Rattle.flight.specs.act_states.specs.Untypings.{after_store, release_after}
 use Rattle.flight.specs.call_stages.specs.Steps.{next_by}
 use Rattle.flight.specs.call_stages.specs.Steps.{read_more, took_enter, named_one, took_found, took_end, took_read}
 use Rattle.flight.specs.call_stages.specs.Tails.{took_tail}
-use Rattle.flight_laws.specs.Time.{Owes}
+use Rattle.time_laws.specs.Time.{Owes}
 
 -- The head of the first, which a call decided so in state s has still to store with the ticks less; and that of the second, with them more.
 abbrev pub OwesFirst : State → ℕ → Reply → Call → Pair → Type 0

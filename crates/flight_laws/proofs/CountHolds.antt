@@ -1,0 +1,206 @@
+-- What count words do while cores hold them: another core leaves such a word, and its own leaves its count.
+use Rattle.std.proofs.Common.{◌≡◌, ◌≢◌, ◌⊎◌, inl, inr, ℕ, ℤ, false, true, [], ◌∷◌, Option, Some, None, refl, sym, ◌∙◌, ap, subst}
+use Rattle.std.proofs.lemmas.Bool.{cases_eq, false≢true}
+use Rattle.time_laws.specs.spk_nums.specs.Setting.{Setting, IsSetting}
+use Rattle.time_laws.specs.spk_nums.specs.declared.calls.Call.{Call}
+use Rattle.time_laws.specs.spk_nums.specs.declared.replies.Reply.{Reply}
+use Rattle.time_laws.specs.frame_words.specs.Count.{count_of_word}
+use Rattle.time_laws.specs.frame_words.specs.declared.count_word.CountWord.{CountWord}
+use Rattle.time_laws.specs.frame_words.specs.declared.count_word.Hold.TheVariants.{Pinned, Closed}
+use Rattle.time_laws.specs.word_map.specs.Word.{Word, CountAt}
+use Rattle.time_laws.specs.word_map.specs.Moves.{word_of, left_of}
+use Rattle.time_laws.specs.kernel_rules.specs.State.{State}
+use Rattle.time_laws.specs.kernel_history.specs.Bounds.{call_in}
+use Rattle.time_laws.specs.kernel_history.specs.Counts.{count_at, count_in}
+use Rattle.time_laws.specs.kernel_history.specs.Legal.{MayEnter, MayFollow}
+use Rattle.time_laws.specs.kernel_history.specs.Marking.{marked_by}
+use Rattle.time_laws.specs.kernel_history.specs.Marks.{count_mark, hold_mark}
+use Rattle.time_laws.specs.kernel_history.specs.Stamps.{is_in}
+use Rattle.time_laws.specs.kernel_history.specs.Trace.{Step, Trace, Phase, Out, Open, Decided, phase, after_enter, after_decide}
+use Rattle.time_laws.specs.kernel_history.specs.Trace.{after_return}
+use Rattle.time_laws.specs.kernel_history.specs.Trace.{state_after, state_before, state_entered, last_left}
+use Rattle.time_laws.specs.kernel_history.proofs.Inside.{inside_is}
+use Rattle.time_laws.specs.kernel_history.proofs.Names.{cases_word}
+use Rattle.time_laws.specs.kernel_history.proofs.Steps.{phase-own, phase-other, last_left-here, last_left-there}
+use Rattle.time_laws.specs.stage_pins.specs.Counts.{acquired}
+use Rattle.time_laws.specs.stage_sweep.specs.Freeze.{frozen}
+use Rattle.time_laws.specs.core_invariant.specs.Invariant.{Invariant}
+use Rattle.time_laws.specs.core_invariant.proofs.Markers.{marker_inside}
+use Rattle.time_laws.specs.flight.specs.Made.{cores_after, IsMade}
+use Rattle.time_laws.specs.flight.proofs.Made.{made_stands}
+use Rattle.flight_laws.specs.Counts.{Untypes, FrozenSay}
+use Rattle.flight_laws.proofs.CountSteps.{Takes, UntypesFrame, LeavesCount, count_step, begins_beside}
+
+none_some : (d : ℕ) → None ≡ Some d → ⊥
+none_some d h = cc
+
+call_stays : (o : Option Reply) (p : Phase) → call_in (after_decide o p) ≡ call_in p
+call_stays None p = refl
+call_stays (Some r) Out = refl
+call_stays (Some r) (Open call) = refl
+call_stays (Some r) (Decided call q) = refl
+
+module _ (setup : Setting) (setting : IsSetting setup) (f k : ℕ) (t : Trace) (e : Step) (made : IsMade setup (e ∷ t)) where
+  abbrev at : Word
+  at = CountAt f k
+
+  abbrev raw : Trace → ℕ
+  raw u = last_left setup u at
+
+  before : Invariant setup (cores_after setup t) t
+  before = made_stands setup setting t made.0
+
+  after : Invariant setup (cores_after setup (e ∷ t)) (e ∷ t)
+  after = made_stands setup setting (e ∷ t) made
+
+  follows : MayFollow setup t e
+  follows = after.legal.1
+
+  -- what another core holds, stays
+  module _ (d : ℕ) (other : d ≢ e.core) (mark : marked_by setup (e ∷ t) at ≡ Some d) where
+    pub held_before : marked_by setup t at ≡ Some d
+    held_before = elim ((after.discipline.1).marks at d mark) [
+      | inl held ↦ held
+      | inr own ↦ absurd (other (sym own.0))
+    ]
+
+    pub raw_other : raw (e ∷ t) ≡ raw t
+    raw_other = elim (cases_word at (word_of e.move)) [
+      | inl on ↦ last_left-here setup at e t on
+          ∙ (after.discipline.1).keeps d (ap (marked_by setup t) (sym on) ∙ held_before) other
+          ∙ follows.found ∙ ap (last_left setup t) (sym on)
+      | inr there ↦ last_left-there setup at e t there
+    ]
+
+  -- what the core itself holds after it
+  module _ (mark : marked_by setup (e ∷ t) at ≡ Some e.core) where
+    abbrev p : Phase
+    p = phase t e.core
+
+    -- the word is left as it was, or is taken
+    abbrev pub IsKept : Type 0
+    IsKept = (raw (e ∷ t) ≡ raw t) ⊎ Takes t e.core f (raw t) (raw (e ∷ t))
+
+    stepped : at ≡ word_of e.move → IsKept
+    stepped on = by (count_step setup setting t e made f k (sym on))
+      where
+        here : raw (e ∷ t) ≡ left_of e.move e.found
+        here = last_left-here setup at e t on
+
+        by : LeavesCount t e.core f (raw t) (left_of e.move e.found) → IsKept
+        by (inl same) = inl (here ∙ same)
+        by (inr (inl free)) = absurd (none_some e.core (sym free ∙ ap (λ (n : ℕ). count_mark (count_of_word n)) (sym here) ∙ mark))
+        by (inr (inr takes)) = inr (subst (Takes t e.core f (raw t)) (sym here) takes)
+
+    pub kept : IsKept
+    kept = elim (cases_word at (word_of e.move)) [
+      | inl on ↦ stepped on
+      | inr there ↦ inl (last_left-there setup at e t there)
+    ]
+
+    -- so its count stays
+    taken_count : (o : Option CountWord) (count : ℤ) (stamp : ℕ) (call : Call)
+        → (o ≡ Some (acquired e.core count stamp)) ⊎ ((o ≡ Some (frozen e.core count stamp)) × UntypesFrame call f) → count_in o ≡ count
+    taken_count o count stamp call (inl is) = ap count_in is
+    taken_count o count stamp call (inr is) = ap count_in is.0
+
+    pub count_kept : count_in (count_at (last_left setup (e ∷ t)) f k) ≡ count_in (count_at (last_left setup t) f k)
+    count_kept = elim kept [
+      | inl same ↦ ap (λ (n : ℕ). count_in (count_of_word n)) same
+      | inr takes ↦ taken_count (count_of_word (raw (e ∷ t))) takes.count takes.stamp takes.call takes.left ∙ sym (ap count_in takes.found)
+    ]
+
+    pub still_marked : raw (e ∷ t) ≡ raw t → marked_by setup t at ≡ Some e.core
+    still_marked same = ap (λ (n : ℕ). count_mark (count_of_word n)) (sym same) ∙ mark
+
+    -- the core is in a call before it, and after it
+    pub inside_before : is_in p ≡ true
+    inside_before = elim kept [
+      | inl same ↦ sym (inside_is setup t e.core) ∙ marker_inside setup (cores_after setup t) t before at e.core (still_marked same)
+      | inr takes ↦ ap is_in takes.is_open
+    ]
+
+    inside_after : is_in (phase (e ∷ t) e.core) ≡ true
+    inside_after = sym (inside_is setup (e ∷ t) e.core) ∙ marker_inside setup (cores_after setup (e ∷ t)) (e ∷ t) after at e.core mark
+
+    pub no_entry : e.enters ≡ None
+    no_entry = by e.enters refl follows.enters
+      where
+        by : (o : Option Call) → e.enters ≡ o → MayEnter o p → e.enters ≡ None
+        by None is may = is
+        by (Some call) is may = absurd (false≢true (sym (ap is_in may.0) ∙ inside_before))
+
+    pub no_return : e.returns ≡ None
+    no_return = by e.returns refl
+      where
+        by : (q : Option Reply) → e.returns ≡ q → e.returns ≡ None
+        by None is = is
+        by (Some r) is = absurd (false≢true (sym (ap is_in (phase-own e.core e t refl
+            ∙ ap (λ q. after_return q (after_decide e.decides (after_enter e.enters p))) is)) ∙ inside_after))
+
+    pub entered_is : after_enter e.enters p ≡ p
+    entered_is = ap (λ o. after_enter o p) no_entry
+
+    pub before_is : state_before setup t e ≡ state_after setup t
+    before_is = ap (λ o. state_entered o (state_after setup t) e.core) no_entry
+
+    pub phase_is : phase (e ∷ t) e.core ≡ after_decide e.decides p
+    phase_is = phase-own e.core e t refl ∙ ap (λ q. after_return q (after_decide e.decides (after_enter e.enters p))) no_return
+        ∙ ap (after_decide e.decides) entered_is
+
+-- A word that a core has frozen is of a frame that its call makes untyped.
+untypes_on : (f : ℕ) (p q : Phase) → call_in p ≡ call_in q → Untypes f q → Untypes f p
+untypes_on f p q same is = record { range = is.range; is = same ∙ is.is }
+
+module _ (setup : Setting) (setting : IsSetting setup) (f k d : ℕ) (v : CountWord) (is_closed : v.hold ≡ Closed d) where
+  abbrev Shows : Trace → Type 0
+  Shows u = count_at (last_left setup u) f k ≡ Some v
+
+  abbrev Marked : Trace → Type 0
+  Marked u = marked_by setup u (CountAt f k) ≡ Some d
+
+  marked_so : (u : Trace) → Shows u → Marked u
+  marked_so u shows = ap count_mark shows ∙ ap hold_mark is_closed
+
+  not_pinned : (c : ℕ) (count : ℤ) (stamp : ℕ) → Some v ≡ Some (acquired c count stamp) → ⊥
+  not_pinned c count stamp is = apart (sym is_closed ∙ ap (λ (x : CountWord). x.hold) (same v (acquired c count stamp) is))
+    where
+      same : (x y : CountWord) → Some x ≡ Some y → x ≡ y
+      same x y h = cc
+
+      apart : Closed d ≡ Pinned c → ⊥
+      apart h = cc
+
+  module _ (u : Trace) (e : Step) (made : IsMade setup (e ∷ u)) (shows : Shows (e ∷ u)) (rest : Shows u → Untypes f (phase u d)) where
+    taken : Takes u e.core f (last_left setup u (CountAt f k)) (last_left setup (e ∷ u) (CountAt f k)) → Untypes f (phase u e.core)
+    taken takes = elim takes.left [
+      | inl is ↦ absurd (not_pinned e.core takes.count takes.stamp (sym shows ∙ is))
+      | inr is ↦ record { range = is.1.range; is = ap call_in takes.is_open ∙ ap (λ (x : Call). Some x) is.1.is }
+    ]
+
+    own_call : marked_by setup (e ∷ u) (CountAt f k) ≡ Some e.core → d ≡ e.core → Untypes f (phase (e ∷ u) e.core)
+    own_call mark own =
+        untypes_on f (phase (e ∷ u) e.core) (phase u e.core)
+        (ap call_in (phase_is setup setting f k u e made mark) ∙ call_stays e.decides (phase u e.core))
+        (elim (kept setup setting f k u e made mark) [
+          | inl same ↦ subst (λ (c : ℕ). Untypes f (phase u c)) own (rest (ap count_of_word (sym same) ∙ shows))
+          | inr takes ↦ taken takes
+        ])
+
+    other_call : Marked (e ∷ u) → d ≢ e.core → Untypes f (phase (e ∷ u) d)
+    other_call mark other =
+        untypes_on f (phase (e ∷ u) d) (phase u d) (ap call_in (phase-other d e u other))
+        (rest (ap count_of_word (sym (raw_other setup setting f k u e made d other mark)) ∙ shows))
+
+  frozen_along : (u : Trace) → IsMade setup u → Shows u → Untypes f (phase u d)
+  frozen_along [] made shows =
+      absurd (false≢true (((made_stands setup setting [] made).marks (CountAt f k) d).owned (marked_so [] shows)))
+  frozen_along (e ∷ u) made shows = elim (cases_eq d e.core) [
+    | inl own ↦ subst (λ (c : ℕ). Untypes f (phase (e ∷ u) c)) (sym own)
+        (own_call u e made shows (frozen_along u made.0)
+        (subst (λ (c : ℕ). marked_by setup (e ∷ u) (CountAt f k) ≡ Some c) own (marked_so (e ∷ u) shows)) own)
+    | inr other ↦ other_call u e made shows (frozen_along u made.0) (marked_so (e ∷ u) shows) other
+  ]
+
+pub frozen_say : (setup : Setting) → IsSetting setup → (t : Trace) → IsMade setup t → FrozenSay setup t
+frozen_say setup setting t made f k d v shows is_closed = frozen_along setup setting f k d v is_closed t made shows

@@ -1,0 +1,469 @@
+-- What a step of a call leaves in a count word: what it has found there; a word that no core holds; or the count that it has found, which
+-- its core then holds, for the count of its call or to make the frame untyped.
+use Rattle.std.proofs.Common.{◌≡◌, ◌≢◌, ◌⊎◌, inl, inr, ℕ, ℤ, ◌<◌, ◌==◌, Bool, true, false, List, [], ◌∷◌, length, slice_get}
+use Rattle.std.proofs.Common.{Option, Some, None, IfSome, arith, refl, sym, ◌∙◌, ap, subst}
+use Rattle.std.specs.Prelude.{IsSome}
+use Rattle.std.proofs.lemmas.Bool.{false≢true, eqb-true}
+use Rattle.std.proofs.lemmas.List.Elements.{All-head}
+use Rattle.time_laws.specs.spk_nums.specs.Capability.{Capability}
+use Rattle.time_laws.specs.spk_nums.specs.Setting.{Setting, IsSetting}
+use Rattle.time_laws.specs.spk_nums.specs.WordSteps.{left_if}
+use Rattle.time_laws.specs.spk_nums.specs.declared.calls.Call.{Call}
+use Rattle.time_laws.specs.spk_nums.specs.declared.calls.Call.TheVariants.{Retype}
+use Rattle.time_laws.specs.spk_nums.specs.declared.kinds.FrameKind.{FrameKind}
+use Rattle.time_laws.specs.spk_nums.specs.declared.kinds.FrameKind.TheVariants as frame_kind
+use Rattle.time_laws.specs.spk_nums.specs.declared.replies.Reply.{Reply}
+use Rattle.time_laws.specs.spk_nums.specs.declared.replies.Reply.TheVariants as reply
+use Rattle.time_laws.specs.frame_words.specs.Count.{CountFits, word_of_count, count_of_word}
+use Rattle.time_laws.specs.frame_words.specs.declared.count_word.CountWord.{CountWord}
+use Rattle.time_laws.specs.frame_words.proofs.CountLemmas as counts
+use Rattle.time_laws.specs.word_map.specs.Word.{CountAt}
+use Rattle.time_laws.specs.word_map.specs.Places.{counter_of}
+use Rattle.time_laws.specs.word_map.specs.Moves.{Move, word_of, left_of}
+use Rattle.time_laws.specs.kernel_history.specs.Marks.{count_mark}
+use Rattle.time_laws.specs.kernel_history.specs.Trace.{Step, Trace, Open, phase, state_after, last_left}
+use Rattle.time_laws.specs.stage_look.specs.Lookup.{look_move}
+use Rattle.time_laws.specs.stage_look.specs.declared.look.Look.{Look}
+use Rattle.time_laws.specs.stage_look.specs.declared.look.Look.TheVariants.{AtRoot, AtLeaf, AtEntry}
+use Rattle.time_laws.specs.stage_pins.specs.Acquire.{pin_move}
+use Rattle.time_laws.specs.stage_pins.specs.Commit.{settled_word}
+use Rattle.time_laws.specs.stage_pins.specs.Counts.{unheld, acquired}
+use Rattle.time_laws.specs.stage_pins.specs.Held.{commit_of}
+use Rattle.time_laws.specs.stage_pins.specs.declared.held.Acquired.{Acquired}
+use Rattle.time_laws.specs.stage_pins.specs.declared.pin.Pin.{Pin}
+use Rattle.time_laws.specs.stage_pins.specs.declared.pin.Pin.TheVariants.{AtLoad, AtCompare}
+use Rattle.time_laws.specs.stage_quiet.specs.Removal.{close_move}
+use Rattle.time_laws.specs.stage_quiet.specs.Scan.{quiet_move}
+use Rattle.time_laws.specs.stage_quiet.specs.declared.close.Close.{Close}
+use Rattle.time_laws.specs.stage_quiet.specs.declared.close.Close.TheVariants.{AtCompare as close_compare, AtDraw, AtStore}
+use Rattle.time_laws.specs.stage_quiet.specs.declared.quiet.Quiet.{Quiet}
+use Rattle.time_laws.specs.stage_quiet.specs.declared.quiet.Quiet.TheVariants.{AtCore, AtFlush}
+use Rattle.time_laws.specs.stage_sweep.specs.Freeze.{frozen, move_at}
+use Rattle.time_laws.specs.stage_sweep.specs.Release.{ThawFits, released}
+use Rattle.time_laws.specs.stage_sweep.specs.declared.sweep.Sweep.{Sweep}
+use Rattle.time_laws.specs.stage_sweep.specs.declared.sweep.SweepAt.{SweepAt}
+use Rattle.time_laws.specs.stage_sweep.specs.declared.sweep.SweepAt.TheVariants as sweep
+use Rattle.time_laws.specs.stage_sweep.specs.declared.thaw.Thaw.{Thaw}
+use Rattle.time_laws.specs.stage_tcap.specs.Charging.{charge_move}
+use Rattle.time_laws.specs.stage_tcap.specs.Pairs.{move_at as pair_at_move}
+use Rattle.time_laws.specs.stage_tcap.specs.declared.charge.Charge.{Charge}
+use Rattle.time_laws.specs.stage_tcap.specs.declared.charge.Charge.TheVariants.{AtLoad as charge_load, AtCompare as charge_compare}
+use Rattle.time_laws.specs.stage_tcap.specs.declared.pair.Pair.{Pair}
+use Rattle.time_laws.specs.stage_tcap.specs.declared.pair.PairAt.{PairAt}
+use Rattle.time_laws.specs.stage_tcap.specs.declared.pair.PairAt.TheVariants.{LoadA, MarkA, ListA, LoadB, ListB, CompareB}
+use Rattle.time_laws.specs.stage_tcap.specs.declared.pair.PairAt.TheVariants.{AgainB, StoreList, StoreB, StoreA}
+use Rattle.time_laws.specs.stage_thread.specs.Stacking.{push_move, pop_move}
+use Rattle.time_laws.specs.stage_thread.specs.declared.claim.Claim.TheVariants as claim
+use Rattle.time_laws.specs.stage_thread.specs.declared.stack.Pop.{Pop as PopOf}
+use Rattle.time_laws.specs.stage_thread.specs.declared.stack.Pop.TheVariants as pop
+use Rattle.time_laws.specs.stage_thread.specs.declared.stack.Push.{Push as PushOf}
+use Rattle.time_laws.specs.stage_thread.specs.declared.stack.Push.TheVariants as push
+use Rattle.time_laws.specs.act_states.specs.Acts.{act_move}
+use Rattle.time_laws.specs.act_states.specs.Comps.{comp_at}
+use Rattle.time_laws.specs.act_states.specs.Invocations.{invoking_at, returning_at}
+use Rattle.time_laws.specs.act_states.specs.Kills.{killing_at}
+use Rattle.time_laws.specs.act_states.specs.Makings.{making_at}
+use Rattle.time_laws.specs.act_states.specs.Switches.{switching_at}
+use Rattle.time_laws.specs.act_states.specs.Typings.{typing_at}
+use Rattle.time_laws.specs.act_states.specs.Untypings.{untyping_at, release_at}
+use Rattle.time_laws.specs.act_states.specs.declared.comps.CompAt.{CompAt}
+use Rattle.time_laws.specs.act_states.specs.declared.comps.CompAt.TheVariants as comp_stands
+use Rattle.time_laws.specs.act_states.specs.declared.comps.CompMaking.{CompMaking}
+use Rattle.time_laws.specs.act_states.specs.declared.fills.Fill.{Fill as FillOf}
+use Rattle.time_laws.specs.act_states.specs.declared.invocations.InvokingAt.{InvokingAt}
+use Rattle.time_laws.specs.act_states.specs.declared.invocations.InvokingAt.TheVariants as invoking
+use Rattle.time_laws.specs.act_states.specs.declared.invocations.ReturningAt.{ReturningAt}
+use Rattle.time_laws.specs.act_states.specs.declared.invocations.ReturningAt.TheVariants as returning
+use Rattle.time_laws.specs.act_states.specs.declared.kills.KillingAt.{KillingAt}
+use Rattle.time_laws.specs.act_states.specs.declared.kills.KillingAt.TheVariants.{LoadComp, LoadLive, Close as kill_close}
+use Rattle.time_laws.specs.act_states.specs.declared.kills.KillingAt.TheVariants.{Draw as kill_draw}
+use Rattle.time_laws.specs.act_states.specs.declared.makings.MakingAt.{MakingAt}
+use Rattle.time_laws.specs.act_states.specs.declared.makings.MakingAt.TheVariants as making
+use Rattle.time_laws.specs.act_states.specs.declared.objects.NewObject.{NewObject}
+use Rattle.time_laws.specs.act_states.specs.declared.switches.SwitchAt.{SwitchAt}
+use Rattle.time_laws.specs.act_states.specs.declared.switches.SwitchAt.TheVariants as switch_at
+use Rattle.time_laws.specs.act_states.specs.declared.switches.Switching.{Switching}
+use Rattle.time_laws.specs.act_states.specs.declared.typings.TypingAt.{TypingAt}
+use Rattle.time_laws.specs.act_states.specs.declared.typings.TypingAt.TheVariants.{Load, Compare as type_compare}
+use Rattle.time_laws.specs.act_states.specs.declared.untypings.Release.{Release as ReleaseOf}
+use Rattle.time_laws.specs.act_states.specs.declared.untypings.Untyping.{Untyping}
+use Rattle.time_laws.specs.act_states.specs.declared.untypings.UntypingAt.{UntypingAt}
+use Rattle.time_laws.specs.act_states.specs.declared.untypings.UntypingAt.TheVariants as untype
+use Rattle.time_laws.specs.act_states.specs.declared.work.Act.{Act as ActOf}
+use Rattle.time_laws.specs.act_states.specs.declared.work.Act.TheVariants.{Fill as fill_act, Remove as remove_act, Retype as type_act}
+use Rattle.time_laws.specs.act_states.specs.declared.work.Act.TheVariants.{Make as make_act, Outside, Tick as tick_act, Touch as touch_act}
+use Rattle.time_laws.specs.act_states.specs.declared.work.Act.TheVariants.{Flush as flush_act, Kill as kill_act, Untype as untype_act}
+use Rattle.time_laws.specs.act_states.specs.declared.work.Act.TheVariants.{Map as map_act, MakeComp as comp_act, Invoke as invoke_act}
+use Rattle.time_laws.specs.act_states.specs.declared.work.Act.TheVariants.{Return as return_act, Share as share_act, Switch as switch_act}
+use Rattle.time_laws.specs.act_states.specs.declared.work.Tail.{Tail}
+use Rattle.time_laws.specs.act_states.specs.declared.work.Tail.TheVariants.{Nothing, Quiesce, Unmark, StoreDead, StoreFlush, Release}
+use Rattle.time_laws.specs.act_states.specs.declared.work.Tail.TheVariants.{StoreLive, Push, Pop, Share, StoreRunning, StoreIdle}
+use Rattle.time_laws.specs.act_states.specs.declared.work.Work.TheVariants.{Lookup, Read, Scan, Acquire, Act}
+use Rattle.time_laws.specs.call_stages.specs.Cores.{move_in, move_of}
+use Rattle.time_laws.specs.call_stages.specs.Fits.{StageFits}
+use Rattle.time_laws.specs.call_stages.specs.Steps.{stage_move}
+use Rattle.time_laws.specs.call_stages.specs.Tails.{is_ok, tail_move}
+use Rattle.time_laws.specs.call_stages.specs.View.{Core}
+use Rattle.time_laws.specs.call_stages.specs.declared.stages.ActiveCall.{ActiveCall}
+use Rattle.time_laws.specs.call_stages.specs.declared.stages.Stage.{Stage}
+use Rattle.time_laws.specs.call_stages.specs.declared.stages.Stage.TheVariants.{Enter, Undecided, Decided, Leave}
+use Rattle.time_laws.specs.core_invariant.specs.Frozen.{holds_release, holds_thaw}
+use Rattle.time_laws.specs.core_invariant.specs.Holding.{count_of, committed, holds_counts, settled_by, settled}
+use Rattle.time_laws.specs.core_invariant.specs.Invariant.{done_by, holds_at, holds_in, holds, held_by, Invariant}
+use Rattle.time_laws.specs.core_invariant.specs.Knows.{CallIs, HasLoaded, KnowsAct, KnowsAt, phase_at, pin_core}
+use Rattle.time_laws.specs.core_invariant.specs.Sweeps.{HasReadCount, KnowsRelease, KnowsSweep, KnowsSweepAt, KnowsUntypingAt, UntypesBy}
+use Rattle.time_laws.specs.core_invariant.specs.Words.{SaysCount, count_room}
+use Rattle.time_laws.specs.core_invariant.proofs.Freezing.{is_count, release_away, thaw_here}
+use Rattle.time_laws.specs.step_ways.proofs.Counting.{first_marked, first_stands}
+use Rattle.time_laws.specs.step_ways.proofs.Loads.{is_active}
+use Rattle.time_laws.specs.flight.specs.Made.{turned, MayStep, cores_after, stepping_core, IsMade}
+use Rattle.time_laws.specs.flight.proofs.Made.{made_stands}
+
+-- Steps on other words
+
+look_beside : (look : Look) → is_count (word_of (look_move look)) ≡ false
+look_beside (AtRoot root number) = refl
+look_beside (AtLeaf leaf number) = refl
+look_beside (AtEntry root index) = refl
+
+quiet_beside : (q : Quiet) → is_count (word_of (quiet_move q)) ≡ false
+quiet_beside (AtCore stamp core at page) = refl
+quiet_beside (AtFlush stamp at) = refl
+
+close_beside : (close : Close) → is_count (word_of (close_move close)) ≡ false
+close_beside (close_compare node entry word core) = refl
+close_beside (AtDraw node entry) = refl
+close_beside (AtStore node entry stamp) = refl
+
+typing_beside : (f : ℕ) (k : FrameKind) (at : TypingAt) → is_count (word_of (typing_at f k at)) ≡ false
+typing_beside f k Load = refl
+typing_beside f k (type_compare word) = refl
+
+making_beside : (f : ℕ) (object : NewObject) (core : ℕ) (fill : FillOf) (at : MakingAt)
+    → is_count (word_of (making_at f object core fill at)) ≡ false
+making_beside f object core fill making.Load = refl
+making_beside f object core fill (making.Mark word) = refl
+making_beside f object core fill (making.Store word entry) = refl
+making_beside f object core fill (making.Fill word) = refl
+
+charge_beside : (charge : Charge) → is_count (word_of (charge_move charge)) ≡ false
+charge_beside (charge_load tcap ticks) = refl
+charge_beside (charge_compare tcap ticks budget version) = refl
+
+killing_beside : (f core : ℕ) (at : KillingAt) → is_count (word_of (killing_at f core at)) ≡ false
+killing_beside f core LoadComp = refl
+killing_beside f core (LoadLive life) = refl
+killing_beside f core (kill_close life word) = refl
+killing_beside f core (kill_draw life word) = refl
+
+invoking_beside : (f : ℕ) (at : InvokingAt) → is_count (word_of (invoking_at f at)) ≡ false
+invoking_beside f invoking.LoadTable = refl
+invoking_beside f (invoking.LoadPages table) = refl
+invoking_beside f (invoking.LoadComp table pages) = refl
+invoking_beside f (invoking.LoadLive table pages life) = refl
+
+returning_beside : (thread depth : ℕ) (at : ReturningAt) → is_count (word_of (returning_at thread depth at)) ≡ false
+returning_beside thread depth returning.LoadBelow = refl
+returning_beside thread depth (returning.LoadTable comp) = refl
+returning_beside thread depth (returning.LoadPages comp table) = refl
+returning_beside thread depth (returning.Draw comp table pages) = refl
+
+comp_beside : (m : CompMaking) (at : CompAt) → is_count (word_of (comp_at m at)) ≡ false
+comp_beside m comp_stands.Load = refl
+comp_beside m (comp_stands.Mark word) = refl
+comp_beside m (comp_stands.LoadLive word) = refl
+comp_beside m (comp_stands.Scan word last q) = quiet_beside q
+comp_beside m (comp_stands.Close word last) = refl
+comp_beside m (comp_stands.Store word last entry) = refl
+comp_beside m (comp_stands.Fill word last) = refl
+
+pair_beside : (p : Pair) (at : PairAt) → is_count (word_of (pair_at_move p at)) ≡ false
+pair_beside p LoadA = refl
+pair_beside p MarkA = refl
+pair_beside p (ListA entry) = refl
+pair_beside p LoadB = refl
+pair_beside p (ListB entry) = refl
+pair_beside p CompareB = refl
+pair_beside p (AgainB r) = refl
+pair_beside p (StoreList entry) = refl
+pair_beside p StoreB = refl
+pair_beside p (StoreA moved v) = refl
+
+switching_beside : (m : Switching) (at : SwitchAt) → is_count (word_of (switching_at m at)) ≡ false
+switching_beside m (switch_at.Claim (claim.AtLoad f core)) = refl
+switching_beside m (switch_at.Claim (claim.AtCompare f core depth)) = refl
+switching_beside m (switch_at.Claim (claim.AtStack f depth)) = refl
+switching_beside m (switch_at.LoadTable to) = refl
+switching_beside m (switch_at.LoadPages to table) = refl
+switching_beside m (switch_at.Leave to table pages) = refl
+switching_beside m (switch_at.Draw to table pages) = refl
+
+push_beside : (x : PushOf) → is_count (word_of (push_move x)) ≡ false
+push_beside (push.AtStack t core depth comp) = refl
+push_beside (push.AtThread t core depth) = refl
+
+pop_beside : (x : PopOf) → is_count (word_of (pop_move x)) ≡ false
+pop_beside (pop.AtThread t core depth) = refl
+pop_beside (pop.AtStack t depth) = refl
+
+-- Steps on a count word
+
+-- The call is one that makes the frame untyped.
+pub record UntypesFrame (call : Call) (f : ℕ) : Type 0 where
+  pub range : ℕ
+  pub is : call ≡ Retype range f frame_kind.Untyped
+
+untypes_frame : (call : Call) (ks : List Capability) (m : Untyping) → UntypesBy call ks m → UntypesFrame call m.frame
+untypes_frame (Retype r f frame_kind.Untyped) (range ∷ []) m by =
+    record { range = r; is = ap (λ (n : ℕ). Retype r n frame_kind.Untyped) (sym by.frame) }
+untypes_frame (Retype r f frame_kind.Untyped) [] m by = absurd by
+untypes_frame (Retype r f frame_kind.Untyped) (range ∷ k ∷ ks) m by = absurd by
+untypes_frame (Retype r f frame_kind.User) ks m by = absurd by
+untypes_frame (Retype r f frame_kind.Kernel) ks m by = absurd by
+untypes_frame call ks m by = absurd by
+
+-- An open call of core c has found a count that no core held, and has left it as one that the core holds.
+pub record Takes (t : Trace) (c f was now : ℕ) : Type 0 where
+  pub call : Call
+  pub is_open : phase t c ≡ Open call
+  pub count : ℤ
+  pub stamp : ℕ
+  pub found : count_of_word was ≡ Some (unheld count stamp)
+  pub left : (count_of_word now ≡ Some (acquired c count stamp))
+      ⊎ ((count_of_word now ≡ Some (frozen c count stamp)) × UntypesFrame call f)
+
+-- What a step of core c leaves in a count word of frame f.
+abbrev pub LeavesCount : Trace → ℕ → ℕ → ℕ → ℕ → Type 0
+LeavesCount t c f was now = (now ≡ was) ⊎ ((count_mark (count_of_word now) ≡ None) ⊎ Takes t c f was now)
+
+stored_by : (r : Reply) (drawn : Option ℕ) (x : Acquired)
+    → committed (done_by r drawn) x ≡ word_of_count (settled_word (commit_of (is_ok r) drawn x))
+stored_by (reply.Ok v) drawn x = refl
+stored_by r drawn x = refl
+
+same_count : (g j f k : ℕ) → CountAt g j ≡ CountAt f k → g ≡ f
+same_count g j f k h = cc
+
+module _ (setup : Setting) (setting : IsSetting setup) (cores : ℕ → Core) (t : Trace) (stands : Invariant setup cores t) (c : ℕ)
+    (here : c < setup.cores) (f k : ℕ) where
+  abbrev was : ℕ
+  was = last_left setup t (CountAt f k)
+
+  abbrev LeavesIt : ℕ → Type 0
+  LeavesIt now = LeavesCount t c f was now
+
+  -- what an operation leaves there, if it is on this word
+  abbrev Leaves : Move → Type 0
+  Leaves move = word_of move ≡ CountAt f k → LeavesIt (left_of move was)
+
+  beside : (move : Move) → is_count (word_of move) ≡ false → Leaves move
+  beside move not at = absurd (false≢true (sym not ∙ ap is_count at))
+
+  core_fits : (core : ℕ) → core ≡ c → core < 8
+  core_fits core own = let most = setting.most_cores in omega (arith, most, own, here)
+
+  -- a compare that expects a count which no core holds
+  compared : (call : Call) (count : ℤ) (stamp : ℕ) (new : ℕ) → phase t c ≡ Open call → CountFits (unheld count stamp)
+      → ((count_of_word new ≡ Some (acquired c count stamp))
+      ⊎ ((count_of_word new ≡ Some (frozen c count stamp)) × UntypesFrame call f))
+      → LeavesIt (left_if (was == word_of_count (unheld count stamp)) was new)
+  compared call count stamp new is_open fits left = by (was == word_of_count (unheld count stamp)) refl
+    where
+      by : (won : Bool) → (was == word_of_count (unheld count stamp)) ≡ won → LeavesIt (left_if won was new)
+      by false is = inl refl
+      by true is = inr (inr (record {
+        call = call;
+        is_open = is_open;
+        count = count;
+        stamp = stamp;
+        found = ap count_of_word (eqb-true was (word_of_count (unheld count stamp)) is) ∙ counts.spelling.reads (unheld count stamp) fits;
+        left = left;
+      }))
+
+  pin_leaves : (call : Call) (pin : Pin) → phase t c ≡ Open call → pin_core pin ≡ c → HasLoaded t c pin → Leaves (pin_move pin)
+  pin_leaves call (AtLoad frame core) is_open own loaded at = inl refl
+  pin_leaves call (AtCompare frame core count stamp) is_open own loaded at =
+      compared call count stamp (word_of_count (acquired core count stamp)) is_open loaded.fits
+      (inl (counts.spelling.reads (acquired core count stamp) (core_fits core own, loaded.fits.1, loaded.fits.2)
+      ∙ ap (λ (d : ℕ). Some (acquired d count stamp)) own))
+
+  sweep_leaves : (call : Call) (g word : ℕ) (w : Sweep) → phase t c ≡ Open call → UntypesFrame call g → KnowsSweep setup t c g word w
+      → (at : SweepAt) → KnowsSweepAt setup t c g w at → Leaves (move_at w.frame w.core (length w.kept) at)
+  sweep_leaves call g word w is_open untypes knows sweep.Load has at = inl refl
+  sweep_leaves call g word w is_open untypes knows (sweep.Compare count stamp) has at =
+      compared call count stamp (word_of_count (frozen w.core count stamp)) is_open has.fits
+      (inr (
+        counts.spelling.reads (frozen w.core count stamp) (core_fits w.core knows.core, has.fits.1, has.fits.2)
+            ∙ ap (λ (d : ℕ). Some (frozen d count stamp)) knows.core,
+        subst (UntypesFrame call) (sym knows.frame ∙ same_count w.frame (length w.kept) f k at) untypes,
+      ))
+  sweep_leaves call g word w is_open untypes knows (sweep.Scan q) has at = beside (quiet_move q) (quiet_beside q) at
+  sweep_leaves call g word w is_open untypes knows (sweep.Empty entry) has at = inl refl
+
+  untyping_leaves : (call : Call) (g core : ℕ) (at : UntypingAt) → phase t c ≡ Open call → UntypesFrame call g
+      → KnowsUntypingAt setup t c g at → Leaves (untyping_at g core at)
+  untyping_leaves call g core untype.Load is_open untypes has = beside (untyping_at g core untype.Load) refl
+  untyping_leaves call g core (untype.Mark word v) is_open untypes has = beside (untyping_at g core (untype.Mark word v)) refl
+  untyping_leaves call g core (untype.Sweep word w) is_open untypes has = sweep_leaves call g word w is_open untypes has w.at has.at
+  untyping_leaves call g core (untype.Draw word w) is_open untypes has = beside (untyping_at g core (untype.Draw word w)) refl
+
+  module _ (a : ActiveCall) (active : (cores c).active ≡ Some a) where
+    act_leaves : (act : ActOf) → phase t c ≡ Open a.call → KnowsAct setup t c a.call a.plan a.found setup.cores act
+        → Leaves (act_move act)
+    act_leaves (fill_act fill) is_open has = beside (act_move (fill_act fill)) refl
+    act_leaves (remove_act close cap) is_open has = beside (close_move close) (close_beside close)
+    act_leaves (type_act y) is_open has = beside (act_move (type_act y)) (typing_beside y.frame y.kind y.at)
+    act_leaves (make_act m) is_open has = beside (act_move (make_act m)) (making_beside m.frame m.object m.core m.fill m.at)
+    act_leaves (map_act fill) is_open has = beside (act_move (map_act fill)) refl
+    act_leaves (Outside node entry word) is_open has = beside (act_move (Outside node entry word)) refl
+    act_leaves (tick_act charge) is_open has = beside (charge_move charge) (charge_beside charge)
+    act_leaves (touch_act m) is_open has = beside (look_move m.look) (look_beside m.look)
+    act_leaves (flush_act core) is_open has = beside (act_move (flush_act core)) refl
+    act_leaves (kill_act m) is_open has = beside (act_move (kill_act m)) (killing_beside m.comp m.core m.at)
+    act_leaves (untype_act m) is_open has =
+        untyping_leaves a.call m.frame m.core m.at is_open (untypes_frame a.call a.found m has.untypes) has.at
+    act_leaves (comp_act m) is_open has = beside (act_move (comp_act m)) (comp_beside m m.at)
+    act_leaves (invoke_act m) is_open has = beside (act_move (invoke_act m)) (invoking_beside m.comp m.at)
+    act_leaves (return_act m) is_open has = beside (act_move (return_act m)) (returning_beside m.thread m.depth m.at)
+    act_leaves (share_act p) is_open has = beside (act_move (share_act p)) (pair_beside p p.at)
+    act_leaves (switch_act m) is_open has = beside (act_move (switch_act m)) (switching_beside m m.at)
+
+    -- what a call stores in a word that it holds, no core holds then
+    stores : (g j x : ℕ) → (holds (cores c)).marks (CountAt g j) ≡ true → (holds (cores c)).stands (CountAt g j) ≡ x
+        → count_mark (count_of_word x) ≡ None
+    stores g j x marks settles = ap count_mark says.says
+      where
+        settled_is : settled setup (held_by cores) t (CountAt g j) ≡ x
+        settled_is =
+            ap (λ o. settled_by o (held_by cores) (CountAt g j) (last_left setup t (CountAt g j)))
+            ((stands.marks (CountAt g j) c).kept marks)
+            ∙ settles
+
+        says : SaysCount (count_room (state_after setup t)) (count_of_word x)
+        says = subst (λ (n : ℕ). SaysCount (count_room (state_after setup t)) (count_of_word n)) settled_is (stands.words (CountAt g j))
+
+    module _ (r : Reply) (drawn : Option ℕ) where
+      abbrev fate : Option (Option ℕ)
+      fate = done_by r drawn
+
+      held_is : (tail : Tail) → a.stage ≡ Decided r drawn tail → holds (cores c) ≡ holds_at (Decided r drawn tail) a.counts
+      held_is tail is = ap holds_in active ∙ ap (λ s. holds_at s a.counts) is
+
+      -- the commit of a count
+      commits : (x : Acquired) (xs : List Acquired) → a.counts ≡ x ∷ xs → a.stage ≡ Decided r drawn Nothing
+          → count_mark (count_of_word (word_of_count (settled_word (commit_of (is_ok r) drawn x)))) ≡ None
+      commits x xs all is =
+          stores x.pin.frame (counter_of x.pin.core) (word_of_count (settled_word (commit_of (is_ok r) drawn x)))
+          (ap (λ h. h.marks (count_of x)) held ∙ first_marked fate x xs)
+          (ap (λ h. h.stands (count_of x)) held ∙ first_stands fate x xs ∙ stored_by r drawn x)
+        where
+          held : holds (cores c) ≡ holds_counts fate (x ∷ xs)
+          held = held_is Nothing is ∙ ap (holds_counts fate) all
+
+      -- that of one beside frozen counters
+      commits_beside : (y : ReleaseOf) (x : Acquired) (xs : List Acquired) → a.counts ≡ x ∷ xs → a.stage ≡ Decided r drawn (Release y)
+          → KnowsRelease a.call (x ∷ xs) y
+          → count_mark (count_of_word (word_of_count (settled_word (commit_of (is_ok r) drawn x)))) ≡ None
+      commits_beside y x xs all is knows =
+          stores x.pin.frame (counter_of x.pin.core) (word_of_count (settled_word (commit_of (is_ok r) drawn x)))
+          (ap (λ h. h.marks (count_of x)) held ∙ away.0 ∙ first_marked fate x xs)
+          (ap (λ h. h.stands (count_of x)) held ∙ away.1 ∙ first_stands fate x xs ∙ stored_by r drawn x)
+        where
+          held : holds (cores c) ≡ holds_release y (holds_counts fate (x ∷ xs))
+          held = held_is (Release y) is ∙ ap (λ ys. holds_release y (holds_counts fate ys)) all
+
+          away : ((holds_release y (holds_counts fate (x ∷ xs))).marks (count_of x) ≡ (holds_counts fate (x ∷ xs)).marks (count_of x))
+              × ((holds_release y (holds_counts fate (x ∷ xs))).stands (count_of x) ≡ (holds_counts fate (x ∷ xs)).stands (count_of x))
+          away = release_away y (holds_counts fate (x ∷ xs)) x.pin.frame (counter_of x.pin.core) knows.thaws
+              (All-head (λ (z : Acquired). z.pin.frame ≢ y.frame) x xs knows.apart)
+
+      -- the release of a frozen counter
+      thaws : (y : ReleaseOf) (o : Option Thaw) → y.thaw ≡ o → a.stage ≡ Decided r drawn (Release y)
+          → IfSome o (ThawFits (cores c).own.layout) → Leaves (release_at y.frame y.word o)
+      thaws y None is at fits = beside (release_at y.frame y.word None) refl
+      thaws y (Some th) is at fits = λ word. inr (inl (stores th.frame th.at
+          (word_of_count (released th.clear (slice_get th.words th.at)))
+          (ap (λ h. h.marks (CountAt th.frame th.at)) held ∙ frozen_here.0)
+          (ap (λ h. h.stands (CountAt th.frame th.at)) held ∙ frozen_here.1)))
+        where
+          held : holds (cores c) ≡ holds_release y (holds_counts fate a.counts)
+          held = held_is (Release y) at
+
+          frozen_here : ((holds_release y (holds_counts fate a.counts)).marks (CountAt th.frame th.at) ≡ true)
+              × ((holds_release y (holds_counts fate a.counts)).stands (CountAt th.frame th.at)
+              ≡ word_of_count (released th.clear (slice_get th.words th.at)))
+          frozen_here = subst (λ (q : Option Thaw). ((holds_thaw q (holds_counts fate a.counts)).marks (CountAt th.frame th.at) ≡ true)
+              × ((holds_thaw q (holds_counts fate a.counts)).stands (CountAt th.frame th.at)
+              ≡ word_of_count (released th.clear (slice_get th.words th.at)))) (sym is)
+              (thaw_here th (holds_counts fate a.counts) th.at (omega arith) fits.at)
+
+      tail_leaves : (tail : Tail) (xs : List Acquired) → a.stage ≡ Decided r drawn tail → a.counts ≡ xs
+          → KnowsAt setup t c (cores c).own.table a (Decided r drawn tail) → StageFits (cores c).own.layout (Decided r drawn tail)
+          → Leaves (tail_move r drawn tail xs)
+      tail_leaves (Quiesce close) xs is all has fits = beside (close_move close) (close_beside close)
+      tail_leaves (Unmark g word) xs is all has fits = beside (tail_move r drawn (Unmark g word) xs) refl
+      tail_leaves (StoreDead life x) xs is all has fits = beside (tail_move r drawn (StoreDead life x) xs) refl
+      tail_leaves (StoreFlush by x) xs is all has fits = beside (tail_move r drawn (StoreFlush by x) xs) refl
+      tail_leaves (StoreLive l live g word) xs is all has fits = beside (tail_move r drawn (StoreLive l live g word) xs) refl
+      tail_leaves (Push x) xs is all has fits = beside (push_move x) (push_beside x)
+      tail_leaves (Pop x) xs is all has fits = beside (pop_move x) (pop_beside x)
+      tail_leaves (Share p) xs is all has fits = beside (tail_move r drawn (Share p) xs) (pair_beside p p.at)
+      tail_leaves (StoreRunning g core depth old old_depth) xs is all has fits =
+          beside (tail_move r drawn (StoreRunning g core depth old old_depth) xs) refl
+      tail_leaves (StoreIdle g depth) xs is all has fits = beside (tail_move r drawn (StoreIdle g depth) xs) refl
+      tail_leaves Nothing [] is all has fits = beside (tail_move r drawn Nothing []) refl
+      tail_leaves Nothing (x ∷ xs) is all has fits = λ word. inr (inl (commits x xs all is))
+      tail_leaves (Release y) [] is all has fits = thaws y y.thaw refl is fits.thaw
+      tail_leaves (Release y) (x ∷ xs) is all has fits = λ word. inr (inl (commits_beside y x xs all is
+          (subst (λ (ys : List Acquired). KnowsRelease a.call ys y) all has.1)))
+
+    stage_leaves : (stage : Stage) → a.stage ≡ stage → phase t c ≡ phase_at a.call stage → KnowsAt setup t c (cores c).own.table a stage
+        → Leaves (stage_move (cores c).own a.counts stage)
+    stage_leaves Enter is at has = absurd has
+    stage_leaves (Undecided (Lookup look)) is at has = beside (look_move look) (look_beside look)
+    stage_leaves (Undecided (Read comp look)) is at has = beside (stage_move (cores c).own a.counts (Undecided (Read comp look))) refl
+    stage_leaves (Undecided (Scan q act)) is at has = beside (quiet_move q) (quiet_beside q)
+    stage_leaves (Undecided (Acquire pin change act)) is at has = pin_leaves a.call pin at has.knows.core has.knows.loaded
+    stage_leaves (Undecided (Act act)) is at has = act_leaves act at has.knows.knows
+    stage_leaves (Decided r drawn tail) is at has = tail_leaves r drawn tail a.counts is refl has
+        (subst (StageFits (cores c).own.layout) is (is_active setup setting cores t stands c here a active).stage)
+    stage_leaves (Leave r x) is at has = beside (stage_move (cores c).own a.counts (Leave r x)) refl
+
+  call_leaves : (o : Option ActiveCall) → (cores c).active ≡ o → IsSome o → CallIs setup t c (cores c).own.table o
+      → Leaves (move_in (cores c).own o)
+  call_leaves None active some is = absurd (false≢true some)
+  call_leaves (Some a) active some is = stage_leaves a active a.stage refl is.phase is.knows
+
+-- A step of the machine.
+module _ (setup : Setting) (setting : IsSetting setup) (t : Trace) (e : Step) (made : IsMade setup (e ∷ t)) (f k : ℕ) where
+  abbrev core : Core
+  core = cores_after setup t e.core
+
+  stands : Invariant setup (cores_after setup t) t
+  stands = made_stands setup setting t made.0
+
+  pub count_step : word_of e.move ≡ CountAt f k
+      → LeavesCount t e.core f (last_left setup t (CountAt f k)) (left_of e.move e.found)
+  count_step at =
+      subst (λ (n : ℕ). LeavesCount t e.core f (last_left setup t (CountAt f k)) (left_of e.move n))
+      (sym (made.1.found ∙ ap (last_left setup t) at))
+      (subst (λ (m : Move). LeavesCount t e.core f (last_left setup t (CountAt f k)) (left_of m (last_left setup t (CountAt f k))))
+      (sym move_is) (by e.enters made.1.may (ap word_of (sym move_is) ∙ at)))
+    where
+      move_is : e.move ≡ move_of (stepping_core setup t e)
+      move_is = ap (λ (x : Step). x.move) made.1.made
+
+      by : (o : Option Call) → MayStep o core → word_of (move_of (turned o core)) ≡ CountAt f k
+          → LeavesCount t e.core f (last_left setup t (CountAt f k)) (left_of (move_of (turned o core)) (last_left setup t (CountAt f k)))
+      by None may word =
+          call_leaves setup setting (cores_after setup t) t stands e.core made.1.is_core f k core.active refl may
+          (stands.each e.core made.1.is_core).active word
+      by (Some call) may word = absurd (cc)
+
+  -- one at which a call begins is on none
+  pub begins_beside : word_of e.move ≡ CountAt f k → e.enters ≡ None
+  begins_beside at = by e.enters (ap word_of (sym (ap (λ (x : Step). x.move) made.1.made)) ∙ at)
+    where
+      by : (o : Option Call) → word_of (move_of (turned o core)) ≡ CountAt f k → o ≡ None
+      by None word = refl
+      by (Some call) word = absurd (cc)
