@@ -2,39 +2,39 @@
 use Rattle.std.proofs.Common.{◌≡◌, ℕ, ◌+◌, ◌-◌, ◌<◌, ◌≤◌, ◌==◌, nat_lt, Bool, true, false, if◌then◌else◌}
 use Rattle.std.proofs.Common.{length, Option, Some, None, IfSome, refl, sym, subst, arith, slice_get}
 use Rattle.std.proofs.lemmas.Bool.{ltb-true}
-use Rattle.spk_nums.specs.declared.kinds.FrameKind.{FrameKind}
-use Rattle.spk_nums.specs.declared.kinds.FrameKind.TheVariants as frame_kind
-use Rattle.spk_nums.specs.declared.kinds.Obj.{Obj}
-use Rattle.spk_nums.specs.declared.kinds.Obj.TheVariants.{Blank}
-use Rattle.spk_nums.specs.declared.steps.StageEnd.{StageEnd}
-use Rattle.spk_nums.specs.declared.steps.StageEnd.TheVariants as ends
-use Rattle.frame_words.specs.Frame.{frame_of_word}
-use Rattle.frame_words.specs.declared.frame_word.FrameWord.{FrameWord}
-use Rattle.frame_words.specs.Live.{live_of_word}
-use Rattle.frame_words.specs.declared.live_word.LiveWord.{LiveWord}
-use Rattle.frame_words.specs.declared.live_word.LiveWord.TheVariants as live
-use Rattle.stage_quiet.specs.Scan.{QuietFits, quiet_scan, quiet_after, quiet_end}
-use Rattle.stage_quiet.specs.declared.quiet.Quiet.{Quiet}
-use Rattle.act_states.specs.Refusals.{refusal_of}
-use Rattle.act_states.specs.Scans.{IsUnpaged, ScanFits, left_of_scan}
-use Rattle.act_states.specs.WorkSteps.{refuse}
-use Rattle.act_states.specs.Comps.{CompMakingFits, CompAtFits, comp_dues, comp_left, comp_undo, comp_goes, comp_refuses}
-use Rattle.act_states.specs.Comps.{comp_meets, comp_meets_object, comp_meets_blank, number_met, number_shown}
-use Rattle.act_states.specs.Comps.{takes_number, scans_number, number_scanned, closes_number, comp_published}
-use Rattle.act_states.specs.Acts.{dues, next_work, comp_marks, took_comp_at}
-use Rattle.act_states.specs.declared.comps.CompAt.{CompAt}
-use Rattle.act_states.specs.declared.comps.CompAt.TheVariants.{Load, Mark, LoadLive, Scan, Close, Store, Fill}
-use Rattle.act_states.specs.declared.comps.CompMaking.{CompMaking}
-use Rattle.act_states.specs.declared.comps.LastEpoch.{LastEpoch}
-use Rattle.act_states.specs.declared.own.Own.{Own}
-use Rattle.act_states.specs.declared.refusals.Refusal.{Refusal}
-use Rattle.act_states.specs.declared.refusals.Refusal.TheVariants as refusal
-use Rattle.act_states.specs.declared.work.Act.{Act as ActType}
-use Rattle.act_states.specs.declared.work.Act.TheVariants.{MakeComp}
-use Rattle.act_states.specs.declared.work.Tail.{Tail}
-use Rattle.act_states.specs.declared.work.Tail.TheVariants.{Unmark, StoreLive}
-use Rattle.act_states.specs.declared.work.Work.TheVariants.{Act}
-use Rattle.act_states.specs.declared.work.WorkStep.TheVariants.{Goes, Refuses}
+use Rattle.call_stages.specs.spk_nums.specs.declared.kinds.FrameKind.{FrameKind}
+use Rattle.call_stages.specs.spk_nums.specs.declared.kinds.FrameKind.TheVariants as frame_kind
+use Rattle.call_stages.specs.spk_nums.specs.declared.kinds.Obj.{Obj}
+use Rattle.call_stages.specs.spk_nums.specs.declared.kinds.Obj.TheVariants.{Blank}
+use Rattle.call_stages.specs.spk_nums.specs.declared.steps.StageEnd.{StageEnd}
+use Rattle.call_stages.specs.spk_nums.specs.declared.steps.StageEnd.TheVariants as ends
+use Rattle.call_stages.specs.frame_words.specs.Frame.{frame_of_word}
+use Rattle.call_stages.specs.frame_words.specs.declared.frame_word.FrameWord.{FrameWord}
+use Rattle.call_stages.specs.frame_words.specs.Live.{live_of_word}
+use Rattle.call_stages.specs.frame_words.specs.declared.live_word.LiveWord.{LiveWord}
+use Rattle.call_stages.specs.frame_words.specs.declared.live_word.LiveWord.TheVariants as live
+use Rattle.call_stages.specs.stage_quiet.specs.Scan.{QuietFits, quiet_scan, quiet_after, quiet_end}
+use Rattle.call_stages.specs.stage_quiet.specs.declared.quiet.Quiet.{Quiet}
+use Rattle.call_stages.specs.act_states.specs.Refusals.{refusal_of}
+use Rattle.call_stages.specs.act_states.specs.Scans.{IsUnpaged, ScanFits, left_of_scan}
+use Rattle.call_stages.specs.act_states.specs.WorkSteps.{refuse}
+use Rattle.call_stages.specs.act_states.specs.Comps.{CompMakingFits, CompAtFits, comp_dues, comp_left, comp_undo, comp_goes, comp_refuses}
+use Rattle.call_stages.specs.act_states.specs.Comps.{comp_meets, comp_meets_object, comp_meets_blank, number_met, number_shown}
+use Rattle.call_stages.specs.act_states.specs.Comps.{takes_number, scans_number, number_scanned, closes_number, comp_published}
+use Rattle.call_stages.specs.act_states.specs.Acts.{dues, next_work, comp_marks, took_comp_at}
+use Rattle.call_stages.specs.act_states.specs.declared.comps.CompAt.{CompAt}
+use Rattle.call_stages.specs.act_states.specs.declared.comps.CompAt.TheVariants.{Load, Mark, LoadLive, Scan, Close, Store, Fill}
+use Rattle.call_stages.specs.act_states.specs.declared.comps.CompMaking.{CompMaking}
+use Rattle.call_stages.specs.act_states.specs.declared.comps.LastEpoch.{LastEpoch}
+use Rattle.call_stages.specs.act_states.specs.declared.own.Own.{Own}
+use Rattle.call_stages.specs.act_states.specs.declared.refusals.Refusal.{Refusal}
+use Rattle.call_stages.specs.act_states.specs.declared.refusals.Refusal.TheVariants as refusal
+use Rattle.call_stages.specs.act_states.specs.declared.work.Act.{Act as ActType}
+use Rattle.call_stages.specs.act_states.specs.declared.work.Act.TheVariants.{MakeComp}
+use Rattle.call_stages.specs.act_states.specs.declared.work.Tail.{Tail}
+use Rattle.call_stages.specs.act_states.specs.declared.work.Tail.TheVariants.{Unmark, StoreLive}
+use Rattle.call_stages.specs.act_states.specs.declared.work.Work.TheVariants.{Act}
+use Rattle.call_stages.specs.act_states.specs.declared.work.WorkStep.TheVariants.{Goes, Refuses}
 use Rattle.call_stages.specs.declared.stages.ActiveCall.{ActiveCall}
 use Rattle.call_stages.specs.Steps.{landed}
 use Rattle.call_stages.specs.Tails.{tail_left}

@@ -3,51 +3,54 @@ use Rattle.std.proofs.lemmas.Option.{slice_get_within}
 use Rattle.std.proofs.Common.{◌≡◌, ℕ, zero, suc, ℤ, pos, negsuc, ◌+◌, ◌*◌}
 use Rattle.std.proofs.Common.{◌-◌, slice_get, ◌<◌, ◌≤◌, Bool, true, false, ◌==◌, List, [], ◌∷◌}
 use Rattle.std.proofs.Common.{length, Option, Some, None, IfSome, refl, subst, arith}
-use Rattle.stage_pins.specs.declared.held.Acquired.{Acquired}
-use Rattle.spk_nums.specs.declared.kinds.Kind.{Kind}
-use Rattle.spk_nums.specs.declared.kinds.Kind.TheVariants.{Range}
-use Rattle.word_map.specs.Places.{Shape}
-use Rattle.stage_look.specs.Shown.{CapNames}
-use Rattle.act_states.specs.declared.objects.NewObject.{NewObject}
-use Rattle.act_states.specs.declared.objects.NewObject.TheVariants.{Table as NewTable, Leaf as NewLeaf, Pages as NewPages}
-use Rattle.act_states.specs.declared.objects.NewObject.TheVariants.{Pleaf as NewPleaf, Thread as NewThread, Tcap as NewTcap}
-use Rattle.act_states.specs.Objects.{object_dues, counts_of, last_word, NamesFit}
-use Rattle.act_states.specs.declared.makings.MakingAt.{MakingAt}
-use Rattle.act_states.specs.declared.makings.MakingAt.TheVariants.{Load as make_load, Mark, Store, Fill as fill_at}
-use Rattle.act_states.specs.declared.kills.KillingAt.{KillingAt}
-use Rattle.act_states.specs.declared.kills.KillingAt.TheVariants.{LoadComp, LoadLive, Close as kill_close, Draw as kill_draw}
-use Rattle.act_states.specs.declared.own.OwnChange.{OwnChange}
-use Rattle.act_states.specs.declared.own.OwnChange.TheVariants.{Ticks, Works, Empties, Switches, Caches}
-use Rattle.act_states.specs.declared.invocations.InvokingAt.{InvokingAt}
-use Rattle.act_states.specs.declared.invocations.InvokingAt.TheVariants as invoking
-use Rattle.act_states.specs.declared.invocations.ReturningAt.{ReturningAt}
-use Rattle.act_states.specs.declared.invocations.ReturningAt.TheVariants as returning
-use Rattle.act_states.specs.declared.work.Act.{Act as ActType}
-use Rattle.act_states.specs.declared.work.Act.TheVariants.{Fill as fill_act, Remove as remove_act, Retype as type_act}
-use Rattle.act_states.specs.declared.work.Act.TheVariants.{Make as make_act, Outside, Tick as tick_act, Kill as kill_act}
-use Rattle.act_states.specs.declared.work.Act.TheVariants.{Flush as flush_act, Untype as untype_act, Map as map_act}
-use Rattle.act_states.specs.declared.work.Act.TheVariants.{MakeComp as comp_act, Invoke as invoke_act, Return as return_act}
-use Rattle.act_states.specs.declared.work.Act.TheVariants.{Switch as switch_act, Touch as touch_act, Share as share_act}
-use Rattle.act_states.specs.declared.work.WorkStep.{WorkStep}
-use Rattle.act_states.specs.declared.work.WorkStep.TheVariants.{Goes, Acquires, Refuses, Answers, Changes}
-use Rattle.act_states.specs.declared.work.Due.{Due}
-use Rattle.act_states.specs.Acts.{ActFits, act_left, cap_dues, dues, acquires}
-use Rattle.act_states.specs.Acts.{made_dues}
-use Rattle.act_states.specs.Acts.{killing_dues}
-use Rattle.act_states.specs.Acts.{invoking_dues}
-use Rattle.act_states.specs.Acts.{returning_dues}
-use Rattle.act_states.specs.declared.untypings.UntypingAt.{UntypingAt}
-use Rattle.act_states.specs.declared.untypings.UntypingAt.TheVariants as untype
-use Rattle.act_states.specs.Untypings.{UntypingAtFits, released_dues, untyping_dues}
-use Rattle.act_states.specs.Comps.{comp_dues}
-use Rattle.act_states.specs.declared.switches.Switching.{Switching}
-use Rattle.act_states.specs.declared.switches.SwitchAt.{SwitchAt}
-use Rattle.act_states.specs.declared.switches.SwitchAt.TheVariants as switch_at
-use Rattle.act_states.specs.Switches.{SwitchAtFits, SwitchingFits, tcap_dues, switch_due_list, switching_dues}
-use Rattle.stage_thread.specs.declared.claim.Claimed.{Claimed}
-use Rattle.act_states.specs.declared.comps.CompAt.{CompAt}
-use Rattle.act_states.specs.declared.comps.CompAt.TheVariants as comp_at_as
-use Rattle.act_states.specs.declared.comps.CompMaking.{CompMaking}
+use Rattle.call_stages.specs.stage_pins.specs.declared.held.Acquired.{Acquired}
+use Rattle.call_stages.specs.spk_nums.specs.declared.kinds.Kind.{Kind}
+use Rattle.call_stages.specs.spk_nums.specs.declared.kinds.Kind.TheVariants.{Range}
+use Rattle.call_stages.specs.word_map.specs.Places.{Shape}
+use Rattle.call_stages.specs.stage_look.specs.Shown.{CapNames}
+use Rattle.call_stages.specs.act_states.specs.declared.objects.NewObject.{NewObject}
+use Rattle.call_stages.specs.act_states.specs.declared.objects.NewObject.TheVariants.{Table as NewTable, Leaf as NewLeaf, Pages as NewPages}
+use Rattle.call_stages.specs.act_states.specs.declared.objects.NewObject.TheVariants.{Pleaf as NewPleaf, Thread as NewThread}
+use Rattle.call_stages.specs.act_states.specs.declared.objects.NewObject.TheVariants.{Tcap as NewTcap}
+use Rattle.call_stages.specs.act_states.specs.Objects.{object_dues, counts_of, last_word, NamesFit}
+use Rattle.call_stages.specs.act_states.specs.declared.makings.MakingAt.{MakingAt}
+use Rattle.call_stages.specs.act_states.specs.declared.makings.MakingAt.TheVariants.{Load as make_load, Mark, Store, Fill as fill_at}
+use Rattle.call_stages.specs.act_states.specs.declared.kills.KillingAt.{KillingAt}
+use Rattle.call_stages.specs.act_states.specs.declared.kills.KillingAt.TheVariants.{LoadComp, LoadLive, Close as kill_close}
+use Rattle.call_stages.specs.act_states.specs.declared.kills.KillingAt.TheVariants.{Draw as kill_draw}
+use Rattle.call_stages.specs.act_states.specs.declared.own.OwnChange.{OwnChange}
+use Rattle.call_stages.specs.act_states.specs.declared.own.OwnChange.TheVariants.{Ticks, Works, Empties, Switches, Caches}
+use Rattle.call_stages.specs.act_states.specs.declared.invocations.InvokingAt.{InvokingAt}
+use Rattle.call_stages.specs.act_states.specs.declared.invocations.InvokingAt.TheVariants as invoking
+use Rattle.call_stages.specs.act_states.specs.declared.invocations.ReturningAt.{ReturningAt}
+use Rattle.call_stages.specs.act_states.specs.declared.invocations.ReturningAt.TheVariants as returning
+use Rattle.call_stages.specs.act_states.specs.declared.work.Act.{Act as ActType}
+use Rattle.call_stages.specs.act_states.specs.declared.work.Act.TheVariants.{Fill as fill_act, Remove as remove_act, Retype as type_act}
+use Rattle.call_stages.specs.act_states.specs.declared.work.Act.TheVariants.{Make as make_act, Outside, Tick as tick_act, Kill as kill_act}
+use Rattle.call_stages.specs.act_states.specs.declared.work.Act.TheVariants.{Flush as flush_act, Untype as untype_act, Map as map_act}
+use Rattle.call_stages.specs.act_states.specs.declared.work.Act.TheVariants.{MakeComp as comp_act, Invoke as invoke_act}
+use Rattle.call_stages.specs.act_states.specs.declared.work.Act.TheVariants.{Return as return_act}
+use Rattle.call_stages.specs.act_states.specs.declared.work.Act.TheVariants.{Switch as switch_act, Touch as touch_act, Share as share_act}
+use Rattle.call_stages.specs.act_states.specs.declared.work.WorkStep.{WorkStep}
+use Rattle.call_stages.specs.act_states.specs.declared.work.WorkStep.TheVariants.{Goes, Acquires, Refuses, Answers, Changes}
+use Rattle.call_stages.specs.act_states.specs.declared.work.Due.{Due}
+use Rattle.call_stages.specs.act_states.specs.Acts.{ActFits, act_left, cap_dues, dues, acquires}
+use Rattle.call_stages.specs.act_states.specs.Acts.{made_dues}
+use Rattle.call_stages.specs.act_states.specs.Acts.{killing_dues}
+use Rattle.call_stages.specs.act_states.specs.Acts.{invoking_dues}
+use Rattle.call_stages.specs.act_states.specs.Acts.{returning_dues}
+use Rattle.call_stages.specs.act_states.specs.declared.untypings.UntypingAt.{UntypingAt}
+use Rattle.call_stages.specs.act_states.specs.declared.untypings.UntypingAt.TheVariants as untype
+use Rattle.call_stages.specs.act_states.specs.Untypings.{UntypingAtFits, released_dues, untyping_dues}
+use Rattle.call_stages.specs.act_states.specs.Comps.{comp_dues}
+use Rattle.call_stages.specs.act_states.specs.declared.switches.Switching.{Switching}
+use Rattle.call_stages.specs.act_states.specs.declared.switches.SwitchAt.{SwitchAt}
+use Rattle.call_stages.specs.act_states.specs.declared.switches.SwitchAt.TheVariants as switch_at
+use Rattle.call_stages.specs.act_states.specs.Switches.{SwitchAtFits, SwitchingFits, tcap_dues, switch_due_list, switching_dues}
+use Rattle.call_stages.specs.stage_thread.specs.declared.claim.Claimed.{Claimed}
+use Rattle.call_stages.specs.act_states.specs.declared.comps.CompAt.{CompAt}
+use Rattle.call_stages.specs.act_states.specs.declared.comps.CompAt.TheVariants as comp_at_as
+use Rattle.call_stages.specs.act_states.specs.declared.comps.CompMaking.{CompMaking}
 use Rattle.call_stages.specs.Tails.{tail_left}
 use Rattle.call_stages.specs.Fits.{WorkFits, TailFits, CountsWait}
 use Rattle.call_stages.specs.Fits.{work_left}

@@ -2,42 +2,44 @@
 use Rattle.std.proofs.Common.{◌≡◌, ℕ, ◌+◌, ◌==◌, ◌<◌, ◌≤◌, nat_lt, if◌then◌else◌, Bool, true, false}
 use Rattle.std.proofs.Common.{List, length, Option, Some, None, refl, sym, ap, subst, arith, slice_get}
 use Rattle.std.proofs.lemmas.Bool.{ltb-true}
-use Rattle.frame_words.specs.Comp.{comp_of_word}
-use Rattle.frame_words.specs.Live.{live_of_word}
-use Rattle.frame_words.specs.declared.comp_word.CompWord.{CompWord}
-use Rattle.frame_words.specs.declared.live_word.LiveWord.{LiveWord}
-use Rattle.frame_words.specs.declared.live_word.LiveWord.TheVariants as live
-use Rattle.frame_words.proofs.CompLemmas as comps
-use Rattle.tcap_words.specs.Stack.{stack_of_word}
-use Rattle.tcap_words.specs.declared.stack_word.StackWord.{StackWord}
-use Rattle.stage_quiet.specs.Clocks.{drawn_stamp}
-use Rattle.stage_pins.specs.declared.held.Acquired.{Acquired}
-use Rattle.stage_pins.specs.Held.{AllFit}
-use Rattle.stage_thread.specs.Stacking.{PushFits, PopFits}
-use Rattle.stage_thread.specs.declared.stack.Push.{Push as PushType}
-use Rattle.stage_thread.specs.declared.stack.Push.TheVariants as push
-use Rattle.stage_thread.specs.declared.stack.Pop.{Pop as PopType}
-use Rattle.stage_thread.specs.declared.stack.Pop.TheVariants as pop
-use Rattle.spk_nums.specs.declared.replies.Reply.{Reply}
-use Rattle.act_states.specs.declared.refusals.Refusal.{Refusal}
-use Rattle.act_states.specs.declared.refusals.Refusal.TheVariants as refusal
-use Rattle.act_states.specs.declared.invocations.Invoking.{Invoking}
-use Rattle.act_states.specs.declared.invocations.InvokingAt.{InvokingAt}
-use Rattle.act_states.specs.declared.invocations.InvokingAt.TheVariants as invoking
-use Rattle.act_states.specs.declared.invocations.Returning.{Returning}
-use Rattle.act_states.specs.declared.invocations.ReturningAt.{ReturningAt}
-use Rattle.act_states.specs.declared.invocations.ReturningAt.TheVariants as returning
-use Rattle.act_states.specs.Invocations.{InvokingAtFits, InvokingFits, invoking_left, frame_in, enters_if, enters_number, enters_live}
-use Rattle.act_states.specs.Invocations.{ReturningAtFits, ReturningFits, returning_left, frame_of_place, frame_of_stack, below_in, left_to}
-use Rattle.act_states.specs.WorkSteps.{refuse}
-use Rattle.act_states.specs.Acts.{dues, invoking_dues, returning_dues, next_work, meets_table, meets_pages, meets_gate}
-use Rattle.act_states.specs.Acts.{took_invoking_at, meets_below, meets_below_table, meets_below_pages, took_returning_at}
-use Rattle.act_states.specs.declared.own.Own.{Own}
-use Rattle.act_states.specs.declared.work.Act.{Act as ActType}
-use Rattle.act_states.specs.declared.work.Act.TheVariants.{Invoke as invoke_act, Return as return_act}
-use Rattle.act_states.specs.declared.work.Tail.TheVariants.{Push, Pop}
-use Rattle.act_states.specs.declared.work.Work.TheVariants.{Act}
-use Rattle.act_states.specs.declared.work.WorkStep.TheVariants.{Goes}
+use Rattle.call_stages.specs.frame_words.specs.Comp.{comp_of_word}
+use Rattle.call_stages.specs.frame_words.specs.Live.{live_of_word}
+use Rattle.call_stages.specs.frame_words.specs.declared.comp_word.CompWord.{CompWord}
+use Rattle.call_stages.specs.frame_words.specs.declared.live_word.LiveWord.{LiveWord}
+use Rattle.call_stages.specs.frame_words.specs.declared.live_word.LiveWord.TheVariants as live
+use Rattle.call_stages.specs.frame_words.proofs.CompLemmas as comps
+use Rattle.call_stages.specs.tcap_words.specs.Stack.{stack_of_word}
+use Rattle.call_stages.specs.tcap_words.specs.declared.stack_word.StackWord.{StackWord}
+use Rattle.call_stages.specs.stage_quiet.specs.Clocks.{drawn_stamp}
+use Rattle.call_stages.specs.stage_pins.specs.declared.held.Acquired.{Acquired}
+use Rattle.call_stages.specs.stage_pins.specs.Held.{AllFit}
+use Rattle.call_stages.specs.stage_thread.specs.Stacking.{PushFits, PopFits}
+use Rattle.call_stages.specs.stage_thread.specs.declared.stack.Push.{Push as PushType}
+use Rattle.call_stages.specs.stage_thread.specs.declared.stack.Push.TheVariants as push
+use Rattle.call_stages.specs.stage_thread.specs.declared.stack.Pop.{Pop as PopType}
+use Rattle.call_stages.specs.stage_thread.specs.declared.stack.Pop.TheVariants as pop
+use Rattle.call_stages.specs.spk_nums.specs.declared.replies.Reply.{Reply}
+use Rattle.call_stages.specs.act_states.specs.declared.refusals.Refusal.{Refusal}
+use Rattle.call_stages.specs.act_states.specs.declared.refusals.Refusal.TheVariants as refusal
+use Rattle.call_stages.specs.act_states.specs.declared.invocations.Invoking.{Invoking}
+use Rattle.call_stages.specs.act_states.specs.declared.invocations.InvokingAt.{InvokingAt}
+use Rattle.call_stages.specs.act_states.specs.declared.invocations.InvokingAt.TheVariants as invoking
+use Rattle.call_stages.specs.act_states.specs.declared.invocations.Returning.{Returning}
+use Rattle.call_stages.specs.act_states.specs.declared.invocations.ReturningAt.{ReturningAt}
+use Rattle.call_stages.specs.act_states.specs.declared.invocations.ReturningAt.TheVariants as returning
+use Rattle.call_stages.specs.act_states.specs.Invocations.{InvokingAtFits, InvokingFits, invoking_left, frame_in, enters_if}
+use Rattle.call_stages.specs.act_states.specs.Invocations.{enters_number, enters_live}
+use Rattle.call_stages.specs.act_states.specs.Invocations.{ReturningAtFits, ReturningFits, returning_left, frame_of_place}
+use Rattle.call_stages.specs.act_states.specs.Invocations.{frame_of_stack, below_in, left_to}
+use Rattle.call_stages.specs.act_states.specs.WorkSteps.{refuse}
+use Rattle.call_stages.specs.act_states.specs.Acts.{dues, invoking_dues, returning_dues, next_work, meets_table, meets_pages, meets_gate}
+use Rattle.call_stages.specs.act_states.specs.Acts.{took_invoking_at, meets_below, meets_below_table, meets_below_pages, took_returning_at}
+use Rattle.call_stages.specs.act_states.specs.declared.own.Own.{Own}
+use Rattle.call_stages.specs.act_states.specs.declared.work.Act.{Act as ActType}
+use Rattle.call_stages.specs.act_states.specs.declared.work.Act.TheVariants.{Invoke as invoke_act, Return as return_act}
+use Rattle.call_stages.specs.act_states.specs.declared.work.Tail.TheVariants.{Push, Pop}
+use Rattle.call_stages.specs.act_states.specs.declared.work.Work.TheVariants.{Act}
+use Rattle.call_stages.specs.act_states.specs.declared.work.WorkStep.TheVariants.{Goes}
 use Rattle.call_stages.specs.declared.stages.ActiveCall.{ActiveCall}
 use Rattle.call_stages.specs.declared.stages.Stage.TheVariants.{Decided}
 use Rattle.call_stages.specs.Tails.{pushed_on, popped_on}
@@ -45,6 +47,8 @@ use Rattle.call_stages.specs.Steps.{GoesOn, went_with, landed}
 use Rattle.call_stages.specs.Fits.{left_at, steps_later, work_left}
 use Rattle.act_fits.proofs.DuesFit.{work_next, counts_next}
 use Rattle.act_fits.proofs.LandsFit.{TookFits, Facts, landed_fits}
+use Rattle.call_stages.specs.act_states.specs.Acts.{ActFits}
+use Rattle.call_stages.specs.act_states.specs.Acts.{act_left}
 
 -- a frame that a word names is one of the machine
 pub frame_below : (frames found f : ℕ) → frame_in frames found ≡ Some f → f < frames
@@ -99,8 +103,8 @@ module _ (own : Own) (a : ActiveCall) (facts : Facts own a) (room : own.made < o
 
   -- the act goes on where its first count is due
   counts_first : (core : ℕ) (act : ActType) → core < own.layout.cores
-      → Rattle.act_states.specs.Acts.ActFits own.layout act → length (dues act) ≡ 1
-      → Rattle.act_states.specs.Acts.act_left own.layout.cores act ≡ 3
+      → ActFits own.layout act → length (dues act) ≡ 1
+      → act_left own.layout.cores act ≡ 3
       → length a.counts ≡ 0 → TookFits own (2 + length a.counts + 7) a (landed a (Goes (next_work core 0 act)))
   counts_first core act here fits one left waits =
       let next = work_next own.layout (steps_later own.layout.cores a) core 0 act (slice_get (dues act) 0) refl here fits in

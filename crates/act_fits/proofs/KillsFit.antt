@@ -1,36 +1,37 @@
 -- Where the steps of a killing lead to fits its machine, and leaves fewer steps.
 use Rattle.std.proofs.Common.{◌≡◌, ℕ, ◌+◌, ◌==◌, ◌<◌, ◌≤◌, Bool, true, false, length}
 use Rattle.std.proofs.Common.{Option, Some, None, refl, sym, subst, arith, slice_get}
-use Rattle.frame_words.specs.Comp.{comp_of_word}
-use Rattle.frame_words.specs.Live.{live_of_word}
-use Rattle.frame_words.specs.declared.comp_word.CompWord.{CompWord}
-use Rattle.frame_words.specs.declared.live_word.LiveWord.{LiveWord}
-use Rattle.frame_words.specs.declared.live_word.LiveWord.TheVariants as live
-use Rattle.frame_words.proofs.CompLemmas as comps
-use Rattle.stage_quiet.specs.Clocks.{drawn_stamp}
-use Rattle.act_states.specs.declared.refusals.Refusal.{Refusal}
-use Rattle.act_states.specs.declared.refusals.Refusal.TheVariants as refusal
-use Rattle.act_states.specs.declared.kills.Killing.{Killing}
-use Rattle.act_states.specs.declared.kills.KillingAt.{KillingAt}
-use Rattle.act_states.specs.declared.kills.KillingAt.TheVariants.{LoadComp, LoadLive, Close, Draw}
-use Rattle.act_states.specs.Kills.{KillingFits, killing_left}
-use Rattle.act_states.specs.WorkSteps.{refuse}
-use Rattle.act_states.specs.Acts.{dues, killing_dues, next_work, meets_comp, meets_live}
-use Rattle.act_states.specs.Acts.{meets_number, meets_life, closes_if, drawn_dead, took_killing_at}
-use Rattle.act_states.specs.declared.own.Own.{Own}
-use Rattle.act_states.specs.declared.work.Act.{Act as ActType}
-use Rattle.act_states.specs.declared.work.Act.TheVariants.{Kill as kill_act}
-use Rattle.act_states.specs.declared.work.Work.TheVariants.{Act}
-use Rattle.act_states.specs.declared.work.WorkStep.TheVariants.{Goes}
+use Rattle.call_stages.specs.frame_words.specs.Comp.{comp_of_word}
+use Rattle.call_stages.specs.frame_words.specs.Live.{live_of_word}
+use Rattle.call_stages.specs.frame_words.specs.declared.comp_word.CompWord.{CompWord}
+use Rattle.call_stages.specs.frame_words.specs.declared.live_word.LiveWord.{LiveWord}
+use Rattle.call_stages.specs.frame_words.specs.declared.live_word.LiveWord.TheVariants as live
+use Rattle.call_stages.specs.frame_words.proofs.CompLemmas as comps
+use Rattle.call_stages.specs.stage_quiet.specs.Clocks.{drawn_stamp}
+use Rattle.call_stages.specs.act_states.specs.declared.refusals.Refusal.{Refusal}
+use Rattle.call_stages.specs.act_states.specs.declared.refusals.Refusal.TheVariants as refusal
+use Rattle.call_stages.specs.act_states.specs.declared.kills.Killing.{Killing}
+use Rattle.call_stages.specs.act_states.specs.declared.kills.KillingAt.{KillingAt}
+use Rattle.call_stages.specs.act_states.specs.declared.kills.KillingAt.TheVariants.{LoadComp, LoadLive, Close, Draw}
+use Rattle.call_stages.specs.act_states.specs.Kills.{KillingFits, killing_left}
+use Rattle.call_stages.specs.act_states.specs.WorkSteps.{refuse}
+use Rattle.call_stages.specs.act_states.specs.Acts.{dues, killing_dues, next_work, meets_comp, meets_live}
+use Rattle.call_stages.specs.act_states.specs.Acts.{meets_number, meets_life, closes_if, drawn_dead, took_killing_at}
+use Rattle.call_stages.specs.act_states.specs.declared.own.Own.{Own}
+use Rattle.call_stages.specs.act_states.specs.declared.work.Act.{Act as ActType}
+use Rattle.call_stages.specs.act_states.specs.declared.work.Act.TheVariants.{Kill as kill_act}
+use Rattle.call_stages.specs.act_states.specs.declared.work.Work.TheVariants.{Act}
+use Rattle.call_stages.specs.act_states.specs.declared.work.WorkStep.TheVariants.{Goes}
 use Rattle.call_stages.specs.declared.stages.ActiveCall.{ActiveCall}
 use Rattle.call_stages.specs.Steps.{landed}
 use Rattle.call_stages.specs.Fits.{steps_later, work_left}
 use Rattle.act_fits.proofs.DuesFit.{work_next, counts_next}
 use Rattle.act_fits.proofs.LandsFit.{TookFits, Facts, landed_fits}
+use Rattle.call_stages.specs.act_states.specs.Kills.{KillingAtFits}
 
 -- a killing that stands elsewhere fits where that does
 stands_at : (own : Own) (m : Killing) (at next : KillingAt) → KillingFits own.layout (record m { at = at })
-    → Rattle.act_states.specs.Kills.KillingAtFits next → KillingFits own.layout (record m { at = next })
+    → KillingAtFits next → KillingFits own.layout (record m { at = next })
 stands_at own m at next fits there = record { comp = fits.comp; core = fits.core; at = there }
 
 module _ (own : Own) (a : ActiveCall) (facts : Facts own a) (room : own.made < own.limit) where

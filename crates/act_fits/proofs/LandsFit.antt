@@ -1,20 +1,20 @@
 -- What holds of a call after a step of its work: it fits its core, and fewer steps are to come.
 use Rattle.std.proofs.Common.{◌≡◌, ℕ, ◌+◌, ◌<◌, ◌≤◌, [], length, sym, ap, subst, arith}
-use Rattle.stage_pins.specs.Held.{AllFit}
-use Rattle.spk_nums.specs.declared.replies.Reply.{Reply}
-use Rattle.spk_nums.specs.declared.replies.Reply.TheVariants as reply
-use Rattle.kernel_rules.specs.Laws.{calls_counted}
-use Rattle.spk_nums.specs.CallLimits.{InLimits}
-use Rattle.call_plans.specs.declared.plans.Plan.{Plan}
-use Rattle.call_plans.specs.PlanOf.{plan_for}
-use Rattle.call_plans.specs.Bounds.{look_steps, act_steps}
-use Rattle.call_plans.specs.Rooted.{IsRooted}
-use Rattle.call_plans.proofs.RootedTargets.{rooted}
-use Rattle.act_states.specs.declared.own.Own.{Own}
+use Rattle.call_stages.specs.stage_pins.specs.Held.{AllFit}
+use Rattle.call_stages.specs.spk_nums.specs.declared.replies.Reply.{Reply}
+use Rattle.call_stages.specs.spk_nums.specs.declared.replies.Reply.TheVariants as reply
+use Rattle.call_stages.specs.kernel_rules.specs.Laws.{calls_counted}
+use Rattle.call_stages.specs.spk_nums.specs.CallLimits.{InLimits}
+use Rattle.call_stages.specs.call_plans.specs.declared.plans.Plan.{Plan}
+use Rattle.call_stages.specs.call_plans.specs.PlanOf.{plan_for}
+use Rattle.call_stages.specs.call_plans.specs.Bounds.{look_steps, act_steps}
+use Rattle.call_stages.specs.call_plans.specs.Rooted.{IsRooted}
+use Rattle.call_stages.specs.call_plans.proofs.RootedTargets.{rooted}
+use Rattle.call_stages.specs.act_states.specs.declared.own.Own.{Own}
 use Rattle.call_stages.specs.declared.stages.ActiveCall.{ActiveCall}
-use Rattle.act_states.specs.declared.work.WorkStep.{WorkStep}
-use Rattle.act_states.specs.declared.work.WorkStep.TheVariants.{Goes, Acquires, Refuses, Answers, Changes as work_changes}
-use Rattle.act_states.specs.Refusals.{reply_of}
+use Rattle.call_stages.specs.act_states.specs.declared.work.WorkStep.{WorkStep}
+use Rattle.call_stages.specs.act_states.specs.declared.work.WorkStep.TheVariants.{Goes, Acquires, Refuses, Answers, Changes as work_changes}
+use Rattle.call_stages.specs.act_states.specs.Refusals.{reply_of}
 use Rattle.call_stages.specs.Steps.{Took, GoesOn, Decides, Returns, Changes, landed, next_by}
 use Rattle.call_stages.specs.Fits.{StageFits, FoundFits, HasRoom, IsFirst, CountsAt, names_left, steps_later, left_of, IsOwn}
 use Rattle.act_fits.proofs.StepsFit.{first_named, target_below, next_case}

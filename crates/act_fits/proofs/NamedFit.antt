@@ -2,20 +2,20 @@
 use Rattle.std.proofs.Common.{◌≡◌, ℕ}
 use Rattle.std.proofs.Common.{◌<◌, ◌≤◌, true, List, [], ◌∷◌}
 use Rattle.std.proofs.Common.{IfSome, arith}
-use Rattle.spk_nums.specs.Capability.{Capability}
-use Rattle.spk_nums.specs.declared.kinds.Kind.{Kind}
-use Rattle.spk_nums.specs.declared.kinds.Kind.TheVariants.{Range, Table, Pages, Comp as KindComp}
-use Rattle.spk_nums.specs.declared.kinds.Kind.TheVariants as kind
-use Rattle.spk_nums.specs.declared.calls.Call.{Call}
-use Rattle.spk_nums.specs.declared.calls.Call.TheVariants.{Make as make_call, Gate, Grow}
-use Rattle.spk_nums.specs.declared.calls.Call.TheVariants.{Switch, Transfer, Delegate, Test}
-use Rattle.kernel_rules.specs.Access.{found, only, root}
-use Rattle.stage_look.specs.Shown.{end_of_frames}
-use Rattle.call_plans.specs.declared.plans.Nth.TheVariants.{First, Second, Third, Fourth}
-use Rattle.call_plans.specs.Plans.{at_place}
-use Rattle.call_plans.specs.PlanOf.{plan_for}
-use Rattle.kernel_rules.specs.CapabilityCalls.{leaf_of}
-use Rattle.spk_nums.specs.declared.calls.Make.TheVariants as make
+use Rattle.call_stages.specs.spk_nums.specs.Capability.{Capability}
+use Rattle.call_stages.specs.spk_nums.specs.declared.kinds.Kind.{Kind}
+use Rattle.call_stages.specs.spk_nums.specs.declared.kinds.Kind.TheVariants.{Range, Table, Pages, Comp as KindComp}
+use Rattle.call_stages.specs.spk_nums.specs.declared.kinds.Kind.TheVariants as kind
+use Rattle.call_stages.specs.spk_nums.specs.declared.calls.Call.{Call}
+use Rattle.call_stages.specs.spk_nums.specs.declared.calls.Call.TheVariants.{Make as make_call, Gate, Grow}
+use Rattle.call_stages.specs.spk_nums.specs.declared.calls.Call.TheVariants.{Switch, Transfer, Delegate, Test}
+use Rattle.call_stages.specs.kernel_rules.specs.Access.{found, only, root}
+use Rattle.call_stages.specs.stage_look.specs.Shown.{end_of_frames}
+use Rattle.call_stages.specs.call_plans.specs.declared.plans.Nth.TheVariants.{First, Second, Third, Fourth}
+use Rattle.call_stages.specs.call_plans.specs.Plans.{at_place}
+use Rattle.call_stages.specs.call_plans.specs.PlanOf.{plan_for}
+use Rattle.call_stages.specs.kernel_rules.specs.CapabilityCalls.{leaf_of}
+use Rattle.call_stages.specs.spk_nums.specs.declared.calls.Make.TheVariants as make
 use Rattle.call_stages.specs.Fits.{FoundFits}
 
 -- the names of two temporal capabilities have led to frames of the machine

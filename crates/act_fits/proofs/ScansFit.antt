@@ -2,14 +2,14 @@
 use Rattle.std.proofs.Common.{◌≡◌, ℕ, ◌≢◌, nat_lt, if◌then◌else◌, ◌+◌, ◌-◌, ◌<◌, ◌≤◌, ◌==◌, Bool}
 use Rattle.std.proofs.Common.{true, false, Option, Some, None, IfSome, refl, sym, ap, subst, arith}
 use Rattle.std.proofs.lemmas.Bool.{ltb-true, ltb-false, eqb-true, eqb-false}
-use Rattle.spk_nums.specs.declared.replies.Reply.{Reply}
-use Rattle.spk_nums.specs.declared.steps.StageEnd.TheVariants as ends
-use Rattle.word_map.specs.Places.{Shape}
-use Rattle.stage_quiet.specs.declared.quiet.Quiet.{Quiet}
-use Rattle.stage_quiet.specs.declared.quiet.Quiet.TheVariants.{AtCore, AtFlush}
-use Rattle.stage_quiet.specs.Scan.{QuietFits, first_other, next_other, core_scan, quiet_scan}
-use Rattle.stage_quiet.specs.Scan.{quiet_refuses, scan_end, scan_after, quiet_end, quiet_after}
-use Rattle.act_states.specs.Scans.{IsUnpaged, ScanFits, left_of_cores, left_of_scan}
+use Rattle.call_stages.specs.spk_nums.specs.declared.replies.Reply.{Reply}
+use Rattle.call_stages.specs.spk_nums.specs.declared.steps.StageEnd.TheVariants as ends
+use Rattle.call_stages.specs.word_map.specs.Places.{Shape}
+use Rattle.call_stages.specs.stage_quiet.specs.declared.quiet.Quiet.{Quiet}
+use Rattle.call_stages.specs.stage_quiet.specs.declared.quiet.Quiet.TheVariants.{AtCore, AtFlush}
+use Rattle.call_stages.specs.stage_quiet.specs.Scan.{QuietFits, first_other, next_other, core_scan, quiet_scan}
+use Rattle.call_stages.specs.stage_quiet.specs.Scan.{quiet_refuses, scan_end, scan_after, quiet_end, quiet_after}
+use Rattle.call_stages.specs.act_states.specs.Scans.{IsUnpaged, ScanFits, left_of_cores, left_of_scan}
 
 -- A scan of the other cores' words alone stays so.
 unpaged_scan : (there : Bool) (stamp core at : ℕ) → IfSome (core_scan there stamp core at false) IsUnpaged

@@ -2,38 +2,40 @@
 use Rattle.std.proofs.Common.{◌≡◌, ℕ, nat_lt, ◌+◌, ◌-◌, ◌<◌, ◌≤◌, ◌==◌, Bool, true, false}
 use Rattle.std.proofs.Common.{List, length, Option, Some, None, refl, ap, subst, arith}
 use Rattle.std.proofs.lemmas.Bool.{ltb-true, false≢true}
-use Rattle.spk_nums.specs.declared.replies.Reply.{Reply}
-use Rattle.spk_nums.specs.declared.replies.Reply.TheVariants as reply
-use Rattle.spk_nums.specs.declared.replies.Value.TheVariants as value
-use Rattle.stage_pins.specs.declared.held.Acquired.{Acquired}
-use Rattle.stage_pins.specs.Held.{AllFit}
-use Rattle.tcap_words.specs.Head.{word_of_head, head_of_word}
-use Rattle.tcap_words.specs.Quality.{quality_of_word}
-use Rattle.tcap_words.specs.declared.head_word.HeadWord.{HeadWord}
-use Rattle.tcap_words.specs.declared.quality_word.QualityWord.{QualityWord}
-use Rattle.word_map.specs.Places.{Shape}
-use Rattle.stage_tcap.specs.Charging.{end_by_mark, head_end}
-use Rattle.stage_tcap.specs.Lists.{in_order, same_list}
-use Rattle.stage_tcap.specs.Pairs.{AtFits, PairFits, amount_of, by_alike, by_room, judged, giving_back, at_by_mark}
-use Rattle.stage_tcap.specs.Pairs.{at_by_head, at_marked, at_read, a_next, b_next, store_next, at_decided, compared_after}
-use Rattle.stage_tcap.specs.Pairs.{again_value, marked_end, decided_by_mark, b_end, list_end, again_end, noted_by, pair_after}
-use Rattle.stage_tcap.specs.declared.pair.Pair.{Pair}
-use Rattle.stage_tcap.specs.declared.pair.PairAt.{PairAt}
-use Rattle.stage_tcap.specs.declared.pair.PairAt.TheVariants.{LoadA, MarkA, ListA, LoadB, ListB, CompareB}
-use Rattle.stage_tcap.specs.declared.pair.PairAt.TheVariants.{AgainB, StoreList, StoreB, StoreA}
-use Rattle.stage_tcap.specs.declared.pair.PairWork.{PairWork}
-use Rattle.stage_tcap.specs.declared.pair.PairWork.TheVariants.{Transfer, Delegate, Test}
-use Rattle.stage_tcap.proofs.PairLemmas.{pair_after_fits}
-use Rattle.act_states.specs.declared.refusals.Refusal.{Refusal}
-use Rattle.act_states.specs.declared.refusals.Refusal.TheVariants as refusal
-use Rattle.act_states.specs.declared.own.Own.{Own}
-use Rattle.act_states.specs.declared.work.Act.TheVariants.{Share as share_act}
-use Rattle.act_states.specs.declared.work.Tail.TheVariants.{Share as share_tail}
-use Rattle.act_states.specs.declared.work.Work.TheVariants.{Act}
-use Rattle.act_states.specs.declared.work.WorkStep.TheVariants.{Goes, Refuses, Answers}
-use Rattle.act_states.specs.Refusals.{refusal_of}
-use Rattle.act_states.specs.WorkSteps.{refuse}
-use Rattle.act_states.specs.Shares.{shared, took_shared, took_share, is_storing, stores_of, share_left, after_share, SharedFits}
+use Rattle.call_stages.specs.spk_nums.specs.declared.replies.Reply.{Reply}
+use Rattle.call_stages.specs.spk_nums.specs.declared.replies.Reply.TheVariants as reply
+use Rattle.call_stages.specs.spk_nums.specs.declared.replies.Value.TheVariants as value
+use Rattle.call_stages.specs.stage_pins.specs.declared.held.Acquired.{Acquired}
+use Rattle.call_stages.specs.stage_pins.specs.Held.{AllFit}
+use Rattle.call_stages.specs.tcap_words.specs.Head.{word_of_head, head_of_word}
+use Rattle.call_stages.specs.tcap_words.specs.Quality.{quality_of_word}
+use Rattle.call_stages.specs.tcap_words.specs.declared.head_word.HeadWord.{HeadWord}
+use Rattle.call_stages.specs.tcap_words.specs.declared.quality_word.QualityWord.{QualityWord}
+use Rattle.call_stages.specs.word_map.specs.Places.{Shape}
+use Rattle.call_stages.specs.stage_tcap.specs.Charging.{end_by_mark, head_end}
+use Rattle.call_stages.specs.stage_tcap.specs.Lists.{in_order, same_list}
+use Rattle.call_stages.specs.stage_tcap.specs.Pairs.{AtFits, PairFits, amount_of, by_alike, by_room, judged, giving_back, at_by_mark}
+use Rattle.call_stages.specs.stage_tcap.specs.Pairs.{at_by_head, at_marked, at_read, a_next, b_next, store_next, at_decided, compared_after}
+use Rattle.call_stages.specs.stage_tcap.specs.Pairs.{again_value, marked_end, decided_by_mark, b_end, list_end, again_end, noted_by}
+use Rattle.call_stages.specs.stage_tcap.specs.Pairs.{pair_after}
+use Rattle.call_stages.specs.stage_tcap.specs.declared.pair.Pair.{Pair}
+use Rattle.call_stages.specs.stage_tcap.specs.declared.pair.PairAt.{PairAt}
+use Rattle.call_stages.specs.stage_tcap.specs.declared.pair.PairAt.TheVariants.{LoadA, MarkA, ListA, LoadB, ListB, CompareB}
+use Rattle.call_stages.specs.stage_tcap.specs.declared.pair.PairAt.TheVariants.{AgainB, StoreList, StoreB, StoreA}
+use Rattle.call_stages.specs.stage_tcap.specs.declared.pair.PairWork.{PairWork}
+use Rattle.call_stages.specs.stage_tcap.specs.declared.pair.PairWork.TheVariants.{Transfer, Delegate, Test}
+use Rattle.call_stages.specs.stage_tcap.proofs.PairLemmas.{pair_after_fits}
+use Rattle.call_stages.specs.act_states.specs.declared.refusals.Refusal.{Refusal}
+use Rattle.call_stages.specs.act_states.specs.declared.refusals.Refusal.TheVariants as refusal
+use Rattle.call_stages.specs.act_states.specs.declared.own.Own.{Own}
+use Rattle.call_stages.specs.act_states.specs.declared.work.Act.TheVariants.{Share as share_act}
+use Rattle.call_stages.specs.act_states.specs.declared.work.Tail.TheVariants.{Share as share_tail}
+use Rattle.call_stages.specs.act_states.specs.declared.work.Work.TheVariants.{Act}
+use Rattle.call_stages.specs.act_states.specs.declared.work.WorkStep.TheVariants.{Goes, Refuses, Answers}
+use Rattle.call_stages.specs.act_states.specs.Refusals.{refusal_of}
+use Rattle.call_stages.specs.act_states.specs.WorkSteps.{refuse}
+use Rattle.call_stages.specs.act_states.specs.Shares.{shared, took_shared, took_share, is_storing, stores_of, share_left, after_share}
+use Rattle.call_stages.specs.act_states.specs.Shares.{SharedFits}
 use Rattle.call_stages.specs.declared.stages.ActiveCall.{ActiveCall}
 use Rattle.call_stages.specs.declared.stages.Stage.TheVariants.{Decided}
 use Rattle.call_stages.specs.Steps.{GoesOn, landed, went_with}

@@ -3,71 +3,73 @@ use Rattle.std.proofs.Common.{leb-false, ◌≡◌, ℕ, pos, negsuc, ◌≢◌,
 use Rattle.std.proofs.Common.{◌-◌, slice_get, ◌<◌, ◌≤◌, Bool, true, false, nat_le, IsTrue, ◌==◌, List, [], ◌∷◌}
 use Rattle.std.proofs.Common.{length, Option, Some, None, IfSome, IsSomeAnd, refl, sym, ap, subst, arith, ◌&&◌}
 use Rattle.std.proofs.lemmas.Bool.{leb-true, ltb-true, ltb-false, eqb-true, eqb-false}
-use Rattle.stage_quiet.specs.declared.quiet.Quiet.{Quiet}
-use Rattle.stage_quiet.specs.Scan.{QuietFits, first_other, flush_scan, core_scan, quiet_scan}
-use Rattle.spk_nums.specs.Capability.{Capability}
-use Rattle.spk_nums.specs.CallLimits.{InLimits, MakeInLimits}
-use Rattle.spk_nums.specs.declared.kinds.Kind.{Kind}
-use Rattle.spk_nums.specs.declared.kinds.Kind.TheVariants.{Range, Table, Pages, Comp as KindComp}
-use Rattle.spk_nums.specs.declared.kinds.Kind.TheVariants as kind
-use Rattle.spk_nums.specs.declared.calls.Call.{Call}
-use Rattle.spk_nums.specs.declared.calls.Call.TheVariants.{Look as look_call, Copy, Remove, Shrink, Unmap, Retype}
-use Rattle.spk_nums.specs.declared.calls.Call.TheVariants.{Make as make_call, Tick, Gate, Kill, Grow, Flush, Map}
-use Rattle.spk_nums.specs.declared.calls.Call.TheVariants.{Call as call_gate, Ret, Switch, Transfer, Delegate, Test}
-use Rattle.entry_words.specs.declared.entry.Entry.{Entry}
-use Rattle.entry_words.specs.declared.entry.Entry.TheVariants as entry
-use Rattle.word_map.specs.Places.{Shape}
-use Rattle.kernel_rules.specs.Access.{Named, found, root, Target as place, Under as place_under, InRoot as place_in}
-use Rattle.stage_look.specs.Shown.{end_of_frames, CapNames, EntryNames}
-use Rattle.stage_look.specs.Lookup.{FoundFits as PlaceFits}
-use Rattle.stage_look.specs.declared.look.Found.{Found}
-use Rattle.call_plans.specs.declared.plans.Nth.TheVariants.{First, Second, Third, Fourth}
-use Rattle.call_plans.specs.declared.plans.Name.{Name}
-use Rattle.call_plans.specs.declared.plans.Spot.{Spot}
-use Rattle.call_plans.specs.declared.plans.Spot.TheVariants.{Under, InRoot}
-use Rattle.call_plans.specs.declared.plans.Target.{Target}
-use Rattle.call_plans.specs.declared.plans.Target.TheVariants.{Nowhere, Free, Held, Own as own_page}
-use Rattle.call_plans.specs.declared.plans.Plan.{Plan}
-use Rattle.call_plans.specs.Plans.{at_place}
-use Rattle.call_plans.specs.GoesBy.{earlier, place_of_spot}
-use Rattle.call_plans.specs.After.{with_found, names_after, Leads, next_in}
-use Rattle.call_plans.specs.Bounds.{look_steps, retype_steps, make_steps, act_steps}
-use Rattle.call_plans.specs.Rooted.{root_of, WantsRoot, IsRooted}
-use Rattle.call_plans.proofs.Roots.{earlier_is, Led, nth_led}
-use Rattle.call_plans.proofs.RootedTargets.{rooted}
-use Rattle.spk_nums.specs.declared.kinds.PageFlags.{PageFlags}
-use Rattle.spk_nums.specs.declared.kinds.FrameKind.{FrameKind}
-use Rattle.spk_nums.specs.declared.kinds.FrameKind.TheVariants.{Untyped, User, Kernel}
-use Rattle.kernel_rules.specs.CapabilityCalls.{has_frame}
-use Rattle.spk_nums.specs.declared.calls.Make.{Make}
-use Rattle.spk_nums.specs.declared.calls.Make.TheVariants as make
-use Rattle.act_states.specs.declared.objects.NewObject.{NewObject}
-use Rattle.act_states.specs.declared.objects.NewObject.TheVariants.{Table as NewTable, Leaf as NewLeaf, Pages as NewPages}
-use Rattle.act_states.specs.declared.objects.NewObject.TheVariants.{Pleaf as NewPleaf, Thread as NewThread, Tcap as NewTcap}
-use Rattle.act_states.specs.Objects.{object_cap, object_made, counts_of, last_word, thread_on, ObjectFits}
-use Rattle.act_states.specs.declared.own.Own.{Own}
-use Rattle.act_states.specs.declared.work.Act.{Act as ActType}
-use Rattle.act_states.specs.declared.work.Act.TheVariants.{Fill as fill_act, Remove as remove_act, Retype as type_act}
-use Rattle.act_states.specs.declared.work.Act.TheVariants.{Make as make_act, Outside, Tick as tick_act, Kill as kill_act}
-use Rattle.act_states.specs.declared.work.Act.TheVariants.{Flush as flush_act, Untype as untype_act, Map as map_act}
-use Rattle.act_states.specs.declared.work.Act.TheVariants.{MakeComp as comp_act, Invoke as invoke_act, Return as return_act}
-use Rattle.act_states.specs.declared.work.Act.TheVariants.{Switch as switch_act, Touch as touch_act, Share as share_act}
-use Rattle.act_states.specs.declared.work.Work.TheVariants.{Lookup}
-use Rattle.act_states.specs.declared.work.WorkStep.{WorkStep}
-use Rattle.act_states.specs.declared.work.WorkStep.TheVariants.{Goes, Acquires, Refuses, Answers, Changes}
-use Rattle.act_states.specs.Acts.{ActFits, act_left, looked, dues, scans, stamp_in, filling, fills_with}
-use Rattle.act_states.specs.Acts.{removing, removes_held, removes_at, types_if, types_at, gate_if, gate_to, frame_named}
-use Rattle.act_states.specs.Acts.{reads_of, starts, making, making_if, makes_in, makes_at, act_begun, next_work}
-use Rattle.act_states.specs.Acts.{kills_in, kills_at, link_to, is_pages, page_cap, mapping, mapping_if}
-use Rattle.act_states.specs.Acts.{maps_if, maps_at, comp_making, comp_if, comps_in, comps_at, made_begun}
-use Rattle.act_states.specs.Acts.{invokes_in, invokes_if, invokes_at, returns_if, returns_at, switches_at}
-use Rattle.stage_tcap.specs.declared.pair.PairAt.TheVariants.{LoadA}
-use Rattle.stage_tcap.specs.declared.pair.PairWork.{PairWork}
-use Rattle.stage_tcap.specs.declared.pair.PairWork.TheVariants as share
-use Rattle.act_states.specs.Shares.{share_left, shares_if, shares_at}
-use Rattle.act_states.specs.Scans.{ScanFits, left_of_scan, left_of_cores}
-use Rattle.act_states.specs.Touches.{touches_if}
-use Rattle.act_states.specs.Lookups.{looks_under, looks_entry, looks_at, read_first, next_step}
+use Rattle.call_stages.specs.stage_quiet.specs.declared.quiet.Quiet.{Quiet}
+use Rattle.call_stages.specs.stage_quiet.specs.Scan.{QuietFits, first_other, flush_scan, core_scan, quiet_scan}
+use Rattle.call_stages.specs.spk_nums.specs.Capability.{Capability}
+use Rattle.call_stages.specs.spk_nums.specs.CallLimits.{InLimits, MakeInLimits}
+use Rattle.call_stages.specs.spk_nums.specs.declared.kinds.Kind.{Kind}
+use Rattle.call_stages.specs.spk_nums.specs.declared.kinds.Kind.TheVariants.{Range, Table, Pages, Comp as KindComp}
+use Rattle.call_stages.specs.spk_nums.specs.declared.kinds.Kind.TheVariants as kind
+use Rattle.call_stages.specs.spk_nums.specs.declared.calls.Call.{Call}
+use Rattle.call_stages.specs.spk_nums.specs.declared.calls.Call.TheVariants.{Look as look_call, Copy, Remove, Shrink, Unmap, Retype}
+use Rattle.call_stages.specs.spk_nums.specs.declared.calls.Call.TheVariants.{Make as make_call, Tick, Gate, Kill, Grow, Flush, Map}
+use Rattle.call_stages.specs.spk_nums.specs.declared.calls.Call.TheVariants.{Call as call_gate, Ret, Switch, Transfer, Delegate, Test}
+use Rattle.call_stages.specs.entry_words.specs.declared.entry.Entry.{Entry}
+use Rattle.call_stages.specs.entry_words.specs.declared.entry.Entry.TheVariants as entry
+use Rattle.call_stages.specs.word_map.specs.Places.{Shape}
+use Rattle.call_stages.specs.kernel_rules.specs.Access.{Named, found, root, Target as place, Under as place_under, InRoot as place_in}
+use Rattle.call_stages.specs.stage_look.specs.Shown.{end_of_frames, CapNames, EntryNames}
+use Rattle.call_stages.specs.stage_look.specs.Lookup.{FoundFits as PlaceFits}
+use Rattle.call_stages.specs.stage_look.specs.declared.look.Found.{Found}
+use Rattle.call_stages.specs.call_plans.specs.declared.plans.Nth.TheVariants.{First, Second, Third, Fourth}
+use Rattle.call_stages.specs.call_plans.specs.declared.plans.Name.{Name}
+use Rattle.call_stages.specs.call_plans.specs.declared.plans.Spot.{Spot}
+use Rattle.call_stages.specs.call_plans.specs.declared.plans.Spot.TheVariants.{Under, InRoot}
+use Rattle.call_stages.specs.call_plans.specs.declared.plans.Target.{Target}
+use Rattle.call_stages.specs.call_plans.specs.declared.plans.Target.TheVariants.{Nowhere, Free, Held, Own as own_page}
+use Rattle.call_stages.specs.call_plans.specs.declared.plans.Plan.{Plan}
+use Rattle.call_stages.specs.call_plans.specs.Plans.{at_place}
+use Rattle.call_stages.specs.call_plans.specs.GoesBy.{earlier, place_of_spot}
+use Rattle.call_stages.specs.call_plans.specs.After.{with_found, names_after, Leads, next_in}
+use Rattle.call_stages.specs.call_plans.specs.Bounds.{look_steps, retype_steps, make_steps, act_steps}
+use Rattle.call_stages.specs.call_plans.specs.Rooted.{root_of, WantsRoot, IsRooted}
+use Rattle.call_stages.specs.call_plans.proofs.Roots.{earlier_is, Led, nth_led}
+use Rattle.call_stages.specs.call_plans.proofs.RootedTargets.{rooted}
+use Rattle.call_stages.specs.spk_nums.specs.declared.kinds.PageFlags.{PageFlags}
+use Rattle.call_stages.specs.spk_nums.specs.declared.kinds.FrameKind.{FrameKind}
+use Rattle.call_stages.specs.spk_nums.specs.declared.kinds.FrameKind.TheVariants.{Untyped, User, Kernel}
+use Rattle.call_stages.specs.kernel_rules.specs.CapabilityCalls.{has_frame}
+use Rattle.call_stages.specs.spk_nums.specs.declared.calls.Make.{Make}
+use Rattle.call_stages.specs.spk_nums.specs.declared.calls.Make.TheVariants as make
+use Rattle.call_stages.specs.act_states.specs.declared.objects.NewObject.{NewObject}
+use Rattle.call_stages.specs.act_states.specs.declared.objects.NewObject.TheVariants.{Table as NewTable, Leaf as NewLeaf, Pages as NewPages}
+use Rattle.call_stages.specs.act_states.specs.declared.objects.NewObject.TheVariants.{Pleaf as NewPleaf, Thread as NewThread}
+use Rattle.call_stages.specs.act_states.specs.declared.objects.NewObject.TheVariants.{Tcap as NewTcap}
+use Rattle.call_stages.specs.act_states.specs.Objects.{object_cap, object_made, counts_of, last_word, thread_on, ObjectFits}
+use Rattle.call_stages.specs.act_states.specs.declared.own.Own.{Own}
+use Rattle.call_stages.specs.act_states.specs.declared.work.Act.{Act as ActType}
+use Rattle.call_stages.specs.act_states.specs.declared.work.Act.TheVariants.{Fill as fill_act, Remove as remove_act, Retype as type_act}
+use Rattle.call_stages.specs.act_states.specs.declared.work.Act.TheVariants.{Make as make_act, Outside, Tick as tick_act, Kill as kill_act}
+use Rattle.call_stages.specs.act_states.specs.declared.work.Act.TheVariants.{Flush as flush_act, Untype as untype_act, Map as map_act}
+use Rattle.call_stages.specs.act_states.specs.declared.work.Act.TheVariants.{MakeComp as comp_act, Invoke as invoke_act}
+use Rattle.call_stages.specs.act_states.specs.declared.work.Act.TheVariants.{Return as return_act}
+use Rattle.call_stages.specs.act_states.specs.declared.work.Act.TheVariants.{Switch as switch_act, Touch as touch_act, Share as share_act}
+use Rattle.call_stages.specs.act_states.specs.declared.work.Work.TheVariants.{Lookup}
+use Rattle.call_stages.specs.act_states.specs.declared.work.WorkStep.{WorkStep}
+use Rattle.call_stages.specs.act_states.specs.declared.work.WorkStep.TheVariants.{Goes, Acquires, Refuses, Answers, Changes}
+use Rattle.call_stages.specs.act_states.specs.Acts.{ActFits, act_left, looked, dues, scans, stamp_in, filling, fills_with}
+use Rattle.call_stages.specs.act_states.specs.Acts.{removing, removes_held, removes_at, types_if, types_at, gate_if, gate_to, frame_named}
+use Rattle.call_stages.specs.act_states.specs.Acts.{reads_of, starts, making, making_if, makes_in, makes_at, act_begun, next_work}
+use Rattle.call_stages.specs.act_states.specs.Acts.{kills_in, kills_at, link_to, is_pages, page_cap, mapping, mapping_if}
+use Rattle.call_stages.specs.act_states.specs.Acts.{maps_if, maps_at, comp_making, comp_if, comps_in, comps_at, made_begun}
+use Rattle.call_stages.specs.act_states.specs.Acts.{invokes_in, invokes_if, invokes_at, returns_if, returns_at, switches_at}
+use Rattle.call_stages.specs.stage_tcap.specs.declared.pair.PairAt.TheVariants.{LoadA}
+use Rattle.call_stages.specs.stage_tcap.specs.declared.pair.PairWork.{PairWork}
+use Rattle.call_stages.specs.stage_tcap.specs.declared.pair.PairWork.TheVariants as share
+use Rattle.call_stages.specs.act_states.specs.Shares.{share_left, shares_if, shares_at}
+use Rattle.call_stages.specs.act_states.specs.Scans.{ScanFits, left_of_scan, left_of_cores}
+use Rattle.call_stages.specs.act_states.specs.Touches.{touches_if}
+use Rattle.call_stages.specs.act_states.specs.Lookups.{looks_under, looks_entry, looks_at, read_first, next_step}
 use Rattle.call_stages.specs.Fits.{IsWanted, FoundFits}
 use Rattle.call_stages.specs.Fits.{looks_later, after_reading, acts_later, IsOwn}
 use Rattle.act_fits.proofs.NamedFit.{TwoNamed, ObjectNamed}

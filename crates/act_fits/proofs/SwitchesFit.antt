@@ -2,33 +2,33 @@
 use Rattle.std.proofs.Common.{◌≡◌, ℕ, ◌+◌, ◌==◌, ◌<◌, ◌≤◌, nat_lt, Bool, true}
 use Rattle.std.proofs.Common.{false, length, Option, Some, None, refl, sym, subst, arith, slice_get}
 use Rattle.std.proofs.lemmas.Bool.{ltb-true}
-use Rattle.tcap_words.specs.Stack.{stack_of_word}
-use Rattle.tcap_words.specs.Thread.{word_of_thread, thread_of_word}
-use Rattle.tcap_words.specs.declared.stack_word.StackWord.{StackWord}
-use Rattle.tcap_words.specs.declared.thread_word.ThreadWord.{ThreadWord}
-use Rattle.tcap_words.specs.declared.thread_word.ThreadWord.TheVariants as thread
-use Rattle.tcap_words.proofs.ThreadLemmas as words
-use Rattle.stage_thread.specs.Claiming.{claimed_at, claimed_within, top_end, stack_end}
-use Rattle.stage_thread.specs.Claiming.{thread_end, thread_after, claim_compared, compared_after}
-use Rattle.stage_thread.specs.declared.claim.Claim.TheVariants.{AtLoad, AtCompare, AtStack}
-use Rattle.stage_thread.specs.declared.claim.Claimed.{Claimed}
-use Rattle.stage_quiet.specs.Clocks.{drawn_stamp}
-use Rattle.act_states.specs.Invocations.{frame_in}
-use Rattle.act_states.specs.Switches.{SwitchAtFits, SwitchingFits, switching_dues, switching_left}
-use Rattle.act_states.specs.Switches.{switching_undo, switch_goes, took_claim, switch_table, switched}
-use Rattle.act_states.specs.Acts.{dues, next_work, switch_pages, took_switching_at}
-use Rattle.act_states.specs.declared.own.Own.{Own}
-use Rattle.act_states.specs.declared.refusals.Refusal.{Refusal}
-use Rattle.act_states.specs.declared.refusals.Refusal.TheVariants as refusal
-use Rattle.act_states.specs.declared.switches.Switching.{Switching}
-use Rattle.act_states.specs.declared.switches.SwitchAt.{SwitchAt}
-use Rattle.act_states.specs.declared.switches.SwitchAt.TheVariants.{Claim, LoadTable, LoadPages, Leave, Draw}
-use Rattle.act_states.specs.declared.work.Act.{Act as ActType}
-use Rattle.act_states.specs.declared.work.Act.TheVariants.{Switch}
-use Rattle.act_states.specs.declared.work.Tail.{Tail}
-use Rattle.act_states.specs.declared.work.Tail.TheVariants.{Nothing}
-use Rattle.act_states.specs.declared.work.Work.TheVariants.{Act}
-use Rattle.act_states.specs.declared.work.WorkStep.TheVariants.{Goes, Refuses}
+use Rattle.call_stages.specs.tcap_words.specs.Stack.{stack_of_word}
+use Rattle.call_stages.specs.tcap_words.specs.Thread.{word_of_thread, thread_of_word}
+use Rattle.call_stages.specs.tcap_words.specs.declared.stack_word.StackWord.{StackWord}
+use Rattle.call_stages.specs.tcap_words.specs.declared.thread_word.ThreadWord.{ThreadWord}
+use Rattle.call_stages.specs.tcap_words.specs.declared.thread_word.ThreadWord.TheVariants as thread
+use Rattle.call_stages.specs.tcap_words.proofs.ThreadLemmas as words
+use Rattle.call_stages.specs.stage_thread.specs.Claiming.{claimed_at, claimed_within, top_end, stack_end}
+use Rattle.call_stages.specs.stage_thread.specs.Claiming.{thread_end, thread_after, claim_compared, compared_after}
+use Rattle.call_stages.specs.stage_thread.specs.declared.claim.Claim.TheVariants.{AtLoad, AtCompare, AtStack}
+use Rattle.call_stages.specs.stage_thread.specs.declared.claim.Claimed.{Claimed}
+use Rattle.call_stages.specs.stage_quiet.specs.Clocks.{drawn_stamp}
+use Rattle.call_stages.specs.act_states.specs.Invocations.{frame_in}
+use Rattle.call_stages.specs.act_states.specs.Switches.{SwitchAtFits, SwitchingFits, switching_dues, switching_left}
+use Rattle.call_stages.specs.act_states.specs.Switches.{switching_undo, switch_goes, took_claim, switch_table, switched}
+use Rattle.call_stages.specs.act_states.specs.Acts.{dues, next_work, switch_pages, took_switching_at}
+use Rattle.call_stages.specs.act_states.specs.declared.own.Own.{Own}
+use Rattle.call_stages.specs.act_states.specs.declared.refusals.Refusal.{Refusal}
+use Rattle.call_stages.specs.act_states.specs.declared.refusals.Refusal.TheVariants as refusal
+use Rattle.call_stages.specs.act_states.specs.declared.switches.Switching.{Switching}
+use Rattle.call_stages.specs.act_states.specs.declared.switches.SwitchAt.{SwitchAt}
+use Rattle.call_stages.specs.act_states.specs.declared.switches.SwitchAt.TheVariants.{Claim, LoadTable, LoadPages, Leave, Draw}
+use Rattle.call_stages.specs.act_states.specs.declared.work.Act.{Act as ActType}
+use Rattle.call_stages.specs.act_states.specs.declared.work.Act.TheVariants.{Switch}
+use Rattle.call_stages.specs.act_states.specs.declared.work.Tail.{Tail}
+use Rattle.call_stages.specs.act_states.specs.declared.work.Tail.TheVariants.{Nothing}
+use Rattle.call_stages.specs.act_states.specs.declared.work.Work.TheVariants.{Act}
+use Rattle.call_stages.specs.act_states.specs.declared.work.WorkStep.TheVariants.{Goes, Refuses}
 use Rattle.call_stages.specs.declared.stages.ActiveCall.{ActiveCall}
 use Rattle.call_stages.specs.Steps.{landed}
 use Rattle.call_stages.specs.Tails.{tail_left}

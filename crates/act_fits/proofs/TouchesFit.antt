@@ -1,27 +1,27 @@
 -- Where the steps of a touch lead to fits its machine, and leaves fewer steps.
 use Rattle.std.proofs.Common.{◌≡◌, ℕ, ◌+◌, ◌<◌, ◌≤◌, Bool, true, false, length, Option, Some, None, IfSome, refl, sym, subst, arith}
-use Rattle.spk_nums.specs.Capability.{Capability}
-use Rattle.spk_nums.specs.declared.replies.Reply.TheVariants as reply
-use Rattle.spk_nums.specs.declared.translations.Translation.{Translation}
-use Rattle.entry_words.specs.declared.entry.Entry.{Entry}
-use Rattle.entry_words.specs.declared.entry.Entry.TheVariants as entry
-use Rattle.kernel_rules.specs.MemoryCalls.{translated}
-use Rattle.stage_look.specs.Shown.{CapNames, EntryNames, shown_in, is_link}
-use Rattle.stage_look.specs.Lookup.{LookFits, look_end, look_after, place_end, end_by_link, after_link}
-use Rattle.stage_look.specs.declared.look.Look.{Look}
-use Rattle.stage_look.specs.declared.look.Look.TheVariants.{AtRoot, AtLeaf, AtEntry}
-use Rattle.stage_look.proofs.LookLemmas.{shown_names, leaf_below}
-use Rattle.act_states.specs.declared.own.Own.{Own}
-use Rattle.act_states.specs.declared.own.OwnChange.TheVariants.{Caches}
-use Rattle.act_states.specs.declared.refusals.Refusal.{Refusal}
-use Rattle.act_states.specs.declared.refusals.Refusal.TheVariants as refusal
-use Rattle.act_states.specs.declared.touches.Touching.{Touching}
-use Rattle.act_states.specs.declared.work.Act.TheVariants.{Touch as touch_act}
-use Rattle.act_states.specs.declared.work.Tail.TheVariants.{Nothing}
-use Rattle.act_states.specs.declared.work.Work.TheVariants.{Act}
-use Rattle.act_states.specs.declared.work.WorkStep.TheVariants.{Goes, Answers, Changes}
-use Rattle.act_states.specs.Touches.{TouchFits, fault_of, mapping_of, touch_end, touched, took_touch, touch_left}
-use Rattle.act_states.specs.WorkSteps.{refuse}
+use Rattle.call_stages.specs.spk_nums.specs.Capability.{Capability}
+use Rattle.call_stages.specs.spk_nums.specs.declared.replies.Reply.TheVariants as reply
+use Rattle.call_stages.specs.spk_nums.specs.declared.translations.Translation.{Translation}
+use Rattle.call_stages.specs.entry_words.specs.declared.entry.Entry.{Entry}
+use Rattle.call_stages.specs.entry_words.specs.declared.entry.Entry.TheVariants as entry
+use Rattle.call_stages.specs.kernel_rules.specs.MemoryCalls.{translated}
+use Rattle.call_stages.specs.stage_look.specs.Shown.{CapNames, EntryNames, shown_in, is_link}
+use Rattle.call_stages.specs.stage_look.specs.Lookup.{LookFits, look_end, look_after, place_end, end_by_link, after_link}
+use Rattle.call_stages.specs.stage_look.specs.declared.look.Look.{Look}
+use Rattle.call_stages.specs.stage_look.specs.declared.look.Look.TheVariants.{AtRoot, AtLeaf, AtEntry}
+use Rattle.call_stages.specs.stage_look.proofs.LookLemmas.{shown_names, leaf_below}
+use Rattle.call_stages.specs.act_states.specs.declared.own.Own.{Own}
+use Rattle.call_stages.specs.act_states.specs.declared.own.OwnChange.TheVariants.{Caches}
+use Rattle.call_stages.specs.act_states.specs.declared.refusals.Refusal.{Refusal}
+use Rattle.call_stages.specs.act_states.specs.declared.refusals.Refusal.TheVariants as refusal
+use Rattle.call_stages.specs.act_states.specs.declared.touches.Touching.{Touching}
+use Rattle.call_stages.specs.act_states.specs.declared.work.Act.TheVariants.{Touch as touch_act}
+use Rattle.call_stages.specs.act_states.specs.declared.work.Tail.TheVariants.{Nothing}
+use Rattle.call_stages.specs.act_states.specs.declared.work.Work.TheVariants.{Act}
+use Rattle.call_stages.specs.act_states.specs.declared.work.WorkStep.TheVariants.{Goes, Answers, Changes}
+use Rattle.call_stages.specs.act_states.specs.Touches.{TouchFits, fault_of, mapping_of, touch_end, touched, took_touch, touch_left}
+use Rattle.call_stages.specs.act_states.specs.WorkSteps.{refuse}
 use Rattle.call_stages.specs.declared.stages.ActiveCall.{ActiveCall}
 use Rattle.call_stages.specs.Steps.{landed}
 use Rattle.act_fits.proofs.LandsFit.{TookFits, Facts, landed_fits}

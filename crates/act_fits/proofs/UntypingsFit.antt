@@ -3,65 +3,66 @@ use Rattle.std.proofs.Common.{◌≡◌, ℕ, suc, ℤ, ◌≢◌, nat_lt, if◌
 use Rattle.std.proofs.Common.{[], ◌∷◌, length, length-append, Option, Some, None, IfSome, refl, sym, ap, subst, arith, slice_get}
 use Rattle.std.proofs.lemmas.List.Elements.{All-nil, All-tail}
 use Rattle.std.proofs.lemmas.Bool.{ltb-true, ltb-false, eqb-true, eqb-false}
-use Rattle.spk_nums.specs.declared.kinds.FrameKind.{FrameKind}
-use Rattle.spk_nums.specs.declared.kinds.FrameKind.TheVariants.{Untyped, User, Kernel}
-use Rattle.spk_nums.specs.declared.kinds.Obj.{Obj}
-use Rattle.spk_nums.specs.declared.kinds.Obj.TheVariants as obj
-use Rattle.spk_nums.specs.declared.replies.Reply.{Reply}
-use Rattle.spk_nums.specs.declared.steps.StageEnd.{StageEnd}
-use Rattle.spk_nums.specs.declared.steps.StageEnd.TheVariants as ends
-use Rattle.frame_words.specs.Count.{word_of_count, count_of_word}
-use Rattle.frame_words.specs.Frame.{word_of_frame, frame_of_word}
-use Rattle.frame_words.specs.declared.count_word.CountWord.{CountWord}
-use Rattle.frame_words.specs.declared.frame_word.FrameWord.{FrameWord}
-use Rattle.frame_words.proofs.FrameLemmas as frames
-use Rattle.tcap_words.specs.Stack.{stack_of_word}
-use Rattle.tcap_words.specs.declared.stack_word.StackWord.{StackWord}
-use Rattle.word_map.specs.Places.{Shape, IsShape}
-use Rattle.stage_pins.specs.Counts.{unheld}
-use Rattle.stage_pins.specs.declared.held.Acquired.{Acquired}
-use Rattle.stage_pins.specs.Held.{AllFit, AcquiredFits}
-use Rattle.stage_quiet.specs.Clocks.{drawn_stamp}
-use Rattle.stage_quiet.specs.Scan.{QuietFits, first_other, next_other, flush_scan, core_scan, quiet_scan}
-use Rattle.stage_quiet.specs.Scan.{quiet_refuses, scan_end, scan_after, quiet_end, quiet_after}
-use Rattle.stage_quiet.specs.declared.quiet.Quiet.{Quiet}
-use Rattle.stage_quiet.specs.declared.quiet.Quiet.TheVariants.{AtCore, AtFlush}
-use Rattle.stage_sweep.specs.Counters.{counters_of, sum_of_counts, latest_stamp}
-use Rattle.stage_sweep.specs.Emptiness.{loads_of, may_be_cached, empty_refuses, frame_if, place_owned, stack_owned, owns, owned_after}
-use Rattle.stage_sweep.specs.Freeze.{AtFits, frozen_if, frozen_at, kept_with, hold_refuses, load_refuses}
-use Rattle.stage_sweep.specs.Freeze.{compare_refuses, sum_refuses, refusal_of as quiet_refusal, refuses_at, load_next}
-use Rattle.stage_sweep.specs.Freeze.{empty_next, scan_next, compare_next, scan_goes, next_at, owned_at, at_after}
-use Rattle.stage_sweep.specs.Freeze.{sweep_kept, sweep_refuses, sweep_next, sweep_after, swept_of, end_by, sweep_end}
-use Rattle.stage_sweep.specs.Release.{ThawFits}
-use Rattle.stage_sweep.specs.declared.empty.Owned.{Owned}
-use Rattle.stage_sweep.specs.declared.sweep.Sweep.{Sweep}
-use Rattle.stage_sweep.specs.declared.sweep.SweepAt.{SweepAt}
-use Rattle.stage_sweep.specs.declared.sweep.SweepAt.TheVariants as sweep
-use Rattle.stage_sweep.specs.declared.sweep.Swept.{Swept}
-use Rattle.stage_sweep.specs.declared.thaw.Thaw.{Thaw}
-use Rattle.stage_sweep.proofs.SweepLemmas.{counters_within, some_counter, sweep_after_fits}
-use Rattle.act_states.specs.declared.refusals.Refusal.{Refusal}
-use Rattle.act_states.specs.declared.refusals.Refusal.TheVariants as refusal
-use Rattle.act_states.specs.declared.own.Own.{Own}
-use Rattle.act_states.specs.declared.untypings.Release.{Release}
-use Rattle.act_states.specs.declared.untypings.Untyping.{Untyping}
-use Rattle.act_states.specs.declared.untypings.UntypingAt.{UntypingAt}
-use Rattle.act_states.specs.declared.untypings.UntypingAt.TheVariants.{Load, Mark, Sweep as sweep_at, Draw}
-use Rattle.act_states.specs.declared.work.Act.{Act as ActType}
-use Rattle.act_states.specs.declared.work.Act.TheVariants.{Untype as untype_act}
-use Rattle.act_states.specs.declared.work.Tail.{Tail}
-use Rattle.act_states.specs.declared.work.Tail.TheVariants.{Release as release_tail}
-use Rattle.act_states.specs.declared.work.Work.TheVariants.{Act}
-use Rattle.act_states.specs.declared.work.WorkStep.TheVariants.{Goes, Refuses}
-use Rattle.act_states.specs.Refusals.{refusal_of}
-use Rattle.act_states.specs.WorkSteps.{refuse}
-use Rattle.act_states.specs.Typings.{typed}
-use Rattle.act_states.specs.Untypings.{OwnedBy, owned_most, OwnedFits, SweepAtFits, SweepsFrame, SweptFits}
-use Rattle.act_states.specs.Untypings.{UntypingFits, released_dues, owned_dues, untyping_dues, release_of}
-use Rattle.act_states.specs.Untypings.{ReleaseFits, thaw_left_by, after_store, release_after, thaw_left, release_left}
-use Rattle.act_states.specs.Untypings.{untyping_undo, others_left, quiet_left, object_left, sweep_left, untyping_left}
-use Rattle.act_states.specs.Acts.{dues, next_work, meets_untyped, meets_untyping, sweep_from}
-use Rattle.act_states.specs.Acts.{sweeps_if, took_sweep, drawn_untyped, took_untyping_at}
+use Rattle.call_stages.specs.spk_nums.specs.declared.kinds.FrameKind.{FrameKind}
+use Rattle.call_stages.specs.spk_nums.specs.declared.kinds.FrameKind.TheVariants.{Untyped, User, Kernel}
+use Rattle.call_stages.specs.spk_nums.specs.declared.kinds.Obj.{Obj}
+use Rattle.call_stages.specs.spk_nums.specs.declared.kinds.Obj.TheVariants as obj
+use Rattle.call_stages.specs.spk_nums.specs.declared.replies.Reply.{Reply}
+use Rattle.call_stages.specs.spk_nums.specs.declared.steps.StageEnd.{StageEnd}
+use Rattle.call_stages.specs.spk_nums.specs.declared.steps.StageEnd.TheVariants as ends
+use Rattle.call_stages.specs.frame_words.specs.Count.{word_of_count, count_of_word}
+use Rattle.call_stages.specs.frame_words.specs.Frame.{word_of_frame, frame_of_word}
+use Rattle.call_stages.specs.frame_words.specs.declared.count_word.CountWord.{CountWord}
+use Rattle.call_stages.specs.frame_words.specs.declared.frame_word.FrameWord.{FrameWord}
+use Rattle.call_stages.specs.frame_words.proofs.FrameLemmas as frames
+use Rattle.call_stages.specs.tcap_words.specs.Stack.{stack_of_word}
+use Rattle.call_stages.specs.tcap_words.specs.declared.stack_word.StackWord.{StackWord}
+use Rattle.call_stages.specs.word_map.specs.Places.{Shape, IsShape}
+use Rattle.call_stages.specs.stage_pins.specs.Counts.{unheld}
+use Rattle.call_stages.specs.stage_pins.specs.declared.held.Acquired.{Acquired}
+use Rattle.call_stages.specs.stage_pins.specs.Held.{AllFit, AcquiredFits}
+use Rattle.call_stages.specs.stage_quiet.specs.Clocks.{drawn_stamp}
+use Rattle.call_stages.specs.stage_quiet.specs.Scan.{QuietFits, first_other, next_other, flush_scan, core_scan, quiet_scan}
+use Rattle.call_stages.specs.stage_quiet.specs.Scan.{quiet_refuses, scan_end, scan_after, quiet_end, quiet_after}
+use Rattle.call_stages.specs.stage_quiet.specs.declared.quiet.Quiet.{Quiet}
+use Rattle.call_stages.specs.stage_quiet.specs.declared.quiet.Quiet.TheVariants.{AtCore, AtFlush}
+use Rattle.call_stages.specs.stage_sweep.specs.Counters.{counters_of, sum_of_counts, latest_stamp}
+use Rattle.call_stages.specs.stage_sweep.specs.Emptiness.{loads_of, may_be_cached, empty_refuses, frame_if, place_owned, stack_owned}
+use Rattle.call_stages.specs.stage_sweep.specs.Emptiness.{owns, owned_after}
+use Rattle.call_stages.specs.stage_sweep.specs.Freeze.{AtFits, frozen_if, frozen_at, kept_with, hold_refuses, load_refuses}
+use Rattle.call_stages.specs.stage_sweep.specs.Freeze.{compare_refuses, sum_refuses, refusal_of as quiet_refusal, refuses_at, load_next}
+use Rattle.call_stages.specs.stage_sweep.specs.Freeze.{empty_next, scan_next, compare_next, scan_goes, next_at, owned_at, at_after}
+use Rattle.call_stages.specs.stage_sweep.specs.Freeze.{sweep_kept, sweep_refuses, sweep_next, sweep_after, swept_of, end_by, sweep_end}
+use Rattle.call_stages.specs.stage_sweep.specs.Release.{ThawFits}
+use Rattle.call_stages.specs.stage_sweep.specs.declared.empty.Owned.{Owned}
+use Rattle.call_stages.specs.stage_sweep.specs.declared.sweep.Sweep.{Sweep}
+use Rattle.call_stages.specs.stage_sweep.specs.declared.sweep.SweepAt.{SweepAt}
+use Rattle.call_stages.specs.stage_sweep.specs.declared.sweep.SweepAt.TheVariants as sweep
+use Rattle.call_stages.specs.stage_sweep.specs.declared.sweep.Swept.{Swept}
+use Rattle.call_stages.specs.stage_sweep.specs.declared.thaw.Thaw.{Thaw}
+use Rattle.call_stages.specs.stage_sweep.proofs.SweepLemmas.{counters_within, some_counter, sweep_after_fits}
+use Rattle.call_stages.specs.act_states.specs.declared.refusals.Refusal.{Refusal}
+use Rattle.call_stages.specs.act_states.specs.declared.refusals.Refusal.TheVariants as refusal
+use Rattle.call_stages.specs.act_states.specs.declared.own.Own.{Own}
+use Rattle.call_stages.specs.act_states.specs.declared.untypings.Release.{Release}
+use Rattle.call_stages.specs.act_states.specs.declared.untypings.Untyping.{Untyping}
+use Rattle.call_stages.specs.act_states.specs.declared.untypings.UntypingAt.{UntypingAt}
+use Rattle.call_stages.specs.act_states.specs.declared.untypings.UntypingAt.TheVariants.{Load, Mark, Sweep as sweep_at, Draw}
+use Rattle.call_stages.specs.act_states.specs.declared.work.Act.{Act as ActType}
+use Rattle.call_stages.specs.act_states.specs.declared.work.Act.TheVariants.{Untype as untype_act}
+use Rattle.call_stages.specs.act_states.specs.declared.work.Tail.{Tail}
+use Rattle.call_stages.specs.act_states.specs.declared.work.Tail.TheVariants.{Release as release_tail}
+use Rattle.call_stages.specs.act_states.specs.declared.work.Work.TheVariants.{Act}
+use Rattle.call_stages.specs.act_states.specs.declared.work.WorkStep.TheVariants.{Goes, Refuses}
+use Rattle.call_stages.specs.act_states.specs.Refusals.{refusal_of}
+use Rattle.call_stages.specs.act_states.specs.WorkSteps.{refuse}
+use Rattle.call_stages.specs.act_states.specs.Typings.{typed}
+use Rattle.call_stages.specs.act_states.specs.Untypings.{OwnedBy, owned_most, OwnedFits, SweepAtFits, SweepsFrame, SweptFits}
+use Rattle.call_stages.specs.act_states.specs.Untypings.{UntypingFits, released_dues, owned_dues, untyping_dues, release_of}
+use Rattle.call_stages.specs.act_states.specs.Untypings.{ReleaseFits, thaw_left_by, after_store, release_after, thaw_left, release_left}
+use Rattle.call_stages.specs.act_states.specs.Untypings.{untyping_undo, others_left, quiet_left, object_left, sweep_left, untyping_left}
+use Rattle.call_stages.specs.act_states.specs.Acts.{dues, next_work, meets_untyped, meets_untyping, sweep_from}
+use Rattle.call_stages.specs.act_states.specs.Acts.{sweeps_if, took_sweep, drawn_untyped, took_untyping_at}
 use Rattle.call_stages.specs.declared.stages.ActiveCall.{ActiveCall}
 use Rattle.call_stages.specs.declared.stages.Stage.TheVariants.{Decided}
 use Rattle.call_stages.specs.Steps.{GoesOn, landed, went_with}

@@ -1,4 +1,4 @@
--- What a read takes and a write appends, and when a count of faults has risen.
+-- What a read takes, a write appends and a failure leaves, and when a count of faults has risen.
 use Rattle.std.specs.Prelude.{◌≡◌, ◌⊎◌, ℕ, ◌-◌, ◌^◌, ◌<◌, ◌≤◌, List, [], ◌++◌, length, take, drop, Option, Some, None}
 
 -- The count has risen, or it stands at its last value.
@@ -16,6 +16,11 @@ pub record Moves (k : ℕ) (left : List ℕ) (left' : Option (List ℕ)) (buf bu
 abbrev pub Takes : ℕ → Option (List ℕ) → Option (List ℕ) → List ℕ → List ℕ → Type 0
 Takes k None left' buf buf' = Unit {0}
 Takes k (Some left) left' buf buf' = Moves k left left' buf buf'
+
+-- What was told is told still.
+abbrev pub Stays : Option (List ℕ) → Option (List ℕ) → Type 0
+Stays None after = Unit {0}
+Stays (Some bytes) after = after ≡ Some bytes
 
 -- The piece stands after what was held, where the sink tells what it holds.
 abbrev pub Adds : List ℕ → Option (List ℕ) → Option (List ℕ) → Type 0

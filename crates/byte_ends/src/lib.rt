@@ -8,7 +8,7 @@
 #![tactic(auto)]
 
 ghost use Rattle.std.specs.Prelude.{◌≡◌, ℕ, ◌≤◌, List, [], length, take, Option, IfOk, OnOk, OnErr};
-ghost use Rattle.byte_ends.specs.Ends.{HasRisen, Takes, Adds};
+ghost use Rattle.byte_ends.specs.Ends.{HasRisen, Takes, Adds, Stays};
 
 mod memory;
 mod real;
@@ -35,7 +35,7 @@ pub trait Source {
     fn read(&mut self, buf: &mut [u8]) -> Result<usize, Failed>
         ensures fits { IfOk result (λ k. k ≤ length buf.old) }
         ensures taken { IfOk result (λ k. Takes k (left self.old) (left self.new) buf.old buf.new) }
-        ensures kept { OnErr result (left self.new ≡ left self.old) }
+        ensures kept { OnErr result (Stays (left self.old) (left self.new)) }
         ensures steady { OnOk result (faults self.new ≡ faults self.old) }
         ensures failed { OnErr result (HasRisen (faults self.old) (faults self.new)) }
         ensures count { faults self.old ≤ faults self.new };
@@ -55,7 +55,7 @@ pub trait Sink {
         ensures fits { IfOk result (λ k. k ≤ length piece.now) }
         ensures goes { IfOk result (λ k. k ≡ 0 → piece.now ≡ []) }
         ensures added { IfOk result (λ k. Adds (take k piece.now) (held self.old) (held self.new)) }
-        ensures kept { OnErr result (held self.new ≡ held self.old) }
+        ensures kept { OnErr result (Stays (held self.old) (held self.new)) }
         ensures steady { OnOk result (faults self.new ≡ faults self.old) }
         ensures failed { OnErr result (HasRisen (faults self.old) (faults self.new)) }
         ensures count { faults self.old ≤ faults self.new };

@@ -58,6 +58,19 @@ fn std_sink_takes_no_progress_as_an_error(rt: HostRuntime) {
 }
 
 #[test]
+fn std_ends_over_a_slice_and_a_vector_pass_on_their_bytes(rt: HostRuntime) -> Result<(), Fail> {
+    let mut source = StdSource::new(b"abc".as_slice());
+    let mut sink = StdSink::new(Vec::new(rt.alloc()));
+    let mut buf = [0u8; 2];
+    assert_eq!(&rt; source.read(&mut buf), Ok(2));
+    assert_eq!(&rt; sink.write(&buf), Ok(2));
+    assert_eq!(&rt; source.read(&mut buf), Ok(1));
+    assert_eq!(&rt; sink.write(&buf[..1]), Ok(1));
+    assert_eq!(&rt; sink.into_writer().as_slice(), b"abc".as_slice());
+    Ok(())
+}
+
+#[test]
 fn memory_ends_fail_where_they_are_told(rt: HostRuntime) -> Result<(), Fail> {
     let bytes = Vec::from_slice(rt.alloc(), b"abcde")?;
     let fails = Vec::from_slice(rt.alloc(), &[2])?;

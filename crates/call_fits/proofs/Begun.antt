@@ -1,16 +1,16 @@
 -- A core that begins a call.
 use Rattle.std.proofs.lemmas.List.Elements.{All-nil}
 use Rattle.std.proofs.Common.{◌≡◌, List, [], Some, None, refl, arith}
-use Rattle.stage_pins.specs.declared.held.Acquired.{Acquired}
-use Rattle.stage_pins.specs.Held.{AcquiredFits}
-use Rattle.spk_nums.specs.CallLimits.{InLimits}
-use Rattle.spk_nums.specs.Capability.{Capability}
-use Rattle.spk_nums.specs.declared.calls.Call.{Call}
-use Rattle.kernel_rules.specs.Access.{found}
-use Rattle.call_plans.specs.declared.plans.Plan.{Plan}
-use Rattle.call_plans.specs.PlanOf.{plan_for}
-use Rattle.call_plans.proofs.StepsOfPlans.{bound_is}
-use Rattle.act_states.specs.declared.own.Own.{Own}
+use Rattle.call_stages.specs.stage_pins.specs.declared.held.Acquired.{Acquired}
+use Rattle.call_stages.specs.stage_pins.specs.Held.{AcquiredFits}
+use Rattle.call_stages.specs.spk_nums.specs.CallLimits.{InLimits}
+use Rattle.call_stages.specs.spk_nums.specs.Capability.{Capability}
+use Rattle.call_stages.specs.spk_nums.specs.declared.calls.Call.{Call}
+use Rattle.call_stages.specs.kernel_rules.specs.Access.{found}
+use Rattle.call_stages.specs.call_plans.specs.declared.plans.Plan.{Plan}
+use Rattle.call_stages.specs.call_plans.specs.PlanOf.{plan_for}
+use Rattle.call_stages.specs.call_plans.proofs.StepsOfPlans.{bound_is}
+use Rattle.call_stages.specs.act_states.specs.declared.own.Own.{Own}
 use Rattle.call_stages.specs.Fits.{IsOwn, IsCore}
 use Rattle.call_stages.specs.declared.stages.Stage.TheVariants.{Enter}
 

@@ -1,3 +1,6 @@
+-- What the crates above name through this one.
+pub use Rattle.kernel_invariant
+-- Its own.
 pub mod NameCells
 pub mod CapCells
 pub mod Plans

@@ -1,3 +1,20 @@
+-- What the crates above name through this one.
+pub use Rattle.spk_nums
+pub use Rattle.entry_words
+pub use Rattle.frame_words
+pub use Rattle.tcap_words
+pub use Rattle.word_map
+pub use Rattle.kernel_rules
+pub use Rattle.call_plans.specs.kernel_invariant
+pub use Rattle.call_plans
+pub use Rattle.stage_look
+pub use Rattle.stage_pins
+pub use Rattle.stage_quiet
+pub use Rattle.stage_thread
+pub use Rattle.stage_sweep
+pub use Rattle.stage_tcap
+pub use Rattle.act_states
+-- Its own.
 pub mod View
 pub mod Tails
 pub mod Steps

@@ -1,63 +1,34 @@
 -- What a call that makes a component knows of its rule: what is left of it after its names, and what refuses it; and what it knows of the
 -- frame and of the number that it has marked.
+use Rattle.scan_invariant.proofs.Common.{◌≡◌, ◌+◌, arith, Bool, true, false, Option, Some, None, refl, ℕ, ◌<◌, ◌≢◌, sym, ◌&&◌, [], ◌∷◌}
+use Rattle.scan_invariant.proofs.Common.{ap, ◌∙◌, subst, IsTrue, not, inr, lt-ltb, false≢true, Capability, Setting, IsSetting, Reply}
+use Rattle.scan_invariant.proofs.Common.{frame_of_word, live_of_word, EntryAt, FrameAt, LiveAt, found, Target, Under, Slot, reached, only}
+use Rattle.scan_invariant.proofs.Common.{rule_of, change_of, has_frame, not_blank, is_frame, is_blank, makes_comp, fits, is_node, Found}
+use Rattle.scan_invariant.proofs.Common.{Change, first_cause, and_then, unless, vacant, outcome, first_of, RuleMay, Blank, Kernel, State}
+use Rattle.scan_invariant.proofs.Common.{Leaf, NumberOf, named_fit, opened, events_of, sound_of, opened_is, marked_by, mark_in_frame}
+use Rattle.scan_invariant.proofs.Common.{frame_value, stamp, Trace, Open, phase, state_after, last_left, target_of, outcome_left}
+use Rattle.scan_invariant.proofs.Common.{left_may, names_after, Leads, NextFree, next_of, rule_after, LeadsIn, own_pages, GoesBy}
+use Rattle.scan_invariant.proofs.Common.{plan_for, Plan, CompMakingFits, comp_due_list, CompMaking, Act, StageFits, HasRoom, Core}
+use Rattle.scan_invariant.proofs.Common.{ActiveCall, Undecided, limits_of, settled_by, settled, AreDuesApart, phase_at, KnowsUndecided}
+use Rattle.scan_invariant.proofs.Common.{KnowsComp, Invariant, holds, held_by, NumberIs}
 use Rattle.std.specs.Prelude.{if◌then◌else◌, List}
-use Rattle.std.proofs.Common.{◌≡◌, ◌+◌, arith, Bool, true, false, Option, Some, None, refl, ℕ}
-use Rattle.std.proofs.Common.{◌<◌, ◌≢◌, sym, ◌&&◌, [], ◌∷◌, ap, ◌∙◌, subst, IsTrue, not, inr}
-use Rattle.std.proofs.lemmas.Bool.{lt-ltb, false≢true}
-use Rattle.spk_nums.specs.Capability.{Capability}
-use Rattle.spk_nums.specs.Setting.{Setting, IsSetting}
-use Rattle.spk_nums.specs.declared.calls.Call.TheVariants.{Make as make_call}
-use Rattle.spk_nums.specs.declared.calls.Make.TheVariants as make_of
-use Rattle.spk_nums.specs.declared.kinds.Kind.TheVariants as kind
-use Rattle.spk_nums.specs.declared.replies.Reply.{Reply}
-use Rattle.spk_nums.specs.declared.replies.Reply.TheVariants as reply
-use Rattle.frame_words.specs.Frame.{frame_of_word}
-use Rattle.frame_words.specs.Live.{live_of_word}
-use Rattle.word_map.specs.Word.{EntryAt, FrameAt, LiveAt}
-use Rattle.kernel_rules.specs.Access.{found, Target, Under, Slot, reached, only}
-use Rattle.kernel_rules.specs.CallRelation.{rule_of, change_of}
-use Rattle.kernel_rules.specs.CapabilityCalls.{has_frame, not_blank, not_taken, is_frame, is_blank, makes_comp}
-use Rattle.kernel_rules.specs.Fitting.{fits}
-use Rattle.kernel_rules.specs.Relies.{is_node}
-use Rattle.kernel_rules.specs.Rules.{Found, Change, first_cause, and_then, unless, vacant, outcome, first_of, RuleMay, OneMay}
-use Rattle.kernel_rules.specs.State.{Blank, Kernel, State, Leaf, NumberOf}
-use Rattle.kernel_invariant.proofs.Facts.{named_fit}
-use Rattle.kernel_invariant.proofs.SoundRuns.{opened}
-use Rattle.kernel_history.specs.Events.{events_of}
-use Rattle.trace_laws.proofs.Stays.{sound_of, opened_is}
-use Rattle.kernel_history.specs.Marking.{marked_by}
-use Rattle.kernel_history.specs.Marks.{mark_in_frame}
-use Rattle.kernel_history.specs.ObjectWords.{frame_value}
-use Rattle.kernel_history.specs.Stamps.{stamp}
-use Rattle.kernel_history.specs.Trace.{Trace, Open, phase, state_after, last_left}
-use Rattle.kernel_history.specs.Ways.{target_of}
-use Rattle.call_plans.proofs.AfterNames.{outcome_left, left_may}
-use Rattle.plan_ways.proofs.Ways.{target_is as target_is_of}
-use Rattle.call_plans.specs.After.{names_after, Leads, NextFree, next_of, rule_after, LeadsIn}
-use Rattle.call_plans.specs.GoesBy.{own_pages, GoesBy}
-use Rattle.call_plans.specs.PlanOf.{plan_for}
-use Rattle.call_plans.specs.declared.plans.Plan.{Plan}
-use Rattle.plan_ways.specs.Laws.{IsTargetOf}
-use Rattle.act_states.specs.Comps.{CompMakingFits, comp_due_list}
-use Rattle.act_states.specs.declared.comps.CompMaking.{CompMaking}
-use Rattle.act_states.specs.declared.work.Act.TheVariants.{MakeComp as comp_act}
-use Rattle.act_states.specs.declared.work.Work.TheVariants.{Act}
-use Rattle.call_stages.specs.Fits.{StageFits, HasRoom}
-use Rattle.call_stages.specs.View.{Core}
-use Rattle.call_stages.specs.declared.stages.ActiveCall.{ActiveCall}
-use Rattle.call_stages.specs.declared.stages.Stage.TheVariants.{Undecided}
-use Rattle.step_ways.proofs.Good.{blank_is}
-use Rattle.step_ways.proofs.Loads.{is_active, call_is}
-use Rattle.core_invariant.proofs.Sounds.{limits_of}
-use Rattle.core_invariant.specs.Holding.{settled_by, settled}
-use Rattle.core_invariant.specs.Knows.{AreDuesApart, phase_at, KnowsUndecided, KnowsComp, SaysBlank}
-use Rattle.core_invariant.specs.Invariant.{Invariant, holds, held_by}
-use Rattle.core_invariant.specs.Words.{NumberIs}
-use Rattle.count_invariant.proofs.Acquiring.{plan_leads, goes_by}
-use Rattle.count_invariant.proofs.CompCounts.{IsCompCall, comp_call}
-use Rattle.place_invariant.proofs.CompMakes.{IsCompMake, comp_make, comp_rest, new_comp, comp_dues_apart}
-use Rattle.place_invariant.proofs.Outside.{none_left_of}
-use Rattle.place_invariant.proofs.Vacancy.{in_leaf}
+use Rattle.state_laws.specs.spk_nums.specs.declared.calls.Call.TheVariants.{Make as make_call}
+use Rattle.state_laws.specs.spk_nums.specs.declared.calls.Make.TheVariants as make_of
+use Rattle.state_laws.specs.spk_nums.specs.declared.kinds.Kind.TheVariants as kind
+use Rattle.state_laws.specs.spk_nums.specs.declared.replies.Reply.TheVariants as reply
+use Rattle.state_laws.specs.kernel_rules.specs.CapabilityCalls.{not_taken}
+use Rattle.state_laws.specs.kernel_rules.specs.Rules.{OneMay}
+use Rattle.scan_invariant.specs.plan_ways.proofs.Ways.{target_is as target_is_of}
+use Rattle.scan_invariant.specs.plan_ways.specs.Laws.{IsTargetOf}
+use Rattle.scan_invariant.specs.act_states.specs.declared.work.Act.TheVariants.{MakeComp as comp_act}
+use Rattle.scan_invariant.specs.step_ways.proofs.Good.{blank_is}
+use Rattle.scan_invariant.specs.step_ways.proofs.Loads.{is_active, call_is}
+use Rattle.scan_invariant.specs.core_invariant.specs.Knows.{SaysBlank}
+use Rattle.scan_invariant.specs.count_invariant.proofs.Acquiring.{plan_leads, goes_by}
+use Rattle.scan_invariant.specs.count_invariant.proofs.CompCounts.{IsCompCall, comp_call}
+use Rattle.scan_invariant.specs.place_invariant.proofs.CompMakes.{IsCompMake, comp_make, comp_rest, new_comp, comp_dues_apart}
+use Rattle.scan_invariant.specs.place_invariant.proofs.Outside.{none_left_of}
+use Rattle.scan_invariant.specs.place_invariant.proofs.Vacancy.{in_leaf}
 
 module _ (setup : Setting) (setting : IsSetting setup) (cores : ℕ → Core) (t : Trace) (stands : Invariant setup cores t) (c : ℕ)
     (here : c < setup.cores)

@@ -1,89 +1,52 @@
 -- The first steps by which a call makes a component: the load of the frame's word, and the compare that marks it.
+use Rattle.scan_invariant.proofs.Common.{◌≡◌, ◌≤◌, Bool, true, false, cond, Option, Some, None, refl, ℕ, ◌<◌, ◌^◌, ◌==◌, arith, ◌≢◌, ◌+◌}
+use Rattle.scan_invariant.proofs.Common.{sym, nat_lt, ◌&&◌, [], ◌∷◌, ◌++◌, length, ap, ◌∙◌, subst, IsTrue, inl, inr, not, map, lt-ltb}
+use Rattle.scan_invariant.proofs.Common.{eqb-true, eqb-false, ltb-false, cases_eq, eq-eqb, false≢true, Capability, Setting, IsSetting}
+use Rattle.scan_invariant.proofs.Common.{left_if, Call, Map, FrameKind, Obj, Reply, word_of_entry, frame_of_word, FrameFits}
+use Rattle.scan_invariant.proofs.Common.{word_of_frame, FrameWord, same_same, left_of, word_of, LoadOf, Move, StoreOf, CompareOf, EntryAt}
+use Rattle.scan_invariant.proofs.Common.{FrameAt, put_same, Target, alone, rule_of, change_of, are_calls_spent, is_frame, is_blank}
+use Rattle.scan_invariant.proofs.Common.{Refused, RuleMay, Untyped, Blank, Table, Pages, User, Kernel, State, put, Leaf, Pleaf, Comp}
+use Rattle.scan_invariant.proofs.Common.{Thread, Tcap, Frame, PlaceOf, refused_first, Carries, same_word-other, last_left-here}
+use Rattle.scan_invariant.proofs.Common.{last_left-there, own_read-here, own_read-there, IsAlone, changes_places, changes_frames}
+use Rattle.scan_invariant.proofs.Common.{changes_in_frame, looks_at_frames, frames_near, is_one_of, IsSlot, marked_by, frame_mark}
+use Rattle.scan_invariant.proofs.Common.{mark_in_frame, frame_value, stamp, Trace, Open, phase, state_after, Step, last_left, own_read}
+use Rattle.scan_invariant.proofs.Common.{left_may, own_pages, Acquired, dues, next_work, comp_dues, refuse, CompMaking, CompAt, Nothing}
+use Rattle.scan_invariant.proofs.Common.{Unmark, Act, Goes, GoesOn, landed, went_with, Core, ActiveCall, Undecided, Decided, names_on}
+use Rattle.scan_invariant.proofs.Common.{counts_on, spot_on, holds_counts, Holding, settled_by, settled, keeps, phase_at, due_of}
+use Rattle.scan_invariant.proofs.Common.{KnowsUndecided, KnowsComp, KnowsCompAt, blank_word, holds_at, holds_in, Invariant, done_by}
+use Rattle.scan_invariant.proofs.Common.{holds, held_by, holds_comp, IsFrameWord, as_none, counts_bare, lent_elsewhere}
 use Rattle.std.specs.Prelude.{if◌then◌else◌, List}
-use Rattle.std.proofs.Common.{◌≡◌, ◌≤◌, Bool, true, false, cond, Option, Some, None, refl, ℕ, ◌<◌, ◌^◌, ◌==◌, arith, ◌≢◌, ◌+◌}
-use Rattle.std.proofs.Common.{sym, nat_lt, ◌&&◌, [], ◌∷◌, ◌++◌, length, ap, ◌∙◌, subst, IsTrue, inl, inr, not, is_some, map}
-use Rattle.std.proofs.lemmas.Bool.{lt-ltb, eqb-true, eqb-false, ltb-false, cases_eq, eq-eqb, false≢true}
-use Rattle.spk_nums.specs.Capability.{Capability}
-use Rattle.spk_nums.specs.Setting.{Setting, IsSetting}
-use Rattle.spk_nums.specs.WordSteps.{left_if}
-use Rattle.spk_nums.specs.declared.calls.Call.{Call}
-use Rattle.spk_nums.specs.declared.calls.Call.TheVariants.{Make as make_call, Map}
-use Rattle.spk_nums.specs.declared.kinds.FrameKind.{FrameKind}
-use Rattle.spk_nums.specs.declared.kinds.FrameKind.TheVariants.{Untyped as FrameUntyped, User as FrameUser, Kernel as FrameKernel}
-use Rattle.spk_nums.specs.declared.kinds.Obj.{Obj}
-use Rattle.spk_nums.specs.declared.kinds.Obj.TheVariants as obj
-use Rattle.spk_nums.specs.declared.replies.Reply.{Reply}
-use Rattle.spk_nums.specs.declared.replies.Reply.TheVariants as reply
-use Rattle.entry_words.specs.EntryWord.{word_of_entry}
-use Rattle.entry_words.specs.declared.entry.Entry.TheVariants as entry
-use Rattle.frame_words.proofs.FrameLemmas as frames
-use Rattle.frame_words.specs.Frame.{frame_of_word, FrameFits, word_of_frame}
-use Rattle.frame_words.specs.declared.frame_word.FrameWord.{FrameWord}
-use Rattle.word_map.proofs.WordLemmas.{same_same}
-use Rattle.word_map.specs.Moves.{left_of, word_of, LoadOf, Move, StoreOf, CompareOf}
-use Rattle.word_map.specs.Word.{EntryAt, FrameAt}
-use Rattle.kernel_rules.proofs.Within.{put_same}
-use Rattle.kernel_rules.specs.Access.{Target}
-use Rattle.kernel_rules.specs.Alone.{alone}
-use Rattle.kernel_rules.specs.CallRelation.{rule_of, change_of, are_calls_spent}
-use Rattle.kernel_rules.specs.CapabilityCalls.{is_frame, is_blank}
-use Rattle.kernel_rules.specs.Rules.{Refused, RuleMay}
-use Rattle.kernel_rules.specs.State.{Untyped, Blank, Table, Pages, User, Kernel, State}
-use Rattle.kernel_rules.specs.State.{put, Leaf, Pleaf, Comp, Thread, Tcap, Frame, PlaceOf}
-use Rattle.trace_laws.proofs.AloneCalls.{refused_first}
-use Rattle.trace_laws.proofs.Carries.{Carries}
-use Rattle.kernel_history.proofs.Names.{same_word-other}
-use Rattle.kernel_history.proofs.Steps.{last_left-here, last_left-there, own_read-here, own_read-there}
-use Rattle.kernel_history.specs.Alone.{IsAlone}
-use Rattle.kernel_history.specs.Discipline.{changes_places, changes_frames, changes_in_frame, looks_at_frames}
-use Rattle.kernel_history.specs.Footprint.{frames_near, is_one_of}
-use Rattle.kernel_history.specs.Justified.{IsSlot}
-use Rattle.kernel_history.specs.Marking.{marked_by}
-use Rattle.kernel_history.specs.Marks.{frame_mark, mark_in_frame}
-use Rattle.kernel_history.specs.ObjectWords.{frame_value}
-use Rattle.kernel_history.specs.Stamps.{stamp}
-use Rattle.kernel_history.specs.Trace.{Trace, Open, phase, state_after, Step, last_left, own_read}
-use Rattle.call_plans.proofs.AfterNames.{left_may}
-use Rattle.call_plans.specs.GoesBy.{own_pages}
-use Rattle.plan_ways.proofs.Ways.{next_on_way}
-use Rattle.plan_ways.specs.Laws.{NextPlace}
-use Rattle.stage_pins.specs.declared.held.Acquired.{Acquired}
-use Rattle.act_states.specs.Acts.{dues, next_work, comp_marks}
-use Rattle.act_states.specs.Comps.{comp_dues, comp_meets, comp_meets_object, comp_meets_blank, comp_meets_kernel}
-use Rattle.act_states.specs.Makings.{marked}
-use Rattle.act_states.specs.WorkSteps.{refuse}
-use Rattle.act_states.specs.declared.comps.CompMaking.{CompMaking}
-use Rattle.act_states.specs.declared.comps.CompAt.{CompAt}
-use Rattle.act_states.specs.declared.comps.CompAt.TheVariants.{Load, Mark, LoadLive}
-use Rattle.act_states.specs.declared.refusals.Refusal.TheVariants as refusal
-use Rattle.act_states.specs.declared.work.Act.{Act as ActOf}
-use Rattle.act_states.specs.declared.work.Act.TheVariants.{MakeComp as comp_act}
-use Rattle.act_states.specs.declared.work.Tail.TheVariants.{Nothing, Unmark}
-use Rattle.act_states.specs.declared.work.Work.TheVariants.{Act}
-use Rattle.act_states.specs.declared.work.WorkStep.TheVariants.{Goes}
-use Rattle.call_stages.specs.Steps.{GoesOn, landed, went_with}
-use Rattle.call_stages.specs.View.{Core}
-use Rattle.call_stages.specs.declared.stages.ActiveCall.{ActiveCall}
-use Rattle.call_stages.specs.declared.stages.Stage.TheVariants.{Undecided, Decided}
-use Rattle.kept_facts.proofs.Carries.{names_on, counts_on, spot_on}
-use Rattle.step_ways.proofs.Counting as counting
-use Rattle.step_ways.proofs.Good.{spares_other, blank_is}
-use Rattle.step_ways.proofs.Loads.{decides_on, step_to, OnlyLooks, next_at, loads_on, IsOfCall, core_in_call, inner, call_is, core_is}
-use Rattle.step_ways.proofs.Refusals.{GoodTook, ticks_at, refuses_busy, refuses_raced, raced_leaving, not_spent}
-use Rattle.step_ways.proofs.Writes.{stores_on}
-use Rattle.core_invariant.specs.Holding.{holds_counts, Holding, settled_by, settled, keeps}
-use Rattle.core_invariant.specs.Knows.{phase_at, due_of, KnowsUndecided, KnowsComp, KnowsCompAt, blank_word, HasBlank}
-use Rattle.core_invariant.specs.Invariant.{holds_at, holds_in, Invariant, done_by, holds, held_by, holds_comp}
-use Rattle.core_invariant.specs.Words.{IsFrameWord}
-use Rattle.count_invariant.proofs.Lookups.{near_way}
-use Rattle.count_invariant.proofs.Acquiring.{knows_next, next_holds}
-use Rattle.count_invariant.proofs.CompCounts.{IsCompCall, makes_comp_on, comp_changes, comp_near}
-use Rattle.place_invariant.proofs.Fills.{target_way, changes_node}
-use Rattle.place_invariant.proofs.Outside.{vacant_slot, vacant_here, stands_alone}
+use Rattle.std.proofs.Common.{is_some}
+use Rattle.state_laws.specs.spk_nums.specs.declared.calls.Call.TheVariants.{Make as make_call}
+use Rattle.state_laws.specs.spk_nums.specs.declared.kinds.FrameKind.TheVariants.{Untyped as FrameUntyped, User as FrameUser}
+use Rattle.state_laws.specs.spk_nums.specs.declared.kinds.FrameKind.TheVariants.{Kernel as FrameKernel}
+use Rattle.state_laws.specs.spk_nums.specs.declared.kinds.Obj.TheVariants as obj
+use Rattle.state_laws.specs.spk_nums.specs.declared.replies.Reply.TheVariants as reply
+use Rattle.scan_invariant.specs.entry_words.specs.declared.entry.Entry.TheVariants as entry
+use Rattle.scan_invariant.specs.frame_words.proofs.FrameLemmas as frames
+use Rattle.scan_invariant.specs.plan_ways.proofs.Ways.{next_on_way}
+use Rattle.scan_invariant.specs.plan_ways.specs.Laws.{NextPlace}
+use Rattle.scan_invariant.specs.act_states.specs.Acts.{comp_marks}
+use Rattle.scan_invariant.specs.act_states.specs.Comps.{comp_meets, comp_meets_object, comp_meets_blank, comp_meets_kernel}
+use Rattle.scan_invariant.specs.act_states.specs.Makings.{marked}
+use Rattle.scan_invariant.specs.act_states.specs.declared.comps.CompAt.TheVariants.{Load, Mark, LoadLive}
+use Rattle.scan_invariant.specs.act_states.specs.declared.refusals.Refusal.TheVariants as refusal
+use Rattle.scan_invariant.specs.act_states.specs.declared.work.Act.{Act as ActOf}
+use Rattle.scan_invariant.specs.act_states.specs.declared.work.Act.TheVariants.{MakeComp as comp_act}
+use Rattle.scan_invariant.specs.step_ways.proofs.Counting as counting
+use Rattle.scan_invariant.specs.step_ways.proofs.Good.{spares_other, blank_is}
+use Rattle.scan_invariant.specs.step_ways.proofs.Loads.{decides_on, step_to, OnlyLooks, next_at, loads_on, IsOfCall, core_in_call, inner}
+use Rattle.scan_invariant.specs.step_ways.proofs.Loads.{call_is, core_is}
+use Rattle.scan_invariant.specs.step_ways.proofs.Refusals.{GoodTook, ticks_at, refuses_busy, refuses_raced, raced_leaving, not_spent}
+use Rattle.scan_invariant.specs.step_ways.proofs.Writes.{stores_on}
+use Rattle.scan_invariant.specs.core_invariant.specs.Knows.{HasBlank}
+use Rattle.scan_invariant.specs.count_invariant.proofs.Lookups.{near_way}
+use Rattle.scan_invariant.specs.count_invariant.proofs.Acquiring.{knows_next, next_holds}
+use Rattle.scan_invariant.specs.count_invariant.proofs.CompCounts.{IsCompCall, makes_comp_on, comp_changes, comp_near}
+use Rattle.scan_invariant.specs.place_invariant.proofs.Fills.{target_way, changes_node}
+use Rattle.scan_invariant.specs.place_invariant.proofs.Outside.{vacant_slot, vacant_here, stands_alone}
 use Rattle.comp_invariant.proofs.CompCalls as calls
 use Rattle.frame_invariant.proofs.Makes.{made_looks, not_blank_by, not_kernel_by, marked_fits}
-use Rattle.core_invariant.proofs.Bare.{as_none, counts_bare}
-use Rattle.kept_facts.proofs.Lent.{lent_elsewhere}
 
 module _ (setup : Setting) (setting : IsSetting setup) (cores : ℕ → Core) (t : Trace) (stands : Invariant setup cores t) (c : ℕ)
     (here : c < setup.cores)

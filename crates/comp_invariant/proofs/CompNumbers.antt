@@ -1,86 +1,55 @@
 -- The steps by which the making of a component takes its liveness number: the load of the number's word, the scan for a number that has
 -- died, and what refuses them.
+use Rattle.scan_invariant.proofs.Common.{◌≡◌, ◌≤◌, Bool, true, false, Option, Some, None, refl, ℕ, ◌<◌, ◌^◌, ◌==◌, arith, ◌≢◌, ◌+◌, sym}
+use Rattle.scan_invariant.proofs.Common.{nat_lt, ◌&&◌, [], ◌∷◌, ◌++◌, ap, ◌∙◌, subst, IsTrue, inl, inr, map, ◌⊎◌, nat_le, if◌then◌else◌}
+use Rattle.scan_invariant.proofs.Common.{List, ◌||◌, false≢true, ltb-false, eq-eqb, leb-true, leb-false, ltb-true, Setting, IsSetting}
+use Rattle.scan_invariant.proofs.Common.{Reply, same_same, word_of, LoadOf, Move, EntryAt, FrameAt, CoreAt, LiveAt, Slot, alone, rule_of}
+use Rattle.scan_invariant.proofs.Common.{are_calls_spent, epoch_of, first_of, waits_of, vacant, Found, Blank, Kernel, State, Thing}
+use Rattle.scan_invariant.proofs.Common.{NumberOf, Unused, Live, Dead, Liveness, refused_first, nobody_waits, Carries, was_now}
+use Rattle.scan_invariant.proofs.Common.{own_read-here, own_read-there, IsAlone, IsRemoved, marked_by, live_mark, stamp, exit_of}
+use Rattle.scan_invariant.proofs.Common.{awaits_flushes, begins_at, ends_at, Trace, Open, phase, state_after, Step, last_left, own_read}
+use Rattle.scan_invariant.proofs.Common.{own_pages, Acquired, comp_dues, comp_due_list, CompMaking, CompAt, Unmark, Act, Scan, landed}
+use Rattle.scan_invariant.proofs.Common.{Core, ActiveCall, Undecided, names_on, spot_on, holds_counts, settled_by, keeps, phase_at}
+use Rattle.scan_invariant.proofs.Common.{due_of, KnowsUndecided, KnowsComp, KnowsCompAt, IsScanned, KnowsUnmark, HasFlushed, holds_in}
+use Rattle.scan_invariant.proofs.Common.{Invariant, holds, held_by, holds_comp, NumberIs, list_any, core_of_word, CoreWord, same_thing}
+use Rattle.scan_invariant.proofs.Common.{MayWait, waited_in, asked_of, not_inside, out_passed, later_passed, may_wait, Quiet, AtCore}
+use Rattle.scan_invariant.proofs.Common.{next_other, core_scan, flush_scan, core_refuses, scan_end, scan_after, quiet_next, quiet_end}
+use Rattle.scan_invariant.proofs.Common.{quiet_after, quiet_scan, limits_of, live_of_word, LiveWord}
 use Rattle.std.specs.Prelude.{if◌then◌else◌, List, ◌==◌, ◌||◌}
-use Rattle.std.proofs.Common.{◌≡◌, ◌≤◌, Bool, true, false, Option, Some, None, refl, ℕ, ◌<◌, ◌^◌, ◌==◌, arith, ◌≢◌, ◌+◌, sym, nat_lt}
-use Rattle.std.proofs.Common.{◌&&◌, [], ◌∷◌, ◌++◌, ap, ◌∙◌, subst, IsTrue, inl, inr, map, ◌⊎◌, nat_le, if◌then◌else◌, List, ◌||◌}
-use Rattle.std.proofs.lemmas.Bool.{false≢true, ltb-false, eq-eqb, leb-true, leb-false, ltb-true}
-use Rattle.spk_nums.specs.Setting.{Setting, IsSetting}
-use Rattle.spk_nums.specs.declared.kinds.Obj.TheVariants as obj
-use Rattle.spk_nums.specs.declared.replies.Reply.{Reply}
-use Rattle.spk_nums.specs.declared.replies.Reply.TheVariants as reply
-use Rattle.entry_words.specs.declared.entry.Entry.TheVariants as entry
-use Rattle.frame_words.proofs.FrameLemmas as frames
-use Rattle.word_map.proofs.WordLemmas.{same_same}
-use Rattle.word_map.specs.Moves.{word_of, LoadOf, Move}
-use Rattle.word_map.specs.Word.{EntryAt, FrameAt, CoreAt, LiveAt}
-use Rattle.kernel_rules.specs.Access.{Slot}
-use Rattle.kernel_rules.specs.Alone.{alone}
-use Rattle.kernel_rules.specs.CallRelation.{rule_of, are_calls_spent}
-use Rattle.kernel_rules.specs.CapabilityCalls.{is_live, epoch_of}
-use Rattle.kernel_rules.specs.Rules.{first_of, waits_of, vacant, Found}
-use Rattle.kernel_rules.specs.State.{Blank, Kernel, State, Thing, NumberOf, Unused, Live, Dead, Liveness}
-use Rattle.trace_laws.proofs.AloneCalls.{refused_first, nobody_waits}
-use Rattle.trace_laws.proofs.Carries.{Carries, was_before, IsDeadIn, was_now}
-use Rattle.kernel_history.proofs.Steps.{own_read-here, own_read-there}
-use Rattle.kernel_history.specs.Alone.{IsAlone}
-use Rattle.kernel_history.specs.Discipline.{looks_at_numbers}
-use Rattle.kernel_history.specs.Justified.{IsRemoved, IsDeadNumber}
-use Rattle.kernel_history.specs.Marking.{marked_by}
-use Rattle.kernel_history.specs.Marks.{live_mark}
-use Rattle.kernel_history.specs.Stamps.{stamp, exit_of, awaits_flushes, begins_at, ends_at}
-use Rattle.kernel_history.specs.Trace.{Trace, Open, phase, state_after, Step, last_left, own_read}
-use Rattle.call_plans.specs.GoesBy.{own_pages}
-use Rattle.plan_ways.proofs.Ways.{asked_left}
-use Rattle.stage_pins.specs.declared.held.Acquired.{Acquired}
-use Rattle.act_states.specs.Comps.{comp_dues, comp_due_list, comp_goes, comp_refuses, takes_number}
-use Rattle.act_states.specs.Comps.{scans_number, number_met, number_shown, number_scanned, CompAtFits}
-use Rattle.act_states.specs.declared.comps.CompMaking.{CompMaking}
-use Rattle.act_states.specs.declared.comps.CompAt.{CompAt}
-use Rattle.act_states.specs.declared.comps.CompAt.TheVariants.{Scan, Close}
-use Rattle.act_states.specs.declared.refusals.Refusal.TheVariants as refusal
-use Rattle.act_states.specs.declared.work.Act.TheVariants.{MakeComp as comp_act}
-use Rattle.act_states.specs.declared.work.Tail.TheVariants.{Unmark}
-use Rattle.act_states.specs.declared.work.Work.TheVariants.{Act, Scan}
-use Rattle.call_stages.specs.Steps.{landed}
-use Rattle.call_stages.specs.View.{Core}
-use Rattle.call_stages.specs.declared.stages.ActiveCall.{ActiveCall}
-use Rattle.call_stages.specs.declared.stages.Stage.TheVariants.{Undecided}
-use Rattle.kept_facts.proofs.Carries.{names_on, spot_on, number_on}
-use Rattle.step_ways.proofs.Counting as counting
-use Rattle.step_ways.proofs.Loads.{step_to, OnlyLooks, loads_on, IsOfCall, inner, call_is, core_is, decides_with}
-use Rattle.step_ways.proofs.Refusals.{GoodTook, ticks_at, not_spent, busy_leaving}
-use Rattle.core_invariant.specs.Holding.{holds_counts, settled_by, keeps}
-use Rattle.core_invariant.specs.Knows.{phase_at, due_of, KnowsUndecided, KnowsComp, KnowsCompAt, HasPassed}
-use Rattle.core_invariant.specs.Knows.{IsScanned, SaysBlank, MayTake, ScansNumber, KnowsUnmark, HasFlushed}
-use Rattle.core_invariant.specs.Invariant.{holds_in, Invariant, holds, held_by, holds_comp}
-use Rattle.core_invariant.specs.Words.{NumberIs}
-use Rattle.count_invariant.proofs.CompCounts.{IsCompCall, makes_comp_on, comp_changes, comp_argument, number_near}
-use Rattle.place_invariant.proofs.Outside.{vacant_slot, vacant_here, stands_alone}
+use Rattle.state_laws.specs.spk_nums.specs.declared.kinds.Obj.TheVariants as obj
+use Rattle.state_laws.specs.spk_nums.specs.declared.replies.Reply.TheVariants as reply
+use Rattle.scan_invariant.specs.entry_words.specs.declared.entry.Entry.TheVariants as entry
+use Rattle.scan_invariant.specs.frame_words.proofs.FrameLemmas as frames
+use Rattle.state_laws.specs.kernel_rules.specs.CapabilityCalls.{is_live}
+use Rattle.scan_invariant.specs.trace_laws.proofs.Carries.{was_before, IsDeadIn}
+use Rattle.scan_invariant.specs.kernel_history.specs.Discipline.{looks_at_numbers}
+use Rattle.scan_invariant.specs.kernel_history.specs.Justified.{IsDeadNumber}
+use Rattle.scan_invariant.specs.plan_ways.proofs.Ways.{asked_left}
+use Rattle.scan_invariant.specs.act_states.specs.Comps.{comp_goes, comp_refuses, takes_number}
+use Rattle.scan_invariant.specs.act_states.specs.Comps.{scans_number, number_met, number_shown, number_scanned, CompAtFits}
+use Rattle.scan_invariant.specs.act_states.specs.declared.comps.CompAt.TheVariants.{Scan, Close}
+use Rattle.scan_invariant.specs.act_states.specs.declared.refusals.Refusal.TheVariants as refusal
+use Rattle.scan_invariant.specs.act_states.specs.declared.work.Act.TheVariants.{MakeComp as comp_act}
+use Rattle.scan_invariant.specs.kept_facts.proofs.Carries.{number_on}
+use Rattle.scan_invariant.specs.step_ways.proofs.Counting as counting
+use Rattle.scan_invariant.specs.step_ways.proofs.Loads.{step_to, OnlyLooks, loads_on, IsOfCall, inner, call_is, core_is, decides_with}
+use Rattle.scan_invariant.specs.step_ways.proofs.Refusals.{GoodTook, ticks_at, not_spent, busy_leaving}
+use Rattle.scan_invariant.specs.core_invariant.specs.Knows.{HasPassed}
+use Rattle.scan_invariant.specs.core_invariant.specs.Knows.{SaysBlank, MayTake, ScansNumber}
+use Rattle.scan_invariant.specs.count_invariant.proofs.CompCounts.{IsCompCall, makes_comp_on, comp_changes, comp_argument, number_near}
+use Rattle.scan_invariant.specs.place_invariant.proofs.Outside.{vacant_slot, vacant_here, stands_alone}
 use Rattle.comp_invariant.proofs.CompCalls as calls
-use Rattle.std.specs.List.{list_any}
-use Rattle.frame_words.specs.Core.{core_of_word}
-use Rattle.frame_words.specs.declared.core_word.CoreWord.{CoreWord}
-use Rattle.kernel_rules.specs.GracePeriods.{same_thing, MayWait}
-use Rattle.kernel_rules.specs.Rules as rules
-use Rattle.kernel_history.specs.Ways.{waited_in, thing_at, asked_of}
-use Rattle.kernel_history.proofs.Laws.{not_inside}
-use Rattle.trace_laws.proofs.Waiting.{out_passed, later_passed, may_wait}
-use Rattle.stage_quiet.specs.declared.quiet.Quiet.{Quiet}
-use Rattle.stage_quiet.specs.declared.quiet.Quiet.TheVariants.{AtCore}
-use Rattle.stage_quiet.specs.Scan.{next_other, core_scan, flush_scan, core_refuses, scan_end}
-use Rattle.stage_quiet.specs.Scan.{scan_after, quiet_next, quiet_end, quiet_after, quiet_scan}
-use Rattle.core_invariant.proofs.Sounds.{limits_of}
+use Rattle.state_laws.specs.kernel_rules.specs.Rules as rules
+use Rattle.scan_invariant.specs.kernel_history.specs.Ways.{thing_at}
 use Rattle.scan_invariant.proofs.Scans.{ScanBegins, AtCores, AtFlushes, before_next, scan_begins, scan_none}
-use Rattle.frame_words.specs.Live.{live_of_word}
-use Rattle.frame_words.specs.declared.live_word.LiveWord.{LiveWord}
-use Rattle.frame_words.specs.declared.live_word.LiveWord.TheVariants as live_word
-use Rattle.frame_words.proofs.LiveLemmas as lives
-use Rattle.act_states.specs.declared.kills.KillingAt.TheVariants.{Close}
-use Rattle.act_states.specs.declared.comps.LastEpoch.{LastEpoch}
-use Rattle.count_invariant.proofs.MakingCounts.{blank_left}
-use Rattle.place_invariant.proofs.Vacancy.{none_waits}
+use Rattle.scan_invariant.specs.frame_words.specs.declared.live_word.LiveWord.TheVariants as live_word
+use Rattle.scan_invariant.specs.frame_words.proofs.LiveLemmas as lives
+use Rattle.scan_invariant.specs.act_states.specs.declared.kills.KillingAt.TheVariants.{Close}
+use Rattle.scan_invariant.specs.act_states.specs.declared.comps.LastEpoch.{LastEpoch}
+use Rattle.scan_invariant.specs.count_invariant.proofs.MakingCounts.{blank_left}
+use Rattle.scan_invariant.specs.place_invariant.proofs.Vacancy.{none_waits}
 use Rattle.comp_invariant.proofs.LaterEvents.{IsSpent, spent_at, spent_now}
-use Rattle.kernel_history.specs.Graces.{GraceIs}
+use Rattle.scan_invariant.specs.kernel_history.specs.Graces.{GraceIs}
 
 -- A liveness number waits for no flush.
 number_awaits : (setup : Setting) (t : Trace) (l : ℕ) → awaits_flushes setup t (NumberOf l) ≡ false

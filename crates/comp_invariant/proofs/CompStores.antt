@@ -1,78 +1,52 @@
 -- The steps of the making of a component from its number on: the compare that marks it, the stores of the words, a compare of the target
 -- that is lost; and the store that gives the number's word back.
+use Rattle.scan_invariant.proofs.Common.{◌≡◌, ◌≤◌, Bool, true, false, Option, Some, None, refl, ℕ, ◌<◌, ◌^◌, arith, ◌≢◌, ◌+◌, sym, nat_lt}
+use Rattle.scan_invariant.proofs.Common.{◌&&◌, ◌∷◌, ◌++◌, ap, ◌∙◌, subst, IsTrue, inl, inr, ◌⊎◌, eqb-true, eqb-false, ltb-false, cases_eq}
+use Rattle.scan_invariant.proofs.Common.{eq-eqb, Setting, IsSetting, left_if, Reply, word_of_entry, same_same, left_of, Move, StoreOf}
+use Rattle.scan_invariant.proofs.Common.{CompareOf, EntryAt, FrameAt, LiveAt, put_same, rule_of, is_blank, Blank, Kernel, State, put}
+use Rattle.scan_invariant.proofs.Common.{Comp, PlaceOf, Live, Dead, same_word-other, last_left-here, last_left-there, own_read-there}
+use Rattle.scan_invariant.proofs.Common.{changes_in_frame, changes_numbers, IsSlot, marked_by, mark_in_frame, live_mark, stamp, Trace}
+use Rattle.scan_invariant.proofs.Common.{Open, phase, state_after, Step, last_left, own_pages, Unmark, StoreLive, Act, GoesOn, landed}
+use Rattle.scan_invariant.proofs.Common.{went_with, went, Core, ActiveCall, Undecided, Decided, names_on, counts_on, spot_on}
+use Rattle.scan_invariant.proofs.Common.{holds_counts, Holding, settled_by, settled, keeps, phase_at, KnowsUndecided, KnowsUnmark}
+use Rattle.scan_invariant.proofs.Common.{KnowsComp, KnowsCompAt, holds_at, holds_in, Invariant, done_by, holds, held_by, holds_comp}
+use Rattle.scan_invariant.proofs.Common.{IsFrameWord, count_room, comp_dues, comp_due_list, CompMakingFits, CompMaking, CompAt}
+use Rattle.scan_invariant.proofs.Common.{live_of_word, LiveFits, word_of_live, LiveWord, as_none, counts_bare, may_keep, unlent_word}
+use Rattle.scan_invariant.proofs.Common.{lent_elsewhere}
 use Rattle.std.specs.Prelude.{if◌then◌else◌, ◌==◌, ◌||◌}
-use Rattle.std.proofs.Common.{◌≡◌, ◌≤◌, Bool, true, false, Option, Some, None, refl, ℕ, ◌<◌, ◌^◌, arith}
-use Rattle.std.proofs.Common.{◌≢◌, ◌+◌, sym, nat_lt, ◌&&◌, ◌∷◌, ◌++◌, ap, ◌∙◌, subst, IsTrue, inl, inr, ◌⊎◌}
-use Rattle.std.proofs.lemmas.Bool.{eqb-true, eqb-false, ltb-false, cases_eq, eq-eqb}
-use Rattle.spk_nums.specs.Setting.{Setting, IsSetting}
-use Rattle.spk_nums.specs.WordSteps.{left_if}
-use Rattle.spk_nums.specs.declared.calls.Call.TheVariants.{Make as make_call}
-use Rattle.spk_nums.specs.declared.kinds.Obj.TheVariants as obj
-use Rattle.spk_nums.specs.declared.replies.Reply.{Reply}
-use Rattle.spk_nums.specs.declared.replies.Reply.TheVariants as reply
-use Rattle.entry_words.specs.EntryWord.{word_of_entry}
-use Rattle.entry_words.specs.declared.entry.Entry.TheVariants as entry
-use Rattle.frame_words.proofs.FrameLemmas as frames
-use Rattle.word_map.proofs.WordLemmas.{same_same}
-use Rattle.word_map.specs.Moves.{left_of, Move, StoreOf, CompareOf}
-use Rattle.word_map.specs.Word.{EntryAt, FrameAt, LiveAt}
-use Rattle.kernel_rules.proofs.Within.{put_same}
-use Rattle.kernel_rules.specs.CallRelation.{rule_of}
-use Rattle.kernel_rules.specs.CapabilityCalls.{is_blank}
-use Rattle.kernel_rules.specs.State.{Blank, Kernel, State, put, Comp, PlaceOf, Live, Dead}
-use Rattle.kernel_history.proofs.Names.{same_word-other}
-use Rattle.kernel_history.proofs.Steps.{last_left-here, last_left-there, own_read-there}
-use Rattle.kernel_history.specs.Discipline.{changes_in_frame, changes_numbers}
-use Rattle.kernel_history.specs.Justified.{IsSlot}
-use Rattle.kernel_history.specs.Marking.{marked_by}
-use Rattle.kernel_history.specs.Marks.{mark_in_frame, live_mark}
-use Rattle.kernel_history.specs.Stamps.{stamp}
-use Rattle.kernel_history.specs.Trace.{Trace, Open, phase, state_after, Step, last_left}
-use Rattle.call_plans.specs.GoesBy.{own_pages}
-use Rattle.plan_ways.proofs.Ways.{next_on_way}
-use Rattle.plan_ways.specs.Laws.{NextPlace}
-use Rattle.act_states.specs.declared.refusals.Refusal.TheVariants as refusal
-use Rattle.act_states.specs.declared.work.Act.TheVariants.{MakeComp as comp_act}
-use Rattle.act_states.specs.declared.work.Tail.TheVariants.{Unmark, StoreLive}
-use Rattle.act_states.specs.declared.work.Work.TheVariants.{Act}
-use Rattle.call_stages.specs.Steps.{GoesOn, landed, went_with, went}
-use Rattle.call_stages.specs.View.{Core}
-use Rattle.call_stages.specs.declared.stages.ActiveCall.{ActiveCall}
-use Rattle.call_stages.specs.declared.stages.Stage.TheVariants.{Undecided, Decided}
-use Rattle.kept_facts.proofs.Carries.{names_on, counts_on, spot_on, takes_on}
-use Rattle.step_ways.proofs.Counting as counting
-use Rattle.step_ways.proofs.Good.{spares_blank, spares_other}
-use Rattle.step_ways.proofs.Loads.{IsOfCall, core_in_call, inner, call_is}
-use Rattle.step_ways.proofs.Refusals.{GoodTook, ticks_at, raced_leaving}
-use Rattle.step_ways.proofs.Writes.{stores_on}
-use Rattle.core_invariant.specs.Holding.{holds_counts, Holding, settled_by, settled, keeps}
-use Rattle.core_invariant.specs.Knows.{phase_at, KnowsUndecided, KnowsUnmark, KnowsComp, KnowsCompAt}
-use Rattle.core_invariant.specs.Knows.{SaysBlank, MayTake, TakesNumber, HasWords, KnowsLive}
-use Rattle.core_invariant.specs.Invariant.{holds_at, holds_in, Invariant, done_by, holds, held_by, holds_comp}
-use Rattle.core_invariant.specs.Words.{IsFrameWord, count_room}
-use Rattle.count_invariant.proofs.Lookups.{near_way}
-use Rattle.count_invariant.proofs.MakingCounts.{blank_left}
-use Rattle.place_invariant.proofs.Fills.{target_way, changes_node}
-use Rattle.act_states.specs.Comps.{comp_dues, comp_due_list, comp_goes, CompAtFits, CompMakingFits}
-use Rattle.act_states.specs.Comps.{comp_word_at, comp_stored, closes_number, comp_published}
-use Rattle.act_states.specs.declared.comps.CompMaking.{CompMaking}
-use Rattle.act_states.specs.declared.comps.CompAt.{CompAt}
-use Rattle.act_states.specs.declared.comps.CompAt.TheVariants.{Close, Store, Fill}
-use Rattle.count_invariant.proofs.CompCounts.{IsCompCall, makes_comp_on, comp_changes, comp_argument}
-use Rattle.count_invariant.proofs.CompCounts.{number_near, comp_places, comp_numbers, comp_near}
+use Rattle.state_laws.specs.spk_nums.specs.declared.calls.Call.TheVariants.{Make as make_call}
+use Rattle.state_laws.specs.spk_nums.specs.declared.kinds.Obj.TheVariants as obj
+use Rattle.state_laws.specs.spk_nums.specs.declared.replies.Reply.TheVariants as reply
+use Rattle.scan_invariant.specs.entry_words.specs.declared.entry.Entry.TheVariants as entry
+use Rattle.scan_invariant.specs.frame_words.proofs.FrameLemmas as frames
+use Rattle.scan_invariant.specs.plan_ways.proofs.Ways.{next_on_way}
+use Rattle.scan_invariant.specs.plan_ways.specs.Laws.{NextPlace}
+use Rattle.scan_invariant.specs.act_states.specs.declared.refusals.Refusal.TheVariants as refusal
+use Rattle.scan_invariant.specs.act_states.specs.declared.work.Act.TheVariants.{MakeComp as comp_act}
+use Rattle.scan_invariant.specs.kept_facts.proofs.Carries.{takes_on}
+use Rattle.scan_invariant.specs.step_ways.proofs.Counting as counting
+use Rattle.scan_invariant.specs.step_ways.proofs.Good.{spares_blank, spares_other}
+use Rattle.scan_invariant.specs.step_ways.proofs.Loads.{IsOfCall, core_in_call, inner, call_is}
+use Rattle.scan_invariant.specs.step_ways.proofs.Refusals.{GoodTook, ticks_at, raced_leaving}
+use Rattle.scan_invariant.specs.step_ways.proofs.Writes.{stores_on}
+use Rattle.scan_invariant.specs.core_invariant.specs.Knows.{SaysBlank, MayTake, TakesNumber, HasWords, KnowsLive}
+use Rattle.scan_invariant.specs.count_invariant.proofs.Lookups.{near_way}
+use Rattle.scan_invariant.specs.count_invariant.proofs.MakingCounts.{blank_left}
+use Rattle.scan_invariant.specs.place_invariant.proofs.Fills.{target_way, changes_node}
+use Rattle.scan_invariant.specs.act_states.specs.Comps.{comp_goes, CompAtFits}
+use Rattle.scan_invariant.specs.act_states.specs.Comps.{comp_word_at, comp_stored, closes_number, comp_published}
+use Rattle.scan_invariant.specs.act_states.specs.declared.comps.CompAt.TheVariants.{Close, Store, Fill}
+use Rattle.scan_invariant.specs.count_invariant.proofs.CompCounts.{IsCompCall, makes_comp_on, comp_changes, comp_argument}
+use Rattle.scan_invariant.specs.count_invariant.proofs.CompCounts.{number_near, comp_places, comp_numbers, comp_near}
 use Rattle.comp_invariant.proofs.CompCalls as calls
-use Rattle.kernel_rules.specs.Rules as rules
-use Rattle.frame_words.specs.Live.{live_of_word, LiveFits, word_of_live}
-use Rattle.frame_words.specs.declared.live_word.LiveWord.{LiveWord}
-use Rattle.frame_words.specs.declared.live_word.LiveWord.TheVariants as live_word
-use Rattle.frame_words.proofs.LiveLemmas as lives
-use Rattle.act_states.specs.declared.comps.LastEpoch.{LastEpoch}
-use Rattle.frame_words.specs.Comp.{word_of_comp}
+use Rattle.state_laws.specs.kernel_rules.specs.Rules as rules
+use Rattle.scan_invariant.specs.frame_words.specs.declared.live_word.LiveWord.TheVariants as live_word
+use Rattle.scan_invariant.specs.frame_words.proofs.LiveLemmas as lives
+use Rattle.scan_invariant.specs.act_states.specs.declared.comps.LastEpoch.{LastEpoch}
+use Rattle.scan_invariant.specs.frame_words.specs.Comp.{word_of_comp}
 use Rattle.comp_invariant.proofs.CompNumbers.{no_number}
-use Rattle.frame_words.proofs.CompLemmas as comps
-use Rattle.spk_nums.specs.declared.calls.Make.TheVariants as make
-use Rattle.core_invariant.proofs.Bare.{as_none, counts_bare}
-use Rattle.kept_facts.proofs.Lent.{may_keep, unlent_word, lent_elsewhere}
+use Rattle.scan_invariant.specs.frame_words.proofs.CompLemmas as comps
+use Rattle.state_laws.specs.spk_nums.specs.declared.calls.Make.TheVariants as make
 
 none_some : (d : ℕ) → None ≡ Some d → ⊥
 none_some d h = cc

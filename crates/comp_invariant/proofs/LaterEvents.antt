@@ -1,22 +1,19 @@
 -- The events of a longer trace are those of the shorter one and later ones; so a liveness number that was dead at a moment of a call is
 -- past the epoch in which it died.
-use Rattle.std.proofs.Common.{◌≡◌, ◌≤◌, ◌<◌, ◌⊎◌, inl, inr, arith, ℕ, Bool, true, false, ◌&&◌, ◌==◌, List}
-use Rattle.std.proofs.Common.{[], ◌∷◌, ◌++◌, Option, Some, None, is_some, refl, sym, ◌∙◌, ap, subst}
-use Rattle.spk_nums.specs.Setting.{Setting, IsSetting}
-use Rattle.spk_nums.specs.declared.calls.Call.{Call}
-use Rattle.spk_nums.specs.declared.replies.Reply.{Reply}
-use Rattle.kernel_rules.specs.CapabilityCalls.{is_live, epoch_of}
-use Rattle.kernel_rules.specs.Ranges.{InRanges, NumberInRange}
-use Rattle.kernel_rules.specs.Runs.{Event, Enters, Decides, Returns, after, IsRun}
-use Rattle.kernel_rules.specs.State.{Liveness, Unused, Live, Dead, State}
-use Rattle.kernel_laws.proofs.RangesLaw.{ranges_hold}
-use Rattle.trace_laws.proofs.Carries.{IsDeadIn}
-use Rattle.kernel_history.proofs.Events.{state_is, run_of}
-use Rattle.kernel_history.specs.Events.{with_entry, with_decision, with_return, events_of}
-use Rattle.kernel_history.specs.Legal.{IsLegal}
-use Rattle.kernel_history.specs.Trace.{Trace, Step, Phase, Out, Open, Decided, phase, after_enter, state_after, WasAt, IfNot}
+use Rattle.scan_invariant.proofs.Common.{◌≡◌, ◌≤◌, ◌<◌, ◌⊎◌, inl, inr, arith, ℕ, Bool, true, false, ◌&&◌, ◌==◌, List, [], ◌∷◌, ◌++◌}
+use Rattle.scan_invariant.proofs.Common.{Option, Some, None, refl, sym, ◌∙◌, ap, subst, Setting, IsSetting, Call, Reply, epoch_of}
+use Rattle.scan_invariant.proofs.Common.{InRanges, after, IsRun, Liveness, Unused, Live, Dead, State, state_is, run_of, events_of}
+use Rattle.scan_invariant.proofs.Common.{IsLegal, Trace, Step, Phase, Out, Open, phase, after_enter, state_after, WasAt, limits_of}
+use Rattle.std.proofs.Common.{is_some}
+use Rattle.state_laws.specs.kernel_rules.specs.CapabilityCalls.{is_live}
+use Rattle.state_laws.specs.kernel_rules.specs.Ranges.{NumberInRange}
+use Rattle.state_laws.specs.kernel_rules.specs.Runs.{Event, Enters, Decides, Returns}
+use Rattle.state_laws.specs.kernel_laws.proofs.RangesLaw.{ranges_hold}
+use Rattle.scan_invariant.specs.trace_laws.proofs.Carries.{IsDeadIn}
+use Rattle.scan_invariant.specs.kernel_history.specs.Events.{with_entry, with_decision, with_return}
+use Rattle.scan_invariant.specs.kernel_history.specs.Trace.{Decided}
+use Rattle.scan_invariant.specs.kernel_history.specs.Trace.{IfNot}
 use Rattle.state_laws.proofs.Lives.{IsPast, past_stays}
-use Rattle.core_invariant.proofs.Sounds.{limits_of}
 
 -- The events of a longer trace are those of the shorter one, and later ones.
 pub record Later (more events : List Event) : Type 0 where

@@ -1,3 +1,5 @@
+-- The names that most proofs use.
+pub use Rattle.scan_invariant.proofs.Common
 -- Making a component.
 pub mod CompCalls
 pub mod CompMarks

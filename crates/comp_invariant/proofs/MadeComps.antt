@@ -1,124 +1,81 @@
 -- The decision of a call that makes a component: the compare of its target, where it is won, makes the frame the component, its number live
 -- for it, and puts its capability there.
-use Rattle.std.specs.Prelude.{if◌then◌else◌, pos, All, List, ◌==◌, ◌||◌}
-use Rattle.std.proofs.Common.{◌≡◌, Bool, true, false, Some, None, refl, ℕ, ◌<◌, ◌^◌, arith, ◌≢◌, ◌+◌, sym, ◌&&◌, []}
-use Rattle.std.proofs.Common.{◌∷◌, ap, ◌∙◌, subst, ◌≤◌, IsTrue, ◌⊎◌, inl, inr, max, map, ◌+ℤ◌, Option, ◌++◌, zero, suc}
-use Rattle.std.proofs.lemmas.List.Elements.{All-nil, All-cons, All-head, All-tail}
-use Rattle.std.proofs.lemmas.Bool.{ne_eqb, eqb-true, cases_eq, false≢true}
-use Rattle.spk_nums.specs.Capability.{Capability}
-use Rattle.spk_nums.specs.Setting.{Setting, IsSetting}
-use Rattle.spk_nums.specs.WordSteps.{left_if}
-use Rattle.spk_nums.specs.declared.kinds.Kind.{Kind}
-use Rattle.spk_nums.specs.declared.kinds.Kind.TheVariants as kind
-use Rattle.spk_nums.specs.declared.replies.Reply.TheVariants as reply
-use Rattle.spk_nums.specs.declared.replies.Value.TheVariants.{Nothing}
-use Rattle.entry_words.proofs.Spelling as entries
-use Rattle.entry_words.specs.EntryWord.{entry_of_word, EntryFits, word_of_entry}
-use Rattle.entry_words.specs.declared.entry.Entry.TheVariants.{Held}
-use Rattle.frame_words.proofs.FrameLemmas as frames
-use Rattle.frame_words.specs.Frame.{frame_of_word, word_of_frame}
-use Rattle.word_map.proofs.WordLemmas.{same_same}
-use Rattle.word_map.specs.Moves.{left_of, word_of, Move, CompareOf, told_of}
-use Rattle.word_map.specs.Word.{EntryAt, Word, same_word, ClockAt, FrameAt, CountAt, CoreAt, FlushAt, LiveAt}
-use Rattle.found_stays.proofs.Apart.{slot_is, place_here, place_there}
-use Rattle.kernel_invariant.proofs.Refs.{place_refs, frame_refs, number_refs}
-use Rattle.kernel_invariant.proofs.Sound.{IsSound}
-use Rattle.kernel_invariant.proofs.SoundRuns.{opened}
-use Rattle.found_stays.proofs.Stays.{comp_fit}
-use Rattle.kernel_invariant.proofs.Sums as sums
-use Rattle.kernel_rules.specs.Fitting.{fits as fits_kind}
-use Rattle.kernel_rules.proofs.Within.{put_same, put_other}
-use Rattle.kernel_history.specs.Events.{events_of}
-use Rattle.kernel_rules.specs.Access.{Slot, own}
-use Rattle.kernel_rules.specs.CallRelation.{rule_of, change_of, changed, counted, MayReply, begins_in, ends_by, flushes_by}
-use Rattle.kernel_rules.specs.CapabilityCalls.{is_live, epoch_of, makes_comp}
-use Rattle.kernel_rules.specs.Laws.{calls_counted}
-use Rattle.kernel_rules.specs.References.{refs, place_names, times, number_names, frame_names}
-use Rattle.kernel_rules.specs.Relies.{is_node}
-use Rattle.kernel_rules.specs.Rules.{Found, IsFoundAnd, first_of, waits_of, vacant}
-use Rattle.kernel_rules.specs.State.{Blank, Kernel, State, put, comp_of, thread_in, thread_of, first_of_stack}
-use Rattle.kernel_rules.specs.State.{Object, FrameOf, with_frame, Thing, NumberOf, comp_in, Holds, PlaceOf}
-use Rattle.kernel_rules.specs.State.{with_place, Live, Dead, Liveness, Comp, CompFields, with_number, Unused}
-use Rattle.trace_laws.proofs.AloneCalls.{ok_first}
-use Rattle.kernel_history.proofs.Inside.{decided-inside}
-use Rattle.kernel_history.proofs.Names.{cases_word, same_word-other}
-use Rattle.trace_laws.proofs.Stays.{sound_of}
-use Rattle.kernel_history.proofs.Steps.{last_left-there, stamp-kept}
-use Rattle.kernel_history.specs.Justified.{HasReached}
-use Rattle.kernel_history.specs.Marking.{marked_by}
-use Rattle.kernel_history.specs.Marks.{frame_mark, mark_of, entry_mark, mark_in_frame, live_mark}
-use Rattle.kernel_history.specs.ObjectWords.{frame_value}
-use Rattle.kernel_history.specs.Stamps.{stamp, ends_in, flushes_in, begins_in as begins_then}
-use Rattle.kernel_history.specs.Trace.{Trace, Open, phase, state_after, Step, last_left, state_decided_in}
-use Rattle.kernel_history.specs.Ways.{way_to, ways}
-use Rattle.call_plans.proofs.AfterNames.{before, leads_by}
-use Rattle.call_plans.specs.After.{LeadsIn}
-use Rattle.call_plans.specs.GoesBy.{own_pages}
-use Rattle.plan_ways.proofs.Ways.{all_ways}
-use Rattle.stage_look.specs.Shown.{CapNames}
-use Rattle.act_states.specs.Acts.{comp_cap, took_comp, took_comp_at}
-use Rattle.act_states.specs.declared.work.Due.{Due}
-use Rattle.act_states.specs.declared.work.Act.TheVariants.{MakeComp as comp_act}
-use Rattle.act_states.specs.declared.work.Tail.TheVariants.{StoreLive}
-use Rattle.act_states.specs.declared.work.Work.TheVariants.{Act}
-use Rattle.call_stages.specs.Steps.{landed}
-use Rattle.call_stages.specs.View.{Core}
-use Rattle.call_stages.specs.declared.stages.ActiveCall.{ActiveCall}
-use Rattle.call_stages.specs.declared.stages.Stage.{Stage}
-use Rattle.call_stages.specs.declared.stages.Stage.TheVariants.{Undecided, Decided}
-use Rattle.kept_facts.proofs.Calm.{calm_counted, plain_exit, counted_rises, BeginsNone, room_grows, counts, same_works, none_flush}
-use Rattle.kept_facts.proofs.Carries.{own_kept}
-use Rattle.kept_facts.proofs.CountSums.{counted_refs, times_here, times_there}
-use Rattle.step_ways.proofs.Good.{spares_node}
-use Rattle.step_ways.proofs.Loads.{next_at, IsOfCall, core_in_call, inner, call_is}
-use Rattle.step_ways.proofs.Places.{IsMarked, place_reads, IsUnmarked, node_mark}
-use Rattle.step_ways.proofs.Refusals.{GoodTook, not_spent}
-use Rattle.core_invariant.proofs.Sounds.{limits_of}
-use Rattle.kept_facts.proofs.WordFrames.{ReadsAlike, StaysSaid, word_stays, SameFor}
-use Rattle.step_ways.proofs.Writes.{same_marks, decides_writing}
-use Rattle.core_invariant.specs.CountWords.{IsWithin}
-use Rattle.core_invariant.specs.Holding.{holds_counts, settled_by, settled, keeps}
-use Rattle.core_invariant.specs.Knows.{AreDuesApart, HasFound, own_in, phase_at, due_of, KnowsUndecided}
-use Rattle.core_invariant.specs.Knows.{WorksIn, MayFill, KnowsComp, KnowsCompAt, MayTake, KnowsLive, untypes}
-use Rattle.core_invariant.specs.Invariant.{holds_at, holds_in, Invariant, holds, held_by, times_of, SumIs, counted_in, holds_comp}
-use Rattle.core_invariant.specs.Words.{PlaceIs, count_room, IsFrameWord, WordIs, NumberIs, IsCompWord}
-use Rattle.count_invariant.proofs.Findings.{found_named, own_is, way_gone}
-use Rattle.stage_pins.specs.Counts.{later}
-use Rattle.stage_pins.specs.Held.{stamp_of_change}
-use Rattle.count_invariant.proofs.CountChanges.{dues_commit, dues_sum}
-use Rattle.place_invariant.proofs.Fills.{node_word}
-use Rattle.place_invariant.proofs.Outside.{vacant_slot, vacant_here}
-use Rattle.place_invariant.proofs.Vacancy.{IsVacant, none_waits}
-use Rattle.spk_nums.specs.declared.kinds.Obj.TheVariants as obj
-use Rattle.entry_words.specs.declared.entry.Entry.TheVariants as entry
-use Rattle.act_states.specs.Comps.{comp_dues, comp_due_list, number_scanned, CompMakingFits, comp_published, component, comp_move, comp_at}
-use Rattle.act_states.specs.declared.comps.CompMaking.{CompMaking}
-use Rattle.act_states.specs.declared.comps.CompAt.{CompAt}
-use Rattle.act_states.specs.declared.comps.CompAt.TheVariants.{Load, Mark, LoadLive, Scan, Close, Store, Fill}
-use Rattle.act_states.specs.declared.refusals.Refusal.TheVariants as refusal
-use Rattle.step_ways.proofs.Counting as counting
-use Rattle.count_invariant.proofs.CompCounts.{IsCompCall, comp_changes, comp_argument, number_near, comp_numbers}
+use Rattle.scan_invariant.proofs.Common.{All, ◌≡◌, Bool, true, false, Some, None, refl, ℕ, ◌<◌, ◌^◌, arith, ◌≢◌, ◌+◌, sym, ◌&&◌, [], ◌∷◌}
+use Rattle.scan_invariant.proofs.Common.{ap, ◌∙◌, subst, ◌≤◌, IsTrue, ◌⊎◌, inl, inr, max, map, ◌+ℤ◌, Option, ◌++◌, zero, suc, All-nil}
+use Rattle.scan_invariant.proofs.Common.{All-cons, All-head, All-tail, ne_eqb, eqb-true, cases_eq, false≢true, Capability, Setting}
+use Rattle.scan_invariant.proofs.Common.{IsSetting, left_if, Kind, entry_of_word, EntryFits, word_of_entry, Held, frame_of_word}
+use Rattle.scan_invariant.proofs.Common.{word_of_frame, same_same, left_of, word_of, Move, CompareOf, told_of, EntryAt, Word, same_word}
+use Rattle.scan_invariant.proofs.Common.{ClockAt, FrameAt, CountAt, CoreAt, FlushAt, LiveAt, slot_is, place_here, place_there, frame_refs}
+use Rattle.scan_invariant.proofs.Common.{IsSound, opened, put_same, put_other, events_of, Slot, own, rule_of, change_of, changed, counted}
+use Rattle.scan_invariant.proofs.Common.{MayReply, begins_in, ends_by, flushes_by, epoch_of, makes_comp, calls_counted, refs, place_names}
+use Rattle.scan_invariant.proofs.Common.{times, frame_names, is_node, Found, IsFoundAnd, first_of, waits_of, vacant, Blank, Kernel, State}
+use Rattle.scan_invariant.proofs.Common.{put, comp_of, thread_in, thread_of, first_of_stack, Object, FrameOf, with_frame, Thing, NumberOf}
+use Rattle.scan_invariant.proofs.Common.{comp_in, Holds, PlaceOf, with_place, Live, Dead, Liveness, Comp, CompFields, Unused, ok_first}
+use Rattle.scan_invariant.proofs.Common.{decided-inside, cases_word, same_word-other, sound_of, last_left-there, stamp-kept, HasReached}
+use Rattle.scan_invariant.proofs.Common.{marked_by, frame_mark, mark_of, entry_mark, mark_in_frame, live_mark, frame_value, stamp}
+use Rattle.scan_invariant.proofs.Common.{ends_in, flushes_in, Trace, Open, phase, state_after, Step, last_left, state_decided_in, way_to}
+use Rattle.scan_invariant.proofs.Common.{ways, leads_by, LeadsIn, own_pages, CapNames, Due, StoreLive, Act, landed, Core, ActiveCall}
+use Rattle.scan_invariant.proofs.Common.{Stage, Undecided, Decided, calm_counted, plain_exit, counted_rises, BeginsNone, room_grows}
+use Rattle.scan_invariant.proofs.Common.{counts, own_kept, counted_refs, limits_of, ReadsAlike, StaysSaid, word_stays, SameFor, IsWithin}
+use Rattle.scan_invariant.proofs.Common.{holds_counts, settled_by, settled, keeps, AreDuesApart, HasFound, own_in, phase_at, due_of}
+use Rattle.scan_invariant.proofs.Common.{KnowsUndecided, WorksIn, MayFill, KnowsComp, KnowsCompAt, untypes, holds_at, holds_in, Invariant}
+use Rattle.scan_invariant.proofs.Common.{holds, held_by, times_of, SumIs, counted_in, holds_comp, PlaceIs, count_room, IsFrameWord}
+use Rattle.scan_invariant.proofs.Common.{WordIs, NumberIs, later, stamp_of_change, comp_dues, comp_due_list, CompMakingFits, CompMaking}
+use Rattle.scan_invariant.proofs.Common.{CompAt, Quiet, AtCore, AtFlush, quiet_end, quiet_after, quiet_move, live_of_word, LiveFits}
+use Rattle.scan_invariant.proofs.Common.{word_of_live, LiveWord, comp_of_word, cases_bool, IsLegal, counts_bare, may_keep, unlent_value}
+use Rattle.scan_invariant.proofs.Common.{unlent_word, node_keeps_none}
+use Rattle.std.specs.Prelude.{if◌then◌else◌, pos, List, ◌==◌, ◌||◌}
+use Rattle.state_laws.specs.spk_nums.specs.declared.kinds.Kind.TheVariants as kind
+use Rattle.state_laws.specs.spk_nums.specs.declared.replies.Reply.TheVariants as reply
+use Rattle.state_laws.specs.spk_nums.specs.declared.replies.Value.TheVariants.{Nothing}
+use Rattle.scan_invariant.specs.entry_words.proofs.Spelling as entries
+use Rattle.scan_invariant.specs.frame_words.proofs.FrameLemmas as frames
+use Rattle.state_laws.specs.kernel_invariant.proofs.Refs.{place_refs, number_refs}
+use Rattle.state_laws.specs.found_stays.proofs.Stays.{comp_fit}
+use Rattle.state_laws.specs.kernel_invariant.proofs.Sums as sums
+use Rattle.state_laws.specs.kernel_rules.specs.Fitting.{fits as fits_kind}
+use Rattle.state_laws.specs.kernel_rules.specs.CapabilityCalls.{is_live}
+use Rattle.state_laws.specs.kernel_rules.specs.References.{number_names}
+use Rattle.state_laws.specs.kernel_rules.specs.State.{with_number}
+use Rattle.scan_invariant.specs.kernel_history.specs.Stamps.{begins_in as begins_then}
+use Rattle.scan_invariant.specs.call_plans.proofs.AfterNames.{before}
+use Rattle.scan_invariant.specs.plan_ways.proofs.Ways.{all_ways}
+use Rattle.scan_invariant.specs.act_states.specs.Acts.{comp_cap, took_comp, took_comp_at}
+use Rattle.scan_invariant.specs.act_states.specs.declared.work.Act.TheVariants.{MakeComp as comp_act}
+use Rattle.scan_invariant.specs.kept_facts.proofs.Calm.{same_works, none_flush}
+use Rattle.scan_invariant.specs.kept_facts.proofs.CountSums.{times_here, times_there}
+use Rattle.scan_invariant.specs.step_ways.proofs.Good.{spares_node}
+use Rattle.scan_invariant.specs.step_ways.proofs.Loads.{next_at, IsOfCall, core_in_call, inner, call_is}
+use Rattle.scan_invariant.specs.step_ways.proofs.Places.{IsMarked, place_reads, IsUnmarked, node_mark}
+use Rattle.scan_invariant.specs.step_ways.proofs.Refusals.{GoodTook, not_spent}
+use Rattle.scan_invariant.specs.step_ways.proofs.Writes.{same_marks, decides_writing}
+use Rattle.scan_invariant.specs.core_invariant.specs.Knows.{MayTake, KnowsLive}
+use Rattle.scan_invariant.specs.core_invariant.specs.Words.{IsCompWord}
+use Rattle.scan_invariant.specs.count_invariant.proofs.Findings.{found_named, own_is, way_gone}
+use Rattle.scan_invariant.specs.count_invariant.proofs.CountChanges.{dues_commit, dues_sum}
+use Rattle.scan_invariant.specs.place_invariant.proofs.Fills.{node_word}
+use Rattle.scan_invariant.specs.place_invariant.proofs.Outside.{vacant_slot, vacant_here}
+use Rattle.scan_invariant.specs.place_invariant.proofs.Vacancy.{IsVacant, none_waits}
+use Rattle.state_laws.specs.spk_nums.specs.declared.kinds.Obj.TheVariants as obj
+use Rattle.scan_invariant.specs.entry_words.specs.declared.entry.Entry.TheVariants as entry
+use Rattle.scan_invariant.specs.act_states.specs.Comps.{number_scanned, comp_published}
+use Rattle.scan_invariant.specs.act_states.specs.Comps.{component, comp_move, comp_at}
+use Rattle.scan_invariant.specs.act_states.specs.declared.comps.CompAt.TheVariants.{Load, Mark, LoadLive, Scan, Close, Store, Fill}
+use Rattle.scan_invariant.specs.act_states.specs.declared.refusals.Refusal.TheVariants as refusal
+use Rattle.scan_invariant.specs.step_ways.proofs.Counting as counting
+use Rattle.scan_invariant.specs.count_invariant.proofs.CompCounts.{IsCompCall, comp_changes, comp_argument, number_near, comp_numbers}
 use Rattle.comp_invariant.proofs.CompCalls as calls
-use Rattle.kernel_rules.specs.Rules as rules
-use Rattle.stage_quiet.specs.declared.quiet.Quiet.{Quiet}
-use Rattle.stage_quiet.specs.declared.quiet.Quiet.TheVariants.{AtCore, AtFlush}
-use Rattle.stage_quiet.specs.Scan.{quiet_end, quiet_after, quiet_move}
-use Rattle.frame_words.specs.Live.{live_of_word, LiveFits, word_of_live}
-use Rattle.frame_words.specs.declared.live_word.LiveWord.{LiveWord}
-use Rattle.frame_words.specs.declared.live_word.LiveWord.TheVariants as live_word
-use Rattle.act_states.specs.declared.comps.LastEpoch.{LastEpoch}
-use Rattle.frame_words.specs.Comp.{CompFits, comp_of_word}
+use Rattle.state_laws.specs.kernel_rules.specs.Rules as rules
+use Rattle.scan_invariant.specs.frame_words.specs.declared.live_word.LiveWord.TheVariants as live_word
+use Rattle.scan_invariant.specs.act_states.specs.declared.comps.LastEpoch.{LastEpoch}
+use Rattle.scan_invariant.specs.frame_words.specs.Comp.{CompFits}
 use Rattle.comp_invariant.proofs.CompNumbers.{free_number, dead_number, load_live_good, scan_step_good}
-use Rattle.frame_words.proofs.CompLemmas as comps
-use Rattle.trace_laws.proofs.GraceSteps.{cases_bool}
-use Rattle.kernel_history.specs.Legal.{IsLegal}
+use Rattle.scan_invariant.specs.frame_words.proofs.CompLemmas as comps
 use Rattle.comp_invariant.proofs.UnusedNumbers.{unused_waits}
 use Rattle.comp_invariant.proofs.CompStores.{held_fill, at_fill, frame_marked, frame_stands, number_marked}
 use Rattle.comp_invariant.proofs.CompStores.{number_stands, put_of_call, put_lost, close_good, store_good}
 use Rattle.comp_invariant.proofs.CompMarks.{load_good, mark_good}
-use Rattle.frame_words.proofs.LiveLemmas as lives_words
-use Rattle.core_invariant.proofs.Bare.{counts_bare}
-use Rattle.kept_facts.proofs.Lent.{may_keep, unlent_value, unlent_word, node_keeps_none}
+use Rattle.scan_invariant.specs.frame_words.proofs.LiveLemmas as lives_words
 
 abbrev due_by : ℕ → ℕ → Due
 due_by f n = record { frame = f; change = pos n }

@@ -1,46 +1,31 @@
 -- No core waits for a liveness number that was never used: where its grace period begins, it dies, and it is never unused again.
-use Rattle.std.proofs.Common.{◌≡◌, ◌<◌, ◌≤◌, inl, inr, arith, ℕ, Bool, true, false, ◌==◌, ◌||◌}
-use Rattle.std.proofs.Common.{if◌then◌else◌, List, [], ◌∷◌, Option, Some, None, refl, sym, ◌∙◌, ap, subst}
-use Rattle.std.proofs.lemmas.Bool.{false≢true, cases_eq, ne_eqb}
-use Rattle.std.specs.List.{list_any}
+use Rattle.scan_invariant.proofs.Common.{◌≡◌, ◌<◌, ◌≤◌, inl, inr, arith, ℕ, Bool, true, false, ◌==◌, ◌||◌, if◌then◌else◌, List, [], ◌∷◌}
+use Rattle.scan_invariant.proofs.Common.{Option, Some, None, refl, sym, ◌∙◌, ap, subst, false≢true, cases_eq, ne_eqb, list_any, Setting}
+use Rattle.scan_invariant.proofs.Common.{IsSetting, FrameKind, Make, Call, Copy, Remove, Grow, Shrink, Retype, Map, Unmap, Touch, Flush}
+use Rattle.scan_invariant.proofs.Common.{Gate, Kill, Ret, Switch, Tick, Transfer, Delegate, Test, Translation, Value, Reply, Liveness}
+use Rattle.scan_invariant.proofs.Common.{Unused, Live, Dead, State, Thing, NumberOf, put, comp_in, comp_of, thread_in, thread_of, Holds}
+use Rattle.scan_invariant.proofs.Common.{Named, found, same_thing, InRanges, frame_names, place_names, Change, Judged, Refused, Found}
+use Rattle.scan_invariant.proofs.Common.{IsFoundAnd, frames_of, translation_of, rule_of, change_of, changed, state_by, begins, begins_in}
+use Rattle.scan_invariant.proofs.Common.{MayReply, put_same, state_is, run_of, cases_bool, open_inj, events_of, IsLegal, MayFollow}
+use Rattle.scan_invariant.proofs.Common.{MayDecide, begins_at, Trace, Step, Phase, Out, Open, phase, after_enter, state_after}
+use Rattle.scan_invariant.proofs.Common.{state_before, state_returned, state_decided}
 use Rattle.std.specs.Prelude.{take}
-use Rattle.spk_nums.specs.Setting.{Setting, IsSetting}
-use Rattle.spk_nums.specs.declared.kinds.FrameKind.{FrameKind}
-use Rattle.spk_nums.specs.declared.kinds.FrameKind.TheVariants as frame_kind
-use Rattle.spk_nums.specs.declared.calls.Make.{Make}
-use Rattle.spk_nums.specs.declared.calls.Make.TheVariants as make
-use Rattle.spk_nums.specs.declared.calls.Call.{Call}
-use Rattle.spk_nums.specs.declared.calls.Call.TheVariants.{Look, Copy, Remove, Grow, Shrink, Retype, Make as make_call}
-use Rattle.spk_nums.specs.declared.calls.Call.TheVariants.{Map, Unmap, Touch, Flush, Gate, Kill, Call as call_gate}
-use Rattle.spk_nums.specs.declared.calls.Call.TheVariants.{Ret, Switch, Tick, Transfer, Delegate, Test}
-use Rattle.spk_nums.specs.declared.translations.Translation.{Translation}
-use Rattle.spk_nums.specs.declared.replies.Value.{Value}
-use Rattle.spk_nums.specs.declared.replies.Reply.{Reply}
-use Rattle.spk_nums.specs.declared.replies.Reply.TheVariants as reply
-use Rattle.kernel_rules.specs.State.{Liveness, Unused, Live, Dead, State, Thing, NumberOf}
-use Rattle.kernel_rules.specs.State.{put, comp_in, comp_of, thread_in, thread_of, Holds}
-use Rattle.kernel_rules.specs.Access.{Named, found}
-use Rattle.kernel_rules.specs.GracePeriods.{same_thing}
-use Rattle.kernel_rules.specs.Ranges.{InRanges, NumberInRange}
-use Rattle.kernel_rules.specs.References.{number_names, frame_names, place_names}
-use Rattle.kernel_rules.specs.Rules.{Change, Judged, Refused, Found, IsFoundAnd, frames_of}
-use Rattle.kernel_rules.specs.CapabilityCalls.{make_rule}
-use Rattle.kernel_rules.specs.MemoryCalls.{retype_rule, touch_by, translation_of}
-use Rattle.kernel_rules.specs.InvocationCalls.{switch_to}
-use Rattle.kernel_rules.specs.CallRelation.{rule_of, change_of, changed, state_by, begins, begins_in, MayReply}
-use Rattle.kernel_rules.proofs.Changes.{IfFound}
-use Rattle.kernel_rules.proofs.Within.{put_same}
-use Rattle.kernel_invariant.proofs.Facts.{ChangesFrom, outcome_from}
-use Rattle.kernel_laws.proofs.RangesLaw.{ranges_hold}
-use Rattle.kernel_history.proofs.Events.{state_is, run_of}
-use Rattle.trace_laws.proofs.GraceSteps.{cases_bool}
-use Rattle.trace_laws.proofs.Opens.{open_inj}
-use Rattle.trace_laws.proofs.Waiting.{waits_falls}
-use Rattle.kernel_history.specs.Events.{events_of}
-use Rattle.kernel_history.specs.Legal.{IsLegal, MayFollow, MayDecide}
-use Rattle.kernel_history.specs.Stamps.{begins_at, begins_in as begins_then}
-use Rattle.kernel_history.specs.Trace.{Trace, Step, Phase, Out, Open, Decided, phase, after_enter}
-use Rattle.kernel_history.specs.Trace.{state_after, state_before, state_returned, state_decided}
+use Rattle.state_laws.specs.spk_nums.specs.declared.kinds.FrameKind.TheVariants as frame_kind
+use Rattle.state_laws.specs.spk_nums.specs.declared.calls.Make.TheVariants as make
+use Rattle.state_laws.specs.spk_nums.specs.declared.calls.Call.TheVariants.{Look, Make as make_call}
+use Rattle.state_laws.specs.spk_nums.specs.declared.calls.Call.TheVariants.{Call as call_gate}
+use Rattle.state_laws.specs.spk_nums.specs.declared.replies.Reply.TheVariants as reply
+use Rattle.state_laws.specs.kernel_rules.specs.Ranges.{NumberInRange}
+use Rattle.state_laws.specs.kernel_rules.specs.References.{number_names}
+use Rattle.state_laws.specs.kernel_rules.specs.CapabilityCalls.{make_rule}
+use Rattle.state_laws.specs.kernel_rules.specs.MemoryCalls.{retype_rule, touch_by}
+use Rattle.state_laws.specs.kernel_rules.specs.InvocationCalls.{switch_to}
+use Rattle.state_laws.specs.kernel_rules.proofs.Changes.{IfFound}
+use Rattle.state_laws.specs.kernel_invariant.proofs.Facts.{ChangesFrom, outcome_from}
+use Rattle.state_laws.specs.kernel_laws.proofs.RangesLaw.{ranges_hold}
+use Rattle.scan_invariant.specs.trace_laws.proofs.Waiting.{waits_falls}
+use Rattle.scan_invariant.specs.kernel_history.specs.Stamps.{begins_in as begins_then}
+use Rattle.scan_invariant.specs.kernel_history.specs.Trace.{Decided}
 use Rattle.state_laws.proofs.Lives.{IsPast}
 use Rattle.comp_invariant.proofs.LaterEvents.{past_on}
 

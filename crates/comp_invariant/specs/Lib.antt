@@ -1,0 +1,27 @@
+-- What the crates above name through this one.
+pub use Rattle.state_laws.specs.spk_nums
+pub use Rattle.scan_invariant.specs.entry_words
+pub use Rattle.scan_invariant.specs.frame_words
+pub use Rattle.scan_invariant.specs.word_map
+pub use Rattle.state_laws.specs.kernel_rules
+pub use Rattle.state_laws.specs.kernel_invariant
+pub use Rattle.state_laws.specs.found_stays
+pub use Rattle.state_laws.specs.kernel_laws
+pub use Rattle.state_laws
+pub use Rattle.scan_invariant.specs.kernel_history
+pub use Rattle.scan_invariant.specs.trace_laws
+pub use Rattle.scan_invariant.specs.call_plans
+pub use Rattle.scan_invariant.specs.stage_look
+pub use Rattle.scan_invariant.specs.stage_pins
+pub use Rattle.scan_invariant.specs.stage_quiet
+pub use Rattle.scan_invariant.specs.plan_ways
+pub use Rattle.scan_invariant.specs.act_states
+pub use Rattle.scan_invariant.specs.call_stages
+pub use Rattle.scan_invariant.specs.act_fits
+pub use Rattle.scan_invariant.specs.core_invariant
+pub use Rattle.scan_invariant.specs.kept_facts
+pub use Rattle.scan_invariant.specs.step_ways
+pub use Rattle.scan_invariant.specs.count_invariant
+pub use Rattle.scan_invariant.specs.place_invariant
+pub use Rattle.scan_invariant
+pub use Rattle.frame_invariant

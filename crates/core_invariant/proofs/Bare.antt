@@ -1,10 +1,10 @@
 -- What is kept without a mark: what the words settle to where a step leaves what is kept, or where no core keeps a word.
 use Rattle.std.proofs.Common.{◌≡◌, ◌≢◌, ◌<◌, ℕ, zero, suc, List, [], ◌∷◌, true, Option, Some, None, arith, refl, sym, ◌∙◌, ap, inl, inr}
 use Rattle.std.proofs.lemmas.Bool.{cases_eq}
-use Rattle.word_map.specs.Word.{Word, EntryAt, FrameAt, CountAt, CoreAt, FlushAt, LiveAt, ClockAt}
-use Rattle.kernel_rules.specs.State.{put}
-use Rattle.kernel_rules.proofs.Within.{put_same, put_other}
-use Rattle.stage_pins.specs.declared.held.Acquired.{Acquired}
+use Rattle.kernel_history.specs.word_map.specs.Word.{Word, EntryAt, FrameAt, CountAt, CoreAt, FlushAt, LiveAt, ClockAt}
+use Rattle.kernel_invariant.specs.kernel_rules.specs.State.{put}
+use Rattle.kernel_invariant.specs.kernel_rules.proofs.Within.{put_same, put_other}
+use Rattle.call_stages.specs.stage_pins.specs.declared.held.Acquired.{Acquired}
 use Rattle.call_stages.specs.View.{Core}
 use Rattle.core_invariant.specs.Holding.{Holding, holds_counts, kept_or, kept_below, bare_value}
 use Rattle.core_invariant.specs.Invariant.{holds, held_by}

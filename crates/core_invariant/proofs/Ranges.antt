@@ -1,9 +1,9 @@
 -- Counts within their range.
 use Rattle.std.proofs.Common.{◌≡◌, ℕ, ℤ, pos, negsuc, ◌+ℤ◌, ◌+◌, ◌^◌, ◌<◌, ◌≤◌, arith, refl}
 use Rattle.std.proofs.lemmas.Int.{ints}
-use Rattle.frame_words.specs.Count.{NumberFits}
-use Rattle.stage_pins.specs.Counts.{changed}
-use Rattle.stage_pins.proofs.PinLemmas.{in_field_same}
+use Rattle.kernel_history.specs.frame_words.specs.Count.{NumberFits}
+use Rattle.call_stages.specs.stage_pins.specs.Counts.{changed}
+use Rattle.call_stages.specs.stage_pins.proofs.PinLemmas.{in_field_same}
 use Rattle.core_invariant.specs.CountWords.{IsWithin}
 
 -- Integers within a bound.

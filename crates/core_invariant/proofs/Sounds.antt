@@ -1,7 +1,7 @@
 -- The limits of the state after a trace are those of the setup.
 use Rattle.std.proofs.Common.{◌≡◌, ◌∙◌, ap}
-use Rattle.spk_nums.specs.Setting.{Setting}
-use Rattle.kernel_rules.specs.Start.{start}
+use Rattle.kernel_invariant.specs.spk_nums.specs.Setting.{Setting}
+use Rattle.kernel_invariant.specs.kernel_rules.specs.Start.{start}
 use Rattle.kernel_invariant.proofs.SoundRuns.{limits_stay}
 use Rattle.kernel_history.specs.Trace.{Trace, state_after}
 use Rattle.kernel_history.specs.Events.{events_of}

@@ -1,20 +1,20 @@
 -- What a call knows of components, of the words of one that it has read, and of the stack of its core's thread.
 use Rattle.std.specs.Prelude.{◌≡◌, ℕ, List, [], ◌∷◌, drop, length, Option, Some, None, IsTrue}
-use Rattle.spk_nums.specs.Capability.{Capability}
-use Rattle.spk_nums.specs.declared.kinds.Kind.TheVariants.{Comp as comp_kind, Gate as gate_kind}
-use Rattle.spk_nums.specs.declared.calls.Call.{Call}
-use Rattle.spk_nums.specs.declared.calls.Call.TheVariants.{Call as call_gate, Ret}
-use Rattle.frame_words.specs.Comp.{CompFits}
-use Rattle.frame_words.specs.declared.comp_word.CompWord.{CompWord}
-use Rattle.kernel_rules.specs.State.{CompFields, State, first_of_stack, thread_of, comp_in}
-use Rattle.kernel_rules.specs.Fitting.{fits}
-use Rattle.kernel_rules.specs.Relies.{IsGuarded}
-use Rattle.act_states.specs.declared.invocations.Invoking.{Invoking}
-use Rattle.act_states.specs.declared.invocations.InvokingAt.{InvokingAt}
-use Rattle.act_states.specs.declared.invocations.InvokingAt.TheVariants as invoking
-use Rattle.act_states.specs.declared.invocations.Returning.{Returning}
-use Rattle.act_states.specs.declared.invocations.ReturningAt.{ReturningAt}
-use Rattle.act_states.specs.declared.invocations.ReturningAt.TheVariants as returning
+use Rattle.kernel_invariant.specs.spk_nums.specs.Capability.{Capability}
+use Rattle.kernel_invariant.specs.spk_nums.specs.declared.kinds.Kind.TheVariants.{Comp as comp_kind, Gate as gate_kind}
+use Rattle.kernel_invariant.specs.spk_nums.specs.declared.calls.Call.{Call}
+use Rattle.kernel_invariant.specs.spk_nums.specs.declared.calls.Call.TheVariants.{Call as call_gate, Ret}
+use Rattle.kernel_history.specs.frame_words.specs.Comp.{CompFits}
+use Rattle.kernel_history.specs.frame_words.specs.declared.comp_word.CompWord.{CompWord}
+use Rattle.kernel_invariant.specs.kernel_rules.specs.State.{CompFields, State, first_of_stack, thread_of, comp_in}
+use Rattle.kernel_invariant.specs.kernel_rules.specs.Fitting.{fits}
+use Rattle.kernel_invariant.specs.kernel_rules.specs.Relies.{IsGuarded}
+use Rattle.call_stages.specs.act_states.specs.declared.invocations.Invoking.{Invoking}
+use Rattle.call_stages.specs.act_states.specs.declared.invocations.InvokingAt.{InvokingAt}
+use Rattle.call_stages.specs.act_states.specs.declared.invocations.InvokingAt.TheVariants as invoking
+use Rattle.call_stages.specs.act_states.specs.declared.invocations.Returning.{Returning}
+use Rattle.call_stages.specs.act_states.specs.declared.invocations.ReturningAt.{ReturningAt}
+use Rattle.call_stages.specs.act_states.specs.declared.invocations.ReturningAt.TheVariants as returning
 
 -- A component that no other core may retype.
 pub record HasComp (s : State) (c f : ℕ) : Type 0 where

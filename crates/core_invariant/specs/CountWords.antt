@@ -1,6 +1,6 @@
 -- What the count words of a frame show together beside their counts, and integers within a bound.
 use Rattle.std.specs.Prelude.{ℕ, ℤ, pos, negsuc, ◌+◌, ◌≤◌, max, List, [], ◌∷◌, Option, Some, None}
-use Rattle.frame_words.specs.declared.count_word.CountWord.{CountWord}
+use Rattle.kernel_history.specs.frame_words.specs.declared.count_word.CountWord.{CountWord}
 
 -- The stamp of a count word, 0 for none.
 abbrev pub stamp_in : Option CountWord → ℕ

@@ -1,6 +1,6 @@
 -- What a core tells of its step, as the events of the step.
 use Rattle.std.specs.Prelude.{Option, Some, None}
-use Rattle.spk_nums.specs.declared.replies.Reply.{Reply}
+use Rattle.kernel_invariant.specs.spk_nums.specs.declared.replies.Reply.{Reply}
 use Rattle.call_stages.specs.declared.stages.Absorbed.{Absorbed}
 use Rattle.call_stages.specs.declared.stages.Absorbed.TheVariants.{Going, Decided, Returned}
 

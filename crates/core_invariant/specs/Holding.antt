@@ -3,18 +3,18 @@
 -- back, changes nothing that is said. A core may also keep a word that carries no mark, where it alone may store it: this settles to what
 -- the core has still to store there.
 use Rattle.std.specs.Prelude.{◌≡◌, ℕ, zero, suc, Bool, true, false, List, [], ◌∷◌, Option, Some, None, if◌then◌else◌, ◌==◌, ◌&&◌, nat_le}
-use Rattle.spk_nums.specs.Setting.{Setting}
-use Rattle.frame_words.specs.Count.{word_of_count}
-use Rattle.word_map.specs.Word.{Word, EntryAt, FrameAt, CountAt, CoreAt, FlushAt, LiveAt, ClockAt, same_word}
-use Rattle.word_map.specs.Places.{counter_of}
-use Rattle.spk_nums.specs.Capability.{Capability}
-use Rattle.entry_words.specs.EntryWord.{word_of_entry}
-use Rattle.entry_words.specs.declared.entry.Entry.TheVariants.{Held, Quiescing}
-use Rattle.stage_quiet.specs.declared.close.Close.{Close}
-use Rattle.stage_quiet.specs.declared.close.Close.TheVariants.{AtCompare, AtDraw, AtStore}
-use Rattle.stage_pins.specs.declared.held.Acquired.{Acquired}
-use Rattle.stage_pins.specs.Commit.{settled_word}
-use Rattle.stage_pins.specs.Held.{commit_of}
+use Rattle.kernel_invariant.specs.spk_nums.specs.Setting.{Setting}
+use Rattle.kernel_history.specs.frame_words.specs.Count.{word_of_count}
+use Rattle.kernel_history.specs.word_map.specs.Word.{Word, EntryAt, FrameAt, CountAt, CoreAt, FlushAt, LiveAt, ClockAt, same_word}
+use Rattle.kernel_history.specs.word_map.specs.Places.{counter_of}
+use Rattle.kernel_invariant.specs.spk_nums.specs.Capability.{Capability}
+use Rattle.kernel_history.specs.entry_words.specs.EntryWord.{word_of_entry}
+use Rattle.kernel_history.specs.entry_words.specs.declared.entry.Entry.TheVariants.{Held, Quiescing}
+use Rattle.call_stages.specs.stage_quiet.specs.declared.close.Close.{Close}
+use Rattle.call_stages.specs.stage_quiet.specs.declared.close.Close.TheVariants.{AtCompare, AtDraw, AtStore}
+use Rattle.call_stages.specs.stage_pins.specs.declared.held.Acquired.{Acquired}
+use Rattle.call_stages.specs.stage_pins.specs.Commit.{settled_word}
+use Rattle.call_stages.specs.stage_pins.specs.Held.{commit_of}
 use Rattle.kernel_history.specs.Marking.{marked_by}
 use Rattle.kernel_history.specs.Trace.{Trace, last_left}
 

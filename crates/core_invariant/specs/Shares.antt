@@ -1,32 +1,32 @@
 -- What a call on two temporal capabilities knows where it stands, and which steps on the words of a temporal capability it relies on.
 use Rattle.std.specs.Prelude.{◌≡◌, ◌≢◌, ◌⊎◌, ◌<◌, ◌≤◌, ◌==◌, ◌&&◌, not, ℕ, zero, suc, Bool, true, false, IsTrue}
 use Rattle.std.specs.Prelude.{IsSome, List, [], ◌∷◌, ◌^◌, ◌+◌, Option, Some, None, if◌then◌else◌, slice_get}
-use Rattle.spk_nums.specs.Setting.{Setting}
-use Rattle.spk_nums.specs.Capability.{Capability}
-use Rattle.spk_nums.specs.declared.kinds.Kind.TheVariants.{Tcap as tcap_kind}
-use Rattle.spk_nums.specs.declared.calls.Call.{Call}
-use Rattle.spk_nums.specs.declared.calls.Call.TheVariants as call_as
-use Rattle.tcap_words.specs.Head.{HeadFits, word_of_head, head_of_word}
-use Rattle.tcap_words.specs.Quality.{QualityFits, quality_of_word}
-use Rattle.tcap_words.specs.declared.head_word.HeadWord.{HeadWord}
-use Rattle.word_map.specs.Word.{Word, EntryAt, FrameAt, CountAt, CoreAt, FlushAt, LiveAt, ClockAt}
-use Rattle.word_map.specs.Moves.{word_of, left_of}
-use Rattle.kernel_rules.specs.State.{State}
-use Rattle.kernel_rules.specs.Fitting.{fits}
-use Rattle.kernel_rules.specs.Relies.{IsGuarded}
+use Rattle.kernel_invariant.specs.spk_nums.specs.Setting.{Setting}
+use Rattle.kernel_invariant.specs.spk_nums.specs.Capability.{Capability}
+use Rattle.kernel_invariant.specs.spk_nums.specs.declared.kinds.Kind.TheVariants.{Tcap as tcap_kind}
+use Rattle.kernel_invariant.specs.spk_nums.specs.declared.calls.Call.{Call}
+use Rattle.kernel_invariant.specs.spk_nums.specs.declared.calls.Call.TheVariants as call_as
+use Rattle.kernel_history.specs.tcap_words.specs.Head.{HeadFits, word_of_head, head_of_word}
+use Rattle.kernel_history.specs.tcap_words.specs.Quality.{QualityFits, quality_of_word}
+use Rattle.kernel_history.specs.tcap_words.specs.declared.head_word.HeadWord.{HeadWord}
+use Rattle.kernel_history.specs.word_map.specs.Word.{Word, EntryAt, FrameAt, CountAt, CoreAt, FlushAt, LiveAt, ClockAt}
+use Rattle.kernel_history.specs.word_map.specs.Moves.{word_of, left_of}
+use Rattle.kernel_invariant.specs.kernel_rules.specs.State.{State}
+use Rattle.kernel_invariant.specs.kernel_rules.specs.Fitting.{fits}
+use Rattle.kernel_invariant.specs.kernel_rules.specs.Relies.{IsGuarded}
 use Rattle.kernel_history.specs.Trace.{Step, Trace, state_after, last_left, own_read, WasAt}
 use Rattle.kernel_history.specs.Marking.{marked_by}
 use Rattle.kernel_history.specs.Discipline.{changes_budgets}
 use Rattle.kernel_history.specs.Footprint.{IsNearIn}
-use Rattle.stage_tcap.specs.Heads.{marked}
-use Rattle.stage_tcap.specs.Lists.{read_word, in_order}
-use Rattle.stage_tcap.specs.Pairs.{amount_of, whole_b, judged}
-use Rattle.stage_tcap.specs.declared.pair.Pair.{Pair}
-use Rattle.stage_tcap.specs.declared.pair.PairAt.{PairAt}
-use Rattle.stage_tcap.specs.declared.pair.PairAt.TheVariants.{LoadA, MarkA, ListA, LoadB, ListB, CompareB}
-use Rattle.stage_tcap.specs.declared.pair.PairAt.TheVariants.{AgainB, StoreList, StoreB, StoreA}
-use Rattle.stage_tcap.specs.declared.pair.PairWork.{PairWork}
-use Rattle.stage_tcap.specs.declared.pair.PairWork.TheVariants as share
+use Rattle.call_stages.specs.stage_tcap.specs.Heads.{marked}
+use Rattle.call_stages.specs.stage_tcap.specs.Lists.{read_word, in_order}
+use Rattle.call_stages.specs.stage_tcap.specs.Pairs.{amount_of, whole_b, judged}
+use Rattle.call_stages.specs.stage_tcap.specs.declared.pair.Pair.{Pair}
+use Rattle.call_stages.specs.stage_tcap.specs.declared.pair.PairAt.{PairAt}
+use Rattle.call_stages.specs.stage_tcap.specs.declared.pair.PairAt.TheVariants.{LoadA, MarkA, ListA, LoadB, ListB, CompareB}
+use Rattle.call_stages.specs.stage_tcap.specs.declared.pair.PairAt.TheVariants.{AgainB, StoreList, StoreB, StoreA}
+use Rattle.call_stages.specs.stage_tcap.specs.declared.pair.PairWork.{PairWork}
+use Rattle.call_stages.specs.stage_tcap.specs.declared.pair.PairWork.TheVariants as share
 
 -- Whether the list of the temporal capability in a frame was changed by a step since its head was changed last.
 abbrev pub turns_list : Word → Bool → ℕ → Bool → Bool

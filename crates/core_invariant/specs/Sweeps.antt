@@ -2,40 +2,40 @@
 -- frame, and of the object in it.
 use Rattle.std.specs.Prelude.{◌≡◌, ◌≢◌, ◌<◌, ◌≤◌, ◌&&◌, ◌==◌, nat_lt, nat_le, ℕ, pos, Bool, true, false}
 use Rattle.std.specs.Prelude.{All, List, [], ◌∷◌, ◌++◌, length, Option, Some, None, IsTrue, if◌then◌else◌}
-use Rattle.spk_nums.specs.Capability.{Capability}
-use Rattle.spk_nums.specs.Setting.{Setting}
-use Rattle.spk_nums.specs.declared.calls.Call.{Call}
-use Rattle.spk_nums.specs.declared.calls.Call.TheVariants.{Retype}
-use Rattle.spk_nums.specs.declared.kinds.FrameKind.TheVariants.{Untyped}
-use Rattle.frame_words.specs.Count.{CountFits, word_of_count}
-use Rattle.frame_words.specs.Frame.{frame_of_word}
-use Rattle.frame_words.specs.declared.count_word.CountWord.{CountWord}
-use Rattle.frame_words.specs.declared.frame_word.FrameWord.{FrameWord}
-use Rattle.word_map.specs.Word.{CountAt, FrameAt}
-use Rattle.kernel_rules.specs.State.{Frame, Kernel, Table, Leaf, Pages, Pleaf, Comp, Thread, Tcap, FrameOf, State}
-use Rattle.kernel_rules.specs.Access.{found, held_in}
-use Rattle.kernel_rules.specs.CapabilityCalls.{has_frame}
-use Rattle.kernel_rules.specs.References.{frame_names}
+use Rattle.kernel_invariant.specs.spk_nums.specs.Capability.{Capability}
+use Rattle.kernel_invariant.specs.spk_nums.specs.Setting.{Setting}
+use Rattle.kernel_invariant.specs.spk_nums.specs.declared.calls.Call.{Call}
+use Rattle.kernel_invariant.specs.spk_nums.specs.declared.calls.Call.TheVariants.{Retype}
+use Rattle.kernel_invariant.specs.spk_nums.specs.declared.kinds.FrameKind.TheVariants.{Untyped}
+use Rattle.kernel_history.specs.frame_words.specs.Count.{CountFits, word_of_count}
+use Rattle.kernel_history.specs.frame_words.specs.Frame.{frame_of_word}
+use Rattle.kernel_history.specs.frame_words.specs.declared.count_word.CountWord.{CountWord}
+use Rattle.kernel_history.specs.frame_words.specs.declared.frame_word.FrameWord.{FrameWord}
+use Rattle.kernel_history.specs.word_map.specs.Word.{CountAt, FrameAt}
+use Rattle.kernel_invariant.specs.kernel_rules.specs.State.{Frame, Kernel, Table, Leaf, Pages, Pleaf, Comp, Thread, Tcap, FrameOf, State}
+use Rattle.kernel_invariant.specs.kernel_rules.specs.Access.{found, held_in}
+use Rattle.kernel_invariant.specs.kernel_rules.specs.CapabilityCalls.{has_frame}
+use Rattle.kernel_invariant.specs.kernel_rules.specs.References.{frame_names}
 use Rattle.kernel_history.specs.Counts.{counters}
 use Rattle.kernel_history.specs.Discipline.{counts_references}
 use Rattle.kernel_history.specs.Stamps.{clock, stamp}
 use Rattle.kernel_history.specs.Trace.{Trace, state_after, own_read}
-use Rattle.stage_pins.specs.Counts.{unheld}
-use Rattle.stage_pins.specs.declared.held.Acquired.{Acquired}
-use Rattle.stage_quiet.specs.declared.quiet.Quiet.{Quiet}
-use Rattle.stage_quiet.specs.declared.quiet.Quiet.TheVariants.{AtCore, AtFlush}
-use Rattle.stage_sweep.specs.Counters.{sum_of_counts, latest_stamp}
-use Rattle.stage_sweep.specs.Emptiness.{loads_of, may_be_cached}
-use Rattle.stage_sweep.specs.declared.empty.Owned.{Owned}
-use Rattle.stage_sweep.specs.declared.sweep.Sweep.{Sweep}
-use Rattle.stage_sweep.specs.declared.sweep.SweepAt.{SweepAt}
-use Rattle.stage_sweep.specs.declared.sweep.SweepAt.TheVariants.{Load as sweep_load, Compare, Scan, Empty}
-use Rattle.stage_sweep.specs.declared.sweep.Swept.{Swept}
-use Rattle.stage_sweep.specs.declared.thaw.Thaw.{Thaw}
-use Rattle.act_states.specs.declared.untypings.Release.{Release}
-use Rattle.act_states.specs.declared.untypings.UntypingAt.{UntypingAt}
-use Rattle.act_states.specs.declared.untypings.UntypingAt.TheVariants.{Load, Mark, Sweep as sweep_at, Draw}
-use Rattle.act_states.specs.declared.untypings.Untyping.{Untyping}
+use Rattle.call_stages.specs.stage_pins.specs.Counts.{unheld}
+use Rattle.call_stages.specs.stage_pins.specs.declared.held.Acquired.{Acquired}
+use Rattle.call_stages.specs.stage_quiet.specs.declared.quiet.Quiet.{Quiet}
+use Rattle.call_stages.specs.stage_quiet.specs.declared.quiet.Quiet.TheVariants.{AtCore, AtFlush}
+use Rattle.call_stages.specs.stage_sweep.specs.Counters.{sum_of_counts, latest_stamp}
+use Rattle.call_stages.specs.stage_sweep.specs.Emptiness.{loads_of, may_be_cached}
+use Rattle.call_stages.specs.stage_sweep.specs.declared.empty.Owned.{Owned}
+use Rattle.call_stages.specs.stage_sweep.specs.declared.sweep.Sweep.{Sweep}
+use Rattle.call_stages.specs.stage_sweep.specs.declared.sweep.SweepAt.{SweepAt}
+use Rattle.call_stages.specs.stage_sweep.specs.declared.sweep.SweepAt.TheVariants.{Load as sweep_load, Compare, Scan, Empty}
+use Rattle.call_stages.specs.stage_sweep.specs.declared.sweep.Swept.{Swept}
+use Rattle.call_stages.specs.stage_sweep.specs.declared.thaw.Thaw.{Thaw}
+use Rattle.call_stages.specs.act_states.specs.declared.untypings.Release.{Release}
+use Rattle.call_stages.specs.act_states.specs.declared.untypings.UntypingAt.{UntypingAt}
+use Rattle.call_stages.specs.act_states.specs.declared.untypings.UntypingAt.TheVariants.{Load, Mark, Sweep as sweep_at, Draw}
+use Rattle.call_stages.specs.act_states.specs.declared.untypings.Untyping.{Untyping}
 
 -- The call makes this frame untyped, which the range has to which its name has led.
 pub record IsUntyped (f : ℕ) (m : Untyping) (has : Bool) : Type 0 where

@@ -1,26 +1,26 @@
 -- What a switch holds of the words of threads, and what it knows: the thread to which it goes on, the component at the top of its stack,
 -- and the thread that it leaves.
 use Rattle.std.specs.Prelude.{◌≡◌, ◌≢◌, ℕ, Bool, true, false, length, List, [], ◌∷◌, Some, IsTrue}
-use Rattle.spk_nums.specs.Capability.{Capability}
-use Rattle.spk_nums.specs.Setting.{Setting}
-use Rattle.spk_nums.specs.declared.calls.Call.{Call}
-use Rattle.spk_nums.specs.declared.calls.Call.TheVariants.{Switch}
-use Rattle.spk_nums.specs.declared.kinds.Kind.TheVariants as kind
-use Rattle.tcap_words.specs.Thread.{word_of_thread}
-use Rattle.tcap_words.specs.declared.thread_word.ThreadWord.TheVariants.{Idle, Running}
-use Rattle.stage_thread.specs.declared.claim.Claim.{Claim as ClaimOf}
-use Rattle.stage_thread.specs.declared.claim.Claim.TheVariants.{AtLoad, AtCompare, AtStack}
-use Rattle.stage_thread.specs.declared.claim.Claimed.{Claimed}
-use Rattle.word_map.specs.Word.{EntryAt}
-use Rattle.kernel_rules.specs.State.{State, comp_in, first_of_stack, thread_in, thread_of}
-use Rattle.kernel_rules.specs.Fitting.{fits}
-use Rattle.kernel_rules.specs.Relies.{IsGuarded}
+use Rattle.kernel_invariant.specs.spk_nums.specs.Capability.{Capability}
+use Rattle.kernel_invariant.specs.spk_nums.specs.Setting.{Setting}
+use Rattle.kernel_invariant.specs.spk_nums.specs.declared.calls.Call.{Call}
+use Rattle.kernel_invariant.specs.spk_nums.specs.declared.calls.Call.TheVariants.{Switch}
+use Rattle.kernel_invariant.specs.spk_nums.specs.declared.kinds.Kind.TheVariants as kind
+use Rattle.kernel_history.specs.tcap_words.specs.Thread.{word_of_thread}
+use Rattle.kernel_history.specs.tcap_words.specs.declared.thread_word.ThreadWord.TheVariants.{Idle, Running}
+use Rattle.call_stages.specs.stage_thread.specs.declared.claim.Claim.{Claim as ClaimOf}
+use Rattle.call_stages.specs.stage_thread.specs.declared.claim.Claim.TheVariants.{AtLoad, AtCompare, AtStack}
+use Rattle.call_stages.specs.stage_thread.specs.declared.claim.Claimed.{Claimed}
+use Rattle.kernel_history.specs.word_map.specs.Word.{EntryAt}
+use Rattle.kernel_invariant.specs.kernel_rules.specs.State.{State, comp_in, first_of_stack, thread_in, thread_of}
+use Rattle.kernel_invariant.specs.kernel_rules.specs.Fitting.{fits}
+use Rattle.kernel_invariant.specs.kernel_rules.specs.Relies.{IsGuarded}
 use Rattle.kernel_history.specs.Discipline.{changes_threads}
 use Rattle.kernel_history.specs.Footprint.{IsNearIn}
 use Rattle.kernel_history.specs.Trace.{Trace, WasAt, own_read, state_after}
-use Rattle.act_states.specs.declared.switches.Switching.{Switching}
-use Rattle.act_states.specs.declared.switches.SwitchAt.{SwitchAt}
-use Rattle.act_states.specs.declared.switches.SwitchAt.TheVariants.{Claim, LoadTable, LoadPages, Leave, Draw}
+use Rattle.call_stages.specs.act_states.specs.declared.switches.Switching.{Switching}
+use Rattle.call_stages.specs.act_states.specs.declared.switches.SwitchAt.{SwitchAt}
+use Rattle.call_stages.specs.act_states.specs.declared.switches.SwitchAt.TheVariants.{Claim, LoadTable, LoadPages, Leave, Draw}
 use Rattle.core_invariant.specs.Holding.{Holding, keeps}
 use Rattle.core_invariant.specs.Components.{HasComp}
 

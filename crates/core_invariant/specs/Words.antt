@@ -1,32 +1,32 @@
 -- What the settled words say of the state, kind by kind.
 use Rattle.std.specs.Prelude.{◌≡◌, ◌<◌, ◌≤◌, ℕ, zero, suc, ℤ, pos, ◌+◌, ◌*◌, length, slice_get, Option, Some, None}
-use Rattle.entry_words.specs.declared.entry.Entry.{Entry}
-use Rattle.entry_words.specs.declared.entry.Entry.TheVariants as entry
-use Rattle.entry_words.specs.EntryWord.{entry_of_word}
-use Rattle.frame_words.specs.Comp.{comp_of_word}
-use Rattle.frame_words.specs.Frame.{frame_of_word}
-use Rattle.frame_words.specs.Count.{count_of_word}
-use Rattle.frame_words.specs.Core.{core_of_word}
-use Rattle.frame_words.specs.Flush.{flush_of_word}
-use Rattle.frame_words.specs.Live.{live_of_word}
-use Rattle.frame_words.specs.declared.count_word.CountWord.{CountWord}
-use Rattle.frame_words.specs.declared.count_word.Hold.TheVariants.{Unheld}
-use Rattle.frame_words.specs.declared.live_word.LiveWord.{LiveWord}
-use Rattle.frame_words.specs.declared.live_word.LiveWord.TheVariants as live_word
-use Rattle.tcap_words.specs.Head.{head_of_word}
-use Rattle.tcap_words.specs.Quality.{quality_of_word}
-use Rattle.tcap_words.specs.Stack.{stack_of_word}
-use Rattle.tcap_words.specs.Thread.{thread_of_word}
-use Rattle.tcap_words.specs.declared.head_word.HeadWord.{HeadWord}
-use Rattle.word_map.specs.Word.{Word, EntryAt, FrameAt, CountAt, CoreAt, FlushAt, LiveAt, ClockAt}
-use Rattle.kernel_rules.specs.State.{Place, Free, Holds, Quiescing, CompFields, ThreadFields, TcapFields, Object}
-use Rattle.kernel_rules.specs.State.{Blank, Table, Leaf, Pages, Pleaf, Comp, Thread, Tcap, Frame, Untyped, User}
-use Rattle.kernel_rules.specs.State.{Kernel, Liveness, Unused, Live, Dead, Thing, PlaceOf, NumberOf, State}
-use Rattle.kernel_rules.specs.References.{sum_below, refs}
+use Rattle.kernel_history.specs.entry_words.specs.declared.entry.Entry.{Entry}
+use Rattle.kernel_history.specs.entry_words.specs.declared.entry.Entry.TheVariants as entry
+use Rattle.kernel_history.specs.entry_words.specs.EntryWord.{entry_of_word}
+use Rattle.kernel_history.specs.frame_words.specs.Comp.{comp_of_word}
+use Rattle.kernel_history.specs.frame_words.specs.Frame.{frame_of_word}
+use Rattle.kernel_history.specs.frame_words.specs.Count.{count_of_word}
+use Rattle.kernel_history.specs.frame_words.specs.Core.{core_of_word}
+use Rattle.kernel_history.specs.frame_words.specs.Flush.{flush_of_word}
+use Rattle.kernel_history.specs.frame_words.specs.Live.{live_of_word}
+use Rattle.kernel_history.specs.frame_words.specs.declared.count_word.CountWord.{CountWord}
+use Rattle.kernel_history.specs.frame_words.specs.declared.count_word.Hold.TheVariants.{Unheld}
+use Rattle.kernel_history.specs.frame_words.specs.declared.live_word.LiveWord.{LiveWord}
+use Rattle.kernel_history.specs.frame_words.specs.declared.live_word.LiveWord.TheVariants as live_word
+use Rattle.kernel_history.specs.tcap_words.specs.Head.{head_of_word}
+use Rattle.kernel_history.specs.tcap_words.specs.Quality.{quality_of_word}
+use Rattle.kernel_history.specs.tcap_words.specs.Stack.{stack_of_word}
+use Rattle.kernel_history.specs.tcap_words.specs.Thread.{thread_of_word}
+use Rattle.kernel_history.specs.tcap_words.specs.declared.head_word.HeadWord.{HeadWord}
+use Rattle.kernel_history.specs.word_map.specs.Word.{Word, EntryAt, FrameAt, CountAt, CoreAt, FlushAt, LiveAt, ClockAt}
+use Rattle.kernel_invariant.specs.kernel_rules.specs.State.{Place, Free, Holds, Quiescing, CompFields, ThreadFields, TcapFields, Object}
+use Rattle.kernel_invariant.specs.kernel_rules.specs.State.{Blank, Table, Leaf, Pages, Pleaf, Comp, Thread, Tcap, Frame, Untyped, User}
+use Rattle.kernel_invariant.specs.kernel_rules.specs.State.{Kernel, Liveness, Unused, Live, Dead, Thing, PlaceOf, NumberOf, State}
+use Rattle.kernel_invariant.specs.kernel_rules.specs.References.{sum_below, refs}
 use Rattle.kernel_history.specs.Counts.{counters, count_sum}
 use Rattle.core_invariant.specs.CountWords.{IsWithin, newest_of}
 use Rattle.kernel_history.specs.ObjectWords.{frame_value, thread_value, at_height}
-use Rattle.stage_look.specs.Shown.{CapNames}
+use Rattle.call_stages.specs.stage_look.specs.Shown.{CapNames}
 
 -- The stamps that words carry: that of the grace period of a thing, and those of a core's last exit and last flush.
 pub record Times : Type 0 where

@@ -9,28 +9,29 @@ use Rattle.spk_nums.specs.WordSteps as table
 use Rattle.word_map.specs.Word.{Word}
 use Rattle.word_map.specs.Places.{IsShape, place_of}
 use Rattle.word_map.specs.Moves.{word_of, op_of, left_of, told_of}
-use Rattle.kernel_rules.proofs.Within.{put_same, put_other}
-use Rattle.kernel_history.specs.BootWords.{shape_of, boot_word}
-use Rattle.kernel_history.specs.Trace.{Out, phase, last_left}
-use Rattle.kernel_history.proofs.Names.{cases_word}
-use Rattle.kernel_history.proofs.Steps.{last_left-here, last_left-there}
+use Rattle.boot_words.specs.kernel_rules.proofs.Within.{put_same, put_other}
+use Rattle.boot_words.specs.kernel_history.specs.BootWords.{shape_of, boot_word}
+use Rattle.boot_words.specs.kernel_history.specs.Trace.{Out, phase, last_left}
+use Rattle.boot_words.specs.kernel_history.proofs.Names.{cases_word}
+use Rattle.boot_words.specs.kernel_history.proofs.Steps.{last_left-here, last_left-there}
 use Rattle.turn_rule.specs.declared.view.Entry.{Entry}
 use Rattle.turn_rule.specs.declared.view.Start.{Start}
 use Rattle.turn_rule.specs.Trace.{called, MayCall, word_after, program_after, MayFollow, IsSound}
 use Rattle.turn_rule.proofs.Traces.{kept_along, word_here, word_elsewhere, program_here, program_elsewhere, core_inside}
-use Rattle.call_stages.specs.declared.stages.ActiveCall.{ActiveCall}
-use Rattle.call_stages.specs.View.{Core}
-use Rattle.call_stages.specs.Fits.{IsCore}
-use Rattle.flight.specs.Histories.{IsHistory}
-use Rattle.flight.specs.Made.{turned, MayStep, core_after, cores_after, IsMade, IsMadeStep}
-use Rattle.flight.specs.Phases.{IsWord}
-use Rattle.core_invariant.specs.Invariant.{Invariant}
-use Rattle.call_stages.specs.Cores.{started, move_of, absorbed}
-use Rattle.flight.proofs.ByPlace.{place_is, left_is, told_is, apart_places}
-use Rattle.flight.proofs.CoreFits.{begun_fits}
-use Rattle.flight.proofs.Made.{made_stands, made_histories}
-use Rattle.flight.proofs.Phases.{made_phases}
-use Rattle.flight.proofs.Spelling.{moves_are_words}
+use Rattle.call_steps.specs.call_stages.specs.declared.stages.ActiveCall.{ActiveCall}
+use Rattle.call_steps.specs.call_stages.specs.View.{Core}
+use Rattle.call_steps.specs.call_stages.specs.Fits.{IsCore}
+use Rattle.flight_laws.specs.Histories.{IsHistory}
+use Rattle.flight_laws.specs.flight.specs.Made.{turned, MayStep, core_after, cores_after, IsMade, IsMadeStep}
+use Rattle.flight_laws.specs.flight.specs.Phases.{IsWord}
+use Rattle.flight_laws.specs.core_invariant.specs.Invariant.{Invariant}
+use Rattle.call_steps.specs.call_stages.specs.Cores.{started, move_of, absorbed}
+use Rattle.flight_laws.specs.flight.proofs.ByPlace.{place_is, left_is, told_is, apart_places}
+use Rattle.flight_laws.specs.flight.proofs.CoreFits.{begun_fits}
+use Rattle.flight_laws.specs.flight.proofs.Made.{made_stands}
+use Rattle.flight_laws.proofs.Histories.{made_histories}
+use Rattle.flight_laws.specs.flight.proofs.Phases.{made_phases}
+use Rattle.flight_laws.specs.flight.proofs.Spelling.{moves_are_words}
 use Rattle.core_kernel.specs.declared.core_run.CoreRun.{CoreRun}
 use Rattle.core_kernel.specs.Running.{run_of, next_in, running}
 use Rattle.core_kernel.specs.Seen.{core_by, step_by, trace_of, IsStart}

@@ -6,9 +6,10 @@ use Rattle.std.proofs.lemmas.List.{length-append}
 use Rattle.spk_nums.specs.declared.calls.Call.{Call}
 use Rattle.spk_nums.specs.declared.replies.Reply.{Reply}
 use Rattle.spk_nums.specs.Setting.{Setting}
-use Rattle.kernel_history.specs.Trace.{Step, Trace, Phase, Out, Open, Decided, phase, after_enter, after_decide, after_return, calls_of}
-use Rattle.kernel_history.specs.Legal.{MayEnter, MayDecide, MayReturn, IsLegal}
-use Rattle.kernel_history.proofs.Steps.{phase-own, phase-other, calls_of-own, calls_of-other}
+use Rattle.boot_words.specs.kernel_history.specs.Trace.{Step, Trace, Phase, Out, Open, Decided, phase, after_enter, after_decide}
+use Rattle.boot_words.specs.kernel_history.specs.Trace.{after_return, calls_of}
+use Rattle.boot_words.specs.kernel_history.specs.Legal.{MayEnter, MayDecide, MayReturn, IsLegal}
+use Rattle.boot_words.specs.kernel_history.proofs.Steps.{phase-own, phase-other, calls_of-own, calls_of-other}
 use Rattle.core_kernel.specs.Replies.{replies_of, EndsWith}
 use Rattle.core_kernel.proofs.Lists.{replies_of-own, replies_of-other, calls_of-append, replies_of-append, same_last, one_of}
 

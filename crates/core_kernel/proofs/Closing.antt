@@ -13,25 +13,25 @@ use Rattle.spk_nums.specs.Setting.{Setting, IsSetting}
 use Rattle.word_map.specs.Word.{Word, ClockAt}
 use Rattle.word_map.specs.Places.{IsShape, IsIn, place_of, size_of, shared}
 use Rattle.word_map.proofs.PlaceLemmas.{has_places}
-use Rattle.kernel_history.specs.BootWords.{shape_of, boot_word}
-use Rattle.kernel_history.specs.FinalWords.{word_in, end_in, no_end}
-use Rattle.kernel_history.specs.Trace.{state_after, last_left}
+use Rattle.boot_words.specs.kernel_history.specs.BootWords.{shape_of, boot_word}
+use Rattle.boot_words.specs.kernel_history.specs.FinalWords.{word_in, end_in, no_end}
+use Rattle.boot_words.specs.kernel_history.specs.Trace.{state_after, last_left}
 use Rattle.turn_rule.specs.declared.view.Entry.{Entry}
 use Rattle.turn_rule.specs.declared.view.Start.{Start}
 use Rattle.turn_rule.specs.Trace.{program_after, IsSound, AreOfOthers}
 use Rattle.turn_rule.specs.Seats as turns
 use Rattle.turn_rule.specs.Seats.{TableValue, SeatValue}
 use Rattle.turn_rule.proofs.Traces.{program_stays}
-use Rattle.call_stages.specs.Cores.{started, end_of}
-use Rattle.flight.proofs.Alike.{like, like_counts}
-use Rattle.flight.proofs.Final.{represents, represents_counts}
-use Rattle.core_invariant.proofs.Sounds.{limits_of}
+use Rattle.call_steps.specs.call_stages.specs.Cores.{started, end_of}
+use Rattle.flight_laws.specs.flight.proofs.Alike.{like, like_counts}
+use Rattle.flight_laws.specs.flight.proofs.Final.{represents, represents_counts}
+use Rattle.flight_laws.specs.core_invariant.proofs.Sounds.{limits_of}
 use Rattle.core_kernel.specs.declared.core_run.CoreRun.{CoreRun}
 use Rattle.core_kernel.specs.Running.{run_of, running}
 use Rattle.core_kernel.specs.Seen.{IsStart, trace_of}
-use Rattle.flight.specs.Made.{cores_after}
-use Rattle.flight.proofs.Made.{made_stands}
-use Rattle.flight.proofs.Phases.{made_of_its_cores}
+use Rattle.flight_laws.specs.flight.specs.Made.{cores_after}
+use Rattle.flight_laws.specs.flight.proofs.Made.{made_stands}
+use Rattle.flight_laws.specs.flight.proofs.Phases.{made_of_its_cores}
 use Rattle.core_kernel.specs.Kernel.{CoreSeatValue, kernel_value, seat_value, IsBooted, IsSeat, AreAllSeats, AreFresh}
 use Rattle.core_kernel.specs.Turns.{ArePrograms, AreWrapped}
 use Rattle.core_kernel.specs.Calls.{ExtendsByOthers, EndsAt}

@@ -5,7 +5,7 @@ use Rattle.std.specs.Prelude.{IsTrue}
 use Rattle.std.proofs.lemmas.List.{length-append, take_more}
 use Rattle.spk_nums.specs.declared.calls.Call.{Call}
 use Rattle.spk_nums.specs.declared.replies.Reply.{Reply}
-use Rattle.kernel_history.specs.Trace.{Trace, calls_of}
+use Rattle.boot_words.specs.kernel_history.specs.Trace.{Trace, calls_of}
 use Rattle.core_kernel.specs.Replies.{replies_of}
 use Rattle.core_kernel.specs.Calls.{HasSeen, MakesCall}
 use Rattle.core_kernel.specs.Runs.{RunnerValue, HasMade, MakesCalls}

@@ -7,9 +7,9 @@ use Rattle.std.proofs.lemmas.List.{length-append}
 use Rattle.std.proofs.lemmas.List.Elements.{All-cons}
 use Rattle.spk_nums.specs.declared.calls.Call.{Call}
 use Rattle.spk_nums.specs.Setting.{Setting}
-use Rattle.kernel_history.specs.Legal.{IsLegal}
-use Rattle.kernel_history.specs.Trace.{Step, Trace, calls_of}
-use Rattle.kernel_history.proofs.Steps.{calls_of-own, calls_of-other}
+use Rattle.boot_words.specs.kernel_history.specs.Legal.{IsLegal}
+use Rattle.boot_words.specs.kernel_history.specs.Trace.{Step, Trace, calls_of}
+use Rattle.boot_words.specs.kernel_history.proofs.Steps.{calls_of-own, calls_of-other}
 use Rattle.turn_rule.specs.declared.view.Entry.{Entry}
 use Rattle.turn_rule.specs.Trace as table
 use Rattle.core_kernel.specs.Seen.{step_by, trace_of}

@@ -7,9 +7,9 @@ use Rattle.std.proofs.lemmas.List.Elements.{filter-append}
 use Rattle.spk_nums.specs.declared.replies.Decision.{Decision}
 use Rattle.spk_nums.specs.declared.replies.Reply.{Reply}
 use Rattle.spk_nums.specs.Setting.{Setting}
-use Rattle.kernel_history.specs.Legal.{IsLegal}
-use Rattle.kernel_history.specs.Text.{decisions_by}
-use Rattle.kernel_history.specs.Trace.{Trace, calls_of, decision_at, decisions_of}
+use Rattle.boot_words.specs.kernel_history.specs.Legal.{IsLegal}
+use Rattle.boot_words.specs.kernel_history.specs.Text.{decisions_by}
+use Rattle.boot_words.specs.kernel_history.specs.Trace.{Trace, calls_of, decision_at, decisions_of}
 use Rattle.core_kernel.specs.Replies.{replies_of}
 use Rattle.core_kernel.specs.Whole.{numbered}
 use Rattle.core_kernel.proofs.Balance.{one_more}

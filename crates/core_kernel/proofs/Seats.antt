@@ -8,7 +8,7 @@ use Rattle.std.proofs.lemmas.Option.{slice_get-map}
 use Rattle.spk_nums.specs.declared.calls.Call.{Call}
 use Rattle.spk_nums.specs.declared.replies.Reply.{Reply}
 use Rattle.spk_nums.specs.Setting.{Setting}
-use Rattle.kernel_history.specs.Trace.{state_after}
+use Rattle.boot_words.specs.kernel_history.specs.Trace.{state_after}
 use Rattle.turn_rule.specs.declared.view.Entry.{Entry}
 use Rattle.turn_rule.specs.Trace as table
 use Rattle.turn_rule.specs.Seats as turns
@@ -16,7 +16,7 @@ use Rattle.turn_rule.specs.Seats.{SeatValue, NoteValue, FollowsTrace}
 use Rattle.core_kernel.specs.declared.core_run.CoreRun.{CoreRun}
 use Rattle.core_kernel.specs.Running.{running}
 use Rattle.core_kernel.specs.Seen.{trace_of}
-use Rattle.flight.proofs.Made.{made_stands}
+use Rattle.flight_laws.specs.flight.proofs.Made.{made_stands}
 use Rattle.core_kernel.specs.Replies.{EndsWith}
 use Rattle.core_kernel.specs.Kernel.{IsBooted, IsSeat, seat_value, note_value}
 use Rattle.core_kernel.specs.Turns.{GoesOn}

@@ -5,21 +5,21 @@ use Rattle.spk_nums.specs.declared.calls.Call.{Call}
 use Rattle.spk_nums.specs.declared.replies.Reply.{Reply}
 use Rattle.spk_nums.specs.declared.steps.WordOp.{WordOp}
 use Rattle.spk_nums.specs.Setting.{Setting}
-use Rattle.kernel_history.specs.Trace.{Step, Trace, calls_of}
-use Rattle.kernel_history.proofs.Steps.{calls_of-own}
+use Rattle.boot_words.specs.kernel_history.specs.Trace.{Step, Trace, calls_of}
+use Rattle.boot_words.specs.kernel_history.proofs.Steps.{calls_of-own}
 use Rattle.turn_rule.specs.declared.view.Entry.{Entry}
 use Rattle.turn_rule.specs.declared.view.Start.{Start}
 use Rattle.spk_nums.specs.WordSteps as table
 use Rattle.turn_rule.specs.Trace.{entry, called, program_after, IsSound}
 use Rattle.turn_rule.proofs.Traces.{program_stays}
 use Rattle.turn_rule.specs.Seats.{SeatValue, MakesStep, FollowsTrace}
-use Rattle.call_stages.specs.View.{Core}
-use Rattle.call_stages.specs.Fits.{steps_left}
-use Rattle.core_invariant.specs.Events.{returned_in}
-use Rattle.call_stages.specs.Cores.{move_of, absorbed, told_of_step}
+use Rattle.call_steps.specs.call_stages.specs.View.{Core}
+use Rattle.call_steps.specs.call_stages.specs.Fits.{steps_left}
+use Rattle.flight_laws.specs.core_invariant.specs.Events.{returned_in}
+use Rattle.call_steps.specs.call_stages.specs.Cores.{move_of, absorbed, told_of_step}
 use Rattle.word_map.specs.Moves.{told_of}
-use Rattle.flight.proofs.AfterStep.{absorbed_returns}
-use Rattle.flight.proofs.CoreFits.{absorbed_fewer}
+use Rattle.flight_laws.specs.flight.proofs.AfterStep.{absorbed_returns}
+use Rattle.flight_laws.specs.flight.proofs.CoreFits.{absorbed_fewer}
 use Rattle.core_kernel.specs.declared.core_run.CoreRun.{CoreRun}
 use Rattle.core_kernel.specs.Running.{answered, running}
 use Rattle.core_kernel.specs.Seen.{core_by, step_by, trace_of}

@@ -14,12 +14,12 @@ use Rattle.spk_nums.specs.declared.calls.Call.{Call}
 use Rattle.spk_nums.specs.declared.replies.Reply.{Reply}
 use Rattle.spk_nums.specs.declared.replies.Decision.{Decision}
 use Rattle.spk_nums.specs.declared.translations.CoreEnd.{CoreEnd}
-use Rattle.kernel_history.specs.BootWords.{shape_of}
-use Rattle.kernel_history.specs.Order.{HasCalls, list_of}
-use Rattle.kernel_history.specs.Text.{decisions_by}
-use Rattle.kernel_history.specs.Counts.{RepresentCounts}
-use Rattle.kernel_history.specs.FinalWords.{Represent, word_in, end_in}
-use Rattle.kernel_history.specs.Trace.{Trace, calls_of, state_after}
+use Rattle.boot_words.specs.kernel_history.specs.BootWords.{shape_of}
+use Rattle.boot_words.specs.kernel_history.specs.Order.{HasCalls, list_of}
+use Rattle.boot_words.specs.kernel_history.specs.Text.{decisions_by}
+use Rattle.boot_words.specs.kernel_history.specs.Counts.{RepresentCounts}
+use Rattle.boot_words.specs.kernel_history.specs.FinalWords.{Represent, word_in, end_in}
+use Rattle.boot_words.specs.kernel_history.specs.Trace.{Trace, calls_of, state_after}
 use Rattle.core_kernel.specs.declared.whole.Ran.{Ran}
 use Rattle.core_kernel.specs.Replies.{replies_of}
 use Rattle.core_kernel.specs.Kernel.{KernelValue, CoreSeatValue, AreAllSeats, AreFresh}

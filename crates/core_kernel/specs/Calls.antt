@@ -4,11 +4,11 @@ use Rattle.spk_nums.specs.declared.calls.Call.{Call}
 use Rattle.spk_nums.specs.declared.replies.Reply.{Reply}
 use Rattle.spk_nums.specs.declared.translations.CoreEnd.{CoreEnd}
 use Rattle.word_map.specs.Places.{size_of}
-use Rattle.kernel_history.specs.BootWords.{shape_of}
-use Rattle.kernel_history.specs.Counts.{RepresentCounts}
-use Rattle.kernel_history.specs.FinalWords.{Represent, word_in, end_in}
-use Rattle.kernel_history.specs.Trace.{Trace, Out, phase, calls_of, state_after}
-use Rattle.flight.specs.Histories.{IsHistory}
+use Rattle.boot_words.specs.kernel_history.specs.BootWords.{shape_of}
+use Rattle.boot_words.specs.kernel_history.specs.Counts.{RepresentCounts}
+use Rattle.boot_words.specs.kernel_history.specs.FinalWords.{Represent, word_in, end_in}
+use Rattle.boot_words.specs.kernel_history.specs.Trace.{Trace, Out, phase, calls_of, state_after}
+use Rattle.flight_laws.specs.Histories.{IsHistory}
 use Rattle.core_kernel.specs.Replies.{replies_of, AreOfOthers, EndsWith}
 use Rattle.core_kernel.specs.Kernel.{KernelValue, CoreSeatValue, CoreNoteValue}
 

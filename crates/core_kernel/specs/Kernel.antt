@@ -2,7 +2,7 @@
 use Rattle.std.specs.Prelude.{◌≡◌, ℕ, List, [], length, slice_get, Some, None}
 use Rattle.spk_nums.specs.declared.calls.Call.{Call}
 use Rattle.spk_nums.specs.Setting.{Setting, IsSetting}
-use Rattle.kernel_history.specs.Trace.{Trace}
+use Rattle.boot_words.specs.kernel_history.specs.Trace.{Trace}
 use Rattle.turn_rule.specs.Seats.{TableValue, SeatValue, NoteValue, FollowsTrace}
 use Rattle.core_kernel.specs.declared.core_run.CoreRun.{CoreRun}
 use Rattle.core_kernel.specs.Running.{running}

@@ -7,10 +7,11 @@ use Rattle.spk_nums.specs.declared.steps.WordOp.{WordOp}
 use Rattle.word_map.specs.Places.{size_of}
 use Rattle.word_map.specs.Moves.{op_of}
 use Rattle.turn_rule.specs.Steps.{Steps}
-use Rattle.call_stages.specs.declared.stages.ActiveCall.{ActiveCall}
-use Rattle.call_stages.specs.View.{Core}
-use Rattle.call_stages.specs.Cores.{begun, move_of, absorbed, told_of_step}
-use Rattle.core_invariant.specs.Events.{returned_in}
+use Rattle.call_steps.specs.call_stages.specs.declared.stages.ActiveCall.{ActiveCall}
+use Rattle.call_steps.specs.call_stages.specs.View.{Core}
+use Rattle.call_steps.specs.call_stages.specs.Cores.{begun, move_of, absorbed, told_of_step}
+use Rattle.call_steps.specs.call_stages.specs.Fits.{steps_left}
+use Rattle.flight_laws.specs.core_invariant.specs.Events.{returned_in}
 use Rattle.core_kernel.specs.declared.core_run.CoreRun.{CoreRun}
 
 abbrev pub run_of : Core → Option Reply → CoreRun
@@ -34,4 +35,5 @@ running = record {
   fit = λ p call. InLimits call;
   begun = λ p call. run_of (begun p.state call) p.last;
   size = λ p. size_of p.state.own.layout;
+  left = λ p. steps_left p.state;
 }

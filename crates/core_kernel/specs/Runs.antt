@@ -3,7 +3,7 @@ use Rattle.std.specs.Prelude.{◌≡◌, ℕ, ◌≤◌, ◌<◌, ◌^◌, Bool,
 use Rattle.spk_nums.specs.CallLimits.{InLimits}
 use Rattle.spk_nums.specs.declared.calls.Call.{Call}
 use Rattle.spk_nums.specs.declared.replies.Reply.{Reply}
-use Rattle.kernel_history.specs.Trace.{Trace, calls_of}
+use Rattle.boot_words.specs.kernel_history.specs.Trace.{Trace, calls_of}
 use Rattle.core_kernel.specs.Replies.{replies_of}
 use Rattle.core_kernel.specs.Kernel.{KernelValue, CoreSeatValue}
 use Rattle.core_kernel.specs.Calls.{HasSeen}

@@ -5,14 +5,14 @@ use Rattle.spk_nums.specs.declared.calls.Call.{Call}
 use Rattle.spk_nums.specs.Setting.{Setting}
 use Rattle.word_map.specs.Word.{Word}
 use Rattle.word_map.specs.Places.{IsIn, size_of, shared}
-use Rattle.kernel_history.specs.BootWords.{shape_of, boot_word}
-use Rattle.kernel_history.specs.FinalWords.{word_in}
-use Rattle.kernel_history.specs.Trace.{Step, Trace}
+use Rattle.boot_words.specs.kernel_history.specs.BootWords.{shape_of, boot_word}
+use Rattle.boot_words.specs.kernel_history.specs.FinalWords.{word_in}
+use Rattle.boot_words.specs.kernel_history.specs.Trace.{Step, Trace}
 use Rattle.turn_rule.specs.declared.view.Entry.{Entry}
 use Rattle.turn_rule.specs.declared.view.Start.{Start}
-use Rattle.call_stages.specs.View.{Core}
-use Rattle.call_stages.specs.Cores.{started}
-use Rattle.flight.specs.Made.{turned, step_of, cores_after}
+use Rattle.call_steps.specs.call_stages.specs.View.{Core}
+use Rattle.call_steps.specs.call_stages.specs.Cores.{started}
+use Rattle.flight_laws.specs.flight.specs.Made.{turned, step_of, cores_after}
 use Rattle.core_kernel.specs.declared.core_run.CoreRun.{CoreRun}
 use Rattle.core_kernel.specs.Running.{run_of}
 

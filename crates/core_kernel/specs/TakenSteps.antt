@@ -2,10 +2,10 @@
 use Rattle.std.specs.Prelude.{◌≡◌, ℕ, List}
 use Rattle.spk_nums.specs.declared.calls.Call.{Call}
 use Rattle.spk_nums.specs.Setting.{Setting}
-use Rattle.kernel_history.specs.Order.{HasCalls}
-use Rattle.kernel_history.specs.Text.{text_by_cores}
-use Rattle.kernel_history.specs.Trace.{Trace}
-use Rattle.flight.specs.Histories.{IsHistory}
+use Rattle.boot_words.specs.kernel_history.specs.Order.{HasCalls}
+use Rattle.boot_words.specs.kernel_history.specs.Text.{text_by_cores}
+use Rattle.boot_words.specs.kernel_history.specs.Trace.{Trace}
+use Rattle.flight_laws.specs.Histories.{IsHistory}
 
 -- There is one trace that is a history of the machine and has the calls of the lists once and in order, and whose text, core by
 -- core, this is.

@@ -2,9 +2,9 @@
 use Rattle.std.specs.Prelude.{◌≡◌, ℕ, ◌<◌, List, ◌++◌, length, map, slice_get, All, Some, None, IsSomeAnd}
 use Rattle.spk_nums.specs.declared.calls.Call.{Call}
 use Rattle.spk_nums.specs.Setting.{Setting}
-use Rattle.kernel_history.specs.Trace.{Trace, calls_of}
+use Rattle.boot_words.specs.kernel_history.specs.Trace.{Trace, calls_of}
 use Rattle.turn_rule.specs.Seats.{SeatValue, FollowsTrace}
-use Rattle.call_stages.specs.Cores.{started}
+use Rattle.call_steps.specs.call_stages.specs.Cores.{started}
 use Rattle.core_kernel.specs.declared.core_run.CoreRun.{CoreRun}
 use Rattle.core_kernel.specs.Running.{running, run_of}
 use Rattle.core_kernel.specs.Seen.{trace_of}

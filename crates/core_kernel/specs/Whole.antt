@@ -7,14 +7,14 @@ use Rattle.spk_nums.specs.declared.replies.Reply.{Reply}
 use Rattle.spk_nums.specs.declared.replies.Decision.{Decision}
 use Rattle.spk_nums.specs.Setting.{Setting}
 use Rattle.word_map.specs.Places.{size_of}
-use Rattle.kernel_history.specs.BootWords.{shape_of}
-use Rattle.kernel_history.specs.Counts.{RepresentCounts}
-use Rattle.kernel_history.specs.FinalWords.{Represent, word_in, end_in}
-use Rattle.kernel_history.specs.Order.{HasCalls}
-use Rattle.kernel_history.specs.Text.{decisions_by}
-use Rattle.kernel_history.specs.Trace.{Trace, state_after}
+use Rattle.boot_words.specs.kernel_history.specs.BootWords.{shape_of}
+use Rattle.boot_words.specs.kernel_history.specs.Counts.{RepresentCounts}
+use Rattle.boot_words.specs.kernel_history.specs.FinalWords.{Represent, word_in, end_in}
+use Rattle.boot_words.specs.kernel_history.specs.Order.{HasCalls}
+use Rattle.boot_words.specs.kernel_history.specs.Text.{decisions_by}
+use Rattle.boot_words.specs.kernel_history.specs.Trace.{Trace, state_after}
 use Rattle.core_kernel.specs.declared.whole.Ran.{Ran}
-use Rattle.flight.specs.Histories.{IsHistory}
+use Rattle.flight_laws.specs.Histories.{IsHistory}
 use Rattle.core_kernel.specs.Kernel.{CoreSeatValue}
 use Rattle.core_kernel.specs.Runs.{RunnerValue}
 

@@ -1,7 +1,7 @@
 //! The program that a core runs at the shared table.
 
 ghost use Rattle.std.specs.Prelude.{◌≡◌, ◌<◌, None};
-ghost use Rattle.call_stages.specs.Cores.{started};
+ghost use Rattle.call_steps.specs.call_stages.specs.Cores.{started};
 ghost use Rattle.core_kernel.specs.Running.{run_of};
 
 use call_steps::{Absorbed, CoreState};

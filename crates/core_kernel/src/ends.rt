@@ -2,8 +2,8 @@
 
 ghost use Rattle.std.specs.Prelude.{◌≡◌, IfOk, All, map, None};
 ghost use Rattle.spk_nums.specs.Setting.{IsSetting};
-ghost use Rattle.kernel_history.specs.BootWords.{shape_of};
-ghost use Rattle.call_stages.specs.Cores.{end_of};
+ghost use Rattle.boot_words.specs.kernel_history.specs.BootWords.{shape_of};
+ghost use Rattle.call_steps.specs.call_stages.specs.Cores.{end_of};
 ghost use Rattle.core_kernel.specs.Kernel.{AreAllSeats, AreFresh, IsSeat, seat_value};
 ghost use Rattle.core_kernel.specs.Calls.{EndsAt};
 ghost use Rattle.core_kernel.specs.Turns.{ArePrograms, AreWrapped};

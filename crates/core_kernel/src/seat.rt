@@ -1,7 +1,7 @@
 //! The handle with which a core makes its calls, and the note of what it has seen.
 
 ghost use Rattle.std.specs.Prelude.{◌≡◌};
-ghost use Rattle.kernel_history.specs.Trace.{state_after};
+ghost use Rattle.boot_words.specs.kernel_history.specs.Trace.{state_after};
 ghost use Rattle.core_kernel.specs.Calls.{HasSeen};
 
 use crate::core_run::CoreRun;

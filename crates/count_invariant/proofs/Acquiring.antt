@@ -1,114 +1,79 @@
 -- A step by which a call acquires a count that its act changes is good: the count is held by another core, is lost to another core, or
 -- is acquired; and so is the step by which a decided call commits it.
-use Rattle.kept_facts.proofs.Lent.{lent_elsewhere}
+use Rattle.step_ways.proofs.Common.{lent_elsewhere, claimed_by, Held, word_of_entry, CompAt, KillingAt, LoadComp, LoadLive, Mark, Store}
+use Rattle.step_ways.proofs.Common.{MakingAt, ◌≡◌, ◌≢◌, ℕ, suc, ℤ, pos, negsuc, ◌+◌, ◌++◌, ◌==◌, ◌^◌, ◌<◌, ◌≤◌, map, slice_get, length}
+use Rattle.step_ways.proofs.Common.{Bool, true, false, if◌then◌else◌, nat_le, cond, List, [], ◌∷◌, Option, Some, None, IsTrue, inl, inr}
+use Rattle.step_ways.proofs.Common.{arith, refl, sym, ◌∙◌, ap, subst, not, All, is_some, false≢true, eq-eqb, eqb-true, eqb-false, All-nil}
+use Rattle.step_ways.proofs.Common.{All-cons, All-head, All-tail, All-append, Setting, IsSetting, Capability, Call, Remove, Shrink, Unmap}
+use Rattle.step_ways.proofs.Common.{Copy, Retype, Touch, Flush, Tick, Kill, Reply, CountFits, word_of_count, count_of_word, CountWord}
+use Rattle.step_ways.proofs.Common.{left_if, Word, EntryAt, CountAt, ClockAt, FrameAt, LiveAt, same_word, counter_of, Move, LoadOf}
+use Rattle.step_ways.proofs.Common.{CompareOf, StoreOf, word_of, left_of, Place, Holds, PlaceOf, State, put, named_by, put_same}
+use Rattle.step_ways.proofs.Common.{count_mark, marked_by, counts_references, changes_places, raises_clock, IsNearIn, frame_at_slot}
+use Rattle.step_ways.proofs.Common.{frame_argument, frames_named, is_one_of, frames_near, capability_in, target_of, rule_of, usable_in}
+use Rattle.step_ways.proofs.Common.{Close, AtDraw, AtStore, Step, Trace, Open, phase, state_after, last_left, own_read, was_now}
+use Rattle.step_ways.proofs.Common.{same_word-other, cases_word, own_read-here, own_read-there, last_left-here, last_left-there, unheld}
+use Rattle.step_ways.proofs.Common.{Pin, AtLoad, Acquired, plan_for, Leads, LeadsIn, Plan, leads_by, GoesBy, own_pages, calls_go, Due}
+use Rattle.step_ways.proofs.Common.{Outside, Nothing, Acquire, Undecided, Decided, ActiveCall, Goes, dues, next_work, removes_by, undo}
+use Rattle.step_ways.proofs.Common.{CountsAt, HasRoom, StageFits, GoesOn, landed, went_with, Core, UntypingAt, Holding, count_of}
+use Rattle.step_ways.proofs.Common.{committed, holds_counts, AreApart, settled_by, settled, keeps, SaysCount, count_room, AreDuesApart}
+use Rattle.step_ways.proofs.Common.{own_in, HasFound, NamesAre, due_of, KnowsAct, KnowsWork, KnowsUndecided, IsCount, phase_at, KnowsTail}
+use Rattle.step_ways.proofs.Common.{goes_on, untypes, done_by, holds_act, holds_work, holds_at, holds_in, holds, held_by, Invariant}
+use Rattle.step_ways.proofs.Common.{holds_tail, holds_making, holds_killing, holds_comp, names_on, counts_on}
 use Rattle.count_invariant.proofs.SwitchCounts.{switch_of, switch_counts, switch_due_near, switch_left}
-use Rattle.core_invariant.specs.Threads.{claimed_by}
 use Rattle.count_invariant.proofs.StackCounts.{invoke_counts, invoke_near, invoking_due, returning_due, top_near}
 use Rattle.count_invariant.proofs.ActBares.{acquired_bares, committed_bares}
-use Rattle.entry_words.specs.declared.entry.Entry.TheVariants.{Held}
-use Rattle.entry_words.specs.EntryWord.{word_of_entry}
-use Rattle.act_states.specs.Comps.{comp_undo, comp_meets_number}
+use Rattle.act_fits.specs.act_states.specs.Comps.{comp_undo, comp_meets_number}
 use Rattle.count_invariant.proofs.ActHolds.{SparesSwept, undo_holds, act_count, act_over}
 use Rattle.count_invariant.proofs.CompCounts.{comp_call, comp_counts, comp_due_near, comp_left}
-use Rattle.act_states.specs.Makings.{undo_at}
-use Rattle.act_states.specs.declared.comps.CompAt.{CompAt}
-use Rattle.act_states.specs.declared.comps.CompAt.TheVariants as comp_at
-use Rattle.act_states.specs.Kills.{is_killing}
-use Rattle.act_states.specs.declared.kills.KillingAt.{KillingAt}
-use Rattle.act_states.specs.declared.kills.KillingAt.TheVariants.{LoadComp, LoadLive, Close as kill_close, Draw as kill_draw}
-use Rattle.act_states.specs.declared.makings.MakingAt.TheVariants.{Load as making_load, Mark, Store, Fill as making_fill}
-use Rattle.act_states.specs.declared.makings.MakingAt.{MakingAt}
-use Rattle.std.proofs.Common.{◌≡◌, ◌≢◌, ℕ, suc, ℤ, pos, negsuc, ◌+◌, ◌++◌, ◌==◌, ◌^◌, ◌<◌, ◌≤◌, map, slice_get}
-use Rattle.std.proofs.Common.{length, length-append, Bool, true, false, if◌then◌else◌, nat_le, cond, List, [], ◌∷◌}
-use Rattle.std.proofs.Common.{Option, Some, None, IsTrue, inl, inr, arith, refl, sym, ◌∙◌, ap, subst, lt-ltb, not}
-use Rattle.std.specs.Prelude.{All, is_some}
-use Rattle.std.proofs.lemmas.Bool.{false≢true, eq-eqb, eqb-true, eqb-false}
-use Rattle.std.proofs.lemmas.List.Elements.{All-nil, All-cons, All-head, All-tail, All-append}
-use Rattle.spk_nums.specs.Setting.{Setting, IsSetting}
-use Rattle.spk_nums.specs.Capability.{Capability}
-use Rattle.spk_nums.specs.declared.calls.Call.{Call}
-use Rattle.spk_nums.specs.declared.calls.Call.TheVariants.{Remove, Shrink, Unmap, Look, Copy, Retype}
-use Rattle.spk_nums.specs.declared.calls.Call.TheVariants.{Make as make_call, Touch, Flush, Tick, Kill}
-use Rattle.spk_nums.specs.declared.replies.Reply.{Reply}
-use Rattle.spk_nums.specs.declared.replies.Reply.TheVariants as reply
-use Rattle.frame_words.specs.Count.{CountFits, word_of_count, count_of_word}
-use Rattle.frame_words.specs.declared.count_word.CountWord.{CountWord}
-use Rattle.frame_words.specs.declared.count_word.Hold.{Hold}
-use Rattle.frame_words.specs.declared.count_word.Hold.TheVariants as hold
-use Rattle.frame_words.proofs.CountLemmas as counts
-use Rattle.spk_nums.specs.WordSteps.{left_if}
-use Rattle.word_map.specs.Word.{Word, EntryAt, CountAt, ClockAt, FrameAt, LiveAt, same_word}
-use Rattle.word_map.specs.Places.{counter_of}
-use Rattle.word_map.specs.Moves.{Move, LoadOf, CompareOf, StoreOf, word_of, left_of}
-use Rattle.kernel_rules.specs.State.{Place, Free as Vacant, Holds, Quiescing as Removed, PlaceOf, State, put}
-use Rattle.kernel_rules.specs.References.{named_by}
-use Rattle.kernel_rules.proofs.Within.{put_same}
-use Rattle.kernel_history.specs.Marks.{count_mark}
-use Rattle.kernel_history.specs.Marking.{marked_by}
-use Rattle.kernel_history.specs.Discipline.{counts_references, changes_places, raises_clock}
-use Rattle.kernel_history.specs.Footprint.{IsNearIn, frame_of_cap, frame_at_slot, frame_argument, frames_named, is_one_of, frames_near}
-use Rattle.kernel_history.specs.Ways.{capability_in, target_of}
-use Rattle.kernel_rules.specs.CallRelation.{rule_of}
-use Rattle.kernel_rules.specs.Access.{usable_in}
-use Rattle.stage_quiet.specs.declared.close.Close.{Close}
-use Rattle.stage_quiet.specs.declared.close.Close.TheVariants.{AtCompare as close_compare, AtDraw, AtStore}
-use Rattle.kernel_history.specs.Trace.{Step, Trace, Open, phase, state_after, last_left, own_read}
-use Rattle.trace_laws.proofs.Carries.{was_now}
-use Rattle.kernel_history.proofs.Names.{same_word-other, cases_word}
-use Rattle.kernel_history.proofs.Steps.{own_read-here, own_read-there, last_left-here, last_left-there}
-use Rattle.stage_pins.specs.Counts.{unheld, acquired}
-use Rattle.stage_pins.specs.Acquire.{load_end, pinned_at, compare_end, pin_move, pin_end, pin_after, after_load}
-use Rattle.stage_pins.specs.Commit.{settled_word}
-use Rattle.stage_pins.specs.Held.{commit_of}
-use Rattle.stage_pins.specs.declared.pin.Pin.{Pin}
-use Rattle.stage_pins.specs.declared.pin.Pin.TheVariants.{AtLoad, AtCompare}
-use Rattle.stage_pins.specs.declared.held.Acquired.{Acquired}
-use Rattle.stage_pins.proofs.PinLemmas.{changed_none}
-use Rattle.call_plans.specs.PlanOf.{plan_for}
-use Rattle.call_plans.specs.After.{Leads, LeadsIn}
-use Rattle.call_plans.specs.declared.plans.Plan.{Plan}
-use Rattle.call_plans.proofs.AfterNames.{leads_by}
+use Rattle.act_fits.specs.act_states.specs.Makings.{undo_at}
+use Rattle.act_fits.specs.act_states.specs.declared.comps.CompAt.TheVariants as comp_at
+use Rattle.act_fits.specs.act_states.specs.Kills.{is_killing}
+use Rattle.act_fits.specs.act_states.specs.declared.kills.KillingAt.TheVariants.{Close as kill_close, Draw as kill_draw}
+use Rattle.act_fits.specs.act_states.specs.declared.makings.MakingAt.TheVariants.{Load as making_load, Fill as making_fill}
+use Rattle.std.proofs.Common.{length-append}
+use Rattle.std.proofs.Common.{lt-ltb}
+use Rattle.plan_ways.specs.spk_nums.specs.declared.calls.Call.TheVariants.{Look}
+use Rattle.plan_ways.specs.spk_nums.specs.declared.calls.Call.TheVariants.{Make as make_call}
+use Rattle.plan_ways.specs.spk_nums.specs.declared.replies.Reply.TheVariants as reply
+use Rattle.plan_ways.specs.frame_words.specs.declared.count_word.Hold.{Hold}
+use Rattle.plan_ways.specs.frame_words.specs.declared.count_word.Hold.TheVariants as hold
+use Rattle.plan_ways.specs.frame_words.proofs.CountLemmas as counts
+use Rattle.plan_ways.specs.kernel_rules.specs.State.{Free as Vacant, Quiescing as Removed}
+use Rattle.plan_ways.specs.kernel_history.specs.Footprint.{frame_of_cap}
+use Rattle.act_fits.specs.stage_quiet.specs.declared.close.Close.TheVariants.{AtCompare as close_compare}
+use Rattle.act_fits.specs.stage_pins.specs.Counts.{acquired}
+use Rattle.act_fits.specs.stage_pins.specs.Acquire.{load_end, pinned_at, compare_end, pin_move, pin_end, pin_after, after_load}
+use Rattle.act_fits.specs.stage_pins.specs.Commit.{settled_word}
+use Rattle.act_fits.specs.stage_pins.specs.Held.{commit_of}
+use Rattle.act_fits.specs.stage_pins.specs.declared.pin.Pin.TheVariants.{AtCompare}
+use Rattle.act_fits.specs.stage_pins.proofs.PinLemmas.{changed_none}
 use Rattle.plan_ways.specs.Laws.{IsTargetOf}
 use Rattle.plan_ways.proofs.Ways.{target_is}
 use Rattle.plan_ways.proofs.Near.{one_left, one_right, near_about}
-use Rattle.call_plans.specs.GoesBy.{GoesBy, own_pages}
-use Rattle.call_plans.proofs.CallsGoBy.{calls_go}
 use Rattle.count_invariant.proofs.MakingCounts.{no_due, made_counts, made_changes, made_argument, due_near, made_left, due_named}
 use Rattle.count_invariant.proofs.SweepCounts.{sweep_counts, sweep_near, sweep_left, sweep_spares}
 use Rattle.count_invariant.proofs.KillingCounts.{kill_counts, kill_near, killing_due}
 use Rattle.count_invariant.proofs.Findings.{found_named}
-use Rattle.act_states.specs.declared.refusals.Refusal.TheVariants as refusal
-use Rattle.act_states.specs.declared.work.Due.{Due}
-use Rattle.act_states.specs.declared.work.Act.{Act as ActOf}
-use Rattle.act_states.specs.declared.work.Act.TheVariants.{Fill as fill_act, Remove as remove_act, Retype as type_act}
-use Rattle.act_states.specs.declared.work.Act.TheVariants.{Make as make_act, Outside, Tick as tick_act, Flush as flush_act}
-use Rattle.act_states.specs.declared.work.Act.TheVariants.{Kill as kill_act, Untype as untype_act, Map as map_act}
-use Rattle.act_states.specs.declared.work.Act.TheVariants.{MakeComp as comp_act, Invoke as invoke_act, Return as return_act}
-use Rattle.act_states.specs.declared.work.Act.TheVariants.{Touch as touch_act, Share as share_act, Switch as switch_act}
-use Rattle.act_states.specs.declared.work.Tail.TheVariants.{Nothing}
-use Rattle.act_states.specs.declared.work.Work.TheVariants.{Acquire}
-use Rattle.call_stages.specs.declared.stages.Stage.TheVariants.{Undecided, Decided}
-use Rattle.call_stages.specs.declared.stages.ActiveCall.{ActiveCall}
-use Rattle.act_states.specs.declared.work.WorkStep.TheVariants.{Goes, Acquires}
-use Rattle.act_states.specs.Acts.{dues, acquires, next_work, removes_by, undo}
-use Rattle.call_stages.specs.Fits.{CountsAt, HasRoom, StageFits}
-use Rattle.call_stages.specs.Steps.{GoesOn, landed, went_with, took_count, gives_up}
-use Rattle.call_stages.specs.Tails.{is_ok}
-use Rattle.call_stages.specs.View.{Core}
+use Rattle.act_fits.specs.act_states.specs.declared.refusals.Refusal.TheVariants as refusal
+use Rattle.act_fits.specs.act_states.specs.declared.work.Act.{Act as ActOf}
+use Rattle.act_fits.specs.act_states.specs.declared.work.Act.TheVariants.{Fill as fill_act, Remove as remove_act, Retype as type_act}
+use Rattle.act_fits.specs.act_states.specs.declared.work.Act.TheVariants.{Make as make_act, Tick as tick_act, Flush as flush_act}
+use Rattle.act_fits.specs.act_states.specs.declared.work.Act.TheVariants.{Kill as kill_act, Untype as untype_act, Map as map_act}
+use Rattle.act_fits.specs.act_states.specs.declared.work.Act.TheVariants.{MakeComp as comp_act, Invoke as invoke_act, Return as return_act}
+use Rattle.act_fits.specs.act_states.specs.declared.work.Act.TheVariants.{Touch as touch_act, Share as share_act, Switch as switch_act}
+use Rattle.act_fits.specs.act_states.specs.declared.work.WorkStep.TheVariants.{Acquires}
+use Rattle.act_fits.specs.act_states.specs.Acts.{acquires}
+use Rattle.act_fits.specs.call_stages.specs.Steps.{took_count, gives_up}
+use Rattle.act_fits.specs.call_stages.specs.Tails.{is_ok}
 use Rattle.act_fits.proofs.DuesFit.{few_dues}
-use Rattle.act_states.specs.declared.untypings.UntypingAt.{UntypingAt}
-use Rattle.act_states.specs.declared.untypings.UntypingAt.TheVariants as untype
-use Rattle.act_states.specs.Untypings.{is_drawing}
-use Rattle.core_invariant.specs.Holding.{Holding, count_of, committed, holds_counts, AreApart, settled_by, settled, keeps}
-use Rattle.core_invariant.specs.Words.{SaysCount, count_room}
-use Rattle.core_invariant.specs.Knows.{AreDuesApart, own_in, HasFound, NamesAre, due_of, pin_frame}
-use Rattle.core_invariant.specs.Knows.{pin_core, IsRemoval, KnowsClose, KnowsAct, KnowsWork, KnowsUndecided}
-use Rattle.core_invariant.specs.Knows.{IsCount, HasRead, phase_at, KnowsTail, goes_on, is_counting, untypes}
-use Rattle.core_invariant.specs.Invariant.{done_by, holds_act, holds_work, holds_at, holds_in, holds, held_by}
-use Rattle.core_invariant.specs.Invariant.{Invariant, holds_tail, holds_making, holds_killing, holds_comp}
-use Rattle.kept_facts.proofs.Carries.{names_on, act_on, counts_on, KeepsUsers, KeepsThreads}
-use Rattle.kept_facts.proofs.Carries.{claimed_in, ReadsSame, freezes_at, reads_counts, due_pairs}
-use Rattle.kept_facts.proofs.Swept.{LeavesFrame}
+use Rattle.act_fits.specs.act_states.specs.declared.untypings.UntypingAt.TheVariants as untype
+use Rattle.act_fits.specs.act_states.specs.Untypings.{is_drawing}
+use Rattle.step_ways.specs.core_invariant.specs.Knows.{pin_frame}
+use Rattle.step_ways.specs.core_invariant.specs.Knows.{pin_core, IsRemoval, KnowsClose}
+use Rattle.step_ways.specs.core_invariant.specs.Knows.{HasRead, is_counting}
+use Rattle.step_ways.specs.kept_facts.proofs.Carries.{act_on, KeepsUsers, KeepsThreads}
+use Rattle.step_ways.specs.kept_facts.proofs.Carries.{claimed_in, ReadsSame, freezes_at, reads_counts, due_pairs}
+use Rattle.step_ways.specs.kept_facts.proofs.Swept.{LeavesFrame}
 use Rattle.step_ways.proofs.Writes.{same_marks}
 use Rattle.step_ways.proofs.Good.{IsGood, spares_other}
 use Rattle.step_ways.proofs.Counting as counters

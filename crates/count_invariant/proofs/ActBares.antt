@@ -1,12 +1,8 @@
 -- An act that acquires counts, and a call that commits them, keep no word without a mark.
-use Rattle.std.proofs.Common.{◌≡◌, ℕ, List, Option, None, ◌∙◌, ap}
-use Rattle.word_map.specs.Word.{Word}
-use Rattle.stage_pins.specs.declared.held.Acquired.{Acquired}
-use Rattle.act_states.specs.declared.work.Act.{Act as ActOf}
-use Rattle.core_invariant.specs.Holding.{Holding, holds_counts}
-use Rattle.core_invariant.specs.Invariant.{holds_act}
-use Rattle.core_invariant.proofs.ActBares.{act_bare}
-use Rattle.core_invariant.proofs.Bare.{AsBefore, as_none, counts_bare}
+use Rattle.step_ways.proofs.Common.{◌≡◌, ℕ, List, Option, None, ◌∙◌, ap, Word, Acquired, Holding, holds_counts, holds_act, AsBefore}
+use Rattle.step_ways.proofs.Common.{as_none, counts_bare}
+use Rattle.act_fits.specs.act_states.specs.declared.work.Act.{Act as ActOf}
+use Rattle.step_ways.specs.core_invariant.proofs.ActBares.{act_bare}
 
 pub acquired_bares : (h h' : Holding) (act : ActOf) (xs ys : List Acquired) (w : Word) → h ≡ holds_act act (holds_counts None xs)
     → h' ≡ holds_act act (holds_counts None ys) → AsBefore h h' w

@@ -1,46 +1,32 @@
 -- What an act holds beside its counts: no count, and of another word what does not depend on the counts; and while these are acquired, what
 -- a refusal has then to store.
-use Rattle.entry_words.specs.declared.entry.Entry.TheVariants.{Held}
-use Rattle.entry_words.specs.EntryWord.{word_of_entry}
-use Rattle.act_states.specs.Comps.{comp_undo}
-use Rattle.act_states.specs.Makings.{undo_at}
-use Rattle.act_states.specs.declared.comps.CompAt.{CompAt}
-use Rattle.act_states.specs.declared.comps.CompAt.TheVariants as comp_at
-use Rattle.act_states.specs.Kills.{is_killing}
-use Rattle.act_states.specs.declared.kills.KillingAt.{KillingAt}
-use Rattle.act_states.specs.declared.kills.KillingAt.TheVariants.{LoadComp, LoadLive, Close as kill_close, Draw as kill_draw}
-use Rattle.act_states.specs.declared.makings.MakingAt.TheVariants.{Load as making_load, Mark, Store, Fill as making_fill}
-use Rattle.act_states.specs.declared.makings.MakingAt.{MakingAt}
-use Rattle.std.proofs.Common.{◌≡◌, ◌≢◌, ℕ, ◌+◌, ◌++◌, ◌==◌, ◌^◌, ◌<◌, ◌≤◌, true, false, if◌then◌else◌, ◌∷◌, refl, ◌∙◌, ap, not}
-use Rattle.std.proofs.lemmas.Bool.{false≢true}
-use Rattle.frame_words.proofs.CountLemmas as counts
-use Rattle.word_map.specs.Word.{Word, EntryAt, CountAt, FrameAt, LiveAt, same_word}
-use Rattle.stage_quiet.specs.declared.close.Close.{Close}
-use Rattle.stage_quiet.specs.declared.close.Close.TheVariants.{AtCompare as close_compare, AtDraw, AtStore}
-use Rattle.stage_pins.specs.Counts.{acquired}
-use Rattle.act_states.specs.declared.work.Act.{Act as ActOf}
-use Rattle.act_states.specs.declared.work.Act.TheVariants.{Fill as fill_act, Remove as remove_act, Retype as type_act}
-use Rattle.act_states.specs.declared.work.Act.TheVariants.{Make as make_act, Outside, Tick as tick_act, Kill as kill_act}
-use Rattle.act_states.specs.declared.work.Act.TheVariants.{MakeComp as comp_act, Map as map_act, Flush as flush_act}
-use Rattle.act_states.specs.declared.work.Act.TheVariants.{Untype as untype_act, Touch as touch_act, Share as share_act}
-use Rattle.act_states.specs.declared.work.Act.TheVariants.{Invoke as invoke_act, Return as return_act, Switch as switch_act}
-use Rattle.act_states.specs.Acts.{undo}
-use Rattle.act_states.specs.declared.untypings.UntypingAt.{UntypingAt}
-use Rattle.act_states.specs.declared.untypings.UntypingAt.TheVariants as untype
-use Rattle.act_states.specs.Untypings.{untyping_undo, release_of}
-use Rattle.stage_sweep.specs.Freeze.{swept_of}
-use Rattle.stage_sweep.specs.Release.{thaw_of}
-use Rattle.core_invariant.specs.Frozen.{holds_untyping}
-use Rattle.core_invariant.proofs.Freezing.{release_over, thaw_away, thaws_own}
-use Rattle.core_invariant.specs.Holding.{Holding, keeps}
-use Rattle.core_invariant.specs.Knows.{is_counting}
-use Rattle.core_invariant.proofs.ThreadHolds.{switching_count, switching_over, switching_undo_holds}
-use Rattle.core_invariant.specs.Invariant.{holds_act, holds, holds_tail, holds_making, holds_killing, holds_comp, holds_head, holds_share}
-use Rattle.stage_tcap.specs.declared.pair.PairAt.{PairAt}
-use Rattle.stage_tcap.specs.declared.pair.PairAt.TheVariants.{LoadA, MarkA, ListA, LoadB, ListB, CompareB}
-use Rattle.stage_tcap.specs.declared.pair.PairAt.TheVariants.{AgainB, StoreList, StoreB, StoreA}
-use Rattle.stage_tcap.specs.Pairs.{amount_of, left_a}
-use Rattle.tcap_words.specs.Head.{word_of_head}
+use Rattle.step_ways.proofs.Common.{Held, word_of_entry, CompAt, KillingAt, LoadComp, LoadLive, Mark, Store, MakingAt, ◌≡◌, ◌≢◌, ℕ, ◌+◌}
+use Rattle.step_ways.proofs.Common.{◌++◌, ◌==◌, ◌^◌, ◌<◌, ◌≤◌, true, false, if◌then◌else◌, ◌∷◌, refl, ◌∙◌, ap, not, false≢true, Word}
+use Rattle.step_ways.proofs.Common.{EntryAt, CountAt, FrameAt, LiveAt, same_word, Close, AtDraw, AtStore, Outside, undo, UntypingAt}
+use Rattle.step_ways.proofs.Common.{release_of, swept_of, thaw_of, holds_untyping, thaws_own, Holding, keeps, holds_act, holds}
+use Rattle.step_ways.proofs.Common.{holds_tail, holds_making, holds_killing, holds_comp, holds_head, holds_share, PairAt, LoadA, MarkA}
+use Rattle.step_ways.proofs.Common.{ListA, LoadB, ListB, CompareB, AgainB, StoreList, StoreB, StoreA, amount_of, word_of_head}
+use Rattle.act_fits.specs.act_states.specs.Comps.{comp_undo}
+use Rattle.act_fits.specs.act_states.specs.Makings.{undo_at}
+use Rattle.act_fits.specs.act_states.specs.declared.comps.CompAt.TheVariants as comp_at
+use Rattle.act_fits.specs.act_states.specs.Kills.{is_killing}
+use Rattle.act_fits.specs.act_states.specs.declared.kills.KillingAt.TheVariants.{Close as kill_close, Draw as kill_draw}
+use Rattle.act_fits.specs.act_states.specs.declared.makings.MakingAt.TheVariants.{Load as making_load, Fill as making_fill}
+use Rattle.plan_ways.specs.frame_words.proofs.CountLemmas as counts
+use Rattle.act_fits.specs.stage_quiet.specs.declared.close.Close.TheVariants.{AtCompare as close_compare}
+use Rattle.act_fits.specs.stage_pins.specs.Counts.{acquired}
+use Rattle.act_fits.specs.act_states.specs.declared.work.Act.{Act as ActOf}
+use Rattle.act_fits.specs.act_states.specs.declared.work.Act.TheVariants.{Fill as fill_act, Remove as remove_act, Retype as type_act}
+use Rattle.act_fits.specs.act_states.specs.declared.work.Act.TheVariants.{Make as make_act, Tick as tick_act, Kill as kill_act}
+use Rattle.act_fits.specs.act_states.specs.declared.work.Act.TheVariants.{MakeComp as comp_act, Map as map_act, Flush as flush_act}
+use Rattle.act_fits.specs.act_states.specs.declared.work.Act.TheVariants.{Untype as untype_act, Touch as touch_act, Share as share_act}
+use Rattle.act_fits.specs.act_states.specs.declared.work.Act.TheVariants.{Invoke as invoke_act, Return as return_act, Switch as switch_act}
+use Rattle.act_fits.specs.act_states.specs.declared.untypings.UntypingAt.TheVariants as untype
+use Rattle.act_fits.specs.act_states.specs.Untypings.{untyping_undo}
+use Rattle.step_ways.specs.core_invariant.proofs.Freezing.{release_over, thaw_away}
+use Rattle.step_ways.specs.core_invariant.specs.Knows.{is_counting}
+use Rattle.step_ways.specs.core_invariant.proofs.ThreadHolds.{switching_count, switching_over, switching_undo_holds}
+use Rattle.act_fits.specs.stage_tcap.specs.Pairs.{left_a}
 
 -- While its counts are acquired an act holds what it will hold at its next step, which is what a refusal has then to store.
 pub undo_holds : (act : ActOf) (h : Holding) → is_counting act ≡ true → holds_tail (undo act) h ≡ holds_act act h

@@ -1,33 +1,13 @@
 -- What a decision makes of the counts of a call that acquires those of what one capability names, each for the same change.
-use Rattle.std.proofs.Common.{◌≡◌, ◌≢◌, ℕ, ℤ, pos, ◌+ℤ◌, ◌+◌, ◌^◌, ◌<◌, ◌≤◌, max, map, length, true}
-use Rattle.std.proofs.Common.{if◌then◌else◌, List, [], ◌∷◌, Option, Some, None, arith, refl, sym, ◌∙◌, ap}
-use Rattle.std.proofs.lemmas.Bool.{eq-eqb, ne_eqb}
-use Rattle.std.specs.Prelude.{All}
-use Rattle.std.proofs.lemmas.List.Elements.{All-nil, All-cons, All-head}
-use Rattle.spk_nums.specs.Setting.{Setting, IsSetting}
-use Rattle.spk_nums.specs.declared.replies.Reply.{Reply}
-use Rattle.word_map.specs.Word.{Word, CountAt}
-use Rattle.word_map.specs.Moves.{Move, word_of, left_of}
-use Rattle.kernel_rules.specs.State.{FrameOf, State, put}
-use Rattle.kernel_rules.specs.References.{times, refs}
-use Rattle.kernel_invariant.proofs.Sums as sums
-use Rattle.kernel_history.specs.Marks.{mark_of}
-use Rattle.kernel_history.specs.Marking.{marked_by}
-use Rattle.kernel_history.specs.Stamps.{stamp}
-use Rattle.kernel_history.specs.Trace.{Step, Trace, state_after, last_left}
-use Rattle.stage_pins.specs.Counts.{later}
-use Rattle.stage_pins.specs.Held.{stamp_of_change}
-use Rattle.act_states.specs.declared.work.Due.{Due}
-use Rattle.call_stages.specs.declared.stages.ActiveCall.{ActiveCall}
-use Rattle.call_stages.specs.View.{Core}
-use Rattle.core_invariant.specs.CountWords.{IsWithin}
-use Rattle.core_invariant.specs.Holding.{holds_counts}
-use Rattle.core_invariant.specs.Words.{count_room, WordIs}
-use Rattle.core_invariant.specs.Knows.{due_of}
-use Rattle.core_invariant.specs.Invariant.{holds, held_by, times_of, SumIs, Invariant}
+use Rattle.step_ways.proofs.Common.{◌≡◌, ◌≢◌, ℕ, ℤ, pos, ◌+ℤ◌, ◌+◌, ◌^◌, ◌<◌, ◌≤◌, max, map, length, true, if◌then◌else◌, List, [], ◌∷◌}
+use Rattle.step_ways.proofs.Common.{Option, Some, None, arith, refl, sym, ◌∙◌, ap, eq-eqb, ne_eqb, All, All-nil, All-cons, All-head}
+use Rattle.step_ways.proofs.Common.{Setting, IsSetting, Reply, Word, CountAt, Move, word_of, left_of, FrameOf, State, put, times, refs}
+use Rattle.step_ways.proofs.Common.{mark_of, marked_by, stamp, Step, Trace, state_after, last_left, later, stamp_of_change, Due}
+use Rattle.step_ways.proofs.Common.{ActiveCall, Core, IsWithin, holds_counts, count_room, WordIs, due_of, holds, held_by, times_of, SumIs}
+use Rattle.step_ways.proofs.Common.{Invariant, ReadsAlike}
+use Rattle.plan_ways.specs.kernel_invariant.proofs.Sums as sums
 use Rattle.step_ways.proofs.Loads.{inner}
-use Rattle.core_invariant.proofs.Ranges.{within_more}
-use Rattle.kept_facts.proofs.WordFrames.{ReadsAlike}
+use Rattle.step_ways.specs.core_invariant.proofs.Ranges.{within_more}
 use Rattle.count_invariant.proofs.CountChanges.{dues_sum, dues_commit}
 
 -- What a capability has due, by what it names.

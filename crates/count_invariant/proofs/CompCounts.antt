@@ -1,35 +1,19 @@
 -- A call that makes a component: what it is, its counts, and what it has still to store where it is refused.
+use Rattle.step_ways.proofs.Common.{◌≡◌, Bool, true, false, Option, Some, None, ◌∙◌, refl, ℕ, ◌==◌, ◌||◌, sym, [], ◌∷◌, ◌++◌, ap, subst}
+use Rattle.step_ways.proofs.Common.{IsTrue, eq-eqb, false≢true, Capability, Setting, Call, Make, Kind, found, only, has_frame, named_by}
+use Rattle.step_ways.proofs.Common.{State, only_is, counts_references, changes_frames, changes_places, changes_numbers, frames_near}
+use Rattle.step_ways.proofs.Common.{is_one_of, frame_argument, Trace, at_place, plan_for, Leads, LeadsIn, Acquired, comp_dues}
+use Rattle.step_ways.proofs.Common.{comp_due_list, CompAt, CompMaking, Due, KnowsTail, KnowsCompAt}
 use Rattle.std.specs.Prelude.{List, ℤ, pos}
-use Rattle.std.proofs.Common.{◌≡◌, Bool, true, false, Option, Some, None, ◌∙◌, refl, ℕ, ◌==◌, ◌||◌, sym, [], ◌∷◌, ◌++◌, ap, subst, IsTrue}
-use Rattle.std.proofs.lemmas.Bool.{eq-eqb, false≢true}
-use Rattle.spk_nums.specs.Capability.{Capability}
-use Rattle.spk_nums.specs.Setting.{Setting}
-use Rattle.spk_nums.specs.declared.calls.Call.{Call}
-use Rattle.spk_nums.specs.declared.calls.Call.TheVariants.{Make as make_call}
-use Rattle.spk_nums.specs.declared.calls.Make.{Make}
-use Rattle.spk_nums.specs.declared.calls.Make.TheVariants as make
-use Rattle.spk_nums.specs.declared.kinds.Kind.{Kind}
-use Rattle.spk_nums.specs.declared.kinds.Kind.TheVariants as kind
-use Rattle.kernel_rules.specs.Access.{found, only}
-use Rattle.kernel_rules.specs.CapabilityCalls.{has_frame}
-use Rattle.kernel_rules.specs.References.{named_by}
-use Rattle.kernel_rules.specs.State.{State}
-use Rattle.kernel_invariant.proofs.Sound.{only_is}
-use Rattle.kernel_history.specs.Discipline.{counts_references, changes_frames, changes_places, changes_numbers}
-use Rattle.kernel_history.specs.Footprint.{frames_near, numbers_near, is_one_of, frame_argument}
-use Rattle.kernel_history.specs.Trace.{Trace}
+use Rattle.plan_ways.specs.spk_nums.specs.declared.calls.Call.TheVariants.{Make as make_call}
+use Rattle.plan_ways.specs.spk_nums.specs.declared.calls.Make.TheVariants as make
+use Rattle.plan_ways.specs.spk_nums.specs.declared.kinds.Kind.TheVariants as kind
+use Rattle.plan_ways.specs.kernel_history.specs.Footprint.{numbers_near}
 use Rattle.plan_ways.proofs.Near.{one_left, near_found}
-use Rattle.call_plans.specs.declared.plans.Nth.TheVariants.{Third, Fourth}
-use Rattle.call_plans.specs.Plans.{at_place}
-use Rattle.call_plans.specs.PlanOf.{plan_for}
-use Rattle.call_plans.specs.After.{Leads, LeadsIn}
-use Rattle.stage_pins.specs.declared.held.Acquired.{Acquired}
-use Rattle.act_states.specs.Comps.{comp_dues, comp_due_list, comp_undo, comp_meets_number}
-use Rattle.act_states.specs.declared.comps.CompAt.{CompAt}
-use Rattle.act_states.specs.declared.comps.CompAt.TheVariants as comp_at
-use Rattle.act_states.specs.declared.comps.CompMaking.{CompMaking}
-use Rattle.act_states.specs.declared.work.Due.{Due}
-use Rattle.core_invariant.specs.Knows.{KnowsTail, MakesCompBy, KnowsCompAt}
+use Rattle.plan_ways.specs.call_plans.specs.declared.plans.Nth.TheVariants.{Third, Fourth}
+use Rattle.act_fits.specs.act_states.specs.Comps.{comp_undo, comp_meets_number}
+use Rattle.act_fits.specs.act_states.specs.declared.comps.CompAt.TheVariants as comp_at
+use Rattle.step_ways.specs.core_invariant.specs.Knows.{MakesCompBy}
 use Rattle.count_invariant.proofs.MakingCounts.{argument_near, blank_left, named_kind, no_due}
 
 -- It makes this component in this frame, which the range has to which its first name has led, with what its third and its fourth have led

@@ -1,44 +1,22 @@
 -- What a decision makes of the counts that its call has acquired: each stands for what its commit will store, and so the counts of each
 -- frame sum to the references that the decision leaves.
-use Rattle.std.proofs.Common.{◌≡◌, ◌≢◌, ◌⊎◌, ℕ, suc, zero, ℤ, pos, negsuc, ◌+ℤ◌, ◌+◌, ◌^◌, ◌<◌, ◌≤◌, max, map, slice_get, true}
-use Rattle.std.proofs.Common.{false, if◌then◌else◌, List, [], ◌∷◌, Option, Some, None, inl, inr, arith, refl, sym, ◌∙◌, ap, subst}
-use Rattle.std.proofs.lemmas.Bool.{false≢true, cases_eq}
-use Rattle.std.specs.Prelude.{All}
-use Rattle.std.proofs.lemmas.List.Elements.{All-nil, All-cons, All-head, All-tail, All-map, All-weaker}
-use Rattle.spk_nums.specs.Setting.{Setting, IsSetting}
-use Rattle.spk_nums.specs.declared.replies.Reply.{Reply}
-use Rattle.frame_words.specs.Count.{CountFits, word_of_count, count_of_word}
-use Rattle.frame_words.specs.declared.count_word.CountWord.{CountWord}
-use Rattle.frame_words.proofs.CountLemmas as counts
-use Rattle.word_map.specs.Word.{Word, CountAt, same_word}
-use Rattle.word_map.specs.Places.{counter_of}
-use Rattle.word_map.specs.Moves.{Move, word_of, left_of}
-use Rattle.kernel_rules.specs.State.{FrameOf, State, put}
-use Rattle.kernel_rules.specs.References.{refs}
-use Rattle.kernel_history.specs.Counts.{counters, count_in, count_sum}
-use Rattle.kernel_history.specs.Marks.{mark_of}
-use Rattle.kernel_history.specs.Marking.{marked_by}
-use Rattle.kernel_history.specs.Stamps.{stamp}
-use Rattle.kernel_history.specs.Trace.{Step, Trace, state_after, last_left}
-use Rattle.kernel_history.proofs.Names.{cases_word, same_word-other}
-use Rattle.stage_pins.specs.Counts.{unheld, later}
-use Rattle.stage_pins.specs.Held.{stamp_of_change}
-use Rattle.stage_pins.specs.declared.held.Acquired.{Acquired}
-use Rattle.stage_pins.proofs.PinLemmas.{changed_none}
-use Rattle.act_states.specs.declared.work.Due.{Due}
-use Rattle.call_stages.specs.declared.stages.ActiveCall.{ActiveCall}
-use Rattle.call_stages.specs.View.{Core}
-use Rattle.core_invariant.specs.CountWords.{stamp_in, newest_of, IsWithin}
-use Rattle.core_invariant.specs.Holding.{count_of, committed, holds_counts, AreApart, settled_by, settled}
-use Rattle.core_invariant.specs.Words.{SaysCount, count_room, WordIs}
-use Rattle.core_invariant.specs.Knows.{due_of, IsCount}
-use Rattle.core_invariant.specs.Invariant.{holds, held_by, times_of, count_shown, SumIs, Invariant}
-use Rattle.kept_facts.proofs.CountSums.{counter_once, sum_same, sum_by, newest_same, newest_one}
+use Rattle.step_ways.proofs.Common.{◌≡◌, ◌≢◌, ◌⊎◌, ℕ, suc, zero, ℤ, pos, negsuc, ◌+ℤ◌, ◌+◌, ◌^◌, ◌<◌, ◌≤◌, max, map, slice_get, true}
+use Rattle.step_ways.proofs.Common.{false, if◌then◌else◌, List, [], ◌∷◌, Option, Some, None, inl, inr, arith, refl, sym, ◌∙◌, ap, subst}
+use Rattle.step_ways.proofs.Common.{false≢true, cases_eq, All, All-nil, All-cons, All-head, All-tail, Setting, IsSetting, Reply}
+use Rattle.step_ways.proofs.Common.{CountFits, word_of_count, count_of_word, CountWord, Word, CountAt, same_word, counter_of, Move}
+use Rattle.step_ways.proofs.Common.{word_of, left_of, FrameOf, State, put, refs, counters, count_in, count_sum, mark_of, marked_by, stamp}
+use Rattle.step_ways.proofs.Common.{Step, Trace, state_after, last_left, cases_word, same_word-other, unheld, later, stamp_of_change}
+use Rattle.step_ways.proofs.Common.{Acquired, Due, ActiveCall, Core, stamp_in, IsWithin, count_of, committed, holds_counts, AreApart}
+use Rattle.step_ways.proofs.Common.{settled_by, settled, SaysCount, count_room, WordIs, due_of, IsCount, holds, held_by, times_of}
+use Rattle.step_ways.proofs.Common.{count_shown, SumIs, Invariant, limits_of, ReadsAlike, others_settled, own_settled}
+use Rattle.std.proofs.lemmas.List.Elements.{All-map, All-weaker}
+use Rattle.plan_ways.specs.frame_words.proofs.CountLemmas as counts
+use Rattle.act_fits.specs.stage_pins.proofs.PinLemmas.{changed_none}
+use Rattle.step_ways.specs.core_invariant.specs.CountWords.{newest_of}
+use Rattle.step_ways.specs.kept_facts.proofs.CountSums.{counter_once, sum_same, sum_by, newest_same, newest_one}
 use Rattle.step_ways.proofs.Counting.{first_marked, first_stands}
 use Rattle.step_ways.proofs.Loads.{call_is, inner}
-use Rattle.core_invariant.proofs.Ranges.{within_more, within_step, within_fits, changed_is}
-use Rattle.core_invariant.proofs.Sounds.{limits_of}
-use Rattle.kept_facts.proofs.WordFrames.{ReadsAlike, others_settled, own_settled}
+use Rattle.step_ways.specs.core_invariant.proofs.Ranges.{within_more, within_step, within_fits, changed_is}
 use Rattle.step_ways.proofs.Writes.{room_small}
 
 some_word : (v u : CountWord) → Some v ≡ Some u → v ≡ u

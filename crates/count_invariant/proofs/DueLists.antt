@@ -1,15 +1,7 @@
 -- Lists of counts that are due, and of those that are acquired of them.
-use Rattle.std.proofs.Common.{◌≡◌, ◌≢◌, ℕ, suc, ◌+◌, ◌++◌, map, slice_get}
-use Rattle.std.proofs.Common.{length, true, false, if◌then◌else◌, List, [], ◌∷◌}
-use Rattle.std.proofs.Common.{Some, None, refl, sym, ◌∙◌, ap, not}
-use Rattle.std.specs.Prelude.{All}
-use Rattle.std.proofs.lemmas.List.Elements.{All-head, All-tail}
-use Rattle.word_map.specs.Word.{CountAt}
-use Rattle.kernel_history.proofs.Names.{same_word-other}
-use Rattle.stage_pins.specs.declared.held.Acquired.{Acquired}
-use Rattle.act_states.specs.declared.work.Due.{Due}
-use Rattle.core_invariant.specs.Holding.{count_of, holds_counts}
-use Rattle.core_invariant.specs.Knows.{AreDuesApart, due_of}
+use Rattle.step_ways.proofs.Common.{◌≡◌, ◌≢◌, ℕ, suc, ◌+◌, ◌++◌, map, slice_get, length, true, false, if◌then◌else◌, List, [], ◌∷◌, Some}
+use Rattle.step_ways.proofs.Common.{None, refl, sym, ◌∙◌, ap, not, All, All-head, All-tail, CountAt, same_word-other, Acquired, Due}
+use Rattle.step_ways.proofs.Common.{count_of, holds_counts, AreDuesApart, due_of}
 
 -- What stands in a list after those before it.
 pub get_after : {A : Type 0} (xs : List A) (x : A) (ys : List A) → slice_get (xs ++ x ∷ ys) (length xs) ≡ Some x

@@ -1,27 +1,18 @@
 -- What a look-up that has arrived has found: the name of a call, or the place of its target.
-use Rattle.std.proofs.Common.{◌≡◌, ℕ, ◌%◌, ◌&&◌, ◌||◌, ◌++◌, ◌∷◌, [], Bool, true, false, not, nat_le}
-use Rattle.std.proofs.Common.{if◌then◌else◌, Option, Some, None, refl, sym, ◌∙◌, ap, subst, IsTrue, IsFalse}
-use Rattle.std.specs.Prelude.{IsSome, IsSomeAnd, is_some, option_to_list}
-use Rattle.std.proofs.lemmas.Bool.{leb-false, lt-ltb}
-use Rattle.std.proofs.lemmas.List.Elements.{All-nil, All-cons, All-append}
-use Rattle.spk_nums.specs.Capability.{Capability}
-use Rattle.spk_nums.specs.Setting.{Setting}
-use Rattle.spk_nums.specs.declared.kinds.Kind.{Kind}
-use Rattle.spk_nums.specs.declared.replies.Reply.TheVariants as reply
-use Rattle.entry_words.specs.EntryWord.{EntryFits}
-use Rattle.entry_words.specs.declared.entry.Entry.TheVariants.{Held}
-use Rattle.word_map.specs.Word.{EntryAt}
-use Rattle.word_map.specs.Moves.{LoadOf, word_of}
-use Rattle.kernel_rules.specs.State.{Free as Vacant, Holds, Quiescing as Removed, PlaceOf, State, comp_of}
-use Rattle.kernel_rules.specs.Access.{Slot, Named, found, Target, Under, InRoot, place_at}
-use Rattle.kernel_rules.specs.Access.{held_in, usable_in, usable, reached, has_no_slot, own}
-use Rattle.kernel_rules.specs.Rules.{Refused, Found, and_then, or_refuse, of_kind, named, ReachesNone, ReachesHeld, ReachesOther}
-use Rattle.kernel_history.specs.Trace.{Step, Trace, state_after, own_left}
-use Rattle.kernel_history.specs.Ways.{root_passed, way_to}
-use Rattle.kernel_history.specs.Justified.{HasReached}
-use Rattle.kernel_history.proofs.Steps.{own_left-here}
-use Rattle.core_invariant.specs.Knows.{IsReached, HasFound, own_in}
-use Rattle.kept_facts.proofs.Carries.{own_kept}
+use Rattle.step_ways.proofs.Common.{◌≡◌, ℕ, ◌%◌, ◌&&◌, ◌||◌, ◌++◌, ◌∷◌, [], Bool, true, false, not, nat_le, if◌then◌else◌, Option, Some}
+use Rattle.step_ways.proofs.Common.{None, refl, sym, ◌∙◌, ap, subst, IsTrue, IsSome, IsSomeAnd, is_some, option_to_list, leb-false}
+use Rattle.step_ways.proofs.Common.{lt-ltb, All-nil, All-cons, All-append, Capability, Setting, Kind, EntryFits, Held, EntryAt, LoadOf}
+use Rattle.step_ways.proofs.Common.{word_of, Holds, PlaceOf, State, comp_of, Slot, Named, found, Target, Under, InRoot, place_at, held_in}
+use Rattle.step_ways.proofs.Common.{usable_in, usable, reached, has_no_slot, own, Refused, Found, and_then, or_refuse, named, Step, Trace}
+use Rattle.step_ways.proofs.Common.{state_after, own_left, root_passed, way_to, HasReached, HasFound, own_in, own_kept, holds_link}
+use Rattle.step_ways.proofs.Common.{linked, root_slot, slot_in, Word}
+use Rattle.std.proofs.Common.{IsFalse}
+use Rattle.plan_ways.specs.spk_nums.specs.declared.replies.Reply.TheVariants as reply
+use Rattle.plan_ways.specs.kernel_rules.specs.State.{Free as Vacant, Quiescing as Removed}
+use Rattle.plan_ways.specs.kernel_rules.specs.Rules.{of_kind, ReachesNone, ReachesHeld}
+use Rattle.plan_ways.specs.kernel_rules.specs.Rules.{ReachesOther}
+use Rattle.plan_ways.specs.kernel_history.proofs.Steps.{own_left-here}
+use Rattle.step_ways.specs.core_invariant.specs.Knows.{IsReached}
 use Rattle.step_ways.proofs.Loads.{step_to}
 use Rattle.step_ways.proofs.Refusals.{NobodyWaits}
 use Rattle.count_invariant.proofs.Lookups.{Arrives, use_removed}
@@ -33,8 +24,8 @@ own_is s c table n is = ap (λ (x : ℕ). own_in x n) is
 -- A number past its range has no slot.
 pub past_slot : (s : State) (table : Named) (n : ℕ) → nat_le n 4095 ≡ false → IsTrue (has_no_slot s (Under table n))
 past_slot s table n past =
-    ap (λ b. b || (table.found && not (Rattle.kernel_rules.specs.Access.holds_link
-    (place_at s (Rattle.kernel_rules.specs.Access.root_slot table.frame n))))) (lt-ltb 4095 n (leb-false n 4095 past))
+    ap (λ b. b || (table.found && not (holds_link
+    (place_at s (root_slot table.frame n))))) (lt-ltb 4095 n (leb-false n 4095 past))
 
 -- A place that is reached holds nothing, or something, or a capability of another kind.
 some_and : {A : Type 0} (P : A → Type 0) (o : Option A) (x : A) → o ≡ Some x → P x → IsSomeAnd o P
@@ -94,11 +85,11 @@ pub past_unreached : (s : State) (c : ℕ) (table : Named) (n : ℕ) → nat_le 
 past_unreached s c table n past = by_found table.found
   where
     by_found : (b : Bool)
-        → (if b && nat_le n 4095 then Rattle.kernel_rules.specs.Access.slot_in
-        (Rattle.kernel_rules.specs.Access.linked (usable s c (Rattle.kernel_rules.specs.Access.root_slot table.frame n))) (n % 64) else
+        → (if b && nat_le n 4095 then slot_in
+        (linked (usable s c (root_slot table.frame n))) (n % 64) else
         None) ≡ None
-    by_found true = ap (λ b. if b then Rattle.kernel_rules.specs.Access.slot_in
-        (Rattle.kernel_rules.specs.Access.linked (usable s c (Rattle.kernel_rules.specs.Access.root_slot table.frame n))) (n % 64) else
+    by_found true = ap (λ b. if b then slot_in
+        (linked (usable s c (root_slot table.frame n))) (n % 64) else
         None) past
     by_found false = refl
 
@@ -126,7 +117,7 @@ way_gone setup t d c target at is had = subst (λ o. HasReached d c (root_passed
 -- The call has gone the whole way with the step that arrives.
 pub gone_with : (setup : Setting) (t : Trace) (c : ℕ) (target : Target) (at : Slot) (e : Step) → c ≡ e.core
     → EntryAt at.node at.index ≡ word_of e.move
-    → ((w : Rattle.word_map.specs.Word.Word) → IsSome (own_left t c w) → IsSome (own_left (e ∷ t) c w)) → Arrives setup t c target at
+    → ((w : Word) → IsSome (own_left t c w) → IsSome (own_left (e ∷ t) c w)) → Arrives setup t c target at
     → HasReached (e ∷ t) c (root_passed target ++ at ∷ [])
 gone_with setup t c target at e own word stays arrives =
     All-append (λ (x : Slot). IsSome (own_left (e ∷ t) c (EntryAt x.node x.index))) (root_passed target) (at ∷ [])

@@ -1,26 +1,13 @@
 -- The count and the component of a call that kills.
+use Rattle.step_ways.proofs.Common.{◌≡◌, refl, ℕ, true, false, sym, ◌∙◌, [], ◌∷◌, ◌++◌, ap, subst, IsTrue, ◌||◌, eq-eqb, Capability, Kind}
+use Rattle.step_ways.proofs.Common.{Call, Kill, named_by, State, counts_references, changes_numbers, raises_clock, frames_near, is_one_of}
+use Rattle.step_ways.proofs.Common.{First, at_place, plan_for, Leads, LeadsIn, KillingAt, LoadComp, LoadLive, Due, untypes}
 use Rattle.std.specs.Prelude.{List, negsuc}
-use Rattle.std.proofs.Common.{◌≡◌, refl, ℕ, true, false, sym, ◌∙◌, [], ◌∷◌, ◌++◌, ap, subst, IsTrue, ◌||◌}
-use Rattle.std.proofs.lemmas.Bool.{eq-eqb}
-use Rattle.spk_nums.specs.Capability.{Capability}
-use Rattle.spk_nums.specs.declared.kinds.Kind.{Kind}
-use Rattle.spk_nums.specs.declared.kinds.Kind.TheVariants as kind
-use Rattle.spk_nums.specs.declared.calls.Call.{Call}
-use Rattle.spk_nums.specs.declared.calls.Call.TheVariants.{Kill}
-use Rattle.kernel_rules.specs.References.{named_by}
-use Rattle.kernel_rules.specs.State.{State}
-use Rattle.kernel_history.specs.Discipline.{counts_references, changes_numbers, raises_clock}
-use Rattle.kernel_history.specs.Footprint.{frames_near, is_one_of}
-use Rattle.call_plans.specs.declared.plans.Nth.TheVariants.{First}
-use Rattle.call_plans.specs.Plans.{at_place}
-use Rattle.call_plans.specs.PlanOf.{plan_for}
-use Rattle.call_plans.specs.After.{Leads, LeadsIn}
+use Rattle.plan_ways.specs.spk_nums.specs.declared.kinds.Kind.TheVariants as kind
 use Rattle.plan_ways.proofs.Near.{near_found}
-use Rattle.act_states.specs.declared.kills.KillingAt.{KillingAt}
-use Rattle.act_states.specs.declared.kills.KillingAt.TheVariants.{LoadComp, LoadLive, Close, Draw}
-use Rattle.act_states.specs.declared.work.Due.{Due}
-use Rattle.act_states.specs.Acts.{killing_dues}
-use Rattle.core_invariant.specs.Knows.{KillsBy, untypes}
+use Rattle.act_fits.specs.act_states.specs.declared.kills.KillingAt.TheVariants.{Close, Draw}
+use Rattle.act_fits.specs.act_states.specs.Acts.{killing_dues}
+use Rattle.step_ways.specs.core_invariant.specs.Knows.{KillsBy}
 use Rattle.count_invariant.proofs.MakingCounts.{no_due}
 
 -- The call that kills a component.

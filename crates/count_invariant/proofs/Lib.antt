@@ -1,3 +1,5 @@
+-- The names that most proofs use.
+pub use Rattle.step_ways.proofs.Common
 -- Look-ups.
 pub mod Lookups
 pub mod Findings

@@ -1,24 +1,14 @@
 -- The count of a leaf that a grow links is near the call: its second name has led to the leaf. And so is that of a frame that a map
 -- maps, its
 -- argument.
-use Rattle.std.proofs.Common.{◌≡◌, ℕ, Bool, true, false, if◌then◌else◌, List, [], ◌∷◌, Option, Some, None, refl, ◌∙◌, ap}
-use Rattle.spk_nums.specs.Capability.{Capability}
-use Rattle.spk_nums.specs.declared.kinds.Kind.{Kind}
-use Rattle.spk_nums.specs.declared.kinds.Kind.TheVariants as kind
-use Rattle.spk_nums.specs.declared.calls.Call.TheVariants.{Grow, Map}
-use Rattle.kernel_rules.specs.State.{State}
-use Rattle.kernel_rules.specs.Start.{plain_cap}
-use Rattle.kernel_rules.specs.Access.{found, only}
-use Rattle.kernel_rules.specs.CapabilityCalls.{leaf_of, leaf_for, has_frame}
-use Rattle.kernel_rules.specs.References.{named_by}
-use Rattle.kernel_history.specs.Footprint.{is_one_of, frames_near}
-use Rattle.call_plans.specs.declared.plans.Nth.TheVariants.{Second}
-use Rattle.call_plans.specs.Plans.{at_place}
-use Rattle.call_plans.specs.PlanOf.{plan_for}
-use Rattle.call_plans.specs.After.{Leads, LeadsIn}
+use Rattle.step_ways.proofs.Common.{◌≡◌, ℕ, Bool, true, false, if◌then◌else◌, List, [], ◌∷◌, Option, Some, None, refl, ◌∙◌, ap}
+use Rattle.step_ways.proofs.Common.{Capability, Kind, Grow, Map, State, found, only, has_frame, named_by, is_one_of, frames_near, Second}
+use Rattle.step_ways.proofs.Common.{at_place, plan_for, Leads, LeadsIn, PageFlags, page_cap}
+use Rattle.plan_ways.specs.spk_nums.specs.declared.kinds.Kind.TheVariants as kind
+use Rattle.plan_ways.specs.kernel_rules.specs.Start.{plain_cap}
+use Rattle.plan_ways.specs.kernel_rules.specs.CapabilityCalls.{leaf_of, leaf_for}
 use Rattle.plan_ways.proofs.Near.{near_found}
-use Rattle.spk_nums.specs.declared.kinds.PageFlags.{PageFlags}
-use Rattle.act_states.specs.Acts.{link_to, page_cap, page_of}
+use Rattle.act_fits.specs.act_states.specs.Acts.{link_to, page_of}
 use Rattle.count_invariant.proofs.MakingCounts.{argument_near, named_kind}
 
 -- A leaf names its frame.

@@ -1,58 +1,34 @@
 -- A step of a look-up is good, whatever the call looks for: it goes on to the leaf, is refused, or arrives at the place.
-use Rattle.std.proofs.Common.{◌≡◌, ◌⊎◌, inl, inr, ℕ, ◌<◌, ◌≤◌, ◌/◌, ◌%◌, ◌&&◌, ◌||◌, ◌==◌, ◌++◌, ◌∷◌, List, [], map, Bool, true}
-use Rattle.std.proofs.Common.{false, not, nat_le, nat_lt, if◌then◌else◌, Option, Some, None, arith, refl, sym, ◌∙◌, ap, subst, IsTrue}
-use Rattle.std.specs.Prelude.{IsSome, option_to_list}
-use Rattle.std.specs.List.{list_any}
-use Rattle.std.proofs.lemmas.Bool.{le-leb, eq-eqb}
+use Rattle.step_ways.proofs.Common.{◌≡◌, ◌⊎◌, inl, inr, ℕ, ◌<◌, ◌≤◌, ◌/◌, ◌%◌, ◌&&◌, ◌||◌, ◌==◌, ◌++◌, ◌∷◌, List, [], map, Bool, true}
+use Rattle.step_ways.proofs.Common.{false, not, nat_le, nat_lt, if◌then◌else◌, Option, Some, None, arith, refl, sym, ◌∙◌, ap, subst}
+use Rattle.step_ways.proofs.Common.{IsTrue, IsSome, option_to_list, list_any, le-leb, eq-eqb, All-nil, All-cons, Capability, Setting}
+use Rattle.step_ways.proofs.Common.{IsSetting, Call, Kind, Entry, Held, Closing, EntryFits, entry_of_word, EntryAt, LoadOf, word_of}
+use Rattle.step_ways.proofs.Common.{Place, Holds, PlaceOf, State, Slot, Named, Target, Under, InRoot, place_at, only, usable_in, usable}
+use Rattle.step_ways.proofs.Common.{linked, slot_in, root_slot, reached, holds_link, has_no_slot, RuleMay, Refused, rule_of, change_of}
+use Rattle.step_ways.proofs.Common.{Relies, Step, Trace, Open, phase, state_after, last_left, own_left, capability_in, root_passed}
+use Rattle.step_ways.proofs.Common.{wide_way_to, wide_ways, frames_own, frames_near, is_one_of, is_slot_in, HasReached, stamp, CapNames}
+use Rattle.step_ways.proofs.Common.{end_of_frames, shown_in, look_move, Look, AtRoot, AtLeaf, AtEntry, Carries, next_of, Lookup}
+use Rattle.step_ways.proofs.Common.{Undecided, ActiveCall, Goes, refuse, landed, Core, holds_counts, CountsAt, PlaceIs, LooksUp, Knows}
+use Rattle.step_ways.proofs.Common.{phase_at, holds_at, holds_in, Invariant}
 use Rattle.std.proofs.lemmas.List.Folds.{list_any-append}
-use Rattle.std.proofs.lemmas.List.Elements.{All-nil, All-cons}
-use Rattle.spk_nums.specs.Capability.{Capability}
-use Rattle.spk_nums.specs.Setting.{Setting, IsSetting}
-use Rattle.spk_nums.specs.declared.calls.Call.{Call}
-use Rattle.spk_nums.specs.declared.kinds.Kind.{Kind}
-use Rattle.spk_nums.specs.declared.kinds.Kind.TheVariants as kind
-use Rattle.spk_nums.specs.declared.replies.Reply.TheVariants as reply
-use Rattle.entry_words.specs.declared.entry.Entry.{Entry}
-use Rattle.entry_words.specs.declared.entry.Entry.TheVariants.{Free, Held, Closing, Quiescing}
-use Rattle.entry_words.specs.EntryWord.{EntryFits, entry_of_word}
-use Rattle.entry_words.proofs.Spelling.{spelling}
-use Rattle.word_map.specs.Word.{EntryAt}
-use Rattle.word_map.specs.Moves.{LoadOf, word_of}
-use Rattle.kernel_rules.specs.State.{Place, Free as Vacant, Holds, Quiescing as Removed, PlaceOf, State}
-use Rattle.kernel_rules.specs.Access.{Slot, Named, Target, Under, InRoot, place_at, only, usable_in}
-use Rattle.kernel_rules.specs.Access.{usable, linked, slot_in, root_slot, reached, holds_link, has_no_slot}
-use Rattle.kernel_rules.specs.Rules.{RuleMay, Refused}
-use Rattle.kernel_rules.specs.CallRelation.{rule_of, change_of}
-use Rattle.kernel_rules.specs.Relies.{Relies}
-use Rattle.kernel_history.specs.Trace.{Step, Trace, Open, phase, state_after, last_left, own_left}
-use Rattle.kernel_history.specs.Ways.{capability_in, led_to, root_passed, wide_way_to, wide_ways}
-use Rattle.kernel_history.specs.Footprint.{frames_own, frames_near, is_one_of}
-use Rattle.kernel_history.specs.Justified.{is_slot_in, HasReached}
-use Rattle.kernel_history.specs.Stamps.{stamp}
-use Rattle.trace_laws.proofs.Stays.{relies_reached}
-use Rattle.kernel_history.proofs.Steps.{own_left-here}
-use Rattle.stage_look.specs.Shown.{CapNames, end_of_frames, held_if, entry_within, shown_in, is_link}
-use Rattle.stage_look.specs.Lookup.{look_move, found_at}
-use Rattle.stage_look.specs.declared.look.Look.{Look}
-use Rattle.stage_look.specs.declared.look.Look.TheVariants.{AtRoot, AtLeaf, AtEntry}
-use Rattle.trace_laws.proofs.Carries.{Carries}
-use Rattle.call_plans.specs.After.{next_of}
-use Rattle.act_states.specs.declared.refusals.Refusal.TheVariants as refusal
-use Rattle.act_states.specs.declared.work.Work.TheVariants.{Lookup}
-use Rattle.call_stages.specs.declared.stages.Stage.TheVariants.{Undecided}
-use Rattle.call_stages.specs.declared.stages.ActiveCall.{ActiveCall}
-use Rattle.act_states.specs.declared.work.WorkStep.TheVariants.{Goes}
-use Rattle.act_states.specs.WorkSteps.{refuse}
-use Rattle.call_stages.specs.Steps.{landed, took_end, took_look, took_found}
-use Rattle.call_stages.specs.View.{Core}
-use Rattle.core_invariant.specs.Holding.{holds_counts}
-use Rattle.call_stages.specs.Fits.{CountsAt}
-use Rattle.core_invariant.specs.Words.{PlaceIs}
-use Rattle.core_invariant.specs.Knows.{ReliesOn, LooksUp, Knows, phase_at}
-use Rattle.core_invariant.specs.Invariant.{holds_at, holds_in, Invariant}
+use Rattle.plan_ways.specs.spk_nums.specs.declared.kinds.Kind.TheVariants as kind
+use Rattle.plan_ways.specs.spk_nums.specs.declared.replies.Reply.TheVariants as reply
+use Rattle.plan_ways.specs.entry_words.specs.declared.entry.Entry.TheVariants.{Free, Quiescing}
+use Rattle.plan_ways.specs.entry_words.proofs.Spelling.{spelling}
+use Rattle.plan_ways.specs.kernel_rules.specs.State.{Free as Vacant, Quiescing as Removed}
+use Rattle.plan_ways.specs.kernel_history.specs.Ways.{led_to}
+use Rattle.step_ways.specs.trace_laws.proofs.Stays.{relies_reached}
+use Rattle.plan_ways.specs.kernel_history.proofs.Steps.{own_left-here}
+use Rattle.act_fits.specs.stage_look.specs.Shown.{held_if, entry_within, is_link}
+use Rattle.act_fits.specs.stage_look.specs.Lookup.{found_at}
+use Rattle.act_fits.specs.act_states.specs.declared.refusals.Refusal.TheVariants as refusal
+use Rattle.act_fits.specs.call_stages.specs.Steps.{took_end, took_look, took_found}
+use Rattle.step_ways.specs.core_invariant.specs.Knows.{ReliesOn}
 use Rattle.step_ways.proofs.Loads.{OnlyLooks, step_to, next_at, is_active, loads_on}
 use Rattle.step_ways.proofs.Places.{IsMarked, IsUnmarked, place_reads}
 use Rattle.step_ways.proofs.Refusals.{GoodTook, ticks_at, NobodyWaits, refuses_no_slot, refuses_busy}
+use Rattle.act_fits.specs.stage_look.specs.Lookup.{after_link}
+use Rattle.act_fits.specs.stage_look.specs.Lookup.{end_by_link}
 
 -- What an entry shows of a place.
 pub record ShowsHeld (frames : ℕ) (p : Place) (k : Capability) : Type 0 where
@@ -303,8 +279,8 @@ module _ (setup : Setting) (setting : IsSetting setup) (cores : ℕ → Core) (t
       by_link : (k : Capability) → ShowsHeld setup.frames ((state_after setup t).place table.frame (n / 64)) k → (b : Bool)
           → is_link k.kind ≡ b
           → GoodTook setup cores t c (LoadOf (EntryAt table.frame (n / 64)))
-          (took_end (cores c).own a (Rattle.stage_look.specs.Lookup.after_link b table.frame n k.frame)
-          (Rattle.stage_look.specs.Lookup.end_by_link b))
+          (took_end (cores c).own a (after_link b table.frame n k.frame)
+          (end_by_link b))
       by_link k shows true is =
           further setup setting cores t stands c here a active (Under table n) is_open no_slot no_way on_way goes done
           (AtRoot table.frame n) at room table.frame (n / 64) (AtLeaf k.frame n) way

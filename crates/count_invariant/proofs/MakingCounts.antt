@@ -1,47 +1,26 @@
 -- The counts and the frame of a call that makes an object, and what it has still to store where it is refused.
+use Rattle.step_ways.proofs.Common.{◌≡◌, Bool, true, false, Option, Some, None, ◌∙◌, refl, ℕ, ◌<◌, ◌^◌, ◌==◌, sym, [], ◌∷◌, ◌++◌, ap}
+use Rattle.step_ways.proofs.Common.{subst, IsTrue, ◌||◌, map, eqb-true, eq-eqb, false≢true, Capability, Setting, Call, Make, Kind, only}
+use Rattle.step_ways.proofs.Common.{own, reached, usable, Found, Refused, named, and_then, or_refuse, only_is, frame_of_word, rule_of}
+use Rattle.step_ways.proofs.Common.{named_by, State, counts_references, changes_frames, frames_near, is_one_of, frames_named}
+use Rattle.step_ways.proofs.Common.{frame_at_slot, frame_argument, frame_mark, Trace, target_of, at_place, plan_for, Leads, LeadsIn}
+use Rattle.step_ways.proofs.Common.{Acquired, made_dues, object_dues, object_made, Making, MakingAt, Mark, Store, NewObject, Due}
+use Rattle.step_ways.proofs.Common.{KnowsTail, MakesBy, KnowsMakingAt, KnowsUnmark, blank_word, untypes}
 use Rattle.std.specs.Prelude.{List, ℤ, pos, if◌then◌else◌}
-use Rattle.std.proofs.Common.{◌≡◌, Bool, true, false, Option, Some, None, ◌∙◌, refl, ℕ, ◌<◌}
-use Rattle.std.proofs.Common.{◌^◌, ◌==◌, sym, [], ◌∷◌, ◌++◌, ap, subst, IsTrue, ◌||◌, map}
-use Rattle.std.proofs.lemmas.Bool.{eqb-true, eq-eqb, false≢true}
-use Rattle.spk_nums.specs.Capability.{Capability}
-use Rattle.spk_nums.specs.Setting.{Setting}
-use Rattle.spk_nums.specs.declared.calls.Call.{Call}
-use Rattle.spk_nums.specs.declared.calls.Make.{Make}
-use Rattle.spk_nums.specs.declared.calls.Make.TheVariants as make
-use Rattle.spk_nums.specs.declared.kinds.Kind.{Kind}
-use Rattle.spk_nums.specs.declared.kinds.Kind.TheVariants as kind
-use Rattle.kernel_rules.specs.Access.{only, own, reached, usable}
-use Rattle.kernel_rules.specs.Rules.{Found, Refused, named, and_then, or_refuse, of_kind}
-use Rattle.kernel_invariant.proofs.Facts.{then_parts, found_inj, refused_found}
-use Rattle.kernel_invariant.proofs.Sound.{only_is}
-use Rattle.spk_nums.specs.declared.replies.Reply.TheVariants as reply
-use Rattle.spk_nums.specs.declared.calls.Call.TheVariants.{Make as make_call}
-use Rattle.frame_words.proofs.FrameLemmas as frames
-use Rattle.frame_words.specs.Frame.{frame_of_word}
-use Rattle.kernel_rules.specs.CallRelation.{rule_of}
-use Rattle.kernel_rules.specs.References.{named_by}
-use Rattle.kernel_rules.specs.State.{State}
-use Rattle.kernel_history.specs.Discipline.{counts_references, changes_frames}
-use Rattle.kernel_history.specs.Footprint.{frames_near, is_one_of, frames_named, frame_at_slot, frame_argument}
-use Rattle.kernel_history.specs.Marks.{frame_mark}
-use Rattle.kernel_history.specs.Trace.{Trace}
-use Rattle.kernel_history.specs.Ways.{target_of}
+use Rattle.plan_ways.specs.spk_nums.specs.declared.calls.Make.TheVariants as make
+use Rattle.plan_ways.specs.spk_nums.specs.declared.kinds.Kind.TheVariants as kind
+use Rattle.plan_ways.specs.kernel_rules.specs.Rules.{of_kind}
+use Rattle.plan_ways.specs.kernel_invariant.proofs.Facts.{then_parts, found_inj, refused_found}
+use Rattle.plan_ways.specs.spk_nums.specs.declared.replies.Reply.TheVariants as reply
+use Rattle.plan_ways.specs.spk_nums.specs.declared.calls.Call.TheVariants.{Make as make_call}
+use Rattle.plan_ways.specs.frame_words.proofs.FrameLemmas as frames
 use Rattle.plan_ways.proofs.Near.{one_right, near_about, near_found}
-use Rattle.call_plans.specs.declared.plans.Nth.TheVariants.{Third}
-use Rattle.call_plans.specs.Plans.{at_place}
-use Rattle.call_plans.specs.PlanOf.{plan_for, of_kind as of_kind_name}
-use Rattle.call_plans.specs.After.{Leads, LeadsIn}
-use Rattle.stage_pins.specs.declared.held.Acquired.{Acquired}
-use Rattle.act_states.specs.Acts.{made_dues}
-use Rattle.act_states.specs.Objects.{object_names, object_dues, object_made, thread_on}
-use Rattle.act_states.specs.Makings.{undo_at}
-use Rattle.act_states.specs.declared.makings.Making.{Making}
-use Rattle.act_states.specs.declared.makings.MakingAt.{MakingAt}
-use Rattle.act_states.specs.declared.makings.MakingAt.TheVariants.{Mark, Store, Load as making_load, Fill as making_fill}
-use Rattle.act_states.specs.declared.objects.NewObject.{NewObject}
-use Rattle.act_states.specs.declared.objects.NewObject.TheVariants.{Table, Leaf, Pages, Pleaf, Thread, Tcap}
-use Rattle.act_states.specs.declared.work.Due.{Due}
-use Rattle.core_invariant.specs.Knows.{KnowsTail, MakesBy, KnowsMakingAt, KnowsUnmark, blank_word, untypes}
+use Rattle.plan_ways.specs.call_plans.specs.declared.plans.Nth.TheVariants.{Third}
+use Rattle.plan_ways.specs.call_plans.specs.PlanOf.{of_kind as of_kind_name}
+use Rattle.act_fits.specs.act_states.specs.Objects.{object_names, thread_on}
+use Rattle.act_fits.specs.act_states.specs.Makings.{undo_at}
+use Rattle.act_fits.specs.act_states.specs.declared.makings.MakingAt.TheVariants.{Load as making_load, Fill as making_fill}
+use Rattle.act_fits.specs.act_states.specs.declared.objects.NewObject.TheVariants.{Table, Leaf, Pages, Pleaf, Thread, Tcap}
 
 -- The frame of a count that is due is one that the capability names.
 pub due_named : (fs : List ℕ) (z : ℤ) (xs : List Due) (d : Due) (rest : List Due)

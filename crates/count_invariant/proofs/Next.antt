@@ -1,26 +1,17 @@
 -- What comes next of a call that goes by its plan, where its names have led to some capabilities.
-use Rattle.std.proofs.Common.{◌≡◌, ℕ, Bool, true, IsTrue, IsSomeAnd, List, [], ◌∷◌, Option, Some, None, refl, sym, ◌∙◌, ap, subst}
-use Rattle.spk_nums.specs.Capability.{Capability}
-use Rattle.spk_nums.specs.Setting.{Setting, IsSetting}
-use Rattle.spk_nums.specs.declared.kinds.Kind.{Kind}
-use Rattle.spk_nums.specs.declared.kinds.Kind.TheVariants as kind
-use Rattle.spk_nums.specs.declared.calls.Call.{Call}
-use Rattle.kernel_rules.specs.State.{State}
-use Rattle.kernel_rules.specs.Access.{Slot, Named, root, usable}
-use Rattle.kernel_rules.specs.Relies.{Relies}
-use Rattle.found_stays.proofs.Stays.{names_node}
-use Rattle.kernel_history.specs.Trace.{Trace, Open, phase, state_after}
-use Rattle.kernel_history.specs.Legal.{IsLegal}
-use Rattle.trace_laws.proofs.Stays.{relies_usable}
-use Rattle.call_plans.specs.declared.plans.Name.{Name}
-use Rattle.call_plans.specs.declared.plans.Spot.{Spot}
-use Rattle.call_plans.specs.declared.plans.Target.{Target}
-use Rattle.call_plans.specs.declared.plans.Plan.{Plan}
-use Rattle.call_plans.specs.Plans.{at_place}
-use Rattle.call_plans.specs.GoesBy.{earlier, wants}
-use Rattle.call_plans.specs.After.{with_found, names_after, Leads, NextName, next_in, next_target, next_of}
-use Rattle.call_plans.specs.Rooted.{root_of, WantsRoot, RootIs}
-use Rattle.call_plans.proofs.Roots.{earlier_is, Led, nth_led}
+use Rattle.step_ways.proofs.Common.{◌≡◌, ℕ, Bool, true, IsTrue, List, [], ◌∷◌, Option, Some, None, refl, sym, ◌∙◌, ap, subst, Capability}
+use Rattle.step_ways.proofs.Common.{Setting, IsSetting, Kind, Call, State, Slot, Named, usable, Relies, Trace, Open, phase, state_after}
+use Rattle.step_ways.proofs.Common.{IsLegal, Name, Spot, Plan, at_place, wants, with_found, names_after, Leads, NextName, next_of}
+use Rattle.std.proofs.Common.{IsSomeAnd}
+use Rattle.plan_ways.specs.spk_nums.specs.declared.kinds.Kind.TheVariants as kind
+use Rattle.plan_ways.specs.kernel_rules.specs.Access.{root}
+use Rattle.step_ways.specs.found_stays.proofs.Stays.{names_node}
+use Rattle.step_ways.specs.trace_laws.proofs.Stays.{relies_usable}
+use Rattle.plan_ways.specs.call_plans.specs.declared.plans.Target.{Target}
+use Rattle.plan_ways.specs.call_plans.specs.GoesBy.{earlier}
+use Rattle.plan_ways.specs.call_plans.specs.After.{next_in, next_target}
+use Rattle.plan_ways.specs.call_plans.specs.Rooted.{root_of, WantsRoot, RootIs}
+use Rattle.plan_ways.specs.call_plans.proofs.Roots.{earlier_is, Led, nth_led}
 
 -- The core may use this capability, of a wanted kind, at some slot.
 pub record MayUse (s : State) (c n : ℕ) (wanted : Kind → Bool) (k : Capability) : Type 0 where

@@ -1,34 +1,22 @@
 -- What a call puts at its target is counted: the call changes references, and the frame that it names there is near it.
-use Rattle.std.proofs.Common.{◌≡◌, ◌≢◌, ℕ, suc, ℤ, pos, negsuc, ◌+◌, ◌++◌, ◌==◌, ◌^◌, ◌<◌, ◌≤◌, map, slice_get}
-use Rattle.std.proofs.Common.{length, length-append, Bool, true, false, if◌then◌else◌, nat_le, cond, List, [], ◌∷◌}
-use Rattle.std.proofs.Common.{Option, Some, None, IsTrue, inl, inr, arith, refl, sym, ◌∙◌, ap, subst, lt-ltb, not}
-use Rattle.std.specs.Prelude.{All, is_some}
-use Rattle.std.proofs.lemmas.Bool.{false≢true, eq-eqb, eqb-true, eqb-false}
-use Rattle.std.proofs.lemmas.List.Elements.{All-nil, All-cons, All-head, All-tail, All-append}
-use Rattle.spk_nums.specs.Capability.{Capability}
-use Rattle.spk_nums.specs.declared.calls.Call.{Call}
-use Rattle.spk_nums.specs.declared.calls.Call.TheVariants.{Look, Copy, Remove, Shrink, Unmap, Retype, Make as make_call}
-use Rattle.spk_nums.specs.declared.calls.Call.TheVariants.{Tick, Gate, Kill, Grow, Touch, Flush, Map, Call as call_gate}
-use Rattle.spk_nums.specs.declared.calls.Call.TheVariants.{Ret, Transfer, Delegate, Test, Switch}
-use Rattle.kernel_rules.specs.State.{State}
-use Rattle.kernel_rules.specs.References.{named_by}
-use Rattle.kernel_history.specs.Discipline.{counts_references}
-use Rattle.kernel_history.specs.Footprint.{is_one_of, frames_near}
-use Rattle.spk_nums.specs.declared.kinds.Kind.TheVariants.{Comp as comp_kind, Gate as gate_kind}
-use Rattle.spk_nums.specs.declared.replies.Reply.TheVariants.{WrongCap}
-use Rattle.kernel_rules.specs.Access.{only}
-use Rattle.kernel_rules.specs.Rules.{Found, Refused, of_kind}
-use Rattle.kernel_invariant.proofs.Sound.{only_is}
-use Rattle.found_stays.proofs.Stays.{name_parts}
-use Rattle.call_plans.specs.Plans.{at_place}
-use Rattle.kernel_history.proofs.Names.{same_word-other}
-use Rattle.kernel_history.proofs.Steps.{own_read-here, own_read-there, last_left-there}
-use Rattle.call_plans.specs.declared.plans.Nth.TheVariants.{First, Second}
-use Rattle.call_plans.specs.PlanOf.{plan_for}
-use Rattle.call_plans.specs.After.{Leads, LeadsIn}
+use Rattle.step_ways.proofs.Common.{◌≡◌, ◌≢◌, ℕ, suc, ℤ, pos, negsuc, ◌+◌, ◌++◌, ◌==◌, ◌^◌, ◌<◌, ◌≤◌, map, slice_get, length, Bool, true}
+use Rattle.step_ways.proofs.Common.{false, if◌then◌else◌, nat_le, cond, List, [], ◌∷◌, Option, Some, None, IsTrue, inl, inr, arith, refl}
+use Rattle.step_ways.proofs.Common.{sym, ◌∙◌, ap, subst, not, All, is_some, false≢true, eq-eqb, eqb-true, eqb-false, All-nil, All-cons}
+use Rattle.step_ways.proofs.Common.{All-head, All-tail, All-append, Capability, Call, Copy, Remove, Shrink, Unmap, Retype, Tick, Gate}
+use Rattle.step_ways.proofs.Common.{Kill, Grow, Touch, Flush, Map, Ret, Transfer, Delegate, Test, Switch, State, named_by}
+use Rattle.step_ways.proofs.Common.{counts_references, is_one_of, frames_near, only, Found, Refused, only_is, name_parts, at_place}
+use Rattle.step_ways.proofs.Common.{same_word-other, own_read-here, own_read-there, last_left-there, First, Second, plan_for, Leads}
+use Rattle.step_ways.proofs.Common.{LeadsIn, put_by}
+use Rattle.std.proofs.Common.{length-append}
+use Rattle.std.proofs.Common.{lt-ltb}
+use Rattle.plan_ways.specs.spk_nums.specs.declared.calls.Call.TheVariants.{Look, Make as make_call}
+use Rattle.plan_ways.specs.spk_nums.specs.declared.calls.Call.TheVariants.{Call as call_gate}
+use Rattle.plan_ways.specs.spk_nums.specs.declared.kinds.Kind.TheVariants.{Comp as comp_kind, Gate as gate_kind}
+use Rattle.plan_ways.specs.spk_nums.specs.declared.replies.Reply.TheVariants.{WrongCap}
+use Rattle.plan_ways.specs.kernel_rules.specs.Rules.{of_kind}
 use Rattle.plan_ways.proofs.Near.{near_found}
 use Rattle.count_invariant.proofs.LinkCounts.{link_near, page_near}
-use Rattle.act_states.specs.Acts.{gate_if, gate_to, put_by}
+use Rattle.act_fits.specs.act_states.specs.Acts.{gate_if, gate_to}
 
 -- A call that fills its target changes references, and the frame that it names there is near it: a line a call.
 pub put_counts : (call : Call) (ks : List Capability) (read : Option ℕ) (k : Capability) → put_by call ks read ≡ Some k

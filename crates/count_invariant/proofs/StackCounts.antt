@@ -1,30 +1,16 @@
 -- The count, and the frames, of a call that enters a component or leaves one.
+use Rattle.step_ways.proofs.Common.{◌≡◌, refl, ℕ, ◌≤◌, Bool, true, false, sym, ◌∙◌, [], ◌∷◌, ◌++◌, length, ap, arith, subst, IsTrue, ◌||◌}
+use Rattle.step_ways.proofs.Common.{◌==◌, eq-eqb, Capability, Kind, Call, Ret, named_by, State, first_of_stack, thread_of, comp_of}
+use Rattle.step_ways.proofs.Common.{counts_references, changes_threads, frames_own, frames_near, is_one_of, First, at_place, plan_for}
+use Rattle.step_ways.proofs.Common.{Leads, LeadsIn, Invoking, InvokingAt, ReturningAt, Due, invoking_dues, returning_dues, InvokesBy}
+use Rattle.step_ways.proofs.Common.{below_of}
 use Rattle.std.specs.Prelude.{List, ℤ, pos, negsuc}
-use Rattle.std.proofs.Common.{◌≡◌, refl, ℕ, ◌≤◌, Bool, true, false, sym, ◌∙◌, [], ◌∷◌, ◌++◌, length, ap, arith, subst, IsTrue, ◌||◌, ◌==◌}
 use Rattle.std.proofs.Math.Bool.{or-true}
-use Rattle.std.proofs.lemmas.Bool.{eq-eqb}
-use Rattle.spk_nums.specs.Capability.{Capability}
-use Rattle.spk_nums.specs.declared.kinds.Kind.{Kind}
-use Rattle.spk_nums.specs.declared.kinds.Kind.TheVariants as kind
-use Rattle.spk_nums.specs.declared.calls.Call.{Call}
-use Rattle.spk_nums.specs.declared.calls.Call.TheVariants.{Call as call_gate, Ret}
-use Rattle.kernel_rules.specs.References.{named_by}
-use Rattle.kernel_rules.specs.State.{State, first_of_stack, thread_of, comp_of}
-use Rattle.kernel_history.specs.Discipline.{counts_references, changes_threads}
-use Rattle.kernel_history.specs.Footprint.{frames_own, frames_near, is_one_of}
-use Rattle.call_plans.specs.declared.plans.Nth.TheVariants.{First}
-use Rattle.call_plans.specs.Plans.{at_place}
-use Rattle.call_plans.specs.PlanOf.{plan_for}
-use Rattle.call_plans.specs.After.{Leads, LeadsIn}
+use Rattle.plan_ways.specs.spk_nums.specs.declared.kinds.Kind.TheVariants as kind
+use Rattle.plan_ways.specs.spk_nums.specs.declared.calls.Call.TheVariants.{Call as call_gate}
 use Rattle.plan_ways.proofs.Near.{near_found, one_left}
-use Rattle.act_states.specs.declared.invocations.Invoking.{Invoking}
-use Rattle.act_states.specs.declared.invocations.InvokingAt.{InvokingAt}
-use Rattle.act_states.specs.declared.invocations.InvokingAt.TheVariants as invoking
-use Rattle.act_states.specs.declared.invocations.ReturningAt.{ReturningAt}
-use Rattle.act_states.specs.declared.invocations.ReturningAt.TheVariants as returning
-use Rattle.act_states.specs.declared.work.Due.{Due}
-use Rattle.act_states.specs.Acts.{invoking_dues, returning_dues}
-use Rattle.core_invariant.specs.Components.{InvokesBy, below_of}
+use Rattle.act_fits.specs.act_states.specs.declared.invocations.InvokingAt.TheVariants as invoking
+use Rattle.act_fits.specs.act_states.specs.declared.invocations.ReturningAt.TheVariants as returning
 use Rattle.count_invariant.proofs.MakingCounts.{no_due}
 
 -- The call that enters a component.

@@ -1,56 +1,27 @@
 -- The counts that a call acquires which makes a frame untyped: of the frames that its object names itself. None of them is the frame, since
 -- nothing refers to that; and they are near the call.
-use Rattle.std.proofs.Common.{◌^◌, ◌≡◌, ◌≢◌, ◌⊎◌, inl, inr, ℕ, ℤ, negsuc, ◌<◌, ◌≤◌, ◌+◌, ◌++◌, ◌||◌, ◌==◌, map, cond, Bool}
-use Rattle.std.proofs.Common.{true, false, IsTrue, List, [], ◌∷◌, Option, Some, None, arith, refl, sym, ◌∙◌, ap, subst}
-use Rattle.std.specs.Prelude.{All}
-use Rattle.std.specs.List.{flat_map}
-use Rattle.std.proofs.lemmas.Bool.{eq-eqb, eqb-true, false≢true}
-use Rattle.std.proofs.lemmas.List.Elements.{All-nil, All-cons}
-use Rattle.spk_nums.specs.Capability.{Capability}
-use Rattle.spk_nums.specs.Setting.{Setting, IsSetting}
-use Rattle.spk_nums.specs.declared.calls.Call.{Call}
-use Rattle.spk_nums.specs.declared.calls.Call.TheVariants.{Retype}
-use Rattle.spk_nums.specs.declared.kinds.FrameKind.TheVariants as frame_kind
-use Rattle.word_map.specs.Word.{Word, CountAt}
-use Rattle.kernel_rules.specs.State.{State}
-use Rattle.kernel_rules.specs.References.{frame_names, times, refs}
-use Rattle.kernel_rules.specs.CallRelation.{rule_of}
-use Rattle.kernel_invariant.proofs.SoundRemovals.{unnamed}
-use Rattle.kernel_invariant.proofs.Sums.{times_cons}
-use Rattle.kernel_history.specs.Discipline.{counts_references, changes_frames}
-use Rattle.kernel_history.specs.Marks.{frame_mark}
-use Rattle.frame_words.proofs.FrameLemmas as frames
-use Rattle.kernel_history.specs.Footprint.{IsNearIn, is_one_of, frames_named, frame_at_slot}
-use Rattle.kernel_history.specs.Footprint.{frame_argument, frames_about, frames_own, frames_near}
-use Rattle.kernel_history.specs.Marking.{marked_by}
-use Rattle.kernel_history.specs.Trace.{Step, Trace, state_after, last_left}
-use Rattle.kernel_history.specs.Ways.{wide_ways, target_of}
+use Rattle.step_ways.proofs.Common.{◌^◌, ◌≡◌, ◌≢◌, ◌⊎◌, inl, inr, ℕ, ℤ, negsuc, ◌<◌, ◌≤◌, ◌+◌, ◌++◌, ◌||◌, ◌==◌, map, cond, Bool, true}
+use Rattle.step_ways.proofs.Common.{false, IsTrue, List, [], ◌∷◌, Option, Some, None, arith, refl, sym, ◌∙◌, ap, subst, All, flat_map}
+use Rattle.step_ways.proofs.Common.{eq-eqb, eqb-true, false≢true, All-nil, All-cons, Capability, Setting, IsSetting, Call, Retype, Word}
+use Rattle.step_ways.proofs.Common.{CountAt, State, frame_names, times, refs, rule_of, times_cons, counts_references, changes_frames}
+use Rattle.step_ways.proofs.Common.{frame_mark, IsNearIn, is_one_of, frames_named, frame_at_slot, frame_argument, frames_own, frames_near}
+use Rattle.step_ways.proofs.Common.{marked_by, Step, Trace, state_after, last_left, wide_ways, target_of, Acquired, Pin, thaw_of, Swept}
+use Rattle.step_ways.proofs.Common.{dues, undo, released_dues, release_of, untyping_dues, UntypingAt, Untyping, Due, Acquire, StageFits}
+use Rattle.step_ways.proofs.Common.{ActiveCall, Undecided, Core, holds_release, holds_untyping, Holding, holds_counts, settled}
+use Rattle.step_ways.proofs.Common.{settled_by, KnowsTail, KnowsUnmark, KnowsUndecided, due_of, Invariant, held_by, holds_act, holds_at}
+use Rattle.step_ways.proofs.Common.{holds_in, KnowsSwept, KnowsUntyping, KnowsUntypingAt, UntypesBy, ThawsFrame, names_of, thaws_own}
+use Rattle.step_ways.proofs.Common.{limits_of, HoldsSwept, release_swept}
+use Rattle.plan_ways.specs.spk_nums.specs.declared.kinds.FrameKind.TheVariants as frame_kind
+use Rattle.plan_ways.specs.kernel_invariant.proofs.SoundRemovals.{unnamed}
+use Rattle.plan_ways.specs.frame_words.proofs.FrameLemmas as frames
+use Rattle.plan_ways.specs.kernel_history.specs.Footprint.{frames_about}
 use Rattle.plan_ways.proofs.Near.{one_left, one_right}
-use Rattle.stage_pins.specs.declared.held.Acquired.{Acquired}
-use Rattle.stage_pins.specs.declared.pin.Pin.{Pin}
-use Rattle.stage_sweep.specs.Release.{thaw_of}
-use Rattle.stage_sweep.specs.declared.sweep.Swept.{Swept}
-use Rattle.act_states.specs.Acts.{dues, undo}
-use Rattle.act_states.specs.Untypings.{is_drawing, released_dues, release_of, untyping_dues, untyping_undo}
-use Rattle.act_states.specs.declared.untypings.UntypingAt.{UntypingAt}
-use Rattle.act_states.specs.declared.untypings.UntypingAt.TheVariants as untype
-use Rattle.act_states.specs.declared.untypings.Untyping.{Untyping}
-use Rattle.act_states.specs.declared.work.Act.TheVariants.{Untype as untype_act}
-use Rattle.act_states.specs.declared.work.Due.{Due}
-use Rattle.act_states.specs.declared.work.Work.TheVariants.{Acquire}
-use Rattle.call_stages.specs.Fits.{StageFits}
-use Rattle.call_stages.specs.declared.stages.ActiveCall.{ActiveCall}
-use Rattle.call_stages.specs.declared.stages.Stage.TheVariants.{Undecided}
-use Rattle.call_stages.specs.View.{Core}
-use Rattle.core_invariant.specs.Frozen.{holds_release, holds_untyping}
-use Rattle.core_invariant.specs.Holding.{Holding, holds_counts, settled, settled_by}
-use Rattle.core_invariant.specs.Knows.{KnowsTail, KnowsUnmark, KnowsUndecided, due_of, pin_frame}
-use Rattle.core_invariant.specs.Invariant.{Invariant, held_by, holds_act, holds_at, holds_in}
-use Rattle.core_invariant.specs.Sweeps.{KnowsSwept, KnowsUntyping, KnowsUntypingAt, UntypesBy, ThawsFrame, names_of}
-use Rattle.core_invariant.proofs.Freezing.{thaws_own}
+use Rattle.act_fits.specs.act_states.specs.Untypings.{is_drawing, untyping_undo}
+use Rattle.act_fits.specs.act_states.specs.declared.untypings.UntypingAt.TheVariants as untype
+use Rattle.act_fits.specs.act_states.specs.declared.work.Act.TheVariants.{Untype as untype_act}
+use Rattle.step_ways.specs.core_invariant.specs.Knows.{pin_frame}
 use Rattle.step_ways.proofs.Loads.{is_active}
-use Rattle.core_invariant.proofs.Sounds.{limits_of}
-use Rattle.kept_facts.proofs.Swept.{HoldsSwept, no_refs, release_swept}
+use Rattle.step_ways.specs.kept_facts.proofs.Swept.{no_refs}
 use Rattle.count_invariant.proofs.ActHolds.{SparesAt, SparesSwept}
 use Rattle.count_invariant.proofs.MakingCounts.{due_named}
 

@@ -1,44 +1,20 @@
 -- The counts of a call that switches, and the frames that it names.
-use Rattle.std.specs.Prelude.{List, All, pos, negsuc}
-use Rattle.std.specs.List.{flat_map}
-use Rattle.std.proofs.Common.{◌≡◌, ◌+◌, ◌<◌, inl, inr, refl, ℕ, Bool, true, false, sym, ◌∙◌}
-use Rattle.std.proofs.Common.{[], ◌∷◌, ◌++◌, map, ap, subst, IsTrue, ◌||◌, ◌==◌, arith}
-use Rattle.std.proofs.lemmas.Bool.{eq-eqb}
-use Rattle.std.proofs.lemmas.List.Elements.{All-nil, All-cons, All-head, All-tail}
-use Rattle.spk_nums.specs.Setting.{Setting}
-use Rattle.spk_nums.specs.Capability.{Capability}
-use Rattle.spk_nums.specs.declared.kinds.Kind.{Kind}
-use Rattle.spk_nums.specs.declared.kinds.Kind.TheVariants as kind
-use Rattle.spk_nums.specs.declared.calls.Call.{Call}
-use Rattle.spk_nums.specs.declared.calls.Call.TheVariants.{Switch}
-use Rattle.kernel_rules.specs.Access.{only}
-use Rattle.word_map.specs.Word.{EntryAt}
-use Rattle.kernel_rules.specs.CallRelation.{rule_of, counted}
-use Rattle.kernel_rules.specs.References.{named_by, frame_names}
-use Rattle.kernel_rules.specs.Relies.{IsGuarded}
-use Rattle.kernel_rules.specs.State.{State, thread_of, comp_of}
-use Rattle.kernel_invariant.proofs.Sound.{only_is}
-use Rattle.found_stays.proofs.SparesRuns.{core_same_refs}
-use Rattle.kernel_history.specs.Discipline.{counts_references, changes_threads}
-use Rattle.kernel_history.specs.Footprint.{IsNearIn, frames_about, frames_near, frames_own, is_one_of}
-use Rattle.kernel_history.specs.Trace.{Step, Trace, Open, Out, WasAt, phase, state_after}
-use Rattle.kernel_history.specs.Ways.{wide_ways}
-use Rattle.trace_laws.proofs.Carries.{was_now, was_stays}
-use Rattle.stage_pins.specs.declared.held.Acquired.{Acquired}
-use Rattle.stage_thread.specs.declared.claim.Claim.TheVariants.{AtLoad, AtCompare, AtStack}
-use Rattle.stage_thread.specs.declared.claim.Claimed.{Claimed}
-use Rattle.call_plans.specs.declared.plans.Nth.TheVariants.{First, Second}
-use Rattle.call_plans.specs.Plans.{at_place}
-use Rattle.call_plans.specs.PlanOf.{plan_for}
-use Rattle.call_plans.specs.After.{Leads, LeadsIn}
+use Rattle.step_ways.proofs.Common.{All, flat_map, ◌≡◌, ◌+◌, ◌<◌, inl, inr, refl, ℕ, Bool, true, false, sym, ◌∙◌, [], ◌∷◌, ◌++◌, map, ap}
+use Rattle.step_ways.proofs.Common.{subst, IsTrue, ◌||◌, ◌==◌, arith, eq-eqb, All-nil, All-cons, All-head, All-tail, Setting, Capability}
+use Rattle.step_ways.proofs.Common.{Kind, Call, Switch, only, EntryAt, rule_of, counted, named_by, frame_names, IsGuarded, State}
+use Rattle.step_ways.proofs.Common.{thread_of, comp_of, only_is, core_same_refs, counts_references, changes_threads, IsNearIn}
+use Rattle.step_ways.proofs.Common.{frames_near, frames_own, is_one_of, Step, Trace, Open, Out, WasAt, phase, state_after, wide_ways}
+use Rattle.step_ways.proofs.Common.{was_now, was_stays, Acquired, AtStack, First, Second, at_place, plan_for, Leads, LeadsIn, tcap_dues}
+use Rattle.step_ways.proofs.Common.{Switching, SwitchAt, LoadTable, Due, KnowsTail, HasThread, SwitchesBy, claimed_by}
+use Rattle.std.specs.Prelude.{List, pos, negsuc}
+use Rattle.plan_ways.specs.spk_nums.specs.declared.kinds.Kind.TheVariants as kind
+use Rattle.plan_ways.specs.kernel_history.specs.Footprint.{frames_about}
+use Rattle.act_fits.specs.stage_thread.specs.declared.claim.Claim.TheVariants.{AtLoad, AtCompare}
+use Rattle.act_fits.specs.stage_thread.specs.declared.claim.Claimed.{Claimed}
 use Rattle.plan_ways.proofs.Near.{near_found, one_left}
-use Rattle.act_states.specs.Switches.{switching_dues, switch_due_list, switching_undo, tcap_dues}
-use Rattle.act_states.specs.declared.switches.Switching.{Switching}
-use Rattle.act_states.specs.declared.switches.SwitchAt.{SwitchAt}
-use Rattle.act_states.specs.declared.switches.SwitchAt.TheVariants.{Claim, LoadTable, LoadPages, Leave, Draw}
-use Rattle.act_states.specs.declared.work.Due.{Due}
-use Rattle.core_invariant.specs.Knows.{KnowsTail}
-use Rattle.core_invariant.specs.Threads.{HasThread, KnowsIdle, LeavesOwn, SwitchesBy, claimed_by}
+use Rattle.act_fits.specs.act_states.specs.Switches.{switching_dues, switch_due_list, switching_undo}
+use Rattle.act_fits.specs.act_states.specs.declared.switches.SwitchAt.TheVariants.{Claim, LoadPages, Leave, Draw}
+use Rattle.step_ways.specs.core_invariant.specs.Threads.{KnowsIdle, LeavesOwn}
 use Rattle.step_ways.proofs.Refusals.{IsRefusing}
 use Rattle.count_invariant.proofs.MakingCounts.{named_kind}
 

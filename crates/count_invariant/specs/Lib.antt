@@ -1,0 +1,21 @@
+-- What the crates above name through this one.
+pub use Rattle.plan_ways.specs.entry_words
+pub use Rattle.plan_ways.specs.frame_words
+pub use Rattle.plan_ways.specs.tcap_words
+pub use Rattle.plan_ways.specs.word_map
+pub use Rattle.plan_ways.specs.kernel_history
+pub use Rattle.step_ways.specs.trace_laws
+pub use Rattle.plan_ways.specs.call_plans
+pub use Rattle.act_fits.specs.stage_look
+pub use Rattle.act_fits.specs.stage_pins
+pub use Rattle.act_fits.specs.stage_quiet
+pub use Rattle.act_fits.specs.stage_thread
+pub use Rattle.act_fits.specs.stage_sweep
+pub use Rattle.act_fits.specs.stage_tcap
+pub use Rattle.plan_ways
+pub use Rattle.act_fits.specs.act_states
+pub use Rattle.act_fits.specs.call_stages
+pub use Rattle.act_fits
+pub use Rattle.step_ways.specs.core_invariant
+pub use Rattle.step_ways.specs.kept_facts
+pub use Rattle.step_ways

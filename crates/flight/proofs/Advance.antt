@@ -1,23 +1,14 @@
 -- A step of any core leaves cores that stand for the trace with it.
-use Rattle.std.proofs.Common.{◌≡◌, ℕ, ◌<◌, Option, Some, None, true, refl, sym, subst}
-use Rattle.std.specs.Prelude.{IsSome}
-use Rattle.std.proofs.lemmas.Bool.{false≢true}
-use Rattle.spk_nums.specs.Setting.{Setting, IsSetting}
-use Rattle.spk_nums.specs.declared.calls.Call.{Call}
-use Rattle.word_map.specs.Word.{CoreAt}
-use Rattle.word_map.specs.Places.{IsIn as IsInShape}
-use Rattle.word_map.specs.Moves.{StoreOf, word_of}
-use Rattle.kernel_history.specs.Trace.{Trace, last_left}
-use Rattle.call_stages.specs.declared.stages.ActiveCall.{ActiveCall}
-use Rattle.call_stages.specs.View.{Core}
+use Rattle.work_invariant.proofs.Common.{◌≡◌, ℕ, ◌<◌, Option, Some, None, true, refl, sym, subst, IsSome, false≢true, Setting, IsSetting}
+use Rattle.work_invariant.proofs.Common.{Call, CoreAt, StoreOf, word_of, Trace, last_left, ActiveCall, Core, core_word, stage_move, Took}
+use Rattle.work_invariant.proofs.Common.{fresh, told_by, Knows, CallIs, Invariant}
+use Rattle.boot_words.specs.word_map.specs.Places.{IsIn as IsInShape}
 use Rattle.call_stages.specs.Fits.{IsActive}
-use Rattle.call_stages.specs.Steps.{core_word, stage_move, Took, took_enter, is_spent}
-use Rattle.call_stages.specs.Cores.{fresh, begun, told_by}
+use Rattle.call_stages.specs.Steps.{took_enter, is_spent}
+use Rattle.call_stages.specs.Cores.{begun}
 use Rattle.call_stages.specs.Cores as cores_of
-use Rattle.core_invariant.specs.Knows.{Knows, CallIs}
-use Rattle.core_invariant.specs.Invariant.{Invariant}
-use Rattle.step_ways.proofs.Good.{IsGood, stands_on}
-use Rattle.step_ways.proofs.Loads.{is_active}
+use Rattle.work_invariant.specs.step_ways.proofs.Good.{IsGood, stands_on}
+use Rattle.work_invariant.specs.step_ways.proofs.Loads.{is_active}
 use Rattle.flight.specs.Made.{turned, MayBegin, MayStep, step_at, step_of, core_after}
 use Rattle.flight.specs.Theorems.{found_by, StepsOn}
 use Rattle.flight.specs.Phases.{IsWord}

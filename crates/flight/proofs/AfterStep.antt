@@ -1,13 +1,9 @@
 -- What a core is after its step, whatever the call: it is on the same machine, and is between calls exactly where the step returned.
-use Rattle.std.proofs.Common.{◌≡◌, ℕ, Option, Some, None, IsSome, refl}
-use Rattle.spk_nums.specs.declared.replies.Reply.{Reply}
-use Rattle.call_stages.specs.declared.stages.ActiveCall.{ActiveCall}
-use Rattle.call_stages.specs.Steps.{Took, GoesOn, Decides, Returns, Changes, took}
-use Rattle.call_stages.specs.View.{Core}
-use Rattle.act_states.specs.declared.own.Own.{Own}
-use Rattle.act_states.specs.declared.own.OwnChange.TheVariants.{Ticks, Empties, Works, Caches, Switches}
-use Rattle.call_stages.specs.Cores.{core_after, absorbed_in, absorbed, told_by, told_in, told_of_step}
-use Rattle.core_invariant.specs.Events.{returned_in}
+use Rattle.work_invariant.proofs.Common.{◌≡◌, ℕ, Option, Some, None, refl, Reply, ActiveCall, Took, GoesOn, Decides, Returns, Changes}
+use Rattle.work_invariant.proofs.Common.{took, Core, Own, Works, core_after, absorbed_in, absorbed, told_by, told_in, returned_in}
+use Rattle.std.proofs.Common.{IsSome}
+use Rattle.call_stages.specs.act_states.specs.declared.own.OwnChange.TheVariants.{Ticks, Empties, Caches, Switches}
+use Rattle.call_stages.specs.Cores.{told_of_step}
 
 after_shape : (own : Own) (k : Took) → (core_after own k).own.layout ≡ own.layout
 after_shape own (GoesOn a) = refl

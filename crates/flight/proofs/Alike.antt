@@ -1,24 +1,15 @@
 -- What is closed represents what was left, where its words and ends are the same; and so do its counts.
-use Rattle.std.proofs.Common.{◌≡◌, ℕ, ◌+ℤ◌, ◌+◌, ◌<◌, ◌≤◌, List, [], ◌∷◌, length, get_or, arith, refl, sym, ◌∙◌, ap, subst, zero, suc}
-use Rattle.spk_nums.specs.Setting.{Setting, IsSetting}
-use Rattle.spk_nums.specs.declared.translations.CoreEnd.{CoreEnd}
-use Rattle.word_map.specs.Word.{Word, EntryAt, FrameAt, CountAt, CoreAt, LiveAt}
-use Rattle.word_map.specs.Places.{IsIn, shared, counter_of}
-use Rattle.entry_words.specs.EntryWord.{entry_of_word}
-use Rattle.frame_words.specs.Comp.{comp_of_word}
-use Rattle.frame_words.specs.Count.{count_of_word}
-use Rattle.frame_words.specs.Frame.{frame_of_word}
-use Rattle.frame_words.specs.Live.{live_of_word}
-use Rattle.frame_words.specs.Core.{core_of_word}
-use Rattle.tcap_words.specs.Thread.{thread_of_word}
-use Rattle.tcap_words.specs.Stack.{stack_of_word}
-use Rattle.tcap_words.specs.Head.{head_of_word}
-use Rattle.tcap_words.specs.Quality.{quality_of_word}
-use Rattle.kernel_rules.specs.State.{Place, Object, Blank, Table, Leaf, Pages, Pleaf, Comp}
-use Rattle.kernel_rules.specs.State.{Thread, Tcap, Frame, Untyped, User, Kernel, State}
-use Rattle.kernel_history.specs.BootWords.{shape_of}
-use Rattle.kernel_history.specs.Counts.{counters, count_at, count_in, count_sum, IsUnheld, RepresentCounts}
-use Rattle.kernel_history.specs.FinalWords.{Represent, AreEntries, AreObject, AreFrame, SaysPlace, SaysNumber, SaysOut}
+use Rattle.work_invariant.proofs.Common.{◌≡◌, ℕ, ◌+ℤ◌, ◌+◌, ◌<◌, ◌≤◌, List, [], ◌∷◌, length, arith, refl, sym, ◌∙◌, ap, subst, zero, suc}
+use Rattle.work_invariant.proofs.Common.{Setting, IsSetting, Word, EntryAt, FrameAt, CountAt, CoreAt, LiveAt, IsIn, counter_of}
+use Rattle.work_invariant.proofs.Common.{entry_of_word, comp_of_word, count_of_word, frame_of_word, live_of_word, core_of_word}
+use Rattle.work_invariant.proofs.Common.{thread_of_word, stack_of_word, head_of_word, quality_of_word, Place, Object, Blank, Table, Leaf}
+use Rattle.work_invariant.proofs.Common.{Pages, Pleaf, Comp, Thread, Tcap, Frame, Untyped, User, Kernel, State, shape_of, counters}
+use Rattle.work_invariant.proofs.Common.{count_in, count_sum}
+use Rattle.std.proofs.Common.{get_or}
+use Rattle.boot_words.specs.spk_nums.specs.declared.translations.CoreEnd.{CoreEnd}
+use Rattle.boot_words.specs.word_map.specs.Places.{shared}
+use Rattle.boot_words.specs.kernel_history.specs.Counts.{count_at, IsUnheld, RepresentCounts}
+use Rattle.boot_words.specs.kernel_history.specs.FinalWords.{Represent, AreEntries, AreObject, AreFrame, SaysPlace, SaysNumber, SaysOut}
 
 -- words that are alike say alike
 module _ (word word' : ℕ → ℕ) (alike : (i : ℕ) → i < 64 → word i ≡ word' i) where

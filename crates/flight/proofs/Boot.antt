@@ -1,54 +1,44 @@
 -- The start stands for no step.
-use Rattle.core_invariant.proofs.Bare.{none_value}
-use Rattle.std.proofs.Common.{◌≡◌, inl, inr, ℕ, zero, suc, ◌+◌, ◌<◌, ◌≤◌, ◌==◌, ◌*◌, ◌-◌, ◌∷◌, nat_lt, length, slice_get, Bool, true}
-use Rattle.std.proofs.Common.{false, [], Option, Some, None, arith, refl, sym, ◌∙◌, ap, subst, IsTrue, if◌then◌else◌, pos, ◌+ℤ◌, max}
-use Rattle.std.proofs.lemmas.Bool.{cases_lt, false≢true, lt-ltb, eqb-true}
-use Rattle.spk_nums.specs.Capability.{Capability}
-use Rattle.spk_nums.specs.Setting.{Setting, IsSetting}
-use Rattle.spk_nums.specs.declared.kinds.Kind.{Kind}
-use Rattle.spk_nums.specs.declared.kinds.Kind.TheVariants as kind
-use Rattle.entry_words.specs.declared.entry.Entry.{Entry}
-use Rattle.entry_words.specs.declared.entry.Entry.TheVariants as entry
-use Rattle.entry_words.specs.EntryWord.{word_of_entry, entry_of_word}
-use Rattle.entry_words.proofs.Spelling as entries
-use Rattle.frame_words.specs.Frame.{frame_of_word}
-use Rattle.frame_words.specs.Count.{count_of_word}
-use Rattle.frame_words.specs.Live.{live_of_word}
-use Rattle.frame_words.specs.declared.count_word.Hold.TheVariants.{Unheld}
-use Rattle.frame_words.specs.declared.live_word.LiveWord.TheVariants as live_word
-use Rattle.frame_words.proofs.CoreLemmas as core_words
-use Rattle.frame_words.proofs.CountLemmas as counts
-use Rattle.frame_words.proofs.FlushLemmas as flushes
-use Rattle.frame_words.proofs.FrameLemmas as frames
-use Rattle.frame_words.proofs.LiveLemmas as lives
-use Rattle.word_map.specs.Word.{Word, EntryAt, FrameAt, CountAt, CoreAt, FlushAt, LiveAt, ClockAt}
-use Rattle.kernel_rules.specs.State.{Place, Free, Holds, Quiescing, Object, Blank, Table, Leaf, Pages, Pleaf, Comp, Thread, Tcap}
-use Rattle.kernel_rules.specs.State.{TcapFields, Frame, Untyped, User, Kernel, State, comp_in, thread_in, thread_of, first_of_stack}
-use Rattle.kernel_rules.specs.Start.{start, start_place, start_cap, place_with, start_frame, start_number, granted}
-use Rattle.kernel_rules.specs.References.{refs}
-use Rattle.kernel_rules.specs.Fitting.{fits, IsGood, EndsWithin}
-use Rattle.kernel_invariant.proofs.SoundStart.{past_three, start_sound}
-use Rattle.kernel_history.specs.BootWords.{boot_word, boot_entry, boot_object, boot_frame, boot_live}
-use Rattle.kernel_history.specs.ObjectWords.{frame_value}
-use Rattle.kernel_history.specs.FinalWords.{SaysPlace, AreObject, AreFrame, SaysNumber, Represent}
-use Rattle.kernel_history.specs.Marks.{entry_mark, frame_mark, count_mark, live_mark, thread_mark, head_mark, mark_in_frame, object_mark}
+use Rattle.work_invariant.proofs.Common.{◌≡◌, inl, inr, ℕ, zero, suc, ◌+◌, ◌<◌, ◌≤◌, ◌==◌, ◌*◌, ◌-◌, ◌∷◌, nat_lt, length, slice_get, Bool}
+use Rattle.work_invariant.proofs.Common.{true, false, [], Option, Some, None, arith, refl, sym, ◌∙◌, ap, subst, IsTrue, if◌then◌else◌}
+use Rattle.work_invariant.proofs.Common.{pos, ◌+ℤ◌, max, cases_lt, false≢true, lt-ltb, eqb-true, Capability, Setting, IsSetting, Kind}
+use Rattle.work_invariant.proofs.Common.{Entry, word_of_entry, entry_of_word, frame_of_word, count_of_word, live_of_word, Word, EntryAt}
+use Rattle.work_invariant.proofs.Common.{FrameAt, CountAt, CoreAt, FlushAt, LiveAt, ClockAt, Place, Free, Holds, Quiescing, Object, Blank}
+use Rattle.work_invariant.proofs.Common.{Table, Leaf, Pages, Pleaf, Comp, Thread, Tcap, TcapFields, Frame, Untyped, User, Kernel, State}
+use Rattle.work_invariant.proofs.Common.{comp_in, thread_in, thread_of, first_of_stack, refs, fits, frame_value, entry_mark, frame_mark}
+use Rattle.work_invariant.proofs.Common.{count_mark, live_mark, thread_mark, head_mark, mark_in_frame, CapNames, marked_by, settled_by}
+use Rattle.work_invariant.proofs.Common.{PlaceIs, IsFrameWord, NumberIs, WordIs, count_room, word_of_head, head_of_word, HeadWord}
+use Rattle.work_invariant.proofs.Common.{held_by, times_of, count_shown, SumIs, stamp_in, count_in, word_of_count, word_of_frame}
+use Rattle.work_invariant.proofs.Common.{word_of_live, at_height, thread_value, quality_of_word, stack_of_word, thread_of_word}
+use Rattle.work_invariant.proofs.Common.{end_of_frames}
+use Rattle.work_invariant.specs.core_invariant.proofs.Bare.{none_value}
+use Rattle.boot_words.specs.spk_nums.specs.declared.kinds.Kind.TheVariants as kind
+use Rattle.boot_words.specs.entry_words.specs.declared.entry.Entry.TheVariants as entry
+use Rattle.boot_words.specs.entry_words.proofs.Spelling as entries
+use Rattle.boot_words.specs.frame_words.specs.declared.count_word.Hold.TheVariants.{Unheld}
+use Rattle.boot_words.specs.frame_words.specs.declared.live_word.LiveWord.TheVariants as live_word
+use Rattle.boot_words.specs.frame_words.proofs.CoreLemmas as core_words
+use Rattle.boot_words.specs.frame_words.proofs.CountLemmas as counts
+use Rattle.boot_words.specs.frame_words.proofs.FlushLemmas as flushes
+use Rattle.boot_words.specs.frame_words.proofs.FrameLemmas as frames
+use Rattle.boot_words.specs.frame_words.proofs.LiveLemmas as lives
+use Rattle.boot_words.specs.kernel_rules.specs.Start.{start, start_place, start_cap, place_with, start_frame, start_number, granted}
+use Rattle.boot_words.specs.kernel_rules.specs.Fitting.{IsGood, EndsWithin}
+use Rattle.call_stages.specs.kernel_invariant.proofs.SoundStart.{past_three, start_sound}
+use Rattle.boot_words.specs.kernel_history.specs.BootWords.{boot_word, boot_entry, boot_object, boot_frame, boot_live}
+use Rattle.boot_words.specs.kernel_history.specs.FinalWords.{SaysPlace, AreObject, AreFrame, SaysNumber, Represent}
+use Rattle.boot_words.specs.kernel_history.specs.Marks.{object_mark}
 use Rattle.boot_words.proofs.BootRepresents.{boot_represents}
 use Rattle.boot_words.proofs.StartRefs.{refs_most}
-use Rattle.trace_laws.proofs.GraceSteps.{grace_start, times_start}
-use Rattle.stage_look.specs.Shown.{CapNames}
-use Rattle.kernel_history.specs.Marking.{marked_by}
-use Rattle.core_invariant.specs.Holding.{settled_by}
-use Rattle.core_invariant.specs.Words.{PlaceIs, IsObjectWord, IsFrameWord, NumberIs, WordIs, count_room}
-use Rattle.tcap_words.specs.Head.{word_of_head, head_of_word}
-use Rattle.tcap_words.specs.declared.head_word.HeadWord.{HeadWord}
-use Rattle.tcap_words.proofs.HeadLemmas as heads
-use Rattle.core_invariant.specs.Invariant.{held_by, times_of, count_shown, SumIs}
-use Rattle.core_invariant.specs.CountWords.{stamp_in}
-use Rattle.kernel_history.specs.Counts.{count_in}
+use Rattle.work_invariant.specs.trace_laws.proofs.GraceSteps.{grace_start, times_start}
+use Rattle.work_invariant.specs.core_invariant.specs.Words.{IsObjectWord}
+use Rattle.boot_words.specs.tcap_words.proofs.HeadLemmas as heads
 use Rattle.std.proofs.lemmas.Int.{ints}
 use Rattle.flight.specs.Made.{boot_cores}
 use Rattle.flight.specs.Theorems.{Boots}
 use Rattle.flight.proofs.CoreFits.{started_fits}
+use Rattle.boot_words.specs.kernel_history.specs.FinalWords.{end_of}
+use Rattle.boot_words.specs.tcap_words.specs.Head.{head_of_word as head_of_word_of_head}
 
 -- A good capability names frames of the machine.
 good_names : (s : State) (k : Capability) → ((f : ℕ) → s.limits.frames ≤ f → s.frame f ≡ Untyped) → IsGood s k
@@ -62,7 +52,7 @@ good_names s k beyond good = by_kind k.kind good.fit good.within
     ]
 
     by_kind : (j : Kind) → IsTrue (fits j (s.frame k.frame)) → EndsWithin j k.frame k.arg s.limits.frames
-        → Rattle.stage_look.specs.Shown.end_of_frames j k.frame k.arg ≤ s.limits.frames
+        → end_of_frames j k.frame k.arg ≤ s.limits.frames
     by_kind kind.Range fit within = within
     by_kind kind.Table fit within = below kind.Table fit refl
     by_kind kind.Leaf fit within = below kind.Leaf fit refl
@@ -141,7 +131,7 @@ module _ (setup : Setting) (setting : IsSetting setup) where
   abbrev boot_room : ℕ
   boot_room = count_room (start setup)
 
-  parts : Represent (boot_word setup) (λ c. Rattle.kernel_history.specs.FinalWords.end_of (start setup) c) (start setup)
+  parts : Represent (boot_word setup) (λ c. end_of (start setup) c) (start setup)
   parts = (boot_represents setup setting).parts
 
   names : (f i : ℕ) (k : Capability) → start_place setup f i ≡ Holds k → CapNames setup.frames k
@@ -162,7 +152,7 @@ module _ (setup : Setting) (setting : IsSetting setup) where
     node_says i below = place_says setup.frames (start_place setup f i) _ (start_stands setup f i) (names f i) (says i below)
 
   thread_value_mark : (o : Option ℕ) (depth : ℕ)
-      → thread_mark (Some (Rattle.kernel_history.specs.ObjectWords.thread_value o depth)) ≡ None
+      → thread_mark (Some (thread_value o depth)) ≡ None
   thread_value_mark None depth = refl
   thread_value_mark (Some c) depth = refl
 
@@ -182,10 +172,10 @@ module _ (setup : Setting) (setting : IsSetting setup) where
   object_marks f Pleaf h i = node_marks f h i
   object_marks f (Comp k) h i = refl
   object_marks f (Thread t) h i =
-      first_mark i (λ i. thread_mark (Rattle.tcap_words.specs.Thread.thread_of_word (boot_object (Thread t) (start_place setup f) i)))
+      first_mark i (λ i. thread_mark (thread_of_word (boot_object (Thread t) (start_place setup f) i)))
       (ap thread_mark h.runs ∙ thread_value_mark t.runs_on (length t.stack))
   object_marks f (Tcap q) h i =
-      first_mark i (λ i. head_mark (Rattle.tcap_words.specs.Head.head_of_word (boot_object (Tcap q) (start_place setup f) i)))
+      first_mark i (λ i. head_mark (head_of_word_of_head (boot_object (Tcap q) (start_place setup f) i)))
       (ap head_mark h.head)
 
   object_says : (f : ℕ) (x : Object) → AreObject x (start_place setup f) (λ i. boot_object x (start_place setup f) i)
@@ -201,8 +191,8 @@ module _ (setup : Setting) (setting : IsSetting setup) where
   object_says f (Comp k) h (suc (suc (suc i))) = tt
   object_says f (Thread t) h zero = h.runs
   object_says f (Thread t) h (suc i) =
-      λ below. subst (λ (j : ℕ). Rattle.tcap_words.specs.Stack.stack_of_word (boot_object (Thread t) (start_place setup f) j) ≡ Some
-      (record { 0 = Rattle.kernel_history.specs.ObjectWords.at_height t.stack i }))
+      λ below. subst (λ (j : ℕ). stack_of_word (boot_object (Thread t) (start_place setup f) j) ≡ Some
+      (record { 0 = at_height t.stack i }))
       (next i) (h.stack i below)
   object_says f (Tcap q) h zero = record {
     version = h.version;
@@ -212,7 +202,7 @@ module _ (setup : Setting) (setting : IsSetting setup) where
     most = h.most;
   }
   object_says f (Tcap q) h (suc i) =
-      λ below. subst (λ (j : ℕ). Rattle.tcap_words.specs.Quality.quality_of_word (boot_object (Tcap q) (start_place setup f) j) ≡ Some
+      λ below. subst (λ (j : ℕ). quality_of_word (boot_object (Tcap q) (start_place setup f) j) ≡ Some
       (record { 0 = slice_get q.qualities i }))
       (next i) (h.list i below)
 
@@ -240,7 +230,7 @@ module _ (setup : Setting) (setting : IsSetting setup) where
   kind_reads : (f : ℕ) → frame_of_word (boot_word setup (FrameAt f)) ≡ Some (frame_value (start_frame setup f))
   kind_reads f = elim (cases_lt f setup.frames) [
     | inl here ↦ parts.kinds f here
-    | inr past ↦ subst (λ x. frame_of_word (Rattle.frame_words.specs.Frame.word_of_frame (frame_value x)) ≡ Some (frame_value x))
+    | inr past ↦ subst (λ x. frame_of_word (word_of_frame (frame_value x)) ≡ Some (frame_value x))
         (sym ((start_sound setup setting).beyond f past))
         (frames.spelling.reads (frame_value Untyped) (tt, omega arith))
   ]
@@ -251,14 +241,14 @@ module _ (setup : Setting) (setting : IsSetting setup) where
   frame_value_mark (Kernel x) = refl
 
   count_reads : (f n : ℕ) → n ≤ refs (start setup) f
-      → count_of_word (Rattle.frame_words.specs.Count.word_of_count (record { hold = Unheld; count = pos n; stamp = 0 })) ≡ Some
+      → count_of_word (word_of_count (record { hold = Unheld; count = pos n; stamp = 0 })) ≡ Some
       (record { hold = Unheld; count = pos n; stamp = 0 })
   count_reads f n most =
       counts.spelling.reads (record { hold = Unheld; count = pos n; stamp = 0 })
       (tt, (let m = refs_most setup setting f in omega (arith, m, most)), omega arith)
 
   number_reads : (l : ℕ) → live_of_word (boot_word setup (LiveAt l)) ≡ Some (boot_live (start_number l))
-  number_reads l = choose (λ x. live_of_word (Rattle.frame_words.specs.Live.word_of_live (boot_live x)) ≡ Some (boot_live x)) (l == 0) _ _
+  number_reads l = choose (λ x. live_of_word (word_of_live (boot_live x)) ≡ Some (boot_live x)) (l == 0) _ _
       (lives.spelling.reads (live_word.Live 1 3) (omega arith, omega arith, omega arith)) (lives.spelling.reads live_word.Free tt)
 
   number_mark : (l : ℕ) → live_mark (Some (boot_live (start_number l))) ≡ None

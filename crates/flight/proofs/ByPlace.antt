@@ -1,10 +1,10 @@
 -- A step by the place of its word is the step by the word's name, and words of different names have different places.
-use Rattle.std.proofs.Common.{◌≡◌, ◌≢◌, ℕ, refl, sym, ◌∙◌}
-use Rattle.spk_nums.specs.WordSteps.{place_in, left_by, told_by}
-use Rattle.word_map.specs.Word.{Word}
-use Rattle.word_map.specs.Places.{Shape, IsShape, place_of}
-use Rattle.word_map.specs.Moves.{Move, LoadOf, CompareOf, StoreOf, AddOf, word_of, op_of, left_of, told_of}
-use Rattle.word_map.proofs.PlaceLemmas.{has_places}
+use Rattle.work_invariant.proofs.Common.{◌≡◌, ◌≢◌, ℕ, refl, sym, ◌∙◌, Word, Shape, Move, LoadOf, CompareOf, StoreOf, AddOf, word_of}
+use Rattle.work_invariant.proofs.Common.{left_of, told_of}
+use Rattle.boot_words.specs.spk_nums.specs.WordSteps.{place_in, left_by, told_by}
+use Rattle.boot_words.specs.word_map.specs.Places.{IsShape, place_of}
+use Rattle.boot_words.specs.word_map.specs.Moves.{op_of}
+use Rattle.boot_words.specs.word_map.proofs.PlaceLemmas.{has_places}
 use Rattle.flight.specs.Phases.{IsWord}
 
 pub place_is : (shape : Shape) (m : Move) → place_in (op_of shape m) ≡ place_of shape (word_of m)

@@ -1,20 +1,13 @@
 -- A core keeps in its ranges: at the start, where it begins a call, and after each step.
-use Rattle.std.proofs.Common.{◌≡◌, ℕ, ◌<◌, ◌≤◌, ◌*◌, ◌+◌, Option, Some, None, arith, refl, sym, ap, subst}
-use Rattle.std.specs.Prelude.{IsSome}
-use Rattle.spk_nums.specs.Setting.{Setting, IsSetting}
-use Rattle.spk_nums.specs.CallLimits.{InLimits}
-use Rattle.spk_nums.specs.declared.calls.Call.{Call}
-use Rattle.kernel_rules.specs.Laws.{calls_counted}
-use Rattle.act_states.specs.declared.own.Own.{Own}
-use Rattle.act_states.specs.declared.own.OwnChange.{OwnChange}
-use Rattle.act_states.specs.declared.own.OwnChange.TheVariants.{Ticks, Empties, Works, Caches, Switches}
-use Rattle.spk_nums.specs.declared.replies.Reply.{Reply}
-use Rattle.call_stages.specs.declared.stages.ActiveCall.{ActiveCall}
-use Rattle.call_stages.specs.View.{Core}
-use Rattle.call_stages.specs.Steps.{Took, GoesOn, Decides, Returns, Changes, took, told, call_after}
-use Rattle.call_stages.specs.Cores.{started, fresh, begun, core_after, absorbed_in, absorbed}
+use Rattle.work_invariant.proofs.Common.{◌≡◌, ℕ, ◌<◌, ◌≤◌, ◌*◌, ◌+◌, Option, Some, None, arith, refl, sym, ap, subst, IsSome, Setting}
+use Rattle.work_invariant.proofs.Common.{IsSetting, InLimits, Call, calls_counted, Own, Works, Reply, ActiveCall, Core, Took, GoesOn}
+use Rattle.work_invariant.proofs.Common.{Decides, Returns, Changes, took, fresh, core_after, absorbed_in, absorbed}
+use Rattle.call_stages.specs.act_states.specs.declared.own.OwnChange.{OwnChange}
+use Rattle.call_stages.specs.act_states.specs.declared.own.OwnChange.TheVariants.{Ticks, Empties, Caches, Switches}
+use Rattle.call_stages.specs.Steps.{told, call_after}
+use Rattle.call_stages.specs.Cores.{started, begun}
 use Rattle.call_stages.specs.Fits.{IsOwn, IsCore, left_of, left_for, steps_left}
-use Rattle.act_fits.proofs.LandsFit.{TookFits}
+use Rattle.call_fits.specs.act_fits.proofs.LandsFit.{TookFits}
 use Rattle.call_fits.proofs.Fitting.{took_fits}
 use Rattle.call_fits.proofs.CoreFitting.{goes_on, decides_on, changes_on}
 use Rattle.call_fits.proofs.Begun as begun

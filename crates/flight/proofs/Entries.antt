@@ -1,71 +1,46 @@
 -- The entry of a call is good: its calls are spent, its first name has no slot, or it looks that name up.
-use Rattle.std.proofs.Common.{◌≡◌, ℕ, ◌+◌, ◌<◌, ◌≤◌, [], ◌∷◌, Bool, true, false, nat_le, length}
-use Rattle.std.proofs.Common.{Some, None, arith, refl, sym, ◌∙◌, ap, subst, inl, if◌then◌else◌}
-use Rattle.std.proofs.lemmas.Bool.{leb-true, leb-false, lt-ltb}
-use Rattle.spk_nums.specs.Setting.{Setting, IsSetting}
-use Rattle.spk_nums.specs.declared.kinds.Kind.{Kind}
-use Rattle.spk_nums.specs.declared.calls.Call.{Call}
-use Rattle.spk_nums.specs.declared.kinds.FrameKind.TheVariants.{Untyped, User, Kernel}
-use Rattle.spk_nums.specs.declared.calls.Call.TheVariants.{Look as look_call, Copy, Remove, Shrink, Unmap, Retype}
-use Rattle.spk_nums.specs.declared.calls.Call.TheVariants.{Make as make_call, Tick, Gate, Kill, Grow, Touch, Flush, Map}
-use Rattle.spk_nums.specs.declared.calls.Call.TheVariants.{Call as call_gate, Ret, Transfer, Delegate, Test, Switch}
-use Rattle.spk_nums.specs.declared.calls.Make.TheVariants as make
-use Rattle.spk_nums.specs.declared.replies.Reply.TheVariants as reply
-use Rattle.word_map.specs.Word.{CoreAt}
-use Rattle.word_map.specs.Places.{IsIn as IsInShape}
-use Rattle.word_map.specs.Moves.{StoreOf}
-use Rattle.kernel_rules.specs.State.{State, comp_of, first_of_stack, thread_in, thread_of}
-use Rattle.kernel_rules.specs.InvocationCalls.{pops}
-use Rattle.kernel_rules.specs.Access.{root_at, Under}
-use Rattle.kernel_rules.specs.MemoryCalls.{translation_of}
-use Rattle.kernel_rules.specs.Relies.{Relies}
-use Rattle.kernel_rules.specs.GracePeriods.{entered}
-use Rattle.kernel_rules.specs.Rules.{RuleMay, Refused, unless, first_of}
-use Rattle.kernel_rules.specs.CallRelation.{rule_of, change_of, are_calls_spent, counted}
-use Rattle.kernel_rules.proofs.Within.{put_same}
-use Rattle.kernel_history.specs.BootWords.{shape_of}
-use Rattle.kernel_history.specs.Trace.{Step, Trace, Out, Open, phase, state_after, last_left}
-use Rattle.kernel_history.specs.Legal.{MayFollow}
-use Rattle.trace_laws.proofs.AloneCalls.{spent_first, refused_first}
-use Rattle.kernel_history.proofs.Steps.{phase-own}
-use Rattle.trace_laws.proofs.Stays.{relies_table, relies_pages, entered_comp}
-use Rattle.stage_look.specs.declared.look.Look.TheVariants.{AtRoot}
-use Rattle.call_plans.specs.GoesBy.{own_pages}
-use Rattle.call_plans.specs.PlanOf.{plan_for}
-use Rattle.call_plans.specs.After.{NextName, next_of, NextMay}
-use Rattle.call_plans.proofs.CallsGoBy.{calls_go}
-use Rattle.call_plans.proofs.AfterNames.{next_may}
-use Rattle.act_states.specs.declared.refusals.Refusal.TheVariants as refusal
-use Rattle.act_states.specs.declared.work.Work.TheVariants.{Lookup, Act}
-use Rattle.act_states.specs.declared.work.Act.{Act as ActOf}
-use Rattle.act_states.specs.declared.work.Act.TheVariants.{Tick as tick_act, Touch as touch_act, Flush as flush_act, Return as return_act}
-use Rattle.act_states.specs.declared.invocations.ReturningAt.TheVariants.{LoadBelow}
-use Rattle.stage_tcap.specs.declared.charge.Charge.TheVariants.{AtLoad}
-use Rattle.act_states.specs.Acts.{reads_of, returns_at, returns_if}
-use Rattle.act_states.specs.Flushes.{flushes}
-use Rattle.act_states.specs.Touches.{touching, touches, touches_if}
-use Rattle.act_states.specs.Ticks.{ticks_due, charges}
-use Rattle.act_states.specs.declared.work.WorkStep.TheVariants.{Goes}
-use Rattle.act_states.specs.declared.work.Tail.TheVariants.{Nothing}
-use Rattle.call_stages.specs.declared.stages.Stage.TheVariants.{Undecided, Decided}
-use Rattle.call_stages.specs.View.{Core}
-use Rattle.act_states.specs.WorkSteps.{refuse}
-use Rattle.act_states.specs.Lookups.{looks_under, next_step}
-use Rattle.call_stages.specs.Steps.{core_word, Took, landed, next_by, took_enter, is_spent}
-use Rattle.call_stages.specs.Cores.{fresh, core_after, told_by}
-use Rattle.core_invariant.specs.Events.{decided_in, returned_in}
-use Rattle.core_invariant.specs.Knows.{LooksUp, own_in, LooksFor, ReadBefore, CallIs, ChargesBy}
-use Rattle.core_invariant.specs.Invariant.{Invariant}
-use Rattle.core_invariant.proofs.Sounds.{limits_of}
-use Rattle.step_ways.proofs.Good.{IsGood}
-use Rattle.kept_facts.proofs.Calm.{calm_entered, calm_counted, calm_then}
-use Rattle.step_ways.proofs.Loads.{Lands, step_to}
-use Rattle.step_ways.proofs.Writes.{clock_small, core_small, enters_on}
+use Rattle.work_invariant.proofs.Common.{◌≡◌, ℕ, ◌+◌, ◌<◌, ◌≤◌, [], ◌∷◌, Bool, true, false, nat_le, length, Some, None, arith, refl, sym}
+use Rattle.work_invariant.proofs.Common.{◌∙◌, ap, subst, inl, if◌then◌else◌, leb-true, leb-false, lt-ltb, Setting, IsSetting, Kind, Call}
+use Rattle.work_invariant.proofs.Common.{Copy, Remove, Shrink, Unmap, Retype, Tick, Gate, Kill, Grow, Touch, Flush, Map, Ret, Transfer}
+use Rattle.work_invariant.proofs.Common.{Delegate, Test, Switch, CoreAt, StoreOf, State, comp_of, first_of_stack, thread_in, thread_of}
+use Rattle.work_invariant.proofs.Common.{root_at, Under, translation_of, Relies, RuleMay, Refused, unless, first_of, rule_of, change_of}
+use Rattle.work_invariant.proofs.Common.{are_calls_spent, counted, put_same, shape_of, Step, Trace, Out, Open, phase, state_after}
+use Rattle.work_invariant.proofs.Common.{last_left, MayFollow, refused_first, phase-own, AtRoot, own_pages, plan_for, NextName, next_of}
+use Rattle.work_invariant.proofs.Common.{NextMay, calls_go, next_may, Lookup, Act, reads_of, Goes, Nothing, Undecided, Decided, Core}
+use Rattle.work_invariant.proofs.Common.{refuse, core_word, Took, landed, fresh, core_after, told_by, decided_in, returned_in, LooksUp}
+use Rattle.work_invariant.proofs.Common.{own_in, LooksFor, ReadBefore, CallIs, ChargesBy, Invariant, limits_of, calm_counted}
+use Rattle.boot_words.specs.spk_nums.specs.declared.kinds.FrameKind.TheVariants.{Untyped, User, Kernel}
+use Rattle.boot_words.specs.spk_nums.specs.declared.calls.Call.TheVariants.{Look as look_call}
+use Rattle.boot_words.specs.spk_nums.specs.declared.calls.Call.TheVariants.{Make as make_call}
+use Rattle.boot_words.specs.spk_nums.specs.declared.calls.Call.TheVariants.{Call as call_gate}
+use Rattle.boot_words.specs.spk_nums.specs.declared.calls.Make.TheVariants as make
+use Rattle.boot_words.specs.spk_nums.specs.declared.replies.Reply.TheVariants as reply
+use Rattle.boot_words.specs.word_map.specs.Places.{IsIn as IsInShape}
+use Rattle.boot_words.specs.kernel_rules.specs.InvocationCalls.{pops}
+use Rattle.boot_words.specs.kernel_rules.specs.GracePeriods.{entered}
+use Rattle.work_invariant.specs.trace_laws.proofs.AloneCalls.{spent_first}
+use Rattle.work_invariant.specs.trace_laws.proofs.Stays.{relies_table, relies_pages, entered_comp}
+use Rattle.call_stages.specs.act_states.specs.declared.refusals.Refusal.TheVariants as refusal
+use Rattle.call_stages.specs.act_states.specs.declared.work.Act.{Act as ActOf}
+use Rattle.call_stages.specs.act_states.specs.declared.work.Act.TheVariants.{Tick as tick_act, Touch as touch_act, Flush as flush_act}
+use Rattle.call_stages.specs.act_states.specs.declared.work.Act.TheVariants.{Return as return_act}
+use Rattle.call_stages.specs.act_states.specs.declared.invocations.ReturningAt.TheVariants.{LoadBelow}
+use Rattle.call_stages.specs.stage_tcap.specs.declared.charge.Charge.TheVariants.{AtLoad}
+use Rattle.call_stages.specs.act_states.specs.Acts.{returns_at, returns_if}
+use Rattle.call_stages.specs.act_states.specs.Flushes.{flushes}
+use Rattle.call_stages.specs.act_states.specs.Touches.{touching, touches, touches_if}
+use Rattle.call_stages.specs.act_states.specs.Ticks.{ticks_due, charges}
+use Rattle.call_stages.specs.act_states.specs.Lookups.{looks_under, next_step}
+use Rattle.call_stages.specs.Steps.{next_by, took_enter, is_spent}
+use Rattle.work_invariant.specs.step_ways.proofs.Good.{IsGood}
+use Rattle.work_invariant.specs.kept_facts.proofs.Calm.{calm_entered, calm_then}
+use Rattle.work_invariant.specs.step_ways.proofs.Loads.{Lands, step_to}
+use Rattle.work_invariant.specs.step_ways.proofs.Writes.{clock_small, core_small, enters_on}
 use Rattle.flight.specs.Made.{MayBegin}
-use Rattle.plan_ways.specs.Laws.{NextRefused}
-use Rattle.plan_ways.proofs.Ways.{next_first}
-use Rattle.count_invariant.proofs.Findings.{past_slot, past_unreached, named_no_slot}
-use Rattle.page_invariant.proofs.TouchCalls.{past_may, past_first}
+use Rattle.work_invariant.specs.plan_ways.specs.Laws.{NextRefused}
+use Rattle.work_invariant.specs.plan_ways.proofs.Ways.{next_first}
+use Rattle.work_invariant.specs.count_invariant.proofs.Findings.{past_slot, past_unreached, named_no_slot}
+use Rattle.work_invariant.specs.page_invariant.proofs.TouchCalls.{past_may, past_first}
 
 module _ (setup : Setting) (setting : IsSetting setup) (cores : ℕ → Core) (t : Trace) (stands : Invariant setup cores t) (c : ℕ)
     (here : c < setup.cores)

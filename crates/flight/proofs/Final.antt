@@ -1,47 +1,29 @@
 -- At each moment the words say what the state is; and where all cores are between calls, they represent it with the cores' ends.
-use Rattle.core_invariant.proofs.Bare.{none_value}
-use Rattle.std.proofs.Common.{◌≡◌, ◌≢◌, ◌⊎◌, inl, inr, ℕ, suc, ◌+◌, ◌<◌, true, false, List, [], ◌∷◌}
-use Rattle.std.proofs.Common.{slice_get, Option, Some, None, arith, refl, sym, ◌∙◌, ap, subst, IsTrue}
-use Rattle.std.proofs.lemmas.Bool.{cases_lt, false≢true, true≢false}
-use Rattle.std.proofs.lemmas.List.Elements.{All-nil, All-cons}
-use Rattle.std.specs.Prelude.{All}
-use Rattle.spk_nums.specs.Setting.{Setting, IsSetting}
-use Rattle.spk_nums.specs.Capability.{Capability}
-use Rattle.spk_nums.specs.declared.translations.Translation.{Translation}
-use Rattle.spk_nums.specs.declared.translations.CoreEnd.{CoreEnd}
-use Rattle.entry_words.specs.declared.entry.Entry.{Entry}
-use Rattle.entry_words.specs.EntryWord.{entry_of_word}
-use Rattle.tcap_words.specs.Quality.{quality_of_word}
-use Rattle.tcap_words.specs.Stack.{stack_of_word}
-use Rattle.frame_words.specs.declared.live_word.LiveWord.{LiveWord}
-use Rattle.frame_words.specs.Count.{count_of_word}
-use Rattle.frame_words.specs.declared.count_word.CountWord.{CountWord}
-use Rattle.word_map.specs.Word.{Word, EntryAt, FrameAt, CountAt, CoreAt, LiveAt}
-use Rattle.kernel_rules.specs.State.{Place, Free, Holds, Quiescing, Blank, Table, Leaf, Pages, Pleaf, Comp, Thread, Tcap}
-use Rattle.kernel_rules.specs.State.{Frame, Untyped, User, Kernel, Liveness, Unused, Live, Dead, PlaceOf, NumberOf, State}
-use Rattle.kernel_rules.specs.Access.{held_in}
-use Rattle.kernel_rules.specs.Relies.{is_node as is_sound_node}
-use Rattle.kernel_rules.specs.Start.{start}
-use Rattle.kernel_history.specs.Counts.{counters, count_at, IsUnheld, RepresentCounts}
-use Rattle.kernel_history.specs.ObjectWords.{holds_node, at_height}
-use Rattle.kernel_history.specs.FinalWords.{SaysPlace, AreFrame, SaysNumber, Represent, end_of as end_in}
-use Rattle.kernel_history.specs.Moments.{EntrySays, CoreSays}
-use Rattle.kernel_history.specs.Trace.{Trace, Phase, Out, Open, Decided, phase, state_after, last_left}
-use Rattle.kernel_history.specs.Stamps.{is_in, stamp, exit_of}
-use Rattle.kernel_history.proofs.Inside.{inside_is}
-use Rattle.trace_laws.proofs.Stays.{sound_of}
-use Rattle.call_stages.specs.View.{Core}
+use Rattle.work_invariant.proofs.Common.{◌≡◌, ◌≢◌, ◌⊎◌, inl, inr, ℕ, suc, ◌+◌, ◌<◌, true, false, List, [], ◌∷◌, slice_get, Option, Some}
+use Rattle.work_invariant.proofs.Common.{None, arith, refl, sym, ◌∙◌, ap, subst, IsTrue, cases_lt, false≢true, All-nil, All-cons, All}
+use Rattle.work_invariant.proofs.Common.{Setting, IsSetting, Capability, Translation, Entry, entry_of_word, quality_of_word}
+use Rattle.work_invariant.proofs.Common.{stack_of_word, LiveWord, count_of_word, CountWord, Word, EntryAt, FrameAt, CountAt, CoreAt}
+use Rattle.work_invariant.proofs.Common.{LiveAt, Place, Free, Holds, Quiescing, Blank, Table, Leaf, Pages, Pleaf, Comp, Thread, Tcap}
+use Rattle.work_invariant.proofs.Common.{Frame, Untyped, User, Kernel, Liveness, Unused, Live, Dead, PlaceOf, NumberOf, State, held_in}
+use Rattle.work_invariant.proofs.Common.{counters, holds_node, at_height, Trace, Phase, Out, Open, phase, state_after, last_left, is_in}
+use Rattle.work_invariant.proofs.Common.{stamp, exit_of, sound_of, Core, marked_by, settled_by, settled, PlaceIs, IsFrameWord, SaysCount}
+use Rattle.work_invariant.proofs.Common.{count_room, NumberIs, WordIs, CallIs, WorksIn, holds_in, held_by, times_of, count_shown}
+use Rattle.work_invariant.proofs.Common.{Invariant, limits_of, marker_inside}
+use Rattle.work_invariant.specs.core_invariant.proofs.Bare.{none_value}
+use Rattle.std.proofs.lemmas.Bool.{true≢false}
+use Rattle.boot_words.specs.spk_nums.specs.declared.translations.CoreEnd.{CoreEnd}
+use Rattle.boot_words.specs.kernel_rules.specs.Relies.{is_node as is_sound_node}
+use Rattle.boot_words.specs.kernel_rules.specs.Start.{start}
+use Rattle.boot_words.specs.kernel_history.specs.Counts.{count_at, IsUnheld, RepresentCounts}
+use Rattle.boot_words.specs.kernel_history.specs.FinalWords.{SaysPlace, AreFrame, SaysNumber, Represent, end_of as end_in}
+use Rattle.boot_words.specs.kernel_history.specs.Moments.{EntrySays, CoreSays}
+use Rattle.boot_words.specs.kernel_history.specs.Trace.{Decided}
+use Rattle.boot_words.specs.kernel_history.proofs.Inside.{inside_is}
 use Rattle.call_stages.specs.Cores.{end_of}
-use Rattle.kernel_history.specs.Marking.{marked_by}
-use Rattle.core_invariant.specs.Holding.{settled_by, settled}
-use Rattle.core_invariant.specs.Words.{PlaceIs, IsFrameWord, SaysCount, count_room, NumberIs, WordIs}
-use Rattle.core_invariant.specs.Knows.{CallIs, WorksIn}
-use Rattle.core_invariant.specs.Invariant.{holds_in, held_by, times_of, count_shown, Invariant}
 use Rattle.flight.specs.Theorems.{SaysWords, AreBetween, Represents, RepresentsCounts}
-use Rattle.kept_facts.proofs.CountSums.{sum_same}
-use Rattle.core_invariant.proofs.Sounds.{limits_of}
-use Rattle.core_invariant.proofs.Markers.{marker_inside}
-use Rattle.step_ways.proofs.Places.{IsMarked, IsUnmarked, place_reads}
+use Rattle.work_invariant.specs.kept_facts.proofs.CountSums.{sum_same}
+use Rattle.work_invariant.specs.step_ways.proofs.Places.{IsMarked, IsUnmarked, place_reads}
+use Rattle.work_invariant.specs.core_invariant.specs.Words.{count_room as count_room_of_words}
 
 sound_node : (x : Frame) → IsTrue (holds_node x) → IsTrue (is_sound_node x)
 sound_node Untyped h = absurd (false≢true h)
@@ -192,7 +174,7 @@ module _ (setup : Setting) (setting : IsSetting setup) (cores : ℕ → Core) (t
   words_represent : Represent (last_left setup t) (λ c. end_of (cores c)) (state_after setup t)
   words_represent = record {
     objects = λ f here. frame_parts (state_after setup t).limits.frames
-        (Rattle.core_invariant.specs.Words.count_room (state_after setup t)) ((state_after setup t).frame f) ((state_after setup t).place f)
+        (count_room_of_words (state_after setup t)) ((state_after setup t).frame f) ((state_after setup t).place f)
         (λ i. stamp setup t (PlaceOf f i)) (λ i. last_left setup t (EntryAt f i))
         (λ i. word_is (EntryAt f i));
     bare = λ f here none i below. none_held ((state_after setup t).place f i)

@@ -1,3 +1,5 @@
+-- The names that most proofs use.
+pub use Rattle.work_invariant.proofs.Common
 -- Steps and their words.
 pub mod CoreFits
 pub mod Spelling

@@ -1,19 +1,12 @@
--- A trace that is the machine's is a history of the machine.
-use Rattle.std.proofs.Common.{◌≡◌, ℕ, [], ◌∷◌, sym, ◌∙◌, ap, subst}
-use Rattle.spk_nums.specs.Setting.{Setting, IsSetting}
-use Rattle.word_map.specs.Moves.{word_of}
-use Rattle.kernel_history.specs.Moments.{WordsSayAlong}
-use Rattle.kernel_history.specs.Trace.{Step, Trace, last_left}
+-- Where the cores are after a trace that is the machine's, they stand for it, and each of its steps is good.
+use Rattle.work_invariant.proofs.Common.{◌≡◌, ℕ, [], ◌∷◌, sym, ◌∙◌, ap, subst, Setting, IsSetting, word_of, Step, Trace, last_left}
+use Rattle.work_invariant.proofs.Common.{KeepsTime, Invariant}
 use Rattle.flight.specs.Made.{step_of, core_after, cores_after, stepping_core, IsMadeStep, IsMade}
-use Rattle.flight.specs.Histories.{MadeHistories}
-use Rattle.kernel_history.specs.Graces.{KeepsTime}
-use Rattle.core_invariant.specs.Invariant.{Invariant}
-use Rattle.step_ways.proofs.Good.{IsGood, stands_on}
-use Rattle.step_ways.proofs.Users.{SparesCounted}
+use Rattle.work_invariant.specs.step_ways.proofs.Good.{IsGood, stands_on}
+use Rattle.work_invariant.specs.step_ways.proofs.Users.{SparesCounted}
 use Rattle.flight.specs.Theorems.{found_by, MadeStands}
 use Rattle.flight.proofs.Boot.{boots}
 use Rattle.flight.proofs.Advance.{good_on}
-use Rattle.flight.proofs.Final.{says_words}
 
 -- What a made step found is what its core finds.
 pub finds : (setup : Setting) (t : Trace) (e : Step) → IsMadeStep setup t e → e.found ≡ found_by setup t (stepping_core setup t e)
@@ -45,21 +38,3 @@ made_times setup lim t e made = (made_good setup lim t e made.1 (made_stands set
 -- And ends the grace period of a frame only where its core holds all counters of the frame.
 pub made_counted : (setup : Setting) → IsSetting setup → (t : Trace) (e : Step) → IsMade setup (e ∷ t) → SparesCounted setup t e
 made_counted setup lim t e made = (made_good setup lim t e made.1 (made_stands setup lim t made.0)).counted
-
-says_along : (setup : Setting) → IsSetting setup → (t : Trace) → IsMade setup t → WordsSayAlong setup t
-says_along setup lim [] made = says_words setup lim (cores_after setup []) [] (made_stands setup lim [] made)
-says_along setup lim (e ∷ t) made =
-    (says_along setup lim t made.0, says_words setup lim (cores_after setup (e ∷ t)) (e ∷ t) (made_stands setup lim (e ∷ t) made))
-
-pub made_histories : MadeHistories
-made_histories setup lim t made =
-    let stands = made_stands setup lim t made in
-    record {
-      made = made;
-      legal = stands.legal;
-      bounds = stands.bounds;
-      discipline = stands.discipline;
-      footprints = stands.footprints;
-      words = says_along setup lim t made;
-      alone = stands.alone;
-    }

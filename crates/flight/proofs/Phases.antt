@@ -1,32 +1,21 @@
 -- After a trace that is the machine's, each core stands in its phase: a step of a call moves both alike.
-use Rattle.std.proofs.Common.{◌≡◌, ◌≢◌, ℕ, ◌<◌, arith, true, List, [], ◌∷◌, Option, Some, None, inl, inr, refl, sym, ◌∙◌, ap, subst}
-use Rattle.std.specs.Prelude.{IsSome, is_some}
-use Rattle.std.proofs.lemmas.Bool.{cases_eq, false≢true}
-use Rattle.spk_nums.specs.declared.calls.Call.{Call}
-use Rattle.spk_nums.specs.declared.replies.Reply.{Reply}
-use Rattle.spk_nums.specs.Setting.{Setting}
-use Rattle.word_map.specs.Moves.{told_of}
-use Rattle.kernel_rules.proofs.Within.{put_same, put_other}
-use Rattle.kernel_history.specs.Trace.{Step, Trace, Phase, Out, Open, Decided as decided_phase}
-use Rattle.kernel_history.specs.Trace.{phase, after_enter, after_decide, after_return}
-use Rattle.kernel_history.specs.Order.{IsDecided}
-use Rattle.kernel_history.proofs.Steps.{phase-own, phase-other, calls_of-other}
-use Rattle.call_stages.specs.View.{Core}
-use Rattle.act_states.specs.declared.own.Own.{Own}
-use Rattle.call_stages.specs.Cores.{core_after as after_took, absorbed_in, told_by, told_in, move_of, ready_in, fresh}
+use Rattle.work_invariant.proofs.Common.{◌≡◌, ◌≢◌, ℕ, ◌<◌, arith, true, List, [], ◌∷◌, Option, Some, None, inl, inr, refl, sym, ◌∙◌, ap}
+use Rattle.work_invariant.proofs.Common.{subst, IsSome, is_some, cases_eq, false≢true, Call, Reply, Setting, told_of, put_same, put_other}
+use Rattle.work_invariant.proofs.Common.{Step, Trace, Phase, Out, Open, phase, after_enter, after_decide, after_return, phase-own}
+use Rattle.work_invariant.proofs.Common.{phase-other, Core, Own, absorbed_in, told_by, told_in, fresh, Capability, Plan, decided_in}
+use Rattle.work_invariant.proofs.Common.{returned_in, ActiveCall, Stage, Enter, Undecided, Decided, Leave, Took, GoesOn, Decides, Returns}
+use Rattle.work_invariant.proofs.Common.{Changes, took}
+use Rattle.boot_words.specs.kernel_history.specs.Trace.{Decided as decided_phase}
+use Rattle.boot_words.specs.kernel_history.specs.Order.{IsDecided}
+use Rattle.boot_words.specs.kernel_history.proofs.Steps.{calls_of-other}
+use Rattle.call_stages.specs.Cores.{core_after as after_took, move_of, ready_in}
 use Rattle.call_stages.specs.Laws.{reply_at}
 use Rattle.call_stages.specs.Laws as laws
 use Rattle.call_stages.proofs.Decisions.{decides_once}
-use Rattle.spk_nums.specs.Capability.{Capability}
-use Rattle.call_plans.specs.declared.plans.Plan.{Plan}
-use Rattle.core_invariant.specs.Events.{decided_in, returned_in}
 use Rattle.flight.specs.Decided.{is_decided_at, is_decided_in, Turns}
 use Rattle.flight.specs.Made.{turned, MayStep, core_after, cores_after, stepping_core, IsMadeStep}
 use Rattle.flight.specs.Phases.{IsInPhase, MadePhases, MadeOfItsCores, AreEvents, MadeEvents, DecidedIsReady}
-use Rattle.call_stages.specs.declared.stages.ActiveCall.{ActiveCall}
-use Rattle.call_stages.specs.declared.stages.Stage.{Stage}
-use Rattle.call_stages.specs.declared.stages.Stage.TheVariants.{Enter, Undecided, Decided, Leave}
-use Rattle.call_stages.specs.Steps.{Took, GoesOn, Decides, Returns, Changes, took, ready_at}
+use Rattle.call_stages.specs.Steps.{ready_at}
 
 -- A core in a call that is or is not decided, as its phase.
 pub record IsInCall (f : ActiveCall) (p : Phase) : Type 0 where

@@ -1,99 +1,69 @@
 -- The next step of a call is on a word of its machine, by the one name of the word's place.
-use Rattle.std.proofs.Common.{◌≡◌, ℕ, ◌<◌, Option, Some, None, IfSome, length, arith, refl, sym, ap, ◌≤◌}
-use Rattle.std.specs.Prelude.{IsSome, List, [], ◌∷◌}
-use Rattle.word_map.specs.Places.{Shape, IsIn, shared}
-use Rattle.word_map.specs.Moves.{word_of}
-use Rattle.stage_look.specs.Lookup.{look_move}
-use Rattle.stage_look.specs.declared.look.Look.{Look}
-use Rattle.stage_look.specs.declared.look.Look.TheVariants.{AtRoot, AtLeaf, AtEntry}
-use Rattle.stage_look.proofs.LookLemmas.{look_is_in}
-use Rattle.call_stages.specs.Fits.{TailFits, StageFits, CallFits}
+use Rattle.work_invariant.proofs.Common.{◌≡◌, ℕ, ◌<◌, Option, Some, None, length, arith, refl, sym, ap, ◌≤◌, IsSome, Shape, IsIn, word_of}
+use Rattle.work_invariant.proofs.Common.{look_move, Look, AtRoot, AtLeaf, AtEntry, StageFits, CompMakingFits, CompAt, CompMaking}
+use Rattle.work_invariant.proofs.Common.{KillingAt, LoadComp, LoadLive, CountWord, counters_of, SweepAt, Thaw, UntypingAt, CountAt, Own}
+use Rattle.work_invariant.proofs.Common.{Fill, Outside, Untype, MakeComp, Invoke, Return, FrameKind, Load, MakingAt, NewObject, Lookup}
+use Rattle.work_invariant.proofs.Common.{Read, Scan, Acquire, Tail, Nothing, Quiesce, Unmark, StoreDead, StoreFlush, Release, StoreLive}
+use Rattle.work_invariant.proofs.Common.{Push, Pop, StoreRunning, StoreIdle, All-head, Reply, Pin, AtLoad, Acquired, Charge, InvokingAt}
+use Rattle.work_invariant.proofs.Common.{ReturningAt, Switching, SwitchAt, Pair, PairAt, LoadA, MarkA, ListA, LoadB, ListB, CompareB}
+use Rattle.work_invariant.proofs.Common.{AgainB, StoreList, StoreB, StoreA, Close, AtDraw, AtStore, Quiet, AtCore, AtFlush, quiet_move}
+use Rattle.work_invariant.proofs.Common.{stage_move, ActiveCall, Stage, Enter, Undecided, Decided, Leave}
+use Rattle.std.proofs.Common.{IfSome}
+use Rattle.std.specs.Prelude.{List, [], ◌∷◌}
+use Rattle.boot_words.specs.word_map.specs.Places.{shared}
+use Rattle.call_stages.specs.stage_look.proofs.LookLemmas.{look_is_in}
+use Rattle.call_stages.specs.Fits.{TailFits, CallFits}
 use Rattle.call_stages.specs.Cores.{move_in}
-use Rattle.act_states.specs.Comps.{CompMakingFits, comp_at}
-use Rattle.act_states.specs.declared.comps.CompAt.{CompAt}
-use Rattle.act_states.specs.declared.comps.CompAt.TheVariants as comp_stands
-use Rattle.act_states.specs.declared.comps.CompMaking.{CompMaking}
-use Rattle.act_states.specs.declared.kills.KillingAt.{KillingAt}
-use Rattle.act_states.specs.declared.kills.KillingAt.TheVariants.{LoadComp, LoadLive, Close as kill_close, Draw as kill_draw}
-use Rattle.act_states.specs.Kills.{KillingAtFits, killing_at}
-use Rattle.frame_words.specs.declared.count_word.CountWord.{CountWord}
-use Rattle.stage_sweep.specs.Counters.{counters_of}
-use Rattle.stage_sweep.specs.Freeze.{AtFits, move_at}
-use Rattle.stage_sweep.specs.Release.{ThawFits}
-use Rattle.stage_sweep.specs.declared.sweep.SweepAt.{SweepAt}
-use Rattle.stage_sweep.specs.declared.sweep.SweepAt.TheVariants as sweep
-use Rattle.stage_sweep.specs.declared.thaw.Thaw.{Thaw}
-use Rattle.act_states.specs.declared.untypings.UntypingAt.{UntypingAt}
-use Rattle.act_states.specs.declared.untypings.UntypingAt.TheVariants as untype
-use Rattle.act_states.specs.Untypings.{UntypingAtFits, untyping_at, release_at}
-use Rattle.word_map.specs.Word.{CountAt}
-use Rattle.act_states.specs.declared.own.Own.{Own}
-use Rattle.act_states.specs.declared.work.Act.{Act}
-use Rattle.act_states.specs.declared.work.Act.TheVariants.{Fill, Remove, Retype, Make, Outside, Tick, Flush, Kill, Untype}
-use Rattle.act_states.specs.declared.work.Act.TheVariants.{Map as map_act, MakeComp, Invoke, Return, Touch, Share, Switch}
-use Rattle.spk_nums.specs.declared.kinds.FrameKind.{FrameKind}
-use Rattle.act_states.specs.declared.typings.TypingAt.{TypingAt}
-use Rattle.act_states.specs.declared.typings.TypingAt.TheVariants.{Load, Compare as type_compare}
-use Rattle.act_states.specs.Typings.{typing_at}
-use Rattle.act_states.specs.declared.fills.Fill.{Fill as FillOf}
-use Rattle.act_states.specs.declared.makings.MakingAt.{MakingAt}
-use Rattle.act_states.specs.declared.makings.MakingAt.TheVariants as making
-use Rattle.act_states.specs.Fills.{FillFits}
-use Rattle.act_states.specs.declared.objects.NewObject.{NewObject}
-use Rattle.act_states.specs.Makings.{MakingAtFits, making_at}
-use Rattle.act_fits.proofs.DuesFit.{last_small}
-use Rattle.act_states.specs.declared.work.Work.TheVariants.{Lookup, Read, Scan, Acquire, Act as act_work}
-use Rattle.act_states.specs.declared.work.Tail.{Tail}
-use Rattle.act_states.specs.declared.work.Tail.TheVariants.{Nothing, Quiesce, Unmark, StoreDead, StoreFlush, Release}
-use Rattle.act_states.specs.declared.work.Tail.TheVariants.{StoreLive, Push, Pop, Share as share_tail, StoreRunning, StoreIdle}
-use Rattle.act_states.specs.Acts.{ActFits, act_move}
+use Rattle.call_stages.specs.act_states.specs.Comps.{comp_at}
+use Rattle.call_stages.specs.act_states.specs.declared.comps.CompAt.TheVariants as comp_stands
+use Rattle.call_stages.specs.act_states.specs.declared.kills.KillingAt.TheVariants.{Close as kill_close}
+use Rattle.call_stages.specs.act_states.specs.declared.kills.KillingAt.TheVariants.{Draw as kill_draw}
+use Rattle.call_stages.specs.act_states.specs.Kills.{KillingAtFits, killing_at}
+use Rattle.call_stages.specs.stage_sweep.specs.Freeze.{AtFits, move_at}
+use Rattle.call_stages.specs.stage_sweep.specs.Release.{ThawFits}
+use Rattle.call_stages.specs.stage_sweep.specs.declared.sweep.SweepAt.TheVariants as sweep
+use Rattle.call_stages.specs.act_states.specs.declared.untypings.UntypingAt.TheVariants as untype
+use Rattle.call_stages.specs.act_states.specs.Untypings.{UntypingAtFits, untyping_at, release_at}
+use Rattle.call_stages.specs.act_states.specs.declared.work.Act.{Act}
+use Rattle.call_stages.specs.act_states.specs.declared.work.Act.TheVariants.{Remove, Retype, Make, Tick, Flush, Kill}
+use Rattle.call_stages.specs.act_states.specs.declared.work.Act.TheVariants.{Map as map_act, Touch, Share, Switch}
+use Rattle.call_stages.specs.act_states.specs.declared.typings.TypingAt.{TypingAt}
+use Rattle.call_stages.specs.act_states.specs.declared.typings.TypingAt.TheVariants.{Compare as type_compare}
+use Rattle.call_stages.specs.act_states.specs.Typings.{typing_at}
+use Rattle.call_stages.specs.act_states.specs.declared.fills.Fill.{Fill as FillOf}
+use Rattle.call_stages.specs.act_states.specs.declared.makings.MakingAt.TheVariants as making
+use Rattle.call_stages.specs.act_states.specs.Fills.{FillFits}
+use Rattle.call_stages.specs.act_states.specs.Makings.{MakingAtFits, making_at}
+use Rattle.call_fits.specs.act_fits.proofs.DuesFit.{last_small}
+use Rattle.call_stages.specs.act_states.specs.declared.work.Work.TheVariants.{Act as act_work}
+use Rattle.call_stages.specs.act_states.specs.declared.work.Tail.TheVariants.{Share as share_tail}
+use Rattle.call_stages.specs.act_states.specs.Acts.{ActFits, act_move}
 use Rattle.call_stages.specs.Tails.{tail_move, is_ok}
-use Rattle.std.proofs.lemmas.List.Elements.{All-head}
-use Rattle.spk_nums.specs.declared.replies.Reply.{Reply}
-use Rattle.stage_pins.specs.declared.pin.Pin.{Pin}
-use Rattle.stage_pins.specs.declared.pin.Pin.TheVariants.{AtLoad, AtCompare}
-use Rattle.stage_pins.specs.declared.held.Acquired.{Acquired}
-use Rattle.stage_pins.specs.Acquire.{pin_move}
-use Rattle.stage_pins.specs.Held.{commit_of, AcquiredFits, AllFit}
-use Rattle.stage_pins.proofs.PinLemmas.{pin_is_in, settle_is_in}
-use Rattle.stage_pins.proofs.HeldLemmas.{commit_fits}
-use Rattle.stage_tcap.specs.Charging.{charge_move}
-use Rattle.stage_tcap.specs.declared.charge.Charge.{Charge}
-use Rattle.stage_tcap.specs.declared.charge.Charge.TheVariants.{AtLoad as charge_load, AtCompare as charge_compare}
-use Rattle.stage_tcap.proofs.PairLemmas.{charge_is_in, pair_is_in}
-use Rattle.stage_thread.specs.Stacking.{push_move, pop_move}
-use Rattle.stage_thread.proofs.ThreadLemmas.{push_is_in, pop_is_in, claim_is_in}
-use Rattle.stage_thread.specs.declared.stack.Push.{Push as PushOf}
-use Rattle.stage_thread.specs.declared.stack.Push.TheVariants as push
-use Rattle.stage_thread.specs.declared.stack.Pop.{Pop as PopOf}
-use Rattle.stage_thread.specs.declared.stack.Pop.TheVariants as pop
-use Rattle.act_states.specs.declared.invocations.InvokingAt.{InvokingAt}
-use Rattle.act_states.specs.declared.invocations.InvokingAt.TheVariants as invoking
-use Rattle.act_states.specs.declared.invocations.ReturningAt.{ReturningAt}
-use Rattle.act_states.specs.declared.invocations.ReturningAt.TheVariants as returning
-use Rattle.act_states.specs.Switches.{SwitchingFits, switching_at}
-use Rattle.act_states.specs.declared.switches.Switching.{Switching}
-use Rattle.act_states.specs.declared.switches.SwitchAt.{SwitchAt}
-use Rattle.act_states.specs.declared.switches.SwitchAt.TheVariants as switch_at
-use Rattle.stage_thread.specs.declared.claim.Claim.TheVariants as claim
-use Rattle.act_states.specs.Invocations.{InvokingAtFits, invoking_at, ReturningAtFits, returning_at}
-use Rattle.stage_tcap.specs.Pairs.{move_at as pair_at_move}
-use Rattle.stage_tcap.specs.declared.pair.Pair.{Pair}
-use Rattle.stage_tcap.specs.declared.pair.PairAt.{PairAt}
-use Rattle.stage_tcap.specs.declared.pair.PairAt.TheVariants.{LoadA, MarkA, ListA, LoadB, ListB, CompareB}
-use Rattle.stage_tcap.specs.declared.pair.PairAt.TheVariants.{AgainB, StoreList, StoreB, StoreA}
-use Rattle.stage_quiet.specs.declared.close.Close.{Close}
-use Rattle.stage_quiet.specs.declared.close.Close.TheVariants.{AtCompare as close_compare, AtDraw, AtStore}
-use Rattle.stage_quiet.specs.declared.quiet.Quiet.{Quiet}
-use Rattle.stage_quiet.specs.declared.quiet.Quiet.TheVariants.{AtCore, AtFlush}
-use Rattle.stage_quiet.specs.Removal.{close_move}
-use Rattle.stage_quiet.specs.Scan.{quiet_move}
-use Rattle.stage_quiet.proofs.QuietLemmas.{quiet_is_in, close_is_in}
-use Rattle.call_stages.specs.Steps.{stage_move}
+use Rattle.call_stages.specs.stage_pins.specs.declared.pin.Pin.TheVariants.{AtCompare}
+use Rattle.call_stages.specs.stage_pins.specs.Acquire.{pin_move}
+use Rattle.call_stages.specs.stage_pins.specs.Held.{commit_of, AcquiredFits, AllFit}
+use Rattle.call_stages.specs.stage_pins.proofs.PinLemmas.{pin_is_in, settle_is_in}
+use Rattle.call_stages.specs.stage_pins.proofs.HeldLemmas.{commit_fits}
+use Rattle.call_stages.specs.stage_tcap.specs.Charging.{charge_move}
+use Rattle.call_stages.specs.stage_tcap.specs.declared.charge.Charge.TheVariants.{AtLoad as charge_load, AtCompare as charge_compare}
+use Rattle.call_stages.specs.stage_tcap.proofs.PairLemmas.{charge_is_in, pair_is_in}
+use Rattle.call_stages.specs.stage_thread.specs.Stacking.{push_move, pop_move}
+use Rattle.call_stages.specs.stage_thread.proofs.ThreadLemmas.{push_is_in, pop_is_in, claim_is_in}
+use Rattle.call_stages.specs.stage_thread.specs.declared.stack.Push.{Push as PushOf}
+use Rattle.call_stages.specs.stage_thread.specs.declared.stack.Push.TheVariants as push
+use Rattle.call_stages.specs.stage_thread.specs.declared.stack.Pop.{Pop as PopOf}
+use Rattle.call_stages.specs.stage_thread.specs.declared.stack.Pop.TheVariants as pop
+use Rattle.call_stages.specs.act_states.specs.declared.invocations.InvokingAt.TheVariants as invoking
+use Rattle.call_stages.specs.act_states.specs.declared.invocations.ReturningAt.TheVariants as returning
+use Rattle.call_stages.specs.act_states.specs.Switches.{SwitchingFits, switching_at}
+use Rattle.call_stages.specs.act_states.specs.declared.switches.SwitchAt.TheVariants as switch_at
+use Rattle.call_stages.specs.stage_thread.specs.declared.claim.Claim.TheVariants as claim
+use Rattle.call_stages.specs.act_states.specs.Invocations.{InvokingAtFits, invoking_at, ReturningAtFits, returning_at}
+use Rattle.call_stages.specs.stage_tcap.specs.Pairs.{move_at as pair_at_move}
+use Rattle.call_stages.specs.stage_quiet.specs.declared.close.Close.TheVariants.{AtCompare as close_compare}
+use Rattle.call_stages.specs.stage_quiet.specs.Removal.{close_move}
+use Rattle.call_stages.specs.stage_quiet.proofs.QuietLemmas.{quiet_is_in, close_is_in}
 use Rattle.flight.specs.Phases.{IsWord, MovesAreWords}
-use Rattle.call_stages.specs.declared.stages.ActiveCall.{ActiveCall}
-use Rattle.call_stages.specs.declared.stages.Stage.{Stage}
-use Rattle.call_stages.specs.declared.stages.Stage.TheVariants.{Enter, Undecided, Decided, Leave}
 
 look_named : (look : Look) → shared (word_of (look_move look)) ≡ word_of (look_move look)
 look_named (AtRoot root number) = refl

@@ -1,15 +1,15 @@
 -- The steps that the machine makes: a step of a core is a function of the core and of the word found, and where each core stands
 -- after a trace is a function of the trace. So a trace is the machine's own, or it is not.
 use Rattle.std.specs.Prelude.{◌≡◌, ◌<◌, Bool, ℕ, [], ◌∷◌, Option, Some, None, IsSome}
-use Rattle.spk_nums.specs.CallLimits.{InLimits}
-use Rattle.spk_nums.specs.Setting.{Setting}
-use Rattle.spk_nums.specs.declared.calls.Call.{Call}
-use Rattle.word_map.specs.Moves.{Move, word_of, told_of}
-use Rattle.kernel_rules.specs.State.{put}
-use Rattle.kernel_history.specs.Trace.{Step, Trace, last_left}
+use Rattle.boot_words.specs.spk_nums.specs.CallLimits.{InLimits}
+use Rattle.boot_words.specs.spk_nums.specs.Setting.{Setting}
+use Rattle.boot_words.specs.spk_nums.specs.declared.calls.Call.{Call}
+use Rattle.boot_words.specs.word_map.specs.Moves.{Move, word_of, told_of}
+use Rattle.boot_words.specs.kernel_rules.specs.State.{put}
+use Rattle.boot_words.specs.kernel_history.specs.Trace.{Step, Trace, last_left}
 use Rattle.call_stages.specs.declared.stages.Absorbed.{Absorbed}
 use Rattle.call_stages.specs.View.{Core}
-use Rattle.core_invariant.specs.Events.{decided_in, returned_in}
+use Rattle.work_invariant.specs.core_invariant.specs.Events.{decided_in, returned_in}
 use Rattle.call_stages.specs.Cores.{started, begun, move_of, ready_of, absorbed, told_of_step}
 
 -- The cores of a machine that has just booted.

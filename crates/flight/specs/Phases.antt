@@ -1,12 +1,12 @@
 -- Where the cores of the machine stand, and the phases of the trace that has brought them there.
 use Rattle.std.specs.Prelude.{◌≡◌, ◌≢◌, ◌<◌, ◌≤◌, [], ℕ, true, false, Option, None, IsSome}
-use Rattle.spk_nums.specs.Setting.{Setting, IsSetting}
-use Rattle.spk_nums.specs.declared.replies.Reply.{Reply}
-use Rattle.word_map.specs.Word.{Word}
-use Rattle.word_map.specs.Places.{Shape, IsIn, shared}
-use Rattle.word_map.specs.Moves.{word_of}
-use Rattle.kernel_history.specs.Trace.{Step, Trace, Phase, Out, phase, calls_of}
-use Rattle.kernel_history.specs.Order.{IsDecided}
+use Rattle.boot_words.specs.spk_nums.specs.Setting.{Setting, IsSetting}
+use Rattle.boot_words.specs.spk_nums.specs.declared.replies.Reply.{Reply}
+use Rattle.boot_words.specs.word_map.specs.Word.{Word}
+use Rattle.boot_words.specs.word_map.specs.Places.{Shape, IsIn, shared}
+use Rattle.boot_words.specs.word_map.specs.Moves.{word_of}
+use Rattle.boot_words.specs.kernel_history.specs.Trace.{Step, Trace, Phase, Out, phase, calls_of}
+use Rattle.boot_words.specs.kernel_history.specs.Order.{IsDecided}
 use Rattle.call_stages.specs.View.{Core}
 use Rattle.call_stages.specs.Cores.{move_of, ready_of}
 use Rattle.call_stages.specs.Fits.{IsCore}

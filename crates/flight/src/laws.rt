@@ -1,6 +1,5 @@
 //! What is proved of the step machine, as laws: cores that stand for a trace go on standing for it, step by step.
 
-ghost use Rattle.flight.specs.Histories.{MadeHistories};
 ghost use Rattle.flight.specs.Theorems.{Boots, StepsOn, MadeStands, SaysWords, Represents, RepresentsCounts};
 
 /// The start stands for no step.
@@ -19,13 +18,6 @@ pub fn steps_on()
 #[tactic(auto, using(crate::proofs::Made::made_stands))]
 pub fn made_stands()
     ensures { MadeStands }
-{}
-
-/// Each trace that is the machine's is a legal history: its calls keep within their bounds, each step keeps the discipline of words
-/// and its call's footprint, the words say the state at each moment, and a call made alone answers as in the sequential kernel.
-#[tactic(auto, using(crate::proofs::Made::made_histories))]
-pub fn made_histories()
-    ensures { MadeHistories }
 {}
 
 /// At each moment the words say what the state is.

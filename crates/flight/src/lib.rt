@@ -10,5 +10,5 @@ mod laws;
 
 pub use call_stages::{Absorbed, ActiveCall, decides_once, ready_decides, unready_refuses};
 pub use laws::{
-    boots, made_histories, made_stands, represents, represents_counts, says_words, steps_on,
+    boots, made_stands, represents, represents_counts, says_words, steps_on,
 };

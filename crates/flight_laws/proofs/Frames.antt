@@ -1,42 +1,31 @@
 -- What holds of frames that are made untyped, and that a node through which a call has looked stays till the call returns.
-use Rattle.std.proofs.Common.{◌≡◌, ◌≢◌, ◌⊎◌, inl, inr, ℕ, ◌<◌, Bool, true, false, IsTrue}
-use Rattle.std.proofs.Common.{[], ◌∷◌, ◌++◌, Option, Some, None, refl, sym, ◌∙◌, ap, subst}
-use Rattle.std.proofs.lemmas.Bool.{cases_eq, eq-eqb, eqb-true, false≢true}
-use Rattle.spk_nums.specs.Setting.{Setting, IsSetting}
-use Rattle.spk_nums.specs.CallLimits.{InLimits}
-use Rattle.spk_nums.specs.declared.kinds.FrameKind.TheVariants as frame_kind
-use Rattle.spk_nums.specs.declared.kinds.Kind.TheVariants as kind
-use Rattle.spk_nums.specs.declared.calls.Call.{Call}
-use Rattle.spk_nums.specs.declared.calls.Call.TheVariants.{Retype, Make as make_call}
-use Rattle.spk_nums.specs.declared.calls.Make.TheVariants as make
-use Rattle.spk_nums.specs.declared.replies.Reply.{Reply}
-use Rattle.spk_nums.specs.declared.replies.Reply.TheVariants.{Ok}
-use Rattle.word_map.specs.Word.{EntryAt, CountAt}
-use Rattle.word_map.specs.Moves.{word_of}
-use Rattle.kernel_rules.specs.State.{Frame, FrameOf, State}
-use Rattle.kernel_rules.specs.References.{refs}
-use Rattle.kernel_rules.specs.Fitting.{fits}
-use Rattle.kernel_rules.specs.Relies.{is_node, Relies}
-use Rattle.kernel_rules.specs.CallRelation.{MayReply, ends}
-use Rattle.found_stays.proofs.Apart.{node_fixed}
-use Rattle.kernel_invariant.proofs.Ends.{ends_by_rule}
-use Rattle.kernel_invariant.proofs.SoundCalls.{IsOpen}
-use Rattle.kernel_invariant.proofs.SoundRuns.{opened, open_limits}
-use Rattle.kernel_history.specs.Legal.{MayEnter, DecidesBy, MayDecide, MayFollow, IsLegal}
-use Rattle.kernel_history.specs.Marking.{marked_by}
-use Rattle.kernel_history.specs.Stamps.{is_in, ends_at, ends_in}
-use Rattle.kernel_history.specs.Trace.{Step, Trace, Phase, Out, Open, Decided, phase, after_enter, after_decide, after_return}
-use Rattle.kernel_history.specs.Trace.{state_after, state_before, state_entered, state_decided, state_returned, own_read, only_reads}
-use Rattle.kernel_history.specs.Events.{plain_phase}
-use Rattle.kernel_history.proofs.Events.{entered_events, entered_phase, entered_run, run_of}
-use Rattle.kernel_history.proofs.Names.{cases_word}
-use Rattle.trace_laws.proofs.Opens.{opens, open_inj}
-use Rattle.trace_laws.proofs.Stays.{Stays, stays_other, stays_in_other, stays_plain, sound_of, opened_is}
-use Rattle.kernel_history.proofs.Steps.{phase-own, phase-other, own_read-here, own_read-there, own_read-other}
-use Rattle.state_laws.proofs.Flushes.{frame_flushed}
-use Rattle.state_laws.proofs.Relied.{own_frame, own_relies}
-use Rattle.kept_facts.proofs.CountSums.{counter_all}
-use Rattle.core_invariant.specs.Invariant.{Invariant}
+use Rattle.flight.proofs.Common.{◌≡◌, ◌≢◌, ◌⊎◌, inl, inr, ℕ, ◌<◌, Bool, true, false, IsTrue, [], ◌∷◌, ◌++◌, Option, Some, None, refl, sym}
+use Rattle.flight.proofs.Common.{◌∙◌, ap, subst, cases_eq, eq-eqb, eqb-true, false≢true, Setting, IsSetting, InLimits, Call, Retype}
+use Rattle.flight.proofs.Common.{Reply, EntryAt, CountAt, word_of, Frame, FrameOf, State, refs, fits, is_node, Relies, MayReply, ends}
+use Rattle.flight.proofs.Common.{opened, MayDecide, MayFollow, IsLegal, marked_by, is_in, ends_at, ends_in, Step, Trace, Phase, Out, Open}
+use Rattle.flight.proofs.Common.{phase, after_enter, after_decide, after_return, state_after, state_before, state_entered, state_decided}
+use Rattle.flight.proofs.Common.{state_returned, own_read, run_of, cases_word, open_inj, sound_of, opened_is, phase-own, phase-other}
+use Rattle.flight.proofs.Common.{own_read-here, own_read-there, Invariant}
+use Rattle.flight.specs.spk_nums.specs.declared.kinds.FrameKind.TheVariants as frame_kind
+use Rattle.flight.specs.spk_nums.specs.declared.kinds.Kind.TheVariants as kind
+use Rattle.flight.specs.spk_nums.specs.declared.calls.Call.TheVariants.{Make as make_call}
+use Rattle.flight.specs.spk_nums.specs.declared.calls.Make.TheVariants as make
+use Rattle.flight.specs.spk_nums.specs.declared.replies.Reply.TheVariants.{Ok}
+use Rattle.flight.specs.found_stays.proofs.Apart.{node_fixed}
+use Rattle.flight.specs.kernel_invariant.proofs.Ends.{ends_by_rule}
+use Rattle.flight.specs.kernel_invariant.proofs.SoundCalls.{IsOpen}
+use Rattle.flight.specs.kernel_invariant.proofs.SoundRuns.{open_limits}
+use Rattle.flight.specs.kernel_history.specs.Legal.{MayEnter, DecidesBy}
+use Rattle.flight.specs.kernel_history.specs.Trace.{Decided}
+use Rattle.flight.specs.kernel_history.specs.Trace.{only_reads}
+use Rattle.flight.specs.kernel_history.specs.Events.{plain_phase}
+use Rattle.flight.specs.kernel_history.proofs.Events.{entered_events, entered_phase, entered_run}
+use Rattle.flight.specs.trace_laws.proofs.Opens.{opens}
+use Rattle.flight.specs.trace_laws.proofs.Stays.{Stays, stays_other, stays_in_other, stays_plain}
+use Rattle.flight.specs.kernel_history.proofs.Steps.{own_read-other}
+use Rattle.flight.specs.state_laws.proofs.Flushes.{frame_flushed}
+use Rattle.flight.specs.state_laws.proofs.Relied.{own_frame, own_relies}
+use Rattle.flight.specs.kept_facts.proofs.CountSums.{counter_all}
 use Rattle.flight_laws.specs.Frames.{MakesUntyped, IsUnused, UntypedFramesAreUnused, CountedFramesStay, GoesOn, IsLooked, LookedNodesStay}
 use Rattle.flight.specs.Made.{cores_after, IsMade}
 use Rattle.flight.proofs.Made.{made_stands, made_counted}
@@ -75,7 +64,7 @@ ends_untyping t e f ended = by e.decides refl (after_enter e.enters (phase t e.c
     by (Some r) decides (Open call) is h = by_call call r decides is h
     by (Some r) decides (Decided call q) is h = absurd (false≢true h)
 
-pub counted_frames_stay : CountedFramesStay
+pub counted_frames_stay : (setup : Setting) → IsSetting setup → (t : Trace) (e : Step) → IsMade setup (e ∷ t) → CountedFramesStay setup t e
 counted_frames_stay setup setting t e made f is d below c mark = same_core c e.core (sym mark
     ∙ counter_all (λ k. marked_by setup t (CountAt f k) ≡ Some e.core) setup.cores d below
     (made_counted setup setting t e made f (untyping_ends t e f is)))
@@ -83,7 +72,7 @@ counted_frames_stay setup setting t e made f is d below c mark = same_core c e.c
     same_core : (x y : ℕ) → Some x ≡ Some y → x ≡ y
     same_core x y h = cc
 
-pub untyped_unused : UntypedFramesAreUnused
+pub untyped_unused : (setup : Setting) → IsSetting setup → (t : Trace) (e : Step) → IsMade setup (e ∷ t) → UntypedFramesAreUnused setup t e
 untyped_unused setup setting t e made f is = record { none = ended.0; waits = ended.1; flushed = all_flushed }
   where
     legal : IsLegal setup (e ∷ t)
@@ -291,7 +280,7 @@ there_along setup setting (e ∷ u) t made c f x there goes =
     not_true true never = absurd (never refl)
     not_true false never = refl
 
-pub looked_nodes_stay : LookedNodesStay
+pub looked_nodes_stay : (setup : Setting) → IsSetting setup → (u t : Trace) → IsMade setup (u ++ t) → LookedNodesStay setup u t
 looked_nodes_stay setup setting u t made c call is f i w read looked node goes =
     (there_along setup setting u t made c f ((state_after setup t).frame f) (record {
       inside = ap is_in is;

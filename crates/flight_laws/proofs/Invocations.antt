@@ -1,28 +1,17 @@
 -- A call through a gate that is carried out enters a component that lives.
-use Rattle.std.proofs.Common.{◌≡◌, ◌<◌, ◌&&◌, ℕ, ◌==◌, nat_le, length, not, List, [], ◌∷◌, ◌++◌, Bool}
-use Rattle.std.proofs.Common.{true, false, if◌then◌else◌, Option, Some, None, refl, sym, ◌∙◌, ap, subst}
-use Rattle.std.proofs.lemmas.Bool.{eqb-true, false≢true}
-use Rattle.spk_nums.specs.Capability.{Capability}
-use Rattle.spk_nums.specs.Setting.{Setting, IsSetting}
-use Rattle.spk_nums.specs.declared.calls.Call.{Call}
-use Rattle.spk_nums.specs.declared.calls.Call.TheVariants.{Call as call_gate}
-use Rattle.spk_nums.specs.declared.kinds.Kind.TheVariants as kind
-use Rattle.spk_nums.specs.declared.replies.Reply.TheVariants as reply
-use Rattle.spk_nums.specs.declared.replies.Value.{Value}
-use Rattle.kernel_rules.specs.State.{Liveness, Unused, Live, Dead, State, comp_in, thread_of}
-use Rattle.kernel_rules.specs.Access.{Named, found, only}
-use Rattle.kernel_rules.specs.Rules.{Found, Rule, Does, When, IsFoundAnd, RuleAnswers, and_then, first_of, named, outcome, unless}
-use Rattle.kernel_rules.specs.InvocationCalls.{call_rule, is_live_in, not_live, pushes}
-use Rattle.kernel_rules.specs.CallRelation.{MayReply}
-use Rattle.kernel_rules.specs.Runs.{after, IsRun}
-use Rattle.kernel_history.specs.Events.{events_of}
-use Rattle.kernel_history.specs.Legal.{MayDecide, MayFollow}
-use Rattle.kernel_history.specs.Trace.{Step, Trace, Open, phase, after_enter, state_before, state_entered, state_after}
-use Rattle.kernel_history.proofs.Events.{state_is, run_of}
-use Rattle.trace_laws.proofs.Opens.{open_inj}
-use Rattle.state_laws.proofs.Lives.{dead_stays}
-use Rattle.core_invariant.specs.Invariant.{Invariant}
-use Rattle.comp_invariant.proofs.LaterEvents.{Later, later_events}
+use Rattle.flight.proofs.Common.{◌≡◌, ◌<◌, ◌&&◌, ℕ, ◌==◌, nat_le, length, not, List, [], ◌∷◌, ◌++◌, Bool, true, false, if◌then◌else◌}
+use Rattle.flight.proofs.Common.{Option, Some, None, refl, sym, ◌∙◌, ap, subst, eqb-true, false≢true, Capability, Setting, IsSetting}
+use Rattle.flight.proofs.Common.{Call, Value, Liveness, Unused, Live, Dead, State, comp_in, thread_of, Named, found, only, Found, Rule}
+use Rattle.flight.proofs.Common.{Does, When, IsFoundAnd, and_then, first_of, named, outcome, unless, is_live_in, pushes, MayReply, after}
+use Rattle.flight.proofs.Common.{IsRun, events_of, MayDecide, MayFollow, Step, Trace, Open, phase, after_enter, state_before}
+use Rattle.flight.proofs.Common.{state_entered, state_after, state_is, run_of, open_inj, Invariant}
+use Rattle.flight.specs.spk_nums.specs.declared.calls.Call.TheVariants.{Call as call_gate}
+use Rattle.flight.specs.spk_nums.specs.declared.kinds.Kind.TheVariants as kind
+use Rattle.flight.specs.spk_nums.specs.declared.replies.Reply.TheVariants as reply
+use Rattle.flight.specs.kernel_rules.specs.Rules.{RuleAnswers}
+use Rattle.flight.specs.kernel_rules.specs.InvocationCalls.{call_rule, not_live}
+use Rattle.flight.specs.state_laws.proofs.Lives.{dead_stays}
+use Rattle.flight.specs.comp_invariant.proofs.LaterEvents.{Later, later_events}
 use Rattle.flight_laws.specs.Invocations.{GoesThrough, number_through, EntersTheLiving, EntersNoneKilled}
 use Rattle.flight.specs.Made.{IsMade, cores_after}
 use Rattle.flight.proofs.Made.{made_stands}
@@ -49,7 +38,7 @@ module _ (s : State) (c n : ℕ) (v : Value) (gate : Capability) where
       by_causes (nat_le 16 (length (thread_of s c).stack)) (is_live_in (s.number (comp_in (s.frame gate.frame)).number) gate.arg)
       (subst (λ o. IsFoundAnd (and_then o λ k. outcome s c (entering (found k))) (λ change. change.value ≡ v)) leads answers)
 
-pub enters_the_living : EntersTheLiving
+pub enters_the_living : (setup : Setting) → IsSetting setup → (t : Trace) (e : Step) → IsMade setup (e ∷ t) → EntersTheLiving setup t e
 enters_the_living setup setting t e made gate is =
     lives_at (state_before setup t e) e.core is.name is.value gate is.leads (subst
     (λ k. MayReply (state_before setup t e) e.core k (reply.Ok is.value))
@@ -77,7 +66,8 @@ entered_number : (o : Option Call) (s : State) (c l : ℕ) → (state_entered o 
 entered_number None s c l = refl
 entered_number (Some call) s c l = refl
 
-pub enters_none_killed : EntersNoneKilled
+pub enters_none_killed : (setup : Setting) → IsSetting setup
+    → (u t : Trace) (e : Step) → IsMade setup (e ∷ u ++ t) → EntersNoneKilled setup (e ∷ u) t
 enters_none_killed setup setting u t e made gate is epoch dead =
     let stands : Invariant setup (cores_after setup (u ++ t)) (u ++ t) = made_stands setup setting (u ++ t) made.0 in
     let had : Later (events_of (u ++ t)) (events_of t) = later_events u t in

@@ -1,4 +1,4 @@
--- Laws of the machine's traces.
+-- The laws, one concern a file.
 pub mod Places
 pub mod Lives
 pub mod Time
@@ -11,3 +11,5 @@ pub mod Frames
 pub mod Sweeping
 pub mod Invocations
 pub mod Threads
+-- The record of all of them.
+pub mod Histories

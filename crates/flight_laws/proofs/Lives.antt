@@ -1,27 +1,19 @@
 -- A liveness number that was killed lives later in higher epochs alone.
-use Rattle.std.proofs.Common.{◌≡◌, ℕ, List, [], ◌∷◌, ◌++◌, Option, Some, None, refl, sym, ◌∙◌, ap, subst}
-use Rattle.spk_nums.specs.declared.calls.Call.{Call}
-use Rattle.spk_nums.specs.declared.replies.Reply.{Reply}
-use Rattle.frame_words.specs.Live.{live_of_word}
-use Rattle.word_map.specs.Word.{LiveAt}
-use Rattle.kernel_rules.specs.State.{Live, NumberOf, State}
-use Rattle.kernel_rules.specs.Runs.{Event, Enters, Decides, Returns, after, IsRun}
-use Rattle.kernel_history.specs.Events.{with_entry, with_decision, with_return, events_of}
-use Rattle.kernel_history.specs.Marks.{live_mark}
-use Rattle.kernel_history.specs.Stamps.{stamp}
-use Rattle.kernel_history.specs.Trace.{Trace, Phase, Out, Open, Decided, phase, after_enter, state_after, last_left}
-use Rattle.kernel_history.proofs.Events.{state_is, run_of}
-use Rattle.state_laws.proofs.Lives.{dead_stays}
-use Rattle.core_invariant.specs.Holding.{settled_by}
-use Rattle.core_invariant.specs.Words.{NumberIs}
-use Rattle.core_invariant.specs.Invariant.{held_by, Invariant}
-use Rattle.comp_invariant.proofs.LaterEvents.{Later, later_events}
-use Rattle.live_invariant.proofs.Numbers.{number_is}
+use Rattle.flight.proofs.Common.{◌≡◌, ℕ, List, [], ◌∷◌, ◌++◌, Option, Some, None, refl, sym, ◌∙◌, ap, subst, Setting, IsSetting, Call}
+use Rattle.flight.proofs.Common.{Reply, live_of_word, LiveAt, Live, NumberOf, State, after, IsRun, events_of, live_mark, stamp, Trace}
+use Rattle.flight.proofs.Common.{Phase, Out, Open, phase, after_enter, state_after, last_left, state_is, run_of, settled_by, NumberIs}
+use Rattle.flight.proofs.Common.{held_by, Invariant}
+use Rattle.flight.specs.kernel_rules.specs.Runs.{Event, Enters, Decides, Returns}
+use Rattle.flight.specs.kernel_history.specs.Events.{with_entry, with_decision, with_return}
+use Rattle.flight.specs.kernel_history.specs.Trace.{Decided}
+use Rattle.flight.specs.state_laws.proofs.Lives.{dead_stays}
+use Rattle.flight.specs.comp_invariant.proofs.LaterEvents.{Later, later_events}
+use Rattle.flight.specs.live_invariant.proofs.Numbers.{number_is}
 use Rattle.flight_laws.specs.Lives.{DeadForGood}
-use Rattle.flight.specs.Made.{cores_after}
+use Rattle.flight.specs.Made.{cores_after, IsMade}
 use Rattle.flight.proofs.Made.{made_stands}
 
-pub dead_for_good : DeadForGood
+pub dead_for_good : (setup : Setting) → IsSetting setup → (u t : Trace) → IsMade setup (u ++ t) → DeadForGood setup u t
 dead_for_good setup setting u t made l e d f dead shows =
     let stands : Invariant setup (cores_after setup (u ++ t)) (u ++ t) = made_stands setup setting (u ++ t) made in
     let had : Later (events_of (u ++ t)) (events_of t) = later_events u t in

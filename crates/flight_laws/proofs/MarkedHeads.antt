@@ -1,69 +1,35 @@
 -- What the head of a temporal capability says that a core has marked in a call that is not decided: the mark, and the budget still.
-use Rattle.std.proofs.Common.{◌≡◌, ◌<◌, inl, inr, ℕ, zero, suc, true, false, if◌then◌else◌}
-use Rattle.std.proofs.Common.{Option, Some, None, IsTrue, arith, refl, sym, ◌∙◌, ap, subst}
-use Rattle.std.proofs.lemmas.Bool.{false≢true}
-use Rattle.spk_nums.specs.Setting.{Setting, IsSetting}
-use Rattle.spk_nums.specs.declared.kinds.Kind.TheVariants as kind
-use Rattle.spk_nums.specs.declared.calls.Call.{Call}
-use Rattle.tcap_words.specs.Head.{HeadFits, word_of_head, head_of_word}
-use Rattle.tcap_words.specs.declared.head_word.HeadWord.{HeadWord}
-use Rattle.tcap_words.proofs.HeadLemmas.{spelling}
-use Rattle.word_map.specs.Word.{EntryAt}
-use Rattle.word_map.proofs.WordLemmas.{same_same}
-use Rattle.kernel_rules.specs.State.{Frame, Kernel, Table, Leaf, Pages, Pleaf, Thread, Tcap, TcapFields, State}
-use Rattle.kernel_rules.specs.Fitting.{fits}
-use Rattle.kernel_rules.specs.Relies.{is_node}
-use Rattle.kernel_history.specs.Marking.{marked_by}
-use Rattle.kernel_history.specs.Trace.{Trace, Open, phase, state_after, last_left}
-use Rattle.kernel_history.specs.Trace as history
-use Rattle.kernel_history.proofs.Names.{cases_word, same_word-other}
-use Rattle.stage_quiet.specs.declared.close.Close.TheVariants.{AtCompare, AtDraw, AtStore}
-use Rattle.stage_tcap.specs.Heads.{marked}
-use Rattle.stage_tcap.specs.declared.pair.Pair.{Pair}
-use Rattle.stage_tcap.specs.declared.pair.PairAt.{PairAt}
-use Rattle.stage_tcap.specs.declared.pair.PairAt.TheVariants as pair
-use Rattle.stage_thread.specs.declared.claim.Claim.TheVariants as claim
-use Rattle.act_states.specs.declared.comps.CompAt.{CompAt}
-use Rattle.act_states.specs.declared.comps.CompAt.TheVariants as comp_at
-use Rattle.act_states.specs.declared.comps.CompMaking.{CompMaking}
-use Rattle.act_states.specs.declared.kills.KillingAt.{KillingAt}
-use Rattle.act_states.specs.declared.kills.KillingAt.TheVariants.{LoadComp, LoadLive, Close as kill_close, Draw as kill_draw}
-use Rattle.act_states.specs.declared.makings.MakingAt.{MakingAt}
-use Rattle.act_states.specs.declared.makings.MakingAt.TheVariants.{Load as making_load, Mark, Store, Fill as making_fill}
-use Rattle.act_states.specs.declared.switches.Switching.{Switching}
-use Rattle.act_states.specs.declared.switches.SwitchAt.{SwitchAt}
-use Rattle.act_states.specs.declared.switches.SwitchAt.TheVariants as switch
-use Rattle.act_states.specs.declared.untypings.UntypingAt.{UntypingAt}
-use Rattle.act_states.specs.declared.untypings.UntypingAt.TheVariants as untype
-use Rattle.act_states.specs.Untypings.{release_of}
-use Rattle.act_states.specs.declared.work.Act.{Act as ActOf}
-use Rattle.act_states.specs.declared.work.Act.TheVariants.{Fill as fill_act, Remove as remove_act, Retype as type_act}
-use Rattle.act_states.specs.declared.work.Act.TheVariants.{Make as make_act, Outside, Tick as tick_act, Touch as touch_act}
-use Rattle.act_states.specs.declared.work.Act.TheVariants.{Flush as flush_act, Kill as kill_act, Untype as untype_act}
-use Rattle.act_states.specs.declared.work.Act.TheVariants.{Map as map_act, MakeComp as comp_act, Invoke as invoke_act}
-use Rattle.act_states.specs.declared.work.Act.TheVariants.{Return as return_act, Share as share_act, Switch as switch_act}
-use Rattle.act_states.specs.declared.work.Work.{Work}
-use Rattle.act_states.specs.declared.work.Work.TheVariants.{Lookup, Read, Scan, Acquire, Act}
-use Rattle.call_stages.specs.declared.stages.Stage.{Stage}
-use Rattle.call_stages.specs.declared.stages.Stage.TheVariants.{Enter, Undecided, Decided, Leave}
-use Rattle.call_stages.specs.declared.stages.ActiveCall.{ActiveCall}
-use Rattle.call_stages.specs.View.{Core}
-use Rattle.stage_sweep.specs.Freeze.{swept_of}
-use Rattle.core_invariant.specs.Frozen.{holds_untyping}
-use Rattle.core_invariant.specs.Holding.{Holding, nothing, keeps, holds_counts}
-use Rattle.core_invariant.specs.Threads.{holds_switching, claimed_by}
-use Rattle.core_invariant.specs.Words.{HeadIs, count_room}
-use Rattle.core_invariant.specs.Knows.{KnowsAct, KnowsWork, KnowsAt, CallIs, phase_at}
-use Rattle.core_invariant.specs.Shares.{HasMarkedA, KnowsPairAt}
-use Rattle.core_invariant.specs.Invariant.{holds_act, holds_making, holds_killing, holds_comp, holds_share}
-use Rattle.core_invariant.specs.Invariant.{holds_head, holds_work, holds_at, holds_in, holds, held_by, Invariant}
-use Rattle.kept_facts.proofs.Carries.{slot_relies}
-use Rattle.core_invariant.proofs.Freezing.{release_entry}
-use Rattle.kept_facts.proofs.Tcaps.{is_tcap}
-use Rattle.pair_invariant.proofs.ShareSteps.{marked_says}
-use Rattle.thread_invariant.proofs.EntryMarks.{counts_apart, holder_below}
-use Rattle.thread_invariant.proofs.OwnStack.{own_thread}
-use Rattle.flight.specs.Made.{cores_after}
+use Rattle.flight.proofs.Common.{◌≡◌, ◌<◌, inl, inr, ℕ, zero, suc, true, false, if◌then◌else◌, Option, Some, None, IsTrue, arith, refl}
+use Rattle.flight.proofs.Common.{sym, ◌∙◌, ap, subst, false≢true, Setting, IsSetting, Call, HeadFits, word_of_head, head_of_word}
+use Rattle.flight.proofs.Common.{HeadWord, spelling, EntryAt, same_same, Frame, Kernel, Table, Leaf, Pages, Pleaf, Thread, Tcap}
+use Rattle.flight.proofs.Common.{TcapFields, State, fits, is_node, marked_by, Trace, Open, phase, state_after, last_left, cases_word}
+use Rattle.flight.proofs.Common.{same_word-other, AtCompare, AtDraw, AtStore, marked, Pair, PairAt, CompAt, CompMaking, KillingAt}
+use Rattle.flight.proofs.Common.{LoadComp, LoadLive, MakingAt, Mark, Store, Switching, SwitchAt, UntypingAt, release_of, Outside, Work}
+use Rattle.flight.proofs.Common.{Lookup, Read, Scan, Acquire, Act, Stage, Enter, Undecided, Decided, Leave, ActiveCall, Core, swept_of}
+use Rattle.flight.proofs.Common.{holds_untyping, Holding, nothing, keeps, holds_counts, holds_switching, claimed_by, HeadIs, count_room}
+use Rattle.flight.proofs.Common.{KnowsAct, KnowsWork, KnowsAt, CallIs, phase_at, HasMarkedA, KnowsPairAt, holds_act, holds_making}
+use Rattle.flight.proofs.Common.{holds_killing, holds_comp, holds_share, holds_head, holds_work, holds_at, holds_in, holds, held_by}
+use Rattle.flight.proofs.Common.{Invariant, slot_relies, release_entry}
+use Rattle.flight.specs.spk_nums.specs.declared.kinds.Kind.TheVariants as kind
+use Rattle.flight.specs.kernel_history.specs.Trace as history
+use Rattle.flight.specs.stage_tcap.specs.declared.pair.PairAt.TheVariants as pair
+use Rattle.flight.specs.stage_thread.specs.declared.claim.Claim.TheVariants as claim
+use Rattle.flight.specs.act_states.specs.declared.comps.CompAt.TheVariants as comp_at
+use Rattle.flight.specs.act_states.specs.declared.kills.KillingAt.TheVariants.{Close as kill_close, Draw as kill_draw}
+use Rattle.flight.specs.act_states.specs.declared.makings.MakingAt.TheVariants.{Load as making_load, Fill as making_fill}
+use Rattle.flight.specs.act_states.specs.declared.switches.SwitchAt.TheVariants as switch
+use Rattle.flight.specs.act_states.specs.declared.untypings.UntypingAt.TheVariants as untype
+use Rattle.flight.specs.act_states.specs.declared.work.Act.{Act as ActOf}
+use Rattle.flight.specs.act_states.specs.declared.work.Act.TheVariants.{Fill as fill_act, Remove as remove_act, Retype as type_act}
+use Rattle.flight.specs.act_states.specs.declared.work.Act.TheVariants.{Make as make_act, Tick as tick_act, Touch as touch_act}
+use Rattle.flight.specs.act_states.specs.declared.work.Act.TheVariants.{Flush as flush_act, Kill as kill_act, Untype as untype_act}
+use Rattle.flight.specs.act_states.specs.declared.work.Act.TheVariants.{Map as map_act, MakeComp as comp_act, Invoke as invoke_act}
+use Rattle.flight.specs.act_states.specs.declared.work.Act.TheVariants.{Return as return_act, Share as share_act, Switch as switch_act}
+use Rattle.flight.specs.kept_facts.proofs.Tcaps.{is_tcap}
+use Rattle.flight.specs.pair_invariant.proofs.ShareSteps.{marked_says}
+use Rattle.flight.specs.thread_invariant.proofs.EntryMarks.{counts_apart, holder_below}
+use Rattle.flight.specs.thread_invariant.proofs.OwnStack.{own_thread}
+use Rattle.flight.specs.Made.{cores_after, IsMade}
 use Rattle.flight_laws.specs.Time.{ShowsMarked, OpenHeadsSay}
 use Rattle.flight.proofs.Made.{made_stands}
 
@@ -226,7 +192,7 @@ module _ (setup : Setting) (setting : IsSetting setup) (cores : ℕ → Core) (t
   by_call call table None undecided at = none nothing refl
   by_call call table (Some a) undecided at = by_stage a call table a.stage undecided at.phase at.knows
 
-pub open_heads_say : OpenHeadsSay
+pub open_heads_say : (setup : Setting) → IsSetting setup → (t : Trace) → IsMade setup t → OpenHeadsSay setup t
 open_heads_say setup setting t made f q d call is mark undecided = record {
   version = told.head.version;
   says = ap head_of_word told.raw ∙ spelling.reads (marked d told.head) fits

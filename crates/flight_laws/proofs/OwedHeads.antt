@@ -1,49 +1,24 @@
 -- What the head of a temporal capability shows that a core has marked in a call that is decided: the mark, and the budget but for the ticks
 -- that the call has still to store there.
-use Rattle.std.proofs.Common.{◌≡◌, inl, inr, ℕ, ◌<◌, true, false, if◌then◌else◌}
-use Rattle.std.proofs.Common.{Option, Some, None, IsTrue, arith, refl, sym, ◌∙◌, ap, subst}
-use Rattle.std.proofs.lemmas.Bool.{false≢true}
-use Rattle.word_map.proofs.WordLemmas.{same_same}
-use Rattle.spk_nums.specs.Setting.{Setting, IsSetting}
-use Rattle.spk_nums.specs.declared.calls.Call.{Call}
-use Rattle.spk_nums.specs.declared.replies.Reply.{Reply}
-use Rattle.tcap_words.specs.Head.{HeadFits, word_of_head, head_of_word}
-use Rattle.tcap_words.specs.declared.head_word.HeadWord.{HeadWord}
-use Rattle.tcap_words.proofs.HeadLemmas.{spelling}
-use Rattle.word_map.specs.Word.{EntryAt, FrameAt}
-use Rattle.kernel_rules.specs.State.{State}
-use Rattle.kernel_history.specs.Discipline.{changes_budgets}
-use Rattle.kernel_history.specs.Trace.{Trace, phase, state_after, last_left}
-use Rattle.kernel_history.specs.Trace as history
-use Rattle.kernel_history.proofs.Names.{cases_word, same_word-other}
-use Rattle.stage_quiet.specs.declared.close.Close.TheVariants.{AtCompare, AtDraw, AtStore}
-use Rattle.stage_tcap.specs.Heads.{marked, debited, credited}
-use Rattle.stage_tcap.specs.Pairs.{amount_of}
-use Rattle.stage_tcap.specs.declared.pair.Pair.{Pair}
-use Rattle.stage_tcap.specs.declared.pair.PairAt.{PairAt}
-use Rattle.stage_tcap.specs.declared.pair.PairAt.TheVariants as pair
-use Rattle.stage_thread.specs.declared.stack.Push.TheVariants as push
-use Rattle.stage_thread.specs.declared.stack.Pop.TheVariants as pop
-use Rattle.act_states.specs.declared.work.Tail.{Tail}
-use Rattle.act_states.specs.declared.work.Tail.TheVariants.{Nothing, Quiesce, Unmark, StoreDead, StoreFlush, Release}
-use Rattle.act_states.specs.declared.work.Tail.TheVariants.{StoreLive, Push, Pop, Share, StoreRunning, StoreIdle}
-use Rattle.call_stages.specs.declared.stages.Stage.{Stage}
-use Rattle.call_stages.specs.declared.stages.Stage.TheVariants.{Enter, Undecided, Decided, Leave}
-use Rattle.call_stages.specs.declared.stages.ActiveCall.{ActiveCall}
-use Rattle.call_stages.specs.View.{Core}
-use Rattle.core_invariant.specs.Frozen.{holds_release}
-use Rattle.core_invariant.specs.Holding.{Holding, nothing, keeps, holds_counts}
-use Rattle.core_invariant.specs.Threads.{holds_idle}
-use Rattle.core_invariant.specs.Words.{HeadIs, count_room}
-use Rattle.core_invariant.specs.Knows.{KnowsTail, KnowsAt, CallIs, phase_at}
-use Rattle.core_invariant.specs.Shares.{StoresA, StoresB, KnowsStoresAt}
-use Rattle.core_invariant.specs.Invariant.{holds_head, holds_heads, holds_shared, holds_tail, is_done, holds_at, holds_in, holds, Invariant}
-use Rattle.core_invariant.proofs.Freezing.{release_entry}
-use Rattle.kept_facts.proofs.Tcaps.{is_tcap}
-use Rattle.pair_invariant.proofs.ShareSteps.{marked_says}
-use Rattle.thread_invariant.proofs.EntryMarks.{counts_apart, holder_below}
-use Rattle.thread_invariant.proofs.OwnStack.{own_thread}
-use Rattle.flight.specs.Made.{cores_after}
+use Rattle.flight.proofs.Common.{◌≡◌, inl, inr, ℕ, ◌<◌, true, false, if◌then◌else◌, Option, Some, None, IsTrue, arith, refl, sym, ◌∙◌, ap}
+use Rattle.flight.proofs.Common.{subst, false≢true, same_same, Setting, IsSetting, Call, Reply, HeadFits, word_of_head, head_of_word}
+use Rattle.flight.proofs.Common.{HeadWord, spelling, EntryAt, FrameAt, State, changes_budgets, Trace, phase, state_after, last_left}
+use Rattle.flight.proofs.Common.{cases_word, same_word-other, AtCompare, AtDraw, AtStore, marked, debited, credited, amount_of, Pair}
+use Rattle.flight.proofs.Common.{PairAt, Tail, Nothing, Quiesce, Unmark, StoreDead, StoreFlush, Release, StoreLive, Push, Pop, Share}
+use Rattle.flight.proofs.Common.{StoreRunning, StoreIdle, Stage, Enter, Undecided, Decided, Leave, ActiveCall, Core, holds_release}
+use Rattle.flight.proofs.Common.{Holding, nothing, keeps, holds_counts, holds_idle, HeadIs, count_room, KnowsTail, KnowsAt, CallIs}
+use Rattle.flight.proofs.Common.{phase_at, StoresA, KnowsStoresAt, holds_head, holds_heads, holds_shared, holds_tail, is_done, holds_at}
+use Rattle.flight.proofs.Common.{holds_in, holds, Invariant, release_entry}
+use Rattle.flight.specs.kernel_history.specs.Trace as history
+use Rattle.flight.specs.stage_tcap.specs.declared.pair.PairAt.TheVariants as pair
+use Rattle.flight.specs.stage_thread.specs.declared.stack.Push.TheVariants as push
+use Rattle.flight.specs.stage_thread.specs.declared.stack.Pop.TheVariants as pop
+use Rattle.flight.specs.core_invariant.specs.Shares.{StoresB}
+use Rattle.flight.specs.kept_facts.proofs.Tcaps.{is_tcap}
+use Rattle.flight.specs.pair_invariant.proofs.ShareSteps.{marked_says}
+use Rattle.flight.specs.thread_invariant.proofs.EntryMarks.{counts_apart, holder_below}
+use Rattle.flight.specs.thread_invariant.proofs.OwnStack.{own_thread}
+use Rattle.flight.specs.Made.{cores_after, IsMade}
 use Rattle.flight_laws.specs.Time.{Owes, state_of_decision, MarkedHeadsSay}
 use Rattle.flight.proofs.Made.{made_stands}
 use Rattle.flight_laws.proofs.MarkedHeads.{node_no_tcap, thread_no_tcap, same_frame}
@@ -215,7 +190,7 @@ module _ (setup : Setting) (setting : IsSetting setup) (cores : ℕ → Core) (t
   by_call call r table None is at owes = none r call nothing refl
   by_call call r table (Some a) is at owes = by_stage a call r table a.stage is at.phase at.knows owes
 
-pub marked_heads_say : MarkedHeadsSay
+pub marked_heads_say : (setup : Setting) → IsSetting setup → (t : Trace) → IsMade setup t → MarkedHeadsSay setup t
 marked_heads_say setup setting t made f q d call r is mark decided = record {
   shown = told.head.budget;
   shows = record { version = told.head.version; says = ap head_of_word told.raw ∙ spelling.reads (marked d told.head) fits };

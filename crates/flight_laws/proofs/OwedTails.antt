@@ -1,87 +1,49 @@
 -- What the heads owe that a decided call on two temporal capabilities has marked, along a trace that is the machine's: its deciding step
 -- tells it, and each store after it leaves it so.
-use Rattle.std.proofs.Common.{◌≡◌, inl, inr, ℕ, ◌+◌, ◌<◌, ◌≤◌, ◌^◌, ◌==◌, ◌&&◌, nat_lt, Bool, true, false}
-use Rattle.std.proofs.Common.{if◌then◌else◌, List, [], ◌∷◌, length, Option, Some, None, arith, refl, sym, ◌∙◌, ap, subst}
-use Rattle.std.specs.Prelude.{is_some, IsSome}
-use Rattle.std.proofs.lemmas.Bool.{false≢true, cases_eq, eq-eqb, ne_eqb}
-use Rattle.spk_nums.specs.Setting.{Setting, IsSetting}
-use Rattle.spk_nums.specs.Capability.{Capability}
-use Rattle.spk_nums.specs.declared.calls.Call.{Call}
-use Rattle.spk_nums.specs.declared.calls.Call.TheVariants as call_as
-use Rattle.spk_nums.specs.declared.replies.Reply.{Reply}
-use Rattle.spk_nums.specs.declared.replies.Reply.TheVariants as reply
-use Rattle.spk_nums.specs.declared.replies.Value.{Value}
-use Rattle.spk_nums.specs.declared.replies.Value.TheVariants as value
-use Rattle.spk_nums.specs.declared.steps.StageEnd.{StageEnd}
-use Rattle.spk_nums.specs.declared.steps.StageEnd.TheVariants as ends
-use Rattle.tcap_words.specs.Head.{word_of_head, head_of_word}
-use Rattle.tcap_words.specs.Quality.{quality_of_word}
-use Rattle.tcap_words.specs.declared.head_word.HeadWord.{HeadWord}
-use Rattle.tcap_words.specs.declared.quality_word.QualityWord.{QualityWord}
-use Rattle.word_map.specs.Word.{EntryAt}
-use Rattle.word_map.specs.Moves.{Move, word_of, told_of}
-use Rattle.kernel_rules.specs.State.{State}
-use Rattle.kernel_rules.proofs.Within.{put_same, put_other}
-use Rattle.kernel_history.specs.Discipline.{changes_budgets}
-use Rattle.kernel_history.specs.Trace.{Step, Trace, state_after, state_entered, state_before, last_left}
-use Rattle.stage_pins.specs.declared.pin.Pin.{Pin}
-use Rattle.stage_pins.specs.declared.pin.Pinned.{Pinned}
-use Rattle.stage_pins.specs.Acquire.{pin_after, pin_end}
-use Rattle.stage_quiet.specs.Scan.{quiet_after, quiet_end}
-use Rattle.stage_quiet.specs.declared.close.Close.TheVariants.{AtCompare, AtDraw, AtStore}
-use Rattle.stage_tcap.specs.Charging.{end_by_mark, head_end}
-use Rattle.stage_tcap.specs.Lists.{in_order, same_list}
-use Rattle.stage_tcap.specs.Pairs.{amount_of, noted_by, pair_after, pair_move, judged, by_alike, by_room}
-use Rattle.stage_tcap.specs.Pairs.{at_decided, compared_after, giving_back, at_by_mark, at_by_head, at_marked, at_read}
-use Rattle.stage_tcap.specs.Pairs.{b_next, a_next, marked_end, decided_by_mark, b_end, list_end, again_end, again_value}
-use Rattle.stage_tcap.specs.declared.pair.Pair.{Pair}
-use Rattle.stage_tcap.specs.declared.pair.PairAt.{PairAt}
-use Rattle.stage_tcap.specs.declared.pair.PairAt.TheVariants.{LoadA, MarkA, ListA, LoadB, ListB, CompareB}
-use Rattle.stage_tcap.specs.declared.pair.PairAt.TheVariants.{AgainB, StoreList, StoreB, StoreA}
-use Rattle.stage_tcap.specs.declared.charge.Charge.{Charge}
-use Rattle.call_plans.specs.declared.plans.Plan.{Plan}
-use Rattle.call_plans.specs.After.{Leads, LeadsIn}
-use Rattle.call_plans.specs.PlanOf.{plan_for}
-use Rattle.act_states.specs.declared.comps.CompMaking.{CompMaking}
-use Rattle.act_states.specs.declared.invocations.Invoking.{Invoking}
-use Rattle.act_states.specs.declared.makings.Making.{Making}
-use Rattle.act_states.specs.declared.own.Own.{Own}
-use Rattle.act_states.specs.declared.refusals.Refusal.{Refusal}
-use Rattle.act_states.specs.declared.refusals.Refusal.TheVariants as refusal
-use Rattle.act_states.specs.declared.typings.Typing.{Typing}
-use Rattle.act_states.specs.declared.untypings.Untyping.{Untyping}
-use Rattle.act_states.specs.declared.work.Act.{Act as ActOf}
-use Rattle.act_states.specs.declared.work.Act.TheVariants.{Fill as fill_act, Remove as remove_act, Retype as type_act}
-use Rattle.act_states.specs.declared.work.Act.TheVariants.{Make as make_act, Outside, Tick as tick_act, Touch as touch_act}
-use Rattle.act_states.specs.declared.work.Act.TheVariants.{Flush as flush_act, Kill as kill_act, Untype as untype_act}
-use Rattle.act_states.specs.declared.work.Act.TheVariants.{Map as map_act, MakeComp as comp_act, Invoke as invoke_act}
-use Rattle.act_states.specs.declared.work.Act.TheVariants.{Return as return_act, Share as share_act, Switch as switch_act}
-use Rattle.act_states.specs.declared.work.Work.{Work}
-use Rattle.act_states.specs.declared.work.Work.TheVariants.{Lookup, Read, Scan, Acquire, Act}
-use Rattle.act_states.specs.declared.work.WorkStep.{WorkStep}
-use Rattle.act_states.specs.Acts.{took_act, put_by, removes_by, undo}
-use Rattle.act_states.specs.Refusals.{reply_of, refusal_of}
-use Rattle.act_states.specs.Shares.{shared, took_shared, took_share, is_carried}
-use Rattle.act_states.specs.Ticks.{took_charge, ticks_of}
-use Rattle.call_stages.specs.declared.stages.Stage.{Stage}
-use Rattle.call_stages.specs.declared.stages.Stage.TheVariants.{Enter, Undecided, Decided, Leave}
-use Rattle.call_stages.specs.declared.stages.ActiveCall.{ActiveCall}
-use Rattle.call_stages.specs.Cores.{move_of, told_in, told_by, absorbed_in, fresh, core_after as after_took}
-use Rattle.call_stages.specs.Steps.{stage_move, Took, GoesOn, Decides, Returns, Changes, landed, took}
-use Rattle.call_stages.specs.Steps.{took_at, took_count, took_scan, is_spent}
-use Rattle.call_stages.specs.View.{Core}
-use Rattle.core_invariant.specs.Events.{decided_in}
-use Rattle.core_invariant.specs.Knows.{KnowsAct, KnowsUndecided, KnowsAt, CallIs, TypesBy}
-use Rattle.core_invariant.specs.Knows.{MakesBy, OutsideBy, KillsBy, MakesCompBy, is_mapping}
-use Rattle.core_invariant.specs.Components.{InvokesBy}
-use Rattle.core_invariant.specs.Sweeps.{UntypesBy}
-use Rattle.core_invariant.specs.Threads.{SwitchesBy}
-use Rattle.core_invariant.specs.Shares.{SharesBy}
-use Rattle.core_invariant.specs.Invariant.{Invariant}
-use Rattle.step_ways.proofs.Loads.{is_active}
-use Rattle.share_invariant.proofs.Compared as compared
-use Rattle.pair_invariant.proofs.ShareCalls as calls
-use Rattle.pair_invariant.proofs.ShareSteps.{shares_same}
+use Rattle.flight.proofs.Common.{◌≡◌, inl, inr, ℕ, ◌+◌, ◌<◌, ◌≤◌, ◌^◌, ◌==◌, ◌&&◌, nat_lt, Bool, true, false, if◌then◌else◌, List, []}
+use Rattle.flight.proofs.Common.{◌∷◌, length, Option, Some, None, arith, refl, sym, ◌∙◌, ap, subst, is_some, IsSome, false≢true, cases_eq}
+use Rattle.flight.proofs.Common.{eq-eqb, ne_eqb, Setting, IsSetting, Capability, Call, Reply, Value, StageEnd, word_of_head, head_of_word}
+use Rattle.flight.proofs.Common.{quality_of_word, HeadWord, EntryAt, Move, word_of, told_of, State, put_same, put_other, changes_budgets}
+use Rattle.flight.proofs.Common.{Step, Trace, state_after, state_entered, state_before, last_left, Pin, quiet_after, quiet_end, AtCompare}
+use Rattle.flight.proofs.Common.{AtDraw, AtStore, head_end, in_order, same_list, amount_of, judged, by_alike, by_room, giving_back}
+use Rattle.flight.proofs.Common.{again_end, Pair, PairAt, LoadA, MarkA, ListA, LoadB, ListB, CompareB, AgainB, StoreList, StoreB, StoreA}
+use Rattle.flight.proofs.Common.{Charge, Plan, Leads, LeadsIn, plan_for, CompMaking, Invoking, Making, Own, Untyping, Outside, Work}
+use Rattle.flight.proofs.Common.{Lookup, Read, Scan, Acquire, Act, WorkStep, put_by, removes_by, undo, took_shared, took_share, Stage}
+use Rattle.flight.proofs.Common.{Enter, Undecided, Decided, Leave, ActiveCall, told_in, told_by, absorbed_in, fresh, stage_move, Took}
+use Rattle.flight.proofs.Common.{GoesOn, Decides, Returns, Changes, landed, took, took_scan, Core, decided_in, KnowsAct, KnowsUndecided}
+use Rattle.flight.proofs.Common.{KnowsAt, CallIs, MakesBy, InvokesBy, UntypesBy, SwitchesBy, SharesBy, Invariant}
+use Rattle.flight.specs.spk_nums.specs.declared.calls.Call.TheVariants as call_as
+use Rattle.flight.specs.spk_nums.specs.declared.replies.Reply.TheVariants as reply
+use Rattle.flight.specs.spk_nums.specs.declared.replies.Value.TheVariants as value
+use Rattle.flight.specs.spk_nums.specs.declared.steps.StageEnd.TheVariants as ends
+use Rattle.flight.specs.tcap_words.specs.declared.quality_word.QualityWord.{QualityWord}
+use Rattle.flight.specs.stage_pins.specs.declared.pin.Pinned.{Pinned}
+use Rattle.flight.specs.stage_pins.specs.Acquire.{pin_after, pin_end}
+use Rattle.flight.specs.stage_tcap.specs.Charging.{end_by_mark}
+use Rattle.flight.specs.stage_tcap.specs.Pairs.{noted_by, pair_after, pair_move}
+use Rattle.flight.specs.stage_tcap.specs.Pairs.{at_decided, compared_after, at_by_mark, at_by_head, at_marked, at_read}
+use Rattle.flight.specs.stage_tcap.specs.Pairs.{b_next, a_next, marked_end, decided_by_mark, b_end, list_end, again_value}
+use Rattle.flight.specs.act_states.specs.declared.refusals.Refusal.{Refusal}
+use Rattle.flight.specs.act_states.specs.declared.refusals.Refusal.TheVariants as refusal
+use Rattle.flight.specs.act_states.specs.declared.typings.Typing.{Typing}
+use Rattle.flight.specs.act_states.specs.declared.work.Act.{Act as ActOf}
+use Rattle.flight.specs.act_states.specs.declared.work.Act.TheVariants.{Fill as fill_act, Remove as remove_act, Retype as type_act}
+use Rattle.flight.specs.act_states.specs.declared.work.Act.TheVariants.{Make as make_act, Tick as tick_act, Touch as touch_act}
+use Rattle.flight.specs.act_states.specs.declared.work.Act.TheVariants.{Flush as flush_act, Kill as kill_act, Untype as untype_act}
+use Rattle.flight.specs.act_states.specs.declared.work.Act.TheVariants.{Map as map_act, MakeComp as comp_act, Invoke as invoke_act}
+use Rattle.flight.specs.act_states.specs.declared.work.Act.TheVariants.{Return as return_act, Share as share_act, Switch as switch_act}
+use Rattle.flight.specs.act_states.specs.Acts.{took_act}
+use Rattle.flight.specs.act_states.specs.Refusals.{reply_of, refusal_of}
+use Rattle.flight.specs.act_states.specs.Shares.{shared, is_carried}
+use Rattle.flight.specs.act_states.specs.Ticks.{took_charge, ticks_of}
+use Rattle.flight.specs.call_stages.specs.Cores.{move_of, core_after as after_took}
+use Rattle.flight.specs.call_stages.specs.Steps.{took_at, took_count, is_spent}
+use Rattle.flight.specs.core_invariant.specs.Knows.{TypesBy}
+use Rattle.flight.specs.core_invariant.specs.Knows.{OutsideBy, KillsBy, MakesCompBy, is_mapping}
+use Rattle.flight.specs.step_ways.proofs.Loads.{is_active}
+use Rattle.flight.specs.share_invariant.proofs.Compared as compared
+use Rattle.flight.specs.pair_invariant.proofs.ShareCalls as calls
+use Rattle.flight.specs.pair_invariant.proofs.ShareSteps.{shares_same}
 use Rattle.flight.specs.Made.{turned, MayStep, core_after, cores_after, stepping_core, IsMadeStep, IsMade}
 use Rattle.flight.specs.Theorems.{found_by}
 use Rattle.flight_laws.specs.Time.{Owes, state_of_decision}

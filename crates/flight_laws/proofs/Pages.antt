@@ -1,38 +1,28 @@
 -- What cores have cached stands, as in the sequential kernel, and stays cached till they flush; and what a touch answers is cached.
-use Rattle.std.proofs.Common.{◌≡◌, ◌≢◌, ◌⊎◌, inl, inr, ℕ, ◌≤◌, true, false, List, [], ◌∷◌}
-use Rattle.std.proofs.Common.{◌++◌, length, Option, Some, None, refl, sym, ◌∙◌, ap, subst}
-use Rattle.std.proofs.lemmas.Bool.{false≢true}
+use Rattle.flight.proofs.Common.{◌≡◌, ◌≢◌, ◌⊎◌, inl, inr, ℕ, ◌≤◌, true, false, List, [], ◌∷◌, ◌++◌, length, Option, Some, None, refl, sym}
+use Rattle.flight.proofs.Common.{◌∙◌, ap, subst, false≢true, Setting, IsSetting, Call, Touch, PageFlags, Reply, Translation, User, State}
+use Rattle.flight.proofs.Common.{comp_of, translation_of, state_by, IsRun, put_same, events_of, IsLegal, flushes_in, Step, Trace, Phase}
+use Rattle.flight.proofs.Common.{Out, Open, phase, after_enter, state_after, state_before, state_entered, state_decided, state_returned}
+use Rattle.flight.proofs.Common.{state_is, run_of}
 use Rattle.std.specs.List.{AllByRecursion}
-use Rattle.spk_nums.specs.Setting.{Setting, IsSetting}
-use Rattle.spk_nums.specs.declared.calls.Call.{Call}
-use Rattle.spk_nums.specs.declared.calls.Call.TheVariants.{Touch}
-use Rattle.spk_nums.specs.declared.kinds.PageFlags.{PageFlags}
-use Rattle.spk_nums.specs.declared.replies.Reply.{Reply}
-use Rattle.spk_nums.specs.declared.replies.Reply.TheVariants.{Ok}
-use Rattle.spk_nums.specs.declared.replies.Value.TheVariants.{Page}
-use Rattle.spk_nums.specs.declared.translations.Translation.{Translation}
-use Rattle.kernel_rules.specs.State.{Core, User, State, comp_of}
-use Rattle.kernel_rules.specs.GracePeriods.{returned}
-use Rattle.kernel_rules.specs.MemoryCalls.{translation_of}
-use Rattle.kernel_rules.specs.CallRelation.{state_by}
-use Rattle.kernel_rules.specs.Runs.{MayDecide, IsRun}
-use Rattle.kernel_invariant.proofs.Sound.{put_all}
-use Rattle.kernel_rules.proofs.Within.{put_same}
-use Rattle.state_laws.specs.Cached.{Stands, Begins, Answers}
-use Rattle.state_laws.proofs.CachedLaw.{translations_stand}
-use Rattle.state_laws.proofs.Lists.{begins_same, begins_then, decided_keeps}
-use Rattle.state_laws.proofs.Touched.{touches_cache as run_caches}
-use Rattle.kernel_history.specs.Events.{with_decision, events_of}
-use Rattle.kernel_history.specs.Legal.{IsLegal}
-use Rattle.kernel_history.specs.Stamps.{flushes_in}
-use Rattle.kernel_history.specs.Trace.{Step, Trace, Phase, Out, Open, Decided, phase, after_enter, state_after}
-use Rattle.kernel_history.specs.Trace.{state_before, state_entered, state_decided, state_returned}
-use Rattle.kernel_history.proofs.Events.{entered_events, state_is, before_is, run_of, decided_run}
+use Rattle.flight.specs.spk_nums.specs.declared.replies.Reply.TheVariants.{Ok}
+use Rattle.flight.specs.spk_nums.specs.declared.replies.Value.TheVariants.{Page}
+use Rattle.flight.specs.kernel_rules.specs.State.{Core}
+use Rattle.flight.specs.kernel_rules.specs.GracePeriods.{returned}
+use Rattle.flight.specs.kernel_rules.specs.Runs.{MayDecide}
+use Rattle.flight.specs.kernel_invariant.proofs.Sound.{put_all}
+use Rattle.flight.specs.state_laws.specs.Cached.{Stands, Begins, Answers}
+use Rattle.flight.specs.state_laws.proofs.CachedLaw.{translations_stand}
+use Rattle.flight.specs.state_laws.proofs.Lists.{begins_same, begins_then, decided_keeps}
+use Rattle.flight.specs.state_laws.proofs.Touched.{touches_cache as run_caches}
+use Rattle.flight.specs.kernel_history.specs.Events.{with_decision}
+use Rattle.flight.specs.kernel_history.specs.Trace.{Decided}
+use Rattle.flight.specs.kernel_history.proofs.Events.{entered_events, before_is, decided_run}
 use Rattle.flight.specs.Made.{IsMade}
 use Rattle.flight_laws.specs.Pages.{CachedFramesStay, FlushesNone, CachedTillFlush, TouchesCache}
 use Rattle.flight.proofs.Made.{made_stands}
 
-pub cached_frames_stay : CachedFramesStay
+pub cached_frames_stay : (setup : Setting) → IsSetting setup → (t : Trace) → IsMade setup t → CachedFramesStay setup t
 cached_frames_stay setup setting t made c here =
     subst (λ s. AllByRecursion (Stands s c) (s.core c).cached) (sym (state_is setup t))
     (translations_stand setup setting (events_of t) (run_of setup t (made_stands setup setting t made).legal) c here)
@@ -83,7 +73,7 @@ first_all : (P Q : Translation → Type 0) → ((x : Translation) → P x → Q 
 first_all P Q f [] more all = tt
 first_all P Q f (x ∷ xs) more all = (f x all.0, first_all P Q f xs more all.1)
 
-pub cached_till_flush : CachedTillFlush
+pub cached_till_flush : (setup : Setting) → IsSetting setup → (u t : Trace) → IsMade setup (u ++ t) → CachedTillFlush setup u t
 cached_till_flush setup setting u t made c here none =
     let begins = trace_begins setup u t c none in
     let s' : State = state_after setup (u ++ t) in
@@ -108,7 +98,7 @@ returns_still (Some r) s t c x a = record { user = a.user; cached = by a.cached 
     by (inl has) = inl (ap (λ l. translation_of l x.pages x.page) list ∙ has)
     by (inr full) = inr (full.0, list ∙ full.1)
 
-pub touches_cache : TouchesCache
+pub touches_cache : (setup : Setting) → IsSetting setup → (e : Step) (t : Trace) → IsMade setup (e ∷ t) → TouchesCache setup t e
 touches_cache setup setting e t made v f flags opens decides =
     subst (λ o. Answers before (state_returned e.returns (state_decided o p before e.core) e.core) e.core x) (sym decides)
     (subst (λ q. Answers before (state_returned e.returns (state_decided (Some r) q before e.core) e.core) e.core x) (sym opens)

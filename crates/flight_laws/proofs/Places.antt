@@ -1,108 +1,68 @@
 -- What an undecided call has found held stays usable; and whom a scan has passed is waited for no longer.
-use Rattle.std.proofs.Common.{◌≡◌, ◌≢◌, ◌⊎◌, inl, inr, ℕ, ◌<◌, ◌/◌, ◌&&◌, Bool, true, false, IsTrue}
-use Rattle.std.proofs.Common.{cond, [], ◌∷◌, ◌++◌, Option, Some, None, refl, sym, ◌∙◌, ap, subst}
-use Rattle.std.specs.Prelude.{is_some, IsTrue}
-use Rattle.std.proofs.lemmas.Bool.{cases_eq, eqb-true, false≢true}
-use Rattle.spk_nums.specs.Capability.{Capability}
-use Rattle.spk_nums.specs.Setting.{Setting, IsSetting}
-use Rattle.spk_nums.specs.declared.calls.Call.{Call}
-use Rattle.spk_nums.specs.declared.replies.Reply.{Reply}
-use Rattle.entry_words.specs.declared.entry.Entry.{Entry}
-use Rattle.entry_words.specs.declared.entry.Entry.TheVariants.{Held, Closing}
-use Rattle.entry_words.specs.EntryWord.{entry_of_word}
-use Rattle.frame_words.specs.Core.{core_of_word}
-use Rattle.frame_words.specs.declared.core_word.CoreWord.{CoreWord}
-use Rattle.word_map.specs.Word.{Word, EntryAt, CoreAt}
-use Rattle.word_map.specs.Moves.{Move, LoadOf, CompareOf, StoreOf, AddOf, word_of, left_of, told_of}
-use Rattle.word_map.specs.Places.{IsIn}
-use Rattle.kernel_rules.specs.State.{Thing, PlaceOf, Frame, Kernel, Tcap, Comp, Thread, State}
-use Rattle.spk_nums.specs.declared.kinds.Kind.TheVariants.{Comp as comp_kind}
-use Rattle.kernel_rules.specs.Fitting.{fits}
-use Rattle.kernel_rules.specs.Access.{Target, Under, InRoot, usable_in}
-use Rattle.kernel_rules.specs.Relies.{is_node, Relies, is_fixed}
-use Rattle.spk_nums.specs.declared.kinds.Kind.TheVariants as kind
-use Rattle.spk_nums.specs.declared.calls.Call.TheVariants.{Tick}
-use Rattle.stage_tcap.specs.Charging.{charge_move}
-use Rattle.stage_tcap.specs.declared.charge.Charge.{Charge}
-use Rattle.stage_tcap.specs.declared.charge.Charge.TheVariants.{AtLoad as charge_load, AtCompare as charge_compare}
-use Rattle.kernel_invariant.proofs.Facts.{some_inj, none_some}
-use Rattle.kernel_rules.proofs.Within.{put_same, put_other}
-use Rattle.kernel_history.specs.Trace.{Step, Trace, Phase, Out, Open, Decided as decided_phase, phase, after_enter}
-use Rattle.kernel_history.specs.Trace.{after_decide, after_return, state_after, last_left, own_read, reads, only_reads}
-use Rattle.kernel_history.specs.Graces.{KeepsTime}
-use Rattle.kernel_history.specs.Legal.{IsLegal, MayFollow}
-use Rattle.kernel_history.specs.Stamps.{stamp, clock, exit_of, is_in}
-use Rattle.kernel_history.proofs.Names.{cases_word}
-use Rattle.trace_laws.proofs.Stays.{Stays, stays_other, stays_plain, state_plain, relies_reached, sound_of, opened_is}
-use Rattle.kernel_history.proofs.Steps.{phase-own, phase-other, own_read-here, own_read-there, own_read-other, last_left-here}
-use Rattle.trace_laws.proofs.Waiting.{Passed, out_passed, later_passed, still_past, passed_on}
-use Rattle.stage_look.specs.Lookup.{look_move}
-use Rattle.stage_look.specs.declared.look.Look.{Look}
-use Rattle.stage_look.specs.declared.look.Look.TheVariants.{AtRoot, AtLeaf, AtEntry}
-use Rattle.stage_pins.specs.declared.pin.Pin.TheVariants.{AtLoad, AtCompare as pin_compare}
-use Rattle.stage_quiet.specs.declared.close.Close.{Close}
-use Rattle.stage_quiet.specs.declared.close.Close.TheVariants.{AtCompare, AtDraw, AtStore}
-use Rattle.stage_quiet.specs.declared.quiet.Quiet.TheVariants.{AtCore, AtFlush}
-use Rattle.stage_quiet.specs.Removal.{close_move}
-use Rattle.call_plans.specs.After.{Next, NextName, NextFree, NextHeld, NextOwn, NextNothing, next_of}
-use Rattle.act_states.specs.declared.own.Own.{Own}
-use Rattle.act_states.specs.declared.work.Act.TheVariants.{Fill, Remove, Retype, Make, Outside, Tick as tick_act, Flush, Kill}
-use Rattle.act_states.specs.declared.work.Act.TheVariants.{Untype, Map as map_act, MakeComp, Invoke, Return, Touch, Share, Switch}
-use Rattle.act_states.specs.declared.typings.Typing.{Typing}
-use Rattle.act_states.specs.declared.typings.TypingAt.{TypingAt}
-use Rattle.act_states.specs.declared.typings.TypingAt.TheVariants.{Load, Compare as type_compare}
-use Rattle.act_states.specs.Typings.{typing_at}
-use Rattle.act_states.specs.Comps.{comp_at}
-use Rattle.act_states.specs.declared.comps.CompAt.{CompAt}
-use Rattle.act_states.specs.declared.comps.CompAt.TheVariants as comp_stands
-use Rattle.act_states.specs.declared.comps.CompMaking.{CompMaking}
-use Rattle.act_states.specs.Invocations.{invoking_at, returning_at}
-use Rattle.act_states.specs.declared.invocations.InvokingAt.{InvokingAt}
-use Rattle.act_states.specs.declared.invocations.InvokingAt.TheVariants as invoking
-use Rattle.act_states.specs.declared.invocations.ReturningAt.{ReturningAt}
-use Rattle.act_states.specs.declared.invocations.ReturningAt.TheVariants as returning
-use Rattle.act_states.specs.Switches.{switching_at}
-use Rattle.act_states.specs.declared.switches.Switching.{Switching}
-use Rattle.act_states.specs.declared.switches.SwitchAt.{SwitchAt}
-use Rattle.act_states.specs.declared.switches.SwitchAt.TheVariants as switch
-use Rattle.stage_thread.specs.declared.claim.Claim.TheVariants as claim
-use Rattle.stage_tcap.specs.Pairs.{move_at}
-use Rattle.stage_tcap.specs.declared.pair.Pair.{Pair}
-use Rattle.stage_tcap.specs.declared.pair.PairAt.{PairAt}
-use Rattle.stage_tcap.specs.declared.pair.PairAt.TheVariants as pair
-use Rattle.act_states.specs.declared.kills.KillingAt.{KillingAt}
-use Rattle.act_states.specs.declared.kills.KillingAt.TheVariants.{LoadComp, LoadLive, Close as kill_close, Draw as kill_draw}
-use Rattle.act_states.specs.Kills.{killing_at}
-use Rattle.act_states.specs.declared.fills.Fill.{Fill as FillOf}
-use Rattle.act_states.specs.declared.makings.MakingAt.{MakingAt}
-use Rattle.act_states.specs.declared.makings.MakingAt.TheVariants as making
-use Rattle.act_states.specs.declared.objects.NewObject.{NewObject}
-use Rattle.act_states.specs.Makings.{making_at}
-use Rattle.act_states.specs.declared.untypings.Untyping.{Untyping}
-use Rattle.act_states.specs.declared.work.Work.{Work}
-use Rattle.act_states.specs.declared.work.Work.TheVariants.{Lookup, Read, Scan, Acquire, Act}
-use Rattle.call_stages.specs.declared.stages.Absorbed.{Absorbed}
-use Rattle.call_stages.specs.declared.stages.Absorbed.TheVariants as told_as
-use Rattle.call_stages.specs.declared.stages.Stage.{Stage}
-use Rattle.call_stages.specs.declared.stages.Stage.TheVariants.{Enter, Undecided, Decided, Leave}
-use Rattle.call_stages.specs.declared.stages.ActiveCall.{ActiveCall}
-use Rattle.call_stages.specs.Steps.{work_move, stage_move}
-use Rattle.call_stages.specs.Cores.{move_in, move_of, absorbed, absorbed_in, told_in, told_of_step}
-use Rattle.call_stages.specs.View.{Core}
-use Rattle.core_invariant.specs.Events.{decided_in, returned_in}
-use Rattle.core_invariant.specs.Knows.{IsSpot, LooksUp, own_in, LooksFor, KnowsClose, ChargesBy}
-use Rattle.core_invariant.specs.Knows.{KnowsWork, KnowsAt, CallIs, phase_at, HasComp}
-use Rattle.core_invariant.specs.Components.{HasLoadedBelow}
-use Rattle.core_invariant.specs.Shares.{HasTcap, KnowsPairAt}
-use Rattle.core_invariant.specs.Threads.{HasThread, KnowsSwitchAt, claimed_by}
-use Rattle.core_invariant.specs.Invariant.{Invariant}
-use Rattle.kept_facts.proofs.Claimed.{guarded_thread}
-use Rattle.core_invariant.proofs.Sounds.{limits_of}
-use Rattle.kept_facts.proofs.Tcaps.{tcap_stays}
-use Rattle.kept_facts.proofs.Carries.{slot_relies}
-use Rattle.step_ways.proofs.Places.{IsMarked, IsUnmarked, place_reads}
-use Rattle.count_invariant.proofs.Lookups.{leaf_reached}
-use Rattle.place_invariant.proofs.Removals.{holds_place}
+use Rattle.flight.proofs.Common.{◌≡◌, ◌≢◌, ◌⊎◌, inl, inr, ℕ, ◌<◌, ◌/◌, ◌&&◌, Bool, true, false, IsTrue, cond, [], ◌∷◌, ◌++◌, Option, Some}
+use Rattle.flight.proofs.Common.{None, refl, sym, ◌∙◌, ap, subst, is_some, cases_eq, eqb-true, false≢true, Capability, Setting, IsSetting}
+use Rattle.flight.proofs.Common.{Call, Reply, Entry, Held, Closing, entry_of_word, core_of_word, CoreWord, Word, EntryAt, CoreAt, Move}
+use Rattle.flight.proofs.Common.{LoadOf, CompareOf, StoreOf, AddOf, word_of, left_of, told_of, IsIn, Thing, PlaceOf, Frame, Kernel, Tcap}
+use Rattle.flight.proofs.Common.{Comp, Thread, State, fits, Target, Under, InRoot, usable_in, is_node, Relies, Tick, Charge, some_inj}
+use Rattle.flight.proofs.Common.{none_some, put_same, put_other, Step, Trace, Phase, Out, Open, phase, after_enter, after_decide}
+use Rattle.flight.proofs.Common.{after_return, state_after, last_left, own_read, KeepsTime, IsLegal, MayFollow, stamp, clock, exit_of}
+use Rattle.flight.proofs.Common.{is_in, cases_word, sound_of, opened_is, phase-own, phase-other, own_read-here, own_read-there}
+use Rattle.flight.proofs.Common.{last_left-here, out_passed, later_passed, look_move, Look, AtRoot, AtLeaf, AtEntry, AtLoad, Close}
+use Rattle.flight.proofs.Common.{AtCompare, AtDraw, AtStore, AtCore, AtFlush, Next, NextName, NextFree, NextHeld, NextOwn, NextNothing}
+use Rattle.flight.proofs.Common.{next_of, Own, Fill, Outside, Untype, MakeComp, Invoke, Return, Load, CompAt, CompMaking, InvokingAt}
+use Rattle.flight.proofs.Common.{ReturningAt, Switching, SwitchAt, Pair, PairAt, KillingAt, LoadComp, LoadLive, MakingAt, NewObject}
+use Rattle.flight.proofs.Common.{Untyping, Work, Lookup, Read, Scan, Acquire, Act, Stage, Enter, Undecided, Decided, Leave, ActiveCall}
+use Rattle.flight.proofs.Common.{stage_move, absorbed, absorbed_in, told_in, Core, decided_in, returned_in, IsSpot, LooksUp, own_in}
+use Rattle.flight.proofs.Common.{LooksFor, ChargesBy, KnowsWork, KnowsAt, CallIs, phase_at, HasTcap, KnowsPairAt, HasThread, claimed_by}
+use Rattle.flight.proofs.Common.{Invariant, limits_of, slot_relies}
+use Rattle.std.specs.Prelude.{IsTrue}
+use Rattle.flight.specs.spk_nums.specs.declared.kinds.Kind.TheVariants.{Comp as comp_kind}
+use Rattle.flight.specs.kernel_rules.specs.Relies.{is_fixed}
+use Rattle.flight.specs.spk_nums.specs.declared.kinds.Kind.TheVariants as kind
+use Rattle.flight.specs.stage_tcap.specs.Charging.{charge_move}
+use Rattle.flight.specs.stage_tcap.specs.declared.charge.Charge.TheVariants.{AtLoad as charge_load, AtCompare as charge_compare}
+use Rattle.flight.specs.kernel_history.specs.Trace.{Decided as decided_phase}
+use Rattle.flight.specs.kernel_history.specs.Trace.{reads, only_reads}
+use Rattle.flight.specs.trace_laws.proofs.Stays.{Stays, stays_other, stays_plain, state_plain, relies_reached}
+use Rattle.flight.specs.kernel_history.proofs.Steps.{own_read-other}
+use Rattle.flight.specs.trace_laws.proofs.Waiting.{Passed, still_past, passed_on}
+use Rattle.flight.specs.stage_pins.specs.declared.pin.Pin.TheVariants.{AtCompare as pin_compare}
+use Rattle.flight.specs.stage_quiet.specs.Removal.{close_move}
+use Rattle.flight.specs.act_states.specs.declared.work.Act.TheVariants.{Remove, Retype, Make, Tick as tick_act, Flush, Kill}
+use Rattle.flight.specs.act_states.specs.declared.work.Act.TheVariants.{Map as map_act, Touch, Share}
+use Rattle.flight.specs.act_states.specs.declared.work.Act.TheVariants.{Switch}
+use Rattle.flight.specs.act_states.specs.declared.typings.Typing.{Typing}
+use Rattle.flight.specs.act_states.specs.declared.typings.TypingAt.{TypingAt}
+use Rattle.flight.specs.act_states.specs.declared.typings.TypingAt.TheVariants.{Compare as type_compare}
+use Rattle.flight.specs.act_states.specs.Typings.{typing_at}
+use Rattle.flight.specs.act_states.specs.Comps.{comp_at}
+use Rattle.flight.specs.act_states.specs.declared.comps.CompAt.TheVariants as comp_stands
+use Rattle.flight.specs.act_states.specs.Invocations.{invoking_at, returning_at}
+use Rattle.flight.specs.act_states.specs.declared.invocations.InvokingAt.TheVariants as invoking
+use Rattle.flight.specs.act_states.specs.declared.invocations.ReturningAt.TheVariants as returning
+use Rattle.flight.specs.act_states.specs.Switches.{switching_at}
+use Rattle.flight.specs.act_states.specs.declared.switches.SwitchAt.TheVariants as switch
+use Rattle.flight.specs.stage_thread.specs.declared.claim.Claim.TheVariants as claim
+use Rattle.flight.specs.stage_tcap.specs.Pairs.{move_at}
+use Rattle.flight.specs.stage_tcap.specs.declared.pair.PairAt.TheVariants as pair
+use Rattle.flight.specs.act_states.specs.declared.kills.KillingAt.TheVariants.{Close as kill_close, Draw as kill_draw}
+use Rattle.flight.specs.act_states.specs.Kills.{killing_at}
+use Rattle.flight.specs.act_states.specs.declared.fills.Fill.{Fill as FillOf}
+use Rattle.flight.specs.act_states.specs.declared.makings.MakingAt.TheVariants as making
+use Rattle.flight.specs.act_states.specs.Makings.{making_at}
+use Rattle.flight.specs.call_stages.specs.declared.stages.Absorbed.{Absorbed}
+use Rattle.flight.specs.call_stages.specs.declared.stages.Absorbed.TheVariants as told_as
+use Rattle.flight.specs.call_stages.specs.Steps.{work_move}
+use Rattle.flight.specs.call_stages.specs.Cores.{move_in, move_of, told_of_step}
+use Rattle.flight.specs.core_invariant.specs.Knows.{KnowsClose}
+use Rattle.flight.specs.core_invariant.specs.Knows.{HasComp}
+use Rattle.flight.specs.core_invariant.specs.Components.{HasLoadedBelow}
+use Rattle.flight.specs.core_invariant.specs.Threads.{KnowsSwitchAt}
+use Rattle.flight.specs.kept_facts.proofs.Claimed.{guarded_thread}
+use Rattle.flight.specs.kept_facts.proofs.Tcaps.{tcap_stays}
+use Rattle.flight.specs.step_ways.proofs.Places.{IsMarked, IsUnmarked, place_reads}
+use Rattle.flight.specs.count_invariant.proofs.Lookups.{leaf_reached}
+use Rattle.flight.specs.place_invariant.proofs.Removals.{holds_place}
 use Rattle.flight_laws.specs.Frames.{IsLooked, is_held}
 use Rattle.flight.specs.Made.{turned, MayStep, core_after, cores_after, stepping_core, IsMadeStep, IsMade}
 use Rattle.flight_laws.specs.Places.{MayUse, PlacesFound, ShowsPassed, ScannedCores}
@@ -614,7 +574,7 @@ module _ (setup : Setting) (setting : IsSetting setup) where
   lasts_along [] made = λ c call is f i w k own held. absurd (none_some w own)
   lasts_along (e ∷ t) made = lasts_on t e made (lasts_along t made.0)
 
-pub places_found : PlacesFound
+pub places_found : (setup : Setting) → IsSetting setup → (t : Trace) → IsMade setup t → PlacesFound setup t
 places_found setup setting t made c call is f i w k own held node = by (lasts_along setup setting t made c call is f i w k own held)
   where
     stands : Invariant setup (cores_after setup t) t
@@ -676,6 +636,7 @@ module _ (setup : Setting) (setting : IsSetting setup) where
   passes_along (g ∷ u) t e made d v on shows at past passed x =
       passes_on (u ++ e ∷ t) g made x at d (passes_along u t e made.0 d v on shows at past passed x)
 
-pub scanned_cores : ScannedCores
+pub scanned_cores : (setup : Setting) → IsSetting setup
+    → (u t : Trace) (e : Step) → IsMade setup (u ++ e ∷ t) → ScannedCores setup u (e ∷ t)
 scanned_cores setup setting u t e made d v on shows at past passed x is =
     (passes_along setup setting u t e made d v on shows at past passed x).passed is

@@ -1,64 +1,36 @@
 -- What a decided call on two temporal capabilities has still to store: what each head that it has marked owes. And which steps of a call
 -- lead to it: those of its act alone.
-use Rattle.std.proofs.Common.{◌≡◌, ℕ, ◌==◌, nat_lt, nat_le, Bool, true, false, List, [], ◌∷◌, Option, Some, None}
-use Rattle.std.proofs.lemmas.Bool.{false≢true}
-use Rattle.spk_nums.specs.Capability.{Capability}
-use Rattle.spk_nums.specs.declared.calls.Call.{Call}
-use Rattle.spk_nums.specs.declared.calls.Call.TheVariants.{Tick, Transfer, Delegate, Test}
-use Rattle.spk_nums.specs.declared.replies.Reply.{Reply}
-use Rattle.spk_nums.specs.declared.replies.Reply.TheVariants.{Ok}
-use Rattle.spk_nums.specs.declared.steps.StageEnd.{StageEnd}
-use Rattle.spk_nums.specs.declared.steps.StageEnd.TheVariants as ends
-use Rattle.entry_words.specs.declared.entry.Entry.{Entry}
-use Rattle.entry_words.specs.declared.entry.Entry.TheVariants as entry
-use Rattle.frame_words.specs.declared.comp_word.CompWord.{CompWord}
-use Rattle.kernel_rules.specs.Access.{Target, Under, InRoot}
-use Rattle.kernel_rules.specs.State.{State}
-use Rattle.kernel_history.specs.Discipline.{changes_budgets}
-use Rattle.stage_look.specs.declared.look.Look.{Look}
-use Rattle.stage_look.specs.declared.look.Found.{Found}
-use Rattle.stage_pins.specs.declared.held.Acquired.{Acquired}
-use Rattle.stage_quiet.specs.declared.quiet.Quiet.{Quiet}
-use Rattle.stage_sweep.specs.declared.thaw.Thaw.{Thaw}
-use Rattle.stage_tcap.specs.Heads.{debited, credited}
-use Rattle.stage_tcap.specs.Pairs.{amount_of, store_next, pair_after}
-use Rattle.stage_tcap.specs.declared.pair.Pair.{Pair}
-use Rattle.stage_tcap.specs.declared.pair.PairAt.{PairAt}
-use Rattle.stage_tcap.specs.declared.pair.PairAt.TheVariants.{LoadA, MarkA, ListA, LoadB, ListB, CompareB}
-use Rattle.stage_tcap.specs.declared.pair.PairAt.TheVariants.{AgainB, StoreList, StoreB, StoreA}
-use Rattle.stage_tcap.specs.declared.pair.PairWork.{PairWork}
-use Rattle.stage_tcap.specs.declared.pair.PairWork.TheVariants as share
-use Rattle.stage_thread.specs.declared.stack.Push.TheVariants as push
-use Rattle.stage_thread.specs.declared.stack.Pop.TheVariants as pop
-use Rattle.call_plans.specs.declared.plans.Nth.TheVariants.{First, Second}
-use Rattle.call_plans.specs.Plans.{pushed, at_place}
-use Rattle.call_plans.specs.After.{Next, NextName, NextFree, NextHeld, NextOwn, NextNothing, next_of}
-use Rattle.act_states.specs.declared.lookups.Met.{Met}
-use Rattle.act_states.specs.declared.lookups.Met.TheVariants.{Finds, Refused}
-use Rattle.act_states.specs.declared.own.Own.{Own}
-use Rattle.act_states.specs.declared.refusals.Refusal.TheVariants as refusal
-use Rattle.act_states.specs.declared.untypings.Release.{Release as ReleaseOf}
-use Rattle.act_states.specs.declared.work.Act.{Act as ActOf}
-use Rattle.act_states.specs.declared.work.Act.TheVariants.{Outside}
-use Rattle.act_states.specs.declared.work.Tail.{Tail}
-use Rattle.act_states.specs.declared.work.Tail.TheVariants.{Nothing, Quiesce, Unmark, StoreDead, StoreFlush, Release}
-use Rattle.act_states.specs.declared.work.Tail.TheVariants.{StoreLive, Push, Pop, Share, StoreRunning, StoreIdle}
-use Rattle.act_states.specs.declared.work.Work.TheVariants.{Lookup, Read, Scan, Acquire, Act}
-use Rattle.act_states.specs.declared.work.WorkStep.{WorkStep}
-use Rattle.act_states.specs.declared.work.WorkStep.TheVariants.{Goes, Acquires, Refuses, Answers, Changes as work_changes}
-use Rattle.act_states.specs.Acts.{act_begun, reads_of, starts}
-use Rattle.act_states.specs.Lookups.{looks_under, looks_entry, looks_at, read_first, next_step, met_name, met_free, met_held}
-use Rattle.act_states.specs.Refusals.{reply_of, refusal_of}
-use Rattle.act_states.specs.Shares.{shares_if, shares_at, after_share}
-use Rattle.act_states.specs.Touches.{touches_if}
-use Rattle.act_states.specs.Untypings.{after_store, release_after}
-use Rattle.act_states.specs.WorkSteps.{refuse}
-use Rattle.call_stages.specs.declared.stages.Stage.{Stage}
-use Rattle.call_stages.specs.declared.stages.Stage.TheVariants.{Decided}
-use Rattle.call_stages.specs.declared.stages.ActiveCall.{ActiveCall}
-use Rattle.call_stages.specs.Steps.{Took, GoesOn, Decides, Returns, Changes, landed, next_by, found_more}
-use Rattle.call_stages.specs.Steps.{read_more, took_enter, named_one, took_found, took_end, took_read, took_scan}
-use Rattle.call_stages.specs.Tails.{took_tail}
+use Rattle.flight.proofs.Common.{◌≡◌, ℕ, ◌==◌, nat_lt, nat_le, Bool, true, false, List, [], ◌∷◌, Option, Some, None, false≢true}
+use Rattle.flight.proofs.Common.{Capability, Call, Tick, Transfer, Delegate, Test, Reply, StageEnd, Entry, CompWord, Target, Under}
+use Rattle.flight.proofs.Common.{InRoot, State, changes_budgets, Look, Acquired, Quiet, Thaw, debited, credited, amount_of, Pair, PairAt}
+use Rattle.flight.proofs.Common.{LoadA, MarkA, ListA, LoadB, ListB, CompareB, AgainB, StoreList, StoreB, StoreA, PairWork, First, Second}
+use Rattle.flight.proofs.Common.{at_place, Next, NextName, NextFree, NextHeld, NextOwn, NextNothing, next_of, Own, Outside, Tail, Nothing}
+use Rattle.flight.proofs.Common.{Quiesce, Unmark, StoreDead, StoreFlush, Release, StoreLive, Push, Pop, Share, StoreRunning, StoreIdle}
+use Rattle.flight.proofs.Common.{Lookup, Read, Scan, Acquire, Act, WorkStep, Goes, Refuses, act_begun, reads_of, starts, refuse, Stage}
+use Rattle.flight.proofs.Common.{Decided, ActiveCall, Took, GoesOn, Decides, Returns, Changes, landed, found_more, took_scan}
+use Rattle.flight.specs.spk_nums.specs.declared.replies.Reply.TheVariants.{Ok}
+use Rattle.flight.specs.spk_nums.specs.declared.steps.StageEnd.TheVariants as ends
+use Rattle.flight.specs.entry_words.specs.declared.entry.Entry.TheVariants as entry
+use Rattle.flight.specs.stage_look.specs.declared.look.Found.{Found}
+use Rattle.flight.specs.stage_tcap.specs.Pairs.{store_next, pair_after}
+use Rattle.flight.specs.stage_tcap.specs.declared.pair.PairWork.TheVariants as share
+use Rattle.flight.specs.stage_thread.specs.declared.stack.Push.TheVariants as push
+use Rattle.flight.specs.stage_thread.specs.declared.stack.Pop.TheVariants as pop
+use Rattle.flight.specs.call_plans.specs.Plans.{pushed}
+use Rattle.flight.specs.act_states.specs.declared.lookups.Met.{Met}
+use Rattle.flight.specs.act_states.specs.declared.lookups.Met.TheVariants.{Finds, Refused}
+use Rattle.flight.specs.act_states.specs.declared.refusals.Refusal.TheVariants as refusal
+use Rattle.flight.specs.act_states.specs.declared.untypings.Release.{Release as ReleaseOf}
+use Rattle.flight.specs.act_states.specs.declared.work.Act.{Act as ActOf}
+use Rattle.flight.specs.act_states.specs.declared.work.WorkStep.TheVariants.{Acquires, Answers, Changes as work_changes}
+use Rattle.flight.specs.act_states.specs.Lookups.{looks_under, looks_entry, looks_at, read_first, next_step, met_name, met_free, met_held}
+use Rattle.flight.specs.act_states.specs.Refusals.{reply_of, refusal_of}
+use Rattle.flight.specs.act_states.specs.Shares.{shares_if, shares_at, after_share}
+use Rattle.flight.specs.act_states.specs.Touches.{touches_if}
+use Rattle.flight.specs.act_states.specs.Untypings.{after_store, release_after}
+use Rattle.flight.specs.call_stages.specs.Steps.{next_by}
+use Rattle.flight.specs.call_stages.specs.Steps.{read_more, took_enter, named_one, took_found, took_end, took_read}
+use Rattle.flight.specs.call_stages.specs.Tails.{took_tail}
 use Rattle.flight_laws.specs.Time.{Owes}
 
 -- The head of the first, which a call decided so in state s has still to store with the ticks less; and that of the second, with them more.

@@ -1,67 +1,37 @@
 -- A call that makes a frame untyped looks at the object in it. What it finds held in the entry of a node refuses it; so a word of the frame
 -- that it reads and goes on from, and that says that something is held, is of no node.
-use Rattle.std.proofs.Common.{◌≡◌, ℕ, ℤ, ◌+◌, nat_le, Bool, true, false, List, [], ◌∷◌, length}
-use Rattle.std.proofs.Common.{slice_get, Option, Some, None, refl, sym, ◌∙◌, ap, subst}
-use Rattle.std.proofs.lemmas.Bool.{false≢true}
-use Rattle.spk_nums.specs.Capability.{Capability}
-use Rattle.spk_nums.specs.Setting.{Setting}
-use Rattle.spk_nums.specs.declared.calls.Call.{Call}
-use Rattle.spk_nums.specs.declared.calls.Call.TheVariants.{Retype}
-use Rattle.spk_nums.specs.declared.kinds.FrameKind.TheVariants as frame_kind
-use Rattle.spk_nums.specs.declared.kinds.Obj.{Obj}
-use Rattle.spk_nums.specs.declared.kinds.Obj.TheVariants as obj
-use Rattle.spk_nums.specs.declared.replies.Reply.{Reply}
-use Rattle.spk_nums.specs.declared.replies.Reply.TheVariants as reply
-use Rattle.spk_nums.specs.declared.steps.StageEnd.{StageEnd}
-use Rattle.spk_nums.specs.declared.steps.StageEnd.TheVariants as ends
-use Rattle.entry_words.specs.EntryWord.{entry_of_word}
-use Rattle.entry_words.specs.declared.entry.Entry.TheVariants as entry
-use Rattle.frame_words.specs.Frame.{frame_of_word}
-use Rattle.frame_words.specs.declared.frame_word.FrameWord.{FrameWord}
-use Rattle.word_map.specs.Word.{Word, EntryAt, FrameAt}
-use Rattle.word_map.specs.Moves.{word_of}
-use Rattle.kernel_rules.specs.State.{Frame, Untyped, User, Kernel, Object, Blank, Table, Leaf, Pages, Pleaf, Comp, Thread, Tcap}
-use Rattle.kernel_rules.specs.Relies.{is_node}
-use Rattle.kernel_history.specs.ObjectWords.{frame_value}
-use Rattle.kernel_history.specs.Trace.{Trace, Open, phase, state_after, last_left}
-use Rattle.trace_laws.proofs.Opens.{open_inj}
-use Rattle.stage_look.specs.Shown.{end_of_frames, entry_within, held_if, shown_in}
-use Rattle.stage_pins.specs.Acquire.{pin_after, pin_end}
-use Rattle.stage_pins.specs.declared.pin.Pin.{Pin}
-use Rattle.stage_pins.specs.declared.pin.Pin.TheVariants.{AtLoad, AtCompare as pin_compare}
-use Rattle.stage_pins.specs.declared.pin.Pinned.{Pinned}
-use Rattle.stage_quiet.specs.declared.quiet.Quiet.TheVariants.{AtCore, AtFlush}
-use Rattle.stage_sweep.specs.Emptiness.{empty_refuses, entry_refuses}
-use Rattle.stage_sweep.specs.Freeze.{end_by, move_at, refuses_at, sweep_after, sweep_end, sweep_kept, sweep_next, sweep_refuses, swept_of}
-use Rattle.stage_sweep.specs.declared.sweep.Sweep.{Sweep}
-use Rattle.stage_sweep.specs.declared.sweep.SweepAt.{SweepAt}
-use Rattle.stage_sweep.specs.declared.sweep.SweepAt.TheVariants.{Load as sweep_load, Compare, Scan as sweep_scan, Empty}
-use Rattle.stage_sweep.specs.declared.sweep.Swept.{Swept}
-use Rattle.act_states.specs.Acts.{acquires, dues, next_work, took_sweep, took_untyping_at}
-use Rattle.act_states.specs.Untypings.{release_of, untyping_at}
-use Rattle.act_states.specs.declared.own.Own.{Own}
-use Rattle.act_states.specs.declared.untypings.UntypingAt.{UntypingAt}
-use Rattle.act_states.specs.declared.untypings.UntypingAt.TheVariants as untype
-use Rattle.act_states.specs.declared.untypings.Untyping.{Untyping}
-use Rattle.act_states.specs.declared.work.Act.{Act as ActOf}
-use Rattle.act_states.specs.declared.work.Act.TheVariants.{Untype}
-use Rattle.act_states.specs.declared.work.Due.{Due}
-use Rattle.act_states.specs.declared.work.Work.{Work}
-use Rattle.act_states.specs.declared.work.WorkStep.TheVariants.{Acquires}
-use Rattle.act_states.specs.declared.work.Work.TheVariants.{Lookup, Read, Scan, Acquire, Act}
-use Rattle.call_stages.specs.Cores.{absorbed, absorbed_in, core_after, move_in, told_by, told_in, told_of_step}
-use Rattle.call_stages.specs.Steps.{landed, stage_move, took_at, took_count}
-use Rattle.call_stages.specs.View.{Core}
-use Rattle.call_stages.specs.declared.stages.Absorbed.TheVariants as told_as
-use Rattle.call_stages.specs.declared.stages.ActiveCall.{ActiveCall}
-use Rattle.call_stages.specs.declared.stages.Stage.{Stage}
-use Rattle.call_stages.specs.declared.stages.Stage.TheVariants.{Enter, Undecided, Decided, Leave}
-use Rattle.core_invariant.specs.Frozen.{holds_untyping}
-use Rattle.core_invariant.specs.Holding.{Holding, holds_counts, settled, settled_by}
-use Rattle.core_invariant.specs.Invariant.{Invariant, held_by, holds_act, holds_at, holds_in}
-use Rattle.core_invariant.specs.Knows.{CallIs, KnowsAt, phase_at, untypes}
-use Rattle.core_invariant.specs.Sweeps.{KnowsSweep, KnowsUntypingAt, UntypesBy}
-use Rattle.core_invariant.proofs.Freezing.{release_frame}
+use Rattle.flight.proofs.Common.{◌≡◌, ℕ, ℤ, ◌+◌, nat_le, Bool, true, false, List, [], ◌∷◌, length, slice_get, Option, Some, None, refl}
+use Rattle.flight.proofs.Common.{sym, ◌∙◌, ap, subst, false≢true, Capability, Setting, Call, Retype, Obj, Reply, StageEnd, entry_of_word}
+use Rattle.flight.proofs.Common.{frame_of_word, FrameWord, Word, EntryAt, FrameAt, word_of, Frame, Untyped, User, Kernel, Object, Blank}
+use Rattle.flight.proofs.Common.{Table, Leaf, Pages, Pleaf, Comp, Thread, Tcap, is_node, frame_value, Trace, Open, phase, state_after}
+use Rattle.flight.proofs.Common.{last_left, open_inj, end_of_frames, shown_in, Pin, AtLoad, AtCore, AtFlush, end_by, swept_of, Sweep}
+use Rattle.flight.proofs.Common.{SweepAt, Compare, Empty, Swept, dues, next_work, took_sweep, release_of, Own, UntypingAt, Untyping}
+use Rattle.flight.proofs.Common.{Untype, Due, Work, Lookup, Read, Scan, Acquire, Act, absorbed, absorbed_in, core_after, told_by, told_in}
+use Rattle.flight.proofs.Common.{landed, stage_move, Core, ActiveCall, Stage, Enter, Undecided, Decided, Leave, holds_untyping, Holding}
+use Rattle.flight.proofs.Common.{holds_counts, settled, settled_by, Invariant, held_by, holds_act, holds_at, holds_in, CallIs, KnowsAt}
+use Rattle.flight.proofs.Common.{phase_at, untypes, KnowsSweep, KnowsUntypingAt, UntypesBy}
+use Rattle.flight.specs.spk_nums.specs.declared.kinds.FrameKind.TheVariants as frame_kind
+use Rattle.flight.specs.spk_nums.specs.declared.kinds.Obj.TheVariants as obj
+use Rattle.flight.specs.spk_nums.specs.declared.replies.Reply.TheVariants as reply
+use Rattle.flight.specs.spk_nums.specs.declared.steps.StageEnd.TheVariants as ends
+use Rattle.flight.specs.entry_words.specs.declared.entry.Entry.TheVariants as entry
+use Rattle.flight.specs.stage_look.specs.Shown.{entry_within, held_if}
+use Rattle.flight.specs.stage_pins.specs.Acquire.{pin_after, pin_end}
+use Rattle.flight.specs.stage_pins.specs.declared.pin.Pin.TheVariants.{AtCompare as pin_compare}
+use Rattle.flight.specs.stage_pins.specs.declared.pin.Pinned.{Pinned}
+use Rattle.flight.specs.stage_sweep.specs.Emptiness.{empty_refuses, entry_refuses}
+use Rattle.flight.specs.stage_sweep.specs.Freeze.{move_at, refuses_at, sweep_after, sweep_end, sweep_kept, sweep_next}
+use Rattle.flight.specs.stage_sweep.specs.Freeze.{sweep_refuses}
+use Rattle.flight.specs.stage_sweep.specs.declared.sweep.SweepAt.TheVariants.{Load as sweep_load, Scan as sweep_scan}
+use Rattle.flight.specs.act_states.specs.Acts.{acquires, took_untyping_at}
+use Rattle.flight.specs.act_states.specs.Untypings.{untyping_at}
+use Rattle.flight.specs.act_states.specs.declared.untypings.UntypingAt.TheVariants as untype
+use Rattle.flight.specs.act_states.specs.declared.work.Act.{Act as ActOf}
+use Rattle.flight.specs.act_states.specs.declared.work.WorkStep.TheVariants.{Acquires}
+use Rattle.flight.specs.call_stages.specs.Cores.{move_in, told_of_step}
+use Rattle.flight.specs.call_stages.specs.Steps.{took_at, took_count}
+use Rattle.flight.specs.call_stages.specs.declared.stages.Absorbed.TheVariants as told_as
+use Rattle.flight.specs.core_invariant.proofs.Freezing.{release_frame}
 
 -- Whether an object is a node, and whether a frame's word says so.
 abbrev is_node_object : Obj → Bool

@@ -1,32 +1,18 @@
 -- No thread is the current one of two cores, and what the words of threads show is so.
-use Rattle.std.proofs.Common.{◌≡◌, ◌<◌, ℕ, length, Bool, true, false, Option, Some, None, IsTrue, refl, sym, ◌∙◌, ap, subst}
-use Rattle.spk_nums.specs.Setting.{Setting, IsSetting}
-use Rattle.spk_nums.specs.declared.kinds.Kind.TheVariants as kind
-use Rattle.tcap_words.specs.Thread.{thread_of_word}
-use Rattle.tcap_words.specs.declared.thread_word.ThreadWord.{ThreadWord}
-use Rattle.tcap_words.specs.declared.thread_word.ThreadWord.TheVariants.{Idle, Running, Claimed}
-use Rattle.word_map.specs.Word.{EntryAt}
-use Rattle.kernel_rules.specs.State.{State, thread_in}
-use Rattle.kernel_rules.specs.Fitting.{fits}
-use Rattle.kernel_history.specs.Marking.{marked_by}
-use Rattle.kernel_history.specs.Marks.{thread_mark}
-use Rattle.kernel_history.specs.Trace.{Trace, state_after, last_left}
-use Rattle.call_stages.specs.View.{Core}
-use Rattle.core_invariant.specs.Invariant.{holds, Invariant}
-use Rattle.kept_facts.proofs.Lent.{runs_on_own}
-use Rattle.core_invariant.proofs.Markers.{marker_inside}
-use Rattle.core_invariant.proofs.Sounds.{limits_of}
-use Rattle.kernel_history.proofs.Events.{state_is, run_of}
-use Rattle.kernel_history.specs.Events.{events_of}
-use Rattle.state_laws.proofs.Threads.{threads_run}
-use Rattle.switch_invariant.proofs.ThreadWords.{first_mark, none_some, same_some, same_value}
-use Rattle.switch_invariant.proofs.Words.{ShowsRun, shows}
-use Rattle.thread_invariant.proofs.EntryMarks.{thread_unmarked}
-use Rattle.flight.specs.Made.{cores_after}
+use Rattle.flight.proofs.Common.{◌≡◌, ◌<◌, ℕ, length, Bool, true, false, Option, Some, None, IsTrue, refl, sym, ◌∙◌, ap, subst, Setting}
+use Rattle.flight.proofs.Common.{IsSetting, thread_of_word, ThreadWord, Idle, Running, Claimed, EntryAt, State, thread_in, fits}
+use Rattle.flight.proofs.Common.{marked_by, thread_mark, Trace, state_after, last_left, Core, holds, Invariant, runs_on_own}
+use Rattle.flight.proofs.Common.{marker_inside, limits_of, state_is, run_of, events_of}
+use Rattle.flight.specs.spk_nums.specs.declared.kinds.Kind.TheVariants as kind
+use Rattle.flight.specs.state_laws.proofs.Threads.{threads_run}
+use Rattle.flight.specs.switch_invariant.proofs.ThreadWords.{first_mark, none_some, same_some, same_value}
+use Rattle.flight.specs.switch_invariant.proofs.Words.{ShowsRun, shows}
+use Rattle.flight.specs.thread_invariant.proofs.EntryMarks.{thread_unmarked}
+use Rattle.flight.specs.Made.{cores_after, IsMade}
 use Rattle.flight_laws.specs.Threads.{IsShown, ThreadsRunApart, ThreadWordsSay}
 use Rattle.flight.proofs.Made.{made_stands}
 
-pub threads_apart : ThreadsRunApart
+pub threads_apart : (setup : Setting) → IsSetting setup → (t : Trace) → IsMade setup t → ThreadsRunApart setup t
 threads_apart setup setting t made c d c_below d_below same =
     let stands : Invariant setup (cores_after setup t) t = made_stands setup setting t made in
     same_some c d (sym (runs_on_own setup setting (cores_after setup t) t stands c c_below)
@@ -93,6 +79,6 @@ module _ (setup : Setting) (setting : IsSetting setup) (cores : ℕ → Core) (t
       by c below mark true mine = same_some c d (sym ((stands.marks (EntryAt (s.core c).thread 0) c).kept mine) ∙ mark)
       by c below mark false mine = absurd (none_some d (sym (thread_unmarked setup setting cores t stands c below 0 mine) ∙ mark))
 
-pub words_say : ThreadWordsSay
+pub words_say : (setup : Setting) → IsSetting setup → (t : Trace) → IsMade setup t → ThreadWordsSay setup t
 words_say setup setting t made f thread v says =
     shown setup setting (cores_after setup t) t (made_stands setup setting t made) f thread v says

@@ -1,50 +1,34 @@
 -- The time of a machine is that of the sequential kernel, whose laws hold of each legal trace; and heads say it.
-use Rattle.kept_facts.proofs.Lent.{unlent_head_value}
-use Rattle.std.proofs.Common.{◌≡◌, ℕ, ◌+◌, ◌∷◌, [], ◌&&◌, ◌==◌, Bool, true, false, Option}
-use Rattle.std.proofs.Common.{Some, None, if◌then◌else◌, refl, sym, ◌∙◌, ap, subst}
-use Rattle.spk_nums.specs.Setting.{Setting, IsSetting}
-use Rattle.tcap_words.specs.Head.{head_of_word}
-use Rattle.word_map.specs.Word.{EntryAt}
-use Rattle.kernel_rules.specs.Laws.{ticks}
-use Rattle.kernel_rules.specs.State.{PlaceOf, State}
-use Rattle.kernel_laws.proofs.TicksLaw.{ticks_kept}
-use Rattle.kernel_laws.proofs.Spending.{spending_sums}
-use Rattle.kernel_history.specs.Events.{events_of}
-use Rattle.kernel_history.specs.Legal.{IsLegal, MayDecide}
-use Rattle.kernel_history.specs.Stamps.{stamp}
-use Rattle.kernel_history.specs.Trace.{Trace, state_after, last_left, Step, Open, phase, after_enter, state_before}
-use Rattle.kernel_history.proofs.Events.{state_is, run_of}
-use Rattle.core_invariant.specs.Holding.{settled_by, settled}
-use Rattle.core_invariant.specs.Invariant.{held_by, Invariant}
-use Rattle.core_invariant.specs.Words.{HeadIs, IsFrameWord, count_room}
+use Rattle.flight.proofs.Common.{unlent_head_value, ◌≡◌, ℕ, ◌+◌, ◌∷◌, [], ◌&&◌, ◌==◌, Bool, true, false, Option, Some, None}
+use Rattle.flight.proofs.Common.{if◌then◌else◌, refl, sym, ◌∙◌, ap, subst, Setting, IsSetting, head_of_word, EntryAt, PlaceOf, State}
+use Rattle.flight.proofs.Common.{events_of, IsLegal, MayDecide, stamp, Trace, state_after, last_left, Step, Open, phase, after_enter}
+use Rattle.flight.proofs.Common.{state_before, state_is, run_of, settled_by, settled, held_by, Invariant, HeadIs, IsFrameWord, count_room}
+use Rattle.flight.proofs.Common.{Capability, Call, Test, Value, only, found, Judged, Found, Refused, IsFoundAnd, named, and_then, unless}
+use Rattle.flight.proofs.Common.{first_of, answers, tcap_at, change_of, MayReply, Change}
+use Rattle.flight.specs.kernel_rules.specs.Laws.{ticks}
+use Rattle.flight.specs.kernel_laws.proofs.TicksLaw.{ticks_kept}
+use Rattle.flight.specs.kernel_laws.proofs.Spending.{spending_sums}
 use Rattle.flight.specs.Made.{IsMade, cores_after}
 use Rattle.flight_laws.specs.Time.{TimeIsKept, TicksAreCounted, HeadsSay, ListsSay, TellsOf, TestsTell}
 use Rattle.flight.proofs.Made.{made_stands}
-use Rattle.pair_invariant.proofs.ShareSteps.{list_plain}
-use Rattle.spk_nums.specs.Capability.{Capability}
-use Rattle.spk_nums.specs.declared.calls.Call.{Call}
-use Rattle.spk_nums.specs.declared.calls.Call.TheVariants.{Test}
-use Rattle.spk_nums.specs.declared.kinds.Kind.TheVariants as kind
-use Rattle.spk_nums.specs.declared.replies.Reply.TheVariants as reply
-use Rattle.spk_nums.specs.declared.replies.Value.{Value}
-use Rattle.kernel_rules.specs.Access.{only, found}
-use Rattle.kernel_rules.specs.Rules.{Judged, Found, Refused, IsFoundAnd, named, and_then, unless, first_of, answers}
-use Rattle.kernel_rules.specs.TimeCalls.{tcap_at, preemption, preempts}
-use Rattle.kernel_rules.specs.CallRelation.{change_of, MayReply}
+use Rattle.flight.specs.pair_invariant.proofs.ShareSteps.{list_plain}
+use Rattle.flight.specs.spk_nums.specs.declared.kinds.Kind.TheVariants as kind
+use Rattle.flight.specs.spk_nums.specs.declared.replies.Reply.TheVariants as reply
+use Rattle.flight.specs.kernel_rules.specs.TimeCalls.{preemption, preempts}
 
 legal_of : (setup : Setting) → IsSetting setup → (t : Trace) → IsMade setup t → IsLegal setup t
 legal_of setup setting t made = (made_stands setup setting t made).legal
 
-pub time_kept : TimeIsKept
+pub time_kept : (setup : Setting) → IsSetting setup → (t : Trace) → IsMade setup t → TimeIsKept setup t
 time_kept setup setting t made =
     ap ticks (state_is setup t) ∙ ticks_kept setup setting (events_of t) (run_of setup t (legal_of setup setting t made))
 
-pub ticks_counted : TicksAreCounted
+pub ticks_counted : (setup : Setting) → IsSetting setup → (t : Trace) → IsMade setup t → TicksAreCounted setup t
 ticks_counted setup setting t made c =
     ap (λ s. (s.core c).spent + (s.core c).owed) (state_is setup t)
     ∙ spending_sums setup (events_of t) (run_of setup t (legal_of setup setting t made)) c
 
-pub heads_say : HeadsSay
+pub heads_say : (setup : Setting) → IsSetting setup → (t : Trace) → IsMade setup t → HeadsSay setup t
 heads_say setup setting t made f q is unmarked = record { version = says.version; says = says.says }
   where
     stands : Invariant setup (cores_after setup t) t
@@ -60,7 +44,7 @@ heads_say setup setting t made f q is unmarked = record { version = says.version
         x ((state_after setup t).place f 0) (stamp setup t (PlaceOf f 0)) 0
         (settled setup (held_by (cores_after setup t)) t (EntryAt f 0))) is (stands.words (EntryAt f 0))))
 
-pub lists_say : ListsSay
+pub lists_say : (setup : Setting) → IsSetting setup → (t : Trace) → IsMade setup t → ListsSay setup t
 lists_say setup setting t made f q is unmarked j low =
     list_plain setup setting (cores_after setup t) t (made_stands setup setting t made) f q is unmarked j low
 
@@ -68,7 +52,7 @@ lists_say setup setting t made f q is unmarked j low =
 told_by : (s : State) (c x y : ℕ) (v : Value) → IsFoundAnd (change_of s c (Test x y)) (λ change. change.value ≡ v) → TellsOf s c x y v
 told_by s c x y v h = by (named s c x (only kind.Tcap)) (named s c y (only kind.Tcap)) refl refl h
   where
-    rest : Capability → Capability → Judged Rattle.kernel_rules.specs.Rules.Change
+    rest : Capability → Capability → Judged Change
     rest a b = unless (first_of (if true && (true && a.frame == b.frame) then Some reply.Same else None) None)
         (answers s (preemption (preempts (tcap_at s a.frame) (tcap_at s b.frame))))
 
@@ -84,7 +68,7 @@ told_by s c x y v h = by (named s c x (only kind.Tcap)) (named s c y (only kind.
     by (Found a) (Refused r) first second h = absurd h
     by (Found a) (Found b) first second h = last a b first second (true && (true && a.frame == b.frame)) h
 
-pub tests_tell : TestsTell
+pub tests_tell : (setup : Setting) → IsSetting setup → (e : Step) (t : Trace) → IsMade setup (e ∷ t) → TestsTell setup t e
 tests_tell setup setting e t made x y v opens decides = told_by (state_before setup t e) e.core x y v
     (subst (λ (call : Call). MayReply (state_before setup t e) e.core call (reply.Ok v)) (sym (same_call may.is_open)) may.permitted).1
   where

@@ -1,23 +1,22 @@
 -- Frames that are made untyped again: what then held, and which frames stay as they are.
 use Rattle.std.specs.Prelude.{◌≡◌, ◌≢◌, ◌<◌, ◌⊎◌, ℕ, Bool, true, false, [], ◌∷◌, ◌++◌, Option, Some, None, IsTrue}
-use Rattle.spk_nums.specs.Setting.{Setting, IsSetting}
-use Rattle.spk_nums.specs.declared.kinds.FrameKind.TheVariants.{Untyped}
-use Rattle.spk_nums.specs.declared.calls.Call.{Call}
-use Rattle.spk_nums.specs.declared.calls.Call.TheVariants.{Retype}
-use Rattle.spk_nums.specs.declared.replies.Value.{Value}
-use Rattle.spk_nums.specs.declared.replies.Reply.TheVariants.{Ok}
-use Rattle.entry_words.specs.EntryWord.{entry_of_word}
-use Rattle.entry_words.specs.declared.entry.Entry.{Entry}
-use Rattle.entry_words.specs.declared.entry.Entry.TheVariants.{Held}
-use Rattle.word_map.specs.Word.{EntryAt, CountAt}
-use Rattle.word_map.specs.Places.{counter_of}
-use Rattle.kernel_rules.specs.State.{FrameOf, State}
-use Rattle.kernel_rules.specs.References.{refs}
-use Rattle.kernel_rules.specs.Relies.{is_node}
-use Rattle.kernel_history.specs.Marking.{marked_by}
-use Rattle.kernel_history.specs.Trace.{Step, Trace, Open, phase, after_enter, state_after, state_before, own_read}
-use Rattle.core_invariant.specs.Knows.{untypes}
-use Rattle.flight.specs.Made.{IsMade}
+use Rattle.flight.specs.spk_nums.specs.Setting.{Setting}
+use Rattle.flight.specs.spk_nums.specs.declared.kinds.FrameKind.TheVariants.{Untyped}
+use Rattle.flight.specs.spk_nums.specs.declared.calls.Call.{Call}
+use Rattle.flight.specs.spk_nums.specs.declared.calls.Call.TheVariants.{Retype}
+use Rattle.flight.specs.spk_nums.specs.declared.replies.Value.{Value}
+use Rattle.flight.specs.spk_nums.specs.declared.replies.Reply.TheVariants.{Ok}
+use Rattle.flight.specs.entry_words.specs.EntryWord.{entry_of_word}
+use Rattle.flight.specs.entry_words.specs.declared.entry.Entry.{Entry}
+use Rattle.flight.specs.entry_words.specs.declared.entry.Entry.TheVariants.{Held}
+use Rattle.flight.specs.word_map.specs.Word.{EntryAt, CountAt}
+use Rattle.flight.specs.word_map.specs.Places.{counter_of}
+use Rattle.flight.specs.kernel_rules.specs.State.{FrameOf, State}
+use Rattle.flight.specs.kernel_rules.specs.References.{refs}
+use Rattle.flight.specs.kernel_rules.specs.Relies.{is_node}
+use Rattle.flight.specs.kernel_history.specs.Marking.{marked_by}
+use Rattle.flight.specs.kernel_history.specs.Trace.{Step, Trace, Open, phase, after_enter, state_after, state_before, own_read}
+use Rattle.flight.specs.core_invariant.specs.Knows.{untypes}
 
 -- The step e after t decides `ok` of a retype of the frame to untyped.
 pub record MakesUntyped (t : Trace) (e : Step) (f : ℕ) : Type 0 where
@@ -33,14 +32,12 @@ pub record IsUnused (s : State) (c f : ℕ) : Type 0 where
   pub flushed : (d : ℕ) → d < s.limits.cores → (s.grace (FrameOf f)).unflushed d ≡ false
 
 -- A frame that is made untyped is unused at that moment, but by the core that makes it so.
-abbrev pub UntypedFramesAreUnused : Type 0
-UntypedFramesAreUnused = (setup : Setting) → IsSetting setup → (t : Trace) (e : Step) → IsMade setup (e ∷ t)
-    → (f : ℕ) → MakesUntyped t e f → IsUnused (state_before setup t e) e.core f
+abbrev pub UntypedFramesAreUnused : Setting → Trace → Step → Type 0
+UntypedFramesAreUnused setup t e = (f : ℕ) → MakesUntyped t e f → IsUnused (state_before setup t e) e.core f
 
 -- While a core holds a count of a frame, no other makes the frame untyped.
-abbrev pub CountedFramesStay : Type 0
-CountedFramesStay = (setup : Setting) → IsSetting setup → (t : Trace) (e : Step) → IsMade setup (e ∷ t)
-    → (f : ℕ) → MakesUntyped t e f → (d : ℕ) → d < setup.cores
+abbrev pub CountedFramesStay : Setting → Trace → Step → Type 0
+CountedFramesStay setup t e = (f : ℕ) → MakesUntyped t e f → (d : ℕ) → d < setup.cores
     → (c : ℕ) → marked_by setup t (CountAt f (counter_of d)) ≡ Some c → c ≡ e.core
 
 -- The call of core c goes on through the steps u after t: it does not return, and does not itself make the frame untyped.
@@ -58,8 +55,7 @@ abbrev pub IsLooked : Call → ℕ → Type 0
 IsLooked call w = (untypes call ≡ false) ⊎ (is_held (entry_of_word w) ≡ true)
 
 -- A node through which a call has looked stays what it is till the call returns, but where the call makes it untyped itself.
-abbrev pub LookedNodesStay : Type 0
-LookedNodesStay = (setup : Setting) → IsSetting setup → (u t : Trace) → IsMade setup (u ++ t)
-    → (c : ℕ) (call : Call) → phase t c ≡ Open call → (f i w : ℕ) → own_read t c (EntryAt f i) ≡ Some w → IsLooked call w
+abbrev pub LookedNodesStay : Setting → Trace → Trace → Type 0
+LookedNodesStay setup u t = (c : ℕ) (call : Call) → phase t c ≡ Open call → (f i w : ℕ) → own_read t c (EntryAt f i) ≡ Some w → IsLooked call w
     → IsTrue (is_node ((state_after setup t).frame f)) → GoesOn u t c f
     → (state_after setup (u ++ t)).frame f ≡ (state_after setup t).frame f

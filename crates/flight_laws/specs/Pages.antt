@@ -1,22 +1,21 @@
 -- The translations that cores have cached.
 use Rattle.std.specs.Prelude.{◌≡◌, ◌<◌, ◌++◌, ℕ, false, List, [], ◌∷◌, Some}
 use Rattle.std.specs.List.{AllByRecursion}
-use Rattle.spk_nums.specs.Setting.{Setting, IsSetting}
-use Rattle.spk_nums.specs.declared.calls.Call.TheVariants.{Touch}
-use Rattle.spk_nums.specs.declared.kinds.PageFlags.{PageFlags}
-use Rattle.spk_nums.specs.declared.replies.Reply.TheVariants.{Ok}
-use Rattle.spk_nums.specs.declared.replies.Value.TheVariants.{Page}
-use Rattle.spk_nums.specs.declared.translations.Translation.{Translation}
-use Rattle.kernel_rules.specs.State.{User, State, comp_of}
-use Rattle.state_laws.specs.Cached.{Stands, Begins, Answers}
-use Rattle.kernel_history.specs.Stamps.{flushes_at}
-use Rattle.kernel_history.specs.Trace.{state_after, state_before, Open, phase, after_enter, Step, Trace}
-use Rattle.flight.specs.Made.{IsMade}
+use Rattle.flight.specs.spk_nums.specs.Setting.{Setting}
+use Rattle.flight.specs.spk_nums.specs.declared.calls.Call.TheVariants.{Touch}
+use Rattle.flight.specs.spk_nums.specs.declared.kinds.PageFlags.{PageFlags}
+use Rattle.flight.specs.spk_nums.specs.declared.replies.Reply.TheVariants.{Ok}
+use Rattle.flight.specs.spk_nums.specs.declared.replies.Value.TheVariants.{Page}
+use Rattle.flight.specs.spk_nums.specs.declared.translations.Translation.{Translation}
+use Rattle.flight.specs.kernel_rules.specs.State.{User, State, comp_of}
+use Rattle.flight.specs.state_laws.specs.Cached.{Stands, Begins, Answers}
+use Rattle.flight.specs.kernel_history.specs.Stamps.{flushes_at}
+use Rattle.flight.specs.kernel_history.specs.Trace.{state_after, state_before, Open, phase, after_enter, Step, Trace}
 
 -- At each moment each translation that a core has cached names a user frame, and it stands: what it was found by is there still, or the
 -- core has decided no flush since it was removed.
-abbrev pub CachedFramesStay : Type 0
-CachedFramesStay = (setup : Setting) → IsSetting setup → (t : Trace) → IsMade setup t → (c : ℕ) → c < setup.cores
+abbrev pub CachedFramesStay : Setting → Trace → Type 0
+CachedFramesStay setup t = (c : ℕ) → c < setup.cores
     → AllByRecursion (Stands (state_after setup t) c) ((state_after setup t).core c).cached
 
 -- Core c decides no flush among these steps after a trace.
@@ -31,14 +30,13 @@ pub record IsKept (s s' : State) (c : ℕ) : Type 0 where
 
 -- A translation stays cached till its core flushes, whatever steps come in between, and its frame is a user frame at each moment till
 -- then: so the frame is not retyped since the translation was cached.
-abbrev pub CachedTillFlush : Type 0
-CachedTillFlush = (setup : Setting) → IsSetting setup → (u t : Trace) → IsMade setup (u ++ t) → (c : ℕ) → c < setup.cores
+abbrev pub CachedTillFlush : Setting → Trace → Trace → Type 0
+CachedTillFlush setup u t = (c : ℕ) → c < setup.cores
     → FlushesNone c u t → IsKept (state_after setup t) (state_after setup (u ++ t)) c
 
 -- A step that decides a touch by a frame and flags leaves this translation cached, unless 64 others are: so it is what touches of the page
 -- answer till the core flushes.
-abbrev pub TouchesCache : Type 0
-TouchesCache = (setup : Setting) → IsSetting setup → (e : Step) (t : Trace) → IsMade setup (e ∷ t)
-    → (v f : ℕ) (flags : PageFlags) → after_enter e.enters (phase t e.core) ≡ Open (Touch v) → e.decides ≡ Some (Ok (Page f flags))
+abbrev pub TouchesCache : Setting → Trace → Step → Type 0
+TouchesCache setup t e = (v f : ℕ) (flags : PageFlags) → after_enter e.enters (phase t e.core) ≡ Open (Touch v) → e.decides ≡ Some (Ok (Page f flags))
     → Answers (state_before setup t e) (state_after setup (e ∷ t)) e.core
     (record { pages = (comp_of (state_before setup t e) e.core).pages; page = v; frame = f; flags = flags })

@@ -1,37 +1,36 @@
 -- The time of a machine: what its temporal capabilities hold and its cores have spent and owe.
 use Rattle.std.specs.Prelude.{◌≡◌, ℕ, suc, ◌+◌, ◌<◌, ◌==◌, ◌&&◌, ◌⊎◌, [], ◌∷◌, slice_get, Option, Some, None, is_some, if◌then◌else◌}
-use Rattle.spk_nums.specs.Setting.{Setting, IsSetting}
-use Rattle.spk_nums.specs.Capability.{Capability}
-use Rattle.spk_nums.specs.declared.kinds.Kind.TheVariants as kind
-use Rattle.spk_nums.specs.declared.calls.Call.{Call}
-use Rattle.spk_nums.specs.declared.calls.Call.TheVariants.{Transfer, Delegate, Test}
-use Rattle.spk_nums.specs.declared.replies.Reply.{Reply}
-use Rattle.spk_nums.specs.declared.replies.Reply.TheVariants.{Ok}
-use Rattle.spk_nums.specs.declared.replies.Value.{Value}
-use Rattle.tcap_words.specs.Quality.{quality_of_word}
-use Rattle.tcap_words.specs.Head.{head_of_word}
-use Rattle.tcap_words.specs.declared.head_word.HeadWord.{HeadWord}
-use Rattle.word_map.specs.Word.{EntryAt}
-use Rattle.kernel_rules.specs.Access.{only}
-use Rattle.kernel_rules.specs.Laws.{ticks}
-use Rattle.kernel_rules.specs.Rules.{Found, named}
-use Rattle.kernel_rules.specs.Start.{start}
-use Rattle.kernel_rules.specs.State.{Kernel, Tcap, TcapFields, State}
-use Rattle.kernel_rules.specs.TimeCalls.{tcap_at, preemption, preempts}
-use Rattle.kernel_laws.specs.Laws.{grants_sum, decided_ticks}
-use Rattle.kernel_history.specs.Events.{events_of}
-use Rattle.kernel_history.specs.Marking.{marked_by}
-use Rattle.kernel_history.specs.Trace.{Step, Trace, Open, Decided, phase, after_enter, state_after, state_before, last_left}
-use Rattle.flight.specs.Made.{IsMade}
+use Rattle.flight.specs.spk_nums.specs.Setting.{Setting}
+use Rattle.flight.specs.spk_nums.specs.Capability.{Capability}
+use Rattle.flight.specs.spk_nums.specs.declared.kinds.Kind.TheVariants as kind
+use Rattle.flight.specs.spk_nums.specs.declared.calls.Call.{Call}
+use Rattle.flight.specs.spk_nums.specs.declared.calls.Call.TheVariants.{Transfer, Delegate, Test}
+use Rattle.flight.specs.spk_nums.specs.declared.replies.Reply.{Reply}
+use Rattle.flight.specs.spk_nums.specs.declared.replies.Reply.TheVariants.{Ok}
+use Rattle.flight.specs.spk_nums.specs.declared.replies.Value.{Value}
+use Rattle.flight.specs.tcap_words.specs.Quality.{quality_of_word}
+use Rattle.flight.specs.tcap_words.specs.Head.{head_of_word}
+use Rattle.flight.specs.tcap_words.specs.declared.head_word.HeadWord.{HeadWord}
+use Rattle.flight.specs.word_map.specs.Word.{EntryAt}
+use Rattle.flight.specs.kernel_rules.specs.Access.{only}
+use Rattle.flight.specs.kernel_rules.specs.Laws.{ticks}
+use Rattle.flight.specs.kernel_rules.specs.Rules.{Found, named}
+use Rattle.flight.specs.kernel_rules.specs.Start.{start}
+use Rattle.flight.specs.kernel_rules.specs.State.{Kernel, Tcap, TcapFields, State}
+use Rattle.flight.specs.kernel_rules.specs.TimeCalls.{tcap_at, preemption, preempts}
+use Rattle.flight.specs.kernel_laws.specs.Laws.{grants_sum, decided_ticks}
+use Rattle.flight.specs.kernel_history.specs.Events.{events_of}
+use Rattle.flight.specs.kernel_history.specs.Marking.{marked_by}
+use Rattle.flight.specs.kernel_history.specs.Trace.{Step, Trace, Open, Decided, phase, after_enter, state_after, state_before, last_left}
 
 -- At each moment the budgets of all temporal capabilities and the ticks that all cores have spent sum to the grants.
-abbrev pub TimeIsKept : Type 0
-TimeIsKept = (setup : Setting) → IsSetting setup → (t : Trace) → IsMade setup t → ticks (state_after setup t) ≡ grants_sum setup
+abbrev pub TimeIsKept : Setting → Trace → Type 0
+TimeIsKept setup t = ticks (state_after setup t) ≡ grants_sum setup
 
 -- At each moment what a core has spent and what it owes sum to the ticks of its decided `tick` calls, but for those answered
 -- `calls-spent`.
-abbrev pub TicksAreCounted : Type 0
-TicksAreCounted = (setup : Setting) → IsSetting setup → (t : Trace) → IsMade setup t → (c : ℕ)
+abbrev pub TicksAreCounted : Setting → Trace → Type 0
+TicksAreCounted setup t = (c : ℕ)
     → ((state_after setup t).core c).spent + ((state_after setup t).core c).owed ≡ decided_ticks (events_of t) c
 
 -- A head shows this budget, and no mark.
@@ -40,8 +39,8 @@ pub record ShowsBudget (budget : ℕ) (shown : Option HeadWord) : Type 0 where
   pub says : shown ≡ Some (record { budget = budget; mark = None; version = version })
 
 -- At each moment the head of a temporal capability that no core has marked shows its budget.
-abbrev pub HeadsSay : Type 0
-HeadsSay = (setup : Setting) → IsSetting setup → (t : Trace) → IsMade setup t → (f : ℕ) (q : TcapFields)
+abbrev pub HeadsSay : Setting → Trace → Type 0
+HeadsSay setup t = (f : ℕ) (q : TcapFields)
     → (state_after setup t).frame f ≡ Kernel (Tcap q) → marked_by setup t (EntryAt f 0) ≡ None
     → ShowsBudget q.budget (head_of_word (last_left setup t (EntryAt f 0)))
 
@@ -52,8 +51,8 @@ pub record ShowsMarked (core budget : ℕ) (shown : Option HeadWord) : Type 0 wh
 
 -- At each moment the head of a temporal capability that a core has marked, in a call that is not decided, shows the core's mark and the
 -- budget still.
-abbrev pub OpenHeadsSay : Type 0
-OpenHeadsSay = (setup : Setting) → IsSetting setup → (t : Trace) → IsMade setup t → (f : ℕ) (q : TcapFields) (d : ℕ) (call : Call)
+abbrev pub OpenHeadsSay : Setting → Trace → Type 0
+OpenHeadsSay setup t = (f : ℕ) (q : TcapFields) (d : ℕ) (call : Call)
     → (state_after setup t).frame f ≡ Kernel (Tcap q) → marked_by setup t (EntryAt f 0) ≡ Some d → phase t d ≡ Open call
     → ShowsMarked d q.budget (head_of_word (last_left setup t (EntryAt f 0)))
 
@@ -86,15 +85,15 @@ pub record ShowsOwed (s : State) (c : ℕ) (call : Call) (r : Reply) (f budget :
 
 -- At each moment the head of a temporal capability that a core has marked, in a call that is decided, shows the core's mark and the budget
 -- but for the ticks that the call has still to store there.
-abbrev pub MarkedHeadsSay : Type 0
-MarkedHeadsSay = (setup : Setting) → IsSetting setup → (t : Trace) → IsMade setup t → (f : ℕ) (q : TcapFields) (d : ℕ) (call : Call)
+abbrev pub MarkedHeadsSay : Setting → Trace → Type 0
+MarkedHeadsSay setup t = (f : ℕ) (q : TcapFields) (d : ℕ) (call : Call)
     (r : Reply)
     → (state_after setup t).frame f ≡ Kernel (Tcap q) → marked_by setup t (EntryAt f 0) ≡ Some d → phase t d ≡ Decided call r
     → ShowsOwed (state_of_decision setup t d) d call r f q.budget (head_of_word (last_left setup t (EntryAt f 0)))
 
 -- At each moment the words of a list say the list, of a temporal capability whose head no core has marked.
-abbrev pub ListsSay : Type 0
-ListsSay = (setup : Setting) → IsSetting setup → (t : Trace) → IsMade setup t → (f : ℕ) (q : TcapFields)
+abbrev pub ListsSay : Setting → Trace → Type 0
+ListsSay setup t = (f : ℕ) (q : TcapFields)
     → (state_after setup t).frame f ≡ Kernel (Tcap q) → marked_by setup t (EntryAt f 0) ≡ None → (j : ℕ) → j < 8
     → quality_of_word (last_left setup t (EntryAt f (suc j))) ≡ Some (record { 0 = slice_get q.qualities j })
 
@@ -108,7 +107,6 @@ pub record TellsOf (s : State) (c x y : ℕ) (v : Value) : Type 0 where
   pub answer : v ≡ preemption (preempts (tcap_at s first.frame) (tcap_at s second.frame))
 
 -- A step that decides a `test` with an answer tells so of the state that it finds, though the words of a list are read one by one.
-abbrev pub TestsTell : Type 0
-TestsTell = (setup : Setting) → IsSetting setup → (e : Step) (t : Trace) → IsMade setup (e ∷ t)
-    → (x y : ℕ) (v : Value) → after_enter e.enters (phase t e.core) ≡ Open (Test x y) → e.decides ≡ Some (Ok v)
+abbrev pub TestsTell : Setting → Trace → Step → Type 0
+TestsTell setup t e = (x y : ℕ) (v : Value) → after_enter e.enters (phase t e.core) ≡ Open (Test x y) → e.decides ≡ Some (Ok v)
     → TellsOf (state_before setup t e) e.core x y v

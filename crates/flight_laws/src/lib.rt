@@ -1,12 +1,10 @@
-//! Laws of the machine's traces, beside the theorem of `flight`: what calls have found, frames and references, cached translations, gates
-//! and components, threads, and the time of the machine, at each moment of each trace.
+//! All that holds of a machine's history, in one record: that it is legal, within its bounds, and keeps the discipline of words; and its
+//! laws, of what calls have found, frames and references, cached translations, gates and components, threads, and the time of the
+//! machine, at each moment of each trace. Each command that makes atomic steps, and each seat of a kernel, gives this record of its trace.
 //!
-//! See docs/CLAIMS.md, 'The step machine's laws'.
+//! See docs/CLAIMS.md, 'The laws of a history'.
 #![tactic(auto)]
 
 mod laws;
 
-pub use laws::{
-    dead_for_good, enters_none_killed, enters_the_living, heads_say, places_found, scanned_cores,
-    thread_words_say, threads_run_apart, ticks_are_counted, time_is_kept,
-};
+pub use laws::made_histories;

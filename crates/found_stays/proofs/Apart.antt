@@ -1,7 +1,7 @@
 -- What a change by core d leaves to the other cores in opened calls: each part of a change.
 use Rattle.std.proofs.Common.{◌≡◌, ◌≢◌, inl, inr, ℕ, ◌<◌, Bool, true, false, ◌&&◌, cond}
 use Rattle.std.proofs.Common.{refl, sym, ◌∙◌, ap, subst, ◌==◌, IsTrue, List, ◌∷◌, Some, None}
-use Rattle.std.proofs.lemmas.Bool.{cases_eq, false≢true, true≢false, eq-eqb, ne_eqb, eqb-true, or_from, or_left}
+use Rattle.std.proofs.lemmas.Bool.{cases_eq, false≢true, true≢false, eq-eqb, ne_eqb, eqb-true, or_from, or_left, and_parts}
 use Rattle.std.specs.List.{list_any}
 use Rattle.spk_nums.specs.Capability.{Capability}
 use Rattle.kernel_rules.specs.State.{Place, Free, Holds, Quiescing, Table, Leaf, Pages, Pleaf, Frame, Kernel, Liveness, Core}
@@ -61,13 +61,8 @@ apart_then s t u o d a b = record {
 }
 
 -- A place by its two numbers.
-both : (x y : Bool) → (x && y) ≡ true → (x ≡ true) × (y ≡ true)
-both true true e = (refl, refl)
-both true false e = absurd (false≢true e)
-both false y e = absurd (false≢true e)
-
 pub slot_is : (f g i j : ℕ) → (f == g && i == j) ≡ true → (f ≡ g) × (i ≡ j)
-slot_is f g i j e = let p = both (f == g) (i == j) e in (eqb-true f g p.0, eqb-true i j p.1)
+slot_is f g i j e = let p = and_parts (f == g) (i == j) e in (eqb-true f g p.0, eqb-true i j p.1)
 
 pub place_here : (s : State) (g j : ℕ) (p : Place) (f i : ℕ) → f ≡ g → i ≡ j → put s.place g (put (s.place g) j p) f i ≡ p
 place_here s g j p f i same at = ap (λ r. r i) (put_same s.place g (put (s.place g) j p) f same) ∙ put_same (s.place g) j p i at

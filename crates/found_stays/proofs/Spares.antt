@@ -28,7 +28,7 @@ use Rattle.kernel_rules.specs.Rules.{Change, Cause, When, WaitedFor, Unflushed, 
 use Rattle.kernel_rules.specs.Rules.{not_vacant, first_cause, refusal_of, waits_of, flushes_of, frames_of, fills, removes}
 use Rattle.kernel_rules.specs.CapabilityCalls.{outside, epoch_of, makes, cleared, make_node, makes_comp, make_rule, not_taken}
 use Rattle.kernel_rules.specs.MemoryCalls.{is_untyped_now, is_empty, not_retyped, retypes, retype_rule, touch_by, translation_of}
-use Rattle.kernel_rules.specs.InvocationCalls.{kills, with_thread, pushes, call_rule, pops, ret_rule, running, switches, switch_to}
+use Rattle.kernel_rules.specs.InvocationCalls.{kills, with_thread, pushes, pops, running, switches, switch_to}
 use Rattle.kernel_rules.specs.TimeCalls.{with_tcap, with_budget, with_qualities, tcap_at, moved, merged_list}
 use Rattle.kernel_rules.specs.CallRelation.{rule_of}
 use Rattle.kernel_rules.specs.Fitting.{fits}

@@ -14,7 +14,7 @@ use Rattle.kernel_rules.specs.Access.{Slot, Named, Under, place_at, usable_in, u
 use Rattle.kernel_rules.specs.Access.{slot_in, reached, root_slot, root_at, only, own}
 use Rattle.kernel_rules.specs.Rules.{Found, and_then, or_refuse, of_kind, named}
 use Rattle.kernel_rules.specs.Fitting.{fits, IsGood}
-use Rattle.kernel_rules.specs.Runs.{Event, after, core_of, Phase, Out, Open, Decided, is_in, is_open, phase_of, IsRun}
+use Rattle.kernel_rules.specs.Runs.{Event, after, core_of, Phase, Open, is_in, is_open, phase_of, IsRun}
 use Rattle.kernel_rules.specs.Relies.{is_node, is_fixed, IsGuarded, Relies}
 use Rattle.kernel_invariant.proofs.Sound.{IsStack, IsObjectGood, WaitsForAll, IsSound, only_is}
 use Rattle.kernel_invariant.proofs.SoundRemovals.{unnamed, below_by}
@@ -362,9 +362,8 @@ event_stay_in setting lim e events run c other inside =
     (inside_facts setting events run.0 c inside).1 inside other (event_spares setting lim e events run)
 
 open_in : (p : Phase) → IsTrue (is_open p) → is_in p ≡ true
-open_in Out h = absurd (false≢true h)
 open_in (Open call) h = refl
-open_in (Decided call r) h = absurd (false≢true h)
+open_in _ h = absurd (false≢true h)
 
 pub event_stay : (setting : Setting) → IsSetting setting → (e : Event) (events : List Event) → IsRun setting (e ∷ events)
     → (c : ℕ) → c ≢ core_of e → IsTrue (is_open (phase_of events c)) → Stay (after setting events) (after setting (e ∷ events)) c

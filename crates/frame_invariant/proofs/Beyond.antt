@@ -1,28 +1,19 @@
 -- The words of a frame past its 64: no step is on one, so they stay as at the start, where they are 0, and carry no mark.
+use Rattle.place_invariant.proofs.Common.{◌≡◌, Bool, true, false, Option, Some, None, refl, ℕ, ◌-◌, ◌*◌, ◌==◌, arith, ◌≢◌, ◌+◌, sym}
+use Rattle.place_invariant.proofs.Common.{nat_lt, [], ◌∷◌, length, ap, ◌∙◌, ◌≤◌, ltb-true, eqb-true, Capability, Setting, IsSetting}
+use Rattle.place_invariant.proofs.Common.{entry_of_word, word_of_entry, word_of_stack, word_of, IsIn, EntryAt, Word, ClockAt, FrameAt}
+use Rattle.place_invariant.proofs.Common.{CountAt, CoreAt, FlushAt, LiveAt, Free, TcapFields, Frame, Place, last_left-there, shape_of}
+use Rattle.place_invariant.proofs.Common.{IsLegal, at_height, Trace, last_left}
 use Rattle.std.specs.List.{slice_get}
 use Rattle.std.specs.Prelude.{if◌then◌else◌}
-use Rattle.std.proofs.Common.{◌≡◌, Bool, true, false, Option, Some, None, refl, ℕ, ◌-◌, ◌*◌}
-use Rattle.std.proofs.Common.{◌==◌, arith, ◌≢◌, ◌+◌, sym, nat_lt, [], ◌∷◌, length, ap, ◌∙◌, ◌≤◌}
-use Rattle.std.proofs.lemmas.Bool.{ltb-true, eqb-true}
 use Rattle.std.proofs.lemmas.Option.{slice_get_past}
-use Rattle.spk_nums.specs.Capability.{Capability}
-use Rattle.spk_nums.specs.Setting.{Setting, IsSetting}
-use Rattle.spk_nums.specs.declared.grants.Grant.{Grant}
-use Rattle.entry_words.proofs.Spelling as entries
-use Rattle.entry_words.specs.EntryWord.{entry_of_word, word_of_entry}
-use Rattle.entry_words.specs.declared.entry.Entry.TheVariants as entry
-use Rattle.tcap_words.specs.Quality.{word_of_quality}
-use Rattle.tcap_words.specs.Stack.{word_of_stack}
-use Rattle.word_map.specs.Moves.{word_of}
-use Rattle.word_map.specs.Places.{IsIn}
-use Rattle.word_map.specs.Word.{EntryAt, Word, ClockAt, FrameAt, CountAt, CoreAt, FlushAt, LiveAt}
-use Rattle.kernel_rules.specs.Start.{granted, start_cap, core_cap, place_with, start_place, start_comp}
-use Rattle.kernel_rules.specs.State.{Free, TcapFields, Frame, Place}
-use Rattle.kernel_history.proofs.Steps.{last_left-there}
-use Rattle.kernel_history.specs.BootWords.{boot_entry, boot_frame, boot_thread, boot_tcap, boot_word, shape_of}
-use Rattle.kernel_history.specs.Legal.{IsLegal}
-use Rattle.kernel_history.specs.ObjectWords.{comp_word, at_height}
-use Rattle.kernel_history.specs.Trace.{Trace, last_left}
+use Rattle.place_invariant.specs.spk_nums.specs.declared.grants.Grant.{Grant}
+use Rattle.place_invariant.specs.entry_words.proofs.Spelling as entries
+use Rattle.place_invariant.specs.entry_words.specs.declared.entry.Entry.TheVariants as entry
+use Rattle.place_invariant.specs.tcap_words.specs.Quality.{word_of_quality}
+use Rattle.place_invariant.specs.kernel_rules.specs.Start.{granted, start_cap, core_cap, place_with, start_place, start_comp}
+use Rattle.place_invariant.specs.kernel_history.specs.BootWords.{boot_entry, boot_frame, boot_thread, boot_tcap, boot_word}
+use Rattle.place_invariant.specs.kernel_history.specs.ObjectWords.{comp_word}
 
 choose : {A : Type 0} (P : A → Type 0) (b : Bool) (x y : A) → (b ≡ true → P x) → (b ≡ false → P y) → P (if b then x else y)
 choose P true x y hx hy = hx refl

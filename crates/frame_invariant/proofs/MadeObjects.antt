@@ -1,98 +1,58 @@
 -- The decision of a call that makes an object: the compare of its target, where it is won, makes the frame that object, and puts its
 -- capability there.
-use Rattle.core_invariant.proofs.Bare.{counts_bare}
-use Rattle.kept_facts.proofs.Lent.{may_keep, unlent_value, unlent_word, node_keeps_none}
-use Rattle.std.specs.Prelude.{if◌then◌else◌, pos, All}
-use Rattle.std.proofs.Common.{◌≡◌, List, Bool, true, false, Some, None, refl, ℕ, ◌<◌, ◌^◌, ◌==◌, arith, ◌≢◌, ◌+◌}
-use Rattle.std.proofs.Common.{sym, ◌&&◌, [], ◌∷◌, ap, ◌∙◌, subst, ◌≤◌, IsTrue, ◌⊎◌, inl, inr, max, map, ◌+ℤ◌}
-use Rattle.std.proofs.lemmas.List.Elements.{All-nil, All-cons, All-head, All-tail}
-use Rattle.std.proofs.lemmas.Bool.{ne_eqb, eqb-true, cases_eq, false≢true}
-use Rattle.spk_nums.specs.Capability.{Capability}
-use Rattle.spk_nums.specs.Setting.{Setting, IsSetting}
-use Rattle.spk_nums.specs.WordSteps.{left_if}
-use Rattle.spk_nums.specs.declared.kinds.Kind.{Kind}
-use Rattle.spk_nums.specs.declared.kinds.Kind.TheVariants as kind
-use Rattle.spk_nums.specs.declared.replies.Reply.TheVariants as reply
-use Rattle.spk_nums.specs.declared.replies.Value.TheVariants.{Nothing}
-use Rattle.entry_words.proofs.Spelling as entries
-use Rattle.entry_words.specs.EntryWord.{entry_of_word, EntryFits, word_of_entry}
-use Rattle.entry_words.specs.declared.entry.Entry.TheVariants.{Held}
-use Rattle.frame_words.proofs.FrameLemmas as frames
-use Rattle.frame_words.specs.Frame.{frame_of_word, word_of_frame}
-use Rattle.word_map.proofs.WordLemmas.{same_same}
-use Rattle.word_map.specs.Moves.{left_of, word_of, Move, CompareOf, told_of}
-use Rattle.word_map.specs.Word.{EntryAt, Word, same_word, ClockAt, FrameAt, CountAt, CoreAt, FlushAt, LiveAt}
-use Rattle.found_stays.proofs.Apart.{slot_is, place_here, place_there}
-use Rattle.kernel_invariant.proofs.Refs.{place_refs}
-use Rattle.kernel_invariant.proofs.Sound.{IsSound}
-use Rattle.kernel_invariant.proofs.SoundRuns.{opened}
-use Rattle.found_stays.proofs.Stays.{comp_fit}
-use Rattle.kernel_invariant.proofs.Sums as sums
-use Rattle.kernel_rules.specs.Fitting.{fits as fits_kind}
-use Rattle.kernel_rules.proofs.Within.{put_same, put_other}
-use Rattle.kernel_history.specs.Events.{events_of}
-use Rattle.kernel_rules.specs.Access.{Slot, own}
-use Rattle.kernel_rules.specs.CallRelation.{rule_of, change_of, changed, counted, MayReply, begins_in, ends_by, flushes_by}
-use Rattle.kernel_rules.specs.CapabilityCalls.{is_blank, makes, is_place_of}
-use Rattle.kernel_rules.specs.Laws.{calls_counted}
-use Rattle.kernel_rules.specs.References.{refs, place_names, times}
-use Rattle.kernel_rules.specs.Relies.{is_node}
-use Rattle.kernel_rules.specs.Rules.{Found, IsFoundAnd}
-use Rattle.kernel_rules.specs.State.{Blank, Kernel, State, put, comp_of, thread_in, thread_of, first_of_stack, Object}
-use Rattle.kernel_rules.specs.State.{FrameOf, with_frame, Thing, NumberOf, comp_in, Holds, PlaceOf, with_place}
-use Rattle.trace_laws.proofs.AloneCalls.{ok_first}
-use Rattle.kernel_history.proofs.Inside.{decided-inside}
-use Rattle.kernel_history.proofs.Names.{cases_word, same_word-other}
-use Rattle.trace_laws.proofs.Stays.{sound_of}
-use Rattle.kernel_history.proofs.Steps.{last_left-there, stamp-kept}
-use Rattle.kernel_history.specs.Justified.{HasReached}
-use Rattle.kernel_history.specs.Marking.{marked_by}
-use Rattle.kernel_history.specs.Marks.{frame_mark, mark_of, entry_mark, mark_in_frame}
-use Rattle.kernel_history.specs.ObjectWords.{frame_value}
-use Rattle.kernel_history.specs.Stamps.{stamp, ends_in, flushes_in, begins_in as begins_then}
-use Rattle.kernel_history.specs.Trace.{Trace, Open, phase, state_after, Step, last_left, state_decided_in}
-use Rattle.kernel_history.specs.Ways.{way_to, ways}
-use Rattle.call_plans.proofs.AfterNames.{before, leads_by}
-use Rattle.call_plans.specs.After.{LeadsIn}
-use Rattle.call_plans.specs.GoesBy.{own_pages}
-use Rattle.plan_ways.proofs.Ways.{all_ways}
-use Rattle.stage_look.specs.Shown.{CapNames}
-use Rattle.act_states.specs.Acts.{made_dues, published, took_making_at, took_making}
-use Rattle.act_states.specs.Objects.{object_cap, object_kind, object_names, object_dues, one_more as due_one, last_word}
-use Rattle.act_states.specs.declared.work.Due.{Due}
-use Rattle.act_states.specs.Makings.{MakingFits, made, making_move, making_at}
-use Rattle.act_states.specs.declared.makings.Making.{Making}
-use Rattle.act_states.specs.declared.makings.MakingAt.{MakingAt}
-use Rattle.act_states.specs.declared.makings.MakingAt.TheVariants.{Mark, Store, Load as making_load, Fill as making_fill}
-use Rattle.act_states.specs.declared.work.Act.TheVariants.{Make as make_act}
-use Rattle.act_states.specs.declared.work.Tail.TheVariants.{Unmark}
-use Rattle.act_states.specs.declared.work.Work.TheVariants.{Act}
-use Rattle.call_stages.specs.Steps.{landed}
-use Rattle.call_stages.specs.View.{Core}
-use Rattle.call_stages.specs.declared.stages.ActiveCall.{ActiveCall}
-use Rattle.call_stages.specs.declared.stages.Stage.{Stage}
-use Rattle.call_stages.specs.declared.stages.Stage.TheVariants.{Undecided, Decided}
-use Rattle.kept_facts.proofs.Calm.{calm_counted, plain_exit, counted_rises, BeginsNone, room_grows, counts, same_works, none_flush}
-use Rattle.kept_facts.proofs.Carries.{own_kept}
-use Rattle.kept_facts.proofs.CountSums.{counted_refs, times_here, times_there}
-use Rattle.step_ways.proofs.Good.{spares_node}
-use Rattle.step_ways.proofs.Loads.{next_at, IsOfCall, core_in_call, inner, call_is}
-use Rattle.step_ways.proofs.Places.{IsMarked, place_reads, IsUnmarked, node_mark}
-use Rattle.step_ways.proofs.Refusals.{GoodTook, not_spent}
-use Rattle.core_invariant.proofs.Sounds.{limits_of}
-use Rattle.kept_facts.proofs.WordFrames.{ReadsAlike, StaysSaid, word_stays, SameFor}
-use Rattle.step_ways.proofs.Writes.{same_marks, decides_writing}
-use Rattle.core_invariant.specs.CountWords.{IsWithin}
-use Rattle.core_invariant.specs.Holding.{holds_counts, settled_by, settled, keeps}
-use Rattle.core_invariant.specs.Knows.{AreDuesApart, HasFound, own_in, phase_at, due_of, KnowsUndecided}
-use Rattle.core_invariant.specs.Knows.{KnowsMaking, KnowsMakingAt, KnowsUnmark, WorksIn, MayFill, HasStored}
-use Rattle.core_invariant.specs.Invariant.{holds_at, holds_in, Invariant, holds, held_by, holds_making, times_of, SumIs, counted_in}
-use Rattle.core_invariant.specs.Words.{PlaceIs, count_room, IsFrameWord, WordIs}
-use Rattle.count_invariant.proofs.Findings.{found_named, own_is, way_gone}
-use Rattle.count_invariant.proofs.MakingCounts.{made_changes, made_types, made_argument}
-use Rattle.stage_pins.specs.Counts.{later}
-use Rattle.stage_pins.specs.Held.{stamp_of_change}
-use Rattle.count_invariant.proofs.CountChanges.{dues_commit, dues_sum}
+use Rattle.place_invariant.proofs.Common.{counts_bare, may_keep, unlent_value, unlent_word, node_keeps_none, All, ◌≡◌, List, Bool, true}
+use Rattle.place_invariant.proofs.Common.{false, Some, None, refl, ℕ, ◌<◌, ◌^◌, ◌==◌, arith, ◌≢◌, ◌+◌, sym, ◌&&◌, [], ◌∷◌, ap, ◌∙◌, subst}
+use Rattle.place_invariant.proofs.Common.{◌≤◌, IsTrue, ◌⊎◌, inl, inr, max, map, ◌+ℤ◌, All-nil, All-cons, All-head, All-tail, ne_eqb}
+use Rattle.place_invariant.proofs.Common.{eqb-true, cases_eq, false≢true, Capability, Setting, IsSetting, left_if, Kind, entry_of_word}
+use Rattle.place_invariant.proofs.Common.{EntryFits, word_of_entry, Held, frame_of_word, word_of_frame, same_same, left_of, word_of, Move}
+use Rattle.place_invariant.proofs.Common.{CompareOf, told_of, EntryAt, Word, same_word, ClockAt, FrameAt, CountAt, CoreAt, FlushAt}
+use Rattle.place_invariant.proofs.Common.{LiveAt, slot_is, place_here, place_there, IsSound, opened, put_same, put_other, events_of, Slot}
+use Rattle.place_invariant.proofs.Common.{own, rule_of, change_of, changed, counted, MayReply, begins_in, ends_by, flushes_by, is_blank}
+use Rattle.place_invariant.proofs.Common.{makes, calls_counted, refs, place_names, times, is_node, Found, IsFoundAnd, Blank, Kernel}
+use Rattle.place_invariant.proofs.Common.{State, put, comp_of, thread_in, thread_of, first_of_stack, Object, FrameOf, with_frame, Thing}
+use Rattle.place_invariant.proofs.Common.{NumberOf, comp_in, Holds, PlaceOf, with_place, ok_first, decided-inside, cases_word}
+use Rattle.place_invariant.proofs.Common.{same_word-other, sound_of, last_left-there, stamp-kept, HasReached, marked_by, frame_mark}
+use Rattle.place_invariant.proofs.Common.{mark_of, entry_mark, mark_in_frame, frame_value, stamp, ends_in, flushes_in, Trace, Open, phase}
+use Rattle.place_invariant.proofs.Common.{state_after, Step, last_left, state_decided_in, way_to, ways, leads_by, LeadsIn, own_pages}
+use Rattle.place_invariant.proofs.Common.{CapNames, made_dues, object_kind, object_dues, Due, Making, MakingAt, Mark, Store, Unmark, Act}
+use Rattle.place_invariant.proofs.Common.{landed, Core, ActiveCall, Stage, Undecided, Decided, calm_counted, plain_exit, counted_rises}
+use Rattle.place_invariant.proofs.Common.{BeginsNone, room_grows, counts, own_kept, counted_refs, limits_of, ReadsAlike, StaysSaid}
+use Rattle.place_invariant.proofs.Common.{word_stays, SameFor, IsWithin, holds_counts, settled_by, settled, keeps, AreDuesApart, HasFound}
+use Rattle.place_invariant.proofs.Common.{own_in, phase_at, due_of, KnowsUndecided, KnowsMakingAt, KnowsUnmark, WorksIn, MayFill}
+use Rattle.place_invariant.proofs.Common.{holds_at, holds_in, Invariant, holds, held_by, holds_making, times_of, SumIs, counted_in}
+use Rattle.place_invariant.proofs.Common.{PlaceIs, count_room, IsFrameWord, WordIs, later, stamp_of_change}
+use Rattle.std.specs.Prelude.{if◌then◌else◌, pos}
+use Rattle.place_invariant.specs.spk_nums.specs.declared.kinds.Kind.TheVariants as kind
+use Rattle.place_invariant.specs.spk_nums.specs.declared.replies.Reply.TheVariants as reply
+use Rattle.place_invariant.specs.spk_nums.specs.declared.replies.Value.TheVariants.{Nothing}
+use Rattle.place_invariant.specs.entry_words.proofs.Spelling as entries
+use Rattle.place_invariant.specs.frame_words.proofs.FrameLemmas as frames
+use Rattle.place_invariant.specs.kernel_invariant.proofs.Refs.{place_refs}
+use Rattle.place_invariant.specs.found_stays.proofs.Stays.{comp_fit}
+use Rattle.place_invariant.specs.kernel_invariant.proofs.Sums as sums
+use Rattle.place_invariant.specs.kernel_rules.specs.Fitting.{fits as fits_kind}
+use Rattle.place_invariant.specs.kernel_rules.specs.CapabilityCalls.{is_place_of}
+use Rattle.place_invariant.specs.kernel_history.specs.Stamps.{begins_in as begins_then}
+use Rattle.place_invariant.specs.call_plans.proofs.AfterNames.{before}
+use Rattle.place_invariant.specs.plan_ways.proofs.Ways.{all_ways}
+use Rattle.place_invariant.specs.act_states.specs.Acts.{published, took_making_at, took_making}
+use Rattle.place_invariant.specs.act_states.specs.Objects.{object_cap, object_names, one_more as due_one}
+use Rattle.place_invariant.specs.act_states.specs.Objects.{last_word}
+use Rattle.place_invariant.specs.act_states.specs.Makings.{MakingFits, made, making_move, making_at}
+use Rattle.place_invariant.specs.act_states.specs.declared.makings.MakingAt.TheVariants.{Load as making_load}
+use Rattle.place_invariant.specs.act_states.specs.declared.makings.MakingAt.TheVariants.{Fill as making_fill}
+use Rattle.place_invariant.specs.act_states.specs.declared.work.Act.TheVariants.{Make as make_act}
+use Rattle.place_invariant.specs.kept_facts.proofs.Calm.{same_works, none_flush}
+use Rattle.place_invariant.specs.kept_facts.proofs.CountSums.{times_here, times_there}
+use Rattle.place_invariant.specs.step_ways.proofs.Good.{spares_node}
+use Rattle.place_invariant.specs.step_ways.proofs.Loads.{next_at, IsOfCall, core_in_call, inner, call_is}
+use Rattle.place_invariant.specs.step_ways.proofs.Places.{IsMarked, place_reads, IsUnmarked, node_mark}
+use Rattle.place_invariant.specs.step_ways.proofs.Refusals.{GoodTook, not_spent}
+use Rattle.place_invariant.specs.step_ways.proofs.Writes.{same_marks, decides_writing}
+use Rattle.place_invariant.specs.core_invariant.specs.Knows.{KnowsMaking, HasStored}
+use Rattle.place_invariant.specs.count_invariant.proofs.Findings.{found_named, own_is, way_gone}
+use Rattle.place_invariant.specs.count_invariant.proofs.MakingCounts.{made_changes, made_types, made_argument}
+use Rattle.place_invariant.specs.count_invariant.proofs.CountChanges.{dues_commit, dues_sum}
 use Rattle.place_invariant.proofs.Fills.{node_word}
 use Rattle.place_invariant.proofs.ObjectMakes.{new_object, ready_place, readied}
 use Rattle.place_invariant.proofs.Outside.{vacant_slot, vacant_here}

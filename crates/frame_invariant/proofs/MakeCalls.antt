@@ -1,54 +1,27 @@
 -- A call that makes an object, at its act: what it knows, and what is left of its rule.
+use Rattle.place_invariant.proofs.Common.{◌≡◌, arith, Bool, true, false, Some, None, refl, ℕ, ◌<◌, ◌≢◌, sym, ◌&&◌, [], ◌∷◌, ap, ◌∙◌}
+use Rattle.place_invariant.proofs.Common.{subst, IsTrue, not, lt-ltb, false≢true, Capability, Setting, IsSetting, Call, Make}
+use Rattle.place_invariant.proofs.Common.{frame_of_word, same_same, EntryAt, FrameAt, found, Target, Under, Slot, reached, rule_of}
+use Rattle.place_invariant.proofs.Common.{change_of, has_frame, not_blank, is_blank, makes, is_node, Found, Change, first_cause, and_then}
+use Rattle.place_invariant.proofs.Common.{unless, vacant, outcome, first_of, Blank, Kernel, State, Leaf, opened, events_of, sound_of}
+use Rattle.place_invariant.proofs.Common.{opened_is, marked_by, mark_in_frame, frame_value, Trace, Open, phase, state_after, last_left}
+use Rattle.place_invariant.proofs.Common.{target_of, outcome_left, names_after, Leads, NextFree, next_of, rule_after, LeadsIn, own_pages}
+use Rattle.place_invariant.proofs.Common.{GoesBy, plan_for, Plan, object_kind, object_made, object_dues, Making, MakingAt, Act, StageFits}
+use Rattle.place_invariant.proofs.Common.{HasRoom, Core, ActiveCall, Undecided, limits_of, holds_counts, settled_by, settled, keeps}
+use Rattle.place_invariant.proofs.Common.{AreDuesApart, phase_at, KnowsUndecided, MakesBy, blank_word, holds_in, Invariant, holds}
+use Rattle.place_invariant.proofs.Common.{held_by}
 use Rattle.std.specs.Prelude.{if◌then◌else◌, List}
-use Rattle.std.proofs.Common.{◌≡◌, arith, Bool, true, false, Some, None, refl, ℕ, ◌<◌, ◌≢◌, sym, ◌&&◌, [], ◌∷◌, ap, ◌∙◌, subst, IsTrue, not}
-use Rattle.std.proofs.lemmas.Bool.{lt-ltb, false≢true}
-use Rattle.spk_nums.specs.Capability.{Capability}
-use Rattle.spk_nums.specs.Setting.{Setting, IsSetting}
-use Rattle.spk_nums.specs.declared.calls.Call.{Call}
-use Rattle.spk_nums.specs.declared.calls.Call.TheVariants.{Make as make_call}
-use Rattle.spk_nums.specs.declared.calls.Make.{Make}
-use Rattle.spk_nums.specs.declared.replies.Reply.TheVariants as reply
-use Rattle.frame_words.specs.Frame.{frame_of_word}
-use Rattle.word_map.proofs.WordLemmas.{same_same}
-use Rattle.word_map.specs.Word.{EntryAt, FrameAt}
-use Rattle.kernel_rules.specs.Access.{found, Target, Under, Slot, reached}
-use Rattle.kernel_rules.specs.CallRelation.{rule_of, change_of}
-use Rattle.kernel_rules.specs.CapabilityCalls.{has_frame, not_blank, is_blank, makes}
-use Rattle.kernel_rules.specs.Relies.{is_node}
-use Rattle.kernel_rules.specs.Rules.{Found, Change, first_cause, and_then, unless, vacant, outcome, first_of}
-use Rattle.kernel_rules.specs.State.{Blank, Kernel, State, Leaf}
-use Rattle.kernel_invariant.proofs.SoundRuns.{opened}
-use Rattle.kernel_history.specs.Events.{events_of}
-use Rattle.trace_laws.proofs.Stays.{sound_of, opened_is}
-use Rattle.kernel_history.specs.Marking.{marked_by}
-use Rattle.kernel_history.specs.Marks.{mark_in_frame}
-use Rattle.kernel_history.specs.ObjectWords.{frame_value}
-use Rattle.kernel_history.specs.Trace.{Trace, Open, phase, state_after, last_left}
-use Rattle.kernel_history.specs.Ways.{target_of}
-use Rattle.call_plans.proofs.AfterNames.{outcome_left}
-use Rattle.plan_ways.proofs.Ways.{target_is as target_is_of}
-use Rattle.call_plans.specs.After.{names_after, Leads, NextFree, next_of, rule_after, LeadsIn}
-use Rattle.call_plans.specs.GoesBy.{own_pages, GoesBy}
-use Rattle.call_plans.specs.PlanOf.{plan_for}
-use Rattle.call_plans.specs.declared.plans.Plan.{Plan}
-use Rattle.plan_ways.specs.Laws.{IsTargetOf}
-use Rattle.act_states.specs.Makings.{MakingFits}
-use Rattle.act_states.specs.Objects.{NamesFit, object_kind, object_made, object_dues}
-use Rattle.act_states.specs.declared.makings.Making.{Making}
-use Rattle.act_states.specs.declared.makings.MakingAt.{MakingAt}
-use Rattle.act_states.specs.declared.work.Act.TheVariants.{Make as make_act}
-use Rattle.act_states.specs.declared.work.Work.TheVariants.{Act}
-use Rattle.call_stages.specs.Fits.{StageFits, HasRoom}
-use Rattle.call_stages.specs.View.{Core}
-use Rattle.call_stages.specs.declared.stages.ActiveCall.{ActiveCall}
-use Rattle.call_stages.specs.declared.stages.Stage.TheVariants.{Undecided}
-use Rattle.step_ways.proofs.Good.{blank_is}
-use Rattle.step_ways.proofs.Loads.{is_active, call_is}
-use Rattle.core_invariant.proofs.Sounds.{limits_of}
-use Rattle.core_invariant.specs.Holding.{holds_counts, settled_by, settled, keeps}
-use Rattle.core_invariant.specs.Knows.{AreDuesApart, phase_at, KnowsUndecided, KnowsMaking, MakesBy, blank_word}
-use Rattle.core_invariant.specs.Invariant.{holds_in, Invariant, holds, held_by}
-use Rattle.count_invariant.proofs.Acquiring.{plan_leads, goes_by}
+use Rattle.place_invariant.specs.spk_nums.specs.declared.calls.Call.TheVariants.{Make as make_call}
+use Rattle.place_invariant.specs.spk_nums.specs.declared.replies.Reply.TheVariants as reply
+use Rattle.place_invariant.specs.plan_ways.proofs.Ways.{target_is as target_is_of}
+use Rattle.place_invariant.specs.plan_ways.specs.Laws.{IsTargetOf}
+use Rattle.place_invariant.specs.act_states.specs.Makings.{MakingFits}
+use Rattle.place_invariant.specs.act_states.specs.Objects.{NamesFit}
+use Rattle.place_invariant.specs.act_states.specs.declared.work.Act.TheVariants.{Make as make_act}
+use Rattle.place_invariant.specs.step_ways.proofs.Good.{blank_is}
+use Rattle.place_invariant.specs.step_ways.proofs.Loads.{is_active, call_is}
+use Rattle.place_invariant.specs.core_invariant.specs.Knows.{KnowsMaking}
+use Rattle.place_invariant.specs.count_invariant.proofs.Acquiring.{plan_leads, goes_by}
 use Rattle.place_invariant.proofs.ObjectMakes.{new_object, readied, make_rest, IsObjectMake, object_make, HasObjects, dues_apart}
 use Rattle.place_invariant.proofs.Outside.{none_left_of}
 use Rattle.place_invariant.proofs.Vacancy.{in_leaf}

@@ -1,89 +1,54 @@
 -- The steps by which a call makes a node, up to its decision: the load of the frame's word, the compare that marks it, the stores of its
 -- places, and a compare of the target that is lost; and the store that gives the frame's word back.
-use Rattle.core_invariant.proofs.Bare.{as_none, counts_bare}
-use Rattle.kept_facts.proofs.Lent.{may_keep, unlent_word, lent_elsewhere}
+use Rattle.place_invariant.proofs.Common.{as_none, counts_bare, may_keep, unlent_word, lent_elsewhere, ◌≡◌, ◌≤◌, Bool, true, false, cond}
+use Rattle.place_invariant.proofs.Common.{Option, Some, None, refl, ℕ, ◌<◌, ◌^◌, ◌==◌, arith, ◌≢◌, ◌+◌, sym, nat_lt, ◌&&◌, [], ◌∷◌, ◌++◌}
+use Rattle.place_invariant.proofs.Common.{length, ap, ◌∙◌, subst, IsTrue, inl, inr, not, map, lt-ltb, eqb-true, eqb-false, ltb-false}
+use Rattle.place_invariant.proofs.Common.{cases_eq, eq-eqb, false≢true, Capability, Setting, IsSetting, left_if, Call, Map, FrameKind}
+use Rattle.place_invariant.proofs.Common.{Obj, Reply, word_of_entry, frame_of_word, FrameFits, word_of_frame, FrameWord, same_same}
+use Rattle.place_invariant.proofs.Common.{left_of, word_of, LoadOf, Move, StoreOf, CompareOf, EntryAt, FrameAt, put_same, Target, alone}
+use Rattle.place_invariant.proofs.Common.{rule_of, change_of, are_calls_spent, is_frame, is_blank, Refused, RuleMay, Untyped, Blank}
+use Rattle.place_invariant.proofs.Common.{Table, Pages, User, Kernel, State, put, Leaf, Pleaf, Comp, Thread, Tcap, Frame, PlaceOf}
+use Rattle.place_invariant.proofs.Common.{refused_first, Carries, same_word-other, last_left-here, last_left-there, own_read-here}
+use Rattle.place_invariant.proofs.Common.{own_read-there, IsAlone, changes_places, changes_frames, changes_in_frame, looks_at_frames}
+use Rattle.place_invariant.proofs.Common.{frames_near, is_one_of, IsSlot, marked_by, frame_mark, mark_in_frame, frame_value, stamp, Trace}
+use Rattle.place_invariant.proofs.Common.{Open, phase, state_after, Step, last_left, own_read, left_may, own_pages, Acquired, dues}
+use Rattle.place_invariant.proofs.Common.{next_work, made_dues, object_dues, NewObject, refuse, Making, MakingAt, Mark, Store, Nothing}
+use Rattle.place_invariant.proofs.Common.{Unmark, Act, Goes, GoesOn, landed, went_with, Core, ActiveCall, Undecided, Decided, names_on}
+use Rattle.place_invariant.proofs.Common.{counts_on, spot_on, holds_counts, Holding, settled_by, settled, keeps, phase_at, due_of}
+use Rattle.place_invariant.proofs.Common.{KnowsUndecided, MakesBy, KnowsMakingAt, KnowsUnmark, blank_word, holds_at, holds_in, Invariant}
+use Rattle.place_invariant.proofs.Common.{done_by, holds, held_by, holds_making, IsFrameWord, count_room}
 use Rattle.std.specs.Prelude.{if◌then◌else◌, List}
-use Rattle.std.proofs.Common.{◌≡◌, ◌≤◌, Bool, true, false, cond, Option, Some, None, refl, ℕ, ◌<◌, ◌^◌, ◌==◌, arith, ◌≢◌, ◌+◌}
-use Rattle.std.proofs.Common.{sym, nat_lt, ◌&&◌, [], ◌∷◌, ◌++◌, length, ap, ◌∙◌, subst, IsTrue, inl, inr, not, is_some, map}
-use Rattle.std.proofs.lemmas.Bool.{lt-ltb, eqb-true, eqb-false, ltb-false, cases_eq, eq-eqb, false≢true}
-use Rattle.spk_nums.specs.Capability.{Capability}
-use Rattle.spk_nums.specs.Setting.{Setting, IsSetting}
-use Rattle.spk_nums.specs.WordSteps.{left_if}
-use Rattle.spk_nums.specs.declared.calls.Call.{Call}
-use Rattle.spk_nums.specs.declared.calls.Call.TheVariants.{Make as make_call, Map}
-use Rattle.spk_nums.specs.declared.kinds.FrameKind.{FrameKind}
-use Rattle.spk_nums.specs.declared.kinds.FrameKind.TheVariants.{Untyped as FrameUntyped, User as FrameUser, Kernel as FrameKernel}
-use Rattle.spk_nums.specs.declared.kinds.Obj.{Obj}
-use Rattle.spk_nums.specs.declared.kinds.Obj.TheVariants as obj
-use Rattle.spk_nums.specs.declared.replies.Reply.{Reply}
-use Rattle.spk_nums.specs.declared.replies.Reply.TheVariants as reply
+use Rattle.std.proofs.Common.{is_some}
+use Rattle.place_invariant.specs.spk_nums.specs.declared.calls.Call.TheVariants.{Make as make_call}
+use Rattle.place_invariant.specs.spk_nums.specs.declared.kinds.FrameKind.TheVariants.{Untyped as FrameUntyped, User as FrameUser}
+use Rattle.place_invariant.specs.spk_nums.specs.declared.kinds.FrameKind.TheVariants.{Kernel as FrameKernel}
+use Rattle.place_invariant.specs.spk_nums.specs.declared.kinds.Obj.TheVariants as obj
+use Rattle.place_invariant.specs.spk_nums.specs.declared.replies.Reply.TheVariants as reply
 use Rattle.frame_invariant.proofs.NewObjects.{word_small}
-use Rattle.entry_words.specs.EntryWord.{word_of_entry}
-use Rattle.entry_words.specs.declared.entry.Entry.TheVariants as entry
-use Rattle.frame_words.proofs.FrameLemmas as frames
-use Rattle.frame_words.specs.Frame.{frame_of_word, FrameFits, word_of_frame}
-use Rattle.frame_words.specs.declared.frame_word.FrameWord.{FrameWord}
-use Rattle.word_map.proofs.WordLemmas.{same_same}
-use Rattle.word_map.specs.Moves.{left_of, word_of, LoadOf, Move, StoreOf, CompareOf}
-use Rattle.word_map.specs.Word.{EntryAt, FrameAt}
-use Rattle.kernel_rules.proofs.Within.{put_same}
-use Rattle.kernel_rules.specs.Access.{Target}
-use Rattle.kernel_rules.specs.Alone.{alone}
-use Rattle.kernel_rules.specs.CallRelation.{rule_of, change_of, are_calls_spent}
-use Rattle.kernel_rules.specs.CapabilityCalls.{is_frame, is_blank}
-use Rattle.kernel_rules.specs.Rules.{Refused, RuleMay}
-use Rattle.kernel_rules.specs.State.{Untyped, Blank, Table, Pages, User, Kernel, State}
-use Rattle.kernel_rules.specs.State.{put, Leaf, Pleaf, Comp, Thread, Tcap, Frame, PlaceOf}
-use Rattle.trace_laws.proofs.AloneCalls.{refused_first}
-use Rattle.trace_laws.proofs.Carries.{Carries}
-use Rattle.kernel_history.proofs.Names.{same_word-other}
-use Rattle.kernel_history.proofs.Steps.{last_left-here, last_left-there, own_read-here, own_read-there}
-use Rattle.kernel_history.specs.Alone.{IsAlone}
-use Rattle.kernel_history.specs.Discipline.{changes_places, changes_frames, changes_in_frame, looks_at_frames}
-use Rattle.kernel_history.specs.Footprint.{frames_near, is_one_of}
-use Rattle.kernel_history.specs.Justified.{IsSlot}
-use Rattle.kernel_history.specs.Marking.{marked_by}
-use Rattle.kernel_history.specs.Marks.{frame_mark, mark_in_frame}
-use Rattle.kernel_history.specs.ObjectWords.{frame_value}
-use Rattle.kernel_history.specs.Stamps.{stamp}
-use Rattle.kernel_history.specs.Trace.{Trace, Open, phase, state_after, Step, last_left, own_read}
-use Rattle.call_plans.proofs.AfterNames.{left_may}
-use Rattle.call_plans.specs.GoesBy.{own_pages}
-use Rattle.plan_ways.proofs.Ways.{next_on_way}
-use Rattle.plan_ways.specs.Laws.{NextPlace}
-use Rattle.stage_pins.specs.declared.held.Acquired.{Acquired}
-use Rattle.act_states.specs.Acts.{dues, next_work, made_dues, meets_object, meets_blank, meets_making, marks_if, published, meets_kernel}
-use Rattle.act_states.specs.Objects.{object_word, object_dues, last_word}
-use Rattle.act_states.specs.declared.objects.NewObject.{NewObject}
-use Rattle.act_states.specs.Makings.{stored, MakingAtFits, MakingFits, marked}
-use Rattle.act_states.specs.WorkSteps.{refuse}
-use Rattle.act_states.specs.declared.makings.Making.{Making}
-use Rattle.act_states.specs.declared.makings.MakingAt.{MakingAt}
-use Rattle.act_states.specs.declared.makings.MakingAt.TheVariants.{Mark, Store, Load as making_load, Fill as making_fill}
-use Rattle.act_states.specs.declared.refusals.Refusal.TheVariants as refusal
-use Rattle.act_states.specs.declared.work.Act.{Act as ActOf}
-use Rattle.act_states.specs.declared.work.Act.TheVariants.{Make as make_act}
-use Rattle.act_states.specs.declared.work.Tail.TheVariants.{Nothing, Unmark}
-use Rattle.act_states.specs.declared.work.Work.TheVariants.{Act}
-use Rattle.act_states.specs.declared.work.WorkStep.TheVariants.{Goes}
-use Rattle.call_stages.specs.Steps.{GoesOn, landed, went_with}
-use Rattle.call_stages.specs.View.{Core}
-use Rattle.call_stages.specs.declared.stages.ActiveCall.{ActiveCall}
-use Rattle.call_stages.specs.declared.stages.Stage.TheVariants.{Undecided, Decided}
-use Rattle.kept_facts.proofs.Carries.{names_on, counts_on, spot_on}
-use Rattle.step_ways.proofs.Counting as counting
-use Rattle.step_ways.proofs.Good.{spares_blank, spares_other, blank_is}
-use Rattle.step_ways.proofs.Loads.{decides_on, step_to, OnlyLooks, next_at, loads_on, IsOfCall, core_in_call, inner, call_is, core_is}
-use Rattle.step_ways.proofs.Refusals.{GoodTook, ticks_at, refuses_busy, refuses_raced, raced_leaving, not_spent}
-use Rattle.step_ways.proofs.Writes.{stores_on}
-use Rattle.core_invariant.specs.Holding.{holds_counts, Holding, settled_by, settled, keeps}
-use Rattle.core_invariant.specs.Knows.{phase_at, due_of, KnowsUndecided, KnowsMaking, MakesBy}
-use Rattle.core_invariant.specs.Knows.{KnowsMakingAt, KnowsUnmark, blank_word, HasStored, HasBlank}
-use Rattle.core_invariant.specs.Invariant.{holds_at, holds_in, Invariant, done_by, holds, held_by, holds_making}
-use Rattle.core_invariant.specs.Words.{IsFrameWord, count_room}
-use Rattle.count_invariant.proofs.Lookups.{near_way}
-use Rattle.count_invariant.proofs.Acquiring.{knows_next, next_holds}
-use Rattle.count_invariant.proofs.MakingCounts.{blank_left, made_changes, made_argument, made_near, argument_near}
+use Rattle.place_invariant.specs.entry_words.specs.declared.entry.Entry.TheVariants as entry
+use Rattle.place_invariant.specs.frame_words.proofs.FrameLemmas as frames
+use Rattle.place_invariant.specs.plan_ways.proofs.Ways.{next_on_way}
+use Rattle.place_invariant.specs.plan_ways.specs.Laws.{NextPlace}
+use Rattle.place_invariant.specs.act_states.specs.Acts.{meets_object, meets_blank, meets_making, marks_if}
+use Rattle.place_invariant.specs.act_states.specs.Acts.{published, meets_kernel}
+use Rattle.place_invariant.specs.act_states.specs.Objects.{object_word, last_word}
+use Rattle.place_invariant.specs.act_states.specs.Makings.{stored, MakingAtFits, MakingFits, marked}
+use Rattle.place_invariant.specs.act_states.specs.declared.makings.MakingAt.TheVariants.{Load as making_load}
+use Rattle.place_invariant.specs.act_states.specs.declared.makings.MakingAt.TheVariants.{Fill as making_fill}
+use Rattle.place_invariant.specs.act_states.specs.declared.refusals.Refusal.TheVariants as refusal
+use Rattle.place_invariant.specs.act_states.specs.declared.work.Act.{Act as ActOf}
+use Rattle.place_invariant.specs.act_states.specs.declared.work.Act.TheVariants.{Make as make_act}
+use Rattle.place_invariant.specs.step_ways.proofs.Counting as counting
+use Rattle.place_invariant.specs.step_ways.proofs.Good.{spares_blank, spares_other, blank_is}
+use Rattle.place_invariant.specs.step_ways.proofs.Loads.{decides_on, step_to, OnlyLooks, next_at, loads_on, IsOfCall, core_in_call}
+use Rattle.place_invariant.specs.step_ways.proofs.Loads.{inner, call_is, core_is}
+use Rattle.place_invariant.specs.step_ways.proofs.Refusals.{GoodTook, ticks_at, refuses_busy, refuses_raced, raced_leaving, not_spent}
+use Rattle.place_invariant.specs.step_ways.proofs.Writes.{stores_on}
+use Rattle.place_invariant.specs.core_invariant.specs.Knows.{KnowsMaking}
+use Rattle.place_invariant.specs.core_invariant.specs.Knows.{HasStored, HasBlank}
+use Rattle.place_invariant.specs.count_invariant.proofs.Lookups.{near_way}
+use Rattle.place_invariant.specs.count_invariant.proofs.Acquiring.{knows_next, next_holds}
+use Rattle.place_invariant.specs.count_invariant.proofs.MakingCounts.{blank_left, made_changes, made_argument, made_near, argument_near}
 use Rattle.place_invariant.proofs.Fills.{target_way, changes_node}
 use Rattle.place_invariant.proofs.Outside.{vacant_slot, vacant_here, stands_alone}
 use Rattle.frame_invariant.proofs.MakeCalls as calls

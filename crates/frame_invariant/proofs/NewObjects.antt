@@ -1,40 +1,31 @@
 -- A new object, in the words and in the state: what its words say and that they carry no mark, and which references it takes.
-use Rattle.std.proofs.Common.{◌≡◌, ◌≢◌, ℕ, zero, suc, ◌+◌, ◌^◌, ◌<◌, ◌≤◌, ◌==◌, nat_lt, Bool, true, false}
-use Rattle.std.proofs.Common.{if◌then◌else◌, [], ◌∷◌, Option, Some, None, arith, refl, sym, ◌∙◌, ap, subst}
-use Rattle.std.proofs.lemmas.Bool.{ltb-true, ltb-false, ne_eqb}
+use Rattle.place_invariant.proofs.Common.{◌≡◌, ◌≢◌, ℕ, zero, suc, ◌+◌, ◌^◌, ◌<◌, ◌≤◌, ◌==◌, nat_lt, Bool, true, false, if◌then◌else◌, []}
+use Rattle.place_invariant.proofs.Common.{◌∷◌, Option, Some, None, arith, refl, sym, ◌∙◌, ap, subst, ltb-true, ltb-false, ne_eqb}
+use Rattle.place_invariant.proofs.Common.{Capability, Make, EntryFits, entry_of_word, word_of_entry, Held, FrameFits, head_of_word}
+use Rattle.place_invariant.proofs.Common.{word_of_head, quality_of_word, stack_of_word, word_of_stack, thread_of_word, word_of_thread}
+use Rattle.place_invariant.proofs.Common.{Idle, CapNames, Place, Holds, ThreadFields, TcapFields, Blank, Kernel, Thing, State, with_frame}
+use Rattle.place_invariant.proofs.Common.{refs, times, frame_names, place_names, ends_by, frame_refs, put_same, put_other, entry_mark}
+use Rattle.place_invariant.proofs.Common.{thread_mark, head_mark, mark_in_frame, frame_value, NewObject, PlaceIs, IsThreadWord}
+use Rattle.place_invariant.proofs.Common.{IsFrameWord}
 use Rattle.std.proofs.lemmas.Option.{slice_get_past}
-use Rattle.spk_nums.specs.Capability.{Capability}
-use Rattle.spk_nums.specs.declared.calls.Call.TheVariants.{Make as make_call}
-use Rattle.spk_nums.specs.declared.calls.Make.{Make}
-use Rattle.spk_nums.specs.declared.calls.Make.TheVariants as make
-use Rattle.entry_words.specs.EntryWord.{EntryFits, entry_of_word, word_of_entry}
-use Rattle.entry_words.specs.declared.entry.Entry.TheVariants.{Free, Held}
-use Rattle.entry_words.proofs.Spelling as entries
-use Rattle.frame_words.specs.Frame.{FrameFits}
-use Rattle.tcap_words.specs.Head.{head_of_word, word_of_head}
-use Rattle.tcap_words.specs.Quality.{quality_of_word, word_of_quality}
-use Rattle.tcap_words.specs.Stack.{stack_of_word, word_of_stack}
-use Rattle.tcap_words.specs.Thread.{thread_of_word, word_of_thread}
-use Rattle.tcap_words.specs.declared.thread_word.ThreadWord.TheVariants.{Idle}
-use Rattle.tcap_words.proofs.HeadLemmas as heads
-use Rattle.tcap_words.proofs.QualityLemmas as qualities
-use Rattle.tcap_words.proofs.StackLemmas as stacks
-use Rattle.tcap_words.proofs.ThreadLemmas as threads
-use Rattle.stage_look.specs.Shown.{CapNames}
-use Rattle.kernel_rules.specs.State.{Place, Free as Vacant, Holds, ThreadFields, TcapFields, Blank, Kernel, Thing, State, with_frame}
-use Rattle.kernel_rules.specs.References.{refs, times, frame_names, place_names}
-use Rattle.kernel_rules.specs.CapabilityCalls.{is_place_of}
-use Rattle.kernel_rules.specs.CallRelation.{ends_by}
-use Rattle.kernel_invariant.proofs.Refs.{frame_refs, cleared_refs}
-use Rattle.kernel_rules.proofs.Within.{put_same, put_other}
-use Rattle.kernel_history.specs.Marks.{entry_mark, thread_mark, head_mark, mark_in_frame}
-use Rattle.kernel_history.specs.ObjectWords.{frame_value}
-use Rattle.act_states.specs.declared.objects.NewObject.{NewObject}
-use Rattle.act_states.specs.declared.objects.NewObject.TheVariants as objects
-use Rattle.act_states.specs.Objects.{object_cap, object_word, thread_word, tcap_word, last_word, object_names, PairFits, NamesFit}
-use Rattle.act_states.specs.Makings.{made}
-use Rattle.core_invariant.specs.Words.{PlaceIs, IsThreadWord, IsTcapWord, IsFrameWord}
-use Rattle.kept_facts.proofs.WordFrames.{entry_more}
+use Rattle.place_invariant.specs.spk_nums.specs.declared.calls.Call.TheVariants.{Make as make_call}
+use Rattle.place_invariant.specs.spk_nums.specs.declared.calls.Make.TheVariants as make
+use Rattle.place_invariant.specs.entry_words.specs.declared.entry.Entry.TheVariants.{Free}
+use Rattle.place_invariant.specs.entry_words.proofs.Spelling as entries
+use Rattle.place_invariant.specs.tcap_words.specs.Quality.{word_of_quality}
+use Rattle.place_invariant.specs.tcap_words.proofs.HeadLemmas as heads
+use Rattle.place_invariant.specs.tcap_words.proofs.QualityLemmas as qualities
+use Rattle.place_invariant.specs.tcap_words.proofs.StackLemmas as stacks
+use Rattle.place_invariant.specs.tcap_words.proofs.ThreadLemmas as threads
+use Rattle.place_invariant.specs.kernel_rules.specs.State.{Free as Vacant}
+use Rattle.place_invariant.specs.kernel_rules.specs.CapabilityCalls.{is_place_of}
+use Rattle.place_invariant.specs.kernel_invariant.proofs.Refs.{cleared_refs}
+use Rattle.place_invariant.specs.act_states.specs.declared.objects.NewObject.TheVariants as objects
+use Rattle.place_invariant.specs.act_states.specs.Objects.{object_cap, object_word, thread_word, tcap_word, last_word, object_names}
+use Rattle.place_invariant.specs.act_states.specs.Objects.{PairFits, NamesFit}
+use Rattle.place_invariant.specs.act_states.specs.Makings.{made}
+use Rattle.place_invariant.specs.core_invariant.specs.Words.{IsTcapWord}
+use Rattle.place_invariant.specs.kept_facts.proofs.WordFrames.{entry_more}
 use Rattle.place_invariant.proofs.ObjectMakes.{new_object, ready_place, readied}
 
 pub made_value : (o : NewObject) → frame_value (Kernel (new_object o)) ≡ made o

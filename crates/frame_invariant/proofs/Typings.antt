@@ -1,86 +1,50 @@
 -- The steps that type an untyped frame are good: the load of its word, and the compare, which is lost to another core or makes the
 -- frame a user frame or a blank kernel frame.
-use Rattle.std.specs.Prelude.{IsSome}
-use Rattle.std.proofs.lemmas.List.Elements.{All-nil}
-use Rattle.std.proofs.Common.{◌≡◌, ◌≢◌, inl, inr, ℕ, ◌||◌, map, ◌++◌, ◌+◌, ◌^◌, ◌<◌, ◌≤◌, ◌==◌, ◌&&◌, not, Bool, true, false}
-use Rattle.std.proofs.Common.{List, [], ◌∷◌, Option, Some, None, arith, refl, sym, ◌∙◌, ap, subst, IsTrue, if◌then◌else◌}
-use Rattle.std.proofs.lemmas.Bool.{eqb-true, eqb-false, eq-eqb, cases_eq, lt-ltb, false≢true}
-use Rattle.spk_nums.specs.Capability.{Capability}
-use Rattle.spk_nums.specs.Setting.{Setting, IsSetting}
-use Rattle.spk_nums.specs.WordSteps.{left_if}
-use Rattle.spk_nums.specs.declared.kinds.FrameKind.{FrameKind}
-use Rattle.spk_nums.specs.declared.kinds.FrameKind.TheVariants as kind
-use Rattle.spk_nums.specs.declared.kinds.Kind.{Kind}
-use Rattle.spk_nums.specs.declared.calls.Call.{Call}
-use Rattle.spk_nums.specs.declared.calls.Call.TheVariants.{Retype}
-use Rattle.spk_nums.specs.declared.replies.Reply.TheVariants as reply
-use Rattle.spk_nums.specs.declared.replies.Value.TheVariants.{Nothing}
-use Rattle.frame_words.specs.Frame.{FrameFits, word_of_frame, frame_of_word}
-use Rattle.frame_words.specs.declared.frame_word.FrameWord.{FrameWord}
-use Rattle.frame_words.proofs.FrameLemmas.{spelling}
-use Rattle.word_map.specs.Word.{Word, EntryAt, FrameAt, CountAt, CoreAt, FlushAt, LiveAt, ClockAt}
-use Rattle.word_map.specs.Moves.{Move, LoadOf, CompareOf, word_of, left_of, told_of}
-use Rattle.kernel_rules.specs.State.{Place, PlaceOf, NumberOf, Frame, Untyped, User, Kernel}
-use Rattle.kernel_rules.specs.State.{Blank, Thing, State, put, with_frame, thread_in, comp_in}
-use Rattle.kernel_rules.specs.References.{refs, frame_names, times}
-use Rattle.kernel_rules.specs.Access.{Slot, found, own}
-use Rattle.kernel_rules.specs.Rules.{Change, Cause, Found, Does, RuleMay, outcome, unless, first_of, leaves, IsFoundAnd}
-use Rattle.kernel_rules.specs.CapabilityCalls.{has_frame, is_frame, outside}
-use Rattle.kernel_rules.specs.MemoryCalls.{is_untyped, not_untyped, not_retyped, retypes}
-use Rattle.kernel_rules.specs.CallRelation.{rule_of, ends_by, flushes_by, change_of, changed, counted, begins_in, MayReply}
-use Rattle.kernel_rules.specs.Laws.{calls_counted}
-use Rattle.kernel_invariant.proofs.Refs.{frame_refs}
-use Rattle.kernel_rules.proofs.Within.{put_same, put_other}
-use Rattle.kernel_history.specs.ObjectWords.{frame_value}
-use Rattle.kernel_history.specs.Marks.{mark_of, mark_in_frame, frame_mark}
-use Rattle.kernel_history.specs.Marking.{marked_by}
-use Rattle.kernel_history.specs.Trace.{Step, Trace, Open, phase, state_after, last_left, state_decided_in, own_left}
-use Rattle.trace_laws.proofs.AloneCalls.{ok_first}
-use Rattle.kernel_history.specs.Stamps.{begins_in as begins_then, ends_in, flushes_in, stamp}
-use Rattle.kernel_history.specs.Discipline.{changes_frames, looks_at_frames}
-use Rattle.kernel_history.specs.Footprint.{is_one_of, frames_named, frame_at_slot, frame_argument, frames_near}
-use Rattle.kernel_history.specs.Justified.{HasReached}
-use Rattle.kernel_history.specs.Ways.{way_to, ways, target_of}
-use Rattle.kernel_history.proofs.Steps.{own_read-here}
-use Rattle.kernel_history.proofs.Inside.{decided-inside}
-use Rattle.call_plans.specs.GoesBy.{GoesBy, own_pages}
-use Rattle.call_plans.specs.After.{rule_after, Leads, LeadsIn}
-use Rattle.call_plans.proofs.AfterNames.{leads_by, outcome_left, left_may}
-use Rattle.plan_ways.proofs.Ways.{all_ways}
-use Rattle.plan_ways.proofs.Near.{one_right, near_about}
-use Rattle.stage_pins.specs.declared.held.Acquired.{Acquired}
-use Rattle.act_states.specs.declared.refusals.Refusal.TheVariants as refusal
-use Rattle.act_states.specs.declared.typings.Typing.{Typing}
-use Rattle.act_states.specs.declared.typings.TypingAt.{TypingAt}
-use Rattle.act_states.specs.declared.typings.TypingAt.TheVariants.{Load, Compare as type_compare}
-use Rattle.act_states.specs.declared.work.Act.TheVariants.{Retype as type_act}
-use Rattle.act_states.specs.declared.work.Work.TheVariants.{Act}
-use Rattle.act_states.specs.declared.work.Tail.TheVariants.{Nothing as no_tail}
-use Rattle.act_states.specs.declared.work.WorkStep.TheVariants.{Goes}
-use Rattle.act_states.specs.WorkSteps.{refuse}
-use Rattle.act_states.specs.Typings.{typed, typing_at, meets_kind, meets_frame, meets_word, typed_if, took_typing_at}
-use Rattle.call_stages.specs.declared.stages.Stage.TheVariants.{Undecided, Decided}
-use Rattle.call_stages.specs.declared.stages.ActiveCall.{ActiveCall}
-use Rattle.call_stages.specs.Fits.{StageFits, HasRoom}
-use Rattle.call_stages.specs.Steps.{landed}
-use Rattle.call_stages.specs.View.{Core}
-use Rattle.core_invariant.specs.Holding.{holds_counts, settled_by, settled}
-use Rattle.core_invariant.specs.Words.{IsFrameWord, WordIs, count_room}
-use Rattle.core_invariant.specs.Knows.{HasFound, own_in, due_of, TypesBy, HasMet, KnowsUndecided, WorksIn, phase_at, untypes}
-use Rattle.core_invariant.specs.Invariant.{holds_at, holds_in, holds, held_by, times_of, counted_in, Invariant}
-use Rattle.kept_facts.proofs.Calm.{counts, calm_counted, own_works, counted_rises, room_rises}
-use Rattle.kept_facts.proofs.Calm.{IsUntimed, plain_begins, plain_stamp, plain_flush, plain_exit}
-use Rattle.kept_facts.proofs.Carries.{names_on, own_kept}
-use Rattle.kept_facts.proofs.CountSums.{counted_refs}
-use Rattle.step_ways.proofs.Good.{spares_other}
-use Rattle.step_ways.proofs.Loads.{IsOfCall, OnlyLooks, step_to, next_at, core_in_call, inner, call_is, is_active, loads_on}
-use Rattle.step_ways.proofs.Refusals.{GoodTook, ticks_at, not_spent, refuses_raced, refuses_busy, refuses_frame_kind}
-use Rattle.core_invariant.proofs.Sounds.{limits_of}
-use Rattle.kept_facts.proofs.Sums.{sums_keep}
-use Rattle.kept_facts.proofs.WordFrames.{SameFor, ReadsAlike, StaysSaid, word_stays, others_settled}
-use Rattle.step_ways.proofs.Writes.{same_marks, writes_on}
-use Rattle.count_invariant.proofs.Findings.{own_is, found_named, way_gone}
-use Rattle.count_invariant.proofs.Acquiring.{plan_leads, goes_by}
+use Rattle.place_invariant.proofs.Common.{IsSome, All-nil, ◌≡◌, ◌≢◌, inl, inr, ℕ, ◌||◌, map, ◌++◌, ◌+◌, ◌^◌, ◌<◌, ◌≤◌, ◌==◌, ◌&&◌, not}
+use Rattle.place_invariant.proofs.Common.{Bool, true, false, List, [], ◌∷◌, Option, Some, None, arith, refl, sym, ◌∙◌, ap, subst, IsTrue}
+use Rattle.place_invariant.proofs.Common.{if◌then◌else◌, eqb-true, eqb-false, eq-eqb, cases_eq, lt-ltb, false≢true, Capability, Setting}
+use Rattle.place_invariant.proofs.Common.{IsSetting, left_if, FrameKind, Kind, Call, Retype, FrameFits, word_of_frame, frame_of_word}
+use Rattle.place_invariant.proofs.Common.{FrameWord, Word, EntryAt, FrameAt, CountAt, CoreAt, FlushAt, LiveAt, ClockAt, Move, LoadOf}
+use Rattle.place_invariant.proofs.Common.{CompareOf, word_of, left_of, told_of, Place, PlaceOf, NumberOf, Frame, Untyped, User, Kernel}
+use Rattle.place_invariant.proofs.Common.{Blank, Thing, State, put, with_frame, thread_in, comp_in, refs, frame_names, times, Slot, found}
+use Rattle.place_invariant.proofs.Common.{own, Change, Cause, Found, Does, RuleMay, outcome, unless, first_of, leaves, IsFoundAnd}
+use Rattle.place_invariant.proofs.Common.{has_frame, is_frame, outside, is_untyped, retypes, rule_of, ends_by, flushes_by, change_of}
+use Rattle.place_invariant.proofs.Common.{changed, counted, begins_in, MayReply, calls_counted, frame_refs, put_same, put_other}
+use Rattle.place_invariant.proofs.Common.{frame_value, mark_of, mark_in_frame, frame_mark, marked_by, Step, Trace, Open, phase}
+use Rattle.place_invariant.proofs.Common.{state_after, last_left, state_decided_in, own_left, ok_first, ends_in, flushes_in, stamp}
+use Rattle.place_invariant.proofs.Common.{changes_frames, looks_at_frames, is_one_of, frames_named, frame_at_slot, frame_argument}
+use Rattle.place_invariant.proofs.Common.{frames_near, HasReached, way_to, ways, target_of, own_read-here, decided-inside, GoesBy}
+use Rattle.place_invariant.proofs.Common.{own_pages, rule_after, Leads, LeadsIn, leads_by, outcome_left, left_may, Acquired, Load, Act}
+use Rattle.place_invariant.proofs.Common.{Goes, refuse, Undecided, Decided, ActiveCall, StageFits, HasRoom, landed, Core, holds_counts}
+use Rattle.place_invariant.proofs.Common.{settled_by, settled, IsFrameWord, WordIs, count_room, HasFound, own_in, due_of, KnowsUndecided}
+use Rattle.place_invariant.proofs.Common.{WorksIn, phase_at, untypes, holds_at, holds_in, holds, held_by, times_of, counted_in, Invariant}
+use Rattle.place_invariant.proofs.Common.{counts, calm_counted, counted_rises, IsUntimed, plain_begins, plain_stamp, plain_flush}
+use Rattle.place_invariant.proofs.Common.{plain_exit, names_on, own_kept, counted_refs, limits_of, sums_keep, SameFor, ReadsAlike}
+use Rattle.place_invariant.proofs.Common.{StaysSaid, word_stays, others_settled}
+use Rattle.place_invariant.specs.spk_nums.specs.declared.kinds.FrameKind.TheVariants as kind
+use Rattle.place_invariant.specs.spk_nums.specs.declared.replies.Reply.TheVariants as reply
+use Rattle.place_invariant.specs.spk_nums.specs.declared.replies.Value.TheVariants.{Nothing}
+use Rattle.place_invariant.specs.frame_words.proofs.FrameLemmas.{spelling}
+use Rattle.place_invariant.specs.kernel_rules.specs.MemoryCalls.{not_untyped, not_retyped}
+use Rattle.place_invariant.specs.kernel_history.specs.Stamps.{begins_in as begins_then}
+use Rattle.place_invariant.specs.plan_ways.proofs.Ways.{all_ways}
+use Rattle.place_invariant.specs.plan_ways.proofs.Near.{one_right, near_about}
+use Rattle.place_invariant.specs.act_states.specs.declared.refusals.Refusal.TheVariants as refusal
+use Rattle.place_invariant.specs.act_states.specs.declared.typings.Typing.{Typing}
+use Rattle.place_invariant.specs.act_states.specs.declared.typings.TypingAt.{TypingAt}
+use Rattle.place_invariant.specs.act_states.specs.declared.typings.TypingAt.TheVariants.{Compare as type_compare}
+use Rattle.place_invariant.specs.act_states.specs.declared.work.Act.TheVariants.{Retype as type_act}
+use Rattle.place_invariant.specs.act_states.specs.declared.work.Tail.TheVariants.{Nothing as no_tail}
+use Rattle.place_invariant.specs.act_states.specs.Typings.{typed, typing_at, meets_kind, meets_frame, meets_word, typed_if, took_typing_at}
+use Rattle.place_invariant.specs.core_invariant.specs.Knows.{TypesBy, HasMet}
+use Rattle.place_invariant.specs.kept_facts.proofs.Calm.{own_works, room_rises}
+use Rattle.place_invariant.specs.step_ways.proofs.Good.{spares_other}
+use Rattle.place_invariant.specs.step_ways.proofs.Loads.{IsOfCall, OnlyLooks, step_to, next_at, core_in_call, inner, call_is, is_active}
+use Rattle.place_invariant.specs.step_ways.proofs.Loads.{loads_on}
+use Rattle.place_invariant.specs.step_ways.proofs.Refusals.{GoodTook, ticks_at, not_spent, refuses_raced, refuses_busy, refuses_frame_kind}
+use Rattle.place_invariant.specs.step_ways.proofs.Writes.{same_marks, writes_on}
+use Rattle.place_invariant.specs.count_invariant.proofs.Findings.{own_is, found_named, way_gone}
+use Rattle.place_invariant.specs.count_invariant.proofs.Acquiring.{plan_leads, goes_by}
 
 -- What a frame becomes, and what its word then says.
 abbrev pub typed_frame : FrameKind → Frame

@@ -1,46 +1,22 @@
 -- Where a sweep goes on when its counters are frozen and its scans are over: its object is looked at, or, where it has none, its draw
 -- comes.
+use Rattle.scan_invariant.proofs.Common.{◌≡◌, ◌≢◌, ℕ, ◌+◌, ◌<◌, ◌≤◌, ◌==◌, ◌++◌, map, length, Bool, true, false, List, [], ◌∷◌, Option}
+use Rattle.scan_invariant.proofs.Common.{Some, None, arith, refl, sym, ◌∙◌, ap, subst, eqb-true, false≢true, Setting, Capability, Obj}
+use Rattle.scan_invariant.proofs.Common.{CountWord, FrameWord, Object, Blank, Table, Leaf, Pages, Pleaf, Comp, Thread, Tcap, Frame}
+use Rattle.scan_invariant.proofs.Common.{Untyped, User, Kernel, State, frame_names, frame_value, Trace, state_after, Acquired, loads_of}
+use Rattle.scan_invariant.proofs.Common.{at_after, empty_next, end_by, swept_of, Owned, Sweep, SweepAt, Empty, Swept, dues, next_work}
+use Rattle.scan_invariant.proofs.Common.{took_sweep, OwnedBy, released_dues, release_of, Untyping, Draw, Work, Act, WorkStep, Goes}
+use Rattle.scan_invariant.proofs.Common.{ActiveCall, Undecided, holds_release, Holding, AreDuesApart, due_of, KnowsWork, holds_work}
+use Rattle.scan_invariant.proofs.Common.{AreKept, IsLookedAt, KnowsSwept, KnowsUntyping, SaysTyped, UntypesBy, names_of}
 use Rattle.std.specs.Prelude.{if◌then◌else◌}
-use Rattle.std.proofs.Common.{◌≡◌, ◌≢◌, ℕ, ◌+◌, ◌<◌, ◌≤◌, ◌==◌, ◌++◌, map, length, Bool, true, false}
-use Rattle.std.proofs.Common.{List, [], ◌∷◌, Option, Some, None, arith, refl, sym, ◌∙◌, ap, subst}
-use Rattle.std.proofs.lemmas.Bool.{eqb-true, false≢true}
-use Rattle.spk_nums.specs.Setting.{Setting}
-use Rattle.spk_nums.specs.Capability.{Capability}
-use Rattle.spk_nums.specs.declared.kinds.Obj.{Obj}
-use Rattle.spk_nums.specs.declared.kinds.Obj.TheVariants as obj
-use Rattle.frame_words.specs.declared.count_word.CountWord.{CountWord}
-use Rattle.frame_words.specs.declared.frame_word.FrameWord.{FrameWord}
-use Rattle.kernel_rules.specs.State.{Object, Blank, Table, Leaf, Pages, Pleaf, Comp, Thread, Tcap, Frame, Untyped, User, Kernel, State}
-use Rattle.kernel_rules.specs.References.{frame_names}
-use Rattle.kernel_history.specs.ObjectWords.{frame_value}
-use Rattle.kernel_history.specs.Trace.{Trace, state_after}
-use Rattle.stage_pins.specs.declared.held.Acquired.{Acquired}
-use Rattle.stage_sweep.specs.Emptiness.{loads_of}
-use Rattle.stage_sweep.specs.Freeze.{at_after, empty_next, end_by, swept_of}
-use Rattle.stage_sweep.specs.declared.empty.Owned.{Owned}
-use Rattle.stage_sweep.specs.declared.sweep.Sweep.{Sweep}
-use Rattle.stage_sweep.specs.declared.sweep.SweepAt.{SweepAt}
-use Rattle.stage_sweep.specs.declared.sweep.SweepAt.TheVariants.{Empty}
-use Rattle.stage_sweep.specs.declared.sweep.Swept.{Swept}
-use Rattle.act_states.specs.Acts.{dues, next_work, took_sweep}
-use Rattle.act_states.specs.Untypings.{OwnedBy, owned_dues, released_dues, release_of}
-use Rattle.act_states.specs.declared.untypings.Untyping.{Untyping}
-use Rattle.act_states.specs.declared.untypings.UntypingAt.TheVariants.{Sweep as sweep_at, Draw}
-use Rattle.act_states.specs.declared.work.Act.{Act as ActOf}
-use Rattle.act_states.specs.declared.work.Act.TheVariants.{Untype as untype_act}
-use Rattle.act_states.specs.declared.work.Work.{Work}
-use Rattle.act_states.specs.declared.work.Work.TheVariants.{Act}
-use Rattle.act_states.specs.declared.work.WorkStep.{WorkStep}
-use Rattle.act_states.specs.declared.work.WorkStep.TheVariants.{Goes}
-use Rattle.call_stages.specs.declared.stages.ActiveCall.{ActiveCall}
-use Rattle.call_stages.specs.declared.stages.Stage.TheVariants.{Undecided}
-use Rattle.step_ways.proofs.Loads.{next_at}
-use Rattle.core_invariant.specs.Frozen.{holds_release}
-use Rattle.core_invariant.specs.Holding.{Holding}
-use Rattle.core_invariant.specs.Knows.{AreDuesApart, due_of, KnowsWork}
-use Rattle.core_invariant.specs.Invariant.{holds_work}
-use Rattle.core_invariant.specs.Sweeps.{AreKept, IsLookedAt, IsSwept, KnowsSwept, KnowsUntyping, SaysTyped, UntypesBy, names_of}
-use Rattle.count_invariant.proofs.Acquiring.{knows_next, next_holds}
+use Rattle.scan_invariant.specs.spk_nums.specs.declared.kinds.Obj.TheVariants as obj
+use Rattle.scan_invariant.specs.act_states.specs.Untypings.{owned_dues}
+use Rattle.scan_invariant.specs.act_states.specs.declared.untypings.UntypingAt.TheVariants.{Sweep as sweep_at}
+use Rattle.scan_invariant.specs.act_states.specs.declared.work.Act.{Act as ActOf}
+use Rattle.scan_invariant.specs.act_states.specs.declared.work.Act.TheVariants.{Untype as untype_act}
+use Rattle.scan_invariant.specs.step_ways.proofs.Loads.{next_at}
+use Rattle.scan_invariant.specs.core_invariant.specs.Sweeps.{IsSwept}
+use Rattle.scan_invariant.specs.count_invariant.proofs.Acquiring.{knows_next, next_holds}
 use Rattle.freeze_invariant.proofs.Counters.{sweeping, untyping_by}
 use Rattle.freeze_invariant.proofs.UntypeCalls.{untypes_on}
 

@@ -1,76 +1,45 @@
 -- The steps by which a call that makes a frame untyped freezes its counters: the load, which finds another core's mark or a count that no
 -- core holds; and the compare, which is lost to another core or freezes the counter. After the last, references refuse the call, or the
 -- scan begins.
-use Rattle.std.specs.Prelude.{if◌then◌else◌, min, All}
-use Rattle.std.proofs.Common.{◌≡◌, ◌≢◌, inl, inr, ℕ, ℤ, pos, negsuc, ◌+ℤ◌, ◌+◌, ◌^◌, ◌<◌, ◌≤◌, ◌==◌}
-use Rattle.std.proofs.Common.{◌++◌, map, max, nat_lt, length, slice_get, Bool, true, false, List, []}
-use Rattle.std.proofs.Common.{◌∷◌, Option, Some, None, IsTrue, arith, refl, sym, ◌∙◌, ap, subst, lt-ltb}
-use Rattle.std.proofs.lemmas.Bool.{eqb-true, eqb-false, eq-eqb, false≢true, ltb-true, ltb-false}
+use Rattle.scan_invariant.proofs.Common.{min, All, ◌≡◌, ◌≢◌, inl, inr, ℕ, ℤ, pos, negsuc, ◌+ℤ◌, ◌+◌, ◌^◌, ◌<◌, ◌≤◌, ◌==◌, ◌++◌, map, max}
+use Rattle.scan_invariant.proofs.Common.{nat_lt, length, slice_get, Bool, true, false, List, [], ◌∷◌, Option, Some, None, IsTrue, arith}
+use Rattle.scan_invariant.proofs.Common.{refl, sym, ◌∙◌, ap, subst, eqb-true, eqb-false, eq-eqb, false≢true, ltb-true, ltb-false, All-nil}
+use Rattle.scan_invariant.proofs.Common.{All-cons, Setting, IsSetting, left_if, Reply, StageEnd, CountFits, word_of_count, count_of_word}
+use Rattle.scan_invariant.proofs.Common.{CountWord, FrameWord, Word, EntryAt, FrameAt, CountAt, ClockAt, same_word, Move, LoadOf}
+use Rattle.scan_invariant.proofs.Common.{CompareOf, word_of, left_of, Shape, State, FrameOf, refs, put_same, count_mark, marked_by}
+use Rattle.scan_invariant.proofs.Common.{frame_value, stamp, Step, Trace, state_after, last_left, same_word-other, own_read-here, unheld}
+use Rattle.scan_invariant.proofs.Common.{Acquired, counters_of, latest_stamp, at_after, end_by, swept_of, thaw_of, Owned, Sweep, SweepAt}
+use Rattle.scan_invariant.proofs.Common.{Compare, Empty, Swept, took_sweep, release_of, untyping_dues, Untyping, Draw, Tail, Act, Goes}
+use Rattle.scan_invariant.proofs.Common.{Refuses, Undecided, ActiveCall, landed, Core, holds_release, holds_thaw, is_frozen, Holding}
+use Rattle.scan_invariant.proofs.Common.{holds_counts, settled_by, settled, due_of, KnowsTail, KnowsUndecided, holds, holds_in}
+use Rattle.scan_invariant.proofs.Common.{holds_tail, held_by, Invariant, AreFrozen, AreKept, KnowsSweep, KnowsUntyping, SaysTyped}
+use Rattle.scan_invariant.proofs.Common.{ThawsFrame, SaysCount, count_room, as_none, counts_bare, names_on, counts_on, thaws_own}
+use Rattle.scan_invariant.proofs.Common.{HoldsSwept, release_swept, counts_references, IsNearIn}
+use Rattle.std.specs.Prelude.{if◌then◌else◌}
+use Rattle.std.proofs.Common.{lt-ltb}
 use Rattle.std.proofs.lemmas.Int.{ints}
-use Rattle.std.proofs.lemmas.List.Elements.{All-nil, All-cons}
-use Rattle.spk_nums.specs.Setting.{Setting, IsSetting}
-use Rattle.spk_nums.specs.WordSteps.{left_if}
-use Rattle.spk_nums.specs.declared.replies.Reply.{Reply}
-use Rattle.spk_nums.specs.declared.replies.Reply.TheVariants as reply
-use Rattle.spk_nums.specs.declared.steps.StageEnd.{StageEnd}
-use Rattle.frame_words.specs.Count.{CountFits, word_of_count, count_of_word}
-use Rattle.frame_words.specs.declared.count_word.CountWord.{CountWord}
-use Rattle.frame_words.specs.declared.count_word.Hold.{Hold}
-use Rattle.frame_words.specs.declared.count_word.Hold.TheVariants as hold
-use Rattle.frame_words.specs.declared.frame_word.FrameWord.{FrameWord}
-use Rattle.frame_words.proofs.CountLemmas as counts
-use Rattle.word_map.specs.Word.{Word, EntryAt, FrameAt, CountAt, ClockAt, same_word}
-use Rattle.word_map.specs.Moves.{Move, LoadOf, CompareOf, word_of, left_of}
-use Rattle.word_map.specs.Places.{Shape}
-use Rattle.kernel_rules.specs.State.{State, FrameOf}
-use Rattle.kernel_rules.specs.References.{refs}
-use Rattle.kernel_rules.proofs.Within.{put_same}
-use Rattle.kernel_history.specs.Marks.{count_mark}
-use Rattle.kernel_history.specs.Marking.{marked_by}
-use Rattle.kernel_history.specs.ObjectWords.{frame_value}
-use Rattle.kernel_history.specs.Stamps.{stamp}
-use Rattle.kernel_history.specs.Trace.{Step, Trace, state_after, last_left}
-use Rattle.kernel_history.proofs.Names.{same_word-other, same_word-same}
-use Rattle.kernel_history.proofs.Steps.{own_read-here}
-use Rattle.stage_pins.specs.Counts.{unheld}
-use Rattle.stage_pins.specs.declared.held.Acquired.{Acquired}
-use Rattle.stage_sweep.specs.Counters.{counters_of, sum_of_counts, latest_stamp}
-use Rattle.stage_sweep.specs.Freeze.{frozen, load_refuses, load_next, hold_refuses, at_after, end_by, swept_of}
-use Rattle.stage_sweep.specs.Release.{thaw_of}
-use Rattle.stage_sweep.specs.declared.empty.Owned.{Owned}
-use Rattle.stage_sweep.specs.declared.sweep.Sweep.{Sweep}
-use Rattle.stage_sweep.specs.declared.sweep.SweepAt.{SweepAt}
-use Rattle.stage_sweep.specs.declared.sweep.SweepAt.TheVariants.{Load as sweep_load, Compare, Scan, Empty}
-use Rattle.stage_sweep.specs.declared.sweep.Swept.{Swept}
-use Rattle.act_states.specs.declared.refusals.Refusal.TheVariants as refusal
-use Rattle.act_states.specs.Acts.{took_sweep}
-use Rattle.act_states.specs.Untypings.{release_of, untyping_dues}
-use Rattle.act_states.specs.declared.untypings.Release.{Release}
-use Rattle.act_states.specs.declared.untypings.Untyping.{Untyping}
-use Rattle.act_states.specs.declared.untypings.UntypingAt.TheVariants.{Sweep as sweep_at, Draw}
-use Rattle.act_states.specs.declared.work.Act.TheVariants.{Untype as untype_act}
-use Rattle.act_states.specs.declared.work.Tail.{Tail}
-use Rattle.act_states.specs.declared.work.Tail.TheVariants.{Release as release_tail}
-use Rattle.act_states.specs.declared.work.Work.TheVariants.{Act}
-use Rattle.act_states.specs.declared.work.WorkStep.TheVariants.{Goes, Refuses}
-use Rattle.call_stages.specs.declared.stages.Stage.TheVariants.{Undecided}
-use Rattle.call_stages.specs.declared.stages.ActiveCall.{ActiveCall}
-use Rattle.call_stages.specs.Steps.{landed}
-use Rattle.call_stages.specs.View.{Core}
-use Rattle.core_invariant.specs.Frozen.{holds_release, holds_thaw, is_frozen}
-use Rattle.core_invariant.specs.Holding.{Holding, holds_counts, settled_by, settled}
-use Rattle.core_invariant.specs.Knows.{due_of, KnowsTail, KnowsUndecided}
-use Rattle.core_invariant.specs.Invariant.{holds, holds_in, holds_tail, held_by, Invariant}
-use Rattle.core_invariant.specs.Sweeps.{AreFrozen, AreKept, HasReadCount, KnowsRelease, KnowsSweep, KnowsUntyping, SaysTyped, ThawsFrame}
-use Rattle.core_invariant.specs.Words.{SaysCount, count_room}
-use Rattle.core_invariant.proofs.Bare.{as_none, counts_bare}
-use Rattle.kept_facts.proofs.Carries.{names_on, counts_on}
-use Rattle.core_invariant.proofs.Freezing.{SameAt, IsFrozenWord, frozen_word, thaw_all, thaw_from, thaws_own, release_bare}
-use Rattle.kept_facts.proofs.Swept.{HoldsSwept, release_swept, frame_says, no_refs, stamp_is}
-use Rattle.step_ways.proofs.Loads.{IsOfCall, OnlyLooks, step_to, next_at, core_in_call, inner, call_is, loads_on}
-use Rattle.step_ways.proofs.Refusals.{GoodTook, ticks_at, raced_leaving, busy_leaving}
+use Rattle.scan_invariant.specs.spk_nums.specs.declared.replies.Reply.TheVariants as reply
+use Rattle.scan_invariant.specs.frame_words.specs.declared.count_word.Hold.{Hold}
+use Rattle.scan_invariant.specs.frame_words.specs.declared.count_word.Hold.TheVariants as hold
+use Rattle.scan_invariant.specs.frame_words.proofs.CountLemmas as counts
+use Rattle.scan_invariant.specs.kernel_history.proofs.Names.{same_word-same}
+use Rattle.scan_invariant.specs.stage_sweep.specs.Counters.{sum_of_counts}
+use Rattle.scan_invariant.specs.stage_sweep.specs.Freeze.{frozen, load_refuses, load_next, hold_refuses}
+use Rattle.scan_invariant.specs.stage_sweep.specs.declared.sweep.SweepAt.TheVariants.{Load as sweep_load, Scan}
+use Rattle.scan_invariant.specs.act_states.specs.declared.refusals.Refusal.TheVariants as refusal
+use Rattle.scan_invariant.specs.act_states.specs.declared.untypings.Release.{Release}
+use Rattle.scan_invariant.specs.act_states.specs.declared.untypings.UntypingAt.TheVariants.{Sweep as sweep_at}
+use Rattle.scan_invariant.specs.act_states.specs.declared.work.Act.TheVariants.{Untype as untype_act}
+use Rattle.scan_invariant.specs.act_states.specs.declared.work.Tail.TheVariants.{Release as release_tail}
+use Rattle.scan_invariant.specs.core_invariant.specs.Sweeps.{HasReadCount, KnowsRelease}
+use Rattle.scan_invariant.specs.core_invariant.proofs.Freezing.{SameAt, IsFrozenWord, frozen_word, thaw_all, thaw_from}
+use Rattle.scan_invariant.specs.core_invariant.proofs.Freezing.{release_bare}
+use Rattle.scan_invariant.specs.kept_facts.proofs.Swept.{frame_says, no_refs, stamp_is}
+use Rattle.scan_invariant.specs.step_ways.proofs.Loads.{IsOfCall, OnlyLooks, step_to, next_at, core_in_call, inner, call_is, loads_on}
+use Rattle.scan_invariant.specs.step_ways.proofs.Refusals.{GoodTook, ticks_at, raced_leaving, busy_leaving}
 use Rattle.freeze_invariant.proofs.UntypeCalls as calls
 use Rattle.freeze_invariant.proofs.UntypeCalls.{IsUntype, untypes_on}
+use Rattle.scan_invariant.specs.core_invariant.specs.Frozen.{thawed}
 
 none_some : (d : ℕ) → None ≡ Some d → ⊥
 none_some d h = cc
@@ -84,7 +53,7 @@ pub thaw_past : (w : Swept) (clear : Bool) (h : Holding) (d : ℕ) → length w.
 thaw_past w clear h d past =
     let all = thaw_all w clear h (CountAt w.frame d) in (
       all.0 ∙ ap (λ b. if b then true else h.marks (CountAt w.frame d)) (none (is_frozen (thaw_from w clear) (CountAt w.frame d)) refl),
-      all.1 ∙ ap (λ b. if b then Rattle.core_invariant.specs.Frozen.thawed (thaw_from w clear) (CountAt w.frame d) else
+      all.1 ∙ ap (λ b. if b then thawed (thaw_from w clear) (CountAt w.frame d) else
           h.stands (CountAt w.frame d)) (none (is_frozen (thaw_from w clear) (CountAt w.frame d)) refl),
     )
   where
@@ -146,11 +115,11 @@ module _ (setup : Setting) (setting : IsSetting setup) (cores : ℕ → Core) (t
 
   -- a step on one of its counters is one of the call
   pub counter_near : (move : Move) (d : ℕ) → word_of move ≡ CountAt w.frame d
-      → IsTrue (Rattle.kernel_history.specs.Discipline.counts_references a.call)
+      → IsTrue (counts_references a.call)
   counter_near move d at = calls.untype_counts a.call a.found f sweep_is
 
-  pub near_counter : (d : ℕ) → Rattle.kernel_history.specs.Footprint.IsNearIn c a.call (CountAt w.frame d) (state_after setup t)
-  near_counter d = subst (λ (n : ℕ). Rattle.kernel_history.specs.Footprint.IsNearIn c a.call (CountAt n d) (state_after setup t))
+  pub near_counter : (d : ℕ) → IsNearIn c a.call (CountAt w.frame d) (state_after setup t)
+  near_counter d = subst (λ (n : ℕ). IsNearIn c a.call (CountAt n d) (state_after setup t))
       (sym sweep_knows.frame) (calls.near setup setting cores t stands c here a active sweep_call stage_is has)
 
   -- its next counter is not held yet

@@ -1,76 +1,32 @@
 -- The step of a retype to untyped that scans a flush word: it is refused where the core may not have flushed since.
+use Rattle.scan_invariant.proofs.Common.{list_any, ◌≡◌, ◌≢◌, ◌⊎◌, inl, inr, ℕ, ◌+◌, ◌<◌, ◌≤◌, ◌==◌, ◌&&◌, ◌||◌, nat_lt, nat_le, length}
+use Rattle.scan_invariant.proofs.Common.{Bool, true, false, List, [], ◌∷◌, Option, Some, None, IsTrue, arith, refl, sym, ◌∙◌, ap, subst}
+use Rattle.scan_invariant.proofs.Common.{cases_eq, eq-eqb, eqb-true, false≢true, ltb-true, ltb-false, leb-true, leb-false, Setting}
+use Rattle.scan_invariant.proofs.Common.{IsSetting, Call, Reply, core_of_word, flush_of_word, CoreWord, FlushWord, CountWord, FrameWord}
+use Rattle.scan_invariant.proofs.Common.{CoreAt, FlushAt, same_word, Move, LoadOf, State, Thing, FrameOf, is_untyped, same_thing}
+use Rattle.scan_invariant.proofs.Common.{is_translated, lowest, unflushed_by, MayWait, MayBeUnflushed, Refused, rule_of, change_of}
+use Rattle.scan_invariant.proofs.Common.{IsAlone, IsRemoved, IsWaiting, IsUnflushed, frame_value, awaits_flushes, exit_of, flush_of}
+use Rattle.scan_invariant.proofs.Common.{flush_stored, stamp, Step, Trace, Out, Open, phase, state_after, last_left, asked_of, waited_in}
+use Rattle.scan_invariant.proofs.Common.{flushed_in, refused_first, nobody_waits, awaits_are, was_at_once, not_inside, out_passed}
+use Rattle.scan_invariant.proofs.Common.{later_passed, may_wait, own_pages, Quiet, AtCore, AtFlush, next_other, core_scan, flush_scan}
+use Rattle.scan_invariant.proofs.Common.{core_refuses, flush_refuses, scan_end, scan_after, quiet_next, quiet_end, quiet_after}
+use Rattle.scan_invariant.proofs.Common.{latest_stamp, may_be_cached, refusal_of, scan_goes, empty_next, at_after, end_by, swept_of}
+use Rattle.scan_invariant.proofs.Common.{Owned, Sweep, SweepAt, Empty, took_sweep, release_of, UntypingFits, Untyping, Work, Act}
+use Rattle.scan_invariant.proofs.Common.{WorkStep, Goes, Refuses, Undecided, ActiveCall, landed, Core, holds_release, Holding}
+use Rattle.scan_invariant.proofs.Common.{holds_counts, KnowsUndecided, KnowsWork, holds_in, holds_work, Invariant, AreFrozen, IsQuiet}
+use Rattle.scan_invariant.proofs.Common.{IsScanning, KnowsSweep, KnowsSweepScan, names_on, quiet_frame_on, limits_of}
 use Rattle.std.specs.Prelude.{if◌then◌else◌}
-use Rattle.std.specs.List.{list_any}
-use Rattle.std.proofs.Common.{◌≡◌, ◌≢◌, ◌⊎◌, inl, inr, ℕ, ◌+◌, ◌<◌, ◌≤◌, ◌==◌, ◌&&◌, ◌||◌, nat_lt, nat_le, length, Bool}
-use Rattle.std.proofs.Common.{true, false, List, [], ◌∷◌, Option, Some, None, IsTrue, arith, refl, sym, ◌∙◌, ap, subst}
-use Rattle.std.proofs.lemmas.Bool.{cases_eq, eq-eqb, eqb-true, false≢true, ltb-true, ltb-false, leb-true, leb-false}
-use Rattle.spk_nums.specs.Setting.{Setting, IsSetting}
-use Rattle.spk_nums.specs.declared.calls.Call.{Call}
-use Rattle.spk_nums.specs.declared.replies.Reply.{Reply}
-use Rattle.spk_nums.specs.declared.replies.Reply.TheVariants as reply
-use Rattle.frame_words.specs.Core.{core_of_word}
-use Rattle.frame_words.specs.Flush.{flush_of_word}
-use Rattle.frame_words.specs.declared.core_word.CoreWord.{CoreWord}
-use Rattle.frame_words.specs.declared.flush_word.FlushWord.{FlushWord}
-use Rattle.frame_words.specs.declared.count_word.CountWord.{CountWord}
-use Rattle.frame_words.specs.declared.frame_word.FrameWord.{FrameWord}
-use Rattle.word_map.specs.Word.{CoreAt, FlushAt, same_word}
-use Rattle.word_map.specs.Moves.{Move, LoadOf}
-use Rattle.kernel_rules.specs.State.{State, Thing, FrameOf}
-use Rattle.kernel_rules.specs.MemoryCalls.{is_untyped}
-use Rattle.kernel_rules.specs.GracePeriods.{same_thing, is_translated, lowest, unflushed_by, MayWait, MayBeUnflushed}
-use Rattle.kernel_rules.specs.Rules.{Refused}
-use Rattle.kernel_rules.specs.CallRelation.{rule_of, change_of}
-use Rattle.kernel_history.specs.Alone.{IsAlone}
-use Rattle.kernel_history.specs.Justified.{IsRemoved, IsWaiting, IsUnflushed}
-use Rattle.kernel_history.specs.ObjectWords.{frame_value}
-use Rattle.kernel_history.specs.Stamps.{awaits_flushes, exit_of, flush_of, flush_stored, stamp}
-use Rattle.kernel_history.specs.Trace.{Step, Trace, Out, Open, phase, state_after, last_left}
-use Rattle.kernel_history.specs.Ways.{asked_of, waited_in, flushed_in}
-use Rattle.trace_laws.proofs.AloneCalls.{refused_first, nobody_waits}
-use Rattle.trace_laws.proofs.Awaits.{awaits_are}
-use Rattle.trace_laws.proofs.Carries.{was_at_once}
-use Rattle.kernel_history.proofs.Laws.{not_inside}
-use Rattle.trace_laws.proofs.Waiting.{out_passed, later_passed, may_wait}
-use Rattle.call_plans.specs.GoesBy.{own_pages}
-use Rattle.plan_ways.proofs.Ways.{asked_left}
-use Rattle.stage_quiet.specs.declared.quiet.Quiet.{Quiet}
-use Rattle.stage_quiet.specs.declared.quiet.Quiet.TheVariants.{AtCore, AtFlush}
-use Rattle.stage_quiet.specs.Scan.{next_other, core_scan, flush_scan, core_refuses, flush_refuses}
-use Rattle.stage_quiet.specs.Scan.{scan_end, scan_after, quiet_next, quiet_end, quiet_after}
-use Rattle.stage_sweep.specs.Counters.{latest_stamp}
-use Rattle.stage_sweep.specs.Emptiness.{may_be_cached}
-use Rattle.stage_sweep.specs.Freeze.{refusal_of, scan_goes, empty_next, at_after, end_by, swept_of}
-use Rattle.stage_sweep.specs.declared.empty.Owned.{Owned}
-use Rattle.stage_sweep.specs.declared.sweep.Sweep.{Sweep}
-use Rattle.stage_sweep.specs.declared.sweep.SweepAt.{SweepAt}
-use Rattle.stage_sweep.specs.declared.sweep.SweepAt.TheVariants.{Scan, Empty}
-use Rattle.act_states.specs.Acts.{took_sweep}
-use Rattle.act_states.specs.Untypings.{release_of, UntypingFits}
-use Rattle.act_states.specs.declared.untypings.Untyping.{Untyping}
-use Rattle.act_states.specs.declared.work.Act.TheVariants.{Untype as untype_act}
-use Rattle.act_states.specs.declared.work.Work.{Work}
-use Rattle.act_states.specs.declared.work.Work.TheVariants.{Act}
-use Rattle.act_states.specs.declared.work.WorkStep.{WorkStep}
-use Rattle.act_states.specs.declared.refusals.Refusal.TheVariants as refusal
-use Rattle.act_states.specs.declared.work.Tail.TheVariants.{Release as release_tail}
-use Rattle.act_states.specs.declared.work.WorkStep.TheVariants.{Goes, Refuses}
-use Rattle.call_stages.specs.declared.stages.Stage.TheVariants.{Undecided}
-use Rattle.call_stages.specs.declared.stages.ActiveCall.{ActiveCall}
-use Rattle.call_stages.specs.Steps.{landed}
-use Rattle.call_stages.specs.View.{Core}
-use Rattle.core_invariant.specs.Frozen.{holds_release}
-use Rattle.core_invariant.specs.Holding.{Holding, holds_counts}
-use Rattle.core_invariant.specs.Knows.{KnowsUndecided, KnowsWork}
-use Rattle.core_invariant.specs.Invariant.{holds_in, holds_work, Invariant}
-use Rattle.core_invariant.specs.Sweeps.{AreFrozen, IsQuiet, IsScanning, KnowsSweep, KnowsSweepScan}
-use Rattle.kept_facts.proofs.Carries.{names_on, quiet_frame_on}
-use Rattle.step_ways.proofs.Loads.{OnlyLooks, step_to, next_at, inner, loads_on, decides_with}
-use Rattle.step_ways.proofs.Refusals.{GoodTook}
-use Rattle.core_invariant.proofs.Sounds.{limits_of}
+use Rattle.scan_invariant.specs.spk_nums.specs.declared.replies.Reply.TheVariants as reply
+use Rattle.scan_invariant.specs.plan_ways.proofs.Ways.{asked_left}
+use Rattle.scan_invariant.specs.stage_sweep.specs.declared.sweep.SweepAt.TheVariants.{Scan}
+use Rattle.scan_invariant.specs.act_states.specs.declared.work.Act.TheVariants.{Untype as untype_act}
+use Rattle.scan_invariant.specs.act_states.specs.declared.refusals.Refusal.TheVariants as refusal
+use Rattle.scan_invariant.specs.act_states.specs.declared.work.Tail.TheVariants.{Release as release_tail}
+use Rattle.scan_invariant.specs.step_ways.proofs.Loads.{OnlyLooks, step_to, next_at, inner, loads_on, decides_with}
+use Rattle.scan_invariant.specs.step_ways.proofs.Refusals.{GoodTook}
 use Rattle.scan_invariant.proofs.FlushScans.{flush_is_stored, flush_shown, lowest_is, still_unflushed, unflushed_shown}
 use Rattle.scan_invariant.proofs.Scans.{before_next}
-use Rattle.place_invariant.proofs.Vacancy.{none_waits}
+use Rattle.scan_invariant.specs.place_invariant.proofs.Vacancy.{none_waits}
 use Rattle.freeze_invariant.proofs.Counters.{sweeping, untyping_by, sweep_knows, sweep_held, sweep_counts}
 use Rattle.freeze_invariant.proofs.Counters.{sweep_frame, sweep_refs, sweep_since, undo_with, undo_known}
 use Rattle.freeze_invariant.proofs.FrameScans.{all_scanned, scans_on, page_known, known_typed}

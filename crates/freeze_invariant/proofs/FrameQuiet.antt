@@ -1,51 +1,24 @@
 -- Who waits for a frame of which all counters are frozen, and where the scan for them begins.
+use Rattle.scan_invariant.proofs.Common.{◌≡◌, ◌≢◌, ℕ, ◌+◌, ◌<◌, ◌≤◌, ◌==◌, ◌++◌, map, length, Bool, true, false, List, [], ◌∷◌, Option}
+use Rattle.scan_invariant.proofs.Common.{Some, None, inl, inr, arith, refl, sym, ◌∙◌, ap, subst, eqb-true, eqb-false, false≢true, Setting}
+use Rattle.scan_invariant.proofs.Common.{IsSetting, CountWord, FrameWord, Object, Blank, Table, Leaf, Pages, Pleaf, Comp, Thread, Tcap}
+use Rattle.scan_invariant.proofs.Common.{Frame, Untyped, User, Kernel, FrameOf, State, is_translated, frame_value, clock, stamp, Trace}
+use Rattle.scan_invariant.proofs.Common.{state_after, awaits_are, cases_bool, quiet_scan, Quiet, AtCore, AtFlush, latest_stamp}
+use Rattle.scan_invariant.proofs.Common.{may_be_cached, at_after, empty_next, end_by, swept_of, Owned, Sweep, SweepAt, Empty, took_sweep}
+use Rattle.scan_invariant.proofs.Common.{OwnedBy, release_of, Untyping, Work, Act, WorkStep, Goes, ActiveCall, Undecided, Core}
+use Rattle.scan_invariant.proofs.Common.{holds_release, Holding, due_of, KnowsWork, holds_work, Invariant, AreFrozen, AreKept, IsQuiet}
+use Rattle.scan_invariant.proofs.Common.{IsScanning, KnowsSweepScan, SaysTyped, UntypesBy, core_scan}
 use Rattle.std.specs.Prelude.{if◌then◌else◌}
-use Rattle.std.proofs.Common.{◌≡◌, ◌≢◌, ℕ, ◌+◌, ◌<◌, ◌≤◌, ◌==◌, ◌++◌, map, length, Bool, true, false, List}
-use Rattle.std.proofs.Common.{[], ◌∷◌, Option, Some, None, inl, inr, arith, refl, sym, ◌∙◌, ap, subst}
-use Rattle.std.proofs.lemmas.Bool.{eqb-true, eqb-false, false≢true}
-use Rattle.spk_nums.specs.Setting.{Setting, IsSetting}
-use Rattle.spk_nums.specs.declared.kinds.FrameKind.TheVariants as kind
-use Rattle.frame_words.specs.declared.count_word.CountWord.{CountWord}
-use Rattle.frame_words.specs.declared.frame_word.FrameWord.{FrameWord}
-use Rattle.kernel_rules.specs.State.{Object, Blank, Table, Leaf, Pages, Pleaf, Comp, Thread}
-use Rattle.kernel_rules.specs.State.{Tcap, Frame, Untyped, User, Kernel, FrameOf, State}
-use Rattle.kernel_rules.specs.GracePeriods.{is_translated}
-use Rattle.kernel_history.specs.ObjectWords.{frame_value}
-use Rattle.kernel_history.specs.Stamps.{clock, stamp}
-use Rattle.kernel_history.specs.Trace.{Trace, state_after}
-use Rattle.trace_laws.proofs.Awaits.{awaits_are}
-use Rattle.trace_laws.proofs.GraceSteps.{cases_bool}
-use Rattle.stage_quiet.specs.Scan.{quiet_scan}
-use Rattle.stage_quiet.specs.declared.quiet.Quiet.{Quiet}
-use Rattle.stage_quiet.specs.declared.quiet.Quiet.TheVariants.{AtCore, AtFlush}
-use Rattle.stage_sweep.specs.Counters.{latest_stamp}
-use Rattle.stage_sweep.specs.Emptiness.{may_be_cached}
-use Rattle.stage_sweep.specs.Freeze.{at_after, empty_next, end_by, scan_next, swept_of}
-use Rattle.stage_sweep.specs.declared.empty.Owned.{Owned}
-use Rattle.stage_sweep.specs.declared.sweep.Sweep.{Sweep}
-use Rattle.stage_sweep.specs.declared.sweep.SweepAt.{SweepAt}
-use Rattle.stage_sweep.specs.declared.sweep.SweepAt.TheVariants.{Scan, Empty}
-use Rattle.act_states.specs.Acts.{took_sweep}
-use Rattle.act_states.specs.Untypings.{OwnedBy, release_of}
-use Rattle.act_states.specs.declared.untypings.Untyping.{Untyping}
-use Rattle.act_states.specs.declared.work.Act.TheVariants.{Untype as untype_act}
-use Rattle.act_states.specs.declared.work.Work.{Work}
-use Rattle.act_states.specs.declared.work.Work.TheVariants.{Act}
-use Rattle.act_states.specs.declared.work.WorkStep.{WorkStep}
-use Rattle.act_states.specs.declared.work.WorkStep.TheVariants.{Goes}
-use Rattle.call_stages.specs.declared.stages.ActiveCall.{ActiveCall}
-use Rattle.call_stages.specs.declared.stages.Stage.TheVariants.{Undecided}
-use Rattle.step_ways.proofs.Loads.{next_at}
-use Rattle.call_stages.specs.View.{Core}
-use Rattle.core_invariant.specs.Frozen.{holds_release}
-use Rattle.core_invariant.specs.Holding.{Holding}
-use Rattle.core_invariant.specs.Knows.{due_of, KnowsWork}
-use Rattle.core_invariant.specs.Invariant.{holds_work, Invariant}
-use Rattle.core_invariant.specs.Sweeps.{AreFrozen, AreKept, IsQuiet, IsScanning, KnowsSweepScan, SaysTyped, UntypesBy}
+use Rattle.scan_invariant.specs.spk_nums.specs.declared.kinds.FrameKind.TheVariants as kind
+use Rattle.scan_invariant.specs.stage_sweep.specs.Freeze.{scan_next}
+use Rattle.scan_invariant.specs.stage_sweep.specs.declared.sweep.SweepAt.TheVariants.{Scan}
+use Rattle.scan_invariant.specs.act_states.specs.declared.work.Act.TheVariants.{Untype as untype_act}
+use Rattle.scan_invariant.specs.step_ways.proofs.Loads.{next_at}
 use Rattle.scan_invariant.proofs.Scans.{ScanBegins, AtCores, AtFlushes, scan_begins, scan_none}
 use Rattle.freeze_invariant.proofs.Continuing as going
 use Rattle.freeze_invariant.proofs.Continuing.{looked_none}
 use Rattle.freeze_invariant.proofs.Counters.{sweeping, untyping_by}
+use Rattle.scan_invariant.specs.stage_quiet.specs.Scan.{first_other}
 
 -- A frame may be cached exactly where translations reach it.
 pub cached_is : (x : Frame) → may_be_cached (frame_value x).kind (frame_value x).object ≡ is_translated x
@@ -212,8 +185,8 @@ module _ (setup : Setting) (setting : IsSetting setup) (cores : ℕ → Core) (t
         by_quiet some (Some q) is = scan_on q (scan_begun (sweeping g v b kept o (Scan q)) frozen latest some q is)
 
         by_stamp : (zero : Bool) → (x == 0) ≡ zero → Goal (quiet_scan x b setup.cores page)
-        by_stamp true is = subst Goal (sym (ap (λ z. if z then None else Rattle.stage_quiet.specs.Scan.core_scan
-            (Rattle.std.specs.Prelude.nat_lt (Rattle.stage_quiet.specs.Scan.first_other b) setup.cores) x b
-            (Rattle.stage_quiet.specs.Scan.first_other b) page) is)) (past_scans (quiet_zero (eqb-true x 0 is)))
+        by_stamp true is = subst Goal (sym (ap (λ z. if z then None else core_scan
+            (Rattle.std.specs.Prelude.nat_lt (first_other b) setup.cores) x b
+            (first_other b) page) is)) (past_scans (quiet_zero (eqb-true x 0 is)))
         by_stamp false is = subst (λ (d : ℕ). Goal (quiet_scan x d setup.cores page)) (sym same_core)
             (by_quiet (let other = eqb-false x 0 is in omega (arith, other)) (quiet_scan x c setup.cores page) refl)

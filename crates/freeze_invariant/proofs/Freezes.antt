@@ -1,82 +1,50 @@
 -- The compare by which a counter is frozen: it is lost to another core; or the core holds the counter, which stands for what was found.
 -- After the last, references refuse the call, or the scan begins.
-use Rattle.std.specs.Prelude.{if◌then◌else◌, min, All}
-use Rattle.std.proofs.Common.{◌≡◌, ◌≢◌, inl, inr, ℕ, ℤ, pos, negsuc, ◌+ℤ◌, ◌+◌, ◌-◌, ◌^◌, ◌<◌, ◌≤◌, ◌==◌, ◌++◌, map, max, nat_lt, length}
-use Rattle.std.proofs.Common.{Bool, true, false, List, [], ◌∷◌, Option, Some, None, IsTrue, arith, refl, sym, ◌∙◌, ap, subst, lt-ltb}
-use Rattle.std.proofs.lemmas.Bool.{eqb-true, eqb-false, eq-eqb, false≢true}
+use Rattle.scan_invariant.proofs.Common.{min, All, ◌≡◌, ◌≢◌, inl, inr, ℕ, ℤ, pos, negsuc, ◌+ℤ◌, ◌+◌, ◌-◌, ◌^◌, ◌<◌, ◌≤◌, ◌==◌, ◌++◌, map}
+use Rattle.scan_invariant.proofs.Common.{max, nat_lt, length, Bool, true, false, List, [], ◌∷◌, Option, Some, None, IsTrue, arith, refl}
+use Rattle.scan_invariant.proofs.Common.{sym, ◌∙◌, ap, subst, eqb-true, eqb-false, eq-eqb, false≢true, All-nil, All-cons, Setting}
+use Rattle.scan_invariant.proofs.Common.{IsSetting, left_if, Reply, CountFits, word_of_count, count_of_word, CountWord, FrameWord, Word}
+use Rattle.scan_invariant.proofs.Common.{EntryAt, FrameAt, CountAt, ClockAt, FlushAt, same_word, Move, CompareOf, left_of, Shape, State}
+use Rattle.scan_invariant.proofs.Common.{FrameOf, put, refs, RuleMay, rule_of, put_same, counters, count_in, count_sum, count_mark}
+use Rattle.scan_invariant.proofs.Common.{marked_by, frame_value, stamp, Step, Trace, state_after, last_left, refused_first, unheld}
+use Rattle.scan_invariant.proofs.Common.{Acquired, quiet_scan, counters_of, latest_stamp, may_be_cached, at_after, end_by, swept_of}
+use Rattle.scan_invariant.proofs.Common.{thaw_of, Owned, Sweep, SweepAt, Compare, Empty, Swept, Thaw, took_sweep, OwnedBy, UntypingFits}
+use Rattle.scan_invariant.proofs.Common.{release_of, Untyping, Work, Act, WorkStep, Goes, Refuses, Undecided, ActiveCall, landed, Core}
+use Rattle.scan_invariant.proofs.Common.{stamp_in, holds_release, holds_thaw, is_frozen, Holding, holds_counts, settled_by, settled}
+use Rattle.scan_invariant.proofs.Common.{keeps, due_of, KnowsUndecided, holds, holds_in, held_by, count_shown, Invariant, AreFrozen}
+use Rattle.scan_invariant.proofs.Common.{AreKept, IsQuiet, KnowsSweep, UntypesBy, as_none, counts_bare, names_on, counts_on}
+use Rattle.scan_invariant.proofs.Common.{quiet_frame_on, lent_elsewhere, holds_work, KnowsWork}
+use Rattle.std.specs.Prelude.{if◌then◌else◌}
+use Rattle.std.proofs.Common.{lt-ltb}
 use Rattle.std.proofs.lemmas.Int.{ints}
-use Rattle.std.proofs.lemmas.List.Elements.{All-nil, All-cons}
-use Rattle.spk_nums.specs.Setting.{Setting, IsSetting}
-use Rattle.spk_nums.specs.WordSteps.{left_if}
-use Rattle.spk_nums.specs.declared.replies.Reply.{Reply}
-use Rattle.spk_nums.specs.declared.replies.Reply.TheVariants as reply
-use Rattle.frame_words.specs.Count.{CountFits, word_of_count, count_of_word}
-use Rattle.frame_words.specs.declared.count_word.CountWord.{CountWord}
-use Rattle.frame_words.specs.declared.frame_word.FrameWord.{FrameWord}
-use Rattle.frame_words.proofs.CountLemmas as counts
-use Rattle.word_map.specs.Word.{Word, EntryAt, FrameAt, CountAt, ClockAt, FlushAt, same_word}
-use Rattle.word_map.specs.Moves.{Move, CompareOf, left_of}
-use Rattle.word_map.specs.Places.{Shape}
-use Rattle.kernel_rules.specs.State.{State, FrameOf, put}
-use Rattle.kernel_rules.specs.References.{refs}
-use Rattle.kernel_rules.specs.Rules.{RuleMay}
-use Rattle.kernel_rules.specs.CallRelation.{rule_of}
-use Rattle.kernel_rules.proofs.Within.{put_same}
-use Rattle.kernel_history.specs.Counts.{counters, count_in, count_sum}
-use Rattle.kernel_history.specs.Marks.{count_mark}
-use Rattle.kernel_history.specs.Marking.{marked_by}
-use Rattle.kernel_history.specs.ObjectWords.{frame_value}
-use Rattle.kernel_history.specs.Stamps.{stamp}
-use Rattle.kernel_history.specs.Trace.{Step, Trace, state_after, last_left}
-use Rattle.trace_laws.proofs.AloneCalls.{refused_first}
-use Rattle.stage_pins.specs.Counts.{unheld}
-use Rattle.stage_pins.specs.declared.held.Acquired.{Acquired}
-use Rattle.stage_quiet.specs.Scan.{quiet_scan}
-use Rattle.stage_sweep.specs.Counters.{counters_of, sum_of_counts, latest_stamp}
-use Rattle.stage_sweep.specs.Emptiness.{may_be_cached}
-use Rattle.stage_sweep.specs.Freeze.{frozen, frozen_if, kept_with, compare_refuses, compare_next}
-use Rattle.stage_sweep.specs.Freeze.{sum_refuses, some_referenced, scan_next, at_after, end_by, swept_of}
-use Rattle.stage_sweep.specs.Release.{released, thaw_of}
-use Rattle.stage_sweep.specs.declared.empty.Owned.{Owned}
-use Rattle.stage_sweep.specs.declared.sweep.Sweep.{Sweep}
-use Rattle.stage_sweep.specs.declared.sweep.SweepAt.{SweepAt}
-use Rattle.stage_sweep.specs.declared.sweep.SweepAt.TheVariants.{Load as sweep_load, Compare, Scan, Empty}
-use Rattle.stage_sweep.specs.declared.sweep.Swept.{Swept}
-use Rattle.stage_sweep.specs.declared.thaw.Thaw.{Thaw}
-use Rattle.act_states.specs.declared.refusals.Refusal.TheVariants as refusal
-use Rattle.act_states.specs.Acts.{took_sweep}
-use Rattle.act_states.specs.Untypings.{OwnedBy, UntypingFits, SweepsFrame, release_of}
-use Rattle.act_states.specs.declared.untypings.Untyping.{Untyping}
-use Rattle.act_states.specs.declared.work.Act.TheVariants.{Untype as untype_act}
-use Rattle.act_states.specs.declared.work.Tail.TheVariants.{Release as release_tail}
-use Rattle.act_states.specs.declared.work.Work.{Work}
-use Rattle.act_states.specs.declared.work.Work.TheVariants.{Act}
-use Rattle.act_states.specs.declared.work.WorkStep.{WorkStep}
-use Rattle.act_states.specs.declared.work.WorkStep.TheVariants.{Goes, Refuses}
-use Rattle.call_stages.specs.declared.stages.Stage.TheVariants.{Undecided}
-use Rattle.call_stages.specs.declared.stages.ActiveCall.{ActiveCall}
-use Rattle.call_stages.specs.Steps.{landed}
-use Rattle.call_stages.specs.View.{Core}
-use Rattle.core_invariant.specs.CountWords.{stamp_in, newest_of}
-use Rattle.core_invariant.specs.Frozen.{holds_release, holds_thaw, is_frozen, thawed}
-use Rattle.core_invariant.specs.Holding.{Holding, holds_counts, settled_by, settled, keeps}
-use Rattle.core_invariant.specs.Knows.{due_of, KnowsUndecided}
-use Rattle.core_invariant.specs.Invariant.{holds, holds_in, held_by, count_shown, Invariant}
-use Rattle.core_invariant.specs.Sweeps.{AreFrozen, AreKept, HasReadCount, IsQuiet, KnowsSweep, UntypesBy}
-use Rattle.core_invariant.proofs.Bare.{as_none, counts_bare}
-use Rattle.kept_facts.proofs.Carries.{names_on, counts_on, quiet_frame_on}
-use Rattle.step_ways.proofs.Counting as counting
-use Rattle.core_invariant.proofs.Freezing.{SameAt, IsFrozenWord, frozen_word, thaw_here}
-use Rattle.step_ways.proofs.Good.{spares_other}
-use Rattle.kept_facts.proofs.Lent.{lent_elsewhere}
-use Rattle.step_ways.proofs.Loads.{IsOfCall, next_at, core_in_call, inner, call_is}
-use Rattle.step_ways.proofs.Refusals.{GoodTook, ticks_at, raced_leaving}
+use Rattle.scan_invariant.specs.spk_nums.specs.declared.replies.Reply.TheVariants as reply
+use Rattle.scan_invariant.specs.frame_words.proofs.CountLemmas as counts
+use Rattle.scan_invariant.specs.stage_sweep.specs.Counters.{sum_of_counts}
+use Rattle.scan_invariant.specs.stage_sweep.specs.Freeze.{frozen, frozen_if, kept_with, compare_refuses, compare_next}
+use Rattle.scan_invariant.specs.stage_sweep.specs.Freeze.{sum_refuses, some_referenced, scan_next}
+use Rattle.scan_invariant.specs.stage_sweep.specs.Release.{released}
+use Rattle.scan_invariant.specs.stage_sweep.specs.declared.sweep.SweepAt.TheVariants.{Load as sweep_load, Scan}
+use Rattle.scan_invariant.specs.act_states.specs.declared.refusals.Refusal.TheVariants as refusal
+use Rattle.scan_invariant.specs.act_states.specs.Untypings.{SweepsFrame}
+use Rattle.scan_invariant.specs.act_states.specs.declared.work.Act.TheVariants.{Untype as untype_act}
+use Rattle.scan_invariant.specs.act_states.specs.declared.work.Tail.TheVariants.{Release as release_tail}
+use Rattle.scan_invariant.specs.core_invariant.specs.CountWords.{newest_of}
+use Rattle.scan_invariant.specs.core_invariant.specs.Frozen.{thawed}
+use Rattle.scan_invariant.specs.core_invariant.specs.Sweeps.{HasReadCount}
+use Rattle.scan_invariant.specs.step_ways.proofs.Counting as counting
+use Rattle.scan_invariant.specs.core_invariant.proofs.Freezing.{SameAt, IsFrozenWord, frozen_word, thaw_here}
+use Rattle.scan_invariant.specs.step_ways.proofs.Good.{spares_other}
+use Rattle.scan_invariant.specs.step_ways.proofs.Loads.{IsOfCall, next_at, core_in_call, inner, call_is}
+use Rattle.scan_invariant.specs.step_ways.proofs.Refusals.{GoodTook, ticks_at, raced_leaving}
 use Rattle.freeze_invariant.proofs.Counters.{sweeping, untyping_by, sweep_is, sweep_knows, sweep_held}
 use Rattle.freeze_invariant.proofs.Counters.{sweep_counts, sweep_frame, undo_with, undo_known, near_counter}
 use Rattle.freeze_invariant.proofs.FrameQuiet as quieting
 use Rattle.freeze_invariant.proofs.Refusing as refusing
 use Rattle.freeze_invariant.proofs.UntypeCalls as calls
 use Rattle.freeze_invariant.proofs.UntypeCalls.{untypes_on, typed_is}
+use Rattle.scan_invariant.specs.frame_words.specs.Count.{NumberFits}
+use Rattle.scan_invariant.specs.kernel_rules.specs.MemoryCalls.{is_untyped_now}
+use Rattle.scan_invariant.specs.kernel_rules.specs.Rules.{refusal_of}
 
 none_some : (d : ℕ) → None ≡ Some d → ⊥
 none_some d h = cc
@@ -274,7 +242,7 @@ module _ (setup : Setting) (setting : IsSetting setup) (cores : ℕ → Core) (t
       small : n < 2 ^ 30
       small = by count read.fits.1 (sum_here ∙ ap (λ (k : ℕ). pos k) refs_are)
         where
-          by : (z : ℤ) → Rattle.frame_words.specs.Count.NumberFits z → pos 0 +ℤ z ≡ pos n → n < 2 ^ 30
+          by : (z : ℤ) → NumberFits z → pos 0 +ℤ z ≡ pos n → n < 2 ^ 30
           by (pos k) fit is = let same : k ≡ n = pos_same k n (plain (pos k) ∙ is) in omega (arith, same, fit)
             where
               plain : (z : ℤ) → z ≡ pos 0 +ℤ z
@@ -299,7 +267,7 @@ module _ (setup : Setting) (setting : IsSetting setup) (cores : ℕ → Core) (t
       are_some : (nat_lt 0 (refs s f) ≡ true) × (answer ≡ reply.Referenced (refs s f))
       are_some = (some_refs, ap reply.Referenced exact)
 
-      kind_known : Rattle.kernel_rules.specs.Rules.refusal_of s c (Rattle.kernel_rules.specs.MemoryCalls.is_untyped_now s f) ≡ None
+      kind_known : refusal_of s c (is_untyped_now s f) ≡ None
       kind_known = calls.kind_none setup setting cores t stands c here a
           active m stage_is has (typed_is (s.frame f) v frame_is knows.met.kind)
 
@@ -345,11 +313,11 @@ module _ (setup : Setting) (setting : IsSetting setup) (cores : ℕ → Core) (t
       now_fits = calls.fits setup setting cores t stands c here a active m stage_is has
 
       won_by : (ws : WorkStep) (work : Work) → ws ≡ Goes work
-          → ((h : Holding) → Rattle.core_invariant.specs.Invariant.holds_work work h ≡ holds_release (release_of f word
+          → ((h : Holding) → holds_work work h ≡ holds_release (release_of f word
           (swept_of (sweeping g v b (u ∷ []) o (Compare count stamp_found))) false) h)
           → ((q : Trace) → (state_after setup q).frame f ≡ s.frame f
           → ((y upto flushes : ℕ) → IsQuiet setup t c f y upto flushes → IsQuiet setup q c f y upto flushes)
-          → Rattle.core_invariant.specs.Knows.KnowsWork setup q c (cores c).own.table (next_at a a.found (Undecided work)) work)
+          → KnowsWork setup q c (cores c).own.table (next_at a a.found (Undecided work)) work)
           → GoodTook setup cores t c compare (landed a ws)
       won_by ws work goes holds_it knows_it = subst (λ x. GoodTook setup cores t c compare (landed a x)) (sym goes) (λ lands.
           let e : Step = inner setup setting cores t stands c here a active compare None None in

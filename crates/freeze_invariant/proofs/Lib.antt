@@ -1,3 +1,5 @@
+-- The names that most proofs use.
+pub use Rattle.scan_invariant.proofs.Common
 -- What such a call knows of its rule, and how it is refused.
 pub mod UntypeCalls
 pub mod Refusing

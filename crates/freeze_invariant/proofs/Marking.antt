@@ -1,59 +1,28 @@
 -- The steps by which a call that makes a frame untyped marks its word: the load, which finds another core's mark or a frame that is
 -- untyped, and the compare, which is lost to another core or holds the word for the call.
+use Rattle.scan_invariant.proofs.Common.{◌≡◌, ◌≢◌, inl, inr, ℕ, ◌+◌, ◌^◌, ◌<◌, ◌==◌, ◌&&◌, map, Bool, true, false, List, [], ◌∷◌, Option}
+use Rattle.scan_invariant.proofs.Common.{Some, None, IsTrue, arith, refl, sym, ◌∙◌, ap, subst, eqb-true, eqb-false, eq-eqb, All-nil}
+use Rattle.scan_invariant.proofs.Common.{Setting, IsSetting, left_if, FrameKind, CountFits, FrameFits, word_of_frame, frame_of_word}
+use Rattle.scan_invariant.proofs.Common.{FrameWord, Word, FrameAt, Move, LoadOf, CompareOf, left_of, same_same, Frame, Untyped, User}
+use Rattle.scan_invariant.proofs.Common.{Kernel, State, put, is_frame, is_untyped, put_same, frame_mark, marked_by, frame_value, Step}
+use Rattle.scan_invariant.proofs.Common.{Trace, state_after, last_left, same_word-other, own_read-here, unheld, Acquired, untyping_dues}
+use Rattle.scan_invariant.proofs.Common.{refuse, Untyping, UntypingAt, Draw, Act, Goes, Undecided, ActiveCall, landed, Core, holds_counts}
+use Rattle.scan_invariant.proofs.Common.{settled_by, keeps, due_of, KnowsUndecided, holds, holds_in, held_by, Invariant, KnowsUntyping}
+use Rattle.scan_invariant.proofs.Common.{SaysTyped, as_none, counts_bare, names_on, counts_on, lent_elsewhere}
 use Rattle.std.specs.Prelude.{if◌then◌else◌}
-use Rattle.std.proofs.Common.{◌≡◌, ◌≢◌, inl, inr, ℕ, ◌+◌, ◌^◌, ◌<◌, ◌==◌, ◌&&◌, map, Bool, true, false}
-use Rattle.std.proofs.Common.{List, [], ◌∷◌, Option, Some, None, IsTrue, arith, refl, sym, ◌∙◌, ap, subst}
-use Rattle.std.proofs.lemmas.Bool.{eqb-true, eqb-false, eq-eqb}
-use Rattle.std.proofs.lemmas.List.Elements.{All-nil}
-use Rattle.spk_nums.specs.Setting.{Setting, IsSetting}
-use Rattle.spk_nums.specs.WordSteps.{left_if}
-use Rattle.spk_nums.specs.declared.kinds.FrameKind.{FrameKind}
-use Rattle.spk_nums.specs.declared.kinds.FrameKind.TheVariants as kind
-use Rattle.spk_nums.specs.declared.replies.Reply.TheVariants as reply
-use Rattle.frame_words.specs.Count.{CountFits}
-use Rattle.frame_words.specs.Frame.{FrameFits, word_of_frame, frame_of_word}
-use Rattle.frame_words.specs.declared.frame_word.FrameWord.{FrameWord}
-use Rattle.frame_words.proofs.FrameLemmas as frames
-use Rattle.word_map.specs.Word.{Word, FrameAt}
-use Rattle.word_map.specs.Moves.{Move, LoadOf, CompareOf, left_of}
-use Rattle.word_map.proofs.WordLemmas.{same_same}
-use Rattle.kernel_rules.specs.State.{Frame, Untyped, User, Kernel, State, put}
-use Rattle.kernel_rules.specs.CapabilityCalls.{is_frame}
-use Rattle.kernel_rules.specs.MemoryCalls.{is_untyped}
-use Rattle.kernel_rules.proofs.Within.{put_same}
-use Rattle.kernel_history.specs.Marks.{frame_mark}
-use Rattle.kernel_history.specs.Marking.{marked_by}
-use Rattle.kernel_history.specs.ObjectWords.{frame_value}
-use Rattle.kernel_history.specs.Trace.{Step, Trace, state_after, last_left}
-use Rattle.kernel_history.proofs.Names.{same_word-other}
-use Rattle.kernel_history.proofs.Steps.{own_read-here}
-use Rattle.stage_pins.specs.Counts.{unheld}
-use Rattle.stage_pins.specs.declared.held.Acquired.{Acquired}
-use Rattle.act_states.specs.declared.refusals.Refusal.TheVariants as refusal
-use Rattle.act_states.specs.Acts.{meets_untyped, meets_untyping, sweep_from, sweeps_if}
-use Rattle.act_states.specs.Untypings.{held_by as marked_word, untyping_dues}
-use Rattle.act_states.specs.WorkSteps.{refuse}
-use Rattle.act_states.specs.declared.untypings.Untyping.{Untyping}
-use Rattle.act_states.specs.declared.untypings.UntypingAt.{UntypingAt}
-use Rattle.act_states.specs.declared.untypings.UntypingAt.TheVariants.{Load, Mark, Sweep as sweep_at, Draw}
-use Rattle.act_states.specs.declared.work.Act.TheVariants.{Untype as untype_act}
-use Rattle.act_states.specs.declared.work.Work.TheVariants.{Act}
-use Rattle.act_states.specs.declared.work.WorkStep.TheVariants.{Goes}
-use Rattle.call_stages.specs.declared.stages.Stage.TheVariants.{Undecided}
-use Rattle.call_stages.specs.declared.stages.ActiveCall.{ActiveCall}
-use Rattle.call_stages.specs.Steps.{landed}
-use Rattle.call_stages.specs.View.{Core}
-use Rattle.core_invariant.specs.Holding.{holds_counts, settled_by, keeps}
-use Rattle.core_invariant.specs.Knows.{due_of, KnowsUndecided}
-use Rattle.core_invariant.specs.Invariant.{holds, holds_in, held_by, Invariant}
-use Rattle.core_invariant.specs.Sweeps.{HasMetTyped, KnowsUntyping, SaysTyped}
-use Rattle.core_invariant.proofs.Bare.{as_none, counts_bare}
-use Rattle.kept_facts.proofs.Carries.{names_on, counts_on}
-use Rattle.step_ways.proofs.Counting as counting
-use Rattle.step_ways.proofs.Good.{spares_other}
-use Rattle.kept_facts.proofs.Lent.{lent_elsewhere}
-use Rattle.step_ways.proofs.Loads.{IsOfCall, step_to, next_at, core_in_call, inner, call_is, loads_on}
-use Rattle.step_ways.proofs.Refusals.{GoodTook, ticks_at, refuses_raced, refuses_busy, refuses_frame_kind}
+use Rattle.scan_invariant.specs.spk_nums.specs.declared.kinds.FrameKind.TheVariants as kind
+use Rattle.scan_invariant.specs.spk_nums.specs.declared.replies.Reply.TheVariants as reply
+use Rattle.scan_invariant.specs.frame_words.proofs.FrameLemmas as frames
+use Rattle.scan_invariant.specs.act_states.specs.declared.refusals.Refusal.TheVariants as refusal
+use Rattle.scan_invariant.specs.act_states.specs.Acts.{meets_untyped, meets_untyping, sweep_from, sweeps_if}
+use Rattle.scan_invariant.specs.act_states.specs.Untypings.{held_by as marked_word}
+use Rattle.scan_invariant.specs.act_states.specs.declared.untypings.UntypingAt.TheVariants.{Load, Mark, Sweep as sweep_at}
+use Rattle.scan_invariant.specs.act_states.specs.declared.work.Act.TheVariants.{Untype as untype_act}
+use Rattle.scan_invariant.specs.core_invariant.specs.Sweeps.{HasMetTyped}
+use Rattle.scan_invariant.specs.step_ways.proofs.Counting as counting
+use Rattle.scan_invariant.specs.step_ways.proofs.Good.{spares_other}
+use Rattle.scan_invariant.specs.step_ways.proofs.Loads.{IsOfCall, step_to, next_at, core_in_call, inner, call_is, loads_on}
+use Rattle.scan_invariant.specs.step_ways.proofs.Refusals.{GoodTook, ticks_at, refuses_raced, refuses_busy, refuses_frame_kind}
 use Rattle.freeze_invariant.proofs.UntypeCalls as calls
 use Rattle.freeze_invariant.proofs.UntypeCalls.{untypes_on}
 

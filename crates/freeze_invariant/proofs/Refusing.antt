@@ -1,43 +1,23 @@
 -- The way in which a call is refused at a step by which its core marks a word: it leaves all as it was but counts the call, and has what it
 -- holds still to store.
-use Rattle.std.proofs.Common.{◌≡◌, ◌≢◌, inr, ℕ, ◌+◌, ◌^◌, ◌<◌, ◌≤◌, Bool, true, false, if◌then◌else◌}
-use Rattle.std.proofs.Common.{◌∷◌, Option, Some, None, arith, refl, sym, ◌∙◌, ap, subst}
-use Rattle.spk_nums.specs.Setting.{Setting, IsSetting}
-use Rattle.spk_nums.specs.declared.replies.Reply.{Reply}
-use Rattle.word_map.specs.Word.{Word, CountAt, EntryAt, FlushAt, ClockAt, same_word}
-use Rattle.word_map.specs.Moves.{Move, word_of, left_of}
-use Rattle.kernel_rules.specs.State.{Thing, FrameOf, put}
-use Rattle.kernel_rules.specs.Alone.{alone}
-use Rattle.kernel_rules.specs.CallRelation.{MayReply, begins, ends, flushes, counted, state_by}
-use Rattle.kernel_rules.specs.Laws.{calls_counted}
-use Rattle.kernel_rules.proofs.Within.{put_same}
-use Rattle.kernel_history.specs.Alone.{IsAlone}
-use Rattle.kernel_history.specs.Justified.{IsJustified}
-use Rattle.kernel_history.specs.Marks.{mark_of}
-use Rattle.kernel_history.specs.Marking.{marked_by}
-use Rattle.kernel_history.specs.Stamps.{begins_in, ends_in, flushes_in}
-use Rattle.kernel_history.specs.Trace.{Step, Trace, Open, phase, state_after, state_decided_in, last_left}
-use Rattle.kernel_history.proofs.Inside.{decided-inside}
-use Rattle.kernel_history.proofs.Steps.{last_left-there}
-use Rattle.act_states.specs.declared.work.Tail.{Tail}
-use Rattle.call_stages.specs.declared.stages.Stage.{Stage}
-use Rattle.call_stages.specs.declared.stages.Stage.TheVariants.{Decided}
-use Rattle.call_stages.specs.declared.stages.ActiveCall.{ActiveCall}
-use Rattle.call_stages.specs.View.{Core}
-use Rattle.core_invariant.specs.Holding.{settled_by, settled}
-use Rattle.core_invariant.specs.Knows.{phase_at, KnowsTail, flushing_in}
-use Rattle.core_invariant.specs.Invariant.{holds, held_by, times_of, Invariant}
-use Rattle.core_invariant.proofs.Bare.{AsBefore}
-use Rattle.kept_facts.proofs.Calm.{IsCalm, calm_counted, calm_words, counted_rises, none_stored}
-use Rattle.kept_facts.proofs.Calm.{IsUntimed, plain_begins, plain_exit, none_time, none_flushed}
-use Rattle.step_ways.proofs.Flushing.{open_flushed}
-use Rattle.step_ways.proofs.Good.{IsGood, spares_other}
-use Rattle.kept_facts.proofs.Lent.{given_kept, lent_open, lent_elsewhere}
-use Rattle.step_ways.proofs.Loads.{IsOfCall, Lands, next_at, core_in_call, core_is, call_is, inner, inner_works}
-use Rattle.step_ways.proofs.OwnChanges as owning
-use Rattle.kept_facts.proofs.Sums.{sums_stay}
-use Rattle.step_ways.proofs.Users.{spares_none}
-use Rattle.kept_facts.proofs.WordFrames.{marks_own, hold_marks, hold_words, settled_stays}
+use Rattle.scan_invariant.proofs.Common.{◌≡◌, ◌≢◌, inr, ℕ, ◌+◌, ◌^◌, ◌<◌, ◌≤◌, Bool, true, false, if◌then◌else◌, ◌∷◌, Option, Some, None}
+use Rattle.scan_invariant.proofs.Common.{arith, refl, sym, ◌∙◌, ap, subst, Setting, IsSetting, Reply, Word, CountAt, EntryAt, FlushAt}
+use Rattle.scan_invariant.proofs.Common.{ClockAt, same_word, Move, word_of, left_of, Thing, FrameOf, put, alone, MayReply, begins, ends}
+use Rattle.scan_invariant.proofs.Common.{flushes, counted, state_by, calls_counted, put_same, IsAlone, IsJustified, mark_of, marked_by}
+use Rattle.scan_invariant.proofs.Common.{ends_in, flushes_in, Step, Trace, Open, phase, state_after, state_decided_in, last_left}
+use Rattle.scan_invariant.proofs.Common.{decided-inside, last_left-there, Tail, Stage, Decided, ActiveCall, Core, settled_by, settled}
+use Rattle.scan_invariant.proofs.Common.{phase_at, KnowsTail, flushing_in, holds, held_by, times_of, Invariant, AsBefore, IsCalm}
+use Rattle.scan_invariant.proofs.Common.{calm_counted, calm_words, counted_rises, none_stored, IsUntimed, plain_begins, plain_exit}
+use Rattle.scan_invariant.proofs.Common.{lent_open, lent_elsewhere, sums_stay, marks_own}
+use Rattle.scan_invariant.specs.kernel_history.specs.Stamps.{begins_in}
+use Rattle.scan_invariant.specs.kept_facts.proofs.Calm.{none_time, none_flushed}
+use Rattle.scan_invariant.specs.step_ways.proofs.Flushing.{open_flushed}
+use Rattle.scan_invariant.specs.step_ways.proofs.Good.{IsGood, spares_other}
+use Rattle.scan_invariant.specs.kept_facts.proofs.Lent.{given_kept}
+use Rattle.scan_invariant.specs.step_ways.proofs.Loads.{IsOfCall, Lands, next_at, core_in_call, core_is, call_is, inner, inner_works}
+use Rattle.scan_invariant.specs.step_ways.proofs.OwnChanges as owning
+use Rattle.scan_invariant.specs.step_ways.proofs.Users.{spares_none}
+use Rattle.scan_invariant.specs.kept_facts.proofs.WordFrames.{hold_marks, hold_words, settled_stays}
 
 module _ (setup : Setting) (setting : IsSetting setup) (cores : ℕ → Core) (t : Trace) (stands : Invariant setup cores t) (c : ℕ)
     (here : c < setup.cores)

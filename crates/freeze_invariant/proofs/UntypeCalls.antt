@@ -1,58 +1,29 @@
 -- What a call that makes a frame untyped knows of its rule: what is left of it after its name, and what refuses it.
-use Rattle.std.specs.Prelude.{min, nat_lt, if◌then◌else◌}
-use Rattle.std.proofs.Common.{◌≡◌, ◌≢◌, inl, inr, ℕ, ◌+◌, ◌^◌, ◌<◌, ◌≤◌, ◌==◌, ◌&&◌, ◌||◌, ◌++◌, not, map, Bool, true}
-use Rattle.std.proofs.Common.{false, List, [], ◌∷◌, Option, Some, None, IsTrue, arith, refl, sym, ◌∙◌, ap, subst, lt-ltb}
-use Rattle.std.proofs.lemmas.Bool.{false≢true, eq-eqb}
-use Rattle.spk_nums.specs.Capability.{Capability}
-use Rattle.spk_nums.specs.Setting.{Setting, IsSetting}
-use Rattle.spk_nums.specs.declared.calls.Call.{Call}
-use Rattle.spk_nums.specs.declared.calls.Call.TheVariants.{Retype}
-use Rattle.spk_nums.specs.declared.kinds.FrameKind.{FrameKind}
-use Rattle.spk_nums.specs.declared.kinds.FrameKind.TheVariants as kind
-use Rattle.spk_nums.specs.declared.replies.Reply.{Reply}
-use Rattle.spk_nums.specs.declared.replies.Reply.TheVariants as reply
-use Rattle.frame_words.specs.Frame.{frame_of_word}
-use Rattle.frame_words.specs.declared.frame_word.FrameWord.{FrameWord}
-use Rattle.frame_words.proofs.FrameLemmas as frames
-use Rattle.word_map.specs.Word.{Word, FrameAt, CountAt}
-use Rattle.kernel_rules.specs.State.{Frame, Untyped, User, Kernel, FrameOf, State}
-use Rattle.kernel_rules.specs.Access.{found}
-use Rattle.kernel_rules.specs.References.{refs}
-use Rattle.kernel_rules.specs.Rules.{Cause, Change, Does, RuleMay, outcome, unless, first_of, first_cause}
-use Rattle.kernel_rules.specs.Rules.{refusal_of, waits_of, flushes_of, When, WaitedFor, Unflushed, Refused, Found}
-use Rattle.kernel_rules.specs.CapabilityCalls.{outside, is_frame, has_frame}
-use Rattle.kernel_rules.specs.MemoryCalls.{is_untyped, is_untyped_now, is_empty, not_retyped, retypes}
-use Rattle.kernel_rules.specs.CallRelation.{rule_of, change_of, are_calls_spent}
-use Rattle.kernel_history.specs.Discipline.{changes_frames, counts_references, raises_clock, looks_at_frames}
-use Rattle.kernel_history.specs.Footprint.{frames_near, frame_argument, is_one_of}
-use Rattle.kernel_history.specs.Marking.{marked_by}
-use Rattle.kernel_history.specs.ObjectWords.{frame_value}
-use Rattle.kernel_history.specs.Trace.{Trace, Open, phase, state_after, last_left}
-use Rattle.call_plans.specs.GoesBy.{GoesBy, own_pages}
-use Rattle.call_plans.specs.After.{rule_after, Leads, LeadsIn}
-use Rattle.call_plans.proofs.AfterNames.{outcome_left, left_may}
-use Rattle.stage_pins.specs.declared.held.Acquired.{Acquired}
-use Rattle.stage_sweep.specs.declared.sweep.Swept.{Swept}
-use Rattle.stage_sweep.specs.Release.{thaw_of}
-use Rattle.act_states.specs.Untypings.{UntypingFits, untyping_dues}
-use Rattle.act_states.specs.declared.untypings.Untyping.{Untyping}
-use Rattle.act_states.specs.declared.untypings.UntypingAt.{UntypingAt}
-use Rattle.act_states.specs.declared.work.Act.TheVariants.{Untype as untype_act}
-use Rattle.act_states.specs.declared.work.Work.TheVariants.{Act}
-use Rattle.call_stages.specs.declared.stages.Stage.TheVariants.{Undecided}
-use Rattle.call_stages.specs.declared.stages.ActiveCall.{ActiveCall}
-use Rattle.call_stages.specs.Fits.{StageFits, HasRoom}
-use Rattle.call_stages.specs.View.{Core}
-use Rattle.core_invariant.specs.Frozen.{holds_untyping}
-use Rattle.core_invariant.specs.Holding.{Holding, holds_counts, settled_by}
-use Rattle.core_invariant.specs.Knows.{due_of, KnowsUndecided, KnowsUnmark, phase_at}
-use Rattle.core_invariant.specs.Invariant.{holds_at, holds_in, holds, held_by, Invariant}
-use Rattle.core_invariant.specs.Sweeps.{UntypesBy, SaysTyped, KnowsUntyping, KnowsUntypingAt}
-use Rattle.step_ways.proofs.Loads.{IsOfCall, OnlyLooks, call_is, core_is, is_active}
-use Rattle.step_ways.proofs.Refusals.{not_spent}
-use Rattle.core_invariant.proofs.Sounds.{limits_of}
-use Rattle.count_invariant.proofs.Acquiring.{plan_leads, goes_by}
-use Rattle.count_invariant.proofs.MakingCounts.{argument_near}
+use Rattle.scan_invariant.proofs.Common.{min, ◌≡◌, ◌≢◌, inl, inr, ℕ, ◌+◌, ◌^◌, ◌<◌, ◌≤◌, ◌==◌, ◌&&◌, ◌||◌, ◌++◌, not, map, Bool, true}
+use Rattle.scan_invariant.proofs.Common.{false, List, [], ◌∷◌, Option, Some, None, IsTrue, arith, refl, sym, ◌∙◌, ap, subst, false≢true}
+use Rattle.scan_invariant.proofs.Common.{eq-eqb, Capability, Setting, IsSetting, Call, Retype, FrameKind, Reply, frame_of_word, FrameWord}
+use Rattle.scan_invariant.proofs.Common.{Word, FrameAt, CountAt, Frame, Untyped, User, Kernel, FrameOf, State, found, refs, Cause, Change}
+use Rattle.scan_invariant.proofs.Common.{Does, RuleMay, outcome, unless, first_of, first_cause, waits_of, When, Refused, Found, outside}
+use Rattle.scan_invariant.proofs.Common.{is_frame, has_frame, is_untyped, is_empty, retypes, rule_of, change_of, are_calls_spent}
+use Rattle.scan_invariant.proofs.Common.{changes_frames, counts_references, raises_clock, looks_at_frames, frames_near, frame_argument}
+use Rattle.scan_invariant.proofs.Common.{is_one_of, marked_by, frame_value, Trace, Open, phase, state_after, last_left, GoesBy, own_pages}
+use Rattle.scan_invariant.proofs.Common.{rule_after, Leads, LeadsIn, outcome_left, left_may, Acquired, Swept, thaw_of, UntypingFits}
+use Rattle.scan_invariant.proofs.Common.{untyping_dues, Untyping, UntypingAt, Act, Undecided, ActiveCall, StageFits, HasRoom, Core}
+use Rattle.scan_invariant.proofs.Common.{holds_untyping, Holding, holds_counts, settled_by, due_of, KnowsUndecided, KnowsUnmark, phase_at}
+use Rattle.scan_invariant.proofs.Common.{holds_at, holds_in, holds, held_by, Invariant, UntypesBy, SaysTyped, KnowsUntyping}
+use Rattle.scan_invariant.proofs.Common.{KnowsUntypingAt, limits_of, frame_mark, LoadOf}
+use Rattle.std.specs.Prelude.{nat_lt, if◌then◌else◌}
+use Rattle.std.proofs.Common.{lt-ltb}
+use Rattle.scan_invariant.specs.spk_nums.specs.declared.kinds.FrameKind.TheVariants as kind
+use Rattle.scan_invariant.specs.spk_nums.specs.declared.replies.Reply.TheVariants as reply
+use Rattle.scan_invariant.specs.frame_words.proofs.FrameLemmas as frames
+use Rattle.scan_invariant.specs.kernel_rules.specs.Rules.{refusal_of, flushes_of, WaitedFor, Unflushed}
+use Rattle.scan_invariant.specs.kernel_rules.specs.MemoryCalls.{is_untyped_now, not_retyped}
+use Rattle.scan_invariant.specs.act_states.specs.declared.work.Act.TheVariants.{Untype as untype_act}
+use Rattle.scan_invariant.specs.step_ways.proofs.Loads.{IsOfCall, OnlyLooks, call_is, core_is, is_active}
+use Rattle.scan_invariant.specs.step_ways.proofs.Refusals.{not_spent}
+use Rattle.scan_invariant.specs.count_invariant.proofs.Acquiring.{plan_leads, goes_by}
+use Rattle.scan_invariant.specs.count_invariant.proofs.MakingCounts.{argument_near}
 
 -- The call that makes a frame untyped.
 pub record IsUntype (call : Call) (ks : List Capability) (f : ℕ) : Type 0 where
@@ -248,14 +219,14 @@ module _ (setup : Setting) (setting : IsSetting setup) (cores : ℕ → Core) (t
   leaves_word word v met = record {
     changes = untype_changes a.call a.found f is;
     argument = untype_argument a.call a.found f is;
-    bare = ap Rattle.kernel_history.specs.Marks.frame_mark met.says ∙ met.mark;
+    bare = ap frame_mark met.says ∙ met.mark;
     small =
         let spells = frames.spelling.spells word v met.says in
         subst (λ (n : ℕ). n < 2 ^ 64) spells.1 (frames.spelling.small v spells.0);
   }
 
   -- a load of the frame's word is one of the call, and so is a step on one of its counts
-  pub loading : OnlyLooks setup t c a.call (Rattle.word_map.specs.Moves.LoadOf (FrameAt f))
+  pub loading : OnlyLooks setup t c a.call (LoadOf (FrameAt f))
   loading = record {
     of_call = record { moves = untype_looks a.call a.found f is; near = inl near };
     kept = refl;

@@ -4,23 +4,23 @@
 use Rattle.std.proofs.Common.{◌≡◌, ◌≢◌, inl, inr, ℕ, zero, suc, ◌+◌, ◌*◌, ◌<◌, ◌≤◌, ◌==◌, if◌then◌else◌, Bool}
 use Rattle.std.proofs.Common.{true, false, cond, ◌∷◌, Option, Some, None, arith, refl, sym, ◌∙◌, ap, subst}
 use Rattle.std.proofs.lemmas.Bool.{cases_eq, eq-eqb, false≢true}
-use Rattle.spk_nums.specs.Setting.{Setting}
-use Rattle.word_map.specs.Word.{Word, EntryAt, FrameAt, CountAt, CoreAt, FlushAt, LiveAt, ClockAt, same_word}
-use Rattle.word_map.specs.Moves.{word_of}
-use Rattle.kernel_rules.specs.State.{Core as CoreFields, Thing, PlaceOf, NumberOf, State, put}
-use Rattle.kernel_rules.specs.State.{thread_in, comp_in, first_of_stack, thread_of, comp_of}
-use Rattle.kernel_rules.specs.References.{sum_below}
-use Rattle.kernel_rules.specs.GracePeriods.{entered, returned}
-use Rattle.kernel_rules.specs.CallRelation.{counted}
-use Rattle.kernel_invariant.proofs.Sums.{sum_one}
-use Rattle.kernel_rules.proofs.Within.{put_same, put_other}
-use Rattle.kernel_history.specs.Trace.{Step, Trace, state_after}
-use Rattle.kernel_history.specs.Stamps.{begins_at, ends_at, flushes_at, stamp, clock}
-use Rattle.kernel_history.specs.Stamps.{clock_seen, exit_of, exit_after, flush_of, flush_stored}
-use Rattle.kernel_history.proofs.Steps.{stamp-kept, exit_of-own, exit_of-other, flush_of-own}
-use Rattle.kernel_history.proofs.Steps.{flush_of-other, flush_stored-own, flush_stored-other}
-use Rattle.kernel_history.specs.Graces.{KeepsTime}
-use Rattle.act_states.specs.declared.own.Own.{Own}
+use Rattle.thread_laws.specs.spk_nums.specs.Setting.{Setting}
+use Rattle.thread_laws.specs.word_map.specs.Word.{Word, EntryAt, FrameAt, CountAt, CoreAt, FlushAt, LiveAt, ClockAt, same_word}
+use Rattle.thread_laws.specs.word_map.specs.Moves.{word_of}
+use Rattle.thread_laws.specs.kernel_rules.specs.State.{Core as CoreFields, Thing, PlaceOf, NumberOf, State, put}
+use Rattle.thread_laws.specs.kernel_rules.specs.State.{thread_in, comp_in, first_of_stack, thread_of, comp_of}
+use Rattle.thread_laws.specs.kernel_rules.specs.References.{sum_below}
+use Rattle.thread_laws.specs.kernel_rules.specs.GracePeriods.{entered, returned}
+use Rattle.thread_laws.specs.kernel_rules.specs.CallRelation.{counted}
+use Rattle.thread_laws.specs.kernel_invariant.proofs.Sums.{sum_one}
+use Rattle.thread_laws.specs.kernel_rules.proofs.Within.{put_same, put_other}
+use Rattle.thread_laws.specs.kernel_history.specs.Trace.{Step, Trace, state_after}
+use Rattle.thread_laws.specs.kernel_history.specs.Stamps.{begins_at, ends_at, flushes_at, stamp, clock}
+use Rattle.thread_laws.specs.kernel_history.specs.Stamps.{clock_seen, exit_of, exit_after, flush_of, flush_stored}
+use Rattle.thread_laws.specs.kernel_history.proofs.Steps.{stamp-kept, exit_of-own, exit_of-other, flush_of-own}
+use Rattle.thread_laws.specs.kernel_history.proofs.Steps.{flush_of-other, flush_stored-own, flush_stored-other}
+use Rattle.thread_laws.specs.kernel_history.specs.Graces.{KeepsTime}
+use Rattle.core_invariant.specs.act_states.specs.declared.own.Own.{Own}
 use Rattle.core_invariant.specs.Words.{count_room}
 use Rattle.core_invariant.specs.Knows.{WorksIn}
 use Rattle.core_invariant.specs.Invariant.{times_of, counted_in}

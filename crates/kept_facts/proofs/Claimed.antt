@@ -3,24 +3,24 @@
 use Rattle.std.proofs.Common.{◌≡◌, ◌≢◌, ℕ, ◌+◌, ◌*◌, ◌^◌, ◌∷◌, Bool, true, false, Option}
 use Rattle.std.proofs.Common.{Some, None, IsTrue, arith, refl, sym, ◌∙◌, ap, subst}
 use Rattle.std.proofs.lemmas.Bool.{false≢true}
-use Rattle.spk_nums.specs.Setting.{Setting, IsSetting}
-use Rattle.spk_nums.specs.declared.kinds.Kind.TheVariants as kind
-use Rattle.tcap_words.specs.Thread.{word_of_thread, thread_of_word}
-use Rattle.tcap_words.specs.declared.thread_word.ThreadWord.{ThreadWord}
-use Rattle.tcap_words.specs.declared.thread_word.ThreadWord.TheVariants.{Idle, Running}
-use Rattle.tcap_words.proofs.ThreadLemmas as words
-use Rattle.word_map.specs.Word.{Word, EntryAt}
-use Rattle.kernel_rules.specs.State.{Frame, Kernel, Thread, PlaceOf, State, put, thread_in}
-use Rattle.kernel_rules.specs.Fitting.{fits}
-use Rattle.kernel_rules.proofs.Within.{put_other}
-use Rattle.kernel_history.specs.Legal.{MayFollow}
-use Rattle.kernel_history.specs.Marking.{marked_by}
-use Rattle.kernel_history.specs.ObjectWords.{thread_value}
-use Rattle.kernel_history.specs.Stamps.{is_in}
-use Rattle.kernel_history.specs.Trace.{Step, Trace, phase, state_after, last_left}
-use Rattle.trace_laws.proofs.Stays.{stays_in_other}
+use Rattle.thread_laws.specs.spk_nums.specs.Setting.{Setting, IsSetting}
+use Rattle.thread_laws.specs.spk_nums.specs.declared.kinds.Kind.TheVariants as kind
+use Rattle.thread_laws.specs.tcap_words.specs.Thread.{word_of_thread, thread_of_word}
+use Rattle.thread_laws.specs.tcap_words.specs.declared.thread_word.ThreadWord.{ThreadWord}
+use Rattle.thread_laws.specs.tcap_words.specs.declared.thread_word.ThreadWord.TheVariants.{Idle, Running}
+use Rattle.thread_laws.specs.tcap_words.proofs.ThreadLemmas as words
+use Rattle.thread_laws.specs.word_map.specs.Word.{Word, EntryAt}
+use Rattle.thread_laws.specs.kernel_rules.specs.State.{Frame, Kernel, Thread, PlaceOf, State, put, thread_in}
+use Rattle.thread_laws.specs.kernel_rules.specs.Fitting.{fits}
+use Rattle.thread_laws.specs.kernel_rules.proofs.Within.{put_other}
+use Rattle.thread_laws.specs.kernel_history.specs.Legal.{MayFollow}
+use Rattle.thread_laws.specs.kernel_history.specs.Marking.{marked_by}
+use Rattle.thread_laws.specs.kernel_history.specs.ObjectWords.{thread_value}
+use Rattle.thread_laws.specs.kernel_history.specs.Stamps.{is_in}
+use Rattle.thread_laws.specs.kernel_history.specs.Trace.{Step, Trace, phase, state_after, last_left}
+use Rattle.thread_laws.specs.trace_laws.proofs.Stays.{stays_in_other}
 use Rattle.thread_laws.proofs.Steps.{thread_stays, idle_stays}
-use Rattle.call_stages.specs.View.{Core}
+use Rattle.core_invariant.specs.call_stages.specs.View.{Core}
 use Rattle.core_invariant.specs.Holding.{MarkIs, settled, settled_by}
 use Rattle.core_invariant.specs.Words.{Times, IsFrameWord, WordIs, count_room}
 use Rattle.core_invariant.specs.Invariant.{holds, held_by, times_of, Invariant}

@@ -5,15 +5,16 @@ use Rattle.std.specs.Prelude.{All}
 use Rattle.std.proofs.lemmas.Bool.{cases_eq, eq-eqb, ne_eqb}
 use Rattle.std.proofs.lemmas.List.Elements.{All-head}
 use Rattle.std.proofs.lemmas.Int.{ints}
-use Rattle.spk_nums.specs.Capability.{Capability}
-use Rattle.frame_words.specs.declared.count_word.CountWord.{CountWord}
-use Rattle.word_map.specs.Places.{counter_of}
-use Rattle.kernel_rules.specs.State.{Holds, Quiescing, Grace, Thing, State, with_place, with_grace}
-use Rattle.kernel_rules.specs.References.{named_by, place_names, frame_names, number_names, core_names, sum_below, times, node_refs, refs}
-use Rattle.kernel_rules.specs.CallRelation.{counted}
-use Rattle.kernel_invariant.proofs.Sums as sums
-use Rattle.kernel_invariant.proofs.Refs.{place_refs, grace_refs}
-use Rattle.kernel_history.specs.Counts.{counters, count_in, count_sum}
+use Rattle.thread_laws.specs.spk_nums.specs.Capability.{Capability}
+use Rattle.thread_laws.specs.frame_words.specs.declared.count_word.CountWord.{CountWord}
+use Rattle.thread_laws.specs.word_map.specs.Places.{counter_of}
+use Rattle.thread_laws.specs.kernel_rules.specs.State.{Holds, Quiescing, Grace, Thing, State, with_place, with_grace}
+use Rattle.thread_laws.specs.kernel_rules.specs.References.{named_by, place_names, frame_names, number_names, core_names, sum_below}
+use Rattle.thread_laws.specs.kernel_rules.specs.References.{times, node_refs, refs}
+use Rattle.thread_laws.specs.kernel_rules.specs.CallRelation.{counted}
+use Rattle.thread_laws.specs.kernel_invariant.proofs.Sums as sums
+use Rattle.thread_laws.specs.kernel_invariant.proofs.Refs.{place_refs, grace_refs}
+use Rattle.thread_laws.specs.kernel_history.specs.Counts.{counters, count_in, count_sum}
 use Rattle.core_invariant.specs.CountWords.{stamp_in, newest_of}
 use Rattle.kept_facts.proofs.Calm.{IsCalm, calm_counted}
 

@@ -3,33 +3,33 @@
 use Rattle.std.proofs.Common.{◌≡◌, ◌≢◌, ◌≤◌, ◌<◌, ◌⊎◌, inl, inr, ℕ, suc, [], ◌∷◌, length, Bool, true, false}
 use Rattle.std.proofs.Common.{Option, Some, None, IsTrue, if◌then◌else◌, arith, refl, sym, ◌∙◌, ap, subst}
 use Rattle.std.proofs.lemmas.Bool.{false≢true, ne_eqb}
-use Rattle.spk_nums.specs.Setting.{Setting, IsSetting}
-use Rattle.spk_nums.specs.declared.calls.Call.{Call}
-use Rattle.word_map.specs.Word.{Word, EntryAt}
-use Rattle.word_map.specs.Moves.{word_of, left_of}
-use Rattle.kernel_rules.specs.Relies.{is_node}
-use Rattle.kernel_rules.specs.State.{Frame, Kernel, Untyped, User, Blank, Table, Leaf, Pages, Pleaf}
-use Rattle.kernel_rules.specs.State.{Comp, Thread, Tcap, TcapFields, thread_in, thread_of, put}
-use Rattle.kernel_rules.proofs.Within.{put_same}
-use Rattle.kernel_history.specs.Trace.{Step, Trace, Open, phase, state_after, last_left}
-use Rattle.kernel_history.specs.Stamps.{is_in}
-use Rattle.kernel_history.specs.Marks.{mark_of, mark_in_frame, head_mark}
-use Rattle.kernel_history.specs.Marking.{marked_by}
-use Rattle.kernel_history.specs.Discipline.{KeepsMarked}
-use Rattle.kernel_history.proofs.Names.{cases_word}
-use Rattle.kernel_history.proofs.Inside.{inside_is}
-use Rattle.kernel_history.proofs.Steps.{last_left-here, last_left-there}
-use Rattle.found_stays.proofs.Stays.{OwnStay}
-use Rattle.kernel_history.specs.Legal.{MayFollow}
-use Rattle.found_stays.proofs.Spares.{RunsOn}
-use Rattle.found_stays.proofs.SparesRuns.{runs_of}
-use Rattle.kernel_invariant.proofs.SoundRuns.{limits_stay}
-use Rattle.kernel_history.specs.Events.{events_of}
-use Rattle.kernel_history.proofs.Events.{state_is, run_of}
-use Rattle.trace_laws.proofs.Stays.{own_stays_other}
-use Rattle.tcap_words.specs.Head.{head_of_word}
-use Rattle.call_stages.specs.declared.stages.ActiveCall.{ActiveCall}
-use Rattle.call_stages.specs.View.{Core}
+use Rattle.thread_laws.specs.spk_nums.specs.Setting.{Setting, IsSetting}
+use Rattle.thread_laws.specs.spk_nums.specs.declared.calls.Call.{Call}
+use Rattle.thread_laws.specs.word_map.specs.Word.{Word, EntryAt}
+use Rattle.thread_laws.specs.word_map.specs.Moves.{word_of, left_of}
+use Rattle.thread_laws.specs.kernel_rules.specs.Relies.{is_node}
+use Rattle.thread_laws.specs.kernel_rules.specs.State.{Frame, Kernel, Untyped, User, Blank, Table, Leaf, Pages, Pleaf}
+use Rattle.thread_laws.specs.kernel_rules.specs.State.{Comp, Thread, Tcap, TcapFields, thread_in, thread_of, put}
+use Rattle.thread_laws.specs.kernel_rules.proofs.Within.{put_same}
+use Rattle.thread_laws.specs.kernel_history.specs.Trace.{Step, Trace, Open, phase, state_after, last_left}
+use Rattle.thread_laws.specs.kernel_history.specs.Stamps.{is_in}
+use Rattle.thread_laws.specs.kernel_history.specs.Marks.{mark_of, mark_in_frame, head_mark}
+use Rattle.thread_laws.specs.kernel_history.specs.Marking.{marked_by}
+use Rattle.thread_laws.specs.kernel_history.specs.Discipline.{KeepsMarked}
+use Rattle.thread_laws.specs.kernel_history.proofs.Names.{cases_word}
+use Rattle.thread_laws.specs.kernel_history.proofs.Inside.{inside_is}
+use Rattle.thread_laws.specs.kernel_history.proofs.Steps.{last_left-here, last_left-there}
+use Rattle.thread_laws.specs.found_stays.proofs.Stays.{OwnStay}
+use Rattle.thread_laws.specs.kernel_history.specs.Legal.{MayFollow}
+use Rattle.thread_laws.specs.found_stays.proofs.Spares.{RunsOn}
+use Rattle.thread_laws.specs.found_stays.proofs.SparesRuns.{runs_of}
+use Rattle.thread_laws.specs.kernel_invariant.proofs.SoundRuns.{limits_stay}
+use Rattle.thread_laws.specs.kernel_history.specs.Events.{events_of}
+use Rattle.thread_laws.specs.kernel_history.proofs.Events.{state_is, run_of}
+use Rattle.thread_laws.specs.trace_laws.proofs.Stays.{own_stays_other}
+use Rattle.thread_laws.specs.tcap_words.specs.Head.{head_of_word}
+use Rattle.core_invariant.specs.call_stages.specs.declared.stages.ActiveCall.{ActiveCall}
+use Rattle.core_invariant.specs.call_stages.specs.View.{Core}
 use Rattle.core_invariant.specs.Holding.{Holding, bare_value, MarkIs}
 use Rattle.core_invariant.specs.Knows.{phase_at}
 use Rattle.core_invariant.specs.Shares.{HasTcap}

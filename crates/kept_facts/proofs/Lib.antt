@@ -14,3 +14,5 @@ pub mod Tcaps
 pub mod Lent
 pub mod Pairs
 pub mod SharesOn
+-- The names that proofs above take from here.
+pub mod Common

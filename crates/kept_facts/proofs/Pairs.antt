@@ -2,27 +2,28 @@
 use Rattle.std.proofs.Common.{◌≡◌, ◌≢◌, ◌⊎◌, inl, inr, ℕ, zero, suc, ◌<◌, ◌≤◌, ◌==◌, ◌&&◌, not, Bool, true, false, IsTrue}
 use Rattle.std.proofs.Common.{IsSome, is_some, if◌then◌else◌, List, Option, Some, None, arith, refl, sym, ◌∙◌, ap, subst, ◌∷◌}
 use Rattle.std.proofs.lemmas.Bool.{cases_eq, eq-eqb, ne_eqb, false≢true}
-use Rattle.spk_nums.specs.Setting.{Setting}
-use Rattle.tcap_words.specs.Head.{word_of_head, head_of_word}
-use Rattle.tcap_words.specs.Quality.{quality_of_word}
-use Rattle.tcap_words.specs.declared.head_word.HeadWord.{HeadWord}
-use Rattle.tcap_words.proofs.HeadLemmas as heads
-use Rattle.word_map.specs.Word.{Word, EntryAt, FrameAt, CountAt, CoreAt, FlushAt, LiveAt, ClockAt}
-use Rattle.word_map.specs.Moves.{word_of, left_of}
-use Rattle.kernel_rules.specs.State.{Frame, Kernel, Tcap, TcapFields, State}
-use Rattle.kernel_history.specs.Marks.{mark_in_frame, head_mark}
-use Rattle.kernel_history.specs.Marking.{marked_by}
-use Rattle.kernel_history.specs.Trace.{Step, Trace, state_after, last_left, own_read}
-use Rattle.kernel_history.proofs.Names.{cases_word}
-use Rattle.kernel_history.proofs.Steps.{last_left-here, last_left-there}
-use Rattle.stage_tcap.specs.Heads.{marked}
-use Rattle.stage_tcap.specs.Lists.{read_word}
-use Rattle.stage_tcap.specs.declared.pair.Pair.{Pair}
-use Rattle.stage_tcap.specs.declared.pair.PairAt.{PairAt}
-use Rattle.stage_tcap.specs.declared.pair.PairAt.TheVariants.{LoadA, MarkA, ListA, LoadB, ListB, CompareB}
-use Rattle.stage_tcap.specs.declared.pair.PairAt.TheVariants.{AgainB, StoreList, StoreB, StoreA}
+use Rattle.thread_laws.specs.spk_nums.specs.Setting.{Setting}
+use Rattle.thread_laws.specs.tcap_words.specs.Head.{word_of_head, head_of_word}
+use Rattle.thread_laws.specs.tcap_words.specs.Quality.{quality_of_word}
+use Rattle.thread_laws.specs.tcap_words.specs.declared.head_word.HeadWord.{HeadWord}
+use Rattle.thread_laws.specs.tcap_words.proofs.HeadLemmas as heads
+use Rattle.thread_laws.specs.word_map.specs.Word.{Word, EntryAt, FrameAt, CountAt, CoreAt, FlushAt, LiveAt, ClockAt}
+use Rattle.thread_laws.specs.word_map.specs.Moves.{word_of, left_of}
+use Rattle.thread_laws.specs.kernel_rules.specs.State.{Frame, Kernel, Tcap, TcapFields, State}
+use Rattle.thread_laws.specs.kernel_history.specs.Marks.{mark_in_frame, head_mark}
+use Rattle.thread_laws.specs.kernel_history.specs.Marking.{marked_by}
+use Rattle.thread_laws.specs.kernel_history.specs.Trace.{Step, Trace, state_after, last_left, own_read}
+use Rattle.thread_laws.specs.kernel_history.proofs.Names.{cases_word}
+use Rattle.thread_laws.specs.kernel_history.proofs.Steps.{last_left-here, last_left-there}
+use Rattle.core_invariant.specs.stage_tcap.specs.Heads.{marked}
+use Rattle.core_invariant.specs.stage_tcap.specs.Lists.{read_word}
+use Rattle.core_invariant.specs.stage_tcap.specs.declared.pair.Pair.{Pair}
+use Rattle.core_invariant.specs.stage_tcap.specs.declared.pair.PairAt.{PairAt}
+use Rattle.core_invariant.specs.stage_tcap.specs.declared.pair.PairAt.TheVariants.{LoadA, MarkA, ListA, LoadB, ListB, CompareB}
+use Rattle.core_invariant.specs.stage_tcap.specs.declared.pair.PairAt.TheVariants.{AgainB, StoreList, StoreB, StoreA}
 use Rattle.core_invariant.specs.Shares.{turns_list, list_changed, MayTurn, TurnsHead, SparesTcap, list_word, read_up}
 use Rattle.core_invariant.specs.Shares.{ReadsHead, HasMarkedA, HasSeenB, HasReadB, HasBoth, KnowsPairAt, StoresA}
+use Rattle.thread_laws.specs.tcap_words.specs.Head.{HeadFits}
 
 -- A list is read alike from words that are alike.
 pub read_alike : (w v : ℕ → ℕ) (n : ℕ) → ((j : ℕ) → w j ≡ v j) → read_up w n ≡ read_up v n
@@ -295,7 +296,7 @@ module _ (setup : Setting) (t : Trace) (e : Step) (found_is : e.found ≡ last_l
     (mark_a : marked_by setup t (EntryAt p.a 0) ≡ head_mark (head_of_word (last_left setup t (EntryAt p.a 0))))
     (spares_a : (i : ℕ) → word_of e.move ≡ EntryAt p.a i → SparesTcap setup t e p.a i) where
   pub kept_a : last_left setup t (EntryAt p.a 0) ≡ word_of_head (marked p.core p.head_a)
-      → Rattle.tcap_words.specs.Head.HeadFits (marked p.core p.head_a)
+      → HeadFits (marked p.core p.head_a)
       → (i : ℕ) → EntryAt p.a i ≡ word_of e.move → left_of e.move e.found ≡ e.found
   kept_a raw fits = kept_all setup t e found_is p.a c other (marked p.core p.head_a)
       (ap head_of_word raw ∙ heads.spelling.reads (marked p.core p.head_a) fits) (ap (λ (x : ℕ). Some x) core) mark_a spares_a
@@ -303,7 +304,7 @@ module _ (setup : Setting) (t : Trace) (e : Step) (found_is : e.found ≡ last_l
   module _ (few : p.core < 8)
       (mark_b : marked_by setup t (EntryAt p.b 0) ≡ head_mark (head_of_word (last_left setup t (EntryAt p.b 0))))
       (spares_b : (i : ℕ) → word_of e.move ≡ EntryAt p.b i → SparesTcap setup t e p.b i) where
-    marked_fits : Rattle.tcap_words.specs.Head.HeadFits p.head_a → Rattle.tcap_words.specs.Head.HeadFits (marked p.core p.head_a)
+    marked_fits : HeadFits p.head_a → HeadFits (marked p.core p.head_a)
     marked_fits fits = (fits.0, few, fits.2)
 
     a_other : (n : ℕ) → HasMarkedA setup t p n → HasMarkedA setup (e ∷ t) p n

@@ -1,25 +1,25 @@
 -- What a call knows of two temporal capabilities it knows still after a step of another core.
 use Rattle.std.proofs.Common.{◌≡◌, ◌≢◌, ◌<◌, ℕ, Bool, true, List, ◌∷◌, Some, arith, sym, ◌∙◌, ap, subst}
-use Rattle.spk_nums.specs.Setting.{Setting, IsSetting}
-use Rattle.spk_nums.specs.Capability.{Capability}
-use Rattle.spk_nums.specs.declared.calls.Call.{Call}
-use Rattle.tcap_words.specs.Head.{HeadFits, word_of_head, head_of_word}
-use Rattle.tcap_words.specs.declared.head_word.HeadWord.{HeadWord}
-use Rattle.tcap_words.proofs.HeadLemmas as heads
-use Rattle.word_map.specs.Word.{EntryAt}
-use Rattle.word_map.specs.Moves.{word_of, left_of}
-use Rattle.kernel_rules.specs.State.{Kernel, Tcap, TcapFields}
-use Rattle.kernel_history.specs.Footprint.{IsNearIn}
-use Rattle.kernel_history.specs.Legal.{MayFollow, IsLegal}
-use Rattle.kernel_history.specs.Trace.{Step, Trace, phase, state_after, last_left}
-use Rattle.kernel_history.specs.Stamps.{is_in}
-use Rattle.kernel_history.proofs.Steps.{own_read-other}
-use Rattle.trace_laws.proofs.Carries.{was_stays}
-use Rattle.stage_tcap.specs.Heads.{marked}
-use Rattle.stage_tcap.specs.declared.pair.Pair.{Pair}
-use Rattle.stage_tcap.specs.declared.pair.PairAt.{PairAt}
-use Rattle.stage_tcap.specs.declared.pair.PairAt.TheVariants.{LoadA, MarkA, ListA, LoadB, ListB, CompareB}
-use Rattle.stage_tcap.specs.declared.pair.PairAt.TheVariants.{AgainB, StoreList, StoreB, StoreA}
+use Rattle.thread_laws.specs.spk_nums.specs.Setting.{Setting, IsSetting}
+use Rattle.thread_laws.specs.spk_nums.specs.Capability.{Capability}
+use Rattle.thread_laws.specs.spk_nums.specs.declared.calls.Call.{Call}
+use Rattle.thread_laws.specs.tcap_words.specs.Head.{HeadFits, word_of_head, head_of_word}
+use Rattle.thread_laws.specs.tcap_words.specs.declared.head_word.HeadWord.{HeadWord}
+use Rattle.thread_laws.specs.tcap_words.proofs.HeadLemmas as heads
+use Rattle.thread_laws.specs.word_map.specs.Word.{EntryAt}
+use Rattle.thread_laws.specs.word_map.specs.Moves.{word_of, left_of}
+use Rattle.thread_laws.specs.kernel_rules.specs.State.{Kernel, Tcap, TcapFields}
+use Rattle.thread_laws.specs.kernel_history.specs.Footprint.{IsNearIn}
+use Rattle.thread_laws.specs.kernel_history.specs.Legal.{MayFollow, IsLegal}
+use Rattle.thread_laws.specs.kernel_history.specs.Trace.{Step, Trace, phase, state_after, last_left}
+use Rattle.thread_laws.specs.kernel_history.specs.Stamps.{is_in}
+use Rattle.thread_laws.specs.kernel_history.proofs.Steps.{own_read-other}
+use Rattle.thread_laws.specs.trace_laws.proofs.Carries.{was_stays}
+use Rattle.core_invariant.specs.stage_tcap.specs.Heads.{marked}
+use Rattle.core_invariant.specs.stage_tcap.specs.declared.pair.Pair.{Pair}
+use Rattle.core_invariant.specs.stage_tcap.specs.declared.pair.PairAt.{PairAt}
+use Rattle.core_invariant.specs.stage_tcap.specs.declared.pair.PairAt.TheVariants.{LoadA, MarkA, ListA, LoadB, ListB, CompareB}
+use Rattle.core_invariant.specs.stage_tcap.specs.declared.pair.PairAt.TheVariants.{AgainB, StoreList, StoreB, StoreA}
 use Rattle.core_invariant.specs.Shares.{SparesTcap, HasTcap, KnowsShare, StoresA, StoresB, KnowsStoresAt, KnowsShared}
 use Rattle.kept_facts.proofs.Pairs.{tcap_mark, kept_all, left_same, pair_other, stores_on_a}
 use Rattle.kept_facts.proofs.Tcaps.{TcapOf, tcap_of, tcap_stays}

@@ -1,13 +1,13 @@
 -- The sum of a frame's counts stays where a step leaves what its count words stand for, and its references.
 use Rattle.std.proofs.Common.{◌≡◌, ℕ, pos, ◌∷◌, sym, ◌∙◌, ap}
-use Rattle.spk_nums.specs.Setting.{Setting}
-use Rattle.frame_words.specs.Count.{count_of_word}
-use Rattle.word_map.specs.Word.{CountAt}
-use Rattle.kernel_rules.specs.State.{FrameOf}
-use Rattle.kernel_rules.specs.References.{refs}
-use Rattle.kernel_history.specs.Counts.{counters, count_sum}
-use Rattle.kernel_history.specs.Stamps.{stamp}
-use Rattle.kernel_history.specs.Trace.{Step, Trace, state_after}
+use Rattle.thread_laws.specs.spk_nums.specs.Setting.{Setting}
+use Rattle.thread_laws.specs.frame_words.specs.Count.{count_of_word}
+use Rattle.thread_laws.specs.word_map.specs.Word.{CountAt}
+use Rattle.thread_laws.specs.kernel_rules.specs.State.{FrameOf}
+use Rattle.thread_laws.specs.kernel_rules.specs.References.{refs}
+use Rattle.thread_laws.specs.kernel_history.specs.Counts.{counters, count_sum}
+use Rattle.thread_laws.specs.kernel_history.specs.Stamps.{stamp}
+use Rattle.thread_laws.specs.kernel_history.specs.Trace.{Step, Trace, state_after}
 use Rattle.core_invariant.specs.Holding.{Holding, settled}
 use Rattle.core_invariant.specs.CountWords.{stamp_in, newest_of}
 use Rattle.core_invariant.specs.Invariant.{count_shown, SumIs}

@@ -6,34 +6,34 @@ use Rattle.std.specs.Prelude.{All}
 use Rattle.std.proofs.lemmas.Bool.{false≢true, true≢false}
 use Rattle.std.proofs.lemmas.Int.{ints}
 use Rattle.std.proofs.lemmas.List.Elements.{All-head}
-use Rattle.spk_nums.specs.Setting.{Setting, IsSetting}
-use Rattle.spk_nums.specs.declared.kinds.FrameKind.TheVariants as frame_kind
-use Rattle.spk_nums.specs.declared.kinds.Obj.TheVariants as obj
-use Rattle.frame_words.specs.Count.{CountFits, word_of_count, count_of_word}
-use Rattle.frame_words.specs.Frame.{frame_of_word}
-use Rattle.frame_words.specs.declared.count_word.CountWord.{CountWord}
-use Rattle.frame_words.specs.declared.frame_word.FrameWord.{FrameWord}
-use Rattle.frame_words.proofs.CountLemmas as counts
-use Rattle.word_map.specs.Word.{Word, CountAt, FrameAt}
-use Rattle.kernel_rules.specs.State.{Frame, Untyped, User, Kernel, Object, Blank, Table}
-use Rattle.kernel_rules.specs.State.{Leaf, Pages, Pleaf, Comp, Thread, Tcap, FrameOf, State}
-use Rattle.kernel_rules.specs.Access.{held_in}
-use Rattle.kernel_rules.specs.References.{refs}
-use Rattle.kernel_rules.specs.Relies.{is_node}
-use Rattle.kernel_invariant.proofs.FrameTurns.{is_typed}
-use Rattle.kernel_history.specs.Counts.{counters, count_in, count_sum}
-use Rattle.kernel_history.specs.Legal.{MayFollow}
-use Rattle.kernel_history.specs.ObjectWords.{frame_value, name_of_object}
-use Rattle.kernel_history.specs.Stamps.{stamp}
-use Rattle.kernel_history.specs.Trace.{Step, Trace, state_after}
+use Rattle.thread_laws.specs.spk_nums.specs.Setting.{Setting, IsSetting}
+use Rattle.thread_laws.specs.spk_nums.specs.declared.kinds.FrameKind.TheVariants as frame_kind
+use Rattle.thread_laws.specs.spk_nums.specs.declared.kinds.Obj.TheVariants as obj
+use Rattle.thread_laws.specs.frame_words.specs.Count.{CountFits, word_of_count, count_of_word}
+use Rattle.thread_laws.specs.frame_words.specs.Frame.{frame_of_word}
+use Rattle.thread_laws.specs.frame_words.specs.declared.count_word.CountWord.{CountWord}
+use Rattle.thread_laws.specs.frame_words.specs.declared.frame_word.FrameWord.{FrameWord}
+use Rattle.thread_laws.specs.frame_words.proofs.CountLemmas as counts
+use Rattle.thread_laws.specs.word_map.specs.Word.{Word, CountAt, FrameAt}
+use Rattle.thread_laws.specs.kernel_rules.specs.State.{Frame, Untyped, User, Kernel, Object, Blank, Table}
+use Rattle.thread_laws.specs.kernel_rules.specs.State.{Leaf, Pages, Pleaf, Comp, Thread, Tcap, FrameOf, State}
+use Rattle.thread_laws.specs.kernel_rules.specs.Access.{held_in}
+use Rattle.thread_laws.specs.kernel_rules.specs.References.{refs}
+use Rattle.thread_laws.specs.kernel_rules.specs.Relies.{is_node}
+use Rattle.thread_laws.specs.kernel_invariant.proofs.FrameTurns.{is_typed}
+use Rattle.thread_laws.specs.kernel_history.specs.Counts.{counters, count_in, count_sum}
+use Rattle.thread_laws.specs.kernel_history.specs.Legal.{MayFollow}
+use Rattle.thread_laws.specs.kernel_history.specs.ObjectWords.{frame_value, name_of_object}
+use Rattle.thread_laws.specs.kernel_history.specs.Stamps.{stamp}
+use Rattle.thread_laws.specs.kernel_history.specs.Trace.{Step, Trace, state_after}
 use Rattle.resting_frames.proofs.Rests.{step_rests}
-use Rattle.stage_pins.specs.Counts.{unheld}
-use Rattle.stage_sweep.specs.Counters.{sum_of_counts, latest_stamp}
-use Rattle.stage_sweep.specs.Release.{released}
-use Rattle.stage_sweep.specs.declared.empty.Owned.{Owned}
-use Rattle.stage_sweep.specs.declared.sweep.Swept.{Swept}
-use Rattle.act_states.specs.Untypings.{release_of}
-use Rattle.call_stages.specs.View.{Core}
+use Rattle.core_invariant.specs.stage_pins.specs.Counts.{unheld}
+use Rattle.core_invariant.specs.stage_sweep.specs.Counters.{sum_of_counts, latest_stamp}
+use Rattle.core_invariant.specs.stage_sweep.specs.Release.{released}
+use Rattle.core_invariant.specs.stage_sweep.specs.declared.empty.Owned.{Owned}
+use Rattle.core_invariant.specs.stage_sweep.specs.declared.sweep.Swept.{Swept}
+use Rattle.core_invariant.specs.act_states.specs.Untypings.{release_of}
+use Rattle.core_invariant.specs.call_stages.specs.View.{Core}
 use Rattle.core_invariant.specs.CountWords.{stamp_in, newest_of}
 use Rattle.core_invariant.specs.Frozen.{holds_release}
 use Rattle.core_invariant.specs.Holding.{Holding, settled}

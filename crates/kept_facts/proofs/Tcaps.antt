@@ -2,46 +2,46 @@
 use Rattle.std.proofs.Common.{◌≡◌, ◌≢◌, ◌⊎◌, ◌<◌, arith, inl, inr, ℕ, ◌-◌, [], ◌∷◌, Bool, true}
 use Rattle.std.proofs.Common.{false, Option, Some, None, refl, sym, ◌∙◌, ap, subst, IsTrue}
 use Rattle.std.proofs.lemmas.Bool.{false≢true, eq-eqb}
-use Rattle.spk_nums.specs.Setting.{Setting, IsSetting}
-use Rattle.spk_nums.specs.declared.kinds.Kind.{Kind}
-use Rattle.spk_nums.specs.declared.kinds.Kind.TheVariants as kind
-use Rattle.spk_nums.specs.declared.kinds.FrameKind.{FrameKind}
-use Rattle.spk_nums.specs.declared.kinds.FrameKind.TheVariants as frame_kind
-use Rattle.spk_nums.specs.declared.calls.Make.{Make}
-use Rattle.spk_nums.specs.declared.calls.Make.TheVariants as make
-use Rattle.spk_nums.specs.declared.calls.Call.{Call}
-use Rattle.spk_nums.specs.declared.calls.Call.TheVariants.{Look, Copy, Remove, Grow, Shrink, Retype, Make as make_call}
-use Rattle.spk_nums.specs.declared.calls.Call.TheVariants.{Map, Unmap, Touch, Flush, Gate, Kill, Call as call_gate}
-use Rattle.spk_nums.specs.declared.calls.Call.TheVariants.{Ret, Switch, Tick, Transfer, Delegate, Test}
-use Rattle.spk_nums.specs.declared.translations.Translation.{Translation}
-use Rattle.spk_nums.specs.declared.replies.Reply.{Reply}
-use Rattle.spk_nums.specs.declared.replies.Reply.TheVariants as reply
-use Rattle.kernel_rules.specs.State.{ThreadFields, TcapFields, Object, Blank, Table, Leaf, Pages, Pleaf, Comp, Thread}
-use Rattle.kernel_rules.specs.State.{Tcap, Frame, Untyped, User, Kernel, FrameOf, State, put, comp_of, thread_in}
-use Rattle.kernel_rules.specs.Access.{Named, found}
-use Rattle.kernel_rules.specs.Fitting.{fits}
-use Rattle.kernel_rules.specs.Rules.{Change, Judged, Refused, Found}
-use Rattle.kernel_rules.specs.CapabilityCalls.{make_node, make_rule, not_taken}
-use Rattle.kernel_rules.specs.MemoryCalls.{retype_rule, touch_by, translation_of}
-use Rattle.kernel_rules.specs.InvocationCalls.{with_thread, running, switch_to}
-use Rattle.kernel_rules.specs.TimeCalls.{with_tcap, with_budget, tcap_at, moved}
-use Rattle.kernel_rules.specs.CallRelation.{rule_of, change_of, changed, owed_by, state_by, ends, ends_by, MayReply}
-use Rattle.kernel_invariant.proofs.Sound.{put_all}
-use Rattle.kernel_invariant.proofs.SoundCalls.{IsOpen, blank_by, untyped_by}
-use Rattle.kernel_invariant.proofs.Facts.{ChangesFrom, outcome_from}
-use Rattle.kernel_rules.proofs.Changes.{IfFound}
-use Rattle.kernel_invariant.proofs.Ends.{MayEnd, ends_by_rule}
-use Rattle.kernel_invariant.proofs.SoundRuns.{opened}
-use Rattle.found_stays.proofs.SparesRuns.{core_same_refs}
-use Rattle.kernel_rules.specs.Relies.{IsGuarded}
-use Rattle.kernel_history.specs.Legal.{MayDecide, MayFollow, IsLegal}
-use Rattle.kernel_history.specs.Trace.{Step, Trace, Phase, Out, Open, phase, after_enter, state_after}
-use Rattle.kernel_history.specs.Trace.{state_entered, state_decided, state_returned, state_before}
-use Rattle.kernel_history.specs.Trace as history
-use Rattle.kernel_history.specs.Stamps.{is_in}
-use Rattle.kernel_history.proofs.Events.{entered_events}
-use Rattle.trace_laws.proofs.Opens.{opens, open_inj}
-use Rattle.trace_laws.proofs.Stays.{stays_in_other}
+use Rattle.thread_laws.specs.spk_nums.specs.Setting.{Setting, IsSetting}
+use Rattle.thread_laws.specs.spk_nums.specs.declared.kinds.Kind.{Kind}
+use Rattle.thread_laws.specs.spk_nums.specs.declared.kinds.Kind.TheVariants as kind
+use Rattle.thread_laws.specs.spk_nums.specs.declared.kinds.FrameKind.{FrameKind}
+use Rattle.thread_laws.specs.spk_nums.specs.declared.kinds.FrameKind.TheVariants as frame_kind
+use Rattle.thread_laws.specs.spk_nums.specs.declared.calls.Make.{Make}
+use Rattle.thread_laws.specs.spk_nums.specs.declared.calls.Make.TheVariants as make
+use Rattle.thread_laws.specs.spk_nums.specs.declared.calls.Call.{Call}
+use Rattle.thread_laws.specs.spk_nums.specs.declared.calls.Call.TheVariants.{Look, Copy, Remove, Grow, Shrink, Retype, Make as make_call}
+use Rattle.thread_laws.specs.spk_nums.specs.declared.calls.Call.TheVariants.{Map, Unmap, Touch, Flush, Gate, Kill, Call as call_gate}
+use Rattle.thread_laws.specs.spk_nums.specs.declared.calls.Call.TheVariants.{Ret, Switch, Tick, Transfer, Delegate, Test}
+use Rattle.thread_laws.specs.spk_nums.specs.declared.translations.Translation.{Translation}
+use Rattle.thread_laws.specs.spk_nums.specs.declared.replies.Reply.{Reply}
+use Rattle.thread_laws.specs.spk_nums.specs.declared.replies.Reply.TheVariants as reply
+use Rattle.thread_laws.specs.kernel_rules.specs.State.{ThreadFields, TcapFields, Object, Blank, Table, Leaf, Pages, Pleaf, Comp, Thread}
+use Rattle.thread_laws.specs.kernel_rules.specs.State.{Tcap, Frame, Untyped, User, Kernel, FrameOf, State, put, comp_of, thread_in}
+use Rattle.thread_laws.specs.kernel_rules.specs.Access.{Named, found}
+use Rattle.thread_laws.specs.kernel_rules.specs.Fitting.{fits}
+use Rattle.thread_laws.specs.kernel_rules.specs.Rules.{Change, Judged, Refused, Found}
+use Rattle.thread_laws.specs.kernel_rules.specs.CapabilityCalls.{make_node, make_rule, not_taken}
+use Rattle.thread_laws.specs.kernel_rules.specs.MemoryCalls.{retype_rule, touch_by, translation_of}
+use Rattle.thread_laws.specs.kernel_rules.specs.InvocationCalls.{with_thread, running, switch_to}
+use Rattle.thread_laws.specs.kernel_rules.specs.TimeCalls.{with_tcap, with_budget, tcap_at, moved}
+use Rattle.thread_laws.specs.kernel_rules.specs.CallRelation.{rule_of, change_of, changed, owed_by, state_by, ends, ends_by, MayReply}
+use Rattle.thread_laws.specs.kernel_invariant.proofs.Sound.{put_all}
+use Rattle.thread_laws.specs.kernel_invariant.proofs.SoundCalls.{IsOpen, blank_by, untyped_by}
+use Rattle.thread_laws.specs.kernel_invariant.proofs.Facts.{ChangesFrom, outcome_from}
+use Rattle.thread_laws.specs.kernel_rules.proofs.Changes.{IfFound}
+use Rattle.thread_laws.specs.kernel_invariant.proofs.Ends.{MayEnd, ends_by_rule}
+use Rattle.thread_laws.specs.kernel_invariant.proofs.SoundRuns.{opened}
+use Rattle.thread_laws.specs.found_stays.proofs.SparesRuns.{core_same_refs}
+use Rattle.thread_laws.specs.kernel_rules.specs.Relies.{IsGuarded}
+use Rattle.thread_laws.specs.kernel_history.specs.Legal.{MayDecide, MayFollow, IsLegal}
+use Rattle.thread_laws.specs.kernel_history.specs.Trace.{Step, Trace, Phase, Out, Open, phase, after_enter, state_after}
+use Rattle.thread_laws.specs.kernel_history.specs.Trace.{state_entered, state_decided, state_returned, state_before}
+use Rattle.thread_laws.specs.kernel_history.specs.Trace as history
+use Rattle.thread_laws.specs.kernel_history.specs.Stamps.{is_in}
+use Rattle.thread_laws.specs.kernel_history.proofs.Events.{entered_events}
+use Rattle.thread_laws.specs.trace_laws.proofs.Opens.{opens, open_inj}
+use Rattle.thread_laws.specs.trace_laws.proofs.Stays.{stays_in_other}
 use Rattle.core_invariant.specs.Shares.{HasTcap}
 use Rattle.core_invariant.proofs.Sounds.{limits_of}
 

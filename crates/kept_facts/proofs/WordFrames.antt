@@ -2,21 +2,21 @@
 use Rattle.std.proofs.Common.{◌≡◌, ◌≢◌, ◌≤◌, inl, inr, ℕ, zero, suc, arith, Bool, true, false}
 use Rattle.std.proofs.Common.{if◌then◌else◌, ◌∷◌, Option, Some, None, refl, sym, ◌∙◌, ap, subst}
 use Rattle.std.proofs.lemmas.Bool.{cases_eq}
-use Rattle.spk_nums.specs.Setting.{Setting}
-use Rattle.word_map.specs.Word.{Word, EntryAt, FrameAt, CountAt, CoreAt, FlushAt, LiveAt, ClockAt}
-use Rattle.word_map.specs.Moves.{word_of, left_of}
-use Rattle.kernel_rules.specs.State.{Place, TcapFields, Object, Blank, Table, Leaf, Pages, Pleaf, Comp, Thread}
-use Rattle.kernel_rules.specs.State.{Tcap, Frame, Untyped, User, Kernel, Liveness, PlaceOf, NumberOf, State, put}
-use Rattle.kernel_rules.proofs.Within.{put_same, put_other}
-use Rattle.frame_words.specs.Live.{live_of_word}
-use Rattle.kernel_history.specs.ObjectWords.{frame_value}
-use Rattle.kernel_history.specs.Marks.{mark_of, mark_in_frame}
-use Rattle.kernel_history.specs.Trace.{Step, Trace, state_after, last_left}
-use Rattle.kernel_history.proofs.Steps.{last_left-here, last_left-there}
-use Rattle.kernel_history.proofs.Names.{cases_word}
-use Rattle.call_stages.specs.View.{Core}
-use Rattle.kernel_history.specs.Marking.{marked_by}
-use Rattle.kernel_history.specs.Discipline.{MarksOwn}
+use Rattle.thread_laws.specs.spk_nums.specs.Setting.{Setting}
+use Rattle.thread_laws.specs.word_map.specs.Word.{Word, EntryAt, FrameAt, CountAt, CoreAt, FlushAt, LiveAt, ClockAt}
+use Rattle.thread_laws.specs.word_map.specs.Moves.{word_of, left_of}
+use Rattle.thread_laws.specs.kernel_rules.specs.State.{Place, TcapFields, Object, Blank, Table, Leaf, Pages, Pleaf, Comp, Thread}
+use Rattle.thread_laws.specs.kernel_rules.specs.State.{Tcap, Frame, Untyped, User, Kernel, Liveness, PlaceOf, NumberOf, State, put}
+use Rattle.thread_laws.specs.kernel_rules.proofs.Within.{put_same, put_other}
+use Rattle.thread_laws.specs.frame_words.specs.Live.{live_of_word}
+use Rattle.thread_laws.specs.kernel_history.specs.ObjectWords.{frame_value}
+use Rattle.thread_laws.specs.kernel_history.specs.Marks.{mark_of, mark_in_frame}
+use Rattle.thread_laws.specs.kernel_history.specs.Trace.{Step, Trace, state_after, last_left}
+use Rattle.thread_laws.specs.kernel_history.proofs.Steps.{last_left-here, last_left-there}
+use Rattle.thread_laws.specs.kernel_history.proofs.Names.{cases_word}
+use Rattle.core_invariant.specs.call_stages.specs.View.{Core}
+use Rattle.thread_laws.specs.kernel_history.specs.Marking.{marked_by}
+use Rattle.thread_laws.specs.kernel_history.specs.Discipline.{MarksOwn}
 use Rattle.core_invariant.specs.Holding.{Holding, bare_value, settled_by, settled, MarkIs}
 use Rattle.core_invariant.specs.Words.{Times, IsTcapWord, IsObjectWord, IsFrameWord, NumberIs, count_room, WordIs}
 use Rattle.core_invariant.proofs.Ranges.{within_more}

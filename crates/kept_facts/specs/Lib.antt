@@ -1,0 +1,20 @@
+-- What the crates above name through this one.
+pub use Rattle.thread_laws.specs.spk_nums
+pub use Rattle.thread_laws.specs.entry_words
+pub use Rattle.thread_laws.specs.frame_words
+pub use Rattle.thread_laws.specs.word_map
+pub use Rattle.thread_laws.specs.kernel_rules
+pub use Rattle.thread_laws.specs.kernel_invariant
+pub use Rattle.thread_laws.specs.found_stays
+pub use Rattle.thread_laws.specs.kernel_history
+pub use Rattle.thread_laws.specs.trace_laws
+pub use Rattle.core_invariant.specs.call_plans
+pub use Rattle.core_invariant.specs.stage_look
+pub use Rattle.core_invariant.specs.stage_pins
+pub use Rattle.core_invariant.specs.stage_quiet
+pub use Rattle.core_invariant.specs.stage_thread
+pub use Rattle.core_invariant.specs.stage_sweep
+pub use Rattle.core_invariant.specs.stage_tcap
+pub use Rattle.core_invariant.specs.act_states
+pub use Rattle.core_invariant.specs.call_stages
+pub use Rattle.core_invariant

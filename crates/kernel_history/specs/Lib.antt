@@ -1,3 +1,9 @@
+-- What the crates above name through this one.
+pub use Rattle.entry_words
+pub use Rattle.frame_words
+pub use Rattle.tcap_words
+pub use Rattle.word_map
+-- Its own.
 pub mod ObjectWords
 pub mod BootWords
 pub mod Trace

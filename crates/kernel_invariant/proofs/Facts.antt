@@ -7,8 +7,8 @@ use Rattle.spk_nums.specs.declared.kinds.Kind.{Kind}
 use Rattle.spk_nums.specs.declared.kinds.Kind.TheVariants as kind
 use Rattle.spk_nums.specs.declared.replies.Reply.{Reply}
 use Rattle.spk_nums.specs.declared.replies.Reply.TheVariants as reply
-use Rattle.kernel_rules.specs.State.{Place, Free, Holds, Quiescing, Frame, Untyped, User, Kernel}
-use Rattle.kernel_rules.specs.State.{Table, Leaf, Pages, Pleaf, Comp, Thread, Tcap, PlaceOf, State}
+use Rattle.kernel_rules.specs.State.{Place, Free, Holds, Quiescing, Frame, Kernel}
+use Rattle.kernel_rules.specs.State.{Leaf, Pleaf, PlaceOf, State}
 use Rattle.kernel_rules.specs.Access.{Slot, found, Target, Under, InRoot, place_at, held_in, usable_in}
 use Rattle.kernel_rules.specs.Access.{usable, linked, slot_in, reached, root_slot, only, own}
 use Rattle.kernel_rules.specs.Rules.{Change, Cause, Rule, Name, Vacant, Held, Mapped, Does, Judged}
@@ -26,6 +26,14 @@ ChangesFrom P s c (Vacant target rest) = (at : Slot) → vacant s c target ≡ F
 ChangesFrom P s c (Held target rest) = (at : Slot) (k : Capability) → held s c target ≡ Found (at, k) → ChangesFrom P s c (rest at k)
 ChangesFrom P s c (Mapped table v rest) = (k : Capability) → mapped s c table v ≡ Found k → ChangesFrom P s c (rest k)
 ChangesFrom P s c (Does causes change) = first_cause s c causes ≡ None → P change
+
+pub changes_map : (P Q : Change → Type 0) (s : State) (c : ℕ) (rule : Rule) → ((x : Change) → P x → Q x)
+    → ChangesFrom P s c rule → ChangesFrom Q s c rule
+changes_map P Q s c (Name n wanted rest) f h = λ k e. changes_map P Q s c (rest (found k)) f (h k e)
+changes_map P Q s c (Vacant target rest) f h = λ at e. changes_map P Q s c (rest at) f (h at e)
+changes_map P Q s c (Held target rest) f h = λ at k e. changes_map P Q s c (rest at k) f (h at k e)
+changes_map P Q s c (Mapped table v rest) f h = λ k e. changes_map P Q s c (rest k) f (h k e)
+changes_map P Q s c (Does causes change) f h = λ calm. f change (h calm)
 
 then_found : {A B : Type 0} (x : Judged A) (f : A → Judged B) (P : B → Type 0)
     → ((a : A) → x ≡ Found a → IfFound (f a) P) → IfFound (and_then x f) P
@@ -191,9 +199,8 @@ vacant_facts s c target at e =
     unless_parts (Some r) x q = absurd (refused_found r at q)
 
     nothing : (x : Rattle.kernel_rules.specs.State.Thing) (p : Place) → not_vacant s c x p ≡ None → held_in p ≡ None
-    nothing x Free q = refl
     nothing x (Holds k) q = absurd (some_none reply.Occupied q)
-    nothing x (Quiescing k) q = refl
+    nothing x _ q = refl
 
 -- A held target is reached, and holds the capability.
 pub held_facts : (s : State) (c : ℕ) (target : Target) (at : Slot) (k : Capability)
@@ -210,9 +217,8 @@ held_facts s c target at k e =
     )
   where
     holds : (p : Place) (j : Capability) → held_in p ≡ Some j → p ≡ Holds j
-    holds Free j q = absurd (none_some j q)
     holds (Holds i) j q = ap Holds (some_inj i j q)
-    holds (Quiescing i) j q = absurd (none_some j q)
+    holds _ j q = absurd (none_some j q)
 
 -- No cause stands: neither the first nor a later one.
 pub none_parts : (o p : Option Reply) → first_of o p ≡ None → (o ≡ None) × (p ≡ None)

@@ -11,6 +11,8 @@ pub mod SoundRemovals
 pub mod SoundCalls
 pub mod SoundStart
 pub mod SoundRuns
+-- Changes as lists of edits.
+pub mod Edited
 -- References.
 pub mod Sums
 pub mod Refs

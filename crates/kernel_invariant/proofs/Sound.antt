@@ -77,16 +77,7 @@ kind_at n =
 kind_back : (k : Kind) → kind_at (kind_number k) ≡ k
 unfolding kind_at
 kind_back kind.Range = refl
-kind_back kind.Table = refl
-kind_back kind.Leaf = refl
-kind_back kind.Pages = refl
-kind_back kind.Pleaf = refl
-kind_back kind.Comp = refl
-kind_back kind.Gate = refl
-kind_back kind.Thread = refl
-kind_back kind.Tcap = refl
-kind_back kind.Link = refl
-kind_back kind.Page = refl
+kind_back _ = refl
 
 pub only_is : (j k : Kind) → only j k ≡ true → k ≡ j
 only_is j k h = sym (kind_back k) ∙ ap kind_at (eqb-true (kind_number k) (kind_number j) h) ∙ kind_back j

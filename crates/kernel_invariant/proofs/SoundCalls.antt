@@ -2,7 +2,7 @@
 use Rattle.std.proofs.Common.{◌≡◌, inl, inr, ℕ, zero, suc, ◌+◌, ◌-◌, ◌<◌, ◌≤◌, Bool, true, false, not, ◌&&◌}
 use Rattle.std.proofs.Common.{◌||◌, refl, sym, ◌∙◌, ap, subst, arith, ◌==◌, nat_lt, nat_le, if◌then◌else◌}
 use Rattle.std.proofs.Common.{IsTrue, IsFalse, List, [], ◌∷◌, length, take, drop, Option, Some, None, is_some}
-use Rattle.std.proofs.lemmas.Bool.{cases_eq, false≢true, true≢false, ltb-true, ltb-false, lt-ltb}
+use Rattle.std.proofs.lemmas.Bool.{cases_eq, false≢true, true≢false, ltb-true, ltb-false, lt-ltb, and_parts}
 use Rattle.std.specs.List.{list_any, range_with_len}
 use Rattle.spk_nums.specs.Capability.{Capability}
 use Rattle.spk_nums.specs.declared.kinds.Kind.{Kind}
@@ -44,7 +44,7 @@ use Rattle.kernel_invariant.proofs.SoundSteps.{fill_step, core_step, live_step, 
 use Rattle.kernel_invariant.proofs.SoundRemovals.{frames_no_place, begin_step, remove_step, unnamed}
 use Rattle.kernel_invariant.proofs.SoundRemovals.{untyped, untype_step, none_waits, below_by}
 use Rattle.kernel_invariant.proofs.Facts.{ChangesFrom, named_good, named_fit, RootIsNode, reached_node}
-use Rattle.kernel_invariant.proofs.Facts.{vacant_facts, held_facts, none_parts, when_not, not_not, first_two}
+use Rattle.kernel_invariant.proofs.Facts.{vacant_facts, held_facts, none_parts, when_not, not_not, first_two, some_none}
 
 -- The state after a change, in which the call of core c is no longer open, is sound.
 abbrev pub Keeps : State → (ℕ → Bool) → ℕ → Change → Type 0
@@ -126,18 +126,11 @@ blank_is _ h = absurd (false≢true h)
 
 pub untyped_is : (x : Frame) → is_untyped x ≡ true → x ≡ Untyped
 untyped_is Untyped h = refl
-untyped_is User h = absurd (false≢true h)
-untyped_is (Kernel x) h = absurd (false≢true h)
+untyped_is _ h = absurd (false≢true h)
 
 pub user_is : (x : Frame) → is_user x ≡ true → x ≡ User
 user_is User h = refl
-user_is Untyped h = absurd (false≢true h)
-user_is (Kernel x) h = absurd (false≢true h)
-
-both : (x y : Bool) → (x && y) ≡ true → (x ≡ true) × (y ≡ true)
-both true true e = (refl, refl)
-both true false e = absurd (false≢true e)
-both false y e = absurd (false≢true e)
+user_is _ h = absurd (false≢true h)
 
 -- A frame of a named range is a frame of the machine.
 pub in_range : (s : State) (o : ℕ → Bool) (c r f : ℕ) (range : Capability) → IsOpen s o c → named s c r (only kind.Range) ≡ Found range
@@ -149,7 +142,7 @@ in_range s o c r f range h e none =
     let has : has_frame (found range) f ≡ true =
     not_not (has_frame (found range) f) (when_not (not (has_frame (found range) f)) reply.OutOfRange none) in
     let below : f < range.frame + range.arg =
-    ltb-true f (range.frame + range.arg) (both (nat_le range.frame f) (nat_lt f (range.frame + range.arg)) has).1 in
+    ltb-true f (range.frame + range.arg) (and_parts (nat_le range.frame f) (nat_lt f (range.frame + range.arg)) has).1 in
     omega (arith, ends, below)
 
 -- A frame of the machine is of the kind that a cause of `frame-kind` asks for, where the cause does not stand.
@@ -334,15 +327,11 @@ flush_keeps s o c h =
 -- Each call of invocation.
 pub gate_comp : (x : Frame) → IsTrue (fits kind.Gate x) → IsTrue (fits kind.Comp x)
 gate_comp (Kernel (Comp k)) h = refl
-gate_comp Untyped h = absurd (false≢true h)
-gate_comp User h = absurd (false≢true h)
-gate_comp (Kernel _) h = absurd (false≢true h)
+gate_comp _ h = absurd (false≢true h)
 
 comp_gate : (x : Frame) → IsTrue (fits kind.Comp x) → IsTrue (fits kind.Gate x)
 comp_gate (Kernel (Comp k)) h = refl
-comp_gate Untyped h = absurd (false≢true h)
-comp_gate User h = absurd (false≢true h)
-comp_gate (Kernel _) h = absurd (false≢true h)
+comp_gate _ h = absurd (false≢true h)
 
 pub thread_extends : (x : Frame) (t : ThreadFields) → Extends x (with_thread x t)
 thread_extends (Kernel (Thread u)) t = record { fit = λ k h. thread_kind k h; node = λ h. h }
@@ -351,22 +340,12 @@ thread_extends (Kernel (Thread u)) t = record { fit = λ k h. thread_kind k h; n
     thread_kind kind.Range h = refl
     thread_kind kind.Thread h = refl
     thread_kind _ h = absurd (false≢true h)
-thread_extends Untyped t = record { fit = λ k h. h; node = λ h. h }
-thread_extends User t = record { fit = λ k h. h; node = λ h. h }
-thread_extends (Kernel _) t = record { fit = λ k h. h; node = λ h. h }
+thread_extends _ t = record { fit = λ k h. h; node = λ h. h }
 
 thread_good : (s : State) (x : Frame) (t : ThreadFields) → IsObjectGood s x
     → (IsStack s (thread_in x).stack → IsStack s t.stack) → IsObjectGood s (with_thread x t)
 thread_good s (Kernel (Thread u)) t h stack = stack h
-thread_good s Untyped t h stack = h
-thread_good s User t h stack = h
-thread_good s (Kernel Blank) t h stack = h
-thread_good s (Kernel Table) t h stack = h
-thread_good s (Kernel Leaf) t h stack = h
-thread_good s (Kernel Pages) t h stack = h
-thread_good s (Kernel Pleaf) t h stack = h
-thread_good s (Kernel (Comp k)) t h stack = h
-thread_good s (Kernel (Tcap q)) t h stack = h
+thread_good s _ t h stack = h
 
 -- A thread of the machine is changed.
 thread_step : (s : State) (o : ℕ → Bool) (f : ℕ) (t : ThreadFields) → f < s.limits.frames
@@ -418,10 +397,8 @@ running_fit s f core k g h =
 switch_keeps : (s : State) (o : ℕ → Bool) (c : ℕ) → IsOpen s o c → (j : Capability) (q : ℕ)
     → IsTrue (fits kind.Thread (s.frame j.frame)) → IsTrue (fits kind.Tcap (s.frame q))
     → (e : Option ℕ) → ChangesFrom (Keeps s o c) s c (switch_to s c (found j) q e)
-switch_keeps s o c h j q thread tcap (Some e) = λ calm. absurd (some_none (none_parts (Some (reply.Running e)) None calm).0)
-  where
-    some_none : Some (reply.Running e) ≡ None → ⊥
-    some_none p = cc
+switch_keeps s o c h j q thread tcap (Some e) =
+    λ calm. absurd (some_none (reply.Running e) (none_parts (Some (reply.Running e)) None calm).0)
 switch_keeps s o c h j q thread tcap None = λ calm.
     let f : ℕ = j.frame in
     let old : ℕ = (s.core c).thread in
@@ -446,21 +423,11 @@ tcap_extends (Kernel (Tcap p)) q = record { fit = λ k h. tcap_kind k h; node = 
     tcap_kind kind.Range h = refl
     tcap_kind kind.Tcap h = refl
     tcap_kind _ h = absurd (false≢true h)
-tcap_extends Untyped q = record { fit = λ k h. h; node = λ h. h }
-tcap_extends User q = record { fit = λ k h. h; node = λ h. h }
-tcap_extends (Kernel _) q = record { fit = λ k h. h; node = λ h. h }
+tcap_extends _ q = record { fit = λ k h. h; node = λ h. h }
 
 tcap_good : (s : State) (x : Frame) (q : TcapFields) → IsObjectGood s x → IsObjectGood s (with_tcap x q)
 tcap_good s (Kernel (Tcap p)) q h = tt
-tcap_good s Untyped q h = h
-tcap_good s User q h = h
-tcap_good s (Kernel Blank) q h = h
-tcap_good s (Kernel Table) q h = h
-tcap_good s (Kernel Leaf) q h = h
-tcap_good s (Kernel Pages) q h = h
-tcap_good s (Kernel Pleaf) q h = h
-tcap_good s (Kernel (Comp k)) q h = h
-tcap_good s (Kernel (Thread t)) q h = h
+tcap_good s _ q h = h
 
 tcap_step : (s : State) (o : ℕ → Bool) (f : ℕ) (q : TcapFields) → f < s.limits.frames
     → IsSound s o → IsSound (with_frame s f (with_tcap (s.frame f) q)) o

@@ -1,11 +1,13 @@
 -- Removals, releases and retypes to untyped keep a state sound.
 use Rattle.std.proofs.Common.{◌≡◌, ◌≢◌, inl, inr, ℕ, zero, suc, ◌+◌, ◌<◌, ◌≤◌, Bool, true, false, not, ◌&&◌, refl, sym, ◌∙◌}
 use Rattle.std.proofs.Common.{ap, subst, arith, ◌==◌, cond, if◌then◌else◌, IsTrue, List, [], ◌∷◌, Option, Some, None, find}
-use Rattle.std.proofs.lemmas.Bool.{cases_eq, false≢true, true≢false, eq-eqb, ne_eqb, eqb-true, or_from, or_left, or_right, cases_lt}
+use Rattle.std.proofs.lemmas.Bool.{cases_eq, false≢true, true≢false, eq-eqb, ne_eqb, eqb-true}
+use Rattle.std.proofs.lemmas.Bool.{or_from, or_left, or_right, cases_lt, and_parts}
 use Rattle.std.specs.List.{list_any, range_with_len}
 use Rattle.spk_nums.specs.Capability.{Capability}
 use Rattle.spk_nums.specs.declared.kinds.Kind.{Kind}
 use Rattle.spk_nums.specs.declared.kinds.Kind.TheVariants as kind
+use Rattle.spk_nums.specs.declared.replies.Reply.TheVariants as reply
 use Rattle.kernel_rules.specs.State.{Holds, Quiescing, Comp, Thread, Frame, Untyped, Kernel, Grace, Thing}
 use Rattle.kernel_rules.specs.State.{PlaceOf, FrameOf, State, put, with_place, with_frame, with_grace}
 use Rattle.kernel_rules.specs.Start.{no_grace}
@@ -16,6 +18,7 @@ use Rattle.kernel_rules.proofs.Within.{put_same, put_other}
 use Rattle.kernel_invariant.proofs.Sums.{sum_term, times_cons, times_first}
 use Rattle.kernel_rules.specs.Fitting.{fits, IsGood}
 use Rattle.kernel_rules.specs.Relies.{is_node}
+use Rattle.kernel_invariant.proofs.Facts.{some_none}
 use Rattle.kernel_invariant.proofs.Sound.{WaitsForAll, AreComps, IsStack, IsObjectGood, IsSound, put_all}
 use Rattle.kernel_invariant.proofs.SoundSteps.{place_all, holds_quiescing, quiescing_holds, quiescing_inj, waits_all, grace_step}
 
@@ -81,16 +84,11 @@ remove_step s o g j k at h = record {
     good : (m : Capability) → IsGood s m → IsGood new m
     good m a = record { fit = a.fit; within = a.within }
 
-    both : (x y : Bool) → (x && y) ≡ true → (x ≡ true) × (y ≡ true)
-    both true true e = (refl, refl)
-    both true false e = absurd (false≢true e)
-    both false y e = absurd (false≢true e)
-
     this : (f i c : ℕ) (m : Capability) → s.place f i ≡ Quiescing m → (b : Bool) → (f == g && i == j) ≡ b → b ≡ false
     this f i c m e false is = refl
     this f i c m e true is =
-        let p : (f == g) ≡ true = (both (f == g) (i == j) is).0 in
-        let q : (i == j) ≡ true = (both (f == g) (i == j) is).1 in
+        let p : (f == g) ≡ true = (and_parts (f == g) (i == j) is).0 in
+        let q : (i == j) ≡ true = (and_parts (f == g) (i == j) is).1 in
         absurd (holds_quiescing k m (sym at ∙ ap (λ n. s.place n j) (sym (eqb-true f g p)) ∙ ap (s.place f) (sym (eqb-true i j q)) ∙ e))
 
     elsewhere : (f i c : ℕ) (m : Capability) → s.place f i ≡ Quiescing m
@@ -262,9 +260,6 @@ find_not p a (suc n) e h low high = tested (find_not p (a + 1) n e) (p a) refl h
     tested : (find p (range_with_len (a + 1) n) ≡ None → a + 1 ≤ e → e < (a + 1) + n → p e ≡ false)
         → (t : Bool) → p a ≡ t → cond t (Some a) (find p (range_with_len (a + 1) n)) ≡ None → p e ≡ false
     tested more true is q = absurd (some_none a q)
-      where
-        some_none : (x : ℕ) → Some x ≡ None → ⊥
-        some_none x e = cc
     tested more false is q = elim (cases_eq e a) [
       | inl same ↦ ap p same ∙ is
       | inr other ↦ more q (omega (arith, low, other)) (omega (arith, high))
@@ -279,10 +274,7 @@ none_waiting s c x h d below other = waits_not ((s.grace x).waits d)
   where
     not_found : (w : Option ℕ) → quiescing_by w ≡ None → w ≡ None
     not_found None e = refl
-    not_found (Some e) q = absurd (some_none e q)
-      where
-        some_none : (e : ℕ) → quiescing_by (Some e) ≡ None → ⊥
-        some_none e q = cc
+    not_found (Some e) q = absurd (some_none (reply.Quiescing e) q)
 
     waits_not : (b : Bool) → (b && true) ≡ false → b ≡ false
     waits_not true e = absurd (true≢false e)

@@ -32,11 +32,20 @@ use Rattle.kernel_invariant.proofs.SoundCalls.{Keeps, IsOpen, core_keeps, rule_k
 abbrev pub opened : List Event → ℕ → Bool
 opened events c = is_open (phase_of events c)
 
-phase_own : (e : Event) (events : List Event) (c : ℕ) → c ≡ core_of e → phase_of (e ∷ events) c ≡ phase_by e
+-- The phase of a core after one more event, by whether the event is its own.
+pub phase_own : (e : Event) (events : List Event) (c : ℕ) → c ≡ core_of e → phase_of (e ∷ events) c ≡ phase_by e
 phase_own e events c same = ap (λ b. if b then phase_by e else phase_of events c) (eq-eqb c (core_of e) same)
 
-phase_other : (e : Event) (events : List Event) (c : ℕ) → c ≢ core_of e → phase_of (e ∷ events) c ≡ phase_of events c
+pub phase_other : (e : Event) (events : List Event) (c : ℕ) → c ≢ core_of e → phase_of (e ∷ events) c ≡ phase_of events c
 phase_other e events c other = ap (λ b. if b then phase_by e else phase_of events c) (ne_eqb c (core_of e) other)
+
+-- Which calls are open after a decision.
+pub decided_opened : (events : List Event) (c : ℕ) (call : Call) (r : Reply) (d : ℕ) → opened (Decides c call r ∷ events) d ≡ true
+    → put (opened events) c false d ≡ true
+decided_opened events c call r d q = elim (cases_eq d c) [
+  | inl same ↦ absurd (false≢true (sym (ap is_open (phase_own (Decides c call r) events d same)) ∙ q))
+  | inr other ↦ put_other (opened events) c false d other ∙ sym (ap is_open (phase_other (Decides c call r) events d other)) ∙ q
+]
 
 -- The limits are those of the setting.
 pub limits_stay : (setting : Setting) (events : List Event) → (after setting events).limits ≡ (start setting).limits
@@ -161,8 +170,7 @@ open_within setting (e ∷ events) run c = elim (cases_eq c (core_of e)) [
   where
     by_event : (e : Event) → MayFollow setting events e → OpenWithin (phase_by e)
     by_event (Enters d call) may = may.in_limits
-    by_event (Decides d call r) may = tt
-    by_event (Returns d) may = tt
+    by_event _ may = tt
 
 pub open_limits : (setting : Setting) (events : List Event) (c : ℕ) (call : Call)
     → IsRun setting events → phase_of events c ≡ Open call → InLimits call
@@ -187,10 +195,7 @@ runs_sound setting lim (Returns c ∷ events) run =
     (runs_sound setting lim events run.0)
 runs_sound setting lim (Decides c call r ∷ events) run =
     weaken (after setting (Decides c call r ∷ events)) (put (opened events) c false) (opened (Decides c call r ∷ events))
-    (λ d q. elim (cases_eq d c) [
-      | inl same ↦ absurd (false≢true (sym (ap is_open (phase_own (Decides c call r) events d same)) ∙ q))
-      | inr other ↦ put_other (opened events) c false d other ∙ sym (ap is_open (phase_other (Decides c call r) events d other)) ∙ q
-    ])
+    (decided_opened events c call r)
     (decided_sound (after setting events) (opened events) c call r
     (record { sound = runs_sound setting lim events run.0; is = ap is_open run.1.is_open })
     (open_limits setting events c call run.0 run.1.is_open) run.1.permitted)

@@ -2,7 +2,7 @@
 use Rattle.std.proofs.Common.{◌≡◌, ◌≢◌, ◌⊎◌, inl, inr, ℕ, zero, suc, ◌+◌, ◌<◌, ◌≤◌, Bool, true, false, not}
 use Rattle.std.proofs.Common.{◌&&◌, ◌||◌, refl, sym, ◌∙◌, ap, subst, arith, ◌==◌, nat_lt, nat_le, if◌then◌else◌}
 use Rattle.std.proofs.Common.{IsTrue, IsFalse, IsSomeAnd, is_some, List, [], ◌∷◌, length, Option, Some, None}
-use Rattle.std.proofs.lemmas.Bool.{false≢true, true≢false, eqb-true, eqb-false, ltb-true, ltb-false, leb-true, leb-false}
+use Rattle.std.proofs.lemmas.Bool.{false≢true, true≢false, eqb-true, eqb-false, ltb-true, ltb-false, leb-true, leb-false, and_parts}
 use Rattle.std.specs.List.{list_any, range_with_len}
 use Rattle.spk_nums.specs.Capability.{Capability}
 use Rattle.spk_nums.specs.declared.kinds.Kind.{Kind}
@@ -23,7 +23,7 @@ use Rattle.kernel_rules.specs.State.{Object, Blank, Table, Leaf, Pages, Pleaf, C
 use Rattle.kernel_rules.specs.State.{Liveness, Live, Thing, FrameOf, NumberOf, State, comp_in, comp_of, thread_in, tcap_in, thread_of}
 use Rattle.kernel_rules.specs.References.{refs}
 use Rattle.kernel_rules.specs.Access.{Slot, Named, found, Target, Under, InRoot, held_in}
-use Rattle.kernel_rules.specs.Access.{usable, reached, has_no_slot, any, only, root, own}
+use Rattle.kernel_rules.specs.Access.{usable, reached, only, root, own}
 use Rattle.kernel_rules.specs.GracePeriods.{MayWait, MayBeUnflushed}
 use Rattle.kernel_rules.specs.Rules.{Judged, Refused, Found, and_then, or_refuse, of_kind, named, mapped, NameMay, VacantMay}
 use Rattle.kernel_rules.specs.Rules.{HeldMay, MappedMay, WaitedMay, UnflushedMay, CauseMay, OneMay, RuleMay, IsFoundAnd, name_of}
@@ -70,10 +70,6 @@ no_one (x ∷ xs) (inr h) = no_one xs h
 
 some_and : {A : Type 0} (o : Option A) (x : A) (P : A → Type 0) → o ≡ Some x → P x → IsSomeAnd o P
 some_and o x P e h = subst (λ p. IsSomeAnd p P) (sym e) h
-
-both : (a b : Bool) → IsTrue (a && b) → IsTrue a × IsTrue b
-both true b h = (refl, h)
-both false b h = absurd (false≢true h)
 
 not_is : (b : Bool) → IsTrue (not b) → b ≡ false
 not_is true h = absurd (false≢true h)
@@ -175,7 +171,7 @@ module _ (s : State) (c : ℕ) where
   -- The frame of a range.
   lies : (range : Named) (f : ℕ) → IsTrue (range.found && not (has_frame range f)) → LiesOutside range f
   lies range f h =
-      let p = both range.found (not (has_frame range f)) h in
+      let p = and_parts range.found (not (has_frame range f)) h in
       record {
         found = p.0;
         outside =
@@ -197,7 +193,7 @@ module _ (s : State) (c : ℕ) where
 
   -- The kind of a frame of the machine.
   is_machine : (f : ℕ) (b : Bool) → IsTrue (is_frame s f && b) → (f < s.limits.frames) × IsTrue b
-  is_machine f b h = let p = both (is_frame s f) b h in (ltb-true f s.limits.frames p.0, p.1)
+  is_machine f b h = let p = and_parts (is_frame s f) b h in (ltb-true f s.limits.frames p.0, p.1)
 
   differs : (f : ℕ) (x : Frame) (is : Frame → Bool) → is x ≡ true → IsTrue (is_frame s f && not (is (s.frame f)))
       → (f < s.limits.frames) × (s.frame f ≢ x)
@@ -207,8 +203,7 @@ module _ (s : State) (c : ℕ) where
 
   untyped_is : (x : Frame) → is_untyped x ≡ true → x ≡ Untyped
   untyped_is Untyped h = refl
-  untyped_is User h = absurd (false≢true h)
-  untyped_is (Kernel k) h = absurd (false≢true h)
+  untyped_is _ h = absurd (false≢true h)
 
   -- `make`.
   made_own : (what : Make) (r f t b : ℕ) (q : Reply)
@@ -312,16 +307,13 @@ module _ (s : State) (c : ℕ) where
 
   not_empty : (f : ℕ) (x : Frame) → s.frame f ≡ x → IsTrue (not (is_empty s f x))
       → (1 < length (thread_in x).stack) ⊎ ((0 < (tcap_in x).budget) ⊎ HeldIn s f)
-  not_empty f Untyped is h = absurd (false≢true h)
-  not_empty f User is h = absurd (false≢true h)
-  not_empty f (Kernel Blank) is h = absurd (false≢true h)
-  not_empty f (Kernel (Comp k)) is h = absurd (false≢true h)
   not_empty f (Kernel (Thread t)) is h = inl (leb-false (length t.stack) 1 (not_is (nat_le (length t.stack) 1) h))
   not_empty f (Kernel (Tcap q)) is h = inr (inl (let n = eqb-false q.budget 0 (not_is (q.budget == 0) h) in omega (arith, n)))
   not_empty f (Kernel Table) is h = inr (inr (held_at f h))
   not_empty f (Kernel Leaf) is h = inr (inr (held_at f h))
   not_empty f (Kernel Pages) is h = inr (inr (held_at f h))
   not_empty f (Kernel Pleaf) is h = inr (inr (held_at f h))
+  not_empty f _ is h = absurd (false≢true h)
 
   retype_own : (r f : ℕ) (k : FrameKind) (q : Reply) → OneMay s c (not_retyped s f k) q → HasCause s c (Retype r f k) q
   retype_own r f frame_kind.Untyped q (inl h) =
@@ -376,7 +368,7 @@ module _ (s : State) (c : ℕ) where
   dead_in : (name : Named) (epoch : ℕ) → IsTrue (name.found && not (is_live_in (s.number (comp_in (s.frame name.frame)).number) epoch))
       → IsDeadIn s name epoch
   dead_in name epoch h =
-      let p = both name.found (not (is_live_in (s.number (comp_in (s.frame name.frame)).number) epoch)) h in
+      let p = and_parts name.found (not (is_live_in (s.number (comp_in (s.frame name.frame)).number) epoch)) h in
       record { found = p.0; dead = not_live_in (s.number (comp_in (s.frame name.frame)).number) epoch (not_is _ p.1) }
 
   kill_cause : (k : ℕ) (q : Reply) → RuleMay s c (rule_of s c (Kill k)) q → HasCause s c (Kill k) q
@@ -425,8 +417,8 @@ module _ (s : State) (c : ℕ) where
   two_found : (x y : Named) (b : Bool) (P : ℕ → ℕ → Type 0) → (IsTrue b → P x.frame y.frame) → IsTrue (x.found && (y.found && b))
       → BothAre x y P
   two_found x y b P f h =
-      let p = both x.found (y.found && b) h in
-      let q = both y.found b p.1 in
+      let p = and_parts x.found (y.found && b) h in
+      let q = and_parts y.found b p.1 in
       record { first = p.0; second = q.0; both = f q.1 }
 
   same_cause : (call : Call) (a b : ℕ) (r : Reply)
@@ -440,7 +432,7 @@ module _ (s : State) (c : ℕ) where
       → CauseMay s c (is_short s (name_of (named s c a (only kind.Tcap))) m) r → HasCause s c call r
   short_cause call a m r f h = when_cause s c call _ (reply.Short n) r
       (λ t. f n (subst (λ (x : Named). HasLess s x m n) (leads_is s c (only kind.Tcap) a)
-      (let p = both x.found (nat_lt n m) t in record { found = p.0; is = refl; less = ltb-true n m p.1 }))) h
+      (let p = and_parts x.found (nat_lt n m) t in record { found = p.0; is = refl; less = ltb-true n m p.1 }))) h
     where
       x : Named
       x = name_of (named s c a (only kind.Tcap))

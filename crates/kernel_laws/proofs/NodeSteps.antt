@@ -1,13 +1,13 @@
 -- Each part of a change keeps what nodes hold fitting them.
 use Rattle.std.proofs.Common.{◌≡◌, ◌≢◌, ℕ, ◌<◌, ◌≤◌, Bool, true, false, ◌&&◌, refl, sym, ◌∙◌}
 use Rattle.std.proofs.Common.{ap, subst, arith, ◌==◌, if◌then◌else◌, IsTrue, List, [], ◌∷◌}
-use Rattle.std.proofs.lemmas.Bool.{false≢true, eqb-true, ne_eqb, or_from}
+use Rattle.std.proofs.lemmas.Bool.{false≢true, eqb-true, ne_eqb, or_from, and_parts}
 use Rattle.std.specs.List.{list_any}
 use Rattle.spk_nums.specs.Capability.{Capability}
 use Rattle.spk_nums.specs.declared.kinds.Kind.{Kind}
 use Rattle.spk_nums.specs.declared.kinds.Kind.TheVariants as kind
-use Rattle.kernel_rules.specs.State.{Free, Holds, Quiescing, Blank, Table, Leaf, Pages, Pleaf, Frame, Untyped, User, Kernel}
-use Rattle.kernel_rules.specs.State.{Comp, Thread, Tcap, Thing, PlaceOf, FrameOf, State, put, with_place, with_frame}
+use Rattle.kernel_rules.specs.State.{Free, Holds, Quiescing, Table, Leaf, Pages, Pleaf, Frame, Untyped, Kernel}
+use Rattle.kernel_rules.specs.State.{Comp, Thing, PlaceOf, FrameOf, State, put, with_place, with_frame}
 use Rattle.kernel_rules.specs.Start.{no_grace}
 use Rattle.kernel_rules.specs.References.{named_by, place_names, times}
 use Rattle.kernel_rules.specs.GracePeriods.{same_thing, new_grace, begun}
@@ -46,14 +46,8 @@ leads_any (Kernel Table) (Kernel Leaf) y none h = absurd (false≢true (sym none
 leads_any (Kernel Table) _ y none h = absurd (false≢true h)
 leads_any (Kernel Pages) (Kernel Pleaf) y none h = absurd (false≢true (sym none))
 leads_any (Kernel Pages) _ y none h = absurd (false≢true h)
-leads_any (Kernel Leaf) x y none h = refl
-leads_any (Kernel Pleaf) x y none h = refl
-leads_any (Kernel Blank) x y none h = refl
 leads_any (Kernel (Comp k)) x y none h = refl
-leads_any (Kernel (Thread t)) x y none h = refl
-leads_any (Kernel (Tcap q)) x y none h = refl
-leads_any Untyped x y none h = refl
-leads_any User x y none h = refl
+leads_any _ x y none h = refl
 
 -- From x to y: nodes stay, and none is new.
 pub record IsAlike (x y : Frame) : Type 0 where
@@ -132,14 +126,10 @@ remove_fits s o g j k at h = record {
     new : State
     new = begun s things (with_place s g j (Quiescing k))
 
-    both : (x y : Bool) → (x && y) ≡ true → (x ≡ true) × (y ≡ true)
-    both true y e = (refl, e)
-    both false y e = absurd (false≢true e)
-
     this : (f i : ℕ) (m : Capability) → s.place f i ≡ Quiescing m → (b : Bool) → (f == g && i == j) ≡ b → b ≡ false
     this f i m e false is = refl
     this f i m e true is =
-        let p = both (f == g) (i == j) is in
+        let p = and_parts (f == g) (i == j) is in
         absurd (holds_quiescing k m (sym at ∙ ap (λ n. s.place n j) (sym (eqb-true f g p.0)) ∙ ap (s.place f) (sym (eqb-true i j p.1)) ∙ e))
 
     elsewhere : (f i c : ℕ) (m : Capability) → s.place f i ≡ Quiescing m → IsTrue ((new.grace (PlaceOf f i)).waits c)
@@ -190,12 +180,7 @@ root_links (Kernel Table) k y h none = only_is kind.Link k h
 root_links (Kernel Pages) k y h none = only_is kind.Link k h
 root_links (Kernel Leaf) k y h none = absurd (false≢true (sym none))
 root_links (Kernel Pleaf) k y h none = absurd (false≢true (sym none))
-root_links (Kernel Blank) k y h none = absurd (false≢true h)
-root_links (Kernel (Comp m)) k y h none = absurd (false≢true h)
-root_links (Kernel (Thread t)) k y h none = absurd (false≢true h)
-root_links (Kernel (Tcap q)) k y h none = absurd (false≢true h)
-root_links Untyped k y h none = absurd (false≢true h)
-root_links User k y h none = absurd (false≢true h)
+root_links _ k y h none = absurd (false≢true h)
 
 -- A frame that nothing names, for which no other core waits, and which holds nothing, becomes untyped by the call of core c.
 pub untype_fits : (s : State) (o : ℕ → Bool) (c f : ℕ) → IsUnnamed s f → NoneWaits s c f

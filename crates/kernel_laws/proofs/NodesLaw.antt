@@ -1,7 +1,7 @@
 -- In every state that a run reaches, nodes hold what fits them.
 use Rattle.std.proofs.Common.{◌≡◌, ◌≢◌, inl, inr, ℕ, ◌+◌, ◌-◌, ◌<◌, ◌%◌, Bool, true, false, not, ◌&&◌, refl, sym, ◌∙◌, ap}
 use Rattle.std.proofs.Common.{subst, ◌==◌, nat_lt, nat_le, if◌then◌else◌, IsTrue, List, [], ◌∷◌, take, Option, Some, None}
-use Rattle.std.proofs.lemmas.Bool.{cases_eq, false≢true, eq-eqb, ne_eqb, eqb-true}
+use Rattle.std.proofs.lemmas.Bool.{cases_eq, false≢true, eqb-true}
 use Rattle.std.specs.List.{list_any}
 use Rattle.spk_nums.specs.Setting.{Setting, IsSetting}
 use Rattle.spk_nums.specs.Capability.{Capability}
@@ -34,20 +34,20 @@ use Rattle.kernel_rules.specs.MemoryCalls.{is_untyped_now, is_empty, not_retyped
 use Rattle.kernel_rules.specs.InvocationCalls.{kills, with_thread, pops, running, switches, switch_to}
 use Rattle.kernel_rules.specs.TimeCalls.{with_tcap, with_budget, tcap_at, moved}
 use Rattle.kernel_rules.specs.CallRelation.{rule_of, change_of, changed, counted, owed_by, state_by, MayReply}
-use Rattle.kernel_rules.specs.Runs.{Event, Enters, Decides, Returns, after, core_of, is_in, is_open, phase_by, phase_of, IsRun}
+use Rattle.kernel_rules.specs.Runs.{Event, Enters, Decides, Returns, after, is_in, is_open, IsRun}
 use Rattle.kernel_rules.specs.Relies.{is_node}
 use Rattle.kernel_rules.specs.Fitting.{fits, IsGood}
 use Rattle.kernel_rules.proofs.Changes.{IfFound}
-use Rattle.kernel_rules.proofs.Within.{put_same, put_other}
+use Rattle.kernel_rules.proofs.Within.{put_other}
 use Rattle.kernel_rules.proofs.AloneLaw.{waits_inside}
 use Rattle.kernel_invariant.proofs.Sound.{only_is, put_all}
 use Rattle.kernel_invariant.proofs.SoundRemovals.{frames_no_place, not_chosen, unnamed, none_waits}
-use Rattle.kernel_invariant.proofs.SoundCalls.{IsOpen, blank_by, untyped_by, zero_refs, nothing_held, empty_node}
+use Rattle.kernel_invariant.proofs.SoundCalls.{IsOpen, closed, blank_by, untyped_by, zero_refs, nothing_held, empty_node}
 use Rattle.kernel_invariant.proofs.SoundSteps.{free_holds, holds_inj}
 use Rattle.kernel_invariant.proofs.SoundStart.{choose}
-use Rattle.kernel_invariant.proofs.SoundRuns.{opened, open_is, inside_is}
+use Rattle.kernel_invariant.proofs.SoundRuns.{opened, open_is, inside_is, phase_own, phase_other, decided_opened}
 use Rattle.kernel_invariant.proofs.Facts.{ChangesFrom, outcome_from, named_good, named_fit, vacant_facts, held_facts, none_parts}
-use Rattle.kernel_invariant.proofs.Facts.{when_not, not_not, then_parts, or_found, some_inj, none_some, found_inj, refused_found}
+use Rattle.kernel_invariant.proofs.Facts.{when_not, not_not, then_parts, or_found, some_inj, some_none, none_some, found_inj, refused_found}
 use Rattle.found_stays.proofs.Stays.{link_of, name_parts, fields, table_relies}
 use Rattle.kernel_laws.specs.Nodes.{takes, leads_to, FitsNode, NodesHoldWhatFits}
 use Rattle.kernel_laws.proofs.NodeSteps.{IsFitted, fewer, IsAlike, alike_same, alike_none, alike_then}
@@ -143,17 +143,11 @@ module _ (s : State) (o : ℕ → Bool) (c : ℕ) (h : IsOpen s o c) (w : IsFitt
   abbrev Keeps : Change → Type 0
   Keeps change = IsFitted (begun s change.begins change.next) (put o c false)
 
-  closed : (d : ℕ) → put o c false d ≡ true → o d ≡ true
-  closed d q = elim (cases_eq d c) [
-    | inl same ↦ absurd (false≢true (sym (put_same o c false d same) ∙ q))
-    | inr other ↦ sym (put_other o c false d other) ∙ q
-  ]
-
   -- A change that begins the grace period of no place.
   done : (next : State) (things : List Thing) → ((f i : ℕ) → list_any (same_thing (PlaceOf f i)) things ≡ false) → IsFitted next o
       → IsFitted (begun s things next) (put o c false)
   done next things apart fitted =
-      fewer (begun s things next) o (put o c false) closed
+      fewer (begun s things next) o (put o c false) (closed o c)
       (alike_step next (begun s things next) o (λ f i. refl) (λ f. alike_same (next.frame f))
       (λ f i d q. not_chosen (list_any (same_thing (PlaceOf f i)) things) _ (next.grace (PlaceOf f i)) d (apart f i) q) fitted)
 
@@ -174,7 +168,7 @@ module _ (s : State) (o : ℕ → Bool) (c : ℕ) (h : IsOpen s o c) (w : IsFitt
 
   removed : (target : Target) (at : Slot) (k : Capability) → held s c target ≡ Found (at, k) → Keeps (removes s at k)
   removed target at k e =
-      fewer (begun s (removes s at k).begins (removes s at k).next) o (put o c false) closed
+      fewer (begun s (removes s at k).begins (removes s at k).next) o (put o c false) (closed o c)
       (remove_fits s o at.node at.index k (held_facts s c target at k e).1 w)
 
   -- One frame is put that is alike.
@@ -185,27 +179,11 @@ module _ (s : State) (o : ℕ → Bool) (c : ℕ) (h : IsOpen s o c) (w : IsFitt
 
   thread_alike : (x : Frame) (t : ThreadFields) → IsAlike x (with_thread x t)
   thread_alike (Kernel (Thread u)) t = alike_none (Kernel (Thread u)) (Kernel (Thread t)) refl refl
-  thread_alike Untyped t = alike_same Untyped
-  thread_alike User t = alike_same User
-  thread_alike (Kernel Blank) t = alike_same (Kernel Blank)
-  thread_alike (Kernel Table) t = alike_same (Kernel Table)
-  thread_alike (Kernel Leaf) t = alike_same (Kernel Leaf)
-  thread_alike (Kernel Pages) t = alike_same (Kernel Pages)
-  thread_alike (Kernel Pleaf) t = alike_same (Kernel Pleaf)
-  thread_alike (Kernel (Comp k)) t = alike_same (Kernel (Comp k))
-  thread_alike (Kernel (Tcap q)) t = alike_same (Kernel (Tcap q))
+  thread_alike x t = alike_same x
 
   tcap_alike : (x : Frame) (q : TcapFields) → IsAlike x (with_tcap x q)
   tcap_alike (Kernel (Tcap p)) q = alike_none (Kernel (Tcap p)) (Kernel (Tcap q)) refl refl
-  tcap_alike Untyped q = alike_same Untyped
-  tcap_alike User q = alike_same User
-  tcap_alike (Kernel Blank) q = alike_same (Kernel Blank)
-  tcap_alike (Kernel Table) q = alike_same (Kernel Table)
-  tcap_alike (Kernel Leaf) q = alike_same (Kernel Leaf)
-  tcap_alike (Kernel Pages) q = alike_same (Kernel Pages)
-  tcap_alike (Kernel Pleaf) q = alike_same (Kernel Pleaf)
-  tcap_alike (Kernel (Comp k)) q = alike_same (Kernel (Comp k))
-  tcap_alike (Kernel (Thread t)) q = alike_same (Kernel (Thread t))
+  tcap_alike x q = alike_same x
 
   moved_alike : (a b m f : ℕ) → IsAlike (s.frame f) ((moved s a b m).frame f)
   moved_alike a b m f =
@@ -317,10 +295,7 @@ module _ (s : State) (o : ℕ → Bool) (c : ℕ) (h : IsOpen s o c) (w : IsFitt
           (λ g i. frames_no_place g i ((s.core c).thread ∷ (if q == (s.core c).tcap then [] else (s.core c).tcap ∷ []))) (λ g i. refl)
           (λ f. alike_then (s.frame f) (idle.frame f) _ (put_alike s (s.core c).thread _ (thread_alike (s.frame (s.core c).thread) _) f)
           (put_alike idle j.frame _ (thread_alike (idle.frame j.frame) _) f)) (λ g i d q. q)
-  switch_keeps j q (Some e) = λ calm. absurd (some_none (none_parts (Some (reply.Running e)) None calm).0)
-    where
-      some_none : Some (reply.Running e) ≡ None → ⊥
-      some_none p = cc
+  switch_keeps j q (Some e) = λ calm. absurd (some_none (reply.Running e) (none_parts (Some (reply.Running e)) None calm).0)
 
   -- Every call that is carried out.
   rule_keeps : (call : Call) → ChangesFrom Keeps s c (rule_of s c call)
@@ -406,10 +381,7 @@ counted_fits : (s : State) (o : ℕ → Bool) (c : ℕ) → IsFitted s o → IsF
 counted_fits s o c h = record { held = h.held; waiting = h.waiting }
 
 shut : (s : State) (o : ℕ → Bool) (c : ℕ) → IsFitted s o → IsFitted s (put o c false)
-shut s o c h = fewer s o (put o c false) (λ d q. elim (cases_eq d c) [
-  | inl same ↦ absurd (false≢true (sym (put_same o c false d same) ∙ q))
-  | inr other ↦ sym (put_other o c false d other) ∙ q
-]) h
+shut s o c h = fewer s o (put o c false) (closed o c) h
 
 changed_fits : (s : State) (o : ℕ → Bool) (c : ℕ) (v : Value) (x : Judged Change)
     → IfFound x (λ k. IsFitted (begun s k.begins k.next) (put o c false))
@@ -428,12 +400,6 @@ decided_fits s o c call reply.Raced h may w =
 decided_fits s o c call (reply.Busy e) h may w =
     counted_fits (owed_by s c call) (put o c false) c (shut (owed_by s c call) o c (owed_fits s o c call w))
 decided_fits s o c call _ h may w = counted_fits s (put o c false) c (shut s o c w)
-
-phase_own : (e : Event) (events : List Event) (c : ℕ) → c ≡ core_of e → phase_of (e ∷ events) c ≡ phase_by e
-phase_own e events c same = ap (λ b. if b then phase_by e else phase_of events c) (eq-eqb c (core_of e) same)
-
-phase_other : (e : Event) (events : List Event) (c : ℕ) → c ≢ core_of e → phase_of (e ∷ events) c ≡ phase_of events c
-phase_other e events c other = ap (λ b. if b then phase_by e else phase_of events c) (ne_eqb c (core_of e) other)
 
 -- The start: a link in the table's root, and in its leaf no link and no page.
 abbrev CapTakes : Option Capability → Type 0
@@ -509,10 +475,7 @@ runs_fit setting lim (Enters c call ∷ events) run = enter_fits setting events 
 runs_fit setting lim (Returns c ∷ events) run = return_fits setting events c (runs_fit setting lim events run.0)
 runs_fit setting lim (Decides c call r ∷ events) run =
     fewer (after setting (Decides c call r ∷ events)) (put (opened events) c false) (opened (Decides c call r ∷ events))
-    (λ d q. elim (cases_eq d c) [
-      | inl same ↦ absurd (false≢true (sym (ap is_open (phase_own (Decides c call r) events d same)) ∙ q))
-      | inr other ↦ put_other (opened events) c false d other ∙ sym (ap is_open (phase_other (Decides c call r) events d other)) ∙ q
-    ])
+    (decided_opened events c call r)
     (decided_fits (after setting events) (opened events) c call r
     (open_is setting lim events c run.0 (ap is_open run.1.is_open)) run.1.permitted
     (runs_fit setting lim events run.0))
@@ -523,9 +486,8 @@ module _ (s : State) (o : ℕ → Bool) (c : ℕ) (h : IsOpen s o c) (w : IsFitt
   page_of x k is take = only_is kind.Page k (subst (λ y. IsTrue (takes y k)) is take)
 
   pub held_is : (p : Place) (k : Capability) → held_in p ≡ Some k → p ≡ Holds k
-  held_is Free k e = absurd (none_some k e)
   held_is (Holds j) k e = ap Holds (some_inj j k e)
-  held_is (Quiescing j) k e = absurd (none_some k e)
+  held_is _ k e = absurd (none_some k e)
 
   pub mapped_page : (v : ℕ) (k : Capability) → mapped s c (comp_of s c).pages v ≡ Found k → k.kind ≡ kind.Page
   mapped_page v k e =

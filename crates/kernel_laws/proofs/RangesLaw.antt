@@ -10,11 +10,11 @@ use Rattle.spk_nums.specs.declared.calls.Call.TheVariants.{Tick}
 use Rattle.spk_nums.specs.declared.replies.Value.{Value}
 use Rattle.spk_nums.specs.declared.replies.Reply.{Reply}
 use Rattle.spk_nums.specs.declared.replies.Reply.TheVariants as reply
-use Rattle.kernel_rules.specs.State.{Untyped, Comp, Thread, Tcap, Frame, User, Kernel, Core, Limits, State, put, with_core, tcap_in}
+use Rattle.kernel_rules.specs.State.{Comp, Thread, Tcap, Frame, Kernel, Core, Limits, State, put, with_core, tcap_in}
 use Rattle.kernel_rules.specs.Start.{start, granted}
 use Rattle.kernel_rules.specs.References.{sum_below}
 use Rattle.kernel_rules.specs.Rules.{Change, Judged, Refused, Found, IsFoundAnd}
-use Rattle.kernel_rules.specs.CallRelation.{rule_of, change_of, changed, counted, owed_by, state_by, MayReply}
+use Rattle.kernel_rules.specs.CallRelation.{change_of, changed, counted, owed_by, state_by, MayReply}
 use Rattle.kernel_rules.specs.Ranges.{FrameInRange, NumberInRange, budget_at}
 use Rattle.kernel_rules.specs.Runs.{Event, Enters, Decides, Returns, after, is_open, IsRun}
 use Rattle.kernel_rules.specs.Laws.{ticks}
@@ -22,13 +22,13 @@ use Rattle.kernel_rules.proofs.Changes.{IfFound}
 use Rattle.kernel_rules.proofs.Within.{put_same, put_other}
 use Rattle.kernel_rules.proofs.AloneLaw.{decided_stays}
 use Rattle.kernel_invariant.proofs.Sound.{IsSound, put_all}
-use Rattle.kernel_invariant.proofs.Facts.{outcome_from}
 use Rattle.kernel_invariant.proofs.SoundCalls.{IsOpen}
 use Rattle.kernel_invariant.proofs.SoundStart.{choose}
 use Rattle.kernel_invariant.proofs.SoundRuns.{opened, open_is, open_limits, runs_sound}
 use Rattle.kernel_laws.specs.Laws.{RangesHold}
 use Rattle.kernel_laws.proofs.TicksLaw.{ticks_kept}
-use Rattle.kernel_laws.proofs.Shapes.{ListInRange, FrameShape, CoreShape, Shaped, Grows, ShapedBy, rule_shape}
+use Rattle.kernel_laws.proofs.Shapes.{ListInRange, FrameShape, CoreShape, Shaped, Grows, ShapedBy, shaped_by}
+use Rattle.kernel_invariant.proofs.Edited.{found_by}
 
 -- the shape
 
@@ -100,7 +100,7 @@ owed_shape s c _ lim more h = refused_shape s c (s.core c) more (stays s c h) h
 decided_shape : (s : State) (o : ℕ → Bool) (c : ℕ) (call : Call) (r : Reply) → IsOpen s o c → InLimits call → MayReply s c call r
     → Shaped s → Shaped (state_by s c call r)
 decided_shape s o c call (reply.Ok v) turn lim may h = found_shape s c v (change_of s c call) may.0 h
-    (outcome_from (ShapedBy s c) s c (rule_of s c call) (rule_shape s o c turn h call lim))
+    (found_by s c call (ShapedBy s c) (shaped_by s o c turn h call lim))
     may.1 (decided_stays s c call (reply.Ok v)).limits
 decided_shape s o c call reply.CallsSpent turn lim may h = h
 decided_shape s o c call reply.Raced turn lim may h = owed_shape s c call lim may.0 h
@@ -230,9 +230,7 @@ in_frame : (epochs : ℕ) (x : Frame) → FrameShape epochs x → (tcap_in x).bu
 in_frame epochs (Kernel (Tcap q)) h small = record { least = h.least; most = h.most; pairs = h.pairs; budget = small }
 in_frame epochs (Kernel (Comp k)) h small = h
 in_frame epochs (Kernel (Thread t)) h small = h
-in_frame epochs Untyped h small = tt
-in_frame epochs User h small = tt
-in_frame epochs (Kernel _) h small = tt
+in_frame epochs _ h small = tt
 
 pub ranges_hold : RangesHold
 ranges_hold setting lim events run = record {

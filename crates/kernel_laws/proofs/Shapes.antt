@@ -1,36 +1,30 @@
 -- Every decision keeps the lengths, lists, epochs and counts of a state in range.
-use Rattle.std.proofs.Common.{◌≡◌, ◌≢◌, ℕ, ◌+◌, ◌-◌, ◌*◌, ◌<◌, ◌≤◌, Bool, true, false, not, refl, sym, ◌∙◌, ap, subst, arith, ◌==◌}
-use Rattle.std.proofs.Common.{nat_lt, nat_le, if◌then◌else◌, IsTrue, List, [], ◌∷◌, ◌++◌, length, length-append, drop, Option, Some, None}
-use Rattle.std.proofs.lemmas.Bool.{false≢true, eqb-true, eqb-false, ltb-true, ltb-false, leb-false}
+use Rattle.std.proofs.Common.{◌≡◌, ◌≢◌, ℕ, ◌+◌, ◌-◌, ◌*◌, ◌<◌, ◌≤◌, Bool, true, false, refl, sym, ◌∙◌, ap, subst, arith}
+use Rattle.std.proofs.Common.{nat_lt, if◌then◌else◌, IsTrue, List, [], ◌∷◌, ◌++◌, length, length-append, drop, Option, Some, None}
+use Rattle.std.proofs.lemmas.Bool.{false≢true, eqb-true, ltb-true}
 use Rattle.spk_nums.specs.CallLimits.{InLimits}
 use Rattle.spk_nums.specs.Qualities.{IsQualityList}
 use Rattle.spk_nums.specs.declared.kinds.Kind.TheVariants as kind
-use Rattle.spk_nums.specs.declared.kinds.FrameKind.{FrameKind}
-use Rattle.spk_nums.specs.declared.kinds.FrameKind.TheVariants as frame_kind
-use Rattle.spk_nums.specs.declared.calls.Make.{Make}
-use Rattle.spk_nums.specs.declared.calls.Make.TheVariants as make
 use Rattle.spk_nums.specs.declared.calls.Call.{Call}
-use Rattle.spk_nums.specs.declared.calls.Call.TheVariants.{Look, Copy, Remove, Grow, Shrink, Retype, Make as make_call}
-use Rattle.spk_nums.specs.declared.calls.Call.TheVariants.{Map, Unmap, Touch, Flush, Gate, Kill, Call as call_gate}
-use Rattle.spk_nums.specs.declared.calls.Call.TheVariants.{Ret, Switch, Tick, Transfer, Delegate, Test}
+use Rattle.spk_nums.specs.declared.calls.Call.TheVariants.{Tick}
 use Rattle.spk_nums.specs.declared.translations.Translation.{Translation}
-use Rattle.spk_nums.specs.declared.replies.Reply.TheVariants as reply
-use Rattle.kernel_rules.specs.State.{CompFields, ThreadFields, TcapFields, Blank, Table, Leaf, Pages, Pleaf, Comp}
-use Rattle.kernel_rules.specs.State.{Thread, Tcap, Frame, Untyped, User, Kernel, Liveness, Unused, Live, Dead}
-use Rattle.kernel_rules.specs.State.{Core, State, put, comp_of, comp_in, thread_in, tcap_in, thread_of, NumberOf}
-use Rattle.kernel_rules.specs.Access.{Named, found}
-use Rattle.kernel_rules.specs.Rules.{Change, Cause, When, WaitedFor, refusal_of, waits_of, first_cause}
-use Rattle.kernel_rules.specs.CapabilityCalls.{outside, not_blank, make_rule, is_live, epoch_of, not_taken}
-use Rattle.kernel_rules.specs.MemoryCalls.{retype_rule, touch_by, translation_of, caching}
-use Rattle.kernel_rules.specs.InvocationCalls.{is_live_in, not_live, with_thread, with_stack, running, switch_to}
-use Rattle.kernel_rules.specs.TimeCalls.{tcap_at, with_tcap, with_budget, moved, merged_list, are_same, is_short, are_many}
-use Rattle.kernel_rules.specs.CallRelation.{rule_of}
+use Rattle.kernel_rules.specs.State.{ThreadFields, TcapFields, Comp}
+use Rattle.kernel_rules.specs.State.{Thread, Tcap, Frame, Untyped, Kernel, Liveness, Unused, Live, Dead}
+use Rattle.kernel_rules.specs.State.{Core, State, put, thread_in, tcap_in, thread_of}
+use Rattle.kernel_rules.specs.Rules.{Change}
+use Rattle.kernel_rules.specs.CapabilityCalls.{epoch_of}
+use Rattle.kernel_rules.specs.MemoryCalls.{caching}
+use Rattle.kernel_rules.specs.InvocationCalls.{is_live_in, with_thread, with_stack, running}
+use Rattle.kernel_rules.specs.TimeCalls.{tcap_at, with_tcap, with_budget, charge}
 use Rattle.kernel_rules.specs.Ranges.{EpochInRange, CompInRange, ThreadInRange, NumberInRange}
 use Rattle.kernel_rules.specs.Fitting.{fits}
-use Rattle.kernel_invariant.proofs.SoundCalls.{IsOpen}
+use Rattle.kernel_rules.specs.Relies.{is_node}
 use Rattle.kernel_rules.proofs.Within.{put_same, put_other}
+use Rattle.kernel_invariant.specs.Edits.{Edit, Fill, Node, Become, Untype, Component, Deaden, Push, Pop, Switch, Cache, Flush}
+use Rattle.kernel_invariant.specs.Edits.{Charge, Move, Merge, edited, after_edits, charged_by, charged_in, charged_all}
 use Rattle.kernel_invariant.proofs.Sound.{put_all}
-use Rattle.kernel_invariant.proofs.Facts.{ChangesFrom, named_fit, none_parts, when_not, not_not}
+use Rattle.kernel_invariant.proofs.SoundCalls.{IsOpen}
+use Rattle.kernel_invariant.proofs.Edited.{Tested, Limited, Known, Each, Edits}
 use Rattle.kernel_laws.proofs.Lists.{merged_list_is, merged_some}
 
 -- A list of qualities has 1 to 8 pairs, in order and in range.
@@ -71,143 +65,153 @@ pub record ShapedBy (s : State) (c : ℕ) (change : Change) : Type 0 where
   pub own : Grows (s.core c) (change.next.core c)
   pub others : (d : ℕ) → d ≢ c → change.next.core d ≡ s.core d
 
-stays : (calls : ℕ) (k : Core) → CoreShape calls k → Grows k k
-stays calls k h = record { counted = refl; owed = omega arith; cached = h.cached }
+-- Frames and numbers are in range.
+record Fits (epochs : ℕ) (frame : ℕ → Frame) (number : ℕ → Liveness) : Type 0 where
+  frames : (f : ℕ) → FrameShape epochs (frame f)
+  numbers : (l : ℕ) → NumberInRange epochs (number l)
 
--- Frames, numbers and cores that stay.
-same : (s : State) (c : ℕ) (change : Change) → Shaped s → change.next.frame ≡ s.frame → change.next.number ≡ s.number
-    → change.next.core ≡ s.core → ShapedBy s c change
-same s c change h frame number core = record {
-  frames = λ f. subst (λ (g : ℕ → Frame). FrameShape s.limits.epochs (g f)) (sym frame) (h.frames f);
-  numbers = λ l. subst (λ (g : ℕ → Liveness). NumberInRange s.limits.epochs (g l)) (sym number) (h.numbers l);
-  own = subst (λ (g : ℕ → Core). Grows (s.core c) (g c)) (sym core) (stays s.limits.calls (s.core c) (h.cores c));
-  others = λ d other. ap (λ (g : ℕ → Core). g d) core;
-}
+-- Core c has counted as many calls, and owes at most n ticks more.
+record CoresBy (s : State) (c n : ℕ) (core : ℕ → Core) : Type 0 where
+  counted : (core c).counted ≡ (s.core c).counted
+  owed : (core c).owed ≤ (s.core c).owed + n
+  cached : length (s.core c).cached ≤ 64 → length (core c).cached ≤ 64
+  others : (d : ℕ) → d ≢ c → core d ≡ s.core d
 
 -- One frame is put.
-frame_put : (s : State) (e f : ℕ) (y : Frame) → ((g : ℕ) → FrameShape e (s.frame g)) → FrameShape e y → (g : ℕ)
-    → FrameShape e (put s.frame f y g)
-frame_put s e f y h new g = put_all (λ g x. FrameShape e x) s.frame f y g (λ same. new) (λ other. h g)
-
--- A frame is put, and numbers and cores stay.
-framed : (s : State) (c : ℕ) (change : Change) → Shaped s → ((f : ℕ) → FrameShape s.limits.epochs (change.next.frame f))
-    → change.next.number ≡ s.number → change.next.core ≡ s.core → ShapedBy s c change
-framed s c change h frames number core = record {
-  frames = frames;
-  numbers = λ l. subst (λ (g : ℕ → Liveness). NumberInRange s.limits.epochs (g l)) (sym number) (h.numbers l);
-  own = subst (λ (g : ℕ → Core). Grows (s.core c) (g c)) (sym core) (stays s.limits.calls (s.core c) (h.cores c));
-  others = λ d other. ap (λ (g : ℕ → Core). g d) core;
-}
-
--- Core c alone changes.
-cored : (s : State) (c : ℕ) (change : Change) (k : Core) → Shaped s → ((f : ℕ) → FrameShape s.limits.epochs (change.next.frame f))
-    → change.next.number ≡ s.number
-    → change.next.core ≡ put s.core c k → Grows (s.core c) k → ShapedBy s c change
-cored s c change k h frames number core grows = record {
-  frames = frames;
-  numbers = λ l. subst (λ (g : ℕ → Liveness). NumberInRange s.limits.epochs (g l)) (sym number) (h.numbers l);
-  own = subst (Grows (s.core c)) (sym (ap (λ (g : ℕ → Core). g c) core ∙ put_same s.core c k c refl)) grows;
-  others = λ d other. ap (λ (g : ℕ → Core). g d) core ∙ put_other s.core c k d other;
-}
+frame_put : (e : ℕ) (frame : ℕ → Frame) (f : ℕ) (y : Frame) → ((g : ℕ) → FrameShape e (frame g)) → FrameShape e y → (g : ℕ)
+    → FrameShape e (put frame f y g)
+frame_put e frame f y h new g = put_all (λ g x. FrameShape e x) frame f y g (λ same. new) (λ other. h g)
 
 -- Frames by what they have.
 thread_shape : (e : ℕ) (x : Frame) (t : ThreadFields) → FrameShape e x → (ThreadInRange (thread_in x) → ThreadInRange t)
     → FrameShape e (with_thread x t)
 thread_shape e (Kernel (Thread u)) t h new = new h
-thread_shape e Untyped t h new = h
-thread_shape e User t h new = h
-thread_shape e (Kernel Blank) t h new = h
-thread_shape e (Kernel Table) t h new = h
-thread_shape e (Kernel Leaf) t h new = h
-thread_shape e (Kernel Pages) t h new = h
-thread_shape e (Kernel Pleaf) t h new = h
-thread_shape e (Kernel (Comp k)) t h new = h
-thread_shape e (Kernel (Tcap q)) t h new = h
+thread_shape e _ t h new = h
 
 tcap_shape : (e : ℕ) (x : Frame) (q : TcapFields) → FrameShape e x → (ListInRange (tcap_in x).qualities → ListInRange q.qualities)
     → FrameShape e (with_tcap x q)
 tcap_shape e (Kernel (Tcap p)) q h new = new h
-tcap_shape e Untyped q h new = h
-tcap_shape e User q h new = h
-tcap_shape e (Kernel Blank) q h new = h
-tcap_shape e (Kernel Table) q h new = h
-tcap_shape e (Kernel Leaf) q h new = h
-tcap_shape e (Kernel Pages) q h new = h
-tcap_shape e (Kernel Pleaf) q h new = h
-tcap_shape e (Kernel (Comp k)) q h new = h
-tcap_shape e (Kernel (Thread t)) q h new = h
+tcap_shape e _ q h new = h
 
-budget_shape : (s : State) (e f n : ℕ) → ((g : ℕ) → FrameShape e (s.frame g)) → (g : ℕ) → FrameShape e ((with_budget s f n).frame g)
-budget_shape s e f n h = frame_put s e f _ h (tcap_shape e (s.frame f) (record (tcap_at s f) { budget = n }) (h f) (λ l. l))
+node_shape : (e : ℕ) (x : Frame) → IsTrue (is_node x) → FrameShape e x
+node_shape e (Kernel (Comp k)) h = absurd (false≢true h)
+node_shape e (Kernel (Thread t)) h = absurd (false≢true h)
+node_shape e (Kernel (Tcap q)) h = absurd (false≢true h)
+node_shape e _ h = tt
 
-moved_shape : (s : State) (e a b m : ℕ) → ((g : ℕ) → FrameShape e (s.frame g)) → (g : ℕ) → FrameShape e ((moved s a b m).frame g)
-moved_shape s e a b m h =
-    let first : State = with_budget s a ((tcap_at s a).budget - m) in
-    frame_put first e b _ (budget_shape s e a ((tcap_at s a).budget - m) h)
-    (tcap_shape e (first.frame b) (record (tcap_at first b) { budget = (tcap_at s b).budget + m })
-    (budget_shape s e a ((tcap_at s a).budget - m) h b) (λ l. l))
+fresh_shape : (c : ℕ) (s : State) (e f : ℕ) (x : Frame) → Limited c s (Become f x) → FrameShape e x
+fresh_shape c s e f (Kernel (Comp k)) h = absurd h
+fresh_shape c s e f (Kernel (Thread t)) h = record { least = omega (arith, h); most = omega (arith, h) }
+fresh_shape c s e f (Kernel (Tcap q)) h = (let n = h.0 in record { least = omega (arith, n); most = omega (arith, n); pairs = h.1 })
+fresh_shape c s e f _ h = tt
 
-running_shape : (s : State) (e f : ℕ) (core : Option ℕ) → ((g : ℕ) → FrameShape e (s.frame g)) → (g : ℕ)
-    → FrameShape e ((running s f core).frame g)
-running_shape s e f core h = frame_put s e f _ h
-    (thread_shape e (s.frame f) (record (thread_in (s.frame f)) { runs_on = core }) (h f) (λ t. record { least = t.least; most = t.most }))
+-- The list of a frame with a temporal capability.
+list_shape : (e : ℕ) (x : Frame) → IsTrue (fits kind.Tcap x) → FrameShape e x → ListInRange (tcap_in x).qualities
+list_shape e (Kernel (Tcap q)) fit h = h
+list_shape e _ fit h = absurd (false≢true fit)
 
-stack_shape : (s : State) (e c : ℕ) (stack : List ℕ) → ((g : ℕ) → FrameShape e (s.frame g))
-    → (ThreadInRange (thread_of s c) → (1 ≤ length stack) × (length stack ≤ 16)) → (g : ℕ) → FrameShape e ((with_stack s c stack).frame g)
-stack_shape s e c stack h new = frame_put s e (s.core c).thread _ h
-    (thread_shape e (s.frame (s.core c).thread) (record (thread_of s c) { stack = stack }) (h (s.core c).thread)
-    (λ t. let n = new t in record { least = n.0; most = n.1 }))
-
--- `make`.
-comp_shape : (s : State) (c l : ℕ) → Shaped s → first_cause s c (not_taken s l) ≡ None
-    → EpochInRange s.limits.epochs (epoch_of (s.number l) + 1)
-comp_shape s c l h calm =
-    let live : Cause = When (is_live (s.number l)) reply.Occupied in
-    let spent : Cause = When (epoch_of (s.number l) == s.limits.epochs) reply.EpochsSpent in
-    let p = none_parts (refusal_of s c live) (first_cause s c (WaitedFor (NumberOf l) ∷ spent ∷ [])) calm in
-    let q = none_parts (waits_of s c (NumberOf l)) (first_cause s c (spent ∷ [])) p.1 in
-    let r = none_parts (refusal_of s c spent) None q.1 in
-    let other : epoch_of (s.number l) ≢ s.limits.epochs =
-    eqb-false (epoch_of (s.number l)) s.limits.epochs (when_not (epoch_of (s.number l) == s.limits.epochs) reply.EpochsSpent r.0) in
-    let most : epoch_of (s.number l) ≤ s.limits.epochs = below (s.number l) (h.numbers l) in
-    record { least = omega arith; most = omega (arith, other, most) }
+-- A number's next epoch, and that of one that is live.
+next_epoch : (epochs : ℕ) (x : Liveness) → NumberInRange epochs x → epoch_of x ≢ epochs → EpochInRange epochs (epoch_of x + 1)
+next_epoch epochs x h other = let most = below x h in record { least = omega arith; most = omega (arith, other, most) }
   where
-    below : (x : Liveness) → NumberInRange s.limits.epochs x → epoch_of x ≤ s.limits.epochs
+    below : (x : Liveness) → NumberInRange epochs x → epoch_of x ≤ epochs
     below Unused r = omega arith
-    below (Live e f) r = r.most
-    below (Dead e) r = r.most
+    below _ r = r.most
 
-make_shape : (s : State) (c : ℕ) → Shaped s → (what : Make) (r f t b : ℕ) → InLimits (make_call what r f t b)
-    → ChangesFrom (ShapedBy s c) s c (make_rule s what r f t b)
-make_shape s c h make.Table r f t b lim =
-    λ range e table g at v calm. framed s c _ h (frame_put s s.limits.epochs f (Kernel Table) h.frames tt) refl refl
-make_shape s c h make.Leaf r f t b lim =
-    λ range e table g at v calm. framed s c _ h (frame_put s s.limits.epochs f (Kernel Leaf) h.frames tt) refl refl
-make_shape s c h make.Pages r f t b lim =
-    λ range e table g at v calm. framed s c _ h (frame_put s s.limits.epochs f (Kernel Pages) h.frames tt) refl refl
-make_shape s c h make.Pleaf r f t b lim =
-    λ range e table g at v calm. framed s c _ h (frame_put s s.limits.epochs f (Kernel Pleaf) h.frames tt) refl refl
-make_shape s c h (make.Thread comp) r f t b lim = λ range e table g k j at v calm.
-    framed s c _ h (frame_put s s.limits.epochs f _ h.frames (record { least = omega arith; most = omega arith })) refl refl
-make_shape s c h (make.Tcap sched quality) r f t b lim = λ range e table g at v calm.
-    framed s c _ h (frame_put s s.limits.epochs f _ h.frames
-    (record { least = omega arith; most = omega arith; pairs = (lim, tt, tt) })) refl refl
-make_shape s c h (make.Comp x p l) r f t b lim = λ range e table g own_table a own_pages d at v calm.
-    let q = none_parts (refusal_of s c (outside (found range) f)) (first_cause s c (not_blank s f ∷ not_taken s l)) calm in
-    let n = none_parts (refusal_of s c (not_blank s f)) (first_cause s c (not_taken s l)) q.1 in
-    let epoch : EpochInRange s.limits.epochs (epoch_of (s.number l) + 1) = comp_shape s c l h n.1 in
+live_shape : (epochs e : ℕ) (x : Liveness) → is_live_in x e ≡ true → NumberInRange epochs x → EpochInRange epochs e
+live_shape epochs e (Live d f) is h = subst (EpochInRange epochs) (eqb-true d e is) h
+live_shape epochs e _ is h = absurd (false≢true is)
+
+-- The stack of a core's thread.
+stack_fits : (s : State) (c : ℕ) (stack : List ℕ) → (ThreadInRange (thread_of s c) → (1 ≤ length stack) × (length stack ≤ 16))
+    → Fits s.limits.epochs s.frame s.number → Fits s.limits.epochs (with_stack s c stack).frame s.number
+stack_fits s c stack new h = record {
+  frames = frame_put s.limits.epochs s.frame (s.core c).thread _ h.frames
+      (thread_shape s.limits.epochs (s.frame (s.core c).thread) (record (thread_of s c) { stack = stack }) (h.frames (s.core c).thread)
+      (λ t. let n = new t in record { least = n.0; most = n.1 }));
+  numbers = h.numbers;
+}
+
+running_fits : (s : State) (f : ℕ) (core : Option ℕ) → Fits s.limits.epochs s.frame s.number
+    → Fits s.limits.epochs (running s f core).frame s.number
+running_fits s f core h = record {
+  frames = frame_put s.limits.epochs s.frame f _ h.frames
+      (thread_shape s.limits.epochs (s.frame f) (record (thread_in (s.frame f)) { runs_on = core })
+      (h.frames f) (λ t. record { least = t.least; most = t.most }));
+  numbers = h.numbers;
+}
+
+tcap_puts : (s : State) (f : ℕ) (q : TcapFields) → (ListInRange (tcap_at s f).qualities → ListInRange q.qualities)
+    → Fits s.limits.epochs s.frame s.number → Fits s.limits.epochs (put s.frame f (with_tcap (s.frame f) q)) s.number
+tcap_puts s f q list h = record {
+  frames = frame_put s.limits.epochs s.frame f _ h.frames (tcap_shape s.limits.epochs (s.frame f) q (h.frames f) list);
+  numbers = h.numbers;
+}
+
+edit_fits : (c : ℕ) (s : State) (e : Edit) → Tested c s e → Limited c s e → Known c s e → Fits s.limits.epochs s.frame s.number
+    → Fits s.limits.epochs (edited c s e).frame (edited c s e).number
+edit_fits c s (Node f object) tested lim k h = record {
+  frames = frame_put s.limits.epochs s.frame f (Kernel object) h.frames (node_shape s.limits.epochs (Kernel object) lim);
+  numbers = h.numbers;
+}
+edit_fits c s (Become f x) tested lim k h = record {
+  frames = frame_put s.limits.epochs s.frame f x h.frames (fresh_shape c s s.limits.epochs f x lim);
+  numbers = h.numbers;
+}
+edit_fits c s (Untype f) tested lim k h =
+    record { frames = frame_put s.limits.epochs s.frame f Untyped h.frames tt; numbers = h.numbers }
+edit_fits c s (Component f fields) tested lim k h =
+    let l : ℕ = fields.number in
+    let epoch : EpochInRange s.limits.epochs fields.epoch =
+    subst (EpochInRange s.limits.epochs) (sym tested.1) (next_epoch s.limits.epochs (s.number l) (h.numbers l) tested.2) in
     record {
-      frames = frame_put s s.limits.epochs f _ h.frames (record { number = lim; epoch = epoch });
+      frames = frame_put s.limits.epochs s.frame f _ h.frames (record { number = lim; epoch = epoch });
       numbers = λ m. put_all (λ l x. NumberInRange s.limits.epochs x) s.number l _ m (λ same. epoch) (λ other. h.numbers m);
-      own = stays s.limits.calls (s.core c) (h.cores c);
-      others = λ d other. refl;
     }
+edit_fits c s (Deaden l e) tested lim k h = record {
+  frames = h.frames;
+  numbers = λ m. put_all (λ l x. NumberInRange s.limits.epochs x) s.number l (Dead e) m
+      (λ same. live_shape s.limits.epochs e (s.number l) tested (h.numbers l)) (λ other. h.numbers m);
+}
+edit_fits c s (Push f) tested lim k h =
+    stack_fits s c (f ∷ (thread_of s c).stack) (λ t. (omega arith, omega (arith, tested))) h
+edit_fits c s Pop tested lim k h = stack_fits s c (drop 1 (thread_of s c).stack) (λ t. dropped (thread_of s c).stack tested t.most) h
+  where
+    dropped : (fs : List ℕ) → 1 < length fs → length fs ≤ 16 → (1 ≤ length (drop 1 fs)) × (length (drop 1 fs) ≤ 16)
+    dropped [] more most = absurd (omega (arith, more))
+    dropped (f ∷ fs) more most = (omega (arith, more), omega (arith, most))
+edit_fits c s (Switch g q) tested lim k h =
+    running_fits (running s (s.core c).thread None) g (Some c) (running_fits s (s.core c).thread None h)
+edit_fits c s (Charge n) tested lim k h = tcap_puts s (s.core c).tcap _ (λ l. l) h
+edit_fits c s (Move a b m) tested lim k h =
+    tcap_puts (with_budget s a ((tcap_at s a).budget - m)) b _ (λ l. l) (tcap_puts s a _ (λ l. l) h)
+edit_fits c s (Merge f qs) tested lim k h = tcap_puts s f _ (λ l. subst ListInRange (sym k.is) list) h
+  where
+    first : ListInRange (tcap_at s k.other).qualities
+    first = list_shape s.limits.epochs (s.frame k.other) k.from.fit (h.frames k.other)
 
-retype_shape : (s : State) (c : ℕ) → Shaped s → (r f : ℕ) (k : FrameKind) → ChangesFrom (ShapedBy s c) s c (retype_rule s r f k)
-retype_shape s c h r f frame_kind.Untyped = λ range e calm. framed s c _ h (frame_put s s.limits.epochs f Untyped h.frames tt) refl refl
-retype_shape s c h r f frame_kind.User = λ range e calm. framed s c _ h (frame_put s s.limits.epochs f User h.frames tt) refl refl
-retype_shape s c h r f frame_kind.Kernel =
-    λ range e calm. framed s c _ h (frame_put s s.limits.epochs f (Kernel Blank) h.frames tt) refl refl
+    second : ListInRange (tcap_at s f).qualities
+    second = list_shape s.limits.epochs (s.frame f) k.to.fit (h.frames f)
+
+    list : ListInRange (Rattle.kernel_rules.specs.TimeCalls.merged_list s k.other f)
+    list = record {
+      least = merged_some (tcap_at s k.other).qualities (tcap_at s f).qualities first.least;
+      most = (let n = ap (λ (l : List (ℕ × ℕ)). length l) k.is in let few = k.few in omega (arith, n, few));
+      pairs = merged_list_is (tcap_at s k.other).qualities (tcap_at s f).qualities first.pairs second.pairs;
+    }
+edit_fits c s _ tested lim k h = h
+
+edits_fit : (c : ℕ) (s : State) (es : List Edit) → Each Tested c s es → Each Limited c s es → Each Known c s es
+    → Fits s.limits.epochs s.frame s.number → Fits s.limits.epochs (after_edits c s es).frame (after_edits c s es).number
+edits_fit c s [] tested lim k h = h
+edits_fit c s (e ∷ es) tested lim k h =
+    subst (λ n. Fits n (after_edits c s (e ∷ es)).frame (after_edits c s (e ∷ es)).number) (stay e)
+    (edits_fit c (edited c s e) es tested.1 lim.1 k.1
+    (subst (λ n. Fits n (edited c s e).frame (edited c s e).number) (sym (stay e)) (edit_fits c s e tested.0 lim.0 k.0 h)))
+  where
+    stay : (e : Edit) → (edited c s e).limits.epochs ≡ s.limits.epochs
+    stay (Fill at k) = refl
+    stay _ = refl
 
 -- A list of translations keeps at most 64.
 caching_short : (cached : List Translation) (t : Translation) → length cached ≤ 64 → length (caching cached t) ≤ 64
@@ -220,127 +224,61 @@ caching_short cached t h = tested (nat_lt (length cached) 64) refl
         let n : length (cached ++ t ∷ []) ≡ length cached + 1 = length-append cached (t ∷ []) in
         omega (arith, less, n)
 
-touch_shape : (s : State) (c : ℕ) → Shaped s → (pages v : ℕ) (t : Option Translation)
-    → ChangesFrom (ShapedBy s c) s c (touch_by s c pages v t)
-touch_shape s c h pages v None = λ mapping e calm.
-    cored s c _ _ h h.frames refl refl
-    (record { counted = refl; owed = omega arith; cached = caching_short (s.core c).cached _ (h.cores c).cached })
-touch_shape s c h pages v (Some t) = λ calm. same s c _ h refl refl refl
+-- The cores.
+same : (s : State) (c : ℕ) → CoresBy s c 0 s.core
+same s c = record { counted = refl; owed = omega arith; cached = λ h. h; others = λ d other. refl }
 
--- A number that is live in an epoch has it in range.
-live_shape : (epochs e : ℕ) (x : Liveness) → is_live_in x e ≡ true → NumberInRange epochs x → EpochInRange epochs e
-live_shape epochs e Unused is h = absurd (false≢true is)
-live_shape epochs e (Live d f) is h = subst (EpochInRange epochs) (eqb-true d e is) h
-live_shape epochs e (Dead d) is h = absurd (false≢true is)
+own : (s : State) (c n : ℕ) (k : Core) → k.counted ≡ (s.core c).counted → k.owed ≤ (s.core c).owed + n
+    → (length (s.core c).cached ≤ 64 → length k.cached ≤ 64) → CoresBy s c n (put s.core c k)
+own s c n k counted owed cached = record {
+  counted = ap (λ (x : Core). x.counted) (put_same s.core c k c refl) ∙ counted;
+  owed = subst (λ (x : Core). x.owed ≤ (s.core c).owed + n) (sym (put_same s.core c k c refl)) owed;
+  cached = λ h. subst (λ (x : Core). length x.cached ≤ 64) (sym (put_same s.core c k c refl)) (cached h);
+  others = λ d other. put_other s.core c k d other;
+}
 
-kill_shape : (s : State) (c : ℕ) → Shaped s → (k : ℕ) → ChangesFrom (ShapedBy s c) s c (rule_of s c (Kill k))
-kill_shape s c h k = λ comp e calm.
-    let fields : CompFields = comp_in (s.frame comp.frame) in
-    let p = none_parts (refusal_of s c (not_live s (found comp) fields.number fields.epoch)) None calm in
-    let live : is_live_in (s.number fields.number) fields.epoch ≡ true = not_not (is_live_in (s.number fields.number) fields.epoch)
-    (when_not (not (is_live_in (s.number fields.number) fields.epoch)) reply.Dead p.0) in
-    let epoch : EpochInRange s.limits.epochs fields.epoch =
-    live_shape s.limits.epochs fields.epoch (s.number fields.number) live (h.numbers fields.number) in
+edit_cores : (c : ℕ) (s : State) (e : Edit) → CoresBy s c (charged_in e) (edited c s e).core
+edit_cores c s (Switch g q) = own s c 0 (record (s.core c) { thread = g; tcap = q }) refl (omega arith) (λ h. h)
+edit_cores c s (Cache t) = own s c 0 _ refl (omega arith) (caching_short (s.core c).cached t)
+edit_cores c s Flush = own s c 0 (record (s.core c) { cached = [] }) refl (omega arith) (λ h. omega arith)
+edit_cores c s (Charge n) =
+    let m : ℕ = charge s c (n + (s.core c).owed) in
+    own s c n (record (s.core c) { spent = (s.core c).spent + m; owed = (n + (s.core c).owed) - m }) refl (omega arith) (λ h. h)
+edit_cores c s _ = same s c
+
+edits_cores : (c : ℕ) (s : State) (es : List Edit) → CoresBy s c (charged_all es) (after_edits c s es).core
+edits_cores c s [] = same s c
+edits_cores c s (e ∷ []) = edit_cores c s e
+edits_cores c s (e ∷ (x ∷ es)) =
+    let a = edit_cores c s e in
+    let b = edits_cores c (edited c s e) (x ∷ es) in
     record {
-      frames = h.frames;
-      numbers = λ m. put_all (λ l x. NumberInRange s.limits.epochs x) s.number fields.number _ m (λ same. epoch) (λ other. h.numbers m);
-      own = stays s.limits.calls (s.core c) (h.cores c);
-      others = λ d other. refl;
+      counted = b.counted ∙ a.counted;
+      owed = (let p = a.owed in let q = b.owed in omega (arith, p, q));
+      cached = λ h. b.cached (a.cached h);
+      others = λ d other. b.others d other ∙ a.others d other;
     }
 
-call_shape : (s : State) (c : ℕ) → Shaped s → (g : ℕ) → ChangesFrom (ShapedBy s c) s c (rule_of s c (call_gate g))
-call_shape s c h g = λ gate e calm.
-    let deep : Cause = When (nat_le 16 (length (thread_of s c).stack)) reply.Deep in
-    let p = none_parts (refusal_of s c deep)
-    (first_cause s c (not_live s (found gate) (comp_in (s.frame gate.frame)).number gate.arg ∷ [])) calm in
-    let less : length (thread_of s c).stack < 16 =
-    leb-false 16 (length (thread_of s c).stack) (when_not (nat_le 16 (length (thread_of s c).stack)) reply.Deep p.0) in
-    framed s c _ h (stack_shape s s.limits.epochs c (gate.frame ∷ (thread_of s c).stack)
-    h.frames (λ t. (omega arith, omega (arith, less)))) refl refl
-
-ret_shape : (s : State) (c : ℕ) → Shaped s → ChangesFrom (ShapedBy s c) s c (rule_of s c Ret)
-ret_shape s c h = λ calm.
-    let stack : List ℕ = (thread_of s c).stack in
-    let p = none_parts (refusal_of s c (When (nat_le (length stack) 1) reply.Bottom)) None calm in
-    let more : 1 < length stack = leb-false (length stack) 1 (when_not (nat_le (length stack) 1) reply.Bottom p.0) in
-    framed s c _ h (stack_shape s s.limits.epochs c (drop 1 stack) h.frames (λ t. dropped stack more t.most)) refl refl
-  where
-    dropped : (fs : List ℕ) → 1 < length fs → length fs ≤ 16 → (1 ≤ length (drop 1 fs)) × (length (drop 1 fs) ≤ 16)
-    dropped [] more most = absurd (omega (arith, more))
-    dropped (f ∷ fs) more most = (omega (arith, more), omega (arith, most))
-
-switch_shape : (s : State) (c : ℕ) → Shaped s → (q : ℕ) (name : Named) (e : Option ℕ)
-    → ChangesFrom (ShapedBy s c) s c (switch_to s c name q e)
-switch_shape s c h q name None = λ calm.
-    cored s c _ (record (s.core c) { thread = name.frame; tcap = q }) h
-    (running_shape (running s (s.core c).thread None) s.limits.epochs name.frame
-    (Some c) (running_shape s s.limits.epochs (s.core c).thread None h.frames)) refl refl
-    (record { counted = refl; owed = omega arith; cached = (h.cores c).cached })
-switch_shape s c h q name (Some e) = λ calm.
-    cored s c _ (record (s.core c) { thread = name.frame; tcap = q }) h
-    (running_shape (running s (s.core c).thread None) s.limits.epochs name.frame
-    (Some c) (running_shape s s.limits.epochs (s.core c).thread None h.frames)) refl refl
-    (record { counted = refl; owed = omega arith; cached = (h.cores c).cached })
-
-tick_shape : (s : State) (c : ℕ) → Shaped s → (n : ℕ) → n ≤ 1000000 → ChangesFrom (ShapedBy s c) s c (rule_of s c (Tick n))
-tick_shape s c h n small = λ calm.
-    cored s c _ (record (s.core c) { spent = _; owed = _ }) h (budget_shape s s.limits.epochs (s.core c).tcap _ h.frames) refl refl
-    (record { counted = refl; owed = less (s.core c).owed _; cached = (h.cores c).cached })
-  where
-    less : (owed m : ℕ) → (n + owed) - m ≤ owed + 1000000
-    less owed m = omega (arith, small)
-
--- The list of a frame with a temporal capability.
-list_shape : (e : ℕ) (x : Frame) → IsTrue (fits kind.Tcap x) → FrameShape e x → ListInRange (tcap_in x).qualities
-list_shape e (Kernel (Tcap q)) fit h = h
-list_shape e _ fit h = absurd (false≢true fit)
-
-delegate_shape : (s : State) (o : ℕ → Bool) (c : ℕ) → IsOpen s o c → Shaped s → (a b m : ℕ)
-    → ChangesFrom (ShapedBy s c) s c (rule_of s c (Delegate a b m))
-delegate_shape s o c turn h a b m = λ j e k f calm.
-    let next : State = moved s j.frame k.frame m in
-    let first : ListInRange (tcap_at s j.frame).qualities =
-    list_shape s.limits.epochs (s.frame j.frame) (named_fit s o c a kind.Tcap j turn.sound turn.is e) (h.frames j.frame) in
-    let second : ListInRange (tcap_at s k.frame).qualities =
-    list_shape s.limits.epochs (s.frame k.frame) (named_fit s o c b kind.Tcap k turn.sound turn.is f) (h.frames k.frame) in
-    let list : List (ℕ × ℕ) = merged_list s j.frame k.frame in
-    let p = none_parts (refusal_of s c (are_same (found j) (found k)))
-    (first_cause s c (is_short s (found j) m ∷ are_many s (found j) (found k) ∷ [])) calm in
-    let q = none_parts (refusal_of s c (is_short s (found j) m)) (first_cause s c (are_many s (found j) (found k) ∷ [])) p.1 in
-    let r = none_parts (refusal_of s c (are_many s (found j) (found k))) None q.1 in
-    let few : length list ≤ 8 = ltb-false 8 (length list) (when_not (nat_lt 8 (length list)) reply.TooMany r.0) in
-    framed s c _ h (frame_put next s.limits.epochs k.frame _ (moved_shape s s.limits.epochs j.frame k.frame m h.frames)
-    (tcap_shape s.limits.epochs (next.frame k.frame) (record (tcap_at next k.frame) { qualities = list })
-    (moved_shape s s.limits.epochs j.frame k.frame m h.frames k.frame)
-    (λ l. record {
-      least = merged_some (tcap_at s j.frame).qualities (tcap_at s k.frame).qualities first.least;
-      most = few;
-      pairs = merged_list_is (tcap_at s j.frame).qualities (tcap_at s k.frame).qualities first.pairs second.pairs;
-    }))) refl refl
-
 -- Every call that is carried out.
-pub rule_shape : (s : State) (o : ℕ → Bool) (c : ℕ) → IsOpen s o c → Shaped s → (call : Call) → InLimits call
-    → ChangesFrom (ShapedBy s c) s c (rule_of s c call)
-rule_shape s o c turn h (Look a) lim = λ k e calm. same s c _ h refl refl refl
-rule_shape s o c turn h (Copy a t b) lim = λ k e table f at g calm. same s c _ h refl refl refl
-rule_shape s o c turn h (Remove t b) lim = λ table e at k g calm. same s c _ h refl refl refl
-rule_shape s o c turn h (Grow t i l) lim = λ table e leaf f at g calm. same s c _ h refl refl refl
-rule_shape s o c turn h (Shrink t i) lim = λ table e at k g calm. same s c _ h refl refl refl
-rule_shape s o c turn h (Retype r f k) lim = retype_shape s c h r f k
-rule_shape s o c turn h (make_call what r f t b) lim = make_shape s c h what r f t b lim
-rule_shape s o c turn h (Map p v r f w) lim = λ pages e range g at u calm. same s c _ h refl refl refl
-rule_shape s o c turn h (Unmap p v) lim = λ pages e at k g calm. same s c _ h refl refl refl
-rule_shape s o c turn h (Touch v) lim = touch_shape s c h (comp_of s c).pages v (translation_of (s.core c).cached (comp_of s c).pages v)
-rule_shape s o c turn h Flush lim =
-    λ calm. cored s c _ _ h h.frames refl refl (record { counted = refl; owed = omega arith; cached = omega arith })
-rule_shape s o c turn h (Gate k t b) lim = λ comp e table f at g calm. same s c _ h refl refl refl
-rule_shape s o c turn h (Kill k) lim = kill_shape s c h k
-rule_shape s o c turn h (call_gate g) lim = call_shape s c h g
-rule_shape s o c turn h Ret lim = ret_shape s c h
-rule_shape s o c turn h (Switch f q) lim =
-    λ thread e tcap g. switch_shape s c h tcap.frame (found thread) (thread_in (s.frame thread.frame)).runs_on
-rule_shape s o c turn h (Tick n) lim = tick_shape s c h n lim
-rule_shape s o c turn h (Transfer a b m) lim =
-    λ j e k f calm. framed s c _ h (moved_shape s s.limits.epochs j.frame k.frame m h.frames) refl refl
-rule_shape s o c turn h (Delegate a b m) lim = delegate_shape s o c turn h a b m
-rule_shape s o c turn h (Test a b) lim = λ j e k f calm. same s c _ h refl refl refl
+pub shaped_by : (s : State) (o : ℕ → Bool) (c : ℕ) → IsOpen s o c → Shaped s → (call : Call) → InLimits call
+    → (change : Change) → Edits call c s change → ShapedBy s c change
+shaped_by s o c turn h call lim change e = subst (ShapedBy s c) (sym e.is) (record {
+  frames = f.frames;
+  numbers = f.numbers;
+  own = record {
+    counted = k.counted;
+    owed = (let a = k.owed in let b = e.agrees.3 in let d = small call lim in omega (arith, a, b, d));
+    cached = k.cached (h.cores c).cached;
+  };
+  others = k.others;
+})
+  where
+    f : Fits s.limits.epochs (after_edits c s e.list).frame (after_edits c s e.list).number
+    f = edits_fit c s e.list e.tested (e.limited lim) (e.known o turn) (record { frames = h.frames; numbers = h.numbers })
+
+    k : CoresBy s c (charged_all e.list) (after_edits c s e.list).core
+    k = edits_cores c s e.list
+
+    small : (call : Call) → InLimits call → charged_by call ≤ 1000000
+    small (Tick n) lim = lim
+    small _ lim = omega arith

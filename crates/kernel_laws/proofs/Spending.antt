@@ -1,131 +1,86 @@
 -- What a core has spent and owes is the sum of its decided ticks.
-use Rattle.std.proofs.Common.{◌≡◌, ◌≢◌, ◌⊎◌, inl, inr, ℕ, ◌+◌, ◌-◌, ◌≤◌, min, arith, true, false}
-use Rattle.std.proofs.Common.{refl, sym, ◌∙◌, ap, ◌==◌, if◌then◌else◌, [], ◌∷◌, Option, Some, None}
+use Rattle.std.proofs.Common.{◌≡◌, ◌≢◌, ◌⊎◌, inl, inr, ℕ, ◌+◌, ◌-◌, ◌≤◌, min, arith}
+use Rattle.std.proofs.Common.{refl, sym, ◌∙◌, ap, subst, true, false, ◌==◌, if◌then◌else◌, List, [], ◌∷◌}
 use Rattle.std.proofs.lemmas.Bool.{cases_eq, eq-eqb, ne_eqb}
-use Rattle.spk_nums.specs.declared.kinds.FrameKind.{FrameKind}
-use Rattle.spk_nums.specs.declared.kinds.FrameKind.TheVariants as frame_kind
-use Rattle.spk_nums.specs.declared.calls.Make.{Make}
-use Rattle.spk_nums.specs.declared.calls.Make.TheVariants as make
 use Rattle.spk_nums.specs.declared.calls.Call.{Call}
-use Rattle.spk_nums.specs.declared.calls.Call.TheVariants.{Look, Copy, Remove, Grow, Shrink, Retype, Make as make_call}
-use Rattle.spk_nums.specs.declared.calls.Call.TheVariants.{Map, Unmap, Touch, Flush, Gate, Kill, Call as call_gate}
-use Rattle.spk_nums.specs.declared.calls.Call.TheVariants.{Ret, Switch, Tick, Transfer, Delegate, Test}
-use Rattle.spk_nums.specs.declared.translations.Translation.{Translation}
+use Rattle.spk_nums.specs.declared.calls.Call.TheVariants.{Tick}
 use Rattle.spk_nums.specs.declared.replies.Value.{Value}
 use Rattle.spk_nums.specs.declared.replies.Reply.{Reply}
 use Rattle.spk_nums.specs.declared.replies.Reply.TheVariants as reply
-use Rattle.kernel_rules.specs.State.{Core, State, put, comp_of, thread_in}
-use Rattle.kernel_rules.specs.Access.{Named, found}
-use Rattle.kernel_rules.specs.Rules.{Change, Judged, Refused, Found, IsFoundAnd, RuleMay}
-use Rattle.kernel_rules.specs.CapabilityCalls.{make_rule}
-use Rattle.kernel_rules.specs.MemoryCalls.{retype_rule, touch_by, translation_of}
-use Rattle.kernel_rules.specs.InvocationCalls.{switch_to}
+use Rattle.kernel_rules.specs.State.{Core, State, put}
+use Rattle.kernel_rules.specs.Rules.{RuleMay}
+use Rattle.kernel_rules.specs.MemoryCalls.{caching}
 use Rattle.kernel_rules.specs.TimeCalls.{tcap_at, charge}
 use Rattle.kernel_rules.specs.CallRelation.{rule_of, change_of, changed, counted, owed_by, state_by, MayReply}
 use Rattle.kernel_rules.specs.Runs.{Enters, Decides, Returns, after}
-use Rattle.kernel_rules.proofs.Changes.{AllChanges, IfFound, outcome_all}
 use Rattle.kernel_rules.proofs.Within.{put_same, put_other}
+use Rattle.kernel_invariant.specs.Edits.{Edit, Switch, Cache, Flush, Charge, edited, after_edits, charged_by, charged_in, charged_all}
 use Rattle.kernel_invariant.proofs.Sound.{put_all}
+use Rattle.kernel_invariant.proofs.Edited.{after_ok}
 use Rattle.kernel_laws.specs.Laws.{ticks_of, ticks_counted, ticks_by, decided_ticks, SpendingSums}
 
 -- What a core has spent and owes.
 abbrev due : Core → ℕ
 due k = k.spent + k.owed
 
--- Core c's due rises by the call's ticks, and no other's.
-record Charges (s : State) (c : ℕ) (call : Call) (core : ℕ → Core) : Type 0 where
-  own : due (core c) ≡ due (s.core c) + ticks_of call
+-- Core c's due rises by so many ticks, and no other's.
+record Counts (s : State) (c n : ℕ) (core : ℕ → Core) : Type 0 where
+  own : due (core c) ≡ due (s.core c) + n
   others : (d : ℕ) → d ≢ c → due (core d) ≡ due (s.core d)
 
-same : (s : State) (c : ℕ) (call : Call) (core : ℕ → Core) → ticks_of call ≡ 0 → core ≡ s.core → Charges s c call core
-same s c call core none is = record {
-  own = (let a = ap (λ (f : ℕ → Core). due (f c)) is in omega (arith, a, none));
-  others = λ d other. ap (λ (f : ℕ → Core). due (f d)) is;
+same : (s : State) (c : ℕ) → Counts s c 0 s.core
+same s c = record { own = omega arith; others = λ d other. refl }
+
+own : (s : State) (c n : ℕ) (k : Core) → due k ≡ due (s.core c) + n → Counts s c n (put s.core c k)
+own s c n k sum = record {
+  own = ap due (put_same s.core c k c refl) ∙ sum;
+  others = λ d other. ap due (put_other s.core c k d other);
 }
 
-own : (s : State) (c : ℕ) (call : Call) (core : ℕ → Core) (k : Core) → due k ≡ due (s.core c) + ticks_of call → core ≡ put s.core c k
-    → Charges s c call core
-own s c call core k sum is = record {
-  own = ap (λ (f : ℕ → Core). due (f c)) is ∙ ap due (put_same s.core c k c refl) ∙ sum;
-  others = λ d other. ap (λ (f : ℕ → Core). due (f d)) is ∙ ap due (put_other s.core c k d other);
-}
-
-abbrev By : State → ℕ → Call → Change → Type 0
-By s c call change = Charges s c call change.next.core
-
-make_due : (s : State) (c : ℕ) (what : Make) (r f t b : ℕ) → AllChanges (By s c (make_call what r f t b)) (make_rule s what r f t b)
-make_due s c make.Table r f t b = λ range table at. same s c _ _ refl refl
-make_due s c make.Leaf r f t b = λ range table at. same s c _ _ refl refl
-make_due s c make.Pages r f t b = λ range table at. same s c _ _ refl refl
-make_due s c make.Pleaf r f t b = λ range table at. same s c _ _ refl refl
-make_due s c (make.Thread comp) r f t b = λ range table k at. same s c _ _ refl refl
-make_due s c (make.Tcap sched quality) r f t b = λ range table at. same s c _ _ refl refl
-make_due s c (make.Comp x p l) r f t b = λ range table k j at. same s c _ _ refl refl
-
-retype_due : (s : State) (c r f : ℕ) (k : FrameKind) → AllChanges (By s c (Retype r f k)) (retype_rule s r f k)
-retype_due s c r f frame_kind.Untyped = λ range. same s c _ _ refl refl
-retype_due s c r f frame_kind.User = λ range. same s c _ _ refl refl
-retype_due s c r f frame_kind.Kernel = λ range. same s c _ _ refl refl
-
-none : (s : State) (c : ℕ) (call : Call) (k : Core) → ticks_of call ≡ 0 → due k ≡ due (s.core c) → due k ≡ due (s.core c) + ticks_of call
-none s c call k zero e = omega (arith, zero, e)
-
-touch_due : (s : State) (c v pages : ℕ) (t : Option Translation) → AllChanges (By s c (Touch v)) (touch_by s c pages v t)
-touch_due s c v pages None = λ mapping. own s c (Touch v) _ _ (omega arith) refl
-touch_due s c v pages (Some t) = same s c _ _ refl refl
-
-switch_due : (s : State) (c a b q : ℕ) (name : Named) (e : Option ℕ) → AllChanges (By s c (Switch a b)) (switch_to s c name q e)
-switch_due s c a b q name None = own s c (Switch a b) _ (record (s.core c) { thread = name.frame; tcap = q }) (omega arith) refl
-switch_due s c a b q name (Some e) = own s c (Switch a b) _ (record (s.core c) { thread = name.frame; tcap = q }) (omega arith) refl
-
-tick_due : (s : State) (c n : ℕ) → AllChanges (By s c (Tick n)) (rule_of s c (Tick n))
-tick_due s c n =
+edit_due : (c : ℕ) (s : State) (e : Edit) → Counts s c (charged_in e) (edited c s e).core
+edit_due c s (Switch h q) = own s c 0 (record (s.core c) { thread = h; tcap = q }) (omega arith)
+edit_due c s (Cache t) = own s c 0 (record (s.core c) { cached = caching (s.core c).cached t }) (omega arith)
+edit_due c s Flush = own s c 0 (record (s.core c) { cached = [] }) (omega arith)
+edit_due c s (Charge n) =
     let m : ℕ = charge s c (n + (s.core c).owed) in
-    own s c (Tick n) _ (record (s.core c) { spent = (s.core c).spent + m; owed = (n + (s.core c).owed) - m })
-    (let small : m ≤ n + (s.core c).owed = least (n + (s.core c).owed) (tcap_at s (s.core c).tcap).budget in omega (arith, small)) refl
+    own s c n (record (s.core c) { spent = (s.core c).spent + m; owed = (n + (s.core c).owed) - m })
+    (let small : m ≤ n + (s.core c).owed = least (n + (s.core c).owed) (tcap_at s (s.core c).tcap).budget in omega (arith, small))
   where
     least : (a b : ℕ) → min a b ≤ a
     least a b = omega arith
+edit_due c s _ = same s c
 
-rule_due : (s : State) (c : ℕ) (call : Call) → AllChanges (By s c call) (rule_of s c call)
-rule_due s c (Look a) = λ k. same s c _ _ refl refl
-rule_due s c (Copy a t b) = λ k table at. same s c _ _ refl refl
-rule_due s c (Remove t b) = λ table at k. same s c _ _ refl refl
-rule_due s c (Grow t i l) = λ table leaf at. same s c _ _ refl refl
-rule_due s c (Shrink t i) = λ table at k. same s c _ _ refl refl
-rule_due s c (Retype r f k) = retype_due s c r f k
-rule_due s c (make_call what range frame table slot) = make_due s c what range frame table slot
-rule_due s c (Map p v r f w) = λ pages range at. same s c _ _ refl refl
-rule_due s c (Unmap p v) = λ pages at k. same s c _ _ refl refl
-rule_due s c (Touch v) = touch_due s c v (comp_of s c).pages (translation_of (s.core c).cached (comp_of s c).pages v)
-rule_due s c Flush = own s c Flush _ (record (s.core c) { cached = [] }) (omega arith) refl
-rule_due s c (Gate k t b) = λ comp table at. same s c _ _ refl refl
-rule_due s c (Kill k) = λ comp. same s c _ _ refl refl
-rule_due s c (call_gate g) = λ gate. same s c _ _ refl refl
-rule_due s c Ret = same s c _ _ refl refl
-rule_due s c (Switch h q) = λ thread tcap. switch_due s c h q tcap.frame (found thread) (thread_in (s.frame thread.frame)).runs_on
-rule_due s c (Tick n) = tick_due s c n
-rule_due s c (Transfer a b m) = λ a b. same s c _ _ refl refl
-rule_due s c (Delegate a b m) = λ a b. same s c _ _ refl refl
-rule_due s c (Test a b) = λ a b. same s c _ _ refl refl
+edits_due : (c : ℕ) (s : State) (es : List Edit) → Counts s c (charged_all es) (after_edits c s es).core
+edits_due c s [] = same s c
+edits_due c s (e ∷ []) = edit_due c s e
+edits_due c s (e ∷ (x ∷ es)) =
+    let a = edit_due c s e in
+    let b = edits_due c (edited c s e) (x ∷ es) in
+    record {
+      own = (let p = a.own in let q = b.own in omega (arith, p, q));
+      others = λ d other. b.others d other ∙ a.others d other;
+    }
+
+charged_ticks : (call : Call) → charged_by call ≡ ticks_of call
+charged_ticks (Tick n) = refl
+charged_ticks _ = refl
 
 -- A decision: the counted ticks of a call by its reply.
-found_due : (s : State) (c : ℕ) (call : Call) (v : Value) (x : Judged Change) → IfFound x (By s c call) → IsFoundAnd x (λ k. k.value ≡ v)
-    → Charges s c call (changed s x).core
-found_due s c call v (Refused r) by ok = absurd ok
-found_due s c call v (Found change) by ok = by
+changed_due : (s : State) (c : ℕ) (call : Call) (v : Value) → MayReply s c call (reply.Ok v)
+    → Counts s c (ticks_of call) (changed s (change_of s c call)).core
+changed_due s c call v may = after_ok s c call v (λ t. Counts s c (ticks_of call) t.core) may (λ change e.
+    subst (λ n. Counts s c n (after_edits c s e.list).core) (sym e.agrees.3 ∙ charged_ticks call) (edits_due c s e.list))
 
 -- A core is counted.
-counted_due : (s t : State) (c : ℕ) (call : Call) (k : Core) → due k ≡ due (t.core c) → Charges s c call t.core
-    → Charges s c call (put t.core c k)
-counted_due s t c call k e by = record {
+counted_due : (s t : State) (c n : ℕ) (k : Core) → due k ≡ due (t.core c) → Counts s c n t.core → Counts s c n (put t.core c k)
+counted_due s t c n k e by = record {
   own = ap due (put_same t.core c k c refl) ∙ e ∙ by.own;
   others = λ d other. ap due (put_other t.core c k d other) ∙ by.others d other;
 }
 
-owed_due : (s : State) (c : ℕ) (call : Call) → Charges s c call (owed_by s c call).core
-owed_due s c (Tick n) = own s c (Tick n) _ (record (s.core c) { owed = (s.core c).owed + n }) (omega arith) refl
-owed_due s c _ = same s c _ _ refl refl
+owed_due : (s : State) (c : ℕ) (call : Call) → Counts s c (ticks_of call) (owed_by s c call).core
+owed_due s c (Tick n) = own s c n (record (s.core c) { owed = (s.core c).owed + n }) (omega arith)
+owed_due s c _ = same s c
 
 -- No `tick` is refused with a reply of its own.
 no_ticks : (s : State) (c : ℕ) (r : Reply) (call : Call) → RuleMay s c (rule_of s c call) r → ticks_of call ≡ 0
@@ -133,24 +88,19 @@ no_ticks s c r (Tick n) h = absurd h
 no_ticks s c r _ h = refl
 
 -- The due of the cores after a decision.
-record Counts (s : State) (c n : ℕ) (core : ℕ → Core) : Type 0 where
-  own : due (core c) ≡ due (s.core c) + n
-  others : (d : ℕ) → d ≢ c → due (core d) ≡ due (s.core d)
-
-counts : (s : State) (c : ℕ) (call : Call) (t : State) → Charges s c call t.core → Counts s c (ticks_of call) (counted t c).core
-counts s c call t by =
-    let k = counted_due s t c call (record (t.core c) { counted = (t.core c).counted + 1 }) refl by in
-    record { own = k.own; others = k.others }
+counts : (s : State) (c n : ℕ) (t : State) → Counts s c n t.core → Counts s c n (counted t c).core
+counts s c n t by = counted_due s t c n (record (t.core c) { counted = (t.core c).counted + 1 }) refl by
 
 decided_due : (s : State) (c : ℕ) (call : Call) (r : Reply) → MayReply s c call r
     → Counts s c (ticks_counted call r) (state_by s c call r).core
 decided_due s c call (reply.Ok v) may =
-    counts s c call (changed s (change_of s c call))
-    (found_due s c call v (change_of s c call) (outcome_all (By s c call) s c (rule_of s c call) (rule_due s c call)) may.1)
-decided_due s c call reply.CallsSpent may = record { own = omega arith; others = λ d other. refl }
-decided_due s c call reply.Raced may = counts s c call (owed_by s c call) (owed_due s c call)
-decided_due s c call (reply.Busy e) may = counts s c call (owed_by s c call) (owed_due s c call)
-decided_due s c call r may = counts s c call s (same s c call s.core (no_ticks s c r call may.1) refl)
+    counts s c (ticks_of call) (changed s (change_of s c call))
+    (changed_due s c call v may)
+decided_due s c call reply.CallsSpent may = same s c
+decided_due s c call reply.Raced may = counts s c (ticks_of call) (owed_by s c call) (owed_due s c call)
+decided_due s c call (reply.Busy e) may = counts s c (ticks_of call) (owed_by s c call) (owed_due s c call)
+decided_due s c call r may =
+    counts s c (ticks_of call) s (subst (λ n. Counts s c n s.core) (sym (no_ticks s c r call may.1)) (same s c))
 
 -- A core that keeps its spent and owed ticks.
 moved_due : (s : State) (c : ℕ) (k : Core) → due k ≡ due (s.core c) → (d : ℕ) → due (put s.core c k d) ≡ due (s.core d)

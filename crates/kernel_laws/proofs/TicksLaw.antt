@@ -6,24 +6,21 @@ use Rattle.spk_nums.specs.Setting.{Setting, IsSetting}
 use Rattle.spk_nums.specs.declared.grants.Grant.{Grant}
 use Rattle.spk_nums.specs.declared.calls.Call.{Call}
 use Rattle.spk_nums.specs.declared.calls.Call.TheVariants.{Tick}
-use Rattle.spk_nums.specs.declared.replies.Value.{Value}
 use Rattle.spk_nums.specs.declared.replies.Reply.{Reply}
 use Rattle.spk_nums.specs.declared.replies.Reply.TheVariants as reply
 use Rattle.kernel_rules.specs.State.{Frame, State, tcap_in}
 use Rattle.kernel_rules.specs.Start.{start, start_frame, granted}
 use Rattle.kernel_rules.specs.References.{sum_below}
-use Rattle.kernel_rules.specs.Rules.{Change, Judged, Refused, Found, IsFoundAnd}
-use Rattle.kernel_rules.specs.CallRelation.{rule_of, change_of, changed, owed_by, state_by, MayReply}
+use Rattle.kernel_rules.specs.CallRelation.{change_of, changed, owed_by, state_by, MayReply}
 use Rattle.kernel_rules.specs.Runs.{Enters, Decides, Returns, after, is_open}
 use Rattle.kernel_rules.specs.Laws.{ticks}
 use Rattle.kernel_laws.specs.Laws.{grants_sum, TicksKept}
-use Rattle.kernel_rules.proofs.Changes.{IfFound}
 use Rattle.kernel_invariant.proofs.Sums.{sum_same}
-use Rattle.kernel_invariant.proofs.Facts.{outcome_from}
+use Rattle.kernel_invariant.proofs.Edited.{after_ok}
 use Rattle.kernel_invariant.proofs.SoundCalls.{IsOpen}
 use Rattle.kernel_invariant.proofs.SoundStart.{choose, if_not, not_below, past_three}
 use Rattle.kernel_invariant.proofs.SoundRuns.{opened, open_is}
-use Rattle.kernel_laws.proofs.Ticks.{TicksStay, same_spent, rule_ticks}
+use Rattle.kernel_laws.proofs.Ticks.{same_spent, edits_ticks}
 
 -- A sum over two stretches.
 sum_split : (f : ℕ → ℕ) (a b : ℕ) → sum_below f (a + b) ≡ sum_below f a + sum_below (λ i. f (a + i)) b
@@ -122,11 +119,6 @@ start_ticks setting lim =
     let m = sum_none (λ c. ((start setting).core c).spent) n (λ c h. refl) in
     omega (arith, a, b, c, d, e, f, g, k, m)
 
-changed_ticks : (s : State) (v : Value) (found : Judged Change) → IfFound found (TicksStay s)
-    → IsFoundAnd found (λ k. k.value ≡ v) → ticks (changed s found) ≡ ticks s
-changed_ticks s v (Refused r) stays ok = absurd ok
-changed_ticks s v (Found change) stays ok = stays
-
 owed_ticks : (s : State) (c : ℕ) (call : Call) → ticks (owed_by s c call) ≡ ticks s
 owed_ticks s c (Tick n) = same_spent s c _ refl
 owed_ticks s c _ = refl
@@ -134,7 +126,7 @@ owed_ticks s c _ = refl
 decided_ticks : (s : State) (o : ℕ → Bool) (c : ℕ) (call : Call) (r : Reply)
     → IsOpen s o c → MayReply s c call r → ticks (state_by s c call r) ≡ ticks s
 decided_ticks s o c call (reply.Ok v) h may = same_spent (changed s (change_of s c call)) c _ refl
-    ∙ changed_ticks s v (change_of s c call) (outcome_from (TicksStay s) s c (rule_of s c call) (rule_ticks s o c h call)) may.1
+    ∙ after_ok s c call v (λ t. ticks t ≡ ticks s) may (λ change e. edits_ticks c s e.list (e.known o h))
 decided_ticks s o c call reply.CallsSpent h may = refl
 decided_ticks s o c call reply.Raced h may = same_spent (owed_by s c call) c _ refl ∙ owed_ticks s c call
 decided_ticks s o c call (reply.Busy e) h may = same_spent (owed_by s c call) c _ refl ∙ owed_ticks s c call

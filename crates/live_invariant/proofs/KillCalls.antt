@@ -1,37 +1,22 @@
 -- What a call that kills a component knows of its rule: what is left of it after its name, and what refuses it.
-use Rattle.std.proofs.Common.{◌≡◌, inl, ℕ, ◌<◌, ◌==◌, ◌&&◌, ◌||◌, not, Bool, true, false, if◌then◌else◌}
-use Rattle.std.proofs.Common.{List, [], ◌∷◌, Option, Some, None, IsTrue, refl, sym, ◌∙◌, ap, subst}
-use Rattle.std.proofs.lemmas.Bool.{eq-eqb}
-use Rattle.spk_nums.specs.Setting.{Setting, IsSetting}
-use Rattle.spk_nums.specs.declared.calls.Call.TheVariants.{Kill}
-use Rattle.spk_nums.specs.declared.replies.Reply.TheVariants as reply
-use Rattle.kernel_rules.specs.State.{CompFields, Comp, Kernel, State, comp_in}
-use Rattle.kernel_rules.specs.Access.{found}
-use Rattle.kernel_rules.specs.Rules.{Cause, Does, RuleMay, outcome, unless, first_of}
-use Rattle.kernel_rules.specs.InvocationCalls.{is_live_in, not_live, kills, kill_comp}
-use Rattle.kernel_rules.specs.CallRelation.{rule_of, change_of}
-use Rattle.kernel_history.specs.Footprint.{is_one_of, frames_near, numbers_near, number_argument, number_in}
-use Rattle.kernel_history.specs.Trace.{Trace, Open, phase, state_after}
-use Rattle.call_plans.specs.declared.plans.Plan.{Plan}
-use Rattle.call_plans.specs.GoesBy.{GoesBy, own_pages}
-use Rattle.call_plans.specs.After.{rule_after, Leads, LeadsIn}
-use Rattle.call_plans.proofs.AfterNames.{outcome_left, left_may}
-use Rattle.act_states.specs.declared.kills.Killing.{Killing}
-use Rattle.act_states.specs.declared.kills.KillingAt.{KillingAt}
-use Rattle.act_states.specs.Kills.{KillingFits}
-use Rattle.act_states.specs.declared.work.Act.TheVariants.{Kill as kill_act}
-use Rattle.act_states.specs.declared.work.Work.TheVariants.{Act}
-use Rattle.call_stages.specs.declared.stages.Stage.TheVariants.{Undecided}
-use Rattle.call_stages.specs.declared.stages.ActiveCall.{ActiveCall}
-use Rattle.call_stages.specs.Fits.{StageFits, HasRoom}
-use Rattle.call_stages.specs.View.{Core}
-use Rattle.core_invariant.specs.Knows.{KnowsUndecided, phase_at}
-use Rattle.core_invariant.specs.Invariant.{Invariant}
-use Rattle.step_ways.proofs.Loads.{call_is, is_active}
+use Rattle.count_invariant.proofs.Common.{◌≡◌, inl, ℕ, ◌<◌, ◌==◌, ◌&&◌, ◌||◌, not, Bool, true, false, if◌then◌else◌, List, [], ◌∷◌}
+use Rattle.count_invariant.proofs.Common.{Option, Some, None, IsTrue, refl, sym, ◌∙◌, ap, subst, eq-eqb, Setting, IsSetting, Kill}
+use Rattle.count_invariant.proofs.Common.{CompFields, Comp, Kernel, State, comp_in, found, Cause, Does, RuleMay, outcome, unless}
+use Rattle.count_invariant.proofs.Common.{first_of, is_live_in, rule_of, change_of, is_one_of, frames_near, Trace, Open, phase}
+use Rattle.count_invariant.proofs.Common.{state_after, Plan, GoesBy, own_pages, rule_after, Leads, LeadsIn, outcome_left, left_may}
+use Rattle.count_invariant.proofs.Common.{KillingAt, Act, Undecided, ActiveCall, StageFits, HasRoom, Core, KnowsUndecided, phase_at}
+use Rattle.count_invariant.proofs.Common.{Invariant}
+use Rattle.state_laws.specs.spk_nums.specs.declared.replies.Reply.TheVariants as reply
+use Rattle.state_laws.specs.kernel_rules.specs.InvocationCalls.{not_live, kills, kill_comp}
+use Rattle.count_invariant.specs.kernel_history.specs.Footprint.{numbers_near, number_argument, number_in}
+use Rattle.count_invariant.specs.act_states.specs.declared.kills.Killing.{Killing}
+use Rattle.count_invariant.specs.act_states.specs.Kills.{KillingFits}
+use Rattle.count_invariant.specs.act_states.specs.declared.work.Act.TheVariants.{Kill as kill_act}
+use Rattle.count_invariant.specs.step_ways.proofs.Loads.{call_is, is_active}
 use Rattle.count_invariant.proofs.Acquiring.{plan_leads, goes_by}
 use Rattle.count_invariant.proofs.KillingCounts.{IsKill, kill_of, kill_near}
 use Rattle.live_invariant.proofs.Numbers.{one_of_many, comp_is}
-use Rattle.plan_ways.proofs.Near.{one_right}
+use Rattle.count_invariant.specs.plan_ways.proofs.Near.{one_right}
 
 module _ (setup : Setting) (setting : IsSetting setup) (cores : ℕ → Core) (t : Trace) (stands : Invariant setup cores t) (c : ℕ)
     (here : c < setup.cores)

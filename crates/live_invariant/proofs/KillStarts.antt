@@ -1,41 +1,19 @@
 -- A killing starts where its name has led to a component.
-use Rattle.std.proofs.Common.{◌≡◌, ℕ, ◌<◌, map, Bool, true, false, if◌then◌else◌, List}
-use Rattle.std.proofs.Common.{[], ◌∷◌, Some, None, IsTrue, refl, sym, ◌∙◌, ap, subst}
-use Rattle.spk_nums.specs.Capability.{Capability}
-use Rattle.spk_nums.specs.Setting.{Setting, IsSetting}
-use Rattle.spk_nums.specs.declared.kinds.Kind.{Kind}
-use Rattle.spk_nums.specs.declared.kinds.Kind.TheVariants as kind
-use Rattle.spk_nums.specs.declared.calls.Call.{Call}
-use Rattle.spk_nums.specs.declared.calls.Call.TheVariants.{Kill}
-use Rattle.spk_nums.specs.declared.replies.Reply.TheVariants as reply
-use Rattle.word_map.specs.Moves.{Move, word_of}
-use Rattle.kernel_rules.specs.State.{State}
-use Rattle.kernel_rules.specs.Access.{only}
-use Rattle.kernel_rules.specs.References.{named_by}
-use Rattle.kernel_rules.specs.Rules.{Found, Refused, named, of_kind}
-use Rattle.kernel_invariant.proofs.Facts.{named_fit}
-use Rattle.kernel_invariant.proofs.SoundRuns.{opened}
-use Rattle.found_stays.proofs.Stays.{name_parts}
-use Rattle.kernel_history.specs.Events.{events_of}
-use Rattle.kernel_history.specs.Legal.{IsLegal}
-use Rattle.kernel_history.specs.Trace.{Step, Trace, Open, phase, state_after, last_left}
-use Rattle.trace_laws.proofs.Carries.{Carries}
-use Rattle.trace_laws.proofs.Stays.{sound_of, opened_is, guarded_usable}
-use Rattle.stage_pins.specs.declared.held.Acquired.{Acquired}
-use Rattle.act_states.specs.declared.kills.KillingAt.TheVariants.{LoadComp}
-use Rattle.act_states.specs.declared.work.Act.TheVariants.{Kill as kill_act}
-use Rattle.act_states.specs.declared.work.Work.TheVariants.{Act}
-use Rattle.act_states.specs.Acts.{kills_in}
-use Rattle.call_stages.specs.declared.stages.Stage.TheVariants.{Undecided}
-use Rattle.call_stages.specs.declared.stages.ActiveCall.{ActiveCall}
-use Rattle.call_stages.specs.Steps.{landed, found_more}
-use Rattle.call_stages.specs.View.{Core}
-use Rattle.core_invariant.specs.Holding.{holds_counts}
-use Rattle.core_invariant.specs.Knows.{due_of, HasComp, KillsBy, NamesAre, phase_at}
-use Rattle.core_invariant.specs.Invariant.{holds_in, Invariant}
-use Rattle.kept_facts.proofs.Carries.{has_comp_on}
-use Rattle.step_ways.proofs.Loads.{OnlyLooks, step_to, call_is, loads_on}
-use Rattle.step_ways.proofs.Refusals.{GoodTook}
+use Rattle.count_invariant.proofs.Common.{◌≡◌, ℕ, ◌<◌, map, Bool, true, false, if◌then◌else◌, List, [], ◌∷◌, Some, None, IsTrue, refl}
+use Rattle.count_invariant.proofs.Common.{sym, ◌∙◌, ap, subst, Capability, Setting, IsSetting, Kind, Call, Kill, Move, word_of, State}
+use Rattle.count_invariant.proofs.Common.{only, named_by, Found, Refused, named, named_fit, opened, name_parts, events_of, IsLegal, Step}
+use Rattle.count_invariant.proofs.Common.{Trace, Open, phase, state_after, last_left, Carries, sound_of, opened_is, guarded_usable}
+use Rattle.count_invariant.proofs.Common.{Acquired, LoadComp, Act, Undecided, ActiveCall, landed, found_more, Core, holds_counts, due_of}
+use Rattle.count_invariant.proofs.Common.{NamesAre, phase_at, holds_in, Invariant}
+use Rattle.state_laws.specs.spk_nums.specs.declared.kinds.Kind.TheVariants as kind
+use Rattle.state_laws.specs.spk_nums.specs.declared.replies.Reply.TheVariants as reply
+use Rattle.state_laws.specs.kernel_rules.specs.Rules.{of_kind}
+use Rattle.count_invariant.specs.act_states.specs.declared.work.Act.TheVariants.{Kill as kill_act}
+use Rattle.count_invariant.specs.act_states.specs.Acts.{kills_in}
+use Rattle.count_invariant.specs.core_invariant.specs.Knows.{HasComp, KillsBy}
+use Rattle.count_invariant.specs.kept_facts.proofs.Carries.{has_comp_on}
+use Rattle.count_invariant.specs.step_ways.proofs.Loads.{OnlyLooks, step_to, call_is, loads_on}
+use Rattle.count_invariant.specs.step_ways.proofs.Refusals.{GoodTook}
 
 -- What a name leads to is of a wanted kind, and is what was found.
 same_found : (wanted : Kind → Bool) (j k : Capability) → of_kind wanted j ≡ Found k → j ≡ k

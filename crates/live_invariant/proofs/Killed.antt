@@ -1,87 +1,49 @@
 -- A killing draws its stamp and is decided: the number is dead, its reference to the component's frame is released, and the grace periods
 -- of both begin at the stamp. And the store of the dead number's word is good.
-use Rattle.core_invariant.proofs.Bare.{as_none, counts_bare}
-use Rattle.kept_facts.proofs.Lent.{lent_elsewhere}
-use Rattle.std.specs.Prelude.{IsSome}
-use Rattle.std.specs.List.{list_any}
-use Rattle.std.proofs.Common.{◌≡◌, ◌≢◌, inl, inr, ℕ, pos, negsuc, ◌+ℤ◌, max, length, ◌+◌, ◌^◌, ◌<◌, ◌≤◌, ◌==◌, ◌||◌, Bool, true}
-use Rattle.std.proofs.Common.{false, if◌then◌else◌, List, [], ◌∷◌, Option, Some, None, IsTrue, arith, refl, sym, ◌∙◌, ap, subst}
+use Rattle.count_invariant.proofs.Common.{as_none, counts_bare, lent_elsewhere, IsSome, list_any, ◌≡◌, ◌≢◌, inl, inr, ℕ, pos, negsuc}
+use Rattle.count_invariant.proofs.Common.{◌+ℤ◌, max, length, ◌+◌, ◌^◌, ◌<◌, ◌≤◌, ◌==◌, ◌||◌, Bool, true, false, if◌then◌else◌, List, []}
+use Rattle.count_invariant.proofs.Common.{◌∷◌, Option, Some, None, IsTrue, arith, refl, sym, ◌∙◌, ap, subst, cases_eq, eq-eqb, ne_eqb}
+use Rattle.count_invariant.proofs.Common.{false≢true, All-nil, Capability, Setting, IsSetting, Call, Kill, Kind, Reply, LiveFits}
+use Rattle.count_invariant.proofs.Common.{word_of_live, live_of_word, CompWord, Word, EntryAt, FrameAt, CountAt, CoreAt, FlushAt, LiveAt}
+use Rattle.count_invariant.proofs.Common.{ClockAt, same_word, Move, AddOf, StoreOf, word_of, told_of, same_same, Liveness, Live, Dead}
+use Rattle.count_invariant.proofs.Common.{Thing, PlaceOf, FrameOf, NumberOf, Grace, State, put, comp_in, thread_in, with_grace, Slot, own}
+use Rattle.count_invariant.proofs.Common.{Change, Found, IsFoundAnd, frames_of, times, refs, is_live_in, MayReply, rule_of, ends_by}
+use Rattle.count_invariant.proofs.Common.{flushes_by, changed, change_of, counted, begins_in, same_thing, new_grace, calls_counted}
+use Rattle.count_invariant.proofs.Common.{grace_refs, put_same, put_other, IsNearIn, HasReached, marked_by, ends_in, flushes_in}
+use Rattle.count_invariant.proofs.Common.{begins_at, ends_at, flushes_at, stamp, clock, flush_stored, Step, Trace, Out, Open, WasAt}
+use Rattle.count_invariant.proofs.Common.{phase, state_after, state_decided_in, last_left, own_left, way_to, ways, ok_first, was_now}
+use Rattle.count_invariant.proofs.Common.{was_stays, decided-inside, cases_word, same_word-other, stamp-begins, stamp-kept}
+use Rattle.count_invariant.proofs.Common.{flush_stored-own, flush_stored-other, drawn_stamp, later, own_pages, LeadsIn, leads_by}
+use Rattle.count_invariant.proofs.Common.{KillingAt, LoadComp, LoadLive, Act, Nothing, StoreDead, Stage, Undecided, Decided, ActiveCall}
+use Rattle.count_invariant.proofs.Common.{GoesOn, landed, went_with, Core, IsWithin, Holding, holds_counts, settled_by, settled, NumberIs}
+use Rattle.count_invariant.proofs.Common.{WordIs, count_room, HasFound, KnowsUndecided, WorksIn, own_in, phase_at, done_by, holds_at}
+use Rattle.count_invariant.proofs.Common.{holds_in, holds, held_by, times_of, counted_in, Invariant, counts, calm_counted, plain_exit}
+use Rattle.count_invariant.proofs.Common.{room_grows, own_kept, counts_on, counted_refs, limits_of, SameFor, ReadsAlike, reads_alike}
+use Rattle.count_invariant.proofs.Common.{StaysSaid, word_stays}
 use Rattle.std.proofs.Math.IntN.{pos-+ℤ-pos, +ℤ_assoc, +ℤ_invr, +ℤ_idr}
-use Rattle.std.proofs.lemmas.Bool.{cases_eq, eq-eqb, ne_eqb, false≢true}
-use Rattle.std.proofs.lemmas.List.Elements.{All-nil}
-use Rattle.spk_nums.specs.Capability.{Capability}
-use Rattle.spk_nums.specs.Setting.{Setting, IsSetting}
-use Rattle.spk_nums.specs.declared.calls.Call.{Call}
-use Rattle.spk_nums.specs.declared.calls.Call.TheVariants.{Kill}
-use Rattle.spk_nums.specs.declared.kinds.Kind.{Kind}
-use Rattle.spk_nums.specs.declared.replies.Reply.{Reply}
-use Rattle.spk_nums.specs.declared.replies.Reply.TheVariants as reply
-use Rattle.spk_nums.specs.declared.replies.Value.TheVariants as value
-use Rattle.frame_words.specs.Live.{LiveFits, word_of_live, live_of_word}
-use Rattle.frame_words.specs.declared.comp_word.CompWord.{CompWord}
-use Rattle.frame_words.specs.declared.live_word.LiveWord.TheVariants as live_word
-use Rattle.frame_words.proofs.LiveLemmas as lives
-use Rattle.word_map.specs.Word.{Word, EntryAt, FrameAt, CountAt, CoreAt, FlushAt, LiveAt, ClockAt, same_word}
-use Rattle.word_map.specs.Moves.{Move, AddOf, StoreOf, word_of, told_of}
-use Rattle.word_map.proofs.WordLemmas.{same_same}
-use Rattle.kernel_rules.specs.State.{Liveness, Live, Dead, Thing, PlaceOf, FrameOf, NumberOf, Grace}
-use Rattle.kernel_rules.specs.State.{State, put, comp_in, thread_in, with_number, with_grace}
-use Rattle.kernel_rules.specs.Access.{Slot, own}
-use Rattle.kernel_rules.specs.Rules.{Change, Found, IsFoundAnd, frames_of}
-use Rattle.kernel_rules.specs.References.{number_names, times, refs}
-use Rattle.kernel_rules.specs.InvocationCalls.{is_live_in, kills}
-use Rattle.kernel_rules.specs.CallRelation.{MayReply, rule_of, ends_by, flushes_by, changed, change_of, counted, begins_in}
-use Rattle.kernel_rules.specs.GracePeriods.{same_thing, new_grace}
-use Rattle.kernel_rules.specs.Laws.{calls_counted}
-use Rattle.kernel_invariant.proofs.Refs.{number_refs, grace_refs}
-use Rattle.kernel_invariant.proofs.Sums as sums
-use Rattle.kernel_rules.proofs.Within.{put_same, put_other}
-use Rattle.kernel_history.specs.Footprint.{IsNearIn}
-use Rattle.kernel_history.specs.Justified.{HasReached}
-use Rattle.kernel_history.specs.Marking.{marked_by}
-use Rattle.kernel_history.specs.Stamps.{begins_in as begins_then, ends_in, flushes_in, begins_at}
-use Rattle.kernel_history.specs.Stamps.{ends_at, flushes_at, stamp, clock, flush_stored}
-use Rattle.kernel_history.specs.Trace.{Step, Trace, Out, Open, WasAt, phase, state_after, state_decided_in, last_left, own_left}
-use Rattle.kernel_history.specs.Ways.{way_to, ways}
-use Rattle.trace_laws.proofs.AloneCalls.{ok_first}
-use Rattle.trace_laws.proofs.Carries.{was_now, was_stays}
-use Rattle.kernel_history.proofs.Inside.{decided-inside}
-use Rattle.kernel_history.proofs.Names.{cases_word, same_word-other}
-use Rattle.kernel_history.proofs.Steps.{stamp-begins, stamp-kept, flush_stored-own, flush_stored-other}
-use Rattle.stage_quiet.specs.Clocks.{drawn_stamp}
-use Rattle.stage_pins.specs.Counts.{later}
-use Rattle.call_plans.specs.GoesBy.{own_pages}
-use Rattle.call_plans.specs.After.{LeadsIn}
-use Rattle.call_plans.proofs.AfterNames.{leads_by}
-use Rattle.plan_ways.proofs.Ways.{all_ways}
-use Rattle.act_states.specs.declared.kills.KillingAt.{KillingAt}
-use Rattle.act_states.specs.declared.kills.KillingAt.TheVariants.{LoadComp, LoadLive, Close, Draw}
-use Rattle.act_states.specs.Kills.{killing_at}
-use Rattle.act_states.specs.declared.work.Act.TheVariants.{Kill as kill_act}
-use Rattle.act_states.specs.declared.work.Work.TheVariants.{Act}
-use Rattle.act_states.specs.declared.work.Tail.TheVariants.{Nothing, StoreDead}
-use Rattle.act_states.specs.Acts.{drawn_dead, took_killing_at}
-use Rattle.call_stages.specs.declared.stages.Stage.{Stage}
-use Rattle.call_stages.specs.declared.stages.Stage.TheVariants.{Undecided, Decided}
-use Rattle.call_stages.specs.declared.stages.ActiveCall.{ActiveCall}
-use Rattle.call_stages.specs.Steps.{GoesOn, landed, went_with}
-use Rattle.call_stages.specs.View.{Core}
-use Rattle.core_invariant.specs.CountWords.{IsWithin}
-use Rattle.core_invariant.specs.Holding.{Holding, holds_counts, settled_by, settled}
-use Rattle.core_invariant.specs.Words.{NumberIs, WordIs, count_room}
-use Rattle.core_invariant.specs.Knows.{HasFound, KnowsUndecided, KnowsDead, WorksIn, own_in, phase_at}
-use Rattle.core_invariant.specs.Invariant.{done_by, holds_at, holds_in, holds, held_by, times_of, counted_in, Invariant}
-use Rattle.kept_facts.proofs.Calm.{counts, calm_counted, own_works, plain_exit, room_grows, counted_grows}
-use Rattle.kept_facts.proofs.Carries.{own_kept, counts_on}
-use Rattle.kept_facts.proofs.CountSums.{counted_refs}
-use Rattle.step_ways.proofs.Counting as counters
-use Rattle.step_ways.proofs.Draws as drawing
-use Rattle.step_ways.proofs.Good.{spares_other}
-use Rattle.step_ways.proofs.Loads.{call_is, core_in_call, inner}
-use Rattle.step_ways.proofs.Refusals.{GoodTook, not_spent}
-use Rattle.core_invariant.proofs.Sounds.{limits_of}
-use Rattle.kept_facts.proofs.WordFrames.{SameFor, ReadsAlike, reads_alike, StaysSaid, word_stays}
-use Rattle.step_ways.proofs.Writes.{clock_small, same_marks}
+use Rattle.state_laws.specs.spk_nums.specs.declared.replies.Reply.TheVariants as reply
+use Rattle.state_laws.specs.spk_nums.specs.declared.replies.Value.TheVariants as value
+use Rattle.count_invariant.specs.frame_words.specs.declared.live_word.LiveWord.TheVariants as live_word
+use Rattle.count_invariant.specs.frame_words.proofs.LiveLemmas as lives
+use Rattle.state_laws.specs.kernel_rules.specs.State.{with_number}
+use Rattle.state_laws.specs.kernel_rules.specs.References.{number_names}
+use Rattle.state_laws.specs.kernel_rules.specs.InvocationCalls.{kills}
+use Rattle.state_laws.specs.kernel_invariant.proofs.Refs.{number_refs}
+use Rattle.state_laws.specs.kernel_invariant.proofs.Sums as sums
+use Rattle.count_invariant.specs.kernel_history.specs.Stamps.{begins_in as begins_then}
+use Rattle.count_invariant.specs.plan_ways.proofs.Ways.{all_ways}
+use Rattle.count_invariant.specs.act_states.specs.declared.kills.KillingAt.TheVariants.{Close, Draw}
+use Rattle.count_invariant.specs.act_states.specs.Kills.{killing_at}
+use Rattle.count_invariant.specs.act_states.specs.declared.work.Act.TheVariants.{Kill as kill_act}
+use Rattle.count_invariant.specs.act_states.specs.Acts.{drawn_dead, took_killing_at}
+use Rattle.count_invariant.specs.core_invariant.specs.Knows.{KnowsDead}
+use Rattle.count_invariant.specs.kept_facts.proofs.Calm.{own_works, counted_grows}
+use Rattle.count_invariant.specs.step_ways.proofs.Counting as counters
+use Rattle.count_invariant.specs.step_ways.proofs.Draws as drawing
+use Rattle.count_invariant.specs.step_ways.proofs.Good.{spares_other}
+use Rattle.count_invariant.specs.step_ways.proofs.Loads.{call_is, core_in_call, inner}
+use Rattle.count_invariant.specs.step_ways.proofs.Refusals.{GoodTook, not_spent}
+use Rattle.count_invariant.specs.step_ways.proofs.Writes.{clock_small, same_marks}
 use Rattle.count_invariant.proofs.CapChanges.{counts_commit, counts_sum, dues_of}
 use Rattle.count_invariant.proofs.KillingCounts.{kill_numbers, kill_raises, kill_types}
 use Rattle.count_invariant.proofs.Findings.{own_is, found_named, way_gone}

@@ -1,54 +1,29 @@
 -- The steps of a killing before its draw are good: the loads of the component's word and of its number's word, and the compare that marks
 -- the number, which is lost to another core or holds it for the call.
-use Rattle.core_invariant.proofs.Bare.{as_none, counts_bare}
-use Rattle.kept_facts.proofs.Lent.{may_keep, unlent_value, lent_elsewhere}
-use Rattle.std.proofs.Common.{◌≡◌, ◌≢◌, inl, ℕ, ◌+◌, ◌++◌, ◌^◌, ◌<◌, ◌==◌, map, length, Bool, true, false, if◌then◌else◌}
-use Rattle.std.proofs.Common.{List, [], ◌∷◌, Option, Some, None, IsTrue, arith, refl, sym, ◌∙◌, ap, subst}
-use Rattle.std.proofs.lemmas.Bool.{eqb-true, eqb-false, eq-eqb, false≢true}
-use Rattle.spk_nums.specs.Setting.{Setting, IsSetting}
-use Rattle.spk_nums.specs.WordSteps.{left_if}
-use Rattle.frame_words.specs.Comp.{comp_of_word}
-use Rattle.frame_words.specs.Live.{LiveFits, word_of_live, live_of_word}
-use Rattle.frame_words.specs.declared.comp_word.CompWord.{CompWord}
-use Rattle.frame_words.specs.declared.live_word.LiveWord.{LiveWord}
-use Rattle.frame_words.specs.declared.live_word.LiveWord.TheVariants as live_word
-use Rattle.frame_words.proofs.LiveLemmas as lives
-use Rattle.word_map.specs.Word.{Word, EntryAt, LiveAt}
-use Rattle.word_map.specs.Moves.{Move, LoadOf, CompareOf, left_of}
-use Rattle.word_map.proofs.WordLemmas.{same_same}
-use Rattle.kernel_rules.specs.State.{State, NumberOf, PlaceOf, put, comp_in}
-use Rattle.kernel_rules.specs.InvocationCalls.{is_live_in}
-use Rattle.kernel_rules.proofs.Within.{put_same}
-use Rattle.kernel_history.specs.Discipline.{changes_numbers, looks_at_numbers}
-use Rattle.kernel_history.specs.Marks.{mark_in_frame, live_mark}
-use Rattle.kernel_history.specs.Marking.{marked_by}
-use Rattle.kernel_history.specs.Stamps.{stamp}
-use Rattle.kernel_history.specs.Trace.{Step, Trace, state_after, last_left}
-use Rattle.kernel_history.proofs.Names.{same_word-other}
-use Rattle.kernel_history.proofs.Steps.{own_read-here}
-use Rattle.stage_pins.specs.declared.held.Acquired.{Acquired}
-use Rattle.act_states.specs.declared.refusals.Refusal.TheVariants as refusal
-use Rattle.act_states.specs.declared.kills.Killing.{Killing}
-use Rattle.act_states.specs.declared.kills.KillingAt.TheVariants.{LoadComp, LoadLive, Close, Draw}
-use Rattle.act_states.specs.declared.work.Act.{Act as ActOf}
-use Rattle.act_states.specs.declared.work.Act.TheVariants.{Kill as kill_act}
-use Rattle.act_states.specs.declared.work.Work.TheVariants.{Act}
-use Rattle.act_states.specs.declared.work.WorkStep.TheVariants.{Goes}
-use Rattle.act_states.specs.WorkSteps.{refuse}
-use Rattle.act_states.specs.Acts.{dues, next_work, meets_comp, meets_live, meets_number, meets_life, closes_if}
-use Rattle.call_stages.specs.declared.stages.Stage.TheVariants.{Undecided}
-use Rattle.call_stages.specs.declared.stages.ActiveCall.{ActiveCall}
-use Rattle.call_stages.specs.Steps.{GoesOn, landed, went}
-use Rattle.call_stages.specs.View.{Core}
-use Rattle.core_invariant.specs.Holding.{holds_counts, settled_by}
-use Rattle.core_invariant.specs.Words.{IsFrameWord, NumberIs, count_room}
-use Rattle.core_invariant.specs.Knows.{due_of, KnowsUndecided}
-use Rattle.core_invariant.specs.Invariant.{holds_at, holds_in, holds, held_by, Invariant}
-use Rattle.kept_facts.proofs.Carries.{names_on, has_comp_on, life_on, counts_on}
-use Rattle.step_ways.proofs.Counting as counters
-use Rattle.step_ways.proofs.Good.{spares_other}
-use Rattle.step_ways.proofs.Loads.{IsOfCall, OnlyLooks, step_to, next_at, core_in_call, inner, call_is, loads_on}
-use Rattle.step_ways.proofs.Refusals.{GoodTook, refuses_raced, refuses_busy, refuses_dead, ticks_at}
+use Rattle.count_invariant.proofs.Common.{as_none, counts_bare, may_keep, unlent_value, lent_elsewhere, ◌≡◌, ◌≢◌, inl, ℕ, ◌+◌, ◌++◌, ◌^◌}
+use Rattle.count_invariant.proofs.Common.{◌<◌, ◌==◌, map, length, Bool, true, false, if◌then◌else◌, List, [], ◌∷◌, Option, Some, None}
+use Rattle.count_invariant.proofs.Common.{IsTrue, arith, refl, sym, ◌∙◌, ap, subst, eqb-true, eqb-false, eq-eqb, false≢true, Setting}
+use Rattle.count_invariant.proofs.Common.{IsSetting, left_if, comp_of_word, LiveFits, word_of_live, live_of_word, CompWord, LiveWord}
+use Rattle.count_invariant.proofs.Common.{Word, EntryAt, LiveAt, Move, LoadOf, CompareOf, left_of, same_same, State, NumberOf, PlaceOf}
+use Rattle.count_invariant.proofs.Common.{put, comp_in, is_live_in, put_same, changes_numbers, mark_in_frame, live_mark, marked_by, stamp}
+use Rattle.count_invariant.proofs.Common.{Step, Trace, state_after, last_left, same_word-other, own_read-here, Acquired, LoadComp}
+use Rattle.count_invariant.proofs.Common.{LoadLive, Act, Goes, refuse, dues, next_work, Undecided, ActiveCall, GoesOn, landed, went, Core}
+use Rattle.count_invariant.proofs.Common.{holds_counts, settled_by, IsFrameWord, NumberIs, count_room, due_of, KnowsUndecided, holds_at}
+use Rattle.count_invariant.proofs.Common.{holds_in, holds, held_by, Invariant, names_on, counts_on}
+use Rattle.count_invariant.specs.frame_words.specs.declared.live_word.LiveWord.TheVariants as live_word
+use Rattle.count_invariant.specs.frame_words.proofs.LiveLemmas as lives
+use Rattle.count_invariant.specs.kernel_history.specs.Discipline.{looks_at_numbers}
+use Rattle.count_invariant.specs.act_states.specs.declared.refusals.Refusal.TheVariants as refusal
+use Rattle.count_invariant.specs.act_states.specs.declared.kills.Killing.{Killing}
+use Rattle.count_invariant.specs.act_states.specs.declared.kills.KillingAt.TheVariants.{Close, Draw}
+use Rattle.count_invariant.specs.act_states.specs.declared.work.Act.{Act as ActOf}
+use Rattle.count_invariant.specs.act_states.specs.declared.work.Act.TheVariants.{Kill as kill_act}
+use Rattle.count_invariant.specs.act_states.specs.Acts.{meets_comp, meets_live, meets_number, meets_life, closes_if}
+use Rattle.count_invariant.specs.kept_facts.proofs.Carries.{has_comp_on, life_on}
+use Rattle.count_invariant.specs.step_ways.proofs.Counting as counters
+use Rattle.count_invariant.specs.step_ways.proofs.Good.{spares_other}
+use Rattle.count_invariant.specs.step_ways.proofs.Loads.{IsOfCall, OnlyLooks, step_to, next_at, core_in_call, inner, call_is, loads_on}
+use Rattle.count_invariant.specs.step_ways.proofs.Refusals.{GoodTook, refuses_raced, refuses_busy, refuses_dead, ticks_at}
 use Rattle.count_invariant.proofs.Acquiring.{knows_next, next_holds, one_apart}
 use Rattle.live_invariant.proofs.Numbers.{no_number, shows_live, lives_as_shown, shows_some}
 use Rattle.live_invariant.proofs.KillCalls as calls

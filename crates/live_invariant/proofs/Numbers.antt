@@ -1,32 +1,16 @@
 -- Liveness numbers: what their words show, which are near a call, and whose component lives under one.
-use Rattle.std.proofs.Common.{◌≡◌, ℕ, ◌^◌, ◌<◌, ◌==◌, ◌||◌, Bool, true, false, List, [], ◌∷◌}
-use Rattle.std.proofs.Common.{◌++◌, Option, Some, None, IsTrue, refl, sym, ◌∙◌, ap, subst}
-use Rattle.std.specs.List.{flat_map}
-use Rattle.std.proofs.lemmas.Bool.{eqb-true, false≢true}
-use Rattle.spk_nums.specs.Setting.{Setting, IsSetting}
-use Rattle.spk_nums.specs.declared.kinds.Kind.TheVariants as kind
-use Rattle.frame_words.specs.Live.{live_of_word}
-use Rattle.frame_words.specs.declared.live_word.LiveWord.{LiveWord}
-use Rattle.frame_words.specs.declared.live_word.LiveWord.TheVariants as live_word
-use Rattle.frame_words.proofs.LiveLemmas as lives
-use Rattle.kernel_rules.specs.State.{Comp, Frame, Kernel, Liveness, Unused, Live, Dead, State, comp_in}
-use Rattle.kernel_rules.specs.Fitting.{fits}
-use Rattle.kernel_rules.specs.InvocationCalls.{is_live_in}
-use Rattle.kernel_history.specs.Footprint.{is_one_of}
-use Rattle.kernel_history.specs.Marks.{live_mark}
-use Rattle.kernel_history.specs.Legal.{IsLegal}
-use Rattle.kernel_history.specs.Trace.{Trace, state_after}
-use Rattle.kernel_history.proofs.Events.{state_is, run_of}
-use Rattle.kernel_rules.specs.Runs.{after}
-use Rattle.kernel_history.specs.Events.{events_of}
-use Rattle.plan_ways.proofs.Near.{one_left, one_right}
-use Rattle.stage_pins.specs.declared.held.Acquired.{Acquired}
-use Rattle.word_map.specs.Word.{LiveAt}
+use Rattle.count_invariant.proofs.Common.{◌≡◌, ℕ, ◌^◌, ◌<◌, ◌==◌, ◌||◌, Bool, true, false, List, [], ◌∷◌, ◌++◌, Option, Some, None}
+use Rattle.count_invariant.proofs.Common.{IsTrue, refl, sym, ◌∙◌, ap, subst, flat_map, eqb-true, false≢true, Setting, IsSetting}
+use Rattle.count_invariant.proofs.Common.{live_of_word, LiveWord, Comp, Frame, Kernel, Liveness, Unused, Live, Dead, State, comp_in, fits}
+use Rattle.count_invariant.proofs.Common.{is_live_in, is_one_of, live_mark, IsLegal, Trace, state_after, state_is, run_of, after}
+use Rattle.count_invariant.proofs.Common.{events_of, Acquired, LiveAt, holds_counts, NumberIs}
+use Rattle.state_laws.specs.spk_nums.specs.declared.kinds.Kind.TheVariants as kind
+use Rattle.count_invariant.specs.frame_words.specs.declared.live_word.LiveWord.TheVariants as live_word
+use Rattle.count_invariant.specs.frame_words.proofs.LiveLemmas as lives
+use Rattle.count_invariant.specs.plan_ways.proofs.Near.{one_left, one_right}
 use Rattle.state_laws.specs.Lives.{IsCompOf}
 use Rattle.state_laws.proofs.Lives.{live_numbers_fit}
 use Rattle.state_laws.proofs.CompsApart.{comps_apart}
-use Rattle.core_invariant.specs.Holding.{holds_counts}
-use Rattle.core_invariant.specs.Words.{NumberIs}
 
 -- No count is the word of a liveness number.
 pub no_number : (fate : Option (Option ℕ)) (xs : List Acquired) (l : ℕ) → (holds_counts fate xs).marks (LiveAt l) ≡ false

@@ -1,5 +1,5 @@
 -- The script of every number is within the limits, and its text says it.
-use Rattle.std.proofs.Common.{◌≡◌, ℕ, ◌<◌, ◌≤◌, List, [], ◌∷◌, ◌++◌, length, All, Ok, refl, sym, subst, arith, inl, inr}
+use Rattle.std.proofs.Common.{◌≡◌, ℕ, ◌<◌, ◌≤◌, List, [], ◌∷◌, ◌++◌, length, All, Ok, refl, sym, subst, arith, inl, inr, length-append}
 use Rattle.std.proofs.lemmas.Bool.{cases_lt}
 use Rattle.std.proofs.lemmas.List.{get_or_past}
 use Rattle.std.proofs.lemmas.List.Elements.{All-append, All-from_recursion, All-get_or}
@@ -11,7 +11,7 @@ use Rattle.spk_nums.specs.declared.steps.Item.{Item}
 use Rattle.spk_nums.specs.CallLimits.{MakeInLimits, InLimits}
 use Rattle.spk_nums.specs.Setting.{GrantFits, IsSetting}
 use Rattle.script_tokens.specs.Words.{line_count}
-use Rattle.script_reader.specs.Readings.{Meaning, BelowCores, script_of}
+use Rattle.script_reader.specs.Readings.{Meaning, AtMost, BelowCores, script_of}
 use Rattle.script_printer.specs.Printing.{printed}
 use Rattle.script_printer.specs.Law.{IsMakeWithin, IsCallWithin, IsWithin, most_lines}
 use Rattle.script_printer.proofs.LineCounts.{few_lines}
@@ -140,6 +140,16 @@ lists_in x =
       (calls_in y, (calls_in z, (calls_in (drawn_calls z).1, tt))),
     )
 
+lists_few : (x : ℕ) → All (AtMost 503) (drawn_lists x).0
+lists_few x =
+    let y = (drawn_calls x).1 in
+    let z = (drawn_calls y).1 in
+    let w = (drawn_calls z).1 in
+    All-from_recursion (AtMost 503) (drawn_lists x).0 (
+      omega (arith, length-append first_calls (drawn_calls x).0, calls_length x),
+      (omega (arith, calls_length y), (omega (arith, calls_length z), (omega (arith, calls_length w), tt))),
+    )
+
 -- ---- the order
 
 abbrev Is_below : Item → Type 0
@@ -200,6 +210,10 @@ pub made_within : (n : ℕ) → IsWithin (script_made n)
 unfolding script_made
 made_within n = within_parts n (drawn_lists n).1
 
+made_few : (n : ℕ) → All (AtMost 503) (script_made n).lists
+unfolding script_made
+made_few n = lists_few n
+
 -- what is printed of it says it
 pub made_reads : (n : ℕ) → script_of (load_text n) ≡ Ok (script_made n)
 unfolding load_text
@@ -209,5 +223,6 @@ pub accepted : (n : ℕ) → IsAccepted n
 accepted n = record {
   within = made_within n;
   limits = λ k d h i e g. call_limits _ ((made_within n).calls k d h i e g);
+  few = made_few n;
   reads = made_reads n;
 }

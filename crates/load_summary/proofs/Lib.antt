@@ -1,3 +1,4 @@
 pub mod Tallies
 pub mod ReplyWords
+pub mod Told
 pub mod Parts

@@ -1,23 +1,35 @@
 -- Each reply has its number below 24, and the word of that number.
-use Rattle.std.proofs.Common.{◌≡◌, ℕ, ◌<◌, List, [], ◌∷◌, refl, sym, ap, ◌∙◌, arith, slice_index_or}
+use Rattle.std.proofs.Common.{◌≡◌, ℕ, suc, ◌<◌, cond, eqb, List, [], ◌∷◌, refl, sym, ap, ◌∙◌, arith, slice_index_or}
 use Rattle.std.specs.Prelude.{codes}
+use lib.Pointwise.{pointwise}
 use Rattle.spk_nums.specs.declared.replies.Reply.{Reply}
 use Rattle.spk_nums.specs.declared.replies.Reply.TheVariants.{Ok as ok_reply, NoSlot, Empty, WrongCap, Occupied, Quiescing}
 use Rattle.spk_nums.specs.declared.replies.Reply.TheVariants.{Unflushed, FrameKind as wrong_frame, OutOfRange, Referenced}
 use Rattle.spk_nums.specs.declared.replies.Reply.TheVariants.{NotEmpty, Dead, Deep, Bottom, Running, Short, Unlike}
 use Rattle.spk_nums.specs.declared.replies.Reply.TheVariants.{TooMany, Same, EpochsSpent, Raced, Busy, Fault, CallsSpent}
 use Rattle.spk_nums.specs.Names.{reply_code, reply_word}
-use Rattle.load_summary.specs.Summaries.{IsCounted}
+use Rattle.load_summary.specs.Laws.{IsCounted}
 
 -- the words of the numbers, from 0 on
-unfoldable word_numbered : ℕ → List ℕ
-word_numbered n = slice_index_or (codes "ok" ∷ codes "no-slot" ∷ codes "empty" ∷ codes "wrong-cap" ∷ codes "occupied" ∷ codes "quiescing"
+unfoldable the_words : List (List ℕ)
+the_words = codes "ok" ∷ codes "no-slot" ∷ codes "empty" ∷ codes "wrong-cap" ∷ codes "occupied" ∷ codes "quiescing"
     ∷ codes "unflushed" ∷ codes "frame-kind" ∷ codes "out-of-range" ∷ codes "referenced" ∷ codes "not-empty" ∷ codes "dead" ∷ codes "deep"
     ∷ codes "bottom" ∷ codes "running" ∷ codes "short" ∷ codes "unlike" ∷ codes "too-many" ∷ codes "same"
-    ∷ codes "epochs-spent" ∷ codes "raced" ∷ codes "busy" ∷ codes "fault" ∷ codes "calls-spent" ∷ []) n []
+    ∷ codes "epochs-spent" ∷ codes "raced" ∷ codes "busy" ∷ codes "fault" ∷ codes "calls-spent" ∷ []
+
+unfoldable word_numbered : ℕ → List ℕ
+word_numbered n = slice_index_or the_words n []
+
+-- where a word stands first in a list of words
+place_in : List (List ℕ) → List ℕ → ℕ
+place_in [] w = 0
+place_in (x ∷ xs) w = cond (pointwise eqb x w) 0 (suc (place_in xs w))
+
+unfoldable number_worded : List ℕ → ℕ
+number_worded w = place_in the_words w
 
 numbered : (r : Reply) → reply_word r ≡ word_numbered (reply_code r)
-unfolding word_numbered
+unfolding word_numbered the_words
 numbered (ok_reply v) = refl
 numbered NoSlot = refl
 numbered Empty = refl
@@ -42,6 +54,33 @@ numbered Raced = refl
 numbered (Busy d) = refl
 numbered Fault = refl
 numbered CallsSpent = refl
+
+worded : (r : Reply) → number_worded (reply_word r) ≡ reply_code r
+unfolding number_worded the_words place_in
+worded (ok_reply v) = refl
+worded NoSlot = refl
+worded Empty = refl
+worded WrongCap = refl
+worded Occupied = refl
+worded (Quiescing e) = refl
+worded (Unflushed e) = refl
+worded wrong_frame = refl
+worded OutOfRange = refl
+worded (Referenced k) = refl
+worded NotEmpty = refl
+worded Dead = refl
+worded Deep = refl
+worded Bottom = refl
+worded (Running e) = refl
+worded (Short b) = refl
+worded Unlike = refl
+worded TooMany = refl
+worded Same = refl
+worded EpochsSpent = refl
+worded Raced = refl
+worded (Busy d) = refl
+worded Fault = refl
+worded CallsSpent = refl
 
 below : (r : Reply) → reply_code r < 24
 below (ok_reply v) = omega arith
@@ -73,4 +112,5 @@ pub counted_once : (r : Reply) → IsCounted r
 counted_once r = record {
   below = below r;
   word = λ s e. numbered r ∙ ap word_numbered e ∙ sym (numbered s);
+  apart = λ s e. sym (worded r) ∙ ap number_worded e ∙ worded s;
 }

@@ -1,7 +1,6 @@
 -- The summary of calls: how often each reply came.
-use Rattle.std.specs.Prelude.{◌≡◌, ℕ, zero, suc, ◌+◌, ◌<◌, ◌==◌, List, [], ◌∷◌, ◌++◌, codes, length}
+use Rattle.std.specs.Prelude.{ℕ, zero, suc, ◌+◌, ◌==◌, List, [], ◌∷◌, ◌++◌, codes, length}
 use Rattle.std.specs.List.{filter}
-use Rattle.spk_nums.specs.declared.replies.Reply.{Reply}
 use Rattle.spk_nums.specs.declared.replies.Decision.{Decision}
 use Rattle.spk_nums.specs.Names.{reply_code, reply_word}
 use Rattle.spk_nums.specs.Texts.{with_one}
@@ -32,8 +31,3 @@ total_text total = line (with_one (codes "total") total)
 -- the summary of decisions: their counts, and a total of ticks
 unfoldable pub summary_text : List Decision → ℕ → List ℕ
 summary_text ds total = counts_text ds ++ total_text total
-
--- a reply has its number below 24, and one word with each reply of that number, so a summary counts each once, under its word
-pub record IsCounted (r : Reply) : Type 0 where
-  pub below : reply_code r < 24
-  pub word : (s : Reply) → reply_code r ≡ reply_code s → reply_word r ≡ reply_word s

@@ -11,20 +11,20 @@ use Rattle.word_map.specs.Word.{Word}
 use Rattle.word_map.specs.Places.{Shape, IsShape, IsIn, place_of, shared}
 use Rattle.word_map.specs.Moves.{word_of}
 use Rattle.word_map.proofs.PlaceLemmas.{has_places}
-use Rattle.kernel_rules.proofs.Within.{put_same, put_other}
-use Rattle.kernel_history.specs.Trace.{Step, Trace, phase, last_left, calls_of, decision_at, decisions_of}
-use Rattle.kernel_history.specs.Order.{IsIdle, MakesOne}
-use Rattle.kernel_history.proofs.Names.{cases_word}
-use Rattle.kernel_history.proofs.Steps.{calls_of-own, calls_of-other, last_left-here, last_left-there}
-use Rattle.kernel_history.specs.BootWords.{shape_of}
-use Rattle.call_stages.specs.View.{Core}
-use Rattle.call_stages.specs.Fits.{IsCore}
-use Rattle.call_stages.specs.Cores.{move_of}
-use Rattle.flight.specs.Made.{turned, MayStep, core_after, cores_after, stepping_core, IsMadeStep}
-use Rattle.flight.specs.Phases.{IsWord, IsInPhase}
-use Rattle.flight.proofs.Phases.{made_phases}
-use Rattle.flight.proofs.Spelling.{moves_are_words}
-use Rattle.call_stages.specs.declared.stages.ActiveCall.{ActiveCall}
+use Rattle.boot_words.specs.kernel_rules.proofs.Within.{put_same, put_other}
+use Rattle.boot_words.specs.kernel_history.specs.Trace.{Step, Trace, phase, last_left, calls_of, decision_at, decisions_of}
+use Rattle.boot_words.specs.kernel_history.specs.Order.{IsIdle, MakesOne}
+use Rattle.boot_words.specs.kernel_history.proofs.Names.{cases_word}
+use Rattle.boot_words.specs.kernel_history.proofs.Steps.{calls_of-own, calls_of-other, last_left-here, last_left-there}
+use Rattle.boot_words.specs.kernel_history.specs.BootWords.{shape_of}
+use Rattle.call_steps.specs.call_stages.specs.View.{Core}
+use Rattle.call_steps.specs.call_stages.specs.Fits.{IsCore}
+use Rattle.call_steps.specs.call_stages.specs.Cores.{move_of}
+use Rattle.flight_laws.specs.flight.specs.Made.{turned, MayStep, core_after, cores_after, stepping_core, IsMadeStep}
+use Rattle.flight_laws.specs.flight.specs.Phases.{IsWord, IsInPhase}
+use Rattle.flight_laws.specs.flight.proofs.Phases.{made_phases}
+use Rattle.flight_laws.specs.flight.proofs.Spelling.{moves_are_words}
+use Rattle.call_steps.specs.call_stages.specs.declared.stages.ActiveCall.{ActiveCall}
 use Rattle.lone_kernel.specs.declared.seats.Turn.{Turn}
 use Rattle.lone_kernel.specs.declared.seats.Turn.TheVariants.{Begins, GoesOn}
 use Rattle.lone_kernel.specs.Machine.{Machine, seat_at, core_at, list_at, turn_if, turn_at, IsFinished, IsFit}
@@ -32,6 +32,7 @@ use Rattle.lone_kernel.specs.Machine.{CanTake, enters_as, core_in, begun_by, pla
 use Rattle.lone_kernel.specs.Stands.{StandsFor}
 use Rattle.lone_kernel.specs.Moves.{calls_begun, GoesFurther, MovesTo, StaysIdle, StepsOnce}
 use Rattle.lone_kernel.proofs.Fits.{IsOf, is_of, seat_same, seat_there}
+use Rattle.flight_laws.specs.flight.specs.Made.{step_of}
 
 may_step : (core : Core) (f : Turn) → CanTake f core → MayStep (enters_as f) core
 may_step core (Begins call) can = record { between = can.between; limits = can.limits }
@@ -125,7 +126,7 @@ module _ (m : Machine) (t : Trace) (c : ℕ) (f : Turn) (fit : IsFit m) (setting
     is_core = here;
     may = subst (λ k. MayStep (enters_as f) k) (stands.cores c here) (may_step (core_at m c) f of.can);
     found = found_here;
-    made = ap (λ k. Rattle.flight.specs.Made.step_of c (enters_as f) k (found_by m c f)) (sym core_here);
+    made = ap (λ k. step_of c (enters_as f) k (found_by m c f)) (sym core_here);
   }
 
   cores_on : (d : ℕ) → d < m.setup.cores → core_at (stepped m c f) d ≡ cores_after m.setup (e ∷ t) d

@@ -9,14 +9,14 @@ use Rattle.spk_nums.specs.declared.replies.Decision.{Decision}
 use Rattle.spk_nums.specs.Setting.{Setting}
 use Rattle.word_map.specs.Word.{Word}
 use Rattle.word_map.specs.Places.{IsIn, size_of, shared}
-use Rattle.kernel_history.specs.BootWords.{boot_word, shape_of}
-use Rattle.kernel_history.specs.FinalWords.{word_in}
-use Rattle.call_stages.specs.View.{Core}
-use Rattle.call_stages.specs.Fits.{IsCore}
-use Rattle.call_stages.specs.Cores.{started}
-use Rattle.call_stages.specs.declared.stages.ActiveCall.{ActiveCall}
+use Rattle.boot_words.specs.kernel_history.specs.BootWords.{boot_word, shape_of}
+use Rattle.boot_words.specs.kernel_history.specs.FinalWords.{word_in}
+use Rattle.call_steps.specs.call_stages.specs.View.{Core}
+use Rattle.call_steps.specs.call_stages.specs.Fits.{IsCore}
+use Rattle.call_steps.specs.call_stages.specs.Cores.{started}
+use Rattle.call_steps.specs.call_stages.specs.declared.stages.ActiveCall.{ActiveCall}
 use Rattle.lone_kernel.specs.declared.seats.Seat.{Seat}
-use Rattle.flight.specs.Decided.{is_decided_at}
+use Rattle.flight_laws.specs.flight.specs.Decided.{is_decided_at}
 use Rattle.lone_kernel.specs.Machine.{Machine, seat_at, core_at, list_at, fresh_seat, due_at, due_in, IsFit, IsFitSeat, AreLists, AreFresh}
 use Rattle.lone_kernel.specs.Stands.{StandsFor}
 

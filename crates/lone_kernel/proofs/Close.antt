@@ -1,16 +1,16 @@
 -- The words and ends that a machine leaves represent the state that its traces leave, and its count words the references.
 use Rattle.std.proofs.Common.{◌≡◌, ℕ, ◌<◌, List, [], ◌∷◌, length, get_or, map, None, arith, refl, sym, ◌∙◌, ap, zero, suc}
 use Rattle.spk_nums.specs.Setting.{Setting, IsSetting}
-use Rattle.kernel_history.specs.BootWords.{shape_of}
-use Rattle.kernel_history.specs.Counts.{RepresentCounts}
-use Rattle.kernel_history.specs.FinalWords.{Represent, word_in, end_in}
-use Rattle.kernel_history.specs.Trace.{Trace, state_after, last_left}
-use Rattle.call_stages.specs.Cores.{end_of}
-use Rattle.core_invariant.proofs.Sounds.{limits_of}
-use Rattle.flight.specs.Made.{cores_after}
-use Rattle.flight.proofs.Final.{represents, represents_counts}
-use Rattle.flight.proofs.Made.{made_stands}
-use Rattle.flight.proofs.Alike.{like, like_counts}
+use Rattle.boot_words.specs.kernel_history.specs.BootWords.{shape_of}
+use Rattle.boot_words.specs.kernel_history.specs.Counts.{RepresentCounts}
+use Rattle.boot_words.specs.kernel_history.specs.FinalWords.{Represent, word_in, end_in}
+use Rattle.boot_words.specs.kernel_history.specs.Trace.{Trace, state_after, last_left}
+use Rattle.call_steps.specs.call_stages.specs.Cores.{end_of}
+use Rattle.flight_laws.specs.core_invariant.proofs.Sounds.{limits_of}
+use Rattle.flight_laws.specs.flight.specs.Made.{cores_after}
+use Rattle.flight_laws.specs.flight.proofs.Final.{represents, represents_counts}
+use Rattle.flight_laws.specs.flight.proofs.Made.{made_stands}
+use Rattle.flight_laws.specs.flight.proofs.Alike.{like, like_counts}
 use Rattle.lone_kernel.specs.declared.seats.Seat.{Seat}
 use Rattle.lone_kernel.specs.Machine.{Machine, core_at, fresh_seat}
 use Rattle.lone_kernel.specs.Stands.{StandsFor}

@@ -9,25 +9,25 @@ use Rattle.std.proofs.lemmas.Option.{slice_get_cases}
 use Rattle.spk_nums.specs.CallLimits.{InLimits}
 use Rattle.spk_nums.specs.declared.calls.Call.{Call}
 use Rattle.spk_nums.specs.Setting.{Setting}
-use Rattle.kernel_history.specs.Trace.{decision_at}
-use Rattle.call_stages.specs.View.{Core}
-use Rattle.call_stages.specs.Fits.{IsCore, steps_left}
-use Rattle.act_states.specs.declared.own.Own.{Own}
-use Rattle.act_states.specs.declared.own.OwnChange.TheVariants.{Ticks, Empties, Works, Caches, Switches}
-use Rattle.call_stages.specs.Cores.{core_after, told_by, absorbed, told_of_step, absorbed_in, told_in}
-use Rattle.core_invariant.specs.Events.{decided_in}
-use Rattle.call_stages.specs.declared.stages.Absorbed.{Absorbed}
-use Rattle.call_stages.specs.declared.stages.Absorbed.TheVariants.{Going, Decided, Returned}
-use Rattle.call_stages.specs.declared.stages.ActiveCall.{ActiveCall}
-use Rattle.call_stages.specs.Steps.{Took, GoesOn as TookOn, Decides, Returns, Changes, took}
+use Rattle.boot_words.specs.kernel_history.specs.Trace.{decision_at}
+use Rattle.call_steps.specs.call_stages.specs.View.{Core}
+use Rattle.call_steps.specs.call_stages.specs.Fits.{IsCore, steps_left}
+use Rattle.call_steps.specs.act_states.specs.declared.own.Own.{Own}
+use Rattle.call_steps.specs.act_states.specs.declared.own.OwnChange.TheVariants.{Ticks, Empties, Works, Caches, Switches}
+use Rattle.call_steps.specs.call_stages.specs.Cores.{core_after, told_by, absorbed, told_of_step, absorbed_in, told_in}
+use Rattle.flight_laws.specs.core_invariant.specs.Events.{decided_in}
+use Rattle.call_steps.specs.call_stages.specs.declared.stages.Absorbed.{Absorbed}
+use Rattle.call_steps.specs.call_stages.specs.declared.stages.Absorbed.TheVariants.{Going, Decided, Returned}
+use Rattle.call_steps.specs.call_stages.specs.declared.stages.ActiveCall.{ActiveCall}
+use Rattle.call_steps.specs.call_stages.specs.Steps.{Took, GoesOn as TookOn, Decides, Returns, Changes, took}
 use Rattle.lone_kernel.specs.declared.seats.Seat.{Seat}
 use Rattle.lone_kernel.specs.declared.seats.Turn.{Turn}
 use Rattle.lone_kernel.specs.declared.seats.Turn.TheVariants.{Begins, GoesOn}
-use Rattle.flight.specs.Decided.{is_decided_at, is_decided_in, Turns}
+use Rattle.flight_laws.specs.flight.specs.Decided.{is_decided_at, is_decided_in, Turns}
 use Rattle.lone_kernel.specs.Machine.{Machine, seat_at, core_at, list_at, fresh_seat, turn_if, turn_of, turn_at, due_at, due_in}
 use Rattle.lone_kernel.specs.Machine.{IsFitSeat, IsFit, CanTake, core_in, begun_by, decisions_in, said_by, seat_after, found_by, stepped}
 use Rattle.lone_kernel.specs.Moves.{calls_begun, GoesFurther}
-use Rattle.flight.proofs.Phases.{took_turns}
+use Rattle.flight_laws.specs.flight.proofs.Phases.{took_turns}
 use Rattle.lone_kernel.proofs.Small.{steps_small}
 
 some_inj : {A : Type 0} (x y : A) → Some x ≡ Some y → x ≡ y

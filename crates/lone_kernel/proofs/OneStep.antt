@@ -10,14 +10,14 @@ use Rattle.spk_nums.specs.declared.steps.WordOp.{WordOp}
 use Rattle.word_map.specs.Places.{Shape}
 use Rattle.word_map.specs.Moves.{op_of, left_of, told_of}
 use Rattle.spk_nums.specs.WordSteps.{place_in, left_by, told_by}
-use Rattle.kernel_history.specs.Trace.{decision_at}
-use Rattle.call_stages.specs.View.{Core}
-use Rattle.flight.proofs.ByPlace.{place_is, left_is, told_is}
-use Rattle.call_stages.specs.Fits.{IsCore, steps_left}
-use Rattle.call_stages.specs.Cores.{move_of, absorbed, told_of_step}
-use Rattle.kernel_history.specs.BootWords.{shape_of}
-use Rattle.core_invariant.specs.Events.{decided_in}
-use Rattle.call_stages.specs.declared.stages.Absorbed.{Absorbed}
+use Rattle.boot_words.specs.kernel_history.specs.Trace.{decision_at}
+use Rattle.call_steps.specs.call_stages.specs.View.{Core}
+use Rattle.flight_laws.specs.flight.proofs.ByPlace.{place_is, left_is, told_is}
+use Rattle.call_steps.specs.call_stages.specs.Fits.{IsCore, steps_left}
+use Rattle.call_steps.specs.call_stages.specs.Cores.{move_of, absorbed, told_of_step}
+use Rattle.boot_words.specs.kernel_history.specs.BootWords.{shape_of}
+use Rattle.flight_laws.specs.core_invariant.specs.Events.{decided_in}
+use Rattle.call_steps.specs.call_stages.specs.declared.stages.Absorbed.{Absorbed}
 use Rattle.lone_kernel.specs.declared.seats.Seat.{Seat}
 use Rattle.lone_kernel.specs.declared.seats.Turn.{Turn}
 use Rattle.lone_kernel.specs.Machine.{Machine, fresh_seat, seat_at, core_at, list_at, turn_of, turn_at, IsFit, IsFitSeat, core_in, begun_by}

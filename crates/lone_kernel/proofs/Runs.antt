@@ -9,21 +9,22 @@ use Rattle.spk_nums.specs.declared.calls.Call.{Call}
 use Rattle.spk_nums.specs.declared.steps.How.{How}
 use Rattle.spk_nums.specs.declared.steps.How.TheVariants.{One, Ready, Decide, Return}
 use Rattle.spk_nums.specs.Setting.{Setting, IsSetting}
-use Rattle.kernel_rules.proofs.Within.{put_same}
-use Rattle.kernel_history.specs.Trace.{Step, Trace, calls_of}
-use Rattle.kernel_history.specs.Order.{IsIdle, AreOf, HaveNone, StaysUnready, Stretch}
-use Rattle.call_stages.specs.Fits.{left_for}
-use Rattle.call_stages.specs.View.{Core}
-use Rattle.call_stages.specs.Cores.{ready_of}
-use Rattle.flight.specs.Decided.{is_decided_in}
-use Rattle.flight.specs.Made.{turned, core_after, cores_after, stepping_core, ready_after}
-use Rattle.flight.specs.Phases.{AreEvents}
-use Rattle.flight.proofs.Phases.{made_events, decided_is_ready}
-use Rattle.call_stages.specs.declared.stages.ActiveCall.{ActiveCall}
+use Rattle.boot_words.specs.kernel_rules.proofs.Within.{put_same}
+use Rattle.boot_words.specs.kernel_history.specs.Trace.{Step, Trace, calls_of}
+use Rattle.boot_words.specs.kernel_history.specs.Order.{IsIdle, AreOf, HaveNone, StaysUnready, Stretch}
+use Rattle.call_steps.specs.call_stages.specs.Fits.{left_for}
+use Rattle.call_steps.specs.call_stages.specs.View.{Core}
+use Rattle.call_steps.specs.call_stages.specs.Cores.{ready_of}
+use Rattle.flight_laws.specs.flight.specs.Decided.{is_decided_in}
+use Rattle.flight_laws.specs.flight.specs.Made.{turned, core_after, cores_after, stepping_core, ready_after}
+use Rattle.flight_laws.specs.flight.specs.Phases.{AreEvents}
+use Rattle.flight_laws.specs.flight.proofs.Phases.{made_events, decided_is_ready}
+use Rattle.call_steps.specs.call_stages.specs.declared.stages.ActiveCall.{ActiveCall}
 use Rattle.lone_kernel.specs.Machine.{Machine, seat_at, core_at, list_at, IsFinished, IsInCall, HasDecided, IsThere, IsDone, turn_if}
 use Rattle.lone_kernel.specs.Stands.{StandsFor}
 use Rattle.lone_kernel.specs.Moves.{StepsOnce, GoesBy, GoesFurther, work_in, work_at, calls_in, calls_left, calls_begun}
 use Rattle.lone_kernel.proofs.Advance.{phase_is}
+use Rattle.lone_kernel.specs.declared.seats.Turn.TheVariants.{Begins}
 
 pub begins_in_call : (m : Machine) (c : ℕ) → IsInCall m c → IsFinished m c → ⊥
 begins_in_call m c inside none = of_call (core_at m c).active inside none where
@@ -41,7 +42,7 @@ busy_call m t c None setting is here begins stands idle = elim (slice_get_cases 
       ∙ length-take-le (seat_at m c).begun (list_at m c) (omega arith) in
       let k : length (calls_of t c) ≡ length (list_at m c) = ap length idle.finished in
       omega arith
-  | inr past ↦ begins (ap (option_map Rattle.lone_kernel.specs.declared.seats.Turn.TheVariants.Begins) (past.1))
+  | inr past ↦ begins (ap (option_map Begins) (past.1))
 ]
 busy_call m t c (Some f) setting is here begins stands idle =
     (phase_is m t c setting here stands).in_call (λ none. let both = sym is ∙ none in absurd (cc)) idle.out

@@ -7,9 +7,9 @@ use Rattle.spk_nums.specs.declared.calls.Make.{Make}
 use Rattle.spk_nums.specs.declared.calls.Make.TheVariants as make
 use Rattle.spk_nums.specs.declared.calls.Call.{Call}
 use Rattle.spk_nums.specs.declared.calls.Call.TheVariants as call
-use Rattle.call_stages.specs.View.{Core}
-use Rattle.call_stages.specs.Fits.{IsCore, CallFits, left_for, steps_left}
-use Rattle.call_stages.specs.declared.stages.ActiveCall.{ActiveCall}
+use Rattle.call_steps.specs.call_stages.specs.View.{Core}
+use Rattle.call_steps.specs.call_stages.specs.Fits.{IsCore, CallFits, left_for, steps_left}
+use Rattle.call_steps.specs.call_stages.specs.declared.stages.ActiveCall.{ActiveCall}
 
 retype_small : (k : FrameKind) (n : ℕ) → n ≤ 8 → bound_of_retype k n < 1000
 retype_small Untyped n h = omega arith

@@ -9,17 +9,17 @@ use Rattle.spk_nums.specs.declared.steps.How.TheVariants.{One, Ready, Decide, Re
 use Rattle.spk_nums.specs.Setting.{Setting}
 use Rattle.word_map.specs.Places.{Shape, place_of, size_of}
 use Rattle.word_map.specs.Moves.{word_of, left_of, told_of}
-use Rattle.kernel_history.specs.Trace.{Step, decision_at}
-use Rattle.call_stages.specs.View.{Core}
-use Rattle.call_stages.specs.Fits.{IsCore}
-use Rattle.call_stages.specs.Cores.{started, move_of, ready_of, absorbed, told_of_step}
-use Rattle.kernel_history.specs.BootWords.{shape_of}
-use Rattle.flight.specs.Decided.{is_decided_at, is_decided_in}
-use Rattle.flight.specs.Made.{turned, step_of}
-use Rattle.core_invariant.specs.Events.{decided_in}
-use Rattle.call_stages.specs.declared.stages.Absorbed.{Absorbed}
-use Rattle.call_stages.specs.declared.stages.Absorbed.TheVariants.{Going, Decided, Returned}
-use Rattle.call_stages.specs.declared.stages.ActiveCall.{ActiveCall}
+use Rattle.boot_words.specs.kernel_history.specs.Trace.{Step, decision_at}
+use Rattle.call_steps.specs.call_stages.specs.View.{Core}
+use Rattle.call_steps.specs.call_stages.specs.Fits.{IsCore}
+use Rattle.call_steps.specs.call_stages.specs.Cores.{started, move_of, ready_of, absorbed, told_of_step}
+use Rattle.boot_words.specs.kernel_history.specs.BootWords.{shape_of}
+use Rattle.flight_laws.specs.flight.specs.Decided.{is_decided_at, is_decided_in}
+use Rattle.flight_laws.specs.flight.specs.Made.{turned, step_of}
+use Rattle.flight_laws.specs.core_invariant.specs.Events.{decided_in}
+use Rattle.call_steps.specs.call_stages.specs.declared.stages.Absorbed.{Absorbed}
+use Rattle.call_steps.specs.call_stages.specs.declared.stages.Absorbed.TheVariants.{Going, Decided, Returned}
+use Rattle.call_steps.specs.call_stages.specs.declared.stages.ActiveCall.{ActiveCall}
 use Rattle.lone_kernel.specs.declared.seats.Seat.{Seat}
 use Rattle.lone_kernel.specs.declared.seats.Turn.{Turn}
 use Rattle.lone_kernel.specs.declared.seats.Turn.TheVariants.{Begins, GoesOn}

@@ -1,14 +1,14 @@
 -- How the moves of a machine extend each trace for which it stood.
 use Rattle.std.specs.Prelude.{◌≡◌, ◌≢◌, false, ℕ, ◌+◌, ◌-◌, ◌*◌, ◌<◌, ◌≤◌, length, Option, Some, None}
 use Rattle.spk_nums.specs.declared.steps.How.{How}
-use Rattle.kernel_history.specs.Trace.{Trace}
-use Rattle.kernel_history.specs.Order.{IsIdle, MakesOne, Stretch}
+use Rattle.boot_words.specs.kernel_history.specs.Trace.{Trace}
+use Rattle.boot_words.specs.kernel_history.specs.Order.{IsIdle, MakesOne, Stretch}
 use Rattle.lone_kernel.specs.declared.lone.Moved.{Moved}
 use Rattle.lone_kernel.specs.declared.lone.Moved.TheVariants.{Idle, Went}
-use Rattle.flight.specs.Decided.{is_decided_in}
-use Rattle.call_stages.specs.Fits.{steps_left, left_of}
-use Rattle.flight.specs.Made.{ready_after}
-use Rattle.call_stages.specs.declared.stages.ActiveCall.{ActiveCall}
+use Rattle.flight_laws.specs.flight.specs.Decided.{is_decided_in}
+use Rattle.call_steps.specs.call_stages.specs.Fits.{steps_left, left_of}
+use Rattle.flight_laws.specs.flight.specs.Made.{ready_after}
+use Rattle.call_steps.specs.call_stages.specs.declared.stages.ActiveCall.{ActiveCall}
 use Rattle.lone_kernel.specs.Machine.{Machine, core_at, seat_at, list_at}
 use Rattle.lone_kernel.specs.Stands.{StandsFor}
 

@@ -2,9 +2,9 @@
 use Rattle.std.specs.Prelude.{◌≡◌, ℕ, ◌<◌, take, slice_index}
 use Rattle.word_map.specs.Word.{Word}
 use Rattle.word_map.specs.Places.{IsIn, place_of, shared}
-use Rattle.kernel_history.specs.Trace.{Trace, last_left, calls_of, decisions_of}
-use Rattle.kernel_history.specs.BootWords.{shape_of}
-use Rattle.flight.specs.Made.{cores_after, IsMade}
+use Rattle.boot_words.specs.kernel_history.specs.Trace.{Trace, last_left, calls_of, decisions_of}
+use Rattle.boot_words.specs.kernel_history.specs.BootWords.{shape_of}
+use Rattle.flight_laws.specs.flight.specs.Made.{cores_after, IsMade}
 use Rattle.lone_kernel.specs.Machine.{Machine, core_at, seat_at, list_at}
 
 -- The machine stands for the trace: each step of it is the step machine's, its cores are where the trace brings them, its words are

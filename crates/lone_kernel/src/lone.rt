@@ -12,15 +12,15 @@ ghost use Rattle.std.specs.Prelude.{◌≡◌, ◌≢◌, ◌↔◌, false, IsSo
 ghost use Rattle.std.specs.Prelude.{All, IfOk, map, sum_by, length, slice_index, slice_set, vec_len, vec_capacity};
 ghost use Rattle.spk_nums.specs.WordSteps.{place_in, left_by, told_by};
 ghost use Rattle.word_map.specs.Places.{size_of, place_of, shared};
-ghost use Rattle.kernel_history.specs.Trace.{Trace, state_after, decision_at};
-ghost use Rattle.kernel_history.specs.FinalWords.{Represent, word_in, end_in};
-ghost use Rattle.kernel_history.specs.Counts.{RepresentCounts};
-ghost use Rattle.call_stages.specs.Fits.{IsCore, steps_left};
-ghost use Rattle.kernel_history.specs.BootWords.{shape_of};
-ghost use Rattle.call_stages.specs.Cores.{end_of};
-ghost use Rattle.core_invariant.specs.Events.{decided_in};
+ghost use Rattle.boot_words.specs.kernel_history.specs.Trace.{Trace, state_after, decision_at};
+ghost use Rattle.boot_words.specs.kernel_history.specs.FinalWords.{Represent, word_in, end_in};
+ghost use Rattle.boot_words.specs.kernel_history.specs.Counts.{RepresentCounts};
+ghost use Rattle.call_steps.specs.call_stages.specs.Fits.{IsCore, steps_left};
+ghost use Rattle.boot_words.specs.kernel_history.specs.BootWords.{shape_of};
+ghost use Rattle.call_steps.specs.call_stages.specs.Cores.{end_of};
+ghost use Rattle.flight_laws.specs.core_invariant.specs.Events.{decided_in};
 ghost use Rattle.spk_nums.specs.declared.steps.How.TheVariants.{One, Ready, Decide, Return};
-ghost use Rattle.flight.specs.Decided.{is_decided_in};
+ghost use Rattle.flight_laws.specs.flight.specs.Decided.{is_decided_in};
 ghost use Rattle.lone_kernel.specs.Machine.{IsFitSeat, turn_of, begun_by, core_in, said_by, CanTake, MakesTurn, TakesTurn};
 ghost use Rattle.lone_kernel.specs.Machine.{seat_after, words_after, place_next, decisions_in, IsFinished, IsInCall, HasDecided};
 ghost use Rattle.lone_kernel.specs.Machine.{IsReady, IsThere, IsDone, list_at, seat_at, core_at, AreLists, AreFresh};
@@ -58,7 +58,7 @@ pub struct LoneKernel {
 impl Model for LoneKernel {
     ghost use Rattle.std.specs.Prelude.{◌≡◌, ◌+◌, ◌≤◌, map, sum_by, vec_len, vec_capacity};
     ghost use Rattle.spk_nums.specs.Setting.{IsSetting};
-    ghost use Rattle.kernel_history.specs.BootWords.{shape_of};
+    ghost use Rattle.boot_words.specs.kernel_history.specs.BootWords.{shape_of};
     ghost use Rattle.lone_kernel.specs.Machine.{Machine, IsFit};
 
     ghost Value = { Machine };

@@ -1,75 +1,46 @@
 -- The two steps of a flush: the load of the clock, which decides it, and the store of the core's flush word.
-use Rattle.act_states.specs.declared.own.Own.{Own}
-use Rattle.act_states.specs.declared.own.OwnChange.TheVariants.{Empties}
-use Rattle.act_states.specs.declared.work.Act.TheVariants.{Flush as flush_act}
-use Rattle.act_states.specs.declared.work.Tail.TheVariants.{Nothing, StoreFlush}
-use Rattle.act_states.specs.declared.work.Work.TheVariants.{Act}
-use Rattle.act_states.specs.declared.work.WorkStep.TheVariants.{Changes as work_changes}
-use Rattle.act_states.specs.Flushes.{took_flush}
-use Rattle.act_states.specs.OwnChanges.{own_changed}
-use Rattle.call_stages.specs.Cores.{own_decided}
-use Rattle.call_stages.specs.declared.stages.ActiveCall.{ActiveCall}
-use Rattle.call_stages.specs.declared.stages.Stage.{Stage}
-use Rattle.call_stages.specs.declared.stages.Stage.TheVariants.{Undecided, Decided}
-use Rattle.call_stages.specs.Fits.{HasRoom}
-use Rattle.call_stages.specs.Steps.{GoesOn, went_with, landed}
-use Rattle.call_stages.specs.View.{Core}
-use Rattle.kept_facts.proofs.Calm.{plain_exit}
-use Rattle.kept_facts.proofs.Carries.{counts_on}
-use Rattle.kept_facts.proofs.CountSums.{counted_refs, calm_refs}
-use Rattle.step_ways.proofs.Good.{spares_kept, spares_other}
-use Rattle.step_ways.proofs.Loads.{IsOfCall, next_at, core_in_call, core_is, call_is, in_call}
-use Rattle.step_ways.proofs.Loads.{inner, inner_within, inner_disciplined, inner_near, is_active}
-use Rattle.step_ways.proofs.OwnChanges.{decides_owning}
-use Rattle.step_ways.proofs.Refusals.{GoodTook, not_spent}
-use Rattle.core_invariant.proofs.Sounds.{limits_of}
-use Rattle.kept_facts.proofs.Sums.{sums_since}
-use Rattle.kept_facts.proofs.WordFrames.{SameFor, marks_own, word_stays, reads_alike, carry_marks, carry_words, others_settled, own_settled}
-use Rattle.step_ways.proofs.Users.{spares_none}
-use Rattle.core_invariant.proofs.Bare.{counts_bare}
-use Rattle.kept_facts.proofs.Lent.{lent_none, lent_kept, lent_elsewhere}
-use Rattle.step_ways.proofs.Writes.{clock_small}
-use Rattle.core_invariant.specs.Holding.{Holding, holds_counts, settled_by, settled}
-use Rattle.core_invariant.specs.Knows.{due_of, KnowsUndecided, KnowsFlush, WorksIn, CoreIs, phase_at, untypes}
-use Rattle.core_invariant.specs.Invariant.{is_done, holds_at, holds_in, holds, held_by, times_of, counted_in, Invariant}
-use Rattle.core_invariant.specs.Words.{WordIs, count_room}
-use Rattle.frame_words.proofs.FlushLemmas.{spelling}
-use Rattle.frame_words.specs.Flush.{word_of_flush}
-use Rattle.kernel_history.proofs.Inside.{decided-inside}
-use Rattle.kernel_history.proofs.Names.{same_word-other}
-use Rattle.trace_laws.proofs.Small.{last_small}
-use Rattle.kernel_history.proofs.Steps.{phase-own, steps_in_call-own, stamp-kept, flush_of-own, flush_stored-own, flush_stored-other}
-use Rattle.kernel_history.specs.Discipline.{stores_flush}
-use Rattle.kernel_history.specs.Justified.{IsJustified, HasReached}
-use Rattle.kernel_history.specs.Marking.{marked_by}
-use Rattle.kernel_history.specs.Stamps.{begins_in, ends_in, flushes_in, begins_at, ends_at}
-use Rattle.kernel_history.specs.Stamps.{flushes_at, stamp, clock, flush_of, flush_stored}
-use Rattle.kernel_history.specs.Trace.{Step, Trace, Open, phase, state_after, state_decided_in, last_left, own_left}
-use Rattle.kernel_history.specs.Ways.{ways}
-use Rattle.found_stays.proofs.SparesRuns.{core_same_refs}
-use Rattle.kernel_invariant.proofs.Sums.{sum_one}
-use Rattle.kernel_rules.proofs.Within.{put_same, put_other}
-use Rattle.kernel_rules.specs.Access.{Slot}
-use Rattle.kernel_rules.specs.Alone.{alone}
-use Rattle.kernel_rules.specs.CallRelation.{rule_of, counted, state_by, begins, ends, flushes, MayReply}
-use Rattle.kernel_rules.specs.GracePeriods.{flushed}
-use Rattle.kernel_rules.specs.References.{refs, sum_below}
-use Rattle.kernel_rules.specs.State.{Core as CoreFields, Thing, PlaceOf, FrameOf, NumberOf, State, put}
-use Rattle.kernel_rules.specs.State.{with_core, thread_in, comp_in, first_of_stack, thread_of, comp_of}
-use Rattle.spk_nums.specs.declared.calls.Call.TheVariants.{Flush}
-use Rattle.spk_nums.specs.declared.replies.Reply.{Reply}
-use Rattle.spk_nums.specs.declared.replies.Reply.TheVariants as reply
-use Rattle.spk_nums.specs.declared.replies.Value.TheVariants as value
-use Rattle.spk_nums.specs.Setting.{Setting, IsSetting}
-use Rattle.stage_pins.specs.declared.held.Acquired.{Acquired}
-use Rattle.stage_quiet.specs.Clocks.{stamp_of_clock}
-use Rattle.std.proofs.Common.{◌≡◌, ◌≢◌, inl, inr, ℕ, ◌+◌, ◌*◌, ◌<◌, ◌≤◌, ◌&&◌, true, false, if◌then◌else◌, cond, List}
-use Rattle.std.proofs.Common.{[], ◌∷◌, map, length, Option, Some, None, IsSome, arith, refl, sym, ◌∙◌, ap, subst}
-use Rattle.std.proofs.lemmas.Bool.{cases_eq, false≢true, eq-eqb}
-use Rattle.std.proofs.lemmas.List.Elements.{All-nil}
-use Rattle.word_map.proofs.WordLemmas.{same_same}
-use Rattle.word_map.specs.Moves.{Move, LoadOf, StoreOf}
-use Rattle.word_map.specs.Word.{Word, EntryAt, FrameAt, CountAt, CoreAt, FlushAt, LiveAt, ClockAt, same_word}
+use Rattle.count_invariant.proofs.Common.{Own, Nothing, StoreFlush, Act, own_changed, own_decided, ActiveCall, Stage, Undecided, Decided}
+use Rattle.count_invariant.proofs.Common.{HasRoom, GoesOn, went_with, landed, Core, plain_exit, counts_on, counted_refs, limits_of}
+use Rattle.count_invariant.proofs.Common.{SameFor, marks_own, word_stays, reads_alike, carry_marks, carry_words, others_settled}
+use Rattle.count_invariant.proofs.Common.{own_settled, counts_bare, lent_none, lent_kept, lent_elsewhere, Holding, holds_counts}
+use Rattle.count_invariant.proofs.Common.{settled_by, settled, due_of, KnowsUndecided, WorksIn, CoreIs, phase_at, untypes, is_done}
+use Rattle.count_invariant.proofs.Common.{holds_at, holds_in, holds, held_by, times_of, counted_in, Invariant, WordIs, count_room}
+use Rattle.count_invariant.proofs.Common.{decided-inside, same_word-other, last_small, phase-own, steps_in_call-own, stamp-kept}
+use Rattle.count_invariant.proofs.Common.{flush_of-own, flush_stored-own, flush_stored-other, IsJustified, HasReached, marked_by, ends_in}
+use Rattle.count_invariant.proofs.Common.{flushes_in, begins_at, ends_at, flushes_at, stamp, clock, flush_of, flush_stored, Step, Trace}
+use Rattle.count_invariant.proofs.Common.{Open, phase, state_after, state_decided_in, last_left, own_left, ways, core_same_refs, sum_one}
+use Rattle.count_invariant.proofs.Common.{put_same, put_other, Slot, alone, rule_of, counted, state_by, begins, ends, flushes, MayReply}
+use Rattle.count_invariant.proofs.Common.{refs, sum_below, Thing, PlaceOf, FrameOf, NumberOf, State, put, thread_in, comp_in}
+use Rattle.count_invariant.proofs.Common.{first_of_stack, thread_of, comp_of, Flush, Reply, Setting, IsSetting, Acquired, ◌≡◌, ◌≢◌, inl}
+use Rattle.count_invariant.proofs.Common.{inr, ℕ, ◌+◌, ◌*◌, ◌<◌, ◌≤◌, ◌&&◌, true, false, if◌then◌else◌, cond, List, [], ◌∷◌, map, length}
+use Rattle.count_invariant.proofs.Common.{Option, Some, None, arith, refl, sym, ◌∙◌, ap, subst, cases_eq, false≢true, eq-eqb, All-nil}
+use Rattle.count_invariant.proofs.Common.{same_same, Move, LoadOf, StoreOf, Word, EntryAt, FrameAt, CountAt, CoreAt, FlushAt, LiveAt}
+use Rattle.count_invariant.proofs.Common.{ClockAt, same_word}
+use Rattle.count_invariant.specs.act_states.specs.declared.own.OwnChange.TheVariants.{Empties}
+use Rattle.count_invariant.specs.act_states.specs.declared.work.Act.TheVariants.{Flush as flush_act}
+use Rattle.count_invariant.specs.act_states.specs.declared.work.WorkStep.TheVariants.{Changes as work_changes}
+use Rattle.count_invariant.specs.act_states.specs.Flushes.{took_flush}
+use Rattle.count_invariant.specs.kept_facts.proofs.CountSums.{calm_refs}
+use Rattle.count_invariant.specs.step_ways.proofs.Good.{spares_kept, spares_other}
+use Rattle.count_invariant.specs.step_ways.proofs.Loads.{IsOfCall, next_at, core_in_call, core_is, call_is, in_call}
+use Rattle.count_invariant.specs.step_ways.proofs.Loads.{inner, inner_within, inner_disciplined, inner_near, is_active}
+use Rattle.count_invariant.specs.step_ways.proofs.OwnChanges.{decides_owning}
+use Rattle.count_invariant.specs.step_ways.proofs.Refusals.{GoodTook, not_spent}
+use Rattle.count_invariant.specs.kept_facts.proofs.Sums.{sums_since}
+use Rattle.count_invariant.specs.step_ways.proofs.Users.{spares_none}
+use Rattle.count_invariant.specs.step_ways.proofs.Writes.{clock_small}
+use Rattle.count_invariant.specs.core_invariant.specs.Knows.{KnowsFlush}
+use Rattle.count_invariant.specs.frame_words.proofs.FlushLemmas.{spelling}
+use Rattle.count_invariant.specs.frame_words.specs.Flush.{word_of_flush}
+use Rattle.count_invariant.specs.kernel_history.specs.Discipline.{stores_flush}
+use Rattle.count_invariant.specs.kernel_history.specs.Stamps.{begins_in}
+use Rattle.kernel_laws.specs.kernel_rules.specs.GracePeriods.{flushed}
+use Rattle.kernel_laws.specs.kernel_rules.specs.State.{Core as CoreFields}
+use Rattle.kernel_laws.specs.kernel_rules.specs.State.{with_core}
+use Rattle.kernel_laws.specs.spk_nums.specs.declared.replies.Reply.TheVariants as reply
+use Rattle.kernel_laws.specs.spk_nums.specs.declared.replies.Value.TheVariants as value
+use Rattle.count_invariant.specs.stage_quiet.specs.Clocks.{stamp_of_clock}
+use Rattle.std.proofs.Common.{IsSome}
 
 none_some : (d : ℕ) → None ≡ Some d → ⊥
 none_some d h = cc

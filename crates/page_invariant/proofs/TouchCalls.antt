@@ -1,15 +1,13 @@
 -- What the rule of a touch answers, and what it may refuse.
-use Rattle.std.proofs.Common.{◌≡◌, ◌⊎◌, inl, inr, ℕ, ◌≤◌, ◌<◌, ◌/◌, nat_lt, nat_le, Bool, true, false, List, []}
-use Rattle.std.proofs.Common.{◌∷◌, Option, Some, None, refl, sym, ◌∙◌, ap, subst, if◌then◌else◌, IsTrue, IsFalse}
-use Rattle.std.specs.Prelude.{IsSomeAnd, is_some}
-use Rattle.spk_nums.specs.Capability.{Capability}
-use Rattle.spk_nums.specs.declared.translations.Translation.{Translation}
-use Rattle.spk_nums.specs.declared.replies.Reply.{Reply}
-use Rattle.spk_nums.specs.declared.replies.Reply.TheVariants as reply
-use Rattle.kernel_rules.specs.State.{Place, Free, Holds, Quiescing, State}
-use Rattle.kernel_rules.specs.Access.{Slot, root_at, Under, place_at, held_in, reached, holds_link, root_slot}
-use Rattle.kernel_rules.specs.Rules.{Judged, Refused, Found, Does, and_then, unless, or_refuse, first_of, mapped, outcome, RuleMay, answers}
-use Rattle.kernel_rules.specs.MemoryCalls.{translated, caches, touch_by}
+use Rattle.count_invariant.proofs.Common.{◌≡◌, ◌⊎◌, inl, inr, ℕ, ◌≤◌, ◌<◌, ◌/◌, nat_lt, nat_le, Bool, true, false, List, [], ◌∷◌, Option}
+use Rattle.count_invariant.proofs.Common.{Some, None, refl, sym, ◌∙◌, ap, subst, if◌then◌else◌, IsTrue, IsSomeAnd, is_some, Capability}
+use Rattle.count_invariant.proofs.Common.{Translation, Reply, Place, Free, Holds, Quiescing, State, Slot, root_at, Under, place_at}
+use Rattle.count_invariant.proofs.Common.{held_in, reached, holds_link, root_slot, Judged, Refused, Found, Does, and_then, unless}
+use Rattle.count_invariant.proofs.Common.{or_refuse, first_of, outcome, RuleMay, answers}
+use Rattle.std.proofs.Common.{IsFalse}
+use Rattle.kernel_laws.specs.spk_nums.specs.declared.replies.Reply.TheVariants as reply
+use Rattle.kernel_laws.specs.kernel_rules.specs.Rules.{mapped}
+use Rattle.kernel_laws.specs.kernel_rules.specs.MemoryCalls.{translated, caches, touch_by}
 
 -- The translation that a mapping of a page tells.
 abbrev pub told_by : ℕ → ℕ → Capability → Translation

@@ -1,100 +1,64 @@
 -- The two steps of a touch: the load of the root entry of its page, which answers a translation that is cached, and the load of the page's
 -- entry.
-use Rattle.std.proofs.Common.{◌≡◌, ◌≢◌, ◌⊎◌, inl, inr, ℕ, ◌+◌, ◌*◌, ◌/◌, ◌%◌, ◌^◌, ◌<◌, ◌≤◌, ◌||◌, ◌++◌}
-use Rattle.std.proofs.Common.{◌==◌, nat_le, nat_lt, Bool, true, false, List, [], ◌∷◌, map, length, Option}
-use Rattle.std.proofs.Common.{Some, None, arith, refl, sym, ◌∙◌, ap, subst, if◌then◌else◌, IsTrue}
-use Rattle.std.specs.Prelude.{IsSome, is_some, option_to_list}
-use Rattle.std.proofs.lemmas.Bool.{false≢true, eq-eqb, le-leb, le-ltb}
-use Rattle.std.proofs.lemmas.List.Elements.{All-nil}
-use Rattle.spk_nums.specs.Capability.{Capability}
-use Rattle.spk_nums.specs.Setting.{Setting, IsSetting}
-use Rattle.spk_nums.specs.declared.calls.Call.{Call}
-use Rattle.spk_nums.specs.declared.calls.Call.TheVariants.{Touch}
-use Rattle.spk_nums.specs.declared.kinds.Kind.{Kind}
-use Rattle.spk_nums.specs.declared.kinds.Kind.TheVariants as kind
-use Rattle.spk_nums.specs.declared.replies.Reply.{Reply}
-use Rattle.spk_nums.specs.declared.replies.Reply.TheVariants as reply
-use Rattle.spk_nums.specs.declared.translations.Translation.{Translation}
-use Rattle.entry_words.specs.declared.entry.Entry.{Entry}
-use Rattle.entry_words.specs.declared.entry.Entry.TheVariants.{Free, Held, Closing, Quiescing}
-use Rattle.entry_words.specs.EntryWord.{EntryFits}
-use Rattle.word_map.specs.Word.{Word, EntryAt, FrameAt, CountAt, CoreAt, FlushAt, LiveAt, ClockAt}
-use Rattle.word_map.specs.Moves.{Move, LoadOf, word_of, told_of}
-use Rattle.kernel_rules.specs.State.{Core as CoreFields, Thing, PlaceOf, FrameOf, NumberOf, State, Holds}
-use Rattle.kernel_rules.specs.State.{put, with_core, thread_in, comp_in, first_of_stack, thread_of, comp_of}
-use Rattle.kernel_rules.specs.Access.{Slot, root_at, Target, Under, place_at, usable_in, usable}
-use Rattle.kernel_rules.specs.Access.{linked, slot_in, root_slot, reached, holds_link, held_in}
-use Rattle.kernel_rules.specs.References.{refs, sum_below}
-use Rattle.kernel_rules.specs.Relies.{Relies}
-use Rattle.kernel_rules.specs.Rules.{Rule, Refused, Found, IsFoundAnd, mapped, outcome, RuleMay, answers}
-use Rattle.kernel_rules.specs.MemoryCalls.{translation_of, caching, translated, caches, touch_by}
-use Rattle.kernel_rules.specs.CallRelation.{rule_of, change_of, changed, counted, state_by, begins, ends, flushes, MayReply}
-use Rattle.kernel_invariant.proofs.SoundCalls.{IsOpen}
-use Rattle.kernel_invariant.proofs.SoundRuns.{opened}
-use Rattle.found_stays.proofs.SparesRuns.{core_same_refs}
-use Rattle.kernel_invariant.proofs.Sums.{sum_one}
-use Rattle.kernel_rules.proofs.Within.{put_same, put_other}
+use Rattle.count_invariant.proofs.Common.{◌≡◌, ◌≢◌, ◌⊎◌, inl, inr, ℕ, ◌+◌, ◌*◌, ◌/◌, ◌%◌, ◌^◌, ◌<◌, ◌≤◌, ◌||◌, ◌++◌, ◌==◌, nat_le, nat_lt}
+use Rattle.count_invariant.proofs.Common.{Bool, true, false, List, [], ◌∷◌, map, length, Option, Some, None, arith, refl, sym, ◌∙◌, ap}
+use Rattle.count_invariant.proofs.Common.{subst, if◌then◌else◌, IsTrue, IsSome, is_some, option_to_list, false≢true, eq-eqb, le-leb}
+use Rattle.count_invariant.proofs.Common.{le-ltb, All-nil, Capability, Setting, IsSetting, Call, Touch, Kind, Reply, Translation, Entry}
+use Rattle.count_invariant.proofs.Common.{Held, Closing, EntryFits, Word, EntryAt, FrameAt, CountAt, CoreAt, FlushAt, LiveAt, ClockAt}
+use Rattle.count_invariant.proofs.Common.{Move, LoadOf, word_of, told_of, Thing, PlaceOf, FrameOf, NumberOf, State, Holds, put, thread_in}
+use Rattle.count_invariant.proofs.Common.{comp_in, first_of_stack, thread_of, comp_of, Slot, root_at, Target, Under, place_at, usable_in}
+use Rattle.count_invariant.proofs.Common.{usable, linked, slot_in, root_slot, reached, holds_link, held_in, refs, sum_below, Relies, Rule}
+use Rattle.count_invariant.proofs.Common.{Refused, Found, IsFoundAnd, outcome, RuleMay, answers, translation_of, rule_of, change_of}
+use Rattle.count_invariant.proofs.Common.{changed, counted, state_by, begins, ends, flushes, MayReply, opened, core_same_refs, sum_one}
+use Rattle.count_invariant.proofs.Common.{put_same, put_other, events_of, is_one_of, frames_own, frames_near, is_slot_in, HasReached}
+use Rattle.count_invariant.proofs.Common.{IsJustified, marked_by, ends_in, flushes_in, stamp, Step, Trace, Open, phase, state_after}
+use Rattle.count_invariant.proofs.Common.{state_decided_in, last_left, own_left, root_passed, wide_way_to, ways, wide_ways, ok_first}
+use Rattle.count_invariant.proofs.Common.{Carries, state_is, run_of, decided-inside, last_small, sound_of, opened_is, shown_in, look_move}
+use Rattle.count_invariant.proofs.Common.{Look, AtRoot, AtLeaf, AtEntry, Acquired, Own, Nothing, Act, WorkStep, Goes, own_changed, refuse}
+use Rattle.count_invariant.proofs.Common.{own_decided, ActiveCall, Undecided, Decided, HasRoom, landed, Core, holds_counts, settled}
+use Rattle.count_invariant.proofs.Common.{due_of, LooksUp, KnowsUndecided, WorksIn, phase_at, untypes, holds_at, holds_in, holds, held_by}
+use Rattle.count_invariant.proofs.Common.{times_of, counted_in, Invariant, WordIs, count_room, counts_bare, lent_none, lent_kept}
+use Rattle.count_invariant.proofs.Common.{IsUntimed, plain_begins, plain_stamp, plain_flush, plain_exit, names_on, counted_refs}
+use Rattle.count_invariant.proofs.Common.{limits_of, sums_keep, SameFor, marks_own, settled_on, capability_in}
+use Rattle.kernel_laws.specs.spk_nums.specs.declared.kinds.Kind.TheVariants as kind
+use Rattle.kernel_laws.specs.spk_nums.specs.declared.replies.Reply.TheVariants as reply
+use Rattle.count_invariant.specs.entry_words.specs.declared.entry.Entry.TheVariants.{Free, Quiescing}
+use Rattle.kernel_laws.specs.kernel_rules.specs.State.{Core as CoreFields}
+use Rattle.kernel_laws.specs.kernel_rules.specs.State.{with_core}
+use Rattle.kernel_laws.specs.kernel_rules.specs.Rules.{mapped}
+use Rattle.kernel_laws.specs.kernel_rules.specs.MemoryCalls.{caching, translated, caches, touch_by}
+use Rattle.kernel_laws.specs.kernel_invariant.proofs.SoundCalls.{IsOpen}
 use Rattle.kernel_laws.proofs.NodeSteps.{IsFitted}
 use Rattle.kernel_laws.proofs.NodesLaw.{runs_fit, mapped_page}
-use Rattle.kernel_history.specs.Events.{events_of}
-use Rattle.kernel_history.specs.Footprint.{is_one_of, frames_own, frames_near}
-use Rattle.kernel_history.specs.Justified.{is_slot_in, HasReached, IsJustified}
-use Rattle.kernel_history.specs.Marking.{marked_by}
-use Rattle.kernel_history.specs.Stamps.{begins_in, ends_in, flushes_in, stamp}
-use Rattle.kernel_history.specs.Trace.{Step, Trace, Open, phase, state_after, state_decided_in, last_left, own_left}
-use Rattle.kernel_history.specs.Ways.{led_to, root_passed, wide_way_to, ways, wide_ways}
-use Rattle.trace_laws.proofs.AloneCalls.{ok_first}
-use Rattle.trace_laws.proofs.Carries.{Carries}
-use Rattle.kernel_history.proofs.Events.{state_is, run_of}
-use Rattle.kernel_history.proofs.Inside.{decided-inside}
-use Rattle.trace_laws.proofs.Small.{last_small}
-use Rattle.trace_laws.proofs.Stays.{sound_of, opened_is, relies_reached}
-use Rattle.kernel_history.proofs.Steps.{own_left-here}
-use Rattle.plan_ways.proofs.Near.{one_left, one_right}
-use Rattle.stage_look.specs.Shown.{entry_within, shown_in, is_link}
-use Rattle.stage_look.specs.Lookup.{look_move, look_end, look_after, root_end, root_after, place_end, end_by_link, after_link}
-use Rattle.stage_look.specs.declared.look.Look.{Look}
-use Rattle.stage_look.specs.declared.look.Look.TheVariants.{AtRoot, AtLeaf, AtEntry}
-use Rattle.stage_pins.specs.declared.held.Acquired.{Acquired}
-use Rattle.act_states.specs.declared.own.Own.{Own}
-use Rattle.act_states.specs.declared.own.OwnChange.TheVariants.{Caches}
-use Rattle.act_states.specs.declared.refusals.Refusal.TheVariants as refusal
-use Rattle.act_states.specs.declared.touches.Touching.{Touching}
-use Rattle.act_states.specs.declared.work.Act.TheVariants.{Touch as touch_act}
-use Rattle.act_states.specs.declared.work.Tail.TheVariants.{Nothing}
-use Rattle.act_states.specs.declared.work.Work.TheVariants.{Act}
-use Rattle.act_states.specs.declared.work.WorkStep.{WorkStep}
-use Rattle.act_states.specs.declared.work.WorkStep.TheVariants.{Goes, Answers, Changes as work_changes}
-use Rattle.act_states.specs.OwnChanges.{own_changed}
-use Rattle.act_states.specs.Touches.{mapping_of, meets_page, touch_end, took_touch, is_at_page}
-use Rattle.act_states.specs.WorkSteps.{refuse}
-use Rattle.call_stages.specs.Cores.{own_decided}
-use Rattle.call_stages.specs.declared.stages.ActiveCall.{ActiveCall}
-use Rattle.call_stages.specs.declared.stages.Stage.TheVariants.{Undecided, Decided}
-use Rattle.call_stages.specs.Fits.{HasRoom}
-use Rattle.call_stages.specs.Steps.{landed}
-use Rattle.call_stages.specs.View.{Core}
-use Rattle.core_invariant.specs.Holding.{holds_counts, settled}
-use Rattle.core_invariant.specs.Knows.{due_of, LooksUp, KnowsTouch, KnowsUndecided, WorksIn, phase_at, untypes}
-use Rattle.core_invariant.specs.Invariant.{holds_at, holds_in, holds, held_by, times_of, counted_in, Invariant}
-use Rattle.core_invariant.specs.Words.{WordIs, count_room}
-use Rattle.core_invariant.proofs.Bare.{counts_bare}
-use Rattle.kept_facts.proofs.Lent.{lent_none, lent_kept}
-use Rattle.kept_facts.proofs.Calm.{IsUntimed, plain_begins, plain_stamp, plain_flush, plain_exit}
-use Rattle.kept_facts.proofs.Carries.{names_on}
-use Rattle.kept_facts.proofs.CountSums.{counted_refs}
-use Rattle.step_ways.proofs.Good.{spares_kept}
-use Rattle.step_ways.proofs.Loads.{OnlyLooks, step_to, next_at, inner, call_is, core_is, is_active, loads_on, decides_on}
-use Rattle.step_ways.proofs.OwnChanges.{decides_changing}
-use Rattle.step_ways.proofs.Places.{IsMarked, IsUnmarked, place_reads}
-use Rattle.step_ways.proofs.Refusals.{GoodTook, NobodyWaits, ticks_at, not_spent, refuses_fault, refuses_busy}
-use Rattle.core_invariant.proofs.Sounds.{limits_of}
-use Rattle.kept_facts.proofs.Sums.{sums_keep}
-use Rattle.kept_facts.proofs.WordFrames.{SameFor, marks_own, settled_on, load_keeps, load_marks, load_words}
+use Rattle.count_invariant.specs.kernel_history.specs.Stamps.{begins_in}
+use Rattle.count_invariant.specs.kernel_history.specs.Ways.{led_to}
+use Rattle.count_invariant.specs.trace_laws.proofs.Stays.{relies_reached}
+use Rattle.count_invariant.specs.kernel_history.proofs.Steps.{own_left-here}
+use Rattle.count_invariant.specs.plan_ways.proofs.Near.{one_left, one_right}
+use Rattle.count_invariant.specs.stage_look.specs.Shown.{entry_within, is_link}
+use Rattle.count_invariant.specs.stage_look.specs.Lookup.{look_end, look_after, root_end, root_after, place_end, end_by_link}
+use Rattle.count_invariant.specs.stage_look.specs.Lookup.{after_link}
+use Rattle.count_invariant.specs.act_states.specs.declared.own.OwnChange.TheVariants.{Caches}
+use Rattle.count_invariant.specs.act_states.specs.declared.refusals.Refusal.TheVariants as refusal
+use Rattle.count_invariant.specs.act_states.specs.declared.touches.Touching.{Touching}
+use Rattle.count_invariant.specs.act_states.specs.declared.work.Act.TheVariants.{Touch as touch_act}
+use Rattle.count_invariant.specs.act_states.specs.declared.work.WorkStep.TheVariants.{Answers, Changes as work_changes}
+use Rattle.count_invariant.specs.act_states.specs.Touches.{mapping_of, meets_page, touch_end, took_touch, is_at_page}
+use Rattle.count_invariant.specs.core_invariant.specs.Knows.{KnowsTouch}
+use Rattle.count_invariant.specs.step_ways.proofs.Good.{spares_kept}
+use Rattle.count_invariant.specs.step_ways.proofs.Loads.{OnlyLooks, step_to, next_at, inner, call_is, core_is, is_active, loads_on}
+use Rattle.count_invariant.specs.step_ways.proofs.Loads.{decides_on}
+use Rattle.count_invariant.specs.step_ways.proofs.OwnChanges.{decides_changing}
+use Rattle.count_invariant.specs.step_ways.proofs.Places.{IsMarked, IsUnmarked, place_reads}
+use Rattle.count_invariant.specs.step_ways.proofs.Refusals.{GoodTook, NobodyWaits, ticks_at, not_spent, refuses_fault, refuses_busy}
+use Rattle.count_invariant.specs.kept_facts.proofs.WordFrames.{load_keeps, load_marks, load_words}
 use Rattle.count_invariant.proofs.Lookups.{Shows, ShowsHeld, shown_of, link_kind, link_none, link_shown, passes, root_slots}
 use Rattle.count_invariant.proofs.Lookups.{slot_left, slot_right, slot_one, near_way, use_removed, leaf_reached}
 use Rattle.page_invariant.proofs.TouchCalls.{told_by, unlinked_may, empty_may, unreached_first}
 use Rattle.page_invariant.proofs.TouchCalls.{empty_first, cached_first, mapped_is, mapped_first}
+use Rattle.count_invariant.specs.act_states.specs.Touches.{touched}
+use Rattle.kernel_laws.specs.kernel_rules.specs.CallRelation.{begins_in as begins_in_of_callrelation}
+use Rattle.kernel_laws.specs.spk_nums.specs.Limits.{end_of_arg}
 
 -- What a touch takes from the load of its look-up, where this translation is cached or none.
 abbrev touched_at : Touching → Look → Option Translation → ℕ → WorkStep
@@ -124,7 +88,7 @@ one_more k = record k { counted = k.counted + 1 }
 flags_of : (m : Touching) (k : Capability) → k.kind ≡ kind.Page → EntryFits (Held k) → mapping_of m k ≡ told_by m.pages m.page k
 flags_of m k page fits =
     ap (λ (n : ℕ). record { pages = m.pages; page = m.page; frame = k.frame; flags = record { 0 = n } })
-    (small (subst (λ j. k.arg < Rattle.spk_nums.specs.Limits.end_of_arg j) page fits.2))
+    (small (subst (λ j. k.arg < end_of_arg j) page fits.2))
   where
     small : k.arg < 4 → k.arg % 4 ≡ k.arg
     small low = omega (arith, low)
@@ -207,7 +171,7 @@ module _ (setup : Setting) (setting : IsSetting setup) (cores : ℕ → Core) (t
         decides_on setup setting cores t stands c here a active (LoadOf (EntryAt m.pages i)) (reply.Ok (translated item)) a.found
         (looks_at m.pages i root_near) lands (still (Some None)) opens
         (ap (λ j. counted (changed s j) c) answers_it) refl
-        (λ x. ap (λ j. Rattle.kernel_rules.specs.CallRelation.begins_in j x) answers_it)
+        (λ x. ap (λ j. begins_in_of_callrelation j x) answers_it)
         (λ x. ap (λ y. ends y (reply.Ok (translated item)) x) knows.call_is)
         (ap (λ y. flushes y (reply.Ok (translated item))) knows.call_is)
         answered_may
@@ -342,7 +306,7 @@ module _ (setup : Setting) (setting : IsSetting setup) (cores : ℕ → Core) (t
       reaches = leaf_reached s c (root_at m.pages) m.page leaf refl within link
 
       leads : led_to s target ≡ Some slot
-      leads = ap (λ b. if b then slot_in (linked (Rattle.kernel_history.specs.Ways.capability_in
+      leads = ap (λ b. if b then slot_in (linked (capability_in
           (place_at s (root_slot m.pages m.page)))) (m.page % 64) else None) (passes (root_at m.pages) m.page refl within)
           ∙ ap (λ l. slot_in l (m.page % 64))
           (link_shown (place_at s (root_slot m.pages m.page)) ((s.grace (PlaceOf m.pages (m.page / 64))).waits c) leaf link)
@@ -429,7 +393,7 @@ module _ (setup : Setting) (setting : IsSetting setup) (cores : ℕ → Core) (t
         plain : IsUntimed setup t e
         plain = record {
           begins = λ x. ap (λ p. begins_in (Some r) p s c x) is_open
-              ∙ ap (λ j. Rattle.kernel_rules.specs.CallRelation.begins_in j x) caches_it;
+              ∙ ap (λ j. begins_in_of_callrelation j x) caches_it;
           ends = λ x. ap (λ p. ends_in (Some r) p x) is_open ∙ ap (λ y. ends y r x) knows.call_is;
           flushes = ap (flushes_in (Some r)) is_open ∙ ap (λ y. flushes y r) knows.call_is;
           apart = looks.apart;
@@ -591,7 +555,7 @@ module _ (setup : Setting) (setting : IsSetting setup) (cores : ℕ → Core) (t
 
       as_taken : (cached : Option Translation) (x : ℕ)
           → GoodTook setup cores t c (look_move m.look) (landed a (touched_at m m.look cached x))
-          → GoodTook setup cores t c (look_move m.look) (landed a (Rattle.act_states.specs.Touches.touched m x cached))
+          → GoodTook setup cores t c (look_move m.look) (landed a (touched m x cached))
       as_taken None x h = h
       as_taken (Some item) x h = h
 

@@ -1,46 +1,23 @@
 -- The load of the head of the first of two temporal capabilities, and the loads of its list.
-use Rattle.std.proofs.Common.{◌≡◌, ℕ, suc, ◌+◌, ◌<◌, nat_lt, Bool, true, false, if◌then◌else◌}
-use Rattle.std.proofs.Common.{List, ◌∷◌, Option, Some, None, arith, refl, sym, ◌∙◌, ap, subst}
-use Rattle.std.proofs.lemmas.Bool.{eq-eqb, ltb-false, false≢true}
-use Rattle.spk_nums.specs.Setting.{Setting, IsSetting}
-use Rattle.tcap_words.specs.Head.{head_of_word}
-use Rattle.tcap_words.specs.Quality.{quality_of_word}
-use Rattle.tcap_words.specs.declared.head_word.HeadWord.{HeadWord}
-use Rattle.tcap_words.specs.declared.quality_word.QualityWord.{QualityWord}
-use Rattle.tcap_words.proofs.HeadLemmas.{spelling}
-use Rattle.word_map.specs.Word.{Word, EntryAt}
-use Rattle.word_map.specs.Moves.{LoadOf}
-use Rattle.kernel_history.specs.Marks.{head_mark}
-use Rattle.kernel_history.specs.Marking.{marked_by}
-use Rattle.kernel_history.specs.ObjectWords.{holds_node}
-use Rattle.kernel_history.specs.Trace.{Step, Trace, state_after, last_left}
-use Rattle.kernel_history.proofs.Steps.{own_read-here}
-use Rattle.stage_tcap.specs.Charging.{end_by_mark, head_end}
-use Rattle.stage_tcap.specs.Heads.{head}
-use Rattle.stage_tcap.specs.Lists.{read_word}
-use Rattle.stage_tcap.specs.Pairs.{at_by_mark, at_by_head, at_read, a_next, noted, list_end}
-use Rattle.stage_tcap.specs.declared.pair.Pair.{Pair}
-use Rattle.stage_tcap.specs.declared.pair.PairAt.{PairAt}
-use Rattle.stage_tcap.specs.declared.pair.PairAt.TheVariants.{LoadA, MarkA, ListA, LoadB}
-use Rattle.act_states.specs.declared.refusals.Refusal.TheVariants as refusal
-use Rattle.act_states.specs.declared.work.Act.TheVariants.{Share as share_act}
-use Rattle.act_states.specs.declared.work.Work.TheVariants.{Act}
-use Rattle.act_states.specs.declared.work.WorkStep.TheVariants.{Goes}
-use Rattle.act_states.specs.WorkSteps.{refuse}
-use Rattle.act_states.specs.Shares.{took_shared, took_share}
-use Rattle.call_stages.specs.declared.stages.Stage.TheVariants.{Undecided}
-use Rattle.call_stages.specs.declared.stages.ActiveCall.{ActiveCall}
-use Rattle.call_stages.specs.Steps.{landed}
-use Rattle.call_stages.specs.View.{Core}
-use Rattle.core_invariant.specs.Holding.{holds_counts}
-use Rattle.core_invariant.specs.Knows.{KnowsUndecided}
-use Rattle.core_invariant.specs.Shares.{list_word, read_up, HasMarkedA, KnowsPairAt}
-use Rattle.core_invariant.specs.Invariant.{Invariant}
-use Rattle.step_ways.proofs.Loads.{step_to}
-use Rattle.kept_facts.proofs.Pairs.{marked_on}
-use Rattle.step_ways.proofs.Refusals.{GoodTook, ticks_at, refuses_busy}
+use Rattle.count_invariant.proofs.Common.{◌≡◌, ℕ, suc, ◌+◌, ◌<◌, nat_lt, Bool, true, false, if◌then◌else◌, List, ◌∷◌, Option, Some, None}
+use Rattle.count_invariant.proofs.Common.{arith, refl, sym, ◌∙◌, ap, subst, eq-eqb, ltb-false, false≢true, Setting, IsSetting}
+use Rattle.count_invariant.proofs.Common.{head_of_word, quality_of_word, HeadWord, spelling, Word, EntryAt, LoadOf, head_mark, marked_by}
+use Rattle.count_invariant.proofs.Common.{holds_node, Step, Trace, state_after, last_left, own_read-here, head_end, head, Pair, PairAt}
+use Rattle.count_invariant.proofs.Common.{LoadA, MarkA, ListA, LoadB, Act, Goes, refuse, took_shared, took_share, Undecided, ActiveCall}
+use Rattle.count_invariant.proofs.Common.{landed, Core, holds_counts, KnowsUndecided, read_up, HasMarkedA, KnowsPairAt, Invariant}
+use Rattle.count_invariant.proofs.Common.{marked_on, holds_share, TcapOf, frames_near, is_one_of}
+use Rattle.count_invariant.specs.tcap_words.specs.declared.quality_word.QualityWord.{QualityWord}
+use Rattle.count_invariant.specs.stage_tcap.specs.Charging.{end_by_mark}
+use Rattle.count_invariant.specs.stage_tcap.specs.Lists.{read_word}
+use Rattle.count_invariant.specs.stage_tcap.specs.Pairs.{at_by_mark, at_by_head, at_read, a_next, noted, list_end}
+use Rattle.count_invariant.specs.act_states.specs.declared.refusals.Refusal.TheVariants as refusal
+use Rattle.count_invariant.specs.act_states.specs.declared.work.Act.TheVariants.{Share as share_act}
+use Rattle.count_invariant.specs.core_invariant.specs.Shares.{list_word}
+use Rattle.count_invariant.specs.step_ways.proofs.Loads.{step_to}
+use Rattle.count_invariant.specs.step_ways.proofs.Refusals.{GoodTook, ticks_at, refuses_busy}
 use Rattle.pair_invariant.proofs.ShareCalls as calls
 use Rattle.pair_invariant.proofs.ShareSteps.{mark_is, head_says, a_list, loading, load_goes}
+use Rattle.count_invariant.specs.kept_facts.proofs.Pairs.{left_same}
 
 -- The load of head A.
 module _ (setup : Setting) (setting : IsSetting setup) (cores : ℕ → Core) (t : Trace) (stands : Invariant setup cores t) (c : ℕ)
@@ -60,11 +37,11 @@ module _ (setup : Setting) (setting : IsSetting setup) (cores : ℕ → Core) (t
   abbrev e : Step
   e = step_to c None (LoadOf at) was None None
 
-  near : Rattle.kernel_history.specs.Footprint.is_one_of p.a
-      (Rattle.kernel_history.specs.Footprint.frames_near (state_after setup t) c a.call) ≡ true
+  near : is_one_of p.a
+      (frames_near (state_after setup t) c a.call) ≡ true
   near = calls.near_a setup setting cores t stands c here a active now_p stage_is has
 
-  tcap : Rattle.kept_facts.proofs.Tcaps.TcapOf ((state_after setup t).frame p.a)
+  tcap : TcapOf ((state_after setup t).frame p.a)
   tcap = calls.tcap_a setup setting cores t stands c here a active now_p stage_is has
 
   none_some : (v : HeadWord) → None ≡ Some v → ⊥
@@ -136,7 +113,7 @@ module _ (setup : Setting) (setting : IsSetting setup) (cores : ℕ → Core) (t
   low : n < 8
   low = let fits = (calls.fits setup setting cores t stands c here a active list_p stage_is has).at.1 in omega (arith, fits)
 
-  tcap_here : Rattle.kept_facts.proofs.Tcaps.TcapOf ((state_after setup t).frame p.a)
+  tcap_here : TcapOf ((state_after setup t).frame p.a)
   tcap_here = calls.tcap_a setup setting cores t stands c here a active list_p stage_is has
 
   -- what is known of A after the load, with the word that it has found
@@ -152,13 +129,13 @@ module _ (setup : Setting) (setting : IsSetting setup) (cores : ℕ → Core) (t
         enough = on.enough;
         list = ap (λ o. read_word o (quality_of_word found)) on.list
             ∙ ap (λ (x : ℕ). read_word (read_up (list_word setup (loads ∷ t) p.a) n) (quality_of_word x))
-            (sym (Rattle.kept_facts.proofs.Pairs.left_same setup t loads refl word_at (λ h. refl)));
+            (sym (left_same setup t loads refl word_at (λ h. refl)));
         clean = on.clean;
       }
 
   goes : (to : PairAt)
-      → Rattle.core_invariant.specs.Invariant.holds_share (record p { list_a = next_list; at = to }) to (holds_counts None a.counts)
-      ≡ Rattle.core_invariant.specs.Invariant.holds_share list_p (ListA (suc n)) (holds_counts None a.counts)
+      → holds_share (record p { list_a = next_list; at = to }) to (holds_counts None a.counts)
+      ≡ holds_share list_p (ListA (suc n)) (holds_counts None a.counts)
       → KnowsPairAt setup (loads ∷ t) c (record p { list_a = next_list; at = to }) to
       → GoodTook setup cores t c (LoadOf word_at) (landed a (Goes (Act (share_act (record p { list_a = next_list; at = to })))))
   goes to holds_same knows =

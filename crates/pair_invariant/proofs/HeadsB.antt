@@ -1,59 +1,35 @@
 -- The load of the head of the second of two temporal capabilities, and the loads of its list.
-use Rattle.std.proofs.Common.{◌≡◌, ◌≢◌, ◌⊎◌, inl, inr, ℕ, zero, suc, ◌+◌, ◌<◌, nat_lt, Bool, true, false, if◌then◌else◌}
-use Rattle.std.proofs.Common.{List, ◌∷◌, Option, Some, None, IsSome, is_some, arith, refl, sym, ◌∙◌, ap, subst}
-use Rattle.std.proofs.lemmas.Bool.{eq-eqb, ltb-false, false≢true}
-use Rattle.spk_nums.specs.Setting.{Setting, IsSetting}
-use Rattle.spk_nums.specs.Capability.{Capability}
-use Rattle.spk_nums.specs.declared.calls.Call.{Call}
-use Rattle.spk_nums.specs.declared.calls.Call.TheVariants as call_as
-use Rattle.spk_nums.specs.declared.replies.Reply.TheVariants as reply
-use Rattle.spk_nums.specs.declared.replies.Value.TheVariants as value
-use Rattle.tcap_words.specs.Head.{head_of_word}
-use Rattle.tcap_words.specs.Quality.{quality_of_word}
-use Rattle.tcap_words.specs.declared.head_word.HeadWord.{HeadWord}
-use Rattle.tcap_words.specs.declared.quality_word.QualityWord.{QualityWord}
-use Rattle.tcap_words.proofs.HeadLemmas.{spelling}
-use Rattle.word_map.specs.Word.{Word, EntryAt}
-use Rattle.word_map.specs.Moves.{LoadOf}
-use Rattle.kernel_rules.specs.State.{State}
-use Rattle.kernel_rules.specs.CallRelation.{owed_by, counted, rule_of}
-use Rattle.kernel_history.specs.Justified.{IsHeldUp}
-use Rattle.kernel_history.specs.Marks.{head_mark}
-use Rattle.kernel_history.specs.Marking.{marked_by}
-use Rattle.kernel_history.specs.ObjectWords.{holds_node}
-use Rattle.kernel_history.specs.Trace.{Step, Trace, state_after, last_left}
-use Rattle.kernel_history.proofs.Laws.{not_inside}
-use Rattle.kernel_history.proofs.Names.{same_word-other}
-use Rattle.kernel_history.proofs.Steps.{own_read-here, own_read-there, last_left-here}
-use Rattle.stage_tcap.specs.Heads.{head}
-use Rattle.stage_tcap.specs.Lists.{read_word, in_order, same_list}
-use Rattle.stage_tcap.specs.Pairs.{at_by_mark, at_by_head, at_read, b_next, b_end, decided_by_mark, noted}
-use Rattle.stage_tcap.specs.Pairs.{list_end, judged, by_alike, by_room, whole_b, read_b, giving_back}
-use Rattle.stage_tcap.specs.declared.pair.Pair.{Pair}
-use Rattle.stage_tcap.specs.declared.pair.PairAt.{PairAt}
-use Rattle.stage_tcap.specs.declared.pair.PairAt.TheVariants.{LoadB, ListB}
-use Rattle.stage_tcap.specs.declared.pair.PairWork.{PairWork}
-use Rattle.stage_tcap.specs.declared.pair.PairWork.TheVariants.{Transfer, Delegate, Test}
-use Rattle.act_states.specs.declared.work.Act.TheVariants.{Share as share_act}
-use Rattle.act_states.specs.declared.work.Work.TheVariants.{Act}
-use Rattle.act_states.specs.declared.work.WorkStep.TheVariants.{Goes}
-use Rattle.act_states.specs.Shares.{took_shared, took_share}
-use Rattle.call_stages.specs.declared.stages.Stage.TheVariants.{Undecided}
-use Rattle.call_stages.specs.declared.stages.ActiveCall.{ActiveCall}
-use Rattle.call_stages.specs.Steps.{landed}
-use Rattle.call_stages.specs.View.{Core}
-use Rattle.core_invariant.specs.Holding.{Holding, holds_counts}
-use Rattle.core_invariant.specs.Knows.{KnowsUndecided}
-use Rattle.core_invariant.specs.Shares.{list_word, read_up, SparesTcap, HasMarkedA, HasSeenB}
-use Rattle.core_invariant.specs.Shares.{HasReadB, HasBoth, ReadsHead, SharesBy, KnowsPairAt}
-use Rattle.core_invariant.specs.Invariant.{holds_in, holds_head, holds_share, held_by, Invariant}
-use Rattle.step_ways.proofs.Loads.{step_to, inner, core_is}
-use Rattle.core_invariant.proofs.Markers.{marker_inside}
-use Rattle.kept_facts.proofs.Pairs.{marked_on, seen_on, tcap_mark, left_same}
-use Rattle.step_ways.proofs.Refusals.{GoodTook, not_spent}
-use Rattle.kept_facts.proofs.Tcaps.{TcapOf}
+use Rattle.count_invariant.proofs.Common.{◌≡◌, ◌≢◌, ◌⊎◌, inl, inr, ℕ, zero, suc, ◌+◌, ◌<◌, nat_lt, Bool, true, false, if◌then◌else◌, List}
+use Rattle.count_invariant.proofs.Common.{◌∷◌, Option, Some, None, arith, refl, sym, ◌∙◌, ap, subst, eq-eqb, ltb-false, false≢true}
+use Rattle.count_invariant.proofs.Common.{Setting, IsSetting, Capability, Call, head_of_word, quality_of_word, HeadWord, spelling, Word}
+use Rattle.count_invariant.proofs.Common.{EntryAt, LoadOf, State, counted, rule_of, head_mark, marked_by, holds_node, Step, Trace}
+use Rattle.count_invariant.proofs.Common.{state_after, last_left, not_inside, same_word-other, own_read-here, own_read-there}
+use Rattle.count_invariant.proofs.Common.{last_left-here, head, in_order, same_list, judged, by_alike, by_room, giving_back, Pair, PairAt}
+use Rattle.count_invariant.proofs.Common.{LoadB, ListB, PairWork, Act, Goes, took_shared, took_share, Undecided, ActiveCall, landed, Core}
+use Rattle.count_invariant.proofs.Common.{Holding, holds_counts, KnowsUndecided, read_up, SparesTcap, HasMarkedA, HasBoth, SharesBy}
+use Rattle.count_invariant.proofs.Common.{KnowsPairAt, holds_in, holds_head, holds_share, held_by, Invariant, marker_inside, marked_on}
+use Rattle.count_invariant.proofs.Common.{TcapOf, list_changed}
+use Rattle.std.proofs.Common.{IsSome, is_some}
+use Rattle.quality_lists.specs.spk_nums.specs.declared.calls.Call.TheVariants as call_as
+use Rattle.quality_lists.specs.spk_nums.specs.declared.replies.Reply.TheVariants as reply
+use Rattle.quality_lists.specs.spk_nums.specs.declared.replies.Value.TheVariants as value
+use Rattle.count_invariant.specs.tcap_words.specs.declared.quality_word.QualityWord.{QualityWord}
+use Rattle.kernel_laws.specs.kernel_rules.specs.CallRelation.{owed_by}
+use Rattle.count_invariant.specs.kernel_history.specs.Justified.{IsHeldUp}
+use Rattle.count_invariant.specs.stage_tcap.specs.Lists.{read_word}
+use Rattle.count_invariant.specs.stage_tcap.specs.Pairs.{at_by_mark, at_by_head, at_read, b_next, b_end, decided_by_mark, noted}
+use Rattle.count_invariant.specs.stage_tcap.specs.Pairs.{list_end, whole_b, read_b}
+use Rattle.count_invariant.specs.stage_tcap.specs.declared.pair.PairWork.TheVariants.{Transfer, Delegate, Test}
+use Rattle.count_invariant.specs.act_states.specs.declared.work.Act.TheVariants.{Share as share_act}
+use Rattle.count_invariant.specs.core_invariant.specs.Shares.{list_word, HasSeenB}
+use Rattle.count_invariant.specs.core_invariant.specs.Shares.{HasReadB, ReadsHead}
+use Rattle.count_invariant.specs.step_ways.proofs.Loads.{step_to, inner, core_is}
+use Rattle.count_invariant.specs.kept_facts.proofs.Pairs.{seen_on, tcap_mark, left_same}
+use Rattle.count_invariant.specs.step_ways.proofs.Refusals.{GoodTook, not_spent}
 use Rattle.pair_invariant.proofs.ShareCalls as calls
 use Rattle.pair_invariant.proofs.ShareSteps.{mark_is, head_says, list_plain, loading, load_goes, load_decides}
+use Rattle.count_invariant.specs.stage_tcap.specs.Pairs.{by_preempting}
+use Rattle.quality_lists.specs.spk_nums.specs.Merging.{preempts_by}
 
 -- Such a call charges no ticks.
 pub owes_share : (s : State) (c : ℕ) (call : Call) (ks : List Capability) (p : Pair) → SharesBy call ks p → owed_by s c call ≡ s
@@ -82,14 +58,14 @@ judged_same (Transfer m) p q first second list_a list_b =
     ∙ ap (λ xs. by_alike (same_list (in_order p.list_a) (in_order xs))) list_b
 judged_same (Delegate m) p q first second list_a list_b = ap by_room list_b
 judged_same Test p q first second list_a list_b =
-    ap (λ h. Rattle.stage_tcap.specs.Pairs.by_preempting
-    (Rattle.spk_nums.specs.Merging.preempts_by h.budget (in_order q.list_a) q.head_b.budget (in_order q.list_b))) first
-    ∙ ap (λ h. Rattle.stage_tcap.specs.Pairs.by_preempting
-    (Rattle.spk_nums.specs.Merging.preempts_by p.head_a.budget (in_order q.list_a) h.budget (in_order q.list_b))) second
-    ∙ ap (λ xs. Rattle.stage_tcap.specs.Pairs.by_preempting
-    (Rattle.spk_nums.specs.Merging.preempts_by p.head_a.budget (in_order xs) p.head_b.budget (in_order q.list_b))) list_a
-    ∙ ap (λ xs. Rattle.stage_tcap.specs.Pairs.by_preempting
-    (Rattle.spk_nums.specs.Merging.preempts_by p.head_a.budget (in_order p.list_a) p.head_b.budget (in_order xs))) list_b
+    ap (λ h. by_preempting
+    (preempts_by h.budget (in_order q.list_a) q.head_b.budget (in_order q.list_b))) first
+    ∙ ap (λ h. by_preempting
+    (preempts_by p.head_a.budget (in_order q.list_a) h.budget (in_order q.list_b))) second
+    ∙ ap (λ xs. by_preempting
+    (preempts_by p.head_a.budget (in_order xs) p.head_b.budget (in_order q.list_b))) list_a
+    ∙ ap (λ xs. by_preempting
+    (preempts_by p.head_a.budget (in_order p.list_a) p.head_b.budget (in_order xs))) list_b
 
 record IsJudged (setup : Setting) (t : Trace) (c : ℕ) (q : Pair) (h : Holding) (at : PairAt) : Type 0 where
   holds_same : holds_share q at h ≡ holds_head q false h
@@ -278,9 +254,9 @@ module _ (setup : Setting) (setting : IsSetting setup) (cores : ℕ → Core) (t
   }
     where
       on : (p.list_b ≡ read_up (list_word setup (loads ∷ t) p.b) n)
-          ⊎ ((Rattle.core_invariant.specs.Shares.list_changed (loads ∷ t) p.b ≡ true) × IsSome seen_before.now.mark)
+          ⊎ ((list_changed (loads ∷ t) p.b ≡ true) × IsSome seen_before.now.mark)
           → (next_list ≡ read_up (list_word setup (loads ∷ t) p.b) (suc n))
-          ⊎ ((Rattle.core_invariant.specs.Shares.list_changed (loads ∷ t) p.b ≡ true) × IsSome seen_before.now.mark)
+          ⊎ ((list_changed (loads ∷ t) p.b ≡ true) × IsSome seen_before.now.mark)
       on (inl is) = inl (ap (λ o. read_word o (quality_of_word found)) is
           ∙ ap (λ (x : ℕ). read_word (read_up (list_word setup (loads ∷ t) p.b) n) (quality_of_word x))
           (sym (left_same setup t loads refl word_at (λ h. refl))))

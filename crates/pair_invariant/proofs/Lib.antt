@@ -1,3 +1,5 @@
+-- The names that most proofs use.
+pub use Rattle.count_invariant.proofs.Common
 -- What the words and the rule of such a call say.
 pub mod ListsRead
 pub mod ShareCalls

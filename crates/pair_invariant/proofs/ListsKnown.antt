@@ -1,48 +1,20 @@
 -- What a call on two temporal capabilities knows of both, where the head of the second is as it was read: their budgets and their lists.
-use Rattle.std.proofs.Common.{◌≡◌, ◌⊎◌, inl, inr, ℕ, ◌+◌, ◌<◌, ◌≤◌, ◌^◌, ◌==◌, ◌&&◌, Bool, true, false}
-use Rattle.std.proofs.Common.{List, [], ◌∷◌, Option, Some, None, IsSome, is_some, refl, sym, ◌∙◌, ap, subst}
-use Rattle.std.proofs.lemmas.Bool.{false≢true}
-use Rattle.std.proofs.lemmas.List.Elements.{All-nil}
-use Rattle.spk_nums.specs.Setting.{Setting, IsSetting}
-use Rattle.spk_nums.specs.Capability.{Capability}
-use Rattle.spk_nums.specs.declared.kinds.Kind.{Kind}
-use Rattle.tcap_words.specs.Head.{word_of_head, head_of_word}
-use Rattle.tcap_words.specs.declared.head_word.HeadWord.{HeadWord}
-use Rattle.tcap_words.proofs.HeadLemmas.{spelling}
-use Rattle.word_map.specs.Word.{EntryAt}
-use Rattle.kernel_rules.specs.Access.{Slot, own}
-use Rattle.kernel_rules.specs.State.{Kernel, Tcap, TcapFields, State, tcap_in, comp_of}
-use Rattle.kernel_rules.specs.Ranges.{InRanges, TcapInRange, FrameInRange}
-use Rattle.kernel_rules.specs.CallRelation.{rule_of}
-use Rattle.kernel_rules.specs.TimeCalls.{tcap_at, are_alike}
+use Rattle.count_invariant.proofs.Common.{◌≡◌, ◌⊎◌, inl, inr, ℕ, ◌+◌, ◌<◌, ◌≤◌, ◌^◌, ◌==◌, ◌&&◌, Bool, true, false, List, [], ◌∷◌, Option}
+use Rattle.count_invariant.proofs.Common.{Some, None, refl, sym, ◌∙◌, ap, subst, false≢true, All-nil, Setting, IsSetting, Capability}
+use Rattle.count_invariant.proofs.Common.{Kind, word_of_head, head_of_word, HeadWord, spelling, EntryAt, Slot, own, Kernel, Tcap}
+use Rattle.count_invariant.proofs.Common.{TcapFields, State, tcap_in, comp_of, InRanges, rule_of, tcap_at, events_of, HasReached, IsLegal}
+use Rattle.count_invariant.proofs.Common.{head_mark, marked_by, Step, Trace, state_after, last_left, own_left, way_to, ways, state_is}
+use Rattle.count_invariant.proofs.Common.{run_of, leads_by, LeadsIn, own_pages, same_list, Pair, Act, Undecided, ActiveCall, Core}
+use Rattle.count_invariant.proofs.Common.{holds_counts, HasFound, own_in, KnowsUndecided, list_changed, read_up, HasBoth, holds_in}
+use Rattle.count_invariant.proofs.Common.{holds_head, Invariant, HeadIs, count_room, own_kept, TcapOf}
+use Rattle.std.proofs.Common.{IsSome, is_some}
+use Rattle.kernel_laws.specs.kernel_rules.specs.Ranges.{TcapInRange, FrameInRange}
+use Rattle.kernel_laws.specs.kernel_rules.specs.TimeCalls.{are_alike}
 use Rattle.kernel_laws.proofs.RangesLaw.{ranges_hold}
-use Rattle.kernel_history.specs.Events.{events_of}
-use Rattle.kernel_history.specs.Justified.{HasReached}
-use Rattle.kernel_history.specs.Legal.{IsLegal}
-use Rattle.kernel_history.specs.Marks.{head_mark}
-use Rattle.kernel_history.specs.Marking.{marked_by}
-use Rattle.kernel_history.specs.Trace.{Step, Trace, state_after, last_left, own_left}
-use Rattle.kernel_history.specs.Ways.{way_to, ways}
-use Rattle.kernel_history.proofs.Events.{state_is, run_of}
-use Rattle.call_plans.proofs.AfterNames.{leads_by}
-use Rattle.call_plans.specs.After.{LeadsIn}
-use Rattle.call_plans.specs.GoesBy.{own_pages}
-use Rattle.plan_ways.proofs.Ways.{all_ways}
+use Rattle.count_invariant.specs.plan_ways.proofs.Ways.{all_ways}
 use Rattle.count_invariant.proofs.Findings.{found_named, own_is, way_gone}
-use Rattle.stage_tcap.specs.Lists.{same_list}
-use Rattle.stage_tcap.specs.declared.pair.Pair.{Pair}
-use Rattle.act_states.specs.declared.work.Act.TheVariants.{Share as share_act}
-use Rattle.act_states.specs.declared.work.Work.TheVariants.{Act}
-use Rattle.call_stages.specs.declared.stages.Stage.TheVariants.{Undecided}
-use Rattle.call_stages.specs.declared.stages.ActiveCall.{ActiveCall}
-use Rattle.call_stages.specs.View.{Core}
-use Rattle.core_invariant.specs.Holding.{holds_counts}
-use Rattle.core_invariant.specs.Knows.{HasFound, own_in, KnowsUndecided}
-use Rattle.core_invariant.specs.Shares.{list_changed, list_word, read_up, HasBoth}
-use Rattle.core_invariant.specs.Invariant.{holds_in, holds_head, Invariant}
-use Rattle.core_invariant.specs.Words.{HeadIs, count_room}
-use Rattle.kept_facts.proofs.Carries.{own_kept}
-use Rattle.kept_facts.proofs.Tcaps.{TcapOf}
+use Rattle.count_invariant.specs.act_states.specs.declared.work.Act.TheVariants.{Share as share_act}
+use Rattle.count_invariant.specs.core_invariant.specs.Shares.{list_word}
 use Rattle.pair_invariant.proofs.ListsRead.{reads_whole}
 use Rattle.pair_invariant.proofs.ShareCalls as calls
 use Rattle.pair_invariant.proofs.ShareSteps.{mark_is, head_says, list_plain, a_says, a_list}

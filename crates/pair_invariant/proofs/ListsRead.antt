@@ -1,13 +1,10 @@
 -- The list that is read from the words of a temporal capability is its list.
-use Rattle.std.proofs.Common.{◌≡◌, ℕ, zero, suc, ◌<◌, ◌≤◌, ◌++◌, List, [], ◌∷◌, length, Option}
-use Rattle.std.proofs.Common.{Some, None, arith, refl, sym, ◌∙◌, ap, subst, if◌then◌else◌}
+use Rattle.count_invariant.proofs.Common.{◌≡◌, ℕ, zero, suc, ◌<◌, ◌≤◌, ◌++◌, List, [], ◌∷◌, length, Option, Some, None, arith, refl, sym}
+use Rattle.count_invariant.proofs.Common.{◌∙◌, ap, subst, if◌then◌else◌, lt-ltb, quality_of_word, read_up}
 use Rattle.std.specs.Prelude.{slice_get, take, drop}
-use Rattle.std.proofs.lemmas.Bool.{lt-ltb}
-use Rattle.spk_nums.specs.Qualities.{IsQualityList}
-use Rattle.tcap_words.specs.Quality.{quality_of_word}
+use Rattle.quality_lists.specs.spk_nums.specs.Qualities.{IsQualityList}
 use Rattle.quality_lists.proofs.Merges.{takes_next}
-use Rattle.stage_tcap.specs.Lists.{read_pair, read_word}
-use Rattle.core_invariant.specs.Shares.{read_up}
+use Rattle.count_invariant.specs.stage_tcap.specs.Lists.{read_pair, read_word}
 
 -- A list is its first pairs, the next one, and the others.
 record Split (qs : List (ℕ × ℕ)) (n : ℕ) (p : ℕ × ℕ) : Type 0 where

@@ -1,40 +1,21 @@
 -- The way in which a call is decided with a refusal by a step that marks its word, or gives it back.
-use Rattle.std.proofs.Common.{◌≡◌, ◌≢◌, ◌∷◌, ℕ, ◌+◌, ◌^◌, ◌<◌, false, if◌then◌else◌, Some, None, arith, refl, sym, ◌∙◌, ap, subst}
-use Rattle.spk_nums.specs.Setting.{Setting, IsSetting}
-use Rattle.spk_nums.specs.declared.replies.Reply.{Reply}
-use Rattle.word_map.specs.Word.{Word, CountAt, FlushAt, ClockAt, same_word}
-use Rattle.word_map.specs.Moves.{Move, word_of, left_of}
-use Rattle.kernel_rules.specs.State.{Thing, FrameOf, put}
-use Rattle.kernel_rules.specs.CallRelation.{MayReply, state_by, counted, begins, ends, flushes}
-use Rattle.kernel_rules.specs.Alone.{alone}
-use Rattle.kernel_rules.specs.Laws.{calls_counted}
-use Rattle.kernel_rules.proofs.Within.{put_same}
-use Rattle.kernel_history.specs.Alone.{IsAlone, IsFirst}
-use Rattle.kernel_history.specs.Justified.{IsJustified}
-use Rattle.kernel_history.specs.Marks.{mark_of}
-use Rattle.kernel_history.specs.Marking.{marked_by}
-use Rattle.kernel_history.specs.Stamps.{begins_in, ends_in, flushes_in}
-use Rattle.kernel_history.specs.Trace.{Step, Trace, Open, phase, after_decide, state_after, last_left, state_decided_in}
-use Rattle.kernel_history.proofs.Inside.{decided-inside}
-use Rattle.kernel_history.proofs.Steps.{last_left-there}
-use Rattle.act_states.specs.declared.work.Tail.{Tail}
-use Rattle.call_stages.specs.declared.stages.Stage.TheVariants.{Decided}
-use Rattle.call_stages.specs.declared.stages.ActiveCall.{ActiveCall}
-use Rattle.call_stages.specs.View.{Core}
-use Rattle.core_invariant.specs.Holding.{settled_by, settled}
-use Rattle.core_invariant.specs.Knows.{phase_at, KnowsTail}
-use Rattle.core_invariant.specs.Invariant.{holds, held_by, Invariant}
-use Rattle.core_invariant.proofs.Bare.{AsBefore}
-use Rattle.kept_facts.proofs.Calm.{IsCalm, calm_counted, calm_words, counted_rises, none_stored}
-use Rattle.kept_facts.proofs.Calm.{IsUntimed, plain_time, plain_exit, plain_begins}
-use Rattle.step_ways.proofs.Flushing.{open_flushed}
-use Rattle.step_ways.proofs.Good.{IsGood, SparesBlanks}
-use Rattle.kept_facts.proofs.Lent.{SparesLent, given_kept, lent_open}
-use Rattle.step_ways.proofs.Loads.{Lands, IsOfCall, next_at, core_in_call, core_is, call_is, in_call, inner}
-use Rattle.step_ways.proofs.Loads.{inner_within, inner_disciplined, inner_near, inner_works, inner_own}
-use Rattle.kept_facts.proofs.Sums.{sums_stay}
-use Rattle.step_ways.proofs.Users.{spares_none}
-use Rattle.kept_facts.proofs.WordFrames.{marks_own, hold_marks, hold_words, settled_stays}
+use Rattle.count_invariant.proofs.Common.{◌≡◌, ◌≢◌, ◌∷◌, ℕ, ◌+◌, ◌^◌, ◌<◌, false, if◌then◌else◌, Some, None, arith, refl, sym, ◌∙◌, ap}
+use Rattle.count_invariant.proofs.Common.{subst, Setting, IsSetting, Reply, Word, CountAt, FlushAt, ClockAt, same_word, Move, word_of}
+use Rattle.count_invariant.proofs.Common.{left_of, Thing, FrameOf, put, MayReply, state_by, counted, begins, ends, flushes, alone}
+use Rattle.count_invariant.proofs.Common.{calls_counted, put_same, IsAlone, IsFirst, IsJustified, mark_of, marked_by, ends_in, flushes_in}
+use Rattle.count_invariant.proofs.Common.{Step, Trace, Open, phase, after_decide, state_after, last_left, state_decided_in}
+use Rattle.count_invariant.proofs.Common.{decided-inside, last_left-there, Tail, Decided, ActiveCall, Core, settled_by, settled, phase_at}
+use Rattle.count_invariant.proofs.Common.{KnowsTail, holds, held_by, Invariant, AsBefore, IsCalm, calm_counted, calm_words, counted_rises}
+use Rattle.count_invariant.proofs.Common.{none_stored, IsUntimed, plain_time, plain_exit, plain_begins, SparesLent, lent_open, sums_stay}
+use Rattle.count_invariant.proofs.Common.{marks_own}
+use Rattle.count_invariant.specs.kernel_history.specs.Stamps.{begins_in}
+use Rattle.count_invariant.specs.step_ways.proofs.Flushing.{open_flushed}
+use Rattle.count_invariant.specs.step_ways.proofs.Good.{IsGood, SparesBlanks}
+use Rattle.count_invariant.specs.kept_facts.proofs.Lent.{given_kept}
+use Rattle.count_invariant.specs.step_ways.proofs.Loads.{Lands, IsOfCall, next_at, core_in_call, core_is, call_is, in_call, inner}
+use Rattle.count_invariant.specs.step_ways.proofs.Loads.{inner_within, inner_disciplined, inner_near, inner_works, inner_own}
+use Rattle.count_invariant.specs.step_ways.proofs.Users.{spares_none}
+use Rattle.count_invariant.specs.kept_facts.proofs.WordFrames.{hold_marks, hold_words, settled_stays}
 
 module _ (setup : Setting) (setting : IsSetting setup) (cores : ℕ → Core) (t : Trace) (stands : Invariant setup cores t) (c : ℕ)
     (here : c < setup.cores)

@@ -1,70 +1,40 @@
 -- The compare that marks the head of the first of two temporal capabilities.
-use Rattle.std.proofs.Common.{◌≡◌, inl, inr, ℕ, ◌+◌, ◌<◌, ◌≤◌, ◌^◌, ◌==◌, ◌&&◌, not, nat_lt, Bool, true}
-use Rattle.std.proofs.Common.{false, if◌then◌else◌, [], ◌∷◌, Some, None, arith, refl, sym, ◌∙◌, ap, subst}
-use Rattle.std.proofs.lemmas.Bool.{eq-eqb, ne_eqb, eqb-true, eqb-false, ltb-true, ltb-false}
-use Rattle.spk_nums.specs.Setting.{Setting, IsSetting}
-use Rattle.spk_nums.specs.WordSteps.{left_if}
-use Rattle.spk_nums.specs.declared.replies.Reply.{Reply}
-use Rattle.spk_nums.specs.declared.replies.Reply.TheVariants as reply
-use Rattle.tcap_words.specs.Head.{HeadFits, word_of_head, head_of_word}
-use Rattle.tcap_words.specs.declared.head_word.HeadWord.{HeadWord}
-use Rattle.tcap_words.proofs.HeadLemmas.{spelling}
-use Rattle.word_map.specs.Word.{Word, EntryAt}
-use Rattle.word_map.specs.Moves.{Move, CompareOf, left_of}
-use Rattle.word_map.proofs.WordLemmas.{same_same}
-use Rattle.kernel_rules.specs.State.{Kernel, Tcap, TcapFields, State, put, tcap_in}
-use Rattle.kernel_rules.specs.Access.{found as named_by}
-use Rattle.kernel_rules.specs.Rules.{Refused, Does, RuleMay, unless, first_cause}
-use Rattle.kernel_rules.specs.TimeCalls.{tcap_at}
-use Rattle.kernel_rules.specs.CallRelation.{rule_of, change_of}
-use Rattle.kernel_rules.proofs.Within.{put_same}
-use Rattle.kernel_history.specs.Discipline.{changes_in_frame}
-use Rattle.kernel_history.specs.Justified.{HasRacedHead}
-use Rattle.kernel_history.specs.Marks.{mark_of, head_mark}
-use Rattle.kernel_history.specs.Marking.{marked_by}
-use Rattle.kernel_history.specs.Trace.{Step, Trace, state_after, last_left, state_decided_in}
-use Rattle.trace_laws.proofs.AloneCalls.{refused_first}
-use Rattle.kernel_history.proofs.Names.{same_word-other}
-use Rattle.kernel_history.proofs.Steps.{last_left-here}
-use Rattle.trace_laws.proofs.Carries.{was_stays}
-use Rattle.stage_tcap.specs.Heads.{marked}
-use Rattle.stage_tcap.specs.Pairs.{amount_of, at_marked, marked_end, giving_back}
-use Rattle.stage_tcap.specs.declared.pair.Pair.{Pair}
-use Rattle.stage_tcap.specs.declared.pair.PairAt.TheVariants.{MarkA, ListA}
-use Rattle.stage_tcap.specs.declared.pair.PairWork.{PairWork}
-use Rattle.stage_tcap.specs.declared.pair.PairWork.TheVariants.{Transfer, Delegate, Test}
-use Rattle.act_states.specs.declared.refusals.Refusal.TheVariants as refusal
-use Rattle.act_states.specs.declared.work.Act.TheVariants.{Share as share_act}
-use Rattle.act_states.specs.declared.work.Work.TheVariants.{Act}
-use Rattle.act_states.specs.declared.work.Tail.TheVariants.{Share as share_tail}
-use Rattle.act_states.specs.WorkSteps.{refuse}
-use Rattle.act_states.specs.Shares.{took_shared, took_share}
-use Rattle.call_stages.specs.declared.stages.Stage.TheVariants.{Undecided, Decided}
-use Rattle.call_stages.specs.declared.stages.ActiveCall.{ActiveCall}
-use Rattle.call_stages.specs.Steps.{landed, went, GoesOn}
-use Rattle.call_stages.specs.View.{Core}
-use Rattle.core_invariant.specs.Holding.{holds_counts, settled_by}
-use Rattle.core_invariant.specs.Words.{HeadIs, count_room}
-use Rattle.core_invariant.specs.Knows.{KnowsUndecided}
-use Rattle.core_invariant.specs.Shares.{list_changed, TurnsHead, SparesTcap, HasTcap, HasMarkedA}
-use Rattle.core_invariant.specs.Invariant.{holds_in, holds, held_by, Invariant}
-use Rattle.core_invariant.proofs.Bare.{as_none, counts_bare}
-use Rattle.kept_facts.proofs.Carries.{names_on, counts_on}
-use Rattle.step_ways.proofs.Counting as counters
-use Rattle.step_ways.proofs.Good.{Spared, SparesBlanks}
-use Rattle.kept_facts.proofs.Lent.{unlent_head_value, unlent_head_word, lent_free}
-use Rattle.step_ways.proofs.Loads.{IsOfCall, core_in_call, core_is, call_is, inner}
-use Rattle.step_ways.proofs.Refusals.{GoodTook, ticks_at, not_spent, refuses_raced}
-use Rattle.kept_facts.proofs.Tcaps.{TcapOf}
-use Rattle.step_ways.proofs.Writes.{room_left}
+use Rattle.count_invariant.proofs.Common.{◌≡◌, inl, inr, ℕ, ◌+◌, ◌<◌, ◌≤◌, ◌^◌, ◌==◌, ◌&&◌, not, nat_lt, Bool, true, false, if◌then◌else◌}
+use Rattle.count_invariant.proofs.Common.{[], ◌∷◌, Some, None, arith, refl, sym, ◌∙◌, ap, subst, eq-eqb, ne_eqb, eqb-true, eqb-false}
+use Rattle.count_invariant.proofs.Common.{ltb-true, ltb-false, Setting, IsSetting, left_if, Reply, HeadFits, word_of_head, head_of_word}
+use Rattle.count_invariant.proofs.Common.{HeadWord, spelling, Word, EntryAt, Move, CompareOf, left_of, same_same, Kernel, Tcap}
+use Rattle.count_invariant.proofs.Common.{TcapFields, State, put, tcap_in, Refused, Does, RuleMay, unless, first_cause, tcap_at, rule_of}
+use Rattle.count_invariant.proofs.Common.{change_of, put_same, changes_in_frame, HasRacedHead, mark_of, head_mark, marked_by, Step, Trace}
+use Rattle.count_invariant.proofs.Common.{state_after, last_left, state_decided_in, refused_first, same_word-other, last_left-here}
+use Rattle.count_invariant.proofs.Common.{was_stays, marked, amount_of, giving_back, Pair, MarkA, ListA, PairWork, Act, refuse}
+use Rattle.count_invariant.proofs.Common.{took_shared, took_share, Undecided, Decided, ActiveCall, landed, went, GoesOn, Core}
+use Rattle.count_invariant.proofs.Common.{holds_counts, settled_by, HeadIs, count_room, KnowsUndecided, list_changed, TurnsHead}
+use Rattle.count_invariant.proofs.Common.{SparesTcap, HasTcap, HasMarkedA, holds_in, holds, held_by, Invariant, as_none, counts_bare}
+use Rattle.count_invariant.proofs.Common.{names_on, counts_on, unlent_head_value, unlent_head_word, lent_free, TcapOf, settled, IsNearIn}
+use Rattle.count_invariant.proofs.Common.{word_of, counted, first_of, are_many, are_unlike}
+use Rattle.quality_lists.specs.spk_nums.specs.declared.replies.Reply.TheVariants as reply
+use Rattle.kernel_laws.specs.kernel_rules.specs.Access.{found as named_by}
+use Rattle.count_invariant.specs.stage_tcap.specs.Pairs.{at_marked, marked_end}
+use Rattle.count_invariant.specs.stage_tcap.specs.declared.pair.PairWork.TheVariants.{Transfer, Delegate, Test}
+use Rattle.count_invariant.specs.act_states.specs.declared.refusals.Refusal.TheVariants as refusal
+use Rattle.count_invariant.specs.act_states.specs.declared.work.Act.TheVariants.{Share as share_act}
+use Rattle.count_invariant.specs.act_states.specs.declared.work.Tail.TheVariants.{Share as share_tail}
+use Rattle.count_invariant.specs.step_ways.proofs.Counting as counters
+use Rattle.count_invariant.specs.step_ways.proofs.Good.{Spared, SparesBlanks}
+use Rattle.count_invariant.specs.step_ways.proofs.Loads.{IsOfCall, core_in_call, core_is, call_is, inner}
+use Rattle.count_invariant.specs.step_ways.proofs.Refusals.{GoodTook, ticks_at, not_spent, refuses_raced}
+use Rattle.count_invariant.specs.step_ways.proofs.Writes.{room_left}
 use Rattle.pair_invariant.proofs.Marking.{decides_marking}
 use Rattle.pair_invariant.proofs.ShareCalls as calls
 use Rattle.pair_invariant.proofs.ShareCalls.{causes_of, change_by}
 use Rattle.pair_invariant.proofs.ShareSteps.{mark_is, head_says, now_was, counted_tcap, shares_same}
+use Rattle.count_invariant.specs.core_invariant.specs.Shares.{turns_list}
+use Rattle.count_invariant.specs.step_ways.proofs.Loads.{next_at}
+use Rattle.kernel_laws.specs.kernel_rules.specs.TimeCalls.{is_short as is_short_of_timecalls}
 
 -- A step on a word of a temporal capability alone spares the words that others rely on, where it does so of this word.
 pub spares_one : (setup : Setting) (t : Trace) (e : Step) (f i : ℕ) (q : TcapFields)
-    → Rattle.word_map.specs.Moves.word_of e.move ≡ EntryAt f i → (state_after setup t).frame f ≡ Kernel (Tcap q)
+    → word_of e.move ≡ EntryAt f i → (state_after setup t).frame f ≡ Kernel (Tcap q)
     → SparesTcap setup t e f i → SparesBlanks setup t e
 spares_one setup t e f i q at is turns g j on =
     subst (λ (m : ℕ). Spared setup t e m j ((state_after setup t).frame m)) (same_frame g j (sym at ∙ on))
@@ -214,10 +184,10 @@ module _ (setup : Setting) (setting : IsSetting setup) (cores : ℕ → Core) (t
         (sym (ap head_of_word found_is ∙ shown))
         (inl has.knows.knows.at.0.bare, inr (refl, inl has.knows.knows.at.0.bare))))
 
-    clean : (e : Step) → Rattle.word_map.specs.Moves.word_of e.move ≡ at → (left_of e.move e.found == e.found) ≡ false
+    clean : (e : Step) → word_of e.move ≡ at → (left_of e.move e.found == e.found) ≡ false
         → list_changed (e ∷ t) p.a ≡ false
     clean e on other =
-        ap (λ (w : Word). Rattle.core_invariant.specs.Shares.turns_list w (left_of e.move e.found == e.found) p.a (list_changed t p.a)) on
+        ap (λ (w : Word). turns_list w (left_of e.move e.found == e.found) p.a (list_changed t p.a)) on
         ∙ ap (λ b. if b && not (left_of e.move e.found == e.found) then false else list_changed t p.a) (eq-eqb p.a p.a refl)
         ∙ ap (λ b. if not b then false else list_changed t p.a) other
 
@@ -235,23 +205,23 @@ module _ (setup : Setting) (setting : IsSetting setup) (cores : ℕ → Core) (t
     unfolding is
     short_first Test less = absurd (let low = ltb-true p.head_a.budget 0 less in omega (arith, low))
     short_first (Transfer m) less =
-        ap (λ b. unless (Rattle.kernel_rules.specs.Rules.first_of (if b then Some reply.Same else None)
-        (first_cause s c (Rattle.kernel_rules.specs.TimeCalls.is_short s (named_by is.a) m
-        ∷ Rattle.kernel_rules.specs.TimeCalls.are_unlike s (named_by is.a) (named_by is.b) ∷ [])))
+        ap (λ b. unless (first_of (if b then Some reply.Same else None)
+        (first_cause s c (is_short_of_timecalls s (named_by is.a) m
+        ∷ are_unlike s (named_by is.a) (named_by is.b) ∷ [])))
         (change_by s (Transfer m) is.a.frame is.b.frame))
         (calls.not_same setup setting cores t stands c here a active mark_p stage_is has)
-        ∙ ap (λ b. unless (Rattle.kernel_rules.specs.Rules.first_of (if b then Some (reply.Short (tcap_at s is.a.frame).budget) else None)
-        (first_cause s c (Rattle.kernel_rules.specs.TimeCalls.are_unlike s (named_by is.a) (named_by is.b) ∷ [])))
+        ∙ ap (λ b. unless (first_of (if b then Some (reply.Short (tcap_at s is.a.frame).budget) else None)
+        (first_cause s c (are_unlike s (named_by is.a) (named_by is.b) ∷ [])))
         (change_by s (Transfer m) is.a.frame is.b.frame)) (ap (λ (n : ℕ). nat_lt n m) (sym budget_is) ∙ less)
         ∙ ap (λ (n : ℕ). Refused (reply.Short n)) (sym budget_is)
     short_first (Delegate m) less =
-        ap (λ b. unless (Rattle.kernel_rules.specs.Rules.first_of (if b then Some reply.Same else None)
-        (first_cause s c (Rattle.kernel_rules.specs.TimeCalls.is_short s (named_by is.a) m
-        ∷ Rattle.kernel_rules.specs.TimeCalls.are_many s (named_by is.a) (named_by is.b) ∷ [])))
+        ap (λ b. unless (first_of (if b then Some reply.Same else None)
+        (first_cause s c (is_short_of_timecalls s (named_by is.a) m
+        ∷ are_many s (named_by is.a) (named_by is.b) ∷ [])))
         (change_by s (Delegate m) is.a.frame is.b.frame))
         (calls.not_same setup setting cores t stands c here a active mark_p stage_is has)
-        ∙ ap (λ b. unless (Rattle.kernel_rules.specs.Rules.first_of (if b then Some (reply.Short (tcap_at s is.a.frame).budget) else None)
-        (first_cause s c (Rattle.kernel_rules.specs.TimeCalls.are_many s (named_by is.a) (named_by is.b) ∷ [])))
+        ∙ ap (λ b. unless (first_of (if b then Some (reply.Short (tcap_at s is.a.frame).budget) else None)
+        (first_cause s c (are_many s (named_by is.a) (named_by is.b) ∷ [])))
         (change_by s (Delegate m) is.a.frame is.b.frame)) (ap (λ (n : ℕ). nat_lt n m) (sym budget_is) ∙ less)
         ∙ ap (λ (n : ℕ). Refused (reply.Short n)) (sym budget_is)
 
@@ -264,7 +234,7 @@ module _ (setup : Setting) (setting : IsSetting setup) (cores : ℕ → Core) (t
         let e : Step = inner setup setting cores t stands c here a active compare (Some r) None in
         let unspent = not_spent setup (cores c) t c (core_is setup setting cores t stands c here a active) room in
         let opens = calls.opens setup setting cores t stands c here a active mark_p stage_is has in
-        let now : state_after setup (e ∷ t) ≡ Rattle.kernel_rules.specs.CallRelation.counted s c =
+        let now : state_after setup (e ∷ t) ≡ counted s c =
         ap (λ x. state_decided_in x r s c) (calls.is_open setup setting cores t stands c here a active mark_p stage_is has) in
         decides_marking setup setting cores t stands c here a active compare r (share_tail (record p { at = giving_back }))
         (λ b. refl) (λ h. cc) of_call lands small
@@ -280,7 +250,7 @@ module _ (setup : Setting) (setting : IsSetting setup) (cores : ℕ → Core) (t
         (ap (λ b. if b then true else (holds_counts None a.counts).marks at) (same_same at))))
         (λ b other is_marked. none_some b (sym bare ∙ is_marked))
         (settles (core_in_call (cores c) ((cores c).own.made + 1)
-        (Rattle.step_ways.proofs.Loads.next_at a a.found (Decided r None (share_tail (record p { at = giving_back })))))
+        (next_at a a.found (Decided r None (share_tail (record p { at = giving_back })))))
         (ap (λ b. if b then true else (holds_counts None a.counts).marks at) (same_same at))
         (ap (λ b. if b then old else (holds_counts None a.counts).stands at) (same_same at)))
         opens refl refl (λ x. refl) (λ x. refl) refl
@@ -290,8 +260,8 @@ module _ (setup : Setting) (setting : IsSetting setup) (cores : ℕ → Core) (t
         (record {
           budgets = is.budgets;
           core = core_is_c;
-          near = was_stays (Rattle.kernel_history.specs.Footprint.IsNearIn c a.call at) setup t e c (λ own. refl)
-              (now_was (Rattle.kernel_history.specs.Footprint.IsNearIn c a.call at) setup t c a.call
+          near = was_stays (IsNearIn c a.call at) setup t e c (λ own. refl)
+              (now_was (IsNearIn c a.call at) setup t c a.call
               (calls.is_open setup setting cores t stands c here a active mark_p stage_is has)
               (calls.near_a setup setting cores t stands c here a active mark_p stage_is has));
           tcap_a = subst (λ x. HasTcap x c p.a) (sym now) (counted_tcap s c p.a has.knows.knows.tcap_a);
@@ -308,7 +278,7 @@ module _ (setup : Setting) (setting : IsSetting setup) (cores : ℕ → Core) (t
       where
         settles : (after : Core) → (holds after).marks at ≡ true → (holds after).stands at ≡ old
             → settled_by (if (holds after).marks at then Some c else None) (held_by (put cores c after)) at (left_of compare was)
-            ≡ Rattle.core_invariant.specs.Holding.settled setup (held_by cores) t at
+            ≡ settled setup (held_by cores) t at
         settles after marks stands_for =
             ap (λ b. settled_by (if b then Some c else None) (held_by (put cores c after)) at (left_of compare was)) marks
             ∙ ap (λ k. (holds k).stands at) (put_same cores c after c refl)

@@ -1,39 +1,21 @@
 -- A decision by which two temporal capabilities have other budgets, or another list: what else of the state it leaves, and what is said of
 -- the other words then.
-use Rattle.std.proofs.Common.{◌≡◌, ◌≢◌, ◌⊎◌, inl, inr, ℕ, zero, suc, ◌+◌, ◌-◌, ◌*◌, ◌<◌, ◌≤◌, ◌==◌, Bool, true, false}
-use Rattle.std.proofs.Common.{if◌then◌else◌, List, ◌∷◌, length, slice_get, Some, None, IsTrue, arith, refl, sym, ◌∙◌, ap, subst}
-use Rattle.std.proofs.lemmas.Bool.{cases_eq}
-use Rattle.spk_nums.specs.Setting.{Setting, IsSetting}
-use Rattle.spk_nums.specs.declared.replies.Reply.TheVariants as reply
-use Rattle.spk_nums.specs.declared.replies.Value.TheVariants as value
-use Rattle.word_map.specs.Word.{Word, EntryAt, FrameAt, CountAt, CoreAt, FlushAt, LiveAt, ClockAt}
-use Rattle.word_map.specs.Moves.{Move}
-use Rattle.kernel_rules.specs.State.{Core as CoreFields, Frame, Kernel, Tcap, TcapFields, PlaceOf, FrameOf, NumberOf, State}
-use Rattle.kernel_rules.specs.State.{put, tcap_in, with_frame, thread_in, comp_in, thread_of, comp_of, first_of_stack}
-use Rattle.kernel_rules.specs.References.{sum_below, refs, frame_names, times}
-use Rattle.kernel_rules.specs.Relies.{IsGuarded}
-use Rattle.kernel_rules.specs.TimeCalls.{tcap_at, with_tcap, with_budget, with_qualities, moved}
-use Rattle.kernel_rules.specs.CallRelation.{counted}
-use Rattle.kernel_invariant.proofs.Refs.{frame_refs}
-use Rattle.kernel_invariant.proofs.Sums.{sum_one}
-use Rattle.kernel_rules.proofs.Within.{put_same, put_other}
-use Rattle.kernel_history.specs.Marks.{mark_in_frame}
-use Rattle.kernel_history.specs.ObjectWords.{frame_value}
-use Rattle.kernel_history.specs.Stamps.{stamp}
-use Rattle.kernel_history.specs.Trace.{Step, Trace, phase, state_after, last_left}
-use Rattle.kernel_history.proofs.Inside.{decided-inside}
-use Rattle.call_stages.specs.declared.stages.ActiveCall.{ActiveCall}
-use Rattle.call_stages.specs.View.{Core}
-use Rattle.core_invariant.specs.Holding.{settled}
-use Rattle.core_invariant.specs.Knows.{WorksIn}
-use Rattle.core_invariant.specs.Shares.{HasTcap}
-use Rattle.core_invariant.specs.Invariant.{held_by, times_of, counted_in, Invariant}
-use Rattle.core_invariant.specs.Words.{IsFrameWord, count_room}
-use Rattle.kept_facts.proofs.Calm.{IsUntimed, plain_stamp, plain_flush, plain_exit}
-use Rattle.kept_facts.proofs.CountSums.{counted_refs}
-use Rattle.step_ways.proofs.Loads.{inner}
-use Rattle.core_invariant.proofs.Sounds.{limits_of}
-use Rattle.kept_facts.proofs.WordFrames.{SameFor, ReadsAlike, StaysSaid, word_stays}
+use Rattle.count_invariant.proofs.Common.{◌≡◌, ◌≢◌, ◌⊎◌, inl, inr, ℕ, zero, suc, ◌+◌, ◌-◌, ◌*◌, ◌<◌, ◌≤◌, ◌==◌, Bool, true, false}
+use Rattle.count_invariant.proofs.Common.{if◌then◌else◌, List, ◌∷◌, length, slice_get, Some, None, IsTrue, arith, refl, sym, ◌∙◌, ap}
+use Rattle.count_invariant.proofs.Common.{subst, cases_eq, Setting, IsSetting, Word, EntryAt, FrameAt, CountAt, CoreAt, FlushAt, LiveAt}
+use Rattle.count_invariant.proofs.Common.{ClockAt, Move, Frame, Kernel, Tcap, TcapFields, PlaceOf, FrameOf, NumberOf, State, put, tcap_in}
+use Rattle.count_invariant.proofs.Common.{with_frame, thread_in, comp_in, thread_of, comp_of, first_of_stack, sum_below, refs}
+use Rattle.count_invariant.proofs.Common.{frame_names, times, IsGuarded, tcap_at, moved, counted, frame_refs, sum_one, put_same}
+use Rattle.count_invariant.proofs.Common.{put_other, mark_in_frame, frame_value, stamp, Step, Trace, phase, state_after, last_left}
+use Rattle.count_invariant.proofs.Common.{decided-inside, ActiveCall, Core, settled, WorksIn, HasTcap, held_by, times_of, counted_in}
+use Rattle.count_invariant.proofs.Common.{Invariant, IsFrameWord, count_room, IsUntimed, plain_stamp, plain_flush, plain_exit}
+use Rattle.count_invariant.proofs.Common.{counted_refs, limits_of, SameFor, ReadsAlike, StaysSaid, word_stays, fits}
+use Rattle.quality_lists.specs.spk_nums.specs.declared.replies.Reply.TheVariants as reply
+use Rattle.quality_lists.specs.spk_nums.specs.declared.replies.Value.TheVariants as value
+use Rattle.kernel_laws.specs.kernel_rules.specs.State.{Core as CoreFields}
+use Rattle.kernel_laws.specs.kernel_rules.specs.TimeCalls.{with_tcap, with_budget, with_qualities}
+use Rattle.count_invariant.specs.step_ways.proofs.Loads.{inner}
+use Rattle.quality_lists.specs.spk_nums.specs.declared.kinds.Kind.TheVariants.{Tcap as KindTcap}
 
 -- A frame is the first, the second, or another.
 pub record Away (a b g : ℕ) : Type 0 where
@@ -293,7 +275,7 @@ module _ (setup : Setting) (setting : IsSetting setup) (cores : ℕ → Core) (t
   -- each of the two is as guarded as it was
   pub tcap_left : (h : ℕ) (y : TcapFields) → s'.frame h ≡ Kernel (Tcap y) → HasTcap s c h → HasTcap s' c h
   tcap_left h y now_is has = record {
-    tcap = subst (λ x. IsTrue (Rattle.kernel_rules.specs.Fitting.fits Rattle.spk_nums.specs.declared.kinds.Kind.TheVariants.Tcap x))
+    tcap = subst (λ x. IsTrue (fits KindTcap x))
         (sym now_is) refl;
     guarded = by has.guarded;
   }

@@ -1,51 +1,26 @@
 -- What a call on two temporal capabilities knows of its rule: what is left of it after its names, and what refuses it.
-use Rattle.std.proofs.Common.{◌≡◌, ◌≢◌, ℕ, ◌<◌, ◌==◌, ◌&&◌, ◌||◌, true, false, List, [], ◌∷◌, Some, None, map, refl, sym, ◌∙◌, ap, subst}
-use Rattle.std.proofs.lemmas.Bool.{eq-eqb, ne_eqb}
-use Rattle.spk_nums.specs.Setting.{Setting, IsSetting}
-use Rattle.spk_nums.specs.Capability.{Capability}
-use Rattle.spk_nums.specs.declared.calls.Call.{Call}
-use Rattle.spk_nums.specs.declared.calls.Call.TheVariants as call_as
-use Rattle.spk_nums.specs.declared.kinds.Kind.{Kind}
-use Rattle.spk_nums.specs.declared.kinds.Kind.TheVariants as kind
-use Rattle.spk_nums.specs.declared.replies.Reply.{Reply}
-use Rattle.kernel_rules.specs.State.{Thing, State}
-use Rattle.kernel_rules.specs.Access.{Named, found}
-use Rattle.kernel_rules.specs.References.{named_by}
-use Rattle.kernel_rules.specs.Rules.{Change, Cause, Does, RuleMay, answers, leaves, outcome, unless, first_cause}
-use Rattle.kernel_rules.specs.TimeCalls.{tcap_at, moved, with_qualities, merged_list, are_same}
-use Rattle.kernel_rules.specs.TimeCalls.{is_short, are_unlike, are_many, preemption, preempts}
-use Rattle.kernel_rules.specs.CallRelation.{rule_of, change_of, ends_by, flushes_by}
-use Rattle.kernel_history.specs.Discipline.{changes_budgets}
-use Rattle.kernel_history.specs.Footprint.{is_one_of, frames_near}
-use Rattle.kernel_history.specs.Trace.{Trace, Open, phase, state_after}
-use Rattle.call_plans.specs.declared.plans.Nth.{Nth}
-use Rattle.call_plans.specs.declared.plans.Nth.TheVariants.{First, Second}
-use Rattle.call_plans.specs.declared.plans.Plan.{Plan}
-use Rattle.call_plans.specs.Plans.{at_place}
-use Rattle.call_plans.specs.PlanOf.{plan_for}
-use Rattle.call_plans.specs.GoesBy.{GoesBy, own_pages}
-use Rattle.call_plans.specs.After.{rule_after, Leads, LeadsIn}
-use Rattle.call_plans.proofs.AfterNames.{leads_by, outcome_left, left_may}
-use Rattle.call_plans.proofs.CallsGoBy.{calls_go}
+use Rattle.count_invariant.proofs.Common.{◌≡◌, ◌≢◌, ℕ, ◌<◌, ◌==◌, ◌&&◌, ◌||◌, true, false, List, [], ◌∷◌, Some, None, map, refl, sym, ◌∙◌}
+use Rattle.count_invariant.proofs.Common.{ap, subst, eq-eqb, ne_eqb, Setting, IsSetting, Capability, Call, Kind, Reply, Thing, State}
+use Rattle.count_invariant.proofs.Common.{Named, found, named_by, Change, Cause, Does, RuleMay, answers, leaves, outcome, unless}
+use Rattle.count_invariant.proofs.Common.{first_cause, tcap_at, moved, is_short, are_unlike, are_many, rule_of, change_of, ends_by}
+use Rattle.count_invariant.proofs.Common.{flushes_by, changes_budgets, is_one_of, frames_near, Trace, Open, phase, state_after, First}
+use Rattle.count_invariant.proofs.Common.{Second, Plan, at_place, plan_for, GoesBy, own_pages, rule_after, Leads, LeadsIn, leads_by}
+use Rattle.count_invariant.proofs.Common.{outcome_left, left_may, calls_go, Acquired, Pair, PairWork, Act, Undecided, ActiveCall}
+use Rattle.count_invariant.proofs.Common.{StageFits, HasRoom, Core, holds_counts, due_of, KnowsUndecided, phase_at, HasFound, own_in}
+use Rattle.count_invariant.proofs.Common.{SharesBy, holds_share, holds_at, holds_in, Invariant, TcapOf}
+use Rattle.quality_lists.specs.spk_nums.specs.declared.calls.Call.TheVariants as call_as
+use Rattle.quality_lists.specs.spk_nums.specs.declared.kinds.Kind.TheVariants as kind
+use Rattle.kernel_laws.specs.kernel_rules.specs.TimeCalls.{with_qualities, merged_list, are_same}
+use Rattle.kernel_laws.specs.kernel_rules.specs.TimeCalls.{preemption, preempts}
+use Rattle.count_invariant.specs.call_plans.specs.declared.plans.Nth.{Nth}
 use Rattle.count_invariant.proofs.Findings.{found_named}
-use Rattle.plan_ways.proofs.Near.{near_found}
-use Rattle.stage_pins.specs.declared.held.Acquired.{Acquired}
-use Rattle.stage_tcap.specs.Pairs.{PairFits}
-use Rattle.stage_tcap.specs.declared.pair.Pair.{Pair}
-use Rattle.stage_tcap.specs.declared.pair.PairWork.{PairWork}
-use Rattle.stage_tcap.specs.declared.pair.PairWork.TheVariants.{Transfer, Delegate, Test}
-use Rattle.act_states.specs.declared.work.Act.TheVariants.{Share as share_act}
-use Rattle.act_states.specs.declared.work.Work.TheVariants.{Act}
-use Rattle.call_stages.specs.declared.stages.Stage.TheVariants.{Undecided}
-use Rattle.call_stages.specs.declared.stages.ActiveCall.{ActiveCall}
-use Rattle.call_stages.specs.Fits.{StageFits, HasRoom}
-use Rattle.call_stages.specs.View.{Core}
-use Rattle.core_invariant.specs.Holding.{holds_counts}
-use Rattle.core_invariant.specs.Knows.{due_of, KnowsUndecided, phase_at, HasFound, own_in}
-use Rattle.core_invariant.specs.Shares.{IsShared, SharesBy}
-use Rattle.core_invariant.specs.Invariant.{holds_share, holds_at, holds_in, Invariant}
-use Rattle.step_ways.proofs.Loads.{call_is, is_active}
-use Rattle.kept_facts.proofs.Tcaps.{TcapOf, tcap_of}
+use Rattle.count_invariant.specs.plan_ways.proofs.Near.{near_found}
+use Rattle.count_invariant.specs.stage_tcap.specs.Pairs.{PairFits}
+use Rattle.count_invariant.specs.stage_tcap.specs.declared.pair.PairWork.TheVariants.{Transfer, Delegate, Test}
+use Rattle.count_invariant.specs.act_states.specs.declared.work.Act.TheVariants.{Share as share_act}
+use Rattle.count_invariant.specs.core_invariant.specs.Shares.{IsShared}
+use Rattle.count_invariant.specs.step_ways.proofs.Loads.{call_is, is_active}
+use Rattle.count_invariant.specs.kept_facts.proofs.Tcaps.{tcap_of}
 
 -- What refuses such a call after its names, in order, and what it changes.
 abbrev pub causes_of : State → PairWork → Named → Named → List Cause

@@ -1,55 +1,25 @@
 -- A call on two temporal capabilities begins where its names have led to them.
-use Rattle.std.proofs.Common.{◌≡◌, inl, ℕ, ◌<◌, ◌==◌, map, Bool, true, false, if◌then◌else◌}
-use Rattle.std.proofs.Common.{List, [], ◌∷◌, Some, None, refl, sym, ◌∙◌, ap, subst}
-use Rattle.std.proofs.lemmas.Bool.{eqb-false}
-use Rattle.spk_nums.specs.Capability.{Capability}
-use Rattle.spk_nums.specs.Setting.{Setting, IsSetting}
-use Rattle.spk_nums.specs.declared.kinds.Kind.{Kind}
-use Rattle.spk_nums.specs.declared.kinds.Kind.TheVariants as kind
-use Rattle.spk_nums.specs.declared.calls.Call.{Call}
-use Rattle.spk_nums.specs.declared.calls.Call.TheVariants.{Transfer, Delegate, Test}
-use Rattle.spk_nums.specs.declared.replies.Reply.TheVariants as reply
-use Rattle.word_map.specs.Moves.{Move, word_of}
-use Rattle.kernel_rules.specs.State.{State}
-use Rattle.kernel_rules.specs.Access.{only, found as named_by_found}
-use Rattle.kernel_rules.specs.References.{named_by}
-use Rattle.kernel_rules.specs.Rules.{Found, Refused, Does, RuleMay, named, of_kind as has_kind, outcome, unless, first_of, first_cause}
-use Rattle.kernel_rules.specs.TimeCalls.{are_same}
-use Rattle.kernel_rules.specs.CallRelation.{rule_of, change_of}
-use Rattle.kernel_invariant.proofs.Facts.{named_fit}
-use Rattle.kernel_invariant.proofs.Sound.{only_is}
-use Rattle.kernel_invariant.proofs.SoundRuns.{opened}
-use Rattle.found_stays.proofs.Stays.{name_parts}
-use Rattle.kernel_history.specs.Events.{events_of}
-use Rattle.kernel_history.specs.Legal.{IsLegal}
-use Rattle.kernel_history.specs.Trace.{Step, Trace, Open, phase, state_after, last_left}
-use Rattle.trace_laws.proofs.AloneCalls.{refused_first}
-use Rattle.trace_laws.proofs.Carries.{Carries}
-use Rattle.trace_laws.proofs.Stays.{sound_of, opened_is, guarded_usable}
-use Rattle.call_plans.specs.declared.plans.Name.{Name}
-use Rattle.call_plans.specs.declared.plans.Plan.{Plan}
-use Rattle.call_plans.specs.After.{rule_after, Leads, LeadsIn, names_after}
-use Rattle.call_plans.specs.GoesBy.{GoesBy, own_pages}
-use Rattle.call_plans.specs.PlanOf.{plan_for, of_kind}
-use Rattle.call_plans.proofs.AfterNames.{outcome_left, left_may}
-use Rattle.stage_pins.specs.declared.held.Acquired.{Acquired}
-use Rattle.stage_tcap.specs.declared.pair.Pair.{Pair}
-use Rattle.stage_tcap.specs.declared.pair.PairWork.{PairWork}
-use Rattle.stage_tcap.specs.declared.pair.PairWork.TheVariants as share
-use Rattle.act_states.specs.declared.work.Act.TheVariants.{Share as share_act}
-use Rattle.act_states.specs.declared.work.Work.TheVariants.{Act}
-use Rattle.act_states.specs.Acts.{act_begun}
-use Rattle.act_states.specs.Shares.{sharing, shares_if}
-use Rattle.call_stages.specs.declared.stages.Stage.TheVariants.{Undecided}
-use Rattle.call_stages.specs.declared.stages.ActiveCall.{ActiveCall}
-use Rattle.call_stages.specs.Steps.{landed, found_more}
-use Rattle.call_stages.specs.View.{Core}
-use Rattle.core_invariant.specs.Holding.{holds_counts}
-use Rattle.core_invariant.specs.Knows.{due_of, NamesAre, phase_at}
-use Rattle.core_invariant.specs.Shares.{HasTcap, IsShared, SharesBy}
-use Rattle.core_invariant.specs.Invariant.{holds_in, Invariant}
-use Rattle.step_ways.proofs.Loads.{OnlyLooks, step_to, call_is, core_is, is_active, loads_on, decides_on}
-use Rattle.step_ways.proofs.Refusals.{GoodTook, not_spent}
+use Rattle.count_invariant.proofs.Common.{◌≡◌, inl, ℕ, ◌<◌, ◌==◌, map, Bool, true, false, if◌then◌else◌, List, [], ◌∷◌, Some, None, refl}
+use Rattle.count_invariant.proofs.Common.{sym, ◌∙◌, ap, subst, eqb-false, Capability, Setting, IsSetting, Kind, Call, Transfer, Delegate}
+use Rattle.count_invariant.proofs.Common.{Test, Move, word_of, State, only, named_by, Found, Refused, Does, RuleMay, named, outcome}
+use Rattle.count_invariant.proofs.Common.{unless, first_of, first_cause, rule_of, change_of, named_fit, only_is, opened, name_parts}
+use Rattle.count_invariant.proofs.Common.{events_of, IsLegal, Step, Trace, Open, phase, state_after, last_left, refused_first, Carries}
+use Rattle.count_invariant.proofs.Common.{sound_of, opened_is, guarded_usable, Name, Plan, rule_after, Leads, LeadsIn, names_after}
+use Rattle.count_invariant.proofs.Common.{GoesBy, own_pages, plan_for, of_kind, outcome_left, left_may, Acquired, Pair, PairWork, Act}
+use Rattle.count_invariant.proofs.Common.{act_begun, Undecided, ActiveCall, landed, found_more, Core, holds_counts, due_of, NamesAre}
+use Rattle.count_invariant.proofs.Common.{phase_at, HasTcap, SharesBy, holds_in, Invariant, are_calls_spent, are_many, are_unlike}
+use Rattle.count_invariant.proofs.Common.{is_short}
+use Rattle.quality_lists.specs.spk_nums.specs.declared.kinds.Kind.TheVariants as kind
+use Rattle.quality_lists.specs.spk_nums.specs.declared.replies.Reply.TheVariants as reply
+use Rattle.kernel_laws.specs.kernel_rules.specs.Access.{found as named_by_found}
+use Rattle.kernel_laws.specs.kernel_rules.specs.Rules.{of_kind as has_kind}
+use Rattle.kernel_laws.specs.kernel_rules.specs.TimeCalls.{are_same}
+use Rattle.count_invariant.specs.stage_tcap.specs.declared.pair.PairWork.TheVariants as share
+use Rattle.count_invariant.specs.act_states.specs.declared.work.Act.TheVariants.{Share as share_act}
+use Rattle.count_invariant.specs.act_states.specs.Shares.{sharing, shares_if}
+use Rattle.count_invariant.specs.core_invariant.specs.Shares.{IsShared}
+use Rattle.count_invariant.specs.step_ways.proofs.Loads.{OnlyLooks, step_to, call_is, core_is, is_active, loads_on, decides_on}
+use Rattle.count_invariant.specs.step_ways.proofs.Refusals.{GoodTook, not_spent}
 use Rattle.pair_invariant.proofs.ShareCalls.{causes_of, change_by}
 
 -- What a name leads to is of a wanted kind, and is what was found.
@@ -136,12 +106,12 @@ module _ (setup : Setting) (setting : IsSetting setup) (cores : ℕ → Core) (t
         → unless (first_cause s c (causes_of s w (named_by_found j) (named_by_found k))) (change_by s w j.frame k.frame)
         ≡ Refused reply.Same
     same_first (share.Transfer m) same = ap (λ b. unless (first_of (if b then Some reply.Same else None)
-        (first_cause s c (Rattle.kernel_rules.specs.TimeCalls.is_short s (named_by_found j) m
-        ∷ Rattle.kernel_rules.specs.TimeCalls.are_unlike s (named_by_found j) (named_by_found k) ∷ [])))
+        (first_cause s c (is_short s (named_by_found j) m
+        ∷ are_unlike s (named_by_found j) (named_by_found k) ∷ [])))
         (change_by s (share.Transfer m) j.frame k.frame)) same
     same_first (share.Delegate m) same = ap (λ b. unless (first_of (if b then Some reply.Same else None)
-        (first_cause s c (Rattle.kernel_rules.specs.TimeCalls.is_short s (named_by_found j) m
-        ∷ Rattle.kernel_rules.specs.TimeCalls.are_many s (named_by_found j) (named_by_found k) ∷ [])))
+        (first_cause s c (is_short s (named_by_found j) m
+        ∷ are_many s (named_by_found j) (named_by_found k) ∷ [])))
         (change_by s (share.Delegate m) j.frame k.frame)) same
     same_first share.Test same =
         ap (λ b. unless (first_of (if b then Some reply.Same else None) None) (change_by s share.Test j.frame k.frame)) same
@@ -150,7 +120,7 @@ module _ (setup : Setting) (setting : IsSetting setup) (cores : ℕ → Core) (t
     Begins same = GoodTook setup cores t c move
         (landed (found_more a (j ∷ k ∷ [])) (shares_if same (cores c).own.core what j.frame k.frame))
 
-    unspent : Rattle.kernel_rules.specs.CallRelation.are_calls_spent s c ≡ false
+    unspent : are_calls_spent s c ≡ false
     unspent = not_spent setup (cores c) t c (core_is setup setting cores t stands c here a active) room
 
     refused : (j.frame == k.frame) ≡ true → Begins true

@@ -1,61 +1,29 @@
 -- What the words of two temporal capabilities say, and the ways in which a call on them goes on by a load, or is decided by one.
-use Rattle.std.proofs.Common.{◌≡◌, inl, inr, ℕ, suc, ◌+◌, ◌<◌, ◌≤◌, ◌^◌, Bool, true, false, if◌then◌else◌, List}
-use Rattle.std.proofs.Common.{[], ◌∷◌, Some, None, IsTrue, map, slice_get, arith, refl, sym, ◌∙◌, ap, subst}
-use Rattle.std.proofs.lemmas.Bool.{ne_eqb}
-use Rattle.spk_nums.specs.Setting.{Setting, IsSetting}
-use Rattle.spk_nums.specs.Capability.{Capability}
-use Rattle.spk_nums.specs.declared.calls.Call.{Call}
-use Rattle.spk_nums.specs.declared.calls.Call.TheVariants as call_as
-use Rattle.spk_nums.specs.declared.replies.Reply.{Reply}
-use Rattle.spk_nums.specs.declared.replies.Value.{Value}
-use Rattle.tcap_words.specs.Head.{HeadFits, word_of_head, head_of_word}
-use Rattle.tcap_words.specs.Quality.{quality_of_word}
-use Rattle.tcap_words.specs.declared.head_word.HeadWord.{HeadWord}
-use Rattle.tcap_words.proofs.HeadLemmas.{spelling}
-use Rattle.word_map.specs.Word.{Word, EntryAt}
-use Rattle.word_map.specs.Moves.{Move, LoadOf, word_of, left_of}
-use Rattle.word_map.proofs.WordLemmas.{same_same}
-use Rattle.kernel_rules.specs.State.{Kernel, Tcap, TcapFields, PlaceOf, Thing, State}
-use Rattle.kernel_rules.specs.Relies.{IsGuarded}
-use Rattle.kernel_rules.specs.CallRelation.{state_by, begins, ends, flushes, counted, MayReply}
-use Rattle.kernel_rules.specs.Laws.{calls_counted}
-use Rattle.kernel_rules.specs.Alone.{alone}
-use Rattle.kernel_history.specs.Alone.{IsAlone}
-use Rattle.kernel_history.specs.Footprint.{IsNearIn, is_one_of, frames_near}
-use Rattle.kernel_history.specs.Justified.{IsJustified}
-use Rattle.kernel_history.specs.Marks.{mark_of, mark_in_frame, head_mark}
-use Rattle.kernel_history.specs.Marking.{marked_by}
-use Rattle.kernel_history.specs.Stamps.{stamp}
-use Rattle.kernel_history.specs.Trace.{Step, Trace, Open, phase, state_after, last_left, state_decided_in, WasAt}
-use Rattle.trace_laws.proofs.Carries.{was_stays}
-use Rattle.stage_tcap.specs.Heads.{marked}
-use Rattle.stage_tcap.specs.declared.pair.Pair.{Pair}
-use Rattle.stage_tcap.specs.declared.pair.PairAt.TheVariants.{StoreA}
-use Rattle.stage_tcap.specs.declared.pair.PairWork.{PairWork}
-use Rattle.stage_tcap.specs.declared.pair.PairWork.TheVariants as share
-use Rattle.stage_pins.specs.declared.held.Acquired.{Acquired}
-use Rattle.act_states.specs.declared.work.Act.TheVariants.{Share as share_act}
-use Rattle.act_states.specs.declared.work.Work.TheVariants.{Act}
-use Rattle.act_states.specs.declared.work.Tail.TheVariants.{Share as share_tail}
-use Rattle.act_states.specs.declared.work.WorkStep.TheVariants.{Goes}
-use Rattle.call_stages.specs.declared.stages.Stage.TheVariants.{Undecided, Decided}
-use Rattle.call_stages.specs.declared.stages.ActiveCall.{ActiveCall}
-use Rattle.call_stages.specs.Steps.{landed}
-use Rattle.call_stages.specs.View.{Core}
-use Rattle.core_invariant.specs.Holding.{holds_counts, settled_by, settled}
-use Rattle.core_invariant.specs.Words.{HeadIs, IsFrameWord, count_room}
-use Rattle.core_invariant.specs.Knows.{due_of, KnowsUndecided, phase_at}
-use Rattle.core_invariant.specs.Shares.{HasTcap, HasMarkedA, IsShared, SharesBy, KnowsPairAt, StoresA, KnowsShared}
-use Rattle.core_invariant.specs.Invariant.{holds_share, holds_at, holds_in, holds, held_by, Invariant}
-use Rattle.kept_facts.proofs.Carries.{names_on}
-use Rattle.kept_facts.proofs.CountSums.{counted_refs}
-use Rattle.core_invariant.proofs.ActBares.{open_bare}
-use Rattle.kept_facts.proofs.Lent.{unlent_head_value, unlent_list_value}
-use Rattle.step_ways.proofs.Loads.{OnlyLooks, Lands, step_to, next_at, core_in_call, inner, loads_on, decides_with}
-use Rattle.kept_facts.proofs.Pairs.{marked_on}
-use Rattle.step_ways.proofs.Refusals.{GoodTook}
-use Rattle.step_ways.proofs.Writes.{room_left}
+use Rattle.count_invariant.proofs.Common.{◌≡◌, inl, inr, ℕ, suc, ◌+◌, ◌<◌, ◌≤◌, ◌^◌, Bool, true, false, if◌then◌else◌, List, [], ◌∷◌}
+use Rattle.count_invariant.proofs.Common.{Some, None, IsTrue, map, slice_get, arith, refl, sym, ◌∙◌, ap, subst, ne_eqb, Setting}
+use Rattle.count_invariant.proofs.Common.{IsSetting, Capability, Call, Reply, Value, HeadFits, word_of_head, head_of_word}
+use Rattle.count_invariant.proofs.Common.{quality_of_word, HeadWord, spelling, Word, EntryAt, Move, LoadOf, word_of, left_of, same_same}
+use Rattle.count_invariant.proofs.Common.{Kernel, Tcap, TcapFields, PlaceOf, Thing, State, IsGuarded, state_by, begins, ends, flushes}
+use Rattle.count_invariant.proofs.Common.{counted, MayReply, calls_counted, alone, IsAlone, IsNearIn, is_one_of, frames_near, IsJustified}
+use Rattle.count_invariant.proofs.Common.{mark_of, mark_in_frame, head_mark, marked_by, stamp, Step, Trace, Open, phase, state_after}
+use Rattle.count_invariant.proofs.Common.{last_left, state_decided_in, WasAt, was_stays, marked, Pair, StoreA, PairWork, Acquired, Act}
+use Rattle.count_invariant.proofs.Common.{Goes, Undecided, Decided, ActiveCall, landed, Core, holds_counts, settled_by, settled, HeadIs}
+use Rattle.count_invariant.proofs.Common.{IsFrameWord, count_room, due_of, KnowsUndecided, phase_at, HasTcap, HasMarkedA, SharesBy}
+use Rattle.count_invariant.proofs.Common.{KnowsPairAt, StoresA, KnowsShared, holds_share, holds_at, holds_in, holds, held_by, Invariant}
+use Rattle.count_invariant.proofs.Common.{names_on, counted_refs, unlent_head_value, marked_on, done_by, holds_head, holds_shared}
+use Rattle.count_invariant.proofs.Common.{KnowsStoresAt, list_changed}
+use Rattle.quality_lists.specs.spk_nums.specs.declared.calls.Call.TheVariants as call_as
+use Rattle.count_invariant.specs.stage_tcap.specs.declared.pair.PairWork.TheVariants as share
+use Rattle.count_invariant.specs.act_states.specs.declared.work.Act.TheVariants.{Share as share_act}
+use Rattle.count_invariant.specs.act_states.specs.declared.work.Tail.TheVariants.{Share as share_tail}
+use Rattle.count_invariant.specs.core_invariant.specs.Shares.{IsShared}
+use Rattle.count_invariant.specs.core_invariant.proofs.ActBares.{open_bare}
+use Rattle.count_invariant.specs.kept_facts.proofs.Lent.{unlent_list_value}
+use Rattle.count_invariant.specs.step_ways.proofs.Loads.{OnlyLooks, Lands, step_to, next_at, core_in_call, inner, loads_on, decides_with}
+use Rattle.count_invariant.specs.step_ways.proofs.Refusals.{GoodTook}
+use Rattle.count_invariant.specs.step_ways.proofs.Writes.{room_left}
 use Rattle.pair_invariant.proofs.ShareCalls as calls
+use Rattle.count_invariant.specs.step_ways.proofs.Good.{IsGood}
 
 -- Which call it is does not depend on how far it has come.
 shared_same : (a b : Capability) (what : PairWork) (p q : Pair) → q.a ≡ p.a → q.b ≡ p.b → q.what ≡ p.what → IsShared a b what p
@@ -188,7 +156,7 @@ module _ (setup : Setting) (setting : IsSetting setup) (cores : ℕ → Core) (t
 
   -- From when head A is marked.
   module _ (n : ℕ) (marked_a : HasMarkedA setup t p n)
-      (held : holds_in (Some a) ≡ Rattle.core_invariant.specs.Invariant.holds_head p false (holds_counts None a.counts)) where
+      (held : holds_in (Some a) ≡ holds_head p false (holds_counts None a.counts)) where
     abbrev at_a : Word
     at_a = EntryAt p.a 0
 
@@ -250,21 +218,21 @@ module _ (setup : Setting) (setting : IsSetting setup) (cores : ℕ → Core) (t
               (subst (λ (f : ℕ). IsTrue (is_one_of f (frames_near before c a.call))) (sym first)
               (calls.near_a setup setting cores t stands c here a active p stage_is has)));
           tcap_a = subst (HasTcap (state_after setup (e ∷ t)) c) (sym first) tcap;
-          at = subst (Rattle.core_invariant.specs.Shares.KnowsStoresAt setup (e ∷ t) c a.call q) (sym at_is) (record {
+          at = subst (KnowsStoresAt setup (e ∷ t) c a.call q) (sym at_is) (record {
             raw = ap (λ (f : ℕ). last_left setup (e ∷ t) (EntryAt f 0)) first ∙ on.raw
                 ∙ ap (λ (b : ℕ). word_of_head (marked b p.head_a)) (sym core) ∙ ap (λ h. word_of_head (marked q.core h)) (sym head);
             fits = subst HeadFits (sym head) marked_a.fits;
             bare = ap (λ h. h.mark) head ∙ marked_a.bare;
             few = subst (λ (h : HeadWord). h.version + 1 < 2 ^ 28) (sym head) few_a;
-            clean = ap (Rattle.core_invariant.specs.Shares.list_changed (e ∷ t)) first ∙ on.clean;
+            clean = ap (list_changed (e ∷ t)) first ∙ on.clean;
           });
         }
 
     -- it is decided by a load, or by a lost compare, and head A is given back
     pub load_decides : (move : Move) → OnlyLooks setup t c a.call move → (r : Reply) (q : Pair) (v : Value)
         → q.a ≡ p.a → q.core ≡ p.core → q.head_a ≡ p.head_a → q.at ≡ StoreA false v
-        → Rattle.core_invariant.specs.Invariant.holds_shared q q.at
-        (holds_counts (Rattle.core_invariant.specs.Invariant.done_by r None) a.counts)
+        → holds_shared q q.at
+        (holds_counts (done_by r None) a.counts)
         ≡ holds_in (Some a)
         → state_by before c a.call r ≡ counted before c → calls_counted r ≡ 1
         → ((x : Thing) → begins before c a.call r x ≡ false) → ((x : Thing) → ends a.call r x ≡ false) → flushes a.call r ≡ false
@@ -272,7 +240,7 @@ module _ (setup : Setting) (setting : IsSetting setup) (cores : ℕ → Core) (t
         → (IsAlone t (inner setup setting cores t stands c here a active move (Some r) None) → r ≡ alone before c a.call)
         → Lands setup (core_in_call (cores c) ((cores c).own.made + calls_counted r) (next_at a a.found (Decided r None (share_tail q))))
         (word_of move)
-        → Rattle.step_ways.proofs.Good.IsGood setup cores t (inner setup setting cores t stands c here a active move (Some r) None)
+        → IsGood setup cores t (inner setup setting cores t stands c here a active move (Some r) None)
         (core_in_call (cores c) ((cores c).own.made + calls_counted r) (next_at a a.found (Decided r None (share_tail q))))
     load_decides move looks r q v first core head at_is held_so state one none_begins none_ends no_flush permitted justified answers lands =
         let e : Step = inner setup setting cores t stands c here a active move (Some r) None in

@@ -1,59 +1,32 @@
 -- The entry of a removal is closed and given back: the compare that marks it is lost to another core or holds it for the call, and the
 -- store of a decided removal leaves the quiescing entry for which it stood.
-use Rattle.core_invariant.proofs.Bare.{as_none, counts_bare}
-use Rattle.kept_facts.proofs.Lent.{unlent_value, unlent_word, unlent_after, node_keeps_none, lent_free}
-use Rattle.step_ways.proofs.Good.{spares_node}
-use Rattle.std.proofs.Common.{◌≡◌, ◌≢◌, inl, inr, ℕ, ◌^◌, ◌<◌, ◌==◌, ◌∷◌, [], Bool, true, false, List}
-use Rattle.std.proofs.Common.{Option, Some, None, arith, refl, sym, ◌∙◌, ap, subst, IsTrue, if◌then◌else◌}
-use Rattle.std.proofs.lemmas.Bool.{eqb-true, eqb-false, eq-eqb}
-use Rattle.spk_nums.specs.Capability.{Capability}
-use Rattle.spk_nums.specs.Setting.{Setting, IsSetting}
-use Rattle.spk_nums.specs.WordSteps.{left_if}
-use Rattle.spk_nums.specs.declared.replies.Reply.{Reply}
-use Rattle.entry_words.specs.declared.entry.Entry.{Entry}
-use Rattle.entry_words.specs.declared.entry.Entry.TheVariants as entry
-use Rattle.entry_words.specs.EntryWord.{EntryFits, word_of_entry, entry_of_word}
-use Rattle.entry_words.proofs.Spelling.{spelling}
-use Rattle.word_map.specs.Word.{Word, EntryAt, ClockAt, same_word}
-use Rattle.word_map.proofs.WordLemmas.{same_same}
-use Rattle.word_map.specs.Moves.{Move, CompareOf, StoreOf, left_of}
-use Rattle.kernel_rules.specs.State.{Place, Free, Holds, Quiescing, PlaceOf, State, put}
-use Rattle.kernel_rules.specs.Access.{Slot}
-use Rattle.kernel_rules.specs.CallRelation.{rule_of}
-use Rattle.kernel_rules.specs.Relies.{is_node}
-use Rattle.kernel_rules.proofs.Within.{put_same}
-use Rattle.kernel_history.specs.Trace.{Step, Trace, Open, phase, state_after, last_left}
-use Rattle.kernel_history.specs.Ways.{wide_ways, target_of}
-use Rattle.kernel_history.specs.Justified.{is_slot_in, IsSlot}
-use Rattle.kernel_history.specs.Marks.{entry_mark}
-use Rattle.kernel_history.specs.Marking.{marked_by}
-use Rattle.kernel_history.specs.Stamps.{stamp}
-use Rattle.kernel_history.proofs.Names.{same_word-other}
-use Rattle.call_plans.specs.GoesBy.{GoesBy, own_pages}
-use Rattle.call_plans.specs.After.{Leads, LeadsIn}
-use Rattle.plan_ways.specs.Laws.{NextPlace, IsTargetOf}
-use Rattle.plan_ways.proofs.Ways.{next_on_way, target_is}
-use Rattle.stage_quiet.specs.declared.close.Close.TheVariants.{AtCompare, AtDraw, AtStore}
-use Rattle.stage_quiet.specs.Removal.{close_at, close_compared}
-use Rattle.stage_pins.specs.declared.held.Acquired.{Acquired}
-use Rattle.act_states.specs.declared.work.Act.TheVariants.{Remove as remove_act}
-use Rattle.act_states.specs.declared.work.Work.TheVariants.{Act}
-use Rattle.act_states.specs.declared.work.Tail.TheVariants.{Nothing, Quiesce}
-use Rattle.call_stages.specs.declared.stages.Stage.TheVariants.{Undecided, Decided}
-use Rattle.call_stages.specs.declared.stages.ActiveCall.{ActiveCall}
-use Rattle.act_states.specs.Acts.{took_close}
-use Rattle.call_stages.specs.Fits.{StageFits, HasRoom}
-use Rattle.call_stages.specs.Steps.{GoesOn, landed, went, went_with}
-use Rattle.call_stages.specs.View.{Core}
-use Rattle.core_invariant.specs.Holding.{Holding, holds_counts, settled_by, settled}
-use Rattle.core_invariant.specs.Words.{PlaceIs, count_room}
-use Rattle.core_invariant.specs.Knows.{IsStored, KnowsUndecided, phase_at}
-use Rattle.core_invariant.specs.Invariant.{done_by, holds_at, holds_in, holds, held_by, times_of, Invariant}
-use Rattle.kept_facts.proofs.Carries.{names_on, removal_on, slot_relies, counts_on}
-use Rattle.step_ways.proofs.Counting as counters
-use Rattle.step_ways.proofs.Loads.{IsOfCall, core_in_call, inner, call_is, is_active}
-use Rattle.step_ways.proofs.Places.{node_mark, node_says}
-use Rattle.step_ways.proofs.Refusals.{GoodTook, ticks_at, refuses_raced}
+use Rattle.count_invariant.proofs.Common.{as_none, counts_bare, unlent_value, unlent_word, node_keeps_none, lent_free, ◌≡◌, ◌≢◌, inl, inr}
+use Rattle.count_invariant.proofs.Common.{ℕ, ◌^◌, ◌<◌, ◌==◌, ◌∷◌, [], Bool, true, false, List, Option, Some, None, arith, refl, sym, ◌∙◌}
+use Rattle.count_invariant.proofs.Common.{ap, subst, IsTrue, if◌then◌else◌, eqb-true, eqb-false, eq-eqb, Capability, Setting, IsSetting}
+use Rattle.count_invariant.proofs.Common.{left_if, Reply, Entry, EntryFits, word_of_entry, entry_of_word, Word, EntryAt, ClockAt}
+use Rattle.count_invariant.proofs.Common.{same_word, same_same, Move, CompareOf, StoreOf, left_of, Place, Free, Holds, Quiescing, PlaceOf}
+use Rattle.count_invariant.proofs.Common.{State, put, Slot, rule_of, is_node, put_same, Step, Trace, Open, phase, state_after, last_left}
+use Rattle.count_invariant.proofs.Common.{wide_ways, target_of, is_slot_in, IsSlot, entry_mark, marked_by, stamp, same_word-other, GoesBy}
+use Rattle.count_invariant.proofs.Common.{own_pages, Leads, LeadsIn, AtCompare, AtDraw, AtStore, Acquired, Act, Nothing, Quiesce}
+use Rattle.count_invariant.proofs.Common.{Undecided, Decided, ActiveCall, StageFits, HasRoom, GoesOn, landed, went, went_with, Core}
+use Rattle.count_invariant.proofs.Common.{Holding, holds_counts, settled_by, settled, PlaceIs, count_room, KnowsUndecided, phase_at}
+use Rattle.count_invariant.proofs.Common.{done_by, holds_at, holds_in, holds, held_by, times_of, Invariant, names_on, slot_relies}
+use Rattle.count_invariant.proofs.Common.{counts_on, WordIs}
+use Rattle.count_invariant.specs.kept_facts.proofs.Lent.{unlent_after}
+use Rattle.count_invariant.specs.step_ways.proofs.Good.{spares_node}
+use Rattle.count_invariant.specs.entry_words.specs.declared.entry.Entry.TheVariants as entry
+use Rattle.count_invariant.specs.entry_words.proofs.Spelling.{spelling}
+use Rattle.count_invariant.specs.plan_ways.specs.Laws.{NextPlace, IsTargetOf}
+use Rattle.count_invariant.specs.plan_ways.proofs.Ways.{next_on_way, target_is}
+use Rattle.count_invariant.specs.stage_quiet.specs.Removal.{close_at, close_compared}
+use Rattle.count_invariant.specs.act_states.specs.declared.work.Act.TheVariants.{Remove as remove_act}
+use Rattle.count_invariant.specs.act_states.specs.Acts.{took_close}
+use Rattle.count_invariant.specs.core_invariant.specs.Knows.{IsStored}
+use Rattle.count_invariant.specs.kept_facts.proofs.Carries.{removal_on}
+use Rattle.count_invariant.specs.step_ways.proofs.Counting as counters
+use Rattle.count_invariant.specs.step_ways.proofs.Loads.{IsOfCall, core_in_call, inner, call_is, is_active}
+use Rattle.count_invariant.specs.step_ways.proofs.Places.{node_mark, node_says}
+use Rattle.count_invariant.specs.step_ways.proofs.Refusals.{GoodTook, ticks_at, refuses_raced}
 use Rattle.count_invariant.proofs.Acquiring.{removal_places, plan_leads, goes_by}
 use Rattle.place_invariant.proofs.Fills.{changes_node, target_way}
 use Rattle.count_invariant.proofs.Lookups.{near_way}
@@ -278,7 +251,7 @@ module _ (setup : Setting) (setting : IsSetting setup) (cores : ℕ → Core) (t
         (node_says s.limits.frames (count_room s) (s.frame node) (s.place node index)
         (stamp setup t (PlaceOf node index)) index stored has.relies.node
         entry_fits.1
-        (subst (λ (n : ℕ). Rattle.core_invariant.specs.Words.WordIs s (times_of setup t) at n) settles (stands.words at)))
+        (subst (λ (n : ℕ). WordIs s (times_of setup t) at n) settles (stands.words at)))
 
     pub store_at : GoodTook setup cores t c store (GoesOn (went_with a a.counts (Decided r drawn Nothing)))
     store_at lands =

@@ -1,26 +1,13 @@
 -- A call that makes a component: its names, and what is left of its rule after them.
-use Rattle.std.proofs.Common.{◌≡◌, ◌≢◌, ◌+◌, ℕ, Bool, true, pos, List, [], ◌∷◌, Some, None, refl, sym, ◌∙◌, ap, subst, IsTrue}
-use Rattle.std.proofs.lemmas.Bool.{false≢true}
-use Rattle.std.proofs.lemmas.List.Elements.{All-nil, All-cons}
-use Rattle.spk_nums.specs.Capability.{Capability}
-use Rattle.spk_nums.specs.declared.kinds.Kind.{Kind}
-use Rattle.spk_nums.specs.declared.kinds.Kind.TheVariants as kind
-use Rattle.spk_nums.specs.declared.calls.Call.TheVariants.{Make as make_call}
-use Rattle.spk_nums.specs.declared.calls.Make.TheVariants as make
-use Rattle.kernel_rules.specs.State.{State, Frame, Object, Kernel, Blank, Table, Pages, CompFields}
-use Rattle.kernel_rules.specs.Access.{Target, Under, found, only}
-use Rattle.kernel_rules.specs.Fitting.{fits}
-use Rattle.kernel_rules.specs.Rules.{Rule, Vacant, Does, Found, named}
-use Rattle.kernel_rules.specs.CapabilityCalls.{outside, not_blank, not_taken, makes_comp, epoch_of}
-use Rattle.kernel_rules.specs.CallRelation.{rule_of}
-use Rattle.kernel_invariant.proofs.Facts.{named_fit}
-use Rattle.kernel_invariant.proofs.Sound.{IsSound}
-use Rattle.call_plans.specs.PlanOf.{of_kind, plan_for}
-use Rattle.call_plans.specs.After.{Leads, LeadsIn, rule_after, names_after, NextFree, next_of}
-use Rattle.act_states.specs.Comps.{comp_due_list}
-use Rattle.act_states.specs.declared.comps.CompMaking.{CompMaking}
-use Rattle.act_states.specs.declared.work.Due.{Due}
-use Rattle.core_invariant.specs.Knows.{AreDuesApart}
+use Rattle.count_invariant.proofs.Common.{◌≡◌, ◌≢◌, ◌+◌, ℕ, Bool, true, pos, List, [], ◌∷◌, Some, None, refl, sym, ◌∙◌, ap, subst, IsTrue}
+use Rattle.count_invariant.proofs.Common.{false≢true, All-nil, All-cons, Capability, Kind, State, Frame, Object, Kernel, Blank, Table}
+use Rattle.count_invariant.proofs.Common.{Pages, CompFields, Target, Under, found, only, fits, Rule, Vacant, Does, Found, named, outside}
+use Rattle.count_invariant.proofs.Common.{not_blank, makes_comp, epoch_of, rule_of, named_fit, IsSound, of_kind, plan_for, Leads, LeadsIn}
+use Rattle.count_invariant.proofs.Common.{rule_after, names_after, NextFree, next_of, comp_due_list, CompMaking, Due, AreDuesApart}
+use Rattle.kernel_laws.specs.spk_nums.specs.declared.kinds.Kind.TheVariants as kind
+use Rattle.kernel_laws.specs.spk_nums.specs.declared.calls.Call.TheVariants.{Make as make_call}
+use Rattle.kernel_laws.specs.spk_nums.specs.declared.calls.Make.TheVariants as make
+use Rattle.kernel_laws.specs.kernel_rules.specs.CapabilityCalls.{not_taken}
 
 -- What the component has.
 abbrev pub new_comp : State → ℕ → ℕ → ℕ → CompFields

@@ -1,90 +1,59 @@
 -- The filling compare of a copy is good: it is lost to another core, or the place is free and takes the capability.
-use Rattle.kept_facts.proofs.Lent.{unlent_word, node_keeps_none}
-use Rattle.step_ways.proofs.Good.{spares_node}
-use Rattle.std.proofs.Common.{◌≡◌, ◌≢◌, ◌⊎◌, inl, inr, not, ℕ, pos, length, ◌≤◌, ◌+◌, ◌^◌, ◌/◌, ◌%◌, ◌<◌, ◌==◌, ◌&&◌, nat_le, if◌then◌else◌}
-use Rattle.std.proofs.Common.{◌∷◌, [], Bool, true, false, List, Option, Some, None, arith, refl, sym, ◌∙◌, ap, subst, IsTrue, ◌+ℤ◌, max}
-use Rattle.std.specs.Prelude.{option_to_list}
-use Rattle.std.proofs.lemmas.Bool.{eqb-true, eqb-false, eq-eqb, false≢true}
-use Rattle.spk_nums.specs.Capability.{Capability}
-use Rattle.spk_nums.specs.Setting.{Setting, IsSetting}
-use Rattle.spk_nums.specs.declared.kinds.Kind.TheVariants as kind
-use Rattle.spk_nums.specs.declared.calls.Call.{Call}
-use Rattle.spk_nums.specs.declared.calls.Call.TheVariants.{Look, Copy, Remove, Shrink, Unmap, Retype, Make as make_call}
-use Rattle.spk_nums.specs.declared.calls.Call.TheVariants.{Tick, Gate, Kill, Grow, Flush, Map, Touch, Call as call_gate}
-use Rattle.spk_nums.specs.declared.calls.Call.TheVariants.{Ret, Transfer, Delegate, Test, Switch}
-use Rattle.spk_nums.specs.declared.kinds.Kind.{Kind}
-use Rattle.spk_nums.specs.declared.replies.Value.TheVariants.{Nothing}
-use Rattle.spk_nums.specs.declared.replies.Reply.TheVariants as reply
-use Rattle.entry_words.specs.declared.entry.Entry.{Entry}
-use Rattle.entry_words.specs.declared.entry.Entry.TheVariants.{Free, Held, Quiescing}
-use Rattle.entry_words.specs.EntryWord.{EntryFits, word_of_entry, entry_of_word}
-use Rattle.entry_words.proofs.Spelling.{spelling}
-use Rattle.word_map.specs.Word.{Word, EntryAt, CountAt}
-use Rattle.word_map.specs.Moves.{Move, CompareOf, left_of}
-use Rattle.spk_nums.specs.WordSteps.{left_if}
-use Rattle.kernel_rules.specs.State.{Place, comp_of, comp_in, Free as Vacant, Holds, Quiescing as Removed, Frame, Kernel}
-use Rattle.kernel_rules.specs.State.{Table, Leaf, Pages, Pleaf, Thing, PlaceOf, FrameOf, State, with_place, User}
-use Rattle.kernel_rules.specs.Start.{plain_cap}
-use Rattle.kernel_rules.specs.Access.{Slot, found, Target, Under, InRoot, only, place_at}
-use Rattle.kernel_rules.specs.Access.{usable_in, linked, slot_in, root_slot, reached, own}
-use Rattle.spk_nums.specs.declared.kinds.PageFlags.{PageFlags}
-use Rattle.kernel_rules.specs.CapabilityCalls.{has_frame, outside, is_frame}
-use Rattle.kernel_rules.specs.MemoryCalls.{is_user, not_user}
-use Rattle.kernel_rules.specs.Rules.{Cause, first_cause, first_of, Found, IsFoundAnd, Vacant as to_be_free}
-use Rattle.kernel_rules.specs.Rules.{Does, and_then, or_refuse, unless, not_vacant, named, outcome, fills}
-use Rattle.kernel_rules.specs.CallRelation.{MayReply, rule_of, ends_by, flushes_by, changed, change_of, counted, begins_in}
-use Rattle.kernel_rules.specs.Laws.{calls_counted}
-use Rattle.kernel_rules.specs.Relies.{is_node}
-use Rattle.kernel_rules.proofs.Within.{put_same}
-use Rattle.found_stays.proofs.Apart.{slot_is, place_here, place_there}
-use Rattle.kernel_history.specs.Trace.{Step, Trace, Open, phase, state_after, state_decided_in, last_left}
-use Rattle.kernel_history.specs.Ways.{capability_in, led_to, root_passed, way_to, wide_way_to, ways, wide_ways, target_of}
-use Rattle.kernel_history.specs.Discipline.{changes_places, changes_in_frame}
-use Rattle.kernel_history.specs.Justified.{is_slot_in, HasReached, IsSlot}
-use Rattle.trace_laws.proofs.AloneCalls.{ok_first}
-use Rattle.kernel_history.specs.Marks.{entry_mark, mark_in_frame, mark_of}
-use Rattle.kernel_history.specs.Legal.{IsLegal}
-use Rattle.kernel_history.specs.Marking.{marked_by}
-use Rattle.kernel_history.specs.Stamps.{begins_in as begins_then, ends_in, flushes_in, stamp}
-use Rattle.stage_look.specs.Shown.{CapNames}
-use Rattle.call_plans.specs.declared.plans.Plan.{Plan}
-use Rattle.call_plans.specs.PlanOf.{any_cap, of_kind, plan_for}
-use Rattle.call_plans.specs.GoesBy.{GoesBy, own_pages}
-use Rattle.call_plans.proofs.CallsGoBy.{calls_go}
-use Rattle.call_plans.proofs.AfterNames.{leads_by, outcome_left}
-use Rattle.plan_ways.specs.Laws.{NextPlace, IsTargetOf}
-use Rattle.plan_ways.proofs.Ways.{next_on_way, target_is, all_ways}
-use Rattle.call_plans.specs.After.{rule_after, names_after, Leads, LeadsIn, NextName, NextFree, next_of}
-use Rattle.act_states.specs.declared.fills.Fill.{Fill}
-use Rattle.act_states.specs.declared.work.Act.TheVariants.{Fill as fill_act}
-use Rattle.act_states.specs.declared.work.Work.TheVariants.{Act}
-use Rattle.act_states.specs.declared.work.Tail.TheVariants.{Nothing as no_tail}
-use Rattle.call_stages.specs.declared.stages.Stage.TheVariants.{Undecided, Decided}
-use Rattle.call_stages.specs.declared.stages.ActiveCall.{ActiveCall}
-use Rattle.act_states.specs.Fills.{FillFits, filled_if, fill_move}
-use Rattle.act_states.specs.Acts.{cap_dues, gate_if, gate_to, put_by, reads_of, page_cap}
-use Rattle.act_fits.proofs.DuesFit.{cap_one}
-use Rattle.kernel_rules.specs.References.{named_by, times, refs}
-use Rattle.kept_facts.proofs.WordFrames.{reads_alike}
-use Rattle.kept_facts.proofs.Calm.{room_grows, IsCalm, calm_core, IsUntimed, plain_stamp}
-use Rattle.kept_facts.proofs.CountSums.{fill_refs}
-use Rattle.core_invariant.proofs.Sounds.{limits_of}
+use Rattle.count_invariant.proofs.Common.{unlent_word, node_keeps_none, ◌≡◌, ◌≢◌, ◌⊎◌, inl, inr, not, ℕ, pos, length, ◌≤◌, ◌+◌, ◌^◌, ◌/◌}
+use Rattle.count_invariant.proofs.Common.{◌%◌, ◌<◌, ◌==◌, ◌&&◌, nat_le, if◌then◌else◌, ◌∷◌, [], Bool, true, false, List, Option, Some}
+use Rattle.count_invariant.proofs.Common.{None, arith, refl, sym, ◌∙◌, ap, subst, IsTrue, ◌+ℤ◌, max, option_to_list, eqb-true, eqb-false}
+use Rattle.count_invariant.proofs.Common.{eq-eqb, false≢true, Capability, Setting, IsSetting, Call, Copy, Remove, Shrink, Unmap, Retype}
+use Rattle.count_invariant.proofs.Common.{Tick, Gate, Kill, Grow, Flush, Map, Touch, Ret, Transfer, Delegate, Test, Switch, Kind, Entry}
+use Rattle.count_invariant.proofs.Common.{Held, EntryFits, word_of_entry, entry_of_word, Word, EntryAt, CountAt, Move, CompareOf, left_of}
+use Rattle.count_invariant.proofs.Common.{left_if, Place, comp_of, comp_in, Holds, Frame, Kernel, Table, Leaf, Pages, Pleaf, Thing}
+use Rattle.count_invariant.proofs.Common.{PlaceOf, FrameOf, State, with_place, User, Slot, found, Target, Under, InRoot, only, place_at}
+use Rattle.count_invariant.proofs.Common.{usable_in, linked, slot_in, root_slot, reached, own, PageFlags, has_frame, outside, is_frame}
+use Rattle.count_invariant.proofs.Common.{Cause, first_cause, first_of, Found, IsFoundAnd, Does, and_then, or_refuse, unless, not_vacant}
+use Rattle.count_invariant.proofs.Common.{named, outcome, MayReply, rule_of, ends_by, flushes_by, changed, change_of, counted, begins_in}
+use Rattle.count_invariant.proofs.Common.{calls_counted, is_node, put_same, slot_is, place_here, place_there, Step, Trace, Open, phase}
+use Rattle.count_invariant.proofs.Common.{state_after, state_decided_in, last_left, capability_in, root_passed, way_to, wide_way_to, ways}
+use Rattle.count_invariant.proofs.Common.{wide_ways, target_of, changes_places, changes_in_frame, is_slot_in, HasReached, IsSlot}
+use Rattle.count_invariant.proofs.Common.{ok_first, entry_mark, mark_in_frame, mark_of, IsLegal, marked_by, ends_in, flushes_in, stamp}
+use Rattle.count_invariant.proofs.Common.{CapNames, Plan, of_kind, plan_for, GoesBy, own_pages, calls_go, leads_by, outcome_left}
+use Rattle.count_invariant.proofs.Common.{rule_after, names_after, Leads, LeadsIn, NextName, NextFree, next_of, Act, Undecided, Decided}
+use Rattle.count_invariant.proofs.Common.{ActiveCall, put_by, reads_of, page_cap, named_by, times, refs, reads_alike, room_grows, IsCalm}
+use Rattle.count_invariant.proofs.Common.{IsUntimed, plain_stamp, limits_of, holds_counts, IsWithin, landed, Core, StageFits, HasRoom}
+use Rattle.count_invariant.proofs.Common.{PlaceIs, IsFrameWord, WordIs, count_room, HasFound, ReadIs, MayFill, KnowsUndecided, own_in}
+use Rattle.count_invariant.proofs.Common.{phase_at, holds_at, holds_in, holds, times_of, Invariant, own_kept, slot_relies}
+use Rattle.count_invariant.specs.step_ways.proofs.Good.{spares_node}
+use Rattle.kernel_laws.specs.spk_nums.specs.declared.kinds.Kind.TheVariants as kind
+use Rattle.kernel_laws.specs.spk_nums.specs.declared.calls.Call.TheVariants.{Look, Make as make_call}
+use Rattle.kernel_laws.specs.spk_nums.specs.declared.calls.Call.TheVariants.{Call as call_gate}
+use Rattle.kernel_laws.specs.spk_nums.specs.declared.replies.Value.TheVariants.{Nothing}
+use Rattle.kernel_laws.specs.spk_nums.specs.declared.replies.Reply.TheVariants as reply
+use Rattle.count_invariant.specs.entry_words.specs.declared.entry.Entry.TheVariants.{Free, Quiescing}
+use Rattle.count_invariant.specs.entry_words.proofs.Spelling.{spelling}
+use Rattle.kernel_laws.specs.kernel_rules.specs.State.{Free as Vacant, Quiescing as Removed}
+use Rattle.kernel_laws.specs.kernel_rules.specs.Start.{plain_cap}
+use Rattle.kernel_laws.specs.kernel_rules.specs.MemoryCalls.{is_user, not_user}
+use Rattle.kernel_laws.specs.kernel_rules.specs.Rules.{Vacant as to_be_free}
+use Rattle.kernel_laws.specs.kernel_rules.specs.Rules.{fills}
+use Rattle.count_invariant.specs.kernel_history.specs.Ways.{led_to}
+use Rattle.count_invariant.specs.kernel_history.specs.Stamps.{begins_in as begins_then}
+use Rattle.count_invariant.specs.call_plans.specs.PlanOf.{any_cap}
+use Rattle.count_invariant.specs.plan_ways.specs.Laws.{NextPlace, IsTargetOf}
+use Rattle.count_invariant.specs.plan_ways.proofs.Ways.{next_on_way, target_is, all_ways}
+use Rattle.count_invariant.specs.act_states.specs.declared.fills.Fill.{Fill}
+use Rattle.count_invariant.specs.act_states.specs.declared.work.Act.TheVariants.{Fill as fill_act}
+use Rattle.count_invariant.specs.act_states.specs.declared.work.Tail.TheVariants.{Nothing as no_tail}
+use Rattle.count_invariant.specs.act_states.specs.Fills.{FillFits, filled_if, fill_move}
+use Rattle.count_invariant.specs.act_states.specs.Acts.{cap_dues, gate_if, gate_to}
+use Rattle.count_invariant.specs.act_fits.proofs.DuesFit.{cap_one}
+use Rattle.count_invariant.specs.kept_facts.proofs.Calm.{calm_core}
+use Rattle.count_invariant.specs.kept_facts.proofs.CountSums.{fill_refs}
 use Rattle.count_invariant.proofs.CapChanges.{counts_commit, counts_sum}
 use Rattle.count_invariant.proofs.Acquiring.{plan_leads}
 use Rattle.place_invariant.proofs.Vacancy.{IsVacant, vacant_by}
-use Rattle.core_invariant.specs.Holding.{holds_counts}
-use Rattle.core_invariant.specs.CountWords.{IsWithin}
-use Rattle.step_ways.proofs.Writes.{same_marks, writes_entry}
-use Rattle.call_stages.specs.Steps.{landed}
-use Rattle.call_stages.specs.View.{Core}
-use Rattle.call_stages.specs.Fits.{StageFits, HasRoom}
-use Rattle.core_invariant.specs.Words.{PlaceIs, IsFrameWord, WordIs, count_room}
-use Rattle.core_invariant.specs.Knows.{HasFound, IsRead, ReadIs, MayFill, KnowsUndecided, own_in, phase_at, HasUser}
-use Rattle.core_invariant.specs.Invariant.{holds_at, holds_in, holds, times_of, Invariant}
-use Rattle.kept_facts.proofs.Carries.{own_kept, slot_relies}
-use Rattle.step_ways.proofs.Loads.{IsOfCall, next_at, core_in_call, inner, call_is, is_active}
-use Rattle.step_ways.proofs.Places.{IsMarked, IsUnmarked, node_mark, place_reads}
-use Rattle.step_ways.proofs.Refusals.{GoodTook, ticks_at, not_spent, refuses_raced}
+use Rattle.count_invariant.specs.step_ways.proofs.Writes.{same_marks, writes_entry}
+use Rattle.count_invariant.specs.core_invariant.specs.Knows.{IsRead, HasUser}
+use Rattle.count_invariant.specs.step_ways.proofs.Loads.{IsOfCall, next_at, core_in_call, inner, call_is, is_active}
+use Rattle.count_invariant.specs.step_ways.proofs.Places.{IsMarked, IsUnmarked, node_mark, place_reads}
+use Rattle.count_invariant.specs.step_ways.proofs.Refusals.{GoodTook, ticks_at, not_spent, refuses_raced}
 use Rattle.count_invariant.proofs.Lookups.{slot_right, slot_one, near_way}
 use Rattle.count_invariant.proofs.Findings.{own_is, found_named, way_gone}
 use Rattle.count_invariant.proofs.Next.{Rest, ANameLeft, NoneLeft, rest_of, next_name}

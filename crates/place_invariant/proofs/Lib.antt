@@ -1,3 +1,5 @@
+-- The names that most proofs use.
+pub use Rattle.count_invariant.proofs.Common
 -- Where acts start, and refusals.
 pub mod Starts
 pub mod Outside

@@ -1,71 +1,33 @@
 -- The load of the word of a frame that is to be mapped: one that a core has marked is `busy`, one that is no user frame `frame-kind`, and a
 -- user frame is mapped next. The call has acquired the count of the frame, and while it holds that no other core makes it anything else.
-use Rattle.std.proofs.Common.{◌≡◌, ℕ, ℤ, pos, ◌<◌, ◌&&◌, map, not, Bool, true, false, IsTrue, List, []}
-use Rattle.std.proofs.Common.{◌∷◌, Option, Some, None, inl, inr, refl, sym, ◌∙◌, ap, subst, if◌then◌else◌}
-use Rattle.std.specs.Prelude.{All, ◌||◌}
-use Rattle.std.proofs.lemmas.List.Elements.{All-head}
-use Rattle.std.proofs.lemmas.Bool.{lt-ltb, eq-eqb, false≢true}
-use Rattle.spk_nums.specs.Capability.{Capability}
-use Rattle.spk_nums.specs.Setting.{Setting, IsSetting}
-use Rattle.spk_nums.specs.declared.calls.Call.{Call}
-use Rattle.spk_nums.specs.declared.calls.Call.TheVariants.{Map}
-use Rattle.spk_nums.specs.declared.kinds.PageFlags.{PageFlags}
-use Rattle.spk_nums.specs.declared.kinds.FrameKind.{FrameKind}
-use Rattle.spk_nums.specs.declared.kinds.FrameKind.TheVariants as kind
-use Rattle.spk_nums.specs.declared.replies.Reply.TheVariants as reply
-use Rattle.frame_words.specs.Count.{count_of_word}
-use Rattle.frame_words.specs.Frame.{frame_of_word}
-use Rattle.frame_words.specs.declared.frame_word.FrameWord.{FrameWord}
-use Rattle.word_map.specs.Word.{EntryAt, FrameAt, CountAt, LiveAt}
-use Rattle.word_map.specs.Places.{counter_of}
-use Rattle.word_map.specs.Moves.{Move, LoadOf, word_of}
-use Rattle.kernel_rules.specs.State.{Frame, Untyped, User, Kernel, State}
-use Rattle.kernel_rules.specs.Access.{Slot, Target, Under, found, reached}
-use Rattle.kernel_rules.specs.CapabilityCalls.{has_frame, outside, is_frame}
-use Rattle.kernel_rules.specs.MemoryCalls.{is_user, not_user}
-use Rattle.kernel_rules.specs.Rules.{Change, RuleMay, Refused, Vacant, Does, and_then, unless, first_of, first_cause, fills, outcome}
-use Rattle.kernel_rules.specs.CallRelation.{rule_of, change_of, are_calls_spent}
-use Rattle.kernel_history.specs.Alone.{IsAlone}
-use Rattle.kernel_history.specs.Discipline.{looks_at_frames}
-use Rattle.kernel_history.specs.Footprint.{is_one_of, frames_near, frame_argument}
-use Rattle.kernel_history.specs.Marking.{marked_by}
-use Rattle.kernel_history.specs.Marks.{count_mark, frame_mark}
-use Rattle.kernel_history.specs.ObjectWords.{frame_value}
-use Rattle.kernel_history.specs.Trace.{Step, Trace, Open, phase, state_after, last_left}
-use Rattle.trace_laws.proofs.AloneCalls.{refused_first}
-use Rattle.kernel_history.proofs.Steps.{own_read-there, last_left-there}
-use Rattle.call_plans.specs.declared.plans.Plan.{Plan}
-use Rattle.call_plans.specs.PlanOf.{plan_for}
-use Rattle.call_plans.specs.GoesBy.{GoesBy, own_pages}
-use Rattle.call_plans.specs.After.{Leads, LeadsIn, NextFree, rule_after, next_of}
-use Rattle.call_plans.proofs.AfterNames.{left_may, outcome_left}
-use Rattle.call_plans.specs.declared.plans.Nth.TheVariants.{Second}
-use Rattle.call_plans.specs.Plans.{at_place}
-use Rattle.act_states.specs.declared.fills.Fill.{Fill}
-use Rattle.act_states.specs.declared.refusals.Refusal.TheVariants as refusal
-use Rattle.act_states.specs.declared.work.Act.TheVariants.{Fill as fill_act, Map as map_act}
-use Rattle.act_states.specs.declared.work.Due.{Due}
-use Rattle.act_states.specs.declared.work.Work.TheVariants.{Act}
-use Rattle.act_states.specs.declared.work.WorkStep.TheVariants.{Goes}
-use Rattle.act_states.specs.WorkSteps.{refuse}
-use Rattle.stage_pins.specs.declared.held.Acquired.{Acquired}
-use Rattle.kernel_rules.specs.References.{named_by}
-use Rattle.kernel_rules.specs.Relies.{is_node}
-use Rattle.act_states.specs.Acts.{reads_of, put_by, page_of, maps_kind, maps_frame, maps_word, page_cap}
-use Rattle.call_stages.specs.declared.stages.Stage.TheVariants.{Undecided}
-use Rattle.call_stages.specs.declared.stages.ActiveCall.{ActiveCall}
-use Rattle.call_stages.specs.Fits.{StageFits, HasRoom}
-use Rattle.call_stages.specs.Steps.{landed}
-use Rattle.call_stages.specs.View.{Core}
-use Rattle.core_invariant.specs.Holding.{holds_counts, settled_by}
-use Rattle.core_invariant.specs.Knows.{ReadIs, HasUser, IsUser, IsCount, due_of, IsMapping}
-use Rattle.core_invariant.specs.Knows.{mapped_frame, is_mapping, KnowsUndecided, phase_at}
-use Rattle.core_invariant.specs.Invariant.{holds_at, holds_in, held_by, Invariant}
-use Rattle.step_ways.proofs.Counting.{first_marked}
-use Rattle.kept_facts.proofs.Carries.{names_on, spot_on, slot_relies}
-use Rattle.step_ways.proofs.Loads.{OnlyLooks, step_to, inner, core_is, call_is, is_active, loads_on, decides_on}
-use Rattle.step_ways.proofs.Refusals.{GoodTook, ticks_at, not_spent, refuses_busy}
-use Rattle.core_invariant.proofs.Sounds.{limits_of}
+use Rattle.count_invariant.proofs.Common.{◌≡◌, ℕ, ℤ, pos, ◌<◌, ◌&&◌, map, not, Bool, true, false, IsTrue, List, [], ◌∷◌, Option, Some}
+use Rattle.count_invariant.proofs.Common.{None, inl, inr, refl, sym, ◌∙◌, ap, subst, if◌then◌else◌, All, All-head, lt-ltb, eq-eqb}
+use Rattle.count_invariant.proofs.Common.{false≢true, Capability, Setting, IsSetting, Call, Map, PageFlags, FrameKind, count_of_word}
+use Rattle.count_invariant.proofs.Common.{frame_of_word, FrameWord, EntryAt, FrameAt, CountAt, LiveAt, counter_of, Move, LoadOf, word_of}
+use Rattle.count_invariant.proofs.Common.{Frame, Untyped, User, Kernel, State, Slot, Target, Under, found, reached, has_frame, outside}
+use Rattle.count_invariant.proofs.Common.{is_frame, Change, RuleMay, Refused, Vacant, Does, and_then, unless, first_of, first_cause}
+use Rattle.count_invariant.proofs.Common.{outcome, rule_of, change_of, are_calls_spent, IsAlone, looks_at_frames, is_one_of, frames_near}
+use Rattle.count_invariant.proofs.Common.{frame_argument, marked_by, count_mark, frame_mark, frame_value, Step, Trace, Open, phase}
+use Rattle.count_invariant.proofs.Common.{state_after, last_left, refused_first, own_read-there, last_left-there, Plan, plan_for, GoesBy}
+use Rattle.count_invariant.proofs.Common.{own_pages, Leads, LeadsIn, NextFree, rule_after, next_of, left_may, outcome_left, Second}
+use Rattle.count_invariant.proofs.Common.{at_place, Due, Act, Goes, refuse, Acquired, named_by, is_node, reads_of, put_by, page_cap}
+use Rattle.count_invariant.proofs.Common.{Undecided, ActiveCall, StageFits, HasRoom, landed, Core, holds_counts, settled_by, ReadIs}
+use Rattle.count_invariant.proofs.Common.{IsCount, due_of, KnowsUndecided, phase_at, holds_at, holds_in, held_by, Invariant, names_on}
+use Rattle.count_invariant.proofs.Common.{spot_on, slot_relies, limits_of}
+use Rattle.std.specs.Prelude.{◌||◌}
+use Rattle.kernel_laws.specs.spk_nums.specs.declared.kinds.FrameKind.TheVariants as kind
+use Rattle.kernel_laws.specs.spk_nums.specs.declared.replies.Reply.TheVariants as reply
+use Rattle.kernel_laws.specs.kernel_rules.specs.MemoryCalls.{is_user, not_user}
+use Rattle.kernel_laws.specs.kernel_rules.specs.Rules.{fills}
+use Rattle.count_invariant.specs.act_states.specs.declared.fills.Fill.{Fill}
+use Rattle.count_invariant.specs.act_states.specs.declared.refusals.Refusal.TheVariants as refusal
+use Rattle.count_invariant.specs.act_states.specs.declared.work.Act.TheVariants.{Fill as fill_act, Map as map_act}
+use Rattle.count_invariant.specs.act_states.specs.Acts.{page_of, maps_kind, maps_frame, maps_word}
+use Rattle.count_invariant.specs.core_invariant.specs.Knows.{HasUser, IsUser, IsMapping}
+use Rattle.count_invariant.specs.core_invariant.specs.Knows.{mapped_frame, is_mapping}
+use Rattle.count_invariant.specs.step_ways.proofs.Counting.{first_marked}
+use Rattle.count_invariant.specs.step_ways.proofs.Loads.{OnlyLooks, step_to, inner, core_is, call_is, is_active, loads_on, decides_on}
+use Rattle.count_invariant.specs.step_ways.proofs.Refusals.{GoodTook, ticks_at, not_spent, refuses_busy}
 use Rattle.count_invariant.proofs.Acquiring.{plan_leads, goes_by}
 use Rattle.count_invariant.proofs.MakingCounts.{argument_near}
 use Rattle.place_invariant.proofs.Outside.{vacant_slot, vacant_node, stands_alone}

@@ -1,28 +1,17 @@
 -- A call that makes an object: its names, and what is left of its rule after them.
-use Rattle.std.proofs.Common.{◌≡◌, ◌≢◌, ℕ, Bool, true, List, [], ◌∷◌, Some, None, refl, sym, ◌∙◌, ap, subst, IsTrue, if◌then◌else◌}
-use Rattle.std.proofs.lemmas.Bool.{false≢true}
-use Rattle.std.proofs.lemmas.List.Elements.{All-nil, All-cons}
-use Rattle.spk_nums.specs.Capability.{Capability}
-use Rattle.spk_nums.specs.declared.kinds.Kind.TheVariants as kind
-use Rattle.spk_nums.specs.declared.calls.Call.TheVariants.{Make as make_call}
-use Rattle.spk_nums.specs.declared.calls.Make.{Make}
-use Rattle.spk_nums.specs.declared.calls.Make.TheVariants as make
-use Rattle.kernel_rules.specs.State.{Place, Free, Grace, Object, Blank, Table, Leaf, Pages, Pleaf, Thread, Tcap, Kernel, Thing, State, put}
-use Rattle.kernel_rules.specs.Start.{no_grace}
-use Rattle.kernel_rules.specs.Access.{Target, Under, found, only}
-use Rattle.kernel_rules.specs.Fitting.{fits}
-use Rattle.kernel_rules.specs.Rules.{Rule, Vacant, Does, Found, named}
-use Rattle.kernel_rules.specs.CapabilityCalls.{outside, not_blank, makes, is_place_of}
-use Rattle.kernel_rules.specs.CallRelation.{rule_of}
-use Rattle.kernel_invariant.proofs.Facts.{named_fit}
-use Rattle.kernel_invariant.proofs.Sound.{IsSound}
-use Rattle.call_plans.specs.PlanOf.{of_kind, plan_for}
-use Rattle.call_plans.specs.After.{Leads, LeadsIn, rule_after, names_after, NextFree, next_of}
-use Rattle.act_states.specs.declared.objects.NewObject.{NewObject}
-use Rattle.act_states.specs.declared.objects.NewObject.TheVariants as objects
-use Rattle.act_states.specs.Objects.{object_kind, object_made, object_dues, one_more}
-use Rattle.act_states.specs.declared.work.Due.{Due}
-use Rattle.core_invariant.specs.Knows.{AreDuesApart}
+use Rattle.count_invariant.proofs.Common.{◌≡◌, ◌≢◌, ℕ, Bool, true, List, [], ◌∷◌, Some, None, refl, sym, ◌∙◌, ap, subst, IsTrue}
+use Rattle.count_invariant.proofs.Common.{if◌then◌else◌, false≢true, All-nil, All-cons, Capability, Make, Place, Free, Grace, Object}
+use Rattle.count_invariant.proofs.Common.{Blank, Table, Leaf, Pages, Pleaf, Thread, Tcap, Kernel, Thing, State, put, Target, Under, found}
+use Rattle.count_invariant.proofs.Common.{only, fits, Rule, Vacant, Does, Found, named, outside, not_blank, makes, rule_of, named_fit}
+use Rattle.count_invariant.proofs.Common.{IsSound, of_kind, plan_for, Leads, LeadsIn, rule_after, names_after, NextFree, next_of}
+use Rattle.count_invariant.proofs.Common.{NewObject, object_kind, object_made, object_dues, Due, AreDuesApart}
+use Rattle.kernel_laws.specs.spk_nums.specs.declared.kinds.Kind.TheVariants as kind
+use Rattle.kernel_laws.specs.spk_nums.specs.declared.calls.Call.TheVariants.{Make as make_call}
+use Rattle.kernel_laws.specs.spk_nums.specs.declared.calls.Make.TheVariants as make
+use Rattle.kernel_laws.specs.kernel_rules.specs.Start.{no_grace}
+use Rattle.kernel_laws.specs.kernel_rules.specs.CapabilityCalls.{is_place_of}
+use Rattle.count_invariant.specs.act_states.specs.declared.objects.NewObject.TheVariants as objects
+use Rattle.count_invariant.specs.act_states.specs.Objects.{one_more}
 
 -- The object that is made.
 abbrev pub new_object : NewObject → Object

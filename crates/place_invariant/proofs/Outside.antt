@@ -1,47 +1,24 @@
 -- The refusal of a call whose frame is outside its range.
-use Rattle.std.proofs.Common.{◌≡◌, ◌⊎◌, inl, inr, ℕ, ◌<◌, not, Bool, false, IsTrue, List, []}
-use Rattle.std.proofs.Common.{◌∷◌, Option, Some, None, refl, sym, ◌∙◌, ap, subst, if◌then◌else◌}
-use Rattle.std.specs.Prelude.{IsSome}
-use Rattle.std.proofs.lemmas.Bool.{cases_eq, false≢true}
-use Rattle.spk_nums.specs.Capability.{Capability}
-use Rattle.spk_nums.specs.Setting.{Setting, IsSetting}
-use Rattle.spk_nums.specs.declared.calls.Call.{Call}
-use Rattle.spk_nums.specs.declared.calls.Call.TheVariants.{Make as make_call, Map}
-use Rattle.spk_nums.specs.declared.calls.Make.{Make}
-use Rattle.spk_nums.specs.declared.calls.Make.TheVariants as make_of
+use Rattle.count_invariant.proofs.Common.{◌≡◌, ◌⊎◌, inl, inr, ℕ, ◌<◌, not, Bool, false, IsTrue, List, [], ◌∷◌, Option, Some, None, refl}
+use Rattle.count_invariant.proofs.Common.{sym, ◌∙◌, ap, subst, if◌then◌else◌, IsSome, cases_eq, false≢true, Capability, Setting}
+use Rattle.count_invariant.proofs.Common.{IsSetting, Call, Map, Make, Reply, entry_of_word, EntryAt, Move, LoadOf, word_of, State}
+use Rattle.count_invariant.proofs.Common.{PlaceOf, Kernel, Leaf, Slot, Target, Under, found, place_at, reached, page_cap, slot_relies}
+use Rattle.count_invariant.proofs.Common.{Rule, Cause, Change, Vacant, Does, RuleMay, Refused, Found, and_then, or_refuse, unless}
+use Rattle.count_invariant.proofs.Common.{first_of, first_cause, vacant, not_vacant, outcome, is_node, has_frame, outside, not_blank}
+use Rattle.count_invariant.proofs.Common.{makes, makes_comp, rule_of, change_of, IsAlone, Trace, Open, phase, state_after, last_left}
+use Rattle.count_invariant.proofs.Common.{own_read, not_changed, Plan, plan_for, GoesBy, own_pages, Leads, LeadsIn, rule_after}
+use Rattle.count_invariant.proofs.Common.{names_after, NextName, NextFree, next_of, left_may, outcome_left, NewObject, object_kind}
+use Rattle.count_invariant.proofs.Common.{object_made, ActiveCall, Core, IsSpot, MayFill, NamesAre, phase_at, Invariant, limits_of, Kind}
+use Rattle.kernel_laws.specs.spk_nums.specs.declared.calls.Call.TheVariants.{Make as make_call}
+use Rattle.kernel_laws.specs.spk_nums.specs.declared.calls.Make.TheVariants as make_of
 use Rattle.place_invariant.proofs.CompMakes.{IsCompMake, comp_make, comp_rest, new_comp}
-use Rattle.spk_nums.specs.declared.replies.Reply.{Reply}
-use Rattle.spk_nums.specs.declared.replies.Reply.TheVariants as reply
-use Rattle.entry_words.specs.EntryWord.{entry_of_word}
-use Rattle.word_map.specs.Word.{EntryAt}
-use Rattle.word_map.specs.Moves.{Move, LoadOf, word_of}
-use Rattle.kernel_rules.specs.State.{State, PlaceOf, Kernel, Leaf}
-use Rattle.kernel_rules.specs.Access.{Slot, Target, Under, found, place_at, reached}
-use Rattle.act_states.specs.Acts.{page_cap}
-use Rattle.kernel_rules.specs.MemoryCalls.{not_user}
-use Rattle.kept_facts.proofs.Carries.{slot_relies}
-use Rattle.kernel_rules.specs.Rules.{Rule, Cause, Change, Vacant, Does, fills, RuleMay, Refused, Found, and_then}
-use Rattle.kernel_rules.specs.Rules.{or_refuse, unless, first_of, first_cause, vacant, not_vacant, outcome}
-use Rattle.kernel_rules.specs.Relies.{is_node}
-use Rattle.kernel_rules.specs.CapabilityCalls.{has_frame, outside, not_blank, not_taken, makes, makes_comp}
-use Rattle.kernel_rules.specs.CallRelation.{rule_of, change_of}
-use Rattle.kernel_history.specs.Alone.{IsAlone}
-use Rattle.kernel_history.specs.Trace.{Trace, Open, phase, state_after, last_left, own_read}
-use Rattle.kernel_history.proofs.Laws.{not_changed}
-use Rattle.call_plans.specs.declared.plans.Plan.{Plan}
-use Rattle.call_plans.specs.PlanOf.{plan_for}
-use Rattle.call_plans.specs.GoesBy.{GoesBy, own_pages}
-use Rattle.call_plans.specs.After.{Leads, LeadsIn, rule_after, names_after, NextName, NextFree, next_of}
-use Rattle.call_plans.proofs.AfterNames.{left_may, outcome_left}
-use Rattle.act_states.specs.declared.objects.NewObject.{NewObject}
-use Rattle.act_states.specs.Objects.{object_kind, object_made}
-use Rattle.call_stages.specs.declared.stages.ActiveCall.{ActiveCall}
-use Rattle.call_stages.specs.View.{Core}
-use Rattle.core_invariant.specs.Knows.{IsSpot, MayFill, OutsideBy, OutsideObject, OutsideComp, NamesAre, phase_at}
-use Rattle.core_invariant.specs.Invariant.{Invariant}
-use Rattle.step_ways.proofs.Loads.{step_to, call_is, is_active}
-use Rattle.step_ways.proofs.Places.{IsMarked, IsUnmarked, place_reads}
-use Rattle.core_invariant.proofs.Sounds.{limits_of}
+use Rattle.kernel_laws.specs.spk_nums.specs.declared.replies.Reply.TheVariants as reply
+use Rattle.kernel_laws.specs.kernel_rules.specs.MemoryCalls.{not_user}
+use Rattle.kernel_laws.specs.kernel_rules.specs.Rules.{fills}
+use Rattle.kernel_laws.specs.kernel_rules.specs.CapabilityCalls.{not_taken}
+use Rattle.count_invariant.specs.core_invariant.specs.Knows.{OutsideBy, OutsideObject, OutsideComp}
+use Rattle.count_invariant.specs.step_ways.proofs.Loads.{step_to, call_is, is_active}
+use Rattle.count_invariant.specs.step_ways.proofs.Places.{IsMarked, IsUnmarked, place_reads}
 use Rattle.count_invariant.proofs.Acquiring.{plan_leads, goes_by}
 use Rattle.count_invariant.proofs.Next.{Rest, ANameLeft, NoneLeft, rest_of, next_name}
 use Rattle.place_invariant.proofs.ObjectMakes.{new_object, readied, make_rest, IsObjectMake, object_make}
@@ -99,7 +76,7 @@ pub none_left_of : (plan : Plan) (ks : List Capability) (target : Target) → ne
     → names_after plan.names ks ≡ []
 none_left_of plan ks target next = by (rest_of plan ks)
   where
-    not_free : (n : ℕ) (wanted : Rattle.spk_nums.specs.declared.kinds.Kind.Kind → Bool) → NextName n wanted ≡ NextFree target → ⊥
+    not_free : (n : ℕ) (wanted : Kind → Bool) → NextName n wanted ≡ NextFree target → ⊥
     not_free n wanted h = cc
 
     by : Rest plan ks → names_after plan.names ks ≡ []

@@ -1,36 +1,23 @@
 -- Which places that a call fills are those of page tables.
-use Rattle.spk_nums.specs.declared.calls.Make.TheVariants as make
+use Rattle.kernel_laws.specs.spk_nums.specs.declared.calls.Make.TheVariants as make
+use Rattle.count_invariant.proofs.Common.{◌≡◌, ℕ, ◌&&◌, nat_le, if◌then◌else◌, Bool, true, false, List, [], ◌∷◌, Option, Some, None, refl}
+use Rattle.count_invariant.proofs.Common.{sym, ◌∙◌, ap, subst, IsTrue, false≢true, Capability, Setting, IsSetting, Kind, Call, Copy}
+use Rattle.count_invariant.proofs.Common.{Remove, Grow, Shrink, Map, Unmap, Retype, Tick, Kill, Gate, Touch, Flush, Ret, Transfer}
+use Rattle.count_invariant.proofs.Common.{Delegate, Test, Switch, Table, Pages, Frame, Kernel, State, Slot, Named, found, only, Target}
+use Rattle.count_invariant.proofs.Common.{Under, InRoot, reached, fits, is_paging, some_inj, none_some, opened, events_of, IsLegal, Trace}
+use Rattle.count_invariant.proofs.Common.{Open, phase, state_after, sound_of, opened_is, Spot, Nowhere, Plan, plan_for, Next, Leads}
+use Rattle.count_invariant.proofs.Common.{LeadsIn, NextNothing, NextHeld, NextOwn, NextFree, next_of, NewObject, fills_page}
 use Rattle.place_invariant.proofs.CompMakes.{IsCompMake, comp_make}
-use Rattle.std.proofs.Common.{◌≡◌, ℕ, ◌&&◌, nat_le, if◌then◌else◌, Bool, true, false, List}
-use Rattle.std.proofs.Common.{[], ◌∷◌, Option, Some, None, refl, sym, ◌∙◌, ap, subst, IsTrue}
-use Rattle.std.proofs.lemmas.Bool.{false≢true}
-use Rattle.spk_nums.specs.Capability.{Capability}
-use Rattle.spk_nums.specs.Setting.{Setting, IsSetting}
-use Rattle.spk_nums.specs.declared.kinds.FrameKind.TheVariants as frame_kind
-use Rattle.spk_nums.specs.declared.kinds.Kind.{Kind}
-use Rattle.spk_nums.specs.declared.kinds.Kind.TheVariants as kind
-use Rattle.spk_nums.specs.declared.calls.Call.{Call}
-use Rattle.spk_nums.specs.declared.calls.Call.TheVariants.{Look, Copy, Remove, Grow, Shrink, Map, Unmap, Retype}
-use Rattle.spk_nums.specs.declared.calls.Call.TheVariants.{Make as make_call, Tick, Kill, Gate, Touch, Flush}
-use Rattle.spk_nums.specs.declared.calls.Call.TheVariants.{Call as call_gate, Ret, Transfer, Delegate, Test, Switch}
-use Rattle.kernel_rules.specs.State.{Table, Pages, Frame, Kernel, State}
-use Rattle.kernel_rules.specs.Access.{Slot, Named, found, root, only, Target, Under, InRoot, reached}
-use Rattle.kernel_rules.specs.Fitting.{fits, IsGood}
-use Rattle.kernel_rules.specs.GracePeriods.{is_paging}
-use Rattle.kernel_invariant.proofs.Facts.{some_inj, none_some, named_good}
-use Rattle.kernel_invariant.proofs.SoundRuns.{opened}
-use Rattle.kernel_history.specs.Events.{events_of}
-use Rattle.kernel_history.specs.Legal.{IsLegal}
-use Rattle.kernel_history.specs.Trace.{Trace, Open, phase, state_after}
-use Rattle.trace_laws.proofs.Stays.{sound_of, opened_is}
-use Rattle.call_plans.specs.declared.plans.Spot.{Spot}
-use Rattle.call_plans.specs.declared.plans.Target.{Target as TargetOf}
-use Rattle.call_plans.specs.declared.plans.Target.TheVariants.{Nowhere, Free, Held, Own}
-use Rattle.call_plans.specs.declared.plans.Plan.{Plan}
-use Rattle.call_plans.specs.PlanOf.{plan_for}
-use Rattle.call_plans.specs.After.{Next, Leads, LeadsIn, NextNothing, NextHeld, NextOwn, NextFree, next_of}
-use Rattle.act_states.specs.declared.objects.NewObject.{NewObject}
-use Rattle.act_states.specs.Acts.{fills_page}
+use Rattle.kernel_laws.specs.spk_nums.specs.declared.kinds.FrameKind.TheVariants as frame_kind
+use Rattle.kernel_laws.specs.spk_nums.specs.declared.kinds.Kind.TheVariants as kind
+use Rattle.kernel_laws.specs.spk_nums.specs.declared.calls.Call.TheVariants.{Look}
+use Rattle.kernel_laws.specs.spk_nums.specs.declared.calls.Call.TheVariants.{Make as make_call}
+use Rattle.kernel_laws.specs.spk_nums.specs.declared.calls.Call.TheVariants.{Call as call_gate}
+use Rattle.kernel_laws.specs.kernel_rules.specs.Access.{root}
+use Rattle.kernel_laws.specs.kernel_rules.specs.Fitting.{IsGood}
+use Rattle.kernel_laws.specs.kernel_invariant.proofs.Facts.{named_good}
+use Rattle.count_invariant.specs.call_plans.specs.declared.plans.Target.{Target as TargetOf}
+use Rattle.count_invariant.specs.call_plans.specs.declared.plans.Target.TheVariants.{Free, Held, Own}
 use Rattle.count_invariant.proofs.Next.{next_end}
 use Rattle.place_invariant.proofs.ObjectMakes.{made_of, IsObjectMake, object_make}
 use Rattle.place_invariant.proofs.Outside.{none_left_of}

@@ -1,90 +1,54 @@
 -- A removal draws its stamp and is decided: what its target held is removed, the reference is released, and the grace periods of both
 -- begin at the stamp.
-use Rattle.core_invariant.proofs.Bare.{counts_bare}
-use Rattle.std.proofs.Common.{◌≡◌, ◌≢◌, ◌⊎◌, inl, inr, ℕ, pos, negsuc, ◌+ℤ◌, max, length, ◌≤◌, ◌+◌, ◌^◌, ◌<◌, ◌==◌, ◌&&◌, ◌||◌, ◌∷◌}
-use Rattle.std.proofs.Common.{[], Bool, true, false, List, Option, Some, None, arith, refl, sym, ◌∙◌, ap, subst, IsTrue, if◌then◌else◌}
-use Rattle.std.specs.List.{list_any}
+use Rattle.count_invariant.proofs.Common.{counts_bare, ◌≡◌, ◌≢◌, ◌⊎◌, inl, inr, ℕ, pos, negsuc, ◌+ℤ◌, max, length, ◌≤◌, ◌+◌, ◌^◌, ◌<◌}
+use Rattle.count_invariant.proofs.Common.{◌==◌, ◌&&◌, ◌||◌, ◌∷◌, [], Bool, true, false, List, Option, Some, None, arith, refl, sym, ◌∙◌}
+use Rattle.count_invariant.proofs.Common.{ap, subst, IsTrue, if◌then◌else◌, list_any, cases_eq, eq-eqb, ne_eqb, false≢true, Capability}
+use Rattle.count_invariant.proofs.Common.{Setting, IsSetting, Call, Remove, Shrink, Unmap, Kind, Reply, Entry, EntryFits, word_of_entry}
+use Rattle.count_invariant.proofs.Common.{entry_of_word, Word, EntryAt, FrameAt, CountAt, CoreAt, FlushAt, LiveAt, ClockAt, same_word}
+use Rattle.count_invariant.proofs.Common.{AddOf, word_of, told_of, same_same, Place, Free, Holds, Quiescing, Thing, PlaceOf, FrameOf}
+use Rattle.count_invariant.proofs.Common.{NumberOf, Grace, State, comp_of, with_place, with_grace, Slot, Target, Under, InRoot, found}
+use Rattle.count_invariant.proofs.Common.{own, place_at, held_in, reached, Found, IsFoundAnd, Does, and_then, or_refuse, outcome}
+use Rattle.count_invariant.proofs.Common.{frames_of, named_by, times, refs, MayReply, rule_of, ends_by, flushes_by, changed, change_of}
+use Rattle.count_invariant.proofs.Common.{counted, begins_in, same_thing, new_grace, calls_counted, is_node, IsGuarded, Relies, put_same}
+use Rattle.count_invariant.proofs.Common.{slot_is, place_here, place_there, Step, Trace, Out, Open, WasAt, phase, state_after}
+use Rattle.count_invariant.proofs.Common.{state_decided_in, last_left, way_to, ways, wide_ways, IsNearIn, is_slot_in, HasReached}
+use Rattle.count_invariant.proofs.Common.{marked_by, ends_in, flushes_in, begins_at, ends_at, flushes_at, stamp, clock, flush_stored}
+use Rattle.count_invariant.proofs.Common.{is_in, ok_first, was_now, was_stays, decided-inside, cases_word, same_word-other, stamp-begins}
+use Rattle.count_invariant.proofs.Common.{stamp-kept, flush_stored-own, flush_stored-other, Close, AtCompare, AtDraw, AtStore}
+use Rattle.count_invariant.proofs.Common.{drawn_stamp, Plan, of_kind, plan_for, GoesBy, own_pages, rule_after, names_after, Leads}
+use Rattle.count_invariant.proofs.Common.{LeadsIn, NextName, NextHeld, next_of, leads_by, outcome_left, later, Act, Nothing, Quiesce}
+use Rattle.count_invariant.proofs.Common.{Undecided, Decided, ActiveCall, removes_by, StageFits, HasRoom, GoesOn, landed, went_with, Core}
+use Rattle.count_invariant.proofs.Common.{IsWithin, Holding, holds_counts, settled_by, settled, PlaceIs, WordIs, count_room, HasFound}
+use Rattle.count_invariant.proofs.Common.{KnowsUndecided, own_in, phase_at, holds_at, holds_in, holds, held_by, times_of, Invariant}
+use Rattle.count_invariant.proofs.Common.{IsCalm, plain_exit, room_grows, own_kept, slot_relies, limits_of, SameFor, ReadsAlike}
+use Rattle.count_invariant.proofs.Common.{reads_alike, StaysSaid, word_stays, Stage}
 use Rattle.std.proofs.Math.IntN.{pos-+ℤ-pos, +ℤ_assoc, +ℤ_invr, +ℤ_idr}
-use Rattle.std.proofs.lemmas.Bool.{cases_eq, eq-eqb, ne_eqb, false≢true}
-use Rattle.spk_nums.specs.Capability.{Capability}
-use Rattle.spk_nums.specs.Setting.{Setting, IsSetting}
-use Rattle.spk_nums.specs.declared.calls.Call.{Call}
-use Rattle.spk_nums.specs.declared.calls.Call.TheVariants.{Remove, Shrink, Unmap}
-use Rattle.spk_nums.specs.declared.kinds.Kind.{Kind}
-use Rattle.spk_nums.specs.declared.kinds.Kind.TheVariants as kind
-use Rattle.spk_nums.specs.declared.replies.Reply.{Reply}
-use Rattle.spk_nums.specs.declared.replies.Reply.TheVariants as reply
-use Rattle.spk_nums.specs.declared.replies.Value.TheVariants as value
-use Rattle.entry_words.specs.declared.entry.Entry.{Entry}
-use Rattle.entry_words.specs.declared.entry.Entry.TheVariants as entry
-use Rattle.entry_words.specs.EntryWord.{EntryFits, word_of_entry, entry_of_word}
-use Rattle.entry_words.proofs.Spelling.{spelling}
-use Rattle.word_map.specs.Word.{Word, EntryAt, FrameAt, CountAt, CoreAt, FlushAt, LiveAt, ClockAt, same_word}
-use Rattle.word_map.specs.Moves.{AddOf, word_of, told_of}
-use Rattle.word_map.proofs.WordLemmas.{same_same}
-use Rattle.kernel_rules.specs.State.{Place, Free, Holds, Quiescing, Thing, PlaceOf, FrameOf}
-use Rattle.kernel_rules.specs.State.{NumberOf, Grace, State, comp_of, with_place, with_grace}
-use Rattle.kernel_rules.specs.Access.{Slot, Target, Under, InRoot, found, own, place_at, held_in, reached}
-use Rattle.kernel_rules.specs.Rules.{Found, IsFoundAnd, Does, and_then, or_refuse, outcome, removes, frames_of}
-use Rattle.kernel_rules.specs.Rules as rules
-use Rattle.kernel_rules.specs.References.{named_by, times, refs}
-use Rattle.kernel_rules.specs.CallRelation.{MayReply, rule_of, ends_by, flushes_by, changed, change_of, counted, begins_in}
-use Rattle.kernel_rules.specs.GracePeriods.{same_thing, new_grace}
-use Rattle.kernel_rules.specs.Laws.{calls_counted}
-use Rattle.kernel_rules.specs.Relies.{is_node, IsGuarded, Relies}
-use Rattle.kernel_rules.proofs.Within.{put_same}
-use Rattle.found_stays.proofs.Apart.{slot_is, place_here, place_there}
-use Rattle.kernel_invariant.proofs.Sums as sums
-use Rattle.kernel_history.specs.Trace.{Step, Trace, Out, Open, WasAt, phase, state_after, state_decided_in, last_left}
-use Rattle.kernel_history.specs.Ways.{way_to, ways, wide_ways}
-use Rattle.kernel_history.specs.Footprint.{IsNearIn}
-use Rattle.kernel_history.specs.Justified.{is_slot_in, HasReached}
-use Rattle.kernel_history.specs.Marking.{marked_by}
-use Rattle.kernel_history.specs.Stamps.{begins_in as begins_then, ends_in, flushes_in, begins_at}
-use Rattle.kernel_history.specs.Stamps.{ends_at, flushes_at, stamp, clock, flush_stored, is_in}
-use Rattle.trace_laws.proofs.AloneCalls.{ok_first}
-use Rattle.trace_laws.proofs.Carries.{was_now, was_stays}
-use Rattle.kernel_history.proofs.Inside.{inside_is, decided-inside}
-use Rattle.kernel_history.proofs.Names.{cases_word, same_word-other}
-use Rattle.kernel_history.proofs.Steps.{stamp-begins, stamp-kept, flush_stored-own, flush_stored-other}
-use Rattle.stage_quiet.specs.declared.close.Close.{Close}
-use Rattle.stage_quiet.specs.declared.close.Close.TheVariants.{AtCompare, AtDraw, AtStore}
-use Rattle.stage_quiet.specs.Clocks.{drawn_stamp}
-use Rattle.stage_quiet.specs.Removal.{close_move, close_end, close_after}
-use Rattle.call_plans.specs.declared.plans.Plan.{Plan}
-use Rattle.call_plans.specs.PlanOf.{of_kind, a_root, plan_for}
-use Rattle.call_plans.specs.GoesBy.{GoesBy, own_pages}
-use Rattle.call_plans.specs.After.{rule_after, names_after, Leads, LeadsIn, NextName, NextHeld, next_of}
-use Rattle.call_plans.proofs.AfterNames.{leads_by, outcome_left}
-use Rattle.plan_ways.specs.Laws.{NextPlace}
-use Rattle.plan_ways.proofs.Ways.{next_on_way, all_ways}
-use Rattle.stage_pins.specs.Counts.{later}
-use Rattle.act_states.specs.declared.work.Act.TheVariants.{Remove as remove_act}
-use Rattle.act_states.specs.declared.work.Work.TheVariants.{Act}
-use Rattle.act_states.specs.declared.work.Tail.TheVariants.{Nothing, Quiesce}
-use Rattle.call_stages.specs.declared.stages.Stage.TheVariants.{Undecided, Decided}
-use Rattle.call_stages.specs.declared.stages.ActiveCall.{ActiveCall}
-use Rattle.act_states.specs.declared.work.WorkStep.TheVariants.{Answers}
-use Rattle.act_states.specs.Acts.{took_close, cap_dues, removes_by}
-use Rattle.call_stages.specs.Fits.{StageFits, HasRoom}
-use Rattle.call_stages.specs.Steps.{GoesOn, landed, went_with}
-use Rattle.call_stages.specs.View.{Core}
-use Rattle.act_fits.proofs.DuesFit.{cap_one}
-use Rattle.core_invariant.specs.CountWords.{IsWithin}
-use Rattle.core_invariant.specs.Holding.{Holding, holds_counts, settled_by, settled}
-use Rattle.core_invariant.specs.Words.{PlaceIs, WordIs, count_room}
-use Rattle.core_invariant.specs.Knows.{HasFound, KnowsStore, KnowsUndecided, own_in, phase_at}
-use Rattle.core_invariant.specs.Invariant.{holds_at, holds_in, holds, held_by, times_of, Invariant}
-use Rattle.kept_facts.proofs.Calm.{IsCalm, calm_core, plain_exit, room_rises, room_grows, counted_grows}
-use Rattle.kept_facts.proofs.Carries.{own_kept, slot_relies}
-use Rattle.kept_facts.proofs.CountSums.{removed_refs}
-use Rattle.step_ways.proofs.Draws as drawing
-use Rattle.step_ways.proofs.Loads.{call_is, inner_works, is_active}
-use Rattle.step_ways.proofs.Places.{node_says}
-use Rattle.step_ways.proofs.Refusals.{GoodTook, not_spent}
-use Rattle.core_invariant.proofs.Sounds.{limits_of}
-use Rattle.kept_facts.proofs.WordFrames.{SameFor, ReadsAlike, reads_alike, StaysSaid, word_stays}
-use Rattle.step_ways.proofs.Writes.{clock_small, same_marks}
+use Rattle.kernel_laws.specs.spk_nums.specs.declared.kinds.Kind.TheVariants as kind
+use Rattle.kernel_laws.specs.spk_nums.specs.declared.replies.Reply.TheVariants as reply
+use Rattle.kernel_laws.specs.spk_nums.specs.declared.replies.Value.TheVariants as value
+use Rattle.count_invariant.specs.entry_words.specs.declared.entry.Entry.TheVariants as entry
+use Rattle.count_invariant.specs.entry_words.proofs.Spelling.{spelling}
+use Rattle.kernel_laws.specs.kernel_rules.specs.Rules.{removes}
+use Rattle.kernel_laws.specs.kernel_rules.specs.Rules as rules
+use Rattle.kernel_laws.specs.kernel_invariant.proofs.Sums as sums
+use Rattle.count_invariant.specs.kernel_history.specs.Stamps.{begins_in as begins_then}
+use Rattle.count_invariant.specs.kernel_history.proofs.Inside.{inside_is}
+use Rattle.count_invariant.specs.stage_quiet.specs.Removal.{close_move, close_end, close_after}
+use Rattle.count_invariant.specs.call_plans.specs.PlanOf.{a_root}
+use Rattle.count_invariant.specs.plan_ways.specs.Laws.{NextPlace}
+use Rattle.count_invariant.specs.plan_ways.proofs.Ways.{next_on_way, all_ways}
+use Rattle.count_invariant.specs.act_states.specs.declared.work.Act.TheVariants.{Remove as remove_act}
+use Rattle.count_invariant.specs.act_states.specs.declared.work.WorkStep.TheVariants.{Answers}
+use Rattle.count_invariant.specs.act_states.specs.Acts.{took_close, cap_dues}
+use Rattle.count_invariant.specs.act_fits.proofs.DuesFit.{cap_one}
+use Rattle.count_invariant.specs.core_invariant.specs.Knows.{KnowsStore}
+use Rattle.count_invariant.specs.kept_facts.proofs.Calm.{calm_core, room_rises, counted_grows}
+use Rattle.count_invariant.specs.kept_facts.proofs.CountSums.{removed_refs}
+use Rattle.count_invariant.specs.step_ways.proofs.Draws as drawing
+use Rattle.count_invariant.specs.step_ways.proofs.Loads.{call_is, inner_works, is_active}
+use Rattle.count_invariant.specs.step_ways.proofs.Places.{node_says}
+use Rattle.count_invariant.specs.step_ways.proofs.Refusals.{GoodTook, not_spent}
+use Rattle.count_invariant.specs.step_ways.proofs.Writes.{clock_small, same_marks}
 use Rattle.count_invariant.proofs.Acquiring.{removal_places, removal_raises, removal_types, plan_leads, goes_by}
 use Rattle.place_invariant.proofs.Closings.{close_good, store_at}
 use Rattle.count_invariant.proofs.CapChanges.{counts_commit, counts_sum}
@@ -297,7 +261,7 @@ module _ (setup : Setting) (setting : IsSetting setup) (cores : ℕ → Core) (t
 
   -- the stage is that after the draw
   module _ (now_at : ℕ) (drawn_is : now_at ≡ x) where
-    abbrev stage : Rattle.call_stages.specs.declared.stages.Stage.Stage
+    abbrev stage : Stage
     stage = Decided r (Some now_at) (Quiesce (AtStore node index now_at))
 
     abbrev e : Step

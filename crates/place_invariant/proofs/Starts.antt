@@ -1,50 +1,36 @@
 -- Where an act starts, after its look-ups or its scan: it acquires its first count or makes its first step, or its frame is out of range.
-use Rattle.act_fits.proofs.DuesFit.{invoking_one, returning_one, cap_one}
-use Rattle.std.proofs.Common.{◌≡◌, ℕ, pos, negsuc, ◌<◌, ◌++◌, map, length, not, true}
-use Rattle.std.proofs.Common.{false, List, [], ◌∷◌, Some, None, refl, sym, ◌∙◌, ap, arith}
-use Rattle.std.proofs.lemmas.Bool.{false≢true}
-use Rattle.spk_nums.specs.Setting.{Setting, IsSetting}
-use Rattle.spk_nums.specs.declared.calls.Call.{Call}
-use Rattle.spk_nums.specs.declared.replies.Reply.TheVariants as reply
-use Rattle.word_map.specs.Moves.{Move, word_of}
-use Rattle.kernel_rules.specs.Rules.{RuleMay, Refused}
-use Rattle.kernel_rules.specs.CallRelation.{rule_of, change_of, are_calls_spent}
-use Rattle.kernel_history.specs.Alone.{IsAlone}
-use Rattle.kernel_history.specs.Trace.{Step, Trace, Open, phase, state_after, last_left}
-use Rattle.trace_laws.proofs.AloneCalls.{refused_first}
-use Rattle.trace_laws.proofs.Carries.{Carries}
-use Rattle.stage_quiet.specs.declared.close.Close.TheVariants.{AtCompare, AtDraw, AtStore}
-use Rattle.stage_pins.specs.declared.held.Acquired.{Acquired}
-use Rattle.act_states.specs.declared.refusals.Refusal.TheVariants as refusal
-use Rattle.act_states.specs.declared.makings.MakingAt.{MakingAt}
-use Rattle.act_states.specs.declared.makings.MakingAt.TheVariants.{Load as making_load, Mark, Store, Fill as making_fill}
-use Rattle.act_states.specs.Comps.{comp_is_marked, comp_meets_number, comp_dues}
-use Rattle.act_states.specs.Makings.{is_marked}
-use Rattle.act_states.specs.declared.comps.CompAt.{CompAt}
-use Rattle.act_states.specs.declared.comps.CompAt.TheVariants as comp_at
-use Rattle.act_states.specs.Kills.{is_killing}
-use Rattle.act_states.specs.declared.kills.KillingAt.{KillingAt}
-use Rattle.act_states.specs.declared.kills.KillingAt.TheVariants.{LoadComp, LoadLive, Close as kill_close, Draw as kill_draw}
-use Rattle.act_states.specs.declared.work.Act.{Act as ActOf}
-use Rattle.act_states.specs.declared.work.Act.TheVariants.{Fill as fill_act, Remove as remove_act, Retype as type_act}
-use Rattle.act_states.specs.declared.work.Act.TheVariants.{Make as make_act, Outside, Tick as tick_act, Flush as flush_act}
-use Rattle.act_states.specs.declared.work.Act.TheVariants.{Kill as kill_act, Untype as untype_act, Map as map_act}
-use Rattle.act_states.specs.declared.work.Act.TheVariants.{MakeComp as comp_act, Invoke as invoke_act, Return as return_act}
-use Rattle.act_states.specs.declared.work.Act.TheVariants.{Touch as touch_act, Share as share_act, Switch as switch_act}
-use Rattle.act_states.specs.declared.work.WorkStep.TheVariants.{Goes}
-use Rattle.act_states.specs.WorkSteps.{refuse}
-use Rattle.act_states.specs.Acts.{dues, made_dues, next_work, starts, killing_dues, invoking_dues, returning_dues}
-use Rattle.call_stages.specs.declared.stages.Stage.{Stage}
-use Rattle.call_stages.specs.declared.stages.Stage.TheVariants.{Undecided}
-use Rattle.call_stages.specs.declared.stages.ActiveCall.{ActiveCall}
-use Rattle.call_stages.specs.Steps.{landed}
-use Rattle.call_stages.specs.View.{Core}
-use Rattle.core_invariant.specs.Holding.{Holding, holds_counts}
-use Rattle.core_invariant.specs.Knows.{AreDuesApart, due_of, KnowsAct, NamesAre, is_start, is_counting, goes_on, phase_at}
-use Rattle.core_invariant.specs.Invariant.{holds_act, holds_making, holds_in, Invariant, holds_killing, holds_comp}
-use Rattle.kept_facts.proofs.Carries.{names_on}
-use Rattle.step_ways.proofs.Loads.{OnlyLooks, step_to, next_at, core_is, call_is, loads_on, decides_on}
-use Rattle.step_ways.proofs.Refusals.{GoodTook, not_spent}
+use Rattle.count_invariant.proofs.Common.{◌≡◌, ℕ, pos, negsuc, ◌<◌, ◌++◌, map, length, not, true, false, List, [], ◌∷◌, Some, None, refl}
+use Rattle.count_invariant.proofs.Common.{sym, ◌∙◌, ap, arith, false≢true, Setting, IsSetting, Call, Move, word_of, RuleMay, Refused}
+use Rattle.count_invariant.proofs.Common.{rule_of, change_of, are_calls_spent, IsAlone, Step, Trace, Open, phase, state_after, last_left}
+use Rattle.count_invariant.proofs.Common.{refused_first, Carries, AtCompare, AtDraw, AtStore, Acquired, MakingAt, Mark, Store, comp_dues}
+use Rattle.count_invariant.proofs.Common.{CompAt, KillingAt, LoadComp, LoadLive, Outside, Goes, refuse, dues, made_dues, next_work}
+use Rattle.count_invariant.proofs.Common.{starts, invoking_dues, returning_dues, Stage, Undecided, ActiveCall, landed, Core, Holding}
+use Rattle.count_invariant.proofs.Common.{holds_counts, AreDuesApart, due_of, KnowsAct, NamesAre, goes_on, phase_at, holds_act}
+use Rattle.count_invariant.proofs.Common.{holds_making, holds_in, Invariant, holds_killing, holds_comp, names_on}
+use Rattle.count_invariant.specs.act_fits.proofs.DuesFit.{invoking_one, returning_one, cap_one}
+use Rattle.kernel_laws.specs.spk_nums.specs.declared.replies.Reply.TheVariants as reply
+use Rattle.count_invariant.specs.act_states.specs.declared.refusals.Refusal.TheVariants as refusal
+use Rattle.count_invariant.specs.act_states.specs.declared.makings.MakingAt.TheVariants.{Load as making_load}
+use Rattle.count_invariant.specs.act_states.specs.declared.makings.MakingAt.TheVariants.{Fill as making_fill}
+use Rattle.count_invariant.specs.act_states.specs.Comps.{comp_is_marked, comp_meets_number}
+use Rattle.count_invariant.specs.act_states.specs.Makings.{is_marked}
+use Rattle.count_invariant.specs.act_states.specs.declared.comps.CompAt.TheVariants as comp_at
+use Rattle.count_invariant.specs.act_states.specs.Kills.{is_killing}
+use Rattle.count_invariant.specs.act_states.specs.declared.kills.KillingAt.TheVariants.{Close as kill_close}
+use Rattle.count_invariant.specs.act_states.specs.declared.kills.KillingAt.TheVariants.{Draw as kill_draw}
+use Rattle.count_invariant.specs.act_states.specs.declared.work.Act.{Act as ActOf}
+use Rattle.count_invariant.specs.act_states.specs.declared.work.Act.TheVariants.{Fill as fill_act, Remove as remove_act, Retype as type_act}
+use Rattle.count_invariant.specs.act_states.specs.declared.work.Act.TheVariants.{Make as make_act, Tick as tick_act}
+use Rattle.count_invariant.specs.act_states.specs.declared.work.Act.TheVariants.{Flush as flush_act}
+use Rattle.count_invariant.specs.act_states.specs.declared.work.Act.TheVariants.{Kill as kill_act, Untype as untype_act, Map as map_act}
+use Rattle.count_invariant.specs.act_states.specs.declared.work.Act.TheVariants.{MakeComp as comp_act, Invoke as invoke_act}
+use Rattle.count_invariant.specs.act_states.specs.declared.work.Act.TheVariants.{Return as return_act}
+use Rattle.count_invariant.specs.act_states.specs.declared.work.Act.TheVariants.{Touch as touch_act, Share as share_act}
+use Rattle.count_invariant.specs.act_states.specs.declared.work.Act.TheVariants.{Switch as switch_act}
+use Rattle.count_invariant.specs.act_states.specs.Acts.{killing_dues}
+use Rattle.count_invariant.specs.core_invariant.specs.Knows.{is_start, is_counting}
+use Rattle.count_invariant.specs.step_ways.proofs.Loads.{OnlyLooks, step_to, next_at, core_is, call_is, loads_on, decides_on}
+use Rattle.count_invariant.specs.step_ways.proofs.Refusals.{GoodTook, not_spent}
 use Rattle.count_invariant.proofs.Acquiring.{knows_next, next_holds, one_apart}
 
 -- Before its first step an act holds nothing.

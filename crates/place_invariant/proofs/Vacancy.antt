@@ -1,38 +1,22 @@
 -- A place that a call may fill is vacant for it: it is free, or no other core waits in its grace period, and none is to flush it.
-use Rattle.std.proofs.Common.{◌≡◌, ◌≢◌, ℕ, zero, suc, find, cond, ◌+◌, ◌<◌, ◌≤◌, ◌==◌, ◌&&◌, not, inl, inr, Bool}
-use Rattle.std.proofs.Common.{true, false, [], Option, Some, None, IsTrue, arith, refl, sym, ◌∙◌, ap, subst}
-use Rattle.std.proofs.lemmas.Bool.{false≢true, eqb-false}
+use Rattle.count_invariant.proofs.Common.{◌≡◌, ◌≢◌, ℕ, zero, suc, cond, ◌+◌, ◌<◌, ◌≤◌, ◌==◌, ◌&&◌, not, inl, inr, Bool, true, false, []}
+use Rattle.count_invariant.proofs.Common.{Option, Some, None, IsTrue, arith, refl, sym, ◌∙◌, ap, subst, false≢true, eqb-false, cases_bool}
+use Rattle.count_invariant.proofs.Common.{Setting, IsSetting, Capability, Call, Entry, Place, Free, Holds, Quiescing, Table, Leaf, Pages}
+use Rattle.count_invariant.proofs.Common.{Pleaf, Frame, Kernel, Thing, PlaceOf, State, Slot, found, Under, only, reached, fits, is_paging}
+use Rattle.count_invariant.proofs.Common.{lowest, unflushed_by, place_names, Found, named, first_of, waits_of, not_vacant, named_fit}
+use Rattle.count_invariant.proofs.Common.{opened, events_of, IsLegal, is_node, stamp, Trace, Open, phase, state_after, awaits_are}
+use Rattle.count_invariant.proofs.Common.{state_is, run_of, sound_of, opened_is, PlaceIs, HasFlushed, IsScanned, MayFill}
+use Rattle.std.proofs.Common.{find}
 use Rattle.std.specs.List.{range_with_len}
-use Rattle.trace_laws.proofs.GraceSteps.{cases_bool}
-use Rattle.spk_nums.specs.Setting.{Setting, IsSetting}
-use Rattle.spk_nums.specs.Capability.{Capability}
-use Rattle.spk_nums.specs.declared.kinds.Kind.TheVariants as kind
-use Rattle.spk_nums.specs.declared.calls.Call.{Call}
-use Rattle.entry_words.specs.declared.entry.Entry.{Entry}
-use Rattle.entry_words.specs.declared.entry.Entry.TheVariants as entry
-use Rattle.kernel_rules.specs.State.{Place, Free, Holds, Quiescing, Table, Leaf, Pages, Pleaf, Frame, Kernel, Thing, PlaceOf, State}
-use Rattle.kernel_rules.specs.Access.{Slot, found, Under, only, reached}
-use Rattle.kernel_rules.specs.Fitting.{fits}
-use Rattle.kernel_rules.specs.GracePeriods.{is_paging, lowest, other_waiting, quiescing_by, unflushed_by}
-use Rattle.kernel_rules.specs.References.{place_names}
-use Rattle.kernel_rules.specs.Rules.{Found, named, first_of, waits_of, flushes_of, not_vacant}
-use Rattle.kernel_invariant.proofs.Facts.{named_fit}
-use Rattle.kernel_invariant.proofs.SoundCalls.{IsOpen}
-use Rattle.kernel_invariant.proofs.SoundRuns.{opened}
+use Rattle.kernel_laws.specs.spk_nums.specs.declared.kinds.Kind.TheVariants as kind
+use Rattle.count_invariant.specs.entry_words.specs.declared.entry.Entry.TheVariants as entry
+use Rattle.kernel_laws.specs.kernel_rules.specs.GracePeriods.{other_waiting, quiescing_by}
+use Rattle.kernel_laws.specs.kernel_rules.specs.Rules.{flushes_of}
+use Rattle.kernel_laws.specs.kernel_invariant.proofs.SoundCalls.{IsOpen}
 use Rattle.kernel_laws.specs.Nodes.{leads_to}
 use Rattle.kernel_laws.proofs.NodeSteps.{IsFitted}
 use Rattle.kernel_laws.proofs.NodesLaw.{runs_fit, leaf_fits}
-use Rattle.kernel_history.specs.Events.{events_of}
-use Rattle.kernel_history.specs.Graces.{GraceIs}
-use Rattle.kernel_history.specs.Legal.{IsLegal}
-use Rattle.kernel_rules.specs.Relies.{is_node}
-use Rattle.kernel_history.specs.Stamps.{stamp}
-use Rattle.kernel_history.specs.Trace.{Trace, Open, phase, state_after}
-use Rattle.trace_laws.proofs.Awaits.{awaits_are}
-use Rattle.kernel_history.proofs.Events.{state_is, run_of}
-use Rattle.trace_laws.proofs.Stays.{sound_of, opened_is}
-use Rattle.core_invariant.specs.Words.{PlaceIs}
-use Rattle.core_invariant.specs.Knows.{HasFlushed, IsScanned, MayFill}
+use Rattle.count_invariant.specs.kernel_history.specs.Graces.{GraceIs}
 
 -- The slot that core c reaches under a table of capabilities is in a leaf of capabilities.
 table_leaf : (x : Frame) → IsTrue (fits kind.Table x) → (y : Frame) → IsTrue (leads_to x y) → y ≡ Kernel Leaf

@@ -1,0 +1,26 @@
+-- What the crates above name through this one.
+pub use Rattle.kernel_laws.specs.spk_nums
+pub use Rattle.count_invariant.specs.entry_words
+pub use Rattle.count_invariant.specs.frame_words
+pub use Rattle.count_invariant.specs.tcap_words
+pub use Rattle.count_invariant.specs.word_map
+pub use Rattle.kernel_laws.specs.kernel_rules
+pub use Rattle.kernel_laws.specs.kernel_invariant
+pub use Rattle.kernel_laws.specs.found_stays
+pub use Rattle.count_invariant.specs.kernel_history
+pub use Rattle.count_invariant.specs.trace_laws
+pub use Rattle.count_invariant.specs.call_plans
+pub use Rattle.count_invariant.specs.stage_look
+pub use Rattle.count_invariant.specs.stage_pins
+pub use Rattle.count_invariant.specs.stage_quiet
+pub use Rattle.count_invariant.specs.stage_thread
+pub use Rattle.count_invariant.specs.stage_sweep
+pub use Rattle.count_invariant.specs.stage_tcap
+pub use Rattle.count_invariant.specs.plan_ways
+pub use Rattle.count_invariant.specs.act_states
+pub use Rattle.count_invariant.specs.call_stages
+pub use Rattle.count_invariant.specs.act_fits
+pub use Rattle.count_invariant.specs.core_invariant
+pub use Rattle.count_invariant.specs.kept_facts
+pub use Rattle.count_invariant.specs.step_ways
+pub use Rattle.count_invariant

@@ -3,48 +3,52 @@
 use Rattle.std.proofs.Common.{◌≡◌, ◌≢◌, ◌⊎◌, inl, inr, ℕ, ◌<◌, ◌≤◌, ◌+◌, ◌-◌, ◌==◌, ◌&&◌, nat_le, Bool, true, false}
 use Rattle.std.proofs.Common.{arith, refl, sym, ◌∙◌, ap, subst, if◌then◌else◌, IsTrue, List, [], ◌∷◌, Option, Some, None}
 use Rattle.std.proofs.lemmas.Bool.{false≢true, cases_eq}
-use Rattle.spk_nums.specs.Capability.{Capability}
-use Rattle.spk_nums.specs.Setting.{Setting, IsSetting}
-use Rattle.spk_nums.specs.declared.kinds.Kind.{Kind}
-use Rattle.spk_nums.specs.declared.kinds.Kind.TheVariants as kind
-use Rattle.spk_nums.specs.declared.kinds.FrameKind.{FrameKind}
-use Rattle.spk_nums.specs.declared.kinds.FrameKind.TheVariants as frame_kind
-use Rattle.spk_nums.specs.declared.calls.Make.{Make}
-use Rattle.spk_nums.specs.declared.calls.Make.TheVariants as make
-use Rattle.spk_nums.specs.declared.calls.Call.{Call}
-use Rattle.spk_nums.specs.declared.calls.Call.TheVariants.{Look, Copy, Remove, Grow, Shrink, Retype, Make as make_call}
-use Rattle.spk_nums.specs.declared.calls.Call.TheVariants.{Map, Unmap, Touch, Flush, Gate, Kill, Call as call_gate}
-use Rattle.spk_nums.specs.declared.calls.Call.TheVariants.{Ret, Switch, Tick, Transfer, Delegate, Test}
-use Rattle.spk_nums.specs.declared.translations.Translation.{Translation}
-use Rattle.spk_nums.specs.declared.replies.Reply.{Reply}
-use Rattle.spk_nums.specs.declared.replies.Reply.TheVariants as reply
-use Rattle.kernel_rules.specs.State.{Place, Free, Holds, Quiescing, Object, Blank, Comp, Thread, Tcap, Frame, Untyped, Kernel}
-use Rattle.kernel_rules.specs.State.{FrameOf, State, put, with_place, with_frame, with_core, with_number, comp_of, thread_in, Live}
-use Rattle.kernel_rules.specs.References.{named_by, core_names, times, refs}
-use Rattle.kernel_rules.specs.Access.{Slot, Named, found, Target, Under, InRoot, reached, usable, only, root}
-use Rattle.kernel_rules.specs.Rules.{Change, Judged, Refused, Found, named, of_kind, vacant, held, fills, removes}
-use Rattle.kernel_rules.specs.CapabilityCalls.{makes, cleared, make_node, make_rule, not_taken, epoch_of}
-use Rattle.kernel_rules.specs.MemoryCalls.{retype_rule, touch_by, translation_of}
-use Rattle.kernel_rules.specs.InvocationCalls.{with_thread, running, switch_to}
-use Rattle.kernel_rules.specs.TimeCalls.{with_tcap, with_budget, tcap_at, moved}
-use Rattle.kernel_rules.specs.CallRelation.{rule_of, change_of, changed, owed_by, state_by}
-use Rattle.kernel_rules.specs.Relies.{IsGuarded}
-use Rattle.kernel_rules.proofs.Changes.{IfFound}
-use Rattle.kernel_rules.proofs.Within.{put_same, put_other}
-use Rattle.kernel_invariant.proofs.Sound.{only_is}
-use Rattle.kernel_invariant.proofs.SoundCalls.{IsOpen, blank_by, untyped_by}
-use Rattle.kernel_invariant.proofs.SoundRemovals.{unnamed}
-use Rattle.found_stays.proofs.SparesRuns.{core_same_refs}
-use Rattle.kernel_invariant.proofs.Sums.{times_first, times_cons}
-use Rattle.kernel_invariant.proofs.Facts.{ChangesFrom, outcome_from, some_inj, none_some, named_good, vacant_facts, held_facts}
-use Rattle.kernel_invariant.proofs.FrameTurns.{is_typed}
-use Rattle.kernel_invariant.proofs.SoundRuns.{opened}
-use Rattle.found_stays.proofs.Stays.{name_parts, usable_guarded, reached_relies}
-use Rattle.kernel_history.specs.Legal.{MayFollow, IsLegal}
-use Rattle.kernel_history.specs.Trace.{Step, Trace, Phase, Out, Open, Decided, phase, after_enter, state_after}
-use Rattle.kernel_history.specs.Trace.{state_entered, state_decided, state_returned, state_before}
-use Rattle.kernel_history.proofs.Events.{entered_events}
+use Rattle.trace_laws.specs.spk_nums.specs.Capability.{Capability}
+use Rattle.trace_laws.specs.spk_nums.specs.Setting.{Setting, IsSetting}
+use Rattle.trace_laws.specs.spk_nums.specs.declared.kinds.Kind.{Kind}
+use Rattle.trace_laws.specs.spk_nums.specs.declared.kinds.Kind.TheVariants as kind
+use Rattle.trace_laws.specs.spk_nums.specs.declared.kinds.FrameKind.{FrameKind}
+use Rattle.trace_laws.specs.spk_nums.specs.declared.kinds.FrameKind.TheVariants as frame_kind
+use Rattle.trace_laws.specs.spk_nums.specs.declared.calls.Make.{Make}
+use Rattle.trace_laws.specs.spk_nums.specs.declared.calls.Make.TheVariants as make
+use Rattle.trace_laws.specs.spk_nums.specs.declared.calls.Call.{Call}
+use Rattle.trace_laws.specs.spk_nums.specs.declared.calls.Call.TheVariants.{Look, Copy, Remove, Grow, Shrink, Retype, Make as make_call}
+use Rattle.trace_laws.specs.spk_nums.specs.declared.calls.Call.TheVariants.{Map, Unmap, Touch, Flush, Gate, Kill, Call as call_gate}
+use Rattle.trace_laws.specs.spk_nums.specs.declared.calls.Call.TheVariants.{Ret, Switch, Tick, Transfer, Delegate, Test}
+use Rattle.trace_laws.specs.spk_nums.specs.declared.translations.Translation.{Translation}
+use Rattle.trace_laws.specs.spk_nums.specs.declared.replies.Reply.{Reply}
+use Rattle.trace_laws.specs.spk_nums.specs.declared.replies.Reply.TheVariants as reply
+use Rattle.trace_laws.specs.kernel_rules.specs.State.{Place, Free, Holds, Quiescing, Object, Blank, Comp, Thread, Tcap, Frame, Untyped}
+use Rattle.trace_laws.specs.kernel_rules.specs.State.{Kernel}
+use Rattle.trace_laws.specs.kernel_rules.specs.State.{FrameOf, State, put, with_place, with_frame, with_core, with_number, comp_of}
+use Rattle.trace_laws.specs.kernel_rules.specs.State.{thread_in, Live}
+use Rattle.trace_laws.specs.kernel_rules.specs.References.{named_by, core_names, times, refs}
+use Rattle.trace_laws.specs.kernel_rules.specs.Access.{Slot, Named, found, Target, Under, InRoot, reached, usable, only, root}
+use Rattle.trace_laws.specs.kernel_rules.specs.Rules.{Change, Judged, Refused, Found, named, of_kind, vacant, held, fills, removes}
+use Rattle.trace_laws.specs.kernel_rules.specs.CapabilityCalls.{makes, cleared, make_node, make_rule, not_taken, epoch_of}
+use Rattle.trace_laws.specs.kernel_rules.specs.MemoryCalls.{retype_rule, touch_by, translation_of}
+use Rattle.trace_laws.specs.kernel_rules.specs.InvocationCalls.{with_thread, running, switch_to}
+use Rattle.trace_laws.specs.kernel_rules.specs.TimeCalls.{with_tcap, with_budget, tcap_at, moved}
+use Rattle.trace_laws.specs.kernel_rules.specs.CallRelation.{rule_of, change_of, changed, owed_by, state_by}
+use Rattle.trace_laws.specs.kernel_rules.specs.Relies.{IsGuarded}
+use Rattle.trace_laws.specs.kernel_rules.proofs.Changes.{IfFound}
+use Rattle.trace_laws.specs.kernel_rules.proofs.Within.{put_same, put_other}
+use Rattle.trace_laws.specs.kernel_invariant.proofs.Sound.{only_is}
+use Rattle.trace_laws.specs.kernel_invariant.proofs.SoundCalls.{IsOpen, blank_by, untyped_by}
+use Rattle.trace_laws.specs.kernel_invariant.proofs.SoundRemovals.{unnamed}
+use Rattle.trace_laws.specs.found_stays.proofs.SparesRuns.{core_same_refs}
+use Rattle.trace_laws.specs.kernel_invariant.proofs.Sums.{times_first, times_cons}
+use Rattle.trace_laws.specs.kernel_invariant.proofs.Facts.{ChangesFrom, outcome_from, some_inj, none_some, named_good, vacant_facts}
+use Rattle.trace_laws.specs.kernel_invariant.proofs.Facts.{held_facts}
+use Rattle.trace_laws.specs.kernel_invariant.proofs.FrameTurns.{is_typed}
+use Rattle.trace_laws.specs.kernel_invariant.proofs.SoundRuns.{opened}
+use Rattle.trace_laws.specs.found_stays.proofs.Stays.{name_parts, usable_guarded, reached_relies}
+use Rattle.trace_laws.specs.kernel_history.specs.Legal.{MayFollow, IsLegal}
+use Rattle.trace_laws.specs.kernel_history.specs.Trace.{Step, Trace, Phase, Out, Open, Decided, phase, after_enter, state_after}
+use Rattle.trace_laws.specs.kernel_history.specs.Trace.{state_entered, state_decided, state_returned, state_before}
+use Rattle.trace_laws.specs.kernel_history.proofs.Events.{entered_events}
 use Rattle.trace_laws.proofs.Opens.{opens}
+use Rattle.trace_laws.specs.kernel_rules.specs.CallRelation.{counted}
 
 -- From s to t the frame f rests.
 pub record Rests (s t : State) (f : ℕ) : Type 0 where
@@ -258,7 +262,7 @@ module _ (s : State) (o : ℕ → Bool) (d : ℕ) (h : IsOpen s o d) (f : ℕ) (
     | inr rests ↦ inr (record { frame = rests.frame; place = rests.place })
   ]
 
-  counted_rests : (t : State) → RestsOr s t f → RestsOr s (Rattle.kernel_rules.specs.CallRelation.counted t d) f
+  counted_rests : (t : State) → RestsOr s t f → RestsOr s (counted t d) f
   counted_rests t (inl untyped) = inl untyped
   counted_rests t (inr rests) = inr (record { frame = rests.frame; place = rests.place })
 

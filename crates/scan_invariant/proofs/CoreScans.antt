@@ -1,69 +1,42 @@
 -- A step of a scan on the word of another core is good: it is refused by a core that may still use what was removed, or goes on to the
 -- next core, and from the last to the flush words or to the counts of the act.
+use Rattle.place_invariant.proofs.Common.{◌≡◌, ◌≢◌, ◌⊎◌, ℕ, ◌<◌, ◌≤◌, ◌&&◌, ◌++◌, nat_lt, nat_le, if◌then◌else◌, Bool, true, false, []}
+use Rattle.place_invariant.proofs.Common.{◌∷◌, Option, Some, None, IsTrue, inl, inr, arith, refl, sym, ◌∙◌, ap, subst, IsSomeAnd}
+use Rattle.place_invariant.proofs.Common.{list_any, eq-eqb, ltb-false, leb-true, leb-false, false≢true, Setting, IsSetting, entry_of_word}
+use Rattle.place_invariant.proofs.Common.{Entry, core_of_word, CoreWord, EntryAt, CountAt, CoreAt, FrameAt, LiveAt, LoadOf, word_of}
+use Rattle.place_invariant.proofs.Common.{told_of, Thing, PlaceOf, State, Slot, Target, reached, rule_of, same_thing, MayWait, is_paging}
+use Rattle.place_invariant.proofs.Common.{RuleMay, Rule, IsRemoved, IsWaiting, exit_of, Step, Trace, Open, phase, state_after, last_left}
+use Rattle.place_invariant.proofs.Common.{waited_in, asked_of, Carries, not_inside, own_read-there, last_left-there, out_passed}
+use Rattle.place_invariant.proofs.Common.{later_passed, may_wait, Quiet, AtCore, AtFlush, next_other, core_scan, flush_scan, quiet_move}
+use Rattle.place_invariant.proofs.Common.{core_refuses, scan_end, scan_after, quiet_next, quiet_end, quiet_after, GoesBy, own_pages}
+use Rattle.place_invariant.proofs.Common.{Leads, LeadsIn, NextFree, rule_after, NextMay, next_of, next_may, Outside, Scan, Undecided}
+use Rattle.place_invariant.proofs.Common.{ActiveCall, Goes, refuse, stamp_shown, starts, StageFits, CountsAt, HasRoom, landed, took_scan}
+use Rattle.place_invariant.proofs.Common.{Core, holds_counts, IsScanned, MayFill, KnowsAct, KnowsUndecided, phase_at, IsSpot, HasFlushed}
+use Rattle.place_invariant.proofs.Common.{holds_at, holds_in, Invariant, names_on, slot_relies, limits_of, is_node, Plan, plan_for}
 use Rattle.place_invariant.proofs.Starts.{IsRefusedOutside as RefusedOutside, starts_good}
-use Rattle.std.proofs.Common.{◌≡◌, ◌≢◌, ◌⊎◌, ℕ, ◌<◌, ◌≤◌, ◌&&◌, ◌++◌, nat_lt, nat_le, if◌then◌else◌, Bool, true}
-use Rattle.std.proofs.Common.{false, [], ◌∷◌, Option, Some, None, IsTrue, inl, inr, arith, refl, sym, ◌∙◌, ap, subst}
-use Rattle.std.specs.Prelude.{IsSomeAnd, ◌==◌, ◌||◌}
-use Rattle.std.specs.List.{list_any}
-use Rattle.std.proofs.lemmas.Bool.{eq-eqb, ltb-false, leb-true, leb-false, false≢true}
-use Rattle.spk_nums.specs.Setting.{Setting, IsSetting}
-use Rattle.spk_nums.specs.declared.replies.Reply.TheVariants as reply
-use Rattle.entry_words.specs.EntryWord.{entry_of_word}
-use Rattle.entry_words.specs.declared.entry.Entry.{Entry}
-use Rattle.entry_words.specs.declared.entry.Entry.TheVariants as entry
-use Rattle.frame_words.specs.Core.{core_of_word}
-use Rattle.frame_words.specs.declared.core_word.CoreWord.{CoreWord}
-use Rattle.word_map.specs.Word.{EntryAt, CountAt, CoreAt, FrameAt, LiveAt}
-use Rattle.word_map.specs.Moves.{LoadOf, word_of, told_of}
-use Rattle.kernel_rules.specs.State.{Thing, PlaceOf, State}
-use Rattle.kernel_rules.specs.Access.{Slot, Target, reached}
-use Rattle.kernel_rules.specs.CallRelation.{rule_of}
-use Rattle.kernel_rules.specs.GracePeriods.{same_thing, MayWait, is_paging}
-use Rattle.kernel_rules.specs.Rules.{RuleMay, Rule}
-use Rattle.kernel_rules.specs.Rules as rules
-use Rattle.kernel_history.specs.Justified.{IsRemoved, IsWaiting}
-use Rattle.kernel_history.specs.Stamps.{exit_of}
-use Rattle.kernel_history.specs.Trace.{Step, Trace, Open, phase, state_after, last_left}
-use Rattle.kernel_history.specs.Ways.{waited_in, thing_at, asked_of}
-use Rattle.trace_laws.proofs.Carries.{Carries, was_before}
-use Rattle.kernel_history.proofs.Laws.{not_inside}
-use Rattle.kernel_history.proofs.Steps.{own_read-there, last_left-there}
-use Rattle.trace_laws.proofs.Waiting.{out_passed, later_passed, may_wait}
-use Rattle.stage_quiet.specs.declared.quiet.Quiet.{Quiet}
-use Rattle.stage_quiet.specs.declared.quiet.Quiet.TheVariants.{AtCore, AtFlush}
-use Rattle.stage_quiet.specs.Scan.{next_other, core_scan, flush_scan, quiet_move, core_refuses}
-use Rattle.stage_quiet.specs.Scan.{scan_end, scan_after, quiet_next, quiet_end, quiet_after}
-use Rattle.call_plans.specs.GoesBy.{GoesBy, OwnPages, own_pages}
-use Rattle.call_plans.specs.After.{Leads, LeadsIn, NextFree, rule_after, NextMay, next_of}
-use Rattle.call_plans.proofs.AfterNames.{Begins, left_begins, next_may}
-use Rattle.plan_ways.proofs.Ways.{asked_left}
-use Rattle.act_states.specs.declared.refusals.Refusal.TheVariants as refusal
-use Rattle.act_states.specs.declared.work.Act.{Act as ActOf}
-use Rattle.act_states.specs.declared.work.Act.TheVariants.{Fill as fill_act, Remove as remove_act, Retype as type_act}
-use Rattle.act_states.specs.declared.work.Act.TheVariants.{Make as make_act, Outside, Tick as tick_act, Kill as kill_act}
-use Rattle.act_states.specs.declared.work.Work.TheVariants.{Scan}
-use Rattle.call_stages.specs.declared.stages.Stage.TheVariants.{Undecided}
-use Rattle.call_stages.specs.declared.stages.ActiveCall.{ActiveCall}
-use Rattle.act_states.specs.declared.work.WorkStep.TheVariants.{Goes}
-use Rattle.act_states.specs.WorkSteps.{refuse}
-use Rattle.act_states.specs.Acts.{stamp_shown, starts}
-use Rattle.call_stages.specs.Fits.{StageFits, CountsAt, HasRoom}
-use Rattle.call_stages.specs.Steps.{landed, took_scan}
-use Rattle.call_stages.specs.View.{Core}
-use Rattle.core_invariant.specs.Holding.{holds_counts}
-use Rattle.core_invariant.specs.Knows.{HasPassed, IsScanned, MayFill, KnowsAct, KnowsUndecided, phase_at, IsSpot}
-use Rattle.core_invariant.specs.Knows.{goes_on as goes_on_act, HasFlushed, KnowsScan, KnowsQuiet, scanned_for}
-use Rattle.core_invariant.specs.Invariant.{holds_at, holds_in, Invariant}
-use Rattle.kept_facts.proofs.Carries.{start_pairs, names_on, act_on, ReadsSame, slot_relies}
-use Rattle.step_ways.proofs.Users.{users_kept}
-use Rattle.step_ways.proofs.Loads.{OnlyLooks, step_to, inner, core_is, call_is, is_active, loads_on, decides_on, next_at}
-use Rattle.step_ways.proofs.Refusals.{GoodTook, not_spent}
-use Rattle.core_invariant.proofs.Sounds.{limits_of}
-use Rattle.count_invariant.proofs.Acquiring.{plan_leads, goes_by}
+use Rattle.std.specs.Prelude.{◌==◌, ◌||◌}
+use Rattle.place_invariant.specs.spk_nums.specs.declared.replies.Reply.TheVariants as reply
+use Rattle.place_invariant.specs.entry_words.specs.declared.entry.Entry.TheVariants as entry
+use Rattle.place_invariant.specs.kernel_rules.specs.Rules as rules
+use Rattle.place_invariant.specs.kernel_history.specs.Ways.{thing_at}
+use Rattle.place_invariant.specs.trace_laws.proofs.Carries.{was_before}
+use Rattle.place_invariant.specs.call_plans.specs.GoesBy.{OwnPages}
+use Rattle.place_invariant.specs.call_plans.proofs.AfterNames.{Begins, left_begins}
+use Rattle.place_invariant.specs.plan_ways.proofs.Ways.{asked_left}
+use Rattle.place_invariant.specs.act_states.specs.declared.refusals.Refusal.TheVariants as refusal
+use Rattle.place_invariant.specs.act_states.specs.declared.work.Act.{Act as ActOf}
+use Rattle.place_invariant.specs.act_states.specs.declared.work.Act.TheVariants.{Fill as fill_act, Remove as remove_act, Retype as type_act}
+use Rattle.place_invariant.specs.act_states.specs.declared.work.Act.TheVariants.{Make as make_act, Tick as tick_act}
+use Rattle.place_invariant.specs.act_states.specs.declared.work.Act.TheVariants.{Kill as kill_act}
+use Rattle.place_invariant.specs.core_invariant.specs.Knows.{HasPassed}
+use Rattle.place_invariant.specs.core_invariant.specs.Knows.{goes_on as goes_on_act, KnowsScan, KnowsQuiet, scanned_for}
+use Rattle.place_invariant.specs.kept_facts.proofs.Carries.{start_pairs, act_on, ReadsSame}
+use Rattle.place_invariant.specs.step_ways.proofs.Users.{users_kept}
+use Rattle.place_invariant.specs.step_ways.proofs.Loads.{OnlyLooks, step_to, inner, core_is, call_is, is_active, loads_on, decides_on}
+use Rattle.place_invariant.specs.step_ways.proofs.Loads.{next_at}
+use Rattle.place_invariant.specs.step_ways.proofs.Refusals.{GoodTook, not_spent}
+use Rattle.place_invariant.specs.count_invariant.proofs.Acquiring.{plan_leads, goes_by}
 use Rattle.scan_invariant.proofs.Scans.{before_next, IsScanFor, scan_for, asks_for}
-use Rattle.kernel_rules.specs.Relies.{is_node}
-use Rattle.call_plans.specs.declared.plans.Plan.{Plan}
-use Rattle.call_plans.specs.PlanOf.{plan_for}
 use Rattle.place_invariant.proofs.Paging.{paging_by}
 use Rattle.place_invariant.proofs.Vacancy.{unpaged_flushed}
 

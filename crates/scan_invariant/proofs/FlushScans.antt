@@ -1,71 +1,44 @@
 -- A step of a scan on a flush word is good: it is refused by a core that may not have flushed since the removal, or goes on to the next
 -- flush word, and from the last to the counts of the act.
-use Rattle.std.proofs.Common.{◌≡◌, ◌≢◌, ◌⊎◌, ℕ, zero, suc, ◌+◌, ◌<◌, ◌≤◌, ◌==◌, find, cond, nat_lt, nat_le, if◌then◌else◌, Bool}
-use Rattle.std.proofs.Common.{true, false, [], ◌∷◌, Option, Some, None, IfSome, IsTrue, inl, inr, arith, refl, sym, ◌∙◌, ap, subst}
-use Rattle.std.specs.Prelude.{IsSomeAnd}
-use Rattle.std.specs.List.{list_any, range_with_len}
-use Rattle.std.proofs.lemmas.Bool.{cases_eq, eqb-true, eq-eqb, ltb-true, ltb-false, leb-true, leb-false, false≢true}
-use Rattle.spk_nums.specs.Capability.{Capability}
-use Rattle.spk_nums.specs.Setting.{Setting, IsSetting}
-use Rattle.spk_nums.specs.declared.calls.Call.{Call}
-use Rattle.spk_nums.specs.declared.replies.Reply.TheVariants as reply
-use Rattle.entry_words.specs.EntryWord.{entry_of_word}
-use Rattle.entry_words.specs.declared.entry.Entry.TheVariants as entry
-use Rattle.frame_words.specs.Flush.{flush_of_word}
-use Rattle.frame_words.specs.declared.flush_word.FlushWord.{FlushWord}
-use Rattle.word_map.specs.Word.{EntryAt, CountAt, FlushAt, FrameAt, LiveAt, same_word}
-use Rattle.word_map.specs.Moves.{Move, LoadOf, word_of}
-use Rattle.kernel_rules.specs.State.{Thing, PlaceOf, State}
-use Rattle.kernel_rules.specs.Access.{Slot, Target, place_at, reached}
-use Rattle.kernel_rules.specs.GracePeriods.{is_paging, same_thing, lowest, unflushed_by, MayBeUnflushed}
-use Rattle.kernel_rules.specs.Relies.{is_node}
-use Rattle.kernel_rules.specs.Rules.{RuleMay, Refused, and_then, or_refuse, unless, first_of, flushes_of, not_vacant, vacant}
-use Rattle.kernel_rules.specs.CallRelation.{rule_of, change_of}
-use Rattle.kernel_history.specs.Alone.{IsAlone}
-use Rattle.kernel_history.specs.Justified.{IsRemoved, IsUnflushed}
-use Rattle.kernel_history.specs.Stamps.{awaits_flushes, flush_of, flush_stored, stamp}
-use Rattle.kernel_history.specs.Trace.{Step, Trace, Out, Open, phase, state_after, last_left}
-use Rattle.kernel_history.specs.Ways.{flushed_in}
-use Rattle.trace_laws.proofs.AloneCalls.{refused_first, nobody_waits}
-use Rattle.trace_laws.proofs.Awaits.{awaits_are}
-use Rattle.trace_laws.proofs.Carries.{Carries, was_before}
-use Rattle.kernel_history.proofs.Steps.{own_read-there, last_left-there}
-use Rattle.trace_laws.proofs.Waiting.{later_flushed, may_be_unflushed}
-use Rattle.stage_quiet.specs.declared.quiet.Quiet.{Quiet}
-use Rattle.stage_quiet.specs.declared.quiet.Quiet.TheVariants.{AtFlush}
-use Rattle.stage_quiet.specs.Scan.{flush_refuses, scan_end, scan_after, quiet_next, quiet_end, quiet_after}
-use Rattle.call_plans.specs.declared.plans.Plan.{Plan}
-use Rattle.call_plans.specs.PlanOf.{plan_for}
-use Rattle.call_plans.specs.GoesBy.{GoesBy, own_pages}
-use Rattle.call_plans.specs.After.{Leads, LeadsIn, NextFree, rule_after, next_of, NextMay}
-use Rattle.call_plans.proofs.AfterNames.{Begins, left_begins, next_may}
-use Rattle.plan_ways.specs.Laws.{NextRefused}
-use Rattle.plan_ways.proofs.Ways.{asked_left, next_first}
-use Rattle.act_states.specs.declared.refusals.Refusal.TheVariants as refusal
-use Rattle.act_states.specs.declared.work.Act.{Act as ActOf}
-use Rattle.act_states.specs.declared.work.Work.TheVariants.{Scan}
-use Rattle.act_states.specs.declared.work.WorkStep.TheVariants.{Goes}
-use Rattle.act_states.specs.WorkSteps.{refuse}
-use Rattle.act_states.specs.Acts.{stamp_shown, starts}
-use Rattle.call_stages.specs.declared.stages.Stage.TheVariants.{Undecided}
-use Rattle.call_stages.specs.declared.stages.ActiveCall.{ActiveCall}
-use Rattle.call_stages.specs.Fits.{StageFits, CountsAt, HasRoom}
-use Rattle.call_stages.specs.Steps.{landed, took_scan}
-use Rattle.call_stages.specs.View.{Core}
-use Rattle.core_invariant.specs.Holding.{holds_counts}
-use Rattle.core_invariant.specs.Words.{PlaceIs}
-use Rattle.core_invariant.specs.Knows.{HasPassed, HasFlushed, MayFill, KnowsAct, KnowsUndecided}
-use Rattle.core_invariant.specs.Knows.{scanned_for, phase_at, IsSpot, CallIs, goes_on as goes_on_act}
-use Rattle.core_invariant.specs.Invariant.{holds_at, holds_in, Invariant}
-use Rattle.kept_facts.proofs.Calm.{stored_by}
-use Rattle.step_ways.proofs.Flushing.{none_flushing}
-use Rattle.kept_facts.proofs.Carries.{start_pairs, ReadsSame, slot_relies, names_on, act_on}
-use Rattle.step_ways.proofs.Users.{users_kept}
-use Rattle.step_ways.proofs.Loads.{OnlyLooks, step_to, next_at, inner, core_is, call_is, is_active, loads_on, decides_on}
-use Rattle.step_ways.proofs.Places.{IsMarked, IsUnmarked, place_reads}
-use Rattle.step_ways.proofs.Refusals.{GoodTook, not_spent}
-use Rattle.core_invariant.proofs.Sounds.{limits_of}
-use Rattle.count_invariant.proofs.Acquiring.{plan_leads, goes_by}
+use Rattle.place_invariant.proofs.Common.{◌≡◌, ◌≢◌, ◌⊎◌, ℕ, zero, suc, ◌+◌, ◌<◌, ◌≤◌, ◌==◌, cond, nat_lt, nat_le, if◌then◌else◌, Bool}
+use Rattle.place_invariant.proofs.Common.{true, false, [], ◌∷◌, Option, Some, None, IsTrue, inl, inr, arith, refl, sym, ◌∙◌, ap, subst}
+use Rattle.place_invariant.proofs.Common.{IsSomeAnd, list_any, cases_eq, eqb-true, eq-eqb, ltb-true, ltb-false, leb-true, leb-false}
+use Rattle.place_invariant.proofs.Common.{false≢true, Capability, Setting, IsSetting, Call, entry_of_word, flush_of_word, FlushWord}
+use Rattle.place_invariant.proofs.Common.{EntryAt, CountAt, FlushAt, FrameAt, LiveAt, same_word, Move, LoadOf, word_of, Thing, PlaceOf}
+use Rattle.place_invariant.proofs.Common.{State, Slot, Target, place_at, reached, is_paging, same_thing, lowest, unflushed_by}
+use Rattle.place_invariant.proofs.Common.{MayBeUnflushed, is_node, RuleMay, Refused, and_then, or_refuse, unless, first_of, not_vacant}
+use Rattle.place_invariant.proofs.Common.{vacant, rule_of, change_of, IsAlone, IsRemoved, IsUnflushed, awaits_flushes, flush_of}
+use Rattle.place_invariant.proofs.Common.{flush_stored, stamp, Step, Trace, Out, Open, phase, state_after, last_left, flushed_in}
+use Rattle.place_invariant.proofs.Common.{refused_first, nobody_waits, awaits_are, Carries, own_read-there, last_left-there, Quiet}
+use Rattle.place_invariant.proofs.Common.{AtFlush, flush_refuses, scan_end, scan_after, quiet_next, quiet_end, quiet_after, Plan}
+use Rattle.place_invariant.proofs.Common.{plan_for, GoesBy, own_pages, Leads, LeadsIn, NextFree, rule_after, next_of, NextMay, next_may}
+use Rattle.place_invariant.proofs.Common.{Scan, Goes, refuse, stamp_shown, starts, Undecided, ActiveCall, StageFits, CountsAt, HasRoom}
+use Rattle.place_invariant.proofs.Common.{landed, took_scan, Core, holds_counts, PlaceIs, HasFlushed, MayFill, KnowsAct, KnowsUndecided}
+use Rattle.place_invariant.proofs.Common.{phase_at, IsSpot, CallIs, holds_at, holds_in, Invariant, slot_relies, names_on, limits_of}
+use Rattle.std.proofs.Common.{find}
+use Rattle.std.proofs.Common.{IfSome}
+use Rattle.std.specs.List.{range_with_len}
+use Rattle.place_invariant.specs.spk_nums.specs.declared.replies.Reply.TheVariants as reply
+use Rattle.place_invariant.specs.entry_words.specs.declared.entry.Entry.TheVariants as entry
+use Rattle.place_invariant.specs.kernel_rules.specs.Rules.{flushes_of}
+use Rattle.place_invariant.specs.trace_laws.proofs.Carries.{was_before}
+use Rattle.place_invariant.specs.trace_laws.proofs.Waiting.{later_flushed, may_be_unflushed}
+use Rattle.place_invariant.specs.call_plans.proofs.AfterNames.{Begins, left_begins}
+use Rattle.place_invariant.specs.plan_ways.specs.Laws.{NextRefused}
+use Rattle.place_invariant.specs.plan_ways.proofs.Ways.{asked_left, next_first}
+use Rattle.place_invariant.specs.act_states.specs.declared.refusals.Refusal.TheVariants as refusal
+use Rattle.place_invariant.specs.act_states.specs.declared.work.Act.{Act as ActOf}
+use Rattle.place_invariant.specs.core_invariant.specs.Knows.{HasPassed}
+use Rattle.place_invariant.specs.core_invariant.specs.Knows.{scanned_for, goes_on as goes_on_act}
+use Rattle.place_invariant.specs.kept_facts.proofs.Calm.{stored_by}
+use Rattle.place_invariant.specs.step_ways.proofs.Flushing.{none_flushing}
+use Rattle.place_invariant.specs.kept_facts.proofs.Carries.{start_pairs, ReadsSame, act_on}
+use Rattle.place_invariant.specs.step_ways.proofs.Users.{users_kept}
+use Rattle.place_invariant.specs.step_ways.proofs.Loads.{OnlyLooks, step_to, next_at, inner, core_is, call_is, is_active, loads_on}
+use Rattle.place_invariant.specs.step_ways.proofs.Loads.{decides_on}
+use Rattle.place_invariant.specs.step_ways.proofs.Places.{IsMarked, IsUnmarked, place_reads}
+use Rattle.place_invariant.specs.step_ways.proofs.Refusals.{GoodTook, not_spent}
+use Rattle.place_invariant.specs.count_invariant.proofs.Acquiring.{plan_leads, goes_by}
 use Rattle.place_invariant.proofs.Outside.{stands_alone}
 use Rattle.place_invariant.proofs.Paging.{paging_by}
 use Rattle.scan_invariant.proofs.Scans.{IsScanFor, scan_for, asks_for}

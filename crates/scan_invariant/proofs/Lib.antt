@@ -1,3 +1,5 @@
+-- The names that most proofs use.
+pub use Rattle.place_invariant.proofs.Common
 -- Scanning.
 pub mod Scans
 pub mod CoreScans

@@ -1,33 +1,22 @@
 -- A step of a scan for a place that is quiescing is good, whatever it scans and whatever is then done.
-use Rattle.std.proofs.Common.{◌≡◌, ℕ, ◌<◌, ◌≤◌, false, Some, arith, refl, sym, ◌∙◌, ap, subst}
-use Rattle.std.proofs.lemmas.Bool.{false≢true}
-use Rattle.spk_nums.specs.Setting.{Setting, IsSetting}
-use Rattle.entry_words.specs.EntryWord.{entry_of_word}
-use Rattle.word_map.specs.Word.{CoreAt, FlushAt}
-use Rattle.word_map.specs.Moves.{Move, LoadOf, word_of, told_of}
-use Rattle.kernel_rules.specs.State.{PlaceOf}
-use Rattle.kernel_history.specs.Trace.{Trace, last_left}
-use Rattle.stage_quiet.specs.declared.quiet.Quiet.{Quiet}
-use Rattle.stage_quiet.specs.declared.quiet.Quiet.TheVariants.{AtCore, AtFlush}
-use Rattle.stage_quiet.specs.Scan.{quiet_move, quiet_end, quiet_after}
-use Rattle.act_states.specs.declared.work.Act.{Act as ActOf}
-use Rattle.act_states.specs.declared.work.Act.TheVariants.{Fill as fill_act, Remove as remove_act, Retype as type_act}
-use Rattle.act_states.specs.declared.work.Act.TheVariants.{Make as make_act, Outside, Tick as tick_act, Flush as flush_act}
-use Rattle.act_states.specs.declared.work.Act.TheVariants.{Kill as kill_act, Untype as untype_act, Map as map_act}
-use Rattle.act_states.specs.declared.work.Act.TheVariants.{MakeComp as comp_act, Invoke as invoke_act, Return as return_act}
-use Rattle.act_states.specs.declared.work.Act.TheVariants.{Touch as touch_act, Share as share_act, Switch as switch_act}
-use Rattle.act_states.specs.declared.work.Work.TheVariants.{Scan}
-use Rattle.act_states.specs.Acts.{ActFits, stamp_of_act, stamp_shown}
-use Rattle.word_map.specs.Places.{Shape}
-use Rattle.call_stages.specs.declared.stages.Stage.TheVariants.{Undecided}
-use Rattle.call_stages.specs.declared.stages.ActiveCall.{ActiveCall}
-use Rattle.call_stages.specs.Fits.{StageFits}
-use Rattle.call_stages.specs.Steps.{landed, took_scan}
-use Rattle.call_stages.specs.View.{Core}
-use Rattle.core_invariant.specs.Knows.{KnowsAct, KnowsUndecided, NamesAre, IsSpot, phase_at, scanned_for, goes_on}
-use Rattle.core_invariant.specs.Invariant.{Invariant}
-use Rattle.step_ways.proofs.Loads.{is_active}
-use Rattle.step_ways.proofs.Refusals.{GoodTook}
+use Rattle.place_invariant.proofs.Common.{◌≡◌, ℕ, ◌<◌, ◌≤◌, false, Some, arith, refl, sym, ◌∙◌, ap, subst, false≢true, Setting, IsSetting}
+use Rattle.place_invariant.proofs.Common.{entry_of_word, CoreAt, FlushAt, Move, LoadOf, word_of, told_of, PlaceOf, Trace, last_left}
+use Rattle.place_invariant.proofs.Common.{Quiet, AtCore, AtFlush, quiet_move, quiet_end, quiet_after, Outside, Scan, stamp_shown, Shape}
+use Rattle.place_invariant.proofs.Common.{Undecided, ActiveCall, StageFits, landed, took_scan, Core, KnowsAct, KnowsUndecided, NamesAre}
+use Rattle.place_invariant.proofs.Common.{IsSpot, phase_at, goes_on, Invariant}
+use Rattle.place_invariant.specs.act_states.specs.declared.work.Act.{Act as ActOf}
+use Rattle.place_invariant.specs.act_states.specs.declared.work.Act.TheVariants.{Fill as fill_act, Remove as remove_act, Retype as type_act}
+use Rattle.place_invariant.specs.act_states.specs.declared.work.Act.TheVariants.{Make as make_act, Tick as tick_act}
+use Rattle.place_invariant.specs.act_states.specs.declared.work.Act.TheVariants.{Flush as flush_act}
+use Rattle.place_invariant.specs.act_states.specs.declared.work.Act.TheVariants.{Kill as kill_act, Untype as untype_act, Map as map_act}
+use Rattle.place_invariant.specs.act_states.specs.declared.work.Act.TheVariants.{MakeComp as comp_act, Invoke as invoke_act}
+use Rattle.place_invariant.specs.act_states.specs.declared.work.Act.TheVariants.{Return as return_act}
+use Rattle.place_invariant.specs.act_states.specs.declared.work.Act.TheVariants.{Touch as touch_act, Share as share_act}
+use Rattle.place_invariant.specs.act_states.specs.declared.work.Act.TheVariants.{Switch as switch_act}
+use Rattle.place_invariant.specs.act_states.specs.Acts.{ActFits, stamp_of_act}
+use Rattle.place_invariant.specs.core_invariant.specs.Knows.{scanned_for}
+use Rattle.place_invariant.specs.step_ways.proofs.Loads.{is_active}
+use Rattle.place_invariant.specs.step_ways.proofs.Refusals.{GoodTook}
 use Rattle.scan_invariant.proofs.CoreScans.{core_good}
 use Rattle.scan_invariant.proofs.FlushScans.{flush_good}
 use Rattle.place_invariant.proofs.Outside.{refused_outside}

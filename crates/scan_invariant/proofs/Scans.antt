@@ -1,30 +1,19 @@
 -- The scan for a place that is quiescing: a step of it is refused by a core that may still use what was removed, or goes on to the next
 -- core, or to the counts of the act.
-use Rattle.stage_quiet.specs.declared.quiet.Quiet.TheVariants.{AtCore, AtFlush}
-use Rattle.stage_quiet.specs.declared.quiet.Quiet.{Quiet}
-use Rattle.std.proofs.Common.{◌≡◌, ◌≢◌, ◌⊎◌, ℕ, ◌+◌, ◌<◌, ◌≤◌, ◌==◌, nat_lt, if◌then◌else◌, Bool, true, false, Option}
-use Rattle.std.proofs.Common.{Some, None, inl, inr, arith, refl, sym, ◌∙◌, ap, ◌&&◌, ◌++◌, subst, IsTrue, List}
-use Rattle.std.proofs.lemmas.Bool.{false≢true, cases_eq, eq-eqb, eqb-true, eqb-false, ltb-true, ltb-false, leb-true, leb-false}
-use Rattle.entry_words.specs.declared.entry.Entry.{Entry}
-use Rattle.entry_words.specs.declared.entry.Entry.TheVariants as entry
-use Rattle.kernel_rules.specs.State.{Place, Free, Holds, Quiescing, Thing, PlaceOf, State}
-use Rattle.kernel_history.specs.Justified.{IsRemovedPlace}
-use Rattle.stage_quiet.specs.Scan.{first_other, next_other, core_scan, quiet_scan}
+use Rattle.place_invariant.proofs.Common.{AtCore, AtFlush, Quiet, ◌≡◌, ◌≢◌, ◌⊎◌, ℕ, ◌+◌, ◌<◌, ◌≤◌, ◌==◌, nat_lt, if◌then◌else◌, Bool}
+use Rattle.place_invariant.proofs.Common.{true, false, Option, Some, None, inl, inr, arith, refl, sym, ◌∙◌, ap, ◌&&◌, ◌++◌, subst, IsTrue}
+use Rattle.place_invariant.proofs.Common.{List, false≢true, cases_eq, eq-eqb, eqb-true, eqb-false, ltb-true, ltb-false, leb-true}
+use Rattle.place_invariant.proofs.Common.{leb-false, Entry, Place, Free, Holds, Quiescing, Thing, PlaceOf, State, next_other, core_scan}
+use Rattle.place_invariant.proofs.Common.{quiet_scan, list_any, Setting, Slot, Target, reached, same_thing, Rule, Cause, Trace, asked_of}
+use Rattle.place_invariant.proofs.Common.{NextFree, stamp_shown, PlaceIs, IsScanned, MayFill}
+use Rattle.place_invariant.specs.entry_words.specs.declared.entry.Entry.TheVariants as entry
+use Rattle.place_invariant.specs.kernel_history.specs.Justified.{IsRemovedPlace}
+use Rattle.place_invariant.specs.stage_quiet.specs.Scan.{first_other}
 use Rattle.std.specs.Prelude.{◌||◌}
-use Rattle.std.specs.List.{list_any}
-use Rattle.spk_nums.specs.Setting.{Setting}
-use Rattle.kernel_rules.specs.Access.{Slot, Target, reached}
-use Rattle.kernel_rules.specs.GracePeriods.{same_thing}
-use Rattle.kernel_rules.specs.Rules.{Rule, Cause}
-use Rattle.kernel_rules.specs.Rules as rules
-use Rattle.kernel_history.specs.Trace.{Trace}
-use Rattle.kernel_history.specs.Ways.{thing_at, asked_of}
-use Rattle.call_plans.specs.GoesBy.{OwnPages}
-use Rattle.call_plans.specs.After.{NextFree}
-use Rattle.call_plans.proofs.AfterNames.{Begins}
-use Rattle.act_states.specs.Acts.{stamp_shown}
-use Rattle.core_invariant.specs.Words.{PlaceIs}
-use Rattle.core_invariant.specs.Knows.{IsScanned, MayFill}
+use Rattle.place_invariant.specs.kernel_rules.specs.Rules as rules
+use Rattle.place_invariant.specs.kernel_history.specs.Ways.{thing_at}
+use Rattle.place_invariant.specs.call_plans.specs.GoesBy.{OwnPages}
+use Rattle.place_invariant.specs.call_plans.proofs.AfterNames.{Begins}
 
 -- The cores before the first of a scan, and before the next: all but the one that scans are passed.
 pub before_first : (c d : ℕ) → d < first_other c → d ≢ c → ⊥

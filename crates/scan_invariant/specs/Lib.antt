@@ -1,0 +1,27 @@
+-- What the crates above name through this one.
+pub use Rattle.place_invariant.specs.spk_nums
+pub use Rattle.place_invariant.specs.entry_words
+pub use Rattle.place_invariant.specs.frame_words
+pub use Rattle.place_invariant.specs.tcap_words
+pub use Rattle.place_invariant.specs.word_map
+pub use Rattle.place_invariant.specs.kernel_rules
+pub use Rattle.place_invariant.specs.kernel_invariant
+pub use Rattle.place_invariant.specs.found_stays
+pub use Rattle.place_invariant.specs.kernel_history
+pub use Rattle.place_invariant.specs.trace_laws
+pub use Rattle.place_invariant.specs.call_plans
+pub use Rattle.place_invariant.specs.stage_look
+pub use Rattle.place_invariant.specs.stage_pins
+pub use Rattle.place_invariant.specs.stage_quiet
+pub use Rattle.place_invariant.specs.stage_thread
+pub use Rattle.place_invariant.specs.stage_sweep
+pub use Rattle.place_invariant.specs.stage_tcap
+pub use Rattle.place_invariant.specs.plan_ways
+pub use Rattle.place_invariant.specs.act_states
+pub use Rattle.place_invariant.specs.call_stages
+pub use Rattle.place_invariant.specs.act_fits
+pub use Rattle.place_invariant.specs.core_invariant
+pub use Rattle.place_invariant.specs.kept_facts
+pub use Rattle.place_invariant.specs.step_ways
+pub use Rattle.place_invariant.specs.count_invariant
+pub use Rattle.place_invariant

@@ -3,6 +3,7 @@ pub mod Numerals
 pub mod Arguments
 pub mod FirstWords
 pub mod CallLines
+pub mod OneLine
 pub mod Heads
 pub mod Orders
 pub mod Readings

@@ -61,7 +61,7 @@ pub enum ReadFault {
     Memory,
 }
 
-/// Why a line was not taken.
+/// Why a line, or a call by itself, was not taken: its first fault, or that memory has run out.
 #[derive(Clone, Copy, Debug, PartialEq, Eq)]
 pub enum LineFault {
     Cause(Cause),

@@ -11,11 +11,13 @@ mod first_words;
 mod head;
 mod items;
 mod numerals;
+mod one_line;
 mod reading;
 
-pub use cause::{Cause, ReadFault};
+pub use cause::{Cause, LineFault, ReadFault};
 pub use items::MOST_ITEMS;
 pub use numerals::read_number;
+pub use one_line::read_call;
 pub use reading::{Script, read};
 pub use spk_nums::{How, Item};
 

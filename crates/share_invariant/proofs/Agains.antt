@@ -1,46 +1,27 @@
 -- The second load of the head of the second of two temporal capabilities: it has changed, or it is as it was read, and the call is decided.
-use Rattle.std.proofs.Common.{◌≡◌, inl, inr, ℕ, ◌<◌, ◌≤◌, ◌==◌, not, nat_lt, nat_le, Bool, true, false, if◌then◌else◌}
-use Rattle.std.proofs.Common.{List, [], ◌∷◌, length, Option, Some, None, arith, refl, sym, ◌∙◌, ap, subst}
-use Rattle.std.proofs.lemmas.Bool.{eq-eqb, eqb-true, eqb-false, le-ltb, leb-false, lt-ltb}
-use Rattle.spk_nums.specs.Setting.{Setting, IsSetting}
-use Rattle.spk_nums.specs.Merging.{preempts_by}
-use Rattle.spk_nums.specs.declared.replies.Reply.{Reply}
-use Rattle.spk_nums.specs.declared.replies.Reply.TheVariants as reply
-use Rattle.spk_nums.specs.declared.replies.Value.{Value}
-use Rattle.spk_nums.specs.declared.replies.Value.TheVariants as value
-use Rattle.tcap_words.specs.Head.{word_of_head}
-use Rattle.word_map.specs.Word.{Word, EntryAt}
-use Rattle.word_map.specs.Moves.{LoadOf}
-use Rattle.kernel_rules.specs.State.{State}
-use Rattle.kernel_rules.specs.Access.{found as named_by}
-use Rattle.kernel_rules.specs.Rules.{Found, Refused, Does, RuleMay, IsFoundAnd, unless, first_of, first_cause, answers}
-use Rattle.kernel_rules.specs.TimeCalls.{tcap_at, is_short, are_unlike, are_alike, are_many, merged_list, preemption, preempts}
-use Rattle.kernel_rules.specs.CallRelation.{rule_of, change_of, changed, counted, MayReply, begins_in as begun_by, are_calls_spent}
-use Rattle.kernel_history.specs.Justified.{HasRacedHead, IsRaceLost}
-use Rattle.kernel_history.specs.Trace.{Step, Trace, state_after, last_left}
-use Rattle.trace_laws.proofs.AloneCalls.{ok_first, refused_first}
-use Rattle.kernel_history.proofs.Laws.{not_changed}
-use Rattle.stage_tcap.specs.Lists.{in_order, same_list, merge_of, merged_if}
-use Rattle.stage_tcap.specs.Pairs.{again_end, again_value, value_of, by_alike, by_room, judged, whole_b}
-use Rattle.spk_nums.specs.declared.steps.StageEnd.TheVariants as ends
-use Rattle.stage_tcap.specs.declared.pair.Pair.{Pair}
-use Rattle.stage_tcap.specs.declared.pair.PairAt.TheVariants.{CompareB, AgainB, StoreA}
-use Rattle.stage_tcap.specs.declared.pair.PairWork.{PairWork}
-use Rattle.stage_tcap.specs.declared.pair.PairWork.TheVariants.{Transfer, Delegate, Test}
-use Rattle.act_states.specs.declared.work.Act.TheVariants.{Share as share_act}
-use Rattle.act_states.specs.declared.work.Work.TheVariants.{Act}
-use Rattle.act_states.specs.Shares.{took_shared, took_share}
-use Rattle.call_stages.specs.declared.stages.Stage.TheVariants.{Undecided}
-use Rattle.call_stages.specs.declared.stages.ActiveCall.{ActiveCall}
-use Rattle.call_stages.specs.Steps.{landed}
-use Rattle.call_stages.specs.View.{Core}
-use Rattle.core_invariant.specs.Holding.{holds_counts}
-use Rattle.core_invariant.specs.Knows.{KnowsUndecided}
-use Rattle.core_invariant.specs.Shares.{HasBoth}
-use Rattle.core_invariant.specs.Invariant.{holds_in, holds_head, Invariant}
-use Rattle.step_ways.proofs.Loads.{OnlyLooks, core_is, inner}
-use Rattle.step_ways.proofs.Refusals.{GoodTook, not_spent}
-use Rattle.kept_facts.proofs.Tcaps.{TcapOf}
+use Rattle.pair_invariant.proofs.Common.{◌≡◌, inl, inr, ℕ, ◌<◌, ◌≤◌, ◌==◌, not, nat_lt, nat_le, Bool, true, false, if◌then◌else◌, List}
+use Rattle.pair_invariant.proofs.Common.{[], ◌∷◌, length, Option, Some, None, arith, refl, sym, ◌∙◌, ap, subst, eq-eqb, eqb-true}
+use Rattle.pair_invariant.proofs.Common.{eqb-false, le-ltb, leb-false, lt-ltb, Setting, IsSetting, Reply, Value, word_of_head, Word}
+use Rattle.pair_invariant.proofs.Common.{EntryAt, LoadOf, State, Found, Refused, Does, RuleMay, IsFoundAnd, unless, first_of, first_cause}
+use Rattle.pair_invariant.proofs.Common.{answers, tcap_at, is_short, are_unlike, are_many, rule_of, change_of, changed, counted, MayReply}
+use Rattle.pair_invariant.proofs.Common.{are_calls_spent, HasRacedHead, IsRaceLost, Step, Trace, state_after, last_left, ok_first}
+use Rattle.pair_invariant.proofs.Common.{refused_first, not_changed, in_order, same_list, again_end, by_alike, by_room, judged, Pair}
+use Rattle.pair_invariant.proofs.Common.{CompareB, AgainB, StoreA, PairWork, Act, took_shared, took_share, Undecided, ActiveCall, landed}
+use Rattle.pair_invariant.proofs.Common.{Core, holds_counts, KnowsUndecided, HasBoth, holds_in, holds_head, Invariant, TcapOf, amount_of}
+use Rattle.pair_invariant.specs.spk_nums.specs.Merging.{preempts_by}
+use Rattle.pair_invariant.specs.spk_nums.specs.declared.replies.Reply.TheVariants as reply
+use Rattle.pair_invariant.specs.spk_nums.specs.declared.replies.Value.TheVariants as value
+use Rattle.pair_invariant.specs.kernel_rules.specs.Access.{found as named_by}
+use Rattle.pair_invariant.specs.kernel_rules.specs.TimeCalls.{are_alike, merged_list}
+use Rattle.pair_invariant.specs.kernel_rules.specs.TimeCalls.{preemption, preempts}
+use Rattle.pair_invariant.specs.kernel_rules.specs.CallRelation.{begins_in as begun_by}
+use Rattle.pair_invariant.specs.stage_tcap.specs.Lists.{merge_of, merged_if}
+use Rattle.pair_invariant.specs.stage_tcap.specs.Pairs.{again_value, value_of, whole_b}
+use Rattle.pair_invariant.specs.spk_nums.specs.declared.steps.StageEnd.TheVariants as ends
+use Rattle.pair_invariant.specs.stage_tcap.specs.declared.pair.PairWork.TheVariants.{Transfer, Delegate, Test}
+use Rattle.pair_invariant.specs.act_states.specs.declared.work.Act.TheVariants.{Share as share_act}
+use Rattle.pair_invariant.specs.step_ways.proofs.Loads.{OnlyLooks, core_is, inner}
+use Rattle.pair_invariant.specs.step_ways.proofs.Refusals.{GoodTook, not_spent}
 use Rattle.pair_invariant.proofs.HeadsB.{owes_share}
 use Rattle.pair_invariant.proofs.ListsKnown as known
 use Rattle.pair_invariant.proofs.ListsKnown.{AreRead, same_alike, all_gone}
@@ -156,7 +137,7 @@ module _ (setup : Setting) (setting : IsSetting setup) (cores : ℕ → Core) (t
       not_short : nat_lt (tcap_at s is.a.frame).budget m ≡ false
       not_short = ap (λ (f : ℕ). nat_lt (tcap_at s f).budget m) (sym is.shared.first)
           ∙ ap (λ (n : ℕ). nat_lt n m) (sym read.budget_a)
-          ∙ le-ltb p.head_a.budget m (subst (λ w. Rattle.stage_tcap.specs.Pairs.amount_of w ≤ p.head_a.budget) what_is both.a.enough)
+          ∙ le-ltb p.head_a.budget m (subst (λ w. amount_of w ≤ p.head_a.budget) what_is both.a.enough)
 
       may_unlike : RuleMay s c
           (Does (causes_of s (Transfer m) (named_by is.a) (named_by is.b)) (change_by s (Transfer m) is.a.frame is.b.frame))
@@ -206,7 +187,7 @@ module _ (setup : Setting) (setting : IsSetting setup) (cores : ℕ → Core) (t
       is_enough : nat_lt (tcap_at s is.a.frame).budget m ≡ false
       is_enough = ap (λ (f : ℕ). nat_lt (tcap_at s f).budget m) (sym is.shared.first)
           ∙ ap (λ (n : ℕ). nat_lt n m) (sym read.budget_a)
-          ∙ le-ltb p.head_a.budget m (subst (λ w. Rattle.stage_tcap.specs.Pairs.amount_of w ≤ p.head_a.budget) what_is both.a.enough)
+          ∙ le-ltb p.head_a.budget m (subst (λ w. amount_of w ≤ p.head_a.budget) what_is both.a.enough)
 
       may_many : RuleMay s c
           (Does (causes_of s (Delegate m) (named_by is.a) (named_by is.b)) (change_by s (Delegate m) is.a.frame is.b.frame))

@@ -1,47 +1,22 @@
 -- The compare of the head of the second of two temporal capabilities: it is lost, and the first is given back; and what the call knows of
 -- both where it is won.
-use Rattle.std.proofs.Common.{◌≡◌, inl, inr, ℕ, ◌+◌, ◌-◌, ◌<◌, ◌≤◌, ◌^◌, ◌==◌, Bool, true, false}
-use Rattle.std.proofs.Common.{if◌then◌else◌, List, length, Some, None, arith, refl, sym, ◌∙◌, ap, subst}
-use Rattle.std.specs.Prelude.{min}
-use Rattle.std.proofs.lemmas.Bool.{eq-eqb, eqb-true, eqb-false, false≢true}
-use Rattle.spk_nums.specs.Setting.{Setting, IsSetting}
-use Rattle.spk_nums.specs.WordSteps.{left_if}
-use Rattle.spk_nums.specs.declared.replies.Reply.TheVariants as reply
-use Rattle.spk_nums.specs.declared.replies.Value.TheVariants as value
-use Rattle.tcap_words.specs.Head.{HeadFits, word_of_head, head_of_word}
-use Rattle.tcap_words.proofs.HeadLemmas.{spelling}
-use Rattle.word_map.specs.Word.{Word, EntryAt, CountAt, same_word}
-use Rattle.word_map.specs.Moves.{Move, CompareOf, left_of}
-use Rattle.word_map.proofs.WordLemmas.{same_word-true}
-use Rattle.kernel_rules.specs.State.{TcapFields, State, tcap_in}
-use Rattle.kernel_rules.specs.TimeCalls.{tcap_at}
-use Rattle.kernel_rules.specs.CallRelation.{rule_of, counted}
-use Rattle.kernel_history.specs.Discipline.{changes_in_frame}
-use Rattle.kernel_history.specs.Justified.{HasRacedHead, IsRaceLost}
-use Rattle.kernel_history.specs.Marking.{marked_by}
-use Rattle.kernel_history.specs.Trace.{Step, Trace, state_after, last_left}
-use Rattle.kernel_history.proofs.Laws.{not_changed}
-use Rattle.stage_tcap.specs.Heads.{raised, debited, credited}
-use Rattle.stage_tcap.specs.Pairs.{PairFits, amount_of, next_b, again_end, giving_back}
-use Rattle.stage_tcap.specs.declared.pair.Pair.{Pair}
-use Rattle.stage_tcap.specs.declared.pair.PairAt.TheVariants.{CompareB}
-use Rattle.act_states.specs.declared.work.Act.TheVariants.{Share as share_act}
-use Rattle.act_states.specs.declared.work.Work.TheVariants.{Act}
-use Rattle.act_states.specs.Shares.{took_shared}
-use Rattle.call_stages.specs.declared.stages.Stage.TheVariants.{Undecided}
-use Rattle.call_stages.specs.declared.stages.ActiveCall.{ActiveCall}
-use Rattle.call_stages.specs.Steps.{landed}
-use Rattle.call_stages.specs.View.{Core}
-use Rattle.core_invariant.specs.Holding.{holds_counts}
-use Rattle.core_invariant.specs.Knows.{KnowsUndecided}
-use Rattle.core_invariant.specs.Shares.{HasBoth}
-use Rattle.core_invariant.specs.Invariant.{holds_in, holds_head, Invariant}
-use Rattle.core_invariant.specs.Words.{HeadIs, count_room}
-use Rattle.step_ways.proofs.Loads.{IsOfCall, core_is, inner}
-use Rattle.step_ways.proofs.Refusals.{GoodTook, not_spent}
-use Rattle.core_invariant.proofs.Sounds.{limits_of}
-use Rattle.kept_facts.proofs.Tcaps.{TcapOf}
-use Rattle.step_ways.proofs.Writes.{room_left}
+use Rattle.pair_invariant.proofs.Common.{◌≡◌, inl, inr, ℕ, ◌+◌, ◌-◌, ◌<◌, ◌≤◌, ◌^◌, ◌==◌, Bool, true, false, if◌then◌else◌, List, length}
+use Rattle.pair_invariant.proofs.Common.{Some, None, arith, refl, sym, ◌∙◌, ap, subst, min, eq-eqb, eqb-true, eqb-false, false≢true}
+use Rattle.pair_invariant.proofs.Common.{Setting, IsSetting, left_if, HeadFits, word_of_head, head_of_word, spelling, Word, EntryAt}
+use Rattle.pair_invariant.proofs.Common.{CountAt, same_word, Move, CompareOf, left_of, TcapFields, State, tcap_in, tcap_at, rule_of}
+use Rattle.pair_invariant.proofs.Common.{counted, changes_in_frame, HasRacedHead, IsRaceLost, marked_by, Step, Trace, state_after}
+use Rattle.pair_invariant.proofs.Common.{last_left, not_changed, debited, credited, amount_of, again_end, giving_back, Pair, CompareB}
+use Rattle.pair_invariant.proofs.Common.{Act, took_shared, Undecided, ActiveCall, landed, Core, holds_counts, KnowsUndecided, HasBoth}
+use Rattle.pair_invariant.proofs.Common.{holds_in, holds_head, Invariant, HeadIs, count_room, limits_of, TcapOf}
+use Rattle.pair_invariant.specs.spk_nums.specs.declared.replies.Reply.TheVariants as reply
+use Rattle.pair_invariant.specs.spk_nums.specs.declared.replies.Value.TheVariants as value
+use Rattle.pair_invariant.specs.word_map.proofs.WordLemmas.{same_word-true}
+use Rattle.pair_invariant.specs.stage_tcap.specs.Heads.{raised}
+use Rattle.pair_invariant.specs.stage_tcap.specs.Pairs.{PairFits, next_b}
+use Rattle.pair_invariant.specs.act_states.specs.declared.work.Act.TheVariants.{Share as share_act}
+use Rattle.pair_invariant.specs.step_ways.proofs.Loads.{IsOfCall, core_is, inner}
+use Rattle.pair_invariant.specs.step_ways.proofs.Refusals.{GoodTook, not_spent}
+use Rattle.pair_invariant.specs.step_ways.proofs.Writes.{room_left}
 use Rattle.pair_invariant.proofs.HeadsB.{owes_share}
 use Rattle.pair_invariant.proofs.ListsKnown as known
 use Rattle.pair_invariant.proofs.ListsKnown.{AreRead}

@@ -1,56 +1,31 @@
 -- The compare of the head of the second of two temporal capabilities: it carries out a transfer, or is lost.
-use Rattle.std.proofs.Common.{◌≡◌, ◌≢◌, inl, inr, ℕ, ◌+◌, ◌-◌, ◌<◌, ◌≤◌, ◌^◌, ◌==◌, not, nat_lt, Bool, true}
-use Rattle.std.proofs.Common.{false, if◌then◌else◌, [], ◌∷◌, Some, None, arith, refl, sym, ◌∙◌, ap, subst}
-use Rattle.std.proofs.lemmas.Bool.{le-ltb}
-use Rattle.spk_nums.specs.Setting.{Setting, IsSetting}
-use Rattle.spk_nums.specs.declared.replies.Reply.TheVariants as reply
-use Rattle.spk_nums.specs.declared.replies.Value.TheVariants as value
-use Rattle.tcap_words.specs.Head.{HeadFits, word_of_head, head_of_word}
-use Rattle.tcap_words.specs.declared.head_word.HeadWord.{HeadWord}
-use Rattle.tcap_words.proofs.HeadLemmas.{spelling}
-use Rattle.word_map.specs.Word.{Word, EntryAt, CountAt, same_word}
-use Rattle.word_map.specs.Moves.{Move, CompareOf, left_of}
-use Rattle.word_map.proofs.WordLemmas.{same_same}
-use Rattle.kernel_rules.specs.State.{Kernel, Tcap, TcapFields, PlaceOf, FrameOf, State, put, tcap_in}
-use Rattle.kernel_rules.specs.Access.{found as named_by}
-use Rattle.kernel_rules.specs.Rules.{Found, IsFoundAnd, unless, first_of, first_cause, leaves}
-use Rattle.kernel_rules.specs.TimeCalls.{tcap_at, moved, is_short, are_unlike, are_alike}
-use Rattle.kernel_rules.specs.CallRelation.{change_of, changed, counted, MayReply, begins_in as begun_by}
-use Rattle.kernel_history.specs.Marks.{mark_of, head_mark}
-use Rattle.kernel_history.specs.Marking.{marked_by}
-use Rattle.kernel_history.specs.Stamps.{begins_in, ends_in, flushes_in, stamp}
-use Rattle.kernel_history.specs.Trace.{Step, Trace, Open, phase, state_after, last_left, state_decided_in}
-use Rattle.trace_laws.proofs.AloneCalls.{ok_first}
-use Rattle.stage_tcap.specs.Heads.{debited, credited}
-use Rattle.stage_tcap.specs.Lists.{in_order, same_list}
-use Rattle.stage_tcap.specs.Pairs.{again_end, compared_after, by_alike}
-use Rattle.stage_tcap.specs.declared.pair.Pair.{Pair}
-use Rattle.stage_tcap.specs.declared.pair.PairAt.TheVariants.{CompareB, AgainB, StoreA}
-use Rattle.stage_tcap.specs.declared.pair.PairWork.TheVariants.{Transfer}
-use Rattle.act_states.specs.declared.work.Act.TheVariants.{Share as share_act}
-use Rattle.act_states.specs.declared.work.Work.TheVariants.{Act}
-use Rattle.act_states.specs.declared.work.Tail.TheVariants.{Share as share_tail}
-use Rattle.act_states.specs.Shares.{took_shared, took_share}
-use Rattle.call_stages.specs.declared.stages.Stage.{Stage}
-use Rattle.call_stages.specs.declared.stages.Stage.TheVariants.{Undecided, Decided}
-use Rattle.call_stages.specs.declared.stages.ActiveCall.{ActiveCall}
-use Rattle.call_stages.specs.Steps.{landed}
-use Rattle.call_stages.specs.View.{Core}
-use Rattle.core_invariant.specs.Holding.{holds_counts}
-use Rattle.core_invariant.specs.Knows.{KnowsUndecided}
-use Rattle.core_invariant.specs.Shares.{list_changed, TurnsHead, SparesTcap, HasTcap, HasBoth}
-use Rattle.core_invariant.specs.Invariant.{holds_at, holds_in, holds_head, holds, held_by, times_of, Invariant}
-use Rattle.core_invariant.specs.Words.{IsFrameWord, WordIs, count_room}
-use Rattle.core_invariant.proofs.Bare.{counts_bare}
-use Rattle.kept_facts.proofs.Calm.{IsUntimed, plain_begins}
-use Rattle.kept_facts.proofs.Lent.{unlent_head_word}
-use Rattle.step_ways.proofs.Loads.{next_at, core_in_call, core_is, inner}
-use Rattle.step_ways.proofs.Refusals.{GoodTook, not_spent}
-use Rattle.kept_facts.proofs.Sums.{sums_keep}
-use Rattle.kept_facts.proofs.Tcaps.{TcapOf}
-use Rattle.step_ways.proofs.Users.{spares_none}
-use Rattle.kept_facts.proofs.WordFrames.{ReadsAlike, StaysSaid, others_settled}
-use Rattle.step_ways.proofs.Writes.{same_marks, decides_writing}
+use Rattle.pair_invariant.proofs.Common.{◌≡◌, ◌≢◌, inl, inr, ℕ, ◌+◌, ◌-◌, ◌<◌, ◌≤◌, ◌^◌, ◌==◌, not, nat_lt, Bool, true, false}
+use Rattle.pair_invariant.proofs.Common.{if◌then◌else◌, [], ◌∷◌, Some, None, arith, refl, sym, ◌∙◌, ap, subst, le-ltb, Setting, IsSetting}
+use Rattle.pair_invariant.proofs.Common.{HeadFits, word_of_head, head_of_word, HeadWord, spelling, Word, EntryAt, CountAt, same_word}
+use Rattle.pair_invariant.proofs.Common.{Move, CompareOf, left_of, same_same, Kernel, Tcap, TcapFields, PlaceOf, FrameOf, State, put}
+use Rattle.pair_invariant.proofs.Common.{tcap_in, Found, IsFoundAnd, unless, first_of, first_cause, leaves, tcap_at, moved, is_short}
+use Rattle.pair_invariant.proofs.Common.{are_unlike, change_of, changed, counted, MayReply, mark_of, head_mark, marked_by, ends_in}
+use Rattle.pair_invariant.proofs.Common.{flushes_in, stamp, Step, Trace, Open, phase, state_after, last_left, state_decided_in, ok_first}
+use Rattle.pair_invariant.proofs.Common.{debited, credited, in_order, same_list, again_end, by_alike, Pair, CompareB, AgainB, StoreA, Act}
+use Rattle.pair_invariant.proofs.Common.{took_shared, took_share, Stage, Undecided, Decided, ActiveCall, landed, Core, holds_counts}
+use Rattle.pair_invariant.proofs.Common.{KnowsUndecided, list_changed, TurnsHead, SparesTcap, HasTcap, HasBoth, holds_at, holds_in}
+use Rattle.pair_invariant.proofs.Common.{holds_head, holds, held_by, times_of, Invariant, IsFrameWord, WordIs, count_room, counts_bare}
+use Rattle.pair_invariant.proofs.Common.{IsUntimed, plain_begins, unlent_head_word, sums_keep, TcapOf, ReadsAlike, StaysSaid}
+use Rattle.pair_invariant.proofs.Common.{others_settled, phase_at}
+use Rattle.pair_invariant.specs.spk_nums.specs.declared.replies.Reply.TheVariants as reply
+use Rattle.pair_invariant.specs.spk_nums.specs.declared.replies.Value.TheVariants as value
+use Rattle.pair_invariant.specs.kernel_rules.specs.Access.{found as named_by}
+use Rattle.pair_invariant.specs.kernel_rules.specs.TimeCalls.{are_alike}
+use Rattle.pair_invariant.specs.kernel_rules.specs.CallRelation.{begins_in as begun_by}
+use Rattle.pair_invariant.specs.kernel_history.specs.Stamps.{begins_in}
+use Rattle.pair_invariant.specs.stage_tcap.specs.Pairs.{compared_after}
+use Rattle.pair_invariant.specs.stage_tcap.specs.declared.pair.PairWork.TheVariants.{Transfer}
+use Rattle.pair_invariant.specs.act_states.specs.declared.work.Act.TheVariants.{Share as share_act}
+use Rattle.pair_invariant.specs.act_states.specs.declared.work.Tail.TheVariants.{Share as share_tail}
+use Rattle.pair_invariant.specs.step_ways.proofs.Loads.{next_at, core_in_call, core_is, inner}
+use Rattle.pair_invariant.specs.step_ways.proofs.Refusals.{GoodTook, not_spent}
+use Rattle.pair_invariant.specs.step_ways.proofs.Users.{spares_none}
+use Rattle.pair_invariant.specs.step_ways.proofs.Writes.{same_marks, decides_writing}
 use Rattle.share_invariant.proofs.Compared as compared
 use Rattle.pair_invariant.proofs.ListsKnown as known
 use Rattle.pair_invariant.proofs.ListsKnown.{AreRead, same_alike, all_gone}
@@ -117,7 +92,7 @@ module _ (setup : Setting) (setting : IsSetting setup) (cores : ℕ → Core) (t
   room : (cores c).own.made < (cores c).own.limit
   room = calls.room setup setting cores t stands c here a active now_p stage_is has
 
-  opens : Rattle.core_invariant.specs.Knows.phase_at a.call a.stage ≡ Open a.call
+  opens : phase_at a.call a.stage ≡ Open a.call
   opens = calls.opens setup setting cores t stands c here a active now_p stage_is has
 
   is_open : phase t c ≡ Open a.call

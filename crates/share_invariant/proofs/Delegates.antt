@@ -1,69 +1,44 @@
 -- The compare of the head of the second of two temporal capabilities carries out a delegation: it marks that head, and the call has
 -- still to store the merged list and both heads.
-use Rattle.std.proofs.Common.{◌≡◌, ◌≢◌, inl, inr, ℕ, zero, suc, ◌+◌, ◌-◌, ◌<◌, ◌≤◌, ◌^◌, ◌==◌, ◌&&◌, nat_lt, nat_le, Bool, true, false}
-use Rattle.std.proofs.Common.{if◌then◌else◌, List, [], ◌∷◌, length, slice_get, Option, Some, None, arith, refl, sym, ◌∙◌, ap, subst}
-use Rattle.std.proofs.lemmas.Bool.{and_parts, and_from, eq-eqb, eqb-true, le-leb, leb-true, le-ltb}
-use Rattle.spk_nums.specs.Setting.{Setting, IsSetting}
-use Rattle.spk_nums.specs.Merging.{merged}
-use Rattle.spk_nums.specs.Qualities.{IsQualityList}
-use Rattle.spk_nums.specs.declared.replies.Reply.TheVariants as reply
-use Rattle.spk_nums.specs.declared.replies.Value.TheVariants as value
-use Rattle.tcap_words.specs.Head.{HeadFits, word_of_head, head_of_word}
-use Rattle.tcap_words.specs.Quality.{QualityFits, word_of_quality, quality_of_word}
-use Rattle.tcap_words.specs.declared.head_word.HeadWord.{HeadWord}
-use Rattle.tcap_words.proofs.HeadLemmas.{spelling}
-use Rattle.tcap_words.proofs.QualityLemmas as qualities
-use Rattle.word_map.specs.Word.{Word, EntryAt, CountAt, same_word}
-use Rattle.word_map.specs.Moves.{Move, CompareOf, left_of}
-use Rattle.word_map.proofs.WordLemmas.{same_same}
-use Rattle.kernel_rules.specs.State.{Kernel, Tcap, TcapFields, PlaceOf, FrameOf, State, put, tcap_in}
-use Rattle.kernel_rules.specs.Access.{found as named_by}
-use Rattle.kernel_rules.specs.Rules.{Found, IsFoundAnd, unless, first_of, first_cause, leaves}
-use Rattle.kernel_rules.specs.TimeCalls.{tcap_at, with_qualities, moved, merged_list, is_short, are_many}
-use Rattle.kernel_rules.specs.CallRelation.{change_of, changed, counted, MayReply, begins_in as begun_by}
-use Rattle.kernel_laws.proofs.Lists.{merged_list_is}
-use Rattle.kernel_history.specs.Footprint.{IsNearIn}
-use Rattle.kernel_history.specs.Marks.{mark_of, head_mark}
-use Rattle.kernel_history.specs.Marking.{marked_by}
-use Rattle.kernel_history.specs.Stamps.{begins_in, ends_in, flushes_in, stamp}
-use Rattle.kernel_history.specs.Trace.{Step, Trace, Open, phase, state_after, last_left, state_decided_in, WasAt}
-use Rattle.trace_laws.proofs.AloneCalls.{ok_first}
-use Rattle.trace_laws.proofs.Carries.{was_stays}
-use Rattle.kernel_history.proofs.Names.{cases_word, same_word-other}
-use Rattle.kernel_history.proofs.Steps.{last_left-here, last_left-there}
-use Rattle.stage_tcap.specs.Heads.{marked, debited, credited}
-use Rattle.stage_tcap.specs.Lists.{in_order, merged_if, merge_of}
-use Rattle.stage_tcap.specs.Pairs.{word_of_list, again_end, by_room, compared_after}
-use Rattle.stage_tcap.proofs.ListLemmas.{got_pair, pair_in_word}
-use Rattle.stage_tcap.specs.declared.pair.Pair.{Pair}
-use Rattle.stage_tcap.specs.declared.pair.PairAt.TheVariants.{CompareB, AgainB, StoreList}
-use Rattle.stage_tcap.specs.declared.pair.PairWork.TheVariants.{Delegate}
-use Rattle.act_states.specs.declared.work.Act.TheVariants.{Share as share_act}
-use Rattle.act_states.specs.declared.work.Work.TheVariants.{Act}
-use Rattle.act_states.specs.declared.work.Tail.TheVariants.{Share as share_tail}
-use Rattle.act_states.specs.Shares.{took_shared, took_share}
-use Rattle.call_stages.specs.declared.stages.Stage.{Stage}
-use Rattle.call_stages.specs.declared.stages.Stage.TheVariants.{Undecided, Decided}
-use Rattle.call_stages.specs.declared.stages.ActiveCall.{ActiveCall}
-use Rattle.call_stages.specs.Steps.{landed}
-use Rattle.call_stages.specs.View.{Core}
-use Rattle.core_invariant.specs.Holding.{holds_counts, settled, MarkIs}
-use Rattle.core_invariant.specs.Knows.{KnowsUndecided}
-use Rattle.core_invariant.specs.Shares.{list_changed, TurnsHead, SparesTcap, HasTcap, HasBoth, StoresA, KnowsShared}
-use Rattle.core_invariant.specs.Invariant.{holds_in, holds_head, holds, held_by, times_of, IsLent, Invariant}
-use Rattle.core_invariant.specs.Words.{IsFrameWord, WordIs, count_room}
-use Rattle.core_invariant.proofs.Bare.{counts_bare}
-use Rattle.kept_facts.proofs.Calm.{IsUntimed, plain_begins}
-use Rattle.kept_facts.proofs.Lent.{lent_free, unlent_list, unlent_head_word}
-use Rattle.step_ways.proofs.Loads.{next_at, core_in_call, core_is, inner}
-use Rattle.step_ways.proofs.OwnChanges.{decides_changing}
-use Rattle.kept_facts.proofs.Pairs.{marked_on}
-use Rattle.step_ways.proofs.Refusals.{GoodTook, not_spent}
-use Rattle.kept_facts.proofs.Sums.{sums_keep}
-use Rattle.kept_facts.proofs.Tcaps.{TcapOf}
-use Rattle.step_ways.proofs.Users.{spares_none}
-use Rattle.kept_facts.proofs.WordFrames.{ReadsAlike, StaysSaid, marks_own}
-use Rattle.step_ways.proofs.Writes.{same_marks}
+use Rattle.pair_invariant.proofs.Common.{◌≡◌, ◌≢◌, inl, inr, ℕ, zero, suc, ◌+◌, ◌-◌, ◌<◌, ◌≤◌, ◌^◌, ◌==◌, ◌&&◌, nat_lt, nat_le, Bool}
+use Rattle.pair_invariant.proofs.Common.{true, false, if◌then◌else◌, List, [], ◌∷◌, length, slice_get, Option, Some, None, arith, refl}
+use Rattle.pair_invariant.proofs.Common.{sym, ◌∙◌, ap, subst, eq-eqb, eqb-true, le-leb, leb-true, le-ltb, Setting, IsSetting, HeadFits}
+use Rattle.pair_invariant.proofs.Common.{word_of_head, head_of_word, quality_of_word, HeadWord, spelling, Word, EntryAt, CountAt}
+use Rattle.pair_invariant.proofs.Common.{same_word, Move, CompareOf, left_of, same_same, Kernel, Tcap, TcapFields, PlaceOf, FrameOf}
+use Rattle.pair_invariant.proofs.Common.{State, put, tcap_in, Found, IsFoundAnd, unless, first_of, first_cause, leaves, tcap_at, moved}
+use Rattle.pair_invariant.proofs.Common.{is_short, are_many, change_of, changed, counted, MayReply, IsNearIn, mark_of, head_mark}
+use Rattle.pair_invariant.proofs.Common.{marked_by, ends_in, flushes_in, stamp, Step, Trace, Open, phase, state_after, last_left}
+use Rattle.pair_invariant.proofs.Common.{state_decided_in, WasAt, ok_first, was_stays, cases_word, same_word-other, last_left-here}
+use Rattle.pair_invariant.proofs.Common.{last_left-there, marked, debited, credited, in_order, again_end, by_room, Pair, CompareB, AgainB}
+use Rattle.pair_invariant.proofs.Common.{StoreList, Act, took_shared, took_share, Stage, Undecided, Decided, ActiveCall, landed, Core}
+use Rattle.pair_invariant.proofs.Common.{holds_counts, settled, MarkIs, KnowsUndecided, list_changed, TurnsHead, SparesTcap, HasTcap}
+use Rattle.pair_invariant.proofs.Common.{HasBoth, StoresA, KnowsShared, holds_in, holds_head, holds, held_by, times_of, IsLent, Invariant}
+use Rattle.pair_invariant.proofs.Common.{IsFrameWord, WordIs, count_room, counts_bare, IsUntimed, plain_begins, lent_free}
+use Rattle.pair_invariant.proofs.Common.{unlent_head_word, marked_on, sums_keep, TcapOf, ReadsAlike, StaysSaid, marks_own, put_same}
+use Rattle.std.proofs.lemmas.Bool.{and_parts, and_from}
+use Rattle.pair_invariant.specs.spk_nums.specs.Merging.{merged}
+use Rattle.pair_invariant.specs.spk_nums.specs.Qualities.{IsQualityList}
+use Rattle.pair_invariant.specs.spk_nums.specs.declared.replies.Reply.TheVariants as reply
+use Rattle.pair_invariant.specs.spk_nums.specs.declared.replies.Value.TheVariants as value
+use Rattle.pair_invariant.specs.tcap_words.specs.Quality.{QualityFits, word_of_quality}
+use Rattle.pair_invariant.specs.tcap_words.proofs.QualityLemmas as qualities
+use Rattle.pair_invariant.specs.kernel_rules.specs.Access.{found as named_by}
+use Rattle.pair_invariant.specs.kernel_rules.specs.TimeCalls.{with_qualities, merged_list}
+use Rattle.pair_invariant.specs.kernel_rules.specs.CallRelation.{begins_in as begun_by}
+use Rattle.pair_invariant.specs.kernel_laws.proofs.Lists.{merged_list_is}
+use Rattle.pair_invariant.specs.kernel_history.specs.Stamps.{begins_in}
+use Rattle.pair_invariant.specs.stage_tcap.specs.Lists.{merged_if, merge_of}
+use Rattle.pair_invariant.specs.stage_tcap.specs.Pairs.{word_of_list, compared_after}
+use Rattle.pair_invariant.specs.stage_tcap.proofs.ListLemmas.{got_pair, pair_in_word}
+use Rattle.pair_invariant.specs.stage_tcap.specs.declared.pair.PairWork.TheVariants.{Delegate}
+use Rattle.pair_invariant.specs.act_states.specs.declared.work.Act.TheVariants.{Share as share_act}
+use Rattle.pair_invariant.specs.act_states.specs.declared.work.Tail.TheVariants.{Share as share_tail}
+use Rattle.pair_invariant.specs.kept_facts.proofs.Lent.{unlent_list}
+use Rattle.pair_invariant.specs.step_ways.proofs.Loads.{next_at, core_in_call, core_is, inner}
+use Rattle.pair_invariant.specs.step_ways.proofs.OwnChanges.{decides_changing}
+use Rattle.pair_invariant.specs.step_ways.proofs.Refusals.{GoodTook, not_spent}
+use Rattle.pair_invariant.specs.step_ways.proofs.Users.{spares_none}
+use Rattle.pair_invariant.specs.step_ways.proofs.Writes.{same_marks}
 use Rattle.share_invariant.proofs.Compared as compared
 use Rattle.pair_invariant.proofs.ListsKnown as known
 use Rattle.pair_invariant.proofs.ListsKnown.{AreRead, all_gone}
@@ -515,7 +490,7 @@ module _ (setup : Setting) (setting : IsSetting setup) (cores : ℕ → Core) (t
         }
       where
         marks_own_head : (held_by (put cores c after) c).marks at ≡ true
-        marks_own_head = ap (λ k. (holds k).marks at) (Rattle.kernel_rules.proofs.Within.put_same cores c after c refl) ∙ marks_it
+        marks_own_head = ap (λ k. (holds k).marks at) (put_same cores c after c refl) ∙ marks_it
 
     turns : SparesTcap setup t e p.b 0
     turns = inr (subst (λ o. TurnsHead c (list_changed t p.b) (head_of_word was) o)

@@ -1,30 +1,13 @@
 -- A delegation, whose list is stored, gives the head of the second of two temporal capabilities back with the ticks.
-use Rattle.std.proofs.Common.{◌≡◌, ◌≢◌, inl, ℕ, ◌<◌, true, if◌then◌else◌, Option, Some, None, arith, refl, sym, ◌∙◌, ap}
-use Rattle.spk_nums.specs.Setting.{Setting, IsSetting}
-use Rattle.spk_nums.specs.declared.replies.Reply.{Reply}
-use Rattle.spk_nums.specs.declared.replies.Value.TheVariants as value
-use Rattle.tcap_words.specs.Head.{HeadFits, word_of_head}
-use Rattle.tcap_words.specs.declared.head_word.HeadWord.{HeadWord}
-use Rattle.word_map.specs.Word.{EntryAt}
-use Rattle.word_map.specs.Moves.{Move, StoreOf}
-use Rattle.kernel_history.specs.Trace.{Step, Trace}
-use Rattle.kernel_history.proofs.Names.{same_word-other}
-use Rattle.stage_tcap.specs.Heads.{marked, credited}
-use Rattle.stage_tcap.specs.Pairs.{amount_of}
-use Rattle.stage_tcap.specs.declared.pair.Pair.{Pair}
-use Rattle.stage_tcap.specs.declared.pair.PairAt.TheVariants.{StoreB, StoreA}
-use Rattle.act_states.specs.declared.work.Tail.TheVariants.{Share as share_tail}
-use Rattle.call_stages.specs.declared.stages.Stage.TheVariants.{Decided}
-use Rattle.call_stages.specs.declared.stages.ActiveCall.{ActiveCall}
-use Rattle.call_stages.specs.Steps.{went_with, GoesOn}
-use Rattle.call_stages.specs.View.{Core}
-use Rattle.core_invariant.specs.Holding.{holds_counts}
-use Rattle.core_invariant.specs.Knows.{KnowsTail}
-use Rattle.core_invariant.specs.Shares.{StoresB}
-use Rattle.core_invariant.specs.Invariant.{done_by, Invariant}
-use Rattle.core_invariant.proofs.Bare.{counts_bare}
-use Rattle.step_ways.proofs.Loads.{inner}
-use Rattle.step_ways.proofs.Refusals.{GoodTook}
+use Rattle.pair_invariant.proofs.Common.{◌≡◌, ◌≢◌, inl, ℕ, ◌<◌, true, if◌then◌else◌, Option, Some, None, arith, refl, sym, ◌∙◌, ap}
+use Rattle.pair_invariant.proofs.Common.{Setting, IsSetting, Reply, HeadFits, word_of_head, HeadWord, EntryAt, Move, StoreOf, Step, Trace}
+use Rattle.pair_invariant.proofs.Common.{same_word-other, marked, credited, amount_of, Pair, StoreB, StoreA, Decided, ActiveCall}
+use Rattle.pair_invariant.proofs.Common.{went_with, GoesOn, Core, holds_counts, KnowsTail, done_by, Invariant, counts_bare}
+use Rattle.pair_invariant.specs.spk_nums.specs.declared.replies.Value.TheVariants as value
+use Rattle.pair_invariant.specs.act_states.specs.declared.work.Tail.TheVariants.{Share as share_tail}
+use Rattle.pair_invariant.specs.core_invariant.specs.Shares.{StoresB}
+use Rattle.pair_invariant.specs.step_ways.proofs.Loads.{inner}
+use Rattle.pair_invariant.specs.step_ways.proofs.Refusals.{GoodTook}
 use Rattle.share_invariant.proofs.HeadStores.{counts_free, a_stored, shared_on, head_good}
 
 module _ (setup : Setting) (setting : IsSetting setup) (cores : ℕ → Core) (t : Trace) (stands : Invariant setup cores t) (c : ℕ)

@@ -1,47 +1,21 @@
 -- A decided call gives the head of a temporal capability back that carries its core's mark: the word becomes what it stands for. What the
 -- call knows of the temporal capabilities it knows still.
-use Rattle.std.proofs.Common.{◌≡◌, ◌≢◌, ◌⊎◌, ◌<◌, ◌==◌, ◌&&◌, not, ℕ, zero, suc, Bool, true, false, if◌then◌else◌}
-use Rattle.std.proofs.Common.{List, [], ◌∷◌, Option, Some, None, inl, inr, arith, refl, sym, ◌∙◌, ap, subst}
-use Rattle.std.proofs.lemmas.Bool.{cases_eq, ne_eqb}
-use Rattle.spk_nums.specs.Setting.{Setting, IsSetting}
-use Rattle.spk_nums.specs.declared.calls.Call.{Call}
-use Rattle.spk_nums.specs.declared.replies.Reply.{Reply}
-use Rattle.tcap_words.specs.Head.{HeadFits, word_of_head, head_of_word}
-use Rattle.tcap_words.specs.declared.head_word.HeadWord.{HeadWord}
-use Rattle.tcap_words.proofs.HeadLemmas.{spelling}
-use Rattle.word_map.specs.Word.{Word, EntryAt}
-use Rattle.word_map.specs.Moves.{Move, StoreOf, word_of, left_of}
-use Rattle.word_map.proofs.WordLemmas.{same_same}
-use Rattle.kernel_rules.specs.State.{State, put}
-use Rattle.kernel_rules.proofs.Within.{put_same, put_other}
-use Rattle.kernel_history.specs.Discipline.{changes_budgets, changes_in_frame}
-use Rattle.kernel_history.specs.Footprint.{IsNearIn}
-use Rattle.kernel_history.specs.Marks.{mark_of, head_mark}
-use Rattle.kernel_history.specs.Marking.{marked_by}
-use Rattle.kernel_history.specs.Trace.{Step, Trace, state_after, last_left, WasAt}
-use Rattle.trace_laws.proofs.Carries.{was_stays}
-use Rattle.kernel_history.proofs.Names.{same_word-other}
-use Rattle.kernel_history.proofs.Steps.{last_left-there}
-use Rattle.stage_pins.specs.declared.held.Acquired.{Acquired}
-use Rattle.stage_tcap.specs.Heads.{marked}
-use Rattle.stage_tcap.specs.declared.pair.Pair.{Pair}
-use Rattle.stage_tcap.specs.declared.pair.PairAt.{PairAt}
-use Rattle.act_states.specs.declared.work.Tail.{Tail}
-use Rattle.call_stages.specs.declared.stages.Stage.TheVariants.{Decided}
-use Rattle.call_stages.specs.declared.stages.ActiveCall.{ActiveCall}
-use Rattle.call_stages.specs.Steps.{went_with, GoesOn}
-use Rattle.call_stages.specs.View.{Core}
-use Rattle.core_invariant.specs.Holding.{Holding, keeps, holds_counts, settled_by}
-use Rattle.core_invariant.specs.Knows.{KnowsTail, phase_at}
-use Rattle.core_invariant.specs.Shares.{turns_list, list_changed, TurnsHead, SparesTcap, HasTcap, StoresA, KnowsStoresAt, KnowsShared}
-use Rattle.core_invariant.specs.Invariant.{done_by, holds_tail, holds_at, holds_in, holds, held_by, Invariant}
-use Rattle.core_invariant.proofs.Bare.{IsNotKept, as_none, free_value}
-use Rattle.kept_facts.proofs.Carries.{counts_on}
-use Rattle.step_ways.proofs.Counting as counters
-use Rattle.kept_facts.proofs.Lent.{unlent_head_word, lent_free}
-use Rattle.step_ways.proofs.Loads.{IsOfCall, core_in_call, call_is, inner}
-use Rattle.step_ways.proofs.Refusals.{GoodTook}
-use Rattle.kept_facts.proofs.Tcaps.{TcapOf, tcap_of}
+use Rattle.pair_invariant.proofs.Common.{◌≡◌, ◌≢◌, ◌⊎◌, ◌<◌, ◌==◌, ◌&&◌, not, ℕ, zero, suc, Bool, true, false, if◌then◌else◌, List, []}
+use Rattle.pair_invariant.proofs.Common.{◌∷◌, Option, Some, None, inl, inr, arith, refl, sym, ◌∙◌, ap, subst, cases_eq, ne_eqb, Setting}
+use Rattle.pair_invariant.proofs.Common.{IsSetting, Call, Reply, HeadFits, word_of_head, head_of_word, HeadWord, spelling, Word, EntryAt}
+use Rattle.pair_invariant.proofs.Common.{Move, StoreOf, word_of, left_of, same_same, State, put, put_same, put_other, changes_budgets}
+use Rattle.pair_invariant.proofs.Common.{changes_in_frame, IsNearIn, mark_of, head_mark, marked_by, Step, Trace, state_after, last_left}
+use Rattle.pair_invariant.proofs.Common.{WasAt, was_stays, same_word-other, last_left-there, Acquired, marked, Pair, PairAt, Tail}
+use Rattle.pair_invariant.proofs.Common.{Decided, ActiveCall, went_with, GoesOn, Core, Holding, keeps, holds_counts, settled_by}
+use Rattle.pair_invariant.proofs.Common.{KnowsTail, phase_at, list_changed, TurnsHead, SparesTcap, HasTcap, StoresA, KnowsStoresAt}
+use Rattle.pair_invariant.proofs.Common.{KnowsShared, done_by, holds_tail, holds_at, holds_in, holds, held_by, Invariant, as_none}
+use Rattle.pair_invariant.proofs.Common.{counts_on, unlent_head_word, lent_free, TcapOf}
+use Rattle.pair_invariant.specs.core_invariant.specs.Shares.{turns_list}
+use Rattle.pair_invariant.specs.core_invariant.proofs.Bare.{IsNotKept, free_value}
+use Rattle.pair_invariant.specs.step_ways.proofs.Counting as counters
+use Rattle.pair_invariant.specs.step_ways.proofs.Loads.{IsOfCall, core_in_call, call_is, inner}
+use Rattle.pair_invariant.specs.step_ways.proofs.Refusals.{GoodTook}
+use Rattle.pair_invariant.specs.kept_facts.proofs.Tcaps.{tcap_of}
 use Rattle.pair_invariant.proofs.MarksA.{spares_one}
 use Rattle.pair_invariant.proofs.ShareSteps.{mark_is}
 

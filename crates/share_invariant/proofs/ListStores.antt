@@ -1,48 +1,26 @@
 -- A delegation stores a word of the second one's list, which its core keeps without a mark: the word becomes what it settles to.
-use Rattle.std.proofs.Common.{◌≡◌, ◌≢◌, inl, inr, ℕ, zero, suc, ◌+◌, ◌-◌, ◌≤◌, ◌<◌, ◌==◌, ◌&&◌, nat_le, nat_lt, Bool, true}
-use Rattle.std.proofs.Common.{false, if◌then◌else◌, IsSome, ◌∷◌, Option, Some, None, slice_get, arith, refl, sym, ◌∙◌, ap, subst}
-use Rattle.std.proofs.lemmas.Bool.{cases_eq, cases_lt, eq-eqb, ne_eqb, le-leb, lt-leb, leb-true, ltb-true, ltb-false}
-use Rattle.spk_nums.specs.Setting.{Setting, IsSetting}
-use Rattle.spk_nums.specs.declared.calls.Call.{Call}
-use Rattle.spk_nums.specs.declared.replies.Reply.{Reply}
-use Rattle.tcap_words.specs.Quality.{QualityFits}
-use Rattle.tcap_words.proofs.QualityLemmas.{spelling}
-use Rattle.word_map.specs.Word.{Word, EntryAt}
-use Rattle.word_map.specs.Moves.{Move, StoreOf, word_of}
-use Rattle.word_map.proofs.WordLemmas.{same_same}
-use Rattle.kernel_rules.specs.State.{State, put}
-use Rattle.kernel_rules.proofs.Within.{put_same, put_other}
-use Rattle.kernel_history.specs.Discipline.{changes_in_frame}
-use Rattle.kernel_history.specs.Footprint.{IsNearIn}
-use Rattle.kernel_history.specs.Marks.{mark_of}
-use Rattle.kernel_history.specs.Marking.{marked_by}
-use Rattle.kernel_history.specs.Trace.{Step, Trace, state_after, last_left}
-use Rattle.trace_laws.proofs.Carries.{was_stays}
-use Rattle.kernel_history.proofs.Names.{same_word-other}
-use Rattle.kernel_history.proofs.Steps.{last_left-there}
-use Rattle.stage_tcap.specs.Lists.{in_order}
-use Rattle.stage_tcap.specs.Pairs.{word_of_list, store_next}
-use Rattle.stage_tcap.specs.declared.pair.Pair.{Pair}
-use Rattle.stage_tcap.specs.declared.pair.PairAt.{PairAt}
-use Rattle.stage_tcap.specs.declared.pair.PairAt.TheVariants.{StoreList, StoreB}
-use Rattle.act_states.specs.declared.work.Tail.{Tail}
-use Rattle.act_states.specs.declared.work.Tail.TheVariants.{Share as share_tail}
-use Rattle.call_stages.specs.declared.stages.Stage.TheVariants.{Decided}
-use Rattle.call_stages.specs.declared.stages.ActiveCall.{ActiveCall}
-use Rattle.call_stages.specs.Steps.{went_with, GoesOn}
-use Rattle.call_stages.specs.View.{Core}
-use Rattle.core_invariant.specs.Holding.{Holding, holds_counts, settled_by}
-use Rattle.core_invariant.specs.Knows.{KnowsTail, phase_at}
-use Rattle.core_invariant.specs.Shares.{SparesTcap, HasTcap, StoresB, KnowsStoresAt}
-use Rattle.core_invariant.specs.Invariant.{done_by, holds_head, holds_heads, holds_list, holds_shared}
-use Rattle.core_invariant.specs.Invariant.{holds_at, holds_in, holds, held_by, Invariant}
-use Rattle.core_invariant.proofs.Bare.{AsBefore, counts_bare, none_kept}
-use Rattle.kept_facts.proofs.Carries.{counts_on}
-use Rattle.step_ways.proofs.Counting as counters
-use Rattle.kept_facts.proofs.Lent.{one_keeper, own_value}
-use Rattle.step_ways.proofs.Loads.{IsOfCall, core_in_call, call_is, inner}
-use Rattle.step_ways.proofs.Refusals.{GoodTook}
-use Rattle.kept_facts.proofs.Tcaps.{TcapOf, tcap_of}
+use Rattle.pair_invariant.proofs.Common.{◌≡◌, ◌≢◌, inl, inr, ℕ, zero, suc, ◌+◌, ◌-◌, ◌≤◌, ◌<◌, ◌==◌, ◌&&◌, nat_le, nat_lt, Bool, true}
+use Rattle.pair_invariant.proofs.Common.{false, if◌then◌else◌, ◌∷◌, Option, Some, None, slice_get, arith, refl, sym, ◌∙◌, ap, subst}
+use Rattle.pair_invariant.proofs.Common.{cases_eq, cases_lt, eq-eqb, ne_eqb, le-leb, lt-leb, leb-true, ltb-true, ltb-false, Setting}
+use Rattle.pair_invariant.proofs.Common.{IsSetting, Call, Reply, Word, EntryAt, Move, StoreOf, word_of, same_same, State, put, put_same}
+use Rattle.pair_invariant.proofs.Common.{put_other, changes_in_frame, IsNearIn, mark_of, marked_by, Step, Trace, state_after, last_left}
+use Rattle.pair_invariant.proofs.Common.{was_stays, same_word-other, last_left-there, in_order, Pair, PairAt, StoreList, StoreB, Tail}
+use Rattle.pair_invariant.proofs.Common.{Decided, ActiveCall, went_with, GoesOn, Core, Holding, holds_counts, settled_by, KnowsTail}
+use Rattle.pair_invariant.proofs.Common.{phase_at, SparesTcap, HasTcap, KnowsStoresAt, done_by, holds_head, holds_heads, holds_shared}
+use Rattle.pair_invariant.proofs.Common.{holds_at, holds_in, holds, held_by, Invariant, AsBefore, counts_bare, none_kept, counts_on}
+use Rattle.pair_invariant.proofs.Common.{TcapOf}
+use Rattle.std.proofs.Common.{IsSome}
+use Rattle.pair_invariant.specs.tcap_words.specs.Quality.{QualityFits}
+use Rattle.pair_invariant.specs.tcap_words.proofs.QualityLemmas.{spelling}
+use Rattle.pair_invariant.specs.stage_tcap.specs.Pairs.{word_of_list, store_next}
+use Rattle.pair_invariant.specs.act_states.specs.declared.work.Tail.TheVariants.{Share as share_tail}
+use Rattle.pair_invariant.specs.core_invariant.specs.Shares.{StoresB}
+use Rattle.pair_invariant.specs.core_invariant.specs.Invariant.{holds_list}
+use Rattle.pair_invariant.specs.step_ways.proofs.Counting as counters
+use Rattle.pair_invariant.specs.kept_facts.proofs.Lent.{one_keeper, own_value}
+use Rattle.pair_invariant.specs.step_ways.proofs.Loads.{IsOfCall, core_in_call, call_is, inner}
+use Rattle.pair_invariant.specs.step_ways.proofs.Refusals.{GoodTook}
+use Rattle.pair_invariant.specs.kept_facts.proofs.Tcaps.{tcap_of}
 use Rattle.share_invariant.proofs.HeadStores.{counts_free, a_stored, shared_on}
 use Rattle.pair_invariant.proofs.MarksA.{spares_one}
 use Rattle.pair_invariant.proofs.ShareSteps.{list_bare}

@@ -1,27 +1,14 @@
 -- A step of a call on two temporal capabilities is good, and so is a step that gives the first one's head back.
-use Rattle.std.proofs.Common.{◌≡◌, ℕ, zero, suc, ◌<◌, Option, Some}
-use Rattle.spk_nums.specs.Setting.{Setting, IsSetting}
-use Rattle.spk_nums.specs.declared.replies.Reply.{Reply}
-use Rattle.word_map.specs.Moves.{word_of, told_of}
-use Rattle.kernel_history.specs.Trace.{Trace, last_left}
-use Rattle.stage_tcap.specs.Pairs.{pair_move, judged}
-use Rattle.stage_tcap.specs.declared.pair.Pair.{Pair}
-use Rattle.stage_tcap.specs.declared.pair.PairAt.{PairAt}
-use Rattle.stage_tcap.specs.declared.pair.PairAt.TheVariants.{LoadA, MarkA, ListA, LoadB, ListB, CompareB}
-use Rattle.stage_tcap.specs.declared.pair.PairAt.TheVariants.{AgainB, StoreList, StoreB, StoreA}
-use Rattle.stage_tcap.specs.declared.pair.PairWork.{PairWork}
-use Rattle.stage_tcap.specs.declared.pair.PairWork.TheVariants.{Transfer, Delegate, Test}
-use Rattle.act_states.specs.declared.work.Act.TheVariants.{Share as share_act}
-use Rattle.act_states.specs.declared.work.Work.TheVariants.{Act}
-use Rattle.act_states.specs.declared.work.Tail.TheVariants.{Share as share_tail}
-use Rattle.act_states.specs.Shares.{took_share, after_share}
-use Rattle.call_stages.specs.declared.stages.Stage.TheVariants.{Undecided, Decided}
-use Rattle.call_stages.specs.declared.stages.ActiveCall.{ActiveCall}
-use Rattle.call_stages.specs.Steps.{landed, went_with, GoesOn}
-use Rattle.call_stages.specs.View.{Core}
-use Rattle.core_invariant.specs.Knows.{KnowsUndecided, KnowsTail}
-use Rattle.core_invariant.specs.Invariant.{Invariant}
-use Rattle.step_ways.proofs.Refusals.{GoodTook}
+use Rattle.pair_invariant.proofs.Common.{◌≡◌, ℕ, zero, suc, ◌<◌, Option, Some, Setting, IsSetting, Reply, word_of, told_of, Trace}
+use Rattle.pair_invariant.proofs.Common.{last_left, judged, Pair, PairAt, LoadA, MarkA, ListA, LoadB, ListB, CompareB, AgainB, StoreList}
+use Rattle.pair_invariant.proofs.Common.{StoreB, StoreA, PairWork, Act, took_share, Undecided, Decided, ActiveCall, landed, went_with}
+use Rattle.pair_invariant.proofs.Common.{GoesOn, Core, KnowsUndecided, KnowsTail, Invariant}
+use Rattle.pair_invariant.specs.stage_tcap.specs.Pairs.{pair_move}
+use Rattle.pair_invariant.specs.stage_tcap.specs.declared.pair.PairWork.TheVariants.{Transfer, Delegate, Test}
+use Rattle.pair_invariant.specs.act_states.specs.declared.work.Act.TheVariants.{Share as share_act}
+use Rattle.pair_invariant.specs.act_states.specs.declared.work.Tail.TheVariants.{Share as share_tail}
+use Rattle.pair_invariant.specs.act_states.specs.Shares.{after_share}
+use Rattle.pair_invariant.specs.step_ways.proofs.Refusals.{GoodTook}
 use Rattle.share_invariant.proofs.Agains.{again_good}
 use Rattle.share_invariant.proofs.Compares.{compare_good}
 use Rattle.share_invariant.proofs.Delegates.{delegate_good}

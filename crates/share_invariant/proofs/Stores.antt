@@ -1,27 +1,11 @@
 -- A decided call gives the head of the first of two temporal capabilities back: less the ticks, or as it was found.
-use Rattle.std.proofs.Common.{◌≡◌, ◌⊎◌, inl, inr, ℕ, ◌<◌, Bool, true, false, Option, Some, None, arith, refl, ◌∙◌, ap}
-use Rattle.spk_nums.specs.Setting.{Setting, IsSetting}
-use Rattle.spk_nums.specs.declared.replies.Reply.{Reply}
-use Rattle.spk_nums.specs.declared.replies.Value.{Value}
-use Rattle.tcap_words.specs.Head.{HeadFits, word_of_head}
-use Rattle.tcap_words.specs.declared.head_word.HeadWord.{HeadWord}
-use Rattle.word_map.specs.Word.{EntryAt}
-use Rattle.word_map.specs.Moves.{StoreOf}
-use Rattle.kernel_history.specs.Trace.{Trace}
-use Rattle.stage_tcap.specs.Heads.{marked}
-use Rattle.stage_tcap.specs.Pairs.{amount_of, left_a}
-use Rattle.stage_tcap.specs.declared.pair.Pair.{Pair}
-use Rattle.stage_tcap.specs.declared.pair.PairAt.TheVariants.{StoreA}
-use Rattle.act_states.specs.declared.work.Tail.TheVariants.{Share as share_tail, Nothing as no_tail}
-use Rattle.call_stages.specs.declared.stages.Stage.TheVariants.{Decided}
-use Rattle.call_stages.specs.declared.stages.ActiveCall.{ActiveCall}
-use Rattle.call_stages.specs.Steps.{went_with, GoesOn}
-use Rattle.call_stages.specs.View.{Core}
-use Rattle.core_invariant.specs.Knows.{KnowsTail}
-use Rattle.core_invariant.specs.Shares.{list_changed, StoresA}
-use Rattle.core_invariant.specs.Invariant.{done_by, Invariant}
-use Rattle.core_invariant.proofs.Bare.{counts_bare}
-use Rattle.step_ways.proofs.Refusals.{GoodTook}
+use Rattle.pair_invariant.proofs.Common.{◌≡◌, ◌⊎◌, inl, inr, ℕ, ◌<◌, Bool, true, false, Option, Some, None, arith, refl, ◌∙◌, ap, Setting}
+use Rattle.pair_invariant.proofs.Common.{IsSetting, Reply, Value, HeadFits, word_of_head, HeadWord, EntryAt, StoreOf, Trace, marked}
+use Rattle.pair_invariant.proofs.Common.{amount_of, Pair, StoreA, Decided, ActiveCall, went_with, GoesOn, Core, KnowsTail, list_changed}
+use Rattle.pair_invariant.proofs.Common.{StoresA, done_by, Invariant, counts_bare}
+use Rattle.pair_invariant.specs.stage_tcap.specs.Pairs.{left_a}
+use Rattle.pair_invariant.specs.act_states.specs.declared.work.Tail.TheVariants.{Share as share_tail, Nothing as no_tail}
+use Rattle.pair_invariant.specs.step_ways.proofs.Refusals.{GoodTook}
 use Rattle.share_invariant.proofs.HeadStores.{counts_free, head_good}
 
 module _ (setup : Setting) (setting : IsSetting setup) (cores : ℕ → Core) (t : Trace) (stands : Invariant setup cores t) (c : ℕ)

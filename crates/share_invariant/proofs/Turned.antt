@@ -1,23 +1,11 @@
 -- A decision that marks its word, after which its core keeps other words without a mark: the state has changed at once, and each of these
 -- words settles to what will be stored there.
-use Rattle.std.proofs.Common.{◌≡◌, ◌≢◌, inl, inr, ℕ, ◌<◌, true, ◌∷◌, Option, Some, None, arith, refl, sym, ◌∙◌, ap, subst}
-use Rattle.std.proofs.lemmas.Bool.{cases_eq}
-use Rattle.spk_nums.specs.Setting.{Setting, IsSetting}
-use Rattle.word_map.specs.Word.{Word, EntryAt, FrameAt, CountAt, CoreAt, FlushAt, LiveAt, ClockAt}
-use Rattle.word_map.specs.Moves.{word_of, left_of}
-use Rattle.kernel_rules.specs.State.{put}
-use Rattle.kernel_rules.proofs.Within.{put_same, put_other}
-use Rattle.kernel_history.specs.Marks.{mark_of}
-use Rattle.kernel_history.specs.Marking.{marked_by}
-use Rattle.kernel_history.specs.Trace.{Step, Trace, state_after, last_left}
-use Rattle.kernel_history.proofs.Names.{cases_word}
-use Rattle.kernel_history.proofs.Steps.{last_left-here, last_left-there}
-use Rattle.call_stages.specs.View.{Core}
-use Rattle.core_invariant.specs.Holding.{Holding, settled_by, settled, MarkIs}
-use Rattle.core_invariant.specs.Words.{WordIs}
-use Rattle.core_invariant.specs.Invariant.{holds, held_by, times_of, Invariant}
-use Rattle.core_invariant.proofs.Bare.{own_kept, same_value, core_bare}
-use Rattle.kept_facts.proofs.WordFrames.{ReadsAlike, StaysSaid}
+use Rattle.pair_invariant.proofs.Common.{◌≡◌, ◌≢◌, inl, inr, ℕ, ◌<◌, true, ◌∷◌, Option, Some, None, arith, refl, sym, ◌∙◌, ap, subst}
+use Rattle.pair_invariant.proofs.Common.{cases_eq, Setting, IsSetting, Word, EntryAt, FrameAt, CountAt, CoreAt, FlushAt, LiveAt, ClockAt}
+use Rattle.pair_invariant.proofs.Common.{word_of, left_of, put, put_same, put_other, mark_of, marked_by, Step, Trace, state_after}
+use Rattle.pair_invariant.proofs.Common.{last_left, cases_word, last_left-here, last_left-there, Core, Holding, settled_by, settled}
+use Rattle.pair_invariant.proofs.Common.{MarkIs, WordIs, holds, held_by, times_of, Invariant, ReadsAlike, StaysSaid}
+use Rattle.pair_invariant.specs.core_invariant.proofs.Bare.{own_kept, same_value, core_bare}
 
 none_some : (v : ℕ) → None ≡ Some v → ⊥
 none_some v h = cc

@@ -4,10 +4,10 @@ use Rattle.std.proofs.lemmas.Grind.{flat_map-append}
 use Rattle.std.proofs.lemmas.List.{length-map, get_or-map}
 use Rattle.spk_nums.specs.Setting.{Setting}
 use Rattle.spk_nums.specs.declared.calls.Call.{Call}
-use Rattle.kernel_history.specs.Order.{list_of}
-use Rattle.kernel_history.specs.Tables.{tables_of, lines_below}
-use Rattle.kernel_history.specs.Text.{line_of, reply_lines, decisions_by}
-use Rattle.kernel_history.specs.Trace.{Trace, state_after, calls_of}
+use Rattle.lone_kernel.specs.kernel_history.specs.Order.{list_of}
+use Rattle.lone_kernel.specs.kernel_history.specs.Tables.{tables_of, lines_below}
+use Rattle.lone_kernel.specs.kernel_history.specs.Text.{line_of, reply_lines, decisions_by}
+use Rattle.lone_kernel.specs.kernel_history.specs.Trace.{Trace, state_after, calls_of}
 use Rattle.core_kernel.specs.declared.whole.Ran.{Ran}
 use Rattle.core_kernel.specs.TakenSteps.{TakenSteps}
 use Rattle.core_kernel.specs.Whole.{decisions_below, IsList, AreMade}

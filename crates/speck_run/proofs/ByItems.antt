@@ -6,9 +6,9 @@ use Rattle.std.proofs.lemmas.List.{append_assoc}
 use Rattle.spk_nums.specs.declared.calls.Call.{Call}
 use Rattle.spk_nums.specs.declared.steps.Item.{Item}
 use Rattle.spk_nums.specs.declared.steps.How.TheVariants.{Return}
-use Rattle.kernel_history.specs.Trace.{Trace}
-use Rattle.kernel_history.specs.Order.{FollowsItem, FollowsItems, RunsOut, FollowsCores}
-use Rattle.flight.specs.Made.{ready_after}
+use Rattle.lone_kernel.specs.kernel_history.specs.Trace.{Trace}
+use Rattle.lone_kernel.specs.kernel_history.specs.Order.{FollowsItem, FollowsItems, RunsOut, FollowsCores}
+use Rattle.lone_kernel.specs.flight.specs.Made.{ready_after}
 use Rattle.lone_kernel.specs.declared.lone.Moved.{Moved}
 use Rattle.lone_kernel.specs.declared.lone.Moved.TheVariants.{Idle, Went}
 use Rattle.lone_kernel.specs.Machine.{Machine}

@@ -6,16 +6,16 @@ use Rattle.std.proofs.lemmas.List.{get_or_past}
 use Rattle.spk_nums.specs.Setting.{Setting, IsSetting}
 use Rattle.spk_nums.specs.declared.calls.Call.{Call}
 use Rattle.spk_nums.specs.declared.steps.Item.{Item}
-use Rattle.kernel_rules.specs.Laws.{ticks}
-use Rattle.kernel_history.specs.Trace.{Trace, state_after, calls_of, decisions_of}
-use Rattle.kernel_history.specs.Order.{IsIdle, HasCalls, FollowsItems, FollowsCores, Follows, list_of}
-use Rattle.kernel_history.specs.Tables.{tables_of}
-use Rattle.kernel_history.specs.Text.{reply_lines, text_of}
-use Rattle.trace_laws.proofs.Idle.{all_idle}
-use Rattle.flight.specs.Made.{ready_after, IsMade}
-use Rattle.flight.specs.Histories.{IsHistory, MadeHistories}
-use Rattle.call_stages.specs.declared.stages.ActiveCall.{ActiveCall}
-use Rattle.flight.proofs.Phases.{made_of_its_cores}
+use Rattle.lone_kernel.specs.kernel_rules.specs.Laws.{ticks}
+use Rattle.lone_kernel.specs.kernel_history.specs.Trace.{Trace, state_after, calls_of, decisions_of}
+use Rattle.lone_kernel.specs.kernel_history.specs.Order.{IsIdle, HasCalls, FollowsItems, FollowsCores, Follows, list_of}
+use Rattle.lone_kernel.specs.kernel_history.specs.Tables.{tables_of}
+use Rattle.lone_kernel.specs.kernel_history.specs.Text.{reply_lines, text_of}
+use Rattle.lone_kernel.specs.trace_laws.proofs.Idle.{all_idle}
+use Rattle.lone_kernel.specs.flight.specs.Made.{ready_after, IsMade}
+use Rattle.lone_kernel.specs.flight_laws.specs.Histories.{IsHistory, MadeHistories}
+use Rattle.lone_kernel.specs.call_stages.specs.declared.stages.ActiveCall.{ActiveCall}
+use Rattle.lone_kernel.specs.flight.proofs.Phases.{made_of_its_cores}
 use Rattle.lone_kernel.specs.GivenSteps.{GivenSteps}
 use Rattle.lone_kernel.specs.Machine.{Machine, core_at}
 use Rattle.lone_kernel.specs.Stands.{StandsFor}

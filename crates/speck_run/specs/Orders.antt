@@ -1,10 +1,10 @@
 -- How orders extend each trace for which a machine stood.
 use Rattle.std.specs.Prelude.{ℕ, List, ◌++◌}
 use Rattle.spk_nums.specs.declared.steps.Item.{Item}
-use Rattle.kernel_history.specs.Trace.{Trace}
-use Rattle.kernel_history.specs.Order.{AreOf, FollowsItem, FollowsItems, RunsOut, FollowsCores}
+use Rattle.lone_kernel.specs.kernel_history.specs.Trace.{Trace}
+use Rattle.lone_kernel.specs.kernel_history.specs.Order.{AreOf, FollowsItem, FollowsItems, RunsOut, FollowsCores}
 use Rattle.lone_kernel.specs.Machine.{Machine}
-use Rattle.flight.specs.Made.{ready_after}
+use Rattle.lone_kernel.specs.flight.specs.Made.{ready_after}
 use Rattle.lone_kernel.specs.Stands.{StandsFor}
 
 -- Each trace goes on by an item of the order.

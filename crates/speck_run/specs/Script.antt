@@ -1,7 +1,7 @@
 -- What an input is, a script or none, and what a command makes of a script.
 use Rattle.std.specs.Prelude.{◌≡◌, ℕ, List, Ok, Err}
-use Rattle.kernel_history.specs.Order.{list_of}
-use Rattle.kernel_history.specs.Text.{plain_text}
+use Rattle.lone_kernel.specs.kernel_history.specs.Order.{list_of}
+use Rattle.lone_kernel.specs.kernel_history.specs.Text.{plain_text}
 use Rattle.core_kernel.specs.TakenSteps.{TakenSteps}
 use Rattle.lone_kernel.specs.GivenSteps.{GivenSteps}
 use Rattle.script_reader.specs.declared.cause.Cause.{Cause}

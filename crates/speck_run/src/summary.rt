@@ -20,11 +20,11 @@ pub enum Summed {
     NoScript { line: u32, cause: Cause },
 }
 
-// Takes the items of the order, then runs each core out, and answers the summary of the trace that this makes: how often
-// each reply came, how many calls there were, and the total of the budgets and the ticks spent, as the final words and the
-// cores show it. There is a list for each core, each of fewer than 2^32 calls that are within their limits; it fails only
-// where memory runs out.
-fn summarize(
+/// Takes the items of the order, then runs each core out, and answers the summary of the trace that this makes: how often
+/// each reply came, how many calls there were, and the total of the budgets and the ticks spent, as the final words and the
+/// cores show it. There is a list for each core, each of fewer than 2^32 calls that are within their limits; it fails only
+/// where memory runs out.
+pub fn summarize(
     alloc: Global,
     setup: &Setup,
     lists: Vec<Vec<Call>>,

@@ -2,8 +2,8 @@
 
 ghost use Rattle.std.specs.Prelude.{◌≡◌, ℕ, ◌<◌, ◌≤◌, ◌⊎◌, ◌↔◌, true, IsTrue, IfOk, map, length, string_bytes};
 ghost use Rattle.byte_ends.specs.Ends.{HasRisen, Adds};
-ghost use Rattle.kernel_history.specs.Order.{list_of};
-ghost use Rattle.kernel_history.specs.Text.{plain_text};
+ghost use Rattle.lone_kernel.specs.kernel_history.specs.Order.{list_of};
+ghost use Rattle.lone_kernel.specs.kernel_history.specs.Text.{plain_text};
 ghost use Rattle.core_kernel.specs.TakenSteps.{TakenSteps};
 ghost use Rattle.lone_kernel.specs.GivenSteps.{GivenSteps};
 ghost use Rattle.lone_kernel.specs.Machine.{AreLists};
@@ -18,18 +18,18 @@ ghost use Rattle.speck_run.specs.Top.{Answers, IsUnlessUnwritten, IsAccepted, Fi
 
 use crate::replay::replay;
 use crate::runs::run_lists;
-use crate::summary::{Summed, sum_up};
+use crate::summary::summarize;
 use crate::words::{Command, command_of, number_after};
 use byte_ends::{Sink, Source};
 use core_kernel::Gate;
-use load_maker::load_script;
+use load_maker::{load_script, made_script};
 use plain_run::plain;
 use script_printer::print;
 use script_reader::{Cause, ReadFault, Script, read};
 use spk_nums::Memory;
 use std::alloc::Global;
 use std::thread::Threads;
-use whole_ends::{LIMIT, ReadError, read_all, write_all};
+use whole_ends::{ReadError, read_all, write_all};
 
 /// How a call of `speck` ended.
 #[derive(Clone, Copy, Debug, PartialEq, Eq)]
@@ -206,15 +206,14 @@ fn answer_load(alloc: Global, number: u32) -> Result<Answer, Memory>
     ensures status { IfOk result (λ answer. answer.status ≡ Status.Done) }
     ensures text { IfOk result (λ answer. IsSummary number (string_bytes answer.text)) }
 {
-    let script = load_script(alloc, number)?;
-    // A made script is far shorter than an input may be, so memory has run out before it is not.
-    if script.len() > LIMIT {
-        return Err(Memory);
-    }
-    match sum_up(alloc, script.as_bytes())? {
-        Summed::Done { text } => Ok(made(text)),
-        Summed::NoScript { line: _, cause: _ } => unreachable!(),
-    }
+    let script = made_script(alloc, number)?;
+    let Script {
+        setup,
+        lists,
+        order,
+    } = script;
+    let text = summarize(alloc, &setup, lists, &order)?;
+    Ok(made(text))
 }
 
 // What is due: words are judged first. Where they ask for the script of a number, it is that script's text; where for its

@@ -1,4 +1,5 @@
-//! Tests that cross crates, and those of the base crates, which all others wait for.
+//! Tests that are no data: of the types of the base crate, of sums over texts that are made, of threads at gates of several kinds, and of
+//! ends that never fail. Those of scripts are the rows of `row_runs`.
 //!
 //! See docs/CLAIMS.md, 'Crate by crate'.
 #![tactic(auto)]
@@ -8,12 +9,12 @@ mod loads;
 #[cfg(test)]
 mod numbers;
 #[cfg(test)]
-mod plains;
-#[cfg(test)]
-mod replays;
-#[cfg(test)]
 mod runs;
 #[cfg(test)]
 mod schedules;
+#[cfg(test)]
+mod shared;
+#[cfg(test)]
+mod sure_ends;
 #[cfg(test)]
 mod texts;

@@ -1,12 +1,12 @@
 //! The scripts that numbers make, through the top call.
 
+use crate::shared::{MACHINE, list_of};
 use byte_ends::{MemSink, MemSource};
 use speck_run::{FreeGate, Status, Summed, speck, sum_up};
 use std::alloc::Global;
 use std::str::from_utf8;
 use std::test::Fail;
 use std::thread::Threads;
-use test_machine::{AMPLE, Ends, MACHINE, answers, list_of};
 
 // More than any text here.
 const ROOM: usize = 262_144;
@@ -48,55 +48,13 @@ fn count(text: &[u8], wanted: u8) -> usize {
 }
 
 #[test]
-fn numbers_are_written_as_in_scripts(rt: HostRuntime) -> Result<(), Fail> {
+fn a_number_is_read_with_zeros_before_it(rt: HostRuntime) -> Result<(), Fail> {
     let alloc = rt.alloc();
     let (_, text) = written(&rt, alloc, &["make", "5"], b"", &[])?;
     let (status, same) = written(&rt, alloc, &["make", "0000000000000000000005"], b"", &[])?;
     assert!(rt; status == Status::Done && same.as_slice() == text.as_slice());
     let (status, other) = written(&rt, alloc, &["make", "4294967295"], b"", &[])?;
     assert!(rt; status == Status::Done && other.as_slice() != text.as_slice());
-    let rows: [(&str, &[&str]); 9] = [
-        ("no number", &["load"]),
-        ("a letter, under load", &["load", "5x"]),
-        ("no digits", &["make", ""]),
-        ("a minus", &["make", "-1"]),
-        ("a plus", &["make", "+1"]),
-        ("a letter", &["make", "5x"]),
-        ("a number past 64 bits", &["make", "18446744073709551616"]),
-        ("a word too many", &["make", "5", "6"]),
-        ("the number first", &["5", "make"]),
-    ];
-    for (what, words) in rows {
-        assert!(rt;
-            answers(
-                &rt,
-                alloc,
-                words,
-                b"",
-                &AMPLE,
-                Status::Words,
-                "words not understood\n"
-            )?,
-            "{what}"
-        );
-    }
-    Ok(())
-}
-
-#[test]
-fn a_sink_that_is_full_holds_the_front(rt: HostRuntime) -> Result<(), Fail> {
-    let ends = Ends { room: 26, ..AMPLE };
-    assert!(rt;
-        answers(
-            &rt,
-            rt.alloc(),
-            &["make", "1"],
-            b"",
-            &ends,
-            Status::WriteFault,
-            "speck 1\ncores 4\nframes 128"
-        )?
-    );
     Ok(())
 }
 

@@ -2,11 +2,11 @@
 
 ghost use Rattle.std.specs.Prelude.{◌≡◌, false};
 
-use speck_run::{FreeGate, Gate, Status};
+use crate::shared::runs;
+use speck_run::{Gate, Status};
 use spk_nums::CoreNo;
 use std::sync::atomic::{AtomicU64, Ordering};
 use std::test::Fail;
-use test_machine::{FROM_ENTRIES, TO_ENTRIES, runs};
 
 // Two cores that make two calls each, on entries of their own.
 const TWO_LISTS: &str =
@@ -46,13 +46,6 @@ core 0 thread 4 tcap 6 comp 3 spent 0 owed 0
 core 1 thread 5 tcap 7 comp 3 spent 0 owed 0
 total 200
 ";
-
-// Two cores that each fill an entry of their own, and remove it.
-const TWO_REMOVALS: &str =
-    "speck 1\ncores 2\nframes 32\ngrant 100 0 1\ngrant 100 0 1\ncore 0\ncopy 0 1 20\nlook 20\nremove 1 20\nlook 20\ncore 1\ncopy 0 1 21\nlook 21\nremove 1 21\nlook 21\n";
-
-const REMOVED: &str =
-    "0.1 copy 0 1 20 = ok\n0.2 look 20 = ok range 8 24\n0.3 remove 1 20 = ok\n0.4 look 20 = empty\n1.1 copy 0 1 21 = ok\n1.2 look 21 = ok range 8 24\n1.3 remove 1 21 = ok\n1.4 look 21 = empty\n";
 
 // Lets core 0 make its first call once core 1 asks for its second one, and core 1 its first once core 0 has asked for
 // its first. It counts how often it was asked, and how often it has answered false.
@@ -131,33 +124,6 @@ fn cores_run_in_threads_of_their_own(rt: HostRuntime) -> Result<(), Fail> {
     assert!(rt; runs(&rt, rt.alloc(), &gate, TWO_LISTS, Status::Done, &text)?);
     assert_eq!(rt; gate.asked.load(Ordering::SeqCst), 4);
     assert_eq!(rt; gate.refused.load(Ordering::SeqCst), 0);
-    Ok(())
-}
-
-#[test]
-fn a_run_writes_its_replies_core_by_core(rt: HostRuntime) -> Result<(), Fail> {
-    let text = format!(in rt.alloc(); "{REPLIES}{TABLES}")?;
-    for _ in 0..1000 {
-        assert!(rt; runs(&rt, rt.alloc(), &FreeGate, TWO_LISTS, Status::Done, &text)?);
-    }
-    Ok(())
-}
-
-#[test]
-fn two_threads_fill_and_remove_entries_of_their_own(rt: HostRuntime) -> Result<(), Fail> {
-    let text = format!(in rt.alloc(); "{REMOVED}{TO_ENTRIES}{FROM_ENTRIES}")?;
-    for _ in 0..100 {
-        assert!(rt;
-            runs(
-                &rt,
-                rt.alloc(),
-                &FreeGate,
-                TWO_REMOVALS,
-                Status::Done,
-                &text
-            )?
-        );
-    }
     Ok(())
 }
 

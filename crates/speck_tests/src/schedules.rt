@@ -9,13 +9,13 @@
 
 ghost use Rattle.std.specs.Prelude.{◌≡◌, false};
 
+use crate::shared::{FROM_ENTRIES, MACHINE, TO_ENTRIES, runs};
 use speck_run::{Gate, Status};
 use spk_nums::CoreNo;
 use std::alloc::Global;
 use std::sync::atomic::{AtomicU64, Ordering};
 use std::test::Fail;
 use std::thread::Threads;
-use test_machine::{FROM_ENTRIES, MACHINE, TO_ENTRIES, runs};
 
 // The orders of two calls of core 0 and two of core 1.
 const ORDERS: [[u8; 4]; 6] = [

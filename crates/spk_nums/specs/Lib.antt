@@ -1,3 +1,4 @@
+pub mod Advices
 pub mod Bounds
 pub mod CallLimits
 pub mod Capability
@@ -10,6 +11,7 @@ pub mod Merging
 pub mod Names
 pub mod Qualities
 pub mod Setting
+pub mod SetupFaults
 pub mod Spelling
 pub mod Texts
 pub mod Translations

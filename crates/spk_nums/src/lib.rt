@@ -3,6 +3,7 @@
 //! docs/FORMATS.md has the formats, docs/MODEL.md what the numbers and calls mean.
 #![tactic(auto)]
 
+mod advice;
 mod calls;
 mod cap;
 mod core_set;
@@ -16,10 +17,12 @@ mod numbers;
 mod qualities;
 mod replies;
 mod setup;
+mod setup_fault;
 mod steps;
 mod texts;
 mod translations;
 
+pub use advice::Advice;
 pub use calls::{Call, Make};
 pub use cap::Cap;
 pub use core_set::CoreSet;
@@ -33,6 +36,7 @@ pub use numbers::{CapId, CoreNo, EntryNo, FrameArg, FrameNo, PageNo, Stamp};
 pub use qualities::Qualities;
 pub use replies::{Decision, Reply, Value};
 pub use setup::Setup;
+pub use setup_fault::SetupFault;
 pub use steps::{How, Item, StageEnd, WordOp};
 pub use texts::ReplyLine;
 pub use translations::{CoreEnd, Translation, Translations};

@@ -116,7 +116,7 @@ fn grant_fits(grant: &Grant) -> bool
 }
 
 /// Whether each grant is in range.
-fn grants_fit(grants: &[Grant]) -> bool
+pub(crate) fn grants_fit(grants: &[Grant]) -> bool
     ensures { IsTrue result ↔ All GrantFits grants.now }
 {
     'each: for grant in grants {

@@ -2,11 +2,12 @@
 
 ghost use Rattle.std.specs.Prelude.{Some, decimal};
 ghost use Rattle.spk_nums.specs.Texts.{call_text, cap_text, decision_text, reply_line_text};
+ghost use Rattle.spk_nums.specs.Names.{kind_word, frame_kind_word};
 ghost use Rattle.spk_nums.specs.Texts.{reply_text, basis_text, make_text, ok_text, site_text};
 
 use crate::calls::{Call, Make};
 use crate::cap::Cap;
-use crate::kinds::Kind;
+use crate::kinds::{FrameKind, Kind};
 use crate::names::{frame_kind_name, kind_name};
 use crate::numbers::{CapId, CoreNo, EntryNo, FrameArg, FrameNo, PageNo, Stamp};
 use crate::replies::{Decision, Reply, Value};
@@ -72,6 +73,22 @@ impl fmt::Display for Stamp {
     fn fmt<W: fmt::Write>(&self, f: &mut fmt::Formatter<W>) -> fmt::Result {
         let number = self.number();
         write!(f, "{number}")
+    }
+}
+
+impl fmt::Display for Kind {
+    ghost output = { λ k. Some (kind_word k) };
+
+    fn fmt<W: fmt::Write>(&self, f: &mut fmt::Formatter<W>) -> fmt::Result {
+        f.write_str(kind_name(*self))
+    }
+}
+
+impl fmt::Display for FrameKind {
+    ghost output = { λ k. Some (frame_kind_word k) };
+
+    fn fmt<W: fmt::Write>(&self, f: &mut fmt::Formatter<W>) -> fmt::Result {
+        f.write_str(frame_kind_name(*self))
     }
 }
 

@@ -1,5 +1,5 @@
 -- In every state that a run reaches, what a core has cached stands.
-use Rattle.std.proofs.Common.{◌≡◌, ◌≢◌, ◌⊎◌, inl, inr, ℕ, ◌<◌, ◌≤◌, ◌/◌, ◌%◌, arith, Bool, true, false, refl, sym, ◌∙◌, ap}
+use Rattle.std.proofs.Common.{◌≡◌, ◌≢◌, ◌⊎◌, inl, inr, ℕ, ◌<◌, ◌≤◌, ◌/◌, ◌%◌, arith, Bool, true, false, refl, sym, ◌∙◌, ap, ◌||◌}
 use Rattle.std.proofs.Common.{subst, nat_lt, nat_le, if◌then◌else◌, IsTrue, List, [], ◌∷◌, ◌++◌, length, Option, Some, None}
 use Rattle.std.proofs.lemmas.Bool.{cases_eq, false≢true, ltb-false}
 use Rattle.std.specs.List.{AllByRecursion}
@@ -7,33 +7,23 @@ use Rattle.spk_nums.specs.Setting.{Setting, IsSetting}
 use Rattle.spk_nums.specs.CallLimits.{InLimits}
 use Rattle.spk_nums.specs.Capability.{Capability}
 use Rattle.spk_nums.specs.declared.kinds.Kind.TheVariants as kind
-use Rattle.spk_nums.specs.declared.kinds.FrameKind.{FrameKind}
-use Rattle.spk_nums.specs.declared.kinds.FrameKind.TheVariants as frame_kind
-use Rattle.spk_nums.specs.declared.calls.Make.{Make}
-use Rattle.spk_nums.specs.declared.calls.Make.TheVariants as make
 use Rattle.spk_nums.specs.declared.calls.Call.{Call}
-use Rattle.spk_nums.specs.declared.calls.Call.TheVariants.{Look, Copy, Remove, Grow, Shrink, Retype, Make as make_call}
-use Rattle.spk_nums.specs.declared.calls.Call.TheVariants.{Map, Unmap, Touch, Flush, Gate, Kill, Call as call_gate}
-use Rattle.spk_nums.specs.declared.calls.Call.TheVariants.{Ret, Switch, Tick, Transfer, Delegate, Test}
+use Rattle.spk_nums.specs.declared.calls.Call.TheVariants.{Tick}
 use Rattle.spk_nums.specs.declared.translations.Translation.{Translation}
-use Rattle.spk_nums.specs.declared.replies.Value.{Value}
 use Rattle.spk_nums.specs.declared.replies.Reply.{Reply}
 use Rattle.spk_nums.specs.declared.replies.Reply.TheVariants as reply
 use Rattle.kernel_rules.specs.State.{Place, Free, Holds, Quiescing, Pages, Pleaf, Frame, User, Kernel, Core}
-use Rattle.kernel_rules.specs.State.{Thing, PlaceOf, FrameOf, NumberOf, State, put, with_core, comp_of, thread_in}
+use Rattle.kernel_rules.specs.State.{Thing, PlaceOf, FrameOf, State, put, with_core, comp_of}
 use Rattle.kernel_rules.specs.References.{named_by, times, refs}
-use Rattle.kernel_rules.specs.Access.{Slot, Named, found, root_at, Under, place_at, held_in}
+use Rattle.kernel_rules.specs.Access.{Slot, root_at, Under, place_at, held_in}
 use Rattle.kernel_rules.specs.Access.{usable_in, usable, linked, slot_in, reached, root_slot}
 use Rattle.kernel_rules.specs.GracePeriods.{is_paging, is_translated, needs_flush, entered, returned}
-use Rattle.kernel_rules.specs.Rules.{Change, Judged, Refused, Found, IsFoundAnd, and_then, or_refuse, unless, mapped}
-use Rattle.kernel_rules.specs.CapabilityCalls.{make_rule}
-use Rattle.kernel_rules.specs.MemoryCalls.{retype_rule, touch_by, translation_of, caching}
-use Rattle.kernel_rules.specs.InvocationCalls.{switch_to}
-use Rattle.kernel_rules.specs.CallRelation.{rule_of, change_of, changed, owed_by, state_by, MayReply, flushes, flushes_by}
+use Rattle.kernel_rules.specs.Rules.{Found, and_then, or_refuse, unless, mapped}
+use Rattle.kernel_rules.specs.MemoryCalls.{caching}
+use Rattle.kernel_rules.specs.CallRelation.{change_of, changed, owed_by, state_by, MayReply, flushes, flushes_by}
 use Rattle.kernel_rules.specs.Fitting.{fits, IsGood}
 use Rattle.kernel_rules.specs.Relies.{IsGuarded}
 use Rattle.kernel_rules.specs.Runs.{Event, Enters, Decides, Returns, after, is_in, is_open, IsRun}
-use Rattle.kernel_rules.proofs.Changes.{IfFound}
 use Rattle.kernel_rules.proofs.Within.{put_same, put_other}
 use Rattle.kernel_rules.proofs.AloneLaw.{waits_inside, decided_stays}
 use Rattle.kernel_invariant.proofs.Sums.{times_first}
@@ -42,12 +32,14 @@ use Rattle.kernel_invariant.proofs.SoundCalls.{IsOpen}
 use Rattle.kernel_invariant.proofs.SoundRuns.{opened, open_is, open_limits, inside_is, limits_stay}
 use Rattle.found_stays.proofs.SparesRuns.{core_same_refs}
 use Rattle.kernel_invariant.proofs.Refs.{grace_refs}
-use Rattle.kernel_invariant.proofs.Facts.{ChangesFrom, outcome_from, then_parts, or_found, some_inj, none_some, found_inj, refused_found}
+use Rattle.kernel_invariant.specs.Edits.{Edit, Fill, Merge, Switch, Cache, Flush, Charge, edited, after_edits, is_flush, flush_in}
+use Rattle.kernel_invariant.proofs.Edited.{Tested, Each, AreLater, later_core, Calm, after_ok}
+use Rattle.kernel_invariant.proofs.Facts.{then_parts, or_found, some_inj, none_some, found_inj, refused_found}
 use Rattle.found_stays.proofs.Stays.{link_of, fields, pages_relies, usable_guarded, place_named}
 use Rattle.state_laws.specs.Cached.{IsStillThere, IsLinkTo, IsMappingOf, IsOrWas, Stands, TranslationsStand}
 use Rattle.kernel_laws.proofs.NodeSteps.{IsFitted}
 use Rattle.kernel_laws.proofs.NodesLaw.{runs_fit, leaf_fits, pages_leaf, fit_node, held_is, mapped_page}
-use Rattle.state_laws.proofs.Phases.{phase_own, phase_other}
+use Rattle.kernel_invariant.proofs.SoundRuns.{phase_own, phase_other, decided_opened}
 use Rattle.state_laws.proofs.Flushes.{frame_stays, there_stays, place_unflushed, place_holds, IsWaited, decided_waited}
 
 -- All of a list.
@@ -61,14 +53,12 @@ all_more P (y ∷ ys) x h new = (h.0, all_more P ys x h.1 new)
 
 -- What a place that links or maps holds.
 link_held : (leaf : ℕ) (p : Place) → IsLinkTo leaf p → (k : Capability) × (p ≡ Holds k)
-link_held leaf Free h = absurd h
 link_held leaf (Holds k) h = (k, refl)
-link_held leaf (Quiescing k) h = absurd h
+link_held leaf _ h = absurd h
 
 mapping_held : (t : Translation) (p : Place) → IsMappingOf t p → (k : Capability) × (p ≡ Holds k)
-mapping_held t Free h = absurd h
 mapping_held t (Holds k) h = (k, refl)
-mapping_held t (Quiescing k) h = absurd h
+mapping_held t _ h = absurd h
 
 -- A translation that stands for core d stands after a decision, but for d's own flush.
 module _ (s : State) (o : ℕ → Bool) (c : ℕ) (call : Call) (r : Reply)
@@ -116,9 +106,9 @@ core_stand s core c k own h d below =
     (λ same. subst (λ n. AllByRecursion (Stands s n) k.cached) (sym same) own) (λ other. h d below)
 
 -- What a change makes of the lists of translations.
-record Caches (s : State) (c : ℕ) (call : Call) (change : Change) : Type 0 where
-  stand : AllStand s change.next.core
-  flushed : flushes_by call ≡ true → (change.next.core c).cached ≡ []
+record Caches (s : State) (c : ℕ) (flushes : Bool) (core : ℕ → Core) : Type 0 where
+  stand : AllStand s core
+  flushed : flushes ≡ true → (core c).cached ≡ []
 
 -- What a `touch` finds in the table.
 module _ (s : State) (o : ℕ → Bool) (c : ℕ) (h : IsOpen s o c) (w : IsFitted s o) (u : IsWaited s o) where
@@ -215,93 +205,55 @@ module _ (s : State) (o : ℕ → Bool) (c : ℕ) (h : IsOpen s o c) (w : IsFitt
       pages_root (Kernel Pages) fit = refl
       pages_root _ fit = absurd (false≢true fit)
 
-  -- The rules
+  -- The edits
+  longer : (cached : List Translation) (t : Translation) → AllByRecursion (Stands s c) cached → Stands s c t
+      → AllByRecursion (Stands s c) (caching cached t)
+  longer cached t old new = by_room (nat_lt (length cached) 64)
+    where
+      by_room : (b : Bool) → AllByRecursion (Stands s c) (if b then cached ++ t ∷ [] else cached)
+      by_room true = all_more (Stands s c) cached t old new
+      by_room false = old
+
   module _ (all : AllStand s s.core) where
-    stays : (call : Call) (change : Change) → flushes_by call ≡ false → change.next.core ≡ s.core → Caches s c call change
-    stays call change none core = record {
-      stand = subst (AllStand s) (sym core) all;
-      flushed = λ is. absurd (false≢true (sym none ∙ is));
-    }
+    own_list : AllByRecursion (Stands s c) (s.core c).cached
+    own_list = all c (h.sound.inside c h.is).1
 
-    own_stays : (d : ℕ) → d ≡ c → AllByRecursion (Stands s d) (s.core d).cached
-    own_stays d same = all d (subst (λ n. n < s.limits.cores) (sym same) (h.sound.inside c h.is).1)
-
-    kept : (call : Call) (change : Change) (k : Core) → flushes_by call ≡ false → k.cached ≡ (s.core c).cached
-        → change.next.core ≡ put s.core c k → Caches s c call change
-    kept call change k none same core = record {
-      stand = subst (AllStand s) (sym core)
-          (core_stand s s.core c k (subst (AllByRecursion (Stands s c)) (sym same) (own_stays c refl)) all);
-      flushed = λ is. absurd (false≢true (sym none ∙ is));
-    }
-
-    make_caches : (what : Make) (r f t b : ℕ) → ChangesFrom (Caches s c (make_call what r f t b)) s c (make_rule s what r f t b)
-    make_caches make.Table r f t b = λ range e table g at v calm. stays _ _ refl refl
-    make_caches make.Leaf r f t b = λ range e table g at v calm. stays _ _ refl refl
-    make_caches make.Pages r f t b = λ range e table g at v calm. stays _ _ refl refl
-    make_caches make.Pleaf r f t b = λ range e table g at v calm. stays _ _ refl refl
-    make_caches (make.Thread comp) r f t b = λ range e table g k j at v calm. stays _ _ refl refl
-    make_caches (make.Tcap sched quality) r f t b = λ range e table g at v calm. stays _ _ refl refl
-    make_caches (make.Comp x p l) r f t b = λ range e table g own_table a own_pages d at v calm. stays _ _ refl refl
-
-    retype_caches : (r f : ℕ) (k : FrameKind) → ChangesFrom (Caches s c (Retype r f k)) s c (retype_rule s r f k)
-    retype_caches r f frame_kind.Untyped = λ range e calm. stays _ _ refl refl
-    retype_caches r f frame_kind.User = λ range e calm. stays _ _ refl refl
-    retype_caches r f frame_kind.Kernel = λ range e calm. stays _ _ refl refl
-
-    longer : (cached : List Translation) (t : Translation) → AllByRecursion (Stands s c) cached → Stands s c t
-        → AllByRecursion (Stands s c) (caching cached t)
-    longer cached t old new = by_room (nat_lt (length cached) 64)
-      where
-        by_room : (b : Bool) → AllByRecursion (Stands s c) (if b then cached ++ t ∷ [] else cached)
-        by_room true = all_more (Stands s c) cached t old new
-        by_room false = old
-
-    touch_caches : (v : ℕ) (t : Option Translation) → ChangesFrom (Caches s c (Touch v)) s c (touch_by s c (comp_of s c).pages v t)
-    touch_caches v None = λ mapping e calm. record {
-      stand = core_stand s s.core c _ (longer (s.core c).cached _ (own_stays c refl) (touched v mapping e)) all;
+    edit_caches : (e : Edit) → Tested c s e → Caches s c (is_flush e) (edited c s e).core
+    edit_caches (Cache t) tested = record {
+      stand = core_stand s s.core c _ (longer (s.core c).cached t own_list
+          (subst (Stands s c) (sym tested.2) (touched t.page tested.0 tested.1))) all;
       flushed = λ is. absurd (false≢true is);
     }
-    touch_caches v (Some t) = λ calm. stays (Touch v) _ refl refl
-
-    switch_caches : (a b q : ℕ) (name : Named) (e : Option ℕ) → ChangesFrom (Caches s c (Switch a b)) s c (switch_to s c name q e)
-    switch_caches a b q name None = λ calm. kept (Switch a b) _ (record (s.core c) { thread = name.frame; tcap = q }) refl refl refl
-    switch_caches a b q name (Some e) = λ calm. kept (Switch a b) _ (record (s.core c) { thread = name.frame; tcap = q }) refl refl refl
-
-    rule_caches : (call : Call) → ChangesFrom (Caches s c call) s c (rule_of s c call)
-    rule_caches (Look a) = λ k e calm. stays _ _ refl refl
-    rule_caches (Copy a t b) = λ k e table f at v calm. stays _ _ refl refl
-    rule_caches (Remove t b) = λ table e at k g calm. stays _ _ refl refl
-    rule_caches (Grow t i l) = λ table e leaf f at v calm. stays _ _ refl refl
-    rule_caches (Shrink t i) = λ table e at k g calm. stays _ _ refl refl
-    rule_caches (Retype r f k) = retype_caches r f k
-    rule_caches (make_call what r f t b) = make_caches what r f t b
-    rule_caches (Map p v r f m) = λ pages e range g at x calm. stays _ _ refl refl
-    rule_caches (Unmap p v) = λ pages e at k g calm. stays _ _ refl refl
-    rule_caches (Touch v) = touch_caches v (translation_of (s.core c).cached (comp_of s c).pages v)
-    rule_caches Flush = λ calm. record {
+    edit_caches Flush tested = record {
       stand = core_stand s s.core c (record (s.core c) { cached = [] }) tt all;
       flushed = λ is. ap (λ (k : Core). k.cached) (put_same s.core c (record (s.core c) { cached = [] }) c refl);
     }
-    rule_caches (Gate k t b) = λ comp e table f at v calm. stays _ _ refl refl
-    rule_caches (Kill k) = λ comp e calm. stays _ _ refl refl
-    rule_caches (call_gate g) = λ gate e calm. stays _ _ refl refl
-    rule_caches Ret = λ calm. stays _ _ refl refl
-    rule_caches (Switch a b) = λ thread e tcap g. switch_caches a b tcap.frame (found thread) (thread_in (s.frame thread.frame)).runs_on
-    rule_caches (Tick n) = λ calm. kept (Tick n) _ (record (s.core c) { spent = _; owed = _ }) refl refl refl
-    rule_caches (Transfer a b m) = λ j e k f calm. stays _ _ refl refl
-    rule_caches (Delegate a b m) = λ j e k f calm. stays _ _ refl refl
-    rule_caches (Test a b) = λ j e k f calm. stays _ _ refl refl
+    edit_caches (Switch g q) tested = record {
+      stand = core_stand s s.core c (record (s.core c) { thread = g; tcap = q }) own_list all;
+      flushed = λ is. absurd (false≢true is);
+    }
+    edit_caches (Charge n) tested = record {
+      stand = core_stand s s.core c (record (s.core c) { spent = _; owed = _ }) own_list all;
+      flushed = λ is. absurd (false≢true is);
+    }
+    edit_caches _ tested = record { stand = all; flushed = λ is. absurd (false≢true is) }
+
+    edits_cache : (es : List Edit) → Calm c s es → Each Tested c s es → Caches s c (flush_in es) (after_edits c s es).core
+    edits_cache [] calm tested = record { stand = all; flushed = λ is. absurd (false≢true is) }
+    edits_cache (e ∷ es) calm tested =
+        subst (Caches s c (flush_in (e ∷ es))) (sym (later_core c (edited c s e) es calm.2))
+        (subst (λ b. Caches s c b (edited c s e).core) (sym (first (is_flush e) es calm.2)) (edit_caches e tested.0))
+      where
+        first : (b : Bool) (es : List Edit) → AreLater es → (b || flush_in es) ≡ b
+        first true es l = refl
+        first false [] l = refl
+        first false (Fill at k ∷ es) l = first false es l
+        first false (Merge f qs ∷ es) l = first false es l
+        first false (_ ∷ es) l = absurd l
 
 -- The lists after a decision, of which all stand as they did before it; the flushing core has none.
-record Lists (s t : State) (c : ℕ) (flushes : Bool) : Type 0 where
-  stand : AllStand s t.core
-  flushed : flushes ≡ true → (t.core c).cached ≡ []
-
-found_lists : (s : State) (c : ℕ) (call : Call) (v : Value) (x : Judged Change) → IfFound x (Caches s c call)
-    → IsFoundAnd x (λ k. k.value ≡ v)
-    → Lists s (changed s x) c (flushes_by call)
-found_lists s c call v (Refused r) by ok = absurd ok
-found_lists s c call v (Found change) by ok = record { stand = by.stand; flushed = by.flushed }
+abbrev Lists : State → State → ℕ → Bool → Type 0
+Lists s t c flushes = Caches s c flushes t.core
 
 -- A core keeps its list.
 same_lists : (s t : State) (c : ℕ) (b : Bool) (k : Core) → c < s.limits.cores → k.cached ≡ (t.core c).cached → Lists s t c b
@@ -323,8 +275,8 @@ decided_lists : (s : State) (o : ℕ → Bool) (c : ℕ) (call : Call) (r : Repl
     → Lists s (state_by s c call r) c (flushes call r)
 decided_lists s o c call (reply.Ok v) h may w u all =
     same_lists s (changed s (change_of s c call)) c (flushes_by call) _ (h.sound.inside c h.is).1 refl
-    (found_lists s c call v (change_of s c call)
-    (outcome_from (Caches s c call) s c (rule_of s c call) (rule_caches s o c h w u all call)) may.1)
+    (after_ok s c call v (λ t. Lists s t c (flushes_by call)) may (λ change e.
+    subst (λ b. Caches s c b (after_edits c s e.list).core) (sym e.agrees.1) (edits_cache s o c h w u all e.list e.calm e.tested)))
 decided_lists s o c call reply.CallsSpent h may w u all = none_flushed s c all
 decided_lists s o c call reply.Raced h may w u all =
     same_lists s (owed_by s c call) c false _ (h.sound.inside c h.is).1 refl (owed_lists s c call (h.sound.inside c h.is).1 all)
@@ -418,8 +370,7 @@ enter_waited setting events c call run old = record {
   where
     need_of : (x : Thing) → IsTrue (needs_flush (after setting (Enters c call ∷ events)) x) → IsTrue (needs_flush (after setting events) x)
     need_of (PlaceOf f i) n = n
-    need_of (FrameOf f) n = n
-    need_of (NumberOf l) n = n
+    need_of _ n = n
 
 return_waited : (setting : Setting) (events : List Event) (c : ℕ) → IsWaited (after setting events) (opened events)
     → IsWaited (after setting (Returns c ∷ events)) (opened (Returns c ∷ events))
@@ -435,8 +386,7 @@ return_waited setting events c old = record {
   where
     need_of : (x : Thing) → IsTrue (needs_flush (after setting (Returns c ∷ events)) x) → IsTrue (needs_flush (after setting events) x)
     need_of (PlaceOf f i) n = n
-    need_of (FrameOf f) n = n
-    need_of (NumberOf l) n = n
+    need_of _ n = n
 
 fewer : (s : State) (o o' : ℕ → Bool) → ((c : ℕ) → o' c ≡ true → o c ≡ true) → IsWaited s o → IsWaited s o'
 fewer s o o' less h = record { unflushed = λ x d q. h.unflushed x d (less d q); bare = h.bare }
@@ -448,10 +398,7 @@ runs_waited setting lim (Enters c call ∷ events) run = enter_waited setting ev
 runs_waited setting lim (Returns c ∷ events) run = return_waited setting events c (runs_waited setting lim events run.0)
 runs_waited setting lim (Decides c call r ∷ events) run =
     fewer (after setting (Decides c call r ∷ events)) (put (opened events) c false) (opened (Decides c call r ∷ events))
-    (λ d q. elim (cases_eq d c) [
-      | inl same ↦ absurd (false≢true (sym (ap is_open (phase_own (Decides c call r) events d same)) ∙ q))
-      | inr other ↦ put_other (opened events) c false d other ∙ sym (ap is_open (phase_other (Decides c call r) events d other)) ∙ q
-    ])
+    (decided_opened events c call r)
     (decided_waited (after setting events) (opened events) c call r (open_is setting lim events c run.0 (ap is_open run.1.is_open))
     (open_limits setting events c call run.0 run.1.is_open) run.1.permitted (runs_waited setting lim events run.0))
 

@@ -1,41 +1,38 @@
 -- What decisions make of who has to flush: whoever waits for a thing that translations reach, has not flushed it; and what is
 -- referenced, or not yet flushed by a core, stays so until that core flushes.
 use Rattle.std.proofs.Common.{◌≡◌, ◌≢◌, ◌⊎◌, inl, inr, ℕ, zero, suc, ◌<◌, arith, Bool, true, false, not}
-use Rattle.std.proofs.Common.{refl, sym, ◌∙◌, ap, subst, cond, nat_lt, IsTrue, [], ◌∷◌, Option, Some, None}
+use Rattle.std.proofs.Common.{refl, sym, ◌∙◌, ap, subst, cond, IsTrue, List, [], ◌∷◌, Option, Some, None}
 use Rattle.std.proofs.lemmas.Bool.{false≢true, eqb-true}
 use Rattle.spk_nums.specs.Capability.{Capability}
 use Rattle.spk_nums.specs.CallLimits.{InLimits}
-use Rattle.spk_nums.specs.declared.kinds.FrameKind.TheVariants as frame_kind
-use Rattle.spk_nums.specs.declared.calls.Make.TheVariants as make
 use Rattle.spk_nums.specs.declared.calls.Call.{Call}
-use Rattle.spk_nums.specs.declared.calls.Call.TheVariants.{Retype, Make as make_call, Tick}
+use Rattle.spk_nums.specs.declared.calls.Call.TheVariants.{Tick}
 use Rattle.spk_nums.specs.declared.replies.Value.{Value}
 use Rattle.spk_nums.specs.declared.replies.Reply.{Reply}
 use Rattle.spk_nums.specs.declared.replies.Reply.TheVariants as reply
 use Rattle.kernel_rules.specs.State.{Holds, Pages, Pleaf, Frame, User, Kernel, Grace, Thing, PlaceOf, FrameOf, NumberOf, State, put}
 use Rattle.kernel_rules.specs.Start.{no_grace}
 use Rattle.kernel_rules.specs.References.{refs}
-use Rattle.kernel_rules.specs.Access.{found}
 use Rattle.kernel_rules.specs.GracePeriods.{new_grace, begun, lowest, unflushed_by, needs_flush, is_paging, is_translated}
-use Rattle.kernel_rules.specs.Rules.{Change, Cause, When, WaitedFor, Unflushed, Judged, Refused}
-use Rattle.kernel_rules.specs.Rules.{Found, IsFoundAnd, refusal_of, first_cause, waits_of, flushes_of}
-use Rattle.kernel_rules.specs.CapabilityCalls.{outside}
-use Rattle.kernel_rules.specs.MemoryCalls.{is_untyped_now, is_empty, not_retyped}
-use Rattle.kernel_rules.specs.CallRelation.{rule_of, change_of, changed, counted, owed_by, state_by}
-use Rattle.kernel_rules.specs.CallRelation.{MayReply, begins, begins_in, ends, ends_by, flushes}
+use Rattle.kernel_rules.specs.Rules.{Change, Unflushed, Judged, Refused}
+use Rattle.kernel_rules.specs.Rules.{Found, IsFoundAnd, flushes_of}
+use Rattle.kernel_rules.specs.CallRelation.{change_of, changed, counted, owed_by, state_by}
+use Rattle.kernel_rules.specs.CallRelation.{MayReply, begins, begins_in, ends, flushes}
 use Rattle.kernel_rules.specs.Relies.{is_node}
 use Rattle.kernel_rules.proofs.Changes.{IfFound}
 use Rattle.kernel_rules.proofs.Within.{put_same, put_other}
-use Rattle.kernel_invariant.proofs.Facts.{ChangesFrom, outcome_from, none_parts}
+use Rattle.kernel_invariant.proofs.Facts.{some_none}
 use Rattle.kernel_invariant.proofs.SoundRemovals.{find_not}
 use Rattle.kernel_invariant.proofs.SoundCalls.{IsOpen}
-use Rattle.kernel_invariant.proofs.Refs.{RefsBy, rule_refs, grace_refs}
+use Rattle.kernel_invariant.proofs.Refs.{RefsBy, refs_by, grace_refs}
+use Rattle.kernel_invariant.specs.Edits.{Edit, Untype, ends_in, ends_all}
+use Rattle.kernel_invariant.proofs.Edited.{Tested, Each, Calm, found_by}
 use Rattle.kernel_invariant.proofs.RefsLaw.{counted_refs}
 use Rattle.found_stays.proofs.SparesRuns.{among, core_same_refs}
 use Rattle.kernel_invariant.proofs.GraceChanges.{grace_by, grace_is, flushed_by}
 use Rattle.kernel_invariant.proofs.FrameTurns.{is_typed, TurnsIn, decided_turns}
 use Rattle.kernel_invariant.proofs.Releases.{begins_typed, ends_begins}
-use Rattle.kernel_invariant.proofs.Ends.{ends_by_rule}
+use Rattle.kernel_invariant.proofs.Ends.{found_fact, ends_by_rule}
 use Rattle.state_laws.specs.Cached.{IsUnflushedBy, IsStillThere}
 use Rattle.state_laws.proofs.Kept.{is_kept, Kept, decided_kept}
 use Rattle.state_laws.proofs.Gates.{waited}
@@ -47,49 +44,28 @@ none_unflushed s x h d below =
   where
     not_found : (w : Option ℕ) → unflushed_by w ≡ None → w ≡ None
     not_found None e = refl
-    not_found (Some e) q = absurd (some_none e q)
-      where
-        some_none : (e : ℕ) → unflushed_by (Some e) ≡ None → ⊥
-        some_none e q = cc
+    not_found (Some e) q = absurd (some_none (reply.Unflushed e) q)
 
 -- A frame whose grace period a decision ends is flushed by all cores.
 AreFlushed : State → Thing → Type 0
 AreFlushed s x = (d : ℕ) → d < s.limits.cores → (s.grace x).unflushed d ≡ false
 
-found_fact : {A P : Type 0} (x : Judged A) (Q : A → Type 0) → IfFound x (λ a. P) → IsFoundAnd x Q → P
-found_fact (Refused r) Q fact ok = absurd ok
-found_fact (Found a) Q fact ok = fact
-
-retype_flushed : (s : State) (d r f : ℕ)
-    → ChangesFrom (λ change. AreFlushed s (FrameOf f)) s d (rule_of s d (Retype r f frame_kind.Untyped))
+edit_flushed : (d : ℕ) (s : State) (e : Edit) → Tested d s e → (f : ℕ) → ends_in e (FrameOf f) ≡ true → AreFlushed s (FrameOf f)
 unfolding AreFlushed
-retype_flushed s d r f = λ range e calm.
-    let held : Cause = When (not (is_empty s f (s.frame f))) reply.NotEmpty in
-    let referenced : Cause = When (nat_lt 0 (refs s f)) (reply.Referenced (refs s f)) in
-    let p = none_parts (refusal_of s d (outside (found range) f)) (first_cause s d (not_retyped s f frame_kind.Untyped)) calm in
-    let p1 = none_parts (refusal_of s d (is_untyped_now s f))
-    (first_cause s d (referenced ∷ WaitedFor (FrameOf f) ∷ Unflushed (FrameOf f) ∷ held ∷ [])) p.1 in
-    let p2 = none_parts (refusal_of s d referenced) (first_cause s d (WaitedFor (FrameOf f) ∷ Unflushed (FrameOf f) ∷ held ∷ [])) p1.1 in
-    let p3 = none_parts (waits_of s d (FrameOf f)) (first_cause s d (Unflushed (FrameOf f) ∷ held ∷ [])) p2.1 in
-    let p4 = none_parts (flushes_of s (FrameOf f)) (first_cause s d (held ∷ [])) p3.1 in
-    none_unflushed s (FrameOf f) p4.0
+edit_flushed d s (Untype g) tested f is = none_unflushed s (FrameOf f)
+    (subst (λ (n : ℕ). flushes_of s (FrameOf n) ≡ None) (sym (eqb-true f g is)) tested)
+edit_flushed d s _ tested f is = absurd (false≢true is)
+
+edits_flushed : (d : ℕ) (s : State) (es : List Edit) → Calm d s es → Each Tested d s es → (f : ℕ) → ends_all es (FrameOf f) ≡ true
+    → AreFlushed s (FrameOf f)
+edits_flushed d s [] calm tested f is = absurd (false≢true is)
+edits_flushed d s (e ∷ es) calm tested f is = edit_flushed d s e tested.0 f (sym (calm.1 (FrameOf f)) ∙ is)
 
 frame_ends : (s : State) (d : ℕ) (call : Call) (r : Reply) (f : ℕ) → MayReply s d call r → ends call r (FrameOf f) ≡ true
     → AreFlushed s (FrameOf f)
-frame_ends s d call (reply.Ok v) f may is = by_call call may is
-  where
-    by_call : (call : Call) → MayReply s d call (reply.Ok v) → ends_by call (FrameOf f) ≡ true → AreFlushed s (FrameOf f)
-    by_call (Retype r g frame_kind.Untyped) may is =
-        let same : f ≡ g = eqb-true f g is in
-        subst (λ (n : ℕ). AreFlushed s (FrameOf n)) (sym same)
-        (found_fact (change_of s d (Retype r g frame_kind.Untyped)) (λ k. k.value ≡ v)
-        (outcome_from (λ change. AreFlushed s (FrameOf g)) s d
-        (rule_of s d (Retype r g frame_kind.Untyped)) (retype_flushed s d r g)) may.1)
-    by_call (make_call make.Table r g t b) may is = absurd (false≢true is)
-    by_call (make_call make.Leaf r g t b) may is = absurd (false≢true is)
-    by_call (make_call make.Pages r g t b) may is = absurd (false≢true is)
-    by_call (make_call make.Pleaf r g t b) may is = absurd (false≢true is)
-    by_call call may is = absurd (false≢true is)
+frame_ends s d call (reply.Ok v) f may is =
+    found_fact (change_of s d call) (λ k. k.value ≡ v) (found_by s d call (λ change. AreFlushed s (FrameOf f))
+    (λ change e. edits_flushed d s e.list e.calm e.tested f (sym (e.agrees.0 (FrameOf f)) ∙ is))) may.1
 frame_ends s d call _ f may is = absurd (false≢true is)
 
 pub frame_flushed : (s : State) (d : ℕ) (call : Call) (r : Reply) (f : ℕ) → MayReply s d call r → ends call r (FrameOf f) ≡ true
@@ -122,7 +98,7 @@ pub decided_refs : (s : State) (o : ℕ → Bool) (c : ℕ) (call : Call) (r : R
     → 0 < refs s f
     → (0 < refs (state_by s c call r) f) ⊎ (begins s c call r (FrameOf f) ≡ true)
 decided_refs s o c call (reply.Ok v) h lim may f some =
-    found_refs s c v (change_of s c call) (outcome_from (RefsBy s) s c (rule_of s c call) (rule_refs s o c h call lim)) may.1 f some
+    found_refs s c v (change_of s c call) (found_by s c call (RefsBy s) (refs_by s o c h call lim)) may.1 f some
 decided_refs s o c call reply.CallsSpent h lim may f some = inl some
 decided_refs s o c call reply.Raced h lim may f some =
     let a = counted_refs (owed_by s c call) c f in let b = owed_refs s c call f in inl (omega (arith, some, a, b))

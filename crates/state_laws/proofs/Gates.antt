@@ -45,7 +45,7 @@ use Rattle.kernel_invariant.proofs.GraceChanges.{grace_by, grace_is, flushed_by}
 use Rattle.kernel_invariant.proofs.Ends.{ends_by_rule}
 use Rattle.found_stays.proofs.Stays.{name_parts, place_named}
 use Rattle.state_laws.specs.Lives.{IsOfEpoch, GatesFit}
-use Rattle.state_laws.proofs.Phases.{phase_own, phase_other}
+use Rattle.kernel_invariant.proofs.SoundRuns.{phase_own, phase_other, decided_opened}
 use Rattle.state_laws.proofs.Kept.{is_kept, Kept, decided_kept}
 use Rattle.state_laws.proofs.Lives.{comp_kept}
 
@@ -135,8 +135,7 @@ module _ (s : State) (o : ℕ → Bool) (c : ℕ) (h : IsOpen s o c) (w : AreGat
 
   retype_gates : (r f : ℕ) (k : FrameKind) → ChangesFrom (NewGates s) s c (retype_rule s r f k)
   retype_gates r f frame_kind.Untyped = λ range e calm. stays s _ (λ f i. refl)
-  retype_gates r f frame_kind.User = λ range e calm. stays s _ (λ f i. refl)
-  retype_gates r f frame_kind.Kernel = λ range e calm. stays s _ (λ f i. refl)
+  retype_gates r f _ = λ range e calm. stays s _ (λ f i. refl)
 
   touch_gates : (pages v : ℕ) (t : Option Translation) → ChangesFrom (NewGates s) s c (touch_by s c pages v t)
   touch_gates pages v None = λ mapping e calm. stays s _ (λ f i. refl)
@@ -340,10 +339,7 @@ runs_gates setting lim (Enters c call ∷ events) run = enter_gates setting even
 runs_gates setting lim (Returns c ∷ events) run = return_gates setting events c (runs_gates setting lim events run.0)
 runs_gates setting lim (Decides c call r ∷ events) run =
     fewer (after setting (Decides c call r ∷ events)) (put (opened events) c false) (opened (Decides c call r ∷ events))
-    (λ d q. elim (cases_eq d c) [
-      | inl same ↦ absurd (false≢true (sym (ap is_open (phase_own (Decides c call r) events d same)) ∙ q))
-      | inr other ↦ put_other (opened events) c false d other ∙ sym (ap is_open (phase_other (Decides c call r) events d other)) ∙ q
-    ])
+    (decided_opened events c call r)
     (decided_gates (after setting events) (opened events) c call r
     (open_is setting lim events c run.0 (ap is_open run.1.is_open)) run.1.permitted
     (runs_gates setting lim events run.0))

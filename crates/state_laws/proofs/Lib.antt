@@ -1,4 +1,3 @@
-pub mod Phases
 pub mod Kept
 pub mod Lives
 pub mod CompsApart

@@ -1,27 +1,20 @@
 -- What a core has cached stays in its list, in order, till it flushes.
-use Rattle.std.proofs.Common.{◌≡◌, ◌≢◌, ℕ, Bool, true, false, refl, sym, ◌∙◌, ap, subst, nat_lt}
-use Rattle.std.proofs.Common.{if◌then◌else◌, List, [], ◌∷◌, ◌++◌, length, Option, Some, None}
+use Rattle.std.proofs.Common.{◌≡◌, ◌≢◌, ℕ, Bool, true, false, ◌||◌, refl, sym, ◌∙◌, ap, subst, nat_lt}
+use Rattle.std.proofs.Common.{if◌then◌else◌, List, [], ◌∷◌, ◌++◌, length}
 use Rattle.std.proofs.lemmas.Bool.{false≢true}
-use Rattle.spk_nums.specs.declared.kinds.FrameKind.{FrameKind}
-use Rattle.spk_nums.specs.declared.kinds.FrameKind.TheVariants as frame_kind
-use Rattle.spk_nums.specs.declared.calls.Make.{Make}
-use Rattle.spk_nums.specs.declared.calls.Make.TheVariants as make
 use Rattle.spk_nums.specs.declared.calls.Call.{Call}
-use Rattle.spk_nums.specs.declared.calls.Call.TheVariants.{Look, Copy, Remove, Grow, Shrink, Retype, Make as make_call}
-use Rattle.spk_nums.specs.declared.calls.Call.TheVariants.{Map, Unmap, Touch, Flush, Gate, Kill, Call as call_gate}
-use Rattle.spk_nums.specs.declared.calls.Call.TheVariants.{Ret, Switch, Tick, Transfer, Delegate, Test}
+use Rattle.spk_nums.specs.declared.calls.Call.TheVariants.{Tick}
 use Rattle.spk_nums.specs.declared.translations.Translation.{Translation}
 use Rattle.spk_nums.specs.declared.replies.Reply.{Reply}
 use Rattle.spk_nums.specs.declared.replies.Reply.TheVariants as reply
-use Rattle.kernel_rules.specs.State.{Core, State, put, comp_of, thread_in}
-use Rattle.kernel_rules.specs.Access.{Named, found}
+use Rattle.kernel_rules.specs.State.{Core, State, put}
 use Rattle.kernel_rules.specs.Rules.{Change, Judged, Refused, Found}
-use Rattle.kernel_rules.specs.CapabilityCalls.{make_rule}
-use Rattle.kernel_rules.specs.MemoryCalls.{retype_rule, touch_by, translation_of, caching}
-use Rattle.kernel_rules.specs.InvocationCalls.{switch_to}
-use Rattle.kernel_rules.specs.CallRelation.{rule_of, change_of, changed, counted, owed_by, state_by, flushes, flushes_by}
-use Rattle.kernel_rules.proofs.Changes.{AllChanges, IfFound, outcome_all}
+use Rattle.kernel_rules.specs.MemoryCalls.{caching}
+use Rattle.kernel_rules.specs.CallRelation.{change_of, changed, counted, owed_by, state_by, flushes, flushes_by}
+use Rattle.kernel_rules.proofs.Changes.{IfFound}
+use Rattle.kernel_invariant.specs.Edits.{Edit, Switch, Cache, Flush, Charge, edited, after_edits, is_flush, flush_in}
 use Rattle.kernel_invariant.proofs.Sound.{put_all}
+use Rattle.kernel_invariant.proofs.Edited.{Edits, found_by}
 use Rattle.state_laws.specs.Cached.{Begins}
 
 pub begins_same : (xs : List Translation) → Begins xs xs
@@ -66,58 +59,36 @@ puts s c flush core k own on = record {
     by_flush false is not =
         begins_then (s.core c).cached (core c).cached k.cached (on.each c (λ flushing. absurd (not flushing))) (own is)
 
+kept : (s : State) (c : ℕ) (k : Core) → k.cached ≡ (s.core c).cached → GoOn s c false (put s.core c k)
+kept s c k same = puts s c false s.core k
+    (λ none. subst (Begins (s.core c).cached) (sym same) (begins_same (s.core c).cached)) (stay s c false)
+
+edit_goes : (c : ℕ) (s : State) (e : Edit) → GoOn s c (is_flush e) (edited c s e).core
+edit_goes c s (Switch h q) = kept s c (record (s.core c) { thread = h; tcap = q }) refl
+edit_goes c s (Cache t) = puts s c false s.core _ (λ none. begins_caching (s.core c).cached t) (stay s c false)
+edit_goes c s Flush = puts s c true s.core (record (s.core c) { cached = [] }) (λ none. absurd (false≢true (sym none))) (stay s c true)
+edit_goes c s (Charge n) = kept s c (record (s.core c) { spent = _; owed = _ }) refl
+edit_goes c s _ = stay s c false
+
+edits_go : (c : ℕ) (s : State) (es : List Edit) → GoOn s c (flush_in es) (after_edits c s es).core
+edits_go c s [] = stay s c false
+edits_go c s (e ∷ es) = record {
+  each = λ d other. begins_then (s.core d).cached ((edited c s e).core d).cached _
+      ((edit_goes c s e).each d (λ is. other (ap (λ b. b || flush_in es) is)))
+      ((edits_go c (edited c s e) es).each d (λ is. other (last (is_flush e) (flush_in es) is)));
+}
+  where
+    last : (a b : Bool) → b ≡ true → (a || b) ≡ true
+    last true b is = refl
+    last false b is = is
+
 module _ (s : State) (c : ℕ) where
   abbrev Keeps : Call → Change → Type 0
   Keeps call change = GoOn s c (flushes_by call) change.next.core
 
-  kept : (call : Call) (k : Core) → k.cached ≡ (s.core c).cached → GoOn s c (flushes_by call) (put s.core c k)
-  kept call k same = puts s c (flushes_by call) s.core k
-      (λ none. subst (Begins (s.core c).cached) (sym same) (begins_same (s.core c).cached))
-      (stay s c (flushes_by call))
-
-  make_keeps : (what : Make) (r f t b : ℕ) → AllChanges (Keeps (make_call what r f t b)) (make_rule s what r f t b)
-  make_keeps make.Table r f t b = λ range table at. stay s c false
-  make_keeps make.Leaf r f t b = λ range table at. stay s c false
-  make_keeps make.Pages r f t b = λ range table at. stay s c false
-  make_keeps make.Pleaf r f t b = λ range table at. stay s c false
-  make_keeps (make.Thread comp) r f t b = λ range table k at. stay s c false
-  make_keeps (make.Tcap sched quality) r f t b = λ range table at. stay s c false
-  make_keeps (make.Comp x p l) r f t b = λ range table own_table own_pages at. stay s c false
-
-  retype_keeps : (r f : ℕ) (k : FrameKind) → AllChanges (Keeps (Retype r f k)) (retype_rule s r f k)
-  retype_keeps r f frame_kind.Untyped = λ range. stay s c false
-  retype_keeps r f frame_kind.User = λ range. stay s c false
-  retype_keeps r f frame_kind.Kernel = λ range. stay s c false
-
-  touch_keeps : (v : ℕ) (t : Option Translation) → AllChanges (Keeps (Touch v)) (touch_by s c (comp_of s c).pages v t)
-  touch_keeps v None = λ mapping. puts s c false s.core _ (λ none. begins_caching (s.core c).cached _) (stay s c false)
-  touch_keeps v (Some t) = stay s c false
-
-  switch_keeps : (a b q : ℕ) (name : Named) (e : Option ℕ) → AllChanges (Keeps (Switch a b)) (switch_to s c name q e)
-  switch_keeps a b q name None = kept (Switch a b) (record (s.core c) { thread = name.frame; tcap = q }) refl
-  switch_keeps a b q name (Some e) = kept (Switch a b) (record (s.core c) { thread = name.frame; tcap = q }) refl
-
-  rule_keeps : (call : Call) → AllChanges (Keeps call) (rule_of s c call)
-  rule_keeps (Look a) = λ k. stay s c false
-  rule_keeps (Copy a t b) = λ k table at. stay s c false
-  rule_keeps (Remove t b) = λ table at k. stay s c false
-  rule_keeps (Grow t i l) = λ table leaf at. stay s c false
-  rule_keeps (Shrink t i) = λ table at k. stay s c false
-  rule_keeps (Retype r f k) = retype_keeps r f k
-  rule_keeps (make_call what r f t b) = make_keeps what r f t b
-  rule_keeps (Map p v r f m) = λ pages range at. stay s c false
-  rule_keeps (Unmap p v) = λ pages at k. stay s c false
-  rule_keeps (Touch v) = touch_keeps v (translation_of (s.core c).cached (comp_of s c).pages v)
-  rule_keeps Flush = puts s c true s.core (record (s.core c) { cached = [] }) (λ none. absurd (false≢true (sym none))) (stay s c true)
-  rule_keeps (Gate k t b) = λ comp table at. stay s c false
-  rule_keeps (Kill k) = λ comp. stay s c false
-  rule_keeps (call_gate g) = λ gate. stay s c false
-  rule_keeps Ret = stay s c false
-  rule_keeps (Switch a b) = λ thread tcap. switch_keeps a b tcap.frame (found thread) (thread_in (s.frame thread.frame)).runs_on
-  rule_keeps (Tick n) = kept (Tick n) (record (s.core c) { spent = _; owed = _ }) refl
-  rule_keeps (Transfer a b m) = λ j k. stay s c false
-  rule_keeps (Delegate a b m) = λ j k. stay s c false
-  rule_keeps (Test a b) = λ j k. stay s c false
+  keeps_by : (call : Call) (change : Change) → Edits call c s change → Keeps call change
+  keeps_by call change e = subst (λ (k : Change). Keeps call k) (sym e.is)
+      (subst (λ b. GoOn s c b (after_edits c s e.list).core) (sym e.agrees.1) (edits_go c s e.list))
 
   changed_keeps : (call : Call) (x : Judged Change) → IfFound x (Keeps call) → GoOn s c (flushes_by call) (changed s x).core
   changed_keeps call (Refused r) by = stay s c (flushes_by call)
@@ -132,7 +103,7 @@ module _ (s : State) (c : ℕ) where
 
   pub decided_keeps : (call : Call) (r : Reply) → GoOn s c (flushes call r) (state_by s c call r).core
   decided_keeps call (reply.Ok v) = counts (changed s (change_of s c call)) (flushes_by call)
-      (changed_keeps call (change_of s c call) (outcome_all (Keeps call) s c (rule_of s c call) (rule_keeps call)))
+      (changed_keeps call (change_of s c call) (found_by s c call (Keeps call) (keeps_by call)))
   decided_keeps call reply.CallsSpent = stay s c false
   decided_keeps call reply.Raced = counts (owed_by s c call) false (owed_keeps call)
   decided_keeps call (reply.Busy d) = counts (owed_by s c call) false (owed_keeps call)

@@ -1,41 +1,31 @@
 -- The frame of a live number has its component; gates have their component's epoch; a dead epoch never lives again.
-use Rattle.std.proofs.Common.{◌≡◌, ◌⊎◌, inl, inr, ℕ, ◌+◌, ◌<◌, ◌≤◌, arith, Bool, true, false, not, refl, sym, ◌∙◌}
-use Rattle.std.proofs.Common.{ap, subst, ◌==◌, if◌then◌else◌, IsTrue, List, [], ◌∷◌, ◌++◌, Option, Some, None}
+use Rattle.std.proofs.Common.{◌≡◌, ◌⊎◌, inl, inr, ℕ, ◌+◌, ◌<◌, ◌≤◌, arith, Bool, true, false, refl, sym, ◌∙◌}
+use Rattle.std.proofs.Common.{ap, subst, ◌==◌, if◌then◌else◌, IsTrue, List, [], ◌∷◌, ◌++◌}
 use Rattle.std.proofs.lemmas.Bool.{false≢true, eqb-true}
 use Rattle.spk_nums.specs.Setting.{Setting, IsSetting}
 use Rattle.spk_nums.specs.declared.kinds.Kind.TheVariants as kind
-use Rattle.spk_nums.specs.declared.kinds.FrameKind.{FrameKind}
-use Rattle.spk_nums.specs.declared.kinds.FrameKind.TheVariants as frame_kind
-use Rattle.spk_nums.specs.declared.calls.Make.{Make}
-use Rattle.spk_nums.specs.declared.calls.Make.TheVariants as make
 use Rattle.spk_nums.specs.declared.calls.Call.{Call}
-use Rattle.spk_nums.specs.declared.calls.Call.TheVariants.{Look, Copy, Remove, Grow, Shrink, Retype, Make as make_call}
-use Rattle.spk_nums.specs.declared.calls.Call.TheVariants.{Map, Unmap, Touch, Flush, Gate, Kill, Call as call_gate}
-use Rattle.spk_nums.specs.declared.calls.Call.TheVariants.{Ret, Switch, Tick, Transfer, Delegate, Test}
-use Rattle.spk_nums.specs.declared.translations.Translation.{Translation}
-use Rattle.spk_nums.specs.declared.replies.Value.{Value}
+use Rattle.spk_nums.specs.declared.calls.Call.TheVariants.{Tick}
 use Rattle.spk_nums.specs.declared.replies.Reply.{Reply}
 use Rattle.spk_nums.specs.declared.replies.Reply.TheVariants as reply
-use Rattle.kernel_rules.specs.State.{CompFields, Comp, Frame, Kernel, Liveness, Unused, Live}
-use Rattle.kernel_rules.specs.State.{Dead, FrameOf, State, put, comp_in, comp_of, thread_in}
+use Rattle.kernel_rules.specs.State.{TcapFields, Tcap, Comp, Frame, Kernel, Liveness, Unused, Live}
+use Rattle.kernel_rules.specs.State.{Dead, FrameOf, State, put}
 use Rattle.kernel_rules.specs.Start.{start}
 use Rattle.kernel_rules.specs.References.{number_names, times, refs}
-use Rattle.kernel_rules.specs.Access.{Named, found}
-use Rattle.kernel_rules.specs.Rules.{Change, Cause, When, Judged, Refused, Found, IsFoundAnd, refusal_of, first_cause}
-use Rattle.kernel_rules.specs.CapabilityCalls.{outside, not_blank, make_rule, not_taken, is_live, epoch_of}
-use Rattle.kernel_rules.specs.MemoryCalls.{retype_rule, touch_by, translation_of}
-use Rattle.kernel_rules.specs.InvocationCalls.{is_live_in, not_live, switch_to}
-use Rattle.kernel_rules.specs.CallRelation.{rule_of, change_of, changed, owed_by, state_by, ends, MayReply}
+use Rattle.kernel_rules.specs.CapabilityCalls.{is_live, epoch_of}
+use Rattle.kernel_rules.specs.InvocationCalls.{is_live_in}
+use Rattle.kernel_rules.specs.TimeCalls.{with_tcap}
+use Rattle.kernel_rules.specs.CallRelation.{owed_by, state_by, ends, MayReply}
 use Rattle.kernel_rules.specs.Fitting.{fits}
 use Rattle.kernel_rules.specs.Runs.{Event, Enters, Decides, Returns, after, is_open, IsRun}
-use Rattle.kernel_rules.proofs.Changes.{IfFound}
 use Rattle.kernel_rules.proofs.Within.{put_same}
 use Rattle.kernel_invariant.proofs.Sums.{times_first}
 use Rattle.kernel_invariant.proofs.Sound.{IsSound, put_all}
 use Rattle.kernel_invariant.proofs.SoundRemovals.{unnamed}
 use Rattle.kernel_invariant.proofs.SoundCalls.{IsOpen}
 use Rattle.kernel_invariant.proofs.SoundRuns.{opened, open_is}
-use Rattle.kernel_invariant.proofs.Facts.{ChangesFrom, outcome_from, none_parts, when_not, not_not}
+use Rattle.kernel_invariant.specs.Edits.{Edit, Fill, Component, Deaden, Merge, edited, after_edits}
+use Rattle.kernel_invariant.proofs.Edited.{Tested, Each, AreLater, later_number, Calm, after_ok}
 use Rattle.kernel_invariant.proofs.Ends.{ends_by_rule}
 use Rattle.state_laws.specs.Lives.{IsCompOf, LiveNumbersFit, DeadStays}
 use Rattle.state_laws.proofs.Kept.{is_kept, decided_kept}
@@ -47,12 +37,9 @@ IsPast e (Live d f) = e < d
 IsPast e (Dead d) = e ≤ d
 
 -- What a change makes of liveness numbers: what is live was so, or is its new component's; what is past stays so.
-pub record Numbers (s : State) (change : Change) : Type 0 where
-  pub live : (l e f : ℕ) → change.next.number l ≡ Live e f → (s.number l ≡ Live e f) ⊎ IsCompOf (change.next.frame f) l e
-  pub past : (l e : ℕ) → IsPast e (s.number l) → IsPast e (change.next.number l)
-
-stays : (s : State) (change : Change) → ((l : ℕ) → change.next.number l ≡ s.number l) → Numbers s change
-stays s change same = record { live = λ l e f is. inl (sym (same l) ∙ is); past = λ l e p. subst (IsPast e) (sym (same l)) p }
+pub record DecidedNumbers (s t : State) : Type 0 where
+  pub live : (l e f : ℕ) → t.number l ≡ Live e f → (s.number l ≡ Live e f) ⊎ IsCompOf (t.frame f) l e
+  pub past : (l e : ℕ) → IsPast e (s.number l) → IsPast e (t.number l)
 
 live_inj : (e d f g : ℕ) → Live e f ≡ Live d g → (e ≡ d) × (f ≡ g)
 live_inj e d f g q = (epochs q, frames q)
@@ -78,95 +65,60 @@ killed e d Unused is past = absurd past
 killed e d (Live n f) is past = let same : n ≡ d = eqb-true n d is in omega (arith, same, past)
 killed e d (Dead n) is past = absurd (false≢true is)
 
-make_numbers : (s : State) (c : ℕ) (what : Make) (r f t b : ℕ) → ChangesFrom (Numbers s) s c (make_rule s what r f t b)
-make_numbers s c make.Table r f t b = λ range e table g at v calm. stays s _ (λ l. refl)
-make_numbers s c make.Leaf r f t b = λ range e table g at v calm. stays s _ (λ l. refl)
-make_numbers s c make.Pages r f t b = λ range e table g at v calm. stays s _ (λ l. refl)
-make_numbers s c make.Pleaf r f t b = λ range e table g at v calm. stays s _ (λ l. refl)
-make_numbers s c (make.Thread comp) r f t b = λ range e table g k j at v calm. stays s _ (λ l. refl)
-make_numbers s c (make.Tcap sched quality) r f t b = λ range e table g at v calm. stays s _ (λ l. refl)
-make_numbers s c (make.Comp x p n) r f t b = λ range e table g own_table a own_pages d at v calm.
-    let comp : CompFields = record { table = own_table.frame; pages = own_pages.frame; number = n; epoch = epoch_of (s.number n) + 1 } in
-    let q = none_parts (refusal_of s c (outside (found range) f)) (first_cause s c (not_blank s f ∷ not_taken s n)) calm in
-    let m = none_parts (refusal_of s c (not_blank s f)) (first_cause s c (not_taken s n)) q.1 in
-    let live : Cause = When (is_live (s.number n)) reply.Occupied in
-    let dead : is_live (s.number n) ≡ false = when_not (is_live (s.number n)) reply.Occupied (none_parts (refusal_of s c live) _ m.1).0 in
-    record {
-      live =
-          λ l e g. put_all (λ l x. x ≡ Live e g
-          → (s.number l ≡ Live e g) ⊎ IsCompOf (put s.frame f (Kernel (Comp comp)) g) l e) s.number n (Live comp.epoch f) l
-          (λ same is. inr (made comp l e g same (live_inj comp.epoch e f g is))) (λ other is. inl is);
-      past = λ l e old. put_all (λ l x. IsPast e (s.number l) → IsPast e x) s.number n (Live comp.epoch f) l
-          (λ same past. later e (s.number n) f dead (subst (λ m. IsPast e (s.number m)) same past)) (λ other past. past) old;
-    }
+edit_numbers : (c : ℕ) (s : State) (e : Edit) → Tested c s e → DecidedNumbers s (edited c s e)
+edit_numbers c s (Component f k) tested = record {
+  live =
+      λ l e g. put_all (λ l x. x ≡ Live e g
+      → (s.number l ≡ Live e g) ⊎ IsCompOf (put s.frame f (Kernel (Comp k)) g) l e) s.number k.number (Live k.epoch f) l
+      (λ same is. inr (made l e g same (live_inj k.epoch e f g is))) (λ other is. inl is);
+  past = λ l e old. put_all (λ l x. IsPast e (s.number l) → IsPast e x) s.number k.number (Live k.epoch f) l
+      (λ same past. subst (λ n. IsPast e (Live n f)) (sym tested.1)
+      (later e (s.number k.number) f tested.0 (subst (λ m. IsPast e (s.number m)) same past))) (λ other past. past) old;
+}
   where
-    made : (comp : CompFields) (l e g : ℕ) → l ≡ comp.number → (comp.epoch ≡ e) × (f ≡ g)
-        → IsCompOf (put s.frame f (Kernel (Comp comp)) g) l e
-    made comp l e g same is = subst (λ x. IsCompOf x l e) (sym (put_same s.frame f (Kernel (Comp comp)) g (sym is.1)))
+    made : (l e g : ℕ) → l ≡ k.number → (k.epoch ≡ e) × (f ≡ g) → IsCompOf (put s.frame f (Kernel (Comp k)) g) l e
+    made l e g same is = subst (λ x. IsCompOf x l e) (sym (put_same s.frame f (Kernel (Comp k)) g (sym is.1)))
         (record { comp = refl; number = sym same; epoch = is.0 })
+edit_numbers c s (Deaden n d) tested = record {
+  live =
+      λ l e g. put_all (λ l x. x ≡ Live e g → (s.number l ≡ Live e g) ⊎ IsCompOf (s.frame g) l e) s.number n (Dead d) l
+      (λ same q. absurd (dead_live d e g q)) (λ other q. inl q);
+  past = λ l e old. put_all (λ l x. IsPast e (s.number l) → IsPast e x) s.number n (Dead d) l
+      (λ same past. killed e d (s.number n) tested (subst (λ m. IsPast e (s.number m)) same past)) (λ other past. past) old;
+}
+edit_numbers c s _ tested = record { live = λ l e f is. inl is; past = λ l e p. p }
 
-kill_numbers : (s : State) (c k : ℕ) → ChangesFrom (Numbers s) s c (rule_of s c (Kill k))
-kill_numbers s c k = λ comp e calm.
-    let fields : CompFields = comp_in (s.frame comp.frame) in
-    let p = none_parts (refusal_of s c (not_live s (found comp) fields.number fields.epoch)) None calm in
-    let is : is_live_in (s.number fields.number) fields.epoch ≡ true =
-    not_not (is_live_in (s.number fields.number) fields.epoch)
-    (when_not (not (is_live_in (s.number fields.number) fields.epoch)) reply.Dead p.0) in
-    record {
-      live =
-          λ l e g. put_all (λ l x. x ≡ Live e g → (s.number l ≡ Live e g) ⊎ IsCompOf (s.frame g) l e)
-          s.number fields.number (Dead fields.epoch) l
-          (λ same q. absurd (dead_live fields.epoch e g q)) (λ other q. inl q);
-      past = λ l e old. put_all (λ l x. IsPast e (s.number l) → IsPast e x) s.number fields.number (Dead fields.epoch) l
-          (λ same past. killed e fields.epoch (s.number fields.number) is (subst (λ m. IsPast e (s.number m)) same past))
-          (λ other past. past) old;
-    }
+-- Later edits of a list keep components.
+comp_put : (x : Frame) (q : TcapFields) (l e : ℕ) → IsCompOf x l e → IsCompOf (with_tcap x q) l e
+comp_put (Kernel (Tcap p)) q l e comp = absurd (false≢true comp.comp)
+comp_put _ q l e comp = comp
 
-touch_numbers : (s : State) (c pages v : ℕ) (t : Option Translation) → ChangesFrom (Numbers s) s c (touch_by s c pages v t)
-touch_numbers s c pages v None = λ mapping e calm. stays s _ (λ l. refl)
-touch_numbers s c pages v (Some t) = λ calm. stays s _ (λ l. refl)
+later_comp : (c : ℕ) (s : State) (es : List Edit) → AreLater es → (f l e : ℕ) → IsCompOf (s.frame f) l e
+    → IsCompOf ((after_edits c s es).frame f) l e
+later_comp c s [] are f l e comp = comp
+later_comp c s (Fill at k ∷ es) are f l e comp = later_comp c (edited c s (Fill at k)) es are f l e comp
+later_comp c s (Merge g qs ∷ es) are f l e comp = later_comp c (edited c s (Merge g qs)) es are f l e
+    (put_all (λ f x. IsCompOf x l e) s.frame g _ f
+    (λ same. comp_put (s.frame g) _ l e (subst (λ n. IsCompOf (s.frame n) l e) same comp)) (λ other. comp))
+later_comp c s (_ ∷ es) are f l e comp = absurd are
 
-retype_numbers : (s : State) (c r f : ℕ) (k : FrameKind) → ChangesFrom (Numbers s) s c (retype_rule s r f k)
-retype_numbers s c r f frame_kind.Untyped = λ range e calm. stays s _ (λ l. refl)
-retype_numbers s c r f frame_kind.User = λ range e calm. stays s _ (λ l. refl)
-retype_numbers s c r f frame_kind.Kernel = λ range e calm. stays s _ (λ l. refl)
+edits_numbers : (c : ℕ) (s : State) (es : List Edit) → Calm c s es → Each Tested c s es → DecidedNumbers s (after_edits c s es)
+edits_numbers c s [] calm tested = record { live = λ l e f is. inl is; past = λ l e p. p }
+edits_numbers c s (e ∷ es) calm tested = record {
+  live = λ l d f is. elim (n.live l d f (ap (λ (number : ℕ → Liveness). number l) (sym same) ∙ is)) [
+    | inl old ↦ inl old
+    | inr new ↦ inr (later_comp c (edited c s e) es calm.2 f l d new)
+  ];
+  past = λ l d p. subst (λ (number : ℕ → Liveness). IsPast d (number l)) (sym same) (n.past l d p);
+}
+  where
+    n : DecidedNumbers s (edited c s e)
+    n = edit_numbers c s e tested.0
 
-switch_numbers : (s : State) (c q : ℕ) (name : Named) (e : Option ℕ) → ChangesFrom (Numbers s) s c (switch_to s c name q e)
-switch_numbers s c q name None = λ calm. stays s _ (λ l. refl)
-switch_numbers s c q name (Some e) = λ calm. stays s _ (λ l. refl)
-
-rule_numbers : (s : State) (c : ℕ) (call : Call) → ChangesFrom (Numbers s) s c (rule_of s c call)
-rule_numbers s c (Look a) = λ k e calm. stays s _ (λ l. refl)
-rule_numbers s c (Copy a t b) = λ k e table f at v calm. stays s _ (λ l. refl)
-rule_numbers s c (Remove t b) = λ table e at k g calm. stays s _ (λ l. refl)
-rule_numbers s c (Grow t i l) = λ table e leaf f at v calm. stays s _ (λ l. refl)
-rule_numbers s c (Shrink t i) = λ table e at k g calm. stays s _ (λ l. refl)
-rule_numbers s c (Retype r f k) = retype_numbers s c r f k
-rule_numbers s c (make_call what r f t b) = make_numbers s c what r f t b
-rule_numbers s c (Map p v r f w) = λ pages e range g at u calm. stays s _ (λ l. refl)
-rule_numbers s c (Unmap p v) = λ pages e at k g calm. stays s _ (λ l. refl)
-rule_numbers s c (Touch v) = touch_numbers s c (comp_of s c).pages v (translation_of (s.core c).cached (comp_of s c).pages v)
-rule_numbers s c Flush = λ calm. stays s _ (λ l. refl)
-rule_numbers s c (Gate k t b) = λ comp e table f at v calm. stays s _ (λ l. refl)
-rule_numbers s c (Kill k) = kill_numbers s c k
-rule_numbers s c (call_gate g) = λ gate e calm. stays s _ (λ l. refl)
-rule_numbers s c Ret = λ calm. stays s _ (λ l. refl)
-rule_numbers s c (Switch a b) = λ thread e tcap g. switch_numbers s c tcap.frame (found thread) (thread_in (s.frame thread.frame)).runs_on
-rule_numbers s c (Tick n) = λ calm. stays s _ (λ l. refl)
-rule_numbers s c (Transfer a b m) = λ j e k f calm. stays s _ (λ l. refl)
-rule_numbers s c (Delegate a b m) = λ j e k f calm. stays s _ (λ l. refl)
-rule_numbers s c (Test a b) = λ j e k f calm. stays s _ (λ l. refl)
+    same : (after_edits c s (e ∷ es)).number ≡ (edited c s e).number
+    same = later_number c (edited c s e) es calm.2
 
 -- What a decision makes of them.
-pub record DecidedNumbers (s t : State) : Type 0 where
-  pub live : (l e f : ℕ) → t.number l ≡ Live e f → (s.number l ≡ Live e f) ⊎ IsCompOf (t.frame f) l e
-  pub past : (l e : ℕ) → IsPast e (s.number l) → IsPast e (t.number l)
-
-found_numbers : (s : State) (v : Value) (x : Judged Change) → IfFound x (Numbers s) → IsFoundAnd x (λ k. k.value ≡ v)
-    → DecidedNumbers s (changed s x)
-found_numbers s v (Refused r) by ok = absurd ok
-found_numbers s v (Found change) by ok = record { live = by.live; past = by.past }
-
 unchanged : (s t : State) → ((l : ℕ) → t.number l ≡ s.number l) → DecidedNumbers s t
 unchanged s t same = record { live = λ l e f is. inl (sym (same l) ∙ is); past = λ l e p. subst (IsPast e) (sym (same l)) p }
 
@@ -176,7 +128,8 @@ owed_number s c _ l = refl
 
 decided_numbers : (s : State) (c : ℕ) (call : Call) (r : Reply) → MayReply s c call r → DecidedNumbers s (state_by s c call r)
 decided_numbers s c call (reply.Ok v) may =
-    let n = found_numbers s v (change_of s c call) (outcome_from (Numbers s) s c (rule_of s c call) (rule_numbers s c call)) may.1 in
+    let n = after_ok s c call v (DecidedNumbers s) may (λ change e.
+    let n = edits_numbers c s e.list e.calm e.tested in record { live = n.live; past = n.past }) in
     record { live = n.live; past = n.past }
 decided_numbers s c call reply.CallsSpent may = unchanged s _ (λ l. refl)
 decided_numbers s c call reply.Raced may = unchanged s _ (owed_number s c call)

@@ -10,7 +10,7 @@ use Rattle.kernel_rules.specs.Runs.{Event, after, is_open, phase_of, IsRun}
 use Rattle.kernel_invariant.proofs.SoundCalls.{IsOpen}
 use Rattle.kernel_invariant.proofs.SoundRuns.{opened, open_is}
 use Rattle.found_stays.proofs.Stays.{Stay, stay_same, stay_then, names_node, usable_relies, table_relies, pages_relies, event_stay}
-use Rattle.state_laws.proofs.Phases.{phase_other}
+use Rattle.kernel_invariant.proofs.SoundRuns.{phase_other}
 use Rattle.state_laws.specs.Looking.{names_nodes, LooksThrough, AreOfOthers, FoundStays}
 
 -- A core stays open through events of others.

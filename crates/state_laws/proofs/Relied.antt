@@ -1,12 +1,11 @@
 -- A core that decides its call relies on the nodes on which it relied, but for a frame that the call makes untyped.
-use Rattle.std.proofs.Common.{◌≡◌, ◌⊎◌, inl, inr, ℕ, ◌<◌, Bool, true, false, cond, refl, sym, ◌∙◌, ap, subst, IsTrue}
+use Rattle.std.proofs.Common.{◌≡◌, inl, inr, ℕ, Bool, true, false, cond, refl, sym, ◌∙◌, ap, subst, IsTrue}
 use Rattle.std.proofs.lemmas.Bool.{false≢true}
 use Rattle.spk_nums.specs.CallLimits.{InLimits}
 use Rattle.spk_nums.specs.declared.calls.Call.{Call}
 use Rattle.spk_nums.specs.declared.replies.Reply.{Reply}
 use Rattle.kernel_rules.specs.State.{Table, Leaf, Pages, Pleaf, Frame, Kernel, Grace, FrameOf, State}
 use Rattle.kernel_rules.specs.Start.{no_grace}
-use Rattle.kernel_rules.specs.References.{refs}
 use Rattle.kernel_rules.specs.GracePeriods.{new_grace}
 use Rattle.kernel_rules.specs.Relies.{is_node, IsGuarded, Relies}
 use Rattle.kernel_rules.specs.CallRelation.{MayReply, state_by, begins, ends, flushes}

@@ -1,6 +1,6 @@
 -- A touch that answers a frame and flags has them cached from then on.
 use Rattle.std.specs.Option.{option_or}
-use Rattle.std.proofs.Common.{◌≡◌, ◌⊎◌, ◌+◌, inl, inr, ℕ, ◌<◌, ◌≤◌, Bool, true, false, refl, sym, ◌∙◌, ap, subst, ◌==◌}
+use Rattle.std.proofs.Common.{◌≡◌, ◌⊎◌, ◌+◌, inl, inr, ℕ, ◌≤◌, Bool, true, false, refl, sym, ◌∙◌, ap, subst, ◌==◌}
 use Rattle.std.proofs.Common.{◌&&◌, nat_lt, if◌then◌else◌, cond, List, [], ◌∷◌, ◌++◌, length, find, Option, Some, None}
 use Rattle.std.proofs.lemmas.Bool.{and_parts, eq-eqb, eqb-true, ltb-false}
 use Rattle.std.proofs.lemmas.List.Folds.{find-append}
@@ -8,10 +8,9 @@ use Rattle.std.specs.List.{AllByRecursion}
 use Rattle.spk_nums.specs.Capability.{Capability}
 use Rattle.spk_nums.specs.declared.kinds.PageFlags.{PageFlags}
 use Rattle.spk_nums.specs.declared.translations.Translation.{Translation}
-use Rattle.spk_nums.specs.declared.replies.Value.{Value}
 use Rattle.spk_nums.specs.declared.replies.Value.TheVariants.{Page}
 use Rattle.spk_nums.specs.declared.replies.Reply.TheVariants as reply
-use Rattle.kernel_rules.specs.State.{Core, User, State, with_core, comp_of}
+use Rattle.kernel_rules.specs.State.{Core, State, with_core, comp_of}
 use Rattle.kernel_rules.specs.Rules.{Change, Judged, Refused, Found, Does, IsFoundAnd, and_then, unless, first_of, mapped, outcome, answers}
 use Rattle.kernel_rules.specs.MemoryCalls.{translation_of, caching, translated, caches, touch_by}
 use Rattle.kernel_rules.specs.CallRelation.{changed, counted}

@@ -1,32 +1,18 @@
 -- The way in which a call makes a step by which its core marks a word or gives it back; and what the counts are that it then holds.
-use Rattle.std.proofs.Common.{◌≡◌, ◌≢◌, ℕ, ◌+◌, ◌++◌, ◌^◌, ◌<◌, Bool, true, false, if◌then◌else◌}
-use Rattle.std.proofs.Common.{List, [], ◌∷◌, Option, Some, None, arith, refl, sym, ◌∙◌, ap}
-use Rattle.std.specs.Prelude.{All}
-use Rattle.std.proofs.lemmas.Bool.{false≢true}
-use Rattle.spk_nums.specs.Setting.{Setting, IsSetting}
-use Rattle.word_map.specs.Word.{Word, CountAt, FlushAt, ClockAt, same_word}
-use Rattle.word_map.specs.Moves.{Move, word_of, left_of}
-use Rattle.word_map.proofs.WordLemmas.{same_same}
-use Rattle.kernel_rules.specs.State.{FrameOf, put}
-use Rattle.kernel_history.specs.Trace.{Step, Trace, state_after, last_left}
-use Rattle.kernel_history.specs.Marks.{mark_of}
-use Rattle.kernel_history.specs.Marking.{marked_by}
-use Rattle.kernel_history.specs.Legal.{MayFollow}
-use Rattle.trace_laws.proofs.Carries.{Carries, carries_own}
-use Rattle.kernel_history.proofs.Names.{same_word-same, same_word-other}
-use Rattle.kernel_history.proofs.Steps.{phase-own, steps_in_call-own, last_left-there}
-use Rattle.stage_pins.specs.declared.held.Acquired.{Acquired}
-use Rattle.call_stages.specs.declared.stages.ActiveCall.{ActiveCall}
-use Rattle.call_stages.specs.View.{Core}
-use Rattle.core_invariant.specs.Holding.{count_of, committed, holds_counts, AreApart, settled_by, settled}
-use Rattle.core_invariant.specs.Knows.{phase_at, Knows, IsCount, CoreIs, flushing_in}
-use Rattle.core_invariant.specs.Invariant.{holds_in, holds, held_by, Invariant}
-use Rattle.kept_facts.proofs.WordFrames.{marks_own, hold_marks, hold_words, settled_stays}
-use Rattle.kept_facts.proofs.Sums.{sums_stay}
-use Rattle.kept_facts.proofs.Calm.{calm_same, calm_words, none_stored, IsUntimed, plain_time, plain_exit, plain_flushed}
+use Rattle.kept_facts.proofs.Common.{◌≡◌, ◌≢◌, ℕ, ◌+◌, ◌++◌, ◌^◌, ◌<◌, Bool, true, false, if◌then◌else◌, List, [], ◌∷◌, Option, Some}
+use Rattle.kept_facts.proofs.Common.{None, arith, refl, sym, ◌∙◌, ap, All, false≢true, Setting, IsSetting, Word, CountAt, FlushAt}
+use Rattle.kept_facts.proofs.Common.{ClockAt, same_word, Move, word_of, left_of, same_same, FrameOf, put, Step, Trace, state_after}
+use Rattle.kept_facts.proofs.Common.{last_left, mark_of, marked_by, MayFollow, Carries, same_word-other, phase-own, steps_in_call-own}
+use Rattle.kept_facts.proofs.Common.{last_left-there, Acquired, ActiveCall, Core, count_of, committed, holds_counts, AreApart, settled_by}
+use Rattle.kept_facts.proofs.Common.{settled, phase_at, Knows, IsCount, CoreIs, flushing_in, holds_in, holds, held_by, Invariant}
+use Rattle.kept_facts.proofs.Common.{marks_own, sums_stay, calm_words, none_stored, IsUntimed, plain_time, plain_exit, AsBefore}
+use Rattle.kept_facts.proofs.Common.{SparesLent}
+use Rattle.kept_facts.specs.trace_laws.proofs.Carries.{carries_own}
+use Rattle.kept_facts.specs.kernel_history.proofs.Names.{same_word-same}
+use Rattle.kept_facts.proofs.WordFrames.{hold_marks, hold_words, settled_stays}
+use Rattle.kept_facts.proofs.Calm.{calm_same, plain_flushed}
 use Rattle.step_ways.proofs.Flushing.{still_flushed}
-use Rattle.core_invariant.proofs.Bare.{AsBefore}
-use Rattle.kept_facts.proofs.Lent.{SparesLent, keeps_given, lent_still}
+use Rattle.kept_facts.proofs.Lent.{keeps_given, lent_still}
 use Rattle.step_ways.proofs.Good.{IsGood, SparesBlanks}
 use Rattle.step_ways.proofs.Users.{spares_none}
 use Rattle.step_ways.proofs.Loads.{Lands, IsOfCall, core_in_call, core_is, call_is, in_call}

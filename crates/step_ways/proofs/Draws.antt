@@ -1,29 +1,12 @@
 -- The way in which a call draws a stamp by raising the clock, and is decided: grace periods begin at the stamp.
-use Rattle.std.proofs.Common.{◌≡◌, ◌≢◌, ℕ, ◌+◌, ◌%◌, ◌^◌, ◌<◌, ◌≤◌, true, false, if◌then◌else◌}
-use Rattle.std.proofs.Common.{◌∷◌, Some, None, IsTrue, inl, arith, refl, sym, ◌∙◌, ap, subst}
-use Rattle.spk_nums.specs.Setting.{Setting, IsSetting}
-use Rattle.spk_nums.specs.declared.replies.Reply.{Reply}
-use Rattle.word_map.specs.Word.{Word, EntryAt, ClockAt}
-use Rattle.word_map.specs.Moves.{AddOf, Move}
-use Rattle.kernel_rules.specs.State.{put}
-use Rattle.kernel_rules.specs.Alone.{alone}
-use Rattle.kernel_history.specs.Trace.{Step, Trace, Open, Decided, phase, after_decide, state_after}
-use Rattle.kernel_history.specs.Alone.{IsAlone, IsFirst}
-use Rattle.kernel_history.specs.Discipline.{raises_clock}
-use Rattle.kernel_history.specs.Legal.{MayDecide}
-use Rattle.kernel_history.specs.Marking.{marked_by}
-use Rattle.kernel_history.specs.Stamps.{flushes_at, clock, flush_of}
-use Rattle.kernel_history.proofs.Steps.{phase-own, steps_in_call-own, flush_of-own, flush_stored-own}
-use Rattle.call_stages.specs.declared.stages.Stage.{Stage}
-use Rattle.call_stages.specs.declared.stages.ActiveCall.{ActiveCall}
-use Rattle.call_stages.specs.View.{Core}
-use Rattle.core_invariant.specs.Words.{WordIs}
-use Rattle.core_invariant.specs.Knows.{phase_at, Knows, WorksIn, CoreIs, flushing_in}
-use Rattle.core_invariant.specs.Invariant.{holds, held_by, times_of, counted_in, SumIs, Invariant}
-use Rattle.kept_facts.proofs.WordFrames.{ReadsAlike, StaysSaid, marks_own, carry_marks, carry_words}
-use Rattle.kept_facts.proofs.Calm.{plain_exit}
-use Rattle.kept_facts.proofs.Lent.{lent_open, lent_elsewhere}
-use Rattle.kept_facts.proofs.Carries.{counts_on}
+use Rattle.kept_facts.proofs.Common.{◌≡◌, ◌≢◌, ℕ, ◌+◌, ◌%◌, ◌^◌, ◌<◌, ◌≤◌, true, false, if◌then◌else◌, ◌∷◌, Some, None, IsTrue, inl}
+use Rattle.kept_facts.proofs.Common.{arith, refl, sym, ◌∙◌, ap, subst, Setting, IsSetting, Reply, Word, EntryAt, ClockAt, AddOf, Move}
+use Rattle.kept_facts.proofs.Common.{put, alone, Step, Trace, Open, phase, after_decide, state_after, IsAlone, IsFirst, raises_clock}
+use Rattle.kept_facts.proofs.Common.{MayDecide, marked_by, flushes_at, clock, flush_of, phase-own, steps_in_call-own, flush_of-own}
+use Rattle.kept_facts.proofs.Common.{flush_stored-own, Stage, ActiveCall, Core, WordIs, phase_at, Knows, WorksIn, CoreIs, flushing_in}
+use Rattle.kept_facts.proofs.Common.{holds, held_by, times_of, counted_in, SumIs, Invariant, ReadsAlike, StaysSaid, marks_own}
+use Rattle.kept_facts.proofs.Common.{carry_marks, carry_words, plain_exit, lent_open, lent_elsewhere, counts_on}
+use Rattle.kept_facts.specs.kernel_history.specs.Trace.{Decided}
 use Rattle.step_ways.proofs.Flushing.{open_flushed}
 use Rattle.step_ways.proofs.Good.{IsGood, spares_other}
 use Rattle.step_ways.proofs.Users.{SparesBy, spared}

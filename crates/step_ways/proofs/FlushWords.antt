@@ -1,17 +1,8 @@
 -- What a core's flush word shows: the flush that the core has stored, which is not later than its last.
-use Rattle.call_stages.specs.View.{Core}
-use Rattle.core_invariant.specs.Invariant.{Invariant}
-use Rattle.frame_words.specs.declared.flush_word.FlushWord.{FlushWord}
-use Rattle.frame_words.specs.Flush.{flush_of_word}
-use Rattle.trace_laws.proofs.Waiting.{Flushed, later_flushed, may_be_unflushed}
-use Rattle.kernel_history.specs.Stamps.{stamp, awaits_flushes, flush_of, flush_stored}
-use Rattle.kernel_history.specs.Trace.{Trace, state_after, last_left}
-use Rattle.kernel_rules.specs.GracePeriods.{MayBeUnflushed}
-use Rattle.kernel_rules.specs.State.{Thing}
-use Rattle.spk_nums.specs.Setting.{Setting}
-use Rattle.std.proofs.Common.{◌≡◌, ℕ, ◌<◌, ◌≤◌, true, Some, arith, sym, ◌∙◌, ap, subst}
-use Rattle.core_invariant.proofs.Sounds.{limits_of}
-use Rattle.word_map.specs.Word.{FlushAt}
+use Rattle.kept_facts.proofs.Common.{Core, Invariant, FlushWord, flush_of_word, stamp, awaits_flushes, flush_of, flush_stored, Trace}
+use Rattle.kept_facts.proofs.Common.{state_after, last_left, MayBeUnflushed, Thing, Setting, ◌≡◌, ℕ, ◌<◌, ◌≤◌, true, Some, arith, sym}
+use Rattle.kept_facts.proofs.Common.{◌∙◌, ap, subst, limits_of, FlushAt}
+use Rattle.kept_facts.specs.trace_laws.proofs.Waiting.{Flushed, later_flushed, may_be_unflushed}
 
 module _ (setup : Setting) (cores : ℕ → Core) (t : Trace) (stands : Invariant setup cores t) (c : ℕ) (shown : FlushWord)
     (shows : flush_of_word (last_left setup t (FlushAt c)) ≡ Some shown) where

@@ -1,55 +1,36 @@
 -- Flushes that are decided and still to be stored. What a core holds stands for nothing at a flush word, but there: so where a step
 -- leaves what it stands for at its core's flush word, the core has its last flush stored if it had before.
-use Rattle.act_states.specs.declared.kills.KillingAt.{KillingAt}
-use Rattle.act_states.specs.declared.kills.KillingAt.TheVariants.{LoadComp, LoadLive, Close as kill_close, Draw as kill_draw}
-use Rattle.act_states.specs.declared.makings.MakingAt.{MakingAt}
-use Rattle.act_states.specs.declared.makings.MakingAt.TheVariants.{Load, Mark, Store, Fill as making_fill}
-use Rattle.act_states.specs.declared.work.Act.{Act as ActOf}
-use Rattle.act_states.specs.declared.work.Act.TheVariants.{Fill, Remove, Retype, Make, Map, Outside, Tick, Flush, Kill, Untype}
-use Rattle.act_states.specs.declared.work.Act.TheVariants.{MakeComp, Invoke, Return, Touch, Share as share_act, Switch as switch_act}
-use Rattle.act_states.specs.declared.comps.CompMaking.{CompMaking}
-use Rattle.act_states.specs.declared.comps.CompAt.{CompAt}
-use Rattle.act_states.specs.declared.comps.CompAt.TheVariants as comp_at
-use Rattle.act_states.specs.declared.work.Tail.{Tail}
-use Rattle.act_states.specs.declared.work.Tail.TheVariants.{Nothing, Quiesce, Unmark, StoreDead, StoreFlush, StoreLive}
-use Rattle.act_states.specs.declared.work.Tail.TheVariants.{Push, Pop, Release, Share, StoreRunning, StoreIdle}
-use Rattle.act_states.specs.declared.work.Work.{Work}
-use Rattle.act_states.specs.declared.work.Work.TheVariants.{Lookup, Read, Scan, Acquire, Act as act_work}
-use Rattle.call_stages.specs.declared.stages.ActiveCall.{ActiveCall}
-use Rattle.call_stages.specs.declared.stages.Stage.{Stage}
-use Rattle.call_stages.specs.declared.stages.Stage.TheVariants.{Enter, Undecided, Decided, Leave}
-use Rattle.stage_sweep.specs.Freeze.{swept_of}
-use Rattle.act_states.specs.Untypings.{release_of}
-use Rattle.act_states.specs.declared.untypings.UntypingAt.{UntypingAt}
-use Rattle.act_states.specs.declared.untypings.UntypingAt.TheVariants as untype
-use Rattle.core_invariant.specs.Frozen.{holds_untyping}
-use Rattle.core_invariant.proofs.Freezing.{release_flush}
-use Rattle.core_invariant.specs.Holding.{Holding, holds_counts, holds_closed, holds_drawn}
-use Rattle.core_invariant.specs.Knows.{flushes_tail, is_flushing, flushing_in, phase_at, KnowsAt}
-use Rattle.core_invariant.proofs.ThreadHolds.{switching_flush}
-use Rattle.core_invariant.specs.Invariant.{is_done, holds_making, holds_killing, holds_comp, holds_act, holds_tail, holds_work}
-use Rattle.core_invariant.specs.Invariant.{holds_stage, holds_at, holds_share, holds_shared, holds_push, holds_pop}
-use Rattle.stage_thread.specs.declared.stack.Push.{Push as PushOf}
-use Rattle.stage_thread.specs.declared.stack.Push.TheVariants as push
-use Rattle.stage_thread.specs.declared.stack.Pop.{Pop as PopOf}
-use Rattle.stage_thread.specs.declared.stack.Pop.TheVariants as pop
-use Rattle.stage_tcap.specs.declared.pair.Pair.{Pair}
-use Rattle.stage_tcap.specs.declared.pair.PairAt.{PairAt}
-use Rattle.stage_tcap.specs.declared.pair.PairAt.TheVariants.{LoadA, MarkA, ListA, LoadB, ListB, CompareB}
-use Rattle.stage_tcap.specs.declared.pair.PairAt.TheVariants.{AgainB, StoreList, StoreB, StoreA}
-use Rattle.kernel_history.specs.Trace.{Trace, Phase, Out, Open, Decided as Decided_phase}
-use Rattle.spk_nums.specs.declared.replies.Reply.{Reply}
-use Rattle.spk_nums.specs.Capability.{Capability}
-use Rattle.spk_nums.specs.declared.calls.Call.{Call}
-use Rattle.spk_nums.specs.Setting.{Setting}
-use Rattle.stage_pins.specs.declared.held.Acquired.{Acquired}
-use Rattle.stage_quiet.specs.declared.close.Close.{Close}
-use Rattle.stage_quiet.specs.declared.close.Close.TheVariants.{AtCompare, AtDraw, AtStore}
-use Rattle.std.proofs.Common.{◌≡◌, ℕ, ◌≤◌, Bool, true, false, if◌then◌else◌, List, [], ◌∷◌, Option}
-use Rattle.std.proofs.Common.{Some, None, IfSome, ◌⊎◌, inl, inr, arith, refl, sym, ◌∙◌, ap, subst}
-use Rattle.std.proofs.lemmas.Bool.{false≢true}
-use Rattle.word_map.proofs.WordLemmas.{same_same}
-use Rattle.word_map.specs.Word.{FlushAt}
+use Rattle.kept_facts.proofs.Common.{KillingAt, LoadComp, LoadLive, MakingAt, Mark, Store, Fill, Outside, Untype, MakeComp, Invoke}
+use Rattle.kept_facts.proofs.Common.{Return, CompMaking, CompAt, Tail, Nothing, Quiesce, Unmark, StoreDead, StoreFlush, StoreLive, Push}
+use Rattle.kept_facts.proofs.Common.{Pop, Release, Share, StoreRunning, StoreIdle, Work, Lookup, Read, Scan, Acquire, ActiveCall, Stage}
+use Rattle.kept_facts.proofs.Common.{Enter, Undecided, Decided, Leave, swept_of, release_of, UntypingAt, holds_untyping, Holding}
+use Rattle.kept_facts.proofs.Common.{holds_counts, is_flushing, flushing_in, phase_at, KnowsAt, is_done, holds_making, holds_killing}
+use Rattle.kept_facts.proofs.Common.{holds_comp, holds_act, holds_tail, holds_work, holds_at, holds_share, holds_shared, Pair, PairAt}
+use Rattle.kept_facts.proofs.Common.{LoadA, MarkA, ListA, LoadB, ListB, CompareB, AgainB, StoreList, StoreB, StoreA, Trace, Phase, Out}
+use Rattle.kept_facts.proofs.Common.{Open, Reply, Capability, Call, Setting, Acquired, Close, AtCompare, AtDraw, AtStore, ◌≡◌, ℕ, ◌≤◌}
+use Rattle.kept_facts.proofs.Common.{Bool, true, false, if◌then◌else◌, List, [], ◌∷◌, Option, Some, None, ◌⊎◌, inl, inr, arith, refl, sym}
+use Rattle.kept_facts.proofs.Common.{◌∙◌, ap, subst, false≢true, same_same, FlushAt}
+use Rattle.kept_facts.specs.act_states.specs.declared.kills.KillingAt.TheVariants.{Close as kill_close}
+use Rattle.kept_facts.specs.act_states.specs.declared.kills.KillingAt.TheVariants.{Draw as kill_draw}
+use Rattle.kept_facts.specs.act_states.specs.declared.makings.MakingAt.TheVariants.{Load, Fill as making_fill}
+use Rattle.kept_facts.specs.act_states.specs.declared.work.Act.{Act as ActOf}
+use Rattle.kept_facts.specs.act_states.specs.declared.work.Act.TheVariants.{Remove, Retype, Make, Map, Tick, Flush, Kill}
+use Rattle.kept_facts.specs.act_states.specs.declared.work.Act.TheVariants.{Touch, Share as share_act}
+use Rattle.kept_facts.specs.act_states.specs.declared.work.Act.TheVariants.{Switch as switch_act}
+use Rattle.kept_facts.specs.act_states.specs.declared.comps.CompAt.TheVariants as comp_at
+use Rattle.kept_facts.specs.act_states.specs.declared.work.Work.TheVariants.{Act as act_work}
+use Rattle.kept_facts.specs.act_states.specs.declared.untypings.UntypingAt.TheVariants as untype
+use Rattle.kept_facts.specs.core_invariant.proofs.Freezing.{release_flush}
+use Rattle.kept_facts.specs.core_invariant.specs.Holding.{holds_closed, holds_drawn}
+use Rattle.kept_facts.specs.core_invariant.specs.Knows.{flushes_tail}
+use Rattle.kept_facts.specs.core_invariant.proofs.ThreadHolds.{switching_flush}
+use Rattle.kept_facts.specs.core_invariant.specs.Invariant.{holds_stage, holds_push, holds_pop}
+use Rattle.kept_facts.specs.stage_thread.specs.declared.stack.Push.{Push as PushOf}
+use Rattle.kept_facts.specs.stage_thread.specs.declared.stack.Push.TheVariants as push
+use Rattle.kept_facts.specs.stage_thread.specs.declared.stack.Pop.{Pop as PopOf}
+use Rattle.kept_facts.specs.stage_thread.specs.declared.stack.Pop.TheVariants as pop
+use Rattle.kept_facts.specs.kernel_history.specs.Trace.{Decided as Decided_phase}
+use Rattle.std.proofs.Common.{IfSome}
 
 counts_flush : (fate : Option (Option ℕ)) (xs : List Acquired) (c : ℕ) → (holds_counts fate xs).stands (FlushAt c) ≡ 0
 counts_flush fate [] c = refl

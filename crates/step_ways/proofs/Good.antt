@@ -1,95 +1,67 @@
 -- What a step must show, and why the cores then stand for the trace with it. Calls are not looked at here.
-use Rattle.frame_words.specs.declared.frame_word.FrameWord.{FrameWord}
-use Rattle.spk_nums.specs.declared.kinds.Obj.TheVariants.{Blank as BlankObject}
-use Rattle.spk_nums.specs.declared.kinds.FrameKind.TheVariants.{Untyped as FrameUntyped, User as FrameUser, Kernel as FrameKernel}
-use Rattle.act_states.specs.declared.objects.NewObject.{NewObject}
-use Rattle.act_states.specs.declared.comps.CompAt.{CompAt}
-use Rattle.act_states.specs.declared.comps.CompAt.TheVariants as comp_at
-use Rattle.act_states.specs.declared.comps.CompMaking.{CompMaking}
-use Rattle.act_states.specs.Comps.{comp_is_marked}
-use Rattle.act_states.specs.Makings.{is_marked}
-use Rattle.act_states.specs.declared.makings.MakingAt.TheVariants.{Load as making_load, Mark, Store, Fill as making_fill}
-use Rattle.act_states.specs.declared.makings.MakingAt.{MakingAt}
-use Rattle.act_states.specs.declared.work.Work.TheVariants.{Lookup, Read, Scan, Acquire, Act as act_work}
-use Rattle.act_states.specs.declared.work.Work.{Work}
-use Rattle.act_states.specs.declared.work.Act.TheVariants.{Fill as fill_act, Remove as remove_act, Retype as type_act}
-use Rattle.act_states.specs.declared.work.Act.TheVariants.{Make as make_act, Outside, Tick as tick_act, Flush as flush_act}
-use Rattle.act_states.specs.declared.work.Act.TheVariants.{Kill as kill_act, Untype as untype_act, Map as map_act}
-use Rattle.act_states.specs.declared.work.Act.TheVariants.{MakeComp as comp_act, Invoke as invoke_act, Return as return_act}
-use Rattle.act_states.specs.declared.work.Act.TheVariants.{Touch as touch_act, Share as share_act, Switch as switch_act}
-use Rattle.act_states.specs.declared.work.Act.{Act as ActOf}
-use Rattle.stage_quiet.specs.declared.quiet.Quiet.TheVariants.{AtCore, AtFlush}
-use Rattle.call_plans.specs.declared.plans.Plan.{Plan}
-use Rattle.kernel_history.proofs.Names.{cases_word}
-use Rattle.kernel_history.specs.ObjectWords.{frame_value, name_of_object}
-use Rattle.kernel_rules.specs.Relies.{is_node}
-use Rattle.word_map.proofs.WordLemmas.{same_same}
-use Rattle.word_map.specs.Moves.{word_of, left_of}
-use Rattle.frame_words.specs.Frame.{frame_of_word}
-use Rattle.spk_nums.specs.Capability.{Capability}
-use Rattle.std.proofs.Common.{suc, zero, ◌≡◌, ◌≢◌, inl, inr, ℕ, ◌+◌, ◌<◌, ◌≤◌, ◌∷◌, length, Option, Some, None, arith, sym}
-use Rattle.std.proofs.Common.{◌∙◌, ap, subst, ◌⊎◌, ◌&&◌, ◌==◌, not, Bool, true, false, List, IsTrue, if◌then◌else◌, refl}
-use Rattle.std.proofs.lemmas.Bool.{cases_eq, true≢false, eqb-true, false≢true}
-use Rattle.spk_nums.specs.Setting.{Setting, IsSetting}
-use Rattle.spk_nums.specs.declared.calls.Call.{Call}
-use Rattle.word_map.specs.Word.{Word, EntryAt, FrameAt, LiveAt}
-use Rattle.kernel_rules.specs.State.{put, first_of_stack, Frame, Untyped, User, Kernel, Blank}
-use Rattle.kernel_rules.specs.State.{Table, Leaf, Pages, Pleaf, Comp, Thread, Tcap, Object}
-use Rattle.kernel_rules.proofs.Within.{put_same, put_other}
-use Rattle.kernel_history.specs.Trace.{Step, Trace, Out, Open, phase, state_after, last_left}
-use Rattle.kernel_history.specs.Bounds.{IsWithin}
-use Rattle.kernel_history.specs.Marking.{marked_by}
-use Rattle.kernel_history.specs.Discipline.{IsDisciplined}
-use Rattle.kernel_history.specs.Footprint.{StepsNear, IsNearIn}
-use Rattle.kernel_history.specs.Alone.{AnswersAlone}
-use Rattle.kernel_history.specs.Legal.{MayEnter, MayFollow}
-use Rattle.kernel_history.specs.Stamps.{is_in, clock}
-use Rattle.kernel_history.proofs.Steps.{phase-other, calls_of-other, steps_in_call-other, own_read-other, exit_of-other}
-use Rattle.kernel_history.proofs.Steps.{flush_of-other, flush_stored-other, last_left-here, last_left-there}
-use Rattle.kernel_history.specs.Graces.{KeepsTime, LeavesBy}
-use Rattle.found_stays.proofs.Stays.{OwnStay}
-use Rattle.trace_laws.proofs.Stays.{own_stays_other, stays_in_other}
-use Rattle.kernel_history.proofs.Inside.{inside_is}
-use Rattle.trace_laws.proofs.GraceSteps.{grace_on, times_on}
-use Rattle.trace_laws.proofs.Waiting.{leave_on, passed_on, flushed_on}
-use Rattle.kernel_history.proofs.Markings.{marked_on}
-use Rattle.trace_laws.proofs.Carries.{Carries, carries_other, was_stays}
-use Rattle.call_stages.specs.declared.stages.Stage.{Stage}
-use Rattle.call_stages.specs.declared.stages.Stage.TheVariants.{Enter, Undecided, Decided, Leave}
-use Rattle.call_stages.specs.declared.stages.ActiveCall.{ActiveCall}
-use Rattle.act_states.specs.declared.own.Own.{Own}
-use Rattle.act_states.specs.declared.work.Tail.TheVariants.{Nothing, Quiesce, Unmark, StoreDead, StoreFlush, Release}
-use Rattle.act_states.specs.declared.work.Tail.TheVariants.{StoreLive, Push, Pop, Share, StoreRunning, StoreIdle}
-use Rattle.call_stages.specs.View.{Core}
-use Rattle.core_invariant.specs.Threads.{HasThread, holds_switching, claimed_by, is_claimed, KnowsIdle, KnowsRunning}
-use Rattle.core_invariant.proofs.ThreadHolds.{IsIdleIn, claimed_idle}
+use Rattle.kept_facts.proofs.Common.{FrameWord, NewObject, CompAt, CompMaking, Mark, Store, MakingAt, Lookup, Read, Scan, Acquire, Work}
+use Rattle.kept_facts.proofs.Common.{Outside, AtCore, AtFlush, Plan, cases_word, frame_value, is_node, same_same, word_of, left_of}
+use Rattle.kept_facts.proofs.Common.{frame_of_word, Capability, suc, zero, ◌≡◌, ◌≢◌, inl, inr, ℕ, ◌+◌, ◌<◌, ◌≤◌, ◌∷◌, length, Option}
+use Rattle.kept_facts.proofs.Common.{Some, None, arith, sym, ◌∙◌, ap, subst, ◌⊎◌, ◌&&◌, ◌==◌, not, Bool, true, false, List, IsTrue}
+use Rattle.kept_facts.proofs.Common.{if◌then◌else◌, refl, cases_eq, eqb-true, false≢true, Setting, IsSetting, Call, Word, EntryAt}
+use Rattle.kept_facts.proofs.Common.{FrameAt, LiveAt, put, first_of_stack, Frame, Untyped, User, Kernel, Blank, Table, Leaf, Pages, Pleaf}
+use Rattle.kept_facts.proofs.Common.{Comp, Thread, Tcap, Object, put_same, put_other, Step, Trace, Out, Open, phase, state_after}
+use Rattle.kept_facts.proofs.Common.{last_left, marked_by, IsNearIn, MayFollow, is_in, clock, phase-other, flush_stored-other}
+use Rattle.kept_facts.proofs.Common.{last_left-here, last_left-there, KeepsTime, Carries, was_stays, Stage, Enter, Undecided, Decided}
+use Rattle.kept_facts.proofs.Common.{Leave, ActiveCall, Own, Nothing, Quiesce, Unmark, StoreDead, StoreFlush, Release, StoreLive, Push}
+use Rattle.kept_facts.proofs.Common.{Pop, Share, StoreRunning, StoreIdle, Core, HasThread, holds_switching, claimed_by, is_claimed}
+use Rattle.kept_facts.proofs.Common.{settled, MarkIs, Holding, keeps, holds_counts, settled_by, WordIs, SparesTcap, phase_at, CallIs}
+use Rattle.kept_facts.proofs.Common.{KnowsAt, WorksIn, CoreIs, blank_word, KnowsMakingAt, KnowsAct, KnowsWork, KnowsCompAt, held_by}
+use Rattle.kept_facts.proofs.Common.{times_of, counted_in, SumIs, Invariant, is_done, holds_making, holds_act, holds_work, holds_at}
+use Rattle.kept_facts.proofs.Common.{holds_in, holds, holds_comp, IsLent, marker_inside, counts_on, latest_stamp, swept_of, Sweep}
+use Rattle.kept_facts.proofs.Common.{SweepAt, Swept, release_of, UntypingAt, holds_release, holds_untyping, AreFrozen, AreKept, IsQuiet}
+use Rattle.kept_facts.proofs.Common.{KnowsSweep, KnowsSwept, KnowsUntypingAt, SaysTyped, HoldsSwept, release_swept, SparesLent}
+use Rattle.kept_facts.specs.spk_nums.specs.declared.kinds.Obj.TheVariants.{Blank as BlankObject}
+use Rattle.kept_facts.specs.spk_nums.specs.declared.kinds.FrameKind.TheVariants.{Untyped as FrameUntyped, User as FrameUser}
+use Rattle.kept_facts.specs.spk_nums.specs.declared.kinds.FrameKind.TheVariants.{Kernel as FrameKernel}
+use Rattle.kept_facts.specs.act_states.specs.declared.comps.CompAt.TheVariants as comp_at
+use Rattle.kept_facts.specs.act_states.specs.Comps.{comp_is_marked}
+use Rattle.kept_facts.specs.act_states.specs.Makings.{is_marked}
+use Rattle.kept_facts.specs.act_states.specs.declared.makings.MakingAt.TheVariants.{Load as making_load, Fill as making_fill}
+use Rattle.kept_facts.specs.act_states.specs.declared.work.Work.TheVariants.{Act as act_work}
+use Rattle.kept_facts.specs.act_states.specs.declared.work.Act.TheVariants.{Fill as fill_act, Remove as remove_act, Retype as type_act}
+use Rattle.kept_facts.specs.act_states.specs.declared.work.Act.TheVariants.{Make as make_act, Tick as tick_act, Flush as flush_act}
+use Rattle.kept_facts.specs.act_states.specs.declared.work.Act.TheVariants.{Kill as kill_act, Untype as untype_act, Map as map_act}
+use Rattle.kept_facts.specs.act_states.specs.declared.work.Act.TheVariants.{MakeComp as comp_act, Invoke as invoke_act}
+use Rattle.kept_facts.specs.act_states.specs.declared.work.Act.TheVariants.{Return as return_act}
+use Rattle.kept_facts.specs.act_states.specs.declared.work.Act.TheVariants.{Touch as touch_act, Share as share_act, Switch as switch_act}
+use Rattle.kept_facts.specs.act_states.specs.declared.work.Act.{Act as ActOf}
+use Rattle.kept_facts.specs.kernel_history.specs.ObjectWords.{name_of_object}
+use Rattle.std.proofs.lemmas.Bool.{true≢false}
+use Rattle.kept_facts.specs.kernel_history.specs.Bounds.{IsWithin}
+use Rattle.kept_facts.specs.kernel_history.specs.Discipline.{IsDisciplined}
+use Rattle.kept_facts.specs.kernel_history.specs.Footprint.{StepsNear}
+use Rattle.kept_facts.specs.kernel_history.specs.Alone.{AnswersAlone}
+use Rattle.kept_facts.specs.kernel_history.specs.Legal.{MayEnter}
+use Rattle.kept_facts.specs.kernel_history.proofs.Steps.{calls_of-other, steps_in_call-other, own_read-other, exit_of-other}
+use Rattle.kept_facts.specs.kernel_history.proofs.Steps.{flush_of-other}
+use Rattle.kept_facts.specs.kernel_history.specs.Graces.{LeavesBy}
+use Rattle.kept_facts.specs.found_stays.proofs.Stays.{OwnStay}
+use Rattle.kept_facts.specs.trace_laws.proofs.Stays.{own_stays_other, stays_in_other}
+use Rattle.kept_facts.specs.kernel_history.proofs.Inside.{inside_is}
+use Rattle.kept_facts.specs.trace_laws.proofs.GraceSteps.{grace_on, times_on}
+use Rattle.kept_facts.specs.trace_laws.proofs.Waiting.{leave_on, passed_on, flushed_on}
+use Rattle.kept_facts.specs.kernel_history.proofs.Markings.{marked_on}
+use Rattle.kept_facts.specs.trace_laws.proofs.Carries.{carries_other}
+use Rattle.kept_facts.specs.core_invariant.specs.Threads.{KnowsIdle, KnowsRunning}
+use Rattle.kept_facts.specs.core_invariant.proofs.ThreadHolds.{IsIdleIn, claimed_idle}
 use Rattle.kept_facts.proofs.Claimed.{guarded_thread, claimed_rests}
 use Rattle.step_ways.proofs.Users.{SparesCounted, users_stay}
-use Rattle.core_invariant.specs.Holding.{settled, MarkIs, Holding, keeps, holds_counts, settled_by}
-use Rattle.core_invariant.specs.Words.{WordIs}
-use Rattle.core_invariant.specs.Shares.{SparesTcap}
-use Rattle.core_invariant.specs.Knows.{phase_at, CallIs, KnowsAt, WorksIn, CoreIs, blank_word}
-use Rattle.core_invariant.specs.Knows.{is_start, KnowsMakingAt, KnowsAct, KnowsWork, KnowsCompAt}
-use Rattle.core_invariant.specs.Invariant.{held_by, times_of, counted_in, SumIs, Invariant, is_done, holds_making}
-use Rattle.core_invariant.specs.Invariant.{holds_act, holds_work, holds_at, holds_in, holds, holds_comp, IsLent}
-use Rattle.core_invariant.proofs.Markers.{marker_inside}
-use Rattle.kept_facts.proofs.Carries.{KeepsUsers, undecided_on, counts_on, store_on, stores_in, stores_of, dead_on, live_on}
+use Rattle.kept_facts.specs.core_invariant.specs.Knows.{is_start}
+use Rattle.kept_facts.proofs.Carries.{KeepsUsers, undecided_on, store_on, stores_in, stores_of, dead_on, live_on}
 use Rattle.kept_facts.proofs.Carries.{looks_at, looks_in, looked_in, looked_of, claimed_in, claimed_of, KeepsThreads}
-use Rattle.stage_sweep.specs.Counters.{latest_stamp}
-use Rattle.stage_sweep.specs.Freeze.{swept_of}
-use Rattle.stage_sweep.specs.declared.sweep.Sweep.{Sweep}
-use Rattle.stage_sweep.specs.declared.sweep.SweepAt.{SweepAt}
-use Rattle.stage_sweep.specs.declared.sweep.SweepAt.TheVariants.{Load as sweep_load, Compare as sweep_compare}
-use Rattle.stage_sweep.specs.declared.sweep.SweepAt.TheVariants.{Scan as sweep_scan, Empty as sweep_empty}
-use Rattle.stage_sweep.specs.declared.sweep.Swept.{Swept}
-use Rattle.act_states.specs.Untypings.{release_of}
-use Rattle.act_states.specs.declared.untypings.UntypingAt.{UntypingAt}
-use Rattle.act_states.specs.declared.untypings.UntypingAt.TheVariants as untype
-use Rattle.core_invariant.specs.Frozen.{holds_release, holds_untyping}
-use Rattle.core_invariant.specs.Sweeps.{AreFrozen, AreKept, IsQuiet, KnowsSweep, KnowsSweepAt, KnowsSwept, KnowsUntypingAt, SaysTyped}
-use Rattle.kept_facts.proofs.Swept.{LeavesFrame, HoldsSwept, kernel_is, release_swept, swept_rests}
+use Rattle.kept_facts.specs.stage_sweep.specs.declared.sweep.SweepAt.TheVariants.{Load as sweep_load, Compare as sweep_compare}
+use Rattle.kept_facts.specs.stage_sweep.specs.declared.sweep.SweepAt.TheVariants.{Scan as sweep_scan, Empty as sweep_empty}
+use Rattle.kept_facts.specs.act_states.specs.declared.untypings.UntypingAt.TheVariants as untype
+use Rattle.kept_facts.specs.core_invariant.specs.Sweeps.{KnowsSweepAt}
+use Rattle.kept_facts.proofs.Swept.{LeavesFrame, kernel_is, swept_rests}
 use Rattle.kept_facts.proofs.SharesOn.{SharesStay, shares_other}
-use Rattle.kept_facts.proofs.Lent.{SparesLent, lent_other}
+use Rattle.kept_facts.proofs.Lent.{lent_other}
 
 -- A step changes a word of a blank frame only where its core has marked the frame, and a word of a temporal capability as `SparesTcap`
 -- says.

@@ -1,24 +1,13 @@
 -- A decision after which its core keeps words of its thread without a mark, which it has still to store: the state has changed at once, and
 -- each of these words settles to what will be stored there.
-use Rattle.std.proofs.Common.{◌≡◌, ◌≢◌, inl, inr, ℕ, ◌<◌, ◌∷◌, Option, Some, None, arith, refl, sym, ◌∙◌, ap, subst}
-use Rattle.std.proofs.lemmas.Bool.{cases_eq}
-use Rattle.spk_nums.specs.Setting.{Setting, IsSetting}
-use Rattle.word_map.specs.Word.{Word, EntryAt, FrameAt, CountAt, CoreAt, FlushAt, LiveAt, ClockAt}
-use Rattle.word_map.specs.Moves.{word_of, left_of}
-use Rattle.kernel_rules.specs.State.{put, thread_in}
-use Rattle.kernel_rules.proofs.Within.{put_same, put_other}
-use Rattle.kernel_history.specs.Marks.{mark_of}
-use Rattle.kernel_history.specs.Marking.{marked_by}
-use Rattle.kernel_history.specs.Trace.{Step, Trace, state_after, last_left}
-use Rattle.kernel_history.proofs.Names.{cases_word}
-use Rattle.kernel_history.proofs.Steps.{last_left-here, last_left-there}
-use Rattle.call_stages.specs.View.{Core}
-use Rattle.core_invariant.specs.Holding.{bare_value, settled_by, settled}
-use Rattle.core_invariant.specs.Words.{WordIs}
-use Rattle.core_invariant.specs.Invariant.{holds, held_by, times_of, Invariant}
-use Rattle.core_invariant.proofs.Bare.{own_kept, same_value, core_bare, free_value}
-use Rattle.kept_facts.proofs.Lent.{runs_on_own, runs_no_tcap, lent_thread}
-use Rattle.kept_facts.proofs.WordFrames.{ReadsAlike, StaysSaid, others_settled, own_settled}
+use Rattle.kept_facts.proofs.Common.{◌≡◌, ◌≢◌, inl, inr, ℕ, ◌<◌, ◌∷◌, Option, Some, None, arith, refl, sym, ◌∙◌, ap, subst, cases_eq}
+use Rattle.kept_facts.proofs.Common.{Setting, IsSetting, Word, EntryAt, FrameAt, CountAt, CoreAt, FlushAt, LiveAt, ClockAt, word_of}
+use Rattle.kept_facts.proofs.Common.{left_of, put, thread_in, put_same, put_other, mark_of, marked_by, Step, Trace, state_after}
+use Rattle.kept_facts.proofs.Common.{last_left, cases_word, last_left-here, last_left-there, Core, settled_by, settled, WordIs, holds}
+use Rattle.kept_facts.proofs.Common.{held_by, times_of, Invariant, runs_on_own, ReadsAlike, StaysSaid, others_settled, own_settled}
+use Rattle.kept_facts.specs.core_invariant.specs.Holding.{bare_value}
+use Rattle.kept_facts.specs.core_invariant.proofs.Bare.{own_kept, same_value, core_bare, free_value}
+use Rattle.kept_facts.proofs.Lent.{runs_no_tcap, lent_thread}
 
 none_some : (v : ℕ) → None ≡ Some v → ⊥
 none_some v h = cc

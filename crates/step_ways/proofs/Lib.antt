@@ -1,3 +1,5 @@
+-- The names that most proofs use.
+pub use Rattle.kept_facts.proofs.Common
 -- What calls know.
 pub mod Users
 pub mod Places

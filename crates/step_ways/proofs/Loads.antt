@@ -1,53 +1,34 @@
 -- The ways in which a call in flight makes a step that leaves its word as found: it goes on undecided, or it is decided with a
 -- reply that leaves all as it was but the count of calls.
-use Rattle.act_states.specs.declared.work.Tail.{Tail}
-use Rattle.std.proofs.Common.{◌≡◌, ◌≢◌, ◌⊎◌, ℕ, ◌+◌, ◌^◌, ◌<◌, ◌≤◌, false, List, ◌∷◌, Option, Some, None, arith, refl, sym, ◌∙◌, ap, subst}
-use Rattle.spk_nums.specs.Bounds.{bound_of}
-use Rattle.spk_nums.specs.Capability.{Capability}
-use Rattle.spk_nums.specs.Setting.{Setting, IsSetting}
-use Rattle.spk_nums.specs.declared.calls.Call.{Call}
-use Rattle.spk_nums.specs.declared.replies.Reply.{Reply}
-use Rattle.word_map.specs.Word.{Word, CountAt, FlushAt, ClockAt, same_word}
-use Rattle.word_map.specs.Places.{IsIn as IsInShape, shared}
-use Rattle.word_map.specs.Moves.{Move, word_of, left_of}
-use Rattle.kernel_rules.specs.State.{Thing, FrameOf, put}
-use Rattle.kernel_rules.specs.CallRelation.{MayReply, state_by, counted, begins, ends, flushes}
-use Rattle.kernel_rules.specs.Alone.{alone}
-use Rattle.kernel_rules.specs.Laws.{calls_counted}
-use Rattle.kernel_rules.proofs.Within.{put_same}
-use Rattle.kernel_history.proofs.Inside.{decided-inside}
-use Rattle.kernel_history.specs.Trace.{Step, Trace, Out, Open, phase, after_decide, after_return}
-use Rattle.kernel_history.specs.Trace.{state_after, state_decided_in, last_left, steps_in_call, WasAt}
-use Rattle.kernel_history.specs.BootWords.{shape_of}
-use Rattle.kernel_history.specs.Discipline.{MayMove, MarksOwn, KeepsMarked, IsDisciplined}
-use Rattle.kernel_history.specs.Footprint.{IsNearIn, StepsNear}
-use Rattle.kernel_history.specs.Alone.{IsAlone, IsFirst}
-use Rattle.kernel_history.specs.Bounds.{call_in, IsWithin}
-use Rattle.kernel_history.specs.Justified.{IsJustified}
-use Rattle.kernel_history.specs.Legal.{MayFollow}
-use Rattle.trace_laws.proofs.Carries.{Carries, carries_own}
-use Rattle.kernel_history.specs.Stamps.{begins_in, ends_in, flushes_in, flush_stored}
-use Rattle.trace_laws.proofs.Small.{last_small}
-use Rattle.kernel_history.proofs.Steps.{phase-own, steps_in_call-own}
-use Rattle.call_stages.specs.declared.stages.Stage.{Stage}
-use Rattle.act_states.specs.declared.work.Tail.TheVariants.{Nothing}
-use Rattle.call_stages.specs.declared.stages.Stage.TheVariants.{Enter, Undecided, Decided, Leave}
-use Rattle.call_stages.specs.declared.stages.ActiveCall.{ActiveCall}
-use Rattle.call_stages.specs.View.{Core}
-use Rattle.call_stages.specs.Fits.{IsCore, IsActive, CallFits, left_at}
-use Rattle.core_invariant.specs.Knows.{phase_at, Knows, IsIn, CallIs, WorksIn, CoreIs, KnowsTail, is_flushing, flushing_in}
-use Rattle.core_invariant.specs.Invariant.{done_by, holds_at, holds_in, holds, held_by, Invariant}
-use Rattle.core_invariant.proofs.Markers.{phase_in, phase_call}
-use Rattle.kept_facts.proofs.WordFrames.{marks_own, settled_on, load_keeps, load_marks, load_words}
-use Rattle.kept_facts.proofs.Sums.{sums_stay}
-use Rattle.kept_facts.proofs.Carries.{counts_on}
-use Rattle.core_invariant.specs.Holding.{holds_counts}
+use Rattle.kept_facts.proofs.Common.{Tail, ◌≡◌, ◌≢◌, ◌⊎◌, ℕ, ◌+◌, ◌^◌, ◌<◌, ◌≤◌, false, List, ◌∷◌, Option, Some, None, arith, refl, sym}
+use Rattle.kept_facts.proofs.Common.{◌∙◌, ap, subst, Capability, Setting, IsSetting, Call, Reply, Word, CountAt, FlushAt, ClockAt}
+use Rattle.kept_facts.proofs.Common.{same_word, Move, word_of, left_of, Thing, FrameOf, put, MayReply, state_by, counted, begins, ends}
+use Rattle.kept_facts.proofs.Common.{flushes, alone, calls_counted, put_same, decided-inside, Step, Trace, Out, Open, phase, after_decide}
+use Rattle.kept_facts.proofs.Common.{after_return, state_after, state_decided_in, last_left, WasAt, shape_of, IsNearIn, IsAlone, IsFirst}
+use Rattle.kept_facts.proofs.Common.{IsJustified, MayFollow, Carries, ends_in, flushes_in, flush_stored, last_small, phase-own}
+use Rattle.kept_facts.proofs.Common.{steps_in_call-own, Stage, Nothing, Enter, Undecided, Decided, Leave, ActiveCall, Core, phase_at}
+use Rattle.kept_facts.proofs.Common.{Knows, CallIs, WorksIn, CoreIs, KnowsTail, is_flushing, flushing_in, done_by, holds_at, holds_in}
+use Rattle.kept_facts.proofs.Common.{holds, held_by, Invariant, marks_own, settled_on, sums_stay, counts_on, holds_counts, IsCalm}
+use Rattle.kept_facts.proofs.Common.{calm_counted, calm_words, counted_rises, IsUntimed, plain_time, plain_exit, BeginsNone, plain_begins}
+use Rattle.kept_facts.proofs.Common.{lent_open, lent_kept}
+use Rattle.kept_facts.specs.spk_nums.specs.Bounds.{bound_of}
+use Rattle.kept_facts.specs.word_map.specs.Places.{IsIn as IsInShape, shared}
+use Rattle.kept_facts.specs.kernel_history.specs.Trace.{steps_in_call}
+use Rattle.kept_facts.specs.kernel_history.specs.Discipline.{MayMove, MarksOwn, KeepsMarked, IsDisciplined}
+use Rattle.kept_facts.specs.kernel_history.specs.Footprint.{StepsNear}
+use Rattle.kept_facts.specs.kernel_history.specs.Bounds.{call_in, IsWithin}
+use Rattle.kept_facts.specs.trace_laws.proofs.Carries.{carries_own}
+use Rattle.kept_facts.specs.kernel_history.specs.Stamps.{begins_in}
+use Rattle.kept_facts.specs.call_stages.specs.Fits.{IsCore, IsActive, CallFits, left_at}
+use Rattle.kept_facts.specs.core_invariant.specs.Knows.{IsIn}
+use Rattle.kept_facts.specs.core_invariant.proofs.Markers.{phase_in, phase_call}
+use Rattle.kept_facts.proofs.WordFrames.{load_keeps, load_marks, load_words}
 use Rattle.step_ways.proofs.Flushing.{still_flushed, open_flushed}
 use Rattle.step_ways.proofs.Good.{IsGood, spares_kept}
 use Rattle.step_ways.proofs.Users.{spares_none}
-use Rattle.kept_facts.proofs.Calm.{IsCalm, calm_same, calm_counted, calm_own, calm_words, counted_rises, stored_by}
-use Rattle.kept_facts.proofs.Calm.{IsUntimed, plain_time, plain_exit, BeginsNone, plain_begins, none_flushed}
-use Rattle.kept_facts.proofs.Lent.{keeps_loads, lent_still, lent_open, lent_kept}
+use Rattle.kept_facts.proofs.Calm.{calm_same, calm_own, stored_by}
+use Rattle.kept_facts.proofs.Calm.{none_flushed}
+use Rattle.kept_facts.proofs.Lent.{keeps_loads, lent_still}
 
 -- A step of core c.
 abbrev pub step_to : ℕ → Option Call → Move → ℕ → Option Reply → Option Reply → Step

@@ -1,33 +1,17 @@
 -- A decision that changes what its core has of its own, beside the calls that it has counted: of whatever reply, and of whatever it makes
 -- of its word. What it leaves of marks, words and sums is its own to show.
-use Rattle.std.proofs.Common.{◌≡◌, ℕ, ◌+◌, ◌^◌, ◌<◌, ◌≤◌, false, ◌∷◌, Some, None, arith, refl, sym, ◌∙◌, ap, subst}
-use Rattle.spk_nums.specs.Setting.{Setting, IsSetting}
-use Rattle.spk_nums.specs.declared.replies.Reply.{Reply}
-use Rattle.word_map.specs.Word.{Word}
-use Rattle.word_map.specs.Moves.{Move, word_of, left_of}
-use Rattle.kernel_rules.specs.State.{put}
-use Rattle.kernel_rules.specs.Alone.{alone}
-use Rattle.kernel_history.specs.Trace.{Step, Trace, Open, Decided, phase, after_decide, state_after, last_left}
-use Rattle.kernel_history.specs.Alone.{IsAlone, IsFirst}
-use Rattle.kernel_history.specs.Discipline.{MarksOwn, KeepsMarked}
-use Rattle.kernel_history.specs.Graces.{KeepsTime}
-use Rattle.kernel_history.specs.Legal.{MayDecide}
-use Rattle.kernel_history.specs.Stamps.{clock, flush_of, flush_stored}
-use Rattle.kernel_history.proofs.Steps.{phase-own, steps_in_call-own}
-use Rattle.act_states.specs.declared.own.Own.{Own}
-use Rattle.call_stages.specs.declared.stages.Stage.{Stage}
-use Rattle.call_stages.specs.declared.stages.ActiveCall.{ActiveCall}
-use Rattle.call_stages.specs.View.{Core}
-use Rattle.core_invariant.specs.Holding.{MarkIs, settled}
-use Rattle.core_invariant.specs.Words.{WordIs}
-use Rattle.core_invariant.specs.Knows.{phase_at, Knows, WorksIn, CoreIs, is_flushing, flushing_in}
-use Rattle.core_invariant.specs.Invariant.{held_by, times_of, counted_in, SumIs, Invariant, holds, IsLent}
-use Rattle.kept_facts.proofs.Calm.{BeginsNone, none_time, none_flushed, plain_exit}
-use Rattle.kept_facts.proofs.Carries.{counts_on}
+use Rattle.kept_facts.proofs.Common.{◌≡◌, ℕ, ◌+◌, ◌^◌, ◌<◌, ◌≤◌, false, ◌∷◌, Some, None, arith, refl, sym, ◌∙◌, ap, subst, Setting}
+use Rattle.kept_facts.proofs.Common.{IsSetting, Reply, Word, Move, word_of, left_of, put, alone, Step, Trace, Open, phase, after_decide}
+use Rattle.kept_facts.proofs.Common.{state_after, last_left, IsAlone, IsFirst, KeepsTime, MayDecide, clock, flush_of, flush_stored}
+use Rattle.kept_facts.proofs.Common.{phase-own, steps_in_call-own, Own, Stage, ActiveCall, Core, MarkIs, settled, WordIs, phase_at, Knows}
+use Rattle.kept_facts.proofs.Common.{WorksIn, CoreIs, is_flushing, flushing_in, held_by, times_of, counted_in, SumIs, Invariant, holds}
+use Rattle.kept_facts.proofs.Common.{IsLent, BeginsNone, plain_exit, counts_on, SparesLent}
+use Rattle.kept_facts.specs.kernel_history.specs.Trace.{Decided}
+use Rattle.kept_facts.specs.kernel_history.specs.Discipline.{MarksOwn, KeepsMarked}
+use Rattle.kept_facts.proofs.Calm.{none_time, none_flushed}
 use Rattle.step_ways.proofs.Flushing.{open_flushed}
 use Rattle.step_ways.proofs.Good.{IsGood, SparesBlanks}
 use Rattle.step_ways.proofs.Users.{SparesBy, spared}
-use Rattle.kept_facts.proofs.Lent.{SparesLent}
 use Rattle.step_ways.proofs.Loads.{Lands, IsOfCall, next_at, core_is, call_is, in_call, inner, inner_within, inner_disciplined, inner_near}
 
 -- A core is where it was, on its machine.

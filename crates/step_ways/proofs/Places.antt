@@ -1,24 +1,10 @@
 -- What the word of a place of a node is: it carries the mark of a core that is in a call, or says what the place is.
-use Rattle.std.proofs.Common.{◌≡◌, ◌⊎◌, inl, inr, ℕ, ◌<◌, Option, Some, None, refl, sym, ◌∙◌, ap, subst, IsTrue}
-use Rattle.std.specs.Prelude.{IsSome}
-use Rattle.std.proofs.lemmas.Bool.{false≢true}
-use Rattle.spk_nums.specs.Setting.{Setting}
-use Rattle.entry_words.specs.declared.entry.Entry.{Entry}
-use Rattle.entry_words.specs.declared.entry.Entry.TheVariants.{Free, Held, Closing, Quiescing}
-use Rattle.entry_words.specs.EntryWord.{entry_of_word}
-use Rattle.word_map.specs.Word.{EntryAt}
-use Rattle.kernel_rules.specs.State.{Place, Frame, Kernel, Table, Leaf, Pages, Pleaf, PlaceOf}
-use Rattle.kernel_rules.specs.Relies.{is_node}
-use Rattle.kernel_history.specs.Marks.{entry_mark, mark_in_frame}
-use Rattle.kernel_history.specs.Trace.{Trace, state_after, last_left}
-use Rattle.kernel_history.specs.Stamps.{stamp}
-use Rattle.call_stages.specs.View.{Core}
-use Rattle.kernel_history.specs.Marking.{marked_by}
-use Rattle.core_invariant.specs.Holding.{settled_by}
-use Rattle.core_invariant.specs.Words.{PlaceIs, IsFrameWord, count_room}
-use Rattle.core_invariant.specs.Invariant.{held_by, Invariant}
-use Rattle.core_invariant.proofs.Sounds.{limits_of}
-use Rattle.kept_facts.proofs.Lent.{unlent_value, node_keeps_none}
+use Rattle.kept_facts.proofs.Common.{◌≡◌, ◌⊎◌, inl, inr, ℕ, ◌<◌, Option, Some, None, refl, sym, ◌∙◌, ap, subst, IsTrue, IsSome}
+use Rattle.kept_facts.proofs.Common.{false≢true, Setting, Entry, Held, Closing, entry_of_word, EntryAt, Place, Frame, Kernel, Table, Leaf}
+use Rattle.kept_facts.proofs.Common.{Pages, Pleaf, PlaceOf, is_node, entry_mark, mark_in_frame, Trace, state_after, last_left, stamp}
+use Rattle.kept_facts.proofs.Common.{Core, marked_by, settled_by, PlaceIs, IsFrameWord, count_room, held_by, Invariant, limits_of}
+use Rattle.kept_facts.proofs.Common.{unlent_value, node_keeps_none}
+use Rattle.kept_facts.specs.entry_words.specs.declared.entry.Entry.TheVariants.{Free, Quiescing}
 
 -- The word of a place carries the mark of a core.
 pub record IsMarked (setup : Setting) (t : Trace) (f i : ℕ) : Type 0 where

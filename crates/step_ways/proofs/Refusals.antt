@@ -1,59 +1,31 @@
 -- The refusals of a call at a load: each leaves all as it was, but counts the call.
-use Rattle.act_states.specs.declared.work.Tail.{Tail}
-use Rattle.std.proofs.Common.{◌≡◌, ◌≢◌, ℕ, ◌+◌, ◌<◌, Option, Bool, true, false, Some, None}
-use Rattle.std.proofs.Common.{arith, refl, sym, ◌∙◌, ap, subst, List, [], ◌∷◌, inl, inr}
-use Rattle.std.proofs.lemmas.Bool.{false≢true, lt-leb}
-use Rattle.spk_nums.specs.Setting.{Setting, IsSetting}
-use Rattle.spk_nums.specs.declared.calls.Call.{Call}
-use Rattle.spk_nums.specs.declared.calls.Call.TheVariants.{Look, Copy, Remove, Shrink, Unmap, Retype, Make}
-use Rattle.spk_nums.specs.declared.calls.Call.TheVariants.{Tick, Gate, Kill, Call as call_gate, Ret, Grow}
-use Rattle.spk_nums.specs.declared.calls.Call.TheVariants.{Flush, Map, Touch, Transfer, Delegate, Test, Switch}
-use Rattle.spk_nums.specs.declared.replies.Reply.{Reply}
-use Rattle.spk_nums.specs.declared.replies.Reply.TheVariants as reply
-use Rattle.word_map.specs.Moves.{Move, word_of}
-use Rattle.kernel_rules.specs.State.{Thing, State}
-use Rattle.kernel_rules.specs.Rules.{RuleMay, Refused}
-use Rattle.kernel_rules.specs.CallRelation.{rule_of, change_of, are_calls_spent, owed_by, counted, state_by}
-use Rattle.kernel_rules.specs.Alone.{alone}
-use Rattle.kernel_history.specs.Trace.{Step, Trace, Open, state_after, state_decided_in, last_left}
-use Rattle.kernel_history.specs.Justified.{IsOnWay, IsRaceLost, IsHeldUp}
-use Rattle.kernel_history.specs.Alone.{IsAlone}
-use Rattle.trace_laws.proofs.AloneCalls.{refused_first, nobody_waits}
-use Rattle.kernel_history.proofs.Laws.{not_inside, not_changed}
-use Rattle.act_states.specs.Acts.{reads_of}
-use Rattle.call_stages.specs.declared.stages.ActiveCall.{ActiveCall}
-use Rattle.call_stages.specs.declared.stages.Stage.{Stage}
-use Rattle.call_plans.specs.declared.plans.Plan.{Plan}
-use Rattle.call_plans.specs.PlanOf.{plan_for}
-use Rattle.call_plans.specs.After.{next_of}
-use Rattle.spk_nums.specs.Capability.{Capability}
-use Rattle.stage_look.specs.declared.look.Look.{Look as LookOf}
-use Rattle.stage_quiet.specs.declared.close.Close.TheVariants.{AtCompare, AtDraw, AtStore}
-use Rattle.stage_quiet.specs.declared.quiet.Quiet.TheVariants.{AtCore, AtFlush}
-use Rattle.act_states.specs.declared.work.Act.{Act as ActOf}
-use Rattle.act_states.specs.declared.work.Act.TheVariants.{Fill as fill_act, Remove as remove_act, Retype as type_act}
-use Rattle.act_states.specs.declared.work.Act.TheVariants.{Make as make_act, Outside, Tick as tick_act, Flush as flush_act}
-use Rattle.act_states.specs.declared.work.Act.TheVariants.{Kill as kill_act, Untype as untype_act, Map as map_act}
-use Rattle.act_states.specs.declared.work.Act.TheVariants.{MakeComp as comp_act, Invoke as invoke_act, Return as return_act}
-use Rattle.act_states.specs.declared.work.Act.TheVariants.{Touch as touch_act, Share as share_act, Switch as switch_act}
-use Rattle.act_states.specs.declared.work.Work.{Work}
-use Rattle.act_states.specs.declared.work.Work.TheVariants.{Lookup, Read, Scan, Acquire, Act}
-use Rattle.call_stages.specs.View.{Core}
-use Rattle.kernel_rules.specs.Laws.{calls_counted}
-use Rattle.act_states.specs.declared.work.Tail.TheVariants.{Nothing}
-use Rattle.call_stages.specs.declared.stages.Stage.TheVariants.{Enter, Undecided, Decided, Leave}
-use Rattle.call_stages.specs.Steps.{Took}
-use Rattle.call_stages.specs.Cores.{core_after, told_by}
-use Rattle.kernel_history.specs.Marking.{marked_by}
-use Rattle.core_invariant.specs.Holding.{holds_counts}
-use Rattle.core_invariant.specs.Knows.{phase_at, CoreIs, KnowsTail, NamesAre, LooksFor, KnowsAct, KnowsUndecided, KnowsAt}
-use Rattle.core_invariant.specs.Invariant.{holds_in, held_by, Invariant, holds_tail}
-use Rattle.core_invariant.specs.Events.{decided_in, returned_in}
+use Rattle.kept_facts.proofs.Common.{Tail, ◌≡◌, ◌≢◌, ℕ, ◌+◌, ◌<◌, Option, Bool, true, false, Some, None, arith, refl, sym, ◌∙◌, ap, subst}
+use Rattle.kept_facts.proofs.Common.{List, [], ◌∷◌, inl, inr, false≢true, lt-leb, Setting, IsSetting, Call, Copy, Remove, Shrink, Unmap}
+use Rattle.kept_facts.proofs.Common.{Retype, Tick, Gate, Kill, Ret, Grow, Flush, Map, Touch, Transfer, Delegate, Test, Switch, Reply}
+use Rattle.kept_facts.proofs.Common.{Move, word_of, Thing, State, RuleMay, Refused, rule_of, change_of, are_calls_spent, counted}
+use Rattle.kept_facts.proofs.Common.{state_by, alone, Step, Trace, Open, state_after, state_decided_in, last_left, IsRaceLost, IsAlone}
+use Rattle.kept_facts.proofs.Common.{refused_first, nobody_waits, not_inside, not_changed, reads_of, ActiveCall, Stage, Plan, plan_for}
+use Rattle.kept_facts.proofs.Common.{next_of, Capability, AtCompare, AtDraw, AtStore, AtCore, AtFlush, Outside, Work, Lookup, Read, Scan}
+use Rattle.kept_facts.proofs.Common.{Acquire, Act, Core, calls_counted, Nothing, Enter, Undecided, Decided, Leave, Took, core_after}
+use Rattle.kept_facts.proofs.Common.{told_by, marked_by, holds_counts, phase_at, CoreIs, KnowsTail, NamesAre, LooksFor, KnowsAct}
+use Rattle.kept_facts.proofs.Common.{KnowsUndecided, KnowsAt, holds_in, held_by, Invariant, holds_tail, decided_in, returned_in}
+use Rattle.kept_facts.proofs.Common.{limits_of, marker_inside}
+use Rattle.kept_facts.specs.spk_nums.specs.declared.calls.Call.TheVariants.{Look, Make}
+use Rattle.kept_facts.specs.spk_nums.specs.declared.calls.Call.TheVariants.{Call as call_gate}
+use Rattle.kept_facts.specs.spk_nums.specs.declared.replies.Reply.TheVariants as reply
+use Rattle.kept_facts.specs.kernel_rules.specs.CallRelation.{owed_by}
+use Rattle.kept_facts.specs.kernel_history.specs.Justified.{IsOnWay, IsHeldUp}
+use Rattle.kept_facts.specs.stage_look.specs.declared.look.Look.{Look as LookOf}
+use Rattle.kept_facts.specs.act_states.specs.declared.work.Act.{Act as ActOf}
+use Rattle.kept_facts.specs.act_states.specs.declared.work.Act.TheVariants.{Fill as fill_act, Remove as remove_act, Retype as type_act}
+use Rattle.kept_facts.specs.act_states.specs.declared.work.Act.TheVariants.{Make as make_act, Tick as tick_act, Flush as flush_act}
+use Rattle.kept_facts.specs.act_states.specs.declared.work.Act.TheVariants.{Kill as kill_act, Untype as untype_act, Map as map_act}
+use Rattle.kept_facts.specs.act_states.specs.declared.work.Act.TheVariants.{MakeComp as comp_act, Invoke as invoke_act}
+use Rattle.kept_facts.specs.act_states.specs.declared.work.Act.TheVariants.{Return as return_act}
+use Rattle.kept_facts.specs.act_states.specs.declared.work.Act.TheVariants.{Touch as touch_act, Share as share_act, Switch as switch_act}
 use Rattle.step_ways.proofs.Good.{IsGood}
 use Rattle.step_ways.proofs.Loads.{Lands, OnlyLooks, step_to, next_at, core_in_call, core_is}
 use Rattle.step_ways.proofs.Loads.{call_is, is_active, inner, decides_on, decides_with}
-use Rattle.core_invariant.proofs.Sounds.{limits_of}
-use Rattle.core_invariant.proofs.Markers.{marker_inside}
 
 -- The step of core c from which this was taken.
 abbrev pub step_with : ℕ → Move → ℕ → Took → Step

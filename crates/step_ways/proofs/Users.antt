@@ -1,41 +1,22 @@
 -- A user frame stays one while a call holds its count of it: only a retype to untyped makes it another, and that by the core which holds
 -- all counters of the frame.
-use Rattle.std.proofs.Common.{◌≡◌, ◌≢◌, ◌⊎◌, ◌<◌, ℕ, inl, inr, Bool, true, false, ◌∷◌}
-use Rattle.std.proofs.Common.{Option, Some, None, refl, sym, ◌∙◌, ap, subst, IsTrue}
-use Rattle.std.specs.Prelude.{All}
-use Rattle.std.proofs.lemmas.Bool.{false≢true}
-use Rattle.spk_nums.specs.Setting.{Setting, IsSetting}
-use Rattle.spk_nums.specs.declared.calls.Call.{Call}
-use Rattle.spk_nums.specs.declared.calls.Call.TheVariants.{Retype, Make as make_call}
-use Rattle.spk_nums.specs.declared.calls.Make.TheVariants as make
-use Rattle.spk_nums.specs.declared.kinds.FrameKind.TheVariants as frame_kind
-use Rattle.spk_nums.specs.declared.replies.Reply.{Reply}
-use Rattle.spk_nums.specs.declared.replies.Reply.TheVariants as reply
-use Rattle.frame_words.specs.Count.{count_of_word}
-use Rattle.word_map.specs.Word.{CountAt}
-use Rattle.word_map.specs.Places.{counter_of}
-use Rattle.word_map.specs.Moves.{word_of, left_of}
-use Rattle.kernel_rules.specs.State.{Frame, User, Kernel, Blank, Pages, Pleaf, FrameOf, PlaceOf, State}
-use Rattle.kernel_rules.specs.GracePeriods.{is_translated}
-use Rattle.kernel_rules.specs.Relies.{is_node}
-use Rattle.kernel_rules.specs.CallRelation.{MayReply, ends_by, ends}
-use Rattle.kernel_invariant.proofs.Ends.{ends_by_rule}
-use Rattle.kernel_invariant.proofs.FrameTurns.{is_typed, TurnsIn, decided_turns}
-use Rattle.kernel_invariant.proofs.SoundRuns.{opened}
-use Rattle.kernel_history.specs.Counts.{counters}
-use Rattle.kernel_history.specs.Discipline.{KeepsMarked}
-use Rattle.kernel_history.specs.Legal.{MayDecide, MayFollow, IsLegal}
-use Rattle.kernel_history.specs.Marking.{marked_by}
-use Rattle.kernel_history.specs.Marks.{count_mark}
-use Rattle.kernel_history.specs.Stamps.{ends_at, ends_in}
-use Rattle.kernel_history.specs.Trace.{Step, Trace, Phase, Out, Open, phase, after_enter, state_after}
-use Rattle.kernel_history.specs.Trace.{state_entered, state_decided, state_returned, state_before, last_left}
-use Rattle.kernel_history.specs.Trace as history
-use Rattle.kernel_history.proofs.Events.{entered_events}
-use Rattle.kernel_history.proofs.Names.{cases_word}
-use Rattle.trace_laws.proofs.Opens.{opens, open_inj}
-use Rattle.kernel_history.proofs.Steps.{last_left-here, last_left-there}
-use Rattle.core_invariant.specs.Knows.{untypes}
+use Rattle.kept_facts.proofs.Common.{◌≡◌, ◌≢◌, ◌⊎◌, ◌<◌, ℕ, inl, inr, Bool, true, false, ◌∷◌, Option, Some, None, refl, sym, ◌∙◌, ap}
+use Rattle.kept_facts.proofs.Common.{subst, IsTrue, All, false≢true, Setting, IsSetting, Call, Retype, Reply, count_of_word, CountAt}
+use Rattle.kept_facts.proofs.Common.{counter_of, word_of, left_of, Frame, User, Kernel, Blank, Pages, Pleaf, FrameOf, PlaceOf, State}
+use Rattle.kept_facts.proofs.Common.{is_translated, is_node, MayReply, ends_by, ends, opened, counters, MayDecide, MayFollow, IsLegal}
+use Rattle.kept_facts.proofs.Common.{marked_by, count_mark, ends_at, ends_in, Step, Trace, Phase, Out, Open, phase, after_enter}
+use Rattle.kept_facts.proofs.Common.{state_after, state_entered, state_decided, state_returned, state_before, last_left, cases_word}
+use Rattle.kept_facts.proofs.Common.{open_inj, last_left-here, last_left-there, untypes}
+use Rattle.kept_facts.specs.spk_nums.specs.declared.calls.Call.TheVariants.{Make as make_call}
+use Rattle.kept_facts.specs.spk_nums.specs.declared.calls.Make.TheVariants as make
+use Rattle.kept_facts.specs.spk_nums.specs.declared.kinds.FrameKind.TheVariants as frame_kind
+use Rattle.kept_facts.specs.spk_nums.specs.declared.replies.Reply.TheVariants as reply
+use Rattle.kept_facts.specs.kernel_invariant.proofs.Ends.{ends_by_rule}
+use Rattle.kept_facts.specs.kernel_invariant.proofs.FrameTurns.{is_typed, TurnsIn, decided_turns}
+use Rattle.kept_facts.specs.kernel_history.specs.Discipline.{KeepsMarked}
+use Rattle.kept_facts.specs.kernel_history.specs.Trace as history
+use Rattle.kept_facts.specs.kernel_history.proofs.Events.{entered_events}
+use Rattle.kept_facts.specs.trace_laws.proofs.Opens.{opens}
 use Rattle.kept_facts.proofs.Carries.{KeepsUsers}
 use Rattle.kept_facts.proofs.CountSums.{counter_all}
 

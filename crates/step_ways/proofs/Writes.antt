@@ -1,57 +1,35 @@
 -- The ways in which a core makes a step that writes its word: a decided call writes an entry; a call enters or leaves, and the
 -- core's own word is stored.
-use Rattle.trace_laws.proofs.Carries.{Carries, carries_own}
-use Rattle.std.proofs.Common.{◌≡◌, ◌≢◌, ℕ, zero, suc, ◌+◌, ◌*◌, ◌^◌, ◌<◌, ◌≤◌, Bool, true, false, if◌then◌else◌}
-use Rattle.std.proofs.Common.{List, [], ◌∷◌, Option, Some, None, arith, refl, sym, ◌∙◌, ap, subst, inl, inr}
-use Rattle.std.proofs.lemmas.Bool.{cases_eq, eq-eqb}
-use Rattle.spk_nums.specs.Bounds.{bound_of}
-use Rattle.spk_nums.specs.Capability.{Capability}
-use Rattle.spk_nums.specs.CallLimits.{InLimits}
-use Rattle.spk_nums.specs.Setting.{Setting, IsSetting}
-use Rattle.spk_nums.specs.declared.calls.Call.{Call}
-use Rattle.spk_nums.specs.declared.replies.Reply.{Reply}
-use Rattle.frame_words.specs.Core.{core_of_word}
-use Rattle.frame_words.proofs.CoreLemmas.{spelling}
-use Rattle.word_map.specs.Word.{Word, EntryAt, CountAt, CoreAt, same_word, FlushAt, ClockAt}
-use Rattle.word_map.specs.Moves.{Move, StoreOf, word_of, left_of}
-use Rattle.kernel_rules.specs.State.{FrameOf, put}
-use Rattle.kernel_rules.specs.References.{sum_below}
-use Rattle.kernel_rules.specs.GracePeriods.{returned}
-use Rattle.kernel_rules.specs.Alone.{alone}
-use Rattle.kernel_rules.proofs.Within.{put_same}
-use Rattle.kernel_history.specs.Trace.{Step, Trace, Out, Open, Decided, phase, after_decide, state_after, last_left, steps_in_call}
-use Rattle.kernel_history.specs.Alone.{IsAlone, IsFirst}
-use Rattle.kernel_history.specs.Legal.{MayDecide, MayFollow}
-use Rattle.kernel_history.specs.Marks.{mark_of}
-use Rattle.kernel_history.specs.Stamps.{clock, exit_of}
-use Rattle.kernel_history.specs.Graces.{IsLeave}
-use Rattle.kernel_history.proofs.Inside.{decided-inside, inside-own, inside-other}
-use Rattle.kernel_history.proofs.Steps.{phase-own, steps_in_call-own, exit_of-own, exit_of-other, last_left-there}
-use Rattle.call_stages.specs.declared.stages.Stage.{Stage}
-use Rattle.call_stages.specs.declared.stages.Stage.TheVariants.{Decided, Leave}
-use Rattle.call_stages.specs.declared.stages.ActiveCall.{ActiveCall}
-use Rattle.call_stages.specs.View.{Core}
-use Rattle.call_stages.specs.Steps.{core_word}
-use Rattle.call_stages.specs.Cores.{fresh}
-use Rattle.kernel_history.specs.Marking.{marked_by}
-use Rattle.core_invariant.specs.Words.{count_room, WordIs}
-use Rattle.core_invariant.proofs.Sounds.{limits_of}
-use Rattle.core_invariant.specs.Knows.{phase_at, KnowsAt, Knows, IsCount, CallIs, WorksIn, CoreIs, is_flushing, flushing_in}
-use Rattle.core_invariant.specs.Invariant.{is_done, holds_at, holds_in, holds, held_by, times_of, counted_in, SumIs, Invariant}
-use Rattle.kept_facts.proofs.WordFrames.{marks_own, settled_on, write_marks, write_words, ReadsAlike}
-use Rattle.kept_facts.proofs.WordFrames.{reads_alike, StaysSaid, word_stays, carry_marks, carry_words}
-use Rattle.kept_facts.proofs.Sums.{sums_stay}
-use Rattle.core_invariant.proofs.Bare.{IsNotKept, free_value, counts_bare}
-use Rattle.kept_facts.proofs.Lent.{keeps_there, lent_still, lent_open, lent_none, lent_free, lent_elsewhere}
-use Rattle.core_invariant.specs.Holding.{nothing, count_of, holds_counts, settled}
-use Rattle.stage_pins.specs.declared.held.Acquired.{Acquired}
-use Rattle.call_stages.specs.Fits.{CountsAt}
-use Rattle.std.proofs.lemmas.List.Elements.{All-nil}
+use Rattle.kept_facts.proofs.Common.{Carries, ◌≡◌, ◌≢◌, ℕ, zero, suc, ◌+◌, ◌*◌, ◌^◌, ◌<◌, ◌≤◌, Bool, true, false, if◌then◌else◌, List, []}
+use Rattle.kept_facts.proofs.Common.{◌∷◌, Option, Some, None, arith, refl, sym, ◌∙◌, ap, subst, inl, inr, cases_eq, eq-eqb, Capability}
+use Rattle.kept_facts.proofs.Common.{InLimits, Setting, IsSetting, Call, Reply, core_of_word, Word, EntryAt, CountAt, CoreAt, same_word}
+use Rattle.kept_facts.proofs.Common.{FlushAt, ClockAt, Move, StoreOf, word_of, left_of, FrameOf, put, sum_below, alone, put_same, Step}
+use Rattle.kept_facts.proofs.Common.{Trace, Out, Open, phase, after_decide, state_after, last_left, IsAlone, IsFirst, MayDecide}
+use Rattle.kept_facts.proofs.Common.{MayFollow, mark_of, clock, exit_of, decided-inside, phase-own, steps_in_call-own, last_left-there}
+use Rattle.kept_facts.proofs.Common.{Stage, Decided, Leave, ActiveCall, Core, core_word, fresh, marked_by, count_room, WordIs, limits_of}
+use Rattle.kept_facts.proofs.Common.{phase_at, KnowsAt, Knows, IsCount, CallIs, WorksIn, CoreIs, is_flushing, flushing_in, is_done}
+use Rattle.kept_facts.proofs.Common.{holds_at, holds_in, holds, held_by, times_of, counted_in, SumIs, Invariant, marks_own, settled_on}
+use Rattle.kept_facts.proofs.Common.{ReadsAlike, reads_alike, StaysSaid, word_stays, carry_marks, carry_words, sums_stay, counts_bare}
+use Rattle.kept_facts.proofs.Common.{lent_open, lent_none, lent_free, lent_elsewhere, nothing, count_of, holds_counts, settled, Acquired}
+use Rattle.kept_facts.proofs.Common.{CountsAt, All-nil, IsCalm, calm_words, counted_rises, none_stored, IsUntimed, plain_time, plain_exit}
+use Rattle.kept_facts.proofs.Common.{BeginsNone, plain_begins}
+use Rattle.kept_facts.specs.trace_laws.proofs.Carries.{carries_own}
+use Rattle.kept_facts.specs.spk_nums.specs.Bounds.{bound_of}
+use Rattle.kept_facts.specs.frame_words.proofs.CoreLemmas.{spelling}
+use Rattle.kept_facts.specs.kernel_rules.specs.GracePeriods.{returned}
+use Rattle.kept_facts.specs.kernel_history.specs.Trace.{Decided}
+use Rattle.kept_facts.specs.kernel_history.specs.Trace.{steps_in_call}
+use Rattle.kept_facts.specs.kernel_history.specs.Graces.{IsLeave}
+use Rattle.kept_facts.specs.kernel_history.proofs.Inside.{inside-own, inside-other}
+use Rattle.kept_facts.specs.kernel_history.proofs.Steps.{exit_of-own, exit_of-other}
+use Rattle.kept_facts.proofs.WordFrames.{write_marks, write_words}
+use Rattle.kept_facts.specs.core_invariant.proofs.Bare.{IsNotKept, free_value}
+use Rattle.kept_facts.proofs.Lent.{keeps_there, lent_still}
 use Rattle.step_ways.proofs.Flushing.{still_flushed, open_flushed}
 use Rattle.step_ways.proofs.Good.{IsGood, SparesBlanks, spares_other}
 use Rattle.step_ways.proofs.Users.{SparesBy, spared, spares_none}
-use Rattle.kept_facts.proofs.Calm.{IsCalm, calm_returned, calm_own, calm_words, counted_rises, none_stored, IsUntimed}
-use Rattle.kept_facts.proofs.Calm.{plain_time, plain_exit, plain_flushed, BeginsNone, plain_begins, none_time, calm_same}
+use Rattle.kept_facts.proofs.Calm.{calm_returned, calm_own}
+use Rattle.kept_facts.proofs.Calm.{plain_flushed, none_time, calm_same}
 use Rattle.step_ways.proofs.Loads.{Lands, IsOfCall, step_to, next_at, core_in_call, some_left, core_is, call_is, in_call}
 use Rattle.step_ways.proofs.Loads.{inner, inner_within, inner_disciplined, inner_near, inner_works, inner_own, is_active}
 

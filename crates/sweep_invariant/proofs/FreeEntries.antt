@@ -1,74 +1,48 @@
 -- No core holds or keeps a word of the object in a frame to which nothing refers, and for which no other core waits: who holds one, relies
 -- on its frame.
+use Rattle.freeze_invariant.proofs.Common.{◌≡◌, ◌≢◌, ◌⊎◌, inl, inr, ℕ, zero, suc, ◌+◌, ◌<◌, ◌≤◌, ◌==◌, ◌&&◌, Bool, true, false, List, []}
+use Rattle.freeze_invariant.proofs.Common.{◌∷◌, Option, Some, None, arith, refl, sym, ◌∙◌, ap, subst, cases_eq, cases_lt, false≢true}
+use Rattle.freeze_invariant.proofs.Common.{ne_eqb, Setting, IsSetting, Capability, Call, Reply, Quiet, AtCore, AtFlush, AtStack, Pair}
+use Rattle.freeze_invariant.proofs.Common.{PairAt, LoadA, MarkA, ListA, LoadB, ListB, CompareB, AgainB, StoreList, StoreB, StoreA}
+use Rattle.freeze_invariant.proofs.Common.{Acquired, EntryAt, State, FrameOf, Slot, refs, times, IsGuarded, marked_by, Trace, Open, phase}
+use Rattle.freeze_invariant.proofs.Common.{state_after, last_left, Plan, Close, AtCompare, AtDraw, AtStore, MakingAt, CompMaking, CompAt}
+use Rattle.freeze_invariant.proofs.Common.{KillingAt, UntypingAt, Switching, SwitchAt, Fill, Outside, Untype, MakeComp, Invoke, Return}
+use Rattle.freeze_invariant.proofs.Common.{Tail, Nothing, Quiesce, Unmark, StoreDead, StoreFlush, Release, StoreLive, Push, Pop}
+use Rattle.freeze_invariant.proofs.Common.{StoreRunning, StoreIdle, Work, Lookup, Read, Scan, Acquire, ActiveCall, Stage, Enter}
+use Rattle.freeze_invariant.proofs.Common.{Undecided, Decided, Leave, release_of, swept_of, Core, Holding, holds_counts, keeps, settled}
+use Rattle.freeze_invariant.proofs.Common.{settled_by, holds_untyping, KnowsAct, KnowsAt, KnowsTail, KnowsWork, CallIs, phase_at}
+use Rattle.freeze_invariant.proofs.Common.{KnowsShared, KnowsStoresAt, Invariant, holds, held_by, holds_act, holds_at, holds_comp}
+use Rattle.freeze_invariant.proofs.Common.{holds_head, holds_heads, holds_in, holds_killing, holds_making, holds_share, holds_shared}
+use Rattle.freeze_invariant.proofs.Common.{holds_tail, holds_work, is_done, holds_switching, slot_relies, release_entry, limits_of}
+use Rattle.freeze_invariant.proofs.Common.{claimed_by}
 use Rattle.std.specs.Prelude.{if◌then◌else◌}
-use Rattle.std.proofs.Common.{◌≡◌, ◌≢◌, ◌⊎◌, inl, inr, ℕ, zero, suc, ◌+◌, ◌<◌, ◌≤◌, ◌==◌, ◌&&◌, Bool, true}
-use Rattle.std.proofs.Common.{false, List, [], ◌∷◌, Option, Some, None, arith, refl, sym, ◌∙◌, ap, subst}
-use Rattle.std.proofs.lemmas.Bool.{cases_eq, cases_lt, false≢true, ne_eqb}
-use Rattle.spk_nums.specs.Setting.{Setting, IsSetting}
-use Rattle.spk_nums.specs.Capability.{Capability}
-use Rattle.spk_nums.specs.declared.calls.Call.{Call}
-use Rattle.spk_nums.specs.declared.replies.Reply.{Reply}
-use Rattle.stage_quiet.specs.declared.quiet.Quiet.{Quiet}
-use Rattle.stage_quiet.specs.declared.quiet.Quiet.TheVariants.{AtCore, AtFlush}
-use Rattle.stage_thread.specs.declared.claim.Claim.TheVariants.{AtLoad, AtCompare as claim_compare, AtStack}
-use Rattle.stage_thread.specs.declared.stack.Push.{Push as PushOf}
-use Rattle.stage_thread.specs.declared.stack.Push.TheVariants as push
-use Rattle.stage_thread.specs.declared.stack.Pop.{Pop as PopOf}
-use Rattle.stage_thread.specs.declared.stack.Pop.TheVariants as pop
-use Rattle.stage_tcap.specs.declared.pair.Pair.{Pair}
-use Rattle.stage_tcap.specs.declared.pair.PairAt.{PairAt}
-use Rattle.stage_tcap.specs.declared.pair.PairAt.TheVariants.{LoadA, MarkA, ListA, LoadB, ListB, CompareB}
-use Rattle.stage_tcap.specs.declared.pair.PairAt.TheVariants.{AgainB, StoreList, StoreB, StoreA}
-use Rattle.stage_pins.specs.declared.held.Acquired.{Acquired}
-use Rattle.word_map.specs.Word.{EntryAt}
-use Rattle.kernel_rules.specs.State.{State, FrameOf}
-use Rattle.kernel_rules.specs.Access.{Slot}
-use Rattle.kernel_rules.specs.References.{refs, times, core_names}
-use Rattle.kernel_rules.specs.Relies.{IsGuarded}
-use Rattle.kernel_invariant.proofs.SoundRemovals.{unnamed}
-use Rattle.kernel_invariant.proofs.Sums.{times_first}
-use Rattle.kernel_history.specs.Marking.{marked_by}
-use Rattle.kernel_history.specs.Trace.{Trace, Open, phase, state_after, last_left}
-use Rattle.call_plans.specs.declared.plans.Plan.{Plan}
-use Rattle.stage_quiet.specs.declared.close.Close.{Close}
-use Rattle.stage_quiet.specs.declared.close.Close.TheVariants.{AtCompare, AtDraw, AtStore}
-use Rattle.act_states.specs.declared.makings.MakingAt.{MakingAt}
-use Rattle.act_states.specs.declared.makings.MakingAt.TheVariants as making_at
-use Rattle.act_states.specs.declared.comps.CompMaking.{CompMaking}
-use Rattle.act_states.specs.declared.comps.CompAt.{CompAt}
-use Rattle.act_states.specs.declared.comps.CompAt.TheVariants as comp_at
-use Rattle.act_states.specs.declared.kills.KillingAt.{KillingAt}
-use Rattle.act_states.specs.declared.kills.KillingAt.TheVariants as kill_at
-use Rattle.act_states.specs.declared.untypings.UntypingAt.{UntypingAt}
-use Rattle.act_states.specs.declared.untypings.UntypingAt.TheVariants as untype_at
-use Rattle.act_states.specs.declared.switches.Switching.{Switching}
-use Rattle.act_states.specs.declared.switches.SwitchAt.{SwitchAt}
-use Rattle.act_states.specs.declared.switches.SwitchAt.TheVariants as switch_at
-use Rattle.act_states.specs.declared.work.Act.{Act as ActOf}
-use Rattle.act_states.specs.declared.work.Act.TheVariants.{Fill, Remove, Retype, Make, Outside, Tick, Flush, Kill, Untype}
-use Rattle.act_states.specs.declared.work.Act.TheVariants.{Map as map_act, MakeComp, Invoke, Return, Touch, Share, Switch}
-use Rattle.act_states.specs.declared.work.Tail.{Tail}
-use Rattle.act_states.specs.declared.work.Tail.TheVariants.{Nothing, Quiesce, Unmark, StoreDead, StoreFlush, Release}
-use Rattle.act_states.specs.declared.work.Tail.TheVariants.{StoreLive, Push, Pop, Share as share_tail, StoreRunning, StoreIdle}
-use Rattle.act_states.specs.declared.work.Work.{Work}
-use Rattle.act_states.specs.declared.work.Work.TheVariants.{Lookup, Read, Scan, Acquire, Act as act_work}
-use Rattle.call_stages.specs.declared.stages.ActiveCall.{ActiveCall}
-use Rattle.call_stages.specs.declared.stages.Stage.{Stage}
-use Rattle.call_stages.specs.declared.stages.Stage.TheVariants.{Enter, Undecided, Decided, Leave}
-use Rattle.act_states.specs.Untypings.{release_of}
-use Rattle.stage_sweep.specs.Freeze.{swept_of}
-use Rattle.call_stages.specs.View.{Core}
-use Rattle.core_invariant.specs.Holding.{Holding, holds_counts, holds_closed, holds_drawn, keeps, kept_below, settled, settled_by}
-use Rattle.core_invariant.specs.Frozen.{holds_untyping}
-use Rattle.core_invariant.specs.Knows.{KnowsAct, KnowsAt, KnowsClose, KnowsStore, KnowsTail, KnowsWork, CallIs, phase_at}
-use Rattle.core_invariant.specs.Shares.{KnowsShare, KnowsShared, KnowsStoresAt}
-use Rattle.core_invariant.specs.Invariant.{Invariant, holds, held_by, holds_act, holds_at, holds_comp, holds_head}
-use Rattle.core_invariant.specs.Invariant.{holds_heads, holds_in, holds_killing, holds_making, holds_pop, holds_push}
-use Rattle.core_invariant.specs.Invariant.{holds_share, holds_shared, holds_stage, holds_tail, holds_work, is_done}
-use Rattle.core_invariant.specs.Threads.{KnowsSwitch, holds_switching}
-use Rattle.kept_facts.proofs.Carries.{slot_relies}
-use Rattle.core_invariant.proofs.Freezing.{release_entry}
-use Rattle.kept_facts.proofs.Lent.{lent_unmarked}
+use Rattle.freeze_invariant.specs.stage_thread.specs.declared.claim.Claim.TheVariants.{AtLoad, AtCompare as claim_compare}
+use Rattle.freeze_invariant.specs.stage_thread.specs.declared.stack.Push.{Push as PushOf}
+use Rattle.freeze_invariant.specs.stage_thread.specs.declared.stack.Push.TheVariants as push
+use Rattle.freeze_invariant.specs.stage_thread.specs.declared.stack.Pop.{Pop as PopOf}
+use Rattle.freeze_invariant.specs.stage_thread.specs.declared.stack.Pop.TheVariants as pop
+use Rattle.freeze_invariant.specs.kernel_rules.specs.References.{core_names}
+use Rattle.freeze_invariant.specs.kernel_invariant.proofs.SoundRemovals.{unnamed}
+use Rattle.freeze_invariant.specs.kernel_invariant.proofs.Sums.{times_first}
+use Rattle.freeze_invariant.specs.act_states.specs.declared.makings.MakingAt.TheVariants as making_at
+use Rattle.freeze_invariant.specs.act_states.specs.declared.comps.CompAt.TheVariants as comp_at
+use Rattle.freeze_invariant.specs.act_states.specs.declared.kills.KillingAt.TheVariants as kill_at
+use Rattle.freeze_invariant.specs.act_states.specs.declared.untypings.UntypingAt.TheVariants as untype_at
+use Rattle.freeze_invariant.specs.act_states.specs.declared.switches.SwitchAt.TheVariants as switch_at
+use Rattle.freeze_invariant.specs.act_states.specs.declared.work.Act.{Act as ActOf}
+use Rattle.freeze_invariant.specs.act_states.specs.declared.work.Act.TheVariants.{Remove, Retype, Make, Tick, Flush, Kill}
+use Rattle.freeze_invariant.specs.act_states.specs.declared.work.Act.TheVariants.{Map as map_act, Touch, Share}
+use Rattle.freeze_invariant.specs.act_states.specs.declared.work.Act.TheVariants.{Switch}
+use Rattle.freeze_invariant.specs.act_states.specs.declared.work.Tail.TheVariants.{Share as share_tail}
+use Rattle.freeze_invariant.specs.act_states.specs.declared.work.Work.TheVariants.{Act as act_work}
+use Rattle.freeze_invariant.specs.core_invariant.specs.Holding.{holds_closed, holds_drawn, kept_below}
+use Rattle.freeze_invariant.specs.core_invariant.specs.Knows.{KnowsClose, KnowsStore}
+use Rattle.freeze_invariant.specs.core_invariant.specs.Shares.{KnowsShare}
+use Rattle.freeze_invariant.specs.core_invariant.specs.Invariant.{holds_pop, holds_push}
+use Rattle.freeze_invariant.specs.core_invariant.specs.Invariant.{holds_stage}
+use Rattle.freeze_invariant.specs.core_invariant.specs.Threads.{KnowsSwitch}
+use Rattle.freeze_invariant.specs.kept_facts.proofs.Lent.{lent_unmarked}
+use Rattle.freeze_invariant.specs.core_invariant.specs.Holding.{kept_or}
 
 none_some : (x : ℕ) → None ≡ Some x → ⊥
 none_some x h = cc
@@ -132,7 +106,7 @@ module _ (f i : ℕ) where
   share_entry p StoreB h other = refl
   share_entry p (StoreA moved v) h other = refl
 
-  switch_entry : (m : Switching) (at : SwitchAt) (h : Holding) → m.old ≢ f → Rattle.core_invariant.specs.Threads.claimed_by at ≢ f
+  switch_entry : (m : Switching) (at : SwitchAt) (h : Holding) → m.old ≢ f → claimed_by at ≢ f
       → Same (holds_switching m at h) h
   switch_entry m (switch_at.Claim (AtLoad g core)) h old new = refl
   switch_entry m (switch_at.Claim (claim_compare g core depth)) h old new = refl
@@ -154,7 +128,7 @@ module _ (setup : Setting) (setting : IsSetting setup) (cores : ℕ → Core) (t
   no_thread d below same =
       let none : times f (core_names (s.core d)) ≡ 0 =
       (unnamed s f zero_refs).cores d
-      (subst (λ (n : ℕ). d < n) (sym (ap (λ l. l.cores) (Rattle.core_invariant.proofs.Sounds.limits_of setup t))) below) in
+      (subst (λ (n : ℕ). d < n) (sym (ap (λ l. l.cores) (limits_of setup t))) below) in
       let one : 1 ≤ times f (f ∷ (s.core d).tcap ∷ []) = times_first f ((s.core d).tcap ∷ []) in
       let at : times f (f ∷ (s.core d).tcap ∷ []) ≡ 0 = ap (λ n. times f (n ∷ (s.core d).tcap ∷ [])) (sym same) ∙ none in
       omega (arith, one, at)
@@ -199,7 +173,7 @@ module _ (setup : Setting) (setting : IsSetting setup) (cores : ℕ → Core) (t
       act_entry call is_open plan found upto (Share p) knows h = share_entry f i p p.at h (apart p.a knows.tcap_a.guarded)
       act_entry call is_open plan found upto (Switch m) knows h =
           switch_entry f i m m.at h (λ same. no_thread d here (sym knows.leaves.thread ∙ same))
-          (apart (Rattle.core_invariant.specs.Threads.claimed_by m.at) knows.thread.guarded)
+          (apart (claimed_by m.at) knows.thread.guarded)
 
       heads_entry : (p : Pair) (h : Holding) → p.a ≢ f → p.b ≢ f → Same f i (holds_heads p h) h
       heads_entry p h first second = keep_other p.b 0 (if f == p.a && i == 0 then true else h.marks (EntryAt f i)) f i second
@@ -296,5 +270,5 @@ module _ (setup : Setting) (setting : IsSetting setup) (cores : ℕ → Core) (t
         none_below : (n : ℕ) → kept_below n (held_by cores) f i (last_left setup t (EntryAt f i)) ≡ last_left setup t (EntryAt f i)
         none_below zero = refl
         none_below (suc n) =
-            ap (λ o. Rattle.core_invariant.specs.Holding.kept_or o (kept_below n (held_by cores) f i (last_left setup t (EntryAt f i))))
+            ap (λ o. kept_or o (kept_below n (held_by cores) f i (last_left setup t (EntryAt f i))))
             (none_kept n i) ∙ none_below n

@@ -1,94 +1,48 @@
 -- The step of a retype to untyped that looks at a word of the object in its frame: what it finds is what the object is, and it goes on, or
 -- the object is not empty.
+use Rattle.freeze_invariant.proofs.Common.{list_any, ◌≡◌, ◌≢◌, ◌⊎◌, inl, inr, ℕ, ◌+◌, ◌<◌, ◌≤◌, ◌==◌, ◌&&◌, ◌||◌, nat_lt, nat_le, length}
+use Rattle.freeze_invariant.proofs.Common.{Bool, true, false, List, [], ◌∷◌, Option, Some, None, IsTrue, arith, refl, sym, ◌∙◌, ap, subst}
+use Rattle.freeze_invariant.proofs.Common.{cases_eq, eq-eqb, eqb-true, false≢true, ltb-true, ltb-false, leb-true, leb-false, Setting}
+use Rattle.freeze_invariant.proofs.Common.{IsSetting, Call, Reply, core_of_word, flush_of_word, CoreWord, FlushWord, CountWord, FrameWord}
+use Rattle.freeze_invariant.proofs.Common.{CoreAt, FlushAt, same_word, EntryAt, Move, LoadOf, State, Thing, FrameOf, PlaceOf, is_untyped}
+use Rattle.freeze_invariant.proofs.Common.{is_empty, same_thing, is_translated, lowest, unflushed_by, MayWait, MayBeUnflushed, Refused}
+use Rattle.freeze_invariant.proofs.Common.{When, rule_of, change_of, IsAlone, IsRemoved, IsWaiting, IsUnflushed, frame_value}
+use Rattle.freeze_invariant.proofs.Common.{awaits_flushes, exit_of, flush_of, flush_stored, stamp, Step, Trace, Out, Open, phase}
+use Rattle.freeze_invariant.proofs.Common.{state_after, last_left, asked_of, waited_in, flushed_in, refused_first, nobody_waits}
+use Rattle.freeze_invariant.proofs.Common.{awaits_are, was_at_once, not_inside, out_passed, later_passed, may_wait, own_pages, Quiet}
+use Rattle.freeze_invariant.proofs.Common.{AtCore, AtFlush, next_other, core_scan, flush_scan, core_refuses, flush_refuses, scan_end}
+use Rattle.freeze_invariant.proofs.Common.{scan_after, quiet_next, quiet_end, quiet_after, latest_stamp, may_be_cached, loads_of}
+use Rattle.freeze_invariant.proofs.Common.{refusal_of, scan_goes, empty_next, at_after, end_by, swept_of, Owned, Sweep, SweepAt, Empty}
+use Rattle.freeze_invariant.proofs.Common.{took_sweep, next_work, release_of, UntypingFits, Untyping, Draw, Swept, Work, Act, WorkStep}
+use Rattle.freeze_invariant.proofs.Common.{Goes, Refuses, Undecided, ActiveCall, landed, Core, holds_release, Holding, holds_counts}
+use Rattle.freeze_invariant.proofs.Common.{KnowsUndecided, KnowsWork, AreDuesApart, holds_in, holds_work, Invariant, holds, held_by}
+use Rattle.freeze_invariant.proofs.Common.{AreFrozen, IsQuiet, IsScanning, KnowsSweep, KnowsSweepScan, IsLookedAt, names_of, names_on}
+use Rattle.freeze_invariant.proofs.Common.{quiet_frame_on, limits_of, Obj, refs, frame_names, IsSound, opened, events_of, sound_of}
+use Rattle.freeze_invariant.proofs.Common.{IsFrameWord, count_room, release_entry, OwnedBy, IsNearIn}
 use Rattle.std.specs.Prelude.{if◌then◌else◌, not}
-use Rattle.std.specs.List.{list_any}
-use Rattle.std.proofs.Common.{◌≡◌, ◌≢◌, ◌⊎◌, inl, inr, ℕ, ◌+◌, ◌<◌, ◌≤◌, ◌==◌, ◌&&◌, ◌||◌, nat_lt, nat_le, length, Bool}
-use Rattle.std.proofs.Common.{true, false, List, [], ◌∷◌, Option, Some, None, IsTrue, arith, refl, sym, ◌∙◌, ap, subst}
-use Rattle.std.proofs.lemmas.Bool.{cases_eq, eq-eqb, eqb-true, false≢true, ltb-true, ltb-false, leb-true, leb-false}
-use Rattle.spk_nums.specs.Setting.{Setting, IsSetting}
-use Rattle.spk_nums.specs.declared.calls.Call.{Call}
-use Rattle.spk_nums.specs.declared.replies.Reply.{Reply}
-use Rattle.spk_nums.specs.declared.replies.Reply.TheVariants as reply
-use Rattle.frame_words.specs.Core.{core_of_word}
-use Rattle.frame_words.specs.Flush.{flush_of_word}
-use Rattle.frame_words.specs.declared.core_word.CoreWord.{CoreWord}
-use Rattle.frame_words.specs.declared.flush_word.FlushWord.{FlushWord}
-use Rattle.frame_words.specs.declared.count_word.CountWord.{CountWord}
-use Rattle.frame_words.specs.declared.frame_word.FrameWord.{FrameWord}
-use Rattle.word_map.specs.Word.{CoreAt, FlushAt, same_word, EntryAt}
-use Rattle.word_map.specs.Moves.{Move, LoadOf}
-use Rattle.kernel_rules.specs.State.{State, Thing, FrameOf, PlaceOf}
-use Rattle.kernel_rules.specs.MemoryCalls.{is_untyped, is_empty}
-use Rattle.kernel_rules.specs.GracePeriods.{same_thing, is_translated, lowest, unflushed_by, MayWait, MayBeUnflushed}
-use Rattle.kernel_rules.specs.Rules.{Refused, When, refusal_of as cause_refuses}
-use Rattle.kernel_rules.specs.CallRelation.{rule_of, change_of}
-use Rattle.kernel_history.specs.Alone.{IsAlone}
-use Rattle.kernel_history.specs.Justified.{IsRemoved, IsWaiting, IsUnflushed}
-use Rattle.kernel_history.specs.ObjectWords.{frame_value}
-use Rattle.kernel_history.specs.Stamps.{awaits_flushes, exit_of, flush_of, flush_stored, stamp}
-use Rattle.kernel_history.specs.Trace.{Step, Trace, Out, Open, phase, state_after, last_left}
-use Rattle.kernel_history.specs.Ways.{asked_of, waited_in, flushed_in}
-use Rattle.trace_laws.proofs.AloneCalls.{refused_first, nobody_waits}
-use Rattle.trace_laws.proofs.Awaits.{awaits_are}
-use Rattle.trace_laws.proofs.Carries.{was_at_once}
-use Rattle.kernel_history.proofs.Laws.{not_inside}
-use Rattle.trace_laws.proofs.Waiting.{out_passed, later_passed, may_wait}
-use Rattle.call_plans.specs.GoesBy.{own_pages}
-use Rattle.plan_ways.proofs.Ways.{asked_left}
-use Rattle.stage_quiet.specs.declared.quiet.Quiet.{Quiet}
-use Rattle.stage_quiet.specs.declared.quiet.Quiet.TheVariants.{AtCore, AtFlush}
-use Rattle.stage_quiet.specs.Scan.{next_other, core_scan, flush_scan, core_refuses, flush_refuses}
-use Rattle.stage_quiet.specs.Scan.{scan_end, scan_after, quiet_next, quiet_end, quiet_after}
-use Rattle.stage_sweep.specs.Counters.{latest_stamp}
-use Rattle.stage_sweep.specs.Emptiness.{may_be_cached, loads_of, empty_refuses, owned_after}
-use Rattle.stage_sweep.specs.Freeze.{refusal_of, scan_goes, empty_next, at_after, end_by, swept_of}
-use Rattle.stage_sweep.specs.declared.empty.Owned.{Owned}
-use Rattle.stage_sweep.specs.declared.sweep.Sweep.{Sweep}
-use Rattle.stage_sweep.specs.declared.sweep.SweepAt.{SweepAt}
-use Rattle.stage_sweep.specs.declared.sweep.SweepAt.TheVariants.{Scan, Empty}
-use Rattle.act_states.specs.Acts.{took_sweep, next_work}
-use Rattle.act_states.specs.Untypings.{release_of, UntypingFits, owned_dues}
-use Rattle.act_states.specs.declared.untypings.Untyping.{Untyping}
-use Rattle.act_states.specs.declared.untypings.UntypingAt.TheVariants.{Draw}
-use Rattle.stage_sweep.specs.declared.sweep.Swept.{Swept}
-use Rattle.act_states.specs.declared.work.Act.TheVariants.{Untype as untype_act}
-use Rattle.act_states.specs.declared.work.Work.{Work}
-use Rattle.act_states.specs.declared.work.Work.TheVariants.{Act}
-use Rattle.act_states.specs.declared.work.WorkStep.{WorkStep}
-use Rattle.act_states.specs.declared.refusals.Refusal.TheVariants as refusal
-use Rattle.act_states.specs.declared.work.Tail.TheVariants.{Release as release_tail}
-use Rattle.act_states.specs.declared.work.WorkStep.TheVariants.{Goes, Refuses}
-use Rattle.call_stages.specs.declared.stages.Stage.TheVariants.{Undecided}
-use Rattle.call_stages.specs.declared.stages.ActiveCall.{ActiveCall}
-use Rattle.call_stages.specs.Steps.{landed}
-use Rattle.call_stages.specs.View.{Core}
-use Rattle.core_invariant.specs.Frozen.{holds_release}
-use Rattle.core_invariant.specs.Holding.{Holding, holds_counts}
-use Rattle.core_invariant.specs.Knows.{KnowsUndecided, KnowsWork, AreDuesApart}
-use Rattle.core_invariant.specs.Invariant.{holds_in, holds_work, Invariant, holds, held_by}
-use Rattle.core_invariant.specs.Sweeps.{AreFrozen, IsQuiet, IsScanning, KnowsSweep, KnowsSweepScan, IsLookedAt, IsSwept, names_of}
-use Rattle.kept_facts.proofs.Carries.{names_on, quiet_frame_on}
-use Rattle.step_ways.proofs.Loads.{OnlyLooks, step_to, next_at, inner, loads_on, decides_with}
-use Rattle.step_ways.proofs.Refusals.{GoodTook}
-use Rattle.core_invariant.proofs.Sounds.{limits_of}
-use Rattle.scan_invariant.proofs.FlushScans.{flush_is_stored, flush_shown, lowest_is, still_unflushed, unflushed_shown}
-use Rattle.scan_invariant.proofs.Scans.{before_next}
-use Rattle.place_invariant.proofs.Vacancy.{none_waits, none_unflushed}
+use Rattle.freeze_invariant.specs.spk_nums.specs.declared.replies.Reply.TheVariants as reply
+use Rattle.freeze_invariant.specs.kernel_rules.specs.Rules.{refusal_of as cause_refuses}
+use Rattle.freeze_invariant.specs.plan_ways.proofs.Ways.{asked_left}
+use Rattle.freeze_invariant.specs.stage_sweep.specs.Emptiness.{empty_refuses, owned_after}
+use Rattle.freeze_invariant.specs.stage_sweep.specs.declared.sweep.SweepAt.TheVariants.{Scan}
+use Rattle.freeze_invariant.specs.act_states.specs.Untypings.{owned_dues}
+use Rattle.freeze_invariant.specs.act_states.specs.declared.work.Act.TheVariants.{Untype as untype_act}
+use Rattle.freeze_invariant.specs.act_states.specs.declared.refusals.Refusal.TheVariants as refusal
+use Rattle.freeze_invariant.specs.act_states.specs.declared.work.Tail.TheVariants.{Release as release_tail}
+use Rattle.freeze_invariant.specs.core_invariant.specs.Sweeps.{IsSwept}
+use Rattle.freeze_invariant.specs.step_ways.proofs.Loads.{OnlyLooks, step_to, next_at, inner, loads_on, decides_with}
+use Rattle.freeze_invariant.specs.step_ways.proofs.Refusals.{GoodTook}
+use Rattle.freeze_invariant.specs.scan_invariant.proofs.FlushScans.{flush_is_stored, flush_shown, lowest_is, still_unflushed}
+use Rattle.freeze_invariant.specs.scan_invariant.proofs.FlushScans.{unflushed_shown}
+use Rattle.freeze_invariant.specs.scan_invariant.proofs.Scans.{before_next}
+use Rattle.freeze_invariant.specs.place_invariant.proofs.Vacancy.{none_waits, none_unflushed}
 use Rattle.freeze_invariant.proofs.Counters.{sweeping, untyping_by, sweep_knows, sweep_held, sweep_counts}
 use Rattle.freeze_invariant.proofs.Counters.{sweep_frame, sweep_refs, sweep_since, undo_with, undo_known}
 use Rattle.freeze_invariant.proofs.FrameQuiet as quieting
 use Rattle.freeze_invariant.proofs.FrameQuiet.{cached_is, unpaged_frame}
 use Rattle.freeze_invariant.proofs.UntypeCalls as calls
 use Rattle.freeze_invariant.proofs.UntypeCalls.{untypes_on, typed_is}
-use Rattle.spk_nums.specs.declared.kinds.Obj.{Obj}
-use Rattle.spk_nums.specs.declared.kinds.Obj.TheVariants as obj
-use Rattle.kernel_rules.specs.References.{refs, frame_names}
-use Rattle.kernel_invariant.proofs.Sound.{IsSound}
-use Rattle.kernel_invariant.proofs.SoundRuns.{opened}
-use Rattle.kernel_history.specs.Events.{events_of}
-use Rattle.trace_laws.proofs.Stays.{sound_of}
-use Rattle.core_invariant.specs.Words.{IsFrameWord, count_room}
-use Rattle.core_invariant.proofs.Freezing.{release_entry}
+use Rattle.freeze_invariant.specs.spk_nums.specs.declared.kinds.Obj.TheVariants as obj
 use Rattle.freeze_invariant.proofs.Continuing as going
 use Rattle.sweep_invariant.proofs.FreeEntries.{counts_entry, entry_settles}
 use Rattle.sweep_invariant.proofs.OwnedFrames.{OwnedApart, owned_apart, names_differ}
@@ -133,7 +87,7 @@ module _ (setup : Setting) (setting : IsSetting setup) (cores : ℕ → Core) (t
     pub entry_below : i < loads_of v.object
     entry_below = fits.at.at
 
-    pub owned_fits : Rattle.act_states.specs.Untypings.OwnedBy v.object o
+    pub owned_fits : OwnedBy v.object o
     owned_fits = fits.at.object
 
     pub object_frame : v ≡ frame_value (s.frame f)
@@ -166,7 +120,7 @@ module _ (setup : Setting) (setting : IsSetting setup) (cores : ℕ → Core) (t
     looks = record {
       of_call = record {
         moves = refl;
-        near = inl (subst (λ (n : ℕ). Rattle.kernel_history.specs.Footprint.IsNearIn c a.call (EntryAt n i) s) (sym knows.frame)
+        near = inl (subst (λ (n : ℕ). IsNearIn c a.call (EntryAt n i) s) (sym knows.frame)
             (calls.near setup setting cores t stands c here a active m stage_is has));
       };
       kept = refl;

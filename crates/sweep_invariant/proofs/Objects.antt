@@ -1,58 +1,28 @@
 -- Whether the object in a frame that is made untyped is empty: by one word of it after another.
+use Rattle.freeze_invariant.proofs.Common.{◌≡◌, ◌≢◌, ◌⊎◌, inl, inr, ℕ, zero, suc, ◌+◌, ◌<◌, ◌≤◌, ◌==◌, nat_lt, nat_le, length, Bool, true}
+use Rattle.freeze_invariant.proofs.Common.{false, List, [], ◌∷◌, Option, Some, None, IsTrue, arith, refl, sym, ◌∙◌, ap, subst, cases_eq}
+use Rattle.freeze_invariant.proofs.Common.{cases_lt, false≢true, eqb-true, eqb-false, lt-ltb, leb-true, Capability, Setting, IsSetting}
+use Rattle.freeze_invariant.proofs.Common.{Obj, Kind, Reply, Entry, CountWord, FrameWord, head_of_word, stack_of_word, thread_of_word}
+use Rattle.freeze_invariant.proofs.Common.{HeadWord, EntryAt, Object, Blank, Table, Leaf, Pages, Pleaf, Comp, Thread, Tcap, CompFields}
+use Rattle.freeze_invariant.proofs.Common.{ThreadFields, TcapFields, Frame, Untyped, User, Kernel, Place, Free, Holds, Quiescing, PlaceOf}
+use Rattle.freeze_invariant.proofs.Common.{State, held_in, fits, is_empty, frame_names, IsSound, IsObjectGood, IsStack, opened, events_of}
+use Rattle.freeze_invariant.proofs.Common.{frame_value, thread_value, at_height, stamp, Trace, state_after, last_left, cases_bool}
+use Rattle.freeze_invariant.proofs.Common.{sound_of, shown_in, loads_of, Owned, Empty, OwnedBy, Act, ActiveCall, Undecided, Core}
+use Rattle.freeze_invariant.proofs.Common.{KnowsUndecided, Invariant, IsLookedAt, names_of, HeadIs, IsFrameWord, PlaceIs, count_room}
+use Rattle.freeze_invariant.proofs.Common.{limits_of, entry_of_word}
 use Rattle.std.specs.Prelude.{if◌then◌else◌, slice_get, reverse}
-use Rattle.std.proofs.Common.{◌≡◌, ◌≢◌, ◌⊎◌, inl, inr, ℕ, zero, suc, ◌+◌, ◌<◌, ◌≤◌, ◌==◌, nat_lt, nat_le, length, Bool}
-use Rattle.std.proofs.Common.{true, false, List, [], ◌∷◌, Option, Some, None, IsTrue, arith, refl, sym, ◌∙◌, ap, subst}
-use Rattle.std.proofs.lemmas.Bool.{cases_eq, cases_lt, false≢true, eqb-true, eqb-false, lt-ltb, leb-true}
-use Rattle.spk_nums.specs.Capability.{Capability}
-use Rattle.spk_nums.specs.Setting.{Setting, IsSetting}
-use Rattle.spk_nums.specs.declared.kinds.Obj.{Obj}
-use Rattle.spk_nums.specs.declared.kinds.Obj.TheVariants as obj
-use Rattle.spk_nums.specs.declared.kinds.Kind.{Kind}
-use Rattle.spk_nums.specs.declared.kinds.Kind.TheVariants as kind
-use Rattle.spk_nums.specs.declared.replies.Reply.{Reply}
-use Rattle.spk_nums.specs.declared.replies.Reply.TheVariants as reply
-use Rattle.entry_words.specs.declared.entry.Entry.{Entry}
-use Rattle.entry_words.specs.declared.entry.Entry.TheVariants as entry
-use Rattle.frame_words.specs.declared.count_word.CountWord.{CountWord}
-use Rattle.frame_words.specs.declared.frame_word.FrameWord.{FrameWord}
-use Rattle.tcap_words.specs.Head.{head_of_word}
-use Rattle.tcap_words.specs.Stack.{stack_of_word}
-use Rattle.tcap_words.specs.Thread.{thread_of_word}
-use Rattle.tcap_words.specs.declared.head_word.HeadWord.{HeadWord}
-use Rattle.word_map.specs.Word.{EntryAt}
-use Rattle.kernel_rules.specs.State.{Object, Blank, Table, Leaf, Pages, Pleaf, Comp, Thread, Tcap, CompFields, ThreadFields}
-use Rattle.kernel_rules.specs.State.{TcapFields, Frame, Untyped, User, Kernel, Place, Free, Holds, Quiescing, PlaceOf, State}
-use Rattle.kernel_rules.specs.Access.{held_in}
-use Rattle.kernel_rules.specs.Fitting.{fits}
-use Rattle.kernel_rules.specs.MemoryCalls.{is_empty, holds_nothing}
-use Rattle.kernel_rules.specs.References.{frame_names}
-use Rattle.kernel_invariant.proofs.Sound.{IsSound, IsObjectGood, IsStack}
-use Rattle.kernel_invariant.proofs.SoundCalls.{nothing_held}
-use Rattle.kernel_invariant.proofs.SoundRuns.{opened}
-use Rattle.kernel_history.specs.Events.{events_of}
-use Rattle.kernel_history.specs.ObjectWords.{frame_value, thread_value, at_height}
-use Rattle.kernel_history.specs.Stamps.{stamp}
-use Rattle.kernel_history.specs.Trace.{Trace, state_after, last_left}
-use Rattle.trace_laws.proofs.GraceSteps.{cases_bool}
-use Rattle.trace_laws.proofs.Stays.{sound_of}
-use Rattle.stage_look.specs.Shown.{shown_in}
-use Rattle.stage_sweep.specs.Emptiness.{loads_of, empty_refuses, entry_refuses, field_refuses, head_refuses}
-use Rattle.stage_sweep.specs.Emptiness.{head_by_mark, owned_after, owns, frame_if, place_owned, place_refuses}
-use Rattle.stage_sweep.specs.Emptiness.{stack_owned, stack_refuses, thread_refuses, depth_refuses}
-use Rattle.stage_sweep.specs.declared.empty.Owned.{Owned}
-use Rattle.stage_sweep.specs.declared.sweep.SweepAt.TheVariants.{Empty}
-use Rattle.act_states.specs.Untypings.{OwnedBy}
-use Rattle.act_states.specs.declared.work.Act.TheVariants.{Untype as untype_act}
-use Rattle.act_states.specs.declared.work.Work.TheVariants.{Act}
-use Rattle.call_stages.specs.declared.stages.ActiveCall.{ActiveCall}
-use Rattle.call_stages.specs.declared.stages.Stage.TheVariants.{Undecided}
-use Rattle.call_stages.specs.View.{Core}
-use Rattle.core_invariant.specs.Knows.{KnowsUndecided}
-use Rattle.core_invariant.specs.Invariant.{Invariant}
-use Rattle.core_invariant.specs.Sweeps.{HoldsNone, IsLookedAt, NamesBottom, NamesFields, names_of}
-use Rattle.core_invariant.specs.Words.{HeadIs, IsFrameWord, PlaceIs, count_room}
-use Rattle.core_invariant.proofs.Sounds.{limits_of}
-use Rattle.count_invariant.proofs.Lookups.{IsShown, Shows, ShowsHeld, shown_of}
+use Rattle.freeze_invariant.specs.spk_nums.specs.declared.kinds.Obj.TheVariants as obj
+use Rattle.freeze_invariant.specs.spk_nums.specs.declared.kinds.Kind.TheVariants as kind
+use Rattle.freeze_invariant.specs.spk_nums.specs.declared.replies.Reply.TheVariants as reply
+use Rattle.freeze_invariant.specs.entry_words.specs.declared.entry.Entry.TheVariants as entry
+use Rattle.freeze_invariant.specs.kernel_rules.specs.MemoryCalls.{holds_nothing}
+use Rattle.freeze_invariant.specs.kernel_invariant.proofs.SoundCalls.{nothing_held}
+use Rattle.freeze_invariant.specs.stage_sweep.specs.Emptiness.{empty_refuses, entry_refuses, field_refuses, head_refuses}
+use Rattle.freeze_invariant.specs.stage_sweep.specs.Emptiness.{head_by_mark, owned_after, owns, frame_if, place_owned, place_refuses}
+use Rattle.freeze_invariant.specs.stage_sweep.specs.Emptiness.{stack_owned, stack_refuses, thread_refuses, depth_refuses}
+use Rattle.freeze_invariant.specs.act_states.specs.declared.work.Act.TheVariants.{Untype as untype_act}
+use Rattle.freeze_invariant.specs.core_invariant.specs.Sweeps.{HoldsNone, NamesBottom, NamesFields}
+use Rattle.freeze_invariant.specs.count_invariant.proofs.Lookups.{IsShown, Shows, ShowsHeld, shown_of}
 use Rattle.freeze_invariant.proofs.Counters.{sweeping, untyping_by}
 use Rattle.sweep_invariant.proofs.ObjectLoads.{Result, entry_below, goes_on, holds_some}
 use Rattle.sweep_invariant.proofs.ObjectLoads.{looked_so_far, object_frame, object_says, owned_fits}
@@ -121,7 +91,7 @@ module _ (setup : Setting) (setting : IsSetting setup) (cores : ℕ → Core) (t
     module _ (small : i < 64) (empty_is : is_empty s f (s.frame f) ≡ holds_nothing s f)
         (look : HoldsNone s f (i + 1) → IsLookedAt s f (s.frame f) (i + 1) o) (before : HoldsNone s f i)
         (names : names_of o.first o.second ≡ frame_names (s.frame f))
-        (place : PlaceIs n (s.place f i) (stamp setup t (PlaceOf f i)) (Rattle.entry_words.specs.EntryWord.entry_of_word was)) where
+        (place : PlaceIs n (s.place f i) (stamp setup t (PlaceOf f i)) (entry_of_word was)) where
       shows : IsShown n (s.place f i) was
       shows = shown_of n (s.place f i) (stamp setup t (PlaceOf f i)) was place
 

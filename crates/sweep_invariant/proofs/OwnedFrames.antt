@@ -1,23 +1,12 @@
 -- The frames that an object itself names differ from one another, and from its own: so their counts may be acquired while its own counters
 -- are frozen.
-use Rattle.std.specs.Prelude.{All}
-use Rattle.std.proofs.Common.{◌≡◌, ◌≢◌, ℕ, ◌+◌, ◌<◌, ◌≤◌, Bool, true, false, List, [], ◌∷◌, length}
-use Rattle.std.proofs.Common.{Option, Some, None, IsTrue, arith, refl, sym, ◌∙◌, ap, subst}
-use Rattle.std.proofs.lemmas.Bool.{false≢true}
-use Rattle.std.proofs.lemmas.List.Elements.{All-nil, All-cons, All-head, All-tail}
-use Rattle.spk_nums.specs.declared.kinds.Kind.TheVariants as kind
-use Rattle.kernel_rules.specs.State.{CompFields, ThreadFields, Object, Blank, Table, Leaf, Pages}
-use Rattle.kernel_rules.specs.State.{Pleaf, Comp, Thread, Tcap, Frame, Untyped, User, Kernel, State}
-use Rattle.kernel_rules.specs.Fitting.{fits}
-use Rattle.kernel_rules.specs.References.{frame_names}
-use Rattle.kernel_invariant.proofs.Sound.{IsSound, IsObjectGood, IsStack}
-use Rattle.kernel_history.specs.ObjectWords.{frame_value}
-use Rattle.stage_sweep.specs.Emptiness.{loads_of}
-use Rattle.stage_sweep.specs.declared.empty.Owned.{Owned}
-use Rattle.act_states.specs.declared.work.Due.{Due}
-use Rattle.act_states.specs.Untypings.{released_one, released_dues}
-use Rattle.core_invariant.specs.Knows.{AreDuesApart}
-use Rattle.core_invariant.specs.Sweeps.{IsLookedAt, names_of}
+use Rattle.freeze_invariant.proofs.Common.{All, ◌≡◌, ◌≢◌, ℕ, ◌+◌, ◌<◌, ◌≤◌, Bool, true, false, List, [], ◌∷◌, length, Option, Some, None}
+use Rattle.freeze_invariant.proofs.Common.{IsTrue, arith, refl, sym, ◌∙◌, ap, subst, false≢true, All-nil, All-cons, All-head, All-tail}
+use Rattle.freeze_invariant.proofs.Common.{CompFields, ThreadFields, Object, Blank, Table, Leaf, Pages, Pleaf, Comp, Thread, Tcap, Frame}
+use Rattle.freeze_invariant.proofs.Common.{Untyped, User, Kernel, State, fits, frame_names, IsSound, IsObjectGood, IsStack, frame_value}
+use Rattle.freeze_invariant.proofs.Common.{loads_of, Owned, Due, released_dues, AreDuesApart, IsLookedAt, names_of}
+use Rattle.freeze_invariant.specs.spk_nums.specs.declared.kinds.Kind.TheVariants as kind
+use Rattle.freeze_invariant.specs.act_states.specs.Untypings.{released_one}
 
 -- No frame is the root of a table of capabilities and of a page table.
 both_fit : (x : Frame) → IsTrue (fits kind.Table x) → IsTrue (fits kind.Pages x) → ⊥

@@ -1,55 +1,36 @@
 -- The stores of a call that has swept a frame: after its decision it commits its counts, then it gives back the frame's counters, as they
 -- were found or cleared, and at last the frame's word.
+use Rattle.freeze_invariant.proofs.Common.{◌≡◌, ◌≢◌, ◌⊎◌, inl, inr, ℕ, ◌+◌, ◌^◌, ◌<◌, ◌≤◌, ◌==◌, ◌&&◌, nat_lt, nat_le, length, Bool, true}
+use Rattle.freeze_invariant.proofs.Common.{false, List, [], ◌∷◌, Option, Some, None, IsTrue, arith, refl, sym, ◌∙◌, ap, subst, cases_eq}
+use Rattle.freeze_invariant.proofs.Common.{false≢true, ne_eqb, eqb-true, le-leb, leb-true, leb-false, ltb-true, ltb-false, All-head}
+use Rattle.freeze_invariant.proofs.Common.{All-tail, Setting, IsSetting, Call, Reply, count_of_word, word_of_count, Word, EntryAt}
+use Rattle.freeze_invariant.proofs.Common.{FrameAt, CountAt, CoreAt, FlushAt, LiveAt, ClockAt, same_word, Move, StoreOf, word_of, told_of}
+use Rattle.freeze_invariant.proofs.Common.{same_same, State, put, IsNearIn, frames_near, is_one_of, marked_by, count_mark, Step, Trace}
+use Rattle.freeze_invariant.proofs.Common.{phase, state_after, last_left, same_word-other, Acquired, Thaw, Nothing, StageFits, ActiveCall}
+use Rattle.freeze_invariant.proofs.Common.{Decided, GoesOn, went_with, Core, holds_release, holds_thaw, is_frozen, AreApart, Holding}
+use Rattle.freeze_invariant.proofs.Common.{committed, count_of, holds_counts, settled, settled_by, IsCount, KnowsTail, KnowsUnmark}
+use Rattle.freeze_invariant.proofs.Common.{phase_at, Invariant, done_by, held_by, holds, holds_at, holds_in, ThawsFrame, SaysCount}
+use Rattle.freeze_invariant.proofs.Common.{count_room, as_none, counts_bare, counts_on, lent_elsewhere, counter_of}
 use Rattle.std.specs.Prelude.{if◌then◌else◌, slice_get}
-use Rattle.std.proofs.Common.{◌≡◌, ◌≢◌, ◌⊎◌, inl, inr, ℕ, ◌+◌, ◌^◌, ◌<◌, ◌≤◌, ◌==◌, ◌&&◌, nat_lt, nat_le, length, All, Bool}
-use Rattle.std.proofs.Common.{true, false, List, [], ◌∷◌, Option, Some, None, IsTrue, arith, refl, sym, ◌∙◌, ap, subst}
-use Rattle.std.proofs.lemmas.Bool.{cases_eq, false≢true, ne_eqb, eqb-true, le-leb, leb-true, leb-false, ltb-true, ltb-false}
-use Rattle.std.proofs.lemmas.List.Elements.{All-head, All-tail}
-use Rattle.spk_nums.specs.Setting.{Setting, IsSetting}
-use Rattle.spk_nums.specs.declared.calls.Call.{Call}
-use Rattle.spk_nums.specs.declared.replies.Reply.{Reply}
-use Rattle.spk_nums.specs.declared.replies.Reply.TheVariants as reply
-use Rattle.frame_words.specs.Count.{count_of_word, word_of_count}
-use Rattle.frame_words.proofs.CountLemmas as counts
-use Rattle.word_map.specs.Word.{Word, EntryAt, FrameAt, CountAt, CoreAt, FlushAt, LiveAt, ClockAt, same_word}
-use Rattle.word_map.specs.Moves.{Move, StoreOf, word_of, told_of}
-use Rattle.word_map.proofs.WordLemmas.{same_same}
-use Rattle.kernel_rules.specs.State.{State, put}
-use Rattle.kernel_history.specs.Footprint.{IsNearIn, frames_near, is_one_of}
-use Rattle.kernel_history.specs.Marking.{marked_by}
-use Rattle.kernel_history.specs.Marks.{count_mark}
-use Rattle.kernel_history.specs.Trace.{Step, Trace, phase, state_after, last_left}
-use Rattle.kernel_history.proofs.Names.{same_word-other}
-use Rattle.stage_pins.specs.Held.{commit_of}
-use Rattle.stage_pins.specs.Commit.{settled_word}
-use Rattle.stage_pins.specs.declared.held.Acquired.{Acquired}
-use Rattle.stage_sweep.specs.Release.{ThawFits, at_next, more_end, released, thaw_after, thaw_end, thaw_move}
-use Rattle.stage_sweep.specs.declared.thaw.Thaw.{Thaw}
-use Rattle.act_states.specs.Untypings.{release_after, release_move, thaw_left_by}
-use Rattle.act_states.specs.declared.untypings.Release.{Release}
-use Rattle.act_states.specs.declared.work.Tail.TheVariants.{Nothing, Release as release_tail}
-use Rattle.call_stages.specs.Fits.{StageFits}
-use Rattle.call_stages.specs.Tails.{is_ok, tail_counts, tail_move, took_tail}
-use Rattle.call_stages.specs.declared.stages.ActiveCall.{ActiveCall}
-use Rattle.call_stages.specs.declared.stages.Stage.TheVariants.{Decided}
-use Rattle.call_stages.specs.Steps.{GoesOn, went_with}
-use Rattle.call_stages.specs.View.{Core}
-use Rattle.core_invariant.specs.Frozen.{holds_release, holds_thaw, is_frozen}
-use Rattle.core_invariant.specs.Holding.{AreApart, Holding, committed, count_of, holds_counts, settled, settled_by}
-use Rattle.core_invariant.specs.Knows.{IsCount, KnowsTail, KnowsUnmark, phase_at}
-use Rattle.core_invariant.specs.Invariant.{Invariant, done_by, held_by, holds, holds_at, holds_in}
-use Rattle.core_invariant.specs.Sweeps.{KnowsRelease, ThawsFrame}
-use Rattle.core_invariant.specs.Words.{SaysCount, count_room}
-use Rattle.core_invariant.proofs.Bare.{as_none, counts_bare}
-use Rattle.kept_facts.proofs.Carries.{counts_on}
-use Rattle.step_ways.proofs.Counting as counting
-use Rattle.core_invariant.proofs.Freezing.{SameAt, is_count, release_away, release_bare, release_frame, release_over, thaw_here, thaw_plain}
-use Rattle.step_ways.proofs.Good.{spares_other}
-use Rattle.kept_facts.proofs.Lent.{lent_elsewhere}
-use Rattle.step_ways.proofs.Loads.{call_is, core_in_call, inner, is_active}
-use Rattle.step_ways.proofs.Refusals.{GoodTook}
-use Rattle.step_ways.proofs.Writes.{same_marks}
-use Rattle.count_invariant.proofs.MakingCounts.{argument_near}
+use Rattle.std.proofs.Common.{All}
+use Rattle.freeze_invariant.specs.spk_nums.specs.declared.replies.Reply.TheVariants as reply
+use Rattle.freeze_invariant.specs.frame_words.proofs.CountLemmas as counts
+use Rattle.freeze_invariant.specs.stage_pins.specs.Held.{commit_of}
+use Rattle.freeze_invariant.specs.stage_pins.specs.Commit.{settled_word}
+use Rattle.freeze_invariant.specs.stage_sweep.specs.Release.{ThawFits, at_next, more_end, released, thaw_after, thaw_end, thaw_move}
+use Rattle.freeze_invariant.specs.act_states.specs.Untypings.{release_after, release_move, thaw_left_by}
+use Rattle.freeze_invariant.specs.act_states.specs.declared.untypings.Release.{Release}
+use Rattle.freeze_invariant.specs.act_states.specs.declared.work.Tail.TheVariants.{Release as release_tail}
+use Rattle.freeze_invariant.specs.call_stages.specs.Tails.{is_ok, tail_counts, tail_move, took_tail}
+use Rattle.freeze_invariant.specs.core_invariant.specs.Sweeps.{KnowsRelease}
+use Rattle.freeze_invariant.specs.step_ways.proofs.Counting as counting
+use Rattle.freeze_invariant.specs.core_invariant.proofs.Freezing.{SameAt, is_count, release_away, release_bare, release_frame}
+use Rattle.freeze_invariant.specs.core_invariant.proofs.Freezing.{release_over, thaw_here, thaw_plain}
+use Rattle.freeze_invariant.specs.step_ways.proofs.Good.{spares_other}
+use Rattle.freeze_invariant.specs.step_ways.proofs.Loads.{call_is, core_in_call, inner, is_active}
+use Rattle.freeze_invariant.specs.step_ways.proofs.Refusals.{GoodTook}
+use Rattle.freeze_invariant.specs.step_ways.proofs.Writes.{same_marks}
+use Rattle.freeze_invariant.specs.count_invariant.proofs.MakingCounts.{argument_near}
 
 some_inj : (x y : ℕ) → Some x ≡ Some y → x ≡ y
 some_inj x y h = cc
@@ -231,7 +212,7 @@ module _ (setup : Setting) (setting : IsSetting setup) (cores : ℕ → Core) (t
 
     count_away : (h : Holding) → SameAt (holds_release (release o) h) h (count_of x)
     count_away h = release_away (release o) h x.pin.frame
-        (Rattle.word_map.specs.Places.counter_of x.pin.core) release_known.thaws other_frame
+        (counter_of x.pin.core) release_known.thaws other_frame
 
     own_mark : marked_by setup t (count_of x) ≡ Some c
     own_mark = (stands.marks (count_of x) c).kept (ap (λ h. h.marks (count_of x)) was_held

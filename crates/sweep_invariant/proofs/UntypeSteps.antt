@@ -1,40 +1,18 @@
 -- The step of a call that makes a frame untyped, wherever it stands.
+use Rattle.freeze_invariant.proofs.Common.{◌≡◌, ℕ, ◌+◌, ◌<◌, ◌==◌, nat_lt, length, Bool, true, false, ℤ, List, [], ◌∷◌, Option, Some}
+use Rattle.freeze_invariant.proofs.Common.{None, arith, refl, sym, ◌∙◌, ap, subst, Setting, IsSetting, Reply, core_of_word, count_of_word}
+use Rattle.freeze_invariant.proofs.Common.{flush_of_word, frame_of_word, CountWord, FrameWord, Move, word_of, told_of, Shape, Trace}
+use Rattle.freeze_invariant.proofs.Common.{last_left, Quiet, AtCore, AtFlush, counters_of, Owned, Sweep, SweepAt, Compare, Empty}
+use Rattle.freeze_invariant.proofs.Common.{took_sweep, Untyping, UntypingAt, Draw, Act, ActiveCall, Undecided, landed, Core}
+use Rattle.freeze_invariant.proofs.Common.{KnowsUndecided, Invariant}
 use Rattle.std.specs.Prelude.{if◌then◌else◌}
-use Rattle.std.proofs.Common.{◌≡◌, ℕ, ◌+◌, ◌<◌, ◌==◌, nat_lt, length, Bool, true, false, ℤ, List}
-use Rattle.std.proofs.Common.{[], ◌∷◌, Option, Some, None, arith, refl, sym, ◌∙◌, ap, subst}
-use Rattle.spk_nums.specs.Setting.{Setting, IsSetting}
-use Rattle.spk_nums.specs.declared.replies.Reply.{Reply}
-use Rattle.frame_words.specs.Core.{core_of_word}
-use Rattle.frame_words.specs.Count.{count_of_word}
-use Rattle.frame_words.specs.Flush.{flush_of_word}
-use Rattle.frame_words.specs.Frame.{frame_of_word}
-use Rattle.frame_words.specs.declared.count_word.CountWord.{CountWord}
-use Rattle.frame_words.specs.declared.frame_word.FrameWord.{FrameWord}
-use Rattle.word_map.specs.Moves.{Move, word_of, told_of}
-use Rattle.word_map.specs.Places.{Shape}
-use Rattle.kernel_history.specs.Trace.{Trace, last_left}
-use Rattle.stage_quiet.specs.declared.quiet.Quiet.{Quiet}
-use Rattle.stage_quiet.specs.declared.quiet.Quiet.TheVariants.{AtCore, AtFlush}
-use Rattle.stage_sweep.specs.Counters.{counters_of}
-use Rattle.stage_sweep.specs.Freeze.{sweep_after, sweep_end}
-use Rattle.stage_sweep.specs.declared.empty.Owned.{Owned}
-use Rattle.stage_sweep.specs.declared.sweep.Sweep.{Sweep}
-use Rattle.stage_sweep.specs.declared.sweep.SweepAt.{SweepAt}
-use Rattle.stage_sweep.specs.declared.sweep.SweepAt.TheVariants.{Load as sweep_load, Compare, Scan, Empty}
-use Rattle.act_states.specs.Acts.{took_sweep, took_untyping}
-use Rattle.act_states.specs.Untypings.{untyping_move}
-use Rattle.act_states.specs.declared.untypings.Untyping.{Untyping}
-use Rattle.act_states.specs.declared.untypings.UntypingAt.{UntypingAt}
-use Rattle.act_states.specs.declared.untypings.UntypingAt.TheVariants.{Load, Mark, Sweep as sweep_at, Draw}
-use Rattle.act_states.specs.declared.work.Act.TheVariants.{Untype as untype_act}
-use Rattle.act_states.specs.declared.work.Work.TheVariants.{Act}
-use Rattle.call_stages.specs.declared.stages.ActiveCall.{ActiveCall}
-use Rattle.call_stages.specs.declared.stages.Stage.TheVariants.{Undecided}
-use Rattle.call_stages.specs.Steps.{landed}
-use Rattle.call_stages.specs.View.{Core}
-use Rattle.core_invariant.specs.Knows.{KnowsUndecided}
-use Rattle.core_invariant.specs.Invariant.{Invariant}
-use Rattle.step_ways.proofs.Refusals.{GoodTook}
+use Rattle.freeze_invariant.specs.stage_sweep.specs.Freeze.{sweep_after, sweep_end}
+use Rattle.freeze_invariant.specs.stage_sweep.specs.declared.sweep.SweepAt.TheVariants.{Load as sweep_load, Scan}
+use Rattle.freeze_invariant.specs.act_states.specs.Acts.{took_untyping}
+use Rattle.freeze_invariant.specs.act_states.specs.Untypings.{untyping_move}
+use Rattle.freeze_invariant.specs.act_states.specs.declared.untypings.UntypingAt.TheVariants.{Load, Mark, Sweep as sweep_at}
+use Rattle.freeze_invariant.specs.act_states.specs.declared.work.Act.TheVariants.{Untype as untype_act}
+use Rattle.freeze_invariant.specs.step_ways.proofs.Refusals.{GoodTook}
 use Rattle.freeze_invariant.proofs.Counters.{counter_load_good, sweeping, untyping_by}
 use Rattle.freeze_invariant.proofs.FrameCores.{core_scan_good}
 use Rattle.freeze_invariant.proofs.FrameFlushes.{flush_scan_good}

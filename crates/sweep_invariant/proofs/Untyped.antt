@@ -1,111 +1,68 @@
 -- The draw of a retype to untyped: the call is carried out, and the frame is untyped from then on. Nothing referred to it, and nobody
 -- waited for it; its grace period is ended, and the references of its object are released.
-use Rattle.std.specs.Prelude.{if◌then◌else◌, IsSome, slice_get}
-use Rattle.std.specs.List.{list_any}
-use Rattle.std.proofs.Common.{◌≡◌, ◌≢◌, ◌⊎◌, inl, inr, ℕ, pos, negsuc, ◌+ℤ◌, max, length, ◌+◌, ◌^◌, ◌<◌, ◌≤◌, ◌==◌, ◌&&◌, ◌||◌, Bool}
-use Rattle.std.proofs.Common.{true, false, All, map, List, [], ◌∷◌, Option, Some, None, IsTrue, arith, refl, sym, ◌∙◌, ap, subst}
+use Rattle.freeze_invariant.proofs.Common.{IsSome, list_any, ◌≡◌, ◌≢◌, ◌⊎◌, inl, inr, ℕ, pos, negsuc, ◌+ℤ◌, max, length, ◌+◌, ◌^◌, ◌<◌}
+use Rattle.freeze_invariant.proofs.Common.{◌≤◌, ◌==◌, ◌&&◌, ◌||◌, Bool, true, false, map, List, [], ◌∷◌, Option, Some, None, IsTrue}
+use Rattle.freeze_invariant.proofs.Common.{arith, refl, sym, ◌∙◌, ap, subst, cases_eq, eq-eqb, eqb-true, ne_eqb, false≢true, All-nil}
+use Rattle.freeze_invariant.proofs.Common.{All-cons, Capability, Setting, IsSetting, Call, Retype, Kind, Reply, CountFits, count_of_word}
+use Rattle.freeze_invariant.proofs.Common.{word_of_count, FrameFits, frame_of_word, word_of_frame, CountWord, FrameWord, Word, EntryAt}
+use Rattle.freeze_invariant.proofs.Common.{FrameAt, CountAt, CoreAt, FlushAt, LiveAt, ClockAt, same_word, Move, AddOf, word_of, same_same}
+use Rattle.freeze_invariant.proofs.Common.{Frame, Kernel, Untyped, Thing, PlaceOf, FrameOf, NumberOf, Grace, State, put, comp_in}
+use Rattle.freeze_invariant.proofs.Common.{thread_in, with_frame, with_grace, Slot, own, Change, Found, IsFoundAnd, When, frames_of}
+use Rattle.freeze_invariant.proofs.Common.{is_empty, retypes, frame_names, times, refs, MayReply, rule_of, ends_by, flushes_by, changed}
+use Rattle.freeze_invariant.proofs.Common.{change_of, counted, begins_in, same_thing, new_grace, calls_counted, frame_refs, grace_refs}
+use Rattle.freeze_invariant.proofs.Common.{opened, put_same, put_other, counters, count_in, count_sum, events_of, HasReached, marked_by}
+use Rattle.freeze_invariant.proofs.Common.{mark_of, mark_in_frame, frame_value, ends_in, flushes_in, begins_at, ends_at, flushes_at}
+use Rattle.freeze_invariant.proofs.Common.{stamp, clock, flush_stored, Step, Trace, Open, phase, state_after, state_decided_in, last_left}
+use Rattle.freeze_invariant.proofs.Common.{own_left, way_to, ways, ok_first, decided-inside, cases_word, same_word-other, sound_of}
+use Rattle.freeze_invariant.proofs.Common.{stamp-begins, stamp-kept, flush_stored-own, flush_stored-other, last_left-there, drawn_stamp}
+use Rattle.freeze_invariant.proofs.Common.{later, unheld, Acquired, latest_stamp, thaw_of, Owned, Swept, Thaw, own_pages, LeadsIn}
+use Rattle.freeze_invariant.proofs.Common.{leads_by, release_of, Untyping, Draw, Due, Act, Stage, Undecided, Decided, ActiveCall, landed}
+use Rattle.freeze_invariant.proofs.Common.{Core, stamp_in, holds_release, holds_thaw, is_frozen, Holding, holds_counts, settled_by}
+use Rattle.freeze_invariant.proofs.Common.{settled, WordIs, count_room, HasFound, KnowsUndecided, WorksIn, own_in, due_of, holds}
+use Rattle.freeze_invariant.proofs.Common.{holds_in, held_by, times_of, counted_in, count_shown, SumIs, Invariant, IsLookedAt, KnowsSwept}
+use Rattle.freeze_invariant.proofs.Common.{ThawsFrame, names_of, counts_bare, calm_counted, plain_exit, room_grows, counted_refs}
+use Rattle.freeze_invariant.proofs.Common.{release_entry, thaws_own, limits_of, HoldsSwept, release_swept, SameFor, ReadsAlike, StaysSaid}
+use Rattle.freeze_invariant.proofs.Common.{own_settled, word_stays, own_kept, phase_at, IsFrameWord, frame_mark, first_of_stack}
+use Rattle.freeze_invariant.proofs.Common.{thread_of, stamp_of_change, loads_of}
+use Rattle.std.specs.Prelude.{if◌then◌else◌, slice_get}
+use Rattle.std.proofs.Common.{All}
 use Rattle.std.proofs.Math.IntN.{pos-+ℤ-pos, +ℤ_assoc, +ℤ_invr, +ℤ_idr}
-use Rattle.std.proofs.lemmas.Bool.{cases_eq, eq-eqb, eqb-true, ne_eqb, false≢true}
-use Rattle.std.proofs.lemmas.List.Elements.{All-nil, All-cons}
-use Rattle.spk_nums.specs.Capability.{Capability}
-use Rattle.spk_nums.specs.Setting.{Setting, IsSetting}
-use Rattle.spk_nums.specs.declared.calls.Call.{Call}
-use Rattle.spk_nums.specs.declared.calls.Call.TheVariants.{Retype}
-use Rattle.spk_nums.specs.declared.kinds.Kind.{Kind}
-use Rattle.spk_nums.specs.declared.kinds.FrameKind.TheVariants as kind
-use Rattle.spk_nums.specs.declared.replies.Reply.{Reply}
-use Rattle.spk_nums.specs.declared.replies.Reply.TheVariants as reply
-use Rattle.spk_nums.specs.declared.replies.Value.TheVariants as value
-use Rattle.frame_words.specs.Count.{CountFits, count_of_word, word_of_count}
-use Rattle.frame_words.specs.Frame.{FrameFits, frame_of_word, word_of_frame}
-use Rattle.frame_words.specs.declared.count_word.CountWord.{CountWord}
-use Rattle.frame_words.specs.declared.frame_word.FrameWord.{FrameWord}
-use Rattle.frame_words.proofs.CountLemmas as counts
-use Rattle.frame_words.proofs.FrameLemmas as frames
-use Rattle.word_map.specs.Word.{Word, EntryAt, FrameAt, CountAt, CoreAt, FlushAt, LiveAt, ClockAt, same_word}
-use Rattle.word_map.specs.Moves.{Move, AddOf, word_of}
-use Rattle.word_map.proofs.WordLemmas.{same_same}
-use Rattle.kernel_rules.specs.State.{Frame, Kernel, Untyped, Thing, PlaceOf, FrameOf, NumberOf}
-use Rattle.kernel_rules.specs.State.{Grace, State, put, comp_in, thread_in, with_frame, with_grace}
-use Rattle.kernel_rules.specs.Access.{Slot, own}
-use Rattle.kernel_rules.specs.Rules.{Change, Found, IsFoundAnd, When, frames_of, refusal_of}
-use Rattle.kernel_rules.specs.MemoryCalls.{is_empty, retypes}
-use Rattle.kernel_rules.specs.References.{frame_names, times, refs}
-use Rattle.kernel_rules.specs.Start.{no_grace}
-use Rattle.kernel_rules.specs.CallRelation.{MayReply, rule_of, ends_by, flushes_by, changed, change_of, counted, begins_in}
-use Rattle.kernel_rules.specs.GracePeriods.{same_thing, begun, new_grace}
-use Rattle.kernel_rules.specs.Laws.{calls_counted}
-use Rattle.kernel_invariant.proofs.Refs.{frame_refs, grace_refs}
-use Rattle.kernel_invariant.proofs.SoundRemovals.{frames_no_place}
-use Rattle.kernel_invariant.proofs.SoundRuns.{opened}
-use Rattle.found_stays.proofs.Stays.{comp_named}
-use Rattle.kernel_rules.proofs.Within.{put_same, put_other}
-use Rattle.kernel_history.specs.Counts.{counters, count_in, count_sum}
-use Rattle.kernel_history.specs.Events.{events_of}
-use Rattle.kernel_history.specs.Justified.{HasReached}
-use Rattle.kernel_history.specs.Marking.{marked_by}
-use Rattle.kernel_history.specs.Marks.{mark_of, mark_in_frame}
-use Rattle.kernel_history.specs.ObjectWords.{frame_value}
-use Rattle.kernel_history.specs.Stamps.{begins_in as begins_then, ends_in, flushes_in, begins_at}
-use Rattle.kernel_history.specs.Stamps.{ends_at, flushes_at, stamp, clock, flush_stored}
-use Rattle.kernel_history.specs.Trace.{Step, Trace, Open, phase, state_after, state_decided_in, last_left, own_left}
-use Rattle.kernel_history.specs.Ways.{way_to, ways}
-use Rattle.trace_laws.proofs.AloneCalls.{ok_first}
-use Rattle.kernel_history.proofs.Inside.{decided-inside}
-use Rattle.kernel_history.proofs.Names.{cases_word, same_word-other}
-use Rattle.trace_laws.proofs.Stays.{sound_of}
-use Rattle.kernel_history.proofs.Steps.{stamp-begins, stamp-ends, stamp-kept, flush_stored-own, flush_stored-other, last_left-there}
-use Rattle.stage_quiet.specs.Clocks.{drawn_stamp}
-use Rattle.stage_pins.specs.Counts.{later, unheld}
-use Rattle.stage_pins.specs.declared.held.Acquired.{Acquired}
-use Rattle.stage_sweep.specs.Counters.{latest_stamp}
-use Rattle.stage_sweep.specs.Release.{released, thaw_of}
-use Rattle.stage_sweep.specs.declared.empty.Owned.{Owned}
-use Rattle.stage_sweep.specs.declared.sweep.Swept.{Swept}
-use Rattle.stage_sweep.specs.declared.thaw.Thaw.{Thaw}
-use Rattle.call_plans.specs.GoesBy.{own_pages}
-use Rattle.call_plans.specs.After.{LeadsIn}
-use Rattle.call_plans.proofs.AfterNames.{leads_by}
-use Rattle.plan_ways.proofs.Ways.{all_ways}
-use Rattle.act_states.specs.Acts.{drawn_untyped}
-use Rattle.act_states.specs.Typings.{typed}
-use Rattle.act_states.specs.Untypings.{owned_dues, release_of, released_one}
-use Rattle.act_states.specs.declared.untypings.Release.{Release}
-use Rattle.act_states.specs.declared.untypings.Untyping.{Untyping}
-use Rattle.act_states.specs.declared.untypings.UntypingAt.TheVariants.{Draw}
-use Rattle.act_states.specs.declared.work.Act.TheVariants.{Untype as untype_act}
-use Rattle.act_states.specs.declared.work.Due.{Due}
-use Rattle.act_states.specs.declared.work.Tail.TheVariants.{Release as release_tail}
-use Rattle.act_states.specs.declared.work.Work.TheVariants.{Act}
-use Rattle.call_stages.specs.declared.stages.Stage.{Stage}
-use Rattle.call_stages.specs.declared.stages.Stage.TheVariants.{Undecided, Decided}
-use Rattle.call_stages.specs.declared.stages.ActiveCall.{ActiveCall}
-use Rattle.call_stages.specs.Steps.{landed}
-use Rattle.call_stages.specs.View.{Core}
-use Rattle.core_invariant.specs.CountWords.{stamp_in, newest_of}
-use Rattle.core_invariant.specs.Frozen.{holds_release, holds_thaw, is_frozen, thawed}
-use Rattle.core_invariant.specs.Holding.{Holding, holds_counts, settled_by, settled}
-use Rattle.core_invariant.specs.Words.{WordIs, count_room}
-use Rattle.core_invariant.specs.Knows.{HasFound, KnowsUndecided, WorksIn, own_in, due_of}
-use Rattle.core_invariant.specs.Invariant.{holds, holds_in, held_by, times_of, counted_in, count_shown, SumIs, Invariant}
-use Rattle.core_invariant.specs.Sweeps.{IsLookedAt, KnowsSwept, ThawsFrame, names_of}
-use Rattle.core_invariant.proofs.Bare.{counts_bare}
-use Rattle.kept_facts.proofs.Calm.{counts as calm_counts, calm_counted, same_works, plain_exit, room_grows, counted_grows}
-use Rattle.kept_facts.proofs.CountSums.{counted_refs}
-use Rattle.step_ways.proofs.Draws as drawing
-use Rattle.core_invariant.proofs.Freezing.{IsFrozenWord, frozen_word, release_away, release_bare}
-use Rattle.core_invariant.proofs.Freezing.{release_entry, release_frame, thaw_all, thaw_from, thaws_own}
-use Rattle.step_ways.proofs.Loads.{inner}
-use Rattle.step_ways.proofs.Refusals.{GoodTook}
-use Rattle.core_invariant.proofs.Sounds.{limits_of}
-use Rattle.kept_facts.proofs.Swept.{HoldsSwept, frame_says, no_refs, release_counter, release_swept, stamp_is}
-use Rattle.kept_facts.proofs.WordFrames.{SameFor, ReadsAlike, StaysSaid, mark_same, own_settled, word_stays}
-use Rattle.step_ways.proofs.Writes.{clock_small, same_marks}
-use Rattle.count_invariant.proofs.CountChanges.{spared_commit, spared_sum}
-use Rattle.count_invariant.proofs.Findings.{own_is, found_named, way_gone}
-use Rattle.kept_facts.proofs.Carries.{own_kept}
-use Rattle.place_invariant.proofs.Removals.{frame_none, frame_some}
-use Rattle.place_invariant.proofs.Vacancy.{none_unflushed, none_waits}
+use Rattle.freeze_invariant.specs.spk_nums.specs.declared.kinds.FrameKind.TheVariants as kind
+use Rattle.freeze_invariant.specs.spk_nums.specs.declared.replies.Reply.TheVariants as reply
+use Rattle.freeze_invariant.specs.spk_nums.specs.declared.replies.Value.TheVariants as value
+use Rattle.freeze_invariant.specs.frame_words.proofs.CountLemmas as counts
+use Rattle.freeze_invariant.specs.frame_words.proofs.FrameLemmas as frames
+use Rattle.freeze_invariant.specs.kernel_rules.specs.Rules.{refusal_of}
+use Rattle.freeze_invariant.specs.kernel_rules.specs.Start.{no_grace}
+use Rattle.freeze_invariant.specs.kernel_rules.specs.GracePeriods.{begun}
+use Rattle.freeze_invariant.specs.kernel_invariant.proofs.SoundRemovals.{frames_no_place}
+use Rattle.freeze_invariant.specs.found_stays.proofs.Stays.{comp_named}
+use Rattle.freeze_invariant.specs.kernel_history.specs.Stamps.{begins_in as begins_then}
+use Rattle.freeze_invariant.specs.kernel_history.proofs.Steps.{stamp-ends}
+use Rattle.freeze_invariant.specs.stage_sweep.specs.Release.{released}
+use Rattle.freeze_invariant.specs.plan_ways.proofs.Ways.{all_ways}
+use Rattle.freeze_invariant.specs.act_states.specs.Acts.{drawn_untyped}
+use Rattle.freeze_invariant.specs.act_states.specs.Typings.{typed}
+use Rattle.freeze_invariant.specs.act_states.specs.Untypings.{owned_dues, released_one}
+use Rattle.freeze_invariant.specs.act_states.specs.declared.untypings.Release.{Release}
+use Rattle.freeze_invariant.specs.act_states.specs.declared.work.Act.TheVariants.{Untype as untype_act}
+use Rattle.freeze_invariant.specs.act_states.specs.declared.work.Tail.TheVariants.{Release as release_tail}
+use Rattle.freeze_invariant.specs.core_invariant.specs.CountWords.{newest_of}
+use Rattle.freeze_invariant.specs.core_invariant.specs.Frozen.{thawed}
+use Rattle.freeze_invariant.specs.kept_facts.proofs.Calm.{counts as calm_counts, same_works}
+use Rattle.freeze_invariant.specs.kept_facts.proofs.Calm.{counted_grows}
+use Rattle.freeze_invariant.specs.step_ways.proofs.Draws as drawing
+use Rattle.freeze_invariant.specs.core_invariant.proofs.Freezing.{IsFrozenWord, frozen_word, release_away, release_bare}
+use Rattle.freeze_invariant.specs.core_invariant.proofs.Freezing.{release_frame, thaw_all, thaw_from}
+use Rattle.freeze_invariant.specs.step_ways.proofs.Loads.{inner}
+use Rattle.freeze_invariant.specs.step_ways.proofs.Refusals.{GoodTook}
+use Rattle.freeze_invariant.specs.kept_facts.proofs.Swept.{frame_says, no_refs, release_counter, stamp_is}
+use Rattle.freeze_invariant.specs.kept_facts.proofs.WordFrames.{mark_same}
+use Rattle.freeze_invariant.specs.step_ways.proofs.Writes.{clock_small, same_marks}
+use Rattle.freeze_invariant.specs.count_invariant.proofs.CountChanges.{spared_commit, spared_sum}
+use Rattle.freeze_invariant.specs.count_invariant.proofs.Findings.{own_is, found_named, way_gone}
+use Rattle.freeze_invariant.specs.place_invariant.proofs.Removals.{frame_none, frame_some}
+use Rattle.freeze_invariant.specs.place_invariant.proofs.Vacancy.{none_unflushed, none_waits}
 use Rattle.sweep_invariant.proofs.Emptied.{acquired_all, acquired_away, count_word, due_each, due_none, due_small, looked_empty}
 use Rattle.sweep_invariant.proofs.FreeEntries.{counts_entry, entry_unmarked, no_thread}
 use Rattle.sweep_invariant.proofs.OwnedFrames.{Differ, OwnedApart, names_differ, owned_apart}
@@ -178,7 +135,7 @@ module _ (setup : Setting) (setting : IsSetting setup) (cores : ℕ → Core) (t
   knows : KnowsSwept setup t c f word w
   knows = has.knows.knows.at
 
-  opens : Rattle.core_invariant.specs.Knows.phase_at a.call a.stage ≡ Open a.call
+  opens : phase_at a.call a.stage ≡ Open a.call
   opens = calls.opens setup setting cores t stands c here a active m stage_is has
 
   is_open : phase t c ≡ Open a.call
@@ -222,17 +179,17 @@ module _ (setup : Setting) (setting : IsSetting setup) (cores : ℕ → Core) (t
   unmarked = entry_unmarked setup setting cores t stands f zero_refs c quiet own_free
 
   -- its object is empty, and names what is due
-  whole : Rattle.stage_sweep.specs.Emptiness.loads_of (frame_value (s.frame f)).object
-      ≤ Rattle.stage_sweep.specs.Emptiness.loads_of knows.shown.object
-  whole = let same = ap (λ y. Rattle.stage_sweep.specs.Emptiness.loads_of y.object) shown in omega (arith, same)
+  whole : loads_of (frame_value (s.frame f)).object
+      ≤ loads_of knows.shown.object
+  whole = let same = ap (λ y. loads_of y.object) shown in omega (arith, same)
 
   empty : is_empty s f (s.frame f) ≡ true
-  empty = looked_empty s f (Rattle.stage_sweep.specs.Emptiness.loads_of knows.shown.object) w.owned whole knows.swept.looked
+  empty = looked_empty s f (loads_of knows.shown.object) w.owned whole knows.swept.looked
 
   differ : Differ f (names_of w.owned.first w.owned.second)
   differ = subst (Differ f) (sym knows.names)
       (names_differ s (opened (events_of t)) (sound_of setup setting t stands.legal) f
-      (Rattle.stage_sweep.specs.Emptiness.loads_of knows.shown.object) w.owned whole knows.swept.looked)
+      (loads_of knows.shown.object) w.owned whole knows.swept.looked)
 
   apart : OwnedApart f ds
   apart = owned_apart f w.owned.first w.owned.second differ
@@ -362,10 +319,10 @@ module _ (setup : Setting) (setting : IsSetting setup) (cores : ℕ → Core) (t
     own_stays : s'.core c ≡ calm_counts (s.core c) (s'.core c).inside (s'.core c).counted
     own_stays = subst (λ y. y.core c ≡ calm_counts (s.core c) (y.core c).inside (y.core c).counted) (sym now) (calm_counted s c).own
 
-    own_comp : Rattle.kernel_rules.specs.State.first_of_stack (Rattle.kernel_rules.specs.State.thread_of s c).stack ≢ f
+    own_comp : first_of_stack (thread_of s c).stack ≢ f
     own_comp same =
         let some = comp_named s (opened (events_of t)) c (sound_of setup setting t stands.legal) core_below in
-        let is : refs s (Rattle.kernel_rules.specs.State.first_of_stack (Rattle.kernel_rules.specs.State.thread_of s c).stack) ≡ refs s f =
+        let is : refs s (first_of_stack (thread_of s c).stack) ≡ refs s f =
         ap (refs s) same in
         let none = zero_refs in
         omega (arith, some, is, none)
@@ -373,7 +330,7 @@ module _ (setup : Setting) (setting : IsSetting setup) (cores : ℕ → Core) (t
     works : WorksIn (record (cores c).own { made = made }) s' c
     works = same_works s s' c (cores c).own (record (cores c).own { made = made })
         (ap thread_in (frames_now (s.core c).thread (no_thread setup setting cores t stands f zero_refs c here)))
-        (ap comp_in (frames_now (Rattle.kernel_rules.specs.State.first_of_stack (Rattle.kernel_rules.specs.State.thread_of s c).stack)
+        (ap comp_in (frames_now (first_of_stack (thread_of s c).stack)
         own_comp))
         own_stays (ap (λ (n : ℕ). record (cores c).own { made = n }) counts_are) (stands.each c here).works
 
@@ -397,7 +354,7 @@ module _ (setup : Setting) (setting : IsSetting setup) (cores : ℕ → Core) (t
 
     stays : (q : Word) → q ≢ ClockAt → marked_by setup t q ≢ Some c → StaysSaid setup cores t e q
     stays (EntryAt g i) no_clock bare = elim (cases_eq g f) [
-      | inl same ↦ λ is. subst (λ y. Rattle.core_invariant.specs.Words.IsFrameWord s'.limits.frames (count_room s') y (s'.place g i)
+      | inl same ↦ λ is. subst (λ y. IsFrameWord s'.limits.frames (count_room s') y (s'.place g i)
           (stamp setup (e ∷ t) (PlaceOf g i)) i (settled setup (held_by cores) t (EntryAt g i))) (sym (ap s'.frame same ∙ frame_now)) tt
       | inr other ↦ word_stays s s' (times_of setup t) (times_of setup (e ∷ t))
           (EntryAt g i) (settled setup (held_by cores) t (EntryAt g i))
@@ -485,10 +442,10 @@ module _ (setup : Setting) (setting : IsSetting setup) (cores : ℕ → Core) (t
 
     changes : All (λ (d : Due). (pos (refs s' d.frame) ≡ pos (refs s d.frame) +ℤ d.change)
         × (stamp setup (e ∷ t) (FrameOf d.frame) ≡ max (stamp setup t (FrameOf d.frame))
-        (later 0 (Rattle.stage_pins.specs.Held.stamp_of_change d.change (Some now_at))))) ds
+        (later 0 (stamp_of_change d.change (Some now_at))))) ds
     changes = due_each (λ (d : Due). (pos (refs s' d.frame) ≡ pos (refs s d.frame) +ℤ d.change)
         × (stamp setup (e ∷ t) (FrameOf d.frame) ≡ max (stamp setup t (FrameOf d.frame))
-        (later 0 (Rattle.stage_pins.specs.Held.stamp_of_change d.change (Some now_at))))) f w.owned.first w.owned.second differ
+        (later 0 (stamp_of_change d.change (Some now_at))))) f w.owned.first w.owned.second differ
         (λ g once.
         let one : times g fs ≡ 1 = ap (times g) (sym knows.names) ∙ once in (
           one_less (refs s g) (refs s' g) (let less = falls g in omega (arith, less, one)),
@@ -625,7 +582,7 @@ module _ (setup : Setting) (setting : IsSetting setup) (cores : ℕ → Core) (t
           record {
             changes = calls.untype_changes a.call a.found f (calls.is setup setting cores t stands c here a active m stage_is has);
             argument = calls.untype_argument a.call a.found f (calls.is setup setting cores t stands c here a active m stage_is has);
-            bare = ap Rattle.kernel_history.specs.Marks.frame_mark bare_reads;
+            bare = ap frame_mark bare_reads;
             small = frames.spelling.small (typed kind.Untyped) bare_fits;
           },
           record {

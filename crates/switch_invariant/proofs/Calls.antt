@@ -1,76 +1,41 @@
 -- What a call that switches knows of its rule: what is left of it after its names, and what refuses it; and of the two threads.
-use Rattle.std.proofs.Common.{◌≡◌, ◌≢◌, inl, inr, ℕ, ◌<◌, ◌++◌, ◌||◌, map, Bool, true, false, List}
-use Rattle.std.proofs.Common.{[], ◌∷◌, Option, Some, None, IsTrue, refl, sym, ◌∙◌, ap, subst}
-use Rattle.std.proofs.lemmas.Bool.{eq-eqb, false≢true}
-use Rattle.std.specs.List.{flat_map}
-use Rattle.spk_nums.specs.Capability.{Capability}
-use Rattle.spk_nums.specs.Setting.{Setting, IsSetting}
-use Rattle.spk_nums.specs.declared.calls.Call.TheVariants.{Switch}
-use Rattle.spk_nums.specs.declared.kinds.Kind.TheVariants as kind
-use Rattle.spk_nums.specs.declared.replies.Reply.TheVariants as reply
-use Rattle.word_map.specs.Word.{EntryAt}
-use Rattle.word_map.specs.Moves.{Move, LoadOf, word_of}
-use Rattle.kernel_rules.specs.State.{Thread, Kernel, State, thread_in}
-use Rattle.kernel_rules.specs.Access.{found}
-use Rattle.kernel_rules.specs.Fitting.{fits}
-use Rattle.kernel_rules.specs.References.{frame_names, named_by}
-use Rattle.kernel_rules.specs.Rules.{Rule, Change, Judged, Refused, Found, RuleMay, outcome}
-use Rattle.kernel_rules.specs.InvocationCalls.{switch_to, switches}
-use Rattle.kernel_rules.specs.CallRelation.{rule_of, change_of}
-use Rattle.kernel_invariant.proofs.Facts.{named_fit}
-use Rattle.kernel_invariant.proofs.Sound.{IsSound}
-use Rattle.kernel_invariant.proofs.SoundRuns.{opened}
-use Rattle.kernel_history.specs.Discipline.{changes_in_frame, changes_threads, raises_clock}
-use Rattle.kernel_history.specs.Events.{events_of}
-use Rattle.kernel_history.specs.Footprint.{is_one_of, frames_about, frames_named, frames_near, frames_own, frame_argument, frame_at_slot}
-use Rattle.kernel_history.specs.Trace.{Step, Trace, Open, phase, state_after, last_left}
-use Rattle.kernel_history.specs.Ways.{target_of, wide_ways}
-use Rattle.trace_laws.proofs.Carries.{Carries}
-use Rattle.trace_laws.proofs.Stays.{opened_is, sound_of}
-use Rattle.plan_ways.proofs.Near.{named_near, one_left, one_right}
-use Rattle.call_plans.proofs.CallsGoBy.{calls_go}
-use Rattle.call_plans.specs.declared.plans.Nth.TheVariants.{First}
-use Rattle.call_plans.specs.PlanOf.{plan_for}
-use Rattle.call_plans.specs.GoesBy.{GoesBy, own_pages}
-use Rattle.call_plans.specs.After.{rule_after, Leads, LeadsIn}
-use Rattle.call_plans.specs.declared.plans.Plan.{Plan}
-use Rattle.call_plans.proofs.AfterNames.{outcome_left, left_may}
-use Rattle.act_states.specs.Acts.{dues}
-use Rattle.act_states.specs.Switches.{SwitchingFits, switching_dues}
-use Rattle.act_states.specs.declared.switches.Switching.{Switching}
-use Rattle.act_states.specs.declared.switches.SwitchAt.{SwitchAt}
-use Rattle.act_states.specs.declared.work.Act.TheVariants.{Switch as switch_act}
-use Rattle.act_states.specs.declared.work.Work.TheVariants.{Act}
-use Rattle.act_states.specs.declared.work.WorkStep.TheVariants.{Goes}
-use Rattle.call_stages.specs.declared.stages.Stage.TheVariants.{Undecided}
-use Rattle.call_stages.specs.declared.stages.ActiveCall.{ActiveCall}
-use Rattle.call_stages.specs.Fits.{StageFits, HasRoom}
-use Rattle.call_stages.specs.Steps.{landed}
-use Rattle.call_stages.specs.View.{Core}
-use Rattle.core_invariant.specs.Holding.{holds_counts}
-use Rattle.core_invariant.specs.Knows.{due_of, KnowsUndecided, phase_at}
-use Rattle.core_invariant.specs.Invariant.{holds, holds_at, holds_in, Invariant}
-use Rattle.core_invariant.specs.Threads.{HasThread, KnowsSwitch, KnowsSwitchAt, SwitchesBy, claimed_by, holds_switching}
-use Rattle.core_invariant.proofs.Bare.{counts_bare}
-use Rattle.kept_facts.proofs.Carries.{names_on}
-use Rattle.step_ways.proofs.Loads.{OnlyLooks, step_to, call_is, is_active, loads_on}
-use Rattle.step_ways.proofs.Refusals.{GoodTook, ticks_at}
-use Rattle.core_invariant.proofs.Sounds.{limits_of}
-use Rattle.core_invariant.proofs.ThreadHolds.{switching_bare}
-use Rattle.count_invariant.proofs.Acquiring.{plan_leads, goes_by}
-use Rattle.count_invariant.proofs.SwitchCounts.{IsSwitch, switch_of, thread_kind, tcap_kind, thread_near, old_near}
-use Rattle.live_invariant.proofs.Numbers.{one_of_many}
+use Rattle.thread_invariant.proofs.Common.{◌≡◌, ◌≢◌, inl, inr, ℕ, ◌<◌, ◌++◌, ◌||◌, map, Bool, true, false, List, [], ◌∷◌, Option, Some}
+use Rattle.thread_invariant.proofs.Common.{None, IsTrue, refl, sym, ◌∙◌, ap, subst, eq-eqb, false≢true, flat_map, Capability, Setting}
+use Rattle.thread_invariant.proofs.Common.{IsSetting, Switch, EntryAt, Move, LoadOf, word_of, Thread, Kernel, State, thread_in, found}
+use Rattle.thread_invariant.proofs.Common.{fits, frame_names, named_by, Rule, Change, Judged, Refused, Found, RuleMay, outcome, rule_of}
+use Rattle.thread_invariant.proofs.Common.{change_of, named_fit, IsSound, opened, changes_in_frame, changes_threads, raises_clock}
+use Rattle.thread_invariant.proofs.Common.{events_of, is_one_of, frames_named, frames_near, frames_own, frame_argument, frame_at_slot}
+use Rattle.thread_invariant.proofs.Common.{Step, Trace, Open, phase, state_after, last_left, target_of, wide_ways, Carries, opened_is}
+use Rattle.thread_invariant.proofs.Common.{sound_of, calls_go, First, plan_for, GoesBy, own_pages, rule_after, Leads, LeadsIn, Plan}
+use Rattle.thread_invariant.proofs.Common.{outcome_left, left_may, dues, Switching, SwitchAt, Act, Goes, Undecided, ActiveCall, StageFits}
+use Rattle.thread_invariant.proofs.Common.{HasRoom, landed, Core, holds_counts, due_of, KnowsUndecided, phase_at, holds, holds_at}
+use Rattle.thread_invariant.proofs.Common.{holds_in, Invariant, HasThread, SwitchesBy, claimed_by, holds_switching, counts_bare, names_on}
+use Rattle.thread_invariant.proofs.Common.{limits_of, at_place, Call}
+use Rattle.thread_invariant.specs.spk_nums.specs.declared.kinds.Kind.TheVariants as kind
+use Rattle.thread_invariant.specs.spk_nums.specs.declared.replies.Reply.TheVariants as reply
+use Rattle.thread_invariant.specs.kernel_rules.specs.InvocationCalls.{switch_to, switches}
+use Rattle.thread_invariant.specs.kernel_history.specs.Footprint.{frames_about}
+use Rattle.thread_invariant.specs.plan_ways.proofs.Near.{named_near, one_left, one_right}
+use Rattle.thread_invariant.specs.act_states.specs.Switches.{SwitchingFits, switching_dues}
+use Rattle.thread_invariant.specs.act_states.specs.declared.work.Act.TheVariants.{Switch as switch_act}
+use Rattle.thread_invariant.specs.core_invariant.specs.Threads.{KnowsSwitch, KnowsSwitchAt}
+use Rattle.thread_invariant.specs.step_ways.proofs.Loads.{OnlyLooks, step_to, call_is, is_active, loads_on}
+use Rattle.thread_invariant.specs.step_ways.proofs.Refusals.{GoodTook, ticks_at}
+use Rattle.thread_invariant.specs.core_invariant.proofs.ThreadHolds.{switching_bare}
+use Rattle.thread_invariant.specs.count_invariant.proofs.Acquiring.{plan_leads, goes_by}
+use Rattle.thread_invariant.specs.count_invariant.proofs.SwitchCounts.{IsSwitch, switch_of, thread_kind, tcap_kind, thread_near, old_near}
+use Rattle.thread_invariant.specs.live_invariant.proofs.Numbers.{one_of_many}
 use Rattle.switch_invariant.proofs.ThreadWords.{thread_is}
 
 -- The thread to which its first name has led is one of the frames that the call is about.
-thread_about : (s : State) (c : ℕ) (call : Rattle.spk_nums.specs.declared.calls.Call.Call) (ks : List Capability) (f q : ℕ)
+thread_about : (s : State) (c : ℕ) (call : Call) (ks : List Capability) (f q : ℕ)
     (is : IsSwitch call ks f q) → Leads (LeadsIn s c) (plan_for call).names [] ks → is_one_of f (frames_about s c call) ≡ true
 thread_about s c call ks f q is lead =
     one_left f (frames_named s c (rule_of s c call)) (frame_at_slot s (target_of s c (rule_of s c call)) ++ frame_argument call)
     (named_near s c (own_pages s c) (plan_for call) (rule_of s c call) ks (calls_go s c call) lead First is.thread at f names_it)
   where
-    at : Rattle.call_plans.specs.Plans.at_place ks First ≡ Some is.thread
-    at = ap (λ xs. Rattle.call_plans.specs.Plans.at_place xs First) is.found_is
+    at : at_place ks First ≡ Some is.thread
+    at = ap (λ xs. at_place xs First) is.found_is
 
     names_it : is_one_of f (named_by is.thread.kind is.thread.frame) ≡ true
     names_it = ap (λ k. is_one_of f (named_by k is.thread.frame)) (thread_kind s c call ks f q is lead)

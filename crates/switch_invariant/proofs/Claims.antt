@@ -1,55 +1,31 @@
 -- The steps by which a call that switches claims a thread are good: the load of the thread's word, which refuses a thread that runs or that
 -- another core has claimed; the compare, which is lost or holds the word for the call; and the load of the top of the stack.
-use Rattle.std.proofs.Common.{◌≡◌, ◌≢◌, ◌<◌, ◌^◌, ◌-◌, ◌==◌, inl, inr, ℕ, suc, length, Bool, true, false}
-use Rattle.std.proofs.Common.{if◌then◌else◌, Option, Some, None, IsTrue, arith, refl, sym, ◌∙◌, ap, subst}
-use Rattle.std.proofs.lemmas.Bool.{eqb-true, eqb-false, eq-eqb, lt-ltb}
-use Rattle.spk_nums.specs.Setting.{Setting, IsSetting}
-use Rattle.spk_nums.specs.WordSteps.{left_if}
-use Rattle.spk_nums.specs.declared.kinds.Kind.TheVariants as kind
-use Rattle.tcap_words.specs.Stack.{stack_of_word}
-use Rattle.tcap_words.specs.Thread.{DepthFits, ThreadFits, word_of_thread, thread_of_word}
-use Rattle.tcap_words.specs.declared.stack_word.StackWord.{StackWord}
-use Rattle.tcap_words.specs.declared.thread_word.ThreadWord.{ThreadWord}
-use Rattle.tcap_words.specs.declared.thread_word.ThreadWord.TheVariants.{Idle, Running, Claimed}
-use Rattle.tcap_words.proofs.ThreadLemmas as words
-use Rattle.word_map.specs.Word.{Word, EntryAt}
-use Rattle.word_map.specs.Moves.{Move, LoadOf, CompareOf, left_of, word_of}
-use Rattle.word_map.proofs.WordLemmas.{same_same}
-use Rattle.kernel_rules.specs.State.{State, first_of_stack, put, thread_in}
-use Rattle.kernel_rules.specs.Fitting.{fits}
-use Rattle.kernel_rules.proofs.Within.{put_same}
-use Rattle.kernel_history.specs.Footprint.{is_one_of, frames_near}
-use Rattle.kernel_history.specs.Marks.{thread_mark}
-use Rattle.kernel_history.specs.Marking.{marked_by}
-use Rattle.kernel_history.specs.ObjectWords.{thread_value}
-use Rattle.kernel_history.specs.Trace.{Step, Trace, state_after, last_left, own_read}
-use Rattle.kernel_history.proofs.Names.{same_word-other}
-use Rattle.kernel_history.proofs.Steps.{own_read-here}
-use Rattle.stage_thread.specs.Claiming.{claim_compared, claimed_within, compared_after, stack_end, thread_after, thread_end}
-use Rattle.stage_thread.specs.declared.claim.Claim.TheVariants.{AtLoad, AtCompare, AtStack}
-use Rattle.stage_thread.specs.declared.claim.Claimed.{Claimed as ClaimedOf}
-use Rattle.act_states.specs.Switches.{SwitchAtFits, took_claim}
-use Rattle.act_states.specs.declared.switches.Switching.{Switching}
-use Rattle.act_states.specs.declared.switches.SwitchAt.TheVariants.{Claim, LoadTable}
-use Rattle.act_states.specs.declared.work.Act.TheVariants.{Switch as switch_act}
-use Rattle.act_states.specs.declared.work.Work.TheVariants.{Act}
-use Rattle.act_states.specs.declared.work.WorkStep.TheVariants.{Goes}
-use Rattle.call_stages.specs.declared.stages.Stage.TheVariants.{Undecided}
-use Rattle.call_stages.specs.declared.stages.ActiveCall.{ActiveCall}
-use Rattle.call_stages.specs.Steps.{GoesOn, landed, went}
-use Rattle.call_stages.specs.View.{Core}
-use Rattle.core_invariant.specs.Holding.{holds_counts, settled_by}
-use Rattle.core_invariant.specs.Knows.{KnowsUndecided}
-use Rattle.core_invariant.specs.Invariant.{holds, held_by, holds_in, Invariant}
-use Rattle.core_invariant.specs.Components.{HasComp}
-use Rattle.core_invariant.specs.Threads.{IsTop, claimed_by, holds_idle}
-use Rattle.core_invariant.proofs.Bare.{IsNotKept, as_none, counts_bare, none_kept}
-use Rattle.kept_facts.proofs.Carries.{names_on, counts_on}
-use Rattle.step_ways.proofs.Counting as counters
-use Rattle.step_ways.proofs.Good.{Spared, SparesBlanks}
-use Rattle.kept_facts.proofs.Lent.{lent_free}
-use Rattle.step_ways.proofs.Loads.{IsOfCall, core_in_call, inner, call_is}
-use Rattle.step_ways.proofs.Refusals.{GoodTook, refuses_raced, refuses_busy, refuses_running}
+use Rattle.thread_invariant.proofs.Common.{◌≡◌, ◌≢◌, ◌<◌, ◌^◌, ◌-◌, ◌==◌, inl, inr, ℕ, suc, length, Bool, true, false, if◌then◌else◌}
+use Rattle.thread_invariant.proofs.Common.{Option, Some, None, IsTrue, arith, refl, sym, ◌∙◌, ap, subst, eqb-true, eqb-false, eq-eqb}
+use Rattle.thread_invariant.proofs.Common.{lt-ltb, Setting, IsSetting, left_if, stack_of_word, DepthFits, ThreadFits, word_of_thread}
+use Rattle.thread_invariant.proofs.Common.{thread_of_word, ThreadWord, Idle, Running, Claimed, Word, EntryAt, Move, LoadOf, CompareOf}
+use Rattle.thread_invariant.proofs.Common.{left_of, word_of, same_same, State, first_of_stack, put, thread_in, fits, put_same, is_one_of}
+use Rattle.thread_invariant.proofs.Common.{frames_near, thread_mark, marked_by, thread_value, Step, Trace, state_after, last_left}
+use Rattle.thread_invariant.proofs.Common.{own_read, same_word-other, own_read-here, AtStack, Switching, LoadTable, Act, Goes, Undecided}
+use Rattle.thread_invariant.proofs.Common.{ActiveCall, GoesOn, landed, went, Core, holds_counts, settled_by, KnowsUndecided, holds}
+use Rattle.thread_invariant.proofs.Common.{held_by, holds_in, Invariant, HasComp, claimed_by, holds_idle, as_none, counts_bare, none_kept}
+use Rattle.thread_invariant.proofs.Common.{names_on, counts_on, lent_free}
+use Rattle.thread_invariant.specs.spk_nums.specs.declared.kinds.Kind.TheVariants as kind
+use Rattle.thread_invariant.specs.tcap_words.specs.declared.stack_word.StackWord.{StackWord}
+use Rattle.thread_invariant.specs.tcap_words.proofs.ThreadLemmas as words
+use Rattle.thread_invariant.specs.stage_thread.specs.Claiming.{claim_compared, claimed_within, compared_after, stack_end, thread_after}
+use Rattle.thread_invariant.specs.stage_thread.specs.Claiming.{thread_end}
+use Rattle.thread_invariant.specs.stage_thread.specs.declared.claim.Claim.TheVariants.{AtLoad, AtCompare}
+use Rattle.thread_invariant.specs.stage_thread.specs.declared.claim.Claimed.{Claimed as ClaimedOf}
+use Rattle.thread_invariant.specs.act_states.specs.Switches.{SwitchAtFits, took_claim}
+use Rattle.thread_invariant.specs.act_states.specs.declared.switches.SwitchAt.TheVariants.{Claim}
+use Rattle.thread_invariant.specs.act_states.specs.declared.work.Act.TheVariants.{Switch as switch_act}
+use Rattle.thread_invariant.specs.core_invariant.specs.Threads.{IsTop}
+use Rattle.thread_invariant.specs.core_invariant.proofs.Bare.{IsNotKept}
+use Rattle.thread_invariant.specs.step_ways.proofs.Counting as counters
+use Rattle.thread_invariant.specs.step_ways.proofs.Good.{Spared, SparesBlanks}
+use Rattle.thread_invariant.specs.step_ways.proofs.Loads.{IsOfCall, core_in_call, inner, call_is}
+use Rattle.thread_invariant.specs.step_ways.proofs.Refusals.{GoodTook, refuses_raced, refuses_busy, refuses_running}
 use Rattle.thread_invariant.proofs.CompWords.{comp_below}
 use Rattle.thread_invariant.proofs.EntryMarks.{counts_apart}
 use Rattle.switch_invariant.proofs.Calls as calls

@@ -1,43 +1,21 @@
 -- The store of the core's own thread as claimed is good: no other core has marked or keeps its word, and the core holds it then.
-use Rattle.std.proofs.Common.{◌≡◌, ◌≢◌, ◌<◌, ◌≤◌, ◌+◌, ◌^◌, inl, inr, ℕ, map, length, true, false}
-use Rattle.std.proofs.Common.{if◌then◌else◌, Option, Some, None, IsTrue, arith, refl, sym, ◌∙◌, ap, subst}
-use Rattle.std.proofs.lemmas.Bool.{cases_eq}
-use Rattle.spk_nums.specs.Setting.{Setting, IsSetting}
-use Rattle.spk_nums.specs.declared.kinds.Kind.TheVariants as kind
-use Rattle.tcap_words.specs.Thread.{ThreadFits, word_of_thread, thread_of_word}
-use Rattle.tcap_words.specs.declared.thread_word.ThreadWord.TheVariants.{Idle, Running, Claimed}
-use Rattle.tcap_words.proofs.ThreadLemmas as words
-use Rattle.word_map.specs.Word.{Word, EntryAt, same_word}
-use Rattle.word_map.specs.Moves.{Move, StoreOf}
-use Rattle.word_map.proofs.WordLemmas.{same_same}
-use Rattle.kernel_rules.specs.State.{State, put, thread_in, thread_of}
-use Rattle.kernel_rules.specs.Fitting.{fits}
-use Rattle.kernel_rules.proofs.Within.{put_same}
-use Rattle.kernel_history.specs.Marks.{thread_mark}
-use Rattle.kernel_history.specs.Marking.{marked_by}
-use Rattle.kernel_history.specs.ObjectWords.{thread_value}
-use Rattle.kernel_history.specs.Trace.{Step, Trace, state_after, last_left}
-use Rattle.kernel_history.proofs.Names.{same_word-other}
-use Rattle.stage_thread.specs.declared.claim.Claimed.{Claimed as ClaimedOf}
-use Rattle.act_states.specs.Switches.{switch_goes}
-use Rattle.act_states.specs.declared.switches.Switching.{Switching}
-use Rattle.act_states.specs.declared.switches.SwitchAt.TheVariants.{Leave, Draw}
-use Rattle.act_states.specs.declared.work.Act.TheVariants.{Switch as switch_act}
-use Rattle.act_states.specs.declared.work.Work.TheVariants.{Act}
-use Rattle.call_stages.specs.declared.stages.Stage.TheVariants.{Undecided}
-use Rattle.call_stages.specs.declared.stages.ActiveCall.{ActiveCall}
-use Rattle.call_stages.specs.Steps.{landed, went}
-use Rattle.call_stages.specs.View.{Core}
-use Rattle.core_invariant.specs.Holding.{Holding, holds_counts, settled_by}
-use Rattle.core_invariant.specs.Knows.{KnowsUndecided}
-use Rattle.core_invariant.specs.Invariant.{holds, holds_in, held_by, Invariant}
-use Rattle.core_invariant.specs.Threads.{claimed_by, holds_idle, is_claimed}
-use Rattle.core_invariant.proofs.Bare.{as_none, counts_bare, none_kept}
-use Rattle.kept_facts.proofs.Carries.{names_on, counts_on}
-use Rattle.step_ways.proofs.Counting as counters
-use Rattle.kept_facts.proofs.Lent.{lent_free, runs_on_own}
-use Rattle.step_ways.proofs.Loads.{IsOfCall, core_in_call, inner, call_is}
-use Rattle.step_ways.proofs.Refusals.{GoodTook}
+use Rattle.thread_invariant.proofs.Common.{◌≡◌, ◌≢◌, ◌<◌, ◌≤◌, ◌+◌, ◌^◌, inl, inr, ℕ, map, length, true, false, if◌then◌else◌, Option}
+use Rattle.thread_invariant.proofs.Common.{Some, None, IsTrue, arith, refl, sym, ◌∙◌, ap, subst, cases_eq, Setting, IsSetting, ThreadFits}
+use Rattle.thread_invariant.proofs.Common.{word_of_thread, thread_of_word, Idle, Running, Claimed, Word, EntryAt, same_word, Move}
+use Rattle.thread_invariant.proofs.Common.{StoreOf, same_same, State, put, thread_in, thread_of, fits, put_same, thread_mark, marked_by}
+use Rattle.thread_invariant.proofs.Common.{thread_value, Step, Trace, state_after, last_left, same_word-other, Switching, Act, Undecided}
+use Rattle.thread_invariant.proofs.Common.{ActiveCall, landed, went, Core, Holding, holds_counts, settled_by, KnowsUndecided, holds}
+use Rattle.thread_invariant.proofs.Common.{holds_in, held_by, Invariant, claimed_by, holds_idle, is_claimed, as_none, counts_bare}
+use Rattle.thread_invariant.proofs.Common.{none_kept, names_on, counts_on, lent_free, runs_on_own}
+use Rattle.thread_invariant.specs.spk_nums.specs.declared.kinds.Kind.TheVariants as kind
+use Rattle.thread_invariant.specs.tcap_words.proofs.ThreadLemmas as words
+use Rattle.thread_invariant.specs.stage_thread.specs.declared.claim.Claimed.{Claimed as ClaimedOf}
+use Rattle.thread_invariant.specs.act_states.specs.Switches.{switch_goes}
+use Rattle.thread_invariant.specs.act_states.specs.declared.switches.SwitchAt.TheVariants.{Leave, Draw}
+use Rattle.thread_invariant.specs.act_states.specs.declared.work.Act.TheVariants.{Switch as switch_act}
+use Rattle.thread_invariant.specs.step_ways.proofs.Counting as counters
+use Rattle.thread_invariant.specs.step_ways.proofs.Loads.{IsOfCall, core_in_call, inner, call_is}
+use Rattle.thread_invariant.specs.step_ways.proofs.Refusals.{GoodTook}
 use Rattle.thread_invariant.proofs.EntryMarks.{counts_apart, thread_unmarked}
 use Rattle.switch_invariant.proofs.Calls as calls
 use Rattle.switch_invariant.proofs.Claims.{not_kept, spares_thread}

@@ -1,44 +1,22 @@
 -- The stores after the decision of a switch are good: the word of the thread to which the core went on, as running, and that of a thread
 -- that it gives back, as idle.
-use Rattle.std.proofs.Common.{◌≡◌, ◌≢◌, ◌<◌, ◌^◌, ◌∷◌, inl, inr, ℕ, true, false, if◌then◌else◌}
-use Rattle.std.proofs.Common.{Option, Some, None, IsTrue, arith, refl, sym, ◌∙◌, ap, subst}
-use Rattle.spk_nums.specs.Setting.{Setting, IsSetting}
-use Rattle.spk_nums.specs.declared.kinds.Kind.TheVariants as kind
-use Rattle.spk_nums.specs.declared.replies.Reply.{Reply}
-use Rattle.tcap_words.specs.Thread.{DepthFits, ThreadFits, word_of_thread}
-use Rattle.tcap_words.specs.declared.thread_word.ThreadWord.{ThreadWord}
-use Rattle.tcap_words.specs.declared.thread_word.ThreadWord.TheVariants.{Idle, Running}
-use Rattle.tcap_words.proofs.ThreadLemmas as words
-use Rattle.word_map.specs.Word.{Word, EntryAt, same_word}
-use Rattle.word_map.specs.Moves.{Move, StoreOf}
-use Rattle.word_map.proofs.WordLemmas.{same_same}
-use Rattle.kernel_rules.specs.State.{State, put}
-use Rattle.kernel_rules.specs.Fitting.{fits}
-use Rattle.kernel_history.specs.Discipline.{changes_in_frame, changes_threads}
-use Rattle.kernel_history.specs.Footprint.{IsNearIn}
-use Rattle.kernel_history.specs.Marks.{thread_mark}
-use Rattle.kernel_history.specs.Marking.{marked_by}
-use Rattle.kernel_history.specs.Trace.{Step, Trace, WasAt, state_after, last_left}
-use Rattle.trace_laws.proofs.Carries.{was_stays}
-use Rattle.kernel_history.proofs.Names.{same_word-other}
-use Rattle.act_states.specs.Switches.{idle_move, running_move}
-use Rattle.act_states.specs.declared.work.Tail.{Tail}
-use Rattle.act_states.specs.declared.work.Tail.TheVariants.{Nothing, StoreRunning, StoreIdle}
-use Rattle.call_stages.specs.Fits.{StageFits, TailFits}
-use Rattle.call_stages.specs.declared.stages.Stage.TheVariants.{Decided}
-use Rattle.call_stages.specs.declared.stages.ActiveCall.{ActiveCall}
-use Rattle.call_stages.specs.Steps.{GoesOn, went_with}
-use Rattle.call_stages.specs.View.{Core}
-use Rattle.core_invariant.specs.Holding.{Holding, holds_counts, keeps, settled_by}
-use Rattle.core_invariant.specs.Knows.{KnowsTail, phase_at}
-use Rattle.core_invariant.specs.Invariant.{done_by, holds, holds_at, holds_in, holds_tail, held_by, Invariant}
-use Rattle.core_invariant.specs.Threads.{KnowsIdle, KnowsRunning, holds_idle}
-use Rattle.core_invariant.proofs.Bare.{as_none, core_bare, counts_bare, none_kept}
-use Rattle.kept_facts.proofs.Carries.{counts_on}
-use Rattle.step_ways.proofs.Counting as counters
-use Rattle.kept_facts.proofs.Lent.{lent_free}
-use Rattle.step_ways.proofs.Loads.{core_in_call, inner, call_is, is_active}
-use Rattle.step_ways.proofs.Refusals.{GoodTook}
+use Rattle.thread_invariant.proofs.Common.{◌≡◌, ◌≢◌, ◌<◌, ◌^◌, ◌∷◌, inl, inr, ℕ, true, false, if◌then◌else◌, Option, Some, None, IsTrue}
+use Rattle.thread_invariant.proofs.Common.{arith, refl, sym, ◌∙◌, ap, subst, Setting, IsSetting, Reply, DepthFits, ThreadFits}
+use Rattle.thread_invariant.proofs.Common.{word_of_thread, ThreadWord, Idle, Running, Word, EntryAt, same_word, Move, StoreOf, same_same}
+use Rattle.thread_invariant.proofs.Common.{State, put, fits, changes_in_frame, changes_threads, IsNearIn, thread_mark, marked_by, Step}
+use Rattle.thread_invariant.proofs.Common.{Trace, WasAt, state_after, last_left, was_stays, same_word-other, Tail, Nothing, StoreRunning}
+use Rattle.thread_invariant.proofs.Common.{StoreIdle, StageFits, Decided, ActiveCall, GoesOn, went_with, Core, Holding, holds_counts}
+use Rattle.thread_invariant.proofs.Common.{keeps, settled_by, KnowsTail, phase_at, done_by, holds, holds_at, holds_in, holds_tail}
+use Rattle.thread_invariant.proofs.Common.{held_by, Invariant, holds_idle, as_none, counts_bare, none_kept, counts_on, lent_free}
+use Rattle.thread_invariant.specs.spk_nums.specs.declared.kinds.Kind.TheVariants as kind
+use Rattle.thread_invariant.specs.tcap_words.proofs.ThreadLemmas as words
+use Rattle.thread_invariant.specs.act_states.specs.Switches.{idle_move, running_move}
+use Rattle.thread_invariant.specs.call_stages.specs.Fits.{TailFits}
+use Rattle.thread_invariant.specs.core_invariant.specs.Threads.{KnowsIdle, KnowsRunning}
+use Rattle.thread_invariant.specs.core_invariant.proofs.Bare.{core_bare}
+use Rattle.thread_invariant.specs.step_ways.proofs.Counting as counters
+use Rattle.thread_invariant.specs.step_ways.proofs.Loads.{core_in_call, inner, call_is, is_active}
+use Rattle.thread_invariant.specs.step_ways.proofs.Refusals.{GoodTook}
 use Rattle.thread_invariant.proofs.EntryMarks.{counts_apart}
 use Rattle.thread_invariant.proofs.OwnStack.{own_thread}
 use Rattle.switch_invariant.proofs.Claims.{not_kept, spares_thread}

@@ -1,45 +1,18 @@
 -- A switch begins where its names have led to a thread and to a temporal capability.
-use Rattle.std.proofs.Common.{◌≡◌, ℕ, ◌<◌, if◌then◌else◌, map, Bool, true, false, List, []}
-use Rattle.std.proofs.Common.{◌∷◌, Option, Some, None, IsTrue, refl, sym, ◌∙◌, ap, subst}
-use Rattle.spk_nums.specs.Capability.{Capability}
-use Rattle.spk_nums.specs.Setting.{Setting, IsSetting}
-use Rattle.spk_nums.specs.declared.kinds.Kind.{Kind}
-use Rattle.spk_nums.specs.declared.kinds.Kind.TheVariants as kind
-use Rattle.spk_nums.specs.declared.calls.Call.{Call}
-use Rattle.spk_nums.specs.declared.calls.Call.TheVariants.{Switch}
-use Rattle.spk_nums.specs.declared.replies.Reply.TheVariants as reply
-use Rattle.word_map.specs.Moves.{Move, word_of}
-use Rattle.kernel_rules.specs.State.{State}
-use Rattle.kernel_rules.specs.Access.{only}
-use Rattle.kernel_rules.specs.References.{named_by}
-use Rattle.kernel_rules.specs.Rules.{Found, Refused, named, of_kind as has_kind}
-use Rattle.kernel_invariant.proofs.Facts.{named_fit}
-use Rattle.kernel_invariant.proofs.Sound.{only_is}
-use Rattle.kernel_invariant.proofs.SoundRuns.{opened}
-use Rattle.found_stays.proofs.Stays.{name_parts}
-use Rattle.kernel_history.specs.Events.{events_of}
-use Rattle.kernel_history.specs.Legal.{IsLegal}
-use Rattle.kernel_history.specs.Trace.{Step, Trace, Open, phase, state_after, last_left}
-use Rattle.trace_laws.proofs.Carries.{Carries}
-use Rattle.trace_laws.proofs.Stays.{sound_of, opened_is, guarded_usable}
-use Rattle.call_plans.specs.declared.plans.Name.{Name}
-use Rattle.call_plans.specs.declared.plans.Plan.{Plan}
-use Rattle.call_plans.specs.After.{Leads, LeadsIn, names_after}
-use Rattle.call_plans.specs.PlanOf.{plan_for, of_kind}
-use Rattle.stage_pins.specs.declared.held.Acquired.{Acquired}
-use Rattle.act_states.specs.Acts.{act_begun, switching}
-use Rattle.act_states.specs.declared.work.Act.TheVariants.{Switch as switch_act}
-use Rattle.act_states.specs.declared.work.Work.TheVariants.{Act}
-use Rattle.call_stages.specs.declared.stages.Stage.TheVariants.{Undecided}
-use Rattle.call_stages.specs.declared.stages.ActiveCall.{ActiveCall}
-use Rattle.call_stages.specs.Steps.{landed, found_more}
-use Rattle.call_stages.specs.View.{Core}
-use Rattle.core_invariant.specs.Holding.{holds_counts}
-use Rattle.core_invariant.specs.Knows.{due_of, NamesAre, phase_at}
-use Rattle.core_invariant.specs.Invariant.{holds_in, Invariant}
-use Rattle.core_invariant.specs.Threads.{HasThread, SwitchesBy}
-use Rattle.step_ways.proofs.Loads.{OnlyLooks, step_to, call_is, is_active, loads_on}
-use Rattle.step_ways.proofs.Refusals.{GoodTook}
+use Rattle.thread_invariant.proofs.Common.{◌≡◌, ℕ, ◌<◌, if◌then◌else◌, map, Bool, true, false, List, [], ◌∷◌, Option, Some, None, IsTrue}
+use Rattle.thread_invariant.proofs.Common.{refl, sym, ◌∙◌, ap, subst, Capability, Setting, IsSetting, Kind, Call, Switch, Move, word_of}
+use Rattle.thread_invariant.proofs.Common.{State, only, named_by, Found, Refused, named, named_fit, only_is, opened, name_parts}
+use Rattle.thread_invariant.proofs.Common.{events_of, IsLegal, Step, Trace, Open, phase, state_after, last_left, Carries, sound_of}
+use Rattle.thread_invariant.proofs.Common.{opened_is, guarded_usable, Name, Plan, Leads, LeadsIn, names_after, plan_for, of_kind}
+use Rattle.thread_invariant.proofs.Common.{Acquired, act_begun, Act, Undecided, ActiveCall, landed, found_more, Core, holds_counts}
+use Rattle.thread_invariant.proofs.Common.{due_of, NamesAre, phase_at, holds_in, Invariant, HasThread, SwitchesBy}
+use Rattle.thread_invariant.specs.spk_nums.specs.declared.kinds.Kind.TheVariants as kind
+use Rattle.thread_invariant.specs.spk_nums.specs.declared.replies.Reply.TheVariants as reply
+use Rattle.thread_invariant.specs.kernel_rules.specs.Rules.{of_kind as has_kind}
+use Rattle.thread_invariant.specs.act_states.specs.Acts.{switching}
+use Rattle.thread_invariant.specs.act_states.specs.declared.work.Act.TheVariants.{Switch as switch_act}
+use Rattle.thread_invariant.specs.step_ways.proofs.Loads.{OnlyLooks, step_to, call_is, is_active, loads_on}
+use Rattle.thread_invariant.specs.step_ways.proofs.Refusals.{GoodTook}
 
 -- What a name leads to is of a wanted kind, and is what was found.
 same_found : (wanted : Kind → Bool) (j k : Capability) → has_kind wanted j ≡ Found k → (j ≡ k) × (wanted k.kind ≡ true)

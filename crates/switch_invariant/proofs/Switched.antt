@@ -1,110 +1,59 @@
 -- The draw of a stamp by which a core switches: the call is decided, and the core goes on as the thread that it has claimed, with the
 -- temporal capability. The references to what it leaves are released at the stamp.
-use Rattle.std.specs.List.{list_any}
-use Rattle.std.specs.Prelude.{All, IsSome}
-use Rattle.std.proofs.Common.{◌≡◌, ◌≢◌, ◌⊎◌, inl, inr, ℕ, zero, suc, ℤ, pos, negsuc, ◌+ℤ◌, max, map, length}
-use Rattle.std.proofs.Common.{◌+◌, ◌*◌, ◌^◌, ◌<◌, ◌≤◌, ◌==◌, ◌||◌, Bool, true, false, if◌then◌else◌, List}
-use Rattle.std.proofs.Common.{[], ◌∷◌, Option, Some, None, IsTrue, arith, refl, sym, ◌∙◌, ap, subst}
-use Rattle.std.proofs.lemmas.Bool.{cases_eq, eq-eqb, ne_eqb, false≢true}
-use Rattle.std.proofs.lemmas.List.Elements.{All-nil, All-cons}
-use Rattle.spk_nums.specs.CallLimits.{InLimits}
-use Rattle.spk_nums.specs.Capability.{Capability}
-use Rattle.spk_nums.specs.Setting.{Setting, IsSetting}
-use Rattle.spk_nums.specs.declared.kinds.Kind.{Kind}
-use Rattle.spk_nums.specs.declared.kinds.Kind.TheVariants as kind
-use Rattle.spk_nums.specs.declared.replies.Reply.{Reply}
-use Rattle.spk_nums.specs.declared.replies.Reply.TheVariants as reply
-use Rattle.spk_nums.specs.declared.replies.Value.TheVariants as value
-use Rattle.tcap_words.specs.Thread.{DepthFits, ThreadFits, word_of_thread, thread_of_word}
-use Rattle.tcap_words.specs.declared.thread_word.ThreadWord.TheVariants.{Idle, Running}
-use Rattle.tcap_words.proofs.ThreadLemmas as words
-use Rattle.word_map.specs.Word.{Word, EntryAt, FrameAt, CountAt, CoreAt, FlushAt, LiveAt, ClockAt, same_word}
-use Rattle.word_map.specs.Moves.{Move, AddOf, word_of}
-use Rattle.word_map.proofs.WordLemmas.{same_same}
-use Rattle.kernel_rules.specs.Access.{Slot}
-use Rattle.kernel_rules.specs.State.{CompFields, Frame, ThreadFields, Comp, Thread, Kernel, Thing, PlaceOf, FrameOf}
-use Rattle.kernel_rules.specs.State.{NumberOf, Grace, State, first_of_stack, comp_in, comp_of, thread_in, thread_of, put}
-use Rattle.kernel_rules.specs.Fitting.{fits}
-use Rattle.kernel_rules.specs.Rules.{Change, Judged, Found, IsFoundAnd, frames_of}
-use Rattle.kernel_rules.specs.References.{times, refs, sum_below}
-use Rattle.kernel_rules.specs.InvocationCalls.{switches}
-use Rattle.kernel_rules.specs.Laws.{released}
-use Rattle.kernel_rules.specs.CallRelation.{MayReply, rule_of, change_of, changed, counted, begins_in, ends_by, flushes_by}
-use Rattle.kernel_rules.specs.GracePeriods.{begun, same_thing, new_grace}
-use Rattle.kernel_rules.specs.Relies.{IsGuarded}
-use Rattle.kernel_rules.proofs.Changes.{IfFound}
-use Rattle.kernel_invariant.proofs.Facts.{outcome_from}
-use Rattle.kernel_invariant.proofs.Refs.{RefsBy, grace_refs, rule_refs}
-use Rattle.kernel_invariant.proofs.RefsLaw.{counted_refs}
-use Rattle.kernel_invariant.proofs.SoundRuns.{opened}
-use Rattle.kernel_invariant.proofs.Sums.{sum_one}
-use Rattle.kernel_history.specs.Discipline.{changes_threads, raises_clock}
-use Rattle.kernel_history.specs.Events.{events_of}
-use Rattle.kernel_history.specs.Footprint.{IsNearIn}
-use Rattle.kernel_history.specs.Graces.{KeepsTime}
-use Rattle.kernel_history.specs.Justified.{HasReached}
-use Rattle.kernel_history.specs.Marking.{marked_by}
-use Rattle.kernel_history.specs.Marks.{mark_in_frame}
-use Rattle.kernel_history.specs.ObjectWords.{frame_value, thread_value}
-use Rattle.kernel_history.specs.Stamps.{begins_in as begins_then, ends_in, flushes_in, begins_at}
-use Rattle.kernel_history.specs.Stamps.{ends_at, flushes_at, stamp, clock, flush_of, flush_stored}
-use Rattle.kernel_history.specs.Trace.{Step, Trace, Open, WasAt, phase, state_after, state_decided_in, last_left, own_left}
-use Rattle.kernel_history.specs.Ways.{way_to, ways}
-use Rattle.trace_laws.proofs.AloneCalls.{ok_first}
-use Rattle.trace_laws.proofs.Carries.{open_inside, was_stays}
-use Rattle.kernel_history.proofs.Names.{cases_word, same_word-other}
-use Rattle.trace_laws.proofs.Stays.{opened_is}
-use Rattle.kernel_history.proofs.Steps.{stamp-begins, stamp-kept, flush_of-own, flush_stored-own, flush_stored-other}
-use Rattle.call_plans.specs.After.{LeadsIn}
-use Rattle.call_plans.specs.GoesBy.{own_pages}
-use Rattle.call_plans.proofs.AfterNames.{leads_by}
-use Rattle.plan_ways.proofs.Ways.{all_ways}
-use Rattle.stage_quiet.specs.Clocks.{drawn_stamp}
-use Rattle.stage_pins.specs.Counts.{later}
-use Rattle.stage_pins.specs.Held.{stamp_of_change}
-use Rattle.stage_pins.specs.declared.held.Acquired.{Acquired}
-use Rattle.stage_thread.specs.declared.claim.Claimed.{Claimed as ClaimedOf}
-use Rattle.act_states.specs.OwnChanges.{own_changed}
-use Rattle.act_states.specs.Switches.{switch_due_list, switched, tcap_dues}
-use Rattle.act_states.specs.declared.own.Own.{Own}
-use Rattle.act_states.specs.declared.own.OwnChange.TheVariants.{Switches}
-use Rattle.act_states.specs.declared.switches.Switching.{Switching}
-use Rattle.act_states.specs.declared.switches.SwitchAt.TheVariants.{Draw}
-use Rattle.act_states.specs.declared.work.Act.TheVariants.{Switch as switch_act}
-use Rattle.act_states.specs.declared.work.Due.{Due}
-use Rattle.act_states.specs.declared.work.Tail.{Tail}
-use Rattle.act_states.specs.declared.work.Tail.TheVariants.{StoreRunning}
-use Rattle.act_states.specs.declared.work.Work.TheVariants.{Act}
-use Rattle.call_stages.specs.Cores.{own_decided}
-use Rattle.call_stages.specs.declared.stages.Stage.{Stage}
-use Rattle.call_stages.specs.declared.stages.Stage.TheVariants.{Undecided, Decided}
-use Rattle.call_stages.specs.declared.stages.ActiveCall.{ActiveCall}
-use Rattle.call_stages.specs.Steps.{landed}
-use Rattle.call_stages.specs.View.{Core}
-use Rattle.core_invariant.specs.CountWords.{IsWithin}
-use Rattle.core_invariant.specs.Holding.{Holding, holds_counts, settled}
-use Rattle.core_invariant.specs.Words.{IsFrameWord, IsThreadWord, WordIs, count_room}
-use Rattle.core_invariant.specs.Knows.{HasFound, due_of, flushing_in, KnowsUndecided, own_in, WorksIn}
-use Rattle.core_invariant.specs.Invariant.{holds, holds_in, held_by, times_of, counted_in, SumIs, Invariant}
-use Rattle.core_invariant.specs.Threads.{HasRoots, HasThread, KnowsRunning, claimed_by, is_claimed, holds_idle}
-use Rattle.core_invariant.proofs.Bare.{counts_bare}
-use Rattle.kept_facts.proofs.Calm.{plain_exit}
-use Rattle.kernel_history.proofs.Inside.{decided-inside}
-use Rattle.kept_facts.proofs.Carries.{own_kept}
-use Rattle.step_ways.proofs.Draws.{raised}
-use Rattle.step_ways.proofs.Flushing.{open_flushed}
-use Rattle.step_ways.proofs.Good.{spares_other}
-use Rattle.kept_facts.proofs.Lent.{lent_elsewhere, lent_none, runs_on_own}
-use Rattle.step_ways.proofs.Loads.{inner, next_at}
-use Rattle.step_ways.proofs.OwnChanges.{decides_timed}
-use Rattle.step_ways.proofs.Refusals.{GoodTook, not_spent}
-use Rattle.core_invariant.proofs.Sounds.{limits_of}
-use Rattle.step_ways.proofs.Users.{spares_none}
-use Rattle.kept_facts.proofs.WordFrames.{ReadsAlike, SameFor, StaysSaid, word_stays, marks_own, carry_marks, carry_words}
-use Rattle.step_ways.proofs.Writes.{same_marks, clock_small}
-use Rattle.count_invariant.proofs.CountChanges.{dues_commit, dues_sum}
-use Rattle.count_invariant.proofs.SwitchCounts.{was_here}
-use Rattle.count_invariant.proofs.Findings.{own_is, found_named, way_gone}
+use Rattle.thread_invariant.proofs.Common.{list_any, All, IsSome, ◌≡◌, ◌≢◌, ◌⊎◌, inl, inr, ℕ, zero, suc, ℤ, pos, negsuc, ◌+ℤ◌, max, map}
+use Rattle.thread_invariant.proofs.Common.{length, ◌+◌, ◌*◌, ◌^◌, ◌<◌, ◌≤◌, ◌==◌, ◌||◌, Bool, true, false, if◌then◌else◌, List, [], ◌∷◌}
+use Rattle.thread_invariant.proofs.Common.{Option, Some, None, IsTrue, arith, refl, sym, ◌∙◌, ap, subst, cases_eq, eq-eqb, ne_eqb}
+use Rattle.thread_invariant.proofs.Common.{false≢true, All-nil, All-cons, InLimits, Capability, Setting, IsSetting, Kind, Reply}
+use Rattle.thread_invariant.proofs.Common.{DepthFits, ThreadFits, word_of_thread, thread_of_word, Idle, Running, Word, EntryAt, FrameAt}
+use Rattle.thread_invariant.proofs.Common.{CountAt, CoreAt, FlushAt, LiveAt, ClockAt, same_word, Move, AddOf, word_of, same_same, Slot}
+use Rattle.thread_invariant.proofs.Common.{CompFields, Frame, ThreadFields, Comp, Thread, Kernel, Thing, PlaceOf, FrameOf, NumberOf}
+use Rattle.thread_invariant.proofs.Common.{Grace, State, first_of_stack, comp_in, comp_of, thread_in, thread_of, put, fits, Change}
+use Rattle.thread_invariant.proofs.Common.{Judged, Found, IsFoundAnd, frames_of, times, refs, sum_below, MayReply, rule_of, change_of}
+use Rattle.thread_invariant.proofs.Common.{changed, counted, begins_in, ends_by, flushes_by, same_thing, new_grace, IsGuarded, grace_refs}
+use Rattle.thread_invariant.proofs.Common.{opened, sum_one, changes_threads, raises_clock, events_of, IsNearIn, KeepsTime, HasReached}
+use Rattle.thread_invariant.proofs.Common.{marked_by, mark_in_frame, frame_value, thread_value, ends_in, flushes_in, begins_at, ends_at}
+use Rattle.thread_invariant.proofs.Common.{flushes_at, stamp, clock, flush_of, flush_stored, Step, Trace, Open, WasAt, phase, state_after}
+use Rattle.thread_invariant.proofs.Common.{state_decided_in, last_left, own_left, way_to, ways, ok_first, was_stays, cases_word}
+use Rattle.thread_invariant.proofs.Common.{same_word-other, opened_is, stamp-begins, stamp-kept, flush_of-own, flush_stored-own}
+use Rattle.thread_invariant.proofs.Common.{flush_stored-other, LeadsIn, own_pages, leads_by, drawn_stamp, later, stamp_of_change}
+use Rattle.thread_invariant.proofs.Common.{Acquired, own_changed, tcap_dues, Own, Switching, Due, Tail, StoreRunning, Act, own_decided}
+use Rattle.thread_invariant.proofs.Common.{Stage, Undecided, Decided, ActiveCall, landed, Core, IsWithin, Holding, holds_counts, settled}
+use Rattle.thread_invariant.proofs.Common.{IsFrameWord, IsThreadWord, WordIs, count_room, HasFound, due_of, flushing_in, KnowsUndecided}
+use Rattle.thread_invariant.proofs.Common.{own_in, WorksIn, holds, holds_in, held_by, times_of, counted_in, SumIs, Invariant, HasThread}
+use Rattle.thread_invariant.proofs.Common.{claimed_by, is_claimed, holds_idle, counts_bare, plain_exit, decided-inside, own_kept}
+use Rattle.thread_invariant.proofs.Common.{lent_elsewhere, lent_none, runs_on_own, limits_of, ReadsAlike, SameFor, StaysSaid, word_stays}
+use Rattle.thread_invariant.proofs.Common.{marks_own, carry_marks, carry_words, holds_switching}
+use Rattle.thread_invariant.specs.spk_nums.specs.declared.kinds.Kind.TheVariants as kind
+use Rattle.thread_invariant.specs.spk_nums.specs.declared.replies.Reply.TheVariants as reply
+use Rattle.thread_invariant.specs.spk_nums.specs.declared.replies.Value.TheVariants as value
+use Rattle.thread_invariant.specs.tcap_words.proofs.ThreadLemmas as words
+use Rattle.thread_invariant.specs.kernel_rules.specs.InvocationCalls.{switches}
+use Rattle.thread_invariant.specs.kernel_rules.specs.Laws.{released}
+use Rattle.thread_invariant.specs.kernel_rules.specs.GracePeriods.{begun}
+use Rattle.thread_invariant.specs.kernel_rules.proofs.Changes.{IfFound}
+use Rattle.thread_invariant.specs.kernel_invariant.proofs.Facts.{outcome_from}
+use Rattle.thread_invariant.specs.kernel_invariant.proofs.Refs.{RefsBy, rule_refs}
+use Rattle.thread_invariant.specs.kernel_invariant.proofs.RefsLaw.{counted_refs}
+use Rattle.thread_invariant.specs.kernel_history.specs.Stamps.{begins_in as begins_then}
+use Rattle.thread_invariant.specs.trace_laws.proofs.Carries.{open_inside}
+use Rattle.thread_invariant.specs.plan_ways.proofs.Ways.{all_ways}
+use Rattle.thread_invariant.specs.stage_thread.specs.declared.claim.Claimed.{Claimed as ClaimedOf}
+use Rattle.thread_invariant.specs.act_states.specs.Switches.{switch_due_list, switched}
+use Rattle.thread_invariant.specs.act_states.specs.declared.own.OwnChange.TheVariants.{Switches}
+use Rattle.thread_invariant.specs.act_states.specs.declared.switches.SwitchAt.TheVariants.{Draw}
+use Rattle.thread_invariant.specs.act_states.specs.declared.work.Act.TheVariants.{Switch as switch_act}
+use Rattle.thread_invariant.specs.core_invariant.specs.Threads.{HasRoots, KnowsRunning}
+use Rattle.thread_invariant.specs.step_ways.proofs.Draws.{raised}
+use Rattle.thread_invariant.specs.step_ways.proofs.Flushing.{open_flushed}
+use Rattle.thread_invariant.specs.step_ways.proofs.Good.{spares_other}
+use Rattle.thread_invariant.specs.step_ways.proofs.Loads.{inner, next_at}
+use Rattle.thread_invariant.specs.step_ways.proofs.OwnChanges.{decides_timed}
+use Rattle.thread_invariant.specs.step_ways.proofs.Refusals.{GoodTook, not_spent}
+use Rattle.thread_invariant.specs.step_ways.proofs.Users.{spares_none}
+use Rattle.thread_invariant.specs.step_ways.proofs.Writes.{same_marks, clock_small}
+use Rattle.thread_invariant.specs.count_invariant.proofs.CountChanges.{dues_commit, dues_sum}
+use Rattle.thread_invariant.specs.count_invariant.proofs.SwitchCounts.{was_here}
+use Rattle.thread_invariant.specs.count_invariant.proofs.Findings.{own_is, found_named, way_gone}
 use Rattle.thread_invariant.proofs.CompWords.{holds_comp}
 use Rattle.thread_invariant.proofs.OwnStack.{own_thread}
 use Rattle.switch_invariant.proofs.Calls as calls
@@ -113,6 +62,9 @@ use Rattle.switch_invariant.proofs.Switchings.{AreApart, takes, releases, all_du
 use Rattle.switch_invariant.proofs.ThreadWords.{idle_value, none_some, same_value, thread_is}
 use Rattle.switch_invariant.proofs.Tops.{apart_own, apart_tcap, is_idle, to_tcap}
 use Rattle.switch_invariant.proofs.Words.{marked_says}
+use Rattle.thread_invariant.specs.act_states.specs.Switches.{SwitchAtFits}
+use Rattle.thread_invariant.specs.kernel_rules.specs.Access.{own as own_of_access}
+use Rattle.thread_invariant.specs.spk_nums.specs.declared.calls.Call.TheVariants.{Switch as CallSwitch}
 
 comp_no_thread : (k : CompFields) (u : ThreadFields) → Kernel (Comp k) ≡ Kernel (Thread u) → ⊥
 comp_no_thread k u h = cc
@@ -170,7 +122,7 @@ module _ (setup : Setting) (setting : IsSetting setup) (cores : ℕ → Core) (t
   is_open : phase t c ≡ Open a.call
   is_open = calls.is_open setup setting cores t stands c here a active m stage_is has
 
-  call_so : a.call ≡ Rattle.spk_nums.specs.declared.calls.Call.TheVariants.Switch
+  call_so : a.call ≡ CallSwitch
       (calls.is_switch setup setting cores t stands c here a active m stage_is has).name
       (calls.is_switch setup setting cores t stands c here a active m stage_is has).other
   call_so = (calls.is_switch setup setting cores t stands c here a active m stage_is has).call_is
@@ -345,7 +297,7 @@ module _ (setup : Setting) (setting : IsSetting setup) (cores : ℕ → Core) (t
   abbrev old_at : Word
   old_at = EntryAt m.old 0
 
-  held_is : holds (cores c) ≡ Rattle.core_invariant.specs.Threads.holds_switching m (Draw to table pages) (holds_counts None a.counts)
+  held_is : holds (cores c) ≡ holds_switching m (Draw to table pages) (holds_counts None a.counts)
   held_is = ap holds_in active ∙ calls.held_at setup setting cores t stands c here a active m stage_is has (Draw to table pages) is
 
   marks_before : (w : Word)
@@ -369,7 +321,7 @@ module _ (setup : Setting) (setting : IsSetting setup) (cores : ℕ → Core) (t
 
   -- the depths
   fits_in_shape : DepthFits to.depth
-  fits_in_shape = (subst (Rattle.act_states.specs.Switches.SwitchAtFits (cores c).own.layout) is
+  fits_in_shape = (subst (SwitchAtFits (cores c).own.layout) is
       (calls.fits_in setup setting cores t stands c here a active m stage_is has).at).0.depth
 
   old_fits : DepthFits m.old_depth
@@ -637,7 +589,7 @@ module _ (setup : Setting) (setting : IsSetting setup) (cores : ℕ → Core) (t
   gone = all_ways s c (own_pages s c) (e ∷ t) a.plan (rule_of s c a.call) a.found
       (calls.by_plan setup setting cores t stands c here a active m stage_is has)
       (leads_by (λ n wanted k. HasFound setup t c (own_in (cores c).own.table n) wanted k)
-      (λ n wanted k. LeadsIn s c n wanted k × HasReached (e ∷ t) c (way_to s c (Rattle.kernel_rules.specs.Access.own s c n)))
+      (λ n wanted k. LeadsIn s c n wanted k × HasReached (e ∷ t) c (way_to s c (own_of_access s c n)))
       own_gone a.plan.names [] a.found has.names)
       (subst (λ y. HasReached (e ∷ t) c (ways s c y))
       (sym (calls.left setup setting cores t stands c here a active m stage_is has
@@ -646,7 +598,7 @@ module _ (setup : Setting) (setting : IsSetting setup) (cores : ℕ → Core) (t
       (All-nil (λ (y : Slot). IsSome (own_left (e ∷ t) c (EntryAt y.node y.index)))))
     where
       own_gone : (n : ℕ) (wanted : Kind → Bool) (k : Capability) → HasFound setup t c (own_in (cores c).own.table n) wanted k
-          → LeadsIn s c n wanted k × HasReached (e ∷ t) c (way_to s c (Rattle.kernel_rules.specs.Access.own s c n))
+          → LeadsIn s c n wanted k × HasReached (e ∷ t) c (way_to s c (own_of_access s c n))
       own_gone n wanted k had = (
         found_named setup t c (cores c).own.table n wanted k (stands.each c here).works.table had,
         subst (λ y. HasReached (e ∷ t) c (way_to s c y)) (own_is s c (cores c).own.table n (stands.each c here).works.table)

@@ -1,26 +1,14 @@
 -- A step of a switch before its decision, and the decision, is good.
-use Rattle.std.proofs.Common.{◌≡◌, ◌<◌, ◌≤◌, ◌+◌, ◌^◌, ℕ, Some, arith, refl}
-use Rattle.spk_nums.specs.Setting.{Setting, IsSetting}
-use Rattle.word_map.specs.Moves.{told_of, word_of}
-use Rattle.kernel_history.specs.Stamps.{clock}
-use Rattle.kernel_history.specs.Trace.{Trace, last_left}
-use Rattle.stage_quiet.specs.Clocks.{drawn_stamp}
-use Rattle.stage_thread.specs.declared.claim.Claim.TheVariants.{AtLoad, AtCompare, AtStack}
-use Rattle.act_states.specs.Acts.{took_switching, took_switching_at}
-use Rattle.act_states.specs.Switches.{switching_at, switching_move}
-use Rattle.act_states.specs.declared.switches.Switching.{Switching}
-use Rattle.act_states.specs.declared.switches.SwitchAt.{SwitchAt}
-use Rattle.act_states.specs.declared.switches.SwitchAt.TheVariants.{Claim, LoadTable, LoadPages, Leave, Draw}
-use Rattle.act_states.specs.declared.work.Act.TheVariants.{Switch as switch_act}
-use Rattle.act_states.specs.declared.work.Work.TheVariants.{Act}
-use Rattle.call_stages.specs.declared.stages.Stage.TheVariants.{Undecided}
-use Rattle.call_stages.specs.declared.stages.ActiveCall.{ActiveCall}
-use Rattle.call_stages.specs.Steps.{landed}
-use Rattle.call_stages.specs.View.{Core}
-use Rattle.core_invariant.specs.Knows.{KnowsUndecided}
-use Rattle.core_invariant.specs.Invariant.{Invariant}
-use Rattle.step_ways.proofs.Refusals.{GoodTook}
-use Rattle.step_ways.proofs.Writes.{clock_small}
+use Rattle.thread_invariant.proofs.Common.{◌≡◌, ◌<◌, ◌≤◌, ◌+◌, ◌^◌, ℕ, Some, arith, refl, Setting, IsSetting, told_of, word_of, clock}
+use Rattle.thread_invariant.proofs.Common.{Trace, last_left, drawn_stamp, AtStack, Switching, SwitchAt, LoadTable, Act, Undecided}
+use Rattle.thread_invariant.proofs.Common.{ActiveCall, landed, Core, KnowsUndecided, Invariant}
+use Rattle.thread_invariant.specs.stage_thread.specs.declared.claim.Claim.TheVariants.{AtLoad, AtCompare}
+use Rattle.thread_invariant.specs.act_states.specs.Acts.{took_switching, took_switching_at}
+use Rattle.thread_invariant.specs.act_states.specs.Switches.{switching_at, switching_move}
+use Rattle.thread_invariant.specs.act_states.specs.declared.switches.SwitchAt.TheVariants.{Claim, LoadPages, Leave, Draw}
+use Rattle.thread_invariant.specs.act_states.specs.declared.work.Act.TheVariants.{Switch as switch_act}
+use Rattle.thread_invariant.specs.step_ways.proofs.Refusals.{GoodTook}
+use Rattle.thread_invariant.specs.step_ways.proofs.Writes.{clock_small}
 use Rattle.switch_invariant.proofs.Claims.{load_good, compare_good, stack_good}
 use Rattle.switch_invariant.proofs.Leaves.{leave_good}
 use Rattle.switch_invariant.proofs.Switched.{switched_good}

@@ -1,25 +1,15 @@
 -- What a switch leaves of the state: the old thread is idle, the new one runs on the core, and all else of frames and of other cores is as
 -- it was. And what it makes of references: each frame is released or taken once, or is none of these.
-use Rattle.std.specs.List.{list_any}
-use Rattle.std.proofs.Common.{◌≡◌, ◌≢◌, inl, inr, ℕ, ℤ, pos, negsuc, ◌+ℤ◌, max, ◌+◌, ◌<◌, ◌≤◌, ◌==◌, ◌||◌, cond, Bool, true}
-use Rattle.std.proofs.Common.{false, if◌then◌else◌, List, [], ◌∷◌, Option, Some, None, arith, refl, sym, ◌∙◌, ap, subst}
+use Rattle.thread_invariant.proofs.Common.{list_any, ◌≡◌, ◌≢◌, inl, inr, ℕ, ℤ, pos, negsuc, ◌+ℤ◌, max, ◌+◌, ◌<◌, ◌≤◌, ◌==◌, ◌||◌, cond}
+use Rattle.thread_invariant.proofs.Common.{Bool, true, false, if◌then◌else◌, List, [], ◌∷◌, Option, Some, None, arith, refl, sym, ◌∙◌, ap}
+use Rattle.thread_invariant.proofs.Common.{subst, cases_eq, eq-eqb, ne_eqb, eqb-true, All-nil, All-cons, All-head, All-tail, All, Frame}
+use Rattle.thread_invariant.proofs.Common.{Grace, Kernel, Thing, FrameOf, PlaceOf, State, Thread, put, thread_in, thread_of, counted}
+use Rattle.thread_invariant.proofs.Common.{same_thing, times, frames_of, times_cons, put_same, put_other, later, stamp_of_change}
+use Rattle.thread_invariant.proofs.Common.{tcap_dues, Due}
 use Rattle.std.proofs.Math.IntN.{pos-+ℤ-pos, +ℤ_assoc, +ℤ_invr, +ℤ_idr}
-use Rattle.std.proofs.lemmas.Bool.{cases_eq, eq-eqb, ne_eqb, eqb-true}
-use Rattle.std.proofs.lemmas.List.Elements.{All-nil, All-cons, All-head, All-tail}
-use Rattle.std.specs.Prelude.{All}
-use Rattle.kernel_rules.specs.State.{Core, Frame, Grace, Kernel, Thing, FrameOf, PlaceOf, State, Thread, put, thread_in, thread_of}
-use Rattle.kernel_rules.specs.CallRelation.{counted}
-use Rattle.kernel_rules.specs.GracePeriods.{same_thing}
-use Rattle.kernel_rules.specs.InvocationCalls.{running, with_thread}
-use Rattle.kernel_rules.specs.References.{times}
-use Rattle.kernel_rules.specs.Rules.{frames_of}
-use Rattle.kernel_rules.specs.State as state
-use Rattle.kernel_invariant.proofs.Sums.{times_cons}
-use Rattle.kernel_rules.proofs.Within.{put_same, put_other}
-use Rattle.stage_pins.specs.Counts.{later}
-use Rattle.stage_pins.specs.Held.{stamp_of_change}
-use Rattle.act_states.specs.Switches.{tcap_dues}
-use Rattle.act_states.specs.declared.work.Due.{Due}
+use Rattle.thread_invariant.specs.kernel_rules.specs.State.{Core}
+use Rattle.thread_invariant.specs.kernel_rules.specs.InvocationCalls.{running, with_thread}
+use Rattle.thread_invariant.specs.kernel_rules.specs.State as state
 
 -- The state after the switch of core c to the thread in frame f, with this temporal capability and these grace periods.
 abbrev pub switched_to : State → ℕ → ℕ → ℕ → (Thing → Grace) → State

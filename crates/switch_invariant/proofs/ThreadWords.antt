@@ -1,19 +1,10 @@
 -- The words of threads: what a thread's first word shows, and the word of the top of its stack.
 -- The words of threads: what a thread's first word shows, and the word of the top of its stack.
-use Rattle.std.proofs.Common.{◌≡◌, ◌∙◌, ◌<◌, ◌+◌, cond, if◌then◌else◌, ℕ, suc, refl, List}
-use Rattle.std.proofs.Common.{[], ◌∷◌, length, Option, Some, None, IsTrue, arith, ap}
-use Rattle.std.proofs.lemmas.Bool.{false≢true, lt-ltb, ne_eqb}
-use Rattle.spk_nums.specs.declared.kinds.Kind.TheVariants as kind
-use Rattle.tcap_words.specs.Thread.{thread_of_word}
-use Rattle.tcap_words.specs.declared.thread_word.ThreadWord.{ThreadWord}
-use Rattle.tcap_words.specs.declared.thread_word.ThreadWord.TheVariants.{Idle, Running, Claimed}
-use Rattle.kernel_rules.specs.State.{Thread, Tcap, Frame, Kernel, thread_in, first_of_stack}
-use Rattle.kernel_rules.specs.Fitting.{fits}
-use Rattle.kernel_rules.specs.Relies.{is_node}
-use Rattle.kernel_history.specs.Justified.{HasRacedHead}
-use Rattle.kernel_history.specs.Marks.{mark_in_frame, thread_mark}
-use Rattle.kernel_history.specs.ObjectWords.{thread_value, at_height}
-use Rattle.act_states.specs.Invocations.{frame_in}
+use Rattle.thread_invariant.proofs.Common.{◌≡◌, ◌∙◌, ◌<◌, ◌+◌, cond, if◌then◌else◌, ℕ, suc, refl, List, [], ◌∷◌, length, Option, Some}
+use Rattle.thread_invariant.proofs.Common.{None, IsTrue, arith, ap, false≢true, lt-ltb, ne_eqb, thread_of_word, ThreadWord, Idle, Running}
+use Rattle.thread_invariant.proofs.Common.{Claimed, Thread, Tcap, Frame, Kernel, thread_in, first_of_stack, fits, is_node, HasRacedHead}
+use Rattle.thread_invariant.proofs.Common.{mark_in_frame, thread_mark, thread_value, at_height, frame_in}
+use Rattle.thread_invariant.specs.spk_nums.specs.declared.kinds.Kind.TheVariants as kind
 use Rattle.thread_invariant.proofs.Heights.{at_top}
 
 pub none_some : (d : ℕ) → None ≡ Some d → ⊥

@@ -1,50 +1,28 @@
 -- A thread that is claimed is idle, and the loads of the table and of the pages of the component at the top of its stack are good: then the
 -- counts are acquired.
-use Rattle.std.proofs.Common.{◌≡◌, ◌≢◌, ◌<◌, ◌≤◌, ◌++◌, ◌==◌, ◌||◌, inl, inr, ℕ, map, length, Bool, true, false, List}
-use Rattle.std.proofs.Common.{[], ◌∷◌, Option, Some, None, IsTrue, pos, negsuc, arith, refl, sym, ◌∙◌, ap, subst}
-use Rattle.std.proofs.lemmas.Bool.{eq-eqb, eqb-false, false≢true}
-use Rattle.std.proofs.lemmas.List.Elements.{All-nil, All-cons}
-use Rattle.spk_nums.specs.Setting.{Setting, IsSetting}
-use Rattle.spk_nums.specs.declared.kinds.Kind.TheVariants as kind
-use Rattle.tcap_words.specs.Thread.{DepthFits, ThreadFits, word_of_thread, thread_of_word}
-use Rattle.tcap_words.specs.declared.thread_word.ThreadWord.TheVariants.{Idle, Running}
-use Rattle.tcap_words.proofs.ThreadLemmas as words
-use Rattle.word_map.specs.Word.{EntryAt}
-use Rattle.word_map.specs.Moves.{LoadOf}
-use Rattle.kernel_rules.specs.State.{Frame, Kernel, Tcap, State, comp_in, first_of_stack, thread_in}
-use Rattle.kernel_rules.specs.Fitting.{fits}
-use Rattle.kernel_rules.specs.References.{frame_names}
-use Rattle.kernel_history.specs.Footprint.{is_one_of, frames_near}
-use Rattle.kernel_history.specs.Marking.{marked_by}
-use Rattle.kernel_history.specs.ObjectWords.{thread_value}
-use Rattle.kernel_history.specs.Trace.{Step, Trace, state_after, last_left}
-use Rattle.stage_pins.specs.declared.held.Acquired.{Acquired}
-use Rattle.stage_thread.specs.declared.claim.Claimed.{Claimed as ClaimedOf}
-use Rattle.act_states.specs.Acts.{dues, next_work, switch_pages}
-use Rattle.act_states.specs.Invocations.{frame_in}
-use Rattle.act_states.specs.Switches.{switch_due_list, switch_table, tcap_dues}
-use Rattle.act_states.specs.declared.switches.Switching.{Switching}
-use Rattle.act_states.specs.declared.switches.SwitchAt.TheVariants.{LoadTable, LoadPages, Leave}
-use Rattle.act_states.specs.declared.work.Act.{Act as ActOf}
-use Rattle.act_states.specs.declared.work.Act.TheVariants.{Switch as switch_act}
-use Rattle.act_states.specs.declared.work.Due.{Due}
-use Rattle.act_states.specs.declared.work.Work.TheVariants.{Act}
-use Rattle.act_states.specs.declared.work.WorkStep.TheVariants.{Goes}
-use Rattle.call_stages.specs.declared.stages.Stage.TheVariants.{Undecided}
-use Rattle.call_stages.specs.declared.stages.ActiveCall.{ActiveCall}
-use Rattle.call_stages.specs.Steps.{landed}
-use Rattle.call_stages.specs.View.{Core}
-use Rattle.core_invariant.specs.Holding.{holds_counts}
-use Rattle.core_invariant.specs.Knows.{AreDuesApart, due_of, KnowsUndecided}
-use Rattle.core_invariant.specs.Invariant.{holds, holds_in, Invariant}
-use Rattle.core_invariant.specs.Threads.{HasRoots, HasTable, IsTop, claimed_by, is_claimed, holds_idle, holds_switching}
-use Rattle.kept_facts.proofs.Carries.{names_on}
-use Rattle.kept_facts.proofs.Lent.{runs_on_own}
-use Rattle.step_ways.proofs.Loads.{next_at, step_to, loads_on}
-use Rattle.step_ways.proofs.Refusals.{GoodTook}
-use Rattle.core_invariant.proofs.ThreadHolds.{IsIdleIn, claimed_idle}
-use Rattle.count_invariant.proofs.Acquiring.{knows_next, next_holds}
-use Rattle.count_invariant.proofs.SwitchCounts.{tcap_kind}
+use Rattle.thread_invariant.proofs.Common.{◌≡◌, ◌≢◌, ◌<◌, ◌≤◌, ◌++◌, ◌==◌, ◌||◌, inl, inr, ℕ, map, length, Bool, true, false, List, []}
+use Rattle.thread_invariant.proofs.Common.{◌∷◌, Option, Some, None, IsTrue, pos, negsuc, arith, refl, sym, ◌∙◌, ap, subst, eq-eqb}
+use Rattle.thread_invariant.proofs.Common.{eqb-false, false≢true, All-nil, All-cons, Setting, IsSetting, DepthFits, ThreadFits}
+use Rattle.thread_invariant.proofs.Common.{word_of_thread, thread_of_word, Idle, Running, EntryAt, LoadOf, Frame, Kernel, Tcap, State}
+use Rattle.thread_invariant.proofs.Common.{comp_in, first_of_stack, thread_in, fits, frame_names, is_one_of, frames_near, marked_by}
+use Rattle.thread_invariant.proofs.Common.{thread_value, Step, Trace, state_after, last_left, Acquired, dues, next_work, frame_in}
+use Rattle.thread_invariant.proofs.Common.{tcap_dues, Switching, LoadTable, Due, Act, Goes, Undecided, ActiveCall, landed, Core}
+use Rattle.thread_invariant.proofs.Common.{holds_counts, AreDuesApart, due_of, KnowsUndecided, holds, holds_in, Invariant, claimed_by}
+use Rattle.thread_invariant.proofs.Common.{is_claimed, holds_idle, holds_switching, names_on, runs_on_own}
+use Rattle.thread_invariant.specs.spk_nums.specs.declared.kinds.Kind.TheVariants as kind
+use Rattle.thread_invariant.specs.tcap_words.proofs.ThreadLemmas as words
+use Rattle.thread_invariant.specs.stage_thread.specs.declared.claim.Claimed.{Claimed as ClaimedOf}
+use Rattle.thread_invariant.specs.act_states.specs.Acts.{switch_pages}
+use Rattle.thread_invariant.specs.act_states.specs.Switches.{switch_due_list, switch_table}
+use Rattle.thread_invariant.specs.act_states.specs.declared.switches.SwitchAt.TheVariants.{LoadPages, Leave}
+use Rattle.thread_invariant.specs.act_states.specs.declared.work.Act.{Act as ActOf}
+use Rattle.thread_invariant.specs.act_states.specs.declared.work.Act.TheVariants.{Switch as switch_act}
+use Rattle.thread_invariant.specs.core_invariant.specs.Threads.{HasRoots, HasTable, IsTop}
+use Rattle.thread_invariant.specs.step_ways.proofs.Loads.{next_at, step_to, loads_on}
+use Rattle.thread_invariant.specs.step_ways.proofs.Refusals.{GoodTook}
+use Rattle.thread_invariant.specs.core_invariant.proofs.ThreadHolds.{IsIdleIn, claimed_idle}
+use Rattle.thread_invariant.specs.count_invariant.proofs.Acquiring.{knows_next, next_holds}
+use Rattle.thread_invariant.specs.count_invariant.proofs.SwitchCounts.{tcap_kind}
 use Rattle.thread_invariant.proofs.CompWords.{comp_says, table_below, pages_below}
 use Rattle.switch_invariant.proofs.Calls as calls
 use Rattle.switch_invariant.proofs.ThreadWords.{frame_shown, tcap_no_thread}

@@ -1,34 +1,16 @@
 -- What the first word of a thread shows where it carries no mark, who may keep it, and what the words of a claimed thread show.
-use Rattle.std.proofs.Common.{◌≡◌, ◌≢◌, ◌<◌, ◌≤◌, inl, inr, ℕ, List, [], ◌∷◌, length}
-use Rattle.std.proofs.Common.{Option, Some, None, IsTrue, arith, refl, sym, ◌∙◌, ap, subst}
-use Rattle.std.proofs.lemmas.Bool.{cases_eq, false≢true}
-use Rattle.spk_nums.specs.Setting.{Setting, IsSetting}
-use Rattle.spk_nums.specs.declared.kinds.Kind.TheVariants as kind
-use Rattle.tcap_words.specs.Thread.{thread_of_word}
-use Rattle.tcap_words.specs.declared.thread_word.ThreadWord.TheVariants.{Idle, Running}
-use Rattle.word_map.specs.Word.{EntryAt}
-use Rattle.kernel_rules.specs.State.{ThreadFields, Thread, Kernel, PlaceOf, State, first_of_stack, thread_in}
-use Rattle.kernel_rules.specs.Fitting.{fits}
-use Rattle.kernel_rules.specs.References.{frame_names, refs, times}
-use Rattle.kernel_invariant.proofs.Sound.{IsObjectGood, IsSound, IsStack}
-use Rattle.kernel_invariant.proofs.SoundRuns.{opened}
-use Rattle.found_stays.proofs.Stays.{object_named}
-use Rattle.kernel_invariant.proofs.Sums.{times_first}
-use Rattle.kernel_history.specs.Events.{events_of}
-use Rattle.kernel_history.specs.Legal.{IsLegal}
-use Rattle.kernel_history.specs.Marking.{marked_by}
-use Rattle.kernel_history.specs.ObjectWords.{thread_value}
-use Rattle.kernel_history.specs.Stamps.{stamp}
-use Rattle.kernel_history.specs.Trace.{Trace, state_after, last_left}
-use Rattle.trace_laws.proofs.Stays.{sound_of}
-use Rattle.call_stages.specs.View.{Core}
-use Rattle.core_invariant.specs.Components.{HasComp}
-use Rattle.core_invariant.specs.Holding.{settled_by}
-use Rattle.core_invariant.specs.Invariant.{held_by, IsOfThread, SaysRunning, Invariant}
-use Rattle.core_invariant.specs.Words.{IsFrameWord, IsThreadWord, count_room}
-use Rattle.core_invariant.proofs.Bare.{none_kept}
-use Rattle.kept_facts.proofs.Lent.{lent_thread, runs_on_own}
-use Rattle.kept_facts.proofs.Tcaps.{is_tcap}
+use Rattle.thread_invariant.proofs.Common.{◌≡◌, ◌≢◌, ◌<◌, ◌≤◌, inl, inr, ℕ, List, [], ◌∷◌, length, Option, Some, None, IsTrue, arith}
+use Rattle.thread_invariant.proofs.Common.{refl, sym, ◌∙◌, ap, subst, cases_eq, false≢true, Setting, IsSetting, thread_of_word, Idle}
+use Rattle.thread_invariant.proofs.Common.{Running, EntryAt, ThreadFields, Thread, Kernel, PlaceOf, State, first_of_stack, thread_in}
+use Rattle.thread_invariant.proofs.Common.{fits, frame_names, refs, times, IsObjectGood, IsSound, IsStack, opened, events_of, IsLegal}
+use Rattle.thread_invariant.proofs.Common.{marked_by, thread_value, stamp, Trace, state_after, last_left, sound_of, Core, HasComp}
+use Rattle.thread_invariant.proofs.Common.{settled_by, held_by, Invariant, IsFrameWord, IsThreadWord, count_room, none_kept, runs_on_own}
+use Rattle.thread_invariant.specs.spk_nums.specs.declared.kinds.Kind.TheVariants as kind
+use Rattle.thread_invariant.specs.found_stays.proofs.Stays.{object_named}
+use Rattle.thread_invariant.specs.kernel_invariant.proofs.Sums.{times_first}
+use Rattle.thread_invariant.specs.core_invariant.specs.Invariant.{IsOfThread, SaysRunning}
+use Rattle.thread_invariant.specs.kept_facts.proofs.Lent.{lent_thread}
+use Rattle.thread_invariant.specs.kept_facts.proofs.Tcaps.{is_tcap}
 use Rattle.switch_invariant.proofs.ThreadWords.{same_some, thread_is}
 
 -- What the first word of a thread shows, by the core on which it runs.

@@ -57,31 +57,3 @@ pub fn quality_spelling()
     ensures spelling { IsOneSpelling QualityFits word_of_quality quality_of_word }
     ensures none { word_of_quality (record { 0 = None }) ≡ 0 }
 {}
-
-#[cfg(test)]
-mod tests {
-    use super::*;
-    use std::process::Abort;
-
-    // A value and its word, both ways.
-    fn spells(rt: &impl Abort, value: &QualityWord, word: u64)
-        requires { QualityFits value.now }
-    {
-        assert_eq!(rt; value.pack(), word);
-        assert_eq!(rt; QualityWord::unpack(word), Some(*value), "at {word:#018x}");
-    }
-
-    #[test]
-    fn spells_worked_words_and_ends(rt: HostRuntime) {
-        spells(&rt, &QualityWord(None), 0);
-        spells(&rt, &QualityWord(Some((0, 1))), 1);
-        spells(&rt, &QualityWord(Some((63, 0xff_ffff))), 0x3fff_ffff);
-    }
-
-    #[test]
-    fn refuses_words_of_no_value(rt: HostRuntime) {
-        for word in [0x100_0000, 0x4000_0001] {
-            assert_eq!(rt; QualityWord::unpack(word), None, "at {word:#018x}");
-        }
-    }
-}

@@ -1,26 +1,11 @@
 -- What the words of a component say, and which frames they name.
-use Rattle.std.proofs.Common.{◌≡◌, ◌<◌, ℕ, Option, Some, None, IsTrue, refl, sym, ◌∙◌, ap, subst}
-use Rattle.spk_nums.specs.Setting.{Setting, IsSetting}
-use Rattle.spk_nums.specs.declared.kinds.Kind.{Kind}
-use Rattle.spk_nums.specs.declared.kinds.Kind.TheVariants as kind
-use Rattle.word_map.specs.Word.{EntryAt}
-use Rattle.kernel_rules.specs.State.{Kernel, Comp, CompFields, PlaceOf, State, comp_in}
-use Rattle.kernel_rules.specs.Fitting.{fits}
-use Rattle.kernel_invariant.proofs.Sound.{IsSound, IsObjectGood}
-use Rattle.kernel_invariant.proofs.SoundRemovals.{below_by}
-use Rattle.kernel_invariant.proofs.SoundRuns.{opened}
-use Rattle.kernel_history.specs.Events.{events_of}
-use Rattle.kernel_history.specs.Marks.{mark_in_frame}
-use Rattle.kernel_history.specs.Marking.{marked_by}
-use Rattle.kernel_history.specs.Stamps.{stamp}
-use Rattle.kernel_history.specs.Trace.{Trace, state_after, last_left}
-use Rattle.trace_laws.proofs.Stays.{sound_of}
-use Rattle.call_stages.specs.View.{Core}
-use Rattle.core_invariant.specs.Holding.{settled_by}
-use Rattle.core_invariant.specs.Invariant.{held_by, Invariant}
-use Rattle.core_invariant.specs.Words.{IsCompWord, IsFrameWord, count_room}
-use Rattle.kept_facts.proofs.Lent.{may_keep, unlent_value}
-use Rattle.core_invariant.proofs.Sounds.{limits_of}
+use Rattle.live_invariant.proofs.Common.{◌≡◌, ◌<◌, ℕ, Option, Some, None, IsTrue, refl, sym, ◌∙◌, ap, subst, Setting, IsSetting, Kind}
+use Rattle.live_invariant.proofs.Common.{EntryAt, Kernel, Comp, CompFields, PlaceOf, State, comp_in, fits, IsSound, IsObjectGood, opened}
+use Rattle.live_invariant.proofs.Common.{events_of, mark_in_frame, marked_by, stamp, Trace, state_after, last_left, sound_of, Core}
+use Rattle.live_invariant.proofs.Common.{settled_by, held_by, Invariant, IsFrameWord, count_room, may_keep, unlent_value, limits_of}
+use Rattle.live_invariant.specs.spk_nums.specs.declared.kinds.Kind.TheVariants as kind
+use Rattle.live_invariant.specs.kernel_invariant.proofs.SoundRemovals.{below_by}
+use Rattle.live_invariant.specs.core_invariant.specs.Words.{IsCompWord}
 use Rattle.live_invariant.proofs.Numbers.{comp_is}
 
 module _ (setup : Setting) (setting : IsSetting setup) (cores : ℕ → Core) (t : Trace) (stands : Invariant setup cores t) (f : ℕ)

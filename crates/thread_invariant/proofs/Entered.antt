@@ -1,80 +1,41 @@
 -- The load of the number's word by which a core enters a component: where it shows the component live in the gate's epoch, the call is
 -- decided, and the component stands on top of the core's stack.
-use Rattle.std.specs.List.{list_any}
-use Rattle.std.specs.Prelude.{min}
-use Rattle.std.proofs.Common.{◌≡◌, ◌≢◌, ◌⊎◌, inl, inr, ℕ, suc, pos, ◌+ℤ◌, max, length, ◌+◌, ◌-◌, ◌^◌, ◌<◌, ◌≤◌, ◌==◌, Bool, true}
-use Rattle.std.proofs.Common.{false, if◌then◌else◌, cond, List, [], ◌∷◌, Option, Some, None, arith, refl, sym, ◌∙◌, ap, subst}
-use Rattle.std.proofs.lemmas.Bool.{eqb-true, eq-eqb}
-use Rattle.spk_nums.specs.Setting.{Setting, IsSetting}
-use Rattle.spk_nums.specs.declared.replies.Reply.{Reply}
-use Rattle.spk_nums.specs.declared.replies.Reply.TheVariants as reply
-use Rattle.spk_nums.specs.declared.replies.Value.TheVariants as value
-use Rattle.frame_words.specs.Live.{live_of_word}
-use Rattle.frame_words.specs.declared.comp_word.CompWord.{CompWord}
-use Rattle.frame_words.specs.declared.live_word.LiveWord.{LiveWord}
-use Rattle.frame_words.specs.declared.live_word.LiveWord.TheVariants as live_word
-use Rattle.tcap_words.specs.Stack.{word_of_stack}
-use Rattle.tcap_words.specs.Thread.{ThreadFits, word_of_thread, thread_of_word}
-use Rattle.tcap_words.specs.declared.thread_word.ThreadWord.TheVariants.{Running}
-use Rattle.tcap_words.proofs.StackLemmas as stacks
-use Rattle.tcap_words.proofs.ThreadLemmas as threads
-use Rattle.word_map.specs.Word.{Word, EntryAt, CountAt, LiveAt, ClockAt}
-use Rattle.word_map.specs.Moves.{Move, LoadOf, word_of, told_of}
-use Rattle.kernel_rules.specs.State.{CompFields, ThreadFields, Comp, Thread, Kernel, Thing, PlaceOf, FrameOf}
-use Rattle.kernel_rules.specs.State.{NumberOf, Grace, State, first_of_stack, comp_in, comp_of, thread_of, put}
-use Rattle.kernel_rules.specs.Rules.{Found, IsFoundAnd}
-use Rattle.kernel_rules.specs.References.{times, refs}
-use Rattle.kernel_rules.specs.InvocationCalls.{is_live_in, pushes}
-use Rattle.kernel_rules.specs.CallRelation.{MayReply, change_of, changed, counted, begins_in, ends_by, flushes_by}
-use Rattle.kernel_rules.specs.GracePeriods.{same_thing, new_grace}
-use Rattle.kernel_invariant.proofs.Sums.{times_cons}
-use Rattle.kernel_history.specs.Marks.{live_mark}
-use Rattle.kernel_history.specs.Marking.{marked_by}
-use Rattle.kernel_history.specs.ObjectWords.{at_height}
-use Rattle.kernel_history.specs.Stamps.{begins_in as begins_then, ends_in, flushes_in, begins_at, ends_at, flushes_at, stamp}
-use Rattle.kernel_history.specs.Trace.{Step, Trace, Open, phase, state_after, state_decided_in, last_left}
-use Rattle.trace_laws.proofs.AloneCalls.{ok_first}
-use Rattle.kernel_history.proofs.Steps.{last_left-there}
-use Rattle.stage_pins.specs.Counts.{later}
-use Rattle.stage_pins.specs.Held.{stamp_of_change}
-use Rattle.stage_thread.specs.declared.stack.Push.TheVariants as push
-use Rattle.act_states.specs.declared.invocations.Invoking.{Invoking}
-use Rattle.act_states.specs.declared.invocations.InvokingAt.{InvokingAt}
-use Rattle.act_states.specs.declared.invocations.InvokingAt.TheVariants.{LoadTable, LoadPages, LoadComp, LoadLive}
-use Rattle.act_states.specs.declared.own.Own.{Own}
-use Rattle.act_states.specs.declared.own.OwnChange.TheVariants.{Works}
-use Rattle.act_states.specs.declared.work.Act.TheVariants.{Invoke as invoke_act}
-use Rattle.act_states.specs.declared.work.Tail.{Tail}
-use Rattle.act_states.specs.declared.work.Tail.TheVariants.{Push}
-use Rattle.act_states.specs.declared.work.Work.TheVariants.{Act}
-use Rattle.act_states.specs.Acts.{took_invoking, took_invoking_at}
-use Rattle.act_states.specs.Invocations.{invoking_at, invoking_move, enters_if, enters_number, enters_live}
-use Rattle.act_states.specs.OwnChanges.{own_changed}
-use Rattle.call_stages.specs.Cores.{own_decided}
-use Rattle.call_stages.specs.declared.stages.Stage.{Stage}
-use Rattle.call_stages.specs.declared.stages.Stage.TheVariants.{Undecided, Decided}
-use Rattle.call_stages.specs.declared.stages.ActiveCall.{ActiveCall}
-use Rattle.call_stages.specs.Steps.{landed}
-use Rattle.call_stages.specs.View.{Core}
-use Rattle.core_invariant.specs.Components.{HasLoadedComp, KnowsInvoking}
-use Rattle.core_invariant.specs.CountWords.{IsWithin}
-use Rattle.core_invariant.specs.Holding.{Holding, keeps_bare, holds_counts}
-use Rattle.core_invariant.specs.Words.{WordIs, NumberIs}
-use Rattle.core_invariant.specs.Knows.{KnowsUndecided, WorksIn}
-use Rattle.core_invariant.specs.Invariant.{holds_at, holds_in, holds, held_by, times_of, Invariant}
-use Rattle.core_invariant.proofs.Bare.{counts_bare}
-use Rattle.kept_facts.proofs.Calm.{IsUntimed, plain_begins, plain_stamp, plain_flush}
-use Rattle.step_ways.proofs.Good.{spares_kept}
-use Rattle.kept_facts.proofs.Lent.{lent_kept}
-use Rattle.step_ways.proofs.Loads.{inner, next_at}
-use Rattle.step_ways.proofs.OwnChanges.{decides_changing}
-use Rattle.step_ways.proofs.Refusals.{GoodTook, not_spent}
-use Rattle.step_ways.proofs.Users.{spares_none}
-use Rattle.kept_facts.proofs.WordFrames.{marks_own, carry_marks, word_stays}
-use Rattle.trace_laws.proofs.Small.{last_small}
-use Rattle.step_ways.proofs.Writes.{same_marks}
-use Rattle.count_invariant.proofs.CapChanges.{counts_commit, counts_sum, dues_of}
-use Rattle.count_invariant.proofs.StackCounts.{invoke_threads}
+use Rattle.live_invariant.proofs.Common.{list_any, min, ◌≡◌, ◌≢◌, ◌⊎◌, inl, inr, ℕ, suc, pos, ◌+ℤ◌, max, length, ◌+◌, ◌-◌, ◌^◌, ◌<◌, ◌≤◌}
+use Rattle.live_invariant.proofs.Common.{◌==◌, Bool, true, false, if◌then◌else◌, cond, List, [], ◌∷◌, Option, Some, None, arith, refl}
+use Rattle.live_invariant.proofs.Common.{sym, ◌∙◌, ap, subst, eqb-true, eq-eqb, Setting, IsSetting, Reply, live_of_word, CompWord}
+use Rattle.live_invariant.proofs.Common.{LiveWord, word_of_stack, ThreadFits, word_of_thread, thread_of_word, Running, Word, EntryAt}
+use Rattle.live_invariant.proofs.Common.{CountAt, LiveAt, ClockAt, Move, LoadOf, word_of, told_of, CompFields, ThreadFields, Comp, Thread}
+use Rattle.live_invariant.proofs.Common.{Kernel, Thing, PlaceOf, FrameOf, NumberOf, Grace, State, first_of_stack, comp_in, comp_of}
+use Rattle.live_invariant.proofs.Common.{thread_of, put, Found, IsFoundAnd, times, refs, is_live_in, pushes, MayReply, change_of, changed}
+use Rattle.live_invariant.proofs.Common.{counted, begins_in, ends_by, flushes_by, same_thing, new_grace, times_cons, live_mark, marked_by}
+use Rattle.live_invariant.proofs.Common.{at_height, ends_in, flushes_in, begins_at, ends_at, flushes_at, stamp, Step, Trace, Open, phase}
+use Rattle.live_invariant.proofs.Common.{state_after, state_decided_in, last_left, ok_first, last_left-there, later, stamp_of_change}
+use Rattle.live_invariant.proofs.Common.{Invoking, InvokingAt, Own, Works, Tail, Push, Act, own_changed, own_decided, Stage, Undecided}
+use Rattle.live_invariant.proofs.Common.{Decided, ActiveCall, landed, Core, IsWithin, Holding, holds_counts, WordIs, NumberIs}
+use Rattle.live_invariant.proofs.Common.{KnowsUndecided, WorksIn, holds_at, holds_in, holds, held_by, times_of, Invariant, counts_bare}
+use Rattle.live_invariant.proofs.Common.{IsUntimed, plain_begins, plain_stamp, plain_flush, lent_kept, marks_own, carry_marks, word_stays}
+use Rattle.live_invariant.proofs.Common.{last_small, invoking_dues, due_of}
+use Rattle.live_invariant.specs.spk_nums.specs.declared.replies.Reply.TheVariants as reply
+use Rattle.live_invariant.specs.spk_nums.specs.declared.replies.Value.TheVariants as value
+use Rattle.live_invariant.specs.frame_words.specs.declared.live_word.LiveWord.TheVariants as live_word
+use Rattle.live_invariant.specs.tcap_words.proofs.StackLemmas as stacks
+use Rattle.live_invariant.specs.tcap_words.proofs.ThreadLemmas as threads
+use Rattle.live_invariant.specs.kernel_history.specs.Stamps.{begins_in as begins_then}
+use Rattle.live_invariant.specs.stage_thread.specs.declared.stack.Push.TheVariants as push
+use Rattle.live_invariant.specs.act_states.specs.declared.invocations.InvokingAt.TheVariants.{LoadTable, LoadPages, LoadComp, LoadLive}
+use Rattle.live_invariant.specs.act_states.specs.declared.work.Act.TheVariants.{Invoke as invoke_act}
+use Rattle.live_invariant.specs.act_states.specs.Acts.{took_invoking, took_invoking_at}
+use Rattle.live_invariant.specs.act_states.specs.Invocations.{invoking_at, invoking_move, enters_if, enters_number, enters_live}
+use Rattle.live_invariant.specs.core_invariant.specs.Components.{HasLoadedComp, KnowsInvoking}
+use Rattle.live_invariant.specs.core_invariant.specs.Holding.{keeps_bare}
+use Rattle.live_invariant.specs.step_ways.proofs.Good.{spares_kept}
+use Rattle.live_invariant.specs.step_ways.proofs.Loads.{inner, next_at}
+use Rattle.live_invariant.specs.step_ways.proofs.OwnChanges.{decides_changing}
+use Rattle.live_invariant.specs.step_ways.proofs.Refusals.{GoodTook, not_spent}
+use Rattle.live_invariant.specs.step_ways.proofs.Users.{spares_none}
+use Rattle.live_invariant.specs.step_ways.proofs.Writes.{same_marks}
+use Rattle.live_invariant.specs.count_invariant.proofs.CapChanges.{counts_commit, counts_sum, dues_of}
+use Rattle.live_invariant.specs.count_invariant.proofs.StackCounts.{invoke_threads}
 use Rattle.live_invariant.proofs.Numbers.{shows_some}
 use Rattle.thread_invariant.proofs.EntryMarks.{counts_apart}
 use Rattle.thread_invariant.proofs.CompWords.{holds_comp, comp_below}
@@ -323,8 +284,8 @@ module _ (setup : Setting) (setting : IsSetting setup) (cores : ℕ → Core) (t
   none_drawn : later 0 None < 2 ^ 28
   none_drawn = omega arith
 
-  dues_are : dues_of (pos 1) (m.comp ∷ []) ≡ Rattle.std.proofs.Common.map Rattle.core_invariant.specs.Knows.due_of a.counts
-  dues_are = ap (Rattle.act_states.specs.Acts.invoking_dues m.comp) (sym is) ∙ has.knows.all
+  dues_are : dues_of (pos 1) (m.comp ∷ []) ≡ Rattle.std.proofs.Common.map due_of a.counts
+  dues_are = ap (invoking_dues m.comp) (sym is) ∙ has.knows.all
 
   more_refs : (f : ℕ) → refs s' f ≡ refs s f + times f (m.comp ∷ [])
   more_refs f =

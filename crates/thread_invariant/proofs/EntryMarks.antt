@@ -1,73 +1,43 @@
 -- Who may have marked a word of a thread: the core that runs the thread, or one that has claimed the thread while it was idle. So no word
 -- of a running thread carries the mark of another core.
-use Rattle.std.proofs.Common.{◌≡◌, ◌≢◌, ◌⊎◌, ◌<◌, ◌^◌, ◌+◌, ◌*◌, inl, inr, ℕ, zero, suc, Bool, true, false, if◌then◌else◌}
-use Rattle.std.proofs.Common.{List, [], ◌∷◌, length, Option, Some, None, IsTrue, arith, refl, sym, ◌∙◌, ap, subst}
-use Rattle.std.proofs.lemmas.Bool.{false≢true, cases_eq, cases_lt, ne_eqb}
-use Rattle.spk_nums.specs.Setting.{Setting, IsSetting}
-use Rattle.spk_nums.specs.declared.kinds.Kind.TheVariants as kind
-use Rattle.spk_nums.specs.declared.calls.Call.{Call}
-use Rattle.tcap_words.specs.Thread.{word_of_thread, thread_of_word}
-use Rattle.tcap_words.specs.declared.thread_word.ThreadWord.TheVariants.{Idle, Running}
-use Rattle.tcap_words.proofs.ThreadLemmas as threads
-use Rattle.word_map.specs.Word.{Word, EntryAt, FrameAt}
-use Rattle.act_states.specs.declared.comps.CompMaking.{CompMaking}
-use Rattle.kernel_rules.specs.State.{Frame, Kernel, Table, Leaf, Pages, Pleaf, Thread, Tcap, PlaceOf, State, thread_in, thread_of}
-use Rattle.kernel_rules.specs.Fitting.{fits}
-use Rattle.kernel_rules.specs.Relies.{Relies, is_node}
-use Rattle.kernel_history.specs.Marks.{mark_in_frame, thread_mark}
-use Rattle.kernel_history.specs.Marking.{marked_by}
-use Rattle.kernel_history.specs.ObjectWords.{thread_value}
-use Rattle.kernel_history.specs.Stamps.{stamp}
-use Rattle.kernel_history.specs.Trace.{Trace, Open, phase, state_after, last_left}
-use Rattle.kernel_history.proofs.Names.{cases_word, same_word-other}
-use Rattle.word_map.proofs.WordLemmas.{same_same}
-use Rattle.stage_pins.specs.declared.held.Acquired.{Acquired}
-use Rattle.stage_quiet.specs.declared.close.Close.TheVariants.{AtCompare, AtDraw, AtStore}
-use Rattle.stage_tcap.specs.declared.pair.Pair.{Pair}
-use Rattle.stage_tcap.specs.declared.pair.PairAt.{PairAt}
-use Rattle.stage_tcap.specs.declared.pair.PairAt.TheVariants as pair
-use Rattle.stage_thread.specs.declared.claim.Claim.TheVariants as claim
-use Rattle.stage_thread.specs.declared.stack.Push.TheVariants as push
-use Rattle.stage_thread.specs.declared.stack.Pop.TheVariants as pop
-use Rattle.act_states.specs.declared.comps.CompAt.{CompAt}
-use Rattle.act_states.specs.declared.comps.CompAt.TheVariants as comp_at
-use Rattle.act_states.specs.declared.kills.KillingAt.{KillingAt}
-use Rattle.act_states.specs.declared.kills.KillingAt.TheVariants.{LoadComp, LoadLive, Close as kill_close, Draw as kill_draw}
-use Rattle.act_states.specs.declared.makings.MakingAt.{MakingAt}
-use Rattle.act_states.specs.declared.makings.MakingAt.TheVariants.{Load as making_load, Mark, Store, Fill as making_fill}
-use Rattle.act_states.specs.declared.switches.Switching.{Switching}
-use Rattle.act_states.specs.declared.switches.SwitchAt.{SwitchAt}
-use Rattle.act_states.specs.declared.switches.SwitchAt.TheVariants as switch
-use Rattle.act_states.specs.declared.untypings.UntypingAt.{UntypingAt}
-use Rattle.act_states.specs.declared.untypings.UntypingAt.TheVariants as untype
-use Rattle.act_states.specs.Untypings.{release_of}
-use Rattle.act_states.specs.declared.work.Act.{Act as ActOf}
-use Rattle.act_states.specs.declared.work.Act.TheVariants.{Fill as fill_act, Remove as remove_act, Retype as type_act}
-use Rattle.act_states.specs.declared.work.Act.TheVariants.{Make as make_act, Outside, Tick as tick_act, Touch as touch_act}
-use Rattle.act_states.specs.declared.work.Act.TheVariants.{Flush as flush_act, Kill as kill_act, Untype as untype_act}
-use Rattle.act_states.specs.declared.work.Act.TheVariants.{Map as map_act, MakeComp as comp_act, Invoke as invoke_act}
-use Rattle.act_states.specs.declared.work.Act.TheVariants.{Return as return_act, Share as share_act, Switch as switch_act}
-use Rattle.act_states.specs.declared.work.Tail.{Tail}
-use Rattle.act_states.specs.declared.work.Tail.TheVariants.{Nothing, Quiesce, Unmark, StoreDead, StoreFlush, Release}
-use Rattle.act_states.specs.declared.work.Tail.TheVariants.{StoreLive, Push, Pop, Share, StoreRunning, StoreIdle}
-use Rattle.act_states.specs.declared.work.Work.{Work}
-use Rattle.act_states.specs.declared.work.Work.TheVariants.{Lookup, Read, Scan, Acquire, Act}
-use Rattle.call_stages.specs.declared.stages.Stage.{Stage}
-use Rattle.call_stages.specs.declared.stages.Stage.TheVariants.{Enter, Undecided, Decided, Leave}
-use Rattle.call_stages.specs.declared.stages.ActiveCall.{ActiveCall}
-use Rattle.call_stages.specs.View.{Core}
-use Rattle.stage_sweep.specs.Freeze.{swept_of}
-use Rattle.core_invariant.specs.Frozen.{holds_release, holds_untyping}
-use Rattle.core_invariant.specs.Holding.{Holding, nothing, keeps, holds_counts, settled_by}
-use Rattle.core_invariant.specs.Threads.{holds_idle, holds_switching, claimed_by, KnowsSwitch}
-use Rattle.core_invariant.specs.Words.{IsFrameWord, count_room}
-use Rattle.core_invariant.specs.Knows.{KnowsAct, KnowsWork, KnowsTail, KnowsAt, CallIs, phase_at}
-use Rattle.core_invariant.specs.Shares.{KnowsStoresAt}
-use Rattle.core_invariant.specs.Invariant.{holds_act, holds_making, holds_killing, holds_comp, holds_share, holds_shared, holds_head}
-use Rattle.core_invariant.specs.Invariant.{holds_heads, holds_work, holds_tail, is_done, holds_at, holds_in, holds, held_by, Invariant}
-use Rattle.kept_facts.proofs.Carries.{slot_relies}
-use Rattle.core_invariant.proofs.Freezing.{release_entry}
-use Rattle.kept_facts.proofs.Lent.{runs_on_own}
+use Rattle.live_invariant.proofs.Common.{◌≡◌, ◌≢◌, ◌⊎◌, ◌<◌, ◌^◌, ◌+◌, ◌*◌, inl, inr, ℕ, zero, suc, Bool, true, false, if◌then◌else◌}
+use Rattle.live_invariant.proofs.Common.{List, [], ◌∷◌, length, Option, Some, None, IsTrue, arith, refl, sym, ◌∙◌, ap, subst, false≢true}
+use Rattle.live_invariant.proofs.Common.{cases_eq, cases_lt, ne_eqb, Setting, IsSetting, Call, word_of_thread, thread_of_word, Idle}
+use Rattle.live_invariant.proofs.Common.{Running, Word, EntryAt, FrameAt, CompMaking, Frame, Kernel, Table, Leaf, Pages, Pleaf, Thread}
+use Rattle.live_invariant.proofs.Common.{Tcap, PlaceOf, State, thread_in, thread_of, fits, Relies, is_node, mark_in_frame, thread_mark}
+use Rattle.live_invariant.proofs.Common.{marked_by, thread_value, stamp, Trace, Open, phase, state_after, last_left, cases_word}
+use Rattle.live_invariant.proofs.Common.{same_word-other, same_same, Acquired, AtCompare, AtDraw, AtStore, Pair, PairAt, CompAt}
+use Rattle.live_invariant.proofs.Common.{KillingAt, LoadComp, LoadLive, MakingAt, Mark, Store, Switching, SwitchAt, UntypingAt}
+use Rattle.live_invariant.proofs.Common.{release_of, Outside, Tail, Nothing, Quiesce, Unmark, StoreDead, StoreFlush, Release, StoreLive}
+use Rattle.live_invariant.proofs.Common.{Push, Pop, Share, StoreRunning, StoreIdle, Work, Lookup, Read, Scan, Acquire, Act, Stage, Enter}
+use Rattle.live_invariant.proofs.Common.{Undecided, Decided, Leave, ActiveCall, Core, swept_of, holds_release, holds_untyping, Holding}
+use Rattle.live_invariant.proofs.Common.{nothing, keeps, holds_counts, settled_by, holds_idle, holds_switching, claimed_by, IsFrameWord}
+use Rattle.live_invariant.proofs.Common.{count_room, KnowsAct, KnowsWork, KnowsTail, KnowsAt, CallIs, phase_at, KnowsStoresAt, holds_act}
+use Rattle.live_invariant.proofs.Common.{holds_making, holds_killing, holds_comp, holds_share, holds_shared, holds_head, holds_heads}
+use Rattle.live_invariant.proofs.Common.{holds_work, holds_tail, is_done, holds_at, holds_in, holds, held_by, Invariant, slot_relies}
+use Rattle.live_invariant.proofs.Common.{release_entry, runs_on_own}
+use Rattle.live_invariant.specs.spk_nums.specs.declared.kinds.Kind.TheVariants as kind
+use Rattle.live_invariant.specs.tcap_words.proofs.ThreadLemmas as threads
+use Rattle.live_invariant.specs.stage_tcap.specs.declared.pair.PairAt.TheVariants as pair
+use Rattle.live_invariant.specs.stage_thread.specs.declared.claim.Claim.TheVariants as claim
+use Rattle.live_invariant.specs.stage_thread.specs.declared.stack.Push.TheVariants as push
+use Rattle.live_invariant.specs.stage_thread.specs.declared.stack.Pop.TheVariants as pop
+use Rattle.live_invariant.specs.act_states.specs.declared.comps.CompAt.TheVariants as comp_at
+use Rattle.live_invariant.specs.act_states.specs.declared.kills.KillingAt.TheVariants.{Close as kill_close}
+use Rattle.live_invariant.specs.act_states.specs.declared.kills.KillingAt.TheVariants.{Draw as kill_draw}
+use Rattle.live_invariant.specs.act_states.specs.declared.makings.MakingAt.TheVariants.{Load as making_load}
+use Rattle.live_invariant.specs.act_states.specs.declared.makings.MakingAt.TheVariants.{Fill as making_fill}
+use Rattle.live_invariant.specs.act_states.specs.declared.switches.SwitchAt.TheVariants as switch
+use Rattle.live_invariant.specs.act_states.specs.declared.untypings.UntypingAt.TheVariants as untype
+use Rattle.live_invariant.specs.act_states.specs.declared.work.Act.{Act as ActOf}
+use Rattle.live_invariant.specs.act_states.specs.declared.work.Act.TheVariants.{Fill as fill_act, Remove as remove_act, Retype as type_act}
+use Rattle.live_invariant.specs.act_states.specs.declared.work.Act.TheVariants.{Make as make_act, Tick as tick_act}
+use Rattle.live_invariant.specs.act_states.specs.declared.work.Act.TheVariants.{Touch as touch_act}
+use Rattle.live_invariant.specs.act_states.specs.declared.work.Act.TheVariants.{Flush as flush_act, Kill as kill_act, Untype as untype_act}
+use Rattle.live_invariant.specs.act_states.specs.declared.work.Act.TheVariants.{Map as map_act, MakeComp as comp_act, Invoke as invoke_act}
+use Rattle.live_invariant.specs.act_states.specs.declared.work.Act.TheVariants.{Return as return_act, Share as share_act}
+use Rattle.live_invariant.specs.act_states.specs.declared.work.Act.TheVariants.{Switch as switch_act}
+use Rattle.live_invariant.specs.core_invariant.specs.Threads.{KnowsSwitch}
 use Rattle.thread_invariant.proofs.OwnStack.{own_thread}
 
 pub counts_apart : (fate : Option (Option ℕ)) (xs : List Acquired) (f i : ℕ) → (holds_counts fate xs).marks (EntryAt f i) ≡ false

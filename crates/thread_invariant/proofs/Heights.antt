@@ -1,10 +1,9 @@
 -- What stands at the heights of a stack.
-use Rattle.std.proofs.Common.{◌≡◌, ◌≢◌, ◌<◌, ◌≤◌, ◌-◌, inl, inr, ℕ, suc, List, [], ◌∷◌, length}
-use Rattle.std.proofs.Common.{get_or, reverse, Option, Some, None, arith, refl, sym, ◌∙◌, ap}
+use Rattle.live_invariant.proofs.Common.{◌≡◌, ◌≢◌, ◌<◌, ◌≤◌, ◌-◌, inl, inr, ℕ, suc, List, [], ◌∷◌, length, Option, Some, None, arith}
+use Rattle.live_invariant.proofs.Common.{refl, sym, ◌∙◌, ap, cases_lt, at_height}
+use Rattle.std.proofs.Common.{get_or, reverse}
 use Rattle.std.proofs.lemmas.List.{length-reverse, get_or-reverse}
 use Rattle.std.proofs.lemmas.Option.{slice_get_past, slice_get-get_or}
-use Rattle.std.proofs.lemmas.Bool.{cases_lt}
-use Rattle.kernel_history.specs.ObjectWords.{at_height}
 
 height_is : (fs : List ℕ) (h : ℕ) → h < length fs → at_height fs h ≡ Some (get_or fs (length fs - 1 - h) 0)
 height_is fs h below = slice_get-get_or (reverse fs) h 0 (let same = length-reverse fs in omega (arith, same, below))

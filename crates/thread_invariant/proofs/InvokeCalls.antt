@@ -1,45 +1,24 @@
 -- What a call that enters a component knows of its rule: what is left of it after its name, and what refuses it.
-use Rattle.std.specs.Prelude.{IsSome}
-use Rattle.std.proofs.Common.{◌≡◌, inl, inr, ℕ, ◌<◌, ◌==◌, ◌&&◌, ◌||◌, not, nat_le, Bool, true, false, if◌then◌else◌}
-use Rattle.std.proofs.Common.{List, [], ◌∷◌, length, Option, Some, None, IsTrue, arith, refl, sym, ◌∙◌, ap, subst}
-use Rattle.std.proofs.lemmas.Bool.{eq-eqb, lt-leb}
-use Rattle.std.proofs.lemmas.List.Elements.{All-nil}
-use Rattle.spk_nums.specs.Capability.{Capability}
-use Rattle.spk_nums.specs.Setting.{Setting, IsSetting}
-use Rattle.spk_nums.specs.declared.calls.Call.TheVariants.{Call as call_gate}
-use Rattle.spk_nums.specs.declared.kinds.Kind.{Kind}
-use Rattle.spk_nums.specs.declared.replies.Reply.TheVariants as reply
-use Rattle.word_map.specs.Word.{EntryAt}
-use Rattle.kernel_rules.specs.State.{CompFields, Comp, Kernel, State, comp_in, thread_of}
-use Rattle.kernel_rules.specs.Access.{Slot, found, own}
-use Rattle.kernel_rules.specs.Rules.{Rule, When, Does, RuleMay, outcome, unless, first_of}
-use Rattle.kernel_rules.specs.InvocationCalls.{is_live_in, not_live, pushes}
-use Rattle.kernel_rules.specs.CallRelation.{rule_of, change_of}
-use Rattle.kernel_history.specs.Footprint.{is_one_of, frames_near, numbers_near, number_argument, number_in}
-use Rattle.kernel_history.specs.Justified.{HasReached}
-use Rattle.kernel_history.specs.Trace.{Step, Trace, Open, phase, state_after, own_left}
-use Rattle.kernel_history.specs.Ways.{way_to, ways}
-use Rattle.call_plans.specs.declared.plans.Plan.{Plan}
-use Rattle.call_plans.specs.GoesBy.{GoesBy, own_pages}
-use Rattle.call_plans.specs.After.{rule_after, Leads, LeadsIn}
-use Rattle.call_plans.proofs.AfterNames.{outcome_left, left_may, leads_by}
-use Rattle.plan_ways.proofs.Near.{one_right}
-use Rattle.plan_ways.proofs.Ways.{all_ways}
-use Rattle.act_states.specs.declared.invocations.Invoking.{Invoking}
-use Rattle.act_states.specs.Invocations.{InvokingFits}
-use Rattle.act_states.specs.declared.work.Act.TheVariants.{Invoke as invoke_act}
-use Rattle.act_states.specs.declared.work.Work.TheVariants.{Act}
-use Rattle.call_stages.specs.declared.stages.Stage.TheVariants.{Undecided}
-use Rattle.call_stages.specs.declared.stages.ActiveCall.{ActiveCall}
-use Rattle.call_stages.specs.Fits.{StageFits, HasRoom}
-use Rattle.call_stages.specs.View.{Core}
-use Rattle.core_invariant.specs.Knows.{HasFound, KnowsUndecided, own_in, phase_at}
-use Rattle.core_invariant.specs.Invariant.{Invariant}
-use Rattle.kept_facts.proofs.Carries.{own_kept}
-use Rattle.step_ways.proofs.Loads.{call_is, is_active}
-use Rattle.count_invariant.proofs.Findings.{own_is, found_named, way_gone}
-use Rattle.count_invariant.proofs.Acquiring.{plan_leads, goes_by}
-use Rattle.count_invariant.proofs.StackCounts.{IsInvoke, invoke_of, invoke_near}
+use Rattle.live_invariant.proofs.Common.{IsSome, ◌≡◌, inl, inr, ℕ, ◌<◌, ◌==◌, ◌&&◌, ◌||◌, not, nat_le, Bool, true, false, if◌then◌else◌}
+use Rattle.live_invariant.proofs.Common.{List, [], ◌∷◌, length, Option, Some, None, IsTrue, arith, refl, sym, ◌∙◌, ap, subst, eq-eqb}
+use Rattle.live_invariant.proofs.Common.{lt-leb, All-nil, Capability, Setting, IsSetting, Kind, EntryAt, CompFields, Comp, Kernel, State}
+use Rattle.live_invariant.proofs.Common.{comp_in, thread_of, Slot, found, own, Rule, When, Does, RuleMay, outcome, unless, first_of}
+use Rattle.live_invariant.proofs.Common.{is_live_in, pushes, rule_of, change_of, is_one_of, frames_near, HasReached, Step, Trace, Open}
+use Rattle.live_invariant.proofs.Common.{phase, state_after, own_left, way_to, ways, Plan, GoesBy, own_pages, rule_after, Leads, LeadsIn}
+use Rattle.live_invariant.proofs.Common.{outcome_left, left_may, leads_by, Invoking, Act, Undecided, ActiveCall, StageFits, HasRoom, Core}
+use Rattle.live_invariant.proofs.Common.{HasFound, KnowsUndecided, own_in, phase_at, Invariant, own_kept}
+use Rattle.live_invariant.specs.spk_nums.specs.declared.calls.Call.TheVariants.{Call as call_gate}
+use Rattle.live_invariant.specs.spk_nums.specs.declared.replies.Reply.TheVariants as reply
+use Rattle.live_invariant.specs.kernel_rules.specs.InvocationCalls.{not_live}
+use Rattle.live_invariant.specs.kernel_history.specs.Footprint.{numbers_near, number_argument, number_in}
+use Rattle.live_invariant.specs.plan_ways.proofs.Near.{one_right}
+use Rattle.live_invariant.specs.plan_ways.proofs.Ways.{all_ways}
+use Rattle.live_invariant.specs.act_states.specs.Invocations.{InvokingFits}
+use Rattle.live_invariant.specs.act_states.specs.declared.work.Act.TheVariants.{Invoke as invoke_act}
+use Rattle.live_invariant.specs.step_ways.proofs.Loads.{call_is, is_active}
+use Rattle.live_invariant.specs.count_invariant.proofs.Findings.{own_is, found_named, way_gone}
+use Rattle.live_invariant.specs.count_invariant.proofs.Acquiring.{plan_leads, goes_by}
+use Rattle.live_invariant.specs.count_invariant.proofs.StackCounts.{IsInvoke, invoke_of, invoke_near}
 use Rattle.live_invariant.proofs.Numbers.{one_of_many, comp_is}
 
 -- What is left of the rule of a call through a gate to this frame, made in this epoch.

@@ -1,54 +1,24 @@
 -- An entering starts where its name has led to a gate; or the core's stack is full.
-use Rattle.std.proofs.Common.{◌≡◌, ◌<◌, inl, ℕ, map, nat_le, not, Bool, true, false, if◌then◌else◌}
-use Rattle.std.proofs.Common.{List, [], ◌∷◌, length, Some, None, IsTrue, refl, sym, ◌∙◌, ap, subst}
-use Rattle.std.proofs.lemmas.Bool.{false≢true}
-use Rattle.spk_nums.specs.Capability.{Capability}
-use Rattle.spk_nums.specs.Setting.{Setting, IsSetting}
-use Rattle.spk_nums.specs.declared.kinds.Kind.{Kind}
-use Rattle.spk_nums.specs.declared.kinds.Kind.TheVariants as kind
-use Rattle.spk_nums.specs.declared.calls.Call.{Call}
-use Rattle.spk_nums.specs.declared.calls.Call.TheVariants.{Call as call_gate}
-use Rattle.spk_nums.specs.declared.replies.Reply.TheVariants as reply
-use Rattle.word_map.specs.Moves.{Move, word_of}
-use Rattle.kernel_rules.specs.State.{Comp, Frame, Kernel, State, comp_in, thread_of}
-use Rattle.kernel_rules.specs.Access.{only}
-use Rattle.kernel_rules.specs.Fitting.{fits}
-use Rattle.kernel_rules.specs.References.{named_by}
-use Rattle.kernel_rules.specs.Rules.{Found, Refused, RuleMay, named, of_kind, outcome, unless, first_of}
-use Rattle.kernel_rules.specs.InvocationCalls.{is_live_in, pushes}
-use Rattle.kernel_rules.specs.CallRelation.{rule_of, change_of, are_calls_spent}
-use Rattle.kernel_invariant.proofs.Facts.{named_fit}
-use Rattle.kernel_invariant.proofs.SoundRuns.{opened}
-use Rattle.found_stays.proofs.Stays.{name_parts}
-use Rattle.kernel_history.specs.Events.{events_of}
-use Rattle.kernel_history.specs.Legal.{IsLegal}
-use Rattle.kernel_history.specs.Trace.{Step, Trace, Open, phase, state_after, last_left}
-use Rattle.trace_laws.proofs.AloneCalls.{refused_first}
-use Rattle.trace_laws.proofs.Carries.{Carries}
-use Rattle.trace_laws.proofs.Stays.{sound_of, opened_is, guarded_usable}
-use Rattle.stage_pins.specs.declared.held.Acquired.{Acquired}
-use Rattle.call_plans.specs.GoesBy.{GoesBy, own_pages}
-use Rattle.call_plans.specs.After.{rule_after, Leads, LeadsIn}
-use Rattle.call_plans.proofs.AfterNames.{outcome_left, left_may}
-use Rattle.act_states.specs.declared.invocations.Invoking.{Invoking}
-use Rattle.act_states.specs.declared.invocations.InvokingAt.TheVariants.{LoadTable}
-use Rattle.act_states.specs.declared.refusals.Refusal.TheVariants as refusal
-use Rattle.act_states.specs.declared.work.Act.TheVariants.{Invoke as invoke_act}
-use Rattle.act_states.specs.declared.work.Work.TheVariants.{Act}
-use Rattle.act_states.specs.declared.work.WorkStep.TheVariants.{Goes}
-use Rattle.act_states.specs.WorkSteps.{refuse}
-use Rattle.act_states.specs.Acts.{invokes_if, invokes_in}
-use Rattle.call_stages.specs.declared.stages.Stage.TheVariants.{Undecided}
-use Rattle.call_stages.specs.declared.stages.ActiveCall.{ActiveCall}
-use Rattle.call_stages.specs.Steps.{landed, found_more}
-use Rattle.call_stages.specs.View.{Core}
-use Rattle.core_invariant.specs.Components.{HasComp, InvokesBy}
-use Rattle.core_invariant.specs.Holding.{holds_counts}
-use Rattle.core_invariant.specs.Knows.{due_of, NamesAre, phase_at}
-use Rattle.core_invariant.specs.Invariant.{holds_in, Invariant}
-use Rattle.kept_facts.proofs.Carries.{invoking_on}
-use Rattle.step_ways.proofs.Loads.{OnlyLooks, step_to, call_is, core_is, loads_on, decides_on}
-use Rattle.step_ways.proofs.Refusals.{GoodTook, not_spent}
+use Rattle.live_invariant.proofs.Common.{◌≡◌, ◌<◌, inl, ℕ, map, nat_le, not, Bool, true, false, if◌then◌else◌, List, [], ◌∷◌, length}
+use Rattle.live_invariant.proofs.Common.{Some, None, IsTrue, refl, sym, ◌∙◌, ap, subst, false≢true, Capability, Setting, IsSetting, Kind}
+use Rattle.live_invariant.proofs.Common.{Call, Move, word_of, Comp, Frame, Kernel, State, comp_in, thread_of, only, fits, named_by, Found}
+use Rattle.live_invariant.proofs.Common.{Refused, RuleMay, named, outcome, unless, first_of, is_live_in, pushes, rule_of, change_of}
+use Rattle.live_invariant.proofs.Common.{are_calls_spent, named_fit, opened, name_parts, events_of, IsLegal, Step, Trace, Open, phase}
+use Rattle.live_invariant.proofs.Common.{state_after, last_left, refused_first, Carries, sound_of, opened_is, guarded_usable, Acquired}
+use Rattle.live_invariant.proofs.Common.{GoesBy, own_pages, rule_after, Leads, LeadsIn, outcome_left, left_may, Invoking, Act, Goes}
+use Rattle.live_invariant.proofs.Common.{refuse, Undecided, ActiveCall, landed, found_more, Core, HasComp, InvokesBy, holds_counts}
+use Rattle.live_invariant.proofs.Common.{due_of, NamesAre, phase_at, holds_in, Invariant}
+use Rattle.live_invariant.specs.spk_nums.specs.declared.kinds.Kind.TheVariants as kind
+use Rattle.live_invariant.specs.spk_nums.specs.declared.calls.Call.TheVariants.{Call as call_gate}
+use Rattle.live_invariant.specs.spk_nums.specs.declared.replies.Reply.TheVariants as reply
+use Rattle.live_invariant.specs.kernel_rules.specs.Rules.{of_kind}
+use Rattle.live_invariant.specs.act_states.specs.declared.invocations.InvokingAt.TheVariants.{LoadTable}
+use Rattle.live_invariant.specs.act_states.specs.declared.refusals.Refusal.TheVariants as refusal
+use Rattle.live_invariant.specs.act_states.specs.declared.work.Act.TheVariants.{Invoke as invoke_act}
+use Rattle.live_invariant.specs.act_states.specs.Acts.{invokes_if, invokes_in}
+use Rattle.live_invariant.specs.kept_facts.proofs.Carries.{invoking_on}
+use Rattle.live_invariant.specs.step_ways.proofs.Loads.{OnlyLooks, step_to, call_is, core_is, loads_on, decides_on}
+use Rattle.live_invariant.specs.step_ways.proofs.Refusals.{GoodTook, not_spent}
 use Rattle.thread_invariant.proofs.InvokeCalls.{entering}
 
 -- What a name leads to is of a wanted kind, and is what was found.

@@ -1,52 +1,26 @@
 -- The loads by which a core that enters a component reads its words are good; and so is the load of its number's word, where that refuses
 -- it.
-use Rattle.std.proofs.Common.{◌≡◌, inl, ℕ, ◌<◌, ◌==◌, ◌++◌, map, length, nat_lt, Bool, true, false, if◌then◌else◌}
-use Rattle.std.proofs.Common.{List, [], ◌∷◌, Option, Some, None, IsTrue, arith, refl, sym, ◌∙◌, ap, subst}
-use Rattle.std.proofs.lemmas.Bool.{eqb-true, lt-ltb, false≢true}
-use Rattle.spk_nums.specs.Capability.{Capability}
-use Rattle.spk_nums.specs.declared.calls.Call.{Call}
-use Rattle.spk_nums.specs.declared.calls.Call.TheVariants.{Call as call_gate}
-use Rattle.spk_nums.specs.Setting.{Setting, IsSetting}
-use Rattle.frame_words.specs.Comp.{comp_of_word}
-use Rattle.frame_words.specs.Live.{live_of_word}
-use Rattle.frame_words.specs.declared.comp_word.CompWord.{CompWord}
-use Rattle.frame_words.specs.declared.live_word.LiveWord.{LiveWord}
-use Rattle.frame_words.specs.declared.live_word.LiveWord.TheVariants as live_word
-use Rattle.word_map.specs.Word.{Word, EntryAt, LiveAt}
-use Rattle.word_map.specs.Moves.{LoadOf}
-use Rattle.kernel_rules.specs.State.{CompFields, NumberOf, State, comp_in}
-use Rattle.kernel_rules.specs.InvocationCalls.{is_live_in}
-use Rattle.kernel_history.specs.Discipline.{looks_at_numbers}
-use Rattle.kernel_history.specs.Marks.{live_mark}
-use Rattle.kernel_history.specs.Marking.{marked_by}
-use Rattle.kernel_history.specs.Stamps.{stamp}
-use Rattle.kernel_history.specs.Trace.{Step, Trace, state_after, last_left}
-use Rattle.trace_laws.proofs.Carries.{Carries}
-use Rattle.stage_pins.specs.declared.held.Acquired.{Acquired}
-use Rattle.act_states.specs.declared.invocations.Invoking.{Invoking}
-use Rattle.act_states.specs.declared.invocations.InvokingAt.{InvokingAt}
-use Rattle.act_states.specs.declared.invocations.InvokingAt.TheVariants.{LoadTable, LoadPages, LoadComp, LoadLive}
-use Rattle.act_states.specs.declared.refusals.Refusal.TheVariants as refusal
-use Rattle.act_states.specs.declared.work.Act.{Act as ActOf}
-use Rattle.act_states.specs.declared.work.Act.TheVariants.{Invoke as invoke_act}
-use Rattle.act_states.specs.declared.work.Work.TheVariants.{Act}
-use Rattle.act_states.specs.declared.work.WorkStep.TheVariants.{Goes}
-use Rattle.act_states.specs.Invocations.{frame_in}
-use Rattle.act_states.specs.WorkSteps.{refuse}
-use Rattle.act_states.specs.Acts.{dues, invoking_dues, next_work, meets_table, meets_pages, meets_gate}
-use Rattle.call_stages.specs.declared.stages.Stage.TheVariants.{Undecided}
-use Rattle.call_stages.specs.declared.stages.ActiveCall.{ActiveCall}
-use Rattle.call_stages.specs.Steps.{landed}
-use Rattle.call_stages.specs.View.{Core}
-use Rattle.core_invariant.specs.Components.{IsOnThread, HasLoadedComp, InvokesBy, KnowsInvoking}
-use Rattle.core_invariant.specs.Holding.{holds_counts, settled_by}
-use Rattle.core_invariant.specs.Words.{NumberIs}
-use Rattle.core_invariant.specs.Knows.{due_of, KnowsUndecided}
-use Rattle.core_invariant.specs.Invariant.{holds_at, holds_in, held_by, Invariant}
-use Rattle.kept_facts.proofs.Carries.{names_on, invoking_on}
-use Rattle.step_ways.proofs.Loads.{OnlyLooks, step_to, next_at, loads_on}
-use Rattle.step_ways.proofs.Refusals.{GoodTook, refuses_busy, refuses_dead, ticks_at}
-use Rattle.count_invariant.proofs.Acquiring.{knows_next, next_holds, one_apart}
+use Rattle.live_invariant.proofs.Common.{◌≡◌, inl, ℕ, ◌<◌, ◌==◌, ◌++◌, map, length, nat_lt, Bool, true, false, if◌then◌else◌, List, []}
+use Rattle.live_invariant.proofs.Common.{◌∷◌, Option, Some, None, IsTrue, arith, refl, sym, ◌∙◌, ap, subst, eqb-true, lt-ltb, false≢true}
+use Rattle.live_invariant.proofs.Common.{Capability, Call, Setting, IsSetting, comp_of_word, live_of_word, CompWord, LiveWord, Word}
+use Rattle.live_invariant.proofs.Common.{EntryAt, LiveAt, LoadOf, CompFields, NumberOf, State, comp_in, is_live_in, live_mark, marked_by}
+use Rattle.live_invariant.proofs.Common.{stamp, Step, Trace, state_after, last_left, Carries, Acquired, Invoking, InvokingAt, Act, Goes}
+use Rattle.live_invariant.proofs.Common.{frame_in, refuse, dues, invoking_dues, next_work, Undecided, ActiveCall, landed, Core, InvokesBy}
+use Rattle.live_invariant.proofs.Common.{holds_counts, settled_by, NumberIs, due_of, KnowsUndecided, holds_at, holds_in, held_by}
+use Rattle.live_invariant.proofs.Common.{Invariant, names_on}
+use Rattle.live_invariant.specs.spk_nums.specs.declared.calls.Call.TheVariants.{Call as call_gate}
+use Rattle.live_invariant.specs.frame_words.specs.declared.live_word.LiveWord.TheVariants as live_word
+use Rattle.live_invariant.specs.kernel_history.specs.Discipline.{looks_at_numbers}
+use Rattle.live_invariant.specs.act_states.specs.declared.invocations.InvokingAt.TheVariants.{LoadTable, LoadPages, LoadComp, LoadLive}
+use Rattle.live_invariant.specs.act_states.specs.declared.refusals.Refusal.TheVariants as refusal
+use Rattle.live_invariant.specs.act_states.specs.declared.work.Act.{Act as ActOf}
+use Rattle.live_invariant.specs.act_states.specs.declared.work.Act.TheVariants.{Invoke as invoke_act}
+use Rattle.live_invariant.specs.act_states.specs.Acts.{meets_table, meets_pages, meets_gate}
+use Rattle.live_invariant.specs.core_invariant.specs.Components.{IsOnThread, HasLoadedComp, KnowsInvoking}
+use Rattle.live_invariant.specs.kept_facts.proofs.Carries.{invoking_on}
+use Rattle.live_invariant.specs.step_ways.proofs.Loads.{OnlyLooks, step_to, next_at, loads_on}
+use Rattle.live_invariant.specs.step_ways.proofs.Refusals.{GoodTook, refuses_busy, refuses_dead, ticks_at}
+use Rattle.live_invariant.specs.count_invariant.proofs.Acquiring.{knows_next, next_holds, one_apart}
 use Rattle.live_invariant.proofs.Numbers.{no_number, shows_live, lives_as_shown}
 use Rattle.thread_invariant.proofs.CompWords.{comp_says, table_below, pages_below}
 use Rattle.thread_invariant.proofs.InvokeCalls as calls

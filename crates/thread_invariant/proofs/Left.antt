@@ -1,79 +1,46 @@
 -- The draw of a stamp by which a core leaves a component: the call is decided, and the component below stands on top of the core's stack.
 -- The reference to the component that is left is released at the stamp.
-use Rattle.std.specs.List.{list_any}
-use Rattle.std.proofs.Common.{◌≡◌, ◌≢◌, ◌⊎◌, inl, inr, ℕ, suc, pos, negsuc, ◌+ℤ◌, max, length, take, drop}
-use Rattle.std.proofs.Common.{◌+◌, ◌-◌, ◌^◌, ◌<◌, ◌≤◌, ◌==◌, ◌||◌, Bool, true, false, if◌then◌else◌, List}
-use Rattle.std.proofs.Common.{[], ◌∷◌, Option, Some, None, IsTrue, arith, refl, sym, ◌∙◌, ap, subst}
+use Rattle.live_invariant.proofs.Common.{list_any, ◌≡◌, ◌≢◌, ◌⊎◌, inl, inr, ℕ, suc, pos, negsuc, ◌+ℤ◌, max, length, ◌+◌, ◌-◌, ◌^◌, ◌<◌}
+use Rattle.live_invariant.proofs.Common.{◌≤◌, ◌==◌, ◌||◌, Bool, true, false, if◌then◌else◌, List, [], ◌∷◌, Option, Some, None, IsTrue}
+use Rattle.live_invariant.proofs.Common.{arith, refl, sym, ◌∙◌, ap, subst, cases_eq, eq-eqb, ne_eqb, false≢true, Setting, IsSetting}
+use Rattle.live_invariant.proofs.Common.{Reply, word_of_stack, ThreadFits, word_of_thread, Running, Word, EntryAt, CountAt, FlushAt}
+use Rattle.live_invariant.proofs.Common.{ClockAt, Move, AddOf, word_of, told_of, CompFields, ThreadFields, Comp, Thread, Kernel, Thing}
+use Rattle.live_invariant.proofs.Common.{PlaceOf, FrameOf, NumberOf, Grace, State, first_of_stack, comp_in, comp_of, thread_of, put}
+use Rattle.live_invariant.proofs.Common.{Found, IsFoundAnd, frames_of, times, refs, MayReply, change_of, changed, counted, begins_in}
+use Rattle.live_invariant.proofs.Common.{ends_by, flushes_by, same_thing, new_grace, times_cons, changes_threads, raises_clock, KeepsTime}
+use Rattle.live_invariant.proofs.Common.{marked_by, at_height, ends_in, flushes_in, begins_at, ends_at, flushes_at, stamp, clock}
+use Rattle.live_invariant.proofs.Common.{flush_of, flush_stored, Step, Trace, Open, phase, state_after, state_decided_in, last_left}
+use Rattle.live_invariant.proofs.Common.{ok_first, stamp-begins, stamp-kept, flush_of-own, flush_stored-own, flush_stored-other}
+use Rattle.live_invariant.proofs.Common.{drawn_stamp, later, stamp_of_change, ReturningAt, Own, Works, Tail, Pop, Act, own_changed}
+use Rattle.live_invariant.proofs.Common.{own_decided, Stage, Undecided, Decided, ActiveCall, landed, Core, below_of, IsWithin, Holding}
+use Rattle.live_invariant.proofs.Common.{holds_counts, WordIs, due_of, flushing_in, KnowsUndecided, WorksIn, holds_at, holds_in, holds}
+use Rattle.live_invariant.proofs.Common.{held_by, times_of, counted_in, Invariant, counts_bare, lent_elsewhere, marks_own, carry_marks}
+use Rattle.live_invariant.proofs.Common.{returning_dues}
+use Rattle.std.proofs.Common.{take, drop}
 use Rattle.std.proofs.Math.IntN.{pos-+ℤ-pos, +ℤ_assoc, +ℤ_invr, +ℤ_idr}
-use Rattle.std.proofs.lemmas.Bool.{cases_eq, eq-eqb, ne_eqb, false≢true}
-use Rattle.spk_nums.specs.Setting.{Setting, IsSetting}
-use Rattle.spk_nums.specs.declared.replies.Reply.{Reply}
-use Rattle.spk_nums.specs.declared.replies.Reply.TheVariants as reply
-use Rattle.spk_nums.specs.declared.replies.Value.TheVariants as value
-use Rattle.tcap_words.specs.Stack.{word_of_stack}
-use Rattle.tcap_words.specs.Thread.{ThreadFits, word_of_thread}
-use Rattle.tcap_words.specs.declared.thread_word.ThreadWord.TheVariants.{Running}
-use Rattle.tcap_words.proofs.StackLemmas as stacks
-use Rattle.tcap_words.proofs.ThreadLemmas as threads
-use Rattle.word_map.specs.Word.{Word, EntryAt, CountAt, FlushAt, ClockAt}
-use Rattle.word_map.specs.Moves.{Move, AddOf, word_of, told_of}
-use Rattle.kernel_rules.specs.State.{CompFields, ThreadFields, Comp, Thread, Kernel, Thing, PlaceOf, FrameOf}
-use Rattle.kernel_rules.specs.State.{NumberOf, Grace, State, first_of_stack, comp_in, comp_of, thread_of, put}
-use Rattle.kernel_rules.specs.Rules.{Found, IsFoundAnd, frames_of}
-use Rattle.kernel_rules.specs.References.{times, refs}
-use Rattle.kernel_rules.specs.InvocationCalls.{pops}
-use Rattle.kernel_rules.specs.CallRelation.{MayReply, change_of, changed, counted, begins_in, ends_by, flushes_by}
-use Rattle.kernel_rules.specs.GracePeriods.{same_thing, new_grace}
-use Rattle.kernel_invariant.proofs.Sums.{times_cons}
-use Rattle.kernel_history.specs.Discipline.{changes_threads, raises_clock}
-use Rattle.kernel_history.specs.Graces.{KeepsTime}
-use Rattle.kernel_history.specs.Marking.{marked_by}
-use Rattle.kernel_history.specs.ObjectWords.{at_height}
-use Rattle.kernel_history.specs.Stamps.{begins_in as begins_then, ends_in, flushes_in, begins_at}
-use Rattle.kernel_history.specs.Stamps.{ends_at, flushes_at, stamp, clock, flush_of, flush_stored}
-use Rattle.kernel_history.specs.Trace.{Step, Trace, Open, phase, state_after, state_decided_in, last_left}
-use Rattle.trace_laws.proofs.AloneCalls.{ok_first}
-use Rattle.kernel_history.proofs.Steps.{stamp-begins, stamp-kept, flush_of-own, flush_stored-own, flush_stored-other}
-use Rattle.stage_quiet.specs.Clocks.{drawn_stamp}
-use Rattle.stage_pins.specs.Counts.{later}
-use Rattle.stage_pins.specs.Held.{stamp_of_change}
-use Rattle.stage_thread.specs.declared.stack.Pop.TheVariants as pop
-use Rattle.act_states.specs.declared.invocations.Returning.{Returning}
-use Rattle.act_states.specs.declared.invocations.ReturningAt.{ReturningAt}
-use Rattle.act_states.specs.declared.invocations.ReturningAt.TheVariants.{LoadBelow, LoadTable, LoadPages, Draw}
-use Rattle.act_states.specs.declared.own.Own.{Own}
-use Rattle.act_states.specs.declared.own.OwnChange.TheVariants.{Works}
-use Rattle.act_states.specs.declared.work.Act.TheVariants.{Return as return_act}
-use Rattle.act_states.specs.declared.work.Tail.{Tail}
-use Rattle.act_states.specs.declared.work.Tail.TheVariants.{Pop}
-use Rattle.act_states.specs.declared.work.Work.TheVariants.{Act}
-use Rattle.act_states.specs.Acts.{took_returning, took_returning_at}
-use Rattle.act_states.specs.Invocations.{returning_at, returning_move, left_to}
-use Rattle.act_states.specs.OwnChanges.{own_changed}
-use Rattle.call_stages.specs.Cores.{own_decided}
-use Rattle.call_stages.specs.declared.stages.Stage.{Stage}
-use Rattle.call_stages.specs.declared.stages.Stage.TheVariants.{Undecided, Decided}
-use Rattle.call_stages.specs.declared.stages.ActiveCall.{ActiveCall}
-use Rattle.call_stages.specs.Steps.{landed}
-use Rattle.call_stages.specs.View.{Core}
-use Rattle.core_invariant.specs.Components.{IsBelow, HasLoadedBelow, KnowsReturning, below_of}
-use Rattle.core_invariant.specs.CountWords.{IsWithin}
-use Rattle.core_invariant.specs.Holding.{Holding, keeps_bare, holds_counts}
-use Rattle.core_invariant.specs.Words.{WordIs}
-use Rattle.core_invariant.specs.Knows.{due_of, flushing_in, KnowsUndecided, WorksIn}
-use Rattle.core_invariant.specs.Invariant.{holds_at, holds_in, holds, held_by, times_of, counted_in, Invariant}
-use Rattle.core_invariant.proofs.Bare.{counts_bare}
-use Rattle.step_ways.proofs.Draws.{raised}
-use Rattle.step_ways.proofs.Flushing.{open_flushed}
-use Rattle.step_ways.proofs.Good.{spares_other}
-use Rattle.kept_facts.proofs.Lent.{lent_elsewhere}
-use Rattle.step_ways.proofs.Loads.{inner, next_at}
-use Rattle.step_ways.proofs.OwnChanges.{decides_timed}
-use Rattle.step_ways.proofs.Refusals.{GoodTook, not_spent}
-use Rattle.step_ways.proofs.Users.{spares_none}
-use Rattle.kept_facts.proofs.WordFrames.{marks_own, carry_marks}
-use Rattle.step_ways.proofs.Writes.{same_marks, clock_small}
-use Rattle.count_invariant.proofs.CapChanges.{counts_commit, counts_sum, dues_of}
+use Rattle.live_invariant.specs.spk_nums.specs.declared.replies.Reply.TheVariants as reply
+use Rattle.live_invariant.specs.spk_nums.specs.declared.replies.Value.TheVariants as value
+use Rattle.live_invariant.specs.tcap_words.proofs.StackLemmas as stacks
+use Rattle.live_invariant.specs.tcap_words.proofs.ThreadLemmas as threads
+use Rattle.live_invariant.specs.kernel_rules.specs.InvocationCalls.{pops}
+use Rattle.live_invariant.specs.kernel_history.specs.Stamps.{begins_in as begins_then}
+use Rattle.live_invariant.specs.stage_thread.specs.declared.stack.Pop.TheVariants as pop
+use Rattle.live_invariant.specs.act_states.specs.declared.invocations.Returning.{Returning}
+use Rattle.live_invariant.specs.act_states.specs.declared.invocations.ReturningAt.TheVariants.{LoadBelow, LoadTable, LoadPages, Draw}
+use Rattle.live_invariant.specs.act_states.specs.declared.work.Act.TheVariants.{Return as return_act}
+use Rattle.live_invariant.specs.act_states.specs.Acts.{took_returning, took_returning_at}
+use Rattle.live_invariant.specs.act_states.specs.Invocations.{returning_at, returning_move, left_to}
+use Rattle.live_invariant.specs.core_invariant.specs.Components.{IsBelow, HasLoadedBelow, KnowsReturning}
+use Rattle.live_invariant.specs.core_invariant.specs.Holding.{keeps_bare}
+use Rattle.live_invariant.specs.step_ways.proofs.Draws.{raised}
+use Rattle.live_invariant.specs.step_ways.proofs.Flushing.{open_flushed}
+use Rattle.live_invariant.specs.step_ways.proofs.Good.{spares_other}
+use Rattle.live_invariant.specs.step_ways.proofs.Loads.{inner, next_at}
+use Rattle.live_invariant.specs.step_ways.proofs.OwnChanges.{decides_timed}
+use Rattle.live_invariant.specs.step_ways.proofs.Refusals.{GoodTook, not_spent}
+use Rattle.live_invariant.specs.step_ways.proofs.Users.{spares_none}
+use Rattle.live_invariant.specs.step_ways.proofs.Writes.{same_marks, clock_small}
+use Rattle.live_invariant.specs.count_invariant.proofs.CapChanges.{counts_commit, counts_sum, dues_of}
 use Rattle.thread_invariant.proofs.EntryMarks.{counts_apart}
 use Rattle.thread_invariant.proofs.CompWords.{holds_comp}
 use Rattle.thread_invariant.proofs.Heights.{above_top, beside_top}
@@ -343,7 +310,7 @@ module _ (setup : Setting) (setting : IsSetting setup) (cores : ℕ → Core) (t
   drawn_small = let low = clock_small setup setting cores t stands in let same = drawn_is in omega arith
 
   dues_are : dues_of (negsuc 0) (m.top ∷ []) ≡ Rattle.std.proofs.Common.map due_of a.counts
-  dues_are = ap (Rattle.act_states.specs.Acts.returning_dues m.top) (sym is) ∙ has.knows.all
+  dues_are = ap (returning_dues m.top) (sym is) ∙ has.knows.all
 
   falls : (f : ℕ) → refs s' f + times f (m.top ∷ []) ≡ refs s f
   falls f =

@@ -1,3 +1,5 @@
+-- The names that most proofs use.
+pub use Rattle.live_invariant.proofs.Common
 -- What words say of threads and of components.
 pub mod Heights
 pub mod CompWords

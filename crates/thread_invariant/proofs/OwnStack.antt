@@ -1,22 +1,12 @@
 -- A core's own thread, and the components on its stack.
-use Rattle.std.proofs.Common.{◌≡◌, ◌<◌, ◌≤◌, inl, ℕ, List, [], ◌∷◌, length, IsTrue, arith, refl, sym, ap, subst}
-use Rattle.std.proofs.lemmas.Bool.{false≢true}
-use Rattle.spk_nums.specs.Setting.{Setting, IsSetting}
-use Rattle.spk_nums.specs.declared.kinds.Kind.TheVariants as kind
-use Rattle.kernel_rules.specs.State.{Frame, Kernel, Thread, State, first_of_stack, thread_in, thread_of}
-use Rattle.kernel_rules.specs.Fitting.{fits}
-use Rattle.kernel_rules.specs.References.{times, frame_names, refs}
-use Rattle.kernel_invariant.proofs.Sound.{IsSound, IsStack, IsObjectGood}
-use Rattle.kernel_invariant.proofs.SoundRemovals.{below_by}
-use Rattle.kernel_invariant.proofs.SoundRuns.{opened}
-use Rattle.found_stays.proofs.Stays.{object_named}
-use Rattle.kernel_invariant.proofs.Sums.{times_cons, times_first}
-use Rattle.kernel_history.specs.Events.{events_of}
-use Rattle.kernel_history.specs.Legal.{IsLegal}
-use Rattle.kernel_history.specs.Trace.{Trace, state_after}
-use Rattle.trace_laws.proofs.Stays.{sound_of}
-use Rattle.core_invariant.specs.Components.{HasComp, below_of}
-use Rattle.core_invariant.proofs.Sounds.{limits_of}
+use Rattle.live_invariant.proofs.Common.{◌≡◌, ◌<◌, ◌≤◌, inl, ℕ, List, [], ◌∷◌, length, IsTrue, arith, refl, sym, ap, subst, false≢true}
+use Rattle.live_invariant.proofs.Common.{Setting, IsSetting, Frame, Kernel, Thread, State, first_of_stack, thread_in, thread_of, fits}
+use Rattle.live_invariant.proofs.Common.{times, frame_names, refs, IsSound, IsStack, IsObjectGood, opened, times_cons, events_of, IsLegal}
+use Rattle.live_invariant.proofs.Common.{Trace, state_after, sound_of, HasComp, below_of, limits_of}
+use Rattle.live_invariant.specs.spk_nums.specs.declared.kinds.Kind.TheVariants as kind
+use Rattle.live_invariant.specs.kernel_invariant.proofs.SoundRemovals.{below_by}
+use Rattle.live_invariant.specs.found_stays.proofs.Stays.{object_named}
+use Rattle.live_invariant.specs.kernel_invariant.proofs.Sums.{times_first}
 
 thread_fields : (x : Frame) → IsTrue (fits kind.Thread x) → x ≡ Kernel (Thread (thread_in x))
 thread_fields (Kernel (Thread k)) fit = refl

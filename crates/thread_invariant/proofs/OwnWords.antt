@@ -1,17 +1,9 @@
 -- What the words of a core's own thread say, while the core has nothing to store there.
-use Rattle.std.proofs.Common.{◌≡◌, ◌≢◌, ◌<◌, inl, inr, ℕ, false, Option, Some, None, refl, sym, ◌∙◌, ap, subst}
-use Rattle.std.proofs.lemmas.Bool.{cases_eq}
-use Rattle.spk_nums.specs.Setting.{Setting, IsSetting}
-use Rattle.word_map.specs.Word.{EntryAt}
-use Rattle.kernel_rules.specs.State.{PlaceOf, State, thread_in, thread_of}
-use Rattle.kernel_history.specs.Stamps.{stamp}
-use Rattle.kernel_history.specs.Trace.{Trace, state_after, last_left}
-use Rattle.call_stages.specs.View.{Core}
-use Rattle.core_invariant.specs.Holding.{settled_by}
-use Rattle.core_invariant.specs.Words.{IsFrameWord, IsThreadWord, count_room}
-use Rattle.core_invariant.specs.Invariant.{holds, held_by, Invariant}
-use Rattle.core_invariant.proofs.Bare.{none_kept}
-use Rattle.kept_facts.proofs.Lent.{lent_thread, runs_no_tcap, runs_on_own}
+use Rattle.live_invariant.proofs.Common.{◌≡◌, ◌≢◌, ◌<◌, inl, inr, ℕ, false, Option, Some, None, refl, sym, ◌∙◌, ap, subst, cases_eq}
+use Rattle.live_invariant.proofs.Common.{Setting, IsSetting, EntryAt, PlaceOf, State, thread_in, thread_of, stamp, Trace, state_after}
+use Rattle.live_invariant.proofs.Common.{last_left, Core, settled_by, IsFrameWord, IsThreadWord, count_room, holds, held_by, Invariant}
+use Rattle.live_invariant.proofs.Common.{none_kept, runs_on_own}
+use Rattle.live_invariant.specs.kept_facts.proofs.Lent.{lent_thread, runs_no_tcap}
 use Rattle.thread_invariant.proofs.EntryMarks.{thread_unmarked}
 use Rattle.thread_invariant.proofs.OwnStack.{own_thread}
 

@@ -1,36 +1,17 @@
 -- A decision by which a core's thread has another stack, of which one place has changed: what is said of words then, and what the core
 -- keeps.
-use Rattle.std.proofs.Common.{◌≡◌, ◌≢◌, ◌⊎◌, inl, inr, ◌<◌, ◌≤◌, ◌+◌, ◌*◌, ℕ, zero, suc, true, false}
-use Rattle.std.proofs.Common.{List, [], ◌∷◌, length, Option, Some, None, arith, refl, sym, ◌∙◌, ap, subst}
-use Rattle.std.proofs.lemmas.Bool.{cases_eq}
-use Rattle.spk_nums.specs.Setting.{Setting, IsSetting}
-use Rattle.spk_nums.specs.declared.replies.Reply.{Reply}
-use Rattle.tcap_words.specs.Stack.{stack_of_word}
-use Rattle.tcap_words.specs.Thread.{thread_of_word}
-use Rattle.tcap_words.specs.declared.thread_word.ThreadWord.TheVariants.{Running}
-use Rattle.word_map.specs.Word.{Word, EntryAt, FrameAt, CountAt, CoreAt, FlushAt, LiveAt, ClockAt}
-use Rattle.word_map.specs.Moves.{Move, word_of, left_of}
-use Rattle.kernel_rules.specs.State.{Grace, Thing, PlaceOf, NumberOf, ThreadFields, Kernel, Thread, State, thread_of, put}
-use Rattle.kernel_rules.specs.References.{sum_below, times, refs}
-use Rattle.kernel_invariant.proofs.Sums.{sum_one}
-use Rattle.kernel_history.specs.Marks.{mark_of, mark_in_frame}
-use Rattle.kernel_history.specs.Marking.{marked_by}
-use Rattle.kernel_history.specs.ObjectWords.{at_height, thread_value}
-use Rattle.kernel_history.specs.Stamps.{stamp, flush_stored}
-use Rattle.kernel_history.specs.Trace.{Step, Trace, Open, phase, state_after, last_left}
-use Rattle.kernel_history.proofs.Inside.{decided-inside}
-use Rattle.kernel_history.proofs.Steps.{last_left-there}
-use Rattle.call_stages.specs.declared.stages.ActiveCall.{ActiveCall}
-use Rattle.call_stages.specs.View.{Core}
-use Rattle.core_invariant.specs.Holding.{settled}
-use Rattle.core_invariant.specs.Words.{IsFrameWord, IsThreadWord, WordIs, count_room}
-use Rattle.core_invariant.specs.Invariant.{holds, held_by, times_of, counted_in, IsLent, SaysRunning, Invariant}
-use Rattle.kept_facts.proofs.Calm.{plain_exit}
-use Rattle.step_ways.proofs.Keeping.{keeping_words}
-use Rattle.kept_facts.proofs.Lent.{runs_on_own}
-use Rattle.step_ways.proofs.Loads.{inner}
-use Rattle.core_invariant.proofs.Sounds.{limits_of}
-use Rattle.kept_facts.proofs.WordFrames.{ReadsAlike, SameFor, StaysSaid, word_stays}
+use Rattle.live_invariant.proofs.Common.{◌≡◌, ◌≢◌, ◌⊎◌, inl, inr, ◌<◌, ◌≤◌, ◌+◌, ◌*◌, ℕ, zero, suc, true, false, List, [], ◌∷◌, length}
+use Rattle.live_invariant.proofs.Common.{Option, Some, None, arith, refl, sym, ◌∙◌, ap, subst, cases_eq, Setting, IsSetting, Reply}
+use Rattle.live_invariant.proofs.Common.{stack_of_word, thread_of_word, Running, Word, EntryAt, FrameAt, CountAt, CoreAt, FlushAt, LiveAt}
+use Rattle.live_invariant.proofs.Common.{ClockAt, Move, word_of, left_of, Grace, Thing, PlaceOf, NumberOf, ThreadFields, Kernel, Thread}
+use Rattle.live_invariant.proofs.Common.{State, thread_of, put, sum_below, times, refs, sum_one, mark_of, mark_in_frame, marked_by}
+use Rattle.live_invariant.proofs.Common.{at_height, thread_value, stamp, flush_stored, Step, Trace, Open, phase, state_after, last_left}
+use Rattle.live_invariant.proofs.Common.{decided-inside, last_left-there, ActiveCall, Core, settled, IsFrameWord, IsThreadWord, WordIs}
+use Rattle.live_invariant.proofs.Common.{count_room, holds, held_by, times_of, counted_in, IsLent, Invariant, plain_exit, runs_on_own}
+use Rattle.live_invariant.proofs.Common.{limits_of, ReadsAlike, SameFor, StaysSaid, word_stays, frame_value}
+use Rattle.live_invariant.specs.core_invariant.specs.Invariant.{SaysRunning}
+use Rattle.live_invariant.specs.step_ways.proofs.Keeping.{keeping_words}
+use Rattle.live_invariant.specs.step_ways.proofs.Loads.{inner}
 use Rattle.thread_invariant.proofs.EntryMarks.{thread_unmarked}
 use Rattle.thread_invariant.proofs.OwnStack.{own_thread, thread_below}
 use Rattle.thread_invariant.proofs.OwnWords.{thread_says as own_says}
@@ -172,8 +153,8 @@ module _ (setup : Setting) (setting : IsSetting setup) (cores : ℕ → Core) (t
     | inr other ↦ frame_word g i other
   ]
   stays (FrameAt g) there free unkept = elim (cases_eq g (s.core c).thread) [
-    | inl same ↦ λ before. before ∙ ap (λ x. Some (Rattle.kernel_history.specs.ObjectWords.frame_value x)) (ap s.frame same ∙ own)
-        ∙ ap (λ x. Some (Rattle.kernel_history.specs.ObjectWords.frame_value x)) (sym (frame_now g same))
+    | inl same ↦ λ before. before ∙ ap (λ x. Some (frame_value x)) (ap s.frame same ∙ own)
+        ∙ ap (λ x. Some (frame_value x)) (sym (frame_now g same))
     | inr other ↦ said (FrameAt g) (frame_away g other)
   ]
   stays (CountAt g d) there free unkept = said (CountAt g d) (let more = more_room in omega (arith, more))

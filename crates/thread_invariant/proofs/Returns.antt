@@ -1,50 +1,28 @@
 -- The loads by which a core that leaves a component reads the component below it are good.
-use Rattle.std.specs.Prelude.{IsSome}
-use Rattle.std.proofs.Common.{◌≡◌, inl, ℕ, suc, ◌<◌, ◌≤◌, ◌+◌, ◌-◌, ◌==◌, ◌++◌, map, length, drop, nat_le, nat_lt, Bool, true}
-use Rattle.std.proofs.Common.{false, if◌then◌else◌, List, [], ◌∷◌, Option, Some, None, IsTrue, arith, refl, sym, ◌∙◌, ap, subst}
-use Rattle.std.proofs.lemmas.Bool.{lt-leb, lt-ltb}
-use Rattle.std.proofs.lemmas.List.Elements.{All-nil}
-use Rattle.spk_nums.specs.Setting.{Setting, IsSetting}
-use Rattle.spk_nums.specs.declared.replies.Reply.TheVariants as reply
-use Rattle.tcap_words.specs.Stack.{stack_of_word}
-use Rattle.word_map.specs.Word.{EntryAt}
-use Rattle.word_map.specs.Moves.{LoadOf}
-use Rattle.kernel_rules.specs.State.{CompFields, State, first_of_stack, comp_in, thread_of}
-use Rattle.kernel_rules.specs.Access.{Slot}
-use Rattle.kernel_rules.specs.Rules.{Found, unless, first_of}
-use Rattle.kernel_rules.specs.InvocationCalls.{pops}
-use Rattle.kernel_rules.specs.CallRelation.{rule_of, change_of}
-use Rattle.kernel_history.specs.Footprint.{is_one_of, frames_near}
-use Rattle.kernel_history.specs.Justified.{HasReached}
-use Rattle.kernel_history.specs.ObjectWords.{at_height}
-use Rattle.kernel_history.specs.Trace.{Step, Trace, Open, phase, state_after, last_left, own_left}
-use Rattle.kernel_history.specs.Ways.{ways}
-use Rattle.trace_laws.proofs.Carries.{Carries}
-use Rattle.stage_pins.specs.declared.held.Acquired.{Acquired}
-use Rattle.act_states.specs.declared.invocations.Returning.{Returning}
-use Rattle.act_states.specs.declared.invocations.ReturningAt.{ReturningAt}
-use Rattle.act_states.specs.declared.invocations.ReturningAt.TheVariants.{LoadBelow, LoadTable, LoadPages, Draw}
-use Rattle.act_states.specs.declared.work.Act.{Act as ActOf}
-use Rattle.act_states.specs.declared.work.Act.TheVariants.{Return as return_act}
-use Rattle.act_states.specs.declared.work.Work.TheVariants.{Act}
-use Rattle.act_states.specs.declared.work.WorkStep.TheVariants.{Goes}
-use Rattle.act_states.specs.Invocations.{ReturningFits, frame_in, frame_of_stack, below_in}
-use Rattle.act_states.specs.Acts.{dues, returning_dues, next_work, meets_below, meets_below_table, meets_below_pages}
-use Rattle.call_stages.specs.declared.stages.Stage.TheVariants.{Undecided}
-use Rattle.call_stages.specs.declared.stages.ActiveCall.{ActiveCall}
-use Rattle.call_stages.specs.Fits.{StageFits, HasRoom}
-use Rattle.call_stages.specs.Steps.{landed}
-use Rattle.call_stages.specs.View.{Core}
-use Rattle.core_invariant.specs.Components.{HasComp, IsBelow, HasLoadedBelow, KnowsReturning, below_of}
-use Rattle.core_invariant.specs.Holding.{holds_counts}
-use Rattle.core_invariant.specs.Knows.{due_of, KnowsUndecided, phase_at}
-use Rattle.core_invariant.specs.Invariant.{holds_at, holds_in, holds, Invariant}
-use Rattle.core_invariant.proofs.Bare.{counts_bare}
-use Rattle.kept_facts.proofs.Carries.{names_on, returning_on}
-use Rattle.step_ways.proofs.Loads.{OnlyLooks, step_to, next_at, call_is, is_active, loads_on}
-use Rattle.step_ways.proofs.Refusals.{GoodTook}
-use Rattle.count_invariant.proofs.Acquiring.{knows_next, next_holds, one_apart}
-use Rattle.count_invariant.proofs.StackCounts.{stack_near, thread_near, below_one}
+use Rattle.live_invariant.proofs.Common.{IsSome, ◌≡◌, inl, ℕ, suc, ◌<◌, ◌≤◌, ◌+◌, ◌-◌, ◌==◌, ◌++◌, map, length, nat_le, nat_lt, Bool}
+use Rattle.live_invariant.proofs.Common.{true, false, if◌then◌else◌, List, [], ◌∷◌, Option, Some, None, IsTrue, arith, refl, sym, ◌∙◌, ap}
+use Rattle.live_invariant.proofs.Common.{subst, lt-leb, lt-ltb, All-nil, Setting, IsSetting, stack_of_word, EntryAt, LoadOf, CompFields}
+use Rattle.live_invariant.proofs.Common.{State, first_of_stack, comp_in, thread_of, Slot, Found, unless, first_of, rule_of, change_of}
+use Rattle.live_invariant.proofs.Common.{is_one_of, frames_near, HasReached, at_height, Step, Trace, Open, phase, state_after, last_left}
+use Rattle.live_invariant.proofs.Common.{own_left, ways, Carries, Acquired, ReturningAt, Act, Goes, frame_in, dues, returning_dues}
+use Rattle.live_invariant.proofs.Common.{next_work, Undecided, ActiveCall, StageFits, HasRoom, landed, Core, HasComp, below_of}
+use Rattle.live_invariant.proofs.Common.{holds_counts, due_of, KnowsUndecided, phase_at, holds_at, holds_in, holds, Invariant}
+use Rattle.live_invariant.proofs.Common.{counts_bare, names_on}
+use Rattle.std.proofs.Common.{drop}
+use Rattle.live_invariant.specs.spk_nums.specs.declared.replies.Reply.TheVariants as reply
+use Rattle.live_invariant.specs.kernel_rules.specs.InvocationCalls.{pops}
+use Rattle.live_invariant.specs.act_states.specs.declared.invocations.Returning.{Returning}
+use Rattle.live_invariant.specs.act_states.specs.declared.invocations.ReturningAt.TheVariants.{LoadBelow, LoadTable, LoadPages, Draw}
+use Rattle.live_invariant.specs.act_states.specs.declared.work.Act.{Act as ActOf}
+use Rattle.live_invariant.specs.act_states.specs.declared.work.Act.TheVariants.{Return as return_act}
+use Rattle.live_invariant.specs.act_states.specs.Invocations.{ReturningFits, frame_of_stack, below_in}
+use Rattle.live_invariant.specs.act_states.specs.Acts.{meets_below, meets_below_table, meets_below_pages}
+use Rattle.live_invariant.specs.core_invariant.specs.Components.{IsBelow, HasLoadedBelow, KnowsReturning}
+use Rattle.live_invariant.specs.kept_facts.proofs.Carries.{returning_on}
+use Rattle.live_invariant.specs.step_ways.proofs.Loads.{OnlyLooks, step_to, next_at, call_is, is_active, loads_on}
+use Rattle.live_invariant.specs.step_ways.proofs.Refusals.{GoodTook}
+use Rattle.live_invariant.specs.count_invariant.proofs.Acquiring.{knows_next, next_holds, one_apart}
+use Rattle.live_invariant.specs.count_invariant.proofs.StackCounts.{stack_near, thread_near, below_one}
 use Rattle.thread_invariant.proofs.EntryMarks.{counts_apart}
 use Rattle.thread_invariant.proofs.CompWords.{comp_says, table_below, pages_below, comp_below}
 use Rattle.thread_invariant.proofs.Heights.{at_below}

@@ -1,12 +1,8 @@
 -- The state in which the current thread of a core has another stack, after a call that is carried out.
-use Rattle.std.proofs.Common.{◌≡◌, ◌≢◌, ◌<◌, ◌+◌, ℕ, List, refl, ◌∙◌, ap, arith}
-use Rattle.kernel_rules.specs.State.{Grace, Thing, ThreadFields, Kernel, Thread, State, thread_in, thread_of, with_grace}
-use Rattle.kernel_rules.specs.References.{times, frame_names, refs}
-use Rattle.kernel_rules.specs.InvocationCalls.{with_thread, with_stack}
-use Rattle.kernel_rules.specs.CallRelation.{counted}
-use Rattle.kernel_invariant.proofs.Refs.{frame_refs, grace_refs}
-use Rattle.kernel_rules.proofs.Within.{put_same, put_other}
-use Rattle.kept_facts.proofs.CountSums.{counted_refs}
+use Rattle.live_invariant.proofs.Common.{◌≡◌, ◌≢◌, ◌<◌, ◌+◌, ℕ, List, refl, ◌∙◌, ap, arith, Grace, Thing, ThreadFields, Kernel, Thread}
+use Rattle.live_invariant.proofs.Common.{State, thread_in, thread_of, with_grace, times, frame_names, refs, counted, frame_refs}
+use Rattle.live_invariant.proofs.Common.{grace_refs, put_same, put_other, counted_refs}
+use Rattle.live_invariant.specs.kernel_rules.specs.InvocationCalls.{with_thread, with_stack}
 
 abbrev pub stacked : State → ℕ → List ℕ → (Thing → Grace) → State
 stacked s c fs graces = counted (with_grace (with_stack s c fs) graces) c

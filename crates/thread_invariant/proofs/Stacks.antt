@@ -1,37 +1,23 @@
 -- The stores of a push and of a pop are good.
-use Rattle.std.proofs.Common.{◌≡◌, ◌≢◌, ◌⊎◌, inl, inr, ℕ, ◌+◌, ◌-◌, ◌≤◌, ◌^◌, ◌<◌, ◌==◌, ◌&&◌, Bool, true}
-use Rattle.std.proofs.Common.{false, if◌then◌else◌, List, Option, Some, None, arith, refl, sym, ◌∙◌, ap, subst}
-use Rattle.std.proofs.lemmas.Bool.{eqb-true, eq-eqb, ne_eqb}
-use Rattle.spk_nums.specs.Setting.{Setting, IsSetting}
-use Rattle.spk_nums.specs.declared.replies.Reply.{Reply}
-use Rattle.word_map.specs.Word.{Word, EntryAt}
-use Rattle.tcap_words.specs.Stack.{word_of_stack}
-use Rattle.tcap_words.specs.Thread.{ThreadFits, word_of_thread, thread_of_word}
-use Rattle.tcap_words.specs.declared.thread_word.ThreadWord.TheVariants.{Running}
-use Rattle.tcap_words.proofs.StackLemmas as stacks
-use Rattle.tcap_words.proofs.ThreadLemmas as threads
-use Rattle.stage_thread.specs.Stacking.{push_move, pop_move}
-use Rattle.stage_thread.specs.declared.stack.Push.{Push as PushOf}
-use Rattle.stage_thread.specs.declared.stack.Push.TheVariants as push
-use Rattle.stage_thread.specs.declared.stack.Pop.{Pop as PopOf}
-use Rattle.stage_thread.specs.declared.stack.Pop.TheVariants as pop
-use Rattle.stage_pins.specs.declared.held.Acquired.{Acquired}
-use Rattle.kernel_rules.specs.State.{ThreadFields, Kernel, Thread}
-use Rattle.kernel_history.specs.Marks.{thread_mark, mark_in_frame}
-use Rattle.kernel_history.specs.Trace.{Trace}
-use Rattle.act_states.specs.declared.work.Tail.TheVariants.{Nothing, Push, Pop}
-use Rattle.call_stages.specs.declared.stages.Stage.TheVariants.{Decided}
-use Rattle.call_stages.specs.declared.stages.ActiveCall.{ActiveCall}
-use Rattle.call_stages.specs.Fits.{StageFits}
-use Rattle.call_stages.specs.Steps.{GoesOn, went_with}
-use Rattle.call_stages.specs.Tails.{pushed_on, popped_on}
-use Rattle.call_stages.specs.View.{Core}
-use Rattle.core_invariant.specs.Holding.{Holding, keeps_bare, holds_counts}
-use Rattle.core_invariant.specs.Knows.{KnowsPush, KnowsPop}
-use Rattle.core_invariant.specs.Invariant.{done_by, holds_push, holds_pop, Invariant}
-use Rattle.core_invariant.proofs.Bare.{AsBefore, counts_bare}
-use Rattle.step_ways.proofs.Loads.{core_is, is_active}
-use Rattle.step_ways.proofs.Refusals.{GoodTook}
+use Rattle.live_invariant.proofs.Common.{◌≡◌, ◌≢◌, ◌⊎◌, inl, inr, ℕ, ◌+◌, ◌-◌, ◌≤◌, ◌^◌, ◌<◌, ◌==◌, ◌&&◌, Bool, true, false}
+use Rattle.live_invariant.proofs.Common.{if◌then◌else◌, List, Option, Some, None, arith, refl, sym, ◌∙◌, ap, subst, eqb-true, eq-eqb}
+use Rattle.live_invariant.proofs.Common.{ne_eqb, Setting, IsSetting, Reply, Word, EntryAt, word_of_stack, ThreadFits, word_of_thread}
+use Rattle.live_invariant.proofs.Common.{thread_of_word, Running, Acquired, ThreadFields, Kernel, Thread, thread_mark, mark_in_frame}
+use Rattle.live_invariant.proofs.Common.{Trace, Nothing, Push, Pop, Decided, ActiveCall, StageFits, GoesOn, went_with, Core, Holding}
+use Rattle.live_invariant.proofs.Common.{holds_counts, done_by, Invariant, AsBefore, counts_bare}
+use Rattle.live_invariant.specs.tcap_words.proofs.StackLemmas as stacks
+use Rattle.live_invariant.specs.tcap_words.proofs.ThreadLemmas as threads
+use Rattle.live_invariant.specs.stage_thread.specs.Stacking.{push_move, pop_move}
+use Rattle.live_invariant.specs.stage_thread.specs.declared.stack.Push.{Push as PushOf}
+use Rattle.live_invariant.specs.stage_thread.specs.declared.stack.Push.TheVariants as push
+use Rattle.live_invariant.specs.stage_thread.specs.declared.stack.Pop.{Pop as PopOf}
+use Rattle.live_invariant.specs.stage_thread.specs.declared.stack.Pop.TheVariants as pop
+use Rattle.live_invariant.specs.call_stages.specs.Tails.{pushed_on, popped_on}
+use Rattle.live_invariant.specs.core_invariant.specs.Holding.{keeps_bare}
+use Rattle.live_invariant.specs.core_invariant.specs.Knows.{KnowsPush, KnowsPop}
+use Rattle.live_invariant.specs.core_invariant.specs.Invariant.{holds_push, holds_pop}
+use Rattle.live_invariant.specs.step_ways.proofs.Loads.{core_is, is_active}
+use Rattle.live_invariant.specs.step_ways.proofs.Refusals.{GoodTook}
 use Rattle.thread_invariant.proofs.Stores.{stack_good}
 
 -- A word that is kept, and another.

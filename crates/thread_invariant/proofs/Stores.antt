@@ -1,37 +1,21 @@
 -- A store of a word of its thread that a core keeps without a mark, after its call is decided: the word settles to what is stored, and the
 -- core keeps it no longer.
-use Rattle.std.proofs.Common.{◌≡◌, ◌≢◌, inl, inr, ℕ, ◌≤◌, ◌^◌, ◌<◌, ◌==◌, ◌||◌, true, false, if◌then◌else◌, List}
-use Rattle.std.proofs.Common.{[], ◌∷◌, ◌++◌, length, Option, Some, None, IsTrue, arith, refl, sym, ◌∙◌, ap, subst}
-use Rattle.std.proofs.lemmas.Bool.{cases_eq, eq-eqb}
-use Rattle.spk_nums.specs.Setting.{Setting, IsSetting}
-use Rattle.spk_nums.specs.declared.replies.Reply.{Reply}
-use Rattle.word_map.specs.Word.{Word, EntryAt, ClockAt}
-use Rattle.word_map.specs.Moves.{Move, StoreOf}
-use Rattle.kernel_rules.specs.State.{ThreadFields, Frame, Untyped, User, Kernel, Blank, Table, Leaf, Pages}
-use Rattle.kernel_rules.specs.State.{Pleaf, Comp, Thread, Tcap, State, thread_in, thread_of, comp_of, put}
-use Rattle.kernel_rules.proofs.Within.{put_same, put_other}
-use Rattle.kernel_history.specs.Discipline.{changes_threads, changes_in_frame}
-use Rattle.kernel_history.specs.Footprint.{is_one_of, frames_own, frames_near}
-use Rattle.kernel_history.specs.Marks.{mark_in_frame}
-use Rattle.kernel_history.specs.Marking.{marked_by}
-use Rattle.kernel_history.specs.Trace.{Step, Trace, state_after, last_left}
-use Rattle.stage_pins.specs.declared.held.Acquired.{Acquired}
-use Rattle.plan_ways.proofs.Near.{one_left}
-use Rattle.act_states.specs.declared.work.Tail.{Tail}
-use Rattle.call_stages.specs.declared.stages.Stage.TheVariants.{Decided}
-use Rattle.call_stages.specs.declared.stages.ActiveCall.{ActiveCall}
-use Rattle.call_stages.specs.Steps.{GoesOn, went_with}
-use Rattle.call_stages.specs.View.{Core}
-use Rattle.core_invariant.specs.Holding.{Holding, holds_counts, settled_by}
-use Rattle.core_invariant.specs.Knows.{phase_at, KnowsTail}
-use Rattle.core_invariant.specs.Invariant.{done_by, holds_tail, holds_at, holds_in, holds, held_by, IsLent, IsOfThread, Invariant}
-use Rattle.core_invariant.proofs.Bare.{AsBefore, none_kept}
-use Rattle.kept_facts.proofs.Carries.{counts_on}
-use Rattle.step_ways.proofs.Counting as counters
-use Rattle.step_ways.proofs.Good.{Spared}
-use Rattle.kept_facts.proofs.Lent.{lent_unmarked, one_keeper, own_value}
-use Rattle.step_ways.proofs.Loads.{core_in_call, inner, call_is}
-use Rattle.step_ways.proofs.Refusals.{GoodTook}
+use Rattle.live_invariant.proofs.Common.{◌≡◌, ◌≢◌, inl, inr, ℕ, ◌≤◌, ◌^◌, ◌<◌, ◌==◌, ◌||◌, true, false, if◌then◌else◌, List, [], ◌∷◌}
+use Rattle.live_invariant.proofs.Common.{◌++◌, length, Option, Some, None, IsTrue, arith, refl, sym, ◌∙◌, ap, subst, cases_eq, eq-eqb}
+use Rattle.live_invariant.proofs.Common.{Setting, IsSetting, Reply, Word, EntryAt, ClockAt, Move, StoreOf, ThreadFields, Frame, Untyped}
+use Rattle.live_invariant.proofs.Common.{User, Kernel, Blank, Table, Leaf, Pages, Pleaf, Comp, Thread, Tcap, State, thread_in, thread_of}
+use Rattle.live_invariant.proofs.Common.{comp_of, put, put_same, put_other, changes_threads, changes_in_frame, is_one_of, frames_own}
+use Rattle.live_invariant.proofs.Common.{frames_near, mark_in_frame, marked_by, Step, Trace, state_after, last_left, Acquired, Tail}
+use Rattle.live_invariant.proofs.Common.{Decided, ActiveCall, GoesOn, went_with, Core, Holding, holds_counts, settled_by, phase_at}
+use Rattle.live_invariant.proofs.Common.{KnowsTail, done_by, holds_tail, holds_at, holds_in, holds, held_by, IsLent, Invariant, AsBefore}
+use Rattle.live_invariant.proofs.Common.{none_kept, counts_on}
+use Rattle.live_invariant.specs.plan_ways.proofs.Near.{one_left}
+use Rattle.live_invariant.specs.core_invariant.specs.Invariant.{IsOfThread}
+use Rattle.live_invariant.specs.step_ways.proofs.Counting as counters
+use Rattle.live_invariant.specs.step_ways.proofs.Good.{Spared}
+use Rattle.live_invariant.specs.kept_facts.proofs.Lent.{lent_unmarked, one_keeper, own_value}
+use Rattle.live_invariant.specs.step_ways.proofs.Loads.{core_in_call, inner, call_is}
+use Rattle.live_invariant.specs.step_ways.proofs.Refusals.{GoodTook}
 
 none_some : (d : ℕ) → None ≡ Some d → ⊥
 none_some d h = cc

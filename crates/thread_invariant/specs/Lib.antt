@@ -1,0 +1,21 @@
+-- What the crates above name through this one.
+pub use Rattle.live_invariant.specs.spk_nums
+pub use Rattle.live_invariant.specs.tcap_words
+pub use Rattle.live_invariant.specs.word_map
+pub use Rattle.live_invariant.specs.kernel_rules
+pub use Rattle.live_invariant.specs.kernel_invariant
+pub use Rattle.live_invariant.specs.found_stays
+pub use Rattle.live_invariant.specs.kernel_history
+pub use Rattle.live_invariant.specs.trace_laws
+pub use Rattle.live_invariant.specs.call_plans
+pub use Rattle.live_invariant.specs.stage_pins
+pub use Rattle.live_invariant.specs.stage_quiet
+pub use Rattle.live_invariant.specs.stage_thread
+pub use Rattle.live_invariant.specs.plan_ways
+pub use Rattle.live_invariant.specs.act_states
+pub use Rattle.live_invariant.specs.call_stages
+pub use Rattle.live_invariant.specs.core_invariant
+pub use Rattle.live_invariant.specs.kept_facts
+pub use Rattle.live_invariant.specs.step_ways
+pub use Rattle.live_invariant.specs.count_invariant
+pub use Rattle.live_invariant

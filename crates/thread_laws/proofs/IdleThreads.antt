@@ -3,35 +3,36 @@
 use Rattle.std.proofs.Common.{◌≡◌, ◌≢◌, ◌⊎◌, inl, inr, ℕ, ◌-◌, Bool, true, false, refl, sym}
 use Rattle.std.proofs.Common.{◌∙◌, ap, subst, IsTrue, List, [], ◌∷◌, Option, Some, None}
 use Rattle.std.proofs.lemmas.Bool.{false≢true, cases_eq, eq-eqb}
-use Rattle.spk_nums.specs.declared.kinds.Kind.{Kind}
-use Rattle.spk_nums.specs.declared.kinds.Kind.TheVariants as kind
-use Rattle.spk_nums.specs.declared.kinds.FrameKind.{FrameKind}
-use Rattle.spk_nums.specs.declared.kinds.FrameKind.TheVariants as frame_kind
-use Rattle.spk_nums.specs.declared.calls.Make.{Make}
-use Rattle.spk_nums.specs.declared.calls.Make.TheVariants as make
-use Rattle.spk_nums.specs.declared.calls.Call.{Call}
-use Rattle.spk_nums.specs.declared.calls.Call.TheVariants.{Look, Copy, Remove, Grow, Shrink, Retype, Make as make_call}
-use Rattle.spk_nums.specs.declared.calls.Call.TheVariants.{Map, Unmap, Touch, Flush, Gate, Kill, Call as call_gate}
-use Rattle.spk_nums.specs.declared.calls.Call.TheVariants.{Ret, Switch, Tick, Transfer, Delegate, Test}
-use Rattle.spk_nums.specs.declared.translations.Translation.{Translation}
-use Rattle.spk_nums.specs.declared.replies.Reply.{Reply}
-use Rattle.spk_nums.specs.declared.replies.Reply.TheVariants as reply
-use Rattle.kernel_rules.specs.State.{ThreadFields, TcapFields, Object, Blank, Table, Leaf, Pages, Pleaf, Comp, Thread, Tcap}
-use Rattle.kernel_rules.specs.State.{Frame, Untyped, User, Kernel, FrameOf, State, put, comp_of, thread_in, thread_of}
-use Rattle.kernel_rules.specs.Access.{Named, found}
-use Rattle.kernel_rules.specs.Fitting.{fits}
-use Rattle.kernel_rules.specs.Rules.{Change, Judged, Refused, Found}
-use Rattle.kernel_rules.specs.CapabilityCalls.{make_node, make_rule, not_taken}
-use Rattle.kernel_rules.specs.MemoryCalls.{retype_rule, touch_by, translation_of}
-use Rattle.kernel_rules.specs.InvocationCalls.{with_thread, running, switch_to}
-use Rattle.kernel_rules.specs.TimeCalls.{with_tcap, with_budget, with_qualities, tcap_at, moved, merged_list}
-use Rattle.kernel_rules.specs.CallRelation.{rule_of, change_of, changed, owed_by, state_by, ends, ends_by}
-use Rattle.kernel_invariant.proofs.Sound.{put_all}
-use Rattle.kernel_rules.proofs.Within.{put_same, put_other}
-use Rattle.kernel_invariant.proofs.SoundCalls.{IsOpen, blank_by, untyped_by}
-use Rattle.kernel_invariant.proofs.Facts.{ChangesFrom, outcome_from, none_some, some_none}
-use Rattle.kernel_rules.proofs.Changes.{IfFound}
-use Rattle.found_stays.proofs.Spares.{RunsOn}
+use Rattle.trace_laws.specs.spk_nums.specs.declared.kinds.Kind.{Kind}
+use Rattle.trace_laws.specs.spk_nums.specs.declared.kinds.Kind.TheVariants as kind
+use Rattle.trace_laws.specs.spk_nums.specs.declared.kinds.FrameKind.{FrameKind}
+use Rattle.trace_laws.specs.spk_nums.specs.declared.kinds.FrameKind.TheVariants as frame_kind
+use Rattle.trace_laws.specs.spk_nums.specs.declared.calls.Make.{Make}
+use Rattle.trace_laws.specs.spk_nums.specs.declared.calls.Make.TheVariants as make
+use Rattle.trace_laws.specs.spk_nums.specs.declared.calls.Call.{Call}
+use Rattle.trace_laws.specs.spk_nums.specs.declared.calls.Call.TheVariants.{Look, Copy, Remove, Grow, Shrink, Retype, Make as make_call}
+use Rattle.trace_laws.specs.spk_nums.specs.declared.calls.Call.TheVariants.{Map, Unmap, Touch, Flush, Gate, Kill, Call as call_gate}
+use Rattle.trace_laws.specs.spk_nums.specs.declared.calls.Call.TheVariants.{Ret, Switch, Tick, Transfer, Delegate, Test}
+use Rattle.trace_laws.specs.spk_nums.specs.declared.translations.Translation.{Translation}
+use Rattle.trace_laws.specs.spk_nums.specs.declared.replies.Reply.{Reply}
+use Rattle.trace_laws.specs.spk_nums.specs.declared.replies.Reply.TheVariants as reply
+use Rattle.trace_laws.specs.kernel_rules.specs.State.{ThreadFields, TcapFields, Object, Blank, Table, Leaf, Pages, Pleaf, Comp, Thread}
+use Rattle.trace_laws.specs.kernel_rules.specs.State.{Tcap}
+use Rattle.trace_laws.specs.kernel_rules.specs.State.{Frame, Untyped, User, Kernel, FrameOf, State, put, comp_of, thread_in, thread_of}
+use Rattle.trace_laws.specs.kernel_rules.specs.Access.{Named, found}
+use Rattle.trace_laws.specs.kernel_rules.specs.Fitting.{fits}
+use Rattle.trace_laws.specs.kernel_rules.specs.Rules.{Change, Judged, Refused, Found}
+use Rattle.trace_laws.specs.kernel_rules.specs.CapabilityCalls.{make_node, make_rule, not_taken}
+use Rattle.trace_laws.specs.kernel_rules.specs.MemoryCalls.{retype_rule, touch_by, translation_of}
+use Rattle.trace_laws.specs.kernel_rules.specs.InvocationCalls.{with_thread, running, switch_to}
+use Rattle.trace_laws.specs.kernel_rules.specs.TimeCalls.{with_tcap, with_budget, with_qualities, tcap_at, moved, merged_list}
+use Rattle.trace_laws.specs.kernel_rules.specs.CallRelation.{rule_of, change_of, changed, owed_by, state_by, ends, ends_by}
+use Rattle.trace_laws.specs.kernel_invariant.proofs.Sound.{put_all}
+use Rattle.trace_laws.specs.kernel_rules.proofs.Within.{put_same, put_other}
+use Rattle.trace_laws.specs.kernel_invariant.proofs.SoundCalls.{IsOpen, blank_by, untyped_by}
+use Rattle.trace_laws.specs.kernel_invariant.proofs.Facts.{ChangesFrom, outcome_from, none_some, some_none}
+use Rattle.trace_laws.specs.kernel_rules.proofs.Changes.{IfFound}
+use Rattle.trace_laws.specs.found_stays.proofs.Spares.{RunsOn}
 
 -- Whether a frame has a thread, and where that runs.
 abbrev pub is_thread : Frame → Bool

@@ -2,26 +2,26 @@
 use Rattle.std.proofs.Common.{◌≡◌, ◌≢◌, ◌⊎◌, inl, inr, ℕ, ◌<◌, Bool, true, false, refl}
 use Rattle.std.proofs.Common.{sym, ◌∙◌, ap, subst, IsTrue, ◌∷◌, Option, Some, None, arith}
 use Rattle.std.proofs.lemmas.Bool.{false≢true}
-use Rattle.spk_nums.specs.Setting.{Setting, IsSetting}
-use Rattle.spk_nums.specs.declared.calls.Call.{Call}
-use Rattle.spk_nums.specs.declared.replies.Reply.{Reply}
-use Rattle.kernel_rules.specs.State.{Frame, FrameOf, State}
-use Rattle.kernel_rules.specs.References.{refs}
-use Rattle.kernel_rules.specs.Relies.{IsGuarded}
-use Rattle.kernel_rules.specs.CallRelation.{MayReply, ends}
-use Rattle.kernel_rules.specs.Runs.{after, core_of}
-use Rattle.kernel_rules.specs.Runs as plain
-use Rattle.kernel_invariant.proofs.Ends.{MayEnd, ends_by_rule}
-use Rattle.found_stays.proofs.Spares.{RunsOn}
-use Rattle.found_stays.proofs.SparesRuns.{runs_of, inside_of, inside_facts}
-use Rattle.kernel_invariant.proofs.SoundRuns.{opened}
-use Rattle.found_stays.proofs.Stays.{event_stay_in}
-use Rattle.kernel_history.specs.Events.{with_entry, events_of, plain_phase}
-use Rattle.kernel_history.specs.Legal.{MayDecide, MayFollow, IsLegal}
-use Rattle.kernel_history.specs.Stamps.{is_in}
-use Rattle.kernel_history.specs.Trace.{Step, Trace, Phase, Out, Open, Decided, phase, after_enter, state_after}
-use Rattle.kernel_history.specs.Trace.{state_entered, state_decided, state_returned, state_before}
-use Rattle.kernel_history.proofs.Events.{entered_events, before_is, entry_apart, entered_run, phase_is, run_of, state_is}
+use Rattle.trace_laws.specs.spk_nums.specs.Setting.{Setting, IsSetting}
+use Rattle.trace_laws.specs.spk_nums.specs.declared.calls.Call.{Call}
+use Rattle.trace_laws.specs.spk_nums.specs.declared.replies.Reply.{Reply}
+use Rattle.trace_laws.specs.kernel_rules.specs.State.{Frame, FrameOf, State}
+use Rattle.trace_laws.specs.kernel_rules.specs.References.{refs}
+use Rattle.trace_laws.specs.kernel_rules.specs.Relies.{IsGuarded}
+use Rattle.trace_laws.specs.kernel_rules.specs.CallRelation.{MayReply, ends}
+use Rattle.trace_laws.specs.kernel_rules.specs.Runs.{after, core_of}
+use Rattle.trace_laws.specs.kernel_rules.specs.Runs as plain
+use Rattle.trace_laws.specs.kernel_invariant.proofs.Ends.{MayEnd, ends_by_rule}
+use Rattle.trace_laws.specs.found_stays.proofs.Spares.{RunsOn}
+use Rattle.trace_laws.specs.found_stays.proofs.SparesRuns.{runs_of, inside_of, inside_facts}
+use Rattle.trace_laws.specs.kernel_invariant.proofs.SoundRuns.{opened}
+use Rattle.trace_laws.specs.found_stays.proofs.Stays.{event_stay_in}
+use Rattle.trace_laws.specs.kernel_history.specs.Events.{with_entry, events_of, plain_phase}
+use Rattle.trace_laws.specs.kernel_history.specs.Legal.{MayDecide, MayFollow, IsLegal}
+use Rattle.trace_laws.specs.kernel_history.specs.Stamps.{is_in}
+use Rattle.trace_laws.specs.kernel_history.specs.Trace.{Step, Trace, Phase, Out, Open, Decided, phase, after_enter, state_after}
+use Rattle.trace_laws.specs.kernel_history.specs.Trace.{state_entered, state_decided, state_returned, state_before}
+use Rattle.trace_laws.specs.kernel_history.proofs.Events.{entered_events, before_is, entry_apart, entered_run, phase_is, run_of, state_is}
 use Rattle.trace_laws.proofs.Opens.{opens, open_inj}
 use Rattle.thread_laws.proofs.IdleThreads.{is_thread, runs_at, RestsIn, decided_rests}
 

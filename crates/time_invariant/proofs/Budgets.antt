@@ -1,18 +1,10 @@
 -- The numbers of a core and of temporal capabilities after a legal trace.
-use Rattle.std.proofs.Common.{◌≡◌, ℕ, ◌*◌, ◌^◌, ◌<◌, ◌≤◌, arith, refl, sym, ap, subst, IsTrue}
-use Rattle.std.proofs.lemmas.Bool.{false≢true}
-use Rattle.spk_nums.specs.Setting.{Setting, IsSetting}
-use Rattle.spk_nums.specs.declared.kinds.Kind.TheVariants as kind
-use Rattle.kernel_rules.specs.Fitting.{fits}
-use Rattle.kernel_rules.specs.Ranges.{CoreInRange, InRanges}
-use Rattle.kernel_rules.specs.State.{Frame, Kernel, Tcap, TcapFields, State}
+use Rattle.step_ways.proofs.Common.{◌≡◌, ℕ, ◌*◌, ◌^◌, ◌<◌, ◌≤◌, arith, refl, sym, ap, subst, IsTrue, false≢true, Setting, IsSetting, fits}
+use Rattle.step_ways.proofs.Common.{InRanges, Frame, Kernel, Tcap, TcapFields, State, events_of, IsLegal, Trace, state_after, state_is}
+use Rattle.step_ways.proofs.Common.{run_of, sound_of, limits_of}
+use Rattle.kernel_laws.specs.spk_nums.specs.declared.kinds.Kind.TheVariants as kind
+use Rattle.kernel_laws.specs.kernel_rules.specs.Ranges.{CoreInRange}
 use Rattle.kernel_laws.proofs.RangesLaw.{ranges_hold}
-use Rattle.kernel_history.specs.Events.{events_of}
-use Rattle.kernel_history.specs.Legal.{IsLegal}
-use Rattle.kernel_history.specs.Trace.{Trace, state_after}
-use Rattle.kernel_history.proofs.Events.{state_is, run_of}
-use Rattle.trace_laws.proofs.Stays.{sound_of}
-use Rattle.core_invariant.proofs.Sounds.{limits_of}
 
 -- A frame has a temporal capability.
 pub record IsTcap (x : Frame) : Type 0 where

@@ -1,14 +1,9 @@
 -- The calls that charge ticks, and what lies near them.
-use Rattle.std.proofs.Common.{◌≡◌, ℕ, ◌||◌, ◌++◌, ◌==◌, Bool, true, false, [], ◌∷◌, refl, sym, ◌∙◌, ap, subst}
-use Rattle.std.proofs.lemmas.Bool.{eq-eqb}
-use Rattle.spk_nums.specs.declared.calls.Call.{Call}
-use Rattle.spk_nums.specs.declared.calls.Call.TheVariants.{Tick}
-use Rattle.kernel_rules.specs.State.{Frame, Kernel, Tcap, TcapFields, State, thread_of, comp_of}
-use Rattle.kernel_history.specs.Footprint.{is_one_of, frames_own, frames_near}
-use Rattle.kernel_history.specs.Justified.{HasRacedHead}
+use Rattle.step_ways.proofs.Common.{◌≡◌, ℕ, ◌||◌, ◌++◌, ◌==◌, Bool, true, false, [], ◌∷◌, refl, sym, ◌∙◌, ap, subst, eq-eqb, Call, Tick}
+use Rattle.step_ways.proofs.Common.{Frame, Kernel, Tcap, TcapFields, State, thread_of, comp_of, is_one_of, frames_own, frames_near}
+use Rattle.step_ways.proofs.Common.{HasRacedHead, Charge, ChargesBy}
 use Rattle.plan_ways.proofs.Near.{one_left}
-use Rattle.stage_tcap.specs.declared.charge.Charge.{Charge}
-use Rattle.core_invariant.specs.Knows.{IsCharge, ChargesBy}
+use Rattle.step_ways.specs.core_invariant.specs.Knows.{IsCharge}
 
 -- The call that charges ticks.
 pub record IsTick (s : State) (c : ℕ) (call : Call) (charge_at : Charge) : Type 0 where

@@ -1,24 +1,13 @@
 -- A step of a tick keeps the invariant, whichever it is.
-use Rattle.std.specs.Prelude.{min}
-use Rattle.std.proofs.Common.{◌≡◌, ℕ, ◌<◌, ◌==◌, Bool, true, false, Some, refl, sym, subst}
-use Rattle.spk_nums.specs.Setting.{Setting, IsSetting}
-use Rattle.tcap_words.specs.Head.{word_of_head, head_of_word}
-use Rattle.word_map.specs.Word.{EntryAt}
-use Rattle.word_map.specs.Moves.{LoadOf, CompareOf, word_of, told_of}
-use Rattle.kernel_history.specs.Trace.{Trace, state_after, last_left}
-use Rattle.stage_tcap.specs.Heads.{head, debited}
-use Rattle.stage_tcap.specs.Charging.{charge_move, after_head, head_end, charged_end}
-use Rattle.stage_tcap.specs.declared.charge.Charge.{Charge}
-use Rattle.stage_tcap.specs.declared.charge.Charge.TheVariants.{AtLoad, AtCompare}
-use Rattle.act_states.specs.Ticks.{took_charge, took_tick}
-use Rattle.act_states.specs.declared.work.Act.TheVariants.{Tick as tick_act}
-use Rattle.act_states.specs.declared.work.Work.TheVariants.{Act}
-use Rattle.call_stages.specs.declared.stages.Stage.TheVariants.{Undecided}
-use Rattle.call_stages.specs.declared.stages.ActiveCall.{ActiveCall}
-use Rattle.call_stages.specs.Steps.{landed}
-use Rattle.call_stages.specs.View.{Core}
-use Rattle.core_invariant.specs.Knows.{ChargesBy, HasHead, KnowsUndecided}
-use Rattle.core_invariant.specs.Invariant.{Invariant}
+use Rattle.step_ways.proofs.Common.{min, ◌≡◌, ℕ, ◌<◌, ◌==◌, Bool, true, false, Some, refl, sym, subst, Setting, IsSetting, word_of_head}
+use Rattle.step_ways.proofs.Common.{head_of_word, EntryAt, LoadOf, CompareOf, word_of, told_of, Trace, state_after, last_left, head}
+use Rattle.step_ways.proofs.Common.{debited, head_end, Charge, Act, Undecided, ActiveCall, landed, Core, ChargesBy, KnowsUndecided}
+use Rattle.step_ways.proofs.Common.{Invariant}
+use Rattle.step_ways.specs.stage_tcap.specs.Charging.{charge_move, after_head, charged_end}
+use Rattle.step_ways.specs.stage_tcap.specs.declared.charge.Charge.TheVariants.{AtLoad, AtCompare}
+use Rattle.step_ways.specs.act_states.specs.Ticks.{took_charge, took_tick}
+use Rattle.step_ways.specs.act_states.specs.declared.work.Act.TheVariants.{Tick as tick_act}
+use Rattle.step_ways.specs.core_invariant.specs.Knows.{HasHead}
 use Rattle.step_ways.proofs.Refusals.{GoodTook}
 use Rattle.time_invariant.proofs.TickCalls.{tick_of}
 use Rattle.time_invariant.proofs.Ticks.{here_is, load_good, won_good, lost_good}

@@ -1,88 +1,46 @@
 -- The steps of a tick are good: the load of the head of its core's temporal capability, and the compare, which is lost to another core or
 -- charges the ticks that are due.
-use Rattle.core_invariant.proofs.Bare.{counts_bare}
-use Rattle.kept_facts.proofs.Lent.{unlent_head_value, unlent_head_word, lent_none, lent_kept, lent_free}
-use Rattle.std.specs.Prelude.{min, IsSome}
-use Rattle.std.proofs.lemmas.List.Elements.{All-nil}
-use Rattle.std.proofs.Common.{◌≡◌, ◌≢◌, inl, inr, ℕ, zero, suc, map, ◌+◌, ◌-◌, ◌*◌, ◌^◌, ◌<◌, ◌≤◌, ◌==◌, true, false}
-use Rattle.std.proofs.Common.{List, [], ◌∷◌, length, Option, Some, None, arith, refl, sym, ◌∙◌, ap, subst, if◌then◌else◌}
-use Rattle.std.proofs.lemmas.Bool.{eqb-true, eqb-false, eq-eqb, cases_eq, false≢true}
-use Rattle.spk_nums.specs.Setting.{Setting, IsSetting}
-use Rattle.spk_nums.specs.CallLimits.{InLimits}
-use Rattle.spk_nums.specs.WordSteps.{left_if}
-use Rattle.spk_nums.specs.declared.calls.Call.{Call}
-use Rattle.spk_nums.specs.declared.calls.Call.TheVariants.{Tick}
-use Rattle.spk_nums.specs.declared.replies.Reply.{Reply}
-use Rattle.spk_nums.specs.declared.replies.Reply.TheVariants as reply
-use Rattle.spk_nums.specs.declared.replies.Value.TheVariants.{Amount}
-use Rattle.tcap_words.specs.Head.{HeadFits, word_of_head, head_of_word}
-use Rattle.tcap_words.specs.declared.head_word.HeadWord.{HeadWord}
-use Rattle.tcap_words.proofs.HeadLemmas.{spelling}
-use Rattle.word_map.specs.Word.{Word, EntryAt, FrameAt, CountAt, CoreAt, FlushAt, LiveAt, ClockAt}
-use Rattle.word_map.specs.Moves.{Move, LoadOf, CompareOf, word_of, left_of}
-use Rattle.kernel_rules.specs.State.{Core as CoreFields, Kernel, Tcap, TcapFields, tcap_in, Thing, PlaceOf, NumberOf, State}
-use Rattle.kernel_rules.specs.State.{put, with_frame, with_core, thread_in, comp_in, thread_of, comp_of, first_of_stack}
-use Rattle.kernel_rules.specs.References.{sum_below, refs, frame_names, times}
-use Rattle.kernel_rules.specs.Rules.{Change, Found, IsFoundAnd}
-use Rattle.kernel_rules.specs.TimeCalls.{owing, with_tcap, charge, charges}
-use Rattle.kernel_rules.specs.CallRelation.{rule_of, change_of, changed, counted, state_by, begins, ends, flushes, MayReply}
-use Rattle.kernel_rules.specs.Laws.{calls_counted}
-use Rattle.kernel_invariant.proofs.Refs.{frame_refs}
-use Rattle.kernel_invariant.proofs.Sums.{sum_one}
-use Rattle.found_stays.proofs.SparesRuns.{core_same_refs}
-use Rattle.kernel_rules.proofs.Within.{put_same, put_other}
-use Rattle.kernel_history.specs.Marks.{mark_of, mark_in_frame, head_mark}
-use Rattle.kernel_history.specs.Marking.{marked_by}
-use Rattle.kernel_history.specs.Alone.{IsAlone}
-use Rattle.kernel_history.specs.ObjectWords.{holds_node, frame_value}
-use Rattle.kernel_history.specs.Ways.{ways}
-use Rattle.kernel_rules.specs.Access.{Slot}
-use Rattle.kept_facts.proofs.Carries.{names_on}
-use Rattle.kernel_history.specs.Discipline.{changes_in_frame}
-use Rattle.kernel_history.specs.Footprint.{is_one_of, frames_near}
-use Rattle.kernel_history.specs.Justified.{HasReached, IsJustified, IsRaceLost, IsHeldUp}
-use Rattle.kernel_history.specs.Stamps.{begins_in, ends_in, flushes_in, stamp}
-use Rattle.kernel_history.specs.Trace.{Step, Trace, Open, phase, state_after, last_left, state_decided_in, own_left}
-use Rattle.trace_laws.proofs.AloneCalls.{ok_first}
-use Rattle.kernel_history.proofs.Inside.{decided-inside}
-use Rattle.kernel_history.proofs.Laws.{not_inside, not_changed}
-use Rattle.trace_laws.proofs.Small.{last_small}
-use Rattle.kernel_history.proofs.Steps.{own_read-here}
-use Rattle.stage_pins.specs.declared.held.Acquired.{Acquired}
-use Rattle.stage_tcap.specs.Heads.{head, raised, debited}
-use Rattle.stage_tcap.specs.Charging.{after_mark, after_head, end_by_mark, head_end, charged_end}
-use Rattle.stage_tcap.specs.declared.charge.Charge.{Charge}
-use Rattle.stage_tcap.specs.declared.charge.Charge.TheVariants.{AtLoad, AtCompare}
-use Rattle.act_states.specs.declared.own.Own.{Own}
-use Rattle.act_states.specs.declared.own.OwnChange.TheVariants.{Ticks}
-use Rattle.act_states.specs.OwnChanges.{own_changed}
-use Rattle.act_states.specs.Ticks.{ticks_of, owes, took_charge}
-use Rattle.act_states.specs.declared.work.Act.TheVariants.{Tick as tick_act}
-use Rattle.act_states.specs.declared.work.Work.TheVariants.{Act}
-use Rattle.act_states.specs.declared.work.Tail.TheVariants.{Nothing as no_tail}
-use Rattle.act_states.specs.declared.work.WorkStep.TheVariants.{Goes}
-use Rattle.call_stages.specs.declared.stages.Stage.TheVariants.{Undecided, Decided}
-use Rattle.call_stages.specs.declared.stages.ActiveCall.{ActiveCall}
-use Rattle.call_stages.specs.Fits.{HasRoom}
-use Rattle.call_stages.specs.Steps.{landed}
-use Rattle.call_stages.specs.Cores.{own_decided}
-use Rattle.call_stages.specs.View.{Core}
-use Rattle.core_invariant.specs.Holding.{holds_counts, settled_by, settled}
-use Rattle.core_invariant.specs.Words.{HeadIs, IsFrameWord, WordIs, count_room}
-use Rattle.core_invariant.specs.Knows.{due_of, charged_tcap, ChargesBy, HasHead, KnowsUndecided, WorksIn, phase_at, untypes}
-use Rattle.core_invariant.specs.Invariant.{holds_at, holds_in, holds, held_by, times_of, counted_in, Invariant, done_by}
-use Rattle.kept_facts.proofs.Calm.{IsUntimed, plain_begins, plain_stamp, plain_flush, plain_exit}
-use Rattle.kept_facts.proofs.CountSums.{counted_refs}
-use Rattle.core_invariant.specs.Shares.{list_changed, TurnsHead, SparesTcap}
+use Rattle.step_ways.proofs.Common.{counts_bare, unlent_head_value, unlent_head_word, lent_none, lent_kept, lent_free, min, IsSome}
+use Rattle.step_ways.proofs.Common.{All-nil, ◌≡◌, ◌≢◌, inl, inr, ℕ, zero, suc, map, ◌+◌, ◌-◌, ◌*◌, ◌^◌, ◌<◌, ◌≤◌, ◌==◌, true, false, List}
+use Rattle.step_ways.proofs.Common.{[], ◌∷◌, length, Option, Some, None, arith, refl, sym, ◌∙◌, ap, subst, if◌then◌else◌, eqb-true}
+use Rattle.step_ways.proofs.Common.{eqb-false, eq-eqb, cases_eq, false≢true, Setting, IsSetting, InLimits, left_if, Call, Tick, Reply}
+use Rattle.step_ways.proofs.Common.{HeadFits, word_of_head, head_of_word, HeadWord, spelling, Word, EntryAt, FrameAt, CountAt, CoreAt}
+use Rattle.step_ways.proofs.Common.{FlushAt, LiveAt, ClockAt, Move, LoadOf, CompareOf, word_of, left_of, Kernel, Tcap, TcapFields}
+use Rattle.step_ways.proofs.Common.{tcap_in, Thing, PlaceOf, NumberOf, State, put, with_frame, thread_in, comp_in, thread_of, comp_of}
+use Rattle.step_ways.proofs.Common.{first_of_stack, sum_below, refs, frame_names, times, Change, Found, IsFoundAnd, rule_of, change_of}
+use Rattle.step_ways.proofs.Common.{changed, counted, state_by, begins, ends, flushes, MayReply, calls_counted, frame_refs, sum_one}
+use Rattle.step_ways.proofs.Common.{core_same_refs, put_same, put_other, mark_of, mark_in_frame, head_mark, marked_by, IsAlone}
+use Rattle.step_ways.proofs.Common.{holds_node, frame_value, ways, Slot, names_on, changes_in_frame, is_one_of, frames_near, HasReached}
+use Rattle.step_ways.proofs.Common.{IsJustified, IsRaceLost, ends_in, flushes_in, stamp, Step, Trace, Open, phase, state_after, last_left}
+use Rattle.step_ways.proofs.Common.{state_decided_in, own_left, ok_first, decided-inside, not_inside, not_changed, last_small}
+use Rattle.step_ways.proofs.Common.{own_read-here, Acquired, head, debited, head_end, Charge, Own, own_changed, Act, Goes, Undecided}
+use Rattle.step_ways.proofs.Common.{Decided, ActiveCall, HasRoom, landed, own_decided, Core, holds_counts, settled_by, settled, HeadIs}
+use Rattle.step_ways.proofs.Common.{IsFrameWord, WordIs, count_room, due_of, ChargesBy, KnowsUndecided, WorksIn, phase_at, untypes}
+use Rattle.step_ways.proofs.Common.{holds_at, holds_in, holds, held_by, times_of, counted_in, Invariant, done_by, IsUntimed, plain_begins}
+use Rattle.step_ways.proofs.Common.{plain_stamp, plain_flush, plain_exit, counted_refs, list_changed, TurnsHead, SparesTcap}
+use Rattle.step_ways.proofs.Common.{marker_inside, limits_of, sums_keep, SameFor, ReadsAlike, StaysSaid, marks_own, settled_on}
+use Rattle.step_ways.proofs.Common.{word_stays, carry_marks, carry_words, others_settled}
+use Rattle.kernel_laws.specs.spk_nums.specs.declared.replies.Reply.TheVariants as reply
+use Rattle.kernel_laws.specs.spk_nums.specs.declared.replies.Value.TheVariants.{Amount}
+use Rattle.kernel_laws.specs.kernel_rules.specs.State.{Core as CoreFields}
+use Rattle.kernel_laws.specs.kernel_rules.specs.State.{with_core}
+use Rattle.kernel_laws.specs.kernel_rules.specs.TimeCalls.{owing, with_tcap, charge, charges}
+use Rattle.plan_ways.specs.kernel_history.specs.Justified.{IsHeldUp}
+use Rattle.plan_ways.specs.kernel_history.specs.Stamps.{begins_in}
+use Rattle.step_ways.specs.stage_tcap.specs.Heads.{raised}
+use Rattle.step_ways.specs.stage_tcap.specs.Charging.{after_mark, after_head, end_by_mark, charged_end}
+use Rattle.step_ways.specs.stage_tcap.specs.declared.charge.Charge.TheVariants.{AtLoad, AtCompare}
+use Rattle.step_ways.specs.act_states.specs.declared.own.OwnChange.TheVariants.{Ticks}
+use Rattle.step_ways.specs.act_states.specs.Ticks.{ticks_of, owes, took_charge}
+use Rattle.step_ways.specs.act_states.specs.declared.work.Act.TheVariants.{Tick as tick_act}
+use Rattle.step_ways.specs.act_states.specs.declared.work.Tail.TheVariants.{Nothing as no_tail}
+use Rattle.step_ways.specs.core_invariant.specs.Knows.{charged_tcap, HasHead}
 use Rattle.step_ways.proofs.Good.{Spared, SparesBlanks, spares_kept}
 use Rattle.step_ways.proofs.Loads.{IsOfCall, OnlyLooks, next_at, inner, call_is, is_active, loads_on}
-use Rattle.core_invariant.proofs.Markers.{marker_inside}
 use Rattle.step_ways.proofs.OwnChanges.{IsSameCore, decides_changing}
 use Rattle.step_ways.proofs.Refusals.{GoodTook, not_spent}
-use Rattle.core_invariant.proofs.Sounds.{limits_of}
-use Rattle.kept_facts.proofs.Sums.{sums_keep}
-use Rattle.kept_facts.proofs.WordFrames.{SameFor, ReadsAlike, StaysSaid, marks_own, settled_on, load_keeps}
-use Rattle.kept_facts.proofs.WordFrames.{load_marks, load_words, word_stays, carry_marks, carry_words, others_settled}
+use Rattle.step_ways.specs.kept_facts.proofs.WordFrames.{load_keeps}
+use Rattle.step_ways.specs.kept_facts.proofs.WordFrames.{load_marks, load_words}
 use Rattle.step_ways.proofs.Writes.{same_marks, room_left}
 use Rattle.time_invariant.proofs.Budgets.{tcap_is, IsTcap, Numbers, numbers_of}
 use Rattle.time_invariant.proofs.TickCalls.{IsTick, tick_of, own_near, raced_head}

@@ -1,5 +1,5 @@
 -- A table, its seats and its notes as contracts see them, and what the calls do to them.
-use Rattle.std.specs.Prelude.{◌≡◌, ℕ, List, [], ◌∷◌, ◌++◌, length, slice_get, slice_index, Option, Some}
+use Rattle.std.specs.Prelude.{◌≡◌, ℕ, zero, suc, List, [], ◌∷◌, ◌++◌, length, slice_get, slice_index, Option, Some, None, IsNone}
 use Rattle.atomic_table.specs.Seated.{TableId}
 use Rattle.spk_nums.specs.declared.steps.WordOp.{WordOp}
 use Rattle.turn_rule.specs.declared.view.Entry.{Entry}
@@ -60,6 +60,26 @@ module _ {P C : Type 0} (T : Steps P C) where
     pub program : made.program ≡ T.after (called T seat.program call) (told_by op found)
     pub core : made.core ≡ seat.core
     pub table : made.table ≡ seat.table
+
+  -- the seat has made the step that its program has next, once the call, if any, is begun
+  pub record Turns (seat : SeatValue P C) (call : Option C) (made : SeatValue P C) : Type 0 where
+    pub op : WordOp
+    pub next : T.next (called T seat.program call) ≡ Some op
+    pub makes : MakesStep seat call op made
+    pub follows : FollowsTrace made
+
+  -- the seat has made so many steps, at which no call began
+  abbrev pub TurnsOn : ℕ → SeatValue P C → SeatValue P C → Type 0
+  TurnsOn zero seat made = made ≡ seat
+  TurnsOn (suc n) seat made = (on : SeatValue P C) × Turns seat None on × TurnsOn n on made
+
+  -- the seat has made the whole call: its first step and those after it, to where its program has no next step
+  pub record MakesCall (seat : SeatValue P C) (call : C) (made : SeatValue P C) : Type 0 where
+    pub begun : SeatValue P C
+    pub first : Turns seat (Some call) begun
+    pub count : ℕ
+    pub rest : TurnsOn count begun made
+    pub idle : IsNone (T.next made.program)
 
   -- the words and programs are those after one sound trace, which begins with what each seat has seen and has no further step
   pub record EndsAt (table : TableValue P) (seats : List (SeatValue P C)) (words : List ℕ) (programs : List P) : Type 0 where

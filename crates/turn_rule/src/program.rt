@@ -12,7 +12,8 @@ pub trait CoreProgram: Drop {
     ghost use Rattle.turn_rule.specs.Steps.{Steps};
     ghost use Rattle.spk_nums.specs.WordSteps.{place_in};
 
-    // How the program goes on: its next step, what a word and a call make of it, which calls are fit, and its words.
+    // How the program goes on: its next step, what a word and a call make of it, which calls are fit, its words, and
+    // the steps left to its call.
     ghost steps: { Steps Self Self.Call };
 
     /// Begins a call, after which the program has a next step.
@@ -28,9 +29,11 @@ pub trait CoreProgram: Drop {
         ensures next { result ≡ steps.next self.now }
         ensures inside { IfSome result (λ op. place_in op < steps.size self.now) };
 
-    /// Takes in the word that its step tells: the word found, or for a store the word stored.
+    /// Takes in the word that its step tells: the word found, or for a store the word stored. It leaves the call fewer
+    /// steps.
     fn absorb(&mut self, found: u64)
         requires { IsSome (steps.next self.old) }
         ensures after { self.new ≡ steps.after self.old found }
-        ensures size { steps.size self.new ≡ steps.size self.old };
+        ensures size { steps.size self.new ≡ steps.size self.old }
+        ensures fewer { steps.left self.new < steps.left self.old };
 }

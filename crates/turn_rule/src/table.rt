@@ -1,8 +1,8 @@
 //! The table, and the steps that a seat makes on it.
 
-ghost use Rattle.std.specs.Prelude.{◌≡◌, ◌↔◌, Some, None, IsTrue, IsNone, IsSome, IsSomeAnd, MatchOption};
+ghost use Rattle.std.specs.Prelude.{◌≡◌, ◌<◌, ◌↔◌, Some, None, IsTrue, IsNone, IsSome, IsSomeAnd, MatchOption};
 ghost use Rattle.turn_rule.specs.Rule.{Goes, IsDue};
-ghost use Rattle.turn_rule.specs.Seats.{FollowsTrace, MakesStep, Meets};
+ghost use Rattle.turn_rule.specs.Seats.{FollowsTrace, MakesCall, MakesStep, Meets};
 
 use crate::plays::{Adds, CatchesUp, Compares, Loads, Notes, Said, Stores, Takes};
 use crate::program::CoreProgram;
@@ -89,6 +89,7 @@ impl<P: CoreProgram> TurnTable<P> {
         ensures step { MatchOption (P.steps.next seat.old.program)
             (seat.new ≡ seat.old)
             (λ op. MakesStep P.steps seat.old None op seat.new) }
+        ensures fewer { IsTrue result → P.steps.left seat.new.program < P.steps.left seat.old.program }
         ensures follows { FollowsTrace P.steps seat.new }
     {
         match seat.program.next_op() {
@@ -115,6 +116,19 @@ impl<P: CoreProgram> TurnTable<P> {
         let op = seat.program.next_op().unwrap();
         let found = self.make_first::<Brand>(&mut seat.seat, op, &said);
         seat.program.absorb(found);
+    }
+
+    /// Makes a whole call: begins it, and makes its steps, after the last of which the program has no next step. It
+    /// takes no memory, and tries no step a second time.
+    pub fn call(&self, seat: &mut TurnSeat<P>, call: P::Call)
+        requires table { seat.old.table ≡ self.now }
+        requires idle { IsNone (P.steps.next seat.old.program) }
+        requires fit { P.steps.fit seat.old.program call }
+        ensures makes { MakesCall P.steps seat.old call seat.new }
+        ensures follows { FollowsTrace P.steps seat.new }
+    {
+        self.first(seat, call);
+        while self.turn(seat) {}
     }
 
     /// Gives a note of what the seat has seen, and leaves the seat as it is.

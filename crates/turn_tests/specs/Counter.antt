@@ -26,6 +26,12 @@ after_at Idle wins n = counter Idle wins
 after_at (Looks left) wins n = counter (Tries n left) wins
 after_at (Tries seen left) wins n = if n == seen then counter Idle ((wins + 1) % 2 ^ 64) else counter (lost n left) wins
 
+-- how many steps the call has left at most
+abbrev pub steps_left : Stage → ℕ
+steps_left Idle = 0
+steps_left (Looks left) = left + 2
+steps_left (Tries seen left) = left + 1
+
 abbrev pub counter_steps : Steps Counter ℕ
 counter_steps = record {
   next = λ p. next_at p.stage;
@@ -33,10 +39,5 @@ counter_steps = record {
   fit = λ p call. call < 8;
   begun = λ p call. counter (Looks call) p.wins;
   size = λ p. 1;
+  left = λ p. steps_left p.stage;
 }
-
--- how many steps the call has left at most
-abbrev pub steps_left : Stage → ℕ
-steps_left Idle = 0
-steps_left (Looks left) = left + 2
-steps_left (Tries seen left) = left + 1

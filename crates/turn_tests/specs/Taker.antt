@@ -31,6 +31,13 @@ after_in side (Takes count) taken last n = taker side (Shows n) ((taken + count)
 after_in side (Shows ticket) taken last n = taker side (ReadsBack n) taken last
 after_in side (ReadsBack ticket) taken last n = taker side Idle taken n
 
+-- how many steps the call has left
+abbrev pub steps_to_go : Phase → ℕ
+steps_to_go Idle = 0
+steps_to_go (Takes count) = 3
+steps_to_go (Shows ticket) = 2
+steps_to_go (ReadsBack ticket) = 1
+
 abbrev pub taker_steps : Steps Taker ℕ
 taker_steps = record {
   next = λ p. next_in p.side p.phase;
@@ -38,4 +45,5 @@ taker_steps = record {
   fit = λ p call. Unit {0};
   begun = λ p call. taker p.side (Takes call) p.taken p.last;
   size = λ p. 3;
+  left = λ p. steps_to_go p.phase;
 }

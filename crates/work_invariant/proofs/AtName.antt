@@ -1,61 +1,33 @@
 -- What the look-up of a call with one name and no target ends in: a look answers what its name has led to; a retype has found its range,
 -- which has the frame or does not.
-use Rattle.std.proofs.Common.{◌≡◌, ◌≢◌, ◌⊎◌, inl, inr, ℕ, ◌+◌, ◌<◌, ◌≤◌, ◌&&◌, not, nat_le, nat_lt, Bool, true}
-use Rattle.std.proofs.Common.{false, List, [], ◌∷◌, Some, None, arith, refl, sym, ◌∙◌, ap, subst, if◌then◌else◌, map}
-use Rattle.std.proofs.lemmas.Bool.{ltb-true, lt-ltb, false≢true}
-use Rattle.spk_nums.specs.Capability.{Capability}
-use Rattle.spk_nums.specs.Setting.{Setting, IsSetting}
-use Rattle.spk_nums.specs.declared.kinds.FrameKind.{FrameKind}
-use Rattle.spk_nums.specs.declared.kinds.FrameKind.TheVariants.{Untyped}
-use Rattle.spk_nums.specs.declared.kinds.Kind.{Kind}
-use Rattle.spk_nums.specs.declared.kinds.Kind.TheVariants.{Range}
-use Rattle.spk_nums.specs.declared.calls.Call.TheVariants.{Retype, Look as look_call}
-use Rattle.spk_nums.specs.declared.replies.Reply.TheVariants as reply
-use Rattle.word_map.specs.Word.{EntryAt}
-use Rattle.word_map.specs.Moves.{LoadOf}
-use Rattle.kernel_rules.specs.State.{State}
-use Rattle.kernel_rules.specs.Access.{Slot, found, any, own}
-use Rattle.kernel_rules.specs.Rules.{Refused, RuleMay, Does, first_of, first_cause, outcome, unless, Found, named}
-use Rattle.kernel_rules.specs.CapabilityCalls.{has_frame, outside}
-use Rattle.kernel_rules.specs.MemoryCalls.{not_retyped, retypes}
-use Rattle.kernel_rules.specs.CallRelation.{rule_of, change_of, are_calls_spent, MayReply, counted, begins, ends, flushes, state_by}
-use Rattle.kernel_history.specs.Trace.{Step, Trace, Open, state_after, last_left, own_left}
-use Rattle.trace_laws.proofs.AloneCalls.{refused_first, ok_first}
-use Rattle.trace_laws.proofs.Carries.{Carries}
-use Rattle.call_plans.specs.GoesBy.{GoesBy, own_pages, wants}
-use Rattle.call_plans.specs.After.{rule_after, Leads, LeadsIn, with_found, names_after}
-use Rattle.call_plans.proofs.AfterNames.{outcome_left, left_may}
-use Rattle.stage_look.specs.Shown.{CapNames, end_of_frames}
-use Rattle.stage_pins.specs.declared.held.Acquired.{Acquired}
-use Rattle.act_states.specs.declared.typings.TypingAt.TheVariants.{Load}
-use Rattle.act_states.specs.declared.untypings.Untyping.{Untyping}
-use Rattle.act_states.specs.declared.untypings.UntypingAt.TheVariants.{Load as untype_load}
-use Rattle.core_invariant.specs.Sweeps.{UntypesBy}
-use Rattle.act_states.specs.declared.work.Act.{Act as ActOf}
-use Rattle.act_states.specs.declared.work.Act.TheVariants.{Retype as type_act, Untype as untype_act}
-use Rattle.act_states.specs.declared.work.WorkStep.TheVariants.{Goes}
-use Rattle.act_states.specs.declared.work.Work.TheVariants.{Act}
-use Rattle.act_states.specs.Acts.{typing_to, types_if, types_at, act_begun}
-use Rattle.call_stages.specs.declared.stages.Stage.TheVariants.{Undecided}
-use Rattle.call_stages.specs.declared.stages.ActiveCall.{ActiveCall}
-use Rattle.call_stages.specs.Steps.{landed, found_more}
-use Rattle.call_stages.specs.View.{Core}
-use Rattle.core_invariant.specs.Holding.{holds_counts}
-use Rattle.core_invariant.specs.Knows.{due_of, TypesBy, NamesAre, phase_at, own_in}
-use Rattle.core_invariant.specs.Invariant.{holds_in, Invariant}
-use Rattle.std.specs.Prelude.{IsSome}
-use Rattle.std.proofs.lemmas.List.Elements.{All-nil, All-append}
-use Rattle.spk_nums.specs.declared.replies.Value.TheVariants.{Cap}
-use Rattle.kernel_rules.specs.Alone.{alone}
-use Rattle.kernel_history.specs.Ways.{way_to}
-use Rattle.kernel_history.specs.Justified.{HasReached, IsJustified}
-use Rattle.call_plans.specs.declared.plans.Name.{Name}
-use Rattle.kept_facts.proofs.Carries.{own_kept}
-use Rattle.count_invariant.proofs.Lookups.{Arrives}
-use Rattle.count_invariant.proofs.Findings.{own_is, way_gone, gone_with}
+use Rattle.comp_invariant.proofs.Common.{◌≡◌, ◌≢◌, ◌⊎◌, inl, inr, ℕ, ◌+◌, ◌<◌, ◌≤◌, ◌&&◌, not, nat_le, nat_lt, Bool, true, false, List}
+use Rattle.comp_invariant.proofs.Common.{[], ◌∷◌, Some, None, arith, refl, sym, ◌∙◌, ap, subst, if◌then◌else◌, map, ltb-true, lt-ltb}
+use Rattle.comp_invariant.proofs.Common.{false≢true, Capability, Setting, IsSetting, FrameKind, Kind, Retype, EntryAt, LoadOf, State}
+use Rattle.comp_invariant.proofs.Common.{Slot, found, own, Refused, RuleMay, Does, first_of, first_cause, outcome, unless, Found, named}
+use Rattle.comp_invariant.proofs.Common.{has_frame, outside, retypes, rule_of, change_of, are_calls_spent, MayReply, counted, begins}
+use Rattle.comp_invariant.proofs.Common.{ends, flushes, state_by, Step, Trace, Open, state_after, last_left, own_left, refused_first}
+use Rattle.comp_invariant.proofs.Common.{ok_first, Carries, GoesBy, own_pages, wants, rule_after, Leads, LeadsIn, with_found, names_after}
+use Rattle.comp_invariant.proofs.Common.{outcome_left, left_may, CapNames, end_of_frames, Acquired, Load, Untyping, UntypesBy, Goes, Act}
+use Rattle.comp_invariant.proofs.Common.{act_begun, Undecided, ActiveCall, landed, found_more, Core, holds_counts, due_of, NamesAre}
+use Rattle.comp_invariant.proofs.Common.{phase_at, own_in, holds_in, Invariant, IsSome, All-nil, All-append, alone, way_to, HasReached}
+use Rattle.comp_invariant.proofs.Common.{IsJustified, Name, own_kept}
+use Rattle.comp_invariant.specs.spk_nums.specs.declared.kinds.FrameKind.TheVariants.{Untyped}
+use Rattle.comp_invariant.specs.spk_nums.specs.declared.kinds.Kind.TheVariants.{Range}
+use Rattle.comp_invariant.specs.spk_nums.specs.declared.calls.Call.TheVariants.{Look as look_call}
+use Rattle.comp_invariant.specs.spk_nums.specs.declared.replies.Reply.TheVariants as reply
+use Rattle.comp_invariant.specs.kernel_rules.specs.Access.{any}
+use Rattle.comp_invariant.specs.kernel_rules.specs.MemoryCalls.{not_retyped}
+use Rattle.comp_invariant.specs.act_states.specs.declared.untypings.UntypingAt.TheVariants.{Load as untype_load}
+use Rattle.comp_invariant.specs.act_states.specs.declared.work.Act.{Act as ActOf}
+use Rattle.comp_invariant.specs.act_states.specs.declared.work.Act.TheVariants.{Retype as type_act, Untype as untype_act}
+use Rattle.comp_invariant.specs.act_states.specs.Acts.{typing_to, types_if, types_at}
+use Rattle.comp_invariant.specs.core_invariant.specs.Knows.{TypesBy}
+use Rattle.comp_invariant.specs.spk_nums.specs.declared.replies.Value.TheVariants.{Cap}
+use Rattle.comp_invariant.specs.count_invariant.proofs.Lookups.{Arrives}
+use Rattle.comp_invariant.specs.count_invariant.proofs.Findings.{own_is, way_gone, gone_with}
 use Rattle.work_invariant.proofs.ByCall.{one_left, first_same, look_state, look_begins, look_answers}
-use Rattle.step_ways.proofs.Loads.{OnlyLooks, step_to, core_is, loads_on, decides_on}
-use Rattle.step_ways.proofs.Refusals.{GoodTook, not_spent}
+use Rattle.comp_invariant.specs.step_ways.proofs.Loads.{OnlyLooks, step_to, core_is, loads_on, decides_on}
+use Rattle.comp_invariant.specs.step_ways.proofs.Refusals.{GoodTook, not_spent}
 
 -- A frame of a range is one of the machine's.
 pub range_below : (frames : ℕ) (kind : Kind) (first number f : ℕ) → kind ≡ Range → end_of_frames kind first number ≤ frames

@@ -1,61 +1,38 @@
 -- The act with which a call begins at a target that is to be free: it fills the place, it makes an object in a frame of its range, or this
 -- frame is out of range.
-use Rattle.std.specs.Prelude.{IsSome}
-use Rattle.std.proofs.Common.{◌≡◌, inl, ℕ, ◌<◌, ◌&&◌, nat_lt, Bool, true, false, List, [], ◌∷◌, Option}
-use Rattle.std.proofs.Common.{Some, refl, sym, ◌∙◌, ap, subst, IsTrue, arith, if◌then◌else◌, None, ◌≤◌, inr}
-use Rattle.std.proofs.lemmas.Bool.{lt-ltb, le-leb, false≢true}
-use Rattle.spk_nums.specs.Capability.{Capability}
-use Rattle.spk_nums.specs.Setting.{Setting, IsSetting}
-use Rattle.spk_nums.specs.declared.kinds.FrameKind.TheVariants as frame_kind
-use Rattle.spk_nums.specs.declared.kinds.Kind.{Kind}
-use Rattle.spk_nums.specs.declared.kinds.Kind.TheVariants as kind
-use Rattle.spk_nums.specs.declared.calls.Call.{Call}
-use Rattle.spk_nums.specs.declared.calls.Call.TheVariants.{Look as look_call, Copy, Remove, Shrink, Unmap, Retype}
-use Rattle.spk_nums.specs.declared.calls.Call.TheVariants.{Make as make_call, Tick, Gate, Kill, Grow, Flush, Map, Touch}
-use Rattle.spk_nums.specs.declared.calls.Call.TheVariants.{Call as call_gate, Ret, Transfer, Delegate, Test, Switch}
-use Rattle.spk_nums.specs.declared.calls.Make.{Make}
-use Rattle.spk_nums.specs.declared.calls.Make.TheVariants as make
-use Rattle.spk_nums.specs.CallLimits.{InLimits}
-use Rattle.spk_nums.specs.declared.kinds.PageFlags.{PageFlags}
-use Rattle.entry_words.specs.EntryWord.{EntryFits, entry_of_word}
-use Rattle.entry_words.specs.declared.entry.Entry.TheVariants as entry
-use Rattle.kernel_rules.specs.State.{State}
-use Rattle.kernel_rules.specs.Start.{plain_cap}
-use Rattle.kernel_rules.specs.Access.{found, only}
-use Rattle.kernel_rules.specs.Fitting.{EndsWithin, IsGood}
-use Rattle.kernel_rules.specs.Rules.{Found as Found_it, named}
-use Rattle.kernel_rules.specs.CapabilityCalls.{has_frame}
-use Rattle.kernel_invariant.proofs.Facts.{named_good}
-use Rattle.kernel_invariant.proofs.Sound.{only_is}
-use Rattle.kernel_invariant.proofs.SoundRuns.{opened}
-use Rattle.kernel_history.specs.Events.{events_of}
-use Rattle.kernel_history.specs.Legal.{IsLegal}
-use Rattle.kernel_history.specs.Trace.{Trace, Out, Open, phase, state_after, WasAt}
-use Rattle.trace_laws.proofs.Stays.{sound_of, opened_is}
-use Rattle.stage_look.specs.declared.look.Found.{Found}
-use Rattle.stage_quiet.specs.Scan.{quiet_scan}
-use Rattle.call_plans.specs.declared.plans.Nth.{Nth}
-use Rattle.call_plans.specs.declared.plans.Nth.TheVariants.{First, Second}
-use Rattle.call_plans.specs.declared.plans.Plan.{Plan}
-use Rattle.call_plans.specs.declared.plans.Spot.{Spot}
-use Rattle.call_plans.specs.declared.plans.Spot.TheVariants as spot_of
-use Rattle.call_plans.specs.declared.plans.Target.TheVariants.{Nowhere, Free, Held, Own as own_page}
-use Rattle.call_plans.specs.Plans.{at_place}
-use Rattle.call_plans.specs.PlanOf.{any_cap, a_root, a_leaf, of_kind, plan_for}
-use Rattle.call_plans.specs.After.{Leads, LeadsIn, names_after}
-use Rattle.act_states.specs.declared.own.Own.{Own}
-use Rattle.act_states.specs.declared.objects.NewObject.{NewObject}
-use Rattle.act_states.specs.declared.objects.NewObject.TheVariants as objects
-use Rattle.act_states.specs.declared.work.Act.{Act as ActOf}
-use Rattle.act_states.specs.declared.work.Act.TheVariants.{Outside}
-use Rattle.act_states.specs.Objects.{object_made}
-use Rattle.act_states.specs.Acts.{gate_if, gate_to, put_by, reads_of, fills_with, scans, stamp_in, stamp_shown}
-use Rattle.act_states.specs.Acts.{stamp_of_act, filling, making, making_if, makes_at, act_begun, fills_page}
-use Rattle.act_states.specs.Acts.{page_cap, mapping, mapping_if, maps_if, made_begun, comp_making, comp_if}
-use Rattle.core_invariant.specs.Knows.{IsRead, ReadIs, IsSpot, KnowsAct, OutsideBy, is_start, goes_on, HasUser}
-use Rattle.place_invariant.proofs.CompMakes.{IsCompMake, comp_make}
-use Rattle.core_invariant.proofs.Sounds.{limits_of}
-use Rattle.place_invariant.proofs.ObjectMakes.{made_of, TwoFound, object_make}
+use Rattle.comp_invariant.proofs.Common.{IsSome, ◌≡◌, inl, ℕ, ◌<◌, ◌&&◌, nat_lt, Bool, true, false, List, [], ◌∷◌, Option, Some, refl}
+use Rattle.comp_invariant.proofs.Common.{sym, ◌∙◌, ap, subst, IsTrue, arith, if◌then◌else◌, None, ◌≤◌, inr, lt-ltb, le-leb, false≢true}
+use Rattle.comp_invariant.proofs.Common.{Capability, Setting, IsSetting, Kind, Call, Copy, Remove, Shrink, Unmap, Retype, Tick, Gate}
+use Rattle.comp_invariant.proofs.Common.{Kill, Grow, Flush, Map, Touch, Ret, Transfer, Delegate, Test, Switch, Make, InLimits, PageFlags}
+use Rattle.comp_invariant.proofs.Common.{EntryFits, entry_of_word, State, found, only, named, has_frame, only_is, opened, events_of}
+use Rattle.comp_invariant.proofs.Common.{IsLegal, Trace, Out, Open, phase, state_after, WasAt, sound_of, opened_is, quiet_scan, First}
+use Rattle.comp_invariant.proofs.Common.{Second, Plan, Spot, Nowhere, at_place, of_kind, plan_for, Leads, LeadsIn, names_after, Own}
+use Rattle.comp_invariant.proofs.Common.{NewObject, Outside, object_made, put_by, reads_of, stamp_shown, act_begun, fills_page, page_cap}
+use Rattle.comp_invariant.proofs.Common.{ReadIs, IsSpot, KnowsAct, goes_on, limits_of, WorkStep}
+use Rattle.comp_invariant.specs.spk_nums.specs.declared.kinds.FrameKind.TheVariants as frame_kind
+use Rattle.comp_invariant.specs.spk_nums.specs.declared.kinds.Kind.TheVariants as kind
+use Rattle.comp_invariant.specs.spk_nums.specs.declared.calls.Call.TheVariants.{Look as look_call}
+use Rattle.comp_invariant.specs.spk_nums.specs.declared.calls.Call.TheVariants.{Make as make_call}
+use Rattle.comp_invariant.specs.spk_nums.specs.declared.calls.Call.TheVariants.{Call as call_gate}
+use Rattle.comp_invariant.specs.spk_nums.specs.declared.calls.Make.TheVariants as make
+use Rattle.comp_invariant.specs.entry_words.specs.declared.entry.Entry.TheVariants as entry
+use Rattle.comp_invariant.specs.kernel_rules.specs.Start.{plain_cap}
+use Rattle.comp_invariant.specs.kernel_rules.specs.Fitting.{EndsWithin, IsGood}
+use Rattle.comp_invariant.specs.kernel_rules.specs.Rules.{Found as Found_it}
+use Rattle.comp_invariant.specs.kernel_invariant.proofs.Facts.{named_good}
+use Rattle.comp_invariant.specs.stage_look.specs.declared.look.Found.{Found}
+use Rattle.comp_invariant.specs.call_plans.specs.declared.plans.Nth.{Nth}
+use Rattle.comp_invariant.specs.call_plans.specs.declared.plans.Spot.TheVariants as spot_of
+use Rattle.comp_invariant.specs.call_plans.specs.declared.plans.Target.TheVariants.{Free, Held, Own as own_page}
+use Rattle.comp_invariant.specs.call_plans.specs.PlanOf.{any_cap, a_root, a_leaf}
+use Rattle.comp_invariant.specs.act_states.specs.declared.objects.NewObject.TheVariants as objects
+use Rattle.comp_invariant.specs.act_states.specs.declared.work.Act.{Act as ActOf}
+use Rattle.comp_invariant.specs.act_states.specs.Acts.{gate_if, gate_to, fills_with, scans, stamp_in}
+use Rattle.comp_invariant.specs.act_states.specs.Acts.{stamp_of_act, filling, making, making_if, makes_at}
+use Rattle.comp_invariant.specs.act_states.specs.Acts.{mapping, mapping_if, maps_if, made_begun, comp_making, comp_if}
+use Rattle.comp_invariant.specs.core_invariant.specs.Knows.{IsRead, OutsideBy, is_start, HasUser}
+use Rattle.comp_invariant.specs.place_invariant.proofs.CompMakes.{IsCompMake, comp_make}
+use Rattle.comp_invariant.specs.place_invariant.proofs.ObjectMakes.{made_of, TwoFound, object_make}
 use Rattle.work_invariant.proofs.AtName.{range_below}
 
 -- What such a call begins with where it has found its place: an act, which starts after a scan, if there is one; what it knows of it where
@@ -124,7 +101,7 @@ module _ (own : Own) (plan : Plan) (read : Option ℕ) (c : ℕ) (own_core : own
 
   -- it maps a frame
   module _ (p v r f : ℕ) (w : PageFlags) (pages range : Capability) (rest : List Capability) where
-    abbrev map_scan : ActOf → Rattle.act_states.specs.declared.work.WorkStep.WorkStep
+    abbrev map_scan : ActOf → WorkStep
     map_scan act = scans own.core (quiet_scan (stamp_in at.value) own.core own.layout.cores true) act
 
     map_within : (has : Bool) → has_frame (found range) f ≡ has → w.0 < 4
@@ -176,7 +153,7 @@ module _ (own : Own) (plan : Plan) (read : Option ℕ) (c : ℕ) (own_core : own
     abbrev ks : List Capability
     ks = range ∷ rest
 
-    abbrev scan : ActOf → Rattle.act_states.specs.declared.work.WorkStep.WorkStep
+    abbrev scan : ActOf → WorkStep
     scan act = scans own.core (quiet_scan (stamp_in at.value) own.core own.layout.cores false) act
 
     within_is : (has : Bool) → has_frame (found range) f ≡ has
@@ -220,7 +197,7 @@ module _ (own : Own) (plan : Plan) (read : Option ℕ) (c : ℕ) (own_core : own
   abbrev four : List Capability
   four = range ∷ second ∷ table ∷ pages ∷ []
 
-  abbrev comp_scan : ActOf → Rattle.act_states.specs.declared.work.WorkStep.WorkStep
+  abbrev comp_scan : ActOf → WorkStep
   comp_scan act = scans own.core (quiet_scan (stamp_in at.value) own.core own.layout.cores false) act
 
   comp_within : (has : Bool) → has_frame (found range) f ≡ has

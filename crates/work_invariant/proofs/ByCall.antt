@@ -1,35 +1,29 @@
 -- What look-ups end in, call by call: the causes that refuse a target, the act that begins at one, and what a look answers.
-use Rattle.std.proofs.Common.{◌≡◌, ℕ, nat_le, nat_lt, ◌&&◌, Bool, true, false, if◌then◌else◌}
-use Rattle.std.proofs.Common.{IsTrue, List, [], ◌∷◌, Some, None, refl, sym, ◌∙◌, ap, subst}
-use Rattle.std.proofs.lemmas.Bool.{leb-false, lt-ltb}
-use Rattle.spk_nums.specs.Capability.{Capability}
-use Rattle.spk_nums.specs.declared.calls.Call.{Call}
-use Rattle.spk_nums.specs.declared.calls.Call.TheVariants.{Look as look_call, Copy, Remove, Shrink, Unmap, Retype}
-use Rattle.spk_nums.specs.declared.calls.Call.TheVariants.{Make as make_call, Tick, Gate, Kill, Grow, Flush, Map, Touch}
-use Rattle.spk_nums.specs.declared.calls.Call.TheVariants.{Call as call_gate, Ret, Transfer, Delegate, Test, Switch}
-use Rattle.spk_nums.specs.declared.calls.Make.{Make}
-use Rattle.spk_nums.specs.declared.calls.Make.TheVariants as make
-use Rattle.spk_nums.specs.declared.kinds.FrameKind.TheVariants as frame_kind
-use Rattle.spk_nums.specs.declared.replies.Value.TheVariants.{Cap}
-use Rattle.spk_nums.specs.declared.replies.Reply.TheVariants as reply
-use Rattle.kernel_rules.specs.State.{State, Thing, Holds, PlaceOf}
-use Rattle.kernel_rules.specs.Access.{Slot, Named, found, capability, any, place_at, held_in, reached, own, Target as place, InRoot}
-use Rattle.kernel_rules.specs.Rules.{Refused, IsFoundAnd, Does, outcome, answers, Found as Found_it}
-use Rattle.kernel_rules.specs.Rules.{and_then, or_refuse, unless, not_vacant, named, vacant, held}
-use Rattle.kernel_rules.specs.CallRelation.{change_of, changed, counted, begins_in}
-use Rattle.kernel_rules.specs.CapabilityCalls.{look_rule}
-use Rattle.kernel_invariant.proofs.Facts.{some_inj}
-use Rattle.stage_look.specs.declared.look.Found.{Found}
-use Rattle.call_plans.specs.declared.plans.Nth.TheVariants.{First, Second}
-use Rattle.call_plans.specs.declared.plans.Name.{Name}
-use Rattle.call_plans.specs.declared.plans.Spot.{Spot}
-use Rattle.call_plans.specs.declared.plans.Spot.TheVariants as spot_of
-use Rattle.call_plans.specs.declared.plans.Target.TheVariants.{Nowhere, Free, Held, Own as own_page}
-use Rattle.call_plans.specs.Plans.{head}
-use Rattle.call_plans.specs.PlanOf.{plan_for, plan_of_make}
-use Rattle.call_plans.specs.After.{names_after}
-use Rattle.act_states.specs.Acts.{removes_at, removes_by, act_begun}
-use Rattle.act_states.specs.declared.own.Own.{Own}
+use Rattle.comp_invariant.proofs.Common.{◌≡◌, ℕ, nat_le, nat_lt, ◌&&◌, Bool, true, false, if◌then◌else◌, IsTrue, List, [], ◌∷◌, Some}
+use Rattle.comp_invariant.proofs.Common.{None, refl, sym, ◌∙◌, ap, subst, leb-false, lt-ltb, Capability, Call, Copy, Remove, Shrink}
+use Rattle.comp_invariant.proofs.Common.{Unmap, Retype, Tick, Gate, Kill, Grow, Flush, Map, Touch, Ret, Transfer, Delegate, Test, Switch}
+use Rattle.comp_invariant.proofs.Common.{Make, State, Thing, Holds, PlaceOf, Slot, Named, found, place_at, held_in, reached, own, InRoot}
+use Rattle.comp_invariant.proofs.Common.{Refused, IsFoundAnd, Does, outcome, answers, and_then, or_refuse, unless, not_vacant, named}
+use Rattle.comp_invariant.proofs.Common.{vacant, change_of, changed, counted, begins_in, some_inj, First, Second, Name, Spot, Nowhere}
+use Rattle.comp_invariant.proofs.Common.{plan_for, names_after, removes_by, act_begun, Own}
+use Rattle.comp_invariant.specs.spk_nums.specs.declared.calls.Call.TheVariants.{Look as look_call}
+use Rattle.comp_invariant.specs.spk_nums.specs.declared.calls.Call.TheVariants.{Make as make_call}
+use Rattle.comp_invariant.specs.spk_nums.specs.declared.calls.Call.TheVariants.{Call as call_gate}
+use Rattle.comp_invariant.specs.spk_nums.specs.declared.calls.Make.TheVariants as make
+use Rattle.comp_invariant.specs.spk_nums.specs.declared.kinds.FrameKind.TheVariants as frame_kind
+use Rattle.comp_invariant.specs.spk_nums.specs.declared.replies.Value.TheVariants.{Cap}
+use Rattle.comp_invariant.specs.spk_nums.specs.declared.replies.Reply.TheVariants as reply
+use Rattle.comp_invariant.specs.kernel_rules.specs.Access.{capability, any}
+use Rattle.comp_invariant.specs.kernel_rules.specs.Access.{Target as place}
+use Rattle.comp_invariant.specs.kernel_rules.specs.Rules.{Found as Found_it}
+use Rattle.comp_invariant.specs.kernel_rules.specs.Rules.{held}
+use Rattle.comp_invariant.specs.kernel_rules.specs.CapabilityCalls.{look_rule}
+use Rattle.comp_invariant.specs.stage_look.specs.declared.look.Found.{Found}
+use Rattle.comp_invariant.specs.call_plans.specs.declared.plans.Spot.TheVariants as spot_of
+use Rattle.comp_invariant.specs.call_plans.specs.declared.plans.Target.TheVariants.{Free, Held, Own as own_page}
+use Rattle.comp_invariant.specs.call_plans.specs.Plans.{head}
+use Rattle.comp_invariant.specs.call_plans.specs.PlanOf.{plan_of_make}
+use Rattle.comp_invariant.specs.act_states.specs.Acts.{removes_at}
 
 -- A target is refused where it has no slot, and one that is to be free where it is held.
 pub vacant_no_slot : (s : State) (c : ℕ) (target : place) → reached s c target ≡ None → vacant s c target ≡ Refused reply.NoSlot

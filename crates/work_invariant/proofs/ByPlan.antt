@@ -1,98 +1,73 @@
 -- A step of any look-up of a call is good: the look-up goes by the call's plan.
-use Rattle.thread_invariant.proofs.InvokeStarts.{invokes_good}
-use Rattle.std.proofs.Common.{◌≡◌, inl, inr, ℕ, suc, negsuc, ◌≢◌, ◌<◌, ◌≤◌, ◌+◌, map, length, arith, Bool, true, false}
-use Rattle.std.proofs.Common.{if◌then◌else◌, IsTrue, List, [], ◌∷◌, ◌++◌, Option, Some, None, refl, sym, ◌∙◌, ap, subst}
-use Rattle.std.proofs.lemmas.Bool.{eq-eqb}
-use Rattle.spk_nums.specs.Capability.{Capability}
-use Rattle.spk_nums.specs.Setting.{Setting, IsSetting}
-use Rattle.spk_nums.specs.declared.kinds.Kind.{Kind}
-use Rattle.spk_nums.specs.declared.calls.Call.{Call}
-use Rattle.spk_nums.specs.declared.calls.Call.TheVariants.{Look as look_call, Copy, Remove, Shrink, Unmap, Retype}
-use Rattle.spk_nums.specs.declared.calls.Call.TheVariants.{Make as make_call, Tick, Gate, Kill, Grow, Touch, Flush, Map}
-use Rattle.spk_nums.specs.declared.calls.Call.TheVariants.{Call as call_gate, Ret, Transfer, Delegate, Test, Switch}
-use Rattle.spk_nums.specs.declared.replies.Reply.{Reply}
-use Rattle.spk_nums.specs.declared.replies.Reply.TheVariants as reply
-use Rattle.entry_words.specs.declared.entry.Entry.{Entry}
-use Rattle.entry_words.specs.declared.entry.Entry.TheVariants as entry
-use Rattle.entry_words.specs.EntryWord.{EntryFits, entry_of_word}
-use Rattle.word_map.specs.Word.{EntryAt}
-use Rattle.word_map.specs.Moves.{LoadOf, word_of}
-use Rattle.kernel_rules.specs.State.{State, Thing, PlaceOf, comp_of}
-use Rattle.kernel_rules.specs.Access.{Slot, any, root_at, place_at, held_in, reached, has_no_slot, own, Target as place}
-use Rattle.kernel_rules.specs.Rules.{RuleMay, Refused, Found as Found_it, named, vacant, held}
-use Rattle.kernel_rules.specs.CallRelation.{rule_of, change_of}
-use Rattle.kernel_invariant.proofs.Facts.{none_some, some_inj}
-use Rattle.kernel_history.specs.Trace.{Step, Trace, Open, phase, state_after, last_left, WasAt}
-use Rattle.kernel_history.specs.Ways.{wide_way_to, wide_ways}
-use Rattle.kernel_history.specs.Justified.{is_slot_in, IsRemoved}
-use Rattle.trace_laws.proofs.Carries.{Carries, was_now}
-use Rattle.kernel_history.proofs.Steps.{own_read-here}
-use Rattle.stage_look.specs.Shown.{shown_in}
-use Rattle.stage_look.specs.Lookup.{look_move, found_at}
-use Rattle.stage_look.specs.declared.look.Look.{Look}
-use Rattle.call_plans.specs.declared.plans.Nth.TheVariants.{First, Second}
-use Rattle.call_plans.specs.declared.plans.Name.{Name}
-use Rattle.call_plans.specs.declared.plans.Spot.{Spot}
-use Rattle.call_plans.specs.declared.plans.Spot.TheVariants as spot_of
-use Rattle.call_plans.specs.declared.plans.Target.{Target}
-use Rattle.call_plans.specs.declared.plans.Target.TheVariants.{Nowhere, Free, Held, Own as own_page}
-use Rattle.call_plans.specs.declared.plans.Plan.{Plan}
-use Rattle.call_plans.specs.Plans.{at_place}
-use Rattle.call_plans.specs.PlanOf.{any_cap, plan_for, of_kind}
-use Rattle.call_plans.specs.GoesBy.{GoesBy, own_pages, earlier, wants, place_of_spot}
-use Rattle.call_plans.specs.After.{with_found, names_after, Leads, LeadsIn, Next, NextName, NextFree}
-use Rattle.call_plans.specs.After.{NextHeld, NextOwn, NextNothing, next_in, next_of, NextMay}
-use Rattle.call_plans.proofs.CallsGoBy.{calls_go}
-use Rattle.call_plans.proofs.FewNames.{few_names}
-use Rattle.call_plans.proofs.Roots.{count_led, pushed_one}
-use Rattle.call_plans.proofs.AfterNames.{leads_by, one_more, NextBy, next_may}
-use Rattle.plan_ways.specs.Laws.{NextPlace, NextRefused}
-use Rattle.plan_ways.proofs.Ways.{next_on_way, next_first}
-use Rattle.act_states.specs.declared.refusals.Refusal.TheVariants as refusal
-use Rattle.act_states.specs.declared.lookups.Met.TheVariants.{Finds, Refused as met_refused}
-use Rattle.act_states.specs.declared.work.Work.TheVariants.{Lookup, Scan}
-use Rattle.call_stages.specs.declared.stages.Stage.TheVariants.{Undecided}
-use Rattle.call_stages.specs.declared.stages.ActiveCall.{ActiveCall}
-use Rattle.spk_nums.specs.declared.kinds.FrameKind.{FrameKind}
-use Rattle.spk_nums.specs.declared.kinds.FrameKind.TheVariants as frame_kind
-use Rattle.spk_nums.specs.declared.kinds.Kind.TheVariants.{Range as range_kind, Comp as comp_kind, Gate as gate_kind}
-use Rattle.kernel_invariant.proofs.Sound.{only_is}
+use Rattle.comp_invariant.proofs.Common.{◌≡◌, inl, inr, ℕ, suc, negsuc, ◌≢◌, ◌<◌, ◌≤◌, ◌+◌, map, length, arith, Bool, true, false}
+use Rattle.comp_invariant.proofs.Common.{if◌then◌else◌, IsTrue, List, [], ◌∷◌, ◌++◌, Option, Some, None, refl, sym, ◌∙◌, ap, subst}
+use Rattle.comp_invariant.proofs.Common.{eq-eqb, Capability, Setting, IsSetting, Kind, Call, Copy, Remove, Shrink, Unmap, Retype, Tick}
+use Rattle.comp_invariant.proofs.Common.{Gate, Kill, Grow, Touch, Flush, Map, Ret, Transfer, Delegate, Test, Switch, Reply, Entry}
+use Rattle.comp_invariant.proofs.Common.{EntryFits, entry_of_word, EntryAt, LoadOf, word_of, State, Thing, PlaceOf, comp_of, Slot}
+use Rattle.comp_invariant.proofs.Common.{root_at, place_at, held_in, reached, has_no_slot, own, RuleMay, Refused, named, vacant, rule_of}
+use Rattle.comp_invariant.proofs.Common.{change_of, none_some, some_inj, Step, Trace, Open, phase, state_after, last_left, WasAt}
+use Rattle.comp_invariant.proofs.Common.{wide_way_to, wide_ways, is_slot_in, IsRemoved, Carries, was_now, own_read-here, shown_in}
+use Rattle.comp_invariant.proofs.Common.{look_move, Look, First, Second, Name, Spot, Nowhere, Plan, at_place, plan_for, of_kind, GoesBy}
+use Rattle.comp_invariant.proofs.Common.{own_pages, wants, with_found, names_after, Leads, LeadsIn, Next, NextName, NextFree, NextHeld}
+use Rattle.comp_invariant.proofs.Common.{NextOwn, NextNothing, next_of, NextMay, calls_go, leads_by, next_may, Lookup, Scan, Undecided}
+use Rattle.comp_invariant.proofs.Common.{ActiveCall, FrameKind, only_is, Goes, Acquired, reads_of, dues, next_work, starts, stamp_shown}
+use Rattle.comp_invariant.proofs.Common.{act_begun, fills_page, CountsAt, HasRoom, holds_counts, due_of, ReadIs, ReadBefore, IsScanned}
+use Rattle.comp_invariant.proofs.Common.{MayFill, KnowsAct, LooksUp, own_in, HasFound, NamesAre, LooksFor, KnowsUndecided, phase_at}
+use Rattle.comp_invariant.proofs.Common.{HasFlushed, Quiet, quiet_scan, clock, stamp, landed, found_more, Core, holds_at, holds_in}
+use Rattle.comp_invariant.proofs.Common.{Invariant, names_on, limits_of}
+use Rattle.switch_invariant.specs.thread_invariant.proofs.InvokeStarts.{invokes_good}
+use Rattle.comp_invariant.specs.spk_nums.specs.declared.calls.Call.TheVariants.{Look as look_call}
+use Rattle.comp_invariant.specs.spk_nums.specs.declared.calls.Call.TheVariants.{Make as make_call}
+use Rattle.comp_invariant.specs.spk_nums.specs.declared.calls.Call.TheVariants.{Call as call_gate}
+use Rattle.comp_invariant.specs.spk_nums.specs.declared.replies.Reply.TheVariants as reply
+use Rattle.comp_invariant.specs.entry_words.specs.declared.entry.Entry.TheVariants as entry
+use Rattle.comp_invariant.specs.kernel_rules.specs.Access.{any}
+use Rattle.comp_invariant.specs.kernel_rules.specs.Access.{Target as place}
+use Rattle.comp_invariant.specs.kernel_rules.specs.Rules.{Found as Found_it, held}
+use Rattle.comp_invariant.specs.stage_look.specs.Lookup.{found_at}
+use Rattle.comp_invariant.specs.call_plans.specs.declared.plans.Spot.TheVariants as spot_of
+use Rattle.comp_invariant.specs.call_plans.specs.declared.plans.Target.{Target}
+use Rattle.comp_invariant.specs.call_plans.specs.declared.plans.Target.TheVariants.{Free, Held, Own as own_page}
+use Rattle.comp_invariant.specs.call_plans.specs.PlanOf.{any_cap}
+use Rattle.comp_invariant.specs.call_plans.specs.GoesBy.{earlier, place_of_spot}
+use Rattle.comp_invariant.specs.call_plans.specs.After.{next_in}
+use Rattle.comp_invariant.specs.call_plans.proofs.FewNames.{few_names}
+use Rattle.comp_invariant.specs.call_plans.proofs.Roots.{count_led, pushed_one}
+use Rattle.comp_invariant.specs.call_plans.proofs.AfterNames.{one_more, NextBy}
+use Rattle.comp_invariant.specs.plan_ways.specs.Laws.{NextPlace, NextRefused}
+use Rattle.comp_invariant.specs.plan_ways.proofs.Ways.{next_on_way, next_first}
+use Rattle.comp_invariant.specs.act_states.specs.declared.refusals.Refusal.TheVariants as refusal
+use Rattle.comp_invariant.specs.act_states.specs.declared.lookups.Met.TheVariants.{Finds, Refused as met_refused}
+use Rattle.comp_invariant.specs.spk_nums.specs.declared.kinds.FrameKind.TheVariants as frame_kind
+use Rattle.comp_invariant.specs.spk_nums.specs.declared.kinds.Kind.TheVariants.{Range as range_kind, Comp as comp_kind, Gate as gate_kind}
 use Rattle.work_invariant.proofs.AtName.{IsTypedBy, one_name, ranges_good, looked_good}
-use Rattle.live_invariant.proofs.KillStarts.{kills_good}
-use Rattle.pair_invariant.proofs.ShareStarts.{transfers_good, delegates_good, tests_good}
+use Rattle.switch_invariant.specs.live_invariant.proofs.KillStarts.{kills_good}
+use Rattle.share_invariant.specs.pair_invariant.proofs.ShareStarts.{transfers_good, delegates_good, tests_good}
 use Rattle.switch_invariant.proofs.SwitchStarts.{switches_good}
-use Rattle.act_states.specs.declared.work.WorkStep.TheVariants.{Goes}
-use Rattle.stage_pins.specs.declared.held.Acquired.{Acquired}
-use Rattle.act_states.specs.declared.work.Act.{Act as ActOf}
-use Rattle.act_states.specs.Acts.{reads_of, dues, next_work, scans, starts, stamp_shown, removing, act_begun, fills_page, typing_to}
-use Rattle.act_states.specs.declared.typings.TypingAt.TheVariants.{Load as type_load}
-use Rattle.act_states.specs.declared.work.Act.TheVariants.{Retype as type_act}
-use Rattle.call_stages.specs.Fits.{CountsAt, HasRoom}
-use Rattle.core_invariant.specs.Holding.{holds_counts}
-use Rattle.core_invariant.specs.Knows.{due_of, ReadIs, ReadBefore, IsScanned, MayFill, KnowsAct, KnowsQuiet, LooksUp}
-use Rattle.core_invariant.specs.Knows.{own_in, HasFound, NamesAre, LooksFor, KnowsUndecided, phase_at, HasFlushed}
-use Rattle.count_invariant.proofs.Acquiring.{knows_next, next_holds, one_apart}
-use Rattle.scan_invariant.proofs.Scans.{ScanBegins, AtCores, AtFlushes, scan_begins, scan_none, ShowsSince, since_is}
-use Rattle.place_invariant.proofs.Starts.{starts_good}
-use Rattle.place_invariant.proofs.Outside.{refused_vacant}
-use Rattle.place_invariant.proofs.Paging.{paging_by}
-use Rattle.place_invariant.proofs.Vacancy.{unpaged_flushed, vacant_by}
-use Rattle.stage_quiet.specs.declared.quiet.Quiet.{Quiet}
-use Rattle.stage_quiet.specs.Scan.{quiet_scan}
-use Rattle.kernel_history.specs.Stamps.{clock, stamp}
-use Rattle.act_states.specs.Lookups.{met_name, met_free, met_held}
-use Rattle.call_stages.specs.Steps.{landed, found_more, next_by as what_next, named_one, took_look, took_found}
-use Rattle.act_fits.proofs.DuesFit.{cap_one}
-use Rattle.call_stages.specs.View.{Core}
-use Rattle.core_invariant.specs.Invariant.{holds_at, holds_in, Invariant}
-use Rattle.kept_facts.proofs.Carries.{names_on, read_before_on}
-use Rattle.step_ways.proofs.Loads.{OnlyLooks, next_at, call_is, is_active, loads_on}
-use Rattle.core_invariant.proofs.Sounds.{limits_of}
-use Rattle.step_ways.proofs.Refusals.{GoodTook, refuses_empty, refuses_wrong, refuses_occupied}
-use Rattle.count_invariant.proofs.Lookups.{Shows, ShowsHeld, Arrives, under_step, in_root_step}
-use Rattle.count_invariant.proofs.Findings.{own_is, reaches_none, reaches_held, reaches_other, use_held, use_free, use_removed_at, named_of}
-use Rattle.count_invariant.proofs.Findings.{named_no_slot, named_empty, named_wrong, found_named, arriving, reached_now, found_now}
-use Rattle.count_invariant.proofs.Next.{MayUse, Rest, ANameLeft, NoneLeft, rest_of, next_name, next_end}
+use Rattle.comp_invariant.specs.act_states.specs.declared.work.Act.{Act as ActOf}
+use Rattle.comp_invariant.specs.act_states.specs.Acts.{scans, removing}
+use Rattle.comp_invariant.specs.act_states.specs.Acts.{typing_to}
+use Rattle.comp_invariant.specs.act_states.specs.declared.typings.TypingAt.TheVariants.{Load as type_load}
+use Rattle.comp_invariant.specs.act_states.specs.declared.work.Act.TheVariants.{Retype as type_act}
+use Rattle.comp_invariant.specs.core_invariant.specs.Knows.{KnowsQuiet}
+use Rattle.comp_invariant.specs.count_invariant.proofs.Acquiring.{knows_next, next_holds, one_apart}
+use Rattle.comp_invariant.specs.scan_invariant.proofs.Scans.{ScanBegins, AtCores, AtFlushes, scan_begins, scan_none, ShowsSince, since_is}
+use Rattle.comp_invariant.specs.place_invariant.proofs.Starts.{starts_good}
+use Rattle.comp_invariant.specs.place_invariant.proofs.Outside.{refused_vacant}
+use Rattle.comp_invariant.specs.place_invariant.proofs.Paging.{paging_by}
+use Rattle.comp_invariant.specs.place_invariant.proofs.Vacancy.{unpaged_flushed, vacant_by}
+use Rattle.comp_invariant.specs.act_states.specs.Lookups.{met_name, met_free, met_held}
+use Rattle.comp_invariant.specs.call_stages.specs.Steps.{next_by as what_next, named_one, took_look, took_found}
+use Rattle.comp_invariant.specs.act_fits.proofs.DuesFit.{cap_one}
+use Rattle.comp_invariant.specs.kept_facts.proofs.Carries.{read_before_on}
+use Rattle.comp_invariant.specs.step_ways.proofs.Loads.{OnlyLooks, next_at, call_is, is_active, loads_on}
+use Rattle.comp_invariant.specs.step_ways.proofs.Refusals.{GoodTook, refuses_empty, refuses_wrong, refuses_occupied}
+use Rattle.comp_invariant.specs.count_invariant.proofs.Lookups.{Shows, ShowsHeld, Arrives, under_step, in_root_step}
+use Rattle.comp_invariant.specs.count_invariant.proofs.Findings.{own_is, reaches_none, reaches_held, reaches_other, use_held, use_free}
+use Rattle.comp_invariant.specs.count_invariant.proofs.Findings.{use_removed_at, named_of}
+use Rattle.comp_invariant.specs.count_invariant.proofs.Findings.{named_no_slot, named_empty, named_wrong, found_named, arriving}
+use Rattle.comp_invariant.specs.count_invariant.proofs.Findings.{reached_now, found_now}
+use Rattle.comp_invariant.specs.count_invariant.proofs.Next.{MayUse, Rest, ANameLeft, NoneLeft, rest_of, next_name, next_end}
 use Rattle.work_invariant.proofs.ByCall.{none_after, vacant_no_slot, vacant_occupied, held_no_slot, held_empty, make_target}
 use Rattle.work_invariant.proofs.ByCall.{BeginsRemoval, begins_removal, free_somewhere, held_somewhere, own_somewhere}
 use Rattle.work_invariant.proofs.AtTarget.{Begins, begins_free, range_within}

@@ -1,19 +1,10 @@
 -- What the names of a call have led to are capabilities.
-use Rattle.std.proofs.Common.{◌≡◌, ℕ, List, [], ◌∷◌, ◌++◌, Some, Bool, subst}
-use Rattle.spk_nums.specs.Capability.{Capability}
-use Rattle.spk_nums.specs.Setting.{Setting}
-use Rattle.spk_nums.specs.declared.kinds.Kind.{Kind}
-use Rattle.entry_words.specs.EntryWord.{EntryFits}
-use Rattle.entry_words.specs.declared.entry.Entry.TheVariants as entry
-use Rattle.kernel_rules.specs.Access.{Named, found}
-use Rattle.kernel_invariant.proofs.Facts.{none_some, some_inj}
-use Rattle.kernel_history.specs.Trace.{Trace}
-use Rattle.call_plans.specs.declared.plans.Name.{Name}
-use Rattle.call_plans.specs.declared.plans.Nth.{Nth}
-use Rattle.call_plans.specs.declared.plans.Nth.TheVariants.{First, Second, Third, Fourth}
-use Rattle.call_plans.specs.Plans.{head, tail, at_place}
-use Rattle.call_plans.specs.After.{Leads}
-use Rattle.core_invariant.specs.Knows.{HasFound, own_in}
+use Rattle.comp_invariant.proofs.Common.{◌≡◌, ℕ, List, [], ◌∷◌, ◌++◌, Some, Bool, subst, Capability, Setting, Kind, EntryFits, Named}
+use Rattle.comp_invariant.proofs.Common.{found, none_some, some_inj, Trace, Name, First, Second, at_place, Leads, HasFound, own_in}
+use Rattle.comp_invariant.specs.entry_words.specs.declared.entry.Entry.TheVariants as entry
+use Rattle.comp_invariant.specs.call_plans.specs.declared.plans.Nth.{Nth}
+use Rattle.comp_invariant.specs.call_plans.specs.declared.plans.Nth.TheVariants.{Third, Fourth}
+use Rattle.comp_invariant.specs.call_plans.specs.Plans.{head, tail}
 
 module _ (setup : Setting) (t : Trace) (c table : ℕ) where
   abbrev Led : List Name → List Named → List Capability → Type 0

@@ -1,3 +1,5 @@
+-- The names that most proofs use.
+pub use Rattle.comp_invariant.proofs.Common
 pub mod ByCall
 pub mod AtName
 pub mod AtTarget

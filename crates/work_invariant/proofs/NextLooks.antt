@@ -1,56 +1,33 @@
 -- What comes next of a call whose names have led to one capability more: the next name, the target, or, before a target that is to be
 -- free, the word of the component that the call reads.
-use Rattle.std.proofs.Common.{◌≡◌, ℕ, ◌<◌, nat_le, Bool, true, false, IsTrue, List, [], ◌∷◌, Option, Some, None, refl, sym, ◌∙◌, ap, subst}
-use Rattle.std.proofs.lemmas.Bool.{leb-true}
-use Rattle.spk_nums.specs.Capability.{Capability}
-use Rattle.spk_nums.specs.Setting.{Setting, IsSetting}
-use Rattle.spk_nums.specs.declared.replies.Reply.{Reply}
-use Rattle.spk_nums.specs.declared.replies.Reply.TheVariants as reply
-use Rattle.word_map.specs.Word.{EntryAt}
-use Rattle.word_map.specs.Moves.{LoadOf}
-use Rattle.kernel_rules.specs.State.{State, comp_of}
-use Rattle.kernel_rules.specs.Access.{Slot, Named, found, root_at, reached, has_no_slot, own, Target as place, Under, InRoot}
-use Rattle.kernel_rules.specs.Rules.{RuleMay, Refused}
-use Rattle.kernel_rules.specs.CallRelation.{rule_of, change_of, are_calls_spent}
-use Rattle.kernel_history.specs.Trace.{Step, Trace, Open, phase, state_after, last_left}
-use Rattle.trace_laws.proofs.AloneCalls.{refused_first}
-use Rattle.trace_laws.proofs.Carries.{Carries}
-use Rattle.trace_laws.proofs.Stays.{relies_table}
-use Rattle.stage_look.specs.declared.look.Look.{Look}
-use Rattle.stage_look.specs.declared.look.Look.TheVariants.{AtRoot, AtEntry}
-use Rattle.call_plans.specs.declared.plans.Spot.{Spot}
-use Rattle.call_plans.specs.declared.plans.Spot.TheVariants as spot_of
-use Rattle.call_plans.specs.declared.plans.Target.{Target}
-use Rattle.call_plans.specs.declared.plans.Target.TheVariants.{Nowhere, Free, Held, Own as own_page}
-use Rattle.call_plans.specs.declared.plans.Plan.{Plan}
-use Rattle.call_plans.specs.PlanOf.{plan_for}
-use Rattle.call_plans.specs.GoesBy.{GoesBy, own_pages, earlier, wants, place_of_spot}
-use Rattle.call_plans.specs.Rooted.{IsRooted}
-use Rattle.call_plans.specs.After.{with_found, names_after, Leads, LeadsIn, Next, NextName}
-use Rattle.call_plans.specs.After.{NextFree, NextHeld, next_target, next_of, NextMay}
-use Rattle.call_plans.proofs.CallsGoBy.{calls_go}
-use Rattle.call_plans.proofs.RootedTargets.{rooted}
-use Rattle.call_plans.proofs.AfterNames.{next_may}
-use Rattle.plan_ways.specs.Laws.{NextRefused}
-use Rattle.plan_ways.proofs.Ways.{next_first}
-use Rattle.act_states.specs.declared.refusals.Refusal.TheVariants as refusal
-use Rattle.act_states.specs.declared.work.Work.TheVariants.{Lookup, Read}
-use Rattle.call_stages.specs.declared.stages.Stage.TheVariants.{Undecided}
-use Rattle.call_stages.specs.declared.stages.ActiveCall.{ActiveCall}
-use Rattle.act_states.specs.declared.work.WorkStep.TheVariants.{Goes}
-use Rattle.act_states.specs.declared.work.WorkStep.{WorkStep}
-use Rattle.act_states.specs.WorkSteps.{refuse}
-use Rattle.act_states.specs.Acts.{reads_of, act_begun}
-use Rattle.core_invariant.specs.Holding.{holds_counts}
-use Rattle.core_invariant.specs.Knows.{ReadIs, ReadBefore, LooksUp, own_in, NamesAre, LooksFor, phase_at}
-use Rattle.act_states.specs.Lookups.{read_first, looks_under, looks_entry, looks_at, next_step}
-use Rattle.call_stages.specs.Steps.{landed, found_more, next_by as what_next}
-use Rattle.call_stages.specs.View.{Core}
-use Rattle.core_invariant.specs.Invariant.{holds_in, Invariant}
-use Rattle.step_ways.proofs.Loads.{OnlyLooks, core_is, call_is, is_active, loads_on, decides_on, step_to}
-use Rattle.step_ways.proofs.Refusals.{GoodTook, not_spent}
-use Rattle.count_invariant.proofs.Findings.{own_is, past_slot, past_unreached, named_no_slot}
-use Rattle.count_invariant.proofs.Next.{MayUse, spot_relies, Rest, ANameLeft, NoneLeft, rest_of, next_name, next_end}
+use Rattle.comp_invariant.proofs.Common.{◌≡◌, ℕ, ◌<◌, nat_le, Bool, true, false, IsTrue, List, [], ◌∷◌, Option, Some, None, refl, sym}
+use Rattle.comp_invariant.proofs.Common.{◌∙◌, ap, subst, leb-true, Capability, Setting, IsSetting, Reply, EntryAt, LoadOf, State, comp_of}
+use Rattle.comp_invariant.proofs.Common.{Slot, Named, found, root_at, reached, has_no_slot, own, Under, InRoot, RuleMay, Refused, rule_of}
+use Rattle.comp_invariant.proofs.Common.{change_of, are_calls_spent, Step, Trace, Open, phase, state_after, last_left, refused_first}
+use Rattle.comp_invariant.proofs.Common.{Carries, Look, AtRoot, AtEntry, Spot, Nowhere, Plan, plan_for, GoesBy, own_pages, wants}
+use Rattle.comp_invariant.proofs.Common.{with_found, names_after, Leads, LeadsIn, Next, NextName, NextFree, NextHeld, next_of, NextMay}
+use Rattle.comp_invariant.proofs.Common.{calls_go, next_may, Lookup, Read, Undecided, ActiveCall, Goes, WorkStep, refuse, reads_of}
+use Rattle.comp_invariant.proofs.Common.{act_begun, holds_counts, ReadIs, ReadBefore, LooksUp, own_in, NamesAre, LooksFor, phase_at}
+use Rattle.comp_invariant.proofs.Common.{landed, found_more, Core, holds_in, Invariant, Relies}
+use Rattle.comp_invariant.specs.spk_nums.specs.declared.replies.Reply.TheVariants as reply
+use Rattle.comp_invariant.specs.kernel_rules.specs.Access.{Target as place}
+use Rattle.comp_invariant.specs.trace_laws.proofs.Stays.{relies_table}
+use Rattle.comp_invariant.specs.call_plans.specs.declared.plans.Spot.TheVariants as spot_of
+use Rattle.comp_invariant.specs.call_plans.specs.declared.plans.Target.{Target}
+use Rattle.comp_invariant.specs.call_plans.specs.declared.plans.Target.TheVariants.{Free, Held, Own as own_page}
+use Rattle.comp_invariant.specs.call_plans.specs.GoesBy.{earlier, place_of_spot}
+use Rattle.comp_invariant.specs.call_plans.specs.Rooted.{IsRooted}
+use Rattle.comp_invariant.specs.call_plans.specs.After.{next_target}
+use Rattle.comp_invariant.specs.call_plans.proofs.RootedTargets.{rooted}
+use Rattle.comp_invariant.specs.plan_ways.specs.Laws.{NextRefused}
+use Rattle.comp_invariant.specs.plan_ways.proofs.Ways.{next_first}
+use Rattle.comp_invariant.specs.act_states.specs.declared.refusals.Refusal.TheVariants as refusal
+use Rattle.comp_invariant.specs.act_states.specs.Lookups.{read_first, looks_under, looks_entry, looks_at, next_step}
+use Rattle.comp_invariant.specs.call_stages.specs.Steps.{next_by as what_next}
+use Rattle.comp_invariant.specs.step_ways.proofs.Loads.{OnlyLooks, core_is, call_is, is_active, loads_on, decides_on, step_to}
+use Rattle.comp_invariant.specs.step_ways.proofs.Refusals.{GoodTook, not_spent}
+use Rattle.comp_invariant.specs.count_invariant.proofs.Findings.{own_is, past_slot, past_unreached, named_no_slot}
+use Rattle.comp_invariant.specs.count_invariant.proofs.Next.{MayUse, spot_relies, Rest, ANameLeft, NoneLeft, rest_of, next_name, next_end}
 use Rattle.work_invariant.proofs.ByCall.{vacant_no_slot, held_no_slot, past_entry, past_entry_unreached, own_unnamed}
 use Rattle.work_invariant.proofs.Reading.{reads_comp}
 
@@ -150,7 +127,7 @@ module _ (setup : Setting) (setting : IsSetting setup) (cores : ℕ → Core) (t
 
   -- what the next is, said of the slot
   under_good : (o : Option ℕ) (next : Next) → next_of a.plan more ≡ next → (root : Named) (n : ℕ) → root.found ≡ true
-      → Rattle.kernel_rules.specs.Relies.Relies s c root.frame
+      → Relies s c root.frame
       → (((look : Look) → LooksUp setup (e ∷ t) c (Under root n) look → Begun o (Goes (Lookup look))))
       → (nat_le n 4095 ≡ false → NextMay s c (own_pages s c) next reply.NoSlot)
       → (nat_le n 4095 ≡ false → NextRefused s c (own_pages s c) next reply.NoSlot)
@@ -167,7 +144,7 @@ module _ (setup : Setting) (setting : IsSetting setup) (cores : ℕ → Core) (t
           (first reply.NoSlot (subst (λ x. NextRefused s c (own_pages s c) x reply.NoSlot) (sym is) (refused past)))
 
   entry_good : (o : Option ℕ) (next : Next) → next_of a.plan more ≡ next → (root : Named) (i : ℕ) → root.found ≡ true
-      → Rattle.kernel_rules.specs.Relies.Relies s c root.frame
+      → Relies s c root.frame
       → (((look : Look) → LooksUp setup (e ∷ t) c (InRoot root i) look → Begun o (Goes (Lookup look))))
       → (nat_le i 63 ≡ false → NextMay s c (own_pages s c) next reply.NoSlot)
       → (nat_le i 63 ≡ false → NextRefused s c (own_pages s c) next reply.NoSlot)
@@ -262,7 +239,7 @@ module _ (setup : Setting) (setting : IsSetting setup) (cores : ℕ → Core) (t
           let next = next_name a.plan more name2 rest2 is in
           subst Goal (sym next) (under_good None (NextName name2.number (wants (with_found [] more) name2.wanted)) next (root_at table)
           name2.number refl
-          (subst (Rattle.kernel_rules.specs.Relies.Relies s c) (sym table_is)
+          (subst (Relies s c) (sym table_is)
           (relies_table setup setting t stands.legal c a.call is_open))
           (looks_next (NextName name2.number (wants (with_found [] more) name2.wanted)) next tt)
           (λ past. subst (λ x. IsTrue (has_no_slot s x)) (own_target name2.number) (past_slot s (root_at table) name2.number past))

@@ -1,54 +1,25 @@
 -- A call reads the word of the component to which its first name has led, before it looks its target up.
-use Rattle.std.proofs.Common.{◌≡◌, inl, ℕ, ◌<◌, ◌||◌, true, false, List, [], ◌∷◌, Some, None, refl, sym, ◌∙◌, ap, subst}
-use Rattle.std.proofs.lemmas.Bool.{eq-eqb}
-use Rattle.spk_nums.specs.Capability.{Capability}
-use Rattle.spk_nums.specs.Setting.{Setting, IsSetting}
-use Rattle.spk_nums.specs.declared.kinds.Kind.{Kind}
-use Rattle.spk_nums.specs.declared.kinds.Kind.TheVariants as kind
-use Rattle.spk_nums.specs.declared.calls.Call.{Call}
-use Rattle.spk_nums.specs.declared.calls.Call.TheVariants.{Gate}
-use Rattle.frame_words.specs.Comp.{CompFits, comp_of_word}
-use Rattle.frame_words.specs.declared.comp_word.CompWord.{CompWord}
-use Rattle.frame_words.proofs.CompLemmas.{comp_spells}
-use Rattle.word_map.specs.Word.{EntryAt}
-use Rattle.word_map.specs.Moves.{LoadOf}
-use Rattle.kernel_rules.specs.State.{State, Kernel, Comp, PlaceOf, comp_in}
-use Rattle.kernel_rules.specs.Access.{only}
-use Rattle.kernel_rules.specs.References.{named_by}
-use Rattle.kernel_invariant.proofs.Facts.{named_good}
-use Rattle.kernel_invariant.proofs.Sound.{only_is}
-use Rattle.kernel_invariant.proofs.SoundRuns.{opened}
-use Rattle.kernel_history.specs.Events.{events_of}
-use Rattle.kernel_history.specs.Footprint.{is_one_of, frames_near}
-use Rattle.kernel_history.specs.Legal.{IsLegal}
-use Rattle.kernel_history.specs.Marks.{mark_in_frame}
-use Rattle.kernel_history.specs.Marking.{marked_by}
-use Rattle.kernel_history.specs.Stamps.{stamp}
-use Rattle.kernel_history.specs.Trace.{Step, Trace, Open, phase, state_after, last_left}
-use Rattle.trace_laws.proofs.Stays.{sound_of, opened_is}
-use Rattle.stage_look.specs.declared.look.Look.{Look}
-use Rattle.call_plans.specs.declared.plans.Nth.TheVariants.{First}
-use Rattle.call_plans.specs.declared.plans.Plan.{Plan}
-use Rattle.call_plans.specs.PlanOf.{plan_for}
-use Rattle.call_plans.specs.After.{Leads, LeadsIn, Next}
-use Rattle.plan_ways.proofs.Near.{near_found}
-use Rattle.act_states.specs.declared.work.Work.TheVariants.{Lookup, Read}
-use Rattle.act_states.specs.Acts.{reads_of}
-use Rattle.call_stages.specs.declared.stages.Stage.TheVariants.{Undecided}
-use Rattle.call_stages.specs.declared.stages.ActiveCall.{ActiveCall}
-use Rattle.call_stages.specs.Steps.{took_read}
-use Rattle.call_stages.specs.View.{Core}
-use Rattle.core_invariant.specs.Holding.{settled_by}
-use Rattle.core_invariant.specs.Words.{IsFrameWord, count_room}
-use Rattle.core_invariant.specs.Knows.{HasComp, LooksFor, ReadIs, ReadBefore, KnowsUndecided, phase_at}
-use Rattle.core_invariant.specs.Invariant.{holds_at, held_by, Invariant}
-use Rattle.kept_facts.proofs.Carries.{names_on, looks_on}
-use Rattle.step_ways.proofs.Loads.{OnlyLooks, step_to, call_is, is_active, reads_on}
-use Rattle.step_ways.proofs.Refusals.{GoodTook}
-use Rattle.live_invariant.proofs.KillStarts.{comp_named}
-use Rattle.live_invariant.proofs.Numbers.{comp_is}
-use Rattle.count_invariant.proofs.Acquiring.{plan_leads}
-use Rattle.kept_facts.proofs.Lent.{may_keep, unlent_value}
+use Rattle.comp_invariant.proofs.Common.{◌≡◌, inl, ℕ, ◌<◌, ◌||◌, true, false, List, [], ◌∷◌, Some, None, refl, sym, ◌∙◌, ap, subst}
+use Rattle.comp_invariant.proofs.Common.{eq-eqb, Capability, Setting, IsSetting, Kind, Call, Gate, comp_of_word, CompWord, EntryAt}
+use Rattle.comp_invariant.proofs.Common.{LoadOf, State, Kernel, Comp, PlaceOf, comp_in, only, named_by, only_is, opened, events_of}
+use Rattle.comp_invariant.proofs.Common.{is_one_of, frames_near, IsLegal, mark_in_frame, marked_by, stamp, Step, Trace, Open, phase}
+use Rattle.comp_invariant.proofs.Common.{state_after, last_left, sound_of, opened_is, Look, First, Plan, plan_for, Leads, LeadsIn, Next}
+use Rattle.comp_invariant.proofs.Common.{Lookup, Read, reads_of, Undecided, ActiveCall, Core, settled_by, IsFrameWord, count_room}
+use Rattle.comp_invariant.proofs.Common.{LooksFor, ReadIs, ReadBefore, KnowsUndecided, phase_at, holds_at, held_by, Invariant, names_on}
+use Rattle.comp_invariant.proofs.Common.{may_keep, unlent_value}
+use Rattle.comp_invariant.specs.spk_nums.specs.declared.kinds.Kind.TheVariants as kind
+use Rattle.comp_invariant.specs.frame_words.specs.Comp.{CompFits}
+use Rattle.comp_invariant.specs.frame_words.proofs.CompLemmas.{comp_spells}
+use Rattle.comp_invariant.specs.kernel_invariant.proofs.Facts.{named_good}
+use Rattle.comp_invariant.specs.plan_ways.proofs.Near.{near_found}
+use Rattle.comp_invariant.specs.call_stages.specs.Steps.{took_read}
+use Rattle.comp_invariant.specs.core_invariant.specs.Knows.{HasComp}
+use Rattle.comp_invariant.specs.kept_facts.proofs.Carries.{looks_on}
+use Rattle.comp_invariant.specs.step_ways.proofs.Loads.{OnlyLooks, step_to, call_is, is_active, reads_on}
+use Rattle.comp_invariant.specs.step_ways.proofs.Refusals.{GoodTook}
+use Rattle.switch_invariant.specs.live_invariant.proofs.KillStarts.{comp_named}
+use Rattle.switch_invariant.specs.live_invariant.proofs.Numbers.{comp_is}
+use Rattle.comp_invariant.specs.count_invariant.proofs.Acquiring.{plan_leads}
 
 -- It is a component, which no other core may retype.
 pub reads_comp : (setup : Setting) → IsSetting setup → (t : Trace) → IsLegal setup t → (c : ℕ) (call : Call) → phase t c ≡ Open call

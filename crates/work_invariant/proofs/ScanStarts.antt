@@ -1,30 +1,16 @@
 -- What a call knows that has found its target quiescing: since which stamp, and what is known of it before a core or a flush is scanned, or
 -- where there is none to be scanned.
-use Rattle.std.proofs.Common.{◌≡◌, ◌≢◌, ℕ, ◌<◌, ◌≤◌, false, List, [], ◌∷◌, Some, None, arith, refl, sym, ◌∙◌, ap, subst}
-use Rattle.spk_nums.specs.Setting.{Setting, IsSetting}
-use Rattle.entry_words.specs.EntryWord.{entry_of_word}
-use Rattle.entry_words.specs.declared.entry.Entry.TheVariants as entry
-use Rattle.word_map.specs.Word.{EntryAt}
-use Rattle.word_map.specs.Moves.{LoadOf}
-use Rattle.kernel_rules.specs.State.{Thing, PlaceOf}
-use Rattle.kernel_rules.specs.Access.{Slot, Target as place}
-use Rattle.kernel_history.specs.Justified.{IsRemoved}
-use Rattle.kernel_history.specs.Stamps.{clock, stamp}
-use Rattle.kernel_history.specs.Trace.{Step, Trace, Open, phase, state_after, last_left, WasAt}
-use Rattle.trace_laws.proofs.Carries.{was_now}
-use Rattle.call_plans.specs.declared.plans.Plan.{Plan}
-use Rattle.call_plans.specs.PlanOf.{plan_for}
-use Rattle.call_plans.specs.After.{Leads, LeadsIn, NextFree, next_of}
-use Rattle.act_states.specs.Acts.{fills_page}
-use Rattle.call_stages.specs.declared.stages.ActiveCall.{ActiveCall}
-use Rattle.call_stages.specs.View.{Core}
-use Rattle.core_invariant.specs.Knows.{HasFlushed, IsScanned}
-use Rattle.core_invariant.specs.Invariant.{Invariant}
-use Rattle.step_ways.proofs.Loads.{step_to, is_active}
-use Rattle.count_invariant.proofs.Lookups.{Arrives}
-use Rattle.place_invariant.proofs.Paging.{paging_by}
-use Rattle.scan_invariant.proofs.Scans.{ShowsSince, since_is}
-use Rattle.place_invariant.proofs.Vacancy.{unpaged_flushed}
+use Rattle.comp_invariant.proofs.Common.{◌≡◌, ◌≢◌, ℕ, ◌<◌, ◌≤◌, false, List, [], ◌∷◌, Some, None, arith, refl, sym, ◌∙◌, ap, subst}
+use Rattle.comp_invariant.proofs.Common.{Setting, IsSetting, entry_of_word, EntryAt, LoadOf, Thing, PlaceOf, Slot, IsRemoved, clock}
+use Rattle.comp_invariant.proofs.Common.{stamp, Step, Trace, Open, phase, state_after, last_left, WasAt, was_now, Plan, plan_for, Leads}
+use Rattle.comp_invariant.proofs.Common.{LeadsIn, NextFree, next_of, fills_page, ActiveCall, Core, HasFlushed, IsScanned, Invariant}
+use Rattle.comp_invariant.specs.entry_words.specs.declared.entry.Entry.TheVariants as entry
+use Rattle.comp_invariant.specs.kernel_rules.specs.Access.{Target as place}
+use Rattle.comp_invariant.specs.step_ways.proofs.Loads.{step_to, is_active}
+use Rattle.comp_invariant.specs.count_invariant.proofs.Lookups.{Arrives}
+use Rattle.comp_invariant.specs.place_invariant.proofs.Paging.{paging_by}
+use Rattle.comp_invariant.specs.scan_invariant.proofs.Scans.{ShowsSince, since_is}
+use Rattle.comp_invariant.specs.place_invariant.proofs.Vacancy.{unpaged_flushed}
 use Rattle.work_invariant.proofs.AtTarget.{was_while_open}
 
 pub record ScanStarts (setup : Setting) (t : Trace) (c : ℕ) (a : ActiveCall) (at : Slot) (x : ℕ) : Type 0 where

@@ -1,36 +1,24 @@
 -- A step of a call is good, by the stage where the call stands: its work, the stores after its decision, the counts that it then commits,
 -- the load of the clock, and the store of its core word.
-use Rattle.std.proofs.Common.{◌≡◌, ◌∙◌, inl, ℕ, ◌^◌, ◌<◌, ◌∷◌, Option, Some, None, List, [], arith, false, refl, sym, ap, subst}
-use Rattle.std.proofs.lemmas.Bool.{lt-ltb}
-use Rattle.spk_nums.specs.Setting.{Setting, IsSetting}
-use Rattle.spk_nums.specs.declared.replies.Reply.{Reply}
-use Rattle.word_map.specs.Word.{CoreAt, ClockAt}
-use Rattle.word_map.specs.Moves.{LoadOf, StoreOf, word_of, told_of}
-use Rattle.kernel_history.specs.Trace.{Step, Trace, last_left}
-use Rattle.kernel_history.specs.Stamps.{clock}
-use Rattle.kernel_history.proofs.Steps.{clock_seen-own}
-use Rattle.act_states.specs.declared.work.Tail.TheVariants.{Nothing, Quiesce, Unmark, StoreDead, StoreFlush, Release}
-use Rattle.act_states.specs.declared.work.Tail.TheVariants.{StoreLive, Push, Pop, Share, StoreRunning, StoreIdle}
-use Rattle.call_stages.specs.declared.stages.Stage.{Stage}
-use Rattle.call_stages.specs.declared.stages.Stage.TheVariants.{Enter, Undecided, Decided, Leave}
-use Rattle.call_stages.specs.declared.stages.ActiveCall.{ActiveCall}
-use Rattle.call_stages.specs.View.{Core}
-use Rattle.call_stages.specs.Tails.{tail_move, stamp_if, stamp_of, took_tail, tail_counts}
-use Rattle.stage_pins.specs.declared.held.Acquired.{Acquired}
-use Rattle.core_invariant.specs.Holding.{holds_counts}
-use Rattle.count_invariant.proofs.Acquiring.{commit_good}
-use Rattle.call_stages.specs.Steps.{core_word, stage_move, Took, GoesOn, Returns, went_with, took_at}
-use Rattle.core_invariant.specs.Knows.{KnowsAt, Knows}
-use Rattle.core_invariant.specs.Invariant.{done_by, holds_at, Invariant}
-use Rattle.step_ways.proofs.Loads.{step_to, loads_on}
-use Rattle.step_ways.proofs.Writes.{clock_small, leaves_on}
-use Rattle.step_ways.proofs.Refusals.{GoodTook}
-use Rattle.place_invariant.proofs.Removals.{store_good}
+use Rattle.comp_invariant.proofs.Common.{◌≡◌, ◌∙◌, inl, ℕ, ◌^◌, ◌<◌, ◌∷◌, Option, Some, None, List, [], arith, false, refl, sym, ap}
+use Rattle.comp_invariant.proofs.Common.{subst, lt-ltb, Setting, IsSetting, Reply, CoreAt, ClockAt, LoadOf, StoreOf, word_of, told_of}
+use Rattle.comp_invariant.proofs.Common.{Step, Trace, last_left, clock, Nothing, Quiesce, Unmark, StoreDead, StoreFlush, Release}
+use Rattle.comp_invariant.proofs.Common.{StoreLive, Push, Pop, Share, StoreRunning, StoreIdle, Stage, Enter, Undecided, Decided, Leave}
+use Rattle.comp_invariant.proofs.Common.{ActiveCall, Core, Acquired, holds_counts, core_word, stage_move, Took, GoesOn, Returns}
+use Rattle.comp_invariant.proofs.Common.{went_with, KnowsAt, Knows, done_by, holds_at, Invariant, phase_at}
+use Rattle.comp_invariant.specs.kernel_history.proofs.Steps.{clock_seen-own}
+use Rattle.comp_invariant.specs.call_stages.specs.Tails.{tail_move, stamp_if, stamp_of, took_tail, tail_counts}
+use Rattle.comp_invariant.specs.count_invariant.proofs.Acquiring.{commit_good}
+use Rattle.comp_invariant.specs.call_stages.specs.Steps.{took_at}
+use Rattle.comp_invariant.specs.step_ways.proofs.Loads.{step_to, loads_on}
+use Rattle.comp_invariant.specs.step_ways.proofs.Writes.{clock_small, leaves_on}
+use Rattle.comp_invariant.specs.step_ways.proofs.Refusals.{GoodTook}
+use Rattle.comp_invariant.specs.place_invariant.proofs.Removals.{store_good}
 use Rattle.comp_invariant.proofs.CompStores.{give_live_good}
-use Rattle.frame_invariant.proofs.Makes.{unmark_good}
-use Rattle.thread_invariant.proofs.Stacks.{push_good, pop_good}
+use Rattle.comp_invariant.specs.frame_invariant.proofs.Makes.{unmark_good}
+use Rattle.switch_invariant.specs.thread_invariant.proofs.Stacks.{push_good, pop_good}
 use Rattle.share_invariant.proofs.Shares.{shared_good}
-use Rattle.live_invariant.proofs.Killed.{dead_good}
+use Rattle.switch_invariant.specs.live_invariant.proofs.Killed.{dead_good}
 use Rattle.page_invariant.proofs.Flushes.{flushed_good}
 use Rattle.switch_invariant.proofs.Stores.{running_good, idle_good}
 use Rattle.sweep_invariant.proofs.Releases.{release_good}
@@ -64,7 +52,7 @@ module _ (setup : Setting) (setting : IsSetting setup) (cores : ℕ → Core) (t
           loads_on setup setting cores t stands c here a active (LoadOf ClockAt) a.found (Leave r (clock setup t))
           (record { of_call = record { moves = refl; near = inl tt }; kept = refl; apart = λ d. refl }) lands
           (ap (holds_counts None) none ∙ sym (ap (λ s. holds_at s a.counts) at ∙ ap (holds_counts (done_by r drawn)) none))
-          (ap (Rattle.core_invariant.specs.Knows.phase_at a.call) at)
+          (ap (phase_at a.call) at)
           (λ carries. record {
             seen = clock_seen-own c e t refl;
             some = stands.some_time;

@@ -1,44 +1,34 @@
 -- A step of the work of an undecided call is good.
-use Rattle.thread_invariant.proofs.Left.{returning_good}
-use Rattle.thread_invariant.proofs.Entered.{invoking_good}
-use Rattle.std.proofs.Common.{◌≡◌, ℕ, ◌<◌, Some, sym, ap, subst}
-use Rattle.std.proofs.lemmas.Bool.{false≢true}
-use Rattle.spk_nums.specs.Setting.{Setting, IsSetting}
-use Rattle.word_map.specs.Moves.{word_of, told_of}
-use Rattle.kernel_history.specs.Trace.{Trace, last_left}
-use Rattle.stage_look.specs.Shown.{shown_in}
-use Rattle.stage_look.specs.Lookup.{look_move}
-use Rattle.stage_look.specs.declared.look.Look.{Look}
-use Rattle.stage_look.specs.declared.look.Look.TheVariants.{AtRoot, AtLeaf, AtEntry}
-use Rattle.act_states.specs.declared.work.Act.TheVariants.{Fill as fill_act, Remove as remove_act, Retype as type_act}
-use Rattle.act_states.specs.declared.work.Act.TheVariants.{Make as make_act, Outside, Tick as tick_act, Flush as flush_act}
-use Rattle.act_states.specs.declared.work.Act.TheVariants.{Kill as kill_act, Untype as untype_act, Map as map_act}
-use Rattle.act_states.specs.declared.work.Act.TheVariants.{MakeComp as comp_act, Invoke as invoke_act, Return as return_act}
-use Rattle.act_states.specs.declared.work.Act.TheVariants.{Touch as touch_act, Share as share_act, Switch as switch_act}
-use Rattle.act_states.specs.declared.work.Work.{Work}
-use Rattle.act_states.specs.declared.work.Work.TheVariants.{Lookup, Read, Scan, Acquire, Act}
-use Rattle.call_stages.specs.declared.stages.Stage.TheVariants.{Undecided}
-use Rattle.call_stages.specs.declared.stages.ActiveCall.{ActiveCall}
-use Rattle.call_stages.specs.View.{Core}
-use Rattle.call_stages.specs.Steps.{work_move, took_look, took_work}
-use Rattle.core_invariant.specs.Knows.{KnowsUndecided}
-use Rattle.core_invariant.specs.Invariant.{Invariant}
-use Rattle.step_ways.proofs.Refusals.{GoodTook}
-use Rattle.stage_pins.specs.declared.pin.Pin.TheVariants.{AtLoad, AtCompare}
-use Rattle.count_invariant.proofs.Acquiring.{acquire_good}
+use Rattle.comp_invariant.proofs.Common.{◌≡◌, ℕ, ◌<◌, Some, sym, ap, subst, false≢true, Setting, IsSetting, word_of, told_of, Trace}
+use Rattle.comp_invariant.proofs.Common.{last_left, shown_in, look_move, Look, AtRoot, AtLeaf, AtEntry, Outside, Work, Lookup, Read, Scan}
+use Rattle.comp_invariant.proofs.Common.{Acquire, Act, Undecided, ActiveCall, Core, KnowsUndecided, Invariant, AtLoad}
+use Rattle.switch_invariant.specs.thread_invariant.proofs.Left.{returning_good}
+use Rattle.switch_invariant.specs.thread_invariant.proofs.Entered.{invoking_good}
+use Rattle.comp_invariant.specs.act_states.specs.declared.work.Act.TheVariants.{Fill as fill_act, Remove as remove_act, Retype as type_act}
+use Rattle.comp_invariant.specs.act_states.specs.declared.work.Act.TheVariants.{Make as make_act, Tick as tick_act}
+use Rattle.comp_invariant.specs.act_states.specs.declared.work.Act.TheVariants.{Flush as flush_act}
+use Rattle.comp_invariant.specs.act_states.specs.declared.work.Act.TheVariants.{Kill as kill_act, Untype as untype_act, Map as map_act}
+use Rattle.comp_invariant.specs.act_states.specs.declared.work.Act.TheVariants.{MakeComp as comp_act, Invoke as invoke_act}
+use Rattle.comp_invariant.specs.act_states.specs.declared.work.Act.TheVariants.{Return as return_act}
+use Rattle.comp_invariant.specs.act_states.specs.declared.work.Act.TheVariants.{Touch as touch_act, Share as share_act}
+use Rattle.comp_invariant.specs.act_states.specs.declared.work.Act.TheVariants.{Switch as switch_act}
+use Rattle.comp_invariant.specs.call_stages.specs.Steps.{work_move, took_look, took_work}
+use Rattle.comp_invariant.specs.step_ways.proofs.Refusals.{GoodTook}
+use Rattle.comp_invariant.specs.stage_pins.specs.declared.pin.Pin.TheVariants.{AtCompare}
+use Rattle.comp_invariant.specs.count_invariant.proofs.Acquiring.{acquire_good}
 use Rattle.work_invariant.proofs.ByPlan.{lookup_good}
 use Rattle.work_invariant.proofs.Reading.{read_good}
 use Rattle.sweep_invariant.proofs.UntypeSteps.{untype_good}
-use Rattle.step_ways.proofs.Loads.{is_active}
-use Rattle.place_invariant.proofs.Fills.{fill_good}
-use Rattle.place_invariant.proofs.Mappings.{map_good}
-use Rattle.place_invariant.proofs.Removals.{remove_good}
-use Rattle.scan_invariant.proofs.ScanSteps.{scan_good}
-use Rattle.frame_invariant.proofs.Typings.{typing_good}
+use Rattle.comp_invariant.specs.step_ways.proofs.Loads.{is_active}
+use Rattle.comp_invariant.specs.place_invariant.proofs.Fills.{fill_good}
+use Rattle.comp_invariant.specs.place_invariant.proofs.Mappings.{map_good}
+use Rattle.comp_invariant.specs.place_invariant.proofs.Removals.{remove_good}
+use Rattle.comp_invariant.specs.scan_invariant.proofs.ScanSteps.{scan_good}
+use Rattle.comp_invariant.specs.frame_invariant.proofs.Typings.{typing_good}
 use Rattle.comp_invariant.proofs.MadeComps.{comp_good}
-use Rattle.frame_invariant.proofs.MadeObjects.{making_good}
+use Rattle.comp_invariant.specs.frame_invariant.proofs.MadeObjects.{making_good}
 use Rattle.time_invariant.proofs.TickSteps.{tick_good}
-use Rattle.live_invariant.proofs.Killed.{killing_good}
+use Rattle.switch_invariant.specs.live_invariant.proofs.Killed.{killing_good}
 use Rattle.page_invariant.proofs.Flushes.{flush_good}
 use Rattle.page_invariant.proofs.Touches.{touch_good}
 use Rattle.share_invariant.proofs.Shares.{share_good}

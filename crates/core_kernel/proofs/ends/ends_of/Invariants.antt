@@ -1,5 +1,5 @@
 use Rattle.std.proofs.Common.{◌≡◌, map, take}
-use Rattle.call_stages.specs.Cores.{end_of}
+use Rattle.call_steps.specs.call_stages.specs.Cores.{end_of}
 use Rattle.core_kernel.proofs.ends.ends_of.Given as goal
 
 abbrev pub invariant-loop-program : goal.invariant-loop-program

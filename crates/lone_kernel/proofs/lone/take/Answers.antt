@@ -1,5 +1,5 @@
 use Rattle.std.proofs.Common.{◌<◌, subst}
-use Rattle.call_stages.specs.Fits.{steps_left}
+use Rattle.call_steps.specs.call_stages.specs.Fits.{steps_left}
 use Rattle.lone_kernel.proofs.OneStep.{takes_turn}
 use Rattle.lone_kernel.proofs.lone.take.Goals as goal
 

@@ -1,6 +1,6 @@
 use Rattle.std.proofs.Common.{◌≡◌, ◌∙◌, ap}
 use Rattle.word_map.specs.Places.{size_of}
-use Rattle.flight.proofs.AfterStep.{absorbed_shape}
+use Rattle.flight_laws.specs.flight.proofs.AfterStep.{absorbed_shape}
 use Rattle.core_kernel.proofs.core_run.CoreRunCoreProgram.absorb.Goals as goal
 
 pub returns-in-Going-clause-size : goal.returns-in-Going-clause-size

@@ -1,5 +1,5 @@
 use Rattle.std.proofs.Common.{◌≡◌, ◌∙◌, None, All, map, ap, sym, subst}
-use Rattle.call_stages.specs.Cores.{end_of}
+use Rattle.call_steps.specs.call_stages.specs.Cores.{end_of}
 use Rattle.core_kernel.specs.Kernel.{AreAllSeats}
 use Rattle.core_kernel.specs.Calls.{EndsAt}
 use Rattle.core_kernel.proofs.Closing.{all_unwrapped, ended_between, ends_at}

@@ -1,5 +1,5 @@
 use Rattle.std.proofs.Common.{◌≡◌, ◌∙◌, ap, sym, subst}
-use Rattle.kernel_history.specs.Trace.{state_after}
+use Rattle.boot_words.specs.kernel_history.specs.Trace.{state_after}
 use Rattle.core_kernel.specs.Calls.{HasSeen}
 use Rattle.core_kernel.proofs.Seats.{has_seen, front_core, front_calls}
 use Rattle.core_kernel.proofs.seat.CoreSeat.front.Goals as goal

@@ -1,5 +1,5 @@
 use Rattle.std.proofs.Common.{◌<◌, ◌^◌, sym, subst, map, sum_by, []}
-use Rattle.flight.proofs.CoreFits.{started_fits}
+use Rattle.flight_laws.specs.flight.proofs.CoreFits.{started_fits}
 use Rattle.lone_kernel.specs.Machine.{AreFresh}
 use Rattle.lone_kernel.proofs.Boot.{fits, stands, few_due}
 use Rattle.lone_kernel.proofs.lone.LoneKernel.boot.Goals as goal

@@ -1,12 +1,12 @@
 use Rattle.std.proofs.Common.{◌<◌, [], length, get_or, map, arith, sym, ◌∙◌, ap, subst}
 use Rattle.spk_nums.specs.Setting.{IsSetting}
-use Rattle.kernel_history.specs.BootWords.{shape_of}
-use Rattle.kernel_history.specs.Counts.{RepresentCounts}
-use Rattle.kernel_history.specs.FinalWords.{Represent, word_in, end_in}
-use Rattle.kernel_history.specs.Trace.{state_after}
-use Rattle.call_stages.specs.Cores.{end_of}
+use Rattle.boot_words.specs.kernel_history.specs.BootWords.{shape_of}
+use Rattle.boot_words.specs.kernel_history.specs.Counts.{RepresentCounts}
+use Rattle.boot_words.specs.kernel_history.specs.FinalWords.{Represent, word_in, end_in}
+use Rattle.boot_words.specs.kernel_history.specs.Trace.{state_after}
+use Rattle.call_steps.specs.call_stages.specs.Cores.{end_of}
 use Rattle.lone_kernel.specs.Machine.{fresh_seat, IsFit}
-use Rattle.flight.proofs.Alike.{same_default}
+use Rattle.flight_laws.specs.flight.proofs.Alike.{same_default}
 use Rattle.lone_kernel.proofs.Close.{closes, closes_counts}
 use Rattle.lone_kernel.proofs.lone.LoneKernel.close.Goals as goal
 

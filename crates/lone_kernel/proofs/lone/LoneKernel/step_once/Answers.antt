@@ -1,7 +1,7 @@
 use Rattle.std.proofs.Common.{◌≡◌, ℕ, ◌<◌, ◌++◌, length, map, Some, sym, ◌∙◌, ap, subst, arith, slice_set, sum_by, get_or, get_or-set_same}
 use Rattle.std.proofs.lemmas.List.{length-append}
-use Rattle.kernel_history.specs.Trace.{decision_at}
-use Rattle.core_invariant.specs.Events.{decided_in}
+use Rattle.boot_words.specs.kernel_history.specs.Trace.{decision_at}
+use Rattle.flight_laws.specs.core_invariant.specs.Events.{decided_in}
 use Rattle.lone_kernel.specs.declared.seats.Seat.{Seat}
 use Rattle.lone_kernel.specs.Machine.{Machine, seat_at, core_at, list_at, IsFit, IsFitSeat, IsFinished}
 use Rattle.lone_kernel.specs.Machine.{stepped, turn_at, turn_of, seat_after, found_by, decisions_in}

@@ -1,0 +1,6 @@
+pub mod Histories
+pub mod Steps
+pub mod Totals
+pub mod Along
+pub mod Made
+pub mod Closing

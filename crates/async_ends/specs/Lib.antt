@@ -1,0 +1,5 @@
+pub mod Events
+pub mod Running
+pub mod Seen
+pub mod Calls
+pub mod Tables

@@ -1,0 +1,84 @@
+-- All that holds of a machine's history, from the invariant at each of its moments.
+use Rattle.flight.proofs.Common.{◌≡◌, [], ◌∷◌, ◌++◌, subst, Setting, IsSetting, Step, Trace}
+use Rattle.flight.specs.kernel_history.specs.Moments.{WordsSayAlong}
+use Rattle.flight.specs.Made.{cores_after, IsMade}
+use Rattle.flight.proofs.Final.{says_words}
+use Rattle.flight.proofs.Made.{made_stands}
+use Rattle.flight_laws.specs.Moments.{AtEachMoment, AtEachStep, OfEachStretch}
+use Rattle.flight_laws.specs.Histories.{MadeHistories}
+use Rattle.flight_laws.specs.Places.{ScannedCores}
+use Rattle.flight_laws.specs.Invocations.{EntersNoneKilled}
+use Rattle.flight_laws.proofs.Places.{places_found, scanned_cores}
+use Rattle.flight_laws.proofs.Frames.{counted_frames_stay, looked_nodes_stay, untyped_unused}
+use Rattle.flight_laws.proofs.Pages.{cached_frames_stay, cached_till_flush, touches_cache}
+use Rattle.flight_laws.proofs.Lives.{dead_for_good}
+use Rattle.flight_laws.proofs.Invocations.{enters_none_killed, enters_the_living}
+use Rattle.flight_laws.proofs.Threads.{threads_apart, words_say}
+use Rattle.flight_laws.proofs.Time.{time_kept, ticks_counted, heads_say, lists_say, tests_tell}
+use Rattle.flight_laws.proofs.MarkedHeads.{open_heads_say}
+use Rattle.flight_laws.proofs.OwedHeads.{marked_heads_say}
+
+says_along : (setup : Setting) → IsSetting setup → (t : Trace) → IsMade setup t → WordsSayAlong setup t
+says_along setup lim [] made = says_words setup lim (cores_after setup []) [] (made_stands setup lim [] made)
+says_along setup lim (e ∷ t) made =
+    (says_along setup lim t made.0, says_words setup lim (cores_after setup (e ∷ t)) (e ∷ t) (made_stands setup lim (e ∷ t) made))
+
+-- Each beginning of a trace that is the machine's is the machine's.
+begins_made : (setup : Setting) (u v : Trace) → IsMade setup (u ++ v) → IsMade setup v
+begins_made setup [] v made = made
+begins_made setup (e ∷ u) v made = begins_made setup u v made.0
+
+module _ (setup : Setting) (t : Trace) (made : IsMade setup t) where
+  made_at : (u v : Trace) → t ≡ u ++ v → IsMade setup v
+  made_at u v is = begins_made setup u v (subst (IsMade setup) is made)
+
+  -- What holds of each trace of the machine holds at each moment, at each step and of each stretch of this one.
+  moments : {Holds : Trace → Type 0} → ((v : Trace) → IsMade setup v → Holds v) → AtEachMoment Holds t
+  moments law u v is = law v (made_at u v is)
+
+  steps : {Holds : Trace → Step → Type 0} → ((v : Trace) (e : Step) → IsMade setup (e ∷ v) → Holds v e) → AtEachStep Holds t
+  steps law u e v is = law v e (made_at u (e ∷ v) is)
+
+  stretches : {Holds : Trace → Trace → Type 0} → ((u v : Trace) → IsMade setup (u ++ v) → Holds u v) → OfEachStretch Holds t
+  stretches law w u v is = law u v (made_at w (u ++ v) is)
+
+scans : (setup : Setting) → IsSetting setup → (u v : Trace) → IsMade setup (u ++ v) → ScannedCores setup u v
+scans setup lim u [] made = tt
+scans setup lim u (e ∷ v) made = scanned_cores setup lim u v e made
+
+enters : (setup : Setting) → IsSetting setup → (u v : Trace) → IsMade setup (u ++ v) → EntersNoneKilled setup u v
+enters setup lim [] v made = tt
+enters setup lim (e ∷ u) v made = enters_none_killed setup lim u v e made
+
+pub made_histories : MadeHistories
+made_histories setup lim t made =
+    let stands = made_stands setup lim t made in
+    record {
+      made = made;
+      legal = stands.legal;
+      bounds = stands.bounds;
+      discipline = stands.discipline;
+      footprints = stands.footprints;
+      words = says_along setup lim t made;
+      alone = stands.alone;
+      places_found = moments setup t made (places_found setup lim);
+      looked_nodes_stay = stretches setup t made (looked_nodes_stay setup lim);
+      scanned_cores = stretches setup t made (scans setup lim);
+      counted_frames_stay = steps setup t made (counted_frames_stay setup lim);
+      untyped_frames_are_unused = steps setup t made (untyped_unused setup lim);
+      cached_frames_stay = moments setup t made (cached_frames_stay setup lim);
+      cached_till_flush = stretches setup t made (cached_till_flush setup lim);
+      touches_cache = steps setup t made (λ v e is. touches_cache setup lim e v is);
+      dead_for_good = stretches setup t made (dead_for_good setup lim);
+      enters_the_living = steps setup t made (enters_the_living setup lim);
+      enters_none_killed = stretches setup t made (enters setup lim);
+      threads_run_apart = moments setup t made (threads_apart setup lim);
+      thread_words_say = moments setup t made (words_say setup lim);
+      time_is_kept = moments setup t made (time_kept setup lim);
+      ticks_are_counted = moments setup t made (ticks_counted setup lim);
+      heads_say = moments setup t made (heads_say setup lim);
+      open_heads_say = moments setup t made (open_heads_say setup lim);
+      marked_heads_say = moments setup t made (marked_heads_say setup lim);
+      lists_say = moments setup t made (lists_say setup lim);
+      tests_tell = steps setup t made (λ v e is. tests_tell setup lim e v is);
+    }

@@ -1,0 +1,61 @@
+-- What each command that makes atomic steps, and each seat of a kernel, has of its trace: all that holds of a machine's history.
+use Rattle.flight.specs.spk_nums.specs.Setting.{Setting, IsSetting}
+use Rattle.flight.specs.kernel_history.specs.Trace.{Trace}
+use Rattle.flight.specs.kernel_history.specs.Legal.{IsLegal}
+use Rattle.flight.specs.kernel_history.specs.Bounds.{KeepsBounds}
+use Rattle.flight.specs.kernel_history.specs.Discipline.{KeepsDiscipline}
+use Rattle.flight.specs.kernel_history.specs.Footprint.{KeepsFootprints}
+use Rattle.flight.specs.kernel_history.specs.Alone.{KeepsFirst}
+use Rattle.flight.specs.kernel_history.specs.Moments.{WordsSayAlong}
+use Rattle.flight.specs.Made.{IsMade}
+use Rattle.flight_laws.specs.Moments.{AtEachMoment, AtEachStep, OfEachStretch}
+use Rattle.flight_laws.specs.Places.{PlacesFound, ScannedCores}
+use Rattle.flight_laws.specs.Frames.{LookedNodesStay, CountedFramesStay, UntypedFramesAreUnused}
+use Rattle.flight_laws.specs.Pages.{CachedFramesStay, CachedTillFlush, TouchesCache}
+use Rattle.flight_laws.specs.Lives.{DeadForGood}
+use Rattle.flight_laws.specs.Invocations.{EntersTheLiving, EntersNoneKilled}
+use Rattle.flight_laws.specs.Threads.{ThreadsRunApart, ThreadWordsSay}
+use Rattle.flight_laws.specs.Time.{TimeIsKept, TicksAreCounted, HeadsSay, OpenHeadsSay, MarkedHeadsSay, ListsSay, TestsTell}
+
+-- The trace is the machine's, and is a legal history: its replies are those of the sequential kernel, each at a step of its call,
+-- and justified. Its calls keep within their bounds of steps, each step keeps the discipline of words and is in the footprint of its
+-- call, at each moment the words say what the state is, and a call made alone answers as in the sequential kernel. Then come the
+-- laws of places, frames, translations, components, threads and time; what each says stands with its definition.
+pub record IsHistory (setup : Setting) (t : Trace) : Type 0 where
+  pub made : IsMade setup t
+  pub legal : IsLegal setup t
+  pub bounds : KeepsBounds setup.cores t
+  pub discipline : KeepsDiscipline setup t
+  pub footprints : KeepsFootprints setup t
+  pub words : WordsSayAlong setup t
+  pub alone : KeepsFirst setup t
+  -- what calls have found, and what scans have shown
+  pub places_found : AtEachMoment (PlacesFound setup) t
+  pub looked_nodes_stay : OfEachStretch (LookedNodesStay setup) t
+  pub scanned_cores : OfEachStretch (ScannedCores setup) t
+  -- frames and the references to them
+  pub counted_frames_stay : AtEachStep (CountedFramesStay setup) t
+  pub untyped_frames_are_unused : AtEachStep (UntypedFramesAreUnused setup) t
+  -- translations
+  pub cached_frames_stay : AtEachMoment (CachedFramesStay setup) t
+  pub cached_till_flush : OfEachStretch (CachedTillFlush setup) t
+  pub touches_cache : AtEachStep (TouchesCache setup) t
+  -- components and gates
+  pub dead_for_good : OfEachStretch (DeadForGood setup) t
+  pub enters_the_living : AtEachStep (EntersTheLiving setup) t
+  pub enters_none_killed : OfEachStretch (EntersNoneKilled setup) t
+  -- threads
+  pub threads_run_apart : AtEachMoment (ThreadsRunApart setup) t
+  pub thread_words_say : AtEachMoment (ThreadWordsSay setup) t
+  -- time
+  pub time_is_kept : AtEachMoment (TimeIsKept setup) t
+  pub ticks_are_counted : AtEachMoment (TicksAreCounted setup) t
+  pub heads_say : AtEachMoment (HeadsSay setup) t
+  pub open_heads_say : AtEachMoment (OpenHeadsSay setup) t
+  pub marked_heads_say : AtEachMoment (MarkedHeadsSay setup) t
+  pub lists_say : AtEachMoment (ListsSay setup) t
+  pub tests_tell : AtEachStep (TestsTell setup) t
+
+-- Each trace that is the machine's is such a history.
+abbrev pub MadeHistories : Type 0
+MadeHistories = (setup : Setting) → IsSetting setup → (t : Trace) → IsMade setup t → IsHistory setup t

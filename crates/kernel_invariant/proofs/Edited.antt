@@ -1,0 +1,517 @@
+-- Every call that is carried out is a list of edits, and what is known where each is made.
+use Rattle.std.proofs.Common.{◌≡◌, ◌≢◌, ℕ, ◌+◌, ◌-◌, ◌<◌, ◌≤◌, Bool, true, false, not, refl, sym, ◌∙◌, ap, subst, cond}
+use Rattle.std.proofs.Common.{◌==◌, nat_lt, nat_le, length, IsTrue, List, [], ◌∷◌, Option, Some, None}
+use Rattle.std.proofs.lemmas.Bool.{false≢true, eqb-false, ltb-false, leb-false}
+use Rattle.spk_nums.specs.Capability.{Capability}
+use Rattle.spk_nums.specs.CallLimits.{InLimits}
+use Rattle.spk_nums.specs.Merging.{merged}
+use Rattle.spk_nums.specs.Qualities.{IsQualityList}
+use Rattle.spk_nums.specs.declared.kinds.Kind.{Kind}
+use Rattle.spk_nums.specs.declared.kinds.Kind.TheVariants as kind
+use Rattle.spk_nums.specs.declared.kinds.FrameKind.{FrameKind}
+use Rattle.spk_nums.specs.declared.kinds.FrameKind.TheVariants as frame_kind
+use Rattle.spk_nums.specs.declared.calls.Make.{Make}
+use Rattle.spk_nums.specs.declared.calls.Make.TheVariants as make
+use Rattle.spk_nums.specs.declared.calls.Call.{Call}
+use Rattle.spk_nums.specs.declared.calls.Call.TheVariants as call
+use Rattle.spk_nums.specs.declared.translations.Translation.{Translation}
+use Rattle.spk_nums.specs.declared.replies.Value.{Value}
+use Rattle.spk_nums.specs.declared.replies.Value.TheVariants.{Nothing, Amount}
+use Rattle.spk_nums.specs.declared.replies.Reply.TheVariants as reply
+use Rattle.kernel_rules.specs.State.{Free, Holds, Object, Blank, Table, Leaf, Pages, Pleaf, Comp, Thread, Tcap, Frame}
+use Rattle.kernel_rules.specs.State.{Untyped, User, Kernel}
+use Rattle.kernel_rules.specs.State.{CompFields, TcapFields, Liveness, Live, Grace, Thing, FrameOf, NumberOf, State}
+use Rattle.kernel_rules.specs.State.{put, tcap_in, comp_in, comp_of, thread_in, thread_of}
+use Rattle.kernel_rules.specs.Start.{plain_cap, no_grace}
+use Rattle.kernel_rules.specs.References.{refs}
+use Rattle.kernel_rules.specs.Access.{Slot, Target, Under, InRoot, found, held_in, place_at, only, root}
+use Rattle.kernel_rules.specs.Fitting.{fits, IsGood}
+use Rattle.kernel_rules.specs.Relies.{is_node}
+use Rattle.kernel_rules.specs.Rules.{Change, fills, removes, answers, Cause, When, WaitedFor, Unflushed, Found, named, vacant, held, mapped}
+use Rattle.kernel_rules.specs.Rules.{first_cause, refusal_of, waits_of, flushes_of, Judged, Refused, IsFoundAnd}
+use Rattle.kernel_rules.specs.CapabilityCalls.{outside, not_blank, makes, make_node, make_rule, not_taken, is_live, epoch_of}
+use Rattle.kernel_rules.specs.MemoryCalls.{is_untyped_now, is_empty, not_retyped, retype_rule, touch_by, translation_of, translated}
+use Rattle.kernel_rules.specs.InvocationCalls.{is_live_in, not_live, switch_to}
+use Rattle.kernel_rules.specs.TimeCalls.{tcap_at, with_tcap, with_budget, merged_list, are_same, is_short, are_unlike, are_many, moved}
+use Rattle.kernel_rules.specs.GracePeriods.{begun}
+use Rattle.kernel_rules.specs.CallRelation.{rule_of, change_of, changed, MayReply, ends_by, flushes_by}
+use Rattle.kernel_rules.proofs.Changes.{IfFound}
+use Rattle.kernel_invariant.proofs.Sound.{put_all}
+use Rattle.kernel_invariant.proofs.SoundRemovals.{below_by, none_waiting}
+use Rattle.kernel_invariant.proofs.Facts.{ChangesFrom, changes_map, outcome_from, named_good, named_fit, RootIsNode, vacant_facts}
+use Rattle.kernel_invariant.proofs.Facts.{held_facts, none_parts, when_not, not_not, first_two, some_none}
+use Rattle.kernel_invariant.proofs.SoundCalls.{IsOpen, node_of, in_range, blank_by, untyped_by, own_thread}
+use Rattle.kernel_invariant.proofs.SoundCalls.{thread_below, tcap_below, root_node, zero_refs}
+use Rattle.kernel_invariant.specs.Edits.{Edit, Fill, Remove, Node, Become, Untype, Component, Deaden, Push, Pop, Switch, Cache, Flush}
+use Rattle.kernel_invariant.specs.Edits.{Charge, Move, Merge, edited, after_edits, begins_in, ends_in, begins_all, ends_all}
+use Rattle.kernel_invariant.specs.Edits.{flush_in, kept_all, charged_by, charged_all, does}
+
+-- A frame without an object.
+abbrev pub is_bare : Frame → Bool
+is_bare (Kernel Blank) = true
+is_bare Untyped = true
+is_bare _ = false
+
+-- What a call tests before an edit of its core c.
+abbrev pub Tested : ℕ → State → Edit → Type 0
+Tested c s (Component f k) =
+    (is_live (s.number k.number) ≡ false) × (k.epoch ≡ epoch_of (s.number k.number) + 1) × (epoch_of (s.number k.number) ≢ s.limits.epochs)
+Tested c s (Untype f) = flushes_of s (FrameOf f) ≡ None
+Tested c s (Deaden l e) = is_live_in (s.number l) e ≡ true
+Tested c s (Push f) = length (thread_of s c).stack < 16
+Tested c s Pop = 1 < length (thread_of s c).stack
+Tested c s (Cache t) = (k : Capability) × (mapped s c (comp_of s c).pages t.page ≡ Found k)
+    × (t ≡ record { pages = (comp_of s c).pages; page = t.page; frame = k.frame; flags = record { 0 = k.arg } })
+Tested c s _ = Unit {0}
+
+-- What the limits of a call's arguments, and the rule that makes an object, say of an edit.
+abbrev pub Limited : ℕ → State → Edit → Type 0
+Limited c s (Node f object) = IsTrue (is_node (Kernel object))
+Limited c s (Component f k) = k.number < 64
+Limited c s (Become f (Kernel (Comp k))) = ⊥
+Limited c s (Become f (Kernel (Thread t))) = length t.stack ≡ 1
+Limited c s (Become f (Kernel (Tcap q))) = (length q.qualities ≡ 1) × IsQualityList q.qualities
+Limited c s (Charge n) = n ≤ 1000000
+Limited c s _ = Unit {0}
+
+-- What is known of a place of a node, of a thread, and of a temporal capability.
+pub record PlaceKnown (frames : ℕ) (at : Slot) : Type 0 where
+  pub below : at.node < frames
+  pub small : at.index < 64
+
+pub record HasTcap (s : State) (f : ℕ) : Type 0 where
+  pub fit : IsTrue (fits kind.Tcap (s.frame f))
+  pub below : f < s.limits.frames
+
+pub record HasThread (s : State) (f : ℕ) : Type 0 where
+  pub fit : IsTrue (fits kind.Thread (s.frame f))
+  pub below : f < s.limits.frames
+
+pub record Moves (s : State) (a b m : ℕ) : Type 0 where
+  pub from : HasTcap s a
+  pub to : HasTcap s b
+  pub apart : a ≢ b
+  pub enough : m ≤ (tcap_at s a).budget
+
+-- A list is put that merges those of two temporal capabilities, and has at most 8 pairs.
+pub record Merges (s : State) (f : ℕ) (qs : List (ℕ × ℕ)) : Type 0 where
+  pub to : HasTcap s f
+  pub other : ℕ
+  pub from : HasTcap s other
+  pub is : qs ≡ merged_list s other f
+  pub few : length qs ≤ 8
+
+-- A frame without an object takes one that has no budget and runs nowhere.
+pub record TakesFresh (s : State) (f : ℕ) (x : Frame) : Type 0 where
+  pub below : f < s.limits.frames
+  pub bare : IsTrue (is_bare (s.frame f))
+  pub poor : (tcap_in x).budget ≡ 0
+  pub idle : (thread_in x).runs_on ≡ None
+
+pub record Switches (s : State) (c h : ℕ) : Type 0 where
+  pub core : c < s.limits.cores
+  pub old : HasThread s (s.core c).thread
+  pub new : HasThread s h
+  pub idle : (thread_in (s.frame h)).runs_on ≡ None
+
+-- A frame is untyped that holds nothing, is not referenced, and for which no other core waits.
+pub record Untypes (s : State) (c f : ℕ) : Type 0 where
+  pub below : f < s.limits.frames
+  pub empty : is_empty s f (s.frame f) ≡ true
+  pub unnamed : refs s f ≡ 0
+  pub unwaited : (d : ℕ) → d < s.limits.cores → d ≢ c → (s.grace (FrameOf f)).waits d ≡ false
+
+-- What is known of a sound state where core c makes an edit of it.
+abbrev pub Known : ℕ → State → Edit → Type 0
+Known c s (Fill at k) = PlaceKnown s.limits.frames at × (held_in (place_at s at) ≡ None)
+Known c s (Remove at k) = PlaceKnown s.limits.frames at × (place_at s at ≡ Holds k)
+Known c s (Node f object) =
+    (s.frame f ≡ Kernel Blank) × ((i : ℕ) (k : Capability) → s.place f i ≡ Holds k → ⊥) × TakesFresh s f (Kernel object)
+Known c s (Become f x) = (is_node x ≡ false) × TakesFresh s f x
+Known c s (Untype f) = Untypes s c f
+Known c s (Component f k) = TakesFresh s f (Kernel (Comp k))
+Known c s (Deaden l e) = l < 64
+Known c s (Push f) = HasThread s (s.core c).thread
+Known c s Pop = HasThread s (s.core c).thread
+Known c s (Switch h q) = Switches s c h
+Known c s (Cache t) = c < s.limits.cores
+Known c s Flush = c < s.limits.cores
+Known c s (Charge n) = (c < s.limits.cores) × HasTcap s (s.core c).tcap
+Known c s (Move a b m) = Moves s a b m
+Known c s (Merge f qs) = Merges s f qs
+
+-- Each edit of a list, in the state that it finds.
+abbrev pub Each : (ℕ → State → Edit → Type 0) → ℕ → State → List Edit → Type 0
+Each P c s [] = Unit {0}
+Each P c s (e ∷ es) = P c s e × Each P c (edited c s e) es
+
+-- A list of edits ends the grace periods that the call ends, flushes where it does, leaves the others, and charges as many ticks.
+abbrev pub Agrees : Call → ℕ → List Edit → Type 0
+Agrees call c list =
+    ((x : Thing) → ends_by call x ≡ ends_all list x)
+    × (flushes_by call ≡ flush_in list)
+    × ((x : Thing) (g : Grace) → kept_all c list x g
+    ≡ cond (ends_by call x) no_grace (cond (flushes_by call) (record g { unflushed = put g.unflushed c false }) g))
+    × (charged_by call ≡ charged_all list)
+
+-- Edits after the first fill places and put lists alone.
+abbrev pub AreLater : List Edit → Type 0
+AreLater [] = Unit {0}
+AreLater (Fill at k ∷ es) = AreLater es
+AreLater (Merge f qs ∷ es) = AreLater es
+AreLater _ = ⊥
+
+-- So the grace periods that a list begins and ends are those that its first edit begins and ends.
+abbrev pub Calm : ℕ → State → List Edit → Type 0
+Calm c s [] = Unit {0}
+Calm c s (e ∷ es) = (begins_all c s (e ∷ es) ≡ begins_in c s e) × ((x : Thing) → ends_all (e ∷ es) x ≡ ends_in e x) × AreLater es
+
+-- They change no core and no number.
+pub later_core : (c : ℕ) (s : State) (es : List Edit) → AreLater es → (after_edits c s es).core ≡ s.core
+later_core c s [] l = refl
+later_core c s (Fill at k ∷ es) l = later_core c (edited c s (Fill at k)) es l
+later_core c s (Merge f qs ∷ es) l = later_core c (edited c s (Merge f qs)) es l
+later_core c s (_ ∷ es) l = absurd l
+
+pub later_number : (c : ℕ) (s : State) (es : List Edit) → AreLater es → (after_edits c s es).number ≡ s.number
+later_number c s [] l = refl
+later_number c s (Fill at k ∷ es) l = later_number c (edited c s (Fill at k)) es l
+later_number c s (Merge f qs ∷ es) l = later_number c (edited c s (Merge f qs)) es l
+later_number c s (_ ∷ es) l = absurd l
+
+-- The change of a call of core c is that of a list of edits.
+pub record Edits (call : Call) (c : ℕ) (s : State) (change : Change) : Type 0 where
+  pub list : List Edit
+  pub is : change ≡ does c s change.value list
+  pub agrees : Agrees call c list
+  pub calm : Calm c s list
+  pub tested : Each Tested c s list
+  pub limited : InLimits call → Each Limited c s list
+  pub known : (o : ℕ → Bool) → IsOpen s o c → Each Known c s list
+
+-- A temporal capability in place of one.
+tcap_fits : (x : Frame) (q : TcapFields) → IsTrue (fits kind.Tcap x) → IsTrue (fits kind.Tcap (with_tcap x q))
+tcap_fits (Kernel (Tcap p)) q h = refl
+tcap_fits _ q h = absurd (false≢true h)
+
+-- What is known in an open call's state.
+module _ (s : State) (c : ℕ) (o : ℕ → Bool) (h : IsOpen s o c) where
+  node_known : (at : Slot) → IsTrue (is_node (s.frame at.node)) × (at.index < 64) → PlaceKnown s.limits.frames at
+  node_known at n = record { below = below_by s o at.node h.sound is_node refl n.0; small = n.1 }
+
+  fill_known : (target : Target) (at : Slot) (k : Capability) → RootIsNode s target → vacant s c target ≡ Found at → Known c s (Fill at k)
+  fill_known target at k node e = (node_known at (node_of s o c target at h node e), (vacant_facts s c target at e).1)
+
+  remove_known : (target : Target) (at : Slot) (k : Capability) → held s c target ≡ Found (at, k) → Known c s (Remove at k)
+  remove_known target at k e =
+      let p = (held_facts s c target at k e).1 in
+      (node_known at (h.sound.bare at.node at.index k p), p)
+
+  tcap_known : (n : ℕ) (k : Capability) → named s c n (only kind.Tcap) ≡ Found k → HasTcap s k.frame
+  tcap_known n k e =
+      let fit = named_fit s o c n kind.Tcap k h.sound h.is e in
+      record { fit = fit; below = tcap_below s o k.frame h.sound fit }
+
+  own_core : c < s.limits.cores
+  own_core = (h.sound.inside c h.is).1
+
+  own_known : HasThread s (s.core c).thread
+  own_known = record { fit = (h.sound.cores c own_core).0; below = own_thread s o c h }
+
+  charge_known : HasTcap s (s.core c).tcap
+  charge_known =
+      let fit = (h.sound.cores c own_core).1 in
+      record { fit = fit; below = tcap_below s o (s.core c).tcap h.sound fit }
+
+  fresh_at : (f : ℕ) (x y : Frame) → (f < s.limits.frames) × (s.frame f ≡ y) → IsTrue (is_bare y) → (tcap_in x).budget ≡ 0
+      → (thread_in x).runs_on ≡ None → TakesFresh s f x
+  fresh_at f x y at bare poor idle =
+      record { below = at.0; bare = subst (λ x. IsTrue (is_bare x)) (sym at.1) bare; poor = poor; idle = idle }
+
+  fresh : (r f : ℕ) (range : Capability) (causes : List Cause) (object : Object)
+      → named s c r (only kind.Range) ≡ Found range → (tcap_in (Kernel object)).budget ≡ 0 → (thread_in (Kernel object)).runs_on ≡ None
+      → first_cause s c (outside (found range) f ∷ not_blank s f ∷ causes) ≡ None → TakesFresh s f (Kernel object)
+  fresh r f range causes object e poor idle calm =
+      fresh_at f (Kernel object) (Kernel Blank) (blank_by s o c r f range causes h e calm) refl poor idle
+
+  node_fresh : (r f : ℕ) (range : Capability) (object : Object) (at : Slot) (k : Capability)
+      → named s c r (only kind.Range) ≡ Found range → (tcap_in (Kernel object)).budget ≡ 0 → (thread_in (Kernel object)).runs_on ≡ None
+      → first_cause s c (outside (found range) f ∷ not_blank s f ∷ []) ≡ None → Known c s (Fill at k)
+      → Known c s (Node f object) × Known c (edited c s (Node f object)) (Fill at k)
+  node_fresh r f range object at k e poor idle calm place =
+      let blank = (blank_by s o c r f range [] h e calm).1 in (
+        (
+          blank,
+          λ i k e. false≢true (sym (ap is_node blank) ∙ (h.sound.bare f i k e).0),
+          fresh r f range [] object e poor idle calm,
+        ),
+        (place.0, put_all (λ j r. held_in (r at.index) ≡ None) s.place f (λ i. Free) at.node (λ same. refl) (λ other. place.1)),
+      )
+
+  number_small : (l e : ℕ) (x : Liveness) → s.number l ≡ x → is_live_in (s.number l) e ≡ true → l < 64
+  number_small l e (Live d g) is q = (h.sound.numbers l d g is).1
+  number_small l e _ is q = absurd (false≢true (sym (ap (λ x. is_live_in x e) is) ∙ q))
+
+  moves_known : (a b m : ℕ) (j k : Capability) (causes : List Cause)
+      → named s c a (only kind.Tcap) ≡ Found j → named s c b (only kind.Tcap) ≡ Found k
+      → first_cause s c (are_same (found j) (found k) ∷ is_short s (found j) m ∷ causes) ≡ None → Moves s j.frame k.frame m
+  moves_known a b m j k causes e f calm =
+      let p = first_two s c (are_same (found j) (found k)) (is_short s (found j) m) causes calm in
+      let budget : ℕ = (tcap_at s j.frame).budget in
+      record {
+        from = tcap_known a j e;
+        to = tcap_known b k f;
+        apart = eqb-false j.frame k.frame (when_not (j.frame == k.frame) reply.Same p.0);
+        enough = ltb-false budget m (when_not (nat_lt budget m) (reply.Short budget) p.1);
+      }
+
+  moved_known : (a b m g : ℕ) → HasTcap s g → HasTcap (moved s a b m) g
+  moved_known a b m g t = record { fit = then_tcap (with_budget s a _) b _ g (then_tcap s a _ g t.fit); below = t.below }
+    where
+      then_tcap : (s : State) (a : ℕ) (q : TcapFields) (g : ℕ) → IsTrue (fits kind.Tcap (s.frame g))
+          → IsTrue (fits kind.Tcap (put s.frame a (with_tcap (s.frame a) q) g))
+      then_tcap s a q g fit = put_all (λ g x. IsTrue (fits kind.Tcap x)) s.frame a _ g
+          (λ same. tcap_fits (s.frame a) q (subst (λ n. IsTrue (fits kind.Tcap (s.frame n))) same fit)) (λ other. fit)
+
+-- Lists of qualities stay where budgets are put.
+budget_qualities : (s : State) (a n g : ℕ) → (tcap_at (with_budget s a n) g).qualities ≡ (tcap_at s g).qualities
+budget_qualities s a n g = put_all (λ g x. (tcap_in x).qualities ≡ (tcap_at s g).qualities) s.frame a _ g
+    (λ same. same_list (s.frame a) n ∙ ap (λ n. (tcap_at s n).qualities) (sym same)) (λ other. refl)
+  where
+    same_list : (x : Frame) (n : ℕ) → (tcap_in (with_tcap x (record (tcap_in x) { budget = n }))).qualities ≡ (tcap_in x).qualities
+    same_list (Kernel (Tcap q)) n = refl
+    same_list _ n = refl
+
+moved_qualities : (s : State) (a b m g : ℕ) → (tcap_at (moved s a b m) g).qualities ≡ (tcap_at s g).qualities
+moved_qualities s a b m g =
+    budget_qualities (with_budget s a ((tcap_at s a).budget - m)) b _ g ∙ budget_qualities s a ((tcap_at s a).budget - m) g
+
+merged_moved : (s : State) (a b m : ℕ) → merged_list s a b ≡ merged_list (moved s a b m) a b
+merged_moved s a b m =
+    ap (λ l. merged l (tcap_at s b).qualities) (sym (moved_qualities s a b m a))
+    ∙ ap (merged (tcap_at (moved s a b m) a).qualities) (sym (moved_qualities s a b m b))
+
+-- The calls.
+module _ (s : State) (c : ℕ) where
+  nothing : {v : Value} (call : Call) → Agrees call c [] → Edits call c s (answers s v)
+  nothing call agrees = record { list = []; is = refl; agrees = agrees; calm = tt; tested = tt; limited = λ lim. tt; known = λ o h. tt }
+
+  one : (call : Call) (e : Edit) (v : Value) → Agrees call c (e ∷ []) → Tested c s e → (InLimits call → Limited c s e)
+      → ((o : ℕ → Bool) → IsOpen s o c → Known c s e) → Edits call c s (does c s v (e ∷ []))
+  one call e v agrees tested limited known = record {
+    list = e ∷ [];
+    is = refl;
+    agrees = agrees;
+    calm = (refl, λ x. refl, tt);
+    tested = (tested, tt);
+    limited = λ lim. (limited lim, tt);
+    known = λ o h. (known o h, tt);
+  }
+
+  two : (call : Call) (e x : Edit) (v : Value) → Agrees call c (e ∷ x ∷ []) → Calm c s (e ∷ x ∷ [])
+      → Tested c s e × Tested c (edited c s e) x
+      → (InLimits call → Limited c s e × Limited c (edited c s e) x)
+      → ((o : ℕ → Bool) → IsOpen s o c → Known c s e × Known c (edited c s e) x) → Edits call c s (does c s v (e ∷ x ∷ []))
+  two call e x v agrees calm tested limited known = record {
+    list = e ∷ x ∷ [];
+    is = refl;
+    agrees = agrees;
+    calm = calm;
+    tested = (tested.0, (tested.1, tt));
+    limited = λ lim. ((limited lim).0, ((limited lim).1, tt));
+    known = λ o h. ((known o h).0, ((known o h).1, tt));
+  }
+
+  filled : (call : Call) (target : Target) (at : Slot) (k : Capability) → Agrees call c (Fill at k ∷ [])
+      → ((o : ℕ → Bool) → IsOpen s o c → RootIsNode s target) → vacant s c target ≡ Found at → Edits call c s (fills s at k)
+  filled call target at k agrees node e =
+      one call (Fill at k) Nothing agrees tt (λ lim. tt) (λ o h. fill_known s c o h target at k (node o h) e)
+
+  removed : (call : Call) (target : Target) (at : Slot) (k : Capability) → Agrees call c (Remove at k ∷ [])
+      → held s c target ≡ Found (at, k) → Edits call c s (removes s at k)
+  removed call target at k agrees e = one call (Remove at k) Nothing agrees tt (λ lim. tt) (λ o h. remove_known s c o h target at k e)
+
+  made_node : (call : Call) (object : Object) (k : Kind) (r f t b : ℕ) → IsTrue (is_node (Kernel object))
+      → (tcap_in (Kernel object)).budget ≡ 0 → (thread_in (Kernel object)).runs_on ≡ None
+      → ((at : Slot) → Agrees call c (Node f object ∷ Fill at (plain_cap k f) ∷ []))
+      → ChangesFrom (Edits call c s) s c (make_node s object k r f t b)
+  made_node call object k r f t b node poor idle agrees = λ range e table g at v calm.
+      two call (Node f object) (Fill at (plain_cap k f)) Nothing (agrees at) (refl, λ x. refl, tt) (tt, tt) (λ lim. (node, tt))
+      (λ o h. node_fresh s c o h r f range object at (plain_cap k f) e poor idle calm
+      (fill_known s c o h (Under (found table) b) at (plain_cap k f) tt v))
+
+  made : (call : Call) (object : Object) (k : Kind) (r f : ℕ) (range : Capability) (target : Target) (at : Slot)
+      → is_node (Kernel object) ≡ false → (tcap_in (Kernel object)).budget ≡ 0 → (thread_in (Kernel object)).runs_on ≡ None
+      → Agrees call c (Become f (Kernel object) ∷ Fill at (plain_cap k f) ∷ []) → (InLimits call → Limited c s (Become f (Kernel object)))
+      → RootIsNode s target
+      → named s c r (only kind.Range) ≡ Found range → vacant s c target ≡ Found at
+      → first_cause s c (outside (found range) f ∷ not_blank s f ∷ []) ≡ None → Edits call c s (makes s f object k at)
+  made call object k r f range target at none poor idle agrees limited node e v calm =
+      two call (Become f (Kernel object)) (Fill at (plain_cap k f)) Nothing agrees (refl, λ x. refl, tt) (tt, tt) (λ lim. (limited lim, tt))
+      (λ o h. ((none, fresh s c o h r f range [] object e poor idle calm), fill_known s c o h target at (plain_cap k f) node v))
+
+  make_edits : (what : Make) (r f t b : ℕ) → ChangesFrom (Edits (call.Make what r f t b) c s) s c (make_rule s what r f t b)
+  make_edits make.Table r f t b =
+      made_node (call.Make make.Table r f t b) Table kind.Table r f t b refl refl refl (λ at. (λ x. refl, refl, λ x g. refl, refl))
+  make_edits make.Leaf r f t b =
+      made_node (call.Make make.Leaf r f t b) Leaf kind.Leaf r f t b refl refl refl (λ at. (λ x. refl, refl, λ x g. refl, refl))
+  make_edits make.Pages r f t b =
+      made_node (call.Make make.Pages r f t b) Pages kind.Pages r f t b refl refl refl (λ at. (λ x. refl, refl, λ x g. refl, refl))
+  make_edits make.Pleaf r f t b =
+      made_node (call.Make make.Pleaf r f t b) Pleaf kind.Pleaf r f t b refl refl refl (λ at. (λ x. refl, refl, λ x g. refl, refl))
+  make_edits (make.Thread comp) r f t b = λ range e table g k j at v calm.
+      made (call.Make (make.Thread comp) r f t b) (Thread (record { stack = k.frame ∷ []; runs_on = None })) kind.Thread r f range
+      (Under (found table) b) at refl refl refl (λ x. refl, refl, λ x g. refl, refl) (λ lim. refl) tt e v calm
+  make_edits (make.Tcap sched quality) r f t b = λ range e table g at v calm.
+      made (call.Make (make.Tcap sched quality) r f t b) (Tcap (record { budget = 0; qualities = (sched, quality) ∷ [] }))
+      kind.Tcap r f range (Under (found table) b) at refl refl refl (λ x. refl, refl, λ x g. refl, refl)
+      (λ lim. (refl, (lim, tt, tt))) tt e v calm
+  make_edits (make.Comp x p l) r f t b = λ range e table g own_table a own_pages d at v calm.
+      let q1 = none_parts (refusal_of s c (outside (found range) f)) (first_cause s c (not_blank s f ∷ not_taken s l)) calm in
+      let q2 = none_parts (refusal_of s c (not_blank s f)) (first_cause s c (not_taken s l)) q1.1 in
+      let q3 = none_parts (refusal_of s c (When (is_live (s.number l)) reply.Occupied)) _ q2.1 in
+      let q4 = none_parts (waits_of s c (NumberOf l)) _ q3.1 in
+      let q5 = none_parts (refusal_of s c (When (epoch_of (s.number l) == s.limits.epochs) reply.EpochsSpent)) None q4.1 in
+      let fields : CompFields =
+      record { table = own_table.frame; pages = own_pages.frame; number = l; epoch = epoch_of (s.number l) + 1 } in
+      two (call.Make (make.Comp x p l) r f t b) (Component f fields) (Fill at (plain_cap kind.Comp f)) Nothing
+      (λ x. refl, refl, λ x g. refl, refl) (refl, λ x. refl, tt) (
+        (
+          when_not (is_live (s.number l)) reply.Occupied q3.0,
+          refl,
+          eqb-false (epoch_of (s.number l)) s.limits.epochs (when_not (epoch_of (s.number l) == s.limits.epochs) reply.EpochsSpent q5.0),
+        ),
+        tt,
+      ) (λ lim. (lim, tt))
+      (λ o h. (
+        fresh s c o h r f range (not_taken s l) (Comp fields) e refl refl calm,
+        fill_known s c o h (Under (found table) b) at (plain_cap kind.Comp f) tt v,
+      ))
+
+  retype_edits : (r f : ℕ) (k : FrameKind) → ChangesFrom (Edits (call.Retype r f k) c s) s c (retype_rule s r f k)
+  retype_edits r f frame_kind.User = λ range e calm.
+      one (call.Retype r f frame_kind.User) (Become f User) Nothing (λ x. refl, refl, λ x g. refl, refl) tt (λ lim. tt)
+      (λ o h. (refl, fresh_at s c o h f User Untyped (untyped_by s o c r f range h e calm) refl refl refl))
+  retype_edits r f frame_kind.Kernel = λ range e calm.
+      one (call.Retype r f frame_kind.Kernel) (Become f (Kernel Blank)) Nothing (λ x. refl, refl, λ x g. refl, refl) tt (λ lim. tt)
+      (λ o h. (refl, fresh_at s c o h f (Kernel Blank) Untyped (untyped_by s o c r f range h e calm) refl refl refl))
+  retype_edits r f frame_kind.Untyped = λ range e calm.
+      let full : Cause = When (not (is_empty s f (s.frame f))) reply.NotEmpty in
+      let referenced : Cause = When (nat_lt 0 (refs s f)) (reply.Referenced (refs s f)) in
+      let p = none_parts (refusal_of s c (outside (found range) f)) (first_cause s c (not_retyped s f frame_kind.Untyped)) calm in
+      let p1 = none_parts (refusal_of s c (is_untyped_now s f))
+      (first_cause s c (referenced ∷ WaitedFor (FrameOf f) ∷ Unflushed (FrameOf f) ∷ full ∷ [])) p.1 in
+      let p2 = none_parts (refusal_of s c referenced) (first_cause s c (WaitedFor (FrameOf f) ∷ Unflushed (FrameOf f) ∷ full ∷ [])) p1.1 in
+      let p3 = none_parts (waits_of s c (FrameOf f)) (first_cause s c (Unflushed (FrameOf f) ∷ full ∷ [])) p2.1 in
+      let p4 = none_parts (flushes_of s (FrameOf f)) (first_cause s c (full ∷ [])) p3.1 in
+      let p5 = none_parts (refusal_of s c full) None p4.1 in
+      one (call.Retype r f frame_kind.Untyped) (Untype f) Nothing (λ x. refl, refl, λ x g. refl, refl) p4.0 (λ lim. tt) (λ o h. record {
+        below = in_range s o c r f range h e p.0;
+        empty = not_not (is_empty s f (s.frame f)) (when_not (not (is_empty s f (s.frame f))) reply.NotEmpty p5.0);
+        unnamed = zero_refs (refs s f) (when_not (nat_lt 0 (refs s f)) (reply.Referenced (refs s f)) p2.0);
+        unwaited = none_waiting s c (FrameOf f) p3.0;
+      })
+
+  touch_edits : (v : ℕ) (t : Option Translation) → ChangesFrom (Edits (call.Touch v) c s) s c (touch_by s c (comp_of s c).pages v t)
+  touch_edits v None = λ mapping e calm.
+      let t : Translation = record { pages = (comp_of s c).pages; page = v; frame = mapping.frame; flags = record { 0 = mapping.arg } } in
+      one (call.Touch v) (Cache t) (translated t) (λ x. refl, refl, λ x g. refl, refl) (mapping, e, refl) (λ lim. tt)
+      (λ o h. own_core s c o h)
+  touch_edits v (Some t) = λ calm. nothing (call.Touch v) (λ x. refl, refl, λ x g. refl, refl)
+
+  switch_edits : (a b : ℕ) (j k : Capability) → named s c a (only kind.Thread) ≡ Found j → (e : Option ℕ)
+      → (thread_in (s.frame j.frame)).runs_on ≡ e
+      → ChangesFrom (Edits (call.Switch a b) c s) s c (switch_to s c (found j) k.frame e)
+  switch_edits a b j k g (Some e) is = λ calm. absurd (some_none (reply.Running e) (none_parts (Some (reply.Running e)) None calm).0)
+  switch_edits a b j k g None is = λ calm.
+      one (call.Switch a b) (Switch j.frame k.frame) Nothing (λ x. refl, refl, λ x g. refl, refl) tt (λ lim. tt)
+      (λ o h. let fit = named_fit s o c a kind.Thread j h.sound h.is g in record {
+        core = own_core s c o h;
+        old = own_known s c o h;
+        new = record { fit = fit; below = thread_below s o j.frame h.sound fit };
+        idle = is;
+      })
+
+  pub rule_edits : (call : Call) → ChangesFrom (Edits call c s) s c (rule_of s c call)
+  rule_edits (call.Look a) = λ k e calm. nothing (call.Look a) (λ x. refl, refl, λ x g. refl, refl)
+  rule_edits (call.Copy a t b) = λ k e table f at g calm.
+      filled (call.Copy a t b) (Under (found table) b) at k (λ x. refl, refl, λ x g. refl, refl) (λ o h. tt) g
+  rule_edits (call.Remove t b) = λ table e at k g calm.
+      removed (call.Remove t b) (Under (found table) b) at k (λ x. refl, refl, λ x g. refl, refl) g
+  rule_edits (call.Grow t i l) = λ table e leaf f at g calm.
+      filled (call.Grow t i l) (InRoot (found table) i) at (plain_cap kind.Link leaf.frame) (λ x. refl, refl, λ x g. refl, refl)
+      (λ o h. let a : IsGood s table × IsTrue (root table.kind) = named_good s o c t root table h.sound h.is e in
+      root_node table.kind (s.frame table.frame) a.1 a.0.fit) g
+  rule_edits (call.Shrink t i) = λ table e at k g calm.
+      removed (call.Shrink t i) (InRoot (found table) i) at k (λ x. refl, refl, λ x g. refl, refl) g
+  rule_edits (call.Retype r f k) = retype_edits r f k
+  rule_edits (call.Make what r f t b) = make_edits what r f t b
+  rule_edits (call.Map p v r f w) = λ pages e range g at u calm.
+      filled (call.Map p v r f w) (Under (found pages) v) at _ (λ x. refl, refl, λ x g. refl, refl) (λ o h. tt) u
+  rule_edits (call.Unmap p v) = λ pages e at k g calm.
+      removed (call.Unmap p v) (Under (found pages) v) at k (λ x. refl, refl, λ x g. refl, refl) g
+  rule_edits (call.Touch v) = touch_edits v (translation_of (s.core c).cached (comp_of s c).pages v)
+  rule_edits call.Flush = λ calm.
+      one call.Flush Flush Nothing (λ x. refl, refl, λ x g. refl, refl) tt (λ lim. tt) (λ o h. own_core s c o h)
+  rule_edits (call.Gate k t b) = λ comp e table f at g calm.
+      filled (call.Gate k t b) (Under (found table) b) at _ (λ x. refl, refl, λ x g. refl, refl) (λ o h. tt) g
+  rule_edits (call.Kill k) = λ comp e calm.
+      let fields = comp_in (s.frame comp.frame) in
+      let p = none_parts (refusal_of s c (not_live s (found comp) fields.number fields.epoch)) None calm in
+      let live : is_live_in (s.number fields.number) fields.epoch ≡ true = not_not _ (when_not _ reply.Dead p.0) in
+      one (call.Kill k) (Deaden fields.number fields.epoch) Nothing (λ x. refl, refl, λ x g. refl, refl) live (λ lim. tt)
+      (λ o h. number_small s c o h fields.number fields.epoch (s.number fields.number) refl live)
+  rule_edits (call.Call g) = λ gate e calm.
+      let p = none_parts (refusal_of s c (When (nat_le 16 (length (thread_of s c).stack)) reply.Deep)) _ calm in
+      one (call.Call g) (Push gate.frame) Nothing (λ x. refl, refl, λ x g. refl, refl)
+      (leb-false 16 (length (thread_of s c).stack) (when_not _ reply.Deep p.0)) (λ lim. tt) (λ o h. own_known s c o h)
+  rule_edits call.Ret = λ calm.
+      let p = none_parts (refusal_of s c (When (nat_le (length (thread_of s c).stack) 1) reply.Bottom)) None calm in
+      one call.Ret Pop Nothing (λ x. refl, refl, λ x g. refl, refl)
+      (leb-false (length (thread_of s c).stack) 1 (when_not _ reply.Bottom p.0)) (λ lim. tt) (λ o h. own_known s c o h)
+  rule_edits (call.Switch f q) = λ thread e tcap g.
+      switch_edits f q thread tcap e (thread_in (s.frame thread.frame)).runs_on refl
+  rule_edits (call.Tick n) = λ calm.
+      one (call.Tick n) (Charge n) (Amount _) (λ x. refl, refl, λ x g. refl, refl) tt (λ lim. lim)
+      (λ o h. (own_core s c o h, charge_known s c o h))
+  rule_edits (call.Transfer a b m) = λ j e k f calm.
+      one (call.Transfer a b m) (Move j.frame k.frame m) Nothing (λ x. refl, refl, λ x g. refl, refl) tt (λ lim. tt)
+      (λ o h. moves_known s c o h a b m j k (are_unlike s (found j) (found k) ∷ []) e f calm)
+  rule_edits (call.Delegate a b m) = λ j e k f calm.
+      let p = none_parts (refusal_of s c (are_same (found j) (found k))) _ calm in
+      let q = none_parts (refusal_of s c (is_short s (found j) m)) _ p.1 in
+      let r = none_parts (refusal_of s c (are_many s (found j) (found k))) None q.1 in
+      two (call.Delegate a b m) (Move j.frame k.frame m) (Merge k.frame (merged_list s j.frame k.frame)) Nothing
+      (λ x. refl, refl, λ x g. refl, refl) (refl, λ x. refl, tt) (tt, tt) (λ lim. (tt, tt)) (λ o h. (
+        moves_known s c o h a b m j k (are_many s (found j) (found k) ∷ []) e f calm,
+        record {
+          to = moved_known s c o h j.frame k.frame m k.frame (tcap_known s c o h b k f);
+          other = j.frame;
+          from = moved_known s c o h j.frame k.frame m j.frame (tcap_known s c o h a j e);
+          is = merged_moved s j.frame k.frame m;
+          few = ltb-false 8 (length (merged_list s j.frame k.frame)) (when_not _ reply.TooMany r.0);
+        },
+      ))
+  rule_edits (call.Test a b) = λ j e k f calm. nothing (call.Test a b) (λ x. refl, refl, λ x g. refl, refl)
+
+  -- What holds of every change that is a list of edits holds of a call's.
+  pub rule_by : (call : Call) (P : Change → Type 0) → ((change : Change) → Edits call c s change → P change)
+      → ChangesFrom P s c (rule_of s c call)
+  rule_by call P by = changes_map (Edits call c s) P s c (rule_of s c call) by (rule_edits call)
+
+  pub found_by : (call : Call) (P : Change → Type 0) → ((change : Change) → Edits call c s change → P change)
+      → IfFound (change_of s c call) P
+  found_by call P by = outcome_from P s c (rule_of s c call) (rule_by call P by)
+
+  -- What holds after the edits of a call, whose grace periods begin, holds after its answer `ok`.
+  pub after_ok : (call : Call) (v : Value) (Q : State → Type 0) → MayReply s c call (reply.Ok v)
+      → ((change : Change) (e : Edits call c s change) → Q (begun s (begins_all c s e.list) (after_edits c s e.list)))
+      → Q (changed s (change_of s c call))
+  after_ok call v Q may by = found_after (change_of s c call)
+      (found_by call (λ change. Q (begun s change.begins change.next))
+      (λ change e. subst (λ (k : Change). Q (begun s k.begins k.next)) (sym e.is) (by change e))) may.1
+    where
+      found_after : (x : Judged Change) → IfFound x (λ change. Q (begun s change.begins change.next))
+          → IsFoundAnd x (λ k. k.value ≡ v) → Q (changed s x)
+      found_after (Refused r) by ok = absurd ok
+      found_after (Found change) by ok = by
