@@ -15,11 +15,13 @@ use Rattle.freeze_invariant.specs.word_map.specs.Word.{Word, EntryAt, FrameAt, C
 use Rattle.freeze_invariant.specs.word_map.specs.Moves.{Move, StoreOf, word_of, told_of}
 use Rattle.freeze_invariant.specs.word_map.proofs.WordLemmas.{same_same}
 use Rattle.freeze_invariant.specs.kernel_rules.specs.State.{State, put}
+use Rattle.freeze_invariant.specs.kernel_history.specs.Discipline.{may_count}
 use Rattle.freeze_invariant.specs.kernel_history.specs.Footprint.{IsNearIn, frames_near, is_one_of}
 use Rattle.freeze_invariant.specs.kernel_history.specs.Marking.{marked_by}
 use Rattle.freeze_invariant.specs.kernel_history.specs.Marks.{count_mark}
 use Rattle.freeze_invariant.specs.kernel_history.specs.Trace.{Step, Trace, phase, state_after, last_left}
 use Rattle.freeze_invariant.specs.kernel_history.proofs.Names.{same_word-other}
+use Rattle.freeze_invariant.specs.kernel_history.proofs.OwnCounts.{untype_counts}
 use Rattle.freeze_invariant.specs.stage_pins.specs.Held.{commit_of}
 use Rattle.freeze_invariant.specs.stage_pins.specs.Commit.{settled_word}
 use Rattle.freeze_invariant.specs.stage_pins.specs.declared.held.Acquired.{Acquired}
@@ -337,6 +339,10 @@ module _ (setup : Setting) (setting : IsSetting setup) (cores : ℕ → Core) (t
     near_counter : IsNearIn c a.call at s
     near_counter = subst (λ (k : ℕ). is_one_of k (frames_near s c a.call) ≡ true) (sym has.1.thaws) (frame_near has.0)
 
+    counts_own : IsTrue (may_count c a.call th.frame th.at)
+    counts_own = subst (λ k. IsTrue (may_count c k th.frame th.at)) (sym has.1.retypes)
+        (untype_counts has.1.range f th.frame c th.at has.1.thaws)
+
     thaw_good : GoodTook setup cores t c (thaw_move th) (GoesOn (went_with a [] (Decided r drawn (release_tail (release left)))))
     thaw_good lands =
         let next : ActiveCall = went_with a [] (Decided r drawn (release_tail (release left))) in
@@ -344,7 +350,7 @@ module _ (setup : Setting) (setting : IsSetting setup) (cores : ℕ → Core) (t
         let after : Core = core_in_call (cores c) (cores c).own.made next in
         let spells = counts.spelling.spells given _ given_says.says in
         counting.holds_on setup setting cores t stands c here a active (thaw_move th) next (λ b. refl) (λ h. cc) refl
-        (record { moves = has.1.counting; near = inl near_counter }) lands
+        (record { moves = counts_own; near = inl near_counter }) lands
         (subst (λ (k : ℕ). k < 2 ^ 64) spells.1 (counts.spelling.small _ spells.0))
         (λ w there.
         let over = elsewhere w there in
