@@ -40,6 +40,8 @@ use Rattle.scan_invariant.specs.step_ways.proofs.Refusals.{GoodTook, ticks_at, r
 use Rattle.freeze_invariant.proofs.UntypeCalls as calls
 use Rattle.freeze_invariant.proofs.UntypeCalls.{IsUntype, untypes_on}
 use Rattle.scan_invariant.specs.core_invariant.specs.Frozen.{thawed}
+use Rattle.scan_invariant.specs.kernel_history.specs.Discipline.{may_count}
+use Rattle.scan_invariant.specs.kernel_history.proofs.OwnCounts.{untype_counts}
 
 none_some : (d : ℕ) → None ≡ Some d → ⊥
 none_some d h = cc
@@ -115,8 +117,9 @@ module _ (setup : Setting) (setting : IsSetting setup) (cores : ℕ → Core) (t
 
   -- a step on one of its counters is one of the call
   pub counter_near : (move : Move) (d : ℕ) → word_of move ≡ CountAt w.frame d
-      → IsTrue (counts_references a.call)
-  counter_near move d at = calls.untype_counts a.call a.found f sweep_is
+      → IsTrue (may_count c a.call w.frame d)
+  counter_near move d at = subst (λ k. IsTrue (may_count c k w.frame d)) (sym sweep_is.call_is)
+      (untype_counts sweep_is.name f w.frame c d sweep_knows.frame)
 
   pub near_counter : (d : ℕ) → IsNearIn c a.call (CountAt w.frame d) (state_after setup t)
   near_counter d = subst (λ (n : ℕ). IsNearIn c a.call (CountAt n d) (state_after setup t))

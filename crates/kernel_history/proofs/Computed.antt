@@ -170,7 +170,7 @@ raises_well call (LiveAt l) by = false
 raises_well call ClockAt by = raises_clock call && by == 1
 
 abbrev pub moves_well : State → ℕ → Call → Move → Bool
-moves_well s c call (LoadOf w) = may_load call w
+moves_well s c call (LoadOf w) = may_load c call w
 moves_well s c call (CompareOf w expected new) = may_change s c call w
 moves_well s c call (StoreOf w new) = may_change s c call w
 moves_well s c call (AddOf w by) = raises_well call w by

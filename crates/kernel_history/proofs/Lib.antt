@@ -7,6 +7,7 @@ pub mod Events
 pub mod Inside
 -- Marks.
 pub mod Markings
+pub mod OwnCounts
 -- Laws.
 pub mod Races
 pub mod Laws

@@ -27,7 +27,7 @@ use Rattle.kernel_history.specs.Moments.{CoreSays, EntrySays}
 use Rattle.kernel_history.specs.Trace.{Step, state_after, WasBefore}
 use Rattle.kernel_history.specs.Scenes.{two_cores, there, enters, goes, loads, one_step}
 use Rattle.kernel_history.specs.Scenes.{range_word, mark_word, retyped, named, marked_beside}
-use Rattle.kernel_history.specs.Refusals.{no_flags, BreaksDiscipline, DisciplineRefuses, BreaksFootprint, FootprintsRefuse}
+use Rattle.kernel_history.specs.Refusals.{no_flags, BreaksDiscipline, DisciplineRefuses, OwnCountsRefuse, BreaksFootprint, FootprintsRefuse}
 use Rattle.kernel_history.specs.Refusals.{BoundsRefuse, WordsRefuse}
 use Rattle.kernel_history.proofs.Computed.{neither, none, fits, may_follow, is_within, keeps_bounds, is_near, keeps_footprints}
 use Rattle.kernel_history.proofs.Computed.{is_near_in, not_near_in, moves_well, undisciplined, has_reached, some_call}
@@ -159,6 +159,16 @@ discipline_refuses = record {
     refused = marks_another;
   };
   fills_a_marked_place = fills_marked;
+}
+
+-- own count words
+
+pub own_counts_refuse : OwnCountsRefuse
+unfolding two_cores
+own_counts_refuse = record {
+  reads_anothers = undisciplined (call.Copy 1 1 20) refl refl;
+  changes_anothers = undisciplined (call.Copy 1 1 20) refl refl;
+  untypes_another_frame = undisciplined (call.Retype 0 8 frame_kind.Untyped) refl refl;
 }
 
 -- the footprints

@@ -1,6 +1,7 @@
 -- Who may step on a word, and who may change it: what other cores and other calls may rely on, whatever the plans of the calls.
-use Rattle.std.specs.Prelude.{◌≡◌, ◌≢◌, ◌⊎◌, ℕ, ◌==◌, ◌&&◌, Bool, true, false, [], ◌∷◌, Some, IsTrue}
+use Rattle.std.specs.Prelude.{◌≡◌, ◌≢◌, ◌⊎◌, ℕ, ◌==◌, ◌&&◌, ◌||◌, Bool, true, false, [], ◌∷◌, Some, IsTrue}
 use Rattle.spk_nums.specs.Setting.{Setting}
+use Rattle.spk_nums.specs.declared.kinds.FrameKind.TheVariants.{Untyped as to_untyped}
 use Rattle.spk_nums.specs.declared.calls.Make.{Make}
 use Rattle.spk_nums.specs.declared.calls.Make.TheVariants.{Comp as make_comp}
 use Rattle.spk_nums.specs.declared.calls.Call.{Call}
@@ -8,6 +9,7 @@ use Rattle.spk_nums.specs.declared.calls.Call.TheVariants.{Look, Copy, Remove, G
 use Rattle.spk_nums.specs.declared.calls.Call.TheVariants.{Map, Unmap, Touch, Flush, Gate, Kill, Call as call_gate}
 use Rattle.spk_nums.specs.declared.calls.Call.TheVariants.{Ret, Switch, Tick, Transfer, Delegate, Test}
 use Rattle.word_map.specs.Word.{Word, EntryAt, FrameAt, CountAt, CoreAt, FlushAt, LiveAt, ClockAt}
+use Rattle.word_map.specs.Places.{counter_of}
 use Rattle.word_map.specs.Moves.{Move, LoadOf, CompareOf, StoreOf, AddOf, word_of, left_of}
 use Rattle.kernel_rules.specs.State.{Object, Blank, Table, Leaf, Pages, Pleaf, Comp, Thread, Tcap, Frame, Untyped, User, Kernel, State}
 use Rattle.kernel_history.specs.Bounds.{call_in}
@@ -87,7 +89,7 @@ abbrev pub looks_at_numbers : Call → Bool
 looks_at_numbers (call_gate g) = true
 looks_at_numbers call = changes_numbers call
 
--- The counts of references are stepped on by the calls that take or release one.
+-- The counts of references are stepped on by the calls that take or release one,
 abbrev pub counts_references : Call → Bool
 counts_references (Look a) = false
 counts_references (Touch v) = false
@@ -97,6 +99,14 @@ counts_references (Transfer a b m) = false
 counts_references (Delegate a b m) = false
 counts_references (Test a b) = false
 counts_references _ = true
+
+-- a call of core c on the word in which its core counts, and a retype to untyped on each count word of the frame.
+abbrev pub untypes_frame : Call → ℕ → Bool
+untypes_frame (Retype r g to_untyped) f = f == g
+untypes_frame _ f = false
+
+abbrev pub may_count : ℕ → Call → ℕ → ℕ → Bool
+may_count c call f d = (d == counter_of c || untypes_frame call f) && counts_references call
 
 -- The flush word of a core is changed by its own `flush`.
 abbrev pub stores_flush : Call → Bool
@@ -114,22 +124,22 @@ raises_clock Ret = true
 raises_clock (Switch h q) = true
 raises_clock _ = false
 
--- Whether a call may load a word.
-abbrev pub may_load : Call → Word → Bool
-may_load call (EntryAt f i) = true
-may_load call (FrameAt f) = looks_at_frames call
-may_load call (CountAt f d) = counts_references call
-may_load call (CoreAt d) = true
-may_load call (FlushAt d) = true
-may_load call (LiveAt l) = looks_at_numbers call
-may_load call ClockAt = true
+-- Whether a call of core c may load a word.
+abbrev pub may_load : ℕ → Call → Word → Bool
+may_load c call (EntryAt f i) = true
+may_load c call (FrameAt f) = looks_at_frames call
+may_load c call (CountAt f d) = may_count c call f d
+may_load c call (CoreAt d) = true
+may_load c call (FlushAt d) = true
+may_load c call (LiveAt l) = looks_at_numbers call
+may_load c call ClockAt = true
 
 -- Whether a call of core c may compare or store in a word, in a state that says what the frames hold: of the cores' words in its
 -- own alone, and never in the clock.
 abbrev pub may_change : State → ℕ → Call → Word → Bool
 may_change s c call (EntryAt f i) = changes_in_frame call (s.frame f)
 may_change s c call (FrameAt f) = changes_frames call
-may_change s c call (CountAt f d) = counts_references call
+may_change s c call (CountAt f d) = may_count c call f d
 may_change s c call (CoreAt d) = d == c
 may_change s c call (FlushAt d) = d == c && stores_flush call
 may_change s c call (LiveAt l) = changes_numbers call
@@ -142,7 +152,7 @@ MayRaise call _ by = ⊥
 
 -- A call of core c may make this operation.
 abbrev pub MayMove : State → ℕ → Call → Move → Type 0
-MayMove s c call (LoadOf w) = IsTrue (may_load call w)
+MayMove s c call (LoadOf w) = IsTrue (may_load c call w)
 MayMove s c call (CompareOf w expected new) = IsTrue (may_change s c call w)
 MayMove s c call (StoreOf w new) = IsTrue (may_change s c call w)
 MayMove s c call (AddOf w by) = MayRaise call w by

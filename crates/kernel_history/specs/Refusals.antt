@@ -72,6 +72,14 @@ pub record DisciplineRefuses : Type 0 where
   pub fills_a_marked_place :
       BreaksDiscipline (goes 0 (StoreOf (EntryAt 1 21) range_word) marked_beside)
 
+-- A core counts references in its own count word, and a retype to untyped steps on those of its frame alone. (A machine of one
+-- counter a frame has no other words than the shared ones, so that these steps are not on a machine of such a layout.)
+pub record OwnCountsRefuse : Type 0 where
+  pub reads_anothers : KeepsDiscipline two_cores (one_step (call.Copy 1 1 20) (LoadOf (CountAt 0 1))) → ⊥
+  pub changes_anothers : KeepsDiscipline two_cores (one_step (call.Copy 1 1 20) (StoreOf (CountAt 0 1) 0)) → ⊥
+  pub untypes_another_frame :
+      KeepsDiscipline two_cores (one_step (call.Retype 0 8 frame_kind.Untyped) (StoreOf (CountAt 0 1) 0)) → ⊥
+
 -- The trace is legal and within its bounds, but a step of it is on a word that is not near its call.
 pub record BreaksFootprint (t : Trace) : Type 0 where
   pub legal : IsLegal two_cores t

@@ -7,7 +7,7 @@
 #![tactic(auto)]
 
 ghost use Rattle.kernel_history.specs.Laws.{LegalRuns, EventsDetermine, LegalUpTo, OneCallAtATime, AloneGoesOn, RacedByAnother};
-ghost use Rattle.kernel_history.specs.Refusals.{DisciplineRefuses, FootprintsRefuse, BoundsRefuse};
+ghost use Rattle.kernel_history.specs.Refusals.{DisciplineRefuses, OwnCountsRefuse, FootprintsRefuse, BoundsRefuse};
 ghost use Rattle.kernel_history.specs.Refusals.{JustificationRefuses, WordsRefuse, OrderRefuses};
 
 pub use spk_nums;
@@ -57,6 +57,13 @@ pub fn raced_by_another()
 #[tactic(auto, using(crate::proofs::Refused::discipline_refuses))]
 pub fn discipline_refuses()
     ensures { DisciplineRefuses }
+{}
+
+/// The discipline refuses a call that steps on a count word in which another core counts, and a retype to untyped that steps on
+/// the count word of another core of another frame.
+#[tactic(auto, using(crate::proofs::Refused::own_counts_refuse))]
+pub fn own_counts_refuse()
+    ensures { OwnCountsRefuse }
 {}
 
 /// The footprints refuse a legal trace that steps on an entry, a frame's word, a count or a liveness number far from its call.

@@ -15,6 +15,8 @@ use Rattle.std.specs.Prelude.{if◌then◌else◌, slice_get}
 use Rattle.std.proofs.Common.{All}
 use Rattle.freeze_invariant.specs.spk_nums.specs.declared.replies.Reply.TheVariants as reply
 use Rattle.freeze_invariant.specs.frame_words.proofs.CountLemmas as counts
+use Rattle.freeze_invariant.specs.kernel_history.specs.Discipline.{may_count}
+use Rattle.freeze_invariant.specs.kernel_history.proofs.OwnCounts.{untype_counts}
 use Rattle.freeze_invariant.specs.stage_pins.specs.Held.{commit_of}
 use Rattle.freeze_invariant.specs.stage_pins.specs.Commit.{settled_word}
 use Rattle.freeze_invariant.specs.stage_sweep.specs.Release.{ThawFits, at_next, more_end, released, thaw_after, thaw_end, thaw_move}
@@ -316,6 +318,10 @@ module _ (setup : Setting) (setting : IsSetting setup) (cores : ℕ → Core) (t
     near_counter : IsNearIn c a.call at s
     near_counter = subst (λ (k : ℕ). is_one_of k (frames_near s c a.call) ≡ true) (sym has.1.thaws) (frame_near has.0)
 
+    counts_own : IsTrue (may_count c a.call th.frame th.at)
+    counts_own = subst (λ k. IsTrue (may_count c k th.frame th.at)) (sym has.1.retypes)
+        (untype_counts has.1.range f th.frame c th.at has.1.thaws)
+
     thaw_good : GoodTook setup cores t c (thaw_move th) (GoesOn (went_with a [] (Decided r drawn (release_tail (release left)))))
     thaw_good lands =
         let next : ActiveCall = went_with a [] (Decided r drawn (release_tail (release left))) in
@@ -323,7 +329,7 @@ module _ (setup : Setting) (setting : IsSetting setup) (cores : ℕ → Core) (t
         let after : Core = core_in_call (cores c) (cores c).own.made next in
         let spells = counts.spelling.spells given _ given_says.says in
         counting.holds_on setup setting cores t stands c here a active (thaw_move th) next (λ b. refl) (λ h. cc) refl
-        (record { moves = has.1.counting; near = inl near_counter }) lands
+        (record { moves = counts_own; near = inl near_counter }) lands
         (subst (λ (k : ℕ). k < 2 ^ 64) spells.1 (counts.spelling.small _ spells.0))
         (λ w there.
         let over = elsewhere w there in
