@@ -12,6 +12,7 @@ use Rattle.flight_laws.proofs.Places.{places_found, scanned_cores}
 use Rattle.flight_laws.proofs.Frames.{counted_frames_stay, looked_nodes_stay, untyped_unused}
 use Rattle.flight_laws.proofs.CountHolds.{frozen_say}
 use Rattle.flight_laws.proofs.CountsTold.{counts_tell}
+use Rattle.flight_laws.proofs.StampsTold.{stamps_tell}
 use Rattle.flight_laws.proofs.Ready.{ready_decides, unready_refuses}
 use Rattle.flight_laws.proofs.Pages.{cached_frames_stay, cached_till_flush, touches_cache}
 use Rattle.flight_laws.proofs.Lives.{dead_for_good}
@@ -72,6 +73,7 @@ made_histories setup lim t made =
       counted_frames_stay = steps setup t made (counted_frames_stay setup lim);
       untyped_frames_are_unused = steps setup t made (untyped_unused setup lim);
       counts_tell = moments setup t made (counts_tell setup lim);
+      stamps_tell = moments setup t made (stamps_tell setup lim);
       frozen_say = moments setup t made (frozen_say setup lim);
       cached_frames_stay = moments setup t made (cached_frames_stay setup lim);
       cached_till_flush = stretches setup t made (cached_till_flush setup lim);

@@ -7,6 +7,7 @@ pub mod Sweeping
 pub mod CountSteps
 pub mod CountHolds
 pub mod CountsTold
+pub mod StampsTold
 pub mod Ready
 pub mod Invocations
 pub mod Threads

@@ -12,6 +12,7 @@ use Rattle.flight_laws.specs.Moments.{AtEachMoment, AtEachStep, OfEachStretch}
 use Rattle.flight_laws.specs.Places.{PlacesFound, ScannedCores}
 use Rattle.flight_laws.specs.Frames.{LookedNodesStay, CountedFramesStay, UntypedFramesAreUnused}
 use Rattle.flight_laws.specs.Counts.{CountsTell, FrozenSay}
+use Rattle.flight_laws.specs.Stamps.{StampsTell}
 use Rattle.flight_laws.specs.Ready.{ReadyDecides, UnreadyRefuses}
 use Rattle.flight_laws.specs.Pages.{CachedFramesStay, CachedTillFlush, TouchesCache}
 use Rattle.flight_laws.specs.Lives.{DeadForGood}
@@ -43,6 +44,7 @@ pub record IsHistory (setup : Setting) (t : Trace) : Type 0 where
   pub counted_frames_stay : AtEachStep (CountedFramesStay setup) t
   pub untyped_frames_are_unused : AtEachStep (UntypedFramesAreUnused setup) t
   pub counts_tell : AtEachMoment (CountsTell setup) t
+  pub stamps_tell : AtEachMoment (StampsTell setup) t
   pub frozen_say : AtEachMoment (FrozenSay setup) t
   -- translations
   pub cached_frames_stay : AtEachMoment (CachedFramesStay setup) t

@@ -14,5 +14,6 @@ pub mod Invocations
 pub mod Pages
 pub mod Frames
 pub mod Counts
+pub mod Stamps
 pub mod Ready
 pub mod Histories
