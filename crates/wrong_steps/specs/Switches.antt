@@ -62,7 +62,8 @@ marked =
 
 unfoldable pub made_thread : Trace
 made_thread =
-    goes 0 (StoreOf (FrameAt 8) (word_of_frame (made new_thread))) (decides 0 (making_at 8 new_thread 0 place (fill_at blank_word)) done marked)
+    goes 0 (StoreOf (FrameAt 8) (word_of_frame (made new_thread)))
+    (decides 0 (making_at 8 new_thread 0 place (fill_at blank_word)) done marked)
 
 -- It switches to that thread, and keeps its temporal capability: it claims the thread, loads its component's words, and stores its own
 -- thread as claimed.
