@@ -12,7 +12,7 @@ use Rattle.kernel_history.proofs.Computed.{may_follow}
 use Rattle.kernel_history.proofs.Unjustified.{carried_out, not_permitted}
 use Rattle.wrong_steps.specs.Invocations.{gated, calling, killed, entered_dead, CallsLookBefore}
 
-gated_legal : IsLegal two_cores gated
+pub gated_legal : IsLegal two_cores gated
 unfolding two_cores gated word_of_entry word_of_comp
 gated_legal = (
   (

@@ -6,3 +6,5 @@ pub mod Touches
 pub mod Charges
 pub mod Returns
 pub mod Untypings
+pub mod Clearings
+pub mod Switches

@@ -1,12 +1,14 @@
 -- A wrong refusal leaves the count that its call has acquired.
-use Rattle.std.specs.Prelude.{◌≡◌, [], pos}
+use Rattle.std.specs.Prelude.{◌≡◌, [], pos, None}
 use Rattle.spk_nums.specs.declared.calls.Call.TheVariants.{Copy}
+use Rattle.spk_nums.specs.declared.replies.Reply.{Reply}
 use Rattle.spk_nums.specs.declared.replies.Reply.TheVariants as reply
 use Rattle.kernel_history.specs.Counts.{RepresentCounts}
 use Rattle.kernel_history.specs.Legal.{IsLegal}
 use Rattle.kernel_history.specs.Trace.{Trace, Out, phase, state_after, last_left}
 use Rattle.kernel_history.specs.Scenes.{two_cores, enters, goes, loads, returns, done}
-use Rattle.stage_pins.specs.Acquire.{pin_move}
+use Rattle.stage_pins.specs.Acquire.{pin_move, pinned_at}
+use Rattle.stage_pins.specs.Commit.{settle_move}
 use Rattle.stage_pins.specs.declared.pin.Pin.TheVariants.{AtLoad, AtCompare}
 use Rattle.act_states.specs.Fills.{fill_move, took_fill}
 use Rattle.wrong_steps.specs.Acts.{acts, fill, copying}
@@ -21,9 +23,18 @@ acquired_count =
 unfoldable pub filled_meanwhile : Trace
 filled_meanwhile = returns 1 done (acts 1 (fill_move fill) (took_fill fill) (copying 1 acquired_count))
 
--- Core 0 has lost the race. Wrong: it has nothing to store after its refusal, and returns.
+-- It commits the count without a change.
+abbrev pub gives_back : Trace → Trace
+gives_back t = goes 0 (settle_move (record { pin = pinned_at 0 0 (pos 2) 0; change = pos 0; stamp = None })) t
+
+-- Wrong: after a refusal it has nothing to store.
+abbrev pub settles : Reply → Trace → Trace
+settles (reply.Ok v) t = gives_back t
+settles _ t = t
+
+-- Core 0 has lost the race, and returns.
 unfoldable pub left_held : Trace
-left_held = returns 0 reply.Raced (acts 0 (fill_move fill) (took_fill fill) filled_meanwhile)
+left_held = returns 0 reply.Raced (settles reply.Raced (acts 0 (fill_move fill) (took_fill fill) filled_meanwhile))
 
 pub record RefusalsHold : Type 0 where
   pub legal : IsLegal two_cores left_held

@@ -15,6 +15,8 @@ ghost use Rattle.wrong_steps.specs.Touches.{TouchesFindNoSlot};
 ghost use Rattle.wrong_steps.specs.Untypings.{RetypesSkip};
 ghost use Rattle.wrong_steps.specs.Returns.{ReturnsKeep};
 ghost use Rattle.wrong_steps.specs.Charges.{ChargesLose};
+ghost use Rattle.wrong_steps.specs.Clearings.{RetypesLeaveCounts};
+ghost use Rattle.wrong_steps.specs.Switches.{SwitchesMixDepths};
 
 /// A copy that stores in place of its compare: of two copies to one place both are carried out, and the second is not permitted.
 #[tactic(auto, using(crate::proofs::Copies::copies_overwrite))]
@@ -68,4 +70,18 @@ pub fn returns_keep()
 #[tactic(auto, using(crate::proofs::Untypings::retypes_skip))]
 pub fn retypes_skip()
     ensures { RetypesSkip }
+{}
+
+/// A retype to untyped that leaves the counters of its frame: both cores are out of their calls, and the frame's count word is still
+/// frozen.
+#[tactic(auto, using(crate::proofs::Clearings::retypes_leave_counts))]
+pub fn retypes_leave_counts()
+    ensures { RetypesLeaveCounts }
+{}
+
+/// A switch that stores the thread that it leaves with the depth of the one with which it goes on: the thread's word says another depth
+/// than its stack has.
+#[tactic(auto, using(crate::proofs::Switches::switches_mix_depths))]
+pub fn switches_mix_depths()
+    ensures { SwitchesMixDepths }
 {}
