@@ -212,8 +212,8 @@ module _ (setup : Setting) (setting : IsSetting setup) (f : ℕ) where
       still none =
           let same : phase (e ∷ t) e.core ≡ p = now_is ∙ ap (λ o. after_decide o p) none in
           let stays : newest (e ∷ t) ≡ newest t = stamp-kept setup e t (FrameOf f)
-              (ap (λ o. begins_in o (after_enter e.enters p) (state_before setup t e) e.core (FrameOf f)) none)
-              (ap (λ o. ends_in o (after_enter e.enters p) (FrameOf f)) none) in
+          (ap (λ o. begins_in o (after_enter e.enters p) (state_before setup t e) e.core (FrameOf f)) none)
+          (ap (λ o. ends_in o (after_enter e.enters p) (FrameOf f)) none) in
           let draws : drawn_by setup (e ∷ t) e.core f ≡ drawn_by setup t e.core f = drawn_is ∙ ap (λ o. drawn o begun) none in
           record {
             newest = λ is.
