@@ -56,7 +56,7 @@ fn call_by(words: &[Token], ending: Ending) -> Result<Call, Cause>
 }
 
 /// Reads one call, as a line of a script has it: its word, then its arguments. Blanks and a comment may stand round it,
-/// and a line feed at its end. Fewer than 2^32 bytes. What `Display` writes of a call reads as that call.
+/// and a line feed at its end. Fewer than 2^32 bytes.
 ///
 /// # Errors
 ///
