@@ -3,6 +3,7 @@
 //! See docs/CLAIMS.md, 'The claims', and docs/PROOF.md, 'From the bytes read to the bytes written'.
 #![tactic(auto)]
 
+mod closed;
 mod orders;
 mod replay;
 mod runs;

@@ -3,12 +3,12 @@ ghost use Rattle.std.specs.Prelude.{◌≡◌, ◌<◌, IfOk, All, map, length, 
 ghost use Rattle.lone_kernel.specs.GivenSteps.{GivenSteps};
 ghost use Rattle.lone_kernel.specs.Machine.{AreLists};
 
+use crate::closed::tables;
 use crate::orders::{follow, run_rest};
 use crate::text::write_decisions;
 use lone_kernel::LoneKernel;
 use spk_nums::{Call, Item, Memory, Setup};
 use std::alloc::Global;
-use table_report::report;
 
 /// Takes the items of the order, then runs each core out, and answers the text of the trace that this makes: its reply
 /// lines, then its tables. There is a list for each core, each of fewer than 2^32 calls that are within their limits;
@@ -31,7 +31,7 @@ pub fn replay(
     let mut text = String::new(alloc);
     write_decisions(&mut text, kernel.lists(), kernel.decisions())?;
     let closed = kernel.close(alloc)?;
-    let tables = report(alloc, &closed)?;
+    let tables = tables(alloc, &closed)?;
     text.push_str(&tables)?;
     Ok(text)
 }

@@ -3,13 +3,13 @@ ghost use Rattle.std.specs.Prelude.{◌≡◌, true, IfOk, IfSome, IsSome, map, 
 ghost use Rattle.core_kernel.specs.TakenSteps.{TakenSteps};
 ghost use Rattle.lone_kernel.specs.Machine.{AreLists};
 
+use crate::closed::tables;
 use crate::text::write_decisions;
 use core_kernel::{Gate, run_whole};
 use script_reader::Script;
 use spk_nums::Memory;
 use std::alloc::Global;
 use std::thread::Threads;
-use table_report::report;
 
 /// Makes the script's lists, each core in a thread of its own where one can be made, and answers the text of the trace
 /// that this makes: the reply lines of core 0, then of core 1 and so on, then the tables. There is a list for each core,
@@ -32,7 +32,7 @@ pub fn run_lists<R: Threads + Sync, G: Gate>(
     };
     let mut text = String::new(alloc);
     write_decisions(&mut text, &script.lists, &ran.decisions)?;
-    let tables = report(alloc, &ran.closed)?;
+    let tables = tables(alloc, &ran.closed)?;
     text.push_str(&tables)?;
     Ok(Some(text))
 }

@@ -3,13 +3,13 @@ ghost use Rattle.std.specs.Prelude.{◌≡◌, ◌<◌, ◌≤◌, IfOk, All, ma
 ghost use Rattle.lone_kernel.specs.Machine.{AreLists};
 ghost use Rattle.speck_run.specs.Summary.{GivenSummary, IsSummedUp};
 
+use crate::closed::total_ticks;
 use crate::orders::{follow, run_rest};
 use load_summary::{push_counts, push_total};
 use lone_kernel::LoneKernel;
 use script_reader::{Cause, ReadFault, Script, read};
 use spk_nums::{Call, Item, Memory, Setup};
 use std::alloc::Global;
-use table_report::total;
 
 /// What became of an input that was to be summed up.
 #[derive(Debug, Drop)]
@@ -42,7 +42,7 @@ pub fn summarize(
     let mut text = String::new(alloc);
     push_counts(&mut text, kernel.decisions())?;
     let closed = kernel.close(alloc)?;
-    push_total(&mut text, total(&closed))?;
+    push_total(&mut text, total_ticks(&closed))?;
     Ok(text)
 }
 

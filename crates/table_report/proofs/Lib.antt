@@ -1,3 +1,4 @@
+pub mod Nodes
 pub mod Lines
 pub mod Counted
 pub mod ShownObjects

@@ -3,18 +3,16 @@
 ghost use Rattle.std.specs.Prelude.{◌≡◌, ◌<◌, ◌≤◌, ◌^◌, ◌++◌, length, OnOk, string_bytes};
 ghost use Rattle.kernel_rules.specs.State.{tcap_in, Kernel};
 ghost use Rattle.kernel_rules.specs.References.{sum_below};
-ghost use Rattle.word_map.specs.Places.{size_of};
 ghost use Rattle.kernel_history.specs.Tables.{frame_line, frame_lines, object_lines, object_word};
 ghost use Rattle.table_report.specs.Shown.{object_shown, place_in, words_of, frame_at, place_at, counted_at, frames_text};
 ghost use Rattle.kernel_history.specs.ObjectWords.{is_node_object};
 
 use crate::counts::references;
 use crate::objects::{budget, push_comp, push_node, push_tcap, push_thread};
-use crate::words::{entry_word, frame_word};
-use frame_words::FrameWord;
+use crate::words::entry_word;
+use machine_image::Image;
 use spk_nums::{FrameKind, FrameNo, Obj};
 use std::alloc::AllocError;
-use word_map::Layout;
 
 fn object_name(object: Obj) -> &'static str
     ensures { result.now ≡ object_word (object_shown object (λ i. 0)) }
@@ -33,89 +31,77 @@ fn object_name(object: Obj) -> &'static str
 
 fn push_object(
     text: &mut String,
-    layout: &Layout,
-    words: &[u64],
+    image: &Image<'_>,
     frame: FrameNo,
     object: Obj,
 ) -> Result<(), AllocError>
-    requires size { length words.now ≡ size_of layout.now }
-    requires frame_in { frame < layout.now.frames }
+    requires frame_in { frame < image.now.shape.frames }
     ensures { OnOk result (string_bytes text.new ≡ string_bytes text.old ++ object_lines (object_shown object
-        (words_of layout.now words.now frame)) (λ i.
-        place_in (is_node_object (object_shown object (words_of layout.now words.now frame))) (words_of layout.now words.now frame i))) }
+        (words_of image.now.shape image.now.words frame)) (λ i.
+        place_in (is_node_object (object_shown object (words_of image.now.shape image.now.words frame))) (words_of image.now.shape image.now.words frame i))) }
 {
     match object {
         Obj::Blank => Ok(()),
-        Obj::Table => push_node(text, layout, words, frame),
-        Obj::Leaf => push_node(text, layout, words, frame),
-        Obj::Pages => push_node(text, layout, words, frame),
-        Obj::Pleaf => push_node(text, layout, words, frame),
-        Obj::Comp => push_comp(text, layout, words, frame),
-        Obj::Thread => push_thread(text, layout, words, frame),
-        Obj::Tcap => push_tcap(text, layout, words, frame),
+        Obj::Table => push_node(text, image, frame),
+        Obj::Leaf => push_node(text, image, frame),
+        Obj::Pages => push_node(text, image, frame),
+        Obj::Pleaf => push_node(text, image, frame),
+        Obj::Comp => push_comp(text, image, frame),
+        Obj::Thread => push_thread(text, image, frame),
+        Obj::Tcap => push_tcap(text, image, frame),
     }
 }
 
 fn push_kernel(
     text: &mut String,
-    layout: &Layout,
-    words: &[u64],
+    image: &Image<'_>,
     frame: FrameNo,
     object: Obj,
     refs: u64,
 ) -> Result<(), AllocError>
-    requires size { length words.now ≡ size_of layout.now }
-    requires frame_in { frame < layout.now.frames }
+    requires frame_in { frame < image.now.shape.frames }
     ensures { OnOk result (string_bytes text.new
-        ≡ string_bytes text.old ++ (frame_line frame (object_word (object_shown object (words_of layout.now words.now frame))) refs
-        ++ object_lines (object_shown object (words_of layout.now words.now frame)) (λ i. place_in
-        (is_node_object (object_shown object (words_of layout.now words.now frame))) (words_of layout.now words.now frame i)))) }
+        ≡ string_bytes text.old ++ (frame_line frame (object_word (object_shown object (words_of image.now.shape image.now.words frame))) refs
+        ++ object_lines (object_shown object (words_of image.now.shape image.now.words frame)) (λ i. place_in
+        (is_node_object (object_shown object (words_of image.now.shape image.now.words frame))) (words_of image.now.shape image.now.words frame i)))) }
 {
     table_lines::push_frame(text, frame, object_name(object), refs)?;
-    push_object(text, layout, words, frame, object)
+    push_object(text, image, frame, object)
 }
 
 // Appends the lines of a frame.
-fn push_frame(
-    text: &mut String,
-    layout: &Layout,
-    words: &[u64],
-    frame: FrameNo,
-) -> Result<(), AllocError>
-    requires size { length words.now ≡ size_of layout.now }
-    requires frame_in { frame < layout.now.frames }
+fn push_frame(text: &mut String, image: &Image<'_>, frame: FrameNo) -> Result<(), AllocError>
+    requires frame_in { frame < image.now.shape.frames }
     ensures { OnOk result (string_bytes text.new ≡ string_bytes text.old ++ frame_lines frame
-        (frame_at layout.now words.now frame) (place_at layout.now words.now frame) (counted_at layout.now words.now frame)) }
+        (frame_at image.now.shape image.now.words frame) (place_at image.now.shape image.now.words frame) (counted_at image.now.shape image.now.words frame)) }
 {
-    let refs = references(layout, words, frame);
-    match FrameWord::unpack(frame_word(layout, words, frame)) {
+    let refs = references(image, frame);
+    match image.frame(frame) {
         None => Ok(()),
         Some(word) => match word.kind {
             FrameKind::Untyped => Ok(()),
             FrameKind::User => table_lines::push_frame(text, frame, "user", refs),
-            FrameKind::Kernel => push_kernel(text, layout, words, frame, word.object, refs),
+            FrameKind::Kernel => push_kernel(text, image, frame, word.object, refs),
         },
     }
 }
 
 /// Appends the lines of all frames.
-pub fn push_frames(text: &mut String, layout: &Layout, words: &[u64]) -> Result<(), AllocError>
-    requires size { length words.now ≡ size_of layout.now }
-    ensures { OnOk result (string_bytes text.new ≡ string_bytes text.old ++ frames_text layout.now words.now layout.now.frames) }
+pub fn push_frames(text: &mut String, image: &Image<'_>) -> Result<(), AllocError>
+    ensures { OnOk result (string_bytes text.new ≡ string_bytes text.old ++ frames_text image.now.shape image.now.words image.now.shape.frames) }
 {
-    'frames: for frame in 0..layout.frames() {
-        push_frame(text, layout, words, FrameNo::new(frame))?;
+    'frames: for frame in 0..image.frames() {
+        push_frame(text, image, FrameNo::new(frame))?;
     }
     Ok(())
 }
 
-fn object_budget(layout: &Layout, words: &[u64], frame: FrameNo, object: Obj) -> u32
-    requires size { length words.now ≡ size_of layout.now }
-    requires frame_in { frame < layout.now.frames }
-    ensures { result ≡ (tcap_in (Kernel (object_shown object (words_of layout.now words.now frame)))).budget }
+fn object_budget(image: &Image<'_>, frame: FrameNo, object: Obj) -> u32
+    requires frame_in { frame < image.now.shape.frames }
+    ensures { result ≡ (tcap_in (Kernel (object_shown object (words_of image.now.shape image.now.words frame)))).budget }
 {
     match object {
-        Obj::Tcap => budget(entry_word(layout, words, frame, 0)),
+        Obj::Tcap => budget(entry_word(image, frame, 0)),
         Obj::Blank => 0,
         Obj::Table => 0,
         Obj::Leaf => 0,
@@ -126,30 +112,28 @@ fn object_budget(layout: &Layout, words: &[u64], frame: FrameNo, object: Obj) ->
     }
 }
 
-fn frame_budget(layout: &Layout, words: &[u64], frame: FrameNo) -> u32
-    requires size { length words.now ≡ size_of layout.now }
-    requires frame_in { frame < layout.now.frames }
-    ensures { result ≡ (tcap_in (frame_at layout.now words.now frame)).budget }
+fn frame_budget(image: &Image<'_>, frame: FrameNo) -> u32
+    requires frame_in { frame < image.now.shape.frames }
+    ensures { result ≡ (tcap_in (frame_at image.now.shape image.now.words frame)).budget }
 {
-    match FrameWord::unpack(frame_word(layout, words, frame)) {
+    match image.frame(frame) {
         None => 0,
         Some(word) => match word.kind {
             FrameKind::Untyped => 0,
             FrameKind::User => 0,
-            FrameKind::Kernel => object_budget(layout, words, frame, word.object),
+            FrameKind::Kernel => object_budget(image, frame, word.object),
         },
     }
 }
 
 /// The sum of the budgets of all temporal capabilities.
-pub fn budgets(layout: &Layout, words: &[u64]) -> u64
-    requires size { length words.now ≡ size_of layout.now }
-    ensures sum { result ≡ sum_below (λ f. (tcap_in (frame_at layout.now words.now f)).budget) layout.now.frames }
+pub fn budgets(image: &Image<'_>) -> u64
+    ensures sum { result ≡ sum_below (λ f. (tcap_in (frame_at image.now.shape image.now.words f)).budget) image.now.shape.frames }
     ensures most { result ≤ 2 ^ 41 }
 {
     let mut sum: u64 = 0;
-    'frames: for frame in 0..layout.frames() {
-        sum += u64::from(frame_budget(layout, words, FrameNo::new(frame)));
+    'frames: for frame in 0..image.frames() {
+        sum += u64::from(frame_budget(image, FrameNo::new(frame)));
     }
     sum
 }

@@ -7,17 +7,16 @@ ghost use Rattle.frame_words.specs.Comp.{comp_of_word};
 ghost use Rattle.tcap_words.specs.Head.{head_of_word};
 ghost use Rattle.tcap_words.specs.Quality.{quality_of_word};
 ghost use Rattle.tcap_words.specs.Stack.{stack_of_word};
-ghost use Rattle.word_map.specs.Places.{size_of};
 ghost use Rattle.kernel_history.specs.Tables.{number, entry_line, node_lines, comp_line, thread_line, quality_line, tcap_lines};
 ghost use Rattle.table_report.specs.Shown.{place_shown, comp_shown, stacked, listed, stack_shown, qualities_shown, budget_shown, words_of};
 
 use crate::words::{entry_word, held};
 use frame_words::CompWord;
+use machine_image::Image;
 use spk_nums::FrameNo;
 use std::alloc::AllocError;
 use table_lines::{push_budget, push_stack_end, push_stack_start};
 use tcap_words::{HeadWord, QualityWord, StackWord};
-use word_map::Layout;
 
 // Appends the line of an entry, if it is held.
 fn push_entry(text: &mut String, index: u16, word: u64) -> Result<(), AllocError>
@@ -30,39 +29,27 @@ fn push_entry(text: &mut String, index: u16, word: u64) -> Result<(), AllocError
 }
 
 /// Appends the lines of a node's entries.
-pub fn push_node(
-    text: &mut String,
-    layout: &Layout,
-    words: &[u64],
-    frame: FrameNo,
-) -> Result<(), AllocError>
-    requires size { length words.now ≡ size_of layout.now }
-    requires frame_in { frame < layout.now.frames }
+pub fn push_node(text: &mut String, image: &Image<'_>, frame: FrameNo) -> Result<(), AllocError>
+    requires frame_in { frame < image.now.shape.frames }
     ensures { OnOk result (string_bytes text.new
-        ≡ string_bytes text.old ++ node_lines (λ i. place_shown (entry_of_word (words_of layout.now words.now frame i)))) }
+        ≡ string_bytes text.old ++ node_lines (λ i. place_shown (entry_of_word (words_of image.now.shape image.now.words frame i)))) }
 {
     'entries: for index in 0..64 {
-        push_entry(text, index, entry_word(layout, words, frame, index))?;
+        push_entry(text, index, entry_word(image, frame, index))?;
     }
     Ok(())
 }
 
 /// Appends the line of a component.
-pub fn push_comp(
-    text: &mut String,
-    layout: &Layout,
-    words: &[u64],
-    frame: FrameNo,
-) -> Result<(), AllocError>
-    requires size { length words.now ≡ size_of layout.now }
-    requires frame_in { frame < layout.now.frames }
+pub fn push_comp(text: &mut String, image: &Image<'_>, frame: FrameNo) -> Result<(), AllocError>
+    requires frame_in { frame < image.now.shape.frames }
     ensures { OnOk result (string_bytes text.new ≡ string_bytes text.old ++ comp_line (comp_shown
-        (comp_of_word (words_of layout.now words.now frame 2))
-        (words_of layout.now words.now frame 0) (words_of layout.now words.now frame 1))) }
+        (comp_of_word (words_of image.now.shape image.now.words frame 2))
+        (words_of image.now.shape image.now.words frame 0) (words_of image.now.shape image.now.words frame 1))) }
 {
-    let table = entry_word(layout, words, frame, 0);
-    let pages = entry_word(layout, words, frame, 1);
-    match CompWord::unpack(entry_word(layout, words, frame, 2)) {
+    let table = entry_word(image, frame, 0);
+    let pages = entry_word(image, frame, 1);
+    match CompWord::unpack(entry_word(image, frame, 2)) {
         Some(comp) => table_lines::push_comp(text, table, pages, comp.number, comp.epoch),
         None => table_lines::push_comp(text, table, pages, 0, 0),
     }
@@ -78,37 +65,25 @@ fn push_stacked(text: &mut String, word: u64) -> Result<(), AllocError>
     }
 }
 
-fn push_stack(
-    text: &mut String,
-    layout: &Layout,
-    words: &[u64],
-    frame: FrameNo,
-) -> Result<(), AllocError>
-    requires size { length words.now ≡ size_of layout.now }
-    requires frame_in { frame < layout.now.frames }
+fn push_stack(text: &mut String, image: &Image<'_>, frame: FrameNo) -> Result<(), AllocError>
+    requires frame_in { frame < image.now.shape.frames }
     ensures { OnOk result (string_bytes text.new
-        ≡ string_bytes text.old ++ flat_map number (reverse (stack_shown (words_of layout.now words.now frame) 16))) }
+        ≡ string_bytes text.old ++ flat_map number (reverse (stack_shown (words_of image.now.shape image.now.words frame) 16))) }
 {
     'heights: for height in 0..16 {
-        push_stacked(text, entry_word(layout, words, frame, 1 + height))?;
+        push_stacked(text, entry_word(image, frame, 1 + height))?;
     }
     Ok(())
 }
 
 /// Appends the line of a thread.
-pub fn push_thread(
-    text: &mut String,
-    layout: &Layout,
-    words: &[u64],
-    frame: FrameNo,
-) -> Result<(), AllocError>
-    requires size { length words.now ≡ size_of layout.now }
-    requires frame_in { frame < layout.now.frames }
+pub fn push_thread(text: &mut String, image: &Image<'_>, frame: FrameNo) -> Result<(), AllocError>
+    requires frame_in { frame < image.now.shape.frames }
     ensures { OnOk result (string_bytes text.new
-        ≡ string_bytes text.old ++ thread_line (record { stack = stack_shown (words_of layout.now words.now frame) 16; runs_on = None })) }
+        ≡ string_bytes text.old ++ thread_line (record { stack = stack_shown (words_of image.now.shape image.now.words frame) 16; runs_on = None })) }
 {
     push_stack_start(text)?;
-    push_stack(text, layout, words, frame)?;
+    push_stack(text, image, frame)?;
     push_stack_end(text)
 }
 
@@ -124,19 +99,13 @@ fn push_quality(text: &mut String, word: u64) -> Result<(), AllocError>
     }
 }
 
-fn push_qualities(
-    text: &mut String,
-    layout: &Layout,
-    words: &[u64],
-    frame: FrameNo,
-) -> Result<(), AllocError>
-    requires size { length words.now ≡ size_of layout.now }
-    requires frame_in { frame < layout.now.frames }
+fn push_qualities(text: &mut String, image: &Image<'_>, frame: FrameNo) -> Result<(), AllocError>
+    requires frame_in { frame < image.now.shape.frames }
     ensures { OnOk result (string_bytes text.new
-        ≡ string_bytes text.old ++ flat_map quality_line (qualities_shown (words_of layout.now words.now frame) 8)) }
+        ≡ string_bytes text.old ++ flat_map quality_line (qualities_shown (words_of image.now.shape image.now.words frame) 8)) }
 {
     'pairs: for place in 0..8 {
-        push_quality(text, entry_word(layout, words, frame, 1 + place))?;
+        push_quality(text, entry_word(image, frame, 1 + place))?;
     }
     Ok(())
 }
@@ -152,22 +121,16 @@ pub fn budget(word: u64) -> u32
 }
 
 /// Appends the lines of a temporal capability.
-pub fn push_tcap(
-    text: &mut String,
-    layout: &Layout,
-    words: &[u64],
-    frame: FrameNo,
-) -> Result<(), AllocError>
-    requires size { length words.now ≡ size_of layout.now }
-    requires frame_in { frame < layout.now.frames }
+pub fn push_tcap(text: &mut String, image: &Image<'_>, frame: FrameNo) -> Result<(), AllocError>
+    requires frame_in { frame < image.now.shape.frames }
     ensures { OnOk result (string_bytes text.new ≡ string_bytes text.old ++ tcap_lines (record {
       budget =
-          budget_shown (head_of_word (words_of layout.now words.now frame 0));
+          budget_shown (head_of_word (words_of image.now.shape image.now.words frame 0));
       qualities =
-          qualities_shown (words_of layout.now words.now frame) 8;
+          qualities_shown (words_of image.now.shape image.now.words frame) 8;
     })) }
 {
-    let budget = budget(entry_word(layout, words, frame, 0));
+    let budget = budget(entry_word(image, frame, 0));
     push_budget(text, budget)?;
-    push_qualities(text, layout, words, frame)
+    push_qualities(text, image, frame)
 }

@@ -2,19 +2,16 @@
 
 ghost use Rattle.std.specs.Prelude.{◌≡◌, ◌≤◌, ◌^◌, ◌++◌, length, OnOk, Some, string_bytes, codes};
 ghost use Rattle.std.specs.List.{flat_map};
-ghost use Rattle.frame_words.specs.Live.{live_of_word};
 ghost use Rattle.kernel_rules.specs.References.{sum_below};
-ghost use Rattle.word_map.specs.Places.{size_of};
 ghost use Rattle.kernel_history.specs.Tables.{number, number_line, translation_line, core_lines, total_line};
 ghost use Rattle.table_lines.specs.Ends.{core_shown};
 ghost use Rattle.table_report.specs.Shown.{number_shown, numbers_text, core_shown_at, cores_text};
 
-use crate::words::live_word;
 use frame_words::LiveWord;
+use machine_image::Image;
 use spk_nums::CoreEnd;
 use std::alloc::{AllocError, Global};
 use table_lines::{push_core, push_dead, push_live};
-use word_map::Layout;
 
 fn push_word(text: &mut String, number: u8, live: &LiveWord) -> Result<(), AllocError>
     ensures { OnOk result (string_bytes text.new ≡ string_bytes text.old ++ number_line number (number_shown (Some live.now))) }
@@ -28,22 +25,21 @@ fn push_word(text: &mut String, number: u8, live: &LiveWord) -> Result<(), Alloc
 }
 
 // Appends the line of a liveness number that is live or dead.
-fn push_number(text: &mut String, number: u8, word: u64) -> Result<(), AllocError>
-    ensures { OnOk result (string_bytes text.new ≡ string_bytes text.old ++ number_line number (number_shown (live_of_word word))) }
+fn push_number(text: &mut String, number: u8, word: Option<LiveWord>) -> Result<(), AllocError>
+    ensures { OnOk result (string_bytes text.new ≡ string_bytes text.old ++ number_line number (number_shown word)) }
 {
-    match LiveWord::unpack(word) {
+    match word {
         Some(live) => push_word(text, number, &live),
         None => Ok(()),
     }
 }
 
 /// Appends the lines of all liveness numbers.
-pub fn push_numbers(text: &mut String, layout: &Layout, words: &[u64]) -> Result<(), AllocError>
-    requires size { length words.now ≡ size_of layout.now }
-    ensures { OnOk result (string_bytes text.new ≡ string_bytes text.old ++ numbers_text layout.now words.now 64) }
+pub fn push_numbers(text: &mut String, image: &Image<'_>) -> Result<(), AllocError>
+    ensures { OnOk result (string_bytes text.new ≡ string_bytes text.old ++ numbers_text image.now.shape image.now.words 64) }
 {
     'numbers: for number in 0..64 {
-        push_number(text, number, live_word(layout, words, number))?;
+        push_number(text, number, image.liveness(number))?;
     }
     Ok(())
 }

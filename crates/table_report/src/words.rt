@@ -1,54 +1,22 @@
 //! Words of the table by name.
 
-ghost use Rattle.std.specs.Prelude.{◌≡◌, ◌<◌, length, Some};
+ghost use Rattle.std.specs.Prelude.{◌≡◌, ◌<◌, Some};
 ghost use Rattle.entry_words.specs.EntryWord.{entry_of_word};
 ghost use Rattle.kernel_rules.specs.Start.{place_with};
-ghost use Rattle.word_map.specs.Word.{FrameAt, CountAt, LiveAt};
-ghost use Rattle.word_map.specs.Places.{size_of};
-ghost use Rattle.kernel_history.specs.FinalWords.{word_in};
 ghost use Rattle.table_report.specs.Shown.{place_shown, words_of};
 
 use entry_words::Entry;
-use spk_nums::{Cap, CoreNo, EntryNo, FrameNo};
-use word_map::Layout;
+use machine_image::Image;
+use spk_nums::{Cap, FrameNo};
 
 /// A word of a frame's object. The frame is below the machine's frames, and the index below 64.
-pub fn entry_word(layout: &Layout, words: &[u64], frame: FrameNo, index: u16) -> u64
-    requires size { length words.now ≡ size_of layout.now }
-    requires frame_in { frame < layout.now.frames }
+#[tactic(auto, using(crate::proofs::Nodes::node_word))]
+pub fn entry_word(image: &Image<'_>, frame: FrameNo, index: u16) -> u64
+    requires frame_in { frame < image.now.shape.frames }
     requires index_in { index < 64 }
-    ensures { result ≡ words_of layout.now words.now frame index }
+    ensures { result ≡ words_of image.now.shape image.now.words frame index }
 {
-    words[layout.entry_at(frame, EntryNo::new(index)) as usize]
-}
-
-/// The word that says what a frame is. The frame is below the machine's frames.
-pub fn frame_word(layout: &Layout, words: &[u64], frame: FrameNo) -> u64
-    requires size { length words.now ≡ size_of layout.now }
-    requires frame_in { frame < layout.now.frames }
-    ensures { result ≡ word_in layout.now words.now (FrameAt frame) }
-{
-    words[layout.frame_at(frame) as usize]
-}
-
-/// The word that counts the references of a core to a frame. The frame is below the machine's frames, and the core below
-/// its cores.
-pub fn count_word(layout: &Layout, words: &[u64], frame: FrameNo, core: CoreNo) -> u64
-    requires size { length words.now ≡ size_of layout.now }
-    requires frame_in { frame < layout.now.frames }
-    requires core_in { core < layout.now.cores }
-    ensures { result ≡ word_in layout.now words.now (CountAt frame core) }
-{
-    words[layout.count_at(frame, core) as usize]
-}
-
-/// The word of a liveness number, which is below 64.
-pub fn live_word(layout: &Layout, words: &[u64], number: u8) -> u64
-    requires size { length words.now ≡ size_of layout.now }
-    requires number_in { number < 64 }
-    ensures { result ≡ word_in layout.now words.now (LiveAt number) }
-{
-    words[layout.live_at(number) as usize]
+    image.node(frame).words()[index as usize]
 }
 
 // The capability that this entry holds.

@@ -41,7 +41,7 @@ returns c =
     let done = c.in_ok-closed.ensures in
     let limits = limits_of ended.setup r.trace in
     let shown : string_bytes c.in_ok-tables.tables ≡ tables_of (state_after ended.setup r.trace) =
-    c.in_ok-tables.ensures.tables (state_after ended.setup r.trace)
+    c.in_ok-tables.ensures (state_after ended.setup r.trace)
     (ap (λ l. l.cores) limits ∙ sym (ap (λ (s : Shape). s.cores) done.layout))
     (ap (λ l. l.frames) limits ∙ sym (ap (λ (s : Shape). s.frames) done.layout))
     (subst (λ (s : Shape). Represent (word_in s closed.words.items) (end_in closed.ends.items) (state_after ended.setup r.trace))

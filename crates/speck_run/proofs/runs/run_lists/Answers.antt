@@ -26,7 +26,7 @@ returns-clause-text g c =
     (subst (λ o. IfSome o (AreMade setup (map (λ v. v.items) c.deref.result.now))) c.in-Some.is c.in_ok-ran.ensures.made) in
     let limits = limits_of setup made.trace in
     let shown : string_bytes c.in_ok-tables.tables ≡ tables_of (state_after setup made.trace) =
-    c.in_ok-tables.ensures.tables (state_after setup made.trace)
+    c.in_ok-tables.ensures (state_after setup made.trace)
     (ap (λ l. l.cores) limits ∙ sym (ap (λ (s : Shape). s.cores) made.layout))
     (ap (λ l. l.frames) limits ∙ sym (ap (λ (s : Shape). s.frames) made.layout))
     (subst (λ (s : Shape). Represent (word_in s ran.closed.words.items) (end_in ran.closed.ends.items) (state_after setup made.trace))

@@ -40,18 +40,18 @@ returns c =
     let closed = c.in_ok-closed.closed in
     let done = c.in_ok-closed.ensures in
     let limits = limits_of ended.setup r.trace in
-    let shown : c.total.result ≡ ticks (state_after ended.setup r.trace) =
-    c.total.ensures.total (state_after ended.setup r.trace)
+    let shown : c.total_ticks.result ≡ ticks (state_after ended.setup r.trace) =
+    c.total_ticks.ensures (state_after ended.setup r.trace)
     (ap (λ l. l.cores) limits ∙ sym (ap (λ (s : Shape). s.cores) done.layout))
     (ap (λ l. l.frames) limits ∙ sym (ap (λ (s : Shape). s.frames) done.layout))
     (subst (λ (s : Shape). Represent (word_in s closed.words.items) (end_in closed.ends.items) (state_after ended.setup r.trace))
     (sym done.layout) (done.represent r.trace r.stands)) in
-    let is : string_bytes c.push_total.new.text ≡ summary_text ended.decisions c.total.result =
-    summary_is c.decisions.result.now c.total.result (string_bytes c.new-text.result)
+    let is : string_bytes c.push_total.new.text ≡ summary_text ended.decisions c.total_ticks.result =
+    summary_is c.decisions.result.now c.total_ticks.result (string_bytes c.new-text.result)
     (string_bytes c.push_counts.new.text) (string_bytes c.push_total.new.text)
     c.new-text.ensures.bytes c.in_ok-push_counts.ensures c.in_ok-push_total.ensures
-    ∙ ap (λ ds. summary_text ds c.total.result) c.decisions.ensures in
+    ∙ ap (λ ds. summary_text ds c.total_ticks.result) c.decisions.ensures in
     summed_up c.args.setup.now lists c.args.items.now c.in_ok-kernel.kernel c.follow.new.kernel
     ended booted.setup followed.setup ran.setup booted.lists followed.lists ran.lists
     c.cores-cores.ensures.limits one_each booted.stands followed.goes ran.goes r
-    made_histories c.total.result (string_bytes c.push_total.new.text) shown is
+    made_histories c.total_ticks.result (string_bytes c.push_total.new.text) shown is

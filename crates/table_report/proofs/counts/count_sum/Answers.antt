@@ -7,7 +7,7 @@ use Rattle.table_report.proofs.counts.count_sum.Goals as goal
 
 pub counters-preserved : goal.counters-preserved
 counters-preserved c =
-    let m = sum_more (count_at (word_in c.args.layout.now c.args.words.now) c.args.frame) c.counters.counter in
+    let m = sum_more (count_at (word_in c.args.image.now.shape c.args.image.now.words) c.args.frame) c.counters.counter in
     record {
       sum = grind (arith, ints, to_z-of_z, m);
       least = omega (arith, ints);

@@ -6,7 +6,7 @@ use Rattle.table_report.proofs.counts.count_sum.Given as goal
 
 abbrev pub invariant-counters : goal.invariant-counters
 invariant-counters l = record {
-  sum : l.sum ≡ count_sum (count_at (word_in l.layout l.words) l.frame) (range_with_len 0 l.counter);
+  sum : l.sum ≡ count_sum (count_at (word_in l.image.shape l.image.words) l.frame) (range_with_len 0 l.counter);
   least : neg_ℤ (pos (2 ^ 31 * l.counter)) ≤ℤ l.sum;
   most : l.sum ≤ℤ pos (2 ^ 31 * l.counter);
 }

@@ -6,6 +6,6 @@ use Rattle.table_report.proofs.frames.budgets.Given as goal
 
 abbrev pub invariant-frames : goal.invariant-frames
 invariant-frames l = record {
-  sum : l.sum ≡ sum_below (λ f. (tcap_in (frame_at l.layout l.words f)).budget) l.frame;
+  sum : l.sum ≡ sum_below (λ f. (tcap_in (frame_at l.image.shape l.image.words f)).budget) l.frame;
   most : l.sum ≤ 4294967295 * l.frame;
 }

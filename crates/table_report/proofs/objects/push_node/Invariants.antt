@@ -7,4 +7,4 @@ use Rattle.table_report.proofs.objects.push_node.Given as goal
 
 abbrev pub invariant-entries : goal.invariant-entries
 invariant-entries l = string_bytes l.text ≡ string_bytes l.initial.text
-    ++ lines_below (λ i. entry_line i (place_shown (entry_of_word (words_of l.layout l.words l.frame i)))) l.index
+    ++ lines_below (λ i. entry_line i (place_shown (entry_of_word (words_of l.image.shape l.image.words l.frame i)))) l.index

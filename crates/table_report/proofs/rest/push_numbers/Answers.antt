@@ -5,4 +5,4 @@ pub numbers-init : goal.numbers-init
 numbers-init c = begins _ _ (lines_none _)
 
 pub numbers-preserved : goal.numbers-preserved
-numbers-preserved c = goes_on _ _ _ _ _ _ (rw c.live_word.ensures at c.in_ok-push_number.ensures) c.numbers.invariant (lines_more _ _)
+numbers-preserved c = goes_on _ _ _ _ _ _ (rw c.liveness.ensures at c.in_ok-push_number.ensures) c.numbers.invariant (lines_more _ _)
