@@ -614,7 +614,7 @@ module _ (own : Own) (a : ActiveCall) (facts : Facts own a) (room : own.made < o
               frame = fits.frame;
               core = fits.core;
               at = record {
-                fits = record { frame = fits.frame; core = fits.core; at = some_counter own.layout };
+                fits = record { frame = fits.frame; core = fits.core; at = some_counter own.layout facts.own_fits.shape.some_core };
                 kept = omega arith;
                 owned = record { first = tt; second = tt };
                 object = owned_none v.object;

@@ -39,6 +39,7 @@ use Rattle.kernel_history.specs.ObjectWords.{holds_node, frame_value, comp_word,
 use Rattle.kernel_history.specs.BootWords.{boot_entry, boot_frame, boot_thread, boot_tcap, boot_live, boot_word}
 use Rattle.kernel_history.specs.FinalWords.{SaysPlace, AreThread, AreTcap, AreFrame, SaysNumber, HoldNothing}
 use Rattle.kernel_history.specs.Counts.{count_at, IsUnheld, count_in}
+use Rattle.kernel_history.proofs.Counters.{all_counters, sum_of_first}
 use Rattle.boot_words.specs.BootLaws.{BootRepresents, BootRepresentsStart}
 use Rattle.boot_words.proofs.StartRefs.{refs_most}
 
@@ -229,23 +230,34 @@ module _ (setup : Setting) (lim : IsSetting setup) where
     omega arith,
   )
 
+  -- core 0 counts the references to f, and no other core does
+  abbrev counted : ℕ → ℕ → ℕ
+  counted f c = if c == 0 then refs (start setup) f else 0
+
+  counted_most : (f c : ℕ) → counted f c ≤ refs (start setup) f
+  counted_most f c =
+      choose (λ (x : ℕ). x ≤ refs (start setup) f) (c == 0) (refs (start setup) f) 0 (λ e. omega arith) (λ e. omega arith)
+
   pub boot_small : (w : Word) → boot_word setup w < 2 ^ 64
   boot_small (EntryAt f i) = frame_small f i
   boot_small (FrameAt f) = frames.spelling.small (frame_value (start_frame setup f)) (frame_fits (start_frame setup f))
-  boot_small (CountAt f c) = count_small f (if c == 0 then refs (start setup) f else 0)
-      (choose (λ (x : ℕ). x ≤ refs (start setup) f) (c == 0) (refs (start setup) f) 0 (λ e. omega arith) (λ e. omega arith))
+  boot_small (CountAt f c) = count_small f (counted f c) (counted_most f c)
   boot_small (CoreAt c) = core_words.spelling.small (record { inside = false; stamp = 0 }) (omega arith)
   boot_small (FlushAt c) = flushes.spelling.small (record { stamp = 0 }) (omega arith)
   boot_small (LiveAt l) = choose (λ x. word_of_live (boot_live x) < 2 ^ 64) (l == 0) _ _
       (λ e. lives.spelling.small (live_word.Live 1 3) (omega arith, omega arith, omega arith)) (λ e. lives.spelling.small live_word.Free tt)
   boot_small ClockAt = omega arith
 
-  count_reads : (f : ℕ) → count_at (boot_word setup) f 0 ≡ Some (record { hold = Unheld; count = pos (refs (start setup) f); stamp = 0 })
-  count_reads f = counts.spelling.reads (record { hold = Unheld; count = pos (refs (start setup) f); stamp = 0 }) (
+  count_reads : (f c : ℕ) → count_at (boot_word setup) f c ≡ Some (record { hold = Unheld; count = pos (counted f c); stamp = 0 })
+  count_reads f c = counts.spelling.reads (record { hold = Unheld; count = pos (counted f c); stamp = 0 }) (
     tt,
-    (let m = refs_most setup lim f in omega (arith, m)),
+    (let m = refs_most setup lim f in let most = counted_most f c in omega (arith, m, most)),
     omega arith,
   )
+
+  counts_none : (f c : ℕ) → 1 ≤ c → count_in (count_at (boot_word setup) f c) ≡ pos 0
+  counts_none f c some = ap count_in (count_reads f c)
+      ∙ ap (λ b. pos (if b then refs (start setup) f else 0)) (ne_eqb c 0 (λ none. omega (arith, some, none)))
 
   represents : BootRepresents setup
   represents = record {
@@ -258,9 +270,9 @@ module _ (setup : Setting) (lim : IsSetting setup) where
       ends = λ c h. refl;
     };
     counts = λ f h. record {
-      unheld = All-cons (λ c. IsUnheld (count_at (boot_word setup) f c)) 0 []
-          (subst IsUnheld (sym (count_reads f)) refl) (All-nil (λ c. IsUnheld (count_at (boot_word setup) f c)));
-      sum = ap (λ o. count_in o +ℤ pos 0) (count_reads f) ∙ omega (arith, ints);
+      unheld = all_counters (λ c. IsUnheld (count_at (boot_word setup) f c)) setup.cores
+          (λ c below. subst IsUnheld (sym (count_reads f c)) refl);
+      sum = sum_of_first (count_at (boot_word setup) f) setup.cores lim.some_core (counts_none f) ∙ ap count_in (count_reads f 0);
     };
   }
 

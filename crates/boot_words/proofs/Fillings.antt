@@ -5,7 +5,7 @@ use Rattle.std.proofs.lemmas.List.{length-set, get_or-set_same, get_or-set_other
 use Rattle.std.proofs.lemmas.Bool.{cases_eq}
 use Rattle.spk_nums.specs.Setting.{Setting, IsSetting}
 use Rattle.word_map.specs.Word.{Word, EntryAt, FrameAt, CountAt, CoreAt, FlushAt, LiveAt, ClockAt}
-use Rattle.word_map.specs.Places.{IsShape, IsIn, HasPlaces, place_of, size_of, shared}
+use Rattle.word_map.specs.Places.{IsShape, IsIn, HasPlaces, place_of, size_of}
 use Rattle.word_map.proofs.PlaceLemmas.{has_places}
 use Rattle.kernel_history.specs.BootWords.{boot_word, shape_of}
 use Rattle.boot_words.specs.Filling.{IsRight, Fills, Puts, IsFrameRight, IsCoreRight}
@@ -22,10 +22,10 @@ module _ (setup : Setting) (lim : IsSetting setup) (words : List ℕ) (w : Word)
   below : place_of (shape_of setup) w < length words
   below = let p = places.below w is_in in omega (arith, p, size)
 
-  put_here : (v : ℕ) → v ≡ boot_word setup (shared w) → IsRight setup (set words (place_of (shape_of setup) w) v) w
+  put_here : (v : ℕ) → v ≡ boot_word setup w → IsRight setup (set words (place_of (shape_of setup) w) v) w
   put_here v is = get_or-set_same words (place_of (shape_of setup) w) v 0 below ∙ is
 
-  keeps : (v : ℕ) → v ≡ boot_word setup (shared w) → (u : Word) → IsIn (shape_of setup) u
+  keeps : (v : ℕ) → v ≡ boot_word setup w → (u : Word) → IsIn (shape_of setup) u
       → IsRight setup words u → IsRight setup (set words (place_of (shape_of setup) w) v) u
   keeps v is u u_in right = elim (cases_eq (place_of (shape_of setup) u) (place_of (shape_of setup) w)) [
     | inl same ↦
@@ -34,7 +34,7 @@ module _ (setup : Setting) (lim : IsSetting setup) (words : List ℕ) (w : Word)
     | inr other ↦ get_or-set_other words (place_of (shape_of setup) w) (place_of (shape_of setup) u) v 0 other ∙ right
   ]
 
-  pub puts : (at v : ℕ) → at ≡ place_of (shape_of setup) w → v ≡ boot_word setup (shared w) → Puts setup words (set words at v) w
+  pub puts : (at v : ℕ) → at ≡ place_of (shape_of setup) w → v ≡ boot_word setup w → Puts setup words (set words at v) w
   puts at v here is =
       subst (λ p. Puts setup words (set words p v) w) (sym here) (record {
         fills = record { size = length-set words (place_of (shape_of setup) w) v; kept = keeps v is };
@@ -58,12 +58,6 @@ frame_kept setup a b f p h right = record {
 
 pub core_kept : (setup : Setting) (a b : List ℕ) (c : ℕ) → Fills setup a b → c < setup.cores → IsCoreRight setup a c → IsCoreRight setup b c
 core_kept setup a b c p h right = record { core = p.kept (CoreAt c) h right.core; flush = p.kept (FlushAt c) h right.flush }
-
--- The count word of core 0 is that of every core.
-pub counts_right : (setup : Setting) → IsSetting setup → (words : List ℕ) (f : ℕ)
-    → IsRight setup words (CountAt f 0) → (c : ℕ) → IsRight setup words (CountAt f c)
-counts_right setup lim words f right c =
-    ap (λ p. get_or words p 0) (sym ((has_places (shape_of setup) (shape_fits setup lim)).together (CountAt f c))) ∙ right
 
 -- All words are right where those of the frames, the cores and the liveness numbers and the clock are.
 pub all_right : (setup : Setting) (words : List ℕ)

@@ -2,13 +2,13 @@
 use Rattle.std.specs.Prelude.{◌≡◌, ◌<◌, ℕ, List, length}
 use Rattle.spk_nums.specs.Setting.{Setting}
 use Rattle.word_map.specs.Word.{Word, EntryAt, FrameAt, CountAt, CoreAt, FlushAt}
-use Rattle.word_map.specs.Places.{IsIn, shared}
+use Rattle.word_map.specs.Places.{IsIn}
 use Rattle.kernel_history.specs.BootWords.{boot_word, shape_of}
 use Rattle.kernel_history.specs.FinalWords.{word_in}
 
 -- The word of this name is that of the start.
 abbrev pub IsRight : Setting → List ℕ → Word → Type 0
-IsRight setup words w = word_in (shape_of setup) words w ≡ boot_word setup (shared w)
+IsRight setup words w = word_in (shape_of setup) words w ≡ boot_word setup w
 
 -- A write keeps the table's length, and the words that were right.
 pub record Fills (setup : Setting) (old new : List ℕ) : Type 0 where

@@ -16,7 +16,7 @@ ghost use Rattle.kernel_rules.specs.Start.{start, start_cap, core_cap, start_fra
 ghost use Rattle.kernel_rules.specs.Start.{start_number, granted, plain_cap, place_with};
 ghost use Rattle.kernel_rules.specs.References.{refs};
 ghost use Rattle.word_map.specs.Word.{Word, EntryAt, FrameAt, CountAt, CoreAt, FlushAt, LiveAt, ClockAt};
-ghost use Rattle.word_map.specs.Places.{IsIn, size_of, shared};
+ghost use Rattle.word_map.specs.Places.{IsIn, size_of};
 ghost use Rattle.kernel_history.specs.ObjectWords.{frame_value, comp_word};
 ghost use Rattle.kernel_history.specs.BootWords.{boot_word, boot_entry, boot_thread, boot_tcap, boot_live, shape_of};
 ghost use Rattle.kernel_history.specs.FinalWords.{word_in};
@@ -232,14 +232,31 @@ fn references(setup: &Setup, frame: u16) -> u8
     0
 }
 
-fn count_word(setup: &Setup, frame: u16) -> CountWord
+// The references to a frame that a core counts at the start: core 0 counts all.
+fn counted(setup: &Setup, frame: u16, core: u8) -> u8
     requires { frame < setup.now.frames }
-    ensures value { result ≡ record { hold = Unheld; count = pos (refs (start setup.now) frame); stamp = 0 } }
+    ensures value { result ≡ (if core == 0 then refs (start setup.now) frame else 0) }
+    ensures most { result ≤ 10 }
+{
+    if core == 0 {
+        references(setup, frame)
+    } else {
+        0
+    }
+}
+
+fn count_word(setup: &Setup, frame: u16, core: u8) -> CountWord
+    requires { frame < setup.now.frames }
+    ensures value { result ≡ record {
+      hold = Unheld;
+      count = pos (if core == 0 then refs (start setup.now) frame else 0);
+      stamp = 0;
+    } }
     ensures fits { CountFits result }
 {
     CountWord {
         hold: Hold::Unheld,
-        count: i32::from(references(setup, frame)),
+        count: i32::from(counted(setup, frame, core)),
         stamp: Stamp::new(0),
     }
 }
@@ -282,16 +299,16 @@ fn put_frame(words: &mut [u64], setup: &Setup, layout: &Layout, frame: FrameNo)
     words[at as usize] = frame_word(setup, frame.number()).pack();
 }
 
-// The word that counts the references to a frame is put.
-fn put_count(words: &mut [u64], setup: &Setup, layout: &Layout, frame: FrameNo)
+// The word in which a core counts the references to a frame is put.
+fn put_count(words: &mut [u64], setup: &Setup, layout: &Layout, frame: FrameNo, core: CoreNo)
     requires limits { IsSetting setup.now }
     requires shape { layout.now ≡ shape_of setup.now }
     requires size { length words.old ≡ size_of (shape_of setup.now) }
-    requires is_in { IsIn (shape_of setup.now) (CountAt frame 0) }
-    ensures { Puts setup.now words.old words.new (CountAt frame 0) }
+    requires is_in { IsIn (shape_of setup.now) (CountAt frame core) }
+    ensures { Puts setup.now words.old words.new (CountAt frame core) }
 {
-    let at = layout.count_at(frame, CoreNo::new(0));
-    words[at as usize] = count_word(setup, frame.number()).pack();
+    let at = layout.count_at(frame, core);
+    words[at as usize] = count_word(setup, frame.number(), core.number()).pack();
 }
 
 // The word of a core is put.
@@ -362,6 +379,20 @@ fn put_entries(words: &mut [u64], setup: &Setup, layout: &Layout, frame: FrameNo
     }
 }
 
+// The words in which the cores count the references to a frame are put.
+fn put_counts(words: &mut [u64], setup: &Setup, layout: &Layout, frame: FrameNo)
+    requires limits { IsSetting setup.now }
+    requires shape { layout.now ≡ shape_of setup.now }
+    requires size { length words.old ≡ size_of (shape_of setup.now) }
+    requires is_in { frame < setup.now.frames }
+    ensures fills { Fills setup.now words.old words.new }
+    ensures right { (c : ℕ) → c < setup.now.cores → IsRight setup.now words.new (CountAt frame c) }
+{
+    'counts: for core in 0..setup.cores() {
+        put_count(words, setup, layout, frame, CoreNo::new(core));
+    }
+}
+
 // All words of a frame are put.
 fn put_whole_frame(words: &mut [u64], setup: &Setup, layout: &Layout, frame: FrameNo)
     requires limits { IsSetting setup.now }
@@ -373,7 +404,7 @@ fn put_whole_frame(words: &mut [u64], setup: &Setup, layout: &Layout, frame: Fra
 {
     put_entries(words, setup, layout, frame);
     put_frame(words, setup, layout, frame);
-    put_count(words, setup, layout, frame);
+    put_counts(words, setup, layout, frame);
 }
 
 // The words of all frames are put.
@@ -435,7 +466,7 @@ fn filled(alloc: Global, setup: &Setup, layout: &Layout) -> Result<Vec<u64>, All
     requires shape { layout.now ≡ shape_of setup.now }
     ensures length { IfOk result (λ words. length words.items ≡ size_of (shape_of setup.now)) }
     ensures words { IfOk result (λ words. (w : Word) → IsIn (shape_of setup.now) w
-        → word_in (shape_of setup.now) words.items w ≡ boot_word setup.now (shared w)) }
+        → word_in (shape_of setup.now) words.items w ≡ boot_word setup.now w) }
 {
     let mut words = vec![in alloc; 0; layout.size() as usize]?;
     put_all(&mut words, setup, layout);
@@ -451,7 +482,7 @@ fn filled(alloc: Global, setup: &Setup, layout: &Layout) -> Result<Vec<u64>, All
 pub fn boot_words(alloc: Global, setup: &Setup) -> Result<Vec<u64>, Memory>
     ensures length { IfOk result (λ words. length words.items ≡ size_of (shape_of setup.now)) }
     ensures words { IfOk result (λ words. (w : Word) → IsIn (shape_of setup.now) w
-        → word_in (shape_of setup.now) words.items w ≡ boot_word setup.now (shared w)) }
+        → word_in (shape_of setup.now) words.items w ≡ boot_word setup.now w) }
 {
     let cores = setup.cores();
     let frames = setup.frames();
@@ -495,14 +526,42 @@ mod tests {
             (4 * 64 + 1, 7),
             (2048, 6),
             (2048 + 8, 0),
-            (2080, 0x0400_0000_2000_0000),
-            (2080 + 2 * 3, 0x0400_0000_4000_0000),
             (2148, 0x0000_0000_000c_0005),
             (2212, 1),
         ];
         assert_eq!(rt; words.len(), 2213);
         for (place, word) in places {
             assert_eq!(rt; words.get(place).copied(), Some(word), "at {place}");
+        }
+        let Some(layout) = Layout::new(2, 32) else {
+            assert!(rt; false);
+            return;
+        };
+        // Core 0 counts the references to the table and to the component, core 1 none.
+        let counts = [
+            (
+                layout.count_at(FrameNo::new(0), CoreNo::new(0)),
+                0x0400_0000_2000_0000,
+            ),
+            (
+                layout.count_at(FrameNo::new(0), CoreNo::new(1)),
+                0x0400_0000_0000_0000,
+            ),
+            (
+                layout.count_at(FrameNo::new(3), CoreNo::new(0)),
+                0x0400_0000_4000_0000,
+            ),
+            (
+                layout.count_at(FrameNo::new(3), CoreNo::new(1)),
+                0x0400_0000_0000_0000,
+            ),
+        ];
+        for (place, word) in counts {
+            assert_eq!(rt;
+                words.get(place as usize).copied(),
+                Some(word),
+                "at {place}"
+            );
         }
     }
 }

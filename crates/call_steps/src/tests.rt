@@ -428,7 +428,7 @@ fn a_retype_compares_the_word_of_an_untyped_frame(rt: HostRuntime) {
 }
 
 // How many steps core 1 of a machine of three cores and ten frames makes of a call as wanted: each of these in order, which finds
-// this word and leads to this. The count of frame 0 is at 650, the core words from 680 on, and the clock at 750.
+// this word and leads to this. Core 1's count of frame 0 is at 662, the core words at 660, 672 and 684, and the clock at 750.
 fn steps_alike(call: Call, rows: &[(WordOp, u64, Absorbed)]) -> Option<usize>
     requires limits { InLimits call }
 {
@@ -475,7 +475,7 @@ fn compares(at: u32, expected: u64, word: u64) -> (WordOp, u64, Absorbed) {
 // The steps of core 1's `copy 1 1 20` to the scan, where the target quiesces since the stamp 5.
 fn steps_to_the_scan() -> [(WordOp, u64, Absorbed); 7] {
     [
-        stores(681, 1),
+        stores(672, 1),
         loads(0, LINK_TO_1),
         loads(65, TABLE_0),
         loads(0, LINK_TO_1),
@@ -500,7 +500,7 @@ fn decides(op: &WordOp, found: u64, reply: &Reply) -> (WordOp, u64, Absorbed) {
 }
 
 fn leaves(reply: &Reply) -> (WordOp, u64, Absorbed) {
-    let leaves = WordOp::Store { at: 681, word: 18 };
+    let leaves = WordOp::Store { at: 672, word: 18 };
     (leaves, 18, Absorbed::Returned(*reply))
 }
 
@@ -515,24 +515,24 @@ fn a_copy_scans_the_other_cores_before_it_fills(rt: HostRuntime) {
     };
     let ok = Reply::Ok(Value::Nothing);
     let filled = [
-        loads(680, out),
-        loads(682, inside_6),
-        loads(650, TWO),
-        compares(650, TWO, TWO_BY_1),
+        loads(660, out),
+        loads(684, inside_6),
+        loads(662, TWO),
+        compares(662, TWO, TWO_BY_1),
         decides(&fills, QUIESCES_5, &ok),
-        stores(650, THREE),
+        stores(662, THREE),
         loads(750, 9),
         leaves(&ok),
     ];
     assert_eq!(rt; scans(&filled), Some(15));
     // The place was filled and removed again in between: the compare finds a later stamp.
     let raced = [
-        loads(680, out),
-        loads(682, inside_6),
-        loads(650, TWO),
-        compares(650, TWO, TWO_BY_1),
+        loads(660, out),
+        loads(684, inside_6),
+        loads(662, TWO),
+        compares(662, TWO, TWO_BY_1),
         decides(&fills, QUIESCES_6, &Reply::Raced),
-        stores(650, TWO),
+        stores(662, TWO),
         loads(750, 9),
         leaves(&Reply::Raced),
     ];
@@ -545,8 +545,8 @@ fn a_copy_is_refused_by_a_core_that_has_been_in_its_call_since_the_removal(rt: H
     let (out, inside_5) = (0, 11);
     let waits = Reply::Quiescing(CoreNo::new(2));
     let refused = [
-        loads(680, out),
-        decides(&WordOp::Load { at: 682 }, inside_5, &waits),
+        loads(660, out),
+        decides(&WordOp::Load { at: 684 }, inside_5, &waits),
         loads(750, 9),
         leaves(&waits),
     ];

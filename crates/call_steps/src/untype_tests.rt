@@ -5,8 +5,9 @@ ghost use Rattle.std.specs.Prelude.{◌<◌};
 use crate::{Absorbed, CoreState};
 use spk_nums::{CoreNo, FrameNo, Grant, Grants, Reply, Setup, Value, WordOp};
 
-// A machine of two cores and ten frames has 739 words: the entries of frame 6 from 384 on, its word at 646 and its count at 662, the
-// counts of the frames 0, 2 and 3 at 650, 654 and 656, the core words at 670 and 671, the flush words at 672 and 673, and the clock at 738.
+// A machine of two cores and ten frames has 739 words: the entries of frame 6 from 384 on, its word at 646 and its counts at 656 and 668,
+// core 0's counts of the frames 0, 2 and 3 at 650, 652 and 653, the core words at 660 and 672, the flush words at 661 and 673, and the
+// clock at 738.
 const ENTRY_0: usize = 384;
 
 const ENTRY_1: usize = 385;
@@ -15,19 +16,21 @@ const ENTRY_63: usize = 447;
 
 const WORD: usize = 646;
 
-const COUNT: usize = 662;
+const COUNT: usize = 656;
+
+const COUNT_BY_1: usize = 668;
 
 const COUNT_OF_0: usize = 650;
 
-const COUNT_OF_2: usize = 654;
+const COUNT_OF_2: usize = 652;
 
-const COUNT_OF_3: usize = 656;
+const COUNT_OF_3: usize = 653;
 
-const CORE_0: usize = 670;
+const CORE_0: usize = 660;
 
-const CORE_1: usize = 671;
+const CORE_1: usize = 672;
 
-const FLUSH_0: usize = 672;
+const FLUSH_0: usize = 661;
 
 const FLUSH_1: usize = 673;
 
@@ -49,11 +52,13 @@ const TCAP: u64 = 30;
 
 const BLANK_BY_1: u64 = 130;
 
-// Counts held by no core: of no reference, of none since the stamp 5, of two, of two since the stamp 5, and of one since the stamp
-// 7. One of none that core 1 has acquired.
+// Counts held by no core: of no reference, of none since the stamp 5, of one less, of two, of two since the stamp 5, and of one since the
+// stamp 7. One of none that core 1 has acquired, and one that it has frozen.
 const NONE: u64 = 0x0400_0000_0000_0000;
 
 const NONE_SINCE_5: u64 = 0x0400_0000_0000_0005;
+
+const ONE_LESS: u64 = 0x03ff_ffff_f000_0000;
 
 const TWO: u64 = 0x0400_0000_2000_0000;
 
@@ -63,7 +68,11 @@ const ONE_SINCE_7: u64 = 0x0400_0000_1000_0007;
 
 const NONE_BY_1: u64 = 0x1400_0000_0000_0000;
 
-// The count since the stamp 5 that core 0 has frozen.
+const NONE_FROZEN_BY_1: u64 = 0x9400_0000_0000_0000;
+
+// The counts of no reference, and of none since the stamp 5, that core 0 has frozen.
+const FROZEN: u64 = 0x8c00_0000_0000_0000;
+
 const FROZEN_SINCE_5: u64 = 0x8c00_0000_0000_0005;
 
 const TABLE_0: u64 = 5;
@@ -84,11 +93,12 @@ fn setup() -> Option<Setup> {
     Setup::new(2, 10, grants, 9, 1)
 }
 
-// The words with a frame 6 of this word and this count.
+// The words with a frame 6 of this word and this count of core 0; core 1 counts none.
 fn words(word: u64, count: u64) -> Words {
     let mut words = [0; 739];
     words[WORD] = word;
     words[COUNT] = count;
+    words[COUNT_BY_1] = NONE;
     words[CLOCK] = 7;
     words
 }
@@ -199,6 +209,7 @@ fn refused(words: &Words, reply: Reply, steps: u32) -> Option<(Reply, u32, Words
 // What the call leaves that is carried out: an untyped frame without a reference, the next clock, and the core word.
 fn untyped(words: &Words) -> Words {
     let words = with(&with(words, WORD, 0), COUNT, NONE);
+    let words = with(&words, COUNT_BY_1, NONE);
     with(&with(&words, CLOCK, 8), CORE_0, 16)
 }
 
@@ -219,32 +230,44 @@ fn freezes_draws_and_clears(rt: HostRuntime) {
     let mut words = before;
     let mut steps = no_steps();
     let made = untype(&mut words, UNCHANGED, &mut steps);
-    assert_eq!(rt; made, Some((OK, 10, 5)));
+    assert_eq!(rt; made, Some((OK, 13, 7)));
     let marks = WordOp::Compare {
         at: 646,
         expected: BLANK,
         word: 66,
     };
     let freezes = WordOp::Compare {
-        at: 662,
+        at: 656,
         expected: NONE_SINCE_5,
         word: FROZEN_SINCE_5,
     };
+    let freezes_the_next = WordOp::Compare {
+        at: 668,
+        expected: NONE,
+        word: FROZEN,
+    };
     let clears = WordOp::Store {
-        at: 662,
+        at: 656,
+        word: NONE,
+    };
+    let clears_the_next = WordOp::Store {
+        at: 668,
         word: NONE,
     };
     let rows = [
         (0, WordOp::Load { at: 646 }),
         (1, marks),
-        (2, WordOp::Load { at: 662 }),
+        (2, WordOp::Load { at: 656 }),
         (3, freezes),
-        (4, WordOp::Load { at: 671 }),
-        (5, WordOp::Add { at: 738, by: 1 }),
-        (6, clears),
-        (7, WordOp::Store { at: 646, word: 0 }),
-        (8, WordOp::Load { at: 738 }),
-        (9, WordOp::Store { at: 670, word: 16 }),
+        (4, WordOp::Load { at: 668 }),
+        (5, freezes_the_next),
+        (6, WordOp::Load { at: 672 }),
+        (7, WordOp::Add { at: 738, by: 1 }),
+        (8, clears),
+        (9, clears_the_next),
+        (10, WordOp::Store { at: 646, word: 0 }),
+        (11, WordOp::Load { at: 738 }),
+        (12, WordOp::Store { at: 660, word: 16 }),
     ];
     assert!(rt; has_steps(&steps, &rows));
     assert_eq!(rt; words, untyped(&before));
@@ -253,41 +276,44 @@ fn freezes_draws_and_clears(rt: HostRuntime) {
 #[test]
 fn looks_at_each_entry_of_a_node(rt: HostRuntime) {
     let leaf = words(LEAF, NONE_SINCE_5);
-    assert_eq!(rt; answers(&leaf), Some((OK, 74, untyped(&leaf))));
+    assert_eq!(rt; answers(&leaf), Some((OK, 77, untyped(&leaf))));
     let full = with(&leaf, ENTRY_63, TABLE_0);
-    assert_eq!(rt; answers(&full), refused(&full, Reply::NotEmpty, 73));
+    assert_eq!(rt; answers(&full), refused(&full, Reply::NotEmpty, 76));
     let closing = with(&leaf, ENTRY_0, 6);
-    assert_eq!(rt; answers(&closing), refused(&closing, busy(), 10));
+    assert_eq!(rt; answers(&closing), refused(&closing, busy(), 13));
 }
 
 #[test]
 fn gives_back_what_a_refused_sweep_has_frozen(rt: HostRuntime) {
     let named = words(LEAF, TWO);
-    assert_eq!(rt; answers(&named), refused(&named, Reply::Referenced(2), 8));
+    assert_eq!(rt; answers(&named), refused(&named, Reply::Referenced(2), 11));
+    // Core 1 has released one of them.
+    let fewer = with(&named, COUNT_BY_1, ONE_LESS);
+    assert_eq!(rt; answers(&fewer), refused(&fewer, Reply::Referenced(1), 11));
     // Core 1 is inside a call that it entered before the last reference was released.
     let used = with(&words(BLANK, NONE_SINCE_5), CORE_1, INSIDE_SINCE_5);
     assert_eq!(rt;
         answers(&used),
-        refused(&used, Reply::Quiescing(CoreNo::new(1)), 9)
+        refused(&used, Reply::Quiescing(CoreNo::new(1)), 12)
     );
     // Core 0 has not flushed since, and then core 1.
     let user = words(USER, NONE_SINCE_5);
     assert_eq!(rt;
         answers(&user),
-        refused(&user, Reply::Unflushed(CoreNo::new(0)), 10)
+        refused(&user, Reply::Unflushed(CoreNo::new(0)), 13)
     );
     let user = with(&user, FLUSH_0, 6);
     assert_eq!(rt;
         answers(&user),
-        refused(&user, Reply::Unflushed(CoreNo::new(1)), 11)
+        refused(&user, Reply::Unflushed(CoreNo::new(1)), 14)
     );
     let user = with(&user, FLUSH_1, 6);
-    assert_eq!(rt; answers(&user), Some((OK, 12, untyped(&user))));
+    assert_eq!(rt; answers(&user), Some((OK, 15, untyped(&user))));
     // A temporal capability with a budget, and a thread that is in a component above its bottom one.
     let rich = with(&words(TCAP, NONE), ENTRY_0, 9);
-    assert_eq!(rt; answers(&rich), refused(&rich, Reply::NotEmpty, 9));
+    assert_eq!(rt; answers(&rich), refused(&rich, Reply::NotEmpty, 12));
     let deep = with(&words(THREAD, NONE), ENTRY_0, 64);
-    assert_eq!(rt; answers(&deep), refused(&deep, Reply::NotEmpty, 9));
+    assert_eq!(rt; answers(&deep), refused(&deep, Reply::NotEmpty, 12));
 }
 
 #[test]
@@ -299,16 +325,20 @@ fn leaves_what_another_core_holds_or_has_changed(rt: HostRuntime) {
     );
     let marked = words(BLANK_BY_1, NONE);
     assert_eq!(rt; answers(&marked), refused(&marked, busy(), 3));
-    let held = words(BLANK, NONE_BY_1);
-    assert_eq!(rt; answers(&held), refused(&held, busy(), 6));
-    // The frame's word is changed before it is marked, and the count before it is frozen.
+    // The count of core 0 was frozen by then.
+    let held = with(&words(BLANK, NONE), COUNT_BY_1, NONE_BY_1);
+    assert_eq!(rt; answers(&held), refused(&held, busy(), 9));
+    // The frame's word is changed before it is marked, and each count before it is frozen.
     let blank = words(BLANK, NONE);
     let after = with(&with(&blank, WORD, LEAF), CORE_0, 14);
     let lost = answers_changed(&blank, (1, 646, LEAF));
     assert_eq!(rt; lost, Some((Reply::Raced, 4, after)));
     let after = with(&with(&blank, COUNT, TWO), CORE_0, 14);
-    let lost = answers_changed(&blank, (3, 662, TWO));
+    let lost = answers_changed(&blank, (3, 656, TWO));
     assert_eq!(rt; lost, Some((Reply::Raced, 7, after)));
+    let after = with(&with(&blank, COUNT_BY_1, TWO), CORE_0, 14);
+    let lost = answers_changed(&blank, (5, 668, TWO));
+    assert_eq!(rt; lost, Some((Reply::Raced, 10, after)));
 }
 
 // A component of the table in frame 0 and the pages in frame 2.
@@ -327,31 +357,38 @@ fn releases_what_the_object_itself_names(rt: HostRuntime) {
     let mut words = before;
     let mut steps = no_steps();
     let made = untype(&mut words, UNCHANGED, &mut steps);
-    assert_eq!(rt; made, Some((OK, 17, 10)));
+    assert_eq!(rt; made, Some((OK, 20, 12)));
     let rows = [
-        (10, WordOp::Add { at: 738, by: 1 }),
+        (12, WordOp::Add { at: 738, by: 1 }),
         (
-            11,
+            13,
             WordOp::Store {
                 at: 650,
                 word: ONE_SINCE_7,
             },
         ),
         (
-            12,
+            14,
             WordOp::Store {
-                at: 654,
+                at: 652,
                 word: ONE_SINCE_7,
             },
         ),
         (
-            13,
+            15,
             WordOp::Store {
-                at: 662,
+                at: 656,
                 word: NONE,
             },
         ),
-        (14, WordOp::Store { at: 646, word: 0 }),
+        (
+            16,
+            WordOp::Store {
+                at: 668,
+                word: NONE,
+            },
+        ),
+        (17, WordOp::Store { at: 646, word: 0 }),
     ];
     assert!(rt; has_steps(&steps, &rows));
     let after = with(&untyped(&before), COUNT_OF_0, ONE_SINCE_7);
@@ -359,7 +396,7 @@ fn releases_what_the_object_itself_names(rt: HostRuntime) {
     // A thread names the component at the bottom of its stack.
     let idle = with(&with(&a_thread(), ENTRY_0, 32), ENTRY_1, 7);
     let after = with(&untyped(&idle), COUNT_OF_3, ONE_SINCE_7);
-    assert_eq!(rt; answers(&idle), Some((OK, 14, after)));
+    assert_eq!(rt; answers(&idle), Some((OK, 17, after)));
 }
 
 // A thread, and two references to frame 3.
@@ -368,7 +405,7 @@ fn a_thread() -> Words {
 }
 
 #[test]
-fn gives_back_its_counts_where_another_core_holds_one(rt: HostRuntime) {
-    let before = with(&a_component(), COUNT_OF_2, NONE_BY_1);
-    assert_eq!(rt; answers(&before), refused(&before, busy(), 14));
+fn gives_back_its_counts_where_another_core_has_frozen_one(rt: HostRuntime) {
+    let before = with(&a_component(), COUNT_OF_2, NONE_FROZEN_BY_1);
+    assert_eq!(rt; answers(&before), refused(&before, busy(), 17));
 }

@@ -42,7 +42,6 @@ use Rattle.kernel_history.specs.frame_words.specs.Live.{live_of_word}
 use Rattle.kernel_history.specs.frame_words.specs.declared.comp_word.CompWord.{CompWord}
 use Rattle.kernel_history.specs.frame_words.specs.declared.live_word.LiveWord.TheVariants as live_word
 use Rattle.kernel_history.specs.word_map.specs.Word.{EntryAt, CountAt, FrameAt, LiveAt}
-use Rattle.kernel_history.specs.word_map.specs.Places.{counter_of}
 use Rattle.kernel_invariant.specs.kernel_rules.specs.State.{User, Thing, PlaceOf, State, first_of_stack, thread_of, comp_of, comp_in}
 use Rattle.kernel_invariant.specs.kernel_rules.specs.State.{NumberOf, Dead}
 use Rattle.kernel_invariant.specs.kernel_rules.specs.MemoryCalls.{translation_of}

@@ -6,7 +6,6 @@ use Rattle.std.specs.Prelude.{◌≡◌, ℕ, zero, suc, Bool, true, false, List
 use Rattle.kernel_invariant.specs.spk_nums.specs.Setting.{Setting}
 use Rattle.kernel_history.specs.frame_words.specs.Count.{word_of_count}
 use Rattle.kernel_history.specs.word_map.specs.Word.{Word, EntryAt, FrameAt, CountAt, CoreAt, FlushAt, LiveAt, ClockAt, same_word}
-use Rattle.kernel_history.specs.word_map.specs.Places.{counter_of}
 use Rattle.kernel_invariant.specs.spk_nums.specs.Capability.{Capability}
 use Rattle.kernel_history.specs.entry_words.specs.EntryWord.{word_of_entry}
 use Rattle.kernel_history.specs.entry_words.specs.declared.entry.Entry.TheVariants.{Held, Quiescing}
@@ -60,7 +59,7 @@ will_store w x h = record { marks = h.marks; stands = λ u. if same_word u w the
 
 -- The word of a count that a call has acquired.
 abbrev pub count_of : Acquired → Word
-count_of x = CountAt x.pin.frame (counter_of x.pin.core)
+count_of x = CountAt x.pin.frame x.pin.core
 
 -- What it stands for: the word that its commit stores, where the call is not carried out, or is, and has drawn this stamp or none.
 abbrev pub committed : Option (Option ℕ) → Acquired → ℕ

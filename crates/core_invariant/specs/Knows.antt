@@ -42,7 +42,6 @@ use Rattle.kernel_history.specs.frame_words.specs.Live.{live_of_word}
 use Rattle.kernel_history.specs.frame_words.specs.declared.comp_word.CompWord.{CompWord}
 use Rattle.kernel_history.specs.frame_words.specs.declared.live_word.LiveWord.TheVariants as live_word
 use Rattle.kernel_history.specs.word_map.specs.Word.{EntryAt, CountAt, FrameAt, LiveAt}
-use Rattle.kernel_history.specs.word_map.specs.Places.{counter_of}
 use Rattle.kernel_invariant.specs.kernel_rules.specs.State.{User, Thing, PlaceOf, State, first_of_stack, thread_of, comp_of, comp_in}
 use Rattle.kernel_invariant.specs.kernel_rules.specs.State.{NumberOf, Dead}
 use Rattle.kernel_invariant.specs.kernel_rules.specs.MemoryCalls.{translation_of}
@@ -227,7 +226,7 @@ pin_core (AtCompare frame core count stamp) = core
 
 -- At the compare, the call's last step on the count's word has read there the word that is expected.
 pub record HasRead (t : Trace) (c frame core : ℕ) (count : ℤ) (stamp : ℕ) : Type 0 where
-  pub own : own_read t c (CountAt frame (counter_of core)) ≡ Some (word_of_count (unheld count stamp))
+  pub own : own_read t c (CountAt frame core) ≡ Some (word_of_count (unheld count stamp))
   pub fits : CountFits (unheld count stamp)
 
 abbrev pub HasLoaded : Trace → ℕ → Pin → Type 0
@@ -246,7 +245,7 @@ pub record KnowsCount (setup : Setting) (t : Trace) (c : ℕ) (a : ActiveCall) (
   pub due : dues act ≡ map due_of a.counts ++ record { frame = pin_frame pin; change = change } ∷ rest
   pub apart : AreDuesApart (dues act)
   pub core : pin_core pin ≡ c
-  pub new : (holds_counts None a.counts).marks (CountAt (pin_frame pin) (counter_of c)) ≡ false
+  pub new : (holds_counts None a.counts).marks (CountAt (pin_frame pin) c) ≡ false
   pub loaded : HasLoaded t c pin
   pub starts : is_counting act ≡ true
 

@@ -42,7 +42,6 @@ use Rattle.kernel_history.specs.frame_words.specs.Live.{live_of_word}
 use Rattle.kernel_history.specs.frame_words.specs.declared.comp_word.CompWord.{CompWord}
 use Rattle.kernel_history.specs.frame_words.specs.declared.live_word.LiveWord.TheVariants as live_word
 use Rattle.kernel_history.specs.word_map.specs.Word.{EntryAt, CountAt, FrameAt, LiveAt}
-use Rattle.kernel_history.specs.word_map.specs.Places.{counter_of}
 use Rattle.kernel_invariant.specs.kernel_rules.specs.State.{User, Thing, PlaceOf, State, first_of_stack, thread_of, comp_of, comp_in}
 use Rattle.kernel_invariant.specs.kernel_rules.specs.State.{NumberOf, Dead}
 use Rattle.kernel_invariant.specs.kernel_rules.specs.MemoryCalls.{translation_of}
@@ -230,7 +229,7 @@ pub record IsSpot (setup : Setting) (t : Trace) (c : ℕ) (plan : Plan) (ks : Li
 -- A user frame of which core c holds its count.
 pub record IsUser (setup : Setting) (t : Trace) (c f : ℕ) : Type 0 where
   pub user : (state_after setup t).frame f ≡ User
-  pub held : marked_by setup t (CountAt f (counter_of c)) ≡ Some c
+  pub held : marked_by setup t (CountAt f c) ≡ Some c
 
 -- A frame that the call maps is a user frame, of which it has acquired the count; of other calls nothing is asked.
 abbrev pub HasUser : Setting → Trace → ℕ → Call → Type 0

@@ -23,7 +23,7 @@ use Rattle.call_steps.specs.call_stages.specs.View.{Core}
 use Rattle.call_steps.specs.call_stages.specs.Fits.{IsCore}
 use Rattle.flight_laws.specs.Histories.{IsHistory}
 use Rattle.flight_laws.specs.flight.specs.Made.{turned, MayStep, core_after, cores_after, IsMade, IsMadeStep}
-use Rattle.flight_laws.specs.flight.specs.Phases.{IsWord}
+use Rattle.word_map.specs.Places.{IsIn}
 use Rattle.flight_laws.specs.core_invariant.specs.Invariant.{Invariant}
 use Rattle.call_steps.specs.call_stages.specs.Cores.{started, move_of, absorbed}
 use Rattle.flight_laws.specs.flight.proofs.ByPlace.{place_is, left_is, told_is, apart_places}
@@ -93,7 +93,7 @@ module _ (setup : Setting) (setting : IsSetting setup) (start : Start CoreRun) (
   -- program's core is where the trace brings it
   pub record Along (t : List (Entry Call)) : Type 0 where
     pub made : IsMade setup (trace_of setup t)
-    pub words : (w : Word) → IsWord (shape_of setup) w → word_after start t (place_of (shape_of setup) w) ≡ last_left setup
+    pub words : (w : Word) → IsIn (shape_of setup) w → word_after start t (place_of (shape_of setup) w) ≡ last_left setup
         (trace_of setup t) w
     pub runs : (c : ℕ) (p : CoreRun) → program_after running start t c ≡ Some p → p.state ≡ cores_after setup (trace_of setup t) c
 
@@ -104,7 +104,7 @@ module _ (setup : Setting) (setting : IsSetting setup) (start : Start CoreRun) (
   first : Along []
   first = record {
     made = tt;
-    words = λ w h. is.words w h.is_in ∙ ap (boot_word setup) h.is_named;
+    words = λ w h. is.words w h;
     runs = λ c p runs. started_state c setup p (slice_get start.programs c) (is.each c (here [] c p runs)) runs;
   }
 
@@ -149,8 +149,8 @@ module _ (setup : Setting) (setting : IsSetting setup) (start : Start CoreRun) (
     op_is : m.step.op ≡ op_of (shape_of setup) (move_of core)
     op_is = op_same m.step.op m.step.next
 
-    word : IsWord (shape_of setup) (word_of (move_of core))
-    word = subst (λ s. IsWord s (word_of (move_of core))) shape_is (moves_are_words core fits in_call)
+    word : IsIn (shape_of setup) (word_of (move_of core))
+    word = subst (λ s. IsIn s (word_of (move_of core))) shape_is (moves_are_words core fits in_call)
 
     at : e.at ≡ place_of (shape_of setup) (word_of (move_of core))
     at = m.step.place ∙ ap table.place_in op_is ∙ place_is (shape_of setup) (move_of core)
@@ -169,7 +169,7 @@ module _ (setup : Setting) (setting : IsSetting setup) (start : Start CoreRun) (
       made = refl;
     }
 
-    words : (w : Word) → IsWord (shape_of setup) w → word_after start (e ∷ t) (place_of (shape_of setup) w) ≡ last_left setup
+    words : (w : Word) → IsIn (shape_of setup) w → word_after start (e ∷ t) (place_of (shape_of setup) w) ≡ last_left setup
         (trace_of setup (e ∷ t)) w
     words w h = elim (cases_word w (word_of (move_of core))) [
       | inl same ↦

@@ -11,7 +11,7 @@ use Rattle.spk_nums.specs.declared.calls.Call.{Call}
 use Rattle.spk_nums.specs.declared.translations.CoreEnd.{CoreEnd}
 use Rattle.spk_nums.specs.Setting.{Setting, IsSetting}
 use Rattle.word_map.specs.Word.{Word, ClockAt}
-use Rattle.word_map.specs.Places.{IsShape, IsIn, place_of, size_of, shared}
+use Rattle.word_map.specs.Places.{IsShape, IsIn, place_of, size_of}
 use Rattle.word_map.proofs.PlaceLemmas.{has_places}
 use Rattle.boot_words.specs.kernel_history.specs.BootWords.{shape_of, boot_word}
 use Rattle.boot_words.specs.kernel_history.specs.FinalWords.{word_in, end_in, no_end}
@@ -74,7 +74,7 @@ programs_fit setup programs words are size k d h =
 
 is_start : (setup : Setting) (start : Start CoreRun) (words : List ℕ) (programs : List CoreRun) → start.words ≡ words
     → start.programs ≡ programs → length words ≡ size_of (shape_of setup)
-    → ((w : Word) → IsIn (shape_of setup) w → word_in (shape_of setup) words w ≡ boot_word setup (shared w))
+    → ((w : Word) → IsIn (shape_of setup) w → word_in (shape_of setup) words w ≡ boot_word setup w)
     → ArePrograms setup setup.cores programs → IsStart setup start
 is_start setup start words programs same_words same_programs size are_words are = record {
   size = ap length same_words ∙ size;
@@ -85,7 +85,7 @@ is_start setup start words programs same_words same_programs size are_words are 
 
 pub is_booted : (setup : Setting) (table : TableValue CoreRun) (words : List ℕ) (programs : List CoreRun) → IsSetting setup
     → table.start.words ≡ words → table.start.programs ≡ programs → length words ≡ size_of (shape_of setup)
-    → ((w : Word) → IsIn (shape_of setup) w → word_in (shape_of setup) words w ≡ boot_word setup (shared w))
+    → ((w : Word) → IsIn (shape_of setup) w → word_in (shape_of setup) words w ≡ boot_word setup w)
     → ArePrograms setup setup.cores programs → IsBooted setup table
 is_booted setup table words programs setting same_words same_programs size are_words are =
     record { setting = setting; start = is_start setup table.start words programs same_words same_programs size are_words are }
@@ -192,9 +192,9 @@ module _ (setup : Setting) (table : TableValue CoreRun) (booted : IsBooted setup
           let between : (c : ℕ) → c < setup.cores → (cores c).active ≡ None = λ c h. ap (λ k. k.active) (sym (state c h))
           ∙ (program_at c h).2 in
           let stands = made_stands setup booted.setting (trace_of setup t) a.made in
-          let alike : (w : Word) → IsIn (shape_of setup) w → shared w ≡ w
+          let alike : (w : Word) → IsIn (shape_of setup) w
           → last_left setup (trace_of setup t) w ≡ word_in (shape_of setup) words w =
-          λ w is_in is_shared. sym (end.word (place_of (shape_of setup) w) ∙ a.words w (record { is_in = is_in; is_named = is_shared })) in
+          λ w is_in. sym (end.word (place_of (shape_of setup) w) ∙ a.words w is_in) in
           record {
             trace = trace_of setup t;
             history = is_history setup booted.setting table.start booted.start t end.sound;

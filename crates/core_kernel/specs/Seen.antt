@@ -4,7 +4,7 @@ use Rattle.std.specs.Prelude.{◌≡◌, ℕ, ◌<◌, List, [], ◌∷◌, leng
 use Rattle.spk_nums.specs.declared.calls.Call.{Call}
 use Rattle.spk_nums.specs.Setting.{Setting}
 use Rattle.word_map.specs.Word.{Word}
-use Rattle.word_map.specs.Places.{IsIn, size_of, shared}
+use Rattle.word_map.specs.Places.{IsIn, size_of}
 use Rattle.boot_words.specs.kernel_history.specs.BootWords.{shape_of, boot_word}
 use Rattle.boot_words.specs.kernel_history.specs.FinalWords.{word_in}
 use Rattle.boot_words.specs.kernel_history.specs.Trace.{Step, Trace}
@@ -32,6 +32,6 @@ trace_of setup (e ∷ t) = step_by setup (trace_of setup t) e ∷ trace_of setup
 -- The table began with the boot words and, for each core, its state at the start.
 pub record IsStart (setup : Setting) (start : Start CoreRun) : Type 0 where
   pub size : length start.words ≡ size_of (shape_of setup)
-  pub words : (w : Word) → IsIn (shape_of setup) w → word_in (shape_of setup) start.words w ≡ boot_word setup (shared w)
+  pub words : (w : Word) → IsIn (shape_of setup) w → word_in (shape_of setup) start.words w ≡ boot_word setup w
   pub count : length start.programs ≡ setup.cores
   pub each : (c : ℕ) → c < setup.cores → slice_get start.programs c ≡ Some (run_of (started c setup) None)

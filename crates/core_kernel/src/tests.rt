@@ -14,6 +14,7 @@ use spk_nums::{
     Call, Cap, CapId, CoreNo, FrameNo, Grant, Grants, Kind, Memory, Reply, Setup, Value,
 };
 use std::alloc::Global;
+use word_map::Closed;
 
 fn look(a: u16) -> Call
     requires { a < 64 }
@@ -29,6 +30,16 @@ fn copy(a: u16, b: u16) -> Call
 {
     Call::Copy {
         a: CapId::new(a),
+        t: CapId::new(1),
+        b: CapId::new(b),
+    }
+}
+
+fn remove(b: u16) -> Call
+    requires { b < 64 }
+    ensures { InLimits result }
+{
+    Call::Remove {
         t: CapId::new(1),
         b: CapId::new(b),
     }
@@ -157,5 +168,40 @@ fn a_core_learns_of_the_calls_of_another(rt: HostRuntime) -> Result<(), Memory> 
     assert_eq!(rt; looked, Reply::Ok(range));
     assert_eq!(rt; first[0].front().calls, 1);
     assert_eq!(rt; second[0].front().core, CoreNo::new(1));
+    Ok(())
+}
+
+// The count that a core has of a frame in these words, 2^30 more than it is.
+fn raised_count(closed: &Closed, frame: u16, core: u8) -> Option<u64>
+    requires frame { frame < 512 }
+    requires core { core < 8 }
+{
+    if closed.layout.frames() <= frame || closed.layout.cores() <= core {
+        return None;
+    }
+    let place = closed
+        .layout
+        .count_at(FrameNo::new(frame), CoreNo::new(core));
+    let word = closed.words.get(place as usize)?;
+    Some((*word >> 28) & 0x7fff_ffff)
+}
+
+// Core 0 copies the capability of the table in frame 0, core 1 removes that of the temporal capability in frame 7.
+#[test]
+fn each_core_counts_in_words_of_its_own(rt: HostRuntime) -> Result<(), Memory> {
+    let setup = setup()?;
+    let first = list(rt.alloc(), look(0), copy(1, 20))?;
+    let second = list(rt.alloc(), look(1), remove(13))?;
+    let Ok(lists) = Vec::from_array(rt.alloc(), [first, second]) else {
+        return Err(Memory);
+    };
+    let Some(ran) = run_whole(&rt, rt.alloc(), &setup, &lists, &FreeGate)? else {
+        return Err(Memory);
+    };
+    let none = 1 << 30;
+    assert_eq!(rt; raised_count(&ran.closed, 0, 0), Some(none + 3));
+    assert_eq!(rt; raised_count(&ran.closed, 0, 1), Some(none));
+    assert_eq!(rt; raised_count(&ran.closed, 7, 0), Some(none + 2));
+    assert_eq!(rt; raised_count(&ran.closed, 7, 1), Some(none - 1));
     Ok(())
 }

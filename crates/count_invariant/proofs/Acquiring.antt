@@ -6,7 +6,7 @@ use Rattle.step_ways.proofs.Common.{Bool, true, false, if◌then◌else◌, nat_
 use Rattle.step_ways.proofs.Common.{arith, refl, sym, ◌∙◌, ap, subst, not, All, is_some, false≢true, eq-eqb, eqb-true, eqb-false, All-nil}
 use Rattle.step_ways.proofs.Common.{All-cons, All-head, All-tail, All-append, Setting, IsSetting, Capability, Call, Remove, Shrink, Unmap}
 use Rattle.step_ways.proofs.Common.{Copy, Retype, Touch, Flush, Tick, Kill, Reply, CountFits, word_of_count, count_of_word, CountWord}
-use Rattle.step_ways.proofs.Common.{left_if, Word, EntryAt, CountAt, ClockAt, FrameAt, LiveAt, same_word, counter_of, Move, LoadOf}
+use Rattle.step_ways.proofs.Common.{left_if, Word, EntryAt, CountAt, ClockAt, FrameAt, LiveAt, same_word, Move, LoadOf}
 use Rattle.step_ways.proofs.Common.{CompareOf, StoreOf, word_of, left_of, Place, Holds, PlaceOf, State, put, named_by, put_same}
 use Rattle.step_ways.proofs.Common.{count_mark, marked_by, counts_references, changes_places, raises_clock, IsNearIn, frame_at_slot}
 use Rattle.step_ways.proofs.Common.{frame_argument, frames_named, is_one_of, frames_near, capability_in, target_of, rule_of, usable_in}
@@ -70,6 +70,8 @@ use Rattle.act_fits.specs.act_states.specs.declared.untypings.UntypingAt.TheVari
 use Rattle.act_fits.specs.act_states.specs.Untypings.{is_drawing}
 use Rattle.step_ways.specs.core_invariant.specs.Knows.{pin_frame}
 use Rattle.step_ways.specs.core_invariant.specs.Knows.{pin_core, IsRemoval, KnowsClose}
+use Rattle.plan_ways.specs.kernel_history.specs.Discipline.{may_count}
+use Rattle.plan_ways.specs.kernel_history.proofs.OwnCounts.{own_counts}
 use Rattle.step_ways.specs.core_invariant.specs.Knows.{HasRead, is_counting}
 use Rattle.step_ways.specs.kept_facts.proofs.Carries.{act_on, KeepsUsers, KeepsThreads}
 use Rattle.step_ways.specs.kept_facts.proofs.Carries.{claimed_in, ReadsSame, freezes_at, reads_counts, due_pairs}
@@ -109,7 +111,7 @@ knows_next setup t c table a core act (d ∷ ds) own knows prefix apart n is sta
       due = prefix;
       apart = apart;
       core = own;
-      new = not_acquired a.counts d ds (subst AreDuesApart prefix apart) (counter_of c);
+      new = not_acquired a.counts d ds (subst AreDuesApart prefix apart) c;
       loaded = tt;
       starts = starts;
     })
@@ -186,13 +188,17 @@ module _ (setup : Setting) (setting : IsSetting setup) (cores : ℕ → Core) (t
   s = state_after setup t
 
   abbrev at : Word
-  at = CountAt frame (counter_of d)
+  at = CountAt frame d
 
   abbrev was : ℕ
   was = last_left setup t at
 
   own_core : d ≡ c
   own_core = sym core_is ∙ has.knows.core
+
+  -- the count is its core's own
+  moved : IsTrue (may_count c a.call frame d)
+  moved = own_counts a.call frame c d own_core counting
 
   held_is : holds_in (Some a) ≡ holds_act act (holds_counts None a.counts)
   held_is = ap (λ s. holds_at s a.counts) stage_is
@@ -219,12 +225,12 @@ module _ (setup : Setting) (setting : IsSetting setup) (cores : ℕ → Core) (t
 
   -- the core has not acquired it yet
   new : (holds_counts None a.counts).marks at ≡ false
-  new = subst (λ (f : ℕ). (holds_counts None a.counts).marks (CountAt f (counter_of d)) ≡ false) frame_is
-      (subst (λ (e : ℕ). (holds_counts None a.counts).marks (CountAt (pin_frame pin) (counter_of e)) ≡ false) (sym own_core)
+  new = subst (λ (f : ℕ). (holds_counts None a.counts).marks (CountAt f d) ≡ false) frame_is
+      (subst (λ (e : ℕ). (holds_counts None a.counts).marks (CountAt (pin_frame pin) e) ≡ false) (sym own_core)
       has.knows.new)
 
   bare_here : (holds_in (Some a)).marks at ≡ false
-  bare_here = ap (λ h. h.marks at) held_is ∙ (act_count act (holds_counts None a.counts) frame (counter_of d) spares).0 ∙ new
+  bare_here = ap (λ h. h.marks at) held_is ∙ (act_count act (holds_counts None a.counts) frame d spares).0 ∙ new
 
   -- the word of a count that carries no mark
   says : marked_by setup t at ≡ None → SaysCount (count_room s) (count_of_word was)
@@ -275,7 +281,7 @@ module _ (setup : Setting) (setting : IsSetting setup) (cores : ℕ → Core) (t
   -- it is held by another core
   held_good : (b : ℕ) → marked_by setup t at ≡ Some b → GoodTook setup cores t c (LoadOf at) (landed a (gives_up (refusal.Busy b) act))
   held_good b mark = busy_knowing setup setting cores t stands c here a active opens (undo act) undone left room (LoadOf at)
-      (record { of_call = record { moves = counting; near = inl (near (counter_of d)) }; kept = refl; apart = λ e. refl })
+      (record { of_call = record { moves = moved; near = inl (near d) }; kept = refl; apart = λ e. refl })
       plain b bare_here mark tt
 
   -- it is loaded, and held by none
@@ -286,7 +292,7 @@ module _ (setup : Setting) (setting : IsSetting setup) (cores : ℕ → Core) (t
       let spells = counts.spelling.spells was (unheld count stamp) reads in
       loads_on setup setting cores t stands c here a active (LoadOf at) a.found
       (Undecided (Acquire (AtCompare frame d count stamp) change act))
-      (record { of_call = record { moves = counting; near = inl (near (counter_of d)) }; kept = refl; apart = λ b. refl }) lands
+      (record { of_call = record { moves = moved; near = inl (near d) }; kept = refl; apart = λ b. refl }) lands
       (sym held_is) opens
       (λ carries. record {
         names = names_on setup setting t e stands.legal c a.call is_open carries (cores c).own.table a.plan a.found has.names;
@@ -299,7 +305,7 @@ module _ (setup : Setting) (setting : IsSetting setup) (cores : ℕ → Core) (t
           due = has.knows.due ∙ ap (λ (f : ℕ). map due_of a.counts ++ record { frame = f; change = change } ∷ has.knows.rest) frame_is;
           apart = has.knows.apart;
           core = own_core;
-          new = subst (λ (b : ℕ). (holds_counts None a.counts).marks (CountAt frame (counter_of b)) ≡ false) own_core new;
+          new = subst (λ (b : ℕ). (holds_counts None a.counts).marks (CountAt frame b) ≡ false) own_core new;
           loaded = record {
             own = own_read-here c e t refl at refl ∙ ap (λ b. if b then Some was else None) (eq-eqb was was refl) ∙ ap (λ (n : ℕ). Some n)
                 (sym spells.1);
@@ -352,7 +358,7 @@ module _ (setup : Setting) (setting : IsSetting setup) (cores : ℕ → Core) (t
     x = record { pin = pinned_at frame d count stamp; change = change }
 
     of_call : IsOfCall setup t c a.call compare
-    of_call = record { moves = counting; near = inl (near (counter_of d)) }
+    of_call = record { moves = moved; near = inl (near d) }
 
     count_lost : (was == expected) ≡ false → GoodTook setup cores t c compare (landed a (gives_up refusal.Raced act))
     count_lost other =
@@ -411,7 +417,7 @@ module _ (setup : Setting) (setting : IsSetting setup) (cores : ℕ → Core) (t
           let after : Core = core_in_call (cores c) (cores c).own.made (more grown) in
           let after_is : holds after ≡ holds_act act (holds_counts None grown) = next_holds (cores c).own.core (length a.counts + 1) act
           (holds_counts None grown) in
-          counters.holds_on setup setting cores t stands c here a active compare (more grown) (λ b. refl) (not_clock frame (counter_of d))
+          counters.holds_on setup setting cores t stands c here a active compare (more grown) (λ b. refl) (not_clock frame d)
           refl of_call lands
           (subst (λ (n : ℕ). n < 2 ^ 64) (sym leaves) (counts.spelling.small (acquired d count stamp) held_fits))
           (λ w there.
@@ -425,14 +431,14 @@ module _ (setup : Setting) (setting : IsSetting setup) (cores : ℕ → Core) (t
           (acquired_bares (holds (cores c)) (holds after) act a.counts grown at (ap holds_in active ∙ held_is) after_is)
           (ap (λ (n : ℕ). count_mark (count_of_word n)) leaves ∙ ap count_mark (counts.spelling.reads (acquired d count stamp) held_fits)
           ∙ ap (λ (e : ℕ). Some e) own_core ∙ sym (ap (λ b. if b then Some c else None)
-          (ap (λ h. h.marks at) after_is ∙ (act_count act (holds_counts None grown) frame (counter_of d) spares).0
+          (ap (λ h. h.marks at) after_is ∙ (act_count act (holds_counts None grown) frame d spares).0
           ∙ counters.more_marked None a.counts x)))
           (λ b other is. none_some b (sym unmarked ∙ is))
           (ap (λ b. settled_by (if b then Some c else None) (held_by (put cores c after)) at (left_of compare was))
-          (ap (λ h. h.marks at) after_is ∙ (act_count act (holds_counts None grown) frame (counter_of d) spares).0
+          (ap (λ h. h.marks at) after_is ∙ (act_count act (holds_counts None grown) frame d spares).0
           ∙ counters.more_marked None a.counts x)
           ∙ ap (λ k. (holds k).stands at) (put_same cores c after c refl) ∙ ap (λ h. h.stands at) after_is
-          ∙ (act_count act (holds_counts None grown) frame (counter_of d) spares).1 ∙ counters.more_stands None a.counts x new
+          ∙ (act_count act (holds_counts None grown) frame d spares).1 ∙ counters.more_stands None a.counts x new
           ∙ stands_found frame d count change stamp loaded.fits ∙ sym same
           ∙ sym (ap (λ o. settled_by o (held_by cores) at was) unmarked))
           opens
@@ -455,7 +461,7 @@ module _ (setup : Setting) (setting : IsSetting setup) (cores : ℕ → Core) (t
             counts = counting;
             core = own_core;
             fits = loaded.fits;
-            near = was_now (IsNearIn c a.call at) setup t e c (near (counter_of d));
+            near = was_now (IsNearIn c a.call at) setup t e c (near d);
           }) (All-nil (IsCount setup (e ∷ t) c a.call))))
           (counters.more_apart a.counts x (call_is setup setting cores t stands c here a active).apart new)
           (spares_other setup t (inner setup setting cores t stands c here a active compare None None) (λ f i h. cc))
@@ -720,8 +726,8 @@ module _ (setup : Setting) (setting : IsSetting setup) (cores : ℕ → Core) (t
       let after : Core = core_in_call (cores c) (cores c).own.made next in
       let spells = counts.spelling.spells stored _ stored_says.says in
       counters.holds_on setup setting cores t stands c here a active store next (λ b. refl)
-      (not_clock x.pin.frame (counter_of x.pin.core)) refl
-      (record { moves = first.counts; near = inr first.near }) lands
+      (not_clock x.pin.frame x.pin.core) refl
+      (record { moves = own_counts a.call x.pin.frame c x.pin.core first.core first.counts; near = inr first.near }) lands
       (subst (λ (n : ℕ). n < 2 ^ 64) spells.1 (counts.spelling.small _ spells.0))
       (λ w there.
       let rest = counters.rest_elsewhere (done_by r drawn) x xs w there in

@@ -3,7 +3,7 @@
 use Rattle.step_ways.proofs.Common.{◌≡◌, ◌≢◌, ◌⊎◌, ℕ, suc, zero, ℤ, pos, negsuc, ◌+ℤ◌, ◌+◌, ◌^◌, ◌<◌, ◌≤◌, max, map, slice_get, true}
 use Rattle.step_ways.proofs.Common.{false, if◌then◌else◌, List, [], ◌∷◌, Option, Some, None, inl, inr, arith, refl, sym, ◌∙◌, ap, subst}
 use Rattle.step_ways.proofs.Common.{false≢true, cases_eq, All, All-nil, All-cons, All-head, All-tail, Setting, IsSetting, Reply}
-use Rattle.step_ways.proofs.Common.{CountFits, word_of_count, count_of_word, CountWord, Word, CountAt, same_word, counter_of, Move}
+use Rattle.step_ways.proofs.Common.{CountFits, word_of_count, count_of_word, CountWord, Word, CountAt, same_word, Move}
 use Rattle.step_ways.proofs.Common.{word_of, left_of, FrameOf, State, put, refs, counters, count_in, count_sum, mark_of, marked_by, stamp}
 use Rattle.step_ways.proofs.Common.{Step, Trace, state_after, last_left, cases_word, same_word-other, unheld, later, stamp_of_change}
 use Rattle.step_ways.proofs.Common.{Acquired, Due, ActiveCall, Core, stamp_in, IsWithin, count_of, committed, holds_counts, AreApart}
@@ -40,7 +40,7 @@ record IsOneOf (xs : List Acquired) (x : Acquired) : Type 0 where
   marked : (holds_counts None xs).marks (count_of x) ≡ true
   found : (holds_counts None xs).stands (count_of x) ≡ committed None x
   made : (drawn : Option ℕ) → (holds_counts (Some drawn) xs).stands (count_of x) ≡ committed (Some drawn) x
-  bare : (d : ℕ) → d ≢ counter_of x.pin.core → (holds_counts None xs).marks (CountAt x.pin.frame d) ≡ false
+  bare : (d : ℕ) → d ≢ x.pin.core → (holds_counts None xs).marks (CountAt x.pin.frame d) ≡ false
 
 -- A frame has one of the counts, or none.
 record HasOne (xs : List Acquired) (f : ℕ) : Type 0 where
@@ -77,7 +77,7 @@ later_bare c x xs own cores bare (inl has) d =
     absurd (false≢true (sym bare ∙ ap (λ w. (holds_counts None xs).marks w) same_at ∙ has.one.marked))
   where
     same_at : count_of x ≡ count_of has.x
-    same_at = ap (λ (g : ℕ). CountAt g (counter_of x.pin.core)) has.frame ∙ ap (λ (b : ℕ). CountAt has.x.pin.frame (counter_of b))
+    same_at = ap (λ (g : ℕ). CountAt g x.pin.core) has.frame ∙ ap (λ (b : ℕ). CountAt has.x.pin.frame b)
         (own ∙ sym (all_at (λ y. y.pin.core ≡ c) xs has.i has.x has.at cores))
 
 which : (c : ℕ) (xs : List Acquired) → All (λ x. x.pin.core ≡ c) xs → AreApart xs → (f : ℕ) → HasOne xs f ⊎ HasNone xs f
@@ -108,12 +108,12 @@ which c (x ∷ xs) cores apart f = elim (cases_eq f x.pin.frame) [
           let there : (d : ℕ) → same_word (CountAt has.x.pin.frame d) (count_of x) ≡ false =
           (λ d. same_word-other (CountAt has.x.pin.frame d) (count_of x) (λ h. other (has.frame ∙ (same_count _ _ _ _ h).0))) in
           record {
-            marked = ap (λ b. if b then true else (holds_counts None xs).marks (count_of has.x)) (there (counter_of has.x.pin.core))
+            marked = ap (λ b. if b then true else (holds_counts None xs).marks (count_of has.x)) (there has.x.pin.core)
                 ∙ has.one.marked;
             found = ap (λ b. if b then committed None x else (holds_counts None xs).stands (count_of has.x))
-                (there (counter_of has.x.pin.core)) ∙ has.one.found;
+                (there has.x.pin.core) ∙ has.one.found;
             made = λ drawn. ap (λ b. if b then committed (Some drawn) x else (holds_counts (Some drawn) xs).stands (count_of has.x))
-                (there (counter_of has.x.pin.core)) ∙ has.one.made drawn;
+                (there has.x.pin.core) ∙ has.one.made drawn;
             bare = λ d at_other. ap (λ b. if b then true else (holds_counts None xs).marks (CountAt has.x.pin.frame d)) (there d)
                 ∙ has.one.bare d at_other;
           };
@@ -133,7 +133,7 @@ which c (x ∷ xs) cores apart f = elim (cases_eq f x.pin.frame) [
 count_word : (xs : List Acquired) (w : Word) → (holds_counts None xs).marks w ≡ true → (f : ℕ) × (d : ℕ) × (w ≡ CountAt f d)
 count_word [] w mark = absurd (false≢true mark)
 count_word (x ∷ xs) w mark = elim (cases_word w (count_of x)) [
-  | inl same ↦ (x.pin.frame, counter_of x.pin.core, same)
+  | inl same ↦ (x.pin.frame, x.pin.core, same)
   | inr other ↦ count_word xs w (sym (ap (λ b. if b then true else (holds_counts None xs).marks w) (same_word-other w (count_of x) other))
       ∙ mark)
 ]
@@ -204,7 +204,7 @@ module _ (setup : Setting) (setting : IsSetting setup) (cores : ℕ → Core) (t
     frame = x.pin.frame
 
     abbrev counter : ℕ
-    counter = counter_of x.pin.core
+    counter = x.pin.core
 
     abbrev count : ℤ
     count = x.pin.word.count
@@ -344,7 +344,7 @@ module _ (setup : Setting) (setting : IsSetting setup) (cores : ℕ → Core) (t
   commits_count : count_room s + 4 ≤ count_room s' → (f d : ℕ) → (holds_counts None a.counts).marks (CountAt f d) ≡ true
       → WordIs s' (times_of setup (e ∷ t)) (CountAt f d) ((holds_counts (Some drawn) a.counts).stands (CountAt f d))
   commits_count room f d mark = elim (which_of f) [
-    | inl has ↦ elim (cases_eq d (counter_of has.x.pin.core)) [
+    | inl has ↦ elim (cases_eq d has.x.pin.core) [
       | inl same ↦
           let at : CountAt f d ≡ count_of has.x =
           ap (λ (g : ℕ). CountAt g d) has.frame ∙ ap (λ (b : ℕ). CountAt has.x.pin.frame b) same in

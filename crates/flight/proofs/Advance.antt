@@ -11,9 +11,8 @@ use Rattle.work_invariant.specs.step_ways.proofs.Good.{IsGood, stands_on}
 use Rattle.work_invariant.specs.step_ways.proofs.Loads.{is_active}
 use Rattle.flight.specs.Made.{turned, MayBegin, MayStep, step_at, step_of, core_after}
 use Rattle.flight.specs.Theorems.{found_by, StepsOn}
-use Rattle.flight.specs.Phases.{IsWord}
 use Rattle.flight.proofs.CoreFits.{begun_fits, after_fits}
-use Rattle.flight.proofs.Spelling.{stage_word}
+use Rattle.flight.proofs.Spelling.{stage_in}
 use Rattle.flight.proofs.Entries.{enter_good}
 use Rattle.work_invariant.proofs.Stages.{stage_good}
 
@@ -29,15 +28,12 @@ module _ (setup : Setting) (setting : IsSetting setup) (cores : ℕ → Core) (t
       → StepGood setup cores t c None (record { own = (cores c).own; active = Some a })
   next_good a active knows = stage_good setup setting cores t stands c here a a.stage active refl knows (record {
     fits = after_fits (cores c).own a _ (record { own = (stands.each c here).fits.own; active = is });
-    is_in = subst (λ s. IsInShape s (word_of (stage_move (cores c).own a.counts a.stage))) (stands.each c here).shape word.is_in;
-    is_named = word.is_named;
+    is_in = subst (λ s. IsInShape s (word_of (stage_move (cores c).own a.counts a.stage))) (stands.each c here).shape
+        (stage_in (cores c).own a.counts a.stage (stands.each c here).fits.own.core is.acquired is.stage);
   })
     where
       is : IsActive (cores c).own a
       is = is_active setup setting cores t stands c here a active
-
-      word : IsWord (cores c).own.layout (word_of (stage_move (cores c).own a.counts a.stage))
-      word = stage_word (cores c).own a.counts a.stage (stands.each c here).fits.own.core is.acquired is.stage
 
   -- a step that begins a call
   first_good : (call : Call) → MayBegin call (cores c) → StepGood setup cores t c (Some call) (begun (cores c) call)
@@ -57,7 +53,6 @@ module _ (setup : Setting) (setting : IsSetting setup) (cores : ℕ → Core) (t
             fits = after_fits (cores c).own (fresh call) (core_word true (cores c).own.exit)
                 (begun_fits (cores c) call (stands.each c here).fits may.limits);
             is_in = here;
-            is_named = refl;
           })
 
 -- the turn of a core

@@ -1,13 +1,13 @@
 -- What is closed represents what was left, where its words and ends are the same; and so do its counts.
-use Rattle.work_invariant.proofs.Common.{◌≡◌, ℕ, ◌+ℤ◌, ◌+◌, ◌<◌, ◌≤◌, List, [], ◌∷◌, length, arith, refl, sym, ◌∙◌, ap, subst, zero, suc}
-use Rattle.work_invariant.proofs.Common.{Setting, IsSetting, Word, EntryAt, FrameAt, CountAt, CoreAt, LiveAt, IsIn, counter_of}
+use Rattle.work_invariant.proofs.Common.{◌≡◌, ℕ, ◌+ℤ◌, ◌+◌, ◌<◌, List, [], ◌∷◌, length, arith, refl, sym, ◌∙◌, ap, subst, zero, suc}
+use Rattle.work_invariant.proofs.Common.{Setting, IsSetting, Word, EntryAt, FrameAt, CountAt, CoreAt, LiveAt, IsIn}
 use Rattle.work_invariant.proofs.Common.{entry_of_word, comp_of_word, count_of_word, frame_of_word, live_of_word, core_of_word}
 use Rattle.work_invariant.proofs.Common.{thread_of_word, stack_of_word, head_of_word, quality_of_word, Place, Object, Blank, Table, Leaf}
 use Rattle.work_invariant.proofs.Common.{Pages, Pleaf, Comp, Thread, Tcap, Frame, Untyped, User, Kernel, State, shape_of, counters}
 use Rattle.work_invariant.proofs.Common.{count_in, count_sum}
 use Rattle.std.proofs.Common.{get_or}
+use Rattle.std.proofs.lemmas.List.FromFn.{length-range_with_len, get_or-range_with_len}
 use Rattle.boot_words.specs.spk_nums.specs.declared.translations.CoreEnd.{CoreEnd}
-use Rattle.boot_words.specs.word_map.specs.Places.{shared}
 use Rattle.boot_words.specs.kernel_history.specs.Counts.{count_at, IsUnheld, RepresentCounts}
 use Rattle.boot_words.specs.kernel_history.specs.FinalWords.{Represent, AreEntries, AreObject, AreFrame, SaysPlace, SaysNumber, SaysOut}
 
@@ -46,26 +46,24 @@ module _ (word word' : ℕ → ℕ) (alike : (i : ℕ) → i < 64 → word i ≡
 -- the words of a machine of a setup, and the ends of its cores
 pub like : (setup : Setting) (s : State) (word word' : Word → ℕ) (end end' : ℕ → CoreEnd) → s.limits.frames ≡ setup.frames
     → s.limits.cores ≡ setup.cores →
-    ((w : Word) → IsIn (shape_of setup) w → shared w ≡ w → word w ≡ word' w) → ((c : ℕ) → c < setup.cores → end c ≡ end' c) → Represent
+    ((w : Word) → IsIn (shape_of setup) w → word w ≡ word' w) → ((c : ℕ) → c < setup.cores → end c ≡ end' c) → Represent
     word end s → Represent word' end' s
 like setup s word word' end end' frames cores alike ends is = record {
-  objects = λ f h. like_frame (λ i. word (EntryAt f i)) (λ i. word' (EntryAt f i)) (λ i low. alike (EntryAt f i) (omega arith, low) refl)
+  objects = λ f h. like_frame (λ i. word (EntryAt f i)) (λ i. word' (EntryAt f i)) (λ i low. alike (EntryAt f i) (omega arith, low))
       (s.frame f) (s.place f) (is.objects f h);
   bare = is.bare;
-  kinds = λ f h. ap (λ (w : ℕ). frame_of_word w) (sym (alike (FrameAt f) (omega arith) refl)) ∙ is.kinds f h;
-  numbers = λ l h. subst (λ (w : ℕ). SaysNumber (s.number l) (live_of_word w)) (alike (LiveAt l) h refl) (is.numbers l h);
-  cores = λ c h. subst (λ (w : ℕ). SaysOut (core_of_word w)) (alike (CoreAt c) (omega arith) refl) (is.cores c h);
+  kinds = λ f h. ap (λ (w : ℕ). frame_of_word w) (sym (alike (FrameAt f) (omega arith))) ∙ is.kinds f h;
+  numbers = λ l h. subst (λ (w : ℕ). SaysNumber (s.number l) (live_of_word w)) (alike (LiveAt l) h) (is.numbers l h);
+  cores = λ c h. subst (λ (w : ℕ). SaysOut (core_of_word w)) (alike (CoreAt c) (omega arith)) (is.cores c h);
   ends = λ c h. sym (ends c (omega arith)) ∙ is.ends c h;
 }
 
--- a frame's count words are those of cores that count for themselves
-record IsCounter (n c : ℕ) : Type 0 where
-  pub below : c < n
-  pub own : counter_of c ≡ c
-
-counter_at : (n k d : ℕ) → 1 ≤ n → k < length (counters n) → IsCounter n (get_or (counters n) k d)
-counter_at n zero d some h = record { below = omega arith; own = refl }
-counter_at n (suc k) d some h = absurd (omega arith)
+-- a frame's count words are those of its cores
+counter_at : (n k d : ℕ) → k < length (counters n) → get_or (counters n) k d < n
+counter_at n k d low =
+    let long = length-range_with_len 0 n in
+    let at = get_or-range_with_len 0 n k d (omega (arith, low, long)) in
+    omega (arith, low, long, at)
 
 -- count words that are alike sum alike
 like_sum : (word word' : Word → ℕ) (f : ℕ) (cs : List ℕ)
@@ -79,16 +77,14 @@ like_sum word word' f (c ∷ cs) alike =
 -- the count words of a machine of a setup
 module _ (setup : Setting) (setting : IsSetting setup) (s : State) (word word' : Word → ℕ)
     (frames : s.limits.frames ≡ setup.frames) (cores : s.limits.cores ≡ setup.cores)
-    (alike : (w : Word) → IsIn (shape_of setup) w → shared w ≡ w → word w ≡ word' w) where
+    (alike : (w : Word) → IsIn (shape_of setup) w → word w ≡ word' w) where
   abbrev cs : List ℕ
   cs = counters s.limits.cores
 
   like_count : (f k d : ℕ) → f < s.limits.frames → k < length cs → word (CountAt f (get_or cs k d)) ≡ word' (CountAt f (get_or cs k d))
   like_count f k d h low =
-      let some = setting.some_core in
-      let is = counter_at s.limits.cores k d (omega arith) low in
-      let below = is.below in
-      alike (CountAt f (get_or cs k d)) (omega arith, omega arith) (ap (CountAt f) is.own)
+      let below = counter_at s.limits.cores k d low in
+      alike (CountAt f (get_or cs k d)) (omega arith, omega arith)
 
   pub like_counts : RepresentCounts word s → RepresentCounts word' s
   like_counts is f h = record {

@@ -1,7 +1,7 @@
 -- The start stands for no step.
 use Rattle.work_invariant.proofs.Common.{◌≡◌, inl, inr, ℕ, zero, suc, ◌+◌, ◌<◌, ◌≤◌, ◌==◌, ◌*◌, ◌-◌, ◌∷◌, nat_lt, length, slice_get, Bool}
 use Rattle.work_invariant.proofs.Common.{true, false, [], Option, Some, None, arith, refl, sym, ◌∙◌, ap, subst, IsTrue, if◌then◌else◌}
-use Rattle.work_invariant.proofs.Common.{pos, ◌+ℤ◌, max, cases_lt, false≢true, lt-ltb, eqb-true, Capability, Setting, IsSetting, Kind}
+use Rattle.work_invariant.proofs.Common.{pos, List, ne_eqb, cases_lt, false≢true, lt-ltb, eqb-true, Capability, Setting, IsSetting, Kind}
 use Rattle.work_invariant.proofs.Common.{Entry, word_of_entry, entry_of_word, frame_of_word, count_of_word, live_of_word, Word, EntryAt}
 use Rattle.work_invariant.proofs.Common.{FrameAt, CountAt, CoreAt, FlushAt, LiveAt, ClockAt, Place, Free, Holds, Quiescing, Object, Blank}
 use Rattle.work_invariant.proofs.Common.{Table, Leaf, Pages, Pleaf, Comp, Thread, Tcap, TcapFields, Frame, Untyped, User, Kernel, State}
@@ -15,6 +15,7 @@ use Rattle.work_invariant.specs.core_invariant.proofs.Bare.{none_value}
 use Rattle.boot_words.specs.spk_nums.specs.declared.kinds.Kind.TheVariants as kind
 use Rattle.boot_words.specs.entry_words.specs.declared.entry.Entry.TheVariants as entry
 use Rattle.boot_words.specs.entry_words.proofs.Spelling as entries
+use Rattle.boot_words.specs.frame_words.specs.declared.count_word.CountWord.{CountWord}
 use Rattle.boot_words.specs.frame_words.specs.declared.count_word.Hold.TheVariants.{Unheld}
 use Rattle.boot_words.specs.frame_words.specs.declared.live_word.LiveWord.TheVariants as live_word
 use Rattle.boot_words.specs.frame_words.proofs.CoreLemmas as core_words
@@ -26,14 +27,16 @@ use Rattle.boot_words.specs.kernel_rules.specs.Start.{start, start_place, start_
 use Rattle.boot_words.specs.kernel_rules.specs.Fitting.{IsGood, EndsWithin}
 use Rattle.call_stages.specs.kernel_invariant.proofs.SoundStart.{past_three, start_sound}
 use Rattle.boot_words.specs.kernel_history.specs.BootWords.{boot_word, boot_entry, boot_object, boot_frame, boot_live}
-use Rattle.boot_words.specs.kernel_history.specs.FinalWords.{SaysPlace, AreObject, AreFrame, SaysNumber, Represent}
+use Rattle.boot_words.specs.kernel_history.specs.FinalWords.{SaysPlace, AreObject, AreFrame, Represent}
+use Rattle.boot_words.specs.kernel_history.specs.Counts.{counters}
 use Rattle.boot_words.specs.kernel_history.specs.Marks.{object_mark}
+use Rattle.boot_words.specs.kernel_history.proofs.Counters.{sum_of_first}
 use Rattle.boot_words.proofs.BootRepresents.{boot_represents}
 use Rattle.boot_words.proofs.StartRefs.{refs_most}
 use Rattle.work_invariant.specs.trace_laws.proofs.GraceSteps.{grace_start, times_start}
+use Rattle.work_invariant.specs.core_invariant.specs.CountWords.{newest_of}
 use Rattle.work_invariant.specs.core_invariant.specs.Words.{IsObjectWord}
 use Rattle.boot_words.specs.tcap_words.proofs.HeadLemmas as heads
-use Rattle.std.proofs.lemmas.Int.{ints}
 use Rattle.flight.specs.Made.{boot_cores}
 use Rattle.flight.specs.Theorems.{Boots}
 use Rattle.flight.proofs.CoreFits.{started_fits}
@@ -288,18 +291,31 @@ module _ (setup : Setting) (setting : IsSetting setup) where
   -- the counts of the start are its references
   boot_sums : (f : ℕ) → SumIs setup (held_by (boot_cores setup)) [] f
   boot_sums f = record {
-    sum = ap (λ o. count_in o +ℤ pos 0) first ∙ plus_zero (refs (start setup) f);
-    newest = ap (λ o. max (stamp_in o) 0) first;
+    sum = sum_of_first shown_at setup.cores setting.some_core other_none ∙ ap count_in (each 0);
+    newest = newest_none (counters setup.cores);
   }
     where
-      first : count_shown setup (held_by (boot_cores setup)) [] f 0 ≡ Some
-          (record { hold = Unheld; count = pos (refs (start setup) f); stamp = 0 })
-      first = ap (λ o. count_of_word (settled_by o (held_by (boot_cores setup)) (CountAt f 0) (boot_word setup (CountAt f 0))))
-          (boot_mark (CountAt f 0))
-          ∙ count_reads f (refs (start setup) f) (omega arith)
+      shown_at : ℕ → Option CountWord
+      shown_at = count_shown setup (held_by (boot_cores setup)) [] f
 
-      plus_zero : (n : ℕ) → pos n +ℤ pos 0 ≡ pos n
-      plus_zero n = omega (arith, ints)
+      count_of : ℕ → ℕ
+      count_of c = if c == 0 then refs (start setup) f else 0
+
+      each : (c : ℕ) → shown_at c ≡ Some (record { hold = Unheld; count = pos (count_of c); stamp = 0 })
+      each c = ap (λ o. count_of_word (settled_by o (held_by (boot_cores setup)) (CountAt f c) (boot_word setup (CountAt f c))))
+          (boot_mark (CountAt f c))
+          ∙ count_reads f (count_of c) (least c (refs (start setup) f))
+
+      other_none : (c : ℕ) → 1 ≤ c → count_in (shown_at c) ≡ pos 0
+      other_none c other = ap count_in (each c)
+          ∙ ap (λ (b : Bool). pos (if b then refs (start setup) f else 0)) (ne_eqb c 0 (λ zero. omega (arith, other, zero)))
+
+      newest_none : (cs : List ℕ) → newest_of shown_at cs ≡ 0
+      newest_none [] = refl
+      newest_none (c ∷ cs) =
+          let first : stamp_in (shown_at c) ≡ 0 = ap stamp_in (each c) in
+          let rest = newest_none cs in
+          omega (arith, first, rest)
 
   -- a core of the start
   thread_is : (c : ℕ) → c < setup.cores → thread_of (start setup) c ≡ record { stack = 3 ∷ []; runs_on = Some (4 + c - 4) }

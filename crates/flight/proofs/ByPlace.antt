@@ -1,11 +1,10 @@
 -- A step by the place of its word is the step by the word's name, and words of different names have different places.
-use Rattle.work_invariant.proofs.Common.{◌≡◌, ◌≢◌, ℕ, refl, sym, ◌∙◌, Word, Shape, Move, LoadOf, CompareOf, StoreOf, AddOf, word_of}
+use Rattle.work_invariant.proofs.Common.{◌≡◌, ◌≢◌, ℕ, refl, Word, Shape, Move, LoadOf, CompareOf, StoreOf, AddOf, word_of}
 use Rattle.work_invariant.proofs.Common.{left_of, told_of}
 use Rattle.boot_words.specs.spk_nums.specs.WordSteps.{place_in, left_by, told_by}
-use Rattle.boot_words.specs.word_map.specs.Places.{IsShape, place_of}
+use Rattle.boot_words.specs.word_map.specs.Places.{IsShape, IsIn, place_of}
 use Rattle.boot_words.specs.word_map.specs.Moves.{op_of}
 use Rattle.boot_words.specs.word_map.proofs.PlaceLemmas.{has_places}
-use Rattle.flight.specs.Phases.{IsWord}
 
 pub place_is : (shape : Shape) (m : Move) → place_in (op_of shape m) ≡ place_of shape (word_of m)
 place_is shape (LoadOf w) = refl
@@ -26,6 +25,6 @@ told_is shape (StoreOf w new) found = refl
 told_is shape (AddOf w by) found = refl
 
 -- different words have different places
-pub apart_places : (shape : Shape) (w u : Word) → IsShape shape → IsWord shape w → IsWord shape u → w ≢ u
+pub apart_places : (shape : Shape) (w u : Word) → IsShape shape → IsIn shape w → IsIn shape u → w ≢ u
     → place_of shape w ≢ place_of shape u
-apart_places shape w u is h k other same = other (sym h.is_named ∙ (has_places shape is).distinct w u h.is_in k.is_in same ∙ k.is_named)
+apart_places shape w u is h k other same = other ((has_places shape is).distinct w u h k same)

@@ -112,7 +112,6 @@ module _ (setup : Setting) (setting : IsSetting setup) (cores : ℕ → Core) (t
     follows is_in = record {
       is_core = here;
       is_in = is_in;
-      is_named = refl;
       found = refl;
       small = core_small true (cores c).own.exit (let a = (stands.times c).exit in let b = (stands.each c here).exit in let m =
           clock_small setup setting cores t stands in omega arith);
@@ -218,7 +217,6 @@ module _ (setup : Setting) (setting : IsSetting setup) (cores : ℕ → Core) (t
     follows_touch is_in = record {
       is_core = here;
       is_in = is_in;
-      is_named = refl;
       found = refl;
       small = core_small true (cores c).own.exit (let a = (stands.times c).exit in let b = (stands.each c here).exit in let m =
           clock_small setup setting cores t stands in omega arith);

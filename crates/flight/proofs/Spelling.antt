@@ -1,16 +1,14 @@
--- The next step of a call is on a word of its machine, by the one name of the word's place.
-use Rattle.work_invariant.proofs.Common.{◌≡◌, ℕ, ◌<◌, Option, Some, None, length, arith, refl, sym, ap, ◌≤◌, IsSome, Shape, IsIn, word_of}
-use Rattle.work_invariant.proofs.Common.{look_move, Look, AtRoot, AtLeaf, AtEntry, StageFits, CompMakingFits, CompAt, CompMaking}
+-- The next step of a call is on a word of its machine.
+use Rattle.work_invariant.proofs.Common.{ℕ, ◌<◌, Option, Some, None, length, arith, ◌≤◌, IsSome, Shape, IsIn, word_of}
+use Rattle.work_invariant.proofs.Common.{StageFits, CompMakingFits, CompAt, CompMaking}
 use Rattle.work_invariant.proofs.Common.{KillingAt, LoadComp, LoadLive, CountWord, counters_of, SweepAt, Thaw, UntypingAt, CountAt, Own}
 use Rattle.work_invariant.proofs.Common.{Fill, Outside, Untype, MakeComp, Invoke, Return, FrameKind, Load, MakingAt, NewObject, Lookup}
 use Rattle.work_invariant.proofs.Common.{Read, Scan, Acquire, Tail, Nothing, Quiesce, Unmark, StoreDead, StoreFlush, Release, StoreLive}
-use Rattle.work_invariant.proofs.Common.{Push, Pop, StoreRunning, StoreIdle, All-head, Reply, Pin, AtLoad, Acquired, Charge, InvokingAt}
-use Rattle.work_invariant.proofs.Common.{ReturningAt, Switching, SwitchAt, Pair, PairAt, LoadA, MarkA, ListA, LoadB, ListB, CompareB}
-use Rattle.work_invariant.proofs.Common.{AgainB, StoreList, StoreB, StoreA, Close, AtDraw, AtStore, Quiet, AtCore, AtFlush, quiet_move}
+use Rattle.work_invariant.proofs.Common.{Push, Pop, StoreRunning, StoreIdle, All-head, Reply, Acquired, InvokingAt}
+use Rattle.work_invariant.proofs.Common.{ReturningAt, Switching, SwitchAt}
 use Rattle.work_invariant.proofs.Common.{stage_move, ActiveCall, Stage, Enter, Undecided, Decided, Leave}
 use Rattle.std.proofs.Common.{IfSome}
 use Rattle.std.specs.Prelude.{List, [], ◌∷◌}
-use Rattle.boot_words.specs.word_map.specs.Places.{shared}
 use Rattle.call_stages.specs.stage_look.proofs.LookLemmas.{look_is_in}
 use Rattle.call_stages.specs.Fits.{TailFits, CallFits}
 use Rattle.call_stages.specs.Cores.{move_in}
@@ -39,195 +37,18 @@ use Rattle.call_stages.specs.act_states.specs.declared.work.Work.TheVariants.{Ac
 use Rattle.call_stages.specs.act_states.specs.declared.work.Tail.TheVariants.{Share as share_tail}
 use Rattle.call_stages.specs.act_states.specs.Acts.{ActFits, act_move}
 use Rattle.call_stages.specs.Tails.{tail_move, is_ok}
-use Rattle.call_stages.specs.stage_pins.specs.declared.pin.Pin.TheVariants.{AtCompare}
-use Rattle.call_stages.specs.stage_pins.specs.Acquire.{pin_move}
 use Rattle.call_stages.specs.stage_pins.specs.Held.{commit_of, AcquiredFits, AllFit}
 use Rattle.call_stages.specs.stage_pins.proofs.PinLemmas.{pin_is_in, settle_is_in}
 use Rattle.call_stages.specs.stage_pins.proofs.HeldLemmas.{commit_fits}
-use Rattle.call_stages.specs.stage_tcap.specs.Charging.{charge_move}
-use Rattle.call_stages.specs.stage_tcap.specs.declared.charge.Charge.TheVariants.{AtLoad as charge_load, AtCompare as charge_compare}
 use Rattle.call_stages.specs.stage_tcap.proofs.PairLemmas.{charge_is_in, pair_is_in}
-use Rattle.call_stages.specs.stage_thread.specs.Stacking.{push_move, pop_move}
 use Rattle.call_stages.specs.stage_thread.proofs.ThreadLemmas.{push_is_in, pop_is_in, claim_is_in}
-use Rattle.call_stages.specs.stage_thread.specs.declared.stack.Push.{Push as PushOf}
-use Rattle.call_stages.specs.stage_thread.specs.declared.stack.Push.TheVariants as push
-use Rattle.call_stages.specs.stage_thread.specs.declared.stack.Pop.{Pop as PopOf}
-use Rattle.call_stages.specs.stage_thread.specs.declared.stack.Pop.TheVariants as pop
 use Rattle.call_stages.specs.act_states.specs.declared.invocations.InvokingAt.TheVariants as invoking
 use Rattle.call_stages.specs.act_states.specs.declared.invocations.ReturningAt.TheVariants as returning
 use Rattle.call_stages.specs.act_states.specs.Switches.{SwitchingFits, switching_at}
 use Rattle.call_stages.specs.act_states.specs.declared.switches.SwitchAt.TheVariants as switch_at
-use Rattle.call_stages.specs.stage_thread.specs.declared.claim.Claim.TheVariants as claim
 use Rattle.call_stages.specs.act_states.specs.Invocations.{InvokingAtFits, invoking_at, ReturningAtFits, returning_at}
-use Rattle.call_stages.specs.stage_tcap.specs.Pairs.{move_at as pair_at_move}
-use Rattle.call_stages.specs.stage_quiet.specs.declared.close.Close.TheVariants.{AtCompare as close_compare}
-use Rattle.call_stages.specs.stage_quiet.specs.Removal.{close_move}
 use Rattle.call_stages.specs.stage_quiet.proofs.QuietLemmas.{quiet_is_in, close_is_in}
-use Rattle.flight.specs.Phases.{IsWord, MovesAreWords}
-
-look_named : (look : Look) → shared (word_of (look_move look)) ≡ word_of (look_move look)
-look_named (AtRoot root number) = refl
-look_named (AtLeaf leaf number) = refl
-look_named (AtEntry root index) = refl
-
-quiet_named : (q : Quiet) → shared (word_of (quiet_move q)) ≡ word_of (quiet_move q)
-quiet_named (AtCore stamp core at page) = refl
-quiet_named (AtFlush stamp at) = refl
-
-close_named : (close : Close) → shared (word_of (close_move close)) ≡ word_of (close_move close)
-close_named (close_compare node entry word core) = refl
-close_named (AtDraw node entry) = refl
-close_named (AtStore node entry stamp) = refl
-
-typing_named : (f : ℕ) (k : FrameKind) (at : TypingAt) → shared (word_of (typing_at f k at)) ≡ word_of (typing_at f k at)
-typing_named f k Load = refl
-typing_named f k (type_compare word) = refl
-
-making_named : (f : ℕ) (object : NewObject) (core : ℕ) (fill : FillOf) (at : MakingAt)
-    → shared (word_of (making_at f object core fill at)) ≡ word_of (making_at f object core fill at)
-making_named f object core fill making.Load = refl
-making_named f object core fill (making.Mark word) = refl
-making_named f object core fill (making.Store word entry) = refl
-making_named f object core fill (making.Fill word) = refl
-
-charge_named : (charge : Charge) → shared (word_of (charge_move charge)) ≡ word_of (charge_move charge)
-charge_named (charge_load tcap ticks) = refl
-charge_named (charge_compare tcap ticks budget version) = refl
-
-killing_named : (f core : ℕ) (at : KillingAt) → shared (word_of (killing_at f core at)) ≡ word_of (killing_at f core at)
-killing_named f core LoadComp = refl
-killing_named f core (LoadLive life) = refl
-killing_named f core (kill_close life word) = refl
-killing_named f core (kill_draw life word) = refl
-
-invoking_named : (f : ℕ) (at : InvokingAt) → shared (word_of (invoking_at f at)) ≡ word_of (invoking_at f at)
-invoking_named f invoking.LoadTable = refl
-invoking_named f (invoking.LoadPages table) = refl
-invoking_named f (invoking.LoadComp table pages) = refl
-invoking_named f (invoking.LoadLive table pages life) = refl
-
-returning_named : (thread depth : ℕ) (at : ReturningAt)
-    → shared (word_of (returning_at thread depth at)) ≡ word_of (returning_at thread depth at)
-returning_named thread depth returning.LoadBelow = refl
-returning_named thread depth (returning.LoadTable comp) = refl
-returning_named thread depth (returning.LoadPages comp table) = refl
-returning_named thread depth (returning.Draw comp table pages) = refl
-
-comp_named : (m : CompMaking) (at : CompAt) → shared (word_of (comp_at m at)) ≡ word_of (comp_at m at)
-comp_named m comp_stands.Load = refl
-comp_named m (comp_stands.Mark word) = refl
-comp_named m (comp_stands.LoadLive word) = refl
-comp_named m (comp_stands.Scan word last q) = quiet_named q
-comp_named m (comp_stands.Close word last) = refl
-comp_named m (comp_stands.Store word last entry) = refl
-comp_named m (comp_stands.Fill word last) = refl
-
--- a frame's counters are those of the cores
-no_other : (s : Shape) (n : ℕ) → n < counters_of s → n ≡ 0
-unfolding counters_of
-no_other s n low = omega (arith, low)
-
-counter_named : (s : Shape) (f n : ℕ) → n < counters_of s → shared (CountAt f n) ≡ CountAt f n
-counter_named s f n low = ap (CountAt f) (sym (no_other s n low))
-
-sweep_named : (s : Shape) (f core : ℕ) (kept : List CountWord) (at : SweepAt) → AtFits s kept at
-    → shared (word_of (move_at f core (length kept) at)) ≡ word_of (move_at f core (length kept) at)
-sweep_named s f core kept sweep.Load fits = counter_named s f (length kept) fits
-sweep_named s f core kept (sweep.Compare count stamp) fits = counter_named s f (length kept) fits.0
-sweep_named s f core kept (sweep.Scan q) fits = quiet_named q
-sweep_named s f core kept (sweep.Empty entry) fits = refl
-
-untyping_named : (s : Shape) (f core : ℕ) (at : UntypingAt) → UntypingAtFits s at
-    → shared (word_of (untyping_at f core at)) ≡ word_of (untyping_at f core at)
-untyping_named s f core untype.Load fits = refl
-untyping_named s f core (untype.Mark word v) fits = refl
-untyping_named s f core (untype.Sweep word w) fits = sweep_named s w.frame w.core w.kept w.at fits.fits.at
-untyping_named s f core (untype.Draw word w) fits = refl
-
-release_named : (s : Shape) (f word : ℕ) (o : Option Thaw) → IfSome o (ThawFits s)
-    → shared (word_of (release_at f word o)) ≡ word_of (release_at f word o)
-release_named s f word None fits = refl
-release_named s f word (Some x) fits = counter_named s x.frame x.at (let low = fits.at in let few = fits.words in omega (arith, low, few))
-
-pair_named : (p : Pair) (at : PairAt) → shared (word_of (pair_at_move p at)) ≡ word_of (pair_at_move p at)
-pair_named p LoadA = refl
-pair_named p MarkA = refl
-pair_named p (ListA entry) = refl
-pair_named p LoadB = refl
-pair_named p (ListB entry) = refl
-pair_named p CompareB = refl
-pair_named p (AgainB r) = refl
-pair_named p (StoreList entry) = refl
-pair_named p StoreB = refl
-pair_named p (StoreA moved v) = refl
-
-switching_named : (m : Switching) (at : SwitchAt) → shared (word_of (switching_at m at)) ≡ word_of (switching_at m at)
-switching_named m (switch_at.Claim (claim.AtLoad f core)) = refl
-switching_named m (switch_at.Claim (claim.AtCompare f core depth)) = refl
-switching_named m (switch_at.Claim (claim.AtStack f depth)) = refl
-switching_named m (switch_at.LoadTable to) = refl
-switching_named m (switch_at.LoadPages to table) = refl
-switching_named m (switch_at.Leave to table pages) = refl
-switching_named m (switch_at.Draw to table pages) = refl
-
-act_named : (s : Shape) (act : Act) → ActFits s act → shared (word_of (act_move act)) ≡ word_of (act_move act)
-act_named s (Fill fill) fits = refl
-act_named s (Remove close cap) fits = close_named close
-act_named s (Retype typing) fits = typing_named typing.frame typing.kind typing.at
-act_named s (Make m) fits = making_named m.frame m.object m.core m.fill m.at
-act_named s (map_act fill) fits = refl
-act_named s (Outside node entry word) fits = refl
-act_named s (Tick charge) fits = charge_named charge
-act_named s (Touch m) fits = look_named m.look
-act_named s (Flush core) fits = refl
-act_named s (Kill m) fits = killing_named m.comp m.core m.at
-act_named s (Untype m) fits = untyping_named s m.frame m.core m.at fits.at
-act_named s (MakeComp m) fits = comp_named m m.at
-act_named s (Invoke m) fits = invoking_named m.comp m.at
-act_named s (Return m) fits = returning_named m.thread m.depth m.at
-act_named s (Share p) fits = pair_named p p.at
-act_named s (Switch m) fits = switching_named m m.at
-
--- a count's word is that of its core's counter
-pin_named : (pin : Pin) → shared (word_of (pin_move pin)) ≡ word_of (pin_move pin)
-pin_named (AtLoad frame core) = refl
-pin_named (AtCompare frame core count stamp) = refl
-
-push_named : (x : PushOf) → shared (word_of (push_move x)) ≡ word_of (push_move x)
-push_named (push.AtStack t core depth comp) = refl
-push_named (push.AtThread t core depth) = refl
-
-pop_named : (x : PopOf) → shared (word_of (pop_move x)) ≡ word_of (pop_move x)
-pop_named (pop.AtThread t core depth) = refl
-pop_named (pop.AtStack t depth) = refl
-
-tail_named : (s : Shape) (r : Reply) (drawn : Option ℕ) (tail : Tail) (counts : List Acquired) → TailFits s tail
-    → shared (word_of (tail_move r drawn tail counts)) ≡ word_of (tail_move r drawn tail counts)
-tail_named s r drawn (Quiesce close) counts fits = close_named close
-tail_named s r drawn (Unmark f word) counts fits = refl
-tail_named s r drawn (StoreDead life stamp) counts fits = refl
-tail_named s r drawn (StoreFlush core stamp) counts fits = refl
-tail_named s r drawn (StoreLive l live f word) counts fits = refl
-tail_named s r drawn (Push push) counts fits = push_named push
-tail_named s r drawn (Pop pop) counts fits = pop_named pop
-tail_named s r drawn (share_tail p) counts fits = pair_named p p.at
-tail_named s r drawn (StoreRunning f core depth old old_depth) counts fits = refl
-tail_named s r drawn (StoreIdle f depth) counts fits = refl
-tail_named s r drawn Nothing [] fits = refl
-tail_named s r drawn Nothing (x ∷ xs) fits = refl
-tail_named s r drawn (Release release) [] fits = release_named s release.frame release.word release.thaw fits.thaw
-tail_named s r drawn (Release release) (x ∷ xs) fits = refl
-
-pub stage_named : (own : Own) (counts : List Acquired) (s : Stage) → StageFits own.layout s
-    → shared (word_of (stage_move own counts s)) ≡ word_of (stage_move own counts s)
-stage_named own counts Enter fits = refl
-stage_named own counts (Undecided (Lookup look)) fits = look_named look
-stage_named own counts (Undecided (Read comp look)) fits = refl
-stage_named own counts (Undecided (Scan q act)) fits = quiet_named q
-stage_named own counts (Undecided (Acquire pin change act)) fits = pin_named pin
-stage_named own counts (Undecided (act_work act)) fits = act_named own.layout act fits
-stage_named own counts (Decided r drawn tail) fits = tail_named own.layout r drawn tail counts fits
-stage_named own counts (Leave r x) fits = refl
+use Rattle.flight.specs.Phases.{MovesAreWords}
 
 typing_in : (shape : Shape) (f : ℕ) (k : FrameKind) (at : TypingAt) → f < shape.frames → IsIn shape (word_of (typing_at f k at))
 typing_in shape f k Load fits = fits
@@ -248,30 +69,31 @@ killing_in shape f core (LoadLive life) below fits = fits.0
 killing_in shape f core (kill_close life word) below fits = fits.0
 killing_in shape f core (kill_draw life word) below fits = tt
 
-counter_in : (shape : Shape) (f n : ℕ) → f < shape.frames → n < counters_of shape → 0 < shape.cores → IsIn shape (CountAt f n)
-counter_in shape f n below low some = (below, let zero = no_other shape n low in omega (arith, zero, some))
+-- a frame's counters are those of the cores
+counter_in : (shape : Shape) (f n : ℕ) → f < shape.frames → n < counters_of shape → IsIn shape (CountAt f n)
+unfolding counters_of
+counter_in shape f n below low = (below, low)
 
-sweep_in : (shape : Shape) (f core : ℕ) (kept : List CountWord) (at : SweepAt) → f < shape.frames → core < shape.cores
-    → AtFits shape kept at → IsIn shape (word_of (move_at f core (length kept) at))
-sweep_in shape f core kept sweep.Load below here fits = counter_in shape f (length kept) below fits (omega (arith, here))
-sweep_in shape f core kept (sweep.Compare count stamp) below here fits =
-    counter_in shape f (length kept) below fits.0 (omega (arith, here))
-sweep_in shape f core kept (sweep.Scan q) below here fits = quiet_is_in shape q fits
-sweep_in shape f core kept (sweep.Empty entry) below here fits = (below, fits)
+sweep_in : (shape : Shape) (f core : ℕ) (kept : List CountWord) (at : SweepAt) → f < shape.frames → AtFits shape kept at
+    → IsIn shape (word_of (move_at f core (length kept) at))
+sweep_in shape f core kept sweep.Load below fits = counter_in shape f (length kept) below fits
+sweep_in shape f core kept (sweep.Compare count stamp) below fits = counter_in shape f (length kept) below fits.0
+sweep_in shape f core kept (sweep.Scan q) below fits = quiet_is_in shape q fits
+sweep_in shape f core kept (sweep.Empty entry) below fits = (below, fits)
 
 untyping_in : (shape : Shape) (f core : ℕ) (at : UntypingAt) → f < shape.frames → UntypingAtFits shape at
     → IsIn shape (word_of (untyping_at f core at))
 untyping_in shape f core untype.Load below fits = below
 untyping_in shape f core (untype.Mark word v) below fits = below
 untyping_in shape f core (untype.Sweep word w) below fits =
-    sweep_in shape w.frame w.core w.kept w.at fits.fits.frame fits.fits.core fits.fits.at
+    sweep_in shape w.frame w.core w.kept w.at fits.fits.frame fits.fits.at
 untyping_in shape f core (untype.Draw word w) below fits = tt
 
-release_in : (shape : Shape) (f word : ℕ) (o : Option Thaw) → f < shape.frames → IfSome o (ThawFits shape) → 0 < shape.cores
+release_in : (shape : Shape) (f word : ℕ) (o : Option Thaw) → f < shape.frames → IfSome o (ThawFits shape)
     → IsIn shape (word_of (release_at f word o))
-release_in shape f word None below fits some = below
-release_in shape f word (Some x) below fits some =
-    counter_in shape x.frame x.at fits.frame (let low = fits.at in let few = fits.words in omega (arith, low, few)) some
+release_in shape f word None below fits = below
+release_in shape f word (Some x) below fits =
+    counter_in shape x.frame x.at fits.frame (let low = fits.at in let few = fits.words in omega (arith, low, few))
 
 comp_in : (shape : Shape) (m : CompMaking) (at : CompAt) → CompMakingFits shape (record m { at = at })
     → IsIn shape (word_of (comp_at m at))
@@ -324,27 +146,26 @@ act_in shape (Share p) fits = pair_is_in shape p fits
 act_in shape (Switch m) fits = switching_in shape m m.at fits
 
 tail_in : (shape : Shape) (r : Reply) (drawn : Option ℕ) (tail : Tail) (counts : List Acquired) → TailFits shape tail
-    → AllFit shape counts → 0 < shape.cores
-    → IsIn shape (word_of (tail_move r drawn tail counts))
-tail_in shape r drawn (Quiesce close) counts fits fit some = close_is_in shape close fits
-tail_in shape r drawn (Unmark f word) counts fits fit some = fits
-tail_in shape r drawn (StoreDead life stamp) counts fits fit some = fits.0.0
-tail_in shape r drawn (Push push) counts fits fit some = push_is_in shape push fits
-tail_in shape r drawn (Pop pop) counts fits fit some = pop_is_in shape pop fits
-tail_in shape r drawn (StoreLive l live f word) counts fits fit some = fits.0
-tail_in shape r drawn (StoreFlush core stamp) counts fits fit some = fits
-tail_in shape r drawn (share_tail p) counts fits fit some = pair_is_in shape p fits.fits
-tail_in shape r drawn (StoreRunning f core depth old old_depth) counts fits fit some = (fits.0, omega arith)
-tail_in shape r drawn (StoreIdle f depth) counts fits fit some = (fits.0, omega arith)
-tail_in shape r drawn Nothing [] fits fit some = tt
-tail_in shape r drawn Nothing (x ∷ xs) fits fit some =
+    → AllFit shape counts → IsIn shape (word_of (tail_move r drawn tail counts))
+tail_in shape r drawn (Quiesce close) counts fits fit = close_is_in shape close fits
+tail_in shape r drawn (Unmark f word) counts fits fit = fits
+tail_in shape r drawn (StoreDead life stamp) counts fits fit = fits.0.0
+tail_in shape r drawn (Push push) counts fits fit = push_is_in shape push fits
+tail_in shape r drawn (Pop pop) counts fits fit = pop_is_in shape pop fits
+tail_in shape r drawn (StoreLive l live f word) counts fits fit = fits.0
+tail_in shape r drawn (StoreFlush core stamp) counts fits fit = fits
+tail_in shape r drawn (share_tail p) counts fits fit = pair_is_in shape p fits.fits
+tail_in shape r drawn (StoreRunning f core depth old old_depth) counts fits fit = (fits.0, omega arith)
+tail_in shape r drawn (StoreIdle f depth) counts fits fit = (fits.0, omega arith)
+tail_in shape r drawn Nothing [] fits fit = tt
+tail_in shape r drawn Nothing (x ∷ xs) fits fit =
     settle_is_in shape (commit_of (is_ok r) drawn x) (commit_fits shape (is_ok r) drawn x (All-head (AcquiredFits shape) x xs fit))
-tail_in shape r drawn (Release release) [] fits fit some =
-    release_in shape release.frame release.word release.thaw fits.frame fits.thaw some
-tail_in shape r drawn (Release release) (x ∷ xs) fits fit some =
+tail_in shape r drawn (Release release) [] fits fit =
+    release_in shape release.frame release.word release.thaw fits.frame fits.thaw
+tail_in shape r drawn (Release release) (x ∷ xs) fits fit =
     settle_is_in shape (commit_of (is_ok r) drawn x) (commit_fits shape (is_ok r) drawn x (All-head (AcquiredFits shape) x xs fit))
 
-stage_in : (own : Own) (counts : List Acquired) (s : Stage) → own.core < own.layout.cores → AllFit own.layout counts
+pub stage_in : (own : Own) (counts : List Acquired) (s : Stage) → own.core < own.layout.cores → AllFit own.layout counts
     → StageFits own.layout s
     → IsIn own.layout (word_of (stage_move own counts s))
 stage_in own counts Enter here acquired fits = here
@@ -353,19 +174,13 @@ stage_in own counts (Undecided (Read comp look)) here acquired fits = (fits.0, o
 stage_in own counts (Undecided (Scan q act)) here acquired fits = quiet_is_in own.layout q fits.0
 stage_in own counts (Undecided (Acquire pin change act)) here acquired fits = pin_is_in own.layout pin fits.0
 stage_in own counts (Undecided (act_work act)) here acquired fits = act_in own.layout act fits
-stage_in own counts (Decided r drawn tail) here acquired fits = tail_in own.layout r drawn tail counts fits acquired (omega (arith, here))
+stage_in own counts (Decided r drawn tail) here acquired fits = tail_in own.layout r drawn tail counts fits acquired
 stage_in own counts (Leave r x) here acquired fits = here
 
-pub stage_word : (own : Own) (counts : List Acquired) (s : Stage) → own.core < own.layout.cores → AllFit own.layout counts
-    → StageFits own.layout s
-    → IsWord own.layout (word_of (stage_move own counts s))
-stage_word own counts s here acquired fits =
-    record { is_in = stage_in own counts s here acquired fits; is_named = stage_named own counts s fits }
-
 move_word : (own : Own) (o : Option ActiveCall) → own.core < own.layout.cores → CallFits own o → IsSome o
-    → IsWord own.layout (word_of (move_in own o))
+    → IsIn own.layout (word_of (move_in own o))
 move_word own None here fits some = absurd (cc)
-move_word own (Some a) here fits some = stage_word own a.counts a.stage here fits.acquired fits.stage
+move_word own (Some a) here fits some = stage_in own a.counts a.stage here fits.acquired fits.stage
 
 pub moves_are_words : MovesAreWords
 moves_are_words core fits some = move_word core.own core.active fits.own.core fits.active some

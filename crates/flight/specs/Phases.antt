@@ -2,8 +2,7 @@
 use Rattle.std.specs.Prelude.{◌≡◌, ◌≢◌, ◌<◌, ◌≤◌, [], ℕ, true, false, Option, None, IsSome}
 use Rattle.boot_words.specs.spk_nums.specs.Setting.{Setting, IsSetting}
 use Rattle.boot_words.specs.spk_nums.specs.declared.replies.Reply.{Reply}
-use Rattle.boot_words.specs.word_map.specs.Word.{Word}
-use Rattle.boot_words.specs.word_map.specs.Places.{Shape, IsIn, shared}
+use Rattle.boot_words.specs.word_map.specs.Places.{IsIn}
 use Rattle.boot_words.specs.word_map.specs.Moves.{word_of}
 use Rattle.boot_words.specs.kernel_history.specs.Trace.{Step, Trace, Phase, Out, phase, calls_of}
 use Rattle.boot_words.specs.kernel_history.specs.Order.{IsDecided}
@@ -13,14 +12,9 @@ use Rattle.call_stages.specs.Fits.{IsCore}
 use Rattle.flight.specs.Decided.{is_decided_in}
 use Rattle.flight.specs.Made.{core_after, cores_after, stepping_core, IsMade, IsMadeStep}
 
--- The word is one of the machine's, by the one name of its place.
-pub record IsWord (shape : Shape) (w : Word) : Type 0 where
-  pub is_in : IsIn shape w
-  pub is_named : shared w ≡ w
-
 -- The next step of a core in a call is on a word of its machine.
 abbrev pub MovesAreWords : Type 0
-MovesAreWords = (core : Core) → IsCore core → IsSome core.active → IsWord core.own.layout (word_of (move_of core))
+MovesAreWords = (core : Core) → IsCore core → IsSome core.active → IsIn core.own.layout (word_of (move_of core))
 
 -- A core has a call in flight exactly where it is in a call in this phase, and that is decided exactly where it is in the phase.
 pub record IsInPhase (core : Core) (p : Phase) : Type 0 where

@@ -1,15 +1,16 @@
 -- What count words do while cores hold them: another core leaves such a word, and its own leaves its count.
-use Rattle.std.proofs.Common.{◌≡◌, ◌≢◌, ◌⊎◌, inl, inr, ℕ, ℤ, false, true, [], ◌∷◌, Option, Some, None, refl, sym, ◌∙◌, ap, subst}
+use Rattle.std.proofs.Common.{◌≡◌, ◌≢◌, ◌⊎◌, inl, inr, ℕ, ℤ, true, [], ◌∷◌, Option, Some, None, refl, sym, ◌∙◌, ap, subst}
 use Rattle.std.proofs.lemmas.Bool.{cases_eq, false≢true}
 use Rattle.time_laws.specs.spk_nums.specs.Setting.{Setting, IsSetting}
 use Rattle.time_laws.specs.spk_nums.specs.declared.calls.Call.{Call}
+use Rattle.time_laws.specs.spk_nums.specs.declared.calls.Call.TheVariants.{Retype}
+use Rattle.time_laws.specs.spk_nums.specs.declared.kinds.FrameKind.TheVariants.{Untyped}
 use Rattle.time_laws.specs.spk_nums.specs.declared.replies.Reply.{Reply}
 use Rattle.time_laws.specs.frame_words.specs.Count.{count_of_word}
 use Rattle.time_laws.specs.frame_words.specs.declared.count_word.CountWord.{CountWord}
 use Rattle.time_laws.specs.frame_words.specs.declared.count_word.Hold.TheVariants.{Pinned, Closed}
 use Rattle.time_laws.specs.word_map.specs.Word.{Word, CountAt}
 use Rattle.time_laws.specs.word_map.specs.Moves.{word_of, left_of}
-use Rattle.time_laws.specs.kernel_rules.specs.State.{State}
 use Rattle.time_laws.specs.kernel_history.specs.Bounds.{call_in}
 use Rattle.time_laws.specs.kernel_history.specs.Counts.{count_at, count_in}
 use Rattle.time_laws.specs.kernel_history.specs.Legal.{MayEnter, MayFollow}
@@ -29,7 +30,7 @@ use Rattle.time_laws.specs.core_invariant.proofs.Markers.{marker_inside}
 use Rattle.time_laws.specs.flight.specs.Made.{cores_after, IsMade}
 use Rattle.time_laws.specs.flight.proofs.Made.{made_stands}
 use Rattle.flight_laws.specs.Counts.{Untypes, FrozenSay}
-use Rattle.flight_laws.proofs.CountSteps.{Takes, UntypesFrame, LeavesCount, count_step, begins_beside}
+use Rattle.flight_laws.proofs.CountSteps.{Takes, IsOwnCount, IsSweptCount, LeavesCount, count_step}
 
 none_some : (d : ℕ) → None ≡ Some d → ⊥
 none_some d h = cc
@@ -79,7 +80,7 @@ module _ (setup : Setting) (setting : IsSetting setup) (f k : ℕ) (t : Trace) (
 
     -- the word is left as it was, or is taken
     abbrev pub IsKept : Type 0
-    IsKept = (raw (e ∷ t) ≡ raw t) ⊎ Takes t e.core f (raw t) (raw (e ∷ t))
+    IsKept = (raw (e ∷ t) ≡ raw t) ⊎ Takes t (cores_after setup t e.core).active e.core f k (raw t) (raw (e ∷ t))
 
     stepped : at ≡ word_of e.move → IsKept
     stepped on = by (count_step setup setting t e made f k (sym on))
@@ -87,10 +88,10 @@ module _ (setup : Setting) (setting : IsSetting setup) (f k : ℕ) (t : Trace) (
         here : raw (e ∷ t) ≡ left_of e.move e.found
         here = last_left-here setup at e t on
 
-        by : LeavesCount t e.core f (raw t) (left_of e.move e.found) → IsKept
+        by : LeavesCount t (cores_after setup t e.core).active e.core f k (raw t) (left_of e.move e.found) → IsKept
         by (inl same) = inl (here ∙ same)
         by (inr (inl free)) = absurd (none_some e.core (sym free ∙ ap (λ (n : ℕ). count_mark (count_of_word n)) (sym here) ∙ mark))
-        by (inr (inr takes)) = inr (subst (Takes t e.core f (raw t)) (sym here) takes)
+        by (inr (inr takes)) = inr (subst (Takes t (cores_after setup t e.core).active e.core f k (raw t)) (sym here) takes)
 
     pub kept : IsKept
     kept = elim (cases_word at (word_of e.move)) [
@@ -100,8 +101,10 @@ module _ (setup : Setting) (setting : IsSetting setup) (f k : ℕ) (t : Trace) (
 
     -- so its count stays
     taken_count : (o : Option CountWord) (count : ℤ) (stamp : ℕ) (call : Call)
-        → (o ≡ Some (acquired e.core count stamp)) ⊎ ((o ≡ Some (frozen e.core count stamp)) × UntypesFrame call f) → count_in o ≡ count
-    taken_count o count stamp call (inl is) = ap count_in is
+        → ((o ≡ Some (acquired e.core count stamp))
+        × IsOwnCount (cores_after setup t e.core).active call e.core f k count stamp)
+        ⊎ ((o ≡ Some (frozen e.core count stamp)) × IsSweptCount (cores_after setup t e.core).active call f k count stamp) → count_in o ≡ count
+    taken_count o count stamp call (inl is) = ap count_in is.0
     taken_count o count stamp call (inr is) = ap count_in is.0
 
     pub count_kept : count_in (count_at (last_left setup (e ∷ t)) f k) ≡ count_in (count_at (last_left setup t) f k)
@@ -172,10 +175,10 @@ module _ (setup : Setting) (setting : IsSetting setup) (f k d : ℕ) (v : CountW
       apart h = cc
 
   module _ (u : Trace) (e : Step) (made : IsMade setup (e ∷ u)) (shows : Shows (e ∷ u)) (rest : Shows u → Untypes f (phase u d)) where
-    taken : Takes u e.core f (last_left setup u (CountAt f k)) (last_left setup (e ∷ u) (CountAt f k)) → Untypes f (phase u e.core)
+    taken : Takes u (cores_after setup u e.core).active e.core f k (last_left setup u (CountAt f k)) (last_left setup (e ∷ u) (CountAt f k)) → Untypes f (phase u e.core)
     taken takes = elim takes.left [
-      | inl is ↦ absurd (not_pinned e.core takes.count takes.stamp (sym shows ∙ is))
-      | inr is ↦ record { range = is.1.range; is = ap call_in takes.is_open ∙ ap (λ (x : Call). Some x) is.1.is }
+      | inl is ↦ absurd (not_pinned e.core takes.count takes.stamp (sym shows ∙ is.0))
+      | inr is ↦ record { range = is.1.untypes.range; is = ap call_in takes.is_open ∙ ap (λ (x : Call). Some x) is.1.untypes.is }
     ]
 
     own_call : marked_by setup (e ∷ u) (CountAt f k) ≡ Some e.core → d ≡ e.core → Untypes f (phase (e ∷ u) e.core)
@@ -204,3 +207,74 @@ module _ (setup : Setting) (setting : IsSetting setup) (f k d : ℕ) (v : CountW
 
 pub frozen_say : (setup : Setting) → IsSetting setup → (t : Trace) → IsMade setup t → FrozenSay setup t
 frozen_say setup setting t made f k d v shows is_closed = frozen_along setup setting f k d v is_closed t made shows
+
+-- A count that a core has acquired is its own, of a frame that its call does not make untyped.
+pub record SparesOwn (f k d : ℕ) (p : Phase) : Type 0 where
+  pub own : k ≡ d
+  pub spares : Untypes f p → ⊥
+
+spares_on : (f k d : ℕ) (p q : Phase) → call_in p ≡ call_in q → SparesOwn f k d q → SparesOwn f k d p
+spares_on f k d p q same is =
+    record { own = is.own; spares = λ untypes. is.spares (record { range = untypes.range; is = sym same ∙ untypes.is }) }
+
+module _ (setup : Setting) (setting : IsSetting setup) (f k d : ℕ) (v : CountWord) (is_pinned : v.hold ≡ Pinned d) where
+  abbrev ShowsSo : Trace → Type 0
+  ShowsSo u = count_at (last_left setup u) f k ≡ Some v
+
+  marked_by_it : (u : Trace) → ShowsSo u → marked_by setup u (CountAt f k) ≡ Some d
+  marked_by_it u shows = ap count_mark shows ∙ ap hold_mark is_pinned
+
+  not_closed : (c : ℕ) (count : ℤ) (stamp : ℕ) → Some v ≡ Some (frozen c count stamp) → ⊥
+  not_closed c count stamp is = apart (sym is_pinned ∙ ap (λ (x : CountWord). x.hold) (same v (frozen c count stamp) is))
+    where
+      same : (x y : CountWord) → Some x ≡ Some y → x ≡ y
+      same x y h = cc
+
+      apart : Pinned d ≡ Closed c → ⊥
+      apart h = cc
+
+  module _ (u : Trace) (e : Step) (made : IsMade setup (e ∷ u)) (shows : ShowsSo (e ∷ u))
+      (rest : ShowsSo u → SparesOwn f k d (phase u d)) where
+    taken_own : Takes u (cores_after setup u e.core).active e.core f k (last_left setup u (CountAt f k)) (last_left setup (e ∷ u) (CountAt f k))
+        → SparesOwn f k e.core (phase u e.core)
+    taken_own takes = elim takes.left [
+      | inl is ↦ record {
+        own = is.1.own;
+        spares = λ untypes. is.1.spares (record {
+          range = untypes.range;
+          is = the_call takes.call (Retype untypes.range f Untyped) (sym (ap call_in takes.is_open) ∙ untypes.is);
+        });
+      }
+      | inr is ↦ absurd (not_closed e.core takes.count takes.stamp (sym shows ∙ is.0))
+    ]
+      where
+        the_call : (x y : Call) → Some x ≡ Some y → x ≡ y
+        the_call x y h = cc
+
+    own_spares : marked_by setup (e ∷ u) (CountAt f k) ≡ Some e.core → d ≡ e.core → SparesOwn f k e.core (phase (e ∷ u) e.core)
+    own_spares mark own =
+        spares_on f k e.core (phase (e ∷ u) e.core) (phase u e.core)
+        (ap call_in (phase_is setup setting f k u e made mark) ∙ call_stays e.decides (phase u e.core))
+        (elim (kept setup setting f k u e made mark) [
+          | inl same ↦ subst (λ (c : ℕ). SparesOwn f k c (phase u c)) own (rest (ap count_of_word (sym same) ∙ shows))
+          | inr takes ↦ taken_own takes
+        ])
+
+    other_spares : d ≢ e.core → SparesOwn f k d (phase (e ∷ u) d)
+    other_spares other =
+        spares_on f k d (phase (e ∷ u) d) (phase u d) (ap call_in (phase-other d e u other))
+        (rest (ap count_of_word (sym (raw_other setup setting f k u e made d other (marked_by_it (e ∷ u) shows))) ∙ shows))
+
+  pinned_along : (u : Trace) → IsMade setup u → ShowsSo u → SparesOwn f k d (phase u d)
+  pinned_along [] made shows =
+      absurd (false≢true (((made_stands setup setting [] made).marks (CountAt f k) d).owned (marked_by_it [] shows)))
+  pinned_along (e ∷ u) made shows = elim (cases_eq d e.core) [
+    | inl own ↦ subst (λ (c : ℕ). SparesOwn f k c (phase (e ∷ u) c)) (sym own)
+        (own_spares u e made shows (pinned_along u made.0)
+        (subst (λ (c : ℕ). marked_by setup (e ∷ u) (CountAt f k) ≡ Some c) own (marked_by_it (e ∷ u) shows)) own)
+    | inr other ↦ other_spares u e made shows (pinned_along u made.0) other
+  ]
+
+pub pinned_say : (setup : Setting) → IsSetting setup → (t : Trace) → IsMade setup t → (f k d : ℕ) (v : CountWord)
+    → count_at (last_left setup t) f k ≡ Some v → v.hold ≡ Pinned d → SparesOwn f k d (phase t d)
+pinned_say setup setting t made f k d v shows is_pinned = pinned_along setup setting f k d v is_pinned t made shows

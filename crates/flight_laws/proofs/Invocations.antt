@@ -1,5 +1,5 @@
 -- A call through a gate that is carried out enters a component that lives.
-use Rattle.time_laws.proofs.Common.{◌≡◌, ◌<◌, ◌&&◌, ℕ, ◌==◌, nat_le, length, not, List, [], ◌∷◌, ◌++◌, Bool, true, false, if◌then◌else◌}
+use Rattle.time_laws.proofs.Common.{◌≡◌, ◌&&◌, ℕ, nat_le, length, not, [], ◌∷◌, ◌++◌, Bool, true, false, if◌then◌else◌}
 use Rattle.time_laws.proofs.Common.{Option, Some, None, refl, sym, ◌∙◌, ap, subst, eqb-true, false≢true, Capability, Setting, IsSetting}
 use Rattle.time_laws.proofs.Common.{Call, Value, Liveness, Unused, Live, Dead, State, comp_in, thread_of, Named, found, only, Found, Rule}
 use Rattle.time_laws.proofs.Common.{Does, When, IsFoundAnd, and_then, first_of, named, outcome, unless, is_live_in, pushes, MayReply, after}
@@ -12,7 +12,7 @@ use Rattle.time_laws.specs.kernel_rules.specs.Rules.{RuleAnswers}
 use Rattle.time_laws.specs.kernel_rules.specs.InvocationCalls.{call_rule, not_live}
 use Rattle.time_laws.specs.state_laws.proofs.Lives.{dead_stays}
 use Rattle.time_laws.specs.comp_invariant.proofs.LaterEvents.{Later, later_events}
-use Rattle.flight_laws.specs.Invocations.{GoesThrough, number_through, EntersTheLiving, EntersNoneKilled}
+use Rattle.flight_laws.specs.Invocations.{number_through, EntersTheLiving, EntersNoneKilled}
 use Rattle.time_laws.specs.flight.specs.Made.{IsMade, cores_after}
 use Rattle.time_laws.specs.flight.proofs.Made.{made_stands}
 

@@ -6,6 +6,11 @@ pub mod Frames
 pub mod Sweeping
 pub mod CountSteps
 pub mod CountHolds
+pub mod HeldCounts
+pub mod AcquiredCounts
+pub mod FrozenCounts
+pub mod DrawnStamps
+pub mod SettledCounts
 pub mod CountsTold
 pub mod StampsTold
 pub mod Ready

@@ -1,11 +1,8 @@
 -- A liveness number that was killed lives later in higher epochs alone.
-use Rattle.time_laws.proofs.Common.{◌≡◌, ℕ, List, [], ◌∷◌, ◌++◌, Option, Some, None, refl, sym, ◌∙◌, ap, subst, Setting, IsSetting, Call}
-use Rattle.time_laws.proofs.Common.{Reply, live_of_word, LiveAt, Live, NumberOf, State, after, IsRun, events_of, live_mark, stamp, Trace}
-use Rattle.time_laws.proofs.Common.{Phase, Out, Open, phase, after_enter, state_after, last_left, state_is, run_of, settled_by, NumberIs}
+use Rattle.time_laws.proofs.Common.{◌≡◌, ◌++◌, sym, ◌∙◌, ap, subst, Setting, IsSetting}
+use Rattle.time_laws.proofs.Common.{live_of_word, LiveAt, Live, NumberOf, State, after, IsRun, events_of, live_mark, stamp, Trace}
+use Rattle.time_laws.proofs.Common.{state_after, last_left, state_is, run_of, settled_by, NumberIs}
 use Rattle.time_laws.proofs.Common.{held_by, Invariant}
-use Rattle.time_laws.specs.kernel_rules.specs.Runs.{Event, Enters, Decides, Returns}
-use Rattle.time_laws.specs.kernel_history.specs.Events.{with_entry, with_decision, with_return}
-use Rattle.time_laws.specs.kernel_history.specs.Trace.{Decided}
 use Rattle.time_laws.specs.state_laws.proofs.Lives.{dead_stays}
 use Rattle.time_laws.specs.comp_invariant.proofs.LaterEvents.{Later, later_events}
 use Rattle.time_laws.specs.live_invariant.proofs.Numbers.{number_is}

@@ -1,7 +1,7 @@
 -- What cores have cached stands, as in the sequential kernel, and stays cached till they flush; and what a touch answers is cached.
-use Rattle.time_laws.proofs.Common.{◌≡◌, ◌≢◌, ◌⊎◌, inl, inr, ℕ, ◌≤◌, true, false, List, [], ◌∷◌, ◌++◌, length, Option, Some, None, refl}
+use Rattle.time_laws.proofs.Common.{◌≡◌, ◌⊎◌, inl, inr, ℕ, ◌≤◌, true, false, List, [], ◌∷◌, ◌++◌, length, Option, Some, None, refl}
 use Rattle.time_laws.proofs.Common.{sym}
-use Rattle.time_laws.proofs.Common.{◌∙◌, ap, subst, false≢true, Setting, IsSetting, Call, Touch, PageFlags, Reply, Translation, User, State}
+use Rattle.time_laws.proofs.Common.{◌∙◌, ap, subst, false≢true, Setting, IsSetting, Call, Touch, Reply, Translation, User, State}
 use Rattle.time_laws.proofs.Common.{comp_of, translation_of, state_by, IsRun, put_same, events_of, IsLegal, flushes_in, Step, Trace, Phase}
 use Rattle.time_laws.proofs.Common.{Out, Open, phase, after_enter, state_after, state_before, state_entered, state_decided, state_returned}
 use Rattle.time_laws.proofs.Common.{state_is, run_of}

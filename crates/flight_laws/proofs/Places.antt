@@ -485,7 +485,7 @@ module _ (setup : Setting) (setting : IsSetting setup) where
 
         pub read_in : (f < core.own.layout.frames) × (i < 64)
         read_in = subst (IsIn core.own.layout) moves
-            (moves_are_words core (stands.each e.core made.1.is_core).fits (subst (λ o. MayStep o core) no_entry made.1.may)).is_in
+            (moves_are_words core (stands.each e.core made.1.is_core).fits (subst (λ o. MayStep o core) no_entry made.1.may))
 
         through : Stays setup t e e.core
         through = stays_plain setup t e e.core no_entry no_decision no_return

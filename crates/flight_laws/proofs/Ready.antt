@@ -8,7 +8,6 @@ use Rattle.time_laws.specs.spk_nums.specs.declared.replies.Reply.{Reply}
 use Rattle.time_laws.specs.word_map.specs.Moves.{told_of}
 use Rattle.time_laws.specs.kernel_rules.specs.Laws.{IsRefusal}
 use Rattle.time_laws.specs.kernel_history.specs.Trace.{Step, Trace, Open, phase}
-use Rattle.time_laws.specs.kernel_history.specs.Trace as history
 use Rattle.time_laws.specs.act_states.specs.declared.own.Own.{Own}
 use Rattle.time_laws.specs.call_stages.specs.declared.stages.Stage.{Stage}
 use Rattle.time_laws.specs.call_stages.specs.declared.stages.Stage.TheVariants.{Enter, Undecided, Decided, Leave}
@@ -21,7 +20,6 @@ use Rattle.time_laws.specs.call_stages.specs.View.{Core}
 use Rattle.time_laws.specs.call_stages.proofs.Decisions as decisions
 use Rattle.time_laws.specs.core_invariant.specs.Events.{decided_in}
 use Rattle.time_laws.specs.core_invariant.specs.Knows.{CallIs, CoreIs, phase_at}
-use Rattle.time_laws.specs.core_invariant.specs.Invariant.{Invariant}
 use Rattle.time_laws.specs.flight.specs.Made.{turned, MayStep, cores_after, IsMade}
 use Rattle.time_laws.specs.flight.proofs.CoreFits.{begun_fits}
 use Rattle.time_laws.specs.flight.proofs.Made.{made_stands}

@@ -1,342 +1,461 @@
--- What count words tell of stamps while calls hold them: along a machine's traces, a held word shows the newest stamp of its frame before
--- the decision of the call that holds it.
-use Rattle.std.proofs.Common.{◌≡◌, ◌≢◌, ◌⊎◌, inl, inr, ℕ, ℤ, ◌≤◌, ◌<◌, ◌==◌, ◌&&◌, Bool, true, false, max, if◌then◌else◌}
-use Rattle.std.proofs.Common.{List, [], ◌∷◌, Option, Some, None, arith, refl, sym, ◌∙◌, ap, subst}
+-- What count words tell of stamps while calls hold them: the stamp that a word will show, by the phase of the call that holds it, is that
+-- of what it settles to. So the newest that the count words of a frame will show is that of its last grace period.
+use Rattle.std.proofs.Common.{◌≡◌, ◌≢◌, inl, inr, ℕ, ℤ, pos, negsuc, ◌+ℤ◌, ◌-ℤ◌, ◌-◌, ◌^◌, ◌≤◌, ◌<◌, ◌&&◌, Bool}
+use Rattle.std.proofs.Common.{true, false, max, if◌then◌else◌, List, [], ◌∷◌, Option, Some, None, arith, refl, sym, ◌∙◌, ap, subst}
 use Rattle.std.specs.Prelude.{is_some}
-use Rattle.std.proofs.lemmas.Bool.{cases_eq, false≢true, eq-eqb, ne_eqb}
+use Rattle.std.specs.Prelude.{All}
+use Rattle.std.proofs.lemmas.Bool.{cases_eq, cases_lt, eqb-true, false≢true, true≢false, eq-eqb, ne_eqb}
+use Rattle.std.proofs.lemmas.List.Elements.{All-head, All-tail}
+use Rattle.std.proofs.lemmas.Int.{ints}
+use Rattle.time_laws.specs.spk_nums.specs.CallLimits.{InLimits}
 use Rattle.time_laws.specs.spk_nums.specs.Setting.{Setting, IsSetting}
 use Rattle.time_laws.specs.spk_nums.specs.declared.calls.Call.{Call}
-use Rattle.time_laws.specs.spk_nums.specs.declared.calls.Call.TheVariants.{Retype, Make as make_call}
+use Rattle.time_laws.specs.spk_nums.specs.declared.calls.Call.TheVariants.{Retype}
 use Rattle.time_laws.specs.spk_nums.specs.declared.kinds.FrameKind.TheVariants as frame_kind
-use Rattle.time_laws.specs.spk_nums.specs.declared.calls.Make.TheVariants as make
 use Rattle.time_laws.specs.spk_nums.specs.declared.replies.Reply.{Reply}
 use Rattle.time_laws.specs.spk_nums.specs.declared.replies.Reply.TheVariants as reply
-use Rattle.time_laws.specs.frame_words.specs.Count.{count_of_word}
+use Rattle.time_laws.specs.spk_nums.specs.declared.replies.Value.{Value}
+use Rattle.time_laws.specs.frame_words.specs.Count.{CountFits, NumberFits, count_of_word, word_of_count}
 use Rattle.time_laws.specs.frame_words.specs.declared.count_word.CountWord.{CountWord}
 use Rattle.time_laws.specs.frame_words.specs.declared.count_word.Hold.{Hold}
 use Rattle.time_laws.specs.frame_words.specs.declared.count_word.Hold.TheVariants.{Unheld, Pinned, Closed}
-use Rattle.time_laws.specs.word_map.specs.Word.{Word, CountAt}
-use Rattle.time_laws.specs.word_map.specs.Places.{counter_of}
-use Rattle.time_laws.specs.kernel_rules.specs.State.{Thing, FrameOf, State}
-use Rattle.time_laws.specs.kernel_rules.specs.CallRelation.{MayReply, begins, ends}
-use Rattle.time_laws.specs.kernel_invariant.proofs.Releases.{ends_begins}
+use Rattle.time_laws.specs.frame_words.proofs.CountLemmas as counts
+use Rattle.time_laws.specs.word_map.specs.Word.{CountAt}
+use Rattle.time_laws.specs.kernel_rules.specs.State.{FrameOf, State}
+use Rattle.time_laws.specs.kernel_rules.specs.GracePeriods.{begun}
+use Rattle.time_laws.specs.kernel_rules.specs.References.{refs}
+use Rattle.time_laws.specs.kernel_rules.specs.Rules.{Change, Found, IsFoundAnd, Judged, Refused}
+use Rattle.time_laws.specs.kernel_rules.specs.CallRelation.{MayReply, begins, begins_in as begun_in, change_of, changed as change_made, counted}
+use Rattle.time_laws.specs.kernel_rules.specs.CallRelation.{state_by}
+use Rattle.time_laws.specs.kernel_rules.proofs.Changes.{IfFound}
+use Rattle.time_laws.specs.kernel_invariant.proofs.Edited.{found_by}
+use Rattle.time_laws.specs.kernel_invariant.proofs.Refs.{RefsBy, grace_refs, refs_by}
 use Rattle.time_laws.specs.kernel_invariant.proofs.SoundCalls.{IsOpen}
-use Rattle.time_laws.specs.kernel_invariant.proofs.SoundRuns.{opened}
-use Rattle.time_laws.specs.kernel_history.specs.Counts.{count_at}
-use Rattle.time_laws.specs.kernel_history.specs.Graces.{KeepsTime}
-use Rattle.time_laws.specs.kernel_history.specs.Legal.{MayDecide, DecidesBy, IsLegal}
+use Rattle.time_laws.specs.kernel_invariant.proofs.SoundRuns.{open_limits, opened}
+use Rattle.time_laws.specs.found_stays.proofs.SparesRuns.{among}
+use Rattle.time_laws.specs.kernel_history.specs.Counts.{count_in, counters}
+use Rattle.time_laws.specs.kernel_history.specs.Events.{plain_phase}
+use Rattle.time_laws.specs.kernel_history.specs.Legal.{DecidesBy, IsLegal, MayDecide}
 use Rattle.time_laws.specs.kernel_history.specs.Marking.{marked_by}
 use Rattle.time_laws.specs.kernel_history.specs.Marks.{count_mark, hold_mark}
-use Rattle.time_laws.specs.kernel_history.specs.Stamps.{begins_in, begins_at, ends_in, ends_at, stamp, clock}
-use Rattle.time_laws.specs.kernel_history.specs.Trace.{Step, Trace, Phase, Open, Decided, phase, after_enter, after_decide}
-use Rattle.time_laws.specs.kernel_history.specs.Trace.{state_before, last_left}
-use Rattle.time_laws.specs.kernel_history.proofs.Events.{entered_events}
-use Rattle.time_laws.specs.kernel_history.proofs.Steps.{phase-other, stamp-begins, stamp-ends, stamp-kept}
+use Rattle.time_laws.specs.kernel_history.proofs.Counters.{all_counters}
+use Rattle.time_laws.specs.kernel_history.specs.Stamps.{begins_at, begins_in, stamp}
+use Rattle.time_laws.specs.kernel_history.specs.Trace.{Step, Trace, Phase, Out, Open, Decided, phase, after_enter, after_decide}
+use Rattle.time_laws.specs.kernel_history.specs.Trace.{state_after, state_before, state_decided, state_returned, last_left}
+use Rattle.time_laws.specs.kernel_history.proofs.Events.{entered_events, entered_phase, entered_run}
+use Rattle.time_laws.specs.kernel_history.proofs.Steps.{phase-other, stamp-begins}
 use Rattle.time_laws.specs.trace_laws.proofs.Opens.{opens}
-use Rattle.time_laws.specs.stage_pins.specs.Counts.{acquired}
+use Rattle.time_laws.proofs.Common.{run_of}
+use Rattle.time_laws.specs.stage_pins.specs.declared.pin.Pin.TheVariants.{AtCompare}
 use Rattle.time_laws.specs.stage_sweep.specs.Freeze.{frozen}
-use Rattle.time_laws.specs.core_invariant.specs.CountWords.{stamp_in}
-use Rattle.time_laws.specs.core_invariant.specs.Holding.{settled_by, settled}
-use Rattle.time_laws.specs.core_invariant.specs.Invariant.{count_shown, holds, held_by}
-use Rattle.time_laws.specs.kernel_rules.proofs.Within.{put_other}
-use Rattle.time_laws.specs.flight.specs.Made.{core_after, cores_after, stepping_core, IsMade}
+use Rattle.time_laws.specs.call_stages.specs.Cores.{core_after, told_by}
+use Rattle.time_laws.specs.call_stages.specs.Steps.{took_at}
+use Rattle.time_laws.specs.call_stages.specs.declared.stages.Absorbed.{Absorbed}
+use Rattle.time_laws.specs.call_stages.specs.declared.stages.Absorbed.TheVariants as told_as
+use Rattle.time_laws.specs.call_stages.specs.declared.stages.ActiveCall.{ActiveCall}
+use Rattle.time_laws.specs.core_invariant.specs.Events.{decided_in}
+use Rattle.time_laws.specs.stage_pins.specs.Counts.{changed, in_field, later, unheld}
+use Rattle.time_laws.specs.stage_pins.specs.Held.{stamp_of_change}
+use Rattle.time_laws.specs.core_invariant.specs.CountWords.{IsWithin, newest_of, stamp_in}
+use Rattle.time_laws.specs.core_invariant.specs.Holding.{committed}
+use Rattle.time_laws.specs.core_invariant.specs.Invariant.{Invariant, is_done}
+use Rattle.time_laws.specs.core_invariant.specs.Words.{count_room}
+use Rattle.time_laws.specs.core_invariant.proofs.Sounds.{limits_of}
+use Rattle.time_laws.specs.kept_facts.proofs.CountSums.{counted_refs, counter_once, newest_most}
+use Rattle.time_laws.specs.step_ways.proofs.Loads.{is_active}
+use Rattle.time_laws.specs.step_ways.proofs.Writes.{room_small}
+use Rattle.time_laws.specs.flight.specs.Made.{cores_after, IsMade}
 use Rattle.time_laws.specs.flight.proofs.Made.{made_stands, made_times}
-use Rattle.flight_laws.specs.Counts.{is_carried_out, has_cleared}
-use Rattle.flight_laws.specs.Stamps.{drawn_by, once_stored, stamp_then, will_date, StampsTell}
-use Rattle.flight_laws.proofs.CountSteps.{Takes, UntypesFrame}
-use Rattle.flight_laws.proofs.CountHolds.{held_before, raw_other, kept, still_marked, no_entry, entered_is, phase_is}
+use Rattle.flight_laws.specs.Counts.{Untypes, has_cleared, is_carried_out}
+use Rattle.flight_laws.specs.Stamps.{drawn_by, newest_then, stamp_then, will_date, StampsTell}
+use Rattle.flight_laws.proofs.CountHolds.{before_is, entered_is, frozen_say, kept, no_return, pinned_say}
+use Rattle.flight_laws.proofs.AcquiredCounts.{HasCount, active_now, decides_told, entry, found, has_count, settles_to, told}
+use Rattle.flight_laws.proofs.CountsTold.{holder_below, mark_now, phase_now, settled_open, settled_other, settled_own, showed, showed_own}
+use Rattle.flight_laws.proofs.DrawnStamps.{DoneSmall, IsSmall, OkDrawn, acquire_drawn, stage_drawn}
+use Rattle.flight_laws.proofs.FrozenCounts.{cleared_if}
+use Rattle.flight_laws.proofs.SettledCounts.{cleared_is, closed_shows, count_changes, free_shows, other_same, pinned_shows, settled_shows}
+use Rattle.flight_laws.proofs.SettledCounts.{shows}
 
--- A decision ends the grace period of frame f exactly where it makes f untyped.
-ends_cleared : (f : ℕ) (call : Call) (r : Reply) → ends call r (FrameOf f) ≡ has_cleared f (Decided call r)
-ends_cleared f (Retype range g frame_kind.Untyped) (reply.Ok v) = refl
-ends_cleared f (Retype range g frame_kind.User) (reply.Ok v) = refl
-ends_cleared f (Retype range g frame_kind.Kernel) (reply.Ok v) = refl
-ends_cleared f (make_call make.Table r g u b) (reply.Ok v) = refl
-ends_cleared f (make_call make.Leaf r g u b) (reply.Ok v) = refl
-ends_cleared f (make_call make.Pages r g u b) (reply.Ok v) = refl
-ends_cleared f (make_call make.Pleaf r g u b) (reply.Ok v) = refl
-ends_cleared f (make_call (make.Thread comp) r g u b) (reply.Ok v) = refl
-ends_cleared f (make_call (make.Tcap sched quality) r g u b) (reply.Ok v) = refl
-ends_cleared f (make_call (make.Comp table pages live) r g u b) (reply.Ok v) = refl
-ends_cleared f call (reply.Ok v) = refl
-ends_cleared f (Retype range g frame_kind.Untyped) r = refl
-ends_cleared f call r = refl
+same_some : {A : Type 0} (x y : A) → Some x ≡ Some y → x ≡ y
+same_some x y h = cc
 
--- One that begins a grace period carries its call out.
-begins_carries : (s : State) (c : ℕ) (call : Call) (r : Reply) (x : Thing) → begins s c call r x ≡ true
-    → is_carried_out (Decided call r) ≡ true
-begins_carries s c call (reply.Ok v) x is = refl
-begins_carries s c call r x is = absurd (false≢true is)
+-- Where references to a frame fall, a grace period of it begins.
+falls_found : (s : State) (c : ℕ) (v : Value) (x : Judged Change) → IfFound x (RefsBy s) → IsFoundAnd x (λ k. k.value ≡ v) → (f : ℕ)
+    → refs (counted (change_made s x) c) f < refs s f → begun_in x (FrameOf f) ≡ true
+falls_found s c v (Refused r) by ok f less = absurd ok
+falls_found s c v (Found change) by ok f less =
+    let a = grace_refs change.next (begun s change.begins change.next).grace f in
+    let b = by f in
+    let d = counted_refs (begun s change.begins change.next) c f in
+    among f change.begins (omega (arith, less, a, b, d))
 
--- The later of a stamp and one that is drawn, where the call is carried out.
-abbrev pub dated : Bool → ℕ → ℕ → ℕ
-dated true shown drawn = max shown drawn
-dated false shown drawn = shown
+falls_begin : (s : State) (o : ℕ → Bool) (c : ℕ) (call : Call) (v : Value) → IsOpen s o c → InLimits call → MayReply s c call (reply.Ok v)
+    → (f : ℕ) → refs (state_by s c call (reply.Ok v)) f < refs s f → begins s c call (reply.Ok v) (FrameOf f) ≡ true
+falls_begin s o c call v h lim may f less =
+    falls_found s c v (change_of s c call) (found_by s c call (RefsBy s) (refs_by s o c h call lim)) may.1 f less
 
-dated_none : (carried : Bool) (shown : ℕ) → dated carried shown 0 ≡ shown
-dated_none true shown = omega arith
-dated_none false shown = refl
+-- A count that falls, falls within its field too.
+field_fits : (z : ℤ) → NumberFits (in_field z)
+field_fits (pos n) = omega arith
+field_fits (negsuc n) = omega arith
 
--- The word of a frame's counts, of which it has one.
-abbrev counter : ℕ → Word
-counter f = CountAt f (counter_of 0)
+field_less : (x y : ℤ) (m : ℕ) → y ≡ x +ℤ negsuc m → IsWithin x (2 ^ 28) → (n : ℕ) → in_field y ≡ x +ℤ pos n → ⊥
+field_less (pos k) (pos j) m is within n same = absurd (omega (arith, ints, is, within, same))
+field_less (pos k) (negsuc j) m is within n same = absurd (omega (arith, ints, is, within, same))
+field_less (negsuc k) (pos j) m is within n same = absurd (omega (arith, ints, is, within, same))
+field_less (negsuc k) (negsuc j) m is within n same = absurd (omega (arith, ints, is, within, same))
 
--- What is told by a count word of frame f that core d holds.
-record IsDated (setup : Setting) (t : Trace) (f d : ℕ) : Type 0 where
-  pub newest : has_cleared f (phase t d) ≡ false
-      → dated (is_carried_out (phase t d)) (stamp_in (count_at (last_left setup t) f (counter_of 0))) (drawn_by setup t d f)
-      ≡ stamp setup t (FrameOf f)
-  pub cleared : has_cleared f (phase t d) ≡ true → stamp setup t (FrameOf f) ≡ 0
+within_more : (z : ℤ) (n m : ℕ) → n ≤ m → IsWithin z n → IsWithin z m
+within_more (pos k) n m low within = omega (arith, low, within)
+within_more (negsuc k) n m low within = omega (arith, low, within)
 
-abbrev Dated : Setting → Trace → ℕ → Type 0
-Dated setup t f = (d : ℕ) → marked_by setup t (counter f) ≡ Some d → IsDated setup t f d
+-- The stamp that is stored with a count that changes.
+later_small : (stamp : ℕ) (change : ℤ) (drawn : Option ℕ) → stamp < 2 ^ 28 → IsSmall drawn → later stamp (stamp_of_change change drawn) < 2 ^ 28
+later_small stamp (pos n) drawn small fits = small
+later_small stamp (negsuc n) None small fits = small
+later_small stamp (negsuc n) (Some x) small fits = omega (arith, small, fits)
 
-module _ (setup : Setting) (setting : IsSetting setup) (f : ℕ) where
-  abbrev at : Word
-  at = counter f
+-- What has cleared a frame makes it untyped.
+untypes_cleared : (f : ℕ) (p : Phase) → has_cleared f p ≡ true → Untypes f p
+untypes_cleared f Out is = absurd (false≢true is)
+untypes_cleared f (Open call) is = absurd (false≢true is)
+untypes_cleared f (Decided (Retype r g frame_kind.Untyped) (reply.Ok v)) is =
+    record { range = r; is = ap (λ (n : ℕ). Some (Retype r n frame_kind.Untyped)) (sym (eqb-true f g is)) }
+untypes_cleared f (Decided call r) is = absurd (false≢true is)
 
-  abbrev raw : Trace → ℕ
-  raw t = last_left setup t at
+-- A step of the core that has acquired the count.
+module _ (setup : Setting) (setting : IsSetting setup) (f k : ℕ) (t : Trace) (e : Step) (made : IsMade setup (e ∷ t)) (v : CountWord)
+    (pinned : v.hold ≡ Pinned e.core) (is : shows setup setting f (e ∷ t) k ≡ Some v) where
+  abbrev p : Phase
+  p = phase t e.core
 
-  abbrev shown : Trace → ℕ
-  shown t = stamp_in (count_at (last_left setup t) f (counter_of 0))
+  before : Invariant setup (cores_after setup t) t
+  before = made_stands setup setting t made.0
 
-  abbrev newest : Trace → ℕ
-  newest t = stamp setup t (FrameOf f)
+  later_on : Invariant setup (cores_after setup (e ∷ t)) (e ∷ t)
+  later_on = made_stands setup setting (e ∷ t) made
 
-  alone : (x n : ℕ) → max x 0 ≡ n → x ≡ n
-  alone x n h = omega (arith, h)
+  its_mark : marked_by setup (e ∷ t) (CountAt f k) ≡ Some e.core
+  its_mark = mark_now setup setting f k t e made v pinned is
 
-  -- the settled stamp is the newest
-  settled_newest : (t : Trace) → IsMade setup t
-      → stamp_in (count_shown setup (held_by (cores_after setup t)) t f (counter_of 0)) ≡ newest t
-  settled_newest t made =
-      alone (stamp_in (count_shown setup (held_by (cores_after setup t)) t f (counter_of 0))) (newest t)
-      ((made_stands setup setting t made).sums f).newest
+  its_entry : e.enters ≡ None
+  its_entry = entry setup setting f k t e made its_mark
 
-  -- and is shown, where no core holds the word
-  free_newest : (t : Trace) → IsMade setup t → marked_by setup t at ≡ None → shown t ≡ newest t
-  free_newest t made free =
-      ap (λ o. stamp_in (count_of_word (settled_by o (held_by (cores_after setup t)) at (raw t)))) (sym free) ∙ settled_newest t made
+  entered : after_enter e.enters p ≡ p
+  entered = entered_is setup setting f k t e made its_mark
 
-  module _ (t : Trace) (e : Step) (made : IsMade setup (e ∷ t)) (told : Dated setup t f) where
+  abbrev was : ℕ → Option CountWord
+  was = settled_shows setup setting f t
+
+  abbrev now : ℕ → Option CountWord
+  now = settled_shows setup setting f (e ∷ t)
+
+  abbrev newest_was : ℕ
+  newest_was = stamp setup t (FrameOf f)
+
+  k_below : k < setup.cores
+  k_below = let own = (pinned_say setup setting (e ∷ t) made f k e.core v is pinned).own in let here = made.1.is_core in omega (arith, own, here)
+
+  stamp_most : (j : ℕ) → j < setup.cores → stamp_in (was j) ≤ newest_was
+  stamp_most j below =
+      let newest : newest_of was (counters setup.cores) ≡ newest_was =
+      ap (λ l. newest_of was (counters l.cores)) (sym (limits_of setup t)) ∙ (before.sums f).newest in
+      let most = newest_most was (counters setup.cores) j (let once = counter_once setup.cores j below in omega (arith, once)) in
+      omega (arith, newest, most)
+
+  abbrev begins_now : Bool
+  begins_now = begins_at setup t e (FrameOf f)
+
+  abbrev drawn : Option Reply → Bool → ℕ
+  drawn o b = if is_some o then (if b then e.found else 0) else drawn_by setup t e.core f
+
+  drawn_is : drawn_by setup (e ∷ t) e.core f ≡ drawn e.decides begins_now
+  drawn_is = ap (λ b. if b && is_some e.decides then (if begins_now then e.found else 0) else drawn_by setup t e.core f)
+      (eq-eqb e.core e.core refl)
+
+  -- it decides `ok`
+  module _ (x : Value) (decides : e.decides ≡ Some (reply.Ok x)) (may : DecidesBy setup t e (reply.Ok x) (after_enter e.enters p)) where
+    is_open : p ≡ Open may.call
+    is_open = sym entered ∙ may.is_open
+
+    shown_then : was k ≡ Some (unheld v.count v.stamp)
+    shown_then = settled_open setup setting f k t e made v pinned is may.call is_open
+
+    v_fits : CountFits v
+    v_fits = (counts.spelling.spells (last_left setup (e ∷ t) (CountAt f k)) v is).0
+
+    -- a grace period of the frame begins
+    found_now : begins_now ≡ true → newest_was < e.found
+    found_now begins_it =
+        let past = (before.graces (FrameOf f)).past in
+        let draws = ((made_times setup setting t e made).draws (FrameOf f) begins_it).0 in
+        omega (arith, past, draws)
+
+    begun_stamp : begins_now ≡ true → stamp_in (now k) ≡ max v.stamp e.found
+    begun_stamp begins_it =
+        let newest : newest_of now (counters setup.cores) ≡ e.found =
+        ap (λ l. newest_of now (counters l.cores)) (sym (limits_of setup (e ∷ t))) ∙ (later_on.sums f).newest
+        ∙ stamp-begins setup e t (FrameOf f) begins_it in
+        let less = found_now begins_it in
+        let reached = newest_here newest less in
+        let own : stamp_in (was k) ≡ v.stamp = ap stamp_in shown_then in
+        let most = stamp_most k k_below in
+        omega (arith, less, reached, own, most)
+      where
+        others : newest_was < e.found → (j : ℕ) → j ≢ k → j < setup.cores → stamp_in (now j) < e.found
+        others less j other below =
+            let same : stamp_in (now j) ≡ stamp_in (was j) = ap stamp_in (other_same setup setting f k t e made v is pinned j other) in
+            let most = stamp_most j below in
+            omega (arith, less, same, most)
+
+        within_list : (cs : List ℕ) → All (λ (j : ℕ). j ≢ k → stamp_in (now j) < e.found) cs
+            → newest_of now cs ≡ e.found → 1 ≤ e.found → stamp_in (now k) ≡ e.found
+        within_list [] all newest some = absurd (omega (arith, newest, some))
+        within_list (c ∷ cs) all newest some = elim (cases_eq (stamp_in (now c)) e.found) [
+          | inl here ↦ elim (cases_eq c k) [
+            | inl same ↦ ap (λ (j : ℕ). stamp_in (now j)) (sym same) ∙ here
+            | inr other ↦ absurd (let less = All-head (λ (j : ℕ). j ≢ k → stamp_in (now j) < e.found) c cs all other in
+                omega (arith, less, here))
+          ]
+          | inr other ↦ within_list cs (All-tail (λ (j : ℕ). j ≢ k → stamp_in (now j) < e.found) c cs all)
+              (rest (stamp_in (now c)) (newest_of now cs) newest other) some
+        ]
+          where
+            rest : (a b : ℕ) → max a b ≡ e.found → a ≢ e.found → b ≡ e.found
+            rest a b newest other = omega (arith, newest, other)
+
+        newest_here : newest_of now (counters setup.cores) ≡ e.found → newest_was < e.found → stamp_in (now k) ≡ e.found
+        newest_here newest less = within_list (counters setup.cores)
+            (all_counters (λ (j : ℕ). j ≢ k → stamp_in (now j) < e.found) setup.cores (λ j below other. others less j other below))
+            newest (omega (arith, less))
+
+    -- none begins: references to the frame do not fall, so the count does not, and no stamp is stored with it
+    begins_is : begins_now ≡ begins (state_before setup t e) e.core may.call (reply.Ok x) (FrameOf f)
+    begins_is = ap (λ o. begins_in o (after_enter e.enters p) (state_before setup t e) e.core (FrameOf f)) decides
+        ∙ ap (λ q. begins_in (Some (reply.Ok x)) q (state_before setup t e) e.core (FrameOf f)) may.is_open
+
     legal : IsLegal setup (e ∷ t)
-    legal = (made_stands setup setting (e ∷ t) made).legal
+    legal = later_on.legal
 
-    -- what another core holds
-    module _ (d : ℕ) (other : d ≢ e.core) (mark : marked_by setup (e ∷ t) at ≡ Some d) where
-      had : marked_by setup t at ≡ Some d
-      had = held_before setup setting f (counter_of 0) t e made d other mark
+    state_is : state_after setup (e ∷ t) ≡ state_by (state_before setup t e) e.core may.call (reply.Ok x)
+    state_is =
+        ap (λ q. state_returned q (state_decided e.decides (after_enter e.enters p) (state_before setup t e) e.core) e.core)
+        (no_return setup setting f k t e made its_mark)
+        ∙ ap (λ o. state_decided o (after_enter e.enters p) (state_before setup t e) e.core) decides
+        ∙ ap (λ q. state_decided (Some (reply.Ok x)) q (state_before setup t e) e.core) may.is_open
 
-      settled_other : settled setup (held_by (cores_after setup (e ∷ t))) (e ∷ t) at ≡ settled setup (held_by (cores_after setup t)) t at
-      settled_other =
-          ap (λ o. settled_by o (held_by (cores_after setup (e ∷ t))) at (raw (e ∷ t))) mark
-          ∙ ap (λ core. (holds core).stands at)
-          (put_other (cores_after setup t) e.core (core_after (stepping_core setup t e) e.found) d other)
-          ∙ sym (ap (λ o. settled_by o (held_by (cores_after setup t)) at (raw t)) had)
+    limits : InLimits may.call
+    limits = open_limits setup (entered_events t e) e.core may.call
+        (entered_run setup t e legal.0 legal.1 (run_of setup t legal.0)) (entered_phase t e ∙ ap plain_phase may.is_open)
 
-      newest_other : newest (e ∷ t) ≡ newest t
-      newest_other = sym (settled_newest (e ∷ t) made) ∙ ap (λ (n : ℕ). stamp_in (count_of_word n)) settled_other ∙ settled_newest t made.0
+    no_fall : begins_now ≡ false → refs (state_after setup t) f ≤ refs (state_after setup (e ∷ t)) f
+    no_fall none = elim (cases_lt (refs (state_after setup (e ∷ t)) f) (refs (state_after setup t) f)) [
+      | inl less ↦ absurd (true≢false (sym (falls_begin (state_before setup t e) (opened (entered_events t e)) e.core may.call x
+          (opens setup setting t legal.0 e legal.1 may.call may.is_open) limits may.permitted f
+          (subst (λ (s : State). refs (state_by (state_before setup t e) e.core may.call (reply.Ok x)) f < refs s f)
+          (sym (before_is setup setting f k t e made its_mark))
+          (subst (λ (s : State). refs s f < refs (state_after setup t) f) state_is less))) ∙ sym begins_is ∙ none))
+      | inr past ↦ past
+    ]
 
-      drawn_other : drawn_by setup (e ∷ t) d f ≡ drawn_by setup t d f
-      drawn_other =
-          ap (λ b. if b && is_some e.decides then (if begins_at setup t e (FrameOf f) then e.found else 0) else drawn_by setup t d f)
-          (ne_eqb d e.core other)
+    has : HasCount (cores_after setup (e ∷ t) e.core).active f k v
+    has = has_count setup setting f k e.core v pinned (e ∷ t) made is
 
-      dated_other : IsDated setup (e ∷ t) f d
-      dated_other =
-          let was = told d had in
-          let same : phase (e ∷ t) d ≡ phase t d = phase-other d e t other in
-          record {
-            newest = λ is.
-                ap (λ (n : ℕ). dated (is_carried_out (phase (e ∷ t) d)) (stamp_in (count_of_word n)) (drawn_by setup (e ∷ t) d f))
-                (raw_other setup setting f (counter_of 0) t e made d other mark)
-                ∙ ap (λ p. dated (is_carried_out p) (shown t) (drawn_by setup (e ∷ t) d f)) same
-                ∙ ap (λ (n : ℕ). dated (is_carried_out (phase t d)) (shown t) n) drawn_other
-                ∙ was.newest (ap (has_cleared f) (sym same) ∙ is) ∙ sym newest_other;
-            cleared = λ is. newest_other ∙ was.cleared (ap (has_cleared f) (sym same) ∙ is);
-          }
-
-    -- what its own core holds
-    module _ (mark : marked_by setup (e ∷ t) at ≡ Some e.core) where
-      abbrev p : Phase
-      p = phase t e.core
-
-      taken_stamp : (o : Option CountWord) (count : ℤ) (stamp : ℕ) (call : Call)
-          → (o ≡ Some (acquired e.core count stamp)) ⊎ ((o ≡ Some (frozen e.core count stamp)) × UntypesFrame call f)
-          → stamp_in o ≡ stamp
-      taken_stamp o count stamp call (inl is) = ap stamp_in is
-      taken_stamp o count stamp call (inr is) = ap stamp_in is.0
-
-      stamp_same : shown (e ∷ t) ≡ shown t
-      stamp_same = elim (kept setup setting f (counter_of 0) t e made mark) [
-        | inl same ↦ ap (λ (n : ℕ). stamp_in (count_of_word n)) same
-        | inr takes ↦
-            taken_stamp (count_of_word (raw (e ∷ t))) takes.count takes.stamp takes.call takes.left ∙ sym (ap stamp_in takes.found)
+    ok_drawn : OkDrawn (cores_after setup (e ∷ t) e.core).active (told_as.Decided (reply.Ok x))
+    ok_drawn = elim (kept setup setting f k t e made its_mark) [
+      | inl same ↦
+          let had = has_count setup setting f k e.core v pinned t made.0 (ap count_of_word (sym same) ∙ is) in
+          told_so had.a had.active (stage_drawn (cores_after setup t e.core).own had.a had.x had.among had.a.stage
+          (found setup setting t e made its_entry)
+          (is_active setup setting (cores_after setup t) t before e.core made.1.is_core had.a had.active).counts)
+      | inr takes ↦ elim takes.left [
+        | inl left ↦
+            let acquires = left.1.acquires in
+            told_so acquires.a acquires.active
+            (subst (λ s. OkDrawn (core_after (cores_after setup t e.core).own
+            (took_at (cores_after setup t e.core).own acquires.a s
+            (found setup setting t e made its_entry))).active
+            (told_by
+            (took_at (cores_after setup t e.core).own acquires.a s
+            (found setup setting t e made its_entry))))
+            (sym acquires.stage)
+            (acquire_drawn (cores_after setup t e.core).own acquires.a (AtCompare f k takes.count takes.stamp) acquires.change acquires.act
+            (found setup setting t e made its_entry)))
+        | inr left ↦ absurd (not_frozen takes.count takes.stamp (sym left.0 ∙ is))
       ]
+    ]
+      where
+        not_frozen : (count : ℤ) (at : ℕ) → Some (frozen e.core count at) ≡ Some v → ⊥
+        not_frozen count at h = apart (ap (λ (w : CountWord). w.hold) (same_some _ v h) ∙ pinned)
+          where
+            apart : Closed e.core ≡ Pinned e.core → ⊥
+            apart h = cc
 
+        is_told : (y : Absorbed)
+            → decided_in y ≡ Some (reply.Ok x)
+            → y ≡ told_as.Decided (reply.Ok x)
+        is_told told_as.Going h = absurd (cc)
+        is_told (told_as.Decided r) h =
+            ap (λ q. told_as.Decided q) (same_some r (reply.Ok x) h)
+        is_told (told_as.Returned r) h = absurd (cc)
+
+        told_so : (a : ActiveCall) (active : (cores_after setup t e.core).active ≡ Some a)
+            → OkDrawn (core_after (cores_after setup t e.core).own (took_at (cores_after setup t e.core).own a a.stage
+            (found setup setting t e made its_entry))).active (told setup setting t e made its_entry a active)
+            → OkDrawn (cores_after setup (e ∷ t) e.core).active (told_as.Decided (reply.Ok x))
+        told_so a active fits = subst (OkDrawn (cores_after setup (e ∷ t) e.core).active)
+            (is_told (told setup setting t e made its_entry a active)
+            (sym (decides_told setup setting t e made its_entry a active) ∙ decides))
+            (subst (λ o. OkDrawn o (told setup setting t e made its_entry a active))
+            (sym (active_now setup setting t e made its_entry a active)) fits)
+
+    -- so it is what its commit stores
+    record IsStored : Type 0 where
+      drawn_then : Option ℕ
+      small : IsSmall drawn_then
+      done : is_done has.a.stage ≡ Some drawn_then
+
+    stored : IsStored
+    stored = by (is_done has.a.stage) refl (subst (λ o. OkDrawn o (told_as.Decided (reply.Ok x))) has.active ok_drawn)
+      where
+        by : (o : Option (Option ℕ)) → is_done has.a.stage ≡ o → DoneSmall o → IsStored
+        by None at fits = absurd fits
+        by (Some y) at fits = record { drawn_then = y; small = fits; done = at }
+
+    abbrev change : ℤ
+    change = has.x.change
+
+    shown_now : now k ≡ Some (unheld (changed v.count change) (later v.stamp (stamp_of_change change stored.drawn_then)))
+    shown_now =
+        ap count_of_word (settles_to setup setting (e ∷ t) made f k e.core v is pinned has.a has.active has.x has.among has.word
+        ∙ ap (λ o. committed o has.x) stored.done
+        ∙ ap (λ w. word_of_count (unheld (changed w.count change) (later w.stamp (stamp_of_change change stored.drawn_then)))) has.found)
+        ∙ counts.spelling.reads (unheld (changed v.count change) (later v.stamp (stamp_of_change change stored.drawn_then)))
+        (tt, field_fits (v.count +ℤ change), later_small v.stamp change stored.drawn_then v_fits.2 stored.small)
+
+    v_within : IsWithin v.count (2 ^ 28)
+    v_within =
+        let says = before.words (CountAt f k) in
+        within_more v.count (count_room (state_after setup t)) (2 ^ 28)
+        (let low = room_small setup setting (cores_after setup t) t before in omega (arith, low))
+        (subst (λ z. IsWithin z (count_room (state_after setup t)))
+        (ap count_in (sym says.says ∙ shown_then)) says.within)
+
+    rises_by : (n m : ℕ) → n ≤ m → (pos m -ℤ pos n) ≡ pos (m - n)
+    rises_by n m low = omega (arith, ints, low)
+
+    unbegun_stamp : begins_now ≡ false → stamp_in (now k) ≡ max v.stamp 0
+    unbegun_stamp none = ap stamp_in shown_now ∙ by change refl
+      where
+        by : (z : ℤ) → change ≡ z → later v.stamp (stamp_of_change z stored.drawn_then) ≡ max v.stamp 0
+        by (pos n) at = omega arith
+        by (negsuc n) at = absurd (field_less v.count (v.count +ℤ change) n (ap (λ z. v.count +ℤ z) at) v_within
+            (refs (state_after setup (e ∷ t)) f - refs (state_after setup t) f)
+            (sym (ap count_in shown_now) ∙ count_changes setup setting f k t e made v is pinned
+            ∙ ap (λ o. count_in o +ℤ (pos (refs (state_after setup (e ∷ t)) f) -ℤ pos (refs (state_after setup t) f))) shown_then
+            ∙ ap (λ z. v.count +ℤ z) (rises_by (refs (state_after setup t) f) (refs (state_after setup (e ∷ t)) f) (no_fall none))))
+
+    ok_dated : stamp_in (now k) ≡ max v.stamp (drawn_by setup (e ∷ t) e.core f)
+    ok_dated = by begins_now refl ∙ ap (max v.stamp) (sym (drawn_is ∙ ap (λ o. drawn o begins_now) decides))
+      where
+        by : (b : Bool) → begins_now ≡ b → stamp_in (now k) ≡ max v.stamp (if begins_now then e.found else 0)
+        by true at = begun_stamp at ∙ ap (λ b. max v.stamp (if b then e.found else 0)) (sym at)
+        by false at = unbegun_stamp at ∙ ap (λ b. max v.stamp (if b then e.found else 0)) (sym at)
+
+  abbrev Dated : Trace → Type 0
+  Dated u = stamp_in (settled_shows setup setting f u k) ≡ max v.stamp (drawn_by setup u e.core f)
+
+  pub dated_own : (shows setup setting f t k ≡ Some v → is_carried_out p ≡ true → Dated t)
+      → is_carried_out (phase (e ∷ t) e.core) ≡ true → Dated (e ∷ t)
+  dated_own rest carried = by e.decides refl later_on.legal.1.decides
+    where
       now_is : phase (e ∷ t) e.core ≡ after_decide e.decides p
-      now_is = phase_is setup setting f (counter_of 0) t e made mark
+      now_is = phase_now setup setting f k t e made v pinned is
 
-      entered : after_enter e.enters p ≡ p
-      entered = entered_is setup setting f (counter_of 0) t e made mark
+      by_reply : (r : Reply) → e.decides ≡ Some r → DecidesBy setup t e r (after_enter e.enters p) → is_carried_out (Decided (Retype 0 0 frame_kind.User) r) ≡ true
+          → Dated (e ∷ t)
+      by_reply (reply.Ok x) decides may ok = ok_dated x decides may
+      by_reply r decides may ok = absurd (false≢true ok)
 
-      abbrev begun : Bool
-      begun = begins_at setup t e (FrameOf f)
+      any_call : (call other : Call) (r : Reply) → is_carried_out (Decided call r) ≡ is_carried_out (Decided other r)
+      any_call call other (reply.Ok x) = refl
+      any_call call other r = refl
 
-      abbrev drawn : Option Reply → Bool → ℕ
-      drawn o b = if is_some o then (if b then e.found else 0) else drawn_by setup t e.core f
+      by : (o : Option Reply) → e.decides ≡ o → MayDecide setup t e o (after_enter e.enters p) → Dated (e ∷ t)
+      by None none may =
+          let before_it : is_carried_out p ≡ true = sym (ap is_carried_out (now_is ∙ ap (λ o. after_decide o p) none)) ∙ carried in
+          ap stamp_in (settled_own setup setting f k t e made v pinned is none before_it)
+          ∙ rest (showed_own setup setting f k t e made v pinned is none before_it) before_it
+          ∙ ap (max v.stamp) (sym (drawn_is ∙ ap (λ o. drawn o begins_now) none))
+      by (Some r) decides may = by_reply r decides may (any_call (Retype 0 0 frame_kind.User) may.call r
+          ∙ sym (ap is_carried_out (now_is ∙ ap (λ o. after_decide o p) decides
+          ∙ ap (after_decide (Some r)) (sym entered ∙ may.is_open))) ∙ carried)
 
-      drawn_is : drawn_by setup (e ∷ t) e.core f ≡ drawn e.decides begun
-      drawn_is =
-          ap (λ b. if b && is_some e.decides then (if begun then e.found else 0) else drawn_by setup t e.core f)
-          (eq-eqb e.core e.core refl)
+-- The count that a carried out call has acquired settles to the later stamp of what it shows and what was drawn.
+dated_along : (setup : Setting) (setting : IsSetting setup) (f k d : ℕ) (v : CountWord) → v.hold ≡ Pinned d → (t : Trace)
+    → IsMade setup t → shows setup setting f t k ≡ Some v → is_carried_out (phase t d) ≡ true
+    → stamp_in (settled_shows setup setting f t k) ≡ max v.stamp (drawn_by setup t d f)
+dated_along setup setting f k d v pinned [] made is carried = absurd (false≢true carried)
+dated_along setup setting f k d v pinned (e ∷ t) made is carried = elim (cases_eq d e.core) [
+  | inl own ↦ subst (λ (c : ℕ). stamp_in (settled_shows setup setting f (e ∷ t) k) ≡ max v.stamp (drawn_by setup (e ∷ t) c f)) (sym own)
+      (dated_own setup setting f k t e made v (pinned ∙ ap Pinned own) is
+      (λ before was. subst (λ (c : ℕ). stamp_in (settled_shows setup setting f t k) ≡ max v.stamp (drawn_by setup t c f)) own
+      (dated_along setup setting f k d v pinned t made.0 before (ap (λ (c : ℕ). is_carried_out (phase t c)) own ∙ was)))
+      (sym (ap (λ (c : ℕ). is_carried_out (phase (e ∷ t) c)) own) ∙ carried))
+  | inr other ↦
+      ap stamp_in (settled_other setup setting f k d v pinned t e made is other)
+      ∙ dated_along setup setting f k d v pinned t made.0 (showed setup setting f k d v pinned t e made is other)
+      (sym (ap is_carried_out (phase-other d e t other)) ∙ carried)
+      ∙ ap (max v.stamp) (sym (ap (λ b. if b && is_some e.decides then (if begins_at setup t e (FrameOf f) then e.found else 0) else
+      drawn_by setup t d f) (ne_eqb d e.core other)))
+]
 
-      -- what it told before
-      newest_before : has_cleared f p ≡ false → dated (is_carried_out p) (shown t) (drawn_by setup t e.core f) ≡ newest t
-      newest_before not = elim (kept setup setting f (counter_of 0) t e made mark) [
-        | inl same ↦ (told e.core (still_marked setup setting f (counter_of 0) t e made mark same)).newest not
-        | inr takes ↦
-            ap (λ b. dated b (shown t) (drawn_by setup t e.core f)) (ap is_carried_out takes.is_open)
-            ∙ free_newest t made.0 (ap count_mark takes.found)
-      ]
-
-      cleared_before : has_cleared f p ≡ true → newest t ≡ 0
-      cleared_before is = elim (kept setup setting f (counter_of 0) t e made mark) [
-        | inl same ↦ (told e.core (still_marked setup setting f (counter_of 0) t e made mark same)).cleared is
-        | inr takes ↦ absurd (false≢true (sym (ap (has_cleared f) takes.is_open) ∙ is))
-      ]
-
-      -- it decides nothing
-      still : e.decides ≡ None → IsDated setup (e ∷ t) f e.core
-      still none =
-          let same : phase (e ∷ t) e.core ≡ p = now_is ∙ ap (λ o. after_decide o p) none in
-          let stays : newest (e ∷ t) ≡ newest t = stamp-kept setup e t (FrameOf f)
-          (ap (λ o. begins_in o (after_enter e.enters p) (state_before setup t e) e.core (FrameOf f)) none)
-          (ap (λ o. ends_in o (after_enter e.enters p) (FrameOf f)) none) in
-          let draws : drawn_by setup (e ∷ t) e.core f ≡ drawn_by setup t e.core f = drawn_is ∙ ap (λ o. drawn o begun) none in
-          record {
-            newest = λ is.
-                ap (λ (n : ℕ). dated (is_carried_out (phase (e ∷ t) e.core)) n (drawn_by setup (e ∷ t) e.core f)) stamp_same
-                ∙ ap (λ q. dated (is_carried_out q) (shown t) (drawn_by setup (e ∷ t) e.core f)) same
-                ∙ ap (λ (n : ℕ). dated (is_carried_out p) (shown t) n) draws
-                ∙ newest_before (ap (has_cleared f) (sym same) ∙ is) ∙ sym stays;
-            cleared = λ is. stays ∙ cleared_before (ap (has_cleared f) (sym same) ∙ is);
-          }
-
-      -- it decides the call with a reply
-      module _ (call : Call) (is_open : p ≡ Open call) (r : Reply) (decides : e.decides ≡ Some r)
-          (permitted : MayReply (state_before setup t e) e.core call r) where
-        now : phase (e ∷ t) e.core ≡ Decided call r
-        now = now_is ∙ ap (λ o. after_decide o p) decides ∙ ap (after_decide (Some r)) is_open
-
-        open_now : IsOpen (state_before setup t e) (opened (entered_events t e)) e.core
-        open_now = opens setup setting t legal.0 e legal.1 call (entered ∙ is_open)
-
-        stamp_was : shown t ≡ newest t
-        stamp_was =
-            ap (λ q. dated (is_carried_out q) (shown t) (drawn_by setup t e.core f)) (sym is_open)
-            ∙ newest_before (ap (has_cleared f) is_open)
-
-        begins_is : begun ≡ begins (state_before setup t e) e.core call r (FrameOf f)
-        begins_is = ap (λ o. begins_in o (after_enter e.enters p) (state_before setup t e) e.core (FrameOf f)) decides
-            ∙ ap (λ q. begins_in (Some r) q (state_before setup t e) e.core (FrameOf f)) (entered ∙ is_open)
-
-        ends_open : ends_at t e (FrameOf f) ≡ ends call r (FrameOf f)
-        ends_open = ap (λ o. ends_in o (after_enter e.enters p) (FrameOf f)) decides
-            ∙ ap (λ q. ends_in (Some r) q (FrameOf f)) (entered ∙ is_open)
-
-        ends_is : ends_at t e (FrameOf f) ≡ has_cleared f (phase (e ∷ t) e.core)
-        ends_is = ends_open ∙ ends_cleared f call r ∙ sym (ap (has_cleared f) now)
-
-        -- what ends, does not begin
-        not_begun : has_cleared f (phase (e ∷ t) e.core) ≡ true → begun ≡ false
-        not_begun is = begins_is ∙ ends_begins (state_before setup t e) (opened (entered_events t e)) e.core call r (FrameOf f) open_now
-            permitted (sym ends_open ∙ ends_is ∙ is)
-
-        -- what the word will show
-        shows : (b : Bool) → begun ≡ b
-            → dated (is_carried_out (phase (e ∷ t) e.core)) (shown (e ∷ t)) (drawn_by setup (e ∷ t) e.core f)
-            ≡ dated (is_carried_out (Decided call r)) (newest t) (if b then e.found else 0)
-        shows b is =
-            ap (λ (n : ℕ). dated (is_carried_out (phase (e ∷ t) e.core)) n (drawn_by setup (e ∷ t) e.core f)) (stamp_same ∙ stamp_was)
-            ∙ ap (λ q. dated (is_carried_out q) (newest t) (drawn_by setup (e ∷ t) e.core f)) now
-            ∙ ap (λ (n : ℕ). dated (is_carried_out (Decided call r)) (newest t) n)
-            (drawn_is ∙ ap (λ o. drawn o begun) decides ∙ ap (drawn (Some r)) is)
-
-        later_found : begun ≡ true → max (newest t) e.found ≡ e.found
-        later_found is =
-            let past = ((made_stands setup setting t made.0).graces (FrameOf f)).past in
-            let draws = (made_times setup setting t e made).draws (FrameOf f) is in
-            omega (arith, past, draws)
-
-        newest_now : (b : Bool) → begun ≡ b → has_cleared f (phase (e ∷ t) e.core) ≡ false
-            → dated (is_carried_out (phase (e ∷ t) e.core)) (shown (e ∷ t)) (drawn_by setup (e ∷ t) e.core f) ≡ newest (e ∷ t)
-        newest_now true is not =
-            shows true is
-            ∙ ap (λ b. dated b (newest t) e.found)
-            (begins_carries (state_before setup t e) e.core call r (FrameOf f) (sym begins_is ∙ is))
-            ∙ later_found is ∙ sym (stamp-begins setup e t (FrameOf f) is)
-        newest_now false is not =
-            shows false is ∙ dated_none (is_carried_out (Decided call r)) (newest t)
-            ∙ sym (stamp-kept setup e t (FrameOf f) is (ends_is ∙ not))
-
-        decided_dated : IsDated setup (e ∷ t) f e.core
-        decided_dated = record {
-          newest = newest_now begun refl;
-          cleared = λ is. stamp-ends setup e t (FrameOf f) (not_begun is) (ends_is ∙ is);
-        }
-
-      dated_own : IsDated setup (e ∷ t) f e.core
-      dated_own = by e.decides refl legal.1.decides
-        where
-          by : (o : Option Reply) → e.decides ≡ o → MayDecide setup t e o (after_enter e.enters p) → IsDated setup (e ∷ t) f e.core
-          by None is may = still is
-          by (Some r) is may = decided_dated may.call (sym entered ∙ may.is_open) r is may.permitted
-
-  -- after each trace of the machine
-  dated_along : (t : Trace) → IsMade setup t → Dated setup t f
-  dated_along [] made d mark = absurd (false≢true (((made_stands setup setting [] made).marks at d).owned mark))
-  dated_along (e ∷ t) made d mark = elim (cases_eq d e.core) [
-    | inl own ↦ subst (λ (c : ℕ). IsDated setup (e ∷ t) f c) (sym own)
-        (dated_own t e made (dated_along t made.0) (subst (λ (c : ℕ). marked_by setup (e ∷ t) at ≡ Some c) own mark))
-    | inr other ↦ dated_other t e made (dated_along t made.0) d other mark
-  ]
-
--- What a word will show, by what it shows.
+-- The stamp that a word will show is that of what it settles to.
 module _ (setup : Setting) (setting : IsSetting setup) (t : Trace) (made : IsMade setup t) (f : ℕ) where
-  abbrev newest_is : ℕ
-  newest_is = stamp setup t (FrameOf f)
+  abbrev Dates : ℕ → Option CountWord → Type 0
+  Dates k o = will_date setup t f o ≡ stamp_in (settled_shows setup setting f t k)
 
-  with_none : (x : ℕ) → x ≡ newest_is → max x 0 ≡ newest_is
-  with_none x h = last x newest_is h
+  by_word : (k : ℕ) (o : Option CountWord) → shows setup setting f t k ≡ o → Dates k o
+  by_word k None is = sym (ap stamp_in (free_shows setup setting f t k (ap count_mark is) ∙ is))
+  by_word k (Some v) is = by v.hold refl
     where
-      last : (x y : ℕ) → x ≡ y → max x 0 ≡ y
-      last x y h = omega (arith, h)
+      uncleared : (d : ℕ) → v.hold ≡ Pinned d → (b : Bool) → has_cleared f (phase t d) ≡ b → b ≡ false
+      uncleared d hold false at = refl
+      uncleared d hold true at =
+          absurd ((pinned_say setup setting t made f k d v is hold).spares (untypes_cleared f (phase t d) at))
 
-  stored : (cleared carried : Bool) (x drawn : ℕ) → (cleared ≡ false → dated carried x drawn ≡ newest_is)
-      → (cleared ≡ true → newest_is ≡ 0) → (if cleared then 0 else (if carried then max x drawn else x)) ≡ newest_is
-  stored true carried x drawn tells clears = sym (clears refl)
-  stored false true x drawn tells clears = tells refl
-  stored false false x drawn tells clears = tells refl
+      carried_by : (d : ℕ) → v.hold ≡ Pinned d → (b : Bool) → is_carried_out (phase t d) ≡ b
+          → (if b then max v.stamp (drawn_by setup t d f) else v.stamp) ≡ stamp_in (settled_shows setup setting f t k)
+      carried_by d hold true carried = sym (dated_along setup setting f k d v hold t made is carried)
+      carried_by d hold false carried = sym (ap stamp_in (pinned_shows setup setting f t made k d v is hold
+          (holder_below setup setting t made (CountAt f k) d (ap count_mark is ∙ ap hold_mark hold)) carried))
 
-  by_word : (o : Option CountWord) → count_at (last_left setup t) f (counter_of 0) ≡ o → max (will_date setup t f o) 0 ≡ newest_is
-  by_word None is = with_none 0 (ap stamp_in (sym is) ∙ free_newest setup setting f t made (ap count_mark is))
-  by_word (Some v) is = with_none (stamp_then setup t f v.hold v.stamp) (by v.hold refl)
-    where
-      mark : marked_by setup t (counter f) ≡ hold_mark v.hold
-      mark = ap count_mark is
+      frozen_by : (d : ℕ) → v.hold ≡ Closed d → (b : Bool) → is_carried_out (phase t d) ≡ b
+          → (if b then 0 else (if b then max v.stamp (drawn_by setup t d f) else v.stamp)) ≡ stamp_in (settled_shows setup setting f t k)
+      frozen_by d hold b carried = cleared_by b ∙ sym (ap stamp_in (closed_shows setup setting f t made k d v is hold
+          ∙ ap (λ c. Some (cleared_if c v)) carried))
+        where
+          cleared_by : (c : Bool) → (if c then 0 else (if c then max v.stamp (drawn_by setup t d f) else v.stamp)) ≡ stamp_in (Some (cleared_if c v))
+          cleared_by true = refl
+          cleared_by false = refl
 
-      held : (d : ℕ) → marked_by setup t (counter f) ≡ Some d → once_stored setup t f d v.stamp ≡ newest_is
-      held d by_core =
-          let told = dated_along setup setting f t made d by_core in
-          stored (has_cleared f (phase t d)) (is_carried_out (phase t d)) v.stamp (drawn_by setup t d f)
-          (λ not. ap (λ o. dated (is_carried_out (phase t d)) (stamp_in o) (drawn_by setup t d f)) (sym is) ∙ told.newest not) told.cleared
+      by : (h : Hold) → v.hold ≡ h → stamp_then setup t f h v.stamp ≡ stamp_in (settled_shows setup setting f t k)
+      by Unheld hold = sym (ap stamp_in (free_shows setup setting f t k (ap count_mark is ∙ ap hold_mark hold) ∙ is))
+      by (Pinned d) hold =
+          ap (λ b. if b then 0 else (if is_carried_out (phase t d) then max v.stamp (drawn_by setup t d f) else v.stamp))
+          (uncleared d hold (has_cleared f (phase t d)) refl)
+          ∙ carried_by d hold (is_carried_out (phase t d)) refl
+      by (Closed d) hold =
+          ap (λ b. if b then 0 else (if is_carried_out (phase t d) then max v.stamp (drawn_by setup t d f) else v.stamp))
+          (cleared_is f (phase t d) (frozen_say setup setting t made f k d v is hold))
+          ∙ frozen_by d hold (is_carried_out (phase t d)) refl
 
-      by : (h : Hold) → v.hold ≡ h → stamp_then setup t f h v.stamp ≡ newest_is
-      by Unheld hold = ap stamp_in (sym is) ∙ free_newest setup setting f t made (mark ∙ ap hold_mark hold)
-      by (Pinned d) hold = held d (mark ∙ ap hold_mark hold)
-      by (Closed d) hold = held d (mark ∙ ap hold_mark hold)
+  newest_tells : (ks : List ℕ) → newest_then setup t f ks ≡ newest_of (settled_shows setup setting f t) ks
+  newest_tells [] = refl
+  newest_tells (k ∷ ks) = ap (λ (n : ℕ). max n (newest_then setup t f ks)) (by_word k (shows setup setting f t k) refl)
+      ∙ ap (max (stamp_in (settled_shows setup setting f t k))) (newest_tells ks)
 
 pub stamps_tell : (setup : Setting) → IsSetting setup → (t : Trace) → IsMade setup t → StampsTell setup t
-stamps_tell setup setting t made f = by_word setup setting t made f (count_at (last_left setup t) f (counter_of 0)) refl
+stamps_tell setup setting t made f = newest_tells setup setting t made f (counters setup.cores)
+    ∙ ap (λ l. newest_of (settled_shows setup setting f t) (counters l.cores)) (sym (limits_of setup t))
+    ∙ ((made_stands setup setting t made).sums f).newest

@@ -2,10 +2,10 @@
 -- that it reads and goes on from, and that says that something is held, is of no node.
 use Rattle.time_laws.proofs.Common.{◌≡◌, ℕ, ℤ, ◌+◌, nat_le, Bool, true, false, List, [], ◌∷◌, length, slice_get, Option, Some, None, refl}
 use Rattle.time_laws.proofs.Common.{sym, ◌∙◌, ap, subst, false≢true, Capability, Setting, Call, Retype, Obj, Reply, StageEnd, entry_of_word}
-use Rattle.time_laws.proofs.Common.{frame_of_word, FrameWord, Word, EntryAt, FrameAt, word_of, Frame, Untyped, User, Kernel, Object, Blank}
+use Rattle.time_laws.proofs.Common.{frame_of_word, FrameWord, Word, EntryAt, FrameAt, word_of, Frame, Untyped, User, Kernel, Blank}
 use Rattle.time_laws.proofs.Common.{Table, Leaf, Pages, Pleaf, Comp, Thread, Tcap, is_node, frame_value, Trace, Open, phase, state_after}
 use Rattle.time_laws.proofs.Common.{last_left, open_inj, end_of_frames, shown_in, Pin, AtLoad, AtCore, AtFlush, end_by, swept_of, Sweep}
-use Rattle.time_laws.proofs.Common.{SweepAt, Compare, Empty, Swept, dues, next_work, took_sweep, release_of, Own, UntypingAt, Untyping}
+use Rattle.time_laws.proofs.Common.{SweepAt, Compare, Empty, Swept, dues, took_sweep, release_of, Own, UntypingAt, Untyping}
 use Rattle.time_laws.proofs.Common.{Untype, Due, Work, Lookup, Read, Scan, Acquire, Act, absorbed, absorbed_in, core_after, told_by}
 use Rattle.time_laws.proofs.Common.{told_in}
 use Rattle.time_laws.proofs.Common.{landed, stage_move, Core, ActiveCall, Stage, Enter, Undecided, Decided, Leave, holds_untyping, Holding}
@@ -13,7 +13,6 @@ use Rattle.time_laws.proofs.Common.{holds_counts, settled, settled_by, Invariant
 use Rattle.time_laws.proofs.Common.{phase_at, untypes, KnowsSweep, KnowsUntypingAt, UntypesBy}
 use Rattle.time_laws.specs.spk_nums.specs.declared.kinds.FrameKind.TheVariants as frame_kind
 use Rattle.time_laws.specs.spk_nums.specs.declared.kinds.Obj.TheVariants as obj
-use Rattle.time_laws.specs.spk_nums.specs.declared.replies.Reply.TheVariants as reply
 use Rattle.time_laws.specs.spk_nums.specs.declared.steps.StageEnd.TheVariants as ends
 use Rattle.time_laws.specs.entry_words.specs.declared.entry.Entry.TheVariants as entry
 use Rattle.time_laws.specs.stage_look.specs.Shown.{entry_within, held_if}

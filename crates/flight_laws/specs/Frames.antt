@@ -10,7 +10,6 @@ use Rattle.time_laws.specs.entry_words.specs.EntryWord.{entry_of_word}
 use Rattle.time_laws.specs.entry_words.specs.declared.entry.Entry.{Entry}
 use Rattle.time_laws.specs.entry_words.specs.declared.entry.Entry.TheVariants.{Held}
 use Rattle.time_laws.specs.word_map.specs.Word.{EntryAt, CountAt}
-use Rattle.time_laws.specs.word_map.specs.Places.{counter_of}
 use Rattle.time_laws.specs.kernel_rules.specs.State.{FrameOf, State}
 use Rattle.time_laws.specs.kernel_rules.specs.References.{refs}
 use Rattle.time_laws.specs.kernel_rules.specs.Relies.{is_node}
@@ -38,7 +37,7 @@ UntypedFramesAreUnused setup t e = (f : ℕ) → MakesUntyped t e f → IsUnused
 -- While a core holds a count of a frame, no other makes the frame untyped.
 abbrev pub CountedFramesStay : Setting → Trace → Step → Type 0
 CountedFramesStay setup t e = (f : ℕ) → MakesUntyped t e f → (d : ℕ) → d < setup.cores
-    → (c : ℕ) → marked_by setup t (CountAt f (counter_of d)) ≡ Some c → c ≡ e.core
+    → (c : ℕ) → marked_by setup t (CountAt f d) ≡ Some c → c ≡ e.core
 
 -- The call of core c goes on through the steps u after t: it does not return, and does not itself make the frame untyped.
 abbrev pub GoesOn : Trace → Trace → ℕ → ℕ → Type 0

@@ -1,12 +1,11 @@
 -- The translations that cores have cached.
-use Rattle.std.specs.Prelude.{◌≡◌, ◌<◌, ◌++◌, ℕ, false, List, [], ◌∷◌, Some}
+use Rattle.std.specs.Prelude.{◌≡◌, ◌<◌, ◌++◌, ℕ, false, [], ◌∷◌, Some}
 use Rattle.std.specs.List.{AllByRecursion}
 use Rattle.time_laws.specs.spk_nums.specs.Setting.{Setting}
 use Rattle.time_laws.specs.spk_nums.specs.declared.calls.Call.TheVariants.{Touch}
 use Rattle.time_laws.specs.spk_nums.specs.declared.kinds.PageFlags.{PageFlags}
 use Rattle.time_laws.specs.spk_nums.specs.declared.replies.Reply.TheVariants.{Ok}
 use Rattle.time_laws.specs.spk_nums.specs.declared.replies.Value.TheVariants.{Page}
-use Rattle.time_laws.specs.spk_nums.specs.declared.translations.Translation.{Translation}
 use Rattle.time_laws.specs.kernel_rules.specs.State.{User, State, comp_of}
 use Rattle.time_laws.specs.state_laws.specs.Cached.{Stands, Begins, Answers}
 use Rattle.time_laws.specs.kernel_history.specs.Stamps.{flushes_at}

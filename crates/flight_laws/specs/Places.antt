@@ -12,7 +12,7 @@ use Rattle.time_laws.specs.word_map.specs.Moves.{word_of}
 use Rattle.time_laws.specs.kernel_rules.specs.State.{Thing, State}
 use Rattle.time_laws.specs.kernel_rules.specs.Access.{Slot, usable}
 use Rattle.time_laws.specs.kernel_rules.specs.Relies.{is_node, Relies}
-use Rattle.time_laws.specs.kernel_history.specs.Trace.{Step, Trace, Open, phase, state_after, own_read}
+use Rattle.time_laws.specs.kernel_history.specs.Trace.{Trace, Open, phase, state_after, own_read}
 use Rattle.time_laws.specs.kernel_history.specs.Stamps.{stamp, clock}
 
 -- Core c may use this capability at a slot: the place holds it, or it is quiescing, held it, and c is among those for whom it waits.

@@ -1,24 +1,21 @@
 -- Where a sweep goes on when its counters are frozen and its scans are over: its object is looked at, or, where it has none, its draw
 -- comes.
-use Rattle.scan_invariant.proofs.Common.{◌≡◌, ◌≢◌, ℕ, ◌+◌, ◌<◌, ◌≤◌, ◌==◌, ◌++◌, map, length, Bool, true, false, List, [], ◌∷◌, Option}
-use Rattle.scan_invariant.proofs.Common.{Some, None, arith, refl, sym, ◌∙◌, ap, subst, eqb-true, false≢true, Setting, Capability, Obj}
-use Rattle.scan_invariant.proofs.Common.{CountWord, FrameWord, Object, Blank, Table, Leaf, Pages, Pleaf, Comp, Thread, Tcap, Frame}
+use Rattle.scan_invariant.proofs.Common.{◌≡◌, ℕ, ◌==◌, ◌++◌, map, length, Bool, true, false, List, [], Option}
+use Rattle.scan_invariant.proofs.Common.{Some, None, arith, refl, sym, ◌∙◌, ap, subst, eqb-true, Setting, Obj}
+use Rattle.scan_invariant.proofs.Common.{CountWord, FrameWord, Blank, Table, Leaf, Pages, Pleaf, Comp, Thread, Tcap, Frame}
 use Rattle.scan_invariant.proofs.Common.{Untyped, User, Kernel, State, frame_names, frame_value, Trace, state_after, Acquired, loads_of}
-use Rattle.scan_invariant.proofs.Common.{at_after, empty_next, end_by, swept_of, Owned, Sweep, SweepAt, Empty, Swept, dues, next_work}
+use Rattle.scan_invariant.proofs.Common.{at_after, empty_next, end_by, swept_of, Owned, Sweep, SweepAt, Empty, Swept, next_work}
 use Rattle.scan_invariant.proofs.Common.{took_sweep, OwnedBy, released_dues, release_of, Untyping, Draw, Work, Act, WorkStep, Goes}
 use Rattle.scan_invariant.proofs.Common.{ActiveCall, Undecided, holds_release, Holding, AreDuesApart, due_of, KnowsWork, holds_work}
-use Rattle.scan_invariant.proofs.Common.{AreKept, IsLookedAt, KnowsSwept, KnowsUntyping, SaysTyped, UntypesBy, names_of}
+use Rattle.scan_invariant.proofs.Common.{AreKept, IsLookedAt, KnowsSwept, SaysTyped, UntypesBy, names_of}
 use Rattle.std.specs.Prelude.{if◌then◌else◌}
 use Rattle.scan_invariant.specs.spk_nums.specs.declared.kinds.Obj.TheVariants as obj
 use Rattle.scan_invariant.specs.act_states.specs.Untypings.{owned_dues}
-use Rattle.scan_invariant.specs.act_states.specs.declared.untypings.UntypingAt.TheVariants.{Sweep as sweep_at}
-use Rattle.scan_invariant.specs.act_states.specs.declared.work.Act.{Act as ActOf}
 use Rattle.scan_invariant.specs.act_states.specs.declared.work.Act.TheVariants.{Untype as untype_act}
 use Rattle.scan_invariant.specs.step_ways.proofs.Loads.{next_at}
 use Rattle.scan_invariant.specs.core_invariant.specs.Sweeps.{IsSwept}
 use Rattle.scan_invariant.specs.count_invariant.proofs.Acquiring.{knows_next, next_holds}
 use Rattle.freeze_invariant.proofs.Counters.{sweeping, untyping_by}
-use Rattle.freeze_invariant.proofs.UntypeCalls.{untypes_on}
 
 -- Before its first word was looked at nothing is known of an object.
 pub looked_none : (s : State) (f : ℕ) (x : Frame) (o : Owned) → IsLookedAt s f x 0 o

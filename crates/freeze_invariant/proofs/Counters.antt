@@ -1,42 +1,39 @@
 -- The steps by which a call that makes a frame untyped freezes its counters: the load, which finds another core's mark or a count that no
 -- core holds; and the compare, which is lost to another core or freezes the counter. After the last, references refuse the call, or the
 -- scan begins.
-use Rattle.scan_invariant.proofs.Common.{min, All, ◌≡◌, ◌≢◌, inl, inr, ℕ, ℤ, pos, negsuc, ◌+ℤ◌, ◌+◌, ◌^◌, ◌<◌, ◌≤◌, ◌==◌, ◌++◌, map, max}
-use Rattle.scan_invariant.proofs.Common.{nat_lt, length, slice_get, Bool, true, false, List, [], ◌∷◌, Option, Some, None, IsTrue, arith}
-use Rattle.scan_invariant.proofs.Common.{refl, sym, ◌∙◌, ap, subst, eqb-true, eqb-false, eq-eqb, false≢true, ltb-true, ltb-false, All-nil}
-use Rattle.scan_invariant.proofs.Common.{All-cons, Setting, IsSetting, left_if, Reply, StageEnd, CountFits, word_of_count, count_of_word}
-use Rattle.scan_invariant.proofs.Common.{CountWord, FrameWord, Word, EntryAt, FrameAt, CountAt, ClockAt, same_word, Move, LoadOf}
-use Rattle.scan_invariant.proofs.Common.{CompareOf, word_of, left_of, Shape, State, FrameOf, refs, put_same, count_mark, marked_by}
-use Rattle.scan_invariant.proofs.Common.{frame_value, stamp, Step, Trace, state_after, last_left, same_word-other, own_read-here, unheld}
+use Rattle.scan_invariant.proofs.Common.{All, ◌≡◌, ◌≢◌, inl, ℕ, ℤ, ◌<◌, ◌≤◌}
+use Rattle.scan_invariant.proofs.Common.{length, slice_get, Bool, true, false, List, [], ◌∷◌, Option, Some, None, IsTrue, arith}
+use Rattle.scan_invariant.proofs.Common.{refl, sym, ◌∙◌, ap, subst, eq-eqb, All-nil}
+use Rattle.scan_invariant.proofs.Common.{Setting, IsSetting, count_of_word}
+use Rattle.scan_invariant.proofs.Common.{CountWord, FrameWord, Word, CountAt, Move, LoadOf}
+use Rattle.scan_invariant.proofs.Common.{word_of, State, FrameOf, refs, count_mark, marked_by}
+use Rattle.scan_invariant.proofs.Common.{frame_value, stamp, Step, Trace, state_after, last_left, own_read-here, unheld}
 use Rattle.scan_invariant.proofs.Common.{Acquired, counters_of, latest_stamp, at_after, end_by, swept_of, thaw_of, Owned, Sweep, SweepAt}
-use Rattle.scan_invariant.proofs.Common.{Compare, Empty, Swept, took_sweep, release_of, untyping_dues, Untyping, Draw, Tail, Act, Goes}
+use Rattle.scan_invariant.proofs.Common.{Compare, Swept, took_sweep, release_of, Untyping, Tail, Act, Goes}
 use Rattle.scan_invariant.proofs.Common.{Refuses, Undecided, ActiveCall, landed, Core, holds_release, holds_thaw, is_frozen, Holding}
-use Rattle.scan_invariant.proofs.Common.{holds_counts, settled_by, settled, due_of, KnowsTail, KnowsUndecided, holds, holds_in}
-use Rattle.scan_invariant.proofs.Common.{holds_tail, held_by, Invariant, AreFrozen, AreKept, KnowsSweep, KnowsUntyping, SaysTyped}
-use Rattle.scan_invariant.proofs.Common.{ThawsFrame, SaysCount, count_room, as_none, counts_bare, names_on, counts_on, thaws_own}
-use Rattle.scan_invariant.proofs.Common.{HoldsSwept, release_swept, counts_references, IsNearIn}
+use Rattle.scan_invariant.proofs.Common.{holds_counts, settled_by, settled, KnowsTail, KnowsUndecided, holds, holds_in}
+use Rattle.scan_invariant.proofs.Common.{held_by, Invariant, AreFrozen, KnowsSweep}
+use Rattle.scan_invariant.proofs.Common.{ThawsFrame, SaysCount, count_room, names_on, thaws_own}
+use Rattle.scan_invariant.proofs.Common.{HoldsSwept, release_swept, IsNearIn}
 use Rattle.std.specs.Prelude.{if◌then◌else◌}
-use Rattle.std.proofs.Common.{lt-ltb}
-use Rattle.std.proofs.lemmas.Int.{ints}
-use Rattle.scan_invariant.specs.spk_nums.specs.declared.replies.Reply.TheVariants as reply
 use Rattle.scan_invariant.specs.frame_words.specs.declared.count_word.Hold.{Hold}
 use Rattle.scan_invariant.specs.frame_words.specs.declared.count_word.Hold.TheVariants as hold
 use Rattle.scan_invariant.specs.frame_words.proofs.CountLemmas as counts
-use Rattle.scan_invariant.specs.kernel_history.proofs.Names.{same_word-same}
-use Rattle.scan_invariant.specs.stage_sweep.specs.Counters.{sum_of_counts}
-use Rattle.scan_invariant.specs.stage_sweep.specs.Freeze.{frozen, load_refuses, load_next, hold_refuses}
-use Rattle.scan_invariant.specs.stage_sweep.specs.declared.sweep.SweepAt.TheVariants.{Load as sweep_load, Scan}
+use Rattle.scan_invariant.specs.stage_sweep.specs.Freeze.{load_refuses, load_next}
+use Rattle.scan_invariant.specs.stage_sweep.specs.declared.sweep.SweepAt.TheVariants.{Load as sweep_load}
 use Rattle.scan_invariant.specs.act_states.specs.declared.refusals.Refusal.TheVariants as refusal
-use Rattle.scan_invariant.specs.act_states.specs.declared.untypings.Release.{Release}
 use Rattle.scan_invariant.specs.act_states.specs.declared.untypings.UntypingAt.TheVariants.{Sweep as sweep_at}
 use Rattle.scan_invariant.specs.act_states.specs.declared.work.Act.TheVariants.{Untype as untype_act}
 use Rattle.scan_invariant.specs.act_states.specs.declared.work.Tail.TheVariants.{Release as release_tail}
-use Rattle.scan_invariant.specs.core_invariant.specs.Sweeps.{HasReadCount, KnowsRelease}
+use Rattle.scan_invariant.specs.core_invariant.specs.Sweeps.{HasReadCount}
 use Rattle.scan_invariant.specs.core_invariant.proofs.Freezing.{SameAt, IsFrozenWord, frozen_word, thaw_all, thaw_from}
-use Rattle.scan_invariant.specs.core_invariant.proofs.Freezing.{release_bare}
-use Rattle.scan_invariant.specs.kept_facts.proofs.Swept.{frame_says, no_refs, stamp_is}
-use Rattle.scan_invariant.specs.step_ways.proofs.Loads.{IsOfCall, OnlyLooks, step_to, next_at, core_in_call, inner, call_is, loads_on}
-use Rattle.scan_invariant.specs.step_ways.proofs.Refusals.{GoodTook, ticks_at, raced_leaving, busy_leaving}
+use Rattle.scan_invariant.specs.kernel_history.specs.BootWords.{shape_of}
+use Rattle.scan_invariant.specs.kernel_history.specs.Counts.{counters}
+use Rattle.scan_invariant.specs.core_invariant.specs.Invariant.{count_shown}
+use Rattle.scan_invariant.specs.kept_facts.proofs.FrozenSums.{counters_length}
+use Rattle.scan_invariant.specs.kept_facts.proofs.Swept.{frame_says, kept_shows, no_refs, stamp_is}
+use Rattle.scan_invariant.specs.step_ways.proofs.Loads.{OnlyLooks, step_to, loads_on}
+use Rattle.scan_invariant.specs.step_ways.proofs.Refusals.{GoodTook, ticks_at, busy_leaving}
 use Rattle.freeze_invariant.proofs.UntypeCalls as calls
 use Rattle.freeze_invariant.proofs.UntypeCalls.{IsUntype, untypes_on}
 use Rattle.scan_invariant.specs.core_invariant.specs.Frozen.{thawed}
@@ -69,6 +66,11 @@ thaw_past w clear h d past =
         let same : d ≡ word.d = same_count w.frame d w.frame word.d word.word in
         let below = word.below in
         absurd (omega (arith, past, same, below))
+
+-- A frame has a counter for each of the list.
+pub counters_number : (setup : Setting) → counters_of (shape_of setup) ≡ length (counters setup.cores)
+unfolding counters_of
+counters_number setup = sym (counters_length setup.cores)
 
 -- A sweep with these parts stands here.
 abbrev pub sweeping : ℕ → FrameWord → ℕ → List CountWord → Owned → SweepAt → Sweep
@@ -145,6 +147,11 @@ module _ (setup : Setting) (setting : IsSetting setup) (cores : ℕ → Core) (t
     where
       same_value : (x y : FrameWord) → Some x ≡ Some y → x ≡ y
       same_value x y h = cc
+
+  -- each counter that it has frozen shows what was found there
+  pub sweep_shows : (d : ℕ) (v : CountWord) → slice_get w.kept d ≡ Some v
+      → count_shown setup (held_by cores) t f d ≡ Some (unheld v.count v.stamp)
+  sweep_shows = kept_shows setup cores t stands c f word w.kept (holds (cores c)) sweep_settles sweep_holds sweep_knows.kept
 
   -- where all counters are frozen nothing refers to the frame, and their latest stamp is the frame's
   pub sweep_refs : AreFrozen setup.cores w.kept → refs (state_after setup t) f ≡ 0

@@ -1,20 +1,20 @@
 -- The step of a retype to untyped that scans a core's word: it is refused where the core may still use the frame.
-use Rattle.scan_invariant.proofs.Common.{list_any, ◌≡◌, ◌≢◌, ◌⊎◌, inl, inr, ℕ, ◌+◌, ◌<◌, ◌≤◌, ◌==◌, ◌&&◌, ◌||◌, nat_lt, nat_le, length}
-use Rattle.scan_invariant.proofs.Common.{Bool, true, false, List, [], ◌∷◌, Option, Some, None, IsTrue, arith, refl, sym, ◌∙◌, ap, subst}
-use Rattle.scan_invariant.proofs.Common.{cases_eq, eq-eqb, eqb-true, false≢true, ltb-true, ltb-false, leb-true, leb-false, Setting}
-use Rattle.scan_invariant.proofs.Common.{IsSetting, Call, Reply, core_of_word, flush_of_word, CoreWord, FlushWord, CountWord, FrameWord}
-use Rattle.scan_invariant.proofs.Common.{CoreAt, FlushAt, same_word, Move, LoadOf, State, Thing, FrameOf, is_untyped, same_thing}
-use Rattle.scan_invariant.proofs.Common.{is_translated, lowest, unflushed_by, MayWait, MayBeUnflushed, Refused, rule_of, change_of}
-use Rattle.scan_invariant.proofs.Common.{IsAlone, IsRemoved, IsWaiting, IsUnflushed, frame_value, awaits_flushes, exit_of, flush_of}
-use Rattle.scan_invariant.proofs.Common.{flush_stored, stamp, Step, Trace, Out, Open, phase, state_after, last_left, asked_of, waited_in}
-use Rattle.scan_invariant.proofs.Common.{flushed_in, refused_first, nobody_waits, awaits_are, was_at_once, not_inside, out_passed}
+use Rattle.scan_invariant.proofs.Common.{list_any, ◌≡◌, ◌≢◌, ◌⊎◌, inl, inr, ℕ, ◌<◌, ◌≤◌, ◌&&◌, ◌||◌, nat_lt, nat_le}
+use Rattle.scan_invariant.proofs.Common.{Bool, true, false, List, ◌∷◌, Option, Some, None, IsTrue, arith, refl, sym, ◌∙◌, ap, subst}
+use Rattle.scan_invariant.proofs.Common.{eq-eqb, ltb-false, leb-true, leb-false, Setting}
+use Rattle.scan_invariant.proofs.Common.{IsSetting, Reply, core_of_word, CountWord, FrameWord}
+use Rattle.scan_invariant.proofs.Common.{CoreAt, Move, LoadOf, State, Thing, FrameOf, same_thing}
+use Rattle.scan_invariant.proofs.Common.{MayWait, rule_of}
+use Rattle.scan_invariant.proofs.Common.{IsRemoved, IsWaiting, exit_of}
+use Rattle.scan_invariant.proofs.Common.{stamp, Step, Trace, state_after, last_left, asked_of, waited_in}
+use Rattle.scan_invariant.proofs.Common.{was_at_once, not_inside, out_passed}
 use Rattle.scan_invariant.proofs.Common.{later_passed, may_wait, own_pages, Quiet, AtCore, AtFlush, next_other, core_scan, flush_scan}
-use Rattle.scan_invariant.proofs.Common.{core_refuses, flush_refuses, scan_end, scan_after, quiet_next, quiet_end, quiet_after}
-use Rattle.scan_invariant.proofs.Common.{latest_stamp, may_be_cached, refusal_of, scan_goes, empty_next, at_after, end_by, swept_of}
-use Rattle.scan_invariant.proofs.Common.{Owned, Sweep, SweepAt, Empty, took_sweep, release_of, UntypingFits, Untyping, Work, Act}
-use Rattle.scan_invariant.proofs.Common.{WorkStep, Goes, Refuses, Undecided, ActiveCall, landed, Core, holds_release, Holding}
-use Rattle.scan_invariant.proofs.Common.{holds_counts, KnowsUndecided, KnowsWork, holds_in, holds_work, Invariant, AreFrozen, IsQuiet}
-use Rattle.scan_invariant.proofs.Common.{IsScanning, KnowsSweep, KnowsSweepScan, names_on, quiet_frame_on, limits_of}
+use Rattle.scan_invariant.proofs.Common.{core_refuses, scan_end, scan_after, quiet_next}
+use Rattle.scan_invariant.proofs.Common.{refusal_of, scan_goes, at_after, end_by, swept_of}
+use Rattle.scan_invariant.proofs.Common.{Owned, Sweep, took_sweep, release_of, UntypingFits, Untyping, Act}
+use Rattle.scan_invariant.proofs.Common.{Refuses, Undecided, ActiveCall, landed, Core}
+use Rattle.scan_invariant.proofs.Common.{KnowsUndecided, Invariant, IsQuiet}
+use Rattle.scan_invariant.proofs.Common.{IsScanning, KnowsSweep, limits_of}
 use Rattle.std.specs.Prelude.{if◌then◌else◌}
 use Rattle.scan_invariant.specs.spk_nums.specs.declared.replies.Reply.TheVariants as reply
 use Rattle.scan_invariant.specs.plan_ways.proofs.Ways.{asked_left}
@@ -22,16 +22,13 @@ use Rattle.scan_invariant.specs.stage_sweep.specs.declared.sweep.SweepAt.TheVari
 use Rattle.scan_invariant.specs.act_states.specs.declared.work.Act.TheVariants.{Untype as untype_act}
 use Rattle.scan_invariant.specs.act_states.specs.declared.refusals.Refusal.TheVariants as refusal
 use Rattle.scan_invariant.specs.act_states.specs.declared.work.Tail.TheVariants.{Release as release_tail}
-use Rattle.scan_invariant.specs.step_ways.proofs.Loads.{OnlyLooks, step_to, next_at, inner, loads_on, decides_with}
+use Rattle.scan_invariant.specs.step_ways.proofs.Loads.{OnlyLooks, inner, decides_with}
 use Rattle.scan_invariant.specs.step_ways.proofs.Refusals.{GoodTook}
-use Rattle.scan_invariant.proofs.FlushScans.{flush_is_stored, flush_shown, lowest_is, still_unflushed, unflushed_shown}
 use Rattle.scan_invariant.proofs.Scans.{before_next}
-use Rattle.scan_invariant.specs.place_invariant.proofs.Vacancy.{none_waits}
-use Rattle.freeze_invariant.proofs.Counters.{sweeping, untyping_by, sweep_knows, sweep_held, sweep_counts}
-use Rattle.freeze_invariant.proofs.Counters.{sweep_frame, sweep_refs, sweep_since, undo_with, undo_known}
-use Rattle.freeze_invariant.proofs.FrameScans.{all_scanned, scans_on, page_known, known_typed}
-use Rattle.freeze_invariant.proofs.FrameQuiet as quieting
-use Rattle.freeze_invariant.proofs.FrameQuiet.{cached_is, unpaged_frame}
+use Rattle.freeze_invariant.proofs.Counters.{sweeping, untyping_by, sweep_knows, sweep_held}
+use Rattle.freeze_invariant.proofs.Counters.{sweep_since, undo_with, undo_known}
+use Rattle.freeze_invariant.proofs.FrameScans.{all_scanned, scans_on, page_known}
+use Rattle.freeze_invariant.proofs.FrameQuiet.{unpaged_frame}
 use Rattle.freeze_invariant.proofs.UntypeCalls as calls
 use Rattle.freeze_invariant.proofs.UntypeCalls.{untypes_on, typed_is}
 

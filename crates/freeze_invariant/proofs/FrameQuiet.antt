@@ -1,15 +1,14 @@
 -- Who waits for a frame of which all counters are frozen, and where the scan for them begins.
-use Rattle.scan_invariant.proofs.Common.{◌≡◌, ◌≢◌, ℕ, ◌+◌, ◌<◌, ◌≤◌, ◌==◌, ◌++◌, map, length, Bool, true, false, List, [], ◌∷◌, Option}
+use Rattle.scan_invariant.proofs.Common.{◌≡◌, ℕ, ◌<◌, ◌≤◌, ◌==◌, map, Bool, true, false, List, [], Option}
 use Rattle.scan_invariant.proofs.Common.{Some, None, inl, inr, arith, refl, sym, ◌∙◌, ap, subst, eqb-true, eqb-false, false≢true, Setting}
-use Rattle.scan_invariant.proofs.Common.{IsSetting, CountWord, FrameWord, Object, Blank, Table, Leaf, Pages, Pleaf, Comp, Thread, Tcap}
-use Rattle.scan_invariant.proofs.Common.{Frame, Untyped, User, Kernel, FrameOf, State, is_translated, frame_value, clock, stamp, Trace}
+use Rattle.scan_invariant.proofs.Common.{IsSetting, CountWord, FrameWord, Blank, Table, Leaf, Pages, Pleaf, Comp, Thread, Tcap}
+use Rattle.scan_invariant.proofs.Common.{Frame, Untyped, User, Kernel, FrameOf, is_translated, frame_value, clock, stamp, Trace}
 use Rattle.scan_invariant.proofs.Common.{state_after, awaits_are, cases_bool, quiet_scan, Quiet, AtCore, AtFlush, latest_stamp}
-use Rattle.scan_invariant.proofs.Common.{may_be_cached, at_after, empty_next, end_by, swept_of, Owned, Sweep, SweepAt, Empty, took_sweep}
+use Rattle.scan_invariant.proofs.Common.{may_be_cached, at_after, empty_next, end_by, swept_of, Owned, Sweep, SweepAt, took_sweep}
 use Rattle.scan_invariant.proofs.Common.{OwnedBy, release_of, Untyping, Work, Act, WorkStep, Goes, ActiveCall, Undecided, Core}
 use Rattle.scan_invariant.proofs.Common.{holds_release, Holding, due_of, KnowsWork, holds_work, Invariant, AreFrozen, AreKept, IsQuiet}
-use Rattle.scan_invariant.proofs.Common.{IsScanning, KnowsSweepScan, SaysTyped, UntypesBy, core_scan}
+use Rattle.scan_invariant.proofs.Common.{KnowsSweepScan, SaysTyped, UntypesBy, core_scan}
 use Rattle.std.specs.Prelude.{if◌then◌else◌}
-use Rattle.scan_invariant.specs.spk_nums.specs.declared.kinds.FrameKind.TheVariants as kind
 use Rattle.scan_invariant.specs.stage_sweep.specs.Freeze.{scan_next}
 use Rattle.scan_invariant.specs.stage_sweep.specs.declared.sweep.SweepAt.TheVariants.{Scan}
 use Rattle.scan_invariant.specs.act_states.specs.declared.work.Act.TheVariants.{Untype as untype_act}

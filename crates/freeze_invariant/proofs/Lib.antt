@@ -8,6 +8,7 @@ pub mod Marking
 pub mod Counters
 pub mod Continuing
 pub mod FrameQuiet
+pub mod OneMore
 pub mod Freezes
 -- The scans.
 pub mod FrameScans

@@ -1,14 +1,14 @@
 -- The steps by which a call that makes a frame untyped marks its word: the load, which finds another core's mark or a frame that is
 -- untyped, and the compare, which is lost to another core or holds the word for the call.
-use Rattle.scan_invariant.proofs.Common.{◌≡◌, ◌≢◌, inl, inr, ℕ, ◌+◌, ◌^◌, ◌<◌, ◌==◌, ◌&&◌, map, Bool, true, false, List, [], ◌∷◌, Option}
-use Rattle.scan_invariant.proofs.Common.{Some, None, IsTrue, arith, refl, sym, ◌∙◌, ap, subst, eqb-true, eqb-false, eq-eqb, All-nil}
+use Rattle.scan_invariant.proofs.Common.{◌≡◌, ◌≢◌, inl, inr, ℕ, ◌^◌, ◌<◌, ◌==◌, ◌&&◌, Bool, true, false, List, [], Option}
+use Rattle.scan_invariant.proofs.Common.{Some, None, arith, refl, sym, ◌∙◌, ap, subst, eqb-true, eqb-false, eq-eqb, All-nil}
 use Rattle.scan_invariant.proofs.Common.{Setting, IsSetting, left_if, FrameKind, CountFits, FrameFits, word_of_frame, frame_of_word}
-use Rattle.scan_invariant.proofs.Common.{FrameWord, Word, FrameAt, Move, LoadOf, CompareOf, left_of, same_same, Frame, Untyped, User}
+use Rattle.scan_invariant.proofs.Common.{FrameWord, FrameAt, Move, LoadOf, CompareOf, left_of, same_same, Frame, Untyped, User}
 use Rattle.scan_invariant.proofs.Common.{Kernel, State, put, is_frame, is_untyped, put_same, frame_mark, marked_by, frame_value, Step}
 use Rattle.scan_invariant.proofs.Common.{Trace, state_after, last_left, same_word-other, own_read-here, unheld, Acquired, untyping_dues}
-use Rattle.scan_invariant.proofs.Common.{refuse, Untyping, UntypingAt, Draw, Act, Goes, Undecided, ActiveCall, landed, Core, holds_counts}
-use Rattle.scan_invariant.proofs.Common.{settled_by, keeps, due_of, KnowsUndecided, holds, holds_in, held_by, Invariant, KnowsUntyping}
-use Rattle.scan_invariant.proofs.Common.{SaysTyped, as_none, counts_bare, names_on, counts_on, lent_elsewhere}
+use Rattle.scan_invariant.proofs.Common.{refuse, Untyping, Act, Goes, Undecided, ActiveCall, landed, Core, holds_counts}
+use Rattle.scan_invariant.proofs.Common.{settled_by, KnowsUndecided, holds, holds_in, held_by, Invariant, KnowsUntyping}
+use Rattle.scan_invariant.proofs.Common.{as_none, counts_bare, names_on, counts_on, lent_elsewhere}
 use Rattle.std.specs.Prelude.{if◌then◌else◌}
 use Rattle.scan_invariant.specs.spk_nums.specs.declared.kinds.FrameKind.TheVariants as kind
 use Rattle.scan_invariant.specs.spk_nums.specs.declared.replies.Reply.TheVariants as reply

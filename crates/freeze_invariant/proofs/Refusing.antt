@@ -1,12 +1,12 @@
 -- The way in which a call is refused at a step by which its core marks a word: it leaves all as it was but counts the call, and has what it
 -- holds still to store.
-use Rattle.scan_invariant.proofs.Common.{◌≡◌, ◌≢◌, inr, ℕ, ◌+◌, ◌^◌, ◌<◌, ◌≤◌, Bool, true, false, if◌then◌else◌, ◌∷◌, Option, Some, None}
+use Rattle.scan_invariant.proofs.Common.{◌≡◌, ◌≢◌, inr, ℕ, ◌+◌, ◌^◌, ◌<◌, false, if◌then◌else◌, ◌∷◌, Some, None}
 use Rattle.scan_invariant.proofs.Common.{arith, refl, sym, ◌∙◌, ap, subst, Setting, IsSetting, Reply, Word, CountAt, EntryAt, FlushAt}
 use Rattle.scan_invariant.proofs.Common.{ClockAt, same_word, Move, word_of, left_of, Thing, FrameOf, put, alone, MayReply, begins, ends}
 use Rattle.scan_invariant.proofs.Common.{flushes, counted, state_by, calls_counted, put_same, IsAlone, IsJustified, mark_of, marked_by}
 use Rattle.scan_invariant.proofs.Common.{ends_in, flushes_in, Step, Trace, Open, phase, state_after, state_decided_in, last_left}
 use Rattle.scan_invariant.proofs.Common.{decided-inside, last_left-there, Tail, Stage, Decided, ActiveCall, Core, settled_by, settled}
-use Rattle.scan_invariant.proofs.Common.{phase_at, KnowsTail, flushing_in, holds, held_by, times_of, Invariant, AsBefore, IsCalm}
+use Rattle.scan_invariant.proofs.Common.{phase_at, KnowsTail, flushing_in, holds, held_by, Invariant, AsBefore, IsCalm}
 use Rattle.scan_invariant.proofs.Common.{calm_counted, calm_words, counted_rises, none_stored, IsUntimed, plain_begins, plain_exit}
 use Rattle.scan_invariant.proofs.Common.{lent_open, lent_elsewhere, sums_stay, marks_own}
 use Rattle.scan_invariant.specs.kernel_history.specs.Stamps.{begins_in}

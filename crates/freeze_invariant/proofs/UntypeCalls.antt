@@ -1,15 +1,15 @@
 -- What a call that makes a frame untyped knows of its rule: what is left of it after its name, and what refuses it.
-use Rattle.scan_invariant.proofs.Common.{min, ◌≡◌, ◌≢◌, inl, inr, ℕ, ◌+◌, ◌^◌, ◌<◌, ◌≤◌, ◌==◌, ◌&&◌, ◌||◌, ◌++◌, not, map, Bool, true}
-use Rattle.scan_invariant.proofs.Common.{false, List, [], ◌∷◌, Option, Some, None, IsTrue, arith, refl, sym, ◌∙◌, ap, subst, false≢true}
-use Rattle.scan_invariant.proofs.Common.{eq-eqb, Capability, Setting, IsSetting, Call, Retype, FrameKind, Reply, frame_of_word, FrameWord}
-use Rattle.scan_invariant.proofs.Common.{Word, FrameAt, CountAt, Frame, Untyped, User, Kernel, FrameOf, State, found, refs, Cause, Change}
-use Rattle.scan_invariant.proofs.Common.{Does, RuleMay, outcome, unless, first_of, first_cause, waits_of, When, Refused, Found, outside}
+use Rattle.scan_invariant.proofs.Common.{◌≡◌, ◌≢◌, inl, ℕ, ◌^◌, ◌<◌, ◌&&◌, ◌||◌, not, map, Bool, true}
+use Rattle.scan_invariant.proofs.Common.{false, List, [], ◌∷◌, Option, Some, None, IsTrue, refl, sym, ◌∙◌, ap, subst}
+use Rattle.scan_invariant.proofs.Common.{eq-eqb, Capability, Setting, IsSetting, Call, Retype, Reply, frame_of_word, FrameWord}
+use Rattle.scan_invariant.proofs.Common.{FrameAt, Frame, Untyped, User, Kernel, FrameOf, State, found, refs, Cause, Change}
+use Rattle.scan_invariant.proofs.Common.{Does, RuleMay, outcome, unless, first_of, first_cause, waits_of, When, outside}
 use Rattle.scan_invariant.proofs.Common.{is_frame, has_frame, is_untyped, is_empty, retypes, rule_of, change_of, are_calls_spent}
 use Rattle.scan_invariant.proofs.Common.{changes_frames, counts_references, raises_clock, looks_at_frames, frames_near, frame_argument}
 use Rattle.scan_invariant.proofs.Common.{is_one_of, marked_by, frame_value, Trace, Open, phase, state_after, last_left, GoesBy, own_pages}
-use Rattle.scan_invariant.proofs.Common.{rule_after, Leads, LeadsIn, outcome_left, left_may, Acquired, Swept, thaw_of, UntypingFits}
+use Rattle.scan_invariant.proofs.Common.{rule_after, Leads, LeadsIn, outcome_left, left_may, Acquired, UntypingFits}
 use Rattle.scan_invariant.proofs.Common.{untyping_dues, Untyping, UntypingAt, Act, Undecided, ActiveCall, StageFits, HasRoom, Core}
-use Rattle.scan_invariant.proofs.Common.{holds_untyping, Holding, holds_counts, settled_by, due_of, KnowsUndecided, KnowsUnmark, phase_at}
+use Rattle.scan_invariant.proofs.Common.{holds_untyping, holds_counts, settled_by, due_of, KnowsUndecided, KnowsUnmark, phase_at}
 use Rattle.scan_invariant.proofs.Common.{holds_at, holds_in, holds, held_by, Invariant, UntypesBy, SaysTyped, KnowsUntyping}
 use Rattle.scan_invariant.proofs.Common.{KnowsUntypingAt, limits_of, frame_mark, LoadOf}
 use Rattle.std.specs.Prelude.{nat_lt, if◌then◌else◌}
@@ -18,9 +18,9 @@ use Rattle.scan_invariant.specs.spk_nums.specs.declared.kinds.FrameKind.TheVaria
 use Rattle.scan_invariant.specs.spk_nums.specs.declared.replies.Reply.TheVariants as reply
 use Rattle.scan_invariant.specs.frame_words.proofs.FrameLemmas as frames
 use Rattle.scan_invariant.specs.kernel_rules.specs.Rules.{refusal_of, flushes_of, WaitedFor, Unflushed}
-use Rattle.scan_invariant.specs.kernel_rules.specs.MemoryCalls.{is_untyped_now, not_retyped}
+use Rattle.scan_invariant.specs.kernel_rules.specs.MemoryCalls.{is_untyped_now}
 use Rattle.scan_invariant.specs.act_states.specs.declared.work.Act.TheVariants.{Untype as untype_act}
-use Rattle.scan_invariant.specs.step_ways.proofs.Loads.{IsOfCall, OnlyLooks, call_is, core_is, is_active}
+use Rattle.scan_invariant.specs.step_ways.proofs.Loads.{OnlyLooks, call_is, core_is, is_active}
 use Rattle.scan_invariant.specs.step_ways.proofs.Refusals.{not_spent}
 use Rattle.scan_invariant.specs.count_invariant.proofs.Acquiring.{plan_leads, goes_by}
 use Rattle.scan_invariant.specs.count_invariant.proofs.MakingCounts.{argument_near}

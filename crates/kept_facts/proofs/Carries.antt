@@ -31,7 +31,6 @@ use Rattle.core_invariant.specs.act_states.specs.declared.kills.KillingAt.TheVar
 use Rattle.core_invariant.specs.act_states.specs.declared.kills.KillingAt.TheVariants.{Draw as kill_draw}
 use Rattle.thread_laws.specs.spk_nums.specs.declared.calls.Call.{Call}
 use Rattle.thread_laws.specs.word_map.specs.Word.{Word, EntryAt, CountAt, FrameAt, LiveAt}
-use Rattle.thread_laws.specs.word_map.specs.Places.{counter_of}
 use Rattle.thread_laws.specs.word_map.specs.Moves.{word_of}
 use Rattle.core_invariant.specs.stage_look.specs.declared.look.Look.{Look}
 use Rattle.core_invariant.specs.stage_look.specs.declared.look.Look.TheVariants.{AtRoot, AtLeaf, AtEntry}
@@ -57,7 +56,7 @@ use Rattle.core_invariant.specs.act_states.specs.declared.fills.Fill.{Fill}
 use Rattle.thread_laws.specs.entry_words.specs.declared.entry.Entry.{Entry}
 use Rattle.thread_laws.specs.entry_words.specs.declared.entry.Entry.TheVariants as entry
 use Rattle.thread_laws.specs.entry_words.specs.EntryWord.{entry_of_word}
-use Rattle.thread_laws.specs.kernel_rules.specs.State.{User, Thing, PlaceOf, Frame, Kernel, Comp, comp_in, first_of_stack, NumberOf}
+use Rattle.thread_laws.specs.kernel_rules.specs.State.{Thing, PlaceOf, Frame, Kernel, Comp, comp_in, first_of_stack, NumberOf}
 use Rattle.thread_laws.specs.kernel_rules.specs.State.{FrameOf, thread_in}
 use Rattle.thread_laws.specs.kernel_history.specs.Stamps.{stamp}
 use Rattle.core_invariant.specs.stage_quiet.specs.declared.close.Close.{Close}
@@ -77,16 +76,13 @@ use Rattle.core_invariant.specs.act_states.specs.declared.work.Act.TheVariants.{
 use Rattle.core_invariant.specs.act_states.specs.declared.work.Act.TheVariants.{Switch as switch_act}
 use Rattle.core_invariant.specs.act_states.specs.declared.work.Work.{Work}
 use Rattle.core_invariant.specs.act_states.specs.declared.work.Work.TheVariants.{Lookup, Read, Scan, Acquire, Act}
-use Rattle.core_invariant.specs.act_states.specs.Acts.{reads_of, dues}
-use Rattle.core_invariant.specs.Shares.{KnowsShare}
+use Rattle.core_invariant.specs.act_states.specs.Acts.{reads_of}
 use Rattle.core_invariant.specs.call_stages.specs.declared.stages.ActiveCall.{ActiveCall}
-use Rattle.core_invariant.specs.act_states.specs.declared.work.Due.{Due}
-use Rattle.core_invariant.specs.stage_tcap.specs.declared.pair.Pair.{Pair}
-use Rattle.core_invariant.specs.Knows.{is_start, due_of, IsCount, IsReached, HasFound, LookIs, LooksUp, own_in, NamesAre, LooksFor}
+use Rattle.core_invariant.specs.Knows.{due_of, IsCount, IsReached, HasFound, LookIs, LooksUp, own_in, NamesAre, LooksFor}
 use Rattle.core_invariant.specs.Knows.{IsScanned, MayFill, IsFill, IsRemoval, KnowsClose, KnowsAct, KnowsQuiet, KnowsStore, HasLoaded}
 use Rattle.core_invariant.specs.Knows.{KnowsWork, KnowsUndecided, KnowsTyping, HasMetAt, ChargesBy, HasHeadAt, KnowsTick, IsSpot, HasStored}
 use Rattle.core_invariant.specs.Knows.{KnowsMakingAt, HasLife, HasComp, KnowsKillingAt, KnowsDead, ReadIs, ReadBefore, scanned_for}
-use Rattle.core_invariant.specs.Knows.{KnowsScan, HasUser, IsUser, MayTake, TakesNumber, KnowsNumber, HasWords, KnowsCompAt, KnowsLive}
+use Rattle.core_invariant.specs.Knows.{KnowsScan, HasUser, MayTake, TakesNumber, KnowsNumber, HasWords, KnowsCompAt, KnowsLive}
 use Rattle.core_invariant.specs.stage_tcap.specs.declared.charge.Charge.{Charge}
 use Rattle.core_invariant.specs.stage_tcap.specs.declared.charge.Charge.TheVariants.{AtLoad as charge_load, AtCompare as charge_compare}
 use Rattle.core_invariant.specs.act_states.specs.Ticks.{ticks_due}
@@ -114,7 +110,7 @@ use Rattle.core_invariant.specs.stage_thread.specs.declared.claim.Claim.TheVaria
 use Rattle.core_invariant.specs.stage_thread.specs.declared.claim.Claimed.{Claimed}
 use Rattle.core_invariant.specs.act_states.specs.declared.switches.SwitchAt.{SwitchAt}
 use Rattle.core_invariant.specs.act_states.specs.declared.switches.SwitchAt.TheVariants as switch_at
-use Rattle.core_invariant.specs.Threads.{HasThread, IsTop, HasTable, HasRoots, KnowsSwitchAt, claimed_by, is_claimed}
+use Rattle.core_invariant.specs.Threads.{IsTop, HasTable, HasRoots, KnowsSwitchAt, claimed_by, is_claimed}
 use Rattle.core_invariant.specs.Sweeps.{IsQuiet, IsSwept, KnowsSweepScan, KnowsSweepAt, KnowsUntypingAt}
 use Rattle.kept_facts.proofs.Swept.{LeavesFrame, looked_on}
 pub use Rattle.kept_facts.proofs.KeptReads.{stores_in, stores_of, freezes, looks_at, freezes_at, looks_in}
@@ -652,7 +648,7 @@ module _ (setup : Setting) (setting : IsSetting setup) (t : Trace) (e : Step) (l
   loaded_on : (pin : Pin) → ((w : Word) → own_read (e ∷ t) c w ≡ own_read t c w) → HasLoaded t c pin → HasLoaded (e ∷ t) c pin
   loaded_on (AtLoad frame core) same has = tt
   loaded_on (pin_compare frame core count stamp) same has =
-      record { own = same (CountAt frame (counter_of core)) ∙ has.own; fits = has.fits }
+      record { own = same (CountAt frame core) ∙ has.own; fits = has.fits }
 
   -- after a step of another core, which leaves the words of the frame that the act has stored
   reads_same : (act : ActOf) → ((w : Word) → own_read (e ∷ t) c w ≡ own_read t c w)

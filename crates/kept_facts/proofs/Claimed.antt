@@ -1,12 +1,11 @@
 -- What a step of another core leaves of threads: one that a core in a call guards stays a thread that it guards, and one that it has
 -- claimed is idle before the step and after it, so it is as it was.
-use Rattle.std.proofs.Common.{◌≡◌, ◌≢◌, ℕ, ◌+◌, ◌*◌, ◌^◌, ◌∷◌, Bool, true, false, Option}
-use Rattle.std.proofs.Common.{Some, None, IsTrue, arith, refl, sym, ◌∙◌, ap, subst}
+use Rattle.std.proofs.Common.{◌≡◌, ◌≢◌, ℕ, ◌∷◌, true, Option}
+use Rattle.std.proofs.Common.{Some, None, IsTrue, arith, refl, ◌∙◌, ap, subst}
 use Rattle.std.proofs.lemmas.Bool.{false≢true}
 use Rattle.thread_laws.specs.spk_nums.specs.Setting.{Setting, IsSetting}
 use Rattle.thread_laws.specs.spk_nums.specs.declared.kinds.Kind.TheVariants as kind
 use Rattle.thread_laws.specs.tcap_words.specs.Thread.{word_of_thread, thread_of_word}
-use Rattle.thread_laws.specs.tcap_words.specs.declared.thread_word.ThreadWord.{ThreadWord}
 use Rattle.thread_laws.specs.tcap_words.specs.declared.thread_word.ThreadWord.TheVariants.{Idle, Running}
 use Rattle.thread_laws.specs.tcap_words.proofs.ThreadLemmas as words
 use Rattle.thread_laws.specs.word_map.specs.Word.{Word, EntryAt}

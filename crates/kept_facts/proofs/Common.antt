@@ -56,7 +56,7 @@ pub use Rattle.thread_laws.specs.tcap_words.specs.declared.thread_word.ThreadWor
 pub use Rattle.thread_laws.specs.tcap_words.specs.declared.thread_word.ThreadWord.TheVariants.{Claimed, Idle, Running}
 pub use Rattle.thread_laws.specs.word_map.proofs.WordLemmas.{same_same}
 pub use Rattle.thread_laws.specs.word_map.specs.Moves.{AddOf, CompareOf, LoadOf, Move, StoreOf, left_of, told_of, word_of}
-pub use Rattle.thread_laws.specs.word_map.specs.Places.{IsIn, Shape, counter_of}
+pub use Rattle.thread_laws.specs.word_map.specs.Places.{IsIn, Shape}
 pub use Rattle.thread_laws.specs.word_map.specs.Word.{ClockAt, CoreAt, CountAt, EntryAt, FlushAt, FrameAt, LiveAt, Word, same_word}
 pub use Rattle.thread_laws.specs.kernel_rules.proofs.Within.{put_other, put_same}
 pub use Rattle.thread_laws.specs.kernel_rules.specs.Access.{InRoot, Named, Slot, Target, Under, found, has_no_slot, held_in, holds_link}

@@ -1,13 +1,11 @@
 -- How the sum of a frame's counts changes where one count word does, and how references change.
-use Rattle.std.proofs.Common.{◌≡◌, ◌≢◌, inl, inr, ℕ, ℤ, ◌+ℤ◌, ◌+◌, ◌<◌, ◌≤◌, ◌==◌, max}
+use Rattle.std.proofs.Common.{◌≡◌, ◌≢◌, inl, inr, ℕ, zero, suc, ℤ, ◌+ℤ◌, ◌+◌, ◌<◌, ◌≤◌, ◌==◌, max}
 use Rattle.std.proofs.Common.{cond, List, [], ◌∷◌, Option, arith, refl, sym, ◌∙◌, ap}
-use Rattle.std.specs.Prelude.{All}
-use Rattle.std.proofs.lemmas.Bool.{cases_eq, eq-eqb, ne_eqb}
-use Rattle.std.proofs.lemmas.List.Elements.{All-head}
+use Rattle.std.specs.List.{range_with_len}
+use Rattle.std.proofs.lemmas.Bool.{cases_eq, cases_order, eq-eqb, ne_eqb}
 use Rattle.std.proofs.lemmas.Int.{ints}
 use Rattle.thread_laws.specs.spk_nums.specs.Capability.{Capability}
 use Rattle.thread_laws.specs.frame_words.specs.declared.count_word.CountWord.{CountWord}
-use Rattle.thread_laws.specs.word_map.specs.Places.{counter_of}
 use Rattle.thread_laws.specs.kernel_rules.specs.State.{Holds, Quiescing, Grace, Thing, State, with_place, with_grace}
 use Rattle.thread_laws.specs.kernel_rules.specs.References.{named_by, place_names, frame_names, number_names, core_names, sum_below}
 use Rattle.thread_laws.specs.kernel_rules.specs.References.{times, node_refs, refs}
@@ -15,16 +13,9 @@ use Rattle.thread_laws.specs.kernel_rules.specs.CallRelation.{counted}
 use Rattle.thread_laws.specs.kernel_invariant.proofs.Sums as sums
 use Rattle.thread_laws.specs.kernel_invariant.proofs.Refs.{place_refs, grace_refs}
 use Rattle.thread_laws.specs.kernel_history.specs.Counts.{counters, count_in, count_sum}
+pub use Rattle.thread_laws.specs.kernel_history.proofs.Counters.{counter_all}
 use Rattle.core_invariant.specs.CountWords.{stamp_in, newest_of}
 use Rattle.kept_facts.proofs.Calm.{IsCalm, calm_counted}
-
--- The word of a core's counter is one of a frame's count words, and occurs once among them.
-pub counter_once : (n core : ℕ) → core < n → times (counter_of core) (counters n) ≡ 1
-counter_once n core below = refl
-
--- So what holds of all count words of a frame holds of it.
-pub counter_all : (P : ℕ → Type 0) (n core : ℕ) → core < n → All P (counters n) → P (counter_of core)
-counter_all P n core below all = All-head P (counter_of 0) [] all
 
 -- How often a number occurs in a list whose first it is, or is not.
 pub times_here : (d c : ℕ) (cs : List ℕ) → c ≡ d → times d (c ∷ cs) ≡ 1 + times d cs
@@ -40,6 +31,28 @@ times_there d c cs there =
     let none : ℕ = 0 in
     let b : cond (c == d) 1 0 ≡ none = ap (λ b. cond b 1 0) (ne_eqb c d there) in
     omega (arith, a, b)
+
+-- The counter of each core occurs once among the counters of a machine.
+none_before : (d a n : ℕ) → d < a → times d (range_with_len a n) ≡ 0
+none_before d a zero before = refl
+none_before d a (suc n) before =
+    times_there d a (range_with_len (a + 1) n) (λ e. omega (arith, e, before)) ∙ none_before d (a + 1) n (omega (arith, before))
+
+once_within : (d a n : ℕ) → a ≤ d → d < a + n → times d (range_with_len a n) ≡ 1
+once_within d a zero least most = absurd (omega (arith, least, most))
+once_within d a (suc n) least most = elim (cases_order a d) [
+  | inl here ↦
+      let first = times_here d a (range_with_len (a + 1) n) here in
+      let rest = none_before d (a + 1) n (omega (arith, here)) in
+      omega (arith, first, rest)
+  | inr (inl before) ↦
+      times_there d a (range_with_len (a + 1) n) (λ e. omega (arith, e, before))
+      ∙ once_within d (a + 1) n (omega (arith, before)) (omega (arith, most))
+  | inr (inr after) ↦ absurd (omega (arith, least, after))
+]
+
+pub counter_once : (n core : ℕ) → core < n → times core (counters n) ≡ 1
+counter_once n core below = once_within core 0 n (omega arith) (omega (arith, below))
 
 -- Two sums of integers, where the first of one number changes, and where the rest does.
 first_changes : (a a' x : ℤ) → (a' +ℤ x) +ℤ a ≡ (a +ℤ x) +ℤ a'

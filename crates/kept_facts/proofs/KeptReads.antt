@@ -1,70 +1,17 @@
 -- What a step leaves of that on which a call's knowledge of its act rests.
-use Rattle.core_invariant.specs.act_states.specs.Objects.{last_word}
-use Rattle.core_invariant.specs.act_states.specs.declared.objects.NewObject.{NewObject}
-use Rattle.thread_laws.specs.frame_words.specs.Live.{live_of_word}
-use Rattle.thread_laws.specs.frame_words.specs.declared.live_word.LiveWord.{LiveWord}
-use Rattle.thread_laws.specs.frame_words.specs.declared.live_word.LiveWord.TheVariants as live_word
-use Rattle.core_invariant.specs.act_states.specs.declared.comps.CompAt.{CompAt}
-use Rattle.core_invariant.specs.act_states.specs.declared.comps.CompAt.TheVariants as comp_at
-use Rattle.core_invariant.specs.act_states.specs.declared.comps.CompMaking.{CompMaking}
-use Rattle.core_invariant.specs.act_states.specs.declared.comps.LastEpoch.{LastEpoch}
-use Rattle.core_invariant.specs.act_states.specs.Comps.{comp_is_marked, comp_word_at}
+use Rattle.core_invariant.specs.act_states.specs.Comps.{comp_is_marked}
 use Rattle.core_invariant.specs.act_states.specs.Makings.{is_marked}
-use Rattle.core_invariant.specs.act_states.specs.declared.makings.MakingAt.TheVariants.{Load as making_load, Mark, Store}
-use Rattle.core_invariant.specs.act_states.specs.declared.makings.MakingAt.TheVariants.{Fill as making_fill}
-use Rattle.core_invariant.specs.act_states.specs.declared.makings.MakingAt.{MakingAt}
-use Rattle.std.proofs.Common.{map, ◌+◌, ◌≡◌, ◌≤◌, arith, inl, inr, ℕ, ◌&&◌, nat_le, if◌then◌else◌, cond, [], ◌∷◌, ◌++◌}
-use Rattle.std.proofs.Common.{List, Bool, true, false, Option, Some, None, refl, ◌∙◌, ap, subst, ◌==◌, sym, IsTrue}
-use Rattle.std.specs.Prelude.{IsSome, is_some, All, length}
-use Rattle.std.proofs.lemmas.Bool.{eq-eqb, false≢true}
-use Rattle.std.proofs.lemmas.List.Elements.{All-nil, All-cons, All-head, All-tail}
-use Rattle.core_invariant.specs.stage_pins.specs.declared.held.Acquired.{Acquired}
-use Rattle.core_invariant.specs.Holding.{count_of}
+use Rattle.std.proofs.Common.{◌≡◌, ℕ, ◌&&◌, [], ◌∷◌, ◌++◌}
+use Rattle.std.proofs.Common.{List, Bool, true, false, ◌∙◌, ap, ◌==◌, sym}
+use Rattle.std.proofs.lemmas.Bool.{false≢true}
 use Rattle.thread_laws.specs.spk_nums.specs.Capability.{Capability}
-use Rattle.thread_laws.specs.spk_nums.specs.Setting.{Setting, IsSetting}
-use Rattle.thread_laws.specs.spk_nums.specs.declared.kinds.Kind.{Kind}
-use Rattle.thread_laws.specs.spk_nums.specs.declared.kinds.Kind.TheVariants.{Comp as comp_kind}
-use Rattle.thread_laws.specs.frame_words.specs.declared.comp_word.CompWord.{CompWord}
-use Rattle.core_invariant.specs.act_states.specs.declared.kills.KillingAt.{KillingAt}
-use Rattle.core_invariant.specs.act_states.specs.declared.kills.KillingAt.TheVariants.{LoadComp, LoadLive, Close as kill_close}
-use Rattle.core_invariant.specs.act_states.specs.declared.kills.KillingAt.TheVariants.{Draw as kill_draw}
+use Rattle.thread_laws.specs.spk_nums.specs.Setting.{Setting}
 use Rattle.thread_laws.specs.spk_nums.specs.declared.calls.Call.{Call}
-use Rattle.thread_laws.specs.word_map.specs.Word.{Word, EntryAt, CountAt, FrameAt, LiveAt}
-use Rattle.thread_laws.specs.word_map.specs.Places.{counter_of}
-use Rattle.thread_laws.specs.word_map.specs.Moves.{word_of}
-use Rattle.core_invariant.specs.stage_look.specs.declared.look.Look.{Look}
-use Rattle.core_invariant.specs.stage_look.specs.declared.look.Look.TheVariants.{AtRoot, AtLeaf, AtEntry}
-use Rattle.thread_laws.specs.kernel_rules.specs.MemoryCalls.{translation_of}
-use Rattle.thread_laws.specs.kernel_rules.specs.Access.{Slot, Named, root_at, found, Target, Under, InRoot, usable, linked, root_slot}
-use Rattle.thread_laws.specs.kernel_rules.specs.Access.{reached}
-use Rattle.thread_laws.specs.kernel_invariant.proofs.Facts.{some_inj, none_some}
-use Rattle.thread_laws.specs.kernel_rules.specs.Fitting.{fits}
-use Rattle.thread_laws.specs.kernel_rules.specs.Relies.{is_fixed, Relies}
-use Rattle.thread_laws.specs.kernel_history.specs.Trace.{Step, Trace, Open, phase, state_after, own_left, own_read, last_left}
-use Rattle.thread_laws.specs.kernel_history.specs.Justified.{HasReached}
-use Rattle.thread_laws.specs.kernel_history.specs.Legal.{IsLegal}
-use Rattle.thread_laws.specs.kernel_history.proofs.Names.{cases_word}
-use Rattle.thread_laws.specs.kernel_history.proofs.Steps.{own_left-here, own_left-there}
-use Rattle.thread_laws.specs.trace_laws.proofs.Stays.{relies_reached}
-use Rattle.thread_laws.specs.trace_laws.proofs.Carries.{Carries, was_stays}
-use Rattle.thread_laws.specs.kernel_history.specs.Footprint.{IsNearIn}
-use Rattle.core_invariant.specs.call_plans.specs.declared.plans.Name.{Name}
-use Rattle.core_invariant.specs.call_plans.specs.declared.plans.Plan.{Plan}
-use Rattle.core_invariant.specs.call_plans.specs.GoesBy.{wants}
-use Rattle.core_invariant.specs.call_plans.specs.After.{Leads, Next, NextName, NextFree, NextHeld, NextOwn, NextNothing, next_of}
-use Rattle.core_invariant.specs.act_states.specs.declared.fills.Fill.{Fill}
-use Rattle.thread_laws.specs.entry_words.specs.declared.entry.Entry.{Entry}
-use Rattle.thread_laws.specs.entry_words.specs.declared.entry.Entry.TheVariants as entry
-use Rattle.thread_laws.specs.entry_words.specs.EntryWord.{entry_of_word}
-use Rattle.thread_laws.specs.kernel_rules.specs.State.{User, Thing, PlaceOf, Frame, Kernel, Comp, comp_in, first_of_stack, NumberOf}
-use Rattle.thread_laws.specs.kernel_rules.specs.State.{FrameOf, thread_in}
+use Rattle.thread_laws.specs.word_map.specs.Word.{EntryAt, CountAt, FrameAt, LiveAt}
+use Rattle.thread_laws.specs.kernel_history.specs.Trace.{Step, Trace, state_after, own_read, last_left}
 use Rattle.thread_laws.specs.kernel_history.specs.Stamps.{stamp}
-use Rattle.core_invariant.specs.stage_quiet.specs.declared.close.Close.{Close}
-use Rattle.core_invariant.specs.stage_quiet.specs.declared.close.Close.TheVariants.{AtCompare, AtDraw, AtStore}
 use Rattle.core_invariant.specs.stage_quiet.specs.declared.quiet.Quiet.{Quiet}
 use Rattle.core_invariant.specs.stage_quiet.specs.declared.quiet.Quiet.TheVariants.{AtCore, AtFlush}
-use Rattle.core_invariant.specs.stage_pins.specs.declared.pin.Pin.{Pin}
-use Rattle.core_invariant.specs.stage_pins.specs.declared.pin.Pin.TheVariants.{AtLoad, AtCompare as pin_compare}
 use Rattle.core_invariant.specs.act_states.specs.declared.work.Act.{Act as ActOf}
 use Rattle.core_invariant.specs.act_states.specs.declared.work.Act.TheVariants.{Fill as fill_act, Remove as remove_act, Retype as type_act}
 use Rattle.core_invariant.specs.act_states.specs.declared.work.Act.TheVariants.{Make as make_act, Outside, Tick as tick_act}
@@ -76,46 +23,21 @@ use Rattle.core_invariant.specs.act_states.specs.declared.work.Act.TheVariants.{
 use Rattle.core_invariant.specs.act_states.specs.declared.work.Act.TheVariants.{Switch as switch_act}
 use Rattle.core_invariant.specs.act_states.specs.declared.work.Work.{Work}
 use Rattle.core_invariant.specs.act_states.specs.declared.work.Work.TheVariants.{Lookup, Read, Scan, Acquire, Act}
-use Rattle.core_invariant.specs.act_states.specs.Acts.{reads_of, dues}
+use Rattle.core_invariant.specs.act_states.specs.Acts.{dues}
 use Rattle.core_invariant.specs.Shares.{KnowsShare}
 use Rattle.core_invariant.specs.call_stages.specs.declared.stages.ActiveCall.{ActiveCall}
 use Rattle.core_invariant.specs.act_states.specs.declared.work.Due.{Due}
 use Rattle.core_invariant.specs.stage_tcap.specs.declared.pair.Pair.{Pair}
-use Rattle.core_invariant.specs.Knows.{is_start, due_of, IsCount, IsReached, HasFound, LookIs, LooksUp, own_in, NamesAre, LooksFor}
-use Rattle.core_invariant.specs.Knows.{IsScanned, MayFill, IsFill, IsRemoval, KnowsClose, KnowsAct, KnowsQuiet, KnowsStore, HasLoaded}
-use Rattle.core_invariant.specs.Knows.{KnowsWork, KnowsUndecided, KnowsTyping, HasMetAt, ChargesBy, HasHeadAt, KnowsTick, IsSpot, HasStored}
-use Rattle.core_invariant.specs.Knows.{KnowsMakingAt, HasLife, HasComp, KnowsKillingAt, KnowsDead, ReadIs, ReadBefore, scanned_for}
-use Rattle.core_invariant.specs.Knows.{KnowsScan, HasUser, IsUser, MayTake, TakesNumber, KnowsNumber, HasWords, KnowsCompAt, KnowsLive}
-use Rattle.core_invariant.specs.stage_tcap.specs.declared.charge.Charge.{Charge}
-use Rattle.core_invariant.specs.stage_tcap.specs.declared.charge.Charge.TheVariants.{AtLoad as charge_load, AtCompare as charge_compare}
-use Rattle.core_invariant.specs.act_states.specs.Ticks.{ticks_due}
-use Rattle.thread_laws.specs.spk_nums.specs.declared.calls.Call.TheVariants.{Map, Tick}
-use Rattle.core_invariant.specs.act_states.specs.declared.typings.Typing.{Typing}
-use Rattle.core_invariant.specs.act_states.specs.declared.typings.TypingAt.{TypingAt}
-use Rattle.core_invariant.specs.act_states.specs.declared.typings.TypingAt.TheVariants.{Load, Compare as type_compare}
-use Rattle.thread_laws.specs.frame_words.specs.declared.count_word.CountWord.{CountWord}
-use Rattle.thread_laws.specs.kernel_rules.specs.References.{frame_names}
-use Rattle.core_invariant.specs.stage_sweep.specs.Counters.{latest_stamp}
-use Rattle.core_invariant.specs.stage_sweep.specs.Emptiness.{loads_of}
-use Rattle.core_invariant.specs.stage_sweep.specs.declared.empty.Owned.{Owned}
-use Rattle.core_invariant.specs.stage_sweep.specs.declared.sweep.Sweep.{Sweep}
+use Rattle.core_invariant.specs.Knows.{is_start}
+use Rattle.core_invariant.specs.Knows.{KnowsQuiet}
+use Rattle.core_invariant.specs.Knows.{IsUser}
 use Rattle.core_invariant.specs.stage_sweep.specs.declared.sweep.SweepAt.{SweepAt}
 use Rattle.core_invariant.specs.stage_sweep.specs.declared.sweep.SweepAt.TheVariants.{Load as sweep_load, Compare as sweep_compare}
 use Rattle.core_invariant.specs.stage_sweep.specs.declared.sweep.SweepAt.TheVariants.{Scan as sweep_scan, Empty as sweep_empty}
 use Rattle.core_invariant.specs.act_states.specs.declared.untypings.UntypingAt.{UntypingAt}
 use Rattle.core_invariant.specs.act_states.specs.declared.untypings.UntypingAt.TheVariants as untype
-use Rattle.core_invariant.specs.act_states.specs.declared.invocations.Invoking.{Invoking}
-use Rattle.core_invariant.specs.act_states.specs.declared.invocations.Returning.{Returning}
-use Rattle.core_invariant.specs.act_states.specs.declared.invocations.ReturningAt.{ReturningAt}
-use Rattle.core_invariant.specs.act_states.specs.declared.invocations.ReturningAt.TheVariants as returning
-use Rattle.core_invariant.specs.Components.{IsOnThread, HasLoadedComp, KnowsInvoking, IsBelow, HasLoadedBelow, KnowsReturning, below_of}
-use Rattle.core_invariant.specs.stage_thread.specs.declared.claim.Claim.TheVariants as claim
-use Rattle.core_invariant.specs.stage_thread.specs.declared.claim.Claimed.{Claimed}
-use Rattle.core_invariant.specs.act_states.specs.declared.switches.SwitchAt.{SwitchAt}
-use Rattle.core_invariant.specs.act_states.specs.declared.switches.SwitchAt.TheVariants as switch_at
-use Rattle.core_invariant.specs.Threads.{HasThread, IsTop, HasTable, HasRoots, KnowsSwitchAt, claimed_by, is_claimed}
-use Rattle.core_invariant.specs.Sweeps.{IsQuiet, IsSwept, KnowsSweepScan, KnowsSweepAt, KnowsUntypingAt}
-use Rattle.kept_facts.proofs.Swept.{LeavesFrame, looked_on}
+use Rattle.core_invariant.specs.Threads.{HasThread, claimed_by, is_claimed}
+use Rattle.kept_facts.proofs.Swept.{LeavesFrame}
 
 -- The frame whose words an act has stored.
 abbrev pub stores_in : ActOf → ℕ → Bool

@@ -1,6 +1,6 @@
 -- Who keeps a word without a mark: the core whose current thread has it, or the one whose mark the head carries of the temporal capability
 -- whose list has it. So no word has two keepers, and another word settles to itself where it carries no mark.
-use Rattle.std.proofs.Common.{◌≡◌, ◌≢◌, ◌≤◌, ◌<◌, ◌⊎◌, inl, inr, ℕ, suc, [], ◌∷◌, length, Bool, true, false}
+use Rattle.std.proofs.Common.{◌≡◌, ◌≢◌, ◌≤◌, ◌<◌, ◌⊎◌, inl, inr, ℕ, [], ◌∷◌, length, Bool, true, false}
 use Rattle.std.proofs.Common.{Option, Some, None, IsTrue, if◌then◌else◌, arith, refl, sym, ◌∙◌, ap, subst}
 use Rattle.std.proofs.lemmas.Bool.{false≢true, ne_eqb}
 use Rattle.thread_laws.specs.spk_nums.specs.Setting.{Setting, IsSetting}
@@ -11,8 +11,7 @@ use Rattle.thread_laws.specs.kernel_rules.specs.Relies.{is_node}
 use Rattle.thread_laws.specs.kernel_rules.specs.State.{Frame, Kernel, Untyped, User, Blank, Table, Leaf, Pages, Pleaf}
 use Rattle.thread_laws.specs.kernel_rules.specs.State.{Comp, Thread, Tcap, TcapFields, thread_in, thread_of, put}
 use Rattle.thread_laws.specs.kernel_rules.proofs.Within.{put_same}
-use Rattle.thread_laws.specs.kernel_history.specs.Trace.{Step, Trace, Open, phase, state_after, last_left}
-use Rattle.thread_laws.specs.kernel_history.specs.Stamps.{is_in}
+use Rattle.thread_laws.specs.kernel_history.specs.Trace.{Step, Trace, Open, state_after, last_left}
 use Rattle.thread_laws.specs.kernel_history.specs.Marks.{mark_of, mark_in_frame, head_mark}
 use Rattle.thread_laws.specs.kernel_history.specs.Marking.{marked_by}
 use Rattle.thread_laws.specs.kernel_history.specs.Discipline.{KeepsMarked}
@@ -37,7 +36,7 @@ use Rattle.core_invariant.specs.Invariant.{holds, holds_in, held_by, IsLent, IsO
 use Rattle.core_invariant.proofs.ActBares.{open_bare}
 use Rattle.core_invariant.proofs.Bare.{AsBefore, IsNotKept, none_kept, own_kept, core_bare}
 use Rattle.core_invariant.proofs.Markers.{marker_inside}
-use Rattle.kept_facts.proofs.Tcaps.{TcapOf, is_tcap, tcap_of, tcap_stays}
+use Rattle.kept_facts.proofs.Tcaps.{is_tcap, tcap_of, tcap_stays}
 
 none_some : (v : ℕ) → None ≡ Some v → ⊥
 none_some v h = cc

@@ -8,6 +8,7 @@ pub mod Calm
 pub mod Claimed
 -- Sums of counts.
 pub mod CountSums
+pub mod FrozenSums
 pub mod Sums
 -- Words kept without a mark, and the words of temporal capabilities.
 pub mod Tcaps

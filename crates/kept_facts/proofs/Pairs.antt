@@ -1,5 +1,5 @@
 -- What a call knows of two temporal capabilities it knows still after a step that spares their words.
-use Rattle.std.proofs.Common.{◌≡◌, ◌≢◌, ◌⊎◌, inl, inr, ℕ, zero, suc, ◌<◌, ◌≤◌, ◌==◌, ◌&&◌, not, Bool, true, false, IsTrue}
+use Rattle.std.proofs.Common.{◌≡◌, ◌≢◌, ◌⊎◌, inl, inr, ℕ, zero, suc, ◌<◌, ◌≤◌, ◌==◌, ◌&&◌, not, Bool, true, false}
 use Rattle.std.proofs.Common.{IsSome, is_some, if◌then◌else◌, List, Option, Some, None, arith, refl, sym, ◌∙◌, ap, subst, ◌∷◌}
 use Rattle.std.proofs.lemmas.Bool.{cases_eq, eq-eqb, ne_eqb, false≢true}
 use Rattle.thread_laws.specs.spk_nums.specs.Setting.{Setting}
@@ -9,7 +9,7 @@ use Rattle.thread_laws.specs.tcap_words.specs.declared.head_word.HeadWord.{HeadW
 use Rattle.thread_laws.specs.tcap_words.proofs.HeadLemmas as heads
 use Rattle.thread_laws.specs.word_map.specs.Word.{Word, EntryAt, FrameAt, CountAt, CoreAt, FlushAt, LiveAt, ClockAt}
 use Rattle.thread_laws.specs.word_map.specs.Moves.{word_of, left_of}
-use Rattle.thread_laws.specs.kernel_rules.specs.State.{Frame, Kernel, Tcap, TcapFields, State}
+use Rattle.thread_laws.specs.kernel_rules.specs.State.{Kernel, Tcap, TcapFields}
 use Rattle.thread_laws.specs.kernel_history.specs.Marks.{mark_in_frame, head_mark}
 use Rattle.thread_laws.specs.kernel_history.specs.Marking.{marked_by}
 use Rattle.thread_laws.specs.kernel_history.specs.Trace.{Step, Trace, state_after, last_left, own_read}

@@ -1,5 +1,5 @@
 -- What a call knows of two temporal capabilities it knows still after a step of another core.
-use Rattle.std.proofs.Common.{◌≡◌, ◌≢◌, ◌<◌, ℕ, Bool, true, List, ◌∷◌, Some, arith, sym, ◌∙◌, ap, subst}
+use Rattle.std.proofs.Common.{◌≡◌, ◌≢◌, ◌<◌, ℕ, true, List, ◌∷◌, Some, arith, ◌∙◌, ap}
 use Rattle.thread_laws.specs.spk_nums.specs.Setting.{Setting, IsSetting}
 use Rattle.thread_laws.specs.spk_nums.specs.Capability.{Capability}
 use Rattle.thread_laws.specs.spk_nums.specs.declared.calls.Call.{Call}
@@ -22,7 +22,7 @@ use Rattle.core_invariant.specs.stage_tcap.specs.declared.pair.PairAt.TheVariant
 use Rattle.core_invariant.specs.stage_tcap.specs.declared.pair.PairAt.TheVariants.{AgainB, StoreList, StoreB, StoreA}
 use Rattle.core_invariant.specs.Shares.{SparesTcap, HasTcap, KnowsShare, StoresA, StoresB, KnowsStoresAt, KnowsShared}
 use Rattle.kept_facts.proofs.Pairs.{tcap_mark, kept_all, left_same, pair_other, stores_on_a}
-use Rattle.kept_facts.proofs.Tcaps.{TcapOf, tcap_of, tcap_stays}
+use Rattle.kept_facts.proofs.Tcaps.{tcap_of, tcap_stays}
 
 -- What core c knows of them stays known, while its call is undecided and after.
 pub record SharesStay (setup : Setting) (t : Trace) (e : Step) (c : ℕ) : Type 0 where

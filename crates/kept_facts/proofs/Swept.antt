@@ -1,11 +1,10 @@
 -- What the frozen counters of a frame say: while a core holds them all, nothing refers to the frame where their sum is 0, and their latest
 -- stamp is that of the frame's last release. So nobody else uses the frame, and what was found of its object stays.
-use Rattle.std.proofs.Common.{◌≡◌, ◌≢◌, ◌⊎◌, inl, inr, ℕ, suc, ℤ, pos, ◌+ℤ◌, ◌+◌, ◌<◌, ◌≤◌, max, Bool, true, false, List}
-use Rattle.std.proofs.Common.{[], ◌∷◌, length, slice_get, Option, Some, None, IsTrue, arith, refl, sym, ◌∙◌, ap, subst}
-use Rattle.std.specs.Prelude.{All}
-use Rattle.std.proofs.lemmas.Bool.{false≢true, true≢false}
-use Rattle.std.proofs.lemmas.Int.{ints}
-use Rattle.std.proofs.lemmas.List.Elements.{All-head}
+use Rattle.std.proofs.Common.{◌≡◌, ◌≢◌, inl, inr, ℕ, pos, ◌<◌, Bool, true, false, List, Option}
+use Rattle.std.proofs.Common.{◌∷◌, length, slice_get, Some, IsTrue, arith, refl, sym, ◌∙◌, ap, subst}
+use Rattle.std.proofs.lemmas.Bool.{false≢true}
+use Rattle.std.specs.List.{range_with_len}
+use Rattle.std.proofs.lemmas.Option.{slice_get_within}
 use Rattle.thread_laws.specs.spk_nums.specs.Setting.{Setting, IsSetting}
 use Rattle.thread_laws.specs.spk_nums.specs.declared.kinds.FrameKind.TheVariants as frame_kind
 use Rattle.thread_laws.specs.spk_nums.specs.declared.kinds.Obj.TheVariants as obj
@@ -39,7 +38,9 @@ use Rattle.core_invariant.specs.Frozen.{holds_release}
 use Rattle.core_invariant.specs.Holding.{Holding, settled}
 use Rattle.core_invariant.specs.Invariant.{Invariant, held_by, count_shown}
 use Rattle.core_invariant.specs.Sweeps.{AreFrozen, AreKept, IsLookedAt, IsQuiet, SaysTyped}
+use Rattle.core_invariant.proofs.Sounds.{limits_of}
 use Rattle.core_invariant.proofs.Freezing.{release_frame, thaw_all, thaw_from, thaw_here}
+use Rattle.kept_facts.proofs.FrozenSums.{counters_are, frozen_sum, got_all}
 
 -- A frame of which the word says that it is a blank kernel frame.
 pub kernel_is : (x : Frame) → (frame_value x).kind ≡ frame_kind.Kernel → (frame_value x).object ≡ obj.Blank → x ≡ Kernel Blank
@@ -110,6 +111,28 @@ looked_on s s' f n o rests has = subst (λ x. IsLookedAt s' f x n o) (sym rests.
     by User place has = tt
     by Untyped place has = tt
 
+-- Where all count words of a frame show what was found there, the counts found sum to the references to the frame, and the latest stamp
+-- found is that of its last release.
+module _ (setup : Setting) (cores : ℕ → Core) (t : Trace) (stands : Invariant setup cores t) (f : ℕ) (kept : List CountWord)
+    (all : length kept ≡ length (counters setup.cores))
+    (shows : (d : ℕ) (v : CountWord) → slice_get kept d ≡ Some v
+    → count_shown setup (held_by cores) t f d ≡ Some (unheld v.count v.stamp)) where
+  abbrev its_counts : ℕ → Option CountWord
+  its_counts = count_shown setup (held_by cores) t f
+
+  counters_here : counters (state_after setup t).limits.cores ≡ range_with_len 0 (length kept)
+  counters_here = ap (λ l. counters l.cores) (limits_of setup t) ∙ counters_are setup.cores (length kept) all
+
+  found_here : (count_sum its_counts (range_with_len 0 (length kept)) ≡ sum_of_counts kept)
+      × (newest_of its_counts (range_with_len 0 (length kept)) ≡ latest_stamp kept)
+  found_here = frozen_sum its_counts kept (λ d v at. (ap count_in (shows d v at), ap stamp_in (shows d v at)))
+
+  pub kept_sum : sum_of_counts kept ≡ pos (refs (state_after setup t) f)
+  kept_sum = sym found_here.0 ∙ ap (count_sum its_counts) (sym counters_here) ∙ (stands.sums f).sum
+
+  pub kept_stamp : stamp setup t (FrameOf f) ≡ latest_stamp kept
+  kept_stamp = sym (stands.sums f).newest ∙ ap (newest_of its_counts) counters_here ∙ found_here.1
+
 -- The counters that a core holds of a frame.
 module _ (setup : Setting) (cores : ℕ → Core) (t : Trace) (stands : Invariant setup cores t) (c f word : ℕ) (kept : List CountWord)
     (h : Holding) (held_settles : (w : Word) → h.marks w ≡ true → settled setup (held_by cores) t w ≡ h.stands w)
@@ -127,47 +150,25 @@ module _ (setup : Setting) (cores : ℕ → Core) (t : Trace) (stands : Invarian
       ∙ ap (λ o. word_of_count (released false o)) at)
       ∙ counts.spelling.reads (unheld v.count v.stamp) fit
 
+  pub kept_shows : (d : ℕ) (v : CountWord) → slice_get kept d ≡ Some v
+      → count_shown setup (held_by cores) t f d ≡ Some (unheld v.count v.stamp)
+  kept_shows d v at = counter_shows d v (slice_get_within kept d v at) at
+      (got_all (λ u. CountFits (unheld u.count u.stamp)) kept d v at fits)
+
   module _ (frozen : AreFrozen setup.cores kept) where
     abbrev s : State
     s = state_after setup t
 
-    first_sum : (x : ℤ) → pos 0 +ℤ x ≡ pos 0 → (n : ℕ) → x +ℤ pos 0 ≡ pos n → n ≡ 0
-    first_sum x none n is = zero_is n (sym is ∙ swap x none)
+    -- nothing refers to the frame
+    pub no_refs : refs s f ≡ 0
+    no_refs = zero_is (refs s f) (sym (kept_sum setup cores t stands f kept frozen.all kept_shows) ∙ frozen.none)
       where
-        swap : (x : ℤ) → pos 0 +ℤ x ≡ pos 0 → x +ℤ pos 0 ≡ pos 0
-        swap x h = omega (arith, ints)
-
         zero_is : (n : ℕ) → pos n ≡ pos 0 → n ≡ 0
         zero_is n h = cc
 
-    -- nothing refers to the frame
-    pub no_refs : refs s f ≡ 0
-    no_refs = by kept frozen.all frozen.none fits (λ d v. counter_shows d v)
-      where
-        by : (xs : List CountWord) → length xs ≡ length (counters setup.cores) → sum_of_counts xs ≡ pos 0 → AreKept xs
-            → ((d : ℕ) (v : CountWord) → d < length xs → slice_get xs d ≡ Some v → CountFits (unheld v.count v.stamp)
-            → count_shown setup (held_by cores) t f d ≡ Some (unheld v.count v.stamp))
-            → refs s f ≡ 0
-        by [] all none fit shows = absurd (omega arith)
-        by (v ∷ []) all none fit shows =
-            let shown = shows 0 v (omega arith) refl (All-head (λ v. CountFits (unheld v.count v.stamp)) v [] fit) in
-            first_sum v.count none (refs s f) (ap (λ o. count_in o +ℤ pos 0) (sym shown) ∙ (stands.sums f).sum)
-        by (v ∷ u ∷ xs) all none fit shows = absurd (omega (arith, all))
-
     -- and the latest stamp is the frame's
     pub stamp_is : stamp setup t (FrameOf f) ≡ latest_stamp kept
-    stamp_is = by kept frozen.all fits (λ d v. counter_shows d v)
-      where
-        by : (xs : List CountWord) → length xs ≡ length (counters setup.cores) → AreKept xs
-            → ((d : ℕ) (v : CountWord) → d < length xs → slice_get xs d ≡ Some v → CountFits (unheld v.count v.stamp)
-            → count_shown setup (held_by cores) t f d ≡ Some (unheld v.count v.stamp))
-            → stamp setup t (FrameOf f) ≡ latest_stamp xs
-        by [] all fit shows = absurd (omega arith)
-        by (v ∷ []) all fit shows =
-            let shown = shows 0 v (omega arith) refl (All-head (λ v. CountFits (unheld v.count v.stamp)) v [] fit) in
-            let newest : max v.stamp 0 ≡ stamp setup t (FrameOf f) = ap (λ o. max (stamp_in o) 0) (sym shown) ∙ (stands.sums f).newest in
-            omega (arith, newest)
-        by (v ∷ u ∷ xs) all fit shows = absurd (omega (arith, all))
+    stamp_is = kept_stamp setup cores t stands f kept frozen.all kept_shows
 
     -- no other core waits for it
     pub none_waits : (at upto flushes : ℕ) → latest_stamp kept ≡ at → IsQuiet setup t c f at upto flushes → (d : ℕ) → d < upto → d ≢ c

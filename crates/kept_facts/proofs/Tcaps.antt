@@ -1,6 +1,6 @@
 -- Each step leaves each temporal capability one, though its budget or its list may change, but for the end of its frame's grace period.
 use Rattle.std.proofs.Common.{◌≡◌, ◌≢◌, ◌⊎◌, ◌<◌, arith, inl, inr, ℕ, ◌-◌, [], ◌∷◌, Bool, true}
-use Rattle.std.proofs.Common.{false, Option, Some, None, refl, sym, ◌∙◌, ap, subst, IsTrue}
+use Rattle.std.proofs.Common.{Option, Some, None, refl, sym, ◌∙◌, ap, subst, IsTrue}
 use Rattle.std.proofs.lemmas.Bool.{false≢true, eq-eqb}
 use Rattle.thread_laws.specs.spk_nums.specs.Setting.{Setting, IsSetting}
 use Rattle.thread_laws.specs.spk_nums.specs.declared.kinds.Kind.{Kind}
@@ -16,7 +16,7 @@ use Rattle.thread_laws.specs.spk_nums.specs.declared.calls.Call.TheVariants.{Ret
 use Rattle.thread_laws.specs.spk_nums.specs.declared.translations.Translation.{Translation}
 use Rattle.thread_laws.specs.spk_nums.specs.declared.replies.Reply.{Reply}
 use Rattle.thread_laws.specs.spk_nums.specs.declared.replies.Reply.TheVariants as reply
-use Rattle.thread_laws.specs.kernel_rules.specs.State.{ThreadFields, TcapFields, Object, Blank, Table, Leaf, Pages, Pleaf, Comp, Thread}
+use Rattle.thread_laws.specs.kernel_rules.specs.State.{ThreadFields, TcapFields, Object, Blank, Table, Leaf, Pages, Pleaf}
 use Rattle.thread_laws.specs.kernel_rules.specs.State.{Tcap, Frame, Untyped, User, Kernel, FrameOf, State, put, comp_of, thread_in}
 use Rattle.thread_laws.specs.kernel_rules.specs.Access.{Named, found}
 use Rattle.thread_laws.specs.kernel_rules.specs.Fitting.{fits}

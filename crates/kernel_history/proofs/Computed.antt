@@ -9,7 +9,7 @@ use Rattle.spk_nums.specs.Bounds.{bound_of}
 use Rattle.spk_nums.specs.Setting.{Setting}
 use Rattle.spk_nums.specs.declared.calls.Call.{Call}
 use Rattle.word_map.specs.Word.{Word, EntryAt, FrameAt, CountAt, CoreAt, FlushAt, LiveAt, ClockAt}
-use Rattle.word_map.specs.Places.{Shape, IsIn, counter_of, shared}
+use Rattle.word_map.specs.Places.{Shape, IsIn}
 use Rattle.word_map.specs.Moves.{Move, LoadOf, CompareOf, StoreOf, AddOf, word_of, left_of}
 use Rattle.kernel_rules.specs.Access.{Slot}
 use Rattle.kernel_rules.specs.State.{State}
@@ -34,7 +34,7 @@ none x = x
 abbrev has_word : Shape → Word → Bool
 has_word s (EntryAt f i) = nat_lt f s.frames && nat_lt i 64
 has_word s (FrameAt f) = nat_lt f s.frames
-has_word s (CountAt f d) = nat_lt f s.frames && (nat_lt d s.cores && counter_of d == d)
+has_word s (CountAt f d) = nat_lt f s.frames && nat_lt d s.cores
 has_word s (CoreAt d) = nat_lt d s.cores
 has_word s (FlushAt d) = nat_lt d s.cores
 has_word s (LiveAt l) = nat_lt l 64
@@ -43,20 +43,11 @@ has_word s ClockAt = true
 word_is_in : (s : Shape) (w : Word) → has_word s w ≡ true → IsIn s w
 word_is_in s (EntryAt f i) has = let p = and_parts _ _ has in (ltb-true _ _ p.0, ltb-true _ _ p.1)
 word_is_in s (FrameAt f) has = ltb-true _ _ has
-word_is_in s (CountAt f d) has = let p = and_parts _ _ has in (ltb-true _ _ p.0, ltb-true _ _ (and_parts _ _ p.1).0)
+word_is_in s (CountAt f d) has = let p = and_parts _ _ has in (ltb-true _ _ p.0, ltb-true _ _ p.1)
 word_is_in s (CoreAt d) has = ltb-true _ _ has
 word_is_in s (FlushAt d) has = ltb-true _ _ has
 word_is_in s (LiveAt l) has = ltb-true _ _ has
 word_is_in s ClockAt has = tt
-
-word_is_named : (s : Shape) (w : Word) → has_word s w ≡ true → shared w ≡ w
-word_is_named s (EntryAt f i) has = refl
-word_is_named s (FrameAt f) has = refl
-word_is_named s (CountAt f d) has = ap (CountAt f) (eqb-true _ _ (and_parts _ _ (and_parts _ _ has).1).1)
-word_is_named s (CoreAt d) has = refl
-word_is_named s (FlushAt d) has = refl
-word_is_named s (LiveAt l) has = refl
-word_is_named s ClockAt has = refl
 
 in_call : (p : Phase) → is_in p ≡ true → p ≢ Out
 in_call Out is out = false≢true is
@@ -81,7 +72,6 @@ may_follow {setup} {t} {e} fit found enters decides returns =
     record {
       is_core = ltb-true _ _ core.0;
       is_in = word_is_in (shape_of setup) (word_of e.move) word.0;
-      is_named = word_is_named (shape_of setup) (word_of e.move) word.0;
       found = found;
       small = ltb-true _ _ left.0;
       enters = enters;

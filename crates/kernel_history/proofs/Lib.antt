@@ -11,6 +11,8 @@ pub mod OwnCounts
 -- Laws.
 pub mod Races
 pub mod Laws
+-- Counters.
+pub mod Counters
 -- The start.
 pub mod Sums
 -- Worked examples, which the checker computes.

@@ -1,10 +1,14 @@
--- A retype to untyped may step on each count word of its frame.
-use Rattle.std.proofs.Common.{◌≡◌, ℕ, ◌==◌, ◌&&◌, true, sym, ap, IsTrue}
-use Rattle.std.proofs.lemmas.Bool.{eq-eqb, or_right}
+-- A call that counts references may step on its own core's count words, and a retype to untyped on each count word of its frame.
+use Rattle.std.proofs.Common.{◌≡◌, ℕ, ◌==◌, ◌&&◌, ◌||◌, ◌∙◌, ap, IsTrue}
+use Rattle.std.proofs.lemmas.Bool.{eq-eqb, or_left, or_right}
 use Rattle.spk_nums.specs.declared.kinds.FrameKind.TheVariants.{Untyped}
+use Rattle.spk_nums.specs.declared.calls.Call.{Call}
 use Rattle.spk_nums.specs.declared.calls.Call.TheVariants.{Retype}
-use Rattle.word_map.specs.Places.{counter_of}
-use Rattle.kernel_history.specs.Discipline.{may_count}
+use Rattle.kernel_history.specs.Discipline.{counts_references, untypes_frame, may_count}
+
+pub own_counts : (call : Call) (f c d : ℕ) → d ≡ c → IsTrue (counts_references call) → IsTrue (may_count c call f d)
+own_counts call f c d own counts =
+    ap (λ b. b && (d == c || untypes_frame call f)) counts ∙ or_left (d == c) (untypes_frame call f) (eq-eqb d c own)
 
 pub untype_counts : (r f g c d : ℕ) → g ≡ f → IsTrue (may_count c (Retype r f Untyped) g d)
-untype_counts r f g c d same = ap (λ b. b && true) (or_right (d == counter_of c) (g == f) (eq-eqb g f same))
+untype_counts r f g c d same = or_right (d == c) (g == f) (eq-eqb g f same)

@@ -164,11 +164,12 @@ discipline_refuses = record {
 -- own count words
 
 pub own_counts_refuse : OwnCountsRefuse
-unfolding two_cores
+unfolding two_cores mark_word word_of_entry word_of_frame word_of_live word_of_core word_of_count sum_below node_refs refs
 own_counts_refuse = record {
-  reads_anothers = undisciplined (call.Copy 1 1 20) refl refl;
-  changes_anothers = undisciplined (call.Copy 1 1 20) refl refl;
-  untypes_another_frame = undisciplined (call.Retype 0 8 frame_kind.Untyped) refl refl;
+  reads_anothers = row (call.Copy 1 1 20) (LoadOf (CountAt 0 1)) tt refl refl refl refl;
+  changes_anothers = row (call.Copy 1 1 20) (StoreOf (CountAt 0 1) 0) tt refl refl refl refl;
+  untypes_another_frame = row (call.Retype 0 8 frame_kind.Untyped) (StoreOf (CountAt 0 1) 0) tt refl refl refl refl;
+  retypes_to_kernel = row (call.Retype 0 8 frame_kind.Kernel) (StoreOf (CountAt 8 1) 0) tt refl refl refl refl;
 }
 
 -- the footprints

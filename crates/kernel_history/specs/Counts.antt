@@ -1,16 +1,16 @@
 -- The counts of references in the words of a machine: a frame has a list of count words, and the references to it are their sum.
 use Rattle.std.specs.Prelude.{◌≡◌, ◌<◌, ℕ, List, [], ◌∷◌, All, Option, Some, None, ℤ, pos, ◌+ℤ◌}
+use Rattle.std.specs.List.{range_with_len}
 use Rattle.frame_words.specs.Count.{count_of_word}
 use Rattle.frame_words.specs.declared.count_word.CountWord.{CountWord}
 use Rattle.frame_words.specs.declared.count_word.Hold.TheVariants.{Unheld}
 use Rattle.word_map.specs.Word.{Word, CountAt}
-use Rattle.word_map.specs.Places.{counter_of}
 use Rattle.kernel_rules.specs.State.{State}
 use Rattle.kernel_rules.specs.References.{refs}
 
--- The numbers of a frame's count words on a machine of n cores. All cores share one today.
+-- The numbers of a frame's count words on a machine of n cores: one for each core.
 abbrev pub counters : ℕ → List ℕ
-counters n = counter_of 0 ∷ []
+counters n = range_with_len 0 n
 
 -- What the count word of this number shows.
 abbrev pub count_at : (Word → ℕ) → ℕ → ℕ → Option CountWord

@@ -9,7 +9,6 @@ use Rattle.spk_nums.specs.declared.calls.Call.TheVariants.{Look, Copy, Remove, G
 use Rattle.spk_nums.specs.declared.calls.Call.TheVariants.{Map, Unmap, Touch, Flush, Gate, Kill, Call as call_gate}
 use Rattle.spk_nums.specs.declared.calls.Call.TheVariants.{Ret, Switch, Tick, Transfer, Delegate, Test}
 use Rattle.word_map.specs.Word.{Word, EntryAt, FrameAt, CountAt, CoreAt, FlushAt, LiveAt, ClockAt}
-use Rattle.word_map.specs.Places.{counter_of}
 use Rattle.word_map.specs.Moves.{Move, LoadOf, CompareOf, StoreOf, AddOf, word_of, left_of}
 use Rattle.kernel_rules.specs.State.{Object, Blank, Table, Leaf, Pages, Pleaf, Comp, Thread, Tcap, Frame, Untyped, User, Kernel, State}
 use Rattle.kernel_history.specs.Bounds.{call_in}
@@ -100,13 +99,13 @@ counts_references (Delegate a b m) = false
 counts_references (Test a b) = false
 counts_references _ = true
 
--- a call of core c on the word in which its core counts, and a retype to untyped on each count word of the frame.
+-- a call of core c on its own core's count words, and a retype to untyped on each count word of the frame.
 abbrev pub untypes_frame : Call → ℕ → Bool
 untypes_frame (Retype r g to_untyped) f = f == g
 untypes_frame _ f = false
 
 abbrev pub may_count : ℕ → Call → ℕ → ℕ → Bool
-may_count c call f d = (d == counter_of c || untypes_frame call f) && counts_references call
+may_count c call f d = counts_references call && (d == c || untypes_frame call f)
 
 -- The flush word of a core is changed by its own `flush`.
 abbrev pub stores_flush : Call → Bool

@@ -4,7 +4,7 @@ use Rattle.spk_nums.specs.declared.calls.Call.{Call}
 use Rattle.spk_nums.specs.declared.replies.Reply.{Reply}
 use Rattle.spk_nums.specs.Setting.{Setting}
 use Rattle.spk_nums.specs.CallLimits.{InLimits}
-use Rattle.word_map.specs.Places.{IsIn, shared}
+use Rattle.word_map.specs.Places.{IsIn}
 use Rattle.word_map.specs.Moves.{word_of, left_of}
 use Rattle.kernel_rules.specs.CallRelation.{MayReply}
 use Rattle.kernel_history.specs.BootWords.{shape_of}
@@ -38,13 +38,12 @@ abbrev pub MayReturn : Option Reply → Phase → Type 0
 MayReturn None p = Unit {0}
 MayReturn (Some r) p = ReturnsBy r p
 
--- The step e may follow the trace t: it is of a core of the machine, on a word of the machine by the one name of its place,
+-- The step e may follow the trace t: it is of a core of the machine, on a word of the machine,
 -- finds the value last left in that word and leaves one of 64 bits, and stands in a call of its core, which it may enter,
 -- decide and return from.
 pub record MayFollow (setup : Setting) (t : Trace) (e : Step) : Type 0 where
   pub is_core : e.core < setup.cores
   pub is_in : IsIn (shape_of setup) (word_of e.move)
-  pub is_named : shared (word_of e.move) ≡ word_of e.move
   pub found : e.found ≡ last_left setup t (word_of e.move)
   pub small : left_of e.move e.found < 2 ^ 64
   pub enters : MayEnter e.enters (phase t e.core)

@@ -72,13 +72,14 @@ pub record DisciplineRefuses : Type 0 where
   pub fills_a_marked_place :
       BreaksDiscipline (goes 0 (StoreOf (EntryAt 1 21) range_word) marked_beside)
 
--- A core counts references in its own count word, and a retype to untyped steps on those of its frame alone. (A machine of one
--- counter a frame has no other words than the shared ones, so that these steps are not on a machine of such a layout.)
+-- A call counts references in the words of its own core, and a retype to untyped steps on all count words of its frame, and no other.
 pub record OwnCountsRefuse : Type 0 where
-  pub reads_anothers : KeepsDiscipline two_cores (one_step (call.Copy 1 1 20) (LoadOf (CountAt 0 1))) → ⊥
-  pub changes_anothers : KeepsDiscipline two_cores (one_step (call.Copy 1 1 20) (StoreOf (CountAt 0 1) 0)) → ⊥
-  pub untypes_another_frame :
-      KeepsDiscipline two_cores (one_step (call.Retype 0 8 frame_kind.Untyped) (StoreOf (CountAt 0 1) 0)) → ⊥
+  -- a copy that reads another core's count of the object that it names, and one that changes it
+  pub reads_anothers : BreaksDiscipline (one_step (call.Copy 1 1 20) (LoadOf (CountAt 0 1)))
+  pub changes_anothers : BreaksDiscipline (one_step (call.Copy 1 1 20) (StoreOf (CountAt 0 1) 0))
+  -- a retype to untyped that changes another core's count of another frame, and a retype to kernel that changes that of its frame
+  pub untypes_another_frame : BreaksDiscipline (one_step (call.Retype 0 8 frame_kind.Untyped) (StoreOf (CountAt 0 1) 0))
+  pub retypes_to_kernel : BreaksDiscipline (one_step (call.Retype 0 8 frame_kind.Kernel) (StoreOf (CountAt 8 1) 0))
 
 -- The trace is legal and within its bounds, but a step of it is on a word that is not near its call.
 pub record BreaksFootprint (t : Trace) : Type 0 where

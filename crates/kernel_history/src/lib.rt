@@ -59,8 +59,8 @@ pub fn discipline_refuses()
     ensures { DisciplineRefuses }
 {}
 
-/// The discipline refuses a call that steps on a count word in which another core counts, and a retype to untyped that steps on
-/// the count word of another core of another frame.
+/// The discipline refuses a call that steps on the count word of another core, a retype to untyped that does so on that of another
+/// frame, and a retype to kernel: each trace is legal and keeps its footprints and its bounds.
 #[tactic(auto, using(crate::proofs::Refused::own_counts_refuse))]
 pub fn own_counts_refuse()
     ensures { OwnCountsRefuse }

@@ -8,7 +8,7 @@ use Rattle.std.proofs.lemmas.Option.{slice_get_cases}
 use Rattle.spk_nums.specs.declared.calls.Call.{Call}
 use Rattle.spk_nums.specs.Setting.{IsSetting}
 use Rattle.word_map.specs.Word.{Word}
-use Rattle.word_map.specs.Places.{Shape, IsShape, IsIn, place_of, shared}
+use Rattle.word_map.specs.Places.{Shape, IsShape, IsIn, place_of}
 use Rattle.word_map.specs.Moves.{word_of}
 use Rattle.word_map.proofs.PlaceLemmas.{has_places}
 use Rattle.boot_words.specs.kernel_rules.proofs.Within.{put_same, put_other}
@@ -21,7 +21,7 @@ use Rattle.call_steps.specs.call_stages.specs.View.{Core}
 use Rattle.call_steps.specs.call_stages.specs.Fits.{IsCore}
 use Rattle.call_steps.specs.call_stages.specs.Cores.{move_of}
 use Rattle.flight_laws.specs.flight.specs.Made.{turned, MayStep, core_after, cores_after, stepping_core, IsMadeStep}
-use Rattle.flight_laws.specs.flight.specs.Phases.{IsWord, IsInPhase}
+use Rattle.flight_laws.specs.flight.specs.Phases.{IsInPhase}
 use Rattle.flight_laws.specs.flight.proofs.Phases.{made_phases}
 use Rattle.flight_laws.specs.flight.proofs.Spelling.{moves_are_words}
 use Rattle.call_steps.specs.call_stages.specs.declared.stages.ActiveCall.{ActiveCall}
@@ -39,8 +39,8 @@ may_step core (Begins call) can = record { between = can.between; limits = can.l
 may_step core GoesOn can = can
 
 -- the next step of a core that takes its turn is on a word of its machine
-word_next : (core : Core) (f : Turn) → IsCore core → CanTake f core → IsWord core.own.layout (word_of (move_of (core_in core f)))
-word_next core (Begins call) fits can = record { is_in = fits.own.core; is_named = refl }
+word_next : (core : Core) (f : Turn) → IsCore core → CanTake f core → IsIn core.own.layout (word_of (move_of (core_in core f)))
+word_next core (Begins call) fits can = fits.own.core
 word_next core GoesOn fits can = moves_are_words core fits can
 
 -- where the core stands is where the trace is
@@ -111,11 +111,11 @@ module _ (m : Machine) (t : Trace) (c : ℕ) (f : Turn) (fit : IsFit m) (setting
     most_frames = setting.most_frames;
   }
 
-  word : IsWord shape (word_of (move_of core1))
-  word = subst (λ s. IsWord s (word_of (move_of core1))) (fit.each c here).shape (word_next (core_at m c) f (fit.each c here).fits of.can)
+  word : IsIn shape (word_of (move_of core1))
+  word = subst (λ s. IsIn s (word_of (move_of core1))) (fit.each c here).shape (word_next (core_at m c) f (fit.each c here).fits of.can)
 
   found_here : found_by m c f ≡ last_left m.setup t (word_of (move_of core1))
-  found_here = stands.words (word_of (move_of core1)) word.is_in word.is_named
+  found_here = stands.words (word_of (move_of core1)) word
 
   -- the core of the trace is that of the machine
   core_here : stepping_core m.setup t e ≡ core1
@@ -142,18 +142,18 @@ module _ (m : Machine) (t : Trace) (c : ℕ) (f : Turn) (fit : IsFit m) (setting
   ]
 
   in_words : place_next shape core1 < length m.words
-  in_words = let n = fit.size in let low = (has_places shape is_shape).below (word_of (move_of core1)) word.is_in in omega arith
+  in_words = let n = fit.size in let low = (has_places shape is_shape).below (word_of (move_of core1)) word in omega arith
 
-  words_on : (w : Word) → IsIn shape w → shared w ≡ w → get_or (stepped m c f).words (place_of shape w) 0 ≡ last_left m.setup (e ∷ t) w
-  words_on w is_in is_named = elim (cases_word w (word_of (move_of core1))) [
+  words_on : (w : Word) → IsIn shape w → get_or (stepped m c f).words (place_of shape w) 0 ≡ last_left m.setup (e ∷ t) w
+  words_on w is_in = elim (cases_word w (word_of (move_of core1))) [
     | inl same ↦
         ap (λ (n : ℕ). get_or (stepped m c f).words n 0) (ap (place_of shape) same)
         ∙ get_or-set_same m.words (place_next shape core1) _ 0 in_words
         ∙ sym (last_left-here m.setup w e t same)
     | inr apart ↦
         get_or-set_other m.words (place_next shape core1) (place_of shape w) _ 0
-        (λ h. apart (sym is_named ∙ (has_places shape is_shape).distinct w _ is_in word.is_in h ∙ word.is_named))
-        ∙ stands.words w is_in is_named
+        (λ h. apart ((has_places shape is_shape).distinct w _ is_in word h))
+        ∙ stands.words w is_in
         ∙ sym (last_left-there m.setup w e t apart)
   ]
 

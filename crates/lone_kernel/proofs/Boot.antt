@@ -8,7 +8,7 @@ use Rattle.spk_nums.specs.declared.calls.Call.{Call}
 use Rattle.spk_nums.specs.declared.replies.Decision.{Decision}
 use Rattle.spk_nums.specs.Setting.{Setting}
 use Rattle.word_map.specs.Word.{Word}
-use Rattle.word_map.specs.Places.{IsIn, size_of, shared}
+use Rattle.word_map.specs.Places.{IsIn, size_of}
 use Rattle.boot_words.specs.kernel_history.specs.BootWords.{boot_word, shape_of}
 use Rattle.boot_words.specs.kernel_history.specs.FinalWords.{word_in}
 use Rattle.call_steps.specs.call_stages.specs.View.{Core}
@@ -93,12 +93,12 @@ module _ {V : Type 0} (items : V → List Call) (setup : Setting) (words : List 
   }
 
   module _ (none : decisions ≡ [])
-      (words_are : (w : Word) → IsIn (shape_of setup) w → word_in (shape_of setup) words w ≡ boot_word setup (shared w)) where
+      (words_are : (w : Word) → IsIn (shape_of setup) w → word_in (shape_of setup) words w ≡ boot_word setup w) where
     pub stands : StandsFor m []
     stands = record {
       made = tt;
       cores = λ c h. core_is c;
-      words = λ w is_in is_named. words_are w is_in ∙ ap (boot_word setup) is_named;
+      words = λ w is_in. words_are w is_in;
       calls = λ c h. ap (λ s. take s.begun (list_at m c)) (sym (fresh_at c h));
       decisions = none;
     }

@@ -33,7 +33,7 @@ closes m setting count between t stands =
     like m.setup (state_after m.setup t) (last_left m.setup t) (word_in (shape_of m.setup) m.words) (λ c. end_of (cores_after m.setup t c))
     (end_in (map (λ seat. end_of seat.state) m.seats))
     (ap (λ l. l.frames) (limits_of m.setup t)) (ap (λ l. l.cores) (limits_of m.setup t))
-    (λ w is_in is_shared. sym (stands.words w is_in is_shared)) (λ c h. ap end_of (sym (stands.cores c h))
+    (λ w is_in. sym (stands.words w is_in)) (λ c h. ap end_of (sym (stands.cores c h))
     ∙ end_at m.setup m.seats c (omega arith))
     (represents m.setup setting (cores_after m.setup t) t (made_stands m.setup setting t stands.made)
     (λ c h. ap (λ k. k.active) (sym (stands.cores c h)) ∙ between c h))
@@ -43,6 +43,6 @@ pub closes_counts : (m : Machine) → IsSetting m.setup → ((c : ℕ) → c < m
 closes_counts m setting between t stands =
     like_counts m.setup setting (state_after m.setup t) (last_left m.setup t) (word_in (shape_of m.setup) m.words)
     (ap (λ l. l.frames) (limits_of m.setup t)) (ap (λ l. l.cores) (limits_of m.setup t))
-    (λ w is_in is_shared. sym (stands.words w is_in is_shared))
+    (λ w is_in. sym (stands.words w is_in))
     (represents_counts m.setup setting (cores_after m.setup t) t (made_stands m.setup setting t stands.made)
     (λ c h. ap (λ k. k.active) (sym (stands.cores c h)) ∙ between c h))

@@ -1,7 +1,7 @@
 -- When a machine stands for a trace.
 use Rattle.std.specs.Prelude.{◌≡◌, ℕ, ◌<◌, take, slice_index}
 use Rattle.word_map.specs.Word.{Word}
-use Rattle.word_map.specs.Places.{IsIn, place_of, shared}
+use Rattle.word_map.specs.Places.{IsIn, place_of}
 use Rattle.boot_words.specs.kernel_history.specs.Trace.{Trace, last_left, calls_of, decisions_of}
 use Rattle.boot_words.specs.kernel_history.specs.BootWords.{shape_of}
 use Rattle.flight_laws.specs.flight.specs.Made.{cores_after, IsMade}
@@ -12,7 +12,6 @@ use Rattle.lone_kernel.specs.Machine.{Machine, core_at, seat_at, list_at}
 pub record StandsFor (m : Machine) (t : Trace) : Type 0 where
   pub made : IsMade m.setup t
   pub cores : (c : ℕ) → c < m.setup.cores → core_at m c ≡ cores_after m.setup t c
-  pub words : (w : Word) → IsIn (shape_of m.setup) w → shared w ≡ w
-      → slice_index m.words (place_of (shape_of m.setup) w) ≡ last_left m.setup t w
+  pub words : (w : Word) → IsIn (shape_of m.setup) w → slice_index m.words (place_of (shape_of m.setup) w) ≡ last_left m.setup t w
   pub calls : (c : ℕ) → c < m.setup.cores → calls_of t c ≡ take (seat_at m c).begun (list_at m c)
   pub decisions : m.decisions ≡ decisions_of t

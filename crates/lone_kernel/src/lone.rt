@@ -11,7 +11,7 @@
 ghost use Rattle.std.specs.Prelude.{◌≡◌, ◌≢◌, ◌↔◌, false, IsSome, None, Some, [], ℕ, ◌+◌, ◌<◌, ◌≤◌, ◌^◌, ◌++◌, IsTrue};
 ghost use Rattle.std.specs.Prelude.{All, IfOk, map, sum_by, length, slice_index, slice_set, vec_len, vec_capacity};
 ghost use Rattle.spk_nums.specs.WordSteps.{place_in, left_by, told_by};
-ghost use Rattle.word_map.specs.Places.{size_of, place_of, shared};
+ghost use Rattle.word_map.specs.Places.{size_of, place_of};
 ghost use Rattle.boot_words.specs.kernel_history.specs.Trace.{Trace, state_after, decision_at};
 ghost use Rattle.boot_words.specs.kernel_history.specs.FinalWords.{Represent, word_in, end_in};
 ghost use Rattle.boot_words.specs.kernel_history.specs.Counts.{RepresentCounts};

@@ -67,7 +67,6 @@ module _ (setup : Setting) (setting : IsSetting setup) (cores : ℕ → Core) (t
         follows = record {
           is_core = here;
           is_in = lands.is_in;
-          is_named = lands.is_named;
           found = refl;
           small = small;
           enters = tt;

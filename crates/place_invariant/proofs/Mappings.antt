@@ -3,7 +3,7 @@
 use Rattle.count_invariant.proofs.Common.{◌≡◌, ℕ, ℤ, pos, ◌<◌, ◌&&◌, map, not, Bool, true, false, IsTrue, List, [], ◌∷◌, Option, Some}
 use Rattle.count_invariant.proofs.Common.{None, inl, inr, refl, sym, ◌∙◌, ap, subst, if◌then◌else◌, All, All-head, lt-ltb, eq-eqb}
 use Rattle.count_invariant.proofs.Common.{false≢true, Capability, Setting, IsSetting, Call, Map, PageFlags, FrameKind, count_of_word}
-use Rattle.count_invariant.proofs.Common.{frame_of_word, FrameWord, EntryAt, FrameAt, CountAt, LiveAt, counter_of, Move, LoadOf, word_of}
+use Rattle.count_invariant.proofs.Common.{frame_of_word, FrameWord, EntryAt, FrameAt, CountAt, LiveAt, Move, LoadOf, word_of}
 use Rattle.count_invariant.proofs.Common.{Frame, Untyped, User, Kernel, State, Slot, Target, Under, found, reached, has_frame, outside}
 use Rattle.count_invariant.proofs.Common.{is_frame, Change, RuleMay, Refused, Vacant, Does, and_then, unless, first_of, first_cause}
 use Rattle.count_invariant.proofs.Common.{outcome, rule_of, change_of, are_calls_spent, IsAlone, looks_at_frames, is_one_of, frames_near}
@@ -76,15 +76,15 @@ map_names call ks k is puts = absurd (false≢true is)
 -- A core that has acquired the counts due to one frame holds its count of the frame.
 count_held : (setup : Setting) (t : Trace) (c : ℕ) (call : Call) (f : ℕ) (z : ℤ) (xs : List Acquired)
     → record { frame = f; change = z } ∷ [] ≡ map due_of xs → All (IsCount setup t c call) xs
-    → (holds_counts None xs).marks (CountAt f (counter_of c)) ≡ true
+    → (holds_counts None xs).marks (CountAt f c) ≡ true
 count_held setup t c call f z [] due all = absurd (none_due _ due)
   where
     none_due : (d : Due) → d ∷ [] ≡ [] → ⊥
     none_due d h = cc
 count_held setup t c call f z (x ∷ xs) due all =
-    subst (λ (b : ℕ). (holds_counts None (x ∷ xs)).marks (CountAt f (counter_of b)) ≡ true)
+    subst (λ (b : ℕ). (holds_counts None (x ∷ xs)).marks (CountAt f b) ≡ true)
     (All-head (IsCount setup t c call) x xs all).core
-    (subst (λ (g : ℕ). (holds_counts None (x ∷ xs)).marks (CountAt g (counter_of x.pin.core)) ≡ true)
+    (subst (λ (g : ℕ). (holds_counts None (x ∷ xs)).marks (CountAt g x.pin.core) ≡ true)
     (sym (ap (λ (d : Due). d.frame) (first_due _ _ _ _ due))) (first_marked None x xs))
   where
     first_due : (d b : Due) (ds bs : List Due) → d ∷ ds ≡ b ∷ bs → d ≡ b
@@ -242,9 +242,9 @@ module _ (setup : Setting) (setting : IsSetting setup) (cores : ℕ → Core) (t
   entry_apart g i h = cc
 
   -- its count is held
-  held_count : marked_by setup t (CountAt f (counter_of c)) ≡ Some c
-  held_count = (stands.marks (CountAt f (counter_of c)) c).kept (ap (λ o. (holds_in o).marks (CountAt f (counter_of c))) active
-      ∙ ap (λ h. h.marks (CountAt f (counter_of c))) held_is
+  held_count : marked_by setup t (CountAt f c) ≡ Some c
+  held_count = (stands.marks (CountAt f c) c).kept (ap (λ o. (holds_in o).marks (CountAt f c)) active
+      ∙ ap (λ h. h.marks (CountAt f c)) held_is
       ∙ count_held setup t c a.call f (pos 1) a.counts
       (ap (λ (fs : List ℕ). map (λ (g : ℕ). record { frame = g; change = pos 1 }) fs)
       (sym (map_names a.call a.found fill.cap knows.maps knows.puts)) ∙ has.knows.all)
@@ -278,7 +278,7 @@ module _ (setup : Setting) (setting : IsSetting setup) (cores : ℕ → Core) (t
             user = subst (HasUser setup (e ∷ t) c) (sym is.call_is) (subst (λ (n : ℕ). IsUser setup (e ∷ t) c n) (sym frame_is) (record {
               user = user_is (s.frame f) (ap (λ x. x.kind) (shown_is v shown bare) ∙ kind_is);
               held = ap (λ (n : ℕ). count_mark (count_of_word n))
-                  (last_left-there setup (CountAt f (counter_of c)) e t (not_count f (counter_of c))) ∙ held_count;
+                  (last_left-there setup (CountAt f c) e t (not_count f c)) ∙ held_count;
             }));
           };
           all = has.knows.all;

@@ -8,7 +8,7 @@ use Rattle.frame_words.specs.declared.count_word.Hold.{Hold}
 use Rattle.frame_words.specs.declared.count_word.Hold.TheVariants as hold
 use Rattle.frame_words.proofs.CountLemmas as counts
 use Rattle.word_map.specs.Word.{CountAt}
-use Rattle.word_map.specs.Places.{Shape, IsIn, counter_of}
+use Rattle.word_map.specs.Places.{Shape, IsIn}
 use Rattle.word_map.specs.Moves.{word_of, StoreOf}
 use Rattle.stage_pins.specs.Counts.{unheld, in_field, changed}
 use Rattle.stage_pins.specs.Acquire.{PinFits, pinned_at, pin_move, expected_by, pin_after}
@@ -35,18 +35,14 @@ pub after_fits : (s : Shape) (pin : Pin) (found : ℕ) → PinFits s pin → Pin
 after_fits s (AtLoad frame core) found h = after_load_fits s frame core found (count_of_word found) refl h.0 h.1
 after_fits s (AtCompare frame core count stamp) found h = h
 
--- the core that counts for a core is one of the machine
-counter_is_in : (s : Shape) (core : ℕ) → core < s.cores → counter_of core < s.cores
-counter_is_in s core h = omega (arith, h)
-
 -- its next step is on a word of the machine
 pub pin_is_in : (s : Shape) (pin : Pin) → PinFits s pin → IsIn s (word_of (pin_move pin))
-pin_is_in s (AtLoad frame core) h = (h.0, counter_is_in s core h.1)
-pin_is_in s (AtCompare frame core count stamp) h = (h.0, counter_is_in s core h.1)
+pin_is_in s (AtLoad frame core) h = (h.0, h.1)
+pin_is_in s (AtCompare frame core count stamp) h = (h.0, h.1)
 
 -- and so is the step that commits it
 pub settle_is_in : (s : Shape) (c : Settle) → SettleFits s c → IsIn s (word_of (settle_move c))
-settle_is_in s c h = (h.frame, counter_is_in s c.pin.core h.core)
+settle_is_in s c h = (h.frame, h.core)
 
 -- a count within its field stays what it is
 pub in_field_same : (z : ℤ) → NumberFits z → in_field z ≡ z
@@ -82,7 +78,7 @@ changed_none count h = ap in_field (plus_none count) ∙ in_field_same count h
 -- with no change and no stamp a commit gives back the word that was found
 pub gives_back : (frame core stamp : ℕ) (count : ℤ) → NumberFits count
     → settle_move (record { pin = pinned_at frame core count stamp; change = pos 0; stamp = None })
-    ≡ StoreOf (CountAt frame (counter_of core)) (word_of_count (unheld count stamp))
+    ≡ StoreOf (CountAt frame core) (word_of_count (unheld count stamp))
 gives_back frame core stamp count h =
-    ap (λ k. StoreOf (CountAt frame (counter_of core)) (word_of_count (unheld k stamp)))
+    ap (λ k. StoreOf (CountAt frame core) (word_of_count (unheld k stamp)))
     (changed_none count h)

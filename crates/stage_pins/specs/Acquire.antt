@@ -8,7 +8,7 @@ use Rattle.frame_words.specs.declared.count_word.CountWord.{CountWord}
 use Rattle.frame_words.specs.declared.count_word.Hold.{Hold}
 use Rattle.frame_words.specs.declared.count_word.Hold.TheVariants as hold
 use Rattle.word_map.specs.Word.{CountAt}
-use Rattle.word_map.specs.Places.{Shape, counter_of}
+use Rattle.word_map.specs.Places.{Shape}
 use Rattle.word_map.specs.Moves.{Move, LoadOf, CompareOf, StoreOf, AddOf}
 use Rattle.stage_pins.specs.Counts.{unheld, acquired}
 use Rattle.stage_pins.specs.declared.pin.Pin.{Pin}
@@ -25,11 +25,11 @@ abbrev pub PinFits : Shape → Pin → Type 0
 PinFits s (AtLoad frame core) = (frame < s.frames) × (core < s.cores)
 PinFits s (AtCompare frame core count stamp) = (frame < s.frames) × (core < s.cores) × NumberFits count
 
--- the next step loads the word of the core's counter, then puts the word that the core has acquired in the place of the one that was found
+-- the next step loads the core's count word, then puts the word that the core has acquired in the place of the one that was found
 abbrev pub pin_move : Pin → Move
-pin_move (AtLoad frame core) = LoadOf (CountAt frame (counter_of core))
+pin_move (AtLoad frame core) = LoadOf (CountAt frame core)
 pin_move (AtCompare frame core count stamp) =
-    CompareOf (CountAt frame (counter_of core)) (word_of_count (unheld count stamp)) (word_of_count (acquired core count stamp))
+    CompareOf (CountAt frame core) (word_of_count (unheld count stamp)) (word_of_count (acquired core count stamp))
 
 -- the word that a step expects, if it is a compare
 abbrev pub expected_by : Move → Option ℕ

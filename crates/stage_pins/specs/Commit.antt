@@ -2,7 +2,7 @@
 use Rattle.frame_words.specs.Count.{word_of_count}
 use Rattle.frame_words.specs.declared.count_word.CountWord.{CountWord}
 use Rattle.word_map.specs.Word.{CountAt}
-use Rattle.word_map.specs.Places.{Shape, counter_of}
+use Rattle.word_map.specs.Places.{Shape}
 use Rattle.word_map.specs.Moves.{Move, StoreOf}
 use Rattle.stage_pins.specs.Counts.{unheld, changed, later}
 use Rattle.stage_pins.specs.Acquire.{PinnedFits}
@@ -18,4 +18,4 @@ settled_word c = unheld (changed c.pin.word.count c.change) (later c.pin.word.st
 
 -- the step stores the word in the place of the acquired one
 abbrev pub settle_move : Settle → Move
-settle_move c = StoreOf (CountAt c.pin.frame (counter_of c.pin.core)) (word_of_count (settled_word c))
+settle_move c = StoreOf (CountAt c.pin.frame c.pin.core) (word_of_count (settled_word c))

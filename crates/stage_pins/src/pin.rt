@@ -4,8 +4,8 @@
 //! acquires a count word first, decides, and commits the word last. While it holds the word no core can freeze it, so
 //! a retype never sums a count that a decided call has still to change.
 //!
-//! **Which word.** Each core has a counter, whose word it acquires; cores may share one. The core marks the word with
-//! its own number, so that another core can tell who holds it.
+//! **Which word.** A frame has a count word for each core, and a core acquires its own. It marks the word with its own
+//! number, so that another core, which is to freeze the word, can tell who holds it.
 //!
 //! **How.** The word is loaded. If a core holds it, that core is busy. Else a compare puts the acquired word in the
 //! place of the one that was found, and is lost where another core has changed the word in between.
@@ -13,7 +13,8 @@
 ghost use Rattle.std.specs.Prelude.{◌≡◌, ◌<◌, ℕ, Some};
 ghost use Rattle.spk_nums.specs.declared.steps.StageEnd.TheVariants.{Going};
 ghost use Rattle.frame_words.specs.Count.{NumberFits, word_of_count};
-ghost use Rattle.word_map.specs.Places.{size_of};
+ghost use Rattle.word_map.specs.Word.{CountAt};
+ghost use Rattle.word_map.specs.Places.{IsIn, place_of, size_of};
 ghost use Rattle.spk_nums.specs.WordSteps.{place_in};
 ghost use Rattle.word_map.specs.Moves.{op_of};
 ghost use Rattle.stage_pins.specs.Counts.{unheld, acquired};
@@ -63,7 +64,6 @@ impl Pin {
 
     /// The next step: the load of the count word, then its compare. The frame and the core are below the layout's.
     #[inline]
-    #[tactic(auto, unfolding(word_map::specs::Places::place_of))]
     pub fn next(&self, layout: &Layout) -> WordOp
         requires { PinFits layout.now self.now }
         ensures step { result ≡ op_of layout.now (pin_move self.now) }
@@ -71,7 +71,7 @@ impl Pin {
     {
         match *self {
             Pin::AtLoad { frame, core } => WordOp::Load {
-                at: layout.count_at(frame, core),
+                at: counter_at(layout, frame, core),
             },
             Pin::AtCompare {
                 frame,
@@ -79,7 +79,7 @@ impl Pin {
                 count,
                 stamp,
             } => WordOp::Compare {
-                at: layout.count_at(frame, core),
+                at: counter_at(layout, frame, core),
                 expected: unheld_word(count, stamp),
                 word: acquired_word(core, count, stamp),
             },
@@ -128,6 +128,16 @@ impl Pin {
             }
         }
     }
+}
+
+// The place of the count word that a core acquires: its own.
+#[inline]
+fn counter_at(layout: &Layout, frame: FrameNo, core: CoreNo) -> u32
+    requires { IsIn layout.now (CountAt frame core) }
+    ensures place { result ≡ place_of layout.now (CountAt frame core) }
+    ensures below { result < size_of layout.now }
+{
+    layout.count_at(frame, core)
 }
 
 // The word of a count that no core holds.
@@ -256,11 +266,12 @@ mod tests {
     #[test]
     fn acquires_a_count_that_no_core_holds(rt: HostRuntime) {
         if let Some(layout) = Layout::new(2, 8) {
+            let at = layout.count_at(FrameNo::new(3), CoreNo::new(1));
             let mut pin = Pin::new(FrameNo::new(3), CoreNo::new(1));
-            assert_eq!(rt; pin.next(&layout), WordOp::Load { at: 526 });
+            assert_eq!(rt; pin.next(&layout), WordOp::Load { at });
             assert_eq!(rt; pin.take(&layout, UNHELD), StageEnd::Going);
             let compare = WordOp::Compare {
-                at: 526,
+                at,
                 expected: UNHELD,
                 word: PINNED,
             };

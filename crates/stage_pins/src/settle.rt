@@ -7,7 +7,7 @@ ghost use Rattle.std.specs.Prelude.{◌≡◌, ◌<◌, ℕ, ℤ, pos, None};
 ghost use Rattle.spk_nums.specs.declared.steps.StageEnd.TheVariants.{Done};
 ghost use Rattle.frame_words.specs.Count.{NumberFits, word_of_count};
 ghost use Rattle.word_map.specs.Word.{CountAt};
-ghost use Rattle.word_map.specs.Places.{size_of, counter_of};
+ghost use Rattle.word_map.specs.Places.{size_of};
 ghost use Rattle.spk_nums.specs.WordSteps.{place_in};
 ghost use Rattle.word_map.specs.Moves.{op_of, StoreOf};
 ghost use Rattle.stage_pins.specs.Counts.{unheld, changed, later};
@@ -42,7 +42,6 @@ impl Settle {
     /// The step: the store of the count word, held by no core. A count that would leave its field stays at the
     /// field's end, and a stamp is never replaced by an earlier one. The frame and the core are below the layout's.
     #[inline]
-    #[tactic(auto, unfolding(word_map::specs::Places::place_of))]
     pub fn next(&self, layout: &Layout) -> WordOp
         requires { SettleFits layout.now self.now }
         ensures step { result ≡ op_of layout.now (settle_move self.now) }
@@ -118,7 +117,7 @@ pub fn gives_back_what_it_found()
       pin = pinned_at frame core count stamp;
       change = pos 0;
       stamp = None;
-    }) ≡ StoreOf (CountAt frame (counter_of core)) (word_of_count (unheld count stamp)) }
+    }) ≡ StoreOf (CountAt frame core) (word_of_count (unheld count stamp)) }
 {}
 
 #[cfg(test)]
@@ -153,9 +152,10 @@ mod tests {
             (-0x4000_0000, -1, None, 0x0000_0000_0000_0005),
         ];
         if let Some(layout) = Layout::new(2, 8) {
+            let at = layout.count_at(FrameNo::new(3), CoreNo::new(1));
             for (count, change, stamp, word) in rows {
                 let mut settle = Settle::new(pinned(count), change, stamp);
-                assert_eq!(rt; settle.next(&layout), WordOp::Store { at: 526, word });
+                assert_eq!(rt; settle.next(&layout), WordOp::Store { at, word });
                 assert_eq!(rt; settle.take(&layout, word), StageEnd::Done(()));
             }
         }

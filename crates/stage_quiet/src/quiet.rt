@@ -271,16 +271,16 @@ mod tests {
 
     const FOREIGN: u64 = 1 << 40;
 
-    // A machine of three cores and ten frames has its core words from 680 on, and its flush words from 683 on.
+    // A machine of three cores and ten frames has its core words at 660, 672 and 684, and each flush word after its core word.
     #[test]
     fn scans_the_other_cores_then_the_flushes(rt: HostRuntime) {
         let scan = Quiet::page(Stamp::new(5), CoreNo::new(1), 3);
         if let (Some(layout), Some(mut scan)) = (Layout::new(3, 10), scan) {
-            assert_eq!(rt; scan.next(&layout), WordOp::Load { at: 680 });
+            assert_eq!(rt; scan.next(&layout), WordOp::Load { at: 660 });
             assert_eq!(rt; scan.take(&layout, OUT), StageEnd::Going);
-            assert_eq!(rt; scan.next(&layout), WordOp::Load { at: 682 });
+            assert_eq!(rt; scan.next(&layout), WordOp::Load { at: 684 });
             assert_eq!(rt; scan.take(&layout, INSIDE_6), StageEnd::Going);
-            assert_eq!(rt; scan.next(&layout), WordOp::Load { at: 683 });
+            assert_eq!(rt; scan.next(&layout), WordOp::Load { at: 661 });
             assert_eq!(rt; scan.take(&layout, 6), StageEnd::Going);
             assert_eq!(rt; scan.take(&layout, 7), StageEnd::Going);
             assert_eq!(rt; scan.next(&layout), WordOp::Load { at: 685 });

@@ -32,26 +32,26 @@ took_fits s kept (Compare count stamp) h = h.1
 took_fits s kept (Scan q) h = h
 took_fits s kept (Empty entry) h = h
 
--- a frame has a counter, and no more of them than the machine has cores
+-- a frame has a counter for each core of the machine
 pub counters_within : (s : Shape) → IsShape s → counters_of s ≤ s.cores
 unfolding counters_of
-counters_within s h = h.some_core
+counters_within s h = omega arith
 
 -- a frame has a counter, so a sweep begins with one that is not frozen
-pub some_counter : (s : Shape) → 0 < counters_of s
+pub some_counter : (s : Shape) → 1 ≤ s.cores → 0 < counters_of s
 unfolding counters_of
-some_counter s = omega arith
+some_counter s some = omega (arith, some)
 
-counters_most : (s : Shape) → counters_of s ≤ 8
+counters_most : (s : Shape) → s.cores ≤ 8 → counters_of s ≤ 8
 unfolding counters_of
-counters_most s = omega arith
+counters_most s most = omega (arith, most)
 
 -- a counter that is frozen finds room
-pub keep_fits : (s : Shape) (kept : List CountWord) (at : SweepAt) → AtFits s kept at → KeepFits kept at
-keep_fits s kept Load h = tt
-keep_fits s kept (Compare count stamp) h = let most = counters_most s in (omega (arith, h.0, most), h.1)
-keep_fits s kept (Scan q) h = tt
-keep_fits s kept (Empty entry) h = tt
+pub keep_fits : (s : Shape) → s.cores ≤ 8 → (kept : List CountWord) (at : SweepAt) → AtFits s kept at → KeepFits kept at
+keep_fits s most kept Load h = tt
+keep_fits s most kept (Compare count stamp) h = let within = counters_most s most in (omega (arith, h.0, within), h.1)
+keep_fits s most kept (Scan q) h = tt
+keep_fits s most kept (Empty entry) h = tt
 
 pub room_for : (kept : List CountWord) (at : SweepAt) (found : ℕ) (v : CountWord)
     → frozen_at at found ≡ Some v → KeepFits kept at → length kept < 8

@@ -4,9 +4,9 @@ use Rattle.frame_words.specs.Count.{NumberFits}
 use Rattle.frame_words.specs.declared.count_word.CountWord.{CountWord}
 use Rattle.word_map.specs.Places.{Shape}
 
--- how many counters a frame has: all cores share one
+-- how many counters a frame has: one for each core
 unfoldable pub counters_of : Shape → ℕ
-counters_of s = 1
+counters_of s = s.cores
 
 -- the sum of a list of counts
 abbrev pub add_count : ℤ → CountWord → ℤ

@@ -1,8 +1,10 @@
 //! Sweeping a frame that is to be retyped to untyped.
 //!
-//! **Freezing.** The references to a frame are counted in its count words. One after the other is loaded and frozen by a
-//! compare. A frozen word is changed by no other core, and a word that another core has acquired is busy. So at the last
-//! compare every reference is counted, and the sum of the words found is the number of references.
+//! **Freezing.** The references to a frame are counted in its count words, one for each core. One after the other, core
+//! 0's first, is loaded and frozen by a compare. A frozen word is changed by no other core, and a word that another core has
+//! acquired is busy. So at the last compare no count of the frame is acquired, and the sum of the words found is the number
+//! of references at that moment. Until then the words still to be frozen may change, so that a sum of the first alone says
+//! nothing.
 //!
 //! **Judging.** Where references stand the retype is refused at that compare. Else what released the last of them may
 //! still be used: the latest stamp of the words found is scanned for, with the flushes of a frame that may stand in cached
@@ -138,6 +140,8 @@ impl Sweep {
         ensures after { self.new ≡ sweep_after layout.now self.old found }
         ensures fits { result ≡ Going → SweepFits layout.now self.new }
     {
+        // A machine has at most 8 cores, so that each counter finds room.
+        prove!(layout.cores() <= 8);
         let at = self.at;
         self.keep(found);
         let took = self.took(layout, found);
@@ -187,6 +191,7 @@ impl Sweep {
     }
 
     // The refusal to which a step leads that finds this word, and where the sweep goes on; what it froze is kept.
+    #[tactic(auto, unfolding(crate::specs::Counters::counters_of))]
     fn took(&self, layout: &Layout, found: u64) -> (Option<Reply>, Option<SweepAt>)
         requires frame { self.now.frame < layout.now.frames }
         requires core { self.now.core < layout.now.cores }
@@ -200,7 +205,7 @@ impl Sweep {
                 (load_refuses(&shown), load_next(&shown))
             }
             SweepAt::Compare { count, stamp } => {
-                let more = self.kept.len() < usize::from(counters(layout));
+                let more = self.kept.len() < usize::from(layout.cores());
                 let same = found == unheld_word(count, stamp);
                 (
                     compare_refuses(same, more, self.kept.sum()),
@@ -253,15 +258,6 @@ impl Sweep {
             (None, None) => StageEnd::Done(self.kept()),
         }
     }
-}
-
-// How many counters a frame has.
-#[inline]
-#[tactic(auto, unfolding(crate::specs::Counters::counters_of))]
-fn counters(_layout: &Layout) -> u8
-    ensures { result ≡ counters_of _layout.now }
-{
-    1
 }
 
 // The count word that no core holds.
@@ -463,13 +459,17 @@ mod tests {
     use super::*;
     use spk_nums::FrameKind;
 
-    // A counter with 2 references, one with none and the stamp 5, and that frozen by core 1; the word of a core that is
-    // inside a call since an exit at 5.
+    // A counter with 2 references, one with one less than none, one with none and the stamp 5, and that frozen by core 1;
+    // one with none and the stamp 4; the word of a core that is inside a call since an exit at 5.
     const TWO: u64 = 0x0400_0000_2000_0000;
+
+    const ONE_LESS: u64 = 0x03ff_ffff_f000_0000;
 
     const NONE: u64 = 0x0400_0000_0000_0005;
 
     const FROZEN: u64 = 0x9400_0000_0000_0005;
+
+    const EARLIER: u64 = 0x0400_0000_0000_0004;
 
     const INSIDE_5: u64 = 11;
 
@@ -487,15 +487,16 @@ mod tests {
         Sweep::new(FrameNo::new(3), word, CoreNo::new(1))
     }
 
-    // A machine of two cores and eight frames has the counter of frame 3 at 526, and its cores' words from 536 on.
     #[test]
     fn freezes_then_scans_then_looks_at_the_object(rt: HostRuntime) {
         if let Some(layout) = Layout::new(2, 8) {
+            let first = layout.count_at(FrameNo::new(3), CoreNo::new(0));
+            let second = layout.count_at(FrameNo::new(3), CoreNo::new(1));
             let mut tcap = sweep(&layout, FrameKind::Kernel, Obj::Tcap);
-            assert_eq!(rt; tcap.next(&layout), WordOp::Load { at: 526 });
+            assert_eq!(rt; tcap.next(&layout), WordOp::Load { at: first });
             assert_eq!(rt; tcap.take(&layout, NONE), StageEnd::Going);
             let compare = WordOp::Compare {
-                at: 526,
+                at: first,
                 expected: NONE,
                 word: FROZEN,
             };
@@ -503,12 +504,17 @@ mod tests {
             let mut lost = tcap;
             assert_eq!(rt; lost.take(&layout, TWO), StageEnd::Refuse(Reply::Raced));
             assert_eq!(rt; tcap.take(&layout, NONE), StageEnd::Going);
-            assert_eq!(rt; tcap.next(&layout), WordOp::Load { at: 536 });
+            assert_eq!(rt; tcap.next(&layout), WordOp::Load { at: second });
+            assert_eq!(rt; tcap.take(&layout, EARLIER), StageEnd::Going);
+            assert_eq!(rt; tcap.take(&layout, EARLIER), StageEnd::Going);
+            let core = layout.core_at(CoreNo::new(0));
+            assert_eq!(rt; tcap.next(&layout), WordOp::Load { at: core });
             let mut early = tcap;
             let quiescing = StageEnd::Refuse(Reply::Quiescing(CoreNo::new(0)));
             assert_eq!(rt; early.take(&layout, INSIDE_5), quiescing);
             assert_eq!(rt; tcap.take(&layout, 0), StageEnd::Going);
-            assert_eq!(rt; tcap.next(&layout), WordOp::Load { at: 192 });
+            let head = layout.entry_at(FrameNo::new(3), EntryNo::new(0));
+            assert_eq!(rt; tcap.next(&layout), WordOp::Load { at: head });
             let mut full = tcap;
             assert_eq!(rt; full.take(&layout, 7), StageEnd::Refuse(Reply::NotEmpty));
             let end = tcap.take(&layout, 0);
@@ -523,11 +529,13 @@ mod tests {
             let mut leaf = sweep(&layout, FrameKind::Kernel, Obj::Leaf);
             let mut held = leaf;
             assert_eq!(rt; leaf.take(&layout, TWO), StageEnd::Going);
+            assert_eq!(rt; leaf.take(&layout, TWO), StageEnd::Going);
+            assert_eq!(rt; leaf.take(&layout, ONE_LESS), StageEnd::Going);
             assert_eq!(rt;
-                leaf.take(&layout, TWO),
-                StageEnd::Refuse(Reply::Referenced(2))
+                leaf.take(&layout, ONE_LESS),
+                StageEnd::Refuse(Reply::Referenced(1))
             );
-            assert_eq!(rt; leaf.kept().words.len(), 1);
+            assert_eq!(rt; leaf.kept().words.len(), 2);
             let busy = StageEnd::Refuse(Reply::Busy(CoreNo::new(1)));
             assert_eq!(rt; held.take(&layout, FROZEN), busy);
             assert_eq!(rt; held.kept().words.len(), 0);

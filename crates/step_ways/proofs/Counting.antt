@@ -57,7 +57,6 @@ module _ (setup : Setting) (setting : IsSetting setup) (cores : ℕ → Core) (t
       let follows : MayFollow setup t e = record {
         is_core = here;
         is_in = lands.is_in;
-        is_named = lands.is_named;
         found = refl;
         small = small;
         enters = tt;

@@ -12,7 +12,7 @@ use Rattle.kept_facts.proofs.Common.{holds, held_by, Invariant, marks_own, settl
 use Rattle.kept_facts.proofs.Common.{calm_counted, calm_words, counted_rises, IsUntimed, plain_time, plain_exit, BeginsNone, plain_begins}
 use Rattle.kept_facts.proofs.Common.{lent_open, lent_kept}
 use Rattle.kept_facts.specs.spk_nums.specs.Bounds.{bound_of}
-use Rattle.kept_facts.specs.word_map.specs.Places.{IsIn as IsInShape, shared}
+use Rattle.kept_facts.specs.word_map.specs.Places.{IsIn as IsInShape}
 use Rattle.kept_facts.specs.kernel_history.specs.Trace.{steps_in_call}
 use Rattle.kept_facts.specs.kernel_history.specs.Discipline.{MayMove, MarksOwn, KeepsMarked, IsDisciplined}
 use Rattle.kept_facts.specs.kernel_history.specs.Footprint.{StepsNear}
@@ -58,7 +58,6 @@ core_in_call core made a = record { own = record core.own { made = made }; activ
 pub record Lands (setup : Setting) (core : Core) (w : Word) : Type 0 where
   pub fits : IsCore core
   pub is_in : IsInShape (shape_of setup) w
-  pub is_named : shared w ≡ w
 
 -- The operation is one of the call, and its word is in the call's footprint.
 pub record IsOfCall (setup : Setting) (t : Trace) (c : ℕ) (call : Call) (move : Move) : Type 0 where
@@ -205,7 +204,6 @@ module _ (setup : Setting) (setting : IsSetting setup) (cores : ℕ → Core) (t
       let follows : MayFollow setup t e = record {
         is_core = here;
         is_in = lands.is_in;
-        is_named = lands.is_named;
         found = refl;
         small = kept_small move None None looks.kept;
         enters = tt;
@@ -283,7 +281,6 @@ module _ (setup : Setting) (setting : IsSetting setup) (cores : ℕ → Core) (t
         follows = record {
           is_core = here;
           is_in = lands.is_in;
-          is_named = lands.is_named;
           found = refl;
           small = kept_small move (Some r) None looks.kept;
           enters = tt;

@@ -2,7 +2,7 @@
 -- all counters of the frame.
 use Rattle.kept_facts.proofs.Common.{◌≡◌, ◌≢◌, ◌⊎◌, ◌<◌, ℕ, inl, inr, Bool, true, false, ◌∷◌, Option, Some, None, refl, sym, ◌∙◌, ap}
 use Rattle.kept_facts.proofs.Common.{subst, IsTrue, All, false≢true, Setting, IsSetting, Call, Retype, Reply, count_of_word, CountAt}
-use Rattle.kept_facts.proofs.Common.{counter_of, word_of, left_of, Frame, User, Kernel, Blank, Pages, Pleaf, FrameOf, PlaceOf, State}
+use Rattle.kept_facts.proofs.Common.{word_of, left_of, Frame, User, Kernel, Blank, Pages, Pleaf, FrameOf, PlaceOf, State}
 use Rattle.kept_facts.proofs.Common.{is_translated, is_node, MayReply, ends_by, ends, opened, counters, MayDecide, MayFollow, IsLegal}
 use Rattle.kept_facts.proofs.Common.{marked_by, count_mark, ends_at, ends_in, Step, Trace, Phase, Out, Open, phase, after_enter}
 use Rattle.kept_facts.proofs.Common.{state_after, state_entered, state_decided, state_returned, state_before, last_left, cases_word}
@@ -128,7 +128,7 @@ pub users_kept : (setup : Setting) (t : Trace) (e : Step) (c : ℕ)
     → KeepsUsers setup t e c
 users_kept setup t e c frames counts f had = record {
   user = frames f ∙ had.user;
-  held = ap (λ (n : ℕ). count_mark (count_of_word n)) (counts f (counter_of c) had.held) ∙ had.held;
+  held = ap (λ (n : ℕ). count_mark (count_of_word n)) (counts f c had.held) ∙ had.held;
 }
 
 -- A user frame of which a core holds its count stays one at a step of another, which leaves the count held.
@@ -136,10 +136,10 @@ pub users_stay : (setup : Setting) → IsSetting setup → (t : Trace) → IsLeg
     → KeepsMarked setup t e → SparesCounted setup t e → (c : ℕ) → c < setup.cores → c ≢ e.core → KeepsUsers setup t e c
 users_stay setup setting t legal e follows keeps spares c here other f had = record {
   user = by (ends_at t e (FrameOf f)) refl;
-  held = ap (λ (n : ℕ). count_mark (count_of_word n)) (elim (cases_word (CountAt f (counter_of c)) (word_of e.move)) [
-    | inl at ↦ last_left-here setup (CountAt f (counter_of c)) e t at ∙ keeps c (ap (marked_by setup t) (sym at) ∙ had.held) other
+  held = ap (λ (n : ℕ). count_mark (count_of_word n)) (elim (cases_word (CountAt f c) (word_of e.move)) [
+    | inl at ↦ last_left-here setup (CountAt f c) e t at ∙ keeps c (ap (marked_by setup t) (sym at) ∙ had.held) other
         ∙ follows.found ∙ ap (last_left setup t) (sym at)
-    | inr there ↦ last_left-there setup (CountAt f (counter_of c)) e t there
+    | inr there ↦ last_left-there setup (CountAt f c) e t there
   ]) ∙ had.held;
 }
   where

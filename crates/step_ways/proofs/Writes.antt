@@ -136,7 +136,6 @@ module _ (setup : Setting) (setting : IsSetting setup) (cores : ℕ → Core) (t
           follows = record {
             is_core = here;
             is_in = lands.is_in;
-            is_named = lands.is_named;
             found = refl;
             small = small;
             enters = tt;
@@ -276,7 +275,6 @@ module _ (setup : Setting) (setting : IsSetting setup) (cores : ℕ → Core) (t
         let follows : MayFollow setup t e = record {
           is_core = here;
           is_in = lands.is_in;
-          is_named = lands.is_named;
           found = refl;
           small = small;
           enters = tt;
@@ -346,7 +344,6 @@ module _ (setup : Setting) (setting : IsSetting setup) (cores : ℕ → Core) (t
           follows = record {
             is_core = here;
             is_in = lands.is_in;
-            is_named = lands.is_named;
             found = refl;
             small = core_small false x (omega arith);
             enters = tt;
@@ -439,7 +436,6 @@ module _ (setup : Setting) (setting : IsSetting setup) (cores : ℕ → Core) (t
         follows = record {
           is_core = here;
           is_in = lands.is_in;
-          is_named = lands.is_named;
           found = refl;
           small = core_small true (cores c).own.exit (omega arith);
           enters = (out, limits);

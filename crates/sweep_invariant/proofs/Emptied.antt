@@ -1,11 +1,11 @@
 -- Of a frame that was swept: its object is empty, and the references that it names itself are due to be released, once each.
-use Rattle.freeze_invariant.proofs.Common.{is_some, list_any, ◌≡◌, ◌≢◌, ◌⊎◌, inl, inr, ℕ, negsuc, zero, suc, ◌+◌, ◌<◌, ◌≤◌, ◌==◌, ◌&&◌}
-use Rattle.freeze_invariant.proofs.Common.{◌||◌, nat_le, length, Bool, true, false, cond, List, [], ◌∷◌, map, Option, Some, None, arith}
-use Rattle.freeze_invariant.proofs.Common.{refl, sym, ◌∙◌, ap, subst, false≢true, eq-eqb, ne_eqb, le-leb, eqb-true, All-nil, All-cons}
+use Rattle.freeze_invariant.proofs.Common.{is_some, list_any, ◌≡◌, ◌≢◌, inl, inr, ℕ, zero, suc, ◌+◌, ◌<◌, ◌≤◌, ◌==◌, ◌&&◌}
+use Rattle.freeze_invariant.proofs.Common.{◌||◌, length, Bool, true, false, cond, List, [], ◌∷◌, map, Option, Some, None, arith}
+use Rattle.freeze_invariant.proofs.Common.{refl, sym, ◌∙◌, ap, false≢true, eq-eqb, ne_eqb, le-leb, All-nil, All-cons}
 use Rattle.freeze_invariant.proofs.Common.{All-head, All-tail, Blank, Table, Leaf, Pages, Pleaf, Comp, Thread, Tcap, Frame, Untyped, User}
 use Rattle.freeze_invariant.proofs.Common.{Kernel, State, held_in, is_empty, times, frame_value, Acquired, loads_of, Owned, released_dues}
 use Rattle.freeze_invariant.proofs.Common.{Due, Word, CountAt, cases_word, same_word-other, IsWithin, count_of, holds_counts, due_of}
-use Rattle.freeze_invariant.proofs.Common.{IsLookedAt, names_of, counter_of}
+use Rattle.freeze_invariant.proofs.Common.{IsLookedAt, names_of}
 use Rattle.std.specs.Prelude.{if◌then◌else◌, not}
 use Rattle.std.specs.List.{range_with_len}
 use Rattle.std.proofs.Common.{All}
@@ -106,7 +106,7 @@ pub acquired_away : (fate : Option (Option ℕ)) (f d : ℕ) (xs : List Acquired
     → (holds_counts fate xs).marks (CountAt f d) ≡ false
 acquired_away fate f d [] all = refl
 acquired_away fate f d (x ∷ xs) all =
-    ap (λ b. if b && d == counter_of x.pin.core then true else (holds_counts fate xs).marks (CountAt f d))
+    ap (λ b. if b && d == x.pin.core then true else (holds_counts fate xs).marks (CountAt f d))
     (ne_eqb f x.pin.frame (λ same. All-head (λ (x : Acquired). x.pin.frame ≢ f) x xs all (sym same)))
     ∙ acquired_away fate f d xs (All-tail (λ (x : Acquired). x.pin.frame ≢ f) x xs all)
 
@@ -114,7 +114,7 @@ acquired_away fate f d (x ∷ xs) all =
 pub count_word : (xs : List Acquired) (w : Word) → (holds_counts None xs).marks w ≡ true → (f : ℕ) × (d : ℕ) × (w ≡ CountAt f d)
 count_word [] w mark = absurd (false≢true mark)
 count_word (x ∷ xs) w mark = elim (cases_word w (count_of x)) [
-  | inl same ↦ (x.pin.frame, counter_of x.pin.core, same)
+  | inl same ↦ (x.pin.frame, x.pin.core, same)
   | inr other ↦ count_word xs w (sym (ap (λ b. if b then true else (holds_counts None xs).marks w) (same_word-other w (count_of x) other))
       ∙ mark)
 ]

@@ -1,18 +1,18 @@
 -- No core holds or keeps a word of the object in a frame to which nothing refers, and for which no other core waits: who holds one, relies
 -- on its frame.
-use Rattle.freeze_invariant.proofs.Common.{◌≡◌, ◌≢◌, ◌⊎◌, inl, inr, ℕ, zero, suc, ◌+◌, ◌<◌, ◌≤◌, ◌==◌, ◌&&◌, Bool, true, false, List, []}
+use Rattle.freeze_invariant.proofs.Common.{◌≡◌, ◌≢◌, inl, inr, ℕ, zero, suc, ◌<◌, ◌≤◌, ◌==◌, ◌&&◌, Bool, true, false, List, []}
 use Rattle.freeze_invariant.proofs.Common.{◌∷◌, Option, Some, None, arith, refl, sym, ◌∙◌, ap, subst, cases_eq, cases_lt, false≢true}
-use Rattle.freeze_invariant.proofs.Common.{ne_eqb, Setting, IsSetting, Capability, Call, Reply, Quiet, AtCore, AtFlush, AtStack, Pair}
+use Rattle.freeze_invariant.proofs.Common.{ne_eqb, Setting, IsSetting, Capability, Call, AtStack, Pair}
 use Rattle.freeze_invariant.proofs.Common.{PairAt, LoadA, MarkA, ListA, LoadB, ListB, CompareB, AgainB, StoreList, StoreB, StoreA}
-use Rattle.freeze_invariant.proofs.Common.{Acquired, EntryAt, State, FrameOf, Slot, refs, times, IsGuarded, marked_by, Trace, Open, phase}
+use Rattle.freeze_invariant.proofs.Common.{Acquired, EntryAt, State, FrameOf, refs, times, IsGuarded, marked_by, Trace, Open, phase}
 use Rattle.freeze_invariant.proofs.Common.{state_after, last_left, Plan, Close, AtCompare, AtDraw, AtStore, MakingAt, CompMaking, CompAt}
 use Rattle.freeze_invariant.proofs.Common.{KillingAt, UntypingAt, Switching, SwitchAt, Fill, Outside, Untype, MakeComp, Invoke, Return}
 use Rattle.freeze_invariant.proofs.Common.{Tail, Nothing, Quiesce, Unmark, StoreDead, StoreFlush, Release, StoreLive, Push, Pop}
 use Rattle.freeze_invariant.proofs.Common.{StoreRunning, StoreIdle, Work, Lookup, Read, Scan, Acquire, ActiveCall, Stage, Enter}
-use Rattle.freeze_invariant.proofs.Common.{Undecided, Decided, Leave, release_of, swept_of, Core, Holding, holds_counts, keeps, settled}
+use Rattle.freeze_invariant.proofs.Common.{Undecided, Decided, Leave, release_of, swept_of, Core, Holding, holds_counts, settled}
 use Rattle.freeze_invariant.proofs.Common.{settled_by, holds_untyping, KnowsAct, KnowsAt, KnowsTail, KnowsWork, CallIs, phase_at}
-use Rattle.freeze_invariant.proofs.Common.{KnowsShared, KnowsStoresAt, Invariant, holds, held_by, holds_act, holds_at, holds_comp}
-use Rattle.freeze_invariant.proofs.Common.{holds_head, holds_heads, holds_in, holds_killing, holds_making, holds_share, holds_shared}
+use Rattle.freeze_invariant.proofs.Common.{KnowsStoresAt, Invariant, holds, held_by, holds_act, holds_comp}
+use Rattle.freeze_invariant.proofs.Common.{holds_heads, holds_in, holds_killing, holds_making, holds_share, holds_shared}
 use Rattle.freeze_invariant.proofs.Common.{holds_tail, holds_work, is_done, holds_switching, slot_relies, release_entry, limits_of}
 use Rattle.freeze_invariant.proofs.Common.{claimed_by}
 use Rattle.std.specs.Prelude.{if◌then◌else◌}
@@ -37,10 +37,8 @@ use Rattle.freeze_invariant.specs.act_states.specs.declared.work.Tail.TheVariant
 use Rattle.freeze_invariant.specs.act_states.specs.declared.work.Work.TheVariants.{Act as act_work}
 use Rattle.freeze_invariant.specs.core_invariant.specs.Holding.{holds_closed, holds_drawn, kept_below}
 use Rattle.freeze_invariant.specs.core_invariant.specs.Knows.{KnowsClose, KnowsStore}
-use Rattle.freeze_invariant.specs.core_invariant.specs.Shares.{KnowsShare}
 use Rattle.freeze_invariant.specs.core_invariant.specs.Invariant.{holds_pop, holds_push}
 use Rattle.freeze_invariant.specs.core_invariant.specs.Invariant.{holds_stage}
-use Rattle.freeze_invariant.specs.core_invariant.specs.Threads.{KnowsSwitch}
 use Rattle.freeze_invariant.specs.kept_facts.proofs.Lent.{lent_unmarked}
 use Rattle.freeze_invariant.specs.core_invariant.specs.Holding.{kept_or}
 

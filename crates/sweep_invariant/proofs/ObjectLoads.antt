@@ -1,48 +1,34 @@
 -- The step of a retype to untyped that looks at a word of the object in its frame: what it finds is what the object is, and it goes on, or
 -- the object is not empty.
-use Rattle.freeze_invariant.proofs.Common.{list_any, ◌≡◌, ◌≢◌, ◌⊎◌, inl, inr, ℕ, ◌+◌, ◌<◌, ◌≤◌, ◌==◌, ◌&&◌, ◌||◌, nat_lt, nat_le, length}
-use Rattle.freeze_invariant.proofs.Common.{Bool, true, false, List, [], ◌∷◌, Option, Some, None, IsTrue, arith, refl, sym, ◌∙◌, ap, subst}
-use Rattle.freeze_invariant.proofs.Common.{cases_eq, eq-eqb, eqb-true, false≢true, ltb-true, ltb-false, leb-true, leb-false, Setting}
-use Rattle.freeze_invariant.proofs.Common.{IsSetting, Call, Reply, core_of_word, flush_of_word, CoreWord, FlushWord, CountWord, FrameWord}
-use Rattle.freeze_invariant.proofs.Common.{CoreAt, FlushAt, same_word, EntryAt, Move, LoadOf, State, Thing, FrameOf, PlaceOf, is_untyped}
-use Rattle.freeze_invariant.proofs.Common.{is_empty, same_thing, is_translated, lowest, unflushed_by, MayWait, MayBeUnflushed, Refused}
-use Rattle.freeze_invariant.proofs.Common.{When, rule_of, change_of, IsAlone, IsRemoved, IsWaiting, IsUnflushed, frame_value}
-use Rattle.freeze_invariant.proofs.Common.{awaits_flushes, exit_of, flush_of, flush_stored, stamp, Step, Trace, Out, Open, phase}
-use Rattle.freeze_invariant.proofs.Common.{state_after, last_left, asked_of, waited_in, flushed_in, refused_first, nobody_waits}
-use Rattle.freeze_invariant.proofs.Common.{awaits_are, was_at_once, not_inside, out_passed, later_passed, may_wait, own_pages, Quiet}
-use Rattle.freeze_invariant.proofs.Common.{AtCore, AtFlush, next_other, core_scan, flush_scan, core_refuses, flush_refuses, scan_end}
-use Rattle.freeze_invariant.proofs.Common.{scan_after, quiet_next, quiet_end, quiet_after, latest_stamp, may_be_cached, loads_of}
-use Rattle.freeze_invariant.proofs.Common.{refusal_of, scan_goes, empty_next, at_after, end_by, swept_of, Owned, Sweep, SweepAt, Empty}
-use Rattle.freeze_invariant.proofs.Common.{took_sweep, next_work, release_of, UntypingFits, Untyping, Draw, Swept, Work, Act, WorkStep}
-use Rattle.freeze_invariant.proofs.Common.{Goes, Refuses, Undecided, ActiveCall, landed, Core, holds_release, Holding, holds_counts}
-use Rattle.freeze_invariant.proofs.Common.{KnowsUndecided, KnowsWork, AreDuesApart, holds_in, holds_work, Invariant, holds, held_by}
-use Rattle.freeze_invariant.proofs.Common.{AreFrozen, IsQuiet, IsScanning, KnowsSweep, KnowsSweepScan, IsLookedAt, names_of, names_on}
-use Rattle.freeze_invariant.proofs.Common.{quiet_frame_on, limits_of, Obj, refs, frame_names, IsSound, opened, events_of, sound_of}
+use Rattle.freeze_invariant.proofs.Common.{◌≡◌, ◌≢◌, inl, inr, ℕ, ◌+◌, ◌<◌, ◌≤◌, nat_lt}
+use Rattle.freeze_invariant.proofs.Common.{Bool, true, false, List, ◌∷◌, Option, Some, None, arith, refl, sym, ◌∙◌, ap, subst}
+use Rattle.freeze_invariant.proofs.Common.{ltb-false, Setting}
+use Rattle.freeze_invariant.proofs.Common.{IsSetting, Reply, CountWord, FrameWord}
+use Rattle.freeze_invariant.proofs.Common.{EntryAt, Move, LoadOf, State, Thing, FrameOf, PlaceOf, is_untyped}
+use Rattle.freeze_invariant.proofs.Common.{is_empty}
+use Rattle.freeze_invariant.proofs.Common.{frame_value}
+use Rattle.freeze_invariant.proofs.Common.{stamp, Step, Trace, Open, phase}
+use Rattle.freeze_invariant.proofs.Common.{state_after, last_left, refused_first}
+use Rattle.freeze_invariant.proofs.Common.{latest_stamp, loads_of}
+use Rattle.freeze_invariant.proofs.Common.{at_after, end_by, swept_of, Owned, Sweep, SweepAt, Empty}
+use Rattle.freeze_invariant.proofs.Common.{took_sweep, next_work, release_of, UntypingFits, Untyping, Draw, Swept, Act}
+use Rattle.freeze_invariant.proofs.Common.{Undecided, ActiveCall, landed, Core, holds_counts}
+use Rattle.freeze_invariant.proofs.Common.{KnowsUndecided, holds_in, Invariant, holds}
+use Rattle.freeze_invariant.proofs.Common.{IsQuiet, KnowsSweep, IsLookedAt, names_of, names_on}
+use Rattle.freeze_invariant.proofs.Common.{quiet_frame_on, limits_of, refs, frame_names, opened, events_of, sound_of}
 use Rattle.freeze_invariant.proofs.Common.{IsFrameWord, count_room, release_entry, OwnedBy, IsNearIn}
 use Rattle.std.specs.Prelude.{if◌then◌else◌, not}
 use Rattle.freeze_invariant.specs.spk_nums.specs.declared.replies.Reply.TheVariants as reply
-use Rattle.freeze_invariant.specs.kernel_rules.specs.Rules.{refusal_of as cause_refuses}
-use Rattle.freeze_invariant.specs.plan_ways.proofs.Ways.{asked_left}
-use Rattle.freeze_invariant.specs.stage_sweep.specs.Emptiness.{empty_refuses, owned_after}
-use Rattle.freeze_invariant.specs.stage_sweep.specs.declared.sweep.SweepAt.TheVariants.{Scan}
 use Rattle.freeze_invariant.specs.act_states.specs.Untypings.{owned_dues}
 use Rattle.freeze_invariant.specs.act_states.specs.declared.work.Act.TheVariants.{Untype as untype_act}
-use Rattle.freeze_invariant.specs.act_states.specs.declared.refusals.Refusal.TheVariants as refusal
-use Rattle.freeze_invariant.specs.act_states.specs.declared.work.Tail.TheVariants.{Release as release_tail}
 use Rattle.freeze_invariant.specs.core_invariant.specs.Sweeps.{IsSwept}
-use Rattle.freeze_invariant.specs.step_ways.proofs.Loads.{OnlyLooks, step_to, next_at, inner, loads_on, decides_with}
+use Rattle.freeze_invariant.specs.step_ways.proofs.Loads.{OnlyLooks, step_to, inner, loads_on, decides_with}
 use Rattle.freeze_invariant.specs.step_ways.proofs.Refusals.{GoodTook}
-use Rattle.freeze_invariant.specs.scan_invariant.proofs.FlushScans.{flush_is_stored, flush_shown, lowest_is, still_unflushed}
-use Rattle.freeze_invariant.specs.scan_invariant.proofs.FlushScans.{unflushed_shown}
-use Rattle.freeze_invariant.specs.scan_invariant.proofs.Scans.{before_next}
 use Rattle.freeze_invariant.specs.place_invariant.proofs.Vacancy.{none_waits, none_unflushed}
 use Rattle.freeze_invariant.proofs.Counters.{sweeping, untyping_by, sweep_knows, sweep_held, sweep_counts}
 use Rattle.freeze_invariant.proofs.Counters.{sweep_frame, sweep_refs, sweep_since, undo_with, undo_known}
-use Rattle.freeze_invariant.proofs.FrameQuiet as quieting
-use Rattle.freeze_invariant.proofs.FrameQuiet.{cached_is, unpaged_frame}
 use Rattle.freeze_invariant.proofs.UntypeCalls as calls
 use Rattle.freeze_invariant.proofs.UntypeCalls.{untypes_on, typed_is}
-use Rattle.freeze_invariant.specs.spk_nums.specs.declared.kinds.Obj.TheVariants as obj
 use Rattle.freeze_invariant.proofs.Continuing as going
 use Rattle.sweep_invariant.proofs.FreeEntries.{counts_entry, entry_settles}
 use Rattle.sweep_invariant.proofs.OwnedFrames.{OwnedApart, owned_apart, names_differ}

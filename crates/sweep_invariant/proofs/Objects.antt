@@ -1,16 +1,16 @@
 -- Whether the object in a frame that is made untyped is empty: by one word of it after another.
-use Rattle.freeze_invariant.proofs.Common.{◌≡◌, ◌≢◌, ◌⊎◌, inl, inr, ℕ, zero, suc, ◌+◌, ◌<◌, ◌≤◌, ◌==◌, nat_lt, nat_le, length, Bool, true}
+use Rattle.freeze_invariant.proofs.Common.{◌≡◌, inl, inr, ℕ, zero, suc, ◌+◌, ◌<◌, ◌≤◌, ◌==◌, nat_lt, nat_le, length, Bool, true}
 use Rattle.freeze_invariant.proofs.Common.{false, List, [], ◌∷◌, Option, Some, None, IsTrue, arith, refl, sym, ◌∙◌, ap, subst, cases_eq}
 use Rattle.freeze_invariant.proofs.Common.{cases_lt, false≢true, eqb-true, eqb-false, lt-ltb, leb-true, Capability, Setting, IsSetting}
 use Rattle.freeze_invariant.proofs.Common.{Obj, Kind, Reply, Entry, CountWord, FrameWord, head_of_word, stack_of_word, thread_of_word}
-use Rattle.freeze_invariant.proofs.Common.{HeadWord, EntryAt, Object, Blank, Table, Leaf, Pages, Pleaf, Comp, Thread, Tcap, CompFields}
-use Rattle.freeze_invariant.proofs.Common.{ThreadFields, TcapFields, Frame, Untyped, User, Kernel, Place, Free, Holds, Quiescing, PlaceOf}
+use Rattle.freeze_invariant.proofs.Common.{EntryAt, Blank, Table, Leaf, Pages, Pleaf, Comp, Thread, Tcap, CompFields}
+use Rattle.freeze_invariant.proofs.Common.{ThreadFields, TcapFields, Frame, Untyped, User, Kernel, Holds, PlaceOf}
 use Rattle.freeze_invariant.proofs.Common.{State, held_in, fits, is_empty, frame_names, IsSound, IsObjectGood, IsStack, opened, events_of}
-use Rattle.freeze_invariant.proofs.Common.{frame_value, thread_value, at_height, stamp, Trace, state_after, last_left, cases_bool}
+use Rattle.freeze_invariant.proofs.Common.{frame_value, thread_value, at_height, stamp, Trace, state_after, last_left}
 use Rattle.freeze_invariant.proofs.Common.{sound_of, shown_in, loads_of, Owned, Empty, OwnedBy, Act, ActiveCall, Undecided, Core}
 use Rattle.freeze_invariant.proofs.Common.{KnowsUndecided, Invariant, IsLookedAt, names_of, HeadIs, IsFrameWord, PlaceIs, count_room}
 use Rattle.freeze_invariant.proofs.Common.{limits_of, entry_of_word}
-use Rattle.std.specs.Prelude.{if◌then◌else◌, slice_get, reverse}
+use Rattle.std.specs.Prelude.{if◌then◌else◌}
 use Rattle.freeze_invariant.specs.spk_nums.specs.declared.kinds.Obj.TheVariants as obj
 use Rattle.freeze_invariant.specs.spk_nums.specs.declared.kinds.Kind.TheVariants as kind
 use Rattle.freeze_invariant.specs.spk_nums.specs.declared.replies.Reply.TheVariants as reply
@@ -18,11 +18,11 @@ use Rattle.freeze_invariant.specs.entry_words.specs.declared.entry.Entry.TheVari
 use Rattle.freeze_invariant.specs.kernel_rules.specs.MemoryCalls.{holds_nothing}
 use Rattle.freeze_invariant.specs.kernel_invariant.proofs.SoundCalls.{nothing_held}
 use Rattle.freeze_invariant.specs.stage_sweep.specs.Emptiness.{empty_refuses, entry_refuses, field_refuses, head_refuses}
-use Rattle.freeze_invariant.specs.stage_sweep.specs.Emptiness.{head_by_mark, owned_after, owns, frame_if, place_owned, place_refuses}
+use Rattle.freeze_invariant.specs.stage_sweep.specs.Emptiness.{owned_after, owns, frame_if}
 use Rattle.freeze_invariant.specs.stage_sweep.specs.Emptiness.{stack_owned, stack_refuses, thread_refuses, depth_refuses}
 use Rattle.freeze_invariant.specs.act_states.specs.declared.work.Act.TheVariants.{Untype as untype_act}
 use Rattle.freeze_invariant.specs.core_invariant.specs.Sweeps.{HoldsNone, NamesBottom, NamesFields}
-use Rattle.freeze_invariant.specs.count_invariant.proofs.Lookups.{IsShown, Shows, ShowsHeld, shown_of}
+use Rattle.freeze_invariant.specs.count_invariant.proofs.Lookups.{IsShown, Shows, shown_of}
 use Rattle.freeze_invariant.proofs.Counters.{sweeping, untyping_by}
 use Rattle.sweep_invariant.proofs.ObjectLoads.{Result, entry_below, goes_on, holds_some}
 use Rattle.sweep_invariant.proofs.ObjectLoads.{looked_so_far, object_frame, object_says, owned_fits}

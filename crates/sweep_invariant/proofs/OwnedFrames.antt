@@ -1,8 +1,8 @@
 -- The frames that an object itself names differ from one another, and from its own: so their counts may be acquired while its own counters
 -- are frozen.
-use Rattle.freeze_invariant.proofs.Common.{All, ◌≡◌, ◌≢◌, ℕ, ◌+◌, ◌<◌, ◌≤◌, Bool, true, false, List, [], ◌∷◌, length, Option, Some, None}
+use Rattle.freeze_invariant.proofs.Common.{All, ◌≡◌, ◌≢◌, ℕ, ◌≤◌, Bool, List, [], ◌∷◌, length, Option, Some, None}
 use Rattle.freeze_invariant.proofs.Common.{IsTrue, arith, refl, sym, ◌∙◌, ap, subst, false≢true, All-nil, All-cons, All-head, All-tail}
-use Rattle.freeze_invariant.proofs.Common.{CompFields, ThreadFields, Object, Blank, Table, Leaf, Pages, Pleaf, Comp, Thread, Tcap, Frame}
+use Rattle.freeze_invariant.proofs.Common.{CompFields, ThreadFields, Blank, Table, Leaf, Pages, Pleaf, Comp, Thread, Tcap, Frame}
 use Rattle.freeze_invariant.proofs.Common.{Untyped, User, Kernel, State, fits, frame_names, IsSound, IsObjectGood, IsStack, frame_value}
 use Rattle.freeze_invariant.proofs.Common.{loads_of, Owned, Due, released_dues, AreDuesApart, IsLookedAt, names_of}
 use Rattle.freeze_invariant.specs.spk_nums.specs.declared.kinds.Kind.TheVariants as kind

@@ -1,26 +1,26 @@
 -- The stores of a call that has swept a frame: after its decision it commits its counts, then it gives back the frame's counters, as they
 -- were found or cleared, and at last the frame's word.
-use Rattle.freeze_invariant.proofs.Common.{◌≡◌, ◌≢◌, ◌⊎◌, inl, inr, ℕ, ◌+◌, ◌^◌, ◌<◌, ◌≤◌, ◌==◌, ◌&&◌, nat_lt, nat_le, length, Bool, true}
+use Rattle.freeze_invariant.proofs.Common.{◌≡◌, ◌≢◌, inl, inr, ℕ, ◌+◌, ◌^◌, ◌<◌, ◌≤◌, ◌==◌, ◌&&◌, nat_lt, nat_le, length, Bool, true}
 use Rattle.freeze_invariant.proofs.Common.{false, List, [], ◌∷◌, Option, Some, None, IsTrue, arith, refl, sym, ◌∙◌, ap, subst, cases_eq}
-use Rattle.freeze_invariant.proofs.Common.{false≢true, ne_eqb, eqb-true, le-leb, leb-true, leb-false, ltb-true, ltb-false, All-head}
-use Rattle.freeze_invariant.proofs.Common.{All-tail, Setting, IsSetting, Call, Reply, count_of_word, word_of_count, Word, EntryAt}
+use Rattle.freeze_invariant.proofs.Common.{ne_eqb, le-leb, leb-true, leb-false, ltb-true, ltb-false, All-head}
+use Rattle.freeze_invariant.proofs.Common.{All-tail, Setting, IsSetting, Reply, count_of_word, word_of_count, Word, EntryAt}
 use Rattle.freeze_invariant.proofs.Common.{FrameAt, CountAt, CoreAt, FlushAt, LiveAt, ClockAt, same_word, Move, StoreOf, word_of, told_of}
-use Rattle.freeze_invariant.proofs.Common.{same_same, State, put, IsNearIn, frames_near, is_one_of, marked_by, count_mark, Step, Trace}
-use Rattle.freeze_invariant.proofs.Common.{phase, state_after, last_left, same_word-other, Acquired, Thaw, Nothing, StageFits, ActiveCall}
-use Rattle.freeze_invariant.proofs.Common.{Decided, GoesOn, went_with, Core, holds_release, holds_thaw, is_frozen, AreApart, Holding}
+use Rattle.freeze_invariant.proofs.Common.{State, put, IsNearIn, frames_near, is_one_of, marked_by, count_mark, Step, Trace}
+use Rattle.freeze_invariant.proofs.Common.{state_after, last_left, same_word-other, Acquired, Thaw, Nothing, StageFits, ActiveCall}
+use Rattle.freeze_invariant.proofs.Common.{Decided, GoesOn, went_with, Core, holds_release, holds_thaw, AreApart, Holding}
 use Rattle.freeze_invariant.proofs.Common.{committed, count_of, holds_counts, settled, settled_by, IsCount, KnowsTail, KnowsUnmark}
 use Rattle.freeze_invariant.proofs.Common.{phase_at, Invariant, done_by, held_by, holds, holds_at, holds_in, ThawsFrame, SaysCount}
-use Rattle.freeze_invariant.proofs.Common.{count_room, as_none, counts_bare, counts_on, lent_elsewhere, counter_of}
+use Rattle.freeze_invariant.proofs.Common.{count_room, as_none, counts_bare, counts_on, lent_elsewhere}
 use Rattle.std.specs.Prelude.{if◌then◌else◌, slice_get}
 use Rattle.std.proofs.Common.{All}
 use Rattle.freeze_invariant.specs.spk_nums.specs.declared.replies.Reply.TheVariants as reply
 use Rattle.freeze_invariant.specs.frame_words.proofs.CountLemmas as counts
 use Rattle.freeze_invariant.specs.kernel_history.specs.Discipline.{may_count}
-use Rattle.freeze_invariant.specs.kernel_history.proofs.OwnCounts.{untype_counts}
+use Rattle.freeze_invariant.specs.kernel_history.proofs.OwnCounts.{own_counts, untype_counts}
 use Rattle.freeze_invariant.specs.stage_pins.specs.Held.{commit_of}
 use Rattle.freeze_invariant.specs.stage_pins.specs.Commit.{settled_word}
 use Rattle.freeze_invariant.specs.stage_sweep.specs.Release.{ThawFits, at_next, more_end, released, thaw_after, thaw_end, thaw_move}
-use Rattle.freeze_invariant.specs.act_states.specs.Untypings.{release_after, release_move, thaw_left_by}
+use Rattle.freeze_invariant.specs.act_states.specs.Untypings.{thaw_left_by}
 use Rattle.freeze_invariant.specs.act_states.specs.declared.untypings.Release.{Release}
 use Rattle.freeze_invariant.specs.act_states.specs.declared.work.Tail.TheVariants.{Release as release_tail}
 use Rattle.freeze_invariant.specs.call_stages.specs.Tails.{is_ok, tail_counts, tail_move, took_tail}
@@ -213,8 +213,7 @@ module _ (setup : Setting) (setting : IsSetting setup) (cores : ℕ → Core) (t
     was_held = held_is o stage_is ∙ ap (λ ys. holds_release (release o) (holds_counts fate ys)) counts_are
 
     count_away : (h : Holding) → SameAt (holds_release (release o) h) h (count_of x)
-    count_away h = release_away (release o) h x.pin.frame
-        (counter_of x.pin.core) release_known.thaws other_frame
+    count_away h = release_away (release o) h x.pin.frame x.pin.core release_known.thaws other_frame
 
     own_mark : marked_by setup t (count_of x) ≡ Some c
     own_mark = (stands.marks (count_of x) c).kept (ap (λ h. h.marks (count_of x)) was_held
@@ -247,7 +246,7 @@ module _ (setup : Setting) (setting : IsSetting setup) (cores : ℕ → Core) (t
         let after : Core = core_in_call (cores c) (cores c).own.made next in
         let spells = counts.spelling.spells stored _ stored_says.says in
         counting.holds_on setup setting cores t stands c here a active store next (λ b. refl) (λ h. cc) refl
-        (record { moves = first.counts; near = inr first.near }) lands
+        (record { moves = own_counts a.call x.pin.frame c x.pin.core first.core first.counts; near = inr first.near }) lands
         (subst (λ (k : ℕ). k < 2 ^ 64) spells.1 (counts.spelling.small _ spells.0))
         (λ w there.
         let rest = counting.rest_elsewhere fate x xs w there in

@@ -1,12 +1,10 @@
 -- The step of a call that makes a frame untyped, wherever it stands.
-use Rattle.freeze_invariant.proofs.Common.{◌≡◌, ℕ, ◌+◌, ◌<◌, ◌==◌, nat_lt, length, Bool, true, false, ℤ, List, [], ◌∷◌, Option, Some}
-use Rattle.freeze_invariant.proofs.Common.{None, arith, refl, sym, ◌∙◌, ap, subst, Setting, IsSetting, Reply, core_of_word, count_of_word}
-use Rattle.freeze_invariant.proofs.Common.{flush_of_word, frame_of_word, CountWord, FrameWord, Move, word_of, told_of, Shape, Trace}
-use Rattle.freeze_invariant.proofs.Common.{last_left, Quiet, AtCore, AtFlush, counters_of, Owned, Sweep, SweepAt, Compare, Empty}
-use Rattle.freeze_invariant.proofs.Common.{took_sweep, Untyping, UntypingAt, Draw, Act, ActiveCall, Undecided, landed, Core}
+use Rattle.freeze_invariant.proofs.Common.{◌≡◌, ℕ, ◌<◌, List, Some}
+use Rattle.freeze_invariant.proofs.Common.{refl, sym, subst, Setting, IsSetting}
+use Rattle.freeze_invariant.proofs.Common.{CountWord, FrameWord, word_of, told_of, Shape, Trace}
+use Rattle.freeze_invariant.proofs.Common.{last_left, AtCore, AtFlush, Owned, SweepAt, Compare, Empty}
+use Rattle.freeze_invariant.proofs.Common.{Untyping, UntypingAt, Draw, Act, ActiveCall, Undecided, landed, Core}
 use Rattle.freeze_invariant.proofs.Common.{KnowsUndecided, Invariant}
-use Rattle.std.specs.Prelude.{if◌then◌else◌}
-use Rattle.freeze_invariant.specs.stage_sweep.specs.Freeze.{sweep_after, sweep_end}
 use Rattle.freeze_invariant.specs.stage_sweep.specs.declared.sweep.SweepAt.TheVariants.{Load as sweep_load, Scan}
 use Rattle.freeze_invariant.specs.act_states.specs.Acts.{took_untyping}
 use Rattle.freeze_invariant.specs.act_states.specs.Untypings.{untyping_move}
@@ -16,11 +14,10 @@ use Rattle.freeze_invariant.specs.step_ways.proofs.Refusals.{GoodTook}
 use Rattle.freeze_invariant.proofs.Counters.{counter_load_good, sweeping, untyping_by}
 use Rattle.freeze_invariant.proofs.FrameCores.{core_scan_good}
 use Rattle.freeze_invariant.proofs.FrameFlushes.{flush_scan_good}
-use Rattle.freeze_invariant.proofs.Freezes.{first_compare_good, no_kept}
+use Rattle.freeze_invariant.proofs.Freezes.{compare_good}
 use Rattle.freeze_invariant.proofs.Marking.{load_good, mark_good}
 use Rattle.sweep_invariant.proofs.Objects.{object_good}
 use Rattle.sweep_invariant.proofs.Untyped.{untyped_good}
-use Rattle.freeze_invariant.proofs.UntypeCalls as calls
 
 module _ (setup : Setting) (setting : IsSetting setup) (cores : ℕ → Core) (t : Trace) (stands : Invariant setup cores t) (c : ℕ)
     (here : c < setup.cores)
@@ -39,14 +36,6 @@ module _ (setup : Setting) (setting : IsSetting setup) (cores : ℕ → Core) (t
   abbrev layout : Shape
   layout = (cores c).own.layout
 
-  compare_good : (f core word g : ℕ) (v : FrameWord) (b : ℕ) (kept : List CountWord) (o : Owned) (count : ℤ) (stamp : ℕ)
-      → (is : IsAt (untyping_by f core word (sweeping g v b kept o (Compare count stamp))))
-      → Knows (untyping_by f core word (sweeping g v b kept o (Compare count stamp))) → kept ≡ []
-      → GoodOn layout (untyping_by f core word (sweeping g v b kept o (Compare count stamp)))
-  compare_good f core word g v b [] o count stamp is has none =
-      first_compare_good setup setting cores t stands c here a active f core word g v b o count stamp is has
-  compare_good f core word g v b (x ∷ xs) o count stamp is has none = absurd (cc)
-
   -- a sweep
   swept_good : (f core word g : ℕ) (v : FrameWord) (b : ℕ) (kept : List CountWord) (o : Owned) (at : SweepAt)
       → IsAt (untyping_by f core word (sweeping g v b kept o at)) → Knows (untyping_by f core word (sweeping g v b kept o at))
@@ -54,9 +43,7 @@ module _ (setup : Setting) (setting : IsSetting setup) (cores : ℕ → Core) (t
   swept_good f core word g v b kept o sweep_load is has =
       counter_load_good setup setting cores t stands c here a active f core word g v b kept o is has
   swept_good f core word g v b kept o (Compare count stamp) is has =
-      compare_good f core word g v b kept o count stamp is has
-      (no_kept layout kept (calls.fits setup setting cores t stands c here a active
-      (untyping_by f core word (sweeping g v b kept o (Compare count stamp))) is has).at.fits.at.0)
+      compare_good setup setting cores t stands c here a active f core word g v b kept o count stamp is has
   swept_good f core word g v b kept o (Scan (AtCore x by at page)) is has =
       subst (λ shape. GoodOn shape (untyping_by f core word (sweeping g v b kept o (Scan (AtCore x by at page)))))
       (sym (stands.each c here).shape)

@@ -1,13 +1,13 @@
 -- The draw of a retype to untyped: the call is carried out, and the frame is untyped from then on. Nothing referred to it, and nobody
 -- waited for it; its grace period is ended, and the references of its object are released.
-use Rattle.freeze_invariant.proofs.Common.{IsSome, list_any, ◌≡◌, ◌≢◌, ◌⊎◌, inl, inr, ℕ, pos, negsuc, ◌+ℤ◌, max, length, ◌+◌, ◌^◌, ◌<◌}
-use Rattle.freeze_invariant.proofs.Common.{◌≤◌, ◌==◌, ◌&&◌, ◌||◌, Bool, true, false, map, List, [], ◌∷◌, Option, Some, None, IsTrue}
+use Rattle.freeze_invariant.proofs.Common.{IsSome, list_any, ◌≡◌, ◌≢◌, inl, inr, ℕ, pos, negsuc, ◌+ℤ◌, max, length, ◌+◌, ◌^◌, ◌<◌}
+use Rattle.freeze_invariant.proofs.Common.{◌≤◌, Bool, true, false, List, [], ◌∷◌, Option, Some, None}
 use Rattle.freeze_invariant.proofs.Common.{arith, refl, sym, ◌∙◌, ap, subst, cases_eq, eq-eqb, eqb-true, ne_eqb, false≢true, All-nil}
-use Rattle.freeze_invariant.proofs.Common.{All-cons, Capability, Setting, IsSetting, Call, Retype, Kind, Reply, CountFits, count_of_word}
+use Rattle.freeze_invariant.proofs.Common.{Capability, Setting, IsSetting, Kind, Reply, CountFits, count_of_word}
 use Rattle.freeze_invariant.proofs.Common.{word_of_count, FrameFits, frame_of_word, word_of_frame, CountWord, FrameWord, Word, EntryAt}
-use Rattle.freeze_invariant.proofs.Common.{FrameAt, CountAt, CoreAt, FlushAt, LiveAt, ClockAt, same_word, Move, AddOf, word_of, same_same}
-use Rattle.freeze_invariant.proofs.Common.{Frame, Kernel, Untyped, Thing, PlaceOf, FrameOf, NumberOf, Grace, State, put, comp_in}
-use Rattle.freeze_invariant.proofs.Common.{thread_in, with_frame, with_grace, Slot, own, Change, Found, IsFoundAnd, When, frames_of}
+use Rattle.freeze_invariant.proofs.Common.{FrameAt, CountAt, CoreAt, FlushAt, LiveAt, ClockAt, same_word, AddOf}
+use Rattle.freeze_invariant.proofs.Common.{Untyped, Thing, PlaceOf, FrameOf, NumberOf, State, put, comp_in}
+use Rattle.freeze_invariant.proofs.Common.{thread_in, with_frame, Slot, own, Change, Found, IsFoundAnd, frames_of}
 use Rattle.freeze_invariant.proofs.Common.{is_empty, retypes, frame_names, times, refs, MayReply, rule_of, ends_by, flushes_by, changed}
 use Rattle.freeze_invariant.proofs.Common.{change_of, counted, begins_in, same_thing, new_grace, calls_counted, frame_refs, grace_refs}
 use Rattle.freeze_invariant.proofs.Common.{opened, put_same, put_other, counters, count_in, count_sum, events_of, HasReached, marked_by}
@@ -15,13 +15,13 @@ use Rattle.freeze_invariant.proofs.Common.{mark_of, mark_in_frame, frame_value, 
 use Rattle.freeze_invariant.proofs.Common.{stamp, clock, flush_stored, Step, Trace, Open, phase, state_after, state_decided_in, last_left}
 use Rattle.freeze_invariant.proofs.Common.{own_left, way_to, ways, ok_first, decided-inside, cases_word, same_word-other, sound_of}
 use Rattle.freeze_invariant.proofs.Common.{stamp-begins, stamp-kept, flush_stored-own, flush_stored-other, last_left-there, drawn_stamp}
-use Rattle.freeze_invariant.proofs.Common.{later, unheld, Acquired, latest_stamp, thaw_of, Owned, Swept, Thaw, own_pages, LeadsIn}
+use Rattle.freeze_invariant.proofs.Common.{later, unheld, Acquired, latest_stamp, thaw_of, Swept, own_pages, LeadsIn}
 use Rattle.freeze_invariant.proofs.Common.{leads_by, release_of, Untyping, Draw, Due, Act, Stage, Undecided, Decided, ActiveCall, landed}
 use Rattle.freeze_invariant.proofs.Common.{Core, stamp_in, holds_release, holds_thaw, is_frozen, Holding, holds_counts, settled_by}
-use Rattle.freeze_invariant.proofs.Common.{settled, WordIs, count_room, HasFound, KnowsUndecided, WorksIn, own_in, due_of, holds}
-use Rattle.freeze_invariant.proofs.Common.{holds_in, held_by, times_of, counted_in, count_shown, SumIs, Invariant, IsLookedAt, KnowsSwept}
+use Rattle.freeze_invariant.proofs.Common.{settled, WordIs, count_room, HasFound, KnowsUndecided, WorksIn, own_in, holds}
+use Rattle.freeze_invariant.proofs.Common.{held_by, times_of, counted_in, count_shown, SumIs, Invariant, KnowsSwept}
 use Rattle.freeze_invariant.proofs.Common.{ThawsFrame, names_of, counts_bare, calm_counted, plain_exit, room_grows, counted_refs}
-use Rattle.freeze_invariant.proofs.Common.{release_entry, thaws_own, limits_of, HoldsSwept, release_swept, SameFor, ReadsAlike, StaysSaid}
+use Rattle.freeze_invariant.proofs.Common.{release_entry, thaws_own, limits_of, HoldsSwept, release_swept, ReadsAlike, StaysSaid}
 use Rattle.freeze_invariant.proofs.Common.{own_settled, word_stays, own_kept, phase_at, IsFrameWord, frame_mark, first_of_stack}
 use Rattle.freeze_invariant.proofs.Common.{thread_of, stamp_of_change, loads_of}
 use Rattle.std.specs.Prelude.{if◌then◌else◌, slice_get}
@@ -32,32 +32,29 @@ use Rattle.freeze_invariant.specs.spk_nums.specs.declared.replies.Reply.TheVaria
 use Rattle.freeze_invariant.specs.spk_nums.specs.declared.replies.Value.TheVariants as value
 use Rattle.freeze_invariant.specs.frame_words.proofs.CountLemmas as counts
 use Rattle.freeze_invariant.specs.frame_words.proofs.FrameLemmas as frames
-use Rattle.freeze_invariant.specs.kernel_rules.specs.Rules.{refusal_of}
 use Rattle.freeze_invariant.specs.kernel_rules.specs.Start.{no_grace}
 use Rattle.freeze_invariant.specs.kernel_rules.specs.GracePeriods.{begun}
 use Rattle.freeze_invariant.specs.kernel_invariant.proofs.SoundRemovals.{frames_no_place}
 use Rattle.freeze_invariant.specs.found_stays.proofs.Stays.{comp_named}
 use Rattle.freeze_invariant.specs.kernel_history.specs.Stamps.{begins_in as begins_then}
+use Rattle.freeze_invariant.specs.kernel_history.proofs.Counters.{all_counters}
 use Rattle.freeze_invariant.specs.kernel_history.proofs.Steps.{stamp-ends}
-use Rattle.freeze_invariant.specs.stage_sweep.specs.Release.{released}
 use Rattle.freeze_invariant.specs.plan_ways.proofs.Ways.{all_ways}
 use Rattle.freeze_invariant.specs.act_states.specs.Acts.{drawn_untyped}
 use Rattle.freeze_invariant.specs.act_states.specs.Typings.{typed}
-use Rattle.freeze_invariant.specs.act_states.specs.Untypings.{owned_dues, released_one}
+use Rattle.freeze_invariant.specs.act_states.specs.Untypings.{owned_dues}
 use Rattle.freeze_invariant.specs.act_states.specs.declared.untypings.Release.{Release}
 use Rattle.freeze_invariant.specs.act_states.specs.declared.work.Act.TheVariants.{Untype as untype_act}
 use Rattle.freeze_invariant.specs.act_states.specs.declared.work.Tail.TheVariants.{Release as release_tail}
 use Rattle.freeze_invariant.specs.core_invariant.specs.CountWords.{newest_of}
-use Rattle.freeze_invariant.specs.core_invariant.specs.Frozen.{thawed}
 use Rattle.freeze_invariant.specs.kept_facts.proofs.Calm.{counts as calm_counts, same_works}
 use Rattle.freeze_invariant.specs.kept_facts.proofs.Calm.{counted_grows}
 use Rattle.freeze_invariant.specs.step_ways.proofs.Draws as drawing
 use Rattle.freeze_invariant.specs.core_invariant.proofs.Freezing.{IsFrozenWord, frozen_word, release_away, release_bare}
 use Rattle.freeze_invariant.specs.core_invariant.proofs.Freezing.{release_frame, thaw_all, thaw_from}
-use Rattle.freeze_invariant.specs.step_ways.proofs.Loads.{inner}
 use Rattle.freeze_invariant.specs.step_ways.proofs.Refusals.{GoodTook}
 use Rattle.freeze_invariant.specs.kept_facts.proofs.Swept.{frame_says, no_refs, release_counter, stamp_is}
-use Rattle.freeze_invariant.specs.kept_facts.proofs.WordFrames.{mark_same}
+use Rattle.freeze_invariant.specs.kept_facts.proofs.FrozenSums.{cleared_sum, counters_length}
 use Rattle.freeze_invariant.specs.step_ways.proofs.Writes.{clock_small, same_marks}
 use Rattle.freeze_invariant.specs.count_invariant.proofs.CountChanges.{spared_commit, spared_sum}
 use Rattle.freeze_invariant.specs.count_invariant.proofs.Findings.{own_is, found_named, way_gone}
@@ -463,13 +460,25 @@ module _ (setup : Setting) (setting : IsSetting setup) (cores : ℕ → Core) (t
     own_refs : refs s' f ≡ 0
     own_refs = let less = falls f in let none = zero_refs in omega (arith, less, none)
 
-    first_below : 0 < length w.words
-    first_below = let all = knows.swept.frozen.all in omega (arith, all)
+    -- all counters of the frame are held, so all are cleared
+    counter_below : (d : ℕ) → d < setup.cores → d < length w.words
+    counter_below d below = let all = knows.swept.frozen.all ∙ counters_length setup.cores in omega (arith, all, below)
+
+    abbrev own_counts : ℕ → Option CountWord
+    own_counts = count_shown setup (held_by (put cores c after)) (e ∷ t) f
+
+    cleared : (count_sum own_counts (counters setup.cores) ≡ pos 0) × (newest_of own_counts (counters setup.cores) ≡ 0)
+    cleared = cleared_sum own_counts (counters setup.cores)
+        (all_counters (λ (d : ℕ). (count_in (own_counts d) ≡ pos 0) × (stamp_in (own_counts d) ≡ 0)) setup.cores
+        (λ d below. let is = own_shown d (counter_below d below) in (ap count_in is, ap stamp_in is)))
+
+    counters_now : counters s'.limits.cores ≡ counters setup.cores
+    counters_now = ap (λ l. counters l.cores) (limits ∙ limits_of setup t)
 
     own_sum : SumIs setup (held_by (put cores c after)) (e ∷ t) f
     own_sum = record {
-      sum = ap (λ y. count_in y +ℤ pos 0) (own_shown 0 first_below) ∙ ap (λ (n : ℕ). pos n) (sym own_refs);
-      newest = ap (λ y. max (stamp_in y) 0) (own_shown 0 first_below) ∙ sym stamp_own;
+      sum = ap (count_sum own_counts) counters_now ∙ cleared.0 ∙ ap (λ (n : ℕ). pos n) (sym own_refs);
+      newest = ap (newest_of own_counts) counters_now ∙ cleared.1 ∙ sym stamp_own;
     }
 
     sums : (g : ℕ) → SumIs setup (held_by (put cores c after)) (e ∷ t) g
@@ -540,8 +549,8 @@ module _ (setup : Setting) (setting : IsSetting setup) (cores : ℕ → Core) (t
     spares g is =
         let same : g ≡ f = eqb-true g f (sym (ends (FrameOf g)) ∙ is) in
         subst (λ (n : ℕ). All (λ (k : ℕ). marked_by setup t (CountAt n k) ≡ Some c) (counters setup.cores)) (sym same)
-        (All-cons (λ (k : ℕ). marked_by setup t (CountAt f k) ≡ Some c) 0 [] (own_counter 0 first_below).0
-        (All-nil (λ (k : ℕ). marked_by setup t (CountAt f k) ≡ Some c)))
+        (all_counters (λ (k : ℕ). marked_by setup t (CountAt f k) ≡ Some c) setup.cores
+        (λ k below. (own_counter k (counter_below k below)).0))
 
     -- the places of the name are gone
     gone : HasReached (e ∷ t) c (ways s c (rule_of s c a.call))

@@ -1,91 +1,121 @@
 -- Distinct words have distinct places.
-use Rattle.std.proofs.Common.{◌≡◌, ℕ, ◌+◌, ◌*◌, ◌<◌, ◌≤◌, ◌⊎◌, refl, arith, inl, inr}
+use Rattle.std.proofs.Common.{◌≡◌, ℕ, ◌+◌, ◌*◌, ◌<◌, ◌≤◌, ◌⊎◌, refl, ap, arith, inl, inr}
 use Rattle.std.proofs.Math.Nat.{mul-le-mul_left}
 use Rattle.std.proofs.lemmas.Bool.{cases_order}
 use Rattle.word_map.specs.Word.{Word, EntryAt, FrameAt, CountAt, CoreAt, FlushAt, LiveAt, ClockAt}
-use Rattle.word_map.specs.Places.{Shape, IsShape, IsIn, HasPlaces, place_of, size_of, shared}
+use Rattle.word_map.specs.Places.{Shape, IsShape, IsIn, HasPlaces, core_words, place_of, size_of}
 
--- the counts of one frame end before those of a later frame begin
-pub row_ends : (n f g : ℕ) → f < g → n * f + n ≤ n * g
-row_ends n f g h =
-    let next : n * (f + 1) ≤ n * g = mul-le-mul_left n (omega arith) in
-    let split : n * (f + 1) ≡ n * f + n = omega arith in
+-- the words of one core end before those of a later core begin
+pub row_ends : (n c d : ℕ) → c < d → n * c + n ≤ n * d
+row_ends n c d h =
+    let next : n * (c + 1) ≤ n * d = mul-le-mul_left n (omega arith) in
+    let split : n * (c + 1) ≡ n * c + n = omega arith in
     omega arith
 
--- there are 4,096 counts at most
-pub counts_end : (n f : ℕ) → n ≤ 8 → f ≤ 512 → n * f ≤ 4096
-counts_end n f h k =
-    let rows : n * f ≤ n * 512 = mul-le-mul_left n k in
+-- the cores have 4,112 words at most
+pub rows_end : (n c : ℕ) → n ≤ 514 → c ≤ 8 → n * c ≤ 4112
+rows_end n c h k =
+    let rows : n * c ≤ n * 8 = mul-le-mul_left n k in
     omega arith
 
--- frames whose counts have one place are one
-same_row : (n f g : ℕ) → 1 ≤ n → n * f ≡ n * g → f ≡ g
-same_row n f g some same = one (cases_order f g) where
-  one : (f ≡ g) ⊎ ((f < g) ⊎ (g < f)) → f ≡ g
+-- words of cores that have one place are of one core
+same_row : (n c d i j : ℕ) → i < n → j < n → n * c + i ≡ n * d + j → c ≡ d
+same_row n c d i j below under same = one (cases_order c d) where
+  one : (c ≡ d) ⊎ ((c < d) ⊎ (d < c)) → c ≡ d
   one (inl e) = e
-  one (inr (inl h)) = absurd (omega (arith, row_ends n f g h))
-  one (inr (inr h)) = absurd (omega (arith, row_ends n g f h))
+  one (inr (inl h)) = absurd (omega (arith, row_ends n c d h))
+  one (inr (inr h)) = absurd (omega (arith, row_ends n d c h))
 
--- the counts of a frame end before the cores' words begin
-Row : Shape → Word → Type 0
-Row s (CountAt f c) = s.cores * f + s.cores ≤ s.cores * s.frames
-Row s _ = Unit {0}
+-- two words of cores at one place are of one core, and stand at one place among its words
+same_both : (n c d i j : ℕ) → i < n → j < n → n * c + i ≡ n * d + j → (c ≡ d) × (i ≡ j)
+same_both n c d i j below under same =
+    let core : c ≡ d = same_row n c d i j below under same in
+    let begins : n * c ≡ n * d = ap (λ k. n * k) core in
+    (core, omega (arith, same, begins))
 
-row : (s : Shape) (w : Word) → IsIn s w → Row s w
+-- the words of a core end before the liveness words begin
+Row : Shape → ℕ → Type 0
+Row s c = core_words s * c + core_words s ≤ core_words s * s.cores
+
+row : (s : Shape) (c : ℕ) → c < s.cores → Row s c
 unfolding Row
-row s (CountAt f c) h = row_ends s.cores f s.frames h.0
-row s (EntryAt f i) h = tt
-row s (FrameAt f) h = tt
-row s (CoreAt c) h = tt
-row s (FlushAt c) h = tt
-row s (LiveAt l) h = tt
-row s ClockAt h = tt
+row s c h = row_ends (core_words s) c s.cores h
 
-below : (s : Shape) → IsShape s → (w : Word) → IsIn s w → place_of s w < size_of s
-unfolding place_of size_of
-below s h (EntryAt f i) p = omega arith
-below s h (FrameAt f) p = omega arith
-below s h (CountAt f c) p = omega (arith, row_ends s.cores f s.frames p.0)
-below s h (CoreAt c) p = omega arith
-below s h (FlushAt c) p = omega arith
-below s h (LiveAt l) p = omega arith
-below s h ClockAt p = omega arith
+-- what a word's core asks of the rows
+OfCore : Shape → Word → Type 0
+OfCore s (CountAt f c) = Row s c
+OfCore s (CoreAt c) = Row s c
+OfCore s (FlushAt c) = Row s c
+OfCore s _ = Unit {0}
+
+of_core : (s : Shape) (w : Word) → IsIn s w → OfCore s w
+unfolding OfCore
+of_core s (CountAt f c) h = row s c h.1
+of_core s (CoreAt c) h = row s c h
+of_core s (FlushAt c) h = row s c h
+of_core s (EntryAt f i) h = tt
+of_core s (FrameAt f) h = tt
+of_core s (LiveAt l) h = tt
+of_core s ClockAt h = tt
+
+below : (s : Shape) → IsShape s → (w : Word) → IsIn s w → OfCore s w → place_of s w < size_of s
+unfolding place_of size_of Row OfCore
+below s h (EntryAt f i) p r = omega arith
+below s h (FrameAt f) p r = omega arith
+below s h (CountAt f c) p r = omega (arith, r, p.0)
+below s h (CoreAt c) p r = omega (arith, r)
+below s h (FlushAt c) p r = omega (arith, r)
+below s h (LiveAt l) p r = omega arith
+below s h ClockAt p r = omega arith
 
 distinct : (s : Shape) → IsShape s → (w u : Word) → IsIn s w → IsIn s u
-    → Row s w → Row s u → place_of s w ≡ place_of s u → shared w ≡ shared u
-unfolding place_of Row
+    → OfCore s w → OfCore s u → place_of s w ≡ place_of s u → w ≡ u
+unfolding place_of Row OfCore
 distinct s h (EntryAt f i) (EntryAt g j) p q r t same =
     let frame : f ≡ g = omega arith in
     let entry : i ≡ j = omega arith in
     cc
 distinct s h (FrameAt f) (FrameAt g) p q r t same = let frame : f ≡ g = omega arith in cc
 distinct s h (CountAt f c) (CountAt g d) p q r t same =
-    let rows : s.cores * f ≡ s.cores * g = omega arith in
-    let frame : f ≡ g = same_row s.cores f g h.some_core rows in cc
-distinct s h (CoreAt c) (CoreAt d) p q r t same = let core : c ≡ d = omega arith in cc
-distinct s h (FlushAt c) (FlushAt d) p q r t same = let core : c ≡ d = omega arith in cc
+    let both = same_both (core_words s) c d f g (omega (arith, p.0)) (omega (arith, q.0)) (omega arith) in
+    let core : c ≡ d = both.0 in
+    let frame : f ≡ g = both.1 in
+    cc
+distinct s h (CoreAt c) (CoreAt d) p q r t same =
+    let core : c ≡ d = (same_both (core_words s) c d s.frames s.frames (omega arith) (omega arith) (omega arith)).0 in
+    cc
+distinct s h (FlushAt c) (FlushAt d) p q r t same =
+    let core : c ≡ d = (same_both (core_words s) c d (s.frames + 1) (s.frames + 1) (omega arith) (omega arith) (omega arith)).0 in
+    cc
+distinct s h (CountAt f c) (CoreAt d) p q r t same =
+    let both = same_both (core_words s) c d f s.frames (omega (arith, p.0)) (omega arith) (omega arith) in
+    absurd (omega (arith, both.1, p.0))
+distinct s h (CountAt f c) (FlushAt d) p q r t same =
+    let both = same_both (core_words s) c d f (s.frames + 1) (omega (arith, p.0)) (omega arith) (omega arith) in
+    absurd (omega (arith, both.1, p.0))
+distinct s h (CoreAt c) (CountAt f d) p q r t same =
+    let both = same_both (core_words s) c d s.frames f (omega arith) (omega (arith, q.0)) (omega arith) in
+    absurd (omega (arith, both.1, q.0))
+distinct s h (CoreAt c) (FlushAt d) p q r t same =
+    let both = same_both (core_words s) c d s.frames (s.frames + 1) (omega arith) (omega arith) (omega arith) in
+    absurd (omega (arith, both.1))
+distinct s h (FlushAt c) (CountAt f d) p q r t same =
+    let both = same_both (core_words s) c d (s.frames + 1) f (omega arith) (omega (arith, q.0)) (omega arith) in
+    absurd (omega (arith, both.1, q.0))
+distinct s h (FlushAt c) (CoreAt d) p q r t same =
+    let both = same_both (core_words s) c d (s.frames + 1) s.frames (omega arith) (omega arith) (omega arith) in
+    absurd (omega (arith, both.1))
 distinct s h (LiveAt l) (LiveAt k) p q r t same = let number : l ≡ k = omega arith in cc
 distinct s h ClockAt ClockAt p q r t same = refl
 distinct s h w u p q r t same = absurd (omega arith)
 
-together : (s : Shape) (w : Word) → place_of s (shared w) ≡ place_of s w
-unfolding place_of
-together s (EntryAt f i) = refl
-together s (FrameAt f) = refl
-together s (CountAt f c) = refl
-together s (CoreAt c) = refl
-together s (FlushAt c) = refl
-together s (LiveAt l) = refl
-together s ClockAt = refl
-
 small : (s : Shape) → IsShape s → size_of s ≤ 37457
 unfolding size_of
-small s h = omega (arith, counts_end s.cores s.frames h.most_cores h.most_frames)
+small s h = omega (arith, rows_end (core_words s) s.cores (omega (arith, h.most_frames)) h.most_cores)
 
 pub has_places : (s : Shape) → IsShape s → HasPlaces s
 has_places s h = record {
-  below = below s h;
-  distinct = λ w u p q. distinct s h w u p q (row s w p) (row s u q);
-  together = together s;
+  below = λ w p. below s h w p (of_core s w p);
+  distinct = λ w u p q. distinct s h w u p q (of_core s w p) (of_core s u q);
   small = small s h;
 }

@@ -23,42 +23,33 @@ IsIn s (FlushAt c) = c < s.cores
 IsIn s (LiveAt l) = l < 64
 IsIn s ClockAt = Unit {0}
 
--- the place of a word: first the frames' 64 words each, then a word for each frame, its counts, the cores' words, the liveness words, the
--- clock
+-- how many words a core has: its count of each frame, its core word and its flush word
+abbrev pub core_words : Shape → ℕ
+core_words s = s.frames + 2
+
+-- the first place of a core's words
+abbrev pub core_begins : Shape → ℕ → ℕ
+core_begins s c = 65 * s.frames + core_words s * c
+
+-- the place of a word: first the frames' 64 words each, then a word for each frame, the words of each core, the liveness words, the clock
 unfoldable pub place_of : Shape → Word → ℕ
 place_of s (EntryAt f i) = 64 * f + i
 place_of s (FrameAt f) = 64 * s.frames + f
-place_of s (CountAt f c) = 65 * s.frames + s.cores * f
-place_of s (CoreAt c) = 65 * s.frames + s.cores * s.frames + c
-place_of s (FlushAt c) = 65 * s.frames + s.cores * s.frames + s.cores + c
-place_of s (LiveAt l) = 65 * s.frames + s.cores * s.frames + 2 * s.cores + l
-place_of s ClockAt = 65 * s.frames + s.cores * s.frames + 2 * s.cores + 64
+place_of s (CountAt f c) = core_begins s c + f
+place_of s (CoreAt c) = core_begins s c + s.frames
+place_of s (FlushAt c) = core_begins s c + s.frames + 1
+place_of s (LiveAt l) = core_begins s s.cores + l
+place_of s ClockAt = core_begins s s.cores + 64
 
 -- how many words the table has
 unfoldable pub size_of : Shape → ℕ
-size_of s = 65 * s.frames + s.cores * s.frames + 2 * s.cores + 65
+size_of s = core_begins s s.cores + 65
 
--- the core that counts the references of a core to a frame: all cores share core 0's count word
-abbrev pub counter_of : ℕ → ℕ
-counter_of core = 0
-
--- the word that stands at a word's place
-abbrev pub shared : Word → Word
-shared (EntryAt f i) = EntryAt f i
-shared (FrameAt f) = FrameAt f
-shared (CountAt f c) = CountAt f (counter_of c)
-shared (CoreAt c) = CoreAt c
-shared (FlushAt c) = FlushAt c
-shared (LiveAt l) = LiveAt l
-shared ClockAt = ClockAt
-
--- the words of a machine have distinct places, but for the counts that cores share
+-- the words of a machine have distinct places
 pub record HasPlaces (s : Shape) : Type 0 where
   -- a word's place is in the table
   pub below : (w : Word) → IsIn s w → place_of s w < size_of s
-  -- words at one place are one, up to sharing
-  pub distinct : (w u : Word) → IsIn s w → IsIn s u → place_of s w ≡ place_of s u → shared w ≡ shared u
-  -- words that are shared have one place
-  pub together : (w : Word) → place_of s (shared w) ≡ place_of s w
+  -- words at one place are one
+  pub distinct : (w u : Word) → IsIn s w → IsIn s u → place_of s w ≡ place_of s u → w ≡ u
   -- the table has at most 37,457 words
   pub small : size_of s ≤ 37457

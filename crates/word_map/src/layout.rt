@@ -1,14 +1,14 @@
 //! Where each word of the table stands.
 //!
-//! The table begins with the 64 words of each frame, frame 0 first. Behind them stand a word for each frame, the
-//! counts of each frame, the cores' words, the cores' flush words, 64 liveness words and the clock. The cores of a
-//! machine share one count word for each frame.
-#![tactic(auto, using(crate::proofs::PlaceLemmas::row_ends, crate::proofs::PlaceLemmas::counts_end), unfolding(crate::specs::Places::place_of, crate::specs::Places::size_of))]
+//! The table begins with the 64 words of each frame, frame 0 first, and a word for each frame. Behind them stand the words of each
+//! core, core 0's first: its count of each frame, its core word and its flush word. So what a core alone changes lies together.
+//! Last come 64 liveness words and the clock.
+#![tactic(auto, using(crate::proofs::PlaceLemmas::row_ends, crate::proofs::PlaceLemmas::rows_end), unfolding(crate::specs::Places::place_of, crate::specs::Places::size_of))]
 
-ghost use Rattle.std.specs.Prelude.{◌≡◌, ◌≤◌, ◌<◌, ◌↔◌, true};
+ghost use Rattle.std.specs.Prelude.{◌≡◌, ◌+◌, ◌≤◌, ◌<◌, ◌↔◌, true};
 ghost use Rattle.std.specs.Option.{SomeIff};
 ghost use Rattle.word_map.specs.Word.{Word, same_word, EntryAt, FrameAt, CountAt, CoreAt, FlushAt, LiveAt, ClockAt};
-ghost use Rattle.word_map.specs.Places.{Shape, IsShape, IsIn, HasPlaces, place_of, size_of};
+ghost use Rattle.word_map.specs.Places.{Shape, IsShape, IsIn, HasPlaces, core_words, core_begins, place_of, size_of};
 
 use spk_nums::{CoreNo, EntryNo, FrameNo};
 use std::marker::Model;
@@ -83,15 +83,15 @@ impl Layout {
         64 * u32::from(self.frames) + u32::from(frame.number())
     }
 
-    /// The place of a core's count of the references to a frame, the same for all cores. The frame is below the
-    /// machine's frames, and the core below its cores.
+    /// The place of a core's count of the references to a frame. The frame is below the machine's frames, and the core
+    /// below its cores.
     #[inline]
     pub fn count_at(&self, frame: FrameNo, core: CoreNo) -> u32
         requires { IsIn self.now (CountAt frame core) }
         ensures place { result ≡ place_of self.now (CountAt frame core) }
         ensures below { result < size_of self.now }
     {
-        65 * u32::from(self.frames) + u32::from(self.cores) * u32::from(frame.number())
+        self.core_begins(core) + u32::from(frame.number())
     }
 
     /// The place of the word that says whether a core is inside a call. The core is below the machine's cores.
@@ -101,7 +101,7 @@ impl Layout {
         ensures place { result ≡ place_of self.now (CoreAt core) }
         ensures below { result < size_of self.now }
     {
-        self.cores_begin() + u32::from(core.number())
+        self.core_begins(core) + u32::from(self.frames())
     }
 
     /// The place of a core's flush word. The core is below the machine's cores.
@@ -111,7 +111,7 @@ impl Layout {
         ensures place { result ≡ place_of self.now (FlushAt core) }
         ensures below { result < size_of self.now }
     {
-        self.cores_begin() + u32::from(self.cores) + u32::from(core.number())
+        self.core_begins(core) + u32::from(self.frames) + 1
     }
 
     /// The place of the word of a liveness number, which is below 64.
@@ -142,26 +142,28 @@ impl Layout {
         self.lives_begin() + 65
     }
 
-    /// The first place after the counts.
+    /// The first place of a core's words. The core is below the machine's cores.
     #[inline]
-    fn cores_begin(&self) -> u32
-        ensures place { result ≡ place_of self.now (CoreAt 0) }
-        ensures most { result ≤ 37376 }
+    fn core_begins(&self, core: CoreNo) -> u32
+        requires { core < self.now.cores }
+        ensures place { result ≡ core_begins self.now core }
+        ensures below { result + core_words self.now ≤ core_begins self.now self.now.cores }
+        ensures most { result ≤ 37392 }
     {
-        65 * u32::from(self.frames) + u32::from(self.cores) * u32::from(self.frames)
+        65 * u32::from(self.frames) + (u32::from(self.frames) + 2) * u32::from(core.number())
     }
 
     /// The first place after the cores' words.
     #[inline]
     fn lives_begin(&self) -> u32
-        ensures place { result ≡ place_of self.now (LiveAt 0) }
+        ensures place { result ≡ core_begins self.now self.now.cores }
         ensures most { result ≤ 37392 }
     {
-        self.cores_begin() + 2 * u32::from(self.cores)
+        65 * u32::from(self.frames) + (u32::from(self.frames) + 2) * u32::from(self.cores)
     }
 }
 
-/// Distinct words of a machine have distinct places, all in the table, but for the counts that cores share.
+/// Distinct words of a machine have distinct places, all in the table.
 pub fn places_are_distinct()
     ensures { (s : Shape) → IsShape s → HasPlaces s }
 {}
@@ -189,10 +191,10 @@ mod tests {
         }
         if let Some(two_cores) = Layout::new(2, 32) {
             assert_eq!(rt; two_cores.entry_at(FrameNo::new(0), EntryNo::new(0)), 0);
-            assert_eq!(rt; two_cores.count_at(FrameNo::new(9), CoreNo::new(0)), 2_098);
-            assert_eq!(rt; two_cores.count_at(FrameNo::new(9), CoreNo::new(1)), 2_098);
-            assert_eq!(rt; two_cores.core_at(CoreNo::new(1)), 2_145);
-            assert_eq!(rt; two_cores.flush_at(CoreNo::new(0)), 2_146);
+            assert_eq!(rt; two_cores.count_at(FrameNo::new(9), CoreNo::new(0)), 2_089);
+            assert_eq!(rt; two_cores.count_at(FrameNo::new(9), CoreNo::new(1)), 2_123);
+            assert_eq!(rt; two_cores.core_at(CoreNo::new(1)), 2_146);
+            assert_eq!(rt; two_cores.flush_at(CoreNo::new(0)), 2_113);
             assert_eq!(rt; two_cores.live_at(0), 2_148);
             assert_eq!(rt; two_cores.live_at(63), 2_211);
             assert_eq!(rt; two_cores.size(), 2_213);

@@ -33,8 +33,14 @@ frozen_legal = (
         (
           (
             (
-              (made_legal, may_follow refl refl tt tt (record { call = call.Retype 0 8 frame_kind.User; was_decided = refl })),
-              may_follow refl refl (refl, tt) tt tt,
+              (
+                (
+                  (made_legal, may_follow refl refl tt tt (record { call = call.Retype 0 8 frame_kind.User; was_decided = refl })),
+                  may_follow refl refl (refl, tt) tt tt,
+                ),
+                may_follow refl refl tt tt tt,
+              ),
+              may_follow refl refl tt tt tt,
             ),
             may_follow refl refl tt tt tt,
           ),
@@ -63,7 +69,7 @@ still_frozen : RepresentCounts (last_left two_cores left_frozen) (state_after tw
 unfolding two_cores made_user counts_frozen left_frozen word_of_count count_of_word sum_below node_refs refs
 still_frozen counts =
     let frame : 8 < 32 = omega arith in
-    let word : 0 < 1 = omega arith in
+    let word : 0 < 2 = omega arith in
     false≢true (sym (ap (λ h. is_some (hold_mark h)) ((counts 8 frame).unheld 0 0 word)))
 
 pub retypes_leave_counts : RetypesLeaveCounts

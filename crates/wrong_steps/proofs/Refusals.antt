@@ -72,7 +72,7 @@ still_held : RepresentCounts (last_left two_cores left_held) (state_after two_co
 unfolding two_cores acquired_count filled_meanwhile left_held word_of_entry word_of_count count_of_word sum_below node_refs refs
 still_held counts =
     let frame : 0 < 32 = omega arith in
-    let word : 0 < 1 = omega arith in
+    let word : 0 < 2 = omega arith in
     false≢true (sym (ap (λ h. is_some (hold_mark h)) ((counts 0 frame).unheld 0 0 word)))
 
 pub refusals_hold : RefusalsHold

@@ -25,32 +25,36 @@ use Rattle.act_states.specs.declared.work.WorkStep.{WorkStep}
 use Rattle.act_states.specs.declared.work.WorkStep.TheVariants.{Answers}
 use Rattle.wrong_steps.specs.Acts.{acts}
 
--- The word of frame 8 as a user frame, and its count word of no reference, held thus.
+-- The word of frame 8 as a user frame, and its count words of no reference, held thus.
 abbrev pub user_word : ℕ
 user_word = word_of_frame (typed frame_kind.User)
 
 abbrev pub no_reference : Hold → ℕ
 no_reference hold = word_of_count (record { hold = hold; count = pos 0; stamp = 0 })
 
--- Core 0 makes frame 8 a user frame,
+-- Core 0 makes frame 8 a user frame.
 unfoldable pub made_user : Trace
 made_user =
     decides 0 (CompareOf (FrameAt 8) 0 user_word) done (loads 0 1 0 (loads 0 0 0 (enters 0 (Retype 0 8 frame_kind.User) [])))
 
--- and then untyped again: it marks the frame, and freezes its one count word.
+-- Core 0 freezes one of the frame's count words.
+abbrev pub freezes : ℕ → Trace → Trace
+freezes d t = goes 0 (CompareOf (CountAt 8 d) (no_reference Unheld) (no_reference (Closed 0))) (goes 0 (LoadOf (CountAt 8 d)) t)
+
+-- It makes frame 8 untyped again: it marks it, and freezes both its count words.
 unfoldable pub counts_frozen : Trace
 counts_frozen =
-    goes 0 (CompareOf (CountAt 8 0) (no_reference Unheld) (no_reference (Closed 0))) (goes 0 (LoadOf (CountAt 8 0))
-    (goes 0 (CompareOf (FrameAt 8) user_word (word_of_frame (held_by 0 frame_kind.User Blank))) (goes 0 (LoadOf (FrameAt 8))
+    freezes 1 (freezes 0 (goes 0 (CompareOf (FrameAt 8) user_word (word_of_frame (held_by 0 frame_kind.User Blank)))
+    (goes 0 (LoadOf (FrameAt 8))
     (loads 0 1 0 (loads 0 0 0 (enters 0 (Retype 0 8 frame_kind.Untyped) (returns 0 done made_user)))))))
 
--- What a right step then leaves to be stored: the count word, cleared, and after it the frame's word.
+-- What a right step then leaves to be stored: the count words, cleared, and after them the frame's word.
 abbrev pub clears : Release
 clears = release_of 8 (word_of_frame (typed frame_kind.Untyped)) (record {
   frame = 8;
   sum = pos 0;
   stamp = 0;
-  words = unheld (pos 0) 0 ∷ [];
+  words = unheld (pos 0) 0 ∷ unheld (pos 0) 0 ∷ [];
   owned = record { first = None; second = None };
 }) true
 

@@ -72,7 +72,7 @@ pub fn retypes_skip()
     ensures { RetypesSkip }
 {}
 
-/// A retype to untyped that leaves the counters of its frame: both cores are out of their calls, and the frame's count word is still
+/// A retype to untyped that leaves the counters of its frame: both cores are out of their calls, and the frame's count words are still
 /// frozen.
 #[tactic(auto, using(crate::proofs::Clearings::retypes_leave_counts))]
 pub fn retypes_leave_counts()

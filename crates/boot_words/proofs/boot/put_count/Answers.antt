@@ -6,6 +6,5 @@ use Rattle.boot_words.proofs.boot.put_count.Goals as goal
 
 pub returns : goal.returns
 returns c =
-    puts c.args.setup.now c.requires.limits c.args.words.now (CountAt c.args.frame 0) c.requires.size c.requires.is_in _ _
-    (c.count_at-at.ensures.place ∙ ap (λ d. place_of c.args.layout.now (CountAt c.args.frame d)) c.new.ensures
-    ∙ ap (λ s. place_of s (CountAt c.args.frame 0)) c.requires.shape) cc
+    puts c.args.setup.now c.requires.limits c.args.words.now (CountAt c.args.frame c.args.core) c.requires.size c.requires.is_in _ _
+    (c.count_at-at.ensures.place ∙ ap (λ s. place_of s (CountAt c.args.frame c.args.core)) c.requires.shape) cc

@@ -1,13 +1,12 @@
 use Rattle.word_map.specs.Word.{EntryAt, FrameAt}
-use Rattle.boot_words.proofs.Fillings.{counts_right}
 use Rattle.boot_words.proofs.boot.put_whole_frame.Goals as goal
 
 pub returns-clause-right : goal.returns-clause-right
 returns-clause-right c =
     let f = c.args.frame in
     record {
-      entries = λ i h. c.put_count.ensures.fills.kept (EntryAt f i) (c.requires.is_in, h)
+      entries = λ i h. c.put_counts.ensures.fills.kept (EntryAt f i) (c.requires.is_in, h)
           (c.put_frame.ensures.fills.kept (EntryAt f i) (c.requires.is_in, h) (c.put_entries.ensures.right i h));
-      kind = c.put_count.ensures.fills.kept (FrameAt f) c.requires.is_in c.put_frame.ensures.right;
-      counts = λ d h. counts_right c.args.setup.now c.requires.limits c.put_count.new.words f c.put_count.ensures.right d;
+      kind = c.put_counts.ensures.fills.kept (FrameAt f) c.requires.is_in c.put_frame.ensures.right;
+      counts = c.put_counts.ensures.right;
     }

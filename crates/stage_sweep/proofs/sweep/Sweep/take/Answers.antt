@@ -5,7 +5,7 @@ use Rattle.stage_sweep.proofs.SweepLemmas.{keep_fits, sweep_after_fits}
 use Rattle.stage_sweep.proofs.sweep.Sweep.take.Goals as goal
 
 pub keep-requires : goal.keep-requires
-keep-requires c = keep_fits c.args.layout.now c.args.self.now.kept c.args.self.now.at c.requires.at
+keep-requires c = keep_fits c.args.layout.now c.cores.ensures.limits.most_cores c.args.self.now.kept c.args.self.now.at c.requires.at
 
 pub returns-clause-fits : goal.returns-clause-fits
 returns-clause-fits c = λ goes.

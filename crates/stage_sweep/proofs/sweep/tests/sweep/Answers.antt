@@ -6,5 +6,5 @@ pub returns : goal.returns
 returns c = rw c.new-3.ensures (record {
   frame = omega (arith, c.new.ensures, c.requires.frame);
   core = omega (arith, c.new-2.ensures, c.requires.core);
-  at = some_counter c.args._layout.now;
+  at = some_counter c.args._layout.now (omega (arith, c.requires.core));
 })

@@ -1,0 +1,264 @@
+-- What a core holds of the counts that its call has acquired: each stays among them until its commit, and stands for what the commit
+-- stores.
+use Rattle.std.proofs.Common.{◌≡◌, ◌≢◌, ◌⊎◌, inl, inr, ℕ, ◌<◌, ◌++◌, nat_lt, Bool, true, false, if◌then◌else◌, List, [], ◌∷◌}
+use Rattle.std.proofs.Common.{length, Option, Some, None, refl, sym, ◌∙◌, ap, subst}
+use Rattle.std.specs.Prelude.{All}
+use Rattle.std.proofs.lemmas.Bool.{false≢true}
+use Rattle.std.proofs.lemmas.List.Elements.{All-head, All-tail}
+use Rattle.time_laws.specs.spk_nums.specs.Setting.{Setting, IsSetting}
+use Rattle.time_laws.specs.spk_nums.specs.declared.calls.Call.{Call}
+use Rattle.time_laws.specs.spk_nums.specs.declared.replies.Reply.{Reply}
+use Rattle.time_laws.specs.spk_nums.specs.declared.replies.Reply.TheVariants as reply
+use Rattle.time_laws.specs.word_map.specs.Word.{CountAt}
+use Rattle.time_laws.specs.kernel_history.specs.Bounds.{call_in}
+use Rattle.time_laws.specs.kernel_history.specs.Marking.{marked_by}
+use Rattle.time_laws.specs.kernel_history.specs.Trace.{Trace, phase, last_left}
+use Rattle.time_laws.specs.stage_pins.specs.Held.{pushed}
+use Rattle.time_laws.specs.stage_pins.specs.declared.held.Acquired.{Acquired}
+use Rattle.time_laws.specs.stage_quiet.specs.declared.close.Close.TheVariants.{AtCompare as close_compare, AtDraw, AtStore}
+use Rattle.time_laws.specs.stage_tcap.specs.declared.pair.PairAt.{PairAt}
+use Rattle.time_laws.specs.stage_tcap.specs.declared.pair.PairAt.TheVariants as pair
+use Rattle.time_laws.specs.stage_thread.specs.declared.stack.Pop.TheVariants as pop
+use Rattle.time_laws.specs.stage_thread.specs.declared.stack.Push.TheVariants as push
+use Rattle.time_laws.specs.act_states.specs.declared.own.Own.{Own}
+use Rattle.time_laws.specs.act_states.specs.declared.untypings.Untyping.{Untyping}
+use Rattle.time_laws.specs.act_states.specs.declared.untypings.UntypingAt.{UntypingAt}
+use Rattle.time_laws.specs.act_states.specs.declared.untypings.UntypingAt.TheVariants as untype
+use Rattle.time_laws.specs.act_states.specs.declared.work.Act.{Act as ActOf}
+use Rattle.time_laws.specs.act_states.specs.declared.work.Act.TheVariants.{Untype as untype_act}
+use Rattle.time_laws.specs.act_states.specs.declared.work.Tail.{Tail}
+use Rattle.time_laws.specs.act_states.specs.declared.work.Tail.TheVariants.{Nothing, Quiesce, Unmark, StoreDead, StoreFlush, Release}
+use Rattle.time_laws.specs.act_states.specs.declared.work.Tail.TheVariants.{StoreLive, Push, Pop, Share, StoreRunning, StoreIdle}
+use Rattle.time_laws.specs.act_states.specs.declared.work.Work.TheVariants.{Lookup, Read, Scan, Acquire, Act}
+use Rattle.time_laws.specs.act_states.specs.declared.work.WorkStep.{WorkStep}
+use Rattle.time_laws.specs.act_states.specs.declared.work.WorkStep.TheVariants.{Goes, Acquires, Refuses, Answers, Changes}
+use Rattle.time_laws.specs.act_states.specs.Refusals.{reply_of}
+use Rattle.time_laws.specs.call_stages.specs.Cores.{core_after, told_by}
+use Rattle.time_laws.specs.call_stages.specs.Fits.{CountsAt}
+use Rattle.time_laws.specs.call_stages.specs.Steps.{landed, took_at}
+use Rattle.time_laws.specs.call_stages.specs.Tails.{commits, tail_counts, took_tail}
+use Rattle.time_laws.specs.call_stages.specs.declared.stages.Absorbed.{Absorbed}
+use Rattle.time_laws.specs.call_stages.specs.declared.stages.Absorbed.TheVariants as told_as
+use Rattle.time_laws.specs.call_stages.specs.declared.stages.ActiveCall.{ActiveCall}
+use Rattle.time_laws.specs.call_stages.specs.declared.stages.Stage.{Stage}
+use Rattle.time_laws.specs.call_stages.specs.declared.stages.Stage.TheVariants.{Enter, Undecided, Decided, Leave}
+use Rattle.time_laws.specs.call_stages.specs.View.{Core}
+use Rattle.time_laws.specs.core_invariant.specs.Holding.{AreApart, Holding, committed, count_of, holds_counts, settled, settled_by}
+use Rattle.time_laws.specs.core_invariant.specs.Invariant.{Invariant, done_by, held_by, holds_at, holds_in, holds_tail, is_done}
+use Rattle.time_laws.specs.core_invariant.specs.Knows.{KnowsAct, KnowsAt, KnowsTail, phase_at}
+use Rattle.time_laws.specs.core_invariant.specs.Sweeps.{KnowsUntypingAt}
+use Rattle.time_laws.specs.core_invariant.proofs.Freezing.{release_away}
+use Rattle.time_laws.specs.step_ways.proofs.Counting.{first_marked, first_stands, rest_elsewhere}
+use Rattle.time_laws.specs.step_ways.proofs.Loads.{call_is}
+use Rattle.time_laws.specs.step_ways.proofs.Writes.{same_marks}
+use Rattle.time_laws.specs.count_invariant.proofs.ActHolds.{SparesAt, SparesSwept, act_count}
+use Rattle.flight_laws.specs.Counts.{Untypes}
+use Rattle.flight_laws.proofs.CountSteps.{UntypesFrame, untypes_frame}
+
+-- A count is one of those that a call has acquired.
+abbrev pub IsAmong : Acquired → List Acquired → Type 0
+IsAmong x [] = ⊥
+IsAmong x (y ∷ ys) = (x ≡ y) ⊎ IsAmong x ys
+
+among_more : (xs : List Acquired) (x y : Acquired) → IsAmong x xs → IsAmong x (xs ++ y ∷ [])
+among_more [] x y among = absurd among
+among_more (z ∷ zs) x y (inl same) = inl same
+among_more (z ∷ zs) x y (inr among) = inr (among_more zs x y among)
+
+pub among_last : (xs : List Acquired) (x : Acquired) → IsAmong x (xs ++ x ∷ [])
+among_last [] x = inl refl
+among_last (z ∷ zs) x = inr (among_last zs x)
+
+among_pushed : (xs : List Acquired) (x y : Acquired) → IsAmong x xs → IsAmong x (pushed xs y)
+among_pushed xs x y among = by (nat_lt (length xs) 4)
+  where
+    by : (b : Bool) → IsAmong x (if b then xs ++ y ∷ [] else xs)
+    by true = among_more xs x y among
+    by false = among
+
+pub all_among : (P : Acquired → Type 0) (xs : List Acquired) (x : Acquired) → All P xs → IsAmong x xs → P x
+all_among P [] x all among = absurd among
+all_among P (y ∷ ys) x all (inl same) = subst P (sym same) (All-head P y ys all)
+all_among P (y ∷ ys) x all (inr among) = all_among P ys x (All-tail P y ys all) among
+
+-- Its word is held, and stands for what its commit stores.
+counts_stand : (fate : Option (Option ℕ)) (xs : List Acquired) (x : Acquired) → AreApart xs → IsAmong x xs
+    → ((holds_counts fate xs).marks (count_of x) ≡ true) × ((holds_counts fate xs).stands (count_of x) ≡ committed fate x)
+counts_stand fate [] x apart among = absurd among
+counts_stand fate (y ∷ ys) x apart (inl same) = subst (λ (z : Acquired). ((holds_counts fate (y ∷ ys)).marks (count_of z) ≡ true)
+    × ((holds_counts fate (y ∷ ys)).stands (count_of z) ≡ committed fate z)) (sym same) (first_marked fate y ys, first_stands fate y ys)
+counts_stand fate (y ∷ ys) x apart (inr among) =
+    let rest = counts_stand fate ys x apart.1 among in
+    let there : count_of x ≢ count_of y = λ same. false≢true (sym apart.0 ∙ same_marks None fate ys (count_of y)
+    ∙ ap (holds_counts fate ys).marks (sym same) ∙ rest.0) in
+    let keeps = rest_elsewhere fate y ys (count_of x) there in
+    (sym keeps.0 ∙ rest.0, sym keeps.1 ∙ rest.1)
+
+-- A tail holds no count but those that it releases.
+abbrev SparesTail : Tail → ℕ → Type 0
+SparesTail (Release y) f = f ≢ y.frame
+SparesTail tail f = Unit {0}
+
+tail_count : (setup : Setting) (t : Trace) (c : ℕ) (call : Call) (counts : List Acquired) (tail : Tail) (h : Holding) (f k : ℕ)
+    → KnowsTail setup t c call counts tail → SparesTail tail f → (holds_tail tail h).stands (CountAt f k) ≡ h.stands (CountAt f k)
+tail_count setup t c call counts Nothing h f k knows spares = refl
+tail_count setup t c call counts (Quiesce (close_compare node index word by)) h f k knows spares = refl
+tail_count setup t c call counts (Quiesce (AtDraw node index)) h f k knows spares = refl
+tail_count setup t c call counts (Quiesce (AtStore node index x)) h f k knows spares = refl
+tail_count setup t c call counts (Unmark g word) h f k knows spares = refl
+tail_count setup t c call counts (StoreDead life x) h f k knows spares = refl
+tail_count setup t c call counts (StoreFlush by x) h f k knows spares = refl
+tail_count setup t c call counts (Release y) h f k knows spares = (release_away y h f k knows.1.thaws spares).1
+tail_count setup t c call counts (StoreLive l live g word) h f k knows spares = refl
+tail_count setup t c call counts (Push (push.AtStack g core depth comp)) h f k knows spares = refl
+tail_count setup t c call counts (Push (push.AtThread g core depth)) h f k knows spares = refl
+tail_count setup t c call counts (Pop (pop.AtThread g core depth)) h f k knows spares = refl
+tail_count setup t c call counts (Pop (pop.AtStack g depth)) h f k knows spares = refl
+tail_count setup t c call counts (Share p) h f k knows spares = by p.at
+  where
+    by : (at : PairAt) → (holds_tail (Share (record p { at = at })) h).stands (CountAt f k) ≡ h.stands (CountAt f k)
+    by pair.LoadA = refl
+    by pair.MarkA = refl
+    by (pair.ListA n) = refl
+    by pair.LoadB = refl
+    by (pair.ListB n) = refl
+    by pair.CompareB = refl
+    by (pair.AgainB r) = refl
+    by (pair.StoreList n) = refl
+    by pair.StoreB = refl
+    by (pair.StoreA moved v) = refl
+tail_count setup t c call counts (StoreRunning g core depth old old_depth) h f k knows spares = refl
+tail_count setup t c call counts (StoreIdle g depth) h f k knows spares = refl
+
+module _ (setup : Setting) (setting : IsSetting setup) (cores : ℕ → Core) (t : Trace) (stands : Invariant setup cores t) (c : ℕ)
+    (here : c < setup.cores) (a : ActiveCall) (active : (cores c).active ≡ Some a) (x : Acquired) (among : IsAmong x a.counts)
+    (spares : Untypes x.pin.frame (phase t c) → ⊥) where
+  -- no act and no tail of the call has frozen a count of the frame
+  its_call : (stage : Stage) → a.stage ≡ stage → (call_in (phase_at a.call stage) ≡ Some a.call) → UntypesFrame a.call x.pin.frame → ⊥
+  its_call stage is in_call untypes = spares (record {
+    range = untypes.range;
+    is = ap call_in ((call_is setup setting cores t stands c here a active).phase ∙ ap (phase_at a.call) is) ∙ in_call
+        ∙ ap (λ (y : Call). Some y) untypes.is;
+  })
+
+  spares_at : (m : Untyping) (at : UntypingAt) → UntypesFrame a.call m.frame → (UntypesFrame a.call x.pin.frame → ⊥)
+      → KnowsUntypingAt setup t c m.frame at → SparesAt at x.pin.frame
+  spares_at m untype.Load untypes not knows = tt
+  spares_at m (untype.Mark word v) untypes not knows = tt
+  spares_at m (untype.Sweep word w) untypes not knows =
+      λ same. not (subst (UntypesFrame a.call) (sym (same ∙ knows.frame)) untypes)
+  spares_at m (untype.Draw word w) untypes not knows =
+      λ same. not (subst (UntypesFrame a.call) (sym (same ∙ knows.frame)) untypes)
+
+  spares_act : (act : ActOf) → KnowsAct setup t c a.call a.plan a.found setup.cores act → (UntypesFrame a.call x.pin.frame → ⊥)
+      → SparesSwept act x.pin.frame
+  spares_act (untype_act m) knows not = spares_at m m.at (untypes_frame a.call a.found m knows.untypes) not knows.at
+  spares_act act knows not = tt
+
+  spares_tail : (tail : Tail) → KnowsTail setup t c a.call a.counts tail → (UntypesFrame a.call x.pin.frame → ⊥)
+      → SparesTail tail x.pin.frame
+  spares_tail (Release y) knows not = λ same. not (subst (UntypesFrame a.call) (sym same)
+      (record { range = knows.1.range; is = knows.1.retypes }))
+  spares_tail tail knows not = tt
+
+  abbrev StandsAt : Stage → Type 0
+  StandsAt stage = (holds_at stage a.counts).stands (count_of x) ≡ committed (is_done stage) x
+
+  its_stands : (fate : Option (Option ℕ)) → (holds_counts fate a.counts).stands (count_of x) ≡ committed fate x
+  its_stands fate = (counts_stand fate a.counts x (call_is setup setting cores t stands c here a active).apart among).1
+
+  stage_stands : (stage : Stage) → a.stage ≡ stage → KnowsAt setup t c (cores c).own.table a stage → StandsAt stage
+  stage_stands Enter is has = absurd has
+  stage_stands (Undecided (Lookup look)) is has = its_stands None
+  stage_stands (Undecided (Read comp look)) is has = its_stands None
+  stage_stands (Undecided (Scan q act)) is has = its_stands None
+  stage_stands (Undecided (Acquire pin change act)) is has =
+      (act_count act (holds_counts None a.counts) x.pin.frame x.pin.core
+      (spares_act act has.knows.knows (its_call (Undecided (Acquire pin change act)) is refl))).1 ∙ its_stands None
+  stage_stands (Undecided (Act act)) is has =
+      (act_count act (holds_counts None a.counts) x.pin.frame x.pin.core
+      (spares_act act has.knows.knows (its_call (Undecided (Act act)) is refl))).1 ∙ its_stands None
+  stage_stands (Decided r drawn tail) is has =
+      tail_count setup t c a.call a.counts tail (holds_counts (done_by r drawn) a.counts) x.pin.frame x.pin.core has
+      (spares_tail tail has (its_call (Decided r drawn tail) is refl)) ∙ its_stands (done_by r drawn)
+  stage_stands (Leave r at) is has = its_stands None
+
+  -- so what the word settles to is what the commit stores
+  pub count_settles : marked_by setup t (count_of x) ≡ Some c
+      → settled setup (held_by cores) t (count_of x) ≡ committed (is_done a.stage) x
+  count_settles mark =
+      ap (λ o. settled_by o (held_by cores) (count_of x) (last_left setup t (count_of x))) mark
+      ∙ ap (λ o. (holds_in o).stands (count_of x)) active
+      ∙ stage_stands a.stage refl (call_is setup setting cores t stands c here a active).knows
+
+-- A step by which a call does not return, and is not decided `ok`.
+abbrev pub NotBack : Absorbed → Type 0
+NotBack told_as.Going = Unit {0}
+NotBack (told_as.Decided r) = Unit {0}
+NotBack (told_as.Returned r) = ⊥
+
+abbrev pub NotOk : Absorbed → Type 0
+NotOk told_as.Going = Unit {0}
+NotOk (told_as.Decided (reply.Ok v)) = ⊥
+NotOk (told_as.Decided r) = Unit {0}
+NotOk (told_as.Returned r) = Unit {0}
+
+not_done : (r : Reply) (drawn : Option ℕ) → NotOk (told_as.Decided r) → done_by r drawn ≡ None
+not_done (reply.Ok v) drawn not = absurd not
+not_done r drawn not = refl
+
+-- A call holds this count still, and whether it is carried out is as it was, where the step does not decide it `ok`.
+abbrev pub HoldsStill : Option ActiveCall → Acquired → Option (Option ℕ) → Absorbed → Type 0
+HoldsStill None x fate told = ⊥
+HoldsStill (Some a) x fate told = IsAmong x a.counts × (NotOk told → is_done a.stage ≡ fate)
+
+module _ (own : Own) (a : ActiveCall) (x : Acquired) (among : IsAmong x a.counts) where
+  landed_holds : (ws : WorkStep) → HoldsStill (core_after own (landed a ws)).active x None (told_by (landed a ws))
+  landed_holds (Goes work) = (among, λ not. refl)
+  landed_holds (Acquires count work) = (among_pushed a.counts x count among, λ not. refl)
+  landed_holds (Refuses r tail) = (among, not_done (reply_of r) None)
+  landed_holds (Answers v drawn tail) = (among, λ not. absurd not)
+  landed_holds (Changes r change drawn tail) = (among, not_done r drawn)
+
+  none_among : a.counts ≡ [] → ⊥
+  none_among none = subst (IsAmong x) none among
+
+  -- the commit of the earliest count is of another
+  abbrev pub NotFirst : Tail → List Acquired → Type 0
+  NotFirst tail [] = Unit {0}
+  NotFirst tail (y ∷ ys) = commits tail ≡ true → x ≡ y → ⊥
+
+  tail_holds : (r : Reply) (drawn : Option ℕ) (tail : Tail) (xs : List Acquired) (found : ℕ) → IsAmong x xs → NotFirst tail xs
+      → IsAmong x (tail_counts tail xs) × (is_done (took_tail r drawn tail xs found) ≡ done_by r drawn)
+  tail_holds r drawn (Quiesce close) xs found among first = (among, refl)
+  tail_holds r drawn (Unmark f word) xs found among first = (among, refl)
+  tail_holds r drawn (StoreDead life stamp) xs found among first = (among, refl)
+  tail_holds r drawn (StoreFlush core stamp) xs found among first = (among, refl)
+  tail_holds r drawn (StoreLive l live f word) xs found among first = (among, refl)
+  tail_holds r drawn (Push x) xs found among first = (among, refl)
+  tail_holds r drawn (Pop x) xs found among first = (among, refl)
+  tail_holds r drawn (Share p) xs found among first = (among, refl)
+  tail_holds r drawn (StoreRunning f core depth old old_depth) xs found among first = (among, refl)
+  tail_holds r drawn (StoreIdle f depth) xs found among first = (among, refl)
+  tail_holds r drawn Nothing [] found among first = absurd among
+  tail_holds r drawn Nothing (y ∷ ys) found (inl same) first = absurd (first refl same)
+  tail_holds r drawn Nothing (y ∷ ys) found (inr among) first = (among, refl)
+  tail_holds r drawn (Release y) [] found among first = absurd among
+  tail_holds r drawn (Release z) (y ∷ ys) found (inl same) first = absurd (first refl same)
+  tail_holds r drawn (Release z) (y ∷ ys) found (inr among) first = (among, refl)
+
+  abbrev pub NotCommitted : Stage → Type 0
+  NotCommitted (Decided r drawn tail) = NotFirst tail a.counts
+  NotCommitted stage = Unit {0}
+
+  pub stage_holds : (stage : Stage) (found : ℕ) → CountsAt a.counts stage → NotCommitted stage → NotBack (told_by (took_at own a stage found))
+      → HoldsStill (core_after own (took_at own a stage found)).active x (is_done stage) (told_by (took_at own a stage found))
+  stage_holds Enter found counts first back = absurd (none_among counts)
+  stage_holds (Undecided (Lookup look)) found counts first back = absurd (none_among counts)
+  stage_holds (Undecided (Read comp look)) found counts first back = absurd (none_among counts)
+  stage_holds (Undecided (Scan q act)) found counts first back = absurd (none_among counts)
+  stage_holds (Undecided (Acquire pin change act)) found counts first back = landed_holds _
+  stage_holds (Undecided (Act act)) found counts first back = landed_holds _
+  stage_holds (Decided r drawn tail) found counts first back =
+      let held = tail_holds r drawn tail a.counts found among first in (held.0, λ not. held.1)
+  stage_holds (Leave r stamp) found counts first back = absurd (none_among counts)
