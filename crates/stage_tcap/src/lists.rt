@@ -5,37 +5,25 @@
 
 ghost use Rattle.std.specs.Prelude.{◌≡◌, ◌≤◌, ◌-◌, nat_le, length};
 ghost use Rattle.spk_nums.specs.Merging.{merged};
-ghost use Rattle.stage_tcap.specs.Lists.{read_pair, read_word, in_order, same_list, merged_if, merge_of};
+ghost use Rattle.stage_tcap.specs.Lists.{read_word, in_order, same_list, merged_if, merge_of};
 ghost use Rattle.stage_tcap.specs.Pairs.{EntryFits, word_of_list};
 
 use quality_lists::{agrees, merge};
 use spk_nums::{EntryNo, Qualities};
 use tcap_words::QualityWord;
 
-// A list with the pair of the next word, where it has one; None once a pair is out of order.
+// A list gets the pair of the next word, where that has one; it is None once a pair is out of order.
 #[inline]
-pub(crate) fn read_word(list: &Option<Qualities>, word: Option<QualityWord>) -> Option<Qualities>
-    ensures { result ≡ read_word list.now word }
+pub(crate) fn add_word(list: &mut Option<Qualities>, word: Option<QualityWord>)
+    ensures { list.new ≡ read_word list.old word }
 {
-    match list {
-        None => None,
-        Some(list) => match word {
-            None => Some(*list),
-            Some(word) => read_pair(*list, word.0),
-        },
-    }
-}
-
-// A list with this pair, if there is one.
-#[inline]
-fn read_pair(list: Qualities, pair: Option<(u8, u32)>) -> Option<Qualities>
-    ensures { result ≡ read_pair list pair }
-{
-    match pair {
-        None => Some(list),
-        Some(pair) => {
-            let mut list = list;
-            if list.add(pair) { Some(list) } else { None }
+    if let Some(QualityWord(Some(pair))) = word {
+        let kept = match list {
+            None => true,
+            Some(list) => list.add(pair),
+        };
+        if !kept {
+            *list = None;
         }
     }
 }

@@ -21,9 +21,9 @@ ghost use Rattle.word_map.specs.Places.{size_of};
 ghost use Rattle.word_map.specs.Word.{EntryAt};
 ghost use Rattle.word_map.specs.Moves.{LoadOf, op_of};
 ghost use Rattle.stage_tcap.specs.Heads.{head, credited, VersionFits};
-ghost use Rattle.stage_tcap.specs.Lists.{read_word, in_order};
+ghost use Rattle.stage_tcap.specs.Lists.{in_order};
 ghost use Rattle.stage_tcap.specs.Pairs.{AtFits, PairFits, amount_of, next_b, left_a, move_at, pair_move, noted};
-ghost use Rattle.stage_tcap.specs.Pairs.{head_a_after, head_b_after, list_a_after, whole_b, read_b, list_b_after};
+ghost use Rattle.stage_tcap.specs.Pairs.{whole_b};
 ghost use Rattle.stage_tcap.specs.Pairs.{noted_by, giving_back, by_alike, by_room, by_preempting, judged, at_by_mark};
 ghost use Rattle.stage_tcap.specs.Pairs.{at_by_head, at_by_budget, at_marked, at_read, a_next, b_next, store_next};
 ghost use Rattle.stage_tcap.specs.Pairs.{at_decided, compared_after, again_value, at_after, pair_after, end_at, pair_end};
@@ -31,7 +31,7 @@ ghost use Rattle.stage_tcap.specs.Pairs.{at_decided, compared_after, again_value
 use crate::charge::head_end;
 use crate::ends::{again_end, again_value, b_end, list_end, marked_end};
 use crate::heads::{credited, debited, head, marked, word_of};
-use crate::lists::{in_order, merge_of, read_word, same_list, word_at};
+use crate::lists::{add_word, in_order, merge_of, same_list, word_at};
 use preempt_test::preempts;
 use spk_nums::{CoreNo, EntryNo, FrameNo, Qualities, Reply, StageEnd, Value, WordOp};
 use tcap_words::{HeadWord, QualityWord};
@@ -212,10 +212,29 @@ impl Pair {
     fn note(&mut self, found: u64)
         ensures { self.new ≡ noted_by self.old found }
     {
-        self.list_b = list_b_after(&self.at, self.what, &self.list_a, &self.list_b, found);
-        self.list_a = list_a_after(&self.at, &self.list_a, found);
-        self.head_b = head_b_after(&self.at, &self.head_b, found);
-        self.head_a = head_a_after(&self.at, &self.head_a, found);
+        let at = self.at;
+        match at {
+            PairAt::LoadA => self.head_a = noted(&self.head_a, &HeadWord::unpack(found)),
+            PairAt::ListA { entry: _ } => add_word(&mut self.list_a, QualityWord::unpack(found)),
+            PairAt::LoadB => self.head_b = noted(&self.head_b, &HeadWord::unpack(found)),
+            PairAt::ListB { entry } => {
+                add_word(&mut self.list_b, QualityWord::unpack(found));
+                if entry.number() >= 8 {
+                    self.end_list_b();
+                }
+            }
+            _ => {}
+        }
+    }
+
+    // List B, once its last word is read: a delegation keeps the merged list.
+    #[inline(never)]
+    fn end_list_b(&mut self)
+        ensures { self.new ≡ record self.old { list_b = whole_b self.old.what (in_order self.old.list_a) (in_order self.old.list_b) } }
+    {
+        let a = in_order(&self.list_a);
+        let b = in_order(&self.list_b);
+        self.list_b = whole_b(self.what, &a, &b);
     }
 
     // What a step leads to that finds this word, once what it tells is kept.
@@ -340,71 +359,6 @@ fn noted(old: &HeadWord, shown: &Option<HeadWord>) -> HeadWord
     match shown {
         None => *old,
         Some(found) => head(found.budget, found.version),
-    }
-}
-
-// Head A, after a step that finds this word.
-#[inline]
-fn head_a_after(at: &PairAt, old: &HeadWord, found: u64) -> HeadWord
-    ensures { result ≡ head_a_after at.now old.now found }
-{
-    match at {
-        PairAt::LoadA => noted(old, &HeadWord::unpack(found)),
-        _ => *old,
-    }
-}
-
-// Head B, after a step that finds this word.
-#[inline]
-fn head_b_after(at: &PairAt, old: &HeadWord, found: u64) -> HeadWord
-    ensures { result ≡ head_b_after at.now old.now found }
-{
-    match at {
-        PairAt::LoadB => noted(old, &HeadWord::unpack(found)),
-        _ => *old,
-    }
-}
-
-// List A, after a step that finds this word.
-#[inline]
-fn list_a_after(at: &PairAt, list: &Option<Qualities>, found: u64) -> Option<Qualities>
-    ensures { result ≡ list_a_after at.now list.now found }
-{
-    match at {
-        PairAt::ListA { entry: _ } => read_word(list, QualityWord::unpack(found)),
-        _ => *list,
-    }
-}
-
-// List B, after a step that finds this word.
-#[inline]
-fn list_b_after(
-    at: &PairAt,
-    what: PairWork,
-    a: &Option<Qualities>,
-    list: &Option<Qualities>,
-    found: u64,
-) -> Option<Qualities>
-    ensures { result ≡ list_b_after at.now what a.now list.now found }
-{
-    match at {
-        PairAt::ListB { entry } => {
-            let read = read_word(list, QualityWord::unpack(found));
-            read_b(entry.number() < 8, what, &in_order(a), &read)
-        }
-        _ => *list,
-    }
-}
-
-// List B, once its last word is read: a delegation keeps the merged list.
-#[inline]
-fn read_b(more: bool, what: PairWork, a: &Qualities, read: &Option<Qualities>) -> Option<Qualities>
-    ensures { result ≡ read_b more what a.now read.now }
-{
-    if more {
-        *read
-    } else {
-        whole_b(what, a, &in_order(read))
     }
 }
 
