@@ -1,16 +1,18 @@
 -- The seats of a machine: which are dealt, and which are back.
-use Rattle.std.specs.Prelude.{◌≡◌, ℕ, ◌+◌, ◌-◌, ◌≤◌, List, [], length, slice_get, Some}
+use Rattle.std.specs.Prelude.{◌≡◌, ℕ, ◌+◌, ◌≤◌, List, [], length, slice_get, Some}
 use Rattle.core_kernel.specs.Kernel.{KernelValue, CoreSeatValue}
 
--- The kernel, the number of seats not yet dealt, and those that are back.
+-- The kernel, how many ports have been dealt, and the seats that are back.
 pub record SeatsValue : Type 0 where
   pub kernel : KernelValue
-  pub left : ℕ
+  pub dealt : ℕ
   pub back : List CoreSeatValue
 
--- The core whose seat is dealt next, of so many seats left.
-abbrev pub next_core : SeatsValue → ℕ
-next_core s = s.kernel.setup.cores - s.left
+-- The port is of the kernel and of the next core in order, and has seen the empty trace.
+pub record IsDealt (seats : SeatsValue) (port : CoreSeatValue) : Type 0 where
+  pub kernel : port.kernel ≡ seats.kernel
+  pub core : port.core ≡ seats.dealt
+  pub fresh : port.seen ≡ []
 
 -- A seat of the kernel that has seen nothing, the next after k others that are left.
 pub record IsLeft (of : KernelValue) (k : ℕ) (s : CoreSeatValue) : Type 0 where

@@ -1,9 +1,9 @@
 //! All seats of a kernel: how they are dealt, and how they come back.
 
-ghost use Rattle.std.specs.Prelude.{◌≡◌, ◌+◌, ◌≤◌, ◌++◌, ◌∷◌, ◌↔◌, [], length, slice_get, Some, None, IfOk, IfSome, IsSome, ◌<◌, ℕ, MatchOption};
+ghost use Rattle.std.specs.Prelude.{◌≡◌, ◌+◌, ◌++◌, ◌∷◌, ◌<◌, ◌↔◌, ℕ, [], length, slice_get, Some, IfOk, IfSome, IsSome, MatchOption};
 ghost use Rattle.std.specs.Arc.{arc_value};
 ghost use Rattle.core_kernel.specs.Kernel.{AreAllSeats, AreFresh, CoreSeatValue};
-ghost use Rattle.core_machine.specs.Seats.{SeatsValue, IsLeft, next_core};
+ghost use Rattle.core_machine.specs.Seats.{IsDealt, IsLeft};
 
 use crate::port::Port;
 use core_kernel::{CoreSeat, Kernel};
@@ -12,7 +12,7 @@ use std::alloc::{AllocError, Global};
 use std::marker::Model;
 use std::sync::Arc;
 
-/// A kernel and its seats. Contracts see the kernel, how many ports are not yet dealt, and the seats that are back.
+/// A kernel and its seats. Contracts see the kernel, how many ports have been dealt, and the seats that are back.
 #[derive(Drop)]
 pub struct Seats {
     pub(crate) setup: Setup,
@@ -22,13 +22,13 @@ pub struct Seats {
 }
 
 impl Model for Seats {
-    ghost use Rattle.std.specs.Prelude.{◌≡◌, length};
+    ghost use Rattle.std.specs.Prelude.{◌≡◌, ◌-◌, length};
     ghost use Rattle.std.specs.Arc.{arc_value};
     ghost use Rattle.core_machine.specs.Seats.{SeatsValue, HasSeats};
 
     ghost Value = { SeatsValue };
 
-    ghost view = { λ s. record { kernel = arc_value s.kernel; left = length s.here.items; back = s.back.items } };
+    ghost view = { λ s. record { kernel = arc_value s.kernel; dealt = s.setup.cores - length s.here.items; back = s.back.items } };
 
     ghost invariant = { λ s. ((arc_value s.kernel).setup ≡ s.setup) × HasSeats (arc_value s.kernel) s.here.items s.back.items };
 }
@@ -55,8 +55,8 @@ impl Seats {
     /// A machine of this setup that has just booted, of which no port is dealt yet. It fails only where memory runs out.
     pub fn boot(alloc: Global, setup: &Setup) -> Result<Seats, Memory>
         ensures setup { IfOk result (λ s. s.kernel.setup ≡ setup.now) }
-        ensures all { IfOk result (λ s. s.left ≡ setup.now.cores) }
-        ensures none { IfOk result (λ s. s.back ≡ []) }
+        ensures dealt { IfOk result (λ s. s.dealt ≡ 0) }
+        ensures back { IfOk result (λ s. s.back ≡ []) }
     {
         let (kernel, seats) = Kernel::boot(alloc, setup)?;
         let kernel = match Arc::new(alloc, kernel) {
@@ -74,9 +74,9 @@ impl Seats {
 
     /// The port of the next core, which has seen the empty trace; core 0's comes first. None comes exactly where all are dealt.
     pub fn deal(&mut self) -> Option<Port>
-        ensures none { IsSome result ↔ (0 < self.old.left) }
-        ensures port { IfSome result (λ p. IsLeft self.old.kernel self.new.left p) }
-        ensures left { MatchOption result (self.new ≡ self.old) (λ _. self.new.left + 1 ≡ self.old.left) }
+        ensures none { IsSome result ↔ (self.old.dealt < self.old.kernel.setup.cores) }
+        ensures port { IfSome result (λ p. IsDealt self.old p) }
+        ensures dealt { MatchOption result (self.new.dealt ≡ self.old.dealt) (λ _. self.new.dealt ≡ self.old.dealt + 1) }
         ensures kernel { self.new.kernel ≡ self.old.kernel }
         ensures back { self.new.back ≡ self.old.back }
     {
@@ -90,7 +90,7 @@ impl Seats {
         requires core { port.core ≡ length self.old.back }
         ensures back { IfOk result (λ _. self.new.back ≡ self.old.back ++ port ∷ []) }
         ensures kernel { self.new.kernel ≡ self.old.kernel }
-        ensures left { self.new.left ≡ self.old.left }
+        ensures dealt { self.new.dealt ≡ self.old.dealt }
     {
         match self.back.push(port.into_seat()) {
             Ok(()) => Ok(()),
