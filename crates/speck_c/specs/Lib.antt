@@ -1,0 +1,5 @@
+pub mod Kept
+pub mod Flat
+pub mod Slots
+pub mod Kinds
+pub mod Machines
