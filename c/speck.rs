@@ -3,6 +3,7 @@
 
 use std::ffi::c_void;
 use std::ptr::null_mut;
+use std::sync::Arc;
 
 #[repr(C)]
 struct Slot {
@@ -32,6 +33,10 @@ unsafe extern "C" {
     fn speck_free_machine(machine: *mut Slot);
     fn speck_free_port(port: *mut Slot);
     fn speck_free_note(note: *mut Slot);
+    fn speck_take_back(machine: *mut Slot, port: *mut Slot) -> u8;
+    fn speck_finish(machine: *mut Slot, text: *mut Slot) -> u8;
+    fn speck_free_text(text: *mut Slot);
+    fn speck_read(text: *mut Slot, bytes: *mut u8, room: usize) -> u64;
     fn speck_note(port: *mut Slot, note: *mut Slot) -> u8;
     fn speck_meet(port: *mut Slot, note: *mut Slot) -> u8;
     fn speck_look(port: *mut Slot, a: u16) -> Reply;
@@ -62,39 +67,68 @@ unsafe extern "C" {
     fn speck_test(port: *mut Slot, a: u16, b: u16) -> Reply;
 }
 
-/// The ports of a machine, core 0's first, or the code by which it was refused. Its frames are `4 + 2 * cores` to 512, each core's
+/// A machine and its ports, core 0's first, or the code by which it was refused. Its frames are `4 + 2 * cores` to 512, each core's
 /// budget at most 500,000,000 ticks.
-pub fn boot(cores: u8, frames: u16, budget: u32) -> Result<Vec<Port>, u8> {
-    let mut machine = Machine(Slot::EMPTY);
-    match unsafe { speck_boot(&mut machine.0, cores, frames, budget) } {
-        0 => {}
-        code => return Err(code),
-    }
-    let kernel = std::sync::Arc::new(());
+pub fn boot(cores: u8, frames: u16, budget: u32) -> Result<(Machine, Vec<Port>), u8> {
+    let mut machine = Machine { slot: Slot::EMPTY, kernel: Arc::new(()) };
+    done(unsafe { speck_boot(&mut machine.slot, cores, frames, budget) })?;
     let mut ports = Vec::new();
     for _ in 0..cores {
-        let mut port = Port { slot: Slot::EMPTY, kernel: kernel.clone() };
-        match unsafe { speck_deal(&mut machine.0, &mut port.slot) } {
-            0 => ports.push(port),
-            code => return Err(code),
-        }
+        let mut port = Port { slot: Slot::EMPTY, kernel: machine.kernel.clone() };
+        done(unsafe { speck_deal(&mut machine.slot, &mut port.slot) })?;
+        ports.push(port);
     }
-    Ok(ports)
+    Ok((machine, ports))
 }
 
-struct Machine(Slot);
+fn done(code: u8) -> Result<(), u8> {
+    if code == 0 { Ok(()) } else { Err(code) }
+}
+
+/// A machine, to which its ports come back.
+pub struct Machine {
+    slot: Slot,
+    // One for all that is of a kernel, so that what is of another is told from it.
+    kernel: Arc<()>,
+}
+
+impl Machine {
+    /// The tables of the final state, given all ports, core 0's first; else the code by which they were refused.
+    pub fn finish(mut self, ports: Vec<Port>) -> Result<String, u8> {
+        for mut port in ports {
+            if !Arc::ptr_eq(&self.kernel, &port.kernel) {
+                return Err(254);
+            }
+            done(unsafe { speck_take_back(&mut self.slot, &mut port.slot) })?;
+        }
+        let mut text = Text(Slot::EMPTY);
+        done(unsafe { speck_finish(&mut self.slot, &mut text.0) })?;
+        let mut bytes = vec![0; 1];
+        let length = unsafe { speck_read(&mut text.0, bytes.as_mut_ptr(), bytes.len()) };
+        bytes.resize(length as usize, 0);
+        unsafe { speck_read(&mut text.0, bytes.as_mut_ptr(), bytes.len()) };
+        Ok(String::from_utf8_lossy(&bytes).into_owned())
+    }
+}
 
 impl Drop for Machine {
     fn drop(&mut self) {
-        unsafe { speck_free_machine(&mut self.0) }
+        unsafe { speck_free_machine(&mut self.slot) }
+    }
+}
+
+struct Text(Slot);
+
+impl Drop for Text {
+    fn drop(&mut self) {
+        unsafe { speck_free_text(&mut self.0) }
     }
 }
 
 /// What makes the calls of a core.
 pub struct Port {
     slot: Slot,
-    // One for all ports of a kernel, so that a note of another kernel is told from one of this.
-    kernel: std::sync::Arc<()>,
+    kernel: Arc<()>,
 }
 
 // The library is proved to let a port cross threads, and each call takes it by `&mut`.
@@ -217,7 +251,7 @@ impl Port {
 
     /// Tells the port all that the note tells; a note of another kernel is given back.
     pub fn meet(&mut self, mut note: Note) -> Result<(), Note> {
-        if !std::sync::Arc::ptr_eq(&self.kernel, &note.kernel) {
+        if !Arc::ptr_eq(&self.kernel, &note.kernel) {
             return Err(note);
         }
         unsafe { speck_meet(&mut self.slot, &mut note.slot) };
@@ -234,7 +268,7 @@ impl Drop for Port {
 /// What a port has seen.
 pub struct Note {
     slot: Slot,
-    kernel: std::sync::Arc<()>,
+    kernel: Arc<()>,
 }
 
 unsafe impl Send for Note {}

@@ -17,6 +17,8 @@ int main(void) {
     struct speck_machine machine = {0};
     struct speck_port first = {0}, second = {0}, third = {0};
     struct speck_note note = {0};
+    struct speck_text text = {0};
+    uint8_t tables[4096];
     struct speck_reply looked;
     pthread_t threads[2];
     void *copied, *ticked;
@@ -43,10 +45,22 @@ int main(void) {
     looked = speck_look(&second, 20);
     printf("looked: %d, kind %d, frame %d, number %u\n", looked.code, looked.kind, looked.frame, looked.n);
 
+    printf("finished too early: %d\n", speck_finish(&machine, &text));
+    printf("core 1 taken back first: %d\n", speck_take_back(&machine, &second));
+    printf("core 0 taken back: %d\n", speck_take_back(&machine, &first));
+    printf("core 1 taken back: %d\n", speck_take_back(&machine, &second));
+    printf("finished: %d\n", speck_finish(&machine, &text));
+    fwrite(tables, 1, speck_read(&text, tables, sizeof tables), stdout);
+    speck_free_text(&text);
+
+    printf("booted anew: %d\n", speck_boot(&machine, 2, 32, 100));
+    printf("ports: %d", speck_deal(&machine, &first));
+    printf(" %d\n", speck_deal(&machine, &second));
+    printf("noted, and let go: %d\n", speck_note(&first, &note));
     speck_free_note(&note);
     speck_free_machine(&machine);
     speck_free_port(&first);
-    printf("the other port, after the first is freed: %d\n", speck_look(&second, 20).code);
+    printf("the other port, after all else is freed: %d\n", speck_look(&second, 1).code);
     speck_free_port(&second);
     return 0;
 }

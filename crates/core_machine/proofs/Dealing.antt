@@ -1,7 +1,9 @@
--- Seats that are taken from the end of all seats of a kernel, and stand as ports in the opposite order.
-use Rattle.std.specs.Prelude.{◌≡◌, ℕ, ◌+◌, List, [], length, slice_get, Some}
-use Rattle.core_kernel.specs.Kernel.{KernelValue, CoreSeatValue}
-use Rattle.core_machine.specs.Seats.{IsLeft}
+-- Seats that are taken from the end of all seats of a kernel, and stand as ports in the opposite order; ports that come back.
+use Rattle.std.proofs.Common.{◌≡◌, ◌⊎◌, ℕ, zero, suc, ◌+◌, ◌<◌, ◌≤◌, List, [], ◌∷◌, ◌++◌, length, slice_get, Option, Some, None}
+use Rattle.std.proofs.Common.{refl, sym, ap, ◌∙◌, subst, ⊎_elim, inl, inr, arith, option_to_list}
+use Rattle.std.proofs.lemmas.List.{length-append}
+use Rattle.core_kernel.specs.Kernel.{KernelValue, CoreSeatValue, AreAllSeats, AreFresh}
+use Rattle.core_machine.specs.Seats.{IsLeft, IsBack}
 
 -- The first seats of the kernel are still there, and the others stand in the opposite order.
 pub record AreTurned (of : KernelValue) (seats ports : List CoreSeatValue) : Type 0 where
@@ -10,3 +12,67 @@ pub record AreTurned (of : KernelValue) (seats ports : List CoreSeatValue) : Typ
   pub core : (k : ℕ) (s : CoreSeatValue) → slice_get seats k ≡ Some s → s.core ≡ k
   pub fresh : (k : ℕ) (s : CoreSeatValue) → slice_get seats k ≡ Some s → s.seen ≡ []
   pub left : (k : ℕ) (s : CoreSeatValue) → slice_get ports k ≡ Some s → IsLeft of k s
+
+module _ {A : Type 0} where
+  pushed : (xs : List A) (x y : A) (k : ℕ) → slice_get (xs ++ x ∷ []) k ≡ Some y → (slice_get xs k ≡ Some y) ⊎ ((k ≡ length xs) × (x ≡ y))
+  pushed [] x y zero e = inr (refl, cc)
+  pushed [] x y (suc k) e = absurd (cc)
+  pushed (z ∷ xs) x y zero e = inl e
+  pushed (z ∷ xs) x y (suc k) e = ⊎_elim (λ (t : slice_get xs k ≡ Some y). inl t)
+      (λ (t : (k ≡ length xs) × (x ≡ y)). let same = t.0 in inr (omega arith, t.1)) (pushed xs x y k e)
+
+  -- an element stays at its place after a push, and the one pushed stands last
+  pub stays : (xs : List A) (x y : A) (k : ℕ) → slice_get xs k ≡ Some y → slice_get (xs ++ x ∷ []) k ≡ Some y
+  stays [] x y k e = absurd (cc)
+  stays (z ∷ xs) x y zero e = e
+  stays (z ∷ xs) x y (suc k) e = stays xs x y k e
+
+  pub stands_last : (xs : List A) (x : A) → slice_get (xs ++ x ∷ []) (length xs) ≡ Some x
+  stands_last [] x = refl
+  stands_last (z ∷ xs) x = stands_last xs x
+
+  pub none_in : (k : ℕ) (y : A) (P : Type 0) → slice_get [] k ≡ Some y → P
+  none_in k y P e = absurd (cc)
+
+  -- a fact of each element and its place, after a push
+  pub each_pushed : (F : ℕ → A → Type 0) (xs : List A) (x : A) (l : List A) → l ≡ xs ++ x ∷ []
+      → ((k : ℕ) (y : A) → slice_get xs k ≡ Some y → F k y) → F (length xs) x → (k : ℕ) (y : A) → slice_get l k ≡ Some y → F k y
+  each_pushed F xs x l is before here k y e = ⊎_elim (λ (t : slice_get xs k ≡ Some y). before k y t)
+      (λ (t : (k ≡ length xs) × (x ≡ y)). subst (λ (z : ℕ × A). F z.0 z.1) (λ i. (sym (t.0) i, t.1 i)) here)
+      (pushed xs x y k (subst (λ (m : List A). slice_get m k ≡ Some y) is e))
+
+  -- the same before it
+  pub each_front : (F : ℕ → A → Type 0) (xs : List A) (x : A) (l : List A) → l ≡ xs ++ x ∷ []
+      → ((k : ℕ) (y : A) → slice_get l k ≡ Some y → F k y) → (k : ℕ) (y : A) → slice_get xs k ≡ Some y → F k y
+  each_front F xs x l is all k y e = all k y (subst (λ (m : List A). slice_get m k ≡ Some y) (sym is) (stays xs x y k e))
+
+  pub the_last : (F : ℕ → A → Type 0) (xs : List A) (x : A) (l : List A) → l ≡ xs ++ x ∷ []
+      → ((k : ℕ) (y : A) → slice_get l k ≡ Some y → F k y) → F (length xs) x
+  the_last F xs x l is all = all (length xs) x (subst (λ (m : List A). slice_get m (length xs) ≡ Some x) (sym is) (stands_last xs x))
+
+-- at the start
+pub turned_none : (of : KernelValue) (seats : List CoreSeatValue) → AreAllSeats of seats → AreFresh seats → AreTurned of seats []
+turned_none of seats all fresh = record {
+  count = (let c = all.count in omega arith);
+  kernel = all.kernel;
+  core = all.core;
+  fresh = fresh;
+  left = λ k s e. none_in k s (IsLeft of k s) e;
+}
+
+-- one more
+pub turned_on : (of : KernelValue) (seats left ports now : List CoreSeatValue) (s : CoreSeatValue) → seats ≡ left ++ s ∷ []
+    → now ≡ ports ++ s ∷ [] → AreTurned of seats ports → AreTurned of left now
+turned_on of seats left ports now s is on t =
+    let size = ap length is ∙ length-append left (s ∷ []) in
+    let more = ap length on ∙ length-append ports (s ∷ []) in
+    let own = the_last (λ k x. x.kernel ≡ of) left s seats is t.kernel in
+    let core = the_last (λ k x. x.core ≡ k) left s seats is t.core in
+    let fresh = the_last (λ k x. x.seen ≡ []) left s seats is t.fresh in
+    let count = t.count in record {
+  count = omega arith;
+  kernel = each_front (λ k x. x.kernel ≡ of) left s seats is t.kernel;
+  core = each_front (λ k x. x.core ≡ k) left s seats is t.core;
+  fresh = each_front (λ k x. x.seen ≡ []) left s seats is t.fresh;
+  left = each_pushed (IsLeft of) ports s now on t.left (record { kernel = own; core = omega arith; fresh = fresh });
+}

@@ -72,6 +72,13 @@ impl Seats {
         })
     }
 
+    /// What the machine was booted with.
+    pub fn setup(&self) -> &Setup
+        ensures { result.now ≡ self.now.kernel.setup }
+    {
+        &self.setup
+    }
+
     /// The port of the next core, which has seen the empty trace; core 0's comes first. None comes exactly where all are dealt.
     pub fn deal(&mut self) -> Option<Port>
         ensures none { IsSome result ↔ (self.old.dealt < self.old.kernel.setup.cores) }
@@ -81,6 +88,13 @@ impl Seats {
         ensures back { self.new.back ≡ self.old.back }
     {
         self.here.pop()
+    }
+
+    /// How many ports are back, which is also the core whose port is taken back next.
+    pub fn returned(&self) -> usize
+        ensures { result ≡ length self.now.back }
+    {
+        self.back.len()
     }
 
     /// Takes a port of this machine back: core 0's first, then core 1's and so on. It fails only where memory runs out; the

@@ -3,3 +3,4 @@ pub mod Flat
 pub mod Slots
 pub mod Kinds
 pub mod Machines
+pub mod Ends

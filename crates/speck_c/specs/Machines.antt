@@ -6,7 +6,7 @@ use Rattle.core_kernel.specs.Calls.{Meets}
 use Rattle.core_machine.specs.Seats.{SeatsValue, IsDealt}
 use Rattle.speck_c.specs.declared.held.Held.{Held}
 use Rattle.speck_c.specs.declared.held.What.{What}
-use Rattle.speck_c.specs.declared.held.What.TheVariants.{Machine, Core, Told}
+use Rattle.speck_c.specs.declared.held.What.TheVariants.{Machine, Core, Told, Tables}
 use Rattle.speck_c.specs.Slots.{port_held}
 
 -- the machine among what may be held
@@ -14,6 +14,7 @@ abbrev pub machine_of : What → Option SeatsValue
 machine_of (Machine s) = Some s
 machine_of (Core p) = None
 machine_of (Told n) = None
+machine_of (Tables t) = None
 
 abbrev pub machine_held : Option Held → Option SeatsValue
 machine_held None = None
@@ -24,6 +25,7 @@ abbrev pub note_of : What → Option CoreNoteValue
 note_of (Machine s) = None
 note_of (Core p) = None
 note_of (Told n) = Some n
+note_of (Tables t) = None
 
 abbrev pub note_held : Option Held → Option CoreNoteValue
 note_held None = None

@@ -7,7 +7,7 @@ use Rattle.core_kernel.specs.Calls.{MakesCall}
 use Rattle.core_machine.specs.Seats.{SeatsValue}
 use Rattle.speck_c.specs.declared.held.Held.{Held}
 use Rattle.speck_c.specs.declared.held.What.{What}
-use Rattle.speck_c.specs.declared.held.What.TheVariants.{Machine, Core, Told}
+use Rattle.speck_c.specs.declared.held.What.TheVariants.{Machine, Core, Told, Tables}
 use Rattle.speck_c.specs.declared.reply.SpeckReply.{SpeckReply}
 use Rattle.speck_c.specs.declared.slot.Slot.{Slot}
 use Rattle.speck_c.specs.Flat.{flat, blank}
@@ -25,6 +25,7 @@ abbrev pub port_of : What → Option CoreSeatValue
 port_of (Machine s) = None
 port_of (Core p) = Some p
 port_of (Told n) = None
+port_of (Tables t) = None
 
 abbrev pub port_held : Option Held → Option CoreSeatValue
 port_held None = None

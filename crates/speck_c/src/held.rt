@@ -11,6 +11,8 @@ pub enum What {
     Core(Port),
     /// A note.
     Told(CoreNote),
+    /// The tables of a machine that was finished.
+    Tables(String),
 }
 
 /// What a handle holds, in one type for all that it may be.

@@ -10,6 +10,7 @@
 #![tactic(auto)]
 
 mod calls;
+mod ends;
 mod handle;
 mod held;
 mod machines;
@@ -19,3 +20,4 @@ mod notes;
 mod parts;
 mod reply;
 mod slot;
+mod texts;
