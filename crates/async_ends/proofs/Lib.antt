@@ -4,3 +4,4 @@ pub mod Totals
 pub mod Along
 pub mod Made
 pub mod Closing
+pub mod Asked

@@ -24,7 +24,7 @@ use Rattle.async_ends.specs.Events.{Event, event, AreOfOthers, IsLegal}
 use Rattle.async_ends.specs.Running.{EndCore, end_core, most_calls, next_at, end_steps}
 use Rattle.async_ends.specs.Seen.{act_later, act_of, noted, history_of}
 use Rattle.async_ends.specs.Tables.{table_value, seat_value, IsStart, IsSeat}
-use Rattle.async_ends.specs.Calls.{Look, look, reached, reply_of, Fits, Does, ComesTo, Acts, MakesEndCall}
+use Rattle.async_ends.specs.Calls.{reached, reply_of, Fits, Does, ComesTo, Comes, Acts}
 use Rattle.async_ends.proofs.Along.{along}
 use Rattle.async_ends.proofs.Histories.{history_of-append, history_of-others, others_append}
 use Rattle.async_ends.proofs.Steps.{call_of}
@@ -218,12 +218,9 @@ module _ (frames cores made : ℕ) (old : Seat) (is : IsSeat frames cores made o
   }
 
   -- a call that was refused
-  pub refused : (op : EndOp) (number : ℕ) (looks now : List Look) (looked refusal : Reply) → now ≡ looks ++ look number looked ∷ []
-      → reached op looked ≡ Err refusal
-      → MakesEndCall op number looks now (seat_value frames cores made old) (Refused refusal) (seat_value frames cores (made + 1) old)
-  refused op number looks now looked refusal asks is_refused = record {
-    looked = looked;
-    asks = asks;
+  pub refused : (op : EndOp) (looked refusal : Reply) → reached op looked ≡ Err refusal
+      → Comes op looked (Refused refusal) (seat_value frames cores made old) (seat_value frames cores (made + 1) old)
+  refused op looked refusal is_refused = record {
     comes = subst (λ x. ComesTo op old.core x (Refused refusal) (history_of old.seen) (history_of old.seen)) (sym is_refused) (refl, refl);
     legal = legal frames cores made old is;
     counted = refl;

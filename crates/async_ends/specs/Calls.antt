@@ -85,14 +85,19 @@ pub record Acts (op : EndOp) (f : ℕ) (r : EndReply) (seat made : EndSeatValue)
   pub core : made.core ≡ seat.core
   pub table : made.table ≡ seat.table
 
--- The seat's core has made this call with the capability of this number, and was answered r. Its authority's looks have grown by the
--- call's own. The seat's history, which is legal, has grown by the call's event, or is the same where the call was refused.
-pub record MakesEndCall (op : EndOp) (number : ℕ) (looks now : List Look) (seat : EndSeatValue) (r : EndReply) (made : EndSeatValue)
-    : Type 0 where
-  pub looked : Reply
-  pub asks : now ≡ looks ++ look number looked ∷ []
+-- The seat's core has made a call whose look was answered so, and was answered r. The seat's history, which is legal, has grown by the
+-- call's event, or is the same where the call was refused.
+pub record Comes (op : EndOp) (looked : Reply) (r : EndReply) (seat made : EndSeatValue) : Type 0 where
   pub comes : ComesTo op seat.core (reached op looked) r (history_of seat.seen) (history_of made.seen)
   pub legal : IsLegal (history_of made.seen)
   pub counted : made.made ≡ seat.made + 1
   pub core : made.core ≡ seat.core
   pub table : made.table ≡ seat.table
+
+-- The seat's core has made this call with the capability of this number, and was answered r. Its authority's looks have grown by the
+-- call's own.
+pub record MakesEndCall (op : EndOp) (number : ℕ) (looks now : List Look) (seat : EndSeatValue) (r : EndReply) (made : EndSeatValue)
+    : Type 0 where
+  pub looked : Reply
+  pub asks : now ≡ looks ++ look number looked ∷ []
+  pub comes : Comes op looked r seat made

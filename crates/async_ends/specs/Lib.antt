@@ -3,3 +3,4 @@ pub mod Running
 pub mod Seen
 pub mod Calls
 pub mod Tables
+pub mod Asked

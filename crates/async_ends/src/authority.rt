@@ -16,6 +16,9 @@ pub trait Authority {
     // How many frames it knows, which never changes.
     ghost frame_count: { Self → ℕ };
 
+    // What else it tells of itself and what it is after one look more.
+    ghost goes: { Self → Look → Self → Type 0 };
+
     /// How many frames it knows.
     fn frames(&self) -> u16
         ensures { result ≡ frame_count self.now };
@@ -25,5 +28,6 @@ pub trait Authority {
     fn look(&mut self, number: CapId) -> Reply
         ensures looks { looks self.new ≡ looks self.old ++ look number result ∷ [] }
         ensures frames { frame_count self.new ≡ frame_count self.old }
+        ensures goes { goes self.old (look number result) self.new }
         ensures within { NamesBelow (frame_count self.old) result };
 }

@@ -71,7 +71,7 @@ impl EndOp {
     }
 
     /// The frame whose endpoint a look with this answer leads to, or the refusal.
-    pub(crate) fn reach(self, looked: &Reply) -> Result<FrameNo, Reply>
+    pub fn reach(self, looked: &Reply) -> Result<FrameNo, Reply>
         ensures { result ≡ reached self looked.now }
     {
         match looked {

@@ -18,6 +18,7 @@
 //! of sends and receives is that of this table alone: nothing says how they stand to the steps of the kernel.
 #![tactic(auto)]
 
+mod asks;
 mod authority;
 mod endpoint;
 mod ends;
@@ -26,6 +27,7 @@ mod seat;
 mod table;
 mod threads;
 
+pub use asks::{EndAsk, EndDone};
 pub use authority::Authority;
 pub use endpoint::{EndAct, EndCall, EndOp, EndReply};
 pub use run::{EndRun, EndStage};

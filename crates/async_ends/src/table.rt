@@ -2,14 +2,16 @@
 
 ghost use Rattle.std.specs.Prelude.{◌≡◌, ◌<◌, ◌≤◌};
 ghost use Rattle.async_ends.specs.declared.endpoint.EndOp.TheVariants.{Send, Recv};
-ghost use Rattle.async_ends.specs.Calls.{Acts, MakesEndCall};
+ghost use Rattle.async_ends.specs.Asked.{MakesDone};
+ghost use Rattle.async_ends.specs.Calls.{Acts, Comes, MakesEndCall, NamesBelow, look};
 ghost use Rattle.async_ends.specs.Running.{most_calls};
 
+use crate::asks::{EndAsk, EndDone};
 use crate::authority::Authority;
 use crate::endpoint::{EndCall, EndOp, EndReply};
 use crate::run::EndRun;
 use crate::seat::EndSeat;
-use spk_nums::{CapId, FrameNo};
+use spk_nums::{CapId, FrameNo, Reply};
 use std::marker::Model;
 use turn_rule::TurnTable;
 
@@ -44,7 +46,8 @@ impl EndTable {
         ensures makes { MakesEndCall Send gate (A.looks who.old) (A.looks who.new) seat.old result seat.new }
         ensures frames { A.frame_count who.new ≡ A.frame_count who.old }
     {
-        self.ask(seat, who, EndOp::Send, gate)
+        let op = EndOp::Send;
+        self.ask(seat, who, EndAsk { op, number: gate }).answer
     }
 
     /// Takes all that was sent to the component of the capability of this number and was not taken yet. It is raced, and
@@ -57,25 +60,38 @@ impl EndTable {
         ensures makes { MakesEndCall Recv comp (A.looks who.old) (A.looks who.new) seat.old result seat.new }
         ensures frames { A.frame_count who.new ≡ A.frame_count who.old }
     {
-        self.ask(seat, who, EndOp::Recv, comp)
+        let op = EndOp::Recv;
+        self.ask(seat, who, EndAsk { op, number: comp }).answer
     }
 
-    // Looks at the capability, and makes the call at the frame that it leads to, if it does.
-    fn ask<A: Authority>(
-        &self,
-        seat: &mut EndSeat,
-        who: &mut A,
-        op: EndOp,
-        number: CapId,
-    ) -> EndReply
+    /// Sends or receives as it is asked, as `send` and `recv` do and under their conditions, and tells the call that was
+    /// made: what its look was answered and what it was answered.
+    pub fn ask<A: Authority>(&self, seat: &mut EndSeat, who: &mut A, ask: EndAsk) -> EndDone
         requires table { seat.old.table ≡ self.now }
         requires few { seat.old.made < most_calls }
         requires frames { A.frame_count who.old ≤ self.now.frames }
-        ensures makes { MakesEndCall op number (A.looks who.old) (A.looks who.new) seat.old result seat.new }
+        ensures asked { result.ask ≡ ask }
+        ensures makes { MakesDone (A.looks who.old) (A.looks who.new) seat.old result seat.new }
+        ensures goes { A.goes who.old (look ask.number result.looked) who.new }
         ensures frames { A.frame_count who.new ≡ A.frame_count who.old }
     {
-        let looked = who.look(number);
-        match op.reach(&looked) {
+        let looked = who.look(ask.number);
+        let answer = self.answer(seat, ask.op, &looked);
+        EndDone {
+            ask,
+            looked,
+            answer,
+        }
+    }
+
+    // Makes the call whose look was answered so: at the frame that it leads to, if it does.
+    fn answer(&self, seat: &mut EndSeat, op: EndOp, looked: &Reply) -> EndReply
+        requires table { seat.old.table ≡ self.now }
+        requires few { seat.old.made < most_calls }
+        requires frames { NamesBelow self.now.frames looked.now }
+        ensures { Comes op looked.now result seat.old seat.new }
+    {
+        match op.reach(looked) {
             Ok(frame) => self.act(seat, op, frame),
             Err(refusal) => {
                 seat.made += 1;

@@ -24,30 +24,30 @@ use Rattle.script_reader.specs.Readings.{draft_from, meaning_of, meaning_at, scr
 abbrev judged : {A : Type 0} → A → Result A Cause
 judged x = Ok x
 
-judged_is : {A : Type 0} (x y : A) → judged x ≡ judged y → x ≡ y
+pub judged_is : {A : Type 0} (x y : A) → judged x ≡ judged y → x ≡ y
 judged_is x y e = cc
 
 abbrev read : {A : Type 0} → A → Result A First_fault
 read x = Ok x
 
-read_is : {A : Type 0} (x y : A) → read x ≡ read y → x ≡ y
+pub read_is : {A : Type 0} (x y : A) → read x ≡ read y → x ≡ y
 read_is x y e = cc
 
 -- the value of judgements that did not fail
-bind_ok : {A B : Type 0} (r : Result A Cause) (f : A → Result B Cause) (y : B) → (r >>= f) ≡ Ok y → (x : A) × (r ≡ Ok x) × (f x ≡ Ok y)
+pub bind_ok : {A B : Type 0} (r : Result A Cause) (f : A → Result B Cause) (y : B) → (r >>= f) ≡ Ok y → (x : A) × (r ≡ Ok x) × (f x ≡ Ok y)
 bind_ok (Ok x) f y e = (x, refl, e)
 bind_ok (Err c) f y e = absurd cc
 
-then_ok : {A B : Type 0} (r : Result A First_fault) (f : A → Result B First_fault) (y : B)
+pub then_ok : {A B : Type 0} (r : Result A First_fault) (f : A → Result B First_fault) (y : B)
     → and_then r f ≡ Ok y → (x : A) × (r ≡ Ok x) × (f x ≡ Ok y)
 then_ok (Ok x) f y e = (x, refl, e)
 then_ok (Err c) f y e = absurd cc
 
-at_line_ok : {A : Type 0} (number : ℕ) (r : Result A Cause) (x : A) → at_line number r ≡ Ok x → r ≡ Ok x
+pub at_line_ok : {A : Type 0} (number : ℕ) (r : Result A Cause) (x : A) → at_line number r ≡ Ok x → r ≡ Ok x
 at_line_ok number (Ok y) x e = cc
 at_line_ok number (Err c) x e = absurd cc
 
-few_weaker : (m n : ℕ) (lists : List (List Call)) → m ≤ n → All (AtMost m) lists → All (AtMost n) lists
+pub few_weaker : (m n : ℕ) (lists : List (List Call)) → m ≤ n → All (AtMost m) lists → All (AtMost n) lists
 few_weaker m n lists le h = All-weaker (AtMost m) (AtMost n) (λ calls k. omega (arith, k)) lists h
 
 few_call : (n core : ℕ) (call : Call) (lists : List (List Call)) → All (AtMost n) lists → All (AtMost (n + 1)) (with_call lists core call)
@@ -64,7 +64,7 @@ few_line : (n : ℕ) (d : Draft_of) (l : Line) → All (AtMost n) d.lists → Al
 few_line n d (line.Head head) h = few_weaker n (n + 1) d.lists (omega arith) h
 few_line n d (line.Call call) h = few_call n d.head.core call d.lists h
 
-few_behind : (n : ℕ) (d e : Draft_of) (words : List (List ℕ))
+pub few_behind : (n : ℕ) (d e : Draft_of) (words : List (List ℕ))
     → draft_behind d words ≡ Ok e → All (AtMost n) d.lists → All (AtMost (n + 1)) e.lists
 unfolding draft_behind behind_line
 few_behind n d e words is h =
@@ -88,7 +88,7 @@ few_from n d e (row ∷ rows) is h =
     let one = few_behind n d b.0 row.words (at_line_ok row.number (draft_behind d row.words) b.0 b.1) h in
     few_weaker (n + 1 + length rows) (n + suc (length rows)) e.lists (omega arith) (few_from (n + 1) b.0 e rows b.2 one)
 
-few_rows : (ws : List Word) → length (rows_of ws) ≤ length ws
+pub few_rows : (ws : List Word) → length (rows_of ws) ≤ length ws
 few_rows [] = omega arith
 few_rows (w ∷ ws) = let h = few_rows ws in omega (arith, one_more w (rows_of ws), h)
   where

@@ -14,11 +14,12 @@ mod numerals;
 mod one_line;
 mod reading;
 
+pub use arguments::{capability_at, core_at, end_at, is_word};
 pub use cause::{Cause, LineFault, ReadFault};
 pub use items::MOST_ITEMS;
 pub use numerals::read_number;
 pub use one_line::read_call;
-pub use reading::{Script, read};
+pub use reading::{Draft, Script, line_length, read};
 pub use spk_nums::{How, Item};
 
 #[cfg(test)]

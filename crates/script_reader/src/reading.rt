@@ -25,9 +25,9 @@ pub struct Script {
     pub order: Vec<Item>,
 }
 
-// What the lines so far say. Each core that a machine may have has a list.
-#[derive(Drop)]
-struct Draft {
+/// What the lines so far say. Each core that a machine may have has a list.
+#[derive(Debug, Drop)]
+pub struct Draft {
     head: Head,
     lists: Vec<Vec<Call>>,
     order: Vec<Item>,
@@ -131,8 +131,8 @@ fn setup_of(head: &Head) -> Setup
     setup.unwrap()
 }
 
-// How many tokens at the front stand in a line.
-fn line_length(tokens: &[Token], line: u32) -> usize
+/// How many tokens at the front stand in a line.
+pub fn line_length(tokens: &[Token], line: u32) -> usize
     ensures value { result ≡ words_in line (views tokens.now) }
     ensures within { result ≤ length tokens.now }
 {
@@ -201,6 +201,51 @@ fn finish(draft: Draft, ending: Ending) -> Result<Script, ReadFault>
         lists,
         order,
     })
+}
+
+impl Draft {
+    /// What no lines say. It fails only where memory runs out.
+    pub fn new(alloc: Global) -> Result<Draft, AllocError>
+        ensures value { IfOk result (λ d. draft_view d ≡ no_draft) }
+        ensures draft { IfOk result (λ d. IsDraft (draft_view d)) }
+    {
+        no_draft(alloc)
+    }
+
+    /// Takes one line more. Its fault is its cause, unless memory has run out.
+    pub fn take(&mut self, words: &[Token]) -> Result<(), LineFault>
+        requires { IsDraft (draft_view self.old) }
+        ensures value { Takes result (draft_view self.new) (draft_behind (draft_view self.old) (texts words.now)) }
+        ensures draft { OnOk result (IsDraft (draft_view self.new)) }
+    {
+        take_line(self, words)
+    }
+
+    /// Whether the last grant was read, so that the script may end.
+    pub fn is_whole(&self) -> bool
+        ensures { result ≡ is_whole (draft_view self.now).head.section }
+    {
+        is_whole(self.head.section)
+    }
+
+    /// How many cores the lines say, 1 to 8; 1 where none says so yet.
+    pub fn cores(&self) -> u8
+        requires { IsDraft (draft_view self.now) }
+        ensures value { result ≡ (draft_view self.now).head.cores }
+        ensures most { result ≤ 8 }
+    {
+        self.head.cores
+    }
+
+    /// The script of lines that end so, of at most 20,000, or the fault with which they end.
+    pub fn end(self, ending: Ending) -> Result<Script, ReadFault>
+        requires draft { IsDraft (draft_view self) }
+        requires lines { FewLines ending }
+        ensures value { Gives script_view result (meaning_at (draft_view self) ending) }
+        ensures script { IfOk result IsScript }
+    {
+        finish(self, ending)
+    }
 }
 
 fn script_fault(line: u32, cause: Cause) -> ReadFault

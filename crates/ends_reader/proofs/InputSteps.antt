@@ -1,0 +1,36 @@
+-- One more call, and the end.
+use Rattle.std.proofs.Common.{◌≡◌, ℕ, zero, suc, ◌+◌, ◌<◌, true, false, List, [], ◌∷◌, ◌++◌, length, take, get_or, Ok}
+use Rattle.std.proofs.Common.{sym, ap, ◌∙◌, refl, arith}
+use Rattle.std.specs.Prelude.{slice_set, slice_index_or}
+use Rattle.std.specs.Global.{Vec}
+use Rattle.std.proofs.lemmas.List.{map-set}
+use Rattle.async_ends.specs.declared.asks.EndAsk.{EndAsk}
+use Rattle.script_tokens.specs.declared.scanning.Ending.TheVariants.{Whole}
+use Rattle.script_reader.specs.Heads.{is_whole}
+use Rattle.script_reader.specs.Readings.{Meaning, meaning_of, meaning_at}
+use Rattle.script_reader.proofs.Amounts.{read_is}
+use Rattle.ends_reader.specs.Inputs.{Input_draft, ask_lists, asks_of, with_ask, is_script, input_in}
+
+get_or_lists : (asks : List (Vec EndAsk)) (i : ℕ) (d : Vec EndAsk) → i < length asks
+    → slice_index_or (ask_lists asks) i [] ≡ (get_or asks i d).items
+get_or_lists [] i d lt = absurd (omega arith)
+get_or_lists (v ∷ vs) zero d lt = refl
+get_or_lists (v ∷ vs) (suc i) d lt = get_or_lists vs i d (omega arith)
+
+pub ask_added : (asks : List (Vec EndAsk)) (i core : ℕ) (ask : EndAsk) (old new : Vec EndAsk) → i < length asks → i ≡ core
+    → old ≡ get_or asks i old → new.items ≡ old.items ++ ask ∷ []
+    → ask_lists (slice_set asks i new) ≡ with_ask (ask_lists asks) core ask
+ask_added asks i core ask old new lt at is more =
+    let had : asks_of (ask_lists asks) i ≡ old.items = get_or_lists asks i old lt ∙ ap (λ v. v.items) (sym is) in
+    let same : ask_lists (slice_set asks i new) ≡ slice_set (ask_lists asks) i new.items = map-set (λ v. v.items) asks i new in
+    let step : with_ask (ask_lists asks) i ask ≡ slice_set (ask_lists asks) i new.items =
+    ap (λ l. slice_set (ask_lists asks) i (l ++ ask ∷ [])) had ∙ ap (slice_set (ask_lists asks) i) (sym more) in
+    same ∙ sym step ∙ ap (λ k. with_ask (ask_lists asks) k ask) at
+
+-- what lines that have come to the line `ends` say
+pub ended : (d : Input_draft) (lines : ℕ) (m : Meaning) (asks : List (List EndAsk)) → is_script d.section ≡ false
+    → is_whole d.script.head.section ≡ true → meaning_at d.script (Whole lines) ≡ Ok m → asks ≡ take d.script.head.cores d.asks
+    → input_in d lines ≡ Ok (record { script = m; asks = asks })
+ended d lines m asks part whole is same =
+    let said : meaning_of d.script ≡ m = read_is (meaning_of d.script) m (rw whole at is) in
+    rw part (λ i. Ok (record { script = said i; asks = sym same i }))
