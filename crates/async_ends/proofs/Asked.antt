@@ -1,6 +1,6 @@
 -- What a call adds to the events of its core, and that the sends to a frame are those of all cores.
-use Rattle.std.proofs.Common.{◌≡◌, ◌≢◌, ◌⊎◌, inl, inr, ℕ, zero, suc, ◌+◌, ◌<◌, ◌≤◌, ◌==◌, List, [], ◌∷◌, ◌++◌, if◌then◌else◌}
-use Rattle.std.proofs.Common.{Option, Some, None, Result, Ok, Err, refl, sym, ap, ◌∙◌, subst, arith, append-nil, eq-eqb, ne_eqb}
+use Rattle.std.proofs.Common.{◌≡◌, ◌≢◌, inl, inr, ℕ, zero, suc, ◌+◌, ◌<◌, ◌≤◌, ◌==◌, List, [], ◌∷◌, ◌++◌, if◌then◌else◌}
+use Rattle.std.proofs.Common.{Some, Result, Ok, Err, refl, sym, ap, ◌∙◌, subst, arith, append-nil, eq-eqb, ne_eqb}
 use Rattle.std.proofs.lemmas.Bool.{cases_eq, cases_lt}
 use Rattle.spk_nums.specs.declared.replies.Reply.{Reply}
 use Rattle.async_ends.specs.declared.endpoint.EndOp.{EndOp}
@@ -11,7 +11,7 @@ use Rattle.async_ends.specs.declared.endpoint.EndReply.{EndReply}
 use Rattle.async_ends.specs.declared.asks.EndDone.{EndDone}
 use Rattle.async_ends.specs.Events.{Event, event, events_by, AreOfOthers, ExtendsByOthers, sends_in, sent_to}
 use Rattle.async_ends.specs.Seen.{noted, history_of}
-use Rattle.async_ends.specs.Calls.{reached, reply_of, Fits, Does, ComesTo, Comes}
+use Rattle.async_ends.specs.Calls.{reached, reply_of, Fits, ComesTo, Comes}
 use Rattle.async_ends.specs.Tables.{EndSeatValue}
 use Rattle.async_ends.specs.Asked.{act_in, event_at, event_of, IsAnsweredBy, IsAnswered}
 

@@ -1,6 +1,6 @@
 -- No list of what is read has more calls than the bytes have words.
-use Rattle.std.proofs.Common.{◌≡◌, ℕ, suc, ◌+◌, ◌≤◌, List, [], ◌∷◌, ◌++◌, length, take, All, Bool}
-use Rattle.std.proofs.Common.{IfOk, Result, Ok, Err, Option, Some, None, refl, sym, ap, subst, ◌∙◌, arith, inl, inr}
+use Rattle.std.proofs.Common.{◌≡◌, ℕ, suc, ◌+◌, ◌≤◌, List, [], ◌∷◌, ◌++◌, length, take, All}
+use Rattle.std.proofs.Common.{IfOk, Result, Ok, Err, subst, arith, inl, inr}
 use Rattle.std.specs.Prelude.{slice_get}
 use Rattle.std.specs.Option.{ok_or, option_and_then}
 use Rattle.std.proofs.lemmas.Bool.{cases_Bool, cases_lt}
@@ -17,14 +17,12 @@ use Rattle.script_reader.specs.declared.cause.Cause.TheVariants.{S2, S7}
 use Rattle.script_reader.specs.declared.cause.ReadFault.{ReadFault}
 use Rattle.script_reader.specs.Causes.{◌>>=◌}
 use Rattle.script_reader.specs.Arguments.{end_at}
-use Rattle.script_reader.specs.Heads.{is_whole}
-use Rattle.script_reader.specs.Readings.{Row, rows_of, Draft_of, draft_behind, at_line, and_then, meaning_of, AtMost, Gives, lists_of}
+use Rattle.script_reader.specs.Readings.{Row, rows_of, Draft_of, draft_behind, at_line, meaning_of, AtMost, Gives, lists_of}
 use Rattle.script_reader.specs.Readings.{First_fault}
 use Rattle.script_reader.proofs.Amounts.{judged_is, read_is, bind_ok, then_ok, at_line_ok, few_weaker, few_behind, few_rows}
 use Rattle.ends_reader.specs.declared.part.PartWord.{PartWord}
 use Rattle.ends_reader.specs.declared.part.PartWord.TheVariants.{Core, Ask}
-use Rattle.ends_reader.specs.declared.reading.EndsSection.{EndsSection}
-use Rattle.ends_reader.specs.declared.reading.EndsSection.TheVariants.{Script, Ends, Calls}
+use Rattle.ends_reader.specs.declared.reading.EndsSection.TheVariants.{Ends, Calls}
 use Rattle.ends_reader.specs.declared.reading.EndsInput.{EndsInput}
 use Rattle.ends_reader.specs.Parts.{begins_ends, part_word, core_in, ask_in}
 use Rattle.ends_reader.specs.Inputs.{Input_draft, no_input, asks_of, with_ask, is_script, is_calls, may_end, ends_line, script_line}

@@ -1,6 +1,6 @@
 -- A script and the endpoint calls after it, as a whole: the lines of the bytes, one after another, and the end.
 use Rattle.std.specs.Prelude.{◌≡◌, ◌≤◌, ℕ, List, [], ◌∷◌, ◌++◌, Bool, true, false, Result, Ok, Err, map, take, length, slice_set, slice_get}
-use Rattle.std.specs.Prelude.{slice_index_or, ◌+◌, All, replicate, if◌then◌else◌}
+use Rattle.std.specs.Prelude.{slice_index_or, ◌+◌, replicate, if◌then◌else◌}
 use Rattle.std.specs.Global.{Vec}
 use Rattle.std.specs.Option.{ok_or, option_and_then}
 use Rattle.async_ends.specs.declared.endpoint.EndOp.{EndOp}

@@ -1,5 +1,5 @@
 -- The line `ends`, and the lines after it.
-use Rattle.std.specs.Prelude.{ℕ, List, Bool, false, Option, Some, None, Result, Ok, Err, slice_get, codes, if◌then◌else◌}
+use Rattle.std.specs.Prelude.{ℕ, List, Bool, false, Option, Some, None, Result, Ok, slice_get, codes, if◌then◌else◌}
 use Rattle.async_ends.specs.declared.endpoint.EndOp.{EndOp}
 use Rattle.async_ends.specs.declared.endpoint.EndOp.TheVariants.{Send, Recv}
 use Rattle.async_ends.specs.declared.asks.EndAsk.{EndAsk}

@@ -7,5 +7,4 @@
 mod part;
 mod reading;
 
-pub use part::PartWord;
-pub use reading::{EndsInput, EndsSection, read_ends};
+pub use reading::{EndsInput, read_ends};

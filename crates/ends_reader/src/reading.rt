@@ -23,9 +23,9 @@ pub struct EndsInput {
     pub asks: Vec<Vec<EndAsk>>,
 }
 
-/// Where the lines have come to.
+// Where the lines have come to.
 #[derive(Clone, Copy, Debug, PartialEq, Eq)]
-pub enum EndsSection {
+enum EndsSection {
     /// The script.
     Script,
     /// The line `ends`, and no core yet.
