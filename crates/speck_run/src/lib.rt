@@ -3,6 +3,7 @@
 //! See docs/CLAIMS.md, 'The claims', and docs/PROOF.md, 'From the bytes read to the bytes written'.
 #![tactic(auto)]
 
+mod ends;
 mod orders;
 mod replay;
 mod runs;
@@ -12,6 +13,7 @@ mod top;
 mod words;
 
 pub use core_kernel::{FreeGate, Gate};
+pub use ends::make_ends;
 pub use runs::run_lists;
 pub use summary::{Summed, sum_up};
 pub use top::{Status, speck};
