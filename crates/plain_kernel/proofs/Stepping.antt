@@ -157,16 +157,16 @@ module _ (setting : Setting) (lim : IsSetting setting) (events : List Event) (ru
   }
 
   -- The kernel has entered the call.
-  pub entered_here : (k k1 : Maps) → Represents k (after setting events) → state_of k1 ≡ entered (state_of k) c
+  pub entered_here : (k k1 : Maps) → Represents k (after setting events) → Represents k1 (entered (state_of k) c)
       → Represents k1 (entered (after setting events) c)
-  entered_here k k1 e is = same_then _ _ _ (same_by _ _ is) (entered_same (state_of k) (after setting events) c core_in e)
+  entered_here k k1 e is = same_then _ _ _ is (entered_same (state_of k) (after setting events) c core_in e)
 
   spent_same : (k1 : Maps) → Represents k1 (entered (after setting events) c)
       → are_calls_spent (state_of k1) c ≡ are_calls_spent (entered (after setting events) c) c
   spent_same k1 e = λ i. nat_le (e.limits i).calls (e.core c core_in i).counted
 
   -- A core whose calls are spent is answered so.
-  pub spent_here : (k k1 k2 : Maps) → Represents k (after setting events) → state_of k1 ≡ entered (state_of k) c
+  pub spent_here : (k k1 k2 : Maps) → Represents k (after setting events) → Represents k1 (entered (state_of k) c)
       → true ≡ are_calls_spent (state_of k1) c
       → Represents k2 (returned (state_of k1) c) → Made (after setting events) c call reply.CallsSpent k2
   spent_here k k1 k2 e is spent left =
@@ -181,7 +181,7 @@ module _ (setting : Setting) (lim : IsSetting setting) (events : List Event) (ru
       }
 
   -- Any other call is decided, counted and returned from.
-  pub made_here : (k k1 k2 k3 : Maps) (r : Reply) → Represents k (after setting events) → state_of k1 ≡ entered (state_of k) c
+  pub made_here : (k k1 k2 k3 : Maps) (r : Reply) → Represents k (after setting events) → Represents k1 (entered (state_of k) c)
       → false ≡ are_calls_spent (state_of k1) c
       → (IsInRange (state_of k1) c call → IsCarriedOut (state_of k1) (change_of (state_of k1) c call) r k2)
       → (c < (state_of k2).limits.cores → ((state_of k2).core c).counted < 4194304 → Represents k3 (returned (counted (state_of k2) c) c))

@@ -11,7 +11,7 @@ ghost use Rattle.seq_state.specs.Representation.{Represents};
 ghost use Rattle.seq_lookups.specs.Judged.{judged};
 
 use seq_lookups::{Slot, frame_in, waits_of};
-use seq_state::{Frame, Grace, Liveness, Object, Place, SeqKernel, Thing};
+use seq_state::{Frame, Liveness, Object, Place, SeqKernel, Thing};
 use spk_nums::{Cap, CoreNo, EntryNo, FrameArg, FrameNo, Kind, Reply};
 
 /// Whether a frame is a blank kernel frame.
@@ -45,7 +45,7 @@ pub(crate) fn clear(k: &mut SeqKernel, frame: FrameNo)
     'each: for number in 0..64 {
         let index = EntryNo::new(number);
         k.set_place(frame, index, Place::Free);
-        k.set_grace(Thing::PlaceOf { node: frame, index }, Grace::none());
+        k.clear(Thing::PlaceOf { node: frame, index });
     }
 }
 

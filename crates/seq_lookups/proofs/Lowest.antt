@@ -3,6 +3,8 @@ use Rattle.std.proofs.Common.{◌≡◌, ℕ, zero, suc, ◌+◌, ◌-◌, ◌<�
 use Rattle.std.proofs.Common.{◌&&◌, ◌==◌, if◌then◌else◌, cond, refl, ◌∙◌, ap, arith, Some, None}
 use Rattle.std.specs.Prelude.{find}
 use Rattle.std.specs.List.{range_with_len}
+use Rattle.kernel_rules.specs.State.{State}
+use Rattle.kernel_rules.specs.GracePeriods.{lowest}
 
 -- From a number below the end on.
 from_here : (p : ℕ → Bool) (a n : ℕ) → a < n
@@ -30,6 +32,10 @@ found_alike p q a zero same = refl
 found_alike p q a (suc n) same =
     ap (λ b. cond b (Some a) (find p (range_with_len (a + 1) n))) (same a (omega arith) (omega arith))
     ∙ ap (λ o. cond (q a) (Some a) o) (found_alike p q (a + 1) n (λ e h l. same e (omega arith) (omega arith)))
+
+-- Two tests that agree on the machine's cores have one lowest core.
+pub lowest_alike : (s : State) (p q : ℕ → Bool) → ((e : ℕ) → e < s.limits.cores → p e ≡ q e) → lowest s p ≡ lowest s q
+lowest_alike s p q same = found_alike p q 0 s.limits.cores (λ e _ below. same e (omega arith))
 
 -- A set without one number, tested.
 pub without : (c e : ℕ) (b v w : Bool) → b ≡ (if e == c then false else v) → v ≡ w → b ≡ (w && not (e == c))

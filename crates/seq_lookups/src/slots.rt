@@ -97,7 +97,7 @@ pub(crate) fn place_at(k: &SeqKernel, at: Slot) -> Place
 fn waits_at(k: &SeqKernel, core: CoreNo, at: Slot) -> bool
     ensures { result ≡ ((state_of k.now).grace (PlaceOf at.node at.index)).waits core }
 {
-    k.grace(at.thing()).waits.has(core)
+    k.pending(at.thing(), core).waits
 }
 
 /// What a core may use of a place, in whose grace period it waits or not.

@@ -30,7 +30,7 @@ fn other_waiting(k: &SeqKernel, core: CoreNo, thing: Thing) -> Option<CoreNo>
     requires { HasIndex (thing_of thing) }
     ensures { result ≡ other_waiting (state_of k.now) core (thing_of thing) }
 {
-    lowest(k, k.grace(thing).waits.without(core))
+    lowest(k, k.waits(thing).without(core))
 }
 
 /// Why a core may not take a thing again: `quiescing` with the lowest other core that still waits for it.
@@ -44,12 +44,20 @@ pub fn waits_of(k: &SeqKernel, core: CoreNo, thing: Thing) -> Option<Reply>
     }
 }
 
+/// The lowest core that has not flushed since the grace period of a thing began.
+fn first_unflushed(k: &SeqKernel, thing: Thing) -> Option<CoreNo>
+    requires { HasIndex (thing_of thing) }
+    ensures { result ≡ lowest (state_of k.now) ((state_of k.now).grace (thing_of thing)).unflushed }
+{
+    lowest(k, k.unflushed(thing))
+}
+
 /// Why nobody may take a thing again: `unflushed` with the lowest core that has not flushed since its grace period began.
 pub fn flushes_of(k: &SeqKernel, thing: Thing) -> Option<Reply>
     requires { HasIndex (thing_of thing) }
     ensures { result ≡ flushes_of (state_of k.now) (thing_of thing) }
 {
-    match lowest(k, k.grace(thing).unflushed) {
+    match first_unflushed(k, thing) {
         Some(core) => Some(Reply::Unflushed(core)),
         None => None,
     }

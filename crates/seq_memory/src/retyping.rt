@@ -19,7 +19,7 @@ ghost use Rattle.seq_memory.specs.Retyping.{retyping};
 
 use crate::frames::{not_freed, not_taken};
 use seq_lookups::{Wanted, begin, frame_in, named};
-use seq_state::{Frame, Grace, Object, SeqKernel, Stack, Thing};
+use seq_state::{Frame, Object, SeqKernel, Stack, Thing};
 use spk_nums::{CapId, CoreNo, FrameArg, FrameKind, FrameNo, Kind, Reply, Value};
 
 /// Releases the reference of a stack of at most one component.
@@ -59,7 +59,7 @@ fn free(k: &mut SeqKernel, frame: FrameNo)
     ensures { Represents k.new (changed (state_of k.old) (Found (retypes (state_of k.old) frame frame_kind.Untyped))) }
 {
     let value = k.frame(frame);
-    k.set_grace(Thing::FrameOf(frame), Grace::none());
+    k.clear(Thing::FrameOf(frame));
     release(k, &value);
     k.set_frame(frame, Frame::Untyped);
 }

@@ -4,4 +4,5 @@ pub mod StackLemmas
 pub mod MapLemmas
 pub mod SetLemmas
 pub mod StartLemmas
-pub mod PassLemmas
+pub mod TimeLemmas
+pub mod RankLemmas

@@ -4,17 +4,17 @@ use Rattle.std.proofs.Common.{if◌then◌else◌, refl, sym, ◌∙◌, ap, ari
 use Rattle.std.proofs.lemmas.Bool.{cases_eq, cases_lt, lt-ltb, le-ltb, eq-eqb, ne_eqb}
 use Rattle.kernel_rules.specs.State as state
 use Rattle.kernel_rules.specs.State.{put, with_place, with_frame, with_number, with_core, State, Limits}
-use Rattle.kernel_rules.specs.Start.{no_grace}
 use Rattle.kernel_rules.specs.GracePeriods.{same_thing}
 use Rattle.seq_state.specs.declared.parts.Place.{Place}
 use Rattle.seq_state.specs.declared.parts.Frame.{Frame}
 use Rattle.seq_state.specs.declared.parts.Liveness.{Liveness}
 use Rattle.seq_state.specs.declared.parts.Core.{Core}
-use Rattle.seq_state.specs.declared.parts.Grace.{Grace}
+use Rattle.seq_state.specs.declared.times.Period.{Period}
 use Rattle.kernel_rules.proofs.Within.{put_same, put_other}
-use Rattle.seq_state.specs.Parts.{place_held, frame_of, number_of, core_of, grace_of}
+use Rattle.seq_state.specs.Parts.{place_held, frame_of, number_of, core_of}
+use Rattle.seq_state.specs.Times.{no_period, grace_by}
 use Rattle.seq_state.specs.Maps.{Maps, at, at_place, state_of, place_or_free, frame_or_untyped}
-use Rattle.seq_state.specs.Maps.{number_or_unused, core_or_none, grace_or_none, grace_in}
+use Rattle.seq_state.specs.Maps.{number_or_unused, core_or_none, period_or_none, is_inside, grace_from, period_of, grace_in}
 use Rattle.seq_state.specs.Representation.{with_grace_of}
 
 -- A map is another with a value at one key.
@@ -99,7 +99,7 @@ unfolding state_of
 frame_reads t f k o is found = ap frame_or_untyped found ∙ ap (λ q. frame_or_untyped (at t.frames q)) is
 
 -- What a map of parts gives, with one part written.
-put_written : {X A : Type 0} (part : Option X → A) (old new : List (ℕ × X)) (f k : ℕ) (x : X) → k ≡ f → IsWritten old new k x
+pub put_written : {X A : Type 0} (part : Option X → A) (old new : List (ℕ × X)) (f k : ℕ) (x : X) → k ≡ f → IsWritten old new k x
     → (q : ℕ) → part (at new q) ≡ put (λ g. part (at old g)) f (part (Some x)) q
 put_written part old new f k x is w q = elim (cases_eq q f) [
   | inl e ↦ ap part (ap (at new) (e ∙ sym is) ∙ w.here) ∙ sym (put_same (λ g. part (at old g)) f (part (Some x)) q e)
@@ -135,44 +135,61 @@ numbers_written t es l k x is w = λ j. record {
   limits = t.limits;
 }
 
+-- Whether a core is in a call.
+pub is_inside_of : (t : Maps) (c : ℕ) → ((state_of t).core c).inside ≡ is_inside t c
+unfolding state_of
+is_inside_of t c = refl
+
 pub core_reads : (t : Maps) (c k : ℕ) (x : Core) → k ≡ c → at t.cores k ≡ Some x → core_of x ≡ (state_of t).core c
 unfolding state_of
 core_reads t c k x is has = sym (ap core_or_none (ap (at t.cores) (sym is) ∙ has))
 
+-- A core that is in a call where it was leaves each core so.
+inside_written : (t : Maps) (es : List (ℕ × Core)) (c k : ℕ) (x : Core) → k ≡ c → IsWritten t.cores es k x
+    → x.inside ≡ is_inside t c → (d : ℕ) → (core_or_none (at es d)).inside ≡ is_inside t d
+inside_written t es c k x is w same d = elim (cases_eq d c) [
+  | inl e ↦ ap (λ (o : Option Core). (core_or_none o).inside) (ap (at es) (e ∙ sym is) ∙ w.here) ∙ same ∙ ap (is_inside t) (sym e)
+  | inr ne ↦ ap (λ (o : Option Core). (core_or_none o).inside) (w.others d (λ e. ne (e ∙ is)))
+]
+
 pub cores_written : (t : Maps) (es : List (ℕ × Core)) (c k : ℕ) (x : Core) → k ≡ c → IsWritten t.cores es k x
-    → state_of (record t { cores = es }) ≡ with_core (state_of t) c (core_of x)
+    → x.inside ≡ is_inside t c → state_of (record t { cores = es }) ≡ with_core (state_of t) c (core_of x)
 unfolding state_of
-cores_written t es c k x is w = λ j. record {
+cores_written t es c k x is w same = λ j. record {
   place = λ g i. place_or_free (at_place t.places g i);
   frame = λ g. frame_or_untyped (at t.frames g);
   number = λ l. number_or_unused (at t.numbers l);
   core = λ d. put_written core_or_none t.cores es c k x is w d j;
-  grace = grace_in t;
+  grace = λ y. grace_by (λ d. inside_written t es c k x is w same d j) t.times (period_of t y);
   limits = t.limits;
 }
 
 -- ---- grace periods
 
-pub place_grace_reads : (t : Maps) (f i k : ℕ) (d : Grace) → i < 64 → k ≡ 64 * f + i → grace_of d ≡ no_grace
-    → grace_of (unwrap_or (at t.place_graces k) d) ≡ (state_of t).grace (state.PlaceOf f i)
-unfolding state_of
-place_grace_reads t f i k d small is none =
-    or_default grace_or_none d none (at t.place_graces k) ∙ sym (ap grace_or_none (at_place_is t.place_graces f i k small is))
+-- The grace period that a map gives.
+abbrev pub graced : Maps → Option Period → state.Grace
+graced t o = grace_from t (period_or_none o)
 
-pub frame_grace_reads : (t : Maps) (f k : ℕ) (d : Grace) → k ≡ f → grace_of d ≡ no_grace
-    → grace_of (unwrap_or (at t.frame_graces k) d) ≡ (state_of t).grace (state.FrameOf f)
-unfolding state_of
-frame_grace_reads t f k d is none = or_default grace_or_none d none (at t.frame_graces k) ∙ ap (λ q. grace_or_none (at t.frame_graces q)) is
+period_or : (o : Option Period) (d : Period) → d ≡ no_period → unwrap_or o d ≡ period_or_none o
+period_or None d none = none
+period_or (Some p) d none = refl
 
-pub number_grace_reads : (t : Maps) (f k : ℕ) (d : Grace) → k ≡ f → grace_of d ≡ no_grace
-    → grace_of (unwrap_or (at t.number_graces k) d) ≡ (state_of t).grace (state.NumberOf f)
-unfolding state_of
-number_grace_reads t f k d is none = or_default grace_or_none d none (at t.number_graces k)
-    ∙ ap (λ q. grace_or_none (at t.number_graces q)) is
+pub place_period_reads : (t : Maps) (f i k : ℕ) (d : Period) → i < 64 → k ≡ 64 * f + i → d ≡ no_period
+    → unwrap_or (at t.place_graces k) d ≡ period_of t (state.PlaceOf f i)
+place_period_reads t f i k d small is none =
+    period_or (at t.place_graces k) d none ∙ sym (ap period_or_none (at_place_is t.place_graces f i k small is))
 
-pub place_graces_written : (t : Maps) (es : List (ℕ × Grace)) (f i k : ℕ) (g : Grace)
+pub frame_period_reads : (t : Maps) (f k : ℕ) (d : Period) → k ≡ f → d ≡ no_period
+    → unwrap_or (at t.frame_graces k) d ≡ period_of t (state.FrameOf f)
+frame_period_reads t f k d is none = period_or (at t.frame_graces k) d none ∙ ap (λ q. period_or_none (at t.frame_graces q)) is
+
+pub number_period_reads : (t : Maps) (f k : ℕ) (d : Period) → k ≡ f → d ≡ no_period
+    → unwrap_or (at t.number_graces k) d ≡ period_of t (state.NumberOf f)
+number_period_reads t f k d is none = period_or (at t.number_graces k) d none ∙ ap (λ q. period_or_none (at t.number_graces q)) is
+
+pub place_graces_written : (t : Maps) (es : List (ℕ × Period)) (f i k : ℕ) (g : Period)
     → i < 64 → k ≡ 64 * f + i → IsWritten t.place_graces es k g
-    → state_of (record t { place_graces = es }) ≡ with_grace_of (state_of t) (state.PlaceOf f i) (grace_of g)
+    → state_of (record t { place_graces = es }) ≡ with_grace_of (state_of t) (state.PlaceOf f i) (grace_from t g)
 unfolding state_of
 place_graces_written t es f i k g small is w = λ j. record {
   place = λ h i. place_or_free (at_place t.places h i);
@@ -184,27 +201,27 @@ place_graces_written t es f i k g small is w = λ j. record {
 }
   where
     point : (y : state.Thing)
-        → grace_in (record t { place_graces = es }) y ≡ (if same_thing y (state.PlaceOf f i) then grace_of g else grace_in t y)
+        → grace_in (record t { place_graces = es }) y ≡ (if same_thing y (state.PlaceOf f i) then grace_from t g else grace_in t y)
     point (state.PlaceOf h m) = elim (cases_eq h f) [
       | inl e ↦ elim (cases_eq m i) [
         | inl e' ↦
             let a : at_place es h m ≡ Some g = place_at_key es h m k g (omega arith) (omega arith) w.here in
-            ap grace_or_none a ∙ sym (ap (λ b. if b && m == i then grace_of g else grace_in t (state.PlaceOf h m)) (eq-eqb h f e)
-            ∙ ap (λ b. if b then grace_of g else grace_in t (state.PlaceOf h m)) (eq-eqb m i e'))
+            ap (graced t) a ∙ sym (ap (λ b. if b && m == i then grace_from t g else grace_in t (state.PlaceOf h m)) (eq-eqb h f e)
+            ∙ ap (λ b. if b then grace_from t g else grace_in t (state.PlaceOf h m)) (eq-eqb m i e'))
         | inr ne' ↦
-            ap grace_or_none (place_apart t.place_graces es f i k g small is w h m (λ _ e'. ne' e'))
-            ∙ sym (ap (λ b. if b && m == i then grace_of g else grace_in t (state.PlaceOf h m)) (eq-eqb h f e)
-            ∙ ap (λ b. if b then grace_of g else grace_in t (state.PlaceOf h m)) (ne_eqb m i ne'))
+            ap (graced t) (place_apart t.place_graces es f i k g small is w h m (λ _ e'. ne' e'))
+            ∙ sym (ap (λ b. if b && m == i then grace_from t g else grace_in t (state.PlaceOf h m)) (eq-eqb h f e)
+            ∙ ap (λ b. if b then grace_from t g else grace_in t (state.PlaceOf h m)) (ne_eqb m i ne'))
       ]
       | inr ne ↦
-          ap grace_or_none (place_apart t.place_graces es f i k g small is w h m (λ e _. ne e))
-          ∙ sym (ap (λ b. if b && m == i then grace_of g else grace_in t (state.PlaceOf h m)) (ne_eqb h f ne))
+          ap (graced t) (place_apart t.place_graces es f i k g small is w h m (λ e _. ne e))
+          ∙ sym (ap (λ b. if b && m == i then grace_from t g else grace_in t (state.PlaceOf h m)) (ne_eqb h f ne))
     ]
     point (state.FrameOf h) = refl
     point (state.NumberOf l) = refl
 
-pub frame_graces_written : (t : Maps) (es : List (ℕ × Grace)) (f k : ℕ) (g : Grace) → k ≡ f → IsWritten t.frame_graces es k g
-    → state_of (record t { frame_graces = es }) ≡ with_grace_of (state_of t) (state.FrameOf f) (grace_of g)
+pub frame_graces_written : (t : Maps) (es : List (ℕ × Period)) (f k : ℕ) (g : Period) → k ≡ f → IsWritten t.frame_graces es k g
+    → state_of (record t { frame_graces = es }) ≡ with_grace_of (state_of t) (state.FrameOf f) (grace_from t g)
 unfolding state_of
 frame_graces_written t es f k g is w = λ j. record {
   place = λ h i. place_or_free (at_place t.places h i);
@@ -216,13 +233,13 @@ frame_graces_written t es f k g is w = λ j. record {
 }
   where
     point : (y : state.Thing)
-        → grace_in (record t { frame_graces = es }) y ≡ (if same_thing y (state.FrameOf f) then grace_of g else grace_in t y)
+        → grace_in (record t { frame_graces = es }) y ≡ (if same_thing y (state.FrameOf f) then grace_from t g else grace_in t y)
     point (state.PlaceOf h m) = refl
-    point (state.FrameOf h) = put_written grace_or_none t.frame_graces es f k g is w h
+    point (state.FrameOf h) = put_written (graced t) t.frame_graces es f k g is w h
     point (state.NumberOf l) = refl
 
-pub number_graces_written : (t : Maps) (es : List (ℕ × Grace)) (l k : ℕ) (g : Grace) → k ≡ l → IsWritten t.number_graces es k g
-    → state_of (record t { number_graces = es }) ≡ with_grace_of (state_of t) (state.NumberOf l) (grace_of g)
+pub number_graces_written : (t : Maps) (es : List (ℕ × Period)) (l k : ℕ) (g : Period) → k ≡ l → IsWritten t.number_graces es k g
+    → state_of (record t { number_graces = es }) ≡ with_grace_of (state_of t) (state.NumberOf l) (grace_from t g)
 unfolding state_of
 number_graces_written t es l k g is w = λ j. record {
   place = λ h i. place_or_free (at_place t.places h i);
@@ -234,7 +251,7 @@ number_graces_written t es l k g is w = λ j. record {
 }
   where
     point : (y : state.Thing)
-        → grace_in (record t { number_graces = es }) y ≡ (if same_thing y (state.NumberOf l) then grace_of g else grace_in t y)
+        → grace_in (record t { number_graces = es }) y ≡ (if same_thing y (state.NumberOf l) then grace_from t g else grace_in t y)
     point (state.PlaceOf h m) = refl
     point (state.FrameOf h) = refl
-    point (state.NumberOf m) = put_written grace_or_none t.number_graces es l k g is w m
+    point (state.NumberOf m) = put_written (graced t) t.number_graces es l k g is w m

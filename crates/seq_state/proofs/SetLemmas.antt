@@ -1,18 +1,18 @@
 -- A change of the maps is that change of the state, for all that the machine has.
 use Rattle.std.proofs.Common.{◌≡◌, ◌≢◌, inl, inr, ℕ, ◌+◌, ◌*◌, ◌<◌, ◌≤◌, ◌&&◌, ◌==◌}
-use Rattle.std.proofs.Common.{if◌then◌else◌, refl, sym, ◌∙◌, ap, arith, List, Some, IsSome}
-use Rattle.std.proofs.lemmas.Bool.{cases_lt, ne_eqb}
+use Rattle.std.proofs.Common.{if◌then◌else◌, refl, sym, ◌∙◌, ap, subst, arith, List, Option, Some, None, IsSome, IsSomeAnd}
+use Rattle.std.proofs.lemmas.Bool.{cases_eq, cases_lt, ne_eqb}
 use Rattle.kernel_rules.specs.State.{put, with_place, with_frame, with_number, Thing, PlaceOf, FrameOf, NumberOf}
 use Rattle.kernel_rules.specs.GracePeriods.{same_thing}
 use Rattle.seq_state.specs.declared.parts.Place.{Place}
 use Rattle.seq_state.specs.declared.parts.Frame.{Frame}
 use Rattle.seq_state.specs.declared.parts.Liveness.{Liveness}
-use Rattle.seq_state.specs.declared.parts.Grace.{Grace as GraceSets}
-use Rattle.seq_state.specs.Parts.{place_held, frame_of, number_of, grace_of}
+use Rattle.seq_state.specs.declared.times.Period.{Period}
+use Rattle.seq_state.specs.Parts.{place_held, frame_of, number_of}
 use Rattle.seq_state.specs.Maps.{Maps, at, at_place, IsWhole, state_of, place_or_free}
-use Rattle.seq_state.specs.Maps.{frame_or_untyped, number_or_unused, grace_or_none, grace_in}
+use Rattle.seq_state.specs.Maps.{HasAll, frame_or_untyped, number_or_unused, grace_from, grace_in}
 use Rattle.seq_state.specs.Representation.{IsThing, with_grace_of, SameState}
-use Rattle.seq_state.proofs.MapLemmas.{IsWritten, at_place_is, places_written, frames_written, numbers_written}
+use Rattle.seq_state.proofs.MapLemmas.{IsWritten, graced, at_place_is, places_written, frames_written, numbers_written}
 use Rattle.seq_state.proofs.MapLemmas.{place_graces_written, frame_graces_written, number_graces_written}
 use Rattle.kernel_rules.proofs.Within.{put_other}
 use Rattle.seq_state.proofs.Same.{same_by, same_grace_by}
@@ -21,6 +21,22 @@ use Rattle.seq_state.proofs.Same.{same_by, same_grace_by}
 pub record IsSet {X : Type 0} (old new : List (ℕ × X)) (k : ℕ) (x : X) : Type 0 where
   pub here : IsSome (at old k) → at new k ≡ Some x
   pub others : (q : ℕ) → q ≢ k → at new q ≡ at old q
+
+-- A key stands that has a value that fits.
+pub stands : {X : Type 0} (P : X → Type 0) (o : Option X) → IsSomeAnd o P → IsSome o
+stands P None h = absurd h
+stands P (Some x) h = refl
+
+-- All values fit after one is set that does.
+pub all_set : {X : Type 0} (P : ℕ → X → Type 0) (n : ℕ) (old new : List (ℕ × X)) (k : ℕ) (x : X) → HasAll n old P → IsSet old new k x
+    → P k x → HasAll n new P
+all_set P n old new k x all s fits q below = elim (cases_eq q k) [
+  | inl e ↦
+      let stood = stands (P q) (at old q) (all q below) in
+      subst (λ m. IsSomeAnd (at new m) (P m)) (sym e)
+      (subst (λ o. IsSomeAnd o (P k)) (sym (s.here (subst (λ m. IsSome (at old m)) e stood))) fits)
+  | inr ne ↦ subst (λ o. IsSomeAnd o (P q)) (sym (s.others q ne)) (all q below)
+]
 
 -- Where the key stands, the value is written.
 pub written : {X : Type 0} (old new : List (ℕ × X)) (k : ℕ) (x : X) → IsSome (at old k) → IsSet old new k x → IsWritten old new k x
@@ -82,13 +98,13 @@ numbers_set t es l k x whole is s = elim (cases_lt l 64) [
   }
 ]
 
-pub place_graces_set : (t : Maps) (es : List (ℕ × GraceSets)) (f i k : ℕ) (g : GraceSets)
+pub place_graces_set : (t : Maps) (es : List (ℕ × Period)) (f i k : ℕ) (g : Period)
     → IsWhole t → i < 64 → k ≡ 64 * f + i → IsSet t.place_graces es k g
-    → SameState (state_of (record t { place_graces = es })) (with_grace_of (state_of t) (PlaceOf f i) (grace_of g))
+    → SameState (state_of (record t { place_graces = es })) (with_grace_of (state_of t) (PlaceOf f i) (grace_from t g))
 unfolding state_of
 place_graces_set t es f i k g whole small is s = elim (cases_lt f t.limits.frames) [
   | inl below ↦ same_by _ _
-      (place_graces_written t es f i k g small is (written t.place_graces es k g (whole.place_graces k (omega arith)) s))
+      (place_graces_written t es f i k g small is (written t.place_graces es k g (stands _ (at t.place_graces k) (whole.place_graces k (omega arith))) s))
   | inr past ↦ record {
     limits = refl;
     place = λ h j _ _. refl;
@@ -100,20 +116,20 @@ place_graces_set t es f i k g whole small is s = elim (cases_lt f t.limits.frame
 ]
   where
     point : t.limits.frames ≤ f → (y : Thing) → IsThing t.limits y
-        → grace_in (record t { place_graces = es }) y ≡ (if same_thing y (PlaceOf f i) then grace_of g else grace_in t y)
+        → grace_in (record t { place_graces = es }) y ≡ (if same_thing y (PlaceOf f i) then grace_from t g else grace_in t y)
     point past (PlaceOf h m) (h_below, m_below) =
         let ne : 64 * h + m ≢ k = λ e. omega arith in
         let apart : h ≢ f = λ e. omega arith in
-        ap grace_or_none (at_apart es t.place_graces h m m_below (s.others (64 * h + m) ne))
-        ∙ sym (ap (λ b. if b && m == i then grace_of g else grace_in t (PlaceOf h m)) (ne_eqb h f apart))
+        ap (graced t) (at_apart es t.place_graces h m m_below (s.others (64 * h + m) ne))
+        ∙ sym (ap (λ b. if b && m == i then grace_from t g else grace_in t (PlaceOf h m)) (ne_eqb h f apart))
     point past (FrameOf h) _ = refl
     point past (NumberOf l) _ = refl
 
-pub frame_graces_set : (t : Maps) (es : List (ℕ × GraceSets)) (f k : ℕ) (g : GraceSets) → IsWhole t → k ≡ f → IsSet t.frame_graces es k g
-    → SameState (state_of (record t { frame_graces = es })) (with_grace_of (state_of t) (FrameOf f) (grace_of g))
+pub frame_graces_set : (t : Maps) (es : List (ℕ × Period)) (f k : ℕ) (g : Period) → IsWhole t → k ≡ f → IsSet t.frame_graces es k g
+    → SameState (state_of (record t { frame_graces = es })) (with_grace_of (state_of t) (FrameOf f) (grace_from t g))
 unfolding state_of
 frame_graces_set t es f k g whole is s = elim (cases_lt f t.limits.frames) [
-  | inl below ↦ same_by _ _ (frame_graces_written t es f k g is (written t.frame_graces es k g (whole.frame_graces k (omega arith)) s))
+  | inl below ↦ same_by _ _ (frame_graces_written t es f k g is (written t.frame_graces es k g (stands _ (at t.frame_graces k) (whole.frame_graces k (omega arith))) s))
   | inr past ↦ record {
     limits = refl;
     place = λ h j _ _. refl;
@@ -125,18 +141,18 @@ frame_graces_set t es f k g whole is s = elim (cases_lt f t.limits.frames) [
 ]
   where
     point : t.limits.frames ≤ f → (y : Thing) → IsThing t.limits y
-        → grace_in (record t { frame_graces = es }) y ≡ (if same_thing y (FrameOf f) then grace_of g else grace_in t y)
+        → grace_in (record t { frame_graces = es }) y ≡ (if same_thing y (FrameOf f) then grace_from t g else grace_in t y)
     point past (PlaceOf h m) _ = refl
     point past (FrameOf h) below =
-        ap grace_or_none (s.others h (λ e. omega arith))
-        ∙ sym (ap (λ b. if b then grace_of g else grace_in t (FrameOf h)) (ne_eqb h f (λ e. omega arith)))
+        ap (graced t) (s.others h (λ e. omega arith))
+        ∙ sym (ap (λ b. if b then grace_from t g else grace_in t (FrameOf h)) (ne_eqb h f (λ e. omega arith)))
     point past (NumberOf l) _ = refl
 
-pub number_graces_set : (t : Maps) (es : List (ℕ × GraceSets)) (l k : ℕ) (g : GraceSets) → IsWhole t → k ≡ l → IsSet t.number_graces es k g
-    → SameState (state_of (record t { number_graces = es })) (with_grace_of (state_of t) (NumberOf l) (grace_of g))
+pub number_graces_set : (t : Maps) (es : List (ℕ × Period)) (l k : ℕ) (g : Period) → IsWhole t → k ≡ l → IsSet t.number_graces es k g
+    → SameState (state_of (record t { number_graces = es })) (with_grace_of (state_of t) (NumberOf l) (grace_from t g))
 unfolding state_of
 number_graces_set t es l k g whole is s = elim (cases_lt l 64) [
-  | inl below ↦ same_by _ _ (number_graces_written t es l k g is (written t.number_graces es k g (whole.number_graces k (omega arith)) s))
+  | inl below ↦ same_by _ _ (number_graces_written t es l k g is (written t.number_graces es k g (stands _ (at t.number_graces k) (whole.number_graces k (omega arith))) s))
   | inr past ↦ record {
     limits = refl;
     place = λ h j _ _. refl;
@@ -148,9 +164,9 @@ number_graces_set t es l k g whole is s = elim (cases_lt l 64) [
 ]
   where
     point : 64 ≤ l → (y : Thing) → IsThing t.limits y
-        → grace_in (record t { number_graces = es }) y ≡ (if same_thing y (NumberOf l) then grace_of g else grace_in t y)
+        → grace_in (record t { number_graces = es }) y ≡ (if same_thing y (NumberOf l) then grace_from t g else grace_in t y)
     point past (PlaceOf h m) _ = refl
     point past (FrameOf h) _ = refl
     point past (NumberOf m) below =
-        ap grace_or_none (s.others m (λ e. omega arith))
-        ∙ sym (ap (λ b. if b then grace_of g else grace_in t (NumberOf m)) (ne_eqb m l (λ e. omega arith)))
+        ap (graced t) (s.others m (λ e. omega arith))
+        ∙ sym (ap (λ b. if b then grace_from t g else grace_in t (NumberOf m)) (ne_eqb m l (λ e. omega arith)))

@@ -2,7 +2,7 @@
 use Rattle.seq_state.specs.declared.kernel.SeqKernel.TheInside.{Inside}
 use Rattle.seq_state.specs.Maps.{Maps, IsWhole}
 
--- The maps and the limits.
+-- The maps, the times and the limits.
 abbrev pub maps_of : Inside → Maps
 maps_of k = record {
   places = k.places.entries;
@@ -12,9 +12,11 @@ maps_of k = record {
   place_graces = k.place_graces.entries;
   frame_graces = k.frame_graces.entries;
   number_graces = k.number_graces.entries;
+  times = k.times;
+  clock = k.clock;
   limits = record { cores = k.core_count; frames = k.frame_count; calls = k.calls; epochs = k.epochs };
 }
 
--- Each key stands.
+-- Each key stands, and no time lies ahead.
 abbrev pub IsKernel : Inside → Type 0
 IsKernel k = IsWhole (maps_of k)

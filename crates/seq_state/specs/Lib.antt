@@ -1,5 +1,6 @@
 pub mod Stacks
 pub mod Parts
+pub mod Times
 pub mod Maps
 pub mod Representation
 pub mod Kernel

@@ -1,26 +1,30 @@
 -- The plain kernel as contracts see it: finite maps, and the state that they stand for.
-use Rattle.std.specs.Prelude.{◌<◌, ◌≤◌, ◌^◌, ℕ, ◌+◌, ◌*◌, false, nat_lt, if◌then◌else◌, List, [], Option, Some, None, IsSome, IsSomeAnd}
+use Rattle.std.specs.Prelude.{◌≡◌, ◌<◌, ◌≤◌, ◌^◌, ℕ, ◌+◌, ◌*◌, false, nat_lt, if◌then◌else◌, List, [], length, Bool, Option, Some, None, IsSome, IsSomeAnd}
 use Rattle.std.specs.Ordering.{nat_cmp}
 use Rattle.std.specs.Map.{lookup}
 use Rattle.std.specs.BTreeMap.{is_at}
 use Rattle.kernel_rules.specs.State as state
-use Rattle.kernel_rules.specs.Start.{no_grace}
 use Rattle.seq_state.specs.declared.parts.Place.{Place}
 use Rattle.seq_state.specs.declared.parts.Frame.{Frame}
 use Rattle.seq_state.specs.declared.parts.Liveness.{Liveness}
 use Rattle.seq_state.specs.declared.parts.Core.{Core}
-use Rattle.seq_state.specs.declared.parts.Grace.{Grace}
-use Rattle.seq_state.specs.Parts.{place_held, frame_of, number_of, core_of, grace_of}
+use Rattle.seq_state.specs.declared.times.Times.{Times}
+use Rattle.seq_state.specs.declared.times.Period.{Period}
+use Rattle.seq_state.specs.Parts.{place_held, frame_of, number_of, core_of}
+use Rattle.seq_state.specs.Times.{no_period, times_at, grace_by, TimesFit}
 
--- The maps, each by its entries in the order of their keys, and the limits. The key of place i of node f is 64 f + i.
+-- The maps, each by its entries in the order of their keys; the times of the cores and the clock; and the limits. The key of
+-- place i of node f is 64 f + i.
 pub record Maps : Type 0 where
   pub places : List (ℕ × Place)
   pub frames : List (ℕ × Frame)
   pub numbers : List (ℕ × Liveness)
   pub cores : List (ℕ × Core)
-  pub place_graces : List (ℕ × Grace)
-  pub frame_graces : List (ℕ × Grace)
-  pub number_graces : List (ℕ × Grace)
+  pub place_graces : List (ℕ × Period)
+  pub frame_graces : List (ℕ × Period)
+  pub number_graces : List (ℕ × Period)
+  pub times : List Times
+  pub clock : ℕ
   pub limits : state.Limits
 
 -- What a map has at a key.
@@ -45,16 +49,23 @@ pub record LimitsFit (l : state.Limits) : Type 0 where
   pub some_epoch : 1 ≤ l.epochs
   pub most_epochs : l.epochs < 2 ^ 16
 
--- Each place, frame, liveness number, core and thing of the machine has its key. Nothing is said of further keys.
+-- The grace period at a key began by now.
+abbrev pub HasBegun : ℕ → ℕ → Period → Type 0
+HasBegun clock k p = p.began ≤ clock
+
+-- Each place, frame, liveness number, core and thing of the machine has its key, and no time lies ahead. Nothing is said of
+-- further keys.
 pub record IsWhole (t : Maps) : Type 0 where
   pub fits : LimitsFit t.limits
   pub places : HasKeys (64 * t.limits.frames) t.places
   pub frames : HasKeys t.limits.frames t.frames
   pub numbers : HasKeys 64 t.numbers
   pub cores : HasKeys t.limits.cores t.cores
-  pub place_graces : HasKeys (64 * t.limits.frames) t.place_graces
-  pub frame_graces : HasKeys t.limits.frames t.frame_graces
-  pub number_graces : HasKeys 64 t.number_graces
+  pub place_graces : HasAll (64 * t.limits.frames) t.place_graces (HasBegun t.clock)
+  pub frame_graces : HasAll t.limits.frames t.frame_graces (HasBegun t.clock)
+  pub number_graces : HasAll 64 t.number_graces (HasBegun t.clock)
+  pub times_of_all : length t.times ≡ 8
+  pub times : (c : ℕ) → c < 8 → TimesFit t.clock (times_at t.times c)
 
 -- The place in a map, or a free one.
 abbrev pub place_or_free : Option Place → state.Place
@@ -81,19 +92,31 @@ core_or_none None = no_core
 core_or_none (Some x) = core_of x
 
 -- The grace period in a map, or none.
-abbrev pub grace_or_none : Option Grace → state.Grace
-grace_or_none None = no_grace
-grace_or_none (Some g) = grace_of g
+abbrev pub period_or_none : Option Period → Period
+period_or_none None = no_period
+period_or_none (Some p) = p
+
+-- Whether a core is in a call.
+abbrev pub is_inside : Maps → ℕ → Bool
+is_inside t c = (core_or_none (at t.cores c)).inside
+
+-- The grace period that began at a time.
+abbrev pub grace_from : Maps → Period → state.Grace
+grace_from t p = grace_by (is_inside t) t.times p
 
 -- What a map has at a place.
 abbrev pub at_place : {X : Type 0} → List (ℕ × X) → ℕ → ℕ → Option X
 at_place es f i = if nat_lt i 64 then at es (64 * f + i) else None
 
+-- When the grace period of a thing began.
+abbrev pub period_of : Maps → state.Thing → Period
+period_of t (state.PlaceOf f i) = period_or_none (at_place t.place_graces f i)
+period_of t (state.FrameOf f) = period_or_none (at t.frame_graces f)
+period_of t (state.NumberOf l) = period_or_none (at t.number_graces l)
+
 -- The grace period of a thing.
 abbrev pub grace_in : Maps → state.Thing → state.Grace
-grace_in t (state.PlaceOf f i) = grace_or_none (at_place t.place_graces f i)
-grace_in t (state.FrameOf f) = grace_or_none (at t.frame_graces f)
-grace_in t (state.NumberOf l) = grace_or_none (at t.number_graces l)
+grace_in t x = grace_from t (period_of t x)
 
 -- The state that the maps stand for, with nothing at a key that does not stand. What it has past the machine's frames and cores
 -- is that of no machine: two states are compared by what the machine has (`SameState`).

@@ -1,5 +1,4 @@
 -- The parts of the plain kernel's state, read as those of the definitions.
-use Rattle.spk_nums.specs.CoreSets.{has_core}
 use Rattle.kernel_rules.specs.State as state
 use Rattle.seq_state.specs.declared.parts.Place.{Place}
 use Rattle.seq_state.specs.declared.parts.Place.TheVariants as place
@@ -13,7 +12,6 @@ use Rattle.seq_state.specs.declared.parts.Frame.TheVariants as frame
 use Rattle.seq_state.specs.declared.parts.Liveness.{Liveness}
 use Rattle.seq_state.specs.declared.parts.Liveness.TheVariants as liveness
 use Rattle.seq_state.specs.declared.parts.Core.{Core}
-use Rattle.seq_state.specs.declared.parts.Grace.{Grace}
 use Rattle.seq_state.specs.declared.parts.Thing.{Thing}
 use Rattle.seq_state.specs.declared.parts.Thing.TheVariants as thing
 
@@ -68,15 +66,6 @@ core_of k = record {
   spent = k.spent;
   owed = k.owed;
   counted = k.counted;
-}
-
--- A grace period.
-abbrev pub grace_of : Grace → state.Grace
-grace_of g = record {
-  waits = has_core g.waits;
-  not_passed = has_core g.not_passed;
-  unflushed = has_core g.unflushed;
-  flush_unknown = has_core g.flush_unknown;
 }
 
 -- A thing.

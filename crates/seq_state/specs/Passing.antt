@@ -1,24 +1,27 @@
--- What a return and a flush make of all grace periods, in the plain kernel's maps.
-use Rattle.std.specs.Prelude.{ℕ, false, Option, Some, None, IsSomeAnd}
-use Rattle.seq_state.specs.declared.parts.Grace.{Grace as GraceSets}
-use Rattle.kernel_rules.specs.State.{Grace, State, put, with_grace}
-use Rattle.kernel_rules.specs.GracePeriods.{passed}
-use Rattle.seq_state.specs.Parts.{grace_of}
-use Rattle.seq_state.specs.Representation.{SameGrace}
+-- What a beginning, a return and a flush make of the plain kernel's times and grace periods.
+use Rattle.std.specs.Prelude.{◌≡◌, ◌<◌, ℕ, Bool, true, Option, Some, None}
+use Rattle.kernel_rules.specs.State.{Grace, State}
+use Rattle.seq_state.specs.declared.times.Times.{Times}
+use Rattle.seq_state.specs.declared.times.Period.{Period}
 
--- The grace period as core c flushes.
-abbrev pub without_flush : ℕ → Grace → Grace
-without_flush c g = record g { unflushed = put g.unflushed c false }
-
--- The grace period at a key that stands becomes what f makes of it, for all cores.
-abbrev pub Becomes : (Grace → Grace) → Option GraceSets → Option GraceSets → Type 0
+-- The grace period at a key that stands becomes what f makes of it.
+abbrev pub Becomes : (Period → Period) → Option Period → Option Period → Type 0
 Becomes f None new = Unit {0}
-Becomes f (Some g) new = IsSomeAnd new (λ h. SameGrace 8 (grace_of h) (f (grace_of g)))
+Becomes f (Some p) new = new ≡ Some (f p)
 
--- The state in which core c has passed every grace period.
-abbrev pub passed_all : State → ℕ → State
-passed_all s c = with_grace s (λ x. passed c (s.grace x))
+-- The grace period of a thing as it begins in s, with flushes or without: the cores in a call wait, and all cores are still to
+-- pass it.
+abbrev pub grace_begun : State → Bool → Grace
+grace_begun s flushes = record {
+  waits = λ c. (s.core c).inside;
+  not_passed = λ c. true;
+  unflushed = λ c. flushes;
+  flush_unknown = λ c. flushes;
+}
 
--- The state in which core c has flushed for every grace period.
-abbrev pub flushed_all : State → ℕ → State
-flushed_all s c = with_grace s (λ x. without_flush c (s.grace x))
+-- A core's times lie before a time.
+pub record AreBefore (time : ℕ) (x : Times) : Type 0 where
+  pub entered : x.entered < time
+  pub passed : x.passed < time
+  pub flushed : x.flushed < time
+  pub flush_known : x.flush_known < time

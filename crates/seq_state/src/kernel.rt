@@ -1,14 +1,14 @@
 //! The plain kernel's state, in ordered maps.
 
-ghost use Rattle.std.specs.Prelude.{◌≡◌, ◌<◌, ◌+◌, ◌*◌};
-ghost use Rattle.kernel_rules.specs.State.{FrameOf};
-ghost use Rattle.seq_state.specs.Parts.{place_held, frame_of, number_of, core_of, grace_of, thing_of};
+ghost use Rattle.std.specs.Prelude.{◌≡◌, ◌<◌, ◌+◌, ◌*◌, ◌==◌, if◌then◌else◌, ℕ};
+ghost use Rattle.seq_state.specs.Parts.{place_held, frame_of, number_of, core_of, thing_of};
 ghost use Rattle.spk_nums.specs.CoreSets.{has_core};
-ghost use Rattle.seq_state.specs.Maps.{state_of, LimitsFit};
+ghost use Rattle.seq_state.specs.Maps.{at, core_or_none, state_of, period_of, grace_from, LimitsFit};
 ghost use Rattle.seq_state.specs.Representation.{HasIndex};
 
 use crate::maps::{held, standing};
-use crate::parts::{Core, Frame, Grace, Liveness, Place, Thing};
+use crate::parts::{Core, Frame, Liveness, Pending, Place, Thing};
+use crate::times::{Period, Times};
 use spk_nums::{CoreNo, CoreSet, EntryNo, FrameNo};
 use std::collections::BTreeMap;
 use std::marker::Model;
@@ -24,9 +24,11 @@ pub struct SeqKernel {
     pub(crate) frames: BTreeMap<u16, Frame>,
     pub(crate) numbers: BTreeMap<u16, Liveness>,
     pub(crate) cores: BTreeMap<u16, Core>,
-    pub(crate) place_graces: BTreeMap<u16, Grace>,
-    pub(crate) frame_graces: BTreeMap<u16, Grace>,
-    pub(crate) number_graces: BTreeMap<u16, Grace>,
+    pub(crate) place_graces: BTreeMap<u16, Period>,
+    pub(crate) frame_graces: BTreeMap<u16, Period>,
+    pub(crate) number_graces: BTreeMap<u16, Period>,
+    pub(crate) times: [Times; 8],
+    pub(crate) clock: u32,
     pub(crate) core_count: u8,
     pub(crate) frame_count: u16,
     pub(crate) calls: u32,
@@ -51,6 +53,27 @@ pub(crate) fn place_key(node: FrameNo, index: EntryNo) -> u16
     ensures { result ≡ 64 * node + index }
 {
     64 * node.number() + index.number()
+}
+
+/// Whether the core at a key is in a call; false where it does not stand.
+fn is_inside(cores: &BTreeMap<u16, Core>, key: u16) -> bool
+    ensures { result ≡ (core_or_none (at cores.now.entries key)).inside }
+{
+    match cores.get(&key) {
+        Some(core) => core.inside,
+        None => false,
+    }
+}
+
+/// The set with a core or without it.
+fn put(set: CoreSet, core: CoreNo, member: bool) -> CoreSet
+    ensures { (other : ℕ) → other < 8 → has_core result other ≡ (if other == core then member else has_core set other) }
+{
+    if member {
+        set.with(core)
+    } else {
+        set.without(core)
+    }
 }
 
 impl SeqKernel {
@@ -120,30 +143,75 @@ impl SeqKernel {
         standing(&self.cores, u16::from(core.number()))
     }
 
-    /// The grace period of a thing, which is none for what the machine does not have. A place's index is below 64.
-    pub fn grace(&self, thing: Thing) -> Grace
+    /// When the grace period of a thing began.
+    fn period(&self, thing: Thing) -> Period
         requires { HasIndex (thing_of thing) }
-        ensures { grace_of result ≡ (state_of self.now).grace (thing_of thing) }
+        ensures { result ≡ period_of self.now (thing_of thing) }
     {
         let found = match thing {
             Thing::PlaceOf { node, index } => held(&self.place_graces, place_key(node, index)),
             Thing::FrameOf(frame) => held(&self.frame_graces, frame.number()),
             Thing::NumberOf(number) => held(&self.number_graces, u16::from(number)),
         };
-        found.unwrap_or(Grace::none())
+        found.unwrap_or(Period::none())
     }
 
-    /// The cores that are still in the call in which a reference to the frame was released last.
-    pub fn waits(&self, frame: FrameNo) -> CoreSet
-        ensures { has_core result ≡ ((state_of self.now).grace (FrameOf frame)).waits }
+    /// What a core has still to do in a grace period.
+    fn part(&self, period: Period, core: CoreNo) -> Pending
+        ensures waits { result.waits ≡ (grace_from self.now period).waits core }
+        ensures not_passed { result.not_passed ≡ (grace_from self.now period).not_passed core }
+        ensures unflushed { result.unflushed ≡ (grace_from self.now period).unflushed core }
+        ensures flush_unknown { result.flush_unknown ≡ (grace_from self.now period).flush_unknown core }
     {
-        self.grace(Thing::FrameOf(frame)).waits
+        let inside = is_inside(&self.cores, u16::from(core.number()));
+        let times = &self.times[usize::from(core.number())];
+        Pending {
+            waits: inside & (times.entered < period.began),
+            not_passed: times.passed < period.began,
+            unflushed: period.flushes & (times.flushed < period.began),
+            flush_unknown: period.flushes & (times.flush_known < period.began),
+        }
     }
 
-    /// The cores that have decided no flush since a reference to the frame was released whose users may have translations.
-    pub fn unflushed(&self, frame: FrameNo) -> CoreSet
-        ensures { has_core result ≡ ((state_of self.now).grace (FrameOf frame)).unflushed }
+    /// What a core has still to do in the grace period of a thing: nothing for what the machine does not have. A place's
+    /// index is below 64.
+    pub fn pending(&self, thing: Thing, core: CoreNo) -> Pending
+        requires { HasIndex (thing_of thing) }
+        ensures waits { result.waits ≡ ((state_of self.now).grace (thing_of thing)).waits core }
+        ensures not_passed { result.not_passed ≡ ((state_of self.now).grace (thing_of thing)).not_passed core }
+        ensures unflushed { result.unflushed ≡ ((state_of self.now).grace (thing_of thing)).unflushed core }
+        ensures flush_unknown { result.flush_unknown ≡ ((state_of self.now).grace (thing_of thing)).flush_unknown core }
     {
-        self.grace(Thing::FrameOf(frame)).unflushed
+        self.part(self.period(thing), core)
+    }
+
+    /// The cores that are still in the call in which the removal of a thing met them.
+    pub fn waits(&self, thing: Thing) -> CoreSet
+        requires { HasIndex (thing_of thing) }
+        ensures { (core : ℕ) → core < (state_of self.now).limits.cores
+            → has_core result core ≡ ((state_of self.now).grace (thing_of thing)).waits core }
+    {
+        let period = self.period(thing);
+        let mut set = CoreSet::empty();
+        'each: for number in 0..self.cores() {
+            let core = CoreNo::new(number);
+            set = put(set, core, self.part(period, core).waits);
+        }
+        set
+    }
+
+    /// The cores that have decided no flush since the removal of a thing whose users may have translations.
+    pub fn unflushed(&self, thing: Thing) -> CoreSet
+        requires { HasIndex (thing_of thing) }
+        ensures { (core : ℕ) → core < (state_of self.now).limits.cores
+            → has_core result core ≡ ((state_of self.now).grace (thing_of thing)).unflushed core }
+    {
+        let period = self.period(thing);
+        let mut set = CoreSet::empty();
+        'each: for number in 0..self.cores() {
+            let core = CoreNo::new(number);
+            set = put(set, core, self.part(period, core).unflushed);
+        }
+        set
     }
 }

@@ -16,9 +16,10 @@ mod stack;
 mod start;
 #[cfg(test)]
 mod tests;
+mod times;
 
 pub use kernel::SeqKernel;
 pub use parts::{
-    CompFields, Core, Frame, Grace, Liveness, Object, Place, TcapFields, Thing, ThreadFields,
+    CompFields, Core, Frame, Liveness, Object, Pending, Place, TcapFields, Thing, ThreadFields,
 };
 pub use stack::Stack;

@@ -1,10 +1,7 @@
 //! The parts of the plain kernel's state, as plain data; a spec function of each gives the part of the definitions.
 
-ghost use Rattle.std.specs.Prelude.{◌≡◌};
-ghost use Rattle.kernel_rules.specs.Start.{no_grace};
-
 use crate::stack::Stack;
-use spk_nums::{Cap, CoreNo, CoreSet, EntryNo, FrameNo, Qualities, Translations};
+use spk_nums::{Cap, CoreNo, EntryNo, FrameNo, Qualities, Translations};
 
 /// What a place of a node is.
 #[derive(Clone, Copy, PartialEq, Eq, Debug)]
@@ -118,31 +115,17 @@ pub struct Core {
     pub counted: u32,
 }
 
-/// The grace period of what was removed, as four sets of cores.
+/// What one core has still to do in the grace period of what was removed.
 #[derive(Clone, Copy, PartialEq, Eq, Debug)]
-pub struct Grace {
-    /// The cores still in the call in which the removal met them.
-    pub waits: CoreSet,
-    /// The cores of which no call entered after the removal has returned.
-    pub not_passed: CoreSet,
-    /// The cores that have decided no flush since the removal.
-    pub unflushed: CoreSet,
-    /// The cores of which no flush decided after the removal has returned.
-    pub flush_unknown: CoreSet,
-}
-
-impl Grace {
-    /// No grace period: no core is in any of the four sets.
-    pub fn none() -> Grace
-        ensures { grace_of result ≡ no_grace }
-    {
-        Grace {
-            waits: CoreSet::empty(),
-            not_passed: CoreSet::empty(),
-            unflushed: CoreSet::empty(),
-            flush_unknown: CoreSet::empty(),
-        }
-    }
+pub struct Pending {
+    /// To return from the call in which the removal met it.
+    pub waits: bool,
+    /// To return from a call that it enters after the removal.
+    pub not_passed: bool,
+    /// To decide a flush since the removal.
+    pub unflushed: bool,
+    /// To return from a flush decided after the removal.
+    pub flush_unknown: bool,
 }
 
 /// What has a grace period.
@@ -160,5 +143,3 @@ pub enum Thing {
     /// A liveness number, 0 to 63.
     NumberOf(u8),
 }
-
-ghost use Rattle.seq_state.specs.Parts.{grace_of};

@@ -2,15 +2,18 @@
 //!
 //! What is set past the machine's frames or liveness numbers is no part of the machine.
 
-ghost use Rattle.std.specs.Prelude.{◌≡◌, ◌<◌};
+ghost use Rattle.std.specs.Prelude.{◌≡◌, ◌<◌, ◌≤◌};
 ghost use Rattle.kernel_rules.specs.State.{with_place, with_frame, with_number, with_core};
-ghost use Rattle.seq_state.specs.Parts.{place_held, frame_of, number_of, core_of, grace_of, thing_of};
-ghost use Rattle.seq_state.specs.Maps.{state_of};
-ghost use Rattle.seq_state.specs.Representation.{HasIndex, IsThing, with_grace_of, Represents};
+ghost use Rattle.seq_state.specs.Parts.{place_held, frame_of, number_of, core_of, thing_of};
+ghost use Rattle.seq_state.specs.Maps.{state_of, grace_from};
+ghost use Rattle.kernel_rules.specs.Start.{no_grace};
+ghost use Rattle.seq_state.specs.Passing.{grace_begun};
+ghost use Rattle.seq_state.specs.Representation.{HasIndex, with_grace_of, Represents};
 
 use crate::kernel::{SeqKernel, place_key};
 use crate::maps::write_at;
-use crate::parts::{Core, Frame, Grace, Liveness, Place, Thing};
+use crate::parts::{Core, Frame, Liveness, Place, Thing};
+use crate::times::Period;
 use spk_nums::{CoreNo, EntryNo, FrameNo};
 
 impl SeqKernel {
@@ -41,29 +44,48 @@ impl SeqKernel {
         write_at(&mut self.numbers, u16::from(number), value);
     }
 
-    /// Sets a core of the machine.
+    /// Sets a core of the machine, which stays in its call or out of it.
     pub fn set_core(&mut self, core: CoreNo, value: Core)
-        requires { core < (state_of self.old).limits.cores }
+        requires machine { core < (state_of self.old).limits.cores }
+        requires inside { value.inside ≡ ((state_of self.old).core core).inside }
         ensures { state_of self.new ≡ with_core (state_of self.old) core (core_of value) }
     {
         write_at(&mut self.cores, u16::from(core.number()), value);
     }
 
-    /// Sets the grace period of a thing; a place's index is below 64.
-    pub fn set_grace(&mut self, thing: Thing, grace: Grace)
-        requires { HasIndex (thing_of thing) }
-        ensures machine { Represents self.new (with_grace_of (state_of self.old) (thing_of thing) (grace_of grace)) }
-        ensures exact { IsThing (state_of self.old).limits (thing_of thing)
-            → state_of self.new ≡ with_grace_of (state_of self.old) (thing_of thing) (grace_of grace) }
+    /// Sets when the grace period of a thing began, now at the latest; a place's index is below 64.
+    fn set_period(&mut self, thing: Thing, period: Period)
+        requires index { HasIndex (thing_of thing) }
+        requires begun { period.began ≤ self.old.clock }
+        ensures { Represents self.new (with_grace_of (state_of self.old) (thing_of thing) (grace_from self.old period)) }
     {
         match thing {
             Thing::PlaceOf { node, index } => write_at(
                 &mut self.place_graces,
                 place_key(node, index),
-                grace,
+                period,
             ),
-            Thing::FrameOf(frame) => write_at(&mut self.frame_graces, frame.number(), grace),
-            Thing::NumberOf(number) => write_at(&mut self.number_graces, u16::from(number), grace),
+            Thing::FrameOf(frame) => write_at(&mut self.frame_graces, frame.number(), period),
+            Thing::NumberOf(number) => write_at(&mut self.number_graces, u16::from(number), period),
         }
+    }
+
+    /// Begins the grace period of a thing, with flushes or without: the cores in a call wait, and all cores are still to pass
+    /// it. A place's index is below 64.
+    pub fn begin(&mut self, thing: Thing, flushes: bool)
+        requires { HasIndex (thing_of thing) }
+        ensures { Represents self.new
+            (with_grace_of (state_of self.old) (thing_of thing) (grace_begun (state_of self.old) flushes)) }
+    {
+        let began = self.tick();
+        self.set_period(thing, Period { began, flushes });
+    }
+
+    /// Ends the grace period of a thing; a place's index is below 64.
+    pub fn clear(&mut self, thing: Thing)
+        requires { HasIndex (thing_of thing) }
+        ensures { Represents self.new (with_grace_of (state_of self.old) (thing_of thing) no_grace) }
+    {
+        self.set_period(thing, Period::none());
     }
 }

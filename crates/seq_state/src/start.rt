@@ -3,17 +3,17 @@
 ghost use Rattle.std.specs.Prelude.{◌≡◌, ◌<◌, ◌≤◌, ◌+◌, ◌-◌, ◌*◌, ◌/◌, ◌%◌, IfOk, Some, IsSome, slice_get, [], ◌∷◌};
 ghost use Rattle.spk_nums.specs.Limits.{least_arg, end_of_arg};
 ghost use Rattle.kernel_rules.specs.Start.{plain_cap, start_range, core_cap, start_cap, start_place, granted};
-ghost use Rattle.kernel_rules.specs.Start.{start_frame, start_number, start_core, no_grace, start, place_with};
-ghost use Rattle.seq_state.specs.Parts.{place_held, tcap_fields_of, frame_of, number_of, core_of, grace_of, thread_fields_of};
+ghost use Rattle.kernel_rules.specs.Start.{start_frame, start_number, start_core, start, place_with};
+ghost use Rattle.seq_state.specs.Parts.{place_held, tcap_fields_of, frame_of, number_of, core_of, thread_fields_of};
+ghost use Rattle.seq_state.specs.Times.{no_period};
 ghost use Rattle.seq_state.specs.Maps.{HasAll};
 ghost use Rattle.seq_state.specs.Representation.{Represents};
 
 use crate::kernel::SeqKernel;
 use crate::maps::insert_at;
-use crate::parts::{
-    CompFields, Core, Frame, Grace, Liveness, Object, Place, TcapFields, ThreadFields,
-};
+use crate::parts::{CompFields, Core, Frame, Liveness, Object, Place, TcapFields, ThreadFields};
 use crate::stack::Stack;
+use crate::times::{Period, Times};
 use spk_nums::{Cap, CoreNo, FrameNo, Grant, Kind, Memory, Qualities, Setup, Translations};
 use std::alloc::Global;
 use std::collections::BTreeMap;
@@ -239,11 +239,11 @@ fn all_cores(alloc: Global, setup: &Setup) -> Result<BTreeMap<u16, Core>, Memory
 }
 
 /// No grace period at any key below `end`.
-fn all_graces(alloc: Global, end: u16) -> Result<BTreeMap<u16, Grace>, Memory>
-    ensures { IfOk result (λ m. HasAll end m.entries (λ k g. grace_of g ≡ no_grace)) }
+fn all_graces(alloc: Global, end: u16) -> Result<BTreeMap<u16, Period>, Memory>
+    ensures { IfOk result (λ m. HasAll end m.entries (λ k p. p ≡ no_period)) }
 {
     let mut map = BTreeMap::new(alloc);
-    let none = Grace::none();
+    let none = Period::none();
     'each: for key in 0..end {
         insert_at(&mut map, key, none)?;
     }
@@ -271,6 +271,8 @@ impl SeqKernel {
             place_graces,
             frame_graces,
             number_graces,
+            times: [Times::none(); 8],
+            clock: 0,
             core_count: setup.cores(),
             frame_count: setup.frames(),
             calls: setup.calls(),

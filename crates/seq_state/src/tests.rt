@@ -1,7 +1,7 @@
 //! The plain state on its happy paths, at the smallest and at the largest machine.
 ghost use Rattle.std.specs.Prelude.{◌<◌, ◌≡◌};
 
-use crate::{Core, Frame, Grace, Liveness, Object, Place, SeqKernel, Stack, Thing};
+use crate::{Core, Frame, Liveness, Object, Pending, Place, SeqKernel, Stack, Thing};
 use spk_nums::{Cap, CoreNo, CoreSet, EntryNo, FrameNo, Grant, Grants, Kind, Setup};
 use std::process::Abort;
 use std::test::Fail;
@@ -98,11 +98,12 @@ fn reads_the_ends_of_the_largest_machine(rt: HostRuntime) -> Result<(), Fail> {
         node: last,
         index: EntryNo::new(63),
     };
-    assert_eq!(rt; kernel.grace(place), Grace::none());
-    assert_eq!(rt; kernel.grace(Thing::FrameOf(last)), Grace::none());
-    assert_eq!(rt; kernel.grace(Thing::NumberOf(63)), Grace::none());
-    assert_eq!(rt; kernel.waits(last), CoreSet::empty());
-    assert_eq!(rt; kernel.unflushed(last), CoreSet::empty());
+    let last_core = CoreNo::new(7);
+    assert_eq!(rt; kernel.pending(place, last_core), nothing());
+    assert_eq!(rt; kernel.pending(Thing::FrameOf(last), last_core), nothing());
+    assert_eq!(rt; kernel.pending(Thing::NumberOf(63), last_core), nothing());
+    assert_eq!(rt; kernel.waits(place), CoreSet::empty());
+    assert_eq!(rt; kernel.unflushed(place), CoreSet::empty());
     Ok(())
 }
 
@@ -121,16 +122,6 @@ fn sets_each_part(rt: HostRuntime) -> Result<(), Fail> {
     assert_eq!(rt; kernel.frame(last), Frame::User);
     kernel.set_number(63, Liveness::Dead { epoch: 2 });
     assert_eq!(rt; kernel.number(63), Liveness::Dead { epoch: 2 });
-    let one = CoreSet::empty().with(CoreNo::new(1));
-    kernel.set_grace(
-        Thing::FrameOf(last),
-        Grace {
-            waits: one,
-            ..Grace::none()
-        },
-    );
-    assert_eq!(rt; kernel.waits(last), one);
-    assert_eq!(rt; kernel.unflushed(last), CoreSet::empty());
     assert_eq!(rt; kernel.cores(), 2);
     let core = *kernel.core(CoreNo::new(1));
     kernel.set_core(CoreNo::new(1), Core { spent: 7, ..core });
@@ -139,33 +130,52 @@ fn sets_each_part(rt: HostRuntime) -> Result<(), Fail> {
     Ok(())
 }
 
+/// Nothing to do for a grace period.
+fn nothing() -> Pending {
+    Pending {
+        waits: false,
+        not_passed: false,
+        unflushed: false,
+        flush_unknown: false,
+    }
+}
+
 #[test]
 fn enters_returns_and_flushes(rt: HostRuntime) -> Result<(), Fail> {
     let setup = machine(2, 16).ok_or("a setup")?;
     let mut kernel = SeqKernel::start(rt.alloc(), &setup)?;
     assert_eq!(rt; kernel.cores(), 2);
-    let one = CoreSet::empty().with(CoreNo::new(1));
-    let both = one.with(CoreNo::new(0));
-    let last = FrameNo::new(15);
-    kernel.enter(CoreNo::new(1));
-    assert!(rt; kernel.core(CoreNo::new(1)).inside);
-    let begun = Grace {
-        waits: one,
-        not_passed: both,
-        unflushed: both,
-        flush_unknown: both,
+    let one = CoreNo::new(1);
+    let last = Thing::FrameOf(FrameNo::new(15));
+    kernel.enter(one);
+    assert!(rt; kernel.core(one).inside);
+    kernel.begin(last, true);
+    let begun = Pending {
+        waits: true,
+        not_passed: true,
+        unflushed: true,
+        flush_unknown: true,
     };
-    kernel.set_grace(Thing::FrameOf(last), begun);
-    kernel.flush(CoreNo::new(1));
-    kernel.leave(CoreNo::new(1));
-    assert!(rt; !kernel.core(CoreNo::new(1)).inside);
-    let left = Grace {
-        waits: CoreSet::empty(),
-        not_passed: both,
-        unflushed: both.without(CoreNo::new(1)),
-        flush_unknown: both.without(CoreNo::new(1)),
+    assert_eq!(rt; kernel.pending(last, one), begun);
+    assert_eq!(rt; kernel.waits(last), CoreSet::empty().with(one));
+    kernel.flush(one);
+    kernel.leave(one);
+    assert!(rt; !kernel.core(one).inside);
+    let left = Pending {
+        not_passed: true,
+        ..nothing()
     };
-    assert_eq!(rt; kernel.grace(Thing::FrameOf(last)), left);
+    assert_eq!(rt; kernel.pending(last, one), left);
+    assert_eq!(rt;
+        kernel.unflushed(last),
+        CoreSet::empty().with(CoreNo::new(0))
+    );
+    kernel.enter(one);
+    assert_eq!(rt; kernel.pending(last, one), left);
+    kernel.leave(one);
+    assert_eq!(rt; kernel.pending(last, one), nothing());
+    kernel.clear(last);
+    assert_eq!(rt; kernel.pending(last, CoreNo::new(0)), nothing());
     Ok(())
 }
 

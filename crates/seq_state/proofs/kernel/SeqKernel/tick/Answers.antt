@@ -1,0 +1,14 @@
+use Rattle.std.proofs.Common.{◌+◌, refl, sym, subst}
+use Rattle.seq_state.specs.Maps.{state_of}
+use Rattle.seq_state.specs.Kernel.{maps_of}
+use Rattle.seq_state.specs.Representation.{SameState}
+use Rattle.seq_state.proofs.Same.{same_then}
+use Rattle.seq_state.proofs.TimeLemmas.{same_later, all_before}
+use Rattle.seq_state.proofs.kernel.SeqKernel.tick.Goals as goal
+
+pub returns-clause-same : goal.returns-clause-same
+returns-clause-same c = same_then _ _ _ (same_later (maps_of c.self.inside) (c.self.inside.clock + 1))
+    (subst (λ t. SameState (state_of t) (state_of c.args.self.now)) (sym c.self.view_is) c.make_room.ensures.same)
+
+pub returns-clause-later : goal.returns-clause-later
+returns-clause-later c = all_before (maps_of c.self.inside) (c.self.inside.clock + 1) refl c.self.invariant

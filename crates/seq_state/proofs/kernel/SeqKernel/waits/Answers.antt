@@ -1,0 +1,17 @@
+use Rattle.std.proofs.Common.{◌<◌, ◌∙◌, ap, arith}
+use Rattle.spk_nums.specs.CoreSets.{has_core}
+use Rattle.seq_state.specs.Maps.{state_of, grace_from}
+use Rattle.seq_state.proofs.TimeLemmas.{put_on}
+use Rattle.seq_state.proofs.kernel.SeqKernel.waits.Goals as goal
+
+pub each-preserved : goal.each-preserved
+each-preserved c =
+    let most = c.cores-number-end.ensures.limits.most_cores in
+    let end = c.cores-number-end.ensures.value in
+    let small : c.each.number < 8 = omega arith in
+    put_on (grace_from c.args.self.now c.period-period.result).waits (has_core c.each.set) (has_core c.put-set.result) c.each.number
+    c.new-core.result c.part.result.waits c.new-core.ensures small c.part.ensures.waits c.put-set.ensures c.each.invariant
+
+pub returns : goal.returns
+unfolding state_of
+returns c = λ d below. c.each.invariant d (omega arith) ∙ ap (λ p. (grace_from c.args.self.now p).waits d) c.period-period.ensures

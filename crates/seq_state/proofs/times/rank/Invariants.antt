@@ -1,0 +1,10 @@
+use Rattle.std.proofs.Common.{◌≡◌, ◌≤◌, ◌*◌}
+use Rattle.kernel_rules.specs.References.{sum_below}
+use Rattle.seq_state.specs.Times.{times_at, before}
+use Rattle.seq_state.proofs.times.rank.Given as goal
+
+abbrev pub invariant-each : goal.invariant-each
+invariant-each l = record {
+  count : l.count ≡ sum_below (λ c. before (times_at l.all c) l.time) l.core;
+  most : l.count ≤ 4 * l.core;
+}

@@ -1,0 +1,11 @@
+use Rattle.std.proofs.Common.{◌≡◌, ◌<◌, ◌≤◌, ℕ}
+use Rattle.seq_state.specs.Times.{ranked_period}
+use Rattle.seq_state.specs.Maps.{at}
+use Rattle.seq_state.specs.Passing.{Becomes}
+use Rattle.seq_state.proofs.times.rank_below.Given as goal
+
+abbrev pub invariant-each : goal.invariant-each
+invariant-each l = record {
+  done : (k : ℕ) → k < l.key → Becomes (ranked_period l.all) (at l.initial.map.entries k) (at l.map.entries k);
+  left : (k : ℕ) → l.key ≤ k → at l.map.entries k ≡ at l.initial.map.entries k;
+}
