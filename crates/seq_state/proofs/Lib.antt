@@ -4,5 +4,7 @@ pub mod StackLemmas
 pub mod MapLemmas
 pub mod SetLemmas
 pub mod StartLemmas
+pub mod CountLemmas
+pub mod SetterLemmas
 pub mod TimeLemmas
 pub mod RankLemmas

@@ -10,6 +10,7 @@ use Rattle.seq_state.specs.Times.{times_at, TimesFit, before, rank, ranked, rank
 use Rattle.seq_state.specs.Maps.{Maps, at, HasBegun, IsWhole, state_of, period_or_none, is_inside, grace_from, period_of}
 use Rattle.seq_state.specs.Passing.{Becomes}
 use Rattle.seq_state.specs.Representation.{IsThing, SameGrace, SameState}
+use Rattle.seq_state.proofs.CountLemmas.{grace_counts}
 use Rattle.seq_state.proofs.MapLemmas.{at_place_is}
 
 -- ---- sums
@@ -213,4 +214,6 @@ whole_anew t ps fs ns ts whole a all = record {
     passed = rank_grows t.times (times_at t.times c).passed (times_at t.times c).entered (whole.times c below).passed;
     flush_known = rank_grows t.times (times_at t.times c).flush_known (times_at t.times c).flushed (whole.times c below).flush_known;
   });
+  all_counted = whole.all_counted;
+  counts = grace_counts t (anew t ps fs ns ts) (state_of t).grace whole refl (counted_anew t ps fs ns ts whole a);
 }

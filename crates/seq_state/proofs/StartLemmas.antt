@@ -1,16 +1,24 @@
 -- The maps of the start stand for the start state.
-use Rattle.std.proofs.Common.{◌≡◌, ◌≢◌, inl, inr, ℕ, ◌+◌, ◌*◌, ◌/◌, ◌%◌, ◌<◌, if◌then◌else◌}
-use Rattle.std.proofs.Common.{sym, ◌∙◌, ap, subst, arith, List, Option, Some, None, IsSomeAnd}
+use Rattle.std.proofs.Common.{◌≡◌, ◌≢◌, inl, inr, ℕ, ◌+◌, ◌*◌, ◌/◌, ◌%◌, ◌<◌, ◌≤◌, ◌-◌, ◌==◌, nat_lt, Bool, true, false, if◌then◌else◌}
+use Rattle.std.proofs.Common.{refl, sym, ◌∙◌, ap, subst, arith, slice_get, length, List, [], ◌∷◌, Option, Some, None, IsSomeAnd}
 use Rattle.std.proofs.lemmas.Bool.{cases_eq, lt-ltb}
 use Rattle.spk_nums.specs.Setting.{Setting}
 use Rattle.kernel_rules.specs.State.{Thing, PlaceOf, FrameOf, NumberOf, Limits}
-use Rattle.kernel_rules.specs.Start.{start, start_place, start_frame, start_number, start_core, no_grace}
+use Rattle.kernel_rules.specs.State.{Kernel, Table, Leaf, Pages, Comp, Thread, Tcap, Untyped}
+use Rattle.kernel_rules.specs.References.{place_names, frame_names, sum_below, times, node_refs, refs}
+use Rattle.kernel_rules.specs.Start.{start_comp, granted, start, start_place, start_frame, start_number, start_core, no_grace}
 use Rattle.seq_state.specs.Parts.{place_held, frame_of, number_of, core_of}
+use Rattle.seq_state.specs.declared.parts.Frame.{Frame}
+use Rattle.seq_state.specs.Counted.{IsCounted}
 use Rattle.seq_state.specs.Times.{no_period}
-use Rattle.seq_state.specs.Maps.{Maps, at, at_place, HasAll, state_of, place_or_free, frame_or_untyped}
+use Rattle.seq_state.specs.Maps.{Maps, at, at_place, count_at, HasKeys, HasAll, HasBegun, NamesFew, state_of, place_or_free, frame_or_untyped}
 use Rattle.seq_state.specs.Maps.{number_or_unused, core_or_none, period_or_none, period_of, grace_from}
 use Rattle.seq_state.specs.Representation.{IsThing, SameGrace, SameState}
+use Rattle.seq_state.proofs.MapLemmas.{at_place_is}
+use Rattle.seq_state.proofs.SetLemmas.{stands}
 use Rattle.seq_state.proofs.TimeLemmas.{none_is}
+use Rattle.seq_state.proofs.Counting.{sum_rows}
+use Rattle.kernel_invariant.proofs.Sums.{sum_same}
 
 -- One key more.
 pub all_more : {X : Type 0} (P : ℕ → X → Type 0) (old new : List (ℕ × X)) (n : ℕ) (x : X) → at new n ≡ Some x
@@ -65,3 +73,50 @@ starts t s limits places frames numbers cores place_graces frame_graces number_g
   grace = λ x is. subst (λ p. SameGrace s.cores (grace_from t p) no_grace)
       (sym (none_in t (start s).limits place_graces frame_graces number_graces x is)) (none_is t s.cores);
 }
+
+-- The references that the maps have are those of the state that they stand for.
+pub counted_refs : (t : Maps) → IsCounted t.limits.frames t.limits.cores t.places t.frames t.numbers t.cores t.counts
+    → (f : ℕ) → f < t.limits.frames → count_at t.counts f ≡ refs (state_of t) f
+unfolding refs node_refs state_of
+counted_refs t counted f below =
+    let a = counted.counts f below in
+    let b = sum_rows (λ k. times f (place_names (place_or_free (at t.places k)))) t.limits.frames in
+    let c = sum_same (λ g. sum_below (λ i. times f (place_names (place_or_free (at_place t.places g i)))) 64)
+    (λ g. sum_below (λ i. times f (place_names (place_or_free (at t.places (64 * g + i))))) 64) t.limits.frames
+    (λ g _. sum_same (λ i. times f (place_names (place_or_free (at_place t.places g i))))
+    (λ i. times f (place_names (place_or_free (at t.places (64 * g + i))))) 64
+    (λ i small. ap (λ o. times f (place_names (place_or_free o))) (sym (at_place_is t.places g i (64 * g + i) small refl)))) in
+    omega (arith, a, b, c)
+
+-- What a frame of the start has names few frames.
+pub start_few : (s : Setting) (k : ℕ) → length (frame_names (start_frame s k)) ≤ 16
+start_few s k = tested (k == 0) (k == 1) (k == 2) (k == 3) (nat_lt k (4 + s.cores)) (nat_lt k (4 + 2 * s.cores))
+  where
+    tested : (a b c d e f : Bool) → length (frame_names (if a then Kernel Table else (if b then Kernel Leaf else (if c then Kernel Pages
+        else (if d then Kernel (Comp start_comp)
+        else (if e then Kernel (Thread (record { stack = 3 ∷ []; runs_on = Some (k - 4) }))
+        else (if f then Kernel (Tcap (granted (slice_get s.grants (k - 4 - s.cores)))) else Untyped))))))) ≤ 16
+    tested true b c d e f = omega arith
+    tested false true c d e f = omega arith
+    tested false false true d e f = omega arith
+    tested false false false true e f = omega arith
+    tested false false false false true f = omega arith
+    tested false false false false false true = omega arith
+    tested false false false false false false = omega arith
+
+few_in : (s : Setting) (k : ℕ) (o : Option Frame) → IsSomeAnd o (λ x. frame_of x ≡ start_frame s k) → IsSomeAnd o (NamesFew k)
+few_in s k None h = absurd h
+few_in s k (Some x) h = subst (λ y. length (frame_names y) ≤ 16) (sym h) (start_few s k)
+
+pub all_few : (s : Setting) (n : ℕ) (es : List (ℕ × Frame)) → HasAll n es (λ k x. frame_of x ≡ start_frame s k) → HasAll n es NamesFew
+all_few s n es all k below = few_in s k (at es k) (all k below)
+
+begun_none : (n k : ℕ) (o : Option Period) → IsSomeAnd o (λ p. p ≡ no_period) → IsSomeAnd o (HasBegun n k)
+begun_none n k None h = absurd h
+begun_none n k (Some p) h = let none : p.began ≡ 0 = ap (λ (q : Period). q.began) h in omega arith
+
+pub all_none : (n end : ℕ) (es : List (ℕ × Period)) → HasAll end es (λ k p. p ≡ no_period) → HasAll end es (HasBegun n)
+all_none n end es all k below = begun_none n k (at es k) (all k below)
+
+pub all_stand : {X : Type 0} (P : ℕ → X → Type 0) (n : ℕ) (es : List (ℕ × X)) → HasAll n es P → HasKeys n es
+all_stand P n es all k below = stands (P k) (at es k) (all k below)

@@ -1,8 +1,8 @@
 -- What a core does by the clock is that change of all grace periods, for all that the machine has.
 use Rattle.std.proofs.Common.{◌≡◌, ◌≢◌, inl, inr, ℕ, ◌+◌, ◌*◌, ◌<◌, ◌≤◌, Bool, true, false, ◌&&◌, ◌==◌, nat_lt}
-use Rattle.std.proofs.Common.{if◌then◌else◌, refl, sym, ◌∙◌, ap, subst, arith, List, [], length, set, get_or, Option, Some, None, IsSomeAnd}
+use Rattle.std.proofs.Common.{if◌then◌else◌, refl, sym, ◌∙◌, ap, subst, arith, List, [], length, set, get_or, Option, Some, None, IsSome, IsSomeAnd}
 use Rattle.std.proofs.Common.{get_or-set_same}
-use Rattle.std.proofs.lemmas.List.{get_or-set_other}
+use Rattle.std.proofs.lemmas.List.{get_or-set_other, length-set}
 use Rattle.std.proofs.lemmas.Bool.{cases_eq, cases_lt, eq-eqb, ne_eqb, lt-ltb, le-ltb}
 use Rattle.kernel_rules.specs.State.{Grace, Thing, PlaceOf, FrameOf, NumberOf, State, put, with_core, with_grace}
 use Rattle.kernel_rules.specs.State as state
@@ -18,6 +18,8 @@ use Rattle.seq_state.specs.Passing.{AreBefore, grace_begun}
 use Rattle.seq_state.specs.Representation.{IsThing, SameGrace, SameState, with_grace_of}
 use Rattle.kernel_rules.specs.Start.{no_grace}
 use Rattle.seq_state.proofs.Same.{same_by, same_grace_by, same_then, same_grace_of}
+use Rattle.kernel_rules.specs.References.{refs}
+use Rattle.seq_state.proofs.CountLemmas.{core_counts, grace_counts}
 use Rattle.seq_state.proofs.MapLemmas.{IsWritten, at_place_is, put_written, is_inside_of}
 
 -- The maps with other cores and other times.
@@ -294,7 +296,96 @@ flush_done t es c k i y z whole below k_is i_is written is z_is =
     (acts t es c k i y z _ whole below k_is i_is written
     (z_is ∙ (λ j. flushes t.clock (get_or t.times (i_is j) no_times)))) inside)
 
+-- ---- the maps stay whole
+
+keys_written : {X : Type 0} (n : ℕ) (old new : List (ℕ × X)) (k : ℕ) (x : X) → HasKeys n old → IsWritten old new k x → HasKeys n new
+keys_written n old new k x all w q below = elim (cases_eq q k) [
+  | inl e ↦ subst (λ o. IsSome o) (sym (ap (at new) e ∙ w.here)) refl
+  | inr ne ↦ subst (λ o. IsSome o) (sym (w.others q ne)) (all q below)
+]
+
+whole_after : (t : Maps) (es : List (ℕ × Core)) (ts : List Times) (c : ℕ) (y : Core) (z : Times) → IsWhole t
+    → Acts t es ts c y z → TimesFit t.clock z → ((f : ℕ) → f < t.limits.frames → count_at t.counts f ≡ refs (state_of (after t es ts)) f)
+    → IsWhole (after t es ts)
+whole_after t es ts c y z whole a fits counts = record {
+  fits = whole.fits;
+  places = whole.places;
+  frames = whole.frames;
+  numbers = whole.numbers;
+  cores = keys_written t.limits.cores t.cores es c y whole.cores a.core;
+  place_graces = whole.place_graces;
+  frame_graces = whole.frame_graces;
+  number_graces = whole.number_graces;
+  times_of_all = ap length a.times ∙ length-set t.times c z ∙ whole.times_of_all;
+  times = λ d below. elim (cases_eq d c) [
+    | inl e ↦ subst (TimesFit t.clock) (sym (times_here t es ts c y z a d e)) fits
+    | inr ne ↦ subst (TimesFit t.clock) (sym (times_apart t es ts c y z a d ne)) (whole.times d below)
+  ];
+  all_counted = whole.all_counted;
+  counts = counts;
+}
+
+enters_fit : (b : Bool) (n : ℕ) (x : Times) → TimesFit n x → TimesFit n (enters b n x)
+enters_fit true n x fits = fits
+enters_fit false n x fits =
+    let a = fits.entered in
+    let b = fits.passed in
+    record { entered = omega arith; flushed = fits.flushed; passed = omega arith; flush_known = fits.flush_known }
+
+returns_fit : (b : Bool) (n : ℕ) (x : Times) → TimesFit n x → TimesFit n (returns b n x)
+returns_fit true n x fits = record { entered = fits.entered; flushed = fits.flushed; passed = omega arith; flush_known = omega arith }
+returns_fit false n x fits = record { entered = omega arith; flushed = fits.flushed; passed = omega arith; flush_known = omega arith }
+
+flushes_fit : (n : ℕ) (x : Times) → TimesFit n x → TimesFit n (flushes n x)
+flushes_fit n x fits =
+    let a = fits.flushed in
+    let b = fits.flush_known in
+    record { entered = fits.entered; flushed = omega arith; passed = fits.passed; flush_known = omega arith }
+
+pub enter_whole : (t : Maps) (es : List (ℕ × Core)) (c k i : ℕ) (x : Core) (z : Times) → IsWhole t → c < 8 → c < (state_of t).limits.cores
+    → k ≡ c → i ≡ c → IsWritten t.cores es k (record x { inside = true }) → core_of x ≡ (state_of t).core c
+    → z ≡ enters x.inside t.clock (get_or t.times i no_times) → IsWhole (after t es (set t.times i z))
+enter_whole t es c k i x z whole below core k_is i_is written is z_is =
+    let inside : x.inside ≡ is_inside t c = ap (λ (y : state.Core). y.inside) is ∙ is_inside_of t c in
+    whole_after t es (set t.times i z) c (record x { inside = true }) _ whole
+    (acts t es c k i (record x { inside = true }) z _ whole below k_is i_is written
+    (z_is ∙ (λ j. enters (inside j) t.clock (get_or t.times (i_is j) no_times))))
+    (enters_fit (is_inside t c) t.clock (times_at t.times c) (whole.times c below))
+    (core_counts t (after t es (set t.times i z)) c (record ((state_of t).core c) { inside = true }) (state_of t).grace whole core refl refl
+    (enter_done t es c k i x z whole below k_is i_is written is z_is))
+
+pub leave_whole : (t : Maps) (es : List (ℕ × Core)) (c k i : ℕ) (x : Core) (z : Times) → IsWhole t → c < 8 → c < (state_of t).limits.cores
+    → k ≡ c → i ≡ c → IsWritten t.cores es k (record x { inside = false }) → core_of x ≡ (state_of t).core c
+    → z ≡ returns x.inside t.clock (get_or t.times i no_times) → IsWhole (after t es (set t.times i z))
+leave_whole t es c k i x z whole below core k_is i_is written is z_is =
+    let inside : x.inside ≡ is_inside t c = ap (λ (y : state.Core). y.inside) is ∙ is_inside_of t c in
+    whole_after t es (set t.times i z) c (record x { inside = false }) _ whole
+    (acts t es c k i (record x { inside = false }) z _ whole below k_is i_is written
+    (z_is ∙ (λ j. returns (inside j) t.clock (get_or t.times (i_is j) no_times))))
+    (returns_fit (is_inside t c) t.clock (times_at t.times c) (whole.times c below))
+    (core_counts t (after t es (set t.times i z)) c (record ((state_of t).core c) { inside = false })
+    (λ thing. passed c ((state_of t).grace thing)) whole core refl refl
+    (leave_done t es c k i x z whole below k_is i_is written is z_is))
+
+pub flush_whole : (t : Maps) (es : List (ℕ × Core)) (c k i : ℕ) (y : Core) (z : Times) → IsWhole t → c < 8 → c < (state_of t).limits.cores
+    → k ≡ c → i ≡ c → IsWritten t.cores es k y → core_of y ≡ record ((state_of t).core c) { cached = [] }
+    → z ≡ flushes t.clock (get_or t.times i no_times) → IsWhole (after t es (set t.times i z))
+flush_whole t es c k i y z whole below core k_is i_is written is z_is =
+    whole_after t es (set t.times i z) c y _ whole
+    (acts t es c k i y z _ whole below k_is i_is written (z_is ∙ (λ j. flushes t.clock (get_or t.times (i_is j) no_times))))
+    (flushes_fit t.clock (times_at t.times c) (whole.times c below))
+    (core_counts t (after t es (set t.times i z)) c (record ((state_of t).core c) { cached = [] })
+    (λ thing. record ((state_of t).grace thing) { unflushed = put ((state_of t).grace thing).unflushed c false }) whole core refl refl
+    (flush_done t es c k i y z whole below k_is i_is written is z_is))
+
 -- ---- the clock
+
+all_by : (n m end : ℕ) (es : List (ℕ × Period)) → n ≤ m → HasAll end es (HasBegun n) → HasAll end es (HasBegun m)
+all_by n m end es le all k below = later (at es k) (all k below)
+  where
+    later : (o : Option Period) → IsSomeAnd o (HasBegun n k) → IsSomeAnd o (HasBegun m k)
+    later None h = absurd h
+    later (Some p) h = let began : p.began ≤ n = h in omega arith
 
 pub all_before : (t : Maps) (m : ℕ) → m ≡ t.clock + 1 → IsWhole t → (c : ℕ) → c < 8 → AreBefore m (times_at t.times c)
 all_before t m is whole c below =
@@ -320,6 +411,26 @@ same_later t m = record {
     each (PlaceOf f i) = same_grace_by t.limits.cores _ _ refl
     each (FrameOf f) = same_grace_by t.limits.cores _ _ refl
     each (NumberOf l) = same_grace_by t.limits.cores _ _ refl
+
+pub whole_later : (t : Maps) (m : ℕ) → t.clock ≤ m → IsWhole t → IsWhole (record t { clock = m })
+whole_later t m le whole = record {
+  fits = whole.fits;
+  places = whole.places;
+  frames = whole.frames;
+  numbers = whole.numbers;
+  cores = whole.cores;
+  place_graces = all_by t.clock m (64 * t.limits.frames) t.place_graces le whole.place_graces;
+  frame_graces = all_by t.clock m t.limits.frames t.frame_graces le whole.frame_graces;
+  number_graces = all_by t.clock m 64 t.number_graces le whole.number_graces;
+  times_of_all = whole.times_of_all;
+  times = λ c below.
+      let fits = whole.times c below in
+      let entered = fits.entered in
+      let flushed = fits.flushed in
+      record { entered = omega arith; flushed = omega arith; passed = fits.passed; flush_known = fits.flush_known };
+  all_counted = whole.all_counted;
+  counts = grace_counts t (record t { clock = m }) (state_of t).grace whole refl (same_later t m);
+}
 
 -- A grace period begins after the clock went on.
 pub begins : (old mid new : Maps) (x : Thing) (p : Period) → (state_of old).limits.cores ≤ 8

@@ -14,9 +14,10 @@ maps_of k = record {
   number_graces = k.number_graces.entries;
   times = k.times;
   clock = k.clock;
+  counts = k.counts.items;
   limits = record { cores = k.core_count; frames = k.frame_count; calls = k.calls; epochs = k.epochs };
 }
 
--- Each key stands, and no time lies ahead.
+-- Each key stands, no time lies ahead, and the references are counted.
 abbrev pub IsKernel : Inside → Type 0
 IsKernel k = IsWhole (maps_of k)

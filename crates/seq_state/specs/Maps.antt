@@ -1,9 +1,10 @@
 -- The plain kernel as contracts see it: finite maps, and the state that they stand for.
-use Rattle.std.specs.Prelude.{◌≡◌, ◌<◌, ◌≤◌, ◌^◌, ℕ, ◌+◌, ◌*◌, false, nat_lt, if◌then◌else◌, List, [], length, Bool, Option, Some, None, IsSome, IsSomeAnd}
+use Rattle.std.specs.Prelude.{◌≡◌, ◌<◌, ◌≤◌, ◌^◌, ℕ, ◌+◌, ◌*◌, false, nat_lt, if◌then◌else◌, List, [], length, get_or, Bool, Option, Some, None, IsSome, IsSomeAnd}
 use Rattle.std.specs.Ordering.{nat_cmp}
 use Rattle.std.specs.Map.{lookup}
 use Rattle.std.specs.BTreeMap.{is_at}
 use Rattle.kernel_rules.specs.State as state
+use Rattle.kernel_rules.specs.References.{frame_names, refs}
 use Rattle.seq_state.specs.declared.parts.Place.{Place}
 use Rattle.seq_state.specs.declared.parts.Frame.{Frame}
 use Rattle.seq_state.specs.declared.parts.Liveness.{Liveness}
@@ -13,7 +14,8 @@ use Rattle.seq_state.specs.declared.times.Period.{Period}
 use Rattle.seq_state.specs.Parts.{place_held, frame_of, number_of, core_of}
 use Rattle.seq_state.specs.Times.{no_period, times_at, grace_by, TimesFit}
 
--- The maps, each by its entries in the order of their keys; the times of the cores and the clock; and the limits. The key of
+-- The maps, each by its entries in the order of their keys; the times of the cores and the clock; the count of the references
+-- to each frame; and the limits. The key of
 -- place i of node f is 64 f + i.
 pub record Maps : Type 0 where
   pub places : List (ℕ × Place)
@@ -25,7 +27,12 @@ pub record Maps : Type 0 where
   pub number_graces : List (ℕ × Period)
   pub times : List Times
   pub clock : ℕ
+  pub counts : List ℕ
   pub limits : state.Limits
+
+-- The count of a frame's references.
+abbrev pub count_at : List ℕ → ℕ → ℕ
+count_at ns f = get_or ns f 0
 
 -- What a map has at a key.
 abbrev pub at : {X : Type 0} → List (ℕ × X) → ℕ → Option X
@@ -48,24 +55,6 @@ pub record LimitsFit (l : state.Limits) : Type 0 where
   pub most_calls : l.calls ≤ 4194304
   pub some_epoch : 1 ≤ l.epochs
   pub most_epochs : l.epochs < 2 ^ 16
-
--- The grace period at a key began by now.
-abbrev pub HasBegun : ℕ → ℕ → Period → Type 0
-HasBegun clock k p = p.began ≤ clock
-
--- Each place, frame, liveness number, core and thing of the machine has its key, and no time lies ahead. Nothing is said of
--- further keys.
-pub record IsWhole (t : Maps) : Type 0 where
-  pub fits : LimitsFit t.limits
-  pub places : HasKeys (64 * t.limits.frames) t.places
-  pub frames : HasKeys t.limits.frames t.frames
-  pub numbers : HasKeys 64 t.numbers
-  pub cores : HasKeys t.limits.cores t.cores
-  pub place_graces : HasAll (64 * t.limits.frames) t.place_graces (HasBegun t.clock)
-  pub frame_graces : HasAll t.limits.frames t.frame_graces (HasBegun t.clock)
-  pub number_graces : HasAll 64 t.number_graces (HasBegun t.clock)
-  pub times_of_all : length t.times ≡ 8
-  pub times : (c : ℕ) → c < 8 → TimesFit t.clock (times_at t.times c)
 
 -- The place in a map, or a free one.
 abbrev pub place_or_free : Option Place → state.Place
@@ -129,3 +118,27 @@ state_of t = record {
   grace = grace_in t;
   limits = t.limits;
 }
+
+-- The grace period at a key began by now.
+abbrev pub HasBegun : ℕ → ℕ → Period → Type 0
+HasBegun clock k p = p.began ≤ clock
+
+-- What a frame has names at most 16 frames.
+abbrev pub NamesFew : ℕ → Frame → Type 0
+NamesFew k x = length (frame_names (frame_of x)) ≤ 16
+
+-- Each place, frame, liveness number, core and thing of the machine has its key, no time lies ahead, and the references to each
+-- frame are counted. Nothing is said of further keys.
+pub record IsWhole (t : Maps) : Type 0 where
+  pub fits : LimitsFit t.limits
+  pub places : HasKeys (64 * t.limits.frames) t.places
+  pub frames : HasAll t.limits.frames t.frames NamesFew
+  pub numbers : HasKeys 64 t.numbers
+  pub cores : HasKeys t.limits.cores t.cores
+  pub place_graces : HasAll (64 * t.limits.frames) t.place_graces (HasBegun t.clock)
+  pub frame_graces : HasAll t.limits.frames t.frame_graces (HasBegun t.clock)
+  pub number_graces : HasAll 64 t.number_graces (HasBegun t.clock)
+  pub times_of_all : length t.times ≡ 8
+  pub times : (c : ℕ) → c < 8 → TimesFit t.clock (times_at t.times c)
+  pub all_counted : length t.counts ≡ t.limits.frames
+  pub counts : (f : ℕ) → f < t.limits.frames → count_at t.counts f ≡ refs (state_of t) f

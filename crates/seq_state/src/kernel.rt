@@ -1,6 +1,7 @@
 //! The plain kernel's state, in ordered maps.
 
 ghost use Rattle.std.specs.Prelude.{◌≡◌, ◌<◌, ◌+◌, ◌*◌, ◌==◌, if◌then◌else◌, ℕ};
+ghost use Rattle.kernel_rules.specs.References.{refs};
 ghost use Rattle.seq_state.specs.Parts.{place_held, frame_of, number_of, core_of, thing_of};
 ghost use Rattle.spk_nums.specs.CoreSets.{has_core};
 ghost use Rattle.seq_state.specs.Maps.{at, core_or_none, state_of, period_of, grace_from, LimitsFit};
@@ -29,6 +30,7 @@ pub struct SeqKernel {
     pub(crate) number_graces: BTreeMap<u16, Period>,
     pub(crate) times: [Times; 8],
     pub(crate) clock: u32,
+    pub(crate) counts: Vec<u32>,
     pub(crate) core_count: u8,
     pub(crate) frame_count: u16,
     pub(crate) calls: u32,
@@ -141,6 +143,15 @@ impl SeqKernel {
         ensures { core_of result.now ≡ (state_of self.now).core core }
     {
         standing(&self.cores, u16::from(core.number()))
+    }
+
+    /// The references to a frame of the machine: those of all places that hold a capability, a link or a page, ranges
+    /// excepted; of components, stacks, cores and live liveness numbers.
+    pub fn refs(&self, frame: FrameNo) -> u32
+        requires { frame < (state_of self.now).limits.frames }
+        ensures { result ≡ refs (state_of self.now) frame }
+    {
+        self.counts[usize::from(frame.number())]
     }
 
     /// When the grace period of a thing began.

@@ -6,9 +6,11 @@ ghost use Rattle.kernel_rules.specs.Start.{plain_cap, start_range, core_cap, sta
 ghost use Rattle.kernel_rules.specs.Start.{start_frame, start_number, start_core, start, place_with};
 ghost use Rattle.seq_state.specs.Parts.{place_held, tcap_fields_of, frame_of, number_of, core_of, thread_fields_of};
 ghost use Rattle.seq_state.specs.Times.{no_period};
-ghost use Rattle.seq_state.specs.Maps.{HasAll};
+ghost use Rattle.seq_state.specs.Maps.{HasAll, HasKeys};
+ghost use Rattle.seq_state.specs.Counted.{IsCounted};
 ghost use Rattle.seq_state.specs.Representation.{Represents};
 
+use crate::counts::{count_cores, count_frames, count_numbers, count_places};
 use crate::kernel::SeqKernel;
 use crate::maps::insert_at;
 use crate::parts::{CompFields, Core, Frame, Liveness, Object, Place, TcapFields, ThreadFields};
@@ -250,6 +252,27 @@ fn all_graces(alloc: Global, end: u16) -> Result<BTreeMap<u16, Period>, Memory>
     Ok(map)
 }
 
+/// The references to each frame, by what is at the keys of the machine.
+fn all_counts(
+    alloc: Global,
+    setup: &Setup,
+    places: &BTreeMap<u16, Place>,
+    frames: &BTreeMap<u16, Frame>,
+    numbers: &BTreeMap<u16, Liveness>,
+    cores: &BTreeMap<u16, Core>,
+) -> Result<Vec<u32>, Memory>
+    requires { HasKeys setup.now.cores cores.now.entries }
+    ensures { IfOk result (λ v. IsCounted setup.now.frames setup.now.cores places.now.entries frames.now.entries numbers.now.entries
+        cores.now.entries v.items) }
+{
+    let mut counts = vec![in alloc; 0; usize::from(setup.frames())]?;
+    count_places(&mut counts, places, 64 * setup.frames());
+    count_frames(&mut counts, frames, setup.frames());
+    count_cores(&mut counts, cores, u16::from(setup.cores()));
+    count_numbers(&mut counts, numbers, 64);
+    Ok(counts)
+}
+
 impl SeqKernel {
     /// The start state of a machine: every key stands in its maps from now on, so that nothing later takes memory. Want of
     /// memory leaves nothing.
@@ -263,6 +286,7 @@ impl SeqKernel {
         let place_graces = all_graces(alloc, 64 * setup.frames())?;
         let frame_graces = all_graces(alloc, setup.frames())?;
         let number_graces = all_graces(alloc, 64)?;
+        let counts = all_counts(alloc, setup, &places, &frames, &numbers, &cores)?;
         Ok(SeqKernel {
             places,
             frames,
@@ -273,6 +297,7 @@ impl SeqKernel {
             number_graces,
             times: [Times::none(); 8],
             clock: 0,
+            counts,
             core_count: setup.cores(),
             frame_count: setup.frames(),
             calls: setup.calls(),
