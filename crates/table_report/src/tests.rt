@@ -1,8 +1,8 @@
 use super::*;
 use boot_words::boot_words;
-use machine_image::{Image, image_of};
+use machine_image::image_of;
 use spk_nums::{
-    CoreEnd, CoreNo, FrameNo, Grant, Grants, PageFlags, PageNo, Setup, Translation, Translations,
+    CoreEnd, FrameNo, Grant, Grants, PageFlags, PageNo, Setup, Translation, Translations,
 };
 use std::alloc::Global;
 use std::process::Abort;
@@ -126,65 +126,4 @@ fn prints_the_largest_machine(rt: HostRuntime) {
     assert!(rt;
         text.contains("core 7 thread 11 tcap 19 comp 3 spent 0 owed 0\ntotal 4000000000\n")
     );
-}
-
-// The numbers that a table holds, in order, separated by spaces.
-fn numbers(alloc: Global, image: &Image<'_>, table: FrameNo) -> Option<String>
-    requires { table < image.now.shape.frames }
-{
-    let mut text = String::new(alloc);
-    'held: for (number, cap) in image.caps(table) {
-        let line = format!(in alloc; "{}:{} ", number.number(), cap.frame().number()).ok()?;
-        text.push_str(&line).ok()?;
-    }
-    Some(text)
-}
-
-#[test]
-fn lends_the_parts_of_the_smallest_machine(rt: HostRuntime) {
-    let Some(closed) = closed(rt.alloc(), 1, 8, 100, Translations::empty()) else {
-        assert!(rt; false);
-        return;
-    };
-    let whole = closed.words.len() == closed.layout.size() as usize;
-    if !whole || closed.ends.len() != usize::from(closed.layout.cores()) {
-        assert!(rt; false);
-        return;
-    }
-    let image = image_of(&closed);
-    if image.frames() != 8 {
-        assert!(rt; false);
-        return;
-    }
-    let root = FrameNo::new(0);
-    assert!(rt;
-        numbers(rt.alloc(), &image, root).is_some_and(|text| text.as_str()
-            == "0:6 1:0 2:2 3:3 4:4 12:5 ")
-    );
-    assert_eq!(rt; image.maps(FrameNo::new(2)).count(), 0);
-    assert_eq!(rt;
-        image.counts(FrameNo::new(3)).map(|word| word.count).next(),
-        Some(3)
-    );
-    assert_eq!(rt;
-        image.component(FrameNo::new(3)).map(|comp| (
-            comp.table.number(),
-            comp.pages.number(),
-            comp.epoch
-        )),
-        Some((0, 2, 1))
-    );
-    assert_eq!(rt;
-        image
-            .stack(FrameNo::new(4))
-            .map(|comp| comp.number())
-            .next(),
-        Some(3)
-    );
-    assert_eq!(rt;
-        image.head(FrameNo::new(5)).map(|head| head.budget),
-        Some(100)
-    );
-    assert_eq!(rt; image.qualities(FrameNo::new(5)).next(), Some((0, 1)));
-    assert_eq!(rt; image.core(CoreNo::new(0)).thread, FrameNo::new(4));
 }
