@@ -4,6 +4,7 @@ use Rattle.std.proofs.Common.{◌≡◌, ℕ, zero, suc, ℤ, pos, negsuc, ◌+�
 use Rattle.std.proofs.Common.{◌-◌, slice_get, ◌<◌, ◌≤◌, Bool, true, false, ◌==◌, List, [], ◌∷◌}
 use Rattle.std.proofs.Common.{length, Option, Some, None, IfSome, refl, subst, arith}
 use Rattle.call_stages.specs.stage_pins.specs.declared.held.Acquired.{Acquired}
+use Rattle.call_stages.specs.spk_nums.specs.Capability.{cap_of}
 use Rattle.call_stages.specs.spk_nums.specs.declared.kinds.Kind.{Kind}
 use Rattle.call_stages.specs.spk_nums.specs.declared.kinds.Kind.TheVariants.{Range}
 use Rattle.call_stages.specs.word_map.specs.Places.{Shape}
@@ -75,7 +76,7 @@ StepFits s counts later most (Answers v drawn tail) = (tail_left tail ≤ most) 
 StepFits s counts later most (Changes r change drawn tail) = (tail_left tail ≤ most) × TailFits s tail × ChangeFits s change
 
 -- a capability has one count due at most
-pub cap_one : (kind : Kind) (frame arg : ℕ) (change : ℤ) → length (cap_dues (record { kind = kind; frame = frame; arg = arg }) change) ≤ 1
+pub cap_one : (kind : Kind) (frame arg : ℕ) (change : ℤ) → length (cap_dues (cap_of kind frame arg) change) ≤ 1
 cap_one Range frame arg change = omega arith
 cap_one kind frame arg change = omega arith
 
@@ -189,8 +190,8 @@ DueFits s None = Unit {0}
 DueFits s (Some due) = due.frame < s.frames
 
 pub cap_fit : (s : Shape) (kind : Kind) (frame arg : ℕ) (change : ℤ) (n : ℕ)
-    → CapNames s.frames (record { kind = kind; frame = frame; arg = arg })
-    → DueFits s (slice_get (cap_dues (record { kind = kind; frame = frame; arg = arg }) change) n)
+    → CapNames s.frames (cap_of kind frame arg)
+    → DueFits s (slice_get (cap_dues (cap_of kind frame arg) change) n)
 cap_fit s Range frame arg change n names = tt
 cap_fit s kind frame arg change zero names = omega arith
 cap_fit s kind frame arg change (suc n) names = tt

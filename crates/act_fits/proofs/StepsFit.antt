@@ -5,7 +5,7 @@ use Rattle.std.proofs.Common.{length, Option, Some, None, IfSome, IsSomeAnd, ref
 use Rattle.std.proofs.lemmas.Bool.{leb-true, ltb-true, ltb-false, eqb-true, eqb-false}
 use Rattle.call_stages.specs.stage_quiet.specs.declared.quiet.Quiet.{Quiet}
 use Rattle.call_stages.specs.stage_quiet.specs.Scan.{QuietFits, first_other, flush_scan, core_scan, quiet_scan}
-use Rattle.call_stages.specs.spk_nums.specs.Capability.{Capability}
+use Rattle.call_stages.specs.spk_nums.specs.Capability.{Capability, cap_of}
 use Rattle.call_stages.specs.spk_nums.specs.CallLimits.{InLimits, MakeInLimits}
 use Rattle.call_stages.specs.spk_nums.specs.declared.kinds.Kind.{Kind}
 use Rattle.call_stages.specs.spk_nums.specs.declared.kinds.Kind.TheVariants.{Range, Table, Pages, Comp as KindComp}
@@ -435,7 +435,7 @@ begun_made own later what r f t b found target h named limits fits =
 
 -- the act that kills a component
 kills : (s : Shape) (later most core : ℕ) (kind : Kind) (f arg : ℕ) → core < s.cores
-    → CapNames s.frames (record { kind = kind; frame = f; arg = arg }) → 8 ≤ most → StepFits s [] later most (kills_in core kind f)
+    → CapNames s.frames (cap_of kind f arg) → 8 ≤ most → StepFits s [] later most (kills_in core kind f)
 kills s later most core kind.Comp f arg here names some = (record { comp = omega arith; core = here; at = tt }, omega arith, refl)
 kills s later most core kind.Range f arg here names some = (omega arith, tt)
 kills s later most core kind.Table f arg here names some = (omega arith, tt)
@@ -455,7 +455,7 @@ killed own later most (Some k) h names some = kills own.layout later most own.co
 
 -- the acts that enter a component and leave it
 invokes : (own : Own) (later most : ℕ) (kind : Kind) (f arg : ℕ) → IsOwn own
-    → CapNames own.layout.frames (record { kind = kind; frame = f; arg = arg }) → 9 ≤ most
+    → CapNames own.layout.frames (cap_of kind f arg) → 9 ≤ most
     → StepFits own.layout [] later most (invokes_in own kind f arg)
 invokes own later most kind.Gate f arg h names some = by (nat_le 16 own.depth) refl
   where

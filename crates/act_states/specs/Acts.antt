@@ -1,7 +1,7 @@
 -- The acts of calls, and the counts that they change.
 use Rattle.std.specs.Prelude.{ℕ, ◌<◌, Bool, true, false, ◌&&◌, nat_lt, nat_le}
 use Rattle.std.specs.Prelude.{Option, Some, None, List, if◌then◌else◌}
-use Rattle.spk_nums.specs.Capability.{Capability}
+use Rattle.spk_nums.specs.Capability.{Capability, cap_of}
 use Rattle.spk_nums.specs.declared.calls.Call.{Call}
 use Rattle.spk_nums.specs.declared.calls.Call.TheVariants.{Look, Copy, Remove, Shrink, Retype, Make as make_call, Unmap, Tick, Gate, Kill}
 use Rattle.spk_nums.specs.declared.calls.Call.TheVariants.{Grow, Flush, Map, Call as call_gate, Ret, Switch, Transfer, Delegate, Test}
@@ -286,7 +286,7 @@ link_to (Some leaf) = Some (plain_cap kind.Link leaf.frame)
 
 -- a mapping of a frame of this range, with these flags
 abbrev pub page_cap : ℕ → PageFlags → Capability
-page_cap f w = record { kind = kind.Page; frame = f; arg = w.0 }
+page_cap f w = cap_of kind.Page f w.0
 
 abbrev pub page_of : Option Capability → ℕ → PageFlags → Option Capability
 page_of None f w = None
@@ -294,7 +294,7 @@ page_of (Some range) f w = if has_frame (named range) f then Some (page_cap f w)
 
 -- the gate to a component whose word has been read in this epoch; an epoch of 0 is none
 abbrev pub gate_if : Bool → ℕ → ℕ → Option Capability
-gate_if some f epoch = if some then Some (record { kind = kind.Gate; frame = f; arg = epoch }) else None
+gate_if some f epoch = if some then Some (cap_of kind.Gate f epoch) else None
 
 abbrev pub gate_to : Option Capability → Option ℕ → Option Capability
 gate_to (Some comp) (Some epoch) = gate_if (nat_le 1 epoch) comp.frame epoch
@@ -414,7 +414,7 @@ maps_at own _ frame w _ = refuse Raced
 
 -- a component is made in a frame of the range, and its capability put at the target
 abbrev pub comp_cap : ℕ → Capability
-comp_cap f = record { kind = kind.Comp; frame = f; arg = 0 }
+comp_cap f = cap_of kind.Comp f 0
 
 abbrev pub comp_making : Own → ℕ → Capability → Capability → ℕ → Found → Act
 comp_making own live table pages frame f = comp_act (record {

@@ -1,6 +1,6 @@
 -- The objects that are made in a blank kernel frame: their words, and the references that they take.
 use Rattle.std.specs.Prelude.{ℕ, ◌+◌, ◌<◌, ◌≤◌, ◌^◌, ◌==◌, pos, Option, Some, None, List, [], ◌∷◌, map, length, if◌then◌else◌}
-use Rattle.spk_nums.specs.Capability.{Capability}
+use Rattle.spk_nums.specs.Capability.{Capability, cap_of}
 use Rattle.spk_nums.specs.declared.kinds.Kind.{Kind}
 use Rattle.spk_nums.specs.declared.kinds.Kind.TheVariants as kind
 use Rattle.spk_nums.specs.declared.kinds.Obj.{Obj}
@@ -39,7 +39,7 @@ object_kind (Thread comp) = kind.Thread
 object_kind (Tcap sched quality) = kind.Tcap
 
 abbrev pub object_cap : NewObject → ℕ → Capability
-object_cap object f = record { kind = object_kind object; frame = f; arg = 0 }
+object_cap object f = cap_of (object_kind object) f 0
 
 -- the object that a `make` makes whose names have led to these, if it makes one
 abbrev pub thread_on : Option Capability → Option NewObject

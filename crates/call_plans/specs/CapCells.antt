@@ -1,13 +1,13 @@
 -- The capabilities to which the names of a call have led, as a list.
 use Rattle.std.specs.Prelude.{◌≡◌, List, length, take}
-use Rattle.spk_nums.specs.Capability.{Capability}
+use Rattle.spk_nums.specs.Capability.{Capability, cap_of}
 use Rattle.spk_nums.specs.declared.kinds.Kind.TheVariants.{Range}
 use Rattle.spk_nums.specs.Listed.{IsListed, padded, padded-listed, length-listed}
 use Rattle.call_plans.specs.declared.found.Caps.TheInside.{Inside}
 
 -- an unused cell
 abbrev pub blank_cap : Capability
-blank_cap = record { kind = Range; frame = 0; arg = 0 }
+blank_cap = cap_of Range 0 0
 
 -- the capabilities that the cells hold
 abbrev pub caps_of : Inside → List Capability

@@ -2,7 +2,7 @@
 use Rattle.step_ways.proofs.Common.{◌≡◌, ◌≢◌, ℕ, suc, ℤ, pos, negsuc, ◌+◌, ◌++◌, ◌==◌, ◌^◌, ◌<◌, ◌≤◌, map, slice_get, length, Bool, true}
 use Rattle.step_ways.proofs.Common.{false, if◌then◌else◌, nat_le, cond, List, [], ◌∷◌, Option, Some, None, IsTrue, inl, inr, arith, refl}
 use Rattle.step_ways.proofs.Common.{sym, ◌∙◌, ap, subst, not, All, is_some, false≢true, eq-eqb, eqb-true, eqb-false, All-nil, All-cons}
-use Rattle.step_ways.proofs.Common.{All-head, All-tail, All-append, Capability, Call, Copy, Remove, Shrink, Unmap, Retype, Tick, Gate}
+use Rattle.step_ways.proofs.Common.{All-head, All-tail, All-append, Capability, cap_of, Call, Copy, Remove, Shrink, Unmap, Retype, Tick, Gate}
 use Rattle.step_ways.proofs.Common.{Kill, Grow, Touch, Flush, Map, Ret, Transfer, Delegate, Test, Switch, State, named_by}
 use Rattle.step_ways.proofs.Common.{counts_references, is_one_of, frames_near, only, Found, Refused, only_is, name_parts, at_place}
 use Rattle.step_ways.proofs.Common.{same_word-other, own_read-here, own_read-there, last_left-there, First, Second, plan_for, Leads}
@@ -73,7 +73,7 @@ gate_near s c n u b (j ∷ ks) (Some comp) (Some epoch) k is puts lead f names_i
         subst (λ x. is_one_of f (named_by x j.frame) ≡ true) (sym (wanted_is parts.2 j parts.4))
         (subst (λ (x : Capability). is_one_of f (x.frame ∷ []) ≡ true) (sym (cap_same j comp is))
         (subst (λ (x : Capability). is_one_of f (named_by x.kind x.frame) ≡ true)
-        (sym (cap_same (record { kind = gate_kind; frame = comp.frame; arg = epoch }) k h)) names_it))
+        (sym (cap_same (cap_of gate_kind comp.frame epoch) k h)) names_it))
     by false h = absurd (cc)
 
 pub put_near : (s : State) (c : ℕ) (call : Call) (ks : List Capability) (read : Option ℕ) (k : Capability)

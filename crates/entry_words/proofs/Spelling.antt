@@ -5,6 +5,7 @@ use Rattle.std.proofs.lemmas.Bool.{ne_eqb, lt-ltb, le-leb, and_parts, ltb-true, 
 use Rattle.std.proofs.lemmas.Bool.Decides.{nat_tests}
 use Rattle.spk_nums.proofs.Choices.{kept, chosen}
 use Rattle.spk_nums.proofs.OneSpelling.{spelling_reads, spelling_spells}
+use Rattle.spk_nums.specs.Capability.{cap_of}
 use Rattle.spk_nums.specs.Limits.{least_arg, end_of_arg}
 use Rattle.spk_nums.specs.Spelling.{IsOneSpelling}
 use Rattle.spk_nums.specs.declared.kinds.Kind.{Kind}
@@ -91,7 +92,7 @@ spells_held (Some k) w v from tag h =
     let f : ℕ = w / 2 ^ 6 % 2 ^ 10 in
     let a : ℕ = w / 2 ^ 16 in
     let (tests, value) =
-    kept (nat_lt f 512 && (nat_le (least_arg k) a && nat_lt a (end_of_arg k))) (Held (record { kind = k; frame = f; arg = a })) v h in
+    kept (nat_lt f 512 && (nat_le (least_arg k) a && nat_lt a (end_of_arg k))) (Held (cap_of k f a)) v h in
     let (frame, arg) = and_parts (nat_lt f 512) _ tests in
     let (least, last) = and_parts (nat_le (least_arg k) a) _ arg in
     let kind : number_of_kind k ≡ w / 2 ^ 2 % 2 ^ 4 = number_of_kind_of (w / 2 ^ 2 % 2 ^ 4) k (cc) in

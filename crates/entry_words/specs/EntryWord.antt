@@ -1,4 +1,5 @@
 use Rattle.std.specs.Prelude.{ℕ, ◌+◌, ◌*◌, ◌/◌, ◌%◌, ◌^◌, ◌<◌, ◌≤◌, ◌==◌, ◌&&◌, nat_lt, nat_le, Option, Some, None, if◌then◌else◌}
+use Rattle.spk_nums.specs.Capability.{cap_of}
 use Rattle.spk_nums.specs.Limits.{least_arg, end_of_arg}
 use Rattle.spk_nums.specs.declared.kinds.Kind.{Kind}
 use Rattle.entry_words.specs.Kinds.{number_of_kind, kind_of_number}
@@ -24,7 +25,7 @@ abbrev pub held_of : Option Kind → ℕ → ℕ → Option Entry
 held_of None frame arg = None
 held_of (Some kind) frame arg =
     if nat_lt frame 512 && (nat_le (least_arg kind) arg && nat_lt arg (end_of_arg kind))
-    then Some (Held (record { kind = kind; frame = frame; arg = arg }))
+    then Some (Held (cap_of kind frame arg))
     else None
 
 -- the closing entry of this core, where there is such a core

@@ -3,7 +3,7 @@ use Rattle.std.proofs.Common.{◌≡◌, ◌≢◌, inl, inr, ℕ, ◌<◌, Bool
 use Rattle.std.proofs.Common.{nat_lt, if◌then◌else◌, ◌+◌, ◌-◌, ◌≤◌, arith, IsTrue, List, [], ◌∷◌, take, Option, Some, None}
 use Rattle.std.proofs.lemmas.Bool.{cases_eq, false≢true, ne_eqb}
 use Rattle.std.specs.List.{list_any}
-use Rattle.spk_nums.specs.Capability.{Capability}
+use Rattle.spk_nums.specs.Capability.{Capability, cap_of}
 use Rattle.spk_nums.specs.declared.kinds.Kind.{Kind}
 use Rattle.spk_nums.specs.declared.kinds.Kind.TheVariants as kind
 use Rattle.spk_nums.specs.declared.kinds.FrameKind.{FrameKind}
@@ -393,12 +393,12 @@ module _ (s : State) (o : ℕ → Bool) (d : ℕ) (h : HasTurn s o d) where
   rule_spares (Retype r f k) = retype_spares s o d h r f k
   rule_spares (make_call what r f t b) = make_spares s o d h what r f t b
   rule_spares (Map p v r f w) =
-      λ pages e range g at u calm. filled s o d h (Under (found pages) v) at (record { kind = kind.Page; frame = f; arg = w.0 }) u
+      λ pages e range g at u calm. filled s o d h (Under (found pages) v) at (cap_of kind.Page f w.0) u
   rule_spares (Unmap p v) = λ pages e at k g calm. removed s o d h (Under (found pages) v) at k g
   rule_spares (Touch v) = touch_spares s o d h (comp_of s d).pages v (translation_of (s.core d).cached (comp_of s d).pages v)
   rule_spares Flush = λ calm. plain s o d h (flushed s d) (flush_apart s o d) (runs_core s d _ refl (own_runs s o d h))
   rule_spares (Gate k t b) =
-      λ comp e table f at g calm. filled s o d h (Under (found table) b) at (record { kind = kind.Gate; frame = comp.frame; arg = _ }) g
+      λ comp e table f at g calm. filled s o d h (Under (found table) b) at (cap_of kind.Gate comp.frame _) g
   rule_spares (Kill k) = λ comp e calm.
       let fields : CompFields = comp_in (s.frame comp.frame) in
       done s o d h (kills s fields).next (kills s fields).begins (λ f i. frames_no_place f i (number_names (s.number fields.number)))

@@ -8,7 +8,7 @@ pub use Rattle.std.proofs.lemmas.List.Elements.{All-append, All-cons, All-head, 
 pub use Rattle.std.specs.List.{flat_map, list_any}
 pub use Rattle.std.specs.Prelude.{All, IsSome, IsSomeAnd, is_some, min, option_to_list}
 pub use Rattle.thread_laws.specs.spk_nums.specs.CallLimits.{InLimits}
-pub use Rattle.thread_laws.specs.spk_nums.specs.Capability.{Capability}
+pub use Rattle.thread_laws.specs.spk_nums.specs.Capability.{Capability, cap_of}
 pub use Rattle.thread_laws.specs.spk_nums.specs.Setting.{IsSetting, Setting}
 pub use Rattle.thread_laws.specs.spk_nums.specs.WordSteps.{left_if}
 pub use Rattle.thread_laws.specs.spk_nums.specs.declared.calls.Call.{Call}

@@ -1,6 +1,7 @@
 -- Worked examples of several cores, each a list of events with the replies that the relation permits there.
 use Rattle.std.proofs.Common.{inl, inr, refl, ℕ, arith}
 use Rattle.std.specs.Prelude.{List, [], ◌∷◌}
+use Rattle.spk_nums.specs.Capability.{cap_of}
 use Rattle.spk_nums.specs.Setting.{Setting}
 use Rattle.spk_nums.specs.declared.kinds.Kind.TheVariants as kind
 use Rattle.spk_nums.specs.declared.kinds.FrameKind.TheVariants as frame_kind
@@ -40,7 +41,7 @@ abbrev done : Reply
 done = reply.Ok Nothing
 
 abbrev range : Reply
-range = reply.Ok (Cap (record { kind = kind.Range; frame = 8; arg = 24 }))
+range = reply.Ok (Cap (cap_of kind.Range 8 24))
 
 abbrev flags : ℕ → PageFlags
 flags w = record { 0 = w }

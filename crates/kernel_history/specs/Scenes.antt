@@ -1,6 +1,7 @@
 -- Worked traces of two cores, built step by step: what the definitions of a legal history, of its discipline, its footprints, its
 -- bounds, its order and its words are seen to refuse.
 use Rattle.std.specs.Prelude.{ℕ, Bool, nat_le, [], ◌∷◌, List, Some, None}
+use Rattle.spk_nums.specs.Capability.{cap_of}
 use Rattle.spk_nums.specs.Setting.{Setting}
 use Rattle.spk_nums.specs.declared.kinds.Kind.TheVariants as kind
 use Rattle.spk_nums.specs.declared.kinds.FrameKind.{FrameKind}
@@ -56,7 +57,7 @@ one_step k m = goes 0 m (enters 0 k [])
 
 -- The word of a place that holds the range.
 unfoldable pub range_word : ℕ
-range_word = word_of_entry (entry.Held (record { kind = kind.Range; frame = 8; arg = 24 }))
+range_word = word_of_entry (entry.Held (cap_of kind.Range 8 24))
 
 -- The mark of core c in the entry of a place.
 unfoldable pub mark_word : ℕ → ℕ
@@ -66,7 +67,7 @@ abbrev pub done : Reply
 done = reply.Ok Nothing
 
 abbrev pub range_found : Reply
-range_found = reply.Ok (Cap (record { kind = kind.Range; frame = 8; arg = 24 }))
+range_found = reply.Ok (Cap (cap_of kind.Range 8 24))
 
 -- Core 0 retypes frame 8, which it finds untyped, and has not returned.
 unfoldable pub retyped : FrameKind → ℕ → Trace

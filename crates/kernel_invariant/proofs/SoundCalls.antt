@@ -4,7 +4,7 @@ use Rattle.std.proofs.Common.{◌||◌, refl, sym, ◌∙◌, ap, subst, arith, 
 use Rattle.std.proofs.Common.{IsTrue, IsFalse, List, [], ◌∷◌, length, take, drop, Option, Some, None, is_some}
 use Rattle.std.proofs.lemmas.Bool.{cases_eq, false≢true, true≢false, ltb-true, ltb-false, lt-ltb, and_parts}
 use Rattle.std.specs.List.{list_any, range_with_len}
-use Rattle.spk_nums.specs.Capability.{Capability}
+use Rattle.spk_nums.specs.Capability.{Capability, cap_of}
 use Rattle.spk_nums.specs.declared.kinds.Kind.{Kind}
 use Rattle.spk_nums.specs.declared.kinds.Kind.TheVariants as kind
 use Rattle.spk_nums.specs.declared.kinds.FrameKind.{FrameKind}
@@ -299,7 +299,7 @@ map_keeps : (s : State) (o : ℕ → Bool) (c : ℕ) → IsOpen s o c
 map_keeps s o c h p v r f w = λ pages e range g at u calm.
     let q = first_two s c (outside (found range) f) (not_user s f) [] calm in
     let user : s.frame f ≡ User = user_is (s.frame f) (kind_by s f (is_user (s.frame f)) (in_range s o c r f range h g q.0) q.1) in
-    filled s o c (Under (found pages) v) at (record { kind = kind.Page; frame = f; arg = w.0 }) h tt u
+    filled s o c (Under (found pages) v) at (cap_of kind.Page f w.0) h tt u
     (record { fit = subst (λ x. IsTrue (fits kind.Page x)) (sym user) refl; within = tt })
 
 -- A core keeps its thread and temporal capability.
@@ -460,7 +460,7 @@ rule_keeps s o c h (Unmap p v) lim = λ pages e at k g calm. removed s o c (Unde
 rule_keeps s o c h (Touch v) lim = touch_keeps s o c h (comp_of s c).pages v (translation_of (s.core c).cached (comp_of s c).pages v)
 rule_keeps s o c h Flush lim = λ calm. plain s (flushed s c) o c h (flush_keeps s o c h)
 rule_keeps s o c h (Gate k t b) lim = λ comp e table f at g calm.
-    filled s o c (Under (found table) b) at (record { kind = kind.Gate; frame = comp.frame; arg = _ }) h tt g
+    filled s o c (Under (found table) b) at (cap_of kind.Gate comp.frame _) h tt g
     (record { fit = comp_gate (s.frame comp.frame) (named_fit s o c k kind.Comp comp h.sound h.is e); within = tt })
 rule_keeps s o c h (Kill k) lim = λ comp e calm.
     let fields : CompFields = comp_in (s.frame comp.frame) in

@@ -4,7 +4,7 @@ use Rattle.std.proofs.Common.{subst, ◌==◌, nat_lt, nat_le, if◌then◌else�
 use Rattle.std.proofs.lemmas.Bool.{cases_eq, false≢true, eqb-true}
 use Rattle.std.specs.List.{list_any}
 use Rattle.spk_nums.specs.Setting.{Setting, IsSetting}
-use Rattle.spk_nums.specs.Capability.{Capability}
+use Rattle.spk_nums.specs.Capability.{Capability, cap_of}
 use Rattle.spk_nums.specs.declared.kinds.Kind.{Kind}
 use Rattle.spk_nums.specs.declared.kinds.Kind.TheVariants as kind
 use Rattle.spk_nums.specs.declared.kinds.FrameKind.{FrameKind}
@@ -335,14 +335,14 @@ module _ (s : State) (o : ℕ → Bool) (c : ℕ) (h : IsOpen s o c) (w : IsFitt
   rule_keeps (Retype r f k) = retype_keeps r f k
   rule_keeps (make_call what r f t b) = make_keeps what r f t b
   rule_keeps (Map p v r f m) = λ pages e range g at u calm.
-      filled at (record { kind = kind.Page; frame = f; arg = m.0 })
+      filled at (cap_of kind.Page f m.0)
       (subst (λ x. FitsNode x kind.Page (s.frame f))
       (sym (in_pleaf p v pages at e (vacant_facts s c (Under (found pages) v) at u).0)) (record { kind = refl; leaf = refl }))
   rule_keeps (Unmap p v) = λ pages e at k g calm. removed (Under (found pages) v) at k g
   rule_keeps (Touch v) = touch_keeps (comp_of s c).pages v (translation_of (s.core c).cached (comp_of s c).pages v)
   rule_keeps Flush = λ calm. framed _ [] (λ g i. refl) (λ g i. refl) (λ g. alike_same (s.frame g)) (λ g i d q. q)
   rule_keeps (Gate k t b) = λ comp e table f at g calm.
-      filled at (record { kind = kind.Gate; frame = comp.frame; arg = _ })
+      filled at (cap_of kind.Gate comp.frame _)
       (in_leaf_fits at kind.Gate (s.frame comp.frame) (in_leaf t b table at f (vacant_facts s c (Under (found table) b) at g).0) refl)
   rule_keeps (Kill k) = λ comp e calm.
       let fields : CompFields = comp_in (s.frame comp.frame) in

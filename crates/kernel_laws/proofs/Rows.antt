@@ -1,7 +1,7 @@
 -- Worked examples of calls made alone, which the checker computes.
 use Rattle.std.proofs.Common.{◌≡◌, refl}
 use Rattle.std.specs.Prelude.{ℕ, zero, suc, ◌+◌, true, false, take, List, [], ◌∷◌}
-use Rattle.spk_nums.specs.Capability.{Capability}
+use Rattle.spk_nums.specs.Capability.{Capability, cap_of}
 use Rattle.spk_nums.specs.Setting.{Setting}
 use Rattle.spk_nums.specs.declared.grants.Grant.{Grant}
 use Rattle.spk_nums.specs.declared.kinds.Kind.TheVariants as kind
@@ -36,7 +36,7 @@ abbrev done : Reply
 done = reply.Ok Nothing
 
 abbrev range_of : ℕ → ℕ → Capability
-range_of f n = record { kind = kind.Range; frame = f; arg = n }
+range_of f n = cap_of kind.Range f n
 
 -- A name has no slot past the leaves of its table or past 4,095, and is empty where nothing is held.
 look_up : plain_replies two_cores 0 (call.Look 0 ∷ call.Look 63 ∷ call.Look 64 ∷ call.Look 4096 ∷ [])
@@ -316,7 +316,7 @@ gate_calls =
     ∷ []
 
 gate_of : ℕ → ℕ → Capability
-gate_of f epoch = record { kind = kind.Gate; frame = f; arg = epoch }
+gate_of f epoch = cap_of kind.Gate f epoch
 
 epochs_of_gates : plain_replies two_cores 0 gate_calls
     ≡ replies_over 7 done (reply.Ok (Cap (gate_of 8 1)) ∷ reply.Ok (Cap (gate_of 9 2)) ∷ reply.Dead ∷ done ∷ done ∷ [])

@@ -2,7 +2,7 @@
 use Rattle.std.proofs.Common.{◌≡◌, inl, inr, refl, ℕ, arith}
 use Rattle.std.specs.Prelude.{true, false, List, [], ◌∷◌}
 use Rattle.spk_nums.specs.Setting.{Setting}
-use Rattle.spk_nums.specs.Capability.{Capability}
+use Rattle.spk_nums.specs.Capability.{Capability, cap_of}
 use Rattle.spk_nums.specs.declared.kinds.Kind.TheVariants as kind
 use Rattle.spk_nums.specs.declared.kinds.FrameKind.TheVariants as frame_kind
 use Rattle.spk_nums.specs.declared.calls.Make.TheVariants as make
@@ -30,7 +30,7 @@ done : Reply
 done = reply.Ok Nothing
 
 range : Capability
-range = record { kind = kind.Range; frame = 8; arg = 24 }
+range = cap_of kind.Range 8 24
 
 -- A whole call of core c after these events.
 whole : ℕ → Call → Reply → List Event → List Event

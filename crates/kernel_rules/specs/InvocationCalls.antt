@@ -1,5 +1,6 @@
 -- The calls of invocation: gates, killing, calling and returning, and switching threads.
 use Rattle.std.specs.Prelude.{ℕ, Bool, false, not, ◌&&◌, ◌==◌, nat_le, if◌then◌else◌, List, [], ◌∷◌, length, take, drop, Option, Some, None}
+use Rattle.spk_nums.specs.Capability.{cap_of}
 use Rattle.spk_nums.specs.declared.kinds.Kind.TheVariants as kind
 use Rattle.spk_nums.specs.declared.replies.Value.TheVariants.{Nothing}
 use Rattle.spk_nums.specs.declared.replies.Reply.TheVariants as reply
@@ -15,7 +16,7 @@ gate_rule s c t b =
     Name c (only kind.Comp) λ comp.
     Name t (only kind.Table) λ table.
     Vacant (Under table b) λ at.
-    Does [] (fills s at (record { kind = kind.Gate; frame = comp.frame; arg = (comp_in (s.frame comp.frame)).epoch }))
+    Does [] (fills s at (cap_of kind.Gate comp.frame (comp_in (s.frame comp.frame)).epoch))
 
 -- Whether a liveness number is live in an epoch.
 abbrev pub is_live_in : Liveness → ℕ → Bool

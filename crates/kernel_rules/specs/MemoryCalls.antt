@@ -2,6 +2,7 @@
 use Rattle.std.specs.Prelude.{ℕ, Bool, true, false, not, ◌&&◌, ◌==◌, nat_lt, nat_le, if◌then◌else◌}
 use Rattle.std.specs.Prelude.{List, [], ◌∷◌, ◌++◌, length, Option, Some, None, is_some, find}
 use Rattle.std.specs.List.{list_any, range_with_len}
+use Rattle.spk_nums.specs.Capability.{cap_of}
 use Rattle.spk_nums.specs.declared.kinds.Kind.TheVariants as kind
 use Rattle.spk_nums.specs.declared.kinds.FrameKind.{FrameKind}
 use Rattle.spk_nums.specs.declared.kinds.FrameKind.TheVariants as frame_kind
@@ -96,7 +97,7 @@ map_rule s p v r f w =
     Name p (only kind.Pages) λ pages.
     Name r (only kind.Range) λ range.
     Vacant (Under pages v) λ at.
-    Does (outside range f ∷ not_user s f ∷ []) (fills s at (record { kind = kind.Page; frame = f; arg = w.0 }))
+    Does (outside range f ∷ not_user s f ∷ []) (fills s at (cap_of kind.Page f w.0))
 
 -- `unmap P V` names pages P; the mapping of its page V is removed.
 abbrev pub unmap_rule : State → ℕ → ℕ → Rule

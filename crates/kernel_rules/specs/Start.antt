@@ -1,6 +1,6 @@
 -- The start state, as a function of the setting.
 use Rattle.std.specs.Prelude.{ℕ, ◌+◌, ◌-◌, ◌*◌, false, ◌==◌, nat_lt, if◌then◌else◌, [], ◌∷◌, Option, Some, None, slice_get}
-use Rattle.spk_nums.specs.Capability.{Capability}
+use Rattle.spk_nums.specs.Capability.{Capability, cap_of}
 use Rattle.spk_nums.specs.Setting.{Setting}
 use Rattle.spk_nums.specs.declared.grants.Grant.{Grant}
 use Rattle.spk_nums.specs.declared.kinds.Kind.{Kind}
@@ -10,11 +10,11 @@ use Rattle.kernel_rules.specs.State.{Leaf, Pages, Comp, Thread, Tcap, Liveness, 
 
 -- A capability to a frame, without a number of its own.
 abbrev pub plain_cap : Kind → ℕ → Capability
-plain_cap k f = record { kind = k; frame = f; arg = 0 }
+plain_cap k f = cap_of k f 0
 
 -- The range of the frames that are untyped at the start.
 abbrev pub start_range : Setting → Capability
-start_range setting = record { kind = kind.Range; frame = 4 + 2 * setting.cores; arg = setting.frames - 4 - 2 * setting.cores }
+start_range setting = cap_of kind.Range (4 + 2 * setting.cores) (setting.frames - 4 - 2 * setting.cores)
 
 -- The capabilities that each core c is given: 4 + c to its thread, and 12 + c to its temporal capability.
 abbrev pub core_cap : Setting → ℕ → Option Capability

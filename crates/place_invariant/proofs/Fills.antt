@@ -2,7 +2,7 @@
 use Rattle.count_invariant.proofs.Common.{unlent_word, node_keeps_none, ◌≡◌, ◌≢◌, ◌⊎◌, inl, inr, not, ℕ, pos, length, ◌≤◌, ◌+◌, ◌^◌, ◌/◌}
 use Rattle.count_invariant.proofs.Common.{◌%◌, ◌<◌, ◌==◌, ◌&&◌, nat_le, if◌then◌else◌, ◌∷◌, [], Bool, true, false, List, Option, Some}
 use Rattle.count_invariant.proofs.Common.{None, arith, refl, sym, ◌∙◌, ap, subst, IsTrue, ◌+ℤ◌, max, option_to_list, eqb-true, eqb-false}
-use Rattle.count_invariant.proofs.Common.{eq-eqb, false≢true, Capability, Setting, IsSetting, Call, Copy, Remove, Shrink, Unmap, Retype}
+use Rattle.count_invariant.proofs.Common.{eq-eqb, false≢true, Capability, cap_of, Setting, IsSetting, Call, Copy, Remove, Shrink, Unmap, Retype}
 use Rattle.count_invariant.proofs.Common.{Tick, Gate, Kill, Grow, Flush, Map, Touch, Ret, Transfer, Delegate, Test, Switch, Kind, Entry}
 use Rattle.count_invariant.proofs.Common.{Held, EntryFits, word_of_entry, entry_of_word, Word, EntryAt, CountAt, Move, CompareOf, left_of}
 use Rattle.count_invariant.proofs.Common.{left_if, Place, comp_of, comp_in, Holds, Frame, Kernel, Table, Leaf, Pages, Pleaf, Thing}
@@ -421,14 +421,14 @@ cap_same k j is = cc
 
 -- A gate carries the epoch of its component, which the call has read.
 gate_is : (s : State) (c : ℕ) (comp q : Capability) (read : Option ℕ) → IsRead s c comp.frame read → gate_to (Some comp) read ≡ Some q
-    → record { kind = kind.Gate; frame = comp.frame; arg = (comp_in (s.frame comp.frame)).epoch } ≡ q
+    → cap_of kind.Gate comp.frame (comp_in (s.frame comp.frame)).epoch ≡ q
 gate_is s c comp q read has puts =
-    ap (λ (n : ℕ). record { kind = kind.Gate; frame = comp.frame; arg = n }) has.has_life.epoch
+    ap (λ (n : ℕ). cap_of kind.Gate comp.frame n) has.has_life.epoch
     ∙ by (nat_le 1 has.life.epoch) (ap (gate_to (Some comp)) (sym has.epoch) ∙ puts)
   where
     by : (some : Bool) → gate_if some comp.frame has.life.epoch ≡ Some q
-        → record { kind = kind.Gate; frame = comp.frame; arg = has.life.epoch } ≡ q
-    by true h = cap_same (record { kind = kind.Gate; frame = comp.frame; arg = has.life.epoch }) q h
+        → cap_of kind.Gate comp.frame has.life.epoch ≡ q
+    by true h = cap_same (cap_of kind.Gate comp.frame has.life.epoch) q h
     by false h = absurd (cc)
 
 -- A map has no cause against it, where the range has its frame, which is a user frame.
@@ -511,7 +511,7 @@ puts_by s c target q (Tick n) ks lead none next read has_read puts user = absurd
 puts_by s c target q (Gate n u b) (k ∷ j ∷ []) lead none next read has_read puts user =
     subst (λ (q : Capability). Puts s c (Gate n u b) (k ∷ j ∷ []) target q) (gate_is s c k q read has_read puts)
     (subst (λ p. Puts s c (Gate n u b) (k ∷ j ∷ []) p
-    (record { kind = kind.Gate; frame = k.frame; arg = (comp_in (s.frame k.frame)).epoch })) (target_in (Under (found j) b) target next)
+    (cap_of kind.Gate k.frame (comp_in (s.frame k.frame)).epoch)) (target_in (Under (found j) b) target next)
     (record {
       causes = [];
       calm = refl;

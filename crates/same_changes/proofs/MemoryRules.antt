@@ -3,7 +3,7 @@ use Rattle.std.proofs.Common.{◌≡◌, ℕ, ◌+◌, ◌<◌, ◌≤◌, ◌==
 use Rattle.std.proofs.Common.{nat_lt, if◌then◌else◌, zero, suc, List, [], ◌∷◌, length, Option, Some, None, is_some, IsTrue}
 use Rattle.std.specs.List.{list_any, range_with_len}
 use Rattle.std.proofs.lemmas.Bool.{false≢true, ltb-true}
-use Rattle.spk_nums.specs.Capability.{Capability}
+use Rattle.spk_nums.specs.Capability.{Capability, cap_of}
 use Rattle.spk_nums.specs.declared.kinds.Kind.TheVariants as kind
 use Rattle.spk_nums.specs.declared.kinds.FrameKind.{FrameKind}
 use Rattle.spk_nums.specs.declared.kinds.FrameKind.TheVariants as frame_kind
@@ -165,7 +165,7 @@ map_same {t} {s} w p v r f flags = (
         ((refl, λ on. refl), λ inside. ((frame_test w f (λ x. not (is_user x)), λ on. refl), λ calm. tt)),
         λ none. record {
           value = refl;
-          next = same_place t s at.node at.index (Holds (record { kind = kind.Page; frame = f; arg = flags.0 }))
+          next = same_place t s at.node at.index (Holds (cap_of kind.Page f flags.0))
               w.same;
           begins = refl;
         },

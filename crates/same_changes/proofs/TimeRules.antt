@@ -3,7 +3,7 @@ use Rattle.std.proofs.Common.{◌≡◌, ℕ, ◌+◌, ◌-◌, ◌<◌, ◌==�
 use Rattle.std.proofs.Common.{nat_le, nat_lt, List, [], ◌∷◌, length, take, drop, Option, Some, None, IsTrue}
 use Rattle.std.proofs.lemmas.Bool.{false≢true}
 use Rattle.spk_nums.specs.Merging.{merged}
-use Rattle.spk_nums.specs.Capability.{Capability}
+use Rattle.spk_nums.specs.Capability.{Capability, cap_of}
 use Rattle.spk_nums.specs.declared.kinds.Kind.{Kind}
 use Rattle.spk_nums.specs.declared.kinds.Kind.TheVariants as kind
 use Rattle.spk_nums.specs.declared.replies.Reply.TheVariants as reply
@@ -76,9 +76,8 @@ gate_same {t} {s} {o} {c} w k x b = (
           value = refl;
           next = same_then _ _ _
               (same_by _ _ (ap (λ (x : Frame). with_place t at.node at.index
-              (Holds (record { kind = kind.Gate; frame = comp.frame; arg = (comp_in x).epoch }))) (named_frame w k kind.Comp comp refl is)))
-              (same_place t s at.node at.index (Holds (record
-              { kind = kind.Gate; frame = comp.frame; arg = (comp_in (s.frame comp.frame)).epoch })) w.same);
+              (Holds (cap_of kind.Gate comp.frame (comp_in x).epoch))) (named_frame w k kind.Comp comp refl is)))
+              (same_place t s at.node at.index (Holds (cap_of kind.Gate comp.frame (comp_in (s.frame comp.frame)).epoch)) w.same);
           begins = refl;
         },
       ),

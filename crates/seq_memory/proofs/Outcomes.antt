@@ -1,6 +1,6 @@
 -- What a retype and a map come to, by what they found.
 use Rattle.std.proofs.Common.{◌≡◌, ℕ, ◌≤◌, refl, sym, ap, List, [], ◌∷◌, None, Some, length, slice_get, arith}
-use Rattle.spk_nums.specs.Capability.{Capability}
+use Rattle.spk_nums.specs.Capability.{Capability, cap_of}
 use Rattle.spk_nums.specs.declared.kinds.Kind.TheVariants as kind
 use Rattle.spk_nums.specs.declared.kinds.FrameKind.{FrameKind}
 use Rattle.spk_nums.specs.declared.kinds.PageFlags.{PageFlags}
@@ -48,7 +48,7 @@ map_refused s c p v r f w pages range at q h e =
 pub map_found : (s : State) (c p v r f : ℕ) (w : PageFlags) (pages range : Capability) (at : Slot) (g : ℕ)
     → Reached s c p v r pages range at
     → Found g ≡ unless (first_cause s c (user_causes s range f)) f
-    → outcome s c (map_rule s p v r f w) ≡ Found (fills s at (record { kind = kind.Page; frame = f; arg = w.0 }))
+    → outcome s c (map_rule s p v r f w) ≡ Found (fills s at (cap_of kind.Page f w.0))
 map_found s c p v r f w pages range at g h e =
     rw (← h.has_pages, ← h.has_range, ← h.has_place, ← unless_calm (first_cause s c (user_causes s range f)) f g e)
 

@@ -1,6 +1,7 @@
 //! Gates, killing, calling and returning.
 
 ghost use Rattle.std.specs.Prelude.{◌≡◌, ◌<◌, ◌≤◌, ◌∷◌, [], length};
+ghost use Rattle.spk_nums.specs.Capability.{cap_of};
 ghost use Rattle.kernel_rules.specs.State.{comp_in, FrameOf, NumberOf, Dead, with_number};
 ghost use Rattle.kernel_rules.specs.GracePeriods.{begun};
 ghost use Rattle.kernel_rules.specs.InvocationCalls.{is_live_in, with_thread, with_stack};
@@ -41,7 +42,7 @@ fn is_live_in(number: &Liveness, epoch: u32) -> bool
 /// A gate to the component of a frame, in the component's epoch; in epoch 1 where the frame has none.
 fn gate_to(k: &SeqKernel, frame: FrameNo) -> Cap
     ensures { 1 ≤ (comp_in ((state_of k.now).frame frame)).epoch
-        → result ≡ record { kind = kinds.Gate; frame = frame; arg = (comp_in ((state_of k.now).frame frame)).epoch } }
+        → result ≡ cap_of kinds.Gate frame (comp_in ((state_of k.now).frame frame)).epoch }
 {
     let epoch = comp_at(k, frame).epoch.max(1);
     Cap::new(Kind::Gate, frame, u32::from(epoch))

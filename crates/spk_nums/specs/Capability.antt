@@ -6,3 +6,7 @@ pub record Capability : Type 0 where
   pub kind : Kind
   pub frame : ℕ
   pub arg : ℕ
+
+-- the capability of this kind, on this frame, with this number
+abbrev pub cap_of : Kind → ℕ → ℕ → Capability
+cap_of kind frame arg = record { kind = kind; frame = frame; arg = arg }

@@ -1,6 +1,7 @@
 //! Capabilities.
 
 ghost use Rattle.std.specs.Prelude.{◌≡◌, ◌<◌, ◌≤◌};
+ghost use Rattle.spk_nums.specs.Capability.{cap_of};
 ghost use Rattle.spk_nums.specs.Limits.{least_arg, end_of_arg};
 
 use crate::kinds::Kind;
@@ -38,7 +39,7 @@ impl Cap {
     pub fn new(kind: Kind, frame: FrameNo, arg: u32) -> Cap
         requires least { least_arg kind ≤ arg }
         requires end { arg < end_of_arg kind }
-        ensures { result ≡ record { kind = kind; frame = frame; arg = arg } }
+        ensures { result ≡ cap_of kind frame arg }
     {
         Cap { kind, frame, arg }
     }

@@ -3,7 +3,7 @@ use Rattle.std.proofs.Common.{◌≡◌, ◌≢◌, ◌⊎◌, inl, inr, ℕ, �
 use Rattle.std.proofs.Common.{subst, cond, ◌==◌, nat_lt, if◌then◌else◌, IsTrue, List, [], ◌∷◌, Option, Some, None, is_some}
 use Rattle.std.proofs.lemmas.Bool.{cases_eq, false≢true}
 use Rattle.spk_nums.specs.Setting.{Setting, IsSetting}
-use Rattle.spk_nums.specs.Capability.{Capability}
+use Rattle.spk_nums.specs.Capability.{Capability, cap_of}
 use Rattle.spk_nums.specs.declared.kinds.Kind.{Kind}
 use Rattle.spk_nums.specs.declared.kinds.Kind.TheVariants as kind
 use Rattle.spk_nums.specs.declared.kinds.FrameKind.{FrameKind}
@@ -156,7 +156,7 @@ module _ (s : State) (o : ℕ → Bool) (c : ℕ) (h : IsOpen s o c) (w : AreGat
   rule_gates (Retype r f k) = retype_gates r f k
   rule_gates (make_call what r f t b) = make_gates what r f t b
   rule_gates (Map p v r f w) = λ pages e range g at u calm.
-      other s s _ at (record { kind = kind.Page; frame = f; arg = w.0 }) (λ f i j e. e) (λ f i. refl) refl
+      other s s _ at (cap_of kind.Page f w.0) (λ f i j e. e) (λ f i. refl) refl
   rule_gates (Unmap p v) = λ pages e at k g calm. removed s at k
   rule_gates (Touch v) = touch_gates (comp_of s c).pages v (translation_of (s.core c).cached (comp_of s c).pages v)
   rule_gates Flush = λ calm. stays s _ (λ f i. refl)

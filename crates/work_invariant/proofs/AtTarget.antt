@@ -2,7 +2,7 @@
 -- frame is out of range.
 use Rattle.comp_invariant.proofs.Common.{IsSome, ◌≡◌, inl, ℕ, ◌<◌, ◌&&◌, nat_lt, Bool, true, false, List, [], ◌∷◌, Option, Some, refl}
 use Rattle.comp_invariant.proofs.Common.{sym, ◌∙◌, ap, subst, IsTrue, arith, if◌then◌else◌, None, ◌≤◌, inr, lt-ltb, le-leb, false≢true}
-use Rattle.comp_invariant.proofs.Common.{Capability, Setting, IsSetting, Kind, Call, Copy, Remove, Shrink, Unmap, Retype, Tick, Gate}
+use Rattle.comp_invariant.proofs.Common.{Capability, cap_of, Setting, IsSetting, Kind, Call, Copy, Remove, Shrink, Unmap, Retype, Tick, Gate}
 use Rattle.comp_invariant.proofs.Common.{Kill, Grow, Flush, Map, Touch, Ret, Transfer, Delegate, Test, Switch, Make, InLimits, PageFlags}
 use Rattle.comp_invariant.proofs.Common.{EntryFits, entry_of_word, State, found, only, named, has_frame, only_is, opened, events_of}
 use Rattle.comp_invariant.proofs.Common.{IsLegal, Trace, Out, Open, phase, state_after, WasAt, sound_of, opened_is, quiet_scan, First}
@@ -243,7 +243,7 @@ record GateOf (comp : Capability) (read : Option ℕ) : Type 0 where
 gate_of : (s : State) (c : ℕ) (comp : Capability) (read : Option ℕ) → IsRead s c comp.frame read → EntryFits (entry.Held comp)
     → GateOf comp read
 gate_of s c comp read has fits = record {
-  cap = record { kind = kind.Gate; frame = comp.frame; arg = has.life.epoch };
+  cap = cap_of kind.Gate comp.frame has.life.epoch;
   is = ap (gate_to (Some comp)) has.epoch ∙ ap (λ b. gate_if b comp.frame has.life.epoch) (le-leb 1 has.life.epoch has.fits.1);
   fits = (fits.0, has.fits.1, has.fits.2);
 }

@@ -1,6 +1,6 @@
 -- Steps by a step function of an act: its operation, and what it takes from the word that it finds.
 use Rattle.std.specs.Prelude.{ℕ, ◌∷◌, Option, Some, None}
-use Rattle.spk_nums.specs.Capability.{Capability}
+use Rattle.spk_nums.specs.Capability.{Capability, cap_of}
 use Rattle.spk_nums.specs.declared.kinds.Kind.TheVariants as kind
 use Rattle.spk_nums.specs.declared.calls.Call.TheVariants.{Copy}
 use Rattle.spk_nums.specs.declared.replies.Reply.{Reply}
@@ -34,7 +34,7 @@ acts c m took t = record {
 
 -- The range, which place 0 of the leaf holds.
 abbrev pub range : Capability
-range = record { kind = kind.Range; frame = 8; arg = 24 }
+range = cap_of kind.Range 8 24
 
 -- Place 20 of the leaf was found free, and is to hold the range.
 abbrev pub fill : Fill

@@ -1,5 +1,6 @@
 -- A wrong call through a gate looks at its component's liveness before it acquires a count, and not after.
 use Rattle.std.specs.Prelude.{[], Option, Some, None}
+use Rattle.spk_nums.specs.Capability.{cap_of}
 use Rattle.spk_nums.specs.declared.kinds.Kind.TheVariants as kind
 use Rattle.spk_nums.specs.declared.calls.Call.TheVariants.{Call, Gate, Kill}
 use Rattle.spk_nums.specs.declared.replies.Value.TheVariants.{Nothing as nothing}
@@ -24,7 +25,7 @@ use Rattle.wrong_steps.specs.Acts.{acts}
 -- Core 0 has a gate to the component of frame 3 in place 20.
 unfoldable pub gated : Trace
 gated =
-    decides 0 (CompareOf (EntryAt 1 20) 0 (word_of_entry (Held (record { kind = kind.Gate; frame = 3; arg = 1 })))) done
+    decides 0 (CompareOf (EntryAt 1 20) 0 (word_of_entry (Held (cap_of kind.Gate 3 1)))) done
     (loads 0 1 20 (loads 0 3 2 (loads 0 1 1 (loads 0 1 3 (loads 0 0 0 (enters 0 (Gate 3 1 20) []))))))
 
 -- It calls the gate, finds its liveness number live, and goes on to its count of the frame.

@@ -1,5 +1,6 @@
 -- A wrong return keeps the reference to the component that it leaves.
 use Rattle.std.specs.Prelude.{◌≡◌, ℕ, ℤ, [], pos, None}
+use Rattle.spk_nums.specs.Capability.{cap_of}
 use Rattle.spk_nums.specs.declared.kinds.Kind.TheVariants as kind
 use Rattle.spk_nums.specs.declared.calls.Call.TheVariants.{Call, Gate, Ret}
 use Rattle.entry_words.specs.EntryWord.{word_of_entry}
@@ -24,7 +25,7 @@ commits n change t = goes 0 (settle_move (record { pin = pinned_at 3 0 (pos n) 0
 -- Core 0 puts a gate to the component of frame 3 into place 20. There are 4 references to the frame, and then 5.
 unfoldable pub gate_step : Trace
 gate_step =
-    decides 0 (CompareOf (EntryAt 1 20) 0 (word_of_entry (Held (record { kind = kind.Gate; frame = 3; arg = 1 })))) done
+    decides 0 (CompareOf (EntryAt 1 20) 0 (word_of_entry (Held (cap_of kind.Gate 3 1)))) done
     (acquires 4 (loads 0 1 20 (loads 0 1 1 (loads 0 1 3 (loads 0 0 0 (enters 0 (Gate 3 1 20) []))))))
 
 -- It calls through the gate, whose component is entered once more: 6 references.

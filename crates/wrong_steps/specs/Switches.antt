@@ -1,5 +1,6 @@
 -- A wrong switch stores the thread that it leaves with the depth of the one with which it goes on.
 use Rattle.std.specs.Prelude.{◌≡◌, ℕ, Some}
+use Rattle.spk_nums.specs.Capability.{cap_of}
 use Rattle.spk_nums.specs.declared.kinds.FrameKind.TheVariants as frame_kind
 use Rattle.spk_nums.specs.declared.kinds.Kind.TheVariants as kind
 use Rattle.spk_nums.specs.declared.calls.Make.TheVariants as make
@@ -51,7 +52,7 @@ abbrev pub new_thread : NewObject
 new_thread = Thread 3
 
 abbrev pub place : Fill
-place = record { node = 1; entry = 21; word = 0; cap = record { kind = kind.Thread; frame = 8; arg = 0 } }
+place = record { node = 1; entry = 21; word = 0; cap = cap_of kind.Thread 8 0 }
 
 unfoldable pub marked : Trace
 marked =

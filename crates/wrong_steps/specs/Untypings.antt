@@ -1,5 +1,6 @@
 -- A wrong retype to untyped skips the flush word of a core.
 use Rattle.std.specs.Prelude.{◌≡◌, ◌+◌, ℕ, [], nat_lt, if◌then◌else◌, true, Option, Some, None}
+use Rattle.spk_nums.specs.Capability.{cap_of}
 use Rattle.spk_nums.specs.declared.kinds.Kind.TheVariants as kind
 use Rattle.spk_nums.specs.declared.kinds.FrameKind.TheVariants as frame_kind
 use Rattle.spk_nums.specs.declared.calls.Make.TheVariants as make
@@ -26,7 +27,7 @@ typed = decides 0 (CompareOf (FrameAt 8) 0 2) done (loads 0 1 0 (loads 0 0 0 (en
 
 unfoldable pub made : Trace
 made =
-    decides 0 (CompareOf (EntryAt 1 20) 0 (word_of_entry (Held (record { kind = kind.Pages; frame = 8; arg = 0 })))) done
+    decides 0 (CompareOf (EntryAt 1 20) 0 (word_of_entry (Held (cap_of kind.Pages 8 0)))) done
     (loads 0 1 20 (loads 0 1 1 (loads 0 1 0 (loads 0 0 0 (enters 0 (make_call make.Pages 0 8 1 20) (returns 0 done typed))))))
 
 -- removes them, at the time 1,

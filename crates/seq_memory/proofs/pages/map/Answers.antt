@@ -1,6 +1,6 @@
 use Rattle.std.proofs.Common.{◌≡◌, refl, ◌∙◌, ap, subst, arith}
 use Rattle.std.proofs.lemmas.Grind.{common_steps}
-use Rattle.spk_nums.specs.Capability.{Capability}
+use Rattle.spk_nums.specs.Capability.{Capability, cap_of}
 use Rattle.spk_nums.specs.declared.kinds.Kind.TheVariants as kind
 use Rattle.kernel_rules.specs.Rules.{Found, vacant, first_cause, fills}
 use Rattle.kernel_rules.specs.CallRelation.{changed}
@@ -40,9 +40,9 @@ returns c = λ ends.
       has_place = c.in_ok-at.ensures ∙ ap (λ x. vacant (state_of c.args.k.now) c.args.core (target_of x)) c.in_pages.ensures;
     })
     e in
-    let page_is : c.new-page.result ≡ record { kind = kind.Page; frame = c.args.f; arg = c.args.w.0 } =
-    c.new-page.ensures ∙ (λ i. record { kind = kind.Page; frame = frame_is i; arg = (c.from.ensures ∙ c.number.ensures) i }) in
+    let page_is : c.new-page.result ≡ cap_of kind.Page c.args.f c.args.w.0 =
+    c.new-page.ensures ∙ (λ i. cap_of kind.Page (frame_is i) ((c.from.ensures ∙ c.number.ensures) i)) in
     carried (state_of c.args.k.now) _ (fills (state_of c.args.k.now) c.in_ok-at.at
-    (record { kind = kind.Page; frame = c.args.f; arg = c.args.w.0 })) _ c.fill.new.k o refl
+    (cap_of kind.Page c.args.f c.args.w.0)) _ c.fill.new.k o refl
     (subst (λ (k : Capability). Represents c.fill.new.k
     (changed (state_of c.args.k.now) (Found (fills (state_of c.args.k.now) c.in_ok-at.at k)))) page_is c.fill.ensures)
