@@ -23,7 +23,7 @@ bound_of_make _ n = 79 + n
 -- the most own steps of a call on a machine of n cores, entry and exit counted
 abbrev pub bound_of : Call → ℕ → ℕ
 bound_of (Look a) n = 5
-bound_of (Copy a t b) n = 12 + n
+bound_of (Copy a t b rights) n = 12 + n
 bound_of (Remove t b) n = 13
 bound_of (Grow t i l) n = 11 + 2 * n
 bound_of (Shrink t i) n = 12

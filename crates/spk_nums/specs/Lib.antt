@@ -10,6 +10,7 @@ pub mod Marks
 pub mod Merging
 pub mod Names
 pub mod Qualities
+pub mod Rights
 pub mod Setting
 pub mod SetupFaults
 pub mod Spelling

@@ -11,7 +11,7 @@ use Rattle.spk_nums.specs.declared.replies.Reply.{Reply}
 use Rattle.spk_nums.specs.declared.replies.Reply.TheVariants.{Ok as ok_reply, NoSlot, Empty, WrongCap, Occupied, Quiescing}
 use Rattle.spk_nums.specs.declared.replies.Reply.TheVariants.{Unflushed, FrameKind as wrong_frame, OutOfRange, Referenced}
 use Rattle.spk_nums.specs.declared.replies.Reply.TheVariants.{NotEmpty, Dead, Deep, Bottom, Running, Short, Unlike}
-use Rattle.spk_nums.specs.declared.replies.Reply.TheVariants.{TooMany, Same, EpochsSpent, Raced, Busy, Fault, CallsSpent}
+use Rattle.spk_nums.specs.declared.replies.Reply.TheVariants.{TooMany, Same, EpochsSpent, Raced, Busy, Fault, CallsSpent, NoRight}
 
 -- the word of a kind of entry
 abbrev pub kind_word : Kind → List ℕ
@@ -36,7 +36,7 @@ frame_kind_word frame_kind.Kernel = codes "kernel"
 -- the word of a call
 abbrev pub call_word : Call → List ℕ
 call_word (Look a) = codes "look"
-call_word (Copy a t b) = codes "copy"
+call_word (Copy a t b rights) = codes "copy"
 call_word (Remove t b) = codes "remove"
 call_word (Grow t i l) = codes "grow"
 call_word (Shrink t i) = codes "shrink"
@@ -82,6 +82,7 @@ reply_word Raced = codes "raced"
 reply_word (Busy d) = codes "busy"
 reply_word Fault = codes "fault"
 reply_word CallsSpent = codes "calls-spent"
+reply_word NoRight = codes "no-right"
 
 -- the number of a reply, from 0
 abbrev pub reply_code : Reply → ℕ
@@ -109,3 +110,4 @@ reply_code Raced = 20
 reply_code (Busy d) = 21
 reply_code Fault = 22
 reply_code CallsSpent = 23
+reply_code NoRight = 24

@@ -1,4 +1,4 @@
-use Rattle.std.specs.Prelude.{ℕ, List, [], ◌∷◌, ◌++◌, codes, decimal}
+use Rattle.std.specs.Prelude.{ℕ, ◌==◌, if◌then◌else◌, List, [], ◌∷◌, ◌++◌, codes, decimal}
 use Rattle.spk_nums.specs.Capability.{Capability}
 use Rattle.spk_nums.specs.Names.{kind_word, frame_kind_word}
 use Rattle.spk_nums.specs.declared.kinds.Kind.{Kind}
@@ -15,10 +15,10 @@ use Rattle.spk_nums.specs.declared.replies.Reply.{Reply}
 use Rattle.spk_nums.specs.declared.replies.Reply.TheVariants.{Ok as ok_reply, NoSlot, Empty, WrongCap, Occupied, Quiescing}
 use Rattle.spk_nums.specs.declared.replies.Reply.TheVariants.{Unflushed, FrameKind as wrong_frame, OutOfRange, Referenced}
 use Rattle.spk_nums.specs.declared.replies.Reply.TheVariants.{NotEmpty, Dead, Deep, Bottom, Running, Short, Unlike}
-use Rattle.spk_nums.specs.declared.replies.Reply.TheVariants.{TooMany, Same, EpochsSpent, Raced, Busy, Fault, CallsSpent}
+use Rattle.spk_nums.specs.declared.replies.Reply.TheVariants.{TooMany, Same, EpochsSpent, Raced, Busy, Fault, CallsSpent, NoRight}
 use Rattle.spk_nums.specs.declared.replies.Decision.{Decision}
 
--- a word, and after it one, two, three or five numbers, each after a space
+-- a word, and after it one, two, three, four or five numbers, each after a space
 abbrev pub with_one : List ℕ → ℕ → List ℕ
 with_one word a = word ++ codes " " ++ decimal a
 
@@ -27,6 +27,10 @@ with_two word a b = word ++ codes " " ++ decimal a ++ codes " " ++ decimal b
 
 abbrev pub with_three : List ℕ → ℕ → ℕ → ℕ → List ℕ
 with_three word a b c = word ++ codes " " ++ decimal a ++ codes " " ++ decimal b ++ codes " " ++ decimal c
+
+abbrev pub with_four : List ℕ → ℕ → ℕ → ℕ → ℕ → List ℕ
+with_four word a b c d = word ++ codes " " ++ decimal a ++ codes " " ++ decimal b
+    ++ codes " " ++ decimal c ++ codes " " ++ decimal d
 
 abbrev pub with_five : List ℕ → ℕ → ℕ → ℕ → ℕ → ℕ → List ℕ
 with_five word a b c d e = word ++ codes " " ++ decimal a ++ codes " " ++ decimal b
@@ -39,9 +43,13 @@ cap_text_by gate_kind frame arg = with_two (codes "gate") frame arg
 cap_text_by page_kind frame arg = with_two (codes "page") frame arg
 cap_text_by kind frame arg = with_one (kind_word kind) frame
 
--- a capability
+-- a capability that lacks a right: after it, its rights
+abbrev pub cap_rights_text : Capability → List ℕ
+cap_rights_text c = cap_text_by c.kind c.frame c.arg ++ codes " rights " ++ decimal c.rights
+
+-- a capability; its rights are written where it lacks one
 abbrev pub cap_text : Capability → List ℕ
-cap_text c = cap_text_by c.kind c.frame c.arg
+cap_text c = if c.rights == 3 then cap_text_by c.kind c.frame c.arg else cap_rights_text c
 
 -- where a make puts its object: range, frame, table and slot
 abbrev pub site_text : ℕ → ℕ → ℕ → ℕ → List ℕ
@@ -62,10 +70,14 @@ make_text (make.Tcap sched quality) r f t b =
     codes "make tcap " ++ site_text r f t b ++ codes " " ++ decimal sched ++ codes " " ++ decimal quality
 make_text (make.Comp table pages live) r f t b = codes "make comp " ++ site_text r f t b ++ codes " " ++ basis_text table pages live
 
+-- a copy: its three numbers, and the rights where they are not both
+abbrev pub copy_text : ℕ → ℕ → ℕ → ℕ → List ℕ
+copy_text a t b rights = if rights == 3 then with_three (codes "copy") a t b else with_four (codes "copy") a t b rights
+
 -- a call as it is written: its word, then its arguments
 abbrev pub call_text : Call → List ℕ
 call_text (Look a) = with_one (codes "look") a
-call_text (Copy a t b) = with_three (codes "copy") a t b
+call_text (Copy a t b rights) = copy_text a t b rights.0
 call_text (Remove t b) = with_two (codes "remove") t b
 call_text (Grow t i l) = with_three (codes "grow") t i l
 call_text (Shrink t i) = with_two (codes "shrink") t i
@@ -120,6 +132,7 @@ reply_text Raced = codes "raced"
 reply_text (Busy d) = with_one (codes "busy") d
 reply_text Fault = codes "fault"
 reply_text CallsSpent = codes "calls-spent"
+reply_text NoRight = codes "no-right"
 
 -- a reply line: the core, the call's index, the call and the reply
 abbrev pub reply_line_text : ℕ → ℕ → Call → Reply → List ℕ

@@ -2,6 +2,7 @@
 
 use crate::kinds::{FrameKind, PageFlags};
 use crate::numbers::{CapId, EntryNo, FrameArg, PageNo};
+use crate::rights::Rights;
 
 /// The object that a `make` puts into a blank frame.
 #[derive(Clone, Copy, PartialEq, Eq, Debug)]
@@ -38,11 +39,12 @@ pub enum Call {
     Look {
         a: CapId,
     },
-    /// Puts the capability `a` into the entry `b` of the table `t`.
+    /// Puts the capability `a`, with those of its rights that are in `rights`, into the entry `b` of the table `t`.
     Copy {
         a: CapId,
         t: CapId,
         b: CapId,
+        rights: Rights,
     },
     /// Removes the entry `b` of the table `t`.
     Remove {

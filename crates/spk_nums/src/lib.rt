@@ -16,6 +16,7 @@ mod names;
 mod numbers;
 mod qualities;
 mod replies;
+mod rights;
 mod setup;
 mod setup_fault;
 mod steps;
@@ -35,6 +36,7 @@ pub use names::{call_name, frame_kind_name, kind_name, reply_name, reply_number}
 pub use numbers::{CapId, CoreNo, EntryNo, FrameArg, FrameNo, PageNo, Stamp};
 pub use qualities::Qualities;
 pub use replies::{Decision, Reply, Value};
+pub use rights::Rights;
 pub use setup::Setup;
 pub use setup_fault::SetupFault;
 pub use steps::{How, Item, StageEnd, WordOp};

@@ -5,12 +5,18 @@ ghost use Rattle.spk_nums.specs.CallLimits.{InLimits, MakeInLimits};
 
 use crate::calls::{Call, Make};
 
-/// Whether a call's arguments are in range: at most 1,000,000 ticks, flags up to 3, schedulers and liveness numbers
+/// Whether a call's arguments are in range: at most 1,000,000 ticks, rights and flags up to 3, schedulers and liveness numbers
 /// below 64, qualities from 1 to 16,777,215. The other arguments may be any number of their types.
 pub fn in_limits(call: &Call) -> bool
     ensures { IsTrue result ↔ InLimits call.now }
 {
     match call {
+        Call::Copy {
+            a: _,
+            t: _,
+            b: _,
+            rights,
+        } => rights.number() < 4,
         Call::Make {
             what,
             range: _,

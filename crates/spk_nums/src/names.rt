@@ -43,7 +43,12 @@ pub fn call_name(call: &Call) -> &'static str
 {
     match call {
         Call::Look { a: _ } => "look",
-        Call::Copy { a: _, t: _, b: _ } => "copy",
+        Call::Copy {
+            a: _,
+            t: _,
+            b: _,
+            rights: _,
+        } => "copy",
         Call::Remove { t: _, b: _ } => "remove",
         Call::Grow { t: _, i: _, l: _ } => "grow",
         Call::Shrink { t: _, i: _ } => "shrink",
@@ -106,10 +111,11 @@ pub fn reply_name(reply: &Reply) -> &'static str
         Reply::Busy(_) => "busy",
         Reply::Fault => "fault",
         Reply::CallsSpent => "calls-spent",
+        Reply::NoRight => "no-right",
     }
 }
 
-/// The number of a reply, 0 to 23.
+/// The number of a reply, 0 to 24.
 pub fn reply_number(reply: &Reply) -> u8
     ensures { result ≡ reply_code reply.now }
 {
@@ -138,5 +144,6 @@ pub fn reply_number(reply: &Reply) -> u8
         Reply::Busy(_) => 21,
         Reply::Fault => 22,
         Reply::CallsSpent => 23,
+        Reply::NoRight => 24,
     }
 }

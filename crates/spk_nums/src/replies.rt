@@ -72,6 +72,8 @@ pub enum Reply {
     Fault,
     /// The core has made as many calls as it may.
     CallsSpent,
+    /// The capability is of the kind that the call needs, but lacks the right that its name needs.
+    NoRight,
 }
 
 /// A call that has been decided: its core, its index among the core's calls, from 1, and its reply.

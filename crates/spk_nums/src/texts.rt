@@ -3,7 +3,7 @@
 ghost use Rattle.std.specs.Prelude.{Some, decimal};
 ghost use Rattle.spk_nums.specs.Texts.{call_text, cap_text, decision_text, reply_line_text};
 ghost use Rattle.spk_nums.specs.Names.{kind_word, frame_kind_word};
-ghost use Rattle.spk_nums.specs.Texts.{reply_text, basis_text, make_text, ok_text, site_text};
+ghost use Rattle.spk_nums.specs.Texts.{reply_text, basis_text, cap_text_by, copy_text, make_text, ok_text, site_text};
 
 use crate::calls::{Call, Make};
 use crate::cap::Cap;
@@ -11,6 +11,7 @@ use crate::kinds::{FrameKind, Kind};
 use crate::names::{frame_kind_name, kind_name};
 use crate::numbers::{CapId, CoreNo, EntryNo, FrameArg, FrameNo, PageNo, Stamp};
 use crate::replies::{Decision, Reply, Value};
+use crate::rights::Rights;
 use std::fmt;
 
 impl fmt::Display for CoreNo {
@@ -96,9 +97,35 @@ impl fmt::Display for Cap {
     ghost output = { λ c. Some (cap_text c) };
 
     fn fmt<W: fmt::Write>(&self, f: &mut fmt::Formatter<W>) -> fmt::Result {
-        let frame = self.frame();
-        let arg = self.arg();
-        match self.kind() {
+        let rights = self.rights().number();
+        let named = Named {
+            kind: self.kind(),
+            frame: self.frame(),
+            arg: self.arg(),
+        };
+        if rights == 3 {
+            write!(f, "{named}")
+        } else {
+            write!(f, "{named} rights {rights}")
+        }
+    }
+}
+
+/// What a capability names, to be printed before its rights.
+#[derive(Clone, Copy)]
+struct Named {
+    kind: Kind,
+    frame: FrameNo,
+    arg: u32,
+}
+
+impl fmt::Display for Named {
+    ghost output = { λ n. Some (cap_text_by n.kind n.frame n.arg) };
+
+    fn fmt<W: fmt::Write>(&self, f: &mut fmt::Formatter<W>) -> fmt::Result {
+        let frame = self.frame;
+        let arg = self.arg;
+        match self.kind {
             Kind::Range => write!(f, "range {frame} {arg}"),
             Kind::Gate => write!(f, "gate {frame} {arg}"),
             Kind::Page => write!(f, "page {frame} {arg}"),
@@ -116,7 +143,15 @@ impl fmt::Display for Call {
     fn fmt<W: fmt::Write>(&self, f: &mut fmt::Formatter<W>) -> fmt::Result {
         match self {
             Call::Look { a } => write!(f, "look {a}"),
-            Call::Copy { a, t, b } => write!(f, "copy {a} {t} {b}"),
+            Call::Copy { a, t, b, rights } => {
+                let copied = Copying {
+                    a: *a,
+                    t: *t,
+                    b: *b,
+                    rights: *rights,
+                };
+                write!(f, "{copied}")
+            }
             Call::Remove { t, b } => write!(f, "remove {t} {b}"),
             Call::Grow { t, i, l } => write!(f, "grow {t} {i} {l}"),
             Call::Shrink { t, i } => write!(f, "shrink {t} {i}"),
@@ -164,6 +199,31 @@ impl fmt::Display for Call {
             Call::Transfer { a, b, m } => write!(f, "transfer {a} {b} {m}"),
             Call::Delegate { a, b, m } => write!(f, "delegate {a} {b} {m}"),
             Call::Test { a, b } => write!(f, "test {a} {b}"),
+        }
+    }
+}
+
+/// A copy with its arguments, to be printed: the rights where they are not both.
+#[derive(Clone, Copy)]
+struct Copying {
+    a: CapId,
+    t: CapId,
+    b: CapId,
+    rights: Rights,
+}
+
+impl fmt::Display for Copying {
+    ghost output = { λ c. Some (copy_text c.a c.t c.b c.rights.0) };
+
+    fn fmt<W: fmt::Write>(&self, f: &mut fmt::Formatter<W>) -> fmt::Result {
+        let a = self.a;
+        let t = self.t;
+        let b = self.b;
+        let rights = self.rights.number();
+        if rights == 3 {
+            write!(f, "copy {a} {t} {b}")
+        } else {
+            write!(f, "copy {a} {t} {b} {rights}")
         }
     }
 }
@@ -271,6 +331,7 @@ impl fmt::Display for Reply {
             Reply::Raced => write!(f, "raced"),
             Reply::Fault => write!(f, "fault"),
             Reply::CallsSpent => write!(f, "calls-spent"),
+            Reply::NoRight => write!(f, "no-right"),
         }
     }
 }
