@@ -1,41 +1,69 @@
 -- One spelling for each entry.
-use Rattle.std.proofs.Common.{◌≡◌, ◌≢◌, ℕ, ◌+◌, ◌*◌, ◌/◌, ◌%◌, ◌^◌, ◌<◌, ◌≤◌, ◌==◌, ◌&&◌}
+use Rattle.std.proofs.Common.{◌≡◌, ◌≢◌, ℕ, ◌+◌, ◌-◌, ◌*◌, ◌/◌, ◌%◌, ◌^◌, ◌<◌, ◌≤◌, ◌==◌, ◌&&◌}
 use Rattle.std.proofs.Common.{nat_lt, nat_le, Option, Some, None, IfSome, refl, subst, arith}
 use Rattle.std.proofs.lemmas.Bool.{ne_eqb, lt-ltb, le-leb, and_parts, ltb-true, leb-true, eqb-true}
 use Rattle.std.proofs.lemmas.Bool.Decides.{nat_tests}
 use Rattle.spk_nums.proofs.Choices.{kept, chosen}
+use Rattle.spk_nums.proofs.KeptRights.{kept_above, kept_below}
 use Rattle.spk_nums.proofs.OneSpelling.{spelling_reads, spelling_spells}
-use Rattle.spk_nums.specs.Capability.{cap_of}
+use Rattle.spk_nums.specs.Capability.{Capability}
 use Rattle.spk_nums.specs.Limits.{least_arg, end_of_arg}
+use Rattle.spk_nums.specs.Rights.{least_rights, kept as kept_cap}
 use Rattle.spk_nums.specs.Spelling.{IsOneSpelling}
 use Rattle.spk_nums.specs.declared.kinds.Kind.{Kind}
 use Rattle.spk_nums.specs.declared.kinds.Kind.TheVariants.{Range, Table, Leaf, Pages, Pleaf, Comp, Gate, Thread, Tcap, Link, Page}
-use Rattle.entry_words.specs.Kinds.{number_of_kind, kind_of_number}
+use Rattle.entry_words.specs.Kinds.{number_of_kind, kind_of_number, most_withheld}
 use Rattle.entry_words.specs.EntryWord.{EntryFits, word_of_entry, entry_of_word, held_of, closing_of, quiescing_of}
 use Rattle.entry_words.specs.declared.entry.Entry.{Entry}
 use Rattle.entry_words.specs.declared.entry.Entry.TheVariants.{Free, Held, Closing, Quiescing}
 
--- a kind has a number below 16 and is found again from it; its capabilities' numbers are below 2 ^ 24
+-- a kind has a number below 16 and is found again from it; its capabilities' numbers are below 2 ^ 24; the rights that it may withhold
+-- are those that it need not have
 record IsNumbered (k : Kind) : Type 0 where
   below : number_of_kind k < 16
   back : kind_of_number (number_of_kind k) ≡ Some k
   arg : end_of_arg k ≤ 2 ^ 24
+  withheld : most_withheld k + least_rights k ≡ 3
 
 numbered : (k : Kind) → IsNumbered k
-numbered Range = record { below = omega arith; back = refl; arg = omega arith }
-numbered Table = record { below = omega arith; back = refl; arg = omega arith }
-numbered Leaf = record { below = omega arith; back = refl; arg = omega arith }
-numbered Pages = record { below = omega arith; back = refl; arg = omega arith }
-numbered Pleaf = record { below = omega arith; back = refl; arg = omega arith }
-numbered Comp = record { below = omega arith; back = refl; arg = omega arith }
-numbered Gate = record { below = omega arith; back = refl; arg = omega arith }
-numbered Thread = record { below = omega arith; back = refl; arg = omega arith }
-numbered Tcap = record { below = omega arith; back = refl; arg = omega arith }
-numbered Link = record { below = omega arith; back = refl; arg = omega arith }
-numbered Page = record { below = omega arith; back = refl; arg = omega arith }
+numbered Range = record { below = omega arith; back = refl; arg = omega arith; withheld = refl }
+numbered Table = record { below = omega arith; back = refl; arg = omega arith; withheld = refl }
+numbered Leaf = record { below = omega arith; back = refl; arg = omega arith; withheld = refl }
+numbered Pages = record { below = omega arith; back = refl; arg = omega arith; withheld = refl }
+numbered Pleaf = record { below = omega arith; back = refl; arg = omega arith; withheld = refl }
+numbered Comp = record { below = omega arith; back = refl; arg = omega arith; withheld = refl }
+numbered Gate = record { below = omega arith; back = refl; arg = omega arith; withheld = refl }
+numbered Thread = record { below = omega arith; back = refl; arg = omega arith; withheld = refl }
+numbered Tcap = record { below = omega arith; back = refl; arg = omega arith; withheld = refl }
+numbered Link = record { below = omega arith; back = refl; arg = omega arith; withheld = refl }
+numbered Page = record { below = omega arith; back = refl; arg = omega arith; withheld = refl }
+
+-- what a word may withhold leaves the rights that a kind needs, and no others than the two
+pub withheld_least : (k : Kind) (n : ℕ) → n ≤ most_withheld k → least_rights k ≤ 3 - n
+withheld_least k n h = let is : most_withheld k + least_rights k ≡ 3 = (numbered k).withheld in omega (arith, is)
 
 number_of_kind_of : (n : ℕ) (k : Kind) → kind_of_number n ≡ Some k → number_of_kind k ≡ n
 number_of_kind_of n k h = grind (arith, nat_tests)
+
+-- the fields of the word of a capability are these
+record ReadsAs (w k frame arg withheld : ℕ) : Type 0 where
+  some : w ≢ 0
+  tag : w % 2 ^ 2 ≡ 1
+  kind : w / 2 ^ 2 % 2 ^ 4 ≡ k
+  frame : w / 2 ^ 6 % 2 ^ 10 ≡ frame
+  arg : w / 2 ^ 16 % 2 ^ 24 ≡ arg
+  withheld : w / 2 ^ 40 ≡ withheld
+
+fields : (k frame arg withheld w : ℕ) → w ≡ 1 + 2 ^ 2 * k + 2 ^ 6 * frame + 2 ^ 16 * arg + 2 ^ 40 * withheld
+    → k < 16 → frame < 512 → arg < 2 ^ 24 → ReadsAs w k frame arg withheld
+fields k frame arg withheld w is small first last = record {
+  some = omega arith;
+  tag = omega arith;
+  kind = omega arith;
+  frame = omega arith;
+  arg = omega arith;
+  withheld = omega arith;
+}
 
 reads : (v : Entry) → EntryFits v → entry_of_word (word_of_entry v) ≡ Some v
 unfolding word_of_entry entry_of_word
@@ -43,22 +71,26 @@ reads Free h = refl
 reads (Held cap) h =
     let k : ℕ = number_of_kind cap.kind in
     let n : IsNumbered cap.kind = numbered cap.kind in
-    let w : ℕ = 1 + 2 ^ 2 * k + 2 ^ 6 * cap.frame + 2 ^ 16 * cap.arg in
-    let some : w ≢ 0 = omega arith in
-    let tag : w % 2 ^ 2 ≡ 1 = omega arith in
-    let kind : w / 2 ^ 2 % 2 ^ 4 ≡ k = omega arith in
-    let frame : w / 2 ^ 6 % 2 ^ 10 ≡ cap.frame = omega arith in
-    let arg : w / 2 ^ 16 ≡ cap.arg = omega arith in
+    let small : k < 16 = n.below in
+    let last : cap.arg < 2 ^ 24 = omega (arith, n.arg, h.2) in
+    let withheld : ℕ = 3 - cap.rights in
+    let few : withheld ≤ most_withheld cap.kind = omega (arith, n.withheld, h.3, h.4) in
+    let whole : 3 - withheld ≡ cap.rights = omega (arith, h.4) in
+    let w : ℕ = 1 + 2 ^ 2 * k + 2 ^ 6 * cap.frame + 2 ^ 16 * cap.arg + 2 ^ 40 * withheld in
+    let f : ReadsAs w k cap.frame cap.arg withheld = fields k cap.frame cap.arg withheld w refl small h.0 last in
     rw (
-      ne_eqb w 0 some,
-      tag,
-      kind,
-      frame,
-      arg,
+      ne_eqb w 0 f.some,
+      f.tag,
+      f.kind,
+      f.frame,
+      f.arg,
+      f.withheld,
       n.back,
       lt-ltb cap.frame 512 h.0,
       le-leb (least_arg cap.kind) cap.arg h.1,
       lt-ltb cap.arg (end_of_arg cap.kind) h.2,
+      le-leb withheld (most_withheld cap.kind) few,
+      whole,
     )
 reads (Closing by) h =
     let w : ℕ = 2 + 2 ^ 2 * by in
@@ -84,19 +116,37 @@ spells_free w v none h =
     let value : Free ≡ v = cc in
     subst (Spells w) value (tt, omega arith)
 
+-- a word is put together again from its fields
+whole_word : (w k f a n m : ℕ) → w % 2 ^ 2 ≡ 1 → k ≡ w / 2 ^ 2 % 2 ^ 4 → f ≡ w / 2 ^ 6 % 2 ^ 10 → a ≡ w / 2 ^ 16 % 2 ^ 24 → n ≡ w / 2 ^ 40
+    → m ≡ n → 1 + 2 ^ 2 * k + 2 ^ 6 * f + 2 ^ 16 * a + 2 ^ 40 * m ≡ w
+whole_word w k f a n m tag kind frame arg withheld same = omega arith
+
 spells_held : (o : Option Kind) (w : ℕ) (v : Entry) → o ≡ kind_of_number (w / 2 ^ 2 % 2 ^ 4)
-    → w % 2 ^ 2 ≡ 1 → held_of o (w / 2 ^ 6 % 2 ^ 10) (w / 2 ^ 16) ≡ Some v → Spells w v
+    → w % 2 ^ 2 ≡ 1 → held_of o (w / 2 ^ 6 % 2 ^ 10) (w / 2 ^ 16 % 2 ^ 24) (w / 2 ^ 40) ≡ Some v → Spells w v
 unfolding Spells word_of_entry
 spells_held None w v from tag h = absurd (cc)
 spells_held (Some k) w v from tag h =
     let f : ℕ = w / 2 ^ 6 % 2 ^ 10 in
-    let a : ℕ = w / 2 ^ 16 in
-    let (tests, value) =
-    kept (nat_lt f 512 && (nat_le (least_arg k) a && nat_lt a (end_of_arg k))) (Held (cap_of k f a)) v h in
+    let a : ℕ = w / 2 ^ 16 % 2 ^ 24 in
+    let n : ℕ = w / 2 ^ 40 in
+    let value : Capability = record { kind = k; frame = f; arg = a; rights = 3 - n } in
+    let (tests, is) = kept (nat_lt f 512 && (nat_le (least_arg k) a && (nat_lt a (end_of_arg k) && nat_le n (most_withheld k))))
+    (Held value) v h in
     let (frame, arg) = and_parts (nat_lt f 512) _ tests in
     let (least, last) = and_parts (nat_le (least_arg k) a) _ arg in
+    let (end, few) = and_parts (nat_lt a (end_of_arg k)) _ last in
+    let most : n ≤ most_withheld k = leb-true n (most_withheld k) few in
+    let three : most_withheld k + least_rights k ≡ 3 = (numbered k).withheld in
+    let fits : EntryFits (Held value) = (
+      ltb-true f 512 frame,
+      leb-true (least_arg k) a least,
+      ltb-true a (end_of_arg k) end,
+      withheld_least k n most,
+      omega arith,
+    ) in
     let kind : number_of_kind k ≡ w / 2 ^ 2 % 2 ^ 4 = number_of_kind_of (w / 2 ^ 2 % 2 ^ 4) k (cc) in
-    subst (Spells w) value ((ltb-true f 512 frame, leb-true (least_arg k) a least, ltb-true a (end_of_arg k) last), omega (arith, kind))
+    let back : 3 - (3 - n) ≡ n = omega (arith, most, three) in
+    subst (Spells w) is (fits, whole_word w (number_of_kind k) f a n (3 - (3 - n)) tag kind refl refl refl back)
 
 spells_closing : (w : ℕ) (v : Entry) → w % 2 ^ 2 ≡ 2 → closing_of (w / 2 ^ 2) ≡ Some v → Spells w v
 unfolding Spells word_of_entry
@@ -126,13 +176,18 @@ spells w v h =
     (λ e f. spells_quiescing w v (eqb-true (w % 2 ^ 32) 3 e) f)
     (λ _ f. absurd (cc)))))
 
+small_held : (k f a n : ℕ) → k < 16 → f < 512 → a < 2 ^ 24 → n ≤ 3
+    → 1 + 2 ^ 2 * k + 2 ^ 6 * f + 2 ^ 16 * a + 2 ^ 40 * n < 2 ^ 64
+small_held k f a n kind frame arg few = omega arith
+
 small : (v : Entry) → EntryFits v → word_of_entry v < 2 ^ 64
 unfolding word_of_entry
 small Free h = omega arith
 small (Held cap) h =
     let n : IsNumbered cap.kind = numbered cap.kind in
     let last : end_of_arg cap.kind ≤ 2 ^ 24 = n.arg in
-    omega arith
+    let few : 3 - cap.rights ≤ 3 = omega arith in
+    small_held (number_of_kind cap.kind) cap.frame cap.arg (3 - cap.rights) n.below h.0 (omega (arith, last, h.2)) few
 small (Closing by) h = omega arith
 small (Quiescing s) h = omega arith
 
@@ -146,3 +201,7 @@ entry_reads = spelling_reads spelling
 
 pub entry_spells : (o : Option Entry) (w : ℕ) → o ≡ entry_of_word w → IfSome o (λ v. EntryFits v × (word_of_entry v ≡ w))
 entry_spells = spelling_spells spelling
+
+-- a capability that keeps fewer rights is within its ranges
+pub kept_fits : (cap : Capability) (these : ℕ) → EntryFits (Held cap) → EntryFits (Held (kept_cap cap these))
+kept_fits cap these h = (h.0, h.1, h.2, kept_above cap.kind cap.rights these h.3, kept_below cap.kind cap.rights these h.4)

@@ -1,4 +1,4 @@
--- The numbers of the kinds of capability in a word.
+-- The numbers of the kinds of capability in a word, and the rights that it may withhold.
 use Rattle.std.specs.Prelude.{ℕ, Option, Some, None, ◌==◌, if◌then◌else◌}
 use Rattle.spk_nums.specs.declared.kinds.Kind.{Kind}
 use Rattle.spk_nums.specs.declared.kinds.Kind.TheVariants.{Range, Table, Leaf, Pages, Pleaf, Comp, Gate, Thread, Tcap, Link, Page}
@@ -32,3 +32,9 @@ kind_of_number n =
     else if n == 9 then Some Link
     else if n == 10 then Some Page
     else None
+
+-- the most that a word withholds of the rights of a kind: nothing of a link and of a page
+abbrev pub most_withheld : Kind → ℕ
+most_withheld Link = 0
+most_withheld Page = 0
+most_withheld _ = 3

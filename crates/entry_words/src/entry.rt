@@ -3,12 +3,13 @@
 ghost use Rattle.std.specs.Prelude.{◌≡◌, ◌≤◌, ◌<◌, IfSome, Some};
 ghost use Rattle.spk_nums.specs.Limits.{least_arg, end_of_arg};
 ghost use Rattle.spk_nums.specs.Spelling.{IsOneSpelling};
-ghost use Rattle.entry_words.specs.Kinds.{kind_of_number};
+ghost use Rattle.entry_words.specs.Kinds.{kind_of_number, most_withheld};
 ghost use Rattle.entry_words.specs.declared.entry.Entry.{Entry};
 ghost use Rattle.entry_words.specs.declared.entry.Entry.TheVariants.{Free};
 ghost use Rattle.entry_words.specs.EntryWord.{EntryFits, word_of_entry, entry_of_word, held_of, closing_of, quiescing_of};
+ghost use Rattle.entry_words.specs.EntryWord.{BothWithholdNone};
 
-use spk_nums::{Cap, CoreNo, FrameNo, Kind, Stamp};
+use spk_nums::{Cap, CoreNo, FrameNo, Kind, Rights, Stamp};
 
 /// A place in a node, as its word says it.
 #[derive(Clone, Copy, PartialEq, Eq, Debug)]
@@ -42,7 +43,8 @@ impl Entry {
             Entry::Held(cap) => 1
                 + ((cap.kind() as u64) << 2)
                 + ((cap.frame().number() as u64) << 6)
-                + ((cap.arg() as u64) << 16),
+                + ((cap.arg() as u64) << 16)
+                + (((3 - cap.rights().number()) as u64) << 40),
             Entry::Closing { by } => 2 + ((by.number() as u64) << 2),
             Entry::Quiescing { stamp } => 3 + ((stamp.number() as u64) << 32),
         }
@@ -67,7 +69,12 @@ fn read(word: u64) -> Option<Entry>
     ensures { result ≡ entry_of_word word }
 {
     match word & 3 {
-        1 => held((word >> 2) & 0xf, (word >> 6) & 0x3ff, word >> 16),
+        1 => held(
+            (word >> 2) & 0xf,
+            (word >> 6) & 0x3ff,
+            (word >> 16) & 0xff_ffff,
+            word >> 40,
+        ),
         2 => closing(word >> 2),
         3 if word & 0xffff_ffff == 3 => quiescing(word >> 32),
         _ if word == 0 => Some(Entry::Free),
@@ -75,14 +82,21 @@ fn read(word: u64) -> Option<Entry>
     }
 }
 
-/// The entry that holds the capability of these three numbers, where each is within its range.
+/// The entry that holds the capability of these numbers, the last of which is that of the rights withheld, where each is
+/// within its range.
 #[inline]
-fn held(kind: u64, frame: u64, arg: u64) -> Option<Entry>
-    ensures { result ≡ held_of (kind_of_number kind) frame arg }
+#[tactic(auto, using(crate::proofs::Spelling::withheld_least))]
+fn held(kind: u64, frame: u64, arg: u64, withheld: u64) -> Option<Entry>
+    ensures { result ≡ held_of (kind_of_number kind) frame arg withheld }
 {
     let kind = kind_numbered(kind)?;
-    if frame < 512 && least_number(kind) <= arg && arg < end_of_numbers(kind) {
-        Some(Entry::Held(Cap::new(kind, FrameNo::new(frame as u16), arg as u32)))
+    if frame < 512
+        && least_number(kind) <= arg
+        && arg < end_of_numbers(kind)
+        && withheld <= most_withheld(kind)
+    {
+        let rights = Rights::of_bits(3 - withheld as u8);
+        Some(Entry::Held(Cap::with_rights(kind, FrameNo::new(frame as u16), arg as u32, rights)))
     } else {
         None
     }
@@ -140,6 +154,18 @@ fn end_of_numbers(kind: Kind) -> u64
     }
 }
 
+/// The most that a word withholds of the rights of this kind.
+#[inline]
+fn most_withheld(kind: Kind) -> u64
+    ensures value { result ≡ most_withheld kind }
+    ensures most { result ≤ 3 }
+{
+    match kind {
+        Kind::Link | Kind::Page => 0,
+        _ => 3,
+    }
+}
+
 /// The kind of this number in a word.
 #[inline]
 fn kind_numbered(number: u64) -> Option<Kind>
@@ -161,8 +187,10 @@ fn kind_numbered(number: u64) -> Option<Kind>
     }
 }
 
-/// Each entry within its ranges has one word, and is read from that word alone. The word of a free place is 0.
+/// Each entry within its ranges has one word, and is read from that word alone. The word of a free place is 0, and that of a
+/// capability with both rights has none of the bits of rights withheld.
 pub fn entry_spelling()
     ensures spelling { IsOneSpelling EntryFits word_of_entry entry_of_word }
     ensures free { word_of_entry Free ≡ 0 }
+    ensures both { BothWithholdNone }
 {}

@@ -2,10 +2,11 @@
 
 ghost use Rattle.std.specs.Prelude.{◌≤◌, ◌<◌};
 ghost use Rattle.spk_nums.specs.Limits.{least_arg, end_of_arg};
+ghost use Rattle.spk_nums.specs.Rights.{least_rights};
 ghost use Rattle.entry_words.specs.EntryWord.{EntryFits};
 
 use entry_words::Entry;
-use spk_nums::{Cap, CoreNo, FrameNo, Kind, Stamp};
+use spk_nums::{Cap, CoreNo, FrameNo, Kind, Rights, Stamp};
 use std::process::Abort;
 
 // An entry and its word, both ways.
@@ -25,6 +26,18 @@ fn held(kind: Kind, frame: u16, arg: u32) -> Entry
     Entry::Held(Cap::new(kind, FrameNo::new(frame), arg))
 }
 
+// A capability with these rights.
+fn limited(kind: Kind, frame: u16, arg: u32, rights: u8) -> Entry
+    requires frame { frame < 512 }
+    requires least { least_arg kind ≤ arg }
+    requires end { arg < end_of_arg kind }
+    requires least_rights { least_rights kind ≤ rights }
+    requires end_of_rights { rights < 4 }
+    ensures { EntryFits result }
+{
+    Entry::Held(Cap::with_rights(kind, FrameNo::new(frame), arg, Rights::of_bits(rights)))
+}
+
 #[test]
 fn spells_worked_words(rt: HostRuntime) {
     spells(&rt, &Entry::Free, 0);
@@ -39,6 +52,14 @@ fn spells_worked_words(rt: HostRuntime) {
         },
         0x0000_0005_0000_0003,
     );
+}
+
+#[test]
+fn spells_the_rights_withheld(rt: HostRuntime) {
+    spells(&rt, &limited(Kind::Range, 8, 24, 1), 0x0000_0200_0018_0201);
+    spells(&rt, &limited(Kind::Range, 0, 0, 2), 0x0000_0100_0000_0001);
+    spells(&rt, &limited(Kind::Gate, 3, 1, 0), 0x0000_0300_0001_00d9);
+    spells(&rt, &limited(Kind::Link, 1, 0, 3), 0x0000_0000_0000_0065);
 }
 
 #[test]
@@ -77,7 +98,9 @@ fn refuses_words_of_no_entry(rt: HostRuntime) {
         4,
         0x2d,
         0x8001,
-        0x0000_0100_0000_0001,
+        0x0000_0400_0000_0001,
+        0x0000_0100_0000_0025,
+        0x0000_0200_0000_0029,
         0x19,
         0x0000_0000_0004_0029,
         0x22,
