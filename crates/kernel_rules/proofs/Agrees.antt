@@ -6,18 +6,18 @@ use Rattle.std.proofs.lemmas.Bool.{false≢true, true≢false, eqb-false, ltb-fa
 use Rattle.std.proofs.lemmas.Bool.{le-leb, lt-ltb, or_left, or_right, not_from_false}
 use Rattle.std.specs.List.{range_with_len}
 use Rattle.spk_nums.specs.Capability.{Capability}
-use Rattle.spk_nums.specs.declared.kinds.Kind.{Kind}
+use Rattle.spk_nums.specs.Rights.{has_rights}
 use Rattle.spk_nums.specs.declared.kinds.Kind.TheVariants as kind
 use Rattle.spk_nums.specs.declared.replies.Reply.{Reply}
 use Rattle.spk_nums.specs.declared.replies.Reply.TheVariants as reply
 use Rattle.kernel_rules.specs.State.{Place, Free, Holds, Quiescing, Thing, PlaceOf, State}
-use Rattle.kernel_rules.specs.Access.{Slot, found, root_at, Target, Under, InRoot, place_at, held_in, usable_in}
+use Rattle.kernel_rules.specs.Access.{Slot, found, root_at, Want, Target, Under, InRoot, place_at, held_in, usable_in}
 use Rattle.kernel_rules.specs.Access.{usable, linked, slot_in, reached, root_slot, only, holds_link, has_no_slot, own}
 use Rattle.kernel_rules.specs.GracePeriods.{lowest, other_waiting, quiescing_by, unflushed_by, MayWait, MayBeUnflushed}
 use Rattle.kernel_rules.specs.Rules.{name_of, slot_of, Cause, When, WaitedFor, Unflushed, Rule, Name, Vacant, Held, Mapped}
-use Rattle.kernel_rules.specs.Rules.{Does, Judged, Refused, Found, and_then, unless, or_refuse, of_kind, named, first_of}
+use Rattle.kernel_rules.specs.Rules.{Does, Judged, Refused, Found, and_then, unless, or_refuse, with_rights, of_kind, named, first_of}
 use Rattle.kernel_rules.specs.Rules.{waits_of, flushes_of, not_vacant, vacant, held, mapped, first_cause, outcome, IsFoundAnd}
-use Rattle.kernel_rules.specs.Rules.{NameMay, VacantMay, HeldMay, MappedMay, WaitedMay, UnflushedMay, OneMay, RuleMay}
+use Rattle.kernel_rules.specs.Rules.{Lacks, NameMay, VacantMay, HeldMay, MappedMay, WaitedMay, UnflushedMay, OneMay, RuleMay}
 
 -- Who waits is in a call and has not passed, and what is unflushed is unknown.
 pub record IsBounded (s : State) : Type 0 where
@@ -122,38 +122,47 @@ no_slot s c (InRoot table i) is h = tested (nat_le i 63) refl (sym (ap (λ t. if
     tested true e q = absurd (some_none at q)
     tested false e q = lt-ltb 63 i (leb-false i 63 e)
 
-name_refused : (s : State) (c n : ℕ) (wanted : Kind → Bool)
-    → IfRefused (named s c n wanted) (λ r. NameMay s c n wanted r × IsPlain r)
-name_refused s c n wanted =
+name_refused : (s : State) (c n : ℕ) (want : Want)
+    → IfRefused (named s c n want) (λ r. NameMay s c n want r × IsPlain r)
+name_refused s c n want =
     then_refused (or_refuse (reached s c (own s c n)) reply.NoSlot) rest P
     (or_refused (reached s c (own s c n)) reply.NoSlot P (λ e. (no_slot s c (own s c n) refl e, tt)))
     reaches
   where
     P : Reply → Type 0
-    P r = NameMay s c n wanted r × IsPlain r
+    P r = NameMay s c n want r × IsPlain r
 
     rest : Slot → Judged Capability
-    rest at = and_then (or_refuse (usable s c at) reply.Empty) λ k. of_kind wanted k
+    rest at = and_then (or_refuse (usable s c at) reply.Empty) λ k. of_kind want k
+
+    has_right : (at : Slot) (k : Capability) → reached s c (own s c n) ≡ Some at → usable s c at ≡ Some k → IsTrue (want.kinds k.kind)
+        → (t : Bool) → has_rights k.rights want.needs ≡ t → IfRefused {A = Capability} (if t then Found k else Refused reply.NoRight) P
+    has_right at k e u w true h = tt
+    has_right at k e u w false h = (
+      some_and (reached s c (own s c n)) at (λ at. IsSomeAnd (usable s c at) (Lacks want)) e
+          (some_and (usable s c at) k (Lacks want) u (w, h)),
+      tt,
+    )
 
     is_kind : (at : Slot) (k : Capability) → reached s c (own s c n) ≡ Some at → usable s c at ≡ Some k
-        → (t : Bool) → wanted k.kind ≡ t → IfRefused {A = Capability} (if t then Found k else Refused reply.WrongCap) P
-    is_kind at k e u true w = tt
+        → (t : Bool) → want.kinds k.kind ≡ t → IfRefused {A = Capability} (if t then with_rights want.needs k else Refused reply.WrongCap) P
+    is_kind at k e u true w = has_right at k e u w (has_rights k.rights want.needs) refl
     is_kind at k e u false w = (
-      some_and (reached s c (own s c n)) at (λ at. IsSomeAnd (usable s c at) λ k. IsFalse (wanted k.kind)) e
-          (some_and (usable s c at) k (λ k. IsFalse (wanted k.kind)) u w),
+      some_and (reached s c (own s c n)) at (λ at. IsSomeAnd (usable s c at) λ k. IsFalse (want.kinds k.kind)) e
+          (some_and (usable s c at) k (λ k. IsFalse (want.kinds k.kind)) u w),
       tt,
     )
 
     reaches : (at : Slot) → or_refuse (reached s c (own s c n)) reply.NoSlot ≡ Found at → IfRefused (rest at) P
     reaches at e =
         let is_at : reached s c (own s c n) ≡ Some at = or_found (reached s c (own s c n)) reply.NoSlot at e in
-        then_refused (or_refuse (usable s c at) reply.Empty) (λ k. of_kind wanted k) P
+        then_refused (or_refuse (usable s c at) reply.Empty) (λ k. of_kind want k) P
         (or_refused (usable s c at) reply.Empty P λ u. (
           some_and (reached s c (own s c n)) at (λ at. IsFalse (is_some (held_in (place_at s at)))) is_at
               (not_held (place_at s at) ((s.grace (PlaceOf at.node at.index)).waits c) u),
           tt,
         ))
-        λ k u. is_kind at k is_at (or_found (usable s c at) reply.Empty k u) (wanted k.kind) refl
+        λ k u. is_kind at k is_at (or_found (usable s c at) reply.Empty k u) (want.kinds k.kind) refl
 
 -- What is found in a range of numbers passes the test, and is below the range's end.
 find_in : (p : ℕ → Bool) (a n e : ℕ) → find p (range_with_len a n) ≡ Some e → (p e ≡ true) × (e < a + n)
@@ -336,7 +345,7 @@ ArePlain (WaitedFor x ∷ causes) = ArePlain causes
 ArePlain (Unflushed x ∷ causes) = ArePlain causes
 
 abbrev pub HasPlain : Rule → Type 0
-HasPlain (Name n wanted rest) = (k : Capability) → HasPlain (rest (found k))
+HasPlain (Name n want rest) = (k : Capability) → HasPlain (rest (found k))
 HasPlain (Vacant target rest) = IsTrue (has_root target) × ((at : Slot) → HasPlain (rest at))
 HasPlain (Held target rest) = IsTrue (has_root target) × ((at : Slot) (k : Capability) → HasPlain (rest at k))
 HasPlain (Mapped table v rest) = (k : Capability) → HasPlain (rest k)
@@ -373,12 +382,12 @@ cause_refused s c (Unflushed x ∷ causes) calm plain r h =
 -- The first refusal of a rule is one that it may be refused with.
 pub rule_refused : (s : State) (c : ℕ) (rule : Rule) → IsBounded s → HasPlain rule
     → IfRefused (outcome s c rule) (λ r. RuleMay s c rule r × IsPlain r)
-rule_refused s c (Name n wanted rest) calm plain =
-    then_refused (named s c n wanted) (λ k. outcome s c (rest (found k))) (λ r. RuleMay s c (Name n wanted rest) r × IsPlain r)
-    (refused_map (named s c n wanted) (λ r. NameMay s c n wanted r × IsPlain r) (λ r. RuleMay s c (Name n wanted rest) r × IsPlain r)
-    (λ r h. (inl h.0, h.1)) (name_refused s c n wanted))
+rule_refused s c (Name n want rest) calm plain =
+    then_refused (named s c n want) (λ k. outcome s c (rest (found k))) (λ r. RuleMay s c (Name n want rest) r × IsPlain r)
+    (refused_map (named s c n want) (λ r. NameMay s c n want r × IsPlain r) (λ r. RuleMay s c (Name n want rest) r × IsPlain r)
+    (λ r h. (inl h.0, h.1)) (name_refused s c n want))
     λ k e. refused_map (outcome s c (rest (found k))) (λ r. RuleMay s c (rest (found k)) r × IsPlain r)
-    (λ r. RuleMay s c (Name n wanted rest) r × IsPlain r)
+    (λ r. RuleMay s c (Name n want rest) r × IsPlain r)
     (λ r h. (inr (subst (λ j. RuleMay s c (rest (name_of j)) r) (sym e) h.0), h.1))
     (rule_refused s c (rest (found k)) calm (plain k))
 rule_refused s c (Vacant target rest) calm plain =

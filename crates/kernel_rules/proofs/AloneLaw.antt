@@ -78,7 +78,7 @@ switch_waits s c h q (Some e) = record { inside = λ d. core_inside s c d _ refl
 
 pub rule_waits : (s : State) (c : ℕ) (call : Call) → AllChanges (Waits s) (rule_of s c call)
 rule_waits s c (Look a) = λ k. record { inside = λ d. refl; waits = λ x d h. h; limits = refl }
-rule_waits s c (Copy a t b) = λ k table at. record { inside = λ d. refl; waits = λ x d h. h; limits = refl }
+rule_waits s c (Copy a t b rights) = λ k table at. record { inside = λ d. refl; waits = λ x d h. h; limits = refl }
 rule_waits s c (Remove t b) = λ table at k. record { inside = λ d. refl; waits = λ x d h. h; limits = refl }
 rule_waits s c (Grow t i l) = λ table leaf at. record { inside = λ d. refl; waits = λ x d h. h; limits = refl }
 rule_waits s c (Shrink t i) = λ table at k. record { inside = λ d. refl; waits = λ x d h. h; limits = refl }
@@ -192,7 +192,7 @@ switch_plain s c h q (Some e) = (tt, tt)
 
 pub rule_plain : (s : State) (c : ℕ) (call : Call) → HasPlain (rule_of s c call)
 rule_plain s c (Look a) = λ k. tt
-rule_plain s c (Copy a t b) = λ k table. (refl, λ at. tt)
+rule_plain s c (Copy a t b rights) = λ k table. (refl, λ at. tt)
 rule_plain s c (Remove t b) = λ table. (refl, λ at k. tt)
 rule_plain s c (Grow t i l) = λ table leaf. (refl, λ at. tt)
 rule_plain s c (Shrink t i) = λ table. (refl, λ at k. tt)

@@ -110,7 +110,7 @@ switch_keeps s c h q (Some e) = λ x d g. g
 
 rule_keeps : (s : State) (c : ℕ) (call : Call) → AllChanges (Keeps s) (rule_of s c call)
 rule_keeps s c (Look a) = λ k x d h. h
-rule_keeps s c (Copy a t b) = λ k table at x d h. h
+rule_keeps s c (Copy a t b rights) = λ k table at x d h. h
 rule_keeps s c (Remove t b) = λ table at k x d h. h
 rule_keeps s c (Grow t i l) = λ table leaf at x d h. h
 rule_keeps s c (Shrink t i) = λ table at k x d h. h

@@ -1,6 +1,7 @@
 -- Resolving a name, and the access of calls in progress: what was removed still serves the calls that wait for it.
 use Rattle.std.specs.Prelude.{ℕ, ◌/◌, ◌%◌, Bool, true, false, not, ◌&&◌, ◌||◌, ◌==◌, nat_lt, nat_le, if◌then◌else◌, Option, Some, None}
 use Rattle.spk_nums.specs.Capability.{Capability}
+use Rattle.spk_nums.specs.Rights.{both, neither, right_to_copy, right_to_use}
 use Rattle.spk_nums.specs.declared.kinds.Kind.{Kind}
 use Rattle.spk_nums.specs.declared.kinds.Kind.TheVariants as kind
 use Rattle.kernel_rules.specs.State.{Place, Free, Holds, Quiescing, PlaceOf, State, comp_of}
@@ -10,28 +11,30 @@ pub record Slot : Type 0 where
   pub node : ℕ
   pub index : ℕ
 
--- What a name leads to: whether a capability was found, and its kind, frame and number. Of what was not found nothing is asked.
+-- What a name leads to: whether a capability was found, and its kind, frame, number and rights. Of what was not found nothing is
+-- asked.
 pub record Named : Type 0 where
   pub found : Bool
   pub kind : Kind
   pub frame : ℕ
   pub arg : ℕ
+  pub rights : ℕ
 
 -- The name led to this capability.
 abbrev pub found : Capability → Named
-found k = record { found = true; kind = k.kind; frame = k.frame; arg = k.arg }
+found k = record { found = true; kind = k.kind; frame = k.frame; arg = k.arg; rights = k.rights }
 
--- The name led to no capability of the kind that was wanted.
+-- The name led to no capability such as was wanted.
 abbrev pub not_found : Named
-not_found = record { found = false; kind = kind.Range; frame = 0; arg = 0 }
+not_found = record { found = false; kind = kind.Range; frame = 0; arg = 0; rights = both }
 
 -- The capability that was found.
 abbrev pub capability : Named → Capability
-capability k = record { kind = k.kind; frame = k.frame; arg = k.arg }
+capability k = record { kind = k.kind; frame = k.frame; arg = k.arg; rights = k.rights }
 
 -- A root that is known by its frame.
 abbrev pub root_at : ℕ → Named
-root_at f = record { found = true; kind = kind.Table; frame = f; arg = 0 }
+root_at f = record { found = true; kind = kind.Table; frame = f; arg = 0; rights = both }
 
 -- Where a place is asked for: under a number of a radix table, by the name of the table's root, or at an entry of that root.
 pub data Target : Type 0 where
@@ -67,6 +70,22 @@ only wanted k = kind_number k == kind_number wanted
 -- The root of a table of capabilities or of pages is wanted.
 abbrev pub root : Kind → Bool
 root k = only kind.Table k || only kind.Pages k
+
+-- What a name wants: the kinds of capability of which it is to lead to one, and the rights that it needs of that one.
+pub record Want : Type 0 where
+  pub kinds : Kind → Bool
+  pub needs : ℕ
+
+-- These kinds are wanted: of what is only looked at, no right is needed; of what is copied, the right to copy it; of all else, the
+-- right to use it.
+abbrev pub to_look : (Kind → Bool) → Want
+to_look kinds = record { kinds = kinds; needs = neither }
+
+abbrev pub to_copy : (Kind → Bool) → Want
+to_copy kinds = record { kinds = kinds; needs = right_to_copy }
+
+abbrev pub to_use : (Kind → Bool) → Want
+to_use kinds = record { kinds = kinds; needs = right_to_use }
 
 -- What a place holds.
 abbrev pub held_in : Place → Option Capability

@@ -20,7 +20,7 @@ use Rattle.kernel_rules.specs.TimeCalls.{owing, tick_rule, transfer_rule, delega
 -- The rule of a call of core c.
 abbrev pub rule_of : State → ℕ → Call → Rule
 rule_of s c (Look a) = look_rule s a
-rule_of s c (Copy a t b) = copy_rule s a t b
+rule_of s c (Copy a t b rights) = copy_rule s a t b rights.0
 rule_of s c (Remove t b) = remove_rule s t b
 rule_of s c (Grow t i l) = grow_rule s t i l
 rule_of s c (Shrink t i) = shrink_rule s t i

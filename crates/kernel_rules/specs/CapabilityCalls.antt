@@ -1,5 +1,6 @@
 -- The calls on capabilities. Each rule reads: what the call names, in order; its target; its own causes; what it does.
 use Rattle.std.specs.Prelude.{ℕ, ◌+◌, Bool, true, false, not, ◌&&◌, ◌==◌, nat_lt, nat_le, if◌then◌else◌, List, [], ◌∷◌, ◌++◌, None}
+use Rattle.spk_nums.specs.Rights.{kept}
 use Rattle.spk_nums.specs.declared.kinds.Kind.{Kind}
 use Rattle.spk_nums.specs.declared.kinds.Kind.TheVariants as kind
 use Rattle.spk_nums.specs.declared.calls.Make.{Make}
@@ -11,27 +12,28 @@ use Rattle.kernel_rules.specs.State.{Thread, Tcap, Frame, Kernel, Liveness, Unus
 use Rattle.kernel_rules.specs.State.{FrameOf, NumberOf, State, put, with_place, with_frame, with_number}
 use Rattle.kernel_rules.specs.Start.{plain_cap, no_grace}
 use Rattle.kernel_rules.specs.References.{place_names, frame_names, number_names}
-use Rattle.kernel_rules.specs.Access.{Slot, Named, capability, Under, InRoot, any, only, root}
+use Rattle.kernel_rules.specs.Access.{Slot, Named, capability, Under, InRoot, any, only, root, to_look, to_copy, to_use}
 use Rattle.kernel_rules.specs.Rules.{Change, Cause, When, WaitedFor, Rule, Name, Vacant, Held, Does, answers, fills, removes}
 
--- `look A` names any capability A, and answers it.
+-- `look A` names any capability A, and answers it, whatever its rights.
 abbrev pub look_rule : State → ℕ → Rule
 look_rule s a =
-    Name a any λ cap.
+    Name a (to_look any) λ cap.
     Does [] (answers s (Cap (capability cap)))
 
--- `copy A T B` names any capability A and a table T; the free place B of T then holds A's capability.
-abbrev pub copy_rule : State → ℕ → ℕ → ℕ → Rule
-copy_rule s a t b =
-    Name a any λ cap.
-    Name t (only kind.Table) λ table.
+-- `copy A T B R` names any capability A that may be copied, and a table T; the free place B of T then holds A's capability with those
+-- of its rights that are in R.
+abbrev pub copy_rule : State → ℕ → ℕ → ℕ → ℕ → Rule
+copy_rule s a t b rights =
+    Name a (to_copy any) λ cap.
+    Name t (to_use (only kind.Table)) λ table.
     Vacant (Under table b) λ at.
-    Does [] (fills s at (capability cap))
+    Does [] (fills s at (kept (capability cap) rights))
 
 -- `remove T B` names a table T; what its place B holds is removed.
 abbrev pub remove_rule : State → ℕ → ℕ → Rule
 remove_rule s t b =
-    Name t (only kind.Table) λ table.
+    Name t (to_use (only kind.Table)) λ table.
     Held (Under table b) λ at cap.
     Does [] (removes s at cap)
 
@@ -47,15 +49,15 @@ leaf_for table = if table.found then only (leaf_of table.kind) else any
 -- `grow T I L` names a root T and a leaf L of its kind; the free root entry I of T then holds a link to L's frame.
 abbrev pub grow_rule : State → ℕ → ℕ → ℕ → Rule
 grow_rule s t i l =
-    Name t root λ table.
-    Name l (leaf_for table) λ leaf.
+    Name t (to_use root) λ table.
+    Name l (to_use (leaf_for table)) λ leaf.
     Vacant (InRoot table i) λ at.
     Does [] (fills s at (plain_cap kind.Link leaf.frame))
 
 -- `shrink T I` names a root T; the link in its root entry I is removed, and the leaf keeps its entries.
 abbrev pub shrink_rule : State → ℕ → ℕ → Rule
 shrink_rule s t i =
-    Name t root λ table.
+    Name t (to_use root) λ table.
     Held (InRoot table i) λ at link.
     Does [] (removes s at link)
 
@@ -103,17 +105,17 @@ cleared s f = record s { place = put s.place f (λ i. Free); grace = λ x. if is
 -- `make` of an empty node: every place of it is free.
 abbrev pub make_node : State → Object → Kind → ℕ → ℕ → ℕ → ℕ → Rule
 make_node s object k r f t b =
-    Name r (only kind.Range) λ range.
-    Name t (only kind.Table) λ table.
+    Name r (to_use (only kind.Range)) λ range.
+    Name t (to_use (only kind.Table)) λ table.
     Vacant (Under table b) λ at.
     Does (outside range f ∷ not_blank s f ∷ []) (makes (cleared s f) f object k at)
 
 -- `make thread R F T B C`: F is an idle thread whose stack holds C's frame.
 abbrev pub make_thread : State → ℕ → ℕ → ℕ → ℕ → ℕ → Rule
 make_thread s r f t b c =
-    Name r (only kind.Range) λ range.
-    Name t (only kind.Table) λ table.
-    Name c (only kind.Comp) λ comp.
+    Name r (to_use (only kind.Range)) λ range.
+    Name t (to_use (only kind.Table)) λ table.
+    Name c (to_use (only kind.Comp)) λ comp.
     Vacant (Under table b) λ at.
     Does (outside range f ∷ not_blank s f ∷ [])
     (makes s f (Thread (record { stack = comp.frame ∷ []; runs_on = None })) kind.Thread at)
@@ -121,8 +123,8 @@ make_thread s r f t b c =
 -- `make tcap R F T B S W`: F is a temporal capability without budget, with the list of the one pair (S, W).
 abbrev pub make_tcap : State → ℕ → ℕ → ℕ → ℕ → ℕ → ℕ → Rule
 make_tcap s r f t b sched quality =
-    Name r (only kind.Range) λ range.
-    Name t (only kind.Table) λ table.
+    Name r (to_use (only kind.Range)) λ range.
+    Name t (to_use (only kind.Table)) λ table.
     Vacant (Under table b) λ at.
     Does (outside range f ∷ not_blank s f ∷ [])
     (makes s f (Tcap (record { budget = 0; qualities = (sched, quality) ∷ [] })) kind.Tcap at)
@@ -159,10 +161,10 @@ makes_comp s f comp at = record {
 -- `make comp R F T B X P L`: F is a component with the table X, the pages P and the liveness number L, whose epoch rises by 1.
 abbrev pub make_comp : State → ℕ → ℕ → ℕ → ℕ → ℕ → ℕ → ℕ → Rule
 make_comp s r f t b x p l =
-    Name r (only kind.Range) λ range.
-    Name t (only kind.Table) λ table.
-    Name x (only kind.Table) λ own_table.
-    Name p (only kind.Pages) λ own_pages.
+    Name r (to_use (only kind.Range)) λ range.
+    Name t (to_use (only kind.Table)) λ table.
+    Name x (to_use (only kind.Table)) λ own_table.
+    Name p (to_use (only kind.Pages)) λ own_pages.
     Vacant (Under table b) λ at.
     Does (outside range f ∷ not_blank s f ∷ not_taken s l)
     (makes_comp s f (record { table = own_table.frame; pages = own_pages.frame; number = l; epoch = epoch_of (s.number l) + 1 }) at)

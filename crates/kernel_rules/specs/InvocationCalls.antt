@@ -7,14 +7,14 @@ use Rattle.spk_nums.specs.declared.replies.Reply.TheVariants as reply
 use Rattle.kernel_rules.specs.State.{CompFields, ThreadFields, Frame, Kernel, Thread, Liveness, Unused, Live, Dead, Core}
 use Rattle.kernel_rules.specs.State.{NumberOf, State, with_frame, with_number, with_core, comp_in, thread_in, thread_of}
 use Rattle.kernel_rules.specs.References.{number_names}
-use Rattle.kernel_rules.specs.Access.{Named, Under, only}
+use Rattle.kernel_rules.specs.Access.{Named, Under, only, to_use}
 use Rattle.kernel_rules.specs.Rules.{Change, Cause, When, Rule, Name, Vacant, Does, fills, frames_of}
 
 -- `gate C T B` names a component C and a table T; the free place B of T then holds a gate to C in C's epoch.
 abbrev pub gate_rule : State → ℕ → ℕ → ℕ → Rule
 gate_rule s c t b =
-    Name c (only kind.Comp) λ comp.
-    Name t (only kind.Table) λ table.
+    Name c (to_use (only kind.Comp)) λ comp.
+    Name t (to_use (only kind.Table)) λ table.
     Vacant (Under table b) λ at.
     Does [] (fills s at (cap_of kind.Gate comp.frame (comp_in (s.frame comp.frame)).epoch))
 
@@ -43,7 +43,7 @@ kill_comp s name comp = Does (not_live s name comp.number comp.epoch ∷ []) (ki
 
 abbrev pub kill_rule : State → ℕ → Rule
 kill_rule s c =
-    Name c (only kind.Comp) λ comp.
+    Name c (to_use (only kind.Comp)) λ comp.
     kill_comp s comp (comp_in (s.frame comp.frame))
 
 -- A frame with another thread in place of its thread.
@@ -68,7 +68,7 @@ pushes s c f = record {
 -- `call G` names a gate G; the depth must be below 16, and the component live in the gate's epoch, which is then entered.
 abbrev pub call_rule : State → ℕ → ℕ → Rule
 call_rule s c g =
-    Name g (only kind.Gate) λ gate.
+    Name g (to_use (only kind.Gate)) λ gate.
     Does (
     When (nat_le 16 (length (thread_of s c).stack)) reply.Deep
     ∷ not_live s gate (comp_in (s.frame gate.frame)).number gate.arg
@@ -109,6 +109,6 @@ switch_to s c h q (Some e) = Does (When h.found (reply.Running e) ∷ []) (switc
 -- `switch H Q` names a thread H and a temporal capability Q, with which core c goes on; H must be idle.
 abbrev pub switch_rule : State → ℕ → ℕ → ℕ → Rule
 switch_rule s c h q =
-    Name h (only kind.Thread) λ thread.
-    Name q (only kind.Tcap) λ tcap.
+    Name h (to_use (only kind.Thread)) λ thread.
+    Name q (to_use (only kind.Tcap)) λ tcap.
     switch_to s c thread tcap.frame (thread_in (s.frame thread.frame)).runs_on

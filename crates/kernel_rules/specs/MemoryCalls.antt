@@ -15,7 +15,7 @@ use Rattle.kernel_rules.specs.State.{Object, Blank, Comp, Thread, Tcap, Frame, U
 use Rattle.kernel_rules.specs.State.{FrameOf, State, with_frame, with_core, with_grace, comp_of}
 use Rattle.kernel_rules.specs.Start.{no_grace}
 use Rattle.kernel_rules.specs.References.{refs, frame_names}
-use Rattle.kernel_rules.specs.Access.{Under, only, held_in}
+use Rattle.kernel_rules.specs.Access.{Under, only, to_use, held_in}
 use Rattle.kernel_rules.specs.GracePeriods.{same_thing, flushed}
 use Rattle.kernel_rules.specs.Rules.{Change, Cause, When, WaitedFor, Unflushed, Rule, Name, Vacant}
 use Rattle.kernel_rules.specs.Rules.{Held, Mapped, Does, answers, leaves, fills, frames_of, removes}
@@ -84,7 +84,7 @@ retypes s f frame_kind.Kernel = leaves (with_frame s f (Kernel Blank))
 -- `retype R F K` names a range R; its frame F becomes one of the kind K.
 abbrev pub retype_rule : State → ℕ → ℕ → FrameKind → Rule
 retype_rule s r f k =
-    Name r (only kind.Range) λ range.
+    Name r (to_use (only kind.Range)) λ range.
     Does (outside range f ∷ not_retyped s f k) (retypes s f k)
 
 -- `frame-kind` of a `map`: the frame is one of the machine's, and no user frame.
@@ -94,15 +94,15 @@ not_user s f = When (is_frame s f && not (is_user (s.frame f))) reply.FrameKind
 -- `map P V R F W` names pages P and a range R; the free page V of P then maps the user frame F of R with the flags W.
 abbrev pub map_rule : State → ℕ → ℕ → ℕ → ℕ → PageFlags → Rule
 map_rule s p v r f w =
-    Name p (only kind.Pages) λ pages.
-    Name r (only kind.Range) λ range.
+    Name p (to_use (only kind.Pages)) λ pages.
+    Name r (to_use (only kind.Range)) λ range.
     Vacant (Under pages v) λ at.
     Does (outside range f ∷ not_user s f ∷ []) (fills s at (cap_of kind.Page f w.0))
 
 -- `unmap P V` names pages P; the mapping of its page V is removed.
 abbrev pub unmap_rule : State → ℕ → ℕ → Rule
 unmap_rule s p v =
-    Name p (only kind.Pages) λ pages.
+    Name p (to_use (only kind.Pages)) λ pages.
     Held (Under pages v) λ at mapping.
     Does [] (removes s at mapping)
 

@@ -4,14 +4,14 @@
 use Rattle.std.specs.Prelude.{◌≡◌, ◌⊎◌, ℕ, Bool, nat_lt, nat_le, if◌then◌else◌, List, []}
 use Rattle.std.specs.Prelude.{◌∷◌, Option, Some, None, IsSomeAnd, is_some, IsTrue, IsFalse}
 use Rattle.spk_nums.specs.Capability.{Capability}
-use Rattle.spk_nums.specs.declared.kinds.Kind.{Kind}
+use Rattle.spk_nums.specs.Rights.{has_rights}
 use Rattle.spk_nums.specs.declared.replies.Value.{Value}
 use Rattle.spk_nums.specs.declared.replies.Value.TheVariants.{Nothing}
 use Rattle.spk_nums.specs.declared.replies.Reply.{Reply}
 use Rattle.spk_nums.specs.declared.replies.Reply.TheVariants as reply
 use Rattle.kernel_rules.specs.State.{Place, Free, Holds, Quiescing, Thing, PlaceOf, FrameOf, State, with_place}
 use Rattle.kernel_rules.specs.References.{place_names}
-use Rattle.kernel_rules.specs.Access.{Slot, Named, found, not_found, root_at, Target, Under, place_at}
+use Rattle.kernel_rules.specs.Access.{Slot, Named, found, not_found, root_at, Want, Target, Under, place_at}
 use Rattle.kernel_rules.specs.Access.{held_in, usable, reached, has_no_slot, root_slot, holds_link, own}
 use Rattle.kernel_rules.specs.GracePeriods.{lowest, other_waiting, quiescing_by, unflushed_by, MayWait, MayBeUnflushed}
 
@@ -31,10 +31,10 @@ pub data Cause : Type 0 where
   WaitedFor : Thing → Cause
   Unflushed : Thing → Cause
 
--- A rule: a capability of this number and a wanted kind; a target that is to be free; a target that is to be held; a page
+-- A rule: a capability of this number, such as is wanted; a target that is to be free; a target that is to be held; a page
 -- that is to be mapped, by its root; and, after them, the call's own causes in order, and the change.
 pub data Rule : Type 0 where
-  Name : ℕ → (Kind → Bool) → (Named → Rule) → Rule
+  Name : ℕ → Want → (Named → Rule) → Rule
   Vacant : Target → (Slot → Rule) → Rule
   Held : Target → (Slot → Capability → Rule) → Rule
   Mapped : ℕ → ℕ → (Capability → Rule) → Rule
@@ -60,16 +60,20 @@ abbrev pub or_refuse : {A : Type 0} → Option A → Reply → Judged A
 or_refuse None r = Refused r
 or_refuse (Some x) r = Found x
 
--- A capability of a wanted kind, or `wrong-cap`.
-abbrev pub of_kind : (Kind → Bool) → Capability → Judged Capability
-of_kind wanted k = if wanted k.kind then Found k else Refused reply.WrongCap
+-- A capability with the rights that are needed, or `no-right`.
+abbrev pub with_rights : ℕ → Capability → Judged Capability
+with_rights needs k = if has_rights k.rights needs then Found k else Refused reply.NoRight
 
--- The capability that core c names: it reaches a slot, may use what is there, and its kind is wanted.
-abbrev pub named : State → ℕ → ℕ → (Kind → Bool) → Judged Capability
-named s c n wanted =
+-- A capability of a wanted kind with the rights that are needed; or `wrong-cap`, or else `no-right`.
+abbrev pub of_kind : Want → Capability → Judged Capability
+of_kind want k = if want.kinds k.kind then with_rights want.needs k else Refused reply.WrongCap
+
+-- The capability that core c names: it reaches a slot, may use what is there, and that is such as is wanted.
+abbrev pub named : State → ℕ → ℕ → Want → Judged Capability
+named s c n want =
     and_then (or_refuse (reached s c (own s c n)) reply.NoSlot) λ at.
     and_then (or_refuse (usable s c at) reply.Empty) λ k.
-    of_kind wanted k
+    of_kind want k
 
 -- The first of two refusals.
 abbrev pub first_of : Option Reply → Option Reply → Option Reply
@@ -123,7 +127,7 @@ first_cause s c (cause ∷ causes) = first_of (refusal_of s c cause) (first_caus
 
 -- The outcome of a rule: the first refusal in its order, or the change.
 abbrev pub outcome : State → ℕ → Rule → Judged Change
-outcome s c (Name n wanted rest) = and_then (named s c n wanted) λ k. outcome s c (rest (found k))
+outcome s c (Name n want rest) = and_then (named s c n want) λ k. outcome s c (rest (found k))
 outcome s c (Vacant target rest) = and_then (vacant s c target) λ at. outcome s c (rest at)
 outcome s c (Held target rest) = and_then (held s c target) λ p. outcome s c (rest p.0 p.1)
 outcome s c (Mapped table v rest) = and_then (mapped s c table v) λ k. outcome s c (rest k)
@@ -143,16 +147,25 @@ abbrev pub ReachesHeld : State → ℕ → Target → Type 0
 ReachesHeld s c target = IsSomeAnd (reached s c target) λ at. IsTrue (is_some (held_in (place_at s at)))
 
 -- Core c may use a capability there of a kind that is not wanted.
-abbrev pub ReachesOther : State → ℕ → Target → (Kind → Bool) → Type 0
-ReachesOther s c target wanted =
-    IsSomeAnd (reached s c target) λ at. IsSomeAnd (usable s c at) λ k. IsFalse (wanted k.kind)
+abbrev pub ReachesOther : State → ℕ → Target → Want → Type 0
+ReachesOther s c target want =
+    IsSomeAnd (reached s c target) λ at. IsSomeAnd (usable s c at) λ k. IsFalse (want.kinds k.kind)
 
--- A name may be refused: it has no slot, its place holds nothing, or its capability is of another kind.
-abbrev pub NameMay : State → ℕ → ℕ → (Kind → Bool) → Reply → Type 0
-NameMay s c n wanted reply.NoSlot = IsTrue (has_no_slot s (own s c n))
-NameMay s c n wanted reply.Empty = ReachesNone s c (own s c n)
-NameMay s c n wanted reply.WrongCap = ReachesOther s c (own s c n) wanted
-NameMay s c n wanted _ = ⊥
+-- A capability of a wanted kind lacks a right that is needed.
+abbrev pub Lacks : Want → Capability → Type 0
+Lacks want k = IsTrue (want.kinds k.kind) × IsFalse (has_rights k.rights want.needs)
+
+-- Core c may use a capability there of a wanted kind that lacks a right that is needed.
+abbrev pub ReachesLacking : State → ℕ → Target → Want → Type 0
+ReachesLacking s c target want = IsSomeAnd (reached s c target) λ at. IsSomeAnd (usable s c at) (Lacks want)
+
+-- A name may be refused: it has no slot, its place holds nothing, its capability is of another kind, or lacks a right that is needed.
+abbrev pub NameMay : State → ℕ → ℕ → Want → Reply → Type 0
+NameMay s c n want reply.NoSlot = IsTrue (has_no_slot s (own s c n))
+NameMay s c n want reply.Empty = ReachesNone s c (own s c n)
+NameMay s c n want reply.WrongCap = ReachesOther s c (own s c n) want
+NameMay s c n want reply.NoRight = ReachesLacking s c (own s c n) want
+NameMay s c n want _ = ⊥
 
 -- A target that is to be free may be refused: it has no slot, its place holds something, or its grace period may not be over.
 abbrev pub VacantMay : State → ℕ → Target → Reply → Type 0
@@ -209,7 +222,7 @@ slot_of (Some at) = at
 -- A rule may be refused with this reply: at a name, at the target, or by an own cause, whichever stands. A cause that is about
 -- what a name leads to stands only where that is found.
 abbrev pub RuleMay : State → ℕ → Rule → Reply → Type 0
-RuleMay s c (Name n wanted rest) r = NameMay s c n wanted r ⊎ RuleMay s c (rest (name_of (named s c n wanted))) r
+RuleMay s c (Name n want rest) r = NameMay s c n want r ⊎ RuleMay s c (rest (name_of (named s c n want))) r
 RuleMay s c (Vacant target rest) r = VacantMay s c target r ⊎ RuleMay s c (rest (slot_of (reached s c target))) r
 RuleMay s c (Held target rest) r = HeldMay s c target r ⊎ IsFoundAnd (held s c target) λ p. RuleMay s c (rest p.0 p.1) r
 RuleMay s c (Mapped table v rest) r = MappedMay s c table v r ⊎ IsFoundAnd (mapped s c table v) λ k. RuleMay s c (rest k) r

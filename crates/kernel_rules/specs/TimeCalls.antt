@@ -6,7 +6,7 @@ use Rattle.spk_nums.specs.declared.replies.Value.{Value}
 use Rattle.spk_nums.specs.declared.replies.Value.TheVariants.{Amount, Preempts, Stays}
 use Rattle.spk_nums.specs.declared.replies.Reply.TheVariants as reply
 use Rattle.kernel_rules.specs.State.{TcapFields, Frame, Kernel, Tcap, State, with_frame, with_core, tcap_in}
-use Rattle.kernel_rules.specs.Access.{Named, only}
+use Rattle.kernel_rules.specs.Access.{Named, only, to_use}
 use Rattle.kernel_rules.specs.Rules.{Change, Cause, When, Rule, Name, Does, answers, leaves}
 
 -- The temporal capability of a frame.
@@ -74,8 +74,8 @@ are_unlike s a b =
 -- `transfer A B M` names temporal capabilities A and B with equal lists, and moves M ticks from A to B.
 abbrev pub transfer_rule : State → ℕ → ℕ → ℕ → Rule
 transfer_rule s a b m =
-    Name a (only kind.Tcap) λ a.
-    Name b (only kind.Tcap) λ b.
+    Name a (to_use (only kind.Tcap)) λ a.
+    Name b (to_use (only kind.Tcap)) λ b.
     Does (are_same a b ∷ is_short s a m ∷ are_unlike s a b ∷ [])
     (leaves (moved s a.frame b.frame m))
 
@@ -90,8 +90,8 @@ are_many s a b = When (a.found && (b.found && nat_lt 8 (length (merged_list s a.
 -- `delegate A B M` names temporal capabilities A and B, moves M ticks from A to B, and gives B the merged list.
 abbrev pub delegate_rule : State → ℕ → ℕ → ℕ → Rule
 delegate_rule s a b m =
-    Name a (only kind.Tcap) λ a.
-    Name b (only kind.Tcap) λ b.
+    Name a (to_use (only kind.Tcap)) λ a.
+    Name b (to_use (only kind.Tcap)) λ b.
     Does (are_same a b ∷ is_short s a m ∷ are_many s a b ∷ [])
     (leaves (with_qualities (moved s a.frame b.frame m) b.frame (merged_list s a.frame b.frame)))
 
@@ -106,6 +106,6 @@ preempts a b = preempts_by a.budget a.qualities b.budget b.qualities
 -- `test A B` names temporal capabilities A and B, and answers whether A preempts B.
 abbrev pub test_rule : State → ℕ → ℕ → Rule
 test_rule s a b =
-    Name a (only kind.Tcap) λ a.
-    Name b (only kind.Tcap) λ b.
+    Name a (to_use (only kind.Tcap)) λ a.
+    Name b (to_use (only kind.Tcap)) λ b.
     Does (are_same a b ∷ []) (answers s (preemption (preempts (tcap_at s a.frame) (tcap_at s b.frame))))
