@@ -4,6 +4,7 @@ use Rattle.std.proofs.Common.{nat_lt, if◌then◌else◌, ◌+◌, ◌-◌, ◌
 use Rattle.std.proofs.lemmas.Bool.{cases_eq, false≢true, ne_eqb}
 use Rattle.std.specs.List.{list_any}
 use Rattle.spk_nums.specs.Capability.{Capability, cap_of}
+use Rattle.spk_nums.specs.Rights.{kept}
 use Rattle.spk_nums.specs.declared.kinds.Kind.{Kind}
 use Rattle.spk_nums.specs.declared.kinds.Kind.TheVariants as kind
 use Rattle.spk_nums.specs.declared.kinds.FrameKind.{FrameKind}
@@ -386,7 +387,7 @@ module _ (s : State) (o : ℕ → Bool) (d : ℕ) (h : HasTurn s o d) where
   -- Every call that is carried out.
   pub rule_spares : (call : Call) → ChangesFrom (SparesBy s o d) s d (rule_of s d call)
   rule_spares (Look a) = λ k e calm. plain s o d h s (apart_same s o d) (own_runs s o d h)
-  rule_spares (Copy a t b) = λ k e table f at g calm. filled s o d h (Under (found table) b) at k g
+  rule_spares (Copy a t b rights) = λ k e table f at g calm. filled s o d h (Under (found table) b) at (kept k rights.0) g
   rule_spares (Remove t b) = λ table e at k g calm. removed s o d h (Under (found table) b) at k g
   rule_spares (Grow t i l) = λ table e leaf f at g calm. filled s o d h (InRoot (found table) i) at (plain_cap kind.Link leaf.frame) g
   rule_spares (Shrink t i) = λ table e at k g calm. removed s o d h (InRoot (found table) i) at k g

@@ -10,7 +10,7 @@ use Rattle.spk_nums.specs.declared.replies.Reply.TheVariants as reply
 use Rattle.kernel_rules.specs.State.{Place, Free, Holds, Quiescing, CompFields, Table, Leaf, Pages, Pleaf, Comp, Thread, Frame}
 use Rattle.kernel_rules.specs.State.{Kernel, Core, PlaceOf, State, comp_in, thread_in, first_of_stack, thread_of, comp_of}
 use Rattle.kernel_rules.specs.References.{named_by, place_names, frame_names, times, refs}
-use Rattle.kernel_rules.specs.Access.{Slot, Named, Under, place_at, usable_in, usable, linked}
+use Rattle.kernel_rules.specs.Access.{Want, Slot, Named, Under, place_at, usable_in, usable, linked}
 use Rattle.kernel_rules.specs.Access.{slot_in, reached, root_slot, root_at, only, own}
 use Rattle.kernel_rules.specs.Rules.{Found, and_then, or_refuse, of_kind, named}
 use Rattle.kernel_rules.specs.Fitting.{fits, IsGood}
@@ -35,7 +35,7 @@ pub record Stay (s t : State) (c : ℕ) : Type 0 where
   pub usable : (at : Slot) (k : Capability) → Relies s c at.node → usable s c at ≡ Some k → usable t c at ≡ Some k
   pub reached : (table : Named) (n : ℕ) (at : Slot) → Relies s c table.frame
       → reached s c (Under table n) ≡ Some at → reached t c (Under table n) ≡ Some at
-  pub named : (n : ℕ) (wanted : Kind → Bool) (k : Capability) → named s c n wanted ≡ Found k → named t c n wanted ≡ Found k
+  pub named : (n : ℕ) (wanted : Want) (k : Capability) → named s c n wanted ≡ Found k → named t c n wanted ≡ Found k
 
 pub stay_same : (s : State) (c : ℕ) → Stay s s c
 stay_same s c = record {
@@ -242,7 +242,7 @@ module _ (s : State) (o : ℕ → Bool) (c : ℕ) (h : IsSound s o) (q : o c ≡
       subst (Relies s c) l.3 (usable_relies (root_slot table.frame n) l.0 (link_names l.0.kind l.2) l.1)
 
 -- A name that is found: a slot is reached, and what may be used there is of the wanted kind.
-pub name_parts : (s : State) (c n : ℕ) (wanted : Kind → Bool) (k : Capability) → named s c n wanted ≡ Found k
+pub name_parts : (s : State) (c n : ℕ) (wanted : Want) (k : Capability) → named s c n wanted ≡ Found k
     → (at : Slot) × (reached s c (own s c n) ≡ Some at) × (j : Capability) × (usable s c at ≡ Some j) × (of_kind wanted j ≡ Found k)
 name_parts s c n wanted k e =
     let a = then_parts (or_refuse (reached s c (own s c n)) reply.NoSlot)
@@ -250,7 +250,7 @@ name_parts s c n wanted k e =
     let b = then_parts (or_refuse (usable s c a.0) reply.Empty) (λ k. of_kind wanted k) k a.2 in
     (a.0, or_found (reached s c (own s c n)) reply.NoSlot a.0 a.1, b.0, or_found (usable s c a.0) reply.Empty b.0 b.1, b.2)
 
-name_from : (s : State) (c n : ℕ) (wanted : Kind → Bool) (at : Slot) (j k : Capability)
+name_from : (s : State) (c n : ℕ) (wanted : Want) (at : Slot) (j k : Capability)
     → reached s c (own s c n) ≡ Some at → usable s c at ≡ Some j
     → of_kind wanted j ≡ Found k → named s c n wanted ≡ Found k
 name_from s c n wanted at j k r u f =

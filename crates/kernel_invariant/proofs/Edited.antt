@@ -7,6 +7,7 @@ use Rattle.spk_nums.specs.CallLimits.{InLimits}
 use Rattle.spk_nums.specs.Merging.{merged}
 use Rattle.spk_nums.specs.Qualities.{IsQualityList}
 use Rattle.spk_nums.specs.declared.kinds.Kind.{Kind}
+use Rattle.spk_nums.specs.Rights.{kept}
 use Rattle.spk_nums.specs.declared.kinds.Kind.TheVariants as kind
 use Rattle.spk_nums.specs.declared.kinds.FrameKind.{FrameKind}
 use Rattle.spk_nums.specs.declared.kinds.FrameKind.TheVariants as frame_kind
@@ -24,7 +25,7 @@ use Rattle.kernel_rules.specs.State.{CompFields, TcapFields, Liveness, Live, Gra
 use Rattle.kernel_rules.specs.State.{put, tcap_in, comp_in, comp_of, thread_in, thread_of}
 use Rattle.kernel_rules.specs.Start.{plain_cap, no_grace}
 use Rattle.kernel_rules.specs.References.{refs}
-use Rattle.kernel_rules.specs.Access.{Slot, Target, Under, InRoot, found, held_in, place_at, only, root}
+use Rattle.kernel_rules.specs.Access.{to_use, Slot, Target, Under, InRoot, found, held_in, place_at, only, root}
 use Rattle.kernel_rules.specs.Fitting.{fits, IsGood}
 use Rattle.kernel_rules.specs.Relies.{is_node}
 use Rattle.kernel_rules.specs.Rules.{Change, fills, removes, answers, Cause, When, WaitedFor, Unflushed, Found, named, vacant, held, mapped}
@@ -207,7 +208,7 @@ module _ (s : State) (c : ℕ) (o : ℕ → Bool) (h : IsOpen s o c) where
       let p = (held_facts s c target at k e).1 in
       (node_known at (h.sound.bare at.node at.index k p), p)
 
-  tcap_known : (n : ℕ) (k : Capability) → named s c n (only kind.Tcap) ≡ Found k → HasTcap s k.frame
+  tcap_known : (n : ℕ) (k : Capability) → named s c n (to_use (only kind.Tcap)) ≡ Found k → HasTcap s k.frame
   tcap_known n k e =
       let fit = named_fit s o c n kind.Tcap k h.sound h.is e in
       record { fit = fit; below = tcap_below s o k.frame h.sound fit }
@@ -229,13 +230,13 @@ module _ (s : State) (c : ℕ) (o : ℕ → Bool) (h : IsOpen s o c) where
       record { below = at.0; bare = subst (λ x. IsTrue (is_bare x)) (sym at.1) bare; poor = poor; idle = idle }
 
   fresh : (r f : ℕ) (range : Capability) (causes : List Cause) (object : Object)
-      → named s c r (only kind.Range) ≡ Found range → (tcap_in (Kernel object)).budget ≡ 0 → (thread_in (Kernel object)).runs_on ≡ None
+      → named s c r (to_use (only kind.Range)) ≡ Found range → (tcap_in (Kernel object)).budget ≡ 0 → (thread_in (Kernel object)).runs_on ≡ None
       → first_cause s c (outside (found range) f ∷ not_blank s f ∷ causes) ≡ None → TakesFresh s f (Kernel object)
   fresh r f range causes object e poor idle calm =
       fresh_at f (Kernel object) (Kernel Blank) (blank_by s o c r f range causes h e calm) refl poor idle
 
   node_fresh : (r f : ℕ) (range : Capability) (object : Object) (at : Slot) (k : Capability)
-      → named s c r (only kind.Range) ≡ Found range → (tcap_in (Kernel object)).budget ≡ 0 → (thread_in (Kernel object)).runs_on ≡ None
+      → named s c r (to_use (only kind.Range)) ≡ Found range → (tcap_in (Kernel object)).budget ≡ 0 → (thread_in (Kernel object)).runs_on ≡ None
       → first_cause s c (outside (found range) f ∷ not_blank s f ∷ []) ≡ None → Known c s (Fill at k)
       → Known c s (Node f object) × Known c (edited c s (Node f object)) (Fill at k)
   node_fresh r f range object at k e poor idle calm place =
@@ -253,7 +254,7 @@ module _ (s : State) (c : ℕ) (o : ℕ → Bool) (h : IsOpen s o c) where
   number_small l e _ is q = absurd (false≢true (sym (ap (λ x. is_live_in x e) is) ∙ q))
 
   moves_known : (a b m : ℕ) (j k : Capability) (causes : List Cause)
-      → named s c a (only kind.Tcap) ≡ Found j → named s c b (only kind.Tcap) ≡ Found k
+      → named s c a (to_use (only kind.Tcap)) ≡ Found j → named s c b (to_use (only kind.Tcap)) ≡ Found k
       → first_cause s c (are_same (found j) (found k) ∷ is_short s (found j) m ∷ causes) ≡ None → Moves s j.frame k.frame m
   moves_known a b m j k causes e f calm =
       let p = first_two s c (are_same (found j) (found k)) (is_short s (found j) m) causes calm in
@@ -344,7 +345,7 @@ module _ (s : State) (c : ℕ) where
       → is_node (Kernel object) ≡ false → (tcap_in (Kernel object)).budget ≡ 0 → (thread_in (Kernel object)).runs_on ≡ None
       → Agrees call c (Become f (Kernel object) ∷ Fill at (plain_cap k f) ∷ []) → (InLimits call → Limited c s (Become f (Kernel object)))
       → RootIsNode s target
-      → named s c r (only kind.Range) ≡ Found range → vacant s c target ≡ Found at
+      → named s c r (to_use (only kind.Range)) ≡ Found range → vacant s c target ≡ Found at
       → first_cause s c (outside (found range) f ∷ not_blank s f ∷ []) ≡ None → Edits call c s (makes s f object k at)
   made call object k r f range target at none poor idle agrees limited node e v calm =
       two call (Become f (Kernel object)) (Fill at (plain_cap k f)) Nothing agrees (refl, λ x. refl, tt) (tt, tt) (λ lim. (limited lim, tt))
@@ -419,7 +420,7 @@ module _ (s : State) (c : ℕ) where
       (λ o h. own_core s c o h)
   touch_edits v (Some t) = λ calm. nothing (call.Touch v) (λ x. refl, refl, λ x g. refl, refl)
 
-  switch_edits : (a b : ℕ) (j k : Capability) → named s c a (only kind.Thread) ≡ Found j → (e : Option ℕ)
+  switch_edits : (a b : ℕ) (j k : Capability) → named s c a (to_use (only kind.Thread)) ≡ Found j → (e : Option ℕ)
       → (thread_in (s.frame j.frame)).runs_on ≡ e
       → ChangesFrom (Edits (call.Switch a b) c s) s c (switch_to s c (found j) k.frame e)
   switch_edits a b j k g (Some e) is = λ calm. absurd (some_none (reply.Running e) (none_parts (Some (reply.Running e)) None calm).0)
@@ -434,13 +435,13 @@ module _ (s : State) (c : ℕ) where
 
   pub rule_edits : (call : Call) → ChangesFrom (Edits call c s) s c (rule_of s c call)
   rule_edits (call.Look a) = λ k e calm. nothing (call.Look a) (λ x. refl, refl, λ x g. refl, refl)
-  rule_edits (call.Copy a t b) = λ k e table f at g calm.
-      filled (call.Copy a t b) (Under (found table) b) at k (λ x. refl, refl, λ x g. refl, refl) (λ o h. tt) g
+  rule_edits (call.Copy a t b rights) = λ k e table f at g calm.
+      filled (call.Copy a t b rights) (Under (found table) b) at (kept k rights.0) (λ x. refl, refl, λ x g. refl, refl) (λ o h. tt) g
   rule_edits (call.Remove t b) = λ table e at k g calm.
       removed (call.Remove t b) (Under (found table) b) at k (λ x. refl, refl, λ x g. refl, refl) g
   rule_edits (call.Grow t i l) = λ table e leaf f at g calm.
       filled (call.Grow t i l) (InRoot (found table) i) at (plain_cap kind.Link leaf.frame) (λ x. refl, refl, λ x g. refl, refl)
-      (λ o h. let a : IsGood s table × IsTrue (root table.kind) = named_good s o c t root table h.sound h.is e in
+      (λ o h. let a : IsGood s table × IsTrue (root table.kind) = named_good s o c t (to_use root) table h.sound h.is e in
       root_node table.kind (s.frame table.frame) a.1 a.0.fit) g
   rule_edits (call.Shrink t i) = λ table e at k g calm.
       removed (call.Shrink t i) (InRoot (found table) i) at k (λ x. refl, refl, λ x g. refl, refl) g

@@ -3,16 +3,17 @@ use Rattle.std.proofs.Common.{◌&&◌, ◌≡◌, ℕ, ◌<◌, ◌≤◌, ◌%
 use Rattle.std.proofs.Common.{subst, arith, nat_le, if◌then◌else◌, IsTrue, List, ◌∷◌, Option, Some, None}
 use Rattle.std.proofs.lemmas.Bool.{false≢true, true≢false, leb-true}
 use Rattle.spk_nums.specs.Capability.{Capability}
+use Rattle.spk_nums.specs.Rights.{has_rights}
 use Rattle.spk_nums.specs.declared.kinds.Kind.{Kind}
 use Rattle.spk_nums.specs.declared.kinds.Kind.TheVariants as kind
 use Rattle.spk_nums.specs.declared.replies.Reply.{Reply}
 use Rattle.spk_nums.specs.declared.replies.Reply.TheVariants as reply
 use Rattle.kernel_rules.specs.State.{Place, Free, Holds, Quiescing, Frame, Kernel}
 use Rattle.kernel_rules.specs.State.{Leaf, Pleaf, PlaceOf, State}
-use Rattle.kernel_rules.specs.Access.{Slot, found, Target, Under, InRoot, place_at, held_in, usable_in}
+use Rattle.kernel_rules.specs.Access.{Slot, found, Want, to_use, Target, Under, InRoot, place_at, held_in, usable_in}
 use Rattle.kernel_rules.specs.Access.{usable, linked, slot_in, reached, root_slot, only, own}
 use Rattle.kernel_rules.specs.Rules.{Change, Cause, Rule, Name, Vacant, Held, Mapped, Does, Judged}
-use Rattle.kernel_rules.specs.Rules.{Refused, Found, and_then, unless, or_refuse, of_kind, named, first_of}
+use Rattle.kernel_rules.specs.Rules.{Refused, Found, and_then, unless, or_refuse, with_rights, of_kind, named, first_of}
 use Rattle.kernel_rules.specs.Rules.{not_vacant, vacant, held, mapped, refusal_of, first_cause, outcome}
 use Rattle.kernel_rules.proofs.Changes.{IfFound}
 use Rattle.kernel_rules.specs.Fitting.{fits, IsGood}
@@ -21,7 +22,7 @@ use Rattle.kernel_invariant.proofs.Sound.{IsSound, only_is}
 
 -- P holds of the change that a rule makes where it is carried out.
 abbrev pub ChangesFrom : (Change → Type 0) → State → ℕ → Rule → Type 0
-ChangesFrom P s c (Name n wanted rest) = (k : Capability) → named s c n wanted ≡ Found k → ChangesFrom P s c (rest (found k))
+ChangesFrom P s c (Name n want rest) = (k : Capability) → named s c n want ≡ Found k → ChangesFrom P s c (rest (found k))
 ChangesFrom P s c (Vacant target rest) = (at : Slot) → vacant s c target ≡ Found at → ChangesFrom P s c (rest at)
 ChangesFrom P s c (Held target rest) = (at : Slot) (k : Capability) → held s c target ≡ Found (at, k) → ChangesFrom P s c (rest at k)
 ChangesFrom P s c (Mapped table v rest) = (k : Capability) → mapped s c table v ≡ Found k → ChangesFrom P s c (rest k)
@@ -29,7 +30,7 @@ ChangesFrom P s c (Does causes change) = first_cause s c causes ≡ None → P c
 
 pub changes_map : (P Q : Change → Type 0) (s : State) (c : ℕ) (rule : Rule) → ((x : Change) → P x → Q x)
     → ChangesFrom P s c rule → ChangesFrom Q s c rule
-changes_map P Q s c (Name n wanted rest) f h = λ k e. changes_map P Q s c (rest (found k)) f (h k e)
+changes_map P Q s c (Name n want rest) f h = λ k e. changes_map P Q s c (rest (found k)) f (h k e)
 changes_map P Q s c (Vacant target rest) f h = λ at e. changes_map P Q s c (rest at) f (h at e)
 changes_map P Q s c (Held target rest) f h = λ at k e. changes_map P Q s c (rest at k) f (h at k e)
 changes_map P Q s c (Mapped table v rest) f h = λ k e. changes_map P Q s c (rest k) f (h k e)
@@ -45,8 +46,8 @@ unless_found None x P h = h refl
 unless_found (Some r) x P h = tt
 
 pub outcome_from : (P : Change → Type 0) (s : State) (c : ℕ) (rule : Rule) → ChangesFrom P s c rule → IfFound (outcome s c rule) P
-outcome_from P s c (Name n wanted rest) h =
-    then_found (named s c n wanted) (λ k. outcome s c (rest (found k))) P λ k e. outcome_from P s c (rest (found k)) (h k e)
+outcome_from P s c (Name n want rest) h =
+    then_found (named s c n want) (λ k. outcome s c (rest (found k))) P λ k e. outcome_from P s c (rest (found k)) (h k e)
 outcome_from P s c (Vacant target rest) h =
     then_found (vacant s c target) (λ at. outcome s c (rest at)) P λ at e. outcome_from P s c (rest at) (h at e)
 outcome_from P s c (Held target rest) h =
@@ -97,27 +98,41 @@ usable_good s o c at k h inc e = by_place (place_at s at) refl e
         by_wait j ((s.grace (PlaceOf at.node at.index)).waits c) q in
         subst (IsGood s) w.1 (h.waiting at.node at.index j c is inc w.0).0
 
--- A named capability is good, and of a wanted kind.
-pub named_good : (s : State) (o : ℕ → Bool) (c n : ℕ) (wanted : Kind → Bool) (k : Capability) → IsSound s o → o c ≡ true
-    → named s c n wanted ≡ Found k → IsGood s k × IsTrue (wanted k.kind)
-named_good s o c n wanted k h inc e =
-    let a = then_parts (or_refuse (reached s c (own s c n)) reply.NoSlot)
-    (λ at. and_then (or_refuse (usable s c at) reply.Empty) λ k. of_kind wanted k) k e in
-    let b = then_parts (or_refuse (usable s c a.0) reply.Empty) (λ k. of_kind wanted k) k a.2 in
-    let u : usable s c a.0 ≡ Some b.0 = or_found (usable s c a.0) reply.Empty b.0 b.1 in
-    let w : (b.0 ≡ k) × IsTrue (wanted b.0.kind) = of_wanted b.0 (wanted b.0.kind) refl b.2 in
-    (subst (IsGood s) w.0 (usable_good s o c a.0 b.0 h inc u), subst (λ j. IsTrue (wanted j.kind)) w.0 w.1)
+-- What is found at a place where capability j may be used is j, which is of a wanted kind and has the rights that are needed.
+pub record Suits (want : Want) (j k : Capability) : Type 0 where
+  pub is : j ≡ k
+  pub kind : IsTrue (want.kinds j.kind)
+  pub rights : IsTrue (has_rights j.rights want.needs)
+
+pub suits : (want : Want) (j k : Capability) → of_kind want j ≡ Found k → Suits want j k
+suits want j k q = by_kind (want.kinds j.kind) refl q
   where
-    of_wanted : (j : Capability) (b : Bool) → wanted j.kind ≡ b
-        → (if b then Found j else Refused reply.WrongCap) ≡ Found k → (j ≡ k) × IsTrue (wanted j.kind)
-    of_wanted j true is q = (found_inj j k q, is)
-    of_wanted j false is q = absurd (refused_found reply.WrongCap k q)
+    by_rights : IsTrue (want.kinds j.kind) → (b : Bool) → has_rights j.rights want.needs ≡ b
+        → (if b then Found j else Refused reply.NoRight) ≡ Found k → Suits want j k
+    by_rights w true h q = record { is = found_inj j k q; kind = w; rights = h }
+    by_rights w false h q = absurd (refused_found reply.NoRight k q)
+
+    by_kind : (b : Bool) → want.kinds j.kind ≡ b
+        → (if b then with_rights want.needs j else Refused reply.WrongCap) ≡ Found k → Suits want j k
+    by_kind true w q = by_rights w (has_rights j.rights want.needs) refl q
+    by_kind false w q = absurd (refused_found reply.WrongCap k q)
+
+-- A named capability is good, and of a wanted kind.
+pub named_good : (s : State) (o : ℕ → Bool) (c n : ℕ) (want : Want) (k : Capability) → IsSound s o → o c ≡ true
+    → named s c n want ≡ Found k → IsGood s k × IsTrue (want.kinds k.kind)
+named_good s o c n want k h inc e =
+    let a = then_parts (or_refuse (reached s c (own s c n)) reply.NoSlot)
+    (λ at. and_then (or_refuse (usable s c at) reply.Empty) λ k. of_kind want k) k e in
+    let b = then_parts (or_refuse (usable s c a.0) reply.Empty) (λ k. of_kind want k) k a.2 in
+    let u : usable s c a.0 ≡ Some b.0 = or_found (usable s c a.0) reply.Empty b.0 b.1 in
+    let w : Suits want b.0 k = suits want b.0 k b.2 in
+    (subst (IsGood s) w.is (usable_good s o c a.0 b.0 h inc u), subst (λ j. IsTrue (want.kinds j.kind)) w.is w.kind)
 
 -- A named capability of one kind alone names a frame that fits it.
 pub named_fit : (s : State) (o : ℕ → Bool) (c n : ℕ) (j : Kind) (k : Capability) → IsSound s o → o c ≡ true
-    → named s c n (only j) ≡ Found k → IsTrue (fits j (s.frame k.frame))
+    → named s c n (to_use (only j)) ≡ Found k → IsTrue (fits j (s.frame k.frame))
 named_fit s o c n j k h inc e =
-    let a : IsGood s k × IsTrue (only j k.kind) = named_good s o c n (only j) k h inc e in
+    let a : IsGood s k × IsTrue (only j k.kind) = named_good s o c n (to_use (only j)) k h inc e in
     subst (λ i. IsTrue (fits i (s.frame k.frame))) (only_is j k.kind a.1) a.0.fit
 
 -- The root of a target is a node, where the target is an entry of the root itself.

@@ -5,6 +5,7 @@ use Rattle.std.proofs.Common.{IsTrue, IsFalse, List, [], ◌∷◌, length, take
 use Rattle.std.proofs.lemmas.Bool.{cases_eq, false≢true, true≢false, ltb-true, ltb-false, lt-ltb, and_parts}
 use Rattle.std.specs.List.{list_any, range_with_len}
 use Rattle.spk_nums.specs.Capability.{Capability, cap_of}
+use Rattle.spk_nums.specs.Rights.{kept}
 use Rattle.spk_nums.specs.declared.kinds.Kind.{Kind}
 use Rattle.spk_nums.specs.declared.kinds.Kind.TheVariants as kind
 use Rattle.spk_nums.specs.declared.kinds.FrameKind.{FrameKind}
@@ -24,7 +25,7 @@ use Rattle.kernel_rules.specs.State.{Pleaf, Comp, Thread, Tcap, Frame, Untyped, 
 use Rattle.kernel_rules.specs.State.{FrameOf, State, put, with_frame, with_core, comp_of, comp_in, thread_in, thread_of}
 use Rattle.kernel_rules.specs.Start.{plain_cap}
 use Rattle.kernel_rules.specs.References.{refs, frame_names, number_names}
-use Rattle.kernel_rules.specs.Access.{Slot, found, Target, Under, InRoot, held_in, only, root}
+use Rattle.kernel_rules.specs.Access.{Slot, found, any, to_copy, to_use, Target, Under, InRoot, held_in, only, root}
 use Rattle.kernel_rules.specs.GracePeriods.{same_thing, begun, flushed}
 use Rattle.kernel_rules.specs.Rules.{Change, Cause, When, WaitedFor, Unflushed, Found, named, vacant, held}
 use Rattle.kernel_rules.specs.Rules.{first_cause, refusal_of, waits_of, flushes_of, frames_of, fills, removes}
@@ -115,7 +116,7 @@ leaf_link _ x h = pleaf x h
 -- Each call on capabilities.
 grow_keeps : (s : State) (o : ℕ → Bool) (c : ℕ) → IsOpen s o c → (t i l : ℕ) → ChangesFrom (Keeps s o c) s c (grow_rule s t i l)
 grow_keeps s o c h t i l = λ table e leaf f at g calm.
-    let a : IsGood s table × IsTrue (root table.kind) = named_good s o c t root table h.sound h.is e in
+    let a : IsGood s table × IsTrue (root table.kind) = named_good s o c t (to_use root) table h.sound h.is e in
     let fit : IsTrue (fits (leaf_of table.kind) (s.frame leaf.frame)) = named_fit s o c l (leaf_of table.kind) leaf h.sound h.is f in
     filled s o c (InRoot (found table) i) at (plain_cap kind.Link leaf.frame) h (root_node table.kind (s.frame table.frame) a.1 a.0.fit) g
     (record { fit = leaf_link table.kind (s.frame leaf.frame) fit; within = tt })
@@ -133,10 +134,10 @@ user_is User h = refl
 user_is _ h = absurd (false≢true h)
 
 -- A frame of a named range is a frame of the machine.
-pub in_range : (s : State) (o : ℕ → Bool) (c r f : ℕ) (range : Capability) → IsOpen s o c → named s c r (only kind.Range) ≡ Found range
+pub in_range : (s : State) (o : ℕ → Bool) (c r f : ℕ) (range : Capability) → IsOpen s o c → named s c r (to_use (only kind.Range)) ≡ Found range
     → refusal_of s c (outside (found range) f) ≡ None → f < s.limits.frames
 in_range s o c r f range h e none =
-    let a : IsGood s range × IsTrue (only kind.Range range.kind) = named_good s o c r (only kind.Range) range h.sound h.is e in
+    let a : IsGood s range × IsTrue (only kind.Range range.kind) = named_good s o c r (to_use (only kind.Range)) range h.sound h.is e in
     let ends : EndsWithin kind.Range range.frame range.arg s.limits.frames =
     subst (λ k. EndsWithin k range.frame range.arg s.limits.frames) (only_is kind.Range range.kind a.1) a.0.within in
     let has : has_frame (found range) f ≡ true =
@@ -154,7 +155,7 @@ kind_by s f wanted below none =
 
 -- Where no cause of a `make` stands, its frame is a blank frame of the machine.
 pub blank_by : (s : State) (o : ℕ → Bool) (c r f : ℕ) (range : Capability) (causes : List Cause)
-    → IsOpen s o c → named s c r (only kind.Range) ≡ Found range
+    → IsOpen s o c → named s c r (to_use (only kind.Range)) ≡ Found range
     → first_cause s c (outside (found range) f ∷ not_blank s f ∷ causes) ≡ None → (f < s.limits.frames) × (s.frame f ≡ Kernel Blank)
 blank_by s o c r f range causes h e calm =
     let p = first_two s c (outside (found range) f) (not_blank s f) causes calm in
@@ -162,7 +163,7 @@ blank_by s o c r f range causes h e calm =
     (below, blank_is (s.frame f) (kind_by s f (is_blank (s.frame f)) below p.1))
 
 -- Where no cause of a retype to user or kernel stands, its frame is an untyped frame of the machine.
-pub untyped_by : (s : State) (o : ℕ → Bool) (c r f : ℕ) (range : Capability) → IsOpen s o c → named s c r (only kind.Range) ≡ Found range
+pub untyped_by : (s : State) (o : ℕ → Bool) (c r f : ℕ) (range : Capability) → IsOpen s o c → named s c r (to_use (only kind.Range)) ≡ Found range
     → first_cause s c (outside (found range) f ∷ not_untyped s f ∷ []) ≡ None → (f < s.limits.frames) × (s.frame f ≡ Untyped)
 untyped_by s o c r f range h e calm =
     let p = first_two s c (outside (found range) f) (not_untyped s f) [] calm in
@@ -444,12 +445,16 @@ moved_step s o a b m fa fb h =
     tcap_step first o b (record (tcap_at first b) { budget = (tcap_at s b).budget + m }) (tcap_below s o b h fb)
     (tcap_step s o a (record (tcap_at s a) { budget = (tcap_at s a).budget - m }) (tcap_below s o a h fa) h)
 
+-- A capability that is good is so whatever its rights.
+kept_good : (s : State) (k : Capability) (these : ℕ) → IsGood s k → IsGood s (kept k these)
+kept_good s k these h = record { fit = h.fit; within = h.within }
+
 -- Every call that is carried out keeps the state sound.
 pub rule_keeps : (s : State) (o : ℕ → Bool) (c : ℕ) → IsOpen s o c
     → (call : Call) → InLimits call → ChangesFrom (Keeps s o c) s c (rule_of s c call)
 rule_keeps s o c h (Look a) lim = λ k e calm. plain s s o c h h.sound
-rule_keeps s o c h (Copy a t b) lim = λ k e table f at g calm.
-    filled s o c (Under (found table) b) at k h tt g (named_good s o c a (λ k. true) k h.sound h.is e).0
+rule_keeps s o c h (Copy a t b rights) lim = λ k e table f at g calm.
+    filled s o c (Under (found table) b) at (kept k rights.0) h tt g (kept_good s k rights.0 (named_good s o c a (to_copy any) k h.sound h.is e).0)
 rule_keeps s o c h (Remove t b) lim = λ table e at k g calm. removed s o c (Under (found table) b) at k h g
 rule_keeps s o c h (Grow t i l) lim = grow_keeps s o c h t i l
 rule_keeps s o c h (Shrink t i) lim = λ table e at k g calm. removed s o c (InRoot (found table) i) at k h g
