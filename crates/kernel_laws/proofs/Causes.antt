@@ -5,6 +5,8 @@ use Rattle.std.proofs.Common.{IsTrue, IsFalse, IsSomeAnd, is_some, List, [], ◌
 use Rattle.std.proofs.lemmas.Bool.{false≢true, true≢false, eqb-true, eqb-false, ltb-true, ltb-false, leb-true, leb-false, and_parts}
 use Rattle.std.specs.List.{list_any, range_with_len}
 use Rattle.spk_nums.specs.Capability.{Capability}
+use Rattle.spk_nums.specs.Rights.{has_rights}
+use Rattle.spk_nums.specs.declared.rights.Rights.{Rights}
 use Rattle.spk_nums.specs.declared.kinds.Kind.{Kind}
 use Rattle.spk_nums.specs.declared.kinds.Kind.TheVariants as kind
 use Rattle.spk_nums.specs.declared.kinds.FrameKind.{FrameKind}
@@ -22,11 +24,11 @@ use Rattle.spk_nums.specs.declared.replies.Reply.TheVariants as reply
 use Rattle.kernel_rules.specs.State.{Object, Blank, Table, Leaf, Pages, Pleaf, Comp, Thread, Tcap, Frame, Untyped, User, Kernel}
 use Rattle.kernel_rules.specs.State.{Liveness, Live, Thing, FrameOf, NumberOf, State, comp_in, comp_of, thread_in, tcap_in, thread_of}
 use Rattle.kernel_rules.specs.References.{refs}
-use Rattle.kernel_rules.specs.Access.{Slot, Named, found, Target, Under, InRoot, held_in}
+use Rattle.kernel_rules.specs.Access.{Slot, Named, found, Want, to_use, Target, Under, InRoot, held_in}
 use Rattle.kernel_rules.specs.Access.{usable, reached, only, root, own}
 use Rattle.kernel_rules.specs.GracePeriods.{MayWait, MayBeUnflushed}
 use Rattle.kernel_rules.specs.Rules.{Judged, Refused, Found, and_then, or_refuse, of_kind, named, mapped, NameMay, VacantMay}
-use Rattle.kernel_rules.specs.Rules.{HeldMay, MappedMay, WaitedMay, UnflushedMay, CauseMay, OneMay, RuleMay, IsFoundAnd, name_of}
+use Rattle.kernel_rules.specs.Rules.{Lacks, HeldMay, MappedMay, WaitedMay, UnflushedMay, CauseMay, OneMay, RuleMay, IsFoundAnd, name_of}
 use Rattle.kernel_rules.specs.CapabilityCalls.{leaf_for, outside, has_frame, is_frame, is_blank}
 use Rattle.kernel_rules.specs.CapabilityCalls.{not_blank, make_node, make_rule, not_taken, epoch_of}
 use Rattle.kernel_rules.specs.MemoryCalls.{is_untyped, is_user, holds_nothing, is_empty, not_retyped, retype_rule, touch_by, translation_of}
@@ -38,15 +40,20 @@ use Rattle.kernel_laws.specs.Causes.{LiesOutside, HeldIn, IsDeadIn, BothAre, tca
 use Rattle.kernel_laws.specs.Laws.{CausesStand}
 
 -- What a rule finds under a name is what the name leads to.
-module _ (s : State) (c : ℕ) (wanted : Kind → Bool) where
-  by_kind : (k : Capability) (b : Bool)
-      → name_of (if b then Found k else Refused reply.WrongCap) ≡ (if b then found k else Rattle.kernel_rules.specs.Access.not_found)
-  by_kind k true = refl
-  by_kind k false = refl
+module _ (s : State) (c : ℕ) (kinds : Kind → Bool) where
+  abbrev wanted : Want
+  wanted = to_use kinds
+
+  by_kind : (k : Capability) (b d : Bool)
+      → name_of (if b then (if d then Found k else Refused reply.NoRight) else Refused reply.WrongCap)
+      ≡ (if b && d then found k else Rattle.kernel_rules.specs.Access.not_found)
+  by_kind k true true = refl
+  by_kind k true false = refl
+  by_kind k false d = refl
 
   by_use : (u : Option Capability) → name_of (and_then (or_refuse u reply.Empty) λ k. of_kind wanted k) ≡ as_wanted wanted u
   by_use None = refl
-  by_use (Some k) = by_kind k (wanted k.kind)
+  by_use (Some k) = by_kind k (kinds k.kind) (has_rights k.rights wanted.needs)
 
   by_slot : (o : Option Slot)
       → name_of (and_then (or_refuse o reply.NoSlot) λ at. and_then (or_refuse (usable s c at) reply.Empty) λ k. of_kind wanted k)
@@ -54,7 +61,7 @@ module _ (s : State) (c : ℕ) (wanted : Kind → Bool) where
   by_slot None = refl
   by_slot (Some at) = by_use (usable s c at)
 
-  leads_is : (n : ℕ) → name_of (named s c n wanted) ≡ leads_as s c n wanted
+  pub leads_is : (n : ℕ) → name_of (named s c n wanted) ≡ leads_as s c n kinds
   leads_is n = by_slot (reached s c (own s c n))
 
 -- One of a list.
@@ -77,16 +84,17 @@ not_is false h = refl
 
 module _ (s : State) (c : ℕ) (call : Call) where
   -- A cause at a name.
-  other_kind : (wanted : Kind → Bool) (o : Option Slot) → IsSomeAnd o (λ at. IsSomeAnd (usable s c at) λ k. IsFalse (wanted k.kind))
-      → IsSomeAnd (used_at s c o) λ k. IsFalse (wanted k.kind)
-  other_kind wanted None h = absurd h
-  other_kind wanted (Some at) h = h
+  at_use : (P : Capability → Type 0) (o : Option Slot) → IsSomeAnd o (λ at. IsSomeAnd (usable s c at) P) → IsSomeAnd (used_at s c o) P
+  at_use P None h = absurd h
+  at_use P (Some at) h = h
 
-  name_cause : (r : Reply) → OneIs (λ (n : Name). NameMay s c n.number n.wanted r) (names_of s c call) → HasCause s c call r
+  name_cause : (r : Reply) → OneIs (λ (n : Name). NameMay s c n.number n.want r) (names_of s c call) → HasCause s c call r
   name_cause reply.NoSlot h = inl h
   name_cause reply.Empty h = inl h
-  name_cause reply.WrongCap h = one_map (λ (n : Name). NameMay s c n.number n.wanted reply.WrongCap) _ (names_of s c call)
-      (λ n. other_kind n.wanted (reached s c (own s c n.number))) h
+  name_cause reply.WrongCap h = one_map (λ (n : Name). NameMay s c n.number n.want reply.WrongCap) _ (names_of s c call)
+      (λ n. at_use (λ k. IsFalse (n.want.kinds k.kind)) (reached s c (own s c n.number))) h
+  name_cause reply.NoRight h = one_map (λ (n : Name). NameMay s c n.number n.want reply.NoRight) _ (names_of s c call)
+      (λ n. at_use (Lacks n.want) (reached s c (own s c n.number))) h
   name_cause _ h = absurd (no_one (names_of s c call) h)
 
   -- A cause at the place to be filled.
@@ -124,12 +132,12 @@ module _ (s : State) (c : ℕ) where
   look_cause a r (inl n) = name_cause s c (Look a) r (inl n)
   look_cause a r (inr h) = absurd h
 
-  copy_cause : (a t b : ℕ) (r : Reply) → RuleMay s c (rule_of s c (Copy a t b)) r → HasCause s c (Copy a t b) r
-  copy_cause a t b r (inl n) = name_cause s c (Copy a t b) r (inl n)
-  copy_cause a t b r (inr (inl n)) = name_cause s c (Copy a t b) r (inr (inl n))
-  copy_cause a t b r (inr (inr (inl v))) =
-      fill_cause s c (Copy a t b) r _ refl (subst (λ (x : Named). VacantMay s c (Under x b) r) (leads_is s c (only kind.Table) t) v)
-  copy_cause a t b r (inr (inr (inr h))) = absurd h
+  copy_cause : (a t b : ℕ) (rights : Rights) (r : Reply) → RuleMay s c (rule_of s c (Copy a t b rights)) r → HasCause s c (Copy a t b rights) r
+  copy_cause a t b rights r (inl n) = name_cause s c (Copy a t b rights) r (inl n)
+  copy_cause a t b rights r (inr (inl n)) = name_cause s c (Copy a t b rights) r (inr (inl n))
+  copy_cause a t b rights r (inr (inr (inl v))) =
+      fill_cause s c (Copy a t b rights) r _ refl (subst (λ (x : Named). VacantMay s c (Under x b) r) (leads_is s c (only kind.Table) t) v)
+  copy_cause a t b rights r (inr (inr (inr h))) = absurd h
 
   held_none : {A : Type 0} (x : Judged A) → IsFoundAnd x (λ p. ⊥) → ⊥
   held_none (Refused r) h = h
@@ -144,7 +152,7 @@ module _ (s : State) (c : ℕ) where
   grow_cause : (t i l : ℕ) (r : Reply) → RuleMay s c (rule_of s c (Grow t i l)) r → HasCause s c (Grow t i l) r
   grow_cause t i l r (inl n) = name_cause s c (Grow t i l) r (inl n)
   grow_cause t i l r (inr (inl n)) =
-      name_cause s c (Grow t i l) r (inr (inl (subst (λ (x : Named). NameMay s c l (leaf_for x) r) (leads_is s c root t) n)))
+      name_cause s c (Grow t i l) r (inr (inl (subst (λ (x : Named). NameMay s c l (to_use (leaf_for x)) r) (leads_is s c root t) n)))
   grow_cause t i l r (inr (inr (inl v))) =
       fill_cause s c (Grow t i l) r _ refl (subst (λ (x : Named). VacantMay s c (InRoot x i) r) (leads_is s c root t) v)
   grow_cause t i l r (inr (inr (inr h))) = absurd h
@@ -185,11 +193,11 @@ module _ (s : State) (c : ℕ) where
       by_test true true low high e = absurd (true≢false e)
 
   named_lies : (call : Call) (r f : ℕ) (q : Reply) → (LiesOutside (leads_as s c r (only kind.Range)) f → HasCause s c call reply.OutOfRange)
-      → CauseMay s c (outside (name_of (named s c r (only kind.Range))) f) q → HasCause s c call q
+      → CauseMay s c (outside (name_of (named s c r (to_use (only kind.Range)))) f) q → HasCause s c call q
   named_lies call r f q is h =
       when_cause s c call _ reply.OutOfRange q
       (λ (t : IsTrue _). is (subst (λ (x : Named). LiesOutside x f)
-      (leads_is s c (only kind.Range) r) (lies (name_of (named s c r (only kind.Range))) f t))) h
+      (leads_is s c (only kind.Range) r) (lies (name_of (named s c r (to_use (only kind.Range)))) f t))) h
 
   -- The kind of a frame of the machine.
   is_machine : (f : ℕ) (b : Bool) → IsTrue (is_frame s f && b) → (f < s.limits.frames) × IsTrue b
@@ -207,13 +215,13 @@ module _ (s : State) (c : ℕ) where
 
   -- `make`.
   made_own : (what : Make) (r f t b : ℕ) (q : Reply)
-      → CauseMay s c (outside (name_of (named s c r (only kind.Range))) f) q ⊎ CauseMay s c (not_blank s f) q
+      → CauseMay s c (outside (name_of (named s c r (to_use (only kind.Range)))) f) q ⊎ CauseMay s c (not_blank s f) q
       → HasCause s c (make_call what r f t b) q
   made_own what r f t b q (inl h) = named_lies (make_call what r f t b) r f q (λ l. l) h
   made_own what r f t b q (inr h) =
       when_cause s c (make_call what r f t b) _ reply.FrameKind q (λ t. differs f (Kernel Blank) is_blank refl t) h
 
-  made_fill : (what : Make) (r f t b : ℕ) (q : Reply) → VacantMay s c (Under (name_of (named s c t (only kind.Table))) b) q
+  made_fill : (what : Make) (r f t b : ℕ) (q : Reply) → VacantMay s c (Under (name_of (named s c t (to_use (only kind.Table)))) b) q
       → HasCause s c (make_call what r f t b) q
   made_fill what r f t b q v =
       fill_cause s c (make_call what r f t b) q _ refl
@@ -375,7 +383,7 @@ module _ (s : State) (c : ℕ) where
   kill_cause k q (inl n) = name_cause s c (Kill k) q (inl n)
   kill_cause k q (inr (inl h)) = when_cause s c (Kill k) _ reply.Dead q
       (λ t. subst (λ (x : Named). IsDeadIn s x (comp_in (s.frame x.frame)).epoch) (leads_is s c (only kind.Comp) k)
-      (dead_in (name_of (named s c k (only kind.Comp))) (comp_in (s.frame (name_of (named s c k (only kind.Comp))).frame)).epoch t)) h
+      (dead_in (name_of (named s c k (to_use (only kind.Comp)))) (comp_in (s.frame (name_of (named s c k (to_use (only kind.Comp)))).frame)).epoch t)) h
   kill_cause k q (inr (inr h)) = absurd h
 
   call_cause : (g : ℕ) (q : Reply) → RuleMay s c (rule_of s c (call_gate g)) q → HasCause s c (call_gate g) q
@@ -383,7 +391,7 @@ module _ (s : State) (c : ℕ) where
   call_cause g q (inr (inl h)) = when_cause s c (call_gate g) _ reply.Deep q (λ t. leb-true 16 (length (thread_of s c).stack) t) h
   call_cause g q (inr (inr (inl h))) = when_cause s c (call_gate g) _ reply.Dead q
       (λ t. subst (λ (x : Named). IsDeadIn s x x.arg) (leads_is s c (only kind.Gate) g)
-      (dead_in (name_of (named s c g (only kind.Gate))) (name_of (named s c g (only kind.Gate))).arg t)) h
+      (dead_in (name_of (named s c g (to_use (only kind.Gate)))) (name_of (named s c g (to_use (only kind.Gate)))).arg t)) h
   call_cause g q (inr (inr (inr h))) = absurd h
 
   ret_cause : (q : Reply) → RuleMay s c (rule_of s c Ret) q → HasCause s c Ret q
@@ -403,16 +411,16 @@ module _ (s : State) (c : ℕ) where
   switch_cause h q r (inl n) = name_cause s c (Switch h q) r (inl n)
   switch_cause h q r (inr (inl n)) = name_cause s c (Switch h q) r (inr (inl n))
   switch_cause h q r (inr (inr may)) =
-      switch_own h q (name_of (named s c h (only kind.Thread)))
-      (name_of (named s c q (only kind.Tcap))).frame r (leads_is s c (only kind.Thread) h)
-      (thread_in (s.frame (name_of (named s c h (only kind.Thread))).frame)).runs_on refl may
+      switch_own h q (name_of (named s c h (to_use (only kind.Thread))))
+      (name_of (named s c q (to_use (only kind.Tcap)))).frame r (leads_is s c (only kind.Thread) h)
+      (thread_in (s.frame (name_of (named s c h (to_use (only kind.Thread)))).frame)).runs_on refl may
 
   -- Two temporal capabilities.
-  both_are : (a b : ℕ) (P : ℕ → ℕ → Type 0) → BothAre (name_of (named s c a (only kind.Tcap))) (name_of (named s c b (only kind.Tcap))) P
+  both_are : (a b : ℕ) (P : ℕ → ℕ → Type 0) → BothAre (name_of (named s c a (to_use (only kind.Tcap)))) (name_of (named s c b (to_use (only kind.Tcap)))) P
       → BothAre (tcap_named s c a) (tcap_named s c b) P
   both_are a b P h =
       subst (λ (x : Named). BothAre (tcap_named s c a) x P) (leads_is s c (only kind.Tcap) b)
-      (subst (λ (x : Named). BothAre x (name_of (named s c b (only kind.Tcap))) P) (leads_is s c (only kind.Tcap) a) h)
+      (subst (λ (x : Named). BothAre x (name_of (named s c b (to_use (only kind.Tcap)))) P) (leads_is s c (only kind.Tcap) a) h)
 
   two_found : (x y : Named) (b : Bool) (P : ℕ → ℕ → Type 0) → (IsTrue b → P x.frame y.frame) → IsTrue (x.found && (y.found && b))
       → BothAre x y P
@@ -423,19 +431,19 @@ module _ (s : State) (c : ℕ) where
 
   same_cause : (call : Call) (a b : ℕ) (r : Reply)
       → (BothAre (tcap_named s c a) (tcap_named s c b) (λ f g. f ≡ g) → HasCause s c call reply.Same)
-      → CauseMay s c (are_same (name_of (named s c a (only kind.Tcap))) (name_of (named s c b (only kind.Tcap)))) r → HasCause s c call r
+      → CauseMay s c (are_same (name_of (named s c a (to_use (only kind.Tcap)))) (name_of (named s c b (to_use (only kind.Tcap))))) r → HasCause s c call r
   same_cause call a b r f h = when_cause s c call _ reply.Same r
-      (λ t. f (both_are a b (λ f g. f ≡ g) (two_found (name_of (named s c a (only kind.Tcap)))
-      (name_of (named s c b (only kind.Tcap))) _ (λ f g. f ≡ g) (eqb-true _ _) t))) h
+      (λ t. f (both_are a b (λ f g. f ≡ g) (two_found (name_of (named s c a (to_use (only kind.Tcap))))
+      (name_of (named s c b (to_use (only kind.Tcap)))) _ (λ f g. f ≡ g) (eqb-true _ _) t))) h
 
   short_cause : (call : Call) (a m : ℕ) (r : Reply) → ((n : ℕ) → HasLess s (tcap_named s c a) m n → HasCause s c call (reply.Short n))
-      → CauseMay s c (is_short s (name_of (named s c a (only kind.Tcap))) m) r → HasCause s c call r
+      → CauseMay s c (is_short s (name_of (named s c a (to_use (only kind.Tcap)))) m) r → HasCause s c call r
   short_cause call a m r f h = when_cause s c call _ (reply.Short n) r
       (λ t. f n (subst (λ (x : Named). HasLess s x m n) (leads_is s c (only kind.Tcap) a)
       (let p = and_parts x.found (nat_lt n m) t in record { found = p.0; is = refl; less = ltb-true n m p.1 }))) h
     where
       x : Named
-      x = name_of (named s c a (only kind.Tcap))
+      x = name_of (named s c a (to_use (only kind.Tcap)))
 
       n : ℕ
       n = (tcap_of s x.frame).budget
@@ -479,7 +487,7 @@ module _ (s : State) (c : ℕ) where
 
   rule_cause : (call : Call) (r : Reply) → RuleMay s c (rule_of s c call) r → HasCause s c call r
   rule_cause (Look a) r h = look_cause a r h
-  rule_cause (Copy a t b) r h = copy_cause a t b r h
+  rule_cause (Copy a t b rights) r h = copy_cause a t b rights r h
   rule_cause (Remove t b) r h = remove_cause t b r h
   rule_cause (Grow t i l) r h = grow_cause t i l r h
   rule_cause (Shrink t i) r h = shrink_cause t i r h

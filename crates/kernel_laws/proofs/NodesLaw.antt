@@ -5,6 +5,7 @@ use Rattle.std.proofs.lemmas.Bool.{cases_eq, false≢true, eqb-true}
 use Rattle.std.specs.List.{list_any}
 use Rattle.spk_nums.specs.Setting.{Setting, IsSetting}
 use Rattle.spk_nums.specs.Capability.{Capability, cap_of}
+use Rattle.spk_nums.specs.Rights.{kept}
 use Rattle.spk_nums.specs.declared.kinds.Kind.{Kind}
 use Rattle.spk_nums.specs.declared.kinds.Kind.TheVariants as kind
 use Rattle.spk_nums.specs.declared.kinds.FrameKind.{FrameKind}
@@ -24,7 +25,7 @@ use Rattle.kernel_rules.specs.State.{Leaf, Pages, Pleaf, Comp, Thread, Tcap, Fra
 use Rattle.kernel_rules.specs.State.{FrameOf, State, put, with_frame, with_core, comp_in, comp_of, thread_in, thread_of}
 use Rattle.kernel_rules.specs.Start.{plain_cap, start, start_frame, start_cap, core_cap, place_with}
 use Rattle.kernel_rules.specs.References.{refs, frame_names, number_names}
-use Rattle.kernel_rules.specs.Access.{Slot, Named, found, root_at, Target, Under, InRoot, place_at}
+use Rattle.kernel_rules.specs.Access.{Want, any, to_copy, to_use, Slot, Named, found, root_at, Target, Under, InRoot, place_at}
 use Rattle.kernel_rules.specs.Access.{held_in, usable_in, usable, reached, root_slot, only, root}
 use Rattle.kernel_rules.specs.GracePeriods.{same_thing, begun}
 use Rattle.kernel_rules.specs.Rules.{Change, Cause, When, WaitedFor, Unflushed, Judged, Refused, Found, IsFoundAnd, named, held, mapped}
@@ -46,7 +47,7 @@ use Rattle.kernel_invariant.proofs.SoundCalls.{IsOpen, closed, blank_by, untyped
 use Rattle.kernel_invariant.proofs.SoundSteps.{free_holds, holds_inj}
 use Rattle.kernel_invariant.proofs.SoundStart.{choose}
 use Rattle.kernel_invariant.proofs.SoundRuns.{opened, open_is, inside_is, phase_own, phase_other, decided_opened}
-use Rattle.kernel_invariant.proofs.Facts.{ChangesFrom, outcome_from, named_good, named_fit, vacant_facts, held_facts, none_parts}
+use Rattle.kernel_invariant.proofs.Facts.{ChangesFrom, outcome_from, suits, named_good, named_fit, vacant_facts, held_facts, none_parts}
 use Rattle.kernel_invariant.proofs.Facts.{when_not, not_not, then_parts, or_found, some_inj, some_none, none_some, found_inj, refused_found}
 use Rattle.found_stays.proofs.Stays.{link_of, name_parts, fields, table_relies}
 use Rattle.kernel_laws.specs.Nodes.{takes, leads_to, FitsNode, NodesHoldWhatFits}
@@ -102,7 +103,7 @@ module _ (s : State) (o : ℕ → Bool) (c : ℕ) (h : IsOpen s o c) (w : IsFitt
       pages _ h = absurd (false≢true h)
 
   -- The slot under a table is in a leaf, and one under pages in a leaf of pages.
-  in_leaf : (t b : ℕ) (table : Capability) (at : Slot) → named s c t (only kind.Table) ≡ Found table
+  in_leaf : (t b : ℕ) (table : Capability) (at : Slot) → named s c t (to_use (only kind.Table)) ≡ Found table
       → reached s c (Under (found table) b) ≡ Some at
       → s.frame at.node ≡ Kernel Leaf
   in_leaf t b table at e r =
@@ -110,7 +111,7 @@ module _ (s : State) (o : ℕ → Bool) (c : ℕ) (h : IsOpen s o c) (w : IsFitt
       table_leaf (s.frame table.frame) fit (s.frame at.node)
       (leaf_fits (found table) b at ((fit_node kind.Table (s.frame table.frame) fit).0 refl) r)
 
-  in_pleaf : (p v : ℕ) (pages : Capability) (at : Slot) → named s c p (only kind.Pages) ≡ Found pages
+  in_pleaf : (p v : ℕ) (pages : Capability) (at : Slot) → named s c p (to_use (only kind.Pages)) ≡ Found pages
       → reached s c (Under (found pages) v) ≡ Some at
       → s.frame at.node ≡ Kernel Pleaf
   in_pleaf p v pages at e r =
@@ -119,7 +120,7 @@ module _ (s : State) (o : ℕ → Bool) (c : ℕ) (h : IsOpen s o c) (w : IsFitt
       (leaf_fits (found pages) v at ((fit_node kind.Pages (s.frame pages.frame) fit).1 refl) r)
 
   -- What a name leads to is no link and no page.
-  name_takes : (n : ℕ) (wanted : Kind → Bool) (k : Capability) → named s c n wanted ≡ Found k → IsTrue (takes (Kernel Leaf) k.kind)
+  name_takes : (n : ℕ) (wanted : Want) (k : Capability) → named s c n wanted ≡ Found k → IsTrue (takes (Kernel Leaf) k.kind)
   name_takes n wanted k e =
       let p = name_parts s c n wanted k e in
       let fit : IsTrue (fits kind.Table (s.frame (comp_of s c).table)) = (fields s o c h.sound h.is).0 in
@@ -127,12 +128,8 @@ module _ (s : State) (o : ℕ → Bool) (c : ℕ) (h : IsOpen s o c) (w : IsFitt
       table_leaf (s.frame (comp_of s c).table) fit (s.frame p.0.node)
       (leaf_fits (root_at (comp_of s c).table) n p.0 (table_relies s o c h.sound h.is).node p.1) in
       let a = usable_fits p.0 p.2 (subst (λ x. IsTrue (is_node x)) (sym at) refl) p.3 in
-      subst (λ (j : Capability). IsTrue (takes (Kernel Leaf) j.kind)) (wanted_is p.2 (wanted p.2.kind) p.4)
+      subst (λ (j : Capability). IsTrue (takes (Kernel Leaf) j.kind)) (suits wanted p.2 k p.4).is
       (subst (λ x. IsTrue (takes x p.2.kind)) at a.kind)
-    where
-      wanted_is : (j : Capability) (b : Bool) → (if b then Found j else Refused reply.WrongCap) ≡ Found k → j ≡ k
-      wanted_is j true q = found_inj j k q
-      wanted_is j false q = absurd (refused_found reply.WrongCap k q)
 
   in_leaf_fits : (at : Slot) (k : Kind) (y : Frame) → s.frame at.node ≡ Kernel Leaf → IsTrue (takes (Kernel Leaf) k)
       → FitsNode (s.frame at.node) k y
@@ -300,9 +297,9 @@ module _ (s : State) (o : ℕ → Bool) (c : ℕ) (h : IsOpen s o c) (w : IsFitt
   -- Every call that is carried out.
   rule_keeps : (call : Call) → ChangesFrom Keeps s c (rule_of s c call)
   rule_keeps (Look a) = λ k e calm. same
-  rule_keeps (Copy a t b) = λ k e table f at g calm.
-      filled at k (in_leaf_fits at k.kind (s.frame k.frame)
-      (in_leaf t b table at f (vacant_facts s c (Under (found table) b) at g).0) (name_takes a (λ k. true) k e))
+  rule_keeps (Copy a t b rights) = λ k e table f at g calm.
+      filled at (kept k rights.0) (in_leaf_fits at k.kind (s.frame k.frame)
+      (in_leaf t b table at f (vacant_facts s c (Under (found table) b) at g).0) (name_takes a (to_copy any) k e))
   rule_keeps (Remove t b) = λ table e at k g calm. removed (Under (found table) b) at k g
   rule_keeps (Grow t i l) = λ table e leaf f at g calm. grown t l table leaf at e f (vacant_facts s c (InRoot (found table) i) at g).0
     where
@@ -322,11 +319,11 @@ module _ (s : State) (o : ℕ → Bool) (c : ℕ) (h : IsOpen s o c) (w : IsFitt
           by_test true q = ap (λ (x : Slot). x.node) (some_inj record { node = table.frame; index = i } at q)
           by_test false q = absurd (none_some at q)
 
-      grown : (t l : ℕ) (table leaf : Capability) (at : Slot) → named s c t root ≡ Found table
-          → named s c l (only (leaf_of table.kind)) ≡ Found leaf
+      grown : (t l : ℕ) (table leaf : Capability) (at : Slot) → named s c t (to_use root) ≡ Found table
+          → named s c l (to_use (only (leaf_of table.kind))) ≡ Found leaf
           → reached s c (InRoot (found table) i) ≡ Some at → Keeps (fills s at (plain_cap kind.Link leaf.frame))
       grown t l table leaf at e f r =
-          let a : IsGood s table × IsTrue (root table.kind) = named_good s o c t root table h.sound h.is e in
+          let a : IsGood s table × IsTrue (root table.kind) = named_good s o c t (to_use root) table h.sound h.is e in
           let fit : IsTrue (fits (leaf_of table.kind) (s.frame leaf.frame)) = named_fit s o c l (leaf_of table.kind) leaf h.sound h.is f in
           filled at (plain_cap kind.Link leaf.frame)
           (subst (λ n. FitsNode (s.frame n) kind.Link (s.frame leaf.frame)) (in_root table at r)

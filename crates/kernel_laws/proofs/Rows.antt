@@ -1,6 +1,7 @@
 -- Worked examples of calls made alone, which the checker computes.
 use Rattle.std.proofs.Common.{◌≡◌, refl}
 use Rattle.std.specs.Prelude.{ℕ, zero, suc, ◌+◌, true, false, take, List, [], ◌∷◌}
+use Rattle.spk_nums.specs.Rights.{whole_copy}
 use Rattle.spk_nums.specs.Capability.{Capability, cap_of}
 use Rattle.spk_nums.specs.Setting.{Setting}
 use Rattle.spk_nums.specs.declared.grants.Grant.{Grant}
@@ -46,11 +47,11 @@ look_up = refl
 -- A table grows by a leaf: until then its numbers have no slot, and after the leaf's removal they have none again. The leaf
 -- keeps its entries, and its frame can't be retyped while it is referenced, nor made again.
 leaves_grow : plain_replies two_cores 0 (
-    call.Copy 0 1 64
+    whole_copy 0 1 64
     ∷ call.Retype 0 8 frame_kind.Kernel
     ∷ call.Make make.Leaf 0 8 1 20
     ∷ call.Grow 1 1 20
-    ∷ call.Copy 0 1 64
+    ∷ whole_copy 0 1 64
     ∷ call.Look 64
     ∷ call.Retype 0 8 frame_kind.Untyped
     ∷ call.Shrink 1 1
@@ -177,7 +178,7 @@ eight_ends = refl
 
 -- Kinds, ranges and running threads; and a leaf that is no longer linked still has its entry.
 kinds : plain_replies two_cores 0 (
-    call.Copy 0 3 20
+    whole_copy 0 3 20
     ∷ call.Retype 0 3 frame_kind.User
     ∷ call.Retype 0 8 frame_kind.User
     ∷ call.Retype 0 8 frame_kind.Kernel
@@ -186,7 +187,7 @@ kinds : plain_replies two_cores 0 (
     ∷ call.Retype 0 9 frame_kind.Kernel
     ∷ call.Make make.Leaf 0 9 1 20
     ∷ call.Grow 1 1 20
-    ∷ call.Copy 0 1 64
+    ∷ whole_copy 0 1 64
     ∷ call.Shrink 1 1
     ∷ call.Remove 1 20
     ∷ call.Retype 0 9 frame_kind.Untyped
@@ -294,7 +295,7 @@ unfolding sum_below node_refs refs holds_nothing with_pages flags replies_over
 touching = refl
 
 -- A place that was removed alone is free at once.
-refilling : plain_replies two_cores 0 (call.Copy 0 1 20 ∷ call.Remove 1 20 ∷ call.Look 20 ∷ call.Copy 0 1 20 ∷ call.Copy 0 1 20 ∷ [])
+refilling : plain_replies two_cores 0 (whole_copy 0 1 20 ∷ call.Remove 1 20 ∷ call.Look 20 ∷ whole_copy 0 1 20 ∷ whole_copy 0 1 20 ∷ [])
     ≡ done ∷ done ∷ reply.Empty ∷ done ∷ reply.Occupied ∷ []
 refilling = refl
 
@@ -329,7 +330,7 @@ remade_calls =
     call.Retype 0 9 frame_kind.Kernel
     ∷ call.Make make.Leaf 0 9 1 20
     ∷ call.Grow 1 1 20
-    ∷ call.Copy 0 1 64
+    ∷ whole_copy 0 1 64
     ∷ call.Remove 1 64
     ∷ call.Shrink 1 1
     ∷ call.Remove 1 20

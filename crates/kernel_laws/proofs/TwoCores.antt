@@ -1,6 +1,7 @@
 -- Worked examples of two cores: what the relation permits while both are in a call.
 use Rattle.std.proofs.Common.{◌≡◌, inl, inr, refl, ℕ, arith}
 use Rattle.std.specs.Prelude.{true, false, List, [], ◌∷◌}
+use Rattle.spk_nums.specs.Rights.{whole_copy}
 use Rattle.spk_nums.specs.Setting.{Setting}
 use Rattle.spk_nums.specs.Capability.{Capability, cap_of}
 use Rattle.spk_nums.specs.declared.kinds.Kind.TheVariants as kind
@@ -42,11 +43,11 @@ Permits before c k r = MayReply (after two_cores (Enters c k ∷ before)) c k r
 
 -- The call that core 1 is in.
 abbrev copies : Call
-copies = call.Copy 20 1 21
+copies = whole_copy 20 1 21
 
 -- Core 0 fills place 20; core 1 enters a call; core 0 removes the place.
 removed_meanwhile : List Event
-removed_meanwhile = whole 0 (call.Remove 1 20) done (Enters 1 copies ∷ whole 0 (call.Copy 0 1 20) done [])
+removed_meanwhile = whole 0 (call.Remove 1 20) done (Enters 1 copies ∷ whole 0 (whole_copy 0 1 20) done [])
 
 -- A call that was in progress when the place was removed may still copy what it held,
 still_serves : MayReply (after two_cores removed_meanwhile) 1 copies done
@@ -64,12 +65,12 @@ unfolding two_cores done whole removed_meanwhile
 or_empty = (refl, inl refl)
 
 -- Core 0 may not fill the place again while core 1 is still in that call,
-not_yet : Permits removed_meanwhile 0 (call.Copy 0 1 20) done → ⊥
+not_yet : Permits removed_meanwhile 0 (whole_copy 0 1 20) done → ⊥
 unfolding two_cores done whole removed_meanwhile
 not_yet may = may.1
 
 -- and is told that it waits for core 1.
-waits_for_one : Permits removed_meanwhile 0 (call.Copy 0 1 20) (reply.Quiescing 1)
+waits_for_one : Permits removed_meanwhile 0 (whole_copy 0 1 20) (reply.Quiescing 1)
 unfolding two_cores done whole removed_meanwhile
 waits_for_one = (
   refl,
@@ -77,21 +78,21 @@ waits_for_one = (
 )
 
 -- Once core 1 has returned, the place is free.
-free_then : Permits (Returns 1 ∷ Decides 1 copies done ∷ removed_meanwhile) 0 (call.Copy 0 1 20) done
+free_then : Permits (Returns 1 ∷ Decides 1 copies done ∷ removed_meanwhile) 0 (whole_copy 0 1 20) done
 unfolding two_cores done range whole removed_meanwhile
 free_then = (refl, refl)
 
 -- Core 0 fills and removes place 20, then core 1 enters a call.
 entered_later : List Event
-entered_later = Enters 1 copies ∷ whole 0 (call.Remove 1 20) done (whole 0 (call.Copy 0 1 20) done [])
+entered_later = Enters 1 copies ∷ whole 0 (call.Remove 1 20) done (whole 0 (whole_copy 0 1 20) done [])
 
 -- A core that entered after the removal does not keep the place from being filled,
-later_free : Permits entered_later 0 (call.Copy 0 1 20) done
+later_free : Permits entered_later 0 (whole_copy 0 1 20) done
 unfolding two_cores done whole entered_later
 later_free = (refl, refl)
 
 -- but as none of its calls has returned since, the refusal is permitted too.
-later_refused : Permits entered_later 0 (call.Copy 0 1 20) (reply.Quiescing 1)
+later_refused : Permits entered_later 0 (whole_copy 0 1 20) (reply.Quiescing 1)
 unfolding two_cores done whole entered_later
 later_refused = (
   refl,
@@ -123,7 +124,7 @@ unfolding two_cores done whole killed_meanwhile
 number_then = (refl, refl)
 
 -- A refusal stands by its own cause: a target that is held may be `occupied`, also where a name before it leads to nothing.
-own_cause : Permits (whole 0 (call.Copy 0 1 20) done []) 0 (call.Copy 63 1 20) reply.Occupied
+own_cause : Permits (whole 0 (whole_copy 0 1 20) done []) 0 (whole_copy 63 1 20) reply.Occupied
 unfolding two_cores done whole
 own_cause = (refl, inr (inr (inl refl)))
 
@@ -131,11 +132,11 @@ own_cause = (refl, inr (inr (inl refl)))
 entered_again : List Event
 entered_again = Enters 1 copies ∷ Returns 1 ∷ Decides 1 copies done ∷ removed_meanwhile
 
-again_free : Permits entered_again 0 (call.Copy 0 1 20) done
+again_free : Permits entered_again 0 (whole_copy 0 1 20) done
 unfolding two_cores done range whole removed_meanwhile entered_again
 again_free = (refl, refl)
 
-again_refused : Permits entered_again 0 (call.Copy 0 1 20) (reply.Quiescing 1)
+again_refused : Permits entered_again 0 (whole_copy 0 1 20) (reply.Quiescing 1)
 unfolding two_cores done range whole removed_meanwhile entered_again
 again_refused = (
   refl,
@@ -178,6 +179,6 @@ unfolding two_cores done whole flushed_just_now
 flush_known = refl
 
 -- A table that is not there does not keep the target's number from being too large.
-own_number : Permits [] 0 (call.Copy 0 63 4096) reply.NoSlot
+own_number : Permits [] 0 (whole_copy 0 63 4096) reply.NoSlot
 unfolding two_cores
 own_number = (refl, inr (inr (inl refl)))

@@ -1,7 +1,8 @@
 -- The cause of each refusal, by its reply: what must be so where a call is refused with it. Said apart from the rules of calls.
-use Rattle.std.specs.Prelude.{◌≡◌, ◌≢◌, ◌⊎◌, ℕ, ◌+◌, ◌<◌, ◌≤◌, Bool, if◌then◌else◌, List, [], ◌∷◌}
+use Rattle.std.specs.Prelude.{◌≡◌, ◌≢◌, ◌⊎◌, ℕ, ◌+◌, ◌<◌, ◌≤◌, Bool, ◌&&◌, if◌then◌else◌, List, [], ◌∷◌}
 use Rattle.std.specs.Prelude.{length, Option, Some, None, is_some, IsTrue, IsFalse, IsSomeAnd}
 use Rattle.spk_nums.specs.Capability.{Capability}
+use Rattle.spk_nums.specs.Rights.{has_rights}
 use Rattle.spk_nums.specs.Merging.{merged}
 use Rattle.spk_nums.specs.declared.kinds.Kind.{Kind}
 use Rattle.spk_nums.specs.declared.kinds.Kind.TheVariants as kind
@@ -16,7 +17,7 @@ use Rattle.spk_nums.specs.declared.replies.Reply.TheVariants as reply
 use Rattle.kernel_rules.specs.State.{TcapFields, Blank, Untyped, User, Kernel, Live, Thing, PlaceOf, FrameOf}
 use Rattle.kernel_rules.specs.State.{NumberOf, State, comp_in, thread_in, tcap_in, thread_of, comp_of}
 use Rattle.kernel_rules.specs.References.{refs}
-use Rattle.kernel_rules.specs.Access.{Slot, Named, found, not_found, root_at, Target, Under, InRoot, place_at, held_in}
+use Rattle.kernel_rules.specs.Access.{Slot, Named, found, not_found, root_at, Want, to_look, to_copy, to_use, Target, Under, InRoot, place_at, held_in}
 use Rattle.kernel_rules.specs.Access.{usable, reached, has_no_slot, root_slot, holds_link, any, only, root, own}
 use Rattle.kernel_rules.specs.GracePeriods.{MayWait, MayBeUnflushed}
 use Rattle.kernel_rules.specs.CapabilityCalls.{leaf_for, is_live, epoch_of}
@@ -36,21 +37,23 @@ used_at s c (Some at) = usable s c at
 abbrev pub leads : State → ℕ → ℕ → Option Capability
 leads s c n = used_at s c (reached s c (own s c n))
 
--- It is found where it leads to a capability of a wanted kind.
-abbrev pub as_wanted : (Kind → Bool) → Option Capability → Named
-as_wanted wanted None = not_found
-as_wanted wanted (Some k) = if wanted k.kind then found k else not_found
+-- It is found where it leads to a capability of a wanted kind that has the rights needed.
+abbrev pub as_wanted : Want → Option Capability → Named
+as_wanted want None = not_found
+as_wanted want (Some k) = if want.kinds k.kind && has_rights k.rights want.needs then found k else not_found
 
+-- What a number leads to that is named to be used.
 abbrev pub leads_as : State → ℕ → ℕ → (Kind → Bool) → Named
-leads_as s c n wanted = as_wanted wanted (leads s c n)
+leads_as s c n kinds = as_wanted (to_use kinds) (leads s c n)
 
--- A number that a call names, with the kinds that its capability may have.
+-- A number that a call names, with the kinds that its capability may have, and the rights that it needs.
 pub record Name : Type 0 where
   pub number : ℕ
-  pub wanted : Kind → Bool
+  pub want : Want
 
+-- A number that is named to be used.
 abbrev pub name : ℕ → (Kind → Bool) → Name
-name n wanted = record { number = n; wanted = wanted }
+name n kinds = record { number = n; want = to_use kinds }
 
 -- The numbers that a call names.
 abbrev pub names_made : Make → List Name
@@ -59,8 +62,8 @@ names_made (make.Comp table pages live) = name table (only kind.Table) ∷ name 
 names_made _ = []
 
 abbrev pub names_of : State → ℕ → Call → List Name
-names_of s c (Look a) = name a any ∷ []
-names_of s c (Copy a t b) = name a any ∷ name t (only kind.Table) ∷ []
+names_of s c (Look a) = record { number = a; want = to_look any } ∷ []
+names_of s c (Copy a t b rights) = record { number = a; want = to_copy any } ∷ name t (only kind.Table) ∷ []
 names_of s c (Remove t b) = name t (only kind.Table) ∷ []
 names_of s c (Grow t i l) = name t root ∷ name l (leaf_for (leads_as s c t root)) ∷ []
 names_of s c (Shrink t i) = name t root ∷ []
@@ -79,7 +82,7 @@ names_of s c _ = []
 
 -- The place that a call fills, in the table or pages that it names.
 abbrev pub fills_at : State → ℕ → Call → Option Target
-fills_at s c (Copy a t b) = Some (Under (leads_as s c t (only kind.Table)) b)
+fills_at s c (Copy a t b rights) = Some (Under (leads_as s c t (only kind.Table)) b)
 fills_at s c (Grow t i l) = Some (InRoot (leads_as s c t root) i)
 fills_at s c (make_call what r f t b) = Some (Under (leads_as s c t (only kind.Table)) b)
 fills_at s c (Map p v r f w) = Some (Under (leads_as s c p (only kind.Pages)) v)
@@ -120,7 +123,13 @@ IsEmpty s c call =
 
 -- `wrong-cap`: a name leads to a capability of a kind that is not wanted.
 abbrev pub IsWrong : State → ℕ → Call → Type 0
-IsWrong s c call = OneIs (λ n. IsSomeAnd (leads s c n.number) λ k. IsFalse (n.wanted k.kind)) (names_of s c call)
+IsWrong s c call = OneIs (λ n. IsSomeAnd (leads s c n.number) λ k. IsFalse (n.want.kinds k.kind)) (names_of s c call)
+
+-- `no-right`: a name leads to a capability of a wanted kind that lacks a right which the name needs.
+abbrev pub HasNoRight : State → ℕ → Call → Type 0
+HasNoRight s c call =
+    OneIs (λ n. IsSomeAnd (leads s c n.number) λ k. IsTrue (n.want.kinds k.kind) × IsFalse (has_rights k.rights n.want.needs))
+    (names_of s c call)
 
 -- `occupied`: the place to be filled is reached and holds something; or the liveness number of a new component is live.
 abbrev pub NumberIs : (ℕ → Type 0) → Call → Type 0
@@ -268,6 +277,7 @@ abbrev pub HasCause : State → ℕ → Call → Reply → Type 0
 HasCause s c call reply.NoSlot = HasNoSlot s c call
 HasCause s c call reply.Empty = IsEmpty s c call
 HasCause s c call reply.WrongCap = IsWrong s c call
+HasCause s c call reply.NoRight = HasNoRight s c call
 HasCause s c call reply.Occupied = IsOccupied s c call
 HasCause s c call (reply.Quiescing e) = IsQuiescing s c call e
 HasCause s c call (reply.Unflushed e) = IsUnflushed s c call e

@@ -4,6 +4,7 @@ use Rattle.std.proofs.Common.{subst, cond, ◌==◌, nat_lt, if◌then◌else◌
 use Rattle.std.proofs.lemmas.Bool.{cases_eq, false≢true}
 use Rattle.spk_nums.specs.Setting.{Setting, IsSetting}
 use Rattle.spk_nums.specs.Capability.{Capability, cap_of}
+use Rattle.spk_nums.specs.Rights.{kept}
 use Rattle.spk_nums.specs.declared.kinds.Kind.{Kind}
 use Rattle.spk_nums.specs.declared.kinds.Kind.TheVariants as kind
 use Rattle.spk_nums.specs.declared.kinds.FrameKind.{FrameKind}
@@ -22,7 +23,7 @@ use Rattle.kernel_rules.specs.State.{Place, Free, Holds, Quiescing, Object, Thin
 use Rattle.kernel_rules.specs.State.{FrameOf, State, Grace, put, comp_in, comp_of, thread_in}
 use Rattle.kernel_rules.specs.Start.{start, no_grace, plain_cap, start_cap, place_with}
 use Rattle.kernel_rules.specs.References.{named_by, times}
-use Rattle.kernel_rules.specs.Access.{Slot, Named, found, place_at, held_in, usable_in, usable, only}
+use Rattle.kernel_rules.specs.Access.{Want, any, to_copy, Slot, Named, found, place_at, held_in, usable_in, usable, only}
 use Rattle.kernel_rules.specs.GracePeriods.{new_grace}
 use Rattle.kernel_rules.specs.Rules.{Change, Judged, Refused, Found, IsFoundAnd, named, fills, removes}
 use Rattle.kernel_rules.specs.CapabilityCalls.{makes, cleared, make_rule}
@@ -40,7 +41,7 @@ use Rattle.kernel_invariant.proofs.SoundSteps.{place_all, free_holds, holds_inj,
 use Rattle.kernel_invariant.proofs.SoundStart.{choose}
 use Rattle.kernel_invariant.proofs.SoundCalls.{IsOpen, gate_comp}
 use Rattle.kernel_invariant.proofs.SoundRuns.{opened, open_is, inside_is}
-use Rattle.kernel_invariant.proofs.Facts.{ChangesFrom, outcome_from, some_inj, none_some, found_inj, refused_found}
+use Rattle.kernel_invariant.proofs.Facts.{ChangesFrom, outcome_from, suits, some_inj, none_some, found_inj, refused_found}
 use Rattle.kernel_invariant.proofs.GraceChanges.{grace_by, grace_is, flushed_by}
 use Rattle.kernel_invariant.proofs.Ends.{ends_by_rule}
 use Rattle.found_stays.proofs.Stays.{name_parts, place_named}
@@ -114,14 +115,10 @@ made : (s t : State) (f : ℕ) (object : Object) (k : Kind) (at : Slot)
 made s t f object k at old none = other s t (makes t f object k at) at (plain_cap k f) old (λ g i. refl) none
 
 module _ (s : State) (o : ℕ → Bool) (c : ℕ) (h : IsOpen s o c) (w : AreGates s o) where
-  named_gate : (n : ℕ) (wanted : Kind → Bool) (k : Capability) → named s c n wanted ≡ Found k → IsOfEpoch s k
+  named_gate : (n : ℕ) (wanted : Want) (k : Capability) → named s c n wanted ≡ Found k → IsOfEpoch s k
   named_gate n wanted k e =
       let p = name_parts s c n wanted k e in
-      subst (IsOfEpoch s) (wanted_is p.2 (wanted p.2.kind) p.4) (usable_gate s o c p.0 p.2 w h.is p.3)
-    where
-      wanted_is : (j : Capability) (b : Bool) → (if b then Found j else Refused reply.WrongCap) ≡ Found k → j ≡ k
-      wanted_is j true q = found_inj j k q
-      wanted_is j false q = absurd (refused_found reply.WrongCap k q)
+      subst (IsOfEpoch s) (suits wanted p.2 k p.4).is (usable_gate s o c p.0 p.2 w h.is p.3)
 
   make_gates : (what : Make) (r f t b : ℕ) → ChangesFrom (NewGates s) s c (make_rule s what r f t b)
   make_gates make.Table r f t b = λ range e table g at v calm. made s (cleared s f) f _ kind.Table at (was_held s f) refl
@@ -147,8 +144,9 @@ module _ (s : State) (o : ℕ → Bool) (c : ℕ) (h : IsOpen s o c) (w : AreGat
 
   rule_gates : (call : Call) → ChangesFrom (NewGates s) s c (rule_of s c call)
   rule_gates (Look a) = λ k e calm. stays s _ (λ f i. refl)
-  rule_gates (Copy a t b) =
-      λ k e table f at v calm. filled s s (fills s at k) at k (λ f i j e. e) (λ f i. refl) (named_gate a (λ k. true) k e)
+  rule_gates (Copy a t b rights) =
+      λ k e table f at v calm. filled s s (fills s at (kept k rights.0)) at (kept k rights.0) (λ f i j e. e) (λ f i. refl)
+      (named_gate a (to_copy any) k e)
   rule_gates (Remove t b) = λ table e at k g calm. removed s at k
   rule_gates (Grow t i l) = λ table e leaf f at v calm.
       other s s _ at (plain_cap kind.Link leaf.frame) (λ f i j e. e) (λ f i. refl) refl

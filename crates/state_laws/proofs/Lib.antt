@@ -9,3 +9,5 @@ pub mod CachedLaw
 pub mod Lists
 pub mod Touched
 pub mod Looking
+pub mod BothRights
+pub mod CopyRights

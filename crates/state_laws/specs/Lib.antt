@@ -8,3 +8,4 @@ pub use Rattle.kernel_laws
 pub mod Lives
 pub mod Cached
 pub mod Looking
+pub mod Rights

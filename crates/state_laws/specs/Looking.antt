@@ -5,7 +5,7 @@ use Rattle.spk_nums.specs.Capability.{Capability}
 use Rattle.spk_nums.specs.declared.kinds.Kind.{Kind}
 use Rattle.spk_nums.specs.declared.kinds.Kind.TheVariants as kind
 use Rattle.kernel_rules.specs.State.{State, comp_of}
-use Rattle.kernel_rules.specs.Access.{Slot, Named, Under, usable, reached}
+use Rattle.kernel_rules.specs.Access.{Want, Slot, Named, Under, usable, reached}
 use Rattle.kernel_rules.specs.Rules.{Found, named}
 use Rattle.kernel_rules.specs.Relies.{is_node}
 use Rattle.kernel_rules.specs.Runs.{Event, after, core_of, is_open, phase_of, IsRun}
@@ -34,7 +34,7 @@ LooksThrough s c f = (f ≡ (comp_of s c).table) ⊎ ((f ≡ (comp_of s c).pages
 -- these nodes are the same.
 pub record FindsStill (s t : State) (c : ℕ) : Type 0 where
   pub comp : comp_of t c ≡ comp_of s c
-  pub names : (n : ℕ) (wanted : Kind → Bool) (k : Capability) → named s c n wanted ≡ Found k → named t c n wanted ≡ Found k
+  pub names : (n : ℕ) (wanted : Want) (k : Capability) → named s c n wanted ≡ Found k → named t c n wanted ≡ Found k
   pub uses : (at : Slot) (k : Capability) → LooksThrough s c at.node → usable s c at ≡ Some k → usable t c at ≡ Some k
   pub reaches : (root : Named) (n : ℕ) (at : Slot) → LooksThrough s c root.frame → reached s c (Under root n) ≡ Some at
       → reached t c (Under root n) ≡ Some at

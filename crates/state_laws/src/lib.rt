@@ -1,5 +1,5 @@
 //! Laws of the states that runs of the sequential kernel reach: liveness numbers, gates and threads,
-//! cached translations, and what an open call has found. Each is the contract of a function.
+//! cached translations, rights, and what an open call has found. Each is the contract of a function.
 //!
 //! See docs/MODEL.md, 'What is proved of these definitions', and docs/PROOF.md, 'The laws of the sequential kernel'.
 #![tactic(auto)]
@@ -7,6 +7,7 @@
 ghost use Rattle.state_laws.specs.Lives.{LiveNumbersFit, CompsApart, GatesFit, DeadStays, ThreadsRun};
 ghost use Rattle.state_laws.specs.Cached.{TranslationsStand, TouchesCache};
 ghost use Rattle.state_laws.specs.Looking.{FoundStays};
+ghost use Rattle.state_laws.specs.Rights.{BothStay, CopiesPutNoMore, NoRightLacks};
 
 /// In every state that a run reaches, the frame of a live liveness number has a component of that number and epoch.
 #[tactic(auto, using(crate::proofs::Lives::live_numbers_fit))]
@@ -58,4 +59,22 @@ pub fn touches_cache()
 /// through the nodes of its look-ups, and no other core retypes such a node.
 pub fn found_stays()
     ensures { FoundStays }
+{}
+
+/// A copy that is carried out puts what its first name leads to, with no right that this lacks, at the place that it fills.
+#[tactic(auto, using(crate::proofs::CopyRights::copies_put_no_more))]
+pub fn copies_put_no_more()
+    ensures { CopiesPutNoMore }
+{}
+
+/// Where each copy that was decided keeps both rights, each capability that a place holds or that a core may use has both.
+#[tactic(auto, using(crate::proofs::BothRights::both_stay))]
+pub fn both_rights_stay()
+    ensures { BothStay }
+{}
+
+/// Where each copy that was decided keeps both rights, no call may be answered `no-right`: so it is in scripts of version 1.
+#[tactic(auto, using(crate::proofs::BothRights::no_right_lacks))]
+pub fn no_right_lacks()
+    ensures { NoRightLacks }
 {}

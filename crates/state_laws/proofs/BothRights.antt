@@ -1,0 +1,233 @@
+-- Where each copy keeps both rights, every capability has both, and no name lacks a right.
+use Rattle.std.proofs.Common.{◌≡◌, ℕ, Bool, true, false, List, [], ◌∷◌, Option, Some, None, IsTrue, IsFalse, IsSomeAnd}
+use Rattle.std.proofs.Common.{inl, inr, refl, sym, ap, ◌∙◌, subst, ◌==◌, nat_lt, ◌+◌}
+use Rattle.std.proofs.lemmas.Bool.{false≢true}
+use Rattle.spk_nums.proofs.KeptRights.{both_kept}
+use Rattle.spk_nums.specs.Capability.{Capability, cap_of}
+use Rattle.spk_nums.specs.Rights.{both, has_rights, kept}
+use Rattle.spk_nums.specs.Setting.{Setting}
+use Rattle.spk_nums.specs.declared.kinds.Kind.TheVariants as kind
+use Rattle.spk_nums.specs.declared.kinds.FrameKind.{FrameKind}
+use Rattle.spk_nums.specs.declared.kinds.FrameKind.TheVariants as frame_kind
+use Rattle.spk_nums.specs.declared.calls.Make.{Make}
+use Rattle.spk_nums.specs.declared.calls.Make.TheVariants as make
+use Rattle.spk_nums.specs.declared.calls.Call.{Call}
+use Rattle.spk_nums.specs.declared.calls.Call.TheVariants.{Look, Copy, Remove, Grow, Shrink, Retype, Make as make_call}
+use Rattle.spk_nums.specs.declared.calls.Call.TheVariants.{Map, Unmap, Touch, Flush, Gate, Kill, Call as call_gate}
+use Rattle.spk_nums.specs.declared.calls.Call.TheVariants.{Ret, Switch, Tick, Transfer, Delegate, Test}
+use Rattle.spk_nums.specs.declared.translations.Translation.{Translation}
+use Rattle.spk_nums.specs.declared.replies.Reply.{Reply}
+use Rattle.spk_nums.specs.declared.replies.Reply.TheVariants as reply
+use Rattle.kernel_rules.specs.State.{Place, Free, Holds, Quiescing, PlaceOf, State, put, with_place, thread_in, thread_of, comp_of}
+use Rattle.kernel_rules.specs.Start.{plain_cap, start_cap, place_with, start}
+use Rattle.kernel_rules.specs.Access.{Slot, Named, Want, Under, InRoot, found, place_at, usable_in, usable, reached, own, any}
+use Rattle.kernel_rules.specs.Access.{to_look, to_copy, to_use}
+use Rattle.kernel_rules.specs.Rules.{Change, Judged, Refused, Found, named, held}
+use Rattle.kernel_rules.specs.CapabilityCalls.{make_rule}
+use Rattle.kernel_rules.specs.MemoryCalls.{retype_rule, touch_by, translation_of}
+use Rattle.kernel_rules.specs.InvocationCalls.{switch_to}
+use Rattle.kernel_rules.specs.CallRelation.{rule_of, change_of, changed, owed_by, state_by, MayReply}
+use Rattle.kernel_rules.specs.Runs.{Event, Enters, Decides, Returns, after}
+use Rattle.kernel_rules.proofs.Changes.{IfFound}
+use Rattle.kernel_invariant.proofs.Sound.{put_all}
+use Rattle.kernel_invariant.proofs.Facts.{ChangesFrom, outcome_from, held_facts, suits}
+use Rattle.found_stays.proofs.Stays.{name_parts}
+use Rattle.kernel_laws.specs.Causes.{OneIs, used_at, leads, Name, names_made, names_of, HasNoRight}
+use Rattle.kernel_laws.proofs.Causes.{causes_stand}
+use Rattle.state_laws.specs.Rights.{KeepsBoth, KeepBoth, HaveBoth, BothStay, NoRightLacks}
+
+-- What a place holds or held has both rights; and so in each place.
+HasBoth : Place → Type 0
+HasBoth Free = Unit {0}
+HasBoth (Holds k) = k.rights ≡ both
+HasBoth (Quiescing k) = k.rights ≡ both
+
+abbrev AllBoth : State → Type 0
+AllBoth s = (f i : ℕ) → HasBoth (s.place f i)
+
+placed : (s : State) (n i : ℕ) (p : Place) → HasBoth p → AllBoth s → AllBoth (with_place s n i p)
+placed s n i p has h f j =
+    put_all (λ g (row : ℕ → Place). HasBoth (row j)) s.place n (put (s.place n) i p) f
+    (λ same. put_all (λ g q. HasBoth q) (s.place n) i p j (λ here. has) (λ other. h n j)) (λ other. h f j)
+
+use_both : (p : Place) (b : Bool) (k : Capability) → HasBoth p → usable_in p b ≡ Some k → k.rights ≡ both
+use_both Free b k has is = absurd (cc)
+use_both (Holds j) b k has is = let same : j ≡ k = cc in ap (λ (x : Capability). x.rights) (sym same) ∙ has
+use_both (Quiescing j) true k has is = let same : j ≡ k = cc in ap (λ (x : Capability). x.rights) (sym same) ∙ has
+use_both (Quiescing j) false k has is = absurd (cc)
+
+usable_both : (s : State) (c : ℕ) (at : Slot) (k : Capability) → AllBoth s → usable s c at ≡ Some k → k.rights ≡ both
+usable_both s c at k h is =
+    use_both (place_at s at) ((s.grace (PlaceOf at.node at.index)).waits c) k (h at.node at.index) is
+
+-- Every call that is carried out, whose copy keeps both.
+abbrev Keeps : Change → Type 0
+Keeps change = AllBoth change.next
+
+module _ (s : State) (c : ℕ) (h : AllBoth s) where
+  named_both : (n : ℕ) (want : Want) (k : Capability) → named s c n want ≡ Found k → k.rights ≡ both
+  named_both n want k e =
+      let p = name_parts s c n want k e in
+      ap (λ (x : Capability). x.rights) (sym (suits want p.2 k p.4).is) ∙ usable_both s c p.0 p.2 h p.3
+
+  cleared_both : (f : ℕ) (g i : ℕ) → HasBoth (put s.place f (λ j. Free) g i)
+  cleared_both f g i = put_all (λ g (row : ℕ → Place). HasBoth (row i)) s.place f (λ j. Free) g (λ same. tt) (λ other. h g i)
+
+  removed : (at : Slot) (k : Capability) → place_at s at ≡ Holds k → AllBoth (with_place s at.node at.index (Quiescing k))
+  removed at k is = placed s at.node at.index (Quiescing k) (subst HasBoth is (h at.node at.index)) h
+
+  make_both : (what : Make) (r f t b : ℕ) → ChangesFrom Keeps s c (make_rule s what r f t b)
+  make_both make.Table r f t b = λ range e table g at v calm. placed _ at.node at.index (Holds (plain_cap kind.Table f)) refl (cleared_both f)
+  make_both make.Leaf r f t b = λ range e table g at v calm. placed _ at.node at.index (Holds (plain_cap kind.Leaf f)) refl (cleared_both f)
+  make_both make.Pages r f t b = λ range e table g at v calm. placed _ at.node at.index (Holds (plain_cap kind.Pages f)) refl (cleared_both f)
+  make_both make.Pleaf r f t b = λ range e table g at v calm. placed _ at.node at.index (Holds (plain_cap kind.Pleaf f)) refl (cleared_both f)
+  make_both (make.Thread comp) r f t b = λ range e table g k j at v calm.
+      placed _ at.node at.index (Holds (plain_cap kind.Thread f)) refl h
+  make_both (make.Tcap sched quality) r f t b = λ range e table g at v calm.
+      placed _ at.node at.index (Holds (plain_cap kind.Tcap f)) refl h
+  make_both (make.Comp x p l) r f t b = λ range e table g own_table a own_pages d at v calm.
+      placed _ at.node at.index (Holds (plain_cap kind.Comp f)) refl h
+
+  retype_both : (r f : ℕ) (k : FrameKind) → ChangesFrom Keeps s c (retype_rule s r f k)
+  retype_both r f frame_kind.Untyped = λ range e calm. h
+  retype_both r f _ = λ range e calm. h
+
+  touch_both : (pages v : ℕ) (t : Option Translation) → ChangesFrom Keeps s c (touch_by s c pages v t)
+  touch_both pages v None = λ mapping e calm. h
+  touch_both pages v (Some t) = λ calm. h
+
+  switch_both : (q : ℕ) (name : Named) (e : Option ℕ) → ChangesFrom Keeps s c (switch_to s c name q e)
+  switch_both q name None = λ calm. h
+  switch_both q name (Some e) = λ calm. h
+
+  rule_both : (call : Call) → KeepsBoth call → ChangesFrom Keeps s c (rule_of s c call)
+  rule_both (Look a) keep = λ k e calm. h
+  rule_both (Copy a t b rights) keep = λ k e table f at v calm.
+      placed s at.node at.index (Holds (kept k rights.0)) (both_kept k.kind k.rights rights.0 (named_both a (to_copy any) k e) keep) h
+  rule_both (Remove t b) keep = λ table e at k g calm. removed at k (held_facts s c (Under (found table) b) at k g).1
+  rule_both (Grow t i l) keep = λ table e leaf f at v calm. placed s at.node at.index (Holds (plain_cap kind.Link leaf.frame)) refl h
+  rule_both (Shrink t i) keep = λ table e at k g calm. removed at k (held_facts s c (InRoot (found table) i) at k g).1
+  rule_both (Retype r f k) keep = retype_both r f k
+  rule_both (make_call what r f t b) keep = make_both what r f t b
+  rule_both (Map p v r f w) keep = λ pages e range g at u calm. placed s at.node at.index (Holds (cap_of kind.Page f w.0)) refl h
+  rule_both (Unmap p v) keep = λ pages e at k g calm. removed at k (held_facts s c (Under (found pages) v) at k g).1
+  rule_both (Touch v) keep = touch_both (comp_of s c).pages v (translation_of (s.core c).cached (comp_of s c).pages v)
+  rule_both Flush keep = λ calm. h
+  rule_both (Gate k t b) keep = λ comp e table f at v calm. placed s at.node at.index (Holds (cap_of kind.Gate comp.frame _)) refl h
+  rule_both (Kill k) keep = λ comp e calm. h
+  rule_both (call_gate g) keep = λ gate e calm. h
+  rule_both Ret keep = λ calm. h
+  rule_both (Switch a b) keep = λ thread e tcap g. switch_both tcap.frame (found thread) (thread_in (s.frame thread.frame)).runs_on
+  rule_both (Tick n) keep = λ calm. h
+  rule_both (Transfer a b m) keep = λ j e k f calm. h
+  rule_both (Delegate a b m) keep = λ j e k f calm. h
+  rule_both (Test a b) keep = λ j e k f calm. h
+
+  change_both : (x : Judged Change) → IfFound x Keeps → AllBoth (changed s x)
+  change_both (Refused r) by = h
+  change_both (Found change) by = by
+
+  owed_both : (call : Call) → AllBoth (owed_by s c call)
+  owed_both (Tick n) = h
+  owed_both _ = h
+
+  decided_both : (call : Call) (r : Reply) → KeepsBoth call → AllBoth (state_by s c call r)
+  decided_both call (reply.Ok v) keep =
+      change_both (change_of s c call) (outcome_from Keeps s c (rule_of s c call) (rule_both call keep))
+  decided_both call reply.CallsSpent keep = h
+  decided_both call reply.Raced keep = owed_both call
+  decided_both call (reply.Busy e) keep = owed_both call
+  decided_both call _ keep = h
+
+-- The capabilities of the start have both.
+choose : {A : Type 0} (P : A → Type 0) (b : Bool) (x y : A) → P x → P y → P (if b then x else y)
+choose P true x y hx hy = hx
+choose P false x y hx hy = hy
+
+start_both : (setting : Setting) → AllBoth (start setting)
+start_both setting f i =
+    choose HasBoth (f == 0) _ _ (choose HasBoth (i == 0) _ _ refl tt)
+    (choose HasBoth (f == 1) _ _
+    (caps (choose Both (i == 0) _ _ refl
+    (choose Both (i == 1) _ _ refl
+    (choose Both (i == 2) _ _ refl
+    (choose Both (i == 3) _ _ refl
+    (choose Both (nat_lt i 4) _ _ tt
+    (choose Both (nat_lt i (4 + setting.cores)) _ _ refl
+    (choose Both (nat_lt i 12) _ _ tt
+    (choose Both (nat_lt i (12 + setting.cores)) _ _ refl tt))))))))) tt)
+  where
+    Both : Option Capability → Type 0
+    Both None = Unit {0}
+    Both (Some k) = k.rights ≡ both
+
+    with_both : (o : Option Capability) → Both o → HasBoth (place_with o)
+    with_both None h = tt
+    with_both (Some k) h = h
+
+    caps : Both (start_cap setting i) → HasBoth (place_with (start_cap setting i))
+    caps h = with_both (start_cap setting i) h
+
+after_both : (setting : Setting) (events : List Event) → KeepBoth events → AllBoth (after setting events)
+after_both setting [] keep = start_both setting
+after_both setting (Enters c call ∷ events) keep = after_both setting events keep
+after_both setting (Decides c call r ∷ events) keep = decided_both (after setting events) c (after_both setting events keep.1) call r keep.0
+after_both setting (Returns c ∷ events) keep = after_both setting events keep
+
+pub both_stay : BothStay
+both_stay setting events keep = record {
+  held = λ f i k is. subst HasBoth is (after_both setting events keep f i);
+  used = λ c at k is. usable_both (after setting events) c at k (after_both setting events keep) is;
+}
+
+-- No name needs more than both.
+AreMet : List Name → Type 0
+AreMet [] = Unit {0}
+AreMet (n ∷ names) = (has_rights both n.want.needs ≡ true) × AreMet names
+
+made_met : (what : Make) → AreMet (names_made what)
+made_met (make.Thread comp) = (refl, tt)
+made_met (make.Comp table pages live) = (refl, (refl, tt))
+made_met _ = tt
+
+met : (s : State) (c : ℕ) (call : Call) → AreMet (names_of s c call)
+met s c (Look a) = (refl, tt)
+met s c (Copy a t b rights) = (refl, (refl, tt))
+met s c (Remove t b) = (refl, tt)
+met s c (Grow t i l) = (refl, (refl, tt))
+met s c (Shrink t i) = (refl, tt)
+met s c (Retype r f k) = (refl, tt)
+met s c (make_call what r f t b) = (refl, (refl, made_met what))
+met s c (Map p v r f w) = (refl, (refl, tt))
+met s c (Unmap p v) = (refl, tt)
+met s c (Gate k t b) = (refl, (refl, tt))
+met s c (Kill k) = (refl, tt)
+met s c (call_gate g) = (refl, tt)
+met s c (Switch a b) = (refl, (refl, tt))
+met s c (Transfer a b m) = (refl, (refl, tt))
+met s c (Delegate a b m) = (refl, (refl, tt))
+met s c (Test a b) = (refl, (refl, tt))
+met s c _ = tt
+
+module _ (s : State) (c : ℕ) (h : AllBoth s) where
+  leads_both : (o : Option Slot) (k : Capability) → used_at s c o ≡ Some k → k.rights ≡ both
+  leads_both None k is = absurd (cc)
+  leads_both (Some at) k is = usable_both s c at k h is
+
+  lacks_none : (needs : ℕ) → has_rights both needs ≡ true → (o : Option Slot) (u : Option Capability) → used_at s c o ≡ u
+      → (P : Capability → Type 0) → IsSomeAnd u (λ k. P k × IsFalse (has_rights k.rights needs)) → ⊥
+  lacks_none needs met o None is P lacks = lacks
+  lacks_none needs met o (Some k) is P lacks =
+      false≢true (sym lacks.1 ∙ ap (λ r. has_rights r needs) (leads_both o k is) ∙ met)
+
+  no_name : (names : List Name) → AreMet names
+      → OneIs (λ n. IsSomeAnd (leads s c n.number) λ k. IsTrue (n.want.kinds k.kind) × IsFalse (has_rights k.rights n.want.needs)) names → ⊥
+  no_name [] met one = one
+  no_name (n ∷ names) met (inl lacks) =
+      lacks_none n.want.needs met.0 (reached s c (own s c n.number)) (leads s c n.number) refl (λ k. IsTrue (n.want.kinds k.kind)) lacks
+  no_name (n ∷ names) met (inr later) = no_name names met.1 later
+
+pub no_right_lacks : NoRightLacks
+no_right_lacks setting events keep c call may =
+    no_name (after setting events) c (after_both setting events keep) (names_of (after setting events) c call)
+    (met (after setting events) c call) (causes_stand (after setting events) c call reply.NoRight may)
