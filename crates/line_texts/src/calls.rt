@@ -1,7 +1,7 @@
 //! Calls.
 
 ghost use Rattle.std.specs.Prelude.{◌≡◌, ◌++◌, OnOk, string_bytes};
-ghost use Rattle.spk_nums.specs.Texts.{call_text, make_text, site_text};
+ghost use Rattle.spk_nums.specs.Texts.{call_text, copy_text, make_text, site_text};
 
 use crate::numbers::{push_four_numbers, push_one, push_pair, push_spaced, push_triple};
 use spk_nums::{Call, CapId, FrameArg, FrameKind, Make, frame_kind_name};
@@ -25,6 +25,18 @@ fn push_retype(
     push_pair(text, "retype", of(range), u32::from(frame.number()))?;
     text.push(' ')?;
     text.push_str(frame_kind_name(kind))
+}
+
+// A copy, with its rights where they are not both.
+fn push_copy(text: &mut String, a: CapId, t: CapId, b: CapId, rights: u8) -> Result<(), AllocError>
+    ensures { OnOk result (string_bytes text.new ≡ string_bytes text.old ++ copy_text a t b rights) }
+{
+    if rights == 3 {
+        push_triple(text, "copy", of(a), of(t), of(b))
+    } else {
+        push_triple(text, "copy", of(a), of(t), of(b))?;
+        push_spaced(text, u32::from(rights))
+    }
 }
 
 // Where a make puts its object: a range, a frame, a table and a slot.
@@ -89,7 +101,7 @@ pub fn push_call(text: &mut String, call: &Call) -> Result<(), AllocError>
 {
     match *call {
         Call::Look { a } => push_one(text, "look", of(a)),
-        Call::Copy { a, t, b } => push_triple(text, "copy", of(a), of(t), of(b)),
+        Call::Copy { a, t, b, rights } => push_copy(text, a, t, b, rights.number()),
         Call::Remove { t, b } => push_pair(text, "remove", of(t), of(b)),
         Call::Grow { t, i, l } => { push_triple(text, "grow", of(t), u32::from(i.number()), of(l)) }
         Call::Shrink { t, i } => push_pair(text, "shrink", of(t), u32::from(i.number())),

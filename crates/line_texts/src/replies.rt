@@ -1,14 +1,15 @@
 //! Replies.
 
 ghost use Rattle.std.specs.Prelude.{◌≡◌, ◌++◌, OnOk, string_bytes};
-ghost use Rattle.spk_nums.specs.Texts.{cap_text, ok_text, reply_text};
+ghost use Rattle.spk_nums.specs.Texts.{cap_text, cap_text_by, ok_text, reply_text};
 
-use crate::numbers::{push_one, push_pair};
+use crate::numbers::{push_one, push_pair, push_spaced};
 use spk_nums::{Cap, Kind, Reply, Value, kind_name, reply_name};
 use std::alloc::AllocError;
 
-fn push_cap(text: &mut String, cap: &Cap) -> Result<(), AllocError>
-    ensures { OnOk result (string_bytes text.new ≡ string_bytes text.old ++ cap_text cap.now) }
+// Appends what a capability names.
+fn push_named(text: &mut String, cap: &Cap) -> Result<(), AllocError>
+    ensures { OnOk result (string_bytes text.new ≡ string_bytes text.old ++ cap_text_by cap.now.kind cap.now.frame cap.now.arg) }
 {
     let frame = u32::from(cap.frame().number());
     let arg = cap.arg();
@@ -18,6 +19,19 @@ fn push_cap(text: &mut String, cap: &Cap) -> Result<(), AllocError>
         Kind::Page => push_pair(text, "page", frame, arg),
         kind => push_one(text, kind_name(kind), frame),
     }
+}
+
+// Appends a capability, with its rights where it lacks one.
+fn push_cap(text: &mut String, cap: &Cap) -> Result<(), AllocError>
+    ensures { OnOk result (string_bytes text.new ≡ string_bytes text.old ++ cap_text cap.now) }
+{
+    let rights = cap.rights().number();
+    push_named(text, cap)?;
+    if rights == 3 {
+        return Ok(());
+    }
+    text.push_str(" rights")?;
+    push_spaced(text, u32::from(rights))
 }
 
 fn push_ok(text: &mut String, value: &Value) -> Result<(), AllocError>

@@ -1,5 +1,5 @@
 use super::*;
-use spk_nums::{Call, CapId, CoreNo, Reply, Value};
+use spk_nums::{Call, CapId, CoreNo, Reply, Rights, Value};
 use std::test::*;
 
 #[test]
@@ -9,6 +9,7 @@ fn lines_are_those_that_are_formatted(rt: HostRuntime) -> Result<(), Fail> {
         a: CapId::new(65_535),
         t: CapId::new(1),
         b: CapId::new(4095),
+        rights: Rights::both(),
     };
     let tick = Call::Tick { n: 1_000_000 };
     let amount = Reply::Ok(Value::Amount(4_000_000_000));

@@ -6,7 +6,7 @@ use Rattle.std.proofs.lemmas.List.Elements.{All-append, All-from_recursion, All-
 use Rattle.spk_nums.specs.declared.calls.Make.{Make}
 use Rattle.spk_nums.specs.declared.calls.Make.TheVariants.{Tcap, Comp}
 use Rattle.spk_nums.specs.declared.calls.Call.{Call}
-use Rattle.spk_nums.specs.declared.calls.Call.TheVariants.{Make as make_call, Map, Flush, Tick}
+use Rattle.spk_nums.specs.declared.calls.Call.TheVariants.{Copy, Make as make_call, Map, Flush, Tick}
 use Rattle.spk_nums.specs.declared.steps.Item.{Item}
 use Rattle.spk_nums.specs.CallLimits.{MakeInLimits, InLimits}
 use Rattle.spk_nums.specs.Setting.{GrantFits, IsSetting}
@@ -25,9 +25,12 @@ use Rattle.load_maker.proofs.Repeats.{below_range, repeated_all, repeated_length
 
 -- ---- calls
 
--- each call that is drawn so is within the limits
+-- each call that is drawn so is within the limits of version 1
+abbrev IsIn : Call → Type 0
+IsIn c = IsCallWithin 1 c
+
 abbrev Draws_within : Draw Call → Type 0
-Draws_within d = (x : ℕ) → IsCallWithin (d x).0
+Draws_within d = (x : ℕ) → IsIn (d x).0
 
 small : (m x most : ℕ) → 0 < m → m ≤ most → (below m x).0 ≤ most
 small m x most some le = omega (arith, below_range m x some)
@@ -45,7 +48,7 @@ look_in : Draws_within a_look
 look_in x = small 128 x 65535 (omega arith) (omega arith)
 
 copy_in : Draws_within a_copy
-copy_in x = (small 32 x 65535 (omega arith) (omega arith), omega arith, slot_small (below 32 x).1)
+copy_in x = (small 32 x 65535 (omega arith) (omega arith), omega arith, slot_small (below 32 x).1, omega arith, λ one. refl)
 
 remove_in : Draws_within a_remove
 remove_in x = (omega arith, slot_small x)
@@ -109,34 +112,35 @@ make_limits (Tcap sched quality) h =
 make_limits (Comp table pages live) h = let most : live ≤ 63 = h.2 in omega arith
 make_limits _ h = tt
 
-call_limits : (c : Call) → IsCallWithin c → InLimits c
-call_limits (make_call what range frame table slot) h = make_limits what h.0
-call_limits (Map p v r f w) h = let flags : w.0 ≤ 3 = h.4 in omega arith
-call_limits (Tick n) h = h
-call_limits _ h = tt
+call_limits : (v : ℕ) (c : Call) → IsCallWithin v c → InLimits c
+call_limits v (Copy a t b rights) h = let few : rights.0 ≤ 3 = h.3 in omega arith
+call_limits v (make_call what range frame table slot) h = make_limits what h.0
+call_limits v (Map p v r f w) h = let flags : w.0 ≤ 3 = h.4 in omega arith
+call_limits v (Tick n) h = h
+call_limits v _ h = tt
 
 -- ---- lists
 
-calls_in : (x : ℕ) → All IsCallWithin (drawn_calls x).0
+calls_in : (x : ℕ) → All IsIn (drawn_calls x).0
 unfolding drawn_calls
-calls_in x = repeated_all IsCallWithin a_call call_in 500 x
+calls_in x = repeated_all IsIn a_call call_in 500 x
 
 calls_length : (x : ℕ) → length (drawn_calls x).0 ≡ 500
 unfolding drawn_calls
 calls_length x = repeated_length a_call 500 x
 
-first_in : All IsCallWithin first_calls
-first_in = All-from_recursion IsCallWithin first_calls (
+first_in : All IsIn first_calls
+first_in = All-from_recursion IsIn first_calls (
   (omega arith, omega arith),
   ((tt, omega arith, omega arith, omega arith, omega arith), ((omega arith, omega arith, omega arith), tt)),
 )
 
-lists_in : (x : ℕ) → All (All IsCallWithin) (drawn_lists x).0
+lists_in : (x : ℕ) → All (All IsIn) (drawn_lists x).0
 lists_in x =
     let y = (drawn_calls x).1 in
     let z = (drawn_calls y).1 in
-    All-from_recursion (All IsCallWithin) (drawn_lists x).0 (
-      All-append IsCallWithin first_calls (drawn_calls x).0 first_in (calls_in x),
+    All-from_recursion (All IsIn) (drawn_lists x).0 (
+      All-append IsIn first_calls (drawn_calls x).0 first_in (calls_in x),
       (calls_in y, (calls_in z, (calls_in (drawn_calls z).1, tt))),
     )
 
@@ -190,14 +194,16 @@ setup_in = record {
 }
 
 -- a script of these parts, from where its lists and its items are drawn
-within_parts : (x y : ℕ) → IsWithin (record { setup = the_setup; lists = (drawn_lists x).0; order = first_items ++ (drawn_items y).0 })
+within_parts : (x y : ℕ) → IsWithin (record { version = 1; setup = the_setup; lists = (drawn_lists x).0; order = first_items ++ (drawn_items y).0 })
 within_parts x y =
-    let m : Meaning = record { setup = the_setup; lists = (drawn_lists x).0; order = first_items ++ (drawn_items y).0 } in
-    let lines : line_count (printed m) ≤ most_lines m = few_lines m setup_in refl (lists_in x) (order_in y) in
+    let m : Meaning = record { version = 1; setup = the_setup; lists = (drawn_lists x).0; order = first_items ++ (drawn_items y).0 } in
+    let lines : line_count (printed m) ≤ most_lines m = few_lines m (omega arith) (omega arith) setup_in refl (lists_in x) (order_in y) in
     let x1 = (drawn_calls x).1 in
     let x2 = (drawn_calls x1).1 in
     let x3 = (drawn_calls x2).1 in
     record {
+      some_version = omega arith;
+      most_versions = omega arith;
       setup = setup_in;
       lists = refl;
       calls = lists_in x;
@@ -222,7 +228,7 @@ made_reads n = printed_read (script_made n) (made_within n)
 pub accepted : (n : ℕ) → IsAccepted n
 accepted n = record {
   within = made_within n;
-  limits = λ k d h i e g. call_limits _ ((made_within n).calls k d h i e g);
+  limits = λ k d h i e g. call_limits _ _ ((made_within n).calls k d h i e g);
   few = made_few n;
   reads = made_reads n;
 }

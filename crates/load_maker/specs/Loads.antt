@@ -1,5 +1,6 @@
 -- The script of a number: four cores, 500 drawn calls of each, and an order of 6,000 drawn items.
 use Rattle.std.specs.Prelude.{ℕ, List, [], ◌∷◌, ◌++◌, ◌+◌, slice_index_or}
+use Rattle.spk_nums.specs.Rights.{both}
 use Rattle.spk_nums.specs.declared.kinds.FrameKind.{FrameKind}
 use Rattle.spk_nums.specs.declared.kinds.FrameKind.TheVariants.{Untyped, User, Kernel}
 use Rattle.spk_nums.specs.declared.calls.Make.TheVariants.{Leaf, Pleaf}
@@ -48,7 +49,7 @@ abbrev pub a_copy : Draw Call
 a_copy = do
   a ← below 32
   b ← a_slot
-  done (Copy a 1 b)
+  done (Copy a 1 b (record { 0 = both }))
 
 abbrev pub a_remove : Draw Call
 a_remove = do
@@ -167,7 +168,7 @@ abbrev pub a_script : Draw Meaning
 a_script = do
   lists ← drawn_lists
   items ← drawn_items
-  done (record { setup = the_setup; lists = lists; order = first_items ++ items })
+  done (record { version = 1; setup = the_setup; lists = lists; order = first_items ++ items })
 
 -- the script of a number: drawing begins at that number
 unfoldable pub script_made : ℕ → Meaning

@@ -6,7 +6,7 @@ ghost use Rattle.load_maker.specs.Loads.{a_call, a_copy, a_frame, a_look, a_make
 ghost use Rattle.load_maker.specs.Loads.{a_test, a_tick, a_touch, a_transfer, an_unmap, call_numbered, kind_numbered};
 
 use crate::draws::Draws;
-use spk_nums::{Call, CapId, FrameArg, FrameKind, Make, PageFlags, PageNo};
+use spk_nums::{Call, CapId, FrameArg, FrameKind, Make, PageFlags, PageNo, Rights};
 
 // The capabilities that the calls name: the range of all free frames, the table, and the pages.
 const RANGE: u16 = 0;
@@ -72,6 +72,7 @@ fn copy(draws: &mut Draws) -> Call
         a,
         t: CapId::new(TABLE),
         b,
+        rights: Rights::both(),
     }
 }
 

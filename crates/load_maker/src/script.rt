@@ -166,6 +166,7 @@ pub fn made_script(alloc: Global, number: u32) -> Result<Script, Memory>
     let lists = draw_lists(alloc, &mut draws)?;
     let order = draw_order(alloc, &mut draws)?;
     Ok(Script {
+        version: 1,
         setup: setup(),
         lists,
         order,

@@ -1,4 +1,4 @@
--- Each reply has its number below 24, and the word of that number.
+-- Each reply has its number below 25, and the word of that number.
 use Rattle.std.proofs.Common.{◌≡◌, ℕ, suc, ◌<◌, cond, eqb, List, [], ◌∷◌, refl, sym, ap, ◌∙◌, arith, slice_index_or}
 use Rattle.std.specs.Prelude.{codes}
 use lib.Pointwise.{pointwise}
@@ -6,7 +6,7 @@ use Rattle.spk_nums.specs.declared.replies.Reply.{Reply}
 use Rattle.spk_nums.specs.declared.replies.Reply.TheVariants.{Ok as ok_reply, NoSlot, Empty, WrongCap, Occupied, Quiescing}
 use Rattle.spk_nums.specs.declared.replies.Reply.TheVariants.{Unflushed, FrameKind as wrong_frame, OutOfRange, Referenced}
 use Rattle.spk_nums.specs.declared.replies.Reply.TheVariants.{NotEmpty, Dead, Deep, Bottom, Running, Short, Unlike}
-use Rattle.spk_nums.specs.declared.replies.Reply.TheVariants.{TooMany, Same, EpochsSpent, Raced, Busy, Fault, CallsSpent}
+use Rattle.spk_nums.specs.declared.replies.Reply.TheVariants.{TooMany, Same, EpochsSpent, Raced, Busy, Fault, CallsSpent, NoRight}
 use Rattle.spk_nums.specs.Names.{reply_code, reply_word}
 use Rattle.load_summary.specs.Laws.{IsCounted}
 
@@ -15,7 +15,7 @@ unfoldable the_words : List (List ℕ)
 the_words = codes "ok" ∷ codes "no-slot" ∷ codes "empty" ∷ codes "wrong-cap" ∷ codes "occupied" ∷ codes "quiescing"
     ∷ codes "unflushed" ∷ codes "frame-kind" ∷ codes "out-of-range" ∷ codes "referenced" ∷ codes "not-empty" ∷ codes "dead" ∷ codes "deep"
     ∷ codes "bottom" ∷ codes "running" ∷ codes "short" ∷ codes "unlike" ∷ codes "too-many" ∷ codes "same"
-    ∷ codes "epochs-spent" ∷ codes "raced" ∷ codes "busy" ∷ codes "fault" ∷ codes "calls-spent" ∷ []
+    ∷ codes "epochs-spent" ∷ codes "raced" ∷ codes "busy" ∷ codes "fault" ∷ codes "calls-spent" ∷ codes "no-right" ∷ []
 
 unfoldable word_numbered : ℕ → List ℕ
 word_numbered n = slice_index_or the_words n []
@@ -54,6 +54,7 @@ numbered Raced = refl
 numbered (Busy d) = refl
 numbered Fault = refl
 numbered CallsSpent = refl
+numbered NoRight = refl
 
 worded : (r : Reply) → number_worded (reply_word r) ≡ reply_code r
 unfolding number_worded the_words place_in
@@ -81,8 +82,9 @@ worded Raced = refl
 worded (Busy d) = refl
 worded Fault = refl
 worded CallsSpent = refl
+worded NoRight = refl
 
-below : (r : Reply) → reply_code r < 24
+below : (r : Reply) → reply_code r < 25
 below (ok_reply v) = omega arith
 below NoSlot = omega arith
 below Empty = omega arith
@@ -107,6 +109,7 @@ below Raced = omega arith
 below (Busy d) = omega arith
 below Fault = omega arith
 below CallsSpent = omega arith
+below NoRight = omega arith
 
 pub counted_once : (r : Reply) → IsCounted r
 counted_once r = record {

@@ -96,9 +96,9 @@ module _ (d : Decision) (ds : List Decision) where
             total_more n (d ∷ ds) ∙ omega (arith, none_of n is_not, total_one n less, total_more n ds)
       ]
 
-total_all : (ds : List Decision) → total_below 24 ds ≡ length ds
+total_all : (ds : List Decision) → total_below 25 ds ≡ length ds
 total_all [] = refl
-total_all (d ∷ ds) = total_one d ds 24 (counted_once d.reply).below ∙ omega (arith, total_all ds)
+total_all (d ∷ ds) = total_one d ds 25 (counted_once d.reply).below ∙ omega (arith, total_all ds)
 
 -- ---- each reply that was decided has its count, and there are no others
 
@@ -146,9 +146,9 @@ module _ (ds : List Decision) where
 
 pub tells_each : (ds : List Decision) → TellsEach ds (counts_text ds)
 tells_each ds = record {
-  counts = groups_below 24 ds;
-  is_text = ap (λ x. x ++ line (with_one (codes "calls") (length ds))) (text_below 24 ds);
-  own = own_below ds 24;
-  each = λ r some. each_below ds 24 r (counted_once r).below some;
+  counts = groups_below 25 ds;
+  is_text = ap (λ x. x ++ line (with_one (codes "calls") (length ds))) (text_below 25 ds);
+  own = own_below ds 25;
+  each = λ r some. each_below ds 25 r (counted_once r).below some;
   sum = total_all ds;
 }

@@ -41,9 +41,9 @@ pub record TellsEach (ds : List Decision) (text : List ℕ) : Type 0 where
   pub each : (r : Reply) → 0 < how_often ds r → Contains counts (count_of ds r)
   pub sum : sum_by (λ (k : Count). k.times) counts ≡ length ds
 
--- a reply has its number below 24, and one word with each reply of that number and with no other, so a summary counts each once, under
+-- a reply has its number below 25, and one word with each reply of that number and with no other, so a summary counts each once, under
 -- its word
 pub record IsCounted (r : Reply) : Type 0 where
-  pub below : reply_code r < 24
+  pub below : reply_code r < 25
   pub word : (s : Reply) → reply_code r ≡ reply_code s → reply_word r ≡ reply_word s
   pub apart : (s : Reply) → reply_word r ≡ reply_word s → reply_code r ≡ reply_code s

@@ -22,7 +22,7 @@ counts_below (suc n) ds = counts_below n ds ++ counted (with_number n ds)
 
 -- the counts of decisions: a line for each reply that came, then how many calls there were
 abbrev pub counts_text : List Decision → List ℕ
-counts_text ds = counts_below 24 ds ++ line (with_one (codes "calls") (length ds))
+counts_text ds = counts_below 25 ds ++ line (with_one (codes "calls") (length ds))
 
 -- the line of a total of ticks
 abbrev pub total_text : ℕ → List ℕ

@@ -7,7 +7,7 @@ use spk_nums::{Decision, reply_name, reply_number};
 use std::alloc::AllocError;
 
 // How many replies there are; they are numbered from 0 on.
-const REPLIES: u8 = 24;
+const REPLIES: u8 = 25;
 
 // Appends the line of the replies of a number; none where none came.
 fn push_count(text: &mut String, decisions: &[Decision], number: u8) -> Result<(), AllocError>
@@ -31,7 +31,7 @@ fn push_count(text: &mut String, decisions: &[Decision], number: u8) -> Result<(
 
 // Appends the lines of all replies, in the order of their numbers.
 fn push_lines(text: &mut String, decisions: &[Decision]) -> Result<(), AllocError>
-    ensures { OnOk result (string_bytes text.new ≡ string_bytes text.old ++ counts_below 24 decisions.now) }
+    ensures { OnOk result (string_bytes text.new ≡ string_bytes text.old ++ counts_below 25 decisions.now) }
 {
     'numbers: for number in 0..REPLIES {
         push_count(text, decisions, number)?;

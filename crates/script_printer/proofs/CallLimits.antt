@@ -1,8 +1,11 @@
 -- What the line of a call says is in the ranges of its arguments.
-use Rattle.std.proofs.Common.{◌≡◌, ℕ, ◌≤◌, Bool, true, false, cond, leb, List, Result, Ok, Err, refl, ap, subst, ◌∙◌, arith, inl, inr}
+use Rattle.std.proofs.Common.{◌≡◌, ℕ, ◌≤◌, Bool, true, false, cond, eqb, leb, ltb, List, length, Result, Ok, Err, refl, sym, ap, subst}
+use Rattle.std.proofs.Common.{◌∙◌, arith, inl, inr}
 use Rattle.std.specs.Prelude.{codes, ◌&&◌}
 use Rattle.std.specs.Option.{ok_or}
-use Rattle.std.proofs.lemmas.Bool.{cases_Bool, leb-true}
+use Rattle.std.proofs.lemmas.Bool.{cases_Bool, eqb-true, leb-true}
+use Rattle.spk_nums.specs.Rights.{both}
+use Rattle.spk_nums.specs.declared.rights.Rights.{Rights}
 use Rattle.spk_nums.specs.declared.calls.Make.{Make}
 use Rattle.spk_nums.specs.declared.calls.Make.TheVariants as make
 use Rattle.spk_nums.specs.declared.calls.Call.{Call}
@@ -14,6 +17,7 @@ use Rattle.script_reader.specs.declared.first_words.Verb.TheVariants as verb
 use Rattle.script_reader.specs.Causes.{◌>>=◌}
 use Rattle.script_reader.specs.Numerals.{number_of}
 use Rattle.script_reader.specs.Arguments.{is_word, word_at, number_at, end_at, frame_kind_at}
+use Rattle.script_reader.specs.CallLines.{fourth_at, both_at, rights_at}
 use Rattle.script_reader.specs.CallLines.{call_line, look_line, copy_line, remove_line, grow_line, shrink_line, retype_line}
 use Rattle.script_reader.specs.CallLines.{map_line, unmap_line, touch_line, flush_line, gate_line, kill_line, enter_line}
 use Rattle.script_reader.specs.CallLines.{ret_line, switch_line, tick_line, transfer_line, delegate_line, test_line}
@@ -97,36 +101,36 @@ name_in words place n e = (number_in words place 0 65535 n e).1
 
 -- ---- the lines
 
-name_line : (words : List (List ℕ)) (f : ℕ → Call) (d : Result Unit Cause) (c : Call)
-    → ((a : ℕ) → IsName a → IsCallWithin (f a)) → (number_at words 1 0 65535 >>= λ a. d >>= λ done. Ok (f a)) ≡ Ok c → IsCallWithin c
-name_line words f d c within e =
+name_line : (version : ℕ) (words : List (List ℕ)) (f : ℕ → Call) (d : Result Unit Cause) (c : Call)
+    → ((a : ℕ) → IsName a → IsCallWithin version (f a)) → (number_at words 1 0 65535 >>= λ a. d >>= λ done. Ok (f a)) ≡ Ok c → IsCallWithin version c
+name_line version words f d c within e =
     let r = args_one (number_at words 1 0 65535) d f c e in
-    subst IsCallWithin r.2 (within r.0 (name_in words 1 r.0 r.1))
+    subst (IsCallWithin version) r.2 (within r.0 (name_in words 1 r.0 r.1))
 
-names_line : (words : List (List ℕ)) (f : ℕ → ℕ → Call) (d : Result Unit Cause) (c : Call) → ((a b : ℕ) → IsName a → IsName b
-    → IsCallWithin (f a b)) → (number_at words 1 0 65535 >>= λ a. number_at words 2 0 65535 >>= λ b. d >>= λ done. Ok (f a b)) ≡ Ok c
-    → IsCallWithin c
-names_line words f d c within e =
+names_line : (version : ℕ) (words : List (List ℕ)) (f : ℕ → ℕ → Call) (d : Result Unit Cause) (c : Call) → ((a b : ℕ) → IsName a → IsName b
+    → IsCallWithin version (f a b)) → (number_at words 1 0 65535 >>= λ a. number_at words 2 0 65535 >>= λ b. d >>= λ done. Ok (f a b)) ≡ Ok c
+    → IsCallWithin version c
+names_line version words f d c within e =
     let r = args_two (number_at words 1 0 65535) (number_at words 2 0 65535) d f c e in
-    subst IsCallWithin r.whole (within r.a r.b (name_in words 1 r.a r.first) (name_in words 2 r.b r.second))
+    subst (IsCallWithin version) r.whole (within r.a r.b (name_in words 1 r.a r.first) (name_in words 2 r.b r.second))
 
-three_line : (words : List (List ℕ)) (most : ℕ) (f : ℕ → ℕ → ℕ → Call) (d : Result Unit Cause) (c : Call)
-    → ((a b m : ℕ) → IsName a → IsName b → m ≤ most → IsCallWithin (f a b m)) → (number_at words 1 0 65535 >>=
-    λ a. number_at words 2 0 65535 >>= λ b. number_at words 3 0 most >>= λ m. d >>= λ done. Ok (f a b m)) ≡ Ok c → IsCallWithin c
-three_line words most f d c within e =
+three_line : (version : ℕ) (words : List (List ℕ)) (most : ℕ) (f : ℕ → ℕ → ℕ → Call) (d : Result Unit Cause) (c : Call)
+    → ((a b m : ℕ) → IsName a → IsName b → m ≤ most → IsCallWithin version (f a b m)) → (number_at words 1 0 65535 >>=
+    λ a. number_at words 2 0 65535 >>= λ b. number_at words 3 0 most >>= λ m. d >>= λ done. Ok (f a b m)) ≡ Ok c → IsCallWithin version c
+three_line version words most f d c within e =
     let r = args_three (number_at words 1 0 65535) (number_at words 2 0 65535) (number_at words 3 0 most) d f c e in
-    subst IsCallWithin r.whole
+    subst (IsCallWithin version) r.whole
     (within r.a r.b r.d (name_in words 1 r.a r.first) (name_in words 2 r.b r.second) (number_in words 3 0 most r.d r.third).1)
 
-retype_in : (words : List (List ℕ)) (c : Call) → retype_line words ≡ Ok c → IsCallWithin c
+retype_in : (version : ℕ) (words : List (List ℕ)) (c : Call) → retype_line words ≡ Ok c → IsCallWithin version c
 unfolding retype_line
-retype_in words c e =
+retype_in version words c e =
     let r = args_three (number_at words 1 0 65535) (number_at words 2 0 65535) (frame_kind_at words 3) (end_at words 4) call.Retype c e in
-    subst IsCallWithin r.whole (name_in words 1 r.a r.first, name_in words 2 r.b r.second)
+    subst (IsCallWithin version) r.whole (name_in words 1 r.a r.first, name_in words 2 r.b r.second)
 
-map_in : (words : List (List ℕ)) (c : Call) → map_line words ≡ Ok c → IsCallWithin c
+map_in : (version : ℕ) (words : List (List ℕ)) (c : Call) → map_line words ≡ Ok c → IsCallWithin version c
 unfolding map_line
-map_in words c e =
+map_in version words c e =
     let p = bind_ok (number_at words 1 0 65535) (λ p. number_at words 2 0 65535 >>= λ v. number_at words 3 0 65535 >>=
     λ r. number_at words 4 0 65535 >>= λ f. number_at words 5 0 3 >>=
     λ w. end_at words 6 >>= λ done. Ok (call.Map p v r f (record { 0 = w }))) c e in
@@ -134,7 +138,7 @@ map_in words c e =
     λ f. number_at words 5 0 3 >>= λ w. end_at words 6 >>= λ done. Ok (call.Map p.0 v r f (record { 0 = w }))) c p.2 in
     let r = args_three (number_at words 3 0 65535) (number_at words 4 0 65535) (number_at words 5 0 3)
     (end_at words 6) (λ r f w. call.Map p.0 v.0 r f (record { 0 = w })) c v.2 in
-    subst IsCallWithin r.whole (
+    subst (IsCallWithin version) r.whole (
       name_in words 1 p.0 p.1,
       name_in words 2 v.0 v.1,
       name_in words 3 r.a r.first,
@@ -204,9 +208,9 @@ made_in : (words : List (List ℕ)) (what : Make) → (object_at words >>= λ o.
 unfolding object_at
 made_in words what e = result_made words (word_at words 1) what e
 
-make_in : (words : List (List ℕ)) (c : Call) → make_line words ≡ Ok c → IsCallWithin c
+make_in : (version : ℕ) (words : List (List ℕ)) (c : Call) → make_line words ≡ Ok c → IsCallWithin version c
 unfolding make_line
-make_in words c e =
+make_in version words c e =
     let o = bind_ok (object_at words) (λ o. number_at words 2 0 65535 >>= λ r. number_at words 3 0 65535 >>=
     λ f. number_at words 4 0 65535 >>= λ t. number_at words 5 0 65535 >>=
     λ b. made_at words o >>= λ what. Ok (call.Make what r f t b)) c e in
@@ -219,7 +223,7 @@ make_in words c e =
     let b = bind_ok (number_at words 5 0 65535) (λ b. made_at words o.0 >>= λ what. Ok (call.Make what r.0 f.0 t.0 b)) c t.2 in
     let w = bind_ok (made_at words o.0) (λ what. judged (call.Make what r.0 f.0 t.0 b.0)) c b.2 in
     let what : IsMakeWithin w.0 = made_in words w.0 (ap (λ x. x >>= λ o. made_at words o) o.1 ∙ w.1) in
-    subst IsCallWithin (judged_is (call.Make w.0 r.0 f.0 t.0 b.0) c w.2) (
+    subst (IsCallWithin version) (judged_is (call.Make w.0 r.0 f.0 t.0 b.0) c w.2) (
       what,
       name_in words 2 r.0 r.1,
       name_in words 3 f.0 f.1,
@@ -227,29 +231,64 @@ make_in words c e =
       name_in words 5 b.0 b.1,
     )
 
+-- the rights of a copy are of its version
+rights_in : (version : ℕ) (words : List (List ℕ)) (r : Rights) → rights_at version words ≡ Ok r → (r.0 ≤ 3) × (version ≡ 1 → r.0 ≡ both)
+unfolding rights_at fourth_at both_at
+rights_in version words r e =
+    elim (cases_Bool (eqb version 2 && ltb 4 (length words))) [
+      | inl two ↦
+          let n = args_one (number_at words 4 0 3) (end_at words 5) (λ n. rights_of n) r (rw two at e) in
+          let is : version ≡ 2 = eqb-true version 2 (both_left (eqb version 2) (ltb 4 (length words)) two) in
+          (subst (λ (x : Rights). x.0 ≤ 3) n.2 (number_in words 4 0 3 n.0 n.1).1, λ one. absurd (omega arith))
+      | inr not ↦
+          let same = args_none (end_at words 4) (rights_of both) r (rw not at e) in
+          (subst (λ (x : Rights). x.0 ≤ 3) same (omega arith), λ one. ap (λ (x : Rights). x.0) (sym same))
+    ]
+  where
+    rights_of : ℕ → Rights
+    rights_of n = record { 0 = n }
+
+copy_in : (version : ℕ) (words : List (List ℕ)) (c : Call) → copy_line version words ≡ Ok c → IsCallWithin version c
+unfolding copy_line
+copy_in version words c e =
+    let a = bind_ok (number_at words 1 0 65535) (λ a. number_at words 2 0 65535 >>= λ t. number_at words 3 0 65535 >>=
+    λ b. rights_at version words >>= λ r. judged (call.Copy a t b r)) c e in
+    let t = bind_ok (number_at words 2 0 65535)
+    (λ t. number_at words 3 0 65535 >>= λ b. rights_at version words >>= λ r. judged (call.Copy a.0 t b r)) c a.2 in
+    let b = bind_ok (number_at words 3 0 65535) (λ b. rights_at version words >>= λ r. judged (call.Copy a.0 t.0 b r)) c t.2 in
+    let r = bind_ok (rights_at version words) (λ r. judged (call.Copy a.0 t.0 b.0 r)) c b.2 in
+    let rights = rights_in version words r.0 r.1 in
+    subst (IsCallWithin version) (judged_is (call.Copy a.0 t.0 b.0 r.0) c r.2) (
+      name_in words 1 a.0 a.1,
+      name_in words 2 t.0 t.1,
+      name_in words 3 b.0 b.1,
+      rights.0,
+      rights.1,
+    )
+
 -- what the line of a call says is within its limits
-pub call_in : (words : List (List ℕ)) (v : Verb) (c : Call) → call_line words v ≡ Ok c → IsCallWithin c
-unfolding call_line look_line copy_line remove_line grow_line shrink_line unmap_line touch_line flush_line
+pub call_in : (version : ℕ) (words : List (List ℕ)) (v : Verb) (c : Call) → call_line version words v ≡ Ok c → IsCallWithin version c
+unfolding call_line look_line remove_line grow_line shrink_line unmap_line touch_line flush_line
     gate_line kill_line enter_line ret_line switch_line tick_line transfer_line delegate_line test_line
-call_in words verb.Look c e = name_line words call.Look (end_at words 2) c (λ a h. h) e
-call_in words verb.Copy c e = three_line words 65535 call.Copy (end_at words 4) c (λ a b m h k l. (h, k, l)) e
-call_in words verb.Remove c e = names_line words call.Remove (end_at words 3) c (λ a b h k. (h, k)) e
-call_in words verb.Grow c e = three_line words 65535 call.Grow (end_at words 4) c (λ a b m h k l. (h, k, l)) e
-call_in words verb.Shrink c e = names_line words call.Shrink (end_at words 3) c (λ a b h k. (h, k)) e
-call_in words verb.Retype c e = retype_in words c e
-call_in words verb.Make c e = make_in words c e
-call_in words verb.Map c e = map_in words c e
-call_in words verb.Unmap c e = names_line words call.Unmap (end_at words 3) c (λ a b h k. (h, k)) e
-call_in words verb.Touch c e = name_line words call.Touch (end_at words 2) c (λ a h. h) e
-call_in words verb.Flush c e = subst IsCallWithin (args_none (end_at words 1) call.Flush c e) tt
-call_in words verb.Gate c e = three_line words 65535 call.Gate (end_at words 4) c (λ a b m h k l. (h, k, l)) e
-call_in words verb.Kill c e = name_line words call.Kill (end_at words 2) c (λ a h. h) e
-call_in words verb.Call c e = name_line words call.Call (end_at words 2) c (λ a h. h) e
-call_in words verb.Ret c e = subst IsCallWithin (args_none (end_at words 1) call.Ret c e) tt
-call_in words verb.Switch c e = names_line words call.Switch (end_at words 3) c (λ a b h k. (h, k)) e
-call_in words verb.Tick c e =
+call_in version words verb.Look c e = name_line version words call.Look (end_at words 2) c (λ a h. h) e
+call_in version words verb.Copy c e = copy_in version words c e
+call_in version words verb.Remove c e = names_line version words call.Remove (end_at words 3) c (λ a b h k. (h, k)) e
+call_in version words verb.Grow c e = three_line version words 65535 call.Grow (end_at words 4) c (λ a b m h k l. (h, k, l)) e
+call_in version words verb.Shrink c e = names_line version words call.Shrink (end_at words 3) c (λ a b h k. (h, k)) e
+call_in version words verb.Retype c e = retype_in version words c e
+call_in version words verb.Make c e = make_in version words c e
+call_in version words verb.Map c e = map_in version words c e
+call_in version words verb.Unmap c e = names_line version words call.Unmap (end_at words 3) c (λ a b h k. (h, k)) e
+call_in version words verb.Touch c e = name_line version words call.Touch (end_at words 2) c (λ a h. h) e
+call_in version words verb.Flush c e = subst (IsCallWithin version) (args_none (end_at words 1) call.Flush c e) tt
+call_in version words verb.Gate c e = three_line version words 65535 call.Gate (end_at words 4) c (λ a b m h k l. (h, k, l)) e
+call_in version words verb.Kill c e = name_line version words call.Kill (end_at words 2) c (λ a h. h) e
+call_in version words verb.Call c e = name_line version words call.Call (end_at words 2) c (λ a h. h) e
+call_in version words verb.Ret c e = subst (IsCallWithin version) (args_none (end_at words 1) call.Ret c e) tt
+call_in version words verb.Switch c e = names_line version words call.Switch (end_at words 3) c (λ a b h k. (h, k)) e
+call_in version words verb.Tick c e =
     let r = args_one (number_at words 1 0 1000000) (end_at words 2) call.Tick c e in
-    subst IsCallWithin r.2 (number_in words 1 0 1000000 r.0 r.1).1
-call_in words verb.Transfer c e = three_line words 4000000000 call.Transfer (end_at words 4) c (λ a b m h k l. (h, k, l)) e
-call_in words verb.Delegate c e = three_line words 4000000000 call.Delegate (end_at words 4) c (λ a b m h k l. (h, k, l)) e
-call_in words verb.Test c e = names_line words call.Test (end_at words 3) c (λ a b h k. (h, k)) e
+    subst (IsCallWithin version) r.2 (number_in words 1 0 1000000 r.0 r.1).1
+call_in version words verb.Transfer c e = three_line version words 4000000000 call.Transfer (end_at words 4) c (λ a b m h k l. (h, k, l)) e
+call_in version words verb.Delegate c e = three_line version words 4000000000 call.Delegate (end_at words 4) c (λ a b m h k l. (h, k, l)) e
+call_in version words verb.Test c e = names_line version words call.Test (end_at words 3) c (λ a b h k. (h, k)) e

@@ -1,8 +1,10 @@
 -- Calls as words: the words of the line of a call are read as that call.
-use Rattle.std.proofs.Common.{◌≡◌, ℕ, List, [], ◌∷◌, Some, Ok, refl, arith}
+use Rattle.std.proofs.Common.{◌≡◌, ◌≢◌, ℕ, ◌≤◌, ◌==◌, Bool, true, false, ◌&&◌, if◌then◌else◌, List, [], ◌∷◌, Some, Ok, refl, sym, ap, arith}
+use Rattle.std.proofs.lemmas.Bool.{eqb-true, eqb-false}
 use Rattle.std.specs.Prelude.{codes, decimal, slice_get}
 use Rattle.std.specs.Option.{option_and_then}
 use Rattle.spk_nums.specs.Names.{frame_kind_word}
+use Rattle.spk_nums.specs.Rights.{both}
 use Rattle.spk_nums.specs.declared.kinds.FrameKind.{FrameKind}
 use Rattle.spk_nums.specs.declared.kinds.FrameKind.TheVariants.{Untyped, User, Kernel}
 use Rattle.spk_nums.specs.declared.calls.Make.{Make}
@@ -19,6 +21,7 @@ use Rattle.script_reader.specs.declared.head.Head.{Head}
 use Rattle.script_reader.specs.declared.head.Line.TheVariants as line
 use Rattle.script_reader.specs.FirstWords.{first_word, verb_of, later_verb_of}
 use Rattle.script_reader.specs.Arguments.{is_word, word_at, end_at, frame_kind_of, frame_kind_at}
+use Rattle.script_reader.specs.CallLines.{fourth_at, both_at, rights_at}
 use Rattle.script_reader.specs.CallLines.{call_line, look_line, copy_line, remove_line, grow_line, shrink_line, retype_line}
 use Rattle.script_reader.specs.CallLines.{map_line, unmap_line, touch_line, flush_line, gate_line, kill_line, enter_line}
 use Rattle.script_reader.specs.CallLines.{ret_line, switch_line, tick_line, transfer_line, delegate_line, test_line}
@@ -26,12 +29,12 @@ use Rattle.script_reader.specs.CallLines.{object_of, object_at, thread_at, tcap_
 use Rattle.script_reader.specs.Heads.{line_of, line_by}
 use Rattle.script_printer.specs.Law.{IsName, IsMakeWithin, IsCallWithin}
 use Rattle.script_printer.proofs.NumberWords.{number_back, name_back}
-use Rattle.script_printer.proofs.CallWords.{make_words, call_words}
+use Rattle.script_printer.proofs.CallWords.{make_words, copy_words, call_words}
 
 -- the word of a call, as the reader knows it
 abbrev call_verb : Call → Verb
 call_verb (Look a) = verb.Look
-call_verb (Copy a t b) = verb.Copy
+call_verb (Copy a t b rights) = verb.Copy
 call_verb (Remove t b) = verb.Remove
 call_verb (Grow t i l) = verb.Grow
 call_verb (Shrink t i) = verb.Shrink
@@ -61,10 +64,16 @@ make_first (make.Thread comp) r f t b = refl
 make_first (make.Tcap sched quality) r f t b = refl
 make_first (make.Comp table pages live) r f t b = refl
 
+copy_first : (whole : Bool) (a t b r : ℕ)
+    → option_and_then first_word (slice_get (copy_words whole a t b r) 0) ≡ Some (first.Call verb.Copy)
+unfolding first_word verb_of later_verb_of is_word
+copy_first true a t b r = refl
+copy_first false a t b r = refl
+
 call_first : (c : Call) → option_and_then first_word (slice_get (call_words c) 0) ≡ Some (first.Call (call_verb c))
 unfolding first_word verb_of later_verb_of is_word
 call_first (Look a) = refl
-call_first (Copy a t b) = refl
+call_first (Copy a t b rights) = copy_first (rights.0 == 3) a t b rights.0
 call_first (Remove t b) = refl
 call_first (Grow t i l) = refl
 call_first (Shrink t i) = refl
@@ -136,20 +145,49 @@ make_read (make.Comp table pages live) r f t b h hr hf ht hb =
       number_back ws 8 0 63 live refl (omega arith) h.2 (omega arith),
     ) refl
 
-call_read : (c : Call) → IsCallWithin c → call_line (call_words c) (call_verb c) ≡ Ok c
+-- after `copy A T B` nothing comes, and both rights are kept, in either version
+both_read : (version a t b : ℕ) → rights_at version (copy_words true a t b 3) ≡ Ok (record { 0 = both })
+unfolding rights_at both_at end_at
+both_read version a t b = by (version == 2)
+  where
+    by : (two : Bool) → (if two && false then fourth_at (copy_words true a t b 3) else Ok (record { 0 = both })) ≡ Ok (record { 0 = both })
+    by true = refl
+    by false = refl
+
+-- or a fourth number comes, in version 2
+fourth_read : (version a t b r : ℕ) → version ≡ 2 → r ≤ 3 → rights_at version (copy_words false a t b r) ≡ Ok (record { 0 = r })
+unfolding rights_at fourth_at end_at
+fourth_read version a t b r two few =
+    rw (two, number_back (copy_words false a t b r) 4 0 3 r refl (omega arith) few (omega arith)) refl
+
+copy_read : (whole : Bool) (version a t b r : ℕ) → (r == 3) ≡ whole → 1 ≤ version → version ≤ 2 → IsName a → IsName t → IsName b → r ≤ 3
+    → (version ≡ 1 → r ≡ both) → copy_line version (copy_words whole a t b r) ≡ Ok (Copy a t b (record { 0 = r }))
+unfolding copy_line
+copy_read true version a t b r is some most ha ht hb few one =
+    let ws = copy_words true a t b r in
+    let three : both ≡ r = sym (eqb-true r 3 is) in
+    rw (name_back ws 1 a refl ha, name_back ws 2 t refl ht, name_back ws 3 b refl hb, both_read version a t b)
+    (ap (λ (n : ℕ). Ok (Copy a t b (record { 0 = n }))) three)
+copy_read false version a t b r is some most ha ht hb few one =
+    let ws = copy_words false a t b r in
+    let other : version ≢ 1 = λ e. eqb-false r 3 is (one e) in
+    let two : version ≡ 2 = omega (arith, some, most, other) in
+    rw (name_back ws 1 a refl ha, name_back ws 2 t refl ht, name_back ws 3 b refl hb, fourth_read version a t b r two few) refl
+
+call_read : (version : ℕ) (c : Call) → 1 ≤ version → version ≤ 2 → IsCallWithin version c
+    → call_line version (call_words c) (call_verb c) ≡ Ok c
 unfolding call_line look_line copy_line remove_line grow_line shrink_line retype_line map_line unmap_line touch_line
     flush_line gate_line kill_line enter_line ret_line switch_line tick_line transfer_line delegate_line test_line end_at
-call_read (Look a) h = let ws = call_words (Look a) in rw (name_back ws 1 a refl h) refl
-call_read (Copy a t b) h = let ws = call_words (Copy a t b) in
-    rw (name_back ws 1 a refl h.0, name_back ws 2 t refl h.1, name_back ws 3 b refl h.2) refl
-call_read (Remove t b) h = let ws = call_words (Remove t b) in rw (name_back ws 1 t refl h.0, name_back ws 2 b refl h.1) refl
-call_read (Grow t i l) h = let ws = call_words (Grow t i l) in
+call_read version (Look a) some most h = let ws = call_words (Look a) in rw (name_back ws 1 a refl h) refl
+call_read version (Copy a t b rights) some most h = copy_read (rights.0 == 3) version a t b rights.0 refl some most h.0 h.1 h.2 h.3 h.4
+call_read version (Remove t b) some most h = let ws = call_words (Remove t b) in rw (name_back ws 1 t refl h.0, name_back ws 2 b refl h.1) refl
+call_read version (Grow t i l) some most h = let ws = call_words (Grow t i l) in
     rw (name_back ws 1 t refl h.0, name_back ws 2 i refl h.1, name_back ws 3 l refl h.2) refl
-call_read (Shrink t i) h = let ws = call_words (Shrink t i) in rw (name_back ws 1 t refl h.0, name_back ws 2 i refl h.1) refl
-call_read (Retype r f k) h = let ws = call_words (Retype r f k) in
+call_read version (Shrink t i) some most h = let ws = call_words (Shrink t i) in rw (name_back ws 1 t refl h.0, name_back ws 2 i refl h.1) refl
+call_read version (Retype r f k) some most h = let ws = call_words (Retype r f k) in
     rw (name_back ws 1 r refl h.0, name_back ws 2 f refl h.1, kind_back (codes "retype") (decimal r) (decimal f) k) refl
-call_read (make_call what range frame table slot) h = make_read what range frame table slot h.0 h.1 h.2 h.3 h.4
-call_read (Map p v r f w) h =
+call_read version (make_call what range frame table slot) some most h = make_read what range frame table slot h.0 h.1 h.2 h.3 h.4
+call_read version (Map p v r f w) some most h =
     let ws = call_words (Map p v r f w) in
     rw (
       name_back ws 1 p refl h.0,
@@ -158,25 +196,26 @@ call_read (Map p v r f w) h =
       name_back ws 4 f refl h.3,
       number_back ws 5 0 3 w.0 refl (omega arith) h.4 (omega arith),
     ) refl
-call_read (Unmap p v) h = let ws = call_words (Unmap p v) in rw (name_back ws 1 p refl h.0, name_back ws 2 v refl h.1) refl
-call_read (Touch v) h = let ws = call_words (Touch v) in rw (name_back ws 1 v refl h) refl
-call_read Flush h = refl
-call_read (Gate c t b) h = let ws = call_words (Gate c t b) in
+call_read version (Unmap p v) some most h = let ws = call_words (Unmap p v) in rw (name_back ws 1 p refl h.0, name_back ws 2 v refl h.1) refl
+call_read version (Touch v) some most h = let ws = call_words (Touch v) in rw (name_back ws 1 v refl h) refl
+call_read version Flush some most h = refl
+call_read version (Gate c t b) some most h = let ws = call_words (Gate c t b) in
     rw (name_back ws 1 c refl h.0, name_back ws 2 t refl h.1, name_back ws 3 b refl h.2) refl
-call_read (Kill c) h = let ws = call_words (Kill c) in rw (name_back ws 1 c refl h) refl
-call_read (call_gate g) h = let ws = call_words (call_gate g) in rw (name_back ws 1 g refl h) refl
-call_read Ret h = refl
-call_read (Switch h q) k = let ws = call_words (Switch h q) in rw (name_back ws 1 h refl k.0, name_back ws 2 q refl k.1) refl
-call_read (Tick n) h = let ws = call_words (Tick n) in rw (number_back ws 1 0 1000000 n refl (omega arith) h (omega arith)) refl
-call_read (Transfer a b m) h =
+call_read version (Kill c) some most h = let ws = call_words (Kill c) in rw (name_back ws 1 c refl h) refl
+call_read version (call_gate g) some most h = let ws = call_words (call_gate g) in rw (name_back ws 1 g refl h) refl
+call_read version Ret some most h = refl
+call_read version (Switch h q) some most k = let ws = call_words (Switch h q) in rw (name_back ws 1 h refl k.0, name_back ws 2 q refl k.1) refl
+call_read version (Tick n) some most h = let ws = call_words (Tick n) in rw (number_back ws 1 0 1000000 n refl (omega arith) h (omega arith)) refl
+call_read version (Transfer a b m) some most h =
     let ws = call_words (Transfer a b m) in
     rw (name_back ws 1 a refl h.0, name_back ws 2 b refl h.1, number_back ws 3 0 4000000000 m refl (omega arith) h.2 (omega arith)) refl
-call_read (Delegate a b m) h =
+call_read version (Delegate a b m) some most h =
     let ws = call_words (Delegate a b m) in
     rw (name_back ws 1 a refl h.0, name_back ws 2 b refl h.1, number_back ws 3 0 4000000000 m refl (omega arith) h.2 (omega arith)) refl
-call_read (Test a b) h = let ws = call_words (Test a b) in rw (name_back ws 1 a refl h.0, name_back ws 2 b refl h.1) refl
+call_read version (Test a b) some most h = let ws = call_words (Test a b) in rw (name_back ws 1 a refl h.0, name_back ws 2 b refl h.1) refl
 
 -- after a `core` line, the line of a call says that call
-pub call_back : (head : Head) (c : Call) → head.section ≡ section.List → IsCallWithin c → line_of head (call_words c) ≡ Ok (line.Call c)
+pub call_back : (head : Head) (c : Call) → head.section ≡ section.List → 1 ≤ head.version → head.version ≤ 2
+    → IsCallWithin head.version c → line_of head (call_words c) ≡ Ok (line.Call c)
 unfolding line_of line_by
-call_back head c e h = rw (call_first c, e, call_read c h) refl
+call_back head c e some most h = rw (call_first c, e, call_read head.version c some most h) refl

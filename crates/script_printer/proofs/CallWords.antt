@@ -1,8 +1,8 @@
 -- Calls as words: the printed line of a call is read as that call.
-use Rattle.std.proofs.Common.{◌≡◌, ℕ, ◌≤◌, true, List, [], ◌∷◌, ◌++◌, refl, ◌∙◌, arith, append_assoc}
+use Rattle.std.proofs.Common.{◌≡◌, ℕ, ◌≤◌, ◌==◌, Bool, true, false, if◌then◌else◌, List, [], ◌∷◌, ◌++◌, refl, ◌∙◌, arith, append_assoc}
 use Rattle.std.specs.Prelude.{codes, decimal}
 use Rattle.spk_nums.specs.Names.{frame_kind_word}
-use Rattle.spk_nums.specs.Texts.{call_text, make_text}
+use Rattle.spk_nums.specs.Texts.{call_text, make_text, with_three, with_four}
 use Rattle.spk_nums.specs.declared.kinds.FrameKind.{FrameKind}
 use Rattle.spk_nums.specs.declared.kinds.FrameKind.TheVariants.{Untyped, User, Kernel}
 use Rattle.spk_nums.specs.declared.calls.Make.{Make}
@@ -28,10 +28,15 @@ make_words (make.Tcap sched quality) r f t b =
 make_words (make.Comp table pages live) r f t b =
     codes "make" ∷ codes "comp" ∷ decimal r ∷ decimal f ∷ decimal t ∷ decimal b ∷ decimal table ∷ decimal pages ∷ decimal live ∷ []
 
+-- the words of the line of a copy: with its rights where they are not both
+abbrev pub copy_words : Bool → ℕ → ℕ → ℕ → ℕ → List (List ℕ)
+copy_words true a t b r = codes "copy" ∷ decimal a ∷ decimal t ∷ decimal b ∷ []
+copy_words false a t b r = codes "copy" ∷ decimal a ∷ decimal t ∷ decimal b ∷ decimal r ∷ []
+
 -- the words of the line of a call
 abbrev pub call_words : Call → List (List ℕ)
 call_words (Look a) = codes "look" ∷ decimal a ∷ []
-call_words (Copy a t b) = codes "copy" ∷ decimal a ∷ decimal t ∷ decimal b ∷ []
+call_words (Copy a t b rights) = copy_words (rights.0 == 3) a t b rights.0
 call_words (Remove t b) = codes "remove" ∷ decimal t ∷ decimal b ∷ []
 call_words (Grow t i l) = codes "grow" ∷ decimal t ∷ decimal i ∷ decimal l ∷ []
 call_words (Shrink t i) = codes "shrink" ∷ decimal t ∷ decimal i ∷ []
@@ -62,9 +67,15 @@ make_onto (make.Thread comp) r f t b rest = simp append_assoc
 make_onto (make.Tcap sched quality) r f t b rest = simp append_assoc
 make_onto (make.Comp table pages live) r f t b rest = simp append_assoc
 
+copy_onto : (whole : Bool) (a t b r : ℕ) (rest : List ℕ)
+    → (if whole then with_three (codes "copy") a t b else with_four (codes "copy") a t b r) ++ 10 ∷ rest
+    ≡ line_onto (copy_words whole a t b r) rest
+copy_onto true a t b r rest = simp append_assoc
+copy_onto false a t b r rest = simp append_assoc
+
 text_onto : (c : Call) (rest : List ℕ) → call_text c ++ 10 ∷ rest ≡ line_onto (call_words c) rest
 text_onto (Look a) rest = simp append_assoc
-text_onto (Copy a t b) rest = simp append_assoc
+text_onto (Copy a t b rights) rest = copy_onto (rights.0 == 3) a t b rights.0 rest
 text_onto (Remove t b) rest = simp append_assoc
 text_onto (Grow t i l) rest = simp append_assoc
 text_onto (Shrink t i) rest = simp append_assoc
@@ -126,30 +137,34 @@ make_is_line (make.Comp table pages live) r f t b h hr hf ht hb =
       number_text live (omega arith),
     ) refl
 
-pub call_is_line : (c : Call) → IsCallWithin c → is_line (call_words c) ≡ true
-call_is_line (Look a) h = rw (name_text a h) refl
-call_is_line (Copy a t b) h = rw (name_text a h.0, name_text t h.1, name_text b h.2) refl
-call_is_line (Remove t b) h = rw (name_text t h.0, name_text b h.1) refl
-call_is_line (Grow t i l) h = rw (name_text t h.0, name_text i h.1, name_text l h.2) refl
-call_is_line (Shrink t i) h = rw (name_text t h.0, name_text i h.1) refl
-call_is_line (Retype r f k) h = rw (name_text r h.0, name_text f h.1, kind_text k) refl
-call_is_line (make_call what range frame table slot) h = make_is_line what range frame table slot h.0 h.1 h.2 h.3 h.4
-call_is_line (Map p v r f w) h =
+copy_is_line : (whole : Bool) (a t b r : ℕ) → IsName a → IsName t → IsName b → r ≤ 3 → is_line (copy_words whole a t b r) ≡ true
+copy_is_line true a t b r ha ht hb few = rw (name_text a ha, name_text t ht, name_text b hb) refl
+copy_is_line false a t b r ha ht hb few = rw (name_text a ha, name_text t ht, name_text b hb, number_text r (omega arith)) refl
+
+pub call_is_line : (v : ℕ) (c : Call) → IsCallWithin v c → is_line (call_words c) ≡ true
+call_is_line version (Look a) h = rw (name_text a h) refl
+call_is_line version (Copy a t b rights) h = copy_is_line (rights.0 == 3) a t b rights.0 h.0 h.1 h.2 h.3
+call_is_line version (Remove t b) h = rw (name_text t h.0, name_text b h.1) refl
+call_is_line version (Grow t i l) h = rw (name_text t h.0, name_text i h.1, name_text l h.2) refl
+call_is_line version (Shrink t i) h = rw (name_text t h.0, name_text i h.1) refl
+call_is_line version (Retype r f k) h = rw (name_text r h.0, name_text f h.1, kind_text k) refl
+call_is_line version (make_call what range frame table slot) h = make_is_line what range frame table slot h.0 h.1 h.2 h.3 h.4
+call_is_line version (Map p v r f w) h =
     let flags : w.0 ≤ 3 = h.4 in
     rw (name_text p h.0, name_text v h.1, name_text r h.2, name_text f h.3, number_text w.0 (omega arith)) refl
-call_is_line (Unmap p v) h = rw (name_text p h.0, name_text v h.1) refl
-call_is_line (Touch v) h = rw (name_text v h) refl
-call_is_line Flush h = refl
-call_is_line (Gate c t b) h = rw (name_text c h.0, name_text t h.1, name_text b h.2) refl
-call_is_line (Kill c) h = rw (name_text c h) refl
-call_is_line (call_gate g) h = rw (name_text g h) refl
-call_is_line Ret h = refl
-call_is_line (Switch h q) k = rw (name_text h k.0, name_text q k.1) refl
-call_is_line (Tick n) h = rw (number_text n (omega arith)) refl
-call_is_line (Transfer a b m) h =
+call_is_line version (Unmap p v) h = rw (name_text p h.0, name_text v h.1) refl
+call_is_line version (Touch v) h = rw (name_text v h) refl
+call_is_line version Flush h = refl
+call_is_line version (Gate c t b) h = rw (name_text c h.0, name_text t h.1, name_text b h.2) refl
+call_is_line version (Kill c) h = rw (name_text c h) refl
+call_is_line version (call_gate g) h = rw (name_text g h) refl
+call_is_line version Ret h = refl
+call_is_line version (Switch h q) k = rw (name_text h k.0, name_text q k.1) refl
+call_is_line version (Tick n) h = rw (number_text n (omega arith)) refl
+call_is_line version (Transfer a b m) h =
     let amount : m ≤ 4000000000 = h.2 in
     rw (name_text a h.0, name_text b h.1, number_text m (omega arith)) refl
-call_is_line (Delegate a b m) h =
+call_is_line version (Delegate a b m) h =
     let amount : m ≤ 4000000000 = h.2 in
     rw (name_text a h.0, name_text b h.1, number_text m (omega arith)) refl
-call_is_line (Test a b) h = rw (name_text a h.0, name_text b h.1) refl
+call_is_line version (Test a b) h = rw (name_text a h.0, name_text b h.1) refl

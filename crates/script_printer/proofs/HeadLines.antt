@@ -15,8 +15,8 @@ use Rattle.script_reader.specs.Heads.{grant_line, calls_line, epochs_line, core_
 use Rattle.script_printer.proofs.NumberWords.{number_back, core_back}
 
 -- the words of the lines
-abbrev pub speck_words : List (List ℕ)
-speck_words = codes "speck" ∷ codes "1" ∷ []
+abbrev pub speck_words : ℕ → List (List ℕ)
+speck_words n = codes "speck" ∷ decimal n ∷ []
 
 abbrev pub cores_words : ℕ → List (List ℕ)
 cores_words n = codes "cores" ∷ decimal n ∷ []
@@ -43,9 +43,10 @@ order_words = codes "order" ∷ []
 abbrev pub IsListing : Section → Type 0
 IsListing s = (s ≡ section.Lists) ⊎ (s ≡ section.List)
 
-pub speck_back : line_of no_head speck_words ≡ Ok (line.Head (record no_head { section = section.Cores }))
-unfolding line_of line_by speck_line number_at word_at number_of end_at first_word is_word
-speck_back = refl
+pub speck_back : (n : ℕ) → 1 ≤ n → n ≤ 2
+    → line_of no_head (speck_words n) ≡ Ok (line.Head (record no_head { section = section.Cores; version = n }))
+unfolding line_of line_by speck_line end_at first_word is_word
+speck_back n low high = rw (number_back (speck_words n) 1 1 2 n refl low high (omega arith)) refl
 
 pub cores_back : (h : Head) (n : ℕ) → h.section ≡ section.Cores → 1 ≤ n → n ≤ 8
     → line_of h (cores_words n) ≡ Ok (line.Head (record h { section = section.Frames; cores = n }))

@@ -57,14 +57,14 @@ one_more : (b : Bool) → cond b 1 0 ≤ 1
 one_more true = omega arith
 one_more false = omega arith
 
-pub few_lines : (m : Meaning) → IsSetting m.setup → length m.lists ≡ m.setup.cores
-    → All (All IsCallWithin) m.lists → BelowCores m.setup.cores m.order → line_count (printed m) ≤ most_lines m
-few_lines m setting pairs calls below =
+pub few_lines : (m : Meaning) → 1 ≤ m.version → m.version ≤ 2 → IsSetting m.setup → length m.lists ≡ m.setup.cores
+    → All (All (IsCallWithin m.version)) m.lists → BelowCores m.setup.cores m.order → line_count (printed m) ≤ most_lines m
+few_lines m some most setting pairs calls below =
     let text = printed m in
     let order = order_rows m.order in
     let limited : List (List (List ℕ)) = calls_words m.setup.calls ∷ epochs_words m.setup.epochs ∷ lists_then 0 m.lists order in
     let feeds : count_by is_feed text ≡ length (script_lines m) =
-    ap (count_by is_feed) (printed_onto m) ∙ lines_count (script_lines m) (script_are_lines m setting pairs calls below) in
+    ap (count_by is_feed) (printed_onto m) ∙ lines_count (script_lines m) (script_are_lines m some most setting pairs calls below) in
     omega (
       arith,
       feeds,

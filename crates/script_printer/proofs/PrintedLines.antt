@@ -79,11 +79,11 @@ lists_onto core (l ∷ ls) lines =
     ∙ ap (λ t. core_lines core l ++ t) (lists_onto (core + 1) ls lines)
     ∙ core_onto core l (lists_then (core + 1) ls lines)
 
-setup_onto : (s : Setting) (lines : List (List (List ℕ))) → setup_lines s ++ lines_onto lines []
-    ≡ lines_onto (speck_words ∷ cores_words s.cores ∷ frames_words s.frames
+setup_onto : (v : ℕ) (s : Setting) (lines : List (List (List ℕ))) → setup_lines v s ++ lines_onto lines []
+    ≡ lines_onto (speck_words v ∷ cores_words s.cores ∷ frames_words s.frames
     ∷ grants_then s.grants (calls_words s.calls ∷ epochs_words s.epochs ∷ lines)) []
-setup_onto s lines =
-    let first = line (codes "speck 1") in
+setup_onto v s lines =
+    let first = line (with_one (codes "speck") v) in
     let sizes = size_lines s in
     let grants = flat_map grant_line s.grants in
     let limits = limit_lines s in
@@ -95,13 +95,14 @@ setup_onto s lines =
     ∙ ap (λ t. grants ++ t) (limits_onto s rest)
     ∙ grants_onto s.grants limited)
     ∙ sizes_onto s (lines_onto (grants_then s.grants limited) []))
+    ∙ one_onto (codes "speck") v (lines_onto (cores_words s.cores ∷ frames_words s.frames ∷ grants_then s.grants limited) [])
 
 pub printed_onto : (m : Meaning) → printed m ≡ lines_onto (script_lines m) []
 unfolding printed
 printed_onto m =
     let behind : list_lines 0 m.lists ++ order_lines m.order ≡ lines_onto (lists_then 0 m.lists (order_rows m.order)) [] =
     ap (λ t. list_lines 0 m.lists ++ t) (order_onto m.order) ∙ lists_onto 0 m.lists (order_rows m.order) in
-    ap (λ t. setup_lines m.setup ++ t) behind ∙ setup_onto m.setup (lists_then 0 m.lists (order_rows m.order))
+    ap (λ t. setup_lines m.version m.setup ++ t) behind ∙ setup_onto m.version m.setup (lists_then 0 m.lists (order_rows m.order))
 
 -- ---- its lines have words
 
@@ -121,32 +122,33 @@ grants_lines [] lines all h = h
 grants_lines (g ∷ gs) lines all h =
     and_from _ _ (grant_is_line g (All-head GrantFits g gs all)) (grants_lines gs lines (All-tail GrantFits g gs all) h)
 
-calls_lines : (cs : List Call) (lines : List (List (List ℕ))) → All IsCallWithin cs
+calls_lines : (v : ℕ) (cs : List Call) (lines : List (List (List ℕ))) → All (IsCallWithin v) cs
     → are_lines lines ≡ true → are_lines (calls_then cs lines) ≡ true
-calls_lines [] lines all h = h
-calls_lines (c ∷ cs) lines all h =
-    and_from _ _ (call_is_line c (All-head IsCallWithin c cs all)) (calls_lines cs lines (All-tail IsCallWithin c cs all) h)
+calls_lines v [] lines all h = h
+calls_lines v (c ∷ cs) lines all h =
+    and_from _ _ (call_is_line v c (All-head (IsCallWithin v) c cs all)) (calls_lines v cs lines (All-tail (IsCallWithin v) c cs all) h)
 
-core_then_lines : (core : ℕ) (cs : List Call) (lines : List (List (List ℕ))) → core < 8
-    → All IsCallWithin cs → are_lines lines ≡ true → are_lines (core_then core cs lines) ≡ true
-core_then_lines core [] lines fits all h = h
-core_then_lines core (c ∷ cs) lines fits all h =
-    and_from _ _ (one_is_line (codes "core") core refl (omega arith)) (calls_lines (c ∷ cs) lines all h)
+core_then_lines : (v core : ℕ) (cs : List Call) (lines : List (List (List ℕ))) → core < 8
+    → All (IsCallWithin v) cs → are_lines lines ≡ true → are_lines (core_then core cs lines) ≡ true
+core_then_lines v core [] lines fits all h = h
+core_then_lines v core (c ∷ cs) lines fits all h =
+    and_from _ _ (one_is_line (codes "core") core refl (omega arith)) (calls_lines v (c ∷ cs) lines all h)
 
-lists_lines : (core : ℕ) (lists : List (List Call)) (lines : List (List (List ℕ))) → core + length lists ≤ 8
-    → All (All IsCallWithin) lists → are_lines lines ≡ true → are_lines (lists_then core lists lines) ≡ true
-lists_lines core [] lines fits all h = h
-lists_lines core (l ∷ ls) lines fits all h = core_then_lines core l (lists_then (core + 1) ls lines) (omega arith)
-    (All-head (All IsCallWithin) l ls all) (lists_lines (core + 1) ls lines (omega arith) (All-tail (All IsCallWithin) l ls all) h)
+lists_lines : (v core : ℕ) (lists : List (List Call)) (lines : List (List (List ℕ))) → core + length lists ≤ 8
+    → All (All (IsCallWithin v)) lists → are_lines lines ≡ true → are_lines (lists_then core lists lines) ≡ true
+lists_lines v core [] lines fits all h = h
+lists_lines v core (l ∷ ls) lines fits all h = core_then_lines v core l (lists_then (core + 1) ls lines) (omega arith)
+    (All-head (All (IsCallWithin v)) l ls all)
+    (lists_lines v (core + 1) ls lines (omega arith) (All-tail (All (IsCallWithin v)) l ls all) h)
 
 order_lines_are : (items : List Item) → All (λ (i : Item). i.core < 8) items → are_lines (order_rows items) ≡ true
 order_lines_are [] all = refl
 order_lines_are (i ∷ is) all =
     rows_lines 0 i is (All-head (λ (j : Item). j.core < 8) i is all) (All-tail (λ (j : Item). j.core < 8) i is all)
 
-pub script_are_lines : (m : Meaning) → IsSetting m.setup → length m.lists ≡ m.setup.cores
-    → All (All IsCallWithin) m.lists → BelowCores m.setup.cores m.order → are_lines (script_lines m) ≡ true
-script_are_lines m setting n calls_in below =
+pub script_are_lines : (m : Meaning) → 1 ≤ m.version → m.version ≤ 2 → IsSetting m.setup → length m.lists ≡ m.setup.cores
+    → All (All (IsCallWithin m.version)) m.lists → BelowCores m.setup.cores m.order → are_lines (script_lines m) ≡ true
+script_are_lines m some most setting n calls_in below =
     let s = m.setup in
     let few : s.cores ≤ 8 = setting.most_cores in
     let frames : s.frames ≤ 512 = setting.most_frames in
@@ -155,13 +157,14 @@ script_are_lines m setting n calls_in below =
     let order : are_lines (order_rows m.order) ≡ true = order_lines_are m.order
     (All-weaker (λ (i : Item). i.core < s.cores) (λ (i : Item). i.core < 8) (λ i h. omega arith) m.order below) in
     let lists : are_lines (lists_then 0 m.lists (order_rows m.order)) ≡ true =
-    lists_lines 0 m.lists (order_rows m.order) (omega arith) calls_in order in
+    lists_lines m.version 0 m.lists (order_rows m.order) (omega arith) calls_in order in
     let limits : are_lines (calls_words s.calls ∷ epochs_words s.epochs ∷ lists_then 0 m.lists (order_rows m.order)) ≡ true =
     and_from _ _ (one_is_line (codes "calls") s.calls refl (omega arith))
     (and_from _ _ (one_is_line (codes "epochs") s.epochs refl (omega arith)) lists) in
-    and_from _ _ (one_is_line (codes "cores") s.cores refl (omega arith))
+    and_from _ _ (one_is_line (codes "speck") m.version refl (omega arith))
+    (and_from _ _ (one_is_line (codes "cores") s.cores refl (omega arith))
     (and_from _ _ (one_is_line (codes "frames") s.frames refl (omega arith)) (grants_lines s.grants
-    (calls_words s.calls ∷ epochs_words s.epochs ∷ lists_then 0 m.lists (order_rows m.order)) setting.grants_fit limits))
+    (calls_words s.calls ∷ epochs_words s.epochs ∷ lists_then 0 m.lists (order_rows m.order)) setting.grants_fit limits)))
 
 -- ---- the law
 
@@ -183,5 +186,5 @@ pub printed_read : (m : Meaning) → IsWithin m → script_of (printed m) ≡ Ok
 printed_read m within =
     let same : printed m ≡ lines_onto (script_lines m) [] = printed_onto m in
     let few : line_count (lines_onto (script_lines m) []) ≤ 20000 = subst (λ t. line_count t ≤ 20000) same within.lines in
-    ap script_of same ∙ lines_read (script_lines m) m (script_are_lines m within.setup within.lists within.calls within.below)
-    few (script_says m within.setup within.lists within.calls within.below within.items)
+    ap script_of same ∙ lines_read (script_lines m) m (script_are_lines m within.some_version within.most_versions within.setup within.lists within.calls within.below)
+    few (script_says m within.some_version within.most_versions within.setup within.lists within.calls within.below within.items)

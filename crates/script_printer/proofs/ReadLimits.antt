@@ -5,8 +5,9 @@ use Rattle.std.specs.Prelude.{slice_get}
 use Rattle.std.specs.Option.{ok_or, option_and_then}
 use Rattle.std.proofs.lemmas.Bool.{cases_Bool, cases_lt, eqb-true, eqb-false, ltb-true}
 use Rattle.std.proofs.lemmas.List.{get_or_past, length_push, length-set, length-take-le}
-use Rattle.std.proofs.lemmas.List.Elements.{All-push, All-set, All-get_or, All-take, All-nil, All-replicate}
+use Rattle.std.proofs.lemmas.List.Elements.{All-push, All-set, All-weaker, All-get_or, All-take, All-nil, All-replicate}
 use Rattle.spk_nums.specs.declared.calls.Call.{Call}
+use Rattle.spk_nums.specs.declared.calls.Call.TheVariants.{Copy}
 use Rattle.spk_nums.specs.declared.grants.Grant.{Grant}
 use Rattle.spk_nums.specs.declared.steps.Item.{Item}
 use Rattle.spk_nums.specs.Setting.{GrantFits, IsSetting}
@@ -42,7 +43,7 @@ use Rattle.script_printer.proofs.CallLimits.{judged_is, bind_ok, args_none, args
 
 -- before the grants there are none
 no_grants : (s : Section) (h : Head) → may_stand s first.Speck ≡ true → HasCome s h → h.grants ≡ []
-no_grants section.Version h t come = come
+no_grants section.Version h t come = come.0
 no_grants _ h t come = absurd cc
 
 no_grants_cores : (s : Section) (h : Head) → may_stand s first.Cores ≡ true → HasCome s h → h.grants ≡ []
@@ -87,37 +88,57 @@ all_grants_whole section.Frames h t come = absurd cc
 all_grants_whole section.Grants h t come = absurd cc
 all_grants_whole _ h t come = come
 
-speck_in : (h g : Head) (words : List (List ℕ)) → IsHead h → may_stand h.section first.Speck ≡ true → speck_line h words ≡ Ok g → IsHead g
+-- before its line the version is 1
+first_version : (s : Section) (h : Head) → may_stand s first.Speck ≡ true → HasCome s h → h.version ≡ 1
+first_version section.Version h t come = come.1
+first_version _ h t come = absurd cc
+
+-- what a line makes of a head: a head, of version 1 only if it was so before
+abbrev Goes : Head → Head → Type 0
+Goes h g = IsHead g × (g.version ≡ 1 → h.version ≡ 1)
+
+speck_in : (h g : Head) (words : List (List ℕ)) → IsHead h → may_stand h.section first.Speck ≡ true → speck_line h words ≡ Ok g → Goes h g
 unfolding speck_line
 speck_in h g words is t e =
-    let r = args_one (number_at words 1 1 1) (end_at words 2) (λ n. record h { section = section.Cores }) g e in
-    subst IsHead r.2 (record {
-      some_core = is.some_core;
-      most_cores = is.most_cores;
-      fit = is.fit;
-      most_calls = is.most_calls;
-      some_epoch = is.some_epoch;
-      most_epochs = is.most_epochs;
-      come = no_grants h.section h t is.come;
-    })
+    let r = args_one (number_at words 1 1 2) (end_at words 2) (λ n. record h { section = section.Cores; version = n }) g e in
+    let n = number_in words 1 1 2 r.0 r.1 in
+    subst (Goes h) r.2 (
+      record {
+        some_version = n.0;
+        most_versions = n.1;
+        some_core = is.some_core;
+        most_cores = is.most_cores;
+        fit = is.fit;
+        most_calls = is.most_calls;
+        some_epoch = is.some_epoch;
+        most_epochs = is.most_epochs;
+        come = no_grants h.section h t is.come;
+      },
+      λ v. first_version h.section h t is.come,
+    )
 
-cores_in : (h g : Head) (words : List (List ℕ)) → IsHead h → may_stand h.section first.Cores ≡ true → cores_line h words ≡ Ok g → IsHead g
+cores_in : (h g : Head) (words : List (List ℕ)) → IsHead h → may_stand h.section first.Cores ≡ true → cores_line h words ≡ Ok g → Goes h g
 unfolding cores_line
 cores_in h g words is t e =
     let r = args_one (number_at words 1 1 8) (end_at words 2) (λ n. record h { section = section.Frames; cores = n }) g e in
     let n = number_in words 1 1 8 r.0 r.1 in
-    subst IsHead r.2 (record {
-      some_core = n.0;
-      most_cores = n.1;
-      fit = is.fit;
-      most_calls = is.most_calls;
-      some_epoch = is.some_epoch;
-      most_epochs = is.most_epochs;
-      come = no_grants_cores h.section h t is.come;
-    })
+    subst (Goes h) r.2 (
+      record {
+        some_version = is.some_version;
+        most_versions = is.most_versions;
+        some_core = n.0;
+        most_cores = n.1;
+        fit = is.fit;
+        most_calls = is.most_calls;
+        some_epoch = is.some_epoch;
+        most_epochs = is.most_epochs;
+        come = no_grants_cores h.section h t is.come;
+      },
+      λ v. v,
+    )
 
 frames_in : (h g : Head) (words : List (List ℕ)) → IsHead h
-    → may_stand h.section first.Frames ≡ true → frames_line h words ≡ Ok g → IsHead g
+    → may_stand h.section first.Frames ≡ true → frames_line h words ≡ Ok g → Goes h g
 unfolding frames_line
 frames_in h g words is t e =
     let r = args_one (number_at words 1 (4 + 2 * h.cores) 512) (end_at words 2)
@@ -125,15 +146,20 @@ frames_in h g words is t e =
     let none : h.grants ≡ [] = no_grants_frames h.section h t is.come in
     let some : 1 ≤ h.cores = is.some_core in
     let few : length h.grants < h.cores = subst (λ (gs : List Grant). length gs < h.cores) (sym none) (omega arith) in
-    subst IsHead r.2 (record {
-      some_core = is.some_core;
-      most_cores = is.most_cores;
-      fit = is.fit;
-      most_calls = is.most_calls;
-      some_epoch = is.some_epoch;
-      most_epochs = is.most_epochs;
-      come = (number_in words 1 (4 + 2 * h.cores) 512 r.0 r.1, few);
-    })
+    subst (Goes h) r.2 (
+      record {
+        some_version = is.some_version;
+        most_versions = is.most_versions;
+        some_core = is.some_core;
+        most_cores = is.most_cores;
+        fit = is.fit;
+        most_calls = is.most_calls;
+        some_epoch = is.some_epoch;
+        most_epochs = is.most_epochs;
+        come = (number_in words 1 (4 + 2 * h.cores) 512 r.0 r.1, few);
+      },
+      λ v. v,
+    )
 
 granted_in : (h : Head) (g : Grant) → IsHead h → AreFrames h × (length h.grants < h.cores) → GrantFits g → IsHead (granted h g)
 granted_in h g is come fits =
@@ -144,6 +170,8 @@ granted_in h g is come fits =
       | inl e ↦
           let last : length h.grants + 1 ≡ h.cores = eqb-true _ _ e in
           rw e (record {
+            some_version = is.some_version;
+            most_versions = is.most_versions;
             some_core = is.some_core;
             most_cores = is.most_cores;
             fit = all;
@@ -155,6 +183,8 @@ granted_in h g is come fits =
       | inr e ↦
           let more : ¬ (length h.grants + 1 ≡ h.cores) = eqb-false _ _ e in
           rw e (record {
+            some_version = is.some_version;
+            most_versions = is.most_versions;
             some_core = is.some_core;
             most_cores = is.most_cores;
             fit = all;
@@ -165,7 +195,7 @@ granted_in h g is come fits =
           })
     ]
 
-grant_in : (h g : Head) (words : List (List ℕ)) → IsHead h → may_stand h.section first.Grant ≡ true → grant_line h words ≡ Ok g → IsHead g
+grant_in : (h g : Head) (words : List (List ℕ)) → IsHead h → may_stand h.section first.Grant ≡ true → grant_line h words ≡ Ok g → Goes h g
 unfolding grant_line
 grant_in h g words is t e =
     let r = args_three (number_at words 1 0 500000000) (number_at words 2 0 63) (number_at words 3 1 16777215)
@@ -173,93 +203,116 @@ grant_in h g words is t e =
     let sched : r.b ≤ 63 = (number_in words 2 0 63 r.b r.second).1 in
     let quality = number_in words 3 1 16777215 r.d r.third in
     let most : r.d ≤ 16777215 = quality.1 in
-    subst IsHead r.whole (granted_in h (record { budget = r.a; sched = r.b; quality = r.d }) is
-    (some_grants h.section h t is.come) ((number_in words 1 0 500000000 r.a r.first).1, omega arith, quality.0, omega arith))
+    subst (Goes h) r.whole (
+      granted_in h (record { budget = r.a; sched = r.b; quality = r.d }) is
+          (some_grants h.section h t is.come) ((number_in words 1 0 500000000 r.a r.first).1, omega arith, quality.0, omega arith),
+      λ v. v,
+    )
 
-calls_in : (h g : Head) (words : List (List ℕ)) → IsHead h → may_stand h.section first.Calls ≡ true → calls_line h words ≡ Ok g → IsHead g
+calls_in : (h g : Head) (words : List (List ℕ)) → IsHead h → may_stand h.section first.Calls ≡ true → calls_line h words ≡ Ok g → Goes h g
 unfolding calls_line
 calls_in h g words is t e =
     let r = args_one (number_at words 1 0 4194304) (end_at words 2) (λ n. record h { section = section.Epochs; calls = n }) g e in
-    subst IsHead r.2 (record {
-      some_core = is.some_core;
-      most_cores = is.most_cores;
-      fit = is.fit;
-      most_calls = (number_in words 1 0 4194304 r.0 r.1).1;
-      some_epoch =
-          is.some_epoch;
-      most_epochs = is.most_epochs;
-      come = all_grants_calls h.section h t is.come;
-    })
+    subst (Goes h) r.2 (
+      record {
+        some_version = is.some_version;
+        most_versions = is.most_versions;
+        some_core = is.some_core;
+        most_cores = is.most_cores;
+        fit = is.fit;
+        most_calls = (number_in words 1 0 4194304 r.0 r.1).1;
+        some_epoch =
+            is.some_epoch;
+        most_epochs = is.most_epochs;
+        come = all_grants_calls h.section h t is.come;
+      },
+      λ v. v,
+    )
 
 epochs_in : (h g : Head) (words : List (List ℕ)) → IsHead h
-    → may_stand h.section first.Epochs ≡ true → epochs_line h words ≡ Ok g → IsHead g
+    → may_stand h.section first.Epochs ≡ true → epochs_line h words ≡ Ok g → Goes h g
 unfolding epochs_line
 epochs_in h g words is t e =
     let r = args_one (number_at words 1 1 65535) (end_at words 2) (λ n. record h { section = section.Lists; epochs = n }) g e in
     let n = number_in words 1 1 65535 r.0 r.1 in
     let most : r.0 ≤ 65535 = n.1 in
-    subst IsHead r.2 (record {
-      some_core = is.some_core;
-      most_cores = is.most_cores;
-      fit = is.fit;
-      most_calls = is.most_calls;
-      some_epoch = n.0;
-      most_epochs = omega arith;
-      come = all_grants_epochs h.section h t is.come;
-    })
+    subst (Goes h) r.2 (
+      record {
+        some_version = is.some_version;
+        most_versions = is.most_versions;
+        some_core = is.some_core;
+        most_cores = is.most_cores;
+        fit = is.fit;
+        most_calls = is.most_calls;
+        some_epoch = n.0;
+        most_epochs = omega arith;
+        come = all_grants_epochs h.section h t is.come;
+      },
+      λ v. v,
+    )
 
-core_in : (h g : Head) (words : List (List ℕ)) → IsHead h → may_stand h.section first.Core ≡ true → core_line h words ≡ Ok g → IsHead g
+core_in : (h g : Head) (words : List (List ℕ)) → IsHead h → may_stand h.section first.Core ≡ true → core_line h words ≡ Ok g → Goes h g
 unfolding core_line
 core_in h g words is t e =
     let r = args_one (core_at words 1 h.cores) (end_at words 2) (λ n. record h { section = section.List; core = n }) g e in
-    subst IsHead r.2 (record {
-      some_core = is.some_core;
-      most_cores = is.most_cores;
-      fit = is.fit;
-      most_calls = is.most_calls;
-      some_epoch = is.some_epoch;
-      most_epochs = is.most_epochs;
-      come = all_grants_core h.section h t is.come;
-    })
+    subst (Goes h) r.2 (
+      record {
+        some_version = is.some_version;
+        most_versions = is.most_versions;
+        some_core = is.some_core;
+        most_cores = is.most_cores;
+        fit = is.fit;
+        most_calls = is.most_calls;
+        some_epoch = is.some_epoch;
+        most_epochs = is.most_epochs;
+        come = all_grants_core h.section h t is.come;
+      },
+      λ v. v,
+    )
 
-order_in : (h g : Head) (words : List (List ℕ)) → IsHead h → may_stand h.section first.Order ≡ true → order_line h words ≡ Ok g → IsHead g
+order_in : (h g : Head) (words : List (List ℕ)) → IsHead h → may_stand h.section first.Order ≡ true → order_line h words ≡ Ok g → Goes h g
 unfolding order_line
 order_in h g words is t e =
-    subst IsHead (args_none (end_at words 1) (record h { section = section.Order }) g e) (record {
-      some_core = is.some_core;
-      most_cores = is.most_cores;
-      fit = is.fit;
-      most_calls = is.most_calls;
-      some_epoch =
-          is.some_epoch;
-      most_epochs = is.most_epochs;
-      come = all_grants_order h.section h t is.come;
-    })
+    subst (Goes h) (args_none (end_at words 1) (record h { section = section.Order }) g e) (
+      record {
+        some_version = is.some_version;
+        most_versions = is.most_versions;
+        some_core = is.some_core;
+        most_cores = is.most_cores;
+        fit = is.fit;
+        most_calls = is.most_calls;
+        some_epoch =
+            is.some_epoch;
+        most_epochs = is.most_epochs;
+        come = all_grants_order h.section h t is.come;
+      },
+      λ v. v,
+    )
 
 -- what a line says is within the limits
-abbrev IsLineWithin : Line → Type 0
-IsLineWithin (line.Head head) = IsHead head
-IsLineWithin (line.Call call) = IsCallWithin call
+abbrev IsLineWithin : Head → Line → Type 0
+IsLineWithin h (line.Head head) = Goes h head
+IsLineWithin h (line.Call call) = IsCallWithin h.version call
 
-head_line : (r : Result Head Cause) (l : Line) → ((g : Head) → r ≡ Ok g → IsHead g)
-    → (r >>= λ head. Ok (line.Head head)) ≡ Ok l → IsLineWithin l
-head_line (Ok g) l within e = subst IsLineWithin (judged_is (line.Head g) l e) (within g refl)
-head_line (Err k) l within e = absurd cc
+head_line : (h : Head) (r : Result Head Cause) (l : Line) → ((g : Head) → r ≡ Ok g → Goes h g)
+    → (r >>= λ head. Ok (line.Head head)) ≡ Ok l → IsLineWithin h l
+head_line h (Ok g) l within e = subst (IsLineWithin h) (judged_is (line.Head g) l e) (within g refl)
+head_line h (Err k) l within e = absurd cc
 
 line_by_in : (h : Head) (words : List (List ℕ)) (w : FirstWord) (l : Line)
-    → IsHead h → may_stand h.section w ≡ true → line_by h words w ≡ Ok l → IsLineWithin l
+    → IsHead h → may_stand h.section w ≡ true → line_by h words w ≡ Ok l → IsLineWithin h l
 unfolding line_by
-line_by_in h words first.Speck l is t e = head_line (speck_line h words) l (λ g. speck_in h g words is t) e
-line_by_in h words first.Cores l is t e = head_line (cores_line h words) l (λ g. cores_in h g words is t) e
-line_by_in h words first.Frames l is t e = head_line (frames_line h words) l (λ g. frames_in h g words is t) e
-line_by_in h words first.Grant l is t e = head_line (grant_line h words) l (λ g. grant_in h g words is t) e
-line_by_in h words first.Calls l is t e = head_line (calls_line h words) l (λ g. calls_in h g words is t) e
-line_by_in h words first.Epochs l is t e = head_line (epochs_line h words) l (λ g. epochs_in h g words is t) e
-line_by_in h words first.Core l is t e = head_line (core_line h words) l (λ g. core_in h g words is t) e
-line_by_in h words first.Order l is t e = head_line (order_line h words) l (λ g. order_in h g words is t) e
+line_by_in h words first.Speck l is t e = head_line h (speck_line h words) l (λ g. speck_in h g words is t) e
+line_by_in h words first.Cores l is t e = head_line h (cores_line h words) l (λ g. cores_in h g words is t) e
+line_by_in h words first.Frames l is t e = head_line h (frames_line h words) l (λ g. frames_in h g words is t) e
+line_by_in h words first.Grant l is t e = head_line h (grant_line h words) l (λ g. grant_in h g words is t) e
+line_by_in h words first.Calls l is t e = head_line h (calls_line h words) l (λ g. calls_in h g words is t) e
+line_by_in h words first.Epochs l is t e = head_line h (epochs_line h words) l (λ g. epochs_in h g words is t) e
+line_by_in h words first.Core l is t e = head_line h (core_line h words) l (λ g. core_in h g words is t) e
+line_by_in h words first.Order l is t e = head_line h (order_line h words) l (λ g. order_in h g words is t) e
 line_by_in h words (first.Call v) l is t e =
-    let r = bind_ok (call_line words v) (λ call. Ok (line.Call call)) l e in
-    subst IsLineWithin (judged_is (line.Call r.0) l r.2) (call_in words v r.0 r.1)
+    let r = bind_ok (call_line h.version words v) (λ call. Ok (line.Call call)) l e in
+    subst (IsLineWithin h) (judged_is (line.Call r.0) l r.2) (call_in h.version words v r.0 r.1)
 
 abbrev failed : {A : Type 0} → Cause → Result A Cause
 failed k = Err k
@@ -267,7 +320,7 @@ failed k = Err k
 no_value : {A : Type 0} (x : A) (k : Cause) → failed {A = A} k ≡ Ok x → ⊥
 no_value x k e = cc
 
-line_in : (h : Head) (words : List (List ℕ)) (l : Line) → IsHead h → line_of h words ≡ Ok l → IsLineWithin l
+line_in : (h : Head) (words : List (List ℕ)) (l : Line) → IsHead h → line_of h words ≡ Ok l → IsLineWithin h l
 unfolding line_of
 line_in h words l is e =
     let w = bind_ok (ok_or (option_and_then first_word (slice_get words 0)) S2)
@@ -326,31 +379,44 @@ items_in cores o (word ∷ words) r is e =
 record IsRead (d : Draft_of) : Type 0 where
   head : IsHead d.head
   eight : length d.lists ≡ 8
-  calls : All (All IsCallWithin) d.lists
+  calls : All (All (IsCallWithin d.head.version)) d.lists
   order : IsOrder d.head.cores d.order
   before : is_order d.head.section ≡ false → d.order ≡ []
 
 no_order : (cores : ℕ) (order : List Item) → order ≡ [] → IsOrder cores order
 no_order cores order e = subst (IsOrder cores) (sym e) (record { below = All-nil (λ (x : Item). x.core < cores); room = omega arith })
 
-call_more : (lists : List (List Call)) (core : ℕ) (c : Call) → All (All IsCallWithin) lists
-    → IsCallWithin c → All (All IsCallWithin) (with_call lists core c)
-call_more lists core c h k =
-    let old : All IsCallWithin (calls_of lists core) =
-    elim (cases_lt core (length lists)) [
-      | inl lt ↦ All-get_or (All IsCallWithin) lists core [] lt h
-      | inr le ↦ rw (get_or_past lists core [] le) (All-nil IsCallWithin)
-    ] in
-    All-set (All IsCallWithin) lists core (calls_of lists core ++ c ∷ []) (All-push IsCallWithin (calls_of lists core) c old k) h
+-- a call that is within the limits of a version is so in one that is 1 only if that is
+later_version : (v w : ℕ) → (w ≡ 1 → v ≡ 1) → (c : Call) → IsCallWithin v c → IsCallWithin w c
+later_version v w goes (Copy a t b rights) h = (h.0, h.1, h.2, h.3, λ one. h.4 (goes one))
+later_version v w goes c h = h
 
-line_read : (d : Draft_of) (l : Line) → IsRead d → is_order d.head.section ≡ false → IsLineWithin l → IsRead (with_line d l)
+call_more : (v : ℕ) (lists : List (List Call)) (core : ℕ) (c : Call) → All (All (IsCallWithin v)) lists
+    → IsCallWithin v c → All (All (IsCallWithin v)) (with_call lists core c)
+call_more v lists core c h k =
+    let old : All (IsCallWithin v) (calls_of lists core) =
+    elim (cases_lt core (length lists)) [
+      | inl lt ↦ All-get_or (All (IsCallWithin v)) lists core [] lt h
+      | inr le ↦ rw (get_or_past lists core [] le) (All-nil (IsCallWithin v))
+    ] in
+    All-set (All (IsCallWithin v)) lists core (calls_of lists core ++ c ∷ []) (All-push (IsCallWithin v) (calls_of lists core) c old k) h
+
+line_read : (d : Draft_of) (l : Line) → IsRead d → is_order d.head.section ≡ false → IsLineWithin d.head l → IsRead (with_line d l)
 line_read d (line.Head g) is none h =
-    record { head = h; eight = is.eight; calls = is.calls; order = no_order g.cores d.order (is.before none); before = λ t. is.before none }
+    record {
+      head = h.0;
+      eight = is.eight;
+      calls = All-weaker (All (IsCallWithin d.head.version)) (All (IsCallWithin g.version))
+          (λ cs. All-weaker (IsCallWithin d.head.version) (IsCallWithin g.version) (later_version d.head.version g.version h.1) cs)
+          d.lists is.calls;
+      order = no_order g.cores d.order (is.before none);
+      before = λ t. is.before none;
+    }
 line_read d (line.Call c) is none h =
     record {
       head = is.head;
       eight = length-set d.lists d.head.core (calls_of d.lists d.head.core ++ c ∷ []) ∙ is.eight;
-      calls = call_more d.lists d.head.core c is.calls h;
+      calls = call_more d.head.version d.lists d.head.core c is.calls h;
       order = is.order;
       before = is.before;
     }
@@ -397,16 +463,18 @@ none_read : IsRead no_draft
 none_read =
     record {
       head = record {
+        some_version = omega arith;
+        most_versions = omega arith;
         some_core = omega arith;
         most_cores = omega arith;
         fit = All-nil GrantFits;
         most_calls = omega arith;
         some_epoch = omega arith;
         most_epochs = omega arith;
-        come = refl;
+        come = (refl, refl);
       };
       eight = refl;
-      calls = All-replicate (All IsCallWithin) 8 [] (All-nil IsCallWithin);
+      calls = All-replicate (All (IsCallWithin 1)) 8 [] (All-nil (IsCallWithin 1));
       order = no_order 1 [] refl;
       before = λ t. refl;
     }
@@ -415,9 +483,11 @@ none_read =
 
 -- a script within the limits, but for its lines
 record IsInRange (m : Meaning) : Type 0 where
+  some_version : 1 ≤ m.version
+  most_versions : m.version ≤ 2
   setup : IsSetting m.setup
   lists : length m.lists ≡ m.setup.cores
-  calls : All (All IsCallWithin) m.lists
+  calls : All (All (IsCallWithin m.version)) m.lists
   order : IsOrder m.setup.cores m.order
 
 meaning_in : (d : Draft_of) → IsRead d → is_whole d.head.section ≡ true → IsInRange (meaning_of d)
@@ -426,6 +496,8 @@ meaning_in d is whole =
     let few : d.head.cores ≤ 8 = is.head.most_cores in
     let eight : length d.lists ≡ 8 = is.eight in
     record {
+      some_version = is.head.some_version;
+      most_versions = is.head.most_versions;
       setup = record {
         some_core = is.head.some_core;
         most_cores = is.head.most_cores;
@@ -439,7 +511,7 @@ meaning_in d is whole =
         most_epochs = is.head.most_epochs;
       };
       lists = length-take-le d.head.cores d.lists (omega arith);
-      calls = All-take (All IsCallWithin) d.head.cores d.lists is.calls;
+      calls = All-take (All (IsCallWithin d.head.version)) d.head.cores d.lists is.calls;
       order = is.order;
     }
 
@@ -465,4 +537,13 @@ script_in source m h =
 pub read_within : (source : List ℕ) (m : Meaning) → script_of source ≡ Ok m → line_count (printed m) ≤ 20000 → IsWithin m
 read_within source m h few =
     let r = script_in source m h in
-    record { setup = r.setup; lists = r.lists; calls = r.calls; below = r.order.below; items = r.order.room; lines = few }
+    record {
+      some_version = r.some_version;
+      most_versions = r.most_versions;
+      setup = r.setup;
+      lists = r.lists;
+      calls = r.calls;
+      below = r.order.below;
+      items = r.order.room;
+      lines = few;
+    }

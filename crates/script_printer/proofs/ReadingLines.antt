@@ -64,9 +64,9 @@ unfolding draft_behind behind_line
 head_behind h new lists order words before e = rw (before, e) refl
 
 call_behind : (h : Head) (lists : List (List Call)) (order : List Item) (c : Call) → h.section ≡ section.List
-    → IsCallWithin c → draft_behind (draft h lists order) (call_words c) ≡ Ok (draft h (with_call lists h.core c) order)
+    → 1 ≤ h.version → h.version ≤ 2 → IsCallWithin h.version c → draft_behind (draft h lists order) (call_words c) ≡ Ok (draft h (with_call lists h.core c) order)
 unfolding draft_behind behind_line
-call_behind h lists order c e within = rw (ap is_order e, call_back h c e within) refl
+call_behind h lists order c e some most within = rw (ap is_order e, call_back h c e some most within) refl
 
 -- ---- grants
 
@@ -131,30 +131,31 @@ one_more done after x core c e =
     ∙ set-append_seam done x after (x ++ c ∷ [])
 
 calls_say : (calls : List Call) (h : Head) (done after : List (List Call)) (x : List Call) (lines : List (List (List ℕ))) (m : Meaning)
-    → h.section ≡ section.List → h.core ≡ length done → All IsCallWithin calls
+    → h.section ≡ section.List → 1 ≤ h.version → h.version ≤ 2 → h.core ≡ length done → All (IsCallWithin h.version) calls
     → Says (draft h (done ++ (x ++ calls) ∷ after) []) lines m → Says (draft h (done ++ x ∷ after) []) (calls_then calls lines) m
-calls_say [] h done after x lines m e at within more =
+calls_say [] h done after x lines m e some most at within more =
     subst (λ (l : List Call). Says (draft h (done ++ l ∷ after) []) lines m) (append-nil x) more
-calls_say (c ∷ cs) h done after x lines m e at within more =
+calls_say (c ∷ cs) h done after x lines m e some most at within more =
     let joined : x ++ c ∷ cs ≡ (x ++ c ∷ []) ++ cs = sym (append_assoc x (c ∷ []) cs) in
     let behind : Says (draft h (done ++ ((x ++ c ∷ []) ++ cs) ∷ after) []) lines m =
     subst (λ (l : List Call). Says (draft h (done ++ l ∷ after) []) lines m) joined more in
     let rest : Says (draft h (done ++ (x ++ c ∷ []) ∷ after) []) (calls_then cs lines) m =
-    calls_say cs h done after (x ++ c ∷ []) lines m e at (All-tail IsCallWithin c cs within) behind in
+    calls_say cs h done after (x ++ c ∷ []) lines m e some most at (All-tail (IsCallWithin h.version) c cs within) behind in
     let one : draft_behind (draft h (done ++ x ∷ after) []) (call_words c) ≡ Ok (draft h (done ++ (x ++ c ∷ []) ∷ after) []) =
-    call_behind h (done ++ x ∷ after) [] c e (All-head IsCallWithin c cs within)
+    call_behind h (done ++ x ∷ after) [] c e some most (All-head (IsCallWithin h.version) c cs within)
     ∙ ap (λ lists. Ok (draft h lists [])) (one_more done after x h.core c at) in
     says_line (draft h (done ++ x ∷ after) []) (draft h (done ++ (x ++ c ∷ []) ∷ after) []) (call_words c) (calls_then cs lines) m one rest
 
 core_says : (calls : List Call) (h : Head) (done after : List (List Call)) (core : ℕ) (lines : List (List (List ℕ))) (m : Meaning)
-    → IsListing h.section → core ≡ length done → core < h.cores → h.cores ≤ 8 → All IsCallWithin calls
-    → ((g : Head) → setting_of g ≡ setting_of h → IsListing g.section → Says (draft g (done ++ calls ∷ after) []) lines m)
+    → IsListing h.section → 1 ≤ h.version → h.version ≤ 2 → core ≡ length done → core < h.cores → h.cores ≤ 8
+    → All (IsCallWithin h.version) calls
+    → ((g : Head) → setting_of g ≡ setting_of h → g.version ≡ h.version → IsListing g.section → Says (draft g (done ++ calls ∷ after) []) lines m)
     → Says (draft h (done ++ [] ∷ after) []) (core_then core calls lines) m
-core_says [] h done after core lines m e at below few within more = more h refl e
-core_says (c ∷ cs) h done after core lines m e at below few within more =
+core_says [] h done after core lines m e some most at below few within more = more h refl refl e
+core_says (c ∷ cs) h done after core lines m e some most at below few within more =
     let g : Head = record h { section = section.List; core = core } in
     let rest : Says (draft g (done ++ [] ∷ after) []) (calls_then (c ∷ cs) lines) m =
-    calls_say (c ∷ cs) g done after [] lines m refl at within (more g refl (inr refl)) in
+    calls_say (c ∷ cs) g done after [] lines m refl some most at within (more g refl refl (inr refl)) in
     says_line (draft h (done ++ [] ∷ after) []) (draft g (done ++ [] ∷ after) []) (core_words core) (calls_then (c ∷ cs) lines) m
     (head_behind h g (done ++ [] ∷ after) [] (core_words core) (listing_no_order h.section e) (core_line_back h core e below few)) rest
 
@@ -164,22 +165,25 @@ emptied [] = []
 emptied (l ∷ ls) = [] ∷ emptied ls
 
 lists_say : (lists : List (List Call)) (h : Head) (done after : List (List Call)) (core : ℕ) (lines : List (List (List ℕ))) (m : Meaning)
-    → IsListing h.section → core ≡ length done → core + length lists ≡ h.cores → h.cores ≤ 8 → All (All IsCallWithin) lists
-    → ((g : Head) → setting_of g ≡ setting_of h → IsListing g.section → Says (draft g (done ++ (lists ++ after)) []) lines m)
+    → IsListing h.section → 1 ≤ h.version → h.version ≤ 2 → core ≡ length done → core + length lists ≡ h.cores → h.cores ≤ 8
+    → All (All (IsCallWithin h.version)) lists
+    → ((g : Head) → setting_of g ≡ setting_of h → g.version ≡ h.version → IsListing g.section → Says (draft g (done ++ (lists ++ after)) []) lines m)
     → Says (draft h (done ++ (emptied lists ++ after)) []) (lists_then core lists lines) m
-lists_say [] h done after core lines m e at n few within more = more h refl e
-lists_say (l ∷ ls) h done after core lines m e at n few within more =
-    core_says l h done (emptied ls ++ after) core (lists_then (core + 1) ls lines) m e
-    at (omega arith) few (All-head (All IsCallWithin) l ls within) (λ g same listing.
+lists_say [] h done after core lines m e some most at n few within more = more h refl refl e
+lists_say (l ∷ ls) h done after core lines m e some most at n few within more =
+    core_says l h done (emptied ls ++ after) core (lists_then (core + 1) ls lines) m e some most
+    at (omega arith) few (All-head (All (IsCallWithin h.version)) l ls within) (λ g same version listing.
     let cores : g.cores ≡ h.cores = ap (λ (s : Setting). s.cores) same in
     let pushed : length (done ++ l ∷ []) ≡ length done + 1 = length_push done l in
     let joined : (done ++ l ∷ []) ++ (ls ++ after) ≡ done ++ l ∷ (ls ++ after) = append_assoc done (l ∷ []) (ls ++ after) in
     let emptier : (done ++ l ∷ []) ++ (emptied ls ++ after) ≡ done ++ l ∷ (emptied ls ++ after) =
     append_assoc done (l ∷ []) (emptied ls ++ after) in
     subst (λ (lists : List (List Call)). Says (draft g lists []) (lists_then (core + 1) ls lines) m) emptier
-    (lists_say ls g (done ++ l ∷ []) after (core + 1) lines m listing (omega arith)
-    (omega arith) (omega arith) (All-tail (All IsCallWithin) l ls within) (λ f again still.
-    subst (λ (lists : List (List Call)). Says (draft f lists []) lines m) (sym joined) (more f (again ∙ same) still))))
+    (lists_say ls g (done ++ l ∷ []) after (core + 1) lines m listing (omega (arith, some, version)) (omega (arith, most, version))
+    (omega arith) (omega arith) (omega arith)
+    (subst (λ v. All (All (IsCallWithin v)) ls) (sym version) (All-tail (All (IsCallWithin h.version)) l ls within))
+    (λ f again version' still.
+    subst (λ (lists : List (List Call)). Says (draft f lists []) lines m) (sym joined) (more f (again ∙ same) (version' ∙ version) still))))
 
 -- ---- the order
 
@@ -245,7 +249,7 @@ order_says (i ∷ is) h lists m e few all room is_m =
 
 -- the lines of a script
 abbrev pub script_lines : Meaning → List (List (List ℕ))
-script_lines m = speck_words ∷ cores_words m.setup.cores ∷ frames_words m.setup.frames
+script_lines m = speck_words m.version ∷ cores_words m.setup.cores ∷ frames_words m.setup.frames
     ∷ grants_then m.setup.grants (calls_words m.setup.calls ∷ epochs_words m.setup.epochs ∷ lists_then 0 m.lists (order_rows m.order))
 
 empty_lists : (lists : List (List Call)) (k n : ℕ) → length lists + k ≡ n → emptied lists ++ replicate k [] ≡ replicate n []
@@ -261,12 +265,22 @@ grants_all_say (g ∷ gs) h lists lines m e n some all more =
     grants_say g gs h lists lines m e n (All-head GrantFits g gs all) (All-tail GrantFits g gs all) more
 
 -- the head of a setup after its last limit
-abbrev sized : Setting → Head
-sized s = record { section = section.Grants; cores = s.cores; frames = s.frames; grants = []; calls = 4194304; epochs = 65535; core = 0 }
+abbrev sized : ℕ → Setting → Head
+sized v s = record {
+  section = section.Grants;
+  version = v;
+  cores = s.cores;
+  frames = s.frames;
+  grants = [];
+  calls = 4194304;
+  epochs = 65535;
+  core = 0;
+}
 
-abbrev limited : Setting → Head
-limited s = record {
+abbrev limited : ℕ → Setting → Head
+limited v s = record {
   section = section.Lists;
+  version = v;
   cores = s.cores;
   frames =
       s.frames;
@@ -276,17 +290,17 @@ limited s = record {
   core = 0;
 }
 
-setup_says : (s : Setting) (lists : List (List Call)) (lines : List (List (List ℕ))) (m : Meaning) → IsSetting s
-    → Says (draft (limited s) lists []) lines m
-    → Says (draft no_head lists []) (speck_words ∷ cores_words s.cores ∷ frames_words s.frames
+setup_says : (v : ℕ) (s : Setting) (lists : List (List Call)) (lines : List (List (List ℕ))) (m : Meaning) → 1 ≤ v → v ≤ 2 → IsSetting s
+    → Says (draft (limited v s) lists []) lines m
+    → Says (draft no_head lists []) (speck_words v ∷ cores_words s.cores ∷ frames_words s.frames
     ∷ grants_then s.grants (calls_words s.calls ∷ epochs_words s.epochs ∷ lines)) m
-setup_says s lists lines m within more =
-    let h1 : Head = record no_head { section = section.Cores } in
-    let h2 : Head = record no_head { section = section.Frames; cores = s.cores } in
-    let h3 : Head = sized s in
+setup_says v s lists lines m some most within more =
+    let h1 : Head = record no_head { section = section.Cores; version = v } in
+    let h2 : Head = record no_head { section = section.Frames; version = v; cores = s.cores } in
+    let h3 : Head = sized v s in
     let h4 : Head = all_granted h3 s.grants in
     let h5 : Head = record h4 { section = section.Epochs; calls = s.calls } in
-    let h6 : Head = limited s in
+    let h6 : Head = limited v s in
     let low : 1 ≤ s.cores = within.some_core in
     let granted_all : length s.grants ≡ s.cores = within.granted in
     let epochs : s.epochs < 2 ^ 16 = within.most_epochs in
@@ -305,29 +319,31 @@ setup_says s lists lines m within more =
     let p2 : Says (draft h1 lists []) (cores_words s.cores ∷ frames_words s.frames ∷ grants_then s.grants rest) m =
     says_line (draft h1 lists []) (draft h2 lists []) (cores_words s.cores) (frames_words s.frames ∷ grants_then s.grants rest)
     m (head_behind h1 h2 lists [] (cores_words s.cores) refl (cores_back h1 s.cores refl low within.most_cores)) p3 in
-    says_line (draft no_head lists []) (draft h1 lists []) speck_words (cores_words s.cores ∷ frames_words s.frames
-    ∷ grants_then s.grants rest) m (head_behind no_head h1 lists [] speck_words refl speck_back) p2
+    says_line (draft no_head lists []) (draft h1 lists []) (speck_words v) (cores_words s.cores ∷ frames_words s.frames
+    ∷ grants_then s.grants rest) m (head_behind no_head h1 lists [] (speck_words v) refl (speck_back v some most)) p2
 
-meaning_back : (g : Head) (m : Meaning) (after : List (List Call)) → setting_of g ≡ m.setup
+meaning_back : (g : Head) (m : Meaning) (after : List (List Call)) → g.version ≡ m.version → setting_of g ≡ m.setup
     → length m.lists ≡ m.setup.cores → meaning_of (draft g (m.lists ++ after) m.order) ≡ m
-meaning_back g m after same n =
+meaning_back g m after version same n =
     let cores : g.cores ≡ length m.lists = ap (λ (s : Setting). s.cores) same ∙ sym n in
     let lists : take g.cores (m.lists ++ after) ≡ m.lists = ap (λ k. take k (m.lists ++ after)) cores ∙ take-append_seam m.lists after in
-    λ i. record { setup = same i; lists = lists i; order = m.order }
+    λ i. record { version = version i; setup = same i; lists = lists i; order = m.order }
 
 -- the lines of a script within the limits say that script
-pub script_says : (m : Meaning) → IsSetting m.setup → length m.lists ≡ m.setup.cores → All (All IsCallWithin) m.lists
+pub script_says : (m : Meaning) → 1 ≤ m.version → m.version ≤ 2 → IsSetting m.setup → length m.lists ≡ m.setup.cores
+    → All (All (IsCallWithin m.version)) m.lists
     → BelowCores m.setup.cores m.order → length m.order ≤ 200000 → Says no_draft (script_lines m) m
-script_says m setup n calls below room =
+script_says m some most setup n calls below room =
     let few : m.setup.cores ≤ 8 = setup.most_cores in
     let after : List (List Call) = replicate (8 - length m.lists) [] in
     let blank : emptied m.lists ++ after ≡ replicate 8 [] = empty_lists m.lists (8 - length m.lists) 8 (omega arith) in
     let lines : List (List (List ℕ)) = order_rows m.order in
-    let listed : Says (draft (limited m.setup) (emptied m.lists ++ after) []) (lists_then 0 m.lists lines) m =
-    lists_say m.lists (limited m.setup) [] after 0 lines m (inl refl) refl (omega arith) few calls (λ g same listing.
+    let listed : Says (draft (limited m.version m.setup) (emptied m.lists ++ after) []) (lists_then 0 m.lists lines) m =
+    lists_say m.lists (limited m.version m.setup) [] after 0 lines m (inl refl) some most refl (omega arith) few calls
+    (λ g same version listing.
     let cores : g.cores ≡ m.setup.cores = ap (λ (s : Setting). s.cores) same in
     let fits : BelowCores g.cores m.order = subst (λ k. BelowCores k m.order) (sym cores) below in
-    order_says m.order g (m.lists ++ after) m listing (omega arith) fits room (meaning_back g m after same n)) in
-    let blank_says : Says (draft (limited m.setup) (replicate 8 []) []) (lists_then 0 m.lists lines) m =
-    subst (λ (lists : List (List Call)). Says (draft (limited m.setup) lists []) (lists_then 0 m.lists lines) m) blank listed in
-    setup_says m.setup (replicate 8 []) (lists_then 0 m.lists lines) m setup blank_says
+    order_says m.order g (m.lists ++ after) m listing (omega arith) fits room (meaning_back g m after version same n)) in
+    let blank_says : Says (draft (limited m.version m.setup) (replicate 8 []) []) (lists_then 0 m.lists lines) m =
+    subst (λ (lists : List (List Call)). Says (draft (limited m.version m.setup) lists []) (lists_then 0 m.lists lines) m) blank listed in
+    setup_says m.version m.setup (replicate 8 []) (lists_then 0 m.lists lines) m some most setup blank_says

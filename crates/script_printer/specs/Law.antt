@@ -6,6 +6,7 @@ use Rattle.spk_nums.specs.declared.calls.Call.{Call}
 use Rattle.spk_nums.specs.declared.calls.Call.TheVariants.{Look, Copy, Remove, Grow, Shrink, Retype, Make as make_call}
 use Rattle.spk_nums.specs.declared.calls.Call.TheVariants.{Map, Unmap, Touch, Flush, Gate, Kill, Call as call_gate}
 use Rattle.spk_nums.specs.declared.calls.Call.TheVariants.{Ret, Switch, Tick, Transfer, Delegate, Test}
+use Rattle.spk_nums.specs.Rights.{both}
 use Rattle.spk_nums.specs.Setting.{IsSetting}
 use Rattle.script_tokens.specs.Words.{line_count}
 use Rattle.script_reader.specs.Readings.{Meaning, BelowCores, script_of}
@@ -26,35 +27,37 @@ IsMakeWithin (Tcap sched quality) = (sched ≤ 63) × (1 ≤ quality) × (qualit
 IsMakeWithin (Comp table pages live) = IsName table × IsName pages × (live ≤ 63)
 IsMakeWithin _ = Unit {0}
 
--- the arguments of a call are in the ranges in which they are read
-abbrev pub IsCallWithin : Call → Type 0
-IsCallWithin (Look a) = IsName a
-IsCallWithin (Copy a t b) = IsName a × IsName t × IsName b
-IsCallWithin (Remove t b) = IsName t × IsName b
-IsCallWithin (Grow t i l) = IsName t × IsName i × IsName l
-IsCallWithin (Shrink t i) = IsName t × IsName i
-IsCallWithin (Retype r f k) = IsName r × IsName f
-IsCallWithin (make_call what range frame table slot) = IsMakeWithin what × IsName range × IsName frame × IsName table × IsName slot
-IsCallWithin (Map p v r f w) = IsName p × IsName v × IsName r × IsName f × (w.0 ≤ 3)
-IsCallWithin (Unmap p v) = IsName p × IsName v
-IsCallWithin (Touch v) = IsName v
-IsCallWithin Flush = Unit {0}
-IsCallWithin (Gate c t b) = IsName c × IsName t × IsName b
-IsCallWithin (Kill c) = IsName c
-IsCallWithin (call_gate g) = IsName g
-IsCallWithin Ret = Unit {0}
-IsCallWithin (Switch h q) = IsName h × IsName q
-IsCallWithin (Tick n) = n ≤ 1000000
-IsCallWithin (Transfer a b m) = IsName a × IsName b × IsAmount m
-IsCallWithin (Delegate a b m) = IsName a × IsName b × IsAmount m
-IsCallWithin (Test a b) = IsName a × IsName b
+-- the arguments of a call are in the ranges in which they are read in a script of this version; in version 1 a copy keeps both rights
+abbrev pub IsCallWithin : ℕ → Call → Type 0
+IsCallWithin version (Look a) = IsName a
+IsCallWithin version (Copy a t b rights) = IsName a × IsName t × IsName b × (rights.0 ≤ 3) × (version ≡ 1 → rights.0 ≡ both)
+IsCallWithin version (Remove t b) = IsName t × IsName b
+IsCallWithin version (Grow t i l) = IsName t × IsName i × IsName l
+IsCallWithin version (Shrink t i) = IsName t × IsName i
+IsCallWithin version (Retype r f k) = IsName r × IsName f
+IsCallWithin version (make_call what range frame table slot) = IsMakeWithin what × IsName range × IsName frame × IsName table × IsName slot
+IsCallWithin version (Map p v r f w) = IsName p × IsName v × IsName r × IsName f × (w.0 ≤ 3)
+IsCallWithin version (Unmap p v) = IsName p × IsName v
+IsCallWithin version (Touch v) = IsName v
+IsCallWithin version Flush = Unit {0}
+IsCallWithin version (Gate c t b) = IsName c × IsName t × IsName b
+IsCallWithin version (Kill c) = IsName c
+IsCallWithin version (call_gate g) = IsName g
+IsCallWithin version Ret = Unit {0}
+IsCallWithin version (Switch h q) = IsName h × IsName q
+IsCallWithin version (Tick n) = n ≤ 1000000
+IsCallWithin version (Transfer a b m) = IsName a × IsName b × IsAmount m
+IsCallWithin version (Delegate a b m) = IsName a × IsName b × IsAmount m
+IsCallWithin version (Test a b) = IsName a × IsName b
 
--- a script within the limits: its setup is one, each core has a list, arguments and items are in their ranges,
+-- a script within the limits: its version is 1 or 2, its setup is one, each core has a list, arguments and items are in their ranges,
 -- the items are at most 200,000, and its printed form has at most 20,000 lines
 pub record IsWithin (m : Meaning) : Type 0 where
+  pub some_version : 1 ≤ m.version
+  pub most_versions : m.version ≤ 2
   pub setup : IsSetting m.setup
   pub lists : length m.lists ≡ m.setup.cores
-  pub calls : All (All IsCallWithin) m.lists
+  pub calls : All (All (IsCallWithin m.version)) m.lists
   pub below : BelowCores m.setup.cores m.order
   pub items : length m.order ≤ 200000
   pub lines : line_count (printed m) ≤ 20000
@@ -78,5 +81,5 @@ most_lines m = 7 + length m.setup.grants + most_list_lines m.lists + length m.or
 
 -- a script whose parts are within the limits has at most so many lines in its printed form
 abbrev pub HasFewLines : Meaning → Type 0
-HasFewLines m = IsSetting m.setup → length m.lists ≡ m.setup.cores → All (All IsCallWithin) m.lists
+HasFewLines m = 1 ≤ m.version → m.version ≤ 2 → IsSetting m.setup → length m.lists ≡ m.setup.cores → All (All (IsCallWithin m.version)) m.lists
     → BelowCores m.setup.cores m.order → line_count (printed m) ≤ most_lines m

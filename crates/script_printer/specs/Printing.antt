@@ -29,8 +29,8 @@ abbrev pub limit_lines : Setting → List ℕ
 limit_lines s = line (with_one (codes "calls") s.calls) ++ line (with_one (codes "epochs") s.epochs)
 
 -- the lines of the setup: the version, the sizes, a line for each grant, core 0's first, and the limits
-abbrev pub setup_lines : Setting → List ℕ
-setup_lines s = line (codes "speck 1") ++ (size_lines s ++ (flat_map grant_line s.grants ++ limit_lines s))
+abbrev pub setup_lines : ℕ → Setting → List ℕ
+setup_lines version s = line (with_one (codes "speck") version) ++ (size_lines s ++ (flat_map grant_line s.grants ++ limit_lines s))
 
 -- ---- the calls
 
@@ -79,4 +79,4 @@ order_lines (item ∷ items) = line (codes "order" ++ items_text 0 (item ∷ ite
 
 -- the printed form of a script
 unfoldable pub printed : Meaning → List ℕ
-printed m = setup_lines m.setup ++ (list_lines 0 m.lists ++ order_lines m.order)
+printed m = setup_lines m.version m.setup ++ (list_lines 0 m.lists ++ order_lines m.order)

@@ -48,7 +48,7 @@ fn printed(alloc: Global, script: &Script) -> Result<String, AllocError>
     ensures { IfOk result (λ text. string_bytes text ≡ printed (script_view script.now)) }
 {
     let mut text = String::new(alloc);
-    push_setup(&mut text, &script.setup)?;
+    push_setup(&mut text, script.version, &script.setup)?;
     push_lists(&mut text, &script.lists)?;
     push_order(&mut text, &script.order)?;
     Ok(text)
@@ -58,7 +58,7 @@ fn printed(alloc: Global, script: &Script) -> Result<String, AllocError>
 /// its `core` line, and the items of its order, ten a line, after an `order` line.
 ///
 /// Where the script is within the limits and its printed form has at most 20,000 lines, `read` of what is
-/// printed gives the same setup, lists and order.
+/// printed gives the same version, setup, lists and order.
 ///
 /// # Errors
 ///

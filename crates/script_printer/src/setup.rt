@@ -40,12 +40,12 @@ fn push_limits(text: &mut String, setup: &Setup) -> Result<(), AllocError>
     write!(text, "calls {calls}\nepochs {epochs}\n")
 }
 
-/// Appends the lines of a setup: the version, the cores, the frames, the grants, core 0's first, and both
+/// Appends the lines of a script of this version before its calls: the version, the cores, the frames, the grants, core 0's first, and both
 /// limits.
-pub fn push_setup(text: &mut String, setup: &Setup) -> Result<(), AllocError>
-    ensures { OnOk result (string_bytes text.new ≡ string_bytes text.old ++ setup_lines setup.now) }
+pub fn push_setup(text: &mut String, version: u8, setup: &Setup) -> Result<(), AllocError>
+    ensures { OnOk result (string_bytes text.new ≡ string_bytes text.old ++ setup_lines version setup.now) }
 {
-    text.push_str("speck 1\n")?;
+    write!(text, "speck {version}\n")?;
     push_sizes(text, setup)?;
     push_grants(text, setup.grants().as_slice())?;
     push_limits(text, setup)

@@ -2,7 +2,7 @@ ghost use Rattle.std.specs.Prelude.{◌<◌, ◌^◌, length};
 
 use super::*;
 use script_reader::read;
-use spk_nums::{Call, CapId, CoreNo, Reply, Value};
+use spk_nums::{Call, CapId, CoreNo, Reply, Rights, Value};
 use std::alloc::Global;
 use std::process::Abort;
 use std::test::*;
@@ -64,6 +64,7 @@ fn reply_lines_are_written(rt: HostRuntime) {
         a: CapId::new(0),
         t: CapId::new(1),
         b: CapId::new(20),
+        rights: Rights::both(),
     };
     let core = CoreNo::new(1);
     match reply_line(rt.alloc(), core, 2, &call, &Reply::Raced) {

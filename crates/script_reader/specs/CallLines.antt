@@ -1,6 +1,8 @@
 -- The line of each call: its arguments from left to right, and then nothing. The call's word is at 0.
-use Rattle.std.specs.Prelude.{ℕ, List, Option, Some, None, Result, Ok, codes, if◌then◌else◌}
+use Rattle.std.specs.Prelude.{ℕ, ◌==◌, ◌&&◌, nat_lt, List, length, Option, Some, None, Result, Ok, codes, if◌then◌else◌}
 use Rattle.std.specs.Option.{ok_or}
+use Rattle.spk_nums.specs.Rights.{both}
+use Rattle.spk_nums.specs.declared.rights.Rights.{Rights}
 use Rattle.spk_nums.specs.declared.calls.Call.{Call}
 use Rattle.spk_nums.specs.declared.calls.Call.TheVariants as call
 use Rattle.spk_nums.specs.declared.calls.Make.{Make}
@@ -21,14 +23,31 @@ look_line words = do
   done ← end_at words 2
   Ok (call.Look a)
 
--- `copy A T B`
-unfoldable pub copy_line : List (List ℕ) → Result Call Cause
-copy_line words = do
+-- the fourth number of a `copy`: its rights
+unfoldable pub fourth_at : List (List ℕ) → Result Rights Cause
+fourth_at words = do
+  r ← number_at words 4 0 3
+  done ← end_at words 5
+  Ok (record { 0 = r })
+
+-- without it: both rights
+unfoldable pub both_at : List (List ℕ) → Result Rights Cause
+both_at words = do
+  done ← end_at words 4
+  Ok (record { 0 = both })
+
+-- after `copy A T B`: in version 2 there may be a fourth number, the rights
+unfoldable pub rights_at : ℕ → List (List ℕ) → Result Rights Cause
+rights_at version words = if version == 2 && nat_lt 4 (length words) then fourth_at words else both_at words
+
+-- `copy A T B`, and in version 2 also `copy A T B R`
+unfoldable pub copy_line : ℕ → List (List ℕ) → Result Call Cause
+copy_line version words = do
   a ← name_at words 1
   t ← name_at words 2
   b ← name_at words 3
-  done ← end_at words 4
-  Ok (call.Copy a t b)
+  rights ← rights_at version words
+  Ok (call.Copy a t b rights)
 
 -- `remove T B`
 unfoldable pub remove_line : List (List ℕ) → Result Call Cause
@@ -235,25 +254,25 @@ make_line words = do
   what ← made_at words o
   Ok (call.Make what range frame table slot)
 
--- the line of the call of that word
-unfoldable pub call_line : List (List ℕ) → Verb → Result Call Cause
-call_line words verb.Look = look_line words
-call_line words verb.Copy = copy_line words
-call_line words verb.Remove = remove_line words
-call_line words verb.Grow = grow_line words
-call_line words verb.Shrink = shrink_line words
-call_line words verb.Retype = retype_line words
-call_line words verb.Make = make_line words
-call_line words verb.Map = map_line words
-call_line words verb.Unmap = unmap_line words
-call_line words verb.Touch = touch_line words
-call_line words verb.Flush = flush_line words
-call_line words verb.Gate = gate_line words
-call_line words verb.Kill = kill_line words
-call_line words verb.Call = enter_line words
-call_line words verb.Ret = ret_line words
-call_line words verb.Switch = switch_line words
-call_line words verb.Tick = tick_line words
-call_line words verb.Transfer = transfer_line words
-call_line words verb.Delegate = delegate_line words
-call_line words verb.Test = test_line words
+-- the line of the call of that word, in a script of this version
+unfoldable pub call_line : ℕ → List (List ℕ) → Verb → Result Call Cause
+call_line version words verb.Look = look_line words
+call_line version words verb.Copy = copy_line version words
+call_line version words verb.Remove = remove_line words
+call_line version words verb.Grow = grow_line words
+call_line version words verb.Shrink = shrink_line words
+call_line version words verb.Retype = retype_line words
+call_line version words verb.Make = make_line words
+call_line version words verb.Map = map_line words
+call_line version words verb.Unmap = unmap_line words
+call_line version words verb.Touch = touch_line words
+call_line version words verb.Flush = flush_line words
+call_line version words verb.Gate = gate_line words
+call_line version words verb.Kill = kill_line words
+call_line version words verb.Call = enter_line words
+call_line version words verb.Ret = ret_line words
+call_line version words verb.Switch = switch_line words
+call_line version words verb.Tick = tick_line words
+call_line version words verb.Transfer = transfer_line words
+call_line version words verb.Delegate = delegate_line words
+call_line version words verb.Test = test_line words

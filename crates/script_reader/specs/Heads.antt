@@ -40,12 +40,12 @@ may_stand section.List first.Order = true
 may_stand section.List (first.Call verb) = true
 may_stand _ _ = false
 
--- `speck 1`
+-- `speck V`: the version
 unfoldable pub speck_line : Head → List (List ℕ) → Result Head Cause
 speck_line head words = do
-  version ← number_at words 1 1 1
+  n ← number_at words 1 1 2
   done ← end_at words 2
-  Ok (record head { section = section.Cores })
+  Ok (record head { section = section.Cores; version = n })
 
 -- `cores n`
 unfoldable pub cores_line : Head → List (List ℕ) → Result Head Cause
@@ -118,7 +118,7 @@ line_by head words first.Calls = goes_on (calls_line head words)
 line_by head words first.Epochs = goes_on (epochs_line head words)
 line_by head words first.Core = goes_on (core_line head words)
 line_by head words first.Order = goes_on (order_line head words)
-line_by head words (first.Call verb) = call_line words verb >>= λ call. Ok (line.Call call)
+line_by head words (first.Call verb) = call_line head.version words verb >>= λ call. Ok (line.Call call)
 
 -- a line before the order of steps: its first word is judged for S2, then S7, and then its arguments
 unfoldable pub line_of : Head → List (List ℕ) → Result Line Cause
@@ -128,7 +128,16 @@ line_of head words = do
 
 -- the setup before the first line
 abbrev pub no_head : Head
-no_head = record { section = section.Version; cores = 1; frames = 6; grants = []; calls = 4194304; epochs = 65535; core = 0 }
+no_head = record {
+  section = section.Version;
+  version = 1;
+  cores = 1;
+  frames = 6;
+  grants = [];
+  calls = 4194304;
+  epochs = 65535;
+  core = 0;
+}
 
 -- the head is whole: its last grant was read
 abbrev pub is_whole : Section → Bool
@@ -144,7 +153,7 @@ AreFrames h = (4 + 2 * h.cores ≤ h.frames) × (h.frames ≤ 512)
 
 -- what holds of a head by the section that it has come to
 abbrev pub HasCome : Section → Head → Type 0
-HasCome section.Version h = h.grants ≡ []
+HasCome section.Version h = (h.grants ≡ []) × (h.version ≡ 1)
 HasCome section.Cores h = h.grants ≡ []
 HasCome section.Frames h = h.grants ≡ []
 HasCome section.Grants h = AreFrames h × (length h.grants < h.cores)
@@ -152,6 +161,8 @@ HasCome _ h = AreFrames h × (length h.grants ≡ h.cores)
 
 -- a head that lines lead to
 pub record IsHead (h : Head) : Type 0 where
+  pub some_version : 1 ≤ h.version
+  pub most_versions : h.version ≤ 2
   pub some_core : 1 ≤ h.cores
   pub most_cores : h.cores ≤ 8
   pub fit : All GrantFits h.grants

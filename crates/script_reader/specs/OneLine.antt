@@ -27,9 +27,9 @@ verb_in None = Err S2
 unfoldable pub verb_at : List (List ℕ) → Result Verb Cause
 verb_at words = word_at words 0 >>= λ word. verb_in (first_word word)
 
--- the call of a line
+-- the call of a line, as version 2 has it
 unfoldable pub call_at : List (List ℕ) → Result Call Cause
-call_at words = verb_at words >>= λ verb. call_line words verb
+call_at words = verb_at words >>= λ verb. call_line 2 words verb
 
 -- the call of words whose bytes end so: S8 of a byte that may not stand there, S9 of more than one line
 abbrev pub call_by : List (List ℕ) → Ending → Result Call Cause

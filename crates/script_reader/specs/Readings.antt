@@ -109,8 +109,9 @@ abbrev pub draft_from : Draft_of → List Row → Result Draft_of First_fault
 draft_from d [] = Ok d
 draft_from d (row ∷ rows) = and_then (at_line row.number (draft_behind d row.words)) (λ more. draft_from more rows)
 
--- a script: its setup, a list of calls for each core, and its order
+-- a script: its version, its setup, a list of calls for each core, and its order
 pub record Meaning : Type 0 where
+  pub version : ℕ
   pub setup : Setting
   pub lists : List (List Call)
   pub order : List Item
@@ -123,6 +124,7 @@ setting_of h = record { cores = h.cores; frames = h.frames; grants = h.grants; c
 abbrev pub meaning_of : Draft_of → Meaning
 meaning_of d =
     record {
+      version = d.head.version;
       setup = setting_of d.head;
       lists = take d.head.cores d.lists;
       order = d.order;
@@ -193,10 +195,12 @@ draft_view d = record { head = d.head; lists = lists_of d.lists.items; order = d
 
 -- a script, seen so
 abbrev pub script_view : Script → Meaning
-script_view s = record { setup = s.setup; lists = lists_of s.lists.items; order = s.order.items }
+script_view s = record { version = s.version; setup = s.setup; lists = lists_of s.lists.items; order = s.order.items }
 
--- a script has a list for each core, its calls are in range, and its items are of its cores
+-- a script is of version 1 or 2, has a list for each core, its calls are in range, and its items are of its cores
 pub record IsScript (s : Script) : Type 0 where
+  pub some_version : 1 ≤ s.version
+  pub most_versions : s.version ≤ 2
   pub lists : length s.lists.items ≡ s.setup.cores
   pub limits : All (All InLimits) (lists_of s.lists.items)
   pub below : BelowCores s.setup.cores s.order.items

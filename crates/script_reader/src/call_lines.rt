@@ -1,8 +1,9 @@
 //! The line of each call.
 
-ghost use Rattle.std.specs.Prelude.{◌≡◌, IfOk};
+ghost use Rattle.std.specs.Prelude.{◌≡◌, ◌<◌, IfOk};
 ghost use Rattle.spk_nums.specs.CallLimits.{InLimits, MakeInLimits};
 ghost use Rattle.script_reader.specs.Arguments.{texts};
+ghost use Rattle.script_reader.specs.CallLines.{fourth_at, both_at, rights_at};
 ghost use Rattle.script_reader.specs.CallLines.{look_line, copy_line, remove_line, grow_line, shrink_line, retype_line, map_line};
 ghost use Rattle.script_reader.specs.CallLines.{unmap_line, touch_line, flush_line, gate_line, kill_line, enter_line, ret_line};
 ghost use Rattle.script_reader.specs.CallLines.{switch_line, tick_line, transfer_line, delegate_line, test_line, object_of};
@@ -15,7 +16,7 @@ use crate::arguments::{
 use crate::cause::Cause;
 use crate::first_words::Verb;
 use script_tokens::Token;
-use spk_nums::{Call, Make, PageFlags};
+use spk_nums::{Call, Make, PageFlags, Rights};
 
 #[tactic(auto, unfolding(crate::specs::CallLines::look_line))]
 fn look_line(words: &[Token]) -> Result<Call, Cause>
@@ -27,16 +28,50 @@ fn look_line(words: &[Token]) -> Result<Call, Cause>
     Ok(Call::Look { a })
 }
 
+// The fourth number of a `copy`.
+#[tactic(auto, unfolding(crate::specs::CallLines::fourth_at))]
+fn fourth_at(words: &[Token]) -> Result<Rights, Cause>
+    ensures value { result ≡ fourth_at (texts words.now) }
+    ensures range { IfOk result (λ r. r.0 < 4) }
+{
+    let rights = byte_at(words, 4, 0, 3)?;
+    end_at(words, 5)?;
+    Ok(Rights::of_bits(rights))
+}
+
+// Both rights, where nothing comes after `copy A T B`.
+#[tactic(auto, unfolding(crate::specs::CallLines::both_at))]
+fn both_at(words: &[Token]) -> Result<Rights, Cause>
+    ensures value { result ≡ both_at (texts words.now) }
+    ensures range { IfOk result (λ r. r.0 < 4) }
+{
+    end_at(words, 4)?;
+    Ok(Rights::both())
+}
+
+// The rights after `copy A T B`.
+#[tactic(auto, unfolding(crate::specs::CallLines::rights_at))]
+fn rights_at(words: &[Token], version: u8) -> Result<Rights, Cause>
+    ensures value { result ≡ rights_at version (texts words.now) }
+    ensures range { IfOk result (λ r. r.0 < 4) }
+{
+    if version == 2 && 4 < words.len() {
+        fourth_at(words)
+    } else {
+        both_at(words)
+    }
+}
+
 #[tactic(auto, unfolding(crate::specs::CallLines::copy_line))]
-fn copy_line(words: &[Token]) -> Result<Call, Cause>
-    ensures value { result ≡ copy_line (texts words.now) }
+fn copy_line(words: &[Token], version: u8) -> Result<Call, Cause>
+    ensures value { result ≡ copy_line version (texts words.now) }
     ensures range { IfOk result InLimits }
 {
     let a = capability_at(words, 1)?;
     let t = capability_at(words, 2)?;
     let b = capability_at(words, 3)?;
-    end_at(words, 4)?;
-    Ok(Call::Copy { a, t, b })
+    let rights = rights_at(words, version)?;
+    Ok(Call::Copy { a, t, b, rights })
 }
 
 #[tactic(auto, unfolding(crate::specs::CallLines::remove_line))]
@@ -354,15 +389,15 @@ fn make_line(words: &[Token]) -> Result<Call, Cause>
     })
 }
 
-/// The call of a line whose first word is that of a call.
+/// The call of a line whose first word is that of a call, in a script of this version.
 #[tactic(auto, unfolding(crate::specs::CallLines::call_line))]
-pub fn call_line(words: &[Token], verb: Verb) -> Result<Call, Cause>
-    ensures value { result ≡ call_line (texts words.now) verb }
+pub fn call_line(words: &[Token], verb: Verb, version: u8) -> Result<Call, Cause>
+    ensures value { result ≡ call_line version (texts words.now) verb }
     ensures range { IfOk result InLimits }
 {
     match verb {
         Verb::Look => look_line(words),
-        Verb::Copy => copy_line(words),
+        Verb::Copy => copy_line(words, version),
         Verb::Remove => remove_line(words),
         Verb::Grow => grow_line(words),
         Verb::Shrink => shrink_line(words),

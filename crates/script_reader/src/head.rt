@@ -8,7 +8,7 @@ ghost use Rattle.script_reader.specs.Arguments.{texts};
 ghost use Rattle.script_reader.specs.Heads.{may_stand, speck_line, cores_line, frames_line, grant_line, calls_line, epochs_line};
 ghost use Rattle.script_reader.specs.Heads.{core_line, order_line, line_by, line_of, no_head, is_whole, granted, IsHead, IsLine};
 
-use crate::arguments::{byte_at, core_at, end_at, half_at, number_at, whole_at};
+use crate::arguments::{byte_at, core_at, end_at, half_at, whole_at};
 use crate::call_lines::call_line;
 use crate::cause::Cause;
 use crate::first_words::{FirstWord, first_word};
@@ -42,6 +42,8 @@ pub enum Section {
 #[derive(Clone, Copy, Debug)]
 pub struct Head {
     pub section: Section,
+    /// The script's version, 1 or 2.
+    pub version: u8,
     pub cores: u8,
     pub frames: u16,
     pub grants: Grants,
@@ -67,6 +69,7 @@ pub fn no_head() -> Head
 {
     Head {
         section: Section::Version,
+        version: 1,
         cores: 1,
         frames: 6,
         grants: Grants::empty(),
@@ -118,10 +121,11 @@ fn speck_line(head: &Head, words: &[Token]) -> Result<Head, Cause>
     ensures value { result ≡ speck_line head.now (texts words.now) }
     ensures head { IfOk result IsHead }
 {
-    number_at(words, 1, 1, 1)?;
+    let version = byte_at(words, 1, 1, 2)?;
     end_at(words, 2)?;
     Ok(Head {
         section: Section::Cores,
+        version,
         ..*head
     })
 }
@@ -276,7 +280,7 @@ fn line_by(head: &Head, words: &[Token], first: FirstWord) -> Result<Line, Cause
         FirstWord::Core => core_line(head, words),
         FirstWord::Order => order_line(head, words),
         FirstWord::Call(verb) => {
-            let call = call_line(words, verb)?;
+            let call = call_line(words, verb, head.version)?;
             return Ok(Line::Call(call));
         }
     };

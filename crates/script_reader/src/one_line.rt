@@ -34,7 +34,7 @@ fn call_at(words: &[Token]) -> Result<Call, Cause>
     ensures range { IfOk result InLimits }
 {
     let verb = verb_at(words)?;
-    call_line(words, verb)
+    call_line(words, verb, 2)
 }
 
 // The call of bytes with these words, which end so.
@@ -55,7 +55,7 @@ fn call_by(words: &[Token], ending: Ending) -> Result<Call, Cause>
     }
 }
 
-/// Reads one call, as a line of a script has it: its word, then its arguments. Blanks and a comment may stand round it,
+/// Reads one call, as a line of a script of version 2 has it: its word, then its arguments. Blanks and a comment may stand round it,
 /// and a line feed at its end. Fewer than 2^32 bytes.
 ///
 /// # Errors

@@ -17,9 +17,10 @@ use script_tokens::{ByteFault, Ending, Scanned, Token, scan};
 use spk_nums::{Call, CoreNo, Item, Make, Setup};
 use std::alloc::{AllocError, Global};
 
-/// A script: its setup, a list of calls for each core, core 0 first, and the items of its order.
+/// A script: its version, 1 or 2, its setup, a list of calls for each core, core 0 first, and the items of its order.
 #[derive(Debug, Drop)]
 pub struct Script {
+    pub version: u8,
     pub setup: Setup,
     pub lists: Vec<Vec<Call>>,
     pub order: Vec<Item>,
@@ -197,6 +198,7 @@ fn finish(draft: Draft, ending: Ending) -> Result<Script, ReadFault>
     lists.truncate(usize::from(head.cores));
     let setup = setup_of(&head);
     Ok(Script {
+        version: head.version,
         setup,
         lists,
         order,

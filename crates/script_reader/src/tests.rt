@@ -1,7 +1,7 @@
 ghost use Rattle.std.specs.Prelude.{◌<◌, ◌^◌, length};
 
 use super::*;
-use spk_nums::{Call, CapId, EntryNo, FrameArg, FrameKind, Make, PageFlags, PageNo, Setup};
+use spk_nums::{Call, CapId, EntryNo, FrameArg, FrameKind, Make, PageFlags, PageNo, Rights, Setup};
 use std::alloc::Global;
 use std::process::Abort;
 use std::test::*;
@@ -77,7 +77,8 @@ fn head_lines_of_other_words_and_numbers_are_refused(rt: HostRuntime) {
         &rt,
         rt.alloc(),
         &[
-            (b"speck 2", 1, Cause::S5),
+            (b"speck 3", 1, Cause::S5),
+            (b"speck 0", 1, Cause::S5),
             (b"speck", 1, Cause::S3),
             (b"speck one", 1, Cause::S1),
             (b"speck 1 1", 1, Cause::S4),
@@ -311,6 +312,7 @@ fn calls_on_places_and_frames() -> [Call; 6] {
             a: cap(0),
             t: cap(1),
             b: cap(20),
+            rights: Rights::both(),
         },
         Call::Remove {
             t: cap(1),
