@@ -1,31 +1,30 @@
 -- What is left of a rule and of its plan after the names that have led to capabilities.
 use Rattle.std.proofs.Common.{◌≡◌, inl, inr, ℕ, Bool, true, false, IsTrue, IsFalse, List, [], ◌∷◌, ◌++◌, refl, sym, ◌∙◌, ap, subst}
 use Rattle.spk_nums.specs.Capability.{Capability}
-use Rattle.spk_nums.specs.declared.kinds.Kind.{Kind}
 use Rattle.spk_nums.specs.declared.replies.Reply.{Reply}
 use Rattle.kernel_rules.specs.State.{State}
-use Rattle.kernel_rules.specs.Access.{Named, found}
+use Rattle.kernel_rules.specs.Access.{Named, found, Want}
 use Rattle.kernel_rules.specs.Rules.{Rule, Name as name_rule, Vacant as vacant_rule, Held as held_rule, Mapped as mapped_rule}
 use Rattle.kernel_rules.specs.Rules.{Does, and_then, name_of, outcome, NameMay, VacantMay, HeldMay, MappedMay, RuleMay}
 use Rattle.call_plans.specs.declared.plans.Name.{Name}
 use Rattle.call_plans.specs.declared.plans.Target.{Target}
 use Rattle.call_plans.specs.declared.plans.Target.TheVariants.{Nowhere, Free, Held, Own}
 use Rattle.call_plans.specs.declared.plans.Plan.{Plan}
-use Rattle.call_plans.specs.GoesBy.{OwnPages, GoesBy, GoesOn, wants}
+use Rattle.call_plans.specs.GoesBy.{OwnPages, GoesBy, GoesOn, want_of}
 use Rattle.call_plans.specs.After.{rule_after, with_found, names_after, Leads, LeadsIn, Next, NextName, NextFree}
 use Rattle.call_plans.specs.After.{NextHeld, NextOwn, NextNothing, next_target, next_in, next_of, NextMay}
 use Rattle.call_plans.specs.Laws.{LeftGoesBy, OutcomeIsLeft, LeftMayRefuse, NextMayRefuse, NextLeads, LeadsMore}
 
 -- What is true of a rule whose first name leads on to a rule of which it is true, is true of the rule before the names that lead.
-pub before : (P : ℕ → (Kind → Bool) → Capability → Type 0) (Q : Rule → Type 0)
-    → ((n : ℕ) (wanted : Kind → Bool) (rest : Named → Rule) (k : Capability) → P n wanted k → Q (rest (found k))
-    → Q (name_rule n wanted rest))
+pub before : (P : ℕ → Want → Capability → Type 0) (Q : Rule → Type 0)
+    → ((n : ℕ) (want : Want) (rest : Named → Rule) (k : Capability) → P n want k → Q (rest (found k))
+    → Q (name_rule n want rest))
     → (pages : OwnPages) (names : List Name) (target : Target) (caps : List Named) (rule : Rule) (ks : List Capability)
     → GoesOn pages names target caps rule → Leads P names caps ks → Q (rule_after rule ks) → Q rule
 before P Q on pages names target caps rule [] goes leads h = h
 before P Q on pages [] target caps rule (k ∷ ks) goes leads h = absurd leads
-before P Q on pages (name ∷ names) target caps (name_rule n wanted rest) (k ∷ ks) goes leads h =
-    on n wanted rest k (subst (λ m. P m wanted k) (sym goes.0) (subst (λ w. P name.number w k) (sym goes.1) leads.0))
+before P Q on pages (name ∷ names) target caps (name_rule n want rest) (k ∷ ks) goes leads h =
+    on n want rest k (subst (λ m. P m want k) (sym goes.0) (subst (λ w. P name.number w k) (sym goes.1) leads.0))
     (before P Q on pages names target (caps ++ found k ∷ []) (rest (found k)) ks (goes.2 (found k)) leads.1 h)
 before P Q on pages (name ∷ names) target caps (vacant_rule t rest) (k ∷ ks) goes leads h = absurd goes
 before P Q on pages (name ∷ names) target caps (held_rule t rest) (k ∷ ks) goes leads h = absurd goes
@@ -33,13 +32,13 @@ before P Q on pages (name ∷ names) target caps (mapped_rule t v rest) (k ∷ k
 before P Q on pages (name ∷ names) target caps (Does causes change) (k ∷ ks) goes leads h = absurd goes
 
 -- what is left goes by what is left of the plan
-goes_left : (P : ℕ → (Kind → Bool) → Capability → Type 0) (pages : OwnPages) (names : List Name) (target : Target) (caps : List Named)
+goes_left : (P : ℕ → Want → Capability → Type 0) (pages : OwnPages) (names : List Name) (target : Target) (caps : List Named)
     (rule : Rule) (ks : List Capability)
     → GoesOn pages names target caps rule → Leads P names caps ks
     → GoesOn pages (names_after names ks) target (with_found caps ks) (rule_after rule ks)
 goes_left P pages names target caps rule [] goes leads = goes
 goes_left P pages [] target caps rule (k ∷ ks) goes leads = absurd leads
-goes_left P pages (name ∷ names) target caps (name_rule n wanted rest) (k ∷ ks) goes leads =
+goes_left P pages (name ∷ names) target caps (name_rule n want rest) (k ∷ ks) goes leads =
     goes_left P pages names target (caps ++ found k ∷ []) (rest (found k)) ks (goes.2 (found k)) leads.1
 goes_left P pages (name ∷ names) target caps (vacant_rule t rest) (k ∷ ks) goes leads = absurd goes
 goes_left P pages (name ∷ names) target caps (held_rule t rest) (k ∷ ks) goes leads = absurd goes
@@ -47,23 +46,23 @@ goes_left P pages (name ∷ names) target caps (mapped_rule t v rest) (k ∷ ks)
 goes_left P pages (name ∷ names) target caps (Does causes change) (k ∷ ks) goes leads = absurd goes
 
 -- What leads by one way leads by another.
-pub leads_by : (P Q : ℕ → (Kind → Bool) → Capability → Type 0)
-    → ((n : ℕ) (wanted : Kind → Bool) (k : Capability) → P n wanted k → Q n wanted k)
+pub leads_by : (P Q : ℕ → Want → Capability → Type 0)
+    → ((n : ℕ) (want : Want) (k : Capability) → P n want k → Q n want k)
     → (names : List Name) (caps : List Named) (ks : List Capability) → Leads P names caps ks → Leads Q names caps ks
 leads_by P Q on names caps [] leads = tt
 leads_by P Q on [] caps (k ∷ ks) leads = absurd leads
 leads_by P Q on (name ∷ names) caps (k ∷ ks) leads =
-    (on name.number (wants caps name.wanted) k leads.0, leads_by P Q on names (caps ++ found k ∷ []) ks leads.1)
+    (on name.number (want_of caps name) k leads.0, leads_by P Q on names (caps ++ found k ∷ []) ks leads.1)
 
 -- The next look-up is that of a name, which leads to a capability.
-abbrev pub NextBy : (ℕ → (Kind → Bool) → Capability → Type 0) → Next → Capability → Type 0
-NextBy P (NextName n wanted) k = P n wanted k
+abbrev pub NextBy : (ℕ → Want → Capability → Type 0) → Next → Capability → Type 0
+NextBy P (NextName n want) k = P n want k
 NextBy P (NextFree t) k = ⊥
 NextBy P (NextHeld t) k = ⊥
 NextBy P (NextOwn v) k = ⊥
 NextBy P NextNothing k = ⊥
 
-none_leads : (P : ℕ → (Kind → Bool) → Capability → Type 0) (caps : List Named) (target : Target) (j : Capability)
+none_leads : (P : ℕ → Want → Capability → Type 0) (caps : List Named) (target : Target) (j : Capability)
     → NextBy P (next_target caps target) j → ⊥
 none_leads P caps Nowhere j next = next
 none_leads P caps (Free spot) j next = next
@@ -71,7 +70,7 @@ none_leads P caps (Held spot) j next = next
 none_leads P caps (Own v) j next = next
 
 -- One name more leads to a capability.
-pub one_more : (P : ℕ → (Kind → Bool) → Capability → Type 0) (names : List Name) (target : Target) (caps : List Named)
+pub one_more : (P : ℕ → Want → Capability → Type 0) (names : List Name) (target : Target) (caps : List Named)
     (ks : List Capability) (j : Capability)
     → Leads P names caps ks → NextBy P (next_in (with_found caps ks) (names_after names ks) target) j → Leads P names caps (ks ++ j ∷ [])
 one_more P [] target caps [] j leads next = none_leads P caps target j next
@@ -80,7 +79,7 @@ one_more P [] target caps (k ∷ ks) j leads next = absurd leads
 one_more P (name ∷ names) target caps (k ∷ ks) j leads next = (leads.0, one_more P names target (caps ++ found k ∷ []) ks j leads.1 next)
 
 same_next : (s : State) (c : ℕ) (next : Next) (k : Capability) → NextLeads s c next k → NextBy (LeadsIn s c) next k
-same_next s c (NextName n wanted) k leads = leads
+same_next s c (NextName n want) k leads = leads
 same_next s c (NextFree t) k leads = leads
 same_next s c (NextHeld t) k leads = leads
 same_next s c (NextOwn v) k leads = leads
@@ -88,7 +87,7 @@ same_next s c NextNothing k leads = leads
 
 -- What a rule does that looks this up next.
 abbrev pub Begins : OwnPages → Next → Rule → Type 0
-Begins pages (NextName n wanted) (name_rule m w rest) = (m ≡ n) × (w ≡ wanted)
+Begins pages (NextName n want) (name_rule m w rest) = (m ≡ n) × (w ≡ want)
 Begins pages (NextFree target) (vacant_rule t rest) = t ≡ target
 Begins pages (NextHeld target) (held_rule t rest) = t ≡ target
 Begins pages (NextOwn v) (mapped_rule table n rest) = (table ≡ pages.table) × (n ≡ v)
@@ -98,7 +97,7 @@ Begins pages _ _ = ⊥
 
 begins : (pages : OwnPages) (names : List Name) (target : Target) (caps : List Named) (rule : Rule) → GoesOn pages names target caps rule
     → Begins pages (next_in caps names target) rule
-begins pages (name ∷ names) target caps (name_rule n wanted rest) goes = (goes.0, goes.1)
+begins pages (name ∷ names) target caps (name_rule n want rest) goes = (goes.0, goes.1)
 begins pages (name ∷ names) target caps (vacant_rule t rest) goes = absurd goes
 begins pages (name ∷ names) target caps (held_rule t rest) goes = absurd goes
 begins pages (name ∷ names) target caps (mapped_rule t v rest) goes = absurd goes
@@ -120,7 +119,7 @@ both false is other = cc
 -- a rule that begins with this look-up may be refused as that
 first_may : (s : State) (c : ℕ) (pages : OwnPages) (next : Next) (rule : Rule) (r : Reply) → Begins pages next rule
     → NextMay s c pages next r → RuleMay s c rule r
-first_may s c pages (NextName n wanted) (name_rule m w rest) r is may =
+first_may s c pages (NextName n want) (name_rule m w rest) r is may =
     inl (subst (λ m. NameMay s c m w r) (sym is.0) (subst (λ w. NameMay s c n w r) (sym is.1) may))
 first_may s c pages (NextFree target) (vacant_rule t rest) r is may = inl (subst (λ t. VacantMay s c t r) (sym is) may)
 first_may s c pages (NextHeld target) (held_rule t rest) r is may = inl (subst (λ t. HeldMay s c t r) (sym is) may)
@@ -129,7 +128,7 @@ first_may s c pages (NextOwn v) (mapped_rule table n rest) r is may =
 first_may s c pages (NextOwn v) (Does causes change) r is may = absurd (both (pages.cached v) is may.0)
 first_may s c pages (NextOwn v) _ r is may = absurd is
 first_may s c pages NextNothing rule r is may = absurd may
-first_may s c pages (NextName n wanted) _ r is may = absurd is
+first_may s c pages (NextName n want) _ r is may = absurd is
 first_may s c pages (NextFree target) _ r is may = absurd is
 first_may s c pages (NextHeld target) _ r is may = absurd is
 
@@ -140,13 +139,13 @@ left_goes s c pages plan rule ks goes leads = goes_left (LeadsIn s c) pages plan
 pub outcome_left : OutcomeIsLeft
 outcome_left s c pages plan rule ks goes leads =
     before (LeadsIn s c) (λ x. outcome s c x ≡ outcome s c (rule_after rule ks))
-    (λ n wanted rest k is h. ap (λ x. and_then x λ k. outcome s c (rest (found k))) is ∙ h)
+    (λ n want rest k is h. ap (λ x. and_then x λ k. outcome s c (rest (found k))) is ∙ h)
     pages plan.names plan.target [] rule ks goes leads refl
 
 pub left_may : LeftMayRefuse
 left_may s c pages plan rule ks goes leads r may =
     before (LeadsIn s c) (λ x. RuleMay s c x r)
-    (λ n wanted rest k is h. inr (subst (λ x. RuleMay s c (rest (name_of x)) r) (sym is) h))
+    (λ n want rest k is h. inr (subst (λ x. RuleMay s c (rest (name_of x)) r) (sym is) h))
     pages plan.names plan.target [] rule ks goes leads may
 
 pub left_begins : (s : State) (c : ℕ) (pages : OwnPages) (plan : Plan) (rule : Rule) (ks : List Capability) → GoesBy pages plan rule

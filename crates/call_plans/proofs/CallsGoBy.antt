@@ -46,7 +46,7 @@ make_goes s pages (make.Comp table own_pages live) r f t b =
 
 pub calls_go : (s : State) (c : ℕ) (call : Call) → GoesBy (own_pages s c) (plan_for call) (rule_of s c call)
 calls_go s c (Look a) = (refl, refl, λ k. tt)
-calls_go s c (Copy a t b) = (refl, refl, λ k. (refl, refl, λ l. (refl, λ at. tt)))
+calls_go s c (Copy a t b rights) = (refl, refl, λ k. (refl, refl, λ l. (refl, λ at. tt)))
 calls_go s c (Remove t b) = (refl, refl, λ k. (refl, λ at held. tt))
 calls_go s c (Grow t i l) = (refl, refl, λ k. (refl, refl, λ m. (refl, λ at. tt)))
 calls_go s c (Shrink t i) = (refl, refl, λ k. (refl, λ at held. tt))

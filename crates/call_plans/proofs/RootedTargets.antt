@@ -29,7 +29,7 @@ any_root caps k is = is
 
 pub rooted : AreRooted
 rooted (Look a) = tt
-rooted (Copy a t b) = table_root
+rooted (Copy a t b rights) = table_root
 rooted (Remove t b) = table_root
 rooted (Grow t i l) = any_root
 rooted (Shrink t i) = any_root

@@ -7,14 +7,14 @@ use Rattle.std.proofs.lemmas.Bool.{lt-ltb}
 use Rattle.kernel_invariant.proofs.Facts.{some_inj, none_some, some_none}
 use Rattle.spk_nums.specs.Capability.{Capability}
 use Rattle.spk_nums.specs.declared.kinds.Kind.{Kind}
-use Rattle.kernel_rules.specs.Access.{Named, kind_number, found}
+use Rattle.kernel_rules.specs.Access.{Named, kind_number, found, Want}
 use Rattle.call_plans.specs.declared.plans.Nth.{Nth}
 use Rattle.call_plans.specs.declared.plans.Nth.TheVariants.{First, Second, Third, Fourth}
 use Rattle.kernel_rules.specs.CapabilityCalls.{leaf_of, leaf_for}
 use Rattle.call_plans.specs.declared.plans.Wanted.TheVariants.{LeafOf}
 use Rattle.call_plans.specs.declared.plans.Name.{Name}
 use Rattle.call_plans.specs.Plans.{head, tail, index_of, at_place, pushed}
-use Rattle.call_plans.specs.GoesBy.{wants, or_not_found, earlier}
+use Rattle.call_plans.specs.GoesBy.{wants, want_of, or_not_found, earlier}
 use Rattle.call_plans.specs.After.{with_found, names_after, Leads}
 
 -- what the names have led to, as one list
@@ -49,7 +49,7 @@ left_none : (name : Name) (names : List Name) → name ∷ names ≡ [] → ⊥
 left_none name names e = some_none name (ap head e)
 
 -- The names that lead, and those that are left, are as many as the names.
-pub count_led : (P : ℕ → (Kind → Bool) → Capability → Type 0) (names : List Name) (caps : List Named) (ks : List Capability)
+pub count_led : (P : ℕ → Want → Capability → Type 0) (names : List Name) (caps : List Named) (ks : List Capability)
     → Leads P names caps ks → length ks + length (names_after names ks) ≡ length names
 count_led P names caps [] leads = omega arith
 count_led P [] caps (k ∷ ks) leads = absurd leads
@@ -63,19 +63,19 @@ after_more [] rest name (j ∷ ks) k is = absurd (left_none name rest (sym is))
 after_more (n ∷ names) rest name (j ∷ ks) k is = after_more names rest name ks k is
 
 -- This name has led to the capability.
-pub record Led (P : ℕ → (Kind → Bool) → Capability → Type 0) (name : Name) (o : Option Capability) : Type 0 where
+pub record Led (P : ℕ → Want → Capability → Type 0) (name : Name) (o : Option Capability) : Type 0 where
   pub k : Capability
   pub is : o ≡ Some k
   pub caps : List Named
-  pub leads : P name.number (wants caps name.wanted) k
+  pub leads : P name.number (want_of caps name) k
 
 -- The names of a list lead, after some others, and none is left.
-record AllLead (P : ℕ → (Kind → Bool) → Capability → Type 0) (names : List Name) (ks : List Capability) : Type 0 where
+record AllLead (P : ℕ → Want → Capability → Type 0) (names : List Name) (ks : List Capability) : Type 0 where
   caps : List Named
   leads : Leads P names caps ks
   none : names_after names ks ≡ []
 
-first_led : (P : ℕ → (Kind → Bool) → Capability → Type 0) (names : List Name) (ks : List Capability) (name : Name) → AllLead P names ks
+first_led : (P : ℕ → Want → Capability → Type 0) (names : List Name) (ks : List Capability) (name : Name) → AllLead P names ks
     → head names ≡ Some name → Led P name (head ks)
 first_led P [] ks name all is = absurd (none_some name is)
 first_led P (n ∷ names) [] name all is = absurd (left_none n names all.none)
@@ -84,18 +84,18 @@ first_led P (n ∷ names) (k ∷ ks) name all is =
       k = k;
       is = refl;
       caps = all.caps;
-      leads = subst (λ (m : Name). P m.number (wants all.caps m.wanted) k)
+      leads = subst (λ (m : Name). P m.number (want_of all.caps m) k)
           (some_inj n name is) all.leads.0;
     }
 
-tails_lead : (P : ℕ → (Kind → Bool) → Capability → Type 0) (names : List Name) (ks : List Capability) → AllLead P names ks
+tails_lead : (P : ℕ → Want → Capability → Type 0) (names : List Name) (ks : List Capability) → AllLead P names ks
     → AllLead P (tail names) (tail ks)
 tails_lead P [] [] all = record { caps = all.caps; leads = tt; none = refl }
 tails_lead P [] (k ∷ ks) all = absurd all.leads
 tails_lead P (name ∷ names) [] all = absurd (left_none name names all.none)
 tails_lead P (name ∷ names) (k ∷ ks) all = record { caps = all.caps ++ found k ∷ []; leads = all.leads.1; none = all.none }
 
-pub nth_led : (P : ℕ → (Kind → Bool) → Capability → Type 0) (names : List Name) (ks : List Capability) (i : Nth) (name : Name)
+pub nth_led : (P : ℕ → Want → Capability → Type 0) (names : List Name) (ks : List Capability) (i : Nth) (name : Name)
     → Leads P names [] ks → names_after names ks ≡ [] → at_place names i ≡ Some name → Led P name (at_place ks i)
 nth_led P names ks First name leads none is = first_led P names ks name (record { caps = []; leads = leads; none = none }) is
 nth_led P names ks Second name leads none is =

@@ -9,7 +9,7 @@ use Rattle.call_plans.specs.Laws.{BoundIsByPlan}
 
 pub bound_is : BoundIsByPlan
 bound_is (Look a) n = refl
-bound_is (Copy a t b) n = omega arith
+bound_is (Copy a t b rights) n = omega arith
 bound_is (Remove t b) n = refl
 bound_is (Grow t i l) n = omega arith
 bound_is (Shrink t i) n = refl

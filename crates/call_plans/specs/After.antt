@@ -1,22 +1,21 @@
 -- What is left of a rule and of a plan after the names that have led to capabilities, and what is looked up next.
 use Rattle.std.specs.Prelude.{◌≡◌, ℕ, Bool, List, [], ◌∷◌, ◌++◌, Option, Some, None, IsFalse}
 use Rattle.spk_nums.specs.Capability.{Capability}
-use Rattle.spk_nums.specs.declared.kinds.Kind.{Kind}
 use Rattle.spk_nums.specs.declared.replies.Reply.{Reply}
 use Rattle.kernel_rules.specs.State.{State}
-use Rattle.kernel_rules.specs.Access.{Named, found, Target as place}
+use Rattle.kernel_rules.specs.Access.{Named, found, Want, Target as place}
 use Rattle.kernel_rules.specs.Rules.{Rule, Name as name_rule, Found, named, NameMay, VacantMay, HeldMay, MappedMay}
 use Rattle.call_plans.specs.declared.plans.Name.{Name}
 use Rattle.call_plans.specs.declared.plans.Target.{Target}
 use Rattle.call_plans.specs.declared.plans.Target.TheVariants.{Nowhere, Free, Held, Own}
 use Rattle.call_plans.specs.declared.plans.Plan.{Plan}
 use Rattle.call_plans.specs.Plans.{head}
-use Rattle.call_plans.specs.GoesBy.{OwnPages, wants, place_of_spot}
+use Rattle.call_plans.specs.GoesBy.{OwnPages, want_of, place_of_spot}
 
 -- The rule after its first names, which have led to these capabilities.
 abbrev pub rule_after : Rule → List Capability → Rule
 rule_after rule [] = rule
-rule_after (name_rule n wanted rest) (k ∷ ks) = rule_after (rest (found k)) ks
+rule_after (name_rule n want rest) (k ∷ ks) = rule_after (rest (found k)) ks
 rule_after rule (k ∷ ks) = rule
 
 -- What the names have led to, with these.
@@ -31,19 +30,19 @@ names_after [] (k ∷ ks) = []
 names_after (name ∷ names) (k ∷ ks) = names_after names ks
 
 -- The first of these names lead to these capabilities, where the names before them have led to those: P says of a number and
--- the wanted kinds that they lead to a capability.
-abbrev pub Leads : (ℕ → (Kind → Bool) → Capability → Type 0) → List Name → List Named → List Capability → Type 0
+-- what is wanted that they lead to a capability.
+abbrev pub Leads : (ℕ → Want → Capability → Type 0) → List Name → List Named → List Capability → Type 0
 Leads P names caps [] = Unit {0}
 Leads P [] caps (k ∷ ks) = ⊥
-Leads P (name ∷ names) caps (k ∷ ks) = P name.number (wants caps name.wanted) k × Leads P names (caps ++ found k ∷ []) ks
+Leads P (name ∷ names) caps (k ∷ ks) = P name.number (want_of caps name) k × Leads P names (caps ++ found k ∷ []) ks
 
 -- In state s, a number leads core c to a capability.
-abbrev pub LeadsIn : State → ℕ → ℕ → (Kind → Bool) → Capability → Type 0
-LeadsIn s c n wanted k = named s c n wanted ≡ Found k
+abbrev pub LeadsIn : State → ℕ → ℕ → Want → Capability → Type 0
+LeadsIn s c n want k = named s c n want ≡ Found k
 
 -- What is looked up next.
 pub data Next : Type 0 where
-  NextName : ℕ → (Kind → Bool) → Next
+  NextName : ℕ → Want → Next
   NextFree : place → Next
   NextHeld : place → Next
   NextOwn : ℕ → Next
@@ -57,7 +56,7 @@ next_target caps (Own v) = NextOwn v
 
 abbrev pub next_by : List Named → Option Name → Target → Next
 next_by caps None target = next_target caps target
-next_by caps (Some name) target = NextName name.number (wants caps name.wanted)
+next_by caps (Some name) target = NextName name.number (want_of caps name)
 
 abbrev pub next_in : List Named → List Name → Target → Next
 next_in caps names target = next_by caps (head names) target
@@ -68,7 +67,7 @@ next_of plan ks = next_in (with_found [] ks) (names_after plan.names ks) plan.ta
 
 -- How the next look-up of core c may be refused: a page of its own pages only where its translation is not cached.
 abbrev pub NextMay : State → ℕ → OwnPages → Next → Reply → Type 0
-NextMay s c pages (NextName n wanted) r = NameMay s c n wanted r
+NextMay s c pages (NextName n want) r = NameMay s c n want r
 NextMay s c pages (NextFree target) r = VacantMay s c target r
 NextMay s c pages (NextHeld target) r = HeldMay s c target r
 NextMay s c pages (NextOwn v) r = IsFalse (pages.cached v) × MappedMay s c pages.table v r

@@ -47,7 +47,7 @@ make_steps _ n = 70 + n
 
 abbrev pub act_steps : Call → ℕ → ℕ
 act_steps (Look a) n = 0
-act_steps (Copy a t b) n = 3 + n
+act_steps (Copy a t b rights) n = 3 + n
 act_steps (Remove t b) n = 6
 act_steps (Grow t i l) n = 3 + 2 * n
 act_steps (Shrink t i) n = 6

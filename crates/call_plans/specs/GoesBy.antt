@@ -1,10 +1,10 @@
--- A rule goes by a plan: its names, the kinds that they want, and its target are those of the plan, whatever the names lead to.
+-- A rule goes by a plan: its names, what they want, and its target are those of the plan, whatever the names lead to.
 use Rattle.std.specs.Prelude.{◌≡◌, ℕ, Bool, List, [], ◌∷◌, ◌++◌, Option, Some, None, is_some, IsTrue, IsFalse}
 use Rattle.spk_nums.specs.Capability.{Capability}
 use Rattle.spk_nums.specs.declared.kinds.Kind.{Kind}
 use Rattle.kernel_rules.specs.State.{State, comp_of}
 use Rattle.kernel_rules.specs.MemoryCalls.{translation_of}
-use Rattle.kernel_rules.specs.Access.{Slot, Named, not_found, any, only, root, Target as place, Under as under, InRoot as in_root}
+use Rattle.kernel_rules.specs.Access.{Slot, Named, not_found, Want, any, only, root, Target as place, Under as under, InRoot as in_root}
 use Rattle.kernel_rules.specs.Rules.{Rule, Name as name_rule, Vacant as vacant_rule, Held as held_rule, Mapped as mapped_rule, Does}
 use Rattle.kernel_rules.specs.CapabilityCalls.{leaf_for}
 use Rattle.call_plans.specs.declared.plans.Nth.{Nth}
@@ -32,6 +32,10 @@ wants caps Any = any
 wants caps (Only kind) = only kind
 wants caps Root = root
 wants caps (LeafOf i) = leaf_for (earlier caps i)
+
+-- What a name wants, where the earlier names have led to these: kinds, and the rights that it needs.
+abbrev pub want_of : List Named → Name → Want
+want_of caps name = record { kinds = wants caps name.wanted; needs = name.needs.0 }
 
 -- The place of a spot.
 abbrev pub place_of_spot : List Named → Spot → place
@@ -66,8 +70,8 @@ GoesTo pages _ caps _ = ⊥
 -- A rule looks up these names in order and then this target, where the names before them have led to these.
 abbrev pub GoesOn : OwnPages → List Name → Target → List Named → Rule → Type 0
 GoesOn pages [] target caps rule = GoesTo pages target caps rule
-GoesOn pages (name ∷ names) target caps (name_rule n wanted rest) =
-    (n ≡ name.number) × (wanted ≡ wants caps name.wanted) × ((k : Named) → GoesOn pages names target (caps ++ k ∷ []) (rest k))
+GoesOn pages (name ∷ names) target caps (name_rule n want rest) =
+    (n ≡ name.number) × (want ≡ want_of caps name) × ((k : Named) → GoesOn pages names target (caps ++ k ∷ []) (rest k))
 GoesOn pages (name ∷ names) target caps _ = ⊥
 
 -- A rule goes by a plan.

@@ -7,7 +7,7 @@ use Rattle.call_plans.specs.declared.plans.Names.TheInside.{Inside}
 
 -- an unused cell
 abbrev pub blank_name : Name
-blank_name = record { number = 0; wanted = Any }
+blank_name = record { number = 0; wanted = Any; needs = record { 0 = 0 } }
 
 -- the names that the cells hold
 abbrev pub names_of : Inside → List Name

@@ -1,5 +1,6 @@
 -- The plan of each call.
 use Rattle.std.specs.Prelude.{ℕ, List, [], ◌∷◌}
+use Rattle.spk_nums.specs.Rights.{neither, right_to_copy, right_to_use}
 use Rattle.spk_nums.specs.declared.kinds.FrameKind.{FrameKind}
 use Rattle.spk_nums.specs.declared.kinds.FrameKind.TheVariants.{Untyped}
 use Rattle.spk_nums.specs.declared.kinds.Kind.{Kind}
@@ -21,19 +22,20 @@ use Rattle.call_plans.specs.declared.plans.Decides.{Decides}
 use Rattle.call_plans.specs.declared.plans.Decides.TheVariants as at
 use Rattle.call_plans.specs.declared.plans.Plan.{Plan}
 
--- a name of this number, which is to lead to any capability, to a root, or to one of this kind
-abbrev pub any_cap : ℕ → Name
-any_cap n = record { number = n; wanted = Any }
+-- a name of this number, which is to lead to any capability, and needs these rights of it
+abbrev pub any_cap : ℕ → ℕ → Name
+any_cap needs n = record { number = n; wanted = Any; needs = record { 0 = needs } }
 
+-- a name of this number, which is to lead to a root, or to a capability of this kind, to be used
 abbrev pub a_root : ℕ → Name
-a_root n = record { number = n; wanted = Root }
+a_root n = record { number = n; wanted = Root; needs = record { 0 = right_to_use } }
 
 abbrev pub of_kind : Kind → ℕ → Name
-of_kind kind n = record { number = n; wanted = Only kind }
+of_kind kind n = record { number = n; wanted = Only kind; needs = record { 0 = right_to_use } }
 
--- a name of this number, which is to lead to a leaf of the kind that the first name's root takes
+-- a name of this number, which is to lead to a leaf of the kind that the first name's root takes, to be used
 abbrev pub a_leaf : ℕ → Name
-a_leaf n = record { number = n; wanted = LeafOf First }
+a_leaf n = record { number = n; wanted = LeafOf First; needs = record { 0 = right_to_use } }
 
 -- a call with these names that fills the free place of this number in the table to which a name leads, acquiring so many counts
 abbrev pub fills : List Name → Nth → ℕ → ℕ → Plan
@@ -65,8 +67,8 @@ plan_of_make what r t b = fills (of_kind kind.Range r ∷ of_kind kind.Table t �
 
 -- the plan of a call
 abbrev pub plan_for : Call → Plan
-plan_for (Look a) = names_alone (any_cap a ∷ []) 0 at.LeafEntry
-plan_for (Copy a t b) = fills (any_cap a ∷ of_kind kind.Table t ∷ []) Second b 1
+plan_for (Look a) = names_alone (any_cap neither a ∷ []) 0 at.LeafEntry
+plan_for (Copy a t b rights) = fills (any_cap right_to_copy a ∷ of_kind kind.Table t ∷ []) Second b 1
 plan_for (Remove t b) = removes (of_kind kind.Table t) (Under First b)
 plan_for (Grow t i l) =
     record { names = a_root t ∷ a_leaf l ∷ []; target = Free (InRoot First i); pins = 1; decides = at.Target }

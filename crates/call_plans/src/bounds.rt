@@ -56,7 +56,12 @@ pub fn act_steps(call: &Call, cores: u32) -> u32
 {
     match *call {
         Call::Look { a: _ } | Call::Touch { v: _ } => 0,
-        Call::Copy { a: _, t: _, b: _ } => 3 + cores,
+        Call::Copy {
+            a: _,
+            t: _,
+            b: _,
+            rights: _,
+        } => 3 + cores,
         Call::Remove { t: _, b: _ } | Call::Shrink { t: _, i: _ } | Call::Unmap { p: _, v: _ } => 6,
         Call::Grow { t: _, i: _, l: _ } => 3 + 2 * cores,
         Call::Retype { r: _, f: _, k } => retype_steps(k, cores),

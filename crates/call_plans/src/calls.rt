@@ -9,7 +9,7 @@ ghost use Rattle.call_plans.specs.PlanOf.{on_two_tcaps, plan_of_retype, plan_of_
 ghost use Rattle.call_plans.specs.GoesBy.{GoesBy, own_pages};
 
 use crate::plans::{Decides, Name, Names, Nth, Plan, Spot, Target, Wanted};
-use spk_nums::{Call, CapId, FrameKind, Kind, Make};
+use spk_nums::{Call, CapId, FrameKind, Kind, Make, Rights};
 
 /// The plan of a call. The call's rule goes by it in every state: it looks up these names in this order and then this target,
 /// and asks nothing else of what they lead to before its own causes.
@@ -19,9 +19,13 @@ pub fn plan_of(call: &Call) -> Plan
     ensures goes { (s : State) (c : ℕ) → GoesBy (own_pages s c) result (rule_of s c call.now) }
 {
     match *call {
-        Call::Look { a } => names_alone(Names::one(any_cap(a)), 0, Decides::LeafEntry),
-        Call::Copy { a, t, b } => fills(
-            Names::two(any_cap(a), of_kind(Kind::Table, t)),
+        Call::Look { a } => names_alone(
+            Names::one(any_cap(Rights::none(), a)),
+            0,
+            Decides::LeafEntry,
+        ),
+        Call::Copy { a, t, b, rights: _ } => fills(
+            Names::two(any_cap(Rights::COPY, a), of_kind(Kind::Table, t)),
             Nth::Second,
             b.number(),
             1,
@@ -137,43 +141,47 @@ fn plan_of_make(what: Make, range: CapId, table: CapId, slot: CapId) -> Plan
     }
 }
 
-// A name that is to lead to any capability.
-fn any_cap(number: CapId) -> Name
-    ensures { result ≡ any_cap number }
+// A name that is to lead to any capability, and needs these rights of it.
+fn any_cap(needs: Rights, number: CapId) -> Name
+    ensures { result ≡ any_cap needs.0 number }
 {
     Name {
         number,
         wanted: Wanted::Any,
+        needs,
     }
 }
 
-// A name that is to lead to a root.
+// A name that is to lead to a root, to be used.
 fn a_root(number: CapId) -> Name
     ensures { result ≡ a_root number }
 {
     Name {
         number,
         wanted: Wanted::Root,
+        needs: Rights::USE,
     }
 }
 
-// A name that is to lead to a leaf of the kind that the first name's root takes.
+// A name that is to lead to a leaf of the kind that the first name's root takes, to be used.
 fn a_leaf(number: CapId) -> Name
     ensures { result ≡ a_leaf number }
 {
     Name {
         number,
         wanted: Wanted::LeafOf { root: Nth::First },
+        needs: Rights::USE,
     }
 }
 
-// A name that is to lead to a capability of this kind.
+// A name that is to lead to a capability of this kind, to be used.
 fn of_kind(kind: Kind, number: CapId) -> Name
     ensures { result ≡ of_kind kind number }
 {
     Name {
         number,
         wanted: Wanted::Only { kind },
+        needs: Rights::USE,
     }
 }
 

@@ -5,7 +5,7 @@ ghost use Rattle.call_plans.specs.Plans.{head, index_of, at_place, kind_of_spot,
 ghost use Rattle.call_plans.specs.After.{names_after};
 
 use crate::found::Caps;
-use spk_nums::{CapId, EntryNo, Kind, PageNo};
+use spk_nums::{CapId, EntryNo, Kind, PageNo, Rights};
 use std::marker::Model;
 
 /// One of the names of a call, in their order.
@@ -30,13 +30,15 @@ pub enum Wanted {
     LeafOf { root: Nth },
 }
 
-/// A number of the caller's own table, and what it is to lead to.
+/// A number of the caller's own table, what it is to lead to, and the rights that are needed of that.
 #[derive(Clone, Copy, PartialEq, Eq, Debug)]
 pub struct Name {
     /// The number; one past 4,095 leads to no slot.
     pub number: CapId,
     /// What is wanted there.
     pub wanted: Wanted,
+    /// The rights that are needed of it.
+    pub needs: Rights,
 }
 
 /// The names of a call in the order in which they are looked up, at most four; contracts see their list.
@@ -169,11 +171,12 @@ impl Nth {
 // A cell that holds no name.
 #[inline]
 fn blank() -> Name
-    ensures { result ≡ record { number = 0; wanted = Any } }
+    ensures { result ≡ record { number = 0; wanted = Any; needs = record { 0 = 0 } } }
 {
     Name {
         number: CapId::new(0),
         wanted: Wanted::Any,
+        needs: Rights::none(),
     }
 }
 

@@ -2,7 +2,7 @@
 
 use crate::plans::{Decides, TargetKind};
 use crate::{bound, plan_of};
-use spk_nums::{Call, CapId, EntryNo, FrameArg, FrameKind, Make, PageNo};
+use spk_nums::{Call, CapId, EntryNo, FrameArg, FrameKind, Make, PageNo, Rights};
 
 // A call's names, target, counts, deciding step, and bound on a machine of 2 cores.
 fn row(call: Call) -> (u8, TargetKind, u8, Decides, u32) {
@@ -43,7 +43,15 @@ fn calls_have_their_plans(rt: HostRuntime) {
     let root = TargetKind::Root;
     let rows = [
         (Call::Look { a }, (1, nowhere, 0, Decides::LeafEntry, 5)),
-        (Call::Copy { a, t, b }, (2, place, 1, Decides::Target, 14)),
+        (
+            Call::Copy {
+                a,
+                t,
+                b,
+                rights: Rights::both(),
+            },
+            (2, place, 1, Decides::Target, 14),
+        ),
         (Call::Remove { t, b }, (1, place, 1, Decides::Draw, 13)),
         (Call::Grow { t, i, l: a }, (2, root, 1, Decides::Target, 15)),
         (Call::Shrink { t, i }, (1, root, 1, Decides::Draw, 12)),

@@ -3,7 +3,7 @@
 use crate::formula::formula_of;
 use crate::plan_words::{NameWords, step_words, target_words};
 use call_plans::plan_of;
-use spk_nums::{Call, CapId, EntryNo, FrameArg, FrameKind, Make, PageFlags, PageNo};
+use spk_nums::{Call, CapId, EntryNo, FrameArg, FrameKind, Make, PageFlags, PageNo, Rights};
 use std::fmt;
 
 /// What stands above the rows.
@@ -75,10 +75,11 @@ pub fn rows() -> [Row; 25] {
                 a: cap(0),
                 t: cap(1),
                 b: cap(20),
+                rights: Rights::both(),
             },
             "copy A T B",
             "scan of the cores, the count acquired, compare of the target, commit",
-            "`no-slot`, `empty`, `wrong-cap`, `occupied`, `quiescing e`, `raced`",
+            "`no-slot`, `empty`, `wrong-cap`, `no-right`, `occupied`, `quiescing e`, `raced`",
         ),
         row_of(
             Call::Remove {
@@ -87,7 +88,7 @@ pub fn rows() -> [Row; 25] {
             },
             "remove T B",
             "the count acquired, compare of the target, draw, store of the target, commit",
-            "`no-slot`, `empty`, `wrong-cap`, `raced`",
+            "`no-slot`, `empty`, `wrong-cap`, `no-right`, `raced`",
         ),
         row_of(
             Call::Grow {
@@ -97,7 +98,7 @@ pub fn rows() -> [Row; 25] {
             },
             "grow T I L",
             "scan of the cores, of a page table also of the flushes, the count acquired, compare of the target, commit",
-            "`no-slot`, `empty`, `wrong-cap`, `occupied`, `quiescing e`, `unflushed e`, `raced`",
+            "`no-slot`, `empty`, `wrong-cap`, `no-right`, `occupied`, `quiescing e`, `unflushed e`, `raced`",
         ),
         row_of(
             Call::Shrink {
@@ -106,13 +107,13 @@ pub fn rows() -> [Row; 25] {
             },
             "shrink T I",
             "as `remove`",
-            "`no-slot`, `empty`, `wrong-cap`, `raced`",
+            "`no-slot`, `empty`, `wrong-cap`, `no-right`, `raced`",
         ),
         row_of(
             retype(FrameKind::User),
             "retype R F user",
             "load and compare of the frame's word",
-            "`no-slot`, `empty`, `wrong-cap`, `out-of-range`, `frame-kind`, `raced`",
+            "`no-slot`, `empty`, `wrong-cap`, `no-right`, `out-of-range`, `frame-kind`, `raced`",
         ),
         row_of(
             retype(FrameKind::Kernel),
@@ -124,13 +125,13 @@ pub fn rows() -> [Row; 25] {
             retype(FrameKind::Untyped),
             "retype R F untyped",
             "load of the frame's word and compare that marks it; load and compare of each counter; scan of the cores, of a frame that translations reach also of the flushes; loads of the object; the counts of what it names acquired; draw; commits, store of each counter, store of the frame's word",
-            "`no-slot`, `empty`, `wrong-cap`, `out-of-range`, `frame-kind`, `referenced k`, `quiescing e`, `unflushed e`, `not-empty`, `raced`",
+            "`no-slot`, `empty`, `wrong-cap`, `no-right`, `out-of-range`, `frame-kind`, `referenced k`, `quiescing e`, `unflushed e`, `not-empty`, `raced`",
         ),
         row_of(
             made(Make::Table),
             "make O R F T B",
             "scan of the cores, load of the frame's word and compare that marks it, the count acquired, 64 stores, compare of the target, store of the frame's word, commit",
-            "`no-slot`, `empty`, `wrong-cap`, `occupied`, `quiescing e`, `out-of-range`, `frame-kind`, `raced`",
+            "`no-slot`, `empty`, `wrong-cap`, `no-right`, `occupied`, `quiescing e`, `out-of-range`, `frame-kind`, `raced`",
         ),
         row_of(
             made(Make::Thread { comp: cap(3) }),
@@ -167,7 +168,7 @@ pub fn rows() -> [Row; 25] {
             },
             "map P V R F W",
             "scan of the cores and of the flushes, the count acquired, load of the frame's word, compare of the target, commit",
-            "`no-slot`, `empty`, `wrong-cap`, `occupied`, `quiescing e`, `unflushed e`, `out-of-range`, `frame-kind`, `raced`",
+            "`no-slot`, `empty`, `wrong-cap`, `no-right`, `occupied`, `quiescing e`, `unflushed e`, `out-of-range`, `frame-kind`, `raced`",
         ),
         row_of(
             Call::Unmap {
@@ -176,7 +177,7 @@ pub fn rows() -> [Row; 25] {
             },
             "unmap P V",
             "as `remove`",
-            "`no-slot`, `empty`, `wrong-cap`, `raced`",
+            "`no-slot`, `empty`, `wrong-cap`, `no-right`, `raced`",
         ),
         row_of(
             Call::Touch { v: PageNo::new(0) },
@@ -198,19 +199,19 @@ pub fn rows() -> [Row; 25] {
             },
             "gate C T B",
             "before the target load of the component's word; then as `copy`",
-            "`no-slot`, `empty`, `wrong-cap`, `occupied`, `quiescing e`, `raced`",
+            "`no-slot`, `empty`, `wrong-cap`, `no-right`, `occupied`, `quiescing e`, `raced`",
         ),
         row_of(
             Call::Kill { c: cap(3) },
             "kill C",
             "load of the component's word, load of the liveness number's word, the count acquired, compare that closes the number, draw, store of the dead number, commit",
-            "`no-slot`, `empty`, `wrong-cap`, `dead`, `raced`",
+            "`no-slot`, `empty`, `wrong-cap`, `no-right`, `dead`, `raced`",
         ),
         row_of(
             Call::Call { g: cap(20) },
             "call G",
             "loads of three words of the component, the count acquired, load of the liveness number's word, store of the stack, store of the thread's word, commit",
-            "`no-slot`, `empty`, `wrong-cap`, `deep`, `dead`, `raced`",
+            "`no-slot`, `empty`, `wrong-cap`, `no-right`, `deep`, `dead`, `raced`",
         ),
         row_of(
             Call::Ret,
@@ -225,7 +226,7 @@ pub fn rows() -> [Row; 25] {
             },
             "switch H Q",
             "load of the new thread's word and compare that claims it, load of its stack and of two words of its component, up to four counts acquired, store of the old thread as claimed, draw, store of the new thread as running and of the old as idle, commits",
-            "`no-slot`, `empty`, `wrong-cap`, `running e`, `raced`",
+            "`no-slot`, `empty`, `wrong-cap`, `no-right`, `running e`, `raced`",
         ),
         row_of(
             Call::Tick { n: 1 },
@@ -241,7 +242,7 @@ pub fn rows() -> [Row; 25] {
             },
             "transfer A B M",
             "load of head A and compare that marks it, 8 loads of its list, load of head B, 8 loads of its list, compare of head B, store of head A",
-            "`no-slot`, `empty`, `wrong-cap`, `same`, `short b`, `unlike`, `raced`",
+            "`no-slot`, `empty`, `wrong-cap`, `no-right`, `same`, `short b`, `unlike`, `raced`",
         ),
         row_of(
             Call::Delegate {
@@ -251,7 +252,7 @@ pub fn rows() -> [Row; 25] {
             },
             "delegate A B M",
             "as `transfer`, but the compare marks head B; then 8 stores of its list, store of head B, store of head A",
-            "`no-slot`, `empty`, `wrong-cap`, `same`, `short b`, `too-many`, `raced`",
+            "`no-slot`, `empty`, `wrong-cap`, `no-right`, `same`, `short b`, `too-many`, `raced`",
         ),
         row_of(
             Call::Test {
@@ -260,7 +261,7 @@ pub fn rows() -> [Row; 25] {
             },
             "test A B",
             "as `transfer`, but head B is loaded a second time in place of its compare",
-            "`no-slot`, `empty`, `wrong-cap`, `same`, `raced`",
+            "`no-slot`, `empty`, `wrong-cap`, `no-right`, `same`, `raced`",
         ),
     ]
 }
