@@ -137,22 +137,23 @@ module _ (setup : Setting) (lim : IsSetting setup) where
       let n = lim.most_cores in
       choose CapFits (nat_lt i 4) _ _ (λ e. tt) λ e.
       choose CapFits (nat_lt i (4 + setup.cores)) _ _
-      (λ e. (omega (arith, n, ltb-true i (4 + setup.cores) e), omega arith, omega arith)) λ e.
+      (λ e. (omega (arith, n, ltb-true i (4 + setup.cores) e), omega arith, omega arith, omega arith, omega arith)) λ e.
       choose CapFits (nat_lt i 12) _ _ (λ e. tt) λ e.
       choose CapFits (nat_lt i (12 + setup.cores)) _ _
-      (λ e. (omega (arith, n, ltb-true i (12 + setup.cores) e), omega arith, omega arith)) λ e. tt
+      (λ e. (omega (arith, n, ltb-true i (12 + setup.cores) e), omega arith, omega arith, omega arith, omega arith)) λ e. tt
 
   cap_fits : (i : ℕ) → CapFits (start_cap setup i)
   cap_fits i =
       let n = lim.most_cores in let most = lim.most_frames in
-      choose CapFits (i == 0) _ _ (λ e. (omega (arith, n), omega arith, omega (arith, most))) λ e.
-      choose CapFits (i == 1) _ _ (λ e. (omega arith, omega arith, omega arith)) λ e.
-      choose CapFits (i == 2) _ _ (λ e. (omega arith, omega arith, omega arith)) λ e.
-      choose CapFits (i == 3) _ _ (λ e. (omega arith, omega arith, omega arith)) λ e. core_fits i
+      choose CapFits (i == 0) _ _ (λ e. (omega (arith, n), omega arith, omega (arith, most), omega arith, omega arith)) λ e.
+      choose CapFits (i == 1) _ _ (λ e. (omega arith, omega arith, omega arith, omega arith, omega arith)) λ e.
+      choose CapFits (i == 2) _ _ (λ e. (omega arith, omega arith, omega arith, omega arith, omega arith)) λ e.
+      choose CapFits (i == 3) _ _ (λ e. (omega arith, omega arith, omega arith, omega arith, omega arith)) λ e. core_fits i
 
   place_fits : (f i : ℕ) → HasEntry (start_place setup f i)
   place_fits f i =
-      choose HasEntry (f == 0) _ _ (λ e. choose HasEntry (i == 0) _ _ (λ e. (omega arith, omega arith, omega arith)) (λ e. tt)) λ e.
+      choose HasEntry (f == 0) _ _
+      (λ e. choose HasEntry (i == 0) _ _ (λ e. (omega arith, omega arith, omega arith, omega arith, omega arith)) (λ e. tt)) λ e.
       choose HasEntry (f == 1) _ _ (λ e. with_fits (start_cap setup i) (cap_fits i)) (λ e. tt)
 
   objects : (f : ℕ) → AreFrame (start_frame setup f) (start_place setup f) (λ i. boot_frame (start_frame setup f) (start_place setup f) i)

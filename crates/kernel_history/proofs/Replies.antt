@@ -1,6 +1,7 @@
 -- Each reply, in a state in which the call relation permits it and in one in which it does not. The checker computes both.
 use Rattle.std.proofs.Common.{◌⊎◌, inl, inr, refl, ℕ, arith}
 use Rattle.std.specs.Prelude.{zero, suc, ◌+◌, List, [], ◌∷◌}
+use Rattle.spk_nums.specs.Rights.{right_to_copy, whole_copy}
 use Rattle.spk_nums.specs.Setting.{Setting}
 use Rattle.spk_nums.specs.declared.grants.Grant.{Grant}
 use Rattle.spk_nums.specs.declared.kinds.FrameKind.TheVariants as frame_kind
@@ -46,11 +47,11 @@ at_start = behind []
 done : Reply
 done = reply.Ok Nothing
 
-copies : MayReply at_start 0 (call.Copy 0 1 20) done
+copies : MayReply at_start 0 (whole_copy 0 1 20) done
 unfolding grant machine behind at_start done
 copies = (refl, refl)
 
-copies_nothing : MayReply at_start 0 (call.Copy 63 1 20) done → ⊥
+copies_nothing : MayReply at_start 0 (whole_copy 63 1 20) done → ⊥
 unfolding grant machine behind at_start done
 copies_nothing may = may.1
 
@@ -70,31 +71,43 @@ is_held : MayReply at_start 0 (call.Look 0) reply.Empty → ⊥
 unfolding grant machine behind at_start
 is_held may = neither (λ x. absurd (cc)) none may.1
 
-no_table : MayReply at_start 0 (call.Copy 0 3 20) reply.WrongCap
+no_table : MayReply at_start 0 (whole_copy 0 3 20) reply.WrongCap
 unfolding grant machine behind at_start
 no_table = (refl, inr (inl refl))
 
-is_table : MayReply at_start 0 (call.Copy 0 1 20) reply.WrongCap → ⊥
+is_table : MayReply at_start 0 (whole_copy 0 1 20) reply.WrongCap → ⊥
 unfolding grant machine behind at_start
 is_table may = neither (λ x. absurd (cc)) (neither (λ x. absurd (cc)) (neither none none)) may.1
 
-is_occupied : MayReply at_start 0 (call.Copy 0 1 2) reply.Occupied
+-- A copy of the range that may be copied, and not used.
+copied_range : List Call
+copied_range = call.Copy 0 1 20 (record { 0 = right_to_copy }) ∷ []
+
+lacks_right : MayReply (behind copied_range) 0 (call.Retype 20 8 frame_kind.User) reply.NoRight
+unfolding grant machine behind copied_range
+lacks_right = (refl, inl (refl, refl))
+
+has_right : MayReply (behind copied_range) 0 (whole_copy 20 1 21) reply.NoRight → ⊥
+unfolding grant machine behind copied_range
+has_right may = neither (λ x. let lacks = x.1 in absurd (cc)) (neither (λ x. let lacks = x.1 in absurd (cc)) (neither none none)) may.1
+
+is_occupied : MayReply at_start 0 (whole_copy 0 1 2) reply.Occupied
 unfolding grant machine behind at_start
 is_occupied = (refl, inr (inr (inl refl)))
 
-is_vacant : MayReply at_start 0 (call.Copy 0 1 20) reply.Occupied → ⊥
+is_vacant : MayReply at_start 0 (whole_copy 0 1 20) reply.Occupied → ⊥
 unfolding grant machine behind at_start
 is_vacant may = neither none (neither none (neither (λ x. absurd (cc)) none)) may.1
 
 -- Core 1 is in a call in which core 0 fills a place and removes it; core 0 is in a further call.
 removed_meanwhile : State
-removed_meanwhile = entered (plain_steps (entered (start (machine 0 1 4194304 65535)) 1) 0 (call.Copy 0 1 20 ∷ call.Remove 1 20 ∷ [])) 0
+removed_meanwhile = entered (plain_steps (entered (start (machine 0 1 4194304 65535)) 1) 0 (whole_copy 0 1 20 ∷ call.Remove 1 20 ∷ [])) 0
 
-waits : MayReply removed_meanwhile 0 (call.Copy 0 1 20) (reply.Quiescing 1)
+waits : MayReply removed_meanwhile 0 (whole_copy 0 1 20) (reply.Quiescing 1)
 unfolding grant machine removed_meanwhile
 waits = (refl, inr (inr (inl (record { is_core = omega arith; other = λ e. omega (arith, e); is_inside = refl; not_passed = refl }))))
 
-waits_for_none : MayReply (behind (call.Copy 0 1 20 ∷ call.Remove 1 20 ∷ [])) 0 (call.Copy 0 1 20) (reply.Quiescing 1) → ⊥
+waits_for_none : MayReply (behind (whole_copy 0 1 20 ∷ call.Remove 1 20 ∷ [])) 0 (whole_copy 0 1 20) (reply.Quiescing 1) → ⊥
 unfolding grant machine behind
 waits_for_none may = neither none (neither none (neither (λ x. let inside = x.is_inside in absurd (cc)) none)) may.1
 
@@ -152,7 +165,7 @@ is_referenced_once may =
 with_entry : List Call
 with_entry =
     call.Retype 0 9 frame_kind.Kernel ∷ call.Make make.Leaf 0 9 1 20
-    ∷ call.Grow 1 1 20 ∷ call.Copy 0 1 64 ∷ call.Shrink 1 1 ∷ call.Remove 1 20 ∷ []
+    ∷ call.Grow 1 1 20 ∷ whole_copy 0 1 64 ∷ call.Shrink 1 1 ∷ call.Remove 1 20 ∷ []
 
 is_not_empty : MayReply (behind with_entry) 0 (call.Retype 0 9 frame_kind.Untyped) reply.NotEmpty
 unfolding grant machine behind with_entry sum_below node_refs refs holds_nothing
@@ -274,19 +287,19 @@ no_calls : State
 no_calls = entered (start (machine 0 1 0 65535)) 0
 
 -- `raced` and `busy` are permitted of each call that is counted; what justifies them is said of the steps of the call.
-may_be_raced : MayReply at_start 0 (call.Copy 0 1 20) reply.Raced
+may_be_raced : MayReply at_start 0 (whole_copy 0 1 20) reply.Raced
 unfolding grant machine behind at_start
 may_be_raced = (refl, _)
 
-not_raced : MayReply no_calls 0 (call.Copy 0 1 20) reply.Raced → ⊥
+not_raced : MayReply no_calls 0 (whole_copy 0 1 20) reply.Raced → ⊥
 unfolding grant machine no_calls
 not_raced may = let spent = may.0 in absurd (cc)
 
-may_be_busy : MayReply at_start 0 (call.Copy 0 1 20) (reply.Busy 1)
+may_be_busy : MayReply at_start 0 (whole_copy 0 1 20) (reply.Busy 1)
 unfolding grant machine behind at_start
 may_be_busy = (refl, _)
 
-not_busy : MayReply no_calls 0 (call.Copy 0 1 20) (reply.Busy 1) → ⊥
+not_busy : MayReply no_calls 0 (whole_copy 0 1 20) (reply.Busy 1) → ⊥
 unfolding grant machine no_calls
 not_busy may = let spent = may.0 in absurd (cc)
 

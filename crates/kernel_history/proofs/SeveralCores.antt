@@ -1,6 +1,7 @@
 -- Worked examples of several cores, each a list of events with the replies that the relation permits there.
 use Rattle.std.proofs.Common.{inl, inr, refl, ℕ, arith}
 use Rattle.std.specs.Prelude.{List, [], ◌∷◌}
+use Rattle.spk_nums.specs.Rights.{whole_copy}
 use Rattle.spk_nums.specs.Capability.{cap_of}
 use Rattle.spk_nums.specs.Setting.{Setting}
 use Rattle.spk_nums.specs.declared.kinds.Kind.TheVariants as kind
@@ -47,24 +48,24 @@ abbrev flags : ℕ → PageFlags
 flags w = record { 0 = w }
 
 -- Both cores are ready to fill a place; the first wins, and the second has lost a race.
-race : Permitted (Returns 1 ∷ Returns 0 ∷ Decides 1 (call.Copy 0 1 20) reply.Raced
-    ∷ Decides 0 (call.Copy 0 1 20) done ∷ Enters 1 (call.Copy 0 1 20) ∷ Enters 0 (call.Copy 0 1 20) ∷ [])
+race : Permitted (Returns 1 ∷ Returns 0 ∷ Decides 1 (whole_copy 0 1 20) reply.Raced
+    ∷ Decides 0 (whole_copy 0 1 20) done ∷ Enters 1 (whole_copy 0 1 20) ∷ Enters 0 (whole_copy 0 1 20) ∷ [])
 unfolding two_cores
 race = ((tt, (refl, refl)), (refl, tt))
 
 -- One after the other, the second finds the place occupied.
-in_turn : Permitted (whole 1 (call.Copy 0 1 20) reply.Occupied (whole 0 (call.Copy 0 1 20) done []))
+in_turn : Permitted (whole 1 (whole_copy 0 1 20) reply.Occupied (whole 0 (whole_copy 0 1 20) done []))
 unfolding two_cores
 in_turn = ((tt, (refl, refl)), (refl, inr (inr (inl refl))))
 
 -- A removed place is filled again only when the core that was in a call at its removal has returned.
 removal_waits : Permitted (
-    whole 0 (call.Copy 0 1 20) done (
+    whole 0 (whole_copy 0 1 20) done (
     Returns 1 ∷ Decides 1 (call.Look 0) range
-    ∷ whole 0 (call.Copy 0 1 20) (reply.Quiescing 1) (
+    ∷ whole 0 (whole_copy 0 1 20) (reply.Quiescing 1) (
     whole 0 (call.Remove 1 20) done (
     Enters 1 (call.Look 0)
-    ∷ whole 0 (call.Copy 0 1 20) done []))))
+    ∷ whole 0 (whole_copy 0 1 20) done []))))
 unfolding two_cores
 removal_waits = (
   (
@@ -79,11 +80,11 @@ removal_waits = (
 
 -- A core that entered after the removal may be told to be waited for, too.
 removal_may_wait : Permitted (
-    whole 0 (call.Copy 0 1 20) done (
+    whole 0 (whole_copy 0 1 20) done (
     Returns 1 ∷ Decides 1 (call.Look 0) range
-    ∷ whole 0 (call.Copy 0 1 20) (reply.Quiescing 1) (
+    ∷ whole 0 (whole_copy 0 1 20) (reply.Quiescing 1) (
     Enters 1 (call.Look 0)
-    ∷ whole 0 (call.Remove 1 20) done (whole 0 (call.Copy 0 1 20) done []))))
+    ∷ whole 0 (call.Remove 1 20) done (whole 0 (whole_copy 0 1 20) done []))))
 unfolding two_cores
 removal_may_wait = (
   (
@@ -99,10 +100,10 @@ removal_may_wait = (
 -- A call that had looked a capability up before it was removed still copies it.
 still_copies : Permitted (
     whole 1 (call.Look 21) range (
-    Returns 1 ∷ Decides 1 (call.Copy 20 1 21) done
+    Returns 1 ∷ Decides 1 (whole_copy 20 1 21) done
     ∷ whole 0 (call.Remove 1 20) done (
-    Enters 1 (call.Copy 20 1 21)
-    ∷ whole 0 (call.Copy 0 1 20) done [])))
+    Enters 1 (whole_copy 20 1 21)
+    ∷ whole 0 (whole_copy 0 1 20) done [])))
 unfolding two_cores
 still_copies = ((((tt, (refl, refl)), (refl, refl)), (refl, refl)), (refl, refl))
 

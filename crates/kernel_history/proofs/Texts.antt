@@ -2,6 +2,7 @@
 -- forbids each.
 use Rattle.std.proofs.Common.{◌≡◌, ◌≢◌, ◌⊎◌, inl, inr, ℕ, ◌∷◌, [], Some, None, refl, sym, subst, arith, IsTrue}
 use Rattle.std.proofs.lemmas.Bool.{false≢true, ne_eqb}
+use Rattle.spk_nums.specs.Rights.{whole_copy}
 use Rattle.spk_nums.specs.Setting.{Setting}
 use Rattle.spk_nums.specs.declared.calls.Call.{Call}
 use Rattle.spk_nums.specs.declared.calls.Call.TheVariants as call
@@ -41,7 +42,7 @@ same_call j k h = cc
 -- `raced` though only a `look` came between: core 0 loads liveness number 5, core 1's `look` stores 7 there, and core 0 loads it again.
 
 looked : Trace
-looked = enters 1 (call.Look 0) ∷ makes 0 (LoadOf (LiveAt 5)) 0 ∷ enters 0 (call.Copy 0 1 20) ∷ []
+looked = enters 1 (call.Look 0) ∷ makes 0 (LoadOf (LiveAt 5)) 0 ∷ enters 0 (whole_copy 0 1 20) ∷ []
 
 raced : Trace
 raced = decides 0 (LoadOf (LiveAt 5)) 7 reply.Raced ∷ makes 1 (StoreOf (LiveAt 5) 7) 0 ∷ looked
@@ -58,12 +59,12 @@ no_copy_loads : KeepsDiscipline two_cores raced → ⊥
 unfolding looked raced
 no_copy_loads keeps =
     let step = keeps.1 in
-    false≢true (subst (λ k. IsTrue (looks_at_numbers k)) (sym (same_call (call.Copy 0 1 20) step.call step.is_of)) step.moves)
+    false≢true (subst (λ k. IsTrue (looks_at_numbers k)) (sym (same_call (whole_copy 0 1 20) step.call step.is_of)) step.moves)
 
 -- `busy 1` though core 1 touched nothing: core 0 stores the mark of core 1 in place 20 while core 1 is in a `look`, and loads it.
 
 inside : Trace
-inside = enters 0 (call.Copy 0 1 20) ∷ enters 1 (call.Look 0) ∷ []
+inside = enters 0 (whole_copy 0 1 20) ∷ enters 1 (call.Look 0) ∷ []
 
 marked : Trace
 marked = makes 0 (StoreOf (EntryAt 1 20) 6) 0 ∷ inside
@@ -83,7 +84,7 @@ no_mark_of_another keeps = neither (λ h. let was : None ≡ Some 1 = h in
 
 -- and nobody is held up by a core that has put no mark.
 not_held_up : IsHeldUp two_cores marked held_up (state_before two_cores marked held_up)
-    (rule_of (state_before two_cores marked held_up) 0 (call.Copy 0 1 20)) 1 → ⊥
+    (rule_of (state_before two_cores marked held_up) 0 (whole_copy 0 1 20)) 1 → ⊥
 unfolding two_cores inside marked held_up
 not_held_up held = never held.has_marked
   where
@@ -98,12 +99,12 @@ not_held_up held = never held.has_marked
 
 copied : Trace
 copied = makes 0 (LoadOf (EntryAt 0 0)) 101 ∷ makes 0 (LoadOf (EntryAt 1 63)) 0
-    ∷ makes 0 (LoadOf (EntryAt 0 0)) 101 ∷ enters 0 (call.Copy 63 0 20) ∷ []
+    ∷ makes 0 (LoadOf (EntryAt 0 0)) 101 ∷ enters 0 (whole_copy 63 0 20) ∷ []
 
 wrong : Step
 wrong = decides 0 (LoadOf (EntryAt 1 0)) 0 reply.WrongCap
 
-may_be_wrong : MayReply (state_before two_cores copied wrong) 0 (call.Copy 63 0 20) reply.WrongCap
+may_be_wrong : MayReply (state_before two_cores copied wrong) 0 (whole_copy 63 0 20) reply.WrongCap
 unfolding two_cores copied wrong
 may_be_wrong = (refl, inr (inl refl))
 

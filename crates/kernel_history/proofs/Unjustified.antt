@@ -6,6 +6,7 @@ use Rattle.std.specs.Prelude.{is_some}
 use Rattle.std.specs.List.{list_any}
 use Rattle.std.proofs.lemmas.Bool.{and_parts, and_from, eq-eqb, eqb-true, false≢true}
 use Rattle.std.proofs.lemmas.List.Elements.{All-nil, All-cons, All-head, All-tail}
+use Rattle.spk_nums.specs.Rights.{whole_copy}
 use Rattle.spk_nums.specs.declared.calls.Call.{Call}
 use Rattle.spk_nums.specs.declared.calls.Call.TheVariants as call
 use Rattle.spk_nums.specs.declared.steps.How.{How}
@@ -130,7 +131,7 @@ filled_legal = (
     ),
     may_follow refl refl tt tt tt,
   ),
-  may_follow refl refl tt (carried_out {k = call.Copy 0 1 13} refl (refl, refl) refl) tt,
+  may_follow refl refl tt (carried_out {k = whole_copy 0 1 13} refl (refl, refl) refl) tt,
 )
 
 again_legal : IsLegal two_cores fills_again
@@ -138,7 +139,7 @@ unfolding two_cores range_word removed filled fills_again word_of_entry
 again_legal = (
   (
     (
-      (filled_legal, may_follow refl refl tt tt (record { call = call.Copy 0 1 13; was_decided = refl })),
+      (filled_legal, may_follow refl refl tt tt (record { call = whole_copy 0 1 13; was_decided = refl })),
       may_follow refl refl (refl, tt) tt tt,
     ),
     may_follow refl refl (refl, tt) tt tt,
@@ -170,11 +171,11 @@ between_legal = (
 
 -- An `ok` off its way.
 
-ok_off : IsJustified two_cores half_named (deciding 0 (CompareOf (EntryAt 1 20) 0 range_word) done half_named) (call.Copy 0 1 20) done → ⊥
+ok_off : IsJustified two_cores half_named (deciding 0 (CompareOf (EntryAt 1 20) 0 range_word) done half_named) (whole_copy 0 1 20) done → ⊥
 unfolding two_cores half_named
 ok_off reached = let inside : 1 < 6 = omega arith in false≢true (reached 1 (slot 0 0) inside)
 
-ok_off_target : IsJustified two_cores named (deciding 0 (LoadOf (EntryAt 0 0)) done named) (call.Copy 0 1 20) done → ⊥
+ok_off_target : IsJustified two_cores named (deciding 0 (LoadOf (EntryAt 0 0)) done named) (whole_copy 0 1 20) done → ⊥
 unfolding two_cores named
 ok_off_target reached = let inside : 5 < 6 = omega arith in false≢true (reached 5 (slot 0 0) inside)
 
@@ -200,7 +201,7 @@ never_removed (PlaceOf f i) asked was =
     place : WasBefore (IsRemoved (PlaceOf 1 13)) two_cores fills_again again_waits → ⊥
     place = neither none (neither none (neither none none))
 
-no_waiting : IsJustified two_cores fills_again again_waits (call.Copy 0 1 13) (reply.Quiescing 1) → ⊥
+no_waiting : IsJustified two_cores fills_again again_waits (whole_copy 0 1 13) (reply.Quiescing 1) → ⊥
 unfolding two_cores range_word removed filled fills_again again_waits word_of_entry
 no_waiting waits = never_removed waits.thing waits.asked waits.was_removed
 
@@ -208,20 +209,20 @@ pub justification_refuses : JustificationRefuses
 unfolding two_cores range_word mark_word named half_named marked_beside name_removed other_enters clock_raised removed filled fills_again
     again_waits word_of_entry entry_of_word word_of_core
 justification_refuses = record {
-  ok_off_the_way = unjustified 0 (CompareOf (EntryAt 1 20) 0 range_word) (call.Copy 0 1 20) done half_named
+  ok_off_the_way = unjustified 0 (CompareOf (EntryAt 1 20) 0 range_word) (whole_copy 0 1 20) done half_named
       (half_legal, may_follow refl refl tt tt tt) refl refl refl (refl, refl) ok_off;
-  ok_off_its_target = unjustified 0 (LoadOf (EntryAt 0 0)) (call.Copy 0 1 20) done named
+  ok_off_its_target = unjustified 0 (LoadOf (EntryAt 0 0)) (whole_copy 0 1 20) done named
       (named_legal, may_follow refl refl tt tt tt) refl refl refl (refl, refl) ok_off_target;
-  busy_beside_the_way = unjustified 0 (LoadOf (EntryAt 1 21)) (call.Copy 0 1 20) (reply.Busy 1) marked_beside
+  busy_beside_the_way = unjustified 0 (LoadOf (EntryAt 1 21)) (whole_copy 0 1 20) (reply.Busy 1) marked_beside
       (beside_legal, may_follow refl refl tt tt tt) refl refl refl (refl, tt) (λ held. false≢true (held.on_way refl));
-  raced_for_a_name = unjustified 0 (LoadOf (EntryAt 1 0)) (call.Copy 0 1 20) reply.Raced name_removed
+  raced_for_a_name = unjustified 0 (LoadOf (EntryAt 1 0)) (whole_copy 0 1 20) reply.Raced name_removed
       (name_legal, may_follow refl refl tt tt tt) refl refl refl (refl, tt)
       (λ lost. neither (λ target. let place : 20 ≡ 0 = target.1 in omega (arith, place)) (λ head. head.0) lost.at);
-  raced_for_a_core = unjustified 0 (LoadOf (CoreAt 1)) (call.Copy 0 1 20) reply.Raced other_enters
+  raced_for_a_core = unjustified 0 (LoadOf (CoreAt 1)) (whole_copy 0 1 20) reply.Raced other_enters
       (other_legal, may_follow refl refl tt tt tt) refl refl refl (refl, tt) (λ lost. lost.at);
-  raced_for_the_clock = unjustified 0 (LoadOf ClockAt) (call.Copy 0 1 20) reply.Raced clock_raised
+  raced_for_the_clock = unjustified 0 (LoadOf ClockAt) (whole_copy 0 1 20) reply.Raced clock_raised
       (clock_legal, may_follow refl refl tt tt tt) refl refl refl (refl, tt) (λ lost. lost.at);
-  waits_for_nothing = unjustified 0 (LoadOf (EntryAt 1 13)) (call.Copy 0 1 13) (reply.Quiescing 1) fills_again
+  waits_for_nothing = unjustified 0 (LoadOf (EntryAt 1 13)) (whole_copy 0 1 13) (reply.Quiescing 1) fills_again
       (again_legal, may_follow refl refl tt tt tt) refl refl refl
       (refl, inr (inr (inl (record { is_core = omega arith; other = λ e. omega (arith, e); is_inside = refl; not_passed = refl }))))
       no_waiting;

@@ -17,7 +17,7 @@ use Rattle.kernel_history.specs.Marking.{marked_by}
 
 -- The entries of a node are changed by the calls that fill a place or remove what one holds.
 abbrev pub changes_places : Call → Bool
-changes_places (Copy a t b) = true
+changes_places (Copy a t b rights) = true
 changes_places (Remove t b) = true
 changes_places (Grow t i l) = true
 changes_places (Shrink t i) = true

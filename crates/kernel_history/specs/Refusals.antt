@@ -1,5 +1,6 @@
 -- What each permissive definition refuses: traces that break it, and keep the others.
 use Rattle.std.specs.Prelude.{◌≡◌, ◌<◌, ℕ, [], ◌∷◌, Some, None}
+use Rattle.spk_nums.specs.Rights.{whole_copy}
 use Rattle.spk_nums.specs.declared.kinds.FrameKind.TheVariants as frame_kind
 use Rattle.spk_nums.specs.declared.kinds.PageFlags.{PageFlags}
 use Rattle.spk_nums.specs.declared.steps.Item.{Item}
@@ -40,18 +41,18 @@ pub record DisciplineRefuses : Type 0 where
   -- a look that empties the place that it looks at
   pub look_changes_a_place : BreaksDiscipline (one_step (call.Look 0) (StoreOf (EntryAt 1 0) 0))
   -- a copy that writes a thread, a temporal capability or a component
-  pub copy_changes_a_thread : BreaksDiscipline (one_step (call.Copy 0 1 20) (StoreOf (EntryAt 4 1) 0))
-  pub copy_changes_a_budget : BreaksDiscipline (one_step (call.Copy 0 1 20) (StoreOf (EntryAt 6 0) 0))
+  pub copy_changes_a_thread : BreaksDiscipline (one_step (whole_copy 0 1 20) (StoreOf (EntryAt 4 1) 0))
+  pub copy_changes_a_budget : BreaksDiscipline (one_step (whole_copy 0 1 20) (StoreOf (EntryAt 6 0) 0))
   pub return_changes_a_component : BreaksDiscipline (one_step call.Ret (StoreOf (EntryAt 3 0) 1))
   -- a retype that writes in a frame that is untyped, of a user, or blank
   pub retype_writes_untyped : BreaksDiscipline (one_step (call.Retype 0 8 frame_kind.User) (StoreOf (EntryAt 8 0) 1))
   pub retype_writes_a_user_frame : BreaksDiscipline (goes 0 (StoreOf (EntryAt 8 0) 1) (retyped frame_kind.User 1))
   pub retype_writes_a_blank_frame : BreaksDiscipline (goes 0 (StoreOf (EntryAt 8 0) 1) (retyped frame_kind.Kernel 2))
   -- a copy that looks at what a frame is, and a map that changes it
-  pub copy_looks_at_a_frame : BreaksDiscipline (one_step (call.Copy 0 1 20) (LoadOf (FrameAt 1)))
+  pub copy_looks_at_a_frame : BreaksDiscipline (one_step (whole_copy 0 1 20) (LoadOf (FrameAt 1)))
   pub map_changes_a_frame : BreaksDiscipline (one_step (call.Map 2 0 0 8 no_flags) (StoreOf (FrameAt 8) 1))
   -- a copy that looks at a liveness number; a call through a gate, and a make of a leaf, that change one
-  pub copy_looks_at_a_number : BreaksDiscipline (one_step (call.Copy 0 1 20) (LoadOf (LiveAt 0)))
+  pub copy_looks_at_a_number : BreaksDiscipline (one_step (whole_copy 0 1 20) (LoadOf (LiveAt 0)))
   pub gate_changes_a_number : BreaksDiscipline (one_step (call.Call 0) (StoreOf (LiveAt 0) 0))
   pub leaf_changes_a_number : BreaksDiscipline (one_step (call.Make make.Leaf 0 8 1 20) (StoreOf (LiveAt 0) 0))
   -- a look that reads a count, and a tick that changes one
@@ -65,9 +66,9 @@ pub record DisciplineRefuses : Type 0 where
   pub clock_is_set : BreaksDiscipline (one_step (call.Remove 1 0) (StoreOf ClockAt 0))
   pub clock_jumps : BreaksDiscipline (one_step (call.Remove 1 0) (AddOf ClockAt 2))
   pub own_word_is_raised : BreaksDiscipline (one_step (call.Remove 1 0) (AddOf (CoreAt 0) 1))
-  pub copy_raises_the_clock : BreaksDiscipline (one_step (call.Copy 0 1 20) (AddOf ClockAt 1))
+  pub copy_raises_the_clock : BreaksDiscipline (one_step (whole_copy 0 1 20) (AddOf ClockAt 1))
   -- core 0 puts the mark of core 1
-  pub puts_the_mark_of_another : BreaksDiscipline (one_step (call.Copy 0 1 20) (StoreOf (EntryAt 1 20) (mark_word 1)))
+  pub puts_the_mark_of_another : BreaksDiscipline (one_step (whole_copy 0 1 20) (StoreOf (EntryAt 1 20) (mark_word 1)))
   -- core 0 fills the place that core 1 has marked
   pub fills_a_marked_place :
       BreaksDiscipline (goes 0 (StoreOf (EntryAt 1 21) range_word) marked_beside)
@@ -75,8 +76,8 @@ pub record DisciplineRefuses : Type 0 where
 -- A call counts references in the words of its own core, and a retype to untyped steps on all count words of its frame, and no other.
 pub record OwnCountsRefuse : Type 0 where
   -- a copy that reads another core's count of the object that it names, and one that changes it
-  pub reads_anothers : BreaksDiscipline (one_step (call.Copy 1 1 20) (LoadOf (CountAt 0 1)))
-  pub changes_anothers : BreaksDiscipline (one_step (call.Copy 1 1 20) (StoreOf (CountAt 0 1) 0))
+  pub reads_anothers : BreaksDiscipline (one_step (whole_copy 1 1 20) (LoadOf (CountAt 0 1)))
+  pub changes_anothers : BreaksDiscipline (one_step (whole_copy 1 1 20) (StoreOf (CountAt 0 1) 0))
   -- a retype to untyped that changes another core's count of another frame, and a retype to kernel that changes that of its frame
   pub untypes_another_frame : BreaksDiscipline (one_step (call.Retype 0 8 frame_kind.Untyped) (StoreOf (CountAt 0 1) 0))
   pub retypes_to_kernel : BreaksDiscipline (one_step (call.Retype 0 8 frame_kind.Kernel) (StoreOf (CountAt 8 1) 0))
@@ -91,7 +92,7 @@ pub record BreaksFootprint (t : Trace) : Type 0 where
 pub record FootprintsRefuse : Type 0 where
   pub look_reads_a_far_entry : BreaksFootprint (one_step (call.Look 0) (LoadOf (EntryAt 8 0)))
   pub map_reads_a_far_frame : BreaksFootprint (one_step (call.Map 2 0 0 8 no_flags) (LoadOf (FrameAt 9)))
-  pub copy_changes_a_far_count : BreaksFootprint (one_step (call.Copy 0 1 20) (StoreOf (CountAt 9 0) 0))
+  pub copy_changes_a_far_count : BreaksFootprint (one_step (whole_copy 0 1 20) (StoreOf (CountAt 9 0) 0))
   pub kill_reads_a_far_number : BreaksFootprint (one_step (call.Kill 3) (LoadOf (LiveAt 5)))
 
 -- A look of five steps is within its bound, and one more breaks it.
@@ -117,16 +118,16 @@ pub record Unjustified (c : ℕ) (m : Move) (k : Call) (r : Reply) (t : Trace) :
 
 pub record JustificationRefuses : Type 0 where
   -- a copy is carried out, though it has not reached the place of its first name, or its target
-  pub ok_off_the_way : Unjustified 0 (CompareOf (EntryAt 1 20) 0 range_word) (call.Copy 0 1 20) done half_named
-  pub ok_off_its_target : Unjustified 0 (LoadOf (EntryAt 0 0)) (call.Copy 0 1 20) done named
+  pub ok_off_the_way : Unjustified 0 (CompareOf (EntryAt 1 20) 0 range_word) (whole_copy 0 1 20) done half_named
+  pub ok_off_its_target : Unjustified 0 (LoadOf (EntryAt 0 0)) (whole_copy 0 1 20) done named
   -- a copy is held up by a mark in a place of the leaf that is not on its way
-  pub busy_beside_the_way : Unjustified 0 (LoadOf (EntryAt 1 21)) (call.Copy 0 1 20) (reply.Busy 1) marked_beside
+  pub busy_beside_the_way : Unjustified 0 (LoadOf (EntryAt 1 21)) (whole_copy 0 1 20) (reply.Busy 1) marked_beside
   -- a copy loses a race for the place of a name, for the word of a core, and for the clock
-  pub raced_for_a_name : Unjustified 0 (LoadOf (EntryAt 1 0)) (call.Copy 0 1 20) reply.Raced name_removed
-  pub raced_for_a_core : Unjustified 0 (LoadOf (CoreAt 1)) (call.Copy 0 1 20) reply.Raced other_enters
-  pub raced_for_the_clock : Unjustified 0 (LoadOf ClockAt) (call.Copy 0 1 20) reply.Raced clock_raised
+  pub raced_for_a_name : Unjustified 0 (LoadOf (EntryAt 1 0)) (whole_copy 0 1 20) reply.Raced name_removed
+  pub raced_for_a_core : Unjustified 0 (LoadOf (CoreAt 1)) (whole_copy 0 1 20) reply.Raced other_enters
+  pub raced_for_the_clock : Unjustified 0 (LoadOf ClockAt) (whole_copy 0 1 20) reply.Raced clock_raised
   -- a copy waits for a core that entered after the place, long removed, was filled again
-  pub waits_for_nothing : Unjustified 0 (LoadOf (EntryAt 1 13)) (call.Copy 0 1 13) (reply.Quiescing 1) fills_again
+  pub waits_for_nothing : Unjustified 0 (LoadOf (EntryAt 1 13)) (whole_copy 0 1 13) (reply.Quiescing 1) fills_again
 
 -- The trace is legal, on words near its calls and within their bounds, but a word says otherwise than the state.
 pub record BreaksWords (t : Trace) : Type 0 where
@@ -138,7 +139,7 @@ pub record BreaksWords (t : Trace) : Type 0 where
 -- A core in a call whose word says that it is in none, and a place filled by no decision.
 pub record WordsRefuse : Type 0 where
   pub core_says_out : BreaksWords (one_step (call.Look 0) (StoreOf (CoreAt 0) 0))
-  pub entry_is_filled : BreaksWords (one_step (call.Copy 0 1 20) (StoreOf (EntryAt 1 20) range_word))
+  pub entry_is_filled : BreaksWords (one_step (whole_copy 0 1 20) (StoreOf (EntryAt 1 20) range_word))
 
 -- The trace does not follow an order of this one item.
 abbrev pub RefusesItem : Item → Trace → Type 0

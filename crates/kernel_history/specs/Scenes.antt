@@ -1,6 +1,7 @@
 -- Worked traces of two cores, built step by step: what the definitions of a legal history, of its discipline, its footprints, its
 -- bounds, its order and its words are seen to refuse.
 use Rattle.std.specs.Prelude.{ℕ, Bool, nat_le, [], ◌∷◌, List, Some, None}
+use Rattle.spk_nums.specs.Rights.{whole_copy}
 use Rattle.spk_nums.specs.Capability.{cap_of}
 use Rattle.spk_nums.specs.Setting.{Setting}
 use Rattle.spk_nums.specs.declared.kinds.Kind.TheVariants as kind
@@ -75,15 +76,15 @@ retyped k word = decides 0 (CompareOf (FrameAt 8) 0 word) done (loads 0 1 0 (loa
 
 -- A copy of the range to place 20 that has read its names, both in leaf 1.
 unfoldable pub named : Trace
-named = loads 0 1 1 (loads 0 1 0 (loads 0 0 0 (enters 0 (call.Copy 0 1 20) [])))
+named = loads 0 1 1 (loads 0 1 0 (loads 0 0 0 (enters 0 (whole_copy 0 1 20) [])))
 
 -- A copy that has read the table's name, and not the range's.
 unfoldable pub half_named : Trace
-half_named = loads 0 1 1 (loads 0 0 0 (enters 0 (call.Copy 0 1 20) []))
+half_named = loads 0 1 1 (loads 0 0 0 (enters 0 (whole_copy 0 1 20) []))
 
 -- Core 0 has read its names for a copy to place 20; core 1 is copying to place 21, and has put its mark there.
 unfoldable pub marked_beside : Trace
-marked_beside = goes 1 (CompareOf (EntryAt 1 21) 0 (mark_word 1)) (enters 1 (call.Copy 0 1 21) named)
+marked_beside = goes 1 (CompareOf (EntryAt 1 21) 0 (mark_word 1)) (enters 1 (whole_copy 0 1 21) named)
 
 -- Core 0 has read its names; core 1 removes the first of them.
 unfoldable pub name_removed : Trace
@@ -105,11 +106,11 @@ removed = decides 0 (AddOf ClockAt 1) done (loads 0 1 13 (loads 0 1 1 (loads 0 0
 unfoldable pub filled : Trace
 filled =
     decides 0 (StoreOf (EntryAt 1 13) range_word) done
-    (loads 0 1 1 (loads 0 1 0 (loads 0 0 0 (enters 0 (call.Copy 0 1 13) (returns 0 done removed)))))
+    (loads 0 1 1 (loads 0 1 0 (loads 0 0 0 (enters 0 (whole_copy 0 1 13) (returns 0 done removed)))))
 
 -- and would fill it once more, while core 1 is in a call that began later.
 unfoldable pub fills_again : Trace
-fills_again = loads 0 1 13 (enters 0 (call.Copy 0 1 13) (enters 1 (call.Look 0) (returns 0 done filled)))
+fills_again = loads 0 1 13 (enters 0 (whole_copy 0 1 13) (enters 1 (call.Look 0) (returns 0 done filled)))
 
 -- A look goes on to its decision, and to its return.
 abbrev pub decided_look : ℕ → Trace → Trace

@@ -2,6 +2,7 @@
 use Rattle.std.proofs.Common.{◌<◌, inl, refl, sym, ap, arith}
 use Rattle.std.specs.Prelude.{is_some}
 use Rattle.std.proofs.lemmas.Bool.{false≢true}
+use Rattle.spk_nums.specs.Rights.{whole_copy}
 use Rattle.spk_nums.specs.declared.calls.Call.TheVariants as call
 use Rattle.entry_words.specs.EntryWord.{word_of_entry}
 use Rattle.frame_words.specs.Count.{word_of_count, count_of_word}
@@ -42,9 +43,9 @@ filled_legal = (
       ),
       may_follow refl refl tt tt tt,
     ),
-    may_follow refl refl tt (carried_out {k = call.Copy 0 1 20} refl (refl, refl) refl) tt,
+    may_follow refl refl tt (carried_out {k = whole_copy 0 1 20} refl (refl, refl) refl) tt,
   ),
-  may_follow refl refl tt tt (record { call = call.Copy 0 1 20; was_decided = refl }),
+  may_follow refl refl tt tt (record { call = whole_copy 0 1 20; was_decided = refl }),
 )
 
 held_legal : IsLegal two_cores left_held
@@ -53,7 +54,7 @@ held_legal = (
   (
     filled_legal,
     may_follow refl refl tt (record {
-      call = call.Copy 1 1 20;
+      call = whole_copy 1 1 20;
       is_open = refl;
       permitted = (refl, tt);
       justified = record {
@@ -65,7 +66,7 @@ held_legal = (
       };
     }) tt,
   ),
-  may_follow refl refl tt tt (record { call = call.Copy 1 1 20; was_decided = refl }),
+  may_follow refl refl tt tt (record { call = whole_copy 1 1 20; was_decided = refl }),
 )
 
 still_held : RepresentCounts (last_left two_cores left_held) (state_after two_cores left_held) → ⊥

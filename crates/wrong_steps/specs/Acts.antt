@@ -1,8 +1,8 @@
 -- Steps by a step function of an act: its operation, and what it takes from the word that it finds.
 use Rattle.std.specs.Prelude.{ℕ, ◌∷◌, Option, Some, None}
+use Rattle.spk_nums.specs.Rights.{whole_copy}
 use Rattle.spk_nums.specs.Capability.{Capability, cap_of}
 use Rattle.spk_nums.specs.declared.kinds.Kind.TheVariants as kind
-use Rattle.spk_nums.specs.declared.calls.Call.TheVariants.{Copy}
 use Rattle.spk_nums.specs.declared.replies.Reply.{Reply}
 use Rattle.spk_nums.specs.declared.replies.Reply.TheVariants.{Ok}
 use Rattle.word_map.specs.Moves.{Move, word_of}
@@ -42,4 +42,4 @@ fill = record { node = 1; entry = 20; word = 0; cap = range }
 
 -- Core c has looked up both names and the target of a copy of the range to place 20.
 abbrev pub copying : ℕ → Trace → Trace
-copying c t = loads c 1 20 (loads c 1 1 (loads c 1 0 (loads c 0 0 (enters c (Copy 0 1 20) t))))
+copying c t = loads c 1 20 (loads c 1 1 (loads c 1 0 (loads c 0 0 (enters c (whole_copy 0 1 20) t))))

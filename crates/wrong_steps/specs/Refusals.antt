@@ -1,6 +1,6 @@
 -- A wrong refusal leaves the count that its call has acquired.
 use Rattle.std.specs.Prelude.{◌≡◌, [], pos, None}
-use Rattle.spk_nums.specs.declared.calls.Call.TheVariants.{Copy}
+use Rattle.spk_nums.specs.Rights.{whole_copy}
 use Rattle.spk_nums.specs.declared.replies.Reply.{Reply}
 use Rattle.spk_nums.specs.declared.replies.Reply.TheVariants as reply
 use Rattle.kernel_history.specs.Counts.{RepresentCounts}
@@ -17,7 +17,7 @@ use Rattle.wrong_steps.specs.Acts.{acts, fill, copying}
 unfoldable pub acquired_count : Trace
 acquired_count =
     goes 0 (pin_move (AtCompare 0 0 (pos 2) 0)) (goes 0 (pin_move (AtLoad 0 0))
-    (loads 0 1 20 (loads 0 1 1 (loads 0 0 0 (enters 0 (Copy 1 1 20) [])))))
+    (loads 0 1 20 (loads 0 1 1 (loads 0 0 0 (enters 0 (whole_copy 1 1 20) [])))))
 
 -- Core 1 fills the place, and returns.
 unfoldable pub filled_meanwhile : Trace
