@@ -60,7 +60,7 @@ use Rattle.call_stages.specs.act_states.specs.declared.work.WorkStep.TheVariants
 use Rattle.call_stages.specs.act_states.specs.Acts.{ActFits, act_left, looked, dues, scans, stamp_in, filling, fills_with}
 use Rattle.call_stages.specs.act_states.specs.Acts.{removing, removes_held, removes_at, types_if, types_at, gate_if, gate_to, frame_named}
 use Rattle.call_stages.specs.act_states.specs.Acts.{reads_of, starts, making, making_if, makes_in, makes_at, act_begun, next_work}
-use Rattle.call_stages.specs.act_states.specs.Acts.{kills_in, kills_at, link_to, is_pages, page_cap, mapping, mapping_if}
+use Rattle.call_stages.specs.act_states.specs.Acts.{kills_in, kills_at, kept_of, link_to, is_pages, page_cap, mapping, mapping_if}
 use Rattle.call_stages.specs.act_states.specs.Acts.{maps_if, maps_at, comp_making, comp_if, comps_in, comps_at, made_begun}
 use Rattle.call_stages.specs.act_states.specs.Acts.{invokes_in, invokes_if, invokes_at, returns_if, returns_at, switches_at}
 use Rattle.call_stages.specs.stage_tcap.specs.declared.pair.PairAt.TheVariants.{LoadA}
@@ -566,13 +566,18 @@ shared s later most core what found named some = by (at_place found First) (at_p
     by None b first second = (omega arith, tt)
     by (Some a) None first second = (omega arith, tt)
 
+kept_names : (frames these : ℕ) (o : Option Capability) → IfSome o (CapNames frames) → IfSome (kept_of these o) (CapNames frames)
+kept_names frames these None names = tt
+kept_names frames these (Some k) names = names
+
 pub act_fits : (own : Own) (later : ℕ) (call : Call) (found : List Capability) (read : Option ℕ) (target : Option Found) → IsOwn own
     → IfSome (at_place found First) (CapNames own.layout.frames) → ObjectNamed own.layout.frames call found → InLimits call
     → IfSome target (PlaceFits own.layout)
     → StepFits own.layout [] later (after_reading call own.layout.cores) (act_begun own call found read target)
 act_fits own later (look_call a) found read target h names objects limits fits = look_done own.layout later 0 _
-act_fits own later (Copy a t b) found read target h names objects limits fits =
-    filled own later (3 + own.layout.cores) _ false target h names fits (omega arith)
+act_fits own later (Copy a t b rights) found read target h names objects limits fits =
+    filled own later (3 + own.layout.cores) (kept_of rights.0 (at_place found First)) false target h
+    (kept_names own.layout.frames rights.0 (at_place found First) names) fits (omega arith)
 act_fits own later (Grow t i l) found read target h names objects limits fits =
     filled own later (3 + 2 * own.layout.cores) (link_to (at_place found Second)) (is_pages (at_place found First)) target h
     (link_names own.layout.frames (at_place found Second) objects) fits (grow_words (is_pages (at_place found First)) own.layout.cores)

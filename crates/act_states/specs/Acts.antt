@@ -2,6 +2,7 @@
 use Rattle.std.specs.Prelude.{ℕ, ◌<◌, Bool, true, false, ◌&&◌, nat_lt, nat_le}
 use Rattle.std.specs.Prelude.{Option, Some, None, List, if◌then◌else◌}
 use Rattle.spk_nums.specs.Capability.{Capability, cap_of}
+use Rattle.spk_nums.specs.Rights.{kept}
 use Rattle.spk_nums.specs.declared.calls.Call.{Call}
 use Rattle.spk_nums.specs.declared.calls.Call.TheVariants.{Look, Copy, Remove, Shrink, Retype, Make as make_call, Unmap, Tick, Gate, Kill}
 use Rattle.spk_nums.specs.declared.calls.Call.TheVariants.{Grow, Flush, Map, Call as call_gate, Ret, Switch, Transfer, Delegate, Test}
@@ -300,9 +301,14 @@ abbrev pub gate_to : Option Capability → Option ℕ → Option Capability
 gate_to (Some comp) (Some epoch) = gate_if (nat_le 1 epoch) comp.frame epoch
 gate_to _ _ = None
 
+-- the capability that a name has led to, with those of its rights that are among these
+abbrev pub kept_of : ℕ → Option Capability → Option Capability
+kept_of these None = None
+kept_of these (Some k) = Some (kept k these)
+
 -- what a call that fills its target puts there, where its names have led to these and it has read this
 abbrev pub put_by : Call → List Capability → Option ℕ → Option Capability
-put_by (Copy a t b) found read = at_place found First
+put_by (Copy a t b rights) found read = kept_of rights.0 (at_place found First)
 put_by (Grow t i l) found read = link_to (at_place found Second)
 put_by (Map p v r f w) found read = page_of (at_place found Second) f w
 put_by (Gate c t b) found read = gate_to (at_place found First) read
@@ -514,7 +520,7 @@ switches_at own _ _ = refuse Raced
 -- what a call of a core does whose names have led to these, which has read this, and whose target, if it has one, was found
 abbrev pub act_begun : Own → Call → List Capability → Option ℕ → Option Found → WorkStep
 act_begun own (Look a) found read target = looked (at_place found First)
-act_begun own (Copy a t b) found read target = fills_with own (put_by (Copy a t b) found read) false target
+act_begun own (Copy a t b rights) found read target = fills_with own (put_by (Copy a t b rights) found read) false target
 act_begun own (Grow t i l) found read target = fills_with own (put_by (Grow t i l) found read) (fills_page (Grow t i l) found) target
 act_begun own (Map p v r f w) found read target = maps_at own (at_place found Second) f w target
 act_begun own (Remove t b) found read target = removes_at own.core target

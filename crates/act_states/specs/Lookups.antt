@@ -1,16 +1,16 @@
 -- The look-ups of a call, driven by its plan.
 use Rattle.std.specs.Prelude.{ℕ, Bool, nat_le, if◌then◌else◌, Option, Some, None, List}
 use Rattle.spk_nums.specs.Capability.{Capability}
-use Rattle.spk_nums.specs.declared.kinds.Kind.{Kind}
+use Rattle.spk_nums.specs.Rights.{has_rights}
 use Rattle.spk_nums.specs.declared.calls.Call.{Call}
 use Rattle.entry_words.specs.declared.entry.Entry.{Entry}
 use Rattle.entry_words.specs.declared.entry.Entry.TheVariants as entry
-use Rattle.kernel_rules.specs.Access.{Target as place, Under, InRoot}
+use Rattle.kernel_rules.specs.Access.{Want, Target as place, Under, InRoot}
 use Rattle.stage_look.specs.declared.look.Look.TheVariants.{AtRoot, AtEntry}
 use Rattle.stage_look.specs.declared.look.Found.{Found}
 use Rattle.call_plans.specs.After.{Next, NextName, NextFree, NextHeld, NextOwn, NextNothing}
 use Rattle.act_states.specs.declared.own.Own.{Own}
-use Rattle.act_states.specs.declared.refusals.Refusal.TheVariants.{NoSlot, Empty, WrongCap, Occupied, Busy}
+use Rattle.act_states.specs.declared.refusals.Refusal.TheVariants.{NoSlot, Empty, WrongCap, NoRight, Occupied, Busy}
 use Rattle.act_states.specs.declared.lookups.Met.{Met}
 use Rattle.act_states.specs.declared.lookups.Met.TheVariants.{Finds, Refused}
 use Rattle.act_states.specs.declared.work.Work.TheVariants.{Lookup, Read}
@@ -39,18 +39,25 @@ read_first (Some comp) step = step
 
 -- what comes next of a core's call whose names have led to these; a page of its own is looked up by its act
 abbrev pub next_step : Own → Call → List Capability → Next → WorkStep
-next_step own call found (NextName n wanted) = looks_under (nat_le n 4095) own.table n
+next_step own call found (NextName n want) = looks_under (nat_le n 4095) own.table n
 next_step own call found (NextFree target) = read_first (reads_of call found) (looks_at target)
 next_step own call found (NextHeld target) = looks_at target
 next_step own call found (NextOwn v) = touches own v
 next_step own call found NextNothing = act_begun own call found None None
 
--- what a name has led to that wants these kinds, where its place shows this entry
-abbrev pub met_name : (Kind → Bool) → Entry → Met
-met_name wanted entry.Free = Refused Empty
-met_name wanted (entry.Held k) = if wanted k.kind then Finds k else Refused WrongCap
-met_name wanted (entry.Closing by) = Refused (Busy by)
-met_name wanted (entry.Quiescing stamp) = Refused Empty
+-- what a name has led to that wants this, where its place holds this capability
+abbrev pub met_right : ℕ → Capability → Met
+met_right needs k = if has_rights k.rights needs then Finds k else Refused NoRight
+
+abbrev pub met_cap : Want → Capability → Met
+met_cap want k = if want.kinds k.kind then met_right want.needs k else Refused WrongCap
+
+-- what a name has led to that wants this, where its place shows this entry
+abbrev pub met_name : Want → Entry → Met
+met_name want entry.Free = Refused Empty
+met_name want (entry.Held k) = met_cap want k
+met_name want (entry.Closing by) = Refused (Busy by)
+met_name want (entry.Quiescing stamp) = Refused Empty
 
 -- what a call of a core does that has read this and whose target is to be free, where its place shows this entry
 abbrev pub met_free : Own → Call → List Capability → Option ℕ → Found → Entry → WorkStep

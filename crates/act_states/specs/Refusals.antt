@@ -29,6 +29,7 @@ reply_of refusal.Raced = reply.Raced
 reply_of (refusal.Busy core) = reply.Busy core
 reply_of refusal.Fault = reply.Fault
 reply_of refusal.CallsSpent = reply.CallsSpent
+reply_of refusal.NoRight = reply.NoRight
 
 -- the refusal that a reply says; of `ok`, which is none, `raced`
 abbrev pub refusal_of : Reply → Refusal
@@ -56,3 +57,4 @@ refusal_of reply.Raced = refusal.Raced
 refusal_of (reply.Busy core) = refusal.Busy core
 refusal_of reply.Fault = refusal.Fault
 refusal_of reply.CallsSpent = refusal.CallsSpent
+refusal_of reply.NoRight = refusal.NoRight

@@ -54,6 +54,8 @@ pub enum Refusal {
     Fault,
     /// The core has made as many calls as it may.
     CallsSpent,
+    /// The capability lacks the right that its name needs.
+    NoRight,
 }
 
 impl Refusal {
@@ -86,6 +88,7 @@ impl Refusal {
             Refusal::Busy(core) => Reply::Busy(core),
             Refusal::Fault => Reply::Fault,
             Refusal::CallsSpent => Reply::CallsSpent,
+            Refusal::NoRight => Reply::NoRight,
         }
     }
 
@@ -119,6 +122,7 @@ impl Refusal {
             Reply::Busy(core) => Refusal::Busy(core),
             Reply::Fault => Refusal::Fault,
             Reply::CallsSpent => Refusal::CallsSpent,
+            Reply::NoRight => Refusal::NoRight,
         }
     }
 }

@@ -20,7 +20,7 @@ ghost use Rattle.act_states.specs.WorkSteps.{refuse};
 ghost use Rattle.act_states.specs.Acts.{gate_to, frame_named, reads_of, ActFits, act_move, took_act, act_ready, looked, acquires};
 ghost use Rattle.act_states.specs.Acts.{next_work, fills_at, fills_with, act_begun, drawn_by, took_close, scans, stamp_in, removes_held};
 ghost use Rattle.act_states.specs.Acts.{removes_at, types_if, types_at, starts, undo, makes_at, makes_in, kills_in, kills_at, link_to};
-ghost use Rattle.act_states.specs.Acts.{is_pages, typing_to, maps_word, maps_frame, maps_in, maps_at, comps_in, comps_at, made_begun};
+ghost use Rattle.act_states.specs.Acts.{is_pages, kept_of, typing_to, maps_word, maps_frame, maps_in, maps_at, comps_in, comps_at, made_begun};
 ghost use Rattle.call_plans.specs.Plans.{at_place};
 ghost use Rattle.call_plans.specs.declared.plans.Nth.TheVariants.{First, Second, Third, Fourth};
 ghost use Rattle.act_states.specs.Shares.{shares_at};
@@ -51,8 +51,8 @@ use call_plans::{Caps, Nth};
 use entry_words::Entry;
 use frame_words::FrameWord;
 use spk_nums::{
-    Call, Cap, CoreNo, FrameArg, FrameKind, FrameNo, Kind, Make, PageFlags, StageEnd, Stamp, Value,
-    WordOp,
+    Call, Cap, CoreNo, FrameArg, FrameKind, FrameNo, Kind, Make, PageFlags, Rights, StageEnd,
+    Stamp, Value, WordOp,
 };
 use stage_look::Found;
 use stage_quiet::{Close, Quiet};
@@ -217,7 +217,17 @@ pub fn begin_act(
 {
     match call {
         Call::Look { a: _ } => looked(&found.get(Nth::First)),
-        Call::Copy { a: _, t: _, b: _ } => fills_with(own, &found.get(Nth::First), false, target),
+        Call::Copy {
+            a: _,
+            t: _,
+            b: _,
+            rights,
+        } => fills_with(
+            own,
+            &kept_of(*rights, &found.get(Nth::First)),
+            false,
+            target,
+        ),
         Call::Grow { t: _, i: _, l: _ } => fills_with(
             own,
             &link_to(&found.get(Nth::Second)),
@@ -340,6 +350,17 @@ fn is_pages(root: &Option<Cap>) -> bool
     match root {
         Some(root) => matches!(root.kind(), Kind::Pages),
         None => false,
+    }
+}
+
+// The capability that a name has led to, with those of its rights that are among these.
+#[inline]
+fn kept_of(rights: Rights, cap: &Option<Cap>) -> Option<Cap>
+    ensures { result ≡ kept_of rights.0 cap.now }
+{
+    match cap {
+        Some(cap) => Some(cap.keep(rights)),
+        None => None,
     }
 }
 

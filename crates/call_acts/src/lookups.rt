@@ -1,19 +1,20 @@
 //! The look-ups of a call, driven by its plan: each name in order, then the target, and then the act begins.
 //!
 //! **Refusals.** A number past 4,095, or a root entry past 63, is refused without a step of its own. A name is refused where
-//! nothing is held at its place, then where what is held is of a kind that is not wanted; a target that is to be free where
+//! nothing is held at its place, then where what is held is of a kind that is not wanted, then where that lacks a right that is
+//! needed; a target that is to be free where
 //! something is held, one that is to be held where nothing is.
 
 ghost use Rattle.std.specs.Prelude.{◌≡◌, ◌<◌, ◌≤◌, []};
-ghost use Rattle.call_plans.specs.GoesBy.{earlier, wants};
+ghost use Rattle.call_plans.specs.GoesBy.{earlier, want_of};
 ghost use Rattle.call_plans.specs.After.{with_found};
-ghost use Rattle.act_states.specs.Lookups.{met_name, met_free, met_held};
+ghost use Rattle.act_states.specs.Lookups.{met_cap, met_name, met_free, met_held};
 
 use crate::acts::{begin_act, refuse};
 use act_states::{Met, Own, Refusal, WorkStep};
-use call_plans::{Caps, Nth, Wanted};
+use call_plans::{Caps, Name, Nth};
 use entry_words::Entry;
-use spk_nums::{Call, FrameNo};
+use spk_nums::{Call, Cap, FrameNo};
 use stage_look::Found;
 
 /// The frame to which an earlier name has led, or frame 0.
@@ -28,24 +29,36 @@ pub fn frame_of(found: &Caps, at: Nth) -> FrameNo
     }
 }
 
-/// What a name has led to that wants this, where its place shows this entry.
+// What a name has led to, where its place holds this capability.
 #[inline]
-pub fn met_name(found: &Caps, wanted: Wanted, entry: &Entry) -> Met
-    ensures { result ≡ met_name (wants (with_found [] found.now) wanted) entry.now }
+fn met_cap(found: &Caps, name: &Name, cap: Cap) -> Met
+    ensures { result ≡ met_cap (want_of (with_found [] found.now) name.now) cap }
+{
+    if found.is_wanted(name.wanted, cap.kind()) {
+        if cap.rights().has(name.needs) {
+            Met::Finds { cap }
+        } else {
+            Met::Refused {
+                refusal: Refusal::NoRight,
+            }
+        }
+    } else {
+        Met::Refused {
+            refusal: Refusal::WrongCap,
+        }
+    }
+}
+
+/// What a name has led to, where its place shows this entry.
+#[inline]
+pub fn met_name(found: &Caps, name: &Name, entry: &Entry) -> Met
+    ensures { result ≡ met_name (want_of (with_found [] found.now) name.now) entry.now }
 {
     match *entry {
         Entry::Free => Met::Refused {
             refusal: Refusal::Empty,
         },
-        Entry::Held(cap) => {
-            if found.is_wanted(wanted, cap.kind()) {
-                Met::Finds { cap }
-            } else {
-                Met::Refused {
-                    refusal: Refusal::WrongCap,
-                }
-            }
-        }
+        Entry::Held(cap) => met_cap(found, name, cap),
         Entry::Closing { by } => Met::Refused {
             refusal: Refusal::Busy(by),
         },

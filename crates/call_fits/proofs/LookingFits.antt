@@ -4,6 +4,7 @@ use Rattle.std.proofs.Common.{◌<◌, ◌≤◌, Bool, true, false, List, [], �
 use Rattle.std.proofs.Common.{Option, Some, None, IfSome, refl, sym, ◌∙◌, ap, subst, arith}
 use Rattle.call_stages.specs.stage_pins.specs.declared.held.Acquired.{Acquired}
 use Rattle.call_stages.specs.spk_nums.specs.Capability.{Capability}
+use Rattle.call_stages.specs.spk_nums.specs.Rights.{has_rights}
 use Rattle.call_stages.specs.spk_nums.specs.declared.replies.Reply.TheVariants as reply
 use Rattle.call_stages.specs.entry_words.specs.declared.entry.Entry.{Entry}
 use Rattle.call_stages.specs.entry_words.specs.declared.entry.Entry.TheVariants as entry
@@ -19,7 +20,7 @@ use Rattle.call_stages.specs.call_plans.specs.declared.plans.Target.{Target}
 use Rattle.call_stages.specs.call_plans.specs.declared.plans.Target.TheVariants.{Nowhere, Free, Held, Own as own_page}
 use Rattle.call_stages.specs.call_plans.specs.declared.plans.Plan.{Plan}
 use Rattle.call_stages.specs.call_plans.specs.Plans.{at_place, pushed}
-use Rattle.call_stages.specs.call_plans.specs.GoesBy.{wants}
+use Rattle.call_stages.specs.call_plans.specs.GoesBy.{want_of, wants}
 use Rattle.call_stages.specs.call_plans.specs.After.{with_found, names_after, next_in}
 use Rattle.call_stages.specs.call_plans.specs.Bounds.{look_steps, act_steps}
 use Rattle.call_stages.specs.call_plans.proofs.Roots.{count_led, after_more, pushed_one}
@@ -41,7 +42,7 @@ use Rattle.call_stages.specs.act_states.specs.declared.work.WorkStep.TheVariants
 use Rattle.call_stages.specs.act_states.specs.Refusals.{refusal_of}
 use Rattle.call_stages.specs.act_states.specs.WorkSteps.{refuse}
 use Rattle.call_stages.specs.act_states.specs.Acts.{act_begun}
-use Rattle.call_stages.specs.act_states.specs.Lookups.{met_name, met_free, met_held}
+use Rattle.call_stages.specs.act_states.specs.Lookups.{met_right, met_name, met_free, met_held}
 use Rattle.call_stages.specs.Steps.{landed, found_more, next_by, named_one, took_found}
 use Rattle.call_stages.specs.Steps.{took_end, took_look}
 use Rattle.act_fits.proofs.LandsFit.{TookFits, Facts, names_object, next_fits, landed_fits}
@@ -64,7 +65,7 @@ module _ (own : Own) (a : ActiveCall) (facts : Facts own a) (none : a.counts ≡
 
   -- one name more has led to a capability
   pub more_fits : (name : Name) (rest : List Name) (k : Capability) → names_left a ≡ name ∷ rest
-      → IsWanted own.layout.frames name.number (wants (with_found [] a.found) name.wanted) k
+      → IsWanted own.layout.frames name.number (want_of (with_found [] a.found) name) k
       → FoundFits own.layout.frames a.plan (pushed a.found k)
   more_fits name rest k is wanted =
       let few : length a.found < 4 =
@@ -89,7 +90,7 @@ module _ (own : Own) (a : ActiveCall) (facts : Facts own a) (none : a.counts ≡
       ap (names_after a.plan.names) (pushed_one a.found k few) ∙ after_more a.plan.names rest name a.found k is
 
   pub one_fits : (left : ℕ) (name : Name) (rest : List Name) (k : Capability) → names_left a ≡ name ∷ rest
-      → IsWanted own.layout.frames name.number (wants (with_found [] a.found) name.wanted) k
+      → IsWanted own.layout.frames name.number (want_of (with_found [] a.found) name) k
       → 2 + (look_steps rest a.plan.target + act_steps a.call own.layout.cores) < left → TookFits own left a (named_one own a (Finds k))
   one_fits left name rest k is wanted some =
       let more = found_more a (pushed a.found k) in
@@ -109,17 +110,25 @@ module _ (own : Own) (a : ActiveCall) (facts : Facts own a) (none : a.counts ≡
       (subst (λ (names : List Name). 2 + length a.counts + (look_steps names a.plan.target + act_steps a.call own.layout.cores) < left)
       (sym (left_more name rest k is)) (omega arith))
 
+  right_if : (left : ℕ) (name : Name) (rest : List Name) (k : Capability) (right : Bool)
+      → wants (with_found [] a.found) name.wanted k.kind ≡ true → names_left a ≡ name ∷ rest
+      → CapNames own.layout.frames k → 2 + (look_steps rest a.plan.target + act_steps a.call own.layout.cores) < left
+      → TookFits own left a (named_one own a (if right then Finds k else Refused refusal.NoRight))
+  right_if left name rest k true wanted is names some = one_fits left name rest k is (wanted, names) some
+  right_if left name rest k false wanted is names some = refused_fits left refusal.NoRight (omega arith)
+
   pub met_if : (left : ℕ) (name : Name) (rest : List Name) (k : Capability) (wanted : Bool)
       → wanted ≡ wants (with_found [] a.found) name.wanted k.kind → names_left a ≡ name ∷ rest
       → CapNames own.layout.frames k → 2 + (look_steps rest a.plan.target + act_steps a.call own.layout.cores) < left
-      → TookFits own left a (named_one own a (if wanted then Finds k else Refused refusal.WrongCap))
-  met_if left name rest k true wanted is names some = one_fits left name rest k is (sym wanted, names) some
+      → TookFits own left a (named_one own a (if wanted then met_right name.needs.0 k else Refused refusal.WrongCap))
+  met_if left name rest k true wanted is names some =
+      right_if left name rest k (has_rights k.rights name.needs.0) (sym wanted) is names some
   met_if left name rest k false wanted is names some = refused_fits left refusal.WrongCap (omega arith)
 
   pub met_fits : (left : ℕ) (name : Name) (rest : List Name) (value : Entry)
       → names_left a ≡ name ∷ rest → EntryNames own.layout.frames value
       → 2 + (look_steps rest a.plan.target + act_steps a.call own.layout.cores) < left
-      → TookFits own left a (named_one own a (met_name (wants (with_found [] a.found) name.wanted) value))
+      → TookFits own left a (named_one own a (met_name (want_of (with_found [] a.found) name) value))
   met_fits left name rest entry.Free is names some = refused_fits left refusal.Empty (omega arith)
   met_fits left name rest (entry.Held k) is names some = met_if left name rest k _ refl is names some
   met_fits left name rest (entry.Closing by) is names some = refused_fits left (refusal.Busy by) (omega arith)

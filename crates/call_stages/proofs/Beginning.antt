@@ -165,7 +165,7 @@ pub act_no : (own : Own) (call : Call) (found : List Capability) (read : Option 
     → decides_at_name (plan_for call).decides ≡ false
     → NoAnswer (act_begun own call found read target)
 act_no own (look_call a) found read target not = absurd (cc)
-act_no own (Copy a t b) found read target not = fill_no own _ false target
+act_no own (Copy a t b rights) found read target not = fill_no own _ false target
 act_no own (Grow t i l) found read target not = fill_no own _ _ target
 act_no own (Map p v r f w) found read target not = maps_no own (at_place found Second) f w target
 act_no own (Remove t b) found read target not = remove_no own.core target

@@ -10,6 +10,7 @@ use Rattle.std.proofs.Common.{◌≡◌, ℕ, ℤ, ◌+◌, ◌==◌, ◌&&◌, 
 use Rattle.std.proofs.Common.{Some, None, refl, sym, ◌∙◌, ap, subst, arith, eqb-true, nat_le, ◌||◌}
 use Rattle.call_plans.specs.Plans.{pushed}
 use Rattle.spk_nums.specs.Capability.{Capability}
+use Rattle.spk_nums.specs.Rights.{neither}
 use Rattle.spk_nums.specs.declared.kinds.FrameKind.{FrameKind}
 use Rattle.spk_nums.specs.declared.kinds.FrameKind.TheVariants.{Untyped, User, Kernel}
 use Rattle.spk_nums.specs.declared.calls.Make.{Make}
@@ -222,7 +223,7 @@ make_one (make.Tcap sched quality) r t b is = absurd (cc)
 make_one (make.Comp own pages live) r t b is = absurd (cc)
 
 one_name : (call : Call) → decides_at_name (plan_for call).decides ≡ true → OneName (plan_for call)
-one_name (look_call a) is = record { name = any_cap a; names = refl; target = refl }
+one_name (look_call a) is = record { name = any_cap neither a; names = refl; target = refl }
 one_name (Retype r f k) is = retype_one k r is
 one_name (make_call what r f t b) is = make_one what r t b is
 one_name call is = absurd (cc)
@@ -545,7 +546,7 @@ act_decides s a (share_act p) found ready = landed_decides a _ (share_over p p.a
 begun_over : (own : Own) (call : Call) (k : Capability) → decides_at_name (plan_for call).decides ≡ true
     → IsOver (act_begun own call (k ∷ []) None None)
 begun_over own (look_call a) k is = tt
-begun_over own (Copy a t b) k is = absurd (cc)
+begun_over own (Copy a t b rights) k is = absurd (cc)
 begun_over own (Grow t i l) k is = absurd (cc)
 begun_over own (Map p v r f w) k is = absurd (cc)
 begun_over own (Remove t b) k is = absurd (cc)

@@ -3,10 +3,10 @@ use Rattle.std.specs.Prelude.{ℕ, ◌+◌, ◌*◌, ◌-◌, ◌<◌, ◌≤◌
 use Rattle.spk_nums.specs.Bounds.{bound_of}
 use Rattle.spk_nums.specs.CallLimits.{InLimits}
 use Rattle.spk_nums.specs.Capability.{Capability}
-use Rattle.spk_nums.specs.declared.kinds.Kind.{Kind}
 use Rattle.spk_nums.specs.declared.calls.Call.{Call}
 use Rattle.spk_nums.specs.declared.calls.Call.TheVariants.{Gate}
 use Rattle.frame_words.specs.Comp.{CompFits}
+use Rattle.kernel_rules.specs.Access.{Want}
 use Rattle.word_map.specs.Places.{Shape, IsShape}
 use Rattle.stage_look.specs.Shown.{CapNames}
 use Rattle.stage_look.specs.Lookup.{LookFits}
@@ -78,8 +78,8 @@ IsLater (Undecided (Lookup look)) = ⊥
 IsLater _ = Unit {0}
 
 -- what the names have led to is wanted, and names frames of the machine
-abbrev pub IsWanted : ℕ → ℕ → (Kind → Bool) → Capability → Type 0
-IsWanted frames n wanted k = IsTrue (wanted k.kind) × CapNames frames k
+abbrev pub IsWanted : ℕ → ℕ → Want → Capability → Type 0
+IsWanted frames n wanted k = IsTrue (wanted.kinds k.kind) × CapNames frames k
 
 abbrev pub FoundFits : ℕ → Plan → List Capability → Type 0
 FoundFits frames plan ks = Leads (IsWanted frames) plan.names [] ks

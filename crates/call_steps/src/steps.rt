@@ -395,7 +395,7 @@ fn found_place(active: &mut ActiveCall, own: &Own, found: &Found) -> Told
 {
     match active.plan.next(&active.found) {
         Next::Name { name } => {
-            let met = met_name(&active.found, name.wanted, &found.value);
+            let met = met_name(&active.found, &name, &found.value);
             named_one(active, own, &met)
         }
         Next::Free { spot: _ } => found_free(active, own, found),

@@ -5,8 +5,8 @@ ghost use Rattle.spk_nums.specs.CallLimits.{InLimits};
 
 use crate::{Absorbed, CoreState};
 use spk_nums::{
-    Call, Cap, CapId, CoreNo, FrameArg, FrameKind, FrameNo, Grant, Grants, Kind, Reply, Setup,
-    Value, WordOp,
+    Call, Cap, CapId, CoreNo, FrameArg, FrameKind, FrameNo, Grant, Grants, Kind, Reply, Rights,
+    Setup, Value, WordOp,
 };
 
 // A machine of one core and eight frames has 595 words, the count of frame 0 at 520, the core word at 528 and the clock at 594.
@@ -179,6 +179,7 @@ fn copy(a: u16, b: u16) -> Call
         a: CapId::new(a),
         t: CapId::new(1),
         b: CapId::new(b),
+        rights: Rights::both(),
     }
 }
 

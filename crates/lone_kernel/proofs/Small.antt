@@ -27,7 +27,7 @@ make_small (make.Comp table pages live) n h = omega arith
 
 bound_small : (call : Call) (n : ℕ) → n ≤ 8 → bound_of call n < 1000
 bound_small (call.Look a) n h = omega arith
-bound_small (call.Copy a t b) n h = omega arith
+bound_small (call.Copy a t b rights) n h = omega arith
 bound_small (call.Remove t b) n h = omega arith
 bound_small (call.Grow t i l) n h = omega arith
 bound_small (call.Shrink t i) n h = omega arith

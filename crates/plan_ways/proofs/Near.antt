@@ -7,7 +7,7 @@ use Rattle.spk_nums.specs.Capability.{Capability}
 use Rattle.spk_nums.specs.declared.kinds.Kind.{Kind}
 use Rattle.spk_nums.specs.declared.calls.Call.{Call}
 use Rattle.kernel_rules.specs.State.{State}
-use Rattle.kernel_rules.specs.Access.{Named, found}
+use Rattle.kernel_rules.specs.Access.{Want, Named, found}
 use Rattle.kernel_rules.specs.References.{named_by, frame_names}
 use Rattle.kernel_rules.specs.Rules.{Rule, Name as name_rule, Vacant as vacant_rule, Held as held_rule}
 use Rattle.kernel_rules.specs.Rules.{Mapped as mapped_rule, Does, Found, named, name_of}
@@ -33,14 +33,14 @@ pub one_right : (f : ℕ) (xs ys : List ℕ) → is_one_of f ys ≡ true → is_
 one_right f xs ys h = list_any-append (λ m. m == f) xs ys ∙ ap (λ b. is_one_of f xs || b) h ∙ or-true (is_one_of f xs)
 
 -- What a name of the rule leads to, and what the names after it lead to.
-by_first : (s : State) (c n : ℕ) (wanted : Kind → Bool) (rest : Named → Rule) (k : Capability) (f : ℕ)
+by_first : (s : State) (c n : ℕ) (wanted : Want) (rest : Named → Rule) (k : Capability) (f : ℕ)
     → named s c n wanted ≡ Found k
     → is_one_of f (named_by k.kind k.frame) ≡ true → is_one_of f (frames_named s c (name_rule n wanted rest)) ≡ true
 by_first s c n wanted rest k f is h =
     one_left f (frame_of_name (named s c n wanted)) (frames_named s c (rest (name_of (named s c n wanted))))
     (subst (λ x. is_one_of f (frame_of_name x) ≡ true) (sym is) h)
 
-by_later : (s : State) (c n : ℕ) (wanted : Kind → Bool) (rest : Named → Rule) (k : Capability) (f : ℕ)
+by_later : (s : State) (c n : ℕ) (wanted : Want) (rest : Named → Rule) (k : Capability) (f : ℕ)
     → named s c n wanted ≡ Found k
     → is_one_of f (frames_named s c (rest (found k))) ≡ true → is_one_of f (frames_named s c (name_rule n wanted rest)) ≡ true
 by_later s c n wanted rest k f is h =
@@ -54,7 +54,7 @@ some_same : (x y : Capability) → Some x ≡ Some y → x ≡ y
 some_same x y h = cc
 
 -- What a name leads to is the first, or one of the later.
-by_place : (s : State) (c n : ℕ) (wanted : Kind → Bool) (rest : Named → Rule) (j k : Capability) (f : ℕ)
+by_place : (s : State) (c n : ℕ) (wanted : Want) (rest : Named → Rule) (j k : Capability) (f : ℕ)
     (ks : List Capability) (at : Nth)
     → named s c n wanted ≡ Found j
     → is_one_of f (named_by k.kind k.frame) ≡ true
