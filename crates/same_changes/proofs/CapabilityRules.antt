@@ -13,7 +13,7 @@ use Rattle.kernel_rules.specs.State.{Place, Free, Holds, Quiescing, CompFields, 
 use Rattle.kernel_rules.specs.State.{Pleaf, Comp, Thread, Tcap, Frame, Kernel, Liveness, Live, Thing}
 use Rattle.kernel_rules.specs.State.{NumberOf, Limits, State, put, with_place, with_frame, with_number}
 use Rattle.kernel_rules.specs.Start.{plain_cap, no_grace}
-use Rattle.kernel_rules.specs.Access.{Slot, Named, capability, Under, InRoot, found, only, root}
+use Rattle.kernel_rules.specs.Access.{to_use, Slot, Named, capability, Under, InRoot, found, only, root}
 use Rattle.kernel_rules.specs.Rules.{Change, Found, Cause, When, named, refusal_of, fills, removes}
 use Rattle.kernel_rules.specs.CapabilityCalls.{look_rule, copy_rule, remove_rule, grow_rule, shrink_rule, outside}
 use Rattle.kernel_rules.specs.CapabilityCalls.{is_blank, not_blank, makes, is_place_of, cleared, make_node, make_thread}
@@ -31,10 +31,10 @@ use Rattle.same_changes.proofs.Alike.{SameCause, SameCauses, SameRule}
 use Rattle.same_changes.proofs.TimeRules.{named_table}
 
 -- A named root is a node.
-root_named : {t s : State} {o : ℕ → Bool} {c : ℕ} → Twins t s o c → (n : ℕ) (k : Capability) → named s c n root ≡ Found k
+root_named : {t s : State} {o : ℕ → Bool} {c : ℕ} → Twins t s o c → (n : ℕ) (k : Capability) → named s c n (to_use root) ≡ Found k
     → IsTrue (is_node (s.frame k.frame))
 root_named {s = s} {o = o} {c = c} w n k is =
-    let good = named_good s o c n root k w.sound w.is_open is in
+    let good = named_good s o c n (to_use root) k w.sound w.is_open is in
     root_node k.kind (s.frame k.frame) good.1 good.0.fit
 
 fills_same : {t s : State} {o : ℕ → Bool} {c : ℕ} → Twins t s o c → (at : Slot) (k : Capability) → SameChange (fills t at k) (fills s at k)
@@ -47,15 +47,16 @@ removes_same {t} {s} w at k = record { value = refl; next = same_place t s at.no
 pub look_same : {t s : State} {o : ℕ → Bool} {c : ℕ} → Twins t s o c → (a : ℕ) → SameRule s c (look_rule t a) (look_rule s a)
 look_same w a = (refl, refl, λ cap is. (tt, λ none. record { value = refl; next = w.same; begins = refl }))
 
-pub copy_same : {t s : State} {o : ℕ → Bool} {c : ℕ} → Twins t s o c → (a x b : ℕ) → SameRule s c (copy_rule t a x b) (copy_rule s a x b)
-copy_same w a x b = (
+pub copy_same : {t s : State} {o : ℕ → Bool} {c : ℕ} → Twins t s o c → (a x b rights : ℕ)
+    → SameRule s c (copy_rule t a x b rights) (copy_rule s a x b rights)
+copy_same w a x b rights = (
   refl,
   refl,
   λ cap is. (
     refl,
     refl,
     λ table is_table.
-        (refl, (λ on. named_table w x table is_table), λ at is_free. (tt, λ none. fills_same w at (capability (found cap)))),
+        (refl, (λ on. named_table w x table is_table), λ at is_free. (tt, λ none. fills_same w at (kept (capability (found cap)) rights))),
   ),
 )
 

@@ -25,7 +25,7 @@ use Rattle.same_changes.proofs.TimeRules.{tick_same, transfer_same, delegate_sam
 pub rule_same : {t s : State} {o : ℕ → _} {c : ℕ} → Twins t s o c → (call : Call) → InLimits call
     → SameRule s c (rule_of t c call) (rule_of s c call)
 rule_same w (Look a) fits = look_same w a
-rule_same w (Copy a x b) fits = copy_same w a x b
+rule_same w (Copy a x b rights) fits = copy_same w a x b rights.0
 rule_same w (Remove x b) fits = remove_same w x b
 rule_same w (Grow x i l) fits = grow_same w x i l
 rule_same w (Shrink x i) fits = shrink_same w x i

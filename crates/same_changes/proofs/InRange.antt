@@ -14,7 +14,7 @@ use Rattle.spk_nums.specs.declared.calls.Call.TheVariants.{Map, Unmap, Touch, Fl
 use Rattle.spk_nums.specs.declared.calls.Call.TheVariants.{Ret, Switch, Tick, Transfer, Delegate, Test}
 use Rattle.kernel_rules.specs.State.{CompFields, Comp, Frame, Kernel, Liveness, Unused, Live}
 use Rattle.kernel_rules.specs.State.{Dead, Core, Limits, State, comp_in, tcap_in, comp_of}
-use Rattle.kernel_rules.specs.Access.{only}
+use Rattle.kernel_rules.specs.Access.{to_use, only}
 use Rattle.kernel_rules.specs.Rules.{Judged, Refused, Found, named, mapped}
 use Rattle.kernel_rules.specs.CapabilityCalls.{epoch_of}
 use Rattle.kernel_rules.specs.Fitting.{fits, EndsWithin}
@@ -31,8 +31,8 @@ wherever (Refused r) P h = tt
 wherever (Found x) P h = h x refl
 
 range_ends : {t s : State} {o : ℕ → _} {c : ℕ} → Twins t s o c → (r : ℕ) → RangeEnds t c r
-range_ends {t} {s} {o} {c} w r = wherever (named t c r (only kind.Range)) _ (λ k is.
-    let good = named_good s o c r (only kind.Range) k w.sound w.is_open (sym (named_same w r (only kind.Range)) ∙ is) in
+range_ends {t} {s} {o} {c} w r = wherever (named t c r (to_use (only kind.Range))) _ (λ k is.
+    let good = named_good s o c r (to_use (only kind.Range)) k w.sound w.is_open (sym (named_same w r (to_use (only kind.Range))) ∙ is) in
     let ends = subst (λ j. EndsWithin j k.frame k.arg s.limits.frames) (only_is kind.Range k.kind good.1) good.0.within in
     subst (λ (l : Limits). k.frame + k.arg ≤ l.frames) (sym w.same.limits) ends)
 
@@ -59,16 +59,16 @@ comp_epoch epochs (Kernel (Comp k)) fit range = range.epoch.least
 comp_epoch epochs _ fit range = absurd (false≢true fit)
 
 has_epoch : {t s : State} {o : ℕ → _} {c : ℕ} → Twins t s o c → (n : ℕ) → HasEpoch t c n
-has_epoch {t} {s} {o} {c} w n = wherever (named t c n (only kind.Comp)) _ (λ k is.
-    let there = sym (named_same w n (only kind.Comp)) ∙ is in
+has_epoch {t} {s} {o} {c} w n = wherever (named t c n (to_use (only kind.Comp))) _ (λ k is.
+    let there = sym (named_same w n (to_use (only kind.Comp))) ∙ is in
     subst (λ x. 1 ≤ (comp_in x).epoch) (sym (named_frame w n kind.Comp k refl there))
     (comp_epoch s.limits.epochs (s.frame k.frame) (named_fit s o c n kind.Comp k w.sound w.is_open there) (w.ranges.frames k.frame)))
 
 budgets_fit : {t s : State} {o : ℕ → _} {c : ℕ} → Twins t s o c → (a b : ℕ) → BudgetsFit t c a b
-budgets_fit {t} {s} {o} {c} w a b = wherever (named t c a (only kind.Tcap)) _
-    (λ x is. wherever (named t c b (only kind.Tcap)) _ (λ y is_other apart.
-    let one = ap (λ f. (tcap_in f).budget) (named_frame w a kind.Tcap x refl (sym (named_same w a (only kind.Tcap)) ∙ is)) in
-    let other = ap (λ f. (tcap_in f).budget) (named_frame w b kind.Tcap y refl (sym (named_same w b (only kind.Tcap)) ∙ is_other)) in
+budgets_fit {t} {s} {o} {c} w a b = wherever (named t c a (to_use (only kind.Tcap))) _
+    (λ x is. wherever (named t c b (to_use (only kind.Tcap))) _ (λ y is_other apart.
+    let one = ap (λ f. (tcap_in f).budget) (named_frame w a kind.Tcap x refl (sym (named_same w a (to_use (only kind.Tcap))) ∙ is)) in
+    let other = ap (λ f. (tcap_in f).budget) (named_frame w b kind.Tcap y refl (sym (named_same w b (to_use (only kind.Tcap))) ∙ is_other)) in
     omega (arith, one, other, w.ranges.budgets x.frame y.frame apart)))
 
 ticks_fit : {t s : State} {o : ℕ → _} {c : ℕ} → Twins t s o c → s.limits.calls ≤ 4194304 → (n : ℕ) → n ≤ 1000000 → TicksFit t c n
@@ -104,7 +104,7 @@ in_range w calls pages (Tick n) fits = ticks_fit w calls n fits
 in_range w calls pages (Transfer a b m) fits = budgets_fit w a b
 in_range w calls pages (Delegate a b m) fits = budgets_fit w a b
 in_range w calls pages (Look a) fits = tt
-in_range w calls pages (Copy a x b) fits = tt
+in_range w calls pages (Copy a x b rights) fits = tt
 in_range w calls pages (Remove x b) fits = tt
 in_range w calls pages (Grow x i l) fits = tt
 in_range w calls pages (Shrink x i) fits = tt

@@ -15,7 +15,7 @@ use Rattle.kernel_rules.specs.State.{Holds, Object, Blank, Table, Leaf, Pages, P
 use Rattle.kernel_rules.specs.State.{Grace, Thing, FrameOf, CompFields, Core, State, put, with_frame, with_core, with_grace, comp_of}
 use Rattle.kernel_rules.specs.Start.{no_grace}
 use Rattle.kernel_rules.specs.References.{refs, frame_names}
-use Rattle.kernel_rules.specs.Access.{Named, Under, found, only, held_in}
+use Rattle.kernel_rules.specs.Access.{to_use, Named, Under, found, only, held_in}
 use Rattle.kernel_rules.specs.GracePeriods.{same_thing, flushed}
 use Rattle.kernel_rules.specs.Rules.{Change, Cause, Found, named, refusal_of, fills, frames_of}
 use Rattle.kernel_rules.specs.CapabilityCalls.{outside, has_frame}
@@ -32,15 +32,15 @@ use Rattle.same_changes.proofs.Reaching.{Twins, pages_node, pages_good, core_sam
 use Rattle.same_changes.proofs.Alike.{SameCauses, SameRule}
 use Rattle.same_changes.proofs.CapabilityRules.{frame_test, removes_same}
 
-named_pages : {t s : State} {o : ℕ → Bool} {c : ℕ} → Twins t s o c → (n : ℕ) (k : Capability) → named s c n (only kind.Pages) ≡ Found k
+named_pages : {t s : State} {o : ℕ → Bool} {c : ℕ} → Twins t s o c → (n : ℕ) (k : Capability) → named s c n (to_use (only kind.Pages)) ≡ Found k
     → IsTrue (is_node (s.frame k.frame))
 named_pages {s = s} {o = o} {c = c} w n k is = pages_node (s.frame k.frame) (named_fit s o c n kind.Pages k w.sound w.is_open is)
 
 -- A frame of a named range is one of the machine's.
-in_range : {t s : State} {o : ℕ → Bool} {c : ℕ} → Twins t s o c → (n : ℕ) (k : Capability) (f : ℕ) → named s c n (only kind.Range) ≡ Found k
+in_range : {t s : State} {o : ℕ → Bool} {c : ℕ} → Twins t s o c → (n : ℕ) (k : Capability) (f : ℕ) → named s c n (to_use (only kind.Range)) ≡ Found k
     → refusal_of s c (outside (found k) f) ≡ None → f < s.limits.frames
 in_range {s = s} {o = o} {c = c} w n k f is calm =
-    let good = named_good s o c n (only kind.Range) k w.sound w.is_open is in
+    let good = named_good s o c n (to_use (only kind.Range)) k w.sound w.is_open is in
     let ends : k.frame + k.arg ≤ s.limits.frames = subst (λ j. EndsWithin j k.frame k.arg s.limits.frames)
     (only_is kind.Range k.kind good.1) good.0.within in
     let has : (nat_le k.frame f && nat_lt f (k.frame + k.arg)) ≡ true = not_not _ (when_not _ reply.OutOfRange calm) in

@@ -12,7 +12,7 @@ use Rattle.spk_nums.specs.declared.replies.Reply.TheVariants as reply
 use Rattle.kernel_rules.specs.State.{Place, Free, Holds, Quiescing, CompFields, ThreadFields, Object, Blank, Table, Leaf, Pages}
 use Rattle.kernel_rules.specs.State.{Pleaf, Comp, Thread, Tcap, Frame, Untyped, User, Kernel, Grace, Thing, PlaceOf, FrameOf}
 use Rattle.kernel_rules.specs.State.{NumberOf, Limits, Core, State, thread_in, comp_in, first_of_stack, thread_of, comp_of}
-use Rattle.kernel_rules.specs.Access.{Slot, Named, root_at, Target, Under, InRoot, place_at, held_in}
+use Rattle.kernel_rules.specs.Access.{Want, Slot, Named, root_at, Target, Under, InRoot, place_at, held_in}
 use Rattle.kernel_rules.specs.Access.{usable_in, usable, linked, slot_in, reached, root_slot, own}
 use Rattle.kernel_rules.specs.GracePeriods.{lowest, other_waiting, quiescing_by, unflushed_by}
 use Rattle.kernel_rules.specs.Rules.{Judged, Refused, Found, and_then, unless, or_refuse, of_kind, named}
@@ -216,7 +216,7 @@ own_good w n = λ found. (own_nodes w).0
 own_same : {t s : State} {o : ℕ → Bool} {c : ℕ} → Twins t s o c → (n : ℕ) → own t c n ≡ own s c n
 own_same w n = ap (λ (k : CompFields). Under (root_at k.table) n) (comp_same w)
 
-pub named_same : {t s : State} {o : ℕ → Bool} {c : ℕ} → Twins t s o c → (n : ℕ) (wanted : Kind → Bool)
+pub named_same : {t s : State} {o : ℕ → Bool} {c : ℕ} → Twins t s o c → (n : ℕ) (wanted : Want)
     → named t c n wanted ≡ named s c n wanted
 named_same {t} {s} {o} {c} w n wanted =
     then_same (or_refuse (reached t c (own t c n)) reply.NoSlot) (or_refuse (reached s c (own s c n)) reply.NoSlot) _ _

@@ -10,7 +10,7 @@ use Rattle.spk_nums.specs.declared.replies.Reply.TheVariants as reply
 use Rattle.kernel_rules.specs.State.{Frame, Kernel, Comp, CompFields, ThreadFields, TcapFields, Liveness, Dead, NumberOf, Holds, Core}
 use Rattle.kernel_rules.specs.State.{State, with_frame, with_core, with_number, with_place, comp_in, thread_in, tcap_in, thread_of}
 use Rattle.kernel_rules.specs.References.{number_names}
-use Rattle.kernel_rules.specs.Access.{Slot, Named, Under, found, only}
+use Rattle.kernel_rules.specs.Access.{to_use, Slot, Named, Under, found, only}
 use Rattle.kernel_rules.specs.Rules.{Change, Cause, Found, named, frames_of, fills}
 use Rattle.kernel_rules.specs.InvocationCalls.{is_live_in, with_thread, with_stack, kills, pushes, pops, running, switches}
 use Rattle.kernel_rules.specs.InvocationCalls.{switch_to, gate_rule, kill_rule, call_rule, ret_rule, switch_rule}
@@ -30,18 +30,18 @@ use Rattle.same_changes.proofs.Alike.{SameRule}
 -- ---- what a name leads to
 
 named_below : {t s : State} {o : ℕ → Bool} {c : ℕ} → Twins t s o c → (n : ℕ) (j : Kind) (k : Capability) → is_some_kind j ≡ true
-    → named s c n (only j) ≡ Found k
+    → named s c n (to_use (only j)) ≡ Found k
     → k.frame < s.limits.frames
 named_below {s = s} {o = o} {c = c} w n j k some is = fit_below s o j k.frame w.sound some (named_fit s o c n j k w.sound w.is_open is)
 
 pub named_frame : {t s : State} {o : ℕ → Bool} {c : ℕ} → Twins t s o c → (n : ℕ) (j : Kind) (k : Capability) → is_some_kind j ≡ true
-    → named s c n (only j) ≡ Found k
+    → named s c n (to_use (only j)) ≡ Found k
     → t.frame k.frame ≡ s.frame k.frame
 named_frame w n j k some is = w.same.frame k.frame (named_below w n j k some is)
 
 -- A named table is a node.
 pub named_table : {t s : State} {o : ℕ → Bool} {c : ℕ} → Twins t s o c → (n : ℕ) (k : Capability)
-    → named s c n (only kind.Table) ≡ Found k → IsTrue (is_node (s.frame k.frame))
+    → named s c n (to_use (only kind.Table)) ≡ Found k → IsTrue (is_node (s.frame k.frame))
 named_table {s = s} {o = o} {c = c} w n k is = table_node (s.frame k.frame) (named_fit s o c n kind.Table k w.sound w.is_open is)
 
 -- A component's liveness number is one of the machine's.

@@ -5,7 +5,7 @@ use Rattle.spk_nums.specs.declared.calls.Call.TheVariants.{Look, Copy, Remove, G
 -- A call that looks at a capability, copies or removes one, makes an object, or links or unlinks a leaf.
 abbrev pub IsCapCall : Call → Type 0
 IsCapCall (Look a) = Unit {0}
-IsCapCall (Copy a t b) = Unit {0}
+IsCapCall (Copy a t b rights) = Unit {0}
 IsCapCall (Remove t b) = Unit {0}
 IsCapCall (Grow t i l) = Unit {0}
 IsCapCall (Shrink t i) = Unit {0}

@@ -7,38 +7,39 @@ ghost use Rattle.seq_state.specs.Maps.{state_of};
 ghost use Rattle.seq_lookups.specs.Judged.{answered};
 ghost use Rattle.seq_lookups.specs.Carried.{IsCarriedOut};
 
-use seq_lookups::{Target, Wanted, fill, held, named, remove, vacant};
+use seq_lookups::{Target, Wanted, fill, held, named, named_for, remove, vacant};
 use seq_state::SeqKernel;
-use spk_nums::{CapId, CoreNo, Kind, Reply, Value};
+use spk_nums::{CapId, CoreNo, Kind, Reply, Rights, Value};
 
-/// `look`: answers the capability named. It changes nothing.
+/// `look`: answers the capability named, whatever its rights. It changes nothing.
 pub(crate) fn look(k: &SeqKernel, core: CoreNo, a: CapId) -> Result<Value, Reply>
     requires { core < (state_of k.now).limits.cores }
     ensures { IsCarriedOut (state_of k.now) (change_of (state_of k.now) core (Look a)) (answered result) k.now }
 {
-    let cap = named(k, core, a, Wanted::Any)?;
+    let cap = named_for(k, core, a, Wanted::Any, Rights::none())?;
     Ok(Value::Cap(cap))
 }
 
-/// `copy`: the free place of a named table then holds the capability named.
+/// `copy`: the free place of a named table then holds the capability named, with those of its rights that are among these.
 pub(crate) fn copy(
     k: &mut SeqKernel,
     core: CoreNo,
     a: CapId,
     t: CapId,
     b: CapId,
+    rights: Rights,
 ) -> Result<Value, Reply>
     requires { core < (state_of k.old).limits.cores }
-    ensures { IsCarriedOut (state_of k.old) (change_of (state_of k.old) core (Copy a t b)) (answered result) k.new }
+    ensures { IsCarriedOut (state_of k.old) (change_of (state_of k.old) core (Copy a t b rights)) (answered result) k.new }
 {
-    let cap = named(k, core, a, Wanted::Any)?;
+    let cap = named_for(k, core, a, Wanted::Any, Rights::COPY)?;
     let table = named(k, core, t, Wanted::Only(Kind::Table))?;
     let target = Target::Under {
         root: table.frame(),
         number: b.number(),
     };
     let at = vacant(k, core, target)?;
-    fill(k, at, cap);
+    fill(k, at, cap.keep(rights));
     Ok(Value::Nothing)
 }
 

@@ -26,7 +26,7 @@ fn carry_out(k: &mut SeqKernel, core: CoreNo, call: &Call) -> Result<Value, Repl
 {
     match *call {
         Call::Look { a } => look(k, core, a),
-        Call::Copy { a, t, b } => copy(k, core, a, t, b),
+        Call::Copy { a, t, b, rights } => copy(k, core, a, t, b, rights),
         Call::Remove { t, b } => remove_entry(k, core, t, b),
         Call::Grow { t, i, l } => grow(k, core, t, i, l),
         Call::Shrink { t, i } => shrink(k, core, t, i),

@@ -5,8 +5,8 @@ ghost use Rattle.seq_caps.specs.Own.{IsCapCall};
 use crate::step;
 use seq_state::{Frame, Object, SeqKernel};
 use spk_nums::{
-    Call, Cap, CapId, CoreNo, EntryNo, FrameArg, FrameNo, Grant, Grants, Kind, Make, Reply, Setup,
-    Value,
+    Call, Cap, CapId, CoreNo, EntryNo, FrameArg, FrameNo, Grant, Grants, Kind, Make, Reply, Rights,
+    Setup, Value,
 };
 use std::alloc::Global;
 use std::process::Abort;
@@ -47,6 +47,7 @@ fn copies_looks_and_removes(rt: HostRuntime) -> Result<(), Fail> {
         a: CapId::new(3),
         t: CapId::new(1),
         b: CapId::new(20),
+        rights: Rights::both(),
     };
     is_answered(&rt, &mut kernel, rt.alloc(), &copy, done());
     is_answered(&rt, &mut kernel, rt.alloc(), &copy, Reply::Occupied);

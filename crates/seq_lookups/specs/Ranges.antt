@@ -6,7 +6,7 @@ use Rattle.spk_nums.specs.declared.calls.Make.TheVariants as make
 use Rattle.spk_nums.specs.declared.calls.Call.{Call}
 use Rattle.spk_nums.specs.declared.calls.Call.TheVariants.{Retype, Make as make_call, Map, Touch, Gate, Tick, Transfer, Delegate}
 use Rattle.kernel_rules.specs.State.{State, comp_in, comp_of}
-use Rattle.kernel_rules.specs.Access.{only}
+use Rattle.kernel_rules.specs.Access.{to_use, only}
 use Rattle.kernel_rules.specs.Rules.{Judged, Refused, Found, named, mapped}
 use Rattle.kernel_rules.specs.CapabilityCalls.{epoch_of}
 use Rattle.kernel_rules.specs.Ranges.{budget_at}
@@ -18,7 +18,7 @@ WhereFound (Found x) P = P x
 
 -- A range that core c names ends within the machine's frames.
 abbrev pub RangeEnds : State → ℕ → ℕ → Type 0
-RangeEnds s c r = WhereFound (named s c r (only kind.Range)) λ k. k.frame + k.arg ≤ s.limits.frames
+RangeEnds s c r = WhereFound (named s c r (to_use (only kind.Range))) λ k. k.frame + k.arg ≤ s.limits.frames
 
 -- The last epoch of the liveness number that a `make` takes is within the limit.
 abbrev pub EpochFits : State → Make → Type 0
@@ -31,12 +31,12 @@ PageFound s c v = WhereFound (mapped s c (comp_of s c).pages v) λ k. k.kind ≡
 
 -- A component that core c names was made in an epoch, which counts from 1.
 abbrev pub HasEpoch : State → ℕ → ℕ → Type 0
-HasEpoch s c comp = WhereFound (named s c comp (only kind.Comp)) λ k. 1 ≤ (comp_in (s.frame k.frame)).epoch
+HasEpoch s c comp = WhereFound (named s c comp (to_use (only kind.Comp))) λ k. 1 ≤ (comp_in (s.frame k.frame)).epoch
 
 -- The budgets of two temporal capabilities that core c names sum to less than 2^32, where they are not one.
 abbrev pub BudgetsFit : State → ℕ → ℕ → ℕ → Type 0
 BudgetsFit s c a b =
-    WhereFound (named s c a (only kind.Tcap)) λ x. WhereFound (named s c b (only kind.Tcap)) λ y.
+    WhereFound (named s c a (to_use (only kind.Tcap))) λ x. WhereFound (named s c b (to_use (only kind.Tcap))) λ y.
     x.frame ≢ y.frame → budget_at s x.frame + budget_at s y.frame < 2 ^ 32
 
 -- The ticks that core c owes with n more, and those that it has spent with its current budget, sum to less than 2^64.

@@ -2,17 +2,18 @@
 
 ghost use Rattle.std.specs.Prelude.{◌≡◌, ◌<◌, ◌≤◌, ◌+◌, IfOk};
 ghost use Rattle.kernel_rules.specs.Access.{held_in, found, only, usable, reached};
-ghost use Rattle.kernel_rules.specs.Rules.{named, vacant, not_vacant, held, mapped, of_kind, and_then, or_refuse, unless, refusal_of};
+ghost use Rattle.kernel_rules.specs.Access.{to_use};
+ghost use Rattle.kernel_rules.specs.Rules.{with_rights, named, vacant, not_vacant, held, mapped, of_kind, and_then, or_refuse, unless, refusal_of};
 ghost use Rattle.seq_state.specs.Parts.{place_held, thing_of};
 ghost use Rattle.seq_state.specs.Maps.{state_of};
-ghost use Rattle.seq_lookups.specs.Judged.{judged, wants};
+ghost use Rattle.seq_lookups.specs.Judged.{judged, wants, want_of};
 ghost use Rattle.seq_lookups.specs.Places.{target_of};
 
 use crate::objects::comp_of;
 use crate::slots::{Slot, Target, place_at, reached, usable};
 use crate::waiting::{flushes_of, waits_of};
 use seq_state::{Place, SeqKernel, Thing};
-use spk_nums::{Cap, CapId, CoreNo, FrameArg, FrameNo, Kind, PageNo, Reply};
+use spk_nums::{Cap, CapId, CoreNo, FrameArg, FrameNo, Kind, PageNo, Reply, Rights};
 
 /// The kinds of capability that a name may lead to.
 #[derive(Clone, Copy, PartialEq, Eq, Debug)]
@@ -43,12 +44,23 @@ fn is_wanted(wanted: Wanted, kind: Kind) -> bool
     }
 }
 
-/// The capability, where its kind is wanted.
-fn of_kind(wanted: Wanted, cap: Cap) -> Result<Cap, Reply>
-    ensures { judged result ≡ of_kind (wants wanted) cap }
+/// The capability, where it has the rights that are needed.
+fn with_rights(needs: Rights, cap: Cap) -> Result<Cap, Reply>
+    ensures { judged result ≡ with_rights needs.0 cap }
+{
+    if cap.rights().has(needs) {
+        Ok(cap)
+    } else {
+        Err(Reply::NoRight)
+    }
+}
+
+/// The capability, where its kind is wanted and it has the rights that are needed.
+fn of_kind(wanted: Wanted, needs: Rights, cap: Cap) -> Result<Cap, Reply>
+    ensures { judged result ≡ of_kind (want_of wanted needs) cap }
 {
     if is_wanted(wanted, cap.kind()) {
-        Ok(cap)
+        with_rights(needs, cap)
     } else {
         Err(Reply::WrongCap)
     }
@@ -64,28 +76,49 @@ fn slot_or(k: &SeqKernel, core: CoreNo, target: Target, refusal: Reply) -> Resul
     }
 }
 
-/// What a core may use at a slot, of a wanted kind.
-fn named_at(k: &SeqKernel, core: CoreNo, at: Slot, wanted: Wanted) -> Result<Cap, Reply>
-    ensures { judged result ≡ and_then (or_refuse (usable (state_of k.now) core at) Empty) (of_kind (wants wanted)) }
+/// What a core may use at a slot, of a wanted kind and with the rights that are needed.
+fn named_at(
+    k: &SeqKernel,
+    core: CoreNo,
+    at: Slot,
+    wanted: Wanted,
+    needs: Rights,
+) -> Result<Cap, Reply>
+    ensures { judged result ≡ and_then (or_refuse (usable (state_of k.now) core at) Empty) (of_kind (want_of wanted needs)) }
 {
     match usable(k, core, at) {
-        Some(cap) => of_kind(wanted, cap),
+        Some(cap) => of_kind(wanted, needs, cap),
         None => Err(Reply::Empty),
     }
 }
 
-/// The capability that a core names: `no-slot` where it reaches no slot under the number in the table of the component that
-/// it works in, `empty` where it may use nothing there, `wrong-cap` where the kind is not wanted.
+/// The capability that a core names to use it, as `named_for` with the right to use.
 pub fn named(k: &SeqKernel, core: CoreNo, name: CapId, wanted: Wanted) -> Result<Cap, Reply>
     requires { core < (state_of k.now).limits.cores }
-    ensures { judged result ≡ named (state_of k.now) core name (wants wanted) }
+    ensures { judged result ≡ named (state_of k.now) core name (to_use (wants wanted)) }
+{
+    named_for(k, core, name, wanted, Rights::USE)
+}
+
+/// The capability that a core names: `no-slot` where it reaches no slot under the number in the table of the component that
+/// it works in, `empty` where it may use nothing there, `wrong-cap` where the kind is not wanted, `no-right` where a right that
+/// is needed is lacking.
+pub fn named_for(
+    k: &SeqKernel,
+    core: CoreNo,
+    name: CapId,
+    wanted: Wanted,
+    needs: Rights,
+) -> Result<Cap, Reply>
+    requires { core < (state_of k.now).limits.cores }
+    ensures { judged result ≡ named (state_of k.now) core name (want_of wanted needs) }
 {
     let target = Target::Under {
         root: comp_of(k, core).table,
         number: name.number(),
     };
     match slot_or(k, core, target, Reply::NoSlot) {
-        Ok(at) => named_at(k, core, at, wanted),
+        Ok(at) => named_at(k, core, at, wanted, needs),
         Err(refusal) => Err(refusal),
     }
 }
