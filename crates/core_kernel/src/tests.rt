@@ -11,7 +11,7 @@ use crate::seat::CoreSeat;
 use crate::threads::cross_threads;
 use crate::whole::run_whole;
 use spk_nums::{
-    Call, Cap, CapId, CoreNo, FrameNo, Grant, Grants, Kind, Memory, Reply, Setup, Value,
+    Call, Cap, CapId, CoreNo, FrameNo, Grant, Grants, Kind, Memory, Reply, Rights, Setup, Value,
 };
 use std::alloc::Global;
 use word_map::Closed;
@@ -32,6 +32,7 @@ fn copy(a: u16, b: u16) -> Call
         a: CapId::new(a),
         t: CapId::new(1),
         b: CapId::new(b),
+        rights: Rights::both(),
     }
 }
 

@@ -59,6 +59,7 @@ pub fn sum_up(alloc: Global, bytes: &[u8]) -> Result<Summed, Memory>
         Err(ReadFault::Script { line, cause }) => return Ok(Summed::NoScript { line, cause }),
     };
     let Script {
+        version: _,
         setup,
         lists,
         order,

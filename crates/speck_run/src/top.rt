@@ -160,6 +160,7 @@ fn judge_input<R: Threads + Sync, G: Gate>(
         return answer_run(rt, alloc, gate, &script);
     }
     let Script {
+        version: _,
         setup,
         lists,
         order,
@@ -208,6 +209,7 @@ fn answer_load(alloc: Global, number: u32) -> Result<Answer, Memory>
 {
     let script = made_script(alloc, number)?;
     let Script {
+        version: _,
         setup,
         lists,
         order,

@@ -59,7 +59,7 @@ fn a_number_is_read_with_zeros_before_it(rt: HostRuntime) -> Result<(), Fail> {
 }
 
 // The words of replies, in the order of their numbers.
-const WORDS: [&str; 24] = [
+const WORDS: [&str; 25] = [
     "ok",
     "no-slot",
     "empty",
@@ -84,6 +84,7 @@ const WORDS: [&str; 24] = [
     "busy",
     "fault",
     "calls-spent",
+    "no-right",
 ];
 
 // How many of these lines tell a reply of this word, or of any word where none is told.

@@ -1,6 +1,6 @@
 use spk_nums::{
     Call, Cap, CapId, CoreNo, Decision, EntryNo, FrameArg, FrameKind, FrameNo, Kind, Make,
-    PageFlags, PageNo, Reply, ReplyLine, Value, call_name, reply_name, reply_number,
+    PageFlags, PageNo, Reply, ReplyLine, Rights, Value, call_name, reply_name, reply_number,
 };
 use std::alloc::Global;
 use std::fmt::Display;
@@ -36,9 +36,22 @@ fn looks_copies_and_removals_print_as_they_are_written(rt: HostRuntime) -> Resul
             &Call::Copy {
                 a: id(0),
                 t: id(1),
-                b: id(20)
+                b: id(20),
+                rights: Rights::both()
             },
             "copy 0 1 20"
+        )?
+    );
+    assert!(rt;
+        prints(
+            alloc,
+            &Call::Copy {
+                a: id(0),
+                t: id(1),
+                b: id(20),
+                rights: Rights::COPY
+            },
+            "copy 0 1 20 1"
         )?
     );
     assert!(rt;
@@ -261,6 +274,7 @@ fn replies_print_their_word_and_number(rt: HostRuntime) -> Result<(), Fail> {
     assert!(rt; prints(alloc, &Reply::Quiescing(core), "quiescing 1")?);
     assert!(rt; prints(alloc, &Reply::Referenced(2), "referenced 2")?);
     assert!(rt; prints(alloc, &Reply::CallsSpent, "calls-spent")?);
+    assert!(rt; prints(alloc, &Reply::NoRight, "no-right")?);
     assert!(rt;
         prints(
             alloc,
