@@ -1,6 +1,6 @@
 -- The decision of a call that makes a component: the compare of its target, where it is won, makes the frame the component, its number live
 -- for it, and puts its capability there.
-use Rattle.scan_invariant.proofs.Common.{All, ◌≡◌, Bool, true, false, Some, None, refl, ℕ, ◌<◌, ◌^◌, arith, ◌≢◌, ◌+◌, sym, ◌&&◌, [], ◌∷◌}
+use Rattle.scan_invariant.proofs.Common.{Want, All, ◌≡◌, Bool, true, false, Some, None, refl, ℕ, ◌<◌, ◌^◌, arith, ◌≢◌, ◌+◌, sym, ◌&&◌, [], ◌∷◌}
 use Rattle.scan_invariant.proofs.Common.{ap, ◌∙◌, subst, ◌≤◌, IsTrue, ◌⊎◌, inl, inr, max, map, ◌+ℤ◌, Option, ◌++◌, zero, suc, All-nil}
 use Rattle.scan_invariant.proofs.Common.{All-cons, All-head, All-tail, ne_eqb, eqb-true, cases_eq, false≢true, Capability, Setting}
 use Rattle.scan_invariant.proofs.Common.{IsSetting, left_if, Kind, entry_of_word, EntryFits, word_of_entry, Held, frame_of_word}
@@ -230,7 +230,7 @@ module _ (setup : Setting) (setting : IsSetting setup) (cores : ℕ → Core) (t
 
   fits : EntryFits (Held k)
   fits = subst (λ x. EntryFits (Held x)) (sym knows.cap) (let few = few_frames in
-      let low = below in (omega (arith, few, low), omega arith, omega arith))
+      let low = below in (omega (arith, few, low), omega arith, omega arith, omega arith, omega arith))
 
   new_says : entry_of_word new ≡ Some (Held k)
   new_says = entries.spelling.reads (Held k) fits
@@ -665,7 +665,7 @@ module _ (setup : Setting) (setting : IsSetting setup) (cores : ℕ → Core) (t
         table_is : (cores c).own.table ≡ (comp_of s c).table
         table_is = (stands.each c here).works.table
 
-        own_gone : (n : ℕ) (wanted : Kind → Bool) (q : Capability) → HasFound setup t c (own_in (cores c).own.table n) wanted q
+        own_gone : (n : ℕ) (wanted : Want) (q : Capability) → HasFound setup t c (own_in (cores c).own.table n) wanted q
             → LeadsIn s c n wanted q × HasReached (e ∷ t) c (way_to s c (own s c n))
         own_gone n wanted q had = (
           found_named setup t c (cores c).own.table n wanted q table_is had,

@@ -81,7 +81,7 @@ switch_begun s c q name (Some e) = λ calm l is.
 
 rule_begun : (s : State) (c : ℕ) (call : Call) → ChangesFrom (Begun s) s c (rule_of s c call)
 rule_begun s c (Look a) = λ k e calm l is. no_thing _ is
-rule_begun s c (Copy a t b) = λ k e table f at v calm l is. no_thing _ is
+rule_begun s c (Copy a t b rights) = λ k e table f at v calm l is. no_thing _ is
 rule_begun s c (Remove t b) = λ table e at k g calm l is. no_frame_thing _ l (place_names (Holds k)) is
 rule_begun s c (Grow t i n) = λ table e leaf f at v calm l is. no_thing _ is
 rule_begun s c (Shrink t i) = λ table e at k g calm l is. no_frame_thing _ l (place_names (Holds k)) is

@@ -24,6 +24,7 @@ use Rattle.call_stages.specs.act_states.specs.declared.objects.NewObject.{NewObj
 use Rattle.std.specs.Prelude.{◌≡◌, ◌≢◌, ◌<◌, ◌≤◌, ◌+◌, ◌++◌, ◌/◌, ℕ, ℤ, Bool, true, false, map, All, List}
 use Rattle.std.specs.Prelude.{[], ◌∷◌, length, Option, Some, None, IsSome, IsTrue, not, ◌^◌, ◌⊎◌, is_some}
 use Rattle.kernel_invariant.specs.spk_nums.specs.Capability.{Capability}
+use Rattle.kernel_invariant.specs.spk_nums.specs.Rights.{has_rights}
 use Rattle.kernel_invariant.specs.spk_nums.specs.Setting.{Setting}
 use Rattle.kernel_invariant.specs.spk_nums.specs.declared.kinds.Kind.{Kind}
 use Rattle.kernel_invariant.specs.spk_nums.specs.declared.kinds.Kind.TheVariants.{Comp as comp_kind}
@@ -47,7 +48,7 @@ use Rattle.kernel_invariant.specs.kernel_rules.specs.State.{NumberOf, Dead}
 use Rattle.kernel_invariant.specs.kernel_rules.specs.MemoryCalls.{translation_of}
 use Rattle.call_stages.specs.act_states.specs.declared.touches.Touching.{Touching}
 use Rattle.call_stages.specs.act_states.specs.Touches.{is_at_page}
-use Rattle.kernel_invariant.specs.kernel_rules.specs.Access.{Slot, Named, root_at, Target, Under, InRoot, usable, linked, root_slot}
+use Rattle.kernel_invariant.specs.kernel_rules.specs.Access.{Want, Slot, Named, root_at, Target, Under, InRoot, usable, linked, root_slot}
 use Rattle.kernel_invariant.specs.kernel_rules.specs.Access.{reached, found}
 use Rattle.kernel_invariant.specs.kernel_rules.specs.Fitting.{fits}
 use Rattle.kernel_invariant.specs.kernel_rules.specs.Relies.{IsGuarded, Relies}
@@ -132,12 +133,13 @@ pub record IsReached (setup : Setting) (t : Trace) (c : ℕ) (target : Target) (
   pub reached : reached (state_after setup t) c target ≡ Some at
   pub stepped : HasReached t c (root_passed target ++ at ∷ [])
 
--- Core c reaches a slot by the target, and may use this capability there, of a wanted kind.
-pub record HasFound (setup : Setting) (t : Trace) (c : ℕ) (target : Target) (wanted : Kind → Bool) (k : Capability) : Type 0 where
+-- Core c reaches a slot by the target, and may use this capability there, of a wanted kind and with the rights needed.
+pub record HasFound (setup : Setting) (t : Trace) (c : ℕ) (target : Target) (wanted : Want) (k : Capability) : Type 0 where
   pub at : Slot
   pub way : IsReached setup t c target at
   pub usable : usable (state_after setup t) c at ≡ Some k
-  pub kind : wanted k.kind ≡ true
+  pub kind : wanted.kinds k.kind ≡ true
+  pub right : has_rights k.rights wanted.needs ≡ true
   pub fits : EntryFits (entry.Held k)
 
 -- A look-up of a number is before the root entry that it chooses.

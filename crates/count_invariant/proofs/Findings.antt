@@ -1,11 +1,11 @@
 -- What a look-up that has arrived has found: the name of a call, or the place of its target.
-use Rattle.step_ways.proofs.Common.{◌≡◌, ℕ, ◌%◌, ◌&&◌, ◌||◌, ◌++◌, ◌∷◌, [], Bool, true, false, not, nat_le, if◌then◌else◌, Option, Some}
+use Rattle.step_ways.proofs.Common.{Want, ◌≡◌, ℕ, ◌%◌, ◌&&◌, ◌||◌, ◌++◌, ◌∷◌, [], Bool, true, false, not, nat_le, if◌then◌else◌, Option, Some}
 use Rattle.step_ways.proofs.Common.{None, refl, sym, ◌∙◌, ap, subst, IsTrue, IsSome, IsSomeAnd, is_some, option_to_list, leb-false}
 use Rattle.step_ways.proofs.Common.{lt-ltb, All-nil, All-cons, All-append, Capability, Setting, Kind, EntryFits, Held, EntryAt, LoadOf}
 use Rattle.step_ways.proofs.Common.{word_of, Holds, PlaceOf, State, comp_of, Slot, Named, found, Target, Under, InRoot, place_at, held_in}
 use Rattle.step_ways.proofs.Common.{usable_in, usable, reached, has_no_slot, own, Refused, Found, and_then, or_refuse, named, Step, Trace}
 use Rattle.step_ways.proofs.Common.{state_after, own_left, root_passed, way_to, HasReached, HasFound, own_in, own_kept, holds_link}
-use Rattle.step_ways.proofs.Common.{linked, root_slot, slot_in, Word}
+use Rattle.step_ways.proofs.Common.{linked, root_slot, slot_in, Word, has_rights, Lacks, ReachesLacking, with_rights}
 use Rattle.std.proofs.Common.{IsFalse}
 use Rattle.plan_ways.specs.spk_nums.specs.declared.replies.Reply.TheVariants as reply
 use Rattle.plan_ways.specs.kernel_rules.specs.State.{Free as Vacant, Quiescing as Removed}
@@ -44,41 +44,56 @@ reaches_held s c target at k is holds =
 pub use_held : (s : State) (c : ℕ) (at : Slot) (k : Capability) → place_at s at ≡ Holds k → usable s c at ≡ Some k
 use_held s c at k holds = ap (λ p. usable_in p ((s.grace (PlaceOf at.node at.index)).waits c)) holds
 
-pub reaches_other : (s : State) (c : ℕ) (target : Target) (at : Slot) (k : Capability) (wanted : Kind → Bool)
+pub reaches_other : (s : State) (c : ℕ) (target : Target) (at : Slot) (k : Capability) (wanted : Want)
     → reached s c target ≡ Some at → place_at s at ≡ Holds k
-    → wanted k.kind ≡ false → ReachesOther s c target wanted
+    → wanted.kinds k.kind ≡ false → ReachesOther s c target wanted
 reaches_other s c target at k wanted is holds other =
-    some_and (λ at. IsSomeAnd (usable s c at) λ k. IsFalse (wanted k.kind)) (reached s c target) at is
-    (some_and (λ k. IsFalse (wanted k.kind)) (usable s c at) k (use_held s c at k holds) other)
+    some_and (λ at. IsSomeAnd (usable s c at) λ k. IsFalse (wanted.kinds k.kind)) (reached s c target) at is
+    (some_and (λ k. IsFalse (wanted.kinds k.kind)) (usable s c at) k (use_held s c at k holds) other)
 
--- A name is found where its target reaches a slot at which a capability of the wanted kind may be used.
-pub named_of : (s : State) (c n : ℕ) (wanted : Kind → Bool) (at : Slot) (k : Capability) → reached s c (own s c n) ≡ Some at
+pub reaches_lacking : (s : State) (c : ℕ) (target : Target) (at : Slot) (k : Capability) (wanted : Want)
+    → reached s c target ≡ Some at → place_at s at ≡ Holds k
+    → wanted.kinds k.kind ≡ true → has_rights k.rights wanted.needs ≡ false → ReachesLacking s c target wanted
+reaches_lacking s c target at k wanted is holds kind lacks =
+    some_and (λ at. IsSomeAnd (usable s c at) (Lacks wanted)) (reached s c target) at is
+    (some_and (Lacks wanted) (usable s c at) k (use_held s c at k holds) (kind, lacks))
+
+-- A name is found where its target reaches a slot at which a capability of the wanted kind, with the rights needed, may be used.
+pub named_of : (s : State) (c n : ℕ) (wanted : Want) (at : Slot) (k : Capability) → reached s c (own s c n) ≡ Some at
     → usable s c at ≡ Some k
-    → wanted k.kind ≡ true → named s c n wanted ≡ Found k
-named_of s c n wanted at k r u w =
+    → wanted.kinds k.kind ≡ true → has_rights k.rights wanted.needs ≡ true → named s c n wanted ≡ Found k
+named_of s c n wanted at k r u w h =
     ap (λ x. and_then (or_refuse x reply.NoSlot) λ at. and_then (or_refuse (usable s c at) reply.Empty) λ k. of_kind wanted k) r
     ∙ ap (λ x. and_then (or_refuse x reply.Empty) λ k. of_kind wanted k) u
-    ∙ ap (λ b. if b then Found k else Refused reply.WrongCap) w
+    ∙ ap (λ b. if b then with_rights wanted.needs k else Refused reply.WrongCap) w ∙ ap (λ b. if b then Found k else Refused reply.NoRight) h
 
--- And refused where it reaches no slot, may use nothing there, or a capability of another kind.
-pub named_no_slot : (s : State) (c n : ℕ) (wanted : Kind → Bool) → reached s c (own s c n) ≡ None
+-- And refused where it reaches no slot, may use nothing there, or a capability of another kind, or one that lacks a right.
+pub named_no_slot : (s : State) (c n : ℕ) (wanted : Want) → reached s c (own s c n) ≡ None
     → named s c n wanted ≡ Refused reply.NoSlot
 named_no_slot s c n wanted r =
     ap (λ x. and_then (or_refuse x reply.NoSlot) λ at. and_then (or_refuse (usable s c at) reply.Empty) λ k. of_kind wanted k) r
 
-pub named_empty : (s : State) (c n : ℕ) (wanted : Kind → Bool) (at : Slot) → reached s c (own s c n) ≡ Some at → usable s c at ≡ None
+pub named_empty : (s : State) (c n : ℕ) (wanted : Want) (at : Slot) → reached s c (own s c n) ≡ Some at → usable s c at ≡ None
     → named s c n wanted ≡ Refused reply.Empty
 named_empty s c n wanted at r u =
     ap (λ x. and_then (or_refuse x reply.NoSlot) λ at. and_then (or_refuse (usable s c at) reply.Empty) λ k. of_kind wanted k) r
     ∙ ap (λ x. and_then (or_refuse x reply.Empty) λ k. of_kind wanted k) u
 
-pub named_wrong : (s : State) (c n : ℕ) (wanted : Kind → Bool) (at : Slot) (k : Capability) → reached s c (own s c n) ≡ Some at
+pub named_wrong : (s : State) (c n : ℕ) (wanted : Want) (at : Slot) (k : Capability) → reached s c (own s c n) ≡ Some at
     → usable s c at ≡ Some k
-    → wanted k.kind ≡ false → named s c n wanted ≡ Refused reply.WrongCap
+    → wanted.kinds k.kind ≡ false → named s c n wanted ≡ Refused reply.WrongCap
 named_wrong s c n wanted at k r u w =
     ap (λ x. and_then (or_refuse x reply.NoSlot) λ at. and_then (or_refuse (usable s c at) reply.Empty) λ k. of_kind wanted k) r
     ∙ ap (λ x. and_then (or_refuse x reply.Empty) λ k. of_kind wanted k) u
-    ∙ ap (λ b. if b then Found k else Refused reply.WrongCap) w
+    ∙ ap (λ b. if b then with_rights wanted.needs k else Refused reply.WrongCap) w
+
+pub named_lacking : (s : State) (c n : ℕ) (wanted : Want) (at : Slot) (k : Capability) → reached s c (own s c n) ≡ Some at
+    → usable s c at ≡ Some k
+    → wanted.kinds k.kind ≡ true → has_rights k.rights wanted.needs ≡ false → named s c n wanted ≡ Refused reply.NoRight
+named_lacking s c n wanted at k r u w h =
+    ap (λ x. and_then (or_refuse x reply.NoSlot) λ at. and_then (or_refuse (usable s c at) reply.Empty) λ k. of_kind wanted k) r
+    ∙ ap (λ x. and_then (or_refuse x reply.Empty) λ k. of_kind wanted k) u
+    ∙ ap (λ b. if b then with_rights wanted.needs k else Refused reply.WrongCap) w ∙ ap (λ b. if b then Found k else Refused reply.NoRight) h
 
 -- A number past its range reaches no slot.
 pub past_unreached : (s : State) (c : ℕ) (table : Named) (n : ℕ) → nat_le n 4095 ≡ false → reached s c (Under table n) ≡ None
@@ -101,12 +116,12 @@ pub use_removed_at : (s : State) (c : ℕ) (at : Slot) (k : Capability) → plac
 use_removed_at s c at k is nobody =
     use_removed (place_at s at) k ((s.grace (PlaceOf at.node at.index)).waits c) is (nobody (PlaceOf at.node at.index) c)
 
-pub found_named : (setup : Setting) (t : Trace) (c table n : ℕ) (wanted : Kind → Bool) (k : Capability)
+pub found_named : (setup : Setting) (t : Trace) (c table n : ℕ) (wanted : Want) (k : Capability)
     → table ≡ (comp_of (state_after setup t) c).table
     → HasFound setup t c (own_in table n) wanted k → named (state_after setup t) c n wanted ≡ Found k
 found_named setup t c table n wanted k is has =
     named_of (state_after setup t) c n wanted has.at k
-    (ap (reached (state_after setup t) c) (sym (own_is (state_after setup t) c table n is)) ∙ has.way.reached) has.usable has.kind
+    (ap (reached (state_after setup t) c) (sym (own_is (state_after setup t) c table n is)) ∙ has.way.reached) has.usable has.kind has.right
 
 -- The places of a way that a call has gone.
 pub way_gone : (setup : Setting) (t : Trace) (d : Trace) (c : ℕ) (target : Target) (at : Slot)
@@ -138,8 +153,14 @@ module _ (setup : Setting) (t : Trace) (c : ℕ) (target : Target) (at : Slot) (
     stepped = gone_with setup t c target at arriving refl refl (own_kept t arriving c refl refl) arrives;
   }
 
-  pub found_now : (wanted : Kind → Bool) (k : Capability) → place_at (state_after setup t) at ≡ Holds k → wanted k.kind ≡ true
-      → EntryFits (Held k)
+  pub found_now : (wanted : Want) (k : Capability) → place_at (state_after setup t) at ≡ Holds k → wanted.kinds k.kind ≡ true
+      → has_rights k.rights wanted.needs ≡ true → EntryFits (Held k)
       → HasFound setup (arriving ∷ t) c target wanted k
-  found_now wanted k holds kind fits =
-      record { at = at; way = reached_now; usable = use_held (state_after setup t) c at k holds; kind = kind; fits = fits }
+  found_now wanted k holds kind right fits = record {
+    at = at;
+    way = reached_now;
+    usable = use_held (state_after setup t) c at k holds;
+    kind = kind;
+    right = right;
+    fits = fits;
+  }

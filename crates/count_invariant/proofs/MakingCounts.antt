@@ -1,5 +1,5 @@
 -- The counts and the frame of a call that makes an object, and what it has still to store where it is refused.
-use Rattle.step_ways.proofs.Common.{◌≡◌, Bool, true, false, Option, Some, None, ◌∙◌, refl, ℕ, ◌<◌, ◌^◌, ◌==◌, sym, [], ◌∷◌, ◌++◌, ap}
+use Rattle.step_ways.proofs.Common.{Want, ◌≡◌, Bool, true, false, Option, Some, None, ◌∙◌, refl, ℕ, ◌<◌, ◌^◌, ◌==◌, sym, [], ◌∷◌, ◌++◌, ap}
 use Rattle.step_ways.proofs.Common.{subst, IsTrue, ◌||◌, map, eqb-true, eq-eqb, false≢true, Capability, Setting, Call, Make, Kind, only}
 use Rattle.step_ways.proofs.Common.{own, reached, usable, Found, Refused, named, and_then, or_refuse, only_is, frame_of_word, rule_of}
 use Rattle.step_ways.proofs.Common.{named_by, State, counts_references, changes_frames, frames_near, is_one_of, frames_named}
@@ -10,7 +10,7 @@ use Rattle.std.specs.Prelude.{List, ℤ, pos, if◌then◌else◌}
 use Rattle.plan_ways.specs.spk_nums.specs.declared.calls.Make.TheVariants as make
 use Rattle.plan_ways.specs.spk_nums.specs.declared.kinds.Kind.TheVariants as kind
 use Rattle.plan_ways.specs.kernel_rules.specs.Rules.{of_kind}
-use Rattle.plan_ways.specs.kernel_invariant.proofs.Facts.{then_parts, found_inj, refused_found}
+use Rattle.plan_ways.specs.kernel_invariant.proofs.Facts.{Suits, then_parts, suits}
 use Rattle.plan_ways.specs.spk_nums.specs.declared.replies.Reply.TheVariants as reply
 use Rattle.plan_ways.specs.spk_nums.specs.declared.calls.Call.TheVariants.{Make as make_call}
 use Rattle.plan_ways.specs.frame_words.proofs.FrameLemmas as frames
@@ -90,17 +90,13 @@ made_due object f (Store word entry) xs d rest is = due_here object f xs d rest 
 made_due object f (making_fill word) xs d rest is = due_here object f xs d rest is
 
 -- A name leads to a capability of a wanted kind.
-pub named_kind : (s : State) (c n : ℕ) (wanted : Kind → Bool) (k : Capability) → named s c n wanted ≡ Found k → wanted k.kind ≡ true
+pub named_kind : (s : State) (c n : ℕ) (wanted : Want) (k : Capability) → named s c n wanted ≡ Found k → wanted.kinds k.kind ≡ true
 named_kind s c n wanted k e =
     let a = then_parts (or_refuse (reached s c (own s c n)) reply.NoSlot)
     (λ at. and_then (or_refuse (usable s c at) reply.Empty) λ k. of_kind wanted k) k e in
     let b = then_parts (or_refuse (usable s c a.0) reply.Empty) (λ k. of_kind wanted k) k a.2 in
-    of_wanted b.0 (wanted b.0.kind) refl b.2
-  where
-    of_wanted : (j : Capability) (b : Bool) → wanted j.kind ≡ b → (if b then Found j else Refused reply.WrongCap) ≡ Found k
-        → wanted k.kind ≡ true
-    of_wanted j true is q = ap (λ (x : Capability). wanted x.kind) (sym (found_inj j k q)) ∙ is
-    of_wanted j false is q = absurd (refused_found reply.WrongCap k q)
+    let w : Suits wanted b.0 k = suits wanted b.0 k b.2 in
+    ap (λ (x : Capability). wanted.kinds x.kind) (sym w.is) ∙ w.kind
 
 same_object : (x y : NewObject) → Some x ≡ Some y → x ≡ y
 same_object x y h = cc

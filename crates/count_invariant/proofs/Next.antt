@@ -4,20 +4,20 @@ use Rattle.step_ways.proofs.Common.{Setting, IsSetting, Kind, Call, State, Slot,
 use Rattle.step_ways.proofs.Common.{IsLegal, Name, Spot, Plan, at_place, wants, with_found, names_after, Leads, NextName, next_of}
 use Rattle.std.proofs.Common.{IsSomeAnd}
 use Rattle.plan_ways.specs.spk_nums.specs.declared.kinds.Kind.TheVariants as kind
-use Rattle.plan_ways.specs.kernel_rules.specs.Access.{root}
+use Rattle.plan_ways.specs.kernel_rules.specs.Access.{Want, root}
 use Rattle.step_ways.specs.found_stays.proofs.Stays.{names_node}
 use Rattle.step_ways.specs.trace_laws.proofs.Stays.{relies_usable}
 use Rattle.plan_ways.specs.call_plans.specs.declared.plans.Target.{Target}
-use Rattle.plan_ways.specs.call_plans.specs.GoesBy.{earlier}
+use Rattle.plan_ways.specs.call_plans.specs.GoesBy.{want_of, earlier}
 use Rattle.plan_ways.specs.call_plans.specs.After.{next_in, next_target}
 use Rattle.plan_ways.specs.call_plans.specs.Rooted.{root_of, WantsRoot, RootIs}
 use Rattle.plan_ways.specs.call_plans.proofs.Roots.{earlier_is, Led, nth_led}
 
 -- The core may use this capability, of a wanted kind, at some slot.
-pub record MayUse (s : State) (c n : ℕ) (wanted : Kind → Bool) (k : Capability) : Type 0 where
+pub record MayUse (s : State) (c n : ℕ) (wanted : Want) (k : Capability) : Type 0 where
   pub at : Slot
   pub usable : usable s c at ≡ Some k
-  pub kind : wanted k.kind ≡ true
+  pub kind : wanted.kinds k.kind ≡ true
 
 -- A root that is wanted is a node.
 root_names : (k : Kind) → IsTrue (root k) → IsTrue (names_node k)
@@ -65,7 +65,7 @@ rest_of plan ks = by (names_after plan.names ks) refl
     by (name ∷ names) is = ANameLeft name names is
 
 pub next_name : (plan : Plan) (ks : List Capability) (name : Name) (rest : List Name) → names_after plan.names ks ≡ name ∷ rest
-    → next_of plan ks ≡ NextName name.number (wants (with_found [] ks) name.wanted)
+    → next_of plan ks ≡ NextName name.number (want_of (with_found [] ks) name)
 next_name plan ks name rest is = ap (λ names. next_in (with_found [] ks) names plan.target) is
 
 pub next_end : (plan : Plan) (ks : List Capability) (target : Target) → names_after plan.names ks ≡ [] → plan.target ≡ target

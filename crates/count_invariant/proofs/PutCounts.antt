@@ -6,23 +6,24 @@ use Rattle.step_ways.proofs.Common.{All-head, All-tail, All-append, Capability, 
 use Rattle.step_ways.proofs.Common.{Kill, Grow, Touch, Flush, Map, Ret, Transfer, Delegate, Test, Switch, State, named_by}
 use Rattle.step_ways.proofs.Common.{counts_references, is_one_of, frames_near, only, Found, Refused, only_is, name_parts, at_place}
 use Rattle.step_ways.proofs.Common.{same_word-other, own_read-here, own_read-there, last_left-there, First, Second, plan_for, Leads}
-use Rattle.step_ways.proofs.Common.{LeadsIn, put_by}
+use Rattle.step_ways.proofs.Common.{LeadsIn, put_by, to_use, Suits, suits}
 use Rattle.std.proofs.Common.{length-append}
 use Rattle.std.proofs.Common.{lt-ltb}
 use Rattle.plan_ways.specs.spk_nums.specs.declared.calls.Call.TheVariants.{Look, Make as make_call}
 use Rattle.plan_ways.specs.spk_nums.specs.declared.calls.Call.TheVariants.{Call as call_gate}
+use Rattle.plan_ways.specs.spk_nums.specs.Rights.{kept}
+use Rattle.plan_ways.specs.spk_nums.specs.declared.rights.Rights.{Rights}
 use Rattle.plan_ways.specs.spk_nums.specs.declared.kinds.Kind.TheVariants.{Comp as comp_kind, Gate as gate_kind}
-use Rattle.plan_ways.specs.spk_nums.specs.declared.replies.Reply.TheVariants.{WrongCap}
 use Rattle.plan_ways.specs.kernel_rules.specs.Rules.{of_kind}
 use Rattle.plan_ways.proofs.Near.{near_found}
 use Rattle.count_invariant.proofs.LinkCounts.{link_near, page_near}
-use Rattle.act_fits.specs.act_states.specs.Acts.{gate_if, gate_to}
+use Rattle.act_fits.specs.act_states.specs.Acts.{gate_if, gate_to, kept_of}
 
 -- A call that fills its target changes references, and the frame that it names there is near it: a line a call.
 pub put_counts : (call : Call) (ks : List Capability) (read : Option ℕ) (k : Capability) → put_by call ks read ≡ Some k
     → IsTrue (counts_references call)
 put_counts (Look a) ks read k puts = absurd (cc)
-put_counts (Copy a u b) ks read k puts = refl
+put_counts (Copy a u b rights) ks read k puts = refl
 put_counts (Grow u i l) ks read k puts = refl
 put_counts (Remove u b) ks read k puts = absurd (cc)
 put_counts (Shrink u i) ks read k puts = absurd (cc)
@@ -45,16 +46,11 @@ put_counts (Switch x y) ks read k puts = absurd (cc)
 cap_same : (j k : Capability) → Some j ≡ Some k → j ≡ k
 cap_same j k h = cc
 
-found_same : (j k : Capability) → Found j ≡ Found k → j ≡ k
-found_same j k h = cc
-
 -- A name that wants a component has led to one.
-wanted_is : (j k : Capability) → of_kind (only comp_kind) j ≡ Found k → k.kind ≡ comp_kind
-wanted_is j k = by (only comp_kind j.kind) refl
-  where
-    by : (b : Bool) → only comp_kind j.kind ≡ b → (if b then Found j else Refused WrongCap) ≡ Found k → k.kind ≡ comp_kind
-    by true is h = ap (λ (x : Capability). x.kind) (sym (found_same j k h)) ∙ only_is comp_kind j.kind (subst IsTrue (sym is) refl)
-    by false is h = absurd (cc)
+wanted_is : (j k : Capability) → of_kind (to_use (only comp_kind)) j ≡ Found k → k.kind ≡ comp_kind
+wanted_is j k h =
+    let w : Suits (to_use (only comp_kind)) j k = suits (to_use (only comp_kind)) j k h in
+    ap (λ (x : Capability). x.kind) (sym w.is) ∙ only_is comp_kind j.kind w.kind
 
 -- A gate names the frame of the component to which its call's first name has led.
 gate_near : (s : State) (c : ℕ) (n u b : ℕ) (ks : List Capability) (o : Option Capability) (read : Option ℕ) (k : Capability)
@@ -69,19 +65,30 @@ gate_near s c n u b (j ∷ ks) (Some comp) (Some epoch) k is puts lead f names_i
   where
     by : (some : Bool) → gate_if some comp.frame epoch ≡ Some k → is_one_of f (named_by j.kind j.frame) ≡ true
     by true h =
-        let parts = name_parts s c n (only comp_kind) j lead.0 in
+        let parts = name_parts s c n (to_use (only comp_kind)) j lead.0 in
         subst (λ x. is_one_of f (named_by x j.frame) ≡ true) (sym (wanted_is parts.2 j parts.4))
         (subst (λ (x : Capability). is_one_of f (x.frame ∷ []) ≡ true) (sym (cap_same j comp is))
         (subst (λ (x : Capability). is_one_of f (named_by x.kind x.frame) ≡ true)
         (sym (cap_same (cap_of gate_kind comp.frame epoch) k h)) names_it))
     by false h = absurd (cc)
 
+-- A copy names the frame of the capability to which its first name has led.
+copy_near : (s : State) (c a u b : ℕ) (rights : Rights) (ks : List Capability) (o : Option Capability) (k : Capability)
+    → at_place ks First ≡ o → kept_of rights.0 o ≡ Some k
+    → Leads (LeadsIn s c) (plan_for (Copy a u b rights)).names [] ks
+    → (f : ℕ) → is_one_of f (named_by k.kind k.frame) ≡ true → is_one_of f (frames_near s c (Copy a u b rights)) ≡ true
+copy_near s c a u b rights ks None k is puts lead f names_it = absurd (cc)
+copy_near s c a u b rights ks (Some j) k is puts lead f names_it =
+    near_found s c (Copy a u b rights) ks lead First j is f
+    (subst (λ (x : Capability). is_one_of f (named_by x.kind x.frame) ≡ true) (sym (cap_same (kept j rights.0) k puts)) names_it)
+
 pub put_near : (s : State) (c : ℕ) (call : Call) (ks : List Capability) (read : Option ℕ) (k : Capability)
     → put_by call ks read ≡ Some k
     → Leads (LeadsIn s c) (plan_for call).names [] ks
     → (f : ℕ) → is_one_of f (named_by k.kind k.frame) ≡ true → is_one_of f (frames_near s c call) ≡ true
 put_near s c (Look a) ks read k puts lead f names_it = absurd (cc)
-put_near s c (Copy a u b) ks read k puts lead f names_it = near_found s c (Copy a u b) ks lead First k puts f names_it
+put_near s c (Copy a u b rights) ks read k puts lead f names_it =
+    copy_near s c a u b rights ks (at_place ks First) k refl puts lead f names_it
 put_near s c (Grow u i l) ks read k puts lead f names_it = link_near s c u i l ks k puts lead f names_it
 put_near s c (Remove u b) ks read k puts lead f names_it = absurd (cc)
 put_near s c (Shrink u i) ks read k puts lead f names_it = absurd (cc)

@@ -1,5 +1,5 @@
 -- The entry of a call is good: its calls are spent, its first name has no slot, or it looks that name up.
-use Rattle.work_invariant.proofs.Common.{◌≡◌, ℕ, ◌+◌, ◌<◌, ◌≤◌, [], ◌∷◌, Bool, true, false, nat_le, length, Some, None, arith, refl, sym}
+use Rattle.work_invariant.proofs.Common.{Want, ◌≡◌, ℕ, ◌+◌, ◌<◌, ◌≤◌, [], ◌∷◌, Bool, true, false, nat_le, length, Some, None, arith, refl, sym}
 use Rattle.work_invariant.proofs.Common.{◌∙◌, ap, subst, inl, if◌then◌else◌, leb-true, leb-false, lt-ltb, Setting, IsSetting, Kind, Call}
 use Rattle.work_invariant.proofs.Common.{Copy, Remove, Shrink, Unmap, Retype, Tick, Gate, Kill, Grow, Touch, Flush, Map, Ret, Transfer}
 use Rattle.work_invariant.proofs.Common.{Delegate, Test, Switch, CoreAt, StoreOf, State, comp_of, first_of_stack, thread_in, thread_of}
@@ -101,7 +101,7 @@ module _ (setup : Setting) (setting : IsSetting setup) (cores : ℕ → Core) (t
       tt
 
   -- its first name is looked up
-  module _ (n : ℕ) (wanted : Kind → Bool) (next : next_of (plan_for call) [] ≡ NextName n wanted) where
+  module _ (n : ℕ) (wanted : Want) (next : next_of (plan_for call) [] ≡ NextName n wanted) where
     abbrev looking : Took
     looking = landed (fresh call) (Goes (Lookup (AtRoot (cores c).own.table n)))
 
@@ -390,7 +390,7 @@ module _ (setup : Setting) (setting : IsSetting setup) (cores : ℕ → Core) (t
   enters_first : (call : Call) (may : MayBegin call (cores c)) → is_spent (cores c).own ≡ false
       → GoodEntry setup setting cores t stands c here call may (landed (fresh call) (next_by (cores c).own (fresh call)))
   enters_first (look_call a) may unspent = enters_name setup setting cores t stands c here (look_call a) may a _ refl unspent
-  enters_first (Copy a u b) may unspent = enters_name setup setting cores t stands c here (Copy a u b) may a _ refl unspent
+  enters_first (Copy a u b rights) may unspent = enters_name setup setting cores t stands c here (Copy a u b rights) may a _ refl unspent
   enters_first (Grow u i l) may unspent = enters_name setup setting cores t stands c here (Grow u i l) may u _ refl unspent
   enters_first (Remove u b) may unspent = enters_name setup setting cores t stands c here (Remove u b) may u _ refl unspent
   enters_first (Shrink u i) may unspent = enters_name setup setting cores t stands c here (Shrink u i) may u _ refl unspent

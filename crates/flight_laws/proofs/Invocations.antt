@@ -1,5 +1,5 @@
 -- A call through a gate that is carried out enters a component that lives.
-use Rattle.time_laws.proofs.Common.{◌≡◌, ◌&&◌, ℕ, nat_le, length, not, [], ◌∷◌, ◌++◌, Bool, true, false, if◌then◌else◌}
+use Rattle.time_laws.proofs.Common.{to_use, ◌≡◌, ◌&&◌, ℕ, nat_le, length, not, [], ◌∷◌, ◌++◌, Bool, true, false, if◌then◌else◌}
 use Rattle.time_laws.proofs.Common.{Option, Some, None, refl, sym, ◌∙◌, ap, subst, eqb-true, false≢true, Capability, Setting, IsSetting}
 use Rattle.time_laws.proofs.Common.{Call, Value, Liveness, Unused, Live, Dead, State, comp_in, thread_of, Named, found, only, Found, Rule}
 use Rattle.time_laws.proofs.Common.{Does, When, IsFoundAnd, and_then, first_of, named, outcome, unless, is_live_in, pushes, MayReply, after}
@@ -32,7 +32,7 @@ module _ (s : State) (c n : ℕ) (v : Value) (gate : Capability) where
   by_causes true false is = absurd is
   by_causes false false is = absurd is
 
-  lives_at : named s c n (only kind.Gate) ≡ Found gate → RuleAnswers s c (call_rule s c n) v
+  lives_at : named s c n (to_use (only kind.Gate)) ≡ Found gate → RuleAnswers s c (call_rule s c n) v
       → is_live_in (s.number (comp_in (s.frame gate.frame)).number) gate.arg ≡ true
   lives_at leads answers =
       by_causes (nat_le 16 (length (thread_of s c).stack)) (is_live_in (s.number (comp_in (s.frame gate.frame)).number) gate.arg)

@@ -1,6 +1,6 @@
 -- The decision of a call that makes an object: the compare of its target, where it is won, makes the frame that object, and puts its
 -- capability there.
-use Rattle.place_invariant.proofs.Common.{counts_bare, may_keep, unlent_value, unlent_word, node_keeps_none, All, ◌≡◌, List, Bool, true}
+use Rattle.place_invariant.proofs.Common.{Want, counts_bare, may_keep, unlent_value, unlent_word, node_keeps_none, All, ◌≡◌, List, Bool, true}
 use Rattle.place_invariant.proofs.Common.{false, Some, None, refl, ℕ, ◌<◌, ◌^◌, ◌==◌, arith, ◌≢◌, ◌+◌, sym, ◌&&◌, [], ◌∷◌, ap, ◌∙◌, subst}
 use Rattle.place_invariant.proofs.Common.{◌≤◌, IsTrue, ◌⊎◌, inl, inr, max, map, ◌+ℤ◌, All-nil, All-cons, All-head, All-tail, ne_eqb}
 use Rattle.place_invariant.proofs.Common.{eqb-true, cases_eq, false≢true, Capability, Setting, IsSetting, left_if, Kind, entry_of_word}
@@ -524,7 +524,7 @@ module _ (setup : Setting) (setting : IsSetting setup) (cores : ℕ → Core) (t
         table_is : (cores c).own.table ≡ (comp_of s c).table
         table_is = (stands.each c here).works.table
 
-        own_gone : (n : ℕ) (wanted : Kind → Bool) (q : Capability) → HasFound setup t c (own_in (cores c).own.table n) wanted q
+        own_gone : (n : ℕ) (wanted : Want) (q : Capability) → HasFound setup t c (own_in (cores c).own.table n) wanted q
             → LeadsIn s c n wanted q × HasReached (e ∷ t) c (way_to s c (own s c n))
         own_gone n wanted q had = (
           found_named setup t c (cores c).own.table n wanted q table_is had,

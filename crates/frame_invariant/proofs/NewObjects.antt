@@ -53,12 +53,12 @@ made_names (objects.Thread comp) = refl
 made_names (objects.Tcap sched quality) = refl
 
 pub made_cap : (o : NewObject) (f : ℕ) → f < 512 → EntryFits (Held (object_cap o f))
-made_cap objects.Table f small = (small, omega arith, omega arith)
-made_cap objects.Leaf f small = (small, omega arith, omega arith)
-made_cap objects.Pages f small = (small, omega arith, omega arith)
-made_cap objects.Pleaf f small = (small, omega arith, omega arith)
-made_cap (objects.Thread comp) f small = (small, omega arith, omega arith)
-made_cap (objects.Tcap sched quality) f small = (small, omega arith, omega arith)
+made_cap objects.Table f small = (small, omega arith, omega arith, omega arith, omega arith)
+made_cap objects.Leaf f small = (small, omega arith, omega arith, omega arith, omega arith)
+made_cap objects.Pages f small = (small, omega arith, omega arith, omega arith, omega arith)
+made_cap objects.Pleaf f small = (small, omega arith, omega arith, omega arith, omega arith)
+made_cap (objects.Thread comp) f small = (small, omega arith, omega arith, omega arith, omega arith)
+made_cap (objects.Tcap sched quality) f small = (small, omega arith, omega arith, omega arith, omega arith)
 
 pub made_caps : (o : NewObject) (frames f : ℕ) → f < frames → CapNames frames (object_cap o f)
 made_caps objects.Table frames f below = omega (arith, below)

@@ -1,6 +1,6 @@
 -- The steps that type an untyped frame are good: the load of its word, and the compare, which is lost to another core or makes the
 -- frame a user frame or a blank kernel frame.
-use Rattle.place_invariant.proofs.Common.{IsSome, All-nil, ◌≡◌, ◌≢◌, inl, inr, ℕ, ◌||◌, map, ◌++◌, ◌+◌, ◌^◌, ◌<◌, ◌≤◌, ◌==◌, ◌&&◌, not}
+use Rattle.place_invariant.proofs.Common.{Want, IsSome, All-nil, ◌≡◌, ◌≢◌, inl, inr, ℕ, ◌||◌, map, ◌++◌, ◌+◌, ◌^◌, ◌<◌, ◌≤◌, ◌==◌, ◌&&◌, not}
 use Rattle.place_invariant.proofs.Common.{Bool, true, false, List, [], ◌∷◌, Option, Some, None, arith, refl, sym, ◌∙◌, ap, subst, IsTrue}
 use Rattle.place_invariant.proofs.Common.{if◌then◌else◌, eqb-true, eqb-false, eq-eqb, cases_eq, lt-ltb, false≢true, Capability, Setting}
 use Rattle.place_invariant.proofs.Common.{IsSetting, left_if, FrameKind, Kind, Call, Retype, FrameFits, word_of_frame, frame_of_word}
@@ -535,7 +535,7 @@ module _ (setup : Setting) (setting : IsSetting setup) (cores : ℕ → Core) (t
           (subst (λ x. HasReached (e ∷ t) c (ways s c x)) (sym left)
           (All-nil (λ (x : Slot). IsSome (own_left (e ∷ t) c (EntryAt x.node x.index)))))
         where
-          own_gone : (n : ℕ) (wanted : Kind → Bool) (q : Capability) → HasFound setup t c (own_in (cores c).own.table n) wanted q
+          own_gone : (n : ℕ) (wanted : Want) (q : Capability) → HasFound setup t c (own_in (cores c).own.table n) wanted q
               → LeadsIn s c n wanted q × HasReached (e ∷ t) c (way_to s c (own s c n))
           own_gone n wanted q had = (
             found_named setup t c (cores c).own.table n wanted q (stands.each c here).works.table had,

@@ -35,7 +35,7 @@ use Rattle.thread_laws.specs.word_map.specs.Moves.{word_of}
 use Rattle.core_invariant.specs.stage_look.specs.declared.look.Look.{Look}
 use Rattle.core_invariant.specs.stage_look.specs.declared.look.Look.TheVariants.{AtRoot, AtLeaf, AtEntry}
 use Rattle.thread_laws.specs.kernel_rules.specs.MemoryCalls.{translation_of}
-use Rattle.thread_laws.specs.kernel_rules.specs.Access.{Slot, Named, root_at, found, Target, Under, InRoot, usable, linked, root_slot}
+use Rattle.thread_laws.specs.kernel_rules.specs.Access.{Want, Slot, Named, root_at, found, Target, Under, InRoot, usable, linked, root_slot}
 use Rattle.thread_laws.specs.kernel_rules.specs.Access.{reached}
 use Rattle.thread_laws.specs.kernel_invariant.proofs.Facts.{some_inj, none_some}
 use Rattle.thread_laws.specs.kernel_rules.specs.Fitting.{fits}
@@ -152,13 +152,14 @@ module _ (setup : Setting) (setting : IsSetting setup) (t : Trace) (e : Step) (l
     stepped = slots_on _ way.stepped;
   }
 
-  pub found_on : (target : Target) (wanted : Kind → Bool) (k : Capability) → HasFound setup t c target wanted k
+  pub found_on : (target : Target) (wanted : Want) (k : Capability) → HasFound setup t c target wanted k
       → HasFound setup (e ∷ t) c target wanted k
   found_on target wanted k has = record {
     at = has.at;
     way = reached_on target has.at has.way;
     usable = carries.stays.usable has.at k (slot_relies setup setting t legal c call is_open target has.at has.way) has.usable;
     kind = has.kind;
+    right = has.right;
     fits = has.fits;
   }
 
@@ -198,7 +199,7 @@ module _ (setup : Setting) (setting : IsSetting setup) (t : Trace) (e : Step) (l
       leads_on names caps [] has = tt
       leads_on [] caps (k ∷ ks) has = absurd has
       leads_on (name ∷ names) caps (k ∷ ks) has =
-          (found_on (own_in table name.number) (wants caps name.wanted) k has.0, leads_on names (caps ++ found k ∷ []) ks has.1)
+          (found_on (own_in table name.number) (want_of caps name) k has.0, leads_on names (caps ++ found k ∷ []) ks has.1)
 
   -- what a call knows of its look-up, and of its act
   looks_for_on : (table : ℕ) (next : Next) (look : Look) → LooksFor setup t c table next look → LooksFor setup (e ∷ t) c table next look

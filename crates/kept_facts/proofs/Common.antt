@@ -9,6 +9,7 @@ pub use Rattle.std.specs.List.{flat_map, list_any}
 pub use Rattle.std.specs.Prelude.{All, IsSome, IsSomeAnd, is_some, min, option_to_list}
 pub use Rattle.thread_laws.specs.spk_nums.specs.CallLimits.{InLimits}
 pub use Rattle.thread_laws.specs.spk_nums.specs.Capability.{Capability, cap_of}
+pub use Rattle.thread_laws.specs.spk_nums.specs.Rights.{has_rights, kept, neither, right_to_copy}
 pub use Rattle.thread_laws.specs.spk_nums.specs.Setting.{IsSetting, Setting}
 pub use Rattle.thread_laws.specs.spk_nums.specs.WordSteps.{left_if}
 pub use Rattle.thread_laws.specs.spk_nums.specs.declared.calls.Call.{Call}
@@ -61,7 +62,7 @@ pub use Rattle.thread_laws.specs.word_map.specs.Word.{ClockAt, CoreAt, CountAt, 
 pub use Rattle.thread_laws.specs.kernel_rules.proofs.Within.{put_other, put_same}
 pub use Rattle.thread_laws.specs.kernel_rules.specs.Access.{InRoot, Named, Slot, Target, Under, found, has_no_slot, held_in, holds_link}
 pub use Rattle.thread_laws.specs.kernel_rules.specs.Access.{linked, only, own, place_at, reached, root_at, root_slot, slot_in, usable}
-pub use Rattle.thread_laws.specs.kernel_rules.specs.Access.{usable_in}
+pub use Rattle.thread_laws.specs.kernel_rules.specs.Access.{Want, to_copy, to_look, to_use, usable_in}
 pub use Rattle.thread_laws.specs.kernel_rules.specs.Alone.{alone}
 pub use Rattle.thread_laws.specs.kernel_rules.specs.CallRelation.{MayReply, are_calls_spent, begins, begins_in, change_of, changed}
 pub use Rattle.thread_laws.specs.kernel_rules.specs.CallRelation.{counted, ends, ends_by, flushes, flushes_by, rule_of, state_by}
@@ -80,6 +81,7 @@ unfoldable pub use Rattle.thread_laws.specs.kernel_rules.specs.References.{sum_b
 pub use Rattle.thread_laws.specs.kernel_rules.specs.Relies.{IsGuarded, Relies, is_node}
 pub use Rattle.thread_laws.specs.kernel_rules.specs.Rules.{Cause, Change, Does, Found, IsFoundAnd, Judged, Refused, Rule, RuleMay, Vacant}
 pub use Rattle.thread_laws.specs.kernel_rules.specs.Rules.{When, and_then, answers, first_cause, first_of, frames_of, leaves, named}
+pub use Rattle.thread_laws.specs.kernel_rules.specs.Rules.{Lacks, ReachesLacking, with_rights}
 pub use Rattle.thread_laws.specs.kernel_rules.specs.Rules.{not_vacant, or_refuse, outcome, unless, vacant, waits_of}
 pub use Rattle.thread_laws.specs.kernel_rules.specs.Runs.{IsRun, after}
 pub use Rattle.thread_laws.specs.kernel_rules.specs.State.{Blank, Comp, CompFields, Dead, Frame, FrameOf, Free, Grace, Holds, Kernel}
@@ -88,7 +90,7 @@ pub use Rattle.thread_laws.specs.kernel_rules.specs.State.{Quiescing, State, Tab
 pub use Rattle.thread_laws.specs.kernel_rules.specs.State.{Untyped, Unused, User, comp_in, comp_of, first_of_stack, put, tcap_in}
 pub use Rattle.thread_laws.specs.kernel_rules.specs.State.{thread_in, thread_of, with_frame, with_grace, with_place}
 pub use Rattle.thread_laws.specs.kernel_rules.specs.TimeCalls.{are_many, are_unlike, is_short, moved, tcap_at}
-pub use Rattle.thread_laws.specs.kernel_invariant.proofs.Facts.{named_fit, none_some, some_inj}
+pub use Rattle.thread_laws.specs.kernel_invariant.proofs.Facts.{Suits, named_fit, none_some, some_inj, suits}
 pub use Rattle.thread_laws.specs.kernel_invariant.proofs.Refs.{frame_refs, grace_refs}
 pub use Rattle.thread_laws.specs.kernel_invariant.proofs.Sound.{IsObjectGood, IsSound, IsStack, only_is}
 pub use Rattle.thread_laws.specs.kernel_invariant.proofs.SoundRuns.{opened}
@@ -139,7 +141,7 @@ pub use Rattle.core_invariant.specs.call_plans.proofs.AfterNames.{leads_by, left
 pub use Rattle.core_invariant.specs.call_plans.proofs.CallsGoBy.{calls_go}
 pub use Rattle.core_invariant.specs.call_plans.specs.After.{Leads, LeadsIn, Next, NextFree, NextHeld, NextMay, NextName, NextNothing}
 pub use Rattle.core_invariant.specs.call_plans.specs.After.{NextOwn, names_after, next_of, rule_after, with_found}
-pub use Rattle.core_invariant.specs.call_plans.specs.GoesBy.{GoesBy, own_pages, wants}
+pub use Rattle.core_invariant.specs.call_plans.specs.GoesBy.{GoesBy, own_pages, want_of, wants}
 pub use Rattle.core_invariant.specs.call_plans.specs.PlanOf.{of_kind, plan_for}
 pub use Rattle.core_invariant.specs.call_plans.specs.Plans.{at_place}
 pub use Rattle.core_invariant.specs.call_plans.specs.declared.plans.Name.{Name}

@@ -144,7 +144,7 @@ moved_keeps call s a b m f =
 
 rule_keeps : (s : State) (o : ℕ → Bool) (d : ℕ) → IsOpen s o d → (call : Call) → ChangesFrom (KeepsBy s call) s d (rule_of s d call)
 rule_keeps s o d opens (Look a) = λ k e calm f. keeps_same (Look a) f (s.frame f)
-rule_keeps s o d opens (Copy a t b) = λ k e table g at v calm f. keeps_same (Copy a t b) f (s.frame f)
+rule_keeps s o d opens (Copy a t b rights) = λ k e table g at v calm f. keeps_same (Copy a t b rights) f (s.frame f)
 rule_keeps s o d opens (Remove t b) = λ table e at k g calm f. keeps_same (Remove t b) f (s.frame f)
 rule_keeps s o d opens (Grow t i l) = λ table e leaf g at v calm f. keeps_same (Grow t i l) f (s.frame f)
 rule_keeps s o d opens (Shrink t i) = λ table e at k g calm f. keeps_same (Shrink t i) f (s.frame f)

@@ -1,7 +1,7 @@
 -- A killing starts where its name has led to a component.
-use Rattle.count_invariant.proofs.Common.{◌≡◌, ℕ, ◌<◌, map, Bool, true, false, if◌then◌else◌, List, [], ◌∷◌, Some, None, IsTrue, refl}
+use Rattle.count_invariant.proofs.Common.{Want, to_use, ◌≡◌, ℕ, ◌<◌, map, Bool, true, false, if◌then◌else◌, List, [], ◌∷◌, Some, None, IsTrue, refl}
 use Rattle.count_invariant.proofs.Common.{sym, ◌∙◌, ap, subst, Capability, Setting, IsSetting, Kind, Call, Kill, Move, word_of, State}
-use Rattle.count_invariant.proofs.Common.{only, named_by, Found, Refused, named, named_fit, opened, name_parts, events_of, IsLegal, Step}
+use Rattle.count_invariant.proofs.Common.{only, named_by, suits, Found, Refused, named, named_fit, opened, name_parts, events_of, IsLegal, Step}
 use Rattle.count_invariant.proofs.Common.{Trace, Open, phase, state_after, last_left, Carries, sound_of, opened_is, guarded_usable}
 use Rattle.count_invariant.proofs.Common.{Acquired, LoadComp, Act, Undecided, ActiveCall, landed, found_more, Core, holds_counts, due_of}
 use Rattle.count_invariant.proofs.Common.{NamesAre, phase_at, holds_in, Invariant}
@@ -16,25 +16,21 @@ use Rattle.count_invariant.specs.step_ways.proofs.Loads.{OnlyLooks, step_to, cal
 use Rattle.count_invariant.specs.step_ways.proofs.Refusals.{GoodTook}
 
 -- What a name leads to is of a wanted kind, and is what was found.
-same_found : (wanted : Kind → Bool) (j k : Capability) → of_kind wanted j ≡ Found k → j ≡ k
-same_found wanted j k = by (wanted j.kind)
-  where
-    by : (b : Bool) → (if b then Found j else Refused reply.WrongCap) ≡ Found k → j ≡ k
-    by true h = cc
-    by false h = absurd (cc)
+same_found : (wanted : Want) (j k : Capability) → of_kind wanted j ≡ Found k → j ≡ k
+same_found wanted j k h = (suits wanted j k h).is
 
 -- A component that an open call has named is there, and no other core may retype it.
 pub comp_named : (setup : Setting) → IsSetting setup → (t : Trace) → IsLegal setup t → (c : ℕ) (call : Call) → phase t c ≡ Open call
-    → (n : ℕ) (k : Capability) → k.kind ≡ kind.Comp → named (state_after setup t) c n (only kind.Comp) ≡ Found k
+    → (n : ℕ) (k : Capability) → k.kind ≡ kind.Comp → named (state_after setup t) c n (to_use (only kind.Comp)) ≡ Found k
     → HasComp (state_after setup t) c k.frame
 comp_named setup setting t legal c call is n k kind_is found =
     let s : State = state_after setup t in
-    let parts = name_parts s c n (only kind.Comp) k found in
+    let parts = name_parts s c n (to_use (only kind.Comp)) k found in
     record {
       comp = named_fit s (opened (events_of t)) c n kind.Comp k (sound_of setup setting t legal) (opened_is t c call is) found;
       guarded = guarded_usable setup setting t legal c call is parts.0 k
           (ap (λ (j : Kind). named_by j k.frame) kind_is)
-          (parts.3 ∙ ap (λ (j : Capability). Some j) (same_found (only kind.Comp) parts.2 k parts.4));
+          (parts.3 ∙ ap (λ (j : Capability). Some j) (same_found (to_use (only kind.Comp)) parts.2 k parts.4));
     }
 
 module _ (setup : Setting) (setting : IsSetting setup) (cores : ℕ → Core) (t : Trace) (stands : Invariant setup cores t) (c : ℕ)
@@ -43,7 +39,7 @@ module _ (setup : Setting) (setting : IsSetting setup) (cores : ℕ → Core) (t
     (held_is : holds_in (Some a) ≡ holds_counts None a.counts) (no_counts : a.counts ≡ [])
     (move : Move) (looks : OnlyLooks setup t c a.call move) (n : ℕ) (k : Capability) (call_so : a.call ≡ Kill n)
     (kind_is : k.kind ≡ kind.Comp)
-    (found : named (state_after setup t) c n (only kind.Comp) ≡ Found k)
+    (found : named (state_after setup t) c n (to_use (only kind.Comp)) ≡ Found k)
     (names : Carries setup t (step_to c None move (last_left setup t (word_of move)) None None) c
     → NamesAre setup (step_to c None move (last_left setup t (word_of move)) None None ∷ t) c (cores c).own.table a.plan (k ∷ [])) where
   abbrev e : Step

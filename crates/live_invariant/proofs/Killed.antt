@@ -1,6 +1,6 @@
 -- A killing draws its stamp and is decided: the number is dead, its reference to the component's frame is released, and the grace periods
 -- of both begin at the stamp. And the store of the dead number's word is good.
-use Rattle.count_invariant.proofs.Common.{as_none, counts_bare, lent_elsewhere, IsSome, list_any, ◌≡◌, ◌≢◌, inl, inr, ℕ, pos, negsuc}
+use Rattle.count_invariant.proofs.Common.{Want, as_none, counts_bare, lent_elsewhere, IsSome, list_any, ◌≡◌, ◌≢◌, inl, inr, ℕ, pos, negsuc}
 use Rattle.count_invariant.proofs.Common.{◌+ℤ◌, max, length, ◌+◌, ◌^◌, ◌<◌, ◌≤◌, ◌==◌, ◌||◌, Bool, true, false, if◌then◌else◌, List, []}
 use Rattle.count_invariant.proofs.Common.{◌∷◌, Option, Some, None, IsTrue, arith, refl, sym, ◌∙◌, ap, subst, cases_eq, eq-eqb, ne_eqb}
 use Rattle.count_invariant.proofs.Common.{false≢true, All-nil, Capability, Setting, IsSetting, Call, Kill, Kind, Reply, LiveFits}
@@ -396,7 +396,7 @@ module _ (setup : Setting) (setting : IsSetting setup) (cores : ℕ → Core) (t
         (sym (calls.left setup setting cores t stands c here a active f by (Draw life word) stage_is has))
         (All-nil (λ (y : Slot). IsSome (own_left (e ∷ t) c (EntryAt y.node y.index)))))
       where
-        own_gone : (n : ℕ) (wanted : Kind → Bool) (q : Capability) → HasFound setup t c (own_in (cores c).own.table n) wanted q
+        own_gone : (n : ℕ) (wanted : Want) (q : Capability) → HasFound setup t c (own_in (cores c).own.table n) wanted q
             → LeadsIn s c n wanted q × HasReached (e ∷ t) c (way_to s c (own s c n))
         own_gone n wanted q had = (
           found_named setup t c (cores c).own.table n wanted q (stands.each c here).works.table had,

@@ -1,5 +1,5 @@
 -- What a call on two temporal capabilities knows of both, where the head of the second is as it was read: their budgets and their lists.
-use Rattle.count_invariant.proofs.Common.{◌≡◌, ◌⊎◌, inl, inr, ℕ, ◌+◌, ◌<◌, ◌≤◌, ◌^◌, ◌==◌, ◌&&◌, Bool, true, false, List, [], ◌∷◌, Option}
+use Rattle.count_invariant.proofs.Common.{Want, ◌≡◌, ◌⊎◌, inl, inr, ℕ, ◌+◌, ◌<◌, ◌≤◌, ◌^◌, ◌==◌, ◌&&◌, Bool, true, false, List, [], ◌∷◌, Option}
 use Rattle.count_invariant.proofs.Common.{Some, None, refl, sym, ◌∙◌, ap, subst, false≢true, All-nil, Setting, IsSetting, Capability}
 use Rattle.count_invariant.proofs.Common.{Kind, word_of_head, head_of_word, HeadWord, spelling, EntryAt, Slot, own, Kernel, Tcap}
 use Rattle.count_invariant.proofs.Common.{TcapFields, State, tcap_in, comp_of, InRanges, rule_of, tcap_at, events_of, HasReached, IsLegal}
@@ -140,7 +140,7 @@ module _ (setup : Setting) (setting : IsSetting setup) (cores : ℕ → Core) (t
       (sym (calls.left setup setting cores t stands c here a active p stage_is has))
       (All-nil (λ (x : Slot). IsSome (own_left (e ∷ t) c (EntryAt x.node x.index)))))
     where
-      own_gone : (n : ℕ) (wanted : Kind → Bool) (q : Capability) → HasFound setup t c (own_in (cores c).own.table n) wanted q
+      own_gone : (n : ℕ) (wanted : Want) (q : Capability) → HasFound setup t c (own_in (cores c).own.table n) wanted q
           → LeadsIn (state_after setup t) c n wanted q
           × HasReached (e ∷ t) c (way_to (state_after setup t) c (own (state_after setup t) c n))
       own_gone n wanted q had = (

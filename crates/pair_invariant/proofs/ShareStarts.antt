@@ -2,7 +2,7 @@
 use Rattle.count_invariant.proofs.Common.{◌≡◌, inl, ℕ, ◌<◌, ◌==◌, map, Bool, true, false, if◌then◌else◌, List, [], ◌∷◌, Some, None, refl}
 use Rattle.count_invariant.proofs.Common.{sym, ◌∙◌, ap, subst, eqb-false, Capability, Setting, IsSetting, Kind, Call, Transfer, Delegate}
 use Rattle.count_invariant.proofs.Common.{Test, Move, word_of, State, only, named_by, Found, Refused, Does, RuleMay, named, outcome}
-use Rattle.count_invariant.proofs.Common.{unless, first_of, first_cause, rule_of, change_of, named_fit, only_is, opened, name_parts}
+use Rattle.count_invariant.proofs.Common.{unless, first_of, first_cause, rule_of, change_of, named_fit, suits, only_is, opened, name_parts}
 use Rattle.count_invariant.proofs.Common.{events_of, IsLegal, Step, Trace, Open, phase, state_after, last_left, refused_first, Carries}
 use Rattle.count_invariant.proofs.Common.{sound_of, opened_is, guarded_usable, Name, Plan, rule_after, Leads, LeadsIn, names_after}
 use Rattle.count_invariant.proofs.Common.{GoesBy, own_pages, plan_for, of_kind, outcome_left, left_may, Acquired, Pair, PairWork, Act}
@@ -11,7 +11,7 @@ use Rattle.count_invariant.proofs.Common.{phase_at, HasTcap, SharesBy, holds_in,
 use Rattle.count_invariant.proofs.Common.{is_short}
 use Rattle.quality_lists.specs.spk_nums.specs.declared.kinds.Kind.TheVariants as kind
 use Rattle.quality_lists.specs.spk_nums.specs.declared.replies.Reply.TheVariants as reply
-use Rattle.kernel_laws.specs.kernel_rules.specs.Access.{found as named_by_found}
+use Rattle.kernel_laws.specs.kernel_rules.specs.Access.{Want, to_use, found as named_by_found}
 use Rattle.kernel_laws.specs.kernel_rules.specs.Rules.{of_kind as has_kind}
 use Rattle.kernel_laws.specs.kernel_rules.specs.TimeCalls.{are_same}
 use Rattle.count_invariant.specs.stage_tcap.specs.declared.pair.PairWork.TheVariants as share
@@ -23,15 +23,10 @@ use Rattle.count_invariant.specs.step_ways.proofs.Refusals.{GoodTook, not_spent}
 use Rattle.pair_invariant.proofs.ShareCalls.{causes_of, change_by}
 
 -- What a name leads to is of a wanted kind, and is what was found.
-same_found : (wanted : Kind → Bool) (j k : Capability) → has_kind wanted j ≡ Found k → (j ≡ k) × (wanted k.kind ≡ true)
-same_found wanted j k = by (wanted j.kind) refl
-  where
-    same : Found j ≡ Found k → j ≡ k
-    same h = cc
-
-    by : (b : Bool) → wanted j.kind ≡ b → (if b then Found j else Refused reply.WrongCap) ≡ Found k → (j ≡ k) × (wanted k.kind ≡ true)
-    by true is h = (same h, subst (λ (x : Capability). wanted x.kind ≡ true) (same h) is)
-    by false is h = absurd (cc)
+same_found : (wanted : Want) (j k : Capability) → has_kind wanted j ≡ Found k → (j ≡ k) × (wanted.kinds k.kind ≡ true)
+same_found wanted j k h =
+    let w = suits wanted j k h in
+    (w.is, subst (λ (x : Capability). wanted.kinds x.kind ≡ true) w.is w.kind)
 
 -- A temporal capability that an open call has named is there, and no other core may retype it.
 record IsNamed (s : State) (c : ℕ) (k : Capability) : Type 0 where
@@ -39,11 +34,11 @@ record IsNamed (s : State) (c : ℕ) (k : Capability) : Type 0 where
   tcap : HasTcap s c k.frame
 
 tcap_named : (setup : Setting) → IsSetting setup → (t : Trace) → IsLegal setup t → (c : ℕ) (call : Call) → phase t c ≡ Open call
-    → (n : ℕ) (k : Capability) → named (state_after setup t) c n (only kind.Tcap) ≡ Found k → IsNamed (state_after setup t) c k
+    → (n : ℕ) (k : Capability) → named (state_after setup t) c n (to_use (only kind.Tcap)) ≡ Found k → IsNamed (state_after setup t) c k
 tcap_named setup setting t legal c call is n k found =
     let s : State = state_after setup t in
-    let parts = name_parts s c n (only kind.Tcap) k found in
-    let same = same_found (only kind.Tcap) parts.2 k parts.4 in
+    let parts = name_parts s c n (to_use (only kind.Tcap)) k found in
+    let same = same_found (to_use (only kind.Tcap)) parts.2 k parts.4 in
     let kind_is : k.kind ≡ kind.Tcap = only_is kind.Tcap k.kind same.1 in
     record {
       kind_is = kind_is;
@@ -60,8 +55,8 @@ record TwoLed (s : State) (c x y : ℕ) (ks : List Capability) : Type 0 where
   first : Capability
   second : Capability
   both : ks ≡ first ∷ second ∷ []
-  first_led : named s c x (only kind.Tcap) ≡ Found first
-  second_led : named s c y (only kind.Tcap) ≡ Found second
+  first_led : named s c x (to_use (only kind.Tcap)) ≡ Found first
+  second_led : named s c y (to_use (only kind.Tcap)) ≡ Found second
 
 abbrev two_names : ℕ → ℕ → List Name
 two_names x y = of_kind kind.Tcap x ∷ of_kind kind.Tcap y ∷ []

@@ -1,5 +1,5 @@
 -- A call that makes a component: its names, and what is left of its rule after them.
-use Rattle.count_invariant.proofs.Common.{◌≡◌, ◌≢◌, ◌+◌, ℕ, Bool, true, pos, List, [], ◌∷◌, Some, None, refl, sym, ◌∙◌, ap, subst, IsTrue}
+use Rattle.count_invariant.proofs.Common.{to_use, ◌≡◌, ◌≢◌, ◌+◌, ℕ, Bool, true, pos, List, [], ◌∷◌, Some, None, refl, sym, ◌∙◌, ap, subst, IsTrue}
 use Rattle.count_invariant.proofs.Common.{false≢true, All-nil, All-cons, Capability, Kind, State, Frame, Object, Kernel, Blank, Table}
 use Rattle.count_invariant.proofs.Common.{Pages, CompFields, Target, Under, found, only, fits, Rule, Vacant, Does, Found, named, outside}
 use Rattle.count_invariant.proofs.Common.{not_blank, makes_comp, epoch_of, rule_of, named_fit, IsSound, of_kind, plan_for, Leads, LeadsIn}
@@ -25,10 +25,10 @@ pub record IsCompMake (s : State) (c r f u b x p l : ℕ) (ks : List Capability)
   pub table : Capability
   pub pages : Capability
   pub found_is : ks ≡ range ∷ second ∷ table ∷ pages ∷ []
-  pub first : named s c r (only kind.Range) ≡ Found range
-  pub under : named s c u (only kind.Table) ≡ Found second
-  pub third : named s c x (only kind.Table) ≡ Found table
-  pub fourth : named s c p (only kind.Pages) ≡ Found pages
+  pub first : named s c r (to_use (only kind.Range)) ≡ Found range
+  pub under : named s c u (to_use (only kind.Table)) ≡ Found second
+  pub third : named s c x (to_use (only kind.Table)) ≡ Found table
+  pub fourth : named s c p (to_use (only kind.Pages)) ≡ Found pages
   pub rule : rule_after (rule_of s c (make_call (make.Comp x p l) r f u b)) ks
       ≡ comp_rest s range f table.frame pages.frame l (Under (found second) b)
   pub next : next_of (plan_for (make_call (make.Comp x p l) r f u b)) ks ≡ NextFree (Under (found second) b)

@@ -1,8 +1,8 @@
 -- The filling compare of a copy is good: it is lost to another core, or the place is free and takes the capability.
-use Rattle.count_invariant.proofs.Common.{unlent_word, node_keeps_none, ◌≡◌, ◌≢◌, ◌⊎◌, inl, inr, not, ℕ, pos, length, ◌≤◌, ◌+◌, ◌^◌, ◌/◌}
+use Rattle.count_invariant.proofs.Common.{Want, unlent_word, node_keeps_none, ◌≡◌, ◌≢◌, ◌⊎◌, inl, inr, not, ℕ, pos, length, ◌≤◌, ◌+◌, ◌^◌, ◌/◌}
 use Rattle.count_invariant.proofs.Common.{◌%◌, ◌<◌, ◌==◌, ◌&&◌, nat_le, if◌then◌else◌, ◌∷◌, [], Bool, true, false, List, Option, Some}
 use Rattle.count_invariant.proofs.Common.{None, arith, refl, sym, ◌∙◌, ap, subst, IsTrue, ◌+ℤ◌, max, option_to_list, eqb-true, eqb-false}
-use Rattle.count_invariant.proofs.Common.{eq-eqb, false≢true, Capability, cap_of, Setting, IsSetting, Call, Copy, Remove, Shrink, Unmap, Retype}
+use Rattle.count_invariant.proofs.Common.{eq-eqb, false≢true, kept, right_to_copy, Capability, cap_of, Setting, IsSetting, Call, Copy, Remove, Shrink, Unmap, Retype}
 use Rattle.count_invariant.proofs.Common.{Tick, Gate, Kill, Grow, Flush, Map, Touch, Ret, Transfer, Delegate, Test, Switch, Kind, Entry}
 use Rattle.count_invariant.proofs.Common.{Held, EntryFits, word_of_entry, entry_of_word, Word, EntryAt, CountAt, Move, CompareOf, left_of}
 use Rattle.count_invariant.proofs.Common.{left_if, Place, comp_of, comp_in, Holds, Frame, Kernel, Table, Leaf, Pages, Pleaf, Thing}
@@ -310,7 +310,7 @@ module _ (setup : Setting) (setting : IsSetting setup) (cores : ℕ → Core) (t
         (way_gone setup t (e ∷ t) c has.knows.knows.target slot has.knows.knows.way.reached
         (λ n d h. own_kept t e c refl refl _ (has.knows.knows.way.stepped n d h))))
       where
-        own_gone : (n : ℕ) (wanted : Kind → Bool) (q : Capability) → HasFound setup t c (own_in (cores c).own.table n) wanted q
+        own_gone : (n : ℕ) (wanted : Want) (q : Capability) → HasFound setup t c (own_in (cores c).own.table n) wanted q
             → LeadsIn s c n wanted q × HasReached (e ∷ t) c (way_to s c (own s c n))
         own_gone n wanted q had = (
           found_named setup t c (cores c).own.table n wanted q table_is had,
@@ -456,9 +456,9 @@ puts_by : (s : State) (c : ℕ) (target : Target) (q : Capability) (call : Call)
     → Leads (LeadsIn s c) (plan_for call).names [] ks → names_after (plan_for call).names ks ≡ []
     → next_of (plan_for call) ks ≡ NextFree target → (read : Option ℕ) → ReadIs s c (reads_of call ks) read → put_by call ks read ≡ Some q
     → MapsUser s call → Puts s c call ks target q
-puts_by s c target q (Copy a u b) (k ∷ j ∷ []) lead none next read has_read puts user =
-    subst (λ (q : Capability). Puts s c (Copy a u b) (k ∷ j ∷ []) target q) (cap_same k q puts)
-    (subst (λ p. Puts s c (Copy a u b) (k ∷ j ∷ []) p k) (target_in (Under (found j) b) target next)
+puts_by s c target q (Copy a u b rights) (k ∷ j ∷ []) lead none next read has_read puts user =
+    subst (λ (q : Capability). Puts s c (Copy a u b rights) (k ∷ j ∷ []) target q) (cap_same (kept k rights.0) q puts)
+    (subst (λ p. Puts s c (Copy a u b rights) (k ∷ j ∷ []) p (kept k rights.0)) (target_in (Under (found j) b) target next)
     (record {
       causes = [];
       calm = refl;
@@ -467,15 +467,15 @@ puts_by s c target q (Copy a u b) (k ∷ j ∷ []) lead none next read has_read 
       ends = λ x. refl;
       flushes = refl;
     }))
-puts_by s c target q (Copy a u b) [] lead none next read has_read puts user = absurd (not_none none)
+puts_by s c target q (Copy a u b rights) [] lead none next read has_read puts user = absurd (not_none none)
   where
-    not_none : any_cap a ∷ of_kind kind.Table u ∷ [] ≡ [] → ⊥
+    not_none : any_cap right_to_copy a ∷ of_kind kind.Table u ∷ [] ≡ [] → ⊥
     not_none h = cc
-puts_by s c target q (Copy a u b) (k ∷ []) lead none next read has_read puts user = absurd (not_none none)
+puts_by s c target q (Copy a u b rights) (k ∷ []) lead none next read has_read puts user = absurd (not_none none)
   where
     not_none : of_kind kind.Table u ∷ [] ≡ [] → ⊥
     not_none h = cc
-puts_by s c target q (Copy a u b) (k ∷ j ∷ i ∷ ks) lead none next read has_read puts user = absurd lead.1.1
+puts_by s c target q (Copy a u b rights) (k ∷ j ∷ i ∷ ks) lead none next read has_read puts user = absurd lead.1.1
 puts_by s c target q (Grow u i l) (k ∷ j ∷ []) lead none next read has_read puts user =
     subst (λ (q : Capability). Puts s c (Grow u i l) (k ∷ j ∷ []) target q) (cap_same (plain_cap kind.Link j.frame) q puts)
     (subst (λ p. Puts s c (Grow u i l) (k ∷ j ∷ []) p (plain_cap kind.Link j.frame)) (target_in (InRoot (found k) i) target next)
@@ -549,7 +549,7 @@ module _ (setup : Setting) (setting : IsSetting setup) (cores : ℕ → Core) (t
   none_left : names_after a.plan.names a.found ≡ []
   none_left = by (rest_of a.plan a.found)
     where
-      not_free : (n : ℕ) (wanted : Kind → Bool) (target : Target) → NextName n wanted ≡ NextFree target → ⊥
+      not_free : (n : ℕ) (wanted : Want) (target : Target) → NextName n wanted ≡ NextFree target → ⊥
       not_free n wanted target h = cc
 
       by : Rest a.plan a.found → names_after a.plan.names a.found ≡ []

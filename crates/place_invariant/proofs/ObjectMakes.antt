@@ -1,5 +1,5 @@
 -- A call that makes an object: its names, and what is left of its rule after them.
-use Rattle.count_invariant.proofs.Common.{◌≡◌, ◌≢◌, ℕ, Bool, true, List, [], ◌∷◌, Some, None, refl, sym, ◌∙◌, ap, subst, IsTrue}
+use Rattle.count_invariant.proofs.Common.{to_use, ◌≡◌, ◌≢◌, ℕ, Bool, true, List, [], ◌∷◌, Some, None, refl, sym, ◌∙◌, ap, subst, IsTrue}
 use Rattle.count_invariant.proofs.Common.{if◌then◌else◌, false≢true, All-nil, All-cons, Capability, Make, Place, Free, Grace, Object}
 use Rattle.count_invariant.proofs.Common.{Blank, Table, Leaf, Pages, Pleaf, Thread, Tcap, Kernel, Thing, State, put, Target, Under, found}
 use Rattle.count_invariant.proofs.Common.{only, fits, Rule, Vacant, Does, Found, named, outside, not_blank, makes, rule_of, named_fit}
@@ -54,13 +54,13 @@ pub record TwoFound (s : State) (c r u : ℕ) (ks : List Capability) : Type 0 wh
   pub table : Capability
   pub rest : List Capability
   pub found_is : ks ≡ range ∷ table ∷ rest
-  pub first : named s c r (only kind.Range) ≡ Found range
-  pub second : named s c u (only kind.Table) ≡ Found table
+  pub first : named s c r (to_use (only kind.Range)) ≡ Found range
+  pub second : named s c u (to_use (only kind.Table)) ≡ Found table
 
 two_found : (s : State) (c r u : ℕ) (ks : List Capability) → Leads (LeadsIn s c) (of_kind kind.Range r ∷ of_kind kind.Table u ∷ []) [] ks
     → names_after (of_kind kind.Range r ∷ of_kind kind.Table u ∷ []) ks ≡ []
-    → (k : Capability) × (j : Capability) × (ks ≡ k ∷ j ∷ []) × (named s c r (only kind.Range) ≡ Found k)
-    × (named s c u (only kind.Table) ≡ Found j)
+    → (k : Capability) × (j : Capability) × (ks ≡ k ∷ j ∷ []) × (named s c r (to_use (only kind.Range)) ≡ Found k)
+    × (named s c u (to_use (only kind.Table)) ≡ Found j)
 two_found s c r u [] leads none = absurd (not_none none)
   where
     not_none : of_kind kind.Range r ∷ of_kind kind.Table u ∷ [] ≡ [] → ⊥
@@ -76,8 +76,8 @@ two_found s c r u (k ∷ j ∷ i ∷ ks) leads none = absurd leads.1.1
 three_found : (s : State) (c r u n : ℕ) (ks : List Capability)
     → Leads (LeadsIn s c) (of_kind kind.Range r ∷ of_kind kind.Table u ∷ of_kind kind.Comp n ∷ []) [] ks
     → names_after (of_kind kind.Range r ∷ of_kind kind.Table u ∷ of_kind kind.Comp n ∷ []) ks ≡ []
-    → (k : Capability) × (j : Capability) × (i : Capability) × (ks ≡ k ∷ j ∷ i ∷ []) × (named s c r (only kind.Range) ≡ Found k)
-    × (named s c u (only kind.Table) ≡ Found j) × (named s c n (only kind.Comp) ≡ Found i)
+    → (k : Capability) × (j : Capability) × (i : Capability) × (ks ≡ k ∷ j ∷ i ∷ []) × (named s c r (to_use (only kind.Range)) ≡ Found k)
+    × (named s c u (to_use (only kind.Table)) ≡ Found j) × (named s c n (to_use (only kind.Comp)) ≡ Found i)
 three_found s c r u n [] leads none = absurd (not_none none)
   where
     not_none : of_kind kind.Range r ∷ of_kind kind.Table u ∷ of_kind kind.Comp n ∷ [] ≡ [] → ⊥

@@ -1,5 +1,5 @@
 -- The refusal of a call whose frame is outside its range.
-use Rattle.count_invariant.proofs.Common.{◌≡◌, ◌⊎◌, inl, inr, ℕ, ◌<◌, not, Bool, false, IsTrue, List, [], ◌∷◌, Option, Some, None, refl}
+use Rattle.count_invariant.proofs.Common.{Want, ◌≡◌, ◌⊎◌, inl, inr, ℕ, ◌<◌, not, Bool, false, IsTrue, List, [], ◌∷◌, Option, Some, None, refl}
 use Rattle.count_invariant.proofs.Common.{sym, ◌∙◌, ap, subst, if◌then◌else◌, IsSome, cases_eq, false≢true, Capability, Setting}
 use Rattle.count_invariant.proofs.Common.{IsSetting, Call, Map, Make, Reply, entry_of_word, EntryAt, Move, LoadOf, word_of, State}
 use Rattle.count_invariant.proofs.Common.{PlaceOf, Kernel, Leaf, Slot, Target, Under, found, place_at, reached, page_cap, slot_relies}
@@ -76,7 +76,7 @@ pub none_left_of : (plan : Plan) (ks : List Capability) (target : Target) → ne
     → names_after plan.names ks ≡ []
 none_left_of plan ks target next = by (rest_of plan ks)
   where
-    not_free : (n : ℕ) (wanted : Kind → Bool) → NextName n wanted ≡ NextFree target → ⊥
+    not_free : (n : ℕ) (wanted : Want) → NextName n wanted ≡ NextFree target → ⊥
     not_free n wanted h = cc
 
     by : Rest plan ks → names_after plan.names ks ≡ []

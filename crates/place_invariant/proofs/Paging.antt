@@ -79,12 +79,12 @@ module _ (setup : Setting) (setting : IsSetting setup) (t : Trace) (legal : IsLe
   -- a line a call: the place that it fills is one of a page table exactly where `fills_page` says so
   pub paging_by : (call : Call) → phase t c ≡ Open call → (ks : List Capability)
       → Leads (LeadsIn s c) (plan_for call).names [] ks → next_of (plan_for call) ks ≡ NextFree target → PagingIs call ks
-  paging_by (Copy a u b) is (k ∷ j ∷ []) lead next =
-      ap is_paging (in_leaf setup setting t legal c (Copy a u b) is u b j at lead.1.0
+  paging_by (Copy a u b rights) is (k ∷ j ∷ []) lead next =
+      ap is_paging (in_leaf setup setting t legal c (Copy a u b rights) is u b j at lead.1.0
       (ap (reached s c) (target_in (Under (found j) b) target next) ∙ reaches))
-  paging_by (Copy a u b) is [] lead next = absurd (cc)
-  paging_by (Copy a u b) is (k ∷ []) lead next = absurd (cc)
-  paging_by (Copy a u b) is (k ∷ j ∷ i ∷ ks) lead next = absurd lead.1.1
+  paging_by (Copy a u b rights) is [] lead next = absurd (cc)
+  paging_by (Copy a u b rights) is (k ∷ []) lead next = absurd (cc)
+  paging_by (Copy a u b rights) is (k ∷ j ∷ i ∷ ks) lead next = absurd lead.1.1
   paging_by (Grow u i l) is (k ∷ j ∷ []) lead next =
       let good : IsGood s k × IsTrue (root k.kind) = named_good s (opened (events_of t)) c u root k (sound_of setup setting t legal)
       (opened_is t c (Grow u i l) is) lead.0 in

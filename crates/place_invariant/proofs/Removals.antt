@@ -1,6 +1,6 @@
 -- A removal draws its stamp and is decided: what its target held is removed, the reference is released, and the grace periods of both
 -- begin at the stamp.
-use Rattle.count_invariant.proofs.Common.{counts_bare, ◌≡◌, ◌≢◌, ◌⊎◌, inl, inr, ℕ, pos, negsuc, ◌+ℤ◌, max, length, ◌≤◌, ◌+◌, ◌^◌, ◌<◌}
+use Rattle.count_invariant.proofs.Common.{Want, counts_bare, ◌≡◌, ◌≢◌, ◌⊎◌, inl, inr, ℕ, pos, negsuc, ◌+ℤ◌, max, length, ◌≤◌, ◌+◌, ◌^◌, ◌<◌}
 use Rattle.count_invariant.proofs.Common.{◌==◌, ◌&&◌, ◌||◌, ◌∷◌, [], Bool, true, false, List, Option, Some, None, arith, refl, sym, ◌∙◌}
 use Rattle.count_invariant.proofs.Common.{ap, subst, IsTrue, if◌then◌else◌, list_any, cases_eq, eq-eqb, ne_eqb, false≢true, Capability}
 use Rattle.count_invariant.proofs.Common.{Setting, IsSetting, Call, Remove, Shrink, Unmap, Kind, Reply, Entry, EntryFits, word_of_entry}
@@ -449,7 +449,7 @@ module _ (setup : Setting) (setting : IsSetting setup) (cores : ℕ → Core) (t
         (way_gone setup t (e ∷ t) c has.knows.knows.target slot has.knows.knows.way.reached
         (λ n d h. own_kept t e c refl refl _ (has.knows.knows.way.stepped n d h))))
       where
-        own_gone : (n : ℕ) (wanted : Kind → Bool) (q : Capability) → HasFound setup t c (own_in (cores c).own.table n) wanted q
+        own_gone : (n : ℕ) (wanted : Want) (q : Capability) → HasFound setup t c (own_in (cores c).own.table n) wanted q
             → LeadsIn s c n wanted q × HasReached (e ∷ t) c (way_to s c (own s c n))
         own_gone n wanted q had = (
           found_named setup t c (cores c).own.table n wanted q table_is had,
@@ -540,7 +540,7 @@ remove_good setup setting cores t stands c here a active (AtDraw node index) cap
     none_left : names_after a.plan.names a.found ≡ []
     none_left = by (rest_of a.plan a.found)
       where
-        not_held : (n : ℕ) (wanted : Kind → Bool) (target : Target) → NextName n wanted ≡ NextHeld target → ⊥
+        not_held : (n : ℕ) (wanted : Want) (target : Target) → NextName n wanted ≡ NextHeld target → ⊥
         not_held n wanted target h = cc
 
         by : Rest a.plan a.found → names_after a.plan.names a.found ≡ []

@@ -4,6 +4,7 @@ use Rattle.std.proofs.Common.{◌≡◌, ◌≢◌, ◌⊎◌, inl, inr, ℕ, �
 use Rattle.std.proofs.Common.{arith, refl, sym, ◌∙◌, ap, subst, if◌then◌else◌, IsTrue, List, [], ◌∷◌, Option, Some, None}
 use Rattle.std.proofs.lemmas.Bool.{false≢true, cases_eq}
 use Rattle.trace_laws.specs.spk_nums.specs.Capability.{Capability}
+use Rattle.trace_laws.specs.spk_nums.specs.Rights.{kept}
 use Rattle.trace_laws.specs.spk_nums.specs.Setting.{Setting, IsSetting}
 use Rattle.trace_laws.specs.spk_nums.specs.declared.kinds.Kind.{Kind}
 use Rattle.trace_laws.specs.spk_nums.specs.declared.kinds.Kind.TheVariants as kind
@@ -23,7 +24,7 @@ use Rattle.trace_laws.specs.kernel_rules.specs.State.{Kernel}
 use Rattle.trace_laws.specs.kernel_rules.specs.State.{FrameOf, State, put, with_place, with_frame, with_core, with_number, comp_of}
 use Rattle.trace_laws.specs.kernel_rules.specs.State.{thread_in, Live}
 use Rattle.trace_laws.specs.kernel_rules.specs.References.{named_by, core_names, times, refs}
-use Rattle.trace_laws.specs.kernel_rules.specs.Access.{Slot, Named, found, Target, Under, InRoot, reached, usable, only, root}
+use Rattle.trace_laws.specs.kernel_rules.specs.Access.{Want, to_use, Slot, Named, found, Target, Under, InRoot, reached, usable, only, root}
 use Rattle.trace_laws.specs.kernel_rules.specs.Rules.{Change, Judged, Refused, Found, named, of_kind, vacant, held, fills, removes}
 use Rattle.trace_laws.specs.kernel_rules.specs.CapabilityCalls.{makes, cleared, make_node, make_rule, not_taken, epoch_of}
 use Rattle.trace_laws.specs.kernel_rules.specs.MemoryCalls.{retype_rule, touch_by, translation_of}
@@ -38,7 +39,7 @@ use Rattle.trace_laws.specs.kernel_invariant.proofs.SoundCalls.{IsOpen, blank_by
 use Rattle.trace_laws.specs.kernel_invariant.proofs.SoundRemovals.{unnamed}
 use Rattle.trace_laws.specs.found_stays.proofs.SparesRuns.{core_same_refs}
 use Rattle.trace_laws.specs.kernel_invariant.proofs.Sums.{times_first, times_cons}
-use Rattle.trace_laws.specs.kernel_invariant.proofs.Facts.{ChangesFrom, outcome_from, some_inj, none_some, named_good, vacant_facts}
+use Rattle.trace_laws.specs.kernel_invariant.proofs.Facts.{ChangesFrom, outcome_from, some_inj, none_some, suits, named_good, vacant_facts}
 use Rattle.trace_laws.specs.kernel_invariant.proofs.Facts.{held_facts}
 use Rattle.trace_laws.specs.kernel_invariant.proofs.FrameTurns.{is_typed}
 use Rattle.trace_laws.specs.kernel_invariant.proofs.SoundRuns.{opened}
@@ -98,24 +99,20 @@ module _ (s : State) (o : ℕ → Bool) (d : ℕ) (h : IsOpen s o d) (f : ℕ) (
   away g (inl some) same = let r : refs s g ≡ refs s f = ap (refs s) same in omega (arith, some, r, zero)
   away g (inr waits) same = false≢true (sym none ∙ ap (λ n. (s.grace (FrameOf n)).waits d) (sym same) ∙ waits)
 
-  named_away : (n : ℕ) (wanted : Kind → Bool) (k : Capability) → named s d n wanted ≡ Found k → named_by k.kind k.frame ≡ k.frame ∷ []
+  named_away : (n : ℕ) (wanted : Want) (k : Capability) → named s d n wanted ≡ Found k → named_by k.kind k.frame ≡ k.frame ∷ []
       → k.frame ≢ f
   named_away n wanted k is names =
       let parts = name_parts s d n wanted k is in
       away k.frame (usable_guarded s o d h.sound h.is parts.0 k names
-      (parts.3 ∙ ap (λ (j : Capability). Some j) (same_found (wanted parts.2.kind) parts.2 parts.4)))
-    where
-      same_found : (b : Bool) (j : Capability) → (if b then Found j else Refused reply.WrongCap) ≡ Found k → j ≡ k
-      same_found true j h = cc
-      same_found false j h = absurd (cc)
+      (parts.3 ∙ ap (λ (j : Capability). Some j) (suits wanted parts.2 k parts.4).is))
 
-  only_away : (n : ℕ) (wanted : Kind) (k : Capability) → ((g : ℕ) → named_by wanted g ≡ g ∷ []) → named s d n (only wanted) ≡ Found k
+  only_away : (n : ℕ) (wanted : Kind) (k : Capability) → ((g : ℕ) → named_by wanted g ≡ g ∷ []) → named s d n (to_use (only wanted)) ≡ Found k
       → k.frame ≢ f
-  only_away n wanted k names is = named_away n (only wanted) k is
-      (ap (λ (j : Kind). named_by j k.frame) (only_is wanted k.kind (named_good s o d n (only wanted) k h.sound h.is is).1) ∙ names k.frame)
+  only_away n wanted k names is = named_away n (to_use (only wanted)) k is
+      (ap (λ (j : Kind). named_by j k.frame) (only_is wanted k.kind (named_good s o d n (to_use (only wanted)) k h.sound h.is is).1) ∙ names k.frame)
 
-  root_away : (n : ℕ) (k : Capability) → named s d n root ≡ Found k → k.frame ≢ f
-  root_away n k is = named_away n root k is (root_names k.kind k.frame (named_good s o d n root k h.sound h.is is).1)
+  root_away : (n : ℕ) (k : Capability) → named s d n (to_use root) ≡ Found k → k.frame ≢ f
+  root_away n k is = named_away n (to_use root) k is (root_names k.kind k.frame (named_good s o d n (to_use root) k h.sound h.is is).1)
 
   under_away : (table : Named) (n : ℕ) (at : Slot) → reached s d (Under table n) ≡ Some at → at.node ≢ f
   under_away table n at is = away at.node (reached_relies s o d h.sound h.is table n at is).guarded
@@ -225,7 +222,7 @@ module _ (s : State) (o : ℕ → Bool) (d : ℕ) (h : IsOpen s o d) (f : ℕ) (
 
   rule_rests : (call : Call) → ChangesFrom RestsBy s d (rule_of s d call)
   rule_rests (Look a) = λ k e calm. inr (rests_same s f)
-  rule_rests (Copy a t b) = λ k e table v at w calm. fill_under (found table) b at k w
+  rule_rests (Copy a t b rights) = λ k e table v at w calm. fill_under (found table) b at (kept k rights.0) w
   rule_rests (Remove t b) = λ table e at k w calm. remove_under (found table) b at k w
   rule_rests (Grow t i l) = λ table e leaf v at w calm.
       inr (place_rests s f at.node at.index _ (entry_away (found table) i at (root_away t table e)

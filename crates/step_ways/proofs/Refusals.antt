@@ -44,7 +44,7 @@ NobodyWaits s = (x : Thing) (d : ℕ) → (s.grace x).waits d ≡ false
 -- No call owes ticks, but a tick.
 pub only_tick_owes : (s : State) (c : ℕ) (call : Call) → ((n : ℕ) → call ≢ Tick n) → owed_by s c call ≡ s
 only_tick_owes s c (Look a) other = refl
-only_tick_owes s c (Copy a u b) other = refl
+only_tick_owes s c (Copy a u b rights) other = refl
 only_tick_owes s c (Remove u b) other = refl
 only_tick_owes s c (Grow u i l) other = refl
 only_tick_owes s c (Shrink u i) other = refl
@@ -224,6 +224,13 @@ module _ (setup : Setting) (setting : IsSetting setup) (cores : ℕ → Core) (t
       decides_on setup setting cores t stands c here a active move reply.WrongCap a.found looks lands (still None refl) opens refl refl
       (λ x. refl) (λ x. refl) refl (unspent, may) tt
       (first_of reply.WrongCap first)
+
+  pub refuses_right : RuleMay (state_after setup t) c (rule_of (state_after setup t) c a.call) reply.NoRight
+      → IsFirstCause reply.NoRight → RefusedWith reply.NoRight
+  refuses_right may first lands =
+      decides_on setup setting cores t stands c here a active move reply.NoRight a.found looks lands (still None refl) opens refl refl
+      (λ x. refl) (λ x. refl) refl (unspent, may) tt
+      (first_of reply.NoRight first)
 
   pub refuses_occupied : RuleMay (state_after setup t) c (rule_of (state_after setup t) c a.call) reply.Occupied
       → IsFirstCause reply.Occupied → RefusedWith reply.Occupied

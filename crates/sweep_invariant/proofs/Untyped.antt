@@ -1,6 +1,6 @@
 -- The draw of a retype to untyped: the call is carried out, and the frame is untyped from then on. Nothing referred to it, and nobody
 -- waited for it; its grace period is ended, and the references of its object are released.
-use Rattle.freeze_invariant.proofs.Common.{IsSome, list_any, ◌≡◌, ◌≢◌, inl, inr, ℕ, pos, negsuc, ◌+ℤ◌, max, length, ◌+◌, ◌^◌, ◌<◌}
+use Rattle.freeze_invariant.proofs.Common.{Want, IsSome, list_any, ◌≡◌, ◌≢◌, inl, inr, ℕ, pos, negsuc, ◌+ℤ◌, max, length, ◌+◌, ◌^◌, ◌<◌}
 use Rattle.freeze_invariant.proofs.Common.{◌≤◌, Bool, true, false, List, [], ◌∷◌, Option, Some, None}
 use Rattle.freeze_invariant.proofs.Common.{arith, refl, sym, ◌∙◌, ap, subst, cases_eq, eq-eqb, eqb-true, ne_eqb, false≢true, All-nil}
 use Rattle.freeze_invariant.proofs.Common.{Capability, Setting, IsSetting, Kind, Reply, CountFits, count_of_word}
@@ -563,7 +563,7 @@ module _ (setup : Setting) (setting : IsSetting setup) (cores : ℕ → Core) (t
         (sym (calls.left setup setting cores t stands c here a active m stage_is has))
         (All-nil (λ (y : Slot). IsSome (own_left (e ∷ t) c (EntryAt y.node y.index)))))
       where
-        own_gone : (n : ℕ) (wanted : Kind → Bool) (q : Capability) → HasFound setup t c (own_in (cores c).own.table n) wanted q
+        own_gone : (n : ℕ) (wanted : Want) (q : Capability) → HasFound setup t c (own_in (cores c).own.table n) wanted q
             → LeadsIn s c n wanted q × HasReached (e ∷ t) c (way_to s c (own s c n))
         own_gone n wanted q had = (
           found_named setup t c (cores c).own.table n wanted q (stands.each c here).works.table had,

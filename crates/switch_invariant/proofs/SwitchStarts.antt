@@ -1,7 +1,7 @@
 -- A switch begins where its names have led to a thread and to a temporal capability.
-use Rattle.thread_invariant.proofs.Common.{◌≡◌, ℕ, ◌<◌, if◌then◌else◌, map, Bool, true, false, List, [], ◌∷◌, Option, Some, None, IsTrue}
+use Rattle.thread_invariant.proofs.Common.{Want, to_use, ◌≡◌, ℕ, ◌<◌, if◌then◌else◌, map, Bool, true, false, List, [], ◌∷◌, Option, Some, None, IsTrue}
 use Rattle.thread_invariant.proofs.Common.{refl, sym, ◌∙◌, ap, subst, Capability, Setting, IsSetting, Kind, Call, Switch, Move, word_of}
-use Rattle.thread_invariant.proofs.Common.{State, only, named_by, Found, Refused, named, named_fit, only_is, opened, name_parts}
+use Rattle.thread_invariant.proofs.Common.{State, only, suits, named_by, Found, Refused, named, named_fit, only_is, opened, name_parts}
 use Rattle.thread_invariant.proofs.Common.{events_of, IsLegal, Step, Trace, Open, phase, state_after, last_left, Carries, sound_of}
 use Rattle.thread_invariant.proofs.Common.{opened_is, guarded_usable, Name, Plan, Leads, LeadsIn, names_after, plan_for, of_kind}
 use Rattle.thread_invariant.proofs.Common.{Acquired, act_begun, Act, Undecided, ActiveCall, landed, found_more, Core, holds_counts}
@@ -15,23 +15,18 @@ use Rattle.thread_invariant.specs.step_ways.proofs.Loads.{OnlyLooks, step_to, ca
 use Rattle.thread_invariant.specs.step_ways.proofs.Refusals.{GoodTook}
 
 -- What a name leads to is of a wanted kind, and is what was found.
-same_found : (wanted : Kind → Bool) (j k : Capability) → has_kind wanted j ≡ Found k → (j ≡ k) × (wanted k.kind ≡ true)
-same_found wanted j k = by (wanted j.kind) refl
-  where
-    same : Found j ≡ Found k → j ≡ k
-    same h = cc
-
-    by : (b : Bool) → wanted j.kind ≡ b → (if b then Found j else Refused reply.WrongCap) ≡ Found k → (j ≡ k) × (wanted k.kind ≡ true)
-    by true is h = (same h, subst (λ (x : Capability). wanted x.kind ≡ true) (same h) is)
-    by false is h = absurd (cc)
+same_found : (wanted : Want) (j k : Capability) → has_kind wanted j ≡ Found k → (j ≡ k) × (wanted.kinds k.kind ≡ true)
+same_found wanted j k h =
+    let w = suits wanted j k h in
+    (w.is, subst (λ (x : Capability). wanted.kinds x.kind ≡ true) w.is w.kind)
 
 -- A thread that an open call has named is there, and no other core may retype it.
 thread_named : (setup : Setting) → IsSetting setup → (t : Trace) → IsLegal setup t → (c : ℕ) (call : Call) → phase t c ≡ Open call
-    → (n : ℕ) (k : Capability) → named (state_after setup t) c n (only kind.Thread) ≡ Found k → HasThread (state_after setup t) c k.frame
+    → (n : ℕ) (k : Capability) → named (state_after setup t) c n (to_use (only kind.Thread)) ≡ Found k → HasThread (state_after setup t) c k.frame
 thread_named setup setting t legal c call is n k found =
     let s : State = state_after setup t in
-    let parts = name_parts s c n (only kind.Thread) k found in
-    let same = same_found (only kind.Thread) parts.2 k parts.4 in
+    let parts = name_parts s c n (to_use (only kind.Thread)) k found in
+    let same = same_found (to_use (only kind.Thread)) parts.2 k parts.4 in
     record {
       thread = named_fit s (opened (events_of t)) c n kind.Thread k (sound_of setup setting t legal) (opened_is t c call is) found;
       guarded = guarded_usable setup setting t legal c call is parts.0 k
@@ -44,7 +39,7 @@ record TwoLed (s : State) (c x y : ℕ) (ks : List Capability) : Type 0 where
   first : Capability
   second : Capability
   both : ks ≡ first ∷ second ∷ []
-  first_led : named s c x (only kind.Thread) ≡ Found first
+  first_led : named s c x (to_use (only kind.Thread)) ≡ Found first
 
 abbrev two_names : ℕ → ℕ → List Name
 two_names x y = of_kind kind.Thread x ∷ of_kind kind.Tcap y ∷ []

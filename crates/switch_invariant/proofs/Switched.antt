@@ -63,7 +63,7 @@ use Rattle.switch_invariant.proofs.ThreadWords.{idle_value, none_some, same_valu
 use Rattle.switch_invariant.proofs.Tops.{apart_own, apart_tcap, is_idle, to_tcap}
 use Rattle.switch_invariant.proofs.Words.{marked_says}
 use Rattle.thread_invariant.specs.act_states.specs.Switches.{SwitchAtFits}
-use Rattle.thread_invariant.specs.kernel_rules.specs.Access.{own as own_of_access}
+use Rattle.thread_invariant.specs.kernel_rules.specs.Access.{Want, own as own_of_access}
 use Rattle.thread_invariant.specs.spk_nums.specs.declared.calls.Call.TheVariants.{Switch as CallSwitch}
 
 comp_no_thread : (k : CompFields) (u : ThreadFields) → Kernel (Comp k) ≡ Kernel (Thread u) → ⊥
@@ -597,7 +597,7 @@ module _ (setup : Setting) (setting : IsSetting setup) (cores : ℕ → Core) (t
       (ap (λ (g : ℕ). (thread_in (s.frame g)).runs_on) claimed_is ∙ runs_none)))
       (All-nil (λ (y : Slot). IsSome (own_left (e ∷ t) c (EntryAt y.node y.index)))))
     where
-      own_gone : (n : ℕ) (wanted : Kind → Bool) (k : Capability) → HasFound setup t c (own_in (cores c).own.table n) wanted k
+      own_gone : (n : ℕ) (wanted : Want) (k : Capability) → HasFound setup t c (own_in (cores c).own.table n) wanted k
           → LeadsIn s c n wanted k × HasReached (e ∷ t) c (way_to s c (own_of_access s c n))
       own_gone n wanted k had = (
         found_named setup t c (cores c).own.table n wanted k (stands.each c here).works.table had,

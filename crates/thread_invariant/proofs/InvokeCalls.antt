@@ -1,5 +1,5 @@
 -- What a call that enters a component knows of its rule: what is left of it after its name, and what refuses it.
-use Rattle.live_invariant.proofs.Common.{IsSome, ◌≡◌, inl, inr, ℕ, ◌<◌, ◌==◌, ◌&&◌, ◌||◌, not, nat_le, Bool, true, false, if◌then◌else◌}
+use Rattle.live_invariant.proofs.Common.{Want, IsSome, ◌≡◌, inl, inr, ℕ, ◌<◌, ◌==◌, ◌&&◌, ◌||◌, not, nat_le, Bool, true, false, if◌then◌else◌}
 use Rattle.live_invariant.proofs.Common.{List, [], ◌∷◌, length, Option, Some, None, IsTrue, arith, refl, sym, ◌∙◌, ap, subst, eq-eqb}
 use Rattle.live_invariant.proofs.Common.{lt-leb, All-nil, Capability, Setting, IsSetting, Kind, EntryAt, CompFields, Comp, Kernel, State}
 use Rattle.live_invariant.proofs.Common.{comp_in, thread_of, Slot, found, own, Rule, When, Does, RuleMay, outcome, unless, first_of}
@@ -111,7 +111,7 @@ module _ (setup : Setting) (setting : IsSetting setup) (cores : ℕ → Core) (t
       (subst (λ y. HasReached (e ∷ t) c (ways s c y)) (sym left)
       (All-nil (λ (y : Slot). IsSome (own_left (e ∷ t) c (EntryAt y.node y.index)))))
     where
-      own_gone : (n : ℕ) (wanted : Kind → Bool) (q : Capability) → HasFound setup t c (own_in (cores c).own.table n) wanted q
+      own_gone : (n : ℕ) (wanted : Want) (q : Capability) → HasFound setup t c (own_in (cores c).own.table n) wanted q
           → LeadsIn s c n wanted q × HasReached (e ∷ t) c (way_to s c (own s c n))
       own_gone n wanted q had = (
         found_named setup t c (cores c).own.table n wanted q (stands.each c here).works.table had,

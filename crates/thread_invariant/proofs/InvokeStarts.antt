@@ -1,9 +1,9 @@
 -- An entering starts where its name has led to a gate; or the core's stack is full.
-use Rattle.live_invariant.proofs.Common.{◌≡◌, ◌<◌, inl, ℕ, map, nat_le, not, Bool, true, false, if◌then◌else◌, List, [], ◌∷◌, length}
+use Rattle.live_invariant.proofs.Common.{Want, to_use, ◌≡◌, ◌<◌, inl, ℕ, map, nat_le, not, Bool, true, false, if◌then◌else◌, List, [], ◌∷◌, length}
 use Rattle.live_invariant.proofs.Common.{Some, None, IsTrue, refl, sym, ◌∙◌, ap, subst, false≢true, Capability, Setting, IsSetting, Kind}
 use Rattle.live_invariant.proofs.Common.{Call, Move, word_of, Comp, Frame, Kernel, State, comp_in, thread_of, only, fits, named_by, Found}
 use Rattle.live_invariant.proofs.Common.{Refused, RuleMay, named, outcome, unless, first_of, is_live_in, pushes, rule_of, change_of}
-use Rattle.live_invariant.proofs.Common.{are_calls_spent, named_fit, opened, name_parts, events_of, IsLegal, Step, Trace, Open, phase}
+use Rattle.live_invariant.proofs.Common.{are_calls_spent, suits, named_fit, opened, name_parts, events_of, IsLegal, Step, Trace, Open, phase}
 use Rattle.live_invariant.proofs.Common.{state_after, last_left, refused_first, Carries, sound_of, opened_is, guarded_usable, Acquired}
 use Rattle.live_invariant.proofs.Common.{GoesBy, own_pages, rule_after, Leads, LeadsIn, outcome_left, left_may, Invoking, Act, Goes}
 use Rattle.live_invariant.proofs.Common.{refuse, Undecided, ActiveCall, landed, found_more, Core, HasComp, InvokesBy, holds_counts}
@@ -22,12 +22,8 @@ use Rattle.live_invariant.specs.step_ways.proofs.Refusals.{GoodTook, not_spent}
 use Rattle.thread_invariant.proofs.InvokeCalls.{entering}
 
 -- What a name leads to is of a wanted kind, and is what was found.
-same_found : (wanted : Kind → Bool) (j k : Capability) → of_kind wanted j ≡ Found k → j ≡ k
-same_found wanted j k = by (wanted j.kind)
-  where
-    by : (b : Bool) → (if b then Found j else Refused reply.WrongCap) ≡ Found k → j ≡ k
-    by true h = cc
-    by false h = absurd (cc)
+same_found : (wanted : Want) (j k : Capability) → of_kind wanted j ≡ Found k → j ≡ k
+same_found wanted j k h = (suits wanted j k h).is
 
 gate_comp : (x : Frame) → IsTrue (fits kind.Gate x) → IsTrue (fits kind.Comp x)
 gate_comp (Kernel (Comp k)) fit = refl
@@ -35,17 +31,17 @@ gate_comp _ fit = absurd (false≢true fit)
 
 -- The component of a gate that an open call has named is there, and no other core may retype it.
 gate_named : (setup : Setting) → IsSetting setup → (t : Trace) → IsLegal setup t → (c : ℕ) (call : Call) → phase t c ≡ Open call
-    → (n : ℕ) (k : Capability) → k.kind ≡ kind.Gate → named (state_after setup t) c n (only kind.Gate) ≡ Found k
+    → (n : ℕ) (k : Capability) → k.kind ≡ kind.Gate → named (state_after setup t) c n (to_use (only kind.Gate)) ≡ Found k
     → HasComp (state_after setup t) c k.frame
 gate_named setup setting t legal c call is n k kind_is found =
     let s : State = state_after setup t in
-    let parts = name_parts s c n (only kind.Gate) k found in
+    let parts = name_parts s c n (to_use (only kind.Gate)) k found in
     record {
       comp = gate_comp (s.frame k.frame)
           (named_fit s (opened (events_of t)) c n kind.Gate k (sound_of setup setting t legal) (opened_is t c call is) found);
       guarded = guarded_usable setup setting t legal c call is parts.0 k
           (ap (λ (j : Kind). named_by j k.frame) kind_is)
-          (parts.3 ∙ ap (λ (j : Capability). Some j) (same_found (only kind.Gate) parts.2 k parts.4));
+          (parts.3 ∙ ap (λ (j : Capability). Some j) (same_found (to_use (only kind.Gate)) parts.2 k parts.4));
     }
 
 module _ (setup : Setting) (setting : IsSetting setup) (cores : ℕ → Core) (t : Trace) (stands : Invariant setup cores t) (c : ℕ)
@@ -56,7 +52,7 @@ module _ (setup : Setting) (setting : IsSetting setup) (cores : ℕ → Core) (t
     (by_plan : GoesBy (own_pages (state_after setup t) c) a.plan (rule_of (state_after setup t) c a.call))
     (move : Move) (looks : OnlyLooks setup t c a.call move) (n : ℕ) (k : Capability) (call_so : a.call ≡ call_gate n)
     (kind_is : k.kind ≡ kind.Gate)
-    (found : named (state_after setup t) c n (only kind.Gate) ≡ Found k)
+    (found : named (state_after setup t) c n (to_use (only kind.Gate)) ≡ Found k)
     (leads : Leads (LeadsIn (state_after setup t) c) a.plan.names [] (k ∷ []))
     (names : Carries setup t (step_to c None move (last_left setup t (word_of move)) None None) c
     → NamesAre setup (step_to c None move (last_left setup t (word_of move)) None None ∷ t) c (cores c).own.table a.plan (k ∷ [])) where

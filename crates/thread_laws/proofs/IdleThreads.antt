@@ -204,7 +204,7 @@ switch_rests s d runs a b h q (Some e) = λ calm f. switched s d runs (Switch a 
 pub rule_rests : (s : State) (o : ℕ → Bool) (d : ℕ) → IsOpen s o d → RunsOn s d → (call : Call)
     → ChangesFrom (RestsBy s call) s d (rule_of s d call)
 rule_rests s o d opens runs (Look a) = λ k e calm f. rests_same (Look a) f (s.frame f)
-rule_rests s o d opens runs (Copy a t b) = λ k e table g at v calm f. rests_same (Copy a t b) f (s.frame f)
+rule_rests s o d opens runs (Copy a t b rights) = λ k e table g at v calm f. rests_same (Copy a t b rights) f (s.frame f)
 rule_rests s o d opens runs (Remove t b) = λ table e at k g calm f. rests_same (Remove t b) f (s.frame f)
 rule_rests s o d opens runs (Grow t i l) = λ table e leaf g at v calm f. rests_same (Grow t i l) f (s.frame f)
 rule_rests s o d opens runs (Shrink t i) = λ table e at k g calm f. rests_same (Shrink t i) f (s.frame f)

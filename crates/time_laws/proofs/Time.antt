@@ -1,5 +1,5 @@
 -- The time of a machine is that of the sequential kernel, whose laws hold of each legal trace; and heads say it.
-use Rattle.flight.proofs.Common.{unlent_head_value, ◌≡◌, ℕ, ◌+◌, ◌∷◌, [], ◌&&◌, ◌==◌, Bool, true, false, Option, Some, None}
+use Rattle.flight.proofs.Common.{to_use, unlent_head_value, ◌≡◌, ℕ, ◌+◌, ◌∷◌, [], ◌&&◌, ◌==◌, Bool, true, false, Option, Some, None}
 use Rattle.flight.proofs.Common.{if◌then◌else◌, refl, sym, ◌∙◌, ap, subst, Setting, IsSetting, head_of_word, EntryAt, PlaceOf, State}
 use Rattle.flight.proofs.Common.{events_of, IsLegal, MayDecide, stamp, Trace, state_after, last_left, Step, Open, phase, after_enter}
 use Rattle.flight.proofs.Common.{state_before, state_is, run_of, settled_by, settled, held_by, Invariant, HeadIs, IsFrameWord, count_room}
@@ -50,19 +50,19 @@ lists_say setup setting t made f q is unmarked j low =
 
 -- What is answered to a test is what its rule answers.
 told_by : (s : State) (c x y : ℕ) (v : Value) → IsFoundAnd (change_of s c (Test x y)) (λ change. change.value ≡ v) → TellsOf s c x y v
-told_by s c x y v h = by (named s c x (only kind.Tcap)) (named s c y (only kind.Tcap)) refl refl h
+told_by s c x y v h = by (named s c x (to_use (only kind.Tcap))) (named s c y (to_use (only kind.Tcap))) refl refl h
   where
     rest : Capability → Capability → Judged Change
     rest a b = unless (first_of (if true && (true && a.frame == b.frame) then Some reply.Same else None) None)
         (answers s (preemption (preempts (tcap_at s a.frame) (tcap_at s b.frame))))
 
-    last : (a b : Capability) → named s c x (only kind.Tcap) ≡ Found a → named s c y (only kind.Tcap) ≡ Found b → (same : Bool)
+    last : (a b : Capability) → named s c x (to_use (only kind.Tcap)) ≡ Found a → named s c y (to_use (only kind.Tcap)) ≡ Found b → (same : Bool)
         → IsFoundAnd (unless (first_of (if same then Some reply.Same else None) None)
         (answers s (preemption (preempts (tcap_at s a.frame) (tcap_at s b.frame))))) (λ change. change.value ≡ v) → TellsOf s c x y v
     last a b first second true h = absurd h
     last a b first second false h = record { first = a; second = b; first_named = first; second_named = second; answer = sym h }
 
-    by : (j k : Judged Capability) → named s c x (only kind.Tcap) ≡ j → named s c y (only kind.Tcap) ≡ k
+    by : (j k : Judged Capability) → named s c x (to_use (only kind.Tcap)) ≡ j → named s c y (to_use (only kind.Tcap)) ≡ k
         → IsFoundAnd (and_then j λ a. and_then k λ b. rest a b) (λ change. change.value ≡ v) → TellsOf s c x y v
     by (Refused r) k first second h = absurd h
     by (Found a) (Refused r) first second h = absurd h

@@ -12,7 +12,7 @@ use Rattle.flight.specs.tcap_words.specs.Quality.{quality_of_word}
 use Rattle.flight.specs.tcap_words.specs.Head.{head_of_word}
 use Rattle.flight.specs.tcap_words.specs.declared.head_word.HeadWord.{HeadWord}
 use Rattle.flight.specs.word_map.specs.Word.{EntryAt}
-use Rattle.flight.specs.kernel_rules.specs.Access.{only}
+use Rattle.flight.specs.kernel_rules.specs.Access.{to_use, only}
 use Rattle.flight.specs.kernel_rules.specs.Laws.{ticks}
 use Rattle.flight.specs.kernel_rules.specs.Rules.{Found, named}
 use Rattle.flight.specs.kernel_rules.specs.Start.{start}
@@ -65,7 +65,7 @@ state_of_decision setup (e ∷ t) c =
 -- A name of a core leads in this state to the temporal capability in this frame.
 pub record LeadsTo (s : State) (c name f : ℕ) : Type 0 where
   pub cap : Capability
-  pub is_named : named s c name (only kind.Tcap) ≡ Found cap
+  pub is_named : named s c name (to_use (only kind.Tcap)) ≡ Found cap
   pub frame : cap.frame ≡ f
 
 -- What a marked head shows of the temporal capability in frame f, which has this budget, where its core's call was decided so in state s.
@@ -102,8 +102,8 @@ ListsSay setup t = (f : ℕ) (q : TcapFields)
 pub record TellsOf (s : State) (c x y : ℕ) (v : Value) : Type 0 where
   pub first : Capability
   pub second : Capability
-  pub first_named : named s c x (only kind.Tcap) ≡ Found first
-  pub second_named : named s c y (only kind.Tcap) ≡ Found second
+  pub first_named : named s c x (to_use (only kind.Tcap)) ≡ Found first
+  pub second_named : named s c y (to_use (only kind.Tcap)) ≡ Found second
   pub answer : v ≡ preemption (preempts (tcap_at s first.frame) (tcap_at s second.frame))
 
 -- A step that decides a `test` with an answer tells so of the state that it finds, though the words of a list are read one by one.

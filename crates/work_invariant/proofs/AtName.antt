@@ -10,7 +10,7 @@ use Rattle.comp_invariant.proofs.Common.{ok_first, Carries, GoesBy, own_pages, w
 use Rattle.comp_invariant.proofs.Common.{outcome_left, left_may, CapNames, end_of_frames, Acquired, Load, Untyping, UntypesBy, Goes, Act}
 use Rattle.comp_invariant.proofs.Common.{act_begun, Undecided, ActiveCall, landed, found_more, Core, holds_counts, due_of, NamesAre}
 use Rattle.comp_invariant.proofs.Common.{phase_at, own_in, holds_in, Invariant, IsSome, All-nil, All-append, alone, way_to, HasReached}
-use Rattle.comp_invariant.proofs.Common.{IsJustified, Name, own_kept}
+use Rattle.comp_invariant.proofs.Common.{IsJustified, Name, own_kept, to_look}
 use Rattle.comp_invariant.specs.spk_nums.specs.declared.kinds.FrameKind.TheVariants.{Untyped}
 use Rattle.comp_invariant.specs.spk_nums.specs.declared.kinds.Kind.TheVariants.{Range}
 use Rattle.comp_invariant.specs.spk_nums.specs.declared.calls.Call.TheVariants.{Look as look_call}
@@ -177,7 +177,7 @@ module _ (setup : Setting) (setting : IsSetting setup) (cores : ℕ → Core) (t
     (room : (cores c).own.made < (cores c).own.limit)
     (at : Slot) (looks : OnlyLooks setup t c a.call (LoadOf (EntryAt at.node at.index)))
     (n : ℕ) (arrives : Arrives setup t c (own_in (cores c).own.table n) at)
-    (k : Capability) (is : named (state_after setup t) c n any ≡ Found k) (call_is : a.call ≡ look_call n) where
+    (k : Capability) (is : named (state_after setup t) c n (to_look any) ≡ Found k) (call_is : a.call ≡ look_call n) where
   abbrev now : State
   now = state_after setup t
 

@@ -1,8 +1,8 @@
 -- The act with which a call begins at a target that is to be free: it fills the place, it makes an object in a frame of its range, or this
 -- frame is out of range.
-use Rattle.comp_invariant.proofs.Common.{IsSome, ◌≡◌, inl, ℕ, ◌<◌, ◌&&◌, nat_lt, Bool, true, false, List, [], ◌∷◌, Option, Some, refl}
+use Rattle.comp_invariant.proofs.Common.{to_use, IsSome, ◌≡◌, inl, ℕ, ◌<◌, ◌&&◌, nat_lt, Bool, true, false, List, [], ◌∷◌, Option, Some, refl}
 use Rattle.comp_invariant.proofs.Common.{sym, ◌∙◌, ap, subst, IsTrue, arith, if◌then◌else◌, None, ◌≤◌, inr, lt-ltb, le-leb, false≢true}
-use Rattle.comp_invariant.proofs.Common.{Capability, cap_of, Setting, IsSetting, Kind, Call, Copy, Remove, Shrink, Unmap, Retype, Tick, Gate}
+use Rattle.comp_invariant.proofs.Common.{kept, right_to_copy, Capability, cap_of, Setting, IsSetting, Kind, Call, Copy, Remove, Shrink, Unmap, Retype, Tick, Gate}
 use Rattle.comp_invariant.proofs.Common.{Kill, Grow, Flush, Map, Touch, Ret, Transfer, Delegate, Test, Switch, Make, InLimits, PageFlags}
 use Rattle.comp_invariant.proofs.Common.{EntryFits, entry_of_word, State, found, only, named, has_frame, only_is, opened, events_of}
 use Rattle.comp_invariant.proofs.Common.{IsLegal, Trace, Out, Open, phase, state_after, WasAt, sound_of, opened_is, quiet_scan, First}
@@ -18,6 +18,7 @@ use Rattle.comp_invariant.specs.spk_nums.specs.declared.calls.Make.TheVariants a
 use Rattle.comp_invariant.specs.entry_words.specs.declared.entry.Entry.TheVariants as entry
 use Rattle.comp_invariant.specs.kernel_rules.specs.Start.{plain_cap}
 use Rattle.comp_invariant.specs.kernel_rules.specs.Fitting.{EndsWithin, IsGood}
+use Rattle.comp_invariant.specs.entry_words.proofs.Spelling.{kept_fits}
 use Rattle.comp_invariant.specs.kernel_rules.specs.Rules.{Found as Found_it}
 use Rattle.comp_invariant.specs.kernel_invariant.proofs.Facts.{named_good}
 use Rattle.comp_invariant.specs.stage_look.specs.declared.look.Found.{Found}
@@ -55,7 +56,7 @@ good_within s range f good is has =
     (subst (λ (k : Kind). EndsWithin k range.frame range.arg s.limits.frames) is good.within) has
 
 pub range_within : (setup : Setting) → IsSetting setup → (t : Trace) → IsLegal setup t → (c : ℕ) (call : Call) → phase t c ≡ Open call
-    → (r f : ℕ) (range : Capability) → named (state_after setup t) c r (only kind.Range) ≡ Found_it range
+    → (r f : ℕ) (range : Capability) → named (state_after setup t) c r (to_use (only kind.Range)) ≡ Found_it range
     → has_frame (found range) f ≡ true → f < setup.frames
 range_within setup setting t legal c call is_open r f range is has =
     let good : IsGood (state_after setup t) range × IsTrue (only kind.Range range.kind) = named_good (state_after setup t)
@@ -245,19 +246,19 @@ gate_of : (s : State) (c : ℕ) (comp : Capability) (read : Option ℕ) → IsRe
 gate_of s c comp read has fits = record {
   cap = cap_of kind.Gate comp.frame has.life.epoch;
   is = ap (gate_to (Some comp)) has.epoch ∙ ap (λ b. gate_if b comp.frame has.life.epoch) (le-leb 1 has.life.epoch has.fits.1);
-  fits = (fits.0, has.fits.1, has.fits.2);
+  fits = (fits.0, has.fits.1, has.fits.2, omega arith, omega arith);
 }
 
 -- A link to a frame that a capability names is a capability.
 link_fits : (leaf : Capability) → EntryFits (entry.Held leaf) → EntryFits (entry.Held (plain_cap kind.Link leaf.frame))
-link_fits leaf fits = (fits.0, omega arith, omega arith)
+link_fits leaf fits = (fits.0, omega arith, omega arith, omega arith, omega arith)
 
 pub begins_free : (own : Own) (call : Call) → InLimits call → own.layout.frames ≤ 512 → (spot : Spot)
     → (plan_for call).target ≡ Free spot
     → (s : State) (plan : Plan) (ks : List Capability) (read : Option ℕ) (c : ℕ) → own.core ≡ c
     → names_after (plan_for call).names ks ≡ [] → Leads (LeadsIn s c) (plan_for call).names [] ks
     → ((at : Nth) (k : Capability) → at_place ks at ≡ Some k → EntryFits (entry.Held k))
-    → ((r f : ℕ) (range : Capability) → named s c r (only kind.Range) ≡ Found_it range → has_frame (found range) f ≡ true
+    → ((r f : ℕ) (range : Capability) → named s c r (to_use (only kind.Range)) ≡ Found_it range → has_frame (found range) f ≡ true
     → f < own.layout.frames)
     → ReadIs s c (reads_of call ks) read
     → (at : Found) → Begins own call plan ks read c at
@@ -265,12 +266,13 @@ begins_free own (look_call a) limits small spot to s plan ks read c core none le
   where
     not_free : Nowhere ≡ Free spot → ⊥
     not_free h = cc
-begins_free own (Copy a u b) limits small spot to s plan [] read c core none leads fits within reads at = absurd (not_none none)
+begins_free own (Copy a u b rights) limits small spot to s plan [] read c core none leads fits within reads at = absurd (not_none none)
   where
-    not_none : any_cap a ∷ of_kind kind.Table u ∷ [] ≡ [] → ⊥
+    not_none : any_cap right_to_copy a ∷ of_kind kind.Table u ∷ [] ≡ [] → ⊥
     not_none h = cc
-begins_free own (Copy a u b) limits small spot to s plan (k ∷ ks) read c core none leads fits within reads at =
-    begins_fill own plan read c core at (Copy a u b) (k ∷ ks) k refl (fits First k refl) refl (λ setup t. tt)
+begins_free own (Copy a u b rights) limits small spot to s plan (k ∷ ks) read c core none leads fits within reads at =
+    begins_fill own plan read c core at (Copy a u b rights) (k ∷ ks) (kept k rights.0) refl (kept_fits k rights.0 (fits First k refl)) refl
+    (λ setup t. tt)
 begins_free own (Grow u i l) limits small spot to s plan [] read c core none leads fits within reads at = absurd (not_none none)
   where
     not_none : a_root u ∷ a_leaf l ∷ [] ≡ [] → ⊥

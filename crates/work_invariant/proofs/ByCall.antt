@@ -5,7 +5,7 @@ use Rattle.comp_invariant.proofs.Common.{Unmap, Retype, Tick, Gate, Kill, Grow, 
 use Rattle.comp_invariant.proofs.Common.{Make, State, Thing, Holds, PlaceOf, Slot, Named, found, place_at, held_in, reached, own, InRoot}
 use Rattle.comp_invariant.proofs.Common.{Refused, IsFoundAnd, Does, outcome, answers, and_then, or_refuse, unless, not_vacant, named}
 use Rattle.comp_invariant.proofs.Common.{vacant, change_of, changed, counted, begins_in, some_inj, First, Second, Name, Spot, Nowhere}
-use Rattle.comp_invariant.proofs.Common.{plan_for, names_after, removes_by, act_begun, Own}
+use Rattle.comp_invariant.proofs.Common.{plan_for, names_after, removes_by, act_begun, Own, to_look}
 use Rattle.comp_invariant.specs.spk_nums.specs.declared.calls.Call.TheVariants.{Look as look_call}
 use Rattle.comp_invariant.specs.spk_nums.specs.declared.calls.Call.TheVariants.{Make as make_call}
 use Rattle.comp_invariant.specs.spk_nums.specs.declared.calls.Call.TheVariants.{Call as call_gate}
@@ -74,7 +74,7 @@ make_target (make.Comp table pages live) r u b = refl
 -- A call whose target is a page of its own has no names.
 pub own_unnamed : (call : Call) (v : ℕ) → (plan_for call).target ≡ own_page v → (plan_for call).names ≡ []
 own_unnamed (look_call a) v is = absurd (cc)
-own_unnamed (Copy a u b) v is = absurd (cc)
+own_unnamed (Copy a u b rights) v is = absurd (cc)
 own_unnamed (Grow u i l) v is = absurd (cc)
 own_unnamed (Remove u b) v is = absurd (cc)
 own_unnamed (Shrink u i) v is = absurd (cc)
@@ -135,7 +135,7 @@ begins_removal own (look_call a) spot to ks = absurd (not_held to)
   where
     not_held : Nowhere ≡ Held spot → ⊥
     not_held h = cc
-begins_removal own (Copy a u b) spot to ks = absurd (not_held to)
+begins_removal own (Copy a u b rights) spot to ks = absurd (not_held to)
   where
     not_held : Free (spot_of.Under Second b) ≡ Held spot → ⊥
     not_held h = cc
@@ -212,7 +212,7 @@ begins_removal own (Switch x y) spot to ks = absurd (not_held to)
     not_held h = cc
 
 -- A look that has found its capability answers it.
-module _ (s : State) (c a : ℕ) (k : Capability) (is : named s c a any ≡ Found_it k) where
+module _ (s : State) (c a : ℕ) (k : Capability) (is : named s c a (to_look any) ≡ Found_it k) where
   pub look_change : change_of s c (look_call a) ≡ Found_it (answers s (Cap k))
   look_change = ap (λ x. and_then x λ k. outcome s c (Does [] (answers s (Cap (capability (found k)))))) is
 

@@ -1,7 +1,7 @@
 -- A step of any look-up of a call is good: the look-up goes by the call's plan.
 use Rattle.comp_invariant.proofs.Common.{◌≡◌, inl, inr, ℕ, suc, negsuc, ◌≢◌, ◌<◌, ◌≤◌, ◌+◌, map, length, arith, Bool, true, false}
 use Rattle.comp_invariant.proofs.Common.{if◌then◌else◌, IsTrue, List, [], ◌∷◌, ◌++◌, Option, Some, None, refl, sym, ◌∙◌, ap, subst}
-use Rattle.comp_invariant.proofs.Common.{eq-eqb, Capability, Setting, IsSetting, Kind, Call, Copy, Remove, Shrink, Unmap, Retype, Tick}
+use Rattle.comp_invariant.proofs.Common.{eq-eqb, Capability, Setting, IsSetting, Call, Copy, Remove, Shrink, Unmap, Retype, Tick}
 use Rattle.comp_invariant.proofs.Common.{Gate, Kill, Grow, Touch, Flush, Map, Ret, Transfer, Delegate, Test, Switch, Reply, Entry}
 use Rattle.comp_invariant.proofs.Common.{EntryFits, entry_of_word, EntryAt, LoadOf, word_of, State, Thing, PlaceOf, comp_of, Slot}
 use Rattle.comp_invariant.proofs.Common.{root_at, place_at, held_in, reached, has_no_slot, own, RuleMay, Refused, named, vacant, rule_of}
@@ -14,14 +14,13 @@ use Rattle.comp_invariant.proofs.Common.{ActiveCall, FrameKind, only_is, Goes, A
 use Rattle.comp_invariant.proofs.Common.{act_begun, fills_page, CountsAt, HasRoom, holds_counts, due_of, ReadIs, ReadBefore, IsScanned}
 use Rattle.comp_invariant.proofs.Common.{MayFill, KnowsAct, LooksUp, own_in, HasFound, NamesAre, LooksFor, KnowsUndecided, phase_at}
 use Rattle.comp_invariant.proofs.Common.{HasFlushed, Quiet, quiet_scan, clock, stamp, landed, found_more, Core, holds_at, holds_in}
-use Rattle.comp_invariant.proofs.Common.{Invariant, names_on, limits_of}
+use Rattle.comp_invariant.proofs.Common.{Invariant, names_on, limits_of, Want, has_rights, neither, to_look}
 use Rattle.switch_invariant.specs.thread_invariant.proofs.InvokeStarts.{invokes_good}
 use Rattle.comp_invariant.specs.spk_nums.specs.declared.calls.Call.TheVariants.{Look as look_call}
 use Rattle.comp_invariant.specs.spk_nums.specs.declared.calls.Call.TheVariants.{Make as make_call}
 use Rattle.comp_invariant.specs.spk_nums.specs.declared.calls.Call.TheVariants.{Call as call_gate}
 use Rattle.comp_invariant.specs.spk_nums.specs.declared.replies.Reply.TheVariants as reply
 use Rattle.comp_invariant.specs.entry_words.specs.declared.entry.Entry.TheVariants as entry
-use Rattle.comp_invariant.specs.kernel_rules.specs.Access.{any}
 use Rattle.comp_invariant.specs.kernel_rules.specs.Access.{Target as place}
 use Rattle.comp_invariant.specs.kernel_rules.specs.Rules.{Found as Found_it, held}
 use Rattle.comp_invariant.specs.stage_look.specs.Lookup.{found_at}
@@ -29,7 +28,7 @@ use Rattle.comp_invariant.specs.call_plans.specs.declared.plans.Spot.TheVariants
 use Rattle.comp_invariant.specs.call_plans.specs.declared.plans.Target.{Target}
 use Rattle.comp_invariant.specs.call_plans.specs.declared.plans.Target.TheVariants.{Free, Held, Own as own_page}
 use Rattle.comp_invariant.specs.call_plans.specs.PlanOf.{any_cap}
-use Rattle.comp_invariant.specs.call_plans.specs.GoesBy.{earlier, place_of_spot}
+use Rattle.comp_invariant.specs.call_plans.specs.GoesBy.{want_of, earlier, place_of_spot}
 use Rattle.comp_invariant.specs.call_plans.specs.After.{next_in}
 use Rattle.comp_invariant.specs.call_plans.proofs.FewNames.{few_names}
 use Rattle.comp_invariant.specs.call_plans.proofs.Roots.{count_led, pushed_one}
@@ -56,16 +55,16 @@ use Rattle.comp_invariant.specs.place_invariant.proofs.Starts.{starts_good}
 use Rattle.comp_invariant.specs.place_invariant.proofs.Outside.{refused_vacant}
 use Rattle.comp_invariant.specs.place_invariant.proofs.Paging.{paging_by}
 use Rattle.comp_invariant.specs.place_invariant.proofs.Vacancy.{unpaged_flushed, vacant_by}
-use Rattle.comp_invariant.specs.act_states.specs.Lookups.{met_name, met_free, met_held}
+use Rattle.comp_invariant.specs.act_states.specs.Lookups.{met_right, met_name, met_free, met_held}
 use Rattle.comp_invariant.specs.call_stages.specs.Steps.{next_by as what_next, named_one, took_look, took_found}
 use Rattle.comp_invariant.specs.act_fits.proofs.DuesFit.{cap_one}
 use Rattle.comp_invariant.specs.kept_facts.proofs.Carries.{read_before_on}
 use Rattle.comp_invariant.specs.step_ways.proofs.Loads.{OnlyLooks, next_at, call_is, is_active, loads_on}
-use Rattle.comp_invariant.specs.step_ways.proofs.Refusals.{GoodTook, refuses_empty, refuses_wrong, refuses_occupied}
+use Rattle.comp_invariant.specs.step_ways.proofs.Refusals.{GoodTook, refuses_empty, refuses_wrong, refuses_right, refuses_occupied}
 use Rattle.comp_invariant.specs.count_invariant.proofs.Lookups.{Shows, ShowsHeld, Arrives, under_step, in_root_step}
-use Rattle.comp_invariant.specs.count_invariant.proofs.Findings.{own_is, reaches_none, reaches_held, reaches_other, use_held, use_free}
+use Rattle.comp_invariant.specs.count_invariant.proofs.Findings.{own_is, reaches_none, reaches_held, reaches_other, reaches_lacking, use_held, use_free}
 use Rattle.comp_invariant.specs.count_invariant.proofs.Findings.{use_removed_at, named_of}
-use Rattle.comp_invariant.specs.count_invariant.proofs.Findings.{named_no_slot, named_empty, named_wrong, found_named, arriving}
+use Rattle.comp_invariant.specs.count_invariant.proofs.Findings.{named_no_slot, named_empty, named_wrong, named_lacking, found_named, arriving}
 use Rattle.comp_invariant.specs.count_invariant.proofs.Findings.{reached_now, found_now}
 use Rattle.comp_invariant.specs.count_invariant.proofs.Next.{MayUse, Rest, ANameLeft, NoneLeft, rest_of, next_name, next_end}
 use Rattle.work_invariant.proofs.ByCall.{none_after, vacant_no_slot, vacant_occupied, held_no_slot, held_empty, make_target}
@@ -168,7 +167,7 @@ module _ (setup : Setting) (setting : IsSetting setup) (cores : ℕ → Core) (t
   module _ (name : Name) (rest : List Name) (left : names_after a.plan.names a.found ≡ name ∷ rest) (at : Slot) (k : Capability)
       (arrives : Arrives setup t c (own_in table name.number) at)
       (shows : ShowsHeld setup.frames (place_at s at) k) (looks : OnlyLooks setup t c a.call (LoadOf (EntryAt at.node at.index)))
-      (wanted : wants (with_found [] a.found) name.wanted k.kind ≡ true) where
+      (wanted : wants (with_found [] a.found) name.wanted k.kind ≡ true) (right : has_rights k.rights name.needs.0 ≡ true) where
     abbrev more : List Capability
     more = a.found ++ k ∷ []
 
@@ -180,22 +179,22 @@ module _ (setup : Setting) (setting : IsSetting setup) (cores : ℕ → Core) (t
     next_left = subst (λ (names : List Name). NextBy (λ n w j. HasFound setup (e ∷ t) c (own_in table n) w j)
         (next_in (with_found [] a.found) names a.plan.target) k) (sym left)
         (found_now setup t c (own_in table name.number) at (last_left setup t (EntryAt at.node at.index)) arrives
-        (wants (with_found [] a.found) name.wanted) k shows.holds wanted shows.fits)
+        (want_of (with_found [] a.found) name) k shows.holds wanted right shows.fits)
 
     names_then : Carries setup t e c → NamesAre setup (e ∷ t) c table a.plan more
     names_then carries = one_more (λ n w j. HasFound setup (e ∷ t) c (own_in table n) w j) a.plan.names a.plan.target [] a.found k
         (names_on setup setting t e stands.legal c a.call is_open carries table a.plan a.found has.names) next_left
 
-    here_use : MayUse s c name.number (wants (with_found [] a.found) name.wanted) k
+    here_use : MayUse s c name.number (want_of (with_found [] a.found) name) k
     here_use = record { at = at; usable = use_held s c at k shows.holds; kind = wanted }
 
     uses_then : Leads (MayUse s c) a.plan.names [] more
     uses_then = one_more (MayUse s c) a.plan.names a.plan.target [] a.found k uses
         (subst (λ (names : List Name). NextBy (MayUse s c) (next_in (with_found [] a.found) names a.plan.target) k) (sym left) here_use)
 
-    here_named : LeadsIn s c name.number (wants (with_found [] a.found) name.wanted) k
-    here_named = named_of s c name.number (wants (with_found [] a.found) name.wanted) at k
-        (ap (reached s c) (sym (own_target name.number)) ∙ arrives.reached) (use_held s c at k shows.holds) wanted
+    here_named : LeadsIn s c name.number (want_of (with_found [] a.found) name) k
+    here_named = named_of s c name.number (want_of (with_found [] a.found) name) at k
+        (ap (reached s c) (sym (own_target name.number)) ∙ arrives.reached) (use_held s c at k shows.holds) wanted right
 
     leads_then : Leads (LeadsIn s c) a.plan.names [] more
     leads_then = one_more (LeadsIn s c) a.plan.names a.plan.target [] a.found k leads
@@ -227,15 +226,16 @@ module _ (setup : Setting) (setting : IsSetting setup) (cores : ℕ → Core) (t
         (landed (found_more a more) (act_begun (cores c).own call more None None))
     acts_at_name (look_call n) is nowhere none =
         let plan_look : a.plan ≡ plan_for (look_call n) = plan_is ∙ ap plan_for is in
-        let only_one = one_name a.plan.names (any_cap n) name rest a.found k.kind (ap (λ (p : Plan). p.names) plan_look) left wanted in
+        let only_one = one_name a.plan.names (any_cap neither n) name rest a.found k.kind (ap (λ (p : Plan). p.names) plan_look) left wanted in
         let more_is : more ≡ k ∷ [] = ap (λ ks. ks ++ k ∷ []) only_one.0 in
-        let named_it : named s c n any ≡ Found_it k = (subst (λ (ks : List Capability). Leads (LeadsIn s c) (any_cap n ∷ []) [] ks) more_is
+        let named_it : named s c n (to_look any) ≡ Found_it k =
+        (subst (λ (ks : List Capability). Leads (LeadsIn s c) (any_cap neither n ∷ []) [] ks) more_is
         (subst (λ (p : Plan). Leads (LeadsIn s c) p.names [] more) plan_look leads_then)).0 in
         subst (λ ks. GoodTook setup cores t c (LoadOf (EntryAt at.node at.index))
         (landed (found_more a ks) (act_begun (cores c).own (look_call n) ks None None))) (sym more_is)
         (looked_good setup setting cores t stands c here a active opens held_is no_counts room at looks n
         (subst (λ (m : ℕ). Arrives setup t c (own_in table m) at) (ap (λ (x : Name). x.number) only_one.1) arrives) k named_it is)
-    acts_at_name (Copy b u v) is nowhere none = absurd (free_somewhere (spot_of.Under Second v) nowhere)
+    acts_at_name (Copy b u v rights) is nowhere none = absurd (free_somewhere (spot_of.Under Second v) nowhere)
     acts_at_name (Grow u i l) is nowhere none = absurd (free_somewhere (spot_of.InRoot First i) nowhere)
     acts_at_name (Remove u v) is nowhere none = absurd (held_somewhere (spot_of.Under First v) nowhere)
     acts_at_name (Shrink u i) is nowhere none = absurd (held_somewhere (spot_of.InRoot First i) nowhere)
@@ -310,8 +310,8 @@ module _ (setup : Setting) (setting : IsSetting setup) (cores : ℕ → Core) (t
 
   -- A name that is looked up has arrived at its place.
   module _ (name : Name) (rest : List Name) (left : names_after a.plan.names a.found ≡ name ∷ rest) where
-    abbrev wanted_of : Kind → Bool
-    wanted_of = wants (with_found [] a.found) name.wanted
+    abbrev wanted_of : Want
+    wanted_of = want_of (with_found [] a.found) name
 
     next : next_of a.plan a.found ≡ NextName name.number wanted_of
     next = next_name a.plan a.found name rest left
@@ -327,10 +327,21 @@ module _ (setup : Setting) (setting : IsSetting setup) (cores : ℕ → Core) (t
       reach : reached s c (own s c name.number) ≡ Some at
       reach = ap (reached s c) (sym (own_target name.number)) ∙ arrives.reached
 
-      held_name : (k : Capability) → ShowsHeld setup.frames (place_at s at) k → (wanted : Bool) → wanted_of k.kind ≡ wanted
+      held_right : (k : Capability) → ShowsHeld setup.frames (place_at s at) k → wanted_of.kinds k.kind ≡ true → (right : Bool)
+          → has_rights k.rights wanted_of.needs ≡ right
           → GoodTook setup cores t c (LoadOf (EntryAt at.node at.index))
-          (named_one (cores c).own a (if wanted then Finds k else met_refused refusal.WrongCap))
-      held_name k shows true is = found_good name rest left at k arrives shows looks is
+          (named_one (cores c).own a (if right then Finds k else met_refused refusal.NoRight))
+      held_right k shows wanted true is = found_good name rest left at k arrives shows looks wanted is
+      held_right k shows wanted false is =
+          refuses_right setup setting cores t stands c here a active opens held_is room (LoadOf (EntryAt at.node at.index)) looks
+          (may_here reply.NoRight (reaches_lacking s c (own s c name.number) at k wanted_of reach shows.holds wanted is))
+          (λ nobody. first_here reply.NoRight
+          (named_lacking s c name.number wanted_of at k reach (use_held s c at k shows.holds) wanted is))
+
+      held_name : (k : Capability) → ShowsHeld setup.frames (place_at s at) k → (wanted : Bool) → wanted_of.kinds k.kind ≡ wanted
+          → GoodTook setup cores t c (LoadOf (EntryAt at.node at.index))
+          (named_one (cores c).own a (if wanted then met_right wanted_of.needs k else met_refused refusal.WrongCap))
+      held_name k shows true is = held_right k shows is (has_rights k.rights wanted_of.needs) refl
       held_name k shows false is =
           refuses_wrong setup setting cores t stands c here a active opens held_is room (LoadOf (EntryAt at.node at.index)) looks
           (may_here reply.WrongCap (reaches_other s c (own s c name.number) at k wanted_of reach shows.holds is))
@@ -342,7 +353,7 @@ module _ (setup : Setting) (setting : IsSetting setup) (cores : ℕ → Core) (t
           refuses_empty setup setting cores t stands c here a active opens held_is room (LoadOf (EntryAt at.node at.index)) looks
           (may_here reply.Empty (reaches_none s c (own s c name.number) at reach (ap held_in shows)))
           (λ nobody. first_here reply.Empty (named_empty s c name.number wanted_of at reach (use_free s c at shows)))
-      name_good (entry.Held k) shows = held_name k shows (wanted_of k.kind) refl
+      name_good (entry.Held k) shows = held_name k shows (wanted_of.kinds k.kind) refl
       name_good (entry.Closing d) shows = absurd shows
       name_good (entry.Quiescing x) shows =
           refuses_empty setup setting cores t stands c here a active opens held_is room (LoadOf (EntryAt at.node at.index)) looks
@@ -662,6 +673,6 @@ module _ (setup : Setting) (setting : IsSetting setup) (cores : ℕ → Core) (t
 
       by : Rest a.plan a.found → Looked
       by (ANameLeft name rest left) =
-          name_step name rest left (for (NextName name.number (wants (with_found [] a.found) name.wanted))
+          name_step name rest left (for (NextName name.number (want_of (with_found [] a.found) name))
           (next_name a.plan a.found name rest left))
       by (NoneLeft none) = by_target a.plan.target refl none

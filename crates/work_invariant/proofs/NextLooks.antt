@@ -15,7 +15,7 @@ use Rattle.comp_invariant.specs.trace_laws.proofs.Stays.{relies_table}
 use Rattle.comp_invariant.specs.call_plans.specs.declared.plans.Spot.TheVariants as spot_of
 use Rattle.comp_invariant.specs.call_plans.specs.declared.plans.Target.{Target}
 use Rattle.comp_invariant.specs.call_plans.specs.declared.plans.Target.TheVariants.{Free, Held, Own as own_page}
-use Rattle.comp_invariant.specs.call_plans.specs.GoesBy.{earlier, place_of_spot}
+use Rattle.comp_invariant.specs.call_plans.specs.GoesBy.{want_of, earlier, place_of_spot}
 use Rattle.comp_invariant.specs.call_plans.specs.Rooted.{IsRooted}
 use Rattle.comp_invariant.specs.call_plans.specs.After.{next_target}
 use Rattle.comp_invariant.specs.call_plans.proofs.RootedTargets.{rooted}
@@ -237,13 +237,13 @@ module _ (setup : Setting) (setting : IsSetting setup) (cores : ℕ → Core) (t
       by : Rest a.plan more → Goal (next_of a.plan more)
       by (ANameLeft name2 rest2 is) =
           let next = next_name a.plan more name2 rest2 is in
-          subst Goal (sym next) (under_good None (NextName name2.number (wants (with_found [] more) name2.wanted)) next (root_at table)
+          subst Goal (sym next) (under_good None (NextName name2.number (want_of (with_found [] more) name2)) next (root_at table)
           name2.number refl
           (subst (Relies s c) (sym table_is)
           (relies_table setup setting t stands.legal c a.call is_open))
-          (looks_next (NextName name2.number (wants (with_found [] more) name2.wanted)) next tt)
+          (looks_next (NextName name2.number (want_of (with_found [] more) name2)) next tt)
           (λ past. subst (λ x. IsTrue (has_no_slot s x)) (own_target name2.number) (past_slot s (root_at table) name2.number past))
-          (λ past. named_no_slot s c name2.number (wants (with_found [] more) name2.wanted)
+          (λ past. named_no_slot s c name2.number (want_of (with_found [] more) name2)
           (ap (reached s c) (sym (own_target name2.number)) ∙ past_unreached s c (root_at table) name2.number past)))
       by (NoneLeft none) = subst Goal (sym (next_end a.plan more a.plan.target none refl))
           (target_good named a.plan.target refl none (λ nowhere. acts nowhere none))
