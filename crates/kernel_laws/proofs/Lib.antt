@@ -4,6 +4,7 @@ pub mod Lists
 pub mod Shapes
 pub mod RangesLaw
 pub mod Causes
+pub mod Lacking
 pub mod NodeSteps
 pub mod NodesLaw
 pub mod Spending

@@ -1,13 +1,13 @@
 -- Laws of the sequential kernel, each the contract of a function of this crate.
-use Rattle.std.specs.Prelude.{ℕ, ◌≡◌, ◌+◌, ◌==◌, if◌then◌else◌, List, [], ◌∷◌, sum_by}
+use Rattle.std.specs.Prelude.{ℕ, ◌≡◌, ◌+◌, ◌==◌, if◌then◌else◌, List, [], ◌∷◌, sum_by, IsFalse}
 use Rattle.spk_nums.specs.Setting.{Setting, IsSetting}
 use Rattle.spk_nums.specs.declared.calls.Call.{Call}
 use Rattle.spk_nums.specs.declared.calls.Call.TheVariants.{Tick}
 use Rattle.spk_nums.specs.declared.replies.Reply.{Reply}
 use Rattle.spk_nums.specs.declared.replies.Reply.TheVariants as reply
 use Rattle.kernel_rules.specs.State.{State}
-use Rattle.kernel_rules.specs.CallRelation.{MayReply}
-use Rattle.kernel_laws.specs.Causes.{HasCause}
+use Rattle.kernel_rules.specs.CallRelation.{are_calls_spent, MayReply}
+use Rattle.kernel_laws.specs.Causes.{HasCause, HasNoRight}
 use Rattle.kernel_rules.specs.Runs.{Event, Enters, Decides, Returns, after, IsRun}
 use Rattle.kernel_rules.specs.Laws.{ticks}
 use Rattle.kernel_rules.specs.Ranges.{InRanges}
@@ -28,6 +28,10 @@ RangesHold = (setting : Setting) → IsSetting setting → (events : List Event)
 -- In every state, each reply that the relation permits has its cause.
 abbrev pub CausesStand : Type 0
 CausesStand = (s : State) (c : ℕ) (call : Call) (r : Reply) → MayReply s c call r → HasCause s c call r
+
+-- A call of which a name lacks a right that it needs may be refused with `no-right`, where its calls are not spent.
+abbrev pub LackIsRefused : Type 0
+LackIsRefused = (s : State) (c : ℕ) (call : Call) → IsFalse (are_calls_spent s c) → HasNoRight s c call → MayReply s c call reply.NoRight
 
 -- The ticks that a call charges, and those that its decision counts: none where it is answered `calls-spent`.
 abbrev pub ticks_of : Call → ℕ

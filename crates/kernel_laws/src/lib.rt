@@ -4,7 +4,7 @@
 //! See docs/MODEL.md, 'What is proved of these definitions', and docs/PROOF.md, 'The laws of the sequential kernel'.
 #![tactic(auto)]
 
-ghost use Rattle.kernel_laws.specs.Laws.{TicksKept, RangesHold, CausesStand, SpendingSums};
+ghost use Rattle.kernel_laws.specs.Laws.{TicksKept, RangesHold, CausesStand, LackIsRefused, SpendingSums};
 ghost use Rattle.kernel_laws.specs.Nodes.{NodesHoldWhatFits};
 
 /// In every state that a run reaches, the budgets of all temporal capabilities and the ticks that all cores have spent sum to
@@ -27,6 +27,13 @@ pub fn ranges_hold()
 #[tactic(auto, using(crate::proofs::Causes::causes_stand))]
 pub fn causes_stand()
     ensures { CausesStand }
+{}
+
+/// In every state, a call whose core has calls left, and of which a name leads to a capability of a wanted kind that lacks a right
+/// which the name needs, may be refused with `no-right`. So that reply may come exactly where its cause stands.
+#[tactic(auto, using(crate::proofs::Lacking::lack_is_refused))]
+pub fn lack_is_refused()
+    ensures { LackIsRefused }
 {}
 
 /// In every state that a run reaches, nodes hold what fits them: roots of capability tables links to leaves, roots of page
