@@ -5,7 +5,7 @@ use Rattle.std.proofs.lemmas.Nat.{and_le_l, and_assoc}
 use Rattle.std.specs.Int.Bits.{bit_and, and_self}
 use Rattle.spk_nums.specs.Rights.{both, has_rights, least_rights, kept_rights}
 use Rattle.spk_nums.specs.declared.kinds.Kind.{Kind}
-use Rattle.spk_nums.specs.declared.kinds.Kind.TheVariants.{Range, Table, Leaf, Pages, Pleaf, Comp, Gate, Thread, Tcap, Link, Page}
+use Rattle.spk_nums.specs.declared.kinds.Kind.TheVariants.{Link, Page}
 
 -- a capability keeps the least rights of its kind
 pub kept_above : (k : Kind) (own these : ℕ) → least_rights k ≤ own → least_rights k ≤ kept_rights k own these
