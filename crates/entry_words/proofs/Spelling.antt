@@ -46,17 +46,17 @@ number_of_kind_of : (n : ℕ) (k : Kind) → kind_of_number n ≡ Some k → num
 number_of_kind_of n k h = grind (arith, nat_tests)
 
 -- the fields of the word of a capability are these
-record ReadsAs (w k frame arg withheld : ℕ) : Type 0 where
+record ReadsAs (w k f a n : ℕ) : Type 0 where
   some : w ≢ 0
   tag : w % 2 ^ 2 ≡ 1
   kind : w / 2 ^ 2 % 2 ^ 4 ≡ k
-  frame : w / 2 ^ 6 % 2 ^ 10 ≡ frame
-  arg : w / 2 ^ 16 % 2 ^ 24 ≡ arg
-  withheld : w / 2 ^ 40 ≡ withheld
+  frame : w / 2 ^ 6 % 2 ^ 10 ≡ f
+  arg : w / 2 ^ 16 % 2 ^ 24 ≡ a
+  withheld : w / 2 ^ 40 ≡ n
 
-fields : (k frame arg withheld w : ℕ) → w ≡ 1 + 2 ^ 2 * k + 2 ^ 6 * frame + 2 ^ 16 * arg + 2 ^ 40 * withheld
-    → k < 16 → frame < 512 → arg < 2 ^ 24 → ReadsAs w k frame arg withheld
-fields k frame arg withheld w is small first last = record {
+fields : (k f a n w : ℕ) → w ≡ 1 + 2 ^ 2 * k + 2 ^ 6 * f + 2 ^ 16 * a + 2 ^ 40 * n
+    → k < 16 → f < 512 → a < 2 ^ 24 → ReadsAs w k f a n
+fields k f a n w is small first last = record {
   some = omega arith;
   tag = omega arith;
   kind = omega arith;
