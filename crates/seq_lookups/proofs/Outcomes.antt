@@ -1,13 +1,12 @@
 -- What a rule comes to, one look-up after the other.
-use Rattle.std.proofs.Common.{◌≡◌, ◌≤◌, ◌+◌, ℕ, refl, sym, ap, subst, Bool, List, ◌∷◌, Option, Some, None}
+use Rattle.std.proofs.Common.{◌≡◌, ◌≤◌, ◌+◌, ℕ, refl, sym, ap, subst, List, ◌∷◌, Option, Some, None}
 use Rattle.spk_nums.specs.Capability.{Capability}
-use Rattle.spk_nums.specs.declared.kinds.Kind.{Kind}
 use Rattle.spk_nums.specs.declared.kinds.Kind.TheVariants as kind
 use Rattle.spk_nums.specs.declared.replies.Value.{Value}
 use Rattle.spk_nums.specs.declared.replies.Reply.{Reply}
 use Rattle.spk_nums.specs.declared.replies.Reply.TheVariants as reply
 use Rattle.kernel_rules.specs.State.{State}
-use Rattle.kernel_rules.specs.Access.{Slot, Named, found, Target, only}
+use Rattle.kernel_rules.specs.Access.{Slot, Named, Want, found, Target, only, to_use}
 use Rattle.kernel_rules.specs.Rules.{Change, Cause, Rule, Name, Vacant, Held, Mapped, Does, Judged, Refused, Found, and_then}
 use Rattle.kernel_rules.specs.Rules.{unless, named, vacant, held, mapped, first_of, refusal_of, first_cause, outcome}
 use Rattle.kernel_rules.specs.CallRelation.{changed}
@@ -19,12 +18,12 @@ use Rattle.seq_lookups.specs.Ranges.{WhereFound, RangeEnds}
 
 -- ---- names and targets
 
-pub name_found : (s : State) (c n : ℕ) (wanted : Kind → Bool) (rest : Named → Rule) (k : Capability) → Found k ≡ named s c n wanted
-    → outcome s c (Name n wanted rest) ≡ outcome s c (rest (found k))
+pub name_found : (s : State) (c n : ℕ) (want : Want) (rest : Named → Rule) (k : Capability) → Found k ≡ named s c n want
+    → outcome s c (Name n want rest) ≡ outcome s c (rest (found k))
 name_found s c n wanted rest k e = ap (λ j. and_then j (λ k. outcome s c (rest (found k)))) (sym e)
 
-pub name_refused : (s : State) (c n : ℕ) (wanted : Kind → Bool) (rest : Named → Rule) (r : Reply) → Refused r ≡ named s c n wanted
-    → outcome s c (Name n wanted rest) ≡ Refused r
+pub name_refused : (s : State) (c n : ℕ) (want : Want) (rest : Named → Rule) (r : Reply) → Refused r ≡ named s c n want
+    → outcome s c (Name n want rest) ≡ Refused r
 name_refused s c n wanted rest r e = ap (λ j. and_then j (λ k. outcome s c (rest (found k)))) (sym e)
 
 pub vacant_found : (s : State) (c : ℕ) (target : Target) (rest : Slot → Rule) (at : Slot) → Found at ≡ vacant s c target
@@ -83,9 +82,9 @@ pub where_found : {A : Type 0} (j : Judged A) (P : A → Type 0) (x : A) → Fou
 where_found {A = A} j P x e h = subst (λ (i : Judged A). WhereFound i P) (sym e) h
 
 -- A range that a call names ends within the machine's frames.
-pub ends_within : (s : State) (c r : ℕ) (range : Capability) → Found range ≡ named s c r (only kind.Range) → RangeEnds s c r
+pub ends_within : (s : State) (c r : ℕ) (range : Capability) → Found range ≡ named s c r (to_use (only kind.Range)) → RangeEnds s c r
     → range.frame + range.arg ≤ s.limits.frames
-ends_within s c r range e ends = where_found (named s c r (only kind.Range)) (λ k. k.frame + k.arg ≤ s.limits.frames) range e ends
+ends_within s c r range e ends = where_found (named s c r (to_use (only kind.Range))) (λ k. k.frame + k.arg ≤ s.limits.frames) range e ends
 
 -- The number that was found unless a cause stood.
 pub found_is : (o : Option Reply) (x y : ℕ) → Found y ≡ unless o x → y ≡ x

@@ -1,6 +1,6 @@
 -- Where each copy keeps both rights, every capability has both, and no name lacks a right.
 use Rattle.std.proofs.Common.{◌≡◌, ℕ, Bool, true, false, List, [], ◌∷◌, Option, Some, None, IsTrue, IsFalse, IsSomeAnd}
-use Rattle.std.proofs.Common.{inl, inr, refl, sym, ap, ◌∙◌, subst, ◌==◌, nat_lt, ◌+◌}
+use Rattle.std.proofs.Common.{inl, inr, refl, sym, ap, ◌∙◌, subst, ◌==◌, nat_lt, ◌+◌, if◌then◌else◌}
 use Rattle.std.proofs.lemmas.Bool.{false≢true}
 use Rattle.spk_nums.proofs.KeptRights.{both_kept}
 use Rattle.spk_nums.specs.Capability.{Capability, cap_of}
@@ -37,7 +37,7 @@ use Rattle.kernel_laws.proofs.Causes.{causes_stand}
 use Rattle.state_laws.specs.Rights.{KeepsBoth, KeepBoth, HaveBoth, BothStay, NoRightLacks}
 
 -- What a place holds or held has both rights; and so in each place.
-HasBoth : Place → Type 0
+abbrev HasBoth : Place → Type 0
 HasBoth Free = Unit {0}
 HasBoth (Holds k) = k.rights ≡ both
 HasBoth (Quiescing k) = k.rights ≡ both
@@ -45,10 +45,11 @@ HasBoth (Quiescing k) = k.rights ≡ both
 abbrev AllBoth : State → Type 0
 AllBoth s = (f i : ℕ) → HasBoth (s.place f i)
 
-placed : (s : State) (n i : ℕ) (p : Place) → HasBoth p → AllBoth s → AllBoth (with_place s n i p)
-placed s n i p has h f j =
-    put_all (λ g (row : ℕ → Place). HasBoth (row j)) s.place n (put (s.place n) i p) f
-    (λ same. put_all (λ g q. HasBoth q) (s.place n) i p j (λ here. has) (λ other. h n j)) (λ other. h f j)
+placed : (q : ℕ → ℕ → Place) (n i : ℕ) (p : Place) → HasBoth p → ((f j : ℕ) → HasBoth (q f j))
+    → (f j : ℕ) → HasBoth (put q n (put (q n) i p) f j)
+placed q n i p has h f j =
+    put_all (λ g (row : ℕ → Place). HasBoth (row j)) q n (put (q n) i p) f
+    (λ same. put_all (λ g x. HasBoth x) (q n) i p j (λ here. has) (λ other. h n j)) (λ other. h f j)
 
 use_both : (p : Place) (b : Bool) (k : Capability) → HasBoth p → usable_in p b ≡ Some k → k.rights ≡ both
 use_both Free b k has is = absurd (cc)
@@ -74,19 +75,23 @@ module _ (s : State) (c : ℕ) (h : AllBoth s) where
   cleared_both f g i = put_all (λ g (row : ℕ → Place). HasBoth (row i)) s.place f (λ j. Free) g (λ same. tt) (λ other. h g i)
 
   removed : (at : Slot) (k : Capability) → place_at s at ≡ Holds k → AllBoth (with_place s at.node at.index (Quiescing k))
-  removed at k is = placed s at.node at.index (Quiescing k) (subst HasBoth is (h at.node at.index)) h
+  removed at k is = placed s.place at.node at.index (Quiescing k) (subst HasBoth is (h at.node at.index)) h
 
   make_both : (what : Make) (r f t b : ℕ) → ChangesFrom Keeps s c (make_rule s what r f t b)
-  make_both make.Table r f t b = λ range e table g at v calm. placed _ at.node at.index (Holds (plain_cap kind.Table f)) refl (cleared_both f)
-  make_both make.Leaf r f t b = λ range e table g at v calm. placed _ at.node at.index (Holds (plain_cap kind.Leaf f)) refl (cleared_both f)
-  make_both make.Pages r f t b = λ range e table g at v calm. placed _ at.node at.index (Holds (plain_cap kind.Pages f)) refl (cleared_both f)
-  make_both make.Pleaf r f t b = λ range e table g at v calm. placed _ at.node at.index (Holds (plain_cap kind.Pleaf f)) refl (cleared_both f)
+  make_both make.Table r f t b = λ range e table g at v calm.
+      placed (put s.place f (λ j. Free)) at.node at.index (Holds (plain_cap kind.Table f)) refl (cleared_both f)
+  make_both make.Leaf r f t b = λ range e table g at v calm.
+      placed (put s.place f (λ j. Free)) at.node at.index (Holds (plain_cap kind.Leaf f)) refl (cleared_both f)
+  make_both make.Pages r f t b = λ range e table g at v calm.
+      placed (put s.place f (λ j. Free)) at.node at.index (Holds (plain_cap kind.Pages f)) refl (cleared_both f)
+  make_both make.Pleaf r f t b = λ range e table g at v calm.
+      placed (put s.place f (λ j. Free)) at.node at.index (Holds (plain_cap kind.Pleaf f)) refl (cleared_both f)
   make_both (make.Thread comp) r f t b = λ range e table g k j at v calm.
-      placed _ at.node at.index (Holds (plain_cap kind.Thread f)) refl h
+      placed s.place at.node at.index (Holds (plain_cap kind.Thread f)) refl h
   make_both (make.Tcap sched quality) r f t b = λ range e table g at v calm.
-      placed _ at.node at.index (Holds (plain_cap kind.Tcap f)) refl h
+      placed s.place at.node at.index (Holds (plain_cap kind.Tcap f)) refl h
   make_both (make.Comp x p l) r f t b = λ range e table g own_table a own_pages d at v calm.
-      placed _ at.node at.index (Holds (plain_cap kind.Comp f)) refl h
+      placed s.place at.node at.index (Holds (plain_cap kind.Comp f)) refl h
 
   retype_both : (r f : ℕ) (k : FrameKind) → ChangesFrom Keeps s c (retype_rule s r f k)
   retype_both r f frame_kind.Untyped = λ range e calm. h
@@ -103,17 +108,17 @@ module _ (s : State) (c : ℕ) (h : AllBoth s) where
   rule_both : (call : Call) → KeepsBoth call → ChangesFrom Keeps s c (rule_of s c call)
   rule_both (Look a) keep = λ k e calm. h
   rule_both (Copy a t b rights) keep = λ k e table f at v calm.
-      placed s at.node at.index (Holds (kept k rights.0)) (both_kept k.kind k.rights rights.0 (named_both a (to_copy any) k e) keep) h
+      placed s.place at.node at.index (Holds (kept k rights.0)) (both_kept k.kind k.rights rights.0 (named_both a (to_copy any) k e) keep) h
   rule_both (Remove t b) keep = λ table e at k g calm. removed at k (held_facts s c (Under (found table) b) at k g).1
-  rule_both (Grow t i l) keep = λ table e leaf f at v calm. placed s at.node at.index (Holds (plain_cap kind.Link leaf.frame)) refl h
+  rule_both (Grow t i l) keep = λ table e leaf f at v calm. placed s.place at.node at.index (Holds (plain_cap kind.Link leaf.frame)) refl h
   rule_both (Shrink t i) keep = λ table e at k g calm. removed at k (held_facts s c (InRoot (found table) i) at k g).1
   rule_both (Retype r f k) keep = retype_both r f k
   rule_both (make_call what r f t b) keep = make_both what r f t b
-  rule_both (Map p v r f w) keep = λ pages e range g at u calm. placed s at.node at.index (Holds (cap_of kind.Page f w.0)) refl h
+  rule_both (Map p v r f w) keep = λ pages e range g at u calm. placed s.place at.node at.index (Holds (cap_of kind.Page f w.0)) refl h
   rule_both (Unmap p v) keep = λ pages e at k g calm. removed at k (held_facts s c (Under (found pages) v) at k g).1
   rule_both (Touch v) keep = touch_both (comp_of s c).pages v (translation_of (s.core c).cached (comp_of s c).pages v)
   rule_both Flush keep = λ calm. h
-  rule_both (Gate k t b) keep = λ comp e table f at v calm. placed s at.node at.index (Holds (cap_of kind.Gate comp.frame _)) refl h
+  rule_both (Gate k t b) keep = λ comp e table f at v calm. placed s.place at.node at.index (Holds (cap_of kind.Gate comp.frame _)) refl h
   rule_both (Kill k) keep = λ comp e calm. h
   rule_both (call_gate g) keep = λ gate e calm. h
   rule_both Ret keep = λ calm. h
@@ -144,6 +149,10 @@ choose : {A : Type 0} (P : A → Type 0) (b : Bool) (x y : A) → P x → P y �
 choose P true x y hx hy = hx
 choose P false x y hx hy = hy
 
+abbrev Both : Option Capability → Type 0
+Both None = Unit {0}
+Both (Some k) = k.rights ≡ both
+
 start_both : (setting : Setting) → AllBoth (start setting)
 start_both setting f i =
     choose HasBoth (f == 0) _ _ (choose HasBoth (i == 0) _ _ refl tt)
@@ -157,10 +166,6 @@ start_both setting f i =
     (choose Both (nat_lt i 12) _ _ tt
     (choose Both (nat_lt i (12 + setting.cores)) _ _ refl tt))))))))) tt)
   where
-    Both : Option Capability → Type 0
-    Both None = Unit {0}
-    Both (Some k) = k.rights ≡ both
-
     with_both : (o : Option Capability) → Both o → HasBoth (place_with o)
     with_both None h = tt
     with_both (Some k) h = h
@@ -181,7 +186,7 @@ both_stay setting events keep = record {
 }
 
 -- No name needs more than both.
-AreMet : List Name → Type 0
+abbrev AreMet : List Name → Type 0
 AreMet [] = Unit {0}
 AreMet (n ∷ names) = (has_rights both n.want.needs ≡ true) × AreMet names
 

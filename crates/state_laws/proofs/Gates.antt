@@ -4,7 +4,7 @@ use Rattle.std.proofs.Common.{subst, cond, ◌==◌, nat_lt, if◌then◌else◌
 use Rattle.std.proofs.lemmas.Bool.{cases_eq, false≢true}
 use Rattle.spk_nums.specs.Setting.{Setting, IsSetting}
 use Rattle.spk_nums.specs.Capability.{Capability, cap_of}
-use Rattle.spk_nums.specs.Rights.{kept}
+use Rattle.spk_nums.specs.Rights.{kept as kept_rights}
 use Rattle.spk_nums.specs.declared.kinds.Kind.{Kind}
 use Rattle.spk_nums.specs.declared.kinds.Kind.TheVariants as kind
 use Rattle.spk_nums.specs.declared.kinds.FrameKind.{FrameKind}
@@ -145,7 +145,7 @@ module _ (s : State) (o : ℕ → Bool) (c : ℕ) (h : IsOpen s o c) (w : AreGat
   rule_gates : (call : Call) → ChangesFrom (NewGates s) s c (rule_of s c call)
   rule_gates (Look a) = λ k e calm. stays s _ (λ f i. refl)
   rule_gates (Copy a t b rights) =
-      λ k e table f at v calm. filled s s (fills s at (kept k rights.0)) at (kept k rights.0) (λ f i j e. e) (λ f i. refl)
+      λ k e table f at v calm. filled s s (fills s at (kept_rights k rights.0)) at (kept_rights k rights.0) (λ f i j e. e) (λ f i. refl)
       (named_gate a (to_copy any) k e)
   rule_gates (Remove t b) = λ table e at k g calm. removed s at k
   rule_gates (Grow t i l) = λ table e leaf f at v calm.

@@ -62,7 +62,6 @@ pub fn found_stays()
 {}
 
 /// A copy that is carried out puts what its first name leads to, with no right that this lacks, at the place that it fills.
-#[tactic(auto, using(crate::proofs::CopyRights::copies_put_no_more))]
 pub fn copies_put_no_more()
     ensures { CopiesPutNoMore }
 {}
