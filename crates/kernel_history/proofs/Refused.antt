@@ -1,6 +1,6 @@
 -- Worked traces that one definition alone refuses: the discipline, the footprints, the bounds, and what the words say. The checker
 -- computes what holds of each.
-use Rattle.std.proofs.Common.{◌≡◌, ◌≢◌, ℕ, ◌<◌, ◌≤◌, Bool, true, false, [], ◌∷◌, Option, Some, None, refl, sym, ◌∙◌, ap, subst, arith}
+use Rattle.std.proofs.Common.{◌≡◌, ℕ, ◌<◌, ◌≤◌, Bool, true, false, [], ◌∷◌, Option, Some, None, refl, sym, ◌∙◌, ap, subst, arith}
 use Rattle.std.proofs.lemmas.Bool.{false≢true}
 use Rattle.spk_nums.specs.Rights.{whole_copy}
 use Rattle.spk_nums.specs.Bounds.{bound_of}
@@ -115,10 +115,10 @@ fills_marked = record {
     (
       (
         (
-          (((tt, may_follow refl refl (refl, tt) tt tt), may_follow refl refl tt tt tt), may_follow refl refl tt tt tt),
+          (((tt, may_follow refl refl (refl, omega arith) tt tt), may_follow refl refl tt tt tt), may_follow refl refl tt tt tt),
           may_follow refl refl tt tt tt,
         ),
-        may_follow refl refl (refl, tt) tt tt,
+        may_follow refl refl (refl, omega arith) tt tt,
       ),
       may_follow refl refl tt tt tt,
     ),
@@ -133,15 +133,15 @@ pub discipline_refuses : DisciplineRefuses
 unfolding two_cores mark_word word_of_entry word_of_frame word_of_live word_of_core word_of_count sum_below node_refs refs
 discipline_refuses = record {
   look_changes_a_place = row (call.Look 0) (StoreOf (EntryAt 1 0) 0) tt refl refl refl refl;
-  copy_changes_a_thread = row (whole_copy 0 1 20) (StoreOf (EntryAt 4 1) 0) tt refl refl refl refl;
-  copy_changes_a_budget = row (whole_copy 0 1 20) (StoreOf (EntryAt 6 0) 0) tt refl refl refl refl;
+  copy_changes_a_thread = row (whole_copy 0 1 20) (StoreOf (EntryAt 4 1) 0) (omega arith) refl refl refl refl;
+  copy_changes_a_budget = row (whole_copy 0 1 20) (StoreOf (EntryAt 6 0) 0) (omega arith) refl refl refl refl;
   return_changes_a_component = row call.Ret (StoreOf (EntryAt 3 0) 1) tt refl refl refl refl;
   retype_writes_untyped = row (call.Retype 0 8 frame_kind.User) (StoreOf (EntryAt 8 0) 1) tt refl refl refl refl;
   retype_writes_a_user_frame = retype_user;
   retype_writes_a_blank_frame = retype_blank;
-  copy_looks_at_a_frame = row (whole_copy 0 1 20) (LoadOf (FrameAt 1)) tt refl refl refl refl;
+  copy_looks_at_a_frame = row (whole_copy 0 1 20) (LoadOf (FrameAt 1)) (omega arith) refl refl refl refl;
   map_changes_a_frame = row (call.Map 2 0 0 8 no_flags) (StoreOf (FrameAt 8) 1) (omega arith) refl refl refl refl;
-  copy_looks_at_a_number = row (whole_copy 0 1 20) (LoadOf (LiveAt 0)) tt refl refl refl refl;
+  copy_looks_at_a_number = row (whole_copy 0 1 20) (LoadOf (LiveAt 0)) (omega arith) refl refl refl refl;
   gate_changes_a_number = row (call.Call 0) (StoreOf (LiveAt 0) 0) tt refl refl refl refl;
   leaf_changes_a_number = row (call.Make make.Leaf 0 8 1 20) (StoreOf (LiveAt 0) 0) tt refl refl refl refl;
   look_reads_a_count = row (call.Look 0) (LoadOf (CountAt 0 0)) tt refl refl refl refl;
@@ -152,9 +152,9 @@ discipline_refuses = record {
   clock_is_set = row (call.Remove 1 0) (StoreOf ClockAt 0) tt refl refl refl refl;
   clock_jumps = row (call.Remove 1 0) (AddOf ClockAt 2) tt refl refl refl refl;
   own_word_is_raised = row (call.Remove 1 0) (AddOf (CoreAt 0) 1) tt refl refl refl refl;
-  copy_raises_the_clock = row (whole_copy 0 1 20) (AddOf ClockAt 1) tt refl refl refl refl;
+  copy_raises_the_clock = row (whole_copy 0 1 20) (AddOf ClockAt 1) (omega arith) refl refl refl refl;
   puts_the_mark_of_another = record {
-    legal = lone_legal (whole_copy 0 1 20) (StoreOf (EntryAt 1 20) (mark_word 1)) tt refl;
+    legal = lone_legal (whole_copy 0 1 20) (StoreOf (EntryAt 1 20) (mark_word 1)) (omega arith) refl;
     near = keeps_footprints two_cores (one_step (whole_copy 0 1 20) (StoreOf (EntryAt 1 20) (mark_word 1))) refl;
     within = keeps_bounds 2 (one_step (whole_copy 0 1 20) (StoreOf (EntryAt 1 20) (mark_word 1))) refl;
     refused = marks_another;
@@ -167,8 +167,8 @@ discipline_refuses = record {
 pub own_counts_refuse : OwnCountsRefuse
 unfolding two_cores mark_word word_of_entry word_of_frame word_of_live word_of_core word_of_count sum_below node_refs refs
 own_counts_refuse = record {
-  reads_anothers = row (whole_copy 1 1 20) (LoadOf (CountAt 0 1)) tt refl refl refl refl;
-  changes_anothers = row (whole_copy 1 1 20) (StoreOf (CountAt 0 1) 0) tt refl refl refl refl;
+  reads_anothers = row (whole_copy 1 1 20) (LoadOf (CountAt 0 1)) (omega arith) refl refl refl refl;
+  changes_anothers = row (whole_copy 1 1 20) (StoreOf (CountAt 0 1) 0) (omega arith) refl refl refl refl;
   untypes_another_frame = row (call.Retype 0 8 frame_kind.Untyped) (StoreOf (CountAt 0 1) 0) tt refl refl refl refl;
   retypes_to_kernel = row (call.Retype 0 8 frame_kind.Kernel) (StoreOf (CountAt 8 1) 0) tt refl refl refl refl;
 }
@@ -200,7 +200,7 @@ unfolding two_cores word_of_entry word_of_frame word_of_live
 footprints_refuse = record {
   look_reads_a_far_entry = astray (call.Look 0) (LoadOf (EntryAt 8 0)) tt refl refl refl;
   map_reads_a_far_frame = astray (call.Map 2 0 0 8 no_flags) (LoadOf (FrameAt 9)) (omega arith) refl refl refl;
-  copy_changes_a_far_count = astray (whole_copy 0 1 20) (StoreOf (CountAt 9 0) 0) tt refl refl refl;
+  copy_changes_a_far_count = astray (whole_copy 0 1 20) (StoreOf (CountAt 9 0) 0) (omega arith) refl refl refl;
   kill_reads_a_far_number = astray (call.Kill 3) (LoadOf (LiveAt 5)) tt refl refl refl;
 }
 
@@ -261,7 +261,7 @@ words_refuse = record {
     refused = λ say. let below : 0 < 2 = omega arith in says_out (say.1.cores 0 below);
   };
   entry_is_filled = record {
-    legal = lone_legal (whole_copy 0 1 20) (StoreOf (EntryAt 1 20) range_word) tt refl;
+    legal = lone_legal (whole_copy 0 1 20) (StoreOf (EntryAt 1 20) range_word) (omega arith) refl;
     near = keeps_footprints two_cores (one_step (whole_copy 0 1 20) (StoreOf (EntryAt 1 20) range_word)) refl;
     within = keeps_bounds 2 (one_step (whole_copy 0 1 20) (StoreOf (EntryAt 1 20) range_word)) refl;
     refused = λ say. let frame : 1 < 32 = omega arith in let place : 20 < 64 = omega arith in

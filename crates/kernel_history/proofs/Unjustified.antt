@@ -1,6 +1,6 @@
 -- Worked traces whose last decision the call relation permits, and no step of its call justifies; and a trace that follows no order
 -- of its one item. The checker computes what holds of each.
-use Rattle.std.proofs.Common.{◌≡◌, ◌≢◌, inl, inr, ℕ, zero, suc, ◌+◌, ◌<◌, ◌==◌, ◌&&◌, ◌||◌, ◌++◌, cond, Bool, true, false, arith}
+use Rattle.std.proofs.Common.{◌≡◌, inl, inr, ℕ, zero, suc, ◌<◌, ◌==◌, ◌&&◌, ◌||◌, ◌++◌, cond, Bool, true, false, arith}
 use Rattle.std.proofs.Common.{List, [], ◌∷◌, length, Option, Some, None, refl, sym, ◌∙◌, ap, subst, IsTrue, append_assoc, append-nil}
 use Rattle.std.specs.Prelude.{is_some}
 use Rattle.std.specs.List.{list_any}
@@ -81,17 +81,17 @@ carried_out {c} {m} {k} {v} {t} is may stepped = record {
 pub named_legal : IsLegal two_cores named
 unfolding two_cores named word_of_entry
 named_legal = (
-  (((tt, may_follow refl refl (refl, tt) tt tt), may_follow refl refl tt tt tt), may_follow refl refl tt tt tt),
+  (((tt, may_follow refl refl (refl, omega arith) tt tt), may_follow refl refl tt tt tt), may_follow refl refl tt tt tt),
   may_follow refl refl tt tt tt,
 )
 
 half_legal : IsLegal two_cores half_named
 unfolding two_cores half_named word_of_entry
-half_legal = (((tt, may_follow refl refl (refl, tt) tt tt), may_follow refl refl tt tt tt), may_follow refl refl tt tt tt)
+half_legal = (((tt, may_follow refl refl (refl, omega arith) tt tt), may_follow refl refl tt tt tt), may_follow refl refl tt tt tt)
 
 beside_legal : IsLegal two_cores marked_beside
 unfolding two_cores mark_word named marked_beside word_of_entry
-beside_legal = ((named_legal, may_follow refl refl (refl, tt) tt tt), may_follow refl refl tt tt tt)
+beside_legal = ((named_legal, may_follow refl refl (refl, omega arith) tt tt), may_follow refl refl tt tt tt)
 
 name_legal : IsLegal two_cores name_removed
 unfolding two_cores range_word mark_word named name_removed word_of_entry
@@ -123,7 +123,7 @@ filled_legal = (
       (
         (
           (removed_legal, may_follow refl refl tt tt (record { call = call.Remove 1 13; was_decided = refl })),
-          may_follow refl refl (refl, tt) tt tt,
+          may_follow refl refl (refl, omega arith) tt tt,
         ),
         may_follow refl refl tt tt tt,
       ),
@@ -142,7 +142,7 @@ again_legal = (
       (filled_legal, may_follow refl refl tt tt (record { call = whole_copy 0 1 13; was_decided = refl })),
       may_follow refl refl (refl, tt) tt tt,
     ),
-    may_follow refl refl (refl, tt) tt tt,
+    may_follow refl refl (refl, omega arith) tt tt,
   ),
   may_follow refl refl tt tt tt,
 )
