@@ -7,7 +7,7 @@ use Rattle.time_laws.specs.spk_nums.specs.declared.kinds.Kind.TheVariants.{Gate}
 use Rattle.time_laws.specs.spk_nums.specs.declared.replies.Reply.TheVariants.{Ok}
 use Rattle.time_laws.specs.spk_nums.specs.declared.replies.Value.{Value}
 use Rattle.time_laws.specs.kernel_rules.specs.State.{Dead, State, comp_in}
-use Rattle.time_laws.specs.kernel_rules.specs.Access.{only}
+use Rattle.time_laws.specs.kernel_rules.specs.Access.{to_use, only}
 use Rattle.time_laws.specs.kernel_rules.specs.Rules.{Found, named}
 use Rattle.time_laws.specs.kernel_rules.specs.InvocationCalls.{is_live_in}
 use Rattle.time_laws.specs.kernel_history.specs.Trace.{Step, Trace, Open, phase, after_enter, state_before, state_after}
@@ -18,7 +18,7 @@ pub record GoesThrough (setup : Setting) (t : Trace) (e : Step) (gate : Capabili
   pub value : Value
   pub call : after_enter e.enters (phase t e.core) ≡ Open (call_gate name)
   pub decides : e.decides ≡ Some (Ok value)
-  pub leads : named (state_before setup t e) e.core name (only Gate) ≡ Found gate
+  pub leads : named (state_before setup t e) e.core name (to_use (only Gate)) ≡ Found gate
 
 -- The liveness number of the component to which a gate leads.
 abbrev pub number_through : State → Capability → ℕ

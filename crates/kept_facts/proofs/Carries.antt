@@ -50,7 +50,7 @@ use Rattle.thread_laws.specs.trace_laws.proofs.Carries.{Carries, was_stays}
 use Rattle.thread_laws.specs.kernel_history.specs.Footprint.{IsNearIn}
 use Rattle.core_invariant.specs.call_plans.specs.declared.plans.Name.{Name}
 use Rattle.core_invariant.specs.call_plans.specs.declared.plans.Plan.{Plan}
-use Rattle.core_invariant.specs.call_plans.specs.GoesBy.{wants}
+use Rattle.core_invariant.specs.call_plans.specs.GoesBy.{want_of}
 use Rattle.core_invariant.specs.call_plans.specs.After.{Leads, Next, NextName, NextFree, NextHeld, NextOwn, NextNothing, next_of}
 use Rattle.core_invariant.specs.act_states.specs.declared.fills.Fill.{Fill}
 use Rattle.thread_laws.specs.entry_words.specs.declared.entry.Entry.{Entry}

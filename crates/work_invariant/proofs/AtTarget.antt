@@ -123,7 +123,7 @@ module _ (own : Own) (plan : Plan) (read : Option ℕ) (c : ℕ) (own_core : own
           starts = refl;
           knows = λ setup t upto epochs spot reads. record {
             spot = spot;
-            fits = (let low = below has in omega (arith, low, small), omega arith, flags);
+            fits = (let low = below has in omega (arith, low, small), omega arith, flags, omega arith, omega arith);
             puts = ap (λ b. if b then Some (page_cap f w) else None) has;
             frame = refl;
             maps = refl;
