@@ -90,19 +90,22 @@ call_kept d lists call h fits new =
 -- ---- the end
 
 pub finished : (d : Draft_of) (ending : Ending) (lines : ℕ) (s : Script) → ending ≡ Whole lines → is_whole d.head.section ≡ true
-    → s.setup ≡ setting_of d.head → lists_of s.lists.items ≡ take d.head.cores d.lists
+    → s.version ≡ d.head.version → s.setup ≡ setting_of d.head → lists_of s.lists.items ≡ take d.head.cores d.lists
     → s.order.items ≡ d.order → meaning_at d ending ≡ Ok (script_view s)
-finished d ending lines s end whole setup lists order =
-    let same : meaning_of d ≡ script_view s = λ i. record { setup = sym setup i; lists = sym lists i; order = sym order i } in
+finished d ending lines s end whole version setup lists order =
+    let same : meaning_of d ≡ script_view s =
+    λ i. record { version = sym version i; setup = sym setup i; lists = sym lists i; order = sym order i } in
     ap (meaning_at d) end ∙ rw whole (ap Ok same)
 
-pub is_script : (d : Draft_of) (s : Script) → IsDraft d → s.setup ≡ setting_of d.head
+pub is_script : (d : Draft_of) (s : Script) → IsDraft d → s.version ≡ d.head.version → s.setup ≡ setting_of d.head
     → lists_of s.lists.items ≡ take d.head.cores d.lists → s.order.items ≡ d.order → IsScript s
-is_script d s h setup lists order =
+is_script d s h version setup lists order =
     let cores : s.setup.cores ≡ d.head.cores = ap (λ x. x.cores) setup in
     let few : d.head.cores ≤ length d.lists = omega (arith, h.head.most_cores, h.eight) in
     let long : length (lists_of s.lists.items) ≡ d.head.cores = ap length lists ∙ length-take-le d.head.cores d.lists few in
     record {
+      some_version = omega (arith, version, h.head.some_version);
+      most_versions = omega (arith, version, h.head.most_versions);
       lists = sym (length-map s.lists.items (λ v. v.items)) ∙ long ∙ sym cores;
       limits = subst (All (All InLimits)) (sym lists) (All-take (All InLimits) d.head.cores d.lists h.limits);
       below = subst (λ n. BelowCores n s.order.items) (sym cores) (subst (BelowCores d.head.cores) (sym order) h.below);

@@ -6,7 +6,7 @@ use Rattle.spk_nums.specs.declared.kinds.Kind.TheVariants as kind
 use Rattle.spk_nums.specs.declared.replies.Reply.{Reply}
 use Rattle.kernel_rules.specs.State.{Holds, Object, Thread, Tcap, Kernel, CompFields, State, with_frame}
 use Rattle.kernel_rules.specs.Start.{plain_cap}
-use Rattle.kernel_rules.specs.Access.{Slot, Under, found, only}
+use Rattle.kernel_rules.specs.Access.{Slot, Under, found, only, to_use}
 use Rattle.kernel_rules.specs.Rules.{Cause, Refused, Found, unless, first_of, named, vacant, refusal_of, first_cause, outcome}
 use Rattle.kernel_rules.specs.CapabilityCalls.{outside, not_blank, not_taken, cleared, makes, makes_comp}
 use Rattle.kernel_rules.specs.CapabilityCalls.{make_node, make_thread, make_tcap, make_comp, epoch_of}
@@ -16,8 +16,8 @@ use Rattle.seq_lookups.proofs.Outcomes.{unless_calm, unless_stands}
 
 -- What every `make` found on the way to its own causes.
 pub record Reached (s : State) (c r t b : ℕ) (range table : Capability) (at : Slot) : Type 0 where
-  pub has_range : Found range ≡ named s c r (only kind.Range)
-  pub has_table : Found table ≡ named s c t (only kind.Table)
+  pub has_range : Found range ≡ named s c r (to_use (only kind.Range))
+  pub has_table : Found table ≡ named s c t (to_use (only kind.Table))
   pub has_place : Found at ≡ vacant s c (Under (found table) b)
 
 -- The causes of every `make`, and further ones.
@@ -57,14 +57,14 @@ node_found s c object k r f t b range table at g h e =
     rw (← h.has_range, ← h.has_table, ← h.has_place, ← unless_calm (first_cause s c (blank_causes s range f [])) f g e)
 
 pub thread_refused : (s : State) (c r f t b n : ℕ) (range table comp : Capability) (at : Slot) (q : Reply)
-    → Reached s c r t b range table at → Found comp ≡ named s c n (only kind.Comp)
+    → Reached s c r t b range table at → Found comp ≡ named s c n (to_use (only kind.Comp))
     → Refused q ≡ unless (first_cause s c (blank_causes s range f [])) f
     → outcome s c (make_thread s r f t b n) ≡ Refused q
 thread_refused s c r f t b n range table comp at q h is e =
     rw (← h.has_range, ← h.has_table, ← is, ← h.has_place, ← unless_stands (first_cause s c (blank_causes s range f [])) f q e)
 
 pub thread_found : (s : State) (c r f t b n : ℕ) (range table comp : Capability) (at : Slot) (g : ℕ)
-    → Reached s c r t b range table at → Found comp ≡ named s c n (only kind.Comp)
+    → Reached s c r t b range table at → Found comp ≡ named s c n (to_use (only kind.Comp))
     → Found g ≡ unless (first_cause s c (blank_causes s range f [])) f
     → outcome s c (make_thread s r f t b n) ≡ Found (makes s f (Thread (record { stack = comp.frame ∷ []; runs_on = None })) kind.Thread at)
 thread_found s c r f t b n range table comp at g h is e =
@@ -85,8 +85,8 @@ tcap_found s c r f t b sched quality range table at g h e =
 
 -- The table and the pages that a `make` of a component names besides.
 pub record Owned (s : State) (c x p : ℕ) (own_table own_pages : Capability) : Type 0 where
-  pub has_table : Found own_table ≡ named s c x (only kind.Table)
-  pub has_pages : Found own_pages ≡ named s c p (only kind.Pages)
+  pub has_table : Found own_table ≡ named s c x (to_use (only kind.Table))
+  pub has_pages : Found own_pages ≡ named s c p (to_use (only kind.Pages))
 
 pub comp_refused : (s : State) (c r f t b x p l : ℕ) (range table own_table own_pages : Capability) (at : Slot) (q : Reply)
     → Reached s c r t b range table at → Owned s c x p own_table own_pages

@@ -6,7 +6,7 @@ use Rattle.spk_nums.specs.declared.kinds.FrameKind.{FrameKind}
 use Rattle.spk_nums.specs.declared.kinds.PageFlags.{PageFlags}
 use Rattle.spk_nums.specs.declared.replies.Reply.{Reply}
 use Rattle.kernel_rules.specs.State.{State}
-use Rattle.kernel_rules.specs.Access.{Slot, Under, found, only}
+use Rattle.kernel_rules.specs.Access.{Slot, Under, found, only, to_use}
 use Rattle.kernel_rules.specs.Rules.{Cause, Refused, Found, fills, unless, first_of, named, vacant, refusal_of, first_cause, outcome}
 use Rattle.kernel_rules.specs.CapabilityCalls.{outside}
 use Rattle.kernel_rules.specs.MemoryCalls.{not_retyped, not_user, retypes, retype_rule, map_rule}
@@ -15,13 +15,14 @@ use Rattle.seq_lookups.proofs.Outcomes.{unless_calm, unless_stands}
 
 -- ---- retype
 
-pub out_of_range : (s : State) (c r f : ℕ) (k : FrameKind) (range : Capability) (q : Reply) → Found range ≡ named s c r (only kind.Range)
+pub out_of_range : (s : State) (c r f : ℕ) (k : FrameKind) (range : Capability) (q : Reply)
+    → Found range ≡ named s c r (to_use (only kind.Range))
     → Refused q ≡ unless (refusal_of s c (outside (found range) f)) f → outcome s c (retype_rule s r f k) ≡ Refused q
 out_of_range s c r f k range q is e =
     rw (← is) (ap (λ o. unless (first_of o (first_cause s c (not_retyped s f k))) (retypes s f k))
     (sym (unless_stands (refusal_of s c (outside (found range) f)) f q e)))
 
-pub in_range : (s : State) (c r f g : ℕ) (k : FrameKind) (range : Capability) → Found range ≡ named s c r (only kind.Range)
+pub in_range : (s : State) (c r f g : ℕ) (k : FrameKind) (range : Capability) → Found range ≡ named s c r (to_use (only kind.Range))
     → Found g ≡ unless (refusal_of s c (outside (found range) f)) f → outcome s c (retype_rule s r f k) ≡ outcome s c (retyping s f k)
 in_range s c r f g k range is e =
     rw (← is) (ap (λ o. unless (first_of o (first_cause s c (not_retyped s f k))) (retypes s f k))
@@ -31,8 +32,8 @@ in_range s c r f g k range is e =
 
 -- What a `map` found on the way to its own causes.
 pub record Reached (s : State) (c p v r : ℕ) (pages range : Capability) (at : Slot) : Type 0 where
-  pub has_pages : Found pages ≡ named s c p (only kind.Pages)
-  pub has_range : Found range ≡ named s c r (only kind.Range)
+  pub has_pages : Found pages ≡ named s c p (to_use (only kind.Pages))
+  pub has_range : Found range ≡ named s c r (to_use (only kind.Range))
   pub has_place : Found at ≡ vacant s c (Under (found pages) v)
 
 -- The causes of a `map`.

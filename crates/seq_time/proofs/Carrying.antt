@@ -8,7 +8,7 @@ use Rattle.spk_nums.specs.declared.kinds.Kind.TheVariants as kind
 use Rattle.spk_nums.specs.declared.replies.Reply.{Reply}
 use Rattle.spk_nums.specs.declared.replies.Reply.TheVariants as reply
 use Rattle.kernel_rules.specs.State.{State}
-use Rattle.kernel_rules.specs.Access.{Named, found, only}
+use Rattle.kernel_rules.specs.Access.{Named, found, only, to_use}
 use Rattle.kernel_rules.specs.Rules.{Change, Cause, When, Rule, Name, Does, Judged, Refused, Found}
 use Rattle.kernel_rules.specs.Rules.{and_then, unless, named, first_of, first_cause, outcome}
 use Rattle.kernel_rules.specs.CallRelation.{changed}
@@ -54,7 +54,7 @@ same_after (Found x) f g same = same x
 
 -- The rule of a call that names two temporal capabilities.
 abbrev pub of_pair : ℕ → ℕ → (Named → Named → List Cause) → (Named → Named → Change) → Rule
-of_pair a b causes change = Name a (only kind.Tcap) λ x. Name b (only kind.Tcap) λ y. Does (causes x y) (change x y)
+of_pair a b causes change = Name a (to_use (only kind.Tcap)) λ x. Name b (to_use (only kind.Tcap)) λ y. Does (causes x y) (change x y)
 
 -- The outcome of such a rule is that of the pair.
 pub pair_outcome : (s : State) (c a b : ℕ) (causes : Named → Named → List Cause) (change : Named → Named → Change)
@@ -63,16 +63,16 @@ pub pair_outcome : (s : State) (c a b : ℕ) (causes : Named → Named → List 
 pair_outcome s c a b causes change =
     let changes = λ (p : Capability × Capability). change (found p.0) (found p.1) in
     let second = λ (x : Capability) (y : Capability). unless_changed (first_cause s c (causes (found x) (found y))) (x, y) changes in
-    same_after (named s c a (only kind.Tcap)) _ _ (λ x.
-    same_after (named s c b (only kind.Tcap)) _ _ (second x)
-    ∙ then_changed (named s c b (only kind.Tcap)) (λ y. unless (first_cause s c (causes (found x) (found y))) (x, y)) changes)
-    ∙ then_changed (named s c a (only kind.Tcap))
-    (λ x. and_then (named s c b (only kind.Tcap)) λ y. unless (first_cause s c (causes (found x) (found y))) (x, y)) changes
+    same_after (named s c a (to_use (only kind.Tcap))) _ _ (λ x.
+    same_after (named s c b (to_use (only kind.Tcap))) _ _ (second x)
+    ∙ then_changed (named s c b (to_use (only kind.Tcap))) (λ y. unless (first_cause s c (causes (found x) (found y))) (x, y)) changes)
+    ∙ then_changed (named s c a (to_use (only kind.Tcap)))
+    (λ x. and_then (named s c b (to_use (only kind.Tcap))) λ y. unless (first_cause s c (causes (found x) (found y))) (x, y)) changes
 
 -- Against a pair that was found no cause stands.
 pub no_cause : (s : State) (c a b : ℕ) (causes : Capability → Capability → List Cause) (p : Capability × Capability)
     → tcaps_named s c a b causes ≡ Found p → first_cause s c (causes p.0 p.1) ≡ None
-no_cause s c a b causes p h = first (named s c a (only kind.Tcap)) h
+no_cause s c a b causes p h = first (named s c a (to_use (only kind.Tcap))) h
   where
     third : (x y : Capability) (o : Option Reply) → o ≡ first_cause s c (causes x y) → unless o (x, y) ≡ Found p
         → first_cause s c (causes p.0 p.1) ≡ None
@@ -87,10 +87,10 @@ no_cause s c a b causes p h = first (named s c a (only kind.Tcap)) h
     second x (Found y) h = third x y (first_cause s c (causes x y)) refl h
 
     first : (o : Judged Capability) → and_then o
-        (λ x. and_then (named s c b (only kind.Tcap)) λ y. unless (first_cause s c (causes x y)) (x, y)) ≡ Found p
+        (λ x. and_then (named s c b (to_use (only kind.Tcap))) λ y. unless (first_cause s c (causes x y)) (x, y)) ≡ Found p
         → first_cause s c (causes p.0 p.1) ≡ None
     first (Refused r) h = absurd (cc)
-    first (Found x) h = second x (named s c b (only kind.Tcap)) h
+    first (Found x) h = second x (named s c b (to_use (only kind.Tcap))) h
 
 differs : true ≡ false → ⊥
 differs e = cc
@@ -147,10 +147,10 @@ against_test x y = are_same x y ∷ []
 -- A pair that is found was named.
 pub pair_named : (s : State) (c a b : ℕ) (causes : Capability → Capability → List Cause) (p : Capability × Capability)
     → tcaps_named s c a b causes ≡ Found p
-    → (Found p.0 ≡ named s c a (only kind.Tcap)) × (Found p.1 ≡ named s c b (only kind.Tcap))
+    → (Found p.0 ≡ named s c a (to_use (only kind.Tcap))) × (Found p.1 ≡ named s c b (to_use (only kind.Tcap)))
 pair_named s c a b causes p h =
-    let one = then_parts (named s c a (only kind.Tcap)) _ p h in
-    let two = then_parts (named s c b (only kind.Tcap)) _ p one.2 in
+    let one = then_parts (named s c a (to_use (only kind.Tcap))) _ p h in
+    let two = then_parts (named s c b (to_use (only kind.Tcap))) _ p one.2 in
     let same : (one.0, two.0) ≡ p = unless_is (first_cause s c (causes one.0 two.0)) (one.0, two.0) p two.2 in
     (sym (one.1 ∙ ap (λ (q : Capability × Capability). Found q.0) same), sym (two.1 ∙ ap (λ (q : Capability × Capability). Found q.1) same))
   where
@@ -164,8 +164,8 @@ pub joins : (s : State) (c a b m : ℕ) (causes : Capability → Capability → 
     → BudgetsFit s c a b → MayMove s p.0.frame p.1.frame m → (tcap_at s p.1.frame).budget + m < 2 ^ 32
 joins s c a b m causes p h fits may =
     let named = pair_named s c a b causes p h in
-    let one = where_found (Rattle.kernel_rules.specs.Rules.named s c a (only kind.Tcap)) _ p.0 named.0 fits in
-    let both = where_found (Rattle.kernel_rules.specs.Rules.named s c b (only kind.Tcap)) _ p.1 named.1 one in
+    let one = where_found (Rattle.kernel_rules.specs.Rules.named s c a (to_use (only kind.Tcap))) _ p.0 named.0 fits in
+    let both = where_found (Rattle.kernel_rules.specs.Rules.named s c b (to_use (only kind.Tcap))) _ p.1 named.1 one in
     omega (arith, both may.apart, may.enough)
 
 -- Against a delegation that is carried out no cause stands: the merged list has at most 8 schedulers.
