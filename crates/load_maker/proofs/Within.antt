@@ -112,12 +112,12 @@ make_limits (Tcap sched quality) h =
 make_limits (Comp table pages live) h = let most : live ≤ 63 = h.2 in omega arith
 make_limits _ h = tt
 
-call_limits : (v : ℕ) (c : Call) → IsCallWithin v c → InLimits c
-call_limits v (Copy a t b rights) h = let few : rights.0 ≤ 3 = h.3 in omega arith
-call_limits v (make_call what range frame table slot) h = make_limits what h.0
-call_limits v (Map p v r f w) h = let flags : w.0 ≤ 3 = h.4 in omega arith
-call_limits v (Tick n) h = h
-call_limits v _ h = tt
+call_limits : (version : ℕ) (c : Call) → IsCallWithin version c → InLimits c
+call_limits version (Copy a t b rights) h = let few : rights.0 ≤ 3 = h.3 in omega arith
+call_limits version (make_call what range frame table slot) h = make_limits what h.0
+call_limits version (Map p v r f w) h = let flags : w.0 ≤ 3 = h.4 in omega arith
+call_limits version (Tick n) h = h
+call_limits version _ h = tt
 
 -- ---- lists
 
@@ -228,7 +228,7 @@ made_reads n = printed_read (script_made n) (made_within n)
 pub accepted : (n : ℕ) → IsAccepted n
 accepted n = record {
   within = made_within n;
-  limits = λ k d h i e g. call_limits _ _ ((made_within n).calls k d h i e g);
+  limits = λ k d h i e g. call_limits (script_made n).version _ ((made_within n).calls k d h i e g);
   few = made_few n;
   reads = made_reads n;
 }
