@@ -1,6 +1,6 @@
 -- A call that makes a component: what it is, its counts, and what it has still to store where it is refused.
 use Rattle.step_ways.proofs.Common.{◌≡◌, Bool, true, false, Option, Some, None, ◌∙◌, refl, ℕ, ◌==◌, ◌||◌, sym, [], ◌∷◌, ◌++◌, ap, subst}
-use Rattle.step_ways.proofs.Common.{IsTrue, eq-eqb, false≢true, Capability, Setting, Call, Make, Kind, found, only, has_frame, named_by}
+use Rattle.step_ways.proofs.Common.{IsTrue, eq-eqb, false≢true, Capability, Setting, Call, Make, Kind, found, to_use, only, has_frame, named_by}
 use Rattle.step_ways.proofs.Common.{State, only_is, counts_references, changes_frames, changes_places, changes_numbers, frames_near}
 use Rattle.step_ways.proofs.Common.{is_one_of, frame_argument, Trace, at_place, plan_for, Leads, LeadsIn, Acquired, comp_dues}
 use Rattle.step_ways.proofs.Common.{comp_due_list, CompAt, CompMaking, Due, KnowsTail, KnowsCompAt}
@@ -121,12 +121,12 @@ module _ (s : State) (c : ℕ) (call : Call) (ks : List Capability) (m : CompMak
   pub table_near : is_one_of m.table (frames_near s c call) ≡ true
   table_near = ap (λ x. is_one_of m.table (frames_near s c x)) is.call_is
       ∙ near_found s c whole all leads Third is.table refl m.table
-      (named_one is.table kind.Table refl (named_kind s c is.x (only kind.Table) is.table leads.1.1.0) m.table (sym is.table_is))
+      (named_one is.table kind.Table refl (named_kind s c is.x (to_use (only kind.Table)) is.table leads.1.1.0) m.table (sym is.table_is))
 
   pub pages_near : is_one_of m.pages (frames_near s c call) ≡ true
   pages_near = ap (λ x. is_one_of m.pages (frames_near s c x)) is.call_is
       ∙ near_found s c whole all leads Fourth is.pages refl m.pages
-      (named_one is.pages kind.Pages refl (named_kind s c is.p (only kind.Pages) is.pages leads.1.1.1.0) m.pages (sym is.pages_is))
+      (named_one is.pages kind.Pages refl (named_kind s c is.p (to_use (only kind.Pages)) is.pages leads.1.1.1.0) m.pages (sym is.pages_is))
 
   head_same : (x y : Due) (xs ys : List Due) → x ∷ xs ≡ y ∷ ys → x ≡ y
   head_same x y xs ys h = cc

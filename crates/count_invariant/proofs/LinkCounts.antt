@@ -2,7 +2,7 @@
 -- maps, its
 -- argument.
 use Rattle.step_ways.proofs.Common.{◌≡◌, ℕ, Bool, true, false, if◌then◌else◌, List, [], ◌∷◌, Option, Some, None, refl, ◌∙◌, ap}
-use Rattle.step_ways.proofs.Common.{Capability, Kind, Grow, Map, State, found, only, has_frame, named_by, is_one_of, frames_near, Second}
+use Rattle.step_ways.proofs.Common.{Capability, Kind, Grow, Map, State, found, to_use, only, has_frame, named_by, is_one_of, frames_near, Second}
 use Rattle.step_ways.proofs.Common.{at_place, plan_for, Leads, LeadsIn, PageFlags, page_cap}
 use Rattle.plan_ways.specs.spk_nums.specs.declared.kinds.Kind.TheVariants as kind
 use Rattle.plan_ways.specs.kernel_rules.specs.Start.{plain_cap}
@@ -30,7 +30,7 @@ link_near s c u i l [] k puts lead f names_it = absurd (cc)
 link_near s c u i l (x ∷ []) k puts lead f names_it = absurd (cc)
 link_near s c u i l (x ∷ y ∷ ks) k puts lead f names_it =
     near_found s c (Grow u i l) (x ∷ y ∷ ks) lead Second y refl f
-    (ap (is_one_of f) (leaf_names x.kind y.kind y.frame (named_kind s c l (leaf_for (found x)) y lead.1.0))
+    (ap (is_one_of f) (leaf_names x.kind y.kind y.frame (named_kind s c l (to_use (leaf_for (found x))) y lead.1.0))
     ∙ ap (λ (q : Capability). is_one_of f (named_by q.kind q.frame)) (same_cap (plain_cap kind.Link y.frame) k puts) ∙ names_it)
 
 pub page_near : (s : State) (c p v r g : ℕ) (w : PageFlags) (range : Option Capability) (k : Capability) → page_of range g w ≡ Some k

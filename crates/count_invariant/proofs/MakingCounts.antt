@@ -1,5 +1,5 @@
 -- The counts and the frame of a call that makes an object, and what it has still to store where it is refused.
-use Rattle.step_ways.proofs.Common.{Want, ◌≡◌, Bool, true, false, Option, Some, None, ◌∙◌, refl, ℕ, ◌<◌, ◌^◌, ◌==◌, sym, [], ◌∷◌, ◌++◌, ap}
+use Rattle.step_ways.proofs.Common.{Want, to_use, ◌≡◌, Bool, true, false, Option, Some, None, ◌∙◌, refl, ℕ, ◌<◌, ◌^◌, ◌==◌, sym, [], ◌∷◌, ◌++◌, ap}
 use Rattle.step_ways.proofs.Common.{subst, IsTrue, ◌||◌, map, eqb-true, eq-eqb, false≢true, Capability, Setting, Call, Make, Kind, only}
 use Rattle.step_ways.proofs.Common.{own, reached, usable, Found, Refused, named, and_then, or_refuse, only_is, frame_of_word, rule_of}
 use Rattle.step_ways.proofs.Common.{named_by, State, counts_references, changes_frames, frames_near, is_one_of, frames_named}
@@ -116,7 +116,7 @@ comp_named s c r u n (x ∷ []) k at lead = absurd (cc)
 comp_named s c r u n (x ∷ y ∷ []) k at lead = absurd (cc)
 comp_named s c r u n (x ∷ y ∷ z ∷ zs) k at lead =
     ap (λ (j : Kind). named_by j k.frame) (only_is kind.Comp k.kind
-    (ap (λ (q : Capability). only kind.Comp q.kind) (sym (same_cap z k at)) ∙ named_kind s c n (only kind.Comp) z lead.1.1.0))
+    (ap (λ (q : Capability). only kind.Comp q.kind) (sym (same_cap z k at)) ∙ named_kind s c n (to_use (only kind.Comp)) z lead.1.1.0))
 
 third_near : (s : State) (c r f u b n g : ℕ) (qs : List Capability) (o : Option Capability) → at_place qs Third ≡ o → (object : NewObject)
     → thread_on o ≡ Some object → Leads (LeadsIn s c) (plan_for (make_call (make.Thread n) r f u b)).names [] qs

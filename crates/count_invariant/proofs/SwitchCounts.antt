@@ -1,7 +1,7 @@
 -- The counts of a call that switches, and the frames that it names.
 use Rattle.step_ways.proofs.Common.{All, flat_map, ◌≡◌, ◌+◌, ◌<◌, inl, inr, refl, ℕ, Bool, true, false, sym, ◌∙◌, [], ◌∷◌, ◌++◌, map, ap}
 use Rattle.step_ways.proofs.Common.{subst, IsTrue, ◌||◌, ◌==◌, arith, eq-eqb, All-nil, All-cons, All-head, All-tail, Setting, Capability}
-use Rattle.step_ways.proofs.Common.{Kind, Call, Switch, only, EntryAt, rule_of, counted, named_by, frame_names, IsGuarded, State}
+use Rattle.step_ways.proofs.Common.{Kind, Call, Switch, to_use, only, EntryAt, rule_of, counted, named_by, frame_names, IsGuarded, State}
 use Rattle.step_ways.proofs.Common.{thread_of, comp_of, only_is, core_same_refs, counts_references, changes_threads, IsNearIn}
 use Rattle.step_ways.proofs.Common.{frames_near, frames_own, is_one_of, Step, Trace, Open, Out, WasAt, phase, state_after, wide_ways}
 use Rattle.step_ways.proofs.Common.{was_now, was_stays, Acquired, AtStack, First, Second, at_place, plan_for, Leads, LeadsIn, tcap_dues}
@@ -62,10 +62,10 @@ module _ (s : State) (c : ℕ) (call : Call) (ks : List Capability) (f q : ℕ) 
       (subst (λ x. Leads (LeadsIn s c) (plan_for call).names [] x) is.found_is lead)
 
   pub thread_kind : is.thread.kind ≡ kind.Thread
-  thread_kind = only_is kind.Thread is.thread.kind (named_kind s c is.name (only kind.Thread) is.thread leads.0)
+  thread_kind = only_is kind.Thread is.thread.kind (named_kind s c is.name (to_use (only kind.Thread)) is.thread leads.0)
 
   pub tcap_kind : is.tcap.kind ≡ kind.Tcap
-  tcap_kind = only_is kind.Tcap is.tcap.kind (named_kind s c is.other (only kind.Tcap) is.tcap leads.1.0)
+  tcap_kind = only_is kind.Tcap is.tcap.kind (named_kind s c is.other (to_use (only kind.Tcap)) is.tcap leads.1.0)
 
   names_it : (k : Capability) (want : Kind) → named_by want k.frame ≡ k.frame ∷ [] → k.kind ≡ want → (g : ℕ) → k.frame ≡ g
       → is_one_of g (named_by k.kind k.frame) ≡ true

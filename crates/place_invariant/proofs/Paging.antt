@@ -13,7 +13,7 @@ use Rattle.kernel_laws.specs.spk_nums.specs.declared.kinds.Kind.TheVariants as k
 use Rattle.kernel_laws.specs.spk_nums.specs.declared.calls.Call.TheVariants.{Look}
 use Rattle.kernel_laws.specs.spk_nums.specs.declared.calls.Call.TheVariants.{Make as make_call}
 use Rattle.kernel_laws.specs.spk_nums.specs.declared.calls.Call.TheVariants.{Call as call_gate}
-use Rattle.kernel_laws.specs.kernel_rules.specs.Access.{root}
+use Rattle.kernel_laws.specs.kernel_rules.specs.Access.{to_use, root}
 use Rattle.kernel_laws.specs.kernel_rules.specs.Fitting.{IsGood}
 use Rattle.kernel_laws.specs.kernel_invariant.proofs.Facts.{named_good}
 use Rattle.count_invariant.specs.call_plans.specs.declared.plans.Target.{Target as TargetOf}
@@ -86,7 +86,7 @@ module _ (setup : Setting) (setting : IsSetting setup) (t : Trace) (legal : IsLe
   paging_by (Copy a u b rights) is (k ∷ []) lead next = absurd (cc)
   paging_by (Copy a u b rights) is (k ∷ j ∷ i ∷ ks) lead next = absurd lead.1.1
   paging_by (Grow u i l) is (k ∷ j ∷ []) lead next =
-      let good : IsGood s k × IsTrue (root k.kind) = named_good s (opened (events_of t)) c u root k (sound_of setup setting t legal)
+      let good : IsGood s k × IsTrue (root k.kind) = named_good s (opened (events_of t)) c u (to_use root) k (sound_of setup setting t legal)
       (opened_is t c (Grow u i l) is) lead.0 in
       ap (λ (f : ℕ). is_paging (s.frame f)) (sym (in_root_node (found k) i at (nat_le i 63)
       (ap (reached s c) (target_in (InRoot (found k) i) target next) ∙ reaches)))

@@ -60,7 +60,7 @@ pub range_within : (setup : Setting) → IsSetting setup → (t : Trace) → IsL
     → has_frame (found range) f ≡ true → f < setup.frames
 range_within setup setting t legal c call is_open r f range is has =
     let good : IsGood (state_after setup t) range × IsTrue (only kind.Range range.kind) = named_good (state_after setup t)
-    (opened (events_of t)) c r (only kind.Range) range (sound_of setup setting t legal) (opened_is t c call is_open) is in
+    (opened (events_of t)) c r (to_use (only kind.Range)) range (sound_of setup setting t legal) (opened_is t c call is_open) is in
     subst (λ (n : ℕ). f < n) (ap (λ l. l.frames) (limits_of setup t))
     (good_within (state_after setup t) range f good.0 (only_is kind.Range range.kind good.1) has)
 

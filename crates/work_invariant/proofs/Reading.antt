@@ -1,7 +1,7 @@
 -- A call reads the word of the component to which its first name has led, before it looks its target up.
 use Rattle.comp_invariant.proofs.Common.{◌≡◌, inl, ℕ, ◌<◌, ◌||◌, true, false, List, [], ◌∷◌, Some, None, refl, sym, ◌∙◌, ap, subst}
 use Rattle.comp_invariant.proofs.Common.{eq-eqb, Capability, Setting, IsSetting, Kind, Call, Gate, comp_of_word, CompWord, EntryAt}
-use Rattle.comp_invariant.proofs.Common.{LoadOf, State, Kernel, Comp, PlaceOf, comp_in, only, named_by, only_is, opened, events_of}
+use Rattle.comp_invariant.proofs.Common.{LoadOf, State, Kernel, Comp, PlaceOf, comp_in, to_use, only, named_by, only_is, opened, events_of}
 use Rattle.comp_invariant.proofs.Common.{is_one_of, frames_near, IsLegal, mark_in_frame, marked_by, stamp, Step, Trace, Open, phase}
 use Rattle.comp_invariant.proofs.Common.{state_after, last_left, sound_of, opened_is, Look, First, Plan, plan_for, Leads, LeadsIn, Next}
 use Rattle.comp_invariant.proofs.Common.{Lookup, Read, reads_of, Undecided, ActiveCall, Core, settled_by, IsFrameWord, count_room}
@@ -27,7 +27,7 @@ pub reads_comp : (setup : Setting) → IsSetting setup → (t : Trace) → IsLeg
     → (f : ℕ) → reads_of call ks ≡ Some f → HasComp (state_after setup t) c f
 reads_comp setup setting t legal c (Gate n u b) is_open [] lead f reads = absurd (cc)
 reads_comp setup setting t legal c (Gate n u b) is_open (k ∷ ks) lead f reads =
-    let good = named_good (state_after setup t) (opened (events_of t)) c n (only kind.Comp) k (sound_of setup setting t legal)
+    let good = named_good (state_after setup t) (opened (events_of t)) c n (to_use (only kind.Comp)) k (sound_of setup setting t legal)
     (opened_is t c (Gate n u b) is_open) lead.0 in
     subst (HasComp (state_after setup t) c) (frame_same k.frame f reads)
     (comp_named setup setting t legal c (Gate n u b) is_open n k (only_is kind.Comp k.kind good.1) lead.0)
@@ -42,7 +42,7 @@ reads_near : (setup : Setting) → IsSetting setup → (t : Trace) → IsLegal s
     → (f : ℕ) → reads_of call ks ≡ Some f → is_one_of f (frames_near (state_after setup t) c call) ≡ true
 reads_near setup setting t legal c (Gate n u b) is_open [] lead f reads = absurd (cc)
 reads_near setup setting t legal c (Gate n u b) is_open (k ∷ ks) lead f reads =
-    let good = named_good (state_after setup t) (opened (events_of t)) c n (only kind.Comp) k (sound_of setup setting t legal)
+    let good = named_good (state_after setup t) (opened (events_of t)) c n (to_use (only kind.Comp)) k (sound_of setup setting t legal)
     (opened_is t c (Gate n u b) is_open) lead.0 in
     near_found (state_after setup t) c (Gate n u b) (k ∷ ks) lead First k refl f
     (ap (λ (x : Kind). is_one_of f (named_by x k.frame)) (only_is kind.Comp k.kind good.1)
