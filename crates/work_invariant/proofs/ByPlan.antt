@@ -21,7 +21,7 @@ use Rattle.comp_invariant.specs.spk_nums.specs.declared.calls.Call.TheVariants.{
 use Rattle.comp_invariant.specs.spk_nums.specs.declared.calls.Call.TheVariants.{Call as call_gate}
 use Rattle.comp_invariant.specs.spk_nums.specs.declared.replies.Reply.TheVariants as reply
 use Rattle.comp_invariant.specs.entry_words.specs.declared.entry.Entry.TheVariants as entry
-use Rattle.comp_invariant.specs.kernel_rules.specs.Access.{Target as place}
+use Rattle.comp_invariant.specs.kernel_rules.specs.Access.{any, Target as place}
 use Rattle.comp_invariant.specs.kernel_rules.specs.Rules.{Found as Found_it, held}
 use Rattle.comp_invariant.specs.stage_look.specs.Lookup.{found_at}
 use Rattle.comp_invariant.specs.call_plans.specs.declared.plans.Spot.TheVariants as spot_of
