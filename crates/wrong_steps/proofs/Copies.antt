@@ -22,14 +22,14 @@ both_copying = (
           (
             (
               (
-                ((tt, may_follow refl refl (refl, tt) tt tt), may_follow refl refl tt tt tt),
+                ((tt, may_follow refl refl (refl, omega arith) tt tt), may_follow refl refl tt tt tt),
                 may_follow refl refl tt tt tt,
               ),
               may_follow refl refl tt tt tt,
             ),
             may_follow refl refl tt tt tt,
           ),
-          may_follow refl refl (refl, tt) tt tt,
+          may_follow refl refl (refl, omega arith) tt tt,
         ),
         may_follow refl refl tt tt tt,
       ),

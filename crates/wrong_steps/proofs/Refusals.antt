@@ -21,7 +21,7 @@ unfolding two_cores acquired_count word_of_entry word_of_count sum_below node_re
 acquired_legal = (
   (
     (
-      (((tt, may_follow refl refl (refl, tt) tt tt), may_follow refl refl tt tt tt), may_follow refl refl tt tt tt),
+      (((tt, may_follow refl refl (refl, omega arith) tt tt), may_follow refl refl tt tt tt), may_follow refl refl tt tt tt),
       may_follow refl refl tt tt tt,
     ),
     may_follow refl refl tt tt tt,
@@ -36,7 +36,7 @@ filled_legal = (
     (
       (
         (
-          ((acquired_legal, may_follow refl refl (refl, tt) tt tt), may_follow refl refl tt tt tt),
+          ((acquired_legal, may_follow refl refl (refl, omega arith) tt tt), may_follow refl refl tt tt tt),
           may_follow refl refl tt tt tt,
         ),
         may_follow refl refl tt tt tt,
