@@ -1,9 +1,9 @@
 -- What a call that makes a component knows of its rule: what is left of it after its names, and what refuses it; and what it knows of the
 -- frame and of the number that it has marked.
-use Rattle.scan_invariant.proofs.Common.{◌≡◌, ◌+◌, arith, Bool, true, false, Option, Some, None, refl, ℕ, ◌<◌, ◌≢◌, sym, ◌&&◌, [], ◌∷◌}
+use Rattle.scan_invariant.proofs.Common.{◌≡◌, ◌+◌, Bool, true, false, Option, Some, None, ℕ, ◌<◌, ◌≢◌, sym, ◌&&◌, [], ◌∷◌}
 use Rattle.scan_invariant.proofs.Common.{ap, ◌∙◌, subst, IsTrue, not, inr, lt-ltb, false≢true, Capability, Setting, IsSetting, Reply}
-use Rattle.scan_invariant.proofs.Common.{frame_of_word, live_of_word, EntryAt, FrameAt, LiveAt, found, Target, Under, Slot, reached, only}
-use Rattle.scan_invariant.proofs.Common.{rule_of, change_of, has_frame, not_blank, is_frame, is_blank, makes_comp, fits, is_node, Found}
+use Rattle.scan_invariant.proofs.Common.{frame_of_word, live_of_word, EntryAt, FrameAt, LiveAt, found, Target, Under, Slot, reached}
+use Rattle.scan_invariant.proofs.Common.{rule_of, change_of, has_frame, not_blank, is_blank, makes_comp, fits, is_node, Found}
 use Rattle.scan_invariant.proofs.Common.{Change, first_cause, and_then, unless, vacant, outcome, first_of, RuleMay, Blank, Kernel, State}
 use Rattle.scan_invariant.proofs.Common.{Leaf, NumberOf, named_fit, opened, events_of, sound_of, opened_is, marked_by, mark_in_frame}
 use Rattle.scan_invariant.proofs.Common.{frame_value, stamp, Trace, Open, phase, state_after, last_left, target_of, outcome_left}
@@ -11,7 +11,7 @@ use Rattle.scan_invariant.proofs.Common.{left_may, names_after, Leads, NextFree,
 use Rattle.scan_invariant.proofs.Common.{plan_for, Plan, CompMakingFits, comp_due_list, CompMaking, Act, StageFits, HasRoom, Core}
 use Rattle.scan_invariant.proofs.Common.{ActiveCall, Undecided, limits_of, settled_by, settled, AreDuesApart, phase_at, KnowsUndecided}
 use Rattle.scan_invariant.proofs.Common.{KnowsComp, Invariant, holds, held_by, NumberIs}
-use Rattle.std.specs.Prelude.{if◌then◌else◌, List}
+use Rattle.std.specs.Prelude.{if◌then◌else◌}
 use Rattle.state_laws.specs.spk_nums.specs.declared.calls.Call.TheVariants.{Make as make_call}
 use Rattle.state_laws.specs.spk_nums.specs.declared.calls.Make.TheVariants as make_of
 use Rattle.state_laws.specs.spk_nums.specs.declared.kinds.Kind.TheVariants as kind

@@ -1,31 +1,28 @@
 -- The first steps by which a call makes a component: the load of the frame's word, and the compare that marks it.
 use Rattle.scan_invariant.proofs.Common.{◌≡◌, ◌≤◌, Bool, true, false, cond, Option, Some, None, refl, ℕ, ◌<◌, ◌^◌, ◌==◌, arith, ◌≢◌, ◌+◌}
-use Rattle.scan_invariant.proofs.Common.{sym, nat_lt, ◌&&◌, [], ◌∷◌, ◌++◌, length, ap, ◌∙◌, subst, IsTrue, inl, inr, not, map, lt-ltb}
-use Rattle.scan_invariant.proofs.Common.{eqb-true, eqb-false, ltb-false, cases_eq, eq-eqb, false≢true, Capability, Setting, IsSetting}
-use Rattle.scan_invariant.proofs.Common.{left_if, Call, Map, FrameKind, Obj, Reply, word_of_entry, frame_of_word, FrameFits}
-use Rattle.scan_invariant.proofs.Common.{word_of_frame, FrameWord, same_same, left_of, word_of, LoadOf, Move, StoreOf, CompareOf, EntryAt}
+use Rattle.scan_invariant.proofs.Common.{sym, ◌&&◌, [], ◌∷◌, ◌++◌, length, ap, ◌∙◌, subst, inl, inr, not, map, lt-ltb}
+use Rattle.scan_invariant.proofs.Common.{eqb-true, eqb-false, eq-eqb, Setting, IsSetting}
+use Rattle.scan_invariant.proofs.Common.{left_if, FrameKind, Obj, frame_of_word, FrameFits}
+use Rattle.scan_invariant.proofs.Common.{word_of_frame, FrameWord, same_same, left_of, word_of, LoadOf, Move, CompareOf, EntryAt}
 use Rattle.scan_invariant.proofs.Common.{FrameAt, put_same, Target, alone, rule_of, change_of, are_calls_spent, is_frame, is_blank}
-use Rattle.scan_invariant.proofs.Common.{Refused, RuleMay, Untyped, Blank, Table, Pages, User, Kernel, State, put, Leaf, Pleaf, Comp}
-use Rattle.scan_invariant.proofs.Common.{Thread, Tcap, Frame, PlaceOf, refused_first, Carries, same_word-other, last_left-here}
-use Rattle.scan_invariant.proofs.Common.{last_left-there, own_read-here, own_read-there, IsAlone, changes_places, changes_frames}
-use Rattle.scan_invariant.proofs.Common.{changes_in_frame, looks_at_frames, frames_near, is_one_of, IsSlot, marked_by, frame_mark}
-use Rattle.scan_invariant.proofs.Common.{mark_in_frame, frame_value, stamp, Trace, Open, phase, state_after, Step, last_left, own_read}
-use Rattle.scan_invariant.proofs.Common.{left_may, own_pages, Acquired, dues, next_work, comp_dues, refuse, CompMaking, CompAt, Nothing}
-use Rattle.scan_invariant.proofs.Common.{Unmark, Act, Goes, GoesOn, landed, went_with, Core, ActiveCall, Undecided, Decided, names_on}
-use Rattle.scan_invariant.proofs.Common.{counts_on, spot_on, holds_counts, Holding, settled_by, settled, keeps, phase_at, due_of}
-use Rattle.scan_invariant.proofs.Common.{KnowsUndecided, KnowsComp, KnowsCompAt, blank_word, holds_at, holds_in, Invariant, done_by}
-use Rattle.scan_invariant.proofs.Common.{holds, held_by, holds_comp, IsFrameWord, as_none, counts_bare, lent_elsewhere}
+use Rattle.scan_invariant.proofs.Common.{Refused, RuleMay, Blank, Kernel, State, put}
+use Rattle.scan_invariant.proofs.Common.{refused_first, Carries, same_word-other}
+use Rattle.scan_invariant.proofs.Common.{own_read-here, own_read-there, IsAlone}
+use Rattle.scan_invariant.proofs.Common.{frames_near, is_one_of, marked_by, frame_mark}
+use Rattle.scan_invariant.proofs.Common.{frame_value, Trace, Open, phase, state_after, Step, last_left, own_read}
+use Rattle.scan_invariant.proofs.Common.{left_may, own_pages, Acquired, dues, next_work, comp_dues, refuse, CompMaking, CompAt}
+use Rattle.scan_invariant.proofs.Common.{Act, Goes, landed, Core, ActiveCall, Undecided, names_on}
+use Rattle.scan_invariant.proofs.Common.{counts_on, spot_on, holds_counts, settled_by, keeps, phase_at, due_of}
+use Rattle.scan_invariant.proofs.Common.{KnowsUndecided, KnowsComp, KnowsCompAt, blank_word, holds_at, holds_in, Invariant}
+use Rattle.scan_invariant.proofs.Common.{holds, held_by, holds_comp, as_none, counts_bare, lent_elsewhere}
 use Rattle.std.specs.Prelude.{if◌then◌else◌, List}
 use Rattle.std.proofs.Common.{is_some}
-use Rattle.state_laws.specs.spk_nums.specs.declared.calls.Call.TheVariants.{Make as make_call}
 use Rattle.state_laws.specs.spk_nums.specs.declared.kinds.FrameKind.TheVariants.{Untyped as FrameUntyped, User as FrameUser}
 use Rattle.state_laws.specs.spk_nums.specs.declared.kinds.FrameKind.TheVariants.{Kernel as FrameKernel}
 use Rattle.state_laws.specs.spk_nums.specs.declared.kinds.Obj.TheVariants as obj
 use Rattle.state_laws.specs.spk_nums.specs.declared.replies.Reply.TheVariants as reply
 use Rattle.scan_invariant.specs.entry_words.specs.declared.entry.Entry.TheVariants as entry
 use Rattle.scan_invariant.specs.frame_words.proofs.FrameLemmas as frames
-use Rattle.scan_invariant.specs.plan_ways.proofs.Ways.{next_on_way}
-use Rattle.scan_invariant.specs.plan_ways.specs.Laws.{NextPlace}
 use Rattle.scan_invariant.specs.act_states.specs.Acts.{comp_marks}
 use Rattle.scan_invariant.specs.act_states.specs.Comps.{comp_meets, comp_meets_object, comp_meets_blank, comp_meets_kernel}
 use Rattle.scan_invariant.specs.act_states.specs.Makings.{marked}
@@ -37,13 +34,10 @@ use Rattle.scan_invariant.specs.step_ways.proofs.Counting as counting
 use Rattle.scan_invariant.specs.step_ways.proofs.Good.{spares_other, blank_is}
 use Rattle.scan_invariant.specs.step_ways.proofs.Loads.{decides_on, step_to, OnlyLooks, next_at, loads_on, IsOfCall, core_in_call, inner}
 use Rattle.scan_invariant.specs.step_ways.proofs.Loads.{call_is, core_is}
-use Rattle.scan_invariant.specs.step_ways.proofs.Refusals.{GoodTook, ticks_at, refuses_busy, refuses_raced, raced_leaving, not_spent}
-use Rattle.scan_invariant.specs.step_ways.proofs.Writes.{stores_on}
+use Rattle.scan_invariant.specs.step_ways.proofs.Refusals.{GoodTook, ticks_at, refuses_busy, refuses_raced, not_spent}
 use Rattle.scan_invariant.specs.core_invariant.specs.Knows.{HasBlank}
-use Rattle.scan_invariant.specs.count_invariant.proofs.Lookups.{near_way}
 use Rattle.scan_invariant.specs.count_invariant.proofs.Acquiring.{knows_next, next_holds}
 use Rattle.scan_invariant.specs.count_invariant.proofs.CompCounts.{IsCompCall, makes_comp_on, comp_changes, comp_near}
-use Rattle.scan_invariant.specs.place_invariant.proofs.Fills.{target_way, changes_node}
 use Rattle.scan_invariant.specs.place_invariant.proofs.Outside.{vacant_slot, vacant_here, stands_alone}
 use Rattle.comp_invariant.proofs.CompCalls as calls
 use Rattle.frame_invariant.proofs.Makes.{made_looks, not_blank_by, not_kernel_by, marked_fits}

@@ -3,8 +3,8 @@
 use Rattle.scan_invariant.proofs.Common.{◌≡◌, ◌≤◌, Bool, true, false, Option, Some, None, refl, ℕ, ◌<◌, ◌^◌, arith, ◌≢◌, ◌+◌, sym, nat_lt}
 use Rattle.scan_invariant.proofs.Common.{◌&&◌, ◌∷◌, ◌++◌, ap, ◌∙◌, subst, IsTrue, inl, inr, ◌⊎◌, eqb-true, eqb-false, ltb-false, cases_eq}
 use Rattle.scan_invariant.proofs.Common.{eq-eqb, Setting, IsSetting, left_if, Reply, word_of_entry, same_same, left_of, Move, StoreOf}
-use Rattle.scan_invariant.proofs.Common.{CompareOf, EntryAt, FrameAt, LiveAt, put_same, rule_of, is_blank, Blank, Kernel, State, put}
-use Rattle.scan_invariant.proofs.Common.{Comp, PlaceOf, Live, Dead, same_word-other, last_left-here, last_left-there, own_read-there}
+use Rattle.scan_invariant.proofs.Common.{CompareOf, EntryAt, FrameAt, LiveAt, put_same, rule_of, Blank, Kernel, State, put}
+use Rattle.scan_invariant.proofs.Common.{PlaceOf, same_word-other, last_left-here, last_left-there, own_read-there}
 use Rattle.scan_invariant.proofs.Common.{changes_in_frame, changes_numbers, IsSlot, marked_by, mark_in_frame, live_mark, stamp, Trace}
 use Rattle.scan_invariant.proofs.Common.{Open, phase, state_after, Step, last_left, own_pages, Unmark, StoreLive, Act, GoesOn, landed}
 use Rattle.scan_invariant.proofs.Common.{went_with, went, Core, ActiveCall, Undecided, Decided, names_on, counts_on, spot_on}

@@ -1,6 +1,7 @@
 -- The decision of a call that makes a component: the compare of its target, where it is won, makes the frame the component, its number live
 -- for it, and puts its capability there.
-use Rattle.scan_invariant.proofs.Common.{Want, All, ◌≡◌, Bool, true, false, Some, None, refl, ℕ, ◌<◌, ◌^◌, arith, ◌≢◌, ◌+◌, sym, ◌&&◌, [], ◌∷◌}
+use Rattle.scan_invariant.proofs.Common.{Want, All, ◌≡◌, Bool, true, false, Some, None, refl, ℕ, ◌<◌, ◌^◌, arith, ◌≢◌, ◌+◌, sym, ◌&&◌, []}
+use Rattle.scan_invariant.proofs.Common.{◌∷◌}
 use Rattle.scan_invariant.proofs.Common.{ap, ◌∙◌, subst, ◌≤◌, IsTrue, ◌⊎◌, inl, inr, max, map, ◌+ℤ◌, Option, ◌++◌, zero, suc, All-nil}
 use Rattle.scan_invariant.proofs.Common.{All-cons, All-head, All-tail, ne_eqb, eqb-true, cases_eq, false≢true, Capability, Setting}
 use Rattle.scan_invariant.proofs.Common.{IsSetting, left_if, Kind, entry_of_word, EntryFits, word_of_entry, Held, frame_of_word}
@@ -8,9 +9,9 @@ use Rattle.scan_invariant.proofs.Common.{word_of_frame, same_same, left_of, word
 use Rattle.scan_invariant.proofs.Common.{ClockAt, FrameAt, CountAt, CoreAt, FlushAt, LiveAt, slot_is, place_here, place_there, frame_refs}
 use Rattle.scan_invariant.proofs.Common.{IsSound, opened, put_same, put_other, events_of, Slot, own, rule_of, change_of, changed, counted}
 use Rattle.scan_invariant.proofs.Common.{MayReply, begins_in, ends_by, flushes_by, epoch_of, makes_comp, calls_counted, refs, place_names}
-use Rattle.scan_invariant.proofs.Common.{times, frame_names, is_node, Found, IsFoundAnd, first_of, waits_of, vacant, Blank, Kernel, State}
+use Rattle.scan_invariant.proofs.Common.{times, frame_names, is_node, Found, IsFoundAnd, first_of, waits_of, Blank, Kernel, State}
 use Rattle.scan_invariant.proofs.Common.{put, comp_of, thread_in, thread_of, first_of_stack, Object, FrameOf, with_frame, Thing, NumberOf}
-use Rattle.scan_invariant.proofs.Common.{comp_in, Holds, PlaceOf, with_place, Live, Dead, Liveness, Comp, CompFields, Unused, ok_first}
+use Rattle.scan_invariant.proofs.Common.{comp_in, Holds, PlaceOf, with_place, Live, Liveness, Comp, CompFields, ok_first}
 use Rattle.scan_invariant.proofs.Common.{decided-inside, cases_word, same_word-other, sound_of, last_left-there, stamp-kept, HasReached}
 use Rattle.scan_invariant.proofs.Common.{marked_by, frame_mark, mark_of, entry_mark, mark_in_frame, live_mark, frame_value, stamp}
 use Rattle.scan_invariant.proofs.Common.{ends_in, flushes_in, Trace, Open, phase, state_after, Step, last_left, state_decided_in, way_to}
@@ -22,7 +23,7 @@ use Rattle.scan_invariant.proofs.Common.{KnowsUndecided, WorksIn, MayFill, Knows
 use Rattle.scan_invariant.proofs.Common.{holds, held_by, times_of, SumIs, counted_in, holds_comp, PlaceIs, count_room, IsFrameWord}
 use Rattle.scan_invariant.proofs.Common.{WordIs, NumberIs, later, stamp_of_change, comp_dues, comp_due_list, CompMakingFits, CompMaking}
 use Rattle.scan_invariant.proofs.Common.{CompAt, Quiet, AtCore, AtFlush, quiet_end, quiet_after, quiet_move, live_of_word, LiveFits}
-use Rattle.scan_invariant.proofs.Common.{word_of_live, LiveWord, comp_of_word, cases_bool, IsLegal, counts_bare, may_keep, unlent_value}
+use Rattle.scan_invariant.proofs.Common.{word_of_live, LiveWord, comp_of_word, cases_bool, counts_bare, may_keep, unlent_value}
 use Rattle.scan_invariant.proofs.Common.{unlent_word, node_keeps_none}
 use Rattle.std.specs.Prelude.{if◌then◌else◌, pos, List, ◌==◌, ◌||◌}
 use Rattle.state_laws.specs.spk_nums.specs.declared.kinds.Kind.TheVariants as kind

@@ -1,9 +1,9 @@
 -- No core waits for a liveness number that was never used: where its grace period begins, it dies, and it is never unused again.
-use Rattle.scan_invariant.proofs.Common.{◌≡◌, ◌<◌, ◌≤◌, inl, inr, arith, ℕ, Bool, true, false, ◌==◌, ◌||◌, if◌then◌else◌, List, [], ◌∷◌}
+use Rattle.scan_invariant.proofs.Common.{◌≡◌, ◌<◌, ◌≤◌, inl, inr, arith, ℕ, true, false, ◌==◌, ◌||◌, if◌then◌else◌, List, [], ◌∷◌}
 use Rattle.scan_invariant.proofs.Common.{Option, Some, None, refl, sym, ◌∙◌, ap, subst, false≢true, cases_eq, ne_eqb, list_any, Setting}
 use Rattle.scan_invariant.proofs.Common.{IsSetting, FrameKind, Make, Call, Copy, Remove, Grow, Shrink, Retype, Map, Unmap, Touch, Flush}
 use Rattle.scan_invariant.proofs.Common.{Gate, Kill, Ret, Switch, Tick, Transfer, Delegate, Test, Translation, Value, Reply, Liveness}
-use Rattle.scan_invariant.proofs.Common.{Unused, Live, Dead, State, Thing, NumberOf, put, comp_in, comp_of, thread_in, thread_of, Holds}
+use Rattle.scan_invariant.proofs.Common.{Unused, Live, Dead, State, NumberOf, put, comp_in, comp_of, thread_in, thread_of, Holds}
 use Rattle.scan_invariant.proofs.Common.{Named, found, same_thing, InRanges, frame_names, place_names, Change, Judged, Refused, Found}
 use Rattle.scan_invariant.proofs.Common.{IsFoundAnd, frames_of, translation_of, rule_of, change_of, changed, state_by, begins, begins_in}
 use Rattle.scan_invariant.proofs.Common.{MayReply, put_same, state_is, run_of, cases_bool, open_inj, events_of, IsLegal, MayFollow}

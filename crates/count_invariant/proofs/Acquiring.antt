@@ -1,39 +1,33 @@
 -- A step by which a call acquires a count that its act changes is good: the count is held by another core, is lost to another core, or
 -- is acquired; and so is the step by which a decided call commits it.
-use Rattle.step_ways.proofs.Common.{lent_elsewhere, claimed_by, Held, word_of_entry, CompAt, KillingAt, LoadComp, LoadLive, Mark, Store}
-use Rattle.step_ways.proofs.Common.{MakingAt, ◌≡◌, ◌≢◌, ℕ, suc, ℤ, pos, negsuc, ◌+◌, ◌++◌, ◌==◌, ◌^◌, ◌<◌, ◌≤◌, map, slice_get, length}
-use Rattle.step_ways.proofs.Common.{Bool, true, false, if◌then◌else◌, nat_le, cond, List, [], ◌∷◌, Option, Some, None, IsTrue, inl, inr}
+use Rattle.step_ways.proofs.Common.{lent_elsewhere, claimed_by}
+use Rattle.step_ways.proofs.Common.{◌≡◌, ◌≢◌, ℕ, ℤ, pos, negsuc, ◌+◌, ◌++◌, ◌==◌, ◌^◌, ◌<◌, ◌≤◌, map, slice_get, length}
+use Rattle.step_ways.proofs.Common.{Bool, true, false, if◌then◌else◌, cond, List, [], ◌∷◌, Option, Some, None, IsTrue, inl, inr}
 use Rattle.step_ways.proofs.Common.{arith, refl, sym, ◌∙◌, ap, subst, not, All, is_some, false≢true, eq-eqb, eqb-true, eqb-false, All-nil}
 use Rattle.step_ways.proofs.Common.{All-cons, All-head, All-tail, All-append, Setting, IsSetting, Capability, Call, Remove, Shrink, Unmap}
-use Rattle.step_ways.proofs.Common.{Copy, Retype, Touch, Flush, Tick, Kill, Reply, CountFits, word_of_count, count_of_word, CountWord}
-use Rattle.step_ways.proofs.Common.{left_if, Word, EntryAt, CountAt, ClockAt, FrameAt, LiveAt, same_word, Move, LoadOf}
+use Rattle.step_ways.proofs.Common.{Reply, CountFits, word_of_count, count_of_word, CountWord}
+use Rattle.step_ways.proofs.Common.{left_if, Word, EntryAt, CountAt, ClockAt, FrameAt, LiveAt, Move, LoadOf}
 use Rattle.step_ways.proofs.Common.{CompareOf, StoreOf, word_of, left_of, Place, Holds, PlaceOf, State, put, named_by, put_same}
 use Rattle.step_ways.proofs.Common.{count_mark, marked_by, counts_references, changes_places, raises_clock, IsNearIn, frame_at_slot}
 use Rattle.step_ways.proofs.Common.{frame_argument, frames_named, is_one_of, frames_near, capability_in, target_of, rule_of, usable_in}
 use Rattle.step_ways.proofs.Common.{Close, AtDraw, AtStore, Step, Trace, Open, phase, state_after, last_left, own_read, was_now}
-use Rattle.step_ways.proofs.Common.{same_word-other, cases_word, own_read-here, own_read-there, last_left-here, last_left-there, unheld}
+use Rattle.step_ways.proofs.Common.{cases_word, own_read-here, own_read-there, last_left-here, last_left-there, unheld}
 use Rattle.step_ways.proofs.Common.{Pin, AtLoad, Acquired, plan_for, Leads, LeadsIn, Plan, leads_by, GoesBy, own_pages, calls_go, Due}
 use Rattle.step_ways.proofs.Common.{Outside, Nothing, Acquire, Undecided, Decided, ActiveCall, Goes, dues, next_work, removes_by, undo}
 use Rattle.step_ways.proofs.Common.{CountsAt, HasRoom, StageFits, GoesOn, landed, went_with, Core, UntypingAt, Holding, count_of}
-use Rattle.step_ways.proofs.Common.{committed, holds_counts, AreApart, settled_by, settled, keeps, SaysCount, count_room, AreDuesApart}
+use Rattle.step_ways.proofs.Common.{committed, holds_counts, AreApart, settled_by, settled, SaysCount, count_room, AreDuesApart}
 use Rattle.step_ways.proofs.Common.{own_in, HasFound, NamesAre, due_of, KnowsAct, KnowsWork, KnowsUndecided, IsCount, phase_at, KnowsTail}
 use Rattle.step_ways.proofs.Common.{goes_on, untypes, done_by, holds_act, holds_work, holds_at, holds_in, holds, held_by, Invariant}
-use Rattle.step_ways.proofs.Common.{holds_tail, holds_making, holds_killing, holds_comp, names_on, counts_on}
+use Rattle.step_ways.proofs.Common.{holds_tail, names_on, counts_on}
 use Rattle.count_invariant.proofs.SwitchCounts.{switch_of, switch_counts, switch_due_near, switch_left}
 use Rattle.count_invariant.proofs.StackCounts.{invoke_counts, invoke_near, invoking_due, returning_due, top_near}
 use Rattle.count_invariant.proofs.ActBares.{acquired_bares, committed_bares}
-use Rattle.act_fits.specs.act_states.specs.Comps.{comp_undo, comp_meets_number}
+use Rattle.act_fits.specs.act_states.specs.Comps.{comp_meets_number}
 use Rattle.count_invariant.proofs.ActHolds.{SparesSwept, undo_holds, act_count, act_over}
 use Rattle.count_invariant.proofs.CompCounts.{comp_call, comp_counts, comp_due_near, comp_left}
-use Rattle.act_fits.specs.act_states.specs.Makings.{undo_at}
 use Rattle.act_fits.specs.act_states.specs.declared.comps.CompAt.TheVariants as comp_at
-use Rattle.act_fits.specs.act_states.specs.Kills.{is_killing}
-use Rattle.act_fits.specs.act_states.specs.declared.kills.KillingAt.TheVariants.{Close as kill_close, Draw as kill_draw}
-use Rattle.act_fits.specs.act_states.specs.declared.makings.MakingAt.TheVariants.{Load as making_load, Fill as making_fill}
 use Rattle.std.proofs.Common.{length-append}
 use Rattle.std.proofs.Common.{lt-ltb}
-use Rattle.plan_ways.specs.spk_nums.specs.declared.calls.Call.TheVariants.{Look}
-use Rattle.plan_ways.specs.spk_nums.specs.declared.calls.Call.TheVariants.{Make as make_call}
 use Rattle.plan_ways.specs.spk_nums.specs.declared.replies.Reply.TheVariants as reply
 use Rattle.plan_ways.specs.frame_words.specs.declared.count_word.Hold.{Hold}
 use Rattle.plan_ways.specs.frame_words.specs.declared.count_word.Hold.TheVariants as hold

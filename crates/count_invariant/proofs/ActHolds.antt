@@ -2,8 +2,8 @@
 -- a refusal has then to store.
 use Rattle.step_ways.proofs.Common.{Held, word_of_entry, CompAt, KillingAt, LoadComp, LoadLive, Mark, Store, MakingAt, ◌≡◌, ◌≢◌, ℕ, ◌+◌}
 use Rattle.step_ways.proofs.Common.{◌++◌, ◌==◌, ◌^◌, ◌<◌, ◌≤◌, true, false, if◌then◌else◌, ◌∷◌, refl, ◌∙◌, ap, not, false≢true, Word}
-use Rattle.step_ways.proofs.Common.{EntryAt, CountAt, FrameAt, LiveAt, same_word, Close, AtDraw, AtStore, Outside, undo, UntypingAt}
-use Rattle.step_ways.proofs.Common.{release_of, swept_of, thaw_of, holds_untyping, thaws_own, Holding, keeps, holds_act, holds}
+use Rattle.step_ways.proofs.Common.{EntryAt, CountAt, FrameAt, LiveAt, same_word, AtDraw, AtStore, Outside, undo, UntypingAt}
+use Rattle.step_ways.proofs.Common.{release_of, swept_of, thaw_of, holds_untyping, thaws_own, Holding, keeps, holds_act}
 use Rattle.step_ways.proofs.Common.{holds_tail, holds_making, holds_killing, holds_comp, holds_head, holds_share, PairAt, LoadA, MarkA}
 use Rattle.step_ways.proofs.Common.{ListA, LoadB, ListB, CompareB, AgainB, StoreList, StoreB, StoreA, amount_of, word_of_head}
 use Rattle.act_fits.specs.act_states.specs.Comps.{comp_undo}
@@ -14,7 +14,6 @@ use Rattle.act_fits.specs.act_states.specs.declared.kills.KillingAt.TheVariants.
 use Rattle.act_fits.specs.act_states.specs.declared.makings.MakingAt.TheVariants.{Load as making_load, Fill as making_fill}
 use Rattle.plan_ways.specs.frame_words.proofs.CountLemmas as counts
 use Rattle.act_fits.specs.stage_quiet.specs.declared.close.Close.TheVariants.{AtCompare as close_compare}
-use Rattle.act_fits.specs.stage_pins.specs.Counts.{acquired}
 use Rattle.act_fits.specs.act_states.specs.declared.work.Act.{Act as ActOf}
 use Rattle.act_fits.specs.act_states.specs.declared.work.Act.TheVariants.{Fill as fill_act, Remove as remove_act, Retype as type_act}
 use Rattle.act_fits.specs.act_states.specs.declared.work.Act.TheVariants.{Make as make_act, Tick as tick_act, Kill as kill_act}

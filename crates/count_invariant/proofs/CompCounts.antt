@@ -1,10 +1,10 @@
 -- A call that makes a component: what it is, its counts, and what it has still to store where it is refused.
-use Rattle.step_ways.proofs.Common.{◌≡◌, Bool, true, false, Option, Some, None, ◌∙◌, refl, ℕ, ◌==◌, ◌||◌, sym, [], ◌∷◌, ◌++◌, ap, subst}
-use Rattle.step_ways.proofs.Common.{IsTrue, eq-eqb, false≢true, Capability, Setting, Call, Make, Kind, found, to_use, only, has_frame, named_by}
+use Rattle.step_ways.proofs.Common.{◌≡◌, true, false, Some, ◌∙◌, refl, ℕ, ◌==◌, ◌||◌, sym, [], ◌∷◌, ◌++◌, ap, subst}
+use Rattle.step_ways.proofs.Common.{IsTrue, eq-eqb, false≢true, Capability, Setting, Call, Kind, found, to_use, only, has_frame, named_by}
 use Rattle.step_ways.proofs.Common.{State, only_is, counts_references, changes_frames, changes_places, changes_numbers, frames_near}
-use Rattle.step_ways.proofs.Common.{is_one_of, frame_argument, Trace, at_place, plan_for, Leads, LeadsIn, Acquired, comp_dues}
+use Rattle.step_ways.proofs.Common.{is_one_of, frame_argument, Trace, plan_for, Leads, LeadsIn, Acquired, comp_dues}
 use Rattle.step_ways.proofs.Common.{comp_due_list, CompAt, CompMaking, Due, KnowsTail, KnowsCompAt}
-use Rattle.std.specs.Prelude.{List, ℤ, pos}
+use Rattle.std.specs.Prelude.{List, ℤ}
 use Rattle.plan_ways.specs.spk_nums.specs.declared.calls.Call.TheVariants.{Make as make_call}
 use Rattle.plan_ways.specs.spk_nums.specs.declared.calls.Make.TheVariants as make
 use Rattle.plan_ways.specs.spk_nums.specs.declared.kinds.Kind.TheVariants as kind

@@ -1,6 +1,6 @@
 -- Lists of counts that are due, and of those that are acquired of them.
 use Rattle.step_ways.proofs.Common.{◌≡◌, ◌≢◌, ℕ, suc, ◌+◌, ◌++◌, map, slice_get, length, true, false, if◌then◌else◌, List, [], ◌∷◌, Some}
-use Rattle.step_ways.proofs.Common.{None, refl, sym, ◌∙◌, ap, not, All, All-head, All-tail, CountAt, same_word-other, Acquired, Due}
+use Rattle.step_ways.proofs.Common.{None, refl, sym, ◌∙◌, ap, All, All-head, All-tail, CountAt, same_word-other, Acquired, Due}
 use Rattle.step_ways.proofs.Common.{count_of, holds_counts, AreDuesApart, due_of}
 
 -- What stands in a list after those before it.

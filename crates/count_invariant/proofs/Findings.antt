@@ -1,8 +1,9 @@
 -- What a look-up that has arrived has found: the name of a call, or the place of its target.
-use Rattle.step_ways.proofs.Common.{Want, ◌≡◌, ℕ, ◌%◌, ◌&&◌, ◌||◌, ◌++◌, ◌∷◌, [], Bool, true, false, not, nat_le, if◌then◌else◌, Option, Some}
+use Rattle.step_ways.proofs.Common.{Want, ◌≡◌, ℕ, ◌%◌, ◌&&◌, ◌||◌, ◌++◌, ◌∷◌, [], Bool, true, false, not, nat_le, if◌then◌else◌, Option}
+use Rattle.step_ways.proofs.Common.{Some}
 use Rattle.step_ways.proofs.Common.{None, refl, sym, ◌∙◌, ap, subst, IsTrue, IsSome, IsSomeAnd, is_some, option_to_list, leb-false}
-use Rattle.step_ways.proofs.Common.{lt-ltb, All-nil, All-cons, All-append, Capability, Setting, Kind, EntryFits, Held, EntryAt, LoadOf}
-use Rattle.step_ways.proofs.Common.{word_of, Holds, PlaceOf, State, comp_of, Slot, Named, found, Target, Under, InRoot, place_at, held_in}
+use Rattle.step_ways.proofs.Common.{lt-ltb, All-nil, All-cons, All-append, Capability, Setting, EntryFits, Held, EntryAt, LoadOf}
+use Rattle.step_ways.proofs.Common.{word_of, Holds, PlaceOf, State, comp_of, Slot, Named, found, Target, Under, place_at, held_in}
 use Rattle.step_ways.proofs.Common.{usable_in, usable, reached, has_no_slot, own, Refused, Found, and_then, or_refuse, named, Step, Trace}
 use Rattle.step_ways.proofs.Common.{state_after, own_left, root_passed, way_to, HasReached, HasFound, own_in, own_kept, holds_link}
 use Rattle.step_ways.proofs.Common.{linked, root_slot, slot_in, Word, has_rights, Lacks, ReachesLacking, with_rights}
@@ -65,7 +66,8 @@ pub named_of : (s : State) (c n : ℕ) (wanted : Want) (at : Slot) (k : Capabili
 named_of s c n wanted at k r u w h =
     ap (λ x. and_then (or_refuse x reply.NoSlot) λ at. and_then (or_refuse (usable s c at) reply.Empty) λ k. of_kind wanted k) r
     ∙ ap (λ x. and_then (or_refuse x reply.Empty) λ k. of_kind wanted k) u
-    ∙ ap (λ b. if b then with_rights wanted.needs k else Refused reply.WrongCap) w ∙ ap (λ b. if b then Found k else Refused reply.NoRight) h
+    ∙ ap (λ b. if b then with_rights wanted.needs k else Refused reply.WrongCap) w
+    ∙ ap (λ b. if b then Found k else Refused reply.NoRight) h
 
 -- And refused where it reaches no slot, may use nothing there, or a capability of another kind, or one that lacks a right.
 pub named_no_slot : (s : State) (c n : ℕ) (wanted : Want) → reached s c (own s c n) ≡ None
@@ -93,7 +95,8 @@ pub named_lacking : (s : State) (c n : ℕ) (wanted : Want) (at : Slot) (k : Cap
 named_lacking s c n wanted at k r u w h =
     ap (λ x. and_then (or_refuse x reply.NoSlot) λ at. and_then (or_refuse (usable s c at) reply.Empty) λ k. of_kind wanted k) r
     ∙ ap (λ x. and_then (or_refuse x reply.Empty) λ k. of_kind wanted k) u
-    ∙ ap (λ b. if b then with_rights wanted.needs k else Refused reply.WrongCap) w ∙ ap (λ b. if b then Found k else Refused reply.NoRight) h
+    ∙ ap (λ b. if b then with_rights wanted.needs k else Refused reply.WrongCap) w
+    ∙ ap (λ b. if b then Found k else Refused reply.NoRight) h
 
 -- A number past its range reaches no slot.
 pub past_unreached : (s : State) (c : ℕ) (table : Named) (n : ℕ) → nat_le n 4095 ≡ false → reached s c (Under table n) ≡ None

@@ -2,7 +2,8 @@
 -- maps, its
 -- argument.
 use Rattle.step_ways.proofs.Common.{◌≡◌, ℕ, Bool, true, false, if◌then◌else◌, List, [], ◌∷◌, Option, Some, None, refl, ◌∙◌, ap}
-use Rattle.step_ways.proofs.Common.{Capability, Kind, Grow, Map, State, found, to_use, only, has_frame, named_by, is_one_of, frames_near, Second}
+use Rattle.step_ways.proofs.Common.{Capability, Kind, Grow, Map, State, found, to_use, only, has_frame, named_by, is_one_of, frames_near}
+use Rattle.step_ways.proofs.Common.{Second}
 use Rattle.step_ways.proofs.Common.{at_place, plan_for, Leads, LeadsIn, PageFlags, page_cap}
 use Rattle.plan_ways.specs.spk_nums.specs.declared.kinds.Kind.TheVariants as kind
 use Rattle.plan_ways.specs.kernel_rules.specs.Start.{plain_cap}

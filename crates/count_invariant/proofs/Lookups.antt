@@ -1,7 +1,7 @@
 -- A step of a look-up is good, whatever the call looks for: it goes on to the leaf, is refused, or arrives at the place.
 use Rattle.step_ways.proofs.Common.{◌≡◌, ◌⊎◌, inl, inr, ℕ, ◌<◌, ◌≤◌, ◌/◌, ◌%◌, ◌&&◌, ◌||◌, ◌==◌, ◌++◌, ◌∷◌, List, [], map, Bool, true}
 use Rattle.step_ways.proofs.Common.{false, not, nat_le, nat_lt, if◌then◌else◌, Option, Some, None, arith, refl, sym, ◌∙◌, ap, subst}
-use Rattle.step_ways.proofs.Common.{IsTrue, IsSome, option_to_list, list_any, le-leb, eq-eqb, All-nil, All-cons, Capability, Setting}
+use Rattle.step_ways.proofs.Common.{IsTrue, IsSome, option_to_list, le-leb, eq-eqb, All-nil, All-cons, Capability, Setting}
 use Rattle.step_ways.proofs.Common.{IsSetting, Call, Kind, Entry, Held, Closing, EntryFits, entry_of_word, EntryAt, LoadOf, word_of}
 use Rattle.step_ways.proofs.Common.{Place, Holds, PlaceOf, State, Slot, Named, Target, Under, InRoot, place_at, only, usable_in, usable}
 use Rattle.step_ways.proofs.Common.{linked, slot_in, root_slot, reached, holds_link, has_no_slot, RuleMay, Refused, rule_of, change_of}

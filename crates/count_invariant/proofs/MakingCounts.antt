@@ -1,7 +1,8 @@
 -- The counts and the frame of a call that makes an object, and what it has still to store where it is refused.
-use Rattle.step_ways.proofs.Common.{Want, to_use, ◌≡◌, Bool, true, false, Option, Some, None, ◌∙◌, refl, ℕ, ◌<◌, ◌^◌, ◌==◌, sym, [], ◌∷◌, ◌++◌, ap}
+use Rattle.step_ways.proofs.Common.{Want, to_use, ◌≡◌, Bool, true, false, Option, Some, None, ◌∙◌, refl, ℕ, ◌<◌, ◌^◌, ◌==◌, sym, [], ◌∷◌}
+use Rattle.step_ways.proofs.Common.{◌++◌, ap}
 use Rattle.step_ways.proofs.Common.{subst, IsTrue, ◌||◌, map, eqb-true, eq-eqb, false≢true, Capability, Setting, Call, Make, Kind, only}
-use Rattle.step_ways.proofs.Common.{own, reached, usable, Found, Refused, named, and_then, or_refuse, only_is, frame_of_word, rule_of}
+use Rattle.step_ways.proofs.Common.{own, reached, usable, Found, named, and_then, or_refuse, only_is, frame_of_word, rule_of}
 use Rattle.step_ways.proofs.Common.{named_by, State, counts_references, changes_frames, frames_near, is_one_of, frames_named}
 use Rattle.step_ways.proofs.Common.{frame_at_slot, frame_argument, frame_mark, Trace, target_of, at_place, plan_for, Leads, LeadsIn}
 use Rattle.step_ways.proofs.Common.{Acquired, made_dues, object_dues, object_made, Making, MakingAt, Mark, Store, NewObject, Due}

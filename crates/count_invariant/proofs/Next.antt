@@ -1,5 +1,5 @@
 -- What comes next of a call that goes by its plan, where its names have led to some capabilities.
-use Rattle.step_ways.proofs.Common.{◌≡◌, ℕ, Bool, true, IsTrue, List, [], ◌∷◌, Option, Some, None, refl, sym, ◌∙◌, ap, subst, Capability}
+use Rattle.step_ways.proofs.Common.{◌≡◌, ℕ, true, IsTrue, List, [], ◌∷◌, Option, Some, None, refl, sym, ◌∙◌, ap, subst, Capability}
 use Rattle.step_ways.proofs.Common.{Setting, IsSetting, Kind, Call, State, Slot, Named, usable, Relies, Trace, Open, phase, state_after}
 use Rattle.step_ways.proofs.Common.{IsLegal, Name, Spot, Plan, at_place, wants, with_found, names_after, Leads, NextName, next_of}
 use Rattle.std.proofs.Common.{IsSomeAnd}

@@ -1,14 +1,12 @@
 -- What a call puts at its target is counted: the call changes references, and the frame that it names there is near it.
-use Rattle.step_ways.proofs.Common.{◌≡◌, ◌≢◌, ℕ, suc, ℤ, pos, negsuc, ◌+◌, ◌++◌, ◌==◌, ◌^◌, ◌<◌, ◌≤◌, map, slice_get, length, Bool, true}
-use Rattle.step_ways.proofs.Common.{false, if◌then◌else◌, nat_le, cond, List, [], ◌∷◌, Option, Some, None, IsTrue, inl, inr, arith, refl}
-use Rattle.step_ways.proofs.Common.{sym, ◌∙◌, ap, subst, not, All, is_some, false≢true, eq-eqb, eqb-true, eqb-false, All-nil, All-cons}
-use Rattle.step_ways.proofs.Common.{All-head, All-tail, All-append, Capability, cap_of, Call, Copy, Remove, Shrink, Unmap, Retype, Tick, Gate}
+use Rattle.step_ways.proofs.Common.{◌≡◌, ◌≢◌, ℕ, ℤ, ◌+◌, ◌++◌, ◌==◌, ◌^◌, ◌<◌, ◌≤◌, Bool, true}
+use Rattle.step_ways.proofs.Common.{false, if◌then◌else◌, nat_le, List, [], ◌∷◌, Option, Some, None, IsTrue, refl}
+use Rattle.step_ways.proofs.Common.{sym, ◌∙◌, ap, subst}
+use Rattle.step_ways.proofs.Common.{Capability, cap_of, Call, Copy, Remove, Shrink, Unmap, Retype, Tick, Gate}
 use Rattle.step_ways.proofs.Common.{Kill, Grow, Touch, Flush, Map, Ret, Transfer, Delegate, Test, Switch, State, named_by}
-use Rattle.step_ways.proofs.Common.{counts_references, is_one_of, frames_near, only, Found, Refused, only_is, name_parts, at_place}
-use Rattle.step_ways.proofs.Common.{same_word-other, own_read-here, own_read-there, last_left-there, First, Second, plan_for, Leads}
+use Rattle.step_ways.proofs.Common.{counts_references, is_one_of, frames_near, only, Found, only_is, name_parts, at_place}
+use Rattle.step_ways.proofs.Common.{First, Second, plan_for, Leads}
 use Rattle.step_ways.proofs.Common.{LeadsIn, put_by, to_use, Suits, suits}
-use Rattle.std.proofs.Common.{length-append}
-use Rattle.std.proofs.Common.{lt-ltb}
 use Rattle.plan_ways.specs.spk_nums.specs.declared.calls.Call.TheVariants.{Look, Make as make_call}
 use Rattle.plan_ways.specs.spk_nums.specs.declared.calls.Call.TheVariants.{Call as call_gate}
 use Rattle.plan_ways.specs.spk_nums.specs.Rights.{kept}

@@ -1,6 +1,6 @@
 -- The count, and the frames, of a call that enters a component or leaves one.
 use Rattle.step_ways.proofs.Common.{◌≡◌, refl, ℕ, ◌≤◌, Bool, true, false, sym, ◌∙◌, [], ◌∷◌, ◌++◌, length, ap, arith, subst, IsTrue, ◌||◌}
-use Rattle.step_ways.proofs.Common.{◌==◌, eq-eqb, Capability, Kind, Call, Ret, named_by, State, first_of_stack, thread_of, comp_of}
+use Rattle.step_ways.proofs.Common.{◌==◌, eq-eqb, Capability, Kind, Call, named_by, State, first_of_stack, thread_of, comp_of}
 use Rattle.step_ways.proofs.Common.{counts_references, changes_threads, frames_own, frames_near, is_one_of, First, at_place, plan_for}
 use Rattle.step_ways.proofs.Common.{Leads, LeadsIn, Invoking, InvokingAt, ReturningAt, Due, invoking_dues, returning_dues, InvokesBy}
 use Rattle.step_ways.proofs.Common.{below_of}

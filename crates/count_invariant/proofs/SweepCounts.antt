@@ -1,16 +1,16 @@
 -- The counts that a call acquires which makes a frame untyped: of the frames that its object names itself. None of them is the frame, since
 -- nothing refers to that; and they are near the call.
-use Rattle.step_ways.proofs.Common.{◌^◌, ◌≡◌, ◌≢◌, ◌⊎◌, inl, inr, ℕ, ℤ, negsuc, ◌<◌, ◌≤◌, ◌+◌, ◌++◌, ◌||◌, ◌==◌, map, cond, Bool, true}
+use Rattle.step_ways.proofs.Common.{◌^◌, ◌≡◌, ◌≢◌, ◌⊎◌, ℕ, ℤ, negsuc, ◌<◌, ◌≤◌, ◌+◌, ◌++◌, ◌||◌, ◌==◌, map, cond, Bool, true}
 use Rattle.step_ways.proofs.Common.{false, IsTrue, List, [], ◌∷◌, Option, Some, None, arith, refl, sym, ◌∙◌, ap, subst, All, flat_map}
 use Rattle.step_ways.proofs.Common.{eq-eqb, eqb-true, false≢true, All-nil, All-cons, Capability, Setting, IsSetting, Call, Retype, Word}
 use Rattle.step_ways.proofs.Common.{CountAt, State, frame_names, times, refs, rule_of, times_cons, counts_references, changes_frames}
-use Rattle.step_ways.proofs.Common.{frame_mark, IsNearIn, is_one_of, frames_named, frame_at_slot, frame_argument, frames_own, frames_near}
-use Rattle.step_ways.proofs.Common.{marked_by, Step, Trace, state_after, last_left, wide_ways, target_of, Acquired, Pin, thaw_of, Swept}
+use Rattle.step_ways.proofs.Common.{frame_mark, IsNearIn, is_one_of, frames_named, frame_at_slot, frame_argument, frames_own}
+use Rattle.step_ways.proofs.Common.{Trace, state_after, last_left, wide_ways, target_of, Acquired, Pin, thaw_of, Swept}
 use Rattle.step_ways.proofs.Common.{dues, undo, released_dues, release_of, untyping_dues, UntypingAt, Untyping, Due, Acquire, StageFits}
 use Rattle.step_ways.proofs.Common.{ActiveCall, Undecided, Core, holds_release, holds_untyping, Holding, holds_counts, settled}
-use Rattle.step_ways.proofs.Common.{settled_by, KnowsTail, KnowsUnmark, KnowsUndecided, due_of, Invariant, held_by, holds_act, holds_at}
+use Rattle.step_ways.proofs.Common.{settled_by, KnowsTail, KnowsUnmark, KnowsUndecided, due_of, Invariant, held_by, holds_at}
 use Rattle.step_ways.proofs.Common.{holds_in, KnowsSwept, KnowsUntyping, KnowsUntypingAt, UntypesBy, ThawsFrame, names_of, thaws_own}
-use Rattle.step_ways.proofs.Common.{limits_of, HoldsSwept, release_swept}
+use Rattle.step_ways.proofs.Common.{limits_of, release_swept}
 use Rattle.plan_ways.specs.spk_nums.specs.declared.kinds.FrameKind.TheVariants as frame_kind
 use Rattle.plan_ways.specs.kernel_invariant.proofs.SoundRemovals.{unnamed}
 use Rattle.plan_ways.specs.frame_words.proofs.FrameLemmas as frames

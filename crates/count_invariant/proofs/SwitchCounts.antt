@@ -4,7 +4,7 @@ use Rattle.step_ways.proofs.Common.{subst, IsTrue, ◌||◌, ◌==◌, arith, eq
 use Rattle.step_ways.proofs.Common.{Kind, Call, Switch, to_use, only, EntryAt, rule_of, counted, named_by, frame_names, IsGuarded, State}
 use Rattle.step_ways.proofs.Common.{thread_of, comp_of, only_is, core_same_refs, counts_references, changes_threads, IsNearIn}
 use Rattle.step_ways.proofs.Common.{frames_near, frames_own, is_one_of, Step, Trace, Open, Out, WasAt, phase, state_after, wide_ways}
-use Rattle.step_ways.proofs.Common.{was_now, was_stays, Acquired, AtStack, First, Second, at_place, plan_for, Leads, LeadsIn, tcap_dues}
+use Rattle.step_ways.proofs.Common.{was_now, was_stays, Acquired, AtStack, First, Second, plan_for, Leads, LeadsIn, tcap_dues}
 use Rattle.step_ways.proofs.Common.{Switching, SwitchAt, LoadTable, Due, KnowsTail, HasThread, SwitchesBy, claimed_by}
 use Rattle.std.specs.Prelude.{List, pos, negsuc}
 use Rattle.plan_ways.specs.spk_nums.specs.declared.kinds.Kind.TheVariants as kind

@@ -1,6 +1,7 @@
 -- The entry of a call is good: its calls are spent, its first name has no slot, or it looks that name up.
-use Rattle.work_invariant.proofs.Common.{Want, ◌≡◌, ℕ, ◌+◌, ◌<◌, ◌≤◌, [], ◌∷◌, Bool, true, false, nat_le, length, Some, None, arith, refl, sym}
-use Rattle.work_invariant.proofs.Common.{◌∙◌, ap, subst, inl, if◌then◌else◌, leb-true, leb-false, lt-ltb, Setting, IsSetting, Kind, Call}
+use Rattle.work_invariant.proofs.Common.{Want, ◌≡◌, ℕ, ◌+◌, ◌<◌, ◌≤◌, [], ◌∷◌, Bool, true, false, nat_le, length, Some, None, arith, refl}
+use Rattle.work_invariant.proofs.Common.{sym}
+use Rattle.work_invariant.proofs.Common.{◌∙◌, ap, subst, inl, if◌then◌else◌, leb-true, leb-false, lt-ltb, Setting, IsSetting, Call}
 use Rattle.work_invariant.proofs.Common.{Copy, Remove, Shrink, Unmap, Retype, Tick, Gate, Kill, Grow, Touch, Flush, Map, Ret, Transfer}
 use Rattle.work_invariant.proofs.Common.{Delegate, Test, Switch, CoreAt, StoreOf, State, comp_of, first_of_stack, thread_in, thread_of}
 use Rattle.work_invariant.proofs.Common.{root_at, Under, translation_of, Relies, RuleMay, Refused, unless, first_of, rule_of, change_of}

@@ -47,9 +47,10 @@ use Rattle.time_laws.specs.flight.specs.Made as made_of
 use Rattle.time_laws.specs.flight.proofs.Made.{made_stands}
 use Rattle.flight_laws.specs.Counts.{Untypes}
 use Rattle.flight_laws.proofs.CountSteps as steps
-use Rattle.flight_laws.proofs.CountSteps.{Acquiring, Takes}
+use Rattle.flight_laws.proofs.CountSteps.{Acquiring}
 use Rattle.flight_laws.proofs.CountHolds.{kept, no_entry, no_return, pinned_say, raw_other}
-use Rattle.flight_laws.proofs.HeldCounts.{HoldsStill, IsAmong, NotBack, NotCommitted, NotFirst, NotOk, among_last, count_settles, stage_holds}
+use Rattle.flight_laws.proofs.HeldCounts.{HoldsStill, IsAmong, NotBack, NotCommitted, NotFirst, NotOk, among_last, count_settles}
+use Rattle.flight_laws.proofs.HeldCounts.{stage_holds}
 
 none_some : (d : ℕ) → None ≡ Some d → ⊥
 none_some d h = cc
@@ -155,7 +156,8 @@ module _ (setup : Setting) (setting : IsSetting setup) (f k : ℕ) (t : Trace) (
         last_left-here setup (CountAt f k) e t on ∙ ap (λ m. left_of m e.found) move in
         none_some e.core (sym none ∙ sym (ap (λ (i : ℕ). count_mark (count_of_word i)) left) ∙ mark)
 
-    first_other : (r : Reply) (drawn : Option ℕ) (tail : Tail) → a.stage ≡ Decided r drawn tail → KnowsTail setup t e.core a.call a.counts tail
+    first_other : (r : Reply) (drawn : Option ℕ) (tail : Tail) → a.stage ≡ Decided r drawn tail
+        → KnowsTail setup t e.core a.call a.counts tail
         → (xs : List Acquired) → a.counts ≡ xs → NotFirst own a x among tail xs
     first_other r drawn tail is knows [] all = tt
     first_other r drawn Nothing is knows (y ∷ ys) all = λ commit same. stored y _ (moved Nothing refl)
@@ -210,7 +212,8 @@ module _ (setup : Setting) (setting : IsSetting setup) (f k : ℕ) (t : Trace) (
     taken : HasCount now f k (acquired e.core count stamp)
     taken = subst (λ o. HasCount o f k (acquired e.core count stamp)) (sym (active_now setup setting t e made entry takes.a takes.active
         ∙ ap (λ s. (core_after own (took_at own takes.a s (found setup setting t e made entry))).active) takes.stage
-        ∙ ap (λ (n : ℕ). (core_after own (took_at own takes.a (Undecided (Acquire (AtCompare f k count stamp) takes.change takes.act)) n)).active)
+        ∙ ap (λ (n : ℕ). (core_after own (took_at own takes.a (Undecided (Acquire (AtCompare f k count stamp)
+        takes.change takes.act)) n)).active)
         found_is)) (by (word_of_count (unheld count stamp) == word_of_count (unheld count stamp)) (eq-eqb _ _ refl))
       where
         pushed_is : pushed takes.a.counts new ≡ takes.a.counts ++ new ∷ []

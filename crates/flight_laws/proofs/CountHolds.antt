@@ -103,7 +103,8 @@ module _ (setup : Setting) (setting : IsSetting setup) (f k : ℕ) (t : Trace) (
     taken_count : (o : Option CountWord) (count : ℤ) (stamp : ℕ) (call : Call)
         → ((o ≡ Some (acquired e.core count stamp))
         × IsOwnCount (cores_after setup t e.core).active call e.core f k count stamp)
-        ⊎ ((o ≡ Some (frozen e.core count stamp)) × IsSweptCount (cores_after setup t e.core).active call f k count stamp) → count_in o ≡ count
+        ⊎ ((o ≡ Some (frozen e.core count stamp)) × IsSweptCount (cores_after setup t e.core).active call f k count stamp)
+        → count_in o ≡ count
     taken_count o count stamp call (inl is) = ap count_in is.0
     taken_count o count stamp call (inr is) = ap count_in is.0
 
@@ -175,7 +176,8 @@ module _ (setup : Setting) (setting : IsSetting setup) (f k d : ℕ) (v : CountW
       apart h = cc
 
   module _ (u : Trace) (e : Step) (made : IsMade setup (e ∷ u)) (shows : Shows (e ∷ u)) (rest : Shows u → Untypes f (phase u d)) where
-    taken : Takes u (cores_after setup u e.core).active e.core f k (last_left setup u (CountAt f k)) (last_left setup (e ∷ u) (CountAt f k)) → Untypes f (phase u e.core)
+    taken : Takes u (cores_after setup u e.core).active e.core f k (last_left setup u (CountAt f k))
+        (last_left setup (e ∷ u) (CountAt f k)) → Untypes f (phase u e.core)
     taken takes = elim takes.left [
       | inl is ↦ absurd (not_pinned e.core takes.count takes.stamp (sym shows ∙ is.0))
       | inr is ↦ record { range = is.1.untypes.range; is = ap call_in takes.is_open ∙ ap (λ (x : Call). Some x) is.1.untypes.is }
@@ -235,7 +237,8 @@ module _ (setup : Setting) (setting : IsSetting setup) (f k d : ℕ) (v : CountW
 
   module _ (u : Trace) (e : Step) (made : IsMade setup (e ∷ u)) (shows : ShowsSo (e ∷ u))
       (rest : ShowsSo u → SparesOwn f k d (phase u d)) where
-    taken_own : Takes u (cores_after setup u e.core).active e.core f k (last_left setup u (CountAt f k)) (last_left setup (e ∷ u) (CountAt f k))
+    taken_own : Takes u (cores_after setup u e.core).active e.core f k (last_left setup u (CountAt f k))
+        (last_left setup (e ∷ u) (CountAt f k))
         → SparesOwn f k e.core (phase u e.core)
     taken_own takes = elim takes.left [
       | inl is ↦ record {

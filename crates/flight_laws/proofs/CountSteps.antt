@@ -342,12 +342,18 @@ module _ (setup : Setting) (setting : IsSetting setup) (cores : ℕ → Core) (t
   spares_frame (untype_act m) is has by = swept_none m m.at has.knows.starts has.knows.knows.at
       (sweep_spares setup setting cores t stands c here a active pin change m is has) (pin_frame pin) refl
       (same_untyping a.call m.frame (pin_frame pin) (untypes_frame a.call a.found m has.knows.knows.untypes) by)
-  spares_frame (type_act y) is has by = none_due (map due_of a.counts) (record { frame = pin_frame pin; change = change }) has.knows.rest has.knows.due
-  spares_frame (Outside node entry word) is has by = none_due (map due_of a.counts) (record { frame = pin_frame pin; change = change }) has.knows.rest has.knows.due
-  spares_frame (tick_act charge) is has by = none_due (map due_of a.counts) (record { frame = pin_frame pin; change = change }) has.knows.rest has.knows.due
-  spares_frame (touch_act m) is has by = none_due (map due_of a.counts) (record { frame = pin_frame pin; change = change }) has.knows.rest has.knows.due
-  spares_frame (flush_act core) is has by = none_due (map due_of a.counts) (record { frame = pin_frame pin; change = change }) has.knows.rest has.knows.due
-  spares_frame (share_act p) is has by = none_due (map due_of a.counts) (record { frame = pin_frame pin; change = change }) has.knows.rest has.knows.due
+  spares_frame (type_act y) is has by =
+      none_due (map due_of a.counts) (record { frame = pin_frame pin; change = change }) has.knows.rest has.knows.due
+  spares_frame (Outside node entry word) is has by =
+      none_due (map due_of a.counts) (record { frame = pin_frame pin; change = change }) has.knows.rest has.knows.due
+  spares_frame (tick_act charge) is has by =
+      none_due (map due_of a.counts) (record { frame = pin_frame pin; change = change }) has.knows.rest has.knows.due
+  spares_frame (touch_act m) is has by =
+      none_due (map due_of a.counts) (record { frame = pin_frame pin; change = change }) has.knows.rest has.knows.due
+  spares_frame (flush_act core) is has by =
+      none_due (map due_of a.counts) (record { frame = pin_frame pin; change = change }) has.knows.rest has.knows.due
+  spares_frame (share_act p) is has by =
+      none_due (map due_of a.counts) (record { frame = pin_frame pin; change = change }) has.knows.rest has.knows.due
 
 module _ (setup : Setting) (setting : IsSetting setup) (cores : ℕ → Core) (t : Trace) (stands : Invariant setup cores t) (c : ℕ)
     (here : c < setup.cores) (f k : ℕ) where
@@ -605,14 +611,16 @@ module _ (setup : Setting) (setting : IsSetting setup) (t : Trace) (e : Step) (m
   count_step at =
       subst (λ (n : ℕ). LeavesCount t core.active e.core f k (last_left setup t (CountAt f k)) (left_of e.move n))
       (sym (made.1.found ∙ ap (last_left setup t) at))
-      (subst (λ (m : Move). LeavesCount t core.active e.core f k (last_left setup t (CountAt f k)) (left_of m (last_left setup t (CountAt f k))))
+      (subst (λ (m : Move). LeavesCount t core.active e.core f k (last_left setup t (CountAt f k))
+      (left_of m (last_left setup t (CountAt f k))))
       (sym move_is) (by e.enters made.1.may (ap word_of (sym move_is) ∙ at)))
     where
       move_is : e.move ≡ move_of (stepping_core setup t e)
       move_is = ap (λ (x : Step). x.move) made.1.made
 
       by : (o : Option Call) → MayStep o core → word_of (move_of (turned o core)) ≡ CountAt f k
-          → LeavesCount t core.active e.core f k (last_left setup t (CountAt f k)) (left_of (move_of (turned o core)) (last_left setup t (CountAt f k)))
+          → LeavesCount t core.active e.core f k (last_left setup t (CountAt f k))
+          (left_of (move_of (turned o core)) (last_left setup t (CountAt f k)))
       by None may word =
           call_leaves setup setting (cores_after setup t) t stands e.core made.1.is_core f k core.active refl may
           (stands.each e.core made.1.is_core).active word

@@ -32,7 +32,8 @@ use Rattle.flight_laws.specs.Counts.{changed_by, is_carried_out, count_then, sum
 use Rattle.flight_laws.proofs.CountHolds.{before_is, entered_is, frozen_say, held_before, kept, phase_is, raw_other}
 use Rattle.flight_laws.proofs.AcquiredCounts.{count_stays, decides_told, entry, has_count, settles_to, told}
 use Rattle.flight_laws.proofs.FrozenCounts.{cleared_if}
-use Rattle.flight_laws.proofs.SettledCounts.{cleared_is, closed_shows, count_changes, free_shows, not_ok, pinned_shows, settled_shows, shows}
+use Rattle.flight_laws.proofs.SettledCounts.{cleared_is, closed_shows, count_changes, free_shows, not_ok, pinned_shows, settled_shows}
+use Rattle.flight_laws.proofs.SettledCounts.{shows}
 
 same_some : {A : Type 0} (x y : A) → Some x ≡ Some y → x ≡ y
 same_some x y h = cc
@@ -106,7 +107,8 @@ module _ (setup : Setting) (setting : IsSetting setup) (f k : ℕ) (t : Trace) (
   pub settled_open : (call : Call) → p ≡ Open call → settled_shows setup setting f t k ≡ Some (unheld v.count v.stamp)
   settled_open call is_open = elim (kept setup setting f k t e made mark_now) [
     | inl same ↦
-        pinned_shows setup setting f t made.0 k e.core v (ap count_of_word (sym same) ∙ is) pinned made.1.is_core (ap is_carried_out is_open)
+        pinned_shows setup setting f t made.0 k e.core v (ap count_of_word (sym same) ∙ is) pinned
+        made.1.is_core (ap is_carried_out is_open)
     | inr takes ↦
         free_shows setup setting f t k (ap count_mark takes.found) ∙ takes.found
         ∙ elim takes.left [
@@ -173,7 +175,8 @@ told_along setup setting f k d v pinned (e ∷ t) made is carried = elim (cases_
       ∙ told_along setup setting f k d v pinned t made.0 (showed setup setting f k d v pinned t e made is other)
       (sym (ap is_carried_out (phase-other d e t other)) ∙ carried)
       ∙ ap (λ z. v.count +ℤ z) (sym (ap (λ b. if b && is_some e.decides then
-      pos (refs (state_after setup (e ∷ t)) f) -ℤ pos (refs (state_before setup t e) f) else changed_by setup t d f) (ne_eqb d e.core other)))
+      pos (refs (state_after setup (e ∷ t)) f) -ℤ pos (refs (state_before setup t e) f) else changed_by setup t d f)
+      (ne_eqb d e.core other)))
 ]
 
 -- What a word will show is what it settles to.

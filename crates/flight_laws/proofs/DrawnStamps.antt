@@ -39,7 +39,8 @@ use Rattle.time_laws.specs.call_stages.specs.declared.stages.Stage.{Stage}
 use Rattle.time_laws.specs.call_stages.specs.declared.stages.Stage.TheVariants.{Enter, Undecided, Decided, Leave}
 use Rattle.time_laws.specs.call_stages.specs.declared.stages.ActiveCall.{ActiveCall}
 use Rattle.time_laws.specs.act_states.specs.declared.work.WorkStep.{WorkStep}
-use Rattle.time_laws.specs.act_states.specs.declared.work.WorkStep.TheVariants.{Goes, Acquires, Refuses as refuses_to, Answers, Changes as work_changes}
+use Rattle.time_laws.specs.act_states.specs.declared.work.WorkStep.TheVariants.{Goes, Acquires, Refuses as refuses_to, Answers}
+use Rattle.time_laws.specs.act_states.specs.declared.work.WorkStep.TheVariants.{Changes as work_changes}
 use Rattle.time_laws.specs.act_states.specs.Fills.{filled_if}
 use Rattle.time_laws.specs.act_states.specs.Acts.{took_act, act_ready}
 use Rattle.time_laws.specs.act_states.specs.Acts.{published, took_making_at}
@@ -57,7 +58,8 @@ use Rattle.time_laws.specs.frame_words.specs.declared.live_word.LiveWord.{LiveWo
 use Rattle.time_laws.specs.frame_words.specs.declared.live_word.LiveWord.TheVariants as live
 use Rattle.time_laws.specs.act_states.specs.declared.kills.Killing.{Killing}
 use Rattle.time_laws.specs.act_states.specs.declared.kills.KillingAt.{KillingAt}
-use Rattle.time_laws.specs.act_states.specs.declared.kills.KillingAt.TheVariants.{LoadComp, LoadLive, Close as kill_close, Draw as kill_draw}
+use Rattle.time_laws.specs.act_states.specs.declared.kills.KillingAt.TheVariants.{LoadComp, LoadLive, Close as kill_close}
+use Rattle.time_laws.specs.act_states.specs.declared.kills.KillingAt.TheVariants.{Draw as kill_draw}
 use Rattle.time_laws.specs.act_states.specs.Kills.{is_killing}
 use Rattle.time_laws.specs.word_map.specs.Places.{Shape}
 use Rattle.time_laws.specs.act_states.specs.declared.untypings.Untyping.{Untyping}

@@ -26,7 +26,8 @@ use Rattle.time_laws.specs.stage_pins.specs.Counts.{acquired, unheld}
 use Rattle.time_laws.specs.stage_pins.specs.declared.held.Acquired.{Acquired}
 use Rattle.time_laws.specs.stage_pins.specs.declared.pin.Pin.{Pin}
 use Rattle.time_laws.specs.stage_pins.specs.declared.pin.Pinned.{Pinned}
-use Rattle.time_laws.specs.stage_sweep.specs.Freeze.{at_after, end_by, frozen, frozen_at, frozen_if, kept_with, owned_at, sweep_kept, sweep_next}
+use Rattle.time_laws.specs.stage_sweep.specs.Freeze.{at_after, end_by, frozen, frozen_at, frozen_if, kept_with, owned_at, sweep_kept}
+use Rattle.time_laws.specs.stage_sweep.specs.Freeze.{sweep_next}
 use Rattle.time_laws.specs.stage_sweep.specs.Freeze.{move_at, sweep_refuses, swept_of}
 use Rattle.time_laws.specs.stage_sweep.specs.Release.{ThawFits, more_end, released, thaw_of}
 use Rattle.time_laws.specs.stage_sweep.specs.declared.sweep.Sweep.{Sweep}
@@ -36,7 +37,7 @@ use Rattle.time_laws.specs.stage_sweep.specs.declared.thaw.Thaw.{Thaw}
 use Rattle.time_laws.specs.act_states.specs.Acts.{acquires, dues, next_work, took_untyping_at}
 use Rattle.time_laws.specs.act_states.specs.Refusals.{refusal_of, reply_of}
 use Rattle.time_laws.specs.act_states.specs.Taking.{took_sweep}
-use Rattle.time_laws.specs.act_states.specs.Untypings.{release_after, release_of, thaw_left_by, untyping_undo}
+use Rattle.time_laws.specs.act_states.specs.Untypings.{release_of, thaw_left_by, untyping_undo}
 use Rattle.time_laws.specs.act_states.specs.declared.own.Own.{Own}
 use Rattle.time_laws.specs.act_states.specs.declared.refusals.Refusal.{Refusal}
 use Rattle.time_laws.specs.act_states.specs.declared.refusals.Refusal.TheVariants as refusal
@@ -60,7 +61,7 @@ use Rattle.time_laws.specs.call_stages.specs.declared.stages.Stage.TheVariants.{
 use Rattle.time_laws.specs.call_stages.specs.View.{Core}
 use Rattle.time_laws.specs.core_invariant.specs.Frozen.{holds_thaw}
 use Rattle.time_laws.specs.core_invariant.specs.Holding.{Holding, holds_counts, settled, settled_by}
-use Rattle.time_laws.specs.core_invariant.specs.Invariant.{Invariant, held_by, holds_at, holds_in, holds_stage, is_done}
+use Rattle.time_laws.specs.core_invariant.specs.Invariant.{Invariant, held_by, holds_in, holds_stage, is_done}
 use Rattle.time_laws.specs.core_invariant.specs.Knows.{phase_at}
 use Rattle.time_laws.specs.core_invariant.proofs.Freezing.{thaw_here}
 use Rattle.time_laws.specs.kept_facts.proofs.FrozenSums.{got_before, got_last}
@@ -70,7 +71,7 @@ use Rattle.time_laws.specs.flight.specs.Made as made_of
 use Rattle.time_laws.specs.flight.proofs.Made.{made_stands}
 use Rattle.flight_laws.specs.Counts.{is_carried_out}
 use Rattle.flight_laws.proofs.CountSteps as steps
-use Rattle.flight_laws.proofs.CountSteps.{Freezing, Takes}
+use Rattle.flight_laws.proofs.CountSteps.{Freezing}
 use Rattle.flight_laws.proofs.CountHolds.{kept, no_entry, raw_other}
 use Rattle.flight_laws.proofs.AcquiredCounts.{active_now, found as word_told, move_now, move_stage}
 
@@ -129,7 +130,8 @@ thaw_has w clear f k v same got = by (length w.words == 0) refl
   where
     by : (none : Bool) → (length w.words == 0) ≡ none
         → ThawHas clear (if none then None else Some (record { frame = w.frame; words = w.words; clear = clear; at = 0 })) f k v
-    by true is = absurd (let below = slice_get_within w.words k _ got in let zero = eqb-true (length w.words) 0 is in omega (arith, below, zero))
+    by true is =
+        absurd (let below = slice_get_within w.words k _ got in let zero = eqb-true (length w.words) 0 is in omega (arith, below, zero))
     by false is = record { frame = same; from = omega arith; got = got; clear = refl }
 
 -- What is stored there.
@@ -331,8 +333,8 @@ module _ (setup : Setting) (setting : IsSetting setup) (f k : ℕ) (t : Trace) (
         ap (λ (g : ℕ). CountAt g k) (sym has.frame) ∙ ap (CountAt th.frame) same ∙ sym (ap word_of move) in
         let left : last_left setup (e ∷ t) (CountAt f k) ≡ word_of_count (released th.clear (slice_get th.words th.at)) =
         last_left-here setup (CountAt f k) e t on ∙ ap (λ m. left_of m e.found) move in
-        none_some e.core (sym (steps.thaw_unheld setup setting (cores_after setup t) t before e.core made.1.is_core f k a active r drawn y th
-        thaw is fits) ∙ sym (ap (λ (i : ℕ). count_mark (count_of_word i)) left) ∙ mark)
+        none_some e.core (sym (steps.thaw_unheld setup setting (cores_after setup t) t before e.core made.1.is_core f k a active r drawn y
+        th thaw is fits) ∙ sym (ap (λ (i : ℕ). count_mark (count_of_word i)) left) ∙ mark)
 
     not_stored : (stage : Stage) → a.stage ≡ stage → StageHas stage f k v → StageFits its_own.layout stage → (xs : List Acquired)
         → a.counts ≡ xs → NotStored its_own a f k v stage xs

@@ -251,7 +251,8 @@ module _ (own : Own) (a : ActiveCall) (x : Acquired) (among : IsAmong x a.counts
   NotCommitted (Decided r drawn tail) = NotFirst tail a.counts
   NotCommitted stage = Unit {0}
 
-  pub stage_holds : (stage : Stage) (found : ℕ) → CountsAt a.counts stage → NotCommitted stage → NotBack (told_by (took_at own a stage found))
+  pub stage_holds : (stage : Stage) (found : ℕ) → CountsAt a.counts stage → NotCommitted stage
+      → NotBack (told_by (took_at own a stage found))
       → HoldsStill (core_after own (took_at own a stage found)).active x (is_done stage) (told_by (took_at own a stage found))
   stage_holds Enter found counts first back = absurd (none_among counts)
   stage_holds (Undecided (Lookup look)) found counts first back = absurd (none_among counts)

@@ -236,7 +236,8 @@ module _ (setup : Setting) (setting : IsSetting setup) (f k : ℕ) (t : Trace) (
       by None free raw marks = free_shows setup setting f (e ∷ t) j free ∙ ap count_of_word raw
           ∙ sym (free_shows setup setting f t j (sym marks ∙ free))
       by (Some d) held raw marks =
-          ap (λ o. count_of_word (settled_by o (held_by (cores_after setup (e ∷ t))) (CountAt f j) (last_left setup (e ∷ t) (CountAt f j)))) held
+          ap (λ o. count_of_word (settled_by o (held_by (cores_after setup (e ∷ t))) (CountAt f j)
+          (last_left setup (e ∷ t) (CountAt f j)))) held
           ∙ ap (λ core. count_of_word ((holds core).stands (CountAt f j)))
           (put_other (cores_after setup t) e.core (core_after (stepping_core setup t e) e.found) d
           (λ same. other_holder j other (held ∙ ap (λ (n : ℕ). Some n) same)))

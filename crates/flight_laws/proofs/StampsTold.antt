@@ -25,7 +25,8 @@ use Rattle.time_laws.specs.kernel_rules.specs.State.{FrameOf, State}
 use Rattle.time_laws.specs.kernel_rules.specs.GracePeriods.{begun}
 use Rattle.time_laws.specs.kernel_rules.specs.References.{refs}
 use Rattle.time_laws.specs.kernel_rules.specs.Rules.{Change, Found, IsFoundAnd, Judged, Refused}
-use Rattle.time_laws.specs.kernel_rules.specs.CallRelation.{MayReply, begins, begins_in as begun_in, change_of, changed as change_made, counted}
+use Rattle.time_laws.specs.kernel_rules.specs.CallRelation.{MayReply, begins, begins_in as begun_in, change_of, changed as change_made}
+use Rattle.time_laws.specs.kernel_rules.specs.CallRelation.{counted}
 use Rattle.time_laws.specs.kernel_rules.specs.CallRelation.{state_by}
 use Rattle.time_laws.specs.kernel_rules.proofs.Changes.{IfFound}
 use Rattle.time_laws.specs.kernel_invariant.proofs.Edited.{found_by}
@@ -110,7 +111,8 @@ within_more (pos k) n m low within = omega (arith, low, within)
 within_more (negsuc k) n m low within = omega (arith, low, within)
 
 -- The stamp that is stored with a count that changes.
-later_small : (stamp : ℕ) (change : ℤ) (drawn : Option ℕ) → stamp < 2 ^ 28 → IsSmall drawn → later stamp (stamp_of_change change drawn) < 2 ^ 28
+later_small : (stamp : ℕ) (change : ℤ) (drawn : Option ℕ) → stamp < 2 ^ 28 → IsSmall drawn
+    → later stamp (stamp_of_change change drawn) < 2 ^ 28
 later_small stamp (pos n) drawn small fits = small
 later_small stamp (negsuc n) None small fits = small
 later_small stamp (negsuc n) (Some x) small fits = omega (arith, small, fits)
@@ -154,7 +156,8 @@ module _ (setup : Setting) (setting : IsSetting setup) (f k : ℕ) (t : Trace) (
   newest_was = stamp setup t (FrameOf f)
 
   k_below : k < setup.cores
-  k_below = let own = (pinned_say setup setting (e ∷ t) made f k e.core v is pinned).own in let here = made.1.is_core in omega (arith, own, here)
+  k_below =
+      let own = (pinned_say setup setting (e ∷ t) made f k e.core v is pinned).own in let here = made.1.is_core in omega (arith, own, here)
 
   stamp_most : (j : ℕ) → j < setup.cores → stamp_in (was j) ≤ newest_was
   stamp_most j below =
@@ -372,7 +375,8 @@ module _ (setup : Setting) (setting : IsSetting setup) (f k : ℕ) (t : Trace) (
       now_is : phase (e ∷ t) e.core ≡ after_decide e.decides p
       now_is = phase_now setup setting f k t e made v pinned is
 
-      by_reply : (r : Reply) → e.decides ≡ Some r → DecidesBy setup t e r (after_enter e.enters p) → is_carried_out (Decided (Retype 0 0 frame_kind.User) r) ≡ true
+      by_reply : (r : Reply) → e.decides ≡ Some r → DecidesBy setup t e r (after_enter e.enters p)
+          → is_carried_out (Decided (Retype 0 0 frame_kind.User) r) ≡ true
           → Dated (e ∷ t)
       by_reply (reply.Ok x) decides may ok = ok_dated x decides may
       by_reply r decides may ok = absurd (false≢true ok)
@@ -435,7 +439,8 @@ module _ (setup : Setting) (setting : IsSetting setup) (t : Trace) (made : IsMad
       frozen_by d hold b carried = cleared_by b ∙ sym (ap stamp_in (closed_shows setup setting f t made k d v is hold
           ∙ ap (λ c. Some (cleared_if c v)) carried))
         where
-          cleared_by : (c : Bool) → (if c then 0 else (if c then max v.stamp (drawn_by setup t d f) else v.stamp)) ≡ stamp_in (Some (cleared_if c v))
+          cleared_by : (c : Bool)
+              → (if c then 0 else (if c then max v.stamp (drawn_by setup t d f) else v.stamp)) ≡ stamp_in (Some (cleared_if c v))
           cleared_by true = refl
           cleared_by false = refl
 

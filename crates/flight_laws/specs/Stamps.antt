@@ -18,8 +18,9 @@ drawn_by setup [] c f = 0
 drawn_by setup (e ∷ t) c f =
     if c == e.core && is_some e.decides then (if begins_at setup t e (FrameOf f) then e.found else 0) else drawn_by setup t c f
 
--- The stamp that a word of frame f will show, which core d holds and which shows this stamp, once d's call has stored there: none, where the
--- call has made f untyped; where it is carried out otherwise, the later of this stamp and what its decision has drawn for f; else this one.
+-- The stamp that a word of frame f will show, which core d holds and which shows this stamp, once d's call has stored there: none, where
+-- the call has made f untyped; where it is carried out otherwise, the later of this stamp and what its decision has drawn for f; else this
+-- one.
 abbrev pub once_stored : Setting → Trace → ℕ → ℕ → ℕ → ℕ
 once_stored setup t f d shown =
     if has_cleared f (phase t d) then 0

@@ -1,6 +1,7 @@
 -- The decision of a call that makes an object: the compare of its target, where it is won, makes the frame that object, and puts its
 -- capability there.
-use Rattle.place_invariant.proofs.Common.{Want, counts_bare, may_keep, unlent_value, unlent_word, node_keeps_none, All, ◌≡◌, List, Bool, true}
+use Rattle.place_invariant.proofs.Common.{Want, counts_bare, may_keep, unlent_value, unlent_word, node_keeps_none, All, ◌≡◌, List, Bool}
+use Rattle.place_invariant.proofs.Common.{true}
 use Rattle.place_invariant.proofs.Common.{false, Some, None, refl, ℕ, ◌<◌, ◌^◌, ◌==◌, arith, ◌≢◌, ◌+◌, sym, ◌&&◌, [], ◌∷◌, ap, ◌∙◌, subst}
 use Rattle.place_invariant.proofs.Common.{◌≤◌, IsTrue, ◌⊎◌, inl, inr, max, map, ◌+ℤ◌, All-nil, All-cons, All-head, All-tail, ne_eqb}
 use Rattle.place_invariant.proofs.Common.{eqb-true, cases_eq, false≢true, Capability, Setting, IsSetting, left_if, Kind, entry_of_word}

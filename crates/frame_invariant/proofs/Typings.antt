@@ -1,9 +1,10 @@
 -- The steps that type an untyped frame are good: the load of its word, and the compare, which is lost to another core or makes the
 -- frame a user frame or a blank kernel frame.
-use Rattle.place_invariant.proofs.Common.{Want, IsSome, All-nil, ◌≡◌, ◌≢◌, inl, inr, ℕ, ◌||◌, map, ◌++◌, ◌+◌, ◌^◌, ◌<◌, ◌≤◌, ◌==◌, ◌&&◌, not}
+use Rattle.place_invariant.proofs.Common.{Want, IsSome, All-nil, ◌≡◌, ◌≢◌, inl, inr, ℕ, ◌||◌, map, ◌++◌, ◌+◌, ◌^◌, ◌<◌, ◌≤◌, ◌==◌, ◌&&◌}
+use Rattle.place_invariant.proofs.Common.{not}
 use Rattle.place_invariant.proofs.Common.{Bool, true, false, List, [], ◌∷◌, Option, Some, None, arith, refl, sym, ◌∙◌, ap, subst, IsTrue}
 use Rattle.place_invariant.proofs.Common.{if◌then◌else◌, eqb-true, eqb-false, eq-eqb, cases_eq, lt-ltb, false≢true, Capability, Setting}
-use Rattle.place_invariant.proofs.Common.{IsSetting, left_if, FrameKind, Kind, Call, Retype, FrameFits, word_of_frame, frame_of_word}
+use Rattle.place_invariant.proofs.Common.{IsSetting, left_if, FrameKind, Call, Retype, FrameFits, word_of_frame, frame_of_word}
 use Rattle.place_invariant.proofs.Common.{FrameWord, Word, EntryAt, FrameAt, CountAt, CoreAt, FlushAt, LiveAt, ClockAt, Move, LoadOf}
 use Rattle.place_invariant.proofs.Common.{CompareOf, word_of, left_of, told_of, Place, PlaceOf, NumberOf, Frame, Untyped, User, Kernel}
 use Rattle.place_invariant.proofs.Common.{Blank, Thing, State, put, with_frame, thread_in, comp_in, refs, frame_names, times, Slot, found}

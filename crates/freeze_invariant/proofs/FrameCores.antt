@@ -30,7 +30,6 @@ use Rattle.freeze_invariant.proofs.Counters.{sweep_since, undo_with, undo_known}
 use Rattle.freeze_invariant.proofs.FrameScans.{all_scanned, scans_on, page_known}
 use Rattle.freeze_invariant.proofs.FrameQuiet.{unpaged_frame}
 use Rattle.freeze_invariant.proofs.UntypeCalls as calls
-use Rattle.freeze_invariant.proofs.UntypeCalls.{untypes_on, typed_is}
 
 module _ (setup : Setting) (setting : IsSetting setup) (cores : ℕ → Core) (t : Trace) (stands : Invariant setup cores t) (c : ℕ)
     (here : c < setup.cores)

@@ -30,7 +30,6 @@ use Rattle.freeze_invariant.proofs.Counters.{sweeping, untyping_by, sweep_knows,
 use Rattle.freeze_invariant.proofs.Counters.{sweep_refs, sweep_since, undo_with, undo_known}
 use Rattle.freeze_invariant.proofs.FrameScans.{all_scanned, scans_on, page_known, known_typed}
 use Rattle.freeze_invariant.proofs.UntypeCalls as calls
-use Rattle.freeze_invariant.proofs.UntypeCalls.{untypes_on, typed_is}
 
 module _ (setup : Setting) (setting : IsSetting setup) (cores : ℕ → Core) (t : Trace) (stands : Invariant setup cores t) (c : ℕ)
     (here : c < setup.cores)

@@ -21,7 +21,7 @@ use Rattle.scan_invariant.specs.step_ways.proofs.Refusals.{GoodTook}
 use Rattle.freeze_invariant.proofs.Counters.{sweeping, untyping_by, sweep_knows, sweep_held, sweep_counts}
 use Rattle.freeze_invariant.proofs.Counters.{sweep_frame}
 use Rattle.freeze_invariant.proofs.FrameQuiet as quieting
-use Rattle.freeze_invariant.proofs.FrameQuiet.{cached_is, unpaged_frame}
+use Rattle.freeze_invariant.proofs.FrameQuiet.{cached_is}
 use Rattle.freeze_invariant.proofs.UntypeCalls as calls
 use Rattle.freeze_invariant.proofs.UntypeCalls.{untypes_on, typed_is}
 

@@ -217,7 +217,8 @@ module _ (setup : Setting) (setting : IsSetting setup) (cores : ℕ → Core) (t
         let afterwards = thaw_all swept_then false (holds_counts None a.counts) q in
         let rest = frozen_beside g kept u false (holds_counts None a.counts) q there in
         let before = thaw_all (swept_of w) false (holds_counts None a.counts) q in (
-          ap (λ x. if same_word q (FrameAt f) then true else x) (afterwards.0 ∙ rest.0 ∙ sym before.0) ∙ sym (ap (λ h. h.marks q) held_before),
+          ap (λ x. if same_word q (FrameAt f) then true else x) (afterwards.0 ∙ rest.0 ∙ sym before.0)
+          ∙ sym (ap (λ h. h.marks q) held_before),
           ap (λ (k : ℕ). if same_word q (FrameAt f) then word else k) (afterwards.1 ∙ rest.1 ∙ sym before.1)
               ∙ sym (ap (λ h. h.stands q) held_before),
         )
@@ -240,7 +241,8 @@ module _ (setup : Setting) (setting : IsSetting setup) (cores : ℕ → Core) (t
     stands_it = it_then.1
 
     bares_before : (h i : ℕ) → (holds (cores c)).bare h i ≡ None
-    bares_before h i = ap (λ k. k.bare h i) held_before ∙ release_bare (release_of f word (swept_of w) false) (holds_counts None a.counts) h i
+    bares_before h i =
+        ap (λ k. k.bare h i) held_before ∙ release_bare (release_of f word (swept_of w) false) (holds_counts None a.counts) h i
         ∙ counts_bare None a.counts h i
 
     bares_then : (h i : ℕ) → held_then.bare h i ≡ None

@@ -62,7 +62,8 @@ module _ (g : ℕ) (kept : List CountWord) (u : CountWord) (clear : Bool) (h : H
           below = ap (nat_lt d) (length_more kept u) ∙ lt_more d (length kept) other
 
           by : (b : Bool) → nat_lt d (length kept) ≡ b
-              → (if (f == g) && (nat_le 0 d && nat_lt d (length kept)) then word_of_count (released clear (slice_get (kept ++ u ∷ []) d)) else
+              → (if (f == g) && (nat_le 0 d && nat_lt d (length kept)) then word_of_count (released clear (slice_get (kept ++ u ∷ []) d))
+              else
               h.stands (CountAt f d))
               ≡ (if (f == g) && (nat_le 0 d && nat_lt d (length kept)) then word_of_count (released clear (slice_get kept d)) else
               h.stands (CountAt f d))

@@ -2,7 +2,7 @@
 -- steps at which no grace period begins or ends and nothing is flushed. A step that decides nothing is such, and so is a refusal and the
 -- decision that fills a place; one that draws a stamp, or changes what a frame is, is not.
 use Rattle.std.proofs.Common.{◌≡◌, ◌≢◌, inl, inr, ℕ, zero, suc, ◌+◌, ◌*◌, ◌<◌, ◌≤◌, ◌==◌, if◌then◌else◌, Bool}
-use Rattle.std.proofs.Common.{true, false, cond, ◌∷◌, Option, Some, None, arith, refl, sym, ◌∙◌, ap, subst}
+use Rattle.std.proofs.Common.{true, false, cond, ◌∷◌, None, arith, refl, sym, ◌∙◌, ap, subst}
 use Rattle.std.proofs.lemmas.Bool.{cases_eq, eq-eqb, false≢true}
 use Rattle.thread_laws.specs.spk_nums.specs.Setting.{Setting}
 use Rattle.thread_laws.specs.word_map.specs.Word.{Word, EntryAt, FrameAt, CountAt, CoreAt, FlushAt, LiveAt, ClockAt, same_word}

@@ -23,7 +23,6 @@ use Rattle.core_invariant.specs.stage_pins.specs.declared.held.Acquired.{Acquire
 use Rattle.core_invariant.specs.Holding.{count_of}
 use Rattle.thread_laws.specs.spk_nums.specs.Capability.{Capability}
 use Rattle.thread_laws.specs.spk_nums.specs.Setting.{Setting, IsSetting}
-use Rattle.thread_laws.specs.spk_nums.specs.declared.kinds.Kind.{Kind}
 use Rattle.thread_laws.specs.spk_nums.specs.declared.kinds.Kind.TheVariants.{Comp as comp_kind}
 use Rattle.thread_laws.specs.frame_words.specs.declared.comp_word.CompWord.{CompWord}
 use Rattle.core_invariant.specs.act_states.specs.declared.kills.KillingAt.{KillingAt}

@@ -1,6 +1,6 @@
 -- What a call that kills a component knows of its rule: what is left of it after its name, and what refuses it.
 use Rattle.count_invariant.proofs.Common.{◌≡◌, inl, ℕ, ◌<◌, ◌==◌, ◌&&◌, ◌||◌, not, Bool, true, false, if◌then◌else◌, List, [], ◌∷◌}
-use Rattle.count_invariant.proofs.Common.{Option, Some, None, IsTrue, refl, sym, ◌∙◌, ap, subst, eq-eqb, Setting, IsSetting, Kill}
+use Rattle.count_invariant.proofs.Common.{Some, None, refl, sym, ◌∙◌, ap, subst, eq-eqb, Setting, IsSetting, Kill}
 use Rattle.count_invariant.proofs.Common.{CompFields, Comp, Kernel, State, comp_in, found, Cause, Does, RuleMay, outcome, unless}
 use Rattle.count_invariant.proofs.Common.{first_of, is_live_in, rule_of, change_of, is_one_of, frames_near, Trace, Open, phase}
 use Rattle.count_invariant.proofs.Common.{state_after, Plan, GoesBy, own_pages, rule_after, Leads, LeadsIn, outcome_left, left_may}

@@ -1,7 +1,7 @@
 -- A killing starts where its name has led to a component.
-use Rattle.count_invariant.proofs.Common.{Want, to_use, ◌≡◌, ℕ, ◌<◌, map, Bool, true, false, if◌then◌else◌, List, [], ◌∷◌, Some, None, IsTrue, refl}
+use Rattle.count_invariant.proofs.Common.{Want, to_use, ◌≡◌, ℕ, ◌<◌, map, if◌then◌else◌, List, [], ◌∷◌, Some, None, refl}
 use Rattle.count_invariant.proofs.Common.{sym, ◌∙◌, ap, subst, Capability, Setting, IsSetting, Kind, Call, Kill, Move, word_of, State}
-use Rattle.count_invariant.proofs.Common.{only, named_by, suits, Found, Refused, named, named_fit, opened, name_parts, events_of, IsLegal, Step}
+use Rattle.count_invariant.proofs.Common.{only, named_by, suits, Found, named, named_fit, opened, name_parts, events_of, IsLegal, Step}
 use Rattle.count_invariant.proofs.Common.{Trace, Open, phase, state_after, last_left, Carries, sound_of, opened_is, guarded_usable}
 use Rattle.count_invariant.proofs.Common.{Acquired, LoadComp, Act, Undecided, ActiveCall, landed, found_more, Core, holds_counts, due_of}
 use Rattle.count_invariant.proofs.Common.{NamesAre, phase_at, holds_in, Invariant}

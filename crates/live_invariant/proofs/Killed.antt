@@ -1,9 +1,9 @@
 -- A killing draws its stamp and is decided: the number is dead, its reference to the component's frame is released, and the grace periods
 -- of both begin at the stamp. And the store of the dead number's word is good.
 use Rattle.count_invariant.proofs.Common.{Want, as_none, counts_bare, lent_elsewhere, IsSome, list_any, ◌≡◌, ◌≢◌, inl, inr, ℕ, pos, negsuc}
-use Rattle.count_invariant.proofs.Common.{◌+ℤ◌, max, length, ◌+◌, ◌^◌, ◌<◌, ◌≤◌, ◌==◌, ◌||◌, Bool, true, false, if◌then◌else◌, List, []}
-use Rattle.count_invariant.proofs.Common.{◌∷◌, Option, Some, None, IsTrue, arith, refl, sym, ◌∙◌, ap, subst, cases_eq, eq-eqb, ne_eqb}
-use Rattle.count_invariant.proofs.Common.{false≢true, All-nil, Capability, Setting, IsSetting, Call, Kill, Kind, Reply, LiveFits}
+use Rattle.count_invariant.proofs.Common.{◌+ℤ◌, max, length, ◌+◌, ◌^◌, ◌<◌, ◌≤◌, ◌==◌, ◌||◌, true, false, if◌then◌else◌, List, []}
+use Rattle.count_invariant.proofs.Common.{◌∷◌, Option, Some, None, arith, refl, sym, ◌∙◌, ap, subst, cases_eq, eq-eqb, ne_eqb}
+use Rattle.count_invariant.proofs.Common.{All-nil, Capability, Setting, IsSetting, Call, Kill, Reply, LiveFits}
 use Rattle.count_invariant.proofs.Common.{word_of_live, live_of_word, CompWord, Word, EntryAt, FrameAt, CountAt, CoreAt, FlushAt, LiveAt}
 use Rattle.count_invariant.proofs.Common.{ClockAt, same_word, Move, AddOf, StoreOf, word_of, told_of, same_same, Liveness, Live, Dead}
 use Rattle.count_invariant.proofs.Common.{Thing, PlaceOf, FrameOf, NumberOf, Grace, State, put, comp_in, thread_in, with_grace, Slot, own}
@@ -27,7 +27,6 @@ use Rattle.count_invariant.specs.frame_words.specs.declared.live_word.LiveWord.T
 use Rattle.count_invariant.specs.frame_words.proofs.LiveLemmas as lives
 use Rattle.state_laws.specs.kernel_rules.specs.State.{with_number}
 use Rattle.state_laws.specs.kernel_rules.specs.References.{number_names}
-use Rattle.state_laws.specs.kernel_rules.specs.InvocationCalls.{kills}
 use Rattle.state_laws.specs.kernel_invariant.proofs.Refs.{number_refs}
 use Rattle.state_laws.specs.kernel_invariant.proofs.Sums as sums
 use Rattle.count_invariant.specs.kernel_history.specs.Stamps.{begins_in as begins_then}

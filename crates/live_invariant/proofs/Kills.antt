@@ -2,7 +2,7 @@
 -- the number, which is lost to another core or holds it for the call.
 use Rattle.count_invariant.proofs.Common.{as_none, counts_bare, may_keep, unlent_value, lent_elsewhere, ◌≡◌, ◌≢◌, inl, ℕ, ◌+◌, ◌++◌, ◌^◌}
 use Rattle.count_invariant.proofs.Common.{◌<◌, ◌==◌, map, length, Bool, true, false, if◌then◌else◌, List, [], ◌∷◌, Option, Some, None}
-use Rattle.count_invariant.proofs.Common.{IsTrue, arith, refl, sym, ◌∙◌, ap, subst, eqb-true, eqb-false, eq-eqb, false≢true, Setting}
+use Rattle.count_invariant.proofs.Common.{IsTrue, arith, refl, sym, ◌∙◌, ap, subst, eqb-true, eqb-false, eq-eqb, Setting}
 use Rattle.count_invariant.proofs.Common.{IsSetting, left_if, comp_of_word, LiveFits, word_of_live, live_of_word, CompWord, LiveWord}
 use Rattle.count_invariant.proofs.Common.{Word, EntryAt, LiveAt, Move, LoadOf, CompareOf, left_of, same_same, State, NumberOf, PlaceOf}
 use Rattle.count_invariant.proofs.Common.{put, comp_in, is_live_in, put_same, changes_numbers, mark_in_frame, live_mark, marked_by, stamp}

@@ -1,8 +1,8 @@
 -- What the rule of a touch answers, and what it may refuse.
-use Rattle.count_invariant.proofs.Common.{◌≡◌, ◌⊎◌, inl, inr, ℕ, ◌≤◌, ◌<◌, ◌/◌, nat_lt, nat_le, Bool, true, false, List, [], ◌∷◌, Option}
-use Rattle.count_invariant.proofs.Common.{Some, None, refl, sym, ◌∙◌, ap, subst, if◌then◌else◌, IsTrue, IsSomeAnd, is_some, Capability}
-use Rattle.count_invariant.proofs.Common.{Translation, Reply, Place, Free, Holds, Quiescing, State, Slot, root_at, Under, place_at}
-use Rattle.count_invariant.proofs.Common.{held_in, reached, holds_link, root_slot, Judged, Refused, Found, Does, and_then, unless}
+use Rattle.count_invariant.proofs.Common.{◌≡◌, ◌⊎◌, inl, inr, ℕ, ◌≤◌, ◌<◌, ◌/◌, nat_lt, nat_le, true, false, [], ◌∷◌, Option}
+use Rattle.count_invariant.proofs.Common.{Some, None, refl, sym, ◌∙◌, ap, subst, if◌then◌else◌, IsSomeAnd, is_some, Capability}
+use Rattle.count_invariant.proofs.Common.{Translation, Reply, Holds, State, Slot, root_at, Under, place_at}
+use Rattle.count_invariant.proofs.Common.{held_in, reached, holds_link, root_slot, Refused, Found, Does, and_then, unless}
 use Rattle.count_invariant.proofs.Common.{or_refuse, first_of, outcome, RuleMay, answers}
 use Rattle.std.proofs.Common.{IsFalse}
 use Rattle.kernel_laws.specs.spk_nums.specs.declared.replies.Reply.TheVariants as reply

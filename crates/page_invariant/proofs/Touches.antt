@@ -2,22 +2,22 @@
 -- entry.
 use Rattle.count_invariant.proofs.Common.{◌≡◌, ◌≢◌, ◌⊎◌, inl, inr, ℕ, ◌+◌, ◌*◌, ◌/◌, ◌%◌, ◌^◌, ◌<◌, ◌≤◌, ◌||◌, ◌++◌, ◌==◌, nat_le, nat_lt}
 use Rattle.count_invariant.proofs.Common.{Bool, true, false, List, [], ◌∷◌, map, length, Option, Some, None, arith, refl, sym, ◌∙◌, ap}
-use Rattle.count_invariant.proofs.Common.{subst, if◌then◌else◌, IsTrue, IsSome, is_some, option_to_list, false≢true, eq-eqb, le-leb}
-use Rattle.count_invariant.proofs.Common.{le-ltb, All-nil, Capability, Setting, IsSetting, Call, Touch, Kind, Reply, Translation, Entry}
+use Rattle.count_invariant.proofs.Common.{subst, if◌then◌else◌, IsSome, is_some, option_to_list, false≢true, eq-eqb, le-leb}
+use Rattle.count_invariant.proofs.Common.{le-ltb, All-nil, Capability, Setting, IsSetting, Call, Reply, Translation, Entry}
 use Rattle.count_invariant.proofs.Common.{Held, Closing, EntryFits, Word, EntryAt, FrameAt, CountAt, CoreAt, FlushAt, LiveAt, ClockAt}
-use Rattle.count_invariant.proofs.Common.{Move, LoadOf, word_of, told_of, Thing, PlaceOf, FrameOf, NumberOf, State, Holds, put, thread_in}
+use Rattle.count_invariant.proofs.Common.{Move, LoadOf, word_of, told_of, PlaceOf, NumberOf, State, Holds, put, thread_in}
 use Rattle.count_invariant.proofs.Common.{comp_in, first_of_stack, thread_of, comp_of, Slot, root_at, Target, Under, place_at, usable_in}
-use Rattle.count_invariant.proofs.Common.{usable, linked, slot_in, root_slot, reached, holds_link, held_in, refs, sum_below, Relies, Rule}
+use Rattle.count_invariant.proofs.Common.{usable, linked, slot_in, root_slot, reached, holds_link, held_in, refs, sum_below, Relies}
 use Rattle.count_invariant.proofs.Common.{Refused, Found, IsFoundAnd, outcome, RuleMay, answers, translation_of, rule_of, change_of}
-use Rattle.count_invariant.proofs.Common.{changed, counted, state_by, begins, ends, flushes, MayReply, opened, core_same_refs, sum_one}
+use Rattle.count_invariant.proofs.Common.{changed, counted, begins, ends, flushes, MayReply, opened, core_same_refs, sum_one}
 use Rattle.count_invariant.proofs.Common.{put_same, put_other, events_of, is_one_of, frames_own, frames_near, is_slot_in, HasReached}
 use Rattle.count_invariant.proofs.Common.{IsJustified, marked_by, ends_in, flushes_in, stamp, Step, Trace, Open, phase, state_after}
 use Rattle.count_invariant.proofs.Common.{state_decided_in, last_left, own_left, root_passed, wide_way_to, ways, wide_ways, ok_first}
 use Rattle.count_invariant.proofs.Common.{Carries, state_is, run_of, decided-inside, last_small, sound_of, opened_is, shown_in, look_move}
 use Rattle.count_invariant.proofs.Common.{Look, AtRoot, AtLeaf, AtEntry, Acquired, Own, Nothing, Act, WorkStep, Goes, own_changed, refuse}
-use Rattle.count_invariant.proofs.Common.{own_decided, ActiveCall, Undecided, Decided, HasRoom, landed, Core, holds_counts, settled}
+use Rattle.count_invariant.proofs.Common.{own_decided, ActiveCall, Undecided, Decided, HasRoom, landed, Core, holds_counts}
 use Rattle.count_invariant.proofs.Common.{due_of, LooksUp, KnowsUndecided, WorksIn, phase_at, untypes, holds_at, holds_in, holds, held_by}
-use Rattle.count_invariant.proofs.Common.{times_of, counted_in, Invariant, WordIs, count_room, counts_bare, lent_none, lent_kept}
+use Rattle.count_invariant.proofs.Common.{times_of, counted_in, Invariant, count_room, counts_bare, lent_none, lent_kept}
 use Rattle.count_invariant.proofs.Common.{IsUntimed, plain_begins, plain_stamp, plain_flush, plain_exit, names_on, counted_refs}
 use Rattle.count_invariant.proofs.Common.{limits_of, sums_keep, SameFor, marks_own, settled_on, capability_in}
 use Rattle.kernel_laws.specs.spk_nums.specs.declared.kinds.Kind.TheVariants as kind

@@ -22,7 +22,7 @@ use Rattle.count_invariant.specs.stage_tcap.specs.Pairs.{list_end, whole_b, read
 use Rattle.count_invariant.specs.stage_tcap.specs.declared.pair.PairWork.TheVariants.{Transfer, Delegate, Test}
 use Rattle.count_invariant.specs.act_states.specs.declared.work.Act.TheVariants.{Share as share_act}
 use Rattle.count_invariant.specs.core_invariant.specs.Shares.{list_word, HasSeenB}
-use Rattle.count_invariant.specs.core_invariant.specs.Shares.{HasReadB, ReadsHead}
+use Rattle.count_invariant.specs.core_invariant.specs.Shares.{ReadsHead}
 use Rattle.count_invariant.specs.step_ways.proofs.Loads.{step_to, inner, core_is}
 use Rattle.count_invariant.specs.kept_facts.proofs.Pairs.{seen_on, tcap_mark, left_same}
 use Rattle.count_invariant.specs.step_ways.proofs.Refusals.{GoodTook, not_spent}

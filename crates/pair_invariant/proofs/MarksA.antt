@@ -3,13 +3,13 @@ use Rattle.count_invariant.proofs.Common.{◌≡◌, inl, inr, ℕ, ◌+◌, ◌
 use Rattle.count_invariant.proofs.Common.{[], ◌∷◌, Some, None, arith, refl, sym, ◌∙◌, ap, subst, eq-eqb, ne_eqb, eqb-true, eqb-false}
 use Rattle.count_invariant.proofs.Common.{ltb-true, ltb-false, Setting, IsSetting, left_if, Reply, HeadFits, word_of_head, head_of_word}
 use Rattle.count_invariant.proofs.Common.{HeadWord, spelling, Word, EntryAt, Move, CompareOf, left_of, same_same, Kernel, Tcap}
-use Rattle.count_invariant.proofs.Common.{TcapFields, State, put, tcap_in, Refused, Does, RuleMay, unless, first_cause, tcap_at, rule_of}
-use Rattle.count_invariant.proofs.Common.{change_of, put_same, changes_in_frame, HasRacedHead, mark_of, head_mark, marked_by, Step, Trace}
+use Rattle.count_invariant.proofs.Common.{TcapFields, State, put, tcap_in, Refused, Does, RuleMay, unless, first_cause, tcap_at}
+use Rattle.count_invariant.proofs.Common.{put_same, changes_in_frame, HasRacedHead, mark_of, head_mark, marked_by, Step, Trace}
 use Rattle.count_invariant.proofs.Common.{state_after, last_left, state_decided_in, refused_first, same_word-other, last_left-here}
 use Rattle.count_invariant.proofs.Common.{was_stays, marked, amount_of, giving_back, Pair, MarkA, ListA, PairWork, Act, refuse}
 use Rattle.count_invariant.proofs.Common.{took_shared, took_share, Undecided, Decided, ActiveCall, landed, went, GoesOn, Core}
 use Rattle.count_invariant.proofs.Common.{holds_counts, settled_by, HeadIs, count_room, KnowsUndecided, list_changed, TurnsHead}
-use Rattle.count_invariant.proofs.Common.{SparesTcap, HasTcap, HasMarkedA, holds_in, holds, held_by, Invariant, as_none, counts_bare}
+use Rattle.count_invariant.proofs.Common.{SparesTcap, HasTcap, holds_in, holds, held_by, Invariant, as_none, counts_bare}
 use Rattle.count_invariant.proofs.Common.{names_on, counts_on, unlent_head_value, unlent_head_word, lent_free, TcapOf, settled, IsNearIn}
 use Rattle.count_invariant.proofs.Common.{word_of, counted, first_of, are_many, are_unlike}
 use Rattle.quality_lists.specs.spk_nums.specs.declared.replies.Reply.TheVariants as reply

@@ -2,7 +2,7 @@
 use Rattle.count_invariant.proofs.Common.{◌≡◌, inl, ℕ, ◌<◌, ◌==◌, map, Bool, true, false, if◌then◌else◌, List, [], ◌∷◌, Some, None, refl}
 use Rattle.count_invariant.proofs.Common.{sym, ◌∙◌, ap, subst, eqb-false, Capability, Setting, IsSetting, Kind, Call, Transfer, Delegate}
 use Rattle.count_invariant.proofs.Common.{Test, Move, word_of, State, only, named_by, Found, Refused, Does, RuleMay, named, outcome}
-use Rattle.count_invariant.proofs.Common.{unless, first_of, first_cause, rule_of, change_of, named_fit, suits, only_is, opened, name_parts}
+use Rattle.count_invariant.proofs.Common.{unless, first_of, first_cause, rule_of, named_fit, suits, only_is, opened, name_parts}
 use Rattle.count_invariant.proofs.Common.{events_of, IsLegal, Step, Trace, Open, phase, state_after, last_left, refused_first, Carries}
 use Rattle.count_invariant.proofs.Common.{sound_of, opened_is, guarded_usable, Name, Plan, rule_after, Leads, LeadsIn, names_after}
 use Rattle.count_invariant.proofs.Common.{GoesBy, own_pages, plan_for, of_kind, outcome_left, left_may, Acquired, Pair, PairWork, Act}
@@ -13,7 +13,6 @@ use Rattle.quality_lists.specs.spk_nums.specs.declared.kinds.Kind.TheVariants as
 use Rattle.quality_lists.specs.spk_nums.specs.declared.replies.Reply.TheVariants as reply
 use Rattle.kernel_laws.specs.kernel_rules.specs.Access.{Want, to_use, found as named_by_found}
 use Rattle.kernel_laws.specs.kernel_rules.specs.Rules.{of_kind as has_kind}
-use Rattle.kernel_laws.specs.kernel_rules.specs.TimeCalls.{are_same}
 use Rattle.count_invariant.specs.stage_tcap.specs.declared.pair.PairWork.TheVariants as share
 use Rattle.count_invariant.specs.act_states.specs.declared.work.Act.TheVariants.{Share as share_act}
 use Rattle.count_invariant.specs.act_states.specs.Shares.{sharing, shares_if}

@@ -9,7 +9,7 @@ use Rattle.count_invariant.proofs.Common.{mark_of, mark_in_frame, head_mark, mar
 use Rattle.count_invariant.proofs.Common.{last_left, state_decided_in, WasAt, was_stays, marked, Pair, StoreA, PairWork, Acquired, Act}
 use Rattle.count_invariant.proofs.Common.{Goes, Undecided, Decided, ActiveCall, landed, Core, holds_counts, settled_by, settled, HeadIs}
 use Rattle.count_invariant.proofs.Common.{IsFrameWord, count_room, due_of, KnowsUndecided, phase_at, HasTcap, HasMarkedA, SharesBy}
-use Rattle.count_invariant.proofs.Common.{KnowsPairAt, StoresA, KnowsShared, holds_share, holds_at, holds_in, holds, held_by, Invariant}
+use Rattle.count_invariant.proofs.Common.{KnowsPairAt, KnowsShared, holds_share, holds_in, held_by, Invariant}
 use Rattle.count_invariant.proofs.Common.{names_on, counted_refs, unlent_head_value, marked_on, done_by, holds_head, holds_shared}
 use Rattle.count_invariant.proofs.Common.{KnowsStoresAt, list_changed}
 use Rattle.quality_lists.specs.spk_nums.specs.declared.calls.Call.TheVariants as call_as

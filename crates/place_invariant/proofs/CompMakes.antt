@@ -1,8 +1,8 @@
 -- A call that makes a component: its names, and what is left of its rule after them.
-use Rattle.count_invariant.proofs.Common.{to_use, ◌≡◌, ◌≢◌, ◌+◌, ℕ, Bool, true, pos, List, [], ◌∷◌, Some, None, refl, sym, ◌∙◌, ap, subst, IsTrue}
-use Rattle.count_invariant.proofs.Common.{false≢true, All-nil, All-cons, Capability, Kind, State, Frame, Object, Kernel, Blank, Table}
+use Rattle.count_invariant.proofs.Common.{to_use, ◌≡◌, ◌≢◌, ◌+◌, ℕ, true, pos, List, [], ◌∷◌, refl, sym, ◌∙◌, ap, IsTrue}
+use Rattle.count_invariant.proofs.Common.{false≢true, All-nil, All-cons, Capability, State, Frame, Kernel, Blank, Table}
 use Rattle.count_invariant.proofs.Common.{Pages, CompFields, Target, Under, found, only, fits, Rule, Vacant, Does, Found, named, outside}
-use Rattle.count_invariant.proofs.Common.{not_blank, makes_comp, epoch_of, rule_of, named_fit, IsSound, of_kind, plan_for, Leads, LeadsIn}
+use Rattle.count_invariant.proofs.Common.{not_blank, makes_comp, epoch_of, rule_of, of_kind, plan_for, Leads, LeadsIn}
 use Rattle.count_invariant.proofs.Common.{rule_after, names_after, NextFree, next_of, comp_due_list, CompMaking, Due, AreDuesApart}
 use Rattle.kernel_laws.specs.spk_nums.specs.declared.kinds.Kind.TheVariants as kind
 use Rattle.kernel_laws.specs.spk_nums.specs.declared.calls.Call.TheVariants.{Make as make_call}

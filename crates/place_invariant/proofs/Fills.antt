@@ -1,19 +1,21 @@
 -- The filling compare of a copy is good: it is lost to another core, or the place is free and takes the capability.
-use Rattle.count_invariant.proofs.Common.{Want, unlent_word, node_keeps_none, ◌≡◌, ◌≢◌, ◌⊎◌, inl, inr, not, ℕ, pos, length, ◌≤◌, ◌+◌, ◌^◌, ◌/◌}
+use Rattle.count_invariant.proofs.Common.{Want, unlent_word, node_keeps_none, ◌≡◌, ◌≢◌, ◌⊎◌, inl, inr, not, ℕ, pos, length, ◌≤◌, ◌+◌, ◌^◌}
+use Rattle.count_invariant.proofs.Common.{◌/◌}
 use Rattle.count_invariant.proofs.Common.{◌%◌, ◌<◌, ◌==◌, ◌&&◌, nat_le, if◌then◌else◌, ◌∷◌, [], Bool, true, false, List, Option, Some}
 use Rattle.count_invariant.proofs.Common.{None, arith, refl, sym, ◌∙◌, ap, subst, IsTrue, ◌+ℤ◌, max, option_to_list, eqb-true, eqb-false}
-use Rattle.count_invariant.proofs.Common.{eq-eqb, false≢true, kept, right_to_copy, Capability, cap_of, Setting, IsSetting, Call, Copy, Remove, Shrink, Unmap, Retype}
-use Rattle.count_invariant.proofs.Common.{Tick, Gate, Kill, Grow, Flush, Map, Touch, Ret, Transfer, Delegate, Test, Switch, Kind, Entry}
+use Rattle.count_invariant.proofs.Common.{eq-eqb, false≢true, kept, right_to_copy, Capability, cap_of, Setting, IsSetting, Call, Copy}
+use Rattle.count_invariant.proofs.Common.{Remove, Shrink, Unmap, Retype}
+use Rattle.count_invariant.proofs.Common.{Tick, Gate, Kill, Grow, Flush, Map, Touch, Ret, Transfer, Delegate, Test, Switch, Entry}
 use Rattle.count_invariant.proofs.Common.{Held, EntryFits, word_of_entry, entry_of_word, Word, EntryAt, CountAt, Move, CompareOf, left_of}
 use Rattle.count_invariant.proofs.Common.{left_if, Place, comp_of, comp_in, Holds, Frame, Kernel, Table, Leaf, Pages, Pleaf, Thing}
-use Rattle.count_invariant.proofs.Common.{PlaceOf, FrameOf, State, with_place, User, Slot, found, Target, Under, InRoot, only, place_at}
-use Rattle.count_invariant.proofs.Common.{usable_in, linked, slot_in, root_slot, reached, own, PageFlags, has_frame, outside, is_frame}
+use Rattle.count_invariant.proofs.Common.{PlaceOf, FrameOf, State, with_place, User, Slot, found, Target, Under, InRoot, place_at}
+use Rattle.count_invariant.proofs.Common.{usable_in, linked, slot_in, root_slot, reached, own, has_frame, outside, is_frame}
 use Rattle.count_invariant.proofs.Common.{Cause, first_cause, first_of, Found, IsFoundAnd, Does, and_then, or_refuse, unless, not_vacant}
-use Rattle.count_invariant.proofs.Common.{named, outcome, MayReply, rule_of, ends_by, flushes_by, changed, change_of, counted, begins_in}
+use Rattle.count_invariant.proofs.Common.{outcome, MayReply, rule_of, ends_by, flushes_by, changed, change_of, counted, begins_in}
 use Rattle.count_invariant.proofs.Common.{calls_counted, is_node, put_same, slot_is, place_here, place_there, Step, Trace, Open, phase}
 use Rattle.count_invariant.proofs.Common.{state_after, state_decided_in, last_left, capability_in, root_passed, way_to, wide_way_to, ways}
 use Rattle.count_invariant.proofs.Common.{wide_ways, target_of, changes_places, changes_in_frame, is_slot_in, HasReached, IsSlot}
-use Rattle.count_invariant.proofs.Common.{ok_first, entry_mark, mark_in_frame, mark_of, IsLegal, marked_by, ends_in, flushes_in, stamp}
+use Rattle.count_invariant.proofs.Common.{ok_first, entry_mark, mark_in_frame, mark_of, marked_by, ends_in, flushes_in, stamp}
 use Rattle.count_invariant.proofs.Common.{CapNames, Plan, of_kind, plan_for, GoesBy, own_pages, calls_go, leads_by, outcome_left}
 use Rattle.count_invariant.proofs.Common.{rule_after, names_after, Leads, LeadsIn, NextName, NextFree, next_of, Act, Undecided, Decided}
 use Rattle.count_invariant.proofs.Common.{ActiveCall, put_by, reads_of, page_cap, named_by, times, refs, reads_alike, room_grows, IsCalm}

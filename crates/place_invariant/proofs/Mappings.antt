@@ -3,8 +3,8 @@
 use Rattle.count_invariant.proofs.Common.{◌≡◌, ℕ, ℤ, pos, ◌<◌, ◌&&◌, map, not, Bool, true, false, IsTrue, List, [], ◌∷◌, Option, Some}
 use Rattle.count_invariant.proofs.Common.{None, inl, inr, refl, sym, ◌∙◌, ap, subst, if◌then◌else◌, All, All-head, lt-ltb, eq-eqb}
 use Rattle.count_invariant.proofs.Common.{false≢true, Capability, Setting, IsSetting, Call, Map, PageFlags, FrameKind, count_of_word}
-use Rattle.count_invariant.proofs.Common.{frame_of_word, FrameWord, EntryAt, FrameAt, CountAt, LiveAt, Move, LoadOf, word_of}
-use Rattle.count_invariant.proofs.Common.{Frame, Untyped, User, Kernel, State, Slot, Target, Under, found, reached, has_frame, outside}
+use Rattle.count_invariant.proofs.Common.{frame_of_word, FrameWord, EntryAt, FrameAt, CountAt, Move, LoadOf}
+use Rattle.count_invariant.proofs.Common.{Frame, Untyped, User, Kernel, State, Target, Under, found, has_frame, outside}
 use Rattle.count_invariant.proofs.Common.{is_frame, Change, RuleMay, Refused, Vacant, Does, and_then, unless, first_of, first_cause}
 use Rattle.count_invariant.proofs.Common.{outcome, rule_of, change_of, are_calls_spent, IsAlone, looks_at_frames, is_one_of, frames_near}
 use Rattle.count_invariant.proofs.Common.{frame_argument, marked_by, count_mark, frame_mark, frame_value, Step, Trace, Open, phase}
@@ -26,7 +26,7 @@ use Rattle.count_invariant.specs.act_states.specs.Acts.{page_of, maps_kind, maps
 use Rattle.count_invariant.specs.core_invariant.specs.Knows.{HasUser, IsUser, IsMapping}
 use Rattle.count_invariant.specs.core_invariant.specs.Knows.{mapped_frame, is_mapping}
 use Rattle.count_invariant.specs.step_ways.proofs.Counting.{first_marked}
-use Rattle.count_invariant.specs.step_ways.proofs.Loads.{OnlyLooks, step_to, inner, core_is, call_is, is_active, loads_on, decides_on}
+use Rattle.count_invariant.specs.step_ways.proofs.Loads.{OnlyLooks, step_to, core_is, call_is, is_active, loads_on, decides_on}
 use Rattle.count_invariant.specs.step_ways.proofs.Refusals.{GoodTook, ticks_at, not_spent, refuses_busy}
 use Rattle.count_invariant.proofs.Acquiring.{plan_leads, goes_by}
 use Rattle.count_invariant.proofs.MakingCounts.{argument_near}

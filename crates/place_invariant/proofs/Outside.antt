@@ -1,14 +1,14 @@
 -- The refusal of a call whose frame is outside its range.
-use Rattle.count_invariant.proofs.Common.{Want, ◌≡◌, ◌⊎◌, inl, inr, ℕ, ◌<◌, not, Bool, false, IsTrue, List, [], ◌∷◌, Option, Some, None, refl}
+use Rattle.count_invariant.proofs.Common.{Want, ◌≡◌, ◌⊎◌, inl, inr, ℕ, ◌<◌, not, false, IsTrue, List, [], ◌∷◌, Option, Some, None, refl}
 use Rattle.count_invariant.proofs.Common.{sym, ◌∙◌, ap, subst, if◌then◌else◌, IsSome, cases_eq, false≢true, Capability, Setting}
 use Rattle.count_invariant.proofs.Common.{IsSetting, Call, Map, Make, Reply, entry_of_word, EntryAt, Move, LoadOf, word_of, State}
 use Rattle.count_invariant.proofs.Common.{PlaceOf, Kernel, Leaf, Slot, Target, Under, found, place_at, reached, page_cap, slot_relies}
-use Rattle.count_invariant.proofs.Common.{Rule, Cause, Change, Vacant, Does, RuleMay, Refused, Found, and_then, or_refuse, unless}
+use Rattle.count_invariant.proofs.Common.{Cause, Change, Vacant, Does, RuleMay, Refused, Found, and_then, or_refuse, unless}
 use Rattle.count_invariant.proofs.Common.{first_of, first_cause, vacant, not_vacant, outcome, is_node, has_frame, outside, not_blank}
-use Rattle.count_invariant.proofs.Common.{makes, makes_comp, rule_of, change_of, IsAlone, Trace, Open, phase, state_after, last_left}
+use Rattle.count_invariant.proofs.Common.{makes, makes_comp, rule_of, change_of, IsAlone, Trace, Open, state_after, last_left}
 use Rattle.count_invariant.proofs.Common.{own_read, not_changed, Plan, plan_for, GoesBy, own_pages, Leads, LeadsIn, rule_after}
 use Rattle.count_invariant.proofs.Common.{names_after, NextName, NextFree, next_of, left_may, outcome_left, NewObject, object_kind}
-use Rattle.count_invariant.proofs.Common.{object_made, ActiveCall, Core, IsSpot, MayFill, NamesAre, phase_at, Invariant, limits_of, Kind}
+use Rattle.count_invariant.proofs.Common.{object_made, ActiveCall, Core, IsSpot, MayFill, NamesAre, phase_at, Invariant, limits_of}
 use Rattle.kernel_laws.specs.spk_nums.specs.declared.calls.Call.TheVariants.{Make as make_call}
 use Rattle.kernel_laws.specs.spk_nums.specs.declared.calls.Make.TheVariants as make_of
 use Rattle.place_invariant.proofs.CompMakes.{IsCompMake, comp_make, comp_rest, new_comp}

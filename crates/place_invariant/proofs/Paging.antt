@@ -1,12 +1,12 @@
 -- Which places that a call fills are those of page tables.
 use Rattle.kernel_laws.specs.spk_nums.specs.declared.calls.Make.TheVariants as make
-use Rattle.count_invariant.proofs.Common.{◌≡◌, ℕ, ◌&&◌, nat_le, if◌then◌else◌, Bool, true, false, List, [], ◌∷◌, Option, Some, None, refl}
-use Rattle.count_invariant.proofs.Common.{sym, ◌∙◌, ap, subst, IsTrue, false≢true, Capability, Setting, IsSetting, Kind, Call, Copy}
+use Rattle.count_invariant.proofs.Common.{◌≡◌, ℕ, ◌&&◌, nat_le, if◌then◌else◌, Bool, true, false, List, [], ◌∷◌, Some, None, refl}
+use Rattle.count_invariant.proofs.Common.{sym, ◌∙◌, ap, IsTrue, false≢true, Capability, Setting, IsSetting, Kind, Call, Copy}
 use Rattle.count_invariant.proofs.Common.{Remove, Grow, Shrink, Map, Unmap, Retype, Tick, Kill, Gate, Touch, Flush, Ret, Transfer}
 use Rattle.count_invariant.proofs.Common.{Delegate, Test, Switch, Table, Pages, Frame, Kernel, State, Slot, Named, found, only, Target}
 use Rattle.count_invariant.proofs.Common.{Under, InRoot, reached, fits, is_paging, some_inj, none_some, opened, events_of, IsLegal, Trace}
-use Rattle.count_invariant.proofs.Common.{Open, phase, state_after, sound_of, opened_is, Spot, Nowhere, Plan, plan_for, Next, Leads}
-use Rattle.count_invariant.proofs.Common.{LeadsIn, NextNothing, NextHeld, NextOwn, NextFree, next_of, NewObject, fills_page}
+use Rattle.count_invariant.proofs.Common.{Open, phase, state_after, sound_of, opened_is, Nowhere, Plan, plan_for, Leads}
+use Rattle.count_invariant.proofs.Common.{LeadsIn, NextNothing, NextHeld, NextOwn, NextFree, next_of, fills_page}
 use Rattle.place_invariant.proofs.CompMakes.{IsCompMake, comp_make}
 use Rattle.kernel_laws.specs.spk_nums.specs.declared.kinds.FrameKind.TheVariants as frame_kind
 use Rattle.kernel_laws.specs.spk_nums.specs.declared.kinds.Kind.TheVariants as kind
@@ -86,7 +86,8 @@ module _ (setup : Setting) (setting : IsSetting setup) (t : Trace) (legal : IsLe
   paging_by (Copy a u b rights) is (k ∷ []) lead next = absurd (cc)
   paging_by (Copy a u b rights) is (k ∷ j ∷ i ∷ ks) lead next = absurd lead.1.1
   paging_by (Grow u i l) is (k ∷ j ∷ []) lead next =
-      let good : IsGood s k × IsTrue (root k.kind) = named_good s (opened (events_of t)) c u (to_use root) k (sound_of setup setting t legal)
+      let good : IsGood s k × IsTrue (root k.kind) =
+      named_good s (opened (events_of t)) c u (to_use root) k (sound_of setup setting t legal)
       (opened_is t c (Grow u i l) is) lead.0 in
       ap (λ (f : ℕ). is_paging (s.frame f)) (sym (in_root_node (found k) i at (nat_le i 63)
       (ap (reached s c) (target_in (InRoot (found k) i) target next) ∙ reaches)))

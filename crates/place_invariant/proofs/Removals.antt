@@ -3,7 +3,7 @@
 use Rattle.count_invariant.proofs.Common.{Want, counts_bare, ◌≡◌, ◌≢◌, ◌⊎◌, inl, inr, ℕ, pos, negsuc, ◌+ℤ◌, max, length, ◌≤◌, ◌+◌, ◌^◌, ◌<◌}
 use Rattle.count_invariant.proofs.Common.{◌==◌, ◌&&◌, ◌||◌, ◌∷◌, [], Bool, true, false, List, Option, Some, None, arith, refl, sym, ◌∙◌}
 use Rattle.count_invariant.proofs.Common.{ap, subst, IsTrue, if◌then◌else◌, list_any, cases_eq, eq-eqb, ne_eqb, false≢true, Capability}
-use Rattle.count_invariant.proofs.Common.{Setting, IsSetting, Call, Remove, Shrink, Unmap, Kind, Reply, Entry, EntryFits, word_of_entry}
+use Rattle.count_invariant.proofs.Common.{Setting, IsSetting, Call, Remove, Shrink, Unmap, Reply, Entry, EntryFits, word_of_entry}
 use Rattle.count_invariant.proofs.Common.{entry_of_word, Word, EntryAt, FrameAt, CountAt, CoreAt, FlushAt, LiveAt, ClockAt, same_word}
 use Rattle.count_invariant.proofs.Common.{AddOf, word_of, told_of, same_same, Place, Free, Holds, Quiescing, Thing, PlaceOf, FrameOf}
 use Rattle.count_invariant.proofs.Common.{NumberOf, Grace, State, comp_of, with_place, with_grace, Slot, Target, Under, InRoot, found}

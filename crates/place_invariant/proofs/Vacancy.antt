@@ -1,5 +1,6 @@
 -- A place that a call may fill is vacant for it: it is free, or no other core waits in its grace period, and none is to flush it.
-use Rattle.count_invariant.proofs.Common.{to_use, ◌≡◌, ◌≢◌, ℕ, zero, suc, cond, ◌+◌, ◌<◌, ◌≤◌, ◌==◌, ◌&&◌, not, inl, inr, Bool, true, false, []}
+use Rattle.count_invariant.proofs.Common.{to_use, ◌≡◌, ◌≢◌, ℕ, zero, suc, cond, ◌+◌, ◌<◌, ◌≤◌, ◌==◌, ◌&&◌, not, inl, inr, Bool, true, false}
+use Rattle.count_invariant.proofs.Common.{[]}
 use Rattle.count_invariant.proofs.Common.{Option, Some, None, IsTrue, arith, refl, sym, ◌∙◌, ap, subst, false≢true, eqb-false, cases_bool}
 use Rattle.count_invariant.proofs.Common.{Setting, IsSetting, Capability, Call, Entry, Place, Free, Holds, Quiescing, Table, Leaf, Pages}
 use Rattle.count_invariant.proofs.Common.{Pleaf, Frame, Kernel, Thing, PlaceOf, State, Slot, found, Under, only, reached, fits, is_paging}
@@ -30,7 +31,8 @@ table_node _ fit = absurd (false≢true fit)
 
 pub in_leaf : (setup : Setting) → IsSetting setup → (t : Trace) → IsLegal setup t → (c : ℕ) (call : Call) → phase t c ≡ Open call
     → (n b : ℕ) (table : Capability) (at : Slot)
-    → named (state_after setup t) c n (to_use (only kind.Table)) ≡ Found table → reached (state_after setup t) c (Under (found table) b) ≡ Some at
+    → named (state_after setup t) c n (to_use (only kind.Table)) ≡ Found table
+    → reached (state_after setup t) c (Under (found table) b) ≡ Some at
     → (state_after setup t).frame at.node ≡ Kernel Leaf
 in_leaf setup setting t legal c call is n b table at names reaches =
     table_leaf (s.frame table.frame) fit (s.frame at.node) (leaf_fits s o c is_open fitted (found table) b at
@@ -63,7 +65,8 @@ pages_node _ fit = absurd (false≢true fit)
 
 pub in_pleaf : (setup : Setting) → IsSetting setup → (t : Trace) → IsLegal setup t → (c : ℕ) (call : Call) → phase t c ≡ Open call
     → (n b : ℕ) (pages : Capability) (at : Slot)
-    → named (state_after setup t) c n (to_use (only kind.Pages)) ≡ Found pages → reached (state_after setup t) c (Under (found pages) b) ≡ Some at
+    → named (state_after setup t) c n (to_use (only kind.Pages)) ≡ Found pages
+    → reached (state_after setup t) c (Under (found pages) b) ≡ Some at
     → (state_after setup t).frame at.node ≡ Kernel Pleaf
 in_pleaf setup setting t legal c call is n b pages at names reaches =
     pages_leaf (s.frame pages.frame) fit (s.frame at.node) (leaf_fits s o c is_open fitted (found pages) b at

@@ -2,32 +2,27 @@
 -- next core, and from the last to the flush words or to the counts of the act.
 use Rattle.place_invariant.proofs.Common.{◌≡◌, ◌≢◌, ◌⊎◌, ℕ, ◌<◌, ◌≤◌, ◌&&◌, ◌++◌, nat_lt, nat_le, if◌then◌else◌, Bool, true, false, []}
 use Rattle.place_invariant.proofs.Common.{◌∷◌, Option, Some, None, IsTrue, inl, inr, arith, refl, sym, ◌∙◌, ap, subst, IsSomeAnd}
-use Rattle.place_invariant.proofs.Common.{list_any, eq-eqb, ltb-false, leb-true, leb-false, false≢true, Setting, IsSetting, entry_of_word}
-use Rattle.place_invariant.proofs.Common.{Entry, core_of_word, CoreWord, EntryAt, CountAt, CoreAt, FrameAt, LiveAt, LoadOf, word_of}
-use Rattle.place_invariant.proofs.Common.{told_of, Thing, PlaceOf, State, Slot, Target, reached, rule_of, same_thing, MayWait, is_paging}
-use Rattle.place_invariant.proofs.Common.{RuleMay, Rule, IsRemoved, IsWaiting, exit_of, Step, Trace, Open, phase, state_after, last_left}
-use Rattle.place_invariant.proofs.Common.{waited_in, asked_of, Carries, not_inside, own_read-there, last_left-there, out_passed}
-use Rattle.place_invariant.proofs.Common.{later_passed, may_wait, Quiet, AtCore, AtFlush, next_other, core_scan, flush_scan, quiet_move}
+use Rattle.place_invariant.proofs.Common.{list_any, ltb-false, leb-true, leb-false, Setting, IsSetting, entry_of_word}
+use Rattle.place_invariant.proofs.Common.{core_of_word, CoreWord, EntryAt, CountAt, CoreAt, FrameAt, LiveAt, LoadOf}
+use Rattle.place_invariant.proofs.Common.{Thing, PlaceOf, State, Slot, rule_of, same_thing, MayWait, is_paging}
+use Rattle.place_invariant.proofs.Common.{RuleMay, IsRemoved, IsWaiting, exit_of, Step, Trace, Open, phase, state_after, last_left}
+use Rattle.place_invariant.proofs.Common.{waited_in, Carries, not_inside, own_read-there, last_left-there, out_passed}
+use Rattle.place_invariant.proofs.Common.{later_passed, may_wait, Quiet, AtCore, AtFlush, next_other, core_scan, flush_scan}
 use Rattle.place_invariant.proofs.Common.{core_refuses, scan_end, scan_after, quiet_next, quiet_end, quiet_after, GoesBy, own_pages}
-use Rattle.place_invariant.proofs.Common.{Leads, LeadsIn, NextFree, rule_after, NextMay, next_of, next_may, Outside, Scan, Undecided}
+use Rattle.place_invariant.proofs.Common.{Leads, LeadsIn, rule_after, NextMay, next_of, next_may, Scan, Undecided}
 use Rattle.place_invariant.proofs.Common.{ActiveCall, Goes, refuse, stamp_shown, starts, StageFits, CountsAt, HasRoom, landed, took_scan}
-use Rattle.place_invariant.proofs.Common.{Core, holds_counts, IsScanned, MayFill, KnowsAct, KnowsUndecided, phase_at, IsSpot, HasFlushed}
+use Rattle.place_invariant.proofs.Common.{Core, holds_counts, MayFill, KnowsAct, KnowsUndecided, phase_at, IsSpot, HasFlushed}
 use Rattle.place_invariant.proofs.Common.{holds_at, holds_in, Invariant, names_on, slot_relies, limits_of, is_node, Plan, plan_for}
 use Rattle.place_invariant.proofs.Starts.{IsRefusedOutside as RefusedOutside, starts_good}
 use Rattle.std.specs.Prelude.{◌==◌, ◌||◌}
 use Rattle.place_invariant.specs.spk_nums.specs.declared.replies.Reply.TheVariants as reply
 use Rattle.place_invariant.specs.entry_words.specs.declared.entry.Entry.TheVariants as entry
 use Rattle.place_invariant.specs.kernel_rules.specs.Rules as rules
-use Rattle.place_invariant.specs.kernel_history.specs.Ways.{thing_at}
 use Rattle.place_invariant.specs.trace_laws.proofs.Carries.{was_before}
-use Rattle.place_invariant.specs.call_plans.specs.GoesBy.{OwnPages}
 use Rattle.place_invariant.specs.call_plans.proofs.AfterNames.{Begins, left_begins}
 use Rattle.place_invariant.specs.plan_ways.proofs.Ways.{asked_left}
 use Rattle.place_invariant.specs.act_states.specs.declared.refusals.Refusal.TheVariants as refusal
 use Rattle.place_invariant.specs.act_states.specs.declared.work.Act.{Act as ActOf}
-use Rattle.place_invariant.specs.act_states.specs.declared.work.Act.TheVariants.{Fill as fill_act, Remove as remove_act, Retype as type_act}
-use Rattle.place_invariant.specs.act_states.specs.declared.work.Act.TheVariants.{Make as make_act, Tick as tick_act}
-use Rattle.place_invariant.specs.act_states.specs.declared.work.Act.TheVariants.{Kill as kill_act}
 use Rattle.place_invariant.specs.core_invariant.specs.Knows.{HasPassed}
 use Rattle.place_invariant.specs.core_invariant.specs.Knows.{goes_on as goes_on_act, KnowsScan, KnowsQuiet, scanned_for}
 use Rattle.place_invariant.specs.kept_facts.proofs.Carries.{start_pairs, act_on, ReadsSame}

@@ -2,16 +2,16 @@
 -- flush word, and from the last to the counts of the act.
 use Rattle.place_invariant.proofs.Common.{◌≡◌, ◌≢◌, ◌⊎◌, ℕ, zero, suc, ◌+◌, ◌<◌, ◌≤◌, ◌==◌, cond, nat_lt, nat_le, if◌then◌else◌, Bool}
 use Rattle.place_invariant.proofs.Common.{true, false, [], ◌∷◌, Option, Some, None, IsTrue, inl, inr, arith, refl, sym, ◌∙◌, ap, subst}
-use Rattle.place_invariant.proofs.Common.{IsSomeAnd, list_any, cases_eq, eqb-true, eq-eqb, ltb-true, ltb-false, leb-true, leb-false}
-use Rattle.place_invariant.proofs.Common.{false≢true, Capability, Setting, IsSetting, Call, entry_of_word, flush_of_word, FlushWord}
-use Rattle.place_invariant.proofs.Common.{EntryAt, CountAt, FlushAt, FrameAt, LiveAt, same_word, Move, LoadOf, word_of, Thing, PlaceOf}
+use Rattle.place_invariant.proofs.Common.{IsSomeAnd, list_any, cases_eq, eqb-true, ltb-true, ltb-false, leb-true, leb-false}
+use Rattle.place_invariant.proofs.Common.{Setting, IsSetting, Call, entry_of_word, flush_of_word, FlushWord}
+use Rattle.place_invariant.proofs.Common.{EntryAt, CountAt, FlushAt, FrameAt, LiveAt, same_word, Move, LoadOf, Thing, PlaceOf}
 use Rattle.place_invariant.proofs.Common.{State, Slot, Target, place_at, reached, is_paging, same_thing, lowest, unflushed_by}
 use Rattle.place_invariant.proofs.Common.{MayBeUnflushed, is_node, RuleMay, Refused, and_then, or_refuse, unless, first_of, not_vacant}
 use Rattle.place_invariant.proofs.Common.{vacant, rule_of, change_of, IsAlone, IsRemoved, IsUnflushed, awaits_flushes, flush_of}
 use Rattle.place_invariant.proofs.Common.{flush_stored, stamp, Step, Trace, Out, Open, phase, state_after, last_left, flushed_in}
 use Rattle.place_invariant.proofs.Common.{refused_first, nobody_waits, awaits_are, Carries, own_read-there, last_left-there, Quiet}
 use Rattle.place_invariant.proofs.Common.{AtFlush, flush_refuses, scan_end, scan_after, quiet_next, quiet_end, quiet_after, Plan}
-use Rattle.place_invariant.proofs.Common.{plan_for, GoesBy, own_pages, Leads, LeadsIn, NextFree, rule_after, next_of, NextMay, next_may}
+use Rattle.place_invariant.proofs.Common.{plan_for, GoesBy, own_pages, Leads, LeadsIn, rule_after, next_of, NextMay, next_may}
 use Rattle.place_invariant.proofs.Common.{Scan, Goes, refuse, stamp_shown, starts, Undecided, ActiveCall, StageFits, CountsAt, HasRoom}
 use Rattle.place_invariant.proofs.Common.{landed, took_scan, Core, holds_counts, PlaceIs, HasFlushed, MayFill, KnowsAct, KnowsUndecided}
 use Rattle.place_invariant.proofs.Common.{phase_at, IsSpot, CallIs, holds_at, holds_in, Invariant, slot_relies, names_on, limits_of}
@@ -30,11 +30,10 @@ use Rattle.place_invariant.specs.act_states.specs.declared.refusals.Refusal.TheV
 use Rattle.place_invariant.specs.act_states.specs.declared.work.Act.{Act as ActOf}
 use Rattle.place_invariant.specs.core_invariant.specs.Knows.{HasPassed}
 use Rattle.place_invariant.specs.core_invariant.specs.Knows.{scanned_for, goes_on as goes_on_act}
-use Rattle.place_invariant.specs.kept_facts.proofs.Calm.{stored_by}
 use Rattle.place_invariant.specs.step_ways.proofs.Flushing.{none_flushing}
-use Rattle.place_invariant.specs.kept_facts.proofs.Carries.{start_pairs, ReadsSame, act_on}
+use Rattle.place_invariant.specs.kept_facts.proofs.Carries.{start_pairs, act_on}
 use Rattle.place_invariant.specs.step_ways.proofs.Users.{users_kept}
-use Rattle.place_invariant.specs.step_ways.proofs.Loads.{OnlyLooks, step_to, next_at, inner, core_is, call_is, is_active, loads_on}
+use Rattle.place_invariant.specs.step_ways.proofs.Loads.{OnlyLooks, step_to, inner, core_is, call_is, is_active, loads_on}
 use Rattle.place_invariant.specs.step_ways.proofs.Loads.{decides_on}
 use Rattle.place_invariant.specs.step_ways.proofs.Places.{IsMarked, IsUnmarked, place_reads}
 use Rattle.place_invariant.specs.step_ways.proofs.Refusals.{GoodTook, not_spent}

@@ -1,7 +1,7 @@
 -- A step of a scan for a place that is quiescing is good, whatever it scans and whatever is then done.
 use Rattle.place_invariant.proofs.Common.{◌≡◌, ℕ, ◌<◌, ◌≤◌, false, Some, arith, refl, sym, ◌∙◌, ap, subst, false≢true, Setting, IsSetting}
 use Rattle.place_invariant.proofs.Common.{entry_of_word, CoreAt, FlushAt, Move, LoadOf, word_of, told_of, PlaceOf, Trace, last_left}
-use Rattle.place_invariant.proofs.Common.{Quiet, AtCore, AtFlush, quiet_move, quiet_end, quiet_after, Outside, Scan, stamp_shown, Shape}
+use Rattle.place_invariant.proofs.Common.{Quiet, AtCore, AtFlush, quiet_move, quiet_end, quiet_after, Outside, Scan, stamp_shown}
 use Rattle.place_invariant.proofs.Common.{Undecided, ActiveCall, StageFits, landed, took_scan, Core, KnowsAct, KnowsUndecided, NamesAre}
 use Rattle.place_invariant.proofs.Common.{IsSpot, phase_at, goes_on, Invariant}
 use Rattle.place_invariant.specs.act_states.specs.declared.work.Act.{Act as ActOf}

@@ -2,8 +2,8 @@
 -- core, or to the counts of the act.
 use Rattle.place_invariant.proofs.Common.{AtCore, AtFlush, Quiet, ◌≡◌, ◌≢◌, ◌⊎◌, ℕ, ◌+◌, ◌<◌, ◌≤◌, ◌==◌, nat_lt, if◌then◌else◌, Bool}
 use Rattle.place_invariant.proofs.Common.{true, false, Option, Some, None, inl, inr, arith, refl, sym, ◌∙◌, ap, ◌&&◌, ◌++◌, subst, IsTrue}
-use Rattle.place_invariant.proofs.Common.{List, false≢true, cases_eq, eq-eqb, eqb-true, eqb-false, ltb-true, ltb-false, leb-true}
-use Rattle.place_invariant.proofs.Common.{leb-false, Entry, Place, Free, Holds, Quiescing, Thing, PlaceOf, State, next_other, core_scan}
+use Rattle.place_invariant.proofs.Common.{List, cases_eq, eq-eqb, eqb-true, ltb-false}
+use Rattle.place_invariant.proofs.Common.{Entry, Place, Free, Holds, Quiescing, Thing, PlaceOf, State, next_other, core_scan}
 use Rattle.place_invariant.proofs.Common.{quiet_scan, list_any, Setting, Slot, Target, reached, same_thing, Rule, Cause, Trace, asked_of}
 use Rattle.place_invariant.proofs.Common.{NextFree, stamp_shown, PlaceIs, IsScanned, MayFill}
 use Rattle.place_invariant.specs.entry_words.specs.declared.entry.Entry.TheVariants as entry

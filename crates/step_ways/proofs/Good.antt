@@ -5,7 +5,7 @@ use Rattle.kept_facts.proofs.Common.{frame_of_word, Capability, suc, zero, ◌�
 use Rattle.kept_facts.proofs.Common.{Some, None, arith, sym, ◌∙◌, ap, subst, ◌⊎◌, ◌&&◌, ◌==◌, not, Bool, true, false, List, IsTrue}
 use Rattle.kept_facts.proofs.Common.{if◌then◌else◌, refl, cases_eq, eqb-true, false≢true, Setting, IsSetting, Call, Word, EntryAt}
 use Rattle.kept_facts.proofs.Common.{FrameAt, LiveAt, put, first_of_stack, Frame, Untyped, User, Kernel, Blank, Table, Leaf, Pages, Pleaf}
-use Rattle.kept_facts.proofs.Common.{Comp, Thread, Tcap, Object, put_same, put_other, Step, Trace, Out, Open, phase, state_after}
+use Rattle.kept_facts.proofs.Common.{Comp, Thread, Tcap, put_same, put_other, Step, Trace, Out, Open, phase, state_after}
 use Rattle.kept_facts.proofs.Common.{last_left, marked_by, IsNearIn, MayFollow, is_in, clock, phase-other, flush_stored-other}
 use Rattle.kept_facts.proofs.Common.{last_left-here, last_left-there, KeepsTime, Carries, was_stays, Stage, Enter, Undecided, Decided}
 use Rattle.kept_facts.proofs.Common.{Leave, ActiveCall, Own, Nothing, Quiesce, Unmark, StoreDead, StoreFlush, Release, StoreLive, Push}
@@ -16,9 +16,6 @@ use Rattle.kept_facts.proofs.Common.{times_of, counted_in, SumIs, Invariant, is_
 use Rattle.kept_facts.proofs.Common.{holds_in, holds, holds_comp, IsLent, marker_inside, counts_on, latest_stamp, swept_of, Sweep}
 use Rattle.kept_facts.proofs.Common.{SweepAt, Swept, release_of, UntypingAt, holds_release, holds_untyping, AreFrozen, AreKept, IsQuiet}
 use Rattle.kept_facts.proofs.Common.{KnowsSweep, KnowsSwept, KnowsUntypingAt, SaysTyped, HoldsSwept, release_swept, SparesLent}
-use Rattle.kept_facts.specs.spk_nums.specs.declared.kinds.Obj.TheVariants.{Blank as BlankObject}
-use Rattle.kept_facts.specs.spk_nums.specs.declared.kinds.FrameKind.TheVariants.{Untyped as FrameUntyped, User as FrameUser}
-use Rattle.kept_facts.specs.spk_nums.specs.declared.kinds.FrameKind.TheVariants.{Kernel as FrameKernel}
 use Rattle.kept_facts.specs.act_states.specs.declared.comps.CompAt.TheVariants as comp_at
 use Rattle.kept_facts.specs.act_states.specs.Comps.{comp_is_marked}
 use Rattle.kept_facts.specs.act_states.specs.Makings.{is_marked}
@@ -31,7 +28,6 @@ use Rattle.kept_facts.specs.act_states.specs.declared.work.Act.TheVariants.{Make
 use Rattle.kept_facts.specs.act_states.specs.declared.work.Act.TheVariants.{Return as return_act}
 use Rattle.kept_facts.specs.act_states.specs.declared.work.Act.TheVariants.{Touch as touch_act, Share as share_act, Switch as switch_act}
 use Rattle.kept_facts.specs.act_states.specs.declared.work.Act.{Act as ActOf}
-use Rattle.kept_facts.specs.kernel_history.specs.ObjectWords.{name_of_object}
 use Rattle.std.proofs.lemmas.Bool.{true≢false}
 use Rattle.kept_facts.specs.kernel_history.specs.Bounds.{IsWithin}
 use Rattle.kept_facts.specs.kernel_history.specs.Discipline.{IsDisciplined}

@@ -1,5 +1,5 @@
 -- What the word of a place of a node is: it carries the mark of a core that is in a call, or says what the place is.
-use Rattle.kept_facts.proofs.Common.{◌≡◌, ◌⊎◌, inl, inr, ℕ, ◌<◌, Option, Some, None, refl, sym, ◌∙◌, ap, subst, IsTrue, IsSome}
+use Rattle.kept_facts.proofs.Common.{◌≡◌, ◌⊎◌, inl, inr, ℕ, ◌<◌, Option, Some, None, refl, sym, ◌∙◌, ap, subst, IsTrue}
 use Rattle.kept_facts.proofs.Common.{false≢true, Setting, Entry, Held, Closing, entry_of_word, EntryAt, Place, Frame, Kernel, Table, Leaf}
 use Rattle.kept_facts.proofs.Common.{Pages, Pleaf, PlaceOf, is_node, entry_mark, mark_in_frame, Trace, state_after, last_left, stamp}
 use Rattle.kept_facts.proofs.Common.{Core, marked_by, settled_by, PlaceIs, IsFrameWord, count_room, held_by, Invariant, limits_of}

@@ -1,6 +1,6 @@
 -- The refusals of a call at a load: each leaves all as it was, but counts the call.
 use Rattle.kept_facts.proofs.Common.{Tail, ◌≡◌, ◌≢◌, ℕ, ◌+◌, ◌<◌, Option, Bool, true, false, Some, None, arith, refl, sym, ◌∙◌, ap, subst}
-use Rattle.kept_facts.proofs.Common.{List, [], ◌∷◌, inl, inr, false≢true, lt-leb, Setting, IsSetting, Call, Copy, Remove, Shrink, Unmap}
+use Rattle.kept_facts.proofs.Common.{List, [], ◌∷◌, false≢true, lt-leb, Setting, IsSetting, Call, Copy, Remove, Shrink, Unmap}
 use Rattle.kept_facts.proofs.Common.{Retype, Tick, Gate, Kill, Ret, Grow, Flush, Map, Touch, Transfer, Delegate, Test, Switch, Reply}
 use Rattle.kept_facts.proofs.Common.{Move, word_of, Thing, State, RuleMay, Refused, rule_of, change_of, are_calls_spent, counted}
 use Rattle.kept_facts.proofs.Common.{state_by, alone, Step, Trace, Open, state_after, state_decided_in, last_left, IsRaceLost, IsAlone}

@@ -2,7 +2,7 @@
 -- all counters of the frame.
 use Rattle.kept_facts.proofs.Common.{◌≡◌, ◌≢◌, ◌⊎◌, ◌<◌, ℕ, inl, inr, Bool, true, false, ◌∷◌, Option, Some, None, refl, sym, ◌∙◌, ap}
 use Rattle.kept_facts.proofs.Common.{subst, IsTrue, All, false≢true, Setting, IsSetting, Call, Retype, Reply, count_of_word, CountAt}
-use Rattle.kept_facts.proofs.Common.{word_of, left_of, Frame, User, Kernel, Blank, Pages, Pleaf, FrameOf, PlaceOf, State}
+use Rattle.kept_facts.proofs.Common.{word_of, Frame, User, Kernel, Blank, Pages, Pleaf, FrameOf, PlaceOf, State}
 use Rattle.kept_facts.proofs.Common.{is_translated, is_node, MayReply, ends_by, ends, opened, counters, MayDecide, MayFollow, IsLegal}
 use Rattle.kept_facts.proofs.Common.{marked_by, count_mark, ends_at, ends_in, Step, Trace, Phase, Out, Open, phase, after_enter}
 use Rattle.kept_facts.proofs.Common.{state_after, state_entered, state_decided, state_returned, state_before, last_left, cases_word}

@@ -3,7 +3,7 @@
 use Rattle.freeze_invariant.proofs.Common.{Want, IsSome, list_any, ◌≡◌, ◌≢◌, inl, inr, ℕ, pos, negsuc, ◌+ℤ◌, max, length, ◌+◌, ◌^◌, ◌<◌}
 use Rattle.freeze_invariant.proofs.Common.{◌≤◌, Bool, true, false, List, [], ◌∷◌, Option, Some, None}
 use Rattle.freeze_invariant.proofs.Common.{arith, refl, sym, ◌∙◌, ap, subst, cases_eq, eq-eqb, eqb-true, ne_eqb, false≢true, All-nil}
-use Rattle.freeze_invariant.proofs.Common.{Capability, Setting, IsSetting, Kind, Reply, CountFits, count_of_word}
+use Rattle.freeze_invariant.proofs.Common.{Capability, Setting, IsSetting, Reply, CountFits, count_of_word}
 use Rattle.freeze_invariant.proofs.Common.{word_of_count, FrameFits, frame_of_word, word_of_frame, CountWord, FrameWord, Word, EntryAt}
 use Rattle.freeze_invariant.proofs.Common.{FrameAt, CountAt, CoreAt, FlushAt, LiveAt, ClockAt, same_word, AddOf}
 use Rattle.freeze_invariant.proofs.Common.{Untyped, Thing, PlaceOf, FrameOf, NumberOf, State, put, comp_in}
@@ -24,7 +24,7 @@ use Rattle.freeze_invariant.proofs.Common.{ThawsFrame, names_of, counts_bare, ca
 use Rattle.freeze_invariant.proofs.Common.{release_entry, thaws_own, limits_of, HoldsSwept, release_swept, ReadsAlike, StaysSaid}
 use Rattle.freeze_invariant.proofs.Common.{own_settled, word_stays, own_kept, phase_at, IsFrameWord, frame_mark, first_of_stack}
 use Rattle.freeze_invariant.proofs.Common.{thread_of, stamp_of_change, loads_of}
-use Rattle.std.specs.Prelude.{if◌then◌else◌, slice_get}
+use Rattle.std.specs.Prelude.{if◌then◌else◌}
 use Rattle.std.proofs.Common.{All}
 use Rattle.std.proofs.Math.IntN.{pos-+ℤ-pos, +ℤ_assoc, +ℤ_invr, +ℤ_idr}
 use Rattle.freeze_invariant.specs.spk_nums.specs.declared.kinds.FrameKind.TheVariants as kind

@@ -1,11 +1,11 @@
 -- What a call that switches knows of its rule: what is left of it after its names, and what refuses it; and of the two threads.
-use Rattle.thread_invariant.proofs.Common.{◌≡◌, ◌≢◌, inl, inr, ℕ, ◌<◌, ◌++◌, ◌||◌, map, Bool, true, false, List, [], ◌∷◌, Option, Some}
-use Rattle.thread_invariant.proofs.Common.{None, IsTrue, refl, sym, ◌∙◌, ap, subst, eq-eqb, false≢true, flat_map, Capability, Setting}
+use Rattle.thread_invariant.proofs.Common.{◌≡◌, ◌≢◌, inl, ℕ, ◌<◌, ◌++◌, ◌||◌, map, true, false, List, [], ◌∷◌, Option, Some}
+use Rattle.thread_invariant.proofs.Common.{None, IsTrue, refl, sym, ◌∙◌, ap, subst, eq-eqb, flat_map, Capability, Setting}
 use Rattle.thread_invariant.proofs.Common.{IsSetting, Switch, EntryAt, Move, LoadOf, word_of, Thread, Kernel, State, thread_in, found}
 use Rattle.thread_invariant.proofs.Common.{fits, frame_names, named_by, Rule, Change, Judged, Refused, Found, RuleMay, outcome, rule_of}
 use Rattle.thread_invariant.proofs.Common.{change_of, named_fit, IsSound, opened, changes_in_frame, changes_threads, raises_clock}
 use Rattle.thread_invariant.proofs.Common.{events_of, is_one_of, frames_named, frames_near, frames_own, frame_argument, frame_at_slot}
-use Rattle.thread_invariant.proofs.Common.{Step, Trace, Open, phase, state_after, last_left, target_of, wide_ways, Carries, opened_is}
+use Rattle.thread_invariant.proofs.Common.{Step, Trace, Open, phase, state_after, last_left, target_of, wide_ways, opened_is}
 use Rattle.thread_invariant.proofs.Common.{sound_of, calls_go, First, plan_for, GoesBy, own_pages, rule_after, Leads, LeadsIn, Plan}
 use Rattle.thread_invariant.proofs.Common.{outcome_left, left_may, dues, Switching, SwitchAt, Act, Goes, Undecided, ActiveCall, StageFits}
 use Rattle.thread_invariant.proofs.Common.{HasRoom, landed, Core, holds_counts, due_of, KnowsUndecided, phase_at, holds, holds_at}
@@ -23,7 +23,7 @@ use Rattle.thread_invariant.specs.step_ways.proofs.Loads.{OnlyLooks, step_to, ca
 use Rattle.thread_invariant.specs.step_ways.proofs.Refusals.{GoodTook, ticks_at}
 use Rattle.thread_invariant.specs.core_invariant.proofs.ThreadHolds.{switching_bare}
 use Rattle.thread_invariant.specs.count_invariant.proofs.Acquiring.{plan_leads, goes_by}
-use Rattle.thread_invariant.specs.count_invariant.proofs.SwitchCounts.{IsSwitch, switch_of, thread_kind, tcap_kind, thread_near, old_near}
+use Rattle.thread_invariant.specs.count_invariant.proofs.SwitchCounts.{IsSwitch, switch_of, thread_kind, thread_near, old_near}
 use Rattle.thread_invariant.specs.live_invariant.proofs.Numbers.{one_of_many}
 use Rattle.switch_invariant.proofs.ThreadWords.{thread_is}
 

@@ -11,7 +11,6 @@ use Rattle.thread_invariant.proofs.Common.{ActiveCall, GoesOn, landed, went, Cor
 use Rattle.thread_invariant.proofs.Common.{held_by, holds_in, Invariant, HasComp, claimed_by, holds_idle, as_none, counts_bare, none_kept}
 use Rattle.thread_invariant.proofs.Common.{names_on, counts_on, lent_free}
 use Rattle.thread_invariant.specs.spk_nums.specs.declared.kinds.Kind.TheVariants as kind
-use Rattle.thread_invariant.specs.tcap_words.specs.declared.stack_word.StackWord.{StackWord}
 use Rattle.thread_invariant.specs.tcap_words.proofs.ThreadLemmas as words
 use Rattle.thread_invariant.specs.stage_thread.specs.Claiming.{claim_compared, claimed_within, compared_after, stack_end, thread_after}
 use Rattle.thread_invariant.specs.stage_thread.specs.Claiming.{thread_end}

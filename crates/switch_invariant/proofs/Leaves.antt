@@ -1,8 +1,8 @@
 -- The store of the core's own thread as claimed is good: no other core has marked or keeps its word, and the core holds it then.
-use Rattle.thread_invariant.proofs.Common.{◌≡◌, ◌≢◌, ◌<◌, ◌≤◌, ◌+◌, ◌^◌, inl, inr, ℕ, map, length, true, false, if◌then◌else◌, Option}
+use Rattle.thread_invariant.proofs.Common.{◌≡◌, ◌≢◌, ◌<◌, ◌≤◌, ◌+◌, ◌^◌, inl, inr, ℕ, length, true, false, if◌then◌else◌}
 use Rattle.thread_invariant.proofs.Common.{Some, None, IsTrue, arith, refl, sym, ◌∙◌, ap, subst, cases_eq, Setting, IsSetting, ThreadFits}
 use Rattle.thread_invariant.proofs.Common.{word_of_thread, thread_of_word, Idle, Running, Claimed, Word, EntryAt, same_word, Move}
-use Rattle.thread_invariant.proofs.Common.{StoreOf, same_same, State, put, thread_in, thread_of, fits, put_same, thread_mark, marked_by}
+use Rattle.thread_invariant.proofs.Common.{StoreOf, same_same, State, put, thread_in, fits, put_same, thread_mark, marked_by}
 use Rattle.thread_invariant.proofs.Common.{thread_value, Step, Trace, state_after, last_left, same_word-other, Switching, Act, Undecided}
 use Rattle.thread_invariant.proofs.Common.{ActiveCall, landed, went, Core, Holding, holds_counts, settled_by, KnowsUndecided, holds}
 use Rattle.thread_invariant.proofs.Common.{holds_in, held_by, Invariant, claimed_by, holds_idle, is_claimed, as_none, counts_bare}
@@ -14,7 +14,7 @@ use Rattle.thread_invariant.specs.act_states.specs.Switches.{switch_goes}
 use Rattle.thread_invariant.specs.act_states.specs.declared.switches.SwitchAt.TheVariants.{Leave, Draw}
 use Rattle.thread_invariant.specs.act_states.specs.declared.work.Act.TheVariants.{Switch as switch_act}
 use Rattle.thread_invariant.specs.step_ways.proofs.Counting as counters
-use Rattle.thread_invariant.specs.step_ways.proofs.Loads.{IsOfCall, core_in_call, inner, call_is}
+use Rattle.thread_invariant.specs.step_ways.proofs.Loads.{core_in_call, inner, call_is}
 use Rattle.thread_invariant.specs.step_ways.proofs.Refusals.{GoodTook}
 use Rattle.thread_invariant.proofs.EntryMarks.{counts_apart, thread_unmarked}
 use Rattle.switch_invariant.proofs.Calls as calls

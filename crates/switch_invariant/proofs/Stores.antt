@@ -1,13 +1,13 @@
 -- The stores after the decision of a switch are good: the word of the thread to which the core went on, as running, and that of a thread
 -- that it gives back, as idle.
-use Rattle.thread_invariant.proofs.Common.{◌≡◌, ◌≢◌, ◌<◌, ◌^◌, ◌∷◌, inl, inr, ℕ, true, false, if◌then◌else◌, Option, Some, None, IsTrue}
+use Rattle.thread_invariant.proofs.Common.{◌≡◌, ◌≢◌, ◌<◌, ◌^◌, ◌∷◌, inr, ℕ, true, false, if◌then◌else◌, Option, Some, None, IsTrue}
 use Rattle.thread_invariant.proofs.Common.{arith, refl, sym, ◌∙◌, ap, subst, Setting, IsSetting, Reply, DepthFits, ThreadFits}
 use Rattle.thread_invariant.proofs.Common.{word_of_thread, ThreadWord, Idle, Running, Word, EntryAt, same_word, Move, StoreOf, same_same}
 use Rattle.thread_invariant.proofs.Common.{State, put, fits, changes_in_frame, changes_threads, IsNearIn, thread_mark, marked_by, Step}
 use Rattle.thread_invariant.proofs.Common.{Trace, WasAt, state_after, last_left, was_stays, same_word-other, Tail, Nothing, StoreRunning}
 use Rattle.thread_invariant.proofs.Common.{StoreIdle, StageFits, Decided, ActiveCall, GoesOn, went_with, Core, Holding, holds_counts}
-use Rattle.thread_invariant.proofs.Common.{keeps, settled_by, KnowsTail, phase_at, done_by, holds, holds_at, holds_in, holds_tail}
-use Rattle.thread_invariant.proofs.Common.{held_by, Invariant, holds_idle, as_none, counts_bare, none_kept, counts_on, lent_free}
+use Rattle.thread_invariant.proofs.Common.{settled_by, KnowsTail, phase_at, done_by, holds, holds_at, holds_in, holds_tail}
+use Rattle.thread_invariant.proofs.Common.{held_by, Invariant, as_none, counts_bare, none_kept, counts_on, lent_free}
 use Rattle.thread_invariant.specs.spk_nums.specs.declared.kinds.Kind.TheVariants as kind
 use Rattle.thread_invariant.specs.tcap_words.proofs.ThreadLemmas as words
 use Rattle.thread_invariant.specs.act_states.specs.Switches.{idle_move, running_move}

@@ -1,7 +1,7 @@
 -- A switch begins where its names have led to a thread and to a temporal capability.
-use Rattle.thread_invariant.proofs.Common.{Want, to_use, ◌≡◌, ℕ, ◌<◌, if◌then◌else◌, map, Bool, true, false, List, [], ◌∷◌, Option, Some, None, IsTrue}
+use Rattle.thread_invariant.proofs.Common.{Want, to_use, ◌≡◌, ℕ, ◌<◌, if◌then◌else◌, map, true, List, [], ◌∷◌, Some, None}
 use Rattle.thread_invariant.proofs.Common.{refl, sym, ◌∙◌, ap, subst, Capability, Setting, IsSetting, Kind, Call, Switch, Move, word_of}
-use Rattle.thread_invariant.proofs.Common.{State, only, suits, named_by, Found, Refused, named, named_fit, only_is, opened, name_parts}
+use Rattle.thread_invariant.proofs.Common.{State, only, suits, named_by, Found, named, named_fit, only_is, opened, name_parts}
 use Rattle.thread_invariant.proofs.Common.{events_of, IsLegal, Step, Trace, Open, phase, state_after, last_left, Carries, sound_of}
 use Rattle.thread_invariant.proofs.Common.{opened_is, guarded_usable, Name, Plan, Leads, LeadsIn, names_after, plan_for, of_kind}
 use Rattle.thread_invariant.proofs.Common.{Acquired, act_begun, Act, Undecided, ActiveCall, landed, found_more, Core, holds_counts}
@@ -22,7 +22,8 @@ same_found wanted j k h =
 
 -- A thread that an open call has named is there, and no other core may retype it.
 thread_named : (setup : Setting) → IsSetting setup → (t : Trace) → IsLegal setup t → (c : ℕ) (call : Call) → phase t c ≡ Open call
-    → (n : ℕ) (k : Capability) → named (state_after setup t) c n (to_use (only kind.Thread)) ≡ Found k → HasThread (state_after setup t) c k.frame
+    → (n : ℕ) (k : Capability) → named (state_after setup t) c n (to_use (only kind.Thread)) ≡ Found k
+    → HasThread (state_after setup t) c k.frame
 thread_named setup setting t legal c call is n k found =
     let s : State = state_after setup t in
     let parts = name_parts s c n (to_use (only kind.Thread)) k found in

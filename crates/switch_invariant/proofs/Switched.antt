@@ -1,27 +1,27 @@
 -- The draw of a stamp by which a core switches: the call is decided, and the core goes on as the thread that it has claimed, with the
 -- temporal capability. The references to what it leaves are released at the stamp.
-use Rattle.thread_invariant.proofs.Common.{list_any, All, IsSome, ◌≡◌, ◌≢◌, ◌⊎◌, inl, inr, ℕ, zero, suc, ℤ, pos, negsuc, ◌+ℤ◌, max, map}
+use Rattle.thread_invariant.proofs.Common.{list_any, All, IsSome, ◌≡◌, ◌≢◌, ◌⊎◌, inl, inr, ℕ, zero, suc, ℤ, pos, negsuc, ◌+ℤ◌, map}
 use Rattle.thread_invariant.proofs.Common.{length, ◌+◌, ◌*◌, ◌^◌, ◌<◌, ◌≤◌, ◌==◌, ◌||◌, Bool, true, false, if◌then◌else◌, List, [], ◌∷◌}
-use Rattle.thread_invariant.proofs.Common.{Option, Some, None, IsTrue, arith, refl, sym, ◌∙◌, ap, subst, cases_eq, eq-eqb, ne_eqb}
-use Rattle.thread_invariant.proofs.Common.{false≢true, All-nil, All-cons, InLimits, Capability, Setting, IsSetting, Kind, Reply}
+use Rattle.thread_invariant.proofs.Common.{Option, Some, None, IsTrue, arith, refl, sym, ◌∙◌, ap, subst, cases_eq, eq-eqb}
+use Rattle.thread_invariant.proofs.Common.{false≢true, All-nil, All-cons, InLimits, Capability, Setting, IsSetting, Reply}
 use Rattle.thread_invariant.proofs.Common.{DepthFits, ThreadFits, word_of_thread, thread_of_word, Idle, Running, Word, EntryAt, FrameAt}
-use Rattle.thread_invariant.proofs.Common.{CountAt, CoreAt, FlushAt, LiveAt, ClockAt, same_word, Move, AddOf, word_of, same_same, Slot}
+use Rattle.thread_invariant.proofs.Common.{CountAt, CoreAt, FlushAt, LiveAt, ClockAt, same_word, Move, AddOf, same_same, Slot}
 use Rattle.thread_invariant.proofs.Common.{CompFields, Frame, ThreadFields, Comp, Thread, Kernel, Thing, PlaceOf, FrameOf, NumberOf}
-use Rattle.thread_invariant.proofs.Common.{Grace, State, first_of_stack, comp_in, comp_of, thread_in, thread_of, put, fits, Change}
-use Rattle.thread_invariant.proofs.Common.{Judged, Found, IsFoundAnd, frames_of, times, refs, sum_below, MayReply, rule_of, change_of}
-use Rattle.thread_invariant.proofs.Common.{changed, counted, begins_in, ends_by, flushes_by, same_thing, new_grace, IsGuarded, grace_refs}
-use Rattle.thread_invariant.proofs.Common.{opened, sum_one, changes_threads, raises_clock, events_of, IsNearIn, KeepsTime, HasReached}
+use Rattle.thread_invariant.proofs.Common.{Grace, State, first_of_stack, comp_in, comp_of, thread_in, thread_of, put, fits}
+use Rattle.thread_invariant.proofs.Common.{Found, IsFoundAnd, frames_of, times, refs, sum_below, MayReply, rule_of, change_of}
+use Rattle.thread_invariant.proofs.Common.{changed, counted, begins_in, ends_by, flushes_by, same_thing, new_grace, grace_refs}
+use Rattle.thread_invariant.proofs.Common.{opened, sum_one, events_of, IsNearIn, KeepsTime, HasReached}
 use Rattle.thread_invariant.proofs.Common.{marked_by, mark_in_frame, frame_value, thread_value, ends_in, flushes_in, begins_at, ends_at}
 use Rattle.thread_invariant.proofs.Common.{flushes_at, stamp, clock, flush_of, flush_stored, Step, Trace, Open, WasAt, phase, state_after}
 use Rattle.thread_invariant.proofs.Common.{state_decided_in, last_left, own_left, way_to, ways, ok_first, was_stays, cases_word}
 use Rattle.thread_invariant.proofs.Common.{same_word-other, opened_is, stamp-begins, stamp-kept, flush_of-own, flush_stored-own}
-use Rattle.thread_invariant.proofs.Common.{flush_stored-other, LeadsIn, own_pages, leads_by, drawn_stamp, later, stamp_of_change}
-use Rattle.thread_invariant.proofs.Common.{Acquired, own_changed, tcap_dues, Own, Switching, Due, Tail, StoreRunning, Act, own_decided}
+use Rattle.thread_invariant.proofs.Common.{flush_stored-other, LeadsIn, own_pages, leads_by, later}
+use Rattle.thread_invariant.proofs.Common.{own_changed, tcap_dues, Own, Switching, Due, Tail, StoreRunning, Act, own_decided}
 use Rattle.thread_invariant.proofs.Common.{Stage, Undecided, Decided, ActiveCall, landed, Core, IsWithin, Holding, holds_counts, settled}
 use Rattle.thread_invariant.proofs.Common.{IsFrameWord, IsThreadWord, WordIs, count_room, HasFound, due_of, flushing_in, KnowsUndecided}
-use Rattle.thread_invariant.proofs.Common.{own_in, WorksIn, holds, holds_in, held_by, times_of, counted_in, SumIs, Invariant, HasThread}
-use Rattle.thread_invariant.proofs.Common.{claimed_by, is_claimed, holds_idle, counts_bare, plain_exit, decided-inside, own_kept}
-use Rattle.thread_invariant.proofs.Common.{lent_elsewhere, lent_none, runs_on_own, limits_of, ReadsAlike, SameFor, StaysSaid, word_stays}
+use Rattle.thread_invariant.proofs.Common.{own_in, WorksIn, holds, holds_in, held_by, times_of, counted_in, SumIs, Invariant}
+use Rattle.thread_invariant.proofs.Common.{claimed_by, is_claimed, counts_bare, plain_exit, decided-inside, own_kept}
+use Rattle.thread_invariant.proofs.Common.{lent_elsewhere, lent_none, limits_of, ReadsAlike, SameFor, StaysSaid, word_stays}
 use Rattle.thread_invariant.proofs.Common.{marks_own, carry_marks, carry_words, holds_switching}
 use Rattle.thread_invariant.specs.spk_nums.specs.declared.kinds.Kind.TheVariants as kind
 use Rattle.thread_invariant.specs.spk_nums.specs.declared.replies.Reply.TheVariants as reply
@@ -38,7 +38,7 @@ use Rattle.thread_invariant.specs.kernel_history.specs.Stamps.{begins_in as begi
 use Rattle.thread_invariant.specs.trace_laws.proofs.Carries.{open_inside}
 use Rattle.thread_invariant.specs.plan_ways.proofs.Ways.{all_ways}
 use Rattle.thread_invariant.specs.stage_thread.specs.declared.claim.Claimed.{Claimed as ClaimedOf}
-use Rattle.thread_invariant.specs.act_states.specs.Switches.{switch_due_list, switched}
+use Rattle.thread_invariant.specs.act_states.specs.Switches.{switched}
 use Rattle.thread_invariant.specs.act_states.specs.declared.own.OwnChange.TheVariants.{Switches}
 use Rattle.thread_invariant.specs.act_states.specs.declared.switches.SwitchAt.TheVariants.{Draw}
 use Rattle.thread_invariant.specs.act_states.specs.declared.work.Act.TheVariants.{Switch as switch_act}

@@ -1,9 +1,9 @@
 -- What a switch leaves of the state: the old thread is idle, the new one runs on the core, and all else of frames and of other cores is as
 -- it was. And what it makes of references: each frame is released or taken once, or is none of these.
-use Rattle.thread_invariant.proofs.Common.{list_any, ◌≡◌, ◌≢◌, inl, inr, ℕ, ℤ, pos, negsuc, ◌+ℤ◌, max, ◌+◌, ◌<◌, ◌≤◌, ◌==◌, ◌||◌, cond}
-use Rattle.thread_invariant.proofs.Common.{Bool, true, false, if◌then◌else◌, List, [], ◌∷◌, Option, Some, None, arith, refl, sym, ◌∙◌, ap}
-use Rattle.thread_invariant.proofs.Common.{subst, cases_eq, eq-eqb, ne_eqb, eqb-true, All-nil, All-cons, All-head, All-tail, All, Frame}
-use Rattle.thread_invariant.proofs.Common.{Grace, Kernel, Thing, FrameOf, PlaceOf, State, Thread, put, thread_in, thread_of, counted}
+use Rattle.thread_invariant.proofs.Common.{list_any, ◌≡◌, ◌≢◌, ℕ, ℤ, pos, negsuc, ◌+ℤ◌, max, ◌+◌, ◌<◌, ◌≤◌, ◌==◌, ◌||◌, cond}
+use Rattle.thread_invariant.proofs.Common.{Bool, true, false, if◌then◌else◌, List, [], ◌∷◌, Some, None, arith, refl, sym, ◌∙◌, ap}
+use Rattle.thread_invariant.proofs.Common.{eq-eqb, ne_eqb, All-nil, All-cons, All-head, All-tail, All}
+use Rattle.thread_invariant.proofs.Common.{Grace, Kernel, Thing, FrameOf, State, Thread, put, thread_in, thread_of, counted}
 use Rattle.thread_invariant.proofs.Common.{same_thing, times, frames_of, times_cons, put_same, put_other, later, stamp_of_change}
 use Rattle.thread_invariant.proofs.Common.{tcap_dues, Due}
 use Rattle.std.proofs.Math.IntN.{pos-+ℤ-pos, +ℤ_assoc, +ℤ_invr, +ℤ_idr}

@@ -1,14 +1,14 @@
 -- A thread that is claimed is idle, and the loads of the table and of the pages of the component at the top of its stack are good: then the
 -- counts are acquired.
-use Rattle.thread_invariant.proofs.Common.{◌≡◌, ◌≢◌, ◌<◌, ◌≤◌, ◌++◌, ◌==◌, ◌||◌, inl, inr, ℕ, map, length, Bool, true, false, List, []}
+use Rattle.thread_invariant.proofs.Common.{◌≡◌, ◌≢◌, ◌<◌, ◌≤◌, ◌++◌, ◌==◌, ◌||◌, ℕ, map, length, Bool, true, false, List, []}
 use Rattle.thread_invariant.proofs.Common.{◌∷◌, Option, Some, None, IsTrue, pos, negsuc, arith, refl, sym, ◌∙◌, ap, subst, eq-eqb}
-use Rattle.thread_invariant.proofs.Common.{eqb-false, false≢true, All-nil, All-cons, Setting, IsSetting, DepthFits, ThreadFits}
-use Rattle.thread_invariant.proofs.Common.{word_of_thread, thread_of_word, Idle, Running, EntryAt, LoadOf, Frame, Kernel, Tcap, State}
+use Rattle.thread_invariant.proofs.Common.{eqb-false, All-nil, All-cons, Setting, IsSetting}
+use Rattle.thread_invariant.proofs.Common.{word_of_thread, thread_of_word, Idle, Running, EntryAt, LoadOf, State}
 use Rattle.thread_invariant.proofs.Common.{comp_in, first_of_stack, thread_in, fits, frame_names, is_one_of, frames_near, marked_by}
 use Rattle.thread_invariant.proofs.Common.{thread_value, Step, Trace, state_after, last_left, Acquired, dues, next_work, frame_in}
 use Rattle.thread_invariant.proofs.Common.{tcap_dues, Switching, LoadTable, Due, Act, Goes, Undecided, ActiveCall, landed, Core}
 use Rattle.thread_invariant.proofs.Common.{holds_counts, AreDuesApart, due_of, KnowsUndecided, holds, holds_in, Invariant, claimed_by}
-use Rattle.thread_invariant.proofs.Common.{is_claimed, holds_idle, holds_switching, names_on, runs_on_own}
+use Rattle.thread_invariant.proofs.Common.{is_claimed, holds_switching, names_on, runs_on_own}
 use Rattle.thread_invariant.specs.spk_nums.specs.declared.kinds.Kind.TheVariants as kind
 use Rattle.thread_invariant.specs.tcap_words.proofs.ThreadLemmas as words
 use Rattle.thread_invariant.specs.stage_thread.specs.declared.claim.Claimed.{Claimed as ClaimedOf}
@@ -17,12 +17,11 @@ use Rattle.thread_invariant.specs.act_states.specs.Switches.{switch_due_list, sw
 use Rattle.thread_invariant.specs.act_states.specs.declared.switches.SwitchAt.TheVariants.{LoadPages, Leave}
 use Rattle.thread_invariant.specs.act_states.specs.declared.work.Act.{Act as ActOf}
 use Rattle.thread_invariant.specs.act_states.specs.declared.work.Act.TheVariants.{Switch as switch_act}
-use Rattle.thread_invariant.specs.core_invariant.specs.Threads.{HasRoots, HasTable, IsTop}
+use Rattle.thread_invariant.specs.core_invariant.specs.Threads.{HasTable, IsTop}
 use Rattle.thread_invariant.specs.step_ways.proofs.Loads.{next_at, step_to, loads_on}
 use Rattle.thread_invariant.specs.step_ways.proofs.Refusals.{GoodTook}
 use Rattle.thread_invariant.specs.core_invariant.proofs.ThreadHolds.{IsIdleIn, claimed_idle}
 use Rattle.thread_invariant.specs.count_invariant.proofs.Acquiring.{knows_next, next_holds}
-use Rattle.thread_invariant.specs.count_invariant.proofs.SwitchCounts.{tcap_kind}
 use Rattle.thread_invariant.proofs.CompWords.{comp_says, table_below, pages_below}
 use Rattle.switch_invariant.proofs.Calls as calls
 use Rattle.switch_invariant.proofs.ThreadWords.{frame_shown, tcap_no_thread}

@@ -1,7 +1,7 @@
 -- What the first word of a thread shows where it carries no mark, who may keep it, and what the words of a claimed thread show.
 use Rattle.thread_invariant.proofs.Common.{◌≡◌, ◌≢◌, ◌<◌, ◌≤◌, inl, inr, ℕ, List, [], ◌∷◌, length, Option, Some, None, IsTrue, arith}
 use Rattle.thread_invariant.proofs.Common.{refl, sym, ◌∙◌, ap, subst, cases_eq, false≢true, Setting, IsSetting, thread_of_word, Idle}
-use Rattle.thread_invariant.proofs.Common.{Running, EntryAt, ThreadFields, Thread, Kernel, PlaceOf, State, first_of_stack, thread_in}
+use Rattle.thread_invariant.proofs.Common.{EntryAt, ThreadFields, Thread, Kernel, PlaceOf, State, first_of_stack, thread_in}
 use Rattle.thread_invariant.proofs.Common.{fits, frame_names, refs, times, IsObjectGood, IsSound, IsStack, opened, events_of, IsLegal}
 use Rattle.thread_invariant.proofs.Common.{marked_by, thread_value, stamp, Trace, state_after, last_left, sound_of, Core, HasComp}
 use Rattle.thread_invariant.proofs.Common.{settled_by, held_by, Invariant, IsFrameWord, IsThreadWord, count_room, none_kept, runs_on_own}

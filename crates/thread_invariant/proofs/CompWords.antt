@@ -1,6 +1,6 @@
 -- What the words of a component say, and which frames they name.
-use Rattle.live_invariant.proofs.Common.{◌≡◌, ◌<◌, ℕ, Option, Some, None, IsTrue, refl, sym, ◌∙◌, ap, subst, Setting, IsSetting, Kind}
-use Rattle.live_invariant.proofs.Common.{EntryAt, Kernel, Comp, CompFields, PlaceOf, State, comp_in, fits, IsSound, IsObjectGood, opened}
+use Rattle.live_invariant.proofs.Common.{◌≡◌, ◌<◌, ℕ, None, IsTrue, refl, ◌∙◌, ap, subst, Setting, IsSetting}
+use Rattle.live_invariant.proofs.Common.{EntryAt, Kernel, Comp, PlaceOf, State, comp_in, fits, IsSound, IsObjectGood, opened}
 use Rattle.live_invariant.proofs.Common.{events_of, mark_in_frame, marked_by, stamp, Trace, state_after, last_left, sound_of, Core}
 use Rattle.live_invariant.proofs.Common.{settled_by, held_by, Invariant, IsFrameWord, count_room, may_keep, unlent_value, limits_of}
 use Rattle.live_invariant.specs.spk_nums.specs.declared.kinds.Kind.TheVariants as kind

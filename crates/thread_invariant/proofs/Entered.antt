@@ -1,18 +1,18 @@
 -- The load of the number's word by which a core enters a component: where it shows the component live in the gate's epoch, the call is
 -- decided, and the component stands on top of the core's stack.
 use Rattle.live_invariant.proofs.Common.{list_any, min, ◌≡◌, ◌≢◌, ◌⊎◌, inl, inr, ℕ, suc, pos, ◌+ℤ◌, max, length, ◌+◌, ◌-◌, ◌^◌, ◌<◌, ◌≤◌}
-use Rattle.live_invariant.proofs.Common.{◌==◌, Bool, true, false, if◌then◌else◌, cond, List, [], ◌∷◌, Option, Some, None, arith, refl}
+use Rattle.live_invariant.proofs.Common.{◌==◌, Bool, true, false, if◌then◌else◌, List, [], ◌∷◌, Option, Some, None, arith, refl}
 use Rattle.live_invariant.proofs.Common.{sym, ◌∙◌, ap, subst, eqb-true, eq-eqb, Setting, IsSetting, Reply, live_of_word, CompWord}
-use Rattle.live_invariant.proofs.Common.{LiveWord, word_of_stack, ThreadFits, word_of_thread, thread_of_word, Running, Word, EntryAt}
+use Rattle.live_invariant.proofs.Common.{LiveWord, word_of_stack, ThreadFits, word_of_thread, Running, Word, EntryAt}
 use Rattle.live_invariant.proofs.Common.{CountAt, LiveAt, ClockAt, Move, LoadOf, word_of, told_of, CompFields, ThreadFields, Comp, Thread}
 use Rattle.live_invariant.proofs.Common.{Kernel, Thing, PlaceOf, FrameOf, NumberOf, Grace, State, first_of_stack, comp_in, comp_of}
-use Rattle.live_invariant.proofs.Common.{thread_of, put, Found, IsFoundAnd, times, refs, is_live_in, pushes, MayReply, change_of, changed}
+use Rattle.live_invariant.proofs.Common.{thread_of, Found, IsFoundAnd, times, refs, is_live_in, pushes, MayReply, change_of, changed}
 use Rattle.live_invariant.proofs.Common.{counted, begins_in, ends_by, flushes_by, same_thing, new_grace, times_cons, live_mark, marked_by}
 use Rattle.live_invariant.proofs.Common.{at_height, ends_in, flushes_in, begins_at, ends_at, flushes_at, stamp, Step, Trace, Open, phase}
 use Rattle.live_invariant.proofs.Common.{state_after, state_decided_in, last_left, ok_first, last_left-there, later, stamp_of_change}
 use Rattle.live_invariant.proofs.Common.{Invoking, InvokingAt, Own, Works, Tail, Push, Act, own_changed, own_decided, Stage, Undecided}
-use Rattle.live_invariant.proofs.Common.{Decided, ActiveCall, landed, Core, IsWithin, Holding, holds_counts, WordIs, NumberIs}
-use Rattle.live_invariant.proofs.Common.{KnowsUndecided, WorksIn, holds_at, holds_in, holds, held_by, times_of, Invariant, counts_bare}
+use Rattle.live_invariant.proofs.Common.{Decided, ActiveCall, landed, Core, IsWithin, Holding, holds_counts, WordIs}
+use Rattle.live_invariant.proofs.Common.{KnowsUndecided, WorksIn, holds_at, holds_in, holds, times_of, Invariant, counts_bare}
 use Rattle.live_invariant.proofs.Common.{IsUntimed, plain_begins, plain_stamp, plain_flush, lent_kept, marks_own, carry_marks, word_stays}
 use Rattle.live_invariant.proofs.Common.{last_small, invoking_dues, due_of}
 use Rattle.live_invariant.specs.spk_nums.specs.declared.replies.Reply.TheVariants as reply
@@ -25,7 +25,7 @@ use Rattle.live_invariant.specs.stage_thread.specs.declared.stack.Push.TheVarian
 use Rattle.live_invariant.specs.act_states.specs.declared.invocations.InvokingAt.TheVariants.{LoadTable, LoadPages, LoadComp, LoadLive}
 use Rattle.live_invariant.specs.act_states.specs.declared.work.Act.TheVariants.{Invoke as invoke_act}
 use Rattle.live_invariant.specs.act_states.specs.Acts.{took_invoking, took_invoking_at}
-use Rattle.live_invariant.specs.act_states.specs.Invocations.{invoking_at, invoking_move, enters_if, enters_number, enters_live}
+use Rattle.live_invariant.specs.act_states.specs.Invocations.{invoking_at, invoking_move, enters_if, enters_live}
 use Rattle.live_invariant.specs.core_invariant.specs.Components.{HasLoadedComp, KnowsInvoking}
 use Rattle.live_invariant.specs.core_invariant.specs.Holding.{keeps_bare}
 use Rattle.live_invariant.specs.step_ways.proofs.Good.{spares_kept}
@@ -41,7 +41,7 @@ use Rattle.thread_invariant.proofs.EntryMarks.{counts_apart}
 use Rattle.thread_invariant.proofs.CompWords.{holds_comp, comp_below}
 use Rattle.thread_invariant.proofs.Heights.{at_top, beside_top}
 use Rattle.thread_invariant.proofs.InvokeCalls as calls
-use Rattle.thread_invariant.proofs.Invokes.{knows_at, loaded, looking, says, lives_so, dead_good}
+use Rattle.thread_invariant.proofs.Invokes.{knows_at, looking, says, lives_so, dead_good}
 use Rattle.thread_invariant.proofs.Invokes.{closing_good, load_table_good, load_pages_good, load_comp_good}
 use Rattle.thread_invariant.proofs.OwnStack.{own_thread}
 use Rattle.thread_invariant.proofs.Restacks.{IsRestack, frame_away, core_now, limits, whose, refs_now}

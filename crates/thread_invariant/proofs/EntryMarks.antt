@@ -2,7 +2,7 @@
 -- of a running thread carries the mark of another core.
 use Rattle.live_invariant.proofs.Common.{◌≡◌, ◌≢◌, ◌⊎◌, ◌<◌, ◌^◌, ◌+◌, ◌*◌, inl, inr, ℕ, zero, suc, Bool, true, false, if◌then◌else◌}
 use Rattle.live_invariant.proofs.Common.{List, [], ◌∷◌, length, Option, Some, None, IsTrue, arith, refl, sym, ◌∙◌, ap, subst, false≢true}
-use Rattle.live_invariant.proofs.Common.{cases_eq, cases_lt, ne_eqb, Setting, IsSetting, Call, word_of_thread, thread_of_word, Idle}
+use Rattle.live_invariant.proofs.Common.{cases_lt, ne_eqb, Setting, IsSetting, Call, word_of_thread, thread_of_word, Idle}
 use Rattle.live_invariant.proofs.Common.{Running, Word, EntryAt, FrameAt, CompMaking, Frame, Kernel, Table, Leaf, Pages, Pleaf, Thread}
 use Rattle.live_invariant.proofs.Common.{Tcap, PlaceOf, State, thread_in, thread_of, fits, Relies, is_node, mark_in_frame, thread_mark}
 use Rattle.live_invariant.proofs.Common.{marked_by, thread_value, stamp, Trace, Open, phase, state_after, last_left, cases_word}
@@ -11,7 +11,7 @@ use Rattle.live_invariant.proofs.Common.{KillingAt, LoadComp, LoadLive, MakingAt
 use Rattle.live_invariant.proofs.Common.{release_of, Outside, Tail, Nothing, Quiesce, Unmark, StoreDead, StoreFlush, Release, StoreLive}
 use Rattle.live_invariant.proofs.Common.{Push, Pop, Share, StoreRunning, StoreIdle, Work, Lookup, Read, Scan, Acquire, Act, Stage, Enter}
 use Rattle.live_invariant.proofs.Common.{Undecided, Decided, Leave, ActiveCall, Core, swept_of, holds_release, holds_untyping, Holding}
-use Rattle.live_invariant.proofs.Common.{nothing, keeps, holds_counts, settled_by, holds_idle, holds_switching, claimed_by, IsFrameWord}
+use Rattle.live_invariant.proofs.Common.{nothing, keeps, holds_counts, settled_by, holds_idle, holds_switching, IsFrameWord}
 use Rattle.live_invariant.proofs.Common.{count_room, KnowsAct, KnowsWork, KnowsTail, KnowsAt, CallIs, phase_at, KnowsStoresAt, holds_act}
 use Rattle.live_invariant.proofs.Common.{holds_making, holds_killing, holds_comp, holds_share, holds_shared, holds_head, holds_heads}
 use Rattle.live_invariant.proofs.Common.{holds_work, holds_tail, is_done, holds_at, holds_in, holds, held_by, Invariant, slot_relies}
@@ -37,7 +37,6 @@ use Rattle.live_invariant.specs.act_states.specs.declared.work.Act.TheVariants.{
 use Rattle.live_invariant.specs.act_states.specs.declared.work.Act.TheVariants.{Map as map_act, MakeComp as comp_act, Invoke as invoke_act}
 use Rattle.live_invariant.specs.act_states.specs.declared.work.Act.TheVariants.{Return as return_act, Share as share_act}
 use Rattle.live_invariant.specs.act_states.specs.declared.work.Act.TheVariants.{Switch as switch_act}
-use Rattle.live_invariant.specs.core_invariant.specs.Threads.{KnowsSwitch}
 use Rattle.thread_invariant.proofs.OwnStack.{own_thread}
 
 pub counts_apart : (fate : Option (Option ℕ)) (xs : List Acquired) (f i : ℕ) → (holds_counts fate xs).marks (EntryAt f i) ≡ false

@@ -1,6 +1,6 @@
 -- What stands at the heights of a stack.
-use Rattle.live_invariant.proofs.Common.{◌≡◌, ◌≢◌, ◌<◌, ◌≤◌, ◌-◌, inl, inr, ℕ, suc, List, [], ◌∷◌, length, Option, Some, None, arith}
-use Rattle.live_invariant.proofs.Common.{refl, sym, ◌∙◌, ap, cases_lt, at_height}
+use Rattle.live_invariant.proofs.Common.{◌≡◌, ◌≢◌, ◌<◌, ◌≤◌, ◌-◌, inl, inr, ℕ, suc, List, [], ◌∷◌, length, Some, None, arith}
+use Rattle.live_invariant.proofs.Common.{sym, ◌∙◌, ap, cases_lt, at_height}
 use Rattle.std.proofs.Common.{get_or, reverse}
 use Rattle.std.proofs.lemmas.List.{length-reverse, get_or-reverse}
 use Rattle.std.proofs.lemmas.Option.{slice_get_past, slice_get-get_or}

@@ -1,7 +1,8 @@
 -- What a call that enters a component knows of its rule: what is left of it after its name, and what refuses it.
-use Rattle.live_invariant.proofs.Common.{Want, IsSome, ◌≡◌, inl, inr, ℕ, ◌<◌, ◌==◌, ◌&&◌, ◌||◌, not, nat_le, Bool, true, false, if◌then◌else◌}
-use Rattle.live_invariant.proofs.Common.{List, [], ◌∷◌, length, Option, Some, None, IsTrue, arith, refl, sym, ◌∙◌, ap, subst, eq-eqb}
-use Rattle.live_invariant.proofs.Common.{lt-leb, All-nil, Capability, Setting, IsSetting, Kind, EntryAt, CompFields, Comp, Kernel, State}
+use Rattle.live_invariant.proofs.Common.{Want, IsSome, ◌≡◌, inl, inr, ℕ, ◌<◌, ◌==◌, ◌&&◌, ◌||◌, not, nat_le, Bool, true, false}
+use Rattle.live_invariant.proofs.Common.{if◌then◌else◌}
+use Rattle.live_invariant.proofs.Common.{[], ◌∷◌, length, Some, None, arith, refl, sym, ◌∙◌, ap, subst, eq-eqb}
+use Rattle.live_invariant.proofs.Common.{lt-leb, All-nil, Capability, Setting, IsSetting, EntryAt, CompFields, Comp, Kernel, State}
 use Rattle.live_invariant.proofs.Common.{comp_in, thread_of, Slot, found, own, Rule, When, Does, RuleMay, outcome, unless, first_of}
 use Rattle.live_invariant.proofs.Common.{is_live_in, pushes, rule_of, change_of, is_one_of, frames_near, HasReached, Step, Trace, Open}
 use Rattle.live_invariant.proofs.Common.{phase, state_after, own_left, way_to, ways, Plan, GoesBy, own_pages, rule_after, Leads, LeadsIn}

@@ -1,9 +1,11 @@
 -- An entering starts where its name has led to a gate; or the core's stack is full.
-use Rattle.live_invariant.proofs.Common.{Want, to_use, ◌≡◌, ◌<◌, inl, ℕ, map, nat_le, not, Bool, true, false, if◌then◌else◌, List, [], ◌∷◌, length}
+use Rattle.live_invariant.proofs.Common.{Want, to_use, ◌≡◌, ◌<◌, inl, ℕ, map, nat_le, not, Bool, true, false, if◌then◌else◌, List, [], ◌∷◌}
+use Rattle.live_invariant.proofs.Common.{length}
 use Rattle.live_invariant.proofs.Common.{Some, None, IsTrue, refl, sym, ◌∙◌, ap, subst, false≢true, Capability, Setting, IsSetting, Kind}
 use Rattle.live_invariant.proofs.Common.{Call, Move, word_of, Comp, Frame, Kernel, State, comp_in, thread_of, only, fits, named_by, Found}
 use Rattle.live_invariant.proofs.Common.{Refused, RuleMay, named, outcome, unless, first_of, is_live_in, pushes, rule_of, change_of}
-use Rattle.live_invariant.proofs.Common.{are_calls_spent, suits, named_fit, opened, name_parts, events_of, IsLegal, Step, Trace, Open, phase}
+use Rattle.live_invariant.proofs.Common.{are_calls_spent, suits, named_fit, opened, name_parts, events_of, IsLegal, Step, Trace, Open}
+use Rattle.live_invariant.proofs.Common.{phase}
 use Rattle.live_invariant.proofs.Common.{state_after, last_left, refused_first, Carries, sound_of, opened_is, guarded_usable, Acquired}
 use Rattle.live_invariant.proofs.Common.{GoesBy, own_pages, rule_after, Leads, LeadsIn, outcome_left, left_may, Invoking, Act, Goes}
 use Rattle.live_invariant.proofs.Common.{refuse, Undecided, ActiveCall, landed, found_more, Core, HasComp, InvokesBy, holds_counts}

@@ -1,10 +1,10 @@
 -- The loads by which a core that enters a component reads its words are good; and so is the load of its number's word, where that refuses
 -- it.
-use Rattle.live_invariant.proofs.Common.{◌≡◌, inl, ℕ, ◌<◌, ◌==◌, ◌++◌, map, length, nat_lt, Bool, true, false, if◌then◌else◌, List, []}
-use Rattle.live_invariant.proofs.Common.{◌∷◌, Option, Some, None, IsTrue, arith, refl, sym, ◌∙◌, ap, subst, eqb-true, lt-ltb, false≢true}
+use Rattle.live_invariant.proofs.Common.{◌≡◌, inl, ℕ, ◌<◌, ◌==◌, ◌++◌, map, length, false, if◌then◌else◌, List, []}
+use Rattle.live_invariant.proofs.Common.{◌∷◌, Option, Some, None, IsTrue, arith, refl, sym, ◌∙◌, ap, subst, lt-ltb}
 use Rattle.live_invariant.proofs.Common.{Capability, Call, Setting, IsSetting, comp_of_word, live_of_word, CompWord, LiveWord, Word}
 use Rattle.live_invariant.proofs.Common.{EntryAt, LiveAt, LoadOf, CompFields, NumberOf, State, comp_in, is_live_in, live_mark, marked_by}
-use Rattle.live_invariant.proofs.Common.{stamp, Step, Trace, state_after, last_left, Carries, Acquired, Invoking, InvokingAt, Act, Goes}
+use Rattle.live_invariant.proofs.Common.{stamp, Step, Trace, state_after, last_left, Acquired, Invoking, InvokingAt, Act, Goes}
 use Rattle.live_invariant.proofs.Common.{frame_in, refuse, dues, invoking_dues, next_work, Undecided, ActiveCall, landed, Core, InvokesBy}
 use Rattle.live_invariant.proofs.Common.{holds_counts, settled_by, NumberIs, due_of, KnowsUndecided, holds_at, holds_in, held_by}
 use Rattle.live_invariant.proofs.Common.{Invariant, names_on}
@@ -16,7 +16,7 @@ use Rattle.live_invariant.specs.act_states.specs.declared.refusals.Refusal.TheVa
 use Rattle.live_invariant.specs.act_states.specs.declared.work.Act.{Act as ActOf}
 use Rattle.live_invariant.specs.act_states.specs.declared.work.Act.TheVariants.{Invoke as invoke_act}
 use Rattle.live_invariant.specs.act_states.specs.Acts.{meets_table, meets_pages, meets_gate}
-use Rattle.live_invariant.specs.core_invariant.specs.Components.{IsOnThread, HasLoadedComp, KnowsInvoking}
+use Rattle.live_invariant.specs.core_invariant.specs.Components.{HasLoadedComp, KnowsInvoking}
 use Rattle.live_invariant.specs.kept_facts.proofs.Carries.{invoking_on}
 use Rattle.live_invariant.specs.step_ways.proofs.Loads.{OnlyLooks, step_to, next_at, loads_on}
 use Rattle.live_invariant.specs.step_ways.proofs.Refusals.{GoodTook, refuses_busy, refuses_dead, ticks_at}

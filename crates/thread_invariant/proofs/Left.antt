@@ -1,20 +1,20 @@
 -- The draw of a stamp by which a core leaves a component: the call is decided, and the component below stands on top of the core's stack.
 -- The reference to the component that is left is released at the stamp.
 use Rattle.live_invariant.proofs.Common.{list_any, ◌≡◌, ◌≢◌, ◌⊎◌, inl, inr, ℕ, suc, pos, negsuc, ◌+ℤ◌, max, length, ◌+◌, ◌-◌, ◌^◌, ◌<◌}
-use Rattle.live_invariant.proofs.Common.{◌≤◌, ◌==◌, ◌||◌, Bool, true, false, if◌then◌else◌, List, [], ◌∷◌, Option, Some, None, IsTrue}
+use Rattle.live_invariant.proofs.Common.{◌≤◌, ◌==◌, ◌||◌, true, false, if◌then◌else◌, List, [], ◌∷◌, Option, Some, None, IsTrue}
 use Rattle.live_invariant.proofs.Common.{arith, refl, sym, ◌∙◌, ap, subst, cases_eq, eq-eqb, ne_eqb, false≢true, Setting, IsSetting}
-use Rattle.live_invariant.proofs.Common.{Reply, word_of_stack, ThreadFits, word_of_thread, Running, Word, EntryAt, CountAt, FlushAt}
+use Rattle.live_invariant.proofs.Common.{Reply, word_of_stack, ThreadFits, word_of_thread, Running, Word, EntryAt, CountAt}
 use Rattle.live_invariant.proofs.Common.{ClockAt, Move, AddOf, word_of, told_of, CompFields, ThreadFields, Comp, Thread, Kernel, Thing}
-use Rattle.live_invariant.proofs.Common.{PlaceOf, FrameOf, NumberOf, Grace, State, first_of_stack, comp_in, comp_of, thread_of, put}
+use Rattle.live_invariant.proofs.Common.{PlaceOf, FrameOf, NumberOf, Grace, State, first_of_stack, comp_in, comp_of, thread_of}
 use Rattle.live_invariant.proofs.Common.{Found, IsFoundAnd, frames_of, times, refs, MayReply, change_of, changed, counted, begins_in}
 use Rattle.live_invariant.proofs.Common.{ends_by, flushes_by, same_thing, new_grace, times_cons, changes_threads, raises_clock, KeepsTime}
 use Rattle.live_invariant.proofs.Common.{marked_by, at_height, ends_in, flushes_in, begins_at, ends_at, flushes_at, stamp, clock}
 use Rattle.live_invariant.proofs.Common.{flush_of, flush_stored, Step, Trace, Open, phase, state_after, state_decided_in, last_left}
 use Rattle.live_invariant.proofs.Common.{ok_first, stamp-begins, stamp-kept, flush_of-own, flush_stored-own, flush_stored-other}
 use Rattle.live_invariant.proofs.Common.{drawn_stamp, later, stamp_of_change, ReturningAt, Own, Works, Tail, Pop, Act, own_changed}
-use Rattle.live_invariant.proofs.Common.{own_decided, Stage, Undecided, Decided, ActiveCall, landed, Core, below_of, IsWithin, Holding}
-use Rattle.live_invariant.proofs.Common.{holds_counts, WordIs, due_of, flushing_in, KnowsUndecided, WorksIn, holds_at, holds_in, holds}
-use Rattle.live_invariant.proofs.Common.{held_by, times_of, counted_in, Invariant, counts_bare, lent_elsewhere, marks_own, carry_marks}
+use Rattle.live_invariant.proofs.Common.{own_decided, Stage, Undecided, Decided, ActiveCall, landed, Core, IsWithin, Holding}
+use Rattle.live_invariant.proofs.Common.{holds_counts, WordIs, due_of, flushing_in, KnowsUndecided, WorksIn, holds_in, holds}
+use Rattle.live_invariant.proofs.Common.{times_of, Invariant, counts_bare, lent_elsewhere, marks_own, carry_marks}
 use Rattle.live_invariant.proofs.Common.{returning_dues}
 use Rattle.std.proofs.Common.{take, drop}
 use Rattle.std.proofs.Math.IntN.{pos-+ℤ-pos, +ℤ_assoc, +ℤ_invr, +ℤ_idr}
@@ -30,7 +30,7 @@ use Rattle.live_invariant.specs.act_states.specs.declared.invocations.ReturningA
 use Rattle.live_invariant.specs.act_states.specs.declared.work.Act.TheVariants.{Return as return_act}
 use Rattle.live_invariant.specs.act_states.specs.Acts.{took_returning, took_returning_at}
 use Rattle.live_invariant.specs.act_states.specs.Invocations.{returning_at, returning_move, left_to}
-use Rattle.live_invariant.specs.core_invariant.specs.Components.{IsBelow, HasLoadedBelow, KnowsReturning}
+use Rattle.live_invariant.specs.core_invariant.specs.Components.{HasLoadedBelow, KnowsReturning}
 use Rattle.live_invariant.specs.core_invariant.specs.Holding.{keeps_bare}
 use Rattle.live_invariant.specs.step_ways.proofs.Draws.{raised}
 use Rattle.live_invariant.specs.step_ways.proofs.Flushing.{open_flushed}

@@ -1,11 +1,11 @@
 -- A decision by which a core's thread has another stack, of which one place has changed: what is said of words then, and what the core
 -- keeps.
-use Rattle.live_invariant.proofs.Common.{◌≡◌, ◌≢◌, ◌⊎◌, inl, inr, ◌<◌, ◌≤◌, ◌+◌, ◌*◌, ℕ, zero, suc, true, false, List, [], ◌∷◌, length}
+use Rattle.live_invariant.proofs.Common.{◌≡◌, ◌≢◌, ◌⊎◌, inl, inr, ◌<◌, ◌≤◌, ◌+◌, ◌*◌, ℕ, zero, suc, false, List, [], ◌∷◌, length}
 use Rattle.live_invariant.proofs.Common.{Option, Some, None, arith, refl, sym, ◌∙◌, ap, subst, cases_eq, Setting, IsSetting, Reply}
 use Rattle.live_invariant.proofs.Common.{stack_of_word, thread_of_word, Running, Word, EntryAt, FrameAt, CountAt, CoreAt, FlushAt, LiveAt}
-use Rattle.live_invariant.proofs.Common.{ClockAt, Move, word_of, left_of, Grace, Thing, PlaceOf, NumberOf, ThreadFields, Kernel, Thread}
+use Rattle.live_invariant.proofs.Common.{ClockAt, Move, word_of, left_of, Grace, Thing, PlaceOf, NumberOf, Kernel, Thread}
 use Rattle.live_invariant.proofs.Common.{State, thread_of, put, sum_below, times, refs, sum_one, mark_of, mark_in_frame, marked_by}
-use Rattle.live_invariant.proofs.Common.{at_height, thread_value, stamp, flush_stored, Step, Trace, Open, phase, state_after, last_left}
+use Rattle.live_invariant.proofs.Common.{at_height, thread_value, stamp, flush_stored, Step, Trace, phase, state_after, last_left}
 use Rattle.live_invariant.proofs.Common.{decided-inside, last_left-there, ActiveCall, Core, settled, IsFrameWord, IsThreadWord, WordIs}
 use Rattle.live_invariant.proofs.Common.{count_room, holds, held_by, times_of, counted_in, IsLent, Invariant, plain_exit, runs_on_own}
 use Rattle.live_invariant.proofs.Common.{limits_of, ReadsAlike, SameFor, StaysSaid, word_stays, frame_value}

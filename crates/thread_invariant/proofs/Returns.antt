@@ -1,14 +1,13 @@
 -- The loads by which a core that leaves a component reads the component below it are good.
-use Rattle.live_invariant.proofs.Common.{IsSome, ◌≡◌, inl, ℕ, suc, ◌<◌, ◌≤◌, ◌+◌, ◌-◌, ◌==◌, ◌++◌, map, length, nat_le, nat_lt, Bool}
-use Rattle.live_invariant.proofs.Common.{true, false, if◌then◌else◌, List, [], ◌∷◌, Option, Some, None, IsTrue, arith, refl, sym, ◌∙◌, ap}
-use Rattle.live_invariant.proofs.Common.{subst, lt-leb, lt-ltb, All-nil, Setting, IsSetting, stack_of_word, EntryAt, LoadOf, CompFields}
-use Rattle.live_invariant.proofs.Common.{State, first_of_stack, comp_in, thread_of, Slot, Found, unless, first_of, rule_of, change_of}
+use Rattle.live_invariant.proofs.Common.{IsSome, ◌≡◌, inl, ℕ, suc, ◌<◌, ◌≤◌, ◌+◌, ◌-◌, ◌==◌, ◌++◌, map, length}
+use Rattle.live_invariant.proofs.Common.{true, false, if◌then◌else◌, List, [], ◌∷◌, Option, Some, None, arith, refl, sym, ◌∙◌, ap}
+use Rattle.live_invariant.proofs.Common.{subst, lt-leb, lt-ltb, All-nil, Setting, IsSetting, stack_of_word, EntryAt, LoadOf}
+use Rattle.live_invariant.proofs.Common.{State, comp_in, thread_of, Slot, Found, unless, first_of, rule_of, change_of}
 use Rattle.live_invariant.proofs.Common.{is_one_of, frames_near, HasReached, at_height, Step, Trace, Open, phase, state_after, last_left}
-use Rattle.live_invariant.proofs.Common.{own_left, ways, Carries, Acquired, ReturningAt, Act, Goes, frame_in, dues, returning_dues}
+use Rattle.live_invariant.proofs.Common.{own_left, ways, Acquired, ReturningAt, Act, Goes, frame_in, dues, returning_dues}
 use Rattle.live_invariant.proofs.Common.{next_work, Undecided, ActiveCall, StageFits, HasRoom, landed, Core, HasComp, below_of}
 use Rattle.live_invariant.proofs.Common.{holds_counts, due_of, KnowsUndecided, phase_at, holds_at, holds_in, holds, Invariant}
 use Rattle.live_invariant.proofs.Common.{counts_bare, names_on}
-use Rattle.std.proofs.Common.{drop}
 use Rattle.live_invariant.specs.spk_nums.specs.declared.replies.Reply.TheVariants as reply
 use Rattle.live_invariant.specs.kernel_rules.specs.InvocationCalls.{pops}
 use Rattle.live_invariant.specs.act_states.specs.declared.invocations.Returning.{Returning}

@@ -1,7 +1,7 @@
 -- The stores of a push and of a pop are good.
 use Rattle.live_invariant.proofs.Common.{◌≡◌, ◌≢◌, ◌⊎◌, inl, inr, ℕ, ◌+◌, ◌-◌, ◌≤◌, ◌^◌, ◌<◌, ◌==◌, ◌&&◌, Bool, true, false}
 use Rattle.live_invariant.proofs.Common.{if◌then◌else◌, List, Option, Some, None, arith, refl, sym, ◌∙◌, ap, subst, eqb-true, eq-eqb}
-use Rattle.live_invariant.proofs.Common.{ne_eqb, Setting, IsSetting, Reply, Word, EntryAt, word_of_stack, ThreadFits, word_of_thread}
+use Rattle.live_invariant.proofs.Common.{ne_eqb, Setting, IsSetting, Reply, EntryAt, word_of_stack, ThreadFits, word_of_thread}
 use Rattle.live_invariant.proofs.Common.{thread_of_word, Running, Acquired, ThreadFields, Kernel, Thread, thread_mark, mark_in_frame}
 use Rattle.live_invariant.proofs.Common.{Trace, Nothing, Push, Pop, Decided, ActiveCall, StageFits, GoesOn, went_with, Core, Holding}
 use Rattle.live_invariant.proofs.Common.{holds_counts, done_by, Invariant, AsBefore, counts_bare}
@@ -15,8 +15,7 @@ use Rattle.live_invariant.specs.stage_thread.specs.declared.stack.Pop.TheVariant
 use Rattle.live_invariant.specs.call_stages.specs.Tails.{pushed_on, popped_on}
 use Rattle.live_invariant.specs.core_invariant.specs.Holding.{keeps_bare}
 use Rattle.live_invariant.specs.core_invariant.specs.Knows.{KnowsPush, KnowsPop}
-use Rattle.live_invariant.specs.core_invariant.specs.Invariant.{holds_push, holds_pop}
-use Rattle.live_invariant.specs.step_ways.proofs.Loads.{core_is, is_active}
+use Rattle.live_invariant.specs.step_ways.proofs.Loads.{is_active}
 use Rattle.live_invariant.specs.step_ways.proofs.Refusals.{GoodTook}
 use Rattle.thread_invariant.proofs.Stores.{stack_good}
 

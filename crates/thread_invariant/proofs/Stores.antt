@@ -2,10 +2,10 @@
 -- core keeps it no longer.
 use Rattle.live_invariant.proofs.Common.{◌≡◌, ◌≢◌, inl, inr, ℕ, ◌≤◌, ◌^◌, ◌<◌, ◌==◌, ◌||◌, true, false, if◌then◌else◌, List, [], ◌∷◌}
 use Rattle.live_invariant.proofs.Common.{◌++◌, length, Option, Some, None, IsTrue, arith, refl, sym, ◌∙◌, ap, subst, cases_eq, eq-eqb}
-use Rattle.live_invariant.proofs.Common.{Setting, IsSetting, Reply, Word, EntryAt, ClockAt, Move, StoreOf, ThreadFields, Frame, Untyped}
+use Rattle.live_invariant.proofs.Common.{Setting, IsSetting, Reply, Word, EntryAt, Move, StoreOf, ThreadFields, Frame, Untyped}
 use Rattle.live_invariant.proofs.Common.{User, Kernel, Blank, Table, Leaf, Pages, Pleaf, Comp, Thread, Tcap, State, thread_in, thread_of}
 use Rattle.live_invariant.proofs.Common.{comp_of, put, put_same, put_other, changes_threads, changes_in_frame, is_one_of, frames_own}
-use Rattle.live_invariant.proofs.Common.{frames_near, mark_in_frame, marked_by, Step, Trace, state_after, last_left, Acquired, Tail}
+use Rattle.live_invariant.proofs.Common.{frames_near, mark_in_frame, Step, Trace, state_after, last_left, Acquired, Tail}
 use Rattle.live_invariant.proofs.Common.{Decided, ActiveCall, GoesOn, went_with, Core, Holding, holds_counts, settled_by, phase_at}
 use Rattle.live_invariant.proofs.Common.{KnowsTail, done_by, holds_tail, holds_at, holds_in, holds, held_by, IsLent, Invariant, AsBefore}
 use Rattle.live_invariant.proofs.Common.{none_kept, counts_on}

@@ -1,14 +1,14 @@
 -- What the head of a temporal capability says that a core has marked in a call that is not decided: the mark, and the budget still.
 use Rattle.flight.proofs.Common.{◌≡◌, ◌<◌, inl, inr, ℕ, zero, suc, true, false, if◌then◌else◌, Option, Some, None, IsTrue, arith, refl}
 use Rattle.flight.proofs.Common.{sym, ◌∙◌, ap, subst, false≢true, Setting, IsSetting, Call, HeadFits, word_of_head, head_of_word}
-use Rattle.flight.proofs.Common.{HeadWord, spelling, EntryAt, same_same, Frame, Kernel, Table, Leaf, Pages, Pleaf, Thread, Tcap}
-use Rattle.flight.proofs.Common.{TcapFields, State, fits, is_node, marked_by, Trace, Open, phase, state_after, last_left, cases_word}
+use Rattle.flight.proofs.Common.{HeadWord, spelling, EntryAt, same_same, Frame, Kernel, Table, Leaf, Pages, Pleaf, Thread}
+use Rattle.flight.proofs.Common.{State, fits, is_node, Trace, Open, phase, state_after, last_left, cases_word}
 use Rattle.flight.proofs.Common.{same_word-other, AtCompare, AtDraw, AtStore, marked, Pair, PairAt, CompAt, CompMaking, KillingAt}
 use Rattle.flight.proofs.Common.{LoadComp, LoadLive, MakingAt, Mark, Store, Switching, SwitchAt, UntypingAt, release_of, Outside, Work}
 use Rattle.flight.proofs.Common.{Lookup, Read, Scan, Acquire, Act, Stage, Enter, Undecided, Decided, Leave, ActiveCall, Core, swept_of}
 use Rattle.flight.proofs.Common.{holds_untyping, Holding, nothing, keeps, holds_counts, holds_switching, claimed_by, HeadIs, count_room}
 use Rattle.flight.proofs.Common.{KnowsAct, KnowsWork, KnowsAt, CallIs, phase_at, HasMarkedA, KnowsPairAt, holds_act, holds_making}
-use Rattle.flight.proofs.Common.{holds_killing, holds_comp, holds_share, holds_head, holds_work, holds_at, holds_in, holds, held_by}
+use Rattle.flight.proofs.Common.{holds_killing, holds_comp, holds_share, holds_head, holds_work, holds_at, holds_in, holds}
 use Rattle.flight.proofs.Common.{Invariant, slot_relies, release_entry}
 use Rattle.flight.specs.spk_nums.specs.declared.kinds.Kind.TheVariants as kind
 use Rattle.flight.specs.kernel_history.specs.Trace as history
@@ -30,7 +30,7 @@ use Rattle.flight.specs.pair_invariant.proofs.ShareSteps.{marked_says}
 use Rattle.flight.specs.thread_invariant.proofs.EntryMarks.{counts_apart, holder_below}
 use Rattle.flight.specs.thread_invariant.proofs.OwnStack.{own_thread}
 use Rattle.flight.specs.Made.{cores_after, IsMade}
-use Rattle.time_laws.specs.Time.{ShowsMarked, OpenHeadsSay}
+use Rattle.time_laws.specs.Time.{OpenHeadsSay}
 use Rattle.flight.proofs.Made.{made_stands}
 
 pub node_no_tcap : (x : Frame) → IsTrue (is_node x) → is_tcap x ≡ false

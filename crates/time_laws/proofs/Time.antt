@@ -1,9 +1,9 @@
 -- The time of a machine is that of the sequential kernel, whose laws hold of each legal trace; and heads say it.
-use Rattle.flight.proofs.Common.{to_use, unlent_head_value, ◌≡◌, ℕ, ◌+◌, ◌∷◌, [], ◌&&◌, ◌==◌, Bool, true, false, Option, Some, None}
+use Rattle.flight.proofs.Common.{to_use, unlent_head_value, ◌≡◌, ℕ, ◌+◌, ◌∷◌, [], ◌&&◌, ◌==◌, Bool, true, false, Some, None}
 use Rattle.flight.proofs.Common.{if◌then◌else◌, refl, sym, ◌∙◌, ap, subst, Setting, IsSetting, head_of_word, EntryAt, PlaceOf, State}
 use Rattle.flight.proofs.Common.{events_of, IsLegal, MayDecide, stamp, Trace, state_after, last_left, Step, Open, phase, after_enter}
 use Rattle.flight.proofs.Common.{state_before, state_is, run_of, settled_by, settled, held_by, Invariant, HeadIs, IsFrameWord, count_room}
-use Rattle.flight.proofs.Common.{Capability, Call, Test, Value, only, found, Judged, Found, Refused, IsFoundAnd, named, and_then, unless}
+use Rattle.flight.proofs.Common.{Capability, Call, Test, Value, only, Judged, Found, Refused, IsFoundAnd, named, and_then, unless}
 use Rattle.flight.proofs.Common.{first_of, answers, tcap_at, change_of, MayReply, Change}
 use Rattle.flight.specs.kernel_rules.specs.Laws.{ticks}
 use Rattle.flight.specs.kernel_laws.proofs.TicksLaw.{ticks_kept}
@@ -56,7 +56,8 @@ told_by s c x y v h = by (named s c x (to_use (only kind.Tcap))) (named s c y (t
     rest a b = unless (first_of (if true && (true && a.frame == b.frame) then Some reply.Same else None) None)
         (answers s (preemption (preempts (tcap_at s a.frame) (tcap_at s b.frame))))
 
-    last : (a b : Capability) → named s c x (to_use (only kind.Tcap)) ≡ Found a → named s c y (to_use (only kind.Tcap)) ≡ Found b → (same : Bool)
+    last : (a b : Capability) → named s c x (to_use (only kind.Tcap)) ≡ Found a → named s c y (to_use (only kind.Tcap)) ≡ Found b
+        → (same : Bool)
         → IsFoundAnd (unless (first_of (if same then Some reply.Same else None) None)
         (answers s (preemption (preempts (tcap_at s a.frame) (tcap_at s b.frame))))) (λ change. change.value ≡ v) → TellsOf s c x y v
     last a b first second true h = absurd h

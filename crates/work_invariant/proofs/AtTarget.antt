@@ -1,8 +1,10 @@
 -- The act with which a call begins at a target that is to be free: it fills the place, it makes an object in a frame of its range, or this
 -- frame is out of range.
-use Rattle.comp_invariant.proofs.Common.{to_use, IsSome, ◌≡◌, inl, ℕ, ◌<◌, ◌&&◌, nat_lt, Bool, true, false, List, [], ◌∷◌, Option, Some, refl}
+use Rattle.comp_invariant.proofs.Common.{to_use, IsSome, ◌≡◌, inl, ℕ, ◌<◌, ◌&&◌, nat_lt, Bool, true, false, List, [], ◌∷◌, Option, Some}
+use Rattle.comp_invariant.proofs.Common.{refl}
 use Rattle.comp_invariant.proofs.Common.{sym, ◌∙◌, ap, subst, IsTrue, arith, if◌then◌else◌, None, ◌≤◌, inr, lt-ltb, le-leb, false≢true}
-use Rattle.comp_invariant.proofs.Common.{kept, right_to_copy, Capability, cap_of, Setting, IsSetting, Kind, Call, Copy, Remove, Shrink, Unmap, Retype, Tick, Gate}
+use Rattle.comp_invariant.proofs.Common.{kept, right_to_copy, Capability, cap_of, Setting, IsSetting, Kind, Call, Copy, Remove, Shrink}
+use Rattle.comp_invariant.proofs.Common.{Unmap, Retype, Tick, Gate}
 use Rattle.comp_invariant.proofs.Common.{Kill, Grow, Flush, Map, Touch, Ret, Transfer, Delegate, Test, Switch, Make, InLimits, PageFlags}
 use Rattle.comp_invariant.proofs.Common.{EntryFits, entry_of_word, State, found, only, named, has_frame, only_is, opened, events_of}
 use Rattle.comp_invariant.proofs.Common.{IsLegal, Trace, Out, Open, phase, state_after, WasAt, sound_of, opened_is, quiet_scan, First}

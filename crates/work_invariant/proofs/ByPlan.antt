@@ -3,17 +3,17 @@ use Rattle.comp_invariant.proofs.Common.{◌≡◌, inl, inr, ℕ, suc, negsuc, 
 use Rattle.comp_invariant.proofs.Common.{if◌then◌else◌, IsTrue, List, [], ◌∷◌, ◌++◌, Option, Some, None, refl, sym, ◌∙◌, ap, subst}
 use Rattle.comp_invariant.proofs.Common.{eq-eqb, Capability, Setting, IsSetting, Call, Copy, Remove, Shrink, Unmap, Retype, Tick}
 use Rattle.comp_invariant.proofs.Common.{Gate, Kill, Grow, Touch, Flush, Map, Ret, Transfer, Delegate, Test, Switch, Reply, Entry}
-use Rattle.comp_invariant.proofs.Common.{EntryFits, entry_of_word, EntryAt, LoadOf, word_of, State, Thing, PlaceOf, comp_of, Slot}
+use Rattle.comp_invariant.proofs.Common.{entry_of_word, EntryAt, LoadOf, word_of, State, Thing, PlaceOf, comp_of, Slot}
 use Rattle.comp_invariant.proofs.Common.{root_at, place_at, held_in, reached, has_no_slot, own, RuleMay, Refused, named, vacant, rule_of}
-use Rattle.comp_invariant.proofs.Common.{change_of, none_some, some_inj, Step, Trace, Open, phase, state_after, last_left, WasAt}
-use Rattle.comp_invariant.proofs.Common.{wide_way_to, wide_ways, is_slot_in, IsRemoved, Carries, was_now, own_read-here, shown_in}
-use Rattle.comp_invariant.proofs.Common.{look_move, Look, First, Second, Name, Spot, Nowhere, Plan, at_place, plan_for, of_kind, GoesBy}
+use Rattle.comp_invariant.proofs.Common.{change_of, Step, Trace, Open, phase, state_after, last_left}
+use Rattle.comp_invariant.proofs.Common.{wide_way_to, wide_ways, is_slot_in, Carries, own_read-here, shown_in}
+use Rattle.comp_invariant.proofs.Common.{look_move, Look, First, Second, Name, Spot, Nowhere, Plan, plan_for, of_kind, GoesBy}
 use Rattle.comp_invariant.proofs.Common.{own_pages, wants, with_found, names_after, Leads, LeadsIn, Next, NextName, NextFree, NextHeld}
 use Rattle.comp_invariant.proofs.Common.{NextOwn, NextNothing, next_of, NextMay, calls_go, leads_by, next_may, Lookup, Scan, Undecided}
 use Rattle.comp_invariant.proofs.Common.{ActiveCall, FrameKind, only_is, Goes, Acquired, reads_of, dues, next_work, starts, stamp_shown}
-use Rattle.comp_invariant.proofs.Common.{act_begun, fills_page, CountsAt, HasRoom, holds_counts, due_of, ReadIs, ReadBefore, IsScanned}
+use Rattle.comp_invariant.proofs.Common.{act_begun, fills_page, CountsAt, HasRoom, holds_counts, due_of, ReadIs, ReadBefore}
 use Rattle.comp_invariant.proofs.Common.{MayFill, KnowsAct, LooksUp, own_in, HasFound, NamesAre, LooksFor, KnowsUndecided, phase_at}
-use Rattle.comp_invariant.proofs.Common.{HasFlushed, Quiet, quiet_scan, clock, stamp, landed, found_more, Core, holds_at, holds_in}
+use Rattle.comp_invariant.proofs.Common.{Quiet, quiet_scan, clock, stamp, landed, found_more, Core, holds_at, holds_in}
 use Rattle.comp_invariant.proofs.Common.{Invariant, names_on, limits_of, Want, has_rights, neither, to_look}
 use Rattle.switch_invariant.specs.thread_invariant.proofs.InvokeStarts.{invokes_good}
 use Rattle.comp_invariant.specs.spk_nums.specs.declared.calls.Call.TheVariants.{Look as look_call}
@@ -45,16 +45,12 @@ use Rattle.share_invariant.specs.pair_invariant.proofs.ShareStarts.{transfers_go
 use Rattle.switch_invariant.proofs.SwitchStarts.{switches_good}
 use Rattle.comp_invariant.specs.act_states.specs.declared.work.Act.{Act as ActOf}
 use Rattle.comp_invariant.specs.act_states.specs.Acts.{scans, removing}
-use Rattle.comp_invariant.specs.act_states.specs.Acts.{typing_to}
-use Rattle.comp_invariant.specs.act_states.specs.declared.typings.TypingAt.TheVariants.{Load as type_load}
-use Rattle.comp_invariant.specs.act_states.specs.declared.work.Act.TheVariants.{Retype as type_act}
 use Rattle.comp_invariant.specs.core_invariant.specs.Knows.{KnowsQuiet}
 use Rattle.comp_invariant.specs.count_invariant.proofs.Acquiring.{knows_next, next_holds, one_apart}
-use Rattle.comp_invariant.specs.scan_invariant.proofs.Scans.{ScanBegins, AtCores, AtFlushes, scan_begins, scan_none, ShowsSince, since_is}
+use Rattle.comp_invariant.specs.scan_invariant.proofs.Scans.{ScanBegins, AtCores, AtFlushes, scan_begins, scan_none}
 use Rattle.comp_invariant.specs.place_invariant.proofs.Starts.{starts_good}
 use Rattle.comp_invariant.specs.place_invariant.proofs.Outside.{refused_vacant}
-use Rattle.comp_invariant.specs.place_invariant.proofs.Paging.{paging_by}
-use Rattle.comp_invariant.specs.place_invariant.proofs.Vacancy.{unpaged_flushed, vacant_by}
+use Rattle.comp_invariant.specs.place_invariant.proofs.Vacancy.{vacant_by}
 use Rattle.comp_invariant.specs.act_states.specs.Lookups.{met_right, met_name, met_free, met_held}
 use Rattle.comp_invariant.specs.call_stages.specs.Steps.{next_by as what_next, named_one, took_look, took_found}
 use Rattle.comp_invariant.specs.act_fits.proofs.DuesFit.{cap_one}
@@ -62,9 +58,11 @@ use Rattle.comp_invariant.specs.kept_facts.proofs.Carries.{read_before_on}
 use Rattle.comp_invariant.specs.step_ways.proofs.Loads.{OnlyLooks, next_at, call_is, is_active, loads_on}
 use Rattle.comp_invariant.specs.step_ways.proofs.Refusals.{GoodTook, refuses_empty, refuses_wrong, refuses_right, refuses_occupied}
 use Rattle.comp_invariant.specs.count_invariant.proofs.Lookups.{Shows, ShowsHeld, Arrives, under_step, in_root_step}
-use Rattle.comp_invariant.specs.count_invariant.proofs.Findings.{own_is, reaches_none, reaches_held, reaches_other, reaches_lacking, use_held, use_free}
+use Rattle.comp_invariant.specs.count_invariant.proofs.Findings.{own_is, reaches_none, reaches_held, reaches_other, reaches_lacking}
+use Rattle.comp_invariant.specs.count_invariant.proofs.Findings.{use_held, use_free}
 use Rattle.comp_invariant.specs.count_invariant.proofs.Findings.{use_removed_at, named_of}
-use Rattle.comp_invariant.specs.count_invariant.proofs.Findings.{named_no_slot, named_empty, named_wrong, named_lacking, found_named, arriving}
+use Rattle.comp_invariant.specs.count_invariant.proofs.Findings.{named_no_slot, named_empty, named_wrong, named_lacking, found_named}
+use Rattle.comp_invariant.specs.count_invariant.proofs.Findings.{arriving}
 use Rattle.comp_invariant.specs.count_invariant.proofs.Findings.{reached_now, found_now}
 use Rattle.comp_invariant.specs.count_invariant.proofs.Next.{MayUse, Rest, ANameLeft, NoneLeft, rest_of, next_name, next_end}
 use Rattle.work_invariant.proofs.ByCall.{none_after, vacant_no_slot, vacant_occupied, held_no_slot, held_empty, make_target}
@@ -226,7 +224,8 @@ module _ (setup : Setting) (setting : IsSetting setup) (cores : ℕ → Core) (t
         (landed (found_more a more) (act_begun (cores c).own call more None None))
     acts_at_name (look_call n) is nowhere none =
         let plan_look : a.plan ≡ plan_for (look_call n) = plan_is ∙ ap plan_for is in
-        let only_one = one_name a.plan.names (any_cap neither n) name rest a.found k.kind (ap (λ (p : Plan). p.names) plan_look) left wanted in
+        let only_one = one_name a.plan.names (any_cap neither n) name rest a.found k.kind (ap (λ (p : Plan). p.names) plan_look) left
+        wanted in
         let more_is : more ≡ k ∷ [] = ap (λ ks. ks ++ k ∷ []) only_one.0 in
         let named_it : named s c n (to_look any) ≡ Found_it k =
         (subst (λ (ks : List Capability). Leads (LeadsIn s c) (any_cap neither n ∷ []) [] ks) more_is

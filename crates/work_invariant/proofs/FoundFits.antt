@@ -1,5 +1,5 @@
 -- What the names of a call have led to are capabilities.
-use Rattle.comp_invariant.proofs.Common.{◌≡◌, ℕ, List, [], ◌∷◌, ◌++◌, Some, Bool, subst, Capability, Setting, Kind, EntryFits, Named}
+use Rattle.comp_invariant.proofs.Common.{◌≡◌, ℕ, List, [], ◌∷◌, ◌++◌, Some, subst, Capability, Setting, EntryFits, Named}
 use Rattle.comp_invariant.proofs.Common.{found, none_some, some_inj, Trace, Name, First, Second, at_place, Leads, HasFound, own_in}
 use Rattle.comp_invariant.specs.entry_words.specs.declared.entry.Entry.TheVariants as entry
 use Rattle.comp_invariant.specs.call_plans.specs.declared.plans.Nth.{Nth}

@@ -4,7 +4,7 @@ use Rattle.comp_invariant.proofs.Common.{◌≡◌, ℕ, ◌<◌, nat_le, Bool, 
 use Rattle.comp_invariant.proofs.Common.{◌∙◌, ap, subst, leb-true, Capability, Setting, IsSetting, Reply, EntryAt, LoadOf, State, comp_of}
 use Rattle.comp_invariant.proofs.Common.{Slot, Named, found, root_at, reached, has_no_slot, own, Under, InRoot, RuleMay, Refused, rule_of}
 use Rattle.comp_invariant.proofs.Common.{change_of, are_calls_spent, Step, Trace, Open, phase, state_after, last_left, refused_first}
-use Rattle.comp_invariant.proofs.Common.{Carries, Look, AtRoot, AtEntry, Spot, Nowhere, Plan, plan_for, GoesBy, own_pages, wants}
+use Rattle.comp_invariant.proofs.Common.{Carries, Look, AtRoot, AtEntry, Spot, Nowhere, Plan, plan_for, GoesBy, own_pages}
 use Rattle.comp_invariant.proofs.Common.{with_found, names_after, Leads, LeadsIn, Next, NextName, NextFree, NextHeld, next_of, NextMay}
 use Rattle.comp_invariant.proofs.Common.{calls_go, next_may, Lookup, Read, Undecided, ActiveCall, Goes, WorkStep, refuse, reads_of}
 use Rattle.comp_invariant.proofs.Common.{act_begun, holds_counts, ReadIs, ReadBefore, LooksUp, own_in, NamesAre, LooksFor, phase_at}

@@ -1,6 +1,6 @@
 -- What a call knows that has found its target quiescing: since which stamp, and what is known of it before a core or a flush is scanned, or
 -- where there is none to be scanned.
-use Rattle.comp_invariant.proofs.Common.{◌≡◌, ◌≢◌, ℕ, ◌<◌, ◌≤◌, false, List, [], ◌∷◌, Some, None, arith, refl, sym, ◌∙◌, ap, subst}
+use Rattle.comp_invariant.proofs.Common.{◌≡◌, ◌≢◌, ℕ, ◌<◌, ◌≤◌, false, [], ◌∷◌, Some, None, arith, refl, sym, ◌∙◌, ap, subst}
 use Rattle.comp_invariant.proofs.Common.{Setting, IsSetting, entry_of_word, EntryAt, LoadOf, Thing, PlaceOf, Slot, IsRemoved, clock}
 use Rattle.comp_invariant.proofs.Common.{stamp, Step, Trace, Open, phase, state_after, last_left, WasAt, was_now, Plan, plan_for, Leads}
 use Rattle.comp_invariant.proofs.Common.{LeadsIn, NextFree, next_of, fills_page, ActiveCall, Core, HasFlushed, IsScanned, Invariant}

@@ -5,7 +5,7 @@ use Rattle.comp_invariant.proofs.Common.{subst, lt-ltb, Setting, IsSetting, Repl
 use Rattle.comp_invariant.proofs.Common.{Step, Trace, last_left, clock, Nothing, Quiesce, Unmark, StoreDead, StoreFlush, Release}
 use Rattle.comp_invariant.proofs.Common.{StoreLive, Push, Pop, Share, StoreRunning, StoreIdle, Stage, Enter, Undecided, Decided, Leave}
 use Rattle.comp_invariant.proofs.Common.{ActiveCall, Core, Acquired, holds_counts, core_word, stage_move, Took, GoesOn, Returns}
-use Rattle.comp_invariant.proofs.Common.{went_with, KnowsAt, Knows, done_by, holds_at, Invariant, phase_at}
+use Rattle.comp_invariant.proofs.Common.{went_with, KnowsAt, done_by, holds_at, Invariant, phase_at}
 use Rattle.comp_invariant.specs.kernel_history.proofs.Steps.{clock_seen-own}
 use Rattle.comp_invariant.specs.call_stages.specs.Tails.{tail_move, stamp_if, stamp_of, took_tail, tail_counts}
 use Rattle.comp_invariant.specs.count_invariant.proofs.Acquiring.{commit_good}

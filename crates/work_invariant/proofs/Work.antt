@@ -19,7 +19,6 @@ use Rattle.comp_invariant.specs.count_invariant.proofs.Acquiring.{acquire_good}
 use Rattle.work_invariant.proofs.ByPlan.{lookup_good}
 use Rattle.work_invariant.proofs.Reading.{read_good}
 use Rattle.sweep_invariant.proofs.UntypeSteps.{untype_good}
-use Rattle.comp_invariant.specs.step_ways.proofs.Loads.{is_active}
 use Rattle.comp_invariant.specs.place_invariant.proofs.Fills.{fill_good}
 use Rattle.comp_invariant.specs.place_invariant.proofs.Mappings.{map_good}
 use Rattle.comp_invariant.specs.place_invariant.proofs.Removals.{remove_good}
