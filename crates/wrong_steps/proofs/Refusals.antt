@@ -3,7 +3,6 @@ use Rattle.std.proofs.Common.{◌<◌, inl, refl, sym, ap, arith}
 use Rattle.std.specs.Prelude.{is_some}
 use Rattle.std.proofs.lemmas.Bool.{false≢true}
 use Rattle.spk_nums.specs.Rights.{whole_copy}
-use Rattle.spk_nums.specs.declared.calls.Call.TheVariants as call
 use Rattle.entry_words.specs.EntryWord.{word_of_entry}
 use Rattle.frame_words.specs.Count.{word_of_count, count_of_word}
 use Rattle.kernel_rules.specs.References.{sum_below, node_refs, refs}
