@@ -250,7 +250,7 @@ fn bytes_and_lines_past_the_limits_are_refused(rt: HostRuntime) -> Result<(), Fa
     )?;
     refuses(&rt, rt.alloc(), b"\x00", 1, Cause::S8);
     refuses(&rt, rt.alloc(), b"speck 1\ncores 2\n\x00", 3, Cause::S8);
-    refuses(&rt, rt.alloc(), b"speck 2\n\x00", 1, Cause::S5);
+    refuses(&rt, rt.alloc(), b"speck 3\n\x00", 1, Cause::S5);
     let mut long = Vec::from_slice(rt.alloc(), HEAD)?;
     for _ in 0..19_995 {
         long.push(b'\n')?;
