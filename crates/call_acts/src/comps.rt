@@ -80,7 +80,7 @@ pub(crate) fn comp_op(making: &CompMaking, layout: &Layout) -> WordOp
 /// blank kernel frame `frame-kind`. A number that another core is closing is `busy`, one that is live `occupied`, one that a core in a call
 /// that it entered before its death may still use `quiescing`, and one that was live in each epoch `epochs-spent`. A lost compare is
 /// `raced`. After the mark the counts are acquired. The layout is that of the machine.
-#[inline]
+#[inline(never)]
 pub(crate) fn comp_took(making: &CompMaking, layout: &Layout, found: u64) -> WorkStep
     requires { CompMakingFits layout.now making.now }
     ensures { result ≡ took_comp making.now found }

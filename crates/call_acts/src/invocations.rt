@@ -63,7 +63,7 @@ pub(crate) fn invoking_op(invoking: &Invoking, layout: &Layout) -> WordOp
 /// What an entering takes from the word that its step found. After the loads of the component's words the count of its frame is acquired.
 /// The load of the number's word carries the call out where the number is live in the gate's epoch; a number that another core is closing
 /// is `busy`, and else the component is `dead`. A word that is none of its place is `raced`. What it names is of the layout's machine.
-#[inline]
+#[inline(never)]
 pub(crate) fn invoking_took(invoking: &Invoking, layout: &Layout, found: u64) -> WorkStep
     requires { InvokingFits layout.now invoking.now }
     ensures { result ≡ took_invoking invoking.now found }
@@ -246,7 +246,7 @@ pub(crate) fn returning_op(returning: &Returning, layout: &Layout) -> WordOp
 
 /// What a leaving takes from the word that its step found. After the loads the count of the top's frame is acquired. The draw carries the
 /// call out, with the clock found as its stamp. A word that is none of its place is `raced`. What it names is of the layout's machine.
-#[inline]
+#[inline(never)]
 pub(crate) fn returning_took(returning: &Returning, layout: &Layout, found: u64) -> WorkStep
     requires { ReturningFits layout.now returning.now }
     ensures { result ≡ took_returning returning.now found }
@@ -375,7 +375,7 @@ pub(crate) fn frame_in(frames: u16, found: u64) -> Option<FrameNo>
 
 // The frame of the machine that the word of a place on a stack names, if it names one.
 #[inline]
-fn below_in(frames: u16, found: u64) -> Option<FrameNo>
+pub(crate) fn below_in(frames: u16, found: u64) -> Option<FrameNo>
     ensures { result ≡ below_in frames found }
 {
     match StackWord::unpack(found) {

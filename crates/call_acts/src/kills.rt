@@ -56,7 +56,7 @@ pub(crate) fn killing_op(killing: &Killing, layout: &Layout) -> WordOp
 /// What a killing takes from the word that its step found: a number that another core is closing is `busy`, one that is not live in the
 /// component's epoch `dead`. A lost compare is `raced`. After the load of the number's word the count of the component's frame is acquired.
 /// The draw carries the call out, with the clock found as its stamp.
-#[inline]
+#[inline(never)]
 pub(crate) fn killing_took(killing: &Killing, found: u64) -> WorkStep
     ensures { result ≡ took_killing killing.now found }
 {

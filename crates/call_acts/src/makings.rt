@@ -51,7 +51,7 @@ pub(crate) fn making_op(making: &Making, layout: &Layout) -> WordOp
 
 /// What a making takes from the word that its step found: a frame that another core has marked is `busy`, one that is no blank kernel frame
 /// `frame-kind`. A lost compare is `raced`. After the mark the object's counts are acquired.
-#[inline]
+#[inline(never)]
 pub(crate) fn making_took(making: &Making, found: u64) -> WorkStep
     ensures { result ≡ took_making making.now found }
 {
@@ -173,7 +173,7 @@ fn published(making: &Making, word: u64, equal: bool) -> WorkStep
 
 // Where the making stands after the store of a word.
 #[inline]
-fn stored(object: NewObject, word: u64, entry: EntryNo) -> MakingAt
+pub(crate) fn stored(object: NewObject, word: u64, entry: EntryNo) -> MakingAt
     ensures { result ≡ stored object word entry }
 {
     let at = entry.number();

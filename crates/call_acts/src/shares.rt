@@ -34,7 +34,7 @@ pub(crate) fn share_op(pair: &Pair, layout: &Layout) -> WordOp
 
 /// What such a call takes from the word that its step found. Before head A is marked a refusal has nothing to store; after it the
 /// call is decided with what is still to be stored. Both temporal capabilities are below the layout's frames.
-#[inline]
+#[inline(never)]
 pub(crate) fn share_took(pair: &Pair, layout: &Layout, found: u64) -> WorkStep
     requires { PairFits layout.now pair.now }
     ensures { result ≡ took_share pair.now found }

@@ -73,7 +73,7 @@ pub(crate) fn switching_op(switching: &Switching, layout: &Layout) -> WordOp
 /// What a switch takes from the word that its step found. A thread that runs is `running`, one that another core has claimed `busy`, and a
 /// lost compare `raced`, as is a word that is none of its place. After the loads the counts are acquired. The draw carries the call out,
 /// with the clock found as its stamp. What it names is of the layout's machine.
-#[inline]
+#[inline(never)]
 pub(crate) fn switching_took(switching: &Switching, layout: &Layout, found: u64) -> WorkStep
     requires { SwitchingFits layout.now switching.now }
     ensures { result ≡ took_switching switching.now found }

@@ -29,7 +29,7 @@ pub(crate) fn tick_op(charge: &Charge, layout: &Layout) -> WordOp
 
 /// What a tick takes from the word that its step found: a head that a core has marked is `busy`, and one that is not what was loaded
 /// `raced`; both leave owed what is due. The temporal capability is below the layout's frames.
-#[inline]
+#[inline(never)]
 pub(crate) fn tick_took(charge: &Charge, layout: &Layout, found: u64) -> WorkStep
     requires { ChargeFits layout.now charge.now }
     ensures { result ≡ took_tick charge.now found }

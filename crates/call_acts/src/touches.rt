@@ -38,7 +38,7 @@ pub(crate) fn touch_op(touching: &Touching, layout: &Layout) -> WordOp
 
 /// What a touch takes from the word that its load found: no link at the root entry, and nothing at the page's, is `fault`, and an entry
 /// that another core has closed `busy`. The frames are the layout's.
-#[inline]
+#[inline(never)]
 pub(crate) fn touch_took(touching: &Touching, layout: &Layout, found: u64) -> WorkStep
     requires { TouchFits layout.now touching.now }
     ensures { result ≡ took_touch touching.now found }

@@ -65,7 +65,7 @@ pub(crate) fn untyping_op(untyping: &Untyping, layout: &Layout) -> WordOp
 /// how many references stand, `quiescing` and `unflushed` where the frame may still be used, `not-empty` where its object holds something.
 /// After the sweep the counts of the object's own references are acquired. The draw carries the call out, with the clock found as its
 /// stamp.
-#[inline]
+#[inline(never)]
 pub(crate) fn untyping_took(untyping: &Untyping, layout: &Layout, found: u64) -> WorkStep
     requires { UntypingFits layout.now untyping.now }
     ensures { result ≡ took_untyping layout.now untyping.now found }

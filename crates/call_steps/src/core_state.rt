@@ -8,6 +8,7 @@ ghost use Rattle.word_map.specs.Moves.{op_of};
 ghost use Rattle.kernel_rules.specs.Laws.{calls_counted};
 ghost use Rattle.call_stages.specs.Cores.{started, end_of, begun, move_of, ready_of, absorbed, told_of_step};
 ghost use Rattle.call_stages.specs.Fits.{IsCore, steps_left};
+ghost use Rattle.call_steps.specs.Stepping.{steps_made};
 
 use crate::steps::{absorb, is_ready, stage_op};
 use act_states::Own;
@@ -127,6 +128,17 @@ impl CoreState {
         ensures { IsTrue result ↔ IsSome self.now.active }
     {
         self.active.is_some()
+    }
+
+    /// How many steps the core's call has made; None where the core is in no call.
+    #[inline]
+    pub fn steps_made(&self) -> Option<u32>
+        ensures { result ≡ steps_made self.now.active }
+    {
+        match &self.active {
+            None => None,
+            Some(active) => Some(active.steps),
+        }
     }
 
     /// The next step of the core's call. The layout is that of its machine.

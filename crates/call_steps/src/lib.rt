@@ -34,6 +34,7 @@
 mod core_state;
 #[cfg(test)]
 mod invoke_tests;
+mod later;
 mod steps;
 #[cfg(test)]
 mod switch_tests;

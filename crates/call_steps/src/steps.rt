@@ -6,34 +6,32 @@ ghost use Rattle.word_map.specs.Moves.{op_of};
 ghost use Rattle.spk_nums.specs.WordSteps.{place_in};
 ghost use Rattle.call_plans.specs.After.{next_of, with_found};
 ghost use Rattle.stage_pins.specs.Held.{AllFit};
-ghost use Rattle.call_stages.specs.Tails.{tail_counts, took_tail};
-ghost use Rattle.call_stages.specs.Steps.{took_read, core_word, work_move, stage_move, went, went_with, took_scan, took_count, gives_up};
+ghost use Rattle.call_stages.specs.Steps.{took_read, core_word, work_move, stage_move, went};
 ghost use Rattle.call_stages.specs.Steps.{landed, next_by, took_enter, took_found, took_end, took_work, took_at, took, told, call_after};
 ghost use Rattle.call_stages.specs.Steps.{is_last, decides_at_name, work_ready, is_ready, is_spent, named_one, decided, Changes};
-ghost use Rattle.call_stages.specs.Fits.{WorkFits, StageFits, IsLater, TailFits};
-ghost use Rattle.stage_pins.specs.Acquire.{pin_after, pin_end};
-ghost use Rattle.stage_quiet.specs.Scan.{quiet_after, quiet_end};
+ghost use Rattle.call_stages.specs.Fits.{WorkFits, StageFits};
 ghost use Rattle.call_plans.specs.GoesBy.{place_of_spot};
 ghost use Rattle.act_states.specs.WorkSteps.{refuse};
-ghost use Rattle.act_states.specs.Acts.{act_begun, reads_of};
+ghost use Rattle.act_states.specs.Acts.{act_begun, looked as answered, reads_of};
+ghost use Rattle.call_plans.specs.Plans.{at_place};
+ghost use Rattle.call_plans.specs.declared.plans.Nth.TheVariants.{First};
 ghost use Rattle.act_states.specs.Lookups.{read_first, looks_under, looks_entry, looks_at, met_free, met_held};
 ghost use Rattle.act_states.specs.Touches.{touches};
 ghost use Rattle.act_states.specs.declared.work.WorkStep.TheVariants.{Goes};
-ghost use Rattle.act_states.specs.declared.work.Work.TheVariants.{Lookup, Read, Scan, Acquire};
+ghost use Rattle.act_states.specs.declared.work.Work.TheVariants.{Lookup, Read};
 
-use crate::tails::{commits, tail_op, took_tail};
-use act_states::{Act, Met, Own, OwnChange, Refusal, Tail, Work, WorkStep};
+use crate::later::absorb_later;
+use crate::tails::tail_op;
+use act_states::{Met, Own, OwnChange, Refusal, Tail, Work, WorkStep};
 use call_acts::{
-    act_op, act_ready, act_took, begin_act, begin_touch, frame_of, met_free, met_held, met_name,
-    next_work, reads_of, refuse, starts, undo,
+    act_op, act_ready, begin_act, begin_touch, frame_of, met_free, met_held, met_name, reads_of,
 };
-use call_plans::{Decides, Next, Spot};
+use call_plans::{Decides, Next, Nth, Spot};
 use call_stages::{ActiveCall, Stage, Told};
 use frame_words::{CompWord, CoreWord};
-use spk_nums::{CapId, CoreNo, EntryNo, FrameNo, PageNo, Reply, StageEnd, Stamp, WordOp};
+use spk_nums::{Call, CapId, EntryNo, FrameNo, PageNo, Reply, StageEnd, Stamp, Value, WordOp};
 use stage_look::{Found, Look};
-use stage_pins::{Acquired, AcquiredCounts, Pin, Pinned};
-use stage_quiet::Quiet;
+use stage_pins::AcquiredCounts;
 use word_map::Layout;
 
 /// The next step of a call that has acquired these counts, at a stage. What it names is of the layout's machine.
@@ -90,62 +88,6 @@ fn core_word(inside: bool, stamp: Stamp) -> u64
     word.pack()
 }
 
-// What a call takes from a step of a scan, which stands here after it.
-#[inline]
-fn scan_took(core: CoreNo, act: &Act, quiet: Quiet, end: &StageEnd<()>) -> WorkStep
-    ensures { result ≡ took_scan core act.now quiet end.now }
-{
-    match end {
-        StageEnd::Going => WorkStep::Goes {
-            work: Work::Scan { quiet, act: *act },
-        },
-        StageEnd::Decided(reply) => refuse(Refusal::of(reply)),
-        StageEnd::Done(_) => starts(core, act),
-        StageEnd::Refuse(reply) => refuse(Refusal::of(reply)),
-    }
-}
-
-// What a call takes from a step by which it acquires a count for an act, of whose counts it has acquired so many.
-#[inline]
-fn count_took(
-    core: CoreNo,
-    n: u8,
-    change: i32,
-    act: &Act,
-    pin: Pin,
-    end: &StageEnd<Pinned>,
-) -> WorkStep
-    requires { n < 255 }
-    ensures { result ≡ took_count core n change act.now pin end.now }
-{
-    match end {
-        StageEnd::Going => WorkStep::Goes {
-            work: Work::Acquire {
-                pin,
-                change,
-                act: *act,
-            },
-        },
-        StageEnd::Decided(reply) => gives_up(Refusal::of(reply), act),
-        StageEnd::Done(pin) => WorkStep::Acquires {
-            count: Acquired { pin: *pin, change },
-            work: next_work(core, n + 1, act),
-        },
-        StageEnd::Refuse(reply) => gives_up(Refusal::of(reply), act),
-    }
-}
-
-// A call that acquires a count for an act is refused, with what it has then still to store.
-#[inline]
-fn gives_up(refusal: Refusal, act: &Act) -> WorkStep
-    ensures { result ≡ gives_up refusal act.now }
-{
-    WorkStep::Refuses {
-        refusal,
-        tail: undo(act),
-    }
-}
-
 // Whether the next load is that of the place that is looked for.
 #[inline]
 fn is_last(look: &Look) -> bool
@@ -166,30 +108,6 @@ fn decides_at_name(decides: Decides) -> bool
         Decides::LeafEntry => true,
         _ => false,
     }
-}
-
-// A step of a scan.
-#[inline]
-fn scan_step(own: &Own, quiet: &Quiet, act: &Act, found: u64) -> WorkStep
-    requires { WorkFits own.now.layout (Scan quiet.now act.now) }
-    ensures { result ≡ took_scan own.now.core act.now (quiet_after own.now.layout.cores quiet.now found)
-        (quiet_end own.now.layout.cores quiet.now found) }
-{
-    let mut quiet = *quiet;
-    let end = quiet.take(&own.layout, found);
-    scan_took(own.core, act, quiet, &end)
-}
-
-// A step by which a call that has acquired so many counts acquires one.
-#[inline]
-fn count_step(own: &Own, n: u8, pin: &Pin, change: &i32, act: &Act, found: u64) -> WorkStep
-    requires fits { WorkFits own.now.layout (Acquire pin.now change.now act.now) }
-    requires few { n < 255 }
-    ensures { result ≡ took_count own.now.core n change.now act.now (pin_after pin.now found) (pin_end pin.now found) }
-{
-    let mut pin = *pin;
-    let end = pin.take(&own.layout, found);
-    count_took(own.core, n, *change, act, pin, &end)
 }
 
 /// Whether the call is ready: its next step is the one that decides its `ok`, or it is decided.
@@ -251,63 +169,11 @@ pub fn absorb(active: &mut ActiveCall, own: &Own, found: u64) -> Told
             }
             Work::Read { comp: _, look: _ } => absorb_later(active, own, found),
             Work::Scan { quiet: _, act: _ } => absorb_later(active, own, found),
-            Work::Acquire {
-                pin: _,
-                change: _,
-                act: _,
-            } => absorb_later(active, own, found),
+            Work::Acquire { .. } => absorb_later(active, own, found),
             Work::Act { act: _ } => absorb_later(active, own, found),
         },
-        Stage::Decided {
-            reply: _,
-            drawn: _,
-            tail: _,
-        } => absorb_later(active, own, found),
-        Stage::Leave { reply: _, stamp: _ } => absorb_later(active, own, found),
-    }
-}
-
-// The step of a call after its look-ups. It stands apart, so that a step of a look-up, which most are, has no room on the stack
-// for what an act needs.
-#[inline(never)]
-fn absorb_later(active: &mut ActiveCall, own: &Own, found: u64) -> Told
-    requires core { own.now.core < own.now.layout.cores }
-    requires cores { own.now.layout.cores ≤ 8 }
-    requires fits { StageFits own.now.layout active.old.stage }
-    requires later { IsLater active.old.stage }
-    requires few { active.old.steps < 1000 }
-    ensures told { result ≡ told (took own.now active.old found) }
-    ensures after { active.new ≡ call_after active.old (took own.now active.old found) }
-{
-    match &active.stage {
-        Stage::Enter => unreachable!(),
-        Stage::Undecided { work } => match work {
-            Work::Lookup { look: _ } => unreachable!(),
-            Work::Read { comp: _, look } => {
-                let look = *look;
-                has_read(active, look, CompWord::unpack(found))
-            }
-            Work::Scan { quiet, act } => {
-                let step = scan_step(own, quiet, act, found);
-                land(active, &step)
-            }
-            Work::Acquire { pin, change, act } => {
-                let step = count_step(own, active.counts.count(), pin, change, act, found);
-                land(active, &step)
-            }
-            Work::Act { act } => {
-                let step = act_took(act, &own.layout, found);
-                land(active, &step)
-            }
-        },
-        Stage::Decided { reply, drawn, tail } => {
-            let (reply, drawn, tail) = (*reply, *drawn, *tail);
-            store(active, own, reply, drawn, &tail, found)
-        }
-        Stage::Leave { reply, stamp } => Told::Returned {
-            reply: *reply,
-            stamp: *stamp,
-        },
+        Stage::Decided { .. } => absorb_later(active, own, found),
+        Stage::Leave { .. } => absorb_later(active, own, found),
     }
 }
 
@@ -324,30 +190,6 @@ fn absorb_look(active: &mut ActiveCall, own: &Own, look: Look, found: u64) -> To
     let mut look = look;
     let end = look.take(&own.layout, found);
     looked(active, own, look, &end)
-}
-
-// A step of a call that is decided: a store, a commit, or the load of the clock.
-#[inline]
-fn store(
-    active: &mut ActiveCall,
-    own: &Own,
-    reply: Reply,
-    drawn: Option<Stamp>,
-    tail: &Tail,
-    found: u64,
-) -> Told
-    requires few { active.old.steps < 1000 }
-    requires fits { TailFits own.now.layout tail.now }
-    ensures told { result ≡ Told.Going }
-    ensures after { active.new
-        ≡ went_with active.old (tail_counts tail.now active.old.counts) (took_tail reply drawn tail.now active.old.counts found) }
-{
-    let stage = took_tail(reply, drawn, tail, &active.counts, &own.layout, found);
-    if commits(tail) {
-        active.counts.pop();
-    }
-    go_on(active, stage);
-    Told::Going
 }
 
 // The first step of a call.
@@ -467,7 +309,10 @@ fn look_next(active: &mut ActiveCall, own: &Own) -> Told
         Next::Free { spot } => look_free(active, spot),
         Next::Held { spot } => look_at(active, spot),
         Next::Own { page } => touch(active, own, page),
-        Next::Nothing => act_begins(active, own),
+        Next::Nothing => match &active.call {
+            Call::Look { a: _ } => look_answers(active),
+            _ => act_begins(active, own),
+        },
     }
 }
 
@@ -534,7 +379,7 @@ fn reads_first(active: &mut ActiveCall, comp: FrameNo, look: Look) -> Told
 // A component's word was loaded, which names this, and this look-up comes next.
 #[inline]
 #[tactic(auto, using(call_fits::proofs::Landing::same_call))]
-fn has_read(active: &mut ActiveCall, look: Look, life: Option<CompWord>) -> Told
+pub(crate) fn has_read(active: &mut ActiveCall, look: Look, life: Option<CompWord>) -> Told
     requires { active.old.steps < 1000 }
     ensures told { result ≡ told (took_read active.old look life) }
     ensures after { active.new ≡ call_after active.old (took_read active.old look life) }
@@ -545,6 +390,19 @@ fn has_read(active: &mut ActiveCall, look: Look, life: Option<CompWord>) -> Told
             active.read = Some(life.epoch);
             looks_up(active, look)
         }
+    }
+}
+
+// A look answers what its name has led to.
+#[inline]
+fn look_answers(active: &mut ActiveCall) -> Told
+    requires { active.old.steps < 1000 }
+    ensures told { result ≡ told (landed active.old (answered (at_place active.old.found First))) }
+    ensures after { active.new ≡ call_after active.old (landed active.old (answered (at_place active.old.found First))) }
+{
+    match active.found.get(Nth::First) {
+        Some(cap) => decide(active, &Reply::Ok(Value::Cap(cap)), None, &Tail::Nothing),
+        None => refused(active, Refusal::Raced),
     }
 }
 
@@ -638,7 +496,7 @@ fn looks_up(active: &mut ActiveCall, look: Look) -> Told
 
 // The call is refused, with nothing to store.
 #[inline]
-fn refused(active: &mut ActiveCall, refusal: Refusal) -> Told
+pub(crate) fn refused(active: &mut ActiveCall, refusal: Refusal) -> Told
     requires { active.old.steps < 1000 }
     ensures told { result ≡ told (landed active.old (refuse refusal)) }
     ensures after { active.new ≡ call_after active.old (landed active.old (refuse refusal)) }
@@ -648,7 +506,7 @@ fn refused(active: &mut ActiveCall, refusal: Refusal) -> Told
 
 // The call goes where a step of its work takes it.
 #[inline]
-fn land(active: &mut ActiveCall, step: &WorkStep) -> Told
+pub(crate) fn land(active: &mut ActiveCall, step: &WorkStep) -> Told
     requires { active.old.steps < 1000 }
     ensures told { result ≡ told (landed active.old step.now) }
     ensures after { active.new ≡ call_after active.old (landed active.old step.now) }
@@ -706,7 +564,12 @@ fn decide_changing(
 
 // The call is decided with this reply, and has drawn this stamp or none.
 #[inline]
-fn decide(active: &mut ActiveCall, reply: &Reply, drawn: Option<Stamp>, tail: &Tail) -> Told
+pub(crate) fn decide(
+    active: &mut ActiveCall,
+    reply: &Reply,
+    drawn: Option<Stamp>,
+    tail: &Tail,
+) -> Told
     requires { active.old.steps < 1000 }
     ensures told { result ≡ told (decided active.old reply.now drawn tail.now) }
     ensures after { active.new ≡ call_after active.old (decided active.old reply.now drawn tail.now) }
@@ -722,9 +585,20 @@ fn decide(active: &mut ActiveCall, reply: &Reply, drawn: Option<Stamp>, tail: &T
     Told::Decided { reply: *reply }
 }
 
+// The call has made one more step, in its place.
+#[inline]
+pub(crate) fn goes_on(active: &mut ActiveCall) -> Told
+    requires { active.old.steps < 1000 }
+    ensures told { result ≡ Told.Going }
+    ensures after { active.new ≡ went active.old active.old.stage }
+{
+    active.steps += 1;
+    Told::Going
+}
+
 // The call has made one more step, and stands at this stage.
 #[inline]
-fn go_on(active: &mut ActiveCall, stage: Stage)
+pub(crate) fn go_on(active: &mut ActiveCall, stage: Stage)
     requires { active.old.steps < 1000 }
     ensures { active.new ≡ went active.old stage }
 {

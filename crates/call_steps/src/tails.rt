@@ -242,7 +242,7 @@ fn popped_on(pop: &Pop) -> Tail
 
 // The stamp of a clock.
 #[inline]
-fn stamp_of(clock: u64) -> Stamp
+pub(crate) fn stamp_of(clock: u64) -> Stamp
     ensures { result ≡ stamp_of clock }
 {
     if clock < 1 << 28 {

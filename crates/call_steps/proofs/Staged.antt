@@ -1,0 +1,22 @@
+-- Where a step of its work takes a call does not depend on the stage that it leaves.
+use Rattle.std.proofs.Common.{◌≡◌, refl}
+use Rattle.act_states.specs.declared.work.WorkStep.{WorkStep}
+use Rattle.act_states.specs.declared.work.WorkStep.TheVariants.{Goes, Acquires, Refuses, Answers, Changes as work_changes}
+use Rattle.call_stages.specs.declared.stages.ActiveCall.{ActiveCall}
+use Rattle.call_stages.specs.declared.stages.Stage.{Stage}
+use Rattle.call_stages.specs.Steps.{landed, told, call_after}
+
+pub told_from : (a : ActiveCall) (s : Stage) (step : WorkStep) → told (landed (record a { stage = s }) step) ≡ told (landed a step)
+told_from a s (Goes work) = refl
+told_from a s (Acquires count work) = refl
+told_from a s (Refuses r tail) = refl
+told_from a s (Answers v drawn tail) = refl
+told_from a s (work_changes r change drawn tail) = refl
+
+pub call_from : (a : ActiveCall) (s : Stage) (step : WorkStep)
+    → call_after (record a { stage = s }) (landed (record a { stage = s }) step) ≡ call_after a (landed a step)
+call_from a s (Goes work) = refl
+call_from a s (Acquires count work) = refl
+call_from a s (Refuses r tail) = refl
+call_from a s (Answers v drawn tail) = refl
+call_from a s (work_changes r change drawn tail) = refl

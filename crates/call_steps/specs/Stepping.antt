@@ -1,0 +1,69 @@
+-- Where a call stands that makes a step after its look-ups, and what a step leads to that ends a scan or the acquiring of a count.
+use Rattle.std.specs.Prelude.{ℕ, ◌+◌, length, Option, Some, None}
+use Rattle.stage_pins.specs.declared.pin.Pinned.{Pinned}
+use Rattle.act_states.specs.declared.own.Own.{Own}
+use Rattle.act_states.specs.declared.refusals.Refusal.{Refusal}
+use Rattle.act_states.specs.declared.refusals.Refusal.TheVariants.{Raced}
+use Rattle.spk_nums.specs.declared.replies.Value.{Value}
+use Rattle.spk_nums.specs.declared.steps.StageEnd.{StageEnd}
+use Rattle.act_states.specs.declared.work.Act.TheVariants.{Share}
+use Rattle.act_states.specs.declared.work.Work.TheVariants.{Scan, Acquire, Act}
+use Rattle.act_states.specs.declared.work.WorkStep.TheVariants.{Acquires}
+use Rattle.act_states.specs.WorkSteps.{refuse}
+use Rattle.act_states.specs.Acts.{next_work, starts}
+use Rattle.act_states.specs.Shares.{took_shared}
+use Rattle.call_stages.specs.declared.stages.ActiveCall.{ActiveCall}
+use Rattle.call_stages.specs.declared.stages.Stage.{Stage}
+use Rattle.call_stages.specs.declared.stages.Stage.TheVariants.{Undecided, Decided}
+use Rattle.call_stages.specs.Steps.{Took, landed, gives_up}
+
+-- the call makes its act
+abbrev pub IsActing : Stage → Type 0
+IsActing (Undecided (Act act)) = Unit {0}
+IsActing _ = ⊥
+
+-- it makes an act on two temporal capabilities
+abbrev pub IsSharing : Stage → Type 0
+IsSharing (Undecided (Act (Share p))) = Unit {0}
+IsSharing _ = ⊥
+
+-- the other cores are scanned for it
+abbrev pub IsScanning : Stage → Type 0
+IsScanning (Undecided (Scan q act)) = Unit {0}
+IsScanning _ = ⊥
+
+-- it acquires a count
+abbrev pub IsAcquiring : Stage → Type 0
+IsAcquiring (Undecided (Acquire pin change act)) = Unit {0}
+IsAcquiring _ = ⊥
+
+-- the call is decided, and has not begun its exit
+abbrev pub IsStoring : Stage → Type 0
+IsStoring (Decided r drawn tail) = Unit {0}
+IsStoring _ = ⊥
+
+-- what a call on two temporal capabilities, which stands here, takes from its step
+abbrev pub shared_to : ActiveCall → Stage → StageEnd Value → Took
+shared_to a (Undecided (Act (Share p))) end = landed a (took_shared p end)
+shared_to a _ end = landed a (refuse Raced)
+
+-- a call whose scan is done starts its act
+abbrev pub scanned : Own → ActiveCall → Stage → Took
+scanned own a (Undecided (Scan q act)) = landed a (starts own.core act)
+scanned own a _ = landed a (refuse Raced)
+
+-- a call that has acquired a count goes on to the next, or to its act
+abbrev pub counted : Own → ActiveCall → Stage → Pinned → Took
+counted own a (Undecided (Acquire pin change act)) p =
+    landed a (Acquires (record { pin = p; change = change }) (next_work own.core (length a.counts + 1) act))
+counted own a _ p = landed a (refuse Raced)
+
+-- a call that does not acquire a count is refused, with what it has then still to store
+abbrev pub given_up : ActiveCall → Stage → Refusal → Took
+given_up a (Undecided (Acquire pin change act)) r = landed a (gives_up r act)
+given_up a _ r = landed a (refuse Raced)
+
+-- how many steps the call of a core has made, if the core is in one
+abbrev pub steps_made : Option ActiveCall → Option ℕ
+steps_made None = None
+steps_made (Some a) = Some a.steps
