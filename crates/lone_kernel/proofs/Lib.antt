@@ -5,3 +5,4 @@ pub mod Advance
 pub mod Runs
 pub mod Boot
 pub mod Close
+pub mod Inside

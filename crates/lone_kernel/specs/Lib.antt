@@ -12,3 +12,4 @@ pub mod Machine
 pub mod Stands
 pub mod Moves
 pub mod GivenSteps
+pub mod Inside

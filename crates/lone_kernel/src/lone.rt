@@ -9,10 +9,10 @@
 //!
 //! **Decisions.** A step that decides a call notes the reply at once, so the decisions are in the order of the trace.
 ghost use Rattle.std.specs.Prelude.{◌≡◌, ◌≢◌, ◌↔◌, false, IsSome, None, Some, [], ℕ, ◌+◌, ◌<◌, ◌≤◌, ◌^◌, ◌++◌, IsTrue};
-ghost use Rattle.std.specs.Prelude.{All, IfOk, map, sum_by, length, slice_index, slice_set, vec_len, vec_capacity};
+ghost use Rattle.std.specs.Prelude.{All, IfOk, IfSome, map, sum_by, length, slice_index, slice_set, vec_len, vec_capacity};
 ghost use Rattle.spk_nums.specs.WordSteps.{place_in, left_by, told_by};
 ghost use Rattle.word_map.specs.Places.{size_of, place_of};
-ghost use Rattle.boot_words.specs.kernel_history.specs.Trace.{Trace, state_after, decision_at};
+ghost use Rattle.boot_words.specs.kernel_history.specs.Trace.{Trace, state_after, decision_at, steps_in_call};
 ghost use Rattle.boot_words.specs.kernel_history.specs.FinalWords.{Represent, word_in, end_in};
 ghost use Rattle.boot_words.specs.kernel_history.specs.Counts.{RepresentCounts};
 ghost use Rattle.call_steps.specs.call_stages.specs.Fits.{IsCore, steps_left};
@@ -25,6 +25,8 @@ ghost use Rattle.lone_kernel.specs.Machine.{IsFitSeat, turn_of, begun_by, core_i
 ghost use Rattle.lone_kernel.specs.Machine.{seat_after, words_after, place_next, decisions_in, IsFinished, IsInCall, HasDecided};
 ghost use Rattle.lone_kernel.specs.Machine.{IsReady, IsThere, IsDone, list_at, seat_at, core_at, AreLists, AreFresh};
 ghost use Rattle.lone_kernel.specs.Stands.{StandsFor};
+ghost use Rattle.call_steps.specs.Stepping.{steps_made};
+ghost use Rattle.lone_kernel.specs.Inside.{IsBelowBound};
 ghost use Rattle.lone_kernel.specs.Moves.{MovesBy, StepsOnce, GoesBy, GoesFurther, calls_left};
 
 use crate::seats::{Seat, Turn};
@@ -359,6 +361,26 @@ impl LoneKernel {
             self.until(core, how);
         }
         Moved::Went
+    }
+
+    /// How many steps of its call the core has made: None exactly where it is between calls, else as many as the call has made in each
+    /// trace for which the machine stands, which is fewer than the call's bound.
+    pub fn inside(&self, core: CoreNo) -> Option<u32>
+        requires { core < self.now.setup.cores }
+        ensures none { (result ≡ None) ↔ ((core_at self.now core).active ≡ None) }
+        ensures steps { IfSome result (λ k. (t : Trace) → StandsFor self.now t → k ≡ steps_in_call t core) }
+        ensures below { IfSome result (IsBelowBound self.now.setup.cores (core_at self.now core).active) }
+    {
+        let _setup = &self.setup;
+        self.steps_made(core)
+    }
+
+    // How many steps of its call the core has made, if it is in one.
+    fn steps_made(&self, core: CoreNo) -> Option<u32>
+        requires { core < self.now.setup.cores }
+        ensures { result ≡ steps_made (core_at self.now core).active }
+    {
+        self.seats[usize::from(core.number())].state.steps_made()
     }
 
     // Makes steps of the core until it is there.
