@@ -53,7 +53,7 @@ pub(crate) fn absorb_later(active: &mut ActiveCall, own: &Own, found: u64) -> To
 }
 
 // A step of the call's act: one by which the place of its target is filled, one that is made in the act's place, or another.
-#[inline(never)]
+#[inline]
 #[tactic(auto, using(crate::proofs::Staged::told_from, crate::proofs::Staged::call_from))]
 fn act_step(active: &mut ActiveCall, own: &Own, found: u64) -> Told
     requires fits { StageFits own.now.layout active.old.stage }
@@ -88,7 +88,7 @@ fn act_step(active: &mut ActiveCall, own: &Own, found: u64) -> Told
 }
 
 // The step of a call that makes no step of its act.
-#[inline(never)]
+#[inline]
 #[tactic(auto, using(crate::proofs::Staged::told_from, crate::proofs::Staged::call_from))]
 fn absorb_other(active: &mut ActiveCall, own: &Own, found: u64) -> Told
     requires core { own.now.core < own.now.layout.cores }
