@@ -6,6 +6,10 @@ use Rattle.act_states.specs.declared.refusals.Refusal.{Refusal}
 use Rattle.act_states.specs.declared.refusals.Refusal.TheVariants.{Raced}
 use Rattle.spk_nums.specs.declared.replies.Value.{Value}
 use Rattle.spk_nums.specs.declared.steps.StageEnd.{StageEnd}
+use Rattle.spk_nums.specs.declared.steps.StageEnd.TheVariants as ends
+use Rattle.stage_look.specs.declared.look.Found.{Found}
+use Rattle.call_plans.specs.After.{next_of}
+use Rattle.act_states.specs.Refusals.{refusal_of}
 use Rattle.act_states.specs.declared.work.Act.TheVariants.{Share}
 use Rattle.act_states.specs.declared.work.Work.TheVariants.{Scan, Acquire, Act}
 use Rattle.act_states.specs.declared.work.WorkStep.TheVariants.{Acquires}
@@ -15,7 +19,7 @@ use Rattle.act_states.specs.Shares.{took_shared}
 use Rattle.call_stages.specs.declared.stages.ActiveCall.{ActiveCall}
 use Rattle.call_stages.specs.declared.stages.Stage.{Stage}
 use Rattle.call_stages.specs.declared.stages.Stage.TheVariants.{Undecided, Decided}
-use Rattle.call_stages.specs.Steps.{Took, landed, gives_up}
+use Rattle.call_stages.specs.Steps.{Took, GoesOn, went, landed, took_found, gives_up}
 
 -- the call makes its act
 abbrev pub IsActing : Stage → Type 0
@@ -41,6 +45,13 @@ IsAcquiring _ = ⊥
 abbrev pub IsStoring : Stage → Type 0
 IsStoring (Decided r drawn tail) = Unit {0}
 IsStoring _ = ⊥
+
+-- what a call takes from a step of a look-up, which stands here after it
+abbrev pub looked_to : Own → ActiveCall → StageEnd Found → Took
+looked_to own a ends.Going = GoesOn (went a a.stage)
+looked_to own a (ends.Decided r) = landed a (refuse (refusal_of r))
+looked_to own a (ends.Done f) = took_found own a (next_of a.plan a.found) f
+looked_to own a (ends.Refuse r) = landed a (refuse (refusal_of r))
 
 -- what a call on two temporal capabilities, which stands here, takes from its step
 abbrev pub shared_to : ActiveCall → Stage → StageEnd Value → Took

@@ -178,11 +178,12 @@ impl CoreState {
         ensures fewer { steps_left self.new < steps_left self.old }
         ensures fits { IsCore self.new }
     {
-        let told = match &mut self.active {
-            Some(active) => absorb(active, &self.own, found),
+        let mut tells = Told::Going;
+        match &mut self.active {
+            Some(active) => absorb(active, &self.own, found, &mut tells),
             None => unreachable!(),
-        };
-        match told {
+        }
+        match tells {
             Told::Going => Absorbed::Going,
             Told::Decided { reply } => {
                 self.own.made += calls_counted(&reply);

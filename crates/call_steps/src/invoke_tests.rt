@@ -73,7 +73,8 @@ fn step(layout: &Layout, depth: u8, call: Call, stage: Stage, found: u64) -> (Wo
         call,
         plan: plan_of(&call),
     };
-    let told = absorb(&mut active, &own, found);
+    let mut told = Told::Going;
+    absorb(&mut active, &own, found, &mut told);
     (op, told, active.stage)
 }
 

@@ -10,6 +10,7 @@ ghost use Rattle.std.specs.Prelude.{◌≡◌, ◌<◌, ◌≤◌, None};
 ghost use Rattle.call_stages.specs.Steps.{landed, took, told, call_after};
 ghost use Rattle.call_stages.specs.Fits.{StageFits, IsLater};
 ghost use Rattle.act_states.specs.Shares.{shared};
+ghost use Rattle.act_states.specs.WorkSteps.{refuse};
 ghost use Rattle.act_states.specs.declared.work.WorkStep.TheVariants.{Answers};
 ghost use Rattle.spk_nums.specs.declared.replies.Value.TheVariants.{Nothing};
 ghost use Rattle.call_steps.specs.Stepping.{IsActing, IsSharing, IsScanning, IsAcquiring, IsStoring};
@@ -29,13 +30,14 @@ use stage_tcap::Pair;
 /// comes later.
 #[inline(never)]
 #[tactic(auto, using(crate::proofs::Staged::told_from, crate::proofs::Staged::call_from))]
-pub(crate) fn absorb_later(active: &mut ActiveCall, own: &Own, found: u64) -> Told
+pub(crate) fn absorb_later(active: &mut ActiveCall, own: &Own, found: u64, tells: &mut Told)
     requires core { own.now.core < own.now.layout.cores }
     requires cores { own.now.layout.cores ≤ 8 }
     requires fits { StageFits own.now.layout active.old.stage }
     requires later { IsLater active.old.stage }
     requires few { active.old.steps < 1000 }
-    ensures told { result ≡ told (took own.now active.old found) }
+    requires going { tells.old ≡ Told.Going }
+    ensures told { tells.new ≡ told (took own.now active.old found) }
     ensures after { active.new ≡ call_after active.old (took own.now active.old found) }
 {
     match &mut active.stage {
@@ -44,22 +46,23 @@ pub(crate) fn absorb_later(active: &mut ActiveCall, own: &Own, found: u64) -> To
         } => match act {
             Act::Share { pair } => match pair.take(&own.layout, found) {
                 StageEnd::Going => goes_on(active),
-                end => share_ends(active, &end),
+                end => share_ends(active, &end, tells),
             },
-            _ => act_step(active, own, found),
+            _ => act_step(active, own, found, tells),
         },
-        _ => absorb_other(active, own, found),
+        _ => absorb_other(active, own, found, tells),
     }
 }
 
 // A step of the call's act: one by which the place of its target is filled, one that is made in the act's place, or another.
 #[inline]
 #[tactic(auto, using(crate::proofs::Staged::told_from, crate::proofs::Staged::call_from))]
-fn act_step(active: &mut ActiveCall, own: &Own, found: u64) -> Told
+fn act_step(active: &mut ActiveCall, own: &Own, found: u64, tells: &mut Told)
     requires fits { StageFits own.now.layout active.old.stage }
     requires acting { IsActing active.old.stage }
     requires few { active.old.steps < 1000 }
-    ensures told { result ≡ told (took own.now active.old found) }
+    requires going { tells.old ≡ Told.Going }
+    ensures told { tells.new ≡ told (took own.now active.old found) }
     ensures after { active.new ≡ call_after active.old (took own.now active.old found) }
 {
     match &mut active.stage {
@@ -67,16 +70,16 @@ fn act_step(active: &mut ActiveCall, own: &Own, found: u64) -> Told
             Work::Act { act } => match act {
                 Act::Fill { fill } => {
                     if found == fill.word {
-                        carried_out(active)
+                        carried_out(active, tells)
                     } else {
-                        refused_late(active, Refusal::Raced)
+                        refused_late(active, Refusal::Raced, tells)
                     }
                 }
                 _ => {
                     if act_moves(act, &own.layout, found) {
                         goes_on(active)
                     } else {
-                        act_lands(active, own, found)
+                        act_lands(active, own, found, tells)
                     }
                 }
             },
@@ -90,13 +93,14 @@ fn act_step(active: &mut ActiveCall, own: &Own, found: u64) -> Told
 // The step of a call that makes no step of its act.
 #[inline]
 #[tactic(auto, using(crate::proofs::Staged::told_from, crate::proofs::Staged::call_from))]
-fn absorb_other(active: &mut ActiveCall, own: &Own, found: u64) -> Told
+fn absorb_other(active: &mut ActiveCall, own: &Own, found: u64, tells: &mut Told)
     requires core { own.now.core < own.now.layout.cores }
     requires cores { own.now.layout.cores ≤ 8 }
     requires fits { StageFits own.now.layout active.old.stage }
     requires later { IsLater active.old.stage }
     requires few { active.old.steps < 1000 }
-    ensures told { result ≡ told (took own.now active.old found) }
+    requires going { tells.old ≡ Told.Going }
+    ensures told { tells.new ≡ told (took own.now active.old found) }
     ensures after { active.new ≡ call_after active.old (took own.now active.old found) }
 {
     match &mut active.stage {
@@ -105,44 +109,47 @@ fn absorb_other(active: &mut ActiveCall, own: &Own, found: u64) -> Told
             Work::Lookup { look: _ } => unreachable!(),
             Work::Read { comp: _, look } => {
                 let look = *look;
-                has_read(active, look, CompWord::unpack(found))
+                has_read(active, look, CompWord::unpack(found), tells)
             }
             Work::Scan { quiet, act: _ } => match quiet.take(&own.layout, found) {
                 StageEnd::Going => goes_on(active),
-                StageEnd::Decided(reply) => refused_late(active, Refusal::of(&reply)),
-                StageEnd::Done(_) => starts_act(active, own),
-                StageEnd::Refuse(reply) => refused_late(active, Refusal::of(&reply)),
+                StageEnd::Decided(reply) => refused_late(active, Refusal::of(&reply), tells),
+                StageEnd::Done(_) => starts_act(active, own, tells),
+                StageEnd::Refuse(reply) => refused_late(active, Refusal::of(&reply), tells),
             },
             Work::Acquire { pin, .. } => match pin.take(&own.layout, found) {
                 StageEnd::Going => goes_on(active),
-                StageEnd::Decided(reply) => gives_up(active, Refusal::of(&reply)),
+                StageEnd::Decided(reply) => gives_up(active, Refusal::of(&reply), tells),
                 StageEnd::Done(pin) => acquires(active, own, &pin),
-                StageEnd::Refuse(reply) => gives_up(active, Refusal::of(&reply)),
+                StageEnd::Refuse(reply) => gives_up(active, Refusal::of(&reply), tells),
             },
-            Work::Act { act: _ } => act_lands(active, own, found),
+            Work::Act { act: _ } => act_lands(active, own, found, tells),
         },
         Stage::Decided { .. } => store(active, own, found),
-        Stage::Leave { reply, stamp } => Told::Returned {
-            reply: *reply,
-            stamp: *stamp,
-        },
+        Stage::Leave { reply, stamp } => {
+            *tells = Told::Returned {
+                reply: *reply,
+                stamp: *stamp,
+            };
+        }
     }
 }
 
 // A step of the call's act, after which the same act does not go on, or of an act whose steps are not made in its place.
 #[inline(never)]
-fn act_lands(active: &mut ActiveCall, own: &Own, found: u64) -> Told
+fn act_lands(active: &mut ActiveCall, own: &Own, found: u64, tells: &mut Told)
     requires fits { StageFits own.now.layout active.old.stage }
     requires acting { IsActing active.old.stage }
     requires few { active.old.steps < 1000 }
-    ensures told { result ≡ told (took own.now active.old found) }
+    requires going { tells.old ≡ Told.Going }
+    ensures told { tells.new ≡ told (took own.now active.old found) }
     ensures after { active.new ≡ call_after active.old (took own.now active.old found) }
 {
     match &active.stage {
         Stage::Undecided { work } => match work {
             Work::Act { act } => {
                 let step = act_took(act, &own.layout, found);
-                land(active, &step)
+                land(active, &step, tells)
             }
             Work::Lookup { .. } | Work::Read { .. } | Work::Scan { .. } | Work::Acquire { .. } =>
                 unreachable!(),
@@ -153,10 +160,11 @@ fn act_lands(active: &mut ActiveCall, own: &Own, found: u64) -> Told
 
 // A step of a call on two temporal capabilities, after which it does not go on.
 #[inline(never)]
-fn share_ends(active: &mut ActiveCall, end: &StageEnd<Value>) -> Told
+fn share_ends(active: &mut ActiveCall, end: &StageEnd<Value>, tells: &mut Told)
     requires shares { IsSharing active.old.stage }
     requires few { active.old.steps < 1000 }
-    ensures told { result ≡ told (shared_to active.old active.old.stage end.now) }
+    requires going { tells.old ≡ Told.Going }
+    ensures told { tells.new ≡ told (shared_to active.old active.old.stage end.now) }
     ensures after { active.new ≡ call_after active.old (shared_to active.old active.old.stage end.now) }
 {
     match &active.stage {
@@ -166,10 +174,10 @@ fn share_ends(active: &mut ActiveCall, end: &StageEnd<Value>) -> Told
                     StageEnd::Going => goes_on(active),
                     StageEnd::Decided(reply) => {
                         let pair = *pair;
-                        share_decides(active, &pair, reply)
+                        share_decides(active, &pair, reply, tells)
                     }
-                    StageEnd::Done(_) => refused(active, Refusal::Raced),
-                    StageEnd::Refuse(reply) => refused(active, Refusal::of(reply)),
+                    StageEnd::Done(_) => refused(active, Refusal::Raced, tells),
+                    StageEnd::Refuse(reply) => refused(active, Refusal::of(reply), tells),
                 },
                 _ => unreachable!(),
             },
@@ -182,51 +190,61 @@ fn share_ends(active: &mut ActiveCall, end: &StageEnd<Value>) -> Told
 
 // A call on two temporal capabilities is decided with this reply, and has still to store what stands here.
 #[inline]
-fn share_decides(active: &mut ActiveCall, pair: &Pair, reply: &Reply) -> Told
-    requires { active.old.steps < 1000 }
-    ensures told { result ≡ told (landed active.old (shared pair.now reply.now)) }
+fn share_decides(active: &mut ActiveCall, pair: &Pair, reply: &Reply, tells: &mut Told)
+    requires few { active.old.steps < 1000 }
+    requires going { tells.old ≡ Told.Going }
+    ensures told { tells.new ≡ told (landed active.old (shared pair.now reply.now)) }
     ensures after { active.new ≡ call_after active.old (landed active.old (shared pair.now reply.now)) }
 {
     let tail = Tail::Share { pair: *pair };
     match reply {
-        Reply::Ok(value) => decide(active, &Reply::Ok(*value), None, &tail),
-        _ => decide(active, &Refusal::of(reply).reply(), None, &tail),
+        Reply::Ok(value) => decide(active, &Reply::Ok(*value), None, &tail, tells),
+        _ => decide(active, &Refusal::of(reply).reply(), None, &tail, tells),
     }
 }
 
 // The call is carried out without a value, and has drawn no stamp and nothing to store.
 #[inline(never)]
-fn carried_out(active: &mut ActiveCall) -> Told
-    requires { active.old.steps < 1000 }
-    ensures told { result ≡ told (landed active.old (Answers Nothing None Tail.Nothing)) }
+fn carried_out(active: &mut ActiveCall, tells: &mut Told)
+    requires few { active.old.steps < 1000 }
+    requires going { tells.old ≡ Told.Going }
+    ensures told { tells.new ≡ told (landed active.old (Answers Nothing None Tail.Nothing)) }
     ensures after { active.new ≡ call_after active.old (landed active.old (Answers Nothing None Tail.Nothing)) }
 {
-    decide(active, &Reply::Ok(Value::Nothing), None, &Tail::Nothing)
+    decide(
+        active,
+        &Reply::Ok(Value::Nothing),
+        None,
+        &Tail::Nothing,
+        tells,
+    )
 }
 
 // The call is refused, with nothing to store.
 #[inline(never)]
-fn refused_late(active: &mut ActiveCall, refusal: Refusal) -> Told
-    requires { active.old.steps < 1000 }
-    ensures told { result ≡ told (landed active.old (refuse refusal)) }
+fn refused_late(active: &mut ActiveCall, refusal: Refusal, tells: &mut Told)
+    requires few { active.old.steps < 1000 }
+    requires going { tells.old ≡ Told.Going }
+    ensures told { tells.new ≡ told (landed active.old (refuse refusal)) }
     ensures after { active.new ≡ call_after active.old (landed active.old (refuse refusal)) }
 {
-    refused(active, refusal)
+    refused(active, refusal, tells)
 }
 
 // The act of a call starts whose scan is done.
 #[inline(never)]
-fn starts_act(active: &mut ActiveCall, own: &Own) -> Told
+fn starts_act(active: &mut ActiveCall, own: &Own, tells: &mut Told)
     requires scans { IsScanning active.old.stage }
     requires few { active.old.steps < 1000 }
-    ensures told { result ≡ told (scanned own.now active.old active.old.stage) }
+    requires going { tells.old ≡ Told.Going }
+    ensures told { tells.new ≡ told (scanned own.now active.old active.old.stage) }
     ensures after { active.new ≡ call_after active.old (scanned own.now active.old active.old.stage) }
 {
     match &active.stage {
         Stage::Undecided { work } => match work {
             Work::Scan { quiet: _, act } => {
                 let step = starts(own.core, act);
-                land(active, &step)
+                land(active, &step, tells)
             }
             Work::Lookup { .. } | Work::Read { .. } | Work::Acquire { .. } | Work::Act { .. } =>
                 unreachable!(),
@@ -237,10 +255,10 @@ fn starts_act(active: &mut ActiveCall, own: &Own) -> Told
 
 // The call has acquired a count, and goes on to the next, or to its act.
 #[inline(never)]
-fn acquires(active: &mut ActiveCall, own: &Own, pin: &Pinned) -> Told
+fn acquires(active: &mut ActiveCall, own: &Own, pin: &Pinned)
     requires acquires { IsAcquiring active.old.stage }
     requires few { active.old.steps < 1000 }
-    ensures told { result ≡ told (counted own.now active.old active.old.stage pin.now) }
+    ensures told { told (counted own.now active.old active.old.stage pin.now) ≡ Told.Going }
     ensures after { active.new ≡ call_after active.old (counted own.now active.old active.old.stage pin.now) }
 {
     match &active.stage {
@@ -257,7 +275,6 @@ fn acquires(active: &mut ActiveCall, own: &Own, pin: &Pinned) -> Told
                 let work = next_work(own.core, active.counts.count() + 1, act);
                 active.counts.push(count);
                 go_on(active, Stage::Undecided { work });
-                Told::Going
             }
             Work::Lookup { .. } | Work::Read { .. } | Work::Scan { .. } | Work::Act { .. } =>
                 unreachable!(),
@@ -268,10 +285,11 @@ fn acquires(active: &mut ActiveCall, own: &Own, pin: &Pinned) -> Told
 
 // The call does not acquire a count, and is refused, with what it has then still to store.
 #[inline(never)]
-fn gives_up(active: &mut ActiveCall, refusal: Refusal) -> Told
+fn gives_up(active: &mut ActiveCall, refusal: Refusal, tells: &mut Told)
     requires acquires { IsAcquiring active.old.stage }
     requires few { active.old.steps < 1000 }
-    ensures told { result ≡ told (given_up active.old active.old.stage refusal) }
+    requires going { tells.old ≡ Told.Going }
+    ensures told { tells.new ≡ told (given_up active.old active.old.stage refusal) }
     ensures after { active.new ≡ call_after active.old (given_up active.old active.old.stage refusal) }
 {
     match &active.stage {
@@ -282,7 +300,7 @@ fn gives_up(active: &mut ActiveCall, refusal: Refusal) -> Told
                 act,
             } => {
                 let tail = undo(act);
-                decide(active, &refusal.reply(), None, &tail)
+                decide(active, &refusal.reply(), None, &tail, tells)
             }
             Work::Lookup { .. } | Work::Read { .. } | Work::Scan { .. } | Work::Act { .. } =>
                 unreachable!(),
@@ -293,11 +311,11 @@ fn gives_up(active: &mut ActiveCall, refusal: Refusal) -> Told
 
 // A step of a call that is decided: a store, a commit, or the load of the clock.
 #[inline]
-fn store(active: &mut ActiveCall, own: &Own, found: u64) -> Told
+fn store(active: &mut ActiveCall, own: &Own, found: u64)
     requires fits { StageFits own.now.layout active.old.stage }
     requires decided { IsStoring active.old.stage }
     requires few { active.old.steps < 1000 }
-    ensures told { result ≡ told (took own.now active.old found) }
+    ensures told { told (took own.now active.old found) ≡ Told.Going }
     ensures after { active.new ≡ call_after active.old (took own.now active.old found) }
 {
     match &mut active.stage {
@@ -316,7 +334,6 @@ fn store(active: &mut ActiveCall, own: &Own, found: u64) -> Told
                             stamp: stamp_of(found),
                         },
                     );
-                    Told::Going
                 }
                 Some(_) => {
                     active.counts.pop();
@@ -342,11 +359,11 @@ fn store(active: &mut ActiveCall, own: &Own, found: u64) -> Told
 
 // A store of a call that is decided, after which another may come.
 #[inline(never)]
-fn store_other(active: &mut ActiveCall, own: &Own, found: u64) -> Told
+fn store_other(active: &mut ActiveCall, own: &Own, found: u64)
     requires fits { StageFits own.now.layout active.old.stage }
     requires decided { IsStoring active.old.stage }
     requires few { active.old.steps < 1000 }
-    ensures told { result ≡ told (took own.now active.old found) }
+    ensures told { told (took own.now active.old found) ≡ Told.Going }
     ensures after { active.new ≡ call_after active.old (took own.now active.old found) }
 {
     match &active.stage {
@@ -357,10 +374,7 @@ fn store_other(active: &mut ActiveCall, own: &Own, found: u64) -> Told
                 active.counts.pop();
             }
             go_on(active, stage);
-            Told::Going
         }
         Stage::Enter | Stage::Undecided { .. } | Stage::Leave { .. } => unreachable!(),
     }
 }
-
-ghost use Rattle.act_states.specs.WorkSteps.{refuse};

@@ -7,9 +7,11 @@ ghost use Rattle.spk_nums.specs.WordSteps.{place_in};
 ghost use Rattle.call_plans.specs.After.{next_of, with_found};
 ghost use Rattle.stage_pins.specs.Held.{AllFit};
 ghost use Rattle.call_stages.specs.Steps.{took_read, core_word, work_move, stage_move, went};
-ghost use Rattle.call_stages.specs.Steps.{landed, next_by, took_enter, took_found, took_end, took_work, took_at, took, told, call_after};
+ghost use Rattle.call_stages.specs.Steps.{landed, next_by, took_enter, took_found, took, told, call_after};
 ghost use Rattle.call_stages.specs.Steps.{is_last, decides_at_name, work_ready, is_ready, is_spent, named_one, decided, Changes};
 ghost use Rattle.call_stages.specs.Fits.{WorkFits, StageFits};
+ghost use Rattle.call_stages.specs.declared.stages.Stage.TheVariants.{Decided};
+ghost use Rattle.call_steps.specs.Stepping.{looked_to};
 ghost use Rattle.call_plans.specs.GoesBy.{place_of_spot};
 ghost use Rattle.act_states.specs.WorkSteps.{refuse};
 ghost use Rattle.act_states.specs.Acts.{act_begun, looked as answered, reads_of};
@@ -150,192 +152,189 @@ fn work_ready(active: &ActiveCall, work: &Work) -> bool
 }
 
 /// Takes the word that the call's step found; after a store this is the word stored. The call is changed in its place,
-/// and only in what the step changes. One that returns stays as it was.
+/// and only in what the step changes. One that returns stays as it was. What the step led to is told where it said before that the call
+/// goes on.
 #[inline]
-pub fn absorb(active: &mut ActiveCall, own: &Own, found: u64) -> Told
+#[tactic(auto, using(crate::proofs::Staged::told_looked, crate::proofs::Staged::call_looked))]
+pub fn absorb(active: &mut ActiveCall, own: &Own, found: u64, tells: &mut Told)
     requires core { own.now.core < own.now.layout.cores }
     requires cores { own.now.layout.cores ≤ 8 }
     requires fits { StageFits own.now.layout active.old.stage }
     requires few { active.old.steps < 1000 }
-    ensures told { result ≡ told (took own.now active.old found) }
+    requires going { tells.old ≡ Told.Going }
+    ensures told { tells.new ≡ told (took own.now active.old found) }
     ensures after { active.new ≡ call_after active.old (took own.now active.old found) }
 {
-    match &active.stage {
-        Stage::Enter => enter(active, own.limit <= own.made, own),
+    match &mut active.stage {
+        Stage::Enter => enter(active, own.limit <= own.made, own, tells),
         Stage::Undecided { work } => match work {
-            Work::Lookup { look } => {
-                let look = *look;
-                absorb_look(active, own, look, found)
-            }
-            Work::Read { comp: _, look: _ } => absorb_later(active, own, found),
-            Work::Scan { quiet: _, act: _ } => absorb_later(active, own, found),
-            Work::Acquire { .. } => absorb_later(active, own, found),
-            Work::Act { act: _ } => absorb_later(active, own, found),
+            Work::Lookup { look } => match look.take(&own.layout, found) {
+                StageEnd::Going => goes_on(active),
+                end => looked(active, own, &end, tells),
+            },
+            Work::Read { comp: _, look: _ } => absorb_later(active, own, found, tells),
+            Work::Scan { quiet: _, act: _ } => absorb_later(active, own, found, tells),
+            Work::Acquire { .. } => absorb_later(active, own, found, tells),
+            Work::Act { act: _ } => absorb_later(active, own, found, tells),
         },
-        Stage::Decided { .. } => absorb_later(active, own, found),
-        Stage::Leave { .. } => absorb_later(active, own, found),
+        Stage::Decided { .. } => absorb_later(active, own, found, tells),
+        Stage::Leave { .. } => absorb_later(active, own, found, tells),
     }
-}
-
-// A step of a look-up.
-#[inline]
-fn absorb_look(active: &mut ActiveCall, own: &Own, look: Look, found: u64) -> Told
-    requires core { own.now.core < own.now.layout.cores }
-    requires cores { own.now.layout.cores ≤ 8 }
-    requires fits { WorkFits own.now.layout (Lookup look) }
-    requires few { active.old.steps < 1000 }
-    ensures told { result ≡ told (took_work own.now active.old (Lookup look) found) }
-    ensures after { active.new ≡ call_after active.old (took_work own.now active.old (Lookup look) found) }
-{
-    let mut look = look;
-    let end = look.take(&own.layout, found);
-    looked(active, own, look, &end)
 }
 
 // The first step of a call.
 #[inline]
-fn enter(active: &mut ActiveCall, spent: bool, own: &Own) -> Told
+fn enter(active: &mut ActiveCall, spent: bool, own: &Own, tells: &mut Told)
     requires core { own.now.core < own.now.layout.cores }
     requires cores { own.now.layout.cores ≤ 8 }
     requires few { active.old.steps < 1000 }
-    ensures told { result ≡ told (took_enter spent own.now active.old) }
+    requires going { tells.old ≡ Told.Going }
+    ensures told { tells.new ≡ told (took_enter spent own.now active.old) }
     ensures after { active.new ≡ call_after active.old (took_enter spent own.now active.old) }
 {
     if spent {
-        refused(active, Refusal::CallsSpent)
+        refused(active, Refusal::CallsSpent, tells)
     } else {
-        look_next(active, own)
+        look_next(active, own, tells)
     }
 }
 
-// A step of a look-up, which stands at `look` after it.
+// A step of a look-up, after which it does not go on.
 #[inline]
-fn looked(active: &mut ActiveCall, own: &Own, look: Look, end: &StageEnd<Found>) -> Told
+fn looked(active: &mut ActiveCall, own: &Own, end: &StageEnd<Found>, tells: &mut Told)
     requires core { own.now.core < own.now.layout.cores }
     requires cores { own.now.layout.cores ≤ 8 }
     requires few { active.old.steps < 1000 }
-    ensures told { result ≡ told (took_end own.now active.old look end.now) }
-    ensures after { active.new ≡ call_after active.old (took_end own.now active.old look end.now) }
+    requires going { tells.old ≡ Told.Going }
+    ensures told { tells.new ≡ told (looked_to own.now active.old end.now) }
+    ensures after { active.new ≡ call_after active.old (looked_to own.now active.old end.now) }
 {
     match end {
-        StageEnd::Going => looks_up(active, look),
-        StageEnd::Decided(reply) => refused(active, Refusal::of(reply)),
-        StageEnd::Done(found) => found_place(active, own, found),
-        StageEnd::Refuse(reply) => refused(active, Refusal::of(reply)),
+        StageEnd::Going => goes_on(active),
+        StageEnd::Decided(reply) => refused(active, Refusal::of(reply), tells),
+        StageEnd::Done(found) => found_place(active, own, found, tells),
+        StageEnd::Refuse(reply) => refused(active, Refusal::of(reply), tells),
     }
 }
 
 // The place of a name or of the target was found.
 #[inline]
-fn found_place(active: &mut ActiveCall, own: &Own, found: &Found) -> Told
+fn found_place(active: &mut ActiveCall, own: &Own, found: &Found, tells: &mut Told)
     requires core { own.now.core < own.now.layout.cores }
     requires cores { own.now.layout.cores ≤ 8 }
     requires few { active.old.steps < 1000 }
-    ensures told { result ≡ told (took_found own.now active.old (next_of active.old.plan active.old.found) found.now) }
+    requires going { tells.old ≡ Told.Going }
+    ensures told { tells.new ≡ told (took_found own.now active.old (next_of active.old.plan active.old.found) found.now) }
     ensures after { active.new
         ≡ call_after active.old (took_found own.now active.old (next_of active.old.plan active.old.found) found.now) }
 {
     match active.plan.next(&active.found) {
         Next::Name { name } => {
             let met = met_name(&active.found, &name, &found.value);
-            named_one(active, own, &met)
+            named_one(active, own, &met, tells)
         }
-        Next::Free { spot: _ } => found_free(active, own, found),
-        Next::Held { spot: _ } => found_held(active, own, found),
-        Next::Own { page: _ } => refused(active, Refusal::Raced),
-        Next::Nothing => refused(active, Refusal::Raced),
+        Next::Free { spot: _ } => found_free(active, own, found, tells),
+        Next::Held { spot: _ } => found_held(active, own, found, tells),
+        Next::Own { page: _ } => refused(active, Refusal::Raced, tells),
+        Next::Nothing => refused(active, Refusal::Raced, tells),
     }
 }
 
 // A name has led to this.
 #[inline]
 #[tactic(auto, using(call_fits::proofs::Landing::same_call))]
-fn named_one(active: &mut ActiveCall, own: &Own, met: &Met) -> Told
+fn named_one(active: &mut ActiveCall, own: &Own, met: &Met, tells: &mut Told)
     requires core { own.now.core < own.now.layout.cores }
     requires cores { own.now.layout.cores ≤ 8 }
     requires few { active.old.steps < 1000 }
-    ensures told { result ≡ told (named_one own.now active.old met.now) }
+    requires going { tells.old ≡ Told.Going }
+    ensures told { tells.new ≡ told (named_one own.now active.old met.now) }
     ensures after { active.new ≡ call_after active.old (named_one own.now active.old met.now) }
 {
     match met {
         Met::Finds { cap } => {
             active.found.push(*cap);
-            look_next(active, own)
+            look_next(active, own, tells)
         }
-        Met::Refused { refusal } => refused(active, *refusal),
+        Met::Refused { refusal } => refused(active, *refusal, tells),
     }
 }
 
 // The place of a target that is to be free was found.
 #[inline(never)]
-fn found_free(active: &mut ActiveCall, own: &Own, found: &Found) -> Told
+fn found_free(active: &mut ActiveCall, own: &Own, found: &Found, tells: &mut Told)
     requires core { own.now.core < own.now.layout.cores }
     requires cores { own.now.layout.cores ≤ 8 }
     requires few { active.old.steps < 1000 }
-    ensures told { result
+    requires going { tells.old ≡ Told.Going }
+    ensures told { tells.new
         ≡ told (landed active.old (met_free own.now active.old.call active.old.found active.old.read found.now found.now.value)) }
     ensures after { active.new ≡ call_after active.old
         (landed active.old (met_free own.now active.old.call active.old.found active.old.read found.now found.now.value)) }
 {
     let step = met_free(own, &active.call, &active.found, active.read, found);
-    land(active, &step)
+    land(active, &step, tells)
 }
 
 // The place of a target that is to be held was found.
 #[inline(never)]
-fn found_held(active: &mut ActiveCall, own: &Own, found: &Found) -> Told
+fn found_held(active: &mut ActiveCall, own: &Own, found: &Found, tells: &mut Told)
     requires core { own.now.core < own.now.layout.cores }
     requires cores { own.now.layout.cores ≤ 8 }
     requires few { active.old.steps < 1000 }
-    ensures told { result ≡ told (landed active.old (met_held own.now active.old.call active.old.found found.now found.now.value)) }
+    requires going { tells.old ≡ Told.Going }
+    ensures told { tells.new ≡ told (landed active.old (met_held own.now active.old.call active.old.found found.now found.now.value)) }
     ensures after { active.new
         ≡ call_after active.old (landed active.old (met_held own.now active.old.call active.old.found found.now found.now.value)) }
 {
     let step = met_held(own, &active.call, &active.found, found);
-    land(active, &step)
+    land(active, &step, tells)
 }
 
 // What comes next of the call: a look-up, or its act.
 #[inline]
-fn look_next(active: &mut ActiveCall, own: &Own) -> Told
+fn look_next(active: &mut ActiveCall, own: &Own, tells: &mut Told)
     requires core { own.now.core < own.now.layout.cores }
     requires cores { own.now.layout.cores ≤ 8 }
     requires few { active.old.steps < 1000 }
-    ensures told { result ≡ told (landed active.old (next_by own.now active.old)) }
+    requires going { tells.old ≡ Told.Going }
+    ensures told { tells.new ≡ told (landed active.old (next_by own.now active.old)) }
     ensures after { active.new ≡ call_after active.old (landed active.old (next_by own.now active.old)) }
 {
     match active.plan.next(&active.found) {
-        Next::Name { name } => look_under(active, own.table, name.number.number()),
-        Next::Free { spot } => look_free(active, spot),
-        Next::Held { spot } => look_at(active, spot),
-        Next::Own { page } => touch(active, own, page),
+        Next::Name { name } => look_under(active, own.table, name.number.number(), tells),
+        Next::Free { spot } => look_free(active, spot, tells),
+        Next::Held { spot } => look_at(active, spot, tells),
+        Next::Own { page } => touch(active, own, page, tells),
         Next::Nothing => match &active.call {
-            Call::Look { a: _ } => look_answers(active),
-            _ => act_begins(active, own),
+            Call::Look { a: _ } => look_answers(active, tells),
+            _ => act_begins(active, own, tells),
         },
     }
 }
 
 // The place of a target that is to be free is looked up, after the load of a component's word where the call reads one.
 #[inline]
-fn look_free(active: &mut ActiveCall, spot: Spot) -> Told
-    requires { active.old.steps < 1000 }
-    ensures told { result ≡ told (landed active.old
+fn look_free(active: &mut ActiveCall, spot: Spot, tells: &mut Told)
+    requires few { active.old.steps < 1000 }
+    requires going { tells.old ≡ Told.Going }
+    ensures told { tells.new ≡ told (landed active.old
         (read_first (reads_of active.old.call active.old.found) (looks_at (place_of_spot (with_found [] active.old.found) spot)))) }
     ensures after { active.new ≡ call_after active.old (landed active.old
         (read_first (reads_of active.old.call active.old.found) (looks_at (place_of_spot (with_found [] active.old.found) spot)))) }
 {
     match reads_of(&active.call, &active.found) {
-        None => look_at(active, spot),
-        Some(comp) => read_at(active, comp, spot),
+        None => look_at(active, spot, tells),
+        Some(comp) => read_at(active, comp, spot, tells),
     }
 }
 
 // A component's word is loaded before the place of a target is looked up.
 #[inline(never)]
-fn read_at(active: &mut ActiveCall, comp: FrameNo, spot: Spot) -> Told
-    requires { active.old.steps < 1000 }
-    ensures told { result
+fn read_at(active: &mut ActiveCall, comp: FrameNo, spot: Spot, tells: &mut Told)
+    requires few { active.old.steps < 1000 }
+    requires going { tells.old ≡ Told.Going }
+    ensures told { tells.new
         ≡ told (landed active.old (read_first (Some comp) (looks_at (place_of_spot (with_found [] active.old.found) spot)))) }
     ensures after { active.new
         ≡ call_after active.old (landed active.old (read_first (Some comp) (looks_at (place_of_spot (with_found [] active.old.found) spot)))) }
@@ -346,7 +345,7 @@ fn read_at(active: &mut ActiveCall, comp: FrameNo, spot: Spot) -> Told
             if number <= 4095 {
                 reads_first(active, comp, Look::place(root, CapId::new(number)))
             } else {
-                refused(active, Refusal::NoSlot)
+                refused(active, Refusal::NoSlot, tells)
             }
         }
         Spot::InRoot { root, entry } => {
@@ -354,7 +353,7 @@ fn read_at(active: &mut ActiveCall, comp: FrameNo, spot: Spot) -> Told
             if entry.number() <= 63 {
                 reads_first(active, comp, Look::root(root, entry))
             } else {
-                refused(active, Refusal::NoSlot)
+                refused(active, Refusal::NoSlot, tells)
             }
         }
     }
@@ -362,10 +361,9 @@ fn read_at(active: &mut ActiveCall, comp: FrameNo, spot: Spot) -> Told
 
 // The word of this component is loaded before this look-up.
 #[inline]
-fn reads_first(active: &mut ActiveCall, comp: FrameNo, look: Look) -> Told
+fn reads_first(active: &mut ActiveCall, comp: FrameNo, look: Look)
     requires { active.old.steps < 1000 }
-    ensures told { result ≡ told (landed active.old (Goes (Read comp look))) }
-    ensures after { active.new ≡ call_after active.old (landed active.old (Goes (Read comp look))) }
+    ensures { active.new ≡ call_after active.old (landed active.old (Goes (Read comp look))) }
 {
     go_on(
         active,
@@ -373,19 +371,24 @@ fn reads_first(active: &mut ActiveCall, comp: FrameNo, look: Look) -> Told
             work: Work::Read { comp, look },
         },
     );
-    Told::Going
 }
 
 // A component's word was loaded, which names this, and this look-up comes next.
 #[inline]
 #[tactic(auto, using(call_fits::proofs::Landing::same_call))]
-pub(crate) fn has_read(active: &mut ActiveCall, look: Look, life: Option<CompWord>) -> Told
-    requires { active.old.steps < 1000 }
-    ensures told { result ≡ told (took_read active.old look life) }
+pub(crate) fn has_read(
+    active: &mut ActiveCall,
+    look: Look,
+    life: Option<CompWord>,
+    tells: &mut Told,
+)
+    requires few { active.old.steps < 1000 }
+    requires going { tells.old ≡ Told.Going }
+    ensures told { tells.new ≡ told (took_read active.old look life) }
     ensures after { active.new ≡ call_after active.old (took_read active.old look life) }
 {
     match life {
-        None => refused(active, Refusal::Raced),
+        None => refused(active, Refusal::Raced, tells),
         Some(life) => {
             active.read = Some(life.epoch);
             looks_up(active, look)
@@ -395,95 +398,106 @@ pub(crate) fn has_read(active: &mut ActiveCall, look: Look, life: Option<CompWor
 
 // A look answers what its name has led to.
 #[inline]
-fn look_answers(active: &mut ActiveCall) -> Told
-    requires { active.old.steps < 1000 }
-    ensures told { result ≡ told (landed active.old (answered (at_place active.old.found First))) }
+fn look_answers(active: &mut ActiveCall, tells: &mut Told)
+    requires few { active.old.steps < 1000 }
+    requires going { tells.old ≡ Told.Going }
+    ensures told { tells.new ≡ told (landed active.old (answered (at_place active.old.found First))) }
     ensures after { active.new ≡ call_after active.old (landed active.old (answered (at_place active.old.found First))) }
 {
     match active.found.get(Nth::First) {
-        Some(cap) => decide(active, &Reply::Ok(Value::Cap(cap)), None, &Tail::Nothing),
-        None => refused(active, Refusal::Raced),
+        Some(cap) => decide(
+            active,
+            &Reply::Ok(Value::Cap(cap)),
+            None,
+            &Tail::Nothing,
+            tells,
+        ),
+        None => refused(active, Refusal::Raced, tells),
     }
 }
 
 // The act of a call without a target begins.
 #[inline(never)]
-fn act_begins(active: &mut ActiveCall, own: &Own) -> Told
+fn act_begins(active: &mut ActiveCall, own: &Own, tells: &mut Told)
     requires core { own.now.core < own.now.layout.cores }
     requires cores { own.now.layout.cores ≤ 8 }
     requires few { active.old.steps < 1000 }
-    ensures told { result ≡ told (landed active.old (act_begun own.now active.old.call active.old.found None None)) }
+    requires going { tells.old ≡ Told.Going }
+    ensures told { tells.new ≡ told (landed active.old (act_begun own.now active.old.call active.old.found None None)) }
     ensures after { active.new ≡ call_after active.old (landed active.old (act_begun own.now active.old.call active.old.found None None)) }
 {
     let step = begin_act(own, &active.call, &active.found, None, &None);
-    land(active, &step)
+    land(active, &step, tells)
 }
 
 // A page of the core's own pages is touched.
 #[inline(never)]
-fn touch(active: &mut ActiveCall, own: &Own, page: PageNo) -> Told
-    requires { active.old.steps < 1000 }
-    ensures told { result ≡ told (landed active.old (touches own.now page)) }
+fn touch(active: &mut ActiveCall, own: &Own, page: PageNo, tells: &mut Told)
+    requires few { active.old.steps < 1000 }
+    requires going { tells.old ≡ Told.Going }
+    ensures told { tells.new ≡ told (landed active.old (touches own.now page)) }
     ensures after { active.new ≡ call_after active.old (landed active.old (touches own.now page)) }
 {
     let step = begin_touch(own, page);
-    land(active, &step)
+    land(active, &step, tells)
 }
 
 // A number of the table with this root is looked up.
 #[inline]
-fn look_under(active: &mut ActiveCall, root: FrameNo, number: u16) -> Told
-    requires { active.old.steps < 1000 }
-    ensures told { result ≡ told (landed active.old (looks_under (nat_le number 4095) root number)) }
+fn look_under(active: &mut ActiveCall, root: FrameNo, number: u16, tells: &mut Told)
+    requires few { active.old.steps < 1000 }
+    requires going { tells.old ≡ Told.Going }
+    ensures told { tells.new ≡ told (landed active.old (looks_under (nat_le number 4095) root number)) }
     ensures after { active.new ≡ call_after active.old (landed active.old (looks_under (nat_le number 4095) root number)) }
 {
     if number <= 4095 {
         looks_up(active, Look::place(root, CapId::new(number)))
     } else {
-        refused(active, Refusal::NoSlot)
+        refused(active, Refusal::NoSlot, tells)
     }
 }
 
 // An entry of this root is looked up.
 #[inline]
-fn look_entry(active: &mut ActiveCall, root: FrameNo, entry: EntryNo) -> Told
-    requires { active.old.steps < 1000 }
-    ensures told { result ≡ told (landed active.old (looks_entry (nat_le entry 63) root entry)) }
+fn look_entry(active: &mut ActiveCall, root: FrameNo, entry: EntryNo, tells: &mut Told)
+    requires few { active.old.steps < 1000 }
+    requires going { tells.old ≡ Told.Going }
+    ensures told { tells.new ≡ told (landed active.old (looks_entry (nat_le entry 63) root entry)) }
     ensures after { active.new ≡ call_after active.old (landed active.old (looks_entry (nat_le entry 63) root entry)) }
 {
     if entry.number() <= 63 {
         looks_up(active, Look::root(root, entry))
     } else {
-        refused(active, Refusal::NoSlot)
+        refused(active, Refusal::NoSlot, tells)
     }
 }
 
 // The place of a target is looked up.
 #[inline]
-fn look_at(active: &mut ActiveCall, spot: Spot) -> Told
-    requires { active.old.steps < 1000 }
-    ensures told { result ≡ told (landed active.old (looks_at (place_of_spot (with_found [] active.old.found) spot))) }
+fn look_at(active: &mut ActiveCall, spot: Spot, tells: &mut Told)
+    requires few { active.old.steps < 1000 }
+    requires going { tells.old ≡ Told.Going }
+    ensures told { tells.new ≡ told (landed active.old (looks_at (place_of_spot (with_found [] active.old.found) spot))) }
     ensures after { active.new
         ≡ call_after active.old (landed active.old (looks_at (place_of_spot (with_found [] active.old.found) spot))) }
 {
     match spot {
         Spot::Under { root, number } => {
             let root = frame_of(&active.found, root);
-            look_under(active, root, number)
+            look_under(active, root, number, tells)
         }
         Spot::InRoot { root, entry } => {
             let root = frame_of(&active.found, root);
-            look_entry(active, root, entry)
+            look_entry(active, root, entry, tells)
         }
     }
 }
 
 // A look-up stands here.
 #[inline]
-fn looks_up(active: &mut ActiveCall, look: Look) -> Told
+fn looks_up(active: &mut ActiveCall, look: Look)
     requires { active.old.steps < 1000 }
-    ensures told { result ≡ told (landed active.old (Goes (Lookup look))) }
-    ensures after { active.new ≡ call_after active.old (landed active.old (Goes (Lookup look))) }
+    ensures { active.new ≡ call_after active.old (landed active.old (Goes (Lookup look))) }
 {
     go_on(
         active,
@@ -491,46 +505,45 @@ fn looks_up(active: &mut ActiveCall, look: Look) -> Told
             work: Work::Lookup { look },
         },
     );
-    Told::Going
 }
 
 // The call is refused, with nothing to store.
 #[inline]
-pub(crate) fn refused(active: &mut ActiveCall, refusal: Refusal) -> Told
-    requires { active.old.steps < 1000 }
-    ensures told { result ≡ told (landed active.old (refuse refusal)) }
+pub(crate) fn refused(active: &mut ActiveCall, refusal: Refusal, tells: &mut Told)
+    requires few { active.old.steps < 1000 }
+    requires going { tells.old ≡ Told.Going }
+    ensures told { tells.new ≡ told (landed active.old (refuse refusal)) }
     ensures after { active.new ≡ call_after active.old (landed active.old (refuse refusal)) }
 {
-    decide(active, &refusal.reply(), None, &Tail::Nothing)
+    decide(active, &refusal.reply(), None, &Tail::Nothing, tells)
 }
 
 // The call goes where a step of its work takes it.
 #[inline]
-pub(crate) fn land(active: &mut ActiveCall, step: &WorkStep) -> Told
-    requires { active.old.steps < 1000 }
-    ensures told { result ≡ told (landed active.old step.now) }
+pub(crate) fn land(active: &mut ActiveCall, step: &WorkStep, tells: &mut Told)
+    requires few { active.old.steps < 1000 }
+    requires going { tells.old ≡ Told.Going }
+    ensures told { tells.new ≡ told (landed active.old step.now) }
     ensures after { active.new ≡ call_after active.old (landed active.old step.now) }
 {
     match step {
         WorkStep::Goes { work } => {
             go_on(active, Stage::Undecided { work: *work });
-            Told::Going
         }
         WorkStep::Acquires { count, work } => {
             active.counts.push(*count);
             go_on(active, Stage::Undecided { work: *work });
-            Told::Going
         }
-        WorkStep::Refuses { refusal, tail } => decide(active, &refusal.reply(), None, tail),
+        WorkStep::Refuses { refusal, tail } => decide(active, &refusal.reply(), None, tail, tells),
         WorkStep::Answers { value, drawn, tail } => {
-            decide(active, &Reply::Ok(*value), *drawn, tail)
+            decide(active, &Reply::Ok(*value), *drawn, tail, tells)
         }
         WorkStep::Changes {
             reply,
             change,
             drawn,
             tail,
-        } => decide_changing(active, reply, change, *drawn, tail),
+        } => decide_changing(active, reply, change, *drawn, tail, tells),
     }
 }
 
@@ -543,9 +556,11 @@ fn decide_changing(
     change: &OwnChange,
     drawn: Option<Stamp>,
     tail: &Tail,
-) -> Told
-    requires { active.old.steps < 1000 }
-    ensures told { result ≡ told (Changes reply.now change.now (went active.old (Decided reply.now drawn tail.now))) }
+    tells: &mut Told,
+)
+    requires few { active.old.steps < 1000 }
+    requires going { tells.old ≡ Told.Going }
+    ensures told { tells.new ≡ told (Changes reply.now change.now (went active.old (Decided reply.now drawn tail.now))) }
     ensures after { active.new ≡ went active.old (Decided reply.now drawn tail.now) }
 {
     go_on(
@@ -556,10 +571,10 @@ fn decide_changing(
             tail: *tail,
         },
     );
-    Told::Changed {
+    *tells = Told::Changed {
         reply: *reply,
         change: *change,
-    }
+    };
 }
 
 // The call is decided with this reply, and has drawn this stamp or none.
@@ -569,9 +584,11 @@ pub(crate) fn decide(
     reply: &Reply,
     drawn: Option<Stamp>,
     tail: &Tail,
-) -> Told
-    requires { active.old.steps < 1000 }
-    ensures told { result ≡ told (decided active.old reply.now drawn tail.now) }
+    tells: &mut Told,
+)
+    requires few { active.old.steps < 1000 }
+    requires going { tells.old ≡ Told.Going }
+    ensures told { tells.new ≡ told (decided active.old reply.now drawn tail.now) }
     ensures after { active.new ≡ call_after active.old (decided active.old reply.now drawn tail.now) }
 {
     go_on(
@@ -582,18 +599,16 @@ pub(crate) fn decide(
             tail: *tail,
         },
     );
-    Told::Decided { reply: *reply }
+    *tells = Told::Decided { reply: *reply };
 }
 
 // The call has made one more step, in its place.
 #[inline]
-pub(crate) fn goes_on(active: &mut ActiveCall) -> Told
+pub(crate) fn goes_on(active: &mut ActiveCall)
     requires { active.old.steps < 1000 }
-    ensures told { result ≡ Told.Going }
-    ensures after { active.new ≡ went active.old active.old.stage }
+    ensures { active.new ≡ went active.old active.old.stage }
 {
     active.steps += 1;
-    Told::Going
 }
 
 // The call has made one more step, and stands at this stage.
@@ -605,5 +620,3 @@ pub(crate) fn go_on(active: &mut ActiveCall, stage: Stage)
     active.steps += 1;
     active.stage = stage;
 }
-
-ghost use Rattle.call_stages.specs.declared.stages.Stage.TheVariants.{Decided};

@@ -88,7 +88,8 @@ fn step(layout: &Layout, stage: Stage, found: u64) -> (WordOp, Told, Stage)
         call,
         plan: plan_of(&call),
     };
-    let told = absorb(&mut active, &own, found);
+    let mut told = Told::Going;
+    absorb(&mut active, &own, found, &mut told);
     (op, told, active.stage)
 }
 
