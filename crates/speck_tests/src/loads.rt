@@ -183,7 +183,7 @@ fn the_longest_lists_are_made_alone_on_the_largest_machine(rt: HostRuntime) -> R
     let counted = summary_of(alloc, from_utf8(&text).unwrap_or(""))?;
     assert_eq!(rt;
         counted.as_str(),
-        "ok 11976\noccupied 3992\nempty 3992\ncalls 19960\ntotal 800\n"
+        "ok 11976\nempty 3992\noccupied 3992\ncalls 19960\ntotal 800\n"
     );
     Ok(())
 }
