@@ -71,7 +71,8 @@ pub use Rattle.thread_laws.specs.kernel_rules.specs.CapabilityCalls.{not_blank, 
 pub use Rattle.thread_laws.specs.kernel_rules.specs.Fitting.{fits}
 pub use Rattle.thread_laws.specs.kernel_rules.specs.GracePeriods.{MayBeUnflushed, MayWait, is_paging, is_translated, lowest, new_grace}
 pub use Rattle.thread_laws.specs.kernel_rules.specs.GracePeriods.{same_thing, unflushed_by}
-pub use Rattle.thread_laws.specs.kernel_rules.specs.InvocationCalls.{is_live_in, pushes}
+pub use Rattle.thread_laws.specs.kernel_rules.specs.Life.{is_live_in}
+pub use Rattle.thread_laws.specs.kernel_rules.specs.InvocationCalls.{pushes}
 pub use Rattle.thread_laws.specs.kernel_rules.specs.Laws.{calls_counted}
 pub use Rattle.thread_laws.specs.kernel_rules.specs.MemoryCalls.{is_empty, is_untyped, retypes, translation_of}
 pub use Rattle.thread_laws.specs.kernel_rules.specs.Ranges.{InRanges}

@@ -32,7 +32,8 @@ use Rattle.kernel_rules.specs.Rules.{Lacks, HeldMay, MappedMay, WaitedMay, Unflu
 use Rattle.kernel_rules.specs.CapabilityCalls.{leaf_for, outside, has_frame, is_frame, is_blank}
 use Rattle.kernel_rules.specs.CapabilityCalls.{not_blank, make_node, make_rule, not_taken, epoch_of}
 use Rattle.kernel_rules.specs.MemoryCalls.{is_untyped, is_user, holds_nothing, is_empty, not_retyped, retype_rule, touch_by, translation_of}
-use Rattle.kernel_rules.specs.InvocationCalls.{is_live_in, switch_to}
+use Rattle.kernel_rules.specs.Life.{is_live_in}
+use Rattle.kernel_rules.specs.InvocationCalls.{switch_to}
 use Rattle.kernel_rules.specs.TimeCalls.{are_alike, are_same, is_short}
 use Rattle.kernel_rules.specs.CallRelation.{rule_of}
 use Rattle.kernel_laws.specs.Causes.{OneIs, used_at, as_wanted, leads_as, Name, name, names_of, fills_at, empties_at}

@@ -12,7 +12,8 @@ use Rattle.kernel_rules.specs.State.{State, with_frame, with_core, with_number, 
 use Rattle.kernel_rules.specs.References.{number_names}
 use Rattle.kernel_rules.specs.Access.{to_use, Slot, Named, Under, found, only}
 use Rattle.kernel_rules.specs.Rules.{Change, Cause, Found, named, frames_of, fills}
-use Rattle.kernel_rules.specs.InvocationCalls.{is_live_in, with_thread, with_stack, kills, pushes, pops, running, switches}
+use Rattle.kernel_rules.specs.Life.{is_live_in}
+use Rattle.kernel_rules.specs.InvocationCalls.{with_thread, with_stack, kills, pushes, pops, running, switches}
 use Rattle.kernel_rules.specs.InvocationCalls.{switch_to, gate_rule, kill_rule, call_rule, ret_rule, switch_rule}
 use Rattle.kernel_rules.specs.TimeCalls.{tcap_at, with_tcap, with_budget, with_qualities, charge, charges, moved, merged_list}
 use Rattle.kernel_rules.specs.TimeCalls.{are_alike, preemption, preempts, tick_rule, transfer_rule, delegate_rule, test_rule}

@@ -4,7 +4,8 @@ ghost use Rattle.std.specs.Prelude.{◌≡◌, ◌<◌, ◌≤◌, ◌∷◌, []
 ghost use Rattle.spk_nums.specs.Capability.{cap_of};
 ghost use Rattle.kernel_rules.specs.State.{comp_in, FrameOf, NumberOf, Dead, with_number};
 ghost use Rattle.kernel_rules.specs.GracePeriods.{begun};
-ghost use Rattle.kernel_rules.specs.InvocationCalls.{is_live_in, with_thread, with_stack};
+ghost use Rattle.kernel_rules.specs.Life.{is_live_in};
+ghost use Rattle.kernel_rules.specs.InvocationCalls.{with_thread, with_stack};
 ghost use Rattle.kernel_rules.specs.CallRelation.{change_of};
 ghost use Rattle.seq_state.specs.Parts.{frame_of, number_of, thread_fields_of, thing_of};
 ghost use Rattle.seq_state.specs.Maps.{state_of};
@@ -14,7 +15,9 @@ ghost use Rattle.seq_lookups.specs.Carried.{IsCarriedOut};
 ghost use Rattle.seq_lookups.specs.Ranges.{HasEpoch};
 ghost use Rattle.spk_nums.specs.declared.calls.Call.TheVariants.{Gate, Kill, Call as call_gate, Ret};
 
-use seq_lookups::{Target, Wanted, begin, comp_at, fill, named, thread_at, thread_of, vacant};
+use seq_lookups::{
+    Target, Wanted, begin, comp_at, fill, is_live_in, named, thread_at, thread_of, vacant,
+};
 use seq_state::{Frame, Liveness, Object, SeqKernel, Stack, Thing, ThreadFields};
 use spk_nums::{Cap, CapId, CoreNo, FrameNo, Kind, Reply, Value};
 
@@ -25,17 +28,6 @@ pub(crate) fn with_thread(frame: Frame, thread: ThreadFields) -> Frame
     match frame {
         Frame::Kernel(Object::Thread(_)) => Frame::Kernel(Object::Thread(thread)),
         _ => frame,
-    }
-}
-
-/// Whether a liveness number is live in an epoch.
-fn is_live_in(number: &Liveness, epoch: u32) -> bool
-    ensures { result ≡ is_live_in (number_of number.now) epoch }
-{
-    match number {
-        Liveness::Unused => false,
-        Liveness::Live { epoch: live, .. } => u32::from(*live) == epoch,
-        Liveness::Dead { .. } => false,
     }
 }
 

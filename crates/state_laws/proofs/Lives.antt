@@ -13,7 +13,7 @@ use Rattle.kernel_rules.specs.State.{Dead, FrameOf, State, put}
 use Rattle.kernel_rules.specs.Start.{start}
 use Rattle.kernel_rules.specs.References.{number_names, times, refs}
 use Rattle.kernel_rules.specs.CapabilityCalls.{is_live, epoch_of}
-use Rattle.kernel_rules.specs.InvocationCalls.{is_live_in}
+use Rattle.kernel_rules.specs.Life.{is_live_in}
 use Rattle.kernel_rules.specs.TimeCalls.{with_tcap}
 use Rattle.kernel_rules.specs.CallRelation.{owed_by, state_by, ends, MayReply}
 use Rattle.kernel_rules.specs.Fitting.{fits}
