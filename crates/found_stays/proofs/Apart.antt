@@ -201,6 +201,7 @@ frame_apart s o d f y loose away = record {
   thread = λ c other below. put_other s.frame f y (s.core c).thread (away c other below);
   place = λ c g i m other opened node had. had;
   waits = λ c g other opened w. w;
+  acts = λ c l e other opened may. may;
   limits = refl;
 }
 
