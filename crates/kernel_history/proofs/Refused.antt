@@ -70,7 +70,7 @@ retype_user = record {
       may_follow refl refl tt (record {
         call = call.Retype 0 8 frame_kind.User;
         is_open = refl;
-        permitted = (refl, refl);
+        permitted = (refl, (refl, refl));
         justified = has_reached (retyped frame_kind.User 1) 0 (slot 0 0 ∷ slot 1 0 ∷ []) refl;
       }) tt,
     ),
@@ -90,7 +90,7 @@ retype_blank = record {
       may_follow refl refl tt (record {
         call = call.Retype 0 8 frame_kind.Kernel;
         is_open = refl;
-        permitted = (refl, refl);
+        permitted = (refl, (refl, refl));
         justified = has_reached (retyped frame_kind.Kernel 2) 0 (slot 0 0 ∷ slot 1 0 ∷ []) refl;
       }) tt,
     ),
