@@ -29,7 +29,7 @@ use Rattle.kernel_history.specs.Trace.{Step, state_after, WasBefore}
 use Rattle.kernel_history.specs.Scenes.{two_cores, there, enters, goes, loads, one_step}
 use Rattle.kernel_history.specs.Scenes.{range_word, mark_word, retyped, named, marked_beside}
 use Rattle.kernel_history.specs.Refusals.{no_flags, BreaksDiscipline, DisciplineRefuses, OwnCountsRefuse, BreaksFootprint, FootprintsRefuse}
-use Rattle.kernel_history.specs.Refusals.{BoundsRefuse, WordsRefuse}
+use Rattle.kernel_history.specs.Refusals.{BoundsRefuse, looks_six, WordsRefuse}
 use Rattle.kernel_history.proofs.Computed.{neither, none, fits, may_follow, is_within, keeps_bounds, is_near, keeps_footprints}
 use Rattle.kernel_history.proofs.Computed.{is_near_in, not_near_in, moves_well, undisciplined, has_reached, some_call}
 
@@ -209,22 +209,13 @@ footprints_refuse = record {
 pub bounds_refuse : BoundsRefuse
 unfolding two_cores word_of_entry
 bounds_refuse = record {
-  within = keeps_bounds 2 (loads 0 1 0 (loads 0 0 0 (loads 0 1 0 (loads 0 0 0 (enters 0 (call.Look 0) []))))) refl;
-  legal = (
-    (
-      (
-        (((tt, may_follow refl refl (refl, tt) tt tt), may_follow refl refl tt tt tt), may_follow refl refl tt tt tt),
-        may_follow refl refl tt tt tt,
-      ),
-      may_follow refl refl tt tt tt,
-    ),
-    may_follow refl refl tt tt tt,
-  );
+  within = keeps_bounds 2 looks_six refl;
+  legal = ((((((((tt, may_follow refl refl (refl, tt) tt tt), may_follow refl refl tt tt tt), may_follow refl refl tt tt tt), may_follow refl refl tt tt tt), may_follow refl refl tt tt tt), may_follow refl refl tt tt tt), may_follow refl refl tt tt tt), may_follow refl refl tt tt tt);
   refused = λ keeps. too_many keeps.1.call (some_call keeps.1.call (call.Look 0) (sym keeps.1.is_of)) keeps.1.steps;
 }
   where
-    too_many : (k : Call) → k ≡ call.Look 0 → 6 ≤ bound_of k 2 → ⊥
-    too_many k is steps = let bound : bound_of k 2 ≡ 5 = ap (λ k. bound_of k 2) is in omega (arith, bound, steps)
+    too_many : (k : Call) → k ≡ call.Look 0 → 8 ≤ bound_of k 2 → ⊥
+    too_many k is steps = let bound : bound_of k 2 ≡ 7 = ap (λ k. bound_of k 2) is in omega (arith, bound, steps)
 
 -- what the words say
 

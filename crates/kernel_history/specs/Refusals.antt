@@ -95,11 +95,14 @@ pub record FootprintsRefuse : Type 0 where
   pub copy_changes_a_far_count : BreaksFootprint (one_step (whole_copy 0 1 20) (StoreOf (CountAt 9 0) 0))
   pub kill_reads_a_far_number : BreaksFootprint (one_step (call.Kill 3) (LoadOf (LiveAt 5)))
 
--- A look of five steps is within its bound, and one more breaks it.
+-- A look of seven steps is within its bound, and one more breaks it.
+abbrev pub looks_six : Trace
+looks_six = loads 0 1 0 (loads 0 0 0 (loads 0 1 0 (loads 0 0 0 (loads 0 1 0 (loads 0 0 0 (enters 0 (call.Look 0) []))))))
+
 pub record BoundsRefuse : Type 0 where
-  pub within : KeepsBounds 2 (loads 0 1 0 (loads 0 0 0 (loads 0 1 0 (loads 0 0 0 (enters 0 (call.Look 0) [])))))
-  pub legal : IsLegal two_cores (loads 0 0 0 (loads 0 1 0 (loads 0 0 0 (loads 0 1 0 (loads 0 0 0 (enters 0 (call.Look 0) []))))))
-  pub refused : KeepsBounds 2 (loads 0 0 0 (loads 0 1 0 (loads 0 0 0 (loads 0 1 0 (loads 0 0 0 (enters 0 (call.Look 0) [])))))) → ⊥
+  pub within : KeepsBounds 2 looks_six
+  pub legal : IsLegal two_cores (loads 0 0 0 looks_six)
+  pub refused : KeepsBounds 2 (loads 0 0 0 looks_six) → ⊥
 
 -- The step at which core c decides.
 abbrev pub deciding : ℕ → Move → Reply → Trace → Step

@@ -42,42 +42,21 @@ both_copying = (
 pub copies_overwrite : CopiesOverwrite
 unfolding two_cores copied_once copied_twice word_of_entry
 copies_overwrite = record {
-  legal = (both_copying, may_follow refl refl tt (carried_out {k = whole_copy 0 1 20} refl (refl, refl) refl) tt);
-  refused = λ legal. not_permitted (whole_copy 0 1 20) refl legal.1.decides (λ may. may.1);
+  legal = (both_copying, may_follow refl refl tt (carried_out {k = whole_copy 0 1 20} refl (refl, (refl, refl)) refl) tt);
+  refused = λ legal. not_permitted (whole_copy 0 1 20) refl legal.1.decides (λ may. may.1.1);
 }
 
--- Fifteen steps are past the bound of a copy on two cores.
-too_many : (k : Call) → k ≡ whole_copy 0 1 20 → 15 ≤ bound_of k 2 → ⊥
-too_many k is steps = let bound : bound_of k 2 ≡ 14 = ap (λ k. bound_of k 2) is in omega (arith, bound, steps)
+-- Seventeen steps are past the bound of a copy on two cores.
+too_many : (k : Call) → k ≡ whole_copy 0 1 20 → 17 ≤ bound_of k 2 → ⊥
+too_many k is steps = let bound : bound_of k 2 ≡ 16 = ap (λ k. bound_of k 2) is in omega (arith, bound, steps)
 
 lost_legal : IsLegal two_cores lost
 unfolding two_cores lost word_of_entry
-lost_legal = (both_copying, may_follow refl refl tt (carried_out {k = whole_copy 0 1 20} refl (refl, refl) refl) tt)
+lost_legal = (both_copying, may_follow refl refl tt (carried_out {k = whole_copy 0 1 20} refl (refl, (refl, refl)) refl) tt)
 
 pub retries_go_on : RetriesGoOn
 unfolding two_cores lost tried word_of_entry
 retries_go_on = record {
-  legal = (
-    (
-      (
-        (
-          (
-            (
-              (
-                (((lost_legal, may_follow refl refl tt tt tt), may_follow refl refl tt tt tt), may_follow refl refl tt tt tt),
-                may_follow refl refl tt tt tt,
-              ),
-              may_follow refl refl tt tt tt,
-            ),
-            may_follow refl refl tt tt tt,
-          ),
-          may_follow refl refl tt tt tt,
-        ),
-        may_follow refl refl tt tt tt,
-      ),
-      may_follow refl refl tt tt tt,
-    ),
-    may_follow refl refl tt tt tt,
-  );
+  legal = ((((((((((((lost_legal, may_follow refl refl tt tt tt), may_follow refl refl tt tt tt), may_follow refl refl tt tt tt), may_follow refl refl tt tt tt), may_follow refl refl tt tt tt), may_follow refl refl tt tt tt), may_follow refl refl tt tt tt), may_follow refl refl tt tt tt), may_follow refl refl tt tt tt), may_follow refl refl tt tt tt), may_follow refl refl tt tt tt), may_follow refl refl tt tt tt);
   refused = λ keeps. too_many keeps.1.call (some_call keeps.1.call (whole_copy 0 1 20) (sym keeps.1.is_of)) keeps.1.steps;
 }
