@@ -130,11 +130,11 @@ pub fn plain_step(
         k.leave(core);
         return Ok(Reply::CallsSpent);
     }
-    let reply = if acts(k, core, call) {
-        decide(alloc, k, core, call)?
-    } else {
-        Reply::Dead
-    };
+    if !acts(k, core, call) {
+        finish(k, core);
+        return Ok(Reply::Dead);
+    }
+    let reply = decide(alloc, k, core, call)?;
     finish(k, core);
     Ok(reply)
 }
