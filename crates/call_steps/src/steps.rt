@@ -159,12 +159,7 @@ fn work_ready(active: &ActiveCall, work: &Work) -> bool
 /// and only in what the step changes. One that returns stays as it was. What the step led to is told where it said before that the call
 /// goes on.
 #[inline]
-#[tactic(auto, using(
-    crate::proofs::Staged::told_looked,
-    crate::proofs::Staged::call_looked,
-    crate::proofs::Staged::told_asked,
-    crate::proofs::Staged::call_asked
-))]
+#[tactic(auto, using(crate::proofs::Staged::told_looked, crate::proofs::Staged::call_looked, crate::proofs::Staged::told_asked, crate::proofs::Staged::call_asked))]
 pub fn absorb(active: &mut ActiveCall, own: &Own, found: u64, tells: &mut Told)
     requires core { own.now.core < own.now.layout.cores }
     requires cores { own.now.layout.cores ≤ 8 }

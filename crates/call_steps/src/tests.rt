@@ -278,9 +278,20 @@ fn asks_whether_the_component_lives_before_all_else(rt: HostRuntime) {
     for (at, word, reply, steps) in rows {
         let mut words = words();
         words[at] = word;
-        assert_eq!(rt; answers(&words, look(63)), Some((reply, steps)), "{word:#x}");
-        assert_eq!(rt; answers(&words, look(4096)), Some((reply, steps)), "{word:#x}");
-        assert_eq!(rt; answers(&words, Call::Flush), Some((Reply::Ok(Value::Nothing), 5)));
+        assert_eq!(rt;
+            answers(&words, look(63)),
+            Some((reply, steps)),
+            "{word:#x}"
+        );
+        assert_eq!(rt;
+            answers(&words, look(4096)),
+            Some((reply, steps)),
+            "{word:#x}"
+        );
+        assert_eq!(rt;
+            answers(&words, Call::Flush),
+            Some((Reply::Ok(Value::Nothing), 5))
+        );
         assert_eq!(rt; answers(&words, Call::Ret), Some((Reply::Bottom, 3)));
     }
 }

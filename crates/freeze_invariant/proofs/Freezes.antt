@@ -218,7 +218,7 @@ module _ (setup : Setting) (setting : IsSetting setup) (cores : ℕ → Core) (t
         let rest = frozen_beside g kept u false (holds_counts None a.counts) q there in
         let before = thaw_all (swept_of w) false (holds_counts None a.counts) q in (
           ap (λ x. if same_word q (FrameAt f) then true else x) (afterwards.0 ∙ rest.0 ∙ sym before.0)
-          ∙ sym (ap (λ h. h.marks q) held_before),
+              ∙ sym (ap (λ h. h.marks q) held_before),
           ap (λ (k : ℕ). if same_word q (FrameAt f) then word else k) (afterwards.1 ∙ rest.1 ∙ sym before.1)
               ∙ sym (ap (λ h. h.stands q) held_before),
         )

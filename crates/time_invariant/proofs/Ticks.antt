@@ -701,8 +701,11 @@ module _ (setup : Setting) (setting : IsSetting setup) (cores : ℕ → Core) (t
     permitted_won : MayReply s c a.call (reply.Ok (Amount charged))
     permitted_won = (
       not_spent setup (cores c) t c (stands.each c here) room,
-      (has.acts, subst (λ x. IsFoundAnd x (λ y. y.value ≡ Amount charged)) (sym change_is)
-          (ap (λ (m : ℕ). Amount m) (sym charged_is))),
+      (
+        has.acts,
+        subst (λ x. IsFoundAnd x (λ y. y.value ≡ Amount charged)) (sym change_is)
+            (ap (λ (m : ℕ). Amount m) (sym charged_is)),
+      ),
     )
 
     reached_none : IsJustified setup t e_won a.call (reply.Ok (Amount charged))

@@ -192,11 +192,10 @@ module _ (setup : Setting) (setting : IsSetting setup) (cores : ℕ → Core) (t
   own_slot = own_is now c (cores c).own.table n (stands.each c here).works.table
 
   permitted : MayReply now c (look_call n) (reply.Ok (Cap k))
-  permitted =
-      (
-        not_spent setup (cores c) t c (core_is setup setting cores t stands c here a active) room,
-        (subst (λ x. IsTrue (acts now c x)) call_is may_act, look_answers now c n k is),
-      )
+  permitted = (
+    not_spent setup (cores c) t c (core_is setup setting cores t stands c here a active) room,
+    (subst (λ x. IsTrue (acts now c x)) call_is may_act, look_answers now c n k is),
+  )
 
   stepped : HasReached (answer ∷ t) c (way_to now c (own now c n))
   stepped = subst (λ x. HasReached (answer ∷ t) c (way_to now c x)) own_slot
