@@ -19,7 +19,7 @@ use Rattle.kernel_rules.specs.Runs.{Event, Enters, Decides, Returns, Out, after,
 use Rattle.kernel_rules.specs.Access.{Slot}
 use Rattle.kernel_rules.proofs.Within.{put_same, put_other}
 use Rattle.kernel_rules.proofs.AloneLaw.{waits_inside}
-use Rattle.kernel_invariant.specs.Edits.{Edit, Remove, Untype, Component, Deaden, Pop, Switch, edited, after_edits, begins_in, begins_all}
+use Rattle.kernel_invariant.specs.Edits.{Edit, Node, Remove, Untype, Component, Deaden, Pop, Switch, edited, after_edits, begins_in, begins_all}
 use Rattle.kernel_invariant.proofs.SoundRuns.{inside_is}
 use Rattle.kernel_invariant.proofs.Edited.{Tested, Each, Calm, AreLater, later_number, after_ok}
 use Rattle.state_laws.specs.Looking.{WasKilled, KilledStop}
@@ -81,6 +81,8 @@ module _ (d : ℕ) (s : State) (c l e : ℕ) (h : IsOver s c l e) where
 
 -- No edit changes who waits for a liveness number.
 edit_waits : (d : ℕ) (s : State) (x : Edit) (l c : ℕ) → ((edited d s x).grace (NumberOf l)).waits c ≡ (s.grace (NumberOf l)).waits c
+edit_waits d s (Node f object) l c = refl
+edit_waits d s (Untype f) l c = refl
 edit_waits d s _ l c = refl
 
 edits_wait : (d : ℕ) (s : State) (es : List Edit) (l c : ℕ) → ((after_edits d s es).grace (NumberOf l)).waits c ≡ (s.grace (NumberOf l)).waits c
