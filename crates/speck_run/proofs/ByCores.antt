@@ -15,7 +15,7 @@ use Rattle.lone_kernel.specs.Machine.{AreLists}
 use Rattle.speck_run.specs.Written.{lines_of}
 
 -- the reply lines of the decisions, core by core
-lines_by_cores : (lists : List (List Call)) (t : Trace) → list_of lists ≡ calls_of t → (n : ℕ)
+pub lines_by_cores : (lists : List (List Call)) (t : Trace) → list_of lists ≡ calls_of t → (n : ℕ)
     → lines_of lists (decisions_below t n) ≡ lines_below (λ c. reply_lines (calls_of t) (decisions_by t c)) n
 unfolding lines_below
 lines_by_cores lists t same zero = refl

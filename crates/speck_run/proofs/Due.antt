@@ -9,20 +9,20 @@ use Rattle.script_reader.specs.Numerals.{number_of}
 use Rattle.script_reader.specs.Readings.{Meaning, First_fault, script_of}
 use Rattle.load_maker.specs.Loads.{load_text}
 use Rattle.speck_run.specs.declared.words.Command.{Command}
-use Rattle.speck_run.specs.declared.words.Command.TheVariants.{Replay, Run, Plain, Print}
+use Rattle.speck_run.specs.declared.words.Command.TheVariants.{Replay, Run, Plain, Print, Ends}
 use Rattle.speck_run.specs.declared.top.Answer.{Answer}
 use Rattle.speck_run.specs.declared.top.Status.{Status}
 use Rattle.speck_run.specs.declared.top.Status.TheVariants.{Done, Words, Script, ReadFault, WriteFault, Memory, TooLong, Stopped}
 use Rattle.whole_ends.specs.Ends.{GivesAll}
-use Rattle.speck_run.specs.Script.{AreScript, IsAnswer, IsMade}
+use Rattle.ends_reader.specs.Inputs.{Input, input_of}
+use Rattle.speck_run.specs.Ends.{IsEndsFault, AreEndsInput, IsEndsMade}
+use Rattle.speck_run.specs.Script.{IsFirstFault, AreScript, IsAnswer, IsMade, MadeBy, IsFaultOf, AreInput, UsesThreads}
 use Rattle.speck_run.specs.Top.{CommandLine, texts_of, Asked, Asks, AsksNumber, HasNumber, AsksMake, AsksLoad, IsCommand}
 use Rattle.speck_run.specs.Top.{IsMake, IsLoad, IsUnderstood, IsNumberOf, IsNumberIn, IsDue, IsDueOf, IsSummary, IsDone}
-use Rattle.speck_run.specs.Top.{InputMakes, CarriesOut, IsStatusOf, Answers, IsAccepted, Writes, InputRuns}
+use Rattle.speck_run.specs.Top.{InputMakes, CarriesOut, IsStatusOf, Answers, IsAccepted, Writes, InputRuns, IsScriptDue, IsEndsDue, IsEndsOf}
+use Rattle.speck_run.specs.Top.{script_line}
 
-abbrev Reading : Type 0
-Reading = Result Meaning First_fault
-
-same_fault : (f g : First_fault) (r : Reading) → r ≡ Err f → r ≡ Err g → f ≡ g
+same_fault : {A : Type 0} (f g : First_fault) (r : Result A First_fault) → r ≡ Err f → r ≡ Err g → f ≡ g
 same_fault f g r p q = cc
 
 -- The words are those of one command: the one that their text tells.
@@ -31,7 +31,8 @@ is_word texts word = pointwise (λ x y. pointwise eqb x y) texts (word ∷ [])
 
 told : List (List ℕ) → Option Command
 told texts = if is_word texts (codes "replay") then Some Replay else if is_word texts (codes "run") then Some Run
-    else if is_word texts (codes "plain") then Some Plain else if is_word texts (codes "print") then Some Print else None
+    else if is_word texts (codes "plain") then Some Plain else if is_word texts (codes "print") then Some Print
+    else if is_word texts (codes "ends") then Some Ends else None
 
 asks_told : (words : CommandLine) (command : Command) → Asks words command → told (texts_of words) ≡ Some command
 unfolding told is_word
@@ -39,6 +40,7 @@ asks_told words Replay p = ap told p
 asks_told words Run p = ap told p
 asks_told words Plain p = ap told p
 asks_told words Print p = ap told p
+asks_told words Ends p = ap told p
 
 some_same : (a b : Command) → Some a ≡ Some b → a ≡ b
 some_same a b e = cc
@@ -52,6 +54,7 @@ one_word words Replay p = ap length p
 one_word words Run p = ap length p
 one_word words Plain p = ap length p
 one_word words Print p = ap length p
+one_word words Ends p = ap length p
 
 asks_apart : (name : List ℕ) (words : CommandLine) (command : Command) → Asks words command → HasNumber name words → ⊥
 asks_apart name words command asks m = let one : length (texts_of words) ≡ 1 = one_word words command asks in
@@ -88,42 +91,136 @@ make_apart words m l =
     let loaded : first_letter (texts_of words) ≡ 108 = ap first_letter l.asks.asks in
     omega arith
 
--- A script has no fault.
+-- What a command takes has no fault, and what it does not take has one first fault.
 script_fault : (bytes : List ℕ) (f : First_fault) → AreScript bytes → script_of bytes ≡ Err f → ⊥
 script_fault bytes f p q = let e = sym q ∙ p.is_script in cc
 
--- An input has one status.
-status_same : (bytes : List ℕ) (s s' : Status) → IsStatusOf bytes s → IsStatusOf bytes s' → s ≡ s'
-status_same bytes Done Done p q = refl
-status_same bytes Done Words p q = absurd q
-status_same bytes Done (Script line' cause') p q = absurd (script_fault bytes _ p.1 q.1)
-status_same bytes Done ReadFault p q = absurd q
-status_same bytes Done WriteFault p q = absurd q
-status_same bytes Done Memory p q = absurd q
-status_same bytes Done TooLong p q = absurd (omega (arith, p.0, q))
-status_same bytes Done Stopped p q = absurd q
-status_same bytes Words s' p q = absurd p
-status_same bytes (Script line cause) Done p q = absurd (script_fault bytes _ q.1 p.1)
-status_same bytes (Script line cause) Words p q = absurd q
-status_same bytes (Script line cause) (Script line' cause') p q =
-    ap (λ (f : First_fault). Script f.line f.cause) (same_fault _ _ (script_of bytes) p.1 q.1)
-status_same bytes (Script line cause) ReadFault p q = absurd q
-status_same bytes (Script line cause) WriteFault p q = absurd q
-status_same bytes (Script line cause) Memory p q = absurd q
-status_same bytes (Script line cause) TooLong p q = absurd (omega (arith, p.0, q))
-status_same bytes (Script line cause) Stopped p q = absurd q
-status_same bytes ReadFault s' p q = absurd p
-status_same bytes WriteFault s' p q = absurd p
-status_same bytes Memory s' p q = absurd p
-status_same bytes TooLong Done p q = absurd (omega (arith, p, q.0))
-status_same bytes TooLong Words p q = absurd q
-status_same bytes TooLong (Script line' cause') p q = absurd (omega (arith, p, q.0))
-status_same bytes TooLong ReadFault p q = absurd q
-status_same bytes TooLong WriteFault p q = absurd q
-status_same bytes TooLong Memory p q = absurd q
-status_same bytes TooLong TooLong p q = refl
-status_same bytes TooLong Stopped p q = absurd q
-status_same bytes Stopped s' p q = absurd p
+ends_fault : (bytes : List ℕ) (f : First_fault) → AreEndsInput bytes → input_of bytes ≡ Err f → ⊥
+ends_fault bytes f p q = let e = sym q ∙ p.is_input in cc
+
+input_fault : (command : Command) (bytes : List ℕ) (line : ℕ) (cause : Cause) → AreInput command bytes
+    → IsFaultOf command bytes line cause → ⊥
+input_fault Replay bytes line cause p q = script_fault bytes _ p q
+input_fault Run bytes line cause p q = script_fault bytes _ p q
+input_fault Plain bytes line cause p q = script_fault bytes _ p q
+input_fault Print bytes line cause p q = script_fault bytes _ p q
+input_fault Ends bytes line cause p q = ends_fault bytes _ p q
+
+status_of : First_fault → Status
+status_of f = Script f.line f.cause
+
+fault_same : (command : Command) (bytes : List ℕ) (line : ℕ) (cause : Cause) (line' : ℕ) (cause' : Cause)
+    → IsFaultOf command bytes line cause → IsFaultOf command bytes line' cause' → Script line cause ≡ Script line' cause'
+unfolding status_of
+fault_same Replay bytes line cause line' cause' p q = ap status_of (same_fault _ _ (script_of bytes) p q)
+fault_same Run bytes line cause line' cause' p q = ap status_of (same_fault _ _ (script_of bytes) p q)
+fault_same Plain bytes line cause line' cause' p q = ap status_of (same_fault _ _ (script_of bytes) p q)
+fault_same Print bytes line cause line' cause' p q = ap status_of (same_fault _ _ (script_of bytes) p q)
+fault_same Ends bytes line cause line' cause' p q = ap status_of (same_fault _ _ (input_of bytes) p q)
+
+-- An input has one status under a command.
+status_same : (command : Command) (bytes : List ℕ) (s s' : Status) → IsStatusOf command bytes s → IsStatusOf command bytes s' → s ≡ s'
+status_same command bytes Done Done p q = refl
+status_same command bytes Done Words p q = absurd q
+status_same command bytes Done (Script line' cause') p q = absurd (input_fault command bytes line' cause' p.1 q.1)
+status_same command bytes Done ReadFault p q = absurd q
+status_same command bytes Done WriteFault p q = absurd q
+status_same command bytes Done Memory p q = absurd q
+status_same command bytes Done TooLong p q = absurd (omega (arith, p.0, q))
+status_same command bytes Done Stopped p q = absurd q
+status_same command bytes Words s' p q = absurd p
+status_same command bytes (Script line cause) Done p q = absurd (input_fault command bytes line cause q.1 p.1)
+status_same command bytes (Script line cause) Words p q = absurd q
+status_same command bytes (Script line cause) (Script line' cause') p q = fault_same command bytes line cause line' cause' p.1 q.1
+status_same command bytes (Script line cause) ReadFault p q = absurd q
+status_same command bytes (Script line cause) WriteFault p q = absurd q
+status_same command bytes (Script line cause) Memory p q = absurd q
+status_same command bytes (Script line cause) TooLong p q = absurd (omega (arith, p.0, q))
+status_same command bytes (Script line cause) Stopped p q = absurd q
+status_same command bytes ReadFault s' p q = absurd p
+status_same command bytes WriteFault s' p q = absurd p
+status_same command bytes Memory s' p q = absurd p
+status_same command bytes TooLong Done p q = absurd (omega (arith, p, q.0))
+status_same command bytes TooLong Words p q = absurd q
+status_same command bytes TooLong (Script line' cause') p q = absurd (omega (arith, p, q.0))
+status_same command bytes TooLong ReadFault p q = absurd q
+status_same command bytes TooLong WriteFault p q = absurd q
+status_same command bytes TooLong Memory p q = absurd q
+status_same command bytes TooLong TooLong p q = refl
+status_same command bytes TooLong Stopped p q = absurd q
+status_same command bytes Stopped s' p q = absurd p
+
+-- What is due for a script is due under a command that takes one alone, and what for one with endpoint calls under `ends`.
+made_by : (command : Command) (bytes text : List ℕ) → (command ≡ Ends → ⊥) → IsMade (IsAnswer command) bytes text → MadeBy command bytes text
+made_by Replay bytes text other d = d
+made_by Run bytes text other d = d
+made_by Plain bytes text other d = d
+made_by Print bytes text other d = d
+made_by Ends bytes text other d = absurd (other refl)
+
+fault_of : (command : Command) (bytes : List ℕ) (line : ℕ) (cause : Cause) → (command ≡ Ends → ⊥) → IsFirstFault bytes line cause
+    → IsFaultOf command bytes line cause
+fault_of Replay bytes line cause other d = d
+fault_of Run bytes line cause other d = d
+fault_of Plain bytes line cause other d = d
+fault_of Print bytes line cause other d = d
+fault_of Ends bytes line cause other d = absurd (other refl)
+
+runs : (command : Command) (bytes : List ℕ) → command ≡ Run → AreScript bytes → UsesThreads command × AreInput command bytes
+runs command bytes is d = subst (λ (c : Command). UsesThreads c × AreInput c bytes) (sym is) (tt, d)
+
+script_due : (command : Command) (bytes : List ℕ) (s : Status) (text : List ℕ) → (command ≡ Ends → ⊥) → IsScriptDue command bytes s text
+    → IsDueOf command bytes s text
+script_due command bytes Done text other d = made_by command bytes text other d
+script_due command bytes Words text other d = absurd d
+script_due command bytes (Script line cause) text other d = (fault_of command bytes line cause other d.0, d.1)
+script_due command bytes ReadFault text other d = absurd d
+script_due command bytes WriteFault text other d = absurd d
+script_due command bytes Memory text other d = absurd d
+script_due command bytes TooLong text other d = absurd d
+script_due command bytes Stopped text other d = let r = runs command bytes d.0 d.1 in (r.0, r.1, d.2)
+
+ends_due : (bytes : List ℕ) (s : Status) (text : List ℕ) → IsEndsDue bytes s text → IsDueOf Ends bytes s text
+ends_due bytes Done text d = d
+ends_due bytes Words text d = absurd d
+ends_due bytes (Script line cause) text d = d
+ends_due bytes ReadFault text d = absurd d
+ends_due bytes WriteFault text d = absurd d
+ends_due bytes Memory text d = absurd d
+ends_due bytes TooLong text d = absurd d
+ends_due bytes Stopped text d = (tt, d.0, d.1)
+
+-- What is due for an input that was read is due for its bytes.
+ends_of : (bytes : List ℕ) (input : Input) (s : Status) (text : List ℕ) → input_of bytes ≡ Ok input → IsEndsOf input s text
+    → IsEndsDue bytes s text
+ends_of bytes input Done text is d = record { input = input; is_input = is; is_text = d }
+ends_of bytes input Words text is d = absurd d
+ends_of bytes input (Script line cause) text is d = absurd d
+ends_of bytes input ReadFault text is d = absurd d
+ends_of bytes input WriteFault text is d = absurd d
+ends_of bytes input Memory text is d = absurd d
+ends_of bytes input TooLong text is d = absurd d
+ends_of bytes input Stopped text is d = (record { input = input; is_input = is }, d)
+
+pub answer_of_input_read : (bytes : List ℕ) (input : Input) (r : Result Answer Out_of_memory) → input_of bytes ≡ Ok input
+    → IfOk r (λ answer. IsEndsOf input answer.status (string_bytes answer.text))
+    → IfOk r (λ answer. IsEndsDue bytes answer.status (string_bytes answer.text))
+answer_of_input_read bytes input (Ok answer) is d = ends_of bytes input answer.status (string_bytes answer.text) is d
+answer_of_input_read bytes input (Err e) is d = tt
+
+pub answer_of_script : (command : Command) (bytes : List ℕ) (r : Result Answer Out_of_memory) → (command ≡ Ends → ⊥)
+    → IfOk r (λ answer. IsScriptDue command bytes answer.status (string_bytes answer.text))
+    → IfOk r (λ answer. IsDueOf command bytes answer.status (string_bytes answer.text))
+answer_of_script command bytes (Ok answer) other d = script_due command bytes answer.status (string_bytes answer.text) other d
+answer_of_script command bytes (Err e) other d = tt
+
+pub answer_of_ends : (command : Command) (bytes : List ℕ) (r : Result Answer Out_of_memory) → command ≡ Ends
+    → IfOk r (λ answer. IsEndsDue bytes answer.status (string_bytes answer.text))
+    → IfOk r (λ answer. IsDueOf command bytes answer.status (string_bytes answer.text))
+answer_of_ends command bytes (Ok answer) is d =
+    subst (λ (c : Command). IsDueOf c bytes answer.status (string_bytes answer.text)) (sym is)
+    (ends_due bytes answer.status (string_bytes answer.text) d)
+answer_of_ends command bytes (Err e) is d = tt
 
 -- What is due for an input that was read to its end is due.
 pub due_input : (words : CommandLine) (left left' : Option (List ℕ)) (f f' : ℕ)
@@ -137,8 +234,7 @@ due_input words left left' f f' command bytes Done text asks input small d = inl
 }
 due_input words left left' f f' command bytes Words text asks input small d = absurd d
 due_input words left left' f f' command bytes (Script line cause) text asks input small d = (
-  record { command = command; asks = asks },
-  record { bytes = bytes; input = input; small = small; fault = d.0 },
+  record { command = command; asks = asks; bytes = bytes; input = input; small = small; fault = d.0 },
   d.1,
 )
 due_input words left left' f f' command bytes ReadFault text asks input small d = absurd d
@@ -147,11 +243,13 @@ due_input words left left' f f' command bytes Memory text asks input small d = a
 due_input words left left' f f' command bytes TooLong text asks input small d = absurd d
 due_input words left left' f f' command bytes Stopped text asks input small d = (
   record {
-    asks = subst (Asks words) d.0 asks;
+    command = command;
+    asks = asks;
+    threads = d.0;
     bytes = bytes;
     input = input;
     small = small;
-    is_script = d.1;
+    is_input = d.1;
   },
   d.2,
 )
@@ -175,17 +273,24 @@ answer_of_input words left left' f f' command given bytes (Ok answer) asks input
     input small (subst (λ b. IsDueOf command b answer.status (string_bytes answer.text)) same d)
 answer_of_input words left left' f f' command given bytes (Err e) asks input small same d = tt
 
--- What a command makes of an input, it makes of a script.
+-- What a command makes of an input, it makes of one that it takes.
 made_script : (Is : Meaning → List ℕ → Type 0) (bytes text : List ℕ) → IsMade Is bytes text → AreScript bytes
 made_script Is bytes text d = record { script = d.script; is_script = d.is_script }
+
+made_input : (command : Command) (bytes text : List ℕ) → MadeBy command bytes text → AreInput command bytes
+made_input Replay bytes text d = made_script (IsAnswer Replay) bytes text d
+made_input Run bytes text d = made_script (IsAnswer Run) bytes text d
+made_input Plain bytes text d = made_script (IsAnswer Plain) bytes text d
+made_input Print bytes text d = made_script (IsAnswer Print) bytes text d
+made_input Ends bytes text d = record { input = d.input; is_input = d.is_input }
 
 module _ (words : CommandLine) (command : Command) (asks : Asks words command) where
   -- With the command that the words are.
   makes_as : (left left' : Option (List ℕ)) (f f' : ℕ) (text : List ℕ)
       → IsDone (record { words = words; left = left; left' = left'; faults = f; faults' = f' }) text →
-      InputMakes (IsAnswer command) left left' text
+      InputMakes (MadeBy command) left left' text
   makes_as left left' f f' text (inl d) =
-      subst (λ (c : Command). InputMakes (IsAnswer c) left left' text) (asks_same words d.command command d.asks asks) d.makes
+      subst (λ (c : Command). InputMakes (MadeBy c) left left' text) (asks_same words d.command command d.asks asks) d.makes
   makes_as left left' f f' text (inr (inl d)) =
       absurd (asks_apart (codes "make") words command asks record { number = d.number; asks = d.asks })
   makes_as left left' f f' text (inr (inr d)) =
@@ -194,37 +299,40 @@ module _ (words : CommandLine) (command : Command) (asks : Asks words command) w
   -- What is due for an input that the source tells.
   status_due : (left : List ℕ) (left' : Option (List ℕ)) (f f' : ℕ) (s : Status) (text : List ℕ) →
       IsDue (record { words = words; left = Some left; left' = left'; faults = f; faults' = f' }) s text
-      → IsStatusOf left s ⊎ ((s ≡ Stopped) ⊎ (s ≡ ReadFault))
+      → IsStatusOf command left s ⊎ ((s ≡ Stopped) ⊎ (s ≡ ReadFault))
   status_due left left' f f' Done text d =
       let a = makes_as (Some left) left' f f' text d in
-      inl (subst (λ (l : List ℕ). IsStatusOf l Done) a.input.all (a.small, made_script (IsAnswer command) a.bytes text a.made))
+      inl (subst (λ (l : List ℕ). IsStatusOf command l Done) a.input.all (a.small, made_input command a.bytes text a.made))
   status_due left left' f f' Words text d = absurd (d.0 (inl (record { command = command; asks = asks })))
-  status_due left left' f f' (Script line cause) text (i, d, t) =
-      inl (subst (λ (l : List ℕ). IsStatusOf l (Script line cause)) d.input.all (d.small, d.fault))
+  status_due left left' f f' (Script line cause) text (d, t) =
+      inl (subst (λ (l : List ℕ). IsStatusOf command l (Script line cause)) d.input.all (
+        d.small,
+        subst (λ (c : Command). IsFaultOf c d.bytes line cause) (asks_same words d.command command d.asks asks) d.fault,
+      ))
   status_due left left' f f' ReadFault text d = inr (inr refl)
   status_due left left' f f' Stopped text d = inr (inl refl)
   status_due left left' f f' WriteFault text d = absurd d
   status_due left left' f f' Memory text d = absurd d
   status_due left left' f f' TooLong text (i, d, t) = inl (omega (arith, d.there))
 
-  answers_of : (left : List ℕ) (s : Status) → IsStatusOf left s ⊎ ((s ≡ Stopped) ⊎ (s ≡ ReadFault)) → Answers (Some left) s
-  answers_of left s (inl p) = λ due h. inl (status_same left s due p h)
+  answers_of : (left : List ℕ) (s : Status) → IsStatusOf command left s ⊎ ((s ≡ Stopped) ⊎ (s ≡ ReadFault)) → Answers command (Some left) s
+  answers_of left s (inl p) = λ due h. inl (status_same command left s due p h)
   answers_of left s (inr (inl e)) = λ due h. inr (inl e)
   answers_of left s (inr (inr e)) = λ due h. inr (inr (inl e))
 
   -- The answer with what is due, or with a fault.
   pub answers_due : (left left' : Option (List ℕ)) (f f' : ℕ) (s : Status) (text : List ℕ) →
-      IsDue (record { words = words; left = left; left' = left'; faults = f; faults' = f' }) s text → Answers left s
+      IsDue (record { words = words; left = left; left' = left'; faults = f; faults' = f' }) s text → Answers command left s
   answers_due None left' f f' s text d = tt
   answers_due (Some left) left' f f' s text d = answers_of left s (status_due left left' f f' s text d)
 
   -- An input that the command takes is done, where reading has not failed.
   pub completes : (left left' : Option (List ℕ)) (f f' : ℕ) (s : Status) (text : List ℕ) →
       IsDue (record { words = words; left = left; left' = left'; faults = f; faults' = f' }) s text
-      → IsAccepted left → (s ≡ Stopped → ⊥) → (HasRisen f f' → ⊥) → s ≡ Done
+      → IsAccepted command left → (s ≡ Stopped → ⊥) → (HasRisen f f' → ⊥) → s ≡ Done
   completes None left' f f' s text d accepted goes sure = absurd accepted
   completes (Some left) left' f f' s text d accepted goes sure = elim (status_due left left' f f' s text d) [
-    | inl p ↦ status_same left s Done p accepted
+    | inl p ↦ status_same command left s Done p accepted
     | inr (inl e) ↦ absurd (goes e)
     | inr (inr e) ↦ absurd (sure (subst
         (λ (due : Status). IsDue (record { words = words; left = Some left; left' = left'; faults = f; faults' = f' }) due text) e d).1)
@@ -233,7 +341,7 @@ module _ (words : CommandLine) (command : Command) (asks : Asks words command) w
   -- The text of a call that is done, and that the sink has taken.
   pub carried_out : (left left' : Option (List ℕ)) (f f' : ℕ) (s : Status) (text : List ℕ) (held held' : Option (List ℕ)) →
       IsDue (record { words = words; left = left; left' = left'; faults = f; faults' = f' }) s text → s ≡ Done → Adds text held held' →
-      CarriesOut (IsAnswer command) left left' held held'
+      CarriesOut (MadeBy command) left left' held held'
   carried_out left left' f f' s text held held' d e written = record {
     text = text;
     makes = makes_as left left' f f' text
@@ -241,16 +349,16 @@ module _ (words : CommandLine) (command : Command) (asks : Asks words command) w
     written = written;
   }
 
-pub answers_fault : (left : Option (List ℕ)) (s : Status) → (s ≡ WriteFault) ⊎ (s ≡ Memory) → Answers left s
-answers_fault None s e = tt
-answers_fault (Some left) s e = λ due h. inr (inr (inr e))
+pub answers_fault : (command : Command) (left : Option (List ℕ)) (s : Status) → (s ≡ WriteFault) ⊎ (s ≡ Memory) → Answers command left s
+answers_fault command None s e = tt
+answers_fault command (Some left) s e = λ due h. inr (inr (inr e))
 
 -- What is written with what is due.
 pub writes_due : (a : Asked) (held held' : Option (List ℕ)) (s : Status) (text : List ℕ)
     → IsDue a s text → Adds text held held' → Writes a held held' s
 writes_due a held held' Done text d w = (text, d, w)
 writes_due a held held' Words text d w = subst (λ (t : List ℕ). Adds t held held') d.1 w
-writes_due a held held' (Script line cause) text d w = subst (λ (t : List ℕ). Adds t held held') d.2 w
+writes_due a held held' (Script line cause) text d w = subst (λ (t : List ℕ). Adds t held held') d.1 w
 writes_due a held held' ReadFault text d w = subst (λ (t : List ℕ). Adds t held held') d.2 w
 writes_due a held held' WriteFault text d w = absurd d
 writes_due a held held' Memory text d w = absurd d
@@ -291,12 +399,12 @@ module _ (words : CommandLine) (number : ℕ) (asks : AsksMake words number) whe
       (refl, d.is_text ∙ ap load_text (numbers_same (codes "make") words d.number number d.asks asks))
   load_due left left' f f' Done text (inr (inr d)) = absurd (not_load record { number = d.number; asks = d.asks })
   load_due left left' f f' Words text d = absurd (d.0 (inr (inl understood)))
-  load_due left left' f f' (Script line cause) text d = absurd (apart d.0)
+  load_due left left' f f' (Script line cause) text d = absurd (apart record { command = d.0.command; asks = d.0.asks })
   load_due left left' f f' ReadFault text d = absurd (apart d.0)
   load_due left left' f f' WriteFault text d = absurd d
   load_due left left' f f' Memory text d = absurd d
   load_due left left' f f' TooLong text d = absurd (apart d.0)
-  load_due left left' f f' Stopped text d = absurd (apart record { command = Run; asks = d.0.asks })
+  load_due left left' f f' Stopped text d = absurd (apart record { command = d.0.command; asks = d.0.asks })
 
 module _ (words : CommandLine) (number : ℕ) (asks : AsksLoad words number) where
   sums_up : IsLoad words
@@ -315,12 +423,12 @@ module _ (words : CommandLine) (number : ℕ) (asks : AsksLoad words number) whe
   summary_due left left' f f' Done text (inr (inl d)) = absurd (make_apart words record { number = d.number; asks = d.asks } sums_up)
   summary_due left left' f f' Done text (inr (inr d)) = (refl, subst (λ n. IsSummary n text) (same_load d.number d.asks) d.is_text)
   summary_due left left' f f' Words text d = absurd (d.0 (inr (inr sums_up)))
-  summary_due left left' f f' (Script line cause) text d = absurd (no_script d.0)
+  summary_due left left' f f' (Script line cause) text d = absurd (no_script record { command = d.0.command; asks = d.0.asks })
   summary_due left left' f f' ReadFault text d = absurd (no_script d.0)
   summary_due left left' f f' WriteFault text d = absurd d
   summary_due left left' f f' Memory text d = absurd d
   summary_due left left' f f' TooLong text d = absurd (no_script d.0)
-  summary_due left left' f f' Stopped text d = absurd (no_script record { command = Run; asks = d.0.asks })
+  summary_due left left' f f' Stopped text d = absurd (no_script record { command = d.0.command; asks = d.0.asks })
 
   -- An answer that is the summary is due.
   pub answer_of_load : (left left' : Option (List ℕ)) (f f' : ℕ) (r : Result Answer Out_of_memory)

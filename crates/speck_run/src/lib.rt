@@ -4,6 +4,7 @@
 #![tactic(auto)]
 
 mod closed;
+mod ends;
 mod orders;
 mod replay;
 mod runs;
@@ -13,6 +14,7 @@ mod top;
 mod words;
 
 pub use core_kernel::{FreeGate, Gate};
+pub use ends::make_ends;
 pub use runs::run_lists;
 pub use summary::{Summed, sum_up};
 pub use top::{Status, speck};

@@ -1,6 +1,6 @@
 //! The top call: words, then reading, then the script, then writing.
 
-ghost use Rattle.std.specs.Prelude.{◌≡◌, ℕ, ◌<◌, ◌≤◌, ◌⊎◌, ◌↔◌, true, IsTrue, IfOk, map, length, string_bytes};
+ghost use Rattle.std.specs.Prelude.{◌≡◌, ℕ, ◌<◌, ◌≤◌, ◌⊎◌, ◌↔◌, true, IsTrue, All, IfOk, map, length, string_bytes};
 ghost use Rattle.byte_ends.specs.Ends.{HasRisen, Adds};
 ghost use Rattle.lone_kernel.specs.kernel_history.specs.Order.{list_of};
 ghost use Rattle.lone_kernel.specs.kernel_history.specs.Text.{plain_text};
@@ -14,14 +14,21 @@ ghost use Rattle.speck_run.specs.declared.words.Command.TheVariants as commands;
 ghost use Rattle.whole_ends.specs.Ends.{Gives, GivesAll, GivesAtMost};
 ghost use Rattle.speck_run.specs.Top.{Asks, AsksMake, AsksLoad, IsCommand, IsMake, IsLoad, IsUnderstood, IsDue, IsDueOf};
 ghost use Rattle.speck_run.specs.Top.{IsSummary, InputFaults, InputRuns, IsRunOf, CarriesOut, WritesSummary, Writes};
+ghost use Rattle.speck_run.specs.Top.{IsScriptDue, IsEndsDue, IsEndsOf};
+ghost use Rattle.speck_run.specs.Script.{IsMade, UsesThreads};
+ghost use Rattle.speck_run.specs.Ends.{IsEndsMade};
+ghost use Rattle.ends_reader.specs.Inputs.{input_view};
+ghost use Rattle.ends_run.specs.Whole.{FewCalls, FewAsks};
 ghost use Rattle.speck_run.specs.Top.{Answers, IsUnlessUnwritten, IsAccepted, Finishes, script_line, status_number};
 
+use crate::ends::make_ends;
 use crate::replay::replay;
 use crate::runs::run_lists;
 use crate::summary::summarize;
 use crate::words::{Command, command_of, number_after};
 use byte_ends::{Sink, Source};
 use core_kernel::Gate;
+use ends_reader::{EndsInput, read_ends};
 use load_maker::{load_script, made_script};
 use plain_run::plain;
 use script_printer::print;
@@ -48,7 +55,7 @@ pub enum Status {
     Memory,
     /// The source gave more than 1,048,576 bytes.
     TooLong,
-    /// The gate has stopped a core of a `run`.
+    /// The gate has stopped a core of a `run` or of an `ends`.
     Stopped,
 }
 
@@ -131,16 +138,56 @@ fn answer_run<R: Threads + Sync, G: Gate>(
     }
 }
 
-// What is due for an input that was read to its end.
-fn judge_input<R: Threads + Sync, G: Gate>(
+// What is due for a script with endpoint calls that are made: their text, or nothing where the gate has stopped a core.
+fn answer_ends<R: Threads + Sync, G: Gate>(
+    rt: &R,
+    alloc: Global,
+    gate: &G,
+    input: &EndsInput,
+) -> Result<Answer, Memory>
+    requires can_run { AreLists (map (λ v. v.items) input.now.script.lists.items) }
+    requires one_each { length input.now.script.lists.items ≡ input.now.script.setup.cores }
+    requires one_asks_each { length input.now.asks.items ≡ input.now.script.setup.cores }
+    requires few { All FewCalls input.now.script.lists.items }
+    requires few_asks { All FewAsks input.now.asks.items }
+    ensures due { IfOk result (λ answer. IsEndsOf (input_view input.now) answer.status (string_bytes answer.text)) }
+    ensures free { IfOk result (λ answer. answer.status ≡ Status.Stopped → G.is_free gate.now ≡ true → ⊥) }
+{
+    match make_ends(rt, alloc, input, gate)? {
+        Some(text) => Ok(made(text)),
+        None => line(alloc, Status::Stopped, ""),
+    }
+}
+
+// What is due under `ends` for an input that was read to its end.
+fn judge_ends<R: Threads + Sync, G: Gate>(
+    rt: &R,
+    alloc: Global,
+    gate: &G,
+    bytes: &[u8],
+) -> Result<Answer, Memory>
+    requires { length bytes.now ≤ 1048576 }
+    ensures due { IfOk result (λ answer. IsEndsDue bytes.now answer.status (string_bytes answer.text)) }
+    ensures free { IfOk result (λ answer. answer.status ≡ Status.Stopped → G.is_free gate.now ≡ true → ⊥) }
+{
+    match read_ends(alloc, bytes) {
+        Ok(input) => answer_ends(rt, alloc, gate, &input),
+        Err(ReadFault::Memory) => Err(Memory),
+        Err(ReadFault::Script { line, cause }) => refuse(alloc, line, cause),
+    }
+}
+
+// What is due for an input that was read to its end, under a command that takes a script alone.
+fn judge_script<R: Threads + Sync, G: Gate>(
     rt: &R,
     alloc: Global,
     gate: &G,
     command: Command,
     bytes: &[u8],
 ) -> Result<Answer, Memory>
-    requires { length bytes.now ≤ 1048576 }
-    ensures due { IfOk result (λ answer. IsDueOf command bytes.now answer.status (string_bytes answer.text)) }
+    requires small { length bytes.now ≤ 1048576 }
+    requires other { command ≡ Command.Ends → ⊥ }
+    ensures due { IfOk result (λ answer. IsScriptDue command bytes.now answer.status (string_bytes answer.text)) }
     ensures free { IfOk result (λ answer. answer.status ≡ Status.Stopped → G.is_free gate.now ≡ true → ⊥) }
 {
     let script = match read(alloc, bytes) {
@@ -167,6 +214,25 @@ fn judge_input<R: Threads + Sync, G: Gate>(
     } = script;
     let text = replay(alloc, &setup, lists, &order)?;
     Ok(made(text))
+}
+
+// What is due for an input that was read to its end.
+fn judge_input<R: Threads + Sync, G: Gate>(
+    rt: &R,
+    alloc: Global,
+    gate: &G,
+    command: Command,
+    bytes: &[u8],
+) -> Result<Answer, Memory>
+    requires { length bytes.now ≤ 1048576 }
+    ensures due { IfOk result (λ answer. IsDueOf command bytes.now answer.status (string_bytes answer.text)) }
+    ensures free { IfOk result (λ answer. answer.status ≡ Status.Stopped → G.is_free gate.now ≡ true → ⊥) }
+{
+    if matches!(command, Command::Ends) {
+        judge_ends(rt, alloc, gate, bytes)
+    } else {
+        judge_script(rt, alloc, gate, command, bytes)
+    }
 }
 
 // What is due for words that ask for no number's script: they are judged first, then reading, then the script.
@@ -263,7 +329,7 @@ fn finish<K: Sink>(sink: &mut K, answer: &Answer) -> Status
 /// Does all that the program does: judges the words, reads the source, takes the script and writes
 /// the sink.
 ///
-/// Words other than `replay`, `run`, `plain` or `print` alone, and `make` and `load` with a number
+/// Words other than `replay`, `run`, `plain`, `print` or `ends` alone, and `make` and `load` with a number
 /// from 0 to 4,294,967,295, are `Words`, and nothing is read. Under `make` and `load` nothing is read
 /// either, and the status is `Done`: `make` writes the text of the number's script, and `load` takes
 /// the steps of that script as `replay` does and writes their summary.
@@ -275,7 +341,11 @@ fn finish<K: Sink>(sink: &mut K, answer: &Answer) -> Status
 /// free one never does, the status is `Stopped` and nothing is written. Under `plain` the calls of
 /// each script are made alone, core 0's first, whatever its order says; their text is written, the
 /// reply lines and the tables, and the status is `Done`. Under `print` each script is written in
-/// its printed form, and the status is `Done`. Each of the other statuses writes its line in place
+/// its printed form, and the status is `Done`. Under `ends` the input is a script with endpoint
+/// calls after it: its lists are made as by `run`, and after all of them each core's endpoint calls,
+/// by threads in the same way and with the gate asked before each; their text is written, the reply
+/// lines, the lines of the endpoint calls and those of the frames, and the status is `Done`, or
+/// `Stopped` as under `run`. Each of the other statuses writes its line in place
 /// of the text. A sink that fails is `WriteFault`, and holds a prefix of what was due. `Memory` may
 /// come in place of any status, and has written nothing. No read and no write that failed is tried
 /// again.
@@ -289,17 +359,19 @@ pub fn speck<R: Threads + Sync, G: Gate, S: Source, K: Sink>(
 ) -> Status
     // What each command has written where it is done.
     ensures replay { Asks words.now commands.Replay → result ≡ Status.Done
-        → CarriesOut (λ script text. GivenSteps script.setup script.lists script.order text)
+        → CarriesOut (IsMade (λ script text. GivenSteps script.setup script.lists script.order text))
         (S.left source.old) (S.left source.new) (K.held sink.old) (K.held sink.new) }
     ensures run { Asks words.now commands.Run → result ≡ Status.Done
-        → CarriesOut (λ script text. TakenSteps script.setup script.lists text)
+        → CarriesOut (IsMade (λ script text. TakenSteps script.setup script.lists text))
         (S.left source.old) (S.left source.new) (K.held sink.old) (K.held sink.new) }
     ensures plain { Asks words.now commands.Plain → result ≡ Status.Done
-        → CarriesOut (λ script text. text ≡ plain_text script.setup (list_of script.lists))
+        → CarriesOut (IsMade (λ script text. text ≡ plain_text script.setup (list_of script.lists)))
         (S.left source.old) (S.left source.new) (K.held sink.old) (K.held sink.new) }
     ensures print { Asks words.now commands.Print → result ≡ Status.Done
-        → CarriesOut (λ script text. text ≡ printed script)
+        → CarriesOut (IsMade (λ script text. text ≡ printed script))
         (S.left source.old) (S.left source.new) (K.held sink.old) (K.held sink.new) }
+    ensures ends { Asks words.now commands.Ends → result ≡ Status.Done
+        → CarriesOut IsEndsMade (S.left source.old) (S.left source.new) (K.held sink.old) (K.held sink.new) }
     ensures make { (number : ℕ) → AsksMake words.now number → result ≡ Status.Done
         → Adds (load_text number) (K.held sink.old) (K.held sink.new) }
     ensures load { (number : ℕ) → AsksLoad words.now number → result ≡ Status.Done
@@ -314,10 +386,10 @@ pub fn speck<R: Threads + Sync, G: Gate, S: Source, K: Sink>(
     ensures unread { (IsCommand words.now → ⊥) → source.new ≡ source.old }
 
     // Then reading, then the script.
-    ensures answers { IsCommand words.now → Answers (S.left source.old) result }
+    ensures answers { (command : Command) → Asks words.now command → Answers command (S.left source.old) result }
     ensures script { (line : ℕ) (cause : Cause) → result ≡ Status.Script line cause
-        → IsCommand words.now × InputFaults (S.left source.old) (S.left source.new) line cause }
-    // A run is stopped by a gate that is not free alone.
+        → InputFaults words.now (S.left source.old) (S.left source.new) line cause }
+    // Threads are stopped by a gate that is not free alone.
     ensures stopped { result ≡ Status.Stopped
         → InputRuns words.now (S.left source.old) (S.left source.new) × (G.is_free gate.now ≡ true → ⊥) }
     ensures long { result ≡ Status.TooLong
@@ -344,8 +416,8 @@ pub fn speck<R: Threads + Sync, G: Gate, S: Source, K: Sink>(
     ensures failed_write { K.faults sink.old < K.faults sink.new → result ≡ Status.WriteFault }
     ensures sure_sink { ((k : K) → K.faults k ≡ 0) → result ≡ Status.WriteFault → ⊥ }
     ensures complete { (command : Command) → Asks words.now command
-        → IsAccepted (S.left source.old)
-        → (command ≡ commands.Run → G.is_free gate.now ≡ true)
+        → IsAccepted command (S.left source.old)
+        → (UsesThreads command → G.is_free gate.now ≡ true)
         → (HasRisen (S.faults source.old) (S.faults source.new) → ⊥)
         → (HasRisen (K.faults sink.old) (K.faults sink.new) → ⊥)
         → (result ≡ Status.Done) ⊎ (result ≡ Status.Memory) }

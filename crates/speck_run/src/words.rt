@@ -5,7 +5,7 @@ ghost use Rattle.speck_run.specs.Top.{IsCommandOf, IsNumberOf, IsNumberIn, texts
 
 use script_reader::read_number;
 
-/// A command of the program that takes a script.
+/// A command of the program that takes a script, or one with endpoint calls.
 #[derive(Clone, Copy, Debug, PartialEq, Eq)]
 pub enum Command {
     /// Takes given steps of a script, and writes what they did.
@@ -16,6 +16,8 @@ pub enum Command {
     Plain,
     /// Writes a script in its printed form.
     Print,
+    /// Makes the lists of a script and then endpoint calls, each core in a thread of its own, and writes what they did.
+    Ends,
 }
 
 // Whether the words are this one alone.
@@ -43,6 +45,9 @@ pub fn command_of(words: &Vec<String>) -> Option<Command>
     }
     if is_alone(words, "print") {
         return Some(Command::Print);
+    }
+    if is_alone(words, "ends") {
+        return Some(Command::Ends);
     }
     None
 }

@@ -1,24 +1,9 @@
-use Rattle.std.proofs.Common.{subst, sym, length, arith}
-use Rattle.script_reader.specs.Readings.{lists_of}
-use Rattle.plain_run.specs.Plain.{AreRunnable}
-use Rattle.speck_run.proofs.Accepted.{accepted}
+use Rattle.speck_run.proofs.Due.{answer_of_script, answer_of_ends}
 use Rattle.speck_run.proofs.top.judge_input.Goals as goal
 
-pub replay-requires-clause-can_run : goal.replay-requires-clause-can_run
-replay-requires-clause-can_run g c =
-    let small = c.requires in
-    accepted (length c.args.bytes.now) (lists_of c.in-Ok.script.lists.items)
-    c.in-Ok.ensures.script.limits c.in-Ok.ensures.calls (omega arith)
+pub returns-then-matches-clause-due : goal.returns-then-matches-clause-due
+returns-then-matches-clause-due g c = answer_of_ends c.args.command c.args.bytes.now c.judge_ends.result c.if-matches.true c.judge_ends.ensures.due
 
-pub answer_run-requires-clause-can_run : goal.answer_run-requires-clause-can_run
-answer_run-requires-clause-can_run g c κs bounds =
-    let small = c.requires in
-    accepted (length c.args.bytes.now) (lists_of c.in-Ok.script.lists.items)
-    c.in-Ok.ensures.script.limits c.in-Ok.ensures.calls (omega arith)
-
-pub plain-requires-clause-can_run : goal.plain-requires-clause-can_run
-plain-requires-clause-can_run g c =
-    let small = c.requires in
-    let runnable : AreRunnable (lists_of c.in-Ok.script.lists.items) = λ k d below.
-    (c.in-Ok.ensures.script.limits k d below, (let few = c.in-Ok.ensures.calls k d below in omega arith)) in
-    subst (λ ls. AreRunnable (lists_of ls)) (sym c.deref.ensures.value) runnable
+pub returns-else-matches-clause-due : goal.returns-else-matches-clause-due
+returns-else-matches-clause-due g c =
+    answer_of_script c.args.command c.args.bytes.now c.judge_script.result c.if-matches.false c.judge_script.ensures.due

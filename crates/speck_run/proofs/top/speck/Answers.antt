@@ -2,6 +2,7 @@ use Rattle.std.proofs.Common.{◌≡◌, ◌∙◌, sym, subst, inl, inr}
 use Rattle.speck_run.specs.declared.words.Command.TheVariants as commands
 use Rattle.speck_run.specs.declared.top.Status.TheVariants.{Stopped}
 use Rattle.byte_ends.specs.Ends.{Adds}
+use Rattle.speck_run.specs.Script.{UsesThreads}
 use Rattle.speck_run.specs.Top.{Asked, Answers, Writes}
 use Rattle.speck_run.proofs.Due.{answers_due, answers_fault, asks_same, carried_out}
 use Rattle.speck_run.proofs.Due.{completes, load_due, stops_run, summary_due, writes_due}
@@ -53,6 +54,14 @@ returns-in-Ok-clause-print g c asks done =
       | inr p ↦ let wrong = sym p.0 ∙ done in cc
     ]
 
+pub returns-in-Ok-clause-ends : goal.returns-in-Ok-clause-ends
+returns-in-Ok-clause-ends g c asks done =
+    elim c.finish.ensures [
+      | inl p ↦ carried_out c.args.words.now commands.Ends asks (g.S.Source.left c.args.source.now)
+          _ _ _ c.in-Ok.answer.status _ _ _ c.in-Ok.ensures.due (sym p.0 ∙ done) p.2
+      | inr p ↦ let wrong = sym p.0 ∙ done in cc
+    ]
+
 pub returns-in-Ok-clause-make : goal.returns-in-Ok-clause-make
 returns-in-Ok-clause-make g c number asks done =
     let held = g.K.Sink.held c.args.sink.now in
@@ -92,12 +101,12 @@ returns-in-Ok-clause-loaded g c number asks =
     ]
 
 pub returns-in-Ok-clause-answers : goal.returns-in-Ok-clause-answers
-returns-in-Ok-clause-answers g c asked =
+returns-in-Ok-clause-answers g c command asks =
     let left = g.S.Source.left c.args.source.now in
     elim c.finish.ensures [
-      | inl p ↦ subst (Answers left) (sym p.0)
-          (answers_due c.args.words.now asked.command asked.asks left _ _ _ c.in-Ok.answer.status _ c.in-Ok.ensures.due)
-      | inr p ↦ answers_fault left c.finish.result (inl p.0)
+      | inl p ↦ subst (Answers command left) (sym p.0)
+          (answers_due c.args.words.now command asks left _ _ _ c.in-Ok.answer.status _ c.in-Ok.ensures.due)
+      | inr p ↦ answers_fault command left c.finish.result (inl p.0)
     ]
 
 pub returns-in-Ok-clause-complete : goal.returns-in-Ok-clause-complete
@@ -110,8 +119,8 @@ returns-in-Ok-clause-complete g c command asks accepted gate sure_source sure_si
       faults' = g.S.Source.faults c.judge.new.source;
     } in
     let goes : c.in-Ok.answer.status ≡ Stopped → ⊥ = λ stopped.
-    c.in-Ok.ensures.free stopped (gate (asks_same c.args.words.now command commands.Run
-    asks (stops_run asked c.in-Ok.answer.status _ c.in-Ok.ensures.due stopped).asks)) in
+    let run = stops_run asked c.in-Ok.answer.status _ c.in-Ok.ensures.due stopped in
+    c.in-Ok.ensures.free stopped (gate (subst UsesThreads (asks_same c.args.words.now run.command command run.asks asks) run.threads)) in
     elim c.finish.ensures [
       | inl p ↦ inl (p.0 ∙ completes c.args.words.now command asks (g.S.Source.left c.args.source.now)
           _ _ _ c.in-Ok.answer.status _ c.in-Ok.ensures.due accepted goes sure_source)
