@@ -1,7 +1,7 @@
 //! Runners make their endpoint calls, each in a thread of its own.
 //!
-//! The calls of both phases are made by halves of the runners at once. The two functions that cut them are one each for a
-//! kind of runner, since a function that is generic in what a thread does has no contract that says what it did.
+//! The runners are cut into halves here as those of lists are in `core_kernel`: each of the two functions names its own kind of
+//! runner, and ensures what that has done.
 
 ghost use Rattle.std.specs.Prelude.{◌≡◌, ◌<◌, ◌≤◌, ◌++◌, [], ◌∷◌, All, vec_len, vec_capacity};
 ghost use Rattle.std.specs.Thread.{IsSync};
