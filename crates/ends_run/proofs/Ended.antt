@@ -5,7 +5,7 @@ use Rattle.std.specs.Prelude.{slice_get, slice_index, slice_index_or}
 use Rattle.std.specs.List.{AllZip, flat_map}
 use Rattle.std.specs.Option.{option_map}
 use Rattle.std.proofs.lemmas.Bool.{cases_eq, cases_lt}
-use Rattle.std.proofs.lemmas.List.{length-map, take_all, get_or_past, append_cancel_right}
+use Rattle.std.proofs.lemmas.List.{length-map, take_all, get_or_past, get_or_default, append_cancel_right}
 use Rattle.std.proofs.lemmas.List.Elements.{length_all_zip, AllZip-get_or, All-get_or, All-nil}
 use Rattle.std.proofs.lemmas.Option.{slice_get-map, slice_get_within, slice_get-get_or, get_or_from_slice_get}
 use Rattle.spk_nums.specs.declared.calls.Call.{Call}
@@ -42,6 +42,7 @@ use Rattle.ends_run.specs.Ends.{EndsHistory, MakesAsked, asks_of, look_call}
 use Rattle.ends_run.specs.Runs.{EndRunnerValue, AwaitsEnds, MakesAsks}
 use Rattle.ends_run.specs.Tallies.{sends_by}
 use Rattle.ends_run.specs.Whole.{AreListed, IsReady, AreEndRunners, AreEnded}
+use Rattle.ends_run.proofs.Runs.{FewOf}
 use Rattle.ends_run.proofs.Sends.{among_events, by_cores}
 
 the_same : {A : Type 0} (x y : A) (o : Option A) → o ≡ Some x → o ≡ Some y → x ≡ y
@@ -69,6 +70,17 @@ module _ (of : KernelValue) (seats : List CoreSeatValue) (all : AreAllSeats of s
 
   returned_seats : AreAllSeats of back
   returned_seats = all_back of seats all fresh lists runners are free after make
+
+  -- and each has seen a history
+  pub back_of : AreOf of back
+  back_of k s at =
+      let x = mapped (λ (r : RunnerValue). r.seat) after k s at in
+      let lt = slice_get_within back k s at in
+      let size = returned_seats.count in
+      let w = lane of seats all fresh lists runners are free after make k (omega arith) in (
+        returned_seats.kernel k s at,
+        subst HasSeen (ap (λ r. r.seat) (the_same w.now x.0 (slice_get after k) w.at x.1) ∙ x.2) w.makes.seen,
+      )
 
   module _ (new : List CoreSeatValue) (met : HaveMet back new) (are_of : AreOf of new) (some : 0 < of.setup.cores) where
     -- all seats are still those of the kernel
@@ -128,10 +140,6 @@ module _ (of : KernelValue) (seats : List CoreSeatValue) (all : AreAllSeats of s
           decisions = decisions ∙ all_decisions of seats all fresh lists runners are free after make met.first history out begins whole;
         }
 
--- at most so many
-abbrev pub FewOf : ℕ → List EndAsk → Type 0
-FewOf n asks = length asks ≤ n
-
 -- ---- the endpoint calls
 
 append_none : {A : Type 0} (xs ys : List A) → xs ++ ys ≡ [] → ys ≡ []
@@ -143,19 +151,26 @@ replies_of_past setup c [] past legal = refl
 replies_of_past setup c (e ∷ t) past legal = replies_of-other c e t (λ own. let here = legal.1.is_core in omega arith)
     ∙ replies_of_past setup c t past legal.0
 
+module _ (setup : Setting) (lists : List (List Call)) (l : Listed) (is : AreListed setup lists l) where
+  pub seat_count : length l.seats.items ≡ setup.cores
+  seat_count = is.all.count ∙ ap (λ s. s.cores) is.setup_is
+
+  -- their seats are of the kernel
+  pub all_of : All (λ s. s.kernel ≡ l.kernel) l.seats.items
+  all_of k d h =
+      let r = at_of l.seats.items k h in
+      subst (λ (s : CoreSeatValue). s.kernel ≡ l.kernel) (sym r.read ∙ get_or_default l.seats.items k r.x d h) (is.all.kernel k r.x r.at)
+
 module _ (setup : Setting) (lists : List (List Call)) (l : Listed) (is : AreListed setup lists l) (asks : List (List EndAsk))
     (table : EndTableValue) (ends : List EndSeatValue) (all : tables.AreAllSeats table ends) (fresh : tables.AreFresh ends)
     (cores : table.cores ≡ setup.cores) (frames : 512 ≤ table.frames) (one_asks_each : length asks ≡ setup.cores)
     (some : 0 < setup.cores) (runners : List EndRunnerValue) (are : AreEndRunners l.seats.items ends asks runners) where
-  seat_count : length l.seats.items ≡ setup.cores
-  seat_count = is.all.count ∙ ap (λ s. s.cores) is.setup_is
-
   -- they wait at the kernel and the table
   pub all_await : All (AwaitsEnds l.kernel table) runners
   all_await k d h =
       let r = at_of runners k h in
       let e = are.each k r.x r.at in
-      let same : r.x ≡ get_or runners k d = sym r.read ∙ same_read runners k r.x d h in
+      let same : r.x ≡ get_or runners k d = sym r.read ∙ get_or_default runners k r.x d h in
       subst (AwaitsEnds l.kernel table) same record {
         kernel = is.all.kernel k r.x.who e.seat;
         seen = (is.seen k r.x.who e.seat).1;
@@ -166,15 +181,10 @@ module _ (setup : Setting) (lists : List (List Call)) (l : Listed) (is : AreList
         none = e.none;
         free = e.free;
       }
-    where
-      same_read : (xs : List EndRunnerValue) (n : ℕ) (x y : EndRunnerValue) → n < length xs → get_or xs n x ≡ get_or xs n y
-      same_read [] n x y lt = absurd (omega arith)
-      same_read (z ∷ xs) zero x y lt = refl
-      same_read (z ∷ xs) (suc n) x y lt = same_read xs n x y (omega arith)
 
   module _ (free : Bool) (after : List EndRunnerValue) (make : AllZip (MakesAsks free) runners after) where
-    count : length after ≡ setup.cores
-    count = sym (length_all_zip (MakesAsks free) runners after make) ∙ are.count ∙ seat_count
+    pub count : length after ≡ setup.cores
+    count = sym (length_all_zip (MakesAsks free) runners after make) ∙ are.count ∙ seat_count setup lists l is
 
     -- what the runner of core k was and is
     record EndLane (k : ℕ) : Type 0 where
@@ -188,7 +198,7 @@ module _ (setup : Setting) (lists : List (List Call)) (l : Listed) (is : AreList
     end_lane : (k : ℕ) → k < setup.cores → EndLane k
     end_lane k h =
         let n = are.count in
-        let m = seat_count in
+        let m = seat_count setup lists l is in
         let size = count in
         let inside : k < length runners = omega arith in
         let r = at_of runners k inside in

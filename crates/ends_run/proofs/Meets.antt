@@ -3,7 +3,7 @@ use Rattle.std.proofs.Common.{◌≡◌, ◌≢◌, ◌⊎◌, inl, inr, ℕ, ze
 use Rattle.std.proofs.Common.{Option, Some, None, refl, sym, ◌∙◌, ap, subst, arith, append_assoc}
 use Rattle.std.specs.Prelude.{slice_get, slice_set}
 use Rattle.std.proofs.lemmas.Bool.{cases_eq, cases_lt}
-use Rattle.std.proofs.lemmas.List.{append_cancel_right, length-set, get_or-set_same}
+use Rattle.std.proofs.lemmas.List.{append_cancel_right, length-set, get_or-set_same, set-get_or}
 use Rattle.std.proofs.lemmas.List.Elements.{All-nil, All-cons, All-append}
 use Rattle.std.proofs.lemmas.Option.{slice_get_read, slice_get_within}
 use Rattle.core_kernel.specs.kernel_history.specs.Trace.{Trace}
@@ -13,7 +13,7 @@ use Rattle.core_kernel.specs.Calls.{HasSeen, Extends, ExtendsByOthers, Meets}
 use Rattle.core_kernel.proofs.Wholes.{At, at_of}
 use Rattle.ends_run.specs.Meets.{AreOf, GoesOn, Tells, IsOn, HasGathered, IsTold, HasSpread, HasMet, HaveMet}
 
-abbrev Seats : Type 0
+abbrev pub Seats : Type 0
 Seats = List CoreSeatValue
 
 -- ---- lists
@@ -82,6 +82,29 @@ between c was first on x y z =
 
 pub meets_goes : (s met : CoreSeatValue) (note : CoreNoteValue) → Meets s note met → GoesOn s met
 meets_goes s met note m = record { own = m.own; core = m.core; kernel = m.kernel }
+
+-- a seat that is put back as it was leaves all as they were
+pub unchanged : (from : ℕ) (seats mid : Seats) (a left : CoreSeatValue) → a ≡ get_or seats from a → left ≡ a
+    → mid ≡ slice_set seats from left → mid ≡ seats
+unchanged from seats mid a left a_is same mid_is =
+    mid_is ∙ ap (λ (v : CoreSeatValue). slice_set seats from v) (same ∙ a_is) ∙ set-get_or seats from a
+
+-- one seat tells another
+pub tells_one : (from to : ℕ) (seats mid new : Seats) (a left b met : CoreSeatValue) (note : CoreNoteValue) → from < length seats
+    → to < length seats → a ≡ get_or seats from a → left ≡ a → mid ≡ slice_set seats from left → note.seen ≡ a.seen
+    → b ≡ get_or mid to b → Meets b note met → new ≡ slice_set mid to met → Tells from to seats new
+tells_one from to seats mid new a left b met note low high a_is same mid_is seen b_is m new_is =
+    let back : mid ≡ seats = unchanged from seats mid a left a_is same mid_is in
+    record {
+      teller = a;
+      from_is = slice_get_read seats (length seats) from a refl low a_is;
+      told = b;
+      to_was = slice_get_read seats (length seats) to b refl high (b_is ∙ ap (λ (l : Seats). get_or l to b) back);
+      met = met;
+      is = new_is ∙ ap (λ (l : Seats). slice_set l to met) back;
+      goes = meets_goes b met note m;
+      knows = subst (λ (t : Trace). Extends t met.seen) seen m.told;
+    }
 
 pub still_of : (of : KernelValue) (seats new : Seats) (to : ℕ) (met : CoreSeatValue) → AreOf of seats → to < length seats
     → new ≡ slice_set seats to met → met.kernel ≡ of → HasSeen met → AreOf of new

@@ -2,10 +2,10 @@
 use Rattle.std.proofs.Common.{◌≡◌, ℕ, ◌+◌, ◌<◌, ◌≤◌, Bool, true, false, List, [], ◌∷◌, ◌++◌, All, map}
 use Rattle.std.proofs.Common.{length, take, get_or, refl, sym, ◌∙◌, ap, subst, arith, append_assoc, append-nil}
 use Rattle.std.specs.Prelude.{IsTrue}
-use Rattle.std.specs.List.{flat_map}
+use Rattle.std.specs.List.{AllZip, flat_map}
 use Rattle.std.proofs.lemmas.Grind.{flat_map-append}
 use Rattle.std.proofs.lemmas.List.{length-append, take_more, map-append}
-use Rattle.std.proofs.lemmas.List.Elements.{All-nil, All-push}
+use Rattle.std.proofs.lemmas.List.Elements.{All-nil, All-push, All-get_or, AllZip-get_or, length_all_zip}
 use Rattle.spk_nums.specs.declared.calls.Call.{Call}
 use Rattle.spk_nums.specs.declared.replies.Reply.{Reply}
 use Rattle.core_kernel.specs.kernel_history.specs.Trace.{Trace, calls_of}
@@ -13,17 +13,19 @@ use Rattle.core_kernel.specs.Replies.{replies_of}
 use Rattle.core_kernel.specs.Kernel.{KernelValue, CoreSeatValue}
 use Rattle.core_kernel.specs.Calls.{HasSeen, MakesCall}
 use Rattle.core_kernel.proofs.Lists.{calls_of-append, replies_of-append}
+use Rattle.core_kernel.proofs.Wholes.{At, at_of}
 use Rattle.async_ends.specs.declared.asks.EndAsk.{EndAsk}
 use Rattle.async_ends.specs.declared.asks.EndDone.{EndDone}
 use Rattle.async_ends.specs.Events.{Event, events_by}
 use Rattle.async_ends.specs.Seen.{history_of}
 use Rattle.async_ends.specs.Calls.{Look, look}
-use Rattle.async_ends.specs.Tables.{EndTableValue}
+use Rattle.async_ends.specs.Tables.{EndTableValue, EndSeatValue}
 use Rattle.async_ends.specs.Asked.{event_of, IsAnswered, MakesDone}
 use Rattle.async_ends.proofs.Asked.{done_answered, done_event}
 use Rattle.ends_run.specs.Looks.{HasLooked}
-use Rattle.ends_run.specs.Ends.{look_call}
+use Rattle.ends_run.specs.Ends.{look_call, asks_of}
 use Rattle.ends_run.specs.Runs.{EndRunnerValue, AwaitsEnds, HasDone, MakesAsks}
+use Rattle.ends_run.specs.Whole.{AreEndRunners}
 
 -- the runner has made the first n of its calls, and is not held
 pub record HasAsked (of : KernelValue) (table : EndTableValue) (runner : EndRunnerValue) (n : ℕ) (now : EndRunnerValue) : Type 0 where
@@ -151,3 +153,28 @@ stops_last of table free u v n h all =
 
 pub not_true : (b : Bool) → b ≡ false → IsTrue b → ⊥
 not_true b is_false is_true = cc
+
+-- runners of a free gate are not held
+pub all_go : (free : Bool) (xs ys : List EndRunnerValue) → free ≡ true → AllZip (MakesAsks free) xs ys → All (λ r. r.held ≡ false) ys
+all_go free xs ys is make k d h = let size = length_all_zip (MakesAsks free) xs ys make in
+    (AllZip-get_or (MakesAsks free) xs ys k d d make (omega arith)).free is
+
+-- at most so many
+abbrev pub FewOf : ℕ → List EndAsk → Type 0
+FewOf n asks = length asks ≤ n
+
+-- runners of few calls have made few
+pub few_done : (seats : List CoreSeatValue) (ends : List EndSeatValue) (asks : List (List EndAsk)) (free : Bool) (xs ys : List EndRunnerValue)
+    → length asks ≡ length seats → All (FewOf 4194304) asks → AreEndRunners seats ends asks xs → AllZip (MakesAsks free) xs ys
+    → All (λ r. length r.done < 2 ^ 32) ys
+few_done seats ends asks free xs ys one_each all are make k d h =
+    let size = length_all_zip (MakesAsks free) xs ys make in
+    let count = are.count in
+    let inside : k < length xs = omega arith in
+    let r = at_of xs k inside in
+    let m : MakesAsks free r.x (get_or ys k d) = subst (λ x. MakesAsks free x (get_or ys k d)) r.read
+    (AllZip-get_or (MakesAsks free) xs ys k r.x d make inside) in
+    let few : length (asks_of asks k) ≤ 4194304 = All-get_or (FewOf 4194304) asks k [] (omega arith) all in
+    let same = ap length (are.each k r.x r.at).asked in
+    let within = m.within in
+    omega arith

@@ -1,10 +1,10 @@
 -- The sends of calls, of runners, and of a history.
 use Rattle.std.proofs.Common.{◌≡◌, ◌≢◌, ◌⊎◌, inl, inr, ℕ, zero, suc, ◌+◌, ◌*◌, ◌<◌, ◌≤◌, ◌^◌, ◌==◌, List, [], ◌∷◌, ◌++◌, length}
-use Rattle.std.proofs.Common.{take, get_or, Result, Ok, Err, All, if◌then◌else◌, Bool, true, false, eq-eqb, ne_eqb, refl, sym, ◌∙◌, ap, subst, arith}
+use Rattle.std.proofs.Common.{take, replicate, get_or, Result, Ok, Err, All, if◌then◌else◌, Bool, true, false, eq-eqb, ne_eqb, refl, sym, ◌∙◌, ap, subst, arith}
 use Rattle.std.specs.Prelude.{slice_get, slice_index, slice_set, Some}
 use Rattle.std.specs.List.{flat_map}
 use Rattle.std.proofs.lemmas.Bool.{cases_eq}
-use Rattle.std.proofs.lemmas.List.{take_more, get_or-set_same, get_or-set_other}
+use Rattle.std.proofs.lemmas.List.{take_more, length-take-le, get_or-take, get_or-set_same, get_or-set_other, get_or_read}
 use Rattle.std.proofs.lemmas.List.Concat.{flat_map-cons}
 use Rattle.std.proofs.lemmas.Option.{get_or_from_slice_get}
 use Rattle.spk_nums.specs.declared.replies.Reply.{Reply}
@@ -34,6 +34,44 @@ among_events c (d ∷ ds) f =
     let parts = ap (λ (l : List Event). sent_to l f) (flat_map-cons (event_of c) d ds) in
     let sum = sent_append (event_of c d) (flat_map (event_of c) ds) f in
     omega arith
+
+zero_either : (b : Bool) → (if b then 0 else 0) + 0 ≡ 0
+zero_either true = refl
+zero_either false = refl
+
+none_by : (r : Result ℕ Reply) (answer : EndReply) (f : ℕ) → (answer ≡ Sent → ⊥) → sent_to (event_at 0 r answer) f ≡ 0
+none_by (Err e) answer f other = refl
+none_by (Ok g) Sent f other = absurd (other refl)
+none_by (Ok g) (Taken k) f other = zero_either (g == f)
+none_by (Ok g) Raced f other = zero_either (g == f)
+none_by (Ok g) (Refused r) f other = refl
+
+-- a call that is not answered as a send sends nothing, and so does one that reached no frame
+pub sends_none : (d : EndDone) (f : ℕ) → (d.answer ≡ Sent → ⊥) → sends_of d f ≡ 0
+sends_none d f other = none_by (reached d.ask.op d.looked) d.answer f other
+
+pub sends_nowhere : (d : EndDone) (f : ℕ) (r : Reply) → reached d.ask.op d.looked ≡ Err r → sends_of d f ≡ 0
+sends_nowhere d f r nowhere = ap (λ (q : Result ℕ Reply). sent_to (event_at 0 q d.answer) f) nowhere
+
+-- one more at the frame that a send reached
+pub send_added : (xs new : List ℕ) (at x : ℕ) (d : EndDone) (g : ℕ) → at < length xs → x ≡ get_or xs at x → new ≡ slice_set xs at (x + 1)
+    → at ≡ g → d.answer ≡ Sent → reached d.ask.op d.looked ≡ Ok g → (f : ℕ) → slice_index new f ≡ slice_index xs f + sends_of d f
+send_added xs new at x d g low x_is new_is at_is sent there f =
+    let one : sends_of d f ≡ (if g == f then 1 else 0) + 0 = λ i. sent_to (event_at 0 (there i) (sent i)) f in
+    let read : x ≡ slice_index xs at = get_or_read xs at x low x_is 0 in
+    let now : slice_index new f ≡ slice_index (slice_set xs at (x + 1)) f = ap (λ (l : List ℕ). slice_index l f) new_is in
+    elim (cases_eq f at) [
+      | inl here ↦
+          let is : sends_of d f ≡ 1 + 0 = one ∙ ap (λ b. (if b then 1 else 0) + 0) (eq-eqb g f (sym at_is ∙ sym here)) in
+          let added : slice_index (slice_set xs at (x + 1)) f ≡ x + 1 =
+          subst (λ (k : ℕ). slice_index (slice_set xs at (x + 1)) k ≡ x + 1) (sym here) (get_or-set_same xs at (x + 1) 0 low) in
+          let was : slice_index xs f ≡ slice_index xs at = ap (slice_index xs) here in
+          omega arith
+      | inr other ↦
+          let is : sends_of d f ≡ 0 + 0 = one ∙ ap (λ b. (if b then 1 else 0) + 0) (ne_eqb g f (λ e. other (sym e ∙ sym at_is))) in
+          let kept : slice_index (slice_set xs at (x + 1)) f ≡ slice_index xs f = get_or-set_other xs at f (x + 1) 0 other in
+          omega arith
+    ]
 
 -- a call sends at most once
 one_at_most : (r : Result ℕ Reply) (answer : EndReply) (f : ℕ) → sent_to (event_at 0 r answer) f ≤ 1
@@ -75,6 +113,56 @@ by_at_most (r ∷ rs) n f few =
     let here = few 0 r (omega arith) in
     let rest : sends_by rs f ≤ length rs * n = by_at_most rs n f (λ k d lt. few (suc k) d (omega arith)) in
     grind arith
+
+-- ---- as they are counted
+
+pub zeros : (n f : ℕ) → slice_index (replicate n 0) f ≡ 0
+zeros zero f = refl
+zeros (suc n) zero = refl
+zeros (suc n) (suc f) = zeros n f
+
+pub added_more : (ds : List EndDone) (k : ℕ) (d : EndDone) (first old new : List ℕ) → k < length ds → d ≡ get_or ds k d
+    → ((f : ℕ) → slice_index old f ≡ slice_index first f + sends_among (take k ds) f)
+    → ((f : ℕ) → slice_index new f ≡ slice_index old f + sends_of d f)
+    → (f : ℕ) → slice_index new f ≡ slice_index first f + sends_among (take (k + 1) ds) f
+added_more ds k d first old new low at was adds f =
+    let more : take (k + 1) ds ≡ take k ds ++ d ∷ [] = take_more ds k d low ∙ ap (λ x. take k ds ++ x ∷ []) (sym at) in
+    let pushed = ap (λ (q : List EndDone). sends_among q f) more ∙ among_push (take k ds) d f in
+    let a = was f in
+    let b = adds f in
+    omega arith
+
+pub added_room : (ds : List EndDone) (k : ℕ) (first old : List ℕ) → k < length ds
+    → ((f : ℕ) → slice_index old f ≡ slice_index first f + sends_among (take k ds) f)
+    → ((f : ℕ) → slice_index first f + length ds < 2 ^ 64) → (f : ℕ) → slice_index old f + 1 < 2 ^ 64
+added_room ds k first old low was room f =
+    let size = length-take-le k ds (omega arith) in
+    let most = among_at_most (take k ds) f in
+    let a = was f in
+    let b = room f in
+    omega arith
+
+pub sent_more : (rs : List EndRunnerValue) (k : ℕ) (r : EndRunnerValue) (old new : List ℕ) → k < length rs → r ≡ get_or rs k r
+    → ((f : ℕ) → slice_index old f ≡ sends_by (take k rs) f)
+    → ((f : ℕ) → slice_index new f ≡ slice_index old f + sends_among r.done f)
+    → (f : ℕ) → slice_index new f ≡ sends_by (take (k + 1) rs) f
+sent_more rs k r old new low at was adds f =
+    let more : take (k + 1) rs ≡ take k rs ++ r ∷ [] = take_more rs k r low ∙ ap (λ x. take k rs ++ x ∷ []) (sym at) in
+    let pushed = ap (λ (q : List EndRunnerValue). sends_by q f) more ∙ by_push (take k rs) r f in
+    let a = was f in
+    let b = adds f in
+    omega arith
+
+pub sent_room : (rs : List EndRunnerValue) (k : ℕ) (r : EndRunnerValue) (old : List ℕ) → length rs ≤ 8 → k < length rs
+    → r ≡ get_or rs k r → All (λ r. length r.done < 2 ^ 32) rs → ((f : ℕ) → slice_index old f ≡ sends_by (take k rs) f)
+    → (f : ℕ) → slice_index old f + length r.done < 2 ^ 64
+sent_room rs k r old most low at few was f =
+    let here : length r.done < 2 ^ 32 = subst (λ (x : EndRunnerValue). length x.done < 2 ^ 32) (sym at) (few k r low) in
+    let size : length (take k rs) ≡ k = length-take-le k rs (omega arith) in
+    let sum : sends_by (take k rs) f ≤ length (take k rs) * 2 ^ 32 = by_at_most (take k rs) (2 ^ 32) f
+    (λ j d lt. subst (λ (x : EndRunnerValue). length x.done < 2 ^ 32) (sym (get_or-take k rs j d (omega arith))) (few j d (omega arith))) in
+    let a = was f in
+    omega arith
 
 -- the sends of runners are the sum of those of their cores
 pub by_cores : (rs : List EndRunnerValue) (g : ℕ → ℕ) (n f : ℕ) → n ≤ length rs

@@ -5,7 +5,9 @@ ghost use Rattle.std.specs.Prelude.{◌≡◌, ◌≤◌, IfOk};
 use crate::authority::SeatAuthority;
 use async_ends::{Authority, EndAsk, EndOp, EndReply, EndSeat, EndTable, cross_threads};
 use core_kernel::{CoreSeat, Kernel};
-use spk_nums::{Call, CapId, Grant, Grants, Make, Memory, Reply, Setup, Value};
+use spk_nums::{
+    Call, CapId, FrameArg, FrameKind, Grant, Grants, Make, Memory, Reply, Setup, Value, in_limits,
+};
 use std::test::Fail;
 
 // A machine of one core and 32 frames.
@@ -80,6 +82,89 @@ fn a_core_sends_to_the_component_of_a_gate_and_receives_there(rt: HostRuntime) -
     ];
     assert!(rt; answers == wanted);
     assert_eq!(rt; end.made(), 5);
+    Ok(())
+}
+
+// Whether each of these calls is in its limits and is answered `ok`.
+fn are_made(kernel: &Kernel, seat: &mut CoreSeat, calls: &[Call]) -> bool
+    requires { seat.old.kernel ≡ kernel.now }
+    ensures { seat.new.kernel ≡ seat.old.kernel }
+{
+    let _made: Option<Make> = None;
+    for call in calls {
+        if !in_limits(call) {
+            return false;
+        }
+        let reply = kernel.call(seat, *call);
+        if !matches!(reply, Reply::Ok(_)) {
+            return false;
+        }
+    }
+    true
+}
+
+// Makes the component that is slot 21's in frame 8, with this liveness number.
+fn make_comp(live: u8) -> Call {
+    Call::Make {
+        what: Make::Comp {
+            table: CapId::new(1),
+            pages: CapId::new(2),
+            live,
+        },
+        range: CapId::new(0),
+        frame: FrameArg::new(8),
+        table: CapId::new(1),
+        slot: CapId::new(21),
+    }
+}
+
+fn retype_frame_8(k: FrameKind) -> Call {
+    Call::Retype {
+        r: CapId::new(0),
+        f: FrameArg::new(8),
+        k,
+    }
+}
+
+fn remove(slot: u16) -> Call {
+    Call::Remove {
+        t: CapId::new(1),
+        b: CapId::new(slot),
+    }
+}
+
+#[test]
+fn a_component_has_what_was_sent_to_the_one_before_it_in_its_frame(
+    rt: HostRuntime,
+) -> Result<(), Fail> {
+    let alloc = rt.alloc();
+    let (kernel, mut seats) = Kernel::boot(alloc, &setup()?)?;
+    let (table, mut ends) = EndTable::new(alloc, 512, 1)?;
+    let (Some(mut seat), Some(mut end)) = (seats.pop(), ends.pop()) else {
+        return Ok(());
+    };
+    let gate = Call::Gate {
+        c: CapId::new(21),
+        t: CapId::new(1),
+        b: CapId::new(22),
+    };
+    let first = [retype_frame_8(FrameKind::Kernel), make_comp(1), gate];
+    assert!(rt; are_made(&kernel, &mut seat, &first));
+    let mut who = SeatAuthority::new(&kernel, seat);
+    assert_eq!(rt; table.send(&mut end, &mut who, CapId::new(22)), EndReply::Sent);
+    let mut seat = who.seat();
+    let kill = Call::Kill { c: CapId::new(21) };
+    let second = [
+        kill,
+        remove(22),
+        remove(21),
+        retype_frame_8(FrameKind::Untyped),
+        retype_frame_8(FrameKind::Kernel),
+        make_comp(2),
+    ];
+    assert!(rt; are_made(&kernel, &mut seat, &second));
+    let mut who = SeatAuthority::new(&kernel, seat);
+    assert_eq!(rt; table.recv(&mut end, &mut who, CapId::new(21)), EndReply::Taken(1));
     Ok(())
 }
 

@@ -63,6 +63,8 @@ fn make_lists<R: Threads + Sync, G: Gate>(
     ensures listed { IfOk result (λ l. IfSome l (AreListed setup.now (map (λ v. v.items) lists.now))) }
     ensures free { IfOk result (λ l. G.is_free gate.now ≡ true → IsSome l) }
 {
+    // So the proof learns that there is a core.
+    let _cores = setup.cores();
     let (kernel, seats) = Kernel::boot(alloc, setup)?;
     let mut runners = runners_of(alloc, seats, lists)?;
     run_cores(rt, &kernel, &mut runners, gate);
@@ -96,13 +98,14 @@ fn end_runners<'a>(
     requires few_asks { All FewAsks asks.now }
     ensures { IfOk result (λ v. AreEndRunners seats.items ends.items (map (λ v. v.items) asks.now) v.items) }
 {
-    let mut ends = ends;
+    let mut rest = ends;
     let mut runners = Vec::with_capacity(alloc, seats.len())?;
     for seat in seats {
         let at = runners.len();
         let who = SeatAuthority::new(kernel, seat);
+        let end = rest.remove(0);
         let asked = Vec::from_slice(alloc, asks[at].as_slice())?;
-        let runner = EndRunner::new(alloc, who, ends.remove(0), asked, lists[at].len() as u32)?;
+        let runner = EndRunner::new(alloc, who, end, asked, lists[at].len() as u32)?;
         match runners.push(runner) {
             Ok(()) => {}
             Err(_) => return Err(Memory),
@@ -153,17 +156,26 @@ fn parts_of(alloc: Global, runners: Vec<EndRunner>) -> Result<Parts, AllocError>
 fn make_asks<R: Threads + Sync, G: Gate>(
     rt: &R,
     alloc: Global,
+    setup: &Setup,
     listed: Listed,
     lists: &[Vec<Call>],
     asks: &[Vec<EndAsk>],
     gate: &G,
-) -> Result<Option<EndsRan>, Memory> {
+) -> Result<Option<EndsRan>, Memory>
+    requires listed { AreListed setup.now (map (λ v. v.items) lists.now) listed }
+    requires one_each { length lists.now ≡ setup.now.cores }
+    requires one_asks_each { length asks.now ≡ setup.now.cores }
+    requires few { All FewCalls lists.now }
+    requires few_asks { All FewAsks asks.now }
+    ensures made { IfOk result (λ ran. IfSome ran (AreEnded setup.now (map (λ v. v.items) lists.now) (map (λ v. v.items) asks.now))) }
+    ensures free { IfOk result (λ ran. G.is_free gate.now ≡ true → IsSome ran) }
+{
     let Listed {
         kernel,
         seats,
         decisions,
     } = listed;
-    let (table, ends) = EndTable::new(alloc, MOST_FRAMES, asks.len() as u8)?;
+    let (table, ends) = EndTable::new(alloc, MOST_FRAMES, setup.cores())?;
     let mut runners = end_runners(alloc, &kernel, seats, ends, lists, asks)?;
     run_asks(rt, &kernel, &table, gate, &mut runners);
     if any_stopped(&runners) {
@@ -203,5 +215,5 @@ pub fn run_ends<R: Threads + Sync, G: Gate>(
     let Some(listed) = make_lists(rt, alloc, setup, lists, gate)? else {
         return Ok(None);
     };
-    make_asks(rt, alloc, listed, lists, asks, gate)
+    make_asks(rt, alloc, setup, listed, lists, asks, gate)
 }
