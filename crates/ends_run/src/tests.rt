@@ -20,7 +20,7 @@ fn setup() -> Result<Setup, Memory>
         sched: 0,
         quality: 1,
     });
-    match Setup::new(1, 32, grants, 9, 1) {
+    match Setup::new(1, 32, grants, 20, 1) {
         Some(setup) => Ok(setup),
         None => Err(Memory),
     }
