@@ -1,5 +1,5 @@
 pub mod Looks
 pub mod Runs
-pub mod Meets
+pub mod Telling
 pub mod Sends
 pub mod Ended

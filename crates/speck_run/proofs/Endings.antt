@@ -1,6 +1,8 @@
 -- Lists and endpoint calls that were made have the text of both histories.
-use Rattle.std.proofs.Common.{◌≡◌, ℕ, zero, suc, ◌+◌, ◌<◌, ◌++◌, List, [], length, map, get_or, All, refl, sym, ◌∙◌, ap, arith, append_assoc}
+use Rattle.std.proofs.Common.{◌≡◌, ℕ, zero, suc, ◌+◌, ◌<◌, ◌≤◌, ◌^◌, ◌++◌, List, [], length, map, get_or, All, refl, sym, ◌∙◌, ap, arith, append_assoc}
 use Rattle.std.specs.Prelude.{slice_index_or}
+use Rattle.std.specs.Global.{Vec}
+use Rattle.std.proofs.lemmas.List.{length-map, get_or-map}
 use Rattle.spk_nums.specs.Setting.{Setting}
 use Rattle.spk_nums.specs.declared.calls.Call.{Call}
 use Rattle.lone_kernel.specs.kernel_history.specs.Order.{list_of}
@@ -10,11 +12,13 @@ use Rattle.lone_kernel.specs.kernel_history.specs.Trace.{calls_of}
 use Rattle.async_ends.specs.declared.asks.EndAsk.{EndAsk}
 use Rattle.async_ends.specs.declared.asks.EndDone.{EndDone}
 use Rattle.async_ends.specs.Events.{taken_at}
+use Rattle.script_reader.specs.Readings.{AtMost}
+use Rattle.ends_reader.specs.Inputs.{FewAsks as FewOfInput}
 use Rattle.ends_text.specs.Lines.{done_lines, count_lines, end_lines}
 use Rattle.ends_text.proofs.Counted.{counted}
 use Rattle.ends_run.specs.declared.whole.EndsRan.{EndsRan}
 use Rattle.ends_run.specs.Ends.{EndsHistory}
-use Rattle.ends_run.specs.Whole.{AreEnded}
+use Rattle.ends_run.specs.Whole.{AreEnded, FewCalls, FewAsks}
 use Rattle.speck_run.specs.Ends.{EndsText}
 use Rattle.speck_run.specs.Written.{lines_of, core_lines}
 use Rattle.speck_run.proofs.ByCores.{lines_by_cores}
@@ -49,3 +53,26 @@ ended_text setup lists asks ran text e is =
           ∙ append_assoc (lines_below (λ c. reply_lines (calls_of h.first) (decisions_by h.first c)) setup.cores)
           (lines_below (λ c. done_lines c 1 (h.made c).done) setup.cores) (end_lines h.events 512);
     }
+
+-- lists of at most so many calls are short enough for endpoint calls after them
+pub few_calls : (n : ℕ) (lists : List (Vec Call)) → All (AtMost n) (map (λ v. v.items) lists) → n ≤ 4194304 → All FewCalls lists
+few_calls n lists most small k d h =
+    let size = length-map lists (λ (v : Vec Call). v.items) in
+    let few = most k [] (omega arith) in
+    let read = ap length (get_or-map (λ (v : Vec Call). v.items) lists k d [] h) in
+    omega arith
+
+pub few_asks : (n : ℕ) (asks : List (Vec EndAsk)) → All (FewOfInput n) (map (λ v. v.items) asks) → n ≤ 4194304 → All FewAsks asks
+few_asks n asks most small k d h =
+    let size = length-map asks (λ (v : Vec EndAsk). v.items) in
+    let few = most k [] (omega arith) in
+    let read = ap length (get_or-map (λ (v : Vec EndAsk). v.items) asks k d [] h) in
+    omega arith
+
+-- no core has made 2^32 endpoint calls
+pub few_each : (setup : Setting) (lists : List (List Call)) (asks : List (List EndAsk)) (ran : EndsRan) → AreEnded setup lists asks ran
+    → All (λ v. length v.items < 2 ^ 32) ran.done.items
+few_each setup lists asks ran e k d h =
+    let few = e.few k in
+    let read = ap length (get_or-map (λ (v : Vec EndDone). v.items) ran.done.items k d [] h) in
+    omega arith

@@ -50,6 +50,8 @@ pub fn make_ends<R: Threads + Sync, G: Gate>(
     ensures free { IfOk result (λ text. G.is_free gate.now ≡ true → IsSome text) }
 {
     let script = &input.script;
+    // So the proof learns that there are at most 8 cores.
+    let _cores = script.setup.cores();
     let Some(ran) = run_ends(rt, alloc, &script.setup, &script.lists, &input.asks, gate)? else {
         return Ok(None);
     };

@@ -1,6 +1,6 @@
 use Rattle.std.proofs.Common.{◌≡◌, ◌∙◌, ◌<◌, ◌≤◌, length, sym, ap, subst, arith}
 use Rattle.ends_run.specs.Meets.{HasGathered, Tells}
-use Rattle.ends_run.proofs.Meets.{gathered_none, gathered_more}
+use Rattle.ends_run.proofs.Telling.{gathered_none, gathered_more}
 use Rattle.ends_run.proofs.meets.gather.Goals as goal
 
 pub loop-core-init : goal.loop-core-init

@@ -1,5 +1,5 @@
 use Rattle.std.proofs.Common.{◌≡◌, ◌<◌, length, sym, subst, arith}
-use Rattle.ends_run.proofs.Meets.{have_met}
+use Rattle.ends_run.proofs.Telling.{have_met}
 use Rattle.ends_run.proofs.meets.meet_all.Goals as goal
 
 pub spread-requires-clause-some : goal.spread-requires-clause-some

@@ -1,6 +1,6 @@
 use Rattle.std.proofs.Common.{◌≡◌, ◌∙◌, ◌<◌, ◌≤◌, length, sym, ap, subst, arith}
 use Rattle.ends_run.specs.Meets.{HasSpread, Tells}
-use Rattle.ends_run.proofs.Meets.{spread_none, spread_more}
+use Rattle.ends_run.proofs.Telling.{spread_none, spread_more}
 use Rattle.ends_run.proofs.meets.spread.Goals as goal
 
 pub loop-core-init : goal.loop-core-init

@@ -2,7 +2,7 @@ use Rattle.std.proofs.Common.{◌≡◌, ◌∙◌, ◌×◌, length, refl, sym,
 use Rattle.std.specs.Prelude.{slice_get, Some}
 use Rattle.std.proofs.lemmas.Option.{slice_get_read}
 use Rattle.core_kernel.specs.Kernel.{CoreSeatValue}
-use Rattle.ends_run.proofs.Meets.{Seats, tells_one, still_of, unchanged}
+use Rattle.ends_run.proofs.Telling.{Seats, tells_one, still_of, unchanged}
 use Rattle.ends_run.proofs.meets.tell.Goals as goal
 
 pub note-note-requires : goal.note-note-requires
