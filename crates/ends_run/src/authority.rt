@@ -53,7 +53,7 @@ impl<'a> SeatAuthority<'a> {
 
     /// The seat itself.
     pub fn seat(self) -> CoreSeat
-        ensures { result ≡ self }
+        ensures { result ≡ self.entry }
     {
         let SeatAuthority { seat, .. } = self;
         seat

@@ -45,7 +45,7 @@ impl<'a> EndRunner<'a> {
     ) -> Result<EndRunner<'a>, Memory>
         requires few { length asks.items ≤ 4194304 }
         requires fit { listed + length asks.items < 2 ^ 32 }
-        ensures who { IfOk result (λ r. r.who ≡ who) }
+        ensures who { IfOk result (λ r. r.who ≡ who.entry) }
         ensures seat { IfOk result (λ r. r.seat ≡ seat) }
         ensures asks { IfOk result (λ r. r.asks ≡ asks.items) }
         ensures none { IfOk result (λ r. r.done ≡ []) }

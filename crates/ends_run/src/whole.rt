@@ -129,7 +129,7 @@ fn any_stopped(runners: &[EndRunner]) -> bool
 
 // The runners' seats and calls.
 fn parts_of(alloc: Global, runners: Vec<EndRunner>) -> Result<Parts, AllocError>
-    ensures { IfOk result (λ p. AreParts runners.items p.seats.items p.ends.items (map (λ v. v.items) p.done.items)) }
+    ensures { IfOk result (λ p. AreParts runners.entry.items p.seats.items p.ends.items (map (λ v. v.items) p.done.items)) }
 {
     let mut seats = Vec::with_capacity(alloc, runners.len())?;
     let mut ends = Vec::with_capacity(alloc, runners.len())?;
