@@ -11,7 +11,7 @@ ghost use Rattle.ends_run.specs.Runs.{AwaitsEnds, MakesAsks};
 use crate::runner::EndRunner;
 use async_ends::{EndDone, EndTable};
 use core_kernel::{Gate, Kernel};
-use spk_nums::Value;
+use spk_nums::{Reply, Value};
 use std::thread::{Threads, join_mut};
 
 // Room for the call is there, so this takes no memory.
@@ -20,7 +20,7 @@ fn keep(done: &mut Vec<EndDone>, one: EndDone)
     ensures items { done.new.items ≡ done.old.items ++ one ∷ [] }
     ensures room { vec_capacity done.old ≤ vec_capacity done.new }
 {
-    let _answered: Option<Value> = None;
+    let _answered: (Option<Reply>, Option<Value>) = (None, None);
     match done.push(one) {
         Ok(()) => {}
         Err(_) => unreachable!(),

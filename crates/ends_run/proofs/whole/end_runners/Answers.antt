@@ -19,11 +19,11 @@ loop-seat-preserved c =
     let i = c.loop-seat.invariant in
     let n : ℕ = length c.loop-seat.yielded in
     let asks = c.args.asks.now in
-    let list = c.index.result.now in
+    let list = c.index-asks-at.result in
     let place : c.len-at.result ≡ n = c.len-at.ensures ∙ c.loop-seat.runners.ok.0 ∙ i.count in
     let low : n < length asks = (let one_each = c.requires.one_asks_each in let lt = turn.0 in omega arith) in
     let seat = slice_get_read c.args.seats.items (length c.args.seats.items) n c.in-Some.seat refl turn.0 turn.1 in
-    let read : list ≡ get_or asks n list = c.index.is ∙ ap (λ (k : ℕ). get_or asks k list) place in
+    let read : list ≡ get_or asks n list = c.index-asks-at.is ∙ ap (λ (k : ℕ). get_or asks k list) place in
     let copied = c.in_ok-runner.ensures.asks ∙ c.in_ok-asked.ensures.items ∙ c.as_slice.ensures.value ∙ ap (λ v. v.items) read
     ∙ sym (get_or-map (λ v. v.items) asks n list [] low) in
     let more = length_push c.loop-seat.yielded c.in-Some.seat in

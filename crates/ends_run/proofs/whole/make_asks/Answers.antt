@@ -102,8 +102,8 @@ returns-clause-made g c =
     let some = c.cores.ensures.limits.some_core in
     let p = c.in_ok-Parts in
     let after = c.run_asks.new.runners.items in
-    let closed = c.in_ok-_closed._closed in
-    let end = subst (λ l. EndsAt c.args.listed.kernel l closed.words.items closed.ends.items) p.ensures.seats_are c.in_ok-_closed.ensures.ends in
+    let closed = c.in_ok-closed.closed in
+    let end = subst (λ l. EndsAt c.args.listed.kernel l closed.words.items closed.ends.items) p.ensures.seats_are c.in_ok-closed.ensures.ends in
     let counts = subst (λ l. tables.EndsAt t.table l c.in_ok-left.left.items) p.ensures.ends_are c.in_ok-left.ensures in
     let whole = subst (All (λ (r : EndRunnerValue). r.held ≡ false)) c.deref.ensures.value (c.any_stopped.ensures.none c.if-any_stopped.false) in
     ended c.args.setup.now (map (λ v. v.items) c.args.lists.now) c.args.listed c.requires.listed

@@ -48,7 +48,7 @@ meet_all-requires-clause-some g c =
     (map (λ v. v.items) c.args.lists.now) c.in_ok-runners.runners.items c.in_ok-runners.ensures
     (g.G.Gate.is_free c.args.gate.now) c.run_cores.new.runners.items c.run_cores.ensures in
     let count = ap length c.in_ok-seats.ensures ∙ back.count ∙ ap (λ s. s.cores) b.ensures.setup in
-    let some = c.cores-_cores.ensures.limits.some_core in
+    let some = c.cores-cores.ensures.limits.some_core in
     omega arith
 
 pub returns-clause-listed : goal.returns-clause-listed
@@ -60,7 +60,7 @@ returns-clause-listed g c =
     let one_each = length-map c.args.lists.now (λ v. v.items) ∙ c.requires.one_each ∙ ap (λ s. s.cores) (sym b.ensures.setup) in
     let met = subst (λ l. HaveMet l c.meet_all.new.seats.items) c.in_ok-seats.ensures c.meet_all.ensures.met in
     let cores = ap (λ s. s.cores) b.ensures.setup in
-    let some = c.cores-_cores.ensures.limits.some_core in
+    let some = c.cores-cores.ensures.limits.some_core in
     listed b.kernel b.seats.items b.ensures.seats b.ensures.fresh lists c.in_ok-runners.runners.items c.in_ok-runners.ensures
     (g.G.Gate.is_free c.args.gate.now) after c.run_cores.ensures whole c.meet_all.new.seats.items met c.meet_all.ensures.seats (omega arith)
     c.args.setup.now record { kernel = b.kernel; seats = c.meet_all.new.seats; decisions = c.in_ok-decisions.decisions }
