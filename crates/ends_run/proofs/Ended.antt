@@ -378,6 +378,7 @@ module _ (setup : Setting) (lists : List (List Call)) (l : Listed) (is : AreList
       dones = map (λ r. r.done) after
 
       done_by : (c : ℕ) (at : (c < setup.cores) ⊎ (setup.cores ≤ c)) → slice_index_or dones c [] ≡ (made_by c at).done
+      unfolding made_by end_lane made_here nothing_past
       done_by c (inl h) =
           let w = end_lane c h in
           get_or_from_slice_get dones c w.now.done [] (slice_get-map (λ (r : EndRunnerValue). r.done) after c
@@ -385,6 +386,7 @@ module _ (setup : Setting) (lists : List (List Call)) (l : Listed) (is : AreList
       done_by c (inr past) = get_or_past dones c [] (let n = length-map after (λ (r : EndRunnerValue). r.done) in let m = count in omega arith)
 
       few_by : (c : ℕ) → All (FewOf 4194304) asks → (at : (c < setup.cores) ⊎ (setup.cores ≤ c)) → length (made_by c at).done < 2 ^ 32
+      unfolding made_by end_lane made_here nothing_past
       few_by c few (inl h) =
           let w = end_lane c h in
           let within = w.makes.within in

@@ -9,7 +9,7 @@ ghost use Rattle.std.specs.List.{AllZip};
 ghost use Rattle.ends_run.specs.Runs.{AwaitsEnds, MakesAsks};
 
 use crate::runner::EndRunner;
-use async_ends::{EndDone, EndTable};
+use async_ends::{EndAsk, EndDone, EndOp, EndReply, EndTable};
 use core_kernel::{Gate, Kernel};
 use spk_nums::{Reply, Value};
 use std::thread::{Threads, join_mut};
@@ -20,7 +20,8 @@ fn keep(done: &mut Vec<EndDone>, one: EndDone)
     ensures items { done.new.items ≡ done.old.items ++ one ∷ [] }
     ensures room { vec_capacity done.old ≤ vec_capacity done.new }
 {
-    let _answered: (Option<Reply>, Option<Value>) = (None, None);
+    let _asked: (Option<EndAsk>, Option<EndOp>) = (None, None);
+    let _answered: (Option<EndReply>, Option<Reply>, Option<Value>) = (None, None, None);
     match done.push(one) {
         Ok(()) => {}
         Err(_) => unreachable!(),

@@ -182,7 +182,8 @@ fn make_asks<R: Threads + Sync, G: Gate>(
         return Ok(None);
     }
     let sent = sent_by(alloc, &runners)?;
-    let Parts { seats, ends, done } = parts_of(alloc, runners)?;
+    let parts = parts_of(alloc, runners)?;
+    let Parts { seats, ends, done } = parts;
     let left = table.close(alloc, ends)?;
     let _closed = kernel.finish(alloc, seats)?;
     Ok(Some(EndsRan {

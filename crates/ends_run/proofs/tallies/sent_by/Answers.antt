@@ -17,7 +17,7 @@ pub add_sends-requires-clause-room : goal.add_sends-requires-clause-room
 add_sends-requires-clause-room c f =
     let room = sent_room c.args.runners.now c.loop-runner.runner-index c.runner-item.result c.loop-runner.sent.items c.requires.some
     c.loop-runner-test.true c.runner-item.is c.requires.few c.loop-runner.invariant.sent f in
-    let size = ap length c.as_slice.ensures.value in
+    let size = ap length (c.as_slice.ensures.value ∙ ap (λ r. r.done) c.runner.view_is) in
     omega arith
 
 pub loop-runner-preserved : goal.loop-runner-preserved
@@ -25,5 +25,6 @@ loop-runner-preserved c = record {
   size = c.add_sends.ensures.size;
   sent = sent_more c.args.runners.now c.loop-runner.runner-index c.runner-item.result c.loop-runner.sent.items c.add_sends.new.sent.items
       c.loop-runner-test.true c.runner-item.is c.loop-runner.invariant.sent
-      (λ f. c.add_sends.ensures.adds f ∙ ap (λ l. slice_index c.loop-runner.sent.items f + sends_among l f) c.as_slice.ensures.value);
+      (λ f. c.add_sends.ensures.adds f ∙ ap (λ l. slice_index c.loop-runner.sent.items f + sends_among l f)
+      (c.as_slice.ensures.value ∙ ap (λ r. r.done) c.runner.view_is));
 }

@@ -33,7 +33,7 @@ loop-seat-preserved c =
     let inside : n < length c.args.ends.items = (let one_each = c.requires.one_end_each in let lt = turn.0 in omega arith) in
     let seat_there = slice_get_read c.args.ends.items (length c.args.ends.items) n end refl inside here in
     record {
-      rest = c.remove-end.ensures.by_index.1.1 ∙ ap (drop 1) i.rest ∙ drop-drop 1 n c.args.ends.items
+      rest = c.remove-end.ensures.by_index.2 ∙ ap (drop 1) i.rest ∙ drop-drop 1 n c.args.ends.items
           ∙ ap (λ (k : ℕ). drop k c.args.ends.items) (sym more);
       count = ap length c.in-Ok.ensures.items ∙ length_push c.loop-seat.runners.items c.in_ok-runner.runner ∙ ap (λ (m : ℕ). m + 1) i.count
           ∙ sym more;

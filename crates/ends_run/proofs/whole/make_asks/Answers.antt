@@ -76,7 +76,7 @@ close-requires g c =
     let t = c.in_ok-table in
     let frames = t.ensures.frames in
     let some = c.cores.ensures.limits.some_core in
-    subst (tables.AreAllSeats t.table) (sym c.in_ok-Parts.ensures.ends_are)
+    subst (tables.AreAllSeats t.table) (sym c.in_ok-parts.ensures.ends_are)
     (ends_back c.args.setup.now (map (λ v. v.items) c.args.lists.now) c.args.listed c.requires.listed
     (map (λ v. v.items) c.args.asks.now) t.table t.ends.items t.ensures.seats t.ensures.fresh (t.ensures.cores ∙ c.cores.ensures.value)
     (omega arith) (length-map c.args.asks.now (λ v. v.items) ∙ c.requires.one_asks_each) (omega arith)
@@ -88,7 +88,7 @@ finish-requires g c =
     let t = c.in_ok-table in
     let frames = t.ensures.frames in
     let some = c.cores.ensures.limits.some_core in
-    subst (AreAllSeats c.args.listed.kernel) (sym c.in_ok-Parts.ensures.seats_are)
+    subst (AreAllSeats c.args.listed.kernel) (sym c.in_ok-parts.ensures.seats_are)
     (who_back c.args.setup.now (map (λ v. v.items) c.args.lists.now) c.args.listed c.requires.listed
     (map (λ v. v.items) c.args.asks.now) t.table t.ends.items t.ensures.seats t.ensures.fresh (t.ensures.cores ∙ c.cores.ensures.value)
     (omega arith) (length-map c.args.asks.now (λ v. v.items) ∙ c.requires.one_asks_each) (omega arith)
@@ -100,10 +100,10 @@ returns-clause-made g c =
     let t = c.in_ok-table in
     let frames = t.ensures.frames in
     let some = c.cores.ensures.limits.some_core in
-    let p = c.in_ok-Parts in
+    let p = c.in_ok-parts in
     let after = c.run_asks.new.runners.items in
-    let closed = c.in_ok-closed.closed in
-    let end = subst (λ l. EndsAt c.args.listed.kernel l closed.words.items closed.ends.items) p.ensures.seats_are c.in_ok-closed.ensures.ends in
+    let closed = c.in_ok-_closed._closed in
+    let end = subst (λ l. EndsAt c.args.listed.kernel l closed.words.items closed.ends.items) p.ensures.seats_are c.in_ok-_closed.ensures.ends in
     let counts = subst (λ l. tables.EndsAt t.table l c.in_ok-left.left.items) p.ensures.ends_are c.in_ok-left.ensures in
     let whole = subst (All (λ (r : EndRunnerValue). r.held ≡ false)) c.deref.ensures.value (c.any_stopped.ensures.none c.if-any_stopped.false) in
     ended c.args.setup.now (map (λ v. v.items) c.args.lists.now) c.args.listed c.requires.listed
@@ -112,6 +112,6 @@ returns-clause-made g c =
     c.in_ok-runners.runners.items c.in_ok-runners.ensures
     (g.G.Gate.is_free c.args.gate.now) after c.run_asks.ensures
     closed.words.items closed.ends.items end c.in_ok-left.left.items counts whole
-    record { decisions = c.args.listed.decisions; done = p.done; sent = c.in_ok-sent.sent; left = c.in_ok-left.left }
+    record { decisions = c.args.listed.decisions; done = p.parts.done; sent = c.in_ok-sent.sent; left = c.in_ok-left.left }
     (All-map (FewOf 4194304) (λ v. v.items) c.args.asks.now c.requires.few_asks) refl p.ensures.done_are
     (λ f. c.in_ok-sent.ensures.sent f ∙ ap (λ l. sends_by l f) c.deref-2.ensures.value) c.in_ok-sent.ensures.size refl t.ensures.frames
