@@ -111,11 +111,17 @@ fn usable_in(place: Place, waits: bool) -> Option<Cap>
     }
 }
 
-/// What a core may use at a slot: what stands there; and what was removed, while the core waits for it.
+/// What a core may use at a slot: what stands there; and what was removed, while the core waits for it. Only what was removed has
+/// its grace period read.
 pub fn usable(k: &SeqKernel, core: CoreNo, at: Slot) -> Option<Cap>
     ensures { result ≡ usable (state_of k.now) core at }
 {
-    usable_in(place_at(k, at), waits_at(k, core, at))
+    let place = place_at(k, at);
+    match place {
+        Place::Free => None,
+        Place::Holds(cap) => Some(cap),
+        Place::Quiescing(_) => usable_in(place, waits_at(k, core, at)),
+    }
 }
 
 /// The leaf to which a capability links.

@@ -1,8 +1,11 @@
+pub mod Lists
 pub mod Same
 pub mod Counting
 pub mod StackLemmas
 pub mod MapLemmas
 pub mod SetLemmas
 pub mod StartLemmas
+pub mod CountLemmas
+pub mod SetterLemmas
 pub mod TimeLemmas
 pub mod RankLemmas

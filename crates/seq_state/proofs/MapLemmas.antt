@@ -18,7 +18,7 @@ use Rattle.seq_state.specs.Maps.{number_or_unused, core_or_none, period_or_none,
 use Rattle.seq_state.specs.Representation.{with_grace_of}
 
 -- A map is another with a value at one key.
-pub record IsWritten {X : Type 0} (old new : List (ℕ × X)) (k : ℕ) (x : X) : Type 0 where
+pub record IsWritten {X : Type 0} (old new : List X) (k : ℕ) (x : X) : Type 0 where
   pub here : at new k ≡ Some x
   pub others : (q : ℕ) → q ≢ k → at new q ≡ at old q
 
@@ -35,13 +35,13 @@ or_default part d same (Some x) = refl
 
 -- ---- places
 
-pub at_place_is : {X : Type 0} (es : List (ℕ × X)) (f i k : ℕ) → i < 64 → k ≡ 64 * f + i → at_place es f i ≡ at es k
+pub at_place_is : {X : Type 0} (es : List X) (f i k : ℕ) → i < 64 → k ≡ 64 * f + i → at_place es f i ≡ at es k
 at_place_is es f i k small is = ap (λ b. if b then at es (64 * f + i) else None) (lt-ltb i 64 small) ∙ ap (at es) (sym is)
 
-place_at_key : {X : Type 0} (es : List (ℕ × X)) (f i k : ℕ) (x : X) → i < 64 → k ≡ 64 * f + i → at es k ≡ Some x → at_place es f i ≡ Some x
+place_at_key : {X : Type 0} (es : List X) (f i k : ℕ) (x : X) → i < 64 → k ≡ 64 * f + i → at es k ≡ Some x → at_place es f i ≡ Some x
 place_at_key es f i k x small is has = at_place_is es f i k small is ∙ has
 
-pub place_apart : {X : Type 0} (old new : List (ℕ × X)) (f i k : ℕ) (x : X) → i < 64 → k ≡ 64 * f + i → IsWritten old new k x
+pub place_apart : {X : Type 0} (old new : List X) (f i k : ℕ) (x : X) → i < 64 → k ≡ 64 * f + i → IsWritten old new k x
     → (g j : ℕ) → (g ≡ f → j ≡ i → ⊥) → at_place new g j ≡ at_place old g j
 place_apart old new f i k x small is w g j apart = elim (cases_lt j 64) [
   | inl lt ↦
@@ -60,7 +60,7 @@ unfolding state_of
 place_reads t f i k d small is free = or_default place_or_free d free (at t.places k)
     ∙ sym (ap place_or_free (at_place_is t.places f i k small is))
 
-pub places_written : (t : Maps) (es : List (ℕ × Place)) (f i k : ℕ) (p : Place) → i < 64 → k ≡ 64 * f + i → IsWritten t.places es k p
+pub places_written : (t : Maps) (es : List Place) (f i k : ℕ) (p : Place) → i < 64 → k ≡ 64 * f + i → IsWritten t.places es k p
     → state_of (record t { places = es }) ≡ with_place (state_of t) f i (place_held p)
 unfolding state_of
 places_written t es f i k p small is w = λ j. record {
@@ -99,14 +99,14 @@ unfolding state_of
 frame_reads t f k o is found = ap frame_or_untyped found ∙ ap (λ q. frame_or_untyped (at t.frames q)) is
 
 -- What a map of parts gives, with one part written.
-pub put_written : {X A : Type 0} (part : Option X → A) (old new : List (ℕ × X)) (f k : ℕ) (x : X) → k ≡ f → IsWritten old new k x
+pub put_written : {X A : Type 0} (part : Option X → A) (old new : List X) (f k : ℕ) (x : X) → k ≡ f → IsWritten old new k x
     → (q : ℕ) → part (at new q) ≡ put (λ g. part (at old g)) f (part (Some x)) q
 put_written part old new f k x is w q = elim (cases_eq q f) [
   | inl e ↦ ap part (ap (at new) (e ∙ sym is) ∙ w.here) ∙ sym (put_same (λ g. part (at old g)) f (part (Some x)) q e)
   | inr ne ↦ ap part (w.others q (λ e. ne (e ∙ is))) ∙ sym (put_other (λ g. part (at old g)) f (part (Some x)) q ne)
 ]
 
-pub frames_written : (t : Maps) (es : List (ℕ × Frame)) (f k : ℕ) (x : Frame) → k ≡ f → IsWritten t.frames es k x
+pub frames_written : (t : Maps) (es : List Frame) (f k : ℕ) (x : Frame) → k ≡ f → IsWritten t.frames es k x
     → state_of (record t { frames = es }) ≡ with_frame (state_of t) f (frame_of x)
 unfolding state_of
 frames_written t es f k x is w = λ j. record {
@@ -123,7 +123,7 @@ pub number_reads : (t : Maps) (l k : ℕ) (d : Liveness) → k ≡ l → number_
 unfolding state_of
 number_reads t l k d is unused = or_default number_or_unused d unused (at t.numbers k) ∙ ap (λ q. number_or_unused (at t.numbers q)) is
 
-pub numbers_written : (t : Maps) (es : List (ℕ × Liveness)) (l k : ℕ) (x : Liveness) → k ≡ l → IsWritten t.numbers es k x
+pub numbers_written : (t : Maps) (es : List Liveness) (l k : ℕ) (x : Liveness) → k ≡ l → IsWritten t.numbers es k x
     → state_of (record t { numbers = es }) ≡ with_number (state_of t) l (number_of x)
 unfolding state_of
 numbers_written t es l k x is w = λ j. record {
@@ -145,14 +145,14 @@ unfolding state_of
 core_reads t c k x is has = sym (ap core_or_none (ap (at t.cores) (sym is) ∙ has))
 
 -- A core that is in a call where it was leaves each core so.
-inside_written : (t : Maps) (es : List (ℕ × Core)) (c k : ℕ) (x : Core) → k ≡ c → IsWritten t.cores es k x
+inside_written : (t : Maps) (es : List Core) (c k : ℕ) (x : Core) → k ≡ c → IsWritten t.cores es k x
     → x.inside ≡ is_inside t c → (d : ℕ) → (core_or_none (at es d)).inside ≡ is_inside t d
 inside_written t es c k x is w same d = elim (cases_eq d c) [
   | inl e ↦ ap (λ (o : Option Core). (core_or_none o).inside) (ap (at es) (e ∙ sym is) ∙ w.here) ∙ same ∙ ap (is_inside t) (sym e)
   | inr ne ↦ ap (λ (o : Option Core). (core_or_none o).inside) (w.others d (λ e. ne (e ∙ is)))
 ]
 
-pub cores_written : (t : Maps) (es : List (ℕ × Core)) (c k : ℕ) (x : Core) → k ≡ c → IsWritten t.cores es k x
+pub cores_written : (t : Maps) (es : List Core) (c k : ℕ) (x : Core) → k ≡ c → IsWritten t.cores es k x
     → x.inside ≡ is_inside t c → state_of (record t { cores = es }) ≡ with_core (state_of t) c (core_of x)
 unfolding state_of
 cores_written t es c k x is w same = λ j. record {
@@ -187,7 +187,7 @@ pub number_period_reads : (t : Maps) (f k : ℕ) (d : Period) → k ≡ f → d 
     → unwrap_or (at t.number_graces k) d ≡ period_of t (state.NumberOf f)
 number_period_reads t f k d is none = period_or (at t.number_graces k) d none ∙ ap (λ q. period_or_none (at t.number_graces q)) is
 
-pub place_graces_written : (t : Maps) (es : List (ℕ × Period)) (f i k : ℕ) (g : Period)
+pub place_graces_written : (t : Maps) (es : List Period) (f i k : ℕ) (g : Period)
     → i < 64 → k ≡ 64 * f + i → IsWritten t.place_graces es k g
     → state_of (record t { place_graces = es }) ≡ with_grace_of (state_of t) (state.PlaceOf f i) (grace_from t g)
 unfolding state_of
@@ -220,7 +220,7 @@ place_graces_written t es f i k g small is w = λ j. record {
     point (state.FrameOf h) = refl
     point (state.NumberOf l) = refl
 
-pub frame_graces_written : (t : Maps) (es : List (ℕ × Period)) (f k : ℕ) (g : Period) → k ≡ f → IsWritten t.frame_graces es k g
+pub frame_graces_written : (t : Maps) (es : List Period) (f k : ℕ) (g : Period) → k ≡ f → IsWritten t.frame_graces es k g
     → state_of (record t { frame_graces = es }) ≡ with_grace_of (state_of t) (state.FrameOf f) (grace_from t g)
 unfolding state_of
 frame_graces_written t es f k g is w = λ j. record {
@@ -238,7 +238,7 @@ frame_graces_written t es f k g is w = λ j. record {
     point (state.FrameOf h) = put_written (graced t) t.frame_graces es f k g is w h
     point (state.NumberOf l) = refl
 
-pub number_graces_written : (t : Maps) (es : List (ℕ × Period)) (l k : ℕ) (g : Period) → k ≡ l → IsWritten t.number_graces es k g
+pub number_graces_written : (t : Maps) (es : List Period) (l k : ℕ) (g : Period) → k ≡ l → IsWritten t.number_graces es k g
     → state_of (record t { number_graces = es }) ≡ with_grace_of (state_of t) (state.NumberOf l) (grace_from t g)
 unfolding state_of
 number_graces_written t es l k g is w = λ j. record {

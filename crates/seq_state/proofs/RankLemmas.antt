@@ -10,6 +10,7 @@ use Rattle.seq_state.specs.Times.{times_at, TimesFit, before, rank, ranked, rank
 use Rattle.seq_state.specs.Maps.{Maps, at, HasBegun, IsWhole, state_of, period_or_none, is_inside, grace_from, period_of}
 use Rattle.seq_state.specs.Passing.{Becomes}
 use Rattle.seq_state.specs.Representation.{IsThing, SameGrace, SameState}
+use Rattle.seq_state.proofs.CountLemmas.{grace_counts}
 use Rattle.seq_state.proofs.MapLemmas.{at_place_is}
 
 -- ---- sums
@@ -128,14 +129,14 @@ rank_keeps ts c v e below less = elim (cases_lt v e) [
 -- ---- the maps
 
 -- What the ranks are of.
-pub record CountedAnew (t : Maps) (ps fs ns : List (ℕ × Period)) (ts : List Times) : Type 0 where
+pub record CountedAnew (t : Maps) (ps fs ns : List Period) (ts : List Times) : Type 0 where
   pub places : (k : ℕ) → k < 64 * t.limits.frames → Becomes (ranked_period t.times) (at t.place_graces k) (at ps k)
   pub frames : (k : ℕ) → k < t.limits.frames → Becomes (ranked_period t.times) (at t.frame_graces k) (at fs k)
   pub numbers : (k : ℕ) → k < 64 → Becomes (ranked_period t.times) (at t.number_graces k) (at ns k)
   pub times : (c : ℕ) → c < 8 → times_at ts c ≡ ranked t.times (times_at t.times c)
 
 -- The maps with each time at its rank.
-abbrev pub anew : Maps → List (ℕ × Period) → List (ℕ × Period) → List (ℕ × Period) → List Times → Maps
+abbrev pub anew : Maps → List Period → List Period → List Period → List Times → Maps
 anew t ps fs ns ts = record t { place_graces = ps; frame_graces = fs; number_graces = ns; times = ts; clock = 32 }
 
 became : (ts : List Times) (P : Period → Type 0) (old new : Option Period) → IsSomeAnd old P → Becomes (ranked_period ts) old new
@@ -144,7 +145,7 @@ became ts P None new h b = absurd h
 became ts P (Some p) new h b = ap period_or_none b
 
 -- Each grace period begins at its rank.
-all_became : (t : Maps) (ps fs ns : List (ℕ × Period)) (ts : List Times) → IsWhole t → CountedAnew t ps fs ns ts
+all_became : (t : Maps) (ps fs ns : List Period) (ts : List Times) → IsWhole t → CountedAnew t ps fs ns ts
     → (x : Thing) → IsThing t.limits x → period_of (anew t ps fs ns ts) x ≡ ranked_period t.times (period_of t x)
 all_became t ps fs ns ts whole a (PlaceOf f i) h =
     let f_below = h.0 in
@@ -156,7 +157,7 @@ all_became t ps fs ns ts whole a (PlaceOf f i) h =
 all_became t ps fs ns ts whole a (FrameOf f) h = became t.times _ (at t.frame_graces f) (at fs f) (whole.frame_graces f h) (a.frames f h)
 all_became t ps fs ns ts whole a (NumberOf l) h = became t.times _ (at t.number_graces l) (at ns l) (whole.number_graces l h) (a.numbers l h)
 
-pub counted_anew : (t : Maps) (ps fs ns : List (ℕ × Period)) (ts : List Times) → IsWhole t → CountedAnew t ps fs ns ts
+pub counted_anew : (t : Maps) (ps fs ns : List Period) (ts : List Times) → IsWhole t → CountedAnew t ps fs ns ts
     → SameState (state_of (anew t ps fs ns ts)) (state_of t)
 unfolding state_of
 counted_anew t ps fs ns ts whole a = record {
@@ -195,7 +196,7 @@ begins_by : (ts : List Times) (n k : ℕ) (old new : Option Period) → IsSomeAn
 begins_by ts n k None new h b = absurd h
 begins_by ts n k (Some p) new h b = subst (λ o. IsSomeAnd o (HasBegun 32 k)) (sym b) (rank_most ts p.began)
 
-pub whole_anew : (t : Maps) (ps fs ns : List (ℕ × Period)) (ts : List Times) → IsWhole t → CountedAnew t ps fs ns ts → length ts ≡ 8
+pub whole_anew : (t : Maps) (ps fs ns : List Period) (ts : List Times) → IsWhole t → CountedAnew t ps fs ns ts → length ts ≡ 8
     → IsWhole (anew t ps fs ns ts)
 whole_anew t ps fs ns ts whole a all = record {
   fits = whole.fits;
@@ -213,4 +214,6 @@ whole_anew t ps fs ns ts whole a all = record {
     passed = rank_grows t.times (times_at t.times c).passed (times_at t.times c).entered (whole.times c below).passed;
     flush_known = rank_grows t.times (times_at t.times c).flush_known (times_at t.times c).flushed (whole.times c below).flush_known;
   });
+  all_counted = whole.all_counted;
+  counts = grace_counts t (anew t ps fs ns ts) (state_of t).grace whole refl (counted_anew t ps fs ns ts whole a);
 }

@@ -1,8 +1,9 @@
 -- What a core does by the clock is that change of all grace periods, for all that the machine has.
 use Rattle.std.proofs.Common.{◌≡◌, ◌≢◌, inl, inr, ℕ, ◌+◌, ◌*◌, ◌<◌, ◌≤◌, Bool, true, false, ◌&&◌, ◌==◌, nat_lt}
-use Rattle.std.proofs.Common.{if◌then◌else◌, refl, sym, ◌∙◌, ap, subst, arith, List, [], length, set, get_or, Option, Some, None, IsSomeAnd}
+use Rattle.std.proofs.Common.{if◌then◌else◌, refl, sym, ◌∙◌, ap, subst, arith, List, [], length, set, get_or, Option, Some, None}
+use Rattle.std.proofs.Common.{IsSome, IsSomeAnd}
 use Rattle.std.proofs.Common.{get_or-set_same}
-use Rattle.std.proofs.lemmas.List.{get_or-set_other}
+use Rattle.std.proofs.lemmas.List.{get_or-set_other, length-set}
 use Rattle.std.proofs.lemmas.Bool.{cases_eq, cases_lt, eq-eqb, ne_eqb, lt-ltb, le-ltb}
 use Rattle.kernel_rules.specs.State.{Grace, Thing, PlaceOf, FrameOf, NumberOf, State, put, with_core, with_grace}
 use Rattle.kernel_rules.specs.State as state
@@ -12,38 +13,41 @@ use Rattle.seq_state.specs.declared.parts.Core.{Core}
 use Rattle.seq_state.specs.declared.times.Times.{Times}
 use Rattle.seq_state.specs.declared.times.Period.{Period}
 use Rattle.seq_state.specs.Parts.{core_of}
-use Rattle.seq_state.specs.Times.{no_times, no_period, times_at, enters, returns, flushes}
-use Rattle.seq_state.specs.Maps.{Maps, at, IsWhole, state_of, core_or_none, period_or_none, is_inside, grace_from, period_of}
+use Rattle.seq_state.specs.Times.{no_times, no_period, times_at, TimesFit, enters, returns, flushes}
+use Rattle.seq_state.specs.Maps.{Maps, at, count_at, HasKeys, HasAll, HasBegun, IsWhole, state_of, core_or_none, period_or_none}
+use Rattle.seq_state.specs.Maps.{is_inside, grace_from, period_of}
 use Rattle.seq_state.specs.Passing.{AreBefore, grace_begun}
 use Rattle.seq_state.specs.Representation.{IsThing, SameGrace, SameState, with_grace_of}
 use Rattle.kernel_rules.specs.Start.{no_grace}
 use Rattle.seq_state.proofs.Same.{same_by, same_grace_by, same_then, same_grace_of}
+use Rattle.kernel_rules.specs.References.{refs}
+use Rattle.seq_state.proofs.CountLemmas.{core_counts, grace_counts}
 use Rattle.seq_state.proofs.MapLemmas.{IsWritten, at_place_is, put_written, is_inside_of}
 
 -- The maps with other cores and other times.
-abbrev pub after : Maps → List (ℕ × Core) → List Times → Maps
+abbrev pub after : Maps → List Core → List Times → Maps
 after t es ts = record t { cores = es; times = ts }
 
 -- Core c and its times are written.
-pub record Acts (t : Maps) (es : List (ℕ × Core)) (ts : List Times) (c : ℕ) (y : Core) (z : Times) : Type 0 where
+pub record Acts (t : Maps) (es : List Core) (ts : List Times) (c : ℕ) (y : Core) (z : Times) : Type 0 where
   pub core : IsWritten t.cores es c y
   pub times : ts ≡ set t.times c z
   pub within : c < length t.times
 
-inside_here : (t : Maps) (es : List (ℕ × Core)) (ts : List Times) (c : ℕ) (y : Core) (z : Times) → Acts t es ts c y z
+inside_here : (t : Maps) (es : List Core) (ts : List Times) (c : ℕ) (y : Core) (z : Times) → Acts t es ts c y z
     → (d : ℕ) → d ≡ c → is_inside (after t es ts) d ≡ y.inside
 inside_here t es ts c y z a d e = ap (λ (o : Option Core). (core_or_none o).inside) (ap (at es) e ∙ a.core.here)
 
-inside_apart : (t : Maps) (es : List (ℕ × Core)) (ts : List Times) (c : ℕ) (y : Core) (z : Times) → Acts t es ts c y z
+inside_apart : (t : Maps) (es : List Core) (ts : List Times) (c : ℕ) (y : Core) (z : Times) → Acts t es ts c y z
     → (d : ℕ) → d ≢ c → is_inside (after t es ts) d ≡ is_inside t d
 inside_apart t es ts c y z a d ne = ap (λ (o : Option Core). (core_or_none o).inside) (a.core.others d ne)
 
-times_here : (t : Maps) (es : List (ℕ × Core)) (ts : List Times) (c : ℕ) (y : Core) (z : Times) → Acts t es ts c y z
+times_here : (t : Maps) (es : List Core) (ts : List Times) (c : ℕ) (y : Core) (z : Times) → Acts t es ts c y z
     → (d : ℕ) → d ≡ c → times_at ts d ≡ z
 times_here t es ts c y z a d e = ap (λ q. times_at q d) a.times ∙ ap (λ i. get_or (set t.times c z) i no_times) e
     ∙ get_or-set_same t.times c z no_times a.within
 
-times_apart : (t : Maps) (es : List (ℕ × Core)) (ts : List Times) (c : ℕ) (y : Core) (z : Times) → Acts t es ts c y z
+times_apart : (t : Maps) (es : List Core) (ts : List Times) (c : ℕ) (y : Core) (z : Times) → Acts t es ts c y z
     → (d : ℕ) → d ≢ c → times_at ts d ≡ times_at t.times d
 times_apart t es ts c y z a d ne = ap (λ q. times_at q d) a.times ∙ get_or-set_other t.times c d z no_times ne
 
@@ -92,7 +96,7 @@ none_is t n = record {
 }
 
 -- A change of one core and of all grace periods.
-changed_by : (t : Maps) (es : List (ℕ × Core)) (ts : List Times) (c : ℕ) (y : Core) (z : Times) (g : Grace → Grace) → IsWhole t
+changed_by : (t : Maps) (es : List Core) (ts : List Times) (c : ℕ) (y : Core) (z : Times) (g : Grace → Grace) → IsWhole t
     → Acts t es ts c y z
     → ((p : Period) → p.began ≤ t.clock → SameGrace t.limits.cores (grace_from (after t es ts) p) (g (grace_from t p)))
     → SameState (state_of (after t es ts)) (with_grace (with_core (state_of t) c (core_of y)) (λ x. g ((state_of t).grace x)))
@@ -127,7 +131,7 @@ enter_keeps : (b : Bool) (clock : ℕ) (x : Times) → ((enters b clock x).passe
 enter_keeps true clock x = (refl, refl, refl)
 enter_keeps false clock x = (refl, refl, refl)
 
-pub enter_is : (t : Maps) (es : List (ℕ × Core)) (ts : List Times) (c : ℕ) (y : Core) → IsWhole t
+pub enter_is : (t : Maps) (es : List Core) (ts : List Times) (c : ℕ) (y : Core) → IsWhole t
     → Acts t es ts c y (enters (is_inside t c) t.clock (times_at t.times c)) → y.inside ≡ true
     → SameState (state_of (after t es ts)) (with_core (state_of t) c (core_of y))
 enter_is t es ts c y whole a in_call = changed_by t es ts c y z (λ g. g) whole a (λ p begun. record {
@@ -179,7 +183,7 @@ return_flushes : (b : Bool) (e : ℕ) (x : Times) (f : ℕ → Bool) (c d : ℕ)
 return_flushes true e x f c d is order same = chosen_here f c d x.flush_known x.flushed e is order same
 return_flushes false e x f c d is order same = sym (put_same f c false d is)
 
-pub leave_is : (t : Maps) (es : List (ℕ × Core)) (ts : List Times) (c : ℕ) (y : Core) → IsWhole t → c < 8
+pub leave_is : (t : Maps) (es : List Core) (ts : List Times) (c : ℕ) (y : Core) → IsWhole t → c < 8
     → Acts t es ts c y (returns (is_inside t c) t.clock (times_at t.times c)) → y.inside ≡ false
     → SameState (state_of (after t es ts)) (with_grace (with_core (state_of t) c (core_of y)) (λ x. passed c ((state_of t).grace x)))
 leave_is t es ts c y whole below a out = changed_by t es ts c y z (passed c) whole a (λ p begun. record {
@@ -219,7 +223,7 @@ flush_clears : (b : Bool) (clock e : ℕ) → e ≤ clock → (b && nat_lt clock
 flush_clears true clock e le = le-ltb clock e le
 flush_clears false clock e le = refl
 
-pub flush_is : (t : Maps) (es : List (ℕ × Core)) (ts : List Times) (c : ℕ) (y : Core) → IsWhole t
+pub flush_is : (t : Maps) (es : List Core) (ts : List Times) (c : ℕ) (y : Core) → IsWhole t
     → Acts t es ts c y (flushes t.clock (times_at t.times c)) → y.inside ≡ is_inside t c
     → SameState (state_of (after t es ts)) (with_grace (with_core (state_of t) c (core_of y))
     (λ x. record ((state_of t).grace x) { unflushed = put ((state_of t).grace x).unflushed c false }))
@@ -251,7 +255,7 @@ flush_is t es ts c y whole a same =
 
 -- ---- the code's writes
 
-acts : (t : Maps) (es : List (ℕ × Core)) (c k i : ℕ) (y : Core) (z w : Times) → IsWhole t → c < 8 → k ≡ c → i ≡ c
+acts : (t : Maps) (es : List Core) (c k i : ℕ) (y : Core) (z w : Times) → IsWhole t → c < 8 → k ≡ c → i ≡ c
     → IsWritten t.cores es k y → z ≡ w → Acts t es (set t.times i z) c y w
 acts t es c k i y z w whole below k_is i_is written z_is = record {
   core = subst (λ q. IsWritten t.cores es q y) k_is written;
@@ -259,7 +263,7 @@ acts t es c k i y z w whole below k_is i_is written z_is = record {
   within = let n = whole.times_of_all in omega arith;
 }
 
-pub enter_done : (t : Maps) (es : List (ℕ × Core)) (c k i : ℕ) (x : Core) (z : Times) → IsWhole t → c < 8 → k ≡ c → i ≡ c
+pub enter_done : (t : Maps) (es : List Core) (c k i : ℕ) (x : Core) (z : Times) → IsWhole t → c < 8 → k ≡ c → i ≡ c
     → IsWritten t.cores es k (record x { inside = true }) → core_of x ≡ (state_of t).core c
     → z ≡ enters x.inside t.clock (get_or t.times i no_times)
     → SameState (state_of (after t es (set t.times i z))) (entered (state_of t) c)
@@ -270,7 +274,7 @@ enter_done t es c k i x z whole below k_is i_is written is z_is =
     (acts t es c k i (record x { inside = true }) z _ whole below k_is i_is written
     (z_is ∙ (λ j. enters (inside j) t.clock (get_or t.times (i_is j) no_times)))) refl)
 
-pub leave_done : (t : Maps) (es : List (ℕ × Core)) (c k i : ℕ) (x : Core) (z : Times) → IsWhole t → c < 8 → k ≡ c → i ≡ c
+pub leave_done : (t : Maps) (es : List Core) (c k i : ℕ) (x : Core) (z : Times) → IsWhole t → c < 8 → k ≡ c → i ≡ c
     → IsWritten t.cores es k (record x { inside = false }) → core_of x ≡ (state_of t).core c
     → z ≡ returns x.inside t.clock (get_or t.times i no_times)
     → SameState (state_of (after t es (set t.times i z))) (returned (state_of t) c)
@@ -282,7 +286,7 @@ leave_done t es c k i x z whole below k_is i_is written is z_is =
     (acts t es c k i (record x { inside = false }) z _ whole below k_is i_is written
     (z_is ∙ (λ j. returns (inside j) t.clock (get_or t.times (i_is j) no_times)))) refl)
 
-pub flush_done : (t : Maps) (es : List (ℕ × Core)) (c k i : ℕ) (y : Core) (z : Times) → IsWhole t → c < 8 → k ≡ c → i ≡ c
+pub flush_done : (t : Maps) (es : List Core) (c k i : ℕ) (y : Core) (z : Times) → IsWhole t → c < 8 → k ≡ c → i ≡ c
     → IsWritten t.cores es k y → core_of y ≡ record ((state_of t).core c) { cached = [] }
     → z ≡ flushes t.clock (get_or t.times i no_times)
     → SameState (state_of (after t es (set t.times i z))) (flushed (state_of t) c)
@@ -294,7 +298,96 @@ flush_done t es c k i y z whole below k_is i_is written is z_is =
     (acts t es c k i y z _ whole below k_is i_is written
     (z_is ∙ (λ j. flushes t.clock (get_or t.times (i_is j) no_times)))) inside)
 
+-- ---- the maps stay whole
+
+keys_written : {X : Type 0} (n : ℕ) (old new : List X) (k : ℕ) (x : X) → HasKeys n old → IsWritten old new k x → HasKeys n new
+keys_written n old new k x all w q below = elim (cases_eq q k) [
+  | inl e ↦ subst (λ o. IsSome o) (sym (ap (at new) e ∙ w.here)) refl
+  | inr ne ↦ subst (λ o. IsSome o) (sym (w.others q ne)) (all q below)
+]
+
+whole_after : (t : Maps) (es : List Core) (ts : List Times) (c : ℕ) (y : Core) (z : Times) → IsWhole t
+    → Acts t es ts c y z → TimesFit t.clock z → ((f : ℕ) → f < 512 → count_at t.counts f ≡ refs (state_of (after t es ts)) f)
+    → IsWhole (after t es ts)
+whole_after t es ts c y z whole a fits counts = record {
+  fits = whole.fits;
+  places = whole.places;
+  frames = whole.frames;
+  numbers = whole.numbers;
+  cores = keys_written t.limits.cores t.cores es c y whole.cores a.core;
+  place_graces = whole.place_graces;
+  frame_graces = whole.frame_graces;
+  number_graces = whole.number_graces;
+  times_of_all = ap length a.times ∙ length-set t.times c z ∙ whole.times_of_all;
+  times = λ d below. elim (cases_eq d c) [
+    | inl e ↦ subst (TimesFit t.clock) (sym (times_here t es ts c y z a d e)) fits
+    | inr ne ↦ subst (TimesFit t.clock) (sym (times_apart t es ts c y z a d ne)) (whole.times d below)
+  ];
+  all_counted = whole.all_counted;
+  counts = counts;
+}
+
+enters_fit : (b : Bool) (n : ℕ) (x : Times) → TimesFit n x → TimesFit n (enters b n x)
+enters_fit true n x fits = fits
+enters_fit false n x fits =
+    let a = fits.entered in
+    let b = fits.passed in
+    record { entered = omega arith; flushed = fits.flushed; passed = omega arith; flush_known = fits.flush_known }
+
+returns_fit : (b : Bool) (n : ℕ) (x : Times) → TimesFit n x → TimesFit n (returns b n x)
+returns_fit true n x fits = record { entered = fits.entered; flushed = fits.flushed; passed = omega arith; flush_known = omega arith }
+returns_fit false n x fits = record { entered = omega arith; flushed = fits.flushed; passed = omega arith; flush_known = omega arith }
+
+flushes_fit : (n : ℕ) (x : Times) → TimesFit n x → TimesFit n (flushes n x)
+flushes_fit n x fits =
+    let a = fits.flushed in
+    let b = fits.flush_known in
+    record { entered = fits.entered; flushed = omega arith; passed = fits.passed; flush_known = omega arith }
+
+pub enter_whole : (t : Maps) (es : List Core) (c k i : ℕ) (x : Core) (z : Times) → IsWhole t → c < 8 → c < (state_of t).limits.cores
+    → k ≡ c → i ≡ c → IsWritten t.cores es k (record x { inside = true }) → core_of x ≡ (state_of t).core c
+    → z ≡ enters x.inside t.clock (get_or t.times i no_times) → IsWhole (after t es (set t.times i z))
+enter_whole t es c k i x z whole below core k_is i_is written is z_is =
+    let inside : x.inside ≡ is_inside t c = ap (λ (y : state.Core). y.inside) is ∙ is_inside_of t c in
+    whole_after t es (set t.times i z) c (record x { inside = true }) _ whole
+    (acts t es c k i (record x { inside = true }) z _ whole below k_is i_is written
+    (z_is ∙ (λ j. enters (inside j) t.clock (get_or t.times (i_is j) no_times))))
+    (enters_fit (is_inside t c) t.clock (times_at t.times c) (whole.times c below))
+    (core_counts t (after t es (set t.times i z)) c (record ((state_of t).core c) { inside = true }) (state_of t).grace whole core refl refl
+    (enter_done t es c k i x z whole below k_is i_is written is z_is))
+
+pub leave_whole : (t : Maps) (es : List Core) (c k i : ℕ) (x : Core) (z : Times) → IsWhole t → c < 8 → c < (state_of t).limits.cores
+    → k ≡ c → i ≡ c → IsWritten t.cores es k (record x { inside = false }) → core_of x ≡ (state_of t).core c
+    → z ≡ returns x.inside t.clock (get_or t.times i no_times) → IsWhole (after t es (set t.times i z))
+leave_whole t es c k i x z whole below core k_is i_is written is z_is =
+    let inside : x.inside ≡ is_inside t c = ap (λ (y : state.Core). y.inside) is ∙ is_inside_of t c in
+    whole_after t es (set t.times i z) c (record x { inside = false }) _ whole
+    (acts t es c k i (record x { inside = false }) z _ whole below k_is i_is written
+    (z_is ∙ (λ j. returns (inside j) t.clock (get_or t.times (i_is j) no_times))))
+    (returns_fit (is_inside t c) t.clock (times_at t.times c) (whole.times c below))
+    (core_counts t (after t es (set t.times i z)) c (record ((state_of t).core c) { inside = false })
+    (λ thing. passed c ((state_of t).grace thing)) whole core refl refl
+    (leave_done t es c k i x z whole below k_is i_is written is z_is))
+
+pub flush_whole : (t : Maps) (es : List Core) (c k i : ℕ) (y : Core) (z : Times) → IsWhole t → c < 8 → c < (state_of t).limits.cores
+    → k ≡ c → i ≡ c → IsWritten t.cores es k y → core_of y ≡ record ((state_of t).core c) { cached = [] }
+    → z ≡ flushes t.clock (get_or t.times i no_times) → IsWhole (after t es (set t.times i z))
+flush_whole t es c k i y z whole below core k_is i_is written is z_is =
+    whole_after t es (set t.times i z) c y _ whole
+    (acts t es c k i y z _ whole below k_is i_is written (z_is ∙ (λ j. flushes t.clock (get_or t.times (i_is j) no_times))))
+    (flushes_fit t.clock (times_at t.times c) (whole.times c below))
+    (core_counts t (after t es (set t.times i z)) c (record ((state_of t).core c) { cached = [] })
+    (λ thing. record ((state_of t).grace thing) { unflushed = put ((state_of t).grace thing).unflushed c false }) whole core refl refl
+    (flush_done t es c k i y z whole below k_is i_is written is z_is))
+
 -- ---- the clock
+
+all_by : (n m end : ℕ) (es : List Period) → n ≤ m → HasAll end es (HasBegun n) → HasAll end es (HasBegun m)
+all_by n m end es le all k below = later (at es k) (all k below)
+  where
+    later : (o : Option Period) → IsSomeAnd o (HasBegun n k) → IsSomeAnd o (HasBegun m k)
+    later None h = absurd h
+    later (Some p) h = let began : p.began ≤ n = h in omega arith
 
 pub all_before : (t : Maps) (m : ℕ) → m ≡ t.clock + 1 → IsWhole t → (c : ℕ) → c < 8 → AreBefore m (times_at t.times c)
 all_before t m is whole c below =
@@ -320,6 +413,26 @@ same_later t m = record {
     each (PlaceOf f i) = same_grace_by t.limits.cores _ _ refl
     each (FrameOf f) = same_grace_by t.limits.cores _ _ refl
     each (NumberOf l) = same_grace_by t.limits.cores _ _ refl
+
+pub whole_later : (t : Maps) (m : ℕ) → t.clock ≤ m → IsWhole t → IsWhole (record t { clock = m })
+whole_later t m le whole = record {
+  fits = whole.fits;
+  places = whole.places;
+  frames = whole.frames;
+  numbers = whole.numbers;
+  cores = whole.cores;
+  place_graces = all_by t.clock m (64 * t.limits.frames) t.place_graces le whole.place_graces;
+  frame_graces = all_by t.clock m t.limits.frames t.frame_graces le whole.frame_graces;
+  number_graces = all_by t.clock m 64 t.number_graces le whole.number_graces;
+  times_of_all = whole.times_of_all;
+  times = λ c below.
+      let fits = whole.times c below in
+      let entered = fits.entered in
+      let flushed = fits.flushed in
+      record { entered = omega arith; flushed = omega arith; passed = fits.passed; flush_known = fits.flush_known };
+  all_counted = whole.all_counted;
+  counts = grace_counts t (record t { clock = m }) (state_of t).grace whole refl (same_later t m);
+}
 
 -- A grace period begins after the clock went on.
 pub begins : (old mid new : Maps) (x : Thing) (p : Period) → (state_of old).limits.cores ≤ 8

@@ -5,18 +5,19 @@ use Rattle.seq_state.specs.Maps.{Maps, IsWhole}
 -- The maps, the times and the limits.
 abbrev pub maps_of : Inside → Maps
 maps_of k = record {
-  places = k.places.entries;
-  frames = k.frames.entries;
-  numbers = k.numbers.entries;
-  cores = k.cores.entries;
-  place_graces = k.place_graces.entries;
-  frame_graces = k.frame_graces.entries;
-  number_graces = k.number_graces.entries;
+  places = k.places.items;
+  frames = k.frames.items;
+  numbers = k.numbers.items;
+  cores = k.cores.items;
+  place_graces = k.place_graces.items;
+  frame_graces = k.frame_graces.items;
+  number_graces = k.number_graces.items;
   times = k.times;
   clock = k.clock;
+  counts = k.counts.items;
   limits = record { cores = k.core_count; frames = k.frame_count; calls = k.calls; epochs = k.epochs };
 }
 
--- Each key stands, and no time lies ahead.
+-- Each key stands, no time lies ahead, and the references are counted.
 abbrev pub IsKernel : Inside → Type 0
 IsKernel k = IsWhole (maps_of k)

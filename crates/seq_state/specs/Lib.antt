@@ -5,3 +5,4 @@ pub mod Maps
 pub mod Representation
 pub mod Kernel
 pub mod Passing
+pub mod Counted

@@ -1,9 +1,8 @@
--- The plain kernel as contracts see it: finite maps, and the state that they stand for.
-use Rattle.std.specs.Prelude.{◌≡◌, ◌<◌, ◌≤◌, ◌^◌, ℕ, ◌+◌, ◌*◌, false, nat_lt, if◌then◌else◌, List, [], length, Bool, Option, Some, None, IsSome, IsSomeAnd}
-use Rattle.std.specs.Ordering.{nat_cmp}
-use Rattle.std.specs.Map.{lookup}
-use Rattle.std.specs.BTreeMap.{is_at}
+-- The plain kernel as contracts see it: lists by number, and the state that they stand for.
+use Rattle.std.specs.Prelude.{◌≡◌, ◌<◌, ◌≤◌, ◌^◌, ℕ, ◌+◌, ◌*◌, false, nat_lt, if◌then◌else◌, List, [], length, get_or, slice_get, Bool}
+use Rattle.std.specs.Prelude.{Option, Some, None, IsSome, IsSomeAnd}
 use Rattle.kernel_rules.specs.State as state
+use Rattle.kernel_rules.specs.References.{frame_names, refs}
 use Rattle.seq_state.specs.declared.parts.Place.{Place}
 use Rattle.seq_state.specs.declared.parts.Frame.{Frame}
 use Rattle.seq_state.specs.declared.parts.Liveness.{Liveness}
@@ -13,30 +12,35 @@ use Rattle.seq_state.specs.declared.times.Period.{Period}
 use Rattle.seq_state.specs.Parts.{place_held, frame_of, number_of, core_of}
 use Rattle.seq_state.specs.Times.{no_period, times_at, grace_by, TimesFit}
 
--- The maps, each by its entries in the order of their keys; the times of the cores and the clock; and the limits. The key of
--- place i of node f is 64 f + i.
+-- The lists, each with the item of a key at that position; the times of the cores and the clock; the count of the references
+-- to each frame; and the limits. The key of place i of node f is 64 f + i.
 pub record Maps : Type 0 where
-  pub places : List (ℕ × Place)
-  pub frames : List (ℕ × Frame)
-  pub numbers : List (ℕ × Liveness)
-  pub cores : List (ℕ × Core)
-  pub place_graces : List (ℕ × Period)
-  pub frame_graces : List (ℕ × Period)
-  pub number_graces : List (ℕ × Period)
+  pub places : List Place
+  pub frames : List Frame
+  pub numbers : List Liveness
+  pub cores : List Core
+  pub place_graces : List Period
+  pub frame_graces : List Period
+  pub number_graces : List Period
   pub times : List Times
   pub clock : ℕ
+  pub counts : List ℕ
   pub limits : state.Limits
 
+-- The count of a frame's references.
+abbrev pub count_at : List ℕ → ℕ → ℕ
+count_at ns f = get_or ns f 0
+
 -- What a map has at a key.
-abbrev pub at : {X : Type 0} → List (ℕ × X) → ℕ → Option X
-at es k = lookup (is_at (nat_cmp k)) es
+abbrev pub at : {X : Type 0} → List X → ℕ → Option X
+at es k = slice_get es k
 
 -- A map has each key below n.
-abbrev pub HasKeys : {X : Type 0} → ℕ → List (ℕ × X) → Type 0
+abbrev pub HasKeys : {X : Type 0} → ℕ → List X → Type 0
 HasKeys n es = (k : ℕ) → k < n → IsSome (at es k)
 
 -- A map has each key below n, with a value that fits the key.
-abbrev pub HasAll : {X : Type 0} → ℕ → List (ℕ × X) → (ℕ → X → Type 0) → Type 0
+abbrev pub HasAll : {X : Type 0} → ℕ → List X → (ℕ → X → Type 0) → Type 0
 HasAll n es P = (k : ℕ) → k < n → IsSomeAnd (at es k) (P k)
 
 -- The machine's numbers and limits are within its bounds.
@@ -48,24 +52,6 @@ pub record LimitsFit (l : state.Limits) : Type 0 where
   pub most_calls : l.calls ≤ 4194304
   pub some_epoch : 1 ≤ l.epochs
   pub most_epochs : l.epochs < 2 ^ 16
-
--- The grace period at a key began by now.
-abbrev pub HasBegun : ℕ → ℕ → Period → Type 0
-HasBegun clock k p = p.began ≤ clock
-
--- Each place, frame, liveness number, core and thing of the machine has its key, and no time lies ahead. Nothing is said of
--- further keys.
-pub record IsWhole (t : Maps) : Type 0 where
-  pub fits : LimitsFit t.limits
-  pub places : HasKeys (64 * t.limits.frames) t.places
-  pub frames : HasKeys t.limits.frames t.frames
-  pub numbers : HasKeys 64 t.numbers
-  pub cores : HasKeys t.limits.cores t.cores
-  pub place_graces : HasAll (64 * t.limits.frames) t.place_graces (HasBegun t.clock)
-  pub frame_graces : HasAll t.limits.frames t.frame_graces (HasBegun t.clock)
-  pub number_graces : HasAll 64 t.number_graces (HasBegun t.clock)
-  pub times_of_all : length t.times ≡ 8
-  pub times : (c : ℕ) → c < 8 → TimesFit t.clock (times_at t.times c)
 
 -- The place in a map, or a free one.
 abbrev pub place_or_free : Option Place → state.Place
@@ -105,7 +91,7 @@ abbrev pub grace_from : Maps → Period → state.Grace
 grace_from t p = grace_by (is_inside t) t.times p
 
 -- What a map has at a place.
-abbrev pub at_place : {X : Type 0} → List (ℕ × X) → ℕ → ℕ → Option X
+abbrev pub at_place : {X : Type 0} → List X → ℕ → ℕ → Option X
 at_place es f i = if nat_lt i 64 then at es (64 * f + i) else None
 
 -- When the grace period of a thing began.
@@ -129,3 +115,27 @@ state_of t = record {
   grace = grace_in t;
   limits = t.limits;
 }
+
+-- The grace period at a key began by now.
+abbrev pub HasBegun : ℕ → ℕ → Period → Type 0
+HasBegun clock k p = p.began ≤ clock
+
+-- What a frame has names at most 16 frames.
+abbrev pub NamesFew : ℕ → Frame → Type 0
+NamesFew k x = length (frame_names (frame_of x)) ≤ 16
+
+-- Each place, frame, liveness number, core and thing of the machine has its key, no time lies ahead, and the references to each
+-- frame are counted. Nothing is said of further keys.
+pub record IsWhole (t : Maps) : Type 0 where
+  pub fits : LimitsFit t.limits
+  pub places : HasKeys (64 * t.limits.frames) t.places
+  pub frames : HasAll t.limits.frames t.frames NamesFew
+  pub numbers : HasKeys 64 t.numbers
+  pub cores : HasKeys t.limits.cores t.cores
+  pub place_graces : HasAll (64 * t.limits.frames) t.place_graces (HasBegun t.clock)
+  pub frame_graces : HasAll t.limits.frames t.frame_graces (HasBegun t.clock)
+  pub number_graces : HasAll 64 t.number_graces (HasBegun t.clock)
+  pub times_of_all : length t.times ≡ 8
+  pub times : (c : ℕ) → c < 8 → TimesFit t.clock (times_at t.times c)
+  pub all_counted : length t.counts ≡ 512
+  pub counts : (f : ℕ) → f < 512 → count_at t.counts f ≡ refs (state_of t) f

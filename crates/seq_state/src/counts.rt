@@ -1,167 +1,251 @@
-//! The references to a frame, counted afresh.
+//! The references to each frame, counted as they come and go.
 
-ghost use Rattle.std.specs.Prelude.{◌≡◌, ◌<◌, ◌≤◌, ◌*◌, [], ◌∷◌};
+ghost use Rattle.std.specs.Prelude.{◌≡◌, ◌<◌, ◌≤◌, ◌+◌, ◌-◌, ◌*◌, ◌^◌, ℕ, IsSome, length, [], ◌∷◌};
 ghost use Rattle.kernel_rules.specs.References.{named_by, place_names, frame_names, number_names};
-ghost use Rattle.kernel_rules.specs.References.{core_names, sum_below, times, node_refs, refs};
+ghost use Rattle.kernel_rules.specs.References.{core_names, sum_below, times};
 ghost use Rattle.seq_state.specs.Parts.{place_held, object_of, frame_of, number_of, core_of};
-ghost use Rattle.seq_state.specs.Maps.{state_of};
+ghost use Rattle.seq_state.specs.Maps.{at, HasKeys, count_at, place_or_free, frame_or_untyped, number_or_unused, core_or_none};
 
-use crate::kernel::SeqKernel;
+use crate::maps::{held, standing};
 use crate::parts::{Core, Frame, Liveness, Object, Place};
-use spk_nums::{Cap, CoreNo, EntryNo, FrameNo, Kind};
+use crate::stack::Stack;
+use spk_nums::{Cap, FrameNo, Kind};
 
-/// 1 where two frames are one, else 0.
-fn once(named: FrameNo, frame: FrameNo) -> u32
-    ensures count { result ≡ times frame (named ∷ []) }
-    ensures most { result ≤ 1 }
-{
-    if named == frame { 1 } else { 0 }
-}
-
-/// How often a capability has a reference to the frame; a range has none.
-fn refs_in_cap(cap: Cap, frame: FrameNo) -> u32
-    ensures count { result ≡ times frame (named_by cap.kind cap.frame) }
-    ensures most { result ≤ 1 }
+/// The frame to which a capability has a reference; a range has none.
+fn names_of_cap(cap: Cap) -> Stack
+    ensures { result ≡ named_by cap.kind cap.frame }
 {
     match cap.kind() {
-        Kind::Range => 0,
-        _ => once(cap.frame(), frame),
+        Kind::Range => Stack::empty(),
+        _ => Stack::one(cap.frame()),
     }
 }
 
-/// How often a place has a reference to the frame.
-fn refs_in_place(place: Place, frame: FrameNo) -> u32
-    ensures count { result ≡ times frame (place_names (place_held place)) }
-    ensures most { result ≤ 1 }
+/// The frame to which a place has a reference.
+pub fn names_of_place(place: &Place) -> Stack
+    ensures { result ≡ place_names (place_held place.now) }
 {
     match place {
-        Place::Free => 0,
-        Place::Holds(cap) => refs_in_cap(cap, frame),
-        Place::Quiescing(_) => 0,
+        Place::Free => Stack::empty(),
+        Place::Holds(cap) => names_of_cap(*cap),
+        Place::Quiescing(_) => Stack::empty(),
     }
 }
 
-/// How often an object has a reference to the frame.
-fn refs_in_object(object: Object, frame: FrameNo) -> u32
-    ensures count { result ≡ times frame (frame_names (frame_of (Kernel object))) }
-    ensures most { result ≤ 16 }
+/// The frames to which an object has references.
+fn names_of_object(object: &Object) -> Stack
+    ensures { result ≡ frame_names (frame_of (Kernel object.now)) }
 {
     match object {
-        Object::Comp(comp) => once(comp.table, frame) + once(comp.pages, frame),
-        Object::Thread(thread) => thread.stack.times(frame),
-        Object::Blank => 0,
-        Object::Table => 0,
-        Object::Leaf => 0,
-        Object::Pages => 0,
-        Object::Pleaf => 0,
-        Object::Tcap(_) => 0,
+        Object::Comp(comp) => both(comp.table, comp.pages),
+        Object::Thread(thread) => thread.stack,
+        Object::Blank => Stack::empty(),
+        Object::Table => Stack::empty(),
+        Object::Leaf => Stack::empty(),
+        Object::Pages => Stack::empty(),
+        Object::Pleaf => Stack::empty(),
+        Object::Tcap(_) => Stack::empty(),
     }
 }
 
-/// How often what is in a frame has a reference to the other frame.
-fn refs_in_frame(value: Frame, frame: FrameNo) -> u32
-    ensures count { result ≡ times frame (frame_names (frame_of value)) }
-    ensures most { result ≤ 16 }
+/// Two frames.
+fn both(first: FrameNo, second: FrameNo) -> Stack
+    ensures { result ≡ first ∷ second ∷ [] }
 {
-    match value {
-        Frame::Untyped => 0,
-        Frame::User => 0,
-        Frame::Kernel(object) => refs_in_object(object, frame),
-    }
+    let mut names = Stack::one(second);
+    names.push(first);
+    names
 }
 
-/// How often a liveness number has a reference to the frame.
-fn refs_in_number(number: Liveness, frame: FrameNo) -> u32
-    ensures count { result ≡ times frame (number_names (number_of number)) }
-    ensures most { result ≤ 1 }
+/// The frames to which what is in a frame has references, at most 16.
+pub fn names_of_frame(value: &Frame) -> Stack
+    ensures names { result ≡ frame_names (frame_of value.now) }
+    ensures most { length (frame_names (frame_of value.now)) ≤ 16 }
+{
+    let names = match value {
+        Frame::Untyped => Stack::empty(),
+        Frame::User => Stack::empty(),
+        Frame::Kernel(object) => names_of_object(object),
+    };
+    let _most = names.len();
+    names
+}
+
+/// The frame to which a liveness number has a reference.
+pub fn names_of_number(number: &Liveness) -> Stack
+    ensures { result ≡ number_names (number_of number.now) }
 {
     match number {
-        Liveness::Unused => 0,
-        Liveness::Live { frame: named, .. } => once(named, frame),
-        Liveness::Dead { .. } => 0,
+        Liveness::Unused => Stack::empty(),
+        Liveness::Live { frame, .. } => Stack::one(*frame),
+        Liveness::Dead { .. } => Stack::empty(),
     }
 }
 
-/// How often a core has a reference to the frame.
-fn refs_in_core(core: &Core, frame: FrameNo) -> u32
-    ensures count { result ≡ times frame (core_names (core_of core.now)) }
-    ensures most { result ≤ 2 }
+/// The frames to which a core has references.
+pub fn names_of_core(core: &Core) -> Stack
+    ensures { result ≡ core_names (core_of core.now) }
 {
-    once(core.thread, frame) + once(core.tcap, frame)
+    both(core.thread, core.tcap)
 }
 
-impl SeqKernel {
-    /// The references to a frame, counted afresh: those of all places that hold a capability, a link or a page, ranges
-    /// excepted; of components, stacks, cores and live liveness numbers.
-    pub fn refs(&self, frame: FrameNo) -> u32
-        ensures { result ≡ refs (state_of self.now) frame }
-    {
-        let of_places = self.refs_of_places(frame);
-        let of_frames = self.refs_of_frames(frame);
-        let of_cores = self.refs_of_cores(frame);
-        let of_numbers = self.refs_of_numbers(frame);
-        of_places + of_frames + of_cores + of_numbers
+/// A frame has one reference more.
+#[tactic(auto, using(crate::proofs::CountLemmas::set_up, crate::proofs::CountLemmas::none_past, crate::proofs::CountLemmas::set_length))]
+fn count_up(counts: &mut Vec<u32>, frame: FrameNo)
+    requires room { frame < length counts.old.items → count_at counts.old.items frame < 2 ^ 32 - 1 }
+    ensures counts { (f : ℕ) → f < length counts.old.items
+        → count_at counts.new.items f ≡ count_at counts.old.items f + times f (frame ∷ []) }
+    ensures all { length counts.new.items ≡ length counts.old.items }
+{
+    let at = usize::from(frame.number());
+    if at < counts.len() {
+        counts[at] += 1;
     }
+}
 
-    /// The references to a frame that stand in the places of one node.
-    fn refs_of_node(&self, node: FrameNo, frame: FrameNo) -> u32
-        ensures count { result ≡ node_refs (state_of self.now) frame node }
-        ensures most { result ≤ 64 }
-    {
-        let mut count = 0;
-        'each: for index in 0..64 {
-            count += refs_in_place(self.place(node, EntryNo::new(index)), frame);
-        }
-        count
+/// A frame has one reference less.
+#[tactic(auto, using(crate::proofs::CountLemmas::set_down, crate::proofs::CountLemmas::none_past, crate::proofs::CountLemmas::set_length))]
+fn count_down(counts: &mut Vec<u32>, frame: FrameNo)
+    requires some { frame < length counts.old.items → 1 ≤ count_at counts.old.items frame }
+    ensures counts { (f : ℕ) → f < length counts.old.items
+        → count_at counts.new.items f + times f (frame ∷ []) ≡ count_at counts.old.items f }
+    ensures all { length counts.new.items ≡ length counts.old.items }
+{
+    let at = usize::from(frame.number());
+    if at < counts.len() {
+        counts[at] -= 1;
     }
+}
 
-    /// The references to a frame that stand in the places of all nodes.
-    fn refs_of_places(&self, frame: FrameNo) -> u32
-        ensures count { result ≡ sum_below (node_refs (state_of self.now) frame) (state_of self.now).limits.frames }
-        ensures most { result ≤ 32768 }
-    {
-        let mut count = 0;
-        'each: for node in 0..self.frames() {
-            count += self.refs_of_node(FrameNo::new(node), frame);
-        }
-        count
+/// The frames that are named have these references more.
+pub fn gain(counts: &mut Vec<u32>, names: Stack)
+    requires room { (f : ℕ) → f < length counts.old.items → count_at counts.old.items f < 2 ^ 31 }
+    ensures counts { (f : ℕ) → f < length counts.old.items
+        → count_at counts.new.items f ≡ count_at counts.old.items f + times f names }
+    ensures all { length counts.new.items ≡ length counts.old.items }
+    ensures most { (f : ℕ) → f < length counts.old.items → count_at counts.new.items f ≤ count_at counts.old.items f + 16 }
+{
+    let mut rest = names;
+    let _most = names.len();
+    'each: while let Some(frame) = rest.top() {
+        count_up(counts, frame);
+        rest.pop();
     }
+}
 
-    /// The references to a frame that stand in objects.
-    fn refs_of_frames(&self, frame: FrameNo) -> u32
-        ensures count { result
-            ≡ sum_below (λ g. times frame (frame_names ((state_of self.now).frame g))) (state_of self.now).limits.frames }
-        ensures most { result ≤ 8192 }
-    {
-        let mut count = 0;
-        'each: for other in 0..self.frames() {
-            count += refs_in_frame(self.frame(FrameNo::new(other)), frame);
-        }
-        count
+/// The frames that are named have these references less.
+pub fn lose(counts: &mut Vec<u32>, names: Stack)
+    requires some { (f : ℕ) → f < length counts.old.items → times f names ≤ count_at counts.old.items f }
+    ensures counts { (f : ℕ) → f < length counts.old.items
+        → count_at counts.new.items f + times f names ≡ count_at counts.old.items f }
+    ensures all { length counts.new.items ≡ length counts.old.items }
+{
+    let mut rest = names;
+    'each: while let Some(frame) = rest.top() {
+        count_down(counts, frame);
+        rest.pop();
     }
+}
 
-    /// The references to a frame that cores have.
-    fn refs_of_cores(&self, frame: FrameNo) -> u32
-        ensures count { result ≡ sum_below (λ c. times frame (core_names ((state_of self.now).core c))) (state_of self.now).limits.cores }
-        ensures most { result ≤ 16 }
-    {
-        let mut count = 0;
-        'each: for core in 0..self.cores() {
-            count += refs_in_core(self.core(CoreNo::new(core)), frame);
-        }
-        count
+/// What was named is named no more, and what is named now is.
+pub fn recount(counts: &mut Vec<u32>, old: Stack, new: Stack)
+    requires some { (f : ℕ) → f < length counts.old.items → times f old ≤ count_at counts.old.items f }
+    requires room { (f : ℕ) → f < length counts.old.items → count_at counts.old.items f < 2 ^ 31 }
+    ensures counts { (f : ℕ) → f < length counts.old.items
+        → count_at counts.new.items f + times f old ≡ count_at counts.old.items f + times f new }
+    ensures all { length counts.new.items ≡ length counts.old.items }
+{
+    lose(counts, old);
+    gain(counts, new);
+}
+
+/// The frames to which the place at a key has references.
+fn names_at_place(places: &Vec<Place>, key: u16) -> Stack
+    ensures { result ≡ place_names (place_or_free (at places.now.items key)) }
+{
+    match held(places, key) {
+        Some(place) => names_of_place(&place),
+        None => Stack::empty(),
     }
+}
 
-    /// The references to a frame that liveness numbers have.
-    fn refs_of_numbers(&self, frame: FrameNo) -> u32
-        ensures count { result ≡ sum_below (λ l. times frame (number_names ((state_of self.now).number l))) 64 }
-        ensures most { result ≤ 64 }
-    {
-        let mut count = 0;
-        'each: for number in 0..64 {
-            count += refs_in_number(self.number(number), frame);
-        }
-        count
+/// The frames to which what is in the frame at a key has references.
+fn names_at_frame(frames: &Vec<Frame>, key: u16) -> Stack
+    ensures { result ≡ frame_names (frame_or_untyped (at frames.now.items key)) }
+{
+    match held(frames, key) {
+        Some(value) => names_of_frame(&value),
+        None => Stack::empty(),
+    }
+}
+
+/// The frames to which the core at a key, which stands, has references.
+fn names_at_core(cores: &Vec<Core>, key: u16) -> Stack
+    requires { IsSome (at cores.now.items key) }
+    ensures { result ≡ core_names (core_or_none (at cores.now.items key)) }
+{
+    names_of_core(standing(cores, key))
+}
+
+/// The frames to which the liveness number at a key has references.
+fn names_at_number(numbers: &Vec<Liveness>, key: u16) -> Stack
+    ensures { result ≡ number_names (number_or_unused (at numbers.now.items key)) }
+{
+    match held(numbers, key) {
+        Some(number) => names_of_number(&number),
+        None => Stack::empty(),
+    }
+}
+
+/// Counts the references of the places at the keys below `end`.
+pub fn count_places(counts: &mut Vec<u32>, places: &Vec<Place>, end: u16)
+    requires room { (f : ℕ) → f < length counts.old.items → count_at counts.old.items f ≤ 2 ^ 30 }
+    ensures counts { (f : ℕ) → f < length counts.old.items → count_at counts.new.items f
+        ≡ count_at counts.old.items f + sum_below (λ k. times f (place_names (place_or_free (at places.now.items k)))) end }
+    ensures most { (f : ℕ) → f < length counts.old.items → count_at counts.new.items f ≤ count_at counts.old.items f + 16 * end }
+    ensures all { length counts.new.items ≡ length counts.old.items }
+{
+    'each: for key in 0..end {
+        gain(counts, names_at_place(places, key));
+    }
+}
+
+/// Counts the references of the frames below `end`.
+pub fn count_frames(counts: &mut Vec<u32>, frames: &Vec<Frame>, end: u16)
+    requires room { (f : ℕ) → f < length counts.old.items → count_at counts.old.items f ≤ 2 ^ 30 }
+    ensures counts { (f : ℕ) → f < length counts.old.items → count_at counts.new.items f
+        ≡ count_at counts.old.items f + sum_below (λ k. times f (frame_names (frame_or_untyped (at frames.now.items k)))) end }
+    ensures most { (f : ℕ) → f < length counts.old.items → count_at counts.new.items f ≤ count_at counts.old.items f + 16 * end }
+    ensures all { length counts.new.items ≡ length counts.old.items }
+{
+    'each: for key in 0..end {
+        gain(counts, names_at_frame(frames, key));
+    }
+}
+
+/// Counts the references of the cores below `end`, which stand.
+pub fn count_cores(counts: &mut Vec<u32>, cores: &Vec<Core>, end: u16)
+    requires stands { HasKeys end cores.now.items }
+    requires room { (f : ℕ) → f < length counts.old.items → count_at counts.old.items f ≤ 2 ^ 30 }
+    ensures counts { (f : ℕ) → f < length counts.old.items → count_at counts.new.items f
+        ≡ count_at counts.old.items f + sum_below (λ k. times f (core_names (core_or_none (at cores.now.items k)))) end }
+    ensures most { (f : ℕ) → f < length counts.old.items → count_at counts.new.items f ≤ count_at counts.old.items f + 16 * end }
+    ensures all { length counts.new.items ≡ length counts.old.items }
+{
+    'each: for key in 0..end {
+        gain(counts, names_at_core(cores, key));
+    }
+}
+
+/// Counts the references of the liveness numbers below `end`.
+pub fn count_numbers(counts: &mut Vec<u32>, numbers: &Vec<Liveness>, end: u16)
+    requires room { (f : ℕ) → f < length counts.old.items → count_at counts.old.items f ≤ 2 ^ 30 }
+    ensures counts { (f : ℕ) → f < length counts.old.items → count_at counts.new.items f
+        ≡ count_at counts.old.items f + sum_below (λ k. times f (number_names (number_or_unused (at numbers.now.items k)))) end }
+    ensures all { length counts.new.items ≡ length counts.old.items }
+{
+    'each: for key in 0..end {
+        gain(counts, names_at_number(numbers, key));
     }
 }
 

@@ -1,6 +1,7 @@
-//! The plain kernel's state, in ordered maps.
+//! The plain kernel's state, in lists.
 
 ghost use Rattle.std.specs.Prelude.{◌≡◌, ◌<◌, ◌+◌, ◌*◌, ◌==◌, if◌then◌else◌, ℕ};
+ghost use Rattle.kernel_rules.specs.References.{refs};
 ghost use Rattle.seq_state.specs.Parts.{place_held, frame_of, number_of, core_of, thing_of};
 ghost use Rattle.spk_nums.specs.CoreSets.{has_core};
 ghost use Rattle.seq_state.specs.Maps.{at, core_or_none, state_of, period_of, grace_from, LimitsFit};
@@ -10,25 +11,26 @@ use crate::maps::{held, standing};
 use crate::parts::{Core, Frame, Liveness, Pending, Place, Thing};
 use crate::times::{Period, Times};
 use spk_nums::{CoreNo, CoreSet, EntryNo, FrameNo};
-use std::collections::BTreeMap;
 use std::marker::Model;
 
-/// The state of the sequential kernel in ordered maps.
+/// The state of the sequential kernel in lists by number.
 ///
-/// Each key of the machine stands in the maps from the start, so that a change takes no memory and cannot fail half-way. The
-/// key of a place is 64 times its node's frame and its index; every other key is the number itself. Contracts see the state
-/// that the maps stand for, `state_of`; past the machine's frames there is nothing to read and nothing to set.
+/// Each key of the machine stands from the start, so that a change takes no memory and cannot fail half-way. The key of a place
+/// is 64 times its node's frame and its index; every other key is the number itself. The references to each frame are kept
+/// beside the lists. Contracts see the state that the lists stand for, `state_of`; past the machine's frames there is nothing to
+/// read and nothing to set.
 #[derive(Drop)]
 pub struct SeqKernel {
-    pub(crate) places: BTreeMap<u16, Place>,
-    pub(crate) frames: BTreeMap<u16, Frame>,
-    pub(crate) numbers: BTreeMap<u16, Liveness>,
-    pub(crate) cores: BTreeMap<u16, Core>,
-    pub(crate) place_graces: BTreeMap<u16, Period>,
-    pub(crate) frame_graces: BTreeMap<u16, Period>,
-    pub(crate) number_graces: BTreeMap<u16, Period>,
+    pub(crate) places: Vec<Place>,
+    pub(crate) frames: Vec<Frame>,
+    pub(crate) numbers: Vec<Liveness>,
+    pub(crate) cores: Vec<Core>,
+    pub(crate) place_graces: Vec<Period>,
+    pub(crate) frame_graces: Vec<Period>,
+    pub(crate) number_graces: Vec<Period>,
     pub(crate) times: [Times; 8],
     pub(crate) clock: u32,
+    pub(crate) counts: Vec<u32>,
     pub(crate) core_count: u8,
     pub(crate) frame_count: u16,
     pub(crate) calls: u32,
@@ -56,10 +58,10 @@ pub(crate) fn place_key(node: FrameNo, index: EntryNo) -> u16
 }
 
 /// Whether the core at a key is in a call; false where it does not stand.
-fn is_inside(cores: &BTreeMap<u16, Core>, key: u16) -> bool
-    ensures { result ≡ (core_or_none (at cores.now.entries key)).inside }
+fn is_inside(cores: &Vec<Core>, key: u16) -> bool
+    ensures { result ≡ (core_or_none (at cores.now.items key)).inside }
 {
-    match cores.get(&key) {
+    match held(cores, key) {
         Some(core) => core.inside,
         None => false,
     }
@@ -141,6 +143,14 @@ impl SeqKernel {
         ensures { core_of result.now ≡ (state_of self.now).core core }
     {
         standing(&self.cores, u16::from(core.number()))
+    }
+
+    /// The references to a frame: those of all places that hold a capability, a link or a page, ranges
+    /// excepted; of components, stacks, cores and live liveness numbers.
+    pub fn refs(&self, frame: FrameNo) -> u32
+        ensures { result ≡ refs (state_of self.now) frame }
+    {
+        self.counts[usize::from(frame.number())]
     }
 
     /// When the grace period of a thing began.

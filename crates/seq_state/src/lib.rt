@@ -1,7 +1,7 @@
-//! The sequential kernel's state in ordered maps.
+//! The sequential kernel's state in lists.
 //!
-//! `SeqKernel` is the state of the definitions (`kernel_rules`) as plain maps. It starts as the start state; its readers
-//! and changes are exact, and take no memory.
+//! `SeqKernel` is the state of the definitions (`kernel_rules`) as plain lists by number, with the references to each frame
+//! counted as they come and go. It starts as the start state; its readers and changes are exact, and take no memory.
 //!
 //! See docs/PROOF.md, 'The laws of the sequential kernel': the plain kernel.
 #![tactic(auto)]

@@ -10,8 +10,9 @@ ghost use Rattle.kernel_rules.specs.Start.{no_grace};
 ghost use Rattle.seq_state.specs.Passing.{grace_begun};
 ghost use Rattle.seq_state.specs.Representation.{HasIndex, with_grace_of, Represents};
 
+use crate::counts::{names_of_core, names_of_frame, names_of_number, names_of_place, recount};
 use crate::kernel::{SeqKernel, place_key};
-use crate::maps::write_at;
+use crate::maps::{standing, write_at};
 use crate::parts::{Core, Frame, Liveness, Place, Thing};
 use crate::times::Period;
 use spk_nums::{CoreNo, EntryNo, FrameNo};
@@ -24,7 +25,12 @@ impl SeqKernel {
         ensures exact { node < (state_of self.old).limits.frames
             → state_of self.new ≡ with_place (state_of self.old) node index (place_held place) }
     {
-        write_at(&mut self.places, place_key(node, index), place);
+        if node.number() < self.frame_count {
+            let key = place_key(node, index);
+            let old = names_of_place(standing(&self.places, key));
+            recount(&mut self.counts, old, names_of_place(&place));
+            write_at(&mut self.places, key, place);
+        }
     }
 
     /// Sets a frame; its places stay.
@@ -33,7 +39,12 @@ impl SeqKernel {
         ensures exact { frame < (state_of self.old).limits.frames
             → state_of self.new ≡ with_frame (state_of self.old) frame (frame_of value) }
     {
-        write_at(&mut self.frames, frame.number(), value);
+        let key = frame.number();
+        if key < self.frame_count {
+            let old = names_of_frame(standing(&self.frames, key));
+            recount(&mut self.counts, old, names_of_frame(&value));
+            write_at(&mut self.frames, key, value);
+        }
     }
 
     /// Sets a liveness number.
@@ -41,7 +52,12 @@ impl SeqKernel {
         ensures machine { Represents self.new (with_number (state_of self.old) number (number_of value)) }
         ensures exact { number < 64 → state_of self.new ≡ with_number (state_of self.old) number (number_of value) }
     {
-        write_at(&mut self.numbers, u16::from(number), value);
+        if number < 64 {
+            let key = u16::from(number);
+            let old = names_of_number(standing(&self.numbers, key));
+            recount(&mut self.counts, old, names_of_number(&value));
+            write_at(&mut self.numbers, key, value);
+        }
     }
 
     /// Sets a core of the machine, which stays in its call or out of it.
@@ -50,7 +66,10 @@ impl SeqKernel {
         requires inside { value.inside ≡ ((state_of self.old).core core).inside }
         ensures { state_of self.new ≡ with_core (state_of self.old) core (core_of value) }
     {
-        write_at(&mut self.cores, u16::from(core.number()), value);
+        let key = u16::from(core.number());
+        let old = names_of_core(standing(&self.cores, key));
+        recount(&mut self.counts, old, names_of_core(&value));
+        write_at(&mut self.cores, key, value);
     }
 
     /// Sets when the grace period of a thing began, now at the latest; a place's index is below 64.

@@ -1,14 +1,16 @@
 //! The start state.
 
-ghost use Rattle.std.specs.Prelude.{◌≡◌, ◌<◌, ◌≤◌, ◌+◌, ◌-◌, ◌*◌, ◌/◌, ◌%◌, IfOk, Some, IsSome, slice_get, [], ◌∷◌};
+ghost use Rattle.std.specs.Prelude.{◌≡◌, ◌<◌, ◌≤◌, ◌+◌, ◌-◌, ◌*◌, ◌/◌, ◌%◌, IfOk, Some, IsSome, slice_get, length, [], ◌∷◌};
 ghost use Rattle.spk_nums.specs.Limits.{least_arg, end_of_arg};
 ghost use Rattle.kernel_rules.specs.Start.{plain_cap, start_range, core_cap, start_cap, start_place, granted};
 ghost use Rattle.kernel_rules.specs.Start.{start_frame, start_number, start_core, start, place_with};
 ghost use Rattle.seq_state.specs.Parts.{place_held, tcap_fields_of, frame_of, number_of, core_of, thread_fields_of};
 ghost use Rattle.seq_state.specs.Times.{no_period};
-ghost use Rattle.seq_state.specs.Maps.{HasAll};
+ghost use Rattle.seq_state.specs.Maps.{HasAll, HasKeys};
+ghost use Rattle.seq_state.specs.Counted.{IsCounted};
 ghost use Rattle.seq_state.specs.Representation.{Represents};
 
+use crate::counts::{count_cores, count_frames, count_numbers, count_places};
 use crate::kernel::SeqKernel;
 use crate::maps::insert_at;
 use crate::parts::{CompFields, Core, Frame, Liveness, Object, Place, TcapFields, ThreadFields};
@@ -16,7 +18,6 @@ use crate::stack::Stack;
 use crate::times::{Period, Times};
 use spk_nums::{Cap, CoreNo, FrameNo, Grant, Kind, Memory, Qualities, Setup, Translations};
 use std::alloc::Global;
-use std::collections::BTreeMap;
 
 /// A capability to a frame, without a number of its own.
 fn plain_cap(kind: Kind, frame: u16) -> Cap
@@ -195,10 +196,10 @@ fn core_at(setup: &Setup, core: u16) -> Core
 }
 
 /// The places of all frames.
-fn all_places(alloc: Global, setup: &Setup) -> Result<BTreeMap<u16, Place>, Memory>
-    ensures { IfOk result (λ m. HasAll (64 * setup.now.frames) m.entries (λ k p. place_held p ≡ start_place setup.now (k / 64) (k % 64))) }
+fn all_places(alloc: Global, setup: &Setup) -> Result<Vec<Place>, Memory>
+    ensures { IfOk result (λ m. HasAll (64 * setup.now.frames) m.items (λ k p. place_held p ≡ start_place setup.now (k / 64) (k % 64))) }
 {
-    let mut map = BTreeMap::new(alloc);
+    let mut map = Vec::new(alloc);
     'each: for key in 0..64 * setup.frames() {
         insert_at(&mut map, key, place_at(setup, key / 64, key % 64))?;
     }
@@ -206,10 +207,10 @@ fn all_places(alloc: Global, setup: &Setup) -> Result<BTreeMap<u16, Place>, Memo
 }
 
 /// All frames.
-fn all_frames(alloc: Global, setup: &Setup) -> Result<BTreeMap<u16, Frame>, Memory>
-    ensures { IfOk result (λ m. HasAll setup.now.frames m.entries (λ k x. frame_of x ≡ start_frame setup.now k)) }
+fn all_frames(alloc: Global, setup: &Setup) -> Result<Vec<Frame>, Memory>
+    ensures { IfOk result (λ m. HasAll setup.now.frames m.items (λ k x. frame_of x ≡ start_frame setup.now k)) }
 {
-    let mut map = BTreeMap::new(alloc);
+    let mut map = Vec::new(alloc);
     'each: for key in 0..setup.frames() {
         insert_at(&mut map, key, frame_at(setup, key))?;
     }
@@ -217,10 +218,10 @@ fn all_frames(alloc: Global, setup: &Setup) -> Result<BTreeMap<u16, Frame>, Memo
 }
 
 /// All liveness numbers.
-fn all_numbers(alloc: Global) -> Result<BTreeMap<u16, Liveness>, Memory>
-    ensures { IfOk result (λ m. HasAll 64 m.entries (λ k x. number_of x ≡ start_number k)) }
+fn all_numbers(alloc: Global) -> Result<Vec<Liveness>, Memory>
+    ensures { IfOk result (λ m. HasAll 64 m.items (λ k x. number_of x ≡ start_number k)) }
 {
-    let mut map = BTreeMap::new(alloc);
+    let mut map = Vec::new(alloc);
     'each: for key in 0..64 {
         insert_at(&mut map, key, number_at(key))?;
     }
@@ -228,10 +229,10 @@ fn all_numbers(alloc: Global) -> Result<BTreeMap<u16, Liveness>, Memory>
 }
 
 /// All cores.
-fn all_cores(alloc: Global, setup: &Setup) -> Result<BTreeMap<u16, Core>, Memory>
-    ensures { IfOk result (λ m. HasAll setup.now.cores m.entries (λ k x. core_of x ≡ start_core setup.now k)) }
+fn all_cores(alloc: Global, setup: &Setup) -> Result<Vec<Core>, Memory>
+    ensures { IfOk result (λ m. HasAll setup.now.cores m.items (λ k x. core_of x ≡ start_core setup.now k)) }
 {
-    let mut map = BTreeMap::new(alloc);
+    let mut map = Vec::new(alloc);
     'each: for key in 0..u16::from(setup.cores()) {
         insert_at(&mut map, key, core_at(setup, key))?;
     }
@@ -239,15 +240,48 @@ fn all_cores(alloc: Global, setup: &Setup) -> Result<BTreeMap<u16, Core>, Memory
 }
 
 /// No grace period at any key below `end`.
-fn all_graces(alloc: Global, end: u16) -> Result<BTreeMap<u16, Period>, Memory>
-    ensures { IfOk result (λ m. HasAll end m.entries (λ k p. p ≡ no_period)) }
+fn all_graces(alloc: Global, end: u16) -> Result<Vec<Period>, Memory>
+    ensures { IfOk result (λ m. HasAll end m.items (λ k p. p ≡ no_period)) }
 {
-    let mut map = BTreeMap::new(alloc);
+    let mut map = Vec::new(alloc);
     let none = Period::none();
     'each: for key in 0..end {
         insert_at(&mut map, key, none)?;
     }
     Ok(map)
+}
+
+/// No reference to any frame, 0 to 511.
+fn no_counts(alloc: Global) -> Result<Vec<u32>, Memory>
+    ensures zeros { IfOk result (λ v. HasAll 512 v.items (λ k n. n ≡ 0)) }
+    ensures all { IfOk result (λ v. length v.items ≡ 512) }
+{
+    let mut map = Vec::new(alloc);
+    'each: for key in 0..512 {
+        insert_at(&mut map, key, 0_u32)?;
+    }
+    Ok(map)
+}
+
+/// The references to each frame, by what is at the keys of the machine.
+fn all_counts(
+    alloc: Global,
+    setup: &Setup,
+    places: &Vec<Place>,
+    frames: &Vec<Frame>,
+    numbers: &Vec<Liveness>,
+    cores: &Vec<Core>,
+) -> Result<Vec<u32>, Memory>
+    requires { HasKeys setup.now.cores cores.now.items }
+    ensures { IfOk result (λ v. IsCounted setup.now.frames setup.now.cores places.now.items frames.now.items numbers.now.items
+        cores.now.items v.items) }
+{
+    let mut counts = no_counts(alloc)?;
+    count_places(&mut counts, places, 64 * setup.frames());
+    count_frames(&mut counts, frames, setup.frames());
+    count_cores(&mut counts, cores, u16::from(setup.cores()));
+    count_numbers(&mut counts, numbers, 64);
+    Ok(counts)
 }
 
 impl SeqKernel {
@@ -263,6 +297,7 @@ impl SeqKernel {
         let place_graces = all_graces(alloc, 64 * setup.frames())?;
         let frame_graces = all_graces(alloc, setup.frames())?;
         let number_graces = all_graces(alloc, 64)?;
+        let counts = all_counts(alloc, setup, &places, &frames, &numbers, &cores)?;
         Ok(SeqKernel {
             places,
             frames,
@@ -273,6 +308,7 @@ impl SeqKernel {
             number_graces,
             times: [Times::none(); 8],
             clock: 0,
+            counts,
             core_count: setup.cores(),
             frame_count: setup.frames(),
             calls: setup.calls(),

@@ -8,8 +8,6 @@ ghost use Rattle.seq_state.specs.Times.{no_times, no_period, times_at, enters, r
 ghost use Rattle.seq_state.specs.Maps.{at};
 ghost use Rattle.seq_state.specs.Passing.{Becomes};
 
-use std::collections::BTreeMap;
-
 /// A grace period: when it began, 0 for none, and whether it waits for flushes.
 #[derive(Clone, Copy, PartialEq, Eq, Debug)]
 pub struct Period {
@@ -149,19 +147,23 @@ pub fn all_ranked(all: &[Times; 8]) -> [Times; 8]
 }
 
 /// The grace period at a key, if it stands, begins at the rank of its beginning.
-fn rank_at(map: &mut BTreeMap<u16, Period>, key: u16, all: &[Times; 8])
-    ensures here { Becomes (ranked_period all.now) (at map.old.entries key) (at map.new.entries key) }
-    ensures others { (q : ℕ) → q ≢ key → at map.new.entries q ≡ at map.old.entries q }
+fn rank_at(map: &mut Vec<Period>, key: u16, all: &[Times; 8])
+    ensures here { Becomes (ranked_period all.now) (at map.old.items key) (at map.new.items key) }
+    ensures others { (q : ℕ) → q ≢ key → at map.new.items q ≡ at map.old.items q }
 {
-    if let Some(period) = map.get_mut(&key) {
-        let began = rank(all, period.began);
-        period.began = began;
+    let index = usize::from(key);
+    if index < map.len() {
+        let old = map[index];
+        map[index] = Period {
+            began: rank(all, old.began),
+            flushes: old.flushes,
+        };
     }
 }
 
 /// The grace periods at all keys below `end` begin at the ranks of their beginnings.
-pub fn rank_below(map: &mut BTreeMap<u16, Period>, end: u16, all: &[Times; 8])
-    ensures { (k : ℕ) → k < end → Becomes (ranked_period all.now) (at map.old.entries k) (at map.new.entries k) }
+pub fn rank_below(map: &mut Vec<Period>, end: u16, all: &[Times; 8])
+    ensures { (k : ℕ) → k < end → Becomes (ranked_period all.now) (at map.old.items k) (at map.new.items k) }
 {
     'each: for key in 0..end {
         rank_at(map, key, all);

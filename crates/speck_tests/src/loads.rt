@@ -9,7 +9,7 @@ use std::test::Fail;
 use std::thread::Threads;
 
 // More than any text here.
-const ROOM: usize = 262_144;
+const ROOM: usize = 1_048_576;
 
 // What `speck` writes for these words and this input, and how it ends. The first read of the source fails where that is
 // told.
@@ -152,5 +152,35 @@ fn a_summary_counts_the_replies_of_a_replay(rt: HostRuntime) -> Result<(), Fail>
         Ok(Summed::Done { text }) => assert_eq!(rt; text.as_str(), wanted),
         _ => assert!(rt; false),
     }
+    Ok(())
+}
+
+// What each core of the long script does in a round: two copies to one place, of which the second finds it held, and two looks, of
+// which the second comes after the removal.
+const ROUND: &str = "copy 0 1 63\ncopy 0 1 63\nlook 63\nremove 1 63\nlook 63\n";
+
+// A script of nearly 20,000 lines, the most that a script has: 499 rounds of each of 8 cores, at 512 frames.
+fn long_script(alloc: Global) -> Result<String, Fail> {
+    let mut script = String::from_str(alloc, "speck 1\ncores 8\nframes 512\n")?;
+    for _ in 0..8 {
+        write!(script, "grant 100 0 1\n")?;
+    }
+    for core in 0..8 {
+        write!(script, "core {core}\n")?;
+        for _ in 0..499 {
+            script.push_str(ROUND)?;
+        }
+    }
+    Ok(script)
+}
+
+#[test]
+fn the_longest_lists_are_made_alone_on_the_largest_machine(rt: HostRuntime) -> Result<(), Fail> {
+    let alloc = rt.alloc();
+    let script = long_script(alloc)?;
+    let (status, text) = written(&rt, alloc, &["plain"], script.as_bytes(), &[])?;
+    assert!(rt; status == Status::Done);
+    let counted = summary_of(alloc, from_utf8(&text).unwrap_or(""))?;
+    assert_eq!(rt; counted.as_str(), "ok 11976\noccupied 3992\nempty 3992\ncalls 19960\ntotal 800\n");
     Ok(())
 }

@@ -1,7 +1,7 @@
-use Rattle.std.proofs.Common.{◌≡◌}
+use Rattle.std.proofs.Common.{◌≡◌, length}
 use Rattle.seq_state.specs.Times.{no_period}
 use Rattle.seq_state.specs.Maps.{HasAll}
 use Rattle.seq_state.proofs.start.all_graces.Given as goal
 
 abbrev pub invariant-each : goal.invariant-each
-invariant-each l = HasAll l.key l.map.entries (λ k p. p ≡ no_period) × (l.none ≡ no_period)
+invariant-each l = HasAll l.key l.map.items (λ k p. p ≡ no_period) × (l.none ≡ no_period) × (length l.map.items ≡ l.key)

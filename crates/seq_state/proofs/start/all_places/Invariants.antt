@@ -1,8 +1,8 @@
-use Rattle.std.proofs.Common.{◌≡◌, ◌/◌, ◌%◌}
+use Rattle.std.proofs.Common.{length, ◌≡◌, ◌/◌, ◌%◌}
 use Rattle.kernel_rules.specs.Start.{start_place}
 use Rattle.seq_state.specs.Parts.{place_held}
 use Rattle.seq_state.specs.Maps.{HasAll}
 use Rattle.seq_state.proofs.start.all_places.Given as goal
 
 abbrev pub invariant-each : goal.invariant-each
-invariant-each l = HasAll l.key l.map.entries (λ k p. place_held p ≡ start_place l.setup (k / 64) (k % 64))
+invariant-each l = HasAll l.key l.map.items (λ k p. place_held p ≡ start_place l.setup (k / 64) (k % 64)) × (length l.map.items ≡ l.key)

@@ -1,9 +1,9 @@
-use Rattle.std.proofs.Common.{sym, ◌∙◌, ap, arith}
+use Rattle.std.proofs.Common.{◌<◌, subst, sym, ◌∙◌, ap, arith}
 use Rattle.kernel_rules.specs.State.{Limits}
 use Rattle.seq_state.specs.Maps.{Maps, state_of}
 use Rattle.seq_state.specs.Kernel.{maps_of}
 use Rattle.seq_state.proofs.MapLemmas as maps
-use Rattle.seq_state.proofs.TimeLemmas.{enter_done}
+use Rattle.seq_state.proofs.TimeLemmas.{enter_done, enter_whole}
 use Rattle.seq_state.proofs.kernel.SeqKernel.enter.Goals as goal
 
 pub returns : goal.returns
@@ -11,7 +11,18 @@ returns c =
     let e = ap (λ (l : Limits). l.cores) (maps.limits_of c.args.self.now (maps_of c.self.inside) c.self.view_is) in
     let stands = c.self.invariant.cores c.from.result (omega arith) in
     let is = c.core-value.ensures ∙ ap (λ (t : Maps). (state_of t).core c.args.core) (sym c.self.view_is) in
-    rw (← c.self.view_is) (enter_done (maps_of c.self.inside) c.write_at.new.map.entries c.args.core c.from.result c.from-at.result
+    rw (← c.self.view_is) (enter_done (maps_of c.self.inside) c.write_at.new.map.items c.args.core c.from.result c.from-at.result
     c.core-value.result.now c.enters.result c.self.invariant c.number.ensures.range (c.from.ensures ∙ c.number-2.ensures.value)
     (c.from-at.ensures ∙ c.number.ensures.value)
     (record { here = c.write_at.ensures.here stands; others = c.write_at.ensures.others }) is c.enters.ensures)
+
+pub invariant_of-self : goal.invariant_of-self
+invariant_of-self c =
+    let e = ap (λ (l : Limits). l.cores) (maps.limits_of c.args.self.now (maps_of c.self.inside) c.self.view_is) in
+    let stands = c.self.invariant.cores c.from.result (omega arith) in
+    let is = c.core-value.ensures ∙ ap (λ (t : Maps). (state_of t).core c.args.core) (sym c.self.view_is) in
+    let core = subst (λ (t : Maps). c.args.core < (state_of t).limits.cores) (sym c.self.view_is) c.requires in
+    enter_whole (maps_of c.self.inside) c.write_at.new.map.items c.args.core c.from.result c.from-at.result
+    c.core-value.result.now c.enters.result c.self.invariant c.number.ensures.range core (c.from.ensures ∙ c.number-2.ensures.value)
+    (c.from-at.ensures ∙ c.number.ensures.value)
+    (record { here = c.write_at.ensures.here stands; others = c.write_at.ensures.others }) is c.enters.ensures

@@ -7,7 +7,7 @@ pub returns-clause-waits : goal.returns-clause-waits
 returns-clause-waits c =
     let is = c.from-2.ensures ∙ c.number-2.ensures.value in
     let inside = c.is_inside-inside.ensures
-    ∙ ap (λ k. (core_or_none (at c.self.inside.cores.entries k)).inside) (c.from.ensures ∙ c.number.ensures.value) in
+    ∙ ap (λ k. (core_or_none (at c.self.inside.cores.items k)).inside) (c.from.ensures ∙ c.number.ensures.value) in
     rw (← c.self.view_is) (λ j. inside j && nat_lt (get_or c.self.inside.times (is j) no_times).entered c.args.period.began)
 
 pub returns-clause-not_passed : goal.returns-clause-not_passed

@@ -1,9 +1,9 @@
-use Rattle.std.proofs.Common.{◌+◌, refl, sym, subst}
+use Rattle.std.proofs.Common.{arith, ◌+◌, refl, sym, subst}
 use Rattle.seq_state.specs.Maps.{state_of}
 use Rattle.seq_state.specs.Kernel.{maps_of}
 use Rattle.seq_state.specs.Representation.{SameState}
 use Rattle.seq_state.proofs.Same.{same_then}
-use Rattle.seq_state.proofs.TimeLemmas.{same_later, all_before}
+use Rattle.seq_state.proofs.TimeLemmas.{same_later, all_before, whole_later}
 use Rattle.seq_state.proofs.kernel.SeqKernel.tick.Goals as goal
 
 pub returns-clause-same : goal.returns-clause-same
@@ -12,3 +12,6 @@ returns-clause-same c = same_then _ _ _ (same_later (maps_of c.self.inside) (c.s
 
 pub returns-clause-later : goal.returns-clause-later
 returns-clause-later c = all_before (maps_of c.self.inside) (c.self.inside.clock + 1) refl c.self.invariant
+
+pub invariant_of-self : goal.invariant_of-self
+invariant_of-self c = whole_later (maps_of c.self.inside) (c.self.inside.clock + 1) (omega arith) c.self.invariant

@@ -1,0 +1,20 @@
+use Rattle.std.proofs.Common.{refl, ◌∙◌, ap, arith}
+use Rattle.kernel_rules.specs.References.{frame_names, times}
+use Rattle.seq_state.specs.Maps.{at, count_at, frame_or_untyped}
+use Rattle.seq_state.proofs.Counting.{none_more, counted_more}
+use Rattle.seq_state.proofs.counts.count_frames.Goals as goal
+
+pub each-init : goal.each-init
+each-init c = record { all = refl; counts = λ f _. none_more _ _; most = λ f _. omega arith }
+
+pub each-preserved : goal.each-preserved
+each-preserved c =
+    let all = c.each.invariant.all in
+    record {
+      all = c.gain.ensures.all ∙ all;
+      counts = λ f below. counted_more (λ k. times f (frame_names (frame_or_untyped (at c.args.frames.now.items k)))) c.each.key
+          (count_at c.args.counts.now.items f) (count_at c.each.counts.items f) (count_at c.gain.new.counts.items f)
+          (times f c.names_at_frame.result) (c.each.invariant.counts f below) (c.gain.ensures.counts f (omega arith))
+          (ap (times f) c.names_at_frame.ensures);
+      most = λ f below. let before = c.each.invariant.most f below in let more = c.gain.ensures.most f (omega arith) in omega arith;
+    }

@@ -1,0 +1,12 @@
+use Rattle.std.proofs.Common.{◌≡◌, ◌<◌, ◌≤◌, ◌+◌, ◌*◌, ℕ, length}
+use Rattle.kernel_rules.specs.References.{frame_names, sum_below, times}
+use Rattle.seq_state.specs.Maps.{at, count_at, frame_or_untyped}
+use Rattle.seq_state.proofs.counts.count_frames.Given as goal
+
+abbrev pub invariant-each : goal.invariant-each
+invariant-each l = record {
+  all : length l.counts.items ≡ length l.initial.counts.items;
+  counts : (f : ℕ) → f < length l.initial.counts.items → count_at l.counts.items f ≡ count_at l.initial.counts.items f
+      + sum_below (λ k. times f (frame_names (frame_or_untyped (at l.frames.items k)))) l.key;
+  most : (f : ℕ) → f < length l.initial.counts.items → count_at l.counts.items f ≤ count_at l.initial.counts.items f + 16 * l.key;
+}

@@ -1,0 +1,14 @@
+use Rattle.std.proofs.Common.{◌≡◌, ◌<◌, ◌+◌, ℕ, length}
+use Rattle.kernel_rules.specs.References.{times}
+use Rattle.seq_state.specs.Maps.{count_at}
+use Rattle.seq_state.proofs.counts.gain.Given as goal
+
+abbrev pub invariant-each : goal.invariant-each
+invariant-each l = record {
+  all : length l.counts.items ≡ length l.initial.counts.items;
+  counts : (f : ℕ) → f < length l.initial.counts.items
+      → count_at l.counts.items f + times f l.rest ≡ count_at l.initial.counts.items f + times f l.fn.names;
+}
+
+abbrev pub decreases-each : goal.decreases-each
+decreases-each l = length l.rest

@@ -1,0 +1,13 @@
+use Rattle.std.proofs.Common.{◌≡◌}
+use Rattle.kernel_rules.specs.Start.{start_core}
+use Rattle.seq_state.specs.Parts.{core_of}
+use Rattle.seq_state.proofs.StartLemmas.{all_more}
+use Rattle.seq_state.proofs.start.all_cores.Goals as goal
+
+pub each-preserved : goal.each-preserved
+each-preserved c = (
+  all_more (λ k x. core_of x ≡ start_core c.args.setup.now k)
+      c.each.map.items c.insert_at.new.map.items c.each.key c.core_at.result
+      c.in_ok-insert_at.ensures.here c.in_ok-insert_at.ensures.others c.core_at.ensures c.each.invariant.0,
+  c.in_ok-insert_at.ensures.next,
+)

@@ -1,0 +1,13 @@
+use Rattle.std.proofs.Common.{◌≡◌}
+use Rattle.kernel_rules.specs.Start.{start_number}
+use Rattle.seq_state.specs.Parts.{number_of}
+use Rattle.seq_state.proofs.StartLemmas.{all_more}
+use Rattle.seq_state.proofs.start.all_numbers.Goals as goal
+
+pub each-preserved : goal.each-preserved
+each-preserved c = (
+  all_more (λ k x. number_of x ≡ start_number k)
+      c.each.map.items c.insert_at.new.map.items c.each.key c.number_at.result
+      c.in_ok-insert_at.ensures.here c.in_ok-insert_at.ensures.others c.number_at.ensures c.each.invariant.0,
+  c.in_ok-insert_at.ensures.next,
+)
