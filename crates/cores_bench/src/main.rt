@@ -125,10 +125,10 @@ fn print_times<R: Threads + Sync + Clock + Print>(rt: &R, alloc: Global) -> Opti
 
 // How often the one goes into the other, in hundredths.
 fn times(many: u64, one: u64) -> u64 {
-    if one == 0 {
+    if one == 0 || many > 1_000_000_000_000 {
         return 0;
     }
-    (many as u128 * 100 / one as u128) as u64
+    many * 100 / one
 }
 
 fn print_few<R: Threads + Sync + Print>(rt: &R, alloc: Global) -> Option<()> {
