@@ -37,7 +37,7 @@ use Rattle.call_stages.specs.stage_look.specs.Shown.{CapNames, shown_in}
 use Rattle.call_stages.specs.stage_look.specs.Lookup.{LookFits}
 use Rattle.call_stages.specs.stage_look.specs.declared.look.Look.{Look}
 use Rattle.call_stages.specs.stage_look.proofs.LookLemmas.{shown_names}
-use Rattle.call_stages.specs.call_plans.specs.Bounds.{look_steps, act_steps}
+use Rattle.call_stages.specs.call_plans.specs.Bounds.{living_steps, look_steps, act_steps}
 use Rattle.call_stages.specs.act_states.specs.declared.refusals.Refusal.{Refusal}
 use Rattle.call_stages.specs.act_states.specs.declared.refusals.Refusal.TheVariants as refusal
 use Rattle.call_stages.specs.act_states.specs.declared.own.Own.{Own}
@@ -71,7 +71,7 @@ use Rattle.call_stages.specs.frame_words.specs.declared.comp_word.CompWord.{Comp
 use Rattle.call_stages.specs.Tails.{tail_left, took_tail, tail_counts}
 use Rattle.call_stages.specs.Fits.{TailFits, WorkFits, StageFits, HasRoom, CountsWait}
 use Rattle.call_stages.specs.Fits.{CountsAt, names_left, steps_later}
-use Rattle.call_stages.specs.Fits.{left_of_look, left_of_pin, work_left, left_at, left_of, IsActive, IsOwn}
+use Rattle.call_stages.specs.Fits.{IsFirst, left_of_alive, left_of_look, left_of_pin, work_left, left_at, left_of, IsActive, IsOwn}
 use Rattle.call_stages.specs.act_states.specs.Scans.{ScanFits, left_of_scan}
 use Rattle.act_fits.proofs.StepsFit.{starts_fit}
 use Rattle.act_fits.proofs.DuesFit.{StepFits, few_dues, object_count, work_next, counts_next, ChangeFits}
@@ -87,7 +87,15 @@ use Rattle.call_stages.specs.act_states.specs.declared.work.Tail.{Tail}
 use Rattle.call_stages.specs.act_states.specs.declared.work.Tail.TheVariants.{Nothing, Quiesce, Unmark, StoreDead, StoreFlush, Release}
 use Rattle.call_stages.specs.act_states.specs.declared.work.Tail.TheVariants.{StoreLive, Push, Pop, StoreRunning, StoreIdle, Share}
 use Rattle.call_stages.specs.declared.stages.Stage.{Stage}
-use Rattle.call_stages.specs.declared.stages.Stage.TheVariants.{Enter, Undecided, Decided, Leave}
+use Rattle.call_stages.specs.declared.stages.Stage.TheVariants.{Enter, Living, Undecided, Decided, Leave}
+use Rattle.call_stages.specs.frame_words.specs.Live.{live_of_word}
+use Rattle.call_stages.specs.frame_words.specs.declared.live_word.LiveWord.{LiveWord}
+use Rattle.call_stages.specs.frame_words.specs.declared.live_word.LiveWord.TheVariants as live_word
+use Rattle.call_stages.specs.stage_thread.specs.Living.{AliveFits, lives_end, number_end, live_end, comp_end, comp_after, alive_end}
+use Rattle.call_stages.specs.stage_thread.specs.Living.{alive_after}
+use Rattle.call_stages.specs.stage_thread.specs.declared.alive.Alive.{Alive}
+use Rattle.call_stages.specs.stage_thread.specs.declared.alive.Alive.TheVariants.{AtComp, AtLive}
+use Rattle.call_stages.specs.stage_thread.proofs.ThreadLemmas.{alive_after_fits}
 use Rattle.call_stages.specs.declared.stages.ActiveCall.{ActiveCall}
 use Rattle.call_stages.specs.act_states.specs.declared.work.Work.{Work}
 use Rattle.call_stages.specs.act_states.specs.declared.work.Work.TheVariants.{Lookup, Read, Scan, Acquire, Act}
@@ -98,7 +106,7 @@ use Rattle.call_stages.specs.act_states.specs.WorkSteps.{refuse}
 use Rattle.call_stages.specs.act_states.specs.Acts.{ActFits, close_left, act_left, took_close, maps_frame, maps_word, took_act}
 use Rattle.call_stages.specs.act_states.specs.Acts.{dues, next_work, cap_dues, starts, undo, made_dues, meets_object}
 use Rattle.call_stages.specs.act_states.specs.Acts.{meets_blank, meets_making, marks_if, published, took_making_at}
-use Rattle.call_stages.specs.Steps.{GoesOn, landed, took_enter, read_more, took_read}
+use Rattle.call_stages.specs.Steps.{GoesOn, landed, took_first, took_enter, took_alive, read_more, took_read}
 use Rattle.call_stages.specs.Steps.{took_look, took_scan, took_count, took_work, went_with, is_spent, took_at, took}
 use Rattle.act_fits.proofs.LandsFit.{TookFits, Facts, next_fits, landed_fits}
 use Rattle.act_fits.proofs.ScansFit.{scan_goes, scan_left}
@@ -502,9 +510,85 @@ work_fits own a (Acquire pin change act) found facts room fits counts =
     count_fits own a facts room pin change act found fits.0 fits.1 counts
 work_fits own a (Act act) found facts room fits counts = done_fits own a facts room act found fits counts
 
-enter_fits : (own : Own) (a : ActiveCall) (spent : Bool) → spent ≡ is_spent own → Facts own a → a.counts ≡ []
+-- what comes first of a call
+first_fits : (own : Own) (a : ActiveCall) (living : Bool) → Facts own a → a.counts ≡ [] → a.found ≡ [] → own.made < own.limit
+    → TookFits own (3 + living_steps living + look_steps (names_left a) a.plan.target + act_steps a.call own.layout.cores) a
+    (took_first living own a)
+first_fits own a true facts none empty room = record {
+  call = refl;
+  plan = refl;
+  found = facts.found;
+  first = empty;
+  stage = facts.own_fits.comp;
+  acquired = facts.acquired;
+  counts = none;
+  room = room;
+  counted = facts.own_fits.made;
+  steps = refl;
+  fewer = omega arith;
+}
+first_fits own a false facts none empty room =
+    works_fits own a facts none room (look_steps (names_left a) a.plan.target + act_steps a.call own.layout.cores) _ _
+    (next_fits own a facts) (omega arith)
+
+-- It is asked whether the component lives.
+module _ (own : Own) (a : ActiveCall) (facts : Facts own a) (none : a.counts ≡ []) (empty : a.found ≡ [])
+    (room : own.made < own.limit) where
+  -- it is asked on, in fewer steps
+  asks_fits : (left : ℕ) (alive : Alive) → AliveFits own.layout alive → left_of_alive alive < left
+      → TookFits own (2 + left + look_steps (names_left a) a.plan.target + act_steps a.call own.layout.cores) a
+      (took_alive own a alive ends.Going)
+  asks_fits left alive fits fewer = record {
+    call = refl;
+    plan = refl;
+    found = facts.found;
+    first = empty;
+    stage = fits;
+    acquired = facts.acquired;
+    counts = none;
+    room = room;
+    counted = facts.own_fits.made;
+    steps = refl;
+    fewer = omega arith;
+  }
+
+  lives_fits : (alive : Alive) (lives : Bool)
+      → TookFits own (2 + 1 + look_steps (names_left a) a.plan.target + act_steps a.call own.layout.cores) a
+      (took_alive own a alive (lives_end lives))
+  lives_fits alive true =
+      works_fits own a facts none room (look_steps (names_left a) a.plan.target + act_steps a.call own.layout.cores) _ _
+      (next_fits own a facts) (omega arith)
+  lives_fits alive false = refused_fits own a facts none room _ (refusal_of reply.Dead) (omega arith)
+
+  number_fits : (alive : Alive) (epoch : ℕ) (number : LiveWord)
+      → TookFits own (2 + 1 + look_steps (names_left a) a.plan.target + act_steps a.call own.layout.cores) a
+      (took_alive own a alive (number_end epoch number))
+  number_fits alive epoch live_word.Free = refused_fits own a facts none room _ (refusal_of reply.Dead) (omega arith)
+  number_fits alive epoch (live_word.Live now frame) = lives_fits alive (now == epoch)
+  number_fits alive epoch (live_word.Closing now by) = refused_fits own a facts none room _ (refusal_of (reply.Busy by)) (omega arith)
+  number_fits alive epoch (live_word.Dead now stamp) = refused_fits own a facts none room _ (refusal_of reply.Dead) (omega arith)
+
+  live_fits : (alive : Alive) (epoch : ℕ) (o : Option LiveWord)
+      → TookFits own (2 + 1 + look_steps (names_left a) a.plan.target + act_steps a.call own.layout.cores) a
+      (took_alive own a alive (live_end epoch o))
+  live_fits alive epoch None = refused_fits own a facts none room _ (refusal_of reply.Raced) (omega arith)
+  live_fits alive epoch (Some number) = number_fits alive epoch number
+
+  loaded_fits : (comp : ℕ) (o : Option CompWord) → AliveFits own.layout (comp_after comp o)
+      → TookFits own (2 + 2 + look_steps (names_left a) a.plan.target + act_steps a.call own.layout.cores) a
+      (took_alive own a (comp_after comp o) (comp_end o))
+  loaded_fits comp None fits = refused_fits own a facts none room _ (refusal_of reply.Raced) (omega arith)
+  loaded_fits comp (Some life) fits = asks_fits 2 (AtLive life) fits (omega arith)
+
+  alive_fits : (alive : Alive) (found : ℕ) → AliveFits own.layout alive
+      → TookFits own (left_at own.layout.cores a (Living alive)) a (took_alive own a (alive_after alive found) (alive_end alive found))
+  alive_fits (AtComp comp) found fits =
+      loaded_fits comp (comp_of_word found) (alive_after_fits own.layout (AtComp comp) found fits)
+  alive_fits (AtLive life) found fits = live_fits (AtLive life) life.epoch (live_of_word found)
+
+enter_fits : (own : Own) (a : ActiveCall) (spent : Bool) → spent ≡ is_spent own → Facts own a → a.counts ≡ [] → a.found ≡ []
     → TookFits own (left_at own.layout.cores a Enter) a (took_enter spent own a)
-enter_fits own a true is facts none = record {
+enter_fits own a true is facts none empty = record {
   call = refl;
   plan = refl;
   found = facts.found;
@@ -517,10 +601,8 @@ enter_fits own a true is facts none = record {
   steps = refl;
   fewer = let empty : length a.counts ≡ 0 = ap length none in omega arith;
 }
-enter_fits own a false is facts none =
-    works_fits own a facts none (leb-false own.limit own.made (sym is))
-    (look_steps (names_left a) a.plan.target + act_steps a.call own.layout.cores) _ _
-    (next_fits own a facts) (omega arith)
+enter_fits own a false is facts none empty =
+    first_fits own a a.plan.living facts none empty (leb-false own.limit own.made (sym is))
 
 tail_fits : (own : Own) (a : ActiveCall) (r : Reply) (drawn : Option ℕ) (tail : Tail) (counts : List Acquired) (found : ℕ) → Facts own a
     → a.counts ≡ counts → TailFits own.layout tail
@@ -649,11 +731,13 @@ tail_fits own a r drawn (Release x) counts found facts is fits = released_fits o
 tail_fits own a r drawn (Share p) counts found facts is fits = shared_fits own a r drawn p counts found facts is fits
 
 stage_fits : (own : Own) (a : ActiveCall) (stage : Stage) (found : ℕ) → Facts own a → StageFits own.layout stage → CountsAt a.counts stage
-    → HasRoom own.made own.limit stage → TookFits own (left_at own.layout.cores a stage) a (took_at own a stage found)
-stage_fits own a Enter found facts fits counts room = enter_fits own a _ refl facts counts
-stage_fits own a (Undecided work) found facts fits counts room = work_fits own a work found facts room fits counts
-stage_fits own a (Decided r drawn tail) found facts fits counts room = tail_fits own a r drawn tail a.counts found facts refl fits
-stage_fits own a (Leave r stamp) found facts fits counts room = omega arith
+    → HasRoom own.made own.limit stage → IsFirst stage a.found
+    → TookFits own (left_at own.layout.cores a stage) a (took_at own a stage found)
+stage_fits own a Enter found facts fits counts room first = enter_fits own a _ refl facts counts first
+stage_fits own a (Living alive) found facts fits counts room first = alive_fits own a facts counts first room alive found fits
+stage_fits own a (Undecided work) found facts fits counts room first = work_fits own a work found facts room fits counts
+stage_fits own a (Decided r drawn tail) found facts fits counts room first = tail_fits own a r drawn tail a.counts found facts refl fits
+stage_fits own a (Leave r stamp) found facts fits counts room first = omega arith
 
 pub took_fits : (own : Own) (a : ActiveCall) (found : ℕ) → IsOwn own → IsActive own a
     → TookFits own (left_of own.layout.cores a) a (took own a found)
@@ -665,4 +749,4 @@ took_fits own a found h active =
       acquired = active.acquired;
       limits = active.limits;
     })
-    active.stage active.counts active.room
+    active.stage active.counts active.room active.first

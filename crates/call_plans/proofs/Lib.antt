@@ -1,4 +1,5 @@
 pub mod CallsGoBy
+pub mod Lives
 pub mod AfterNames
 pub mod Roots
 pub mod StepsOfPlans

@@ -1,5 +1,6 @@
--- The most own steps of a call, by its plan: three for entry and exit, those of its look-ups, and those of its act.
-use Rattle.std.specs.Prelude.{ℕ, ◌+◌, ◌*◌, List, length}
+-- The most own steps of a call, by its plan: three for entry and exit, those by which it asks whether its component lives, those of its
+-- look-ups, and those of its act.
+use Rattle.std.specs.Prelude.{ℕ, ◌+◌, ◌*◌, Bool, List, length, if◌then◌else◌}
 use Rattle.spk_nums.specs.declared.kinds.FrameKind.{FrameKind}
 use Rattle.spk_nums.specs.declared.kinds.FrameKind.TheVariants.{Untyped}
 use Rattle.spk_nums.specs.declared.calls.Make.{Make}
@@ -13,6 +14,10 @@ use Rattle.call_plans.specs.declared.plans.Spot.{Spot}
 use Rattle.call_plans.specs.declared.plans.Spot.TheVariants.{Under, InRoot}
 use Rattle.call_plans.specs.declared.plans.Target.{Target}
 use Rattle.call_plans.specs.declared.plans.Target.TheVariants.{Nowhere, Free, Held, Own}
+
+-- it is asked in two steps whether a component lives
+abbrev pub living_steps : Bool → ℕ
+living_steps living = if living then 2 else 0
 
 -- a place under a number is looked up in two steps, an entry of a root in one
 abbrev pub spot_steps : Spot → ℕ

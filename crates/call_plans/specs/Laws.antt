@@ -5,10 +5,11 @@ use Rattle.spk_nums.specs.declared.calls.Call.{Call}
 use Rattle.spk_nums.specs.declared.replies.Reply.{Reply}
 use Rattle.kernel_rules.specs.State.{State}
 use Rattle.kernel_rules.specs.Rules.{Rule, outcome, RuleMay}
+use Rattle.kernel_rules.specs.Life.{asks_life}
 use Rattle.kernel_rules.specs.CallRelation.{rule_of}
 use Rattle.call_plans.specs.declared.plans.Plan.{Plan}
 use Rattle.spk_nums.specs.Bounds.{bound_of}
-use Rattle.call_plans.specs.Bounds.{look_steps, act_steps}
+use Rattle.call_plans.specs.Bounds.{living_steps, look_steps, act_steps}
 use Rattle.call_plans.specs.PlanOf.{plan_for}
 use Rattle.call_plans.specs.GoesBy.{OwnPages, own_pages, GoesBy, GoesOn}
 use Rattle.call_plans.specs.After.{rule_after, with_found, names_after, Leads, LeadsIn, Next, NextName, next_of, NextMay}
@@ -54,6 +55,13 @@ LeadsMore =
     → NextLeads s c (next_of plan ks) k
     → Leads (LeadsIn s c) plan.names [] (ks ++ k ∷ [])
 
--- The bound of each call is three steps for entry and exit, those of its plan's look-ups, and those of its act.
+-- The plan of a call asks that the component lives where the call asks for life.
+abbrev pub LivesByPlan : Type 0
+LivesByPlan = (call : Call) → (plan_for call).living ≡ asks_life call
+
+-- The bound of each call is three steps for entry and exit, those by which its plan asks for life, those of its look-ups, and those of
+-- its act.
 abbrev pub BoundIsByPlan : Type 0
-BoundIsByPlan = (call : Call) (n : ℕ) → bound_of call n ≡ 3 + look_steps (plan_for call).names (plan_for call).target + act_steps call n
+BoundIsByPlan = (call : Call) (n : ℕ)
+    → bound_of call n
+    ≡ 3 + living_steps (plan_for call).living + look_steps (plan_for call).names (plan_for call).target + act_steps call n

@@ -1,5 +1,5 @@
 -- The plan of each call.
-use Rattle.std.specs.Prelude.{ℕ, List, [], ◌∷◌}
+use Rattle.std.specs.Prelude.{ℕ, true, false, List, [], ◌∷◌}
 use Rattle.spk_nums.specs.Rights.{neither, right_to_copy, right_to_use}
 use Rattle.spk_nums.specs.declared.kinds.FrameKind.{FrameKind}
 use Rattle.spk_nums.specs.declared.kinds.FrameKind.TheVariants.{Untyped}
@@ -39,15 +39,19 @@ a_leaf n = record { number = n; wanted = LeafOf First; needs = record { 0 = righ
 
 -- a call with these names that fills the free place of this number in the table to which a name leads, acquiring so many counts
 abbrev pub fills : List Name → Nth → ℕ → ℕ → Plan
-fills names root n pins = record { names = names; target = Free (Under root n); pins = pins; decides = at.Target }
+fills names root n pins = record { living = true; names = names; target = Free (Under root n); pins = pins; decides = at.Target }
 
 -- a call with one name and a target to be held, whose removal acquires the count of what is held and draws a stamp
 abbrev pub removes : Name → Spot → Plan
-removes name spot = record { names = name ∷ []; target = Held spot; pins = 1; decides = at.Draw }
+removes name spot = record { living = true; names = name ∷ []; target = Held spot; pins = 1; decides = at.Draw }
 
 -- a call with these names and no target
 abbrev pub names_alone : List Name → ℕ → Decides → Plan
-names_alone names pins decides = record { names = names; target = Nowhere; pins = pins; decides = decides }
+names_alone names pins decides = record { living = true; names = names; target = Nowhere; pins = pins; decides = decides }
+
+-- a call on the core or its thread, which looks nothing up and asks of no component that it lives
+abbrev pub of_core : ℕ → Decides → Plan
+of_core pins decides = record { living = false; names = []; target = Nowhere; pins = pins; decides = decides }
 
 -- a call on two temporal capabilities
 abbrev pub on_two_tcaps : ℕ → ℕ → Decides → Plan
@@ -71,20 +75,20 @@ plan_for (Look a) = names_alone (any_cap neither a ∷ []) 0 at.LeafEntry
 plan_for (Copy a t b rights) = fills (any_cap right_to_copy a ∷ of_kind kind.Table t ∷ []) Second b 1
 plan_for (Remove t b) = removes (of_kind kind.Table t) (Under First b)
 plan_for (Grow t i l) =
-    record { names = a_root t ∷ a_leaf l ∷ []; target = Free (InRoot First i); pins = 1; decides = at.Target }
+    record { living = true; names = a_root t ∷ a_leaf l ∷ []; target = Free (InRoot First i); pins = 1; decides = at.Target }
 plan_for (Shrink t i) = removes (a_root t) (InRoot First i)
 plan_for (Retype r f k) = plan_of_retype k r
 plan_for (make_call what r f t b) = plan_of_make what r t b
 plan_for (Map p v r f w) = fills (of_kind kind.Pages p ∷ of_kind kind.Range r ∷ []) First v 1
 plan_for (Unmap p v) = removes (of_kind kind.Pages p) (Under First v)
-plan_for (Touch v) = record { names = []; target = Own v; pins = 0; decides = at.Translation }
-plan_for Flush = names_alone [] 0 at.Clock
+plan_for (Touch v) = record { living = true; names = []; target = Own v; pins = 0; decides = at.Translation }
+plan_for Flush = of_core 0 at.Clock
 plan_for (Gate k t b) = fills (of_kind kind.Comp k ∷ of_kind kind.Table t ∷ []) Second b 1
 plan_for (Kill k) = names_alone (of_kind kind.Comp k ∷ []) 1 at.Draw
 plan_for (call_gate g) = names_alone (of_kind kind.Gate g ∷ []) 1 at.LiveWord
-plan_for Ret = names_alone [] 1 at.Draw
+plan_for Ret = of_core 1 at.Draw
 plan_for (Switch h q) = names_alone (of_kind kind.Thread h ∷ of_kind kind.Tcap q ∷ []) 4 at.Draw
-plan_for (Tick n) = names_alone [] 0 at.Head
+plan_for (Tick n) = of_core 0 at.Head
 plan_for (Transfer a b m) = on_two_tcaps a b at.HeadB
 plan_for (Delegate a b m) = on_two_tcaps a b at.HeadB
 plan_for (Test a b) = on_two_tcaps a b at.HeadBAgain

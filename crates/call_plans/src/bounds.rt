@@ -2,20 +2,29 @@
 
 ghost use Rattle.std.specs.Prelude.{◌≡◌, ◌≤◌};
 ghost use Rattle.spk_nums.specs.Bounds.{bound_of};
-ghost use Rattle.call_plans.specs.Bounds.{spot_steps, target_steps, look_steps, retype_steps, make_steps, act_steps};
+ghost use Rattle.call_plans.specs.Bounds.{living_steps, spot_steps, target_steps, look_steps, retype_steps, make_steps, act_steps};
 
 use crate::calls::plan_of;
 use crate::plans::{Plan, Spot, Target};
 use spk_nums::{Call, FrameKind, Make};
 
-/// The most own steps of a call on a machine of so many cores, 1 to 8: three for entry and exit, those of its look-ups, and
-/// those of its act.
+/// The most own steps of a call on a machine of so many cores, 1 to 8: three for entry and exit, those by which it asks whether its
+/// component lives, those of its look-ups, and those of its act.
 #[tactic(auto, using(crate::proofs::StepsOfPlans::bound_is))]
 pub fn bound(call: &Call, cores: u8) -> u32
     requires { cores ≤ 8 }
     ensures { result ≡ bound_of call.now cores }
 {
-    3 + look_steps(&plan_of(call)) + act_steps(call, u32::from(cores))
+    let plan = plan_of(call);
+    3 + living_steps(plan.living) + look_steps(&plan) + act_steps(call, u32::from(cores))
+}
+
+/// The steps by which a call asks whether its component lives, where it does.
+pub fn living_steps(living: bool) -> u32
+    ensures exact { result ≡ living_steps living }
+    ensures most { result ≤ 2 }
+{
+    if living { 2 } else { 0 }
 }
 
 /// The steps of the look-ups of a plan: two a name, and those of its target; at most 10.

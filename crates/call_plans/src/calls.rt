@@ -3,19 +3,22 @@
 ghost use Rattle.std.specs.Prelude.{◌≡◌, ℕ};
 ghost use Rattle.spk_nums.specs.declared.kinds.Kind.TheVariants.{Tcap};
 ghost use Rattle.kernel_rules.specs.State.{State};
+ghost use Rattle.kernel_rules.specs.Life.{asks_life};
 ghost use Rattle.kernel_rules.specs.CallRelation.{rule_of};
-ghost use Rattle.call_plans.specs.PlanOf.{any_cap, a_root, of_kind, fills, removes, names_alone};
+ghost use Rattle.call_plans.specs.PlanOf.{any_cap, a_root, of_kind, fills, removes, names_alone, of_core};
 ghost use Rattle.call_plans.specs.PlanOf.{on_two_tcaps, plan_of_retype, plan_of_make, plan_for, a_leaf};
 ghost use Rattle.call_plans.specs.GoesBy.{GoesBy, own_pages};
 
 use crate::plans::{Decides, Name, Names, Nth, Plan, Spot, Target, Wanted};
 use spk_nums::{Call, CapId, FrameKind, Kind, Make, Rights};
 
-/// The plan of a call. The call's rule goes by it in every state: it looks up these names in this order and then this target,
-/// and asks nothing else of what they lead to before its own causes.
-#[tactic(auto, using(crate::proofs::CallsGoBy::calls_go))]
+/// The plan of a call. It asks that the component of its core lives exactly where the call asks for life. The call's rule goes by it in
+/// every state: it looks up these names in this order and then this target, and asks nothing else of what they lead to before its own
+/// causes.
+#[tactic(auto, using(crate::proofs::CallsGoBy::calls_go, crate::proofs::Lives::lives))]
 pub fn plan_of(call: &Call) -> Plan
     ensures plan { result ≡ plan_for call.now }
+    ensures living { result.living ≡ asks_life call.now }
     ensures goes { (s : State) (c : ℕ) → GoesBy (own_pages s c) result (rule_of s c call.now) }
 {
     match *call {
@@ -32,6 +35,7 @@ pub fn plan_of(call: &Call) -> Plan
         ),
         Call::Remove { t, b } => removes(of_kind(Kind::Table, t), under_first(b.number())),
         Call::Grow { t, i, l } => Plan {
+            living: true,
             names: Names::two(a_root(t), a_leaf(l)),
             target: Target::Free {
                 spot: Spot::InRoot {
@@ -71,12 +75,13 @@ pub fn plan_of(call: &Call) -> Plan
         ),
         Call::Unmap { p, v } => removes(of_kind(Kind::Pages, p), under_first(v.number())),
         Call::Touch { v } => Plan {
+            living: true,
             names: Names::none(),
             target: Target::Own { page: v },
             pins: 0,
             decides: Decides::Translation,
         },
-        Call::Flush => names_alone(Names::none(), 0, Decides::Clock),
+        Call::Flush => of_core(0, Decides::Clock),
         Call::Gate { c, t, b } => fills(
             Names::two(of_kind(Kind::Comp, c), of_kind(Kind::Table, t)),
             Nth::Second,
@@ -85,13 +90,13 @@ pub fn plan_of(call: &Call) -> Plan
         ),
         Call::Kill { c } => names_alone(Names::one(of_kind(Kind::Comp, c)), 1, Decides::Draw),
         Call::Call { g } => names_alone(Names::one(of_kind(Kind::Gate, g)), 1, Decides::LiveWord),
-        Call::Ret => names_alone(Names::none(), 1, Decides::Draw),
+        Call::Ret => of_core(1, Decides::Draw),
         Call::Switch { h, q } => names_alone(
             Names::two(of_kind(Kind::Thread, h), of_kind(Kind::Tcap, q)),
             4,
             Decides::Draw,
         ),
-        Call::Tick { n: _ } => names_alone(Names::none(), 0, Decides::Head),
+        Call::Tick { n: _ } => of_core(0, Decides::Head),
         Call::Transfer { a, b, m: _ } => on_two_tcaps(a, b, Decides::HeadB),
         Call::Delegate { a, b, m: _ } => on_two_tcaps(a, b, Decides::HeadB),
         Call::Test { a, b } => on_two_tcaps(a, b, Decides::HeadBAgain),
@@ -200,6 +205,7 @@ fn fills(names: Names, root: Nth, number: u16, pins: u8) -> Plan
     ensures { result ≡ fills names root number pins }
 {
     Plan {
+        living: true,
         names,
         target: Target::Free {
             spot: Spot::Under { root, number },
@@ -214,6 +220,7 @@ fn removes(name: Name, spot: Spot) -> Plan
     ensures { result ≡ removes name spot }
 {
     Plan {
+        living: true,
         names: Names::one(name),
         target: Target::Held { spot },
         pins: 1,
@@ -226,7 +233,21 @@ fn names_alone(names: Names, pins: u8, decides: Decides) -> Plan
     ensures { result ≡ names_alone names pins decides }
 {
     Plan {
+        living: true,
         names,
+        target: Target::Nowhere,
+        pins,
+        decides,
+    }
+}
+
+// A call on the core or its thread, which looks nothing up and asks of no component that it lives.
+fn of_core(pins: u8, decides: Decides) -> Plan
+    ensures { result ≡ of_core pins decides }
+{
+    Plan {
+        living: false,
+        names: Names::none(),
         target: Target::Nowhere,
         pins,
         decides,

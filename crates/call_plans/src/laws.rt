@@ -1,7 +1,14 @@
 //! What is proved of plans, as laws.
 
 ghost use Rattle.call_plans.specs.Rooted.{AreRooted};
+ghost use Rattle.call_plans.specs.Laws.{LivesByPlan};
 ghost use Rattle.call_plans.specs.Laws.{GoesByPlan, LeftGoesBy, OutcomeIsLeft, LeftMayRefuse, NextMayRefuse, BoundIsByPlan, LeadsMore};
+
+/// The plan of a call asks that its component lives exactly where the call asks for life.
+#[tactic(auto, using(crate::proofs::Lives::lives))]
+pub fn lives_by_plan()
+    ensures { LivesByPlan }
+{}
 
 /// The rule of a call goes by the call's plan.
 #[tactic(auto, using(crate::proofs::CallsGoBy::calls_go))]
@@ -39,7 +46,8 @@ pub fn leads_more()
     ensures { LeadsMore }
 {}
 
-/// The bound of each call is three steps for entry and exit, those of its plan's look-ups, and those of its act.
+/// The bound of each call is three steps for entry and exit, those by which its plan asks for life, those of its look-ups, and those of
+/// its act.
 #[tactic(auto, using(crate::proofs::StepsOfPlans::bound_is))]
 pub fn bound_is_by_plan()
     ensures { BoundIsByPlan }

@@ -123,10 +123,12 @@ pub enum Decides {
     HeadBAgain,
 }
 
-/// The plan of a call: what it looks up, how many counts it acquires at most, and where it is decided. A plan asks nothing of
-/// the state.
+/// The plan of a call: whether it asks first that its core's component lives, what it looks up, how many counts it acquires at most,
+/// and where it is decided. A plan asks nothing else of the state.
 #[derive(Clone, Copy, PartialEq, Eq, Debug)]
 pub struct Plan {
+    /// Whether it is asked, before all look-ups, that the component in which the core works lives.
+    pub living: bool,
     /// Its names.
     pub names: Names,
     /// Its target.

@@ -4,10 +4,11 @@ use crate::plans::{Decides, TargetKind};
 use crate::{bound, plan_of};
 use spk_nums::{Call, CapId, EntryNo, FrameArg, FrameKind, Make, PageNo, Rights};
 
-// A call's names, target, counts, deciding step, and bound on a machine of 2 cores.
-fn row(call: Call) -> (u8, TargetKind, u8, Decides, u32) {
+// Whether a call asks for life, its names, target, counts, deciding step, and bound on a machine of 2 cores.
+fn row(call: Call) -> (bool, u8, TargetKind, u8, Decides, u32) {
     let plan = plan_of(&call);
     (
+        plan.living,
         plan.names.count(),
         plan.target.kind(),
         plan.pins,
@@ -42,7 +43,10 @@ fn calls_have_their_plans(rt: HostRuntime) {
     let place = TargetKind::Place;
     let root = TargetKind::Root;
     let rows = [
-        (Call::Look { a }, (1, nowhere, 0, Decides::LeafEntry, 5)),
+        (
+            Call::Look { a },
+            (true, 1, nowhere, 0, Decides::LeafEntry, 7),
+        ),
         (
             Call::Copy {
                 a,
@@ -50,44 +54,56 @@ fn calls_have_their_plans(rt: HostRuntime) {
                 b,
                 rights: Rights::both(),
             },
-            (2, place, 1, Decides::Target, 14),
+            (true, 2, place, 1, Decides::Target, 16),
         ),
-        (Call::Remove { t, b }, (1, place, 1, Decides::Draw, 13)),
-        (Call::Grow { t, i, l: a }, (2, root, 1, Decides::Target, 15)),
-        (Call::Shrink { t, i }, (1, root, 1, Decides::Draw, 12)),
+        (
+            Call::Remove { t, b },
+            (true, 1, place, 1, Decides::Draw, 15),
+        ),
+        (
+            Call::Grow { t, i, l: a },
+            (true, 2, root, 1, Decides::Target, 17),
+        ),
+        (Call::Shrink { t, i }, (true, 1, root, 1, Decides::Draw, 14)),
         (
             retype(FrameKind::Kernel),
-            (1, nowhere, 0, Decides::FrameWord, 7),
+            (true, 1, nowhere, 0, Decides::FrameWord, 9),
         ),
         (
             retype(FrameKind::Untyped),
-            (1, nowhere, 2, Decides::Draw, 82),
+            (true, 1, nowhere, 2, Decides::Draw, 84),
         ),
-        (make(Make::Pleaf), (2, place, 1, Decides::Target, 81)),
+        (make(Make::Pleaf), (true, 2, place, 1, Decides::Target, 83)),
         (
             make(Make::Thread { comp: a }),
-            (3, place, 2, Decides::Target, 39),
+            (true, 3, place, 2, Decides::Target, 41),
         ),
-        (make(comp), (4, place, 3, Decides::Target, 34)),
+        (make(comp), (true, 4, place, 3, Decides::Target, 36)),
         (
             Call::Touch { v: PageNo::new(0) },
-            (0, nowhere, 0, Decides::Translation, 5),
+            (true, 0, nowhere, 0, Decides::Translation, 7),
         ),
-        (Call::Flush, (0, nowhere, 0, Decides::Clock, 5)),
-        (Call::Call { g: a }, (1, nowhere, 1, Decides::LiveWord, 14)),
-        (Call::Ret, (0, nowhere, 1, Decides::Draw, 12)),
+        (Call::Flush, (false, 0, nowhere, 0, Decides::Clock, 5)),
+        (
+            Call::Call { g: a },
+            (true, 1, nowhere, 1, Decides::LiveWord, 16),
+        ),
+        (Call::Ret, (false, 0, nowhere, 1, Decides::Draw, 12)),
         (
             Call::Switch { h: a, q: t },
-            (2, nowhere, 4, Decides::Draw, 28),
+            (true, 2, nowhere, 4, Decides::Draw, 30),
         ),
-        (Call::Tick { n: 1 }, (0, nowhere, 0, Decides::Head, 5)),
+        (
+            Call::Tick { n: 1 },
+            (false, 0, nowhere, 0, Decides::Head, 5),
+        ),
         (
             Call::Delegate { a, b: t, m: 1 },
-            (2, nowhere, 0, Decides::HeadB, 37),
+            (true, 2, nowhere, 0, Decides::HeadB, 39),
         ),
         (
             Call::Test { a, b: t },
-            (2, nowhere, 0, Decides::HeadBAgain, 28),
+            (true, 2, nowhere, 0, Decides::HeadBAgain, 30),
         ),
     ];
     for (call, wanted) in rows {

@@ -59,7 +59,9 @@ use Rattle.act_states.specs.declared.work.Act.TheVariants.{Switch as switch_act,
 use Rattle.act_states.specs.declared.work.Work.{Work}
 use Rattle.act_states.specs.declared.work.Work.TheVariants.{Lookup, Read, Scan, Acquire, Act}
 use Rattle.call_stages.specs.declared.stages.Stage.{Stage}
-use Rattle.call_stages.specs.declared.stages.Stage.TheVariants.{Enter, Undecided, Decided, Leave}
+use Rattle.call_stages.specs.declared.stages.Stage.TheVariants.{Enter, Living, Undecided, Decided, Leave}
+use Rattle.stage_thread.specs.Living.{alive_end, alive_after}
+use Rattle.stage_thread.specs.declared.alive.Alive.{Alive}
 use Rattle.act_states.specs.declared.work.Tail.{Tail}
 use Rattle.act_states.specs.declared.work.Tail.TheVariants.{Nothing, Quiesce, Unmark, StoreDead, StoreFlush, Release, StoreLive}
 use Rattle.act_states.specs.declared.work.Tail.TheVariants.{Push as push_tail, Pop as pop_tail, StoreRunning, StoreIdle, Share}
@@ -117,7 +119,8 @@ use Rattle.act_states.specs.Touches.{touches_if, touch_end, touched, is_at_page}
 use Rattle.call_stages.specs.Fits.{FoundFits, IsFirst, IsActive}
 use Rattle.call_stages.specs.Tails.{took_tail, tail_counts}
 use Rattle.call_plans.specs.After.{with_found, names_after, next_in, Next, NextName, NextFree, NextHeld, NextOwn, NextNothing, next_of}
-use Rattle.call_stages.specs.Steps.{GoesOn, landed, next_by, found_more, took_enter, named_one, read_more, took_read}
+use Rattle.call_stages.specs.Steps.{GoesOn, landed, next_by, found_more, took_first, took_enter, took_alive, named_one, read_more}
+use Rattle.call_stages.specs.Steps.{took_read}
 use Rattle.call_stages.specs.Steps.{took_found, took_end, took_look, took_scan, took_count, gives_up, took_work}
 use Rattle.call_stages.specs.Steps.{went_with, took_at, is_last, decides_at_name, is_last_name, work_ready, ready_at}
 use Rattle.call_stages.proofs.Answering.{NoAnswer, IsOver}
@@ -152,9 +155,19 @@ end_turns own a look (ends.Decided r) = landed_turns a (refuse (refusal_of r))
 end_turns own a look (ends.Done f) = found_turns own a _ f
 end_turns own a look (ends.Refuse r) = landed_turns a (refuse (refusal_of r))
 
+first_turns : (living : Bool) (own : Own) (a : ActiveCall) → Turns None (took_first living own a)
+first_turns true own a = refl
+first_turns false own a = landed_turns a (next_by own a)
+
 enter_turns : (spent : Bool) (own : Own) (a : ActiveCall) → Turns None (took_enter spent own a)
 enter_turns true own a = landed_turns a (refuse refusal.CallsSpent)
-enter_turns false own a = landed_turns a (next_by own a)
+enter_turns false own a = first_turns a.plan.living own a
+
+alive_turns : (own : Own) (a : ActiveCall) (alive : Alive) (end : StageEnd (Unit {0})) → Turns None (took_alive own a alive end)
+alive_turns own a alive ends.Going = refl
+alive_turns own a alive (ends.Decided r) = landed_turns a (refuse (refusal_of r))
+alive_turns own a alive (ends.Done x) = landed_turns a (next_by own a)
+alive_turns own a alive (ends.Refuse r) = landed_turns a (refuse (refusal_of r))
 
 read_turns : (a : ActiveCall) (look : Look) (o : Option CompWord) → Turns None (took_read a look o)
 read_turns a look None = landed_turns a (refuse refusal.Raced)
@@ -188,6 +201,7 @@ tail_turns a r drawn (Release release) (x ∷ xs) found = refl
 
 stage_turns : (own : Own) (a : ActiveCall) (stage : Stage) (found : ℕ) → Turns (reply_at stage) (took_at own a stage found)
 stage_turns own a Enter found = enter_turns _ own a
+stage_turns own a (Living alive) found = alive_turns own a (alive_after alive found) (alive_end alive found)
 stage_turns own a (Undecided work) found = work_turns own a work found
 stage_turns own a (Decided r drawn tail) found = tail_turns a r drawn tail a.counts found
 stage_turns own a (Leave r stamp) found = refl
@@ -379,20 +393,36 @@ work_refuses own a true (Lookup look) found is active not =
     active.found
     (last_not _ (is_last look) (subst (λ b. (b && is_last_name a.plan a.found && is_last look) ≡ false) (sym is) not) last) f)
 
-enter_refuses : (own : Own) (a : ActiveCall) (spent decides : Bool) → decides ≡ decides_at_name a.plan.decides → IsActive own a
-    → a.found ≡ [] → Refuses (took_enter spent own a)
-enter_refuses own a true decides is active zero = tt
-enter_refuses own a false false is active zero =
+next_refuses : (own : Own) (a : ActiveCall) (decides : Bool) → decides ≡ decides_at_name a.plan.decides → IsActive own a → a.found ≡ []
+    → Refuses (landed a (next_by own a))
+next_refuses own a false is active zero =
     landed_refuses a _ (next_no own a.call a.found (next_of a.plan a.found)
     (ap (λ (p : Plan). decides_at_name p.decides) (sym active.plan) ∙ sym is))
-enter_refuses own a false true is active zero =
+next_refuses own a true is active zero =
     landed_refuses a _ (subst (λ (f : List Capability). NoAnswer (next_step own a.call f (next_of a.plan f))) (sym zero)
     (first_no own a.call a.plan (subst OneName (sym active.plan)
     (one_name a.call (ap (λ (p : Plan). decides_at_name p.decides) (sym active.plan) ∙ sym is)))))
 
+first_refuses : (own : Own) (a : ActiveCall) (living : Bool) → IsActive own a → a.found ≡ [] → Refuses (took_first living own a)
+first_refuses own a true active zero = tt
+first_refuses own a false active zero = next_refuses own a _ refl active zero
+
+enter_refuses : (own : Own) (a : ActiveCall) (spent : Bool) → IsActive own a → a.found ≡ [] → Refuses (took_enter spent own a)
+enter_refuses own a true active zero = tt
+enter_refuses own a false active zero = first_refuses own a a.plan.living active zero
+
+alive_refuses : (own : Own) (a : ActiveCall) (alive : Alive) (end : StageEnd (Unit {0})) → IsActive own a → a.found ≡ []
+    → Refuses (took_alive own a alive end)
+alive_refuses own a alive ends.Going active zero = tt
+alive_refuses own a alive (ends.Decided r) active zero = landed_refuses a (refuse (refusal_of r)) tt
+alive_refuses own a alive (ends.Done x) active zero = next_refuses own a _ refl active zero
+alive_refuses own a alive (ends.Refuse r) active zero = landed_refuses a (refuse (refusal_of r)) tt
+
 stage_refuses : (own : Own) (a : ActiveCall) (stage : Stage) (found : ℕ) → IsActive own a → IsFirst stage a.found
     → ready_at a.plan a.found stage ≡ false → Refuses (took_at own a stage found)
-stage_refuses own a Enter found active first not = enter_refuses own a _ _ refl active first
+stage_refuses own a Enter found active first not = enter_refuses own a _ active first
+stage_refuses own a (Living alive) found active first not =
+    alive_refuses own a (alive_after alive found) (alive_end alive found) active first
 stage_refuses own a (Undecided work) found active first not = work_refuses own a _ work found refl active not
 stage_refuses own a (Decided r drawn tail) found active first not = tt
 stage_refuses own a (Leave r stamp) found active first not = tt
@@ -636,6 +666,7 @@ work_decides own a (Lookup look) found active ready =
 stage_decides : (own : Own) (a : ActiveCall) (stage : Stage) (found : ℕ) → IsActive own a → ready_at a.plan a.found stage ≡ true
     → reply_at stage ≡ None → IsDecision (took_at own a stage found)
 stage_decides own a Enter found active ready not_yet = absurd (cc)
+stage_decides own a (Living alive) found active ready not_yet = absurd (cc)
 stage_decides own a (Undecided work) found active ready not_yet = work_decides own a work found active ready
 stage_decides own a (Decided r drawn tail) found active ready not_yet = absurd (cc)
 stage_decides own a (Leave r stamp) found active ready not_yet = absurd (cc)

@@ -17,12 +17,12 @@ use Rattle.call_plans.specs.declared.plans.Target.{Target}
 use Rattle.call_plans.specs.declared.plans.Plan.{Plan}
 use Rattle.call_plans.specs.PlanOf.{plan_for}
 use Rattle.call_plans.specs.After.{Leads, names_after}
-use Rattle.call_plans.specs.Bounds.{look_steps, act_steps}
+use Rattle.call_plans.specs.Bounds.{living_steps, look_steps, act_steps}
 use Rattle.act_states.specs.declared.own.Own.{Own}
 use Rattle.act_states.specs.declared.work.Work.{Work}
 use Rattle.act_states.specs.declared.work.Work.TheVariants.{Lookup, Read, Scan, Acquire, Act}
 use Rattle.call_stages.specs.declared.stages.Stage.{Stage}
-use Rattle.call_stages.specs.declared.stages.Stage.TheVariants.{Enter, Undecided, Decided, Leave}
+use Rattle.call_stages.specs.declared.stages.Stage.TheVariants.{Enter, Living, Undecided, Decided, Leave}
 use Rattle.act_states.specs.declared.work.Tail.{Tail}
 use Rattle.act_states.specs.declared.work.Tail.TheVariants.{Nothing, Quiesce, Unmark, StoreDead, StoreFlush, Release}
 use Rattle.act_states.specs.declared.work.Tail.TheVariants.{StoreLive, Push, Pop, StoreRunning, StoreIdle, Share}
@@ -36,6 +36,9 @@ use Rattle.stage_pins.specs.declared.pin.Pin.TheVariants.{AtLoad, AtCompare}
 use Rattle.stage_pins.specs.declared.held.Acquired.{Acquired}
 use Rattle.stage_pins.specs.Acquire.{PinFits}
 use Rattle.stage_pins.specs.Held.{AllFit}
+use Rattle.stage_thread.specs.Living.{AliveFits}
+use Rattle.stage_thread.specs.declared.alive.Alive.{Alive}
+use Rattle.stage_thread.specs.declared.alive.Alive.TheVariants.{AtComp, AtLive}
 use Rattle.stage_thread.specs.Stacking.{PushFits, PopFits}
 use Rattle.tcap_words.specs.Thread.{DepthFits}
 use Rattle.act_states.specs.Acts.{ActFits, act_left, dues}
@@ -67,6 +70,7 @@ TailFits s (Share p) = SharedFits s p
 
 abbrev pub StageFits : Shape → Stage → Type 0
 StageFits s Enter = Unit {0}
+StageFits s (Living alive) = AliveFits s alive
 StageFits s (Undecided work) = WorkFits s work
 StageFits s (Decided r drawn tail) = TailFits s tail
 StageFits s (Leave r stamp) = Unit {0}
@@ -74,6 +78,7 @@ StageFits s (Leave r stamp) = Unit {0}
 -- a stage after the look-ups of a call
 abbrev pub IsLater : Stage → Type 0
 IsLater Enter = ⊥
+IsLater (Living alive) = ⊥
 IsLater (Undecided (Lookup look)) = ⊥
 IsLater _ = Unit {0}
 
@@ -87,6 +92,7 @@ FoundFits frames plan ks = Leads (IsWanted frames) plan.names [] ks
 -- a call that is not decided can still be counted, once it has entered
 abbrev pub HasRoom : ℕ → ℕ → Stage → Type 0
 HasRoom made limit Enter = Unit {0}
+HasRoom made limit (Living alive) = made < limit
 HasRoom made limit (Undecided work) = made < limit
 HasRoom made limit (Decided r drawn tail) = Unit {0}
 HasRoom made limit (Leave r stamp) = Unit {0}
@@ -134,9 +140,15 @@ work_left cores later n (Scan q act) = left_of_scan cores q + 3 * length (dues a
 work_left cores later n (Acquire pin change act) = left_of_pin pin + 1 + 3 * (length (dues act) - (n + 1)) + act_left cores act
 work_left cores later n (Act act) = act_left cores act
 
+-- the loads that are still to come by which it is asked whether the component lives
+abbrev pub left_of_alive : Alive → ℕ
+left_of_alive (AtComp comp) = 2
+left_of_alive (AtLive life) = 1
+
 -- the most steps of a call that are still to come at a stage, on so many cores; two are those of its exit
 abbrev pub left_at : ℕ → ActiveCall → Stage → ℕ
-left_at cores a Enter = 3 + look_steps (names_left a) a.plan.target + act_steps a.call cores
+left_at cores a Enter = 3 + living_steps a.plan.living + look_steps (names_left a) a.plan.target + act_steps a.call cores
+left_at cores a (Living alive) = 2 + left_of_alive alive + look_steps (names_left a) a.plan.target + act_steps a.call cores
 left_at cores a (Undecided work) = 2 + length a.counts + work_left cores (steps_later cores a) (length a.counts) work
 left_at cores a (Decided r drawn tail) = 2 + length a.counts + tail_left tail
 left_at cores a (Leave r stamp) = 1
@@ -144,9 +156,10 @@ left_at cores a (Leave r stamp) = 1
 abbrev pub left_of : ℕ → ActiveCall → ℕ
 left_of cores a = left_at cores a a.stage
 
--- a call that has not entered has found nothing yet
+-- a call that has not entered, or asks whether its component lives, has found nothing yet
 abbrev pub IsFirst : Stage → List Capability → Type 0
 IsFirst Enter found = found ≡ []
+IsFirst (Living alive) found = found ≡ []
 IsFirst (Undecided work) found = Unit {0}
 IsFirst (Decided r drawn tail) found = Unit {0}
 IsFirst (Leave r stamp) found = Unit {0}
@@ -161,6 +174,7 @@ CountsWait counts (Act act) = length counts ≡ length (dues act)
 
 abbrev pub CountsAt : List Acquired → Stage → Type 0
 CountsAt counts Enter = counts ≡ []
+CountsAt counts (Living alive) = counts ≡ []
 CountsAt counts (Undecided work) = CountsWait counts work
 CountsAt counts (Decided r drawn tail) = Unit {0}
 CountsAt counts (Leave r stamp) = counts ≡ []

@@ -4,7 +4,7 @@ use Rattle.spk_nums.specs.declared.replies.Reply.{Reply}
 use Rattle.kernel_rules.specs.Laws.{IsRefusal}
 use Rattle.act_states.specs.declared.own.Own.{Own}
 use Rattle.call_stages.specs.declared.stages.Stage.{Stage}
-use Rattle.call_stages.specs.declared.stages.Stage.TheVariants.{Enter, Undecided, Decided, Leave}
+use Rattle.call_stages.specs.declared.stages.Stage.TheVariants.{Enter, Living, Undecided, Decided, Leave}
 use Rattle.call_stages.specs.declared.stages.ActiveCall.{ActiveCall}
 use Rattle.call_stages.specs.Steps.{Took, GoesOn, Decides, Returns, Changes, took, is_ready}
 use Rattle.call_stages.specs.Fits.{IsActive}
@@ -12,6 +12,7 @@ use Rattle.call_stages.specs.Fits.{IsActive}
 -- The reply with which a call is decided, at a stage at which it is.
 abbrev pub reply_at : Stage → Option Reply
 reply_at Enter = None
+reply_at (Living alive) = None
 reply_at (Undecided work) = None
 reply_at (Decided r drawn tail) = Some r
 reply_at (Leave r stamp) = Some r

@@ -25,6 +25,9 @@ use Rattle.stage_pins.specs.declared.pin.Pinned.{Pinned}
 use Rattle.stage_pins.specs.declared.held.Acquired.{Acquired}
 use Rattle.stage_pins.specs.Acquire.{pin_move, pin_after, pin_end}
 use Rattle.stage_pins.specs.Held.{pushed as count_pushed}
+use Rattle.stage_thread.specs.Living.{alive_move, alive_end, alive_after}
+use Rattle.stage_thread.specs.declared.alive.Alive.{Alive}
+use Rattle.stage_thread.specs.declared.alive.Alive.TheVariants.{AtComp}
 use Rattle.call_plans.specs.declared.plans.Decides.{Decides as Deciding}
 use Rattle.call_plans.specs.declared.plans.Decides.TheVariants.{LeafEntry}
 use Rattle.call_plans.specs.declared.plans.Plan.{Plan}
@@ -39,7 +42,7 @@ use Rattle.act_states.specs.declared.work.Work.{Work}
 use Rattle.act_states.specs.declared.work.Work.TheVariants.{Lookup, Read, Scan, Acquire, Act}
 use Rattle.act_states.specs.declared.work.Tail.{Tail}
 use Rattle.call_stages.specs.declared.stages.Stage.{Stage}
-use Rattle.call_stages.specs.declared.stages.Stage.TheVariants.{Enter, Undecided, Decided, Leave}
+use Rattle.call_stages.specs.declared.stages.Stage.TheVariants.{Enter, Living, Undecided, Decided, Leave}
 use Rattle.call_stages.specs.declared.stages.ActiveCall.{ActiveCall}
 use Rattle.act_states.specs.declared.work.WorkStep.{WorkStep}
 use Rattle.act_states.specs.declared.work.WorkStep.TheVariants.{Goes, Acquires, Refuses, Answers, Changes as work_changes}
@@ -67,6 +70,7 @@ work_move (Act act) = act_move act
 -- the next step of a core at a stage of its call, which has acquired these counts
 abbrev pub stage_move : Own → List Acquired → Stage → Move
 stage_move own counts Enter = StoreOf (CoreAt own.core) (core_word true own.exit)
+stage_move own counts (Living alive) = alive_move alive
 stage_move own counts (Undecided work) = work_move work
 stage_move own counts (Decided r drawn tail) = tail_move r drawn tail counts
 stage_move own counts (Leave r stamp) = StoreOf (CoreAt own.core) (core_word false stamp)
@@ -111,9 +115,20 @@ read_more a epoch = record a { read = Some epoch }
 abbrev pub next_by : Own → ActiveCall → WorkStep
 next_by own a = next_step own a.call a.found (next_of a.plan a.found)
 
+-- what comes first of a core's call: it is asked whether its component lives, where its plan says so
+abbrev pub took_first : Bool → Own → ActiveCall → Took
+took_first living own a = if living then GoesOn (went a (Living (AtComp own.comp))) else landed a (next_by own a)
+
 -- at its entry a call is refused where the core's calls are spent
 abbrev pub took_enter : Bool → Own → ActiveCall → Took
-took_enter spent own a = if spent then landed a (refuse refusal.CallsSpent) else landed a (next_by own a)
+took_enter spent own a = if spent then landed a (refuse refusal.CallsSpent) else took_first a.plan.living own a
+
+-- what a call takes from a step of the question whether its component lives, which stands here after it
+abbrev pub took_alive : Own → ActiveCall → Alive → StageEnd (Unit {0}) → Took
+took_alive own a alive ends.Going = GoesOn (went a (Living alive))
+took_alive own a alive (ends.Decided r) = landed a (refuse (refusal_of r))
+took_alive own a alive (ends.Done x) = landed a (next_by own a)
+took_alive own a alive (ends.Refuse r) = landed a (refuse (refusal_of r))
 
 -- one name more has led to a capability, or the call is refused
 abbrev pub named_one : Own → ActiveCall → Met → Took
@@ -179,6 +194,7 @@ is_spent own = nat_le own.limit own.made
 -- what a call takes at a stage from the word found
 abbrev pub took_at : Own → ActiveCall → Stage → ℕ → Took
 took_at own a Enter found = took_enter (is_spent own) own a
+took_at own a (Living alive) found = took_alive own a (alive_after alive found) (alive_end alive found)
 took_at own a (Undecided work) found = took_work own a work found
 took_at own a (Decided r drawn tail) found = GoesOn (went_with a (tail_counts tail a.counts) (took_tail r drawn tail a.counts found))
 took_at own a (Leave r stamp) found = Returns r stamp
@@ -226,6 +242,7 @@ work_ready plan found (Act act) = act_ready act
 -- whether a call is ready: the next step is the one that decides its `ok`, or it is decided
 abbrev pub ready_at : Plan → List Capability → Stage → Bool
 ready_at plan found Enter = false
+ready_at plan found (Living alive) = false
 ready_at plan found (Undecided work) = work_ready plan found work
 ready_at plan found (Decided r drawn tail) = true
 ready_at plan found (Leave r stamp) = true

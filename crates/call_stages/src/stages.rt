@@ -4,13 +4,18 @@ use act_states::{OwnChange, Tail, Work};
 use call_plans::{Caps, Plan};
 use spk_nums::{Call, Reply, Stamp};
 use stage_pins::AcquiredCounts;
+use stage_thread::Alive;
 
 /// Where a call stands between two of its steps.
 #[derive(Clone, Copy, PartialEq, Eq, Debug)]
 pub enum Stage {
     /// Before its first step: the core word is stored, with inside set and the stamp of the last exit.
     Enter,
-    /// Inside, and not decided.
+    /// Inside, and it is asked whether the component in which the core works lives, before all else.
+    Living {
+        alive: Alive,
+    },
+    /// Inside, and not decided: the component was found alive, where the call's plan asks for that.
     Undecided {
         work: Work,
     },

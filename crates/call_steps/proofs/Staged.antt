@@ -18,9 +18,10 @@ use Rattle.act_states.specs.declared.work.WorkStep.{WorkStep}
 use Rattle.act_states.specs.declared.work.WorkStep.TheVariants.{Goes, Acquires, Refuses, Answers, Changes as work_changes}
 use Rattle.call_stages.specs.declared.stages.ActiveCall.{ActiveCall}
 use Rattle.call_stages.specs.declared.stages.Stage.{Stage}
-use Rattle.call_stages.specs.declared.stages.Stage.TheVariants.{Undecided}
-use Rattle.call_stages.specs.Steps.{landed, told, call_after, found_more, next_by, named_one, took_found, took_end}
-use Rattle.call_steps.specs.Stepping.{looked_to}
+use Rattle.stage_thread.specs.declared.alive.Alive.{Alive}
+use Rattle.call_stages.specs.declared.stages.Stage.TheVariants.{Living, Undecided}
+use Rattle.call_stages.specs.Steps.{landed, told, call_after, found_more, next_by, named_one, took_found, took_end, took_alive}
+use Rattle.call_steps.specs.Stepping.{looked_to, asked_to}
 
 pub told_from : (a : ActiveCall) (s : Stage) (step : WorkStep) → told (landed (record a { stage = s }) step) ≡ told (landed a step)
 told_from a s (Goes work) = refl
@@ -86,3 +87,18 @@ call_looked own a look ends.Going = refl
 call_looked own a look (ends.Decided r) = call_from a (Undecided (Lookup look)) (refuse (refusal_of r))
 call_looked own a look (ends.Done f) = call_found own a (Undecided (Lookup look)) (next_of a.plan a.found) f
 call_looked own a look (ends.Refuse r) = call_from a (Undecided (Lookup look)) (refuse (refusal_of r))
+
+pub told_asked : (own : Own) (a : ActiveCall) (alive : Alive) (end : StageEnd (Unit {0}))
+    → told (asked_to own (record a { stage = Living alive }) end) ≡ told (took_alive own a alive end)
+told_asked own a alive ends.Going = refl
+told_asked own a alive (ends.Decided r) = told_from a (Living alive) (refuse (refusal_of r))
+told_asked own a alive (ends.Done x) = told_from a (Living alive) (next_by own a)
+told_asked own a alive (ends.Refuse r) = told_from a (Living alive) (refuse (refusal_of r))
+
+pub call_asked : (own : Own) (a : ActiveCall) (alive : Alive) (end : StageEnd (Unit {0}))
+    → call_after (record a { stage = Living alive }) (asked_to own (record a { stage = Living alive }) end)
+    ≡ call_after a (took_alive own a alive end)
+call_asked own a alive ends.Going = refl
+call_asked own a alive (ends.Decided r) = call_from a (Living alive) (refuse (refusal_of r))
+call_asked own a alive (ends.Done x) = call_from a (Living alive) (next_by own a)
+call_asked own a alive (ends.Refuse r) = call_from a (Living alive) (refuse (refusal_of r))

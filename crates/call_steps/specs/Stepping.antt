@@ -19,7 +19,7 @@ use Rattle.act_states.specs.Shares.{took_shared}
 use Rattle.call_stages.specs.declared.stages.ActiveCall.{ActiveCall}
 use Rattle.call_stages.specs.declared.stages.Stage.{Stage}
 use Rattle.call_stages.specs.declared.stages.Stage.TheVariants.{Undecided, Decided}
-use Rattle.call_stages.specs.Steps.{Took, GoesOn, went, landed, took_found, gives_up}
+use Rattle.call_stages.specs.Steps.{Took, GoesOn, went, landed, next_by, took_found, gives_up}
 
 -- the call makes its act
 abbrev pub IsActing : Stage → Type 0
@@ -52,6 +52,13 @@ looked_to own a ends.Going = GoesOn (went a a.stage)
 looked_to own a (ends.Decided r) = landed a (refuse (refusal_of r))
 looked_to own a (ends.Done f) = took_found own a (next_of a.plan a.found) f
 looked_to own a (ends.Refuse r) = landed a (refuse (refusal_of r))
+
+-- what a call takes from a step of the question whether its component lives, which stands here after it
+abbrev pub asked_to : Own → ActiveCall → StageEnd (Unit {0}) → Took
+asked_to own a ends.Going = GoesOn (went a a.stage)
+asked_to own a (ends.Decided r) = landed a (refuse (refusal_of r))
+asked_to own a (ends.Done x) = landed a (next_by own a)
+asked_to own a (ends.Refuse r) = landed a (refuse (refusal_of r))
 
 -- what a call on two temporal capabilities, which stands here, takes from its step
 abbrev pub shared_to : ActiveCall → Stage → StageEnd Value → Took

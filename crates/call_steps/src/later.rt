@@ -86,7 +86,8 @@ fn act_step(active: &mut ActiveCall, own: &Own, found: u64, tells: &mut Told)
             Work::Lookup { .. } | Work::Read { .. } | Work::Scan { .. } | Work::Acquire { .. } =>
                 unreachable!(),
         },
-        Stage::Enter | Stage::Decided { .. } | Stage::Leave { .. } => unreachable!(),
+        Stage::Enter | Stage::Living { .. } | Stage::Decided { .. } | Stage::Leave { .. } =>
+            unreachable!(),
     }
 }
 
@@ -104,7 +105,7 @@ fn absorb_other(active: &mut ActiveCall, own: &Own, found: u64, tells: &mut Told
     ensures after { active.new ≡ call_after active.old (took own.now active.old found) }
 {
     match &mut active.stage {
-        Stage::Enter => unreachable!(),
+        Stage::Enter | Stage::Living { .. } => unreachable!(),
         Stage::Undecided { work } => match work {
             Work::Lookup { look: _ } => unreachable!(),
             Work::Read { comp: _, look } => {
@@ -154,7 +155,8 @@ fn act_lands(active: &mut ActiveCall, own: &Own, found: u64, tells: &mut Told)
             Work::Lookup { .. } | Work::Read { .. } | Work::Scan { .. } | Work::Acquire { .. } =>
                 unreachable!(),
         },
-        Stage::Enter | Stage::Decided { .. } | Stage::Leave { .. } => unreachable!(),
+        Stage::Enter | Stage::Living { .. } | Stage::Decided { .. } | Stage::Leave { .. } =>
+            unreachable!(),
     }
 }
 
@@ -184,7 +186,8 @@ fn share_ends(active: &mut ActiveCall, end: &StageEnd<Value>, tells: &mut Told)
             Work::Lookup { .. } | Work::Read { .. } | Work::Scan { .. } | Work::Acquire { .. } =>
                 unreachable!(),
         },
-        Stage::Enter | Stage::Decided { .. } | Stage::Leave { .. } => unreachable!(),
+        Stage::Enter | Stage::Living { .. } | Stage::Decided { .. } | Stage::Leave { .. } =>
+            unreachable!(),
     }
 }
 
@@ -249,7 +252,8 @@ fn starts_act(active: &mut ActiveCall, own: &Own, tells: &mut Told)
             Work::Lookup { .. } | Work::Read { .. } | Work::Acquire { .. } | Work::Act { .. } =>
                 unreachable!(),
         },
-        Stage::Enter | Stage::Decided { .. } | Stage::Leave { .. } => unreachable!(),
+        Stage::Enter | Stage::Living { .. } | Stage::Decided { .. } | Stage::Leave { .. } =>
+            unreachable!(),
     }
 }
 
@@ -279,7 +283,8 @@ fn acquires(active: &mut ActiveCall, own: &Own, pin: &Pinned)
             Work::Lookup { .. } | Work::Read { .. } | Work::Scan { .. } | Work::Act { .. } =>
                 unreachable!(),
         },
-        Stage::Enter | Stage::Decided { .. } | Stage::Leave { .. } => unreachable!(),
+        Stage::Enter | Stage::Living { .. } | Stage::Decided { .. } | Stage::Leave { .. } =>
+            unreachable!(),
     }
 }
 
@@ -305,7 +310,8 @@ fn gives_up(active: &mut ActiveCall, refusal: Refusal, tells: &mut Told)
             Work::Lookup { .. } | Work::Read { .. } | Work::Scan { .. } | Work::Act { .. } =>
                 unreachable!(),
         },
-        Stage::Enter | Stage::Decided { .. } | Stage::Leave { .. } => unreachable!(),
+        Stage::Enter | Stage::Living { .. } | Stage::Decided { .. } | Stage::Leave { .. } =>
+            unreachable!(),
     }
 }
 
@@ -353,7 +359,8 @@ fn store(active: &mut ActiveCall, own: &Own, found: u64)
             }
             _ => store_other(active, own, found),
         },
-        Stage::Enter | Stage::Undecided { .. } | Stage::Leave { .. } => unreachable!(),
+        Stage::Enter | Stage::Living { .. } | Stage::Undecided { .. } | Stage::Leave { .. } =>
+            unreachable!(),
     }
 }
 
@@ -375,6 +382,7 @@ fn store_other(active: &mut ActiveCall, own: &Own, found: u64)
             }
             go_on(active, stage);
         }
-        Stage::Enter | Stage::Undecided { .. } | Stage::Leave { .. } => unreachable!(),
+        Stage::Enter | Stage::Living { .. } | Stage::Undecided { .. } | Stage::Leave { .. } =>
+            unreachable!(),
     }
 }

@@ -2,10 +2,11 @@
 //!
 //! Each function computes one of `call_stages`, where the types and the definitions stand.
 //!
-//! **The life of a call.** It enters, is undecided, is decided, and leaves, and these four stages are the same for all calls. The
-//! first step stores the core word with inside set and the stamp of the last exit. A call that is decided has its reply, and
-//! what it has still to store. When that is done it loads the clock, and stores the core word with inside cleared and the clock
-//! that was loaded. So a core that is inside a call has entered it after everything that was removed at an earlier stamp.
+//! **The life of a call.** It enters, asks whether its core's component lives, is undecided, is decided, and leaves, and these stages are
+//! the same for all calls, but that `ret`, `flush` and `tick` do not ask. The first step stores the core word with inside set and the stamp
+//! of the last exit. A call that is decided has its reply, and what it has still to store. When that is done it loads the clock, and stores
+//! the core word with inside cleared and the clock that was loaded. So a core that is inside a call has entered it after everything that
+//! was removed at an earlier stamp.
 //!
 //! **Work.** An undecided call makes its look-ups, by its plan, and then its act, which is its own: both are of `call_acts`. A step
 //! of the work goes on, refuses or answers.
@@ -19,7 +20,7 @@
 //! alone: its tail, then its counts, the earliest first; counters that it has frozen, and their frame's word, come after its counts.
 //!
 //! **Refusals.** A refusal decides at the first step by which it is known and every earlier cause is judged: first that the
-//! core's calls are spent, then as the call's work judges them.
+//! core's calls are spent, then that its component does not live, then as the call's work judges them.
 //!
 //! **Ready.** A call is ready where its next step is the one that decides its `ok`, and where it has decided.
 //!

@@ -7,11 +7,12 @@ ghost use Rattle.spk_nums.specs.WordSteps.{place_in};
 ghost use Rattle.call_plans.specs.After.{next_of, with_found};
 ghost use Rattle.stage_pins.specs.Held.{AllFit};
 ghost use Rattle.call_stages.specs.Steps.{took_read, core_word, work_move, stage_move, went};
+ghost use Rattle.call_stages.specs.Steps.{took_first};
 ghost use Rattle.call_stages.specs.Steps.{landed, next_by, took_enter, took_found, took, told, call_after};
 ghost use Rattle.call_stages.specs.Steps.{is_last, decides_at_name, work_ready, is_ready, is_spent, named_one, decided, Changes};
 ghost use Rattle.call_stages.specs.Fits.{WorkFits, StageFits};
 ghost use Rattle.call_stages.specs.declared.stages.Stage.TheVariants.{Decided};
-ghost use Rattle.call_steps.specs.Stepping.{looked_to};
+ghost use Rattle.call_steps.specs.Stepping.{looked_to, asked_to};
 ghost use Rattle.call_plans.specs.GoesBy.{place_of_spot};
 ghost use Rattle.act_states.specs.WorkSteps.{refuse};
 ghost use Rattle.act_states.specs.Acts.{act_begun, looked as answered, reads_of};
@@ -34,6 +35,7 @@ use frame_words::{CompWord, CoreWord};
 use spk_nums::{Call, CapId, EntryNo, FrameNo, PageNo, Reply, StageEnd, Stamp, Value, WordOp};
 use stage_look::{Found, Look};
 use stage_pins::AcquiredCounts;
+use stage_thread::Alive;
 use word_map::Layout;
 
 /// The next step of a call that has acquired these counts, at a stage. What it names is of the layout's machine.
@@ -50,6 +52,7 @@ pub fn stage_op(own: &Own, counts: &AcquiredCounts, stage: &Stage, layout: &Layo
             at: layout.core_at(own.core),
             word: core_word(true, own.exit),
         },
+        Stage::Living { alive } => alive.next(layout),
         Stage::Undecided { work } => work_op(work, layout),
         Stage::Decided { reply, drawn, tail } => tail_op(reply, *drawn, tail, counts, layout),
         Stage::Leave { reply: _, stamp } => WordOp::Store {
@@ -119,6 +122,7 @@ pub fn is_ready(active: &ActiveCall) -> bool
 {
     match &active.stage {
         Stage::Enter => false,
+        Stage::Living { alive: _ } => false,
         Stage::Undecided { work } => work_ready(active, work),
         Stage::Decided {
             reply: _,
@@ -155,7 +159,7 @@ fn work_ready(active: &ActiveCall, work: &Work) -> bool
 /// and only in what the step changes. One that returns stays as it was. What the step led to is told where it said before that the call
 /// goes on.
 #[inline]
-#[tactic(auto, using(crate::proofs::Staged::told_looked, crate::proofs::Staged::call_looked))]
+#[tactic(auto, using(crate::proofs::Staged::told_looked, crate::proofs::Staged::call_looked, crate::proofs::Staged::told_asked, crate::proofs::Staged::call_asked))]
 pub fn absorb(active: &mut ActiveCall, own: &Own, found: u64, tells: &mut Told)
     requires core { own.now.core < own.now.layout.cores }
     requires cores { own.now.layout.cores ≤ 8 }
@@ -167,6 +171,10 @@ pub fn absorb(active: &mut ActiveCall, own: &Own, found: u64, tells: &mut Told)
 {
     match &mut active.stage {
         Stage::Enter => enter(active, own.limit <= own.made, own, tells),
+        Stage::Living { alive } => match alive.take(&own.layout, found) {
+            StageEnd::Going => goes_on(active),
+            end => asked(active, own, &end, tells),
+        },
         Stage::Undecided { work } => match work {
             Work::Lookup { look } => match look.take(&own.layout, found) {
                 StageEnd::Going => goes_on(active),
@@ -195,7 +203,47 @@ fn enter(active: &mut ActiveCall, spent: bool, own: &Own, tells: &mut Told)
     if spent {
         refused(active, Refusal::CallsSpent, tells)
     } else {
+        begin(active, own, tells)
+    }
+}
+
+// A call that may still be made begins: it asks first whether its core's component lives, where its plan says so.
+#[inline]
+fn begin(active: &mut ActiveCall, own: &Own, tells: &mut Told)
+    requires core { own.now.core < own.now.layout.cores }
+    requires cores { own.now.layout.cores ≤ 8 }
+    requires few { active.old.steps < 1000 }
+    requires going { tells.old ≡ Told.Going }
+    ensures told { tells.new ≡ told (took_first active.old.plan.living own.now active.old) }
+    ensures after { active.new ≡ call_after active.old (took_first active.old.plan.living own.now active.old) }
+{
+    if active.plan.living {
+        go_on(
+            active,
+            Stage::Living {
+                alive: Alive::new(own.comp),
+            },
+        )
+    } else {
         look_next(active, own, tells)
+    }
+}
+
+// A step of the question whether the core's component lives, after which it is not asked further.
+#[inline]
+fn asked(active: &mut ActiveCall, own: &Own, end: &StageEnd<()>, tells: &mut Told)
+    requires core { own.now.core < own.now.layout.cores }
+    requires cores { own.now.layout.cores ≤ 8 }
+    requires few { active.old.steps < 1000 }
+    requires going { tells.old ≡ Told.Going }
+    ensures told { tells.new ≡ told (asked_to own.now active.old end.now) }
+    ensures after { active.new ≡ call_after active.old (asked_to own.now active.old end.now) }
+{
+    match end {
+        StageEnd::Going => goes_on(active),
+        StageEnd::Decided(reply) => refused(active, Refusal::of(reply), tells),
+        StageEnd::Done(_) => look_next(active, own, tells),
+        StageEnd::Refuse(reply) => refused(active, Refusal::of(reply), tells),
     }
 }
 

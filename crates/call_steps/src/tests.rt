@@ -16,6 +16,15 @@ const CORE_WORD: usize = 528;
 
 const CLOCK: usize = 594;
 
+// The word of the component in frame 3, which has the liveness number 0 in the epoch 1, and that of the number, live there.
+const COMP_WORD: usize = 194;
+
+const LIVE_0: usize = 530;
+
+const NUMBER_0: u64 = 0x40;
+
+const LIVES: u64 = 0xc_0005;
+
 // The entry 20 of frame 1.
 const TARGET: usize = 84;
 
@@ -55,13 +64,16 @@ const TWO_BY_0: u64 = 0x0c00_0000_2000_0005;
 
 const TWO_BY_1: u64 = 0x1400_0000_2000_0005;
 
-// The words with a table of one leaf, whose entries 0 and 1 are the range and the table, which has two references.
+// The words with a component that lives, with a table of one leaf, whose entries 0 and 1 are the range and the table, which has two
+// references.
 fn words() -> [u64; 595] {
     let mut words = [0; 595];
     words[0] = LINK_TO_1;
     words[64] = RANGE_6_2;
     words[65] = TABLE_0;
     words[COUNT_OF_0] = TWO;
+    words[COMP_WORD] = NUMBER_0;
+    words[LIVE_0] = LIVES;
     words[CLOCK] = 7;
     words
 }
@@ -207,11 +219,11 @@ fn carries_out_a_look_and_a_copy(rt: HostRuntime) {
     let mut words = words();
     let range = Cap::new(Kind::Range, FrameNo::new(6), 2);
     let looked = call(&mut words, 9, look(0), 99);
-    assert_eq!(rt; looked, Some((Reply::Ok(Value::Cap(range)), 5, 2)));
+    assert_eq!(rt; looked, Some((Reply::Ok(Value::Cap(range)), 7, 4)));
     assert_eq!(rt; words[CORE_WORD], 14);
     words[CLOCK] = 9;
     let copied = call(&mut words, 9, copy(0, 20), 99);
-    assert_eq!(rt; copied, Some((Reply::Ok(Value::Nothing), 10, 7)));
+    assert_eq!(rt; copied, Some((Reply::Ok(Value::Nothing), 12, 9)));
     assert_eq!(rt; words[TARGET], RANGE_6_2);
     assert_eq!(rt; words[CORE_WORD], 18);
 }
@@ -230,35 +242,57 @@ fn refuses_at_the_first_cause(rt: HostRuntime) {
     let mut words = words();
     let spent = call(&mut words, 0, look(0), 99);
     assert_eq!(rt; spent, Some((Reply::CallsSpent, 3, 1)));
-    let lost = call(&mut words, 9, copy(0, 20), 7);
-    assert_eq!(rt; lost, Some((Reply::Raced, 10, 7)));
+    let lost = call(&mut words, 9, copy(0, 20), 9);
+    assert_eq!(rt; lost, Some((Reply::Raced, 12, 9)));
     words[TARGET] = 0;
-    assert_eq!(rt; answers(&words, look(63)), Some((Reply::Empty, 5)));
-    assert_eq!(rt; answers(&words, copy(0, 1)), Some((Reply::Occupied, 9)));
+    assert_eq!(rt; answers(&words, look(63)), Some((Reply::Empty, 7)));
+    assert_eq!(rt; answers(&words, copy(0, 1)), Some((Reply::Occupied, 11)));
     // After `empty` and `wrong-cap` of the second name the target is not judged.
     words[65] = RANGE_6_2;
-    assert_eq!(rt; answers(&words, copy(63, 0)), Some((Reply::Empty, 5)));
-    assert_eq!(rt; answers(&words, copy(0, 0)), Some((Reply::WrongCap, 7)));
+    assert_eq!(rt; answers(&words, copy(63, 0)), Some((Reply::Empty, 7)));
+    assert_eq!(rt; answers(&words, copy(0, 0)), Some((Reply::WrongCap, 9)));
     // The second name is quiescing, then closed by core 1.
     words[65] = QUIESCES_5;
-    assert_eq!(rt; answers(&words, copy(0, 0)), Some((Reply::Empty, 7)));
+    assert_eq!(rt; answers(&words, copy(0, 0)), Some((Reply::Empty, 9)));
     words[65] = 6;
     assert_eq!(rt;
         answers(&words, copy(0, 0)),
-        Some((Reply::Busy(CoreNo::new(1)), 7))
+        Some((Reply::Busy(CoreNo::new(1)), 9))
     );
     // The table's root entry is no link, then one past the machine's frames.
     words[0] = TABLE_0;
-    assert_eq!(rt; answers(&words, look(0)), Some((Reply::NoSlot, 4)));
+    assert_eq!(rt; answers(&words, look(0)), Some((Reply::NoSlot, 6)));
     words[0] = 549;
-    assert_eq!(rt; answers(&words, look(0)), Some((Reply::Raced, 4)));
+    assert_eq!(rt; answers(&words, look(0)), Some((Reply::Raced, 6)));
+}
+
+// Whether, where the word at this place is this, calls that ask for life are answered so after so many steps, and those that do not ask
+// as ever.
+fn asks_first(at: u32, word: u64, reply: Reply, steps: u32) -> bool {
+    let mut words = words();
+    write(&mut words, at, word);
+    let asked = Some((reply, steps));
+    answers(&words, look(63)) == asked
+        && answers(&words, look(4096)) == asked
+        && answers(&words, Call::Flush) == Some((Reply::Ok(Value::Nothing), 5))
+        && answers(&words, Call::Ret) == Some((Reply::Bottom, 3))
+}
+
+// The number of the core's component is live in another epoch, dead, and closing by core 1; and its word names no number.
+#[test]
+fn asks_whether_the_component_lives_before_all_else(rt: HostRuntime) {
+    assert!(rt; asks_first(LIVE_0 as u32, 0xc_0009, Reply::Dead, 5));
+    assert!(rt; asks_first(LIVE_0 as u32, 0x50_0000_0007, Reply::Dead, 5));
+    let closing = Reply::Busy(CoreNo::new(1));
+    assert!(rt; asks_first(LIVE_0 as u32, 0x800_0006, closing, 5));
+    assert!(rt; asks_first(COMP_WORD as u32, 0, Reply::Raced, 4));
 }
 
 #[test]
 fn refuses_numbers_without_a_step(rt: HostRuntime) {
     let words = words();
-    assert_eq!(rt; answers(&words, look(4096)), Some((Reply::NoSlot, 3)));
-    assert_eq!(rt; answers(&words, copy(0, 4096)), Some((Reply::NoSlot, 7)));
+    assert_eq!(rt; answers(&words, look(4096)), Some((Reply::NoSlot, 5)));
+    assert_eq!(rt; answers(&words, copy(0, 4096)), Some((Reply::NoSlot, 9)));
 }
 
 // Whether these are steps that a call has made, each at its number from 0 on.
@@ -271,7 +305,7 @@ fn a_copy_counts_one_reference_more(rt: HostRuntime) {
     let mut words = words();
     let mut steps = no_steps();
     let copied = call_by_steps(&mut words, 9, copy(1, 20), 99, &mut steps);
-    assert_eq!(rt; copied, Some((Reply::Ok(Value::Nothing), 13, 9)));
+    assert_eq!(rt; copied, Some((Reply::Ok(Value::Nothing), 15, 11)));
     let acquires = WordOp::Compare {
         at: 520,
         expected: TWO,
@@ -288,12 +322,12 @@ fn a_copy_counts_one_reference_more(rt: HostRuntime) {
     };
     let leaves = WordOp::Store { at: 528, word: 14 };
     let rows = [
-        (7, WordOp::Load { at: 520 }),
-        (8, acquires),
-        (9, fills),
-        (10, commits),
-        (11, WordOp::Load { at: 594 }),
-        (12, leaves),
+        (9, WordOp::Load { at: 520 }),
+        (10, acquires),
+        (11, fills),
+        (12, commits),
+        (13, WordOp::Load { at: 594 }),
+        (14, leaves),
     ];
     assert!(rt; has_steps(&steps, &rows));
     assert_eq!(rt; words[COUNT_OF_0], THREE);
@@ -304,16 +338,16 @@ fn a_copy_counts_one_reference_more(rt: HostRuntime) {
 fn a_refused_copy_gives_the_count_back(rt: HostRuntime) {
     let mut words = words();
     let mut steps = no_steps();
-    let lost = call_by_steps(&mut words, 9, copy(1, 20), 9, &mut steps);
-    assert_eq!(rt; lost, Some((Reply::Raced, 13, 9)));
+    let lost = call_by_steps(&mut words, 9, copy(1, 20), 11, &mut steps);
+    assert_eq!(rt; lost, Some((Reply::Raced, 15, 11)));
     let gives_back = WordOp::Store { at: 520, word: TWO };
-    assert!(rt; has_steps(&steps, &[(10, gives_back)]));
+    assert!(rt; has_steps(&steps, &[(12, gives_back)]));
     assert_eq!(rt; words[COUNT_OF_0], TWO);
     // A count that another core holds is left as it was, and no place is filled.
     words[TARGET] = 0;
     words[COUNT_OF_0] = TWO_BY_1;
     let held = call(&mut words, 9, copy(1, 20), 99);
-    assert_eq!(rt; held, Some((Reply::Busy(CoreNo::new(1)), 10, 8)));
+    assert_eq!(rt; held, Some((Reply::Busy(CoreNo::new(1)), 12, 10)));
     assert_eq!(rt; words[COUNT_OF_0], TWO_BY_1);
     assert_eq!(rt; words[TARGET], 0);
 }
@@ -325,7 +359,7 @@ fn a_removal_closes_draws_and_releases_the_reference(rt: HostRuntime) {
     words[COUNT_OF_2] = TWO;
     let mut steps = no_steps();
     let removed = call_by_steps(&mut words, 9, remove(20), 99, &mut steps);
-    assert_eq!(rt; removed, Some((Reply::Ok(Value::Nothing), 13, 8)));
+    assert_eq!(rt; removed, Some((Reply::Ok(Value::Nothing), 15, 10)));
     let acquires = WordOp::Compare {
         at: 522,
         expected: TWO,
@@ -345,14 +379,14 @@ fn a_removal_closes_draws_and_releases_the_reference(rt: HostRuntime) {
         word: ONE_SINCE_7,
     };
     let rows = [
-        (5, WordOp::Load { at: 522 }),
-        (6, acquires),
-        (7, closes),
-        (8, WordOp::Add { at: 594, by: 1 }),
-        (9, stores),
-        (10, commits),
-        (11, WordOp::Load { at: 594 }),
-        (12, WordOp::Store { at: 528, word: 16 }),
+        (7, WordOp::Load { at: 522 }),
+        (8, acquires),
+        (9, closes),
+        (10, WordOp::Add { at: 594, by: 1 }),
+        (11, stores),
+        (12, commits),
+        (13, WordOp::Load { at: 594 }),
+        (14, WordOp::Store { at: 528, word: 16 }),
     ];
     assert!(rt; has_steps(&steps, &rows));
     assert_eq!(rt; words[TARGET], QUIESCES_7);
@@ -366,7 +400,7 @@ fn a_removal_of_a_range_acquires_no_count(rt: HostRuntime) {
     let mut words = words();
     words[TARGET] = RANGE_6_2;
     let of_range = call(&mut words, 9, remove(20), 99);
-    assert_eq!(rt; of_range, Some((Reply::Ok(Value::Nothing), 10, 6)));
+    assert_eq!(rt; of_range, Some((Reply::Ok(Value::Nothing), 12, 8)));
 }
 
 #[test]
@@ -375,32 +409,32 @@ fn a_lost_removal_gives_the_count_back(rt: HostRuntime) {
     words[TARGET] = PAGES_2;
     words[COUNT_OF_2] = TWO;
     let mut steps = no_steps();
-    let lost = call_by_steps(&mut words, 9, remove(20), 7, &mut steps);
-    assert_eq!(rt; lost, Some((Reply::Raced, 11, 8)));
+    let lost = call_by_steps(&mut words, 9, remove(20), 9, &mut steps);
+    assert_eq!(rt; lost, Some((Reply::Raced, 13, 10)));
     let gives_back = WordOp::Store { at: 522, word: TWO };
-    assert!(rt; has_steps(&steps, &[(8, gives_back)]));
+    assert!(rt; has_steps(&steps, &[(10, gives_back)]));
     assert_eq!(rt; words[COUNT_OF_2], TWO);
     assert_eq!(rt; words[TARGET], TABLE_0);
     assert_eq!(rt; words[CLOCK], 7);
     // Where another core holds the count, the entry stays as it was: it is closed only after the count is acquired.
     words[COUNT_OF_0] = TWO_BY_1;
     let held = call(&mut words, 9, remove(20), 99);
-    assert_eq!(rt; held, Some((Reply::Busy(CoreNo::new(1)), 8, 6)));
+    assert_eq!(rt; held, Some((Reply::Busy(CoreNo::new(1)), 10, 8)));
     assert_eq!(rt; words[TARGET], TABLE_0);
 }
 
 #[test]
 fn a_removal_is_refused_at_the_first_cause(rt: HostRuntime) {
     let mut words = words();
-    assert_eq!(rt; answers(&words, remove(4096)), Some((Reply::NoSlot, 5)));
-    assert_eq!(rt; answers(&words, remove(64)), Some((Reply::NoSlot, 6)));
-    assert_eq!(rt; answers(&words, remove(20)), Some((Reply::Empty, 7)));
+    assert_eq!(rt; answers(&words, remove(4096)), Some((Reply::NoSlot, 7)));
+    assert_eq!(rt; answers(&words, remove(64)), Some((Reply::NoSlot, 8)));
+    assert_eq!(rt; answers(&words, remove(20)), Some((Reply::Empty, 9)));
     words[TARGET] = QUIESCES_5;
-    assert_eq!(rt; answers(&words, remove(20)), Some((Reply::Empty, 7)));
+    assert_eq!(rt; answers(&words, remove(20)), Some((Reply::Empty, 9)));
     words[TARGET] = 6;
     assert_eq!(rt;
         answers(&words, remove(20)),
-        Some((Reply::Busy(CoreNo::new(1)), 7))
+        Some((Reply::Busy(CoreNo::new(1)), 9))
     );
 }
 
@@ -409,27 +443,28 @@ fn a_retype_compares_the_word_of_an_untyped_frame(rt: HostRuntime) {
     let mut words = words();
     let mut steps = no_steps();
     let typed = call_by_steps(&mut words, 9, retype(6), 99, &mut steps);
-    assert_eq!(rt; typed, Some((Reply::Ok(Value::Nothing), 7, 4)));
+    assert_eq!(rt; typed, Some((Reply::Ok(Value::Nothing), 9, 6)));
     let types = WordOp::Compare {
         at: 518,
         expected: 0,
         word: 1,
     };
-    assert!(rt; has_steps(&steps, &[(3, WordOp::Load { at: 518 }), (4, types)]));
+    assert!(rt; has_steps(&steps, &[(5, WordOp::Load { at: 518 }), (6, types)]));
     assert_eq!(rt; words[WORD_OF_6], 1);
-    assert_eq!(rt; answers(&words, retype(6)), Some((Reply::FrameKind, 6)));
-    assert_eq!(rt; answers(&words, retype(8)), Some((Reply::OutOfRange, 5)));
+    assert_eq!(rt; answers(&words, retype(6)), Some((Reply::FrameKind, 8)));
+    assert_eq!(rt; answers(&words, retype(8)), Some((Reply::OutOfRange, 7)));
     words[WORD_OF_6] = BLANK;
-    assert_eq!(rt; answers(&words, retype(6)), Some((Reply::FrameKind, 6)));
+    assert_eq!(rt; answers(&words, retype(6)), Some((Reply::FrameKind, 8)));
     words[WORD_OF_6] = BLANK_BY_1;
     assert_eq!(rt;
         answers(&words, retype(6)),
-        Some((Reply::Busy(CoreNo::new(1)), 6))
+        Some((Reply::Busy(CoreNo::new(1)), 8))
     );
 }
 
 // How many steps core 1 of a machine of three cores and ten frames makes of a call as wanted: each of these in order, which finds
-// this word and leads to this. Core 1's count of frame 0 is at 662, the core words at 660, 672 and 684, and the clock at 750.
+// this word and leads to this. Core 1's count of frame 0 is at 662, the core words at 660, 672 and 684, the word of its component at 194,
+// that of the liveness number 0 at 686, and the clock at 750.
 fn steps_alike(call: Call, rows: &[(WordOp, u64, Absorbed)]) -> Option<usize>
     requires limits { InLimits call }
 {
@@ -474,9 +509,11 @@ fn compares(at: u32, expected: u64, word: u64) -> (WordOp, u64, Absorbed) {
 }
 
 // The steps of core 1's `copy 1 1 20` to the scan, where the target quiesces since the stamp 5.
-fn steps_to_the_scan() -> [(WordOp, u64, Absorbed); 7] {
+fn steps_to_the_scan() -> [(WordOp, u64, Absorbed); 9] {
     [
         stores(672, 1),
+        loads(194, NUMBER_0),
+        loads(686, LIVES),
         loads(0, LINK_TO_1),
         loads(65, TABLE_0),
         loads(0, LINK_TO_1),
@@ -488,11 +525,11 @@ fn steps_to_the_scan() -> [(WordOp, u64, Absorbed); 7] {
 
 // The same, with these after them.
 fn scans(rows: &[(WordOp, u64, Absorbed)]) -> Option<usize> {
-    let mut all = [loads(0, 0); 15];
+    let mut all = [loads(0, 0); 17];
     for (at, row) in steps_to_the_scan().iter().chain(rows).enumerate() {
         *all.get_mut(at)? = *row;
     }
-    steps_alike(copy(1, 20), all.get(..7 + rows.len())?)
+    steps_alike(copy(1, 20), all.get(..9 + rows.len())?)
 }
 
 // The steps of a call that is decided with this reply by a step that finds this, and has nothing to store.
@@ -525,7 +562,7 @@ fn a_copy_scans_the_other_cores_before_it_fills(rt: HostRuntime) {
         loads(750, 9),
         leaves(&ok),
     ];
-    assert_eq!(rt; scans(&filled), Some(15));
+    assert_eq!(rt; scans(&filled), Some(17));
     // The place was filled and removed again in between: the compare finds a later stamp.
     let raced = [
         loads(660, out),
@@ -537,7 +574,7 @@ fn a_copy_scans_the_other_cores_before_it_fills(rt: HostRuntime) {
         loads(750, 9),
         leaves(&Reply::Raced),
     ];
-    assert_eq!(rt; scans(&raced), Some(15));
+    assert_eq!(rt; scans(&raced), Some(17));
 }
 
 #[test]
@@ -551,5 +588,5 @@ fn a_copy_is_refused_by_a_core_that_has_been_in_its_call_since_the_removal(rt: H
         loads(750, 9),
         leaves(&waits),
     ];
-    assert_eq!(rt; scans(&refused), Some(11));
+    assert_eq!(rt; scans(&refused), Some(13));
 }

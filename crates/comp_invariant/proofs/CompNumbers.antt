@@ -207,7 +207,7 @@ module _ (setup : Setting) (setting : IsSetting setup) (cores : ℕ → Core) (t
         decides_with setup setting cores t stands c here a active move reply.Occupied (Unmark m.frame word) a.found looks lands
         (sym held_is) opens refl refl (λ x. refl) (λ x. refl) refl
         (unspent, calls.may_refuse setup setting cores t stands c here a active m stage_is has reply.Occupied (inl (live, refl))) tt
-        (λ is_alone. refused_first s c a.call reply.Occupied unspent
+        (λ is_alone. refused_first s c a.call reply.Occupied has.acts unspent
         (calls.by_taken setup setting cores t stands c here a active m stage_is has (vacant_alone move reply.Occupied is_alone) blank
         (Some reply.Occupied)
         (ap (λ b. first_of (if b then Some reply.Occupied else None) (first_of (waits_of s c thing)
@@ -224,7 +224,7 @@ module _ (setup : Setting) (setting : IsSetting setup) (cores : ℕ → Core) (t
           calls.may_refuse setup setting cores t stands c here a active m stage_is has reply.EpochsSpent
               (inr (inr (inl (eq-eqb _ _ spent.last, refl)))),
         ) tt
-        (λ is_alone. refused_first s c a.call reply.EpochsSpent unspent
+        (λ is_alone. refused_first s c a.call reply.EpochsSpent has.acts unspent
         (calls.by_taken setup setting cores t stands c here a active m stage_is has (vacant_alone move reply.EpochsSpent is_alone) blank
         (Some reply.EpochsSpent)
         (ap (λ b. first_of (if b then Some reply.Occupied else None) (first_of (waits_of s c thing)
@@ -248,6 +248,7 @@ module _ (setup : Setting) (setting : IsSetting setup) (cores : ℕ → Core) (t
         loads_on setup setting cores t stands c here a active move a.found (Undecided (Act (comp_act (record m { at = next })))) looks lands
         (holds_so ∙ sym held_is) opens
         (λ carries. record {
+          acts = has.acts;
           names = names_on setup setting t e stands.legal c a.call is_open carries (cores c).own.table a.plan a.found has.names;
           knows = record {
             knows = record {

@@ -185,6 +185,7 @@ module _ (setup : Setting) (setting : IsSetting setup) (cores : ℕ → Core) (t
         ∙ sym same ∙ sym (ap (λ o. settled_by o (held_by cores) (LiveAt l) was) bare))
         opens
         (λ carries. record {
+          acts = has.acts;
           names = names_on setup setting t e stands.legal c a.call is_open carries (cores c).own.table a.plan a.found has.names;
           knows = record {
             knows = record {
@@ -376,6 +377,7 @@ module _ (setup : Setting) (setting : IsSetting setup) (cores : ℕ → Core) (t
       (sym blank) tt)
       (spares_blank setup t e f n refl blank own_mark)
       (λ carries. record {
+        acts = has.acts;
         names = names_on setup setting t e stands.legal c a.call open_now carries (cores c).own.table a.plan a.found has.names;
         knows = record {
           knows = record {

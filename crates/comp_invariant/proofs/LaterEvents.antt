@@ -20,7 +20,7 @@ pub record Later (more events : List Event) : Type 0 where
   pub later : List Event
   pub adds : more ≡ later ++ events
 
-entry_later : (o : Option Call) (c : ℕ) (more events : List Event) → Later more events → Later (with_entry o c more) events
+pub entry_later : (o : Option Call) (c : ℕ) (more events : List Event) → Later more events → Later (with_entry o c more) events
 entry_later None c more events had = had
 entry_later (Some call) c more events had =
     record { later = Enters c call ∷ had.later; adds = ap (λ xs. Enters c call ∷ xs) had.adds }

@@ -648,7 +648,7 @@ module _ (setup : Setting) (setting : IsSetting setup) (cores : ℕ → Core) (t
     permitted : MayReply s c a.call (reply.Ok Nothing)
     permitted = (
       not_spent setup (cores c) t c (stands.each c here) (calls.room setup setting cores t stands c here a active m stage_is has),
-      subst (λ x. IsFoundAnd x (λ y. y.value ≡ Nothing)) (sym change_is) refl,
+      (has.acts, subst (λ x. IsFoundAnd x (λ y. y.value ≡ Nothing)) (sym change_is) refl),
     )
 
     gone : HasReached (e ∷ t) c (ways s c (rule_of s c a.call))

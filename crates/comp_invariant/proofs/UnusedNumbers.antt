@@ -109,7 +109,7 @@ found_begun s v (Found change) by ok l is = by l is
 decided_begun : (s : State) (c : ℕ) (call : Call) (r : Reply) → MayReply s c call r → (l : ℕ) → begins s c call r (NumberOf l) ≡ true
     → IsPast 0 ((state_by s c call r).number l)
 decided_begun s c call (reply.Ok v) may l is =
-    found_begun s v (change_of s c call) (outcome_from (Begun s) s c (rule_of s c call) (rule_begun s c call)) may.1 l is
+    found_begun s v (change_of s c call) (outcome_from (Begun s) s c (rule_of s c call) (rule_begun s c call)) may.1.1 l is
 decided_begun s c call _ may l is = absurd (false≢true is)
 
 -- So it is after a step at which its grace period begins.

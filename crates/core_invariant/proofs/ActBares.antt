@@ -30,7 +30,7 @@ use Rattle.call_stages.specs.act_states.specs.declared.work.Work.{Work}
 use Rattle.call_stages.specs.act_states.specs.declared.work.Work.TheVariants.{Lookup, Read, Scan, Acquire, Act as act_work}
 use Rattle.call_stages.specs.declared.stages.ActiveCall.{ActiveCall}
 use Rattle.call_stages.specs.declared.stages.Stage.{Stage}
-use Rattle.call_stages.specs.declared.stages.Stage.TheVariants.{Enter, Undecided, Decided, Leave}
+use Rattle.call_stages.specs.declared.stages.Stage.TheVariants.{Enter, Living, Undecided, Decided, Leave}
 use Rattle.core_invariant.specs.Holding.{Holding}
 use Rattle.core_invariant.specs.Frozen.{holds_untyping}
 use Rattle.core_invariant.specs.Knows.{phase_at}
@@ -111,6 +111,7 @@ open_bare a call opens f i = by a.stage opens
   where
     by : (stage : Stage) → phase_at a.call stage ≡ Open call → (holds_at stage a.counts).bare f i ≡ None
     by Enter is = absurd (cc)
+    by (Living alive) is = counts_bare None a.counts f i
     by (Undecided work) is = work_bare work _ f i ∙ counts_bare None a.counts f i
     by (Decided r drawn tail) is = absurd (cc)
     by (Leave r x) is = absurd (cc)

@@ -10,7 +10,7 @@ use Rattle.kernel_history.specs.Trace.{Trace, Phase, Out, phase, state_after}
 use Rattle.kernel_history.specs.Stamps.{is_in}
 use Rattle.kernel_history.proofs.Inside.{inside_is}
 use Rattle.call_stages.specs.declared.stages.Stage.{Stage}
-use Rattle.call_stages.specs.declared.stages.Stage.TheVariants.{Enter, Undecided, Decided, Leave}
+use Rattle.call_stages.specs.declared.stages.Stage.TheVariants.{Enter, Living, Undecided, Decided, Leave}
 use Rattle.call_stages.specs.declared.stages.ActiveCall.{ActiveCall}
 use Rattle.call_stages.specs.View.{Core}
 use Rattle.core_invariant.specs.Knows.{phase_at, KnowsAt, Knows, CallIs}
@@ -20,6 +20,7 @@ use Rattle.core_invariant.specs.Invariant.{holds_in, Invariant}
 phase_at_in : (setup : Setting) (t : Trace) (c table : ℕ) (a : ActiveCall) (stage : Stage) → KnowsAt setup t c table a stage
     → phase_at a.call stage ≢ Out
 phase_at_in setup t c table a Enter knows = absurd knows
+phase_at_in setup t c table a (Living alive) knows = λ h. cc
 phase_at_in setup t c table a (Undecided work) knows = λ h. cc
 phase_at_in setup t c table a (Decided r drawn tail) knows = λ h. cc
 phase_at_in setup t c table a (Leave r x) knows = λ h. cc
@@ -30,6 +31,7 @@ phase_in setup t c table a knows = phase_at_in setup t c table a a.stage knows
 phase_at_call : (setup : Setting) (t : Trace) (c table : ℕ) (a : ActiveCall) (stage : Stage) → KnowsAt setup t c table a stage
     → call_in (phase_at a.call stage) ≡ Some a.call
 phase_at_call setup t c table a Enter knows = absurd knows
+phase_at_call setup t c table a (Living alive) knows = refl
 phase_at_call setup t c table a (Undecided work) knows = refl
 phase_at_call setup t c table a (Decided r drawn tail) knows = refl
 phase_at_call setup t c table a (Leave r x) knows = refl

@@ -33,7 +33,7 @@ use Rattle.kernel_history.specs.Alone.{KeepsFirst}
 use Rattle.kernel_history.specs.Stamps.{stamp, clock, exit_of, flush_stored}
 use Rattle.kernel_history.specs.Graces.{GraceIs, TimesAre}
 use Rattle.call_stages.specs.declared.stages.Stage.{Stage}
-use Rattle.call_stages.specs.declared.stages.Stage.TheVariants.{Enter, Undecided, Decided, Leave}
+use Rattle.call_stages.specs.declared.stages.Stage.TheVariants.{Enter, Living, Undecided, Decided, Leave}
 use Rattle.call_stages.specs.declared.stages.ActiveCall.{ActiveCall}
 use Rattle.kernel_invariant.specs.spk_nums.specs.declared.replies.Reply.{Reply}
 use Rattle.kernel_invariant.specs.spk_nums.specs.declared.replies.Reply.TheVariants.{Ok}
@@ -71,6 +71,7 @@ done_by _ drawn = None
 
 abbrev pub is_done : Stage → Option (Option ℕ)
 is_done Enter = None
+is_done (Living alive) = None
 is_done (Undecided work) = None
 is_done (Decided r drawn tail) = done_by r drawn
 is_done (Leave r x) = None
@@ -188,6 +189,7 @@ holds_work (act_work act) h = holds_act act h
 
 abbrev pub holds_stage : Stage → Holding → Holding
 holds_stage Enter h = h
+holds_stage (Living alive) h = h
 holds_stage (Undecided work) h = holds_work work h
 holds_stage (Decided r drawn tail) h = holds_tail tail h
 holds_stage (Leave r x) h = h

@@ -102,7 +102,10 @@ use Rattle.call_stages.specs.act_states.specs.declared.work.Tail.{Tail}
 use Rattle.call_stages.specs.act_states.specs.declared.work.Tail.TheVariants.{Nothing, Quiesce, Unmark, StoreDead, StoreFlush, Release}
 use Rattle.call_stages.specs.act_states.specs.declared.work.Tail.TheVariants.{StoreLive, Push, Pop, Share, StoreRunning, StoreIdle}
 use Rattle.call_stages.specs.declared.stages.Stage.{Stage}
-use Rattle.call_stages.specs.declared.stages.Stage.TheVariants.{Enter, Undecided, Decided, Leave}
+use Rattle.call_stages.specs.declared.stages.Stage.TheVariants.{Enter, Living, Undecided, Decided, Leave}
+use Rattle.call_stages.specs.stage_thread.specs.declared.alive.Alive.{Alive}
+use Rattle.call_stages.specs.stage_thread.specs.declared.alive.Alive.TheVariants.{AtComp, AtLive}
+use Rattle.kernel_invariant.specs.kernel_rules.specs.Life.{asks_life, acts}
 use Rattle.call_stages.specs.declared.stages.ActiveCall.{ActiveCall}
 use Rattle.call_stages.specs.stage_quiet.specs.declared.close.Close.{Close}
 use Rattle.call_stages.specs.stage_quiet.specs.declared.close.Close.TheVariants.{AtCompare as close_compare, AtDraw, AtStore}
@@ -283,8 +286,20 @@ KnowsWork setup t c table a (Scan q act) = KnowsQuiet setup t c a q act
 KnowsWork setup t c table a (Acquire pin change act) = KnowsCount setup t c a pin change act
 KnowsWork setup t c table a (Act act) = KnowsActing setup t c a act
 
--- What a call knows that has entered and is not decided: its names have led to what it has found, and what it knows of its work.
+-- What a call knows that is asking whether the component in which its core works lives: it is one that asks so, and where it has loaded
+-- the component's word, this has that number and epoch.
+abbrev pub KnowsAliveAt : State → ℕ → Alive → Type 0
+KnowsAliveAt s c (AtComp comp) = comp ≡ first_of_stack (thread_of s c).stack
+KnowsAliveAt s c (AtLive life) = ((comp_of s c).number ≡ life.number) × ((comp_of s c).epoch ≡ life.epoch)
+
+pub record KnowsAlive (s : State) (c : ℕ) (call : Call) (alive : Alive) : Type 0 where
+  pub asks : IsTrue (asks_life call)
+  pub at : KnowsAliveAt s c alive
+
+-- What a call knows that has entered, asks no more whether its core may act, and is not decided: its core may make the call, its names
+-- have led to what it has found, and what it knows of its work.
 pub record KnowsUndecided (setup : Setting) (t : Trace) (c table : ℕ) (a : ActiveCall) (work : Work) : Type 0 where
+  pub acts : IsTrue (acts (state_after setup t) c a.call)
   pub names : NamesAre setup t c table a.plan a.found
   pub knows : KnowsWork setup t c table a work
 
@@ -364,6 +379,7 @@ KnowsTail setup t c call counts (StoreIdle f depth) = KnowsIdle setup t c call f
 -- What a call knows at its stage. One that has made no step is in no trace.
 abbrev pub KnowsAt : Setting → Trace → ℕ → ℕ → ActiveCall → Stage → Type 0
 KnowsAt setup t c table a Enter = ⊥
+KnowsAt setup t c table a (Living alive) = KnowsAlive (state_after setup t) c a.call alive
 KnowsAt setup t c table a (Undecided work) = KnowsUndecided setup t c table a work
 KnowsAt setup t c table a (Decided r drawn tail) = KnowsTail setup t c a.call a.counts tail
 KnowsAt setup t c table a (Leave r x) = IsLeave setup t c x
@@ -374,6 +390,7 @@ Knows setup t c table a = KnowsAt setup t c table a a.stage
 -- The phase of a call at its stage.
 abbrev pub phase_at : Call → Stage → Phase
 phase_at call Enter = Out
+phase_at call (Living alive) = Open call
 phase_at call (Undecided work) = Open call
 phase_at call (Decided r drawn tail) = history.Decided call r
 phase_at call (Leave r x) = history.Decided call r
@@ -430,6 +447,7 @@ flushes_tail (StoreFlush by at) = true
 
 abbrev pub is_flushing : Stage → Bool
 is_flushing Enter = false
+is_flushing (Living alive) = false
 is_flushing (Undecided work) = false
 is_flushing (Decided r drawn tail) = flushes_tail tail
 is_flushing (Leave r x) = false

@@ -19,11 +19,12 @@ use Rattle.boot_words.specs.kernel_history.specs.Order.{HasCalls, list_of}
 use Rattle.boot_words.specs.kernel_history.specs.Text.{decisions_by}
 use Rattle.boot_words.specs.kernel_history.specs.Counts.{RepresentCounts}
 use Rattle.boot_words.specs.kernel_history.specs.FinalWords.{Represent, word_in, end_in}
-use Rattle.boot_words.specs.kernel_history.specs.Trace.{Trace, calls_of, state_after}
+use Rattle.boot_words.specs.kernel_history.specs.Trace.{Trace, Out, phase, calls_of, state_after}
 use Rattle.core_kernel.specs.declared.whole.Ran.{Ran}
 use Rattle.core_kernel.specs.Replies.{replies_of}
 use Rattle.core_kernel.specs.Kernel.{KernelValue, CoreSeatValue, AreAllSeats, AreFresh}
-use Rattle.core_kernel.specs.Calls.{EndsAt}
+use Rattle.flight_laws.specs.Histories.{IsHistory}
+use Rattle.core_kernel.specs.Calls.{ExtendsByOthers, EndsAt}
 use Rattle.core_kernel.specs.Runs.{RunnerValue, IsWaiting, MakesCalls}
 use Rattle.core_kernel.specs.Whole.{numbered, decided, decisions_below, IsList, AreRunners, AreMade}
 use Rattle.core_kernel.proofs.Closing.{mapped}
@@ -74,7 +75,7 @@ module _ (of : KernelValue) (seats : List CoreSeatValue) (all : AreAllSeats of s
       pub calls : before.calls ≡ list_of lists k
       pub none : before.seat.seen ≡ []
 
-    lane : (k : ℕ) → k < of.setup.cores → Lane k
+    pub lane : (k : ℕ) → k < of.setup.cores → Lane k
     lane k h =
         let n = are.count in
         let m = all.count in
@@ -116,12 +117,10 @@ module _ (of : KernelValue) (seats : List CoreSeatValue) (all : AreAllSeats of s
         below k s e = let lt = slice_get_within (map (λ (r : RunnerValue). r.seat) after) k s e in
             let n = length-map after (λ (r : RunnerValue). r.seat) in let m = count in omega arith
 
-    module _ (words : List ℕ) (ends : List CoreEnd) (end : EndsAt of (map (λ r. r.seat) after) words ends)
+    module _ (t : Trace) (history : IsHistory of.setup t) (returned : (c : ℕ) → phase t c ≡ Out)
+        (begins : (k : ℕ) (s : CoreSeatValue) → slice_get (map (λ r. r.seat) after) k ≡ Some s → ExtendsByOthers s.core s.seen t)
         (whole : All (λ r. r.held ≡ false) after) where
-      abbrev t : Trace
-      t = end.trace
-
-      -- in the trace at the end a core's calls are its list, and its replies those of its runner
+      -- in a trace that begins with what each has seen a core's calls are its list, and its replies those of its runner
       pub record LaneEnds (k : ℕ) : Type 0 where
         pub now : RunnerValue
         pub at : slice_get after k ≡ Some now
@@ -129,7 +128,7 @@ module _ (of : KernelValue) (seats : List CoreSeatValue) (all : AreAllSeats of s
         pub calls : calls_of t k ≡ list_of lists k
         pub replies : replies_of t k ≡ now.replies
 
-      lane_ends : (k : ℕ) → k < of.setup.cores → LaneEnds k
+      pub lane_ends : (k : ℕ) → k < of.setup.cores → LaneEnds k
       lane_ends k h =
           let l = lane k h in
           let m = l.makes in
@@ -138,7 +137,7 @@ module _ (of : KernelValue) (seats : List CoreSeatValue) (all : AreAllSeats of s
           let here : c ≡ k = m.core ∙ l.core in
           let at : slice_get (map (λ (r : RunnerValue). r.seat) after) k ≡ Some a.seat =
           slice_get-map (λ (r : RunnerValue). r.seat) after k ∙ ap (option_map (λ (r : RunnerValue). r.seat)) l.at in
-          let x = end.begins k a.seat at in
+          let x = begins k a.seat at in
           let seen : a.seat.seen ≡ m.since ++ [] = m.begins ∙ ap (λ (s : Trace). m.since ++ s) l.none in
           let held : a.held ≡ false = held_at (λ r. r.held ≡ false) after k a whole l.at in
           let all_made : length a.replies ≡ length l.before.calls = m.whole held in
@@ -168,17 +167,17 @@ module _ (of : KernelValue) (seats : List CoreSeatValue) (all : AreAllSeats of s
           held_at : (P : RunnerValue → Type 0) (xs : List RunnerValue) (n : ℕ) (x : RunnerValue) → All P xs → slice_get xs n ≡ Some x → P x
           held_at P xs n x every is = subst P (get_or_from_slice_get xs n x x is) (All-get_or P xs n x (slice_get_within xs n x is) every)
 
-      has_calls : length lists ≡ of.setup.cores → HasCalls lists t
+      pub has_calls : length lists ≡ of.setup.cores → HasCalls lists t
       has_calls one_each c = record {
-        out = end.returned c;
+        out = returned c;
         finished = elim (cases_lt c of.setup.cores) [
           | inl h ↦ (lane_ends c h).calls
-          | inr past ↦ calls_of-past of.setup c t past end.history.legal ∙ sym (get_or_past lists c [] (omega arith))
+          | inr past ↦ calls_of-past of.setup c t past history.legal ∙ sym (get_or_past lists c [] (omega arith))
         ];
       }
 
       -- the decisions of the first n runners are those of the first n cores
-      up_to : (n : ℕ) → n ≤ of.setup.cores → flat_map decided (take n after) ≡ decisions_below t n
+      pub up_to : (n : ℕ) → n ≤ of.setup.cores → flat_map decided (take n after) ≡ decisions_below t n
       up_to zero h = refl
       up_to (suc n) h =
           let l = lane_ends n (omega arith) in
@@ -188,26 +187,32 @@ module _ (of : KernelValue) (seats : List CoreSeatValue) (all : AreAllSeats of s
           let read : get_or after n l.now ≡ l.now = get_or_from_slice_get after n l.now l.now l.at in
           let own : decided l.now ≡ decisions_by t n =
           ap (λ (z : ℕ × List Reply). numbered z.0 1 z.1) (λ i. (l.core i, sym l.replies i))
-          ∙ sym (decisions_numbered of.setup n t end.history.legal) in
+          ∙ sym (decisions_numbered of.setup n t history.legal) in
           ap (λ (k : ℕ). flat_map decided (take k after)) next ∙ ap (flat_map decided) (more ∙ ap (λ r. take n after ++ r ∷ []) read)
           ∙ flat_map-append decided (take n after) (l.now ∷ [])
           ∙ ap (λ (q : List Decision). flat_map decided (take n after) ++ q) (flat_map-cons decided l.now [] ∙ append-nil (decided l.now)
           ∙ own)
           ∙ ap (λ (q : List Decision). q ++ decisions_by t n) (up_to n (omega arith))
 
+      -- the decisions of all runners are those of all cores
+      pub all_decisions : flat_map decided after ≡ decisions_below t of.setup.cores
+      all_decisions = ap (flat_map decided) (sym (take_all of.setup.cores after (let size = count in omega arith)))
+          ∙ up_to of.setup.cores (omega arith)
+
+    module _ (words : List ℕ) (ends : List CoreEnd) (end : EndsAt of (map (λ r. r.seat) after) words ends)
+        (whole : All (λ r. r.held ≡ false) after) where
       pub are_made : length lists ≡ of.setup.cores → (ran : Ran) → ran.decisions.items ≡ flat_map decided after
           → ran.closed.layout ≡ shape_of of.setup → ran.closed.words.items ≡ words → ran.closed.ends.items ≡ ends
           → AreMade of.setup lists ran
       are_made one_each ran decisions layout words_are ends_are = record {
-        trace = t;
+        trace = end.trace;
         history = end.history;
-        calls = has_calls one_each;
-        decisions = decisions ∙ ap (flat_map decided) (sym (take_all of.setup.cores after (let size = count in omega arith)))
-            ∙ up_to of.setup.cores (omega arith);
+        calls = has_calls end.trace end.history end.returned end.begins whole one_each;
+        decisions = decisions ∙ all_decisions end.trace end.history end.returned end.begins whole;
         layout = layout;
         represent = subst (λ (z : List ℕ × List CoreEnd). Represent (word_in (shape_of of.setup) z.0) (end_in z.1)
-            (state_after of.setup t)) (λ i. (sym words_are i, sym ends_are i)) end.represent;
-        counts = subst (λ (z : List ℕ). RepresentCounts (word_in (shape_of of.setup) z) (state_after of.setup t))
+            (state_after of.setup end.trace)) (λ i. (sym words_are i, sym ends_are i)) end.represent;
+        counts = subst (λ (z : List ℕ). RepresentCounts (word_in (shape_of of.setup) z) (state_after of.setup end.trace))
             (sym words_are) end.counts;
         word_count = ap length words_are ∙ end.word_count;
         end_count = ap length ends_are ∙ end.end_count;

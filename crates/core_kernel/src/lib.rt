@@ -35,4 +35,4 @@ pub use run::run_cores;
 pub use runner::Runner;
 pub use seat::{CoreNote, CoreSeat, Front};
 pub use threads::cross_threads;
-pub use whole::{Ran, run_whole};
+pub use whole::{Ran, any_held, decisions_of, run_whole, runners_of, seats_of};

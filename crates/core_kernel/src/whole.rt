@@ -23,8 +23,8 @@ pub struct Ran {
     pub closed: Closed,
 }
 
-// A runner for each seat, with a copy of the list of its place.
-fn runners_of(
+/// A runner for each seat, with a copy of the list of its place. It fails only where memory runs out.
+pub fn runners_of(
     alloc: Global,
     seats: Vec<CoreSeat>,
     lists: &[Vec<Call>],
@@ -46,8 +46,8 @@ fn runners_of(
     Ok(runners)
 }
 
-// Whether the gate has stopped a runner.
-fn any_held(runners: &[Runner]) -> bool
+/// Whether the gate has stopped a runner.
+pub fn any_held(runners: &[Runner]) -> bool
     ensures none { result ≡ false → All (λ r. r.held ≡ false) runners.now }
     ensures some { All (λ r. r.held ≡ false) runners.now → result ≡ false }
 {
@@ -78,8 +78,8 @@ fn add_decisions(
     Ok(())
 }
 
-// The decisions of all runners, in their order.
-fn decisions_of(alloc: Global, runners: &[Runner]) -> Result<Vec<Decision>, AllocError>
+/// The decisions of all runners, in their order. It fails only where memory runs out.
+pub fn decisions_of(alloc: Global, runners: &[Runner]) -> Result<Vec<Decision>, AllocError>
     requires { All (λ r. length r.replies < 2 ^ 32) runners.now }
     ensures { IfOk result (λ v. v.items ≡ flat_map decided runners.now) }
 {
@@ -91,8 +91,8 @@ fn decisions_of(alloc: Global, runners: &[Runner]) -> Result<Vec<Decision>, Allo
     Ok(decisions)
 }
 
-// The runners' seats.
-fn seats_of(alloc: Global, runners: Vec<Runner>) -> Result<Vec<CoreSeat>, AllocError>
+/// The runners' seats. It fails only where memory runs out.
+pub fn seats_of(alloc: Global, runners: Vec<Runner>) -> Result<Vec<CoreSeat>, AllocError>
     ensures { IfOk result (λ v. v.items ≡ map (λ r. r.seat) runners.items) }
 {
     let mut seats = Vec::with_capacity(alloc, runners.len())?;

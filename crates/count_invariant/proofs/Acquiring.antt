@@ -289,6 +289,7 @@ module _ (setup : Setting) (setting : IsSetting setup) (cores : ℕ → Core) (t
       (record { of_call = record { moves = moved; near = inl (near d) }; kept = refl; apart = λ b. refl }) lands
       (sym held_is) opens
       (λ carries. record {
+        acts = has.acts;
         names = names_on setup setting t e stands.legal c a.call is_open carries (cores c).own.table a.plan a.found has.names;
         knows = record {
           knows = act_on setup setting t e stands.legal c a.call is_open carries a.call a.plan a.found setup.cores act
@@ -437,6 +438,7 @@ module _ (setup : Setting) (setting : IsSetting setup) (cores : ℕ → Core) (t
           ∙ sym (ap (λ o. settled_by o (held_by cores) at was) unmarked))
           opens
           (λ carries. record {
+            acts = has.acts;
             names = names_on setup setting t e stands.legal c a.call is_open carries (cores c).own.table a.plan a.found has.names;
             knows = knows_next setup (e ∷ t) c (cores c).own.table (more grown) (cores c).own.core act has.knows.rest
                 (stands.each c here).number

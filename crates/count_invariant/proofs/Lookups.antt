@@ -1,4 +1,5 @@
 -- A step of a look-up is good, whatever the call looks for: it goes on to the leaf, is refused, or arrives at the place.
+use Rattle.step_ways.proofs.Common.{acts}
 use Rattle.step_ways.proofs.Common.{◌≡◌, ◌⊎◌, inl, inr, ℕ, ◌<◌, ◌≤◌, ◌/◌, ◌%◌, ◌&&◌, ◌||◌, ◌==◌, ◌++◌, ◌∷◌, List, [], map, Bool, true}
 use Rattle.step_ways.proofs.Common.{false, not, nat_le, nat_lt, if◌then◌else◌, Option, Some, None, arith, refl, sym, ◌∙◌, ap, subst}
 use Rattle.step_ways.proofs.Common.{IsTrue, IsSome, option_to_list, le-leb, eq-eqb, All-nil, All-cons, Capability, Setting}
@@ -170,6 +171,7 @@ use_removed p k waits is not = ap (λ q. usable_in q waits) is ∙ ap (λ b. usa
 module _ (setup : Setting) (setting : IsSetting setup) (cores : ℕ → Core) (t : Trace) (stands : Invariant setup cores t) (c : ℕ)
     (here : c < setup.cores)
     (a : ActiveCall) (active : (cores c).active ≡ Some a) (target : Target) (is_open : phase t c ≡ Open a.call)
+    (may_act : IsTrue (acts (state_after setup t) c a.call))
     (no_slot : IsTrue (has_no_slot (state_after setup t) target) → RuleMay (state_after setup t) c
     (rule_of (state_after setup t) c a.call) reply.NoSlot)
     (no_way : reached (state_after setup t) c target ≡ None → change_of (state_after setup t) c a.call ≡ Refused reply.NoSlot)
@@ -224,7 +226,7 @@ module _ (setup : Setting) (setting : IsSetting setup) (cores : ℕ → Core) (t
           → GoodTook setup cores t c (LoadOf (EntryAt g i)) (landed a (refuse refusal.NoSlot))
       nowhere g i way none unreached =
           refuses_no_slot setup setting cores t stands c here a active opens held_is room (LoadOf (EntryAt g i)) (looks_at g i way)
-          (no_slot none)
+          may_act (no_slot none)
           (λ nobody. no_way (unreached nobody))
 
       -- it goes on to the leaf
@@ -242,6 +244,7 @@ module _ (setup : Setting) (setting : IsSetting setup) (cores : ℕ → Core) (t
 module _ (setup : Setting) (setting : IsSetting setup) (cores : ℕ → Core) (t : Trace) (stands : Invariant setup cores t) (c : ℕ)
     (here : c < setup.cores)
     (a : ActiveCall) (active : (cores c).active ≡ Some a) (table : Named) (n : ℕ) (is_open : phase t c ≡ Open a.call)
+    (may_act : IsTrue (acts (state_after setup t) c a.call))
     (no_slot : IsTrue (has_no_slot (state_after setup t) (Under table n)) → RuleMay (state_after setup t) c
     (rule_of (state_after setup t) c a.call) reply.NoSlot)
     (no_way : reached (state_after setup t) c (Under table n) ≡ None → change_of (state_after setup t) c a.call ≡ Refused reply.NoSlot)
@@ -257,11 +260,11 @@ module _ (setup : Setting) (setting : IsSetting setup) (cores : ℕ → Core) (t
     (took_found (cores c).own a (next_of a.plan a.found) (found_at at.node at.index (last_left setup t (EntryAt at.node at.index)) v)))
     (room : (cores c).own.made < (cores c).own.limit) where
   abbrev Shown : Look → ℕ → ℕ → Option Entry → Type 0
-  Shown = TakesShown setup setting cores t stands c here a active (Under table n) is_open no_slot no_way on_way goes done
+  Shown = TakesShown setup setting cores t stands c here a active (Under table n) is_open may_act no_slot no_way on_way goes done
 
   root_step : a.stage ≡ Undecided (Lookup (AtRoot table.frame n)) → LooksUp setup t c (Under table n) (AtRoot table.frame n)
-      → Takes setup setting cores t stands c here a active (Under table n) is_open no_slot no_way on_way goes done (AtRoot table.frame n)
-      table.frame (n / 64)
+      → Takes setup setting cores t stands c here a active (Under table n) is_open may_act no_slot no_way on_way goes done
+      (AtRoot table.frame n) table.frame (n / 64)
   root_step at looks = by_read (place_reads setup cores t stands table.frame (n / 64) looks.relies.node
       (let w = looks.at.within in omega arith))
     where
@@ -282,7 +285,7 @@ module _ (setup : Setting) (setting : IsSetting setup) (cores : ℕ → Core) (t
           (took_end (cores c).own a (after_link b table.frame n k.frame)
           (end_by_link b))
       by_link k shows true is =
-          further setup setting cores t stands c here a active (Under table n) is_open no_slot no_way on_way goes done
+          further setup setting cores t stands c here a active (Under table n) is_open may_act no_slot no_way on_way goes done
           (AtRoot table.frame n) at room table.frame (n / 64) (AtLeaf k.frame n) way
           (λ e carries own. record {
             relies = carries.stays.relies _ looks.relies;
@@ -297,7 +300,7 @@ module _ (setup : Setting) (setting : IsSetting setup) (cores : ℕ → Core) (t
             };
           })
       by_link k shows false is =
-          nowhere setup setting cores t stands c here a active (Under table n) is_open no_slot no_way on_way goes done
+          nowhere setup setting cores t stands c here a active (Under table n) is_open may_act no_slot no_way on_way goes done
           (AtRoot table.frame n) at room table.frame (n / 64) way
           (unlinked (state_after setup t) table n looks.at.found (ap holds_link shows.holds ∙ sym (link_kind k.kind) ∙ is))
           (λ nobody. unreached (ap (λ p. linked (usable_in p (((state_after setup t).grace (PlaceOf table.frame (n / 64))).waits c)))
@@ -306,7 +309,7 @@ module _ (setup : Setting) (setting : IsSetting setup) (cores : ℕ → Core) (t
       by_value : (v : Entry) → Shows setup.frames ((state_after setup t).place table.frame (n / 64)) v
           → Shown (AtRoot table.frame n) table.frame (n / 64) (Some v)
       by_value Free shows =
-          nowhere setup setting cores t stands c here a active (Under table n) is_open no_slot no_way on_way goes done
+          nowhere setup setting cores t stands c here a active (Under table n) is_open may_act no_slot no_way on_way goes done
           (AtRoot table.frame n) at room table.frame (n / 64) way
           (unlinked (state_after setup t) table n looks.at.found (ap holds_link shows))
           (λ nobody. unreached (ap (λ p. linked (usable_in p (((state_after setup t).grace (PlaceOf table.frame (n / 64))).waits c)))
@@ -314,16 +317,16 @@ module _ (setup : Setting) (setting : IsSetting setup) (cores : ℕ → Core) (t
       by_value (Held k) shows = by_link k shows (is_link k.kind) refl
       by_value (Closing d) shows = absurd shows
       by_value (Quiescing s) shows =
-          nowhere setup setting cores t stands c here a active (Under table n) is_open no_slot no_way on_way goes done
+          nowhere setup setting cores t stands c here a active (Under table n) is_open may_act no_slot no_way on_way goes done
           (AtRoot table.frame n) at room table.frame (n / 64) way
           (unlinked (state_after setup t) table n looks.at.found (ap holds_link shows.removed))
           (λ nobody. unreached (ap linked (use_removed _ shows.held _ shows.removed (nobody (PlaceOf table.frame (n / 64)) c))))
 
       by_read : IsMarked setup t table.frame (n / 64) ⊎ IsUnmarked setup t table.frame (n / 64)
-          → Takes setup setting cores t stands c here a active (Under table n) is_open no_slot no_way on_way goes done
+          → Takes setup setting cores t stands c here a active (Under table n) is_open may_act no_slot no_way on_way goes done
           (AtRoot table.frame n) table.frame (n / 64)
       by_read (inl m) = subst (Shown (AtRoot table.frame n) table.frame (n / 64)) (sym (ap (entry_within setup.frames) m.says))
-          (busy setup setting cores t stands c here a active (Under table n) is_open no_slot no_way on_way goes done
+          (busy setup setting cores t stands c here a active (Under table n) is_open may_act no_slot no_way on_way goes done
           (AtRoot table.frame n) at room table.frame (n / 64) m.by way m refl)
       by_read (inr p) =
           let shown = shown_of setup.frames ((state_after setup t).place table.frame (n / 64))
@@ -331,8 +334,8 @@ module _ (setup : Setting) (setting : IsSetting setup) (cores : ℕ → Core) (t
           subst (Shown (AtRoot table.frame n) table.frame (n / 64)) (sym shown.shown) (by_value shown.value shown.shows)
 
   leaf_step : (leaf : ℕ) → a.stage ≡ Undecided (Lookup (AtLeaf leaf n)) → LooksUp setup t c (Under table n) (AtLeaf leaf n)
-      → Takes setup setting cores t stands c here a active (Under table n) is_open no_slot no_way on_way goes done (AtLeaf leaf n) leaf
-      (n % 64)
+      → Takes setup setting cores t stands c here a active (Under table n) is_open may_act no_slot no_way on_way goes done
+      (AtLeaf leaf n) leaf (n % 64)
   leaf_step leaf at looks = by_read (place_reads setup cores t stands leaf (n % 64) relies.node (omega arith))
     where
       slot : Slot
@@ -353,8 +356,8 @@ module _ (setup : Setting) (setting : IsSetting setup) (cores : ℕ → Core) (t
           (ap (λ o. is_slot_in (option_to_list o) leaf (n % 64)) leads ∙ slot_one leaf (n % 64))
 
       looks_here : OnlyLooks setup t c a.call (LoadOf (EntryAt leaf (n % 64)))
-      looks_here = looks_at setup setting cores t stands c here a active (Under table n) is_open no_slot no_way on_way goes done leaf
-          (n % 64) way
+      looks_here = looks_at setup setting cores t stands c here a active (Under table n) is_open may_act no_slot no_way on_way goes done
+          leaf (n % 64) way
 
       relies : Relies (state_after setup t) c leaf
       relies = relies_reached setup setting t stands.legal c a.call is_open table n slot reaches
@@ -379,11 +382,11 @@ module _ (setup : Setting) (setting : IsSetting setup) (cores : ℕ → Core) (t
       by_value p (Quiescing s) reads shows = done slot (Quiescing s) (arrives p) reads shows looks_here
 
       by_read : IsMarked setup t leaf (n % 64) ⊎ IsUnmarked setup t leaf (n % 64)
-          → Takes setup setting cores t stands c here a active (Under table n) is_open no_slot no_way on_way goes done (AtLeaf leaf n)
-          leaf (n % 64)
+          → Takes setup setting cores t stands c here a active (Under table n) is_open may_act no_slot no_way on_way goes done
+          (AtLeaf leaf n) leaf (n % 64)
       by_read (inl m) = subst (Shown (AtLeaf leaf n) leaf (n % 64)) (sym (ap (entry_within setup.frames) m.says))
-          (busy setup setting cores t stands c here a active (Under table n) is_open no_slot no_way on_way goes done (AtLeaf leaf n) at
-          room leaf (n % 64) m.by way m refl)
+          (busy setup setting cores t stands c here a active (Under table n) is_open may_act no_slot no_way on_way goes done
+          (AtLeaf leaf n) at room leaf (n % 64) m.by way m refl)
       by_read (inr p) =
           let shown = shown_of setup.frames ((state_after setup t).place leaf (n % 64)) (stamp setup t (PlaceOf leaf (n % 64)))
           (last_left setup t (EntryAt leaf (n % 64))) p.says in
@@ -398,25 +401,26 @@ module _ (setup : Setting) (setting : IsSetting setup) (cores : ℕ → Core) (t
     where
       Of : ℕ → Type 0
       Of m = a.stage ≡ Undecided (Lookup (AtRoot table.frame m)) → LooksUp setup t c (Under table n) (AtRoot table.frame m)
-          → Takes setup setting cores t stands c here a active (Under table n) is_open no_slot no_way on_way goes done
+          → Takes setup setting cores t stands c here a active (Under table n) is_open may_act no_slot no_way on_way goes done
           (AtRoot table.frame m) table.frame (m / 64)
 
       Goal : ℕ → Type 0
       Goal r = a.stage ≡ Undecided (Lookup (AtRoot r number)) → LooksUp setup t c (Under table n) (AtRoot r number)
-          → Takes setup setting cores t stands c here a active (Under table n) is_open no_slot no_way on_way goes done (AtRoot r number) r
-          (number / 64)
+          → Takes setup setting cores t stands c here a active (Under table n) is_open may_act no_slot no_way on_way goes done
+          (AtRoot r number) r (number / 64)
   under_step (AtLeaf leaf number) at looks = subst Of looks.at.same (λ at looks. leaf_step leaf at looks) at looks
     where
       Of : ℕ → Type 0
       Of m = a.stage ≡ Undecided (Lookup (AtLeaf leaf m)) → LooksUp setup t c (Under table n) (AtLeaf leaf m)
-          → Takes setup setting cores t stands c here a active (Under table n) is_open no_slot no_way on_way goes done (AtLeaf leaf m)
-          leaf (m % 64)
+          → Takes setup setting cores t stands c here a active (Under table n) is_open may_act no_slot no_way on_way goes done
+          (AtLeaf leaf m) leaf (m % 64)
   under_step (AtEntry root index) at looks = absurd looks.at
 
 -- At a root entry that is itself the target.
 module _ (setup : Setting) (setting : IsSetting setup) (cores : ℕ → Core) (t : Trace) (stands : Invariant setup cores t) (c : ℕ)
     (here : c < setup.cores)
     (a : ActiveCall) (active : (cores c).active ≡ Some a) (table : Named) (i : ℕ) (is_open : phase t c ≡ Open a.call)
+    (may_act : IsTrue (acts (state_after setup t) c a.call))
     (no_slot : IsTrue (has_no_slot (state_after setup t) (InRoot table i)) → RuleMay (state_after setup t) c
     (rule_of (state_after setup t) c a.call) reply.NoSlot)
     (no_way : reached (state_after setup t) c (InRoot table i) ≡ None → change_of (state_after setup t) c a.call ≡ Refused reply.NoSlot)
@@ -432,11 +436,11 @@ module _ (setup : Setting) (setting : IsSetting setup) (cores : ℕ → Core) (t
     (took_found (cores c).own a (next_of a.plan a.found) (found_at at.node at.index (last_left setup t (EntryAt at.node at.index)) v)))
     (room : (cores c).own.made < (cores c).own.limit) where
   abbrev ShownHere : ℕ → Option Entry → Type 0
-  ShownHere j = TakesShown setup setting cores t stands c here a active (InRoot table i) is_open no_slot no_way on_way goes done
+  ShownHere j = TakesShown setup setting cores t stands c here a active (InRoot table i) is_open may_act no_slot no_way on_way goes done
       (AtEntry table.frame j) table.frame j
 
   entry_step : a.stage ≡ Undecided (Lookup (AtEntry table.frame i)) → LooksUp setup t c (InRoot table i) (AtEntry table.frame i)
-      → Takes setup setting cores t stands c here a active (InRoot table i) is_open no_slot no_way on_way goes done
+      → Takes setup setting cores t stands c here a active (InRoot table i) is_open may_act no_slot no_way on_way goes done
       (AtEntry table.frame i) table.frame i
   entry_step at looks =
       by_read (place_reads setup cores t stands table.frame i looks.relies.node (let w = looks.at.within in omega arith))
@@ -458,7 +462,7 @@ module _ (setup : Setting) (setting : IsSetting setup) (cores : ℕ → Core) (t
           (ap (λ o. is_slot_in (option_to_list o) table.frame i) leads ∙ slot_one table.frame i)
 
       looks_here : OnlyLooks setup t c a.call (LoadOf (EntryAt table.frame i))
-      looks_here = looks_at setup setting cores t stands c here a active (InRoot table i) is_open no_slot no_way on_way goes done
+      looks_here = looks_at setup setting cores t stands c here a active (InRoot table i) is_open may_act no_slot no_way on_way goes done
           table.frame i way
 
       arrives : IsUnmarked setup t table.frame i → Arrives setup t c (InRoot table i) slot
@@ -479,10 +483,10 @@ module _ (setup : Setting) (setting : IsSetting setup) (cores : ℕ → Core) (t
       by_value p (Quiescing s) reads shows = done slot (Quiescing s) (arrives p) reads shows looks_here
 
       by_read : IsMarked setup t table.frame i ⊎ IsUnmarked setup t table.frame i
-          → Takes setup setting cores t stands c here a active (InRoot table i) is_open no_slot no_way on_way goes done
+          → Takes setup setting cores t stands c here a active (InRoot table i) is_open may_act no_slot no_way on_way goes done
           (AtEntry table.frame i) table.frame i
       by_read (inl m) = subst (ShownHere i) (sym (ap (entry_within setup.frames) m.says))
-          (busy setup setting cores t stands c here a active (InRoot table i) is_open no_slot no_way on_way goes done
+          (busy setup setting cores t stands c here a active (InRoot table i) is_open may_act no_slot no_way on_way goes done
           (AtEntry table.frame i) at room table.frame i m.by way m refl)
       by_read (inr p) =
           let shown = shown_of setup.frames ((state_after setup t).place table.frame i) (stamp setup t (PlaceOf table.frame i))
@@ -501,10 +505,10 @@ module _ (setup : Setting) (setting : IsSetting setup) (cores : ℕ → Core) (t
     where
       Of : ℕ → Type 0
       Of m = a.stage ≡ Undecided (Lookup (AtEntry table.frame m)) → LooksUp setup t c (InRoot table i) (AtEntry table.frame m)
-          → Takes setup setting cores t stands c here a active (InRoot table i) is_open no_slot no_way on_way goes done
+          → Takes setup setting cores t stands c here a active (InRoot table i) is_open may_act no_slot no_way on_way goes done
           (AtEntry table.frame m) table.frame m
 
       Goal : ℕ → Type 0
       Goal r = a.stage ≡ Undecided (Lookup (AtEntry r index)) → LooksUp setup t c (InRoot table i) (AtEntry r index)
-          → Takes setup setting cores t stands c here a active (InRoot table i) is_open no_slot no_way on_way goes done (AtEntry r index)
-          r index
+          → Takes setup setting cores t stands c here a active (InRoot table i) is_open may_act no_slot no_way on_way goes done
+          (AtEntry r index) r index

@@ -3,7 +3,8 @@ use Rattle.work_invariant.proofs.Common.{◌≡◌, ◌≢◌, ℕ, ◌<◌, ari
 use Rattle.work_invariant.proofs.Common.{subst, IsSome, is_some, cases_eq, false≢true, Call, Reply, Setting, told_of, put_same, put_other}
 use Rattle.work_invariant.proofs.Common.{Step, Trace, Phase, Out, Open, phase, after_enter, after_decide, after_return, phase-own}
 use Rattle.work_invariant.proofs.Common.{phase-other, Core, Own, absorbed_in, told_by, told_in, fresh, Capability, Plan, decided_in}
-use Rattle.work_invariant.proofs.Common.{returned_in, ActiveCall, Stage, Enter, Undecided, Decided, Leave, Took, GoesOn, Decides, Returns}
+use Rattle.work_invariant.proofs.Common.{returned_in, ActiveCall, Stage, Enter, Living, Undecided, Decided, Leave, Took, GoesOn, Decides}
+use Rattle.work_invariant.proofs.Common.{Returns}
 use Rattle.work_invariant.proofs.Common.{Changes, took}
 use Rattle.boot_words.specs.kernel_history.specs.Trace.{Decided as decided_phase}
 use Rattle.boot_words.specs.kernel_history.specs.Order.{IsDecided}
@@ -37,6 +38,7 @@ is_decided_inside (decided_phase call r) is = λ e. cc
 -- Whether a call is decided goes by the reply with which it is.
 decided_by : (s : Stage) → is_decided_at s ≡ is_some (reply_at s)
 decided_by Enter = refl
+decided_by (Living alive) = refl
 decided_by (Undecided work) = refl
 decided_by (Decided r drawn tail) = refl
 decided_by (Leave r x) = refl
@@ -196,6 +198,7 @@ made_events setup t e step =
 
 stage_decided : (plan : Plan) (found : List Capability) (s : Stage) → is_decided_at s ≡ true → ready_at plan found s ≡ true
 stage_decided plan found Enter h = absurd (cc)
+stage_decided plan found (Living alive) h = absurd (cc)
 stage_decided plan found (Undecided work) h = absurd (cc)
 stage_decided plan found (Decided r drawn tail) h = refl
 stage_decided plan found (Leave r x) h = refl

@@ -1,4 +1,5 @@
 -- The next step of a call is on a word of its machine.
+use Rattle.work_invariant.proofs.Common.{AtComp, AtLive}
 use Rattle.work_invariant.proofs.Common.{ℕ, ◌<◌, Option, Some, None, length, arith, ◌≤◌, IsSome, Shape, IsIn, word_of}
 use Rattle.work_invariant.proofs.Common.{StageFits, CompMakingFits, CompAt, CompMaking}
 use Rattle.work_invariant.proofs.Common.{KillingAt, LoadComp, LoadLive, CountWord, counters_of, SweepAt, Thaw, UntypingAt, CountAt, Own}
@@ -6,7 +7,7 @@ use Rattle.work_invariant.proofs.Common.{Fill, Outside, Untype, MakeComp, Invoke
 use Rattle.work_invariant.proofs.Common.{Read, Scan, Acquire, Tail, Nothing, Quiesce, Unmark, StoreDead, StoreFlush, Release, StoreLive}
 use Rattle.work_invariant.proofs.Common.{Push, Pop, StoreRunning, StoreIdle, All-head, Reply, Acquired, InvokingAt}
 use Rattle.work_invariant.proofs.Common.{ReturningAt, Switching, SwitchAt}
-use Rattle.work_invariant.proofs.Common.{stage_move, ActiveCall, Stage, Enter, Undecided, Decided, Leave}
+use Rattle.work_invariant.proofs.Common.{stage_move, ActiveCall, Stage, Enter, Living, Undecided, Decided, Leave}
 use Rattle.std.proofs.Common.{IfSome}
 use Rattle.std.specs.Prelude.{List, [], ◌∷◌}
 use Rattle.call_stages.specs.stage_look.proofs.LookLemmas.{look_is_in}
@@ -169,6 +170,8 @@ pub stage_in : (own : Own) (counts : List Acquired) (s : Stage) → own.core < o
     → StageFits own.layout s
     → IsIn own.layout (word_of (stage_move own counts s))
 stage_in own counts Enter here acquired fits = here
+stage_in own counts (Living (AtComp comp)) here acquired fits = (fits, omega arith)
+stage_in own counts (Living (AtLive life)) here acquired fits = fits.0
 stage_in own counts (Undecided (Lookup look)) here acquired fits = look_is_in own.layout look fits
 stage_in own counts (Undecided (Read comp look)) here acquired fits = (fits.0, omega arith)
 stage_in own counts (Undecided (Scan q act)) here acquired fits = quiet_is_in own.layout q fits.0

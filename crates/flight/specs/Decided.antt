@@ -1,13 +1,14 @@
 -- When the call of a core is decided, and what a step of it leads to.
 use Rattle.std.specs.Prelude.{◌≡◌, Bool, true, false, Option, Some, None}
 use Rattle.call_stages.specs.declared.stages.Stage.{Stage}
-use Rattle.call_stages.specs.declared.stages.Stage.TheVariants.{Enter, Undecided, Decided, Leave}
+use Rattle.call_stages.specs.declared.stages.Stage.TheVariants.{Enter, Living, Undecided, Decided, Leave}
 use Rattle.call_stages.specs.declared.stages.ActiveCall.{ActiveCall}
 use Rattle.call_stages.specs.Steps.{Took, GoesOn, Decides, Returns, Changes}
 
 -- Whether a call is decided that stands at this stage.
 abbrev pub is_decided_at : Stage → Bool
 is_decided_at Enter = false
+is_decided_at (Living alive) = false
 is_decided_at (Undecided work) = false
 is_decided_at (Decided r drawn tail) = true
 is_decided_at (Leave r x) = true

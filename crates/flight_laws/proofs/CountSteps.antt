@@ -1,5 +1,6 @@
 -- What a step of a call leaves in a count word: what it has found there; a word that no core holds; or the count that it has found, which
 -- its core then holds, for the count of its call or to make the frame untyped.
+use Rattle.time_laws.specs.stage_thread.specs.declared.alive.Alive.TheVariants.{AtComp, AtLive}
 use Rattle.std.proofs.Common.{◌≡◌, ◌≢◌, ◌⊎◌, inl, inr, ℕ, ℤ, ◌<◌, ◌==◌, Bool, true, false, List, [], ◌∷◌, length, slice_get}
 use Rattle.std.proofs.Common.{◌++◌, map, Option, Some, None, IfSome, arith, refl, sym, ◌∙◌, ap, subst}
 use Rattle.std.specs.Prelude.{IsSome}
@@ -105,7 +106,7 @@ use Rattle.time_laws.specs.call_stages.specs.Tails.{is_ok, tail_move}
 use Rattle.time_laws.specs.call_stages.specs.View.{Core}
 use Rattle.time_laws.specs.call_stages.specs.declared.stages.ActiveCall.{ActiveCall}
 use Rattle.time_laws.specs.call_stages.specs.declared.stages.Stage.{Stage}
-use Rattle.time_laws.specs.call_stages.specs.declared.stages.Stage.TheVariants.{Enter, Undecided, Decided, Leave}
+use Rattle.time_laws.specs.call_stages.specs.declared.stages.Stage.TheVariants.{Enter, Living, Undecided, Decided, Leave}
 use Rattle.time_laws.specs.core_invariant.specs.Frozen.{holds_release, holds_thaw}
 use Rattle.time_laws.specs.core_invariant.specs.Holding.{count_of, committed, holds_counts, settled_by, settled}
 use Rattle.time_laws.specs.core_invariant.specs.Invariant.{done_by, holds_at, holds_in, holds, held_by, Invariant}
@@ -571,6 +572,8 @@ module _ (setup : Setting) (setting : IsSetting setup) (cores : ℕ → Core) (t
     stage_leaves : (stage : Stage) → a.stage ≡ stage → phase t c ≡ phase_at a.call stage → KnowsAt setup t c (cores c).own.table a stage
         → Leaves (stage_move (cores c).own a.counts stage)
     stage_leaves Enter is at has = absurd has
+    stage_leaves (Living (AtComp comp)) is at has = beside (stage_move (cores c).own a.counts (Living (AtComp comp))) refl
+    stage_leaves (Living (AtLive life)) is at has = beside (stage_move (cores c).own a.counts (Living (AtLive life))) refl
     stage_leaves (Undecided (Lookup look)) is at has = beside (look_move look) (look_beside look)
     stage_leaves (Undecided (Read comp look)) is at has = beside (stage_move (cores c).own a.counts (Undecided (Read comp look))) refl
     stage_leaves (Undecided (Scan q act)) is at has = beside (quiet_move q) (quiet_beside q)

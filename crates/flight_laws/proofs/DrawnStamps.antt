@@ -36,7 +36,7 @@ use Rattle.time_laws.specs.act_states.specs.declared.work.Act.TheVariants.{MakeC
 use Rattle.time_laws.specs.act_states.specs.declared.work.Act.TheVariants.{Switch as switch_act, Touch as touch_act, Share as share_act}
 use Rattle.time_laws.specs.act_states.specs.declared.work.Work.TheVariants.{Lookup, Read, Scan, Acquire, Act}
 use Rattle.time_laws.specs.call_stages.specs.declared.stages.Stage.{Stage}
-use Rattle.time_laws.specs.call_stages.specs.declared.stages.Stage.TheVariants.{Enter, Undecided, Decided, Leave}
+use Rattle.time_laws.specs.call_stages.specs.declared.stages.Stage.TheVariants.{Enter, Living, Undecided, Decided, Leave}
 use Rattle.time_laws.specs.call_stages.specs.declared.stages.ActiveCall.{ActiveCall}
 use Rattle.time_laws.specs.act_states.specs.declared.work.WorkStep.{WorkStep}
 use Rattle.time_laws.specs.act_states.specs.declared.work.WorkStep.TheVariants.{Goes, Acquires, Refuses as refuses_to, Answers}
@@ -325,6 +325,7 @@ module _ (own : Own) (a : ActiveCall) where
   pub stage_drawn : (x : Acquired) → IsAmong x a.counts → (stage : Stage) (found : ℕ) → CountsAt a.counts stage
       → Drawn (took_at own a stage found)
   stage_drawn x among Enter found counts = absurd (none_among x among counts)
+  stage_drawn x among (Living alive) found counts = absurd (none_among x among counts)
   stage_drawn x among (Undecided (Lookup look)) found counts = absurd (none_among x among counts)
   stage_drawn x among (Undecided (Read comp look)) found counts = absurd (none_among x among counts)
   stage_drawn x among (Undecided (Scan q act)) found counts = absurd (none_among x among counts)

@@ -41,7 +41,7 @@ use Rattle.time_laws.specs.call_stages.specs.declared.stages.Absorbed.{Absorbed}
 use Rattle.time_laws.specs.call_stages.specs.declared.stages.Absorbed.TheVariants as told_as
 use Rattle.time_laws.specs.call_stages.specs.declared.stages.ActiveCall.{ActiveCall}
 use Rattle.time_laws.specs.call_stages.specs.declared.stages.Stage.{Stage}
-use Rattle.time_laws.specs.call_stages.specs.declared.stages.Stage.TheVariants.{Enter, Undecided, Decided, Leave}
+use Rattle.time_laws.specs.call_stages.specs.declared.stages.Stage.TheVariants.{Enter, Living, Undecided, Decided, Leave}
 use Rattle.time_laws.specs.call_stages.specs.View.{Core}
 use Rattle.time_laws.specs.core_invariant.specs.Holding.{AreApart, Holding, committed, count_of, holds_counts, settled, settled_by}
 use Rattle.time_laws.specs.core_invariant.specs.Invariant.{Invariant, done_by, held_by, holds_at, holds_in, holds_tail, is_done}
@@ -169,6 +169,7 @@ module _ (setup : Setting) (setting : IsSetting setup) (cores : ℕ → Core) (t
 
   stage_stands : (stage : Stage) → a.stage ≡ stage → KnowsAt setup t c (cores c).own.table a stage → StandsAt stage
   stage_stands Enter is has = absurd has
+  stage_stands (Living alive) is has = its_stands None
   stage_stands (Undecided (Lookup look)) is has = its_stands None
   stage_stands (Undecided (Read comp look)) is has = its_stands None
   stage_stands (Undecided (Scan q act)) is has = its_stands None
@@ -255,6 +256,7 @@ module _ (own : Own) (a : ActiveCall) (x : Acquired) (among : IsAmong x a.counts
       → NotBack (told_by (took_at own a stage found))
       → HoldsStill (core_after own (took_at own a stage found)).active x (is_done stage) (told_by (took_at own a stage found))
   stage_holds Enter found counts first back = absurd (none_among counts)
+  stage_holds (Living alive) found counts first back = absurd (none_among counts)
   stage_holds (Undecided (Lookup look)) found counts first back = absurd (none_among counts)
   stage_holds (Undecided (Read comp look)) found counts first back = absurd (none_among counts)
   stage_holds (Undecided (Scan q act)) found counts first back = absurd (none_among counts)

@@ -7,6 +7,7 @@ use Rattle.time_laws.specs.flight.proofs.Made.{made_stands}
 use Rattle.flight_laws.specs.Moments.{AtEachMoment, AtEachStep, OfEachStretch}
 use Rattle.flight_laws.specs.Histories.{MadeHistories}
 use Rattle.flight_laws.specs.Places.{ScannedCores}
+use Rattle.flight_laws.specs.Lives.{KilledStop}
 use Rattle.flight_laws.specs.Invocations.{EntersNoneKilled}
 use Rattle.flight_laws.proofs.Places.{places_found, scanned_cores}
 use Rattle.flight_laws.proofs.Frames.{counted_frames_stay, looked_nodes_stay, untyped_unused}
@@ -15,7 +16,7 @@ use Rattle.flight_laws.proofs.CountsTold.{counts_tell}
 use Rattle.flight_laws.proofs.StampsTold.{stamps_tell}
 use Rattle.flight_laws.proofs.Ready.{ready_decides, unready_refuses}
 use Rattle.flight_laws.proofs.Pages.{cached_frames_stay, cached_till_flush, touches_cache}
-use Rattle.flight_laws.proofs.Lives.{dead_for_good}
+use Rattle.flight_laws.proofs.Lives.{dead_for_good, killed_stop}
 use Rattle.flight_laws.proofs.Invocations.{enters_none_killed, enters_the_living}
 use Rattle.flight_laws.proofs.Threads.{threads_apart, words_say}
 use Rattle.time_laws.proofs.Time.{time_kept, ticks_counted, heads_say, lists_say, tests_tell}
@@ -54,6 +55,10 @@ enters : (setup : Setting) → IsSetting setup → (u v : Trace) → IsMade setu
 enters setup lim [] v made = tt
 enters setup lim (e ∷ u) v made = enters_none_killed setup lim u v e made
 
+stops : (setup : Setting) → IsSetting setup → (u v : Trace) → IsMade setup (u ++ v) → KilledStop setup u v
+stops setup lim [] v made = tt
+stops setup lim (e ∷ u) v made = killed_stop setup lim u v e made
+
 pub made_histories : MadeHistories
 made_histories setup lim t made =
     let stands = made_stands setup lim t made in
@@ -81,6 +86,7 @@ made_histories setup lim t made =
       dead_for_good = stretches setup t made (dead_for_good setup lim);
       enters_the_living = steps setup t made (enters_the_living setup lim);
       enters_none_killed = stretches setup t made (enters setup lim);
+      killed_stop = stretches setup t made (stops setup lim);
       threads_run_apart = moments setup t made (threads_apart setup lim);
       thread_words_say = moments setup t made (words_say setup lim);
       time_is_kept = moments setup t made (time_kept setup lim);

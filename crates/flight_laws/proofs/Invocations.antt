@@ -42,7 +42,7 @@ pub enters_the_living : (setup : Setting) → IsSetting setup → (t : Trace) (e
 enters_the_living setup setting t e made gate is =
     lives_at (state_before setup t e) e.core is.name is.value gate is.leads (subst
     (λ k. MayReply (state_before setup t e) e.core k (reply.Ok is.value))
-    (open_inj decides.call (call_gate is.name) decides.is_open) decides.permitted).1
+    (open_inj decides.call (call_gate is.name) decides.is_open) decides.permitted).1.1
   where
     follows : MayFollow setup t e
     follows = (made_stands setup setting (e ∷ t) made).legal.1

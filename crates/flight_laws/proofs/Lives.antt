@@ -1,12 +1,19 @@
--- A liveness number that was killed lives later in higher epochs alone.
-use Rattle.time_laws.proofs.Common.{◌≡◌, ◌++◌, sym, ◌∙◌, ap, subst, Setting, IsSetting}
-use Rattle.time_laws.proofs.Common.{live_of_word, LiveAt, Live, NumberOf, State, after, IsRun, events_of, live_mark, stamp, Trace}
+-- A liveness number that was killed lives later in higher epochs alone; and a component that was killed, and whose core has left its call,
+-- makes no further `ok` but `ret`, `flush` and `tick`.
+use Rattle.time_laws.proofs.Common.{◌≡◌, ◌∷◌, ◌++◌, sym, ◌∙◌, ap, subst, Setting, IsSetting, open_inj, comp_of, Some, Open}
+use Rattle.time_laws.proofs.Common.{live_of_word, LiveAt, Live, Dead, NumberOf, State, after, IsRun, events_of, live_mark, stamp, Trace}
+use Rattle.time_laws.proofs.Common.{Step, phase, after_enter, state_before, MayDecide, IsLegal, MayReply}
 use Rattle.time_laws.proofs.Common.{state_after, last_left, state_is, run_of, settled_by, NumberIs}
 use Rattle.time_laws.proofs.Common.{held_by, Invariant}
+use Rattle.time_laws.specs.spk_nums.specs.declared.replies.Reply.TheVariants.{Ok}
+use Rattle.time_laws.specs.kernel_rules.specs.Runs.{phase_of}
+use Rattle.time_laws.specs.kernel_history.specs.Events.{plain_phase}
+use Rattle.time_laws.specs.kernel_history.proofs.Events.{entered_events, entered_phase, entered_run, before_is, phase_is}
 use Rattle.time_laws.specs.state_laws.proofs.Lives.{dead_stays}
-use Rattle.time_laws.specs.comp_invariant.proofs.LaterEvents.{Later, later_events}
+use Rattle.time_laws.specs.state_laws.proofs.Killed.{killed_stop as killed_in_runs}
+use Rattle.time_laws.specs.comp_invariant.proofs.LaterEvents.{Later, entry_later, later_events}
 use Rattle.time_laws.specs.live_invariant.proofs.Numbers.{number_is}
-use Rattle.flight_laws.specs.Lives.{DeadForGood}
+use Rattle.flight_laws.specs.Lives.{DeadForGood, KilledStop}
 use Rattle.time_laws.specs.flight.specs.Made.{cores_after, IsMade}
 use Rattle.time_laws.specs.flight.proofs.Made.{made_stands}
 
@@ -24,3 +31,30 @@ dead_for_good setup setting u t made l e d f dead shows =
     (ap (λ (y : State). y.number l) (sym (state_is setup t)) ∙ dead)
     (ap (λ xs. (after setup xs).number l) (sym had.adds)
     ∙ ap (λ (y : State). y.number l) (sym (state_is setup (u ++ t))) ∙ lives)
+
+pub killed_stop : (setup : Setting) → IsSetting setup → (u t : Trace) (e : Step) → IsMade setup (e ∷ u ++ t) → KilledStop setup (e ∷ u) t
+killed_stop setup setting u t e made call done was =
+    let legal : IsLegal setup (e ∷ u ++ t) = (made_stands setup setting (e ∷ u ++ t) made).legal in
+    let before : State = state_before setup (u ++ t) e in
+    let had : Later (entered_events (u ++ t) e) (events_of t) =
+    entry_later e.enters e.core (events_of (u ++ t)) (events_of t) (later_events u t) in
+    let entered : IsRun setup (entered_events (u ++ t) e) =
+    entered_run setup (u ++ t) e legal.0 legal.1 (run_of setup (u ++ t) legal.0) in
+    let decides : MayDecide setup (u ++ t) e (Some (Ok done.value)) (Open call) =
+    subst (MayDecide setup (u ++ t) e (Some (Ok done.value))) done.is_open
+    (subst (λ o. MayDecide setup (u ++ t) e o (after_enter e.enters (phase (u ++ t) e.core))) done.decides legal.1.decides) in
+    let permitted : MayReply before e.core call (Ok done.value) =
+    subst (λ k. MayReply before e.core k (Ok done.value)) (open_inj decides.call call decides.is_open) decides.permitted in
+    let same : before ≡ after setup (had.later ++ events_of t) = before_is setup (u ++ t) e ∙ ap (after setup) had.adds in
+    killed_in_runs setup had.later (events_of t) e.core call done.value (
+      subst (IsRun setup) had.adds entered,
+      record {
+        is_open = ap (λ xs. phase_of xs e.core) (sym had.adds) ∙ entered_phase (u ++ t) e ∙ ap plain_phase done.is_open;
+        permitted = subst (λ s. MayReply s e.core call (Ok done.value)) same permitted;
+      },
+    )
+    (record {
+      out = phase_is t e.core ∙ ap plain_phase was.out;
+      dead = ap (λ (s : State). s.number (comp_of (after setup (had.later ++ events_of t)) e.core).number) (sym (state_is setup t))
+          ∙ subst (λ s. (state_after setup t).number (comp_of s e.core).number ≡ Dead (comp_of s e.core).epoch) same was.dead;
+    })

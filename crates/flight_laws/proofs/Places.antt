@@ -1,4 +1,6 @@
 -- What an undecided call has found held stays usable; and whom a scan has passed is waited for no longer.
+use Rattle.time_laws.proofs.Common.{cases_lt}
+use Rattle.time_laws.proofs.Common.{AtComp, AtLive}
 use Rattle.time_laws.proofs.Common.{◌≡◌, ◌≢◌, ◌⊎◌, inl, inr, ℕ, ◌<◌, ◌/◌, ◌&&◌, Bool, true, false, IsTrue, cond, [], ◌∷◌, ◌++◌, Option}
 use Rattle.time_laws.proofs.Common.{Some}
 use Rattle.time_laws.proofs.Common.{None, refl, sym, ◌∙◌, ap, subst, is_some, cases_eq, eqb-true, false≢true, Capability, Setting}
@@ -13,7 +15,8 @@ use Rattle.time_laws.proofs.Common.{last_left-here, out_passed, later_passed, lo
 use Rattle.time_laws.proofs.Common.{AtCompare, AtDraw, AtStore, AtCore, AtFlush, Next, NextName, NextFree, NextHeld, NextOwn, NextNothing}
 use Rattle.time_laws.proofs.Common.{next_of, Own, Fill, Outside, Untype, MakeComp, Invoke, Return, Load, CompAt, CompMaking, InvokingAt}
 use Rattle.time_laws.proofs.Common.{ReturningAt, Switching, SwitchAt, Pair, PairAt, KillingAt, LoadComp, LoadLive, MakingAt, NewObject}
-use Rattle.time_laws.proofs.Common.{Untyping, Work, Lookup, Read, Scan, Acquire, Act, Stage, Enter, Undecided, Decided, Leave, ActiveCall}
+use Rattle.time_laws.proofs.Common.{Untyping, Work, Lookup, Read, Scan, Acquire, Act, Stage, Enter, Living, Undecided, Decided, Leave}
+use Rattle.time_laws.proofs.Common.{ActiveCall}
 use Rattle.time_laws.proofs.Common.{stage_move, absorbed, absorbed_in, told_in, Core, decided_in, returned_in, IsSpot, LooksUp, own_in}
 use Rattle.time_laws.proofs.Common.{LooksFor, ChargesBy, KnowsWork, KnowsAt, CallIs, phase_at, HasTcap, KnowsPairAt, HasThread, claimed_by}
 use Rattle.time_laws.proofs.Common.{Invariant, limits_of, slot_relies}
@@ -56,6 +59,7 @@ use Rattle.time_laws.specs.call_stages.specs.declared.stages.Absorbed.{Absorbed}
 use Rattle.time_laws.specs.call_stages.specs.declared.stages.Absorbed.TheVariants as told_as
 use Rattle.time_laws.specs.call_stages.specs.Steps.{work_move}
 use Rattle.time_laws.specs.call_stages.specs.Cores.{move_in, move_of, told_of_step}
+use Rattle.time_laws.specs.thread_invariant.proofs.OwnStack.{top_comp}
 use Rattle.time_laws.specs.core_invariant.specs.Knows.{KnowsClose}
 use Rattle.time_laws.specs.core_invariant.specs.Knows.{HasComp}
 use Rattle.time_laws.specs.core_invariant.specs.Components.{HasLoadedBelow}
@@ -112,6 +116,16 @@ module _ (setup : Setting) (setting : IsSetting setup) (t : Trace) (cores : ℕ 
     (c : ℕ) (call : Call) (is_open : phase t c ≡ Open call) (f i : ℕ) where
   abbrev Rests : Type 0
   Rests = Relies (state_after setup t) c f ⊎ IsNoEntry setup t c f
+
+  -- the core is one of the machine
+  is_core : c < setup.cores
+  is_core = elim (cases_lt c setup.cores) [
+    | inl below ↦ below
+    | inr past ↦ absurd (not_out (sym is_open ∙ (stands.away c past).out))
+  ]
+    where
+      not_out : Open call ≡ Out → ⊥
+      not_out h = cc
 
   of_frame : (g j : ℕ) → EntryAt g j ≡ EntryAt f i → Relies (state_after setup t) c g → Rests
   of_frame g j on relies = inl (subst (Relies (state_after setup t) c) (ap frame_in on) relies)
@@ -264,6 +278,9 @@ module _ (setup : Setting) (setting : IsSetting setup) (t : Trace) (cores : ℕ 
       → word_of (stage_move own a.counts stage) ≡ EntryAt f i → reads (stage_move own a.counts stage) ≡ true → untyping_of stage ≡ None
       → Rests
   by_stage table own a Enter is has on read none = absurd has
+  by_stage table own a (Living (AtComp comp)) is has on read none =
+      of_comp comp 2 on (subst (HasComp (state_after setup t) c) (sym has.at) (top_comp setup setting t stands.legal c is_core))
+  by_stage table own a (Living (AtLive life)) is has on read none = absurd (cc)
   by_stage table own a (Undecided work) is has on read none = by_work table a work has.knows on read none
   by_stage table own a (Decided r drawn tail) is has on read none = absurd (cc)
   by_stage table own a (Leave r x) is has on read none = absurd (cc)

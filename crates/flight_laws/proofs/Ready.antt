@@ -10,7 +10,7 @@ use Rattle.time_laws.specs.kernel_rules.specs.Laws.{IsRefusal}
 use Rattle.time_laws.specs.kernel_history.specs.Trace.{Step, Trace, Open, phase}
 use Rattle.time_laws.specs.act_states.specs.declared.own.Own.{Own}
 use Rattle.time_laws.specs.call_stages.specs.declared.stages.Stage.{Stage}
-use Rattle.time_laws.specs.call_stages.specs.declared.stages.Stage.TheVariants.{Enter, Undecided, Decided, Leave}
+use Rattle.time_laws.specs.call_stages.specs.declared.stages.Stage.TheVariants.{Enter, Living, Undecided, Decided, Leave}
 use Rattle.time_laws.specs.call_stages.specs.declared.stages.ActiveCall.{ActiveCall}
 use Rattle.time_laws.specs.call_stages.specs.Cores.{fresh, begun, move_of, ready_in, told_in, told_by, told_of_step}
 use Rattle.time_laws.specs.call_stages.specs.Fits.{CallFits}
@@ -50,6 +50,7 @@ refusal_told k r refuses told = by k refuses told
 -- A call that is in this phase is not decided.
 undecided_at : (call other : Call) (s : Stage) → Open other ≡ phase_at call s → reply_at s ≡ None
 undecided_at call other Enter is = refl
+undecided_at call other (Living alive) is = refl
 undecided_at call other (Undecided work) is = refl
 undecided_at call other (Decided r drawn tail) is = absurd (cc)
 undecided_at call other (Leave r x) is = absurd (cc)

@@ -63,6 +63,7 @@ unheld_shows n v shows = let fits = (counts.spelling.spells n v shows).0 in
 -- A call that is not carried out is not done.
 pub undone : (call : Call) (stage : Stage) → is_carried_out (phase_at call stage) ≡ false → is_done stage ≡ None
 undone call stages.Enter not = refl
+undone call (stages.Living alive) not = refl
 undone call (stages.Undecided work) not = refl
 undone call (stages.Decided (reply.Ok x) drawn tail) not = absurd (true≢false not)
 undone call (stages.Decided r drawn tail) not = refl

@@ -93,7 +93,7 @@ falls_found s c v (Found change) by ok f less =
 falls_begin : (s : State) (o : ℕ → Bool) (c : ℕ) (call : Call) (v : Value) → IsOpen s o c → InLimits call → MayReply s c call (reply.Ok v)
     → (f : ℕ) → refs (state_by s c call (reply.Ok v)) f < refs s f → begins s c call (reply.Ok v) (FrameOf f) ≡ true
 falls_begin s o c call v h lim may f less =
-    falls_found s c v (change_of s c call) (found_by s c call (RefsBy s) (refs_by s o c h call lim)) may.1 f less
+    falls_found s c v (change_of s c call) (found_by s c call (RefsBy s) (refs_by s o c h call lim)) may.1.1 f less
 
 -- A count that falls, falls within its field too.
 field_fits : (z : ℤ) → NumberFits (in_field z)

@@ -8,7 +8,8 @@ use Rattle.time_laws.proofs.Common.{last_left, open_inj, end_of_frames, shown_in
 use Rattle.time_laws.proofs.Common.{SweepAt, Compare, Empty, Swept, dues, took_sweep, release_of, Own, UntypingAt, Untyping}
 use Rattle.time_laws.proofs.Common.{Untype, Due, Work, Lookup, Read, Scan, Acquire, Act, absorbed, absorbed_in, core_after, told_by}
 use Rattle.time_laws.proofs.Common.{told_in}
-use Rattle.time_laws.proofs.Common.{landed, stage_move, Core, ActiveCall, Stage, Enter, Undecided, Decided, Leave, holds_untyping, Holding}
+use Rattle.time_laws.proofs.Common.{landed, stage_move, Core, ActiveCall, Stage, Enter, Living, Undecided, Decided, Leave, holds_untyping}
+use Rattle.time_laws.proofs.Common.{Holding}
 use Rattle.time_laws.proofs.Common.{holds_counts, settled, settled_by, Invariant, held_by, holds_act, holds_at, holds_in, CallIs, KnowsAt}
 use Rattle.time_laws.proofs.Common.{phase_at, untypes, KnowsSweep, KnowsUntypingAt, UntypesBy}
 use Rattle.time_laws.specs.spk_nums.specs.declared.kinds.FrameKind.TheVariants as frame_kind
@@ -71,6 +72,7 @@ untyping_in (Act act) = untyping_act act
 
 abbrev pub untyping_of : Stage → Option Untyping
 untyping_of Enter = None
+untyping_of (Living alive) = None
 untyping_of (Undecided work) = untyping_in work
 untyping_of (Decided r drawn tail) = None
 untyping_of (Leave r x) = None
@@ -178,6 +180,7 @@ module _ (own : Own) (a : ActiveCall) (f : ℕ) where
       → is_node_word (frame_of_word word) ≡ false → (found : ℕ) → told_by (took_at own a stage found) ≡ told_as.Going
       → IsSwept (core_after own (took_at own a stage found)).active f
   by_stage Enter m is word same shown plain found goes = absurd (none_some m is)
+  by_stage (Living alive) m is word same shown plain found goes = absurd (none_some m is)
   by_stage (Undecided work) m is word same shown plain found goes = by_work work m is word same shown plain found goes
   by_stage (Decided r drawn tail) m is word same shown plain found goes = absurd (none_some m is)
   by_stage (Leave r x) m is word same shown plain found goes = absurd (none_some m is)
@@ -275,6 +278,7 @@ holds_word f (untype.Draw x w) word is h =
 holds_stage_word : (a : ActiveCall) (m : Untyping) (stage : Stage) → untyping_of stage ≡ Some m → (word : ℕ) → word_found m.at ≡ Some word
     → ((holds_at stage a.counts).marks (FrameAt m.frame) ≡ true) × ((holds_at stage a.counts).stands (FrameAt m.frame) ≡ word)
 holds_stage_word a m Enter is word shown = absurd (none_some m is)
+holds_stage_word a m (Living alive) is word shown = absurd (none_some m is)
 holds_stage_word a m (Decided r drawn tail) is word shown = absurd (none_some m is)
 holds_stage_word a m (Leave r x) is word shown = absurd (none_some m is)
 holds_stage_word a m (Undecided (Lookup look)) is word shown = absurd (none_some m is)
@@ -327,6 +331,7 @@ module _ (setup : Setting) (t : Trace) (c table : ℕ) (own : Own) (call : Call)
   stage_untypes : (a : ActiveCall) (m : Untyping) (stage : Stage) → phase t c ≡ phase_at a.call stage → KnowsAt setup t c table a stage
       → word_of (stage_move own a.counts stage) ≡ EntryAt f i → untyping_of stage ≡ Some m → untypes call ≡ true
   stage_untypes a m Enter at has on is = absurd (none_some m is)
+  stage_untypes a m (Living alive) at has on is = absurd (none_some m is)
   stage_untypes a m (Decided r drawn tail) at has on is = absurd (none_some m is)
   stage_untypes a m (Leave r x) at has on is = absurd (none_some m is)
   stage_untypes a m (Undecided (Lookup look)) at has on is = absurd (none_some m is)
@@ -348,6 +353,7 @@ module _ (setup : Setting) (t : Trace) (c table : ℕ) (own : Own) (call : Call)
       → entry_of_word found ≡ Some (entry.Held k) → told_by (took_at own a stage found) ≡ told_as.Going
       → IsSwept (core_after own (took_at own a stage found)).active f
   stage_swept a m Enter has on is found k held goes = absurd (none_some m is)
+  stage_swept a m (Living alive) has on is found k held goes = absurd (none_some m is)
   stage_swept a m (Decided r drawn tail) has on is found k held goes = absurd (none_some m is)
   stage_swept a m (Leave r x) has on is found k held goes = absurd (none_some m is)
   stage_swept a m (Undecided (Lookup look)) has on is found k held goes = absurd (none_some m is)

@@ -15,7 +15,7 @@ use Rattle.flight_laws.specs.Counts.{CountsTell, FrozenSay}
 use Rattle.flight_laws.specs.Stamps.{StampsTell}
 use Rattle.flight_laws.specs.Ready.{ReadyDecides, UnreadyRefuses}
 use Rattle.flight_laws.specs.Pages.{CachedFramesStay, CachedTillFlush, TouchesCache}
-use Rattle.flight_laws.specs.Lives.{DeadForGood}
+use Rattle.flight_laws.specs.Lives.{DeadForGood, KilledStop}
 use Rattle.flight_laws.specs.Invocations.{EntersTheLiving, EntersNoneKilled}
 use Rattle.flight_laws.specs.Threads.{ThreadsRunApart, ThreadWordsSay}
 use Rattle.time_laws.specs.Time.{TimeIsKept, TicksAreCounted, HeadsSay, OpenHeadsSay, MarkedHeadsSay, ListsSay, TestsTell}
@@ -54,6 +54,7 @@ pub record IsHistory (setup : Setting) (t : Trace) : Type 0 where
   pub dead_for_good : OfEachStretch (DeadForGood setup) t
   pub enters_the_living : AtEachStep (EntersTheLiving setup) t
   pub enters_none_killed : OfEachStretch (EntersNoneKilled setup) t
+  pub killed_stop : OfEachStretch (KilledStop setup) t
   -- threads
   pub threads_run_apart : AtEachMoment (ThreadsRunApart setup) t
   pub thread_words_say : AtEachMoment (ThreadWordsSay setup) t

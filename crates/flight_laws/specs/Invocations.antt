@@ -9,7 +9,7 @@ use Rattle.time_laws.specs.spk_nums.specs.declared.replies.Value.{Value}
 use Rattle.time_laws.specs.kernel_rules.specs.State.{Dead, State, comp_in}
 use Rattle.time_laws.specs.kernel_rules.specs.Access.{to_use, only}
 use Rattle.time_laws.specs.kernel_rules.specs.Rules.{Found, named}
-use Rattle.time_laws.specs.kernel_rules.specs.InvocationCalls.{is_live_in}
+use Rattle.time_laws.specs.kernel_rules.specs.Life.{is_live_in}
 use Rattle.time_laws.specs.kernel_history.specs.Trace.{Step, Trace, Open, phase, after_enter, state_before, state_after}
 
 -- The step decides a call through the gate of this name, which is carried out; the name leads to this gate at that moment.

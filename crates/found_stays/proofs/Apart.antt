@@ -1,15 +1,16 @@
 -- What a change by core d leaves to the other cores in opened calls: each part of a change.
-use Rattle.std.proofs.Common.{◌≡◌, ◌≢◌, inl, inr, ℕ, ◌<◌, Bool, true, false, ◌&&◌, cond}
+use Rattle.std.proofs.Common.{◌≡◌, ◌≢◌, ◌⊎◌, inl, inr, ℕ, ◌<◌, Bool, true, false, ◌&&◌, ◌||◌, cond}
 use Rattle.std.proofs.Common.{refl, sym, ◌∙◌, ap, subst, ◌==◌, IsTrue, List, ◌∷◌, Some, None}
 use Rattle.std.proofs.lemmas.Bool.{cases_eq, false≢true, true≢false, eq-eqb, ne_eqb, eqb-true, or_from, or_left, and_parts}
 use Rattle.std.specs.List.{list_any}
 use Rattle.spk_nums.specs.Capability.{Capability}
-use Rattle.kernel_rules.specs.State.{Place, Free, Holds, Quiescing, Table, Leaf, Pages, Pleaf, Frame, Kernel, Liveness, Core}
-use Rattle.kernel_rules.specs.State.{Grace, Thing, PlaceOf, FrameOf, State, put, with_place, with_frame, with_number, with_core}
+use Rattle.kernel_rules.specs.State.{Place, Free, Holds, Quiescing, Table, Leaf, Pages, Pleaf, Frame, Kernel, Liveness, Live, Dead, Core}
+use Rattle.kernel_rules.specs.State.{Grace, Thing, PlaceOf, FrameOf, NumberOf, State, put, with_place, with_frame, with_number, with_core}
 use Rattle.kernel_rules.specs.Start.{no_grace}
 use Rattle.kernel_rules.specs.References.{place_names}
 use Rattle.kernel_rules.specs.GracePeriods.{same_thing, new_grace, begun, flushed}
 use Rattle.kernel_rules.specs.Access.{usable_in}
+use Rattle.kernel_rules.specs.Life.{is_live_in, is_dead_in}
 use Rattle.kernel_rules.specs.Rules.{frames_of}
 use Rattle.kernel_rules.specs.CapabilityCalls.{cleared}
 use Rattle.kernel_rules.proofs.Within.{put_same, put_other}
@@ -17,8 +18,19 @@ use Rattle.kernel_rules.specs.Relies.{is_node, is_fixed}
 use Rattle.kernel_invariant.proofs.SoundRemovals.{frames_no_place}
 use Rattle.kernel_invariant.proofs.Facts.{some_inj, none_some}
 
+-- Whether core c may act in a component of this liveness number and epoch.
+abbrev pub acts_in : State → ℕ → ℕ → ℕ → Bool
+acts_in s c l e = is_live_in (s.number l) e || (is_dead_in (s.number l) e && (s.grace (NumberOf l)).waits c)
+
+-- It still may where the number stays, and those who waited for it wait.
+pub acts_more : (here dead w v : Bool) → (IsTrue w → IsTrue v) → IsTrue (here || (dead && w)) → IsTrue (here || (dead && v))
+acts_more true dead w v more h = refl
+acts_more false true w v more h = more h
+acts_more false false w v more h = absurd (false≢true h)
+
 -- From s to t: other cores stay as they are, and the frames of their threads; nodes and components stay; what other cores in
--- opened calls may use in nodes they still may; and they still wait for the frames for which they waited.
+-- opened calls may use in nodes they still may; they still wait for the frames for which they waited; and in a component of a liveness
+-- number and epoch in which they might act they still may.
 pub record IsApart (s t : State) (o : ℕ → Bool) (d : ℕ) : Type 0 where
   pub core : (c : ℕ) → c ≢ d → t.core c ≡ s.core c
   pub frame : (f : ℕ) → IsTrue (is_fixed (s.frame f)) → t.frame f ≡ s.frame f
@@ -27,6 +39,7 @@ pub record IsApart (s t : State) (o : ℕ → Bool) (d : ℕ) : Type 0 where
       → usable_in (s.place f i) ((s.grace (PlaceOf f i)).waits c) ≡ Some k
       → usable_in (t.place f i) ((t.grace (PlaceOf f i)).waits c) ≡ Some k
   pub waits : (c f : ℕ) → c ≢ d → o c ≡ true → IsTrue ((s.grace (FrameOf f)).waits c) → IsTrue ((t.grace (FrameOf f)).waits c)
+  pub acts : (c l e : ℕ) → c ≢ d → o c ≡ true → IsTrue (acts_in s c l e) → IsTrue (acts_in t c l e)
   pub limits : t.limits ≡ s.limits
 
 pub node_fixed : (x : Frame) → IsTrue (is_node x) → IsTrue (is_fixed x)
@@ -43,6 +56,7 @@ apart_same s o d = record {
   thread = λ c other below. refl;
   place = λ c f i k other opened node had. had;
   waits = λ c f other opened w. w;
+  acts = λ c l e other opened may. may;
   limits = refl;
 }
 
@@ -57,6 +71,7 @@ apart_then s t u o d a b = record {
       b.place c f i k other opened (subst (λ x. IsTrue (is_node x)) (sym (a.frame f (node_fixed (s.frame f) node))) node)
       (a.place c f i k other opened node had);
   waits = λ c f other opened w. b.waits c f other opened (a.waits c f other opened w);
+  acts = λ c l e other opened may. b.acts c l e other opened (a.acts c l e other opened may);
   limits = b.limits ∙ a.limits;
 }
 
@@ -87,6 +102,7 @@ fill_apart s o d g j k none = record {
   thread = λ c other below. refl;
   place = λ c f i m other opened node had. by_slot c f i m other opened had (f == g && i == j) refl;
   waits = λ c f other opened w. w;
+  acts = λ c l e other opened may. may;
   limits = refl;
 }
   where
@@ -126,6 +142,8 @@ remove_apart s o d g j k inside held = record {
   place = λ c f i m other opened node had. by_slot c f i m opened had (f == g && i == j) refl;
   waits = λ c f other opened w. frame_waits s (list_any (same_thing (FrameOf f)) things)
       (FrameOf f) (s.grace (FrameOf f)) c (inside c opened) w;
+  acts = λ c l e other opened may. acts_more (is_live_in (s.number l) e) (is_dead_in (s.number l) e) ((s.grace (NumberOf l)).waits c) _
+      (λ w. frame_waits s (list_any (same_thing (NumberOf l)) things) (NumberOf l) (s.grace (NumberOf l)) c (inside c opened) w) may;
   limits = refl;
 }
   where
@@ -168,6 +186,9 @@ begin_apart s next o d things inside apart = record {
       (left (list_any (same_thing (PlaceOf f i)) things) (new_grace s (PlaceOf f i)) (next.grace (PlaceOf f i)) (apart f i)) ∙ had;
   waits = λ c f other opened w. frame_waits s (list_any (same_thing (FrameOf f)) things)
       (FrameOf f) (next.grace (FrameOf f)) c (inside c opened) w;
+  acts = λ c l e other opened may.
+      acts_more (is_live_in (next.number l) e) (is_dead_in (next.number l) e) ((next.grace (NumberOf l)).waits c) _
+      (λ w. frame_waits s (list_any (same_thing (NumberOf l)) things) (NumberOf l) (next.grace (NumberOf l)) c (inside c opened) w) may;
   limits = refl;
 }
 
@@ -180,10 +201,11 @@ frame_apart s o d f y loose away = record {
   thread = λ c other below. put_other s.frame f y (s.core c).thread (away c other below);
   place = λ c g i m other opened node had. had;
   waits = λ c g other opened w. w;
+  acts = λ c l e other opened may. may;
   limits = refl;
 }
 
--- The core itself changes, or a liveness number.
+-- The core itself changes.
 pub core_apart : (s : State) (o : ℕ → Bool) (d : ℕ) (k : Core) → IsApart s (with_core s d k) o d
 core_apart s o d k = record {
   core = λ c other. put_other s.core d k c other;
@@ -191,18 +213,81 @@ core_apart s o d k = record {
   thread = λ c other below. refl;
   place = λ c f i m other opened node had. had;
   waits = λ c f other opened w. w;
+  acts = λ c l e other opened may. may;
   limits = refl;
 }
 
-pub number_apart : (s : State) (o : ℕ → Bool) (d l : ℕ) (x : Liveness) → IsApart s (with_number s l x) o d
-number_apart s o d l x = record {
+-- A liveness number changes in which no other core may act.
+pub number_apart : (s : State) (o : ℕ → Bool) (d l : ℕ) (x : Liveness)
+    → ((c e : ℕ) → c ≢ d → o c ≡ true → IsTrue (acts_in s c l e) → ⊥) → IsApart s (with_number s l x) o d
+number_apart s o d l x none = record {
   core = λ c other. refl;
   frame = λ f fixed. refl;
   thread = λ c other below. refl;
   place = λ c f i m other opened node had. had;
   waits = λ c f other opened w. w;
+  acts = λ c m e other opened may. by_number c m e other opened may (cases_eq m l);
   limits = refl;
 }
+  where
+    by_number : (c m e : ℕ) → c ≢ d → o c ≡ true → IsTrue (acts_in s c m e) → (m ≡ l) ⊎ (m ≢ l) → IsTrue (acts_in (with_number s l x) c m e)
+    by_number c m e other opened may (inl same) = absurd (none c e other opened (subst (λ n. IsTrue (acts_in s c n e)) same may))
+    by_number c m e other opened may (inr apart) =
+        subst (λ n. IsTrue (is_live_in n e || (is_dead_in n e && (s.grace (NumberOf m)).waits c)))
+        (sym (put_other s.number l x m apart)) may
+
+-- A live number dies, and its grace period begins, for which each core in a call waits.
+pub kill_apart : (s : State) (o : ℕ → Bool) (d l e f : ℕ) (names : List ℕ) → ((c : ℕ) → o c ≡ true → IsTrue (s.core c).inside)
+    → s.number l ≡ Live e f → IsApart s (begun s (NumberOf l ∷ frames_of names) (with_number s l (Dead e))) o d
+kill_apart s o d l e f names inside live = record {
+  core = λ c other. refl;
+  frame = λ f fixed. refl;
+  thread = λ c other below. refl;
+  place = λ c g i m other opened node had.
+      ap (λ h. usable_in (s.place g i) (h.waits c))
+      (left (list_any (same_thing (PlaceOf g i)) things) (new_grace s (PlaceOf g i)) (s.grace (PlaceOf g i)) (frames_no_place g i names))
+      ∙ had;
+  waits = λ c g other opened w. frame_waits s (list_any (same_thing (FrameOf g)) things)
+      (FrameOf g) (s.grace (FrameOf g)) c (inside c opened) w;
+  acts = λ c m x other opened may. by_number c m x opened may (cases_eq m l);
+  limits = refl;
+}
+  where
+    things : List Thing
+    things = NumberOf l ∷ frames_of names
+
+    new : State
+    new = begun s things (with_number s l (Dead e))
+
+    begins : (m : ℕ) → m ≡ l → list_any (same_thing (NumberOf m)) things ≡ true
+    begins m same = or_left (m == l) (list_any (same_thing (NumberOf m)) (frames_of names)) (eq-eqb m l same)
+
+    -- the number was live in its last epoch alone
+    last : (w : Bool) (x : ℕ) → IsTrue (is_live_in (Live e f) x || (is_dead_in (Live e f) x && w)) → (e == x) ≡ true
+    last w x may = by (e == x) may
+      where
+        by : (b : Bool) → (b || false) ≡ true → b ≡ true
+        by true h = refl
+        by false h = h
+
+    by_number : (c m x : ℕ) → o c ≡ true → IsTrue (acts_in s c m x) → (m ≡ l) ⊎ (m ≢ l) → IsTrue (acts_in new c m x)
+    by_number c m x opened may (inl same) =
+        let was : s.number m ≡ Live e f = ap s.number same ∙ live in
+        let now : new.number m ≡ Dead e = put_same s.number l (Dead e) m same in
+        let waits : (new.grace (NumberOf m)).waits c ≡ true =
+        ap (λ (h : Grace). h.waits c)
+        (chosen (list_any (same_thing (NumberOf m)) things) (new_grace s (NumberOf m)) (s.grace (NumberOf m)) (begins m same))
+        ∙ inside c opened in
+        let epoch : (e == x) ≡ true =
+        last ((s.grace (NumberOf m)).waits c) x
+        (subst (λ n. IsTrue (is_live_in n x || (is_dead_in n x && (s.grace (NumberOf m)).waits c))) was may) in
+        ap (λ n. is_live_in n x || (is_dead_in n x && (new.grace (NumberOf m)).waits c)) now
+        ∙ ap (λ b. b && (new.grace (NumberOf m)).waits c) epoch ∙ waits
+    by_number c m x opened may (inr apart) =
+        subst (λ n. IsTrue (is_live_in n x || (is_dead_in n x && (new.grace (NumberOf m)).waits c)))
+        (sym (put_other s.number l (Dead e) m apart))
+        (acts_more (is_live_in (s.number m) x) (is_dead_in (s.number m) x) ((s.grace (NumberOf m)).waits c) _
+        (λ w. frame_waits s (list_any (same_thing (NumberOf m)) things) (NumberOf m) (s.grace (NumberOf m)) c (inside c opened) w) may)
 
 -- Every place of a frame that is no node is free.
 pub clear_apart : (s : State) (o : ℕ → Bool) (d g : ℕ) → is_node (s.frame g) ≡ false → IsApart s (cleared s g) o d
@@ -215,6 +300,7 @@ clear_apart s o d g bare = record {
       ap (λ r. usable_in (r i) (((cleared s g).grace (PlaceOf f i)).waits c)) (put_other s.place g (λ i. Free) f away)
       ∙ ap (λ h. usable_in (s.place f i) (h.waits c)) (left (f == g) no_grace (s.grace (PlaceOf f i)) (ne_eqb f g away)) ∙ had;
   waits = λ c f other opened w. w;
+  acts = λ c l e other opened may. may;
   limits = refl;
 }
 
@@ -226,5 +312,6 @@ flush_apart s o d = record {
   thread = λ c other below. refl;
   place = λ c f i m other opened node had. had;
   waits = λ c f other opened w. w;
+  acts = λ c l e other opened may. may;
   limits = refl;
 }

@@ -1,7 +1,7 @@
 -- Each call that is carried out spares what the other cores in calls rely on.
-use Rattle.std.proofs.Common.{◌≡◌, ◌≢◌, inl, inr, ℕ, ◌<◌, Bool, true, false, not, refl, sym, ◌∙◌, ap, subst, ◌==◌, cond}
+use Rattle.std.proofs.Common.{◌≡◌, ◌≢◌, inl, inr, ℕ, ◌<◌, Bool, true, false, not, refl, sym, ◌∙◌, ap, subst, ◌==◌, cond, ◌&&◌, ◌||◌}
 use Rattle.std.proofs.Common.{nat_lt, if◌then◌else◌, ◌+◌, ◌-◌, ◌≤◌, arith, IsTrue, List, [], ◌∷◌, take, Option, Some, None}
-use Rattle.std.proofs.lemmas.Bool.{cases_eq, false≢true, ne_eqb}
+use Rattle.std.proofs.lemmas.Bool.{cases_eq, false≢true, ne_eqb, eqb-true}
 use Rattle.std.specs.List.{list_any}
 use Rattle.spk_nums.specs.Capability.{Capability, cap_of}
 use Rattle.spk_nums.specs.Rights.{kept}
@@ -20,16 +20,19 @@ use Rattle.spk_nums.specs.declared.replies.Reply.{Reply}
 use Rattle.spk_nums.specs.declared.replies.Reply.TheVariants as reply
 use Rattle.kernel_rules.specs.State.{Place, Free, Holds, Quiescing, CompFields, ThreadFields, TcapFields, Object, Blank, Table, Leaf}
 use Rattle.kernel_rules.specs.State.{Pages, Pleaf, Comp, Thread, Tcap, Frame, Untyped, User, Kernel, Core, Thing, PlaceOf, FrameOf}
+use Rattle.kernel_rules.specs.State.{NumberOf, Liveness, Unused}
 use Rattle.kernel_rules.specs.State.{State, put, with_frame, with_core, with_number, Live, Dead, comp_of, comp_in, thread_in, thread_of}
 use Rattle.kernel_rules.specs.Start.{plain_cap, no_grace}
 use Rattle.kernel_rules.specs.References.{refs, times, frame_names, number_names, core_names}
 use Rattle.kernel_rules.specs.Access.{Slot, found, Target, Under, InRoot, place_at, usable_in, reached}
 use Rattle.kernel_rules.specs.GracePeriods.{same_thing, new_grace, begun, flushed}
+use Rattle.kernel_rules.specs.Life.{is_live_in, is_dead_in}
 use Rattle.kernel_rules.specs.Rules.{Change, Cause, When, WaitedFor, Unflushed, Found, named, vacant, held, unless}
 use Rattle.kernel_rules.specs.Rules.{not_vacant, first_cause, refusal_of, waits_of, flushes_of, frames_of, fills, removes}
-use Rattle.kernel_rules.specs.CapabilityCalls.{outside, epoch_of, makes, cleared, make_node, makes_comp, make_rule, not_taken}
+use Rattle.kernel_rules.specs.CapabilityCalls.{is_live, not_blank, outside, epoch_of, makes, cleared, make_node, makes_comp, make_rule}
+use Rattle.kernel_rules.specs.CapabilityCalls.{not_taken}
 use Rattle.kernel_rules.specs.MemoryCalls.{is_untyped_now, is_empty, not_retyped, retypes, retype_rule, touch_by, translation_of}
-use Rattle.kernel_rules.specs.InvocationCalls.{kills, with_thread, pushes, pops, running, switches, switch_to}
+use Rattle.kernel_rules.specs.InvocationCalls.{not_live, kills, with_thread, pushes, pops, running, switches, switch_to}
 use Rattle.kernel_rules.specs.TimeCalls.{with_tcap, with_budget, with_qualities, tcap_at, moved, merged_list}
 use Rattle.kernel_rules.specs.CallRelation.{rule_of}
 use Rattle.kernel_rules.specs.Fitting.{fits}
@@ -40,7 +43,8 @@ use Rattle.kernel_invariant.proofs.SoundRemovals.{frames_no_place, unnamed, none
 use Rattle.kernel_invariant.proofs.SoundCalls.{IsOpen, blank_by, untyped_by, zero_refs}
 use Rattle.kernel_invariant.proofs.Sums.{times_first}
 use Rattle.kernel_invariant.proofs.Facts.{ChangesFrom, named_fit, held_facts, then_parts, found_inj}
-use Rattle.kernel_invariant.proofs.Facts.{some_inj, some_none, refused_found, none_parts, when_not}
+use Rattle.kernel_invariant.proofs.Facts.{some_inj, some_none, refused_found, none_parts, when_not, not_not}
+use Rattle.found_stays.proofs.Apart.{acts_in, acts_more, kill_apart}
 use Rattle.found_stays.proofs.Apart.{IsApart, apart_same, apart_then, fill_apart, remove_apart, begin_apart}
 use Rattle.found_stays.proofs.Apart.{frame_apart, core_apart, number_apart, clear_apart, flush_apart, frame_waits}
 
@@ -67,6 +71,7 @@ pub record Spares (s t : State) (o : ℕ → Bool) (d : ℕ) : Type 0 where
       → usable_in (s.place f i) ((s.grace (PlaceOf f i)).waits c) ≡ Some k
       → usable_in (t.place f i) ((t.grace (PlaceOf f i)).waits c) ≡ Some k
   pub waits : (c f : ℕ) → c ≢ d → o c ≡ true → IsTrue ((s.grace (FrameOf f)).waits c) → IsTrue ((t.grace (FrameOf f)).waits c)
+  pub acts : (c l e : ℕ) → c ≢ d → o c ≡ true → IsTrue (acts_in s c l e) → IsTrue (acts_in t c l e)
   pub limits : t.limits ≡ s.limits
   pub runs : RunsOn t d
 
@@ -81,6 +86,7 @@ spares_by s t o d a runs = record {
   thread = a.thread;
   place = a.place;
   waits = a.waits;
+  acts = a.acts;
   limits = a.limits;
   runs = runs;
 }
@@ -147,6 +153,12 @@ runs_put s f y d away runs = ap (λ x. (thread_in x).runs_on) (put_other s.frame
 runs_core : (s : State) (d : ℕ) (k : Core) → k.thread ≡ (s.core d).thread → RunsOn s d → RunsOn (with_core s d k) d
 runs_core s d k same runs = ap (λ (x : Core). (thread_in (s.frame x.thread)).runs_on) (put_same s.core d k d refl)
     ∙ ap (λ n. (thread_in (s.frame n)).runs_on) same ∙ runs
+
+-- A number that is live in an epoch is so for a frame.
+live_is : (x : Liveness) (e : ℕ) → is_live_in x e ≡ true → (f : ℕ) × (x ≡ Live e f)
+live_is Unused e is = absurd (false≢true is)
+live_is (Live x f) e is = (f, ap (λ n. Live n f) (eqb-true x e is))
+live_is (Dead x) e is = absurd (false≢true is)
 
 -- Frames by what they are.
 pub thread_loose : (x : Frame) → IsTrue (fits kind.Thread x) → is_fixed x ≡ false
@@ -228,6 +240,30 @@ module _ (s : State) (o : ℕ → Bool) (d : ℕ) (h : HasTurn s o d) where
       (made s o d f object k at blank (thread_away s o d h f (ap (fits kind.Thread) blank)) (vacant_none s o d h target at v))
       (runs_put s f (Kernel object) d (own_away s o d h f (ap (fits kind.Thread) blank)) (own_runs s o d h))
 
+  -- no other core may act in a liveness number that is taken: it is not live, and none waits for it
+  none_acts : (f : ℕ) (range : Capability) (l : ℕ) → first_cause s d (outside (found range) f ∷ not_blank s f ∷ not_taken s l) ≡ None
+      → (c e : ℕ) → c ≢ d → o c ≡ true → IsTrue (acts_in s c l e) → ⊥
+  none_acts f range l calm c e other q may =
+      let p = none_parts (refusal_of s d (outside (found range) f)) (first_cause s d (not_blank s f ∷ not_taken s l)) calm in
+      let p1 = none_parts (refusal_of s d (not_blank s f)) (first_cause s d (not_taken s l)) p.1 in
+      let spent : Cause = When (epoch_of (s.number l) == s.limits.epochs) reply.EpochsSpent in
+      let p2 = none_parts (refusal_of s d (When (is_live (s.number l)) reply.Occupied))
+      (first_cause s d (WaitedFor (NumberOf l) ∷ spent ∷ []))
+      p1.1 in
+      let p3 = none_parts (waits_of s d (NumberOf l)) (first_cause s d (spent ∷ [])) p2.1 in
+      by (s.number l) (when_not (is_live (s.number l)) reply.Occupied p2.0)
+      (subst (λ w. IsTrue (is_live_in (s.number l) e || (is_dead_in (s.number l) e && w)))
+      (none_waiting s d (NumberOf l) p3.0 c (h.inside c q).1 other) may)
+    where
+      neither : (b : Bool) → (b && false) ≡ true → ⊥
+      neither true k = false≢true k
+      neither false k = false≢true k
+
+      by : (n : Liveness) → is_live n ≡ false → IsTrue (is_live_in n e || (is_dead_in n e && false)) → ⊥
+      by Unused free may = false≢true may
+      by (Live x g) free may = false≢true (sym free)
+      by (Dead x) free may = neither (x == e) may
+
   make_spares : (what : Make) (r f t b : ℕ) → ChangesFrom (SparesBy s o d) s d (make_rule s what r f t b)
   make_spares make.Table r f t b = node_spares Table kind.Table r f t b
   make_spares make.Leaf r f t b = node_spares Leaf kind.Leaf r f t b
@@ -244,7 +280,7 @@ module _ (s : State) (o : ℕ → Bool) (d : ℕ) (h : HasTurn s o d) where
       let comp : CompFields = record { table = own_table.frame; pages = own_pages.frame; number = l; epoch = epoch_of (s.number l) + 1 } in
       plain s o d h (makes_comp s f comp at).next
       (apart_then s (with_number s l (Live comp.epoch f)) (makes_comp s f comp at).next o d
-      (number_apart s o d l (Live comp.epoch f))
+      (number_apart s o d l (Live comp.epoch f) (none_acts f range l calm))
       (made (with_number s l (Live comp.epoch f)) o d f (Comp comp) kind.Comp at blank
       (thread_away s o d h f (ap (fits kind.Thread) blank)) (vacant_none s o d h (Under (found table) b) at v)))
       (runs_put s f (Kernel (Comp comp)) d (own_away s o d h f (ap (fits kind.Thread) blank)) (own_runs s o d h))
@@ -271,6 +307,9 @@ module _ (s : State) (o : ℕ → Bool) (d : ℕ) (h : HasTurn s o d) where
     waits = λ c g other q w. frame_waits s (list_any (same_thing (FrameOf g)) (frames_of (frame_names (s.frame f)))) (FrameOf g)
         (cond (g == f) no_grace (s.grace (FrameOf g))) c (inside s o d h c q)
         (subst (λ b. IsTrue ((cond b no_grace (s.grace (FrameOf g))).waits c)) (sym (ne_eqb g f (waits_away c g other q w))) w);
+    acts = λ c l e other q may. acts_more (is_live_in (s.number l) e) (is_dead_in (s.number l) e) ((s.grace (NumberOf l)).waits c) _
+        (λ w. frame_waits s (list_any (same_thing (NumberOf l)) (frames_of (frame_names (s.frame f)))) (NumberOf l) (s.grace (NumberOf l)) c
+        (inside s o d h c q) w) may;
     limits = refl;
     runs = ap (λ x. (thread_in x).runs_on)
         (put_other s.frame f Untyped (s.core d).thread (thread_named d (h.opens.sound.inside d h.opens.is).1)) ∙ own_runs s o d h;
@@ -402,8 +441,14 @@ module _ (s : State) (o : ℕ → Bool) (d : ℕ) (h : HasTurn s o d) where
       λ comp e table f at g calm. filled s o d h (Under (found table) b) at (cap_of kind.Gate comp.frame _) g
   rule_spares (Kill k) = λ comp e calm.
       let fields : CompFields = comp_in (s.frame comp.frame) in
-      done s o d h (kills s fields).next (kills s fields).begins (λ f i. frames_no_place f i (number_names (s.number fields.number)))
-      (number_apart s o d fields.number (Dead fields.epoch)) (own_runs s o d h)
+      let dead : Cause = not_live s (found comp) fields.number fields.epoch in
+      let p = none_parts (refusal_of s d dead) (first_cause s d []) calm in
+      let live = live_is (s.number fields.number) fields.epoch
+      (not_not (is_live_in (s.number fields.number) fields.epoch)
+      (when_not (not (is_live_in (s.number fields.number) fields.epoch)) reply.Dead p.0)) in
+      spares_by s (begun s (kills s fields).begins (kills s fields).next) o d
+      (kill_apart s o d fields.number fields.epoch live.0 (number_names (s.number fields.number)) (inside s o d h) live.1)
+      (own_runs s o d h)
   rule_spares (call_gate g) = λ gate e calm. plain s o d h (pushes s d gate.frame).next (stack_apart s o d h _) (stack_runs s o d h _)
   rule_spares Ret = λ calm.
       done s o d h (pops s d).next (pops s d).begins

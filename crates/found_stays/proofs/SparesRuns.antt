@@ -16,6 +16,7 @@ use Rattle.kernel_rules.specs.Access.{usable_in}
 use Rattle.kernel_rules.specs.Start.{start}
 use Rattle.kernel_rules.specs.References.{times, core_names, node_refs, refs}
 use Rattle.kernel_rules.specs.GracePeriods.{same_thing, new_grace, begun, entered, returned}
+use Rattle.kernel_rules.specs.Life.{is_live_in, is_dead_in}
 use Rattle.kernel_rules.specs.Rules.{Change, Judged, Refused, Found, IsFoundAnd}
 use Rattle.kernel_rules.specs.CallRelation.{rule_of, change_of, changed, counted, owed_by, state_by, MayReply}
 use Rattle.kernel_rules.specs.Laws.{released}
@@ -30,7 +31,7 @@ use Rattle.kernel_invariant.proofs.SoundRuns.{inside_is, opened, open_limits, op
 use Rattle.kernel_invariant.proofs.Facts.{outcome_from}
 use Rattle.kernel_invariant.proofs.Refs.{RefsBy, rule_refs, grace_refs}
 use Rattle.kernel_rules.specs.Relies.{IsGuarded}
-use Rattle.found_stays.proofs.Apart.{apart_same}
+use Rattle.found_stays.proofs.Apart.{apart_same, acts_more}
 use Rattle.found_stays.proofs.Spares.{RunsOn, HasTurn, Spares, SparesBy, spares_by, rule_spares}
 
 -- From s to t by core d, whose own fields change then, but for its thread.
@@ -43,6 +44,7 @@ spares_core s t o d k same a = record {
   thread = a.thread;
   place = a.place;
   waits = a.waits;
+  acts = a.acts;
   limits = a.limits;
   runs = ap (λ (x : Core). (thread_in (t.frame x.thread)).runs_on) (put_same t.core d k d refl)
       ∙ ap (λ n. (thread_in (t.frame n)).runs_on) same ∙ a.runs;
@@ -135,7 +137,7 @@ decided_spares s o d call r h lim may = by_reply r may
     by_reply (reply.Ok v) may = counted_spares s (changed s (change_of s d call)) o d
         (changed_spares s o d v (change_of s d call) (λ c q. (h.inside c q).0)
         (outcome_from (SparesBy s o d) s d (rule_of s d call) (rule_spares s o d h call))
-        (outcome_from (RefsBy s) s d (rule_of s d call) (rule_refs s h.opened d h.opens call lim)) may.1)
+        (outcome_from (RefsBy s) s d (rule_of s d call) (rule_refs s h.opened d h.opens call lim)) may.1.1)
     by_reply reply.CallsSpent may = same
     by_reply reply.Raced may = counted_spares s (owed_by s d call) o d (owed_spares s o d call runs)
     by_reply (reply.Busy e) may = counted_spares s (owed_by s d call) o d (owed_spares s o d call runs)
@@ -158,6 +160,8 @@ returned_spares s o d runs = record { spares = spares; guarded = same_guarded s 
       thread = λ c other below. refl;
       place = λ c f i k other q node had. ap (usable_in (s.place f i)) (put_other (s.grace (PlaceOf f i)).waits d false c other) ∙ had;
       waits = λ c f other q w. put_other (s.grace (FrameOf f)).waits d false c other ∙ w;
+      acts = λ c l e other q may. acts_more (is_live_in (s.number l) e) (is_dead_in (s.number l) e) ((s.grace (NumberOf l)).waits c) _
+          (λ w. put_other (s.grace (NumberOf l)).waits d false c other ∙ w) may;
       limits = refl;
       runs = ap (λ (x : Core). (thread_in (s.frame x.thread)).runs_on) (put_same s.core d _ d refl) ∙ runs;
     }

@@ -12,6 +12,7 @@ use Rattle.kernel_rules.specs.State.{Kernel, Core, PlaceOf, State, comp_in, thre
 use Rattle.kernel_rules.specs.References.{named_by, place_names, frame_names, times, refs}
 use Rattle.kernel_rules.specs.Access.{Want, Slot, Named, Under, place_at, usable_in, usable, linked}
 use Rattle.kernel_rules.specs.Access.{slot_in, reached, root_slot, root_at, only, own}
+use Rattle.kernel_rules.specs.Life.{may_act}
 use Rattle.kernel_rules.specs.Rules.{Found, and_then, or_refuse, of_kind, named}
 use Rattle.kernel_rules.specs.Fitting.{fits, IsGood}
 use Rattle.kernel_rules.specs.Runs.{Event, after, core_of, Phase, Open, is_in, is_open, phase_of, IsRun}
@@ -21,7 +22,7 @@ use Rattle.kernel_invariant.proofs.SoundRemovals.{unnamed, below_by}
 use Rattle.kernel_invariant.proofs.SoundRuns.{opened, limits_stay, runs_sound}
 use Rattle.kernel_invariant.proofs.Sums.{times_first, times_cons}
 use Rattle.kernel_invariant.proofs.Facts.{some_inj, none_some, then_parts, or_found, usable_good}
-use Rattle.found_stays.proofs.Apart.{node_fixed}
+use Rattle.found_stays.proofs.Apart.{node_fixed, acts_in}
 use Rattle.found_stays.proofs.SparesRuns.{SparesAll, inside_of, inside_facts, event_spares}
 
 -- What core c in an open call has and relies on in s, it has and relies on in t.
@@ -35,6 +36,7 @@ pub record Stay (s t : State) (c : ℕ) : Type 0 where
   pub usable : (at : Slot) (k : Capability) → Relies s c at.node → usable s c at ≡ Some k → usable t c at ≡ Some k
   pub reached : (table : Named) (n : ℕ) (at : Slot) → Relies s c table.frame
       → reached s c (Under table n) ≡ Some at → reached t c (Under table n) ≡ Some at
+  pub acts : IsTrue (may_act s c) → IsTrue (may_act t c)
   pub named : (n : ℕ) (wanted : Want) (k : Capability) → named s c n wanted ≡ Found k → named t c n wanted ≡ Found k
 
 pub stay_same : (s : State) (c : ℕ) → Stay s s c
@@ -47,6 +49,7 @@ stay_same s c = record {
   relies = λ f r. r;
   usable = λ at k r e. e;
   reached = λ table n at r e. e;
+  acts = λ may. may;
   named = λ n wanted k e. e;
 }
 
@@ -61,6 +64,7 @@ stay_then s t u c a b = record {
   relies = λ f r. b.relies f (a.relies f r);
   usable = λ at k r e. b.usable at k (a.relies at.node r) (a.usable at k r e);
   reached = λ table n at r e. b.reached table n at (a.relies table.frame r) (a.reached table n at r e);
+  acts = λ may. b.acts (a.acts may);
   named = λ n wanted k e. b.named n wanted k (a.named n wanted k e);
 }
 
@@ -286,6 +290,7 @@ pub record StayIn (s t : State) (c : ℕ) : Type 0 where
   pub usable : (at : Slot) (k : Capability) → Relies s c at.node → usable s c at ≡ Some k → usable t c at ≡ Some k
   pub reached : (table : Named) (n : ℕ) (at : Slot) → Relies s c table.frame
       → reached s c (Under table n) ≡ Some at → reached t c (Under table n) ≡ Some at
+  pub acts : IsTrue (may_act s c) → IsTrue (may_act t c)
 
 pub stay_in_same : (s : State) (c : ℕ) → StayIn s s c
 stay_in_same s c = record {
@@ -295,6 +300,7 @@ stay_in_same s c = record {
   relies = λ f r. r;
   usable = λ at k r e. e;
   reached = λ table n at r e. e;
+  acts = λ may. may;
 }
 
 pub stay_in_then : (s t u : State) (c : ℕ) → StayIn s t c → StayIn t u c → StayIn s u c
@@ -306,6 +312,7 @@ stay_in_then s t u c a b = record {
   relies = λ f r. b.relies f (a.relies f r);
   usable = λ at k r e. b.usable at k (a.relies at.node r) (a.usable at k r e);
   reached = λ table n at r e. b.reached table n at (a.relies table.frame r) (a.reached table n at r e);
+  acts = λ may. b.acts (a.acts may);
 }
 
 -- What another core's change spares stays; u are cores in a call.
@@ -322,6 +329,8 @@ stay_in_by s t o u d c h below q other a = record {
   };
   usable = λ at k r e. stays at k r e;
   reached = λ table n at r e. reaches table n at r e;
+  acts = λ may. subst (λ (k : CompFields). IsTrue (acts_in t c k.number k.epoch)) (sym (own_by s t o u d c h below other a).comp)
+      (a.spares.acts c (comp_of s c).number (comp_of s c).epoch other q may);
 }
   where
     stays : (at : Slot) (k : Capability) → Relies s c at.node → usable s c at ≡ Some k → usable t c at ≡ Some k
@@ -345,6 +354,7 @@ stay_by s t o c h q a = record {
   relies = a.relies;
   usable = a.usable;
   reached = a.reached;
+  acts = a.acts;
   named = λ n wanted k e.
       let p = name_parts s c n wanted k e in
       let own_root : own t c n ≡ own s c n = ap (λ (x : CompFields). Under (root_at x.table) n) a.own.comp in

@@ -220,7 +220,7 @@ module _ (setup : Setting) (setting : IsSetting setup) (cores : ℕ → Core) (t
         opens
         refl refl
         (λ x. refl) (λ x. refl) refl (unspent, may) tt
-        (λ is_alone. refused_first s c a.call reply.FrameKind unspent (first is_alone))
+        (λ is_alone. refused_first s c a.call reply.FrameKind has.acts unspent (first is_alone))
       where
         stands_so : (is_frame s f && not (is_blank (s.frame f))) ≡ true
         stands_so = ap (λ b. b && not (is_blank (s.frame f)))
@@ -252,6 +252,7 @@ module _ (setup : Setting) (setting : IsSetting setup) (cores : ℕ → Core) (t
         loads_on setup setting cores t stands c here a active (LoadOf (FrameAt f)) a.found
         (Undecided (Act (make_act (record m { at = Mark was })))) loading lands (sym held_is) opens
         (λ carries. record {
+          acts = has.acts;
           names = names_on setup setting t e stands.legal c a.call is_open carries (cores c).own.table a.plan a.found has.names;
           knows = record {
             knows = goes_on_at e refl refl (λ h. cc) carries (Mark was) (record {
@@ -376,6 +377,7 @@ module _ (setup : Setting) (setting : IsSetting setup) (cores : ℕ → Core) (t
         ∙ sym (ap (λ o. settled_by o (held_by cores) (FrameAt f) was) bare ∙ eqb-true was word equal))
         opens
         (λ carries. record {
+          acts = has.acts;
           names = names_on setup setting t e stands.legal c a.call is_open carries (cores c).own.table a.plan a.found has.names;
           knows = knows_next setup (e ∷ t) c (cores c).own.table next m.core act (dues act) knows.core
               (goes_on_at e refl refl (λ h. cc) carries (Store word 0)
@@ -479,6 +481,7 @@ module _ (setup : Setting) (setting : IsSetting setup) (cores : ℕ → Core) (t
         (subst (λ x. IsFrameWord s.limits.frames (count_room s) x (s.place f n) (stamp setup t (PlaceOf f n)) n new_word) (sym blank) tt)
         (spares_blank setup t e f n refl blank own_mark)
         (λ carries. record {
+          acts = has.acts;
           names = names_on setup setting t e stands.legal c a.call is_open carries (cores c).own.table a.plan a.found has.names;
           knows = record {
             knows = goes_on_at e refl refl

@@ -268,7 +268,7 @@ module _ (setup : Setting) (setting : IsSetting setup) (cores : ℕ → Core) (t
     kind_good : (v : FrameWord) → frame_of_word was ≡ Some v → (v.mark ≡ None) → (j : FrameKind) → v.kind ≡ j → (j ≡ kind.Untyped → ⊥)
         → GoodTook setup cores t c (LoadOf (FrameAt f)) (landed a (refuse refusal.FrameKind))
     kind_good v shown no_mark j kind_is other =
-        refuses_frame_kind setup setting cores t stands c here a active opens held_is room (LoadOf (FrameAt f)) loading
+        refuses_frame_kind setup setting cores t stands c here a active opens held_is room (LoadOf (FrameAt f)) loading has.acts
         (left_may s c (own_pages s c) a.plan (rule_of s c a.call) a.found by_plan leads reply.FrameKind
         (subst (λ x. RuleMay s c x reply.FrameKind) (sym left) (inr (inl (stands_so, refl)))))
         (λ nobody. by_frame false typed_now)
@@ -290,6 +290,7 @@ module _ (setup : Setting) (setting : IsSetting setup) (cores : ℕ → Core) (t
         loads_on setup setting cores t stands c here a active (LoadOf (FrameAt f)) a.found
         (Undecided (Act (type_act (record { frame = f; kind = k; at = type_compare was })))) loading lands (sym held_is) opens
         (λ carries. record {
+          acts = has.acts;
           names = names_on setup setting t e stands.legal c a.call is_open carries (cores c).own.table a.plan a.found has.names;
           knows = record {
             knows = record {
@@ -524,7 +525,7 @@ module _ (setup : Setting) (setting : IsSetting setup) (cores : ℕ → Core) (t
       permitted : MayReply s c a.call (reply.Ok Nothing)
       permitted = (
         not_spent setup (cores c) t c (stands.each c here) room,
-        subst (λ x. IsFoundAnd x (λ y. y.value ≡ Nothing)) (sym change_is) refl,
+        (has.acts, subst (λ x. IsFoundAnd x (λ y. y.value ≡ Nothing)) (sym change_is) refl),
       )
 
       -- the place of the name has been stepped on

@@ -225,6 +225,7 @@ module _ (setup : Setting) (setting : IsSetting setup) (cores : ℕ → Core) (t
         (sym (sweep_held setup setting cores t stands c here a active f core word w stage_is has))
         (calls.opens setup setting cores t stands c here a active m stage_is has)
         (λ carries. record {
+          acts = has.acts;
           names = names_on setup setting t e stands.legal c a.call is_open carries (cores c).own.table a.plan a.found has.names;
           knows = record {
             knows = record {

@@ -165,7 +165,7 @@ module _ (setup : Setting) (setting : IsSetting setup) (cores : ℕ → Core) (t
               (inr (inr (inr (inr (inl unflushed))))),
         )
         justified
-        (λ is_alone. refused_first s c a.call (reply.Unflushed at) unspent (refused is_alone))
+        (λ is_alone. refused_first s c a.call (reply.Unflushed at) has.acts unspent (refused is_alone))
         (undo_known setup setting cores t stands c here a active f core word w stage_is has (e ∷ t) kept)
 
   -- The core has flushed since.

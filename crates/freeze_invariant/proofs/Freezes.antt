@@ -289,6 +289,7 @@ module _ (setup : Setting) (setting : IsSetting setup) (cores : ℕ → Core) (t
         ∙ sym (ap (λ x. settled_by x (held_by cores) at was) unmarked))
         (calls.opens setup setting cores t stands c here a active m stage_is has)
         (λ carries. record {
+          acts = has.acts;
           names = names_on setup setting t e stands.legal c a.call is_open carries (cores c).own.table a.plan a.found has.names;
           knows = knows_it (e ∷ t) refl
               (λ y upto flushes. quiet_frame_on setup setting t e stands.legal c a.call is_open carries f y upto flushes);
@@ -372,7 +373,8 @@ module _ (setup : Setting) (setting : IsSetting setup) (cores : ℕ → Core) (t
               calls.may_refuse setup setting cores t stands c here a active m stage_is has answer (inr (inr (inl are_some))),
             )
             tt
-            (λ is_alone. refused_first s c a.call answer (calls.unspent setup setting cores t stands c here a active m stage_is has)
+            (λ is_alone. refused_first s c a.call answer has.acts
+            (calls.unspent setup setting cores t stands c here a active m stage_is has)
             (calls.by_causes setup setting cores t stands c here a active m stage_is has None (Some answer) _ _ _ kind_known
             (ap (λ x. if x then Some (reply.Referenced (refs s f)) else None) some_refs
             ∙ ap (λ (k : ℕ). Some (reply.Referenced k)) (sym exact))

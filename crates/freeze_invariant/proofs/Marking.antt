@@ -78,7 +78,7 @@ module _ (setup : Setting) (setting : IsSetting setup) (cores : ℕ → Core) (t
     kind_good untyped = refuses_frame_kind setup setting cores t stands c here a active
         (calls.opens setup setting cores t stands c here a active m stage_is has) held_is
         (calls.room setup setting cores t stands c here a active m stage_is has) load
-        (calls.loading setup setting cores t stands c here a active m stage_is has)
+        (calls.loading setup setting cores t stands c here a active m stage_is has) has.acts
         (calls.may_refuse setup setting cores t stands c here a active m stage_is has reply.FrameKind (inr (inl (stands_so, refl))))
         (λ nobody. calls.by_causes setup setting cores t stands c here a active m stage_is has (Some reply.FrameKind) _ _ _ _
         (ap (λ b. if b then Some reply.FrameKind else None) stands_so) refl refl refl refl)
@@ -95,6 +95,7 @@ module _ (setup : Setting) (setting : IsSetting setup) (cores : ℕ → Core) (t
         (calls.loading setup setting cores t stands c here a active m stage_is has) lands (sym held_is)
         (calls.opens setup setting cores t stands c here a active m stage_is has)
         (λ carries. record {
+          acts = has.acts;
           names = names_on setup setting t e stands.legal c a.call is_open carries (cores c).own.table a.plan a.found has.names;
           knows = record {
             knows = record {
@@ -215,6 +216,7 @@ module _ (setup : Setting) (setting : IsSetting setup) (cores : ℕ → Core) (t
         ∙ sym (ap (λ o. settled_by o (held_by cores) (FrameAt f) was) bare ∙ eqb-true was word equal))
         (calls.opens setup setting cores t stands c here a active m stage_is has)
         (λ carries. record {
+          acts = has.acts;
           names = names_on setup setting t e stands.legal c a.call is_open carries (cores c).own.table a.plan a.found has.names;
           knows = record {
             knows = record {

@@ -14,7 +14,7 @@ use Rattle.core_invariant.specs.act_states.specs.Makings.{is_marked}
 use Rattle.core_invariant.specs.act_states.specs.declared.makings.MakingAt.TheVariants.{Load as making_load, Mark, Store}
 use Rattle.core_invariant.specs.act_states.specs.declared.makings.MakingAt.TheVariants.{Fill as making_fill}
 use Rattle.core_invariant.specs.act_states.specs.declared.makings.MakingAt.{MakingAt}
-use Rattle.std.proofs.Common.{map, ◌+◌, ◌≡◌, ◌≤◌, arith, inl, inr, ℕ, ◌&&◌, nat_le, if◌then◌else◌, cond, [], ◌∷◌, ◌++◌}
+use Rattle.std.proofs.Common.{map, ◌+◌, ◌≡◌, ◌≤◌, arith, inl, inr, ℕ, ◌&&◌, ◌||◌, not, nat_le, if◌then◌else◌, cond, [], ◌∷◌, ◌++◌}
 use Rattle.std.proofs.Common.{List, Bool, true, false, Option, Some, None, refl, ◌∙◌, ap, subst, ◌==◌, sym, IsTrue}
 use Rattle.std.specs.Prelude.{IsSome, is_some, All, length}
 use Rattle.std.proofs.lemmas.Bool.{eq-eqb, false≢true}
@@ -79,6 +79,10 @@ use Rattle.core_invariant.specs.act_states.specs.Acts.{reads_of}
 use Rattle.core_invariant.specs.call_stages.specs.declared.stages.ActiveCall.{ActiveCall}
 use Rattle.core_invariant.specs.Knows.{due_of, IsCount, IsReached, HasFound, LookIs, LooksUp, own_in, NamesAre, LooksFor}
 use Rattle.core_invariant.specs.Knows.{IsScanned, MayFill, IsFill, IsRemoval, KnowsClose, KnowsAct, KnowsQuiet, KnowsStore, HasLoaded}
+use Rattle.thread_laws.specs.kernel_rules.specs.Life.{asks_life, may_act, acts}
+use Rattle.core_invariant.specs.stage_thread.specs.declared.alive.Alive.{Alive}
+use Rattle.core_invariant.specs.stage_thread.specs.declared.alive.Alive.TheVariants.{AtComp, AtLive}
+use Rattle.core_invariant.specs.Knows.{KnowsAlive, KnowsAliveAt}
 use Rattle.core_invariant.specs.Knows.{KnowsWork, KnowsUndecided, KnowsTyping, HasMetAt, ChargesBy, HasHeadAt, KnowsTick, IsSpot, HasStored}
 use Rattle.core_invariant.specs.Knows.{KnowsMakingAt, HasLife, HasComp, KnowsKillingAt, KnowsDead, ReadIs, ReadBefore, scanned_for}
 use Rattle.core_invariant.specs.Knows.{KnowsScan, HasUser, MayTake, TakesNumber, KnowsNumber, HasWords, KnowsCompAt, KnowsLive}
@@ -708,6 +712,23 @@ module _ (setup : Setting) (setting : IsSetting setup) (t : Trace) (e : Step) (l
     goes = has.goes;
   }
 
+  -- whether the component lives is asked on of the same component
+  alive_at_on : (alive : Alive) → KnowsAliveAt (state_after setup t) c alive → KnowsAliveAt (state_after setup (e ∷ t)) c alive
+  alive_at_on (AtComp comp) has = has ∙ ap (λ k. first_of_stack k.stack) (sym carries.stays.thread)
+  alive_at_on (AtLive life) has = (ap (λ k. k.number) carries.stays.comp ∙ has.0, ap (λ k. k.epoch) carries.stays.comp ∙ has.1)
+
+  pub alive_on : (of : Call) (alive : Alive) → KnowsAlive (state_after setup t) c of alive
+      → KnowsAlive (state_after setup (e ∷ t)) c of alive
+  alive_on of alive has = record { asks = has.asks; at = alive_at_on alive has.at }
+
+  -- and a call that the core may make it still may
+  pub acts_on : (of : Call) → IsTrue (acts (state_after setup t) c of) → IsTrue (acts (state_after setup (e ∷ t)) c of)
+  acts_on of may = by (not (asks_life of)) may
+    where
+      by : (b : Bool) → IsTrue (b || may_act (state_after setup t) c) → IsTrue (b || may_act (state_after setup (e ∷ t)) c)
+      by true h = refl
+      by false h = carries.stays.acts h
+
   -- what a call knows that is not decided, after a step of another core
   pub undecided_on : (table : ℕ) (a : ActiveCall) (work : Work) → ((act : ActOf) → work ≡ Act act → PairsStay setup t e c act)
       → ((w : Word) → own_read (e ∷ t) c w ≡ own_read t c w)
@@ -719,6 +740,7 @@ module _ (setup : Setting) (setting : IsSetting setup) (t : Trace) (e : Step) (l
       → KnowsUndecided setup (e ∷ t) c table a work
   undecided_on table a work pairs same stored users rests threads has =
       record {
+        acts = acts_on a.call has.acts;
         names = names_on table a.plan a.found has.names;
         knows =
             work_on table a work pairs same stored users rests threads has.knows;

@@ -71,7 +71,8 @@ pub use Rattle.thread_laws.specs.kernel_rules.specs.CapabilityCalls.{not_blank, 
 pub use Rattle.thread_laws.specs.kernel_rules.specs.Fitting.{fits}
 pub use Rattle.thread_laws.specs.kernel_rules.specs.GracePeriods.{MayBeUnflushed, MayWait, is_paging, is_translated, lowest, new_grace}
 pub use Rattle.thread_laws.specs.kernel_rules.specs.GracePeriods.{same_thing, unflushed_by}
-pub use Rattle.thread_laws.specs.kernel_rules.specs.InvocationCalls.{is_live_in, pushes}
+pub use Rattle.thread_laws.specs.kernel_rules.specs.Life.{acts, asks_life, is_live_in, lives, may_act}
+pub use Rattle.thread_laws.specs.kernel_rules.specs.InvocationCalls.{pushes}
 pub use Rattle.thread_laws.specs.kernel_rules.specs.Laws.{calls_counted}
 pub use Rattle.thread_laws.specs.kernel_rules.specs.MemoryCalls.{is_empty, is_untyped, retypes, translation_of}
 pub use Rattle.thread_laws.specs.kernel_rules.specs.Ranges.{InRanges}
@@ -235,7 +236,9 @@ pub use Rattle.core_invariant.specs.call_stages.specs.Steps.{stage_move, took, t
 pub use Rattle.core_invariant.specs.call_stages.specs.View.{Core}
 pub use Rattle.core_invariant.specs.call_stages.specs.declared.stages.ActiveCall.{ActiveCall}
 pub use Rattle.core_invariant.specs.call_stages.specs.declared.stages.Stage.{Stage}
-pub use Rattle.core_invariant.specs.call_stages.specs.declared.stages.Stage.TheVariants.{Decided, Enter, Leave, Undecided}
+pub use Rattle.core_invariant.specs.stage_thread.specs.declared.alive.Alive.{Alive}
+pub use Rattle.core_invariant.specs.stage_thread.specs.declared.alive.Alive.TheVariants.{AtComp, AtLive}
+pub use Rattle.core_invariant.specs.call_stages.specs.declared.stages.Stage.TheVariants.{Decided, Enter, Leave, Living, Undecided}
 pub use Rattle.core_invariant.proofs.Bare.{AsBefore, as_none, counts_bare, none_kept}
 pub use Rattle.core_invariant.proofs.Freezing.{release_entry, thaws_own}
 pub use Rattle.core_invariant.proofs.Markers.{marker_inside}
@@ -251,6 +254,7 @@ pub use Rattle.core_invariant.specs.Invariant.{holds_at, holds_comp, holds_head,
 pub use Rattle.core_invariant.specs.Invariant.{holds_share, holds_shared, holds_tail, holds_work, is_done, times_of}
 pub use Rattle.core_invariant.specs.Knows.{AreDuesApart, CallIs, ChargesBy, CoreIs, HasFlushed, HasFound, IsCount, IsScanned, IsSpot}
 pub use Rattle.core_invariant.specs.Knows.{Knows, KnowsAct, KnowsAt, KnowsComp, KnowsCompAt, KnowsMakingAt, KnowsTail, KnowsUndecided}
+pub use Rattle.core_invariant.specs.Knows.{KnowsAlive, KnowsAliveAt}
 pub use Rattle.core_invariant.specs.Knows.{KnowsUnmark, KnowsWork, LooksFor, LooksUp, MakesBy, MayFill, NamesAre, ReadBefore, ReadIs}
 pub use Rattle.core_invariant.specs.Knows.{WorksIn, blank_word, due_of, flushing_in, goes_on, is_flushing, own_in, phase_at, untypes}
 pub use Rattle.core_invariant.specs.Shares.{HasBoth, HasMarkedA, HasTcap, KnowsPairAt, KnowsShared, KnowsStoresAt, SharesBy, SparesTcap}

@@ -26,10 +26,10 @@ use Rattle.kernel_history.specs.Footprint.{IsNearIn, StepsNear}
 use Rattle.kernel_history.specs.Legal.{IsLegal}
 use Rattle.kernel_history.specs.Moments.{CoreSays, EntrySays}
 use Rattle.kernel_history.specs.Trace.{Step, state_after, WasBefore}
-use Rattle.kernel_history.specs.Scenes.{two_cores, there, enters, goes, loads, one_step}
+use Rattle.kernel_history.specs.Scenes.{two_cores, there, enters, goes, one_step}
 use Rattle.kernel_history.specs.Scenes.{range_word, mark_word, retyped, named, marked_beside}
 use Rattle.kernel_history.specs.Refusals.{no_flags, BreaksDiscipline, DisciplineRefuses, OwnCountsRefuse, BreaksFootprint, FootprintsRefuse}
-use Rattle.kernel_history.specs.Refusals.{BoundsRefuse, WordsRefuse}
+use Rattle.kernel_history.specs.Refusals.{BoundsRefuse, looks_six, WordsRefuse}
 use Rattle.kernel_history.proofs.Computed.{neither, none, fits, may_follow, is_within, keeps_bounds, is_near, keeps_footprints}
 use Rattle.kernel_history.proofs.Computed.{is_near_in, not_near_in, moves_well, undisciplined, has_reached, some_call}
 
@@ -70,7 +70,7 @@ retype_user = record {
       may_follow refl refl tt (record {
         call = call.Retype 0 8 frame_kind.User;
         is_open = refl;
-        permitted = (refl, refl);
+        permitted = (refl, (refl, refl));
         justified = has_reached (retyped frame_kind.User 1) 0 (slot 0 0 ∷ slot 1 0 ∷ []) refl;
       }) tt,
     ),
@@ -90,7 +90,7 @@ retype_blank = record {
       may_follow refl refl tt (record {
         call = call.Retype 0 8 frame_kind.Kernel;
         is_open = refl;
-        permitted = (refl, refl);
+        permitted = (refl, (refl, refl));
         justified = has_reached (retyped frame_kind.Kernel 2) 0 (slot 0 0 ∷ slot 1 0 ∷ []) refl;
       }) tt,
     ),
@@ -141,7 +141,9 @@ discipline_refuses = record {
   retype_writes_a_blank_frame = retype_blank;
   copy_looks_at_a_frame = row (whole_copy 0 1 20) (LoadOf (FrameAt 1)) (omega arith) refl refl refl refl;
   map_changes_a_frame = row (call.Map 2 0 0 8 no_flags) (StoreOf (FrameAt 8) 1) (omega arith) refl refl refl refl;
-  copy_looks_at_a_number = row (whole_copy 0 1 20) (LoadOf (LiveAt 0)) (omega arith) refl refl refl refl;
+  tick_looks_at_a_number = row (call.Tick 1) (LoadOf (LiveAt 0)) (omega arith) refl refl refl refl;
+  return_looks_at_a_number = row call.Ret (LoadOf (LiveAt 0)) tt refl refl refl refl;
+  flush_looks_at_a_number = row call.Flush (LoadOf (LiveAt 0)) tt refl refl refl refl;
   gate_changes_a_number = row (call.Call 0) (StoreOf (LiveAt 0) 0) tt refl refl refl refl;
   leaf_changes_a_number = row (call.Make make.Leaf 0 8 1 20) (StoreOf (LiveAt 0) 0) tt refl refl refl refl;
   look_reads_a_count = row (call.Look 0) (LoadOf (CountAt 0 0)) tt refl refl refl refl;
@@ -209,11 +211,17 @@ footprints_refuse = record {
 pub bounds_refuse : BoundsRefuse
 unfolding two_cores word_of_entry
 bounds_refuse = record {
-  within = keeps_bounds 2 (loads 0 1 0 (loads 0 0 0 (loads 0 1 0 (loads 0 0 0 (enters 0 (call.Look 0) []))))) refl;
+  within = keeps_bounds 2 looks_six refl;
   legal = (
     (
       (
-        (((tt, may_follow refl refl (refl, tt) tt tt), may_follow refl refl tt tt tt), may_follow refl refl tt tt tt),
+        (
+          (
+            (((tt, may_follow refl refl (refl, tt) tt tt), may_follow refl refl tt tt tt), may_follow refl refl tt tt tt),
+            may_follow refl refl tt tt tt,
+          ),
+          may_follow refl refl tt tt tt,
+        ),
         may_follow refl refl tt tt tt,
       ),
       may_follow refl refl tt tt tt,
@@ -223,8 +231,8 @@ bounds_refuse = record {
   refused = λ keeps. too_many keeps.1.call (some_call keeps.1.call (call.Look 0) (sym keeps.1.is_of)) keeps.1.steps;
 }
   where
-    too_many : (k : Call) → k ≡ call.Look 0 → 6 ≤ bound_of k 2 → ⊥
-    too_many k is steps = let bound : bound_of k 2 ≡ 5 = ap (λ k. bound_of k 2) is in omega (arith, bound, steps)
+    too_many : (k : Call) → k ≡ call.Look 0 → 8 ≤ bound_of k 2 → ⊥
+    too_many k is steps = let bound : bound_of k 2 ≡ 7 = ap (λ k. bound_of k 2) is in omega (arith, bound, steps)
 
 -- what the words say
 

@@ -49,11 +49,11 @@ done = reply.Ok Nothing
 
 copies : MayReply at_start 0 (whole_copy 0 1 20) done
 unfolding grant machine behind at_start done
-copies = (refl, refl)
+copies = (refl, (refl, refl))
 
 copies_nothing : MayReply at_start 0 (whole_copy 63 1 20) done → ⊥
 unfolding grant machine behind at_start done
-copies_nothing may = may.1
+copies_nothing may = may.1.1
 
 no_slot : MayReply at_start 0 (call.Look 64) reply.NoSlot
 unfolding grant machine behind at_start
@@ -180,11 +180,23 @@ is_bare may =
 
 is_dead : MayReply (behind (call.Kill 3 ∷ [])) 0 (call.Kill 3) reply.Dead
 unfolding grant machine behind
-is_dead = (refl, inr (inl (refl, refl)))
+is_dead = (refl, inr (inr (inl (refl, refl))))
 
 is_live : MayReply at_start 0 (call.Kill 3) reply.Dead → ⊥
 unfolding grant machine behind at_start
-is_live may = neither none (neither (λ x. absurd (cc)) none) may.1
+is_live may = neither (λ x. let dead = x.1 in absurd (cc)) (neither none (neither (λ x. absurd (cc)) none)) may.1
+
+is_dead_inside : MayReply (behind (call.Kill 3 ∷ [])) 0 (call.Look 0) reply.Dead
+unfolding grant machine behind
+is_dead_inside = (refl, inl (refl, refl))
+
+is_live_inside : MayReply at_start 0 (call.Look 0) reply.Dead → ⊥
+unfolding grant machine behind at_start
+is_live_inside may = neither (λ x. let dead = x.1 in absurd (cc)) (neither none none) may.1
+
+is_out_of_it : MayReply (behind (call.Kill 3 ∷ [])) 0 call.Flush reply.Dead → ⊥
+unfolding grant machine behind
+is_out_of_it may = neither (λ x. let asks = x.0 in absurd (cc)) none may.1
 
 -- A gate, called so many times.
 deep_in : ℕ → List Call

@@ -51,12 +51,12 @@ flags w = record { 0 = w }
 race : Permitted (Returns 1 ∷ Returns 0 ∷ Decides 1 (whole_copy 0 1 20) reply.Raced
     ∷ Decides 0 (whole_copy 0 1 20) done ∷ Enters 1 (whole_copy 0 1 20) ∷ Enters 0 (whole_copy 0 1 20) ∷ [])
 unfolding two_cores
-race = ((tt, (refl, refl)), (refl, tt))
+race = ((tt, (refl, (refl, refl))), (refl, tt))
 
 -- One after the other, the second finds the place occupied.
 in_turn : Permitted (whole 1 (whole_copy 0 1 20) reply.Occupied (whole 0 (whole_copy 0 1 20) done []))
 unfolding two_cores
-in_turn = ((tt, (refl, refl)), (refl, inr (inr (inl refl))))
+in_turn = ((tt, (refl, (refl, refl))), (refl, inr (inr (inl refl))))
 
 -- A removed place is filled again only when the core that was in a call at its removal has returned.
 removal_waits : Permitted (
@@ -70,12 +70,12 @@ unfolding two_cores
 removal_waits = (
   (
     (
-      ((tt, (refl, refl)), (refl, refl)),
+      ((tt, (refl, (refl, refl))), (refl, (refl, refl))),
       (refl, inr (inr (inl (record { is_core = omega arith; other = λ e. omega (arith, e); is_inside = refl; not_passed = refl })))),
     ),
-    (refl, refl),
+    (refl, (refl, refl)),
   ),
-  (refl, refl),
+  (refl, (refl, refl)),
 )
 
 -- A core that entered after the removal may be told to be waited for, too.
@@ -89,12 +89,12 @@ unfolding two_cores
 removal_may_wait = (
   (
     (
-      ((tt, (refl, refl)), (refl, refl)),
+      ((tt, (refl, (refl, refl))), (refl, (refl, refl))),
       (refl, inr (inr (inl (record { is_core = omega arith; other = λ e. omega (arith, e); is_inside = refl; not_passed = refl })))),
     ),
-    (refl, refl),
+    (refl, (refl, refl)),
   ),
-  (refl, refl),
+  (refl, (refl, refl)),
 )
 
 -- A call that had looked a capability up before it was removed still copies it.
@@ -105,7 +105,7 @@ still_copies : Permitted (
     Enters 1 (whole_copy 20 1 21)
     ∷ whole 0 (whole_copy 0 1 20) done [])))
 unfolding two_cores
-still_copies = ((((tt, (refl, refl)), (refl, refl)), (refl, refl)), (refl, refl))
+still_copies = ((((tt, (refl, (refl, refl))), (refl, (refl, refl))), (refl, (refl, refl))), (refl, (refl, refl)))
 
 -- Core 0's page table with one leaf, and a user frame.
 abbrev with_pages : List Event
@@ -122,7 +122,7 @@ pinned : Permitted (
     ∷ with_pages)))
 unfolding two_cores sum_below node_refs refs holds_nothing
 pinned = (
-  ((((((tt, (refl, refl)), (refl, refl)), (refl, refl)), (refl, refl)), (refl, tt)), (refl, refl)),
+  ((((((tt, (refl, (refl, refl))), (refl, (refl, refl))), (refl, (refl, refl))), (refl, (refl, refl))), (refl, tt)), (refl, (refl, refl))),
   (refl, inr (inr (inr (inl (refl, refl))))),
 )
 
@@ -133,7 +133,10 @@ marked : Permitted (
     Enters 0 (call.Retype 0 9 frame_kind.Untyped)
     ∷ with_pages))
 unfolding two_cores sum_below node_refs refs holds_nothing
-marked = ((((((tt, (refl, refl)), (refl, refl)), (refl, refl)), (refl, refl)), (refl, tt)), (refl, refl))
+marked = (
+  (((((tt, (refl, (refl, refl))), (refl, (refl, refl))), (refl, (refl, refl))), (refl, (refl, refl))), (refl, tt)),
+  (refl, (refl, refl)),
+)
 
 -- A frame that one core has mapped and the other unmapped is retyped when both have flushed.
 flushed_by_both : Permitted (
@@ -146,8 +149,14 @@ flushed_by_both : Permitted (
 unfolding two_cores sum_below node_refs refs holds_nothing
 flushed_by_both = (
   (
-    (((((((tt, (refl, refl)), (refl, refl)), (refl, refl)), (refl, refl)), (refl, refl)), (refl, refl)), (refl, refl)),
-    (refl, refl),
+    (
+      (
+        (((((tt, (refl, (refl, refl))), (refl, (refl, refl))), (refl, (refl, refl))), (refl, (refl, refl))), (refl, (refl, refl))),
+        (refl, (refl, refl)),
+      ),
+      (refl, (refl, refl)),
+    ),
+    (refl, (refl, refl)),
   ),
-  (refl, refl),
+  (refl, (refl, refl)),
 )

@@ -42,7 +42,7 @@ same_call j k h = cc
 -- `raced` though only a `look` came between: core 0 loads liveness number 5, core 1's `look` stores 7 there, and core 0 loads it again.
 
 looked : Trace
-looked = enters 1 (call.Look 0) ∷ makes 0 (LoadOf (LiveAt 5)) 0 ∷ enters 0 (whole_copy 0 1 20) ∷ []
+looked = enters 1 (call.Look 0) ∷ makes 0 (LoadOf (LiveAt 5)) 0 ∷ enters 0 (call.Tick 5) ∷ []
 
 raced : Trace
 raced = decides 0 (LoadOf (LiveAt 5)) 7 reply.Raced ∷ makes 1 (StoreOf (LiveAt 5) 7) 0 ∷ looked
@@ -54,12 +54,12 @@ no_look_stores keeps =
     let step = keeps.0.1 in
     false≢true (subst (λ k. IsTrue (changes_numbers k)) (sym (same_call (call.Look 0) step.call step.is_of)) step.moves)
 
--- and a copy does not even load one.
-no_copy_loads : KeepsDiscipline two_cores raced → ⊥
+-- and a tick, which asks of no component that it lives, does not even load one.
+no_tick_loads : KeepsDiscipline two_cores raced → ⊥
 unfolding looked raced
-no_copy_loads keeps =
+no_tick_loads keeps =
     let step = keeps.1 in
-    false≢true (subst (λ k. IsTrue (looks_at_numbers k)) (sym (same_call (whole_copy 0 1 20) step.call step.is_of)) step.moves)
+    false≢true (subst (λ k. IsTrue (looks_at_numbers k)) (sym (same_call (call.Tick 5) step.call step.is_of)) step.moves)
 
 -- `busy 1` though core 1 touched nothing: core 0 stores the mark of core 1 in place 20 while core 1 is in a `look`, and loads it.
 

@@ -112,7 +112,7 @@ removed_legal = (
     (((tt, may_follow refl refl (refl, tt) tt tt), may_follow refl refl tt tt tt), may_follow refl refl tt tt tt),
     may_follow refl refl tt tt tt,
   ),
-  may_follow refl refl tt (carried_out {k = call.Remove 1 13} refl (refl, refl) refl) tt,
+  may_follow refl refl tt (carried_out {k = call.Remove 1 13} refl (refl, (refl, refl)) refl) tt,
 )
 
 filled_legal : IsLegal two_cores filled
@@ -131,7 +131,7 @@ filled_legal = (
     ),
     may_follow refl refl tt tt tt,
   ),
-  may_follow refl refl tt (carried_out {k = whole_copy 0 1 13} refl (refl, refl) refl) tt,
+  may_follow refl refl tt (carried_out {k = whole_copy 0 1 13} refl (refl, (refl, refl)) refl) tt,
 )
 
 again_legal : IsLegal two_cores fills_again
@@ -158,13 +158,13 @@ between_legal = (
             ((tt, may_follow refl refl (refl, tt) tt tt), may_follow refl refl (refl, tt) tt tt),
             may_follow refl refl tt tt tt,
           ),
-          may_follow refl refl tt (carried_out {k = call.Look 0} refl (refl, refl) refl) tt,
+          may_follow refl refl tt (carried_out {k = call.Look 0} refl (refl, (refl, refl)) refl) tt,
         ),
         may_follow refl refl tt tt (record { call = call.Look 0; was_decided = refl }),
       ),
       may_follow refl refl tt tt tt,
     ),
-    may_follow refl refl tt (carried_out {k = call.Look 0} refl (refl, refl) refl) tt,
+    may_follow refl refl tt (carried_out {k = call.Look 0} refl (refl, (refl, refl)) refl) tt,
   ),
   may_follow refl refl tt tt (record { call = call.Look 0; was_decided = refl }),
 )
@@ -210,9 +210,9 @@ unfolding two_cores range_word mark_word named half_named marked_beside name_rem
     again_waits word_of_entry entry_of_word word_of_core
 justification_refuses = record {
   ok_off_the_way = unjustified 0 (CompareOf (EntryAt 1 20) 0 range_word) (whole_copy 0 1 20) done half_named
-      (half_legal, may_follow refl refl tt tt tt) refl refl refl (refl, refl) ok_off;
+      (half_legal, may_follow refl refl tt tt tt) refl refl refl (refl, (refl, refl)) ok_off;
   ok_off_its_target = unjustified 0 (LoadOf (EntryAt 0 0)) (whole_copy 0 1 20) done named
-      (named_legal, may_follow refl refl tt tt tt) refl refl refl (refl, refl) ok_off_target;
+      (named_legal, may_follow refl refl tt tt tt) refl refl refl (refl, (refl, refl)) ok_off_target;
   busy_beside_the_way = unjustified 0 (LoadOf (EntryAt 1 21)) (whole_copy 0 1 20) (reply.Busy 1) marked_beside
       (beside_legal, may_follow refl refl tt tt tt) refl refl refl (refl, tt) (λ held. false≢true (held.on_way refl));
   raced_for_a_name = unjustified 0 (LoadOf (EntryAt 1 0)) (whole_copy 0 1 20) reply.Raced name_removed

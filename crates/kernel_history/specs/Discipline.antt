@@ -11,6 +11,7 @@ use Rattle.spk_nums.specs.declared.calls.Call.TheVariants.{Ret, Switch, Tick, Tr
 use Rattle.word_map.specs.Word.{Word, EntryAt, FrameAt, CountAt, CoreAt, FlushAt, LiveAt, ClockAt}
 use Rattle.word_map.specs.Moves.{Move, LoadOf, CompareOf, StoreOf, AddOf, word_of, left_of}
 use Rattle.kernel_rules.specs.State.{Object, Blank, Table, Leaf, Pages, Pleaf, Comp, Thread, Tcap, Frame, Untyped, User, Kernel, State}
+use Rattle.kernel_rules.specs.Life.{asks_life}
 use Rattle.kernel_history.specs.Bounds.{call_in}
 use Rattle.kernel_history.specs.Trace.{Step, Trace, phase, after_enter, state_after}
 use Rattle.kernel_history.specs.Marking.{marked_by}
@@ -74,7 +75,8 @@ abbrev pub looks_at_frames : Call → Bool
 looks_at_frames (Map p v r f w) = true
 looks_at_frames call = changes_frames call
 
--- The word of a liveness number is changed by the calls that end or begin its life, and looked at by these and by `call` alone.
+-- The word of a liveness number is changed by the calls that end or begin its life, and looked at by the calls that ask whether a
+-- component lives: every one but `ret`, `flush` and `tick`.
 abbrev pub makes_component : Make → Bool
 makes_component (make_comp table pages live) = true
 makes_component _ = false
@@ -85,8 +87,7 @@ changes_numbers (Kill k) = true
 changes_numbers _ = false
 
 abbrev pub looks_at_numbers : Call → Bool
-looks_at_numbers (call_gate g) = true
-looks_at_numbers call = changes_numbers call
+looks_at_numbers call = asks_life call
 
 -- The counts of references are stepped on by the calls that take or release one,
 abbrev pub counts_references : Call → Bool

@@ -51,8 +51,10 @@ pub record DisciplineRefuses : Type 0 where
   -- a copy that looks at what a frame is, and a map that changes it
   pub copy_looks_at_a_frame : BreaksDiscipline (one_step (whole_copy 0 1 20) (LoadOf (FrameAt 1)))
   pub map_changes_a_frame : BreaksDiscipline (one_step (call.Map 2 0 0 8 no_flags) (StoreOf (FrameAt 8) 1))
-  -- a copy that looks at a liveness number; a call through a gate, and a make of a leaf, that change one
-  pub copy_looks_at_a_number : BreaksDiscipline (one_step (whole_copy 0 1 20) (LoadOf (LiveAt 0)))
+  -- a tick, a return and a flush that look at a liveness number; a call through a gate, and a make of a leaf, that change one
+  pub tick_looks_at_a_number : BreaksDiscipline (one_step (call.Tick 1) (LoadOf (LiveAt 0)))
+  pub return_looks_at_a_number : BreaksDiscipline (one_step call.Ret (LoadOf (LiveAt 0)))
+  pub flush_looks_at_a_number : BreaksDiscipline (one_step call.Flush (LoadOf (LiveAt 0)))
   pub gate_changes_a_number : BreaksDiscipline (one_step (call.Call 0) (StoreOf (LiveAt 0) 0))
   pub leaf_changes_a_number : BreaksDiscipline (one_step (call.Make make.Leaf 0 8 1 20) (StoreOf (LiveAt 0) 0))
   -- a look that reads a count, and a tick that changes one
@@ -95,11 +97,14 @@ pub record FootprintsRefuse : Type 0 where
   pub copy_changes_a_far_count : BreaksFootprint (one_step (whole_copy 0 1 20) (StoreOf (CountAt 9 0) 0))
   pub kill_reads_a_far_number : BreaksFootprint (one_step (call.Kill 3) (LoadOf (LiveAt 5)))
 
--- A look of five steps is within its bound, and one more breaks it.
+-- A look of seven steps is within its bound, and one more breaks it.
+abbrev pub looks_six : Trace
+looks_six = loads 0 1 0 (loads 0 0 0 (loads 0 1 0 (loads 0 0 0 (loads 0 1 0 (loads 0 0 0 (enters 0 (call.Look 0) []))))))
+
 pub record BoundsRefuse : Type 0 where
-  pub within : KeepsBounds 2 (loads 0 1 0 (loads 0 0 0 (loads 0 1 0 (loads 0 0 0 (enters 0 (call.Look 0) [])))))
-  pub legal : IsLegal two_cores (loads 0 0 0 (loads 0 1 0 (loads 0 0 0 (loads 0 1 0 (loads 0 0 0 (enters 0 (call.Look 0) []))))))
-  pub refused : KeepsBounds 2 (loads 0 0 0 (loads 0 1 0 (loads 0 0 0 (loads 0 1 0 (loads 0 0 0 (enters 0 (call.Look 0) [])))))) → ⊥
+  pub within : KeepsBounds 2 looks_six
+  pub legal : IsLegal two_cores (loads 0 0 0 looks_six)
+  pub refused : KeepsBounds 2 (loads 0 0 0 looks_six) → ⊥
 
 -- The step at which core c decides.
 abbrev pub deciding : ℕ → Move → Reply → Trace → Step

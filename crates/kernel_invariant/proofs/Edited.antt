@@ -32,7 +32,8 @@ use Rattle.kernel_rules.specs.Rules.{Change, fills, removes, answers, Cause, Whe
 use Rattle.kernel_rules.specs.Rules.{first_cause, refusal_of, waits_of, flushes_of, Judged, Refused, IsFoundAnd}
 use Rattle.kernel_rules.specs.CapabilityCalls.{outside, not_blank, makes, make_node, make_rule, not_taken, is_live, epoch_of}
 use Rattle.kernel_rules.specs.MemoryCalls.{is_untyped_now, is_empty, not_retyped, retype_rule, touch_by, translation_of, translated}
-use Rattle.kernel_rules.specs.InvocationCalls.{is_live_in, not_live, switch_to}
+use Rattle.kernel_rules.specs.Life.{is_live_in}
+use Rattle.kernel_rules.specs.InvocationCalls.{not_live, switch_to}
 use Rattle.kernel_rules.specs.TimeCalls.{tcap_at, with_tcap, with_budget, merged_list, are_same, is_short, are_unlike, are_many, moved}
 use Rattle.kernel_rules.specs.GracePeriods.{begun}
 use Rattle.kernel_rules.specs.CallRelation.{rule_of, change_of, changed, MayReply, ends_by, flushes_by}
@@ -510,7 +511,7 @@ module _ (s : State) (c : ℕ) where
       → Q (changed s (change_of s c call))
   after_ok call v Q may by = found_after (change_of s c call)
       (found_by call (λ change. Q (begun s change.begins change.next))
-      (λ change e. subst (λ (k : Change). Q (begun s k.begins k.next)) (sym e.is) (by change e))) may.1
+      (λ change e. subst (λ (k : Change). Q (begun s k.begins k.next)) (sym e.is) (by change e))) may.1.1
     where
       found_after : (x : Judged Change) → IfFound x (λ change. Q (begun s change.begins change.next))
           → IsFoundAnd x (λ k. k.value ≡ v) → Q (changed s x)

@@ -39,5 +39,5 @@ pub ends_by_rule : (s : State) (o : ℕ → Bool) (d : ℕ) → IsOpen s o d
     → (call : Call) (r : Reply) (x : Thing) → MayReply s d call r → ends call r x ≡ true → MayEnd s d x
 ends_by_rule s o d opens call (reply.Ok v) x may h =
     found_fact (change_of s d call) (λ k. k.value ≡ v) (found_by s d call (λ change. MayEnd s d x)
-    (λ change e. edits_end d s e.list e.calm (e.known o opens) x (sym (e.agrees.0 x) ∙ h))) may.1
+    (λ change e. edits_end d s e.list e.calm (e.known o opens) x (sym (e.agrees.0 x) ∙ h))) may.1.1
 ends_by_rule s o d opens call _ x may h = absurd (false≢true h)

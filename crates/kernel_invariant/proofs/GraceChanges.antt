@@ -53,7 +53,7 @@ owed_grace s c _ x = refl
 pub grace_is : (s : State) (c : ℕ) (call : Call) (r : Reply) → MayReply s c call r
     → (x : Thing) → (state_by s c call r).grace x ≡ grace_by s c call r x
 grace_is s c call (reply.Ok v) may x =
-    changed_grace s c call v (change_of s c call) (found_by s c call (Edits call c s) (λ change e. e)) may.1 x
+    changed_grace s c call v (change_of s c call) (found_by s c call (Edits call c s) (λ change e. e)) may.1.1 x
 grace_is s c call reply.CallsSpent may x = refl
 grace_is s c call reply.Raced may x = owed_grace s c call x
 grace_is s c call (reply.Busy d) may x = owed_grace s c call x

@@ -40,4 +40,4 @@ refs_change setting lim events run c call v may =
     (outcome_from (RefsBy (after setting events)) (after setting events) c (rule_of (after setting events) c call)
     (rule_refs (after setting events) (opened events) c (open_is setting lim events c run (ap is_open may.is_open)) call
     (open_limits setting events c call run may.is_open)))
-    may.permitted.1
+    may.permitted.1.1

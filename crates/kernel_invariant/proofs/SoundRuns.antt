@@ -143,7 +143,7 @@ changed_sound s o c v (Found change) keeps ok = keeps
 decided_sound : (s : State) (o : ℕ → Bool) (c : ℕ) (call : Call) (r : Reply) → IsOpen s o c → InLimits call → MayReply s c call r
     → IsSound (state_by s c call r) (put o c false)
 decided_sound s o c call (reply.Ok v) h lim may = counted_sound (changed s (change_of s c call)) (put o c false) c
-    (changed_sound s o c v (change_of s c call) (outcome_from (Keeps s o c) s c (rule_of s c call) (rule_keeps s o c h call lim)) may.1)
+    (changed_sound s o c v (change_of s c call) (outcome_from (Keeps s o c) s c (rule_of s c call) (rule_keeps s o c h call lim)) may.1.1)
 decided_sound s o c call reply.CallsSpent h lim may = shut s o c h.sound
 decided_sound s o c call reply.Raced h lim may =
     counted_sound (owed_by s c call) (put o c false) c (shut (owed_by s c call) o c (owed_sound s o c call h.sound))

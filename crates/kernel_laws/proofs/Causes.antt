@@ -32,10 +32,12 @@ use Rattle.kernel_rules.specs.Rules.{Lacks, HeldMay, MappedMay, WaitedMay, Unflu
 use Rattle.kernel_rules.specs.CapabilityCalls.{leaf_for, outside, has_frame, is_frame, is_blank}
 use Rattle.kernel_rules.specs.CapabilityCalls.{not_blank, make_node, make_rule, not_taken, epoch_of}
 use Rattle.kernel_rules.specs.MemoryCalls.{is_untyped, is_user, holds_nothing, is_empty, not_retyped, retype_rule, touch_by, translation_of}
-use Rattle.kernel_rules.specs.InvocationCalls.{is_live_in, switch_to}
+use Rattle.kernel_rules.specs.Life.{is_live_in, asks_life}
+use Rattle.kernel_rules.specs.InvocationCalls.{switch_to}
 use Rattle.kernel_rules.specs.TimeCalls.{are_alike, are_same, is_short}
-use Rattle.kernel_rules.specs.CallRelation.{rule_of}
+use Rattle.kernel_rules.specs.CallRelation.{rule_of, MayBeDead}
 use Rattle.kernel_laws.specs.Causes.{OneIs, used_at, as_wanted, leads_as, Name, name, names_of, fills_at, empties_at}
+use Rattle.kernel_laws.specs.Causes.{NeedsLife, IsDead}
 use Rattle.kernel_laws.specs.Causes.{LiesOutside, HeldIn, IsDeadIn, BothAre, tcap_named, tcap_of, HasLess, HasCause}
 use Rattle.kernel_laws.specs.Laws.{CausesStand}
 
@@ -382,16 +384,18 @@ module _ (s : State) (c : ℕ) where
   kill_cause : (k : ℕ) (q : Reply) → RuleMay s c (rule_of s c (Kill k)) q → HasCause s c (Kill k) q
   kill_cause k q (inl n) = name_cause s c (Kill k) q (inl n)
   kill_cause k q (inr (inl h)) = when_cause s c (Kill k) _ reply.Dead q
-      (λ t. subst (λ (x : Named). IsDeadIn s x (comp_in (s.frame x.frame)).epoch) (leads_is s c (only kind.Comp) k)
-      (dead_in (name_of (named s c k (to_use (only kind.Comp)))) (comp_in (s.frame (name_of (named s c k (to_use (only kind.Comp)))).frame)).epoch t)) h
+      (λ t. inr (subst (λ (x : Named). IsDeadIn s x (comp_in (s.frame x.frame)).epoch) (leads_is s c (only kind.Comp) k)
+      (dead_in (name_of (named s c k (to_use (only kind.Comp))))
+      (comp_in (s.frame (name_of (named s c k (to_use (only kind.Comp)))).frame)).epoch
+      t))) h
   kill_cause k q (inr (inr h)) = absurd h
 
   call_cause : (g : ℕ) (q : Reply) → RuleMay s c (rule_of s c (call_gate g)) q → HasCause s c (call_gate g) q
   call_cause g q (inl n) = name_cause s c (call_gate g) q (inl n)
   call_cause g q (inr (inl h)) = when_cause s c (call_gate g) _ reply.Deep q (λ t. leb-true 16 (length (thread_of s c).stack) t) h
   call_cause g q (inr (inr (inl h))) = when_cause s c (call_gate g) _ reply.Dead q
-      (λ t. subst (λ (x : Named). IsDeadIn s x x.arg) (leads_is s c (only kind.Gate) g)
-      (dead_in (name_of (named s c g (to_use (only kind.Gate)))) (name_of (named s c g (to_use (only kind.Gate)))).arg t)) h
+      (λ t. inr (subst (λ (x : Named). IsDeadIn s x x.arg) (leads_is s c (only kind.Gate) g)
+      (dead_in (name_of (named s c g (to_use (only kind.Gate)))) (name_of (named s c g (to_use (only kind.Gate)))).arg t))) h
   call_cause g q (inr (inr (inr h))) = absurd h
 
   ret_cause : (q : Reply) → RuleMay s c (rule_of s c Ret) q → HasCause s c Ret q
@@ -507,9 +511,24 @@ module _ (s : State) (c : ℕ) where
   rule_cause (Delegate a b m) r h = delegate_cause a b m r h
   rule_cause (Test a b) r h = test_cause a b r h
 
+  -- A call that asks for life needs it.
+  needs_life : (call : Call) → IsTrue (asks_life call) → NeedsLife call
+  needs_life Flush h = false≢true h
+  needs_life Ret h = false≢true h
+  needs_life (Tick n) h = false≢true h
+  needs_life _ h = tt
+
+  dead_cause : (call : Call) → MayBeDead s c call ⊎ RuleMay s c (rule_of s c call) reply.Dead → IsDead s c call
+  dead_cause call (inl h) = inl (record {
+    needs = needs_life call h.0;
+    dead = not_live_in (s.number (comp_of s c).number) (comp_of s c).epoch h.1;
+  })
+  dead_cause call (inr h) = rule_cause call reply.Dead h
+
 pub causes_stand : CausesStand
 causes_stand s c call (reply.Ok v) may = tt
 causes_stand s c call reply.Raced may = tt
 causes_stand s c call (reply.Busy e) may = tt
 causes_stand s c call reply.CallsSpent may = leb-true s.limits.calls (s.core c).counted may
+causes_stand s c call reply.Dead may = dead_cause s c call may.1
 causes_stand s c call r may = rule_cause s c call r may.1

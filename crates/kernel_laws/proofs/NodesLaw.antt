@@ -390,7 +390,7 @@ decided_fits : (s : State) (o : ℕ → Bool) (c : ℕ) (call : Call) (r : Reply
     → IsFitted (state_by s c call r) (put o c false)
 decided_fits s o c call (reply.Ok v) h may w = counted_fits (changed s (change_of s c call)) (put o c false) c
     (changed_fits s o c v (change_of s c call)
-    (outcome_from (λ k. IsFitted (begun s k.begins k.next) (put o c false)) s c (rule_of s c call) (rule_keeps s o c h w call)) may.1)
+    (outcome_from (λ k. IsFitted (begun s k.begins k.next) (put o c false)) s c (rule_of s c call) (rule_keeps s o c h w call)) may.1.1)
 decided_fits s o c call reply.CallsSpent h may w = shut s o c w
 decided_fits s o c call reply.Raced h may w =
     counted_fits (owed_by s c call) (put o c false) c (shut (owed_by s c call) o c (owed_fits s o c call w))

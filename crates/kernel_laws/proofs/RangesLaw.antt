@@ -101,7 +101,7 @@ decided_shape : (s : State) (o : ℕ → Bool) (c : ℕ) (call : Call) (r : Repl
     → Shaped s → Shaped (state_by s c call r)
 decided_shape s o c call (reply.Ok v) turn lim may h = found_shape s c v (change_of s c call) may.0 h
     (found_by s c call (ShapedBy s c) (shaped_by s o c turn h call lim))
-    may.1 (decided_stays s c call (reply.Ok v)).limits
+    may.1.1 (decided_stays s c call (reply.Ok v)).limits
 decided_shape s o c call reply.CallsSpent turn lim may h = h
 decided_shape s o c call reply.Raced turn lim may h = owed_shape s c call lim may.0 h
 decided_shape s o c call (reply.Busy e) turn lim may h = owed_shape s c call lim may.0 h

@@ -65,7 +65,7 @@ leaves_grow : plain_replies two_cores 0 (
 unfolding sum_below node_refs refs holds_nothing
 leaves_grow = refl
 
--- A killed component is not called again, but a thread inside it goes on until it returns.
+-- A killed component is not called again, and a thread inside it may return, and do nothing else.
 killing : plain_replies two_cores 0 (
     call.Gate 3 1 20
     ∷ call.Call 20
@@ -76,7 +76,7 @@ killing : plain_replies two_cores 0 (
     ∷ call.Ret
     ∷ call.Kill 3
     ∷ [])
-    ≡ done ∷ done ∷ done ∷ reply.Dead ∷ reply.Ok (Cap (range_of 8 24)) ∷ done ∷ reply.Bottom ∷ reply.Dead ∷ []
+    ≡ done ∷ done ∷ done ∷ reply.Dead ∷ reply.Dead ∷ done ∷ reply.Bottom ∷ reply.Dead ∷ []
 killing = refl
 
 -- Ticks are charged as far as the budget goes, and the rest is owed; a transfer moves what is there.

@@ -14,7 +14,8 @@ use Rattle.kernel_rules.specs.State.{Core, State, put, thread_in, tcap_in, threa
 use Rattle.kernel_rules.specs.Rules.{Change}
 use Rattle.kernel_rules.specs.CapabilityCalls.{epoch_of}
 use Rattle.kernel_rules.specs.MemoryCalls.{caching}
-use Rattle.kernel_rules.specs.InvocationCalls.{is_live_in, with_thread, with_stack, running}
+use Rattle.kernel_rules.specs.Life.{is_live_in}
+use Rattle.kernel_rules.specs.InvocationCalls.{with_thread, with_stack, running}
 use Rattle.kernel_rules.specs.TimeCalls.{tcap_at, with_tcap, with_budget, charge}
 use Rattle.kernel_rules.specs.Ranges.{EpochInRange, CompInRange, ThreadInRange, NumberInRange}
 use Rattle.kernel_rules.specs.Fitting.{fits}

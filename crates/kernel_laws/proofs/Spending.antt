@@ -1,7 +1,7 @@
 -- What a core has spent and owes is the sum of its decided ticks.
 use Rattle.std.proofs.Common.{◌≡◌, ◌≢◌, ◌⊎◌, inl, inr, ℕ, ◌+◌, ◌-◌, ◌≤◌, min, arith}
-use Rattle.std.proofs.Common.{refl, sym, ◌∙◌, ap, subst, true, false, ◌==◌, if◌then◌else◌, List, [], ◌∷◌}
-use Rattle.std.proofs.lemmas.Bool.{cases_eq, eq-eqb, ne_eqb}
+use Rattle.std.proofs.Common.{IsTrue, refl, sym, ◌∙◌, ap, subst, true, false, ◌==◌, if◌then◌else◌, List, [], ◌∷◌}
+use Rattle.std.proofs.lemmas.Bool.{cases_eq, eq-eqb, ne_eqb, false≢true}
 use Rattle.spk_nums.specs.declared.calls.Call.{Call}
 use Rattle.spk_nums.specs.declared.calls.Call.TheVariants.{Tick}
 use Rattle.spk_nums.specs.declared.replies.Value.{Value}
@@ -11,7 +11,8 @@ use Rattle.kernel_rules.specs.State.{Core, State, put}
 use Rattle.kernel_rules.specs.Rules.{RuleMay}
 use Rattle.kernel_rules.specs.MemoryCalls.{caching}
 use Rattle.kernel_rules.specs.TimeCalls.{tcap_at, charge}
-use Rattle.kernel_rules.specs.CallRelation.{rule_of, change_of, changed, counted, owed_by, state_by, MayReply}
+use Rattle.kernel_rules.specs.Life.{asks_life}
+use Rattle.kernel_rules.specs.CallRelation.{rule_of, change_of, changed, counted, owed_by, state_by, MayBeDead, MayReply}
 use Rattle.kernel_rules.specs.Runs.{Enters, Decides, Returns, after}
 use Rattle.kernel_rules.proofs.Within.{put_same, put_other}
 use Rattle.kernel_invariant.specs.Edits.{Edit, Switch, Cache, Flush, Charge, edited, after_edits, charged_by, charged_in, charged_all}
@@ -87,6 +88,10 @@ no_ticks : (s : State) (c : ℕ) (r : Reply) (call : Call) → RuleMay s c (rule
 no_ticks s c r (Tick n) h = absurd h
 no_ticks s c r _ h = refl
 
+no_life : (call : Call) → IsTrue (asks_life call) → ticks_of call ≡ 0
+no_life (Tick n) h = absurd (false≢true h)
+no_life _ h = refl
+
 -- The due of the cores after a decision.
 counts : (s : State) (c n : ℕ) (t : State) → Counts s c n t.core → Counts s c n (counted t c).core
 counts s c n t by = counted_due s t c n (record (t.core c) { counted = (t.core c).counted + 1 }) refl by
@@ -99,6 +104,12 @@ decided_due s c call (reply.Ok v) may =
 decided_due s c call reply.CallsSpent may = same s c
 decided_due s c call reply.Raced may = counts s c (ticks_of call) (owed_by s c call) (owed_due s c call)
 decided_due s c call (reply.Busy e) may = counts s c (ticks_of call) (owed_by s c call) (owed_due s c call)
+decided_due s c call reply.Dead may = dead_due may.1
+  where
+    -- no `tick` asks for life
+    dead_due : MayBeDead s c call ⊎ RuleMay s c (rule_of s c call) reply.Dead → Counts s c (ticks_of call) (counted s c).core
+    dead_due (inl h) = counts s c (ticks_of call) s (subst (λ n. Counts s c n s.core) (sym (no_life call h.0)) (same s c))
+    dead_due (inr h) = counts s c (ticks_of call) s (subst (λ n. Counts s c n s.core) (sym (no_ticks s c reply.Dead call h)) (same s c))
 decided_due s c call r may =
     counts s c (ticks_of call) s (subst (λ n. Counts s c n s.core) (sym (no_ticks s c r call may.1)) (same s c))
 

@@ -52,7 +52,7 @@ removed_meanwhile = whole 0 (call.Remove 1 20) done (Enters 1 copies ∷ whole 0
 -- A call that was in progress when the place was removed may still copy what it held,
 still_serves : MayReply (after two_cores removed_meanwhile) 1 copies done
 unfolding two_cores done whole removed_meanwhile
-still_serves = (refl, refl)
+still_serves = (refl, (refl, refl))
 
 -- and then holds it,
 holds_it : (after two_cores (Returns 1 ∷ Decides 1 copies done ∷ removed_meanwhile)).place 1 21 ≡ Holds range
@@ -67,7 +67,7 @@ or_empty = (refl, inl refl)
 -- Core 0 may not fill the place again while core 1 is still in that call,
 not_yet : Permits removed_meanwhile 0 (whole_copy 0 1 20) done → ⊥
 unfolding two_cores done whole removed_meanwhile
-not_yet may = may.1
+not_yet may = may.1.1
 
 -- and is told that it waits for core 1.
 waits_for_one : Permits removed_meanwhile 0 (whole_copy 0 1 20) (reply.Quiescing 1)
@@ -80,7 +80,7 @@ waits_for_one = (
 -- Once core 1 has returned, the place is free.
 free_then : Permits (Returns 1 ∷ Decides 1 copies done ∷ removed_meanwhile) 0 (whole_copy 0 1 20) done
 unfolding two_cores done range whole removed_meanwhile
-free_then = (refl, refl)
+free_then = (refl, (refl, refl))
 
 -- Core 0 fills and removes place 20, then core 1 enters a call.
 entered_later : List Event
@@ -89,7 +89,7 @@ entered_later = Enters 1 copies ∷ whole 0 (call.Remove 1 20) done (whole 0 (wh
 -- A core that entered after the removal does not keep the place from being filled,
 later_free : Permits entered_later 0 (whole_copy 0 1 20) done
 unfolding two_cores done whole entered_later
-later_free = (refl, refl)
+later_free = (refl, (refl, refl))
 
 -- but as none of its calls has returned since, the refusal is permitted too.
 later_refused : Permits entered_later 0 (whole_copy 0 1 20) (reply.Quiescing 1)
@@ -102,7 +102,7 @@ later_refused = (
 -- What was removed is gone for a call that entered later.
 gone : MayReply (after two_cores entered_later) 1 copies done → ⊥
 unfolding two_cores done whole entered_later
-gone may = may.1
+gone may = may.1.1
 
 -- Core 0 makes a component of liveness number 1, and kills it while core 1 is in a call.
 killed_meanwhile : List Event
@@ -116,12 +116,12 @@ killed_meanwhile =
 -- The number is not taken again while core 1 is still in that call,
 number_not_yet : Permits killed_meanwhile 0 (call.Make (make.Comp 1 2 1) 0 9 1 21) done → ⊥
 unfolding two_cores done whole killed_meanwhile
-number_not_yet may = may.1
+number_not_yet may = may.1.1
 
 -- and is once core 1 has returned.
 number_then : Permits (Returns 1 ∷ Decides 1 (call.Look 20) reply.Empty ∷ killed_meanwhile) 0 (call.Make (make.Comp 1 2 1) 0 9 1 21) done
 unfolding two_cores done whole killed_meanwhile
-number_then = (refl, refl)
+number_then = (refl, (refl, refl))
 
 -- A refusal stands by its own cause: a target that is held may be `occupied`, also where a name before it leads to nothing.
 own_cause : Permits (whole 0 (whole_copy 0 1 20) done []) 0 (whole_copy 63 1 20) reply.Occupied
@@ -134,7 +134,7 @@ entered_again = Enters 1 copies ∷ Returns 1 ∷ Decides 1 copies done ∷ remo
 
 again_free : Permits entered_again 0 (whole_copy 0 1 20) done
 unfolding two_cores done range whole removed_meanwhile entered_again
-again_free = (refl, refl)
+again_free = (refl, (refl, refl))
 
 again_refused : Permits entered_again 0 (whole_copy 0 1 20) (reply.Quiescing 1)
 unfolding two_cores done range whole removed_meanwhile entered_again
@@ -167,7 +167,7 @@ flushed_just_now =
 -- The frame may be retyped, for both have flushed; but core 1 may also be found not to have,
 retype_free : Permits flushed_just_now 0 (call.Retype 0 9 frame_kind.Untyped) done
 unfolding two_cores done whole flushed_just_now sum_below node_refs refs holds_nothing
-retype_free = (refl, refl)
+retype_free = (refl, (refl, refl))
 
 retype_refused : ((after two_cores flushed_just_now).grace (FrameOf 9)).flush_unknown 1 ≡ true
 unfolding two_cores done whole flushed_just_now

@@ -11,7 +11,8 @@ use Rattle.spk_nums.specs.declared.calls.Make.{Make}
 use Rattle.spk_nums.specs.declared.calls.Make.TheVariants as make
 use Rattle.spk_nums.specs.declared.calls.Call.{Call}
 use Rattle.spk_nums.specs.declared.calls.Call.TheVariants.{Look, Copy, Remove, Grow, Shrink, Retype, Make as make_call, Map, Unmap}
-use Rattle.spk_nums.specs.declared.calls.Call.TheVariants.{Touch, Gate, Kill, Call as call_gate, Ret, Switch, Transfer, Delegate, Test}
+use Rattle.spk_nums.specs.declared.calls.Call.TheVariants.{Touch, Flush, Gate, Kill, Call as call_gate, Ret, Switch, Tick, Transfer}
+use Rattle.spk_nums.specs.declared.calls.Call.TheVariants.{Delegate, Test}
 use Rattle.spk_nums.specs.declared.replies.Reply.{Reply}
 use Rattle.spk_nums.specs.declared.replies.Reply.TheVariants as reply
 use Rattle.kernel_rules.specs.State.{TcapFields, Blank, Untyped, User, Kernel, Live, Thing, PlaceOf, FrameOf}
@@ -195,10 +196,24 @@ pub record IsDeadIn (s : State) (name : Named) (epoch : ℕ) : Type 0 where
   pub found : IsTrue name.found
   pub dead : (f : ℕ) → s.number (comp_in (s.frame name.frame)).number ≢ Live epoch f
 
+abbrev pub NamesDead : State → ℕ → Call → Type 0
+NamesDead s c (Kill k) = IsDeadIn s (leads_as s c k (only kind.Comp)) (comp_in (s.frame (leads_as s c k (only kind.Comp)).frame)).epoch
+NamesDead s c (call_gate g) = IsDeadIn s (leads_as s c g (only kind.Gate)) (leads_as s c g (only kind.Gate)).arg
+NamesDead s c _ = ⊥
+
+-- Or the component in which the core works does not live, and the call is one that asks for that: neither `ret`, nor `flush` or `tick`.
+abbrev pub NeedsLife : Call → Type 0
+NeedsLife Flush = ⊥
+NeedsLife Ret = ⊥
+NeedsLife (Tick n) = ⊥
+NeedsLife _ = Unit {0}
+
+pub record IsDeadHere (s : State) (c : ℕ) (call : Call) : Type 0 where
+  pub needs : NeedsLife call
+  pub dead : (f : ℕ) → s.number (comp_of s c).number ≢ Live (comp_of s c).epoch f
+
 abbrev pub IsDead : State → ℕ → Call → Type 0
-IsDead s c (Kill k) = IsDeadIn s (leads_as s c k (only kind.Comp)) (comp_in (s.frame (leads_as s c k (only kind.Comp)).frame)).epoch
-IsDead s c (call_gate g) = IsDeadIn s (leads_as s c g (only kind.Gate)) (leads_as s c g (only kind.Gate)).arg
-IsDead s c _ = ⊥
+IsDead s c call = IsDeadHere s c call ⊎ NamesDead s c call
 
 -- `deep` and `bottom`: the current thread is in 16 components and calls, or in one and returns.
 abbrev pub IsDeep : State → ℕ → Call → Type 0

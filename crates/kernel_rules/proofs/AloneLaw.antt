@@ -1,7 +1,7 @@
 -- Who waits is in a call; so in every reached state the relation and the first reply in order agree.
-use Rattle.std.proofs.Common.{◌≡◌, inl, inr, ℕ, Bool, true, false, refl, sym, ◌∙◌, ap, subst}
+use Rattle.std.proofs.Common.{◌≡◌, inl, inr, ℕ, Bool, true, false, not, ◌||◌, refl, sym, ◌∙◌, ap, subst}
 use Rattle.std.proofs.Common.{if◌then◌else◌, IsTrue, IsFalse, List, [], ◌∷◌, Option, Some, None}
-use Rattle.std.proofs.lemmas.Bool.{cases_eq, false≢true}
+use Rattle.std.proofs.lemmas.Bool.{cases_eq, false≢true, true≢false}
 use Rattle.std.specs.List.{list_any}
 use Rattle.spk_nums.specs.Setting.{Setting}
 use Rattle.spk_nums.specs.declared.kinds.FrameKind.{FrameKind}
@@ -19,13 +19,15 @@ use Rattle.spk_nums.specs.declared.replies.Reply.TheVariants as reply
 use Rattle.kernel_rules.specs.State.{Core, Thing, FrameOf, State, put, comp_of, thread_in}
 use Rattle.kernel_rules.specs.Start.{no_grace}
 use Rattle.kernel_rules.specs.GracePeriods.{same_thing, new_grace, entered, returned}
+use Rattle.kernel_rules.specs.Life.{lives, outlives, asks_life, acts}
 use Rattle.kernel_rules.specs.Access.{Named, found}
 use Rattle.kernel_rules.specs.Rules.{Change, Judged, Refused, Found, IsFoundAnd, RuleMay}
 use Rattle.kernel_rules.specs.CapabilityCalls.{make_rule, is_place_of}
 use Rattle.kernel_rules.specs.MemoryCalls.{retype_rule, touch_by, translation_of}
 use Rattle.kernel_rules.specs.InvocationCalls.{switch_to}
-use Rattle.kernel_rules.specs.CallRelation.{rule_of, change_of, changed, counted, owed_by, state_by, are_calls_spent, MayReply}
-use Rattle.kernel_rules.specs.Alone.{reply_in, alone}
+use Rattle.kernel_rules.specs.CallRelation.{rule_of, change_of, changed, counted, owed_by, state_by, are_calls_spent}
+use Rattle.kernel_rules.specs.CallRelation.{MayBeDead, MayReply}
+use Rattle.kernel_rules.specs.Alone.{reply_in, first_reply, alone}
 use Rattle.kernel_rules.specs.Runs.{Event, Enters, Decides, Returns, after}
 use Rattle.kernel_rules.specs.Laws.{FirstPermitted}
 use Rattle.kernel_rules.proofs.Changes.{AllChanges, IfFound, outcome_all}
@@ -219,25 +221,44 @@ may_plain s c call (reply.Ok v) plain some may = absurd plain
 may_plain s c call reply.Raced plain some may = absurd plain
 may_plain s c call (reply.Busy d) plain some may = absurd plain
 may_plain s c call reply.CallsSpent plain some may = absurd plain
+may_plain s c call reply.Dead plain some may = (some, inr may)
 may_plain s c call _ plain some may = (some, may)
 
 ok_inj : (v w : Value) → reply.Ok v ≡ reply.Ok w → v ≡ w
 ok_inj v w e = cc
 
+-- A call that a core may not make asks for life, and the core's component does not live.
+not_acting : (s : State) (c : ℕ) (call : Call) → IsFalse (acts s c call) → MayBeDead s c call
+not_acting s c call dead = parts (asks_life call) (lives s c) (outlives s c) dead
+  where
+    parts : (asks here there : Bool) → (not asks || (here || there)) ≡ false → (asks ≡ true) × (here ≡ false)
+    parts false here there e = absurd (true≢false e)
+    parts true true there e = absurd (true≢false e)
+    parts true false there e = (refl, refl)
+
 permitted : (s : State) (c : ℕ) (call : Call) → IsBounded s → MayReply s c call (alone s c call)
 permitted s c call calm = tested (are_calls_spent s c) refl
   where
     found : (j : Judged Change) → change_of s c call ≡ j → IfRefused j (λ r. RuleMay s c (rule_of s c call) r × IsPlain r)
-        → IsFalse (are_calls_spent s c) → MayReply s c call (reply_in j)
-    found (Refused r) e h some = may_plain s c call r h.1 some h.0
-    found (Found change) e h some = (some, subst (λ j. IsFoundAnd j (λ k. k.value ≡ change.value)) (sym e) refl)
+        → IsFalse (are_calls_spent s c) → IsTrue (acts s c call) → MayReply s c call (reply_in j)
+    found (Refused r) e h some may = may_plain s c call r h.1 some h.0
+    found (Found change) e h some may = (some, (may, subst (λ j. IsFoundAnd j (λ k. k.value ≡ change.value)) (sym e) refl))
 
-    tested : (t : Bool) → are_calls_spent s c ≡ t → MayReply s c call (if t then reply.CallsSpent else reply_in (change_of s c call))
+    judged : (t : Bool) → acts s c call ≡ t → IsFalse (are_calls_spent s c)
+        → MayReply s c call (if t then reply_in (change_of s c call) else reply.Dead)
+    judged true may some =
+        found (change_of s c call) refl (rule_refused s c (rule_of s c call) calm (rule_plain s c call)) some may
+    judged false dead some = (some, inl (not_acting s c call dead))
+
+    tested : (t : Bool) → are_calls_spent s c ≡ t → MayReply s c call (if t then reply.CallsSpent else first_reply s c call)
     tested true e = e
-    tested false e = found (change_of s c call) refl (rule_refused s c (rule_of s c call) calm (rule_plain s c call)) e
+    tested false e = judged (acts s c call) refl e
 
 only_ok : (s : State) (c : ℕ) (call : Call) (v : Value) → MayReply s c call (reply.Ok v) → alone s c call ≡ reply.Ok v
-only_ok s c call v may = ap (λ t. if t then reply.CallsSpent else reply_in (change_of s c call)) may.0 ∙ found (change_of s c call) may.1
+only_ok s c call v may =
+    ap (λ t. if t then reply.CallsSpent else first_reply s c call) may.0
+    ∙ ap (λ t. if t then reply_in (change_of s c call) else reply.Dead) may.1.0
+    ∙ found (change_of s c call) may.1.1
   where
     found : (j : Judged Change) → IsFoundAnd j (λ k. k.value ≡ v) → reply_in j ≡ reply.Ok v
     found (Refused r) h = absurd h

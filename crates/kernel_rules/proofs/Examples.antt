@@ -1,22 +1,24 @@
 -- Worked examples, which the checker computes, of what is easily forgotten: what an invocation may be refused with where its name
--- leads to no gate, and what waits for flushes.
-use Rattle.std.proofs.Common.{◌≡◌, ◌⊎◌, inl, inr, refl, Bool, false, IsTrue}
-use Rattle.std.proofs.lemmas.Bool.{false≢true}
+-- leads to no gate, what waits for flushes, and what a core does whose component was killed.
+use Rattle.std.proofs.Common.{◌≡◌, ◌⊎◌, inl, inr, refl, ℕ, Bool, true, false, IsTrue}
+use Rattle.std.proofs.lemmas.Bool.{false≢true, true≢false}
 use Rattle.std.specs.Prelude.{List, [], ◌∷◌, None}
+use Rattle.spk_nums.specs.declared.kinds.Kind.TheVariants as kind
 use Rattle.spk_nums.specs.declared.kinds.FrameKind.TheVariants as frame_kind
 use Rattle.spk_nums.specs.declared.calls.Make.TheVariants as make
 use Rattle.spk_nums.specs.declared.calls.Call.{Call}
 use Rattle.spk_nums.specs.declared.calls.Call.TheVariants as call
-use Rattle.spk_nums.specs.declared.replies.Value.TheVariants.{Nothing}
+use Rattle.spk_nums.specs.declared.replies.Value.{Value}
+use Rattle.spk_nums.specs.declared.replies.Value.TheVariants.{Nothing, Cap, Amount}
 use Rattle.spk_nums.specs.declared.replies.Reply.{Reply}
 use Rattle.spk_nums.specs.declared.replies.Reply.TheVariants as reply
 use Rattle.kernel_rules.specs.State.{Pages, Thread, Kernel, State}
-use Rattle.kernel_rules.specs.Start.{start}
+use Rattle.kernel_rules.specs.Start.{plain_cap, start}
 use Rattle.kernel_rules.specs.References.{sum_below, node_refs, refs}
-use Rattle.kernel_rules.specs.GracePeriods.{entered}
+use Rattle.kernel_rules.specs.GracePeriods.{entered, returned}
 use Rattle.kernel_rules.specs.MemoryCalls.{holds_nothing}
-use Rattle.kernel_rules.specs.CallRelation.{MayReply}
-use Rattle.kernel_rules.specs.Alone.{plain_replies, plain_steps}
+use Rattle.kernel_rules.specs.CallRelation.{MayReply, state_by}
+use Rattle.kernel_rules.specs.Alone.{plain_reply, plain_replies, plain_steps}
 
 -- One core with 100 ticks, and 32 frames, of which 6 is the first that is untyped.
 abbrev one_core : State
@@ -42,25 +44,30 @@ neither a b c (inr (inl x)) = b x
 neither a b c (inr (inr (inl x))) = c x
 neither a b c (inr (inr (inr x))) = x
 
+-- The component lives, so `dead` is for want of another.
+neither_dead : {A B : Type 0} → (B → ⊥) → (A × (true ≡ false)) ⊎ B → ⊥
+neither_dead rule (inl x) = true≢false x.1
+neither_dead rule (inr y) = rule y
+
 -- Where nothing is held, an invocation may find that, and nothing else: neither a dead component nor a deep thread.
 nothing_to_call : Permits (call.Call 63) reply.Empty
 nothing_to_call = (refl, inl refl)
 
 nothing_is_not_dead : Permits (call.Call 63) reply.Dead → ⊥
-nothing_is_not_dead may = neither (λ n. n) (λ deep. false≢true deep.0) (λ dead. false≢true dead.0) may.1
+nothing_is_not_dead may = neither_dead (neither (λ n. n) (λ deep. false≢true deep.0) (λ dead. false≢true dead.0)) may.1
 
 nothing_is_not_wrong : Permits (call.Call 63) reply.WrongCap → ⊥
 nothing_is_not_wrong may = neither (λ n. n) (λ deep. false≢true deep.0) (λ dead. false≢true dead.0) may.1
 
 nothing_is_not_called : Permits (call.Call 63) done → ⊥
-nothing_is_not_called may = may.1
+nothing_is_not_called may = may.1.1
 
 -- A range is no gate, so it is the wrong capability, and not dead.
 range_is_wrong : Permits (call.Call 0) reply.WrongCap
 range_is_wrong = (refl, inl refl)
 
 range_is_not_dead : Permits (call.Call 0) reply.Dead → ⊥
-range_is_not_dead may = neither (λ n. n) (λ deep. false≢true deep.0) (λ dead. false≢true dead.0) may.1
+range_is_not_dead may = neither_dead (neither (λ n. n) (λ deep. false≢true deep.0) (λ dead. false≢true dead.0)) may.1
 
 range_is_not_empty : Permits (call.Call 0) reply.Empty → ⊥
 range_is_not_empty may = neither (λ held. false≢true (sym held)) (λ deep. false≢true deep.0) (λ dead. false≢true dead.0) may.1
@@ -137,3 +144,49 @@ pages_made = refl
 thread_made : (plain_steps one_core 0 makes).frame 7 ≡ Kernel (Thread (record { stack = 3 ∷ []; runs_on = None }))
 unfolding makes
 thread_made = refl
+
+-- A core that kills the component in which it works goes on to flush and to charge ticks alone: a return is at the bottom, and every other
+-- call is dead before its names are judged.
+killed : List Call
+killed =
+    call.Kill 3
+    ∷ call.Look 0
+    ∷ call.Look 63
+    ∷ call.Touch 0
+    ∷ call.Flush
+    ∷ call.Ret
+    ∷ call.Tick 5
+    ∷ []
+
+locked_out : plain_replies one_core 0 killed
+    ≡ done ∷ reply.Dead ∷ reply.Dead ∷ reply.Dead ∷ done ∷ reply.Bottom ∷ reply.Ok (Amount 5) ∷ []
+unfolding killed
+locked_out = refl
+
+-- Two cores with 100 ticks each, in one component.
+abbrev two_cores : State
+two_cores =
+    start (record {
+      cores = 2;
+      frames = 32;
+      grants = record { budget = 100; sched = 0; quality = 1 } ∷ record { budget = 100; sched = 0; quality = 1 } ∷ [];
+      calls = 4194304;
+      epochs = 65535;
+    })
+
+-- The state after core 1 has entered a call, and core 0 one that kills the component of both.
+abbrev kill_decided : State
+kill_decided = state_by (entered (entered two_cores 1) 0) 0 (call.Kill 3) done
+
+-- A call in progress when the component is killed may end, and may be refused as dead; the next one is refused.
+in_progress_may_end : MayReply kill_decided 1 (call.Look 3) (reply.Ok (Cap (plain_cap kind.Comp 3)))
+in_progress_may_end = (refl, (refl, refl))
+
+in_progress_may_be_dead : MayReply kill_decided 1 (call.Look 3) reply.Dead
+in_progress_may_be_dead = (refl, inl (refl, refl))
+
+next_is_dead : plain_reply (returned kill_decided 1) 1 (call.Look 3) ≡ reply.Dead
+next_is_dead = refl
+
+next_does_not_end : (v : Value) → MayReply (entered (returned kill_decided 1) 1) 1 (call.Look 3) (reply.Ok v) → ⊥
+next_does_not_end v may = false≢true may.1.0

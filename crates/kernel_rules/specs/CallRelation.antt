@@ -1,5 +1,5 @@
 -- The call relation: the replies that a call may be decided with, and the state that the decision leaves.
-use Rattle.std.specs.Prelude.{ℕ, ◌+◌, Bool, true, false, nat_le, IsTrue, IsFalse}
+use Rattle.std.specs.Prelude.{◌⊎◌, ℕ, ◌+◌, Bool, true, false, nat_le, IsTrue, IsFalse}
 use Rattle.std.specs.List.{list_any}
 use Rattle.spk_nums.specs.declared.calls.Call.{Call}
 use Rattle.spk_nums.specs.declared.calls.Call.TheVariants.{Look, Copy, Remove, Grow, Shrink, Retype, Make as make_call}
@@ -11,6 +11,7 @@ use Rattle.spk_nums.specs.declared.replies.Reply.{Reply}
 use Rattle.spk_nums.specs.declared.replies.Reply.TheVariants as reply
 use Rattle.kernel_rules.specs.State.{Thing, FrameOf, State, with_core}
 use Rattle.kernel_rules.specs.GracePeriods.{same_thing, begun}
+use Rattle.kernel_rules.specs.Life.{lives, asks_life, acts}
 use Rattle.kernel_rules.specs.Rules.{Change, Rule, Judged, Refused, Found, outcome, RuleMay, RuleAnswers}
 use Rattle.kernel_rules.specs.CapabilityCalls.{look_rule, copy_rule, remove_rule, grow_rule, shrink_rule, make_rule, is_place_of}
 use Rattle.kernel_rules.specs.MemoryCalls.{retype_rule, map_rule, unmap_rule, touch_rule, flush_rule}
@@ -44,20 +45,26 @@ rule_of s c (Test a b) = test_rule s a b
 abbrev pub are_calls_spent : State → ℕ → Bool
 are_calls_spent s c = nat_le s.limits.calls (s.core c).counted
 
--- A call that is carried out answers its value; `raced` and `busy` are permitted here, and justified elsewhere; any other refusal is its
--- rule's.
-abbrev pub MayAnswer : State → ℕ → Rule → Reply → Type 0
-MayAnswer s c rule (reply.Ok v) = RuleAnswers s c rule v
-MayAnswer s c rule reply.Raced = Unit {0}
-MayAnswer s c rule (reply.Busy d) = Unit {0}
-MayAnswer s c rule r = RuleMay s c rule r
+-- A call may be refused with `dead` before all else: it asks that its core may act, and the core's component does not live. A call in
+-- progress when the component is killed may end; it may also be refused so.
+abbrev pub MayBeDead : State → ℕ → Call → Type 0
+MayBeDead s c call = IsTrue (asks_life call) × IsFalse (lives s c)
+
+-- A call that is carried out is one that its core may make, and answers its value; `raced` and `busy` are permitted here, and justified
+-- elsewhere; `dead` is for want of the core's component or its rule's, and any other refusal is its rule's.
+abbrev pub MayAnswer : State → ℕ → Call → Reply → Type 0
+MayAnswer s c call (reply.Ok v) = IsTrue (acts s c call) × RuleAnswers s c (rule_of s c call) v
+MayAnswer s c call reply.Raced = Unit {0}
+MayAnswer s c call (reply.Busy d) = Unit {0}
+MayAnswer s c call reply.Dead = MayBeDead s c call ⊎ RuleMay s c (rule_of s c call) reply.Dead
+MayAnswer s c call r = RuleMay s c (rule_of s c call) r
 
 -- In state s, the call of core c may be decided with this reply: `calls-spent` exactly where its calls are spent.
 abbrev pub MayReply : State → ℕ → Call → Reply → Type 0
 MayReply s c call reply.CallsSpent = IsTrue (are_calls_spent s c)
-MayReply s c call r = IsFalse (are_calls_spent s c) × MayAnswer s c (rule_of s c call) r
+MayReply s c call r = IsFalse (are_calls_spent s c) × MayAnswer s c call r
 
--- The change of a call of core c, or its first refusal.
+-- The change of a call of core c, or its first refusal, as if the core may make the call.
 abbrev pub change_of : State → ℕ → Call → Judged Change
 change_of s c call = outcome s c (rule_of s c call)
 

@@ -1,12 +1,13 @@
 -- The calls of invocation: gates, killing, calling and returning, and switching threads.
-use Rattle.std.specs.Prelude.{ℕ, Bool, false, not, ◌&&◌, ◌==◌, nat_le, if◌then◌else◌, List, [], ◌∷◌, length, take, drop, Option, Some, None}
+use Rattle.std.specs.Prelude.{ℕ, not, ◌&&◌, ◌==◌, nat_le, if◌then◌else◌, List, [], ◌∷◌, length, take, drop, Option, Some, None}
 use Rattle.spk_nums.specs.Capability.{cap_of}
 use Rattle.spk_nums.specs.declared.kinds.Kind.TheVariants as kind
 use Rattle.spk_nums.specs.declared.replies.Value.TheVariants.{Nothing}
 use Rattle.spk_nums.specs.declared.replies.Reply.TheVariants as reply
-use Rattle.kernel_rules.specs.State.{CompFields, ThreadFields, Frame, Kernel, Thread, Liveness, Unused, Live, Dead, Core}
+use Rattle.kernel_rules.specs.State.{CompFields, ThreadFields, Frame, Kernel, Thread, Dead, Core}
 use Rattle.kernel_rules.specs.State.{NumberOf, State, with_frame, with_number, with_core, comp_in, thread_in, thread_of}
 use Rattle.kernel_rules.specs.References.{number_names}
+use Rattle.kernel_rules.specs.Life.{is_live_in}
 use Rattle.kernel_rules.specs.Access.{Named, Under, only, to_use}
 use Rattle.kernel_rules.specs.Rules.{Change, Cause, When, Rule, Name, Vacant, Does, fills, frames_of}
 
@@ -17,12 +18,6 @@ gate_rule s c t b =
     Name t (to_use (only kind.Table)) λ table.
     Vacant (Under table b) λ at.
     Does [] (fills s at (cap_of kind.Gate comp.frame (comp_in (s.frame comp.frame)).epoch))
-
--- Whether a liveness number is live in an epoch.
-abbrev pub is_live_in : Liveness → ℕ → Bool
-is_live_in Unused epoch = false
-is_live_in (Live e f) epoch = e == epoch
-is_live_in (Dead e) epoch = false
 
 -- The change of a `kill`: the component's liveness number is dead, and releases its reference to the component's frame.
 abbrev pub kills : State → CompFields → Change

@@ -3,6 +3,7 @@ pub mod Start
 pub mod References
 pub mod Access
 pub mod GracePeriods
+pub mod Life
 pub mod Rules
 pub mod CapabilityCalls
 pub mod MemoryCalls

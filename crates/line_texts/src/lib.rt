@@ -11,7 +11,7 @@ mod replies;
 
 pub use calls::push_call;
 pub use line::push_line;
-pub use numbers::push_number;
+pub use numbers::{push_number, push_one, push_pair};
 pub use replies::push_reply;
 
 #[cfg(test)]

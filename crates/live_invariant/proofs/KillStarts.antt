@@ -1,4 +1,5 @@
 -- A killing starts where its name has led to a component.
+use Rattle.count_invariant.proofs.Common.{acts, IsTrue}
 use Rattle.count_invariant.proofs.Common.{Want, to_use, ◌≡◌, ℕ, ◌<◌, map, if◌then◌else◌, List, [], ◌∷◌, Some, None, refl}
 use Rattle.count_invariant.proofs.Common.{sym, ◌∙◌, ap, subst, Capability, Setting, IsSetting, Kind, Call, Kill, Move, word_of, State}
 use Rattle.count_invariant.proofs.Common.{only, named_by, suits, Found, named, named_fit, opened, name_parts, events_of, IsLegal, Step}
@@ -41,7 +42,8 @@ module _ (setup : Setting) (setting : IsSetting setup) (cores : ℕ → Core) (t
     (kind_is : k.kind ≡ kind.Comp)
     (found : named (state_after setup t) c n (to_use (only kind.Comp)) ≡ Found k)
     (names : Carries setup t (step_to c None move (last_left setup t (word_of move)) None None) c
-    → NamesAre setup (step_to c None move (last_left setup t (word_of move)) None None ∷ t) c (cores c).own.table a.plan (k ∷ [])) where
+    → NamesAre setup (step_to c None move (last_left setup t (word_of move)) None None ∷ t) c (cores c).own.table a.plan (k ∷ []))
+    (may_act : IsTrue (acts (state_after setup t) c a.call)) where
   abbrev e : Step
   e = step_to c None move (last_left setup t (word_of move)) None None
 
@@ -53,6 +55,7 @@ module _ (setup : Setting) (setting : IsSetting setup) (cores : ℕ → Core) (t
       loads_on setup setting cores t stands c here a active move (k ∷ [])
       (Undecided (Act (kill_act (record { comp = k.frame; core = (cores c).own.core; at = LoadComp })))) looks lands (sym held_is) opens
       (λ carries. record {
+        acts = may_act;
         names = names carries;
         knows = record {
           knows = record {

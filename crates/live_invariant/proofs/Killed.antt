@@ -408,7 +408,7 @@ module _ (setup : Setting) (setting : IsSetting setup) (cores : ℕ → Core) (t
     permitted = (
       not_spent setup (cores c) t c (stands.each c here)
           (calls.room setup setting cores t stands c here a active f by (Draw life word) stage_is has),
-      subst (λ y. IsFoundAnd y (λ z. z.value ≡ value.Nothing)) (sym change) refl,
+      (has.acts, subst (λ y. IsFoundAnd y (λ z. z.value ≡ value.Nothing)) (sym change) refl),
     )
 
     draw_at : GoodTook setup cores t c (AddOf ClockAt 1) (landed a (drawn_dead life now_at))

@@ -77,6 +77,7 @@ module _ (setup : Setting) (setting : IsSetting setup) (cores : ℕ → Core) (t
       (sym (ap (λ s. holds_at s a.counts) stage_is))
       (calls.opens setup setting cores t stands c here a active f by LoadComp stage_is has)
       (λ carries. record {
+        acts = has.acts;
         names = names_on setup setting t e stands.legal c a.call is_open carries (cores c).own.table a.plan a.found has.names;
         knows = record {
           knows = record {
@@ -152,7 +153,7 @@ module _ (setup : Setting) (setting : IsSetting setup) (cores : ℕ → Core) (t
   dead_good o shown bare none =
       refuses_dead setup setting cores t stands c here a active
       (calls.opens setup setting cores t stands c here a active f by (LoadLive life) stage_is has) held_is
-      (calls.room setup setting cores t stands c here a active f by (LoadLive life) stage_is has) (LoadOf at) looking
+      (calls.room setup setting cores t stands c here a active f by (LoadLive life) stage_is has) (LoadOf at) looking has.acts
       (calls.may_be_dead setup setting cores t stands c here a active f by (LoadLive life) stage_is has (lives_so o shown bare ∙ none))
       (λ nobody. calls.by_life setup setting cores t stands c here a active f by (LoadLive life) stage_is has false
       (lives_so o shown bare ∙ none))
@@ -178,6 +179,7 @@ module _ (setup : Setting) (setting : IsSetting setup) (cores : ℕ → Core) (t
       (next_holds by 0 act (holds_counts None a.counts) ∙ sym held_is)
       (calls.opens setup setting cores t stands c here a active f by (LoadLive life) stage_is has)
       (λ carries. record {
+        acts = has.acts;
         names = names_on setup setting t e stands.legal c a.call is_open carries (cores c).own.table a.plan a.found has.names;
         knows = knows_next setup (e ∷ t) c (cores c).own.table (next_at a a.found (Undecided (next_work by 0 act))) by act (dues act)
             has.knows.knows.core
@@ -320,6 +322,7 @@ module _ (setup : Setting) (setting : IsSetting setup) (cores : ℕ → Core) (t
         ∙ sym same ∙ sym (ap (λ o. settled_by o (held_by cores) live_at left_there) bare))
         (calls.opens setup setting cores t stands c here a active f by (Close life word) stage_is has)
         (λ carries. record {
+          acts = has.acts;
           names = names_on setup setting t e stands.legal c a.call is_open carries (cores c).own.table a.plan a.found has.names;
           knows = record {
             knows = record {

@@ -39,7 +39,7 @@ may_step core (Begins call) can = record { between = can.between; limits = can.l
 may_step core GoesOn can = can
 
 -- the next step of a core that takes its turn is on a word of its machine
-word_next : (core : Core) (f : Turn) → IsCore core → CanTake f core → IsIn core.own.layout (word_of (move_of (core_in core f)))
+pub word_next : (core : Core) (f : Turn) → IsCore core → CanTake f core → IsIn core.own.layout (word_of (move_of (core_in core f)))
 word_next core (Begins call) fits can = fits.own.core
 word_next core GoesOn fits can = moves_are_words core fits can
 
@@ -121,8 +121,8 @@ module _ (m : Machine) (t : Trace) (c : ℕ) (f : Turn) (fit : IsFit m) (setting
   core_here : stepping_core m.setup t e ≡ core1
   core_here = ap (turned (enters_as f)) (sym (stands.cores c here))
 
-  made : IsMadeStep m.setup t e
-  made = record {
+  pub step_made : IsMadeStep m.setup t e
+  step_made = record {
     is_core = here;
     may = subst (λ k. MayStep (enters_as f) k) (stands.cores c here) (may_step (core_at m c) f of.can);
     found = found_here;
@@ -176,7 +176,7 @@ module _ (m : Machine) (t : Trace) (c : ℕ) (f : Turn) (fit : IsFit m) (setting
 
   pub stands_on : StandsFor (stepped m c f) (e ∷ t)
   stands_on = record {
-    made = (stands.made, made);
+    made = (stands.made, step_made);
     cores = cores_on;
     words = words_on;
     calls = calls_on;

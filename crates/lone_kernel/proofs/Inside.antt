@@ -4,7 +4,7 @@ use Rattle.spk_nums.specs.Setting.{Setting, IsSetting}
 use Rattle.boot_words.specs.kernel_history.specs.Trace.{Trace, steps_in_call}
 use Rattle.call_steps.specs.call_stages.specs.declared.stages.ActiveCall.{ActiveCall}
 use Rattle.call_steps.specs.call_stages.specs.declared.stages.Stage.{Stage}
-use Rattle.call_steps.specs.call_stages.specs.declared.stages.Stage.TheVariants.{Enter, Undecided, Decided, Leave}
+use Rattle.call_steps.specs.call_stages.specs.declared.stages.Stage.TheVariants.{Enter, Living, Undecided, Decided, Leave}
 use Rattle.call_steps.specs.call_stages.specs.Fits.{CallFits, left_at}
 use Rattle.call_steps.specs.call_stages.specs.act_states.specs.declared.own.Own.{Own}
 use Rattle.call_steps.specs.Stepping.{steps_made}
@@ -23,6 +23,7 @@ between_only (Some a) = (λ h. cc, λ h. cc)
 -- a call has steps to come at each stage
 some_left : (cores : ℕ) (a : ActiveCall) (s : Stage) → 0 < left_at cores a s
 some_left cores a Enter = omega arith
+some_left cores a (Living alive) = omega arith
 some_left cores a (Undecided work) = omega arith
 some_left cores a (Decided r drawn tail) = omega arith
 some_left cores a (Leave r stamp) = omega arith

@@ -2,6 +2,7 @@ pub mod OneStep
 pub mod Small
 pub mod Fits
 pub mod Advance
+pub mod Shown
 pub mod Runs
 pub mod Boot
 pub mod Close

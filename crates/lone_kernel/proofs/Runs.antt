@@ -67,7 +67,7 @@ pub record StaysShort (how : How) (m m' : Machine) (c : ℕ) (t : Trace) : Type 
 abbrev pub GoesShort : How → Machine → Machine → ℕ → Type 0
 GoesShort how m m' c = (t : Trace) → StandsFor m t → StaysShort how m m' c t
 
-none_yet : (how : How) (ready : Trace → ℕ → Bool) (c : ℕ) (t : Trace) → NotYet ready how c t []
+pub none_yet : (how : How) (ready : Trace → ℕ → Bool) (c : ℕ) (t : Trace) → NotYet ready how c t []
 none_yet One ready c t = refl
 none_yet Ready ready c t = tt
 none_yet Decide ready c t = All-nil (λ e. e.decides ≡ None)
@@ -155,13 +155,13 @@ is_false true un = absurd (un refl)
 is_false false un = refl
 
 -- one step of core c after others
-module _ (m m' m'' : Machine) (c : ℕ) (middle : m'.setup ≡ m.setup) (last : m''.setup ≡ m'.setup) (here : c < m'.setup.cores)
-    (step : StepsOnce m' m'' c) where
+module _ (m m' m'' : Machine) (c : ℕ) (middle : m'.setup ≡ m.setup) (last : m''.setup ≡ m'.setup)
+    (here : c < m'.setup.cores) where
   here'' : c < m''.setup.cores
   here'' = subst (λ s. c < s.cores) (sym last) here
 
-  longer : (how : How) (t steps : Trace) (e : Step) → NotYet (ready_after m.setup) how c t steps → (IsThere how m'' c → ⊥) → IsInCall m'' c
-      → AreEventsOf m' m'' c e → StandsFor m'' (e ∷ (steps ++ t)) → NotYet (ready_after m.setup) how c t (e ∷ steps)
+  pub longer : (how : How) (t steps : Trace) (e : Step) → NotYet (ready_after m.setup) how c t steps → (IsThere how m'' c → ⊥)
+      → IsInCall m'' c → AreEventsOf m' m'' c e → StandsFor m'' (e ∷ (steps ++ t)) → NotYet (ready_after m.setup) how c t (e ∷ steps)
   longer One t steps e before short inside events stands = absurd (short tt)
   longer Ready t steps e before short inside events stands = (
     before,
@@ -171,24 +171,9 @@ module _ (m m' m'' : Machine) (c : ℕ) (middle : m'.setup ≡ m.setup) (last : 
       All-cons (λ x. x.decides ≡ None) e steps (events.decides_none inside short) before
   longer Return t steps e before short inside events stands = All-cons (λ x. x.returns ≡ None) e steps (events.returns_none inside) before
 
-  -- one that does not end the item
-  pub short_more : (how : How) → (IsThere how m'' c → ⊥) → IsInCall m'' c → GoesShort how m m' c → GoesShort how m m'' c
-  short_more how short inside goes t stands =
-      let g = goes t stands in
-      let s = step (g.steps ++ t) g.stands in
-      let e = s.is.step in
-      let on : StandsFor m'' (e ∷ (g.steps ++ t)) = subst (λ u. StandsFor m'' u) s.is.adds s.stands in
-      let events = events_are m' m'' c (g.steps ++ t) e last here s.is.own g.stands on in
-      record {
-        steps = e ∷ g.steps;
-        own = All-cons (λ x. x.core ≡ c) e g.steps s.is.own g.own;
-        before = longer how t g.steps e g.before short inside events on;
-        stands = on;
-      }
-
   -- the step that ends the item
   module _ (first : c < m.setup.cores) (setting : IsSetting m.setup) where
-    ends_item : (how : How) (t steps : Trace) (e : Step) → StandsFor m t → (IsDone how m c → ⊥) → StaysOpen how m' c → IsThere how m'' c
+    pub ends_item : (how : How) (t steps : Trace) (e : Step) → StandsFor m t → (IsDone how m c → ⊥) → StaysOpen how m' c → IsThere how m'' c
         → AreOf c (e ∷ steps)
         → NotYet (ready_after m.setup) how c t steps → AreEventsOf m' m'' c e → StandsFor m'' (e ∷ (steps ++ t))
         → Stretch (ready_after m.setup) how c t (e ∷ (steps ++ t))
@@ -212,22 +197,38 @@ module _ (m m' m'' : Machine) (c : ℕ) (middle : m'.setup ≡ m.setup) (last : 
     ends_item Return t steps e before undone open_now there own none events stands =
         record { steps = steps; last = e; adds = refl; own = own; before = none; ends = events.returns_now there }
 
-  pub there_at_last : (how : How) → c < m.setup.cores → IsSetting m.setup → (IsFinished m c → ⊥) → (IsDone how m c → ⊥)
-      → StaysOpen how m' c → IsThere how m'' c
-      → GoesShort how m m' c → GoesBy how m m'' c
-  there_at_last how first setting begins undone open_now there goes t stands =
-      let g = goes t stands in
-      let s = step (g.steps ++ t) g.stands in
-      let e = s.is.step in
-      let on : StandsFor m'' (e ∷ (g.steps ++ t)) = subst (λ u. StandsFor m'' u) s.is.adds s.stands in
-      let events = events_are m' m'' c (g.steps ++ t) e last here s.is.own g.stands on in
-      record {
-        busy = busy_if m c setting first begins t stands;
-        after = e ∷ (g.steps ++ t);
-        stands = on;
-        is = ends_item first setting how t g.steps e stands undone open_now there
-            (All-cons (λ x. x.core ≡ c) e g.steps s.is.own g.own) g.before events on;
-      }
+  module _ (step : StepsOnce m' m'' c) where
+    -- one that does not end the item
+    pub short_more : (how : How) → (IsThere how m'' c → ⊥) → IsInCall m'' c → GoesShort how m m' c → GoesShort how m m'' c
+    short_more how short inside goes t stands =
+        let g = goes t stands in
+        let s = step (g.steps ++ t) g.stands in
+        let e = s.is.step in
+        let on : StandsFor m'' (e ∷ (g.steps ++ t)) = subst (λ u. StandsFor m'' u) s.is.adds s.stands in
+        let events = events_are m' m'' c (g.steps ++ t) e last here s.is.own g.stands on in
+        record {
+          steps = e ∷ g.steps;
+          own = All-cons (λ x. x.core ≡ c) e g.steps s.is.own g.own;
+          before = longer how t g.steps e g.before short inside events on;
+          stands = on;
+        }
+
+    pub there_at_last : (how : How) → c < m.setup.cores → IsSetting m.setup → (IsFinished m c → ⊥) → (IsDone how m c → ⊥)
+        → StaysOpen how m' c → IsThere how m'' c
+        → GoesShort how m m' c → GoesBy how m m'' c
+    there_at_last how first setting begins undone open_now there goes t stands =
+        let g = goes t stands in
+        let s = step (g.steps ++ t) g.stands in
+        let e = s.is.step in
+        let on : StandsFor m'' (e ∷ (g.steps ++ t)) = subst (λ u. StandsFor m'' u) s.is.adds s.stands in
+        let events = events_are m' m'' c (g.steps ++ t) e last here s.is.own g.stands on in
+        record {
+          busy = busy_if m c setting first begins t stands;
+          after = e ∷ (g.steps ++ t);
+          stands = on;
+          is = ends_item first setting how t g.steps e stands undone open_now there
+              (All-cons (λ x. x.core ≡ c) e g.steps s.is.own g.own) g.before events on;
+        }
 
 -- an item that is done makes no step
 pub done_stretch : (how : How) (m : Machine) (c : ℕ) (t : Trace) → IsSetting m.setup → c < m.setup.cores → IsDone how m c → StandsFor m t

@@ -1,5 +1,6 @@
 -- What the crates above name through this one.
 pub use Rattle.word_map
+pub use Rattle.step_views
 pub use Rattle.boot_words.specs.kernel_rules
 pub use Rattle.boot_words.specs.kernel_history
 pub use Rattle.flight_laws.specs.trace_laws
@@ -13,3 +14,4 @@ pub mod Stands
 pub mod Moves
 pub mod GivenSteps
 pub mod Inside
+pub mod Shown

@@ -28,13 +28,21 @@ ghost use Rattle.lone_kernel.specs.Stands.{StandsFor};
 ghost use Rattle.call_steps.specs.Stepping.{steps_made};
 ghost use Rattle.lone_kernel.specs.Inside.{IsBelowBound};
 ghost use Rattle.lone_kernel.specs.Moves.{MovesBy, StepsOnce, GoesBy, GoesFurther, calls_left};
+ghost use Rattle.lone_kernel.specs.Shown.{IsNextView, ShowsNext, Steps, TellsBy};
+ghost use Rattle.lone_kernel.specs.Machine.{enters_as, turn_at};
+ghost use Rattle.lone_kernel.specs.declared.seats.Turn.{Turn};
+ghost use Rattle.flight_laws.specs.core_invariant.specs.Events.{returned_in};
+ghost use Rattle.word_map.specs.Places.{IsIn};
+ghost use Rattle.word_map.specs.Moves.{op_of, word_of};
+ghost use Rattle.call_steps.specs.call_stages.specs.Cores.{move_of};
 
 use crate::seats::{Seat, Turn};
 use boot_words::boot_words;
 use call_steps::{Absorbed, CoreState};
-use spk_nums::{Call, CoreEnd, CoreNo, Decision, How, Memory, Setup, WordOp};
+use spk_nums::{Call, CoreEnd, CoreNo, Decision, How, Memory, Reply, Setup, WordOp};
 use std::alloc::{AllocError, Global};
 use std::marker::Model;
+use step_views::{StepMade, StepView, left_by, name_at, place_in};
 use word_map::{Closed, Layout};
 
 /// What a move did.
@@ -203,6 +211,74 @@ fn note(decisions: &mut Vec<Decision>, absorbed: &Absorbed, core: CoreNo, index:
             Ok(()) => {}
             Err(_) => unreachable!(),
         }
+    }
+}
+
+// The call that begins at a turn.
+fn entered(turn: &Turn) -> Option<Call>
+    ensures { result ≡ enters_as turn.now }
+{
+    match *turn {
+        Turn::Begins { call } => Some(call),
+        Turn::GoesOn => None,
+    }
+}
+
+// The next step of a core at this turn. Where a call begins at it, it is the first step of that call, by a copy of the core.
+fn op_at(seat: &Seat, turn: &Turn, layout: &Layout) -> WordOp
+    requires can { CanTake turn.now seat.now.state }
+    requires machine { layout.now ≡ seat.now.state.own.layout }
+    ensures step { result ≡ op_of layout.now (move_of (core_in seat.now.state turn.now)) }
+    ensures below { place_in result < size_of layout.now }
+    ensures word { IsIn layout.now (word_of (move_of (core_in seat.now.state turn.now))) }
+{
+    match *turn {
+        Turn::GoesOn => seat.state.next_op(layout),
+        Turn::Begins { call } => {
+            let mut state = seat.state;
+            state.begin(call);
+            state.next_op(layout)
+        }
+    }
+}
+
+// What the next step of a core at this turn is, over the words.
+fn view_at(seat: &Seat, turn: &Turn, layout: &Layout, words: &[u64]) -> StepView
+    requires can { CanTake turn.now seat.now.state }
+    requires machine { layout.now ≡ seat.now.state.own.layout }
+    requires size { length words.now ≡ size_of layout.now }
+    ensures { IsNextView layout.now seat.now turn.now words.now result }
+{
+    let op = op_at(seat, turn, layout);
+    let place = place_in(&op);
+    let found = words[place as usize];
+    StepView {
+        core: seat.state.core(),
+        enters: entered(turn),
+        op,
+        word: name_at(layout, place),
+        found,
+        left: left_by(&op, found),
+    }
+}
+
+// The reply that a step decides, as told.
+fn decided(told: &Absorbed) -> Option<Reply>
+    ensures { result ≡ decided_in told.now }
+{
+    match *told {
+        Absorbed::Decided(reply) => Some(reply),
+        _ => None,
+    }
+}
+
+// The reply with which a call returns, as told.
+fn returned(told: &Absorbed) -> Option<Reply>
+    ensures { result ≡ returned_in told.now }
+{
+    match *told {
+        Absorbed::Returned(reply) => Some(reply),
+        _ => None,
     }
 }
 
@@ -375,6 +451,45 @@ impl LoneKernel {
         self.steps_made(core)
     }
 
+    /// Shows the step that the core would make next, and makes none: None exactly where it is between calls and its list is finished. A
+    /// core between calls would begin its next one. In each trace for which the machine stands, the step is the machine's next of this
+    /// core.
+    pub fn next_step(&self, core: CoreNo) -> Option<StepView>
+        requires { core < self.now.setup.cores }
+        ensures none { (result ≡ None) ↔ IsFinished self.now core }
+        ensures shows { IfSome result (ShowsNext self.now core) }
+    {
+        let at = usize::from(core.number());
+        let seat = &self.seats[at];
+        match turn(&self.lists[at], seat) {
+            None => None,
+            Some(turn) => Some(view_at(seat, &turn, &self.layout, &self.words)),
+        }
+    }
+
+    /// Makes one step of the core, as `step` does, and tells it: None exactly where it is between calls and its list is finished, and
+    /// then nothing is done. Each trace for which the machine stood goes on by the step that is told, with the reply that is decided at
+    /// it and the one that returns with it.
+    pub fn step_told(&mut self, core: CoreNo) -> Option<StepMade>
+        requires { core < self.old.setup.cores }
+        ensures setup { self.new.setup ≡ self.old.setup }
+        ensures lists { self.new.lists ≡ self.old.lists }
+        ensures none { (result ≡ None) ↔ IsFinished self.old core }
+        ensures tells { TellsBy result self.old self.new core }
+        ensures work { IfSome result (λ made. GoesFurther self.old self.new core) }
+    {
+        let _setup = &self.setup;
+        let Some(view) = self.next_step(core) else {
+            return None;
+        };
+        let told = self.advance(core);
+        Some(StepMade {
+            view,
+            decides: decided(&told),
+            returns: returned(&told),
+        })
+    }
+
     // How many steps of its call the core has made, if it is in one.
     fn steps_made(&self, core: CoreNo) -> Option<u32>
         requires { core < self.now.setup.cores }
@@ -411,6 +526,20 @@ impl LoneKernel {
         ensures goes { StepsOnce self.old self.new core }
         ensures work { GoesFurther self.old self.new core }
     {
+        self.advance(core);
+    }
+
+    // Makes one step of a core that has a turn, and answers what the core tells of it.
+    #[inline]
+    fn advance(&mut self, core: CoreNo) -> Absorbed
+        requires here { core < self.old.setup.cores }
+        requires begins { IsFinished self.old core → ⊥ }
+        ensures setup { self.new.setup ≡ self.old.setup }
+        ensures lists { self.new.lists ≡ self.old.lists }
+        ensures goes { StepsOnce self.old self.new core }
+        ensures work { GoesFurther self.old self.new core }
+        ensures steps { (f : Turn) → turn_at self.old core ≡ Some f → Steps self.old self.new core f result }
+    {
         let at = usize::from(core.number());
         let Some(turn) = turn(&self.lists[at], &self.seats[at]) else {
             unreachable!()
@@ -418,10 +547,11 @@ impl LoneKernel {
         let absorbed = take(&mut self.seats[at], &turn, &self.layout, &mut self.words);
         let index = self.seats[at].begun as u32;
         note(&mut self.decisions, &absorbed, core, index);
+        absorbed
     }
 
-    // Whether an item that takes the core this far is done once a step is made.
-    fn is_there(&self, core: CoreNo, how: How) -> bool
+    /// Whether an item that takes the core this far is done once a step is made.
+    pub fn is_there(&self, core: CoreNo, how: How) -> bool
         requires { core < self.now.setup.cores }
         ensures { IsTrue result ↔ IsThere how self.now core }
     {
@@ -433,8 +563,8 @@ impl LoneKernel {
         }
     }
 
-    // Whether an item that takes the core this far is done before it makes a step.
-    fn is_done(&self, core: CoreNo, how: How) -> bool
+    /// Whether an item that takes the core this far is done before it makes a step.
+    pub fn is_done(&self, core: CoreNo, how: How) -> bool
         requires { core < self.now.setup.cores }
         ensures { IsTrue result ↔ IsDone how self.now core }
     {
@@ -463,8 +593,8 @@ impl LoneKernel {
         seat.state.in_call() && seat.due == self.lists[at].len() - seat.begun
     }
 
-    // Whether the core is between calls and its list is finished.
-    fn is_finished(&self, core: CoreNo) -> bool
+    /// Whether the core is between calls and its list is finished.
+    pub fn is_finished(&self, core: CoreNo) -> bool
         requires { core < self.now.setup.cores }
         ensures { IsTrue result ↔ IsFinished self.now core }
     {
@@ -480,6 +610,13 @@ impl LoneKernel {
         let at = usize::from(core.number());
         let state = &self.seats[at].state;
         state.in_call() && state.is_ready()
+    }
+
+    /// The machine's setup.
+    pub fn setup(&self) -> &Setup
+        ensures { result.now ≡ self.now.setup }
+    {
+        &self.setup
     }
 
     /// Each core's list of calls.

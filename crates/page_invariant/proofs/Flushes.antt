@@ -225,7 +225,8 @@ module _ (setup : Setting) (setting : IsSetting setup) (cores : ℕ → Core) (t
       ∙ core_same_refs s c emptied refl refl g
 
   permitted : MayReply s c a.call r
-  permitted = subst (λ x. MayReply s c x r) (sym call_is_flush) (not_spent setup (cores c) t c (stands.each c here) unspent_room, refl)
+  permitted = subst (λ x. MayReply s c x r) (sym call_is_flush)
+      (not_spent setup (cores c) t c (stands.each c here) unspent_room, (refl, refl))
 
   justified : IsJustified setup t e a.call r
   justified = subst (λ x. HasReached (e ∷ t) c (ways s c (rule_of s c x))) (sym call_is_flush)

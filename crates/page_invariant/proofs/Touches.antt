@@ -163,7 +163,7 @@ module _ (setup : Setting) (setting : IsSetting setup) (cores : ℕ → Core) (t
     answered_may : MayReply s c a.call (reply.Ok (translated item))
     answered_may = (
       not_spent setup (cores c) t c (core_is setup setting cores t stands c here a active) room,
-      subst (λ j. IsFoundAnd j (λ x. x.value ≡ translated item)) (sym answers_it) refl,
+      (has.acts, subst (λ j. IsFoundAnd j (λ x. x.value ≡ translated item)) (sym answers_it) refl),
     )
 
     answered : (i : ℕ) → GoodTook setup cores t c (LoadOf (EntryAt m.pages i)) (landed a (Answers (translated item) None Nothing))
@@ -190,7 +190,7 @@ module _ (setup : Setting) (setting : IsSetting setup) (cores : ℕ → Core) (t
         → (NobodyWaits s → outcome s c (touch_by s c m.pages m.page None) ≡ Refused reply.Fault)
         → GoodTook setup cores t c (LoadOf (EntryAt g i)) (landed a (refuse refusal.Fault))
     faults g i near may first =
-        refuses_fault setup setting cores t stands c here a active opens held_is room (LoadOf (EntryAt g i)) (looks_at g i near)
+        refuses_fault setup setting cores t stands c here a active opens held_is room (LoadOf (EntryAt g i)) (looks_at g i near) has.acts
         (subst (λ rule. RuleMay s c rule reply.Fault) (sym (rule_is None none)) may)
         (λ nobody. ap (outcome s c) (rule_is None none) ∙ first nobody)
 
@@ -246,6 +246,7 @@ module _ (setup : Setting) (setting : IsSetting setup) (cores : ℕ → Core) (t
           (Undecided (Act (touch_act (record m { look = AtLeaf k.frame m.page })))) (looks_at m.pages top root_near) lands (sym held_is)
           opens
           (λ carries. record {
+            acts = has.acts;
             names = names_on setup setting t e stands.legal c a.call is_open carries (cores c).own.table a.plan a.found has.names;
             knows = record {
               knows = knows_on e carries (AtLeaf k.frame m.page) none (record {
@@ -449,7 +450,7 @@ module _ (setup : Setting) (setting : IsSetting setup) (cores : ℕ → Core) (t
         permitted : MayReply s c a.call r
         permitted = (
           not_spent setup (cores c) t c (core_is setup setting cores t stands c here a active) room,
-          subst (λ j. IsFoundAnd j (λ x. x.value ≡ translated item)) (sym caches_it) refl,
+          (has.acts, subst (λ j. IsFoundAnd j (λ x. x.value ≡ translated item)) (sym caches_it) refl),
         )
 
         justified : IsJustified setup t e a.call r

@@ -255,7 +255,7 @@ module _ (setup : Setting) (setting : IsSetting setup) (cores : ℕ → Core) (t
         (ap (λ b. if b then old else (holds_counts None a.counts).stands at) (same_same at)))
         opens refl refl (λ x. refl) (λ x. refl) refl
         (unspent, calls.may setup setting cores t stands c here a active mark_p stage_is has r (short_may p.what less)) tt
-        (λ is_alone. refused_first s c a.call r unspent
+        (λ is_alone. refused_first s c a.call r has.acts unspent
         (calls.change_is setup setting cores t stands c here a active mark_p stage_is has ∙ short_first p.what less))
         (record {
           budgets = is.budgets;
@@ -320,6 +320,7 @@ module _ (setup : Setting) (setting : IsSetting setup) (cores : ℕ → Core) (t
         ∙ sym (ap (λ o. settled_by o (held_by cores) at was) bare))
         (calls.opens setup setting cores t stands c here a active mark_p stage_is has)
         (λ carries. record {
+          acts = has.acts;
           names = names_on setup setting t e stands.legal c a.call is_open carries (cores c).own.table a.plan a.found has.names;
           knows = record {
             knows = record {

@@ -1,4 +1,5 @@
 -- A call on two temporal capabilities begins where its names have led to them.
+use Rattle.count_invariant.proofs.Common.{acts, IsTrue}
 use Rattle.count_invariant.proofs.Common.{◌≡◌, inl, ℕ, ◌<◌, ◌==◌, map, Bool, true, false, if◌then◌else◌, List, [], ◌∷◌, Some, None, refl}
 use Rattle.count_invariant.proofs.Common.{sym, ◌∙◌, ap, subst, eqb-false, Capability, Setting, IsSetting, Kind, Call, Transfer, Delegate}
 use Rattle.count_invariant.proofs.Common.{Test, Move, word_of, State, only, named_by, Found, Refused, Does, RuleMay, named, outcome}
@@ -73,7 +74,8 @@ module _ (setup : Setting) (setting : IsSetting setup) (cores : ℕ → Core) (t
     (held_is : holds_in (Some a) ≡ holds_counts None a.counts) (no_counts : a.counts ≡ [])
     (room : (cores c).own.made < (cores c).own.limit)
     (by_plan : GoesBy (own_pages (state_after setup t) c) a.plan (rule_of (state_after setup t) c a.call))
-    (move : Move) (looks : OnlyLooks setup t c a.call move) where
+    (move : Move) (looks : OnlyLooks setup t c a.call move)
+    (may_act : IsTrue (acts (state_after setup t) c a.call)) where
   abbrev s : State
   s = state_after setup t
 
@@ -125,7 +127,7 @@ module _ (setup : Setting) (setting : IsSetting setup) (cores : ℕ → Core) (t
           left_may s c (own_pages s c) a.plan (rule_of s c a.call) (j ∷ k ∷ []) by_plan leads reply.Same
               (subst (λ x. RuleMay s c x reply.Same) (sym left) (same_may what same)),
         ) tt
-        (λ is_alone. refused_first s c a.call reply.Same unspent
+        (λ is_alone. refused_first s c a.call reply.Same may_act unspent
         (outcome_left s c (own_pages s c) a.plan (rule_of s c a.call) (j ∷ k ∷ []) by_plan leads
         ∙ ap (outcome s c) left ∙ same_first what same))
 
@@ -134,6 +136,7 @@ module _ (setup : Setting) (setting : IsSetting setup) (cores : ℕ → Core) (t
         loads_on setup setting cores t stands c here a active move (j ∷ k ∷ [])
         (Undecided (Act (share_act (sharing (cores c).own.core what j.frame k.frame)))) looks lands (sym held_is) opens
         (λ carries. record {
+          acts = may_act;
           names = names carries;
           knows = record {
             knows = record {

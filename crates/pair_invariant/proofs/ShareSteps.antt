@@ -139,6 +139,7 @@ module _ (setup : Setting) (setting : IsSetting setup) (cores : ℕ → Core) (t
       (loading f i near) lands
       (holds_same ∙ sym (calls.held_is setup setting cores t stands c here a active p stage_is has)) opens_at
       (λ carries. record {
+        acts = has.acts;
         names = names_on setup setting t e stands.legal c a.call open_now carries (cores c).own.table a.plan a.found has.names;
         knows = record {
           knows = record {

@@ -194,6 +194,7 @@ module _ (setup : Setting) (setting : IsSetting setup) (cores : ℕ → Core) (t
           ∙ unlent_value setup cores t stands node (node_keeps_none (s.frame node) in_node) index was))
           opens
           (λ carries. record {
+            acts = has.acts;
             names = names_on setup setting t e stands.legal c a.call is_open carries (cores c).own.table a.plan a.found has.names;
             knows = record {
               knows = removal_on setup setting t e stands.legal c a.call is_open carries a.call a.plan a.found node index cap

@@ -324,7 +324,7 @@ module _ (setup : Setting) (setting : IsSetting setup) (cores : ℕ → Core) (t
     permitted : MayReply s c a.call (reply.Ok Nothing)
     permitted = (
       not_spent setup (cores c) t c (stands.each c here) room,
-      subst (λ x. IsFoundAnd x (λ y. y.value ≡ Nothing)) (sym change) refl,
+      (has.acts, subst (λ x. IsFoundAnd x (λ y. y.value ≡ Nothing)) (sym change) refl),
     )
 
     -- what it makes of the counts

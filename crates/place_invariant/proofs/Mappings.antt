@@ -214,7 +214,7 @@ module _ (setup : Setting) (setting : IsSetting setup) (cores : ℕ → Core) (t
         left_may s c (own_pages s c) a.plan (rule_of s c a.call) a.found by_plan leads reply.FrameKind
             (subst (λ x. RuleMay s c x reply.FrameKind) (sym rest.rule) (inr (inr (inl (stands_so, refl))))),
       ) tt
-      (λ is_alone. refused_first s c a.call reply.FrameKind unspent (first is_alone))
+      (λ is_alone. refused_first s c a.call reply.FrameKind has.acts unspent (first is_alone))
     where
       no_user : is_user (s.frame f) ≡ false
       no_user = not_user_is (s.frame f) j (ap (λ x. x.kind) (shown_is v shown bare) ∙ kind_is) other
@@ -263,6 +263,7 @@ module _ (setup : Setting) (setting : IsSetting setup) (cores : ℕ → Core) (t
       let spot = spot_on setup setting t e stands.legal c a.call is_open carries a.plan a.found setup.cores fill.node fill.entry fill.word
       (own_read-there c e t refl (EntryAt fill.node fill.entry) (entry_apart fill.node fill.entry)) knows.spot in
       record {
+        acts = has.acts;
         names = names_on setup setting t e stands.legal c a.call is_open carries (cores c).own.table a.plan a.found has.names;
         knows = record {
           knows = record {

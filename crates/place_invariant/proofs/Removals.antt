@@ -461,8 +461,11 @@ module _ (setup : Setting) (setting : IsSetting setup) (cores : ℕ → Core) (t
     permitted : MayReply s c a.call r
     permitted = (
       not_spent setup (cores c) t c (stands.each c here) room,
-      subst (λ y. IsFoundAnd y (λ z. z.value ≡ value.Nothing))
-          (sym change) refl,
+      (
+        has.acts,
+        subst (λ y. IsFoundAnd y (λ z. z.value ≡ value.Nothing))
+            (sym change) refl,
+      ),
     )
 
     -- the core still relies on the node: where its last reference is released, the core is among those that are waited for

@@ -1,4 +1,5 @@
 -- Where an act starts, after its look-ups or its scan: it acquires its first count or makes its first step, or its frame is out of range.
+use Rattle.count_invariant.proofs.Common.{acts, IsTrue}
 use Rattle.count_invariant.proofs.Common.{◌≡◌, ℕ, pos, negsuc, ◌<◌, ◌++◌, map, length, not, true, false, List, [], ◌∷◌, Some, None, refl}
 use Rattle.count_invariant.proofs.Common.{sym, ◌∙◌, ap, arith, false≢true, Setting, IsSetting, Call, Move, word_of, RuleMay, Refused}
 use Rattle.count_invariant.proofs.Common.{rule_of, change_of, are_calls_spent, IsAlone, Step, Trace, Open, phase, state_after, last_left}
@@ -153,7 +154,8 @@ module _ (setup : Setting) (setting : IsSetting setup) (cores : ℕ → Core) (t
     (a : ActiveCall) (active : (cores c).active ≡ Some a) (opens : phase_at a.call a.stage ≡ Open a.call)
     (held_is : holds_in (Some a) ≡ holds_counts None a.counts) (no_counts : a.counts ≡ [])
     (room : (cores c).own.made < (cores c).own.limit)
-    (names : NamesAre setup t c (cores c).own.table a.plan a.found) (move : Move) (looks : OnlyLooks setup t c a.call move) where
+    (names : NamesAre setup t c (cores c).own.table a.plan a.found) (move : Move) (looks : OnlyLooks setup t c a.call move)
+    (may_act : IsTrue (acts (state_after setup t) c a.call)) where
   abbrev e : Step
   e = step_to c None move (last_left setup t (word_of move)) None None
 
@@ -171,6 +173,7 @@ module _ (setup : Setting) (setting : IsSetting setup) (cores : ℕ → Core) (t
       (next_holds (cores c).own.core 0 act (holds_counts None a.counts) ∙ start_holds act (holds_counts None a.counts) is ∙ sym held_is)
       opens
       (λ carries. record {
+        acts = may_act;
         names = names_on setup setting t e stands.legal c a.call is_open carries (cores c).own.table a.plan a.found names;
         knows = knows_next setup (e ∷ t) c (cores c).own.table (next_at a a.found stage) (cores c).own.core act (dues act)
             (stands.each c here).number (known carries)
@@ -184,7 +187,7 @@ module _ (setup : Setting) (setting : IsSetting setup) (cores : ℕ → Core) (t
       (core_is setup setting cores t stands c here a active) room in
       decides_on setup setting cores t stands c here a active move reply.OutOfRange a.found looks lands (sym held_is) opens refl refl
       (λ x. refl) (λ x. refl) refl (unspent, refused.may) tt
-      (λ is_alone. refused_first (state_after setup t) c a.call reply.OutOfRange unspent (refused.first is_alone))
+      (λ is_alone. refused_first (state_after setup t) c a.call reply.OutOfRange may_act unspent (refused.first is_alone))
 
   pub starts_good : (act : ActOf) → is_start act ≡ true → Known act → (goes_on act ≡ false → IsRefusedOutside setup t c a.call move)
       → GoodTook setup cores t c move (landed a (starts (cores c).own.core act))

@@ -11,7 +11,8 @@ use Rattle.kernel_rules.specs.State.{Core, Grace, Limits, State, with_core, put}
 use Rattle.kernel_rules.specs.GracePeriods.{begun, entered, returned, passed}
 use Rattle.kernel_rules.specs.Rules.{Change, Judged, Refused, Found, RuleMay}
 use Rattle.kernel_rules.specs.CallRelation.{rule_of, change_of, changed, counted, state_by, are_calls_spent}
-use Rattle.kernel_rules.specs.Alone.{reply_in, alone, plain_reply, plain_step}
+use Rattle.kernel_rules.specs.Life.{acts}
+use Rattle.kernel_rules.specs.Alone.{reply_in, first_reply, alone, plain_reply, plain_step}
 use Rattle.kernel_rules.specs.Runs.{Event, Enters, Decides, Returns, after, Phase, Open, Decided, Out, is_decided, phase_of, IsRun}
 use Rattle.kernel_rules.proofs.Agrees.{IsBounded, IsPlain, IfRefused, rule_refused}
 use Rattle.kernel_rules.proofs.AloneLaw.{Waits, rule_waits, rule_plain, waits_inside, first_permitted}
@@ -26,7 +27,7 @@ use Rattle.seq_lookups.specs.Carried.{IsCarriedOut}
 use Rattle.seq_lookups.specs.Ranges.{IsInRange}
 use Rattle.same_changes.specs.Same.{SameChange, SameOutcome}
 use Rattle.same_changes.proofs.Alike.{begun_same}
-use Rattle.same_changes.proofs.EveryCall.{changes_same, stays_in_range}
+use Rattle.same_changes.proofs.EveryCall.{changes_same, same_acts, stays_in_range}
 use Rattle.plain_kernel.specs.Step.{IsReached, IsStep, StepsExactly}
 
 -- ---- the steps that are no call's own
@@ -107,10 +108,11 @@ plain_refusal s c call reply.CallsSpent plain = absurd plain
 plain_refusal s c call _ plain = refl
 
 -- The state that a call made alone leaves: its change, counted.
-alone_state : (s : State) (c : ℕ) (call : Call) → IsBounded s → are_calls_spent s c ≡ false
+alone_state : (s : State) (c : ℕ) (call : Call) → IsBounded s → are_calls_spent s c ≡ false → IsTrue (acts s c call)
     → state_by s c call (alone s c call) ≡ counted (changed s (change_of s c call)) c
-alone_state s c call calm some =
-    ap (λ t. state_by s c call (if t then reply.CallsSpent else reply_in (change_of s c call))) some
+alone_state s c call calm some may =
+    ap (λ t. state_by s c call (if t then reply.CallsSpent else first_reply s c call)) some
+    ∙ ap (λ t. state_by s c call (if t then reply_in (change_of s c call) else reply.Dead)) may
     ∙ by_outcome (change_of s c call) refl (rule_refused s c (rule_of s c call) calm (rule_plain s c call))
   where
     by_outcome : (j : Judged Change) → change_of s c call ≡ j → IfRefused j (λ r. RuleMay s c (rule_of s c call) r × IsPlain r)
@@ -173,30 +175,69 @@ module _ (setting : Setting) (lim : IsSetting setting) (events : List Event) (ru
       let here = entered_here k k1 e is in
       let yes : are_calls_spent (entered (after setting events) c) c ≡ true = sym (spent ∙ spent_same k1 here) in
       let replied : reply.CallsSpent ≡ alone (entered (after setting events) c) c call = ap
-      (λ t. if t then reply.CallsSpent else reply_in (change_of (entered (after setting events) c) c call)) (sym yes) in
+      (λ t. if t then reply.CallsSpent else first_reply (entered (after setting events) c) c call) (sym yes) in
       record {
         reply = replied;
         state = subst (λ r. SameState (state_of k2) (returned (state_by (entered (after setting events) c) c call r) c)) replied
             (same_then _ _ _ left (returned_same (state_of k1) (entered (after setting events) c) c core_in here));
       }
 
-  -- Any other call is decided, counted and returned from.
-  pub made_here : (k k1 k2 k3 : Maps) (r : Reply) → Represents k (after setting events) → Represents k1 (entered (state_of k) c)
-      → false ≡ are_calls_spent (state_of k1) c
-      → (IsInRange (state_of k1) c call → IsCarriedOut (state_of k1) (change_of (state_of k1) c call) r k2)
-      → (c < (state_of k2).limits.cores → ((state_of k2).core c).counted < 4194304 → Represents k3 (returned (counted (state_of k2) c) c))
-      → Made (after setting events) c call r k3
-  made_here k k1 k2 k3 r e is some decides finishes =
+  acts_same : (k1 : Maps) → Represents k1 (entered (after setting events) c)
+      → acts (state_of k1) c call ≡ acts (entered (after setting events) c) c call
+  acts_same k1 e = same_acts setting lim (Enters c call ∷ events) runs c call opens (state_of k1) e
+
+  -- A call that its core may not make is answered so, counted and returned from.
+  pub dead_here : (k k1 k3 : Maps) → Represents k (after setting events) → Represents k1 (entered (state_of k) c)
+      → false ≡ are_calls_spent (state_of k1) c → false ≡ acts (state_of k1) c call
+      → (c < (state_of k1).limits.cores → ((state_of k1).core c).counted < 4194304 → Represents k3 (returned (counted (state_of k1) c) c))
+      → Made (after setting events) c call reply.Dead k3
+  dead_here k k1 k3 e is some dead finishes =
       let s = entered (after setting events) c in
       let here = entered_here k k1 e is in
       let no : are_calls_spent s c ≡ false = sym (some ∙ spent_same k1 here) in
+      let not_acting : acts s c call ≡ false = sym (dead ∙ acts_same k1 here) in
+      let replied : reply.Dead ≡ alone s c call =
+      ap (λ t. if t then reply_in (change_of s c call) else reply.Dead) (sym not_acting)
+      ∙ ap (λ t. if t then reply.CallsSpent else first_reply s c call) (sym no) in
+      let left : state_by s c call (alone s c call) ≡ counted s c = ap (state_by s c call) (sym replied) in
+      let decided : IsRun setting (Decides c call (alone s c call) ∷ Enters c call ∷ events) =
+      (runs, record { is_open = opens; permitted = (first_permitted setting (Enters c call ∷ events) c call).permitted }) in
+      let range = (ranges_hold setting lim (Decides c call (alone s c call) ∷ Enters c call ∷ events) decided).cores c
+      (subst (λ (l : Limits). c < l.cores) (sym (limits_stay setting (Decides c call (alone s c call) ∷ Enters c call ∷ events)))
+      below) in
+      let most : ((counted s c).core c).counted ≤ 4194304 =
+      subst (λ x. (x.core c).counted ≤ 4194304) left
+      (le_then _ _ _ range.counted (subst (λ (l : Limits). l.calls ≤ 4194304)
+      (sym (limits_stay setting (Decides c call (alone s c call) ∷ Enters c call ∷ events))) lim.most_calls)) in
+      let few : (s.core c).counted < 4194304 = one_less _ (put_here s.core c) most in
+      let core_here : c < (state_of k1).limits.cores = subst (λ (l : Limits). c < l.cores) (sym here.limits) core_in in
+      let few_here : ((state_of k1).core c).counted < 4194304 = subst (λ (k : Core). k.counted < 4194304) (sym (here.core c core_in)) few in
+      record {
+        reply = replied;
+        state = subst (λ x. SameState (state_of k3) (returned x c)) (sym left)
+            (same_then _ _ _ (finishes core_here few_here)
+            (returned_same (counted (state_of k1) c) (counted s c) c core_in (counted_same (state_of k1) s c core_in here)));
+      }
+
+  -- Any other call is decided, counted and returned from.
+  pub made_here : (k k1 k2 k3 : Maps) (r : Reply) → Represents k (after setting events) → Represents k1 (entered (state_of k) c)
+      → false ≡ are_calls_spent (state_of k1) c → true ≡ acts (state_of k1) c call
+      → (IsInRange (state_of k1) c call → IsCarriedOut (state_of k1) (change_of (state_of k1) c call) r k2)
+      → (c < (state_of k2).limits.cores → ((state_of k2).core c).counted < 4194304 → Represents k3 (returned (counted (state_of k2) c) c))
+      → Made (after setting events) c call r k3
+  made_here k k1 k2 k3 r e is some lives decides finishes =
+      let s = entered (after setting events) c in
+      let here = entered_here k k1 e is in
+      let no : are_calls_spent s c ≡ false = sym (some ∙ spent_same k1 here) in
+      let may : acts s c call ≡ true = sym (lives ∙ acts_same k1 here) in
       let j = change_of s c call in
       let done : IsCarriedOut s j r k2 = over (state_of k1) s r k2 here (change_of (state_of k1) c call) j
       (changes_same setting lim (Enters c call ∷ events) runs c call opens (state_of k1) here)
       (limits_of s j (outcome_all (Waits s) s c (rule_of s c call) (rule_waits s c call)))
       (decides (stays_in_range setting lim (Enters c call ∷ events) runs c call opens (state_of k1) here)) in
-      let replied : r ≡ alone s c call = done.reply ∙ ap (λ t. if t then reply.CallsSpent else reply_in j) (sym no) in
-      let left : state_by s c call (alone s c call) ≡ counted (changed s j) c = alone_state s c call bounded no in
+      let replied : r ≡ alone s c call = done.reply ∙ ap (λ t. if t then reply_in j else reply.Dead) (sym may)
+      ∙ ap (λ t. if t then reply.CallsSpent else first_reply s c call) (sym no) in
+      let left : state_by s c call (alone s c call) ≡ counted (changed s j) c = alone_state s c call bounded no may in
       let decided : IsRun setting (Decides c call (alone s c call) ∷ Enters c call ∷ events) =
       (runs, record { is_open = opens; permitted = (first_permitted setting (Enters c call ∷ events) c call).permitted }) in
       let range = (ranges_hold setting lim (Decides c call (alone s c call) ∷ Enters c call ∷ events) decided).cores c

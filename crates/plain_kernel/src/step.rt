@@ -3,6 +3,7 @@
 ghost use Rattle.std.specs.Prelude.{◌≡◌, ◌<◌, ◌≤◌, IsOk, IfOk};
 ghost use Rattle.spk_nums.specs.CallLimits.{InLimits};
 ghost use Rattle.kernel_rules.specs.GracePeriods.{returned};
+ghost use Rattle.kernel_rules.specs.Life.{asks_life, acts};
 ghost use Rattle.kernel_rules.specs.CallRelation.{change_of, are_calls_spent, counted};
 ghost use Rattle.seq_state.specs.Maps.{state_of};
 ghost use Rattle.seq_state.specs.Representation.{Represents};
@@ -10,6 +11,7 @@ ghost use Rattle.seq_lookups.specs.Carried.{IsCarriedOut};
 ghost use Rattle.seq_lookups.specs.Ranges.{IsInRange};
 ghost use Rattle.plain_kernel.specs.Step.{StepsExactly};
 
+use seq_lookups::may_act;
 use seq_state::{Core, SeqKernel};
 use spk_nums::{Call, CoreNo, Memory, Reply};
 use std::alloc::Global;
@@ -65,6 +67,24 @@ fn are_spent(k: &SeqKernel, core: CoreNo) -> bool
     k.calls() <= k.core(core).counted
 }
 
+/// Whether a call asks first that its core may act.
+fn asks_life(call: &Call) -> bool
+    ensures { result ≡ asks_life call.now }
+{
+    match call {
+        Call::Flush | Call::Ret | Call::Tick { .. } => false,
+        _ => true,
+    }
+}
+
+/// Whether a core may make a call: it may act, or the call does not ask for it.
+fn acts(k: &SeqKernel, core: CoreNo, call: &Call) -> bool
+    requires { core < (state_of k.now).limits.cores }
+    ensures { result ≡ acts (state_of k.now) core call.now }
+{
+    !asks_life(call) || may_act(k, core)
+}
+
 /// Counts one more call of a core.
 fn count(k: &mut SeqKernel, core: CoreNo)
     requires { core < (state_of k.old).limits.cores }
@@ -91,8 +111,9 @@ fn finish(k: &mut SeqKernel, core: CoreNo)
 }
 
 /// Makes a call of a core of the machine that is in no call, its numbers within their limits: enters it, decides it, counts it
-/// and returns. The reply is `calls-spent`, not counted, exactly where the core has made as many calls as its limit; else it is
-/// the first refusal in order, or `ok` with its value. A refused call changes nothing but the count. No memory is taken.
+/// and returns. The reply is `calls-spent`, not counted, exactly where the core has made as many calls as its limit; else `dead`,
+/// of any call but `ret`, `flush` and `tick`, where the component in which the core works does not live; else it is the first
+/// refusal in order, or `ok` with its value. A refused call changes nothing but the count. No memory is taken.
 pub fn plain_step(
     alloc: Global,
     k: &mut SeqKernel,
@@ -108,6 +129,10 @@ pub fn plain_step(
     if are_spent(k, core) {
         k.leave(core);
         return Ok(Reply::CallsSpent);
+    }
+    if !acts(k, core, call) {
+        finish(k, core);
+        return Ok(Reply::Dead);
     }
     let reply = decide(alloc, k, core, call)?;
     finish(k, core);

@@ -32,7 +32,7 @@ use Rattle.same_changes.proofs.Alike.{SameCause, SameCauses, SameRule}
 use Rattle.same_changes.proofs.TimeRules.{named_table}
 
 -- A named root is a node.
-root_named : {t s : State} {o : ℕ → Bool} {c : ℕ} → Twins t s o c → (n : ℕ) (k : Capability) → named s c n (to_use root) ≡ Found k
+pub root_named : {t s : State} {o : ℕ → Bool} {c : ℕ} → Twins t s o c → (n : ℕ) (k : Capability) → named s c n (to_use root) ≡ Found k
     → IsTrue (is_node (s.frame k.frame))
 root_named {s = s} {o = o} {c = c} w n k is =
     let good = named_good s o c n (to_use root) k w.sound w.is_open is in

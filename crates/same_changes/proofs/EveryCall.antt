@@ -13,13 +13,13 @@ use Rattle.kernel_invariant.proofs.SoundRuns.{opened, limits_stay, open_limits, 
 use Rattle.kernel_laws.proofs.NodesLaw.{nodes_hold_what_fits}
 use Rattle.kernel_laws.proofs.RangesLaw.{ranges_hold}
 use Rattle.seq_state.specs.Representation.{SameState}
-use Rattle.same_changes.specs.Same.{SameOutcome, SameChanges, StaysInRange}
+use Rattle.same_changes.specs.Same.{SameOutcome, SameChanges, SameActs, StaysInRange}
 use Rattle.same_changes.proofs.Reaching.{Twins}
 use Rattle.same_changes.proofs.InRange.{in_range}
 use Rattle.same_changes.proofs.Alike.{SameRule, outcome_same}
 use Rattle.same_changes.proofs.CapabilityRules.{look_same, copy_same, remove_same, grow_same, shrink_same, make_same}
 use Rattle.same_changes.proofs.MemoryRules.{retype_same, map_same, unmap_same, touch_same, flush_same}
-use Rattle.same_changes.proofs.TimeRules.{gate_same, kill_same, call_same, ret_same, switch_same}
+use Rattle.same_changes.proofs.TimeRules.{acts_same, gate_same, kill_same, call_same, ret_same, switch_same}
 use Rattle.same_changes.proofs.TimeRules.{tick_same, transfer_same, delegate_same, test_same}
 
 pub rule_same : {t s : State} {o : ℕ → _} {c : ℕ} → Twins t s o c → (call : Call) → InLimits call
@@ -61,6 +61,9 @@ changes_same setting is events run c call opens t same =
     let w = twins setting is events run c call opens t same in
     outcome_same w (rule_of t c call) (rule_of (after setting events) c call)
     (rule_same w call (open_limits setting events c call run opens))
+
+pub same_acts : SameActs
+same_acts setting is events run c call opens t same = acts_same (twins setting is events run c call opens t same) call
 
 pub stays_in_range : StaysInRange
 stays_in_range setting is events run c call opens t same =

@@ -32,7 +32,7 @@ use Rattle.same_changes.proofs.Reaching.{Twins, pages_node, pages_good, core_sam
 use Rattle.same_changes.proofs.Alike.{SameCauses, SameRule}
 use Rattle.same_changes.proofs.CapabilityRules.{frame_test, removes_same}
 
-named_pages : {t s : State} {o : ℕ → Bool} {c : ℕ} → Twins t s o c → (n : ℕ) (k : Capability) → named s c n (to_use (only kind.Pages)) ≡ Found k
+pub named_pages : {t s : State} {o : ℕ → Bool} {c : ℕ} → Twins t s o c → (n : ℕ) (k : Capability) → named s c n (to_use (only kind.Pages)) ≡ Found k
     → IsTrue (is_node (s.frame k.frame))
 named_pages {s = s} {o = o} {c = c} w n k is = pages_node (s.frame k.frame) (named_fit s o c n kind.Pages k w.sound w.is_open is)
 
@@ -76,7 +76,7 @@ object_empty_same w f Leaf below = nothing_same w f below
 object_empty_same w f Pages below = nothing_same w f below
 object_empty_same w f Pleaf below = nothing_same w f below
 
-empty_same : {t s : State} {o : ℕ → Bool} {c : ℕ} → Twins t s o c → (f : ℕ) (x : Frame) → f < s.limits.frames
+pub empty_same : {t s : State} {o : ℕ → Bool} {c : ℕ} → Twins t s o c → (f : ℕ) (x : Frame) → f < s.limits.frames
     → is_empty t f x ≡ is_empty s f x
 empty_same w f Untyped below = refl
 empty_same w f User below = refl

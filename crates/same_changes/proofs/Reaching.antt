@@ -128,7 +128,7 @@ comp_same {t} {s} {o} {c} w =
     ∙ ap comp_in (frame_same w kind.Comp (here s c) refl (here_fit w))
 
 -- The roots of the component that the core works in are nodes.
-own_nodes : {t s : State} {o : ℕ → Bool} {c : ℕ} → Twins t s o c
+pub own_nodes : {t s : State} {o : ℕ → Bool} {c : ℕ} → Twins t s o c
     → IsTrue (is_node (s.frame (comp_of s c).table)) × IsTrue (is_node (s.frame (comp_of s c).pages))
 own_nodes {t} {s} {o} {c} w =
     let fit = comp_fit s (s.frame (here s c)) (here_fit w) (w.sound.objects (here s c)) in
@@ -156,15 +156,15 @@ abbrev pub RootGood : State → Target → Type 0
 RootGood s (Under table n) = table.found ≡ true → IsTrue (is_node (s.frame table.frame))
 RootGood s (InRoot table i) = IsTrue (is_node (s.frame table.frame))
 
-found_part : (a b : Bool) → (a && b) ≡ true → a ≡ true
+pub found_part : (a b : Bool) → (a && b) ≡ true → a ≡ true
 found_part true b h = refl
 found_part false b h = absurd (false≢true h)
 
-number_part : (a b : Bool) → (a && b) ≡ true → b ≡ true
+pub number_part : (a b : Bool) → (a && b) ≡ true → b ≡ true
 number_part true b h = h
 number_part false b h = absurd (false≢true h)
 
-root_is : (s : State) (o : ℕ → Bool) (table : Named) (n : ℕ) → IsSound s o → RootGood s (Under table n)
+pub root_is : (s : State) (o : ℕ → Bool) (table : Named) (n : ℕ) → IsSound s o → RootGood s (Under table n)
     → (table.found && nat_le n 4095) ≡ true → IsSlot s (root_slot table.frame n)
 root_is s o table n h good on = record {
   node = node_below s o table.frame h (good (found_part table.found (nat_le n 4095) on));
@@ -210,10 +210,10 @@ or_refused None r x e = absurd (cc)
 or_refused (Some y) r x e = cc
 
 -- The target of a name has a good root.
-own_good : {t s : State} {o : ℕ → Bool} {c : ℕ} → Twins t s o c → (n : ℕ) → RootGood s (own s c n)
+pub own_good : {t s : State} {o : ℕ → Bool} {c : ℕ} → Twins t s o c → (n : ℕ) → RootGood s (own s c n)
 own_good w n = λ found. (own_nodes w).0
 
-own_same : {t s : State} {o : ℕ → Bool} {c : ℕ} → Twins t s o c → (n : ℕ) → own t c n ≡ own s c n
+pub own_same : {t s : State} {o : ℕ → Bool} {c : ℕ} → Twins t s o c → (n : ℕ) → own t c n ≡ own s c n
 own_same w n = ap (λ (k : CompFields). Under (root_at k.table) n) (comp_same w)
 
 pub named_same : {t s : State} {o : ℕ → Bool} {c : ℕ} → Twins t s o c → (n : ℕ) (wanted : Want)

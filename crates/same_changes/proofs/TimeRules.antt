@@ -1,18 +1,20 @@
 -- The calls of invocation and of time come to the same.
-use Rattle.std.proofs.Common.{◌≡◌, ℕ, ◌+◌, ◌-◌, ◌<◌, ◌==◌, Bool, true, false, not, ◌&&◌, refl, sym, ◌∙◌, ap, subst}
+use Rattle.std.proofs.Common.{◌≡◌, ℕ, ◌+◌, ◌-◌, ◌<◌, ◌==◌, Bool, true, false, not, ◌&&◌, ◌||◌, refl, sym, ◌∙◌, ap, subst}
 use Rattle.std.proofs.Common.{nat_le, nat_lt, List, [], ◌∷◌, length, take, drop, Option, Some, None, IsTrue}
 use Rattle.std.proofs.lemmas.Bool.{false≢true}
 use Rattle.spk_nums.specs.Merging.{merged}
 use Rattle.spk_nums.specs.Capability.{Capability, cap_of}
 use Rattle.spk_nums.specs.declared.kinds.Kind.{Kind}
 use Rattle.spk_nums.specs.declared.kinds.Kind.TheVariants as kind
+use Rattle.spk_nums.specs.declared.calls.Call.{Call}
 use Rattle.spk_nums.specs.declared.replies.Reply.TheVariants as reply
 use Rattle.kernel_rules.specs.State.{Frame, Kernel, Comp, CompFields, ThreadFields, TcapFields, Liveness, Dead, NumberOf, Holds, Core}
-use Rattle.kernel_rules.specs.State.{State, with_frame, with_core, with_number, with_place, comp_in, thread_in, tcap_in, thread_of}
+use Rattle.kernel_rules.specs.State.{State, with_frame, with_core, with_number, with_place, comp_of, comp_in, thread_in, tcap_in, thread_of}
 use Rattle.kernel_rules.specs.References.{number_names}
 use Rattle.kernel_rules.specs.Access.{to_use, Slot, Named, Under, found, only}
 use Rattle.kernel_rules.specs.Rules.{Change, Cause, Found, named, frames_of, fills}
-use Rattle.kernel_rules.specs.InvocationCalls.{is_live_in, with_thread, with_stack, kills, pushes, pops, running, switches}
+use Rattle.kernel_rules.specs.Life.{is_live_in, is_dead_in, asks_life, acts}
+use Rattle.kernel_rules.specs.InvocationCalls.{with_thread, with_stack, kills, pushes, pops, running, switches}
 use Rattle.kernel_rules.specs.InvocationCalls.{switch_to, gate_rule, kill_rule, call_rule, ret_rule, switch_rule}
 use Rattle.kernel_rules.specs.TimeCalls.{tcap_at, with_tcap, with_budget, with_qualities, charge, charges, moved, merged_list}
 use Rattle.kernel_rules.specs.TimeCalls.{are_alike, preemption, preempts, tick_rule, transfer_rule, delegate_rule, test_rule}
@@ -23,13 +25,13 @@ use Rattle.kernel_invariant.proofs.Facts.{named_fit}
 use Rattle.seq_state.specs.Representation.{SameState}
 use Rattle.seq_state.proofs.Same.{same_by, same_then, same_place, same_frame, same_number, same_core}
 use Rattle.same_changes.specs.Same.{SameChange}
-use Rattle.same_changes.proofs.Reaching.{Twins, is_some_kind, fit_below, frame_same, core_same}
+use Rattle.same_changes.proofs.Reaching.{Twins, is_some_kind, fit_below, frame_same, core_same, core_below, here, here_fit, comp_same}
 use Rattle.same_changes.proofs.Reaching.{thread_frame_same, thread_same, tcap_frame_same, table_node}
 use Rattle.same_changes.proofs.Alike.{SameRule}
 
 -- ---- what a name leads to
 
-named_below : {t s : State} {o : ℕ → Bool} {c : ℕ} → Twins t s o c → (n : ℕ) (j : Kind) (k : Capability) → is_some_kind j ≡ true
+pub named_below : {t s : State} {o : ℕ → Bool} {c : ℕ} → Twins t s o c → (n : ℕ) (j : Kind) (k : Capability) → is_some_kind j ≡ true
     → named s c n (to_use (only j)) ≡ Found k
     → k.frame < s.limits.frames
 named_below {s = s} {o = o} {c = c} w n j k some is = fit_below s o j k.frame w.sound some (named_fit s o c n j k w.sound w.is_open is)
@@ -49,14 +51,26 @@ number_small : (epochs : ℕ) (x : Frame) → IsTrue (fits kind.Comp x) → Fram
 number_small epochs (Kernel (Comp k)) fit range = range.number
 number_small epochs _ fit range = absurd (false≢true fit)
 
-gate_comp : (x : Frame) → IsTrue (fits kind.Gate x) → IsTrue (fits kind.Comp x)
+pub gate_comp : (x : Frame) → IsTrue (fits kind.Gate x) → IsTrue (fits kind.Comp x)
 gate_comp (Kernel (Comp k)) fit = refl
 gate_comp _ fit = absurd (false≢true fit)
 
 -- The liveness number of a component is the same.
-alive_same : {t s : State} {o : ℕ → Bool} {c : ℕ} → Twins t s o c → (f : ℕ) → IsTrue (fits kind.Comp (s.frame f))
+pub alive_same : {t s : State} {o : ℕ → Bool} {c : ℕ} → Twins t s o c → (f : ℕ) → IsTrue (fits kind.Comp (s.frame f))
     → t.number (comp_in (s.frame f)).number ≡ s.number (comp_in (s.frame f)).number
 alive_same {s = s} w f fit = w.same.number (comp_in (s.frame f)).number (number_small s.limits.epochs (s.frame f) fit (w.ranges.frames f))
+
+-- Whether a core may make a call is the same.
+pub acts_same : {t s : State} {o : ℕ → Bool} {c : ℕ} → Twins t s o c → (call : Call) → acts t c call ≡ acts s c call
+acts_same {t} {s} {o} {c} w call =
+    let k : CompFields = comp_of s c in
+    let small = number_small s.limits.epochs (s.frame (here s c)) (here_fit w) (w.ranges.frames (here s c)) in
+    ap (λ (x : CompFields). not (asks_life call) || (is_live_in (t.number x.number) x.epoch
+    || (is_dead_in (t.number x.number) x.epoch && (t.grace (NumberOf x.number)).waits c))) (comp_same w)
+    ∙ ap (λ n. not (asks_life call) || (is_live_in n k.epoch || (is_dead_in n k.epoch && (t.grace (NumberOf k.number)).waits c)))
+    (alive_same w (here s c) (here_fit w))
+    ∙ ap (λ b. not (asks_life call) || (is_live_in (s.number k.number) k.epoch || (is_dead_in (s.number k.number) k.epoch && b)))
+    ((w.same.grace (NumberOf k.number) small).waits c (core_below w))
 
 -- ---- gates and killing
 

@@ -4,6 +4,7 @@ use Rattle.spk_nums.specs.Setting.{Setting, IsSetting}
 use Rattle.spk_nums.specs.declared.calls.Call.{Call}
 use Rattle.kernel_rules.specs.State.{State}
 use Rattle.kernel_rules.specs.Rules.{Change, Judged, Refused, Found}
+use Rattle.kernel_rules.specs.Life.{acts}
 use Rattle.kernel_rules.specs.CallRelation.{change_of}
 use Rattle.kernel_rules.specs.Runs.{Event, after, Open, phase_of, IsRun}
 use Rattle.seq_state.specs.Representation.{SameState}
@@ -28,6 +29,12 @@ SameChanges = (setting : Setting) → IsSetting setting → (events : List Event
     → (c : ℕ) (call : Call) → phase_of events c ≡ Open call
     → (t : State) → SameState t (after setting events)
     → SameOutcome (change_of t c call) (change_of (after setting events) c call)
+
+-- In every such state, the core may make the call or may not in both.
+abbrev pub SameActs : Type 0
+SameActs = (setting : Setting) → IsSetting setting → (events : List Event) → IsRun setting events
+    → (c : ℕ) (call : Call) → phase_of events c ≡ Open call
+    → (t : State) → SameState t (after setting events) → acts t c call ≡ acts (after setting events) c call
 
 -- In every such state, what the call finds is in the range of the plain kernel's words.
 abbrev pub StaysInRange : Type 0

@@ -7,12 +7,18 @@
 //! See docs/PROOF.md, 'The laws of the sequential kernel': the plain kernel.
 #![tactic(auto)]
 
-ghost use Rattle.same_changes.specs.Same.{SameChanges, StaysInRange};
+ghost use Rattle.same_changes.specs.Same.{SameChanges, SameActs, StaysInRange};
 
 /// In every state that a run reaches, and in every state that is one with it for all that the machine has, an open call comes
 /// to the same: one reply, and one change.
 pub fn same_changes()
     ensures { SameChanges }
+{}
+
+/// In every such state, the core of an open call may make it or may not in both.
+#[tactic(auto, using(crate::proofs::EveryCall::same_acts))]
+pub fn same_acts()
+    ensures { SameActs }
 {}
 
 /// In every such state, what an open call finds is in the range of the plain kernel's words.

@@ -220,6 +220,7 @@ module _ (setup : Setting) (setting : IsSetting setup) (cores : ℕ → Core) (t
         loads_on setup setting cores t stands c here a active (LoadOf (CoreAt at)) a.found (Undecided (Scan q act)) looks lands
         (sym held_is) opens
         (λ carries. record {
+          acts = has.acts;
           names = names_on setup setting t e stands.legal c a.call is_open carries (cores c).own.table a.plan a.found has.names;
           knows = quiet (record {
             knows = carried 0 has.knows.knows carries;
@@ -242,7 +243,8 @@ module _ (setup : Setting) (setting : IsSetting setup) (cores : ℕ → Core) (t
     ends : page ≡ false → setup.cores ≤ next_other by at
         → GoodTook setup cores t c (LoadOf (CoreAt at)) (landed a (starts (cores c).own.core act))
     ends page_is last =
-        starts_good setup setting cores t stands c here a active opens held_is no_counts room has.names (LoadOf (CoreAt at)) looks act
+        starts_good setup setting cores t stands c here a active opens held_is no_counts room has.names (LoadOf (CoreAt at)) looks
+        has.acts act
         has.knows.starts (carried setup.cores (again setup.cores (spot_then page_is (all_before last))))
         (λ out. outside out (spot_then page_is (all_before last)))
 

@@ -264,7 +264,7 @@ module _ (setup : Setting) (setting : IsSetting setup) (cores : ℕ → Core) (t
         lands (sym held_is) opens refl refl
         (λ x. refl) (λ x. refl) refl (unspent, may)
         justified
-        (λ is_alone. refused_first s c a.call (reply.Unflushed at) unspent (refused is_alone))
+        (λ is_alone. refused_first s c a.call (reply.Unflushed at) has.acts unspent (refused is_alone))
 
   -- the core has flushed since
   module _ (flushed : HasFlushed setup t thing x at) where
@@ -326,6 +326,7 @@ module _ (setup : Setting) (setting : IsSetting setup) (cores : ℕ → Core) (t
         loads_on setup setting cores t stands c here a active load a.found
         (Undecided (Scan (AtFlush x (at + 1)) act)) looks lands (sym held_is) opens
         (λ carries. record {
+          acts = has.acts;
           names = names_on setup setting t loads stands.legal c a.call is_open carries (cores c).own.table a.plan a.found has.names;
           knows = record {
             knows = carried (at + 1) (again (at + 1) (spot_then (at + 1) (omega (arith, more)) (λ d under. below_one d under))) carries;
@@ -343,7 +344,7 @@ module _ (setup : Setting) (setting : IsSetting setup) (cores : ℕ → Core) (t
 
     -- there is none: the act starts
     ends : setup.cores ≤ at + 1 → GoodTook setup cores t c load (landed a (starts (cores c).own.core act))
-    ends last = starts_good setup setting cores t stands c here a active opens held_is no_counts room has.names load looks act
+    ends last = starts_good setup setting cores t stands c here a active opens held_is no_counts room has.names load looks has.acts act
         has.knows.starts (carried setup.cores (again setup.cores whole)) (λ out. outside out whole)
       where
         below_all : (d : ℕ) → d < setup.cores → (d < at) ⊎ (d ≡ at)

@@ -14,10 +14,12 @@ mod numerals;
 mod one_line;
 mod reading;
 
-pub use arguments::{capability_at, core_at, end_at, is_word};
+pub use arguments::{capability_at, core_at, end_at, is_word, number_at, word_at};
+pub use call_lines::call_line;
 pub use cause::{Cause, LineFault, ReadFault};
+pub use first_words::{FirstWord, Verb, first_word};
 pub use items::MOST_ITEMS;
-pub use numerals::read_number;
+pub use numerals::{is_digits, read_number};
 pub use one_line::read_call;
 pub use reading::{Draft, Script, line_length, read};
 pub use spk_nums::{How, Item};

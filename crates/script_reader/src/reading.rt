@@ -239,6 +239,13 @@ impl Draft {
         self.head.cores
     }
 
+    /// The script's version, 1 or 2; 1 where no line says so yet.
+    pub fn version(&self) -> u8
+        ensures { result ≡ (draft_view self.now).head.version }
+    {
+        self.head.version
+    }
+
     /// The script of lines that end so, of at most 20,000, or the fault with which they end.
     pub fn end(self, ending: Ending) -> Result<Script, ReadFault>
         requires draft { IsDraft (draft_view self) }

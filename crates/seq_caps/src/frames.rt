@@ -15,7 +15,7 @@ use seq_state::{Frame, Liveness, Object, Place, SeqKernel, Thing};
 use spk_nums::{Cap, CoreNo, EntryNo, FrameArg, FrameNo, Kind, Reply};
 
 /// Whether a frame is a blank kernel frame.
-fn is_blank(frame: Frame) -> bool
+pub(crate) fn is_blank(frame: Frame) -> bool
     ensures { result ≡ is_blank (frame_of frame) }
 {
     match frame {
@@ -68,7 +68,7 @@ pub(crate) fn plain_cap(kind: Kind, frame: FrameNo) -> Cap
 }
 
 /// Whether a liveness number is live.
-fn is_live(number: &Liveness) -> bool
+pub(crate) fn is_live(number: &Liveness) -> bool
     ensures { result ≡ is_live (number_of number.now) }
 {
     match number {
@@ -78,7 +78,7 @@ fn is_live(number: &Liveness) -> bool
 }
 
 /// The last epoch of a liveness number: 0 where it was never used.
-fn epoch_of(number: &Liveness) -> u16
+pub(crate) fn epoch_of(number: &Liveness) -> u16
     ensures { result ≡ epoch_of (number_of number.now) }
 {
     match number {

@@ -15,12 +15,16 @@
 //! See docs/MODEL.md, 'A call is a rule'.
 #![tactic(auto)]
 
+mod carrying;
 mod entries;
 mod frames;
 mod makes;
 mod nodes;
 mod one;
+mod own_causes;
 #[cfg(test)]
 mod tests;
 
+pub use carrying::carry_out;
 pub use one::step;
+pub use own_causes::causes;

@@ -16,12 +16,14 @@
 //! See docs/PROOF.md, 'The laws of the sequential kernel': the plain kernel.
 #![tactic(auto)]
 
+mod acting;
 mod changes;
 mod names;
 mod objects;
 mod slots;
 mod waiting;
 
+pub use acting::{is_live_in, may_act};
 pub use changes::{begin, fill, remove};
 pub use names::{Wanted, frame_in, held, mapped, named, named_for, vacant};
 pub use objects::{comp_at, comp_of, tcap_at, thread_at, thread_of};

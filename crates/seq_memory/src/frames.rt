@@ -15,7 +15,7 @@ use seq_state::{Frame, Object, Place, SeqKernel, Thing};
 use spk_nums::{Cap, CoreNo, EntryNo, FrameArg, FrameNo, Reply};
 
 /// Whether a frame is untyped.
-fn is_untyped(frame: &Frame) -> bool
+pub(crate) fn is_untyped(frame: &Frame) -> bool
     ensures { result ≡ is_untyped (frame_of frame.now) }
 {
     match frame {
@@ -25,7 +25,7 @@ fn is_untyped(frame: &Frame) -> bool
 }
 
 /// Whether a frame is a user frame.
-fn is_user(frame: &Frame) -> bool
+pub(crate) fn is_user(frame: &Frame) -> bool
     ensures { result ≡ is_user (frame_of frame.now) }
 {
     match frame {
@@ -74,7 +74,7 @@ fn is_empty_object(k: &SeqKernel, frame: FrameNo, object: &Object) -> bool
 }
 
 /// Whether a frame has no object that is not empty.
-fn is_empty(k: &SeqKernel, frame: FrameNo, value: &Frame) -> bool
+pub(crate) fn is_empty(k: &SeqKernel, frame: FrameNo, value: &Frame) -> bool
     ensures { result ≡ is_empty (state_of k.now) frame (frame_of value.now) }
 {
     match value {

@@ -15,12 +15,16 @@
 //! See docs/MODEL.md, 'A call is a rule'.
 #![tactic(auto)]
 
+mod carrying;
 mod frames;
 mod one;
+mod own_causes;
 mod pages;
 mod retyping;
 #[cfg(test)]
 mod tests;
 mod touching;
 
+pub use carrying::carry_out;
 pub use one::step;
+pub use own_causes::causes;

@@ -54,7 +54,7 @@ fn release(k: &mut SeqKernel, value: &Frame)
 
 /// Retypes a frame to untyped: its own grace period ends, and the references of its object are released. A thread in it is in
 /// at most one component.
-fn free(k: &mut SeqKernel, frame: FrameNo)
+pub(crate) fn free(k: &mut SeqKernel, frame: FrameNo)
     requires { length (thread_in ((state_of k.old).frame frame)).stack ≤ 1 }
     ensures { Represents k.new (changed (state_of k.old) (Found (retypes (state_of k.old) frame frame_kind.Untyped))) }
 {

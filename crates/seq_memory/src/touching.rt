@@ -3,11 +3,11 @@
 //! A core answers a touch from its cached translations, first of all; a walk of the page table caches what it finds, as long
 //! as the core has room.
 
-ghost use Rattle.std.specs.Prelude.{◌≡◌, ◌<◌, ◌&&◌, ◌==◌, Some, length, slice_get};
+ghost use Rattle.std.specs.Prelude.{◌≡◌, ◌<◌};
 ghost use Rattle.spk_nums.specs.declared.calls.Call.TheVariants.{Touch, Flush};
 ghost use Rattle.spk_nums.specs.declared.kinds.Kind.TheVariants as kind;
 ghost use Rattle.kernel_rules.specs.Rules.{Found};
-ghost use Rattle.kernel_rules.specs.MemoryCalls.{translation_of, caching, translated, caches};
+ghost use Rattle.kernel_rules.specs.MemoryCalls.{caching, caches};
 ghost use Rattle.kernel_rules.specs.CallRelation.{change_of, changed};
 ghost use Rattle.seq_state.specs.Maps.{state_of};
 ghost use Rattle.seq_state.specs.Representation.{Represents};
@@ -16,39 +16,12 @@ ghost use Rattle.seq_lookups.specs.Carried.{IsCarriedOut};
 ghost use Rattle.seq_lookups.specs.Ranges.{PageFound};
 
 use seq_lookups::{comp_of, mapped};
+use seq_plans::translation_of;
 use seq_state::{Core, SeqKernel};
-use spk_nums::{Cap, CoreNo, FrameNo, PageFlags, PageNo, Reply, Translation, Translations, Value};
-
-/// Whether a translation is that of a page of a root.
-fn is_of(item: &Translation, pages: FrameNo, page: PageNo) -> bool
-    ensures { result ≡ (item.now.pages == pages && item.now.page == page) }
-{
-    item.pages == pages && item.page == page
-}
-
-/// The translation at an index.
-fn item_at(cached: &Translations, at: usize) -> Translation
-    requires { at < length cached.now }
-    ensures { slice_get cached.now at ≡ Some result }
-{
-    cached.get(at).unwrap()
-}
-
-/// The first translation of a page of a root, if there is one.
-fn translation_of(cached: &Translations, pages: FrameNo, page: PageNo) -> Option<Translation>
-    ensures { result ≡ translation_of cached.now pages page }
-{
-    'each: for at in 0..cached.len() {
-        let item = item_at(cached, at);
-        if is_of(&item, pages, page) {
-            return Some(item);
-        }
-    }
-    None
-}
+use spk_nums::{Cap, CoreNo, PageFlags, PageNo, Reply, Translation, Translations, Value};
 
 /// The flags of a page; of no other mapping is anything said.
-fn flags_of(mapping: &Cap) -> PageFlags
+pub(crate) fn flags_of(mapping: &Cap) -> PageFlags
     ensures { mapping.now.kind ≡ kind.Page → result ≡ record { 0 = mapping.now.arg } }
 {
     PageFlags::of_bits((mapping.arg() % 4) as u8)
@@ -64,7 +37,7 @@ fn caching(cached: &Translations, item: Translation) -> Translations
 }
 
 /// A core of the machine caches a translation, where it has room.
-fn cache(k: &mut SeqKernel, core: CoreNo, item: Translation)
+pub(crate) fn cache(k: &mut SeqKernel, core: CoreNo, item: Translation)
     requires { core < (state_of k.old).limits.cores }
     ensures { Represents k.new (changed (state_of k.old) (Found (caches (state_of k.old) core item))) }
 {

@@ -1,8 +1,10 @@
 -- What becomes of threads as a core goes on as another, and what it leaves.
-use Rattle.std.specs.Prelude.{ℕ, ◌==◌, if◌then◌else◌, List, [], ◌∷◌, Option}
+use Rattle.std.specs.Prelude.{ℕ, ◌==◌, if◌then◌else◌, List, [], ◌∷◌, Option, Some, None}
+use Rattle.spk_nums.specs.declared.replies.Reply.TheVariants.{Running}
 use Rattle.kernel_rules.specs.State.{Frame, Thing, thread_in}
 use Rattle.kernel_rules.specs.InvocationCalls.{with_thread}
-use Rattle.kernel_rules.specs.Rules.{frames_of}
+use Rattle.kernel_rules.specs.Access.{Named}
+use Rattle.kernel_rules.specs.Rules.{Cause, When, frames_of}
 
 -- The old thread, and the old temporal capability unless it stays: the things whose grace periods begin.
 abbrev pub left_by : ℕ → ℕ → ℕ → List Thing
@@ -11,3 +13,8 @@ left_by thread tcap next = frames_of (thread ∷ (if next == tcap then [] else t
 -- A frame whose thread runs on a core, or is idle.
 abbrev pub run_by : Frame → Option ℕ → Frame
 run_by x core = with_thread x (record (thread_in x) { runs_on = core })
+
+-- The causes against going on as a thread, which runs on a core or is idle.
+abbrev pub running_by : Named → Option ℕ → List Cause
+running_by h None = []
+running_by h (Some e) = When h.found (Running e) ∷ []

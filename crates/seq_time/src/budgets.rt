@@ -30,7 +30,7 @@ pub(crate) fn with_tcap(frame: Frame, tcap: TcapFields) -> Frame
 }
 
 /// Whether two lists of qualities are equal.
-fn are_alike(a: &Qualities, b: &Qualities) -> bool
+pub(crate) fn are_alike(a: &Qualities, b: &Qualities) -> bool
     ensures { result ≡ are_alike a.now b.now }
 {
     agrees(a, b)
@@ -67,7 +67,7 @@ fn not_transferred(k: &SeqKernel, a: Cap, b: Cap, amount: u32) -> Option<Reply>
 }
 
 /// The merged list of two temporal capabilities; None exactly where it has more than 8 schedulers.
-fn merged_for(k: &SeqKernel, a: FrameNo, b: FrameNo) -> Option<Qualities>
+pub(crate) fn merged_for(k: &SeqKernel, a: FrameNo, b: FrameNo) -> Option<Qualities>
     ensures { SomeIff result (length (merged_list (state_of k.now) a b) ≤ 8) (merged_list (state_of k.now) a b) }
 {
     let from = tcap_at(k, a);
@@ -144,7 +144,7 @@ fn to_test(k: &SeqKernel, core: CoreNo, a: CapId, b: CapId) -> Result<(Cap, Cap)
 
 /// Moves ticks from one temporal capability to another: the amount leaves the one's budget and joins the other's. What would
 /// not fit a budget is lost.
-fn move_ticks(k: &mut SeqKernel, a: FrameNo, b: FrameNo, amount: u32)
+pub(crate) fn move_ticks(k: &mut SeqKernel, a: FrameNo, b: FrameNo, amount: u32)
     ensures { a ≢ b → (tcap_at (state_of k.old) b).budget + amount < 2 ^ 32 → Represents k.new (moved (state_of k.old) a b amount) }
 {
     let from = tcap_at(k, a);
@@ -185,7 +185,7 @@ pub(crate) fn transfer(
 }
 
 /// Moves ticks from one temporal capability to another, and gives the other the merged list, where it has at most 8 schedulers.
-fn delegate_ticks(k: &mut SeqKernel, a: FrameNo, b: FrameNo, amount: u32)
+pub(crate) fn delegate_ticks(k: &mut SeqKernel, a: FrameNo, b: FrameNo, amount: u32)
     ensures { a ≢ b → (tcap_at (state_of k.old) b).budget + amount < 2 ^ 32 → length (merged_list (state_of k.old) a b) ≤ 8
         → Represents k.new (with_qualities (moved (state_of k.old) a b amount) b (merged_list (state_of k.old) a b)) }
 {
@@ -244,7 +244,7 @@ pub(crate) fn test(k: &SeqKernel, core: CoreNo, a: CapId, b: CapId) -> Result<Va
 }
 
 /// The answer of a test.
-fn preemption(preempts: bool) -> Value
+pub(crate) fn preemption(preempts: bool) -> Value
     ensures { result ≡ preemption preempts }
 {
     if preempts {

@@ -4,7 +4,7 @@ ghost use Rattle.std.specs.Prelude.{◌≡◌, ◌<◌, ◌≤◌, ◌∷◌, []
 ghost use Rattle.spk_nums.specs.Capability.{cap_of};
 ghost use Rattle.kernel_rules.specs.State.{comp_in, FrameOf, NumberOf, Dead, with_number};
 ghost use Rattle.kernel_rules.specs.GracePeriods.{begun};
-ghost use Rattle.kernel_rules.specs.InvocationCalls.{is_live_in, with_thread, with_stack};
+ghost use Rattle.kernel_rules.specs.InvocationCalls.{with_thread, with_stack};
 ghost use Rattle.kernel_rules.specs.CallRelation.{change_of};
 ghost use Rattle.seq_state.specs.Parts.{frame_of, number_of, thread_fields_of, thing_of};
 ghost use Rattle.seq_state.specs.Maps.{state_of};
@@ -14,7 +14,9 @@ ghost use Rattle.seq_lookups.specs.Carried.{IsCarriedOut};
 ghost use Rattle.seq_lookups.specs.Ranges.{HasEpoch};
 ghost use Rattle.spk_nums.specs.declared.calls.Call.TheVariants.{Gate, Kill, Call as call_gate, Ret};
 
-use seq_lookups::{Target, Wanted, begin, comp_at, fill, named, thread_at, thread_of, vacant};
+use seq_lookups::{
+    Target, Wanted, begin, comp_at, fill, is_live_in, named, thread_at, thread_of, vacant,
+};
 use seq_state::{Frame, Liveness, Object, SeqKernel, Stack, Thing, ThreadFields};
 use spk_nums::{Cap, CapId, CoreNo, FrameNo, Kind, Reply, Value};
 
@@ -28,19 +30,8 @@ pub(crate) fn with_thread(frame: Frame, thread: ThreadFields) -> Frame
     }
 }
 
-/// Whether a liveness number is live in an epoch.
-fn is_live_in(number: &Liveness, epoch: u32) -> bool
-    ensures { result ≡ is_live_in (number_of number.now) epoch }
-{
-    match number {
-        Liveness::Unused => false,
-        Liveness::Live { epoch: live, .. } => u32::from(*live) == epoch,
-        Liveness::Dead { .. } => false,
-    }
-}
-
 /// A gate to the component of a frame, in the component's epoch; in epoch 1 where the frame has none.
-fn gate_to(k: &SeqKernel, frame: FrameNo) -> Cap
+pub(crate) fn gate_to(k: &SeqKernel, frame: FrameNo) -> Cap
     ensures { 1 ≤ (comp_in ((state_of k.now).frame frame)).epoch
         → result ≡ cap_of kinds.Gate frame (comp_in ((state_of k.now).frame frame)).epoch }
 {
@@ -73,7 +64,7 @@ pub(crate) fn gate(
 }
 
 /// The liveness number of a component is dead. Its grace period begins, and that of the component's frame.
-fn end_life(k: &mut SeqKernel, number: u8, epoch: u16, frame: FrameNo)
+pub(crate) fn end_life(k: &mut SeqKernel, number: u8, epoch: u16, frame: FrameNo)
     ensures { Represents k.new
         (begun (state_of k.old) (NumberOf number ∷ FrameOf frame ∷ []) (with_number (state_of k.old) number (Dead epoch))) }
 {
@@ -99,7 +90,7 @@ pub(crate) fn kill(k: &mut SeqKernel, core: CoreNo, c: CapId) -> Result<Value, R
 }
 
 /// Gives the current thread of a core another stack.
-fn set_stack(k: &mut SeqKernel, core: CoreNo, stack: Stack)
+pub(crate) fn set_stack(k: &mut SeqKernel, core: CoreNo, stack: Stack)
     requires { core < (state_of k.old).limits.cores }
     ensures { Represents k.new (with_stack (state_of k.old) core stack) }
 {
@@ -132,7 +123,7 @@ pub(crate) fn enter(k: &mut SeqKernel, core: CoreNo, g: CapId) -> Result<Value, 
 }
 
 /// The current thread of a core leaves the component on top of its stack, whose grace period begins.
-fn pop(k: &mut SeqKernel, core: CoreNo, top: FrameNo, rest: Stack)
+pub(crate) fn pop(k: &mut SeqKernel, core: CoreNo, top: FrameNo, rest: Stack)
     requires { core < (state_of k.old).limits.cores }
     ensures { Represents k.new (begun (state_of k.old) (FrameOf top ∷ []) (with_stack (state_of k.old) core rest)) }
 {

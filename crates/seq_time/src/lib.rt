@@ -10,9 +10,13 @@
 #![tactic(auto)]
 
 mod budgets;
+mod changing;
 mod invocation;
 mod one;
+mod own_causes;
 mod switching;
 mod ticks;
 
+pub use changing::carry_out;
 pub use one::step;
+pub use own_causes::causes;

@@ -39,7 +39,7 @@ fn leave(k: &mut SeqKernel, thread: FrameNo, tcap: FrameNo, next: FrameNo)
 }
 
 /// The core goes on as the idle thread `h` with the temporal capability `q`; its old thread is idle.
-fn go_on(k: &mut SeqKernel, core: CoreNo, h: FrameNo, q: FrameNo)
+pub(crate) fn go_on(k: &mut SeqKernel, core: CoreNo, h: FrameNo, q: FrameNo)
     requires core { core < (state_of k.old).limits.cores }
     requires idle { (thread_in ((state_of k.old).frame h)).runs_on ≡ None }
     ensures { Represents k.new (changed (state_of k.old) (Found (switches (state_of k.old) core ((state_of k.old).core core) h q))) }

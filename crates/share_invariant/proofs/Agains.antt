@@ -167,7 +167,7 @@ module _ (setup : Setting) (setting : IsSetting setup) (cores : ℕ → Core) (t
                 (Does (causes_of s w (named_by is.a) (named_by is.b)) (change_by s w is.a.frame is.b.frame)) reply.Unlike)
                 (sym what_is) may_unlike),
           ) tt
-          (λ is_alone. refused_first s c a.call reply.Unlike unspent
+          (λ is_alone. refused_first s c a.call reply.Unlike has.acts unspent
           (calls.change_is setup setting cores t stands c here a active now_p stage_is has
           ∙ ap (λ w. unless (first_cause s c (causes_of s w (named_by is.a) (named_by is.b))) (change_by s w is.a.frame is.b.frame)) what_is
           ∙ first_unlike)) lands
@@ -217,7 +217,7 @@ module _ (setup : Setting) (setting : IsSetting setup) (cores : ℕ → Core) (t
                 reply.TooMany)
                 (sym what_is) may_many),
           ) tt
-          (λ is_alone. refused_first s c a.call reply.TooMany unspent
+          (λ is_alone. refused_first s c a.call reply.TooMany has.acts unspent
           (calls.change_is setup setting cores t stands c here a active now_p stage_is has
           ∙ ap (λ w. unless (first_cause s c (causes_of s w (named_by is.a) (named_by is.b))) (change_by s w is.a.frame is.b.frame)) what_is
           ∙ first_many)) lands
@@ -254,7 +254,7 @@ module _ (setup : Setting) (setting : IsSetting setup) (cores : ℕ → Core) (t
           ∙ ap (λ b. Found (answers s (preemption b))) (sym tells_is)
 
       permitted : MayReply s c a.call (reply.Ok v)
-      permitted = (unspent, subst (λ x. IsFoundAnd x (λ y. y.value ≡ v)) (sym change_is) refl)
+      permitted = (unspent, (has.acts, subst (λ x. IsFoundAnd x (λ y. y.value ≡ v)) (sym change_is) refl))
 
       abbrev answer : Step
       answer = inner setup setting cores t stands c here a active (LoadOf at) (Some (reply.Ok v)) None

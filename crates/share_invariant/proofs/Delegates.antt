@@ -502,7 +502,7 @@ module _ (setup : Setting) (setting : IsSetting setup) (cores : ℕ → Core) (t
     permitted : MayReply s c a.call (reply.Ok value.Nothing)
     permitted = (
       not_spent setup (cores c) t c (core_is setup setting cores t stands c here a active) room,
-      subst (λ x. IsFoundAnd x (λ y. y.value ≡ value.Nothing)) (sym change_is) refl,
+      (has.acts, subst (λ x. IsFoundAnd x (λ y. y.value ≡ value.Nothing)) (sym change_is) refl),
     )
 
     pub won_good : GoodTook setup cores t c compare

@@ -1,21 +1,21 @@
 -- Lists that are made by threads have the text of taken steps.
-use Rattle.std.proofs.Common.{◌≡◌, ℕ, zero, suc, ◌<◌, ◌^◌, ◌++◌, List, [], length, map, get_or, All, refl, sym, ◌∙◌, ap, Vec, Global, arith}
+use Rattle.std.proofs.Common.{◌≡◌, ℕ, zero, suc, ◌++◌, List, [], map, get_or, All, refl, sym, ◌∙◌, ap, Vec, Global, arith}
 use Rattle.std.proofs.lemmas.Grind.{flat_map-append}
 use Rattle.std.proofs.lemmas.List.{length-map, get_or-map}
 use Rattle.spk_nums.specs.Setting.{Setting}
 use Rattle.spk_nums.specs.declared.calls.Call.{Call}
-use Rattle.lone_kernel.specs.kernel_history.specs.Order.{list_of}
-use Rattle.lone_kernel.specs.kernel_history.specs.Tables.{tables_of, lines_below}
-use Rattle.lone_kernel.specs.kernel_history.specs.Text.{line_of, reply_lines, decisions_by}
-use Rattle.lone_kernel.specs.kernel_history.specs.Trace.{Trace, state_after, calls_of}
+use Rattle.trace_run.specs.lone_kernel.specs.kernel_history.specs.Order.{list_of}
+use Rattle.trace_run.specs.lone_kernel.specs.kernel_history.specs.Tables.{tables_of, lines_below}
+use Rattle.trace_run.specs.lone_kernel.specs.kernel_history.specs.Text.{line_of, reply_lines, decisions_by}
+use Rattle.trace_run.specs.lone_kernel.specs.kernel_history.specs.Trace.{Trace, state_after, calls_of}
 use Rattle.core_kernel.specs.declared.whole.Ran.{Ran}
 use Rattle.core_kernel.specs.TakenSteps.{TakenSteps}
 use Rattle.core_kernel.specs.Whole.{decisions_below, IsList, AreMade}
-use Rattle.lone_kernel.specs.Machine.{AreLists}
+use Rattle.trace_run.specs.lone_kernel.specs.Machine.{AreLists}
 use Rattle.speck_run.specs.Written.{lines_of}
 
 -- the reply lines of the decisions, core by core
-lines_by_cores : (lists : List (List Call)) (t : Trace) → list_of lists ≡ calls_of t → (n : ℕ)
+pub lines_by_cores : (lists : List (List Call)) (t : Trace) → list_of lists ≡ calls_of t → (n : ℕ)
     → lines_of lists (decisions_below t n) ≡ lines_below (λ c. reply_lines (calls_of t) (decisions_by t c)) n
 unfolding lines_below
 lines_by_cores lists t same zero = refl

@@ -6,14 +6,14 @@ use Rattle.std.proofs.lemmas.List.{append_assoc}
 use Rattle.spk_nums.specs.declared.calls.Call.{Call}
 use Rattle.spk_nums.specs.declared.steps.Item.{Item}
 use Rattle.spk_nums.specs.declared.steps.How.TheVariants.{Return}
-use Rattle.lone_kernel.specs.kernel_history.specs.Trace.{Trace}
-use Rattle.lone_kernel.specs.kernel_history.specs.Order.{FollowsItem, FollowsItems, RunsOut, FollowsCores}
-use Rattle.lone_kernel.specs.flight.specs.Made.{ready_after}
-use Rattle.lone_kernel.specs.declared.lone.Moved.{Moved}
-use Rattle.lone_kernel.specs.declared.lone.Moved.TheVariants.{Idle, Went}
-use Rattle.lone_kernel.specs.Machine.{Machine}
-use Rattle.lone_kernel.specs.Stands.{StandsFor}
-use Rattle.lone_kernel.specs.Moves.{MovesBy, GoesBy}
+use Rattle.trace_run.specs.lone_kernel.specs.kernel_history.specs.Trace.{Trace}
+use Rattle.trace_run.specs.lone_kernel.specs.kernel_history.specs.Order.{FollowsItem, FollowsItems, RunsOut, FollowsCores}
+use Rattle.trace_run.specs.lone_kernel.specs.flight.specs.Made.{ready_after}
+use Rattle.trace_run.specs.lone_kernel.specs.declared.lone.Moved.{Moved}
+use Rattle.trace_run.specs.lone_kernel.specs.declared.lone.Moved.TheVariants.{Idle, Went}
+use Rattle.trace_run.specs.lone_kernel.specs.Machine.{Machine}
+use Rattle.trace_run.specs.lone_kernel.specs.Stands.{StandsFor}
+use Rattle.trace_run.specs.lone_kernel.specs.Moves.{MovesBy, GoesBy}
 use Rattle.speck_run.specs.Orders.{GoesByItem, GoesByItems, GoesByCore, RunsCoreOut, RunsCoresOut}
 
 -- a move is the stretch of its item

@@ -6,23 +6,21 @@ use lib.Pointwise.{pointwise}
 use Rattle.spk_nums.specs.declared.memory.Memory.{Memory as Out_of_memory}
 use Rattle.byte_ends.specs.Ends.{HasRisen, Adds}
 use Rattle.script_reader.specs.Numerals.{number_of}
-use Rattle.script_reader.specs.Readings.{Meaning, First_fault, script_of}
+use Rattle.script_reader.specs.declared.cause.Cause.{Cause}
+use Rattle.script_reader.specs.Readings.{First_fault}
 use Rattle.load_maker.specs.Loads.{load_text}
 use Rattle.speck_run.specs.declared.words.Command.{Command}
-use Rattle.speck_run.specs.declared.words.Command.TheVariants.{Replay, Run, Plain, Print}
-use Rattle.speck_run.specs.declared.top.Answer.{Answer}
+use Rattle.speck_run.specs.declared.words.Command.TheVariants.{Replay, Trace, Draw, Run, Plain, Print, Ends, Sched}
+use Rattle.speck_run.specs.declared.answers.Answer.{Answer}
 use Rattle.speck_run.specs.declared.top.Status.{Status}
 use Rattle.speck_run.specs.declared.top.Status.TheVariants.{Done, Words, Script, ReadFault, WriteFault, Memory, TooLong, Stopped}
 use Rattle.whole_ends.specs.Ends.{GivesAll}
-use Rattle.speck_run.specs.Script.{AreScript, IsAnswer, IsMade}
-use Rattle.speck_run.specs.Top.{CommandLine, texts_of, Asked, Asks, AsksNumber, HasNumber, AsksMake, AsksLoad, IsCommand}
+use Rattle.speck_run.specs.Script.{read_by, MadeBy, IsFaultOf, AreInput}
+use Rattle.speck_run.specs.Top.{CommandLine, texts_of, word_of, Asked, Asks, AsksNumber, HasNumber, AsksMake, AsksLoad, IsCommand}
 use Rattle.speck_run.specs.Top.{IsMake, IsLoad, IsUnderstood, IsNumberOf, IsNumberIn, IsDue, IsDueOf, IsSummary, IsDone}
-use Rattle.speck_run.specs.Top.{InputMakes, CarriesOut, IsStatusOf, Answers, IsAccepted, Writes, InputRuns}
+use Rattle.speck_run.specs.Top.{InputMakes, CarriesOut, IsStatusOf, Answers, IsAccepted, Writes, InputRuns, Finishes}
 
-abbrev Reading : Type 0
-Reading = Result Meaning First_fault
-
-same_fault : (f g : First_fault) (r : Reading) → r ≡ Err f → r ≡ Err g → f ≡ g
+same_fault : {A : Type 0} (f g : First_fault) (r : Result A First_fault) → r ≡ Err f → r ≡ Err g → f ≡ g
 same_fault f g r p q = cc
 
 -- The words are those of one command: the one that their text tells.
@@ -30,15 +28,19 @@ is_word : List (List ℕ) → List ℕ → Bool
 is_word texts word = pointwise (λ x y. pointwise eqb x y) texts (word ∷ [])
 
 told : List (List ℕ) → Option Command
-told texts = if is_word texts (codes "replay") then Some Replay else if is_word texts (codes "run") then Some Run
-    else if is_word texts (codes "plain") then Some Plain else if is_word texts (codes "print") then Some Print else None
+told texts = if is_word texts (codes "replay") then Some Replay else if is_word texts (codes "trace") then Some Trace
+    else if is_word texts (codes "draw") then Some Draw
+    else if is_word texts (codes "run") then Some Run else if is_word texts (codes "plain") then Some Plain
+    else if is_word texts (codes "print") then Some Print else if is_word texts (codes "ends") then Some Ends
+    else if is_word texts (codes "sched") then Some Sched else None
+
+told_word : (command : Command) → told (word_of command ∷ []) ≡ Some command
+unfolding told is_word
+told_word Replay = refl
+told_word command = refl
 
 asks_told : (words : CommandLine) (command : Command) → Asks words command → told (texts_of words) ≡ Some command
-unfolding told is_word
-asks_told words Replay p = ap told p
-asks_told words Run p = ap told p
-asks_told words Plain p = ap told p
-asks_told words Print p = ap told p
+asks_told words command p = ap told p ∙ told_word command
 
 some_same : (a b : Command) → Some a ≡ Some b → a ≡ b
 some_same a b e = cc
@@ -48,10 +50,7 @@ asks_same words a b p q = some_same a b (sym (asks_told words a p) ∙ asks_told
 
 -- Words that ask for a command that takes a script are one, and those that ask for the script of a number are two.
 one_word : (words : CommandLine) (command : Command) → Asks words command → length (texts_of words) ≡ 1
-one_word words Replay p = ap length p
-one_word words Run p = ap length p
-one_word words Plain p = ap length p
-one_word words Print p = ap length p
+one_word words command p = ap length p
 
 asks_apart : (name : List ℕ) (words : CommandLine) (command : Command) → Asks words command → HasNumber name words → ⊥
 asks_apart name words command asks m = let one : length (texts_of words) ≡ 1 = one_word words command asks in
@@ -88,42 +87,59 @@ make_apart words m l =
     let loaded : first_letter (texts_of words) ≡ 108 = ap first_letter l.asks.asks in
     omega arith
 
--- A script has no fault.
-script_fault : (bytes : List ℕ) (f : First_fault) → AreScript bytes → script_of bytes ≡ Err f → ⊥
-script_fault bytes f p q = let e = sym q ∙ p.is_script in cc
+-- What a command takes has no fault, and what it does not take has one first fault.
+no_fault : {I : Type 0} (i : I) (f : First_fault) (r : Result I First_fault) → r ≡ Ok i → r ≡ Err f → ⊥
+no_fault i f r p q = let e = sym q ∙ p in cc
 
--- An input has one status.
-status_same : (bytes : List ℕ) (s s' : Status) → IsStatusOf bytes s → IsStatusOf bytes s' → s ≡ s'
-status_same bytes Done Done p q = refl
-status_same bytes Done Words p q = absurd q
-status_same bytes Done (Script line' cause') p q = absurd (script_fault bytes _ p.1 q.1)
-status_same bytes Done ReadFault p q = absurd q
-status_same bytes Done WriteFault p q = absurd q
-status_same bytes Done Memory p q = absurd q
-status_same bytes Done TooLong p q = absurd (omega (arith, p.0, q))
-status_same bytes Done Stopped p q = absurd q
-status_same bytes Words s' p q = absurd p
-status_same bytes (Script line cause) Done p q = absurd (script_fault bytes _ q.1 p.1)
-status_same bytes (Script line cause) Words p q = absurd q
-status_same bytes (Script line cause) (Script line' cause') p q =
-    ap (λ (f : First_fault). Script f.line f.cause) (same_fault _ _ (script_of bytes) p.1 q.1)
-status_same bytes (Script line cause) ReadFault p q = absurd q
-status_same bytes (Script line cause) WriteFault p q = absurd q
-status_same bytes (Script line cause) Memory p q = absurd q
-status_same bytes (Script line cause) TooLong p q = absurd (omega (arith, p.0, q))
-status_same bytes (Script line cause) Stopped p q = absurd q
-status_same bytes ReadFault s' p q = absurd p
-status_same bytes WriteFault s' p q = absurd p
-status_same bytes Memory s' p q = absurd p
-status_same bytes TooLong Done p q = absurd (omega (arith, p, q.0))
-status_same bytes TooLong Words p q = absurd q
-status_same bytes TooLong (Script line' cause') p q = absurd (omega (arith, p, q.0))
-status_same bytes TooLong ReadFault p q = absurd q
-status_same bytes TooLong WriteFault p q = absurd q
-status_same bytes TooLong Memory p q = absurd q
-status_same bytes TooLong TooLong p q = refl
-status_same bytes TooLong Stopped p q = absurd q
-status_same bytes Stopped s' p q = absurd p
+input_fault : (command : Command) (bytes : List ℕ) (line : ℕ) (cause : Cause) → AreInput command bytes
+    → IsFaultOf command bytes line cause → ⊥
+input_fault command bytes line cause p q = no_fault p.input _ (read_by command bytes) p.is_input q
+
+status_of : First_fault → Status
+status_of f = Script f.line f.cause
+
+fault_same : (command : Command) (bytes : List ℕ) (line : ℕ) (cause : Cause) (line' : ℕ) (cause' : Cause)
+    → IsFaultOf command bytes line cause → IsFaultOf command bytes line' cause' → Script line cause ≡ Script line' cause'
+unfolding status_of
+fault_same command bytes line cause line' cause' p q = ap status_of (same_fault _ _ (read_by command bytes) p q)
+
+-- An input has one status under a command.
+status_same : (command : Command) (bytes : List ℕ) (s s' : Status) → IsStatusOf command bytes s → IsStatusOf command bytes s' → s ≡ s'
+status_same command bytes Done Done p q = refl
+status_same command bytes Done Words p q = absurd q
+status_same command bytes Done (Script line' cause') p q = absurd (input_fault command bytes line' cause' p.1 q.1)
+status_same command bytes Done ReadFault p q = absurd q
+status_same command bytes Done WriteFault p q = absurd q
+status_same command bytes Done Memory p q = absurd q
+status_same command bytes Done TooLong p q = absurd (omega (arith, p.0, q))
+status_same command bytes Done Stopped p q = absurd q
+status_same command bytes Words s' p q = absurd p
+status_same command bytes (Script line cause) Done p q = absurd (input_fault command bytes line cause q.1 p.1)
+status_same command bytes (Script line cause) Words p q = absurd q
+status_same command bytes (Script line cause) (Script line' cause') p q = fault_same command bytes line cause line' cause' p.1 q.1
+status_same command bytes (Script line cause) ReadFault p q = absurd q
+status_same command bytes (Script line cause) WriteFault p q = absurd q
+status_same command bytes (Script line cause) Memory p q = absurd q
+status_same command bytes (Script line cause) TooLong p q = absurd (omega (arith, p.0, q))
+status_same command bytes (Script line cause) Stopped p q = absurd q
+status_same command bytes ReadFault s' p q = absurd p
+status_same command bytes WriteFault s' p q = absurd p
+status_same command bytes Memory s' p q = absurd p
+status_same command bytes TooLong Done p q = absurd (omega (arith, p, q.0))
+status_same command bytes TooLong Words p q = absurd q
+status_same command bytes TooLong (Script line' cause') p q = absurd (omega (arith, p, q.0))
+status_same command bytes TooLong ReadFault p q = absurd q
+status_same command bytes TooLong WriteFault p q = absurd q
+status_same command bytes TooLong Memory p q = absurd q
+status_same command bytes TooLong TooLong p q = refl
+status_same command bytes TooLong Stopped p q = absurd q
+status_same command bytes Stopped s' p q = absurd p
+
+-- What a command makes of bytes is due.
+pub due_done : (command : Command) (bytes : List ℕ) (s : Status) (text text' : List ℕ) → s ≡ Done → text' ≡ text
+    → MadeBy command bytes text → IsDueOf command bytes s text'
+due_done command bytes s text text' is same d =
+    subst (λ (x : Status). IsDueOf command bytes x text') (sym is) (subst (λ (t : List ℕ). MadeBy command bytes t) (sym same) d)
 
 -- What is due for an input that was read to its end is due.
 pub due_input : (words : CommandLine) (left left' : Option (List ℕ)) (f f' : ℕ)
@@ -137,8 +153,7 @@ due_input words left left' f f' command bytes Done text asks input small d = inl
 }
 due_input words left left' f f' command bytes Words text asks input small d = absurd d
 due_input words left left' f f' command bytes (Script line cause) text asks input small d = (
-  record { command = command; asks = asks },
-  record { bytes = bytes; input = input; small = small; fault = d.0 },
+  record { command = command; asks = asks; bytes = bytes; input = input; small = small; fault = d.0 },
   d.1,
 )
 due_input words left left' f f' command bytes ReadFault text asks input small d = absurd d
@@ -147,11 +162,13 @@ due_input words left left' f f' command bytes Memory text asks input small d = a
 due_input words left left' f f' command bytes TooLong text asks input small d = absurd d
 due_input words left left' f f' command bytes Stopped text asks input small d = (
   record {
-    asks = subst (Asks words) d.0 asks;
+    command = command;
+    asks = asks;
+    threads = d.0;
     bytes = bytes;
     input = input;
     small = small;
-    is_script = d.1;
+    is_input = d.1;
   },
   d.2,
 )
@@ -175,17 +192,17 @@ answer_of_input words left left' f f' command given bytes (Ok answer) asks input
     input small (subst (λ b. IsDueOf command b answer.status (string_bytes answer.text)) same d)
 answer_of_input words left left' f f' command given bytes (Err e) asks input small same d = tt
 
--- What a command makes of an input, it makes of a script.
-made_script : (Is : Meaning → List ℕ → Type 0) (bytes text : List ℕ) → IsMade Is bytes text → AreScript bytes
-made_script Is bytes text d = record { script = d.script; is_script = d.is_script }
+-- What a command makes of an input, it makes of one that it takes.
+made_input : (command : Command) (bytes text : List ℕ) → MadeBy command bytes text → AreInput command bytes
+made_input command bytes text d = record { input = d.input; is_input = d.is_input }
 
 module _ (words : CommandLine) (command : Command) (asks : Asks words command) where
   -- With the command that the words are.
   makes_as : (left left' : Option (List ℕ)) (f f' : ℕ) (text : List ℕ)
       → IsDone (record { words = words; left = left; left' = left'; faults = f; faults' = f' }) text →
-      InputMakes (IsAnswer command) left left' text
+      InputMakes (MadeBy command) left left' text
   makes_as left left' f f' text (inl d) =
-      subst (λ (c : Command). InputMakes (IsAnswer c) left left' text) (asks_same words d.command command d.asks asks) d.makes
+      subst (λ (c : Command). InputMakes (MadeBy c) left left' text) (asks_same words d.command command d.asks asks) d.makes
   makes_as left left' f f' text (inr (inl d)) =
       absurd (asks_apart (codes "make") words command asks record { number = d.number; asks = d.asks })
   makes_as left left' f f' text (inr (inr d)) =
@@ -194,37 +211,40 @@ module _ (words : CommandLine) (command : Command) (asks : Asks words command) w
   -- What is due for an input that the source tells.
   status_due : (left : List ℕ) (left' : Option (List ℕ)) (f f' : ℕ) (s : Status) (text : List ℕ) →
       IsDue (record { words = words; left = Some left; left' = left'; faults = f; faults' = f' }) s text
-      → IsStatusOf left s ⊎ ((s ≡ Stopped) ⊎ (s ≡ ReadFault))
+      → IsStatusOf command left s ⊎ ((s ≡ Stopped) ⊎ (s ≡ ReadFault))
   status_due left left' f f' Done text d =
       let a = makes_as (Some left) left' f f' text d in
-      inl (subst (λ (l : List ℕ). IsStatusOf l Done) a.input.all (a.small, made_script (IsAnswer command) a.bytes text a.made))
+      inl (subst (λ (l : List ℕ). IsStatusOf command l Done) a.input.all (a.small, made_input command a.bytes text a.made))
   status_due left left' f f' Words text d = absurd (d.0 (inl (record { command = command; asks = asks })))
-  status_due left left' f f' (Script line cause) text (i, d, t) =
-      inl (subst (λ (l : List ℕ). IsStatusOf l (Script line cause)) d.input.all (d.small, d.fault))
+  status_due left left' f f' (Script line cause) text (d, t) =
+      inl (subst (λ (l : List ℕ). IsStatusOf command l (Script line cause)) d.input.all (
+        d.small,
+        subst (λ (c : Command). IsFaultOf c d.bytes line cause) (asks_same words d.command command d.asks asks) d.fault,
+      ))
   status_due left left' f f' ReadFault text d = inr (inr refl)
   status_due left left' f f' Stopped text d = inr (inl refl)
   status_due left left' f f' WriteFault text d = absurd d
   status_due left left' f f' Memory text d = absurd d
   status_due left left' f f' TooLong text (i, d, t) = inl (omega (arith, d.there))
 
-  answers_of : (left : List ℕ) (s : Status) → IsStatusOf left s ⊎ ((s ≡ Stopped) ⊎ (s ≡ ReadFault)) → Answers (Some left) s
-  answers_of left s (inl p) = λ due h. inl (status_same left s due p h)
+  answers_of : (left : List ℕ) (s : Status) → IsStatusOf command left s ⊎ ((s ≡ Stopped) ⊎ (s ≡ ReadFault)) → Answers command (Some left) s
+  answers_of left s (inl p) = λ due h. inl (status_same command left s due p h)
   answers_of left s (inr (inl e)) = λ due h. inr (inl e)
   answers_of left s (inr (inr e)) = λ due h. inr (inr (inl e))
 
   -- The answer with what is due, or with a fault.
   pub answers_due : (left left' : Option (List ℕ)) (f f' : ℕ) (s : Status) (text : List ℕ) →
-      IsDue (record { words = words; left = left; left' = left'; faults = f; faults' = f' }) s text → Answers left s
+      IsDue (record { words = words; left = left; left' = left'; faults = f; faults' = f' }) s text → Answers command left s
   answers_due None left' f f' s text d = tt
   answers_due (Some left) left' f f' s text d = answers_of left s (status_due left left' f f' s text d)
 
   -- An input that the command takes is done, where reading has not failed.
   pub completes : (left left' : Option (List ℕ)) (f f' : ℕ) (s : Status) (text : List ℕ) →
       IsDue (record { words = words; left = left; left' = left'; faults = f; faults' = f' }) s text
-      → IsAccepted left → (s ≡ Stopped → ⊥) → (HasRisen f f' → ⊥) → s ≡ Done
+      → IsAccepted command left → (s ≡ Stopped → ⊥) → (HasRisen f f' → ⊥) → s ≡ Done
   completes None left' f f' s text d accepted goes sure = absurd accepted
   completes (Some left) left' f f' s text d accepted goes sure = elim (status_due left left' f f' s text d) [
-    | inl p ↦ status_same left s Done p accepted
+    | inl p ↦ status_same command left s Done p accepted
     | inr (inl e) ↦ absurd (goes e)
     | inr (inr e) ↦ absurd (sure (subst
         (λ (due : Status). IsDue (record { words = words; left = Some left; left' = left'; faults = f; faults' = f' }) due text) e d).1)
@@ -233,7 +253,7 @@ module _ (words : CommandLine) (command : Command) (asks : Asks words command) w
   -- The text of a call that is done, and that the sink has taken.
   pub carried_out : (left left' : Option (List ℕ)) (f f' : ℕ) (s : Status) (text : List ℕ) (held held' : Option (List ℕ)) →
       IsDue (record { words = words; left = left; left' = left'; faults = f; faults' = f' }) s text → s ≡ Done → Adds text held held' →
-      CarriesOut (IsAnswer command) left left' held held'
+      CarriesOut (MadeBy command) left left' held held'
   carried_out left left' f f' s text held held' d e written = record {
     text = text;
     makes = makes_as left left' f f' text
@@ -241,21 +261,48 @@ module _ (words : CommandLine) (command : Command) (asks : Asks words command) w
     written = written;
   }
 
-pub answers_fault : (left : Option (List ℕ)) (s : Status) → (s ≡ WriteFault) ⊎ (s ≡ Memory) → Answers left s
-answers_fault None s e = tt
-answers_fault (Some left) s e = λ due h. inr (inr (inr e))
+  -- The text that the sink has taken where the call has ended with `Done`.
+  pub carries : (left left' : Option (List ℕ)) (f f' : ℕ) (s : Status) (text : List ℕ) (faults faults' : ℕ) (held held' : Option (List ℕ))
+      (status : Status) → IsDue (record { words = words; left = left; left' = left'; faults = f; faults' = f' }) s text
+      → Finishes s text faults faults' held held' status → status ≡ Done → CarriesOut (MadeBy command) left left' held held'
+  carries left left' f f' s text faults faults' held held' status d (inl p) done =
+      carried_out left left' f f' s text held held' d (sym p.0 ∙ done) p.2
+  carries left left' f f' s text faults faults' held held' status d (inr p) done = let wrong = sym p.0 ∙ done in cc
+
+pub answers_fault : (command : Command) (left : Option (List ℕ)) (s : Status) → (s ≡ WriteFault) ⊎ (s ≡ Memory) → Answers command left s
+answers_fault command None s e = tt
+answers_fault command (Some left) s e = λ due h. inr (inr (inr e))
 
 -- What is written with what is due.
 pub writes_due : (a : Asked) (held held' : Option (List ℕ)) (s : Status) (text : List ℕ)
     → IsDue a s text → Adds text held held' → Writes a held held' s
 writes_due a held held' Done text d w = (text, d, w)
 writes_due a held held' Words text d w = subst (λ (t : List ℕ). Adds t held held') d.1 w
-writes_due a held held' (Script line cause) text d w = subst (λ (t : List ℕ). Adds t held held') d.2 w
+writes_due a held held' (Script line cause) text d w = subst (λ (t : List ℕ). Adds t held held') d.1 w
 writes_due a held held' ReadFault text d w = subst (λ (t : List ℕ). Adds t held held') d.2 w
 writes_due a held held' WriteFault text d w = absurd d
 writes_due a held held' Memory text d w = absurd d
 writes_due a held held' TooLong text d w = subst (λ (t : List ℕ). Adds t held held') d.2 w
 writes_due a held held' Stopped text d w = subst (λ (t : List ℕ). Adds t held held') d.1 w
+
+-- What is done was asked for, and words that ask for nothing are not understood.
+understood_done : (a : Asked) (text : List ℕ) → IsDone a text → IsUnderstood a.words
+understood_done a text (inl d) = inl (record { command = d.command; asks = d.asks })
+understood_done a text (inr (inl d)) = inr (inl (record { number = d.number; asks = d.asks }))
+understood_done a text (inr (inr d)) = inr (inr (record { number = d.number; asks = d.asks }))
+
+pub done_asked : (a : Asked) (s : Status) (text : List ℕ) → IsDue a s text → s ≡ Done → IsUnderstood a.words
+done_asked a s text d e = understood_done a text (subst (λ (due : Status). IsDue a due text) e d)
+
+pub words_due : (a : Asked) (s : Status) (text : List ℕ) → IsDue a s text → (IsUnderstood a.words → ⊥) → s ≡ Words
+words_due a Done text d other = absurd (other (understood_done a text d))
+words_due a Words text d other = refl
+words_due a (Script line cause) text d other = absurd (other (inl (record { command = d.0.command; asks = d.0.asks })))
+words_due a ReadFault text d other = absurd (other (inl d.0))
+words_due a WriteFault text d other = absurd d
+words_due a Memory text d other = absurd d
+words_due a TooLong text d other = absurd (other (inl d.0))
+words_due a Stopped text d other = absurd (other (inl (record { command = d.0.command; asks = d.0.asks })))
 
 -- A run that was stopped was asked for.
 pub stops_run : (a : Asked) (s : Status) (text : List ℕ) → IsDue a s text → s ≡ Stopped → InputRuns a.words a.left a.left'
@@ -291,12 +338,12 @@ module _ (words : CommandLine) (number : ℕ) (asks : AsksMake words number) whe
       (refl, d.is_text ∙ ap load_text (numbers_same (codes "make") words d.number number d.asks asks))
   load_due left left' f f' Done text (inr (inr d)) = absurd (not_load record { number = d.number; asks = d.asks })
   load_due left left' f f' Words text d = absurd (d.0 (inr (inl understood)))
-  load_due left left' f f' (Script line cause) text d = absurd (apart d.0)
+  load_due left left' f f' (Script line cause) text d = absurd (apart record { command = d.0.command; asks = d.0.asks })
   load_due left left' f f' ReadFault text d = absurd (apart d.0)
   load_due left left' f f' WriteFault text d = absurd d
   load_due left left' f f' Memory text d = absurd d
   load_due left left' f f' TooLong text d = absurd (apart d.0)
-  load_due left left' f f' Stopped text d = absurd (apart record { command = Run; asks = d.0.asks })
+  load_due left left' f f' Stopped text d = absurd (apart record { command = d.0.command; asks = d.0.asks })
 
 module _ (words : CommandLine) (number : ℕ) (asks : AsksLoad words number) where
   sums_up : IsLoad words
@@ -315,12 +362,12 @@ module _ (words : CommandLine) (number : ℕ) (asks : AsksLoad words number) whe
   summary_due left left' f f' Done text (inr (inl d)) = absurd (make_apart words record { number = d.number; asks = d.asks } sums_up)
   summary_due left left' f f' Done text (inr (inr d)) = (refl, subst (λ n. IsSummary n text) (same_load d.number d.asks) d.is_text)
   summary_due left left' f f' Words text d = absurd (d.0 (inr (inr sums_up)))
-  summary_due left left' f f' (Script line cause) text d = absurd (no_script d.0)
+  summary_due left left' f f' (Script line cause) text d = absurd (no_script record { command = d.0.command; asks = d.0.asks })
   summary_due left left' f f' ReadFault text d = absurd (no_script d.0)
   summary_due left left' f f' WriteFault text d = absurd d
   summary_due left left' f f' Memory text d = absurd d
   summary_due left left' f f' TooLong text d = absurd (no_script d.0)
-  summary_due left left' f f' Stopped text d = absurd (no_script record { command = Run; asks = d.0.asks })
+  summary_due left left' f f' Stopped text d = absurd (no_script record { command = d.0.command; asks = d.0.asks })
 
   -- An answer that is the summary is due.
   pub answer_of_load : (left left' : Option (List ℕ)) (f f' : ℕ) (r : Result Answer Out_of_memory)

@@ -6,21 +6,21 @@ use Rattle.std.proofs.lemmas.List.{get_or_past}
 use Rattle.spk_nums.specs.Setting.{Setting, IsSetting}
 use Rattle.spk_nums.specs.declared.calls.Call.{Call}
 use Rattle.spk_nums.specs.declared.steps.Item.{Item}
-use Rattle.lone_kernel.specs.kernel_rules.specs.Laws.{ticks}
-use Rattle.lone_kernel.specs.kernel_history.specs.Trace.{Trace, state_after, calls_of, decisions_of}
-use Rattle.lone_kernel.specs.kernel_history.specs.Order.{IsIdle, HasCalls, FollowsItems, FollowsCores, Follows, list_of}
-use Rattle.lone_kernel.specs.kernel_history.specs.Tables.{tables_of}
-use Rattle.lone_kernel.specs.kernel_history.specs.Text.{reply_lines, text_of}
-use Rattle.lone_kernel.specs.trace_laws.proofs.Idle.{all_idle}
-use Rattle.lone_kernel.specs.flight.specs.Made.{ready_after, IsMade}
-use Rattle.lone_kernel.specs.flight_laws.specs.Histories.{IsHistory, MadeHistories}
-use Rattle.lone_kernel.specs.call_stages.specs.declared.stages.ActiveCall.{ActiveCall}
-use Rattle.lone_kernel.specs.flight.proofs.Phases.{made_of_its_cores}
-use Rattle.lone_kernel.specs.GivenSteps.{GivenSteps}
-use Rattle.lone_kernel.specs.Machine.{Machine, core_at}
-use Rattle.lone_kernel.specs.Stands.{StandsFor}
-use Rattle.lone_kernel.proofs.Advance.{phase_is}
-use Rattle.lone_kernel.proofs.Runs.{none_of}
+use Rattle.trace_run.specs.lone_kernel.specs.kernel_rules.specs.Laws.{ticks}
+use Rattle.trace_run.specs.lone_kernel.specs.kernel_history.specs.Trace.{Trace, state_after, calls_of, decisions_of}
+use Rattle.trace_run.specs.lone_kernel.specs.kernel_history.specs.Order.{IsIdle, HasCalls, FollowsItems, FollowsCores, Follows, list_of}
+use Rattle.trace_run.specs.lone_kernel.specs.kernel_history.specs.Tables.{tables_of}
+use Rattle.trace_run.specs.lone_kernel.specs.kernel_history.specs.Text.{reply_lines, text_of}
+use Rattle.trace_run.specs.lone_kernel.specs.trace_laws.proofs.Idle.{all_idle}
+use Rattle.trace_run.specs.lone_kernel.specs.flight.specs.Made.{ready_after, IsMade}
+use Rattle.trace_run.specs.lone_kernel.specs.flight_laws.specs.Histories.{IsHistory, MadeHistories}
+use Rattle.trace_run.specs.lone_kernel.specs.call_stages.specs.declared.stages.ActiveCall.{ActiveCall}
+use Rattle.trace_run.specs.lone_kernel.specs.flight.proofs.Phases.{made_of_its_cores}
+use Rattle.trace_run.specs.lone_kernel.specs.GivenSteps.{GivenSteps}
+use Rattle.trace_run.specs.lone_kernel.specs.Machine.{Machine, core_at}
+use Rattle.trace_run.specs.lone_kernel.specs.Stands.{StandsFor}
+use Rattle.trace_run.specs.lone_kernel.proofs.Advance.{phase_is}
+use Rattle.trace_run.specs.lone_kernel.proofs.Runs.{none_of}
 use Rattle.speck_run.specs.Orders.{GoesByItems, RunsCoresOut}
 use Rattle.load_summary.specs.Summaries.{summary_text}
 use Rattle.speck_run.specs.Summary.{GivenSummary}

@@ -4,3 +4,4 @@ pub mod OneWord
 pub mod Accepted
 pub mod Due
 pub mod ByCores
+pub mod Endings

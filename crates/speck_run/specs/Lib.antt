@@ -1,5 +1,6 @@
 pub mod Orders
 pub mod Written
+pub mod Ends
 pub mod Script
 pub mod Summary
 pub mod Top

@@ -1,14 +1,20 @@
--- What an input is, a script or none, and what a command makes of a script.
-use Rattle.std.specs.Prelude.{◌≡◌, ℕ, List, Ok, Err}
-use Rattle.lone_kernel.specs.kernel_history.specs.Order.{list_of}
-use Rattle.lone_kernel.specs.kernel_history.specs.Text.{plain_text}
+-- What a command takes, a script or another input, what is none, and what the command makes of it.
+use Rattle.std.specs.Prelude.{◌≡◌, ℕ, List, Result, Ok, Err}
+use Rattle.trace_run.specs.lone_kernel.specs.kernel_history.specs.Order.{list_of}
+use Rattle.trace_run.specs.lone_kernel.specs.kernel_history.specs.Text.{plain_text}
 use Rattle.core_kernel.specs.TakenSteps.{TakenSteps}
-use Rattle.lone_kernel.specs.GivenSteps.{GivenSteps}
+use Rattle.trace_run.specs.lone_kernel.specs.GivenSteps.{GivenSteps}
+use Rattle.trace_run.specs.GivenTrace.{GivenTrace}
+use Rattle.draw_run.specs.GivenDrawing.{GivenDrawing}
 use Rattle.script_reader.specs.declared.cause.Cause.{Cause}
-use Rattle.script_reader.specs.Readings.{Meaning, script_of}
+use Rattle.script_reader.specs.Readings.{Meaning, First_fault, script_of}
 use Rattle.script_printer.specs.Printing.{printed}
+use Rattle.ends_reader.specs.Inputs.{Input, input_of}
+use Rattle.one_core.specs.sched_reader.specs.Inputs.{Input as Sched_input, input_of as sched_input_of}
+use Rattle.one_core.specs.Scheduled.{SchedTrace}
 use Rattle.speck_run.specs.declared.words.Command.{Command}
-use Rattle.speck_run.specs.declared.words.Command.TheVariants.{Replay, Run, Plain, Print}
+use Rattle.speck_run.specs.declared.words.Command.TheVariants.{Replay, Trace, Draw, Run, Plain, Print, Ends, Sched}
+use Rattle.speck_run.specs.Ends.{EndsText}
 
 -- The bytes are this script.
 abbrev pub IsScript : List ℕ → Meaning → Type 0
@@ -18,21 +24,56 @@ IsScript bytes script = script_of bytes ≡ Ok script
 abbrev pub IsFirstFault : List ℕ → ℕ → Cause → Type 0
 IsFirstFault bytes line cause = script_of bytes ≡ Err (record { line = line; cause = cause })
 
--- What the command makes of a script: `replay` the text of given steps, `run` that of taken ones, `plain` that of its
--- calls made alone, `print` the printed form.
-abbrev pub IsAnswer : Command → Meaning → List ℕ → Type 0
+-- The bytes are such as this reading takes.
+pub record IsTaken {I : Type 0} (read : List ℕ → Result I First_fault) (bytes : List ℕ) : Type 0 where
+  pub input : I
+  pub is_input : read bytes ≡ Ok input
+
+-- The bytes are such, and the text is this of what was read.
+pub record IsMade {I : Type 0} (read : List ℕ → Result I First_fault) (Is : I → List ℕ → Type 0) (bytes text : List ℕ) : Type 0 where
+  pub input : I
+  pub is_input : read bytes ≡ Ok input
+  pub is_text : Is input text
+
+-- What a command takes: `ends` a script with endpoint calls, `sched` one with tasks, each other a script.
+abbrev pub InputOf : Command → Type 0
+InputOf Ends = Input
+InputOf Sched = Sched_input
+InputOf command = Meaning
+
+-- What bytes are under a command, or their first fault.
+abbrev pub read_by : (command : Command) → List ℕ → Result (InputOf command) First_fault
+read_by Ends bytes = input_of bytes
+read_by Sched bytes = sched_input_of bytes
+read_by command bytes = script_of bytes
+
+-- What a command makes of what it takes: `replay` the text of given steps, `trace` that of each of them, `draw` the picture of them,
+-- `run` the text of taken ones, `plain` that of its calls made alone, `print` the printed form, `ends` that of lists and of endpoint
+-- calls after them, `sched` that of the schedule of its tasks.
+abbrev pub IsAnswer : (command : Command) → InputOf command → List ℕ → Type 0
 IsAnswer Replay script text = GivenSteps script.setup script.lists script.order text
+IsAnswer Trace script text = GivenTrace script.version script.setup script.lists script.order text
+IsAnswer Draw script text = GivenDrawing script.setup script.lists script.order text
 IsAnswer Run script text = TakenSteps script.setup script.lists text
 IsAnswer Plain script text = text ≡ plain_text script.setup (list_of script.lists)
 IsAnswer Print script text = text ≡ printed script
+IsAnswer Ends input text = EndsText input.script.setup input.script.lists input.asks text
+IsAnswer Sched input text = SchedTrace input text
 
--- The bytes are a script.
-pub record AreScript (bytes : List ℕ) : Type 0 where
-  pub script : Meaning
-  pub is_script : IsScript bytes script
+-- The command makes calls by threads, and asks the gate.
+abbrev pub UsesThreads : Command → Type 0
+UsesThreads Run = Unit {0}
+UsesThreads Ends = Unit {0}
+UsesThreads command = ⊥
 
--- The bytes are a script, and the text is this of the script.
-pub record IsMade (Is : Meaning → List ℕ → Type 0) (bytes text : List ℕ) : Type 0 where
-  pub script : Meaning
-  pub is_script : IsScript bytes script
-  pub is_text : Is script text
+-- The bytes are such as the command takes.
+abbrev pub AreInput : Command → List ℕ → Type 0
+AreInput command bytes = IsTaken (read_by command) bytes
+
+-- The bytes are none that the command takes, and this is their first fault.
+abbrev pub IsFaultOf : Command → List ℕ → ℕ → Cause → Type 0
+IsFaultOf command bytes line cause = read_by command bytes ≡ Err (record { line = line; cause = cause })
+
+-- What a command makes of bytes.
+abbrev pub MadeBy : Command → List ℕ → List ℕ → Type 0
+MadeBy command bytes text = IsMade (read_by command) (IsAnswer command) bytes text

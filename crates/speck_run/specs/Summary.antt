@@ -3,11 +3,11 @@ use Rattle.std.specs.Prelude.{◌≡◌, ℕ, List, string_bytes}
 use Rattle.spk_nums.specs.declared.calls.Call.{Call}
 use Rattle.spk_nums.specs.declared.steps.Item.{Item}
 use Rattle.spk_nums.specs.Setting.{Setting}
-use Rattle.lone_kernel.specs.kernel_rules.specs.Laws.{ticks}
-use Rattle.lone_kernel.specs.kernel_history.specs.Trace.{Trace, state_after, decisions_of}
-use Rattle.lone_kernel.specs.kernel_history.specs.Order.{HasCalls, Follows}
-use Rattle.lone_kernel.specs.flight.specs.Made.{ready_after}
-use Rattle.lone_kernel.specs.flight_laws.specs.Histories.{IsHistory}
+use Rattle.trace_run.specs.lone_kernel.specs.kernel_rules.specs.Laws.{ticks}
+use Rattle.trace_run.specs.lone_kernel.specs.kernel_history.specs.Trace.{Trace, state_after, decisions_of}
+use Rattle.trace_run.specs.lone_kernel.specs.kernel_history.specs.Order.{HasCalls, Follows}
+use Rattle.trace_run.specs.lone_kernel.specs.flight.specs.Made.{ready_after}
+use Rattle.trace_run.specs.lone_kernel.specs.flight_laws.specs.Histories.{IsHistory}
 use Rattle.script_reader.specs.Readings.{Meaning}
 use Rattle.load_summary.specs.Summaries.{summary_text}
 use Rattle.speck_run.specs.declared.summary.Summed.{Summed}

@@ -2,22 +2,18 @@
 use Rattle.std.specs.Prelude.{◌≡◌, ◌⊎◌, ◌++◌, ◌^◌, ℕ, ◌<◌, ◌≤◌, List, [], ◌∷◌, length, map, Option, Some, None, String, string_bytes, codes}
 use Rattle.std.specs.Fmt.{decimal}
 use Rattle.std.specs.Global.{Global, Vec}
-use Rattle.spk_nums.specs.Setting.{Setting}
-use Rattle.spk_nums.specs.declared.calls.Call.{Call}
 use Rattle.byte_ends.specs.Ends.{HasRisen, Adds}
-use Rattle.core_kernel.specs.TakenSteps.{TakenSteps}
 use Rattle.script_reader.specs.declared.cause.Cause.{Cause}
 use Rattle.script_reader.specs.Causes.{cause_text}
 use Rattle.script_reader.specs.Numerals.{number_of}
-use Rattle.script_reader.specs.Readings.{Meaning}
 use Rattle.load_maker.specs.Loads.{script_made, load_text}
 use Rattle.speck_run.specs.declared.words.Command.{Command}
-use Rattle.speck_run.specs.declared.words.Command.TheVariants.{Replay, Run, Plain, Print}
+use Rattle.speck_run.specs.declared.words.Command.TheVariants.{Replay, Trace, Draw, Run, Plain, Print, Ends, Sched}
 use Rattle.speck_run.specs.declared.top.Status.{Status}
 use Rattle.speck_run.specs.declared.top.Status.TheVariants.{Done, Words, Script, ReadFault, WriteFault, Memory, TooLong, Stopped}
 use Rattle.whole_ends.specs.Ends.{Gives, GivesAll, AddsFront}
 use Rattle.speck_run.specs.Summary.{GivenSummary}
-use Rattle.speck_run.specs.Script.{IsFirstFault, IsAnswer, AreScript, IsMade}
+use Rattle.speck_run.specs.Script.{MadeBy, IsFaultOf, AreInput, UsesThreads}
 
 -- A command line: the words after the program's name.
 abbrev pub CommandLine : Type 0
@@ -26,12 +22,20 @@ CommandLine = Vec (String Global)
 abbrev pub texts_of : CommandLine → List (List ℕ)
 texts_of words = map (λ word. string_bytes word) words.items
 
--- The words ask for the command.
+-- The word of a command.
+abbrev pub word_of : Command → List ℕ
+word_of Replay = codes "replay"
+word_of Trace = codes "trace"
+word_of Draw = codes "draw"
+word_of Run = codes "run"
+word_of Plain = codes "plain"
+word_of Print = codes "print"
+word_of Ends = codes "ends"
+word_of Sched = codes "sched"
+
+-- The words ask for the command: they are its word alone.
 abbrev pub Asks : CommandLine → Command → Type 0
-Asks words Replay = texts_of words ≡ codes "replay" ∷ []
-Asks words Run = texts_of words ≡ codes "run" ∷ []
-Asks words Plain = texts_of words ≡ codes "plain" ∷ []
-Asks words Print = texts_of words ≡ codes "print" ∷ []
+Asks words command = texts_of words ≡ word_of command ∷ []
 
 -- The words ask for something of a number: this word, and the number, from 0 to 4,294,967,295, as a script writes numbers.
 pub record AsksNumber (name : List ℕ) (words : CommandLine) (number : ℕ) : Type 0 where
@@ -83,32 +87,38 @@ abbrev pub IsCommandOf : CommandLine → Option Command → Type 0
 IsCommandOf words (Some command) = Asks words command
 IsCommandOf words None = IsCommand words → ⊥
 
--- The source has given its input to the end, at most 1,048,576 bytes; it is a script, and the text is this of it.
-pub record InputMakes (Is : Meaning → List ℕ → Type 0) (left left' : Option (List ℕ)) (text : List ℕ) : Type 0 where
+-- The source has given its input to the end, at most 1,048,576 bytes, and the text is this of it.
+pub record InputMakes (Made : List ℕ → List ℕ → Type 0) (left left' : Option (List ℕ)) (text : List ℕ) : Type 0 where
   pub bytes : List ℕ
   pub input : GivesAll bytes left left'
   pub small : length bytes ≤ 1048576
-  pub made : IsMade Is bytes text
+  pub made : Made bytes text
 
--- The source has given its input to the end, at most 1,048,576 bytes; it is no script, and this is its first fault.
-pub record InputFaults (left left' : Option (List ℕ)) (line : ℕ) (cause : Cause) : Type 0 where
+-- The words ask for a command, and the source has given its input to the end, at most 1,048,576 bytes; it is none that the command
+-- takes, and this is its first fault.
+pub record InputFaults (words : CommandLine) (left left' : Option (List ℕ)) (line : ℕ) (cause : Cause) : Type 0 where
+  pub command : Command
+  pub asks : Asks words command
   pub bytes : List ℕ
   pub input : GivesAll bytes left left'
   pub small : length bytes ≤ 1048576
-  pub fault : IsFirstFault bytes line cause
+  pub fault : IsFaultOf command bytes line cause
 
--- The words ask for `run`, and the source has given its input to the end, at most 1,048,576 bytes, which is a script.
+-- The words ask for a command that goes by threads, and the source has given its input to the end, at most 1,048,576 bytes, which is
+-- such as the command takes.
 pub record InputRuns (words : CommandLine) (left left' : Option (List ℕ)) : Type 0 where
-  pub asks : Asks words Run
+  pub command : Command
+  pub asks : Asks words command
+  pub threads : UsesThreads command
   pub bytes : List ℕ
   pub input : GivesAll bytes left left'
   pub small : length bytes ≤ 1048576
-  pub is_script : AreScript bytes
+  pub is_input : AreInput command bytes
 
--- The input is a script, and the sink has taken a whole text, which is this of that script.
-pub record CarriesOut (Is : Meaning → List ℕ → Type 0) (left left' held held' : Option (List ℕ)) : Type 0 where
+-- The sink has taken a whole text, which is this of the input.
+pub record CarriesOut (Made : List ℕ → List ℕ → Type 0) (left left' held held' : Option (List ℕ)) : Type 0 where
   pub text : List ℕ
-  pub makes : InputMakes Is left left' text
+  pub makes : InputMakes Made left left' text
   pub written : Adds text held held'
 
 -- The line that is written for a status, or the text for `Done`.
@@ -136,7 +146,7 @@ pub record Asked : Type 0 where
 pub record IsTextOf (a : Asked) (text : List ℕ) : Type 0 where
   pub command : Command
   pub asks : Asks a.words command
-  pub makes : InputMakes (IsAnswer command) a.left a.left' text
+  pub makes : InputMakes (MadeBy command) a.left a.left' text
 
 -- The words ask for the script of a number, and the text is its text.
 pub record MakesText (words : CommandLine) (text : List ℕ) : Type 0 where
@@ -165,17 +175,17 @@ IsDue a Done text = IsDone a text
 IsDue a Words text = (IsUnderstood a.words → ⊥) × (text ≡ words_line)
 IsDue a ReadFault text = IsCommand a.words × HasRisen a.faults a.faults' × (text ≡ read_line)
 IsDue a TooLong text = IsCommand a.words × Gives 1048577 a.left a.left' × (text ≡ long_line)
-IsDue a (Script line cause) text = IsCommand a.words × InputFaults a.left a.left' line cause × (text ≡ script_line line cause)
+IsDue a (Script line cause) text = InputFaults a.words a.left a.left' line cause × (text ≡ script_line line cause)
 IsDue a Stopped text = InputRuns a.words a.left a.left' × (text ≡ [])
 IsDue a WriteFault text = ⊥
 IsDue a Memory text = ⊥
 
--- What is due under a command for an input that was read to its end: what the command makes of it, or nothing where a run was
+-- What is due under a command for an input that was read to its end: what the command makes of it, or nothing where a core was
 -- stopped, or the line of its first fault.
 abbrev pub IsDueOf : Command → List ℕ → Status → List ℕ → Type 0
-IsDueOf command bytes Done text = IsMade (IsAnswer command) bytes text
-IsDueOf command bytes Stopped text = (command ≡ Run) × AreScript bytes × (text ≡ [])
-IsDueOf command bytes (Script line cause) text = IsFirstFault bytes line cause × (text ≡ script_line line cause)
+IsDueOf command bytes Done text = MadeBy command bytes text
+IsDueOf command bytes Stopped text = UsesThreads command × AreInput command bytes × (text ≡ [])
+IsDueOf command bytes (Script line cause) text = IsFaultOf command bytes line cause × (text ≡ script_line line cause)
 IsDueOf command bytes _ text = ⊥
 
 -- The sink has taken the summary of the script of a number.
@@ -183,12 +193,6 @@ pub record WritesSummary (number : ℕ) (held held' : Option (List ℕ)) : Type 
   pub text : List ℕ
   pub is_text : IsSummary number text
   pub written : Adds text held held'
-
--- What is due for a script whose lists are made: its text of taken steps, or nothing where a core was stopped.
-abbrev pub IsRunOf : Setting → List (List Call) → Status → List ℕ → Type 0
-IsRunOf setup lists Done text = TakenSteps setup lists text
-IsRunOf setup lists Stopped text = text ≡ []
-IsRunOf setup lists _ text = ⊥
 
 -- A prefix of a text that was due.
 pub record WritesFront (a : Asked) (held held' : Option (List ℕ)) : Type 0 where
@@ -208,13 +212,13 @@ Writes a held held' Stopped = Adds [] held held'
 Writes a held held' WriteFault = WritesFront a held held'
 Writes a held held' Memory = held' ≡ held
 
--- The status that an input has where nothing fails: it is too long; or it is no script, and has a first fault; or it is a
--- script.
-abbrev pub IsStatusOf : List ℕ → Status → Type 0
-IsStatusOf bytes TooLong = 1048576 < length bytes
-IsStatusOf bytes (Script line cause) = (length bytes ≤ 1048576) × IsFirstFault bytes line cause
-IsStatusOf bytes Done = (length bytes ≤ 1048576) × AreScript bytes
-IsStatusOf bytes _ = ⊥
+-- The status that an input has under a command where nothing fails: it is too long; or it is none that the command takes, and has a
+-- first fault; or it is one.
+abbrev pub IsStatusOf : Command → List ℕ → Status → Type 0
+IsStatusOf command bytes TooLong = 1048576 < length bytes
+IsStatusOf command bytes (Script line cause) = (length bytes ≤ 1048576) × IsFaultOf command bytes line cause
+IsStatusOf command bytes Done = (length bytes ≤ 1048576) × AreInput command bytes
+IsStatusOf command bytes _ = ⊥
 
 -- The status is this one, unless a write has failed or memory has run out.
 abbrev pub IsUnlessUnwritten : Status → Status → Type 0
@@ -224,15 +228,15 @@ IsUnlessUnwritten due status = (status ≡ due) ⊎ ((status ≡ WriteFault) ⊎
 abbrev pub IsUnlessFault : Status → Status → Type 0
 IsUnlessFault due status = (status ≡ due) ⊎ ((status ≡ Stopped) ⊎ IsUnlessUnwritten ReadFault status)
 
--- The status is that of the input, where the source tells it, unless something has failed.
-abbrev pub Answers : Option (List ℕ) → Status → Type 0
-Answers None status = Unit {0}
-Answers (Some left) status = (due : Status) → IsStatusOf left due → IsUnlessFault due status
+-- The status is that of the input under the command, where the source tells it, unless something has failed.
+abbrev pub Answers : Command → Option (List ℕ) → Status → Type 0
+Answers command None status = Unit {0}
+Answers command (Some left) status = (due : Status) → IsStatusOf command left due → IsUnlessFault due status
 
--- The source tells at most 1,048,576 bytes, which are a script.
-abbrev pub IsAccepted : Option (List ℕ) → Type 0
-IsAccepted None = ⊥
-IsAccepted (Some left) = (length left ≤ 1048576) × AreScript left
+-- The source tells at most 1,048,576 bytes, which are such as the command takes.
+abbrev pub IsAccepted : Command → Option (List ℕ) → Type 0
+IsAccepted command None = ⊥
+IsAccepted command (Some left) = (length left ≤ 1048576) × AreInput command left
 
 -- The text is written and the status stands, or the sink has failed and holds the text's front.
 abbrev pub Finishes : Status → List ℕ → ℕ → ℕ → Option (List ℕ) → Option (List ℕ) → Status → Type 0

@@ -1,12 +1,12 @@
 //! The tables and the total of what a machine has left.
 
 ghost use Rattle.std.specs.Prelude.{◌≡◌, IfOk, length, string_bytes};
-ghost use Rattle.lone_kernel.specs.word_map.specs.Places.{size_of};
-ghost use Rattle.lone_kernel.specs.kernel_rules.specs.State.{State};
-ghost use Rattle.lone_kernel.specs.kernel_rules.specs.Laws.{ticks};
-ghost use Rattle.lone_kernel.specs.kernel_history.specs.FinalWords.{Represent, word_in, end_in};
-ghost use Rattle.lone_kernel.specs.kernel_history.specs.Counts.{RepresentCounts};
-ghost use Rattle.lone_kernel.specs.kernel_history.specs.Tables.{tables_of};
+ghost use Rattle.trace_run.specs.lone_kernel.specs.word_map.specs.Places.{size_of};
+ghost use Rattle.trace_run.specs.lone_kernel.specs.kernel_rules.specs.State.{State};
+ghost use Rattle.trace_run.specs.lone_kernel.specs.kernel_rules.specs.Laws.{ticks};
+ghost use Rattle.trace_run.specs.lone_kernel.specs.kernel_history.specs.FinalWords.{Represent, word_in, end_in};
+ghost use Rattle.trace_run.specs.lone_kernel.specs.kernel_history.specs.Counts.{RepresentCounts};
+ghost use Rattle.trace_run.specs.lone_kernel.specs.kernel_history.specs.Tables.{tables_of};
 
 use spk_nums::Memory;
 use std::alloc::Global;

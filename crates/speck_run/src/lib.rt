@@ -3,7 +3,10 @@
 //! See docs/CLAIMS.md, 'The claims', and docs/PROOF.md, 'From the bytes read to the bytes written'.
 #![tactic(auto)]
 
+mod answers;
 mod closed;
+mod ends;
+mod inputs;
 mod orders;
 mod replay;
 mod runs;
@@ -13,6 +16,7 @@ mod top;
 mod words;
 
 pub use core_kernel::{FreeGate, Gate};
+pub use ends::make_ends;
 pub use runs::run_lists;
 pub use summary::{Summed, sum_up};
 pub use top::{Status, speck};

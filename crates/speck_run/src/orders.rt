@@ -1,10 +1,10 @@
 //! Orders over the machine for given orders: the items of an order one after another, then each core to its list's end.
 ghost use Rattle.std.specs.Prelude.{◌≡◌, ◌<◌, All};
-ghost use Rattle.lone_kernel.specs.Machine.{IsFinished};
+ghost use Rattle.trace_run.specs.lone_kernel.specs.Machine.{IsFinished};
 ghost use Rattle.speck_run.specs.Orders.{GoesByItem, GoesByItems, RunsCoreOut, RunsCoresOut};
 
-use lone_kernel::{LoneKernel, Moved};
 use spk_nums::{CoreNo, Item, Setup};
+use trace_run::lone_kernel::{LoneKernel, Moved};
 
 fn take(kernel: &mut LoneKernel, item: &Item) -> Moved
     requires { item.now.core < kernel.old.setup.cores }

@@ -1,14 +1,14 @@
 //! Lists and an order, taken as `replay` does.
 ghost use Rattle.std.specs.Prelude.{◌≡◌, ◌<◌, IfOk, All, map, length, string_bytes};
-ghost use Rattle.lone_kernel.specs.GivenSteps.{GivenSteps};
-ghost use Rattle.lone_kernel.specs.Machine.{AreLists};
+ghost use Rattle.trace_run.specs.lone_kernel.specs.GivenSteps.{GivenSteps};
+ghost use Rattle.trace_run.specs.lone_kernel.specs.Machine.{AreLists};
 
 use crate::closed::tables;
 use crate::orders::{follow, run_rest};
 use crate::text::write_decisions;
-use lone_kernel::LoneKernel;
 use spk_nums::{Call, Item, Memory, Setup};
 use std::alloc::Global;
+use trace_run::lone_kernel::LoneKernel;
 
 /// Takes the items of the order, then runs each core out, and answers the text of the trace that this makes: its reply
 /// lines, then its tables. There is a list for each core, each of fewer than 2^32 calls that are within their limits;

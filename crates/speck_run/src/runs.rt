@@ -1,7 +1,7 @@
 //! Lists, made as `run` does.
 ghost use Rattle.std.specs.Prelude.{◌≡◌, true, IfOk, IfSome, IsSome, map, length, string_bytes};
 ghost use Rattle.core_kernel.specs.TakenSteps.{TakenSteps};
-ghost use Rattle.lone_kernel.specs.Machine.{AreLists};
+ghost use Rattle.trace_run.specs.lone_kernel.specs.Machine.{AreLists};
 
 use crate::closed::tables;
 use crate::text::write_decisions;

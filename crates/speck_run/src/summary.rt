@@ -1,15 +1,15 @@
 //! Lists and an order, taken as `replay` does and summed up.
 ghost use Rattle.std.specs.Prelude.{◌≡◌, ◌<◌, ◌≤◌, IfOk, All, map, length, string_bytes};
-ghost use Rattle.lone_kernel.specs.Machine.{AreLists};
+ghost use Rattle.trace_run.specs.lone_kernel.specs.Machine.{AreLists};
 ghost use Rattle.speck_run.specs.Summary.{GivenSummary, IsSummedUp};
 
 use crate::closed::total_ticks;
 use crate::orders::{follow, run_rest};
 use load_summary::{push_counts, push_total};
-use lone_kernel::LoneKernel;
 use script_reader::{Cause, ReadFault, Script, read};
 use spk_nums::{Call, Item, Memory, Setup};
 use std::alloc::Global;
+use trace_run::lone_kernel::LoneKernel;
 
 /// What became of an input that was to be summed up.
 #[derive(Debug, Drop)]

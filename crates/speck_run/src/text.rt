@@ -1,7 +1,7 @@
 //! The reply lines of a run, a line for each decision, in order.
 ghost use Rattle.std.specs.Prelude.{◌≡◌, ◌++◌, OnOk, map, string_bytes};
-ghost use Rattle.lone_kernel.specs.kernel_history.specs.Order.{list_of};
-ghost use Rattle.lone_kernel.specs.kernel_history.specs.Text.{line_of};
+ghost use Rattle.trace_run.specs.lone_kernel.specs.kernel_history.specs.Order.{list_of};
+ghost use Rattle.trace_run.specs.lone_kernel.specs.kernel_history.specs.Text.{line_of};
 ghost use Rattle.speck_run.specs.Written.{lines_of};
 
 use script_printer::push_reply_line;

@@ -1,31 +1,36 @@
 //! The top call: words, then reading, then the script, then writing.
 
-ghost use Rattle.std.specs.Prelude.{◌≡◌, ℕ, ◌<◌, ◌≤◌, ◌⊎◌, ◌↔◌, true, IsTrue, IfOk, map, length, string_bytes};
+ghost use Rattle.std.specs.Prelude.{◌≡◌, ℕ, ◌<◌, ◌⊎◌, true, IfOk, string_bytes};
 ghost use Rattle.byte_ends.specs.Ends.{HasRisen, Adds};
-ghost use Rattle.lone_kernel.specs.kernel_history.specs.Order.{list_of};
-ghost use Rattle.lone_kernel.specs.kernel_history.specs.Text.{plain_text};
+ghost use Rattle.trace_run.specs.lone_kernel.specs.kernel_history.specs.Order.{list_of};
+ghost use Rattle.trace_run.specs.lone_kernel.specs.kernel_history.specs.Text.{plain_text};
 ghost use Rattle.core_kernel.specs.TakenSteps.{TakenSteps};
-ghost use Rattle.lone_kernel.specs.GivenSteps.{GivenSteps};
-ghost use Rattle.lone_kernel.specs.Machine.{AreLists};
+ghost use Rattle.trace_run.specs.lone_kernel.specs.GivenSteps.{GivenSteps};
+ghost use Rattle.trace_run.specs.GivenTrace.{GivenTrace};
+ghost use Rattle.draw_run.specs.GivenDrawing.{GivenDrawing};
+ghost use Rattle.script_reader.specs.Readings.{script_of};
 ghost use Rattle.script_printer.specs.Printing.{printed};
+ghost use Rattle.ends_reader.specs.Inputs.{input_of};
+ghost use Rattle.one_core.specs.sched_reader.specs.Inputs.{input_of as sched_input_of};
+ghost use Rattle.one_core.specs.Scheduled.{SchedTrace};
 ghost use Rattle.load_maker.specs.Loads.{load_text};
 ghost use Rattle.speck_run.specs.declared.words.Command.{Command};
 ghost use Rattle.speck_run.specs.declared.words.Command.TheVariants as commands;
-ghost use Rattle.whole_ends.specs.Ends.{Gives, GivesAll, GivesAtMost};
-ghost use Rattle.speck_run.specs.Top.{Asks, AsksMake, AsksLoad, IsCommand, IsMake, IsLoad, IsUnderstood, IsDue, IsDueOf};
-ghost use Rattle.speck_run.specs.Top.{IsSummary, InputFaults, InputRuns, IsRunOf, CarriesOut, WritesSummary, Writes};
-ghost use Rattle.speck_run.specs.Top.{Answers, IsUnlessUnwritten, IsAccepted, Finishes, script_line, status_number};
+ghost use Rattle.whole_ends.specs.Ends.{Gives, GivesAtMost};
+ghost use Rattle.speck_run.specs.Top.{Asks, AsksMake, AsksLoad, IsCommand, IsMake, IsLoad, IsUnderstood, IsDue};
+ghost use Rattle.speck_run.specs.Top.{IsSummary, InputFaults, InputRuns, CarriesOut, WritesSummary, Writes};
+ghost use Rattle.speck_run.specs.Script.{IsMade, UsesThreads};
+ghost use Rattle.speck_run.specs.Ends.{EndsText};
+ghost use Rattle.speck_run.specs.Top.{Answers, IsUnlessUnwritten, IsAccepted, Finishes, status_number};
 
-use crate::replay::replay;
-use crate::runs::run_lists;
+use crate::answers::{Answer, line, made};
+use crate::inputs::judge_input;
 use crate::summary::summarize;
-use crate::words::{Command, command_of, number_after};
+use crate::words::{command_of, number_after};
 use byte_ends::{Sink, Source};
 use core_kernel::Gate;
 use load_maker::{load_script, made_script};
-use plain_run::plain;
-use script_printer::print;
-use script_reader::{Cause, ReadFault, Script, read};
+use script_reader::{Cause, Script};
 use spk_nums::Memory;
 use std::alloc::Global;
 use std::thread::Threads;
@@ -38,7 +43,7 @@ pub enum Status {
     Done,
     /// The words are not understood.
     Words,
-    /// The input is no script; this is its first fault.
+    /// The input is none that the command takes; this is its first fault.
     Script { line: u32, cause: Cause },
     /// The source failed.
     ReadFault,
@@ -48,7 +53,7 @@ pub enum Status {
     Memory,
     /// The source gave more than 1,048,576 bytes.
     TooLong,
-    /// The gate has stopped a core of a `run`.
+    /// The gate has stopped a core of a `run` or of an `ends`.
     Stopped,
 }
 
@@ -68,105 +73,6 @@ impl Status {
             Status::Stopped => 9,
         }
     }
-}
-
-// A status, and the text that is due with it.
-#[derive(Drop)]
-struct Answer {
-    status: Status,
-    text: String,
-}
-
-// A status whose line this is.
-fn line(alloc: Global, status: Status, text: &str) -> Result<Answer, Memory>
-    ensures status { IfOk result (λ answer. answer.status ≡ status) }
-    ensures text { IfOk result (λ answer. string_bytes answer.text ≡ text.now) }
-{
-    let text = String::from_str(alloc, text)?;
-    Ok(Answer { status, text })
-}
-
-// The answer to bytes that are no script.
-fn refuse(alloc: Global, line: u32, cause: Cause) -> Result<Answer, Memory>
-    ensures status { IfOk result (λ answer. answer.status ≡ Status.Script line cause) }
-    ensures text { IfOk result (λ answer. string_bytes answer.text ≡ script_line line cause) }
-{
-    let text = format!(in alloc; "line {line}: {cause}\n")?;
-    Ok(Answer {
-        status: Status::Script { line, cause },
-        text,
-    })
-}
-
-// The answer to a command that is carried out, and that makes this text.
-fn made(text: String) -> Answer
-    ensures status { result.status ≡ Status.Done }
-    ensures text { string_bytes result.text ≡ string_bytes text }
-{
-    Answer {
-        status: Status::Done,
-        text,
-    }
-}
-
-// What is due for a script whose lists are made: its text, or nothing where the gate has stopped a core.
-fn answer_run<R: Threads + Sync, G: Gate>(
-    rt: &R,
-    alloc: Global,
-    gate: &G,
-    script: &Script,
-) -> Result<Answer, Memory>
-    requires can_run { AreLists (map (λ v. v.items) script.now.lists.items) }
-    requires one_each { length script.now.lists.items ≡ script.now.setup.cores }
-    ensures due { IfOk result
-        (λ answer. IsRunOf script.now.setup (map (λ v. v.items) script.now.lists.items) answer.status (string_bytes answer.text)) }
-    ensures free { IfOk result (λ answer. answer.status ≡ Status.Stopped → G.is_free gate.now ≡ true → ⊥) }
-{
-    match run_lists(rt, alloc, script, gate)? {
-        Some(text) => Ok(Answer {
-            status: Status::Done,
-            text,
-        }),
-        None => line(alloc, Status::Stopped, ""),
-    }
-}
-
-// What is due for an input that was read to its end.
-fn judge_input<R: Threads + Sync, G: Gate>(
-    rt: &R,
-    alloc: Global,
-    gate: &G,
-    command: Command,
-    bytes: &[u8],
-) -> Result<Answer, Memory>
-    requires { length bytes.now ≤ 1048576 }
-    ensures due { IfOk result (λ answer. IsDueOf command bytes.now answer.status (string_bytes answer.text)) }
-    ensures free { IfOk result (λ answer. answer.status ≡ Status.Stopped → G.is_free gate.now ≡ true → ⊥) }
-{
-    let script = match read(alloc, bytes) {
-        Ok(script) => script,
-        Err(ReadFault::Memory) => return Err(Memory),
-        Err(ReadFault::Script { line, cause }) => return refuse(alloc, line, cause),
-    };
-    if matches!(command, Command::Print) {
-        let text = print(alloc, &script)?;
-        return Ok(made(text));
-    }
-    if matches!(command, Command::Plain) {
-        let text = plain(alloc, &script.setup, &script.lists)?;
-        return Ok(made(text));
-    }
-    if matches!(command, Command::Run) {
-        return answer_run(rt, alloc, gate, &script);
-    }
-    let Script {
-        version: _,
-        setup,
-        lists,
-        order,
-    } = script;
-    let text = replay(alloc, &setup, lists, &order)?;
-    Ok(made(text))
 }
 
 // What is due for words that ask for no number's script: they are judged first, then reading, then the script.
@@ -263,19 +169,29 @@ fn finish<K: Sink>(sink: &mut K, answer: &Answer) -> Status
 /// Does all that the program does: judges the words, reads the source, takes the script and writes
 /// the sink.
 ///
-/// Words other than `replay`, `run`, `plain` or `print` alone, and `make` and `load` with a number
-/// from 0 to 4,294,967,295, are `Words`, and nothing is read. Under `make` and `load` nothing is read
+/// Words other than `replay`, `trace`, `draw`, `run`, `plain`, `print`, `ends` or `sched` alone,
+/// and `make` and `load` with a number from 0 to 4,294,967,295, are `Words`, and nothing is read. Under `make` and `load` nothing is read
 /// either, and the status is `Done`: `make` writes the text of the number's script, and `load` takes
 /// the steps of that script as `replay` does and writes their summary.
 /// A source that fails is `ReadFault`, and one that gives a byte past 1,048,576 is `TooLong`; no more
 /// than that byte is taken. An input that is no script is `Script`, with its first fault. Under
 /// `replay` and `run` the script's steps are taken and their text is written, the reply lines and
-/// the tables, and the status is `Done`. `run` makes each core's calls in a thread of its own
+/// the tables, and the status is `Done`. Under `trace` the steps are taken as under `replay`; the head
+/// of the script is written and then a line for each event with the steps since the line before, and
+/// the status is `Done`.
+/// Under `draw` they are taken so too, and a picture of them is written, as SVG, and the status is `Done`.
+/// `run` makes each core's calls in a thread of its own
 /// where one can be made, and asks the gate before each call: where the gate stops a core, which a
 /// free one never does, the status is `Stopped` and nothing is written. Under `plain` the calls of
 /// each script are made alone, core 0's first, whatever its order says; their text is written, the
 /// reply lines and the tables, and the status is `Done`. Under `print` each script is written in
-/// its printed form, and the status is `Done`. Each of the other statuses writes its line in place
+/// its printed form, and the status is `Done`. Under `ends` the input is a script with endpoint
+/// calls after it: its lists are made as by `run`, and after all of them each core's endpoint calls,
+/// by threads in the same way and with the gate asked before each; their text is written, the reply
+/// lines, the lines of the endpoint calls and those of the frames, and the status is `Done`, or
+/// `Stopped` as under `run`. Under `sched` the input is a script of one core with tasks after it: its
+/// calls are made, and then the schedule of the tasks; the turns are written and then a line for each
+/// task, and the status is `Done`. Each of the other statuses writes its line in place
 /// of the text. A sink that fails is `WriteFault`, and holds a prefix of what was due. `Memory` may
 /// come in place of any status, and has written nothing. No read and no write that failed is tried
 /// again.
@@ -289,16 +205,28 @@ pub fn speck<R: Threads + Sync, G: Gate, S: Source, K: Sink>(
 ) -> Status
     // What each command has written where it is done.
     ensures replay { Asks words.now commands.Replay → result ≡ Status.Done
-        → CarriesOut (λ script text. GivenSteps script.setup script.lists script.order text)
+        → CarriesOut (IsMade script_of (λ script text. GivenSteps script.setup script.lists script.order text))
+        (S.left source.old) (S.left source.new) (K.held sink.old) (K.held sink.new) }
+    ensures trace { Asks words.now commands.Trace → result ≡ Status.Done
+        → CarriesOut (IsMade script_of (λ script text. GivenTrace script.version script.setup script.lists script.order text))
+        (S.left source.old) (S.left source.new) (K.held sink.old) (K.held sink.new) }
+    ensures draw { Asks words.now commands.Draw → result ≡ Status.Done
+        → CarriesOut (IsMade script_of (λ script text. GivenDrawing script.setup script.lists script.order text))
         (S.left source.old) (S.left source.new) (K.held sink.old) (K.held sink.new) }
     ensures run { Asks words.now commands.Run → result ≡ Status.Done
-        → CarriesOut (λ script text. TakenSteps script.setup script.lists text)
+        → CarriesOut (IsMade script_of (λ script text. TakenSteps script.setup script.lists text))
         (S.left source.old) (S.left source.new) (K.held sink.old) (K.held sink.new) }
     ensures plain { Asks words.now commands.Plain → result ≡ Status.Done
-        → CarriesOut (λ script text. text ≡ plain_text script.setup (list_of script.lists))
+        → CarriesOut (IsMade script_of (λ script text. text ≡ plain_text script.setup (list_of script.lists)))
         (S.left source.old) (S.left source.new) (K.held sink.old) (K.held sink.new) }
     ensures print { Asks words.now commands.Print → result ≡ Status.Done
-        → CarriesOut (λ script text. text ≡ printed script)
+        → CarriesOut (IsMade script_of (λ script text. text ≡ printed script))
+        (S.left source.old) (S.left source.new) (K.held sink.old) (K.held sink.new) }
+    ensures ends { Asks words.now commands.Ends → result ≡ Status.Done
+        → CarriesOut (IsMade input_of (λ input text. EndsText input.script.setup input.script.lists input.asks text))
+        (S.left source.old) (S.left source.new) (K.held sink.old) (K.held sink.new) }
+    ensures sched { Asks words.now commands.Sched → result ≡ Status.Done
+        → CarriesOut (IsMade sched_input_of SchedTrace)
         (S.left source.old) (S.left source.new) (K.held sink.old) (K.held sink.new) }
     ensures make { (number : ℕ) → AsksMake words.now number → result ≡ Status.Done
         → Adds (load_text number) (K.held sink.old) (K.held sink.new) }
@@ -314,10 +242,10 @@ pub fn speck<R: Threads + Sync, G: Gate, S: Source, K: Sink>(
     ensures unread { (IsCommand words.now → ⊥) → source.new ≡ source.old }
 
     // Then reading, then the script.
-    ensures answers { IsCommand words.now → Answers (S.left source.old) result }
+    ensures answers { (command : Command) → Asks words.now command → Answers command (S.left source.old) result }
     ensures script { (line : ℕ) (cause : Cause) → result ≡ Status.Script line cause
-        → IsCommand words.now × InputFaults (S.left source.old) (S.left source.new) line cause }
-    // A run is stopped by a gate that is not free alone.
+        → InputFaults words.now (S.left source.old) (S.left source.new) line cause }
+    // Threads are stopped by a gate that is not free alone.
     ensures stopped { result ≡ Status.Stopped
         → InputRuns words.now (S.left source.old) (S.left source.new) × (G.is_free gate.now ≡ true → ⊥) }
     ensures long { result ≡ Status.TooLong
@@ -344,8 +272,8 @@ pub fn speck<R: Threads + Sync, G: Gate, S: Source, K: Sink>(
     ensures failed_write { K.faults sink.old < K.faults sink.new → result ≡ Status.WriteFault }
     ensures sure_sink { ((k : K) → K.faults k ≡ 0) → result ≡ Status.WriteFault → ⊥ }
     ensures complete { (command : Command) → Asks words.now command
-        → IsAccepted (S.left source.old)
-        → (command ≡ commands.Run → G.is_free gate.now ≡ true)
+        → IsAccepted command (S.left source.old)
+        → (UsesThreads command → G.is_free gate.now ≡ true)
         → (HasRisen (S.faults source.old) (S.faults source.new) → ⊥)
         → (HasRisen (K.faults sink.old) (K.faults sink.new) → ⊥)
         → (result ≡ Status.Done) ⊎ (result ≡ Status.Memory) }

@@ -5,17 +5,25 @@ ghost use Rattle.speck_run.specs.Top.{IsCommandOf, IsNumberOf, IsNumberIn, texts
 
 use script_reader::read_number;
 
-/// A command of the program that takes a script.
+/// A command of the program that takes an input.
 #[derive(Clone, Copy, Debug, PartialEq, Eq)]
 pub enum Command {
     /// Takes given steps of a script, and writes what they did.
     Replay,
+    /// Takes given steps of a script, and writes each of them.
+    Trace,
+    /// Takes given steps of a script, and writes a picture of them.
+    Draw,
     /// Makes the lists of a script, each core in a thread of its own, and writes what they did.
     Run,
     /// Makes the calls of a script alone, core 0's first, and writes what they did.
     Plain,
     /// Writes a script in its printed form.
     Print,
+    /// Makes the lists of a script and then endpoint calls, each core in a thread of its own, and writes what they did.
+    Ends,
+    /// Makes the calls of a script of one core and then schedules tasks on it, and writes the turns.
+    Sched,
 }
 
 // Whether the words are this one alone.
@@ -35,6 +43,12 @@ pub fn command_of(words: &Vec<String>) -> Option<Command>
     if is_alone(words, "replay") {
         return Some(Command::Replay);
     }
+    if is_alone(words, "trace") {
+        return Some(Command::Trace);
+    }
+    if is_alone(words, "draw") {
+        return Some(Command::Draw);
+    }
     if is_alone(words, "run") {
         return Some(Command::Run);
     }
@@ -43,6 +57,12 @@ pub fn command_of(words: &Vec<String>) -> Option<Command>
     }
     if is_alone(words, "print") {
         return Some(Command::Print);
+    }
+    if is_alone(words, "ends") {
+        return Some(Command::Ends);
+    }
+    if is_alone(words, "sched") {
+        return Some(Command::Sched);
     }
     None
 }

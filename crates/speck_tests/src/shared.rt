@@ -53,6 +53,26 @@ pub fn list_of(alloc: Global, words: &[&str]) -> Result<Vec<String>, Fail> {
     Ok(list)
 }
 
+/// Whether this command on this script ends with this status, and the sink then holds this text.
+pub fn by_words<R: Threads + Sync, G: Gate>(
+    rt: &R,
+    alloc: Global,
+    gate: &G,
+    command: &str,
+    script: &str,
+    status: Status,
+    text: &str,
+) -> Result<bool, Fail> {
+    let words = list_of(alloc, &[command])?;
+    let bytes = Vec::from_slice(alloc, script.as_bytes())?;
+    let none = Vec::new(alloc);
+    let mut source = MemSource::new(bytes, 4096, none);
+    let none = Vec::new(alloc);
+    let mut sink = MemSink::new(alloc, 4096, 4096, none)?;
+    let answer = speck(rt, alloc, gate, &words, &mut source, &mut sink);
+    Ok(answer == status && sink.bytes() == text.as_bytes())
+}
+
 /// Whether `run` of this script ends with this status, and the sink then holds this text.
 pub fn runs<R: Threads + Sync, G: Gate>(
     rt: &R,
@@ -62,12 +82,5 @@ pub fn runs<R: Threads + Sync, G: Gate>(
     status: Status,
     text: &str,
 ) -> Result<bool, Fail> {
-    let words = list_of(alloc, &["run"])?;
-    let bytes = Vec::from_slice(alloc, script.as_bytes())?;
-    let none = Vec::new(alloc);
-    let mut source = MemSource::new(bytes, 4096, none);
-    let none = Vec::new(alloc);
-    let mut sink = MemSink::new(alloc, 4096, 4096, none)?;
-    let answer = speck(rt, alloc, gate, &words, &mut source, &mut sink);
-    Ok(answer == status && sink.bytes() == text.as_bytes())
+    by_words(rt, alloc, gate, "run", script, status, text)
 }

@@ -1,11 +1,18 @@
--- The steps of a claim, a push and a pop stay on the words of the machine, whatever words are found.
+-- The steps of the question whether a component lives, of a claim, a push and a pop stay on the words of the machine, whatever words are
+-- found.
 use Rattle.std.proofs.Common.{◌≡◌, ℕ, ◌==◌, ◌<◌, Bool, true, false, Option, Some, None, refl, arith}
+use Rattle.frame_words.specs.Comp.{comp_of_word}
+use Rattle.frame_words.specs.declared.comp_word.CompWord.{CompWord}
+use Rattle.frame_words.proofs.CompLemmas as comps
 use Rattle.tcap_words.specs.Thread.{DepthFits, word_of_thread, thread_of_word}
 use Rattle.tcap_words.specs.declared.thread_word.ThreadWord.{ThreadWord}
 use Rattle.tcap_words.specs.declared.thread_word.ThreadWord.TheVariants as state
 use Rattle.tcap_words.proofs.ThreadLemmas as words
 use Rattle.word_map.specs.Places.{Shape, IsIn}
 use Rattle.word_map.specs.Moves.{word_of}
+use Rattle.stage_thread.specs.Living.{AliveFits, comp_after, alive_after}
+use Rattle.stage_thread.specs.declared.alive.Alive.{Alive}
+use Rattle.stage_thread.specs.declared.alive.Alive.TheVariants as alive
 use Rattle.stage_thread.specs.Claiming.{ClaimFits, claim_move, thread_after, compared_after, claim_after}
 use Rattle.stage_thread.specs.Stacking.{PushFits, push_move, push_after, PopFits, pop_move, pop_after}
 use Rattle.stage_thread.specs.declared.claim.Claim.{Claim}
@@ -14,6 +21,16 @@ use Rattle.stage_thread.specs.declared.stack.Push.{Push}
 use Rattle.stage_thread.specs.declared.stack.Push.TheVariants as push
 use Rattle.stage_thread.specs.declared.stack.Pop.{Pop}
 use Rattle.stage_thread.specs.declared.stack.Pop.TheVariants as pop
+
+comp_after_fits : (s : Shape) (comp found : ℕ) (o : Option CompWord) → comp_of_word found ≡ o → comp < s.frames
+    → AliveFits s (comp_after comp o)
+comp_after_fits s comp found None is h = h
+comp_after_fits s comp found (Some life) is h = (comps.spelling.spells found life is).0
+
+-- what is asked whether a component lives stays of the machine
+pub alive_after_fits : (s : Shape) (a : Alive) (found : ℕ) → AliveFits s a → AliveFits s (alive_after a found)
+alive_after_fits s (alive.AtComp comp) found h = comp_after_fits s comp found (comp_of_word found) refl h
+alive_after_fits s (alive.AtLive life) found h = h
 
 -- the next step of a claim is on a word of the machine
 pub claim_is_in : (s : Shape) (c : Claim) → ClaimFits s c → IsIn s (word_of (claim_move c))

@@ -13,7 +13,8 @@ use Rattle.kernel_rules.specs.State.{CompFields, ThreadFields, TcapFields, Comp,
 use Rattle.kernel_rules.specs.State.{Untyped, Kernel, Liveness, Live, Dead, State, put, comp_in}
 use Rattle.kernel_rules.specs.Start.{start}
 use Rattle.kernel_rules.specs.CapabilityCalls.{epoch_of}
-use Rattle.kernel_rules.specs.InvocationCalls.{with_thread, running, is_live_in}
+use Rattle.kernel_rules.specs.Life.{is_live_in}
+use Rattle.kernel_rules.specs.InvocationCalls.{with_thread, running}
 use Rattle.kernel_rules.specs.TimeCalls.{with_tcap, with_budget, tcap_at}
 use Rattle.kernel_rules.specs.CallRelation.{owed_by, state_by, MayReply}
 use Rattle.kernel_rules.specs.Fitting.{fits}

@@ -33,7 +33,7 @@ found_inj x y e = cc
 
 pub copies_put_no_more : CopiesPutNoMore
 copies_put_no_more s c a u b rights v may =
-    let done : Has (outcome s c (copy_rule s a u b rights.0)) = has (outcome s c (copy_rule s a u b rights.0)) _ may.1 in
+    let done : Has (outcome s c (copy_rule s a u b rights.0)) = has (outcome s c (copy_rule s a u b rights.0)) _ may.1.1 in
     let first = then_parts (named s c a (to_copy any)) _ done.change done.is in
     let second = then_parts (named s c u (to_use (only kind.Table))) _ done.change first.2 in
     let target = then_parts (vacant s c (Under (found second.0) b)) _ done.change second.2 in

@@ -65,7 +65,7 @@ frame_ends : (s : State) (d : ℕ) (call : Call) (r : Reply) (f : ℕ) → MayRe
     → AreFlushed s (FrameOf f)
 frame_ends s d call (reply.Ok v) f may is =
     found_fact (change_of s d call) (λ k. k.value ≡ v) (found_by s d call (λ change. AreFlushed s (FrameOf f))
-    (λ change e. edits_flushed d s e.list e.calm e.tested f (sym (e.agrees.0 (FrameOf f)) ∙ is))) may.1
+    (λ change e. edits_flushed d s e.list e.calm e.tested f (sym (e.agrees.0 (FrameOf f)) ∙ is))) may.1.1
 frame_ends s d call _ f may is = absurd (false≢true is)
 
 pub frame_flushed : (s : State) (d : ℕ) (call : Call) (r : Reply) (f : ℕ) → MayReply s d call r → ends call r (FrameOf f) ≡ true
@@ -98,7 +98,7 @@ pub decided_refs : (s : State) (o : ℕ → Bool) (c : ℕ) (call : Call) (r : R
     → 0 < refs s f
     → (0 < refs (state_by s c call r) f) ⊎ (begins s c call r (FrameOf f) ≡ true)
 decided_refs s o c call (reply.Ok v) h lim may f some =
-    found_refs s c v (change_of s c call) (found_by s c call (RefsBy s) (refs_by s o c h call lim)) may.1 f some
+    found_refs s c v (change_of s c call) (found_by s c call (RefsBy s) (refs_by s o c h call lim)) may.1.1 f some
 decided_refs s o c call reply.CallsSpent h lim may f some = inl some
 decided_refs s o c call reply.Raced h lim may f some =
     let a = counted_refs (owed_by s c call) c f in let b = owed_refs s c call f in inl (omega (arith, some, a, b))

@@ -184,7 +184,7 @@ owed_gates s c _ = λ f i k e. inl e
 decided_new : (s : State) (o : ℕ → Bool) (c : ℕ) (call : Call) (r : Reply) → IsOpen s o c → MayReply s c call r → AreGates s o
     → DecidedGates s (state_by s c call r)
 decided_new s o c call (reply.Ok v) h may w =
-    found_gates s v (change_of s c call) (outcome_from (NewGates s) s c (rule_of s c call) (rule_gates s o c h w call)) may.1
+    found_gates s v (change_of s c call) (outcome_from (NewGates s) s c (rule_of s c call) (rule_gates s o c h w call)) may.1.1
 decided_new s o c call reply.CallsSpent h may w = λ f i k e. inl e
 decided_new s o c call reply.Raced h may w = owed_gates s c call
 decided_new s o c call (reply.Busy e) h may w = owed_gates s c call

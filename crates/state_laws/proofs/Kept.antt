@@ -275,7 +275,7 @@ owed_place s c _ f i = refl
 
 pub decided_kept : (s : State) (o : ℕ → Bool) (c : ℕ) (call : Call) (r : Reply) → IsOpen s o c → MayReply s c call r → Kept s c call r
 decided_kept s o c call (reply.Ok v) h may =
-    let k = found_kept s call v (change_of s c call) (found_by s c call (KeepsBy s call) (keeps_by s o c h call)) may.1 in
+    let k = found_kept s call v (change_of s c call) (found_by s c call (KeepsBy s call) (keeps_by s o c h call)) may.1.1 in
     record { frame = k.frame; holds = k.holds; quiescing = k.quiescing; removed = k.removed }
 decided_kept s o c call reply.CallsSpent h may = refused_kept s c call reply.CallsSpent (λ f. refl) (λ f i. refl) (λ x. refl)
 decided_kept s o c call reply.Raced h may = refused_kept s c call reply.Raced (owed_frame s c call) (owed_place s c call) (λ x. refl)

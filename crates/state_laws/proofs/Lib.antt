@@ -9,5 +9,6 @@ pub mod CachedLaw
 pub mod Lists
 pub mod Touched
 pub mod Looking
+pub mod Killed
 pub mod BothRights
 pub mod CopyRights

@@ -13,7 +13,7 @@ use Rattle.kernel_rules.specs.State.{Dead, FrameOf, State, put}
 use Rattle.kernel_rules.specs.Start.{start}
 use Rattle.kernel_rules.specs.References.{number_names, times, refs}
 use Rattle.kernel_rules.specs.CapabilityCalls.{is_live, epoch_of}
-use Rattle.kernel_rules.specs.InvocationCalls.{is_live_in}
+use Rattle.kernel_rules.specs.Life.{is_live_in}
 use Rattle.kernel_rules.specs.TimeCalls.{with_tcap}
 use Rattle.kernel_rules.specs.CallRelation.{owed_by, state_by, ends, MayReply}
 use Rattle.kernel_rules.specs.Fitting.{fits}
@@ -102,7 +102,7 @@ later_comp c s (Merge g qs ∷ es) are f l e comp = later_comp c (edited c s (Me
     (λ same. comp_put (s.frame g) _ l e (subst (λ n. IsCompOf (s.frame n) l e) same comp)) (λ other. comp))
 later_comp c s (_ ∷ es) are f l e comp = absurd are
 
-edits_numbers : (c : ℕ) (s : State) (es : List Edit) → Calm c s es → Each Tested c s es → DecidedNumbers s (after_edits c s es)
+pub edits_numbers : (c : ℕ) (s : State) (es : List Edit) → Calm c s es → Each Tested c s es → DecidedNumbers s (after_edits c s es)
 edits_numbers c s [] calm tested = record { live = λ l e f is. inl is; past = λ l e p. p }
 edits_numbers c s (e ∷ es) calm tested = record {
   live = λ l d f is. elim (n.live l d f (ap (λ (number : ℕ → Liveness). number l) (sym same) ∙ is)) [
@@ -122,7 +122,7 @@ edits_numbers c s (e ∷ es) calm tested = record {
 unchanged : (s t : State) → ((l : ℕ) → t.number l ≡ s.number l) → DecidedNumbers s t
 unchanged s t same = record { live = λ l e f is. inl (sym (same l) ∙ is); past = λ l e p. subst (IsPast e) (sym (same l)) p }
 
-owed_number : (s : State) (c : ℕ) (call : Call) (l : ℕ) → (owed_by s c call).number l ≡ s.number l
+pub owed_number : (s : State) (c : ℕ) (call : Call) (l : ℕ) → (owed_by s c call).number l ≡ s.number l
 owed_number s c (Tick n) l = refl
 owed_number s c _ l = refl
 

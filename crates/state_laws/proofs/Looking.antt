@@ -11,7 +11,7 @@ use Rattle.kernel_invariant.proofs.SoundCalls.{IsOpen}
 use Rattle.kernel_invariant.proofs.SoundRuns.{opened, open_is}
 use Rattle.found_stays.proofs.Stays.{Stay, stay_same, stay_then, names_node, usable_relies, table_relies, pages_relies, event_stay}
 use Rattle.kernel_invariant.proofs.SoundRuns.{phase_other}
-use Rattle.state_laws.specs.Looking.{names_nodes, LooksThrough, AreOfOthers, FoundStays}
+use Rattle.state_laws.specs.Looking.{names_nodes, LooksThrough, AreOfOthers, FoundStays, ActingStays}
 
 -- A core stays open through events of others.
 open_still : (later earlier : List Event) (c : ℕ) → AreOfOthers c later → phase_of (later ++ earlier) c ≡ phase_of earlier c
@@ -70,3 +70,6 @@ found_stays setting lim later earlier run c others is = record {
 
     on : (f : ℕ) → LooksThrough (after setting earlier) c f → Relies (after setting earlier) c f
     on f through = relies (after setting earlier) (opened earlier) c f (open_is setting lim earlier c (before later earlier run) is) through
+
+pub acting_stays : ActingStays
+acting_stays setting lim later earlier run c others is may = (stays setting lim later earlier run c others is).acts may

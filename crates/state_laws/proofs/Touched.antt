@@ -149,4 +149,4 @@ pub touches_cache : TouchesCache
 touches_cache setting lim events run c v f flags below may =
     touch_answers (after setting events) (opened events) c (open_is setting lim events c run (ap is_open_phase may.is_open))
     (runs_fit setting lim events run) (runs_waited setting lim events run) (translations_stand setting lim events run c below) v f flags
-    (translation_of ((after setting events).core c).cached (comp_of (after setting events) c).pages v) refl may.permitted.1
+    (translation_of ((after setting events).core c).cached (comp_of (after setting events) c).pages v) refl may.permitted.1.1

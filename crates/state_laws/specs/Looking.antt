@@ -4,11 +4,15 @@ use Rattle.spk_nums.specs.Setting.{Setting, IsSetting}
 use Rattle.spk_nums.specs.Capability.{Capability}
 use Rattle.spk_nums.specs.declared.kinds.Kind.{Kind}
 use Rattle.spk_nums.specs.declared.kinds.Kind.TheVariants as kind
-use Rattle.kernel_rules.specs.State.{State, comp_of}
+use Rattle.spk_nums.specs.declared.calls.Call.{Call}
+use Rattle.spk_nums.specs.declared.replies.Value.{Value}
+use Rattle.spk_nums.specs.declared.replies.Reply.TheVariants.{Ok}
+use Rattle.kernel_rules.specs.State.{CompFields, Dead, State, comp_of}
+use Rattle.kernel_rules.specs.Life.{may_act, asks_life}
 use Rattle.kernel_rules.specs.Access.{Want, Slot, Named, Under, usable, reached}
 use Rattle.kernel_rules.specs.Rules.{Found, named}
 use Rattle.kernel_rules.specs.Relies.{is_node}
-use Rattle.kernel_rules.specs.Runs.{Event, after, core_of, is_open, phase_of, IsRun}
+use Rattle.kernel_rules.specs.Runs.{Event, Decides, Out, after, core_of, is_open, phase_of, IsRun}
 
 -- Whether capabilities of a kind name nodes.
 abbrev pub names_nodes : Kind → Bool
@@ -51,3 +55,24 @@ abbrev pub FoundStays : Type 0
 FoundStays = (setting : Setting) → IsSetting setting → (later earlier : List Event) → IsRun setting (later ++ earlier)
     → (c : ℕ) → AreOfOthers c later → IsTrue (is_open (phase_of earlier c))
     → FindsStill (after setting earlier) (after setting (later ++ earlier)) c
+
+-- In a run, a core in an open call that may act still may, whatever other cores do: a kill waits for it, and nobody takes the liveness
+-- number before it returns.
+abbrev pub ActingStays : Type 0
+ActingStays = (setting : Setting) → IsSetting setting → (later earlier : List Event) → IsRun setting (later ++ earlier)
+    → (c : ℕ) → AreOfOthers c later → IsTrue (is_open (phase_of earlier c)) → IsTrue (may_act (after setting earlier) c)
+    → IsTrue (may_act (after setting (later ++ earlier)) c)
+
+-- The component in which a core works was killed: its liveness number was dead in its epoch after these events, when the core was out of
+-- its calls.
+pub record WasKilled (setting : Setting) (before : List Event) (c : ℕ) (k : CompFields) : Type 0 where
+  pub out : phase_of before c ≡ Out
+  pub dead : (after setting before).number k.number ≡ Dead k.epoch
+
+-- A component that was killed and whose core has left its call makes no further `ok` but `ret`, `flush` and `tick`: neither through
+-- other components, in which the core has worked since, nor where the liveness number lives again.
+abbrev pub KilledStop : Type 0
+KilledStop = (setting : Setting) (later earlier : List Event) (c : ℕ) (call : Call) (v : Value)
+    → IsRun setting (Decides c call (Ok v) ∷ later ++ earlier)
+    → WasKilled setting earlier c (comp_of (after setting (later ++ earlier)) c)
+    → asks_life call ≡ false

@@ -1,12 +1,12 @@
 //! Laws of the states that runs of the sequential kernel reach: liveness numbers, gates and threads,
-//! cached translations, rights, and what an open call has found. Each is the contract of a function.
+//! cached translations, rights, what an open call has found, and killed components. Each is the contract of a function.
 //!
 //! See docs/MODEL.md, 'What is proved of these definitions', and docs/PROOF.md, 'The laws of the sequential kernel'.
 #![tactic(auto)]
 
 ghost use Rattle.state_laws.specs.Lives.{LiveNumbersFit, CompsApart, GatesFit, DeadStays, ThreadsRun};
 ghost use Rattle.state_laws.specs.Cached.{TranslationsStand, TouchesCache};
-ghost use Rattle.state_laws.specs.Looking.{FoundStays};
+ghost use Rattle.state_laws.specs.Looking.{FoundStays, ActingStays, KilledStop};
 ghost use Rattle.state_laws.specs.Rights.{BothStay, CopiesPutNoMore, NoRightLacks};
 
 /// In every state that a run reaches, the frame of a live liveness number has a component of that number and epoch.
@@ -59,6 +59,18 @@ pub fn touches_cache()
 /// through the nodes of its look-ups, and no other core retypes such a node.
 pub fn found_stays()
     ensures { FoundStays }
+{}
+
+/// In a run, a core in an open call that may act still may, whatever other cores do.
+#[tactic(auto, using(crate::proofs::Looking::acting_stays))]
+pub fn acting_stays()
+    ensures { ActingStays }
+{}
+
+/// A component that was killed and whose core has left its call makes no further `ok` but `ret`, `flush` and `tick`.
+#[tactic(auto, using(crate::proofs::Killed::killed_stop))]
+pub fn killed_stop()
+    ensures { KilledStop }
 {}
 
 /// A copy that is carried out puts what its first name leads to, with no right that this lacks, at the place that it fills.

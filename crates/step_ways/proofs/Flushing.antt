@@ -3,7 +3,7 @@
 use Rattle.kept_facts.proofs.Common.{KillingAt, LoadComp, LoadLive, MakingAt, Mark, Store, Fill, Outside, Untype, MakeComp, Invoke}
 use Rattle.kept_facts.proofs.Common.{Return, CompMaking, CompAt, Tail, Nothing, Quiesce, Unmark, StoreDead, StoreFlush, StoreLive, Push}
 use Rattle.kept_facts.proofs.Common.{Pop, Release, Share, StoreRunning, StoreIdle, Work, Lookup, Read, Scan, Acquire, ActiveCall, Stage}
-use Rattle.kept_facts.proofs.Common.{Enter, Undecided, Decided, Leave, swept_of, release_of, UntypingAt, holds_untyping, Holding}
+use Rattle.kept_facts.proofs.Common.{Enter, Living, Undecided, Decided, Leave, swept_of, release_of, UntypingAt, holds_untyping, Holding}
 use Rattle.kept_facts.proofs.Common.{holds_counts, is_flushing, flushing_in, phase_at, KnowsAt, is_done, holds_making, holds_killing}
 use Rattle.kept_facts.proofs.Common.{holds_comp, holds_act, holds_tail, holds_work, holds_at, holds_share, holds_shared, Pair, PairAt}
 use Rattle.kept_facts.proofs.Common.{LoadA, MarkA, ListA, LoadB, ListB, CompareB, AgainB, StoreList, StoreB, StoreA, Trace, Phase, Out}
@@ -148,6 +148,7 @@ tail_flush (StoreFlush by stamp) h c none = absurd (false≢true (sym none))
 stage_flush : (stage : Stage) (h : Holding) (c : ℕ) → is_flushing stage ≡ false
     → (holds_stage stage h).stands (FlushAt c) ≡ h.stands (FlushAt c)
 stage_flush Enter h c none = refl
+stage_flush (Living alive) h c none = refl
 stage_flush (Undecided work) h c none = work_flush work h c
 stage_flush (Decided r drawn tail) h c none = tail_flush tail h c none
 stage_flush (Leave r x) h c none = refl
@@ -156,6 +157,7 @@ stage_flush (Leave r x) h c none = refl
 some_flush : (setup : Setting) (t : Trace) (c table : ℕ) (a : ActiveCall) (stage : Stage) (h : Holding) → KnowsAt setup t c table a stage
     → is_flushing stage ≡ true → 1 ≤ (holds_stage stage h).stands (FlushAt c)
 some_flush setup t c table a Enter h knows is = absurd (false≢true is)
+some_flush setup t c table a (Living alive) h knows is = absurd (false≢true is)
 some_flush setup t c table a (Undecided work) h knows is = absurd (false≢true is)
 some_flush setup t c table a (Leave r x) h knows is = absurd (false≢true is)
 some_flush setup t c table a (Decided r drawn Nothing) h knows is = absurd (false≢true is)
@@ -208,6 +210,7 @@ none_flushing (Some a) p at undecided = by a.stage refl
 
     by : (stage : Stage) → a.stage ≡ stage → is_flushing a.stage ≡ false
     by Enter is = ap is_flushing is
+    by (Living alive) is = ap is_flushing is
     by (Undecided work) is = ap is_flushing is
     by (Decided r drawn tail) is = absurd (none r (at ∙ ap (phase_at a.call) is))
     by (Leave r x) is = ap is_flushing is
@@ -215,6 +218,7 @@ none_flushing (Some a) p at undecided = by a.stage refl
 -- A call that is not decided has none.
 pub open_flushed : (call : Call) (stage : Stage) → phase_at call stage ≡ Open call → is_flushing stage ≡ false
 open_flushed call Enter opens = refl
+open_flushed call (Living alive) opens = refl
 open_flushed call (Undecided work) opens = refl
 open_flushed call (Decided r drawn tail) opens = absurd (cc)
 open_flushed call (Leave r x) opens = refl

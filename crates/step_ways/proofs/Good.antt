@@ -7,7 +7,8 @@ use Rattle.kept_facts.proofs.Common.{if◌then◌else◌, refl, cases_eq, eqb-tr
 use Rattle.kept_facts.proofs.Common.{FrameAt, LiveAt, put, first_of_stack, Frame, Untyped, User, Kernel, Blank, Table, Leaf, Pages, Pleaf}
 use Rattle.kept_facts.proofs.Common.{Comp, Thread, Tcap, put_same, put_other, Step, Trace, Out, Open, phase, state_after}
 use Rattle.kept_facts.proofs.Common.{last_left, marked_by, IsNearIn, MayFollow, is_in, clock, phase-other, flush_stored-other}
-use Rattle.kept_facts.proofs.Common.{last_left-here, last_left-there, KeepsTime, Carries, was_stays, Stage, Enter, Undecided, Decided}
+use Rattle.kept_facts.proofs.Common.{last_left-here, last_left-there, KeepsTime, Carries, was_stays, Stage, Enter, Living, Undecided}
+use Rattle.kept_facts.proofs.Common.{Decided}
 use Rattle.kept_facts.proofs.Common.{Leave, ActiveCall, Own, Nothing, Quiesce, Unmark, StoreDead, StoreFlush, Release, StoreLive, Push}
 use Rattle.kept_facts.proofs.Common.{Pop, Share, StoreRunning, StoreIdle, Core, HasThread, holds_switching, claimed_by, is_claimed}
 use Rattle.kept_facts.proofs.Common.{settled, MarkIs, Holding, keeps, holds_counts, settled_by, WordIs, SparesTcap, phase_at, CallIs}
@@ -49,6 +50,7 @@ use Rattle.kept_facts.specs.core_invariant.proofs.ThreadHolds.{IsIdleIn, claimed
 use Rattle.kept_facts.proofs.Claimed.{guarded_thread, claimed_rests}
 use Rattle.step_ways.proofs.Users.{SparesCounted, users_stay}
 use Rattle.kept_facts.specs.core_invariant.specs.Knows.{is_start}
+use Rattle.kept_facts.proofs.Carries.{alive_on}
 use Rattle.kept_facts.proofs.Carries.{KeepsUsers, undecided_on, store_on, stores_in, stores_of, dead_on, live_on}
 use Rattle.kept_facts.proofs.Carries.{looks_at, looks_in, looked_in, looked_of, claimed_in, claimed_of, KeepsThreads}
 use Rattle.kept_facts.specs.stage_sweep.specs.declared.sweep.SweepAt.TheVariants.{Load as sweep_load, Compare as sweep_compare}
@@ -447,6 +449,8 @@ module _ (setup : Setting) (setting : IsSetting setup) (cores : ℕ → Core) (t
       → (is_in (phase t c) ≡ true → ClaimRests c (holds_at stage a.counts))
       → phase t c ≡ phase_at a.call stage → KnowsAt setup t c table a stage → KnowsAt setup (e ∷ t) c table a stage
   knows_other follows time blanks c users shares table a other Enter held typed claims at has = has
+  knows_other follows time blanks c users shares table a other (Living alive) held typed claims at has =
+      alive_on setup setting t e stands.legal c a.call at (open_carries follows time c a.call other at) a.call alive has
   knows_other follows time blanks c users shares table a other (Undecided work) held typed claims at has =
       undecided_on setup setting t e stands.legal c a.call at (open_carries follows time c a.call other at) table a work
       (λ act is p share of ks has. shares.undecided (ap is_in at) of ks p has)

@@ -6,7 +6,8 @@ use Rattle.kept_facts.proofs.Common.{same_word, Move, word_of, left_of, Thing, F
 use Rattle.kept_facts.proofs.Common.{flushes, alone, calls_counted, put_same, decided-inside, Step, Trace, Out, Open, phase, after_decide}
 use Rattle.kept_facts.proofs.Common.{after_return, state_after, state_decided_in, last_left, WasAt, shape_of, IsNearIn, IsAlone, IsFirst}
 use Rattle.kept_facts.proofs.Common.{IsJustified, MayFollow, Carries, ends_in, flushes_in, flush_stored, last_small, phase-own}
-use Rattle.kept_facts.proofs.Common.{steps_in_call-own, Stage, Nothing, Enter, Undecided, Decided, Leave, ActiveCall, Core, phase_at}
+use Rattle.kept_facts.proofs.Common.{steps_in_call-own, Stage, Nothing, Enter, Living, Undecided, Decided, Leave, ActiveCall, Core}
+use Rattle.kept_facts.proofs.Common.{phase_at}
 use Rattle.kept_facts.proofs.Common.{Knows, CallIs, WorksIn, CoreIs, KnowsTail, is_flushing, flushing_in, done_by, holds_at, holds_in}
 use Rattle.kept_facts.proofs.Common.{holds, held_by, Invariant, marks_own, settled_on, sums_stay, counts_on, holds_counts, IsCalm}
 use Rattle.kept_facts.proofs.Common.{calm_counted, calm_words, counted_rises, IsUntimed, plain_time, plain_exit, BeginsNone, plain_begins}
@@ -73,6 +74,7 @@ pub record OnlyLooks (setup : Setting) (t : Trace) (c : ℕ) (call : Call) (move
 -- A step is still to come of every call.
 pub some_left : (cores : ℕ) (a : ActiveCall) (stage : Stage) → 1 ≤ left_at cores a stage
 some_left cores a Enter = omega arith
+some_left cores a (Living alive) = omega arith
 some_left cores a (Undecided work) = omega arith
 some_left cores a (Decided r drawn tail) = omega arith
 some_left cores a (Leave r x) = omega arith

@@ -6,10 +6,11 @@ use Rattle.kept_facts.proofs.Common.{Move, word_of, Thing, State, RuleMay, Refus
 use Rattle.kept_facts.proofs.Common.{state_by, alone, Step, Trace, Open, state_after, state_decided_in, last_left, IsRaceLost, IsAlone}
 use Rattle.kept_facts.proofs.Common.{refused_first, nobody_waits, not_inside, not_changed, reads_of, ActiveCall, Stage, Plan, plan_for}
 use Rattle.kept_facts.proofs.Common.{next_of, Capability, AtCompare, AtDraw, AtStore, AtCore, AtFlush, Outside, Work, Lookup, Read, Scan}
-use Rattle.kept_facts.proofs.Common.{Acquire, Act, Core, calls_counted, Nothing, Enter, Undecided, Decided, Leave, Took, core_after}
+use Rattle.kept_facts.proofs.Common.{Acquire, Act, Core, calls_counted, Nothing, Enter, Living, Undecided, Decided, Leave, Took, core_after}
 use Rattle.kept_facts.proofs.Common.{told_by, marked_by, holds_counts, phase_at, CoreIs, KnowsTail, NamesAre, LooksFor, KnowsAct}
 use Rattle.kept_facts.proofs.Common.{KnowsUndecided, KnowsAt, holds_in, held_by, Invariant, holds_tail, decided_in, returned_in}
-use Rattle.kept_facts.proofs.Common.{limits_of, marker_inside}
+use Rattle.kept_facts.proofs.Common.{limits_of, marker_inside, acts, asks_life, lives, inl, inr, IsTrue}
+use Rattle.kept_facts.specs.trace_laws.proofs.AloneCalls.{dead_first}
 use Rattle.kept_facts.specs.spk_nums.specs.declared.calls.Call.TheVariants.{Look, Make}
 use Rattle.kept_facts.specs.spk_nums.specs.declared.calls.Call.TheVariants.{Call as call_gate}
 use Rattle.kept_facts.specs.spk_nums.specs.declared.replies.Reply.TheVariants as reply
@@ -92,6 +93,7 @@ ticks_work (Act act) = ticks_in act
 
 abbrev pub ticks_at : Stage → Bool
 ticks_at Enter = false
+ticks_at (Living alive) = false
 ticks_at (Undecided work) = ticks_work work
 ticks_at (Decided r drawn tail) = false
 ticks_at (Leave r x) = false
@@ -157,6 +159,7 @@ module _ (setup : Setting) (t : Trace) (c table n : ℕ) where
   stage_ticks : (a : ActiveCall) (stage : Stage) → a.call ≡ Tick n → a.plan ≡ plan_for a.call → KnowsAt setup t c table a stage
       → phase_at a.call stage ≡ Open a.call → ticks_at stage ≡ false → ⊥
   stage_ticks a Enter of plan knows opens is = knows
+  stage_ticks a (Living alive) of plan knows opens is = false≢true (subst (λ x. IsTrue (asks_life x)) of knows.asks)
   stage_ticks a (Undecided work) of plan knows opens is = work_ticks a work of plan knows is
   stage_ticks a (Decided r drawn tail) of plan knows opens is = cc
   stage_ticks a (Leave r x) of plan knows opens is = cc
@@ -200,58 +203,66 @@ module _ (setup : Setting) (setting : IsSetting setup) (cores : ℕ → Core) (t
       → IsGood setup cores t (inner setup setting cores t stands c here a active move (Some r) None)
       (core_in_call (cores c) ((cores c).own.made + calls_counted r) (next_at a a.found (Decided r None Nothing)))
 
-  first_of : (r : Reply) → IsFirstCause r → IsAlone t (inner setup setting cores t stands c here a active move (Some r) None)
+  first_of : (r : Reply) → IsTrue (acts (state_after setup t) c a.call) → IsFirstCause r
+      → IsAlone t (inner setup setting cores t stands c here a active move (Some r) None)
       → r ≡ alone (state_after setup t) c a.call
-  first_of r first is_alone = refused_first (state_after setup t) c a.call r unspent (first (nobody r is_alone))
+  first_of r may_act first is_alone = refused_first (state_after setup t) c a.call r may_act unspent (first (nobody r is_alone))
 
-  pub refuses_no_slot : RuleMay (state_after setup t) c (rule_of (state_after setup t) c a.call) reply.NoSlot → IsFirstCause reply.NoSlot
+  pub refuses_no_slot : IsTrue (acts (state_after setup t) c a.call)
+      → RuleMay (state_after setup t) c (rule_of (state_after setup t) c a.call) reply.NoSlot → IsFirstCause reply.NoSlot
       → RefusedWith reply.NoSlot
-  refuses_no_slot may first lands =
+  refuses_no_slot may_act may first lands =
       decides_on setup setting cores t stands c here a active move reply.NoSlot a.found looks lands (still None refl) opens refl refl
       (λ x. refl) (λ x. refl) refl (unspent, may) tt
-      (first_of reply.NoSlot first)
+      (first_of reply.NoSlot may_act first)
 
-  pub refuses_empty : RuleMay (state_after setup t) c (rule_of (state_after setup t) c a.call) reply.Empty → IsFirstCause reply.Empty
+  pub refuses_empty : IsTrue (acts (state_after setup t) c a.call)
+      → RuleMay (state_after setup t) c (rule_of (state_after setup t) c a.call) reply.Empty → IsFirstCause reply.Empty
       → RefusedWith reply.Empty
-  refuses_empty may first lands =
+  refuses_empty may_act may first lands =
       decides_on setup setting cores t stands c here a active move reply.Empty a.found looks lands (still None refl) opens refl refl
       (λ x. refl) (λ x. refl) refl (unspent, may) tt
-      (first_of reply.Empty first)
+      (first_of reply.Empty may_act first)
 
-  pub refuses_wrong : RuleMay (state_after setup t) c (rule_of (state_after setup t) c a.call) reply.WrongCap
+  pub refuses_wrong : IsTrue (acts (state_after setup t) c a.call)
+      → RuleMay (state_after setup t) c (rule_of (state_after setup t) c a.call) reply.WrongCap
       → IsFirstCause reply.WrongCap → RefusedWith reply.WrongCap
-  refuses_wrong may first lands =
+  refuses_wrong may_act may first lands =
       decides_on setup setting cores t stands c here a active move reply.WrongCap a.found looks lands (still None refl) opens refl refl
       (λ x. refl) (λ x. refl) refl (unspent, may) tt
-      (first_of reply.WrongCap first)
+      (first_of reply.WrongCap may_act first)
 
-  pub refuses_right : RuleMay (state_after setup t) c (rule_of (state_after setup t) c a.call) reply.NoRight
+  pub refuses_right : IsTrue (acts (state_after setup t) c a.call)
+      → RuleMay (state_after setup t) c (rule_of (state_after setup t) c a.call) reply.NoRight
       → IsFirstCause reply.NoRight → RefusedWith reply.NoRight
-  refuses_right may first lands =
+  refuses_right may_act may first lands =
       decides_on setup setting cores t stands c here a active move reply.NoRight a.found looks lands (still None refl) opens refl refl
       (λ x. refl) (λ x. refl) refl (unspent, may) tt
-      (first_of reply.NoRight first)
+      (first_of reply.NoRight may_act first)
 
-  pub refuses_occupied : RuleMay (state_after setup t) c (rule_of (state_after setup t) c a.call) reply.Occupied
+  pub refuses_occupied : IsTrue (acts (state_after setup t) c a.call)
+      → RuleMay (state_after setup t) c (rule_of (state_after setup t) c a.call) reply.Occupied
       → IsFirstCause reply.Occupied → RefusedWith reply.Occupied
-  refuses_occupied may first lands =
+  refuses_occupied may_act may first lands =
       decides_on setup setting cores t stands c here a active move reply.Occupied a.found looks lands (still None refl) opens refl refl
       (λ x. refl) (λ x. refl) refl (unspent, may) tt
-      (first_of reply.Occupied first)
+      (first_of reply.Occupied may_act first)
 
-  pub refuses_frame_kind : RuleMay (state_after setup t) c (rule_of (state_after setup t) c a.call) reply.FrameKind
+  pub refuses_frame_kind : IsTrue (acts (state_after setup t) c a.call)
+      → RuleMay (state_after setup t) c (rule_of (state_after setup t) c a.call) reply.FrameKind
       → IsFirstCause reply.FrameKind → RefusedWith reply.FrameKind
-  refuses_frame_kind may first lands =
+  refuses_frame_kind may_act may first lands =
       decides_on setup setting cores t stands c here a active move reply.FrameKind a.found looks lands (still None refl) opens refl refl
       (λ x. refl) (λ x. refl) refl (unspent, may) tt
-      (first_of reply.FrameKind first)
+      (first_of reply.FrameKind may_act first)
 
-  pub refuses_fault : RuleMay (state_after setup t) c (rule_of (state_after setup t) c a.call) reply.Fault
+  pub refuses_fault : IsTrue (acts (state_after setup t) c a.call)
+      → RuleMay (state_after setup t) c (rule_of (state_after setup t) c a.call) reply.Fault
       → IsFirstCause reply.Fault → RefusedWith reply.Fault
-  refuses_fault may first lands =
+  refuses_fault may_act may first lands =
       decides_on setup setting cores t stands c here a active move reply.Fault a.found looks lands (still None refl) opens refl refl
       (λ x. refl) (λ x. refl) refl (unspent, may) tt
-      (first_of reply.Fault first)
+      (first_of reply.Fault may_act first)
 
   -- and owes no ticks, where it charges none
   owes_none : ticks_at a.stage ≡ false → owed_by (state_after setup t) c a.call ≡ state_after setup t
@@ -259,19 +270,28 @@ module _ (setup : Setting) (setting : IsSetting setup) (cores : ℕ → Core) (t
       (λ n of. stage_ticks setup t c (cores c).own.table n a a.stage of (is_active setup setting cores t stands c here a active).plan
       (call_is setup setting cores t stands c here a active).knows opens plain)
 
-  pub refuses_dead : RuleMay (state_after setup t) c (rule_of (state_after setup t) c a.call) reply.Dead → IsFirstCause reply.Dead
+  pub refuses_dead : IsTrue (acts (state_after setup t) c a.call)
+      → RuleMay (state_after setup t) c (rule_of (state_after setup t) c a.call) reply.Dead → IsFirstCause reply.Dead
       → RefusedWith reply.Dead
-  refuses_dead may first lands =
+  refuses_dead may_act may first lands =
       decides_on setup setting cores t stands c here a active move reply.Dead a.found looks lands (still None refl) opens refl refl
-      (λ x. refl) (λ x. refl) refl (unspent, may) tt
-      (first_of reply.Dead first)
+      (λ x. refl) (λ x. refl) refl (unspent, inr may) tt
+      (first_of reply.Dead may_act first)
 
-  pub refuses_running : (d : ℕ) → RuleMay (state_after setup t) c (rule_of (state_after setup t) c a.call) (reply.Running d)
+  pub refuses_running : (d : ℕ) → IsTrue (acts (state_after setup t) c a.call)
+      → RuleMay (state_after setup t) c (rule_of (state_after setup t) c a.call) (reply.Running d)
       → IsFirstCause (reply.Running d) → RefusedWith (reply.Running d)
-  refuses_running d may first lands =
+  refuses_running d may_act may first lands =
       decides_on setup setting cores t stands c here a active move (reply.Running d) a.found looks lands (still None refl) opens refl refl
       (λ x. refl) (λ x. refl) refl (unspent, may) tt
-      (first_of (reply.Running d) first)
+      (first_of (reply.Running d) may_act first)
+
+  -- a call that asks first whether its core may act, where its component does not live
+  pub refuses_asking : IsTrue (asks_life a.call) → lives (state_after setup t) c ≡ false → RefusedWith reply.Dead
+  refuses_asking asks dead lands =
+      decides_on setup setting cores t stands c here a active move reply.Dead a.found looks lands (still None refl) opens refl refl
+      (λ x. refl) (λ x. refl) refl (unspent, inl (asks, dead)) tt
+      (λ is_alone. dead_first (state_after setup t) c a.call unspent asks dead (λ x. nobody reply.Dead is_alone x c))
 
   -- a word that has changed since the call's last step on it
   pub refuses_raced : ticks_at a.stage ≡ false

@@ -8,7 +8,7 @@ use Rattle.freeze_invariant.proofs.Common.{Acquired, EntryAt, State, FrameOf, re
 use Rattle.freeze_invariant.proofs.Common.{state_after, last_left, Plan, Close, AtCompare, AtDraw, AtStore, MakingAt, CompMaking, CompAt}
 use Rattle.freeze_invariant.proofs.Common.{KillingAt, UntypingAt, Switching, SwitchAt, Fill, Outside, Untype, MakeComp, Invoke, Return}
 use Rattle.freeze_invariant.proofs.Common.{Tail, Nothing, Quiesce, Unmark, StoreDead, StoreFlush, Release, StoreLive, Push, Pop}
-use Rattle.freeze_invariant.proofs.Common.{StoreRunning, StoreIdle, Work, Lookup, Read, Scan, Acquire, ActiveCall, Stage, Enter}
+use Rattle.freeze_invariant.proofs.Common.{StoreRunning, StoreIdle, Work, Lookup, Read, Scan, Acquire, ActiveCall, Stage, Enter, Living}
 use Rattle.freeze_invariant.proofs.Common.{Undecided, Decided, Leave, release_of, swept_of, Core, Holding, holds_counts, settled}
 use Rattle.freeze_invariant.proofs.Common.{settled_by, holds_untyping, KnowsAct, KnowsAt, KnowsTail, KnowsWork, CallIs, phase_at}
 use Rattle.freeze_invariant.proofs.Common.{KnowsStoresAt, Invariant, holds, held_by, holds_act, holds_comp}
@@ -218,6 +218,7 @@ module _ (setup : Setting) (setting : IsSetting setup) (cores : ℕ → Core) (t
       stage_entry : (table : ℕ) (a : ActiveCall) (stage : Stage) → phase t d ≡ phase_at a.call stage → KnowsAt setup t d table a stage
           → (h : Holding) → Same f i (holds_stage stage h) h
       stage_entry table a Enter at knows h = absurd knows
+      stage_entry table a (Living alive) at knows h = refl
       stage_entry table a (Undecided work) at knows h = work_entry table a at work knows.knows h
       stage_entry table a (Decided r drawn tail) at knows h = tail_entry a.call a.counts tail knows h
       stage_entry table a (Leave r x) at knows h = refl

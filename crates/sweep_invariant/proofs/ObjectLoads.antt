@@ -140,7 +140,7 @@ module _ (setup : Setting) (setting : IsSetting setup) (cores : ℕ → Core) (t
               (inr (inr (inr (inr (inr (inl (is_full, refl))))))),
         )
         tt
-        (λ is_alone. refused_first s c a.call reply.NotEmpty unspent
+        (λ is_alone. refused_first s c a.call reply.NotEmpty has.acts unspent
         (calls.by_causes setup setting cores t stands c here a active m stage_is has None None None None (Some reply.NotEmpty)
         (calls.kind_none setup setting cores t stands c here a active m stage_is has known)
         (calls.refs_none setup setting cores t stands c here a active m stage_is has zero_refs)
@@ -172,6 +172,7 @@ module _ (setup : Setting) (setting : IsSetting setup) (cores : ℕ → Core) (t
             (sym (sweep_held setup setting cores t stands c here a active f core word w stage_is has))
             (calls.opens setup setting cores t stands c here a active m stage_is has)
             (λ carries. record {
+              acts = has.acts;
               names = names_on setup setting t e stands.legal c a.call is_open carries (cores c).own.table a.plan a.found has.names;
               knows = record {
                 knows = record {
@@ -213,6 +214,7 @@ module _ (setup : Setting) (setting : IsSetting setup) (cores : ℕ → Core) (t
             ∙ sym (sweep_held setup setting cores t stands c here a active f core word w stage_is has))
             (calls.opens setup setting cores t stands c here a active m stage_is has)
             (λ carries. record {
+              acts = has.acts;
               names = names_on setup setting t e stands.legal c a.call is_open carries (cores c).own.table a.plan a.found has.names;
               knows = going.done_knows setup c (cores c).own.table a no_counts f core word has.knows.knows.core
                   (λ n is. untypes_on a.call a.found m n is has.knows.knows.untypes) (e ∷ t) done

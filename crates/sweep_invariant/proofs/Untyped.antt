@@ -575,7 +575,7 @@ module _ (setup : Setting) (setting : IsSetting setup) (cores : ℕ → Core) (t
     permitted : MayReply s c a.call r
     permitted = (
       calls.unspent setup setting cores t stands c here a active m stage_is has,
-      subst (λ y. IsFoundAnd y (λ z. z.value ≡ value.Nothing)) (sym is_change) refl,
+      (has.acts, subst (λ y. IsFoundAnd y (λ z. z.value ≡ value.Nothing)) (sym is_change) refl),
     )
 
     draw_at : GoodTook setup cores t c (AddOf ClockAt 1) (landed a (drawn_untyped f w now_at))

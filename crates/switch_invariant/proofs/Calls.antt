@@ -218,6 +218,7 @@ module _ (setup : Setting) (setting : IsSetting setup) (cores : ℕ → Core) (t
       loads_on setup setting cores t stands c here a active (LoadOf (EntryAt g i)) a.found
       (Undecided (Act (switch_act (record m { at = at })))) (looks_at g i near_it) lands held opens
       (λ carries. record {
+        acts = has.acts;
         names = names_on setup setting t (load g i) stands.legal c a.call is_open carries (cores c).own.table a.plan a.found has.names;
         knows = record { knows = carried (LoadOf (EntryAt g i)) at same now; all = due; goes = refl };
       })

@@ -105,7 +105,7 @@ module _ (setup : Setting) (setting : IsSetting setup) (cores : ℕ → Core) (t
         refuses_running setup setting cores t stands c here a active
         (calls.opens setup setting cores t stands c here a active m stage_is has) held_is
         (calls.room setup setting cores t stands c here a active m stage_is has) (LoadOf (EntryAt f 0))
-        (calls.looks_at setup setting cores t stands c here a active m stage_is has f 0 near_it) e
+        (calls.looks_at setup setting cores t stands c here a active m stage_is has f 0 near_it) e has.acts
         (calls.may_run setup setting cores t stands c here a active m stage_is has e (runs_at (Some e) runs))
         (λ nobody. calls.by_runs setup setting cores t stands c here a active m stage_is has (Some e) (runs_at (Some e) runs))
       where
@@ -288,6 +288,7 @@ module _ (setup : Setting) (setting : IsSetting setup) (cores : ℕ → Core) (t
           ∙ sym same ∙ sym (ap (λ o. settled_by o (held_by cores) at found) bare ∙ none_kept 8 (held_by cores) f 0 found unkept))
           (calls.opens setup setting cores t stands c here a active m stage_is has)
           (λ carries. record {
+            acts = has.acts;
             names = names_on setup setting t e stands.legal c a.call is_open carries (cores c).own.table a.plan a.found has.names;
             knows = record {
               knows = calls.carried setup setting cores t stands c here a active m stage_is has compare (Claim (AtStack f depth))

@@ -142,6 +142,7 @@ module _ (setup : Setting) (setting : IsSetting setup) (cores : ℕ → Core) (t
       ∙ sym same ∙ sym (ap (λ o. settled_by o (held_by cores) at was) bare ∙ none_kept 8 (held_by cores) m.old 0 was unkept))
       (calls.opens setup setting cores t stands c here a active m stage_is has)
       (λ carries. record {
+        acts = has.acts;
         names = names_on setup setting t e stands.legal c a.call is_open carries (cores c).own.table a.plan a.found has.names;
         knows = record {
           knows = calls.carried setup setting cores t stands c here a active m stage_is has store (Draw to table pages)

@@ -1,4 +1,5 @@
 -- A switch begins where its names have led to a thread and to a temporal capability.
+use Rattle.thread_invariant.proofs.Common.{acts, IsTrue}
 use Rattle.thread_invariant.proofs.Common.{Want, to_use, ◌≡◌, ℕ, ◌<◌, if◌then◌else◌, map, true, List, [], ◌∷◌, Some, None}
 use Rattle.thread_invariant.proofs.Common.{refl, sym, ◌∙◌, ap, subst, Capability, Setting, IsSetting, Kind, Call, Switch, Move, word_of}
 use Rattle.thread_invariant.proofs.Common.{State, only, suits, named_by, Found, named, named_fit, only_is, opened, name_parts}
@@ -60,7 +61,7 @@ module _ (setup : Setting) (setting : IsSetting setup) (cores : ℕ → Core) (t
     (leads : Leads (LeadsIn (state_after setup t) c) a.plan.names [] ks) (none : names_after a.plan.names ks ≡ [])
     (names : Carries setup t (step_to c None move (last_left setup t (word_of move)) None None) c
     → NamesAre setup (step_to c None move (last_left setup t (word_of move)) None None ∷ t) c (cores c).own.table a.plan ks)
-    (x y : ℕ) (call_so : a.call ≡ Switch x y) where
+    (x y : ℕ) (call_so : a.call ≡ Switch x y) (may_act : IsTrue (acts (state_after setup t) c a.call)) where
   abbrev s : State
   s = state_after setup t
 
@@ -84,6 +85,7 @@ module _ (setup : Setting) (setting : IsSetting setup) (cores : ℕ → Core) (t
       loads_on setup setting cores t stands c here a active move (j ∷ k ∷ [])
       (Undecided (Act (switch_act (switching (cores c).own j.frame k.frame)))) looks lands (sym held_is) opens
       (λ carries. record {
+        acts = may_act;
         names = subst (λ (xs : List Capability). NamesAre setup (e ∷ t) c (cores c).own.table a.plan xs) both (names carries);
         knows = record {
           knows = record {

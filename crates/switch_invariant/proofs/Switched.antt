@@ -581,7 +581,7 @@ module _ (setup : Setting) (setting : IsSetting setup) (cores : ℕ → Core) (t
   permitted : MayReply s c a.call r
   permitted = (
     not_spent setup (cores c) t c (stands.each c here) (calls.room setup setting cores t stands c here a active m stage_is has),
-    subst (λ y. IsFoundAnd y (λ z. z.value ≡ value.Nothing)) (sym changes_so) refl,
+    (has.acts, subst (λ y. IsFoundAnd y (λ z. z.value ≡ value.Nothing)) (sym changes_so) refl),
   )
 
   -- the places of its names are gone

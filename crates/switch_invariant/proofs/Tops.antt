@@ -180,6 +180,7 @@ module _ (setup : Setting) (setting : IsSetting setup) (cores : ℕ → Core) (t
         ∙ sym (calls.held_at setup setting cores t stands c here a active m stage_is has (LoadPages to table) is))
         (calls.opens setup setting cores t stands c here a active m stage_is has)
         (λ carries. record {
+          acts = has.acts;
           names = names_on setup setting t e stands.legal c a.call
               (calls.is_open setup setting cores t stands c here a active m stage_is has)
               carries (cores c).own.table a.plan a.found has.names;

@@ -325,7 +325,7 @@ module _ (setup : Setting) (setting : IsSetting setup) (cores : ℕ → Core) (t
   permitted : MayReply s c a.call r
   permitted = (
     not_spent setup (cores c) t c (stands.each c here) (calls.room setup setting cores t stands c here a active m stage_is has),
-    subst (λ y. IsFoundAnd y (λ z. z.value ≡ value.Nothing)) (sym change) refl,
+    (has.acts, subst (λ y. IsFoundAnd y (λ z. z.value ≡ value.Nothing)) (sym change) refl),
   )
 
   pub entered_good : GoodTook setup cores t c move (landed a (enters_if m table pages true))

@@ -10,6 +10,7 @@ use Rattle.live_invariant.proofs.Common.{same_word-other, same_same, Acquired, A
 use Rattle.live_invariant.proofs.Common.{KillingAt, LoadComp, LoadLive, MakingAt, Mark, Store, Switching, SwitchAt, UntypingAt}
 use Rattle.live_invariant.proofs.Common.{release_of, Outside, Tail, Nothing, Quiesce, Unmark, StoreDead, StoreFlush, Release, StoreLive}
 use Rattle.live_invariant.proofs.Common.{Push, Pop, Share, StoreRunning, StoreIdle, Work, Lookup, Read, Scan, Acquire, Act, Stage, Enter}
+use Rattle.live_invariant.proofs.Common.{Living}
 use Rattle.live_invariant.proofs.Common.{Undecided, Decided, Leave, ActiveCall, Core, swept_of, holds_release, holds_untyping, Holding}
 use Rattle.live_invariant.proofs.Common.{nothing, keeps, holds_counts, settled_by, holds_idle, holds_switching, IsFrameWord}
 use Rattle.live_invariant.proofs.Common.{count_room, KnowsAct, KnowsWork, KnowsTail, KnowsAt, CallIs, phase_at, KnowsStoresAt, holds_act}
@@ -244,6 +245,7 @@ module _ (setup : Setting) (setting : IsSetting setup) (cores : ℕ → Core) (t
     by_stage : (table : ℕ) (stage : Stage) → phase t d ≡ phase_at a.call stage → KnowsAt setup t d table a stage
         → Claimed (holds_at stage a.counts)
     by_stage table Enter at knows = absurd knows
+    by_stage table (Living alive) at knows = none (holds_counts None a.counts) (counts_apart None a.counts f i)
     by_stage table (Undecided work) at knows = by_work table work at knows.knows
     by_stage table (Decided r drawn tail) at knows =
         by_tail tail (holds_counts (is_done (Decided r drawn tail)) a.counts) knows

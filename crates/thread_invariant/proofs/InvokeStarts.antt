@@ -1,4 +1,5 @@
 -- An entering starts where its name has led to a gate; or the core's stack is full.
+use Rattle.live_invariant.proofs.Common.{acts}
 use Rattle.live_invariant.proofs.Common.{Want, to_use, ◌≡◌, ◌<◌, inl, ℕ, map, nat_le, not, Bool, true, false, if◌then◌else◌, List, [], ◌∷◌}
 use Rattle.live_invariant.proofs.Common.{length}
 use Rattle.live_invariant.proofs.Common.{Some, None, IsTrue, refl, sym, ◌∙◌, ap, subst, false≢true, Capability, Setting, IsSetting, Kind}
@@ -57,7 +58,8 @@ module _ (setup : Setting) (setting : IsSetting setup) (cores : ℕ → Core) (t
     (found : named (state_after setup t) c n (to_use (only kind.Gate)) ≡ Found k)
     (leads : Leads (LeadsIn (state_after setup t) c) a.plan.names [] (k ∷ []))
     (names : Carries setup t (step_to c None move (last_left setup t (word_of move)) None None) c
-    → NamesAre setup (step_to c None move (last_left setup t (word_of move)) None None ∷ t) c (cores c).own.table a.plan (k ∷ [])) where
+    → NamesAre setup (step_to c None move (last_left setup t (word_of move)) None None ∷ t) c (cores c).own.table a.plan (k ∷ []))
+    (may_act : IsTrue (acts (state_after setup t) c a.call)) where
   abbrev s : State
   s = state_after setup t
 
@@ -96,7 +98,7 @@ module _ (setup : Setting) (setting : IsSetting setup) (cores : ℕ → Core) (t
         left_may s c (own_pages s c) a.plan (rule_of s c a.call) (k ∷ []) by_plan leads reply.Deep
             (subst (λ x. RuleMay s c x reply.Deep) (sym left) (inl (sym depth_is ∙ deep, refl))),
       ) tt
-      (λ is_alone. refused_first s c a.call reply.Deep unspent refused)
+      (λ is_alone. refused_first s c a.call reply.Deep may_act unspent refused)
     where
       refused : change_of s c a.call ≡ Refused reply.Deep
       refused = outcome_left s c (own_pages s c) a.plan (rule_of s c a.call) (k ∷ []) by_plan leads ∙ ap (outcome s c) left
@@ -110,6 +112,7 @@ module _ (setup : Setting) (setting : IsSetting setup) (cores : ℕ → Core) (t
       loads_on setup setting cores t stands c here a active move (k ∷ [])
       (Undecided (Act (invoke_act m))) looks lands (sym held_is) opens
       (λ carries. record {
+        acts = may_act;
         names = names carries;
         knows = record {
           knows = invoking_on setup setting t e stands.legal c a.call open_now carries a.call (k ∷ []) m (record {

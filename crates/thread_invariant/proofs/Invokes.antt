@@ -85,6 +85,7 @@ module _ (setup : Setting) (setting : IsSetting setup) (cores : ℕ → Core) (t
       (Undecided (Act (invoke_act (record m { at = at })))) (loading i) lands
       (sym held_is) (calls.opens setup setting cores t stands c here a active m stage_is has)
       (λ carries. record {
+        acts = has.acts;
         names = names_on setup setting t (load i) stands.legal c a.call is_open carries (cores c).own.table a.plan a.found has.names;
         knows = record {
           knows = invoking_on setup setting t (load i) stands.legal c a.call is_open carries a.call a.found (record m { at = at })
@@ -139,6 +140,7 @@ module _ (setup : Setting) (setting : IsSetting setup) (cores : ℕ → Core) (t
         (next_holds m.core 0 act (holds_counts None a.counts) ∙ sym held_is)
         (calls.opens setup setting cores t stands c here a active m stage_is has)
         (λ carries. record {
+          acts = has.acts;
           names = names_on setup setting t e stands.legal c a.call is_open carries (cores c).own.table a.plan a.found has.names;
           knows = knows_next setup (e ∷ t) c (cores c).own.table (next_at a a.found (Undecided (next_work m.core 0 act))) m.core act
               (dues act)
@@ -201,7 +203,7 @@ module _ (setup : Setting) (setting : IsSetting setup) (cores : ℕ → Core) (t
     dead_good o shown bare none =
         refuses_dead setup setting cores t stands c here a active
         (calls.opens setup setting cores t stands c here a active m stage_is has) held_is
-        (calls.room setup setting cores t stands c here a active m stage_is has) (LoadOf at) looking
+        (calls.room setup setting cores t stands c here a active m stage_is has) (LoadOf at) looking has.acts
         (calls.may_be_dead setup setting cores t stands c here a active m stage_is has (lives_so o shown bare ∙ none))
         (λ nobody. calls.by_life setup setting cores t stands c here a active m stage_is has false (lives_so o shown bare ∙ none))
 

@@ -43,6 +43,21 @@ module _ (setup : Setting) (setting : IsSetting setup) (t : Trace) (legal : IsLe
   is_on f named = object_named s (opened (events_of t)) (s.core c).thread f sound
       (subst (λ fs. 1 ≤ times f fs) (sym (ap frame_names own_thread)) named)
 
+  -- the component on top is there, in which the core works, and is referenced
+  pub top_comp : HasComp s c (first_of_stack (thread_of s c).stack)
+  top_comp = by (thread_of s c).stack own_comps is_on
+    where
+      by : (fs : List ℕ) → IsStack s fs → ((f : ℕ) → 1 ≤ times f fs → 0 < refs s f) → HasComp s c (first_of_stack fs)
+      by [] is named = absurd is
+      by (f ∷ fs) is named = record { comp = is.0; guarded = inl (named f (times_first f fs)) }
+
+  pub some_stack : 1 ≤ length (thread_of s c).stack
+  some_stack = by (thread_of s c).stack own_comps
+    where
+      by : (fs : List ℕ) → IsStack s fs → 1 ≤ length fs
+      by [] is = absurd is
+      by (f ∷ fs) is = omega arith
+
   -- the component below the top is there, and referenced
   pub below_comp : 2 ≤ length (thread_of s c).stack → HasComp s c (below_of (thread_of s c).stack)
   below_comp = by (thread_of s c).stack own_comps is_on

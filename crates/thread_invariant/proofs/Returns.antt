@@ -115,6 +115,7 @@ module _ (setup : Setting) (setting : IsSetting setup) (cores : ℕ → Core) (t
       loads_on setup setting cores t stands c here a active (LoadOf (EntryAt f i)) a.found
       (Undecided (Act (return_act (record m { at = at })))) (looks_at f i near) lands (sym return_held) opens
       (λ carries. record {
+        acts = has.acts;
         names = names_on setup setting t (load f i) stands.legal c a.call is_open carries (cores c).own.table a.plan a.found has.names;
         knows = record {
           knows = returning_on setup setting t (load f i) stands.legal c a.call is_open carries a.call (record m { at = at })
@@ -196,6 +197,7 @@ module _ (setup : Setting) (setting : IsSetting setup) (cores : ℕ → Core) (t
         (looks_at comp 1 (below_near comp at_pages.0)) lands
         (next_holds m.core 0 act (holds_counts None a.counts) ∙ sym return_held) opens
         (λ carries. record {
+          acts = has.acts;
           names = names_on setup setting t e stands.legal c a.call is_open carries (cores c).own.table a.plan a.found has.names;
           knows = knows_next setup (e ∷ t) c (cores c).own.table (next_at a a.found (Undecided (next_work m.core 0 act))) m.core act
               (dues act)

@@ -362,6 +362,7 @@ module _ (setup : Setting) (setting : IsSetting setup) (cores : ℕ → Core) (t
         loads_on setup setting cores t stands c here a active (LoadOf at) a.found
         (Undecided (Act (tick_act (AtCompare f ticks budget version)))) loading lands (sym held_is) opens
         (λ carries. record {
+          acts = has.acts;
           names = names_on setup setting t
               (inner setup setting cores t stands c here a active (LoadOf at) None None) stands.legal c a.call is_open carries
               (cores c).own.table a.plan a.found has.names;
@@ -700,8 +701,11 @@ module _ (setup : Setting) (setting : IsSetting setup) (cores : ℕ → Core) (t
     permitted_won : MayReply s c a.call (reply.Ok (Amount charged))
     permitted_won = (
       not_spent setup (cores c) t c (stands.each c here) room,
-      subst (λ x. IsFoundAnd x (λ y. y.value ≡ Amount charged)) (sym change_is)
-          (ap (λ (m : ℕ). Amount m) (sym charged_is)),
+      (
+        has.acts,
+        subst (λ x. IsFoundAnd x (λ y. y.value ≡ Amount charged)) (sym change_is)
+            (ap (λ (m : ℕ). Amount m) (sym charged_is)),
+      ),
     )
 
     reached_none : IsJustified setup t e_won a.call (reply.Ok (Amount charged))

@@ -5,7 +5,8 @@ use Rattle.flight.proofs.Common.{HeadWord, spelling, EntryAt, same_same, Frame, 
 use Rattle.flight.proofs.Common.{State, fits, is_node, Trace, Open, phase, state_after, last_left, cases_word}
 use Rattle.flight.proofs.Common.{same_word-other, AtCompare, AtDraw, AtStore, marked, Pair, PairAt, CompAt, CompMaking, KillingAt}
 use Rattle.flight.proofs.Common.{LoadComp, LoadLive, MakingAt, Mark, Store, Switching, SwitchAt, UntypingAt, release_of, Outside, Work}
-use Rattle.flight.proofs.Common.{Lookup, Read, Scan, Acquire, Act, Stage, Enter, Undecided, Decided, Leave, ActiveCall, Core, swept_of}
+use Rattle.flight.proofs.Common.{Lookup, Read, Scan, Acquire, Act, Stage, Enter, Living, Undecided, Decided, Leave, ActiveCall, Core}
+use Rattle.flight.proofs.Common.{swept_of}
 use Rattle.flight.proofs.Common.{holds_untyping, Holding, nothing, keeps, holds_counts, holds_switching, claimed_by, HeadIs, count_room}
 use Rattle.flight.proofs.Common.{KnowsAct, KnowsWork, KnowsAt, CallIs, phase_at, HasMarkedA, KnowsPairAt, holds_act, holds_making}
 use Rattle.flight.proofs.Common.{holds_killing, holds_comp, holds_share, holds_head, holds_work, holds_at, holds_in, holds}
@@ -181,6 +182,7 @@ module _ (setup : Setting) (setting : IsSetting setup) (cores : ℕ → Core) (t
     by_stage : (call : Call) (table : ℕ) (stage : Stage) → phase t d ≡ Open call → phase t d ≡ phase_at a.call stage
         → KnowsAt setup t d table a stage → Tells (holds_at stage a.counts)
     by_stage call table Enter undecided at knows = absurd knows
+    by_stage call table (Living alive) undecided at knows = none (holds_counts None a.counts) (counts_apart None a.counts f 0)
     by_stage call table (Undecided work) undecided at knows = by_work table work at knows.knows
     by_stage call table (Decided r drawn tail) undecided at knows = absurd (unlike (sym undecided ∙ at))
       where

@@ -5,7 +5,7 @@ use Rattle.flight.proofs.Common.{subst, false≢true, same_same, Setting, IsSett
 use Rattle.flight.proofs.Common.{HeadWord, spelling, EntryAt, FrameAt, State, changes_budgets, Trace, phase, state_after, last_left}
 use Rattle.flight.proofs.Common.{cases_word, same_word-other, AtCompare, AtDraw, AtStore, marked, debited, credited, amount_of, Pair}
 use Rattle.flight.proofs.Common.{PairAt, Tail, Nothing, Quiesce, Unmark, StoreDead, StoreFlush, Release, StoreLive, Push, Pop, Share}
-use Rattle.flight.proofs.Common.{StoreRunning, StoreIdle, Stage, Enter, Undecided, Decided, Leave, ActiveCall, Core, holds_release}
+use Rattle.flight.proofs.Common.{StoreRunning, StoreIdle, Stage, Enter, Living, Undecided, Decided, Leave, ActiveCall, Core, holds_release}
 use Rattle.flight.proofs.Common.{Holding, nothing, keeps, holds_counts, holds_idle, HeadIs, count_room, KnowsTail, KnowsAt, CallIs}
 use Rattle.flight.proofs.Common.{phase_at, StoresA, KnowsStoresAt, holds_head, holds_heads, holds_shared, holds_tail, is_done, holds_at}
 use Rattle.flight.proofs.Common.{holds_in, holds, Invariant, release_entry}
@@ -167,6 +167,10 @@ module _ (setup : Setting) (setting : IsSetting setup) (cores : ℕ → Core) (t
         → (changes_budgets a.call ≡ true → OwesStage decided_in d a.call stage)
         → Tells r call (holds_at stage a.counts)
     by_stage call r table Enter is at knows owes = absurd knows
+    by_stage call r table (Living alive) is at knows owes = absurd (unlike (sym is ∙ at))
+      where
+        unlike : history.Decided call r ≡ history.Open a.call → ⊥
+        unlike h = cc
     by_stage call r table (Undecided work) is at knows owes = absurd (unlike (sym is ∙ at))
       where
         unlike : history.Decided call r ≡ history.Open a.call → ⊥

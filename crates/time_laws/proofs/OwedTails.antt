@@ -9,7 +9,8 @@ use Rattle.flight.proofs.Common.{AtDraw, AtStore, head_end, in_order, same_list,
 use Rattle.flight.proofs.Common.{again_end, Pair, PairAt, LoadA, MarkA, ListA, LoadB, ListB, CompareB, AgainB, StoreList, StoreB, StoreA}
 use Rattle.flight.proofs.Common.{Charge, Plan, Leads, LeadsIn, plan_for, CompMaking, Invoking, Making, Own, Untyping, Outside, Work}
 use Rattle.flight.proofs.Common.{Lookup, Read, Scan, Acquire, Act, WorkStep, put_by, removes_by, undo, took_shared, took_share, Stage}
-use Rattle.flight.proofs.Common.{Enter, Undecided, Decided, Leave, ActiveCall, told_in, told_by, absorbed_in, fresh, stage_move, Took}
+use Rattle.flight.proofs.Common.{Enter, Living, Undecided, Decided, Leave, ActiveCall, told_in, told_by, absorbed_in, fresh, stage_move}
+use Rattle.flight.proofs.Common.{Took}
 use Rattle.flight.proofs.Common.{GoesOn, Decides, Returns, Changes, landed, took, took_scan, Core, decided_in, KnowsAct, KnowsUndecided}
 use Rattle.flight.proofs.Common.{KnowsAt, CallIs, MakesBy, InvokesBy, UntypesBy, SwitchesBy, SharesBy, Invariant}
 use Rattle.flight.specs.spk_nums.specs.declared.calls.Call.TheVariants as call_as
@@ -38,6 +39,7 @@ use Rattle.flight.specs.act_states.specs.Shares.{shared, is_carried}
 use Rattle.flight.specs.act_states.specs.Ticks.{took_charge, ticks_of}
 use Rattle.flight.specs.call_stages.specs.Cores.{move_of, core_after as after_took}
 use Rattle.flight.specs.call_stages.specs.Steps.{took_at, took_count, is_spent}
+use Rattle.flight.specs.stage_thread.specs.Living.{alive_move, alive_end, alive_after}
 use Rattle.flight.specs.core_invariant.specs.Knows.{TypesBy}
 use Rattle.flight.specs.core_invariant.specs.Knows.{OutsideBy, KillsBy, MakesCompBy, is_mapping}
 use Rattle.flight.specs.step_ways.proofs.Loads.{is_active}
@@ -49,7 +51,7 @@ use Rattle.flight.specs.Theorems.{found_by}
 use Rattle.time_laws.specs.Time.{Owes, state_of_decision}
 use Rattle.flight.proofs.Made.{made_stands, finds}
 use Rattle.time_laws.proofs.ShareTails.{OwesAt, OwesStage, OwesIn, OwesTook, StoresNone, LeavesNone}
-use Rattle.time_laws.proofs.ShareTails.{tail_on, landed_none, enter_none, end_none, reading_none, scan_none}
+use Rattle.time_laws.proofs.ShareTails.{tail_on, landed_none, enter_none, alive_none, end_none, reading_none, scan_none}
 
 -- The acts of the calls that change budgets
 
@@ -361,6 +363,8 @@ module _ (setup : Setting) (setting : IsSetting setup) (cores : ℕ → Core) (t
       → (changes_budgets a.call ≡ true → OwesStage before c a.call stage)
       → OwesTook s before c (took_at (cores c).own a stage (ToldBy (stage_move (cores c).own a.counts stage)))
   stage_owes Enter is has owes = absurd has
+  stage_owes (Living alive) is has owes =
+      alive_none s before c (cores c).own a (alive_after alive (ToldBy (alive_move alive))) (alive_end alive (ToldBy (alive_move alive)))
   stage_owes (Undecided work) is has owes = work_owes work is has
   stage_owes (Decided r drawn tail) is has owes = λ budgets. tail_on before c r drawn a.call tail a.counts _ (owes budgets)
   stage_owes (Leave r x) is has owes = tt

@@ -29,7 +29,8 @@ use Rattle.flight.specs.act_states.specs.Shares.{shares_if, shares_at, after_sha
 use Rattle.flight.specs.act_states.specs.Touches.{touches_if}
 use Rattle.flight.specs.act_states.specs.Untypings.{after_store, release_after}
 use Rattle.flight.specs.call_stages.specs.Steps.{next_by}
-use Rattle.flight.specs.call_stages.specs.Steps.{read_more, took_enter, named_one, took_found, took_end, took_read}
+use Rattle.flight.specs.stage_thread.specs.declared.alive.Alive.{Alive}
+use Rattle.flight.specs.call_stages.specs.Steps.{read_more, took_first, took_enter, took_alive, named_one, took_found, took_end, took_read}
 use Rattle.flight.specs.call_stages.specs.Tails.{took_tail}
 use Rattle.time_laws.specs.Time.{Owes}
 
@@ -204,8 +205,19 @@ next_none own call ks NextNothing budgets = begun_none own call ks None None bud
 
 pub enter_none : (now before : State) (c : ℕ) (spent : Bool) (own : Own) (a : ActiveCall) → OwesTook now before c (took_enter spent own a)
 enter_none now before c true own a = landed_none now before c a (refuse refusal.CallsSpent) (λ budgets. tt)
-enter_none now before c false own a =
+enter_none now before c false own a = first_none a.plan.living
+  where
+    first_none : (living : Bool) → OwesTook now before c (took_first living own a)
+    first_none true = λ budgets. tt
+    first_none false = landed_none now before c a (next_by own a) (λ budgets. next_none own a.call a.found (next_of a.plan a.found) budgets)
+
+pub alive_none : (now before : State) (c : ℕ) (own : Own) (a : ActiveCall) (alive : Alive) (end : StageEnd (Unit {0}))
+    → OwesTook now before c (took_alive own a alive end)
+alive_none now before c own a alive ends.Going = λ budgets. tt
+alive_none now before c own a alive (ends.Decided r) = landed_none now before c a (refuse (refusal_of r)) (λ budgets. tt)
+alive_none now before c own a alive (ends.Done x) =
     landed_none now before c a (next_by own a) (λ budgets. next_none own a.call a.found (next_of a.plan a.found) budgets)
+alive_none now before c own a alive (ends.Refuse r) = landed_none now before c a (refuse (refusal_of r)) (λ budgets. tt)
 
 named_none : (now before : State) (c : ℕ) (own : Own) (a : ActiveCall) (met : Met) → OwesTook now before c (named_one own a met)
 named_none now before c own a (Finds k) =

@@ -71,7 +71,7 @@ told_by s c x y v h = by (named s c x (to_use (only kind.Tcap))) (named s c y (t
 
 pub tests_tell : (setup : Setting) → IsSetting setup → (e : Step) (t : Trace) → IsMade setup (e ∷ t) → TestsTell setup t e
 tests_tell setup setting e t made x y v opens decides = told_by (state_before setup t e) e.core x y v
-    (subst (λ (call : Call). MayReply (state_before setup t e) e.core call (reply.Ok v)) (sym (same_call may.is_open)) may.permitted).1
+    (subst (λ (call : Call). MayReply (state_before setup t e) e.core call (reply.Ok v)) (sym (same_call may.is_open)) may.permitted).1.1
   where
     legal : IsLegal setup (e ∷ t)
     legal = legal_of setup setting (e ∷ t) made

@@ -1,15 +1,17 @@
 -- What holds of a call that is alone: its core waits for nothing, and what is carried out is what the sequential kernel answers.
-use Rattle.std.proofs.Common.{◌≡◌, inl, inr, ℕ, Bool, true, false, [], ◌∷◌, Option, Some, None, refl, sym, ◌∙◌, ap, subst, if◌then◌else◌}
+use Rattle.std.proofs.Common.{◌≡◌, ◌&&◌, ◌||◌, not, IsTrue, inl, inr, ℕ, Bool, true, false, [], ◌∷◌, Option, Some, None, refl, sym, ◌∙◌, ap}
+use Rattle.std.proofs.Common.{subst, if◌then◌else◌}
 use Rattle.std.proofs.lemmas.Bool.{cases_eq, false≢true}
 use Rattle.spk_nums.specs.Setting.{Setting}
 use Rattle.spk_nums.specs.declared.calls.Call.{Call}
 use Rattle.spk_nums.specs.declared.replies.Value.{Value}
 use Rattle.spk_nums.specs.declared.replies.Reply.{Reply}
 use Rattle.spk_nums.specs.declared.replies.Reply.TheVariants as reply
-use Rattle.kernel_rules.specs.State.{Thing, State}
+use Rattle.kernel_rules.specs.State.{Thing, NumberOf, State, comp_of}
 use Rattle.kernel_rules.specs.Rules.{Judged, Refused, Found, IsFoundAnd}
 use Rattle.kernel_rules.specs.CallRelation.{MayReply, are_calls_spent, change_of}
-use Rattle.kernel_rules.specs.Alone.{reply_in, alone}
+use Rattle.kernel_rules.specs.Life.{is_dead_in, lives, outlives, may_act, asks_life, acts}
+use Rattle.kernel_rules.specs.Alone.{reply_in, first_reply, alone}
 use Rattle.kernel_rules.proofs.AloneLaw.{AreInside, waits_inside}
 use Rattle.kernel_history.specs.Trace.{Step, Trace, Phase, Out, Open, Decided, phase, after_enter}
 use Rattle.kernel_history.specs.Trace.{after_decide, after_return, state_after, state_entered, state_before}
@@ -27,19 +29,40 @@ use Rattle.trace_laws.proofs.Stays.{state_plain}
 -- An `ok` that the call relation permits is the reply to a call made alone.
 pub ok_first : (s : State) (c : ℕ) (call : Call) (v : Value) → MayReply s c call (reply.Ok v) → reply.Ok v ≡ alone s c call
 ok_first s c call v may =
-    sym (ap (λ b. if b then reply.CallsSpent else reply_in (change_of s c call)) may.0 ∙ found (change_of s c call) may.1)
+    sym (ap (λ b. if b then reply.CallsSpent else first_reply s c call) may.0
+    ∙ ap (λ b. if b then reply_in (change_of s c call) else reply.Dead) may.1.0 ∙ found (change_of s c call) may.1.1)
   where
     found : (j : Judged Rattle.kernel_rules.specs.Rules.Change) → IsFoundAnd j (λ k. k.value ≡ v) → reply_in j ≡ reply.Ok v
     found (Refused r) h = absurd h
     found (Found change) h = ap reply.Ok h
 
--- And so is `calls-spent`, and the refusal of a call's rule where the calls are not spent.
+-- And so is `calls-spent`, and the refusal of a call's rule where the calls are not spent and the core may make the call.
 pub spent_first : (s : State) (c : ℕ) (call : Call) → are_calls_spent s c ≡ true → reply.CallsSpent ≡ alone s c call
-spent_first s c call is = sym (ap (λ b. if b then reply.CallsSpent else reply_in (change_of s c call)) is)
+spent_first s c call is = sym (ap (λ b. if b then reply.CallsSpent else first_reply s c call) is)
 
 pub refused_first : (s : State) (c : ℕ) (call : Call) (r : Reply)
-    → are_calls_spent s c ≡ false → change_of s c call ≡ Refused r → r ≡ alone s c call
-refused_first s c call r not is = sym (ap (λ b. if b then reply.CallsSpent else reply_in (change_of s c call)) not ∙ ap reply_in is)
+    → IsTrue (acts s c call) → are_calls_spent s c ≡ false → change_of s c call ≡ Refused r → r ≡ alone s c call
+refused_first s c call r may unspent is =
+    sym (ap (λ b. if b then reply.CallsSpent else first_reply s c call) unspent
+    ∙ ap (λ b. if b then reply_in (change_of s c call) else reply.Dead) may ∙ ap reply_in is)
+
+-- And so is `dead`, where the call asks that its core may act, the core's component does not live, and the core waits in no grace period.
+pub dead_first : (s : State) (c : ℕ) (call : Call) → are_calls_spent s c ≡ false → IsTrue (asks_life call) → lives s c ≡ false
+    → ((x : Thing) → (s.grace x).waits c ≡ false) → reply.Dead ≡ alone s c call
+dead_first s c call unspent asks dead waits =
+    sym (ap (λ b. if b then reply.CallsSpent else first_reply s c call) unspent
+    ∙ ap (λ b. if b then reply_in (change_of s c call) else reply.Dead) may_not)
+  where
+    none : (b : Bool) → (b && false) ≡ false
+    none true = refl
+    none false = refl
+
+    may_not : acts s c call ≡ false
+    may_not =
+        ap (λ b. not b || may_act s c) asks
+        ∙ ap (λ b. b || outlives s c) dead
+        ∙ ap (λ b. is_dead_in (s.number (comp_of s c).number) (comp_of s c).epoch && b) (waits (NumberOf (comp_of s c).number))
+        ∙ none (is_dead_in (s.number (comp_of s c).number) (comp_of s c).epoch)
 
 -- for whom a core waits
 

@@ -1,5 +1,6 @@
 -- What the look-up of a call with one name and no target ends in: a look answers what its name has led to; a retype has found its range,
 -- which has the frame or does not.
+use Rattle.comp_invariant.proofs.Common.{acts, IsTrue}
 use Rattle.comp_invariant.proofs.Common.{◌≡◌, ◌≢◌, ◌⊎◌, inl, inr, ℕ, ◌+◌, ◌<◌, ◌≤◌, ◌&&◌, not, nat_le, nat_lt, Bool, true, false, List}
 use Rattle.comp_invariant.proofs.Common.{[], ◌∷◌, Some, None, arith, refl, sym, ◌∙◌, ap, subst, if◌then◌else◌, map, ltb-true, lt-ltb}
 use Rattle.comp_invariant.proofs.Common.{false≢true, Capability, Setting, IsSetting, FrameKind, Kind, Retype, EntryAt, LoadOf, State}
@@ -79,7 +80,7 @@ module _ (setup : Setting) (setting : IsSetting setup) (cores : ℕ → Core) (t
     → NamesAre setup (step_to c None (LoadOf (EntryAt at.node at.index)) (last_left setup t (EntryAt at.node at.index)) None None ∷ t) c
     (cores c).own.table a.plan (range ∷ []))
     (r f : ℕ) (k : FrameKind) (call_is : a.call ≡ Retype r f k) (kind_is : range.kind ≡ Range) (within : CapNames setup.frames range)
-    (to : IsTypedBy (cores c).own.core f k) where
+    (to : IsTypedBy (cores c).own.core f k) (may_act : IsTrue (acts (state_after setup t) c a.call)) where
   abbrev s : State
   s = state_after setup t
 
@@ -100,6 +101,7 @@ module _ (setup : Setting) (setting : IsSetting setup) (cores : ℕ → Core) (t
       loads_on setup setting cores t stands c here a active (LoadOf (EntryAt at.node at.index)) (range ∷ [])
       (Undecided (Act (type_act (record { frame = f; kind = k; at = Load })))) looks lands (sym held_is) opens
       (λ carries. record {
+        acts = may_act;
         names = names carries;
         knows = record {
           knows = record {
@@ -122,6 +124,7 @@ module _ (setup : Setting) (setting : IsSetting setup) (cores : ℕ → Core) (t
       loads_on setup setting cores t stands c here a active (LoadOf (EntryAt at.node at.index)) (range ∷ [])
       (Undecided (Act (untype_act untyping))) looks lands (sym held_is) opens
       (λ carries. record {
+        acts = may_act;
         names = names carries;
         knows = record {
           knows = record {
@@ -152,7 +155,7 @@ module _ (setup : Setting) (setting : IsSetting setup) (cores : ℕ → Core) (t
         left_may s c (own_pages s c) a.plan (rule_of s c a.call) (range ∷ []) by_plan leads reply.OutOfRange
             (subst (λ x. RuleMay s c x reply.OutOfRange) (sym left) (inl (ap (λ b. not b) none, refl))),
       ) tt
-      (λ is_alone. refused_first s c a.call reply.OutOfRange unspent refused)
+      (λ is_alone. refused_first s c a.call reply.OutOfRange may_act unspent refused)
     where
       refused : change_of s c a.call ≡ Refused reply.OutOfRange
       refused = outcome_left s c (own_pages s c) a.plan (rule_of s c a.call) (range ∷ []) by_plan leads ∙ ap (outcome s c) left
@@ -177,7 +180,8 @@ module _ (setup : Setting) (setting : IsSetting setup) (cores : ℕ → Core) (t
     (room : (cores c).own.made < (cores c).own.limit)
     (at : Slot) (looks : OnlyLooks setup t c a.call (LoadOf (EntryAt at.node at.index)))
     (n : ℕ) (arrives : Arrives setup t c (own_in (cores c).own.table n) at)
-    (k : Capability) (is : named (state_after setup t) c n (to_look any) ≡ Found k) (call_is : a.call ≡ look_call n) where
+    (k : Capability) (is : named (state_after setup t) c n (to_look any) ≡ Found k) (call_is : a.call ≡ look_call n)
+    (may_act : IsTrue (acts (state_after setup t) c a.call)) where
   abbrev now : State
   now = state_after setup t
 
@@ -188,8 +192,10 @@ module _ (setup : Setting) (setting : IsSetting setup) (cores : ℕ → Core) (t
   own_slot = own_is now c (cores c).own.table n (stands.each c here).works.table
 
   permitted : MayReply now c (look_call n) (reply.Ok (Cap k))
-  permitted =
-      (not_spent setup (cores c) t c (core_is setup setting cores t stands c here a active) room, look_answers now c n k is)
+  permitted = (
+    not_spent setup (cores c) t c (core_is setup setting cores t stands c here a active) room,
+    (subst (λ x. IsTrue (acts now c x)) call_is may_act, look_answers now c n k is),
+  )
 
   stepped : HasReached (answer ∷ t) c (way_to now c (own now c n))
   stepped = subst (λ x. HasReached (answer ∷ t) c (way_to now c x)) own_slot

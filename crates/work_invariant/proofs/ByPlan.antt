@@ -54,7 +54,7 @@ use Rattle.comp_invariant.specs.place_invariant.proofs.Vacancy.{vacant_by}
 use Rattle.comp_invariant.specs.act_states.specs.Lookups.{met_right, met_name, met_free, met_held}
 use Rattle.comp_invariant.specs.call_stages.specs.Steps.{next_by as what_next, named_one, took_look, took_found}
 use Rattle.comp_invariant.specs.act_fits.proofs.DuesFit.{cap_one}
-use Rattle.comp_invariant.specs.kept_facts.proofs.Carries.{read_before_on}
+use Rattle.comp_invariant.specs.kept_facts.proofs.Carries.{acts_on, read_before_on}
 use Rattle.comp_invariant.specs.step_ways.proofs.Loads.{OnlyLooks, next_at, call_is, is_active, loads_on}
 use Rattle.comp_invariant.specs.step_ways.proofs.Refusals.{GoodTook, refuses_empty, refuses_wrong, refuses_right, refuses_occupied}
 use Rattle.comp_invariant.specs.count_invariant.proofs.Lookups.{Shows, ShowsHeld, Arrives, under_step, in_root_step}
@@ -150,6 +150,7 @@ module _ (setup : Setting) (setting : IsSetting setup) (cores : ℕ → Core) (t
       → LooksFor setup (e ∷ t) c table next on
       → KnowsUndecided setup (e ∷ t) c table (next_at a a.found (Undecided (Lookup on))) (Lookup on)
   looks_more next is e on carries up = record {
+    acts = acts_on setup setting t e stands.legal c a.call is_open carries a.call has.acts;
     names = names_on setup setting t e stands.legal c a.call is_open carries table a.plan a.found has.names;
     knows = record {
       looks = subst (λ x. LooksFor setup (e ∷ t) c table x on) (sym is) up;
@@ -213,7 +214,7 @@ module _ (setup : Setting) (setting : IsSetting setup) (cores : ℕ → Core) (t
         (ranges_good setup setting cores t stands c here a active opens held_is no_counts room goes_by at looks k
         (subst (λ (ks : List Capability). Leads (LeadsIn s c) a.plan.names [] ks) more_is leads_then)
         (λ carries. subst (λ (ks : List Capability). NamesAre setup (e ∷ t) c table a.plan ks) more_is (names_then carries)) r f j is
-        (only_is range_kind k.kind only_one.2) shows.names to)
+        (only_is range_kind k.kind only_one.2) shows.names to has.acts)
 
     is_named : a.plan.names ≡ [] → ⊥
     is_named none = let h : name ∷ rest ≡ [] = sym left ∙ ap (λ (ns : List Name). names_after ns a.found) none ∙ none_after a.found in cc
@@ -233,7 +234,7 @@ module _ (setup : Setting) (setting : IsSetting setup) (cores : ℕ → Core) (t
         subst (λ ks. GoodTook setup cores t c (LoadOf (EntryAt at.node at.index))
         (landed (found_more a ks) (act_begun (cores c).own (look_call n) ks None None))) (sym more_is)
         (looked_good setup setting cores t stands c here a active opens held_is no_counts room at looks n
-        (subst (λ (m : ℕ). Arrives setup t c (own_in table m) at) (ap (λ (x : Name). x.number) only_one.1) arrives) k named_it is)
+        (subst (λ (m : ℕ). Arrives setup t c (own_in table m) at) (ap (λ (x : Name). x.number) only_one.1) arrives) k named_it is has.acts)
     acts_at_name (Copy b u v rights) is nowhere none = absurd (free_somewhere (spot_of.Under Second v) nowhere)
     acts_at_name (Grow u i l) is nowhere none = absurd (free_somewhere (spot_of.InRoot First i) nowhere)
     acts_at_name (Remove u v) is nowhere none = absurd (held_somewhere (spot_of.Under First v) nowhere)
@@ -260,7 +261,7 @@ module _ (setup : Setting) (setting : IsSetting setup) (cores : ℕ → Core) (t
         (only_is comp_kind k.kind only_one.2)
         (subst (λ (ks : List Capability). Leads (LeadsIn s c) (of_kind comp_kind n ∷ []) [] ks) more_is
         (subst (λ (p : Plan). Leads (LeadsIn s c) p.names [] more) plan_kill leads_then)).0
-        (λ carries. subst (λ (ks : List Capability). NamesAre setup (e ∷ t) c table a.plan ks) more_is (names_then carries)))
+        (λ carries. subst (λ (ks : List Capability). NamesAre setup (e ∷ t) c table a.plan ks) more_is (names_then carries)) has.acts)
     acts_at_name (call_gate n) is nowhere none =
         let plan_call : a.plan ≡ plan_for (call_gate n) = plan_is ∙ ap plan_for is in
         let only_one = one_name a.plan.names (of_kind gate_kind n) name rest a.found k.kind (ap (λ (p : Plan). p.names) plan_call) left
@@ -273,30 +274,30 @@ module _ (setup : Setting) (setting : IsSetting setup) (cores : ℕ → Core) (t
         (subst (λ (ks : List Capability). Leads (LeadsIn s c) (of_kind gate_kind n ∷ []) [] ks) more_is
         (subst (λ (p : Plan). Leads (LeadsIn s c) p.names [] more) plan_call leads_then)).0
         (subst (λ (ks : List Capability). Leads (LeadsIn s c) a.plan.names [] ks) more_is leads_then)
-        (λ carries. subst (λ (ks : List Capability). NamesAre setup (e ∷ t) c table a.plan ks) more_is (names_then carries)))
+        (λ carries. subst (λ (ks : List Capability). NamesAre setup (e ∷ t) c table a.plan ks) more_is (names_then carries)) has.acts)
     acts_at_name Ret is nowhere none = absurd (is_named (ap (λ (p : Plan). p.names) (plan_is ∙ ap plan_for is)))
     acts_at_name (Touch v) is nowhere none = absurd (own_somewhere v nowhere)
     acts_at_name Flush is nowhere none = absurd (is_named (ap (λ (p : Plan). p.names) (plan_is ∙ ap plan_for is)))
     acts_at_name (Tick n) is nowhere none = absurd (is_named (ap (λ (p : Plan). p.names) (plan_is ∙ ap plan_for is)))
     acts_at_name (Transfer x y m) is nowhere none =
         transfers_good setup setting cores t stands c here a active opens held_is no_counts room goes_by (LoadOf (EntryAt at.node at.index))
-        looks more leads_then none names_then x y m is
+        looks has.acts more leads_then none names_then x y m is
     acts_at_name (Delegate x y m) is nowhere none =
         delegates_good setup setting cores t stands c here a active opens held_is no_counts room goes_by (LoadOf (EntryAt at.node at.index))
-        looks more leads_then none names_then x y m is
+        looks has.acts more leads_then none names_then x y m is
     acts_at_name (Test x y) is nowhere none =
         tests_good setup setting cores t stands c here a active opens held_is no_counts room goes_by (LoadOf (EntryAt at.node at.index))
-        looks more leads_then none names_then x y is
+        looks has.acts more leads_then none names_then x y is
     acts_at_name (Switch x y) is nowhere none =
         switches_good setup setting cores t stands c here a active opens held_is no_counts (LoadOf (EntryAt at.node at.index))
-        looks more leads_then none names_then x y is
+        looks more leads_then none names_then x y is has.acts
 
     -- the name is found
     found_good : GoodTook setup cores t c (LoadOf (EntryAt at.node at.index)) (named_one (cores c).own a (Finds k))
     found_good = subst (λ ks. GoodTook setup cores t c (LoadOf (EntryAt at.node at.index))
         (landed (found_more a ks) (what_next (cores c).own (found_more a ks)))) (sym (pushed_one a.found k few))
         (next_good setup setting cores t stands c here a active opens held_is
-        no_counts room at looks more leads_then uses_then names_then is_named
+        no_counts room (LoadOf (EntryAt at.node at.index)) looks has.acts more leads_then uses_then names_then is_named
         (λ nowhere none. acts_at_name a.call refl (ap (λ (p : Plan). p.target) (sym plan_is) ∙ nowhere) none))
       where
         few : length a.found < 4
@@ -333,7 +334,7 @@ module _ (setup : Setting) (setting : IsSetting setup) (cores : ℕ → Core) (t
       held_right k shows wanted true is = found_good name rest left at k arrives shows looks wanted is
       held_right k shows wanted false is =
           refuses_right setup setting cores t stands c here a active opens held_is room (LoadOf (EntryAt at.node at.index)) looks
-          (may_here reply.NoRight (reaches_lacking s c (own s c name.number) at k wanted_of reach shows.holds wanted is))
+          has.acts (may_here reply.NoRight (reaches_lacking s c (own s c name.number) at k wanted_of reach shows.holds wanted is))
           (λ nobody. first_here reply.NoRight
           (named_lacking s c name.number wanted_of at k reach (use_held s c at k shows.holds) wanted is))
 
@@ -343,26 +344,26 @@ module _ (setup : Setting) (setting : IsSetting setup) (cores : ℕ → Core) (t
       held_name k shows true is = held_right k shows is (has_rights k.rights wanted_of.needs) refl
       held_name k shows false is =
           refuses_wrong setup setting cores t stands c here a active opens held_is room (LoadOf (EntryAt at.node at.index)) looks
-          (may_here reply.WrongCap (reaches_other s c (own s c name.number) at k wanted_of reach shows.holds is))
+          has.acts (may_here reply.WrongCap (reaches_other s c (own s c name.number) at k wanted_of reach shows.holds is))
           (λ nobody. first_here reply.WrongCap (named_wrong s c name.number wanted_of at k reach (use_held s c at k shows.holds) is))
 
       name_good : (v : Entry) → Shows setup.frames (place_at s at) v
           → GoodTook setup cores t c (LoadOf (EntryAt at.node at.index)) (named_one (cores c).own a (met_name wanted_of v))
       name_good entry.Free shows =
           refuses_empty setup setting cores t stands c here a active opens held_is room (LoadOf (EntryAt at.node at.index)) looks
-          (may_here reply.Empty (reaches_none s c (own s c name.number) at reach (ap held_in shows)))
+          has.acts (may_here reply.Empty (reaches_none s c (own s c name.number) at reach (ap held_in shows)))
           (λ nobody. first_here reply.Empty (named_empty s c name.number wanted_of at reach (use_free s c at shows)))
       name_good (entry.Held k) shows = held_name k shows (wanted_of.kinds k.kind) refl
       name_good (entry.Closing d) shows = absurd shows
       name_good (entry.Quiescing x) shows =
           refuses_empty setup setting cores t stands c here a active opens held_is room (LoadOf (EntryAt at.node at.index)) looks
-          (may_here reply.Empty (reaches_none s c (own s c name.number) at reach (ap held_in shows.removed)))
+          has.acts (may_here reply.Empty (reaches_none s c (own s c name.number) at reach (ap held_in shows.removed)))
           (λ nobody. first_here reply.Empty (named_empty s c name.number wanted_of at reach
           (use_removed_at s c at shows.held shows.removed nobody)))
 
     pub name_step : LooksUp setup t c (own_in table name.number) look → Looked
     name_step looks =
-        under_step setup setting cores t stands c here a active (root_at table) name.number is_open
+        under_step setup setting cores t stands c here a active (root_at table) name.number is_open has.acts
         (λ h. may_here reply.NoSlot (subst (λ x. IsTrue (has_no_slot s x)) (own_target name.number) h))
         (λ none. first_here reply.NoSlot (named_no_slot s c name.number wanted_of
         (ap (reached s c) (sym (own_target name.number)) ∙ none)))
@@ -435,7 +436,7 @@ module _ (setup : Setting) (setting : IsSetting setup) (cores : ℕ → Core) (t
           → GoodTook setup cores t c (LoadOf (EntryAt at.node at.index)) (landed a (starts (cores c).own.core begun.act))
       starts_now may_then may =
           starts_good setup setting cores t stands c here a active opens held_is no_counts room has.names
-          (LoadOf (EntryAt at.node at.index)) looks begun.act begun.starts (λ carries. knows_begun setup.cores may_then)
+          (LoadOf (EntryAt at.node at.index)) looks has.acts begun.act begun.starts (λ carries. knows_begun setup.cores may_then)
           (λ out. refused_vacant setup setting cores t stands c here a active has.names at.node at.index target next_free
           arrives.reached (begun.outside out) (LoadOf (EntryAt at.node at.index))
           (λ alone. vacant_by setup t c at.node at.index
@@ -451,6 +452,7 @@ module _ (setup : Setting) (setting : IsSetting setup) (cores : ℕ → Core) (t
           loads_on setup setting cores t stands c here a active (LoadOf (EntryAt at.node at.index)) a.found
           (Undecided (Scan q begun.act)) looks lands (sym held_is) opens
           (λ carries. record {
+            acts = has.acts;
             names = names_on setup setting t load stands.legal c a.call is_open carries table a.plan a.found has.names;
             knows = by_first first;
           })
@@ -529,7 +531,7 @@ module _ (setup : Setting) (setting : IsSetting setup) (cores : ℕ → Core) (t
         (fills_free at arrives reads looks)
     free_at at (entry.Held k) arrives reads shows looks =
         refuses_occupied setup setting cores t stands c here a active opens held_is room (LoadOf (EntryAt at.node at.index)) looks
-        (may_free reply.Occupied (reaches_held s c target at k arrives.reached shows.holds))
+        has.acts (may_free reply.Occupied (reaches_held s c target at k arrives.reached shows.holds))
         (λ nobody. first_free reply.Occupied (vacant_occupied s c target at k arrives.reached shows.holds))
     free_at at (entry.Closing d) arrives reads shows looks = absurd shows
     free_at at (entry.Quiescing x) arrives reads shows looks =
@@ -542,7 +544,7 @@ module _ (setup : Setting) (setting : IsSetting setup) (cores : ℕ → Core) (t
   free_step (spot_of.Under i n) to none looks =
       let spot = spot_of.Under i n in
       let next = next_free spot to none in
-      under_step setup setting cores t stands c here a active (earlier (with_found [] a.found) i) n is_open
+      under_step setup setting cores t stands c here a active (earlier (with_found [] a.found) i) n is_open has.acts
       (λ h. may_free spot to none reply.NoSlot h) (λ out. first_free spot to none reply.NoSlot
       (vacant_no_slot s c (target spot to none) out))
       (λ g j h. way (target spot to none) (subst (λ x. NextPlace s c x (target spot to none)) (sym next) refl) g j h)
@@ -552,7 +554,7 @@ module _ (setup : Setting) (setting : IsSetting setup) (cores : ℕ → Core) (t
   free_step (spot_of.InRoot i x) to none looks =
       let spot = spot_of.InRoot i x in
       let next = next_free spot to none in
-      in_root_step setup setting cores t stands c here a active (earlier (with_found [] a.found) i) x is_open
+      in_root_step setup setting cores t stands c here a active (earlier (with_found [] a.found) i) x is_open has.acts
       (λ h. may_free spot to none reply.NoSlot h) (λ out. first_free spot to none reply.NoSlot
       (vacant_no_slot s c (target spot to none) out))
       (λ g j h. way (target spot to none) (subst (λ y. NextPlace s c y (target spot to none)) (sym next) refl) g j h)
@@ -592,6 +594,7 @@ module _ (setup : Setting) (setting : IsSetting setup) (cores : ℕ → Core) (t
         (Undecided (next_work (cores c).own.core 0 act)) looks lands
         (next_holds (cores c).own.core 0 act (holds_counts None a.counts) ∙ sym held_is) opens
         (λ carries. record {
+          acts = has.acts;
           names = names_on setup setting t e stands.legal c a.call is_open carries table a.plan a.found has.names;
           knows = knows_next setup (e ∷ t) c table (next_at a a.found (Undecided (next_work (cores c).own.core 0 act))) (cores c).own.core
               act (dues act) (stands.each c here).number
@@ -622,7 +625,7 @@ module _ (setup : Setting) (setting : IsSetting setup) (cores : ℕ → Core) (t
         v))
     held_at at entry.Free arrives reads shows looks =
         refuses_empty setup setting cores t stands c here a active opens held_is room (LoadOf (EntryAt at.node at.index)) looks
-        (may_held reply.Empty (reaches_none s c held_target at arrives.reached (ap held_in shows)))
+        has.acts (may_held reply.Empty (reaches_none s c held_target at arrives.reached (ap held_in shows)))
         (λ nobody. first_held reply.Empty (held_empty s c held_target at arrives.reached (ap held_in shows)))
     held_at at (entry.Held k) arrives reads shows looks =
         subst (λ step. GoodTook setup cores t c (LoadOf (EntryAt at.node at.index)) (landed a step)) (sym (begins_by.act _))
@@ -630,7 +633,7 @@ module _ (setup : Setting) (setting : IsSetting setup) (cores : ℕ → Core) (t
     held_at at (entry.Closing d) arrives reads shows looks = absurd shows
     held_at at (entry.Quiescing x) arrives reads shows looks =
         refuses_empty setup setting cores t stands c here a active opens held_is room (LoadOf (EntryAt at.node at.index)) looks
-        (may_held reply.Empty (reaches_none s c held_target at arrives.reached (ap held_in shows.removed)))
+        has.acts (may_held reply.Empty (reaches_none s c held_target at arrives.reached (ap held_in shows.removed)))
         (λ nobody. first_held reply.Empty (held_empty s c held_target at arrives.reached (ap held_in shows.removed)))
 
   held_step : (spot : Spot) (to : a.plan.target ≡ Held spot) (none : names_after a.plan.names a.found ≡ [])
@@ -638,7 +641,7 @@ module _ (setup : Setting) (setting : IsSetting setup) (cores : ℕ → Core) (t
   held_step (spot_of.Under i n) to none looks =
       let spot = spot_of.Under i n in
       let next = next_held spot to none in
-      under_step setup setting cores t stands c here a active (earlier (with_found [] a.found) i) n is_open
+      under_step setup setting cores t stands c here a active (earlier (with_found [] a.found) i) n is_open has.acts
       (λ h. may_held spot to none reply.NoSlot h) (λ out. first_held spot to none reply.NoSlot
       (held_no_slot s c (held_target spot to none) out))
       (λ g j h. way (held_target spot to none) (subst (λ x. NextPlace s c x (held_target spot to none)) (sym next) refl) g j h)
@@ -648,7 +651,7 @@ module _ (setup : Setting) (setting : IsSetting setup) (cores : ℕ → Core) (t
   held_step (spot_of.InRoot i x) to none looks =
       let spot = spot_of.InRoot i x in
       let next = next_held spot to none in
-      in_root_step setup setting cores t stands c here a active (earlier (with_found [] a.found) i) x is_open
+      in_root_step setup setting cores t stands c here a active (earlier (with_found [] a.found) i) x is_open has.acts
       (λ h. may_held spot to none reply.NoSlot h) (λ out. first_held spot to none reply.NoSlot
       (held_no_slot s c (held_target spot to none) out))
       (λ g j h. way (held_target spot to none) (subst (λ y. NextPlace s c y (held_target spot to none)) (sym next) refl) g j h)

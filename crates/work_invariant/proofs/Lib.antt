@@ -8,5 +8,6 @@ pub mod FoundFits
 pub mod ScanStarts
 pub mod NextLooks
 pub mod ByPlan
+pub mod Living
 pub mod Work
 pub mod Stages

@@ -1,8 +1,9 @@
 -- What comes next of a call whose names have led to one capability more: the next name, the target, or, before a target that is to be
 -- free, the word of the component that the call reads.
+use Rattle.comp_invariant.proofs.Common.{acts, Move, word_of}
 use Rattle.comp_invariant.proofs.Common.{◌≡◌, ℕ, ◌<◌, nat_le, Bool, true, false, IsTrue, List, [], ◌∷◌, Option, Some, None, refl, sym}
-use Rattle.comp_invariant.proofs.Common.{◌∙◌, ap, subst, leb-true, Capability, Setting, IsSetting, Reply, EntryAt, LoadOf, State, comp_of}
-use Rattle.comp_invariant.proofs.Common.{Slot, Named, found, root_at, reached, has_no_slot, own, Under, InRoot, RuleMay, Refused, rule_of}
+use Rattle.comp_invariant.proofs.Common.{◌∙◌, ap, subst, leb-true, Capability, Setting, IsSetting, Reply, State, comp_of}
+use Rattle.comp_invariant.proofs.Common.{Named, found, root_at, reached, has_no_slot, own, Under, InRoot, RuleMay, Refused, rule_of}
 use Rattle.comp_invariant.proofs.Common.{change_of, are_calls_spent, Step, Trace, Open, phase, state_after, last_left, refused_first}
 use Rattle.comp_invariant.proofs.Common.{Carries, Look, AtRoot, AtEntry, Spot, Nowhere, Plan, plan_for, GoesBy, own_pages}
 use Rattle.comp_invariant.proofs.Common.{with_found, names_after, Leads, LeadsIn, Next, NextName, NextFree, NextHeld, next_of, NextMay}
@@ -35,11 +36,12 @@ module _ (setup : Setting) (setting : IsSetting setup) (cores : ℕ → Core) (t
     (here : c < setup.cores)
     (a : ActiveCall) (active : (cores c).active ≡ Some a) (opens : phase_at a.call a.stage ≡ Open a.call)
     (held_is : holds_in (Some a) ≡ holds_counts None a.counts) (no_counts : a.counts ≡ []) (room : (cores c).own.made < (cores c).own.limit)
-    (at : Slot) (looks : OnlyLooks setup t c a.call (LoadOf (EntryAt at.node at.index))) (more : List Capability)
+    (move : Move) (looks : OnlyLooks setup t c a.call move)
+    (may_act : IsTrue (acts (state_after setup t) c a.call)) (more : List Capability)
     (leads : Leads (LeadsIn (state_after setup t) c) a.plan.names [] more)
     (uses : Leads (MayUse (state_after setup t) c) a.plan.names [] more)
-    (names : Carries setup t (step_to c None (LoadOf (EntryAt at.node at.index)) (last_left setup t (EntryAt at.node at.index)) None None) c
-    → NamesAre setup (step_to c None (LoadOf (EntryAt at.node at.index)) (last_left setup t (EntryAt at.node at.index)) None None ∷ t) c
+    (names : Carries setup t (step_to c None move (last_left setup t (word_of move)) None None) c
+    → NamesAre setup (step_to c None move (last_left setup t (word_of move)) None None ∷ t) c
     (cores c).own.table a.plan more) where
   abbrev s : State
   s = state_after setup t
@@ -48,7 +50,7 @@ module _ (setup : Setting) (setting : IsSetting setup) (cores : ℕ → Core) (t
   table = (cores c).own.table
 
   abbrev e : Step
-  e = step_to c None (LoadOf (EntryAt at.node at.index)) (last_left setup t (EntryAt at.node at.index)) None None
+  e = step_to c None move (last_left setup t (word_of move)) None None
 
   table_is : table ≡ (comp_of s c).table
   table_is = (stands.each c here).works.table
@@ -76,25 +78,26 @@ module _ (setup : Setting) (setting : IsSetting setup) (cores : ℕ → Core) (t
 
   -- the load refuses the call with `no-slot`
   no_slot : RuleMay s c (rule_of s c a.call) reply.NoSlot → change_of s c a.call ≡ Refused reply.NoSlot
-      → GoodTook setup cores t c (LoadOf (EntryAt at.node at.index)) (landed (found_more a more) (refuse refusal.NoSlot))
+      → GoodTook setup cores t c move (landed (found_more a more) (refuse refusal.NoSlot))
   no_slot may is lands =
       let unspent : are_calls_spent s c ≡ false = not_spent setup (cores c) t c (core_is setup setting cores t stands c here a active)
       room in
-      decides_on setup setting cores t stands c here a active (LoadOf (EntryAt at.node at.index)) reply.NoSlot more looks lands (still None)
+      decides_on setup setting cores t stands c here a active move reply.NoSlot more looks lands (still None)
       opens refl refl (λ x. refl) (λ x. refl) refl
-      (unspent, may) tt (λ is_alone. refused_first s c a.call reply.NoSlot unspent is)
+      (unspent, may) tt (λ is_alone. refused_first s c a.call reply.NoSlot may_act unspent is)
 
   -- What comes next of the call, after the load of the word of this component, if it reads one, is good.
   abbrev Begun : Option ℕ → WorkStep → Type 0
-  Begun o step = GoodTook setup cores t c (LoadOf (EntryAt at.node at.index)) (landed (found_more a more) (read_first o step))
+  Begun o step = GoodTook setup cores t c move (landed (found_more a more) (read_first o step))
 
   -- the next look-up begins
   looks_next : (next : Next) → next_of a.plan more ≡ next → ReadBefore s c (reads_of a.call more) a.read next
       → (look : Look) → LooksFor setup (e ∷ t) c table next look → Begun None (Goes (Lookup look))
   looks_next next is reads look looks_for lands =
-      loads_on setup setting cores t stands c here a active (LoadOf (EntryAt at.node at.index)) more (Undecided (Lookup look)) looks
+      loads_on setup setting cores t stands c here a active move more (Undecided (Lookup look)) looks
       lands (still None) opens
       (λ carries. record {
+        acts = may_act;
         names = names carries;
         knows = record {
           looks = subst (λ x. LooksFor setup (e ∷ t) c table x look) (sym is) looks_for;
@@ -106,9 +109,10 @@ module _ (setup : Setting) (setting : IsSetting setup) (cores : ℕ → Core) (t
   reads_next : (f : ℕ) → reads_of a.call more ≡ Some f → (target : place) → next_of a.plan more ≡ NextFree target
       → (look : Look) → LooksUp setup (e ∷ t) c target look → Begun (Some f) (Goes (Lookup look))
   reads_next f reads target is look up lands =
-      loads_on setup setting cores t stands c here a active (LoadOf (EntryAt at.node at.index)) more (Undecided (Read f look)) looks
+      loads_on setup setting cores t stands c here a active move more (Undecided (Read f look)) looks
       lands (still None) opens
       (λ carries. record {
+        acts = may_act;
         names = names carries;
         knows = record {
           target = target;
@@ -193,7 +197,7 @@ module _ (setup : Setting) (setting : IsSetting setup) (cores : ℕ → Core) (t
 
   held_good : (spot : Spot) → a.plan.target ≡ Held spot → names_after a.plan.names more ≡ []
       → next_of a.plan more ≡ NextHeld (place_of_spot (with_found [] more) spot)
-      → GoodTook setup cores t c (LoadOf (EntryAt at.node at.index))
+      → GoodTook setup cores t c move
       (landed (found_more a more) (looks_at (place_of_spot (with_found [] more) spot)))
   held_good (spot_of.Under i n) to none is =
       let root = spot_relies setup setting t stands.legal c a.call is_open a.plan more (spot_of.Under i n)
@@ -212,9 +216,9 @@ module _ (setup : Setting) (setting : IsSetting setup) (cores : ℕ → Core) (t
       (past_entry_unreached s c (earlier (with_found [] more) i) x past))
 
   target_good : (a.plan.names ≡ [] → ⊥) → (target : Target) → a.plan.target ≡ target → names_after a.plan.names more ≡ []
-      → (target ≡ Nowhere → GoodTook setup cores t c (LoadOf (EntryAt at.node at.index))
+      → (target ≡ Nowhere → GoodTook setup cores t c move
       (landed (found_more a more) (act_begun (cores c).own a.call more None None)))
-      → GoodTook setup cores t c (LoadOf (EntryAt at.node at.index))
+      → GoodTook setup cores t c move
       (landed (found_more a more) (next_step (cores c).own a.call more (next_target (with_found [] more) target)))
   target_good named Nowhere to none acts = acts refl
   target_good named (Free spot) to none acts = free_good spot to none (next_end a.plan more (Free spot) none to)
@@ -224,14 +228,14 @@ module _ (setup : Setting) (setting : IsSetting setup) (cores : ℕ → Core) (t
       ∙ own_unnamed a.call v (ap (λ (p : Plan). p.target) (sym plan_is) ∙ to)))
 
   pub next_good : (a.plan.names ≡ [] → ⊥) → (a.plan.target ≡ Nowhere → names_after a.plan.names more ≡ []
-      → GoodTook setup cores t c (LoadOf (EntryAt at.node at.index))
+      → GoodTook setup cores t c move
       (landed (found_more a more) (act_begun (cores c).own a.call more None None)))
-      → GoodTook setup cores t c (LoadOf (EntryAt at.node at.index))
+      → GoodTook setup cores t c move
       (landed (found_more a more) (what_next (cores c).own (found_more a more)))
   next_good named acts = by (rest_of a.plan more)
     where
       Goal : Next → Type 0
-      Goal next = GoodTook setup cores t c (LoadOf (EntryAt at.node at.index))
+      Goal next = GoodTook setup cores t c move
           (landed (found_more a more) (next_step (cores c).own a.call more next))
 
       by : Rest a.plan more → Goal (next_of a.plan more)

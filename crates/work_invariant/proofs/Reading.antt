@@ -108,6 +108,7 @@ module _ (setup : Setting) (setting : IsSetting setup) (cores : ℕ → Core) (t
       reads_on setup setting cores t stands c here a active (LoadOf (EntryAt f 2)) a.found (Some life.epoch) (Undecided (Lookup look))
       loading lands (sym (ap (λ s. holds_at s a.counts) stage_is)) opens
       (λ carries. record {
+        acts = has.acts;
         names = names_on setup setting t e stands.legal c a.call is_open carries (cores c).own.table a.plan a.found has.names;
         knows = record {
           looks = subst (λ (x : Next). LooksFor setup (e ∷ t) c (cores c).own.table x look) (sym has.knows.next)

@@ -3,7 +3,8 @@
 use Rattle.comp_invariant.proofs.Common.{◌≡◌, ◌∙◌, inl, ℕ, ◌^◌, ◌<◌, ◌∷◌, Option, Some, None, List, [], arith, false, refl, sym, ap}
 use Rattle.comp_invariant.proofs.Common.{subst, lt-ltb, Setting, IsSetting, Reply, CoreAt, ClockAt, LoadOf, StoreOf, word_of, told_of}
 use Rattle.comp_invariant.proofs.Common.{Step, Trace, last_left, clock, Nothing, Quiesce, Unmark, StoreDead, StoreFlush, Release}
-use Rattle.comp_invariant.proofs.Common.{StoreLive, Push, Pop, Share, StoreRunning, StoreIdle, Stage, Enter, Undecided, Decided, Leave}
+use Rattle.comp_invariant.proofs.Common.{StoreLive, Push, Pop, Share, StoreRunning, StoreIdle, Stage, Enter, Living, Undecided, Decided}
+use Rattle.comp_invariant.proofs.Common.{Leave}
 use Rattle.comp_invariant.proofs.Common.{ActiveCall, Core, Acquired, holds_counts, core_word, stage_move, Took, GoesOn, Returns}
 use Rattle.comp_invariant.proofs.Common.{went_with, KnowsAt, done_by, holds_at, Invariant, phase_at}
 use Rattle.comp_invariant.specs.kernel_history.proofs.Steps.{clock_seen-own}
@@ -22,6 +23,7 @@ use Rattle.switch_invariant.specs.live_invariant.proofs.Killed.{dead_good}
 use Rattle.page_invariant.proofs.Flushes.{flushed_good}
 use Rattle.switch_invariant.proofs.Stores.{running_good, idle_good}
 use Rattle.sweep_invariant.proofs.Releases.{release_good}
+use Rattle.work_invariant.proofs.Living.{alive_good}
 use Rattle.work_invariant.proofs.Work.{work_good}
 
 module _ (setup : Setting) (setting : IsSetting setup) (cores : ℕ → Core) (t : Trace) (stands : Invariant setup cores t) (c : ℕ)
@@ -88,6 +90,7 @@ module _ (setup : Setting) (setting : IsSetting setup) (cores : ℕ → Core) (t
   pub stage_good : (a : ActiveCall) (stage : Stage) → (cores c).active ≡ Some a → a.stage ≡ stage
       → KnowsAt setup t c (cores c).own.table a stage → StageGood a stage
   stage_good a Enter active at knows = absurd knows
+  stage_good a (Living alive) active at knows = alive_good setup setting cores t stands c here a active alive at knows
   stage_good a (Undecided work) active at knows = work_good setup setting cores t stands c here a active work at knows
   stage_good a (Decided r drawn Nothing) active at knows = decided_good a r drawn active at
   stage_good a (Decided r drawn (Quiesce close)) active at knows =

@@ -17,7 +17,7 @@ charged_legal : IsLegal two_cores charged
 unfolding two_cores loaded charged word_of_head head_of_word
 charged_legal = let least : 150 ≤ 1000000 = omega arith in (
   ((tt, may_follow refl refl (refl, least) tt tt), may_follow refl refl tt tt tt),
-  may_follow refl refl tt (carried_out {k = call.Tick 150} {v = Amount 100} refl (refl, refl) refl) tt,
+  may_follow refl refl tt (carried_out {k = call.Tick 150} {v = Amount 100} refl (refl, (refl, refl)) refl) tt,
 )
 
 rest_is_owed : (end : ℕ → CoreEnd) → (end 0).owed ≡ owed_after (takes (there loaded (EntryAt 6 0))) 0

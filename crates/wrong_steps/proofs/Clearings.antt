@@ -21,7 +21,7 @@ made_legal : IsLegal two_cores made_user
 unfolding two_cores made_user word_of_entry word_of_frame
 made_legal = (
   (((tt, may_follow refl refl (refl, tt) tt tt), may_follow refl refl tt tt tt), may_follow refl refl tt tt tt),
-  may_follow refl refl tt (carried_out {k = call.Retype 0 8 frame_kind.User} refl (refl, refl) refl) tt,
+  may_follow refl refl tt (carried_out {k = call.Retype 0 8 frame_kind.User} refl (refl, (refl, refl)) refl) tt,
 )
 
 frozen_legal : IsLegal two_cores counts_frozen
@@ -59,7 +59,7 @@ left_legal : IsLegal two_cores left_frozen
 unfolding two_cores made_user counts_frozen left_frozen word_of_entry word_of_frame sum_below node_refs refs
 left_legal = (
   (
-    (frozen_legal, may_follow refl refl tt (carried_out {k = call.Retype 0 8 frame_kind.Untyped} refl (refl, refl) refl) tt),
+    (frozen_legal, may_follow refl refl tt (carried_out {k = call.Retype 0 8 frame_kind.Untyped} refl (refl, (refl, refl)) refl) tt),
     may_follow refl refl tt tt tt,
   ),
   may_follow refl refl tt tt (record { call = call.Retype 0 8 frame_kind.Untyped; was_decided = refl }),

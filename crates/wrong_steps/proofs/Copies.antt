@@ -10,6 +10,7 @@ use Rattle.kernel_history.proofs.Computed.{may_follow, some_call}
 use Rattle.kernel_history.proofs.Unjustified.{carried_out, not_permitted}
 use Rattle.wrong_steps.specs.Acts.{copying}
 use Rattle.wrong_steps.specs.Copies.{copied_once, copied_twice, lost, tried, CopiesOverwrite, RetriesGoOn}
+use Rattle.wrong_steps.proofs.Unanswered.{no_answer}
 
 both_copying : IsLegal two_cores (copying 1 (copying 0 []))
 unfolding two_cores word_of_entry
@@ -42,17 +43,17 @@ both_copying = (
 pub copies_overwrite : CopiesOverwrite
 unfolding two_cores copied_once copied_twice word_of_entry
 copies_overwrite = record {
-  legal = (both_copying, may_follow refl refl tt (carried_out {k = whole_copy 0 1 20} refl (refl, refl) refl) tt);
-  refused = λ legal. not_permitted (whole_copy 0 1 20) refl legal.1.decides (λ may. may.1);
+  legal = (both_copying, may_follow refl refl tt (carried_out {k = whole_copy 0 1 20} refl (refl, (refl, refl)) refl) tt);
+  refused = λ legal. not_permitted (whole_copy 0 1 20) refl legal.1.decides (λ may. no_answer may.1);
 }
 
--- Fifteen steps are past the bound of a copy on two cores.
-too_many : (k : Call) → k ≡ whole_copy 0 1 20 → 15 ≤ bound_of k 2 → ⊥
-too_many k is steps = let bound : bound_of k 2 ≡ 14 = ap (λ k. bound_of k 2) is in omega (arith, bound, steps)
+-- Seventeen steps are past the bound of a copy on two cores.
+too_many : (k : Call) → k ≡ whole_copy 0 1 20 → 17 ≤ bound_of k 2 → ⊥
+too_many k is steps = let bound : bound_of k 2 ≡ 16 = ap (λ k. bound_of k 2) is in omega (arith, bound, steps)
 
 lost_legal : IsLegal two_cores lost
 unfolding two_cores lost word_of_entry
-lost_legal = (both_copying, may_follow refl refl tt (carried_out {k = whole_copy 0 1 20} refl (refl, refl) refl) tt)
+lost_legal = (both_copying, may_follow refl refl tt (carried_out {k = whole_copy 0 1 20} refl (refl, (refl, refl)) refl) tt)
 
 pub retries_go_on : RetriesGoOn
 unfolding two_cores lost tried word_of_entry
@@ -64,7 +65,13 @@ retries_go_on = record {
           (
             (
               (
-                (((lost_legal, may_follow refl refl tt tt tt), may_follow refl refl tt tt tt), may_follow refl refl tt tt tt),
+                (
+                  (
+                    (((lost_legal, may_follow refl refl tt tt tt), may_follow refl refl tt tt tt), may_follow refl refl tt tt tt),
+                    may_follow refl refl tt tt tt,
+                  ),
+                  may_follow refl refl tt tt tt,
+                ),
                 may_follow refl refl tt tt tt,
               ),
               may_follow refl refl tt tt tt,

@@ -11,6 +11,7 @@ use Rattle.kernel_history.specs.Scenes.{two_cores}
 use Rattle.kernel_history.proofs.Computed.{may_follow}
 use Rattle.kernel_history.proofs.Unjustified.{carried_out, not_permitted}
 use Rattle.wrong_steps.specs.Invocations.{gated, calling, killed, entered_dead, CallsLookBefore}
+use Rattle.wrong_steps.proofs.Unanswered.{no_answer}
 
 pub gated_legal : IsLegal two_cores gated
 unfolding two_cores gated word_of_entry word_of_comp
@@ -25,7 +26,7 @@ gated_legal = (
     ),
     may_follow refl refl tt tt tt,
   ),
-  may_follow refl refl tt (carried_out {k = call.Gate 3 1 20} refl (refl, refl) refl) tt,
+  may_follow refl refl tt (carried_out {k = call.Gate 3 1 20} refl (refl, (refl, refl)) refl) tt,
 )
 
 calling_legal : IsLegal two_cores calling
@@ -51,12 +52,12 @@ killed_legal : IsLegal two_cores killed
 unfolding two_cores gated calling killed word_of_entry
 killed_legal = (
   (((calling_legal, may_follow refl refl (refl, tt) tt tt), may_follow refl refl tt tt tt), may_follow refl refl tt tt tt),
-  may_follow refl refl tt (carried_out {k = call.Kill 3} refl (refl, refl) refl) tt,
+  may_follow refl refl tt (carried_out {k = call.Kill 3} refl (refl, (refl, refl)) refl) tt,
 )
 
 pub calls_look_before : CallsLookBefore
 unfolding two_cores gated calling killed entered_dead word_of_entry word_of_comp comp_of_word
 calls_look_before = record {
   legal = killed_legal;
-  refused = λ legal. not_permitted (call.Call 20) refl legal.1.decides (λ may. may.1);
+  refused = λ legal. not_permitted (call.Call 20) refl legal.1.decides (λ may. no_answer may.1);
 }

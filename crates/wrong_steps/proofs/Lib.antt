@@ -1,3 +1,4 @@
+pub mod Unanswered
 pub mod Copies
 pub mod Removals
 pub mod Invocations

@@ -42,7 +42,7 @@ filled_legal = (
       ),
       may_follow refl refl tt tt tt,
     ),
-    may_follow refl refl tt (carried_out {k = whole_copy 0 1 20} refl (refl, refl) refl) tt,
+    may_follow refl refl tt (carried_out {k = whole_copy 0 1 20} refl (refl, (refl, refl)) refl) tt,
   ),
   may_follow refl refl tt tt (record { call = whole_copy 0 1 20; was_decided = refl }),
 )

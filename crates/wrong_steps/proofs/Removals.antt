@@ -17,11 +17,11 @@ removals_draw_first = record {
           (((tt, may_follow refl refl (refl, tt) tt tt), may_follow refl refl tt tt tt), may_follow refl refl tt tt tt),
           may_follow refl refl tt tt tt,
         ),
-        may_follow refl refl tt (carried_out {k = call.Remove 1 0} refl (refl, refl) refl) tt,
+        may_follow refl refl tt (carried_out {k = call.Remove 1 0} refl (refl, (refl, refl)) refl) tt,
       ),
       may_follow refl refl (refl, tt) tt tt,
     ),
     may_follow refl refl tt tt tt,
   );
-  refused = λ legal. not_permitted (call.Look 0) refl legal.1.decides (λ may. may.1);
+  refused = λ legal. not_permitted (call.Look 0) refl legal.1.decides (λ may. may.1.1);
 }

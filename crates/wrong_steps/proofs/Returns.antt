@@ -30,7 +30,7 @@ gate_legal = (
     ),
     may_follow refl refl tt tt tt,
   ),
-  may_follow refl refl tt (carried_out {k = call.Gate 3 1 20} refl (refl, refl) refl) tt,
+  may_follow refl refl tt (carried_out {k = call.Gate 3 1 20} refl (refl, (refl, refl)) refl) tt,
 )
 
 call_legal : IsLegal two_cores call_step
@@ -55,7 +55,7 @@ call_legal = (
     ),
     may_follow refl refl tt tt tt,
   ),
-  may_follow refl refl tt (carried_out {k = call.Call 20} refl (refl, refl) refl) tt,
+  may_follow refl refl tt (carried_out {k = call.Call 20} refl (refl, (refl, refl)) refl) tt,
 )
 
 ret_legal : IsLegal two_cores ret_step
@@ -74,7 +74,7 @@ ret_legal = (
     ),
     may_follow refl refl tt tt tt,
   ),
-  may_follow refl refl tt (carried_out {k = call.Ret} refl (refl, refl) refl) tt,
+  may_follow refl refl tt (carried_out {k = call.Ret} refl (refl, (refl, refl)) refl) tt,
 )
 
 kept_legal : IsLegal two_cores kept

@@ -37,7 +37,7 @@ called_legal = (
         ),
         may_follow refl refl tt tt tt,
       ),
-      may_follow refl refl tt (carried_out {k = call.Call 20} refl (refl, refl) refl) tt,
+      may_follow refl refl tt (carried_out {k = call.Call 20} refl (refl, (refl, refl)) refl) tt,
     ),
     may_follow refl refl tt tt tt,
   ),
@@ -57,7 +57,7 @@ blank_legal = (
     ),
     may_follow refl refl tt tt tt,
   ),
-  may_follow refl refl tt (carried_out {k = call.Retype 0 8 frame_kind.Kernel} refl (refl, refl) refl) tt,
+  may_follow refl refl tt (carried_out {k = call.Retype 0 8 frame_kind.Kernel} refl (refl, (refl, refl)) refl) tt,
 )
 
 marked_legal : IsLegal two_cores marked
@@ -97,7 +97,7 @@ marked_legal = (
 made_legal : IsLegal two_cores made_thread
 unfolding two_cores gated called blank marked made_thread word_of_entry word_of_frame
 made_legal = (
-  (marked_legal, may_follow refl refl tt (carried_out {k = call.Make (make.Thread 3) 0 8 1 21} refl (refl, refl) refl) tt),
+  (marked_legal, may_follow refl refl tt (carried_out {k = call.Make (make.Thread 3) 0 8 1 21} refl (refl, (refl, refl)) refl) tt),
   may_follow refl refl tt tt tt,
 )
 
@@ -143,7 +143,7 @@ unfolding two_cores gated called blank marked made_thread claimed mixed word_of_
 mixed_legal = (
   (
     (
-      (claimed_legal, may_follow refl refl tt (carried_out {k = call.Switch 21 12} refl (refl, refl) refl) tt),
+      (claimed_legal, may_follow refl refl tt (carried_out {k = call.Switch 21 12} refl (refl, (refl, refl)) refl) tt),
       may_follow refl refl tt tt tt,
     ),
     may_follow refl refl tt tt tt,

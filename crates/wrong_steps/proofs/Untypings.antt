@@ -19,7 +19,7 @@ typed_legal : IsLegal two_cores typed
 unfolding two_cores typed word_of_entry word_of_frame
 typed_legal = (
   (((tt, may_follow refl refl (refl, tt) tt tt), may_follow refl refl tt tt tt), may_follow refl refl tt tt tt),
-  may_follow refl refl tt (carried_out {k = call.Retype 0 8 frame_kind.Kernel} refl (refl, refl) refl) tt,
+  may_follow refl refl tt (carried_out {k = call.Retype 0 8 frame_kind.Kernel} refl (refl, (refl, refl)) refl) tt,
 )
 
 made_legal : IsLegal two_cores made
@@ -41,7 +41,7 @@ made_legal = (
     ),
     may_follow refl refl tt tt tt,
   ),
-  may_follow refl refl tt (carried_out {k = call.Make make.Pages 0 8 1 20} refl (refl, refl) refl) tt,
+  may_follow refl refl tt (carried_out {k = call.Make make.Pages 0 8 1 20} refl (refl, (refl, refl)) refl) tt,
 )
 
 removed_legal : IsLegal two_cores removed
@@ -60,7 +60,7 @@ removed_legal = (
     ),
     may_follow refl refl tt tt tt,
   ),
-  may_follow refl refl tt (carried_out {k = call.Remove 1 20} refl (refl, refl) refl) tt,
+  may_follow refl refl tt (carried_out {k = call.Remove 1 20} refl (refl, (refl, refl)) refl) tt,
 )
 
 flushed_legal : IsLegal two_cores flushed
@@ -72,7 +72,7 @@ flushed_legal = (
         (removed_legal, may_follow refl refl tt tt (record { call = call.Remove 1 20; was_decided = refl })),
         may_follow refl refl (refl, tt) tt tt,
       ),
-      may_follow refl refl tt (carried_out {k = call.Flush} refl (refl, refl) refl) tt,
+      may_follow refl refl tt (carried_out {k = call.Flush} refl (refl, (refl, refl)) refl) tt,
     ),
     may_follow refl refl tt tt tt,
   ),
@@ -98,5 +98,5 @@ retypes_skip = record {
   legal = scanned_legal;
   passes = refl;
   over = refl;
-  refused = λ legal. not_permitted (call.Retype 0 8 frame_kind.Untyped) refl legal.1.decides (λ may. may.1);
+  refused = λ legal. not_permitted (call.Retype 0 8 frame_kind.Untyped) refl legal.1.decides (λ may. may.1.1);
 }

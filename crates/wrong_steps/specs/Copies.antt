@@ -48,7 +48,7 @@ unfoldable pub lost : Trace
 lost = acts 1 (fill_move fill) (took_fill fill) (copying 1 (copying 0 []))
 
 unfoldable pub tried : Trace
-tried = tries (tries (tries (tries (tries (tries (tries (tries (tries (tries lost)))))))))
+tried = tries (tries (tries (tries (tries (tries (tries (tries (tries (tries (tries (tries lost)))))))))))
 
 pub record RetriesGoOn : Type 0 where
   pub legal : IsLegal two_cores tried

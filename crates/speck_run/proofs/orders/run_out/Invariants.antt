@@ -1,5 +1,5 @@
 use Rattle.std.proofs.Common.{◌≡◌}
-use Rattle.lone_kernel.specs.Moves.{calls_left}
+use Rattle.trace_run.specs.lone_kernel.specs.Moves.{calls_left}
 use Rattle.speck_run.specs.Orders.{GoesByCore}
 use Rattle.speck_run.proofs.orders.run_out.Given as goal
 

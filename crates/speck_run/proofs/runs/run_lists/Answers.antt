@@ -1,11 +1,11 @@
 use Rattle.std.proofs.Common.{◌≡◌, ◌++◌, ◌∙◌, Some, map, sym, ap, subst, All}
 use Rattle.std.specs.Prelude.{string_bytes, IfSome}
-use Rattle.lone_kernel.specs.word_map.specs.Places.{Shape}
-use Rattle.lone_kernel.specs.kernel_history.specs.Counts.{RepresentCounts}
-use Rattle.lone_kernel.specs.kernel_history.specs.FinalWords.{Represent, word_in, end_in}
-use Rattle.lone_kernel.specs.kernel_history.specs.Tables.{tables_of}
-use Rattle.lone_kernel.specs.kernel_history.specs.Trace.{state_after}
-use Rattle.lone_kernel.specs.core_invariant.proofs.Sounds.{limits_of}
+use Rattle.trace_run.specs.lone_kernel.specs.word_map.specs.Places.{Shape}
+use Rattle.trace_run.specs.lone_kernel.specs.kernel_history.specs.Counts.{RepresentCounts}
+use Rattle.trace_run.specs.lone_kernel.specs.kernel_history.specs.FinalWords.{Represent, word_in, end_in}
+use Rattle.trace_run.specs.lone_kernel.specs.kernel_history.specs.Tables.{tables_of}
+use Rattle.trace_run.specs.lone_kernel.specs.kernel_history.specs.Trace.{state_after}
+use Rattle.trace_run.specs.lone_kernel.specs.core_invariant.proofs.Sounds.{limits_of}
 use Rattle.core_kernel.specs.Whole.{IsList, AreMade}
 use Rattle.speck_run.specs.Written.{lines_of}
 use Rattle.speck_run.proofs.ByCores.{taken, lists_fit}

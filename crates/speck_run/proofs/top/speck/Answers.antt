@@ -2,26 +2,31 @@ use Rattle.std.proofs.Common.{◌≡◌, ◌∙◌, sym, subst, inl, inr}
 use Rattle.speck_run.specs.declared.words.Command.TheVariants as commands
 use Rattle.speck_run.specs.declared.top.Status.TheVariants.{Stopped}
 use Rattle.byte_ends.specs.Ends.{Adds}
+use Rattle.speck_run.specs.Script.{UsesThreads}
 use Rattle.speck_run.specs.Top.{Asked, Answers, Writes}
-use Rattle.speck_run.proofs.Due.{answers_due, answers_fault, asks_same, carried_out}
-use Rattle.speck_run.proofs.Due.{completes, load_due, stops_run, summary_due, writes_due}
+use Rattle.speck_run.proofs.Due.{answers_due, answers_fault, asks_same, carries}
+use Rattle.speck_run.proofs.Due.{completes, done_asked, load_due, stops_run, summary_due, words_due, writes_due}
 use Rattle.speck_run.proofs.top.speck.Goals as goal
 
 pub returns-in-Ok-clause-replay : goal.returns-in-Ok-clause-replay
 returns-in-Ok-clause-replay g c asks done =
-    elim c.finish.ensures [
-      | inl p ↦ carried_out c.args.words.now commands.Replay asks (g.S.Source.left c.args.source.now)
-          _ _ _ c.in-Ok.answer.status _ _ _ c.in-Ok.ensures.due (sym p.0 ∙ done) p.2
-      | inr p ↦ let wrong = sym p.0 ∙ done in cc
-    ]
+    carries c.args.words.now commands.Replay asks (g.S.Source.left c.args.source.now) _ _ _ c.in-Ok.answer.status _
+    _ _ (g.K.Sink.held c.args.sink.now) _ c.finish.result c.in-Ok.ensures.due c.finish.ensures done
+
+pub returns-in-Ok-clause-trace : goal.returns-in-Ok-clause-trace
+returns-in-Ok-clause-trace g c asks done =
+    carries c.args.words.now commands.Trace asks (g.S.Source.left c.args.source.now) _ _ _ c.in-Ok.answer.status _
+    _ _ (g.K.Sink.held c.args.sink.now) _ c.finish.result c.in-Ok.ensures.due c.finish.ensures done
+
+pub returns-in-Ok-clause-draw : goal.returns-in-Ok-clause-draw
+returns-in-Ok-clause-draw g c asks done =
+    carries c.args.words.now commands.Draw asks (g.S.Source.left c.args.source.now) _ _ _ c.in-Ok.answer.status _
+    _ _ (g.K.Sink.held c.args.sink.now) _ c.finish.result c.in-Ok.ensures.due c.finish.ensures done
 
 pub returns-in-Ok-clause-run : goal.returns-in-Ok-clause-run
 returns-in-Ok-clause-run g c asks done =
-    elim c.finish.ensures [
-      | inl p ↦ carried_out c.args.words.now commands.Run asks (g.S.Source.left c.args.source.now)
-          _ _ _ c.in-Ok.answer.status _ _ _ c.in-Ok.ensures.due (sym p.0 ∙ done) p.2
-      | inr p ↦ let wrong = sym p.0 ∙ done in cc
-    ]
+    carries c.args.words.now commands.Run asks (g.S.Source.left c.args.source.now) _ _ _ c.in-Ok.answer.status _
+    _ _ (g.K.Sink.held c.args.sink.now) _ c.finish.result c.in-Ok.ensures.due c.finish.ensures done
 
 pub returns-in-Ok-clause-stopped : goal.returns-in-Ok-clause-stopped
 returns-in-Ok-clause-stopped g c stopped =
@@ -39,19 +44,23 @@ returns-in-Ok-clause-stopped g c stopped =
 
 pub returns-in-Ok-clause-plain : goal.returns-in-Ok-clause-plain
 returns-in-Ok-clause-plain g c asks done =
-    elim c.finish.ensures [
-      | inl p ↦ carried_out c.args.words.now commands.Plain asks (g.S.Source.left c.args.source.now)
-          _ _ _ c.in-Ok.answer.status _ _ _ c.in-Ok.ensures.due (sym p.0 ∙ done) p.2
-      | inr p ↦ let wrong = sym p.0 ∙ done in cc
-    ]
+    carries c.args.words.now commands.Plain asks (g.S.Source.left c.args.source.now) _ _ _ c.in-Ok.answer.status _
+    _ _ (g.K.Sink.held c.args.sink.now) _ c.finish.result c.in-Ok.ensures.due c.finish.ensures done
 
 pub returns-in-Ok-clause-print : goal.returns-in-Ok-clause-print
 returns-in-Ok-clause-print g c asks done =
-    elim c.finish.ensures [
-      | inl p ↦ carried_out c.args.words.now commands.Print asks (g.S.Source.left c.args.source.now)
-          _ _ _ c.in-Ok.answer.status _ _ _ c.in-Ok.ensures.due (sym p.0 ∙ done) p.2
-      | inr p ↦ let wrong = sym p.0 ∙ done in cc
-    ]
+    carries c.args.words.now commands.Print asks (g.S.Source.left c.args.source.now) _ _ _ c.in-Ok.answer.status _
+    _ _ (g.K.Sink.held c.args.sink.now) _ c.finish.result c.in-Ok.ensures.due c.finish.ensures done
+
+pub returns-in-Ok-clause-ends : goal.returns-in-Ok-clause-ends
+returns-in-Ok-clause-ends g c asks done =
+    carries c.args.words.now commands.Ends asks (g.S.Source.left c.args.source.now) _ _ _ c.in-Ok.answer.status _
+    _ _ (g.K.Sink.held c.args.sink.now) _ c.finish.result c.in-Ok.ensures.due c.finish.ensures done
+
+pub returns-in-Ok-clause-sched : goal.returns-in-Ok-clause-sched
+returns-in-Ok-clause-sched g c asks done =
+    carries c.args.words.now commands.Sched asks (g.S.Source.left c.args.source.now) _ _ _ c.in-Ok.answer.status _
+    _ _ (g.K.Sink.held c.args.sink.now) _ c.finish.result c.in-Ok.ensures.due c.finish.ensures done
 
 pub returns-in-Ok-clause-make : goal.returns-in-Ok-clause-make
 returns-in-Ok-clause-make g c number asks done =
@@ -92,12 +101,12 @@ returns-in-Ok-clause-loaded g c number asks =
     ]
 
 pub returns-in-Ok-clause-answers : goal.returns-in-Ok-clause-answers
-returns-in-Ok-clause-answers g c asked =
+returns-in-Ok-clause-answers g c command asks =
     let left = g.S.Source.left c.args.source.now in
     elim c.finish.ensures [
-      | inl p ↦ subst (Answers left) (sym p.0)
-          (answers_due c.args.words.now asked.command asked.asks left _ _ _ c.in-Ok.answer.status _ c.in-Ok.ensures.due)
-      | inr p ↦ answers_fault left c.finish.result (inl p.0)
+      | inl p ↦ subst (Answers command left) (sym p.0)
+          (answers_due c.args.words.now command asks left _ _ _ c.in-Ok.answer.status _ c.in-Ok.ensures.due)
+      | inr p ↦ answers_fault command left c.finish.result (inl p.0)
     ]
 
 pub returns-in-Ok-clause-complete : goal.returns-in-Ok-clause-complete
@@ -110,8 +119,8 @@ returns-in-Ok-clause-complete g c command asks accepted gate sure_source sure_si
       faults' = g.S.Source.faults c.judge.new.source;
     } in
     let goes : c.in-Ok.answer.status ≡ Stopped → ⊥ = λ stopped.
-    c.in-Ok.ensures.free stopped (gate (asks_same c.args.words.now command commands.Run
-    asks (stops_run asked c.in-Ok.answer.status _ c.in-Ok.ensures.due stopped).asks)) in
+    let run = stops_run asked c.in-Ok.answer.status _ c.in-Ok.ensures.due stopped in
+    c.in-Ok.ensures.free stopped (gate (subst UsesThreads (asks_same c.args.words.now run.command command run.asks asks) run.threads)) in
     elim c.finish.ensures [
       | inl p ↦ inl (p.0 ∙ completes c.args.words.now command asks (g.S.Source.left c.args.source.now)
           _ _ _ c.in-Ok.answer.status _ c.in-Ok.ensures.due accepted goes sure_source)
@@ -133,4 +142,32 @@ returns-in-Ok-clause-writes g c =
       | inl p ↦ subst (Writes asked held held') (sym p.0) (writes_due asked held held' c.in-Ok.answer.status _ c.in-Ok.ensures.due p.2)
       | inr p ↦ subst (Writes asked held held') (sym p.0)
           (record { status = c.in-Ok.answer.status; text = _; due = c.in-Ok.ensures.due; front = p.2 })
+    ]
+
+pub returns-in-Ok-clause-done : goal.returns-in-Ok-clause-done
+returns-in-Ok-clause-done g c done =
+    let asked : Asked = record {
+      words = c.args.words.now;
+      left = g.S.Source.left c.args.source.now;
+      left' = g.S.Source.left c.judge.new.source;
+      faults = g.S.Source.faults c.args.source.now;
+      faults' = g.S.Source.faults c.judge.new.source;
+    } in
+    elim c.finish.ensures [
+      | inl p ↦ done_asked asked c.in-Ok.answer.status _ c.in-Ok.ensures.due (sym p.0 ∙ done)
+      | inr p ↦ let wrong = sym p.0 ∙ done in cc
+    ]
+
+pub returns-in-Ok-clause-other_words : goal.returns-in-Ok-clause-other_words
+returns-in-Ok-clause-other_words g c other =
+    let asked : Asked = record {
+      words = c.args.words.now;
+      left = g.S.Source.left c.args.source.now;
+      left' = g.S.Source.left c.judge.new.source;
+      faults = g.S.Source.faults c.args.source.now;
+      faults' = g.S.Source.faults c.judge.new.source;
+    } in
+    elim c.finish.ensures [
+      | inl p ↦ inl (p.0 ∙ words_due asked c.in-Ok.answer.status _ c.in-Ok.ensures.due other)
+      | inr p ↦ inr (inl p.0)
     ]

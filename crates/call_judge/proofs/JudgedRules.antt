@@ -1,0 +1,49 @@
+-- The rule of a call as it is judged goes by the call's plan.
+use Rattle.std.proofs.Common.{◌≡◌, ℕ, ◌≤◌, length, Bool, true, false, nat_lt, if◌then◌else◌, refl, sym, subst, List}
+use Rattle.spk_nums.specs.declared.kinds.FrameKind.TheVariants as frame_kind
+use Rattle.spk_nums.specs.declared.calls.Call.{Call}
+use Rattle.spk_nums.specs.declared.calls.Call.TheVariants.{Retype}
+use Rattle.spk_nums.specs.declared.replies.Reply.{Reply}
+use Rattle.kernel_rules.specs.State.{State}
+use Rattle.kernel_rules.specs.Rules.{Rule, RuleMay, OneMay, Cause}
+use Rattle.kernel_rules.specs.MemoryCalls.{retype_rule}
+use Rattle.call_plans.specs.declared.plans.Plan.{Plan}
+use Rattle.call_plans.specs.PlanOf.{plan_for}
+use Rattle.call_plans.specs.GoesBy.{own_pages, GoesBy}
+use Rattle.call_plans.proofs.CallsGoBy.{calls_go}
+use Rattle.call_plans.proofs.FewNames.{few_names}
+use Rattle.seq_plans.specs.declared.reaching.Reach.TheVariants.{Own}
+use Rattle.seq_plans.specs.declared.walking.Looked.{Looked}
+use Rattle.seq_plans.specs.Walks.{looked, left_of, causes_of}
+use Rattle.seq_plans.specs.OwnCauses.{retype_beyond, judged_rule}
+use Rattle.seq_plans.specs.Refusals.{Decides, LooksMay, Iff}
+use Rattle.seq_plans.proofs.Deciding.{decides_either}
+use Rattle.seq_plans.proofs.ByPlan.{refused_by_plan}
+
+untyped_goes : (s : State) (c r f : ℕ) (b : Bool)
+    → GoesBy (own_pages s c) (plan_for (Retype r f frame_kind.Untyped))
+    (if b then retype_rule s r f frame_kind.Untyped else retype_beyond s r f)
+untyped_goes s c r f true = calls_go s c (Retype r f frame_kind.Untyped)
+untyped_goes s c r f false = (refl, refl, λ k. tt)
+
+judged_goes : (s : State) (c : ℕ) (call : Call) → GoesBy (own_pages s c) (plan_for call) (judged_rule s c call)
+judged_goes s c (Retype r f frame_kind.Untyped) = untyped_goes s c r f (nat_lt f s.limits.frames)
+judged_goes s c call = calls_go s c call
+
+decides_iff : (A B : Type 0) (b : Bool) → Iff A B → Decides b B → Decides b A
+decides_iff A B true e h = e.back h
+decides_iff A B false e h = λ a. h (e.there a)
+
+-- A call may be refused exactly where its look-ups or its own causes may be.
+pub judged : (s : State) (c : ℕ) (call : Call) (r : Reply) (plan : Plan) (l : Looked) (causes : List Cause) (a b : Bool)
+    → plan ≡ plan_for call → l ≡ looked Own s c plan → causes ≡ causes_of (left_of (judged_rule s c call) l)
+    → Decides a (LooksMay s c plan l r) → Decides b (OneMay s c causes r)
+    → Decides ((Rattle.std.specs.Prelude.◌||◌) a b) (RuleMay s c (judged_rule s c call) r)
+judged s c call r plan l causes a b is_plan is_looked are by_looks by_own =
+    decides_iff _ _ _ (refused_by_plan s c (plan_for call) (judged_rule s c call) r (few_names call) (judged_goes s c call))
+    (decides_either _ _ a b
+    (subst (λ p. Decides a (LooksMay s c p (looked Own s c p) r)) is_plan
+    (subst (λ x. Decides a (LooksMay s c plan x r)) is_looked by_looks))
+    (subst (λ p. Decides b (OneMay s c (causes_of (left_of (judged_rule s c call) (looked Own s c p))) r)) is_plan
+    (subst (λ x. Decides b (OneMay s c (causes_of (left_of (judged_rule s c call) x)) r)) is_looked
+    (subst (λ xs. Decides b (OneMay s c xs r)) are by_own))))

@@ -1,0 +1,19 @@
+-- The theorem on the picture of given steps.
+use Rattle.std.specs.Prelude.{◌≡◌, ℕ, List}
+use Rattle.spk_nums.specs.Setting.{Setting}
+use Rattle.spk_nums.specs.declared.calls.Call.{Call}
+use Rattle.spk_nums.specs.declared.steps.Item.{Item}
+use Rattle.told_run.specs.lone_kernel.specs.kernel_history.specs.Trace.{Trace}
+use Rattle.told_run.specs.lone_kernel.specs.kernel_history.specs.Order.{HasCalls, Follows}
+use Rattle.told_run.specs.lone_kernel.specs.flight.specs.Made.{ready_after}
+use Rattle.told_run.specs.lone_kernel.specs.flight_laws.specs.Histories.{IsHistory}
+use Rattle.trace_drawing.specs.Pictures.{drawing}
+
+-- There is one trace that is a history of the machine, has the calls of the lists once and in order, follows the order, and of which
+-- this text is the drawing.
+pub record GivenDrawing (setup : Setting) (lists : List (List Call)) (items : List Item) (text : List ℕ) : Type 0 where
+  pub trace : Trace
+  pub history : IsHistory setup trace
+  pub calls : HasCalls lists trace
+  pub order : Follows (ready_after setup) lists items trace
+  pub is_drawing : text ≡ drawing setup trace

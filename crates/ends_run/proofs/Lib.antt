@@ -1,0 +1,5 @@
+pub mod Looks
+pub mod Runs
+pub mod Telling
+pub mod Sends
+pub mod Ended

@@ -1,0 +1,79 @@
+-- What a turn, and a whole schedule, make of a machine and of where the schedule has come to.
+use Rattle.std.specs.Prelude.{◌≡◌, ◌<◌, ◌≤◌, ℕ, ◌+◌, ◌-◌, List, [], ◌∷◌, ◌++◌, length, slice_get, All, Option, Some, None}
+use Rattle.spk_nums.specs.Setting.{Setting}
+use Rattle.spk_nums.specs.declared.calls.Call.{Call}
+use Rattle.seq_state.specs.Maps.{Maps}
+use Rattle.sched_rules.specs.declared.tasks.Task.{Task}
+use Rattle.sched_rules.specs.declared.tasks.Rule.{Rule}
+use Rattle.sched_rules.specs.declared.tasks.Job.{Job}
+use Rattle.sched_rules.specs.declared.tasks.Choice.{Choice}
+use Rattle.sched_rules.specs.declared.turns.Turn.{Turn}
+use Rattle.sched_rules.specs.declared.turns.Turn.TheVariants.{Idle}
+use Rattle.sched_rules.specs.Schedule.{Progress, Step, at_first, turns_of, calls_of, IsSchedule}
+use Rattle.fixed_prio.specs.declared.course.Course.{Course}
+use Rattle.fixed_prio.specs.Machines.{after_calls, Beside}
+
+-- Where the schedule has come to, after these calls of the machine.
+abbrev pub progress : Setting → List Call → Course → Progress
+progress setting made course =
+    record { time = course.time; state = after_calls setting made; jobs = course.jobs.items; last = course.last }
+
+-- The work that tasks have left in all.
+abbrev pub work_left : List Job → ℕ
+work_left [] = 0
+work_left (job ∷ jobs) = job.left + work_left jobs
+
+-- A task arrives in range.
+abbrev pub Arrives : Job → Type 0
+Arrives job = job.task.arrival ≤ 1000000
+
+-- Times of turns are in range, up to the end.
+pub record Fits (now : ℕ) (jobs : List Job) : Type 0 where
+  pub few : length jobs ≤ 32
+  pub arrivals : All Arrives jobs
+  pub work : work_left jobs ≤ 320000
+  pub time : now + work_left jobs ≤ 1320000
+
+abbrev pub CourseFits : Course → Type 0
+CourseFits course = Fits course.time course.jobs.items
+
+-- The chosen task is one of those listed, and the turn is in range.
+pub record IsChosen (course : Course) (c : Choice) (n : ℕ) : Type 0 where
+  pub place : slice_get course.jobs.items c.index ≡ Some c.job
+  pub few : length course.jobs.items ≤ 32
+  pub work : n ≤ c.job.left
+  pub ticks : n ≤ 1000000
+  pub time : course.time ≤ 1320000
+
+-- The turn that was taken is that of this step: the machine has made its calls, and the plain kernel has gone along.
+pub record Takes (setup : Setting) (before : List Call) (step : Step) (taken : Turn) (after : List Call) (course : Course) (k : Maps)
+    : Type 0 where
+  pub turn : step.turn ≡ taken
+  pub made : after ≡ before ++ step.calls
+  pub next : step.next ≡ progress setup after course
+  pub beside : Beside setup after k
+
+-- The schedule has ended, and nothing has changed.
+pub record Ends (setup : Setting) (before : List Call) (old : Course) (after : List Call) (new : Course) (k : Maps) : Type 0 where
+  pub made : after ≡ before
+  pub course : new ≡ old
+  pub beside : Beside setup after k
+
+-- The next turn was taken; or there is none.
+abbrev pub TakesTurn : Setting → List Call → Course → Option Step → Option Turn → List Call → Course → Maps → Type 0
+TakesTurn setup before course None None after new k = Ends setup before course after new k
+TakesTurn setup before course (Some step) (Some turn) after new k = Takes setup before step turn after new k
+TakesTurn setup before course _ _ after new k = ⊥
+
+-- The idle turn up to an arrival, if one comes.
+abbrev pub IdlesTo : Option ℕ → Course → Option Turn → Course → Type 0
+IdlesTo None course turn new = (turn ≡ None) × (new ≡ course)
+IdlesTo (Some at) course turn new = (turn ≡ Some (Idle course.time (at - course.time))) × (new ≡ record course { time = at })
+
+-- From the state after the machine's calls, the schedule's turns were these; the machine has made their calls.
+pub record HasScheduled (setup : Setting) (before : List Call) (rule : Rule) (tasks : List Task) (taken : List Turn) (after : List Call)
+    : Type 0 where
+  pub steps : List Step
+  pub schedule : IsSchedule rule (at_first (after_calls setup before) tasks) steps
+  pub turns : taken ≡ turns_of steps
+  pub made : after ≡ before ++ calls_of steps

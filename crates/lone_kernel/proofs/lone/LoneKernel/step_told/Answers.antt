@@ -1,0 +1,18 @@
+use Rattle.std.proofs.Common.{ap, subst}
+use Rattle.spk_nums.specs.Setting.{IsSetting}
+use Rattle.lone_kernel.specs.Machine.{IsFit}
+use Rattle.lone_kernel.proofs.Advance.{stays_idle}
+use Rattle.lone_kernel.proofs.Shown.{tells_step}
+use Rattle.lone_kernel.proofs.lone.LoneKernel.step_told.Goals as goal
+
+pub returns-clause-tells : goal.returns-clause-tells
+returns-clause-tells c =
+    let fit : IsFit c.args.self.now = subst IsFit c.self.view_is c.self.invariant.0 in
+    let setting : IsSetting c.args.self.now.setup = subst IsSetting (ap (λ m. m.setup) c.self.view_is) c.self.invariant.2 in
+    tells_step c.args.self.now fit setting c.args.core c.requires c.advance-told.new.self c.in-Some.view c.advance-told.result
+    c.decided.result c.returned.result c.in-Some.ensures.shows c.advance-told.ensures.steps c.decided.ensures c.returned.ensures
+
+pub returns-in_default-clause-tells : goal.returns-in_default-clause-tells
+returns-in_default-clause-tells c =
+    let setting : IsSetting c.args.self.now.setup = subst IsSetting (ap (λ m. m.setup) c.self.view_is) c.self.invariant.2 in
+    stays_idle c.args.self.now c.args.core setting c.requires (c.next_step.ensures.none.0 c.in_default.is)

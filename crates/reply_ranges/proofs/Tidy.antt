@@ -1,0 +1,327 @@
+-- In every state that a run reaches, capabilities have numbers and rights in the range of their kind, and cached translations have flags
+-- in range.
+use Rattle.std.proofs.Common.{◌≡◌, ℕ, ◌<◌, ◌≤◌, ◌^◌, Bool, true, false, List, [], ◌∷◌, ◌++◌, Option, Some, None, IsTrue}
+use Rattle.std.proofs.Common.{sym, ap, subst, arith, ◌==◌, nat_lt, ◌+◌, length, if◌then◌else◌}
+use Rattle.std.specs.List.{AllByRecursion}
+use Rattle.std.proofs.lemmas.Bool.{false≢true}
+use Rattle.spk_nums.proofs.KeptRights.{kept_above, kept_below}
+use Rattle.spk_nums.specs.Capability.{Capability, cap_of}
+use Rattle.spk_nums.specs.Rights.{kept, least_rights}
+use Rattle.spk_nums.specs.Setting.{Setting, IsSetting}
+use Rattle.spk_nums.specs.CallLimits.{InLimits}
+use Rattle.spk_nums.specs.declared.kinds.Kind.{Kind}
+use Rattle.spk_nums.specs.declared.kinds.Kind.TheVariants as kind
+use Rattle.spk_nums.specs.declared.kinds.FrameKind.{FrameKind}
+use Rattle.spk_nums.specs.declared.kinds.FrameKind.TheVariants as frame_kind
+use Rattle.spk_nums.specs.declared.calls.Make.{Make}
+use Rattle.spk_nums.specs.declared.calls.Make.TheVariants as make
+use Rattle.spk_nums.specs.declared.calls.Call.{Call}
+use Rattle.spk_nums.specs.declared.calls.Call.TheVariants.{Look, Copy, Remove, Grow, Shrink, Retype, Make as make_call}
+use Rattle.spk_nums.specs.declared.calls.Call.TheVariants.{Map, Unmap, Touch, Flush, Gate, Kill, Call as call_gate}
+use Rattle.spk_nums.specs.declared.calls.Call.TheVariants.{Ret, Switch, Tick, Transfer, Delegate, Test}
+use Rattle.spk_nums.specs.declared.translations.Translation.{Translation}
+use Rattle.spk_nums.specs.declared.replies.Reply.{Reply}
+use Rattle.spk_nums.specs.declared.replies.Reply.TheVariants as reply
+use Rattle.kernel_rules.specs.State.{Place, Free, Holds, Quiescing, Comp, Frame, Kernel}
+use Rattle.kernel_rules.specs.State.{Core, State, put, with_place, comp_in, comp_of, thread_in}
+use Rattle.kernel_rules.specs.Start.{plain_cap, start_range, start_cap, place_with, start}
+use Rattle.kernel_rules.specs.GracePeriods.{entered, returned}
+use Rattle.kernel_rules.specs.Access.{Slot, Named, Want, Under, InRoot, found, root_at}
+use Rattle.kernel_rules.specs.Access.{place_at, held_in, usable_in, usable, reached, any, to_copy}
+use Rattle.kernel_rules.specs.Rules.{Change, Judged, Refused, Found, and_then, or_refuse, unless, named, mapped}
+use Rattle.kernel_rules.specs.CapabilityCalls.{make_rule}
+use Rattle.kernel_rules.specs.MemoryCalls.{retype_rule, touch_by, translation_of, caching}
+use Rattle.kernel_rules.specs.InvocationCalls.{switch_to}
+use Rattle.kernel_rules.specs.CallRelation.{rule_of, change_of, changed, counted, owed_by, state_by}
+use Rattle.kernel_rules.specs.Fitting.{fits}
+use Rattle.kernel_rules.specs.Runs.{Event, Enters, Decides, Returns, after, is_open, IsRun}
+use Rattle.kernel_rules.proofs.Changes.{IfFound}
+use Rattle.kernel_invariant.proofs.Sound.{put_all}
+use Rattle.kernel_invariant.proofs.SoundCalls.{IsOpen}
+use Rattle.kernel_invariant.proofs.SoundRuns.{opened, open_is, open_limits, limits_stay}
+use Rattle.kernel_invariant.proofs.Facts.{ChangesFrom, outcome_from, held_facts, suits, named_fit, then_parts, or_found}
+use Rattle.found_stays.proofs.Stays.{name_parts}
+use Rattle.kernel_laws.proofs.Shapes.{FrameShape, Shaped}
+use Rattle.kernel_laws.proofs.RangesLaw.{runs_shape}
+use Rattle.kernel_laws.proofs.NodeSteps.{IsFitted}
+use Rattle.kernel_laws.proofs.NodesLaw.{runs_fit, held_is, mapped_page}
+
+-- The number of a capability is in the range of its kind; the frame of a range is below 512.
+abbrev pub NumberFits : Kind → ℕ → ℕ → Type 0
+NumberFits kind.Range f a = f ≤ 511
+NumberFits kind.Gate f a = (1 ≤ a) × (a < 2 ^ 16)
+NumberFits kind.Page f a = a < 4
+NumberFits _ f a = a < 1
+
+pub record IsCap (k : Capability) : Type 0 where
+  pub number : NumberFits k.kind k.frame k.arg
+  pub least : least_rights k.kind ≤ k.rights
+  pub most : k.rights < 4
+
+-- What a place holds or held is so.
+abbrev pub PlaceFits : Place → Type 0
+PlaceFits Free = Unit {0}
+PlaceFits (Holds k) = IsCap k
+PlaceFits (Quiescing k) = IsCap k
+
+-- The flags of translations are in range.
+abbrev pub FlagsFit : List Translation → Type 0
+FlagsFit ts = AllByRecursion (λ (t : Translation). t.flags.0 < 4) ts
+
+pub record IsTidy (s : State) : Type 0 where
+  pub places : (f i : ℕ) → PlaceFits (s.place f i)
+  pub flags : (d : ℕ) → FlagsFit (s.core d).cached
+
+placed : (q : ℕ → ℕ → Place) (n i : ℕ) (p : Place) → PlaceFits p → ((f j : ℕ) → PlaceFits (q f j))
+    → (f j : ℕ) → PlaceFits (put q n (put (q n) i p) f j)
+placed q n i p has h f j =
+    put_all (λ g (row : ℕ → Place). PlaceFits (row j)) q n (put (q n) i p) f
+    (λ same. put_all (λ g x. PlaceFits x) (q n) i p j (λ here. has) (λ other. h n j)) (λ other. h f j)
+
+core_flags : (core : ℕ → Core) (c : ℕ) (k : Core) → FlagsFit k.cached → ((d : ℕ) → FlagsFit (core d).cached)
+    → (d : ℕ) → FlagsFit (put core c k d).cached
+core_flags core c k own h d = put_all (λ e (x : Core). FlagsFit x.cached) core c k d (λ same. own) (λ other. h d)
+
+flags_more : (ts : List Translation) (t : Translation) → FlagsFit ts → t.flags.0 < 4 → FlagsFit (ts ++ t ∷ [])
+flags_more [] t h new = (new, tt)
+flags_more (x ∷ ts) t h new = (h.0, flags_more ts t h.1 new)
+
+flags_cached : (ts : List Translation) (t : Translation) → FlagsFit ts → t.flags.0 < 4 → FlagsFit (caching ts t)
+flags_cached ts t h new = by (nat_lt (length ts) 64)
+  where
+    by : (b : Bool) → FlagsFit (if b then ts ++ t ∷ [] else ts)
+    by true = flags_more ts t h new
+    by false = h
+
+-- ---- capabilities that are made
+
+plain_table : (f : ℕ) → IsCap (plain_cap kind.Table f)
+plain_table f = record { number = omega arith; least = omega arith; most = omega arith }
+
+plain_leaf : (f : ℕ) → IsCap (plain_cap kind.Leaf f)
+plain_leaf f = record { number = omega arith; least = omega arith; most = omega arith }
+
+plain_pages : (f : ℕ) → IsCap (plain_cap kind.Pages f)
+plain_pages f = record { number = omega arith; least = omega arith; most = omega arith }
+
+plain_pleaf : (f : ℕ) → IsCap (plain_cap kind.Pleaf f)
+plain_pleaf f = record { number = omega arith; least = omega arith; most = omega arith }
+
+plain_comp : (f : ℕ) → IsCap (plain_cap kind.Comp f)
+plain_comp f = record { number = omega arith; least = omega arith; most = omega arith }
+
+plain_thread : (f : ℕ) → IsCap (plain_cap kind.Thread f)
+plain_thread f = record { number = omega arith; least = omega arith; most = omega arith }
+
+plain_tcap : (f : ℕ) → IsCap (plain_cap kind.Tcap f)
+plain_tcap f = record { number = omega arith; least = omega arith; most = omega arith }
+
+plain_link : (f : ℕ) → IsCap (plain_cap kind.Link f)
+plain_link f = record { number = omega arith; least = omega arith; most = omega arith }
+
+page_cap : (f w : ℕ) → w < 4 → IsCap (cap_of kind.Page f w)
+page_cap f w few = record { number = few; least = omega arith; most = omega arith }
+
+gate_cap : (f e : ℕ) → (1 ≤ e) × (e < 2 ^ 16) → IsCap (cap_of kind.Gate f e)
+gate_cap f e few = record { number = few; least = omega arith; most = omega arith }
+
+kept_cap : (k : Capability) (these : ℕ) → IsCap k → IsCap (kept k these)
+kept_cap k these h = record {
+  number = h.number;
+  least = kept_above k.kind k.rights these h.least;
+  most = kept_below k.kind k.rights these h.most;
+}
+
+-- The epoch of a component is in range.
+epoch_fits : (epochs : ℕ) (x : Frame) → epochs < 2 ^ 16 → FrameShape epochs x → IsTrue (fits kind.Comp x)
+    → (1 ≤ (comp_in x).epoch) × ((comp_in x).epoch < 2 ^ 16)
+epoch_fits epochs (Kernel (Comp k)) small shape fit =
+    let most : k.epoch ≤ epochs = shape.epoch.most in
+    (shape.epoch.least, omega arith)
+epoch_fits epochs _ small shape fit = absurd (false≢true fit)
+
+pub usable_cap : (s : State) (c : ℕ) (at : Slot) (k : Capability) → IsTidy s → usable s c at ≡ Some k → IsCap k
+usable_cap s c at k h is = by (place_at s at) _ (h.places at.node at.index) is
+  where
+    by : (p : Place) (b : Bool) → PlaceFits p → usable_in p b ≡ Some k → IsCap k
+    by Free b has is = absurd (cc)
+    by (Holds j) b has is = let same : j ≡ k = cc in subst IsCap same has
+    by (Quiescing j) true has is = let same : j ≡ k = cc in subst IsCap same has
+    by (Quiescing j) false has is = absurd (cc)
+
+-- Where a mapping is found.
+pub mapped_at : (s : State) (c pages v : ℕ) (k : Capability) → mapped s c pages v ≡ Found k
+    → (at : Slot) × (held_in (place_at s at) ≡ Some k)
+mapped_at s c pages v k e =
+    let a = then_parts (unless (if nat_lt 4095 v then Some reply.NoSlot else None) v)
+    (λ v. and_then (or_refuse (reached s c (Under (root_at pages) v)) reply.Fault)
+    λ at. or_refuse (held_in (place_at s at)) reply.Fault) k e in
+    let b = then_parts (or_refuse (reached s c (Under (root_at pages) a.0)) reply.Fault)
+    (λ at. or_refuse (held_in (place_at s at)) reply.Fault) k a.2 in
+    (b.0, or_found (held_in (place_at s b.0)) reply.Fault k b.2)
+
+-- ---- every call that is carried out
+
+abbrev Keeps : Change → Type 0
+Keeps change = IsTidy change.next
+
+module _ (s : State) (o : ℕ → Bool) (c : ℕ) (opens : IsOpen s o c) (w : IsFitted s o) (shape : Shaped s) (epochs : s.limits.epochs < 2 ^ 16)
+    (h : IsTidy s) where
+  pub named_cap : (n : ℕ) (want : Want) (k : Capability) → named s c n want ≡ Found k → IsCap k
+  named_cap n want k e =
+      let p = name_parts s c n want k e in
+      subst IsCap (suits want p.2 k p.4).is (usable_cap s c p.0 p.2 h p.3)
+
+  pub held_cap : (f i : ℕ) (k : Capability) → s.place f i ≡ Holds k → IsCap k
+  held_cap f i k is = subst PlaceFits is (h.places f i)
+
+  cleared : (f : ℕ) (g i : ℕ) → PlaceFits (put s.place f (λ j. Free) g i)
+  cleared f g i = put_all (λ g (row : ℕ → Place). PlaceFits (row i)) s.place f (λ j. Free) g (λ same. tt) (λ other. h.places g i)
+
+  filled : (at : Slot) (k : Capability) → IsCap k → IsTidy (with_place s at.node at.index (Holds k))
+  filled at k is = record { places = placed s.place at.node at.index (Holds k) is h.places; flags = h.flags }
+
+  removed : (at : Slot) (k : Capability) → place_at s at ≡ Holds k → IsTidy (with_place s at.node at.index (Quiescing k))
+  removed at k is =
+      record { places = placed s.place at.node at.index (Quiescing k) (held_cap at.node at.index k is) h.places; flags = h.flags }
+
+  made : (f : ℕ) (at : Slot) (k : Capability) → IsCap k
+      → (g i : ℕ) → PlaceFits (put (put s.place f (λ j. Free)) at.node (put (put s.place f (λ j. Free) at.node) at.index (Holds k)) g i)
+  made f at k is = placed (put s.place f (λ j. Free)) at.node at.index (Holds k) is (cleared f)
+
+  make_tidy : (what : Make) (r f t b : ℕ) → ChangesFrom Keeps s c (make_rule s what r f t b)
+  make_tidy make.Table r f t b = λ range e table g at v calm.
+      record { places = made f at (plain_cap kind.Table f) (plain_table f); flags = h.flags }
+  make_tidy make.Leaf r f t b = λ range e table g at v calm.
+      record { places = made f at (plain_cap kind.Leaf f) (plain_leaf f); flags = h.flags }
+  make_tidy make.Pages r f t b = λ range e table g at v calm.
+      record { places = made f at (plain_cap kind.Pages f) (plain_pages f); flags = h.flags }
+  make_tidy make.Pleaf r f t b = λ range e table g at v calm.
+      record { places = made f at (plain_cap kind.Pleaf f) (plain_pleaf f); flags = h.flags }
+  make_tidy (make.Thread comp) r f t b = λ range e table g k j at v calm.
+      record { places = placed s.place at.node at.index (Holds (plain_cap kind.Thread f)) (plain_thread f) h.places; flags = h.flags }
+  make_tidy (make.Tcap sched quality) r f t b = λ range e table g at v calm.
+      record { places = placed s.place at.node at.index (Holds (plain_cap kind.Tcap f)) (plain_tcap f) h.places; flags = h.flags }
+  make_tidy (make.Comp x p l) r f t b = λ range e table g own_table a own_pages d at v calm.
+      record { places = placed s.place at.node at.index (Holds (plain_cap kind.Comp f)) (plain_comp f) h.places; flags = h.flags }
+
+  retype_tidy : (r f : ℕ) (k : FrameKind) → ChangesFrom Keeps s c (retype_rule s r f k)
+  retype_tidy r f frame_kind.Untyped = λ range e calm. record { places = h.places; flags = h.flags }
+  retype_tidy r f _ = λ range e calm. record { places = h.places; flags = h.flags }
+
+  -- the flags of a mapping
+  page_flags : (k : Kind) (f a : ℕ) → k ≡ kind.Page → NumberFits k f a → a < 4
+  page_flags k f a is fits = subst (λ (j : Kind). NumberFits j f a) is fits
+
+  touch_tidy : (v : ℕ) (t : Option Translation) → ChangesFrom Keeps s c (touch_by s c (comp_of s c).pages v t)
+  touch_tidy v None = λ mapping e calm.
+      let at = mapped_at s c (comp_of s c).pages v mapping e in
+      let cap : IsCap mapping = held_cap at.0.node at.0.index mapping (held_is s o c opens w (place_at s at.0) mapping at.1) in
+      let few : mapping.arg < 4 = page_flags mapping.kind mapping.frame mapping.arg (mapped_page s o c opens w v mapping e) cap.number in
+      record { places = h.places; flags = core_flags s.core c _ (flags_cached (s.core c).cached _ (h.flags c) few) h.flags }
+  touch_tidy v (Some t) = λ calm. h
+
+  switch_tidy : (q : ℕ) (name : Named) (e : Option ℕ) → ChangesFrom Keeps s c (switch_to s c name q e)
+  switch_tidy q name None = λ calm. record { places = h.places; flags = core_flags s.core c _ (h.flags c) h.flags }
+  switch_tidy q name (Some e) = λ calm. record { places = h.places; flags = core_flags s.core c _ (h.flags c) h.flags }
+
+  rule_tidy : (call : Call) → InLimits call → ChangesFrom Keeps s c (rule_of s c call)
+  rule_tidy (Look a) lim = λ k e calm. h
+  rule_tidy (Copy a t b rights) lim = λ k e table f at v calm.
+      filled at (kept k rights.0) (kept_cap k rights.0 (named_cap a (to_copy any) k e))
+  rule_tidy (Remove t b) lim = λ table e at k g calm. removed at k (held_facts s c (Under (found table) b) at k g).1
+  rule_tidy (Grow t i l) lim = λ table e leaf f at v calm. filled at (plain_cap kind.Link leaf.frame) (plain_link leaf.frame)
+  rule_tidy (Shrink t i) lim = λ table e at k g calm. removed at k (held_facts s c (InRoot (found table) i) at k g).1
+  rule_tidy (Retype r f k) lim = retype_tidy r f k
+  rule_tidy (make_call what r f t b) lim = make_tidy what r f t b
+  rule_tidy (Map p v r f x) lim = λ pages e range g at u calm. filled at (cap_of kind.Page f x.0) (page_cap f x.0 lim)
+  rule_tidy (Unmap p v) lim = λ pages e at k g calm. removed at k (held_facts s c (Under (found pages) v) at k g).1
+  rule_tidy (Touch v) lim = touch_tidy v (translation_of (s.core c).cached (comp_of s c).pages v)
+  rule_tidy Flush lim = λ calm. record { places = h.places; flags = core_flags s.core c _ tt h.flags }
+  rule_tidy (Gate k t b) lim = λ comp e table f at v calm.
+      filled at (cap_of kind.Gate comp.frame (comp_in (s.frame comp.frame)).epoch)
+      (gate_cap comp.frame (comp_in (s.frame comp.frame)).epoch
+      (epoch_fits s.limits.epochs (s.frame comp.frame) epochs (shape.frames comp.frame)
+      (named_fit s o c k kind.Comp comp opens.sound opens.is e)))
+  rule_tidy (Kill k) lim = λ comp e calm. record { places = h.places; flags = h.flags }
+  rule_tidy (call_gate g) lim = λ gate e calm. record { places = h.places; flags = h.flags }
+  rule_tidy Ret lim = λ calm. record { places = h.places; flags = h.flags }
+  rule_tidy (Switch a b) lim = λ thread e tcap g. switch_tidy tcap.frame (found thread) (thread_in (s.frame thread.frame)).runs_on
+  rule_tidy (Tick n) lim = λ calm. record { places = h.places; flags = core_flags s.core c _ (h.flags c) h.flags }
+  rule_tidy (Transfer a b m) lim = λ j e k f calm. record { places = h.places; flags = h.flags }
+  rule_tidy (Delegate a b m) lim = λ j e k f calm. record { places = h.places; flags = h.flags }
+  rule_tidy (Test a b) lim = λ j e k f calm. h
+
+  counted_tidy : (t : State) → IsTidy t → IsTidy (counted t c)
+  counted_tidy t h = record { places = h.places; flags = core_flags t.core c _ (h.flags c) h.flags }
+
+  change_tidy : (x : Judged Change) → IfFound x Keeps → IsTidy (changed s x)
+  change_tidy (Refused r) by = h
+  change_tidy (Found change) by = record { places = by.places; flags = by.flags }
+
+  owed_tidy : (call : Call) → IsTidy (owed_by s c call)
+  owed_tidy (Tick n) = record { places = h.places; flags = core_flags s.core c _ (h.flags c) h.flags }
+  owed_tidy _ = h
+
+  pub decided_tidy : (call : Call) (r : Reply) → InLimits call → IsTidy (state_by s c call r)
+  decided_tidy call (reply.Ok v) lim =
+      counted_tidy (changed s (change_of s c call))
+      (change_tidy (change_of s c call) (outcome_from Keeps s c (rule_of s c call) (rule_tidy call lim)))
+  decided_tidy call reply.CallsSpent lim = h
+  decided_tidy call reply.Raced lim = counted_tidy (owed_by s c call) (owed_tidy call)
+  decided_tidy call (reply.Busy e) lim = counted_tidy (owed_by s c call) (owed_tidy call)
+  decided_tidy call _ lim = counted_tidy s h
+
+-- ---- the start
+
+choose : {A : Type 0} (P : A → Type 0) (b : Bool) (x y : A) → P x → P y → P (if b then x else y)
+choose P true x y hx hy = hx
+choose P false x y hx hy = hy
+
+abbrev MayFit : Option Capability → Type 0
+MayFit None = Unit {0}
+MayFit (Some k) = IsCap k
+
+start_tidy : (setting : Setting) → IsSetting setting → IsTidy (start setting)
+start_tidy setting lim = record { places = places; flags = λ d. tt }
+  where
+    with_cap : (o : Option Capability) → MayFit o → PlaceFits (place_with o)
+    with_cap None h = tt
+    with_cap (Some k) h = h
+
+    range : IsCap (start_range setting)
+    range =
+        let few : setting.cores ≤ 8 = lim.most_cores in
+        record { number = omega arith; least = omega arith; most = omega arith }
+
+    caps : (i : ℕ) → MayFit (start_cap setting i)
+    caps i =
+        choose MayFit (i == 0) _ _ range
+        (choose MayFit (i == 1) _ _ (plain_table 0)
+        (choose MayFit (i == 2) _ _ (plain_pages 2)
+        (choose MayFit (i == 3) _ _ (plain_comp 3)
+        (choose MayFit (nat_lt i 4) _ _ tt
+        (choose MayFit (nat_lt i (4 + setting.cores)) _ _ (plain_thread i)
+        (choose MayFit (nat_lt i 12) _ _ tt
+        (choose MayFit (nat_lt i (12 + setting.cores)) _ _ (plain_tcap _) tt)))))))
+
+    places : (f i : ℕ) → PlaceFits ((start setting).place f i)
+    places f i =
+        choose PlaceFits (f == 0) _ _ (choose PlaceFits (i == 0) _ _ (plain_link 1) tt)
+        (choose PlaceFits (f == 1) _ _ (with_cap (start_cap setting i) (caps i)) tt)
+
+entered_tidy : (s : State) (c : ℕ) → IsTidy s → IsTidy (entered s c)
+entered_tidy s c h = record { places = h.places; flags = core_flags s.core c _ (h.flags c) h.flags }
+
+returned_tidy : (s : State) (c : ℕ) → IsTidy s → IsTidy (returned s c)
+returned_tidy s c h = record { places = h.places; flags = core_flags s.core c _ (h.flags c) h.flags }
+
+pub runs_tidy : (setting : Setting) → IsSetting setting → (events : List Event) → IsRun setting events → IsTidy (after setting events)
+runs_tidy setting lim [] run = start_tidy setting lim
+runs_tidy setting lim (Enters c call ∷ events) run = entered_tidy (after setting events) c (runs_tidy setting lim events run.0)
+runs_tidy setting lim (Returns c ∷ events) run = returned_tidy (after setting events) c (runs_tidy setting lim events run.0)
+runs_tidy setting lim (Decides c call r ∷ events) run =
+    decided_tidy (after setting events) (opened events) c (open_is setting lim events c run.0 (ap is_open run.1.is_open))
+    (runs_fit setting lim events run.0) (runs_shape setting lim events run.0)
+    (subst (λ l. l.epochs < 2 ^ 16) (sym (limits_stay setting events)) lim.most_epochs) (runs_tidy setting lim events run.0) call r
+    (open_limits setting events c call run.0 run.1.is_open)

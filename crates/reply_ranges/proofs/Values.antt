@@ -1,0 +1,163 @@
+-- What a call answers is in range.
+use Rattle.std.proofs.Common.{◌≡◌, ℕ, ◌<◌, ◌≤◌, ◌^◌, Bool, true, false, List, [], ◌∷◌, Option, Some, None, IsTrue}
+use Rattle.std.proofs.Common.{inl, inr, refl, sym, ap, ◌∙◌, subst, arith, if◌then◌else◌}
+use Rattle.std.specs.Prelude.{find}
+use Rattle.std.specs.List.{AllByRecursion}
+use Rattle.std.proofs.lemmas.Bool.{cases_lt, false≢true}
+use Rattle.spk_nums.specs.Capability.{Capability}
+use Rattle.spk_nums.specs.Rights.{least_rights}
+use Rattle.spk_nums.specs.declared.kinds.Kind.{Kind}
+use Rattle.spk_nums.specs.declared.kinds.Kind.TheVariants as kind
+use Rattle.spk_nums.specs.declared.kinds.FrameKind.{FrameKind}
+use Rattle.spk_nums.specs.declared.kinds.FrameKind.TheVariants as frame_kind
+use Rattle.spk_nums.specs.declared.calls.Make.{Make}
+use Rattle.spk_nums.specs.declared.calls.Make.TheVariants as make
+use Rattle.spk_nums.specs.declared.calls.Call.{Call}
+use Rattle.spk_nums.specs.declared.calls.Call.TheVariants.{Look, Copy, Remove, Grow, Shrink, Retype, Make as make_call}
+use Rattle.spk_nums.specs.declared.calls.Call.TheVariants.{Map, Unmap, Touch, Flush, Gate, Kill, Call as call_gate}
+use Rattle.spk_nums.specs.declared.calls.Call.TheVariants.{Ret, Switch, Tick, Transfer, Delegate, Test}
+use Rattle.spk_nums.specs.declared.translations.Translation.{Translation}
+use Rattle.spk_nums.specs.declared.replies.Value.{Value}
+use Rattle.kernel_rules.specs.State.{Holds, Untyped, State, comp_of, thread_in}
+use Rattle.kernel_rules.specs.Access.{Named, found, place_at, to_look, any}
+use Rattle.kernel_rules.specs.Rules.{Change, Judged, Refused, Found, IsFoundAnd, outcome, RuleAnswers}
+use Rattle.kernel_rules.specs.CapabilityCalls.{make_rule}
+use Rattle.kernel_rules.specs.MemoryCalls.{retype_rule, touch_by, translation_of}
+use Rattle.kernel_rules.specs.InvocationCalls.{switch_to}
+use Rattle.kernel_rules.specs.TimeCalls.{preemption, preempts, tcap_at}
+use Rattle.kernel_rules.specs.CallRelation.{rule_of}
+use Rattle.kernel_rules.specs.Fitting.{fits, EndsWithin, IsGood}
+use Rattle.kernel_rules.specs.Ranges.{InRanges}
+use Rattle.kernel_rules.proofs.Changes.{IfFound}
+use Rattle.kernel_invariant.proofs.SoundCalls.{IsOpen}
+use Rattle.kernel_invariant.proofs.Facts.{ChangesFrom, outcome_from, named_good}
+use Rattle.kernel_laws.proofs.Shapes.{Shaped}
+use Rattle.kernel_laws.proofs.NodeSteps.{IsFitted}
+use Rattle.kernel_laws.proofs.NodesLaw.{held_is, mapped_page}
+use Rattle.state_laws.specs.Cached.{Stands}
+use Rattle.reply_ranges.specs.Ranges.{CapFits, ValueFits}
+use Rattle.reply_ranges.proofs.Tidy.{NumberFits, IsCap, IsTidy, named_cap, held_cap, mapped_at}
+
+-- What is found in a list is as all of it are.
+find_is : (P : Translation → Type 0) (test : Translation → Bool) (ts : List Translation) (t : Translation) → AllByRecursion P ts
+    → find test ts ≡ Some t → P t
+find_is P test [] t h is = absurd (cc)
+find_is P test (x ∷ ts) t h is = by (test x) is (find_is P test ts t h.1)
+  where
+    by : (b : Bool) → (if b then Some x else find test ts) ≡ Some t → (find test ts ≡ Some t → P t) → P t
+    by true is more = let same : x ≡ t = cc in subst P same h.0
+    by false is more = more is
+
+abbrev Answers : Change → Type 0
+Answers change = ValueFits change.value
+
+module _ (s : State) (o : ℕ → Bool) (c : ℕ) (opens : IsOpen s o c) (w : IsFitted s o) (shape : Shaped s) (epochs : s.limits.epochs < 2 ^ 16)
+    (h : IsTidy s) (ranges : InRanges s) (stands : AllByRecursion (Stands s c) (s.core c).cached) (frames : s.limits.frames ≤ 512) where
+  -- A frame with an object, or a user frame, is one of the machine's.
+  small : (j : Kind) (f : ℕ) → fits j Untyped ≡ false → IsTrue (fits j (s.frame f)) → f ≤ 511
+  small j f bare fit = elim (cases_lt f s.limits.frames) [
+    | inl below ↦ omega arith
+    | inr past ↦ absurd (false≢true (sym bare ∙ sym (ap (fits j) (opens.sound.beyond f past)) ∙ fit))
+  ]
+
+  cap_by : (j : Kind) (f a r : ℕ) → NumberFits j f a → least_rights j ≤ r → r < 4 → IsTrue (fits j (s.frame f))
+      → EndsWithin j f a s.limits.frames → CapFits (record { kind = j; frame = f; arg = a; rights = r })
+  cap_by kind.Range f a r number least most fit ends =
+      record { frame = number; least = omega arith; below = omega arith; rights = least; most = omega arith }
+  cap_by kind.Gate f a r number least most fit ends =
+      record { frame = small kind.Gate f refl fit; least = number.0; below = number.1; rights = least; most = omega arith }
+  cap_by kind.Page f a r number least most fit ends =
+      record { frame = small kind.Page f refl fit; least = omega arith; below = number; rights = least; most = omega arith }
+  cap_by kind.Table f a r number least most fit ends =
+      record { frame = small kind.Table f refl fit; least = omega arith; below = number; rights = least; most = omega arith }
+  cap_by kind.Leaf f a r number least most fit ends =
+      record { frame = small kind.Leaf f refl fit; least = omega arith; below = number; rights = least; most = omega arith }
+  cap_by kind.Pages f a r number least most fit ends =
+      record { frame = small kind.Pages f refl fit; least = omega arith; below = number; rights = least; most = omega arith }
+  cap_by kind.Pleaf f a r number least most fit ends =
+      record { frame = small kind.Pleaf f refl fit; least = omega arith; below = number; rights = least; most = omega arith }
+  cap_by kind.Comp f a r number least most fit ends =
+      record { frame = small kind.Comp f refl fit; least = omega arith; below = number; rights = least; most = omega arith }
+  cap_by kind.Thread f a r number least most fit ends =
+      record { frame = small kind.Thread f refl fit; least = omega arith; below = number; rights = least; most = omega arith }
+  cap_by kind.Tcap f a r number least most fit ends =
+      record { frame = small kind.Tcap f refl fit; least = omega arith; below = number; rights = least; most = omega arith }
+  cap_by kind.Link f a r number least most fit ends =
+      record { frame = small kind.Link f refl fit; least = omega arith; below = number; rights = least; most = omega arith }
+
+  cap_fits : (k : Capability) → IsCap k → IsGood s k → CapFits k
+  cap_fits k is good = cap_by k.kind k.frame k.arg k.rights is.number is.least is.most good.fit good.within
+
+  make_values : (what : Make) (r f t b : ℕ) → ChangesFrom Answers s c (make_rule s what r f t b)
+  make_values make.Table r f t b = λ range e table g at v calm. tt
+  make_values make.Leaf r f t b = λ range e table g at v calm. tt
+  make_values make.Pages r f t b = λ range e table g at v calm. tt
+  make_values make.Pleaf r f t b = λ range e table g at v calm. tt
+  make_values (make.Thread comp) r f t b = λ range e table g k j at v calm. tt
+  make_values (make.Tcap sched quality) r f t b = λ range e table g at v calm. tt
+  make_values (make.Comp x p l) r f t b = λ range e table g own_table a own_pages d at v calm. tt
+
+  retype_values : (r f : ℕ) (k : FrameKind) → ChangesFrom Answers s c (retype_rule s r f k)
+  retype_values r f frame_kind.Untyped = λ range e calm. tt
+  retype_values r f _ = λ range e calm. tt
+
+  cached_values : (t : Translation) → Stands s c t → t.flags.0 < 4 → (t.frame ≤ 511) × (t.flags.0 ≤ 3)
+  cached_values t stands few = (small kind.Page t.frame refl (ap (fits kind.Page) stands.user), omega arith)
+
+  page_frame : (k : Kind) (f a : ℕ) → k ≡ kind.Page → NumberFits k f a → IsTrue (fits k (s.frame f)) → (f ≤ 511) × (a ≤ 3)
+  page_frame k f a is number fit =
+      let few : a < 4 = subst (λ (j : Kind). NumberFits j f a) is number in
+      (small kind.Page f refl (subst (λ (j : Kind). IsTrue (fits j (s.frame f))) is fit), omega arith)
+
+  touch_values : (v : ℕ) (t : Option Translation) → translation_of (s.core c).cached (comp_of s c).pages v ≡ t
+      → ChangesFrom Answers s c (touch_by s c (comp_of s c).pages v t)
+  touch_values v None is = λ mapping e calm.
+      let at = mapped_at s c (comp_of s c).pages v mapping e in
+      let place : s.place at.0.node at.0.index ≡ Holds mapping = held_is s o c opens w (place_at s at.0) mapping at.1 in
+      page_frame mapping.kind mapping.frame mapping.arg (mapped_page s o c opens w v mapping e)
+      (held_cap s o c opens w shape epochs h at.0.node at.0.index mapping place).number
+      (opens.sound.held at.0.node at.0.index mapping place).fit
+  touch_values v (Some t) is = λ calm.
+      cached_values t (find_is (Stands s c) _ (s.core c).cached t stands is)
+      (find_is (λ (t : Translation). t.flags.0 < 4) _ (s.core c).cached t (h.flags c) is)
+
+  switch_values : (q : ℕ) (name : Named) (e : Option ℕ) → ChangesFrom Answers s c (switch_to s c name q e)
+  switch_values q name None = λ calm. tt
+  switch_values q name (Some e) = λ calm. tt
+
+  preempts_fits : (b : Bool) → ValueFits (preemption b)
+  preempts_fits true = tt
+  preempts_fits false = tt
+
+  rule_values : (call : Call) → ChangesFrom Answers s c (rule_of s c call)
+  rule_values (Look a) = λ k e calm.
+      cap_fits k (named_cap s o c opens w shape epochs h a (to_look any) k e) (named_good s o c a (to_look any) k opens.sound opens.is e).0
+  rule_values (Copy a t b rights) = λ k e table f at v calm. tt
+  rule_values (Remove t b) = λ table e at k g calm. tt
+  rule_values (Grow t i l) = λ table e leaf f at v calm. tt
+  rule_values (Shrink t i) = λ table e at k g calm. tt
+  rule_values (Retype r f k) = retype_values r f k
+  rule_values (make_call what r f t b) = make_values what r f t b
+  rule_values (Map p v r f x) = λ pages e range g at u calm. tt
+  rule_values (Unmap p v) = λ pages e at k g calm. tt
+  rule_values (Touch v) = touch_values v (translation_of (s.core c).cached (comp_of s c).pages v) refl
+  rule_values Flush = λ calm. tt
+  rule_values (Gate k t b) = λ comp e table f at v calm. tt
+  rule_values (Kill k) = λ comp e calm. tt
+  rule_values (call_gate g) = λ gate e calm. tt
+  rule_values Ret = λ calm. tt
+  rule_values (Switch a b) = λ thread e tcap g. switch_values tcap.frame (found thread) (thread_in (s.frame thread.frame)).runs_on
+  rule_values (Tick n) = λ calm.
+      let spending = ranges.spending (s.core c).tcap c (opens.sound.inside c opens.is).1 in
+      omega (arith, spending)
+  rule_values (Transfer a b m) = λ j e k f calm. tt
+  rule_values (Delegate a b m) = λ j e k f calm. tt
+  rule_values (Test a b) = λ j e k f calm. preempts_fits (preempts (tcap_at s j.frame) (tcap_at s k.frame))
+
+  both : (x : Judged Change) (v : Value) → IfFound x Answers → IsFoundAnd x (λ change. change.value ≡ v) → ValueFits v
+  both (Refused r) v fits is = absurd is
+  both (Found change) v fits is = subst ValueFits is fits
+
+  pub answers_fit : (call : Call) (v : Value) → RuleAnswers s c (rule_of s c call) v → ValueFits v
+  answers_fit call v is =
+      both (outcome s c (rule_of s c call)) v (outcome_from Answers s c (rule_of s c call) (rule_values call)) is

@@ -1,0 +1,10 @@
+pub mod Picks
+pub mod Arriving
+pub mod Readiness
+pub mod Turns
+pub mod Preempting
+pub mod Weights
+pub mod Bound
+pub mod Charging
+pub mod Exactly
+pub mod Working

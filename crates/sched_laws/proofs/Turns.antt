@@ -1,0 +1,182 @@
+-- What a turn comes to: a task runs, or is refused, or nothing is ready.
+use Rattle.std.proofs.Common.{◌≡◌, ◌≢◌, ◌⊎◌, inl, inr, ℕ, zero, suc, ◌+◌, ◌-◌, ◌<◌, ◌≤◌, Bool, true, false, refl, sym}
+use Rattle.std.proofs.Common.{◌∙◌, ap, subst, arith}
+use Rattle.std.proofs.Common.{min, if◌then◌else◌, List, [], ◌∷◌, ◌++◌, Option, Some, None, slice_set}
+use Rattle.std.specs.Prelude.{slice_get}
+use Rattle.spk_nums.specs.declared.calls.Call.{Call}
+use Rattle.spk_nums.specs.declared.calls.Call.TheVariants.{Tick}
+use Rattle.spk_nums.specs.declared.replies.Reply.{Reply}
+use Rattle.kernel_rules.specs.State.{State}
+use Rattle.sched_rules.specs.declared.tasks.Rule.{Rule}
+use Rattle.sched_rules.specs.declared.tasks.Job.{Job}
+use Rattle.sched_rules.specs.declared.tasks.Ready.{Ready}
+use Rattle.sched_rules.specs.declared.tasks.Choice.{Choice}
+use Rattle.sched_rules.specs.declared.turns.Turn.{Turn}
+use Rattle.sched_rules.specs.declared.turns.Turn.TheVariants.{Ran, Idle, Refused}
+use Rattle.sched_rules.specs.Schedule.{Progress, Step, ready, chosen, next_arrival, cut_at, length_of, reply_to, state_past, is_done}
+use Rattle.sched_rules.specs.Schedule.{refused, ran, ticks, switches, switch_for, goes_on, runs, idles, turn_by, turn_of}
+use Rattle.sched_laws.specs.Least.{ComesFirst, IsLeast, NoneReady, LeastRuns, WaitsForNone, NoneWaits}
+use Rattle.sched_laws.proofs.Picks.{best, none_ready, place_of, first_of_all}
+use Rattle.sched_laws.proofs.Arriving.{IsBefore, ready_same, tick_before}
+
+-- The chosen task runs.
+pub record RunsOne (rule : Rule) (x : Progress) (step : Step) : Type 0 where
+  pub choice : Choice
+  pub is_chosen : chosen x.state rule x.time 0 x.jobs ≡ Some choice
+  pub state : State
+  pub calls : List Call
+  pub is_step : ran x choice state calls (length_of rule x choice) ≡ step
+
+-- The chosen task is refused.
+pub record RefusesOne (rule : Rule) (x : Progress) (step : Step) : Type 0 where
+  pub choice : Choice
+  pub is_chosen : chosen x.state rule x.time 0 x.jobs ≡ Some choice
+  pub state : State
+  pub calls : List Call
+  pub reply : Reply
+  pub is_step : refused x choice state calls reply ≡ step
+
+-- No task is ready.
+pub record IdlesOn (rule : Rule) (x : Progress) (step : Step) : Type 0 where
+  pub none : chosen x.state rule x.time 0 x.jobs ≡ None
+  pub at : ℕ
+  pub next : next_arrival x.time x.jobs ≡ Some at
+  pub is_step : record { turn = Idle x.time (at - x.time); calls = []; next = record x { time = at } } ≡ step
+
+pub data Way (rule : Rule) (x : Progress) (step : Step) : Type 0 where
+  Runs : RunsOne rule x step → Way rule x step
+  Refuses : RefusesOne rule x step → Way rule x step
+  Idles : IdlesOn rule x step → Way rule x step
+
+module _ (rule : Rule) (x : Progress) (step : Step) where
+  module _ (c : Choice) (is : chosen x.state rule x.time 0 x.jobs ≡ Some c) where
+    by_ticks : (s : State) (calls : List Call) (d : Bool)
+        → (if d then ran x c (state_past s (Tick (length_of rule x c))) (calls ++ Tick (length_of rule x c) ∷ []) (length_of rule x c)
+        else refused x c (state_past s (Tick (length_of rule x c))) (calls ++ Tick (length_of rule x c) ∷ [])
+        (reply_to s (Tick (length_of rule x c)))) ≡ step
+        → Way rule x step
+    by_ticks s calls true e = Runs (record {
+      choice = c;
+      is_chosen = is;
+      state = state_past s (Tick (length_of rule x c));
+      calls = calls ++ Tick (length_of rule x c) ∷ [];
+      is_step = e;
+    })
+    by_ticks s calls false e = Refuses (record {
+      choice = c;
+      is_chosen = is;
+      state = state_past s (Tick (length_of rule x c));
+      calls = calls ++ Tick (length_of rule x c) ∷ [];
+      reply = reply_to s (Tick (length_of rule x c));
+      is_step = e;
+    })
+
+    by_switch : (call : Call) (d : Bool)
+        → (if d then ticks x c (state_past x.state call) (call ∷ []) (length_of rule x c)
+        else refused x c (state_past x.state call) (call ∷ []) (reply_to x.state call)) ≡ step
+        → Way rule x step
+    by_switch call true e =
+        by_ticks (state_past x.state call) (call ∷ []) (is_done (reply_to (state_past x.state call) (Tick (length_of rule x c)))) e
+    by_switch call false e = Refuses (record
+        { choice = c; is_chosen = is; state = state_past x.state call; calls = call ∷ []; reply = reply_to x.state call; is_step = e })
+
+    by_going : (d : Bool)
+        → (if d then ticks x c x.state [] (length_of rule x c) else switches x c (switch_for c.job.task) (length_of rule x c)) ≡ step
+        → Way rule x step
+    by_going true e = by_ticks x.state [] (is_done (reply_to x.state (Tick (length_of rule x c)))) e
+    by_going false e = by_switch (switch_for c.job.task) (is_done (reply_to x.state (switch_for c.job.task))) e
+
+  by_arrival : chosen x.state rule x.time 0 x.jobs ≡ None → (a : Option ℕ) → next_arrival x.time x.jobs ≡ a → idles x a ≡ Some step
+      → Way rule x step
+  by_arrival none None is e = absurd (cc)
+  by_arrival none (Some at) is e = Idles (record { none = none; at = at; next = is; is_step = cc })
+
+  by_choice : (o : Option Choice) → chosen x.state rule x.time 0 x.jobs ≡ o → turn_by rule x o ≡ Some step → Way rule x step
+  by_choice None is e = by_arrival is (next_arrival x.time x.jobs) refl e
+  by_choice (Some c) is e = by_going c is (goes_on x c) (cc)
+
+pub way : (rule : Rule) (x : Progress) (step : Step) → turn_of rule x ≡ Some step → Way rule x step
+way rule x step e = by_choice rule x step (chosen x.state rule x.time 0 x.jobs) refl e
+
+-- The schedule ends where none is ready and none is still to come.
+pub record Ends (rule : Rule) (x : Progress) : Type 0 where
+  pub none : chosen x.state rule x.time 0 x.jobs ≡ None
+  pub last : next_arrival x.time x.jobs ≡ None
+
+pub ends : (rule : Rule) (x : Progress) → turn_of rule x ≡ None → Ends rule x
+ends rule x e = by_ended (chosen x.state rule x.time 0 x.jobs) refl e
+  where
+    by_last : chosen x.state rule x.time 0 x.jobs ≡ None → (a : Option ℕ) → next_arrival x.time x.jobs ≡ a → idles x a ≡ None
+        → Ends rule x
+    by_last none None is e = record { none = none; last = is }
+    by_last none (Some at) is e = absurd (cc)
+
+    by_ended : (o : Option Choice) → chosen x.state rule x.time 0 x.jobs ≡ o → turn_by rule x o ≡ None → Ends rule x
+    by_ended None is e = by_last is (next_arrival x.time x.jobs) refl e
+    by_ended (Some c) is e = absurd (cc)
+
+-- ---- at every tick
+
+least_at : (rule : Rule) (x : Progress) (c : Choice) → chosen x.state rule x.time 0 x.jobs ≡ Some c
+    → (t : ℕ) → x.time ≤ t → t < x.time + length_of rule x c → IsLeast x.state rule t x.jobs c.index
+least_at rule x c is t le less =
+    let before : IsBefore t (next_arrival x.time x.jobs) = tick_before (next_arrival x.time x.jobs) x.time
+    (min rule.quantum (min c.job.left c.ready.budget)) t le less in
+    let here = place_of x.state rule x.time x.jobs c is in
+    record {
+      job = c.job;
+      own = c.ready;
+      listed = here;
+      is_ready = ready_same x.state rule x.time t x.jobs le before c.index c.job here
+          ∙ (best x.state rule x.time 0 x.jobs c is).is_ready;
+      least = λ k other r at q. first_of_all x.state rule x.time x.jobs c is k other r at
+          (sym (ready_same x.state rule x.time t x.jobs le before k other at) ∙ q);
+    }
+
+pub least_runs : LeastRuns
+least_runs rule x step e at i u is t le less = by_way (way rule x step e)
+  where
+    by_way : Way rule x step → IsLeast x.state rule t x.jobs i
+    by_way (Runs w) =
+        let turn : Ran x.time (w.choice.index + 1) (length_of rule x w.choice) ≡ Ran at (i + 1) u = ap (λ s. s.turn) w.is_step ∙ is in
+        let time : x.time ≡ at = cc in
+        let place : w.choice.index + 1 ≡ i + 1 = cc in
+        let long : length_of rule x w.choice ≡ u = cc in
+        let same : w.choice.index ≡ i = omega (arith, place) in
+        subst (IsLeast x.state rule t x.jobs) same
+        (least_at rule x w.choice w.is_chosen t (subst (λ n. n ≤ t) (sym time) le)
+        (subst (λ n. t < x.time + n) (sym long) (subst (λ n. t < n + u) (sym time) less)))
+    by_way (Refuses w) =
+        let turn : Refused x.time (w.choice.index + 1) w.reply ≡ Ran at (i + 1) u = ap (λ s. s.turn) w.is_step ∙ is in
+        absurd (cc)
+    by_way (Idles w) =
+        let turn : Idle x.time (w.at - x.time) ≡ Ran at (i + 1) u = ap (λ s. s.turn) w.is_step ∙ is in
+        absurd (cc)
+
+none_at : (rule : Rule) (x : Progress) → chosen x.state rule x.time 0 x.jobs ≡ None
+    → (t : ℕ) → x.time ≤ t → IsBefore t (next_arrival x.time x.jobs) → NoneReady x.state rule t x.jobs
+none_at rule x none t le before k job at =
+    ready_same x.state rule x.time t x.jobs le before k job at ∙ none_ready x.state rule x.time 0 x.jobs none k job at
+
+pub none_waits : NoneWaits
+none_waits rule x = record {
+  idle = λ step e at u is t le less. by_way step (way rule x step e) at u is t le less;
+  ended = λ e t le.
+      let end = ends rule x e in
+      none_at rule x end.none t le (subst (IsBefore t) (sym end.last) tt);
+}
+  where
+    by_way : (step : Step) → Way rule x step → (at u : ℕ) → step.turn ≡ Idle at u → (t : ℕ) → at ≤ t → t < at + u
+        → NoneReady x.state rule t x.jobs
+    by_way step (Runs w) at u is t le less =
+        let turn : Ran x.time (w.choice.index + 1) (length_of rule x w.choice) ≡ Idle at u = ap (λ s. s.turn) w.is_step ∙ is in
+        absurd (cc)
+    by_way step (Refuses w) at u is t le less =
+        let turn : Refused x.time (w.choice.index + 1) w.reply ≡ Idle at u = ap (λ s. s.turn) w.is_step ∙ is in
+        absurd (cc)
+    by_way step (Idles w) at u is t le less =
+        let turn : Idle x.time (w.at - x.time) ≡ Idle at u = ap (λ s. s.turn) w.is_step ∙ is in
+        let time : x.time ≡ at = cc in
+        let long : w.at - x.time ≡ u = cc in
+        let here : x.time ≤ t = omega (arith, time, le) in
+        none_at rule x w.none t here (subst (IsBefore t) (sym w.next) (omega (arith, time, long, le, less)))

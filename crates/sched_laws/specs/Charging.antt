@@ -1,0 +1,45 @@
+-- What the turns of a schedule charge, and to which temporal capability.
+use Rattle.std.specs.Prelude.{◌≡◌, ◌≢◌, ℕ, ◌+◌, List, [], ◌∷◌, Some}
+use Rattle.kernel_rules.specs.State.{State}
+use Rattle.kernel_rules.specs.TimeCalls.{tcap_at}
+use Rattle.sched_rules.specs.declared.tasks.Rule.{Rule}
+use Rattle.sched_rules.specs.declared.tasks.Choice.{Choice}
+use Rattle.sched_rules.specs.declared.turns.Turn.{Turn}
+use Rattle.sched_rules.specs.declared.turns.Turn.TheVariants.{Ran, Idle, Refused}
+use Rattle.sched_rules.specs.Schedule.{Progress, Step, chosen, IsSchedule}
+
+-- From state s to the new one core 0 has spent so many ticks, all of the temporal capability in a frame, and owes none.
+pub record Charges (s new : State) (f ticks : ℕ) : Type 0 where
+  pub budget : (tcap_at new f).budget + ticks ≡ (tcap_at s f).budget
+  pub others : (g : ℕ) → g ≢ f → (tcap_at new g).budget ≡ (tcap_at s g).budget
+  pub spent : (new.core 0).spent ≡ (s.core 0).spent + ticks
+  pub owed : (new.core 0).owed ≡ 0
+
+-- No budget has changed, and core 0 has spent nothing and owes nothing.
+pub record ChargesNothing (s new : State) : Type 0 where
+  pub budgets : (g : ℕ) → (tcap_at new g).budget ≡ (tcap_at s g).budget
+  pub spent : (new.core 0).spent ≡ (s.core 0).spent
+  pub owed : (new.core 0).owed ≡ 0
+
+-- The turn of a task, counted from 1, charges its ticks to the temporal capability that the task's name reached when it was chosen.
+pub record ChargesChosen (rule : Rule) (x : Progress) (new : State) (i ticks : ℕ) : Type 0 where
+  pub choice : Choice
+  pub is_chosen : chosen x.state rule x.time 0 x.jobs ≡ Some choice
+  pub task : choice.index + 1 ≡ i
+  pub charges : Charges x.state new choice.ready.tcap ticks
+
+-- A turn charges exactly its ticks.
+abbrev pub TurnCharges : Rule → Progress → State → Turn → Type 0
+TurnCharges rule x new (Ran at i ticks) = ChargesChosen rule x new i ticks
+TurnCharges rule x new (Idle at ticks) = ChargesNothing x.state new
+TurnCharges rule x new (Refused at i r) = ChargesNothing x.state new
+
+-- Each turn does.
+abbrev pub TurnsCharge : Rule → Progress → List Step → Type 0
+TurnsCharge rule x [] = Unit {0}
+TurnsCharge rule x (step ∷ steps) = TurnCharges rule x step.next.state step.turn × TurnsCharge rule step.next steps
+
+-- In a schedule that begins where core 0 owes nothing, the ticks of each turn are exactly those charged in it.
+abbrev pub ExactTicks : Type 0
+ExactTicks = (rule : Rule) (x : Progress) (steps : List Step) → IsSchedule rule x steps → (x.state.core 0).owed ≡ 0
+    → TurnsCharge rule x steps

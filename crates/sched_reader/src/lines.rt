@@ -1,0 +1,83 @@
+//! The line `sched`, the lines of tasks, and which lines of a script are kept in mind.
+
+ghost use Rattle.std.specs.Prelude.{◌≡◌, ◌≤◌, IfOk};
+ghost use Rattle.script_reader.specs.Arguments.{texts, number_at};
+ghost use Rattle.sched_rules.specs.Schedule.{TaskFits, RuleFits};
+ghost use Rattle.sched_reader.specs.Lines.{begins, rule_at, task_at, task_line};
+
+use sched_rules::{Rule, Task};
+use script_reader::{Cause, capability_at, end_at, is_word, read_number};
+use script_tokens::Token;
+
+/// Whether a line's first word is this one.
+pub fn begins(words: &[Token], name: &str) -> bool
+    ensures { result ≡ begins (texts words.now) name.now }
+{
+    match words.first() {
+        Some(word) => is_word(word.text, name),
+        None => false,
+    }
+}
+
+// The number at a place, from `least` to `most`.
+#[tactic(auto, unfolding(script_reader::specs::Arguments::number_at, script_reader::specs::Arguments::word_at))]
+fn number_at(words: &[Token], place: usize, least: u32, most: u32) -> Result<u32, Cause>
+    ensures value { result ≡ number_at (texts words.now) place least most }
+    ensures range { IfOk result (λ n. (least ≤ n) × (n ≤ most)) }
+{
+    let Some(word) = words.get(place) else {
+        return Err(Cause::S3);
+    };
+    let Some(number) = read_number(word.text) else {
+        return Err(Cause::S1);
+    };
+    if u64::from(least) <= number && number <= u64::from(most) {
+        Ok(number as u32)
+    } else {
+        Err(Cause::S5)
+    }
+}
+
+/// What the line `sched` says.
+#[tactic(auto, unfolding(crate::specs::Lines::rule_at))]
+pub fn rule_at(words: &[Token]) -> Result<Rule, Cause>
+    ensures value { result ≡ rule_at (texts words.now) }
+    ensures fits { IfOk result RuleFits }
+{
+    let sched = number_at(words, 1, 0, 63)? as u8;
+    let quantum = number_at(words, 2, 1, 1_000_000)?;
+    end_at(words, 3)?;
+    Ok(Rule { sched, quantum })
+}
+
+// What the line of a task says.
+#[tactic(auto, unfolding(crate::specs::Lines::task_at))]
+fn task_at(words: &[Token]) -> Result<Task, Cause>
+    ensures value { result ≡ task_at (texts words.now) }
+    ensures fits { IfOk result TaskFits }
+{
+    let thread = capability_at(words, 1)?;
+    let tcap = capability_at(words, 2)?;
+    let arrival = number_at(words, 3, 0, 1_000_000)?;
+    let work = number_at(words, 4, 1, 10_000)?;
+    end_at(words, 5)?;
+    Ok(Task {
+        thread,
+        tcap,
+        arrival,
+        work,
+    })
+}
+
+/// What a line after the line `sched` says: its first word is judged for S2, then its arguments.
+#[tactic(auto, unfolding(crate::specs::Lines::task_line))]
+pub fn task_line(words: &[Token]) -> Result<Task, Cause>
+    ensures value { result ≡ task_line (texts words.now) }
+    ensures fits { IfOk result TaskFits }
+{
+    if begins(words, "task") {
+        task_at(words)
+    } else {
+        Err(Cause::S2)
+    }
+}

@@ -1,0 +1,62 @@
+-- From a booted machine to the text.
+use Rattle.std.proofs.Common.{◌≡◌, ℕ, ◌+◌, ◌<◌, ◌≤◌, ◌^◌, refl, sym, ◌∙◌, ap, subst, arith, append_assoc}
+use Rattle.std.proofs.Common.{List, [], ◌∷◌, ◌++◌, length, take, get_or, Some, All}
+use Rattle.std.specs.Prelude.{slice_get, slice_index_or}
+use Rattle.std.specs.Global.{Vec}
+use Rattle.std.proofs.lemmas.Option.{slice_get-get_or}
+use Rattle.std.proofs.lemmas.List.{take_more, get_or-map, length-map}
+use Rattle.spk_nums.specs.Setting.{Setting, IsSetting}
+use Rattle.spk_nums.specs.CallLimits.{InLimits}
+use Rattle.spk_nums.specs.declared.calls.Call.{Call}
+use Rattle.kernel_rules.specs.State.{State}
+use Rattle.kernel_rules.specs.Start.{start}
+use Rattle.seq_state.specs.Maps.{Maps}
+use Rattle.seq_state.specs.Representation.{Represents}
+use Rattle.script_reader.specs.Readings.{lists_of}
+use Rattle.sched_rules.specs.declared.tasks.Task.{Task}
+use Rattle.sched_rules.specs.declared.tasks.Rule.{Rule}
+use Rattle.sched_rules.specs.declared.turns.Turn.{Turn}
+use Rattle.sched_rules.specs.Schedule.{Step, at_first, turns_of, IsSchedule, TaskFits}
+use Rattle.sched_rules.specs.Texts.{ran_by}
+use Rattle.sched_laws.proofs.Working.{work_is_kept}
+use Rattle.sched_text.specs.Fitting.{RunsFit}
+use Rattle.fixed_prio.specs.Machines.{after_calls, Beside, MakesBoth}
+use Rattle.fixed_prio.specs.Courses.{HasScheduled}
+
+-- The plain kernel that starts beside a machine that has made no call.
+pub begun_beside : (setup : Setting) (k : Maps) → IsSetting setup → setup.cores ≡ 1 → Represents k (start setup) → Beside setup [] k
+unfolding after_calls
+begun_beside setup k lim one e = record {
+  setting = lim;
+  one_core = one;
+  reached = record { events = []; runs = tt; quiet = λ c. refl; state = refl; represents = e };
+}
+
+-- One call more.
+pub one_more : (before made made' calls : List Call) (i : ℕ) (call : Call) → i < length calls → call ≡ get_or calls i call
+    → made ≡ before ++ take i calls → made' ≡ made ++ call ∷ [] → made' ≡ before ++ take (i + 1) calls
+one_more before made made' calls i call below is so_far more =
+    more ∙ ap (λ l. l ++ call ∷ []) so_far ∙ append_assoc before (take i calls) (call ∷ [])
+    ∙ ap (λ l. before ++ l) (ap (λ c. take i calls ++ c ∷ []) is ∙ sym (take_more calls i call below))
+
+-- No task runs for longer than its work.
+pub runs_fit : (rule : Rule) (s : State) (tasks : List Task) (steps : List Step) (turns : List Turn)
+    → IsSchedule rule (at_first s tasks) steps → turns ≡ turns_of steps → All TaskFits tasks → RunsFit turns tasks
+runs_fit rule s tasks steps turns is same fit i below =
+    let none : Task = record { thread = 0; tcap = 0; arrival = 0; work = 0 } in
+    let task : Task = get_or tasks i none in
+    let kept = work_is_kept rule s tasks steps is i task (slice_get-get_or tasks i none below) in
+    let sum = kept.sum in
+    let most = (fit i none below).most in
+    let ran : ran_by (i + 1) turns ≡ ran_by (i + 1) (turns_of steps) = ap (ran_by (i + 1)) same in
+    omega (arith, sum, most, ran)
+
+-- The list of core 0.
+pub list_0 : (lists : List (Vec Call)) (v : Vec Call) → 0 < length lists → v ≡ get_or lists 0 v
+    → v.items ≡ slice_index_or (lists_of lists) 0 []
+list_0 lists v some is = ap (λ (w : Vec Call). w.items) is ∙ sym (get_or-map (λ (w : Vec Call). w.items) lists 0 v [] some)
+
+pub limits_0 : (lists : List (Vec Call)) (v : Vec Call) → 0 < length lists → v ≡ get_or lists 0 v
+    → All (All InLimits) (lists_of lists) → All InLimits v.items
+limits_0 lists v some is all = subst (All InLimits) (sym (list_0 lists v some is))
+    (all 0 [] (let n = length-map lists (λ (w : Vec Call). w.items) in omega (arith, n, some)))

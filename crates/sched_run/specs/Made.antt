@@ -1,0 +1,34 @@
+-- What the command `sched` writes.
+use Rattle.std.specs.Prelude.{◌≡◌, ℕ, List, ◌++◌, Result, Ok}
+use Rattle.spk_nums.specs.Setting.{Setting}
+use Rattle.spk_nums.specs.declared.calls.Call.{Call}
+use Rattle.script_reader.specs.declared.cause.ReadFault.{ReadFault}
+use Rattle.script_reader.specs.Readings.{Meaning, calls_of, Fails}
+use Rattle.sched_rules.specs.Schedule.{Step, at_first, turns_of, calls_of as calls_of_turns, IsSchedule}
+use Rattle.sched_rules.specs.Texts.{schedule_text}
+use Rattle.fixed_prio.specs.Machines.{after_calls}
+use Rattle.sched_reader.specs.Inputs.{Input, input_of}
+
+-- The calls of the script: those of core 0.
+abbrev pub calls_in : Meaning → List Call
+calls_in script = calls_of script.lists 0
+
+-- From the state after the script's calls the turns are the scheduler's, a machine has made the script's calls and then those of the
+-- turns, and the text is that of the turns.
+pub record IsMade (input : Input) (made : List Call) (written : List ℕ) : Type 0 where
+  pub steps : List Step
+  pub schedule : IsSchedule input.rule (at_first (after_calls input.script.setup (calls_in input.script)) input.tasks) steps
+  pub calls : made ≡ calls_in input.script ++ calls_of_turns steps
+  pub text : written ≡ schedule_text (turns_of steps) input.tasks
+
+-- The text that bytes come to, on a machine that was booted with this and has made these calls: the bytes are a script with tasks after it,
+-- and the text is its.
+pub record IsSchedMade (source : List ℕ) (setup : Setting) (made : List Call) (written : List ℕ) : Type 0 where
+  pub input : Input
+  pub read : input_of source ≡ Ok input
+  pub booted : setup ≡ input.script.setup
+  pub is_made : IsMade input made written
+
+-- The fault of bytes that are no such script: their first one, unless memory has run out.
+abbrev pub IsSchedFault : List ℕ → ReadFault → Type 0
+IsSchedFault source e = Fails e (input_of source)

@@ -1,0 +1,18 @@
+use Rattle.std.proofs.Common.{◌≡◌, ◌∙◌, ℕ, sym, subst}
+use Rattle.spk_nums.specs.declared.calls.Call.TheVariants.{Make as make_call}
+use Rattle.spk_nums.specs.declared.replies.Value.TheVariants.{Nothing}
+use Rattle.spk_nums.specs.declared.replies.Reply.TheVariants.{Ok as ok}
+use Rattle.kernel_rules.specs.CallRelation.{rule_of}
+use Rattle.seq_state.specs.Maps.{state_of}
+use Rattle.seq_lookups.specs.Carried.{IsCarriedOut}
+use Rattle.seq_plans.specs.Walks.{left_of}
+use Rattle.seq_plans.specs.Carrying.{change_in, MayMake}
+use Rattle.seq_caps.proofs.carrying.make.Goals as goal
+
+pub returns-then-number-frames : goal.returns-then-number-frames
+returns-then-number-frames c = λ core r t b may.
+    let s = state_of c.args.k.now in
+    let e : c.new.result ≡ c.args.frame = c.new.ensures ∙ c.number-then-number-frames.ensures in
+    subst (λ (f : ℕ). IsCarriedOut s (change_in (left_of (rule_of s core (make_call c.args.what.now r f t b)) c.args.looked.now))
+    (ok Nothing) c.make_in.new.k) e
+    (c.make_in.ensures core r t b (subst (λ (f : ℕ). MayMake s c.args.what.now f c.args.looked.now) (sym e) may) c.in-Some.is)

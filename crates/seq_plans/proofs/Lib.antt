@@ -1,0 +1,5 @@
+pub mod Searching
+pub mod Deciding
+pub mod SameReplies
+pub mod OneOfCauses
+pub mod ByPlan

@@ -1,0 +1,80 @@
+-- The change of a call, given what was looked up, and what it must have found beside that none of its causes stands.
+use Rattle.std.specs.Prelude.{◌≡◌, ◌≢◌, ◌<◌, ◌≤◌, ◌+◌, ◌^◌, ℕ, length, Option, Some, None, IsSome, IsSomeAnd, IsTrue}
+use Rattle.spk_nums.specs.Capability.{Capability}
+use Rattle.spk_nums.specs.declared.kinds.Kind.TheVariants as kind
+use Rattle.spk_nums.specs.declared.kinds.FrameKind.{FrameKind}
+use Rattle.spk_nums.specs.declared.kinds.FrameKind.TheVariants as frame_kind
+use Rattle.spk_nums.specs.declared.translations.Translation.{Translation}
+use Rattle.spk_nums.specs.declared.calls.Make.{Make}
+use Rattle.spk_nums.specs.declared.calls.Make.TheVariants as make
+use Rattle.spk_nums.specs.declared.calls.Call.{Call}
+use Rattle.spk_nums.specs.declared.calls.Call.TheVariants.{Look, Copy, Remove, Grow, Shrink, Retype, Make as make_call}
+use Rattle.spk_nums.specs.declared.calls.Call.TheVariants.{Map, Unmap, Touch, Flush, Gate, Kill, Call as call_gate}
+use Rattle.spk_nums.specs.declared.calls.Call.TheVariants.{Ret, Switch, Tick, Transfer, Delegate, Test}
+use Rattle.spk_nums.specs.declared.replies.Reply.TheVariants as reply
+use Rattle.kernel_rules.specs.State.{State, comp_in, comp_of, thread_in, thread_of}
+use Rattle.kernel_rules.specs.Rules.{Rule, Name as name_rule, Vacant, Held as held_rule, Mapped, Does}
+use Rattle.kernel_rules.specs.Rules.{Change, Judged, Refused, Found as Carried}
+use Rattle.kernel_rules.specs.CapabilityCalls.{epoch_of}
+use Rattle.kernel_rules.specs.MemoryCalls.{translation_of}
+use Rattle.kernel_rules.specs.Life.{is_live_in}
+use Rattle.kernel_rules.specs.TimeCalls.{merged_list}
+use Rattle.kernel_rules.specs.Ranges.{budget_at}
+use Rattle.seq_lookups.specs.Ranges.{TicksFit}
+use Rattle.seq_plans.specs.declared.walking.Looked.{Looked}
+use Rattle.seq_plans.specs.Reaches.{named_of}
+
+-- The change of what is left of a rule, where its look-ups have been made.
+abbrev pub change_in : Rule → Judged Change
+change_in (Does causes change) = Carried change
+change_in (name_rule n want rest) = Refused reply.Raced
+change_in (Vacant target rest) = Refused reply.Raced
+change_in (held_rule target rest) = Refused reply.Raced
+change_in (Mapped table v rest) = Refused reply.Raced
+
+-- A frame of the machine, which is to be untyped, has a thread in at most one component.
+abbrev pub MayRetype : State → ℕ → FrameKind → Type 0
+MayRetype s f frame_kind.Untyped = (f < s.limits.frames) × (length (thread_in (s.frame f)).stack ≤ 1)
+MayRetype s f k = f < s.limits.frames
+
+-- What is made refers to what was found, and a liveness number has an epoch left.
+abbrev pub MayMake : State → Make → ℕ → Looked → Type 0
+MayMake s (make.Thread comp) f l = IsSome l.third × IsSome l.at × (f < s.limits.frames)
+MayMake s (make.Comp table pages live) f l =
+    IsSome l.third × IsSome l.fourth × IsSome l.at × (f < s.limits.frames) × (epoch_of (s.number live) < s.limits.epochs)
+MayMake s what f l = IsSome l.at × (f < s.limits.frames)
+
+-- A page that is not cached was found mapped.
+abbrev pub MayTouch : Option Translation → Option Capability → Type 0
+MayTouch None held = IsSomeAnd held λ k. k.kind ≡ kind.Page
+MayTouch (Some t) held = Unit {0}
+
+-- Ticks move between two temporal capabilities, whose sum fits a budget.
+abbrev pub MayMove : State → Looked → ℕ → Type 0
+MayMove s l m = IsSome l.first × IsSome l.second × ((named_of l.first).frame ≢ (named_of l.second).frame)
+    × (budget_at s (named_of l.second).frame + m < 2 ^ 32)
+
+-- What a call of core c must have found to be carried out.
+abbrev pub MayCarry : State → ℕ → Call → Looked → Type 0
+MayCarry s c (Look a) l = IsSome l.first
+MayCarry s c (Copy a t b rights) l = IsSome l.first × IsSome l.at
+MayCarry s c (Remove t b) l = IsSome l.at × IsSome l.held
+MayCarry s c (Grow t i k) l = IsSome l.second × IsSome l.at
+MayCarry s c (Shrink t i) l = IsSome l.at × IsSome l.held
+MayCarry s c (Retype r f k) l = MayRetype s f k
+MayCarry s c (make_call what r f t b) l = MayMake s what f l
+MayCarry s c (Map p v r f w) l = IsSome l.at × (f < s.limits.frames)
+MayCarry s c (Unmap p v) l = IsSome l.at × IsSome l.held
+MayCarry s c (Touch v) l = MayTouch (translation_of (s.core c).cached (comp_of s c).pages v) l.held
+MayCarry s c Flush l = Unit {0}
+MayCarry s c (Gate k t b) l = IsSome l.first × IsSome l.at × (1 ≤ (comp_in (s.frame (named_of l.first).frame)).epoch)
+MayCarry s c (Kill k) l = IsSome l.first
+    × IsTrue (is_live_in (s.number (comp_in (s.frame (named_of l.first).frame)).number) (comp_in (s.frame (named_of l.first).frame)).epoch)
+MayCarry s c (call_gate g) l = IsSome l.first × (length (thread_of s c).stack < 16)
+MayCarry s c Ret l = 1 < length (thread_of s c).stack
+MayCarry s c (Switch h q) l = IsSome l.first × IsSome l.second × ((thread_in (s.frame (named_of l.first).frame)).runs_on ≡ None)
+MayCarry s c (Tick n) l = TicksFit s c n
+MayCarry s c (Transfer a b m) l = MayMove s l m
+MayCarry s c (Delegate a b m) l =
+    MayMove s l m × (length (merged_list s (named_of l.first).frame (named_of l.second).frame) ≤ 8)
+MayCarry s c (Test a b) l = IsSome l.first × IsSome l.second

@@ -1,0 +1,6 @@
+pub mod Reaches
+pub mod Walks
+pub mod Refusals
+pub mod OwnCauses
+pub mod ReplyNumbers
+pub mod Carrying

@@ -1,0 +1,18 @@
+-- The causes against going on as a thread are those of its rule.
+use Rattle.std.proofs.Common.{◌≡◌, ℕ, refl, List, Option, Some, None}
+use Rattle.spk_nums.specs.Capability.{Capability}
+use Rattle.kernel_rules.specs.State.{State}
+use Rattle.kernel_rules.specs.Access.{Slot, Named}
+use Rattle.kernel_rules.specs.InvocationCalls.{switch_to}
+use Rattle.seq_plans.specs.Walks.{rest_by, causes_of}
+use Rattle.seq_plans.specs.OwnCauses.{AreFitCauses}
+use Rattle.seq_time.specs.Left.{running_by}
+
+pub switch_causes : (s : State) (c : ℕ) (h : Named) (q : ℕ) (e : Option ℕ) (ks : List Named) (at : Option Slot) (held : Option Capability)
+    → running_by h e ≡ causes_of (rest_by (switch_to s c h q e) ks at held)
+switch_causes s c h q None ks at held = refl
+switch_causes s c h q (Some e) ks at held = refl
+
+pub running_fit : (h : Named) (e : Option ℕ) → AreFitCauses (running_by h e)
+running_fit h None = tt
+running_fit h (Some e) = (tt, tt)

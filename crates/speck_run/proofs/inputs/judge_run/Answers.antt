@@ -1,0 +1,10 @@
+use Rattle.std.proofs.Common.{length, arith}
+use Rattle.script_reader.specs.Readings.{lists_of}
+use Rattle.speck_run.proofs.Accepted.{accepted}
+use Rattle.speck_run.proofs.inputs.judge_run.Goals as goal
+
+pub run_lists-requires-clause-can_run : goal.run_lists-requires-clause-can_run
+run_lists-requires-clause-can_run g c κs bounds =
+    let small = c.requires in
+    accepted (length c.args.bytes.now) (lists_of c.in-Ok.script.lists.items)
+    c.in-Ok.ensures.script.limits c.in-Ok.ensures.calls (omega arith)

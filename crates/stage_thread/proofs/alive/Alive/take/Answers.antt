@@ -1,0 +1,9 @@
+use Rattle.std.proofs.Common.{◌≡◌}
+use Rattle.stage_thread.specs.Living.{alive_after}
+use Rattle.stage_thread.proofs.ThreadLemmas.{alive_after_fits}
+use Rattle.stage_thread.proofs.alive.Alive.take.Goals as goal
+
+pub returns-clause-fits : goal.returns-clause-fits
+returns-clause-fits c =
+    let after : c.took-took.result.0 ≡ alive_after c.args.self.now c.args.found = c.took-took.ensures.after in
+    rw after (alive_after_fits c.args.layout.now c.args.self.now c.args.found c.requires)

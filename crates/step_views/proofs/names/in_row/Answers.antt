@@ -1,0 +1,15 @@
+use Rattle.std.proofs.Common.{arith}
+use Rattle.word_map.specs.Places.{place_of}
+use Rattle.step_views.proofs.names.in_row.Goals as goal
+
+pub returns-then-place-frames : goal.returns-then-place-frames
+unfolding place_of
+returns-then-place-frames c = record { is_in = (omega arith, c.requires.core); is_there = omega arith }
+
+pub returns-then-place-frames-2 : goal.returns-then-place-frames-2
+unfolding place_of
+returns-then-place-frames-2 c = record { is_in = c.requires.core; is_there = omega arith }
+
+pub returns-else-place-frames-2 : goal.returns-else-place-frames-2
+unfolding place_of
+returns-else-place-frames-2 c = record { is_in = c.requires.core; is_there = omega arith }
