@@ -1,0 +1,99 @@
+-- A given history as a whole: the lines of the bytes, one after another, and the end.
+use Rattle.std.specs.Prelude.{◌≡◌, ◌≤◌, ℕ, ◌+◌, List, [], ◌∷◌, ◌++◌, Bool, true, false, Option, Result, Ok, Err, slice_get}
+use Rattle.std.specs.Prelude.{length, All, if◌then◌else◌}
+use Rattle.std.specs.Option.{ok_or, option_and_then}
+use Rattle.spk_nums.specs.Setting.{Setting}
+use Rattle.script_tokens.specs.declared.scanning.Ending.{Ending}
+use Rattle.script_tokens.specs.Words.{words_of, ending_of}
+use Rattle.script_reader.specs.declared.cause.Cause.{Cause}
+use Rattle.script_reader.specs.declared.cause.Cause.TheVariants.{S2, S7}
+use Rattle.script_reader.specs.Causes.{◌>>=◌}
+use Rattle.script_reader.specs.Heads.{is_whole}
+use Rattle.script_reader.specs.Readings.{Row, rows_of, Draft_of, no_draft, draft_behind, meaning_at, First_fault, at_line, and_then}
+use Rattle.script_reader.specs.Readings.{IsDraft, draft_view}
+use Rattle.marked_history.specs.declared.marks.Said.{Said}
+use Rattle.marked_history.specs.declared.marks.Line.{Line}
+use Rattle.history_reader.specs.declared.lines.LineWord.{LineWord}
+use Rattle.history_reader.specs.declared.lines.LineWord.TheVariants as word
+use Rattle.history_reader.specs.declared.draft.HistoryDraft.{HistoryDraft}
+use Rattle.history_reader.specs.declared.reading.GivenHistory.{GivenHistory}
+use Rattle.history_reader.specs.Lines.{line_word, said_by, SaidFits}
+
+-- ---- lines
+
+-- what the lines so far say: the head, as a script's, and the lines of the history
+pub record History_draft : Type 0 where
+  pub script : Draft_of
+  pub lines : List Line
+
+-- nothing was read
+abbrev pub no_history : History_draft
+no_history = record { script = no_draft; lines = [] }
+
+abbrev pub is_empty : List Line → Bool
+is_empty [] = true
+is_empty (l ∷ lines) = false
+
+-- a line of the head, which no line of the history comes before; else S7
+unfoldable pub head_line : History_draft → List (List ℕ) → Result History_draft Cause
+head_line d words =
+    if is_empty d.lines then (draft_behind d.script words >>= λ script. Ok (record d { script = script })) else Err S7
+
+-- one line more of the history
+abbrev pub with_said : History_draft → ℕ → Said → History_draft
+with_said d number said = record d { lines = d.lines ++ record { number = number; said = said } ∷ [] }
+
+-- a line of the history, after the last grant; else S7
+unfoldable pub given_line : History_draft → ℕ → List (List ℕ) → LineWord → Result History_draft Cause
+given_line d number words w =
+    if is_whole d.script.head.section
+    then (said_by d.script.head.version d.script.head.cores words w >>= λ said. Ok (with_said d number said))
+    else Err S7
+
+abbrev pub line_by : History_draft → ℕ → List (List ℕ) → LineWord → Result History_draft Cause
+line_by d number words word.Head = head_line d words
+line_by d number words w = given_line d number words w
+
+-- the draft after a line: its first word is judged for S2, then S7, and then what comes after it
+unfoldable pub line_behind : History_draft → ℕ → List (List ℕ) → Result History_draft Cause
+line_behind d number words = do
+  w ← ok_or (option_and_then line_word (slice_get words 0)) S2
+  line_by d number words w
+
+-- the draft after lines, or the first fault
+abbrev pub lines_from : History_draft → List Row → Result History_draft First_fault
+lines_from d [] = Ok d
+lines_from d (row ∷ rows) = and_then (at_line row.number (line_behind d row.number row.words)) (λ more. lines_from more rows)
+
+-- ---- the whole
+
+-- what was read: the machine's setup, and the lines of the history, in the order written
+pub record History : Type 0 where
+  pub setup : Setting
+  pub lines : List Line
+
+-- the end of the bytes: the byte or line that ended them, S8 or S9; else S7 after the last line where the last grant is missing
+abbrev pub history_at : History_draft → Ending → Result History First_fault
+history_at d ending = and_then (meaning_at d.script ending) (λ m. Ok (record { setup = m.setup; lines = d.lines }))
+
+-- what bytes say: the given history that they are, or their first fault
+unfoldable pub history_of : List ℕ → Result History First_fault
+history_of source = and_then (lines_from no_history (rows_of (words_of source))) (λ d. history_at d (ending_of source))
+
+-- ---- what the reader answers
+
+-- the lines are of a machine with so many cores
+abbrev pub LinesFit : ℕ → List Line → Type 0
+LinesFit cores lines = All (λ (l : Line). SaidFits cores l.said) lines
+
+-- a draft that lines lead to
+pub record IsHistoryDraft (d : History_draft) : Type 0 where
+  pub script : IsDraft d.script
+  pub fit : LinesFit d.script.head.cores d.lines
+
+-- a draft and what was read, seen without where they lie in memory
+abbrev pub draft_seen : HistoryDraft → History_draft
+draft_seen d = record { script = draft_view d.script; lines = d.lines.items }
+
+abbrev pub history_view : GivenHistory → History
+history_view h = record { setup = h.setup; lines = h.lines.items }

@@ -1,0 +1,96 @@
+//! What the lines so far say.
+
+ghost use Rattle.std.specs.Prelude.{◌≡◌, ◌≤◌, ◌+◌, [], length, true, IfOk, OnOk};
+ghost use Rattle.script_reader.specs.Arguments.{texts};
+ghost use Rattle.script_reader.specs.Readings.{Takes};
+ghost use Rattle.history_reader.specs.Lines.{SaidFits};
+ghost use Rattle.history_reader.specs.Inputs.{no_history, head_line, with_said, given_line, line_by, line_behind, draft_seen};
+ghost use Rattle.history_reader.specs.Inputs.{IsHistoryDraft};
+
+use crate::lines::{LineWord, first_of, said_by};
+use marked_history::{Line, Mark, Said};
+use script_reader::{Cause, Draft, LineFault};
+use script_tokens::Token;
+use spk_nums::{Make, Reply};
+use std::alloc::{AllocError, Global};
+
+/// The head so far, as a script's, and the lines of the history so far.
+#[derive(Drop)]
+pub struct HistoryDraft {
+    pub script: Draft,
+    pub lines: Vec<Line>,
+}
+
+/// What no lines say.
+pub fn no_history(alloc: Global) -> Result<HistoryDraft, AllocError>
+    ensures value { IfOk result (λ d. draft_seen d ≡ no_history) }
+    ensures draft { IfOk result (λ d. IsHistoryDraft (draft_seen d)) }
+{
+    Ok(HistoryDraft {
+        script: Draft::new(alloc)?,
+        lines: Vec::new(alloc),
+    })
+}
+
+// Takes a line of the head.
+#[tactic(auto, unfolding(crate::specs::Inputs::head_line))]
+fn take_head_line(draft: &mut HistoryDraft, words: &[Token]) -> Result<(), LineFault>
+    requires { IsHistoryDraft (draft_seen draft.old) }
+    ensures value { Takes result (draft_seen draft.new) (head_line (draft_seen draft.old) (texts words.now)) }
+    ensures draft { OnOk result (IsHistoryDraft (draft_seen draft.new)) }
+    ensures few { length draft.new.lines.items ≤ length draft.old.lines.items + 1 }
+{
+    if draft.lines.is_empty() {
+        draft.script.take(words)
+    } else {
+        Err(LineFault::Cause(Cause::S7))
+    }
+}
+
+// Adds a line to the history.
+fn add_said(draft: &mut HistoryDraft, number: u32, said: Said) -> Result<(), LineFault>
+    requires draft { IsHistoryDraft (draft_seen draft.old) }
+    requires fits { SaidFits (draft_seen draft.old).script.head.cores said }
+    ensures value { Takes result (draft_seen draft.new) (Ok (with_said (draft_seen draft.old) number said)) }
+    ensures draft { OnOk result (IsHistoryDraft (draft_seen draft.new)) }
+    ensures few { length draft.new.lines.items ≤ length draft.old.lines.items + 1 }
+{
+    draft.lines.push(Line { number, said })?;
+    Ok(())
+}
+
+// Takes a line of the history.
+#[tactic(auto, unfolding(crate::specs::Inputs::given_line))]
+fn take_given_line(
+    draft: &mut HistoryDraft,
+    number: u32,
+    words: &[Token],
+    word: LineWord,
+) -> Result<(), LineFault>
+    requires { IsHistoryDraft (draft_seen draft.old) }
+    ensures value { Takes result (draft_seen draft.new) (given_line (draft_seen draft.old) number (texts words.now) word) }
+    ensures draft { OnOk result (IsHistoryDraft (draft_seen draft.new)) }
+    ensures few { length draft.new.lines.items ≤ length draft.old.lines.items + 1 }
+{
+    if !draft.script.is_whole() {
+        return Err(LineFault::Cause(Cause::S7));
+    }
+    let version = draft.script.version();
+    let cores = draft.script.cores();
+    let said = said_by(words, version, cores, word)?;
+    add_said(draft, number, said)
+}
+
+/// Takes a line with this number.
+#[tactic(auto, unfolding(crate::specs::Inputs::line_behind))]
+pub fn take_line(draft: &mut HistoryDraft, number: u32, words: &[Token]) -> Result<(), LineFault>
+    requires { IsHistoryDraft (draft_seen draft.old) }
+    ensures value { Takes result (draft_seen draft.new) (line_behind (draft_seen draft.old) number (texts words.now)) }
+    ensures draft { OnOk result (IsHistoryDraft (draft_seen draft.new)) }
+    ensures few { length draft.new.lines.items ≤ length draft.old.lines.items + 1 }
+{
+    match first_of(words).ok_or(Cause::S2)? {
+        LineWord::Head => take_head_line(draft, words),
+        word => take_given_line(draft, number, words, word),
+    }
+}
