@@ -1,0 +1,17 @@
+-- The text of a verdict.
+use Rattle.std.specs.Prelude.{ℕ, List, [], ◌∷◌, ◌++◌, codes, decimal}
+use Rattle.marked_history.specs.declared.marks.Why.{Why}
+use Rattle.marked_history.specs.declared.marks.Why.TheVariants as why
+use Rattle.marked_history.specs.declared.marks.Verdict.{Verdict}
+use Rattle.marked_history.specs.declared.marks.Verdict.TheVariants.{Legal, Illegal}
+
+-- The word for why no history goes on with a line.
+abbrev pub why_word : Why → List ℕ
+why_word why.Marks = codes "marks"
+why_word why.Race = codes "race"
+why_word why.Reply = codes "reply"
+
+-- `legal N`, or `illegal line L: WHY`, and a line feed.
+abbrev pub verdict_text : Verdict → List ℕ
+verdict_text (Legal decided) = codes "legal " ++ decimal decided ++ codes "\n"
+verdict_text (Illegal line w) = codes "illegal line " ++ decimal line ++ codes ": " ++ why_word w ++ codes "\n"

@@ -1,0 +1,90 @@
+-- What is seen of the cores, beside their phases.
+use Rattle.std.proofs.Common.{◌≡◌, ◌≢◌, ℕ, ◌<◌, ◌==◌, ◌&&◌, Bool, true, false, not, List, [], ◌∷◌, length, get_or, refl, sym, ap, subst, ◌∙◌, inl, inr}
+use Rattle.std.proofs.Common.{IsTrue, if◌then◌else◌}
+use Rattle.std.specs.Prelude.{slice_set}
+use Rattle.std.proofs.lemmas.Bool.{false≢true, true≢false, eq-eqb, ne_eqb}
+use Rattle.std.proofs.lemmas.List.{get_or-set_same, get_or-set_other}
+use Rattle.std.proofs.lemmas.Bool.{cases_eq}
+use Rattle.spk_nums.specs.declared.calls.Call.{Call}
+use Rattle.kernel_rules.specs.Runs.{Phase, Out, Open, Decided, is_in, is_decided}
+use Rattle.marked_history.specs.declared.marks.Mark.{Mark}
+use Rattle.marked_history.specs.Histories.{CanBeDecided}
+use Rattle.history_check.specs.declared.seen.At.{At}
+use Rattle.history_check.specs.declared.seen.At.TheVariants as at
+use Rattle.history_check.specs.declared.seen.Seen.{Seen}
+use Rattle.history_check.specs.Judging.{at_of, is_inside, no_one, seen_of}
+
+-- ---- phases
+
+pub inside_is : (p : Phase) → is_inside (at_of p) ≡ is_in p
+inside_is Out = refl
+inside_is (Open call) = refl
+inside_is (Decided call r) = refl
+
+pub out_is : (p : Phase) → at.Out ≡ at_of p → p ≡ Out
+out_is Out e = refl
+out_is (Open call) e = absurd (false≢true (ap is_inside e))
+out_is (Decided call r) e = absurd (false≢true (ap is_inside e))
+
+abbrev call_or : At → Call → Call
+call_or at.Out other = other
+call_or (at.Open call) other = call
+call_or at.Decided other = other
+
+abbrev is_at_open : At → Bool
+is_at_open at.Out = false
+is_at_open (at.Open call) = true
+is_at_open at.Decided = false
+
+abbrev is_at_decided : At → Bool
+is_at_decided at.Out = false
+is_at_decided (at.Open call) = false
+is_at_decided at.Decided = true
+
+pub open_is : (p : Phase) (call : Call) → at.Open call ≡ at_of p → p ≡ Open call
+open_is Out call e = absurd (true≢false (ap is_at_open e))
+open_is (Open other) call e = ap Open (sym (ap (λ a. call_or a call) e))
+open_is (Decided other r) call e = absurd (true≢false (ap is_at_open e))
+
+pub decided_is : (p : Phase) → at.Decided ≡ at_of p → IsTrue (is_decided p)
+decided_is Out e = absurd (true≢false (ap is_at_decided e))
+decided_is (Open call) e = absurd (true≢false (ap is_at_decided e))
+decided_is (Decided call r) e = refl
+
+-- Where a core is not out, not in an open call, or not in a decided one, its phase is none of those.
+pub not_out : (p : Phase) (a : At) → a ≡ at_of p → IsTrue (is_inside a) → p ≡ Out → ⊥
+not_out p a e inside out = false≢true (sym (ap is_inside (e ∙ ap at_of out)) ∙ inside)
+
+pub not_open : (p : Phase) (a : At) → a ≡ at_of p → is_at_open a ≡ false → CanBeDecided p → ⊥
+not_open Out a e shut can = can
+not_open (Open call) a e shut can = true≢false (sym (ap is_at_open e) ∙ shut)
+not_open (Decided call r) a e shut can = can
+
+pub not_decided : (p : Phase) (a : At) → a ≡ at_of p → is_at_decided a ≡ false → IsTrue (is_decided p) → ⊥
+not_decided Out a e open h = false≢true h
+not_decided (Open call) a e open h = false≢true h
+not_decided (Decided call r) a e open h = true≢false (sym (ap is_at_decided e) ∙ open)
+
+-- ---- what is seen of each core
+
+-- What holds of core c, and of each other, holds of each.
+pub of_each : (P : ℕ → Type 0) (c : ℕ) → P c → ((d : ℕ) → d ≢ c → P d) → (d : ℕ) → P d
+of_each P c own others d = elim (cases_eq d c) [
+  | inl same ↦ subst P (sym same) own
+  | inr other ↦ others d other
+]
+
+pub seen_own : (seen : List Seen) (c : ℕ) (s : Seen) → c < length seen → seen_of (slice_set seen c s) c ≡ s
+seen_own seen c s lt = get_or-set_same seen c s no_one lt
+
+pub seen_other : (seen : List Seen) (c : ℕ) (s : Seen) (d : ℕ) → d ≢ c → seen_of (slice_set seen c s) d ≡ seen_of seen d
+seen_other seen c s d other = get_or-set_other seen c d s no_one other
+
+pub here : (c : ℕ) → (c == c) ≡ true
+here c = eq-eqb c c refl
+
+pub apart : (d c : ℕ) → d ≢ c → (d == c) ≡ false
+apart d c other = ne_eqb d c other
+
+pub turned : {a b : ℕ} → a ≢ b → b ≢ a
+turned other = λ e. other (sym e)

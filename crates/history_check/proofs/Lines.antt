@@ -1,0 +1,184 @@
+-- A judge takes a line, and line by line it comes to the verdict.
+use Rattle.std.proofs.Common.{◌≡◌, ℕ, ◌+◌, ◌<◌, ◌≤◌, ◌==◌, Bool, true, false, List, [], ◌∷◌, ◌++◌, reverse, take, drop, length, get_or, Option, Some, None}
+use Rattle.std.proofs.Common.{refl, sym, ap, subst, ◌∙◌, inl, inr, if◌then◌else◌, arith}
+use Rattle.std.proofs.lemmas.List.{take_more, take_all, drop_more, take-append-drop, reverse-append, length-reverse, length-take-le}
+use Rattle.std.proofs.lemmas.List.Elements.{All-head, All-tail, All-get_or}
+use Rattle.spk_nums.specs.Setting.{Setting, IsSetting}
+use Rattle.spk_nums.specs.declared.calls.Call.{Call}
+use Rattle.spk_nums.specs.declared.replies.Reply.{Reply}
+use Rattle.marked_history.specs.declared.marks.Mark.{Mark}
+use Rattle.marked_history.specs.declared.marks.Mark.TheVariants.{Enter, Decide, Return}
+use Rattle.marked_history.specs.declared.marks.Said.{Said}
+use Rattle.marked_history.specs.declared.marks.Said.TheVariants.{One, Whole}
+use Rattle.marked_history.specs.declared.marks.Line.{Line}
+use Rattle.marked_history.specs.declared.marks.Why.{Why}
+use Rattle.marked_history.specs.declared.marks.Why.TheVariants as why
+use Rattle.marked_history.specs.Histories.{MayFollow, IsOfMachine}
+use Rattle.marked_history.specs.Verdicts.{said_marks, marks_of, entered, decisions, AllFollow, LineFollows, AreHistory, FirstBreaks}
+use Rattle.marked_history.specs.Verdicts.{LineBreaks, Misnumbered, Numbered, AreLegal, BreakAt}
+use Rattle.history_check.specs.declared.judge.Judge.{Judge}
+use Rattle.history_check.specs.Judging.{seen_of, IsJudge, HasCome, HasRoom, RoomFor, MarkFound, JudgesMark, call_marks, MarksTaken, MarksFound}
+use Rattle.history_check.specs.Judging.{JudgesMarks, LineTaken, LineFound, SaidFits, JudgesLine, CallFits, LinesFit}
+
+-- ---- the three marks of a call made whole
+
+module _ (j : Judge) (c : ℕ) (call : Call) (r : Reply) where
+  -- The first mark may not follow.
+  pub first_breaks : (j1 : Judge) (w : Why) → JudgesMark j (Enter c call) (Some w) j1 → JudgesMarks j (call_marks c call r) (Some w) j1
+  first_breaks j1 w one setting lim marks come room fit =
+      inl (one setting lim marks come (room.entries c) (All-head (IsOfMachine setting.cores) _ _ fit))
+
+  module _ (j1 j2 : Judge) (one : JudgesMark j (Enter c call) None j1) where
+    abbrev Fit : Setting → Type 0
+    Fit setting = (IsOfMachine setting.cores (Enter c call)) × (IsOfMachine setting.cores (Return c))
+
+    -- The second may not.
+    pub second_breaks : (w : Why) → JudgesMark j1 (Decide c r) (Some w) j2 → JudgesMarks j (call_marks c call r) (Some w) j2
+    second_breaks w two setting lim marks come room fit =
+        let machine = All-head (IsOfMachine setting.cores) (Enter c call) _ fit in
+        let entered : HasCome setting (Enter c call ∷ marks) j1 = one setting lim marks come (room.entries c) machine in
+        inr (entered.history.1, inl (two setting lim (Enter c call ∷ marks) entered room.decisions machine.0))
+
+    -- The third is found so.
+    pub third_found : (j3 : Judge) (found : Option Why) → JudgesMark j1 (Decide c r) None j2 → JudgesMark j2 (Return c) found j3
+        → JudgesMarks j (call_marks c call r) found j3
+    third_found j3 found two three setting lim marks come room fit =
+        let machine = All-head (IsOfMachine setting.cores) (Enter c call) _ fit in
+        let entered : HasCome setting (Enter c call ∷ marks) j1 = one setting lim marks come (room.entries c) machine in
+        let decided : HasCome setting (Decide c r ∷ Enter c call ∷ marks) j2 =
+        two setting lim (Enter c call ∷ marks) entered room.decisions machine.0 in
+        so found entered.history.1 decided.history.1
+        (three setting lim (Decide c r ∷ Enter c call ∷ marks) decided tt machine.0)
+      where
+        so : {setting : Setting} {marks : List Mark} (found : Option Why) → MayFollow setting marks (Enter c call)
+            → MayFollow setting (Enter c call ∷ marks) (Decide c r)
+            → MarkFound setting (Decide c r ∷ Enter c call ∷ marks) (Return c) found j3
+            → MarksFound setting marks (call_marks c call r) found j3
+        so None f g left = record { follow = (f, (g, (left.history.1, tt))); come = left }
+        so (Some w) f g breaks = inr (f, inr (g, inl breaks))
+
+-- ---- a line
+
+room_for : (marks : List Mark) (m : Mark) → HasRoom marks → RoomFor marks m
+room_for marks (Enter c call) room = room.entries c
+room_for marks (Decide c r) room = room.decisions
+room_for marks (Return c) room = tt
+
+pub one_mark : (j j' : Judge) (m : Mark) (found : Option Why) → JudgesMark j m found j' → JudgesLine j (One m) found j'
+one_mark j j' m found judged setting lim marks come room fit =
+    so found (judged setting lim marks come (room_for marks m room) (All-head (IsOfMachine setting.cores) m [] fit))
+  where
+    so : {setting : Setting} {marks : List Mark} (found : Option Why) → MarkFound setting marks m found j'
+        → LineFound setting marks (One m) found j'
+    so None next = record { follows = record { numbered = tt; marks = (next.history.1, tt) }; come = next }
+    so (Some w) breaks = Numbered tt (inl breaks)
+
+module _ (j j' : Judge) (c i : ℕ) (call : Call) (r : Reply) where
+  pub whole_call : (found : Option Why) → i ≡ (seen_of j.seen.items c).entered + 1 → JudgesMarks j (call_marks c call r) found j'
+      → JudgesLine j (Whole c i call r) found j'
+  whole_call found is judged setting lim marks come room fit =
+      so found (is ∙ ap (λ n. n + 1) (come.entered c)) (judged setting lim marks come room fit)
+    where
+      so : {setting : Setting} {marks : List Mark} (found : Option Why) → i ≡ entered marks c + 1
+          → MarksFound setting marks (call_marks c call r) found j' → LineFound setting marks (Whole c i call r) found j'
+      so None is taken = record { follows = record { numbered = is; marks = taken.follow }; come = taken.come }
+      so (Some w) is breaks = Numbered is breaks
+
+  pub other_number : (i ≡ (seen_of j.seen.items c).entered + 1 → ⊥) → JudgesLine j (Whole c i call r) (Some why.Marks) j'
+  other_number other setting lim marks come room fit = Misnumbered (λ is. other (is ∙ ap (λ n. n + 1) (sym (come.entered c))))
+
+pub call_fits : (cores : ℕ) (said : Said) → SaidFits cores said → CallFits said
+call_fits cores (One (Enter c call)) fit = (All-head (IsOfMachine cores) _ _ fit).1
+call_fits cores (One (Decide c r)) fit = tt
+call_fits cores (One (Return c)) fit = tt
+call_fits cores (Whole c i call r) fit = (All-head (IsOfMachine cores) (Enter c call) _ fit).1
+
+-- ---- room
+
+entered_more : (marks : List Mark) (m : Mark) (c : ℕ) → entered (m ∷ marks) c ≤ entered marks c + 1
+entered_more marks (Enter d call) c = by_core (c == d)
+  where
+    by_core : (b : Bool) → (if b then entered marks c + 1 else entered marks c) ≤ entered marks c + 1
+    by_core true = omega arith
+    by_core false = omega arith
+entered_more marks (Decide d r) c = omega arith
+entered_more marks (Return d) c = omega arith
+
+decisions_more : (marks : List Mark) (m : Mark) → decisions (m ∷ marks) ≤ decisions marks + 1
+decisions_more marks (Enter d call) = omega arith
+decisions_more marks (Decide d r) = omega arith
+decisions_more marks (Return d) = omega arith
+
+few_entered : (lines : List Line) (c : ℕ) → entered (marks_of lines) c ≤ length lines
+few_entered [] c = omega arith
+few_entered (l ∷ lines) c = omega (arith, by_said l.said, few_entered lines c)
+  where
+    by_said : (said : Said) → entered (reverse (said_marks said) ++ marks_of lines) c ≤ entered (marks_of lines) c + 1
+    by_said (One m) = entered_more (marks_of lines) m c
+    by_said (Whole d i call r) = entered_more (marks_of lines) (Enter d call) c
+
+few_decided : (lines : List Line) → decisions (marks_of lines) ≤ length lines
+few_decided [] = omega arith
+few_decided (l ∷ lines) = omega (arith, by_said l.said, few_decided lines)
+  where
+    by_said : (said : Said) → decisions (reverse (said_marks said) ++ marks_of lines) ≤ decisions (marks_of lines) + 1
+    by_said (One m) = decisions_more (marks_of lines) m
+    by_said (Whole d i call r) = omega arith
+
+-- ---- line by line
+
+-- The first i lines are a history, and the judge has come to its end.
+pub record Goes (setting : Setting) (lines : List Line) (i : ℕ) (j : Judge) : Type 0 where
+  pub history : AreHistory setting (reverse (take i lines))
+  pub come : HasCome setting (marks_of (reverse (take i lines))) j
+  pub judge : IsJudge j
+
+one_line : (lines : List Line) (i : ℕ) (d : Line) → i < length lines → reverse (take (i + 1) lines) ≡ get_or lines i d ∷ reverse (take i lines)
+one_line lines i d lt = ap reverse (take_more lines i d lt) ∙ reverse-append (take i lines) (get_or lines i d ∷ [])
+
+room_at : (setting : Setting) (lines : List Line) (i : ℕ) → i < length lines → length lines < 2 ^ 32
+    → HasRoom (marks_of (reverse (take i lines)))
+room_at setting lines i lt few = record {
+  entries = λ c. omega (arith, few_entered (reverse (take i lines)) c, long, lt, few);
+  decisions = omega (arith, few_decided (reverse (take i lines)), long, lt, few);
+}
+  where
+    long : length (reverse (take i lines)) ≡ i
+    long = length-reverse (take i lines) ∙ length-take-le i lines (omega (arith, lt))
+
+module _ (setting : Setting) (lim : IsSetting setting) (lines : List Line) (i : ℕ) (d : Line) (lt : i < length lines)
+    (few : length lines < 2 ^ 32) (fit : LinesFit setting.cores lines) (j j' : Judge) (goes : Goes setting lines i j) where
+  abbrev l : Line
+  l = get_or lines i d
+
+  found_at : (found : Option Why) → JudgesLine j (get_or lines i d).said found j'
+      → LineFound setting (marks_of (reverse (take i lines))) (get_or lines i d).said found j'
+  found_at found judged = judged setting lim (marks_of (reverse (take i lines))) goes.come (room_at setting lines i lt few)
+      (All-get_or (λ (x : Line). SaidFits setting.cores x.said) lines i d lt fit)
+
+  pub goes_on : IsJudge j' → JudgesLine j (get_or lines i d).said None j' → Goes setting lines (i + 1) j'
+  goes_on judge judged =
+      let taken = found_at None judged in
+      record {
+        history = subst (AreHistory setting) (sym (one_line lines i d lt)) (goes.history, taken.follows);
+        come = subst (λ ls. HasCome setting (marks_of ls) j') (sym (one_line lines i d lt)) taken.come;
+        judge = judge;
+      }
+
+  pub breaks_at : (w : Why) → JudgesLine j (get_or lines i d).said (Some w) j' → BreakAt setting lines (get_or lines i d).number w
+  breaks_at w judged = record {
+    before = take i lines;
+    line = get_or lines i d;
+    rest = drop (i + 1) lines;
+    are = sym (take-append-drop i lines) ∙ ap (λ ls. take i lines ++ ls) (drop_more lines i d lt);
+    is_number = refl;
+    history = goes.history;
+    breaks = found_at (Some w) judged;
+  }
+
+pub all_legal : (setting : Setting) (lines : List Line) (i : ℕ) (j : Judge) → Goes setting lines i j → length lines ≤ i
+    → AreLegal setting lines j.decided
+all_legal setting lines i j goes le = record {
+  history = subst (λ ls. AreHistory setting (reverse ls)) (take_all i lines le) goes.history;
+  count = goes.come.decided ∙ ap (λ ls. decisions (marks_of (reverse ls))) (take_all i lines le);
+}

@@ -1,0 +1,167 @@
+-- What it means that a judge has come to a place of a history.
+use Rattle.std.specs.Prelude.{◌≡◌, ◌≢◌, ◌<◌, ◌^◌, ◌+◌, ◌==◌, ◌&&◌, not, ℕ, ◌-◌, Bool, true, false, List, [], ◌∷◌, ◌++◌, reverse, length, get_or, Option, Some, None}
+use Rattle.std.specs.Prelude.{IsTrue, IsFalse, All}
+use Rattle.spk_nums.specs.Setting.{Setting, IsSetting}
+use Rattle.spk_nums.specs.CallLimits.{InLimits}
+use Rattle.spk_nums.specs.declared.calls.Call.{Call}
+use Rattle.spk_nums.specs.declared.replies.Reply.{Reply}
+use Rattle.spk_nums.specs.declared.replies.Reply.TheVariants as reply
+use Rattle.kernel_rules.specs.Runs.{Phase, Out, Open, Decided, is_in}
+use Rattle.seq_state.specs.Representation.{Represents}
+use Rattle.seq_plans.specs.Refusals.{Decides}
+use Rattle.marked_history.specs.declared.marks.Mark.{Mark}
+use Rattle.marked_history.specs.declared.marks.Mark.TheVariants.{Enter, Decide, Return}
+use Rattle.marked_history.specs.declared.marks.Said.{Said}
+use Rattle.marked_history.specs.declared.marks.Said.TheVariants.{One, Whole}
+use Rattle.marked_history.specs.declared.marks.Line.{Line}
+use Rattle.marked_history.specs.declared.marks.Why.{Why}
+use Rattle.marked_history.specs.Histories.{phase, state, HasMet, IsOfMachine, IsHistory}
+use Rattle.marked_history.specs.Verdicts.{said_marks, entered, decisions, AllFollow, MarkBreaks, FirstBreaks, LineBreaks, LineFollows}
+use Rattle.history_check.specs.declared.seen.At.{At}
+use Rattle.history_check.specs.declared.seen.At.TheVariants as at
+use Rattle.history_check.specs.declared.seen.Seen.{Seen}
+use Rattle.history_check.specs.declared.judge.Judge.{Judge}
+
+-- ---- cores
+
+-- Where a core is, by its phase.
+abbrev pub at_of : Phase → At
+at_of Out = at.Out
+at_of (Open call) = at.Open call
+at_of (Decided call r) = at.Decided
+
+-- Whether a core is in a call.
+abbrev pub is_inside : At → Bool
+is_inside at.Out = false
+is_inside (at.Open call) = true
+is_inside at.Decided = true
+
+-- A core that has entered no call.
+abbrev pub no_one : Seen
+no_one = record { at = at.Out; entered = 0 }
+
+-- What is seen of a core; one past the list has entered no call.
+abbrev pub seen_of : List Seen → ℕ → Seen
+seen_of seen c = get_or seen c no_one
+
+-- Another core than c is seen in a call.
+pub record IsAnotherSeen (seen : List Seen) (c : ℕ) : Type 0 where
+  pub core : ℕ
+  pub other : core ≢ c
+  pub inside : IsTrue (is_inside (seen_of seen core).at)
+
+-- The call of a core that is in it is within its limits.
+abbrev pub AtFits : At → Type 0
+AtFits at.Out = Unit {0}
+AtFits (at.Open call) = InLimits call
+AtFits at.Decided = Unit {0}
+
+-- A judge that is used: it sees eight cores, and their calls are within their limits.
+pub record IsJudge (j : Judge) : Type 0 where
+  pub eight : length j.seen.items ≡ 8
+  pub fit : All (λ (s : Seen). AtFits s.at) j.seen.items
+
+-- Whether core c is the one that is alone.
+abbrev pub is_alone : Option ℕ → ℕ → Bool
+is_alone None c = false
+is_alone (Some d) c = c == d
+
+-- ---- a judge after marks
+
+-- The judge has come to the end of these marks: they are a history; its kernel represents the state that they leave; it sees where each
+-- core is, and how many calls it has entered; a core that is in a call has met another one since it entered it, unless it is the one
+-- that is alone; and the decisions are counted.
+pub record HasCome (setting : Setting) (marks : List Mark) (j : Judge) : Type 0 where
+  pub history : IsHistory setting marks
+  pub kernel : Represents j.kernel (state setting marks)
+  pub where : (c : ℕ) → (seen_of j.seen.items c).at ≡ at_of (phase marks c)
+  pub entered : (c : ℕ) → (seen_of j.seen.items c).entered ≡ entered marks c
+  pub met : (c : ℕ) → IsTrue (is_in (phase marks c)) → Decides (not (is_alone j.alone c)) (HasMet marks c)
+  pub decided : j.decided ≡ decisions marks
+
+-- There is room to count one more entry of each core, and one more decision.
+pub record HasRoom (marks : List Mark) : Type 0 where
+  pub entries : (c : ℕ) → entered marks c + 1 < 2 ^ 64
+  pub decisions : decisions marks + 1 < 2 ^ 32
+
+-- There is room to count this mark.
+abbrev pub RoomFor : List Mark → Mark → Type 0
+RoomFor marks (Enter c call) = entered marks c + 1 < 2 ^ 64
+RoomFor marks (Decide c r) = decisions marks + 1 < 2 ^ 32
+RoomFor marks (Return c) = Unit {0}
+
+-- ---- what is found of a mark, and of a line
+
+-- The mark may follow, and the judge has come to its end; or why it may not.
+abbrev pub MarkFound : Setting → List Mark → Mark → Option Why → Judge → Type 0
+MarkFound setting marks m None j = HasCome setting (m ∷ marks) j
+MarkFound setting marks m (Some w) j = MarkBreaks setting marks m w
+
+-- So it is of each machine and each history to whose end the judge had come, if the mark is of that machine.
+abbrev pub JudgesMark : Judge → Mark → Option Why → Judge → Type 0
+JudgesMark j m found j' = (setting : Setting) → IsSetting setting → (marks : List Mark) → HasCome setting marks j → RoomFor marks m
+    → IsOfMachine setting.cores m → MarkFound setting marks m found j'
+
+-- The marks of a call made whole, in order.
+abbrev pub call_marks : ℕ → Call → Reply → List Mark
+call_marks c call r = Enter c call ∷ Decide c r ∷ Return c ∷ []
+
+-- Marks, in order, may follow, and the judge has come to their end.
+pub record MarksTaken (setting : Setting) (before marks : List Mark) (j : Judge) : Type 0 where
+  pub follow : AllFollow setting before marks
+  pub come : HasCome setting (reverse marks ++ before) j
+
+-- So it is, or why the first of them that may not follow may not.
+abbrev pub MarksFound : Setting → List Mark → List Mark → Option Why → Judge → Type 0
+MarksFound setting before marks None j = MarksTaken setting before marks j
+MarksFound setting before marks (Some w) j = FirstBreaks setting before marks w
+
+abbrev pub JudgesMarks : Judge → List Mark → Option Why → Judge → Type 0
+JudgesMarks j ms found j' = (setting : Setting) → IsSetting setting → (marks : List Mark) → HasCome setting marks j → HasRoom marks
+    → All (IsOfMachine setting.cores) ms → MarksFound setting marks ms found j'
+
+-- The line may follow, and the judge has come to its end.
+pub record LineTaken (setting : Setting) (marks : List Mark) (said : Said) (j : Judge) : Type 0 where
+  pub follows : LineFollows setting marks said
+  pub come : HasCome setting (reverse (said_marks said) ++ marks) j
+
+abbrev pub LineFound : Setting → List Mark → Said → Option Why → Judge → Type 0
+LineFound setting marks said None j = LineTaken setting marks said j
+LineFound setting marks said (Some w) j = LineBreaks setting marks said w
+
+-- The marks of a line are of a machine with so many cores.
+abbrev pub SaidFits : ℕ → Said → Type 0
+SaidFits cores said = All (IsOfMachine cores) (said_marks said)
+
+abbrev pub JudgesLine : Judge → Said → Option Why → Judge → Type 0
+JudgesLine j said found j' = (setting : Setting) → IsSetting setting → (marks : List Mark) → HasCome setting marks j → HasRoom marks
+    → SaidFits setting.cores said → LineFound setting marks said found j'
+
+-- A mark enters a call within its limits, if it enters one.
+abbrev pub MarkFits : Mark → Type 0
+MarkFits (Enter c call) = InLimits call
+MarkFits (Decide c r) = Unit {0}
+MarkFits (Return c) = Unit {0}
+
+-- The call of a line is within its limits, if it has one.
+abbrev pub CallFits : Said → Type 0
+CallFits (One m) = MarkFits m
+CallFits (Whole c i call r) = InLimits call
+
+-- Lines are of a machine with so many cores.
+abbrev pub LinesFit : ℕ → List Line → Type 0
+LinesFit cores lines = All (λ (l : Line). SaidFits cores l.said) lines
+
+-- ---- cores of marks, and who holds a call up
+
+-- The core of a mark.
+abbrev pub core_of : Mark → ℕ
+core_of (Enter c call) = c
+core_of (Decide c r) = c
+core_of (Return c) = c
+
+-- Whether a reply says nothing of other cores, or what it says is so: another core was met, or that one is in a call.
+abbrev pub is_held_up : Option ℕ → List Seen → ℕ → Reply → Bool
+is_held_up alone seen c reply.Raced = not (is_alone alone c)
+is_held_up alone seen c (reply.Busy d) = not (d == c) && is_inside (seen_of seen d).at
+is_held_up alone seen c r = true
