@@ -61,9 +61,9 @@ not_open (Open call) a e shut can = true≢false (sym (ap is_at_open e) ∙ shut
 not_open (Decided call r) a e shut can = can
 
 pub not_decided : (p : Phase) (a : At) → a ≡ at_of p → is_at_decided a ≡ false → IsTrue (is_decided p) → ⊥
-not_decided Out a e open h = false≢true h
-not_decided (Open call) a e open h = false≢true h
-not_decided (Decided call r) a e open h = true≢false (sym (ap is_at_decided e) ∙ open)
+not_decided Out a e other h = false≢true h
+not_decided (Open call) a e other h = false≢true h
+not_decided (Decided call r) a e other h = true≢false (sym (ap is_at_decided e) ∙ other)
 
 -- ---- what is seen of each core
 

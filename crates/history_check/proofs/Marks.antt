@@ -94,7 +94,7 @@ module _ (setting : Setting) (marks : List Mark) (j j' : Judge) (come : HasCome 
   another_there a = record {
     core = a.core;
     other = a.is.other;
-    inside = ap is_inside (come.where a.core) ∙ inside_is (phase marks a.core) ∙ ap is_in (sym (phase_entered a.core a.is.other))
+    inside = ap is_inside (come.cores a.core) ∙ inside_is (phase marks a.core) ∙ ap is_in (sym (phase_entered a.core a.is.other))
         ∙ a.is.inside;
   }
 
@@ -103,7 +103,7 @@ module _ (setting : Setting) (marks : List Mark) (j j' : Judge) (come : HasCome 
     core = a.core;
     is = record {
       other = a.other;
-      inside = ap is_in (phase_entered a.core a.other) ∙ sym (inside_is (phase marks a.core)) ∙ sym (ap is_inside (come.where a.core))
+      inside = ap is_in (phase_entered a.core a.other) ∙ sym (inside_is (phase marks a.core)) ∙ sym (ap is_inside (come.cores a.core))
           ∙ a.inside;
     };
   }
@@ -136,11 +136,11 @@ module _ (setting : Setting) (marks : List Mark) (j j' : Judge) (come : HasCome 
       let others : (d : ℕ) → d ≢ c → seen_of j'.seen.items d ≡ seen_of j.seen.items d =
       λ d other. ap (λ l. seen_of l d) seen ∙ seen_other j.seen.items c s d other in
       record {
-        history = (come.history, record { machine = machine; order = out_is (phase marks c) (sym out ∙ come.where c); held_up = tt; permitted = tt });
+        history = (come.history, record { machine = machine; order = out_is (phase marks c) (sym out ∙ come.cores c); held_up = tt; permitted = tt });
         kernel = enters_kernel setting marks c j.kernel j'.kernel machine.0 come.kernel kernel;
-        where = of_each (λ d. (seen_of j'.seen.items d).at ≡ at_of (phase (Enter c call ∷ marks) d)) c
+        cores = of_each (λ d. (seen_of j'.seen.items d).at ≡ at_of (phase (Enter c call ∷ marks) d)) c
             (ap (λ x. x.at) own ∙ opens ∙ sym (ap at_of phase_opened))
-            (λ d other. ap (λ x. x.at) (others d other) ∙ come.where d ∙ sym (ap at_of (phase_entered d other)));
+            (λ d other. ap (λ x. x.at) (others d other) ∙ come.cores d ∙ sym (ap at_of (phase_entered d other)));
         entered = of_each (λ d. (seen_of j'.seen.items d).entered ≡ entered (Enter c call ∷ marks) d) c
             (ap (λ x. x.entered) own ∙ one ∙ ap (λ n. n + 1) (come.entered c)
             ∙ sym (ap (λ b. if b then entered marks c + 1 else entered marks c) (here c)))
@@ -178,7 +178,7 @@ module _ (setting : Setting) (marks : List Mark) (j j' : Judge) (come : HasCome 
     | inl same ↦ subst (λ b. Decides (not b && is_inside (seen_of j.seen.items d).at) (IsOther marks c d)) (sym (ap (λ e. d == e) (sym same) ∙ here d))
         (λ is. is.other same)
     | inr other ↦ subst (λ b. Decides (not b && is_inside (seen_of j.seen.items d).at) (IsOther marks c d)) (sym (apart d c other))
-        (beside d other (is_inside (seen_of j.seen.items d).at) (ap is_inside (come.where d) ∙ inside_is (phase marks d)))
+        (beside d other (is_inside (seen_of j.seen.items d).at) (ap is_inside (come.cores d) ∙ inside_is (phase marks d)))
   ]
     where
       beside : (d : ℕ) → d ≢ c → (b : Bool) → b ≡ is_in (phase marks d) → Decides b (IsOther marks c d)
@@ -198,16 +198,19 @@ module _ (setting : Setting) (marks : List Mark) (j j' : Judge) (come : HasCome 
       let others : (d : ℕ) → d ≢ c → seen_of j'.seen.items d ≡ seen_of j.seen.items d =
       λ d other. ap (λ l. seen_of l d) seen ∙ seen_other j.seen.items c s d other in
       record {
-        history = (come.history, record {
-          machine = machine;
-          order = can_decide;
-          held_up = held;
-          permitted = subst (λ p. MayDecideIn p (state setting marks) c r) (sym opens) may;
-        });
+        history = (
+          come.history,
+          record {
+            machine = machine;
+            order = can_decide;
+            held_up = held;
+            permitted = subst (λ p. MayDecideIn p (state setting marks) c r) (sym opens) may;
+          },
+        );
         kernel = subst (λ p. Represents j'.kernel (after setting (with_decision p c r (events_of marks)))) (sym opens) kernel;
-        where = of_each (λ d. (seen_of j'.seen.items d).at ≡ at_of (phase (Decide c r ∷ marks) d)) c
+        cores = of_each (λ d. (seen_of j'.seen.items d).at ≡ at_of (phase (Decide c r ∷ marks) d)) c
             (ap (λ x. x.at) own ∙ is_decided ∙ sym (ap at_of phase_decided))
-            (λ d other. ap (λ x. x.at) (others d other) ∙ come.where d ∙ sym (ap at_of (phase_kept d other)));
+            (λ d other. ap (λ x. x.at) (others d other) ∙ come.cores d ∙ sym (ap at_of (phase_kept d other)));
         entered = of_each (λ d. (seen_of j'.seen.items d).entered ≡ entered (Decide c r ∷ marks) d) c
             (ap (λ x. x.entered) own ∙ same ∙ come.entered c)
             (λ d other. ap (λ x. x.entered) (others d other) ∙ come.entered d);
@@ -240,16 +243,19 @@ module _ (setting : Setting) (marks : List Mark) (j j' : Judge) (come : HasCome 
       let others : (d : ℕ) → d ≢ c → seen_of j'.seen.items d ≡ seen_of j.seen.items d =
       λ d other. ap (λ l. seen_of l d) seen ∙ seen_other j.seen.items c s d other in
       record {
-        history = (come.history, record {
-          machine = machine;
-          order = decided_is (phase marks c) (sym was ∙ come.where c);
-          held_up = tt;
-          permitted = tt;
-        });
+        history = (
+          come.history,
+          record {
+            machine = machine;
+            order = decided_is (phase marks c) (sym was ∙ come.cores c);
+            held_up = tt;
+            permitted = tt;
+          },
+        );
         kernel = leaves_kernel setting marks c j.kernel j'.kernel machine come.kernel kernel;
-        where = of_each (λ d. (seen_of j'.seen.items d).at ≡ at_of (phase (Return c ∷ marks) d)) c
+        cores = of_each (λ d. (seen_of j'.seen.items d).at ≡ at_of (phase (Return c ∷ marks) d)) c
             (ap (λ x. x.at) own ∙ out ∙ sym (ap at_of phase_left))
-            (λ d other. ap (λ x. x.at) (others d other) ∙ come.where d ∙ sym (ap at_of (phase_stays d other)));
+            (λ d other. ap (λ x. x.at) (others d other) ∙ come.cores d ∙ sym (ap at_of (phase_stays d other)));
         entered = of_each (λ d. (seen_of j'.seen.items d).entered ≡ entered (Return c ∷ marks) d) c
             (ap (λ x. x.entered) own ∙ same ∙ come.entered c)
             (λ d other. ap (λ x. x.entered) (others d other) ∙ come.entered d);

@@ -74,7 +74,7 @@ is_alone (Some d) c = c == d
 pub record HasCome (setting : Setting) (marks : List Mark) (j : Judge) : Type 0 where
   pub history : IsHistory setting marks
   pub kernel : Represents j.kernel (state setting marks)
-  pub where : (c : ℕ) → (seen_of j.seen.items c).at ≡ at_of (phase marks c)
+  pub cores : (c : ℕ) → (seen_of j.seen.items c).at ≡ at_of (phase marks c)
   pub entered : (c : ℕ) → (seen_of j.seen.items c).entered ≡ entered marks c
   pub met : (c : ℕ) → IsTrue (is_in (phase marks c)) → Decides (not (is_alone j.alone c)) (HasMet marks c)
   pub decided : j.decided ≡ decisions marks
