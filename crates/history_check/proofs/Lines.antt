@@ -2,7 +2,7 @@
 use Rattle.std.proofs.Common.{◌≡◌, ℕ, ◌+◌, ◌<◌, ◌≤◌, ◌==◌, Bool, true, false, List, [], ◌∷◌, ◌++◌, reverse, take, drop, length, get_or, Option, Some, None}
 use Rattle.std.proofs.Common.{refl, sym, ap, subst, ◌∙◌, inl, inr, if◌then◌else◌, arith}
 use Rattle.std.proofs.lemmas.List.{take_more, take_all, drop_more, take-append-drop, reverse-append, length-reverse, length-take-le}
-use Rattle.std.proofs.lemmas.List.Elements.{All-head, All-tail, All-get_or}
+use Rattle.std.proofs.lemmas.List.Elements.{All-get_or}
 use Rattle.spk_nums.specs.Setting.{Setting, IsSetting}
 use Rattle.spk_nums.specs.declared.calls.Call.{Call}
 use Rattle.spk_nums.specs.declared.replies.Reply.{Reply}
@@ -15,40 +15,35 @@ use Rattle.marked_history.specs.declared.marks.Why.{Why}
 use Rattle.marked_history.specs.declared.marks.Why.TheVariants as why
 use Rattle.marked_history.specs.Histories.{MayFollow, IsOfMachine}
 use Rattle.marked_history.specs.Verdicts.{said_marks, marks_of, entered, decisions, AllFollow, LineFollows, AreHistory, FirstBreaks}
-use Rattle.marked_history.specs.Verdicts.{LineBreaks, Misnumbered, Numbered, AreLegal, BreakAt}
+use Rattle.marked_history.specs.Verdicts.{SaidFits, LinesFit, LineBreaks, Misnumbered, Numbered, AreLegal, BreakAt}
 use Rattle.history_check.specs.declared.judge.Judge.{Judge}
 use Rattle.history_check.specs.Judging.{seen_of, IsJudge, HasCome, HasRoom, RoomFor, MarkFound, JudgesMark, call_marks, MarksTaken, MarksFound}
-use Rattle.history_check.specs.Judging.{JudgesMarks, LineTaken, LineFound, SaidFits, JudgesLine, CallFits, LinesFit}
+use Rattle.history_check.specs.Judging.{JudgesMarks, LineTaken, LineFound, JudgesLine, CallFits}
 
 -- ---- the three marks of a call made whole
 
 module _ (j : Judge) (c : ℕ) (call : Call) (r : Reply) where
   -- The first mark may not follow.
-  pub first_breaks : (j1 : Judge) (w : Why) → JudgesMark j (Enter c call) (Some w) j1 → JudgesMarks j (call_marks c call r) (Some w) j1
+  pub first_breaks : (j1 : Judge) (w : Why) → JudgesMark j (Enter c call) (Some w) j1 → JudgesMarks j c call r (Some w) j1
   first_breaks j1 w one setting lim marks come room fit =
-      inl (one setting lim marks come (room.entries c) (All-head (IsOfMachine setting.cores) _ _ fit))
+      inl (one setting lim marks come (room.entries c) fit)
 
   module _ (j1 j2 : Judge) (one : JudgesMark j (Enter c call) None j1) where
-    abbrev Fit : Setting → Type 0
-    Fit setting = (IsOfMachine setting.cores (Enter c call)) × (IsOfMachine setting.cores (Return c))
-
     -- The second may not.
-    pub second_breaks : (w : Why) → JudgesMark j1 (Decide c r) (Some w) j2 → JudgesMarks j (call_marks c call r) (Some w) j2
+    pub second_breaks : (w : Why) → JudgesMark j1 (Decide c r) (Some w) j2 → JudgesMarks j c call r (Some w) j2
     second_breaks w two setting lim marks come room fit =
-        let machine = All-head (IsOfMachine setting.cores) (Enter c call) _ fit in
-        let entered : HasCome setting (Enter c call ∷ marks) j1 = one setting lim marks come (room.entries c) machine in
-        inr (entered.history.1, inl (two setting lim (Enter c call ∷ marks) entered room.decisions machine.0))
+        let entered : HasCome setting (Enter c call ∷ marks) j1 = one setting lim marks come (room.entries c) fit in
+        inr (entered.history.1, inl (two setting lim (Enter c call ∷ marks) entered room.decisions fit.0))
 
     -- The third is found so.
     pub third_found : (j3 : Judge) (found : Option Why) → JudgesMark j1 (Decide c r) None j2 → JudgesMark j2 (Return c) found j3
-        → JudgesMarks j (call_marks c call r) found j3
+        → JudgesMarks j c call r found j3
     third_found j3 found two three setting lim marks come room fit =
-        let machine = All-head (IsOfMachine setting.cores) (Enter c call) _ fit in
-        let entered : HasCome setting (Enter c call ∷ marks) j1 = one setting lim marks come (room.entries c) machine in
+        let entered : HasCome setting (Enter c call ∷ marks) j1 = one setting lim marks come (room.entries c) fit in
         let decided : HasCome setting (Decide c r ∷ Enter c call ∷ marks) j2 =
-        two setting lim (Enter c call ∷ marks) entered room.decisions machine.0 in
+        two setting lim (Enter c call ∷ marks) entered room.decisions fit.0 in
         so found entered.history.1 decided.history.1
-        (three setting lim (Decide c r ∷ Enter c call ∷ marks) decided tt machine.0)
+        (three setting lim (Decide c r ∷ Enter c call ∷ marks) decided tt fit.0)
       where
         so : {setting : Setting} {marks : List Mark} (found : Option Why) → MayFollow setting marks (Enter c call)
             → MayFollow setting (Enter c call ∷ marks) (Decide c r)
@@ -66,7 +61,7 @@ room_for marks (Return c) room = tt
 
 pub one_mark : (j j' : Judge) (m : Mark) (found : Option Why) → JudgesMark j m found j' → JudgesLine j (One m) found j'
 one_mark j j' m found judged setting lim marks come room fit =
-    so found (judged setting lim marks come (room_for marks m room) (All-head (IsOfMachine setting.cores) m [] fit))
+    so found (judged setting lim marks come (room_for marks m room) fit)
   where
     so : {setting : Setting} {marks : List Mark} (found : Option Why) → MarkFound setting marks m found j'
         → LineFound setting marks (One m) found j'
@@ -74,7 +69,7 @@ one_mark j j' m found judged setting lim marks come room fit =
     so (Some w) breaks = Numbered tt (inl breaks)
 
 module _ (j j' : Judge) (c i : ℕ) (call : Call) (r : Reply) where
-  pub whole_call : (found : Option Why) → i ≡ (seen_of j.seen.items c).entered + 1 → JudgesMarks j (call_marks c call r) found j'
+  pub whole_call : (found : Option Why) → i ≡ (seen_of j.seen.items c).entered + 1 → JudgesMarks j c call r found j'
       → JudgesLine j (Whole c i call r) found j'
   whole_call found is judged setting lim marks come room fit =
       so found (is ∙ ap (λ n. n + 1) (come.entered c)) (judged setting lim marks come room fit)
@@ -88,10 +83,10 @@ module _ (j j' : Judge) (c i : ℕ) (call : Call) (r : Reply) where
   other_number other setting lim marks come room fit = Misnumbered (λ is. other (is ∙ ap (λ n. n + 1) (sym (come.entered c))))
 
 pub call_fits : (cores : ℕ) (said : Said) → SaidFits cores said → CallFits said
-call_fits cores (One (Enter c call)) fit = (All-head (IsOfMachine cores) _ _ fit).1
+call_fits cores (One (Enter c call)) fit = fit.1
 call_fits cores (One (Decide c r)) fit = tt
 call_fits cores (One (Return c)) fit = tt
-call_fits cores (Whole c i call r) fit = (All-head (IsOfMachine cores) (Enter c call) _ fit).1
+call_fits cores (Whole c i call r) fit = fit.1
 
 -- ---- room
 

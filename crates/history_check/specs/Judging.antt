@@ -16,7 +16,7 @@ use Rattle.marked_history.specs.declared.marks.Said.TheVariants.{One, Whole}
 use Rattle.marked_history.specs.declared.marks.Line.{Line}
 use Rattle.marked_history.specs.declared.marks.Why.{Why}
 use Rattle.marked_history.specs.Histories.{phase, state, HasMet, IsOfMachine, IsHistory}
-use Rattle.marked_history.specs.Verdicts.{said_marks, entered, decisions, AllFollow, MarkBreaks, FirstBreaks, LineBreaks, LineFollows}
+use Rattle.marked_history.specs.Verdicts.{said_marks, entered, decisions, AllFollow, MarkBreaks, FirstBreaks, SaidFits, LineBreaks, LineFollows}
 use Rattle.history_check.specs.declared.seen.At.{At}
 use Rattle.history_check.specs.declared.seen.At.TheVariants as at
 use Rattle.history_check.specs.declared.seen.Seen.{Seen}
@@ -116,9 +116,9 @@ abbrev pub MarksFound : Setting → List Mark → List Mark → Option Why → J
 MarksFound setting before marks None j = MarksTaken setting before marks j
 MarksFound setting before marks (Some w) j = FirstBreaks setting before marks w
 
-abbrev pub JudgesMarks : Judge → List Mark → Option Why → Judge → Type 0
-JudgesMarks j ms found j' = (setting : Setting) → IsSetting setting → (marks : List Mark) → HasCome setting marks j → HasRoom marks
-    → All (IsOfMachine setting.cores) ms → MarksFound setting marks ms found j'
+abbrev pub JudgesMarks : Judge → ℕ → Call → Reply → Option Why → Judge → Type 0
+JudgesMarks j c call r found j' = (setting : Setting) → IsSetting setting → (marks : List Mark) → HasCome setting marks j → HasRoom marks
+    → IsOfMachine setting.cores (Enter c call) → MarksFound setting marks (call_marks c call r) found j'
 
 -- The line may follow, and the judge has come to its end.
 pub record LineTaken (setting : Setting) (marks : List Mark) (said : Said) (j : Judge) : Type 0 where
@@ -128,10 +128,6 @@ pub record LineTaken (setting : Setting) (marks : List Mark) (said : Said) (j : 
 abbrev pub LineFound : Setting → List Mark → Said → Option Why → Judge → Type 0
 LineFound setting marks said None j = LineTaken setting marks said j
 LineFound setting marks said (Some w) j = LineBreaks setting marks said w
-
--- The marks of a line are of a machine with so many cores.
-abbrev pub SaidFits : ℕ → Said → Type 0
-SaidFits cores said = All (IsOfMachine cores) (said_marks said)
 
 abbrev pub JudgesLine : Judge → Said → Option Why → Judge → Type 0
 JudgesLine j said found j' = (setting : Setting) → IsSetting setting → (marks : List Mark) → HasCome setting marks j → HasRoom marks
@@ -147,10 +143,6 @@ MarkFits (Return c) = Unit {0}
 abbrev pub CallFits : Said → Type 0
 CallFits (One m) = MarkFits m
 CallFits (Whole c i call r) = InLimits call
-
--- Lines are of a machine with so many cores.
-abbrev pub LinesFit : ℕ → List Line → Type 0
-LinesFit cores lines = All (λ (l : Line). SaidFits cores l.said) lines
 
 -- ---- cores of marks, and who holds a call up
 

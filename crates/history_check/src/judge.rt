@@ -8,7 +8,7 @@ ghost use Rattle.marked_history.specs.Histories.{IsOfMachine};
 ghost use Rattle.marked_history.specs.declared.marks.Mark.TheVariants as mark;
 ghost use Rattle.marked_history.specs.declared.marks.Said.TheVariants as said;
 ghost use Rattle.history_check.specs.Judging.{HasCome, IsJudge, AtFits, JudgesMark, JudgesMarks, JudgesLine, MarkFits, CallFits};
-ghost use Rattle.history_check.specs.Judging.{core_of, seen_of, call_marks};
+ghost use Rattle.history_check.specs.Judging.{core_of, seen_of};
 
 use crate::seen::{At, Seen, is_another_in, is_held_up, no_ones};
 use call_judge::decide_by;
@@ -186,7 +186,7 @@ fn take_marks(
     requires judge { IsJudge judge.old }
     requires limits { InLimits call.now }
     ensures judge { IsJudge judge.new }
-    ensures exact { IfOk result (λ w. JudgesMarks judge.old (call_marks core call.now reply.now) w judge.new) }
+    ensures exact { IfOk result (λ w. JudgesMarks judge.old core call.now reply.now w judge.new) }
 {
     let entered = take_mark(alloc, judge, &Mark::Enter { core, call: *call })?;
     if entered.is_some() {

@@ -1,8 +1,7 @@
 //! The verdict.
 
 ghost use Rattle.std.specs.Prelude.{◌≡◌, ◌<◌, ◌^◌, length, IfOk};
-ghost use Rattle.marked_history.specs.Verdicts.{IsVerdict};
-ghost use Rattle.history_check.specs.Judging.{LinesFit};
+ghost use Rattle.marked_history.specs.Verdicts.{LinesFit, IsVerdict};
 
 use crate::judge::{begin, take_line};
 use marked_history::{Line, Mark, Said, Verdict};

@@ -13,11 +13,12 @@ use Rattle.script_reader.specs.Readings.{Row, rows_of, Draft_of, no_draft, draft
 use Rattle.script_reader.specs.Readings.{IsDraft, draft_view}
 use Rattle.marked_history.specs.declared.marks.Said.{Said}
 use Rattle.marked_history.specs.declared.marks.Line.{Line}
+use Rattle.marked_history.specs.Verdicts.{LinesFit}
 use Rattle.history_reader.specs.declared.lines.LineWord.{LineWord}
-use Rattle.history_reader.specs.declared.lines.LineWord.TheVariants as word
+use Rattle.history_reader.specs.declared.lines.LineWord.TheVariants as known
 use Rattle.history_reader.specs.declared.draft.HistoryDraft.{HistoryDraft}
 use Rattle.history_reader.specs.declared.reading.GivenHistory.{GivenHistory}
-use Rattle.history_reader.specs.Lines.{line_word, said_by, SaidFits}
+use Rattle.history_reader.specs.Lines.{line_word, said_by}
 
 -- ---- lines
 
@@ -51,7 +52,7 @@ given_line d number words w =
     else Err S7
 
 abbrev pub line_by : History_draft → ℕ → List (List ℕ) → LineWord → Result History_draft Cause
-line_by d number words word.Head = head_line d words
+line_by d number words known.Head = head_line d words
 line_by d number words w = given_line d number words w
 
 -- the draft after a line: its first word is judged for S2, then S7, and then what comes after it
@@ -81,10 +82,6 @@ unfoldable pub history_of : List ℕ → Result History First_fault
 history_of source = and_then (lines_from no_history (rows_of (words_of source))) (λ d. history_at d (ending_of source))
 
 -- ---- what the reader answers
-
--- the lines are of a machine with so many cores
-abbrev pub LinesFit : ℕ → List Line → Type 0
-LinesFit cores lines = All (λ (l : Line). SaidFits cores l.said) lines
 
 -- a draft that lines lead to
 pub record IsHistoryDraft (d : History_draft) : Type 0 where

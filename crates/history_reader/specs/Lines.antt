@@ -1,6 +1,6 @@
 -- The lines of a given history, after the head.
 use Rattle.std.specs.Prelude.{ℕ, ◌+◌, ◌==◌, nat_lt, ◌&&◌, List, [], ◌∷◌, take, drop, Bool, true, false, Option, Some, None}
-use Rattle.std.specs.Prelude.{Result, Ok, Err, All, codes, if◌then◌else◌}
+use Rattle.std.specs.Prelude.{Result, Ok, Err, codes, if◌then◌else◌}
 use Rattle.std.specs.Option.{ok_or}
 use Rattle.spk_nums.specs.declared.calls.Call.{Call}
 use Rattle.script_reader.specs.declared.cause.Cause.{Cause}
@@ -16,10 +16,8 @@ use Rattle.script_reader.specs.OneLine.{verb_at}
 use Rattle.marked_history.specs.declared.marks.Mark.TheVariants.{Enter, Decide, Return}
 use Rattle.marked_history.specs.declared.marks.Said.{Said}
 use Rattle.marked_history.specs.declared.marks.Said.TheVariants.{One, Whole}
-use Rattle.marked_history.specs.Histories.{IsOfMachine}
-use Rattle.marked_history.specs.Verdicts.{said_marks}
 use Rattle.history_reader.specs.declared.lines.LineWord.{LineWord}
-use Rattle.history_reader.specs.declared.lines.LineWord.TheVariants as word
+use Rattle.history_reader.specs.declared.lines.LineWord.TheVariants as known
 use Rattle.history_reader.specs.Replies.{reply_of}
 
 -- ---- first words
@@ -44,11 +42,11 @@ is_numbered word = is_digits (take (dot_at word) word) && is_digits (drop (dot_a
 -- the known first words; another is S2
 unfoldable pub line_word : List ℕ → Option LineWord
 line_word word =
-    if is_word word (codes "enter") then Some word.Enter
-    else (if is_word word (codes "decide") then Some word.Decide
-    else (if is_word word (codes "return") then Some word.Return
-    else (if is_numbered word then Some word.Whole
-    else (if is_of_head (first_word word) then Some word.Head
+    if is_word word (codes "enter") then Some known.Enter
+    else (if is_word word (codes "decide") then Some known.Decide
+    else (if is_word word (codes "return") then Some known.Return
+    else (if is_numbered word then Some known.Whole
+    else (if is_of_head (first_word word) then Some known.Head
     else None))))
 
 -- ---- what a line says
@@ -111,12 +109,8 @@ whole_line version cores words = do
 
 -- what a line with this first word says; a line of the head says nothing of a history
 unfoldable pub said_by : ℕ → ℕ → List (List ℕ) → LineWord → Result Said Cause
-said_by version cores words word.Enter = enter_line version cores words
-said_by version cores words word.Decide = decide_line cores words
-said_by version cores words word.Return = return_line cores words
-said_by version cores words word.Whole = whole_line version cores words
-said_by version cores words word.Head = Err S2
-
--- the marks that a line stands for are of cores of the machine, and enter calls within their limits
-abbrev pub SaidFits : ℕ → Said → Type 0
-SaidFits cores s = All (IsOfMachine cores) (said_marks s)
+said_by version cores words known.Enter = enter_line version cores words
+said_by version cores words known.Decide = decide_line cores words
+said_by version cores words known.Return = return_line cores words
+said_by version cores words known.Whole = whole_line version cores words
+said_by version cores words known.Head = Err S2

@@ -3,7 +3,7 @@
 ghost use Rattle.std.specs.Prelude.{◌≡◌, ◌≤◌, ◌+◌, [], length, true, IfOk, OnOk};
 ghost use Rattle.script_reader.specs.Arguments.{texts};
 ghost use Rattle.script_reader.specs.Readings.{Takes};
-ghost use Rattle.history_reader.specs.Lines.{SaidFits};
+ghost use Rattle.marked_history.specs.Verdicts.{SaidFits};
 ghost use Rattle.history_reader.specs.Inputs.{no_history, head_line, with_said, given_line, line_by, line_behind, draft_seen};
 ghost use Rattle.history_reader.specs.Inputs.{IsHistoryDraft};
 
@@ -11,7 +11,7 @@ use crate::lines::{LineWord, first_of, said_by};
 use marked_history::{Line, Mark, Said};
 use script_reader::{Cause, Draft, LineFault};
 use script_tokens::Token;
-use spk_nums::{Make, Reply};
+use spk_nums::{Call, Make, Reply, Value};
 use std::alloc::{AllocError, Global};
 
 /// The head so far, as a script's, and the lines of the history so far.
@@ -72,6 +72,11 @@ fn take_given_line(
     ensures draft { OnOk result (IsHistoryDraft (draft_seen draft.new)) }
     ensures few { length draft.new.lines.items ≤ length draft.old.lines.items + 1 }
 {
+    // The check of a function that moves calls and replies asks for the types that they hold.
+    let _made: Option<Make> = None;
+    let _value: Option<Value> = None;
+    let _reply: Option<Reply> = None;
+    let _mark: Option<Mark> = None;
     if !draft.script.is_whole() {
         return Err(LineFault::Cause(Cause::S7));
     }

@@ -1,13 +1,14 @@
 //! The lines of a given history.
 
-ghost use Rattle.std.specs.Prelude.{◌≡◌, ◌<◌, ◌≤◌, IfOk, length, slice_get, take, drop};
+ghost use Rattle.std.specs.Prelude.{◌≡◌, ◌<◌, ◌≤◌, ◌+◌, IfOk, length, slice_get, take, drop};
 ghost use Rattle.std.specs.Option.{option_and_then};
 ghost use Rattle.spk_nums.specs.CallLimits.{InLimits};
 ghost use Rattle.script_reader.specs.Arguments.{texts};
 ghost use Rattle.script_reader.specs.FirstWords.{first_word};
 ghost use Rattle.script_reader.specs.OneLine.{verb_at};
+ghost use Rattle.marked_history.specs.Verdicts.{SaidFits};
 ghost use Rattle.history_reader.specs.Lines.{is_of_head, dot_at, is_numbered, line_word, call_in, enter_line, decide_line, return_line};
-ghost use Rattle.history_reader.specs.Lines.{core_before, index_after, before_equals, answered, whole_line, said_by, SaidFits};
+ghost use Rattle.history_reader.specs.Lines.{core_before, index_after, before_equals, answered, whole_line, said_by};
 
 use crate::replies::reply_of;
 use crate::words::{words_before, words_from};
@@ -48,11 +49,10 @@ fn dot_at(word: &[u8]) -> usize
     ensures within { result ≤ length word.now }
 {
     let mut place = 0;
-    'bytes: for byte in word {
-        if *byte == b'.' {
-            return place;
-        }
-        place += 1;
+    let mut index = word.len();
+    'bytes: while 0 < index {
+        index -= 1;
+        place = if word[index] == b'.' { 0 } else { place + 1 };
     }
     place
 }
@@ -136,7 +136,7 @@ fn call_in(words: &[Token], version: u8) -> Result<Call, Cause>
     call_line(words, verb, version)
 }
 
-#[tactic(auto, unfolding(crate::specs::Lines::enter_line))]
+#[tactic(auto, using(crate::proofs::Cores::core_fits), unfolding(crate::specs::Lines::enter_line))]
 fn enter_line(words: &[Token], version: u8, cores: u8) -> Result<Said, Cause>
     requires { cores ≤ 8 }
     ensures value { result ≡ enter_line version cores (texts words.now) }
@@ -147,7 +147,7 @@ fn enter_line(words: &[Token], version: u8, cores: u8) -> Result<Said, Cause>
     Ok(Said::One(Mark::Enter { core, call }))
 }
 
-#[tactic(auto, unfolding(crate::specs::Lines::decide_line))]
+#[tactic(auto, using(crate::proofs::Cores::core_fits), unfolding(crate::specs::Lines::decide_line))]
 fn decide_line(words: &[Token], cores: u8) -> Result<Said, Cause>
     requires { cores ≤ 8 }
     ensures value { result ≡ decide_line cores (texts words.now) }
@@ -158,7 +158,7 @@ fn decide_line(words: &[Token], cores: u8) -> Result<Said, Cause>
     Ok(Said::One(Mark::Decide { core, reply }))
 }
 
-#[tactic(auto, unfolding(crate::specs::Lines::return_line))]
+#[tactic(auto, using(crate::proofs::Cores::core_fits), unfolding(crate::specs::Lines::return_line))]
 fn return_line(words: &[Token], cores: u8) -> Result<Said, Cause>
     requires { cores ≤ 8 }
     ensures value { result ≡ return_line cores (texts words.now) }
@@ -198,11 +198,14 @@ fn before_equals(words: &[Token]) -> usize
     ensures within { result ≤ length words.now }
 {
     let mut place = 0;
-    'words: for word in words {
-        if is_word(word.text, "=") {
-            return place;
-        }
-        place += 1;
+    let mut index = words.len();
+    'words: while 0 < index {
+        index -= 1;
+        place = if is_word(words[index].text, "=") {
+            0
+        } else {
+            place + 1
+        };
     }
     place
 }

@@ -3,7 +3,8 @@
 ghost use Rattle.std.specs.Prelude.{◌≡◌, ◌<◌, ◌≤◌, ◌+◌, ◌^◌, length, IfOk, OnOk};
 ghost use Rattle.script_tokens.specs.Words.{views, words_of, FewLines};
 ghost use Rattle.script_reader.specs.Readings.{rows_of, fault_at, Leads, Gives};
-ghost use Rattle.history_reader.specs.Inputs.{draft_seen, lines_from, history_at, history_of, history_view, IsHistoryDraft, LinesFit};
+ghost use Rattle.marked_history.specs.Verdicts.{LinesFit};
+ghost use Rattle.history_reader.specs.Inputs.{draft_seen, lines_from, history_at, history_of, history_view, IsHistoryDraft};
 
 use crate::draft::{HistoryDraft, no_history, take_line};
 use marked_history::Line;

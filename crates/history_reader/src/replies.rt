@@ -7,7 +7,7 @@ ghost use Rattle.history_reader.specs.Replies.{later_name, plain_name, reply_nam
 use crate::values::value_at;
 use script_reader::{Cause, core_at, end_at, is_word, number_at, word_at};
 use script_tokens::Token;
-use spk_nums::{CoreNo, Reply};
+use spk_nums::{CoreNo, Reply, Value};
 
 /// The name of a reply: one after which a value, a core or a number comes, or one that is a reply by itself.
 #[derive(Clone, Copy, Debug, PartialEq, Eq)]
@@ -145,6 +145,8 @@ pub fn reply_of(words: &[Token], cores: u8) -> Result<Reply, Cause>
     requires { cores ≤ 8 }
     ensures { result ≡ reply_of cores (texts words.now) }
 {
+    // The check of a function that moves replies asks for the types that they hold.
+    let _value: Option<Value> = None;
     let word = word_at(words, 0)?;
     let name = reply_name(word).ok_or(Cause::S2)?;
     reply_by(words, cores, name)

@@ -1,6 +1,7 @@
 -- What is found of the lines of a text. Lines that came before are listed with the newest first, as marks are.
-use Rattle.std.specs.Prelude.{◌≡◌, ◌⊎◌, ◌==◌, ℕ, ◌+◌, List, [], ◌∷◌, ◌++◌, reverse, if◌then◌else◌}
+use Rattle.std.specs.Prelude.{◌≡◌, ◌<◌, ◌⊎◌, ◌==◌, ℕ, ◌+◌, All, List, [], ◌∷◌, ◌++◌, reverse, if◌then◌else◌}
 use Rattle.spk_nums.specs.Setting.{Setting}
+use Rattle.spk_nums.specs.CallLimits.{InLimits}
 use Rattle.marked_history.specs.declared.marks.Mark.{Mark}
 use Rattle.marked_history.specs.declared.marks.Mark.TheVariants.{Enter, Decide, Return}
 use Rattle.marked_history.specs.declared.marks.Said.{Said}
@@ -10,7 +11,7 @@ use Rattle.marked_history.specs.declared.marks.Why.{Why}
 use Rattle.marked_history.specs.declared.marks.Why.TheVariants as why
 use Rattle.marked_history.specs.declared.marks.Verdict.{Verdict}
 use Rattle.marked_history.specs.declared.marks.Verdict.TheVariants.{Legal, Illegal}
-use Rattle.marked_history.specs.Histories.{IsInOrder, IsHeldUp, IsPermitted, MayFollow, IsHistory}
+use Rattle.marked_history.specs.Histories.{IsOfMachine, IsInOrder, IsHeldUp, IsPermitted, MayFollow, IsHistory}
 
 -- ---- the marks of lines
 
@@ -42,6 +43,17 @@ decisions (Return d ∷ marks) = decisions marks
 abbrev pub IsNumbered : List Mark → Said → Type 0
 IsNumbered marks (One m) = Unit {0}
 IsNumbered marks (Whole c i call r) = i ≡ entered marks c + 1
+
+-- ---- lines of a machine
+
+-- A line says marks of cores of a machine with so many, and calls within their limits.
+abbrev pub SaidFits : ℕ → Said → Type 0
+SaidFits cores (One m) = IsOfMachine cores m
+SaidFits cores (Whole c i call r) = (c < cores) × InLimits call
+
+-- So all lines do.
+abbrev pub LinesFit : ℕ → List Line → Type 0
+LinesFit cores lines = All (λ (l : Line). SaidFits cores l.said) lines
 
 -- ---- lines that are a history
 
