@@ -1,9 +1,9 @@
 -- What is seen of the cores, beside their phases.
 use Rattle.std.proofs.Common.{◌≡◌, ◌≢◌, ℕ, ◌<◌, ◌==◌, ◌&&◌, Bool, true, false, not, List, [], ◌∷◌, length, get_or, refl, sym, ap, subst, ◌∙◌, inl, inr}
-use Rattle.std.proofs.Common.{IsTrue, if◌then◌else◌}
+use Rattle.std.proofs.Common.{IsTrue, if◌then◌else◌, arith}
 use Rattle.std.specs.Prelude.{slice_set}
 use Rattle.std.proofs.lemmas.Bool.{false≢true, true≢false, eq-eqb, ne_eqb}
-use Rattle.std.proofs.lemmas.List.{get_or-set_same, get_or-set_other}
+use Rattle.std.proofs.lemmas.List.{get_or-set_same, get_or-set_other, get_or_default}
 use Rattle.std.proofs.lemmas.Bool.{cases_eq}
 use Rattle.spk_nums.specs.declared.calls.Call.{Call}
 use Rattle.kernel_rules.specs.Runs.{Phase, Out, Open, Decided, is_in, is_decided}
@@ -79,6 +79,12 @@ seen_own seen c s lt = get_or-set_same seen c s no_one lt
 
 pub seen_other : (seen : List Seen) (c : ℕ) (s : Seen) (d : ℕ) → d ≢ c → seen_of (slice_set seen c s) d ≡ seen_of seen d
 seen_other seen c s d other = get_or-set_other seen c d s no_one other
+
+-- What the code finds at the place of a core is what is seen of it.
+pub seen_at : (seen : List Seen) (c i : ℕ) (x : Seen) → length seen ≡ 8 → c < 8 → i ≡ c → x ≡ get_or seen i x → seen_of seen c ≡ x
+seen_at seen c i x eight few at is =
+    let lt : i < length seen = omega (arith, eight, few, at) in
+    ap (seen_of seen) (sym at) ∙ sym (is ∙ get_or_default seen i x no_one lt)
 
 pub here : (c : ℕ) → (c == c) ≡ true
 here c = eq-eqb c c refl

@@ -1,5 +1,5 @@
 -- A judge takes a line, and line by line it comes to the verdict.
-use Rattle.std.proofs.Common.{◌≡◌, ℕ, ◌+◌, ◌<◌, ◌≤◌, ◌==◌, Bool, true, false, List, [], ◌∷◌, ◌++◌, reverse, take, drop, length, get_or, Option, Some, None}
+use Rattle.std.proofs.Common.{◌≡◌, ℕ, ◌+◌, ◌^◌, ◌<◌, ◌≤◌, ◌==◌, Bool, true, false, List, [], ◌∷◌, ◌++◌, reverse, take, drop, length, get_or, Option, Some, None, Result, Ok, Err, IfOk}
 use Rattle.std.proofs.Common.{refl, sym, ap, subst, ◌∙◌, inl, inr, if◌then◌else◌, arith}
 use Rattle.std.proofs.lemmas.List.{take_more, take_all, drop_more, take-append-drop, reverse-append, length-reverse, length-take-le}
 use Rattle.std.proofs.lemmas.List.Elements.{All-get_or}
@@ -13,44 +13,52 @@ use Rattle.marked_history.specs.declared.marks.Said.TheVariants.{One, Whole}
 use Rattle.marked_history.specs.declared.marks.Line.{Line}
 use Rattle.marked_history.specs.declared.marks.Why.{Why}
 use Rattle.marked_history.specs.declared.marks.Why.TheVariants as why
-use Rattle.marked_history.specs.Histories.{MayFollow, IsOfMachine}
+use Rattle.kernel_rules.specs.State.{Limits}
+use Rattle.kernel_invariant.proofs.SoundRuns.{limits_stay}
+use Rattle.seq_state.specs.Maps.{state_of}
+use Rattle.marked_history.specs.Histories.{events_of, MayFollow, IsOfMachine}
 use Rattle.marked_history.specs.Verdicts.{said_marks, marks_of, entered, decisions, AllFollow, LineFollows, AreHistory, FirstBreaks}
 use Rattle.marked_history.specs.Verdicts.{SaidFits, LinesFit, LineBreaks, Misnumbered, Numbered, AreLegal, BreakAt}
 use Rattle.history_check.specs.declared.judge.Judge.{Judge}
-use Rattle.history_check.specs.Judging.{seen_of, IsJudge, HasCome, HasRoom, RoomFor, MarkFound, JudgesMark, call_marks, MarksTaken, MarksFound}
-use Rattle.history_check.specs.Judging.{JudgesMarks, LineTaken, LineFound, JudgesLine, CallFits}
+use Rattle.history_check.specs.Judging.{seen_of, IsJudge, HasCome, HasRoom, RoomFor, MarkFound, JudgesMark, call_marks, MarksTaken, MarksFound, JudgesOthers}
+use Rattle.history_check.specs.Judging.{JudgesMarks, LineTaken, LineFound, JudgesLine, CallFits, core_of}
+
+pub ok_map : {A E : Type 0} {P Q : A → Type 0} (r : Result A E) → ((a : A) → P a → Q a) → IfOk r P → IfOk r Q
+ok_map (Ok a) f p = f a p
+ok_map (Err e) f p = tt
 
 -- ---- the three marks of a call made whole
 
+module _ (j : Judge) (c : ℕ) (r : Reply) where
+  pub decision_breaks : (j1 : Judge) (w : Why) → JudgesMark j (Decide c r) (Some w) j1 → JudgesOthers j c r (Some w) j1
+  decision_breaks j1 w one setting lim marks come room lt = inl (one setting lim marks come room lt)
+
+  pub return_found : (j1 j2 : Judge) (found : Option Why) → JudgesMark j (Decide c r) None j1 → JudgesMark j1 (Return c) found j2
+      → JudgesOthers j c r found j2
+  return_found j1 j2 found one two setting lim marks come room lt =
+      let decided : HasCome setting (Decide c r ∷ marks) j1 = one setting lim marks come room lt in
+      so setting marks found decided.history.1 (two setting lim (Decide c r ∷ marks) decided tt lt)
+    where
+      so : (setting : Setting) (marks : List Mark) (found : Option Why) → MayFollow setting marks (Decide c r)
+          → MarkFound setting (Decide c r ∷ marks) (Return c) found j2 → MarksFound setting marks (Decide c r ∷ Return c ∷ []) found j2
+      so setting marks None f left = record { follow = (f, (left.history.1, tt)); come = left }
+      so setting marks (Some w) f breaks = inr (f, inl breaks)
+
 module _ (j : Judge) (c : ℕ) (call : Call) (r : Reply) where
-  -- The first mark may not follow.
-  pub first_breaks : (j1 : Judge) (w : Why) → JudgesMark j (Enter c call) (Some w) j1 → JudgesMarks j c call r (Some w) j1
-  first_breaks j1 w one setting lim marks come room fit =
-      inl (one setting lim marks come (room.entries c) fit)
+  pub entry_breaks : (j1 : Judge) (w : Why) → JudgesMark j (Enter c call) (Some w) j1 → JudgesMarks j c call r (Some w) j1
+  entry_breaks j1 w one setting lim marks come room fit = inl (one setting lim marks come (room.entries c) fit)
 
-  module _ (j1 j2 : Judge) (one : JudgesMark j (Enter c call) None j1) where
-    -- The second may not.
-    pub second_breaks : (w : Why) → JudgesMark j1 (Decide c r) (Some w) j2 → JudgesMarks j c call r (Some w) j2
-    second_breaks w two setting lim marks come room fit =
-        let entered : HasCome setting (Enter c call ∷ marks) j1 = one setting lim marks come (room.entries c) fit in
-        inr (entered.history.1, inl (two setting lim (Enter c call ∷ marks) entered room.decisions fit.0))
-
-    -- The third is found so.
-    pub third_found : (j3 : Judge) (found : Option Why) → JudgesMark j1 (Decide c r) None j2 → JudgesMark j2 (Return c) found j3
-        → JudgesMarks j c call r found j3
-    third_found j3 found two three setting lim marks come room fit =
-        let entered : HasCome setting (Enter c call ∷ marks) j1 = one setting lim marks come (room.entries c) fit in
-        let decided : HasCome setting (Decide c r ∷ Enter c call ∷ marks) j2 =
-        two setting lim (Enter c call ∷ marks) entered room.decisions fit.0 in
-        so found entered.history.1 decided.history.1
-        (three setting lim (Decide c r ∷ Enter c call ∷ marks) decided tt fit.0)
-      where
-        so : {setting : Setting} {marks : List Mark} (found : Option Why) → MayFollow setting marks (Enter c call)
-            → MayFollow setting (Enter c call ∷ marks) (Decide c r)
-            → MarkFound setting (Decide c r ∷ Enter c call ∷ marks) (Return c) found j3
-            → MarksFound setting marks (call_marks c call r) found j3
-        so None f g left = record { follow = (f, (g, (left.history.1, tt))); come = left }
-        so (Some w) f g breaks = inr (f, inr (g, inl breaks))
+  pub others_found : (j1 j2 : Judge) (found : Option Why) → JudgesMark j (Enter c call) None j1 → JudgesOthers j1 c r found j2
+      → JudgesMarks j c call r found j2
+  others_found j1 j2 found one others setting lim marks come room fit =
+      let entered : HasCome setting (Enter c call ∷ marks) j1 = one setting lim marks come (room.entries c) fit in
+      so setting marks found entered.history.1 (others setting lim (Enter c call ∷ marks) entered room.decisions fit.0)
+    where
+      so : (setting : Setting) (marks : List Mark) (found : Option Why) → MayFollow setting marks (Enter c call)
+          → MarksFound setting (Enter c call ∷ marks) (Decide c r ∷ Return c ∷ []) found j2
+          → MarksFound setting marks (call_marks c call r) found j2
+      so setting marks None f taken = record { follow = (f, taken.follow); come = taken.come }
+      so setting marks (Some w) f breaks = inr (f, breaks)
 
 -- ---- a line
 
@@ -61,23 +69,23 @@ room_for marks (Return c) room = tt
 
 pub one_mark : (j j' : Judge) (m : Mark) (found : Option Why) → JudgesMark j m found j' → JudgesLine j (One m) found j'
 one_mark j j' m found judged setting lim marks come room fit =
-    so found (judged setting lim marks come (room_for marks m room) fit)
+    so setting marks found (judged setting lim marks come (room_for marks m room) fit)
   where
-    so : {setting : Setting} {marks : List Mark} (found : Option Why) → MarkFound setting marks m found j'
+    so : (setting : Setting) (marks : List Mark) (found : Option Why) → MarkFound setting marks m found j'
         → LineFound setting marks (One m) found j'
-    so None next = record { follows = record { numbered = tt; marks = (next.history.1, tt) }; come = next }
-    so (Some w) breaks = Numbered tt (inl breaks)
+    so setting marks None next = record { follows = record { numbered = tt; marks = (next.history.1, tt) }; come = next }
+    so setting marks (Some w) breaks = Numbered tt (inl breaks)
 
 module _ (j j' : Judge) (c i : ℕ) (call : Call) (r : Reply) where
   pub whole_call : (found : Option Why) → i ≡ (seen_of j.seen.items c).entered + 1 → JudgesMarks j c call r found j'
       → JudgesLine j (Whole c i call r) found j'
   whole_call found is judged setting lim marks come room fit =
-      so found (is ∙ ap (λ n. n + 1) (come.entered c)) (judged setting lim marks come room fit)
+      so setting marks found (is ∙ ap (λ n. n + 1) (come.entered c)) (judged setting lim marks come room fit)
     where
-      so : {setting : Setting} {marks : List Mark} (found : Option Why) → i ≡ entered marks c + 1
+      so : (setting : Setting) (marks : List Mark) (found : Option Why) → i ≡ entered marks c + 1
           → MarksFound setting marks (call_marks c call r) found j' → LineFound setting marks (Whole c i call r) found j'
-      so None is taken = record { follows = record { numbered = is; marks = taken.follow }; come = taken.come }
-      so (Some w) is breaks = Numbered is breaks
+      so setting marks None is taken = record { follows = record { numbered = is; marks = taken.follow }; come = taken.come }
+      so setting marks (Some w) is breaks = Numbered is breaks
 
   pub other_number : (i ≡ (seen_of j.seen.items c).entered + 1 → ⊥) → JudgesLine j (Whole c i call r) (Some why.Marks) j'
   other_number other setting lim marks come room fit = Misnumbered (λ is. other (is ∙ ap (λ n. n + 1) (sym (come.entered c))))
@@ -87,6 +95,19 @@ call_fits cores (One (Enter c call)) fit = fit.1
 call_fits cores (One (Decide c r)) fit = tt
 call_fits cores (One (Return c)) fit = tt
 call_fits cores (Whole c i call r) fit = fit.1
+
+-- A core that the machine does not have makes no mark.
+pub beyond : (setting : Setting) (marks : List Mark) (j : Judge) (m : Mark) → HasCome setting marks j
+    → (state_of j.kernel).limits.cores ≤ core_of m → IsOfMachine setting.cores m → ⊥
+beyond setting marks j m come past machine = omega (arith, past, cores, within m machine)
+  where
+    cores : (state_of j.kernel).limits.cores ≡ setting.cores
+    cores = ap (λ (l : Limits). l.cores) (come.kernel.limits ∙ limits_stay setting (events_of marks))
+
+    within : (n : Mark) → IsOfMachine setting.cores n → core_of n < setting.cores
+    within (Enter c call) is = is.0
+    within (Decide c r) is = is
+    within (Return c) is = is
 
 -- ---- room
 
@@ -143,33 +164,33 @@ room_at setting lines i lt few = record {
 
 module _ (setting : Setting) (lim : IsSetting setting) (lines : List Line) (i : ℕ) (d : Line) (lt : i < length lines)
     (few : length lines < 2 ^ 32) (fit : LinesFit setting.cores lines) (j j' : Judge) (goes : Goes setting lines i j) where
-  abbrev l : Line
-  l = get_or lines i d
-
   found_at : (found : Option Why) → JudgesLine j (get_or lines i d).said found j'
       → LineFound setting (marks_of (reverse (take i lines))) (get_or lines i d).said found j'
   found_at found judged = judged setting lim (marks_of (reverse (take i lines))) goes.come (room_at setting lines i lt few)
       (All-get_or (λ (x : Line). SaidFits setting.cores x.said) lines i d lt fit)
 
-  pub goes_on : IsJudge j' → JudgesLine j (get_or lines i d).said None j' → Goes setting lines (i + 1) j'
-  goes_on judge judged =
-      let taken = found_at None judged in
+  pub goes_on : d ≡ get_or lines i d → IsJudge j' → JudgesLine j d.said None j' → Goes setting lines (i + 1) j'
+  goes_on is judge judged =
+      let taken = found_at None (subst (λ (x : Line). JudgesLine j x.said None j') is judged) in
       record {
         history = subst (AreHistory setting) (sym (one_line lines i d lt)) (goes.history, taken.follows);
         come = subst (λ ls. HasCome setting (marks_of ls) j') (sym (one_line lines i d lt)) taken.come;
         judge = judge;
       }
 
-  pub breaks_at : (w : Why) → JudgesLine j (get_or lines i d).said (Some w) j' → BreakAt setting lines (get_or lines i d).number w
-  breaks_at w judged = record {
-    before = take i lines;
-    line = get_or lines i d;
-    rest = drop (i + 1) lines;
-    are = sym (take-append-drop i lines) ∙ ap (λ ls. take i lines ++ ls) (drop_more lines i d lt);
-    is_number = refl;
-    history = goes.history;
-    breaks = found_at (Some w) judged;
-  }
+  pub breaks_at : (w : Why) → d ≡ get_or lines i d → JudgesLine j d.said (Some w) j' → BreakAt setting lines d.number w
+  breaks_at w is judged = subst (λ (x : Line). BreakAt setting lines x.number w) (sym is) here
+    where
+      here : BreakAt setting lines (get_or lines i d).number w
+      here = record {
+        before = take i lines;
+        line = get_or lines i d;
+        rest = drop (i + 1) lines;
+        are = sym (take-append-drop i lines) ∙ ap (λ ls. take i lines ++ ls) (drop_more lines i d lt);
+        is_number = refl;
+        history = goes.history;
+        breaks = found_at (Some w) (subst (λ (x : Line). JudgesLine j x.said (Some w) j') is judged);
+      }
 
 pub all_legal : (setting : Setting) (lines : List Line) (i : ℕ) (j : Judge) → Goes setting lines i j → length lines ≤ i
     → AreLegal setting lines j.decided

@@ -18,17 +18,20 @@ use Rattle.seq_state.specs.Maps.{Maps, state_of}
 use Rattle.seq_state.specs.Representation.{Represents}
 use Rattle.seq_state.proofs.Same.{same_then}
 use Rattle.seq_plans.specs.Refusals.{Decides}
+use Rattle.call_judge.specs.Judged.{IsDecided, IsJudged, JudgesExactly}
 use Rattle.plain_kernel.proofs.Stepping.{entered_same, returned_same}
 use Rattle.marked_history.specs.declared.marks.Mark.{Mark}
 use Rattle.marked_history.specs.declared.marks.Mark.TheVariants.{Enter, Decide, Return}
 use Rattle.marked_history.specs.Histories.{with_decision, events_of, phase, state, IsOther, IsAnotherIn, enters, Unless, HasMet, MayBeHeldUp}
 use Rattle.marked_history.specs.Histories.{CanBeDecided, MayDecideIn, IsOfMachine, IsHistory}
-use Rattle.marked_history.specs.Verdicts.{entered, decisions}
+use Rattle.marked_history.specs.declared.marks.Why.TheVariants as why
+use Rattle.marked_history.specs.Verdicts.{entered, decisions, MarkBreaks}
+use Rattle.marked_history.proofs.Running.{histories_run}
 use Rattle.history_check.specs.declared.seen.At.{At}
 use Rattle.history_check.specs.declared.seen.At.TheVariants as at
 use Rattle.history_check.specs.declared.seen.Seen.{Seen}
 use Rattle.history_check.specs.declared.judge.Judge.{Judge}
-use Rattle.history_check.specs.Judging.{at_of, is_inside, no_one, seen_of, IsAnotherSeen, is_alone, is_held_up, HasCome}
+use Rattle.history_check.specs.Judging.{at_of, is_inside, no_one, seen_of, IsAnotherSeen, is_alone, alone_after, is_held_up, HasCome}
 use Rattle.history_check.proofs.Cores.{inside_is, out_is, open_is, decided_is, of_each, seen_own, seen_other, here, apart, turned}
 
 -- ---- who is met
@@ -74,11 +77,6 @@ leaves_kernel setting marks c k k' lt was is =
     (returned_same (state_of k) (state setting marks) c (core_within setting marks c lt) was)
 
 -- ---- a core enters
-
--- The core that enters is alone, unless another is in a call.
-abbrev pub alone_after : Bool → ℕ → Option ℕ
-alone_after true c = None
-alone_after false c = Some c
 
 module _ (setting : Setting) (marks : List Mark) (j j' : Judge) (come : HasCome setting marks j) (c : ℕ) (call : Call) where
   phase_entered : (d : ℕ) → d ≢ c → phase (Enter c call ∷ marks) d ≡ phase marks d
@@ -186,13 +184,38 @@ module _ (setting : Setting) (marks : List Mark) (j j' : Judge) (come : HasCome 
       beside d other false is = λ o. false≢true (is ∙ o.inside)
   held_up _ = tt
 
-  pub has_decided : (s : Seen) → length j.seen.items ≡ 8 → c < 8 → c < setting.cores
-      → MayBeHeldUp marks c r → MayReply (state setting marks) c call r
+  held_so : (held : Bool) → held ≡ is_held_up j.alone j.seen.items c r → held ≡ true → MayBeHeldUp marks c r
+  held_so held is holds = subst (λ b. Decides b (MayBeHeldUp marks c r)) (sym is ∙ holds) (held_up r)
+
+  judged : IsSetting setting → (b : Bool) (k' : Maps) → JudgesExactly j.kernel c call r b k' → IsJudged (state setting marks) c call r b k'
+  judged lim b k' exact = exact setting lim (events_of marks) (histories_run setting marks come.history) opens come.kernel
+
+  -- Nobody holds it up so.
+  pub race_breaks : (held : Bool) → held ≡ is_held_up j.alone j.seen.items c r → held ≡ false → MarkBreaks setting marks (Decide c r) why.Race
+  race_breaks held is fails = (can_decide, subst (λ b. Decides b (MayBeHeldUp marks c r)) (sym is ∙ fails) (held_up r))
+
+  -- The call relation does not permit it.
+  pub reply_breaks : IsSetting setting → (held b : Bool) (k' : Maps) → held ≡ is_held_up j.alone j.seen.items c r → held ≡ true
+      → JudgesExactly j.kernel c call r b k' → b ≡ false → MarkBreaks setting marks (Decide c r) why.Reply
+  reply_breaks lim held b k' is holds exact fails = (
+    can_decide,
+    held_so held is holds,
+    λ may.
+        (subst (λ x. IsJudged (state setting marks) c call r x k') fails (judged lim b k' exact)).forbidden
+        (subst (λ p. MayDecideIn p (state setting marks) c r) opens may),
+  )
+
+  pub has_decided : (s : Seen) → IsSetting setting → length j.seen.items ≡ 8 → c < 8 → c < setting.cores
+      → (held b : Bool) (k' : Maps) → held ≡ is_held_up j.alone j.seen.items c r → held ≡ true
+      → JudgesExactly j.kernel c call r b k' → b ≡ true → j'.kernel ≡ k'
       → s.at ≡ at.Decided → s.entered ≡ (seen_of j.seen.items c).entered
       → j'.seen.items ≡ slice_set j.seen.items c s → j'.alone ≡ j.alone → j'.decided ≡ j.decided + 1
-      → Represents j'.kernel (state_by (state setting marks) c call r)
       → HasCome setting (Decide c r ∷ marks) j'
-  has_decided s eight few machine held may is_decided same seen alone decided kernel =
+  has_decided s lim eight few machine held b k' is holds exact so kernel_is is_decided same seen alone decided =
+      let verdict : IsDecided (state setting marks) c call r k' =
+      subst (λ x. IsJudged (state setting marks) c call r x k') so (judged lim b k' exact) in
+      let kernel : Represents j'.kernel (state_by (state setting marks) c call r) =
+      subst (λ k. Represents k (state_by (state setting marks) c call r)) (sym kernel_is) verdict.state in
       let long : c < length j.seen.items = subst (λ n. c < n) (sym eight) few in
       let own : seen_of j'.seen.items c ≡ s = ap (λ l. seen_of l c) seen ∙ seen_own j.seen.items c s long in
       let others : (d : ℕ) → d ≢ c → seen_of j'.seen.items d ≡ seen_of j.seen.items d =
@@ -203,8 +226,8 @@ module _ (setting : Setting) (marks : List Mark) (j j' : Judge) (come : HasCome 
           record {
             machine = machine;
             order = can_decide;
-            held_up = held;
-            permitted = subst (λ p. MayDecideIn p (state setting marks) c r) (sym opens) may;
+            held_up = held_so held is holds;
+            permitted = subst (λ p. MayDecideIn p (state setting marks) c r) (sym opens) verdict.permitted;
           },
         );
         kernel = subst (λ p. Represents j'.kernel (after setting (with_decision p c r (events_of marks)))) (sym opens) kernel;

@@ -66,6 +66,11 @@ abbrev pub is_alone : Option ℕ → ℕ → Bool
 is_alone None c = false
 is_alone (Some d) c = c == d
 
+-- The core that is alone after core c has entered a call: that core, unless another is in a call.
+abbrev pub alone_after : Bool → ℕ → Option ℕ
+alone_after true c = None
+alone_after false c = Some c
+
 -- ---- a judge after marks
 
 -- The judge has come to the end of these marks: they are a history; its kernel represents the state that they leave; it sees where each
@@ -115,6 +120,11 @@ pub record MarksTaken (setting : Setting) (before marks : List Mark) (j : Judge)
 abbrev pub MarksFound : Setting → List Mark → List Mark → Option Why → Judge → Type 0
 MarksFound setting before marks None j = MarksTaken setting before marks j
 MarksFound setting before marks (Some w) j = FirstBreaks setting before marks w
+
+-- So it is of a decision and the return after it, and of the three marks.
+abbrev pub JudgesOthers : Judge → ℕ → Reply → Option Why → Judge → Type 0
+JudgesOthers j c r found j' = (setting : Setting) → IsSetting setting → (marks : List Mark) → HasCome setting marks j
+    → decisions marks + 1 < 2 ^ 32 → c < setting.cores → MarksFound setting marks (Decide c r ∷ Return c ∷ []) found j'
 
 abbrev pub JudgesMarks : Judge → ℕ → Call → Reply → Option Why → Judge → Type 0
 JudgesMarks j c call r found j' = (setting : Setting) → IsSetting setting → (marks : List Mark) → HasCome setting marks j → HasRoom marks

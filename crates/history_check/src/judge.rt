@@ -7,8 +7,8 @@ ghost use Rattle.seq_state.specs.Maps.{state_of};
 ghost use Rattle.marked_history.specs.Histories.{IsOfMachine};
 ghost use Rattle.marked_history.specs.declared.marks.Mark.TheVariants as mark;
 ghost use Rattle.marked_history.specs.declared.marks.Said.TheVariants as said;
-ghost use Rattle.history_check.specs.Judging.{HasCome, IsJudge, AtFits, JudgesMark, JudgesMarks, JudgesLine, MarkFits, CallFits};
-ghost use Rattle.history_check.specs.Judging.{core_of, seen_of};
+ghost use Rattle.history_check.specs.Judging.{HasCome, IsJudge, AtFits, JudgesMark, JudgesOthers, JudgesMarks, JudgesLine, MarkFits, CallFits};
+ghost use Rattle.history_check.specs.Judging.{core_of, seen_of, alone_after};
 
 use crate::seen::{At, Seen, is_another_in, is_held_up, no_ones};
 use call_judge::decide_by;
@@ -55,6 +55,13 @@ fn see(judge: &mut Judge, core: CoreNo, seen: Seen)
     judge.seen[usize::from(core.number())] = seen;
 }
 
+// The core that is alone after this one has entered a call.
+fn alone_after(another: bool, core: CoreNo) -> Option<CoreNo>
+    ensures { result ≡ alone_after another core }
+{
+    if another { None } else { Some(core) }
+}
+
 // The core enters a call.
 fn enter(judge: &mut Judge, core: CoreNo, call: &Call) -> Option<Why>
     requires judge { IsJudge judge.old }
@@ -76,7 +83,7 @@ fn enter(judge: &mut Judge, core: CoreNo, call: &Call) -> Option<Why>
             entered: entered.saturating_add(1),
         },
     );
-    judge.alone = if another { None } else { Some(core) };
+    judge.alone = alone_after(another, core);
     judge.kernel.enter(core);
     None
 }
@@ -175,6 +182,31 @@ fn is_next(judge: &Judge, core: CoreNo, index: u64) -> bool
     0 < index && index - 1 == entered
 }
 
+// Takes the decision of a call and the return after it.
+fn take_others(
+    alloc: Global,
+    judge: &mut Judge,
+    core: CoreNo,
+    reply: &Reply,
+) -> Result<Option<Why>, Memory>
+    requires { IsJudge judge.old }
+    ensures judge { IsJudge judge.new }
+    ensures exact { IfOk result (λ w. JudgesOthers judge.old core reply.now w judge.new) }
+{
+    let decided = take_mark(
+        alloc,
+        judge,
+        &Mark::Decide {
+            core,
+            reply: *reply,
+        },
+    )?;
+    match decided {
+        Some(why) => Ok(Some(why)),
+        None => take_mark(alloc, judge, &Mark::Return { core }),
+    }
+}
+
 // Takes the three marks of a call made whole.
 fn take_marks(
     alloc: Global,
@@ -189,21 +221,10 @@ fn take_marks(
     ensures exact { IfOk result (λ w. JudgesMarks judge.old core call.now reply.now w judge.new) }
 {
     let entered = take_mark(alloc, judge, &Mark::Enter { core, call: *call })?;
-    if entered.is_some() {
-        return Ok(entered);
+    match entered {
+        Some(why) => Ok(Some(why)),
+        None => take_others(alloc, judge, core, reply),
     }
-    let decided = take_mark(
-        alloc,
-        judge,
-        &Mark::Decide {
-            core,
-            reply: *reply,
-        },
-    )?;
-    if decided.is_some() {
-        return Ok(decided);
-    }
-    take_mark(alloc, judge, &Mark::Return { core })
 }
 
 /// Takes a line, or tells why it may not follow.

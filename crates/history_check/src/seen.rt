@@ -25,16 +25,31 @@ pub struct Seen {
     pub entered: u64,
 }
 
+// A core that has entered no call.
+fn no_one() -> Seen
+    ensures { result ≡ no_one }
+{
+    Seen {
+        at: At::Out,
+        entered: 0,
+    }
+}
+
 /// Eight cores that have entered no call.
 pub fn no_ones(alloc: Global) -> Result<Vec<Seen>, AllocError>
     ensures { IfOk result (λ seen. seen.items ≡ replicate 8 no_one) }
 {
     let _made: Option<Make> = None;
-    let none = Seen {
-        at: At::Out,
-        entered: 0,
-    };
-    let seen = vec![in alloc; none, none, none, none, none, none, none, none]?;
+    let seen = vec![in alloc;
+        no_one(),
+        no_one(),
+        no_one(),
+        no_one(),
+        no_one(),
+        no_one(),
+        no_one(),
+        no_one(),
+    ]?;
     Ok(seen)
 }
 

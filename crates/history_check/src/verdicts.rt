@@ -15,13 +15,19 @@ pub fn verdict(alloc: Global, setup: &Setup, lines: &[Line]) -> Result<Verdict, 
     requires few { length lines.now < 2 ^ 32 }
     ensures { IfOk result (λ v. IsVerdict setup.now lines.now v) }
 {
+    // The check asks for the limits of the setup where they are read.
+    let _limits = setup.cores();
     let mut judge = begin(alloc, setup)?;
     'lines: for line in lines {
-        if let Some(why) = take_line(alloc, &mut judge, &line.said)? {
-            return Ok(Verdict::Illegal {
-                line: line.number,
-                why,
-            });
+        let found = take_line(alloc, &mut judge, &line.said)?;
+        match found {
+            Some(why) => {
+                return Ok(Verdict::Illegal {
+                    line: line.number,
+                    why,
+                });
+            }
+            None => {}
         }
     }
     Ok(Verdict::Legal {
