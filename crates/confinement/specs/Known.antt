@@ -1,10 +1,8 @@
 -- What is known of where capabilities come from, and when it stands for the events of a run.
-use Rattle.std.specs.Prelude.{◌≡◌, ◌<◌, ◌+◌, ◌^◌, ℕ, ◌==◌, ◌&&◌, if◌then◌else◌, List, [], ◌∷◌, Option, Some, None, IsSome}
-use Rattle.std.specs.Option.{option_map, option_and_then}
+use Rattle.std.specs.Prelude.{◌≡◌, ◌<◌, ◌^◌, ℕ, ◌==◌, ◌&&◌, if◌then◌else◌, List, [], ◌∷◌, Option, Some, None, IsSome}
 use Rattle.spk_nums.specs.Setting.{Setting, IsSetting}
-use Rattle.kernel_rules.specs.Access.{Slot}
 use Rattle.kernel_rules.specs.Runs.{Event, after, IsRun}
-use Rattle.seq_state.specs.Maps.{Maps, state_of}
+use Rattle.seq_state.specs.Maps.{Maps}
 use Rattle.seq_state.specs.Representation.{Represents}
 use Rattle.origin_rules.specs.declared.chains.Step.{Step}
 use Rattle.origin_rules.specs.Chains.{Origin, ChainValue, Put, decided, origin_of, chain_of}
@@ -32,6 +30,11 @@ abbrev pub PutsIn : Table → ℕ → Put → Table → Type 0
 PutsIn t d p t' = (o : Origin) → t.origin p.parent.node p.parent.index ≡ Some o → IsSome (t.origin p.at.node p.at.index)
     → (f i : ℕ) → i < 64
     → t'.origin f i ≡ (if f == p.at.node && i == p.at.index then Some (put_origin d p.what o) else t.origin f i)
+
+-- Where a decision puts nothing, all is as before.
+abbrev pub PutsBy : Table → ℕ → Option Put → Table → Type 0
+PutsBy t d None t' = t' ≡ t
+PutsBy t d (Some p) t' = PutsIn t d p t'
 
 -- The sequential kernel's state, the origin of each place, and how many calls were decided.
 pub record Known : Type 0 where

@@ -1,7 +1,7 @@
 -- Links that chains share: each link has the place of the one at which its chain goes on.
-use Rattle.std.specs.Prelude.{◌≡◌, ◌<◌, ◌+◌, ◌*◌, ℕ, zero, suc, List, [], ◌∷◌, length, slice_get, Option, Some, None, IsSome}
+use Rattle.std.specs.Prelude.{◌≡◌, ◌<◌, ◌+◌, ◌*◌, ◌%◌, ◌==◌, if◌then◌else◌, ℕ, zero, suc, List, [], ◌∷◌, length, slice_get}
+use Rattle.std.specs.Prelude.{Option, Some, None}
 use Rattle.std.specs.Option.{option_map}
-use Rattle.kernel_rules.specs.Access.{Slot}
 use Rattle.seq_state.specs.Maps.{at_place}
 use Rattle.origin_rules.specs.declared.chains.ChainLink.{ChainLink}
 use Rattle.origin_rules.specs.Chains.{Origin}
@@ -45,6 +45,10 @@ origin_in kept h = record { links = chain_from kept (length kept) h.first; start
 abbrev pub table_of : Inside → Table
 table_of t = record { origin = λ f i. option_map (origin_in t.kept.items) (at_place t.heads.items f i) }
 
--- The first of n frames' places each have their own index.
+-- The first n places have no link, and each its own index.
 abbrev pub StartsAll : ℕ → List Head → Type 0
-StartsAll frames heads = (f i : ℕ) → f < frames → i < 64 → slice_get heads (64 * f + i) ≡ Some record { first = None; start = i }
+StartsAll n heads = (k : ℕ) → k < n → slice_get heads k ≡ Some record { first = None; start = k % 64 }
+
+-- The place has this head, if there is such a place; all others are as before.
+abbrev pub IsHeadSet : List Head → ℕ → Head → List Head → Type 0
+IsHeadSet old key h new = (k : ℕ) → slice_get new k ≡ (if k == key then option_map (λ x. h) (slice_get old k) else slice_get old k)

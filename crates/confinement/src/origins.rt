@@ -111,9 +111,7 @@ impl Origins {
         }
         let decision = self.decided.saturating_add(1);
         let put = puts_by(&self.kernel, core, call, reply);
-        if let Some(put) = put {
-            self.table.put(decision, &put)?;
-        }
+        self.table.put_by(decision, &put)?;
         let _permitted = decide_by(self.alloc, &mut self.kernel, core, call, reply)?;
         self.decided = decision;
         Ok(())

@@ -1,11 +1,11 @@
 //! The origin of each place, in links that chains share.
 
-ghost use Rattle.std.specs.Prelude.{◌≡◌, ◌<◌, ◌≤◌, ◌++◌, [], ◌∷◌, Some, IfOk, OnOk, OnErr, IsSome, length};
+ghost use Rattle.std.specs.Prelude.{◌≡◌, ◌<◌, ◌≤◌, ◌+◌, ◌*◌, ℕ, Some, IfOk, OnOk, OnErr, length};
 ghost use Rattle.std.specs.Option.{option_map};
 ghost use Rattle.seq_state.specs.Maps.{at_place};
 ghost use Rattle.origin_rules.specs.Chains.{with_origin};
-ghost use Rattle.confinement.specs.Links.{chain_from, GoOn, IsBelow, StartsAll};
-ghost use Rattle.confinement.specs.Known.{origin_at_start, PutsIn, put_of};
+ghost use Rattle.confinement.specs.Links.{chain_from, GoOn, IsBelow, StartsAll, IsHeadSet};
+ghost use Rattle.confinement.specs.Known.{origin_at_start, PutsIn, PutsBy, put_of};
 
 use crate::chain::Chain;
 use crate::puts::Put;
@@ -51,7 +51,7 @@ impl Model for OriginTable {
 /// The origin of each place at the start is the capability itself. The frames are at most 512.
 fn all_heads(alloc: Global, frames: u16) -> Result<Vec<Head>, AllocError>
     requires { frames ≤ 512 }
-    ensures { IfOk result (λ v. StartsAll frames v.items) }
+    ensures { IfOk result (λ v. StartsAll (64 * frames) v.items) }
 {
     let mut heads = Vec::new(alloc);
     'each: for key in 0..64 * frames {
@@ -79,7 +79,7 @@ fn head_at(heads: &Vec<Head>, at: Slot) -> Option<Head>
 
 /// Sets where the chain of a slot begins; changes nothing past the machine's places.
 fn set_head(heads: &mut Vec<Head>, at: Slot, head: Head)
-    ensures { IsHeadSet heads.old.items at head heads.new.items }
+    ensures { IsHeadSet heads.old.items (64 * at.node + at.index) head heads.new.items }
 {
     let key = key_of(at);
     if key < heads.len() {
@@ -122,7 +122,7 @@ impl OriginTable {
 
     /// A decision puts a capability: its origin is the decision, and after it that of its parent as it is now. Want of memory leaves
     /// all as before.
-    pub fn put(&mut self, decision: u32, put: &Put) -> Result<(), AllocError>
+    fn put(&mut self, decision: u32, put: &Put) -> Result<(), AllocError>
         ensures kept { OnErr result (self.new ≡ self.old) }
         ensures exact { OnOk result (PutsIn self.old decision (put_of put.now) self.new) }
     {
@@ -144,6 +144,17 @@ impl OriginTable {
         };
         set_head(&mut self.heads, put.at, head);
         Ok(())
+    }
+
+    /// A decision puts a capability, or none. Want of memory leaves all as before.
+    pub fn put_by(&mut self, decision: u32, put: &Option<Put>) -> Result<(), AllocError>
+        ensures kept { OnErr result (self.new ≡ self.old) }
+        ensures exact { OnOk result (PutsBy self.old decision (option_map put_of put.now) self.new) }
+    {
+        match put {
+            None => Ok(()),
+            Some(put) => self.put(decision, put),
+        }
     }
 
     /// The capability with the origin of the place at a slot; None where the machine does not have the place.

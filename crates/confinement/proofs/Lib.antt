@@ -1,0 +1,4 @@
+pub mod Chains
+pub mod Tables
+pub mod Putting
+pub mod Standing

@@ -1,0 +1,82 @@
+-- What a call puts is the same in two states that are one for all that the machine has, one of them reached.
+use Rattle.std.proofs.Common.{◌≡◌, ℕ, Bool, true, false, refl, sym, ◌∙◌, ap, Option, Some, None, IsTrue}
+use Rattle.std.proofs.lemmas.Bool.{false≢true}
+use Rattle.spk_nums.specs.Capability.{Capability}
+use Rattle.spk_nums.specs.declared.kinds.Kind.TheVariants as kind
+use Rattle.spk_nums.specs.declared.calls.Call.{Call}
+use Rattle.spk_nums.specs.declared.calls.Call.TheVariants.{Copy, Make as make_call, Gate}
+use Rattle.spk_nums.specs.declared.replies.Reply.{Reply}
+use Rattle.spk_nums.specs.declared.replies.Reply.TheVariants as reply
+use Rattle.kernel_rules.specs.State.{State}
+use Rattle.kernel_rules.specs.Access.{Slot, Under, only, to_use, own, reached}
+use Rattle.kernel_rules.specs.Rules.{Judged, Refused, Found, named, name_of}
+use Rattle.kernel_rules.specs.Relies.{is_node}
+use Rattle.kernel_invariant.proofs.Facts.{none_some, some_inj}
+use Rattle.same_changes.proofs.Reaching.{Twins, IsSlot, RootGood, own_good, own_same, reached_same, named_same, slot_good}
+use Rattle.same_changes.proofs.TimeRules.{named_table}
+use Rattle.origin_rules.specs.declared.chains.Step.{Step}
+use Rattle.origin_rules.specs.declared.chains.Step.TheVariants.{Copied, Made, Gated}
+use Rattle.origin_rules.specs.Chains.{Put, slot_named, slot_under, put_from, puts, puts_by}
+
+-- ---- the parts of a put
+
+pub record Parts (what : Step) (parent at : Option Slot) (p : Put) : Type 0 where
+  pub parent : parent ≡ Some p.parent
+  pub at : at ≡ Some p.at
+
+put_parts : (what : Step) (parent at : Option Slot) (p : Put) → put_from what parent at ≡ Some p → Parts what parent at p
+put_parts what (Some a) (Some b) p e =
+    let is = some_inj _ p e in
+    record { parent = ap (λ (q : Put). Some q.parent) is; at = ap (λ (q : Put). Some q.at) is }
+put_parts what (Some a) None p e = absurd (none_some p e)
+put_parts what None at p e = absurd (none_some p e)
+
+module _ {t s : State} {o : ℕ → Bool} {c : ℕ} (w : Twins t s o c) where
+  named_slot_same : (n : ℕ) → slot_named t c n ≡ slot_named s c n
+  named_slot_same n = ap (reached t c) (own_same w n) ∙ reached_same w (own s c n) (own_good w n)
+
+  table_good : (n b : ℕ) → RootGood s (Under (name_of (named s c n (to_use (only kind.Table)))) b)
+  table_good n b = by_named (named s c n (to_use (only kind.Table))) refl
+    where
+      by_named : (j : Judged Capability) → named s c n (to_use (only kind.Table)) ≡ j → (name_of j).found ≡ true
+          → IsTrue (is_node (s.frame (name_of j).frame))
+      by_named (Refused r) is found = absurd (false≢true found)
+      by_named (Found k) is found = named_table w n k is
+
+  under_same : (n b : ℕ) → slot_under t c n b ≡ slot_under s c n b
+  under_same n b = ap (λ j. reached t c (Under (name_of j) b)) (named_same w n (to_use (only kind.Table)))
+      ∙ reached_same w (Under (name_of (named s c n (to_use (only kind.Table)))) b) (table_good n b)
+
+  puts_same : (call : Call) → puts t c call ≡ puts s c call
+  puts_same (Copy a x b rights) = λ i. put_from Copied (named_slot_same a i) (under_same x b i)
+  puts_same (make_call what r f x b) = λ i. put_from Made (named_slot_same r i) (under_same x b i)
+  puts_same (Gate k x b) = λ i. put_from Gated (named_slot_same k i) (under_same x b i)
+  puts_same call = refl
+
+  pub puts_by_same : (call : Call) (r : Reply) → puts_by t c call r ≡ puts_by s c call r
+  puts_by_same call (reply.Ok v) = puts_same call
+  puts_by_same call r = refl
+
+  -- ---- both slots are the machine's
+
+  pub record AreSlots (p : Put) : Type 0 where
+    pub parent : IsSlot s p.parent
+    pub at : IsSlot s p.at
+
+  slots_of : (what : Step) (n x b : ℕ) (p : Put) → put_from what (slot_named s c n) (slot_under s c x b) ≡ Some p → AreSlots p
+  slots_of what n x b p e =
+      let parts = put_parts what (slot_named s c n) (slot_under s c x b) p e in
+      record {
+        parent = slot_good w (own s c n) p.parent (own_good w n) parts.parent;
+        at = slot_good w (Under (name_of (named s c x (to_use (only kind.Table)))) b) p.at (table_good x b) parts.at;
+      }
+
+  put_slots : (call : Call) (p : Put) → puts s c call ≡ Some p → AreSlots p
+  put_slots (Copy a x b rights) p e = slots_of Copied a x b p e
+  put_slots (make_call what r f x b) p e = slots_of Made r x b p e
+  put_slots (Gate k x b) p e = slots_of Gated k x b p e
+  put_slots call p e = absurd (none_some p e)
+
+  pub puts_slots : (call : Call) (r : Reply) (p : Put) → puts_by s c call r ≡ Some p → AreSlots p
+  puts_slots call (reply.Ok v) p e = put_slots call p e
+  puts_slots call r p e = absurd (none_some p e)

@@ -1,0 +1,232 @@
+-- The origins stand for one event more.
+use Rattle.std.proofs.Common.{◌≡◌, inl, inr, ℕ, ◌+◌, ◌<◌, ◌==◌, ◌&&◌, ◌^◌, Bool, true, false, nat_lt, refl, sym, ◌∙◌, ap, subst}
+use Rattle.std.proofs.Common.{List, [], ◌∷◌, Option, Some, None, is_some, if◌then◌else◌}
+use Rattle.std.proofs.lemmas.Bool.{cases_eq, false≢true, and_parts, ltb-true}
+use Rattle.std.specs.Option.{option_map}
+use Rattle.spk_nums.specs.Capability.{Capability}
+use Rattle.spk_nums.specs.Setting.{Setting, IsSetting}
+use Rattle.spk_nums.specs.declared.calls.Call.{Call}
+use Rattle.spk_nums.specs.declared.replies.Reply.{Reply}
+use Rattle.kernel_rules.specs.State.{Core, Grace, Limits, State, with_core, put}
+use Rattle.kernel_rules.specs.Start.{start}
+use Rattle.kernel_rules.specs.GracePeriods.{entered, returned, passed}
+use Rattle.kernel_rules.specs.CallRelation.{MayReply, state_by}
+use Rattle.kernel_rules.specs.Runs.{Event, Enters, Decides, Returns, core_of, after, Open, Out, is_decided, phase_of, IsRun}
+use Rattle.kernel_invariant.proofs.Facts.{none_some}
+use Rattle.kernel_invariant.proofs.SoundRuns.{phase_own, phase_other, limits_stay, opened}
+use Rattle.seq_state.specs.Maps.{Maps, state_of}
+use Rattle.seq_state.specs.Representation.{SameGrace, SameState, Represents}
+use Rattle.seq_state.proofs.Same.{same_by, same_then, same_core}
+use Rattle.same_changes.proofs.Reaching.{Twins}
+use Rattle.same_changes.proofs.EveryCall.{twins}
+use Rattle.call_judge.specs.Judged.{JudgesExactly, IsJudged}
+use Rattle.origin_rules.specs.Chains.{Origin, ChainValue, Put, puts_by, with_put, decided, origin_of, held_at, own_cap, with_origin, chain_of}
+use Rattle.confinement.specs.Known.{Table, Known, StandsFor, Takes, PutsBy, IsChainOf, origin_at_start, put_origin}
+use Rattle.confinement.proofs.Putting.{AreSlots, puts_by_same, puts_slots}
+
+-- ---- states that are one for the machine
+
+core_step : (t s : State) (c : ℕ) (f : Core → Core) → c < s.limits.cores → SameState t s
+    → SameState (with_core t c (f (t.core c))) (with_core s c (f (s.core c)))
+core_step t s c f below e = same_then _ _ _ (same_by _ _ (ap (λ k. with_core t c (f k)) (e.core c below)))
+    (same_core t s c (f (s.core c)) e)
+
+entered_same : (t s : State) (c : ℕ) → c < s.limits.cores → SameState t s → SameState (entered t c) (entered s c)
+entered_same t s c below e = core_step t s c (λ k. record k { inside = true }) below e
+
+put_both : (f k : ℕ → Bool) (c d : ℕ) → f d ≡ k d → put f c false d ≡ put k c false d
+put_both f k c d same = ap (λ b. if d == c then false else b) same
+
+test_both : (a b : Bool) (f k f' k' : ℕ → Bool) (d : ℕ) → a ≡ b → f d ≡ k d → f' d ≡ k' d
+    → (if a then f else f') d ≡ (if b then k else k') d
+test_both a b f k f' k' d e on off = ap (λ x. (if x then f else f') d) e ∙ chosen b
+  where
+    chosen : (x : Bool) → (if x then f else f') d ≡ (if x then k else k') d
+    chosen true = on
+    chosen false = off
+
+passed_same : (n c : ℕ) (g h : Grace) → c < n → SameGrace n g h → SameGrace n (passed c g) (passed c h)
+passed_same n c g h below e = record {
+  waits = λ d less. put_both g.waits h.waits c d (e.waits d less);
+  not_passed = λ d less. test_both (g.waits c) (h.waits c) g.not_passed h.not_passed (put g.not_passed c false) (put h.not_passed c false) d
+      (e.waits c below) (e.not_passed d less) (put_both g.not_passed h.not_passed c d (e.not_passed d less));
+  unflushed = e.unflushed;
+  flush_unknown = λ d less. test_both (g.unflushed c) (h.unflushed c) g.flush_unknown h.flush_unknown (put g.flush_unknown c false)
+      (put h.flush_unknown c false) d
+      (e.unflushed c below) (e.flush_unknown d less) (put_both g.flush_unknown h.flush_unknown c d (e.flush_unknown d less));
+}
+
+returned_same : (t s : State) (c : ℕ) → c < s.limits.cores → SameState t s → SameState (returned t c) (returned s c)
+returned_same t s c below e =
+    let cores = core_step t s c (λ k. record k { inside = false }) below e in
+    record {
+      limits = e.limits;
+      place = e.place;
+      frame = e.frame;
+      number = e.number;
+      core = cores.core;
+      grace = λ x is. passed_same s.limits.cores c (t.grace x) (s.grace x) below (e.grace x is);
+    }
+
+-- ---- the machine's cores and frames
+
+cores_of : (setting : Setting) (events : List Event) (k : Maps) → Represents k (after setting events)
+    → (state_of k).limits.cores ≡ setting.cores
+cores_of setting events k same = ap (λ (l : Limits). l.cores) (same.limits ∙ limits_stay setting events)
+
+frames_of : (setting : Setting) (events : List Event) → (after setting events).limits.frames ≡ setting.frames
+frames_of setting events = ap (λ (l : Limits). l.frames) (limits_stay setting events)
+
+core_here : (setting : Setting) (events : List Event) (c : ℕ) → c < setting.cores → c < (after setting events).limits.cores
+core_here setting events c below = subst (λ (l : Limits). c < l.cores) (sym (limits_stay setting events)) below
+
+-- ---- a core enters, and returns
+
+pub enters : (o : Known) (k : Maps) (c : ℕ) (call : Call) → Represents k (entered (state_of o.kernel) c)
+    → Takes o (Enters c call) (record o { kernel = k })
+enters o k c call new setting lim events run few stands = record {
+  kernel = same_then _ _ _ new (entered_same (state_of o.kernel) (after setting events) c
+      (core_here setting events c run.1.is_core) stands.kernel);
+  origins = stands.origins;
+  decided = stands.decided;
+}
+
+pub returns : (o : Known) (k : Maps) (c : ℕ) → c < (state_of o.kernel).limits.cores → Represents k (returned (state_of o.kernel) c)
+    → Takes o (Returns c) (record o { kernel = k })
+returns o k c below new setting lim events run few stands = record {
+  kernel = same_then _ _ _ new (returned_same (state_of o.kernel) (after setting events) c
+      (subst (λ (l : Limits). c < l.cores) stands.kernel.limits below) stands.kernel);
+  origins = stands.origins;
+  decided = stands.decided;
+}
+
+-- ---- each event is of a core of the machine
+
+not_open : (call : Call) → Open call ≡ Out → ⊥
+not_open call e = cc
+
+in_machine : (setting : Setting) (events : List Event) → IsRun setting events → (c : ℕ) → (phase_of events c ≡ Out → ⊥) → c < setting.cores
+in_machine setting [] run c other = absurd (other refl)
+in_machine setting (Enters d call ∷ events) run c other = elim (cases_eq c d) [
+  | inl e ↦ subst (λ n. n < setting.cores) (sym e) run.1.is_core
+  | inr ne ↦ in_machine setting events run.0 c (λ out. other (phase_other (Enters d call) events c ne ∙ out))
+]
+in_machine setting (Decides d call r ∷ events) run c other = elim (cases_eq c d) [
+  | inl e ↦ in_machine setting events run.0 c
+      (λ out. not_open call (sym run.1.is_open ∙ ap (phase_of events) (sym e) ∙ out))
+  | inr ne ↦ in_machine setting events run.0 c (λ out. other (phase_other (Decides d call r) events c ne ∙ out))
+]
+in_machine setting (Returns d ∷ events) run c other = elim (cases_eq c d) [
+  | inl e ↦ absurd (other (phase_own (Returns d) events c e))
+  | inr ne ↦ in_machine setting events run.0 c (λ out. other (phase_other (Returns d) events c ne ∙ out))
+]
+
+core_of_event : (setting : Setting) (e : Event) (events : List Event) → IsRun setting (e ∷ events) → core_of e < setting.cores
+core_of_event setting (Enters c call) events run = run.1.is_core
+core_of_event setting (Decides c call r) events run =
+    in_machine setting events run.0 c (λ out. not_open call (sym run.1.is_open ∙ out))
+core_of_event setting (Returns c) events run =
+    in_machine setting events run.0 c (λ out. false≢true (sym (ap is_decided out) ∙ run.1))
+
+pub no_core : (o : Known) (e : Event) → (core_of e < (state_of o.kernel).limits.cores → ⊥) → Takes o e o
+no_core o e past setting lim events run few stands =
+    absurd (past (subst (λ n. core_of e < n) (sym (cores_of setting events o.kernel stands.kernel)) (core_of_event setting e events run)))
+
+-- ---- a call is decided
+
+judged_true : (s : State) (c : ℕ) (call : Call) (r : Reply) (b : Bool) (k : Maps) → MayReply s c call r → IsJudged s c call r b k
+    → Represents k (state_by s c call r)
+judged_true s c call r true k may is = is.state
+judged_true s c call r false k may is = absurd (is.forbidden may)
+
+-- What the table says after a put.
+put_says : (frames d : ℕ) (origin : ℕ → ℕ → Origin) (table table' : Table) (put : Option Put)
+    → ((f i : ℕ) → f < frames → i < 64 → table.origin f i ≡ Some (origin f i))
+    → ((p : Put) → put ≡ Some p → p.parent.node < frames) → ((p : Put) → put ≡ Some p → p.parent.index < 64)
+    → ((p : Put) → put ≡ Some p → p.at.node < frames) → ((p : Put) → put ≡ Some p → p.at.index < 64)
+    → PutsBy table d put table'
+    → (f i : ℕ) → f < frames → i < 64 → table'.origin f i ≡ Some (with_put d put origin f i)
+put_says frames d origin table table' None says a b x y is f i f_below i_below =
+    ap (λ (t : Table). t.origin f i) is ∙ says f i f_below i_below
+put_says frames d origin table table' (Some p) says a b x y is f i f_below i_below =
+    is (origin p.parent.node p.parent.index) (says p.parent.node p.parent.index (a p refl) (b p refl))
+    (ap is_some (says p.at.node p.at.index (x p refl) (y p refl))) f i i_below
+    ∙ by_test (f == p.at.node && i == p.at.index)
+  where
+    by_test : (b : Bool) → (if b then Some (put_origin d p.what (origin p.parent.node p.parent.index)) else table.origin f i)
+        ≡ Some (if b then put_origin d p.what (origin p.parent.node p.parent.index) else origin f i)
+    by_test true = refl
+    by_test false = says f i f_below i_below
+
+pub decides : (o : Known) (k : Maps) (table : Table) (d : ℕ) (c : ℕ) (call : Call) (r : Reply) (b : Bool)
+    → (o.decided + 1 < 2 ^ 32 → d ≡ o.decided + 1) → PutsBy o.table d (puts_by (state_of o.kernel) c call r) table
+    → JudgesExactly o.kernel c call r b k
+    → Takes o (Decides c call r) (record { kernel = k; table = table; decided = d })
+decides o k table d c call r b counted puts judges setting lim events run few stands = record {
+  kernel = judged_true (after setting events) c call r b k run.1.permitted (judges setting lim events run.0 run.1.is_open stands.kernel);
+  origins = put_says setting.frames (decided events + 1) (origin_of setting events) o.table table
+      (puts_by (after setting events) c call r) stands.origins
+      (λ p e. in_frames (slots p e).parent.node) (λ p e. (slots p e).parent.index)
+      (λ p e. in_frames (slots p e).at.node) (λ p e. (slots p e).at.index)
+      (subst (λ n. PutsBy o.table n (puts_by (after setting events) c call r) table) number
+      (subst (λ put. PutsBy o.table d put table) (puts_by_same w call r) puts));
+  decided = number;
+}
+  where
+    w : Twins (state_of o.kernel) (after setting events) (opened events) c
+    w = twins setting lim events run.0 c call run.1.is_open (state_of o.kernel) stands.kernel
+
+    number : d ≡ decided events + 1
+    number = counted (subst (λ n. n + 1 < 2 ^ 32) (sym stands.decided) few) ∙ ap (λ n. n + 1) stands.decided
+
+    slots : (p : Put) → puts_by (after setting events) c call r ≡ Some p → AreSlots w p
+    slots p e = puts_slots w call r p e
+
+    in_frames : {f : ℕ} → f < (after setting events).limits.frames → f < setting.frames
+    in_frames {f} below = subst (λ n. f < n) (frames_of setting events) below
+
+-- ---- the start, and chains
+
+pub starts : (setting : Setting) (k : Maps) (table : Table) → Represents k (start setting)
+    → ((f i : ℕ) → f < setting.frames → i < 64 → table.origin f i ≡ Some (origin_at_start i))
+    → StandsFor setting [] (record { kernel = k; table = table; decided = 0 })
+starts setting k table same origins = record { kernel = same; origins = origins; decided = refl }
+
+held_same : (t s : State) → SameState t s → (f i : ℕ) → held_at t f i ≡ held_at s f i
+held_same t s same f i =
+    ap (λ (l : Limits). if nat_lt f l.frames && nat_lt i 64 then own_cap (t.place f i) else None) same.limits
+    ∙ by_test (nat_lt f s.limits.frames && nat_lt i 64) refl
+  where
+    by_test : (b : Bool) → (nat_lt f s.limits.frames && nat_lt i 64) ≡ b
+        → (if b then own_cap (t.place f i) else None) ≡ (if b then own_cap (s.place f i) else None)
+    by_test true e =
+        let both = and_parts (nat_lt f s.limits.frames) (nat_lt i 64) e in
+        ap own_cap (same.place f i (ltb-true f s.limits.frames both.0) (ltb-true i 64 both.1))
+    by_test false e = refl
+
+-- Where nothing is held there is no chain.
+pub no_chain : (o : Known) (f i : ℕ) → held_at (state_of o.kernel) f i ≡ None → IsChainOf o f i None
+no_chain o f i none setting lim events run stands =
+    ap (option_map (with_origin (origin_of setting events f i)))
+    (sym none ∙ held_same (state_of o.kernel) (after setting events) stands.kernel f i)
+
+-- What is held is in a place of the machine.
+held_place : (s : State) (f i : ℕ) (k : Capability) → held_at s f i ≡ Some k → (f < s.limits.frames) × (i < 64)
+held_place s f i k = by_test (nat_lt f s.limits.frames && nat_lt i 64) refl
+  where
+    by_test : (b : Bool) → (nat_lt f s.limits.frames && nat_lt i 64) ≡ b → (if b then own_cap (s.place f i) else None) ≡ Some k
+        → (f < s.limits.frames) × (i < 64)
+    by_test true e is =
+        let both = and_parts (nat_lt f s.limits.frames) (nat_lt i 64) e in
+        (ltb-true f s.limits.frames both.0, ltb-true i 64 both.1)
+    by_test false e is = absurd (none_some k is)
+
+pub found_chain : (o : Known) (f i : ℕ) (k : Capability) (found : Option ChainValue) → held_at (state_of o.kernel) f i ≡ Some k
+    → found ≡ option_map (λ r. with_origin r k) (o.table.origin f i) → IsChainOf o f i found
+found_chain o f i k found has is setting lim events run stands =
+    let holds : held_at (after setting events) f i ≡ Some k =
+    sym (held_same (state_of o.kernel) (after setting events) stands.kernel f i) ∙ has in
+    let place = held_place (after setting events) f i k holds in
+    is ∙ ap (option_map (λ r. with_origin r k))
+    (stands.origins f i (subst (λ n. f < n) (frames_of setting events) place.0) place.1)
+    ∙ ap (option_map (with_origin (origin_of setting events f i))) (sym holds)
