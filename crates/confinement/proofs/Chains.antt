@@ -1,6 +1,6 @@
 -- Chains of links that are shared.
 use Rattle.std.proofs.Common.{◌≡◌, ◌≢◌, inl, inr, ℕ, zero, suc, ◌+◌, ◌<◌, ◌≤◌, refl, sym, ◌∙◌, ap, subst, arith}
-use Rattle.std.proofs.Common.{List, [], ◌∷◌, ◌++◌, length, slice_get, Option, Some, None}
+use Rattle.std.proofs.Common.{List, [], ◌∷◌, ◌++◌, length, slice_get, append_assoc, Option, Some, None}
 use Rattle.std.proofs.lemmas.Bool.{cases_eq}
 use Rattle.std.proofs.lemmas.Option.{slice_get_within}
 use Rattle.kernel_invariant.proofs.Facts.{some_inj}
@@ -9,7 +9,7 @@ use Rattle.origin_rules.specs.declared.chains.ChainLink.{ChainLink}
 use Rattle.origin_rules.specs.Chains.{Origin}
 use Rattle.confinement.specs.declared.table.Kept.{Kept}
 use Rattle.confinement.specs.declared.table.Head.{Head}
-use Rattle.confinement.specs.Links.{list_of, chain_from, IsBelow, GoOn, origin_in}
+use Rattle.confinement.specs.Links.{list_of, chain_from, IsBelow, places_left, GoOn, origin_in}
 
 -- Two lists are one that are made alike of what is there.
 list_alike : (f g : Kept → List ChainLink) (o : Option Kept) → ((x : Kept) → o ≡ Some x → f x ≡ g x) → list_of f o ≡ list_of g o
@@ -85,3 +85,17 @@ pub new_chain : (kept : List Kept) (y : Kept) → GoOn kept → IsBelow y.rest (
 new_chain kept y on below =
     chain_step (kept ++ y ∷ []) (pushed_on kept y on below) (length kept) y (push_here kept y (length kept) refl)
     ∙ ap (λ xs. y.link ∷ xs) (pushed_chain kept y on y.rest below)
+
+-- One link more of a chain is read.
+pub walks_on : (kept : List Kept) → GoOn kept → (first : Option ℕ) (at : ℕ) (x : Kept) (old new : List ChainLink)
+    → slice_get kept at ≡ Some x → new ≡ old ++ x.link ∷ []
+    → old ++ chain_from kept (length kept) (Some at) ≡ chain_from kept (length kept) first
+    → new ++ chain_from kept (length kept) x.rest ≡ chain_from kept (length kept) first
+walks_on kept on first at x old new is more before =
+    ap (λ xs. xs ++ chain_from kept (length kept) x.rest) more
+    ∙ append_assoc old (x.link ∷ []) (chain_from kept (length kept) x.rest)
+    ∙ ap (λ xs. old ++ xs) (sym (chain_step kept on at x is)) ∙ before
+
+pub fewer_left : (r : Option ℕ) (k : ℕ) → IsBelow r k → places_left r < k + 1
+fewer_left None k below = omega arith
+fewer_left (Some j) k below = omega (arith, below)

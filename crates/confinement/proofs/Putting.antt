@@ -20,11 +20,11 @@ use Rattle.origin_rules.specs.Chains.{Put, slot_named, slot_under, put_from, put
 
 -- ---- the parts of a put
 
-pub record Parts (what : Step) (parent at : Option Slot) (p : Put) : Type 0 where
-  pub parent : parent ≡ Some p.parent
-  pub at : at ≡ Some p.at
+record Parts (a b : Option Slot) (p : Put) : Type 0 where
+  parent : a ≡ Some p.parent
+  at : b ≡ Some p.at
 
-put_parts : (what : Step) (parent at : Option Slot) (p : Put) → put_from what parent at ≡ Some p → Parts what parent at p
+put_parts : (what : Step) (a b : Option Slot) (p : Put) → put_from what a b ≡ Some p → Parts a b p
 put_parts what (Some a) (Some b) p e =
     let is = some_inj _ p e in
     record { parent = ap (λ (q : Put). Some q.parent) is; at = ap (λ (q : Put). Some q.at) is }

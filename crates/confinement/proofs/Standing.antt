@@ -1,8 +1,8 @@
 -- The origins stand for one event more.
-use Rattle.std.proofs.Common.{◌≡◌, inl, inr, ℕ, ◌+◌, ◌<◌, ◌==◌, ◌&&◌, ◌^◌, Bool, true, false, nat_lt, refl, sym, ◌∙◌, ap, subst}
+use Rattle.std.proofs.Common.{◌≡◌, inl, inr, ℕ, ◌+◌, ◌<◌, ◌≤◌, ◌==◌, ◌&&◌, ◌^◌, Bool, true, false, nat_lt, refl, sym, ◌∙◌, ap, subst}
 use Rattle.std.proofs.Common.{List, [], ◌∷◌, Option, Some, None, is_some, if◌then◌else◌}
-use Rattle.std.proofs.lemmas.Bool.{cases_eq, false≢true, and_parts, ltb-true}
-use Rattle.std.specs.Option.{option_map}
+use Rattle.std.proofs.lemmas.Bool.{cases_eq, false≢true, and_parts, ltb-true, lt-ltb, le-ltb}
+use Rattle.std.specs.Option.{option_map, option_and_then}
 use Rattle.spk_nums.specs.Capability.{Capability}
 use Rattle.spk_nums.specs.Setting.{Setting, IsSetting}
 use Rattle.spk_nums.specs.declared.calls.Call.{Call}
@@ -21,7 +21,8 @@ use Rattle.same_changes.proofs.Reaching.{Twins}
 use Rattle.same_changes.proofs.EveryCall.{twins}
 use Rattle.call_judge.specs.Judged.{JudgesExactly, IsJudged}
 use Rattle.origin_rules.specs.Chains.{Origin, ChainValue, Put, puts_by, with_put, decided, origin_of, held_at, own_cap, with_origin, chain_of}
-use Rattle.confinement.specs.Known.{Table, Known, StandsFor, Takes, PutsBy, IsChainOf, origin_at_start, put_origin}
+use Rattle.confinement.specs.Links.{Table, origin_at, PutsBy, origin_at_start, put_origin}
+use Rattle.confinement.specs.Known.{Known, StandsFor, Takes, chain_known, IsChainOf}
 use Rattle.confinement.proofs.Putting.{AreSlots, puts_by_same, puts_slots}
 
 -- ---- states that are one for the machine
@@ -91,15 +92,6 @@ enters o k c call new setting lim events run few stands = record {
   decided = stands.decided;
 }
 
-pub returns : (o : Known) (k : Maps) (c : ℕ) → c < (state_of o.kernel).limits.cores → Represents k (returned (state_of o.kernel) c)
-    → Takes o (Returns c) (record o { kernel = k })
-returns o k c below new setting lim events run few stands = record {
-  kernel = same_then _ _ _ new (returned_same (state_of o.kernel) (after setting events) c
-      (subst (λ (l : Limits). c < l.cores) stands.kernel.limits below) stands.kernel);
-  origins = stands.origins;
-  decided = stands.decided;
-}
-
 -- ---- each event is of a core of the machine
 
 not_open : (call : Call) → Open call ≡ Out → ⊥
@@ -128,9 +120,19 @@ core_of_event setting (Decides c call r) events run =
 core_of_event setting (Returns c) events run =
     in_machine setting events run.0 c (λ out. false≢true (sym (ap is_decided out) ∙ run.1))
 
-pub no_core : (o : Known) (e : Event) → (core_of e < (state_of o.kernel).limits.cores → ⊥) → Takes o e o
+pub no_core : (o : Known) (e : Event) → false ≡ nat_lt (core_of e) (state_of o.kernel).limits.cores → Takes o e o
 no_core o e past setting lim events run few stands =
-    absurd (past (subst (λ n. core_of e < n) (sym (cores_of setting events o.kernel stands.kernel)) (core_of_event setting e events run)))
+    absurd (false≢true (past ∙ lt-ltb (core_of e) (state_of o.kernel).limits.cores
+    (subst (λ n. core_of e < n) (sym (cores_of setting events o.kernel stands.kernel)) (core_of_event setting e events run))))
+
+pub returns : (o : Known) (k : Maps) (c : ℕ) → Represents k (returned (state_of o.kernel) c)
+    → Takes o (Returns c) (record o { kernel = k })
+returns o k c new setting lim events run few stands = record {
+  kernel = same_then _ _ _ new (returned_same (state_of o.kernel) (after setting events) c
+      (core_here setting events c (core_of_event setting (Returns c) events run)) stands.kernel);
+  origins = stands.origins;
+  decided = stands.decided;
+}
 
 -- ---- a call is decided
 
@@ -141,19 +143,19 @@ judged_true s c call r false k may is = absurd (is.forbidden may)
 
 -- What the table says after a put.
 put_says : (frames d : ℕ) (origin : ℕ → ℕ → Origin) (table table' : Table) (put : Option Put)
-    → ((f i : ℕ) → f < frames → i < 64 → table.origin f i ≡ Some (origin f i))
+    → ((f i : ℕ) → f < frames → i < 64 → origin_at table f i ≡ Some (origin f i))
     → ((p : Put) → put ≡ Some p → p.parent.node < frames) → ((p : Put) → put ≡ Some p → p.parent.index < 64)
     → ((p : Put) → put ≡ Some p → p.at.node < frames) → ((p : Put) → put ≡ Some p → p.at.index < 64)
     → PutsBy table d put table'
-    → (f i : ℕ) → f < frames → i < 64 → table'.origin f i ≡ Some (with_put d put origin f i)
+    → (f i : ℕ) → f < frames → i < 64 → origin_at table' f i ≡ Some (with_put d put origin f i)
 put_says frames d origin table table' None says a b x y is f i f_below i_below =
-    ap (λ (t : Table). t.origin f i) is ∙ says f i f_below i_below
+    ap (λ (t : Table). origin_at t f i) is ∙ says f i f_below i_below
 put_says frames d origin table table' (Some p) says a b x y is f i f_below i_below =
     is (origin p.parent.node p.parent.index) (says p.parent.node p.parent.index (a p refl) (b p refl))
     (ap is_some (says p.at.node p.at.index (x p refl) (y p refl))) f i i_below
     ∙ by_test (f == p.at.node && i == p.at.index)
   where
-    by_test : (b : Bool) → (if b then Some (put_origin d p.what (origin p.parent.node p.parent.index)) else table.origin f i)
+    by_test : (b : Bool) → (if b then Some (put_origin d p.what (origin p.parent.node p.parent.index)) else origin_at table f i)
         ≡ Some (if b then put_origin d p.what (origin p.parent.node p.parent.index) else origin f i)
     by_test true = refl
     by_test false = says f i f_below i_below
@@ -188,7 +190,7 @@ decides o k table d c call r b counted puts judges setting lim events run few st
 -- ---- the start, and chains
 
 pub starts : (setting : Setting) (k : Maps) (table : Table) → Represents k (start setting)
-    → ((f i : ℕ) → f < setting.frames → i < 64 → table.origin f i ≡ Some (origin_at_start i))
+    → ((f i : ℕ) → f < setting.frames → i < 64 → origin_at table f i ≡ Some (origin_at_start i))
     → StandsFor setting [] (record { kernel = k; table = table; decided = 0 })
 starts setting k table same origins = record { kernel = same; origins = origins; decided = refl }
 
@@ -204,12 +206,6 @@ held_same t s same f i =
         ap own_cap (same.place f i (ltb-true f s.limits.frames both.0) (ltb-true i 64 both.1))
     by_test false e = refl
 
--- Where nothing is held there is no chain.
-pub no_chain : (o : Known) (f i : ℕ) → held_at (state_of o.kernel) f i ≡ None → IsChainOf o f i None
-no_chain o f i none setting lim events run stands =
-    ap (option_map (with_origin (origin_of setting events f i)))
-    (sym none ∙ held_same (state_of o.kernel) (after setting events) stands.kernel f i)
-
 -- What is held is in a place of the machine.
 held_place : (s : State) (f i : ℕ) (k : Capability) → held_at s f i ≡ Some k → (f < s.limits.frames) × (i < 64)
 held_place s f i k = by_test (nat_lt f s.limits.frames && nat_lt i 64) refl
@@ -221,12 +217,36 @@ held_place s f i k = by_test (nat_lt f s.limits.frames && nat_lt i 64) refl
         (ltb-true f s.limits.frames both.0, ltb-true i 64 both.1)
     by_test false e is = absurd (none_some k is)
 
-pub found_chain : (o : Known) (f i : ℕ) (k : Capability) (found : Option ChainValue) → held_at (state_of o.kernel) f i ≡ Some k
-    → found ≡ option_map (λ r. with_origin r k) (o.table.origin f i) → IsChainOf o f i found
-found_chain o f i k found has is setting lim events run stands =
-    let holds : held_at (after setting events) f i ≡ Some k =
-    sym (held_same (state_of o.kernel) (after setting events) stands.kernel f i) ∙ has in
-    let place = held_place (after setting events) f i k holds in
-    is ∙ ap (option_map (λ r. with_origin r k))
-    (stands.origins f i (subst (λ n. f < n) (frames_of setting events) place.0) place.1)
-    ∙ ap (option_map (with_origin (origin_of setting events f i))) (sym holds)
+-- What is known of a place is its chain.
+pub known_chain : (o : Known) (f i : ℕ) → IsChainOf o f i (chain_known o f i)
+known_chain o f i setting lim events run stands =
+    ap (option_and_then (λ k. option_map (λ r. with_origin r k) (origin_at o.table f i)))
+    (held_same (state_of o.kernel) (after setting events) stands.kernel f i)
+    ∙ by_held (held_at (after setting events) f i) refl
+  where
+    by_held : (x : Option Capability) → held_at (after setting events) f i ≡ x
+        → option_and_then (λ k. option_map (λ r. with_origin r k) (origin_at o.table f i)) x
+        ≡ option_map (with_origin (origin_of setting events f i)) x
+    by_held None is = refl
+    by_held (Some k) is =
+        let place = held_place (after setting events) f i k is in
+        ap (option_map (λ r. with_origin r k)) (stands.origins f i (subst (λ n. f < n) (frames_of setting events) place.0) place.1)
+
+pub chain_is : (o : Known) (f i : ℕ) (found : Option ChainValue) → found ≡ chain_known o f i → IsChainOf o f i found
+chain_is o f i found is setting lim events run stands = is ∙ known_chain o f i setting lim events run stands
+
+-- What is known where nothing is held, past the places of a frame, and of what is held.
+pub none_known : (o : Known) (f i : ℕ) → None ≡ held_at (state_of o.kernel) f i → None ≡ chain_known o f i
+none_known o f i none = ap (option_and_then (λ k. option_map (λ r. with_origin r k) (origin_at o.table f i))) none
+
+pub past_known : (o : Known) (f i : ℕ) → 64 ≤ i → None ≡ chain_known o f i
+past_known o f i past = none_known o f i (sym (by_frame (nat_lt f (state_of o.kernel).limits.frames)))
+  where
+    by_frame : (b : Bool) → (if b && nat_lt i 64 then own_cap ((state_of o.kernel).place f i) else None) ≡ None
+    by_frame true = ap (λ t. if t then own_cap ((state_of o.kernel).place f i) else None) (le-ltb i 64 past)
+    by_frame false = refl
+
+pub found_known : (o : Known) (f i : ℕ) (k : Capability) (found : Option ChainValue) → Some k ≡ held_at (state_of o.kernel) f i
+    → found ≡ option_map (λ r. with_origin r k) (origin_at o.table f i) → found ≡ chain_known o f i
+found_known o f i k found has is =
+    is ∙ ap (option_and_then (λ k. option_map (λ r. with_origin r k) (origin_at o.table f i))) has

@@ -1,12 +1,12 @@
 //! The origins of capabilities while a run goes on.
 
-ghost use Rattle.std.specs.Prelude.{◌≡◌, ◌<◌, ◌↔◌, IsTrue, IfOk, OnOk, OnErr};
+ghost use Rattle.std.specs.Prelude.{◌≡◌, ◌≤◌, nat_lt, IfOk, OnOk, OnErr};
 ghost use Rattle.spk_nums.specs.CallLimits.{InLimits};
 ghost use Rattle.spk_nums.specs.declared.calls.Call.{Call};
 ghost use Rattle.kernel_rules.specs.Runs.{Enters, Decides, Returns};
 ghost use Rattle.seq_state.specs.Maps.{state_of};
 ghost use Rattle.origin_rules.specs.Chains.{own_cap, held_at};
-ghost use Rattle.confinement.specs.Known.{StandsFor, Takes, IsChainOf};
+ghost use Rattle.confinement.specs.Known.{StandsFor, Takes, chain_known, IsChainOf};
 
 use crate::chain::Chain;
 use crate::puts::puts_by;
@@ -83,9 +83,17 @@ impl Origins {
         })
     }
 
+    /// The number of frames, at most 512.
+    pub fn frames(&self) -> u16
+        ensures value { result ≡ (state_of self.now.kernel).limits.frames }
+        ensures most { result ≤ 512 }
+    {
+        self.kernel.frames()
+    }
+
     /// Whether the machine has a core.
     fn has(&self, core: CoreNo) -> bool
-        ensures { IsTrue result ↔ core < (state_of self.now.kernel).limits.cores }
+        ensures { result ≡ nat_lt core (state_of self.now.kernel).limits.cores }
     {
         core.number() < self.kernel.cores()
     }
@@ -94,9 +102,10 @@ impl Origins {
     pub fn enter(&mut self, core: CoreNo)
         ensures { (call : Call) → Takes self.old (Enters core call) self.new }
     {
-        if self.has(core) {
-            self.kernel.enter(core);
+        if !self.has(core) {
+            return;
         }
+        self.kernel.enter(core);
     }
 
     /// Takes the next event of a run, which has made fewer than 2^32 - 1 decisions: that the call of a core is decided with this reply.
@@ -112,7 +121,7 @@ impl Origins {
         let decision = self.decided.saturating_add(1);
         let put = puts_by(&self.kernel, core, call, reply);
         self.table.put_by(decision, &put)?;
-        let _permitted = decide_by(self.alloc, &mut self.kernel, core, call, reply)?;
+        decide_by(self.alloc, &mut self.kernel, core, call, reply)?;
         self.decided = decision;
         Ok(())
     }
@@ -121,9 +130,10 @@ impl Origins {
     pub fn leave(&mut self, core: CoreNo)
         ensures { Takes self.old (Returns core) self.new }
     {
-        if self.has(core) {
-            self.kernel.leave(core);
+        if !self.has(core) {
+            return;
         }
+        self.kernel.leave(core);
     }
 
     /// The capability that a place holds.
@@ -137,6 +147,25 @@ impl Origins {
         }
     }
 
+    /// What is known of the chain of the capability that a place holds.
+    fn known(
+        &self,
+        alloc: Global,
+        node: FrameNo,
+        entry: EntryNo,
+    ) -> Result<Option<Chain>, Memory>
+        ensures { IfOk result (λ found. found ≡ chain_known self.now node entry) }
+    {
+        if 64 <= entry.number() {
+            return Ok(None);
+        }
+        let Some(cap) = self.held_at(node, entry) else {
+            return Ok(None);
+        };
+        let found = self.table.chain(alloc, cap, Slot::new(node, entry))?;
+        Ok(found)
+    }
+
     /// The chain of the capability that a place holds. It is None exactly where the place holds no capability that cores can name:
     /// where it is no place of the machine, is free or quiescing, or holds a link or a page. It fails only where memory runs out.
     pub fn chain(
@@ -145,15 +174,10 @@ impl Origins {
         node: FrameNo,
         entry: EntryNo,
     ) -> Result<Option<Chain>, Memory>
-        ensures { IfOk result (λ found. IsChainOf self.now node entry found) }
+        ensures known { IfOk result (λ found. found ≡ chain_known self.now node entry) }
+        ensures exact { IfOk result (λ found. IsChainOf self.now node entry found) }
     {
-        let Some(cap) = self.held_at(node, entry) else {
-            return Ok(None);
-        };
-        if 64 <= entry.number() {
-            return Ok(None);
-        }
-        let found = self.table.chain(alloc, cap, Slot::new(node, entry))?;
+        let found = self.known(alloc, node, entry)?;
         Ok(found)
     }
 }

@@ -4,7 +4,7 @@ ghost use Rattle.std.specs.Prelude.{◌≡◌, ◌<◌};
 ghost use Rattle.std.specs.Option.{option_map};
 ghost use Rattle.seq_state.specs.Maps.{state_of};
 ghost use Rattle.origin_rules.specs.Chains.{slot_named, slot_under, put_from, puts, puts_by};
-ghost use Rattle.confinement.specs.Known.{put_of};
+ghost use Rattle.confinement.specs.Links.{put_of};
 
 use origin_rules::Step;
 use seq_lookups::{Slot, Target, Wanted, comp_of, named, reached};

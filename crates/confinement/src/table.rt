@@ -4,8 +4,7 @@ ghost use Rattle.std.specs.Prelude.{◌≡◌, ◌<◌, ◌≤◌, ◌+◌, ◌*
 ghost use Rattle.std.specs.Option.{option_map};
 ghost use Rattle.seq_state.specs.Maps.{at_place};
 ghost use Rattle.origin_rules.specs.Chains.{with_origin};
-ghost use Rattle.confinement.specs.Links.{chain_from, GoOn, IsBelow, StartsAll, IsHeadSet};
-ghost use Rattle.confinement.specs.Known.{origin_at_start, PutsIn, PutsBy, put_of};
+ghost use Rattle.confinement.specs.Links.{chain_from, origin_at, GoOn, IsBelow, StartsAll, IsHeadSet, origin_at_start, PutsIn, PutsBy, put_of};
 
 use crate::chain::Chain;
 use crate::puts::Put;
@@ -37,21 +36,20 @@ pub struct OriginTable {
 }
 
 impl Model for OriginTable {
-    ghost use Rattle.confinement.specs.Known.{Table};
+    ghost use Rattle.confinement.specs.Links.{Table, IsTable};
 
     ghost Value = { Table };
 
-    ghost use Rattle.confinement.specs.Links.{table_of, IsTable};
+    ghost view = { λ t. record { kept = t.kept.items; heads = t.heads.items } };
 
-    ghost view = { table_of };
-
-    ghost invariant = { IsTable };
+    ghost invariant = { λ t. IsTable (record { kept = t.kept.items; heads = t.heads.items }) };
 }
 
 /// The origin of each place at the start is the capability itself. The frames are at most 512.
 fn all_heads(alloc: Global, frames: u16) -> Result<Vec<Head>, AllocError>
     requires { frames ≤ 512 }
-    ensures { IfOk result (λ v. StartsAll (64 * frames) v.items) }
+    ensures heads { IfOk result (λ v. StartsAll (64 * frames) v.items) }
+    ensures length { IfOk result (λ v. length v.items ≡ 64 * frames) }
 {
     let mut heads = Vec::new(alloc);
     'each: for key in 0..64 * frames {
@@ -111,7 +109,7 @@ impl OriginTable {
     /// The origins at the start of a machine of so many frames, at most 512: each place's is the capability itself.
     pub fn start(alloc: Global, frames: u16) -> Result<OriginTable, AllocError>
         requires { frames ≤ 512 }
-        ensures { IfOk result (λ t. (f i : ℕ) → f < frames → i < 64 → t.origin f i ≡ Some (origin_at_start i)) }
+        ensures { IfOk result (λ t. (f i : ℕ) → f < frames → i < 64 → origin_at t f i ≡ Some (origin_at_start i)) }
     {
         let heads = all_heads(alloc, frames)?;
         Ok(OriginTable {
@@ -159,7 +157,7 @@ impl OriginTable {
 
     /// The capability with the origin of the place at a slot; None where the machine does not have the place.
     pub fn chain(&self, alloc: Global, cap: Cap, at: Slot) -> Result<Option<Chain>, AllocError>
-        ensures { IfOk result (λ found. found ≡ option_map (λ o. with_origin o cap) (self.origin at.node at.index)) }
+        ensures { IfOk result (λ found. found ≡ option_map (λ o. with_origin o cap) (origin_at self.now at.node at.index)) }
     {
         let Some(head) = head_at(&self.heads, at) else {
             return Ok(None);

@@ -1,0 +1,9 @@
+use Rattle.table_lines.proofs.Lines.{begins, goes_on, lines_none, lines_more}
+use Rattle.origin_lines.proofs.whole.push_node.Goals as goal
+
+pub entries-init : goal.entries-init
+entries-init c = begins _ _ (lines_none _)
+
+pub entries-preserved : goal.entries-preserved
+entries-preserved c = goes_on _ _ _ _ _ _ (rw (c.in_ok-chain.ensures.known, c.new-entry.ensures) at c.in_ok-push_line.ensures)
+    c.entries.invariant (lines_more _ _)
