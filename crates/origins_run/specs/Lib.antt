@@ -1,0 +1,6 @@
+-- What the crates above name through this one.
+pub use Rattle.told_run
+pub use Rattle.origin_lines
+-- Its own.
+pub mod Tracked
+pub mod GivenOrigins
