@@ -50,11 +50,7 @@ fn is_own(kind: Kind) -> bool
 fn if_own(cap: Cap) -> Option<Cap>
     ensures { result ≡ own_cap (Holds cap) }
 {
-    if is_own(cap.kind()) {
-        Some(cap)
-    } else {
-        None
-    }
+    if is_own(cap.kind()) { Some(cap) } else { None }
 }
 
 /// The capability that a place holds, if it holds one.
@@ -148,12 +144,7 @@ impl Origins {
     }
 
     /// What is known of the chain of the capability that a place holds.
-    fn known(
-        &self,
-        alloc: Global,
-        node: FrameNo,
-        entry: EntryNo,
-    ) -> Result<Option<Chain>, Memory>
+    fn known(&self, alloc: Global, node: FrameNo, entry: EntryNo) -> Result<Option<Chain>, Memory>
         ensures { IfOk result (λ found. found ≡ chain_known self.now node entry) }
     {
         if 64 <= entry.number() {

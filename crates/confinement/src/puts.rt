@@ -78,7 +78,10 @@ fn puts(k: &SeqKernel, core: CoreNo, call: &Call) -> Option<Put>
             slot_under(k, core, t, b),
         ),
         Call::Make {
-            range, table, slot, ..
+            range,
+            table,
+            slot,
+            ..
         } => put_from(
             Step::Made,
             slot_named(k, core, range),

@@ -85,7 +85,11 @@ fn has_links(
             'each: for at in 0..links.len() {
                 let (decision, what) = links[at];
                 let link = chain.links.get(at).copied();
-                assert_eq!(rt; link, Some(ChainLink { decision, what }), "entry {entry} link {at}");
+                assert_eq!(rt;
+                    link,
+                    Some(ChainLink { decision, what }),
+                    "entry {entry} link {at}"
+                );
             }
         }
         None => assert!(rt; false, "entry {entry}"),

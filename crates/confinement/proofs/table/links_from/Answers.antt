@@ -20,8 +20,7 @@ walk-preserved c =
     let at = c.in-Some.at in
     let here = c.index-here.result.now in
     let within : at < length kept = subst (λ (r : Option ℕ). IsBelow r (length kept)) c.in-Some.is c.walk.invariant.0 in
-    let has : slice_get kept at ≡ Some here = slice_get_read kept (length kept) at here refl within c.index-here.ensures in
-    (
+    let has : slice_get kept at ≡ Some here = slice_get_read kept (length kept) at here refl within c.index-here.ensures in (
       below_then here.rest at (length kept) (c.requires.goes_on at here has) (omega (arith, within)),
       walks_on kept c.requires.goes_on c.args.first at here c.walk.links.items c.push.new.self.items has c.in_ok-push.ensures.items
           (subst (λ (r : Option ℕ). c.walk.links.items ++ chain_from kept (length kept) r ≡ chain_from kept (length kept) c.args.first)
