@@ -57,7 +57,12 @@ fn push_start(text: &mut String, start: u8) -> Result<(), AllocError>
 }
 
 /// Appends the line of the capability that a place holds.
-fn push_chain(text: &mut String, node: FrameNo, entry: EntryNo, chain: &Chain) -> Result<(), AllocError>
+fn push_chain(
+    text: &mut String,
+    node: FrameNo,
+    entry: EntryNo,
+    chain: &Chain,
+) -> Result<(), AllocError>
     ensures { OnOk result (string_bytes text.new ≡ string_bytes text.old ++ chain_line node entry (Some chain.now)) }
 {
     push_place(text, node, entry, &chain.cap)?;
@@ -66,7 +71,12 @@ fn push_chain(text: &mut String, node: FrameNo, entry: EntryNo, chain: &Chain) -
 }
 
 /// Appends the line of a place, if it holds a capability.
-pub fn push_line(text: &mut String, node: FrameNo, entry: EntryNo, chain: &Option<Chain>) -> Result<(), AllocError>
+pub fn push_line(
+    text: &mut String,
+    node: FrameNo,
+    entry: EntryNo,
+    chain: &Option<Chain>,
+) -> Result<(), AllocError>
     ensures { OnOk result (string_bytes text.new ≡ string_bytes text.old ++ chain_line node entry chain.now) }
 {
     match chain {

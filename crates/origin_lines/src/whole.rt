@@ -10,7 +10,12 @@ use spk_nums::{EntryNo, FrameNo, Memory};
 use std::alloc::Global;
 
 // Appends the lines of a node's places.
-fn push_node(alloc: Global, text: &mut String, origins: &Origins, node: FrameNo) -> Result<(), Memory>
+fn push_node(
+    alloc: Global,
+    text: &mut String,
+    origins: &Origins,
+    node: FrameNo,
+) -> Result<(), Memory>
     ensures { OnOk result (string_bytes text.new ≡ string_bytes text.old ++ node_lines (chain_known origins.now) node) }
 {
     'entries: for index in 0..64 {
@@ -21,16 +26,23 @@ fn push_node(alloc: Global, text: &mut String, origins: &Origins, node: FrameNo)
     Ok(())
 }
 
-/// Appends a line for each capability that a place holds, by ascending frame and index. It fails only where memory runs out; the text
-/// may then have a part of them.
-pub fn push_origins(alloc: Global, text: &mut String, origins: &Origins) -> Result<(), Memory>
-    ensures known { OnOk result (string_bytes text.new ≡ string_bytes text.old
+// Appends the lines of all nodes.
+fn push_nodes(alloc: Global, text: &mut String, origins: &Origins) -> Result<(), Memory>
+    ensures { OnOk result (string_bytes text.new ≡ string_bytes text.old
         ++ lines_known (chain_known origins.now) (state_of origins.now.kernel).limits.frames) }
-    ensures exact { OnOk result (TellsOrigins origins.now (string_bytes text.old) (string_bytes text.new)) }
 {
     'nodes: for number in 0..origins.frames() {
         push_node(alloc, text, origins, FrameNo::new(number))?;
     }
+    Ok(())
+}
+
+/// Appends a line for each capability that a place holds, by ascending frame and index. It fails only where memory runs out; the text
+/// may then have a part of them.
+pub fn push_origins(alloc: Global, text: &mut String, origins: &Origins) -> Result<(), Memory>
+    ensures { OnOk result (TellsOrigins origins.now (string_bytes text.old) (string_bytes text.new)) }
+{
+    push_nodes(alloc, text, origins)?;
     Ok(())
 }
 

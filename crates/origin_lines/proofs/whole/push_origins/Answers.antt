@@ -1,8 +1,6 @@
-use Rattle.table_lines.proofs.Lines.{begins, goes_on, lines_none, lines_more}
+use Rattle.std.specs.Prelude.{string_bytes}
+use Rattle.origin_lines.proofs.Telling.{tells}
 use Rattle.origin_lines.proofs.whole.push_origins.Goals as goal
 
-pub nodes-init : goal.nodes-init
-nodes-init c = begins _ _ (lines_none _)
-
-pub nodes-preserved : goal.nodes-preserved
-nodes-preserved c = goes_on _ _ _ _ _ _ (rw c.new.ensures at c.in_ok-push_node.ensures) c.nodes.invariant (lines_more _ _)
+pub returns : goal.returns
+returns c = tells c.args.origins.now (string_bytes c.args.text.now) (string_bytes c.push_nodes.new.text) c.in_ok-push_nodes.ensures

@@ -2,7 +2,7 @@ use Rattle.std.proofs.Common.{◌≡◌, ◌++◌}
 use Rattle.std.specs.Prelude.{string_bytes}
 use Rattle.confinement.specs.Known.{chain_known}
 use Rattle.origin_lines.specs.Lines.{lines_known}
-use Rattle.origin_lines.proofs.whole.push_origins.Given as goal
+use Rattle.origin_lines.proofs.whole.push_nodes.Given as goal
 
 abbrev pub invariant-nodes : goal.invariant-nodes
 invariant-nodes l = string_bytes l.text ≡ string_bytes l.initial.text ++ lines_known (chain_known l.origins) l.number

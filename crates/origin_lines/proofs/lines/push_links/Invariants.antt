@@ -1,0 +1,8 @@
+use Rattle.std.proofs.Common.{◌≡◌, ◌++◌, take}
+use Rattle.std.specs.Prelude.{string_bytes}
+use Rattle.std.specs.List.{flat_map}
+use Rattle.origin_lines.specs.Lines.{link_text}
+use Rattle.origin_lines.proofs.lines.push_links.Given as goal
+
+abbrev pub invariant-links : goal.invariant-links
+invariant-links l = string_bytes l.text ≡ string_bytes l.initial.text ++ flat_map link_text (take l.link-index l.links)
