@@ -1,1 +1,1 @@
-pub mod Tracking
+pub mod Stepping

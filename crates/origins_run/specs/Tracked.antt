@@ -13,17 +13,17 @@ use Rattle.origin_rules.specs.Chains.{decided}
 -- The origins, and each core's open call.
 pub record Tracked : Type 0 where
   pub origins : Known
-  pub open : List (Option Call)
+  pub opened : List (Option Call)
 
 -- A core enters a call, if it does.
 abbrev pub EntersBy : Tracked → ℕ → Option Call → Tracked → Type 0
 EntersBy w c None w' = w' ≡ w
-EntersBy w c (Some call) w' = Takes w.origins (Enters c call) w'.origins × (w'.open ≡ slice_set w.open c (Some call))
+EntersBy w c (Some call) w' = Takes w.origins (Enters c call) w'.origins × (w'.opened ≡ slice_set w.opened c (Some call))
 
 -- Its open call is decided; one that is not within its limits is left open.
 abbrev pub DecidesOpen : Tracked → ℕ → Call → Reply → Tracked → Type 0
 DecidesOpen w c call r w' =
-    InLimits call → Takes w.origins (Decides c call r) w'.origins × (w'.open ≡ slice_set w.open c None)
+    InLimits call → Takes w.origins (Decides c call r) w'.origins × (w'.opened ≡ slice_set w.opened c None)
 
 abbrev pub DecidesIn : Tracked → ℕ → Option (Option Call) → Reply → Tracked → Type 0
 DecidesIn w c None r w' = w' ≡ w
@@ -33,12 +33,12 @@ DecidesIn w c (Some (Some call)) r w' = DecidesOpen w c call r w'
 -- Its call is decided, if it is.
 abbrev pub DecidesBy : Tracked → ℕ → Option Reply → Tracked → Type 0
 DecidesBy w c None w' = w' ≡ w
-DecidesBy w c (Some r) w' = DecidesIn w c (slice_get w.open c) r w'
+DecidesBy w c (Some r) w' = DecidesIn w c (slice_get w.opened c) r w'
 
 -- It returns, if it does.
 abbrev pub LeavesBy : Tracked → ℕ → Option Reply → Tracked → Type 0
 LeavesBy w c None w' = w' ≡ w
-LeavesBy w c (Some r) w' = Takes w.origins (Returns c) w'.origins × (w'.open ≡ slice_set w.open c None)
+LeavesBy w c (Some r) w' = Takes w.origins (Returns c) w'.origins × (w'.opened ≡ slice_set w.opened c None)
 
 -- The open call of a core in a phase.
 abbrev pub open_call : Phase → Option Call
@@ -49,7 +49,7 @@ open_call (Decided call r) = None
 -- The origins stand for the events of a trace, and the open calls are its.
 pub record Tracks (setup : Setting) (t : Trace) (w : Tracked) : Type 0 where
   pub stands : StandsFor setup (events_of t) w.origins
-  pub open : (c : ℕ) → c < 8 → slice_get w.open c ≡ Some (open_call (phase t c))
+  pub opened : (c : ℕ) → c < 8 → slice_get w.opened c ≡ Some (open_call (phase t c))
 
 -- So it is after each trace of fewer than 2^32 decisions, if it was before the first step.
 abbrev pub has_tracked : Setting → Tracked → Trace → Tracked → Type 0

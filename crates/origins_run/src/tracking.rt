@@ -13,7 +13,7 @@ use told_run::{StepMade, Watcher};
 #[derive(Drop)]
 pub struct Tracking {
     origins: Origins,
-    open: [Option<Call>; 8],
+    opened: [Option<Call>; 8],
 }
 
 impl Model for Tracking {
@@ -21,7 +21,7 @@ impl Model for Tracking {
 
     ghost Value = { Tracked };
 
-    ghost view = { λ w. record { origins = w.origins; open = w.open } };
+    ghost view = { λ w. record { origins = w.origins; opened = w.opened } };
 }
 
 impl Tracking {
@@ -32,7 +32,7 @@ impl Tracking {
         match Origins::start(alloc, setup) {
             Ok(origins) => Ok(Tracking {
                 origins,
-                open: [None; 8],
+                opened: [None; 8],
             }),
             Err(_) => Err(AllocError),
         }
@@ -51,7 +51,7 @@ impl Tracking {
     {
         if let Some(call) = enters {
             self.origins.enter(core);
-            self.open[usize::from(core.number())] = Some(*call);
+            self.opened[usize::from(core.number())] = Some(*call);
         }
     }
 
@@ -66,7 +66,7 @@ impl Tracking {
             Ok(()) => {}
             Err(_) => return Err(AllocError),
         }
-        self.open[usize::from(core.number())] = None;
+        self.opened[usize::from(core.number())] = None;
         Ok(())
     }
 
@@ -77,7 +77,7 @@ impl Tracking {
         let Some(reply) = decides else {
             return Ok(());
         };
-        let Some(call) = self.open[usize::from(core.number())] else {
+        let Some(call) = self.opened[usize::from(core.number())] else {
             return Ok(());
         };
         self.decide_open(core, &call, reply)
@@ -89,7 +89,7 @@ impl Tracking {
     {
         if let Some(_) = returns {
             self.origins.leave(core);
-            self.open[usize::from(core.number())] = None;
+            self.opened[usize::from(core.number())] = None;
         }
     }
 }

@@ -64,20 +64,20 @@ few_before_return n c (Some r) events few = few
 -- The origins stand for the events, core c's open call is that of its phase, and those of the others are as before.
 record At (setup : Setting) (events : List Event) (c : ℕ) (p : Phase) (before w : Tracked) : Type 0 where
   stands : StandsFor setup events w.origins
-  own : slice_get w.open c ≡ Some (open_call p)
-  others : (d : ℕ) → d ≢ c → slice_get w.open d ≡ slice_get before.open d
+  own : slice_get w.opened c ≡ Some (open_call p)
+  others : (d : ℕ) → d ≢ c → slice_get w.opened d ≡ slice_get before.opened d
 
-within : (w : Tracked) (c : ℕ) (o : Option Call) → slice_get w.open c ≡ Some o → c < length w.open
-within w c o is = stands_within w.open c (ap is_some is)
+within : (w : Tracked) (c : ℕ) (o : Option Call) → slice_get w.opened c ≡ Some o → c < length w.opened
+within w c o is = stands_within w.opened c (ap is_some is)
 
 -- Another open call of core c.
-set_own : (w w' : Tracked) (c : ℕ) (o x : Option Call) → slice_get w.open c ≡ Some o → w'.open ≡ Rattle.std.specs.Prelude.slice_set w.open c x
-    → slice_get w'.open c ≡ Some x
-set_own w w' c o x is set = ap (λ xs. slice_get xs c) set ∙ set_here w.open c x (within w c o is)
+set_own : (w w' : Tracked) (c : ℕ) (o x : Option Call) → slice_get w.opened c ≡ Some o → w'.opened ≡ Rattle.std.specs.Prelude.slice_set w.opened c x
+    → slice_get w'.opened c ≡ Some x
+set_own w w' c o x is set = ap (λ xs. slice_get xs c) set ∙ set_here w.opened c x (within w c o is)
 
-set_other : (w w' : Tracked) (c d : ℕ) (x : Option Call) → w'.open ≡ Rattle.std.specs.Prelude.slice_set w.open c x → d ≢ c
-    → slice_get w'.open d ≡ slice_get w.open d
-set_other w w' c d x set ne = ap (λ xs. slice_get xs d) set ∙ set_apart w.open c d x ne
+set_other : (w w' : Tracked) (c d : ℕ) (x : Option Call) → w'.opened ≡ Rattle.std.specs.Prelude.slice_set w.opened c x → d ≢ c
+    → slice_get w'.opened d ≡ slice_get w.opened d
+set_other w w' c d x set ne = ap (λ xs. slice_get xs d) set ∙ set_apart w.opened c d x ne
 
 module _ (setup : Setting) (lim : IsSetting setup) (c : ℕ) (before : Tracked) where
   entered : (enters : Option Call) (events : List Event) (p : Phase) (w w' : Tracked) → At setup events c p before w
@@ -143,7 +143,7 @@ module _ (setup : Setting) (lim : IsSetting setup) (t : Trace) (e : Step) (w w1 
   few2 = few_before_return 4294967296 c e.returns events2 few
 
   here : At setup (events_of t) c (phase t c) w w
-  here = record { stands = tracks.stands; own = tracks.open c core; others = λ d ne. refl }
+  here = record { stands = tracks.stands; own = tracks.opened c core; others = λ d ne. refl }
 
   at1 : At setup events1 c p1 w w1
   at1 = entered setup lim c w e.enters (events_of t) (phase t c) w w1 here enters (run_before_decision setup c e.decides p1 events1 run2)
@@ -158,14 +158,14 @@ module _ (setup : Setting) (lim : IsSetting setup) (t : Trace) (e : Step) (w w1 
   pub step_tracked : Tracks setup (e ∷ t) w3
   step_tracked = record {
     stands = at3.stands;
-    open = λ d small. elim (cases_eq d c) [
+    opened = λ d small. elim (cases_eq d c) [
       | inl same ↦
-          ap (slice_get w3.open) same ∙ at3.own
+          ap (slice_get w3.opened) same ∙ at3.own
           ∙ (λ i. Some (open_call (after_return e.returns (after_decide e.decides (after_enter e.enters (phase t (sym same i)))))))
           ∙ ap (λ b. Some (open_call (if b then after_return e.returns (after_decide e.decides (after_enter e.enters (phase t d)))
           else phase t d))) (sym (eq-eqb d c same))
       | inr ne ↦
-          at3.others d ne ∙ tracks.open d small
+          at3.others d ne ∙ tracks.opened d small
           ∙ ap (λ b. Some (open_call (if b then after_return e.returns (after_decide e.decides (after_enter e.enters (phase t d)))
           else phase t d))) (sym (ne_eqb d c ne))
     ];
