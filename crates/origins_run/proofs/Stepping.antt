@@ -1,6 +1,6 @@
 -- The origins stand for a trace with one step more.
 use Rattle.std.proofs.Common.{◌≡◌, ◌≢◌, inl, inr, ℕ, ◌+◌, ◌<◌, ◌≤◌, ◌++◌, ◌==◌, Bool, true, false, refl, sym, ◌∙◌, ap, subst, arith}
-use Rattle.std.proofs.Common.{List, [], ◌∷◌, length, Option, Some, None, is_some, slice_get, if◌then◌else◌}
+use Rattle.std.proofs.Common.{List, [], ◌∷◌, length, All, Option, Some, None, is_some, slice_get, if◌then◌else◌}
 use Rattle.std.proofs.lemmas.Bool.{cases_eq, eq-eqb, ne_eqb}
 use Rattle.spk_nums.specs.Setting.{Setting, IsSetting}
 use Rattle.spk_nums.specs.CallLimits.{InLimits}
@@ -24,6 +24,7 @@ use Rattle.origin_lines.specs.confinement.specs.Known.{Known, StandsFor}
 use Rattle.origin_lines.specs.Lines.{TellsOrigins}
 use Rattle.origins_run.specs.Tracked.{Tracked, EntersBy, DecidesOpen, DecidesIn, DecidesBy, LeavesBy, open_call, Tracks, has_tracked}
 use Rattle.origins_run.specs.GivenOrigins.{GivenOrigins}
+use Rattle.origins_run.proofs.Deciding.{few_decided}
 
 -- ---- parts of a run
 
@@ -199,13 +200,17 @@ tracks_next w w1 w2 w3 made enters decides leaves setup first t e next seen begu
 -- ---- at the end
 
 pub given : (setup : Setting) (lists : List (List Call)) (items : List Item) (first last : Tracked) (text : List ℕ)
-    → Tracks setup [] first → TellsOrigins last.origins [] text
+    → All (λ l. length l < 536870912) lists → Tracks setup [] first → TellsOrigins last.origins [] text
     → GivenWatched Tracked (λ setup first t last. has_tracked setup first t last) setup lists items first last
     → GivenOrigins setup lists items text
-given setup lists items first last text begun tells w = record {
+given setup lists items first last text small begun tells w = record {
   trace = w.trace;
   history = w.history;
   calls = w.calls;
   order = w.order;
-  is_text = λ few. tells setup w.setting (events_of w.trace) (legal_runs setup w.trace w.history.legal).run (w.seen begun few).stands;
+  is_text = tells setup w.setting (events_of w.trace) run
+      (w.seen begun (few_decided setup w.setting lists small w.trace run w.calls)).stands;
 }
+  where
+    run : IsRun setup (events_of w.trace)
+    run = (legal_runs setup w.trace w.history.legal).run

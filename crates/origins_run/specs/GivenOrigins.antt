@@ -1,5 +1,5 @@
 -- The theorem on the origins after given steps.
-use Rattle.std.specs.Prelude.{◌≡◌, ◌<◌, ◌^◌, ℕ, List}
+use Rattle.std.specs.Prelude.{◌≡◌, ℕ, List}
 use Rattle.spk_nums.specs.Setting.{Setting}
 use Rattle.spk_nums.specs.declared.calls.Call.{Call}
 use Rattle.spk_nums.specs.declared.steps.Item.{Item}
@@ -8,14 +8,13 @@ use Rattle.told_run.specs.lone_kernel.specs.kernel_history.specs.Events.{events_
 use Rattle.told_run.specs.lone_kernel.specs.kernel_history.specs.Order.{HasCalls, Follows}
 use Rattle.told_run.specs.lone_kernel.specs.flight.specs.Made.{ready_after}
 use Rattle.told_run.specs.lone_kernel.specs.flight_laws.specs.Histories.{IsHistory}
-use Rattle.origin_rules.specs.Chains.{decided}
 use Rattle.origin_lines.specs.Lines.{origins_text}
 
 -- There is one trace that is a history of the machine, has the calls of the lists once and in order, follows the order, and at whose end
--- the capabilities that are held have the origins that the text tells, if the trace has fewer than 2^32 decisions.
+-- the capabilities that are held have the origins that the text tells.
 pub record GivenOrigins (setup : Setting) (lists : List (List Call)) (items : List Item) (text : List ℕ) : Type 0 where
   pub trace : Trace
   pub history : IsHistory setup trace
   pub calls : HasCalls lists trace
   pub order : Follows (ready_after setup) lists items trace
-  pub is_text : decided (events_of trace) < 2 ^ 32 → text ≡ origins_text setup (events_of trace)
+  pub is_text : text ≡ origins_text setup (events_of trace)

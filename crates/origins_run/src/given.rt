@@ -10,8 +10,8 @@ use std::alloc::Global;
 use told_run::watch;
 
 /// Takes the items of the order, then runs each core out, as `replay` does, and answers the lines that tell where each capability came
-/// from that is held in the end. There is a list for each core, each of fewer than 2^32 calls that are within their limits; it fails
-/// only where memory runs out. The lines are said of runs of fewer than 2^32 decisions.
+/// from that is held in the end. There is a list for each core, each of fewer than 2^29 calls that are within their limits, so that the
+/// numbers of decisions are below 2^32; it fails only where memory runs out.
 pub fn origins(
     alloc: Global,
     setup: &Setup,
@@ -19,6 +19,7 @@ pub fn origins(
     items: &[Item],
 ) -> Result<String, Memory>
     requires can_run { AreLists (map (λ v. v.items) lists.items) }
+    requires few { All (λ calls. length calls < 536870912) (map (λ v. v.items) lists.items) }
     requires one_each { length lists.items ≡ setup.now.cores }
     requires named { All (λ item. item.core < setup.now.cores) items.now }
     ensures { IfOk result (λ text. GivenOrigins setup.now (map (λ v. v.items) lists.items) items.now (string_bytes text)) }
