@@ -1,12 +1,11 @@
 -- Chains of links that are shared.
-use Rattle.std.proofs.Common.{◌≡◌, ◌≢◌, inl, inr, ℕ, zero, suc, ◌+◌, ◌<◌, ◌≤◌, refl, sym, ◌∙◌, ap, subst, arith}
+use Rattle.std.proofs.Common.{◌≡◌, inl, inr, ℕ, zero, suc, ◌+◌, ◌<◌, ◌≤◌, refl, sym, ◌∙◌, ap, subst, arith}
 use Rattle.std.proofs.Common.{List, [], ◌∷◌, ◌++◌, length, slice_get, append_assoc, Option, Some, None}
 use Rattle.std.proofs.lemmas.Bool.{cases_eq}
 use Rattle.std.proofs.lemmas.Option.{slice_get_within}
 use Rattle.kernel_invariant.proofs.Facts.{some_inj}
 use Rattle.seq_state.proofs.Lists.{push_here, push_apart, push_longer}
 use Rattle.origin_rules.specs.declared.chains.ChainLink.{ChainLink}
-use Rattle.origin_rules.specs.Chains.{Origin}
 use Rattle.confinement.specs.declared.table.Kept.{Kept}
 use Rattle.confinement.specs.declared.table.Head.{Head}
 use Rattle.confinement.specs.Links.{list_of, chain_from, IsBelow, places_left, GoOn, origin_in}

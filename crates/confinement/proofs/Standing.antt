@@ -4,7 +4,7 @@ use Rattle.std.proofs.Common.{List, [], ◌∷◌, Option, Some, None, is_some, 
 use Rattle.std.proofs.lemmas.Bool.{cases_eq, false≢true, and_parts, ltb-true, lt-ltb, le-ltb}
 use Rattle.std.specs.Option.{option_map, option_and_then}
 use Rattle.spk_nums.specs.Capability.{Capability}
-use Rattle.spk_nums.specs.Setting.{Setting, IsSetting}
+use Rattle.spk_nums.specs.Setting.{Setting}
 use Rattle.spk_nums.specs.declared.calls.Call.{Call}
 use Rattle.spk_nums.specs.declared.replies.Reply.{Reply}
 use Rattle.kernel_rules.specs.State.{Core, Grace, Limits, State, with_core, put}
@@ -20,7 +20,7 @@ use Rattle.seq_state.proofs.Same.{same_by, same_then, same_core}
 use Rattle.same_changes.proofs.Reaching.{Twins}
 use Rattle.same_changes.proofs.EveryCall.{twins}
 use Rattle.call_judge.specs.Judged.{JudgesExactly, IsJudged}
-use Rattle.origin_rules.specs.Chains.{Origin, ChainValue, Put, puts_by, with_put, decided, origin_of, held_at, own_cap, with_origin, chain_of}
+use Rattle.origin_rules.specs.Chains.{Origin, ChainValue, Put, puts_by, with_put, decided, origin_of, held_at, own_cap, with_origin}
 use Rattle.confinement.specs.Links.{Table, origin_at, PutsBy, origin_at_start, put_origin}
 use Rattle.confinement.specs.Known.{Known, StandsFor, Takes, chain_known, IsChainOf}
 use Rattle.confinement.proofs.Putting.{AreSlots, puts_by_same, puts_slots}

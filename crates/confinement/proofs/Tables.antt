@@ -11,7 +11,6 @@ use Rattle.kernel_invariant.proofs.Facts.{some_inj, none_some}
 use Rattle.seq_state.specs.Maps.{at_place}
 use Rattle.seq_state.proofs.Lists.{set_here, set_apart, push_here, push_apart, push_longer}
 use Rattle.seq_state.proofs.MapLemmas.{at_place_is}
-use Rattle.origin_rules.specs.declared.chains.ChainLink.{ChainLink}
 use Rattle.origin_rules.specs.Chains.{Origin, Put}
 use Rattle.confinement.specs.declared.table.Kept.{Kept}
 use Rattle.confinement.specs.declared.table.Head.{Head}

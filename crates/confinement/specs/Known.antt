@@ -1,5 +1,5 @@
 -- What is known of where capabilities come from, and when it stands for the events of a run.
-use Rattle.std.specs.Prelude.{◌≡◌, ◌<◌, ◌^◌, ℕ, List, ◌∷◌, Option, Some, None}
+use Rattle.std.specs.Prelude.{◌≡◌, ◌<◌, ◌^◌, ℕ, List, ◌∷◌, Option, Some}
 use Rattle.std.specs.Option.{option_map, option_and_then}
 use Rattle.spk_nums.specs.Setting.{Setting, IsSetting}
 use Rattle.kernel_rules.specs.Runs.{Event, after, IsRun}
