@@ -1,5 +1,5 @@
 -- The lists of a script can be run: their calls are within their limits, and few.
-use Rattle.std.proofs.Common.{ℕ, ◌<◌, ◌^◌, List, All, arith}
+use Rattle.std.proofs.Common.{ℕ, ◌<◌, ◌^◌, List, All, length, arith}
 use Rattle.spk_nums.specs.declared.calls.Call.{Call}
 use Rattle.spk_nums.specs.CallLimits.{InLimits}
 use Rattle.script_reader.specs.Readings.{AtMost}
@@ -7,3 +7,7 @@ use Rattle.trace_run.specs.lone_kernel.specs.Machine.{AreLists}
 
 pub accepted : (n : ℕ) (lists : List (List Call)) → All (All InLimits) lists → All (AtMost n) lists → n < 2 ^ 32 → AreLists lists
 accepted n lists within most small = λ k d h. let few = most k d h in (within k d h, omega arith)
+
+-- lists of a script of fewer than 2^29 bytes are shorter than that
+pub few_lists : (n : ℕ) (lists : List (List Call)) → All (AtMost n) lists → n < 536870912 → All (λ calls. length calls < 536870912) lists
+few_lists n lists most small = λ k d h. let few = most k d h in omega arith

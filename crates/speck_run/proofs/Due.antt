@@ -10,7 +10,7 @@ use Rattle.script_reader.specs.declared.cause.Cause.{Cause}
 use Rattle.script_reader.specs.Readings.{First_fault}
 use Rattle.load_maker.specs.Loads.{load_text}
 use Rattle.speck_run.specs.declared.words.Command.{Command}
-use Rattle.speck_run.specs.declared.words.Command.TheVariants.{Replay, Trace, Draw, Run, Plain, Print, Ends, Sched}
+use Rattle.speck_run.specs.declared.words.Command.TheVariants.{Replay, Trace, Draw, Run, Plain, Print, Ends, Sched, Check, Origins}
 use Rattle.speck_run.specs.declared.answers.Answer.{Answer}
 use Rattle.speck_run.specs.declared.top.Status.{Status}
 use Rattle.speck_run.specs.declared.top.Status.TheVariants.{Done, Words, Script, ReadFault, WriteFault, Memory, TooLong, Stopped}
@@ -32,7 +32,8 @@ told texts = if is_word texts (codes "replay") then Some Replay else if is_word 
     else if is_word texts (codes "draw") then Some Draw
     else if is_word texts (codes "run") then Some Run else if is_word texts (codes "plain") then Some Plain
     else if is_word texts (codes "print") then Some Print else if is_word texts (codes "ends") then Some Ends
-    else if is_word texts (codes "sched") then Some Sched else None
+    else if is_word texts (codes "sched") then Some Sched else if is_word texts (codes "check") then Some Check
+    else if is_word texts (codes "origins") then Some Origins else None
 
 told_word : (command : Command) → told (word_of command ∷ []) ≡ Some command
 unfolding told is_word

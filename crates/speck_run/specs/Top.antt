@@ -8,7 +8,7 @@ use Rattle.script_reader.specs.Causes.{cause_text}
 use Rattle.script_reader.specs.Numerals.{number_of}
 use Rattle.load_maker.specs.Loads.{script_made, load_text}
 use Rattle.speck_run.specs.declared.words.Command.{Command}
-use Rattle.speck_run.specs.declared.words.Command.TheVariants.{Replay, Trace, Draw, Run, Plain, Print, Ends, Sched}
+use Rattle.speck_run.specs.declared.words.Command.TheVariants.{Replay, Trace, Draw, Run, Plain, Print, Ends, Sched, Check, Origins}
 use Rattle.speck_run.specs.declared.top.Status.{Status}
 use Rattle.speck_run.specs.declared.top.Status.TheVariants.{Done, Words, Script, ReadFault, WriteFault, Memory, TooLong, Stopped}
 use Rattle.whole_ends.specs.Ends.{Gives, GivesAll, AddsFront}
@@ -32,6 +32,8 @@ word_of Plain = codes "plain"
 word_of Print = codes "print"
 word_of Ends = codes "ends"
 word_of Sched = codes "sched"
+word_of Check = codes "check"
+word_of Origins = codes "origins"
 
 -- The words ask for the command: they are its word alone.
 abbrev pub Asks : CommandLine → Command → Type 0

@@ -10,10 +10,12 @@ use crate::replay::replay;
 use crate::runs::run_lists;
 use crate::top::Status;
 use crate::words::Command;
+use check_run::check;
 use core_kernel::Gate;
 use draw_run::draw;
 use ends_reader::read_ends;
 use one_core::run_sched;
+use origins_run::origins;
 use plain_run::plain;
 use script_printer::print;
 use script_reader::{ReadFault, Script, read};
@@ -174,6 +176,40 @@ fn judge_sched(alloc: Global, bytes: &[u8]) -> Result<Answer, Memory>
     }
 }
 
+// What is due under `check`.
+fn judge_history(alloc: Global, bytes: &[u8]) -> Result<Answer, Memory>
+    requires { length bytes.now ≤ 1048576 }
+    ensures due { IfOk result (λ answer. IsDueOf commands.Check bytes.now answer.status (string_bytes answer.text)) }
+    ensures free { IfOk result (λ answer. answer.status ≡ Status.Stopped → ⊥) }
+{
+    match check(alloc, bytes) {
+        Ok(text) => Ok(made(text)),
+        Err(ReadFault::Memory) => Err(Memory),
+        Err(ReadFault::Script { line, cause }) => refuse(alloc, line, cause),
+    }
+}
+
+// What is due under `origins`.
+fn judge_origins(alloc: Global, bytes: &[u8]) -> Result<Answer, Memory>
+    requires { length bytes.now ≤ 1048576 }
+    ensures due { IfOk result (λ answer. IsDueOf commands.Origins bytes.now answer.status (string_bytes answer.text)) }
+    ensures free { IfOk result (λ answer. answer.status ≡ Status.Stopped → ⊥) }
+{
+    let script = match read(alloc, bytes) {
+        Ok(script) => script,
+        Err(ReadFault::Memory) => return Err(Memory),
+        Err(ReadFault::Script { line, cause }) => return refuse(alloc, line, cause),
+    };
+    let Script {
+        version: _,
+        setup,
+        lists,
+        order,
+    } = script;
+    let text = origins(alloc, &setup, lists, &order)?;
+    Ok(made(text))
+}
+
 /// What is due for an input that was read to its end.
 pub fn judge_input<R: Threads + Sync, G: Gate>(
     rt: &R,
@@ -195,5 +231,7 @@ pub fn judge_input<R: Threads + Sync, G: Gate>(
         Command::Print => judge_print(alloc, bytes),
         Command::Ends => judge_ends(rt, alloc, gate, bytes),
         Command::Sched => judge_sched(alloc, bytes),
+        Command::Check => judge_history(alloc, bytes),
+        Command::Origins => judge_origins(alloc, bytes),
     }
 }

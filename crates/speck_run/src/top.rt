@@ -13,6 +13,9 @@ ghost use Rattle.script_printer.specs.Printing.{printed};
 ghost use Rattle.ends_reader.specs.Inputs.{input_of};
 ghost use Rattle.one_core.specs.sched_reader.specs.Inputs.{input_of as sched_input_of};
 ghost use Rattle.one_core.specs.Scheduled.{SchedTrace};
+ghost use Rattle.check_run.specs.history_reader.specs.Inputs.{history_of};
+ghost use Rattle.check_run.specs.Checked.{IsJudged};
+ghost use Rattle.origins_run.specs.GivenOrigins.{GivenOrigins};
 ghost use Rattle.load_maker.specs.Loads.{load_text};
 ghost use Rattle.speck_run.specs.declared.words.Command.{Command};
 ghost use Rattle.speck_run.specs.declared.words.Command.TheVariants as commands;
@@ -169,7 +172,7 @@ fn finish<K: Sink>(sink: &mut K, answer: &Answer) -> Status
 /// Does all that the program does: judges the words, reads the source, takes the script and writes
 /// the sink.
 ///
-/// Words other than `replay`, `trace`, `draw`, `run`, `plain`, `print`, `ends` or `sched` alone,
+/// Words other than `replay`, `trace`, `draw`, `run`, `plain`, `print`, `ends`, `sched`, `check` or `origins` alone,
 /// and `make` and `load` with a number from 0 to 4,294,967,295, are `Words`, and nothing is read. Under `make` and `load` nothing is read
 /// either, and the status is `Done`: `make` writes the text of the number's script, and `load` takes
 /// the steps of that script as `replay` does and writes their summary.
@@ -191,7 +194,10 @@ fn finish<K: Sink>(sink: &mut K, answer: &Answer) -> Status
 /// lines, the lines of the endpoint calls and those of the frames, and the status is `Done`, or
 /// `Stopped` as under `run`. Under `sched` the input is a script of one core with tasks after it: its
 /// calls are made, and then the schedule of the tasks; the turns are written and then a line for each
-/// task, and the status is `Done`. Each of the other statuses writes its line in place
+/// task, and the status is `Done`. Under `check` the input is a given history; its verdict is written,
+/// and the status is `Done`, whatever the verdict. Under `origins` the steps are taken as under
+/// `replay`; a line for each link of each capability that is held in the end is written, and the status
+/// is `Done`. Each of the other statuses writes its line in place
 /// of the text. A sink that fails is `WriteFault`, and holds a prefix of what was due. `Memory` may
 /// come in place of any status, and has written nothing. No read and no write that failed is tried
 /// again.
@@ -227,6 +233,12 @@ pub fn speck<R: Threads + Sync, G: Gate, S: Source, K: Sink>(
         (S.left source.old) (S.left source.new) (K.held sink.old) (K.held sink.new) }
     ensures sched { Asks words.now commands.Sched → result ≡ Status.Done
         → CarriesOut (IsMade sched_input_of SchedTrace)
+        (S.left source.old) (S.left source.new) (K.held sink.old) (K.held sink.new) }
+    ensures check { Asks words.now commands.Check → result ≡ Status.Done
+        → CarriesOut (IsMade history_of IsJudged)
+        (S.left source.old) (S.left source.new) (K.held sink.old) (K.held sink.new) }
+    ensures origins { Asks words.now commands.Origins → result ≡ Status.Done
+        → CarriesOut (IsMade script_of (λ script text. GivenOrigins script.setup script.lists script.order text))
         (S.left source.old) (S.left source.new) (K.held sink.old) (K.held sink.new) }
     ensures make { (number : ℕ) → AsksMake words.now number → result ≡ Status.Done
         → Adds (load_text number) (K.held sink.old) (K.held sink.new) }

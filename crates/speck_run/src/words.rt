@@ -24,6 +24,10 @@ pub enum Command {
     Ends,
     /// Makes the calls of a script of one core and then schedules tasks on it, and writes the turns.
     Sched,
+    /// Judges a given history, and writes the verdict.
+    Check,
+    /// Takes given steps of a script, and writes where each capability came from that is held in the end.
+    Origins,
 }
 
 // Whether the words are this one alone.
@@ -63,6 +67,12 @@ pub fn command_of(words: &Vec<String>) -> Option<Command>
     }
     if is_alone(words, "sched") {
         return Some(Command::Sched);
+    }
+    if is_alone(words, "check") {
+        return Some(Command::Check);
+    }
+    if is_alone(words, "origins") {
+        return Some(Command::Origins);
     }
     None
 }

@@ -62,6 +62,16 @@ returns-in-Ok-clause-sched g c asks done =
     carries c.args.words.now commands.Sched asks (g.S.Source.left c.args.source.now) _ _ _ c.in-Ok.answer.status _
     _ _ (g.K.Sink.held c.args.sink.now) _ c.finish.result c.in-Ok.ensures.due c.finish.ensures done
 
+pub returns-in-Ok-clause-check : goal.returns-in-Ok-clause-check
+returns-in-Ok-clause-check g c asks done =
+    carries c.args.words.now commands.Check asks (g.S.Source.left c.args.source.now) _ _ _ c.in-Ok.answer.status _
+    _ _ (g.K.Sink.held c.args.sink.now) _ c.finish.result c.in-Ok.ensures.due c.finish.ensures done
+
+pub returns-in-Ok-clause-origins : goal.returns-in-Ok-clause-origins
+returns-in-Ok-clause-origins g c asks done =
+    carries c.args.words.now commands.Origins asks (g.S.Source.left c.args.source.now) _ _ _ c.in-Ok.answer.status _
+    _ _ (g.K.Sink.held c.args.sink.now) _ c.finish.result c.in-Ok.ensures.due c.finish.ensures done
+
 pub returns-in-Ok-clause-make : goal.returns-in-Ok-clause-make
 returns-in-Ok-clause-make g c number asks done =
     let held = g.K.Sink.held c.args.sink.now in
