@@ -114,7 +114,7 @@ led_same s c n want = by_slot (reached s c (own s c n))
 abbrev pub SameEarlier : List Named → List Named → Type 0
 SameEarlier caps ks = (i : Nth) → earlier caps i ≡ earlier ks i
 
-wants_same : (caps ks : List Named) → SameEarlier caps ks → (name : Name) → want_of caps name ≡ want_of ks name
+pub wants_same : (caps ks : List Named) → SameEarlier caps ks → (name : Name) → want_of caps name ≡ want_of ks name
 wants_same caps ks e name = ap (λ kinds. record { kinds = kinds; needs = name.needs.0 }) (by_wanted name.wanted)
   where
     by_wanted : (w : Wanted) → wants caps w ≡ wants ks w
@@ -123,29 +123,29 @@ wants_same caps ks e name = ap (λ kinds. record { kinds = kinds; needs = name.n
     by_wanted Root = refl
     by_wanted (LeafOf i) = ap Rattle.kernel_rules.specs.CapabilityCalls.leaf_for (e i)
 
-place_same : (caps ks : List Named) → SameEarlier caps ks → (spot : Spot) → place_of_spot caps spot ≡ place_of_spot ks spot
+pub place_same : (caps ks : List Named) → SameEarlier caps ks → (spot : Spot) → place_of_spot caps spot ≡ place_of_spot ks spot
 place_same caps ks e (Under i n) = ap (λ k. under k n) (e i)
 place_same caps ks e (InRoot i n) = ap (λ k. Rattle.kernel_rules.specs.Access.InRoot k n) (e i)
 
-earlier_0 : SameEarlier [] (not_found ∷ not_found ∷ not_found ∷ not_found ∷ [])
+pub earlier_0 : SameEarlier [] (not_found ∷ not_found ∷ not_found ∷ not_found ∷ [])
 earlier_0 First = refl
 earlier_0 Second = refl
 earlier_0 Third = refl
 earlier_0 Fourth = refl
 
-earlier_1 : (a : Named) → SameEarlier (a ∷ []) (a ∷ not_found ∷ not_found ∷ not_found ∷ [])
+pub earlier_1 : (a : Named) → SameEarlier (a ∷ []) (a ∷ not_found ∷ not_found ∷ not_found ∷ [])
 earlier_1 a First = refl
 earlier_1 a Second = refl
 earlier_1 a Third = refl
 earlier_1 a Fourth = refl
 
-earlier_2 : (a b : Named) → SameEarlier (a ∷ b ∷ []) (a ∷ b ∷ not_found ∷ not_found ∷ [])
+pub earlier_2 : (a b : Named) → SameEarlier (a ∷ b ∷ []) (a ∷ b ∷ not_found ∷ not_found ∷ [])
 earlier_2 a b First = refl
 earlier_2 a b Second = refl
 earlier_2 a b Third = refl
 earlier_2 a b Fourth = refl
 
-earlier_3 : (a b d : Named) → SameEarlier (a ∷ b ∷ d ∷ []) (a ∷ b ∷ d ∷ not_found ∷ [])
+pub earlier_3 : (a b d : Named) → SameEarlier (a ∷ b ∷ d ∷ []) (a ∷ b ∷ d ∷ not_found ∷ [])
 earlier_3 a b d First = refl
 earlier_3 a b d Second = refl
 earlier_3 a b d Third = refl
@@ -287,7 +287,7 @@ module _ (s : State) (c : ℕ) (r : Reply) where
 
 -- ---- all names
 
-too_long : {A : Type 0} (a b d e f : A) (xs : List A) → length (a ∷ b ∷ d ∷ e ∷ f ∷ xs) ≤ 4 → ⊥
+pub too_long : {A : Type 0} (a b d e f : A) (xs : List A) → length (a ∷ b ∷ d ∷ e ∷ f ∷ xs) ≤ 4 → ⊥
 too_long a b d e f xs few = omega (arith, few)
 
 module _ (s : State) (c : ℕ) (plan : Plan) (r : Reply) where

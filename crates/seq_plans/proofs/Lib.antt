@@ -3,3 +3,4 @@ pub mod Deciding
 pub mod SameReplies
 pub mod OneOfCauses
 pub mod ByPlan
+pub mod Resolved

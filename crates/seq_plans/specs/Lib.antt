@@ -4,3 +4,4 @@ pub mod Refusals
 pub mod OwnCauses
 pub mod ReplyNumbers
 pub mod Carrying
+pub mod Resolving

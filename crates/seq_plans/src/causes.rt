@@ -10,6 +10,7 @@ ghost use Rattle.seq_plans.specs.OwnCauses.{cause_of, with_cause, causes_in, Are
 ghost use Rattle.seq_plans.specs.Refusals.{Decides};
 
 use crate::telling::is_refusal;
+use seq_lookups::{flushes_of, waits_of};
 use seq_state::{SeqKernel, Thing};
 use spk_nums::{Cap, CoreNo, FrameArg, Reply};
 
@@ -105,6 +106,71 @@ pub fn outside(range: &Option<Cap>, frame: FrameArg) -> Cause
         stands,
         refusal: Reply::OutOfRange,
     }
+}
+
+/// The refusal of a cause that stands.
+fn refusal_of(k: &SeqKernel, core: CoreNo, cause: &Cause) -> Option<Reply>
+    requires { IsFitCause (cause_of cause.now) }
+    ensures { result ≡ refusal_of (state_of k.now) core (cause_of cause.now) }
+{
+    match cause {
+        Cause::When { stands, refusal } => { if *stands { Some(*refusal) } else { None } }
+        Cause::WaitedFor(thing) => waits_of(k, core, *thing),
+        Cause::Unflushed(thing) => flushes_of(k, *thing),
+    }
+}
+
+/// The refusal of a cause, if there is one and it stands.
+fn refusal_if(k: &SeqKernel, core: CoreNo, cause: &Option<Cause>) -> Option<Reply>
+    requires { AreFitCauses (with_cause cause.now []) }
+    ensures { result ≡ first_cause (state_of k.now) core (with_cause cause.now []) }
+{
+    match cause {
+        None => None,
+        Some(cause) => refusal_of(k, core, cause),
+    }
+}
+
+/// That of the fifth cause, or else of the sixth.
+fn last_cause(k: &SeqKernel, core: CoreNo, causes: &Causes) -> Option<Reply>
+    requires { AreFitCauses (with_cause causes.now.fifth (with_cause causes.now.sixth [])) }
+    ensures { result ≡ first_cause (state_of k.now) core (with_cause causes.now.fifth (with_cause causes.now.sixth [])) }
+{
+    if let Some(refusal) = refusal_if(k, core, &causes.fifth) {
+        return Some(refusal);
+    }
+    refusal_if(k, core, &causes.sixth)
+}
+
+/// That of the third cause, or else of the first of those after it that stands.
+fn later_cause(k: &SeqKernel, core: CoreNo, causes: &Causes) -> Option<Reply>
+    requires { AreFitCauses
+        (with_cause causes.now.third (with_cause causes.now.fourth (with_cause causes.now.fifth (with_cause causes.now.sixth [])))) }
+    ensures { result ≡ first_cause (state_of k.now) core
+        (with_cause causes.now.third (with_cause causes.now.fourth (with_cause causes.now.fifth (with_cause causes.now.sixth [])))) }
+{
+    if let Some(refusal) = refusal_if(k, core, &causes.third) {
+        return Some(refusal);
+    }
+    if let Some(refusal) = refusal_if(k, core, &causes.fourth) {
+        return Some(refusal);
+    }
+    last_cause(k, core, causes)
+}
+
+/// The refusal of the first cause that stands, in their order: of a condition its own, of a thing for which another core waits
+/// `quiescing`, and of one that a core has not flushed `unflushed`, each with the lowest such core.
+pub fn first_cause(k: &SeqKernel, core: CoreNo, causes: &Causes) -> Option<Reply>
+    requires { AreFitCauses (causes_in causes.now) }
+    ensures { result ≡ first_cause (state_of k.now) core (causes_in causes.now) }
+{
+    if let Some(refusal) = refusal_if(k, core, &causes.first) {
+        return Some(refusal);
+    }
+    if let Some(refusal) = refusal_if(k, core, &causes.second) {
+        return Some(refusal);
+    }
+    later_cause(k, core, causes)
 }
 
 /// Whether core `other`, not this one, is in a call and may still be in the grace period of a thing.
@@ -207,5 +273,5 @@ ghost use Rattle.kernel_rules.specs.Access.{found};
 ghost use Rattle.kernel_rules.specs.CapabilityCalls.{has_frame, outside};
 ghost use Rattle.seq_plans.specs.Reaches.{named_of};
 ghost use Rattle.kernel_rules.specs.Laws.{IsRefusal};
-ghost use Rattle.kernel_rules.specs.Rules.{WaitedMay, UnflushedMay};
+ghost use Rattle.kernel_rules.specs.Rules.{WaitedMay, UnflushedMay, refusal_of, first_cause};
 ghost use Rattle.seq_plans.specs.OwnCauses.{IsFitCause};

@@ -54,7 +54,7 @@ fn is_leaf_for(root: Option<Cap>, kind: Kind) -> bool
 
 impl Looked {
     /// Nothing.
-    fn nothing() -> Looked
+    pub(crate) fn nothing() -> Looked
         ensures { result ≡ nothing }
     {
         Looked {
@@ -68,7 +68,7 @@ impl Looked {
     }
 
     /// What the name at this place leads to.
-    fn get(&self, nth: Nth) -> Option<Cap>
+    pub(crate) fn get(&self, nth: Nth) -> Option<Cap>
         ensures { named_of result ≡ earlier (names_in self.now) nth }
     {
         match nth {
