@@ -1,18 +1,15 @@
 //! The blank frame and the liveness number that a `make` takes, and what becomes of them.
 
-ghost use Rattle.std.specs.Prelude.{◌≡◌, ◌<◌, ◌≤◌, ◌+◌, IfOk, [], ◌∷◌};
+ghost use Rattle.std.specs.Prelude.{◌≡◌, ◌<◌};
 ghost use Rattle.spk_nums.specs.Limits.{least_arg, end_of_arg};
-ghost use Rattle.kernel_rules.specs.Access.{found};
-ghost use Rattle.kernel_rules.specs.Rules.{unless, first_cause};
-ghost use Rattle.kernel_rules.specs.CapabilityCalls.{outside, not_blank, cleared, makes, epoch_of, not_taken, is_blank, is_live};
+ghost use Rattle.kernel_rules.specs.CapabilityCalls.{cleared, makes, epoch_of, is_blank, is_live};
 ghost use Rattle.seq_state.specs.Parts.{object_of, frame_of, number_of};
 ghost use Rattle.seq_state.specs.Maps.{state_of};
 ghost use Rattle.seq_state.specs.Representation.{Represents};
-ghost use Rattle.seq_lookups.specs.Judged.{judged};
 
-use seq_lookups::{Slot, frame_in, waits_of};
+use seq_lookups::Slot;
 use seq_state::{Frame, Liveness, Object, Place, SeqKernel, Thing};
-use spk_nums::{Cap, CoreNo, EntryNo, FrameArg, FrameNo, Kind, Reply};
+use spk_nums::{Cap, EntryNo, FrameNo, Kind};
 
 /// Whether a frame is a blank kernel frame.
 pub(crate) fn is_blank(frame: Frame) -> bool
@@ -21,20 +18,6 @@ pub(crate) fn is_blank(frame: Frame) -> bool
     match frame {
         Frame::Kernel(Object::Blank) => true,
         _ => false,
-    }
-}
-
-/// The blank frame of a range: `out-of-range` where the range does not have it, `frame-kind` where it is not blank.
-pub(crate) fn blank_in(k: &SeqKernel, range: &Cap, frame: FrameArg) -> Result<FrameNo, Reply>
-    ensures refusal { range.now.frame + range.now.arg ≤ (state_of k.now).limits.frames → judged result
-        ≡ unless (first_cause (state_of k.now) 0 (outside (found range.now) frame ∷ not_blank (state_of k.now) frame ∷ [])) frame }
-    ensures frame { IfOk result (λ f. (f ≡ frame) × (f < (state_of k.now).limits.frames)) }
-{
-    let found = frame_in(k, range, frame)?;
-    if is_blank(k.frame(found)) {
-        Ok(found)
-    } else {
-        Err(Reply::FrameKind)
     }
 }
 
@@ -85,27 +68,6 @@ pub(crate) fn epoch_of(number: &Liveness) -> u16
         Liveness::Unused => 0,
         Liveness::Live { epoch, .. } => *epoch,
         Liveness::Dead { epoch } => *epoch,
-    }
-}
-
-/// The next epoch of a liveness number that may be taken: `occupied` where it is live, `quiescing` where another core waits
-/// for it, `epochs-spent` where it has had its last epoch.
-pub(crate) fn next_epoch(k: &SeqKernel, core: CoreNo, live: u8) -> Result<u16, Reply>
-    ensures { epoch_of ((state_of k.now).number live) ≤ (state_of k.now).limits.epochs → judged result
-        ≡ unless (first_cause (state_of k.now) core (not_taken (state_of k.now) live)) (epoch_of ((state_of k.now).number live) + 1) }
-{
-    let number = k.number(live);
-    if is_live(&number) {
-        return Err(Reply::Occupied);
-    }
-    if let Some(refusal) = waits_of(k, core, Thing::NumberOf(live)) {
-        return Err(refusal);
-    }
-    let epoch = epoch_of(&number);
-    if epoch < k.epochs() {
-        Ok(epoch + 1)
-    } else {
-        Err(Reply::EpochsSpent)
     }
 }
 

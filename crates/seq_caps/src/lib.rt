@@ -16,10 +16,7 @@
 #![tactic(auto)]
 
 mod carrying;
-mod entries;
 mod frames;
-mod makes;
-mod nodes;
 mod one;
 mod own_causes;
 #[cfg(test)]

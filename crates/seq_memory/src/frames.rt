@@ -1,18 +1,13 @@
-//! What stands against the retype of a frame, and against mapping it.
+//! What a frame has: whether it is untyped or a user frame, and whether its object is empty.
 
-ghost use Rattle.std.specs.Prelude.{◌≡◌, ◌<◌, ◌≤◌, ◌+◌, [], ◌∷◌, length, not, IfOk, is_some};
-ghost use Rattle.spk_nums.specs.declared.kinds.FrameKind.TheVariants as frame_kind;
-ghost use Rattle.kernel_rules.specs.Access.{found, held_in};
-ghost use Rattle.kernel_rules.specs.Rules.{unless, first_cause};
-ghost use Rattle.kernel_rules.specs.CapabilityCalls.{outside};
-ghost use Rattle.kernel_rules.specs.MemoryCalls.{is_untyped, is_user, holds_nothing, is_empty_object, is_empty, not_retyped, not_user};
+ghost use Rattle.std.specs.Prelude.{◌≡◌, is_some};
+ghost use Rattle.kernel_rules.specs.Access.{held_in};
+ghost use Rattle.kernel_rules.specs.MemoryCalls.{is_untyped, is_user, holds_nothing, is_empty_object, is_empty};
 ghost use Rattle.seq_state.specs.Parts.{object_of, frame_of, place_held};
 ghost use Rattle.seq_state.specs.Maps.{state_of};
-ghost use Rattle.seq_lookups.specs.Judged.{judged};
 
-use seq_lookups::{flushes_of, frame_in, waits_of};
-use seq_state::{Frame, Object, Place, SeqKernel, Thing};
-use spk_nums::{Cap, CoreNo, EntryNo, FrameArg, FrameNo, Reply};
+use seq_state::{Frame, Object, Place, SeqKernel};
+use spk_nums::{EntryNo, FrameNo};
 
 /// Whether a frame is untyped.
 pub(crate) fn is_untyped(frame: &Frame) -> bool
@@ -80,59 +75,5 @@ pub(crate) fn is_empty(k: &SeqKernel, frame: FrameNo, value: &Frame) -> bool
     match value {
         Frame::Kernel(object) => is_empty_object(k, frame, object),
         _ => true,
-    }
-}
-
-/// Why a core may not retype a frame of the machine to untyped: `frame-kind` where it is untyped, `referenced` with the count
-/// of its references, `quiescing` where another core waits for it, `unflushed` where a core has not flushed since, `not-empty`
-/// where its object is not empty.
-pub(crate) fn not_freed(k: &SeqKernel, core: CoreNo, frame: FrameNo) -> Option<Reply>
-    requires { frame < (state_of k.now).limits.frames }
-    ensures { result ≡ first_cause (state_of k.now) core (not_retyped (state_of k.now) frame frame_kind.Untyped) }
-{
-    let value = k.frame(frame);
-    if is_untyped(&value) {
-        return Some(Reply::FrameKind);
-    }
-    let refs = k.refs(frame);
-    if refs > 0 {
-        return Some(Reply::Referenced(refs));
-    }
-    if let Some(refusal) = waits_of(k, core, Thing::FrameOf(frame)) {
-        return Some(refusal);
-    }
-    if let Some(refusal) = flushes_of(k, Thing::FrameOf(frame)) {
-        return Some(refusal);
-    }
-    if is_empty(k, frame, &value) {
-        None
-    } else {
-        Some(Reply::NotEmpty)
-    }
-}
-
-/// Why a core may not make a frame of the machine a user or a kernel frame: `frame-kind` where it is not untyped.
-pub(crate) fn not_taken(k: &SeqKernel, core: CoreNo, frame: FrameNo) -> Option<Reply>
-    requires { frame < (state_of k.now).limits.frames }
-    ensures { result ≡ first_cause (state_of k.now) core (not_retyped (state_of k.now) frame frame_kind.User) }
-{
-    if is_untyped(&k.frame(frame)) {
-        None
-    } else {
-        Some(Reply::FrameKind)
-    }
-}
-
-/// The user frame of a range: `out-of-range` where the range does not have it, `frame-kind` where it is no user frame.
-pub(crate) fn user_in(k: &SeqKernel, range: &Cap, frame: FrameArg) -> Result<FrameNo, Reply>
-    ensures refusal { range.now.frame + range.now.arg ≤ (state_of k.now).limits.frames → judged result
-        ≡ unless (first_cause (state_of k.now) 0 (outside (found range.now) frame ∷ not_user (state_of k.now) frame ∷ [])) frame }
-    ensures frame { IfOk result (λ f. (f ≡ frame) × (f < (state_of k.now).limits.frames)) }
-{
-    let found = frame_in(k, range, frame)?;
-    if is_user(&k.frame(found)) {
-        Ok(found)
-    } else {
-        Err(Reply::FrameKind)
     }
 }

@@ -19,7 +19,6 @@ mod carrying;
 mod frames;
 mod one;
 mod own_causes;
-mod pages;
 mod retyping;
 #[cfg(test)]
 mod tests;

@@ -4,35 +4,17 @@ ghost use Rattle.std.specs.Prelude.{◌<◌, IsOk, IfOk};
 ghost use Rattle.spk_nums.specs.CallLimits.{InLimits};
 ghost use Rattle.kernel_rules.specs.CallRelation.{change_of};
 ghost use Rattle.seq_state.specs.Maps.{state_of};
-ghost use Rattle.seq_lookups.specs.Judged.{answered};
 ghost use Rattle.seq_lookups.specs.Carried.{IsCarriedOut};
 ghost use Rattle.seq_lookups.specs.Ranges.{IsInRange};
 ghost use Rattle.seq_memory.specs.Own.{IsMemoryCall};
 
-use crate::pages::{map, unmap};
-use crate::retyping::retype;
-use crate::touching::{flush, touch};
+use crate::carrying::carry_out;
+use crate::own_causes::causes;
+use call_plans::plan_of;
+use seq_plans::{first_cause, resolve};
 use seq_state::SeqKernel;
-use spk_nums::{Call, CoreNo, Memory, Reply, Value};
+use spk_nums::{Call, CoreNo, Memory, Reply};
 use std::alloc::Global;
-
-/// The answer of a call on memory, or its refusal.
-fn carry_out(k: &mut SeqKernel, core: CoreNo, call: &Call) -> Result<Value, Reply>
-    requires own { IsMemoryCall call.now }
-    requires limits { InLimits call.now }
-    requires core { core < (state_of k.old).limits.cores }
-    ensures { IsInRange (state_of k.old) core call.now
-        → IsCarriedOut (state_of k.old) (change_of (state_of k.old) core call.now) (answered result) k.new }
-{
-    match *call {
-        Call::Retype { r, f, k: kind } => retype(k, core, r, f, kind),
-        Call::Map { p, v, r, f, w } => map(k, core, p, v, r, f, w),
-        Call::Unmap { p, v } => unmap(k, core, p, v),
-        Call::Touch { v } => touch(k, core, v),
-        Call::Flush => flush(k, core),
-        _ => unreachable!(),
-    }
-}
 
 /// Carries out a call on memory of a core of the machine, its numbers within their limits: answers the reply, the first cause
 /// in order or else `ok`, and makes the call's change. A refused call changes nothing. No memory is taken.
@@ -44,8 +26,15 @@ pub fn step(_alloc: Global, k: &mut SeqKernel, core: CoreNo, call: &Call) -> Res
     ensures exact { IsInRange (state_of k.old) core call.now
         → IfOk result (λ r. IsCarriedOut (state_of k.old) (change_of (state_of k.old) core call.now) r k.new) }
 {
-    match carry_out(k, core, call) {
-        Ok(value) => Ok(Reply::Ok(value)),
+    let plan = plan_of(call);
+    match resolve(k, core, &plan) {
         Err(refusal) => Ok(refusal),
+        Ok(looked) => {
+            let own = causes(k, core, call, &looked);
+            match first_cause(k, core, &own) {
+                Some(refusal) => Ok(refusal),
+                None => Ok(Reply::Ok(carry_out(k, core, call, &looked))),
+            }
+        }
     }
 }

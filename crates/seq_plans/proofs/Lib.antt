@@ -4,3 +4,6 @@ pub mod SameReplies
 pub mod OneOfCauses
 pub mod ByPlan
 pub mod Resolved
+pub mod FoundAll
+pub mod MayBeCarried
+pub mod Stepped

@@ -1,20 +1,17 @@
 //! Going on as another thread, with another temporal capability.
 
-ghost use Rattle.std.specs.Prelude.{◌≡◌, ◌<◌, None, Some};
-ghost use Rattle.spk_nums.specs.declared.calls.Call.TheVariants.{Switch};
+ghost use Rattle.std.specs.Prelude.{◌≡◌, ◌<◌, None};
 ghost use Rattle.kernel_rules.specs.State.{thread_in};
 ghost use Rattle.kernel_rules.specs.InvocationCalls.{switches};
 ghost use Rattle.kernel_rules.specs.Rules.{Found};
-ghost use Rattle.kernel_rules.specs.CallRelation.{change_of, changed};
+ghost use Rattle.kernel_rules.specs.CallRelation.{changed};
 ghost use Rattle.seq_state.specs.Maps.{state_of};
 ghost use Rattle.seq_state.specs.Representation.{Represents};
-ghost use Rattle.seq_lookups.specs.Judged.{answered};
-ghost use Rattle.seq_lookups.specs.Carried.{IsCarriedOut};
 
 use crate::invocation::with_thread;
-use seq_lookups::{Wanted, begin, named, thread_at};
+use seq_lookups::{begin, thread_at};
 use seq_state::{Core, Frame, SeqKernel, Thing, ThreadFields};
-use spk_nums::{CapId, CoreNo, FrameNo, Kind, Reply, Value};
+use spk_nums::{CoreNo, FrameNo};
 
 /// The frame of a thread that runs on a core, or is idle; a frame without a thread stays.
 fn running(k: &SeqKernel, frame: FrameNo, core: Option<CoreNo>) -> Frame
@@ -58,22 +55,6 @@ pub(crate) fn go_on(k: &mut SeqKernel, core: CoreNo, h: FrameNo, q: FrameNo)
             ..old
         },
     );
-}
-
-/// `switch`: the core goes on as a named thread, which is idle, with a named temporal capability.
-pub(crate) fn switch(k: &mut SeqKernel, core: CoreNo, h: CapId, q: CapId) -> Result<Value, Reply>
-    requires { core < (state_of k.old).limits.cores }
-    ensures { IsCarriedOut (state_of k.old) (change_of (state_of k.old) core (Switch h q)) (answered result) k.new }
-{
-    let thread = named(k, core, h, Wanted::Only(Kind::Thread))?;
-    let tcap = named(k, core, q, Wanted::Only(Kind::Tcap))?;
-    match thread_at(k, thread.frame()).runs_on {
-        Some(other) => Err(Reply::Running(other)),
-        None => {
-            go_on(k, core, thread.frame(), tcap.frame());
-            Ok(Value::Nothing)
-        }
-    }
 }
 
 ghost use Rattle.kernel_rules.specs.GracePeriods.{begun};

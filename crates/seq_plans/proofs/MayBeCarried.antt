@@ -1,0 +1,317 @@
+-- A call whose plan was found, and against which no own cause stands, may be carried out.
+use Rattle.std.proofs.Common.{◌≡◌, ◌≢◌, inl, inr, ℕ, ◌<◌, ◌≤◌, ◌+◌, ◌^◌, ◌==◌, Bool, true, false, not, ◌&&◌, nat_lt, nat_le, if◌then◌else◌}
+use Rattle.std.proofs.Common.{refl, sym, ap, subst, ◌∙◌, arith, zero, suc, drop, length, List, [], ◌∷◌, Option, Some, None, IsTrue, IsFalse}
+use Rattle.std.specs.Prelude.{is_some, IsSome, IsSomeAnd}
+use Rattle.std.proofs.lemmas.Bool.{true≢false, and_parts, cases_lt, ltb-true, ltb-false, leb-true, leb-false, eqb-false, le-ltb}
+use Rattle.spk_nums.specs.Capability.{Capability}
+use Rattle.spk_nums.specs.declared.kinds.Kind.TheVariants as kind
+use Rattle.spk_nums.specs.declared.kinds.FrameKind.{FrameKind}
+use Rattle.spk_nums.specs.declared.kinds.FrameKind.TheVariants as frame_kind
+use Rattle.spk_nums.specs.declared.translations.Translation.{Translation}
+use Rattle.spk_nums.specs.declared.calls.Make.{Make}
+use Rattle.spk_nums.specs.declared.calls.Make.TheVariants as make
+use Rattle.spk_nums.specs.declared.calls.Call.{Call}
+use Rattle.spk_nums.specs.declared.calls.Call.TheVariants.{Look, Copy, Remove, Grow, Shrink, Retype, Make as make_call}
+use Rattle.spk_nums.specs.declared.calls.Call.TheVariants.{Map, Unmap, Touch, Flush, Gate, Kill, Call as call_gate}
+use Rattle.spk_nums.specs.declared.calls.Call.TheVariants.{Ret, Switch, Tick, Transfer, Delegate, Test}
+use Rattle.spk_nums.specs.declared.replies.Reply.{Reply}
+use Rattle.spk_nums.specs.declared.replies.Reply.TheVariants as reply
+use Rattle.kernel_rules.specs.State.{Object, Blank, Table, Leaf, Pages, Pleaf, Comp, Thread, Tcap, Frame, Untyped, User, Kernel}
+use Rattle.kernel_rules.specs.State.{State, comp_in, comp_of, thread_in, thread_of}
+use Rattle.kernel_rules.specs.Access.{Slot, Named, found, only, to_use}
+use Rattle.kernel_rules.specs.Rules.{Cause, Judged, Found, named, mapped, first_of, refusal_of, first_cause}
+use Rattle.kernel_rules.specs.CapabilityCalls.{has_frame, outside, epoch_of}
+use Rattle.kernel_rules.specs.MemoryCalls.{is_empty, not_retyped, retype_rule, translation_of}
+use Rattle.kernel_rules.specs.Life.{is_live_in}
+use Rattle.kernel_rules.specs.InvocationCalls.{not_live, switch_to}
+use Rattle.kernel_rules.specs.TimeCalls.{tcap_at, are_same, is_short, are_many, merged_list}
+use Rattle.kernel_rules.specs.CallRelation.{rule_of}
+use Rattle.kernel_rules.specs.Ranges.{budget_at}
+use Rattle.call_plans.specs.PlanOf.{plan_for}
+use Rattle.seq_lookups.specs.Ranges.{RangeEnds, PageFound, HasEpoch, BudgetsFit, IsInRange}
+use Rattle.seq_lookups.proofs.Outcomes.{where_found}
+use Rattle.seq_plans.specs.declared.walking.Looked.{Looked}
+use Rattle.seq_plans.specs.Reaches.{named_of}
+use Rattle.seq_plans.specs.Walks.{rest_by, left_of, causes_of}
+use Rattle.seq_plans.specs.OwnCauses.{retype_beyond, judged_rule}
+use Rattle.seq_plans.specs.Carrying.{MayRetype, MayMake, MayTouch, MayMove, MayCarry}
+use Rattle.seq_plans.specs.Resolving.{resolved}
+use Rattle.seq_plans.proofs.FoundAll.{found_all}
+
+-- ---- no cause stands
+
+calm_parts : (a b : Option Reply) → None ≡ first_of a b → (None ≡ a) × (None ≡ b)
+calm_parts None b e = (refl, e)
+calm_parts (Some r) b e = absurd (cc)
+
+calm_when : (b : Bool) (r : Reply) → None ≡ (if b then Some r else None) → b ≡ false
+calm_when true r e = absurd (cc)
+calm_when false r e = refl
+
+-- The first of several causes, if there is one, does not stand.
+abbrev HeadCalm : State → ℕ → List Cause → Type 0
+HeadCalm s c [] = Unit {0}
+HeadCalm s c (x ∷ xs) = None ≡ refusal_of s c x
+
+calm_at : (s : State) (c n : ℕ) (xs : List Cause) → None ≡ first_cause s c xs → HeadCalm s c (drop n xs)
+calm_at s c zero [] e = tt
+calm_at s c zero (x ∷ xs) e = (calm_parts (refusal_of s c x) (first_cause s c xs) e).0
+calm_at s c (suc n) [] e = tt
+calm_at s c (suc n) (x ∷ xs) e = calm_at s c n xs (calm_parts (refusal_of s c x) (first_cause s c xs) e).1
+
+not_false : (b : Bool) → not b ≡ false → b ≡ true
+not_false true e = refl
+not_false false e = absurd (true≢false e)
+
+some_of : {A : Type 0} (o : Option A) (P : A → Type 0) → IsSomeAnd o P → IsSome o
+some_of None P h = absurd h
+some_of (Some x) P h = refl
+
+is_found : (o : Option Capability) → IsSome o → (named_of o).found ≡ true
+is_found None h = absurd (true≢false (sym h))
+is_found (Some k) h = refl
+
+-- A name has led to a capability.
+abbrev Names : State → ℕ → ℕ → Rattle.spk_nums.specs.declared.kinds.Kind.Kind → Option Capability → Type 0
+Names s c n kind o = IsSomeAnd o λ k. named s c n (to_use (only kind)) ≡ Found k
+
+-- ---- frames of a range
+
+range_most : (s : State) (c r : ℕ) (k : Capability) → named s c r (to_use (only kind.Range)) ≡ Found k → RangeEnds s c r
+    → k.frame + k.arg ≤ s.limits.frames
+range_most s c r k is ends = where_found (named s c r (to_use (only kind.Range))) (λ k. k.frame + k.arg ≤ s.limits.frames) k (sym is) ends
+
+found_frame : (s : State) (c r f : ℕ) (o : Option Capability) (others : Option Reply) → Names s c r kind.Range o → RangeEnds s c r
+    → None ≡ first_of (refusal_of s c (outside (named_of o) f)) others → f < s.limits.frames
+found_frame s c r f None others is ends calm = absurd is
+found_frame s c r f (Some k) others is ends calm =
+    let most = range_most s c r k is ends in
+    let inside : has_frame (found k) f ≡ true =
+    not_false (has_frame (found k) f) (calm_when (not (has_frame (found k) f)) reply.OutOfRange
+    (calm_parts (refusal_of s c (outside (found k) f)) others calm).0) in
+    let below : f < k.frame + k.arg =
+    ltb-true f (k.frame + k.arg) (and_parts (nat_le k.frame f) (nat_lt f (k.frame + k.arg)) inside).1 in
+    omega (arith, below, most)
+
+-- A frame past the machine's is in no range.
+frame_outside : (s : State) (c r f : ℕ) (o : Option Capability) → Names s c r kind.Range o → RangeEnds s c r
+    → nat_lt f s.limits.frames ≡ false → refusal_of s c (outside (named_of o) f) ≡ Some reply.OutOfRange
+frame_outside s c r f None is ends past = absurd is
+frame_outside s c r f (Some k) is ends past =
+    let most = range_most s c r k is ends in
+    let beyond : s.limits.frames ≤ f = ltb-false f s.limits.frames past in
+    let over : k.frame + k.arg ≤ f = omega (arith, most, beyond) in
+    by_first (nat_le k.frame f) (nat_lt f (k.frame + k.arg)) (le-ltb f (k.frame + k.arg) over)
+  where
+    by_first : (a b : Bool) → b ≡ false → (if not (a && b) then Some reply.OutOfRange else None) ≡ Some reply.OutOfRange
+    by_first true true none = absurd (true≢false none)
+    by_first true false none = refl
+    by_first false b none = refl
+
+-- ---- a retype
+
+few_in : (s : State) (f : ℕ) (x : Frame) → is_empty s f x ≡ true → length (thread_in x).stack ≤ 1
+few_in s f Untyped e = omega arith
+few_in s f User e = omega arith
+few_in s f (Kernel Blank) e = omega arith
+few_in s f (Kernel Table) e = omega arith
+few_in s f (Kernel Leaf) e = omega arith
+few_in s f (Kernel Pages) e = omega arith
+few_in s f (Kernel Pleaf) e = omega arith
+few_in s f (Kernel (Comp k)) e = omega arith
+few_in s f (Kernel (Thread t)) e = leb-true (length t.stack) 1 e
+few_in s f (Kernel (Tcap q)) e = omega arith
+
+few_now : (s : State) (c f : ℕ) (range : Named) → None ≡ first_cause s c (outside range f ∷ not_retyped s f frame_kind.Untyped)
+    → length (thread_in (s.frame f)).stack ≤ 1
+few_now s c f range calm =
+    few_in s f (s.frame f) (not_false (is_empty s f (s.frame f)) (calm_when (not (is_empty s f (s.frame f))) reply.NotEmpty
+    (calm_at s c 5 (outside range f ∷ not_retyped s f frame_kind.Untyped) calm)))
+
+may_retype : (s : State) (c r f : ℕ) (k : FrameKind) (l : Looked) → RangeEnds s c r
+    → Found l ≡ resolved s c (plan_for (Retype r f k))
+    → None ≡ first_cause s c (causes_of (left_of (rule_of s c (Retype r f k)) l)) → MayRetype s f k
+may_retype s c r f frame_kind.Untyped l ends is calm =
+    let h = found_all s c (plan_for (Retype r f frame_kind.Untyped)) l is in
+    (found_frame s c r f l.first _ h.first ends calm, few_now s c f (named_of l.first) calm)
+may_retype s c r f frame_kind.User l ends is calm =
+    let h = found_all s c (plan_for (Retype r f frame_kind.User)) l is in
+    found_frame s c r f l.first _ h.first ends calm
+may_retype s c r f frame_kind.Kernel l ends is calm =
+    let h = found_all s c (plan_for (Retype r f frame_kind.Kernel)) l is in
+    found_frame s c r f l.first _ h.first ends calm
+
+-- ---- a make
+
+less : (e n : ℕ) → e ≤ n → (e == n) ≡ false → e < n
+less e n most apart = elim (cases_lt e n) [ inl lt ↦ lt | inr ge ↦ absurd (eqb-false e n apart (omega (arith, most, ge))) ]
+
+may_make : (s : State) (c : ℕ) (what : Make) (r f t b : ℕ) (l : Looked) → IsInRange s c (make_call what r f t b)
+    → Found l ≡ resolved s c (plan_for (make_call what r f t b))
+    → None ≡ first_cause s c (causes_of (left_of (rule_of s c (make_call what r f t b)) l)) → MayMake s what f l
+may_make s c make.Table r f t b l ranges is calm =
+    let h = found_all s c (plan_for (make_call make.Table r f t b)) l is in
+    (h.target, found_frame s c r f l.first _ h.first ranges.0 calm)
+may_make s c make.Leaf r f t b l ranges is calm =
+    let h = found_all s c (plan_for (make_call make.Leaf r f t b)) l is in
+    (h.target, found_frame s c r f l.first _ h.first ranges.0 calm)
+may_make s c make.Pages r f t b l ranges is calm =
+    let h = found_all s c (plan_for (make_call make.Pages r f t b)) l is in
+    (h.target, found_frame s c r f l.first _ h.first ranges.0 calm)
+may_make s c make.Pleaf r f t b l ranges is calm =
+    let h = found_all s c (plan_for (make_call make.Pleaf r f t b)) l is in
+    (h.target, found_frame s c r f l.first _ h.first ranges.0 calm)
+may_make s c (make.Thread comp) r f t b l ranges is calm =
+    let h = found_all s c (plan_for (make_call (make.Thread comp) r f t b)) l is in
+    (some_of l.third _ h.third, h.target, found_frame s c r f l.first _ h.first ranges.0 calm)
+may_make s c (make.Tcap sched quality) r f t b l ranges is calm =
+    let h = found_all s c (plan_for (make_call (make.Tcap sched quality) r f t b)) l is in
+    (h.target, found_frame s c r f l.first _ h.first ranges.0 calm)
+may_make s c (make.Comp x p live) r f t b l ranges is calm =
+    let h = found_all s c (plan_for (make_call (make.Comp x p live) r f t b)) l is in
+    let spent = calm_at s c 4 (causes_of (left_of (rule_of s c (make_call (make.Comp x p live) r f t b)) l)) calm in (
+      some_of l.third _ h.third,
+      some_of l.fourth _ h.fourth,
+      h.target,
+      found_frame s c r f l.first _ h.first ranges.0 calm,
+      less (epoch_of (s.number live)) s.limits.epochs ranges.1
+          (calm_when (epoch_of (s.number live) == s.limits.epochs) reply.EpochsSpent spent),
+    )
+
+-- ---- a touch
+
+page_of : (s : State) (c v : ℕ) (held : Option Capability) → PageFound s c v
+    → IsSomeAnd held (λ k. mapped s c (comp_of s c).pages v ≡ Found k) → IsSomeAnd held (λ k. k.kind ≡ kind.Page)
+page_of s c v None page is = is
+page_of s c v (Some k) page is = where_found (mapped s c (comp_of s c).pages v) (λ k. k.kind ≡ kind.Page) k (sym is) page
+
+may_touch : (s : State) (c v : ℕ) (cached : Option Translation) (held : Option Capability) → PageFound s c v
+    → (IsFalse (is_some cached) → IsSomeAnd held (λ k. mapped s c (comp_of s c).pages v ≡ Found k)) → MayTouch cached held
+may_touch s c v None held page is = page_of s c v held page (is refl)
+may_touch s c v (Some t) held page is = tt
+
+-- ---- a gate, a kill and a switch
+
+gate_epoch : (s : State) (c n : ℕ) (o : Option Capability) → Names s c n kind.Comp o → HasEpoch s c n
+    → 1 ≤ (comp_in (s.frame (named_of o).frame)).epoch
+gate_epoch s c n None is epoch = absurd is
+gate_epoch s c n (Some k) is epoch =
+    where_found (named s c n (to_use (only kind.Comp))) (λ k. 1 ≤ (comp_in (s.frame k.frame)).epoch) k (sym is) epoch
+
+lives_now : (s : State) (c : ℕ) (h : Named) (l e : ℕ) → h.found ≡ true → None ≡ first_cause s c (not_live s h l e ∷ [])
+    → IsTrue (is_live_in (s.number l) e)
+lives_now s c h l e here calm =
+    not_false (is_live_in (s.number l) e) (calm_when (not (is_live_in (s.number l) e)) reply.Dead
+    (subst (λ (b : Bool). None ≡ (if b && not (is_live_in (s.number l) e) then Some reply.Dead else None)) here
+    (calm_parts _ _ calm).0))
+
+idle_now : (s : State) (c : ℕ) (h : Named) (q : ℕ) (e : Option ℕ) (ks : List Named) (at : Option Slot) (held : Option Capability)
+    → h.found ≡ true → None ≡ first_cause s c (causes_of (rest_by (switch_to s c h q e) ks at held)) → e ≡ None
+idle_now s c h q None ks at held here calm = refl
+idle_now s c h q (Some d) ks at held here calm =
+    absurd (true≢false (sym here ∙ calm_when h.found (reply.Running d) (calm_parts _ _ calm).0))
+
+-- ---- two temporal capabilities
+
+may_move : (s : State) (c a b m : ℕ) (x y : Option Capability) (others : Option Reply)
+    → Names s c a kind.Tcap x → Names s c b kind.Tcap y → BudgetsFit s c a b
+    → None ≡ first_of (refusal_of s c (are_same (named_of x) (named_of y))) (first_of (refusal_of s c (is_short s (named_of x) m)) others)
+    → IsSome x × IsSome y × ((named_of x).frame ≢ (named_of y).frame) × (budget_at s (named_of y).frame + m < 2 ^ 32)
+may_move s c a b m None y others is_x is_y fits calm = absurd is_x
+may_move s c a b m (Some x) None others is_x is_y fits calm = absurd is_y
+may_move s c a b m (Some x) (Some y) others is_x is_y fits calm =
+    let first = calm_parts _ _ calm in
+    let second = calm_parts _ _ first.1 in
+    let apart : x.frame ≢ y.frame = eqb-false x.frame y.frame (calm_when (x.frame == y.frame) reply.Same first.0) in
+    let enough : m ≤ budget_at s x.frame =
+    ltb-false (budget_at s x.frame) m (calm_when (nat_lt (budget_at s x.frame) m) (reply.Short (budget_at s x.frame)) second.0) in
+    let one = where_found (named s c a (to_use (only kind.Tcap))) _ x (sym is_x) fits in
+    let both = where_found (named s c b (to_use (only kind.Tcap))) _ y (sym is_y) one in
+    (refl, refl, apart, omega (arith, both apart, enough))
+
+few_merged : (s : State) (c : ℕ) (x y : Option Capability) (o p : Option Reply) → IsSome x → IsSome y
+    → None ≡ first_of o (first_of p (first_cause s c (are_many s (named_of x) (named_of y) ∷ [])))
+    → length (merged_list s (named_of x).frame (named_of y).frame) ≤ 8
+few_merged s c None y o p some_x some_y calm = absurd (true≢false (sym some_x))
+few_merged s c (Some x) None o p some_x some_y calm = absurd (true≢false (sym some_y))
+few_merged s c (Some x) (Some y) o p some_x some_y calm =
+    let last = calm_parts _ _ (calm_parts _ _ (calm_parts _ _ calm).1).1 in
+    ltb-false 8 (length (merged_list s x.frame y.frame))
+    (calm_when (nat_lt 8 (length (merged_list s x.frame y.frame))) reply.TooMany last.0)
+
+-- ---- every call
+
+pub may_carry : (s : State) (c : ℕ) (call : Call) (l : Looked) → IsInRange s c call → Found l ≡ resolved s c (plan_for call)
+    → None ≡ first_cause s c (causes_of (left_of (rule_of s c call) l)) → MayCarry s c call l
+may_carry s c (Look a) l ranges is calm =
+    let h = found_all s c (plan_for (Look a)) l is in
+    some_of l.first _ h.first
+may_carry s c (Copy a t b rights) l ranges is calm =
+    let h = found_all s c (plan_for (Copy a t b rights)) l is in
+    (some_of l.first _ h.first, h.target)
+may_carry s c (Remove t b) l ranges is calm = (found_all s c (plan_for (Remove t b)) l is).target
+may_carry s c (Grow t i k) l ranges is calm =
+    let h = found_all s c (plan_for (Grow t i k)) l is in
+    (some_of l.second _ h.second, h.target)
+may_carry s c (Shrink t i) l ranges is calm = (found_all s c (plan_for (Shrink t i)) l is).target
+may_carry s c (Retype r f k) l ranges is calm = may_retype s c r f k l ranges is calm
+may_carry s c (make_call what r f t b) l ranges is calm = may_make s c what r f t b l ranges is calm
+may_carry s c (Map p v r f w) l ranges is calm =
+    let h = found_all s c (plan_for (Map p v r f w)) l is in
+    (h.target, found_frame s c r f l.second _ h.second ranges calm)
+may_carry s c (Unmap p v) l ranges is calm = (found_all s c (plan_for (Unmap p v)) l is).target
+may_carry s c (Touch v) l ranges is calm =
+    let h = found_all s c (plan_for (Touch v)) l is in
+    may_touch s c v (translation_of (s.core c).cached (comp_of s c).pages v) l.held ranges h.target
+may_carry s c Flush l ranges is calm = tt
+may_carry s c (Gate k t b) l ranges is calm =
+    let h = found_all s c (plan_for (Gate k t b)) l is in
+    (some_of l.first _ h.first, h.target, gate_epoch s c k l.first h.first ranges)
+may_carry s c (Kill k) l ranges is calm =
+    let h = found_all s c (plan_for (Kill k)) l is in
+    let some = some_of l.first _ h.first in
+    let comp = comp_in (s.frame (named_of l.first).frame) in
+    (some, lives_now s c (named_of l.first) comp.number comp.epoch (is_found l.first some) calm)
+may_carry s c (call_gate g) l ranges is calm =
+    let h = found_all s c (plan_for (call_gate g)) l is in
+    let depth = length (thread_of s c).stack in
+    (some_of l.first _ h.first, leb-false 16 depth (calm_when (nat_le 16 depth) reply.Deep (calm_parts _ _ calm).0))
+may_carry s c Ret l ranges is calm =
+    let depth = length (thread_of s c).stack in
+    leb-false depth 1 (calm_when (nat_le depth 1) reply.Bottom (calm_parts _ _ calm).0)
+may_carry s c (Switch n q) l ranges is calm =
+    let h = found_all s c (plan_for (Switch n q)) l is in
+    let some = some_of l.first _ h.first in (
+      some,
+      some_of l.second _ h.second,
+      idle_now s c (named_of l.first) (named_of l.second).frame (thread_in (s.frame (named_of l.first).frame)).runs_on
+          (named_of l.third ∷ named_of l.fourth ∷ []) l.at l.held (is_found l.first some) calm,
+    )
+may_carry s c (Tick n) l ranges is calm = ranges
+may_carry s c (Transfer a b m) l ranges is calm =
+    let h = found_all s c (plan_for (Transfer a b m)) l is in
+    may_move s c a b m l.first l.second _ h.first h.second ranges calm
+may_carry s c (Delegate a b m) l ranges is calm =
+    let h = found_all s c (plan_for (Delegate a b m)) l is in (
+      may_move s c a b m l.first l.second _ h.first h.second ranges calm,
+      few_merged s c l.first l.second _ _ (some_of l.first _ h.first) (some_of l.second _ h.second) calm,
+    )
+may_carry s c (Test a b) l ranges is calm =
+    let h = found_all s c (plan_for (Test a b)) l is in
+    (some_of l.first _ h.first, some_of l.second _ h.second)
+
+-- The own causes of a call as it is judged are those of its rule, for all that the first of them decides.
+pub judged_alike : (s : State) (c : ℕ) (call : Call) (l : Looked) → IsInRange s c call → Found l ≡ resolved s c (plan_for call)
+    → first_cause s c (causes_of (left_of (judged_rule s c call) l)) ≡ first_cause s c (causes_of (left_of (rule_of s c call) l))
+judged_alike s c (Retype r f frame_kind.Untyped) l ends is = by_frame (nat_lt f s.limits.frames) refl
+  where
+    by_frame : (b : Bool) → nat_lt f s.limits.frames ≡ b
+        → first_cause s c (causes_of (left_of (if b then retype_rule s r f frame_kind.Untyped else retype_beyond s r f) l))
+        ≡ first_cause s c (causes_of (left_of (retype_rule s r f frame_kind.Untyped) l))
+    by_frame true within = refl
+    by_frame false past =
+        let h = found_all s c (plan_for (Retype r f frame_kind.Untyped)) l is in
+        let stands = frame_outside s c r f l.first h.first ends past in
+        ap (λ (o : Option Reply). first_of o None) stands
+        ∙ sym (ap (λ (o : Option Reply). first_of o (first_cause s c (not_retyped s f frame_kind.Untyped))) stands)
+judged_alike s c call l ranges is = refl
