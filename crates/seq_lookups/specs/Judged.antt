@@ -2,9 +2,7 @@
 use Rattle.std.specs.Prelude.{Bool, Result, Ok, Err}
 use Rattle.spk_nums.specs.declared.kinds.Kind.{Kind}
 use Rattle.spk_nums.specs.declared.rights.Rights.{Rights}
-use Rattle.spk_nums.specs.declared.replies.Value.{Value}
 use Rattle.spk_nums.specs.declared.replies.Reply.{Reply}
-use Rattle.spk_nums.specs.declared.replies.Reply.TheVariants as reply
 use Rattle.kernel_rules.specs.Access.{Want, any, only, root}
 use Rattle.kernel_rules.specs.Rules.{Judged, Refused, Found}
 use Rattle.seq_lookups.specs.declared.names.Wanted.{Wanted}
@@ -14,11 +12,6 @@ use Rattle.seq_lookups.specs.declared.names.Wanted.TheVariants as wanted
 abbrev pub judged : {A : Type 0} → Result A Reply → Judged A
 judged (Ok x) = Found x
 judged (Err r) = Refused r
-
--- The reply of a call that answers a value, or is refused.
-abbrev pub answered : Result Value Reply → Reply
-answered (Ok v) = reply.Ok v
-answered (Err r) = r
 
 -- The kinds that are wanted.
 abbrev pub wants : Wanted → Kind → Bool

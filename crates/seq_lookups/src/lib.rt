@@ -25,7 +25,7 @@ mod waiting;
 
 pub use acting::{is_live_in, may_act};
 pub use changes::{begin, fill, remove};
-pub use names::{Wanted, frame_in, held, mapped, named, named_for, vacant};
+pub use names::{Wanted, held, mapped, named_for, vacant};
 pub use objects::{comp_at, comp_of, tcap_at, thread_at, thread_of};
 pub use slots::{Slot, Target, reached, usable};
 pub use waiting::{flushes_of, waits_of};

@@ -1,9 +1,8 @@
 //! What a call names, and the targets that it asks for.
 
-ghost use Rattle.std.specs.Prelude.{◌≡◌, ◌<◌, ◌≤◌, ◌+◌, IfOk};
-ghost use Rattle.kernel_rules.specs.Access.{held_in, found, only, usable, reached};
-ghost use Rattle.kernel_rules.specs.Access.{to_use};
-ghost use Rattle.kernel_rules.specs.Rules.{with_rights, named, vacant, not_vacant, held, mapped, of_kind, and_then, or_refuse, unless, refusal_of};
+ghost use Rattle.std.specs.Prelude.{◌≡◌, ◌<◌};
+ghost use Rattle.kernel_rules.specs.Access.{held_in, only, usable, reached};
+ghost use Rattle.kernel_rules.specs.Rules.{with_rights, named, vacant, not_vacant, held, mapped, of_kind, and_then, or_refuse};
 ghost use Rattle.seq_state.specs.Parts.{place_held, thing_of};
 ghost use Rattle.seq_state.specs.Maps.{state_of};
 ghost use Rattle.seq_lookups.specs.Judged.{judged, wants, want_of};
@@ -13,7 +12,7 @@ use crate::objects::comp_of;
 use crate::slots::{Slot, Target, place_at, reached, usable};
 use crate::waiting::{flushes_of, waits_of};
 use seq_state::{Place, SeqKernel, Thing};
-use spk_nums::{Cap, CapId, CoreNo, FrameArg, FrameNo, Kind, PageNo, Reply, Rights};
+use spk_nums::{Cap, CapId, CoreNo, FrameNo, Kind, PageNo, Reply, Rights};
 
 /// The kinds of capability that a name may lead to.
 #[derive(Clone, Copy, PartialEq, Eq, Debug)]
@@ -92,14 +91,6 @@ fn named_at(
     }
 }
 
-/// The capability that a core names to use it, as `named_for` with the right to use.
-pub fn named(k: &SeqKernel, core: CoreNo, name: CapId, wanted: Wanted) -> Result<Cap, Reply>
-    requires { core < (state_of k.now).limits.cores }
-    ensures { judged result ≡ named (state_of k.now) core name (to_use (wants wanted)) }
-{
-    named_for(k, core, name, wanted, Rights::USE)
-}
-
 /// The capability that a core names: `no-slot` where it reaches no slot under the number in the table of the component that
 /// it works in, `empty` where it may use nothing there, `wrong-cap` where the kind is not wanted, `no-right` where a right that
 /// is needed is lacking.
@@ -120,26 +111,6 @@ pub fn named_for(
     match slot_or(k, core, target, Reply::NoSlot) {
         Ok(at) => named_at(k, core, at, wanted, needs),
         Err(refusal) => Err(refusal),
-    }
-}
-
-/// The frame of a range: `out-of-range` where the range does not have it. Of a range that ends past the machine's frames
-/// nothing is said.
-pub fn frame_in(k: &SeqKernel, range: &Cap, frame: FrameArg) -> Result<FrameNo, Reply>
-    ensures refusal { range.now.frame + range.now.arg ≤ (state_of k.now).limits.frames
-        → judged result ≡ unless (refusal_of (state_of k.now) 0 (outside (found range.now) frame)) frame }
-    ensures frame { IfOk result (λ f. (f ≡ frame) × (f < (state_of k.now).limits.frames)) }
-{
-    let number = frame.number();
-    let first = range.frame().number();
-    if first <= number && u32::from(number) < u32::from(first) + range.arg() {
-        if number < k.frames() {
-            Ok(FrameNo::new(number))
-        } else {
-            Err(Reply::FrameKind)
-        }
-    } else {
-        Err(Reply::OutOfRange)
     }
 }
 
@@ -217,5 +188,4 @@ pub fn mapped(k: &SeqKernel, core: CoreNo, root: FrameNo, page: PageNo) -> Resul
 }
 
 ghost use Rattle.kernel_rules.specs.State.{PlaceOf};
-ghost use Rattle.kernel_rules.specs.CapabilityCalls.{outside};
 ghost use Rattle.spk_nums.specs.declared.replies.Reply.TheVariants.{Empty};
