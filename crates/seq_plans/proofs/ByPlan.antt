@@ -1,7 +1,7 @@
 -- A rule that goes by a plan may be refused exactly where one of the plan's look-ups may be, or one of the causes that are left.
-use Rattle.std.proofs.Common.{◌≡◌, ◌⊎◌, inl, inr, ℕ, Bool, true, false, not, ◌&&◌, refl, sym, ◌∙◌, ap, subst, nat_lt, nat_le}
-use Rattle.std.proofs.Common.{if◌then◌else◌, List, [], ◌∷◌, ◌++◌, length, ◌≤◌, arith, Option, Some, None, IsTrue, IsFalse}
-use Rattle.std.proofs.lemmas.Bool.{false≢true, true≢false, ltb-true, le-ltb, lt-leb}
+use Rattle.std.proofs.Common.{◌≡◌, ◌⊎◌, inl, inr, ℕ, Bool, true, false, ◌&&◌, refl, sym, ◌∙◌, ap, subst, nat_lt}
+use Rattle.std.proofs.Common.{if◌then◌else◌, List, [], ◌∷◌, ◌++◌, length, ◌≤◌, arith, Option, Some, None, IsFalse}
+use Rattle.std.proofs.lemmas.Bool.{true≢false, ltb-true, lt-leb}
 use Rattle.std.specs.Option.{option_and_then}
 use Rattle.spk_nums.specs.Capability.{Capability}
 use Rattle.spk_nums.specs.Rights.{has_rights}
@@ -10,9 +10,8 @@ use Rattle.spk_nums.specs.declared.replies.Reply.TheVariants as reply
 use Rattle.kernel_rules.specs.State.{State, comp_of}
 use Rattle.kernel_rules.specs.Access.{Slot, Named, not_found, Want, Target as place, Under as under, root_at, place_at, held_in}
 use Rattle.kernel_rules.specs.Access.{usable, reached, own}
-use Rattle.kernel_rules.specs.MemoryCalls.{translation_of}
 use Rattle.kernel_rules.specs.Rules.{Cause, Rule, Name as name_rule, Vacant as vacant_rule, Held as held_rule, Mapped as mapped_rule, Does}
-use Rattle.kernel_rules.specs.Rules.{Judged, Refused, Found, and_then, or_refuse, unless, of_kind, with_rights, named, held}
+use Rattle.kernel_rules.specs.Rules.{Refused, Found, and_then, or_refuse, unless, of_kind, named, held}
 use Rattle.kernel_rules.specs.Rules.{mapped, IsFoundAnd}
 use Rattle.kernel_rules.specs.Rules.{NameMay, VacantMay, HeldMay, MappedMay, OneMay, name_of, slot_of, RuleMay}
 use Rattle.call_plans.specs.declared.plans.Nth.{Nth}
@@ -25,12 +24,12 @@ use Rattle.call_plans.specs.declared.plans.Spot.TheVariants.{Under, InRoot}
 use Rattle.call_plans.specs.declared.plans.Target.{Target}
 use Rattle.call_plans.specs.declared.plans.Target.TheVariants.{Nowhere, Free, Held, Own as own_page}
 use Rattle.call_plans.specs.declared.plans.Plan.{Plan}
-use Rattle.call_plans.specs.GoesBy.{OwnPages, own_pages, OnlyDoes, GoesTo, GoesOn, GoesBy, earlier, wants, want_of, place_of_spot}
+use Rattle.call_plans.specs.GoesBy.{own_pages, OnlyDoes, GoesTo, GoesOn, earlier, wants, want_of, place_of_spot}
 use Rattle.seq_plans.specs.declared.reaching.Reach.TheVariants.{Own}
 use Rattle.seq_plans.specs.declared.walking.Looked.{Looked}
 use Rattle.seq_plans.specs.Reaches.{named_of}
 use Rattle.seq_plans.specs.Walks.{names_in, nothing, before, if_wanted, led, led_by, slot_by, held_by, looked, rest_by, left_of, causes_of}
-use Rattle.seq_plans.specs.Refusals.{RefusedByPlan, Iff, SomeNameMay, NthMay, TargetMay, LooksMay}
+use Rattle.seq_plans.specs.Refusals.{RefusedByPlan, Iff, SomeNameMay, NthMay, TargetMay}
 
 -- ---- exactly where
 

@@ -4,7 +4,6 @@ use Rattle.std.specs.Prelude.{is_some, IsSome, IsSomeAnd}
 use Rattle.std.proofs.lemmas.Bool.{true≢false}
 use Rattle.spk_nums.specs.Capability.{Capability}
 use Rattle.kernel_rules.specs.State.{State, comp_of}
-use Rattle.kernel_rules.specs.Access.{Slot}
 use Rattle.kernel_rules.specs.MemoryCalls.{translation_of}
 use Rattle.kernel_rules.specs.Rules.{Judged, Refused, Found, and_then, named, vacant, held, mapped}
 use Rattle.call_plans.specs.declared.plans.Nth.TheVariants.{First, Second, Third, Fourth}

@@ -16,15 +16,15 @@ use Rattle.spk_nums.specs.declared.calls.Call.TheVariants.{Map, Unmap, Touch, Fl
 use Rattle.spk_nums.specs.declared.calls.Call.TheVariants.{Ret, Switch, Tick, Transfer, Delegate, Test}
 use Rattle.spk_nums.specs.declared.replies.Reply.{Reply}
 use Rattle.spk_nums.specs.declared.replies.Reply.TheVariants as reply
-use Rattle.kernel_rules.specs.State.{Object, Blank, Table, Leaf, Pages, Pleaf, Comp, Thread, Tcap, Frame, Untyped, User, Kernel}
+use Rattle.kernel_rules.specs.State.{Blank, Table, Leaf, Pages, Pleaf, Comp, Thread, Tcap, Frame, Untyped, User, Kernel}
 use Rattle.kernel_rules.specs.State.{State, comp_in, comp_of, thread_in, thread_of}
 use Rattle.kernel_rules.specs.Access.{Slot, Named, found, only, to_use}
-use Rattle.kernel_rules.specs.Rules.{Cause, Judged, Found, named, mapped, first_of, refusal_of, first_cause}
+use Rattle.kernel_rules.specs.Rules.{Cause, Found, named, mapped, first_of, refusal_of, first_cause}
 use Rattle.kernel_rules.specs.CapabilityCalls.{has_frame, outside, epoch_of}
 use Rattle.kernel_rules.specs.MemoryCalls.{is_empty, not_retyped, retype_rule, translation_of}
 use Rattle.kernel_rules.specs.Life.{is_live_in}
 use Rattle.kernel_rules.specs.InvocationCalls.{not_live, switch_to}
-use Rattle.kernel_rules.specs.TimeCalls.{tcap_at, are_same, is_short, are_many, merged_list}
+use Rattle.kernel_rules.specs.TimeCalls.{are_same, is_short, are_many, merged_list}
 use Rattle.kernel_rules.specs.CallRelation.{rule_of}
 use Rattle.kernel_rules.specs.Ranges.{budget_at}
 use Rattle.call_plans.specs.PlanOf.{plan_for}
@@ -34,7 +34,7 @@ use Rattle.seq_plans.specs.declared.walking.Looked.{Looked}
 use Rattle.seq_plans.specs.Reaches.{named_of}
 use Rattle.seq_plans.specs.Walks.{rest_by, left_of, causes_of}
 use Rattle.seq_plans.specs.OwnCauses.{retype_beyond, judged_rule}
-use Rattle.seq_plans.specs.Carrying.{MayRetype, MayMake, MayTouch, MayMove, MayCarry}
+use Rattle.seq_plans.specs.Carrying.{MayRetype, MayMake, MayTouch, MayCarry}
 use Rattle.seq_plans.specs.Resolving.{resolved}
 use Rattle.seq_plans.proofs.FoundAll.{found_all}
 

@@ -1,5 +1,5 @@
 -- One of several causes may stand.
-use Rattle.std.proofs.Common.{◌≡◌, ℕ, Bool, true, false, ◌||◌, ◌⊎◌, inl, inr, List, [], Option, Some, None}
+use Rattle.std.proofs.Common.{ℕ, Bool, true, false, ◌||◌, inl, inr, List, [], Option, Some, None}
 use Rattle.spk_nums.specs.declared.replies.Reply.{Reply}
 use Rattle.kernel_rules.specs.State.{State}
 use Rattle.kernel_rules.specs.Rules.{Cause, OneMay}

@@ -1,12 +1,11 @@
 -- What comes of a rule that goes by a plan is what comes of the plan's look-ups, and then of what is left of the rule.
-use Rattle.std.proofs.Common.{◌≡◌, ℕ, ◌≤◌, Bool, true, false, refl, sym, ◌∙◌, subst, List, [], ◌∷◌, ◌++◌, length, Option, Some, None}
+use Rattle.std.proofs.Common.{◌≡◌, ℕ, ◌≤◌, Bool, refl, sym, ◌∙◌, subst, List, [], ◌∷◌, ◌++◌, length, Option, Some}
 use Rattle.spk_nums.specs.Capability.{Capability}
 use Rattle.kernel_rules.specs.State.{State, comp_of}
 use Rattle.kernel_rules.specs.Access.{Slot, Named, found, not_found, Want, Target as place}
 use Rattle.kernel_rules.specs.Rules.{Rule, Name as name_rule, Vacant as vacant_rule, Held as held_rule, Mapped as mapped_rule, Does}
 use Rattle.kernel_rules.specs.Rules.{Change, Judged, Refused, Found, and_then, named, vacant, held, mapped, outcome}
 use Rattle.call_plans.specs.declared.plans.Name.{Name}
-use Rattle.call_plans.specs.declared.plans.Spot.{Spot}
 use Rattle.call_plans.specs.declared.plans.Target.{Target}
 use Rattle.call_plans.specs.declared.plans.Target.TheVariants.{Nowhere, Free, Held, Own as own_page}
 use Rattle.call_plans.specs.declared.plans.Plan.{Plan}

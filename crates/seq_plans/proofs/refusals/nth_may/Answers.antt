@@ -1,9 +1,8 @@
-use Rattle.std.proofs.Common.{◌≡◌, ◌∙◌, sym, subst, Option, Some}
+use Rattle.std.proofs.Common.{◌≡◌, subst, Option, Some}
 use Rattle.call_plans.specs.declared.plans.Name.{Name}
 use Rattle.call_plans.specs.Plans.{at_place}
 use Rattle.seq_state.specs.Maps.{state_of}
 use Rattle.seq_plans.specs.declared.walking.Looked.{Looked}
-use Rattle.seq_plans.specs.Walks.{before}
 use Rattle.seq_plans.specs.Refusals.{Decides, SomeNameMay}
 use Rattle.seq_plans.proofs.refusals.nth_may.Goals as goal
 
