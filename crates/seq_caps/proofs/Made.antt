@@ -1,5 +1,5 @@
 -- A component that is made of what was looked up.
-use Rattle.std.proofs.Common.{◌≡◌, ℕ, ◌+◌, Some, refl, ap, subst}
+use Rattle.std.proofs.Common.{◌≡◌, ℕ, ◌+◌, Some, refl, subst}
 use Rattle.spk_nums.specs.Capability.{Capability}
 use Rattle.spk_nums.specs.declared.calls.Make.TheVariants as make
 use Rattle.spk_nums.specs.declared.calls.Call.TheVariants.{Make as make_call}

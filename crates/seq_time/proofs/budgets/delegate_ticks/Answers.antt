@@ -1,4 +1,4 @@
-use Rattle.std.proofs.Common.{◌≡◌, ◌+◌, ◌-◌, ◌∙◌, sym, ap, arith, Some}
+use Rattle.std.proofs.Common.{◌≡◌, ◌+◌, ◌-◌, ◌∙◌, ap, arith}
 use Rattle.kernel_rules.specs.TimeCalls.{with_tcap, tcap_at, merged_list}
 use Rattle.seq_state.specs.Maps.{state_of}
 use Rattle.seq_time.proofs.Delegating.{delegated, there}

@@ -1,9 +1,7 @@
-use Rattle.std.proofs.Common.{◌≡◌, ◌∙◌, sym, ap, subst}
+use Rattle.std.proofs.Common.{◌≡◌, ◌∙◌, ap}
 use Rattle.kernel_rules.specs.State.{Core}
-use Rattle.kernel_rules.specs.GracePeriods.{begun}
 use Rattle.seq_state.specs.Maps.{state_of}
-use Rattle.seq_state.specs.Representation.{SameState}
-use Rattle.seq_time.specs.Left.{run_by, left_by}
+use Rattle.seq_time.specs.Left.{run_by}
 use Rattle.seq_time.proofs.GoingOn.{gone_on}
 use Rattle.seq_time.proofs.switching.go_on.Goals as goal
 
