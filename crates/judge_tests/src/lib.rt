@@ -1,0 +1,9 @@
+//! Tests of the judge of decisions: for a state, a call and a reply, whether the reply is permitted, and whether the state then changes.
+//!
+//! See docs/CLAIMS.md, 'Crate by crate'.
+#![tactic(auto)]
+
+#[cfg(test)]
+mod judging;
+#[cfg(test)]
+mod rows;
