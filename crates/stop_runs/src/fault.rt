@@ -1,15 +1,15 @@
-//! Why a stop, or a file of a pair, does not pass.
+//! Why a stop does not pass.
 
 use spk_nums::{CoreNo, Memory, Reply};
 use std::alloc::{AllocError, AllocFailed};
 use std::fmt;
 
-/// Why a stop, or a file of a pair, does not pass.
+/// Why a stop does not pass.
 #[derive(Debug, Drop)]
 pub enum Fault {
     /// Memory ran out.
     Memory,
-    /// The file is no script.
+    /// A call of the script is out of its limits.
     Script,
     /// The script has fewer than two cores, or core 0 or 1 makes no call.
     NoPair,
@@ -55,7 +55,7 @@ impl fmt::Display for Fault {
     fn fmt<W: fmt::Write>(&self, f: &mut fmt::Formatter<W>) -> fmt::Result {
         match self {
             Fault::Memory => write!(f, "out of memory"),
-            Fault::Script => write!(f, "no script"),
+            Fault::Script => write!(f, "a call is out of its limits"),
             Fault::NoPair => write!(f, "cores 0 and 1 make no pair of calls"),
             Fault::SceneTooLong => write!(f, "the order reaches into the pair"),
             Fault::SceneRefused { core, reply } => {

@@ -179,8 +179,8 @@ impl Judge {
         if let Some(call) = step.view.enters {
             self.begin(core, call)?;
         }
-        let seat = self.seat(core);
-        let Some(within) = seat.within else {
+        let Seat { begun, within } = self.seat(core);
+        let Some(within) = within else {
             return Err(Fault::Astray(core));
         };
         let within = self.go_on(alloc, core, within, step.decides)?;
@@ -188,7 +188,6 @@ impl Judge {
             return Err(Fault::TooLong(core));
         }
         if step.returns.is_none() {
-            let begun = seat.begun;
             self.set_seat(
                 core,
                 Seat {
@@ -201,7 +200,6 @@ impl Judge {
         if step.returns != within.reply {
             return Err(Fault::OtherReply(core));
         }
-        let begun = seat.begun;
         self.set_seat(
             core,
             Seat {

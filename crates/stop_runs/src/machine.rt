@@ -5,6 +5,7 @@ ghost use Rattle.spk_nums.specs.CallLimits.{InLimits};
 ghost use Rattle.lone_kernel.specs.Machine.{AreLists, core_at};
 ghost use Rattle.lone_kernel.specs.word_map.specs.Places.{size_of};
 ghost use Rattle.stop_runs.specs.Inside.{IsSo};
+ghost use Rattle.stop_runs.specs.Lists.{IsRunnable};
 
 use crate::fault::Fault;
 use crate::judge::{Judge, Within};
@@ -26,21 +27,28 @@ pub struct Machine {
     judge: Judge,
 }
 
-// Whether the calls of a list are in their limits, and few.
-fn is_list(list: &[Call]) -> bool
-    ensures { result ≡ true → All InLimits list.now × (length list.now < 2 ^ 32) }
+// Whether these calls are in their limits.
+fn are_in_limits(calls: &[Call]) -> bool
+    ensures { IsTrue result ↔ All InLimits calls.now }
 {
-    'calls: for call in list {
+    'each: for call in calls {
         if !in_limits(call) {
             return false;
         }
     }
-    list.len() < 4_294_967_296
+    true
 }
 
-// Whether lists of calls can be run.
-fn can_run(lists: &[Vec<Call>]) -> bool
-    ensures { result ≡ true → AreLists (map (λ v. v.items) lists.now) }
+// Whether a list can be run: its calls are in their limits, and few.
+fn is_list(calls: &[Call]) -> bool
+    ensures { IsTrue result → IsRunnable calls.now }
+{
+    are_in_limits(calls) && calls.len() < 4_294_967_296
+}
+
+// Whether each list can be run.
+fn are_lists(lists: &[Vec<Call>]) -> bool
+    ensures { IsTrue result → AreLists (map (λ v. v.items) lists.now) }
 {
     'lists: for list in lists {
         if !is_list(list.as_slice()) {
@@ -101,7 +109,7 @@ impl Machine {
     /// The machine at its start.
     pub fn boot(alloc: Global, setup: &Setup, lists: &[Vec<Call>]) -> Result<Machine, Fault> {
         let lists = copied(alloc, lists)?;
-        if !can_run(&lists) || lists.len() != usize::from(setup.cores()) {
+        if !are_lists(&lists) || lists.len() != usize::from(setup.cores()) {
             return Err(Fault::Script);
         }
         let kernel = LoneKernel::boot(alloc, setup, lists)?;

@@ -21,10 +21,9 @@ mod judge;
 mod machine;
 mod stops;
 
-use crate::fault::Fault;
 use crate::stops::make_stops;
 use script_reader::{ReadFault, Script, read};
-use spk_nums::CoreNo;
+use spk_nums::{CoreNo, Memory};
 use std::alloc::Global;
 use std::fs;
 use std::io::{self, ErrorKind};
@@ -47,23 +46,19 @@ fn pair_files<R: Files + AllocGlobal + Clone + Drop>(rt: &R) -> io::Result<Vec<S
     Ok(files)
 }
 
-// The script of these bytes.
-fn script_of(alloc: Global, bytes: &[u8]) -> Result<Script, Fault> {
+// The script of these bytes: None where they are none.
+fn script_of(alloc: Global, bytes: &[u8]) -> Result<Option<Script>, Memory> {
     if 1_048_576 < bytes.len() {
-        return Err(Fault::Script);
+        return Ok(None);
     }
     match read(alloc, bytes) {
-        Ok(script) => Ok(script),
-        Err(ReadFault::Memory) => Err(Fault::Memory),
-        Err(ReadFault::Script { .. }) => Err(Fault::Script),
+        Ok(script) => Ok(Some(script)),
+        Err(ReadFault::Memory) => Err(Memory),
+        Err(ReadFault::Script { .. }) => Ok(None),
     }
 }
 
-fn out_of_memory(_: Fault) -> io::Error {
-    io::Error::from(ErrorKind::OutOfMemory)
-}
-
-// Makes the stops of one core, tells of one that fails, and answers how many pass, and whether all do.
+// Makes the stops of one core, tells what one shows that does not pass, and answers how many pass, and whether all do.
 fn stop_core<R: Print + AllocGlobal>(
     rt: &R,
     name: &str,
@@ -71,34 +66,31 @@ fn stop_core<R: Print + AllocGlobal>(
     first: CoreNo,
     second: CoreNo,
 ) -> io::Result<(u32, bool)> {
-    let stops = make_stops(rt.alloc(), script, first, second).map_err(out_of_memory)?;
-    match stops.failed {
-        None => Ok((stops.passed, true)),
-        Some((steps, fault)) => {
-            println!(rt; "{name}: core {first} stops after {steps} steps: {fault}")?;
-            Ok((stops.passed, false))
-        }
+    let stops = make_stops(rt.alloc(), script, first, second).map_err(|_| io::Error::from(
+        ErrorKind::OutOfMemory,
+    ))?;
+    if let Some(text) = &stops.failed {
+        println!(rt; "{name}: core {first} {text}")?;
     }
+    Ok((stops.passed, stops.failed.is_none()))
 }
 
 // Makes the stops of a file, and tells whether all pass.
 fn run_file<R: Files + Print + AllocGlobal>(rt: &R, path: &str) -> io::Result<bool> {
     let bytes = fs::read(rt, path)?;
     let name = path.strip_prefix("./").unwrap_or(path);
-    match script_of(rt.alloc(), &bytes) {
-        Ok(script) => {
-            let (zero, one) = (CoreNo::new(0), CoreNo::new(1));
-            let (front, front_all) = stop_core(rt, name, &script, zero, one)?;
-            let (back, back_all) = stop_core(rt, name, &script, one, zero)?;
-            println!(rt; "{name}: {front} stops of core 0 and {back} of core 1 pass")?;
-            Ok(front_all && back_all)
-        }
-        Err(Fault::Memory) => Err(io::Error::from(ErrorKind::OutOfMemory)),
-        Err(fault) => {
-            println!(rt; "{name}: {fault}")?;
-            Ok(false)
-        }
-    }
+    let script = script_of(rt.alloc(), &bytes).map_err(|_| io::Error::from(
+        ErrorKind::OutOfMemory,
+    ))?;
+    let Some(script) = script else {
+        println!(rt; "{name}: no script")?;
+        return Ok(false);
+    };
+    let (zero, one) = (CoreNo::new(0), CoreNo::new(1));
+    let (front, front_all) = stop_core(rt, name, &script, zero, one)?;
+    let (back, back_all) = stop_core(rt, name, &script, one, zero)?;
+    println!(rt; "{name}: {front} stops of core 0 and {back} of core 1 pass")?;
+    Ok(front_all && back_all)
 }
 
 // Makes the stops of every file, and tells whether all pass.

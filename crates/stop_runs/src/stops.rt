@@ -4,16 +4,25 @@ use crate::fault::Fault;
 use crate::judge::most_steps;
 use crate::machine::Machine;
 use script_reader::Script;
-use spk_nums::{Call, CoreNo};
+use spk_nums::{Call, CoreNo, Memory, Reply, Value};
 use std::alloc::Global;
 
-/// How many stops of a core passed, and the first that did not.
+/// How many stops of a core passed, and what the first that did not shows.
 #[derive(Debug, Drop)]
 pub struct Stops {
     /// How many passed.
     pub passed: u32,
-    /// The number of steps of the first that did not, and why.
-    pub failed: Option<(u32, Fault)>,
+    /// After how many steps the core stopped at the first that did not, and why it did not pass.
+    pub failed: Option<String>,
+}
+
+// The stops of a core of which one, after so many steps, does not pass.
+fn failed(alloc: Global, passed: u32, steps: u32, fault: &Fault) -> Result<Stops, Memory> {
+    let text = format!(in alloc; "stops after {steps} steps: {fault}")?;
+    Ok(Stops {
+        passed,
+        failed: Some(text),
+    })
 }
 
 // The number of calls in a core's list.
@@ -45,6 +54,8 @@ fn make_calls(
     core: CoreNo,
     left: usize,
 ) -> Result<(), Fault> {
+    let _reply: Option<Reply> = None;
+    let _value: Option<Value> = None;
     let last = calls_of(script, core).saturating_sub(left);
     for _ in 0..last {
         if last <= machine.begun(core) && !machine.is_in_call(core) {
@@ -102,15 +113,16 @@ fn stop(
     Ok(false)
 }
 
-/// Makes every stop of a core's last call, at which another makes its own.
+/// Makes every stop of a core's last call, at which another makes its own, up to the first that does not pass. It fails only where memory
+/// runs out.
 pub fn make_stops(
     alloc: Global,
     script: &Script,
     first: CoreNo,
     second: CoreNo,
-) -> Result<Stops, Fault> {
+) -> Result<Stops, Memory> {
     let Some(call) = last_call(script, first) else {
-        return Err(Fault::NoPair);
+        return failed(alloc, 0, 0, &Fault::NoPair);
     };
     let most = most_steps(&call, script.setup.cores());
     let mut passed: u32 = 0;
@@ -121,13 +133,9 @@ pub fn make_stops(
                 passed,
                 failed: None,
             }),
-            Err(Fault::Memory) => return Err(Fault::Memory),
-            Err(fault) => {
-                let failed = Some((steps, fault));
-                return Ok(Stops { passed, failed });
-            }
+            Err(Fault::Memory) => return Err(Memory),
+            Err(fault) => return failed(alloc, passed, steps, &fault),
         }
     }
-    let failed = Some((most, Fault::TooLong(first)));
-    Ok(Stops { passed, failed })
+    failed(alloc, passed, most, &Fault::TooLong(first))
 }
