@@ -1,5 +1,7 @@
 //! The rows, by the states in which their decisions are judged.
 
+ghost use Rattle.std.specs.Prelude.{◌≤◌};
+
 use crate::judging::Verdict::{Changes, Forbidden, Keeps, Spent};
 use crate::judging::{Row, Scene, Verdict, judge};
 use spk_nums::{Cap, CoreNo, FrameNo, Kind, Reply, Value};
