@@ -1,0 +1,56 @@
+-- What a slot of C's holds, and what the exports make of it.
+use Rattle.std.specs.Prelude.{◌≡◌, Bool, true, false, Option, Some, None, MatchOption}
+use Rattle.spk_nums.specs.declared.calls.Call.{Call}
+use Rattle.spk_nums.specs.declared.replies.Reply.{Reply}
+use Rattle.core_kernel.specs.Kernel.{CoreSeatValue}
+use Rattle.core_kernel.specs.Calls.{MakesCall}
+use Rattle.speck_c.specs.declared.held.Held.{Held}
+use Rattle.speck_c.specs.declared.held.What.{What}
+use Rattle.speck_c.specs.declared.held.What.TheVariants.{Machine, Core, Told, Tables}
+use Rattle.speck_c.specs.declared.reply.SpeckReply.{SpeckReply}
+use Rattle.speck_c.specs.declared.slot.Slot.{Slot}
+use Rattle.speck_c.specs.Flat.{flat, blank}
+
+-- what the slot holds; nothing where it is not full
+abbrev pub held_if : Bool → Option Held → Option Held
+held_if true held = held
+held_if false held = None
+
+abbrev pub held_in : Slot → Option Held
+held_in slot = held_if slot.full slot.handle.held
+
+-- the port among what may be held
+abbrev pub port_of : What → Option CoreSeatValue
+port_of (Machine s) = None
+port_of (Core p) = Some p
+port_of (Told n) = None
+port_of (Tables t) = None
+
+abbrev pub port_held : Option Held → Option CoreSeatValue
+port_held None = None
+port_held (Some h) = port_of h.what
+
+-- The port has made the call and was answered the reply, which is told; it is still held.
+pub record HasAnswered (port : CoreSeatValue) (call : Call) (told : Option Reply) (now : Option CoreSeatValue) : Type 0 where
+  pub reply : Reply
+  pub made : CoreSeatValue
+  pub makes : MakesCall port call reply made
+  pub is_told : told ≡ Some reply
+  pub still : now ≡ Some made
+
+-- The port has made the call, and the answer tells its reply; it is still held.
+pub record IsAnswered (port : CoreSeatValue) (call : Call) (answer : SpeckReply) (now : Option CoreSeatValue) : Type 0 where
+  pub reply : Reply
+  pub made : CoreSeatValue
+  pub makes : MakesCall port call reply made
+  pub is_told : answer ≡ flat reply
+  pub still : now ≡ Some made
+
+-- The call is made where a port is held; else 254 is answered, and what is held stays.
+abbrev pub IsCalled : Option Held → Call → SpeckReply → Option Held → Type 0
+IsCalled held call answer now =
+    MatchOption (port_held held) ((answer ≡ blank 254) × (now ≡ held)) (λ p. IsAnswered p call answer (port_held now))
+
+-- Of arguments outside the limits 255 is answered, and what is held stays.
+abbrev pub IsOutside : Option Held → SpeckReply → Option Held → Type 0
+IsOutside held answer now = (answer ≡ blank 255) × (now ≡ held)
