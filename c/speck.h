@@ -33,13 +33,68 @@ struct speck_port { bool full; void *at; };
 struct speck_note { bool full; void *at; };
 struct speck_text { bool full; void *at; };
 
-/* What a call of a core answers: the number of its reply, as docs/REPLIES.md has them, or one of the codes below. `value` says what
- * is carried: 0 nothing, 1 a capability (`kind`, `frame`, `n` its number, `flags` its rights: 1 to copy, 2 to use), 2 a page (`frame`, `flags`), 3 an amount (`n`), 4 preempts,
- * 5 stays. Of a refusal, `n` is the core, the count or the budget that it names. */
-struct speck_reply { uint8_t code, value, kind, flags; uint16_t frame; uint32_t n; };
+/* What a call of a core answers. `code` is the number of its reply (SPECK_OK to SPECK_NO_RIGHT), or one of the two codes that are no
+ * replies. `value` says what SPECK_OK carries: 0 nothing, 1 a capability (`kind`, `frame`, `n` its number, `flags` its rights: 1 to copy, 2 to
+ * use), 2 a page (`frame`, `flags`), 3 an amount (`n`), 4 preempts, 5 stays. Of SPECK_QUIESCING, SPECK_UNFLUSHED, SPECK_RUNNING and
+ * SPECK_BUSY, `n` is the core, of SPECK_REFERENCED the count, of SPECK_SHORT the budget. `advice` says what the caller may do. What does
+ * not apply is 0. */
+struct speck_reply {
+    uint8_t code;
+    uint8_t value;
+    uint8_t kind;
+    uint8_t flags;
+    uint16_t frame;
+    uint8_t advice;
+    uint32_t n;
+};
 
-/* No numbers of replies. */
+/* The replies. When each comes, and what to do about it, is in docs/REPLIES.md. */
+enum {
+    SPECK_OK = 0,
+    SPECK_NO_SLOT = 1,
+    SPECK_EMPTY = 2,
+    SPECK_WRONG_CAP = 3,
+    SPECK_OCCUPIED = 4,
+    SPECK_QUIESCING = 5,
+    SPECK_UNFLUSHED = 6,
+    SPECK_FRAME_KIND = 7,
+    SPECK_OUT_OF_RANGE = 8,
+    SPECK_REFERENCED = 9,
+    SPECK_NOT_EMPTY = 10,
+    SPECK_DEAD = 11,
+    SPECK_DEEP = 12,
+    SPECK_BOTTOM = 13,
+    SPECK_RUNNING = 14,
+    SPECK_SHORT = 15,
+    SPECK_UNLIKE = 16,
+    SPECK_TOO_MANY = 17,
+    SPECK_SAME = 18,
+    SPECK_EPOCHS_SPENT = 19,
+    SPECK_RACED = 20,
+    SPECK_BUSY = 21,
+    SPECK_FAULT = 22,
+    SPECK_CALLS_SPENT = 23,
+    SPECK_NO_RIGHT = 24
+};
+
+/* No numbers of replies: the port's slot holds no port (or, of the calls below on machines and notes, no such thing); the arguments are
+ * outside the limits. The slot stays as it is. */
 enum { SPECK_NOTHING_HELD = 254, SPECK_OUTSIDE = 255 };
+
+/* What a caller may do about a reply: nothing, it was carried out; change what it asked for; give up, the core makes no further
+ * call; have `n` references released; wait until core `n` has returned from its call; have core `n` flush; choose another thread, or
+ * wait until core `n` runs another; after a lost race, make the call again. A `tick` that lost a race is made again with 0 ticks: its
+ * own are owed already. */
+enum {
+    SPECK_ADVICE_DONE = 0,
+    SPECK_ADVICE_CHANGE = 1,
+    SPECK_ADVICE_GIVE_UP = 2,
+    SPECK_ADVICE_RELEASE = 3,
+    SPECK_ADVICE_AWAIT_RETURN = 4,
+    SPECK_ADVICE_AWAIT_FLUSH = 5,
+    SPECK_ADVICE_AWAIT_SWITCH = 6,
+    SPECK_ADVICE_AGAIN = 7
+};
 
 /* What the calls on machines, notes and texts answer, beside SPECK_NOTHING_HELD. SPECK_FULL: the slot to be filled is not empty.
  * `speck_boot`: SPECK_CORES, not 1 to 8 cores; SPECK_FRAMES, not `4 + 2 * cores` to 512 frames; SPECK_BUDGET, more than 500,000,000 ticks.
@@ -48,9 +103,23 @@ enum { SPECK_NOTHING_HELD = 254, SPECK_OUTSIDE = 255 };
  * (`speck_finish`) is gone. In all other cases a refusal changes nothing. */
 enum { SPECK_DONE = 0, SPECK_FULL = 1, SPECK_CORES = 2, SPECK_TURN = 2, SPECK_FRAMES = 3, SPECK_BUDGET = 4, SPECK_MEMORY = 5 };
 
-/* The kinds of capabilities, and of frames for `speck_retype`. */
-enum { SPECK_RANGE, SPECK_TABLE, SPECK_LEAF, SPECK_PAGES, SPECK_PLEAF, SPECK_COMP, SPECK_GATE, SPECK_THREAD, SPECK_TCAP, SPECK_LINK, SPECK_PAGE };
-enum { SPECK_UNTYPED, SPECK_USER, SPECK_KERNEL };
+/* The kinds of capabilities. */
+enum {
+    SPECK_RANGE = 0,
+    SPECK_TABLE = 1,
+    SPECK_LEAF = 2,
+    SPECK_PAGES = 3,
+    SPECK_PLEAF = 4,
+    SPECK_COMP = 5,
+    SPECK_GATE = 6,
+    SPECK_THREAD = 7,
+    SPECK_TCAP = 8,
+    SPECK_LINK = 9,
+    SPECK_PAGE = 10
+};
+
+/* The kinds of frames, for `speck_retype`. */
+enum { SPECK_UNTYPED = 0, SPECK_USER = 1, SPECK_KERNEL = 2 };
 
 /* Machines. */
 uint8_t speck_boot(struct speck_machine *machine, uint8_t cores, uint16_t frames, uint32_t budget);
@@ -61,6 +130,9 @@ void speck_free_machine(struct speck_machine *machine);
 void speck_free_port(struct speck_port *port);
 void speck_free_note(struct speck_note *note);
 void speck_free_text(struct speck_text *text);
+
+/* The core of a port, 0 to 7. */
+uint8_t speck_core(struct speck_port *port);
 
 /* Notes. */
 uint8_t speck_note(struct speck_port *port, struct speck_note *note);

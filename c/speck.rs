@@ -15,7 +15,7 @@ impl Slot {
     const EMPTY: Slot = Slot { full: false, at: null_mut() };
 }
 
-/// What a call of a core answers, as `speck.h` has it.
+/// What a call of a core answers, with the numbers of `speck.h`.
 #[repr(C)]
 #[derive(Clone, Copy, PartialEq, Eq, Debug)]
 pub struct Reply {
@@ -24,12 +24,14 @@ pub struct Reply {
     pub kind: u8,
     pub flags: u8,
     pub frame: u16,
+    pub advice: u8,
     pub n: u32,
 }
 
 unsafe extern "C" {
     fn speck_boot(machine: *mut Slot, cores: u8, frames: u16, budget: u32) -> u8;
     fn speck_deal(machine: *mut Slot, port: *mut Slot) -> u8;
+    fn speck_core(port: *mut Slot) -> u8;
     fn speck_free_machine(machine: *mut Slot);
     fn speck_free_port(port: *mut Slot);
     fn speck_free_note(note: *mut Slot);
@@ -238,6 +240,11 @@ impl Port {
 
     pub fn test(&mut self, a: u16, b: u16) -> Reply {
         unsafe { speck_test(&mut self.slot, a, b) }
+    }
+
+    /// The port's core.
+    pub fn core(&mut self) -> u8 {
+        unsafe { speck_core(&mut self.slot) }
     }
 
     /// A note of what the port has seen; None where memory has run out.

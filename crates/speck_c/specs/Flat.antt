@@ -1,6 +1,9 @@
--- A reply as C reads it: its number, and what it carries.
+-- A reply as C reads it: its number, what it carries, and what a caller may do about it.
 use Rattle.std.specs.Prelude.{ℕ}
+use Rattle.spk_nums.specs.Advices.{advice_of}
 use Rattle.spk_nums.specs.Names.{reply_code}
+use Rattle.spk_nums.specs.declared.advice.Advice.{Advice}
+use Rattle.spk_nums.specs.declared.advice.Advice.TheVariants.{Done, Change, GiveUp, Release, AwaitReturn, AwaitFlush, AwaitSwitch, Again}
 use Rattle.spk_nums.specs.declared.kinds.Kind.{Kind}
 use Rattle.spk_nums.specs.declared.kinds.Kind.TheVariants as kind
 use Rattle.spk_nums.specs.declared.replies.Reply.{Reply}
@@ -23,30 +26,45 @@ kind_code kind.Tcap = 8
 kind_code kind.Link = 9
 kind_code kind.Page = 10
 
--- the answer of this number that carries nothing
-abbrev pub blank : ℕ → SpeckReply
-blank code = record { code = code; value = 0; kind = 0; flags = 0; frame = 0; n = 0 }
+-- the number of an advice, from 0 in the order of its declaration
+abbrev pub advice_code : Advice → ℕ
+advice_code Done = 0
+advice_code Change = 1
+advice_code GiveUp = 2
+advice_code (Release k) = 3
+advice_code (AwaitReturn e) = 4
+advice_code (AwaitFlush e) = 5
+advice_code (AwaitSwitch e) = 6
+advice_code Again = 7
 
--- the answer of this number that carries a number
-abbrev pub counted : ℕ → ℕ → SpeckReply
-counted code n = record { code = code; value = 0; kind = 0; flags = 0; frame = 0; n = n }
+-- the answer of this number that carries no value, with this advice and number
+abbrev pub refusal : ℕ → ℕ → ℕ → SpeckReply
+refusal code advice n = record { code = code; value = 0; kind = 0; flags = 0; frame = 0; advice = advice; n = n }
+
+-- what is answered, by a number that is no reply's, where no call was made: the caller has to change what it asked for
+abbrev pub blank : ℕ → SpeckReply
+blank code = refusal code 1 0
 
 -- the answer of a call that was carried out
 abbrev pub carried : Value → SpeckReply
-carried Nothing = blank 0
-carried (Cap c) = record { code = 0; value = 1; kind = kind_code c.kind; flags = c.rights; frame = c.frame; n = c.arg }
-carried (Page f w) = record { code = 0; value = 2; kind = 0; flags = w.0; frame = f; n = 0 }
-carried (Amount n) = record { code = 0; value = 3; kind = 0; flags = 0; frame = 0; n = n }
-carried Preempts = record { code = 0; value = 4; kind = 0; flags = 0; frame = 0; n = 0 }
-carried Stays = record { code = 0; value = 5; kind = 0; flags = 0; frame = 0; n = 0 }
+carried Nothing = record { code = 0; value = 0; kind = 0; flags = 0; frame = 0; advice = 0; n = 0 }
+carried (Cap c) = record { code = 0; value = 1; kind = kind_code c.kind; flags = c.rights; frame = c.frame; advice = 0; n = c.arg }
+carried (Page f w) = record { code = 0; value = 2; kind = 0; flags = w.0; frame = f; advice = 0; n = 0 }
+carried (Amount n) = record { code = 0; value = 3; kind = 0; flags = 0; frame = 0; advice = 0; n = n }
+carried Preempts = record { code = 0; value = 4; kind = 0; flags = 0; frame = 0; advice = 0; n = 0 }
+carried Stays = record { code = 0; value = 5; kind = 0; flags = 0; frame = 0; advice = 0; n = 0 }
+
+-- the number that a refusal names: a core, a count or a budget
+abbrev pub named : Reply → ℕ
+named (Quiescing e) = e
+named (Unflushed e) = e
+named (Referenced k) = k
+named (Running e) = e
+named (Short b) = b
+named (Busy d) = d
+named r = 0
 
 -- the answer that tells a reply
 abbrev pub flat : Reply → SpeckReply
 flat (ok_reply v) = carried v
-flat (Quiescing e) = counted 5 e
-flat (Unflushed e) = counted 6 e
-flat (Referenced k) = counted 9 k
-flat (Running e) = counted 14 e
-flat (Short b) = counted 15 b
-flat (Busy d) = counted 21 d
-flat r = blank (reply_code r)
+flat r = refusal (reply_code r) (advice_code (advice_of r)) (named r)

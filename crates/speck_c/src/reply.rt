@@ -1,13 +1,14 @@
 //! A reply as C reads it.
 
 ghost use Rattle.std.specs.Prelude.{◌≡◌};
-ghost use Rattle.speck_c.specs.Flat.{kind_code, blank, counted, carried, flat};
+ghost use Rattle.speck_c.specs.Flat.{kind_code, advice_code, blank, refusal, carried, named, flat};
 
-use spk_nums::{Kind, Reply, Value, reply_number};
+use spk_nums::{Advice, Kind, Reply, Value, reply_number};
 
-/// A reply's number as docs/REPLIES.md has it, or 254 or 255, which are no replies, and what it carries: `value` says what
+/// A reply's number as `spk_nums` has it (`reply_number`), or 254 or 255, which are no replies, and what it carries: `value` says what
 /// (0 nothing, 1 a capability, 2 a page, 3 an amount, 4 preempts, 5 stays), `kind` the kind of a capability, `flags` its
 /// rights or those of a page, `frame` the frame of either, `n` the number of a capability, an amount, a budget, a count or a core.
+/// `advice` is what a caller may do: the number of its `Advice`, from 0 in the order of its declaration.
 #[repr(C)]
 #[derive(Clone, Copy, PartialEq, Eq, Debug)]
 pub struct SpeckReply {
@@ -16,18 +17,19 @@ pub struct SpeckReply {
     pub kind: u8,
     pub flags: u8,
     pub frame: u16,
+    pub advice: u8,
     pub n: u32,
 }
 
-// The answer of this number that carries nothing.
+// What is answered, by a number that is no reply's, where no call was made.
 pub(crate) fn blank_reply(code: u8) -> SpeckReply
     ensures { result ≡ blank code }
 {
-    counted_reply(code, 0)
+    refusal_reply(code, 1, 0)
 }
 
-fn counted_reply(code: u8, n: u32) -> SpeckReply
-    ensures { result ≡ counted code n }
+fn refusal_reply(code: u8, advice: u8, n: u32) -> SpeckReply
+    ensures { result ≡ refusal code advice n }
 {
     SpeckReply {
         code,
@@ -35,6 +37,7 @@ fn counted_reply(code: u8, n: u32) -> SpeckReply
         kind: 0,
         flags: 0,
         frame: 0,
+        advice,
         n,
     }
 }
@@ -58,7 +61,7 @@ fn kind_number(kind: Kind) -> u8
 }
 
 fn carried_value(value: u8, kind: u8, flags: u8, frame: u16, n: u32) -> SpeckReply
-    ensures { result ≡ record { code = 0; value = value; kind = kind; flags = flags; frame = frame; n = n } }
+    ensures { result ≡ record { code = 0; value = value; kind = kind; flags = flags; frame = frame; advice = 0; n = n } }
 {
     SpeckReply {
         code: 0,
@@ -66,6 +69,7 @@ fn carried_value(value: u8, kind: u8, flags: u8, frame: u16, n: u32) -> SpeckRep
         kind,
         flags,
         frame,
+        advice: 0,
         n,
     }
 }
@@ -74,7 +78,7 @@ fn value_reply(value: Value) -> SpeckReply
     ensures { result ≡ carried value }
 {
     match value {
-        Value::Nothing => blank_reply(0),
+        Value::Nothing => carried_value(0, 0, 0, 0, 0),
         Value::Cap(cap) => carried_value(
             1,
             kind_number(cap.kind()),
@@ -89,18 +93,46 @@ fn value_reply(value: Value) -> SpeckReply
     }
 }
 
+fn advice_number(advice: Advice) -> u8
+    ensures { result ≡ advice_code advice }
+{
+    match advice {
+        Advice::Done => 0,
+        Advice::Change => 1,
+        Advice::GiveUp => 2,
+        Advice::Release(_) => 3,
+        Advice::AwaitReturn(_) => 4,
+        Advice::AwaitFlush(_) => 5,
+        Advice::AwaitSwitch(_) => 6,
+        Advice::Again => 7,
+    }
+}
+
+// The core, count or budget that a refusal names.
+fn named_number(reply: &Reply) -> u32
+    ensures { result ≡ named reply.now }
+{
+    match reply {
+        Reply::Quiescing(core) => u32::from(core.number()),
+        Reply::Unflushed(core) => u32::from(core.number()),
+        Reply::Referenced(k) => *k,
+        Reply::Running(core) => u32::from(core.number()),
+        Reply::Short(budget) => *budget,
+        Reply::Busy(core) => u32::from(core.number()),
+        _ => 0,
+    }
+}
+
 // The answer that tells the reply.
 pub(crate) fn flat_reply(reply: Reply) -> SpeckReply
     ensures { result ≡ flat reply }
 {
     match reply {
         Reply::Ok(value) => value_reply(value),
-        Reply::Quiescing(core) => counted_reply(5, u32::from(core.number())),
-        Reply::Unflushed(core) => counted_reply(6, u32::from(core.number())),
-        Reply::Referenced(k) => counted_reply(9, k),
-        Reply::Running(core) => counted_reply(14, u32::from(core.number())),
-        Reply::Short(budget) => counted_reply(15, budget),
-        Reply::Busy(core) => counted_reply(21, u32::from(core.number())),
-        other => blank_reply(reply_number(&other)),
+        other => refusal_reply(
+            reply_number(&other),
+            advice_number(other.advice()),
+            named_number(&other),
+        ),
     }
 }
