@@ -34,8 +34,8 @@ struct speck_note { bool full; void *at; };
 struct speck_text { bool full; void *at; };
 
 /* What a call of a core answers. `code` is the number of its reply (SPECK_OK to SPECK_NO_RIGHT), or one of the two codes that are no
- * replies. `value` says what SPECK_OK carries: 0 nothing, 1 a capability (`kind`, `frame`, `n` its number, `flags` its rights: 1 to copy, 2 to
- * use), 2 a page (`frame`, `flags`), 3 an amount (`n`), 4 preempts, 5 stays. Of SPECK_QUIESCING, SPECK_UNFLUSHED, SPECK_RUNNING and
+ * replies. `value` says what SPECK_OK carries: 0 nothing, 1 a capability (`kind`, `frame`, `n` its number, `flags` its rights: 1 to copy,
+ * 2 to use), 2 a page (`frame`, `flags`), 3 an amount (`n`), 4 preempts, 5 stays. Of SPECK_QUIESCING, SPECK_UNFLUSHED, SPECK_RUNNING and
  * SPECK_BUSY, `n` is the core, of SPECK_REFERENCED the count, of SPECK_SHORT the budget. `advice` says what the caller may do. What does
  * not apply is 0. */
 struct speck_reply {
@@ -77,8 +77,8 @@ enum {
     SPECK_NO_RIGHT = 24
 };
 
-/* No numbers of replies: the port's slot holds no port (or, of the calls below on machines and notes, no such thing); the arguments are
- * outside the limits. The slot stays as it is. */
+/* No numbers of replies: a slot does not hold what is asked of it; the arguments are outside the limits. No call was then made, and the
+ * slots stay as they are. */
 enum { SPECK_NOTHING_HELD = 254, SPECK_OUTSIDE = 255 };
 
 /* What a caller may do about a reply: nothing, it was carried out; change what it asked for; give up, the core makes no further
@@ -139,12 +139,12 @@ uint8_t speck_note(struct speck_port *port, struct speck_note *note);
 uint8_t speck_meet(struct speck_port *port, struct speck_note *note);
 
 /* The tables of a machine that was finished. Copies the beginning of the text, as much as there is room for, and answers its whole
- * length; 0 where no text is held. It ends with no zero. */
+ * length; 0 where no text is held. It ends with no zero. `bytes` is not null, also where there is no room. */
 uint64_t speck_read(struct speck_text *text, uint8_t *bytes, size_t room);
 
-/* The calls of a port's core, as docs/MODEL.md has them. 254 is answered where no port is held, 255 for arguments outside the limits:
- * more than 1,000,000 ticks of `tick`, `rights` or flags `w` past 3, a kind `k` past 2, a `sched` or `live` past 63, a `quality` that is 0 or past
- * 16,777,215. */
+/* The calls of a port's core, as docs/MODEL.md has them. SPECK_NOTHING_HELD is answered where no port is held, SPECK_OUTSIDE for
+ * arguments outside the limits: more than 1,000,000 ticks of `tick`, `rights` or flags `w` past 3, a kind `k` past 2, a `sched` or `live`
+ * past 63, a `quality` that is 0 or past 16,777,215. */
 struct speck_reply speck_look(struct speck_port *port, uint16_t a);
 struct speck_reply speck_copy(struct speck_port *port, uint16_t a, uint16_t t, uint16_t b, uint8_t rights);
 struct speck_reply speck_remove(struct speck_port *port, uint16_t t, uint16_t b);
@@ -156,8 +156,10 @@ struct speck_reply speck_make_leaf(struct speck_port *port, uint16_t range, uint
 struct speck_reply speck_make_pages(struct speck_port *port, uint16_t range, uint16_t frame, uint16_t table, uint16_t slot);
 struct speck_reply speck_make_pleaf(struct speck_port *port, uint16_t range, uint16_t frame, uint16_t table, uint16_t slot);
 struct speck_reply speck_make_thread(struct speck_port *port, uint16_t comp, uint16_t range, uint16_t frame, uint16_t table, uint16_t slot);
-struct speck_reply speck_make_tcap(struct speck_port *port, uint8_t sched, uint32_t quality, uint16_t range, uint16_t frame, uint16_t table, uint16_t slot);
-struct speck_reply speck_make_comp(struct speck_port *port, uint16_t names, uint16_t pages, uint8_t live, uint16_t range, uint16_t frame, uint16_t table, uint16_t slot);
+struct speck_reply speck_make_tcap(struct speck_port *port, uint8_t sched, uint32_t quality,
+    uint16_t range, uint16_t frame, uint16_t table, uint16_t slot);
+struct speck_reply speck_make_comp(struct speck_port *port, uint16_t names, uint16_t pages, uint8_t live,
+    uint16_t range, uint16_t frame, uint16_t table, uint16_t slot);
 struct speck_reply speck_map(struct speck_port *port, uint16_t p, uint16_t v, uint16_t r, uint16_t f, uint8_t w);
 struct speck_reply speck_unmap(struct speck_port *port, uint16_t p, uint16_t v);
 struct speck_reply speck_touch(struct speck_port *port, uint16_t v);
