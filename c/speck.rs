@@ -28,6 +28,12 @@ pub struct Reply {
     pub n: u32,
 }
 
+/// The advice after a lost race: make the call again, a `tick` with 0 ticks.
+pub const AGAIN: u8 = 7;
+
+/// The advice of `quiescing`: wait until the core `n` has returned from its call, then ask again.
+pub const AWAIT_RETURN: u8 = 4;
+
 unsafe extern "C" {
     fn speck_boot(machine: *mut Slot, cores: u8, frames: u16, budget: u32) -> u8;
     fn speck_deal(machine: *mut Slot, port: *mut Slot) -> u8;

@@ -1,4 +1,5 @@
-/* Two threads share one kernel: each makes a call of its core at once; then core 1 learns what core 0 has done, and sees it. */
+/* Two threads share one kernel. Each makes a call of its core at once; then core 1 learns what core 0 has done, and sees it; then each
+ * fills and empties a place again and again, and makes a call anew where the answer advises that. */
 #include "speck.h"
 #include <pthread.h>
 #include <stdio.h>
@@ -13,17 +14,42 @@ static void *ticks(void *port) {
     return (void *)(uintptr_t)(reply.code * 256 + reply.n);
 }
 
+/* Whether a race was lost, or the other core may still use what was removed. */
+static bool again(struct speck_reply reply) {
+    return reply.advice == SPECK_ADVICE_AGAIN || reply.advice == SPECK_ADVICE_AWAIT_RETURN;
+}
+
+/* How often its core's place was filled and emptied. */
+static void *fills(void *port) {
+    uint16_t place = 21 + speck_core(port);
+    struct speck_reply reply;
+    uintptr_t done;
+    for (done = 0; done < 100; done++) {
+        do reply = speck_copy(port, 0, 1, place, 3);
+        while (again(reply));
+        if (reply.code != SPECK_OK) break;
+        do reply = speck_remove(port, 1, place);
+        while (again(reply));
+        if (reply.code != SPECK_OK) break;
+    }
+    return (void *)done;
+}
+
+static void tell(const char *what, struct speck_reply reply) {
+    printf("%s: code %d, value %d, kind %d, flags %d, frame %d, advice %d, n %u\n", what, reply.code, reply.value, reply.kind, reply.flags,
+        reply.frame, reply.advice, (unsigned)reply.n);
+}
+
 int main(void) {
     struct speck_machine machine = {0};
     struct speck_port first = {0}, second = {0}, third = {0};
     struct speck_note note = {0};
     struct speck_text text = {0};
     uint8_t tables[4096];
-    struct speck_reply looked;
     pthread_t threads[2];
     void *copied, *ticked;
 
-    printf("a call at an empty slot: %d\n", speck_look(&first, 0).code);
+    tell("a call at an empty slot", speck_look(&first, 0));
     printf("no core: %d\n", speck_boot(&machine, 0, 32, 100));
     printf("too few frames: %d\n", speck_boot(&machine, 2, 7, 100));
     printf("too large a budget: %d\n", speck_boot(&machine, 2, 32, 500000001));
@@ -32,7 +58,10 @@ int main(void) {
     printf("port of core 0: %d\n", speck_deal(&machine, &first));
     printf("port of core 1: %d\n", speck_deal(&machine, &second));
     printf("a third port: %d\n", speck_deal(&machine, &third));
-    printf("too many ticks: %d\n", speck_tick(&first, 1000001).code);
+    printf("the cores: %d, %d, %d\n", speck_core(&first), speck_core(&second), speck_core(&third));
+    tell("too many ticks", speck_tick(&first, 1000001));
+    tell("too many to transfer", speck_transfer(&first, 12, 13, 101));
+    tell("a thread that runs on core 1", speck_switch(&first, 5, 12));
 
     if (pthread_create(&threads[0], 0, copies, &first) || pthread_create(&threads[1], 0, ticks, &second)) return 1;
     if (pthread_join(threads[0], &copied) || pthread_join(threads[1], &ticked)) return 1;
@@ -42,8 +71,11 @@ int main(void) {
     printf("noted: %d\n", speck_note(&first, &note));
     printf("met: %d\n", speck_meet(&second, &note));
     printf("met once more: %d\n", speck_meet(&second, &note));
-    looked = speck_look(&second, 20);
-    printf("looked: %d, kind %d, frame %d, number %u, rights %d\n", looked.code, looked.kind, looked.frame, looked.n, looked.flags);
+    tell("looked", speck_look(&second, 20));
+
+    if (pthread_create(&threads[0], 0, fills, &first) || pthread_create(&threads[1], 0, fills, &second)) return 1;
+    if (pthread_join(threads[0], &copied) || pthread_join(threads[1], &ticked)) return 1;
+    printf("filled and emptied: %d and %d times\n", (int)(uintptr_t)copied, (int)(uintptr_t)ticked);
 
     printf("finished too early: %d\n", speck_finish(&machine, &text));
     printf("core 1 taken back first: %d\n", speck_take_back(&machine, &second));
@@ -60,7 +92,7 @@ int main(void) {
     speck_free_note(&note);
     speck_free_machine(&machine);
     speck_free_port(&first);
-    printf("the other port, after all else is freed: %d\n", speck_look(&second, 1).code);
+    tell("the other port, after all else is freed", speck_look(&second, 1));
     speck_free_port(&second);
     return 0;
 }
