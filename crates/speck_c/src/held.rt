@@ -20,3 +20,10 @@ pub enum What {
 pub struct Held {
     pub what: What,
 }
+
+const fn is_send<T: Send>() {}
+
+/// What a handle holds may move between threads, whatever it is. It is proved here, where the types stand, and does nothing.
+pub fn cross_threads() {
+    is_send::<Held>();
+}

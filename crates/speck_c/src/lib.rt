@@ -21,3 +21,5 @@ mod parts;
 mod reply;
 mod slot;
 mod texts;
+
+pub use held::cross_threads;
