@@ -11,7 +11,11 @@ why_word why.Marks = codes "marks"
 why_word why.Race = codes "race"
 why_word why.Reply = codes "reply"
 
+-- The text that names a line, and why no history goes on with it.
+abbrev pub illegal_text : ℕ → List ℕ → List ℕ
+illegal_text line word = codes "illegal line " ++ decimal line ++ codes ": " ++ word ++ codes "\n"
+
 -- `legal N`, or `illegal line L: WHY`, and a line feed.
 abbrev pub verdict_text : Verdict → List ℕ
 verdict_text (Legal decided) = codes "legal " ++ decimal decided ++ codes "\n"
-verdict_text (Illegal line w) = codes "illegal line " ++ decimal line ++ codes ": " ++ why_word w ++ codes "\n"
+verdict_text (Illegal line w) = illegal_text line (why_word w)

@@ -2,7 +2,7 @@
 
 ghost use Rattle.std.specs.Prelude.{◌≡◌, ◌<◌, ◌^◌, ◌++◌, length, IfOk, IfErr, string_bytes};
 ghost use Rattle.history_reader.specs.Inputs.{history_view};
-ghost use Rattle.check_run.specs.Texts.{why_word, verdict_text};
+ghost use Rattle.check_run.specs.Texts.{why_word, illegal_text, verdict_text};
 ghost use Rattle.check_run.specs.Checked.{IsChecked, IsCheckFault};
 
 use history_check::verdict;
@@ -22,16 +22,23 @@ fn why_word(why: Why) -> &'static str
     }
 }
 
+// The text that names the first line with which no history goes on, and why.
+fn illegal_text(alloc: Global, line: u32, word: &str) -> Result<String, AllocError>
+    ensures { IfOk result (λ text. string_bytes text ≡ illegal_text line word.now) }
+{
+    let mut text = format!(in alloc; "illegal line {line}: ")?;
+    text.push_str(word)?;
+    text.push('\n')?;
+    Ok(text)
+}
+
 // The text of a verdict.
 fn verdict_text(alloc: Global, verdict: Verdict) -> Result<String, AllocError>
     ensures { IfOk result (λ text. string_bytes text ≡ verdict_text verdict) }
 {
     match verdict {
         Verdict::Legal { decided } => format!(in alloc; "legal {decided}\n"),
-        Verdict::Illegal { line, why } => {
-            let word = why_word(why);
-            format!(in alloc; "illegal line {line}: {word}\n")
-        }
+        Verdict::Illegal { line, why } => illegal_text(alloc, line, why_word(why)),
     }
 }
 
