@@ -7,9 +7,9 @@ ghost use Rattle.origin_rules.specs.Chains.{slot_named, slot_under, put_from, pu
 ghost use Rattle.confinement.specs.Links.{put_of};
 
 use origin_rules::Step;
-use seq_lookups::{Slot, Target, Wanted, comp_of, named, reached};
+use seq_lookups::{Slot, Target, Wanted, comp_of, named_for, reached};
 use seq_state::SeqKernel;
-use spk_nums::{Call, CapId, CoreNo, Kind, Reply};
+use spk_nums::{Call, CapId, CoreNo, Kind, Reply, Rights};
 
 /// A capability that a call puts: the slot, how it is put, and the slot where its parent stands.
 #[derive(Clone, Copy)]
@@ -39,7 +39,7 @@ fn slot_under(k: &SeqKernel, core: CoreNo, table: CapId, number: CapId) -> Optio
     requires { core < (state_of k.now).limits.cores }
     ensures { result ≡ slot_under (state_of k.now) core table number }
 {
-    match named(k, core, table, Wanted::Only(Kind::Table)) {
+    match named_for(k, core, table, Wanted::Only(Kind::Table), Rights::USE) {
         Ok(cap) => reached(
             k,
             core,
