@@ -5,7 +5,7 @@ use plain_kernel::plain_step;
 use plain_tables::tables;
 use script_reader::{Script, read, read_call};
 use seq_state::SeqKernel;
-use spk_nums::{Call, CoreNo, Reply, in_limits};
+use spk_nums::{Call, CoreNo, Make, Reply, Value, in_limits};
 use std::alloc::Global;
 use std::process::Abort;
 use std::test::Fail;
@@ -52,6 +52,7 @@ fn enter(kernel: &mut SeqKernel, core: u8) {
 }
 
 fn make(alloc: Global, kernel: &mut SeqKernel, core: u8, call: &Call) -> Result<(), Fail> {
+    let _value: Option<Value> = None;
     if core < kernel.cores() && in_limits(call) {
         plain_step(alloc, kernel, CoreNo::new(core), call)?;
     }
@@ -119,6 +120,7 @@ fn decide(
 
 // What the judge makes of a row's decision.
 fn judged(alloc: Global, scene: &Scene, row: &Row) -> Result<Verdict, Fail> {
+    let _made: Option<Make> = None;
     let call = call_of(alloc, row.call)?;
     let mut kernel = set(alloc, scene)?;
     if scene.inside != Some(row.core) {
@@ -141,6 +143,7 @@ fn judged(alloc: Global, scene: &Scene, row: &Row) -> Result<Verdict, Fail> {
 
 // Whether an `ok` leaves the tables that the call made alone leaves.
 fn is_alone(alloc: Global, scene: &Scene, row: &Row) -> Result<bool, Fail> {
+    let _made: Option<Make> = None;
     let call = call_of(alloc, row.call)?;
     let mut judged = set(alloc, scene)?;
     let mut alone = set(alloc, scene)?;
