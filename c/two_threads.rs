@@ -48,16 +48,13 @@ fn main() {
     let met = second.meet(note.expect("memory for a note"));
     println!("met: {}", met.is_ok());
     println!("looked: {:?}", second.look(20));
-    let (of_first, of_second) = std::thread::scope(|threads| {
-        let other = threads.spawn(|| fill(&mut first));
-        let own = fill(&mut second);
-        (other.join().expect("the thread of core 0"), own)
-    });
+    let other = std::thread::spawn(move || (fill(&mut first), first));
+    let of_second = fill(&mut second);
+    let (of_first, mut first) = other.join().expect("the thread of core 0");
     println!("filled and emptied: {of_first} and {of_second} times");
-    let (foreign, _ports) = speck::boot(1, 32, 100).expect("another machine");
-    let (third, note) = (foreign, first.note().expect("memory for a note"));
-    println!("finished without its port: {:?}", third.finish(Vec::new()).err());
-    let (_machine, mut of_another) = speck::boot(1, 32, 100).expect("another machine");
+    let (another, mut of_another) = speck::boot(1, 32, 100).expect("another machine");
+    let note = first.note().expect("memory for a note");
     println!("a note of another kernel met: {}", of_another[0].meet(note).is_ok());
+    println!("finished without its port: {:?}", another.finish(Vec::new()).err());
     print!("{}", machine.finish(vec![first, second]).expect("all ports, core 0's first"));
 }
