@@ -2,7 +2,7 @@
 use Rattle.std.proofs.Common.{◌≡◌, ◌≢◌, inl, inr, ℕ, zero, suc, ◌+◌, ◌*◌, ◌<◌, ◌≤◌, ◌++◌, ◌==◌, Bool, true, false, refl, sym, ◌∙◌, ap, subst}
 use Rattle.std.proofs.Common.{arith, List, [], ◌∷◌, length, get_or, length-append, Option, Some, None, All, if◌then◌else◌}
 use Rattle.std.specs.Prelude.{option_to_list}
-use Rattle.std.proofs.lemmas.Bool.{cases_lt, eqb-true, eq-eqb, ne_eqb}
+use Rattle.std.proofs.lemmas.Bool.{cases_lt, eqb-true, eq-eqb, ne_eqb, false≢true}
 use Rattle.std.proofs.lemmas.List.{get_or_past}
 use Rattle.std.proofs.lemmas.List.Elements.{All-get_or}
 use Rattle.spk_nums.specs.Setting.{Setting, IsSetting}
@@ -42,7 +42,7 @@ open_one (is_decided_as call r) = 0
 
 none_open : (p : EventPhase) → is_decided p ≡ true → open_one p ≡ 0
 none_open is_out e = refl
-none_open (opens call) e = absurd (Rattle.std.proofs.lemmas.Bool.false≢true e)
+none_open (opens call) e = absurd (false≢true e)
 none_open (is_decided_as call r) e = refl
 
 entry_balance : (b : Bool) (c d : ℕ) (call : Call) (p q : EventPhase) (n m : ℕ) → (c == d) ≡ b → q ≡ is_out → (c ≡ d → p ≡ q)
@@ -54,9 +54,9 @@ entry_balance false c d call p q n m e out same before = before
 decision_balance : (b : Bool) (c d : ℕ) (call : Call) (r : Reply) (p q : EventPhase) (n m : ℕ) → (c == d) ≡ b → q ≡ opens call
     → (c ≡ d → p ≡ q) → n + open_one p ≡ m
     → (if b then n + 1 else n) + open_one (if b then is_decided_as call r else p) ≡ m
-decision_balance true c d call r p q n m e open same before =
-    let one : open_one p ≡ 1 = ap open_one (same (eqb-true c d e) ∙ open) in omega (arith, one, before)
-decision_balance false c d call r p q n m e open same before = before
+decision_balance true c d call r p q n m e opened same before =
+    let one : open_one p ≡ 1 = ap open_one (same (eqb-true c d e) ∙ opened) in omega (arith, one, before)
+decision_balance false c d call r p q n m e opened same before = before
 
 return_balance : (b : Bool) (c d : ℕ) (p q : EventPhase) (n m : ℕ) → (c == d) ≡ b → is_decided q ≡ true → (c ≡ d → p ≡ q)
     → n + open_one p ≡ m → n + open_one (if b then is_out else p) ≡ m
