@@ -1,6 +1,6 @@
 -- A trace that has the calls of lists decides no more calls than these are.
 use Rattle.std.proofs.Common.{◌≡◌, ◌≢◌, inl, inr, ℕ, zero, suc, ◌+◌, ◌*◌, ◌<◌, ◌≤◌, ◌++◌, ◌==◌, Bool, true, false, refl, sym, ◌∙◌, ap, subst}
-use Rattle.std.proofs.Common.{arith, List, [], ◌∷◌, length, get_or, length-append, Option, Some, None, All, if◌then◌else◌}
+use Rattle.std.proofs.Common.{arith, List, [], ◌∷◌, length, length-append, Option, Some, None, All, if◌then◌else◌}
 use Rattle.std.specs.Prelude.{option_to_list}
 use Rattle.std.proofs.lemmas.Bool.{cases_lt, eqb-true, eq-eqb, ne_eqb, false≢true}
 use Rattle.std.proofs.lemmas.List.{get_or_past}
@@ -15,7 +15,7 @@ use Rattle.told_run.specs.lone_kernel.specs.kernel_rules.specs.Runs.{Phase as Ev
 use Rattle.told_run.specs.lone_kernel.specs.kernel_rules.specs.Runs.{is_decided}
 use Rattle.kernel_invariant.proofs.SoundRuns.{limits_stay, runs_sound}
 use Rattle.kernel_invariant.proofs.Sums.{sum_one}
-use Rattle.told_run.specs.lone_kernel.specs.kernel_history.specs.Trace.{Step, Trace, Phase, Out, Open, Decided, phase, calls_of, after_enter}
+use Rattle.told_run.specs.lone_kernel.specs.kernel_history.specs.Trace.{Trace, Phase, Out, Open, Decided, phase, calls_of, after_enter}
 use Rattle.told_run.specs.lone_kernel.specs.kernel_history.specs.Events.{with_entry, with_decision, with_return, events_of}
 use Rattle.told_run.specs.lone_kernel.specs.kernel_history.specs.Order.{HasCalls, list_of}
 use Rattle.told_run.specs.lone_kernel.specs.kernel_history.proofs.Sums.{sum_zero}

@@ -1,13 +1,12 @@
 -- The origins stand for a trace with one step more.
-use Rattle.std.proofs.Common.{◌≡◌, ◌≢◌, inl, inr, ℕ, ◌+◌, ◌<◌, ◌≤◌, ◌++◌, ◌==◌, Bool, true, false, refl, sym, ◌∙◌, ap, subst, arith}
+use Rattle.std.proofs.Common.{◌≡◌, ◌≢◌, inl, inr, ℕ, ◌<◌, ◌≤◌, refl, sym, ◌∙◌, ap, subst, arith}
 use Rattle.std.proofs.Common.{List, [], ◌∷◌, length, All, Option, Some, None, is_some, slice_get, if◌then◌else◌}
 use Rattle.std.proofs.lemmas.Bool.{cases_eq, eq-eqb, ne_eqb}
 use Rattle.spk_nums.specs.Setting.{Setting, IsSetting}
-use Rattle.spk_nums.specs.CallLimits.{InLimits}
 use Rattle.spk_nums.specs.declared.calls.Call.{Call}
 use Rattle.spk_nums.specs.declared.replies.Reply.{Reply}
 use Rattle.spk_nums.specs.declared.steps.Item.{Item}
-use Rattle.told_run.specs.lone_kernel.specs.kernel_rules.specs.Runs.{Event, Enters, Decides, Returns, IsRun}
+use Rattle.told_run.specs.lone_kernel.specs.kernel_rules.specs.Runs.{Event, IsRun}
 use Rattle.kernel_invariant.proofs.SoundRuns.{open_limits}
 use Rattle.seq_state.proofs.Lists.{stands_within, set_here, set_apart}
 use Rattle.told_run.specs.lone_kernel.specs.kernel_history.specs.Trace.{Step, Trace, Phase, Out, Open, Decided, phase}
@@ -20,7 +19,7 @@ use Rattle.told_run.specs.lone_kernel.specs.step_views.specs.declared.views.Step
 use Rattle.told_run.specs.Watching.{IsNext}
 use Rattle.told_run.specs.GivenWatched.{GivenWatched}
 use Rattle.origin_rules.specs.Chains.{decided}
-use Rattle.origin_lines.specs.confinement.specs.Known.{Known, StandsFor}
+use Rattle.origin_lines.specs.confinement.specs.Known.{StandsFor}
 use Rattle.origin_lines.specs.Lines.{TellsOrigins}
 use Rattle.origins_run.specs.Tracked.{Tracked, EntersBy, DecidesOpen, DecidesIn, DecidesBy, LeavesBy, open_call, Tracks, has_tracked}
 use Rattle.origins_run.specs.GivenOrigins.{GivenOrigins}
