@@ -1,5 +1,5 @@
-//! The plain kernel, told the events of a trace in their order: that a call begins, its decision, and its return. Of each decision it is asked
-//! whether the definitions permit the reply, by the wide reach: any refusal whose own cause stands.
+//! The plain kernel, told the events of a trace in their order: that a call begins, its decision, and its return. Of each decision it
+//! is asked whether the definitions permit the reply, by the wide reach: any refusal whose own cause stands.
 
 use crate::fault::Fault;
 use call_judge::decide_by;

@@ -1,17 +1,18 @@
-//! The stops of pairs of calls that meet: in the folder `data/`, which the program runs in, each file `NAME.speck` is a script of at least
-//! two cores, and the last calls of core 0 and of core 1 are the pair. The order of the script, and then the calls before the pair, set the
-//! scene.
+//! The stops of pairs of calls that meet: in the folder `data/`, which the program runs in, each file `NAME.speck` is a script of at
+//! least two cores, and the last calls of core 0 and of core 1 are the pair. The order of the script, and then the calls before the
+//! pair, set the scene.
 //!
-//! **A stop.** One core makes so many steps of its call; then the other makes its call from its first step to its return; then the first goes
-//! on to its return. There is a stop for each number of steps that the call makes, from none to all; both cores are stopped so.
+//! **A stop.** One core makes so many steps of its call; then the other makes its call from its first step to its return; then the
+//! first goes on to its return. There is a stop for each number of steps that the call makes, from none to all; both cores are stopped
+//! so.
 //!
-//! **What is asked.** The plain kernel is told the events of the trace in their order, that a call begins, its decision and its return, and
-//! is asked of each decision whether the definitions permit the reply, by the wide reach. After each step the machine says of every core how
-//! many steps of its call it has made, if it is in one, which is fewer than the call's bound. In the end the machine's tables are byte for
-//! byte those of the plain kernel, which counts the references afresh.
+//! **What is asked.** The plain kernel is told the events of the trace in their order, that a call begins, its decision and its return,
+//! and is asked of each decision whether the definitions permit the reply, by the wide reach. After each step the machine says of every
+//! core how many steps of its call it has made, if it is in one, which is fewer than the call's bound. In the end the machine's tables
+//! are byte for byte those of the plain kernel, which counts the references afresh.
 //!
-//! For each file a line says how many stops of each core pass; before it stands a line for a stop that does not. The exit status is 0 where
-//! all pass, 2 where a file cannot be read or memory runs out, else 1.
+//! For each file a line says how many stops of each core pass; before it stands a line for a stop that does not. The exit status is 0
+//! where all pass, 2 where a file cannot be read or memory runs out, else 1.
 //!
 //! See CONTRIBUTING.md, 'To add a test'.
 #![tactic(auto)]
