@@ -1,13 +1,12 @@
 -- What is seen of the cores, beside their phases.
-use Rattle.std.proofs.Common.{◌≡◌, ◌≢◌, ℕ, ◌<◌, ◌==◌, ◌&&◌, Bool, true, false, not, List, [], ◌∷◌, length, get_or, refl, sym, ap, subst, ◌∙◌, inl, inr}
-use Rattle.std.proofs.Common.{IsTrue, if◌then◌else◌, arith}
+use Rattle.std.proofs.Common.{◌≡◌, ◌≢◌, ℕ, ◌<◌, ◌==◌, Bool, true, false, List, length, get_or, refl, sym, ap, subst, ◌∙◌, inl, inr}
+use Rattle.std.proofs.Common.{IsTrue, arith}
 use Rattle.std.specs.Prelude.{slice_set}
 use Rattle.std.proofs.lemmas.Bool.{false≢true, true≢false, eq-eqb, ne_eqb}
 use Rattle.std.proofs.lemmas.List.{get_or-set_same, get_or-set_other, get_or_default}
 use Rattle.std.proofs.lemmas.Bool.{cases_eq}
 use Rattle.spk_nums.specs.declared.calls.Call.{Call}
 use Rattle.kernel_rules.specs.Runs.{Phase, Out, Open, Decided, is_in, is_decided}
-use Rattle.marked_history.specs.declared.marks.Mark.{Mark}
 use Rattle.marked_history.specs.Histories.{CanBeDecided}
 use Rattle.history_check.specs.declared.seen.At.{At}
 use Rattle.history_check.specs.declared.seen.At.TheVariants as at

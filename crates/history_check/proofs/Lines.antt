@@ -17,11 +17,11 @@ use Rattle.kernel_rules.specs.State.{Limits}
 use Rattle.kernel_invariant.proofs.SoundRuns.{limits_stay}
 use Rattle.seq_state.specs.Maps.{state_of}
 use Rattle.marked_history.specs.Histories.{events_of, MayFollow, IsOfMachine}
-use Rattle.marked_history.specs.Verdicts.{said_marks, marks_of, entered, decisions, AllFollow, LineFollows, AreHistory, FirstBreaks}
-use Rattle.marked_history.specs.Verdicts.{SaidFits, LinesFit, LineBreaks, Misnumbered, Numbered, AreLegal, BreakAt}
+use Rattle.marked_history.specs.Verdicts.{said_marks, marks_of, entered, decisions, AreHistory}
+use Rattle.marked_history.specs.Verdicts.{SaidFits, LinesFit, Misnumbered, Numbered, AreLegal, BreakAt}
 use Rattle.history_check.specs.declared.judge.Judge.{Judge}
-use Rattle.history_check.specs.Judging.{seen_of, IsJudge, HasCome, HasRoom, RoomFor, MarkFound, JudgesMark, call_marks, MarksTaken, MarksFound, JudgesOthers}
-use Rattle.history_check.specs.Judging.{JudgesMarks, LineTaken, LineFound, JudgesLine, CallFits, core_of}
+use Rattle.history_check.specs.Judging.{seen_of, IsJudge, HasCome, HasRoom, RoomFor, MarkFound, JudgesMark, call_marks, MarksFound, JudgesOthers}
+use Rattle.history_check.specs.Judging.{JudgesMarks, LineFound, JudgesLine, CallFits, core_of}
 
 pub ok_map : {A E : Type 0} {P Q : A → Type 0} (r : Result A E) → ((a : A) → P a → Q a) → IfOk r P → IfOk r Q
 ok_map (Ok a) f p = f a p

@@ -1,18 +1,15 @@
 -- A judge takes a mark: it has come to the end of the marks with that one.
-use Rattle.std.proofs.Common.{◌≡◌, ◌≢◌, ℕ, ◌+◌, ◌<◌, ◌==◌, ◌&&◌, Bool, true, false, not, List, [], ◌∷◌, length, Option, Some, None, refl, sym, ap}
-use Rattle.std.proofs.Common.{subst, ◌∙◌, inl, inr, ◌⊎◌, IsTrue, if◌then◌else◌}
+use Rattle.std.proofs.Common.{◌≡◌, ◌≢◌, ℕ, ◌+◌, ◌<◌, ◌==◌, ◌&&◌, Bool, true, false, not, List, [], ◌∷◌, length, Option, refl, sym, ap}
+use Rattle.std.proofs.Common.{subst, ◌∙◌, inl, inr, IsTrue, if◌then◌else◌}
 use Rattle.std.specs.Prelude.{slice_set}
-use Rattle.std.proofs.lemmas.Bool.{cases_eq, false≢true, true≢false}
+use Rattle.std.proofs.lemmas.Bool.{cases_eq, false≢true}
 use Rattle.spk_nums.specs.Setting.{Setting, IsSetting}
-use Rattle.spk_nums.specs.CallLimits.{InLimits}
 use Rattle.spk_nums.specs.declared.calls.Call.{Call}
 use Rattle.spk_nums.specs.declared.replies.Reply.{Reply}
 use Rattle.spk_nums.specs.declared.replies.Reply.TheVariants as reply
-use Rattle.kernel_rules.specs.State.{State}
-use Rattle.kernel_rules.specs.Start.{start}
 use Rattle.kernel_rules.specs.GracePeriods.{entered as entered_state, returned as returned_state}
-use Rattle.kernel_rules.specs.CallRelation.{MayReply, state_by}
-use Rattle.kernel_rules.specs.Runs.{Event, after, Phase, Out, Open, Decided, is_in, is_decided, phase_of, IsRun}
+use Rattle.kernel_rules.specs.CallRelation.{state_by}
+use Rattle.kernel_rules.specs.Runs.{after, Out, Open, Decided, is_in, is_decided, phase_of}
 use Rattle.kernel_invariant.proofs.SoundRuns.{limits_stay}
 use Rattle.seq_state.specs.Maps.{Maps, state_of}
 use Rattle.seq_state.specs.Representation.{Represents}
@@ -23,16 +20,15 @@ use Rattle.plain_kernel.proofs.Stepping.{entered_same, returned_same}
 use Rattle.marked_history.specs.declared.marks.Mark.{Mark}
 use Rattle.marked_history.specs.declared.marks.Mark.TheVariants.{Enter, Decide, Return}
 use Rattle.marked_history.specs.Histories.{with_decision, events_of, phase, state, IsOther, IsAnotherIn, enters, Unless, HasMet, MayBeHeldUp}
-use Rattle.marked_history.specs.Histories.{CanBeDecided, MayDecideIn, IsOfMachine, IsHistory}
+use Rattle.marked_history.specs.Histories.{CanBeDecided, MayDecideIn, IsOfMachine}
 use Rattle.marked_history.specs.declared.marks.Why.TheVariants as why
-use Rattle.marked_history.specs.Verdicts.{entered, decisions, MarkBreaks}
+use Rattle.marked_history.specs.Verdicts.{entered, MarkBreaks}
 use Rattle.marked_history.proofs.Running.{histories_run}
-use Rattle.history_check.specs.declared.seen.At.{At}
 use Rattle.history_check.specs.declared.seen.At.TheVariants as at
 use Rattle.history_check.specs.declared.seen.Seen.{Seen}
 use Rattle.history_check.specs.declared.judge.Judge.{Judge}
-use Rattle.history_check.specs.Judging.{at_of, is_inside, no_one, seen_of, IsAnotherSeen, is_alone, alone_after, is_held_up, HasCome}
-use Rattle.history_check.proofs.Cores.{inside_is, out_is, open_is, decided_is, of_each, seen_own, seen_other, here, apart, turned}
+use Rattle.history_check.specs.Judging.{at_of, is_inside, seen_of, IsAnotherSeen, is_alone, alone_after, is_held_up, HasCome}
+use Rattle.history_check.proofs.Cores.{inside_is, out_is, decided_is, of_each, seen_own, seen_other, here, apart, turned}
 
 -- ---- who is met
 

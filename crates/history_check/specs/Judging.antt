@@ -1,6 +1,6 @@
 -- What it means that a judge has come to a place of a history.
-use Rattle.std.specs.Prelude.{◌≡◌, ◌≢◌, ◌<◌, ◌^◌, ◌+◌, ◌==◌, ◌&&◌, not, ℕ, ◌-◌, Bool, true, false, List, [], ◌∷◌, ◌++◌, reverse, length, get_or, Option, Some, None}
-use Rattle.std.specs.Prelude.{IsTrue, IsFalse, All}
+use Rattle.std.specs.Prelude.{◌≡◌, ◌≢◌, ◌<◌, ◌^◌, ◌+◌, ◌==◌, ◌&&◌, not, ℕ, Bool, true, false, List, [], ◌∷◌, ◌++◌, reverse, length, get_or, Option, Some, None}
+use Rattle.std.specs.Prelude.{IsTrue, All}
 use Rattle.spk_nums.specs.Setting.{Setting, IsSetting}
 use Rattle.spk_nums.specs.CallLimits.{InLimits}
 use Rattle.spk_nums.specs.declared.calls.Call.{Call}
@@ -13,7 +13,6 @@ use Rattle.marked_history.specs.declared.marks.Mark.{Mark}
 use Rattle.marked_history.specs.declared.marks.Mark.TheVariants.{Enter, Decide, Return}
 use Rattle.marked_history.specs.declared.marks.Said.{Said}
 use Rattle.marked_history.specs.declared.marks.Said.TheVariants.{One, Whole}
-use Rattle.marked_history.specs.declared.marks.Line.{Line}
 use Rattle.marked_history.specs.declared.marks.Why.{Why}
 use Rattle.marked_history.specs.Histories.{phase, state, HasMet, IsOfMachine, IsHistory}
 use Rattle.marked_history.specs.Verdicts.{said_marks, entered, decisions, AllFollow, MarkBreaks, FirstBreaks, SaidFits, LineBreaks, LineFollows}

@@ -1,4 +1,4 @@
-use Rattle.std.proofs.Common.{◌≡◌, ◌<◌, ◌+◌, ◌∙◌, refl, sym, ap, subst, arith}
+use Rattle.std.proofs.Common.{◌≡◌, ◌<◌, ◌+◌, ◌∙◌, refl, sym, ap, arith}
 use Rattle.kernel_rules.specs.Runs.{Open}
 use Rattle.marked_history.specs.Histories.{phase}
 use Rattle.history_check.specs.Judging.{seen_of}
