@@ -9,7 +9,7 @@ use crate::seat::EndSeat;
 use crate::table::EndTable;
 use spk_nums::Memory;
 use std::alloc::{AllocError, Global};
-use turn_rule::{TurnSeat, TurnTable};
+use turn_rule::{Spread, TurnSeat, TurnTable};
 
 // A core that has begun no call, for each core.
 fn programs_of(alloc: Global, frames: u16, cores: u8) -> Result<Vec<EndRun>, AllocError>
@@ -71,7 +71,7 @@ impl EndTable {
     {
         let words = vec![in alloc; 0; usize::from(frames)]?;
         let programs = programs_of(alloc, frames, cores)?;
-        let (table, turn_seats) = TurnTable::new(alloc, words, programs)?;
+        let (table, turn_seats) = TurnTable::new(alloc, words, programs, Spread::flat())?;
         let seats = seats_of(alloc, frames, cores, turn_seats)?;
         Ok((
             EndTable {

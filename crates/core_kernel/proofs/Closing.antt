@@ -54,17 +54,21 @@ programs_more setup n xs ys p before more is =
           ]);
     }
 
+is_shape : (setup : Setting) → IsSetting setup → IsShape (shape_of setup)
+is_shape setup setting = record {
+  some_core = setting.some_core;
+  most_cores = setting.most_cores;
+  least_frames = setting.least_frames;
+  most_frames = setting.most_frames;
+}
+
 -- a table has a word
 pub some_word : (setup : Setting) → IsSetting setup → 0 < size_of (shape_of setup)
-some_word setup setting =
-    let is : IsShape (shape_of setup) = record {
-      some_core = setting.some_core;
-      most_cores = setting.most_cores;
-      least_frames = setting.least_frames;
-      most_frames = setting.most_frames;
-    } in
-    let below = (has_places (shape_of setup) is).below ClockAt tt in
-    omega arith
+some_word setup setting = let below = (has_places (shape_of setup) (is_shape setup setting)).below ClockAt tt in omega arith
+
+-- and fewer than a `u32` counts
+pub few_words : (setup : Setting) → IsSetting setup → size_of (shape_of setup) < 4294967296
+few_words setup setting = let small = (has_places (shape_of setup) (is_shape setup setting)).small in omega arith
 
 pub programs_fit : (setup : Setting) (programs : List CoreRun) (words : List ℕ) → ArePrograms setup setup.cores programs
     → length words ≡ size_of (shape_of setup) → All (λ p. size_of p.state.own.layout ≡ length words) programs

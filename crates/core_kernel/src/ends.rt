@@ -1,6 +1,6 @@
 //! How a kernel begins, with a seat for each core, and how it ends.
 
-ghost use Rattle.std.specs.Prelude.{◌≡◌, IfOk, All, map, None};
+ghost use Rattle.std.specs.Prelude.{◌≡◌, ◌<◌, IfOk, All, map, None};
 ghost use Rattle.spk_nums.specs.Setting.{IsSetting};
 ghost use Rattle.boot_words.specs.kernel_history.specs.BootWords.{shape_of};
 ghost use Rattle.call_steps.specs.call_stages.specs.Cores.{end_of};
@@ -14,7 +14,7 @@ use crate::seat::CoreSeat;
 use boot_words::boot_words;
 use spk_nums::{CoreEnd, CoreNo, Memory, Reply, Setup, Value};
 use std::alloc::{AllocError, Global};
-use turn_rule::{TurnSeat, TurnTable};
+use turn_rule::{Spread, TurnSeat, TurnTable};
 use word_map::{Closed, Layout};
 
 // Each core at the start, core 0 first.
@@ -29,6 +29,18 @@ fn programs_of(alloc: Global, setup: &Setup) -> Result<Vec<CoreRun>, AllocError>
         programs.push(CoreRun::start(CoreNo::new(core), setup))?;
     }
     Ok(programs)
+}
+
+// Where the words lie: each core's, and the liveness words after the last core's, begin a row. So what a core writes at
+// each entry and exit is on no line of memory that the others load.
+fn spread_of(setup: &Setup) -> Spread
+    ensures { 0 < result.row }
+{
+    let frames = u32::from(setup.frames());
+    Spread {
+        first: 65 * frames,
+        row: frames + 2,
+    }
 }
 
 // The seats of a table as those of its kernel.
@@ -89,7 +101,7 @@ impl Kernel {
     {
         let words = boot_words(alloc, setup)?;
         let programs = programs_of(alloc, setup)?;
-        let (table, turn_seats) = TurnTable::new(alloc, words, programs)?;
+        let (table, turn_seats) = TurnTable::new(alloc, words, programs, spread_of(setup))?;
         let kernel = Kernel {
             setup: *setup,
             table,

@@ -1,7 +1,9 @@
 -- How all seats are dealt and gathered, one after another.
 use Rattle.std.proofs.Common.{◌≡◌, ◌⊎◌, ℕ, zero, suc, ◌+◌, ◌<◌, ◌≤◌, List, [], ◌∷◌, ◌++◌, length, get_or, slice_get}
-use Rattle.std.proofs.Common.{Some, None, refl, sym, ap, ◌∙◌, subst, ⊎_elim, inl, inr, arith, append_assoc}
+use Rattle.std.proofs.Common.{Some, None, refl, sym, ap, ◌∙◌, subst, ⊎_elim, inl, inr, arith, append_assoc, lt_of_not-le}
 use Rattle.std.proofs.lemmas.Option.{slice_get_within, slice_get_past, slice_get_cases}
+use Rattle.std.proofs.lemmas.List.{get_or_past}
+use native.Mathlib.Decide.{dec_le}
 use mathlib.Core.Option.{some}
 use lib.ListN.{get_elem?}
 use Rattle.atomic_table.specs.Table.{State, Me}
@@ -9,11 +11,13 @@ use Rattle.turn_rule.specs.declared.view.Entry.{Entry}
 use Rattle.turn_rule.specs.declared.view.Start.{Start}
 use Rattle.turn_rule.specs.declared.view.Part.{Part}
 use Rattle.turn_rule.specs.declared.view.View.{View}
+use Rattle.turn_rule.specs.declared.spread.Spread.{Spread}
 use Rattle.turn_rule.specs.Steps.{Steps}
-use Rattle.turn_rule.specs.Trace.{AreOfOthers, program_after, IsSound}
+use Rattle.turn_rule.specs.Positions.{position}
+use Rattle.turn_rule.specs.Trace.{AreOfOthers, word_after, program_after, IsSound}
 use Rattle.turn_rule.specs.Seats.{TableValue, SeatValue, EndsAt}
 use Rattle.turn_rule.specs.Rule.{part, Begins, Kept, IsSeated, Stays, Gathers}
-use Rattle.turn_rule.proofs.Traces.{AreOfOthers-append, no_program}
+use Rattle.turn_rule.proofs.Traces.{AreOfOthers-append, no_program, word_past}
 use Rattle.turn_rule.proofs.Keeps.{program_seen}
 
 module _ {A : Type 0} where
@@ -50,9 +54,9 @@ module _ {P C : Type 0} where
 
 module _ {P C : Type 0} (T : Steps P C) where
   -- a seat that is dealt
-  pub dealt : (words core n : ℕ) (start : Start P) (me : Me (Unit {0}) (View P C)) (p : P) → me.0.own ≡ part start n (n + 1) [] → me.1 ≡ []
-      → core ≡ n → slice_get start.programs n ≡ Some p → T.size p ≡ words → IsSeated T words core me p
-  dealt words core n start me p is no_slot at here size = record {
+  pub dealt : (core n : ℕ) (start : Start P) (me : Me (Unit {0}) (View P C)) (p : P) → me.0.own ≡ part start n (n + 1) [] → me.1 ≡ []
+      → core ≡ n → slice_get start.programs n ≡ Some p → T.size p ≡ length start.words → IsSeated T core me p
+  dealt core n start me p is no_slot at here size = record {
     live = ap (λ z. z.live) is;
     from = ap (λ z. z.from) is ∙ sym at;
     end = ap (λ z. z.to) is ∙ ap (λ (k : ℕ). k + 1) (sym at);
@@ -61,7 +65,7 @@ module _ {P C : Type 0} (T : Steps P C) where
       runs = ap (λ (z : Part P C). program_after T z.start z.seen core) is ∙ ap (slice_get start.programs) at ∙ here;
     };
     no_slot = no_slot;
-    size = size;
+    size = size ∙ sym (ap (λ (z : Part P C). length z.start.words) is);
   }
 
   -- what the seat of all cores below n knows, once the seat of core n is joined in
@@ -72,10 +76,10 @@ module _ {P C : Type 0} (T : Steps P C) where
     pub mine : Begins x.seen v
     pub its : Begins x.seen w
 
-  pub gathered_on : (words core n : ℕ) (first v : Part P C) (one : Me (Unit {0}) (View P C)) (x : Part P C) (p : P) → first.from ≡ 0
-      → Stays T first n v → IsSeated T words core one p → core ≡ n → Gathers T v one.0.own one.0.own.to x
+  pub gathered_on : (core n : ℕ) (first v : Part P C) (one : Me (Unit {0}) (View P C)) (x : Part P C) (p : P) → first.from ≡ 0
+      → Stays T first n v → IsSeated T core one p → core ≡ n → Gathers T v one.0.own one.0.own.to x
       → Gathered first n v one.0.own x p
-  gathered_on words core n first v one x p low stays seated at g =
+  gathered_on core n first v one x p low stays seated at g =
       let s = g.stays in
       let w = one.0.own in
       let from = stays.from in
@@ -94,15 +98,16 @@ module _ {P C : Type 0} (T : Steps P C) where
       }
 
   -- where one view has all cores
-  pub ends : (table : TableValue P) (s : State (Unit {0}) (View P C)) (h : Kept T table.start s) (id : ℕ) (v : View P C)
+  pub ends : (table : TableValue P) (spread : Spread) (s : State (Unit {0}) (View P C)) (h : Kept T spread table.start s) (id : ℕ) (v : View P C)
       → get_elem? s.views id ≡ some v → (seats : List (SeatValue P C)) → v.own.to ≡ length seats → v.own.from ≡ 0
       → v.own.start ≡ table.start → length seats ≡ length table.start.programs
       → ((k : ℕ) (one : SeatValue P C) → slice_get seats k ≡ Some one → one.core ≡ k)
       → ((k : ℕ) (one : SeatValue P C) → slice_get seats k ≡ Some one → Begins v.own.seen (part table.start k (k + 1) one.seen))
-      → (words : List ℕ) → s.words ≡ words → (programs : List P) → length programs ≡ length seats
+      → (words : List ℕ) → length words ≡ length table.start.words
+      → ((i : ℕ) → i < length words → get_or words i 0 ≡ get_or s.words (position spread i) 0) → (programs : List P) → length programs ≡ length seats
       → ((k : ℕ) (p : P) → slice_get programs k ≡ Some p → program_after T v.own.start v.own.seen k ≡ Some p)
       → EndsAt T table seats words programs
-  ends table s h id v at seats end low same all cores seen words are programs count run = let mine = (h.own id v at).begins in record {
+  ends table spread s h id v at seats end low same all cores seen words as_many are programs count run = let mine = (h.own id v at).begins in record {
     trace = h.trace;
     sound = h.sound;
     begins = λ k one e.
@@ -114,8 +119,8 @@ module _ {P C : Type 0} (T : Steps P C) where
           whole = b.whole;
           apart = subst (λ (c : ℕ). AreOfOthers c b.since) (sym core) (b.apart k (omega arith) (omega arith));
         };
-    word_count = ap length (sym are) ∙ h.count;
-    word = λ i. ap (λ (l : List ℕ). get_or l i 0) (sym are) ∙ h.words i;
+    word_count = as_many;
+    word = λ i. by_place i (dec_le (length table.start.words) i);
     program_count = count ∙ all;
     program = λ c. ⊎_elim
         (λ (t : (p : P) × (c < length programs) × (slice_get programs c ≡ Some p) × (get_or programs c p ≡ p)).
@@ -125,3 +130,7 @@ module _ {P C : Type 0} (T : Steps P C) where
         t.1 ∙ sym (no_program T table.start h.trace c (slice_get_past table.start.programs c (omega arith))))
         (slice_get_cases programs c).1;
   }
+    where
+      by_place : (i : ℕ) → Dec (length table.start.words ≤ i) → get_or words i 0 ≡ word_after table.start h.trace i
+      by_place i (yes past) = get_or_past words i 0 (omega arith) ∙ sym (word_past T table.start h.trace h.sound i past)
+      by_place i (no inside) = let lt : i < length table.start.words = lt_of_not-le inside in are i (omega arith) ∙ h.words i lt

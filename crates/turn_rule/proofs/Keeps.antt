@@ -13,19 +13,24 @@ use Rattle.turn_rule.specs.declared.view.Entry.{Entry}
 use Rattle.turn_rule.specs.declared.view.Start.{Start}
 use Rattle.turn_rule.specs.declared.view.Part.{Part}
 use Rattle.turn_rule.specs.declared.view.View.{View}
+use Rattle.turn_rule.specs.declared.spread.Spread.{Spread}
 use Rattle.turn_rule.specs.Steps.{Steps}
+use Rattle.turn_rule.specs.Positions.{position}
 use Rattle.spk_nums.specs.WordSteps.{place_in, left_by, told_by}
 use Rattle.turn_rule.specs.Trace.{entry, AreOfOthers, called, MayCall, program_after, IsStep, MayFollow, IsSound}
 use Rattle.turn_rule.specs.Rule.{part, nothing, view, Begins, Fits, Kept, IsSeated, IsDue, Goes}
+use Rattle.turn_rule.proofs.Positions.{position_grows, position_apart, position_within}
 use Rattle.turn_rule.proofs.Traces.{program_here, program_stays}
 
--- a word after one was stored
-stored_at : (l : List ℕ) (at i x : ℕ) → at < length l → get_or (set l at x) i 0 ≡ (if at == i then x else get_or l i 0)
-stored_at l at i x inside = dite (ℕ_discrete at i)
-    (λ (same : at ≡ i). subst (λ (j : ℕ). get_or (set l at x) j 0 ≡ x) same (get_or-set_same l at x 0 inside)
-    ∙ sym (ap (λ b. if b then x else get_or l i 0) (eq-eqb at i same)))
-    (λ (other : at ≢ i). get_or-set_other l at i x 0 (λ e. other (sym e))
-    ∙ sym (ap (λ b. if b then x else get_or l i 0) (ne_eqb at i other)))
+-- the word of a place after one was stored at another
+stored_at : (s : Spread) → 0 < s.row → (l : List ℕ) (at i x : ℕ) → position s at < length l
+    → get_or (set l (position s at) x) (position s i) 0 ≡ (if at == i then x else get_or l (position s i) 0)
+stored_at s row l at i x inside = dite (ℕ_discrete at i)
+    (λ (same : at ≡ i). subst (λ (j : ℕ). get_or (set l (position s at) x) (position s j) 0 ≡ x) same
+    (get_or-set_same l (position s at) x 0 inside)
+    ∙ sym (ap (λ b. if b then x else get_or l (position s i) 0) (eq-eqb at i same)))
+    (λ (other : at ≢ i). get_or-set_other l (position s at) (position s i) x 0 (position_apart s row i at (λ e. other (sym e)))
+    ∙ sym (ap (λ b. if b then x else get_or l (position s i) 0) (ne_eqb at i other)))
 
 module _ {P C : Type 0} where
   -- who has seen all so far
@@ -59,10 +64,10 @@ module _ {P C : Type 0} (T : Steps P C) where
   program_seen start t p c b low high = ap (λ (l : List (Entry C)). program_after T start l c) b.whole
       ∙ program_stays T start c b.since p.seen (b.apart c low high)
 
-module _ {P C : Type 0} (T : Steps P C) (start : Start P) where
-  module _ (s : State (Unit {0}) (View P C)) (h : Kept T start s) (id : ℕ) (me : Me (Unit {0}) (View P C))
-      (at : get_elem? s.views id ≡ some me.0) (words : ℕ) (call : Option C) (op : WordOp) (due : IsDue T words me call op)
-      (count : words ≡ length start.words) (small : get_or s.words (place_in op) 0 < 18446744073709551616) where
+module _ {P C : Type 0} (T : Steps P C) (spread : Spread) (some_row : 0 < spread.row) (start : Start P) where
+  module _ (s : State (Unit {0}) (View P C)) (h : Kept T spread start s) (id : ℕ) (me : Me (Unit {0}) (View P C))
+      (at : get_elem? s.views id ≡ some me.0) (call : Option C) (op : WordOp) (due : IsDue T (length start.words) me call op)
+      (small : get_or s.words (position spread (place_in op)) 0 < 18446744073709551616) where
     abbrev v : Part P C
     v = me.0.own
 
@@ -70,7 +75,7 @@ module _ {P C : Type 0} (T : Steps P C) (start : Start P) where
     mine = h.own id me.0 at
 
     abbrev n : ℕ
-    n = get_or s.words (place_in op) 0
+    n = get_or s.words (position spread (place_in op)) 0
 
     abbrev e : Entry C
     e = entry v.from op n call
@@ -91,22 +96,24 @@ module _ {P C : Type 0} (T : Steps P C) (start : Start P) where
 
     follows : MayFollow T start h.trace e
     follows = record {
-      inside = let inside = due.inside in omega arith;
-      found = h.words (place_in op);
+      inside = due.inside;
+      found = h.words (place_in op) due.inside;
       in_range = small;
       program = due.program;
       runs = runs;
       step = record { may = due.may; op = op; next = due.next; place = refl; left = refl };
     }
 
-    kept : (c : List (ℕ × Unit {0})) → Kept T start (stepped s (place_in op) (left_by op n) id c w keeps)
+    kept : (c : List (ℕ × Unit {0})) → Kept T spread start (stepped s (position spread (place_in op)) (left_by op n) id c w keeps)
     kept c = let from = due.seated.from in let end = due.seated.end in
         let its : h.owner v.from ≡ id = mine.owns v.from (omega arith) (omega arith) in record {
           trace = e ∷ h.trace;
-          count = length-set s.words (place_in op) (left_by op n) ∙ h.count;
-          words = λ i. let same = h.count in let inside = due.inside in
-              stored_at s.words (place_in op) i (left_by op n) (omega arith)
-              ∙ ap (λ (m : ℕ). if place_in op == i then left_by op n else m) (h.words i);
+          count = length-set s.words (position spread (place_in op)) (left_by op n) ∙ h.count;
+          words = λ i lt.
+              let same = h.count in
+              let inside = position_grows spread some_row (place_in op) (length start.words) due.inside in
+              stored_at spread some_row s.words (place_in op) i (left_by op n) (omega arith)
+              ∙ ap (λ (m : ℕ). if place_in op == i then left_by op n else m) (h.words i lt);
           sound = (h.sound, follows);
           owner = h.owner;
           own = λ j u is. ⊎_elim
@@ -140,24 +147,47 @@ module _ {P C : Type 0} (T : Steps P C) (start : Start P) where
     }
 
   -- what `Allows` asks of a step that the program makes
-  pub goes_on : (slots id : ℕ) (me : Me (Unit {0}) (View P C)) (words : ℕ) (call : Option C) (op : WordOp) → IsDue T words me call op
-      → words ≡ length start.words
-      → Allows (Kept T start) slots id me (place_in op) (left_by op) (λ n m. Goes T me.0.own call op (told_by op n) m.0.own × (m.1 ≡ me.1))
-  goes_on slots id me words call op due count s h _ at small = (
-    w s h id me at words call op due count small,
+  pub goes_on : (slots id : ℕ) (me : Me (Unit {0}) (View P C)) (call : Option C) (op : WordOp) → IsDue T (length start.words) me call op
+      → Allows (Kept T spread start) slots id me (position spread (place_in op)) (left_by op)
+      (λ n m. Goes T me.0.own call op (told_by op n) m.0.own × (m.1 ≡ me.1))
+  goes_on slots id me call op due s h _ at small = (
+    w s h id me at call op due small,
     keeps,
     tt,
-    kept s h id me at words call op due count small me.1,
-    (goes s h id me at words call op due count small, refl),
+    kept s h id me at call op due small me.1,
+    (goes s h id me at call op due small, refl),
   )
 
 module _ {P C : Type 0} (T : Steps P C) where
+  -- the same where the step is named otherwise, and its word lies in so much memory
+  pub made_on : (mine theirs : Spread) → mine ≡ theirs → 0 < mine.row → (start : Start P) (n seen memory : ℕ) → n ≡ length start.words
+      → length start.words ≡ seen → memory ≡ position mine n
+      → (slots id : ℕ) (me : Me (Unit {0}) (View P C)) (call : Option C) (said op now : WordOp) → said ≡ op → op ≡ now → IsDue T seen me call op
+      → (lies : ℕ) → lies ≡ position mine (place_in now)
+      → (lies < memory)
+      × Allows (Kept T theirs start) slots id me lies (left_by now)
+      (λ n m. Goes T me.0.own call said (told_by now n) m.0.own × (m.1 ≡ me.1))
+  made_on mine theirs same row start n seen memory many as_seen room slots id me call said op now is becomes due lies at =
+      let due_now : IsDue T (length start.words) me call now =
+      subst (λ (z : ℕ × WordOp). IsDue T z.0 me call z.1) (λ i. (sym as_seen i, becomes i)) due in
+      let inside = due_now.inside in
+      let within = position_within mine row (place_in now) n memory (omega arith) room in
+      let row_theirs = subst (λ (s : Spread). 0 < s.row) same row in
+      let at_theirs : lies ≡ position theirs (place_in now) = at ∙ ap (λ (s : Spread). position s (place_in now)) same in (
+        omega arith,
+        subst (λ (z : WordOp × ℕ). Allows (Kept T theirs start) slots id me z.1 (left_by now)
+            (λ n m. Goes T me.0.own call z.0 (told_by now n) m.0.own × (m.1 ≡ me.1)))
+            (λ i. (sym (is ∙ becomes) i, sym at_theirs i))
+            (goes_on T theirs row_theirs start slots id me call now due_now),
+      )
+
+module _ {P C : Type 0} (T : Steps P C) where
   -- after its step the seat is one again
-  pub seated_on : (words words_now core : ℕ) (me now : Me (Unit {0}) (View P C)) (p q : P) (call : Option C) (op : WordOp) (told : ℕ)
-      → IsSeated T words core me p → MayCall T p call → T.next (called T p call) ≡ Some op
-      → Goes T me.0.own call op told now.0.own → now.1 ≡ me.1 → q ≡ T.after (called T p call) told → T.size q ≡ words_now
-      → IsSeated T words_now core now q
-  seated_on words words_now core me now p q call op told seated may next goes slots is size = let stays = goes.stays in record {
+  pub seated_on : (core : ℕ) (me now : Me (Unit {0}) (View P C)) (p q : P) (call : Option C) (op : WordOp) (told : ℕ)
+      → IsSeated T core me p → MayCall T p call → T.next (called T p call) ≡ Some op
+      → Goes T me.0.own call op told now.0.own → now.1 ≡ me.1 → q ≡ T.after (called T p call) told → T.size q ≡ T.size p
+      → IsSeated T core now q
+  seated_on core me now p q call op told seated may next goes slots is size = let stays = goes.stays in record {
     live = stays.live;
     from = stays.from ∙ seated.from;
     end = stays.end ∙ seated.end;
@@ -176,5 +206,5 @@ module _ {P C : Type 0} (T : Steps P C) where
           ∙ ap Some (sym is);
     };
     no_slot = slots ∙ seated.no_slot;
-    size = size;
+    size = size ∙ seated.size ∙ sym (ap (λ (z : Start P). length z.words) stays.start);
   }

@@ -1,7 +1,8 @@
 -- What a trace leaves, and what its sound steps keep.
 use Rattle.std.proofs.Common.{◌≡◌, ◌≢◌, ℕ, ◌<◌, ◌≤◌, ◌==◌, true, false, List, [], ◌∷◌, ◌++◌, length, slice_get, if◌then◌else◌}
-use Rattle.std.proofs.Common.{Option, Some, None, refl, sym, ap, ◌∙◌, eq-eqb, ne_eqb, append_assoc, lt_of_not-le}
+use Rattle.std.proofs.Common.{Option, Some, None, refl, sym, ap, ◌∙◌, eq-eqb, ne_eqb, append_assoc, lt_of_not-le, arith}
 use Rattle.std.proofs.lemmas.Option.{slice_get_past, none-some}
+use Rattle.std.proofs.lemmas.List.{get_or_past}
 use native.Mathlib.Decide.{dec_le}
 use Rattle.std.specs.Option.{option_map}
 use Rattle.turn_rule.specs.declared.view.Entry.{Entry}
@@ -78,6 +79,12 @@ module _ {P C : Type 0} (T : Steps P C) (start : Start P) where
       by_order : Dec (length start.programs ≤ c) → c < length start.programs
       by_order (yes past) = absurd (none-some p (sym (no_program t c (slice_get_past start.programs c past)) ∙ runs))
       by_order (no inside) = lt_of_not-le inside
+
+  -- past the last place a sound trace leaves nothing
+  pub word_past : (t : List (Entry C)) → IsSound T start t → (i : ℕ) → length start.words ≤ i → word_after start t i ≡ 0
+  word_past [] h i past = get_or_past start.words i 0 past
+  word_past (e ∷ t) h i past = let inside = h.1.inside in
+      word_elsewhere start e t i (λ same. absurd (omega arith)) ∙ word_past t h.0 i past
 
   -- each earlier moment of a sound trace is sound
   pub sound_before : (since t : List (Entry C)) → IsSound T start (since ++ t) → IsSound T start t

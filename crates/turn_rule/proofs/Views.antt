@@ -10,7 +10,9 @@ use Rattle.turn_rule.specs.declared.view.Entry.{Entry}
 use Rattle.turn_rule.specs.declared.view.Start.{Start}
 use Rattle.turn_rule.specs.declared.view.Part.{Part}
 use Rattle.turn_rule.specs.declared.view.View.{View}
+use Rattle.turn_rule.specs.declared.spread.Spread.{Spread}
 use Rattle.turn_rule.specs.Steps.{Steps}
+use Rattle.turn_rule.specs.Positions.{position, IsLaid}
 use Rattle.turn_rule.specs.Trace.{program_after, IsSound}
 use Rattle.turn_rule.specs.Rule.{part, nothing, view, note_of, joined, first_core, other_cores}
 use Rattle.turn_rule.specs.Rule.{Fits, Kept, IsSeated, Stays, Gathers, met, gathered, starts}
@@ -61,19 +63,19 @@ module _ {P C : Type 0} (start : Start P) (t : List (Entry C)) where
       → ((c : ℕ) → p.from ≤ c → c < p.to → owner c ≡ id → other c ≡ j) → Fits start t other j p
   owned_by owner other id j p f owns = narrower owner other id j p p f refl refl refl (λ c low high. (low, high)) owns
 
-module _ {P C : Type 0} (T : Steps P C) (start : Start P) where
+module _ {P C : Type 0} (T : Steps P C) (spread : Spread) (start : Start P) where
   abbrev K : State (Unit {0}) (View P C) → Type 0
-  K = Kept T start
+  K = Kept T spread start
 
   abbrev opening_view : View P C
   opening_view = view (part start 0 (length start.programs) [])
 
   -- the rule holds at the start
-  pub begins : K record { words = start.words; homes = []; views = opening_view ∷ [] }
-  begins = record {
+  pub begins : (memory : List ℕ) → IsLaid spread start.words memory → K record { words = memory; homes = []; views = opening_view ∷ [] }
+  begins memory laid = record {
     trace = [];
-    count = refl;
-    words = λ i. refl;
+    count = laid.count;
+    words = laid.word;
     sound = tt;
     owner = λ _. 0;
     own = λ id v e. subst (λ (z : ℕ × View P C). Fits start [] (λ _. 0) z.0 z.1.own) (λ i. (sym (only id v e).0 i, (only id v e).1 i))
@@ -152,7 +154,7 @@ module _ {P C : Type 0} (T : Steps P C) (start : Start P) where
   caught_up s h id v at to owns live c = let t = h.trace in let w : View P C = view (part v.own.start v.own.from to t) in record {
     trace = t;
     count = ap length (set_same s.words 0) ∙ h.count;
-    words = λ i. ap (λ (l : List ℕ). get_or l i 0) (set_same s.words 0) ∙ h.words i;
+    words = λ i lt. ap (λ (l : List ℕ). get_or l (position spread i) 0) (set_same s.words 0) ∙ h.words i lt;
     sound = h.sound;
     owner = h.owner;
     own = λ j u e. ⊎_elim
@@ -278,9 +280,9 @@ module _ {P C : Type 0} (T : Steps P C) (start : Start P) where
 
 module _ {P C : Type 0} (T : Steps P C) where
   -- after a meet the seat is one again
-  pub met_on : (words words_now core : ℕ) (me now : Me (Unit {0}) (View P C)) (told : Part P C) (p : P) → IsSeated T words core me p
-      → Gathers T me.0.own told me.0.own.to now.0.own → now.1 ≡ me.1 → words_now ≡ words → IsSeated T words_now core now p
-  met_on words words_now core me now told p seated g slots same = let from = seated.from in let end = seated.end in record {
+  pub met_on : (core : ℕ) (me now : Me (Unit {0}) (View P C)) (told : Part P C) (p : P) → IsSeated T core me p
+      → Gathers T me.0.own told me.0.own.to now.0.own → now.1 ≡ me.1 → IsSeated T core now p
+  met_on core me now told p seated g slots = let from = seated.from in let end = seated.end in record {
     live = g.stays.live;
     from = g.stays.from ∙ seated.from;
     end = g.stays.end ∙ seated.end;
@@ -290,5 +292,5 @@ module _ {P C : Type 0} (T : Steps P C) where
           ∙ program_seen T me.0.own.start now.0.own.seen me.0.own core g.own (omega arith) (omega arith) ∙ seated.follows.runs;
     };
     no_slot = slots ∙ seated.no_slot;
-    size = seated.size ∙ sym same;
+    size = seated.size ∙ sym (ap (λ (z : Start P). length z.words) g.stays.start);
   }

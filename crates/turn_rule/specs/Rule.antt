@@ -4,12 +4,13 @@ use mathlib.Core.Option.{some}
 use lib.ListN.{get_elem?}
 use Rattle.atomic_table.specs.Table.{State, Me, Step}
 use Rattle.spk_nums.specs.declared.steps.WordOp.{WordOp}
-use Rattle.spk_nums.specs.declared.steps.WordOp.TheVariants.{Load, Compare, Store, Add}
 use Rattle.turn_rule.specs.declared.view.Entry.{Entry}
 use Rattle.turn_rule.specs.declared.view.Start.{Start}
 use Rattle.turn_rule.specs.declared.view.Part.{Part}
 use Rattle.turn_rule.specs.declared.view.View.{View}
+use Rattle.turn_rule.specs.declared.spread.Spread.{Spread}
 use Rattle.turn_rule.specs.Steps.{Steps}
+use Rattle.turn_rule.specs.Positions.{position}
 use Rattle.spk_nums.specs.WordSteps.{place_in, told_by}
 use Rattle.turn_rule.specs.Trace.{entry, AreOfOthers, word_after, called, MayCall, IsSound, Follows}
 
@@ -57,30 +58,31 @@ module _ {P C : Type 0} where
     pub owns : (c : ℕ) → p.from ≤ c → c < p.to → owner c ≡ id
 
 module _ {P C : Type 0} (T : Steps P C) where
-  -- There is one sound trace, which leaves the words, and what each seat has seen or was told fits it. One seat owns a core
-  pub record Kept (start : Start P) (s : State (Unit {0}) (View P C)) : Type 0 where
+  -- There is one sound trace, which leaves the words at their positions, and what each seat has seen or was told fits it. One seat owns a
+  -- core
+  pub record Kept (spread : Spread) (start : Start P) (s : State (Unit {0}) (View P C)) : Type 0 where
     pub trace : List (Entry C)
-    pub count : length s.words ≡ length start.words
-    pub words : (i : ℕ) → slice_index s.words i ≡ word_after start trace i
+    pub count : length s.words ≡ position spread (length start.words)
+    pub words : (i : ℕ) → i < length start.words → slice_index s.words (position spread i) ≡ word_after start trace i
     pub sound : IsSound T start trace
     pub owner : ℕ → ℕ
     pub own : (id : ℕ) (v : View P C) → get_elem? s.views id ≡ some v → Fits start trace owner id v.own
     pub told : (id : ℕ) (v : View P C) → get_elem? s.views id ≡ some v → Fits start trace owner id v.told
 
-  -- what the seat of a core keeps, of a table with so many words
-  pub record IsSeated (words core : ℕ) (me : Me (Unit {0}) (View P C)) (p : P) : Type 0 where
+  -- what the seat of a core keeps
+  pub record IsSeated (core : ℕ) (me : Me (Unit {0}) (View P C)) (p : P) : Type 0 where
     pub live : me.0.own.live ≡ true
     pub from : me.0.own.from ≡ core
     pub end : me.0.own.to ≡ core + 1
     pub follows : Follows T me.0.own.start me.0.own.seen core p
     pub no_slot : me.1 ≡ []
-    pub size : T.size p ≡ words
+    pub size : T.size p ≡ length me.0.own.start.words
 
-  -- the program of the seat's core makes the step op, once the call, if any, is begun
+  -- the program of the seat's core makes the step op, at one of so many places, once the call, if any, is begun
   pub record IsDue (words : ℕ) (me : Me (Unit {0}) (View P C)) (call : Option C) (op : WordOp) : Type 0 where
     pub core : ℕ
     pub program : P
-    pub seated : IsSeated words core me program
+    pub seated : IsSeated core me program
     pub may : MayCall T program call
     pub next : T.next (called T program call) ≡ Some op
     pub inside : place_in op < words
@@ -112,19 +114,9 @@ module _ {P C : Type 0} (T : Steps P C) where
   abbrev pub M : Type 0
   M = Me (Unit {0}) (View P C)
 
-  -- what a step tells, where the call began with it
-  module _ (call : Option C) where
-    abbrev pub loaded : Step (Unit {0}) → M → ℕ → M → Type 0
-    loaded at me n now = Goes me.0.own call (Load at.word) n now.0.own × (now.1 ≡ me.1)
-
-    abbrev pub compared : Step (Unit {0}) → M → ℕ → M → Type 0
-    compared at me n now = Goes me.0.own call (Compare at.word at.first at.second) n now.0.own × (now.1 ≡ me.1)
-
-    abbrev pub stored : Step (Unit {0}) → M → ℕ → M → Type 0
-    stored at me n now = Goes me.0.own call (Store at.word at.first) n now.0.own × (now.1 ≡ me.1)
-
-    abbrev pub added : Step (Unit {0}) → M → ℕ → M → Type 0
-    added at me n now = Goes me.0.own call (Add at.word at.first) n now.0.own × (now.1 ≡ me.1)
+  -- what the step op tells, where the call, if any, began with it: wherever its word lies
+  abbrev pub made : Option C → WordOp → Step (Unit {0}) → M → ℕ → M → Type 0
+  made call op at me n now = Goes me.0.own call op n now.0.own × (now.1 ≡ me.1)
 
   -- what the load of a meet tells
   abbrev pub met : Step (Unit {0}) → M → ℕ → M → Type 0

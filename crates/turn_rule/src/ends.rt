@@ -1,14 +1,16 @@
 //! How a table begins, with a seat for each program, and how it ends.
 
-ghost use Rattle.std.specs.Prelude.{◌≡◌, ℕ, ◌+◌, ◌<◌, [], length, slice_get, vec_len, All, IfOk, Some};
+ghost use Rattle.std.specs.Prelude.{◌≡◌, ℕ, ◌+◌, ◌<◌, ◌^◌, [], length, slice_get, slice_index, vec_len, All, IfOk, Some};
 ghost use Rattle.std.specs.Slots.{slots_items, slots_len, IsFull};
 ghost use Rattle.turn_rule.specs.Trace.{program_after};
+ghost use Rattle.turn_rule.specs.Positions.{position, IsLaid};
 ghost use Rattle.turn_rule.specs.Rule.{start_of, part, Stays, Begins};
 ghost use Rattle.turn_rule.specs.Seats.{AreAllSeats, AreFresh, EndsAt};
 
 use crate::plays::{Deals, Gathers, Starts, Takes};
 use crate::program::CoreProgram;
 use crate::seat::TurnSeat;
+use crate::spread::Spread;
 use crate::table::TurnTable;
 use crate::view::{Boot, View};
 use atomic_table::{Closed, Seat, Table};
@@ -17,13 +19,17 @@ use std::alloc::{AllocError, Global};
 use std::snapshot::Snapshot;
 
 impl<P: CoreProgram> TurnTable<P> {
-    /// A table of these words, and a seat for each program, in their order. Each seat has seen the empty trace.
+    /// A table of these words, fewer than 2^32, and a seat for each program, in their order. Each seat has seen the empty
+    /// trace. The words lie in memory as `spread` says, which changes nothing that a seat sees.
     pub fn new(
         alloc: Global,
         words: Vec<u64>,
         programs: Vec<P>,
+        spread: Spread,
     ) -> Result<(TurnTable<P>, Vec<TurnSeat<P>>), Memory>
         requires words { 0 < vec_len words }
+        requires few { vec_len words < 2 ^ 32 }
+        requires row { 0 < spread.row }
         requires sizes { All (λ p. P.steps.size p ≡ vec_len words) programs.items }
         ensures words { IfOk result (λ r. r.0.start.words ≡ words.items) }
         ensures programs { IfOk result (λ r. r.0.start.programs ≡ programs.items) }
@@ -33,9 +39,15 @@ impl<P: CoreProgram> TurnTable<P> {
         let boot = Boot {
             words: Snapshot::of(&words),
             programs: Snapshot::of(&programs),
+            spread,
         };
-        let (table, rest) = Table::of_words(alloc, words.as_slice(), &boot)?;
-        let table = TurnTable { table };
+        let memory = laid(alloc, words.as_slice(), spread)?;
+        let (table, rest) = Table::of_words(alloc, memory.as_slice(), &boot)?;
+        let table = TurnTable {
+            table,
+            spread,
+            words: words.len() as u32,
+        };
         let seats = table.deal(alloc, rest, programs)?;
         Ok((table, seats))
     }
@@ -49,7 +61,7 @@ impl<P: CoreProgram> TurnTable<P> {
     ) -> Result<Vec<TurnSeat<P>>, AllocError>
         requires table { (rest.table_id ≡ self.now.id) × (self.now.start.programs ≡ programs.items) }
         requires all { rest.me.0.own ≡ part self.now.start 0 (length programs.items) [] }
-        requires sizes { All (λ p. P.steps.size p ≡ self.now.id.words) programs.items }
+        requires sizes { All (λ p. P.steps.size p ≡ length self.now.start.words) programs.items }
         ensures seats { IfOk result (λ v. AreAllSeats self.now v.items) }
         ensures fresh { IfOk result (λ v. AreFresh self.now v.items) }
     {
@@ -71,12 +83,12 @@ impl<P: CoreProgram> TurnTable<P> {
         requires { AreAllSeats self seats.items }
         ensures { IfOk result (λ r. EndsAt P.steps self seats.items r.0.items r.1.items) }
     {
-        let words = vec![in alloc; 0; self.table.word_count()]?;
+        let words = vec![in alloc; 0; self.words as usize]?;
         let mut all = self.table.shared.load_new_seat::<Starts<P>>(0).1;
         let programs = self.gather(&mut all, alloc, seats)?;
-        let TurnTable { table } = self;
+        let TurnTable { table, spread, .. } = self;
         let closed = table.close_with(all);
-        Ok((words_of(closed, words), programs))
+        Ok((words_of(closed, words, spread), programs))
     }
 
     // Joins all seats into one, and gives their programs.
@@ -113,15 +125,32 @@ impl<P: CoreProgram> TurnTable<P> {
     }
 }
 
-// The words of a table that was closed.
-fn words_of(closed: Closed<(), Global>, mut words: Vec<u64>) -> Vec<u64>
+// The memory of a table of these words.
+fn laid(alloc: Global, words: &[u64], spread: Spread) -> Result<Vec<u64>, AllocError>
+    requires few { length words.now < 2 ^ 32 }
+    requires row { 0 < spread.row }
+    ensures { IfOk result (λ v. IsLaid spread words.now v.items) }
+{
+    let mut memory = vec![in alloc; 0; spread.position(words.len() as u32)]?;
+    for at in 0..words.len() {
+        memory[spread.position(at as u32)] = words[at];
+    }
+    Ok(memory)
+}
+
+// The words of a table that was closed: as many as were given.
+fn words_of(closed: Closed<(), Global>, mut words: Vec<u64>, spread: Spread) -> Vec<u64>
     requires full { IsFull closed.words }
     requires empty { slots_len closed.slots ≡ 0 }
-    requires room { length words.items ≡ slots_len closed.words }
-    ensures { result.items ≡ slots_items closed.words }
+    requires few { length words.items < 2 ^ 32 }
+    requires row { 0 < spread.row }
+    requires room { slots_len closed.words ≡ position spread (length words.items) }
+    ensures count { length result.items ≡ length words.items }
+    ensures words { (i : ℕ) → i < length words.items
+        → slice_index result.items i ≡ slice_index (slots_items closed.words) (position spread i) }
 {
     for at in 0..words.len() {
-        words[at] = closed.word(at);
+        words[at] = closed.word(spread.position(at as u32));
     }
     closed.free();
     words

@@ -17,6 +17,9 @@
 //! **Notes.** A note tells of what a seat has seen. A seat that meets it has then seen that and all before its load. So
 //! what one thread has made, another knows to come before what it makes.
 //!
+//! **Memory.** A trace names words by their places. Where in memory the word of a place lies, a `Spread` says: places may
+//! be cut into rows that share no line of memory. Distinct places lie apart, so nothing that a seat sees depends on it.
+//!
 //! See docs/PROOF.md, 'Taken steps'.
 #![tactic(auto)]
 
@@ -24,12 +27,14 @@ mod ends;
 mod plays;
 mod program;
 mod seat;
+mod spread;
 mod table;
 mod threads;
 mod view;
 
 pub use program::CoreProgram;
 pub use seat::{TurnNote, TurnSeat};
+pub use spread::Spread;
 pub use table::TurnTable;
 pub use threads::cross_threads;
 pub use view::{Entry, Start};

@@ -5,58 +5,35 @@ use crate::view::View;
 use atomic_table::{Join, Play, Split};
 use std::marker::{Brand, PhantomData};
 
-/// The call that begins with a step. A step can be told nothing at run time, so its type has the call, for the proof
-/// alone.
+/// The step that is due, and the call that begins with it. A step can be told nothing at run time, so its type has them,
+/// for the proof alone.
 pub(crate) trait Said<C> {
     ghost use Rattle.std.specs.Prelude.{Option};
+    ghost use Rattle.spk_nums.specs.declared.steps.WordOp.{WordOp};
 
     ghost call: { Option C };
+
+    ghost op: { WordOp };
 }
 
 impl<C> Said<C> for Brand {
     ghost use Rattle.std.specs.Prelude.{None};
+    ghost use Rattle.spk_nums.specs.declared.steps.WordOp.TheVariants.{Load};
 
     ghost call = { None };
+
+    ghost op = { Load 0 };
 }
 
-pub(crate) struct Loads<P, W> {
+/// Makes the step that is due, at the place where its word lies.
+pub(crate) struct Makes<P, W> {
     marker: PhantomData<(P, W)>,
 }
 
-impl<P: CoreProgram, W: Said<P::Call>> Play<(), View<P, P::Call>> for Loads<P, W> {
-    ghost use Rattle.turn_rule.specs.Rule.{loaded};
+impl<P: CoreProgram, W: Said<P::Call>> Play<(), View<P, P::Call>> for Makes<P, W> {
+    ghost use Rattle.turn_rule.specs.Rule.{made};
 
-    ghost then = { loaded P.steps W.call };
-}
-
-pub(crate) struct Compares<P, W> {
-    marker: PhantomData<(P, W)>,
-}
-
-impl<P: CoreProgram, W: Said<P::Call>> Play<(), View<P, P::Call>> for Compares<P, W> {
-    ghost use Rattle.turn_rule.specs.Rule.{compared};
-
-    ghost then = { compared P.steps W.call };
-}
-
-pub(crate) struct Stores<P, W> {
-    marker: PhantomData<(P, W)>,
-}
-
-impl<P: CoreProgram, W: Said<P::Call>> Play<(), View<P, P::Call>> for Stores<P, W> {
-    ghost use Rattle.turn_rule.specs.Rule.{stored};
-
-    ghost then = { stored P.steps W.call };
-}
-
-pub(crate) struct Adds<P, W> {
-    marker: PhantomData<(P, W)>,
-}
-
-impl<P: CoreProgram, W: Said<P::Call>> Play<(), View<P, P::Call>> for Adds<P, W> {
-    ghost use Rattle.turn_rule.specs.Rule.{added};
-
-    ghost then = { added P.steps W.call };
+    ghost then = { made P.steps W.call W.op };
 }
 
 /// Gives a note of what was seen.

@@ -30,7 +30,7 @@ impl<P: CoreProgram> Model for TurnSeat<P> {
       program = s.program;
     } };
 
-    ghost invariant = { λ s. IsSeated P.steps s.seat.table_id.words s.core s.seat.me s.program };
+    ghost invariant = { λ s. IsSeated P.steps s.core s.seat.me s.program };
 }
 
 /// A note of the trace that a seat had seen. It may be dropped, which changes nothing.

@@ -1,12 +1,13 @@
 //! The table, and the steps that a seat makes on it.
 
-ghost use Rattle.std.specs.Prelude.{◌≡◌, ◌<◌, ◌↔◌, Some, None, IsTrue, IsNone, IsSome, IsSomeAnd, MatchOption};
+ghost use Rattle.std.specs.Prelude.{◌≡◌, ◌<◌, ◌↔◌, length, Some, None, IsTrue, IsNone, IsSome, IsSomeAnd, MatchOption};
 ghost use Rattle.turn_rule.specs.Rule.{Goes, IsDue};
 ghost use Rattle.turn_rule.specs.Seats.{FollowsTrace, MakesCall, MakesStep, Meets};
 
-use crate::plays::{Adds, CatchesUp, Compares, Loads, Notes, Said, Stores, Takes};
+use crate::plays::{CatchesUp, Makes, Notes, Said, Takes};
 use crate::program::CoreProgram;
 use crate::seat::{TurnNote, TurnSeat};
+use crate::spread::Spread;
 use crate::view::{Boot, OneTrace, View};
 use atomic_table::{Seat, Table};
 use spk_nums::WordOp;
@@ -18,6 +19,8 @@ use std::snapshot::Snapshot;
 #[derive(Drop)]
 pub struct TurnTable<P: CoreProgram> {
     pub(crate) table: Table<(), View<P, P::Call>, Boot<P>, OneTrace<P>, Global>,
+    pub(crate) spread: Spread,
+    pub(crate) words: u32,
 }
 
 impl<P: CoreProgram> Model for TurnTable<P> {
@@ -27,6 +30,7 @@ impl<P: CoreProgram> Model for TurnTable<P> {
 
     ghost use Rattle.std.specs.Prelude.{◌≡◌, ◌<◌, length};
     ghost use Rattle.turn_rule.specs.Rule.{start_of};
+    ghost use Rattle.turn_rule.specs.Positions.{position};
 
     ghost view = { λ t. let shared = t.table.shared in record {
       id = shared.table_id;
@@ -36,31 +40,38 @@ impl<P: CoreProgram> Model for TurnTable<P> {
     ghost invariant = { λ t. let shared = t.table.shared in
         (0 < shared.table_id.words)
         × (shared.table_id.slots ≡ 0)
-        × (shared.table_id.words ≡ length shared.key.words.value.items) };
+        × (shared.table_id.words ≡ position t.spread t.words)
+        × (t.words ≡ length shared.key.words.value.items)
+        × (t.spread ≡ shared.key.spread)
+        × (0 < t.spread.row) };
 }
 
 impl<P: CoreProgram> TurnTable<P> {
-    // Makes the step `op`, which is due once the call that W names, if any, is begun. It returns the word that the
-    // program is told: the word found, or for a store the word stored.
+    // Makes the step `op`, which W names, and which is due once the call that W names, if any, is begun. It returns the
+    // word that the program is told: the word found, or for a store the word stored.
     #[inline]
     fn make<W: Said<P::Call>>(&self, seat: &mut Seat<(), View<P, P::Call>>, op: WordOp) -> u64
+        requires said { W.op ≡ op }
         requires table { seat.old.table_id ≡ self.now.id }
-        requires due { IsDue P.steps self.now.id.words seat.old.me W.call op }
+        requires due { IsDue P.steps (length self.now.start.words) seat.old.me W.call op }
         ensures table { seat.new.table_id ≡ seat.old.table_id }
         ensures goes { Goes P.steps seat.old.me.0.own W.call op result seat.new.me.0.own
             × (seat.new.me.1 ≡ seat.old.me.1) }
     {
         let shared = &self.table.shared;
         match op {
-            WordOp::Load { at } => shared.load::<Loads<P, W>>(seat, at as usize),
+            WordOp::Load { at } => shared.load::<Makes<P, W>>(seat, self.spread.position(at)),
             WordOp::Compare { at, expected, word } => {
-                shared.compare_exchange::<Compares<P, W>>(seat, at as usize, expected, word)
+                let at = self.spread.position(at);
+                shared.compare_exchange::<Makes<P, W>>(seat, at, expected, word)
             }
             WordOp::Store { at, word } => {
-                shared.store::<Stores<P, W>>(seat, at as usize, word);
+                shared.store::<Makes<P, W>>(seat, self.spread.position(at), word);
                 word
             }
-            WordOp::Add { at, by } => shared.fetch_add::<Adds<P, W>>(seat, at as usize, by),
+            WordOp::Add { at, by } => {
+                shared.fetch_add::<Makes<P, W>>(seat, self.spread.position(at), by)
+            }
         }
     }
 
@@ -72,9 +83,9 @@ impl<P: CoreProgram> TurnTable<P> {
         op: WordOp,
         said: &Snapshot<P::Call>,
     ) -> u64
-        requires said { W.call ≡ Some said.now.value }
+        requires said { (W.call ≡ Some said.now.value) × (W.op ≡ op) }
         requires table { seat.old.table_id ≡ self.now.id }
-        requires due { IsDue P.steps self.now.id.words seat.old.me (Some said.now.value) op }
+        requires due { IsDue P.steps (length self.now.start.words) seat.old.me (Some said.now.value) op }
         ensures table { seat.new.table_id ≡ seat.old.table_id }
         ensures goes { Goes P.steps seat.old.me.0.own (Some said.now.value) op result seat.new.me.0.own
             × (seat.new.me.1 ≡ seat.old.me.1) }

@@ -1,6 +1,7 @@
 //! What a seat knows, and the rule of the shared words. No value of these types is made but a `Boot`.
 
 use crate::program::CoreProgram;
+use crate::spread::Spread;
 use atomic_table::TableRule;
 use std::collections::LinkedList;
 use std::marker::PhantomData;
@@ -38,11 +39,12 @@ pub(crate) struct View<P, C> {
     pub(crate) told: Part<P, C>,
 }
 
-/// The words and the programs with which a table is made.
+/// The words and the programs with which a table is made, and how the words lie.
 #[derive(Drop)]
 pub(crate) struct Boot<P> {
     pub(crate) words: Snapshot<Vec<u64>>,
     pub(crate) programs: Snapshot<Vec<P>>,
+    pub(crate) spread: Spread,
 }
 
 pub(crate) struct OneTrace<P> {
@@ -53,7 +55,7 @@ impl<P: CoreProgram> TableRule<(), View<P, P::Call>, Boot<P>> for OneTrace<P> {
     ghost use Rattle.std.specs.Prelude.{[], length};
     ghost use Rattle.turn_rule.specs.Rule.{Kept, start_of, part, view};
 
-    ghost holds = { λ key. Kept P.steps (start_of key.words.value.items key.programs.value.items) };
+    ghost holds = { λ key. Kept P.steps key.spread (start_of key.words.value.items key.programs.value.items) };
 
     ghost first = { λ key. let start = start_of key.words.value.items key.programs.value.items in
         view (part start 0 (length start.programs) []) };

@@ -12,7 +12,7 @@ use crate::counter::Counter;
 use spk_nums::Memory;
 use std::alloc::Global;
 use std::thread::{Threads, join_mut};
-use turn_rule::{TurnSeat, TurnTable};
+use turn_rule::{Spread, TurnSeat, TurnTable};
 
 /// Makes the call, from its first step to its last.
 pub fn count(table: &TurnTable<Counter>, seat: &mut TurnSeat<Counter>, tries: u8)
@@ -109,7 +109,7 @@ pub fn count_in_two<R: Threads + Sync>(
     let Ok(programs) = Vec::from_array(alloc, [Counter::new(), Counter::new()]) else {
         return Err(Memory);
     };
-    let (table, mut seats) = TurnTable::new(alloc, words, programs)?;
+    let (table, mut seats) = TurnTable::new(alloc, words, programs, Spread::flat())?;
     count_all(rt, &table, calls, seats.as_mut_slice());
     finish(alloc, table, seats)
 }

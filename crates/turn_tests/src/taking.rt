@@ -9,7 +9,7 @@ use crate::taker::{Side, Taker};
 use spk_nums::Memory;
 use std::alloc::Global;
 use std::thread::{Threads, join_mut};
-use turn_rule::{TurnSeat, TurnTable};
+use turn_rule::{Spread, TurnSeat, TurnTable};
 
 /// Takes so many tickets, and answers the first one, as it was read back.
 pub fn take(table: &TurnTable<Taker>, seat: &mut TurnSeat<Taker>, count: u8) -> u64
@@ -94,7 +94,7 @@ pub fn take_in_two<R: Threads + Sync>(
     else {
         return Err(Memory);
     };
-    let (table, mut seats) = TurnTable::new(alloc, words, programs)?;
+    let (table, mut seats) = TurnTable::new(alloc, words, programs, Spread { first: 1, row: 1 })?;
     let (left, right) = seats.as_mut_slice().split_at_mut(1);
     take_both(rt, &table, calls, &mut left[0], &mut right[0]);
     close_shown(alloc, table, seats)

@@ -7,7 +7,7 @@ use crate::counting::{count, count_in_two, tell};
 use crate::taker::{Side, Taker};
 use crate::taking::{take, take_in_two};
 use spk_nums::Memory;
-use turn_rule::{TurnSeat, TurnTable, cross_threads};
+use turn_rule::{Spread, TurnSeat, TurnTable, cross_threads};
 
 #[test]
 fn two_cores_win_as_often_as_the_word_says(rt: HostRuntime) -> Result<(), Memory> {
@@ -29,7 +29,7 @@ fn a_core_learns_from_a_note(rt: HostRuntime) -> Result<(), Memory> {
     let Ok(programs) = Vec::from_array(rt.alloc(), [Counter::new(), Counter::new()]) else {
         return Err(Memory);
     };
-    let (table, mut seats) = TurnTable::new(rt.alloc(), words, programs)?;
+    let (table, mut seats) = TurnTable::new(rt.alloc(), words, programs, Spread::flat())?;
     let (first, second) = seats.as_mut_slice().split_at_mut(1);
     count(&table, &mut first[0], 0);
     count(&table, &mut first[0], 0);
@@ -66,7 +66,7 @@ fn tickets_come_in_order_and_are_read_back(rt: HostRuntime) -> Result<(), Memory
     let Ok(programs) = Vec::from_array(rt.alloc(), takers) else {
         return Err(Memory);
     };
-    let (table, mut seats) = TurnTable::new(rt.alloc(), words, programs)?;
+    let (table, mut seats) = TurnTable::new(rt.alloc(), words, programs, Spread::flat())?;
     let (left, right) = seats.as_mut_slice().split_at_mut(1);
     let tickets = take_in_turn(&table, &mut left[0], &mut right[0]);
     assert_eq!(rt; tickets.as_slice(), [0, 3, 258, 258].as_slice());

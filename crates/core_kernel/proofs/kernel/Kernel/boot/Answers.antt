@@ -1,10 +1,14 @@
 use Rattle.std.proofs.Common.{◌<◌, ◌∙◌, sym, subst}
-use Rattle.core_kernel.proofs.Closing.{some_word, programs_fit, is_booted, fresh_seats, all_wrapped, fresh_wrapped}
+use Rattle.core_kernel.proofs.Closing.{some_word, few_words, programs_fit, is_booted, fresh_seats, all_wrapped, fresh_wrapped}
 use Rattle.core_kernel.proofs.kernel.Kernel.boot.Goals as goal
 
 pub new-requires-clause-words : goal.new-requires-clause-words
 new-requires-clause-words c = subst (λ n. 0 < n) (sym (c.in_ok-words.words.ok.0 ∙ c.in_ok-words.ensures.length))
     (some_word c.args.setup.now c.programs_of.ensures.setting)
+
+pub new-requires-clause-few : goal.new-requires-clause-few
+new-requires-clause-few c = subst (λ n. n < 4294967296) (sym (c.in_ok-words.words.ok.0 ∙ c.in_ok-words.ensures.length))
+    (few_words c.args.setup.now c.programs_of.ensures.setting)
 
 pub new-requires-clause-sizes : goal.new-requires-clause-sizes
 new-requires-clause-sizes c k d h =

@@ -19,7 +19,7 @@ split_seat-seat-requires g c =
     let i = c.loop-program.invariant in
     let F : Part g.row.P.Denot g.row.P-Call.Denot → Type 0 = λ v. v.from < v.to in
     let some_core : F c.loop-program.rest.me.0.own = subst F (sym i.rest) turn.0 in
-    (i.table ∙ sym (ap (λ t. t.id) c.self.view_is), c.self.invariant.0, deals g.P.CoreProgram.steps _ _ _ some_core)
+    (i.table ∙ sym (ap (λ t. t.id) c.self.view_is), c.self.invariant.0, deals g.P.CoreProgram.steps _ _ _ _ some_core)
 
 pub invariant_of-push : goal.invariant_of-push
 invariant_of-push g c =
@@ -34,11 +34,11 @@ invariant_of-push g c =
     let core : c.len-core.result ≡ n = search rules in
     let split = c.split_seat-seat.ensures in
     let own = ap (λ z. z.0.own) split.4 ∙ ap (λ (p : Part g.row.P.Denot g.row.P-Call.Denot). (first_core (view p)).own) i.rest in
-    let size = All-get_or (λ (p : g.row.P.Denot). T.size p ≡ c.args.self.now.id.words)
+    let size = All-get_or (λ (p : g.row.P.Denot). T.size p ≡ length c.args.self.now.start.words)
     c.args.programs.items n c.in-Some.program turn.0 c.requires.sizes in
-    dealt T _ _ n start c.split_seat-seat.result.me c.in-Some.program own (ap (λ z. z.1) split.4) core
+    dealt T _ n start c.split_seat-seat.result.me c.in-Some.program own (ap (λ z. z.1) split.4) core
     (ap (λ l. slice_get l n) c.requires.table.1 ∙ here)
-    (ap T.size turn.1 ∙ size ∙ sym (ap (λ z. z.words) (split.3 ∙ i.table)))
+    (ap T.size turn.1 ∙ size)
 
 pub loop-program-preserved : goal.loop-program-preserved
 loop-program-preserved g c =

@@ -14,11 +14,11 @@ invariant_of-seat g c =
     let may : MayCall T seat.program (Some c.of-said.result.value) =
     subst (λ (z : g.row.P.Denot × g.row.P-Call.Denot). MayCall T z.0 (Some z.1)) (λ i. (sym program i, sym said i))
     (c.requires.idle, c.requires.fit) in
-    seated_on T seat.seat.table_id.words _ seat.core seat.seat.me make.new.seat.me seat.program _
+    seated_on T seat.core seat.seat.me make.new.seat.me seat.program _
     (Some c.of-said.result.value) c.unwrap-op.result make.result c.seat.invariant may
     (ap T.next (sym begun) ∙ sym c.next_op.ensures.next ∙ c.unwrap-op.ensures) make.ensures.goes.0 make.ensures.goes.1
     (c.absorb.ensures.after ∙ ap (λ (q : g.row.P.Denot). T.after q make.result) begun)
-    (c.absorb.ensures.size ∙ c.begin.ensures.size ∙ c.seat.invariant.size ∙ sym (ap (λ z. z.words) make.ensures.table))
+    (c.absorb.ensures.size ∙ c.begin.ensures.size)
 
 pub returns-clause-follows : goal.returns-clause-follows
 returns-clause-follows g c = (invariant_of-seat g c).follows

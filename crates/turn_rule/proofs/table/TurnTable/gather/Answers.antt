@@ -22,7 +22,7 @@ join_seat-requires g c =
       ap (λ z. z.table.id) c.one.view_is ∙ ap (λ t. t.id) (c.requires.seats.table _ _ here) ∙ id,
       c.one.invariant.no_slot,
       c.self.invariant.0,
-      takes g.P.CoreProgram.steps _ _ _ _ _,
+      takes g.P.CoreProgram.steps _ _ _ _ _ _,
     )
 
 pub load-requires : goal.load-requires
@@ -40,7 +40,7 @@ load-requires g c =
     ∙ sym (ap (λ z. z.0.own.to) is) in (
       c.join_seat.ensures.0 ∙ i.table ∙ c.requires.table.0 ∙ sym (ap (λ t. t.id) c.self.view_is),
       c.self.invariant.0,
-      gathers_all g.P.CoreProgram.steps _ _ _ me live next,
+      gathers_all g.P.CoreProgram.steps _ _ _ _ me live next,
     )
 
 pub loop-one-preserved : goal.loop-one-preserved
@@ -61,7 +61,7 @@ loop-one-preserved g c =
     let core = ap (λ z. z.core) c.one.view_is ∙ c.requires.seats.core _ _ here in
     let got : Gathers T v w w.to x = subst (λ (z : View g.row.P.Denot g.row.P-Call.Denot). Gathers T z.own z.told z.told.to x)
     (ap (λ z. z.0) c.join_seat.ensures.2) c.load.ensures.2.0 in
-    let all = gathered_on T c.one.inside.seat.table_id.words c.one.inside.core n c.args.all.now.me.0.own
+    let all = gathered_on T c.one.inside.core n c.args.all.now.me.0.own
     v c.one.inside.seat.me x c.one.inside.program c.requires.table.1 i.all c.one.invariant core got in
     let more = length_push c.loop-one.yielded one in
     let count = i.count in

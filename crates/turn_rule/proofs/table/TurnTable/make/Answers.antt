@@ -1,62 +1,49 @@
-use Rattle.std.proofs.Common.{◌≡◌, length, sym, ap, ◌∙◌, subst, arith}
-use Rattle.spk_nums.specs.declared.steps.WordOp.{WordOp}
+use Rattle.std.proofs.Common.{length, sym, ap, ◌∙◌}
 use Rattle.spk_nums.specs.declared.steps.WordOp.TheVariants.{Load, Compare, Store, Add}
-use Rattle.turn_rule.specs.Rule.{start_of, IsDue}
-use Rattle.turn_rule.proofs.Keeps.{goes_on}
+use Rattle.turn_rule.specs.Rule.{start_of}
+use Rattle.turn_rule.proofs.Keeps.{made_on}
 use Rattle.turn_rule.proofs.table.TurnTable.make.Goals as goal
 
 pub load-requires : goal.load-requires
 load-requires g c =
-    let T = g.P.CoreProgram.steps in
-    let words = ap (λ t. t.id.words) c.self.view_is in
-    let count = c.self.invariant.2 in
-    let due = subst (λ (o : WordOp). IsDue T c.args.self.now.id.words c.args.seat.now.me g.W.Said.call o) c.in-Load.is c.requires.due in
-    let inside = due.inside in
-    let same : c.args.self.now.id.words ≡ length c.self.inside.table.shared.key.words.value.items = omega arith in (
-      c.requires.table ∙ sym (ap (λ t. t.id) c.self.view_is),
-      omega arith,
-      goes_on T (start_of c.self.inside.table.shared.key.words.value.items c.self.inside.table.shared.key.programs.value.items) _ _ _ _ _
-          (Load c.in-Load.at) due same,
-    )
+    let key = c.self.inside.table.shared.key in
+    let start = start_of key.words.value.items key.programs.value.items in
+    let i = c.self.invariant in
+    let made = made_on g.P.CoreProgram.steps c.self.inside.spread key.spread i.4 i.5 start c.self.inside.words
+    (length c.args.self.now.start.words) c.self.inside.table.shared.table_id.words i.3 (ap (λ t. length t.start.words) c.self.view_is) i.2
+    c.self.inside.table.shared.table_id.slots c.args.seat.now.id c.args.seat.now.me g.W.Said.call g.W.Said.op c.args.op
+    (Load c.in-Load.at) c.requires.said c.in-Load.is c.requires.due c.position.result c.position.ensures
+    in (c.requires.table ∙ sym (ap (λ t. t.id) c.self.view_is), made.0, made.1)
 
 pub compare_exchange-requires : goal.compare_exchange-requires
 compare_exchange-requires g c =
-    let T = g.P.CoreProgram.steps in
-    let words = ap (λ t. t.id.words) c.self.view_is in
-    let count = c.self.invariant.2 in
-    let due = subst (λ (o : WordOp). IsDue T c.args.self.now.id.words c.args.seat.now.me g.W.Said.call o) c.in-Compare.is c.requires.due in
-    let inside = due.inside in
-    let same : c.args.self.now.id.words ≡ length c.self.inside.table.shared.key.words.value.items = omega arith in (
-      c.requires.table ∙ sym (ap (λ t. t.id) c.self.view_is),
-      omega arith,
-      goes_on T (start_of c.self.inside.table.shared.key.words.value.items c.self.inside.table.shared.key.programs.value.items) _ _ _ _ _
-          (Compare c.in-Compare.at c.in-Compare.expected c.in-Compare.word) due same,
-    )
+    let key = c.self.inside.table.shared.key in
+    let start = start_of key.words.value.items key.programs.value.items in
+    let i = c.self.invariant in
+    let made = made_on g.P.CoreProgram.steps c.self.inside.spread key.spread i.4 i.5 start c.self.inside.words
+    (length c.args.self.now.start.words) c.self.inside.table.shared.table_id.words i.3 (ap (λ t. length t.start.words) c.self.view_is) i.2
+    c.self.inside.table.shared.table_id.slots c.args.seat.now.id c.args.seat.now.me g.W.Said.call g.W.Said.op c.args.op
+    (Compare c.in-Compare.at c.in-Compare.expected c.in-Compare.word) c.requires.said c.in-Compare.is c.requires.due c.position-at.result c.position-at.ensures
+    in (c.requires.table ∙ sym (ap (λ t. t.id) c.self.view_is), made.0, made.1)
 
 pub store-requires : goal.store-requires
 store-requires g c =
-    let T = g.P.CoreProgram.steps in
-    let words = ap (λ t. t.id.words) c.self.view_is in
-    let count = c.self.invariant.2 in
-    let due = subst (λ (o : WordOp). IsDue T c.args.self.now.id.words c.args.seat.now.me g.W.Said.call o) c.in-Store.is c.requires.due in
-    let inside = due.inside in
-    let same : c.args.self.now.id.words ≡ length c.self.inside.table.shared.key.words.value.items = omega arith in (
-      c.requires.table ∙ sym (ap (λ t. t.id) c.self.view_is),
-      omega arith,
-      goes_on T (start_of c.self.inside.table.shared.key.words.value.items c.self.inside.table.shared.key.programs.value.items) _ _ _ _ _
-          (Store c.in-Store.at c.in-Store.word) due same,
-    )
+    let key = c.self.inside.table.shared.key in
+    let start = start_of key.words.value.items key.programs.value.items in
+    let i = c.self.invariant in
+    let made = made_on g.P.CoreProgram.steps c.self.inside.spread key.spread i.4 i.5 start c.self.inside.words
+    (length c.args.self.now.start.words) c.self.inside.table.shared.table_id.words i.3 (ap (λ t. length t.start.words) c.self.view_is) i.2
+    c.self.inside.table.shared.table_id.slots c.args.seat.now.id c.args.seat.now.me g.W.Said.call g.W.Said.op c.args.op
+    (Store c.in-Store.at c.in-Store.word) c.requires.said c.in-Store.is c.requires.due c.position-in-Store.result c.position-in-Store.ensures
+    in (c.requires.table ∙ sym (ap (λ t. t.id) c.self.view_is), made.0, made.1)
 
 pub fetch_add-requires : goal.fetch_add-requires
 fetch_add-requires g c =
-    let T = g.P.CoreProgram.steps in
-    let words = ap (λ t. t.id.words) c.self.view_is in
-    let count = c.self.invariant.2 in
-    let due = subst (λ (o : WordOp). IsDue T c.args.self.now.id.words c.args.seat.now.me g.W.Said.call o) c.in-Add.is c.requires.due in
-    let inside = due.inside in
-    let same : c.args.self.now.id.words ≡ length c.self.inside.table.shared.key.words.value.items = omega arith in (
-      c.requires.table ∙ sym (ap (λ t. t.id) c.self.view_is),
-      omega arith,
-      goes_on T (start_of c.self.inside.table.shared.key.words.value.items c.self.inside.table.shared.key.programs.value.items) _ _ _ _ _
-          (Add c.in-Add.at c.in-Add.by) due same,
-    )
+    let key = c.self.inside.table.shared.key in
+    let start = start_of key.words.value.items key.programs.value.items in
+    let i = c.self.invariant in
+    let made = made_on g.P.CoreProgram.steps c.self.inside.spread key.spread i.4 i.5 start c.self.inside.words
+    (length c.args.self.now.start.words) c.self.inside.table.shared.table_id.words i.3 (ap (λ t. length t.start.words) c.self.view_is) i.2
+    c.self.inside.table.shared.table_id.slots c.args.seat.now.id c.args.seat.now.me g.W.Said.call g.W.Said.op c.args.op
+    (Add c.in-Add.at c.in-Add.by) c.requires.said c.in-Add.is c.requires.due c.position-in-Add.result c.position-in-Add.ensures
+    in (c.requires.table ∙ sym (ap (λ t. t.id) c.self.view_is), made.0, made.1)

@@ -10,7 +10,7 @@ join_seat-requires g c = let id = ap (λ t. t.id) c.self.view_is in (
   ap (λ z. z.table.id) c.note.view_is ∙ ap (λ t. t.id) c.requires.1 ∙ sym id,
   c.note.invariant,
   c.self.invariant.0,
-  takes g.P.CoreProgram.steps _ _ _ _ _,
+  takes g.P.CoreProgram.steps _ _ _ _ _ _,
 )
 
 pub load-requires : goal.load-requires
@@ -18,7 +18,7 @@ load-requires g c = let me = c.join_seat.new.seat.me in
     let live : me.0.own.live ≡ true = ap (λ z. z.0.own.live) c.join_seat.ensures.2 ∙ c.seat.invariant.live in (
       c.join_seat.ensures.0 ∙ ap (λ z. z.table.id) c.seat.view_is ∙ ap (λ t. t.id) c.requires.0 ∙ sym (ap (λ t. t.id) c.self.view_is),
       c.self.invariant.0,
-      meets g.P.CoreProgram.steps _ _ _ me live,
+      meets g.P.CoreProgram.steps _ _ _ _ me live,
     )
 
 pub invariant_of-seat : goal.invariant_of-seat
@@ -29,8 +29,8 @@ invariant_of-seat g c =
     let now = c.load.new.seat.me in
     let gathers = subst (λ (v : View g.row.P.Denot g.row.P-Call.Denot). Gathers T v.own v.told v.own.to now.0.own)
     (ap (λ z. z.0) is) c.load.ensures.2.0 in
-    met_on T seat.seat.table_id.words _ seat.core seat.seat.me now c.note.inside.seat.me.0.own seat.program c.seat.invariant gathers
-    (c.load.ensures.2.1 ∙ ap (λ z. z.1) is) (ap (λ z. z.words) (c.load.ensures.0 ∙ c.join_seat.ensures.0))
+    met_on T seat.core seat.seat.me now c.note.inside.seat.me.0.own seat.program c.seat.invariant gathers
+    (c.load.ensures.2.1 ∙ ap (λ z. z.1) is)
 
 pub returns-clause-follows : goal.returns-clause-follows
 returns-clause-follows g c = (invariant_of-seat g c).follows
