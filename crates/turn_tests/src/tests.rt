@@ -7,6 +7,7 @@ use crate::counting::{count, count_in_two, tell};
 use crate::taker::{Side, Taker};
 use crate::taking::{take, take_in_two};
 use spk_nums::Memory;
+use std::alloc::Global;
 use turn_rule::{Spread, TurnSeat, TurnTable, cross_threads};
 
 #[test]
@@ -59,19 +60,25 @@ fn take_in_turn(
     [first, second, third, fourth]
 }
 
-#[test]
-fn tickets_come_in_order_and_are_read_back(rt: HostRuntime) -> Result<(), Memory> {
-    let words = vec![in rt.alloc(); 0; 3]?;
-    let takers = [Taker::new(Side::Left), Taker::new(Side::Right)];
-    let Ok(programs) = Vec::from_array(rt.alloc(), takers) else {
+// The tickets of two cores at a new table, whose words lie apart, and then how many the first core has taken, and which the second has
+// taken last.
+fn taken_in_turn(alloc: Global) -> Result<[u64; 6], Memory> {
+    let words = vec![in alloc; 0; 3]?;
+    let Ok(programs) = Vec::from_array(alloc, [Taker::new(Side::Left), Taker::new(Side::Right)])
+    else {
         return Err(Memory);
     };
-    let (table, mut seats) = TurnTable::new(rt.alloc(), words, programs, Spread::flat())?;
+    let (table, mut seats) = TurnTable::new(alloc, words, programs, Spread { first: 1, row: 1 })?;
     let (left, right) = seats.as_mut_slice().split_at_mut(1);
-    let tickets = take_in_turn(&table, &mut left[0], &mut right[0]);
-    assert_eq!(rt; tickets.as_slice(), [0, 3, 258, 258].as_slice());
-    assert_eq!(rt; left[0].program().taken, 4);
-    assert_eq!(rt; right[0].program().last, 258);
+    let [first, second, third, fourth] = take_in_turn(&table, &mut left[0], &mut right[0]);
+    let (taken, last) = (left[0].program().taken, right[0].program().last);
+    Ok([first, second, third, fourth, taken, last])
+}
+
+#[test]
+fn tickets_come_in_order_and_are_read_back(rt: HostRuntime) -> Result<(), Memory> {
+    let taken = taken_in_turn(rt.alloc())?;
+    assert_eq!(rt; taken.as_slice(), [0, 3, 258, 258, 4, 258].as_slice());
     Ok(())
 }
 
