@@ -11,19 +11,19 @@ use Rattle.spk_nums.specs.declared.calls.Make.TheVariants as make
 use Rattle.spk_nums.specs.declared.replies.Value.TheVariants.{Cap, Nothing as nothing}
 use Rattle.spk_nums.specs.declared.steps.StageEnd.{StageEnd}
 use Rattle.spk_nums.specs.declared.steps.StageEnd.TheVariants as ends
-use Rattle.entry_words.specs.EntryWord.{entry_of_word}
-use Rattle.entry_words.specs.declared.entry.Entry.{Entry}
-use Rattle.entry_words.specs.declared.entry.Entry.TheVariants as entry
-use Rattle.stage_look.specs.Shown.{CapNames}
-use Rattle.stage_quiet.specs.declared.close.Close.{Close}
-use Rattle.stage_quiet.specs.declared.close.Close.TheVariants.{AtCompare as close_compare, AtDraw, AtStore}
-use Rattle.stage_quiet.specs.declared.quiet.Quiet.{Quiet}
-use Rattle.stage_quiet.specs.Removal.{CloseFits, close_move, close_end, close_after}
-use Rattle.stage_quiet.specs.Scan.{quiet_scan}
+use Rattle.stage_sweep.specs.entry_words.specs.EntryWord.{entry_of_word}
+use Rattle.stage_sweep.specs.entry_words.specs.declared.entry.Entry.{Entry}
+use Rattle.stage_sweep.specs.entry_words.specs.declared.entry.Entry.TheVariants as entry
+use Rattle.stage_sweep.specs.stage_look.specs.Shown.{CapNames}
+use Rattle.stage_sweep.specs.stage_quiet.specs.declared.close.Close.{Close}
+use Rattle.stage_sweep.specs.stage_quiet.specs.declared.close.Close.TheVariants.{AtCompare as close_compare, AtDraw, AtStore}
+use Rattle.stage_sweep.specs.stage_quiet.specs.declared.quiet.Quiet.{Quiet}
+use Rattle.stage_sweep.specs.stage_quiet.specs.Removal.{CloseFits, close_move, close_end, close_after}
+use Rattle.stage_sweep.specs.stage_quiet.specs.Scan.{quiet_scan}
 use Rattle.act_states.specs.declared.own.Own.{Own}
-use Rattle.word_map.specs.Places.{Shape}
-use Rattle.word_map.specs.Moves.{Move, LoadOf}
-use Rattle.stage_look.specs.declared.look.Found.{Found}
+use Rattle.stage_sweep.specs.word_map.specs.Places.{Shape}
+use Rattle.stage_sweep.specs.word_map.specs.Moves.{Move, LoadOf}
+use Rattle.stage_sweep.specs.stage_look.specs.declared.look.Found.{Found}
 use Rattle.call_plans.specs.declared.plans.Nth.TheVariants.{First, Second, Third, Fourth}
 use Rattle.call_plans.specs.Plans.{at_place}
 use Rattle.act_states.specs.declared.refusals.Refusal.TheVariants.{Raced, OutOfRange}
@@ -55,10 +55,10 @@ use Rattle.act_states.specs.Ticks.{charges, took_tick, is_charging, charge_left}
 use Rattle.stage_tcap.specs.Pairs.{PairFits, pair_move}
 use Rattle.stage_tcap.specs.declared.pair.PairWork.TheVariants as share
 use Rattle.act_states.specs.Shares.{took_share, is_sharing, share_left, shares_at}
-use Rattle.stage_quiet.specs.Flushing.{flush_move}
-use Rattle.stage_quiet.specs.declared.flush_mark.FlushMark.TheVariants.{AtLoad as flush_load}
+use Rattle.stage_sweep.specs.stage_quiet.specs.Flushing.{flush_move}
+use Rattle.stage_sweep.specs.stage_quiet.specs.declared.flush_mark.FlushMark.TheVariants.{AtLoad as flush_load}
 use Rattle.act_states.specs.Flushes.{flushes, took_flush}
-use Rattle.stage_look.specs.Lookup.{look_move}
+use Rattle.stage_sweep.specs.stage_look.specs.Lookup.{look_move}
 use Rattle.act_states.specs.Touches.{TouchFits, took_touch, is_answering, touch_left}
 use Rattle.act_states.specs.declared.kills.KillingAt.TheVariants.{LoadComp}
 use Rattle.act_states.specs.declared.invocations.InvokingAt.TheVariants as invoking
@@ -78,11 +78,11 @@ use Rattle.spk_nums.specs.declared.kinds.Kind.TheVariants as kind
 use Rattle.spk_nums.specs.declared.kinds.FrameKind.{FrameKind}
 use Rattle.spk_nums.specs.declared.kinds.FrameKind.TheVariants.{Untyped, User, Kernel}
 use Rattle.spk_nums.specs.declared.kinds.PageFlags.{PageFlags}
-use Rattle.frame_words.specs.Frame.{frame_of_word}
-use Rattle.word_map.specs.Word.{EntryAt, FrameAt}
-use Rattle.kernel_rules.specs.Access.{found as named, only}
-use Rattle.kernel_rules.specs.Start.{plain_cap}
-use Rattle.kernel_rules.specs.CapabilityCalls.{has_frame}
+use Rattle.stage_sweep.specs.frame_words.specs.Frame.{frame_of_word}
+use Rattle.stage_sweep.specs.word_map.specs.Word.{EntryAt, FrameAt}
+use Rattle.call_plans.specs.kernel_invariant.specs.kernel_rules.specs.Access.{found as named, only}
+use Rattle.call_plans.specs.kernel_invariant.specs.kernel_rules.specs.Start.{plain_cap}
+use Rattle.call_plans.specs.kernel_invariant.specs.kernel_rules.specs.CapabilityCalls.{has_frame}
 pub use Rattle.act_states.specs.Dues.{cap_dues, made_dues, killing_dues, invoking_dues, returning_dues, dues, acquires, next_work}
 pub use Rattle.act_states.specs.Taking.{meets_object, meets_kernel, meets_blank, meets_making, marks_if, published, took_making_at}
 pub use Rattle.act_states.specs.Taking.{took_making, meets_comp, meets_life, meets_number, meets_live, closes_if, drawn_dead}

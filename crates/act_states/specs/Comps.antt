@@ -8,17 +8,17 @@ use Rattle.spk_nums.specs.declared.kinds.Obj.TheVariants as obj
 use Rattle.spk_nums.specs.declared.replies.Value.TheVariants.{Nothing as nothing}
 use Rattle.spk_nums.specs.declared.steps.StageEnd.{StageEnd}
 use Rattle.spk_nums.specs.declared.steps.StageEnd.TheVariants as ends
-use Rattle.frame_words.specs.Comp.{word_of_comp}
-use Rattle.frame_words.specs.Frame.{word_of_frame}
-use Rattle.frame_words.specs.Live.{word_of_live}
-use Rattle.frame_words.specs.declared.frame_word.FrameWord.{FrameWord}
-use Rattle.frame_words.specs.declared.live_word.LiveWord.{LiveWord}
-use Rattle.frame_words.specs.declared.live_word.LiveWord.TheVariants as live
-use Rattle.word_map.specs.Word.{EntryAt, FrameAt, LiveAt}
-use Rattle.word_map.specs.Places.{Shape}
-use Rattle.word_map.specs.Moves.{Move, LoadOf, CompareOf, StoreOf}
-use Rattle.stage_quiet.specs.Scan.{QuietFits, quiet_move, quiet_scan}
-use Rattle.stage_quiet.specs.declared.quiet.Quiet.{Quiet}
+use Rattle.stage_sweep.specs.frame_words.specs.Comp.{word_of_comp}
+use Rattle.stage_sweep.specs.frame_words.specs.Frame.{word_of_frame}
+use Rattle.stage_sweep.specs.frame_words.specs.Live.{word_of_live}
+use Rattle.stage_sweep.specs.frame_words.specs.declared.frame_word.FrameWord.{FrameWord}
+use Rattle.stage_sweep.specs.frame_words.specs.declared.live_word.LiveWord.{LiveWord}
+use Rattle.stage_sweep.specs.frame_words.specs.declared.live_word.LiveWord.TheVariants as live
+use Rattle.stage_sweep.specs.word_map.specs.Word.{EntryAt, FrameAt, LiveAt}
+use Rattle.stage_sweep.specs.word_map.specs.Places.{Shape}
+use Rattle.stage_sweep.specs.word_map.specs.Moves.{Move, LoadOf, CompareOf, StoreOf}
+use Rattle.stage_sweep.specs.stage_quiet.specs.Scan.{QuietFits, quiet_move, quiet_scan}
+use Rattle.stage_sweep.specs.stage_quiet.specs.declared.quiet.Quiet.{Quiet}
 use Rattle.act_states.specs.Fills.{FillFits, fill_move}
 use Rattle.act_states.specs.Makings.{marked}
 use Rattle.act_states.specs.Refusals.{refusal_of}

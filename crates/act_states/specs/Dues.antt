@@ -2,8 +2,8 @@
 use Rattle.std.specs.Prelude.{ℕ, ℤ, pos, negsuc}
 use Rattle.std.specs.Prelude.{Option, Some, None, List, map, slice_get, [], ◌∷◌}
 use Rattle.spk_nums.specs.Capability.{Capability}
-use Rattle.kernel_rules.specs.References.{named_by}
-use Rattle.stage_pins.specs.declared.pin.Pin.TheVariants.{AtLoad}
+use Rattle.call_plans.specs.kernel_invariant.specs.kernel_rules.specs.References.{named_by}
+use Rattle.stage_sweep.specs.stage_pins.specs.declared.pin.Pin.TheVariants.{AtLoad}
 use Rattle.act_states.specs.declared.work.Act.{Act}
 use Rattle.act_states.specs.declared.work.Act.TheVariants.{Fill as fill_act, Remove as remove_act, Retype as type_act}
 use Rattle.act_states.specs.declared.work.Act.TheVariants.{Make as make_act, Outside, Tick as tick_act, Flush as flush_act}

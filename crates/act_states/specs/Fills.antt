@@ -1,12 +1,12 @@
 -- The act that fills a place.
 use Rattle.std.specs.Prelude.{ℕ, ◌==◌, ◌<◌, None, Bool, if◌then◌else◌}
 use Rattle.spk_nums.specs.declared.replies.Value.TheVariants.{Nothing as nothing}
-use Rattle.entry_words.specs.EntryWord.{word_of_entry}
-use Rattle.entry_words.specs.declared.entry.Entry.TheVariants.{Held}
-use Rattle.word_map.specs.Word.{EntryAt}
-use Rattle.word_map.specs.Places.{Shape}
-use Rattle.word_map.specs.Moves.{Move, CompareOf}
-use Rattle.stage_look.specs.Shown.{CapNames}
+use Rattle.stage_sweep.specs.entry_words.specs.EntryWord.{word_of_entry}
+use Rattle.stage_sweep.specs.entry_words.specs.declared.entry.Entry.TheVariants.{Held}
+use Rattle.stage_sweep.specs.word_map.specs.Word.{EntryAt}
+use Rattle.stage_sweep.specs.word_map.specs.Places.{Shape}
+use Rattle.stage_sweep.specs.word_map.specs.Moves.{Move, CompareOf}
+use Rattle.stage_sweep.specs.stage_look.specs.Shown.{CapNames}
 use Rattle.act_states.specs.declared.refusals.Refusal.TheVariants.{Raced}
 use Rattle.act_states.specs.declared.fills.Fill.{Fill}
 use Rattle.act_states.specs.declared.work.Tail.TheVariants.{Nothing}

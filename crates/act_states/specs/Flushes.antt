@@ -2,9 +2,9 @@
 use Rattle.std.specs.Prelude.{None, ℕ}
 use Rattle.spk_nums.specs.declared.replies.Reply.TheVariants.{Ok}
 use Rattle.spk_nums.specs.declared.replies.Value.TheVariants.{Nothing as nothing}
-use Rattle.stage_quiet.specs.Flushing.{flush_after}
-use Rattle.stage_quiet.specs.declared.flush_mark.FlushMark.{FlushMark}
-use Rattle.stage_quiet.specs.declared.flush_mark.FlushMark.TheVariants.{AtLoad, AtStore}
+use Rattle.stage_sweep.specs.stage_quiet.specs.Flushing.{flush_after}
+use Rattle.stage_sweep.specs.stage_quiet.specs.declared.flush_mark.FlushMark.{FlushMark}
+use Rattle.stage_sweep.specs.stage_quiet.specs.declared.flush_mark.FlushMark.TheVariants.{AtLoad, AtStore}
 use Rattle.act_states.specs.declared.own.OwnChange.TheVariants.{Empties}
 use Rattle.act_states.specs.declared.refusals.Refusal.TheVariants.{Raced}
 use Rattle.act_states.specs.declared.work.Act.TheVariants.{Flush as flush_act}

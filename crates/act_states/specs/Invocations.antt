@@ -2,16 +2,16 @@
 use Rattle.std.specs.Prelude.{◌≡◌, ℕ, ◌+◌, ◌-◌, ◌<◌, ◌≤◌, ◌==◌, ◌^◌, min, Bool, true, false, nat_lt, Option, Some, None, if◌then◌else◌}
 use Rattle.spk_nums.specs.declared.replies.Reply.TheVariants.{Ok}
 use Rattle.spk_nums.specs.declared.replies.Value.TheVariants.{Nothing as nothing}
-use Rattle.frame_words.specs.Comp.{CompFits}
-use Rattle.frame_words.specs.declared.live_word.LiveWord.{LiveWord}
-use Rattle.frame_words.specs.declared.live_word.LiveWord.TheVariants as live
-use Rattle.tcap_words.specs.Stack.{stack_of_word}
-use Rattle.tcap_words.specs.declared.stack_word.StackWord.{StackWord}
+use Rattle.stage_sweep.specs.frame_words.specs.Comp.{CompFits}
+use Rattle.stage_sweep.specs.frame_words.specs.declared.live_word.LiveWord.{LiveWord}
+use Rattle.stage_sweep.specs.frame_words.specs.declared.live_word.LiveWord.TheVariants as live
+use Rattle.stage_sweep.specs.tcap_words.specs.Stack.{stack_of_word}
+use Rattle.stage_sweep.specs.tcap_words.specs.declared.stack_word.StackWord.{StackWord}
 use Rattle.stage_thread.specs.declared.stack.Push.TheVariants as push
 use Rattle.stage_thread.specs.declared.stack.Pop.TheVariants as pop
-use Rattle.word_map.specs.Word.{EntryAt, LiveAt, ClockAt}
-use Rattle.word_map.specs.Places.{Shape}
-use Rattle.word_map.specs.Moves.{Move, LoadOf, AddOf}
+use Rattle.stage_sweep.specs.word_map.specs.Word.{EntryAt, LiveAt, ClockAt}
+use Rattle.stage_sweep.specs.word_map.specs.Places.{Shape}
+use Rattle.stage_sweep.specs.word_map.specs.Moves.{Move, LoadOf, AddOf}
 use Rattle.act_states.specs.declared.invocations.Invoking.{Invoking}
 use Rattle.act_states.specs.declared.invocations.InvokingAt.{InvokingAt}
 use Rattle.act_states.specs.declared.invocations.InvokingAt.TheVariants as invoking

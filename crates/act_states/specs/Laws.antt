@@ -1,7 +1,7 @@
 -- Refusals and replies. It is the contract of a function of this crate.
 use Rattle.std.specs.Prelude.{◌≡◌}
 use Rattle.spk_nums.specs.declared.replies.Reply.{Reply}
-use Rattle.kernel_rules.specs.Laws.{IsRefusal}
+use Rattle.call_plans.specs.kernel_invariant.specs.kernel_rules.specs.Laws.{IsRefusal}
 use Rattle.act_states.specs.declared.refusals.Refusal.{Refusal}
 use Rattle.act_states.specs.Refusals.{reply_of, refusal_of}
 

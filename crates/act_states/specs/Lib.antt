@@ -1,3 +1,17 @@
+-- What the crates above name through this one.
+pub use Rattle.stage_sweep.specs.entry_words
+pub use Rattle.stage_sweep.specs.frame_words
+pub use Rattle.stage_sweep.specs.tcap_words
+pub use Rattle.stage_sweep.specs.word_map
+pub use Rattle.call_plans.specs.kernel_invariant.specs.kernel_rules
+pub use Rattle.call_plans
+pub use Rattle.stage_sweep.specs.stage_look
+pub use Rattle.stage_sweep.specs.stage_pins
+pub use Rattle.stage_sweep.specs.stage_quiet
+pub use Rattle.stage_thread
+pub use Rattle.stage_sweep
+pub use Rattle.stage_tcap
+-- Its own.
 pub mod Refusals
 pub mod Shares
 pub mod Scans

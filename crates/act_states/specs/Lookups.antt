@@ -3,11 +3,11 @@ use Rattle.std.specs.Prelude.{ℕ, Bool, nat_le, if◌then◌else◌, Option, So
 use Rattle.spk_nums.specs.Capability.{Capability}
 use Rattle.spk_nums.specs.Rights.{has_rights}
 use Rattle.spk_nums.specs.declared.calls.Call.{Call}
-use Rattle.entry_words.specs.declared.entry.Entry.{Entry}
-use Rattle.entry_words.specs.declared.entry.Entry.TheVariants as entry
-use Rattle.kernel_rules.specs.Access.{Want, Target as place, Under, InRoot}
-use Rattle.stage_look.specs.declared.look.Look.TheVariants.{AtRoot, AtEntry}
-use Rattle.stage_look.specs.declared.look.Found.{Found}
+use Rattle.stage_sweep.specs.entry_words.specs.declared.entry.Entry.{Entry}
+use Rattle.stage_sweep.specs.entry_words.specs.declared.entry.Entry.TheVariants as entry
+use Rattle.call_plans.specs.kernel_invariant.specs.kernel_rules.specs.Access.{Want, Target as place, Under, InRoot}
+use Rattle.stage_sweep.specs.stage_look.specs.declared.look.Look.TheVariants.{AtRoot, AtEntry}
+use Rattle.stage_sweep.specs.stage_look.specs.declared.look.Found.{Found}
 use Rattle.call_plans.specs.After.{Next, NextName, NextFree, NextHeld, NextOwn, NextNothing}
 use Rattle.act_states.specs.declared.own.Own.{Own}
 use Rattle.act_states.specs.declared.refusals.Refusal.TheVariants.{NoSlot, Empty, WrongCap, NoRight, Occupied, Busy}

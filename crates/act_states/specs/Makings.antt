@@ -2,11 +2,11 @@
 use Rattle.std.specs.Prelude.{ℕ, ◌+◌, ◌-◌, ◌*◌, ◌<◌, ◌≤◌, nat_lt, Bool, true, false, Some, None, if◌then◌else◌}
 use Rattle.spk_nums.specs.declared.kinds.FrameKind.TheVariants as frame_kind
 use Rattle.spk_nums.specs.declared.kinds.Obj.TheVariants as obj
-use Rattle.frame_words.specs.Frame.{word_of_frame}
-use Rattle.frame_words.specs.declared.frame_word.FrameWord.{FrameWord}
-use Rattle.word_map.specs.Word.{EntryAt, FrameAt}
-use Rattle.word_map.specs.Places.{Shape}
-use Rattle.word_map.specs.Moves.{Move, LoadOf, CompareOf, StoreOf}
+use Rattle.stage_sweep.specs.frame_words.specs.Frame.{word_of_frame}
+use Rattle.stage_sweep.specs.frame_words.specs.declared.frame_word.FrameWord.{FrameWord}
+use Rattle.stage_sweep.specs.word_map.specs.Word.{EntryAt, FrameAt}
+use Rattle.stage_sweep.specs.word_map.specs.Places.{Shape}
+use Rattle.stage_sweep.specs.word_map.specs.Moves.{Move, LoadOf, CompareOf, StoreOf}
 use Rattle.act_states.specs.Fills.{FillFits, fill_move}
 use Rattle.act_states.specs.declared.fills.Fill.{Fill}
 use Rattle.act_states.specs.Objects.{object_obj, object_word, last_word, counts_of, ObjectFits}

@@ -7,14 +7,14 @@ use Rattle.spk_nums.specs.declared.kinds.Obj.{Obj}
 use Rattle.spk_nums.specs.declared.kinds.Obj.TheVariants as obj
 use Rattle.spk_nums.specs.declared.calls.Make.{Make}
 use Rattle.spk_nums.specs.declared.calls.Make.TheVariants as make
-use Rattle.entry_words.specs.EntryWord.{word_of_entry}
-use Rattle.entry_words.specs.declared.entry.Entry.TheVariants.{Free}
-use Rattle.tcap_words.specs.Head.{word_of_head}
-use Rattle.tcap_words.specs.Quality.{word_of_quality}
-use Rattle.tcap_words.specs.Stack.{word_of_stack}
-use Rattle.tcap_words.specs.Thread.{word_of_thread}
-use Rattle.tcap_words.specs.declared.thread_word.ThreadWord.TheVariants.{Idle}
-use Rattle.word_map.specs.Places.{Shape}
+use Rattle.stage_sweep.specs.entry_words.specs.EntryWord.{word_of_entry}
+use Rattle.stage_sweep.specs.entry_words.specs.declared.entry.Entry.TheVariants.{Free}
+use Rattle.stage_sweep.specs.tcap_words.specs.Head.{word_of_head}
+use Rattle.stage_sweep.specs.tcap_words.specs.Quality.{word_of_quality}
+use Rattle.stage_sweep.specs.tcap_words.specs.Stack.{word_of_stack}
+use Rattle.stage_sweep.specs.tcap_words.specs.Thread.{word_of_thread}
+use Rattle.stage_sweep.specs.tcap_words.specs.declared.thread_word.ThreadWord.TheVariants.{Idle}
+use Rattle.stage_sweep.specs.word_map.specs.Places.{Shape}
 use Rattle.call_plans.specs.Plans.{at_place}
 use Rattle.call_plans.specs.declared.plans.Nth.TheVariants.{Third}
 use Rattle.act_states.specs.declared.objects.NewObject.{NewObject}

@@ -1,8 +1,8 @@
 -- The scans of the other cores' words and of flush words.
 use Rattle.std.specs.Prelude.{ℕ, ◌+◌, ◌-◌, ◌<◌, ◌≤◌, ◌≡◌, false, nat_lt, if◌then◌else◌}
-use Rattle.word_map.specs.Places.{Shape}
-use Rattle.stage_quiet.specs.declared.quiet.Quiet.{Quiet}
-use Rattle.stage_quiet.specs.declared.quiet.Quiet.TheVariants.{AtCore, AtFlush}
+use Rattle.stage_sweep.specs.word_map.specs.Places.{Shape}
+use Rattle.stage_sweep.specs.stage_quiet.specs.declared.quiet.Quiet.{Quiet}
+use Rattle.stage_sweep.specs.stage_quiet.specs.declared.quiet.Quiet.TheVariants.{AtCore, AtFlush}
 
 -- a scan is of the other cores' words, from the first on, and for a place of a page table then of all flush words
 abbrev pub ScanFits : Shape → Quiet → Type 0

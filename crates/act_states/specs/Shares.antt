@@ -6,7 +6,7 @@ use Rattle.spk_nums.specs.declared.replies.Reply.TheVariants.{Ok}
 use Rattle.spk_nums.specs.declared.replies.Value.{Value}
 use Rattle.spk_nums.specs.declared.steps.StageEnd.{StageEnd}
 use Rattle.spk_nums.specs.declared.steps.StageEnd.TheVariants as ends
-use Rattle.word_map.specs.Places.{Shape}
+use Rattle.stage_sweep.specs.word_map.specs.Places.{Shape}
 use Rattle.stage_tcap.specs.Heads.{head}
 use Rattle.stage_tcap.specs.Pairs.{PairFits, pair_after, pair_end}
 use Rattle.stage_tcap.specs.declared.pair.Pair.{Pair}

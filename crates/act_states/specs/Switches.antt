@@ -4,15 +4,15 @@ use Rattle.spk_nums.specs.declared.replies.Reply.TheVariants.{Ok}
 use Rattle.spk_nums.specs.declared.replies.Value.TheVariants.{Nothing as nothing}
 use Rattle.spk_nums.specs.declared.steps.StageEnd.{StageEnd}
 use Rattle.spk_nums.specs.declared.steps.StageEnd.TheVariants as ends
-use Rattle.tcap_words.specs.Thread.{DepthFits, word_of_thread}
-use Rattle.tcap_words.specs.declared.thread_word.ThreadWord.TheVariants.{Idle, Running, Claimed as claimed_thread}
+use Rattle.stage_sweep.specs.tcap_words.specs.Thread.{DepthFits, word_of_thread}
+use Rattle.stage_sweep.specs.tcap_words.specs.declared.thread_word.ThreadWord.TheVariants.{Idle, Running, Claimed as claimed_thread}
 use Rattle.stage_thread.specs.Claiming.{ClaimFits, ClaimedFits, claim_move}
 use Rattle.stage_thread.specs.declared.claim.Claim.{Claim as ClaimOf}
 use Rattle.stage_thread.specs.declared.claim.Claim.TheVariants.{AtLoad, AtCompare, AtStack}
 use Rattle.stage_thread.specs.declared.claim.Claimed.{Claimed}
-use Rattle.word_map.specs.Word.{EntryAt, ClockAt}
-use Rattle.word_map.specs.Places.{Shape}
-use Rattle.word_map.specs.Moves.{Move, LoadOf, StoreOf, AddOf}
+use Rattle.stage_sweep.specs.word_map.specs.Word.{EntryAt, ClockAt}
+use Rattle.stage_sweep.specs.word_map.specs.Places.{Shape}
+use Rattle.stage_sweep.specs.word_map.specs.Moves.{Move, LoadOf, StoreOf, AddOf}
 use Rattle.act_states.specs.Refusals.{refusal_of}
 use Rattle.act_states.specs.declared.own.OwnChange.TheVariants.{Switches}
 use Rattle.act_states.specs.declared.refusals.Refusal.TheVariants.{Raced}

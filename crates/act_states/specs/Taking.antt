@@ -4,8 +4,8 @@ use Rattle.std.specs.Prelude.{Option, Some, None, if◌then◌else◌, []}
 use Rattle.spk_nums.specs.declared.replies.Value.TheVariants.{Nothing as nothing}
 use Rattle.spk_nums.specs.declared.steps.StageEnd.{StageEnd}
 use Rattle.spk_nums.specs.declared.steps.StageEnd.TheVariants as ends
-use Rattle.stage_quiet.specs.Scan.{quiet_after, quiet_end}
-use Rattle.word_map.specs.Places.{Shape}
+use Rattle.stage_sweep.specs.stage_quiet.specs.Scan.{quiet_after, quiet_end}
+use Rattle.stage_sweep.specs.word_map.specs.Places.{Shape}
 use Rattle.act_states.specs.declared.refusals.Refusal.TheVariants.{Raced, Busy, FrameKind as wrong_kind}
 use Rattle.act_states.specs.declared.refusals.Refusal.TheVariants.{Dead as is_dead}
 use Rattle.act_states.specs.declared.work.Act.TheVariants.{Fill as fill_act}
@@ -56,18 +56,18 @@ use Rattle.stage_sweep.specs.Freeze.{swept_of, sweep_end, sweep_after}
 use Rattle.stage_sweep.specs.declared.sweep.Sweep.{Sweep}
 use Rattle.stage_sweep.specs.declared.sweep.SweepAt.TheVariants as sweep
 use Rattle.stage_sweep.specs.declared.sweep.Swept.{Swept}
-use Rattle.frame_words.specs.Comp.{comp_of_word}
-use Rattle.frame_words.specs.Live.{live_of_word}
-use Rattle.frame_words.specs.declared.comp_word.CompWord.{CompWord}
-use Rattle.frame_words.specs.declared.live_word.LiveWord.{LiveWord}
-use Rattle.frame_words.specs.declared.live_word.LiveWord.TheVariants as live
-use Rattle.stage_quiet.specs.Clocks.{drawn_stamp}
+use Rattle.stage_sweep.specs.frame_words.specs.Comp.{comp_of_word}
+use Rattle.stage_sweep.specs.frame_words.specs.Live.{live_of_word}
+use Rattle.stage_sweep.specs.frame_words.specs.declared.comp_word.CompWord.{CompWord}
+use Rattle.stage_sweep.specs.frame_words.specs.declared.live_word.LiveWord.{LiveWord}
+use Rattle.stage_sweep.specs.frame_words.specs.declared.live_word.LiveWord.TheVariants as live
+use Rattle.stage_sweep.specs.stage_quiet.specs.Clocks.{drawn_stamp}
 use Rattle.spk_nums.specs.declared.kinds.FrameKind.{FrameKind}
 use Rattle.spk_nums.specs.declared.kinds.FrameKind.TheVariants.{Untyped, User, Kernel}
 use Rattle.spk_nums.specs.declared.kinds.Obj.{Obj}
 use Rattle.spk_nums.specs.declared.kinds.Obj.TheVariants.{Blank}
-use Rattle.frame_words.specs.Frame.{word_of_frame, frame_of_word}
-use Rattle.frame_words.specs.declared.frame_word.FrameWord.{FrameWord}
+use Rattle.stage_sweep.specs.frame_words.specs.Frame.{word_of_frame, frame_of_word}
+use Rattle.stage_sweep.specs.frame_words.specs.declared.frame_word.FrameWord.{FrameWord}
 use Rattle.act_states.specs.Dues.{next_work}
 
 -- what a making takes from its step

@@ -6,15 +6,15 @@ use Rattle.spk_nums.specs.declared.replies.Reply.TheVariants as reply
 use Rattle.spk_nums.specs.declared.steps.StageEnd.{StageEnd}
 use Rattle.spk_nums.specs.declared.steps.StageEnd.TheVariants as ends
 use Rattle.spk_nums.specs.declared.translations.Translation.{Translation}
-use Rattle.entry_words.specs.declared.entry.Entry.{Entry}
-use Rattle.entry_words.specs.declared.entry.Entry.TheVariants as entry
-use Rattle.kernel_rules.specs.MemoryCalls.{translation_of, translated}
-use Rattle.word_map.specs.Places.{Shape}
-use Rattle.stage_look.specs.Shown.{shown_in}
-use Rattle.stage_look.specs.Lookup.{LookFits, look_end, look_after}
-use Rattle.stage_look.specs.declared.look.Look.{Look}
-use Rattle.stage_look.specs.declared.look.Look.TheVariants.{AtRoot, AtLeaf, AtEntry}
-use Rattle.stage_look.specs.declared.look.Found.{Found}
+use Rattle.stage_sweep.specs.entry_words.specs.declared.entry.Entry.{Entry}
+use Rattle.stage_sweep.specs.entry_words.specs.declared.entry.Entry.TheVariants as entry
+use Rattle.call_plans.specs.kernel_invariant.specs.kernel_rules.specs.MemoryCalls.{translation_of, translated}
+use Rattle.stage_sweep.specs.word_map.specs.Places.{Shape}
+use Rattle.stage_sweep.specs.stage_look.specs.Shown.{shown_in}
+use Rattle.stage_sweep.specs.stage_look.specs.Lookup.{LookFits, look_end, look_after}
+use Rattle.stage_sweep.specs.stage_look.specs.declared.look.Look.{Look}
+use Rattle.stage_sweep.specs.stage_look.specs.declared.look.Look.TheVariants.{AtRoot, AtLeaf, AtEntry}
+use Rattle.stage_sweep.specs.stage_look.specs.declared.look.Found.{Found}
 use Rattle.act_states.specs.declared.own.Own.{Own}
 use Rattle.act_states.specs.declared.own.OwnChange.TheVariants.{Caches}
 use Rattle.act_states.specs.declared.refusals.Refusal.{Refusal}

@@ -4,11 +4,11 @@ use Rattle.spk_nums.specs.declared.kinds.FrameKind.{FrameKind}
 use Rattle.spk_nums.specs.declared.kinds.FrameKind.TheVariants as kind
 use Rattle.spk_nums.specs.declared.kinds.Obj.TheVariants.{Blank}
 use Rattle.spk_nums.specs.declared.replies.Value.TheVariants.{Nothing as nothing}
-use Rattle.frame_words.specs.Frame.{word_of_frame, frame_of_word}
-use Rattle.frame_words.specs.declared.frame_word.FrameWord.{FrameWord}
-use Rattle.word_map.specs.Word.{FrameAt}
-use Rattle.word_map.specs.Places.{Shape}
-use Rattle.word_map.specs.Moves.{Move, LoadOf, CompareOf}
+use Rattle.stage_sweep.specs.frame_words.specs.Frame.{word_of_frame, frame_of_word}
+use Rattle.stage_sweep.specs.frame_words.specs.declared.frame_word.FrameWord.{FrameWord}
+use Rattle.stage_sweep.specs.word_map.specs.Word.{FrameAt}
+use Rattle.stage_sweep.specs.word_map.specs.Places.{Shape}
+use Rattle.stage_sweep.specs.word_map.specs.Moves.{Move, LoadOf, CompareOf}
 use Rattle.act_states.specs.declared.refusals.Refusal.TheVariants.{Raced, Busy, FrameKind as wrong_kind}
 use Rattle.act_states.specs.declared.typings.Typing.{Typing}
 use Rattle.act_states.specs.declared.typings.TypingAt.{TypingAt}

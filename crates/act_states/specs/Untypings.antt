@@ -6,13 +6,13 @@ use Rattle.spk_nums.specs.declared.kinds.Obj.{Obj}
 use Rattle.spk_nums.specs.declared.kinds.Obj.TheVariants as obj
 use Rattle.spk_nums.specs.declared.steps.StageEnd.{StageEnd}
 use Rattle.spk_nums.specs.declared.steps.StageEnd.TheVariants.{Going, Decided, Done, Refuse}
-use Rattle.frame_words.specs.Frame.{FrameFits, word_of_frame}
-use Rattle.frame_words.specs.declared.frame_word.FrameWord.{FrameWord}
-use Rattle.word_map.specs.Word.{FrameAt, ClockAt}
-use Rattle.word_map.specs.Places.{Shape}
-use Rattle.word_map.specs.Moves.{Move, LoadOf, CompareOf, StoreOf, AddOf}
-use Rattle.stage_quiet.specs.declared.quiet.Quiet.{Quiet}
-use Rattle.stage_quiet.specs.declared.quiet.Quiet.TheVariants.{AtCore, AtFlush}
+use Rattle.stage_sweep.specs.frame_words.specs.Frame.{FrameFits, word_of_frame}
+use Rattle.stage_sweep.specs.frame_words.specs.declared.frame_word.FrameWord.{FrameWord}
+use Rattle.stage_sweep.specs.word_map.specs.Word.{FrameAt, ClockAt}
+use Rattle.stage_sweep.specs.word_map.specs.Places.{Shape}
+use Rattle.stage_sweep.specs.word_map.specs.Moves.{Move, LoadOf, CompareOf, StoreOf, AddOf}
+use Rattle.stage_sweep.specs.stage_quiet.specs.declared.quiet.Quiet.{Quiet}
+use Rattle.stage_sweep.specs.stage_quiet.specs.declared.quiet.Quiet.TheVariants.{AtCore, AtFlush}
 use Rattle.stage_sweep.specs.Counters.{counters_of}
 use Rattle.stage_sweep.specs.Emptiness.{loads_of}
 use Rattle.stage_sweep.specs.Freeze.{SweepFits, sweep_move, swept_of}

@@ -2,7 +2,7 @@
 
 use crate::fills::Fill;
 use spk_nums::{CoreNo, EntryNo, FrameNo};
-use stage_quiet::Quiet;
+use stage_sweep::stage_quiet::Quiet;
 
 /// A liveness number as it was found, not live.
 #[derive(Clone, Copy, PartialEq, Eq, Debug)]

@@ -27,6 +27,7 @@ mod typings;
 mod untypings;
 mod work;
 
+pub use call_plans;
 pub use comps::{CompAt, CompMaking, LastEpoch};
 pub use fills::Fill;
 pub use invocations::{Invoking, InvokingAt, Returning, ReturningAt};
@@ -37,6 +38,10 @@ pub use makings::{Making, MakingAt};
 pub use objects::{NewObject, object_cap, object_made};
 pub use own::{Own, OwnChange};
 pub use refusals::Refusal;
+pub use stage_sweep;
+pub use stage_sweep::{stage_look, stage_pins, stage_quiet};
+pub use stage_tcap;
+pub use stage_thread;
 pub use switches::{SwitchAt, Switching};
 pub use touches::Touching;
 pub use typings::{Typing, TypingAt};

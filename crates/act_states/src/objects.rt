@@ -4,18 +4,18 @@
 //! one pair in its list. Each takes a reference for the capability that leads to it, and a thread one more for its component.
 
 ghost use Rattle.std.specs.Prelude.{◌≡◌, ◌≤◌, slice_get};
-ghost use Rattle.entry_words.specs.EntryWord.{word_of_entry};
-ghost use Rattle.entry_words.specs.declared.entry.Entry.TheVariants.{Free};
-ghost use Rattle.tcap_words.specs.Stack.{word_of_stack};
-ghost use Rattle.tcap_words.specs.Quality.{word_of_quality};
+ghost use Rattle.stage_sweep.specs.entry_words.specs.EntryWord.{word_of_entry};
+ghost use Rattle.stage_sweep.specs.entry_words.specs.declared.entry.Entry.TheVariants.{Free};
+ghost use Rattle.stage_sweep.specs.tcap_words.specs.Stack.{word_of_stack};
+ghost use Rattle.stage_sweep.specs.tcap_words.specs.Quality.{word_of_quality};
 ghost use Rattle.act_states.specs.Objects.{object_obj, object_kind, object_cap, object_made, object_word};
 ghost use Rattle.act_states.specs.Objects.{thread_word, tcap_word, last_word, object_dues, PairFits, thread_on};
 
 use crate::work::Due;
 use call_plans::{Caps, Nth};
-use entry_words::Entry;
 use spk_nums::{Cap, EntryNo, FrameNo, Kind, Make, Obj};
-use tcap_words::{HeadWord, QualityWord, StackWord, ThreadWord};
+use stage_sweep::entry_words::Entry;
+use stage_sweep::tcap_words::{HeadWord, QualityWord, StackWord, ThreadWord};
 
 /// An object that is made.
 #[derive(Clone, Copy, PartialEq, Eq, Debug)]

@@ -1,11 +1,11 @@
 //! What a core has of its own, beside its call, and what a decision changes of it.
 
 ghost use Rattle.std.specs.Prelude.{◌≡◌};
-ghost use Rattle.kernel_rules.specs.MemoryCalls.{caching};
+ghost use Rattle.call_plans.specs.kernel_invariant.specs.kernel_rules.specs.MemoryCalls.{caching};
 ghost use Rattle.act_states.specs.OwnChanges.{own_changed};
 
 use spk_nums::{CoreNo, FrameNo, Stamp, Translation, Translations};
-use word_map::Layout;
+use stage_sweep::word_map::Layout;
 
 /// What a core has of its own: where it works, and what it has counted. The step machine of a call reads it; a decision and a
 /// return change it.

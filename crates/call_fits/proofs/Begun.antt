@@ -1,18 +1,18 @@
 -- A core that begins a call.
 use Rattle.std.proofs.lemmas.List.Elements.{All-nil}
 use Rattle.std.proofs.Common.{◌≡◌, List, [], Some, None, refl, arith}
-use Rattle.call_stages.specs.stage_pins.specs.declared.held.Acquired.{Acquired}
-use Rattle.call_stages.specs.stage_pins.specs.Held.{AcquiredFits}
-use Rattle.call_stages.specs.spk_nums.specs.CallLimits.{InLimits}
-use Rattle.call_stages.specs.spk_nums.specs.Capability.{Capability}
-use Rattle.call_stages.specs.spk_nums.specs.declared.calls.Call.{Call}
-use Rattle.call_stages.specs.kernel_rules.specs.Access.{found}
-use Rattle.call_stages.specs.call_plans.specs.declared.plans.Plan.{Plan}
-use Rattle.call_stages.specs.call_plans.specs.PlanOf.{plan_for}
-use Rattle.call_stages.specs.call_plans.proofs.StepsOfPlans.{bound_is}
-use Rattle.call_stages.specs.act_states.specs.declared.own.Own.{Own}
-use Rattle.call_stages.specs.Fits.{IsOwn, IsCore}
-use Rattle.call_stages.specs.declared.stages.Stage.TheVariants.{Enter}
+use Rattle.act_fits.specs.stage_pins.specs.declared.held.Acquired.{Acquired}
+use Rattle.act_fits.specs.stage_pins.specs.Held.{AcquiredFits}
+use Rattle.act_fits.specs.spk_nums.specs.CallLimits.{InLimits}
+use Rattle.act_fits.specs.spk_nums.specs.Capability.{Capability}
+use Rattle.act_fits.specs.spk_nums.specs.declared.calls.Call.{Call}
+use Rattle.act_fits.specs.kernel_rules.specs.Access.{found}
+use Rattle.act_fits.specs.call_plans.specs.declared.plans.Plan.{Plan}
+use Rattle.act_fits.specs.call_plans.specs.PlanOf.{plan_for}
+use Rattle.act_fits.specs.call_plans.proofs.StepsOfPlans.{bound_is}
+use Rattle.act_fits.specs.act_states.specs.declared.own.Own.{Own}
+use Rattle.act_fits.specs.call_stages.specs.Fits.{IsOwn, IsCore}
+use Rattle.act_fits.specs.call_stages.specs.declared.stages.Stage.TheVariants.{Enter}
 
 pub begun_fits : (own : Own) (call : Call) (found : List Capability) (counts : List Acquired) (plan : Plan) → IsOwn own → found ≡ []
     → counts ≡ [] → plan ≡ plan_for call

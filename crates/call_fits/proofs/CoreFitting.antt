@@ -1,19 +1,19 @@
 -- The core and its call after a step stay in their ranges.
 use Rattle.std.proofs.Common.{◌≡◌, ℕ, ◌+◌, ◌<◌, ◌≤◌, Option, Some, refl, sym, ◌∙◌, ap, subst, arith}
-use Rattle.call_stages.specs.spk_nums.specs.Bounds.{bound_of}
-use Rattle.call_stages.specs.spk_nums.specs.CallLimits.{InLimits}
-use Rattle.call_stages.specs.spk_nums.specs.declared.replies.Reply.{Reply}
-use Rattle.call_stages.specs.kernel_rules.specs.Laws.{calls_counted}
-use Rattle.call_stages.specs.kernel_rules.specs.Access.{found}
-use Rattle.call_stages.specs.call_plans.specs.PlanOf.{plan_for}
-use Rattle.call_stages.specs.act_states.specs.declared.own.Own.{Own}
-use Rattle.call_stages.specs.act_states.specs.declared.own.OwnChange.{OwnChange}
-use Rattle.call_stages.specs.act_states.specs.declared.own.OwnChange.TheVariants.{Ticks, Empties, Works, Switches, Caches}
-use Rattle.call_stages.specs.act_states.specs.OwnChanges.{own_changed}
-use Rattle.call_stages.specs.Fits.{left_of, IsActive, CallFits, IsOwn, IsCore, left_for}
-use Rattle.call_stages.specs.declared.stages.ActiveCall.{ActiveCall}
-use Rattle.call_stages.specs.declared.stages.Told.TheVariants as told_as
-use Rattle.call_stages.specs.Steps.{GoesOn, Decides, took, told, call_after, Changes}
+use Rattle.act_fits.specs.spk_nums.specs.Bounds.{bound_of}
+use Rattle.act_fits.specs.spk_nums.specs.CallLimits.{InLimits}
+use Rattle.act_fits.specs.spk_nums.specs.declared.replies.Reply.{Reply}
+use Rattle.act_fits.specs.kernel_rules.specs.Laws.{calls_counted}
+use Rattle.act_fits.specs.kernel_rules.specs.Access.{found}
+use Rattle.act_fits.specs.call_plans.specs.PlanOf.{plan_for}
+use Rattle.act_fits.specs.act_states.specs.declared.own.Own.{Own}
+use Rattle.act_fits.specs.act_states.specs.declared.own.OwnChange.{OwnChange}
+use Rattle.act_fits.specs.act_states.specs.declared.own.OwnChange.TheVariants.{Ticks, Empties, Works, Switches, Caches}
+use Rattle.act_fits.specs.act_states.specs.OwnChanges.{own_changed}
+use Rattle.act_fits.specs.call_stages.specs.Fits.{left_of, IsActive, CallFits, IsOwn, IsCore, left_for}
+use Rattle.act_fits.specs.call_stages.specs.declared.stages.ActiveCall.{ActiveCall}
+use Rattle.act_fits.specs.call_stages.specs.declared.stages.Told.TheVariants as told_as
+use Rattle.act_fits.specs.call_stages.specs.Steps.{GoesOn, Decides, took, told, call_after, Changes}
 use Rattle.call_fits.proofs.Landing.{told_goes, told_decides, told_changes}
 use Rattle.act_fits.proofs.DuesFit.{ChangeFits}
 use Rattle.act_fits.proofs.LandsFit.{IsNext, TookFits}

@@ -1,113 +1,114 @@
 -- A core stays in its ranges, and each step leaves fewer to come, whatever words are found.
 use Rattle.std.proofs.lemmas.List.Elements.{All-nil, All-cons, All-tail, All-append}
-use Rattle.call_stages.specs.frame_words.specs.Count.{word_of_count, count_of_word}
-use Rattle.call_stages.specs.stage_pins.specs.Counts.{unheld}
-use Rattle.call_stages.specs.stage_pins.proofs.PinLemmas.{after_fits}
+use Rattle.act_fits.specs.frame_words.specs.Count.{word_of_count, count_of_word}
+use Rattle.act_fits.specs.stage_pins.specs.Counts.{unheld}
+use Rattle.act_fits.specs.stage_pins.proofs.PinLemmas.{after_fits}
 use Rattle.std.proofs.Common.{◌≡◌, ℕ, suc, ℤ, nat_lt, if◌then◌else◌, ◌+◌, ◌*◌, ◌-◌, ◌++◌, slice_get}
 use Rattle.std.proofs.Common.{◌<◌, ◌≤◌, Bool, true, false, ◌==◌, List, [], ◌∷◌, length, length-append}
 use Rattle.std.proofs.Common.{lt-ltb, Option, Some, None, refl, sym, ap, subst, arith, negsuc}
 use Rattle.std.proofs.lemmas.Bool.{leb-false, ltb-true}
-use Rattle.call_stages.specs.spk_nums.specs.declared.replies.Value.TheVariants.{Nothing as nothing, Amount}
-use Rattle.call_stages.specs.stage_quiet.specs.Clocks.{drawn_stamp, stamp_of_clock}
-use Rattle.call_stages.specs.stage_quiet.specs.declared.close.Close.{Close}
-use Rattle.call_stages.specs.stage_quiet.specs.declared.close.Close.TheVariants.{AtCompare as close_compare, AtDraw, AtStore}
-use Rattle.call_stages.specs.stage_quiet.specs.declared.quiet.Quiet.{Quiet}
-use Rattle.call_stages.specs.stage_quiet.specs.Removal.{CloseFits, close_compared, close_at, close_end, close_after}
-use Rattle.call_stages.specs.stage_quiet.specs.Scan.{QuietFits, quiet_end, quiet_after}
-use Rattle.call_stages.specs.stage_pins.specs.declared.pin.Pin.{Pin}
-use Rattle.call_stages.specs.stage_pins.specs.declared.pin.Pin.TheVariants.{AtLoad, AtCompare}
-use Rattle.call_stages.specs.stage_pins.specs.declared.pin.Pinned.{Pinned}
-use Rattle.call_stages.specs.stage_pins.specs.declared.held.Acquired.{Acquired}
-use Rattle.call_stages.specs.stage_pins.specs.Acquire.{PinFits, PinnedFits, EndFits, end_by_hold, load_end, compare_end}
-use Rattle.call_stages.specs.stage_pins.specs.Acquire.{pinned_at, pin_after, pin_end, after_hold, after_load}
-use Rattle.call_stages.specs.frame_words.specs.declared.count_word.CountWord.{CountWord}
-use Rattle.call_stages.specs.frame_words.specs.declared.count_word.Hold.{Hold}
-use Rattle.call_stages.specs.frame_words.specs.declared.count_word.Hold.TheVariants as hold
-use Rattle.call_stages.specs.spk_nums.specs.declared.steps.StageEnd.{StageEnd}
-use Rattle.call_stages.specs.spk_nums.specs.declared.steps.StageEnd.TheVariants as ends
-use Rattle.call_stages.specs.stage_pins.specs.Held.{AllFit, AcquiredFits, pushed as count_pushed}
-use Rattle.call_stages.specs.spk_nums.specs.declared.kinds.FrameKind.{FrameKind}
-use Rattle.call_stages.specs.spk_nums.specs.declared.kinds.FrameKind.TheVariants.{Untyped}
-use Rattle.call_stages.specs.spk_nums.specs.Capability.{Capability}
-use Rattle.call_stages.specs.spk_nums.specs.declared.replies.Reply.{Reply}
-use Rattle.call_stages.specs.spk_nums.specs.declared.replies.Reply.TheVariants as reply
-use Rattle.call_stages.specs.word_map.specs.Places.{Shape}
-use Rattle.call_stages.specs.kernel_rules.specs.Access.{found}
-use Rattle.call_stages.specs.stage_look.specs.Shown.{CapNames, shown_in}
-use Rattle.call_stages.specs.stage_look.specs.Lookup.{LookFits}
-use Rattle.call_stages.specs.stage_look.specs.declared.look.Look.{Look}
-use Rattle.call_stages.specs.stage_look.proofs.LookLemmas.{shown_names}
-use Rattle.call_stages.specs.call_plans.specs.Bounds.{living_steps, look_steps, act_steps}
-use Rattle.call_stages.specs.act_states.specs.declared.refusals.Refusal.{Refusal}
-use Rattle.call_stages.specs.act_states.specs.declared.refusals.Refusal.TheVariants as refusal
-use Rattle.call_stages.specs.act_states.specs.declared.own.Own.{Own}
-use Rattle.call_stages.specs.act_states.specs.declared.own.OwnChange.{OwnChange}
-use Rattle.call_stages.specs.act_states.specs.declared.own.OwnChange.TheVariants.{Ticks, Empties}
-use Rattle.call_stages.specs.act_states.specs.Ticks.{took_charge, took_tick, charge_left}
-use Rattle.call_stages.specs.stage_tcap.specs.declared.charge.Charge.{Charge}
-use Rattle.call_stages.specs.stage_tcap.specs.declared.charge.Charge.TheVariants.{AtLoad as charge_load, AtCompare as charge_compare}
-use Rattle.call_stages.specs.stage_tcap.specs.Charging.{ChargeFits, after_mark, after_head, end_by_mark, head_end, charged_end}
-use Rattle.call_stages.specs.stage_tcap.specs.Heads.{head}
-use Rattle.call_stages.specs.tcap_words.proofs.HeadLemmas.{spelling}
+use Rattle.act_fits.specs.spk_nums.specs.declared.replies.Value.TheVariants.{Nothing as nothing, Amount}
+use Rattle.act_fits.specs.stage_quiet.specs.Clocks.{drawn_stamp, stamp_of_clock}
+use Rattle.act_fits.specs.stage_quiet.specs.declared.close.Close.{Close}
+use Rattle.act_fits.specs.stage_quiet.specs.declared.close.Close.TheVariants.{AtCompare as close_compare, AtDraw, AtStore}
+use Rattle.act_fits.specs.stage_quiet.specs.declared.quiet.Quiet.{Quiet}
+use Rattle.act_fits.specs.stage_quiet.specs.Removal.{CloseFits, close_compared, close_at, close_end, close_after}
+use Rattle.act_fits.specs.stage_quiet.specs.Scan.{QuietFits, quiet_end, quiet_after}
+use Rattle.act_fits.specs.stage_pins.specs.declared.pin.Pin.{Pin}
+use Rattle.act_fits.specs.stage_pins.specs.declared.pin.Pin.TheVariants.{AtLoad, AtCompare}
+use Rattle.act_fits.specs.stage_pins.specs.declared.pin.Pinned.{Pinned}
+use Rattle.act_fits.specs.stage_pins.specs.declared.held.Acquired.{Acquired}
+use Rattle.act_fits.specs.stage_pins.specs.Acquire.{PinFits, PinnedFits, EndFits, end_by_hold, load_end, compare_end}
+use Rattle.act_fits.specs.stage_pins.specs.Acquire.{pinned_at, pin_after, pin_end, after_hold, after_load}
+use Rattle.act_fits.specs.frame_words.specs.declared.count_word.CountWord.{CountWord}
+use Rattle.act_fits.specs.frame_words.specs.declared.count_word.Hold.{Hold}
+use Rattle.act_fits.specs.frame_words.specs.declared.count_word.Hold.TheVariants as hold
+use Rattle.act_fits.specs.spk_nums.specs.declared.steps.StageEnd.{StageEnd}
+use Rattle.act_fits.specs.spk_nums.specs.declared.steps.StageEnd.TheVariants as ends
+use Rattle.act_fits.specs.stage_pins.specs.Held.{AllFit, AcquiredFits, pushed as count_pushed}
+use Rattle.act_fits.specs.spk_nums.specs.declared.kinds.FrameKind.{FrameKind}
+use Rattle.act_fits.specs.spk_nums.specs.declared.kinds.FrameKind.TheVariants.{Untyped}
+use Rattle.act_fits.specs.spk_nums.specs.Capability.{Capability}
+use Rattle.act_fits.specs.spk_nums.specs.declared.replies.Reply.{Reply}
+use Rattle.act_fits.specs.spk_nums.specs.declared.replies.Reply.TheVariants as reply
+use Rattle.act_fits.specs.word_map.specs.Places.{Shape}
+use Rattle.act_fits.specs.kernel_rules.specs.Access.{found}
+use Rattle.act_fits.specs.stage_look.specs.Shown.{CapNames, shown_in}
+use Rattle.act_fits.specs.stage_look.specs.Lookup.{LookFits}
+use Rattle.act_fits.specs.stage_look.specs.declared.look.Look.{Look}
+use Rattle.act_fits.specs.stage_look.proofs.LookLemmas.{shown_names}
+use Rattle.act_fits.specs.call_plans.specs.Bounds.{living_steps, look_steps, act_steps}
+use Rattle.act_fits.specs.act_states.specs.declared.refusals.Refusal.{Refusal}
+use Rattle.act_fits.specs.act_states.specs.declared.refusals.Refusal.TheVariants as refusal
+use Rattle.act_fits.specs.act_states.specs.declared.own.Own.{Own}
+use Rattle.act_fits.specs.act_states.specs.declared.own.OwnChange.{OwnChange}
+use Rattle.act_fits.specs.act_states.specs.declared.own.OwnChange.TheVariants.{Ticks, Empties}
+use Rattle.act_fits.specs.act_states.specs.Ticks.{took_charge, took_tick, charge_left}
+use Rattle.act_fits.specs.stage_tcap.specs.declared.charge.Charge.{Charge}
+use Rattle.act_fits.specs.stage_tcap.specs.declared.charge.Charge.TheVariants.{AtLoad as charge_load, AtCompare as charge_compare}
+use Rattle.act_fits.specs.stage_tcap.specs.Charging.{ChargeFits, after_mark, after_head, end_by_mark, head_end, charged_end}
+use Rattle.act_fits.specs.stage_tcap.specs.Heads.{head}
+use Rattle.act_fits.specs.tcap_words.proofs.HeadLemmas.{spelling}
 use Rattle.std.specs.Prelude.{◌^◌, min}
-use Rattle.call_stages.specs.tcap_words.specs.Head.{word_of_head, head_of_word}
-use Rattle.call_stages.specs.tcap_words.specs.declared.head_word.HeadWord.{HeadWord}
-use Rattle.call_stages.specs.spk_nums.specs.declared.kinds.FrameKind.TheVariants as frame_kind
-use Rattle.call_stages.specs.frame_words.specs.Frame.{frame_of_word}
-use Rattle.call_stages.specs.frame_words.specs.declared.frame_word.FrameWord.{FrameWord}
-use Rattle.call_stages.specs.act_states.specs.declared.typings.Typing.{Typing}
-use Rattle.call_stages.specs.act_states.specs.declared.typings.TypingAt.{TypingAt}
-use Rattle.call_stages.specs.act_states.specs.declared.typings.TypingAt.TheVariants.{Load, Compare}
-use Rattle.call_stages.specs.act_states.specs.Typings.{meets_frame, meets_word, typed_if, took_typing_at, typing_left}
-use Rattle.call_stages.specs.spk_nums.specs.declared.kinds.Obj.{Obj}
-use Rattle.call_stages.specs.spk_nums.specs.declared.kinds.Obj.TheVariants.{Blank}
-use Rattle.call_stages.specs.act_states.specs.declared.makings.Making.{Making}
-use Rattle.call_stages.specs.act_states.specs.declared.makings.MakingAt.{MakingAt}
-use Rattle.call_stages.specs.act_states.specs.declared.makings.MakingAt.TheVariants.{Load as make_load, Mark, Store, Fill as fill_at}
-use Rattle.call_stages.specs.act_states.specs.Objects.{counts_of, last_word}
-use Rattle.call_stages.specs.act_states.specs.Makings.{MakingFits, making_left, undo_at}
-use Rattle.call_stages.specs.frame_words.specs.Comp.{comp_of_word}
-use Rattle.call_stages.specs.frame_words.specs.declared.comp_word.CompWord.{CompWord}
-use Rattle.call_stages.specs.Tails.{tail_left, took_tail, tail_counts}
-use Rattle.call_stages.specs.Fits.{TailFits, WorkFits, StageFits, HasRoom, CountsWait}
-use Rattle.call_stages.specs.Fits.{CountsAt, names_left, steps_later}
-use Rattle.call_stages.specs.Fits.{IsFirst, left_of_alive, left_of_look, left_of_pin, work_left, left_at, left_of, IsActive, IsOwn}
-use Rattle.call_stages.specs.act_states.specs.Scans.{ScanFits, left_of_scan}
+use Rattle.act_fits.specs.tcap_words.specs.Head.{word_of_head, head_of_word}
+use Rattle.act_fits.specs.tcap_words.specs.declared.head_word.HeadWord.{HeadWord}
+use Rattle.act_fits.specs.spk_nums.specs.declared.kinds.FrameKind.TheVariants as frame_kind
+use Rattle.act_fits.specs.frame_words.specs.Frame.{frame_of_word}
+use Rattle.act_fits.specs.frame_words.specs.declared.frame_word.FrameWord.{FrameWord}
+use Rattle.act_fits.specs.act_states.specs.declared.typings.Typing.{Typing}
+use Rattle.act_fits.specs.act_states.specs.declared.typings.TypingAt.{TypingAt}
+use Rattle.act_fits.specs.act_states.specs.declared.typings.TypingAt.TheVariants.{Load, Compare}
+use Rattle.act_fits.specs.act_states.specs.Typings.{meets_frame, meets_word, typed_if, took_typing_at, typing_left}
+use Rattle.act_fits.specs.spk_nums.specs.declared.kinds.Obj.{Obj}
+use Rattle.act_fits.specs.spk_nums.specs.declared.kinds.Obj.TheVariants.{Blank}
+use Rattle.act_fits.specs.act_states.specs.declared.makings.Making.{Making}
+use Rattle.act_fits.specs.act_states.specs.declared.makings.MakingAt.{MakingAt}
+use Rattle.act_fits.specs.act_states.specs.declared.makings.MakingAt.TheVariants.{Load as make_load, Mark, Store, Fill as fill_at}
+use Rattle.act_fits.specs.act_states.specs.Objects.{counts_of, last_word}
+use Rattle.act_fits.specs.act_states.specs.Makings.{MakingFits, making_left, undo_at}
+use Rattle.act_fits.specs.frame_words.specs.Comp.{comp_of_word}
+use Rattle.act_fits.specs.frame_words.specs.declared.comp_word.CompWord.{CompWord}
+use Rattle.act_fits.specs.call_stages.specs.Tails.{tail_left, took_tail, tail_counts}
+use Rattle.act_fits.specs.call_stages.specs.Fits.{TailFits, WorkFits, StageFits, HasRoom, CountsWait}
+use Rattle.act_fits.specs.call_stages.specs.Fits.{CountsAt, names_left, steps_later}
+use Rattle.act_fits.specs.call_stages.specs.Fits.{IsFirst, left_of_alive, left_of_look, left_of_pin, work_left, left_at, left_of}
+use Rattle.act_fits.specs.call_stages.specs.Fits.{IsActive, IsOwn}
+use Rattle.act_fits.specs.act_states.specs.Scans.{ScanFits, left_of_scan}
 use Rattle.act_fits.proofs.StepsFit.{starts_fit}
 use Rattle.act_fits.proofs.DuesFit.{StepFits, few_dues, object_count, work_next, counts_next, ChangeFits}
-use Rattle.call_stages.specs.act_states.specs.declared.work.Act.{Act as ActType}
-use Rattle.call_stages.specs.act_states.specs.declared.work.Act.TheVariants.{Fill as fill_act, Remove as remove_act, Retype as type_act}
-use Rattle.call_stages.specs.act_states.specs.declared.work.Act.TheVariants.{Make as make_act, Outside, Tick as tick_act}
-use Rattle.call_stages.specs.act_states.specs.declared.work.Act.TheVariants.{Flush as flush_act}
-use Rattle.call_stages.specs.act_states.specs.declared.work.Act.TheVariants.{Kill as kill_act, Untype as untype_act, Map as map_act}
-use Rattle.call_stages.specs.act_states.specs.declared.work.Act.TheVariants.{MakeComp as comp_act, Invoke as invoke_act}
-use Rattle.call_stages.specs.act_states.specs.declared.work.Act.TheVariants.{Return as return_act}
-use Rattle.call_stages.specs.act_states.specs.declared.work.Act.TheVariants.{Switch as switch_act, Touch as touch_act, Share as share_act}
-use Rattle.call_stages.specs.act_states.specs.declared.work.Tail.{Tail}
-use Rattle.call_stages.specs.act_states.specs.declared.work.Tail.TheVariants.{Nothing, Quiesce, Unmark, StoreDead, StoreFlush, Release}
-use Rattle.call_stages.specs.act_states.specs.declared.work.Tail.TheVariants.{StoreLive, Push, Pop, StoreRunning, StoreIdle, Share}
-use Rattle.call_stages.specs.declared.stages.Stage.{Stage}
-use Rattle.call_stages.specs.declared.stages.Stage.TheVariants.{Enter, Living, Undecided, Decided, Leave}
-use Rattle.call_stages.specs.frame_words.specs.Live.{live_of_word}
-use Rattle.call_stages.specs.frame_words.specs.declared.live_word.LiveWord.{LiveWord}
-use Rattle.call_stages.specs.frame_words.specs.declared.live_word.LiveWord.TheVariants as live_word
-use Rattle.call_stages.specs.stage_thread.specs.Living.{AliveFits, lives_end, number_end, live_end, comp_end, comp_after, alive_end}
-use Rattle.call_stages.specs.stage_thread.specs.Living.{alive_after}
-use Rattle.call_stages.specs.stage_thread.specs.declared.alive.Alive.{Alive}
-use Rattle.call_stages.specs.stage_thread.specs.declared.alive.Alive.TheVariants.{AtComp, AtLive}
-use Rattle.call_stages.specs.stage_thread.proofs.ThreadLemmas.{alive_after_fits}
-use Rattle.call_stages.specs.declared.stages.ActiveCall.{ActiveCall}
-use Rattle.call_stages.specs.act_states.specs.declared.work.Work.{Work}
-use Rattle.call_stages.specs.act_states.specs.declared.work.Work.TheVariants.{Lookup, Read, Scan, Acquire, Act}
-use Rattle.call_stages.specs.act_states.specs.declared.work.WorkStep.TheVariants.{Goes, Acquires, Refuses, Answers, Changes as work_changes}
-use Rattle.call_stages.specs.act_states.specs.Refusals.{refusal_of}
-use Rattle.call_stages.specs.act_states.specs.Fills.{filled_if}
-use Rattle.call_stages.specs.act_states.specs.WorkSteps.{refuse}
-use Rattle.call_stages.specs.act_states.specs.Acts.{ActFits, close_left, act_left, took_close, maps_frame, maps_word, took_act}
-use Rattle.call_stages.specs.act_states.specs.Acts.{dues, next_work, cap_dues, starts, undo, made_dues, meets_object}
-use Rattle.call_stages.specs.act_states.specs.Acts.{meets_blank, meets_making, marks_if, published, took_making_at}
-use Rattle.call_stages.specs.Steps.{GoesOn, landed, took_first, took_enter, took_alive, read_more, took_read}
-use Rattle.call_stages.specs.Steps.{took_look, took_scan, took_count, took_work, went_with, is_spent, took_at, took}
+use Rattle.act_fits.specs.act_states.specs.declared.work.Act.{Act as ActType}
+use Rattle.act_fits.specs.act_states.specs.declared.work.Act.TheVariants.{Fill as fill_act, Remove as remove_act, Retype as type_act}
+use Rattle.act_fits.specs.act_states.specs.declared.work.Act.TheVariants.{Make as make_act, Outside, Tick as tick_act}
+use Rattle.act_fits.specs.act_states.specs.declared.work.Act.TheVariants.{Flush as flush_act}
+use Rattle.act_fits.specs.act_states.specs.declared.work.Act.TheVariants.{Kill as kill_act, Untype as untype_act, Map as map_act}
+use Rattle.act_fits.specs.act_states.specs.declared.work.Act.TheVariants.{MakeComp as comp_act, Invoke as invoke_act}
+use Rattle.act_fits.specs.act_states.specs.declared.work.Act.TheVariants.{Return as return_act}
+use Rattle.act_fits.specs.act_states.specs.declared.work.Act.TheVariants.{Switch as switch_act, Touch as touch_act, Share as share_act}
+use Rattle.act_fits.specs.act_states.specs.declared.work.Tail.{Tail}
+use Rattle.act_fits.specs.act_states.specs.declared.work.Tail.TheVariants.{Nothing, Quiesce, Unmark, StoreDead, StoreFlush, Release}
+use Rattle.act_fits.specs.act_states.specs.declared.work.Tail.TheVariants.{StoreLive, Push, Pop, StoreRunning, StoreIdle, Share}
+use Rattle.act_fits.specs.call_stages.specs.declared.stages.Stage.{Stage}
+use Rattle.act_fits.specs.call_stages.specs.declared.stages.Stage.TheVariants.{Enter, Living, Undecided, Decided, Leave}
+use Rattle.act_fits.specs.frame_words.specs.Live.{live_of_word}
+use Rattle.act_fits.specs.frame_words.specs.declared.live_word.LiveWord.{LiveWord}
+use Rattle.act_fits.specs.frame_words.specs.declared.live_word.LiveWord.TheVariants as live_word
+use Rattle.act_fits.specs.stage_thread.specs.Living.{AliveFits, lives_end, number_end, live_end, comp_end, comp_after, alive_end}
+use Rattle.act_fits.specs.stage_thread.specs.Living.{alive_after}
+use Rattle.act_fits.specs.stage_thread.specs.declared.alive.Alive.{Alive}
+use Rattle.act_fits.specs.stage_thread.specs.declared.alive.Alive.TheVariants.{AtComp, AtLive}
+use Rattle.act_fits.specs.stage_thread.proofs.ThreadLemmas.{alive_after_fits}
+use Rattle.act_fits.specs.call_stages.specs.declared.stages.ActiveCall.{ActiveCall}
+use Rattle.act_fits.specs.act_states.specs.declared.work.Work.{Work}
+use Rattle.act_fits.specs.act_states.specs.declared.work.Work.TheVariants.{Lookup, Read, Scan, Acquire, Act}
+use Rattle.act_fits.specs.act_states.specs.declared.work.WorkStep.TheVariants.{Goes, Acquires, Refuses, Answers, Changes as work_changes}
+use Rattle.act_fits.specs.act_states.specs.Refusals.{refusal_of}
+use Rattle.act_fits.specs.act_states.specs.Fills.{filled_if}
+use Rattle.act_fits.specs.act_states.specs.WorkSteps.{refuse}
+use Rattle.act_fits.specs.act_states.specs.Acts.{ActFits, close_left, act_left, took_close, maps_frame, maps_word, took_act}
+use Rattle.act_fits.specs.act_states.specs.Acts.{dues, next_work, cap_dues, starts, undo, made_dues, meets_object}
+use Rattle.act_fits.specs.act_states.specs.Acts.{meets_blank, meets_making, marks_if, published, took_making_at}
+use Rattle.act_fits.specs.call_stages.specs.Steps.{GoesOn, landed, took_first, took_enter, took_alive, read_more, took_read}
+use Rattle.act_fits.specs.call_stages.specs.Steps.{took_look, took_scan, took_count, took_work, went_with, is_spent, took_at, took}
 use Rattle.act_fits.proofs.LandsFit.{TookFits, Facts, next_fits, landed_fits}
 use Rattle.act_fits.proofs.ScansFit.{scan_goes, scan_left}
 use Rattle.act_fits.proofs.KillsFit.{kill_fits}

@@ -1,12 +1,12 @@
 -- Where a step takes a call, and what is told of it.
 use Rattle.std.proofs.Common.{◌≡◌, ℕ, refl}
-use Rattle.call_stages.specs.spk_nums.specs.declared.replies.Reply.{Reply}
-use Rattle.call_stages.specs.act_states.specs.declared.own.OwnChange.{OwnChange}
-use Rattle.call_stages.specs.declared.stages.ActiveCall.{ActiveCall}
-use Rattle.call_stages.specs.act_states.specs.declared.work.WorkStep.{WorkStep}
-use Rattle.call_stages.specs.act_states.specs.declared.work.WorkStep.TheVariants.{Goes, Acquires, Refuses, Answers, Changes as work_changes}
-use Rattle.call_stages.specs.declared.stages.Told.TheVariants as told_as
-use Rattle.call_stages.specs.Steps.{Took, GoesOn, Decides, Returns, Changes, landed, told, call_after}
+use Rattle.act_fits.specs.spk_nums.specs.declared.replies.Reply.{Reply}
+use Rattle.act_fits.specs.act_states.specs.declared.own.OwnChange.{OwnChange}
+use Rattle.act_fits.specs.call_stages.specs.declared.stages.ActiveCall.{ActiveCall}
+use Rattle.act_fits.specs.act_states.specs.declared.work.WorkStep.{WorkStep}
+use Rattle.act_fits.specs.act_states.specs.declared.work.WorkStep.TheVariants.{Goes, Acquires, Refuses, Answers, Changes as work_changes}
+use Rattle.act_fits.specs.call_stages.specs.declared.stages.Told.TheVariants as told_as
+use Rattle.act_fits.specs.call_stages.specs.Steps.{Took, GoesOn, Decides, Returns, Changes, landed, told, call_after}
 
 -- no step of the work returns
 pub same_call : (old a : ActiveCall) (step : WorkStep) → call_after a (landed a step) ≡ call_after old (landed a step)

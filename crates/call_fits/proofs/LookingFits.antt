@@ -2,49 +2,49 @@
 use Rattle.std.proofs.Common.{◌≡◌, ℕ, suc, if◌then◌else◌, ◌+◌, ◌%◌}
 use Rattle.std.proofs.Common.{◌<◌, ◌≤◌, Bool, true, false, List, [], ◌∷◌, length}
 use Rattle.std.proofs.Common.{Option, Some, None, IfSome, refl, sym, ◌∙◌, ap, subst, arith}
-use Rattle.call_stages.specs.stage_pins.specs.declared.held.Acquired.{Acquired}
-use Rattle.call_stages.specs.spk_nums.specs.Capability.{Capability}
-use Rattle.call_stages.specs.spk_nums.specs.Rights.{has_rights}
-use Rattle.call_stages.specs.spk_nums.specs.declared.replies.Reply.TheVariants as reply
-use Rattle.call_stages.specs.entry_words.specs.declared.entry.Entry.{Entry}
-use Rattle.call_stages.specs.entry_words.specs.declared.entry.Entry.TheVariants as entry
-use Rattle.call_stages.specs.stage_look.specs.Shown.{CapNames, EntryNames, is_link}
-use Rattle.call_stages.specs.stage_look.specs.Lookup.{LookFits, end_by_link, place_end, after_link, FoundFits as PlaceFits}
-use Rattle.call_stages.specs.stage_look.specs.declared.look.Look.{Look}
-use Rattle.call_stages.specs.stage_look.specs.declared.look.Look.TheVariants.{AtRoot, AtLeaf, AtEntry}
-use Rattle.call_stages.specs.stage_look.proofs.LookLemmas.{leaf_below}
-use Rattle.call_stages.specs.stage_look.specs.declared.look.Found.{Found}
-use Rattle.call_stages.specs.call_plans.specs.declared.plans.Nth.TheVariants.{First}
-use Rattle.call_stages.specs.call_plans.specs.declared.plans.Name.{Name}
-use Rattle.call_stages.specs.call_plans.specs.declared.plans.Target.{Target}
-use Rattle.call_stages.specs.call_plans.specs.declared.plans.Target.TheVariants.{Nowhere, Free, Held, Own as own_page}
-use Rattle.call_stages.specs.call_plans.specs.declared.plans.Plan.{Plan}
-use Rattle.call_stages.specs.call_plans.specs.Plans.{at_place, pushed}
-use Rattle.call_stages.specs.call_plans.specs.GoesBy.{want_of, wants}
-use Rattle.call_stages.specs.call_plans.specs.After.{with_found, names_after, next_in}
-use Rattle.call_stages.specs.call_plans.specs.Bounds.{look_steps, act_steps}
-use Rattle.call_stages.specs.call_plans.proofs.Roots.{count_led, after_more, pushed_one}
-use Rattle.call_stages.specs.call_plans.proofs.FewNames.{few_names}
-use Rattle.call_stages.specs.call_plans.proofs.AfterNames.{NextBy, one_more}
-use Rattle.call_stages.specs.act_states.specs.declared.refusals.Refusal.{Refusal}
-use Rattle.call_stages.specs.act_states.specs.declared.refusals.Refusal.TheVariants as refusal
-use Rattle.call_stages.specs.act_states.specs.declared.own.Own.{Own}
-use Rattle.call_stages.specs.act_states.specs.declared.lookups.Met.TheVariants.{Finds, Refused}
-use Rattle.call_stages.specs.Fits.{IsWanted, FoundFits}
-use Rattle.call_stages.specs.Fits.{looks_later, after_reading, acts_later, names_left, steps_later}
-use Rattle.call_stages.specs.Fits.{left_of_look}
+use Rattle.act_fits.specs.stage_pins.specs.declared.held.Acquired.{Acquired}
+use Rattle.act_fits.specs.spk_nums.specs.Capability.{Capability}
+use Rattle.act_fits.specs.spk_nums.specs.Rights.{has_rights}
+use Rattle.act_fits.specs.spk_nums.specs.declared.replies.Reply.TheVariants as reply
+use Rattle.act_fits.specs.entry_words.specs.declared.entry.Entry.{Entry}
+use Rattle.act_fits.specs.entry_words.specs.declared.entry.Entry.TheVariants as entry
+use Rattle.act_fits.specs.stage_look.specs.Shown.{CapNames, EntryNames, is_link}
+use Rattle.act_fits.specs.stage_look.specs.Lookup.{LookFits, end_by_link, place_end, after_link, FoundFits as PlaceFits}
+use Rattle.act_fits.specs.stage_look.specs.declared.look.Look.{Look}
+use Rattle.act_fits.specs.stage_look.specs.declared.look.Look.TheVariants.{AtRoot, AtLeaf, AtEntry}
+use Rattle.act_fits.specs.stage_look.proofs.LookLemmas.{leaf_below}
+use Rattle.act_fits.specs.stage_look.specs.declared.look.Found.{Found}
+use Rattle.act_fits.specs.call_plans.specs.declared.plans.Nth.TheVariants.{First}
+use Rattle.act_fits.specs.call_plans.specs.declared.plans.Name.{Name}
+use Rattle.act_fits.specs.call_plans.specs.declared.plans.Target.{Target}
+use Rattle.act_fits.specs.call_plans.specs.declared.plans.Target.TheVariants.{Nowhere, Free, Held, Own as own_page}
+use Rattle.act_fits.specs.call_plans.specs.declared.plans.Plan.{Plan}
+use Rattle.act_fits.specs.call_plans.specs.Plans.{at_place, pushed}
+use Rattle.act_fits.specs.call_plans.specs.GoesBy.{want_of, wants}
+use Rattle.act_fits.specs.call_plans.specs.After.{with_found, names_after, next_in}
+use Rattle.act_fits.specs.call_plans.specs.Bounds.{look_steps, act_steps}
+use Rattle.act_fits.specs.call_plans.proofs.Roots.{count_led, after_more, pushed_one}
+use Rattle.act_fits.specs.call_plans.proofs.FewNames.{few_names}
+use Rattle.act_fits.specs.call_plans.proofs.AfterNames.{NextBy, one_more}
+use Rattle.act_fits.specs.act_states.specs.declared.refusals.Refusal.{Refusal}
+use Rattle.act_fits.specs.act_states.specs.declared.refusals.Refusal.TheVariants as refusal
+use Rattle.act_fits.specs.act_states.specs.declared.own.Own.{Own}
+use Rattle.act_fits.specs.act_states.specs.declared.lookups.Met.TheVariants.{Finds, Refused}
+use Rattle.act_fits.specs.call_stages.specs.Fits.{IsWanted, FoundFits}
+use Rattle.act_fits.specs.call_stages.specs.Fits.{looks_later, after_reading, acts_later, names_left, steps_later}
+use Rattle.act_fits.specs.call_stages.specs.Fits.{left_of_look}
 use Rattle.act_fits.proofs.StepsFit.{first_named, act_fits}
 use Rattle.act_fits.proofs.DuesFit.{StepFits}
-use Rattle.call_stages.specs.declared.stages.ActiveCall.{ActiveCall}
-use Rattle.call_stages.specs.act_states.specs.declared.work.Work.TheVariants.{Lookup}
-use Rattle.call_stages.specs.act_states.specs.declared.work.WorkStep.{WorkStep}
-use Rattle.call_stages.specs.act_states.specs.declared.work.WorkStep.TheVariants.{Goes}
-use Rattle.call_stages.specs.act_states.specs.Refusals.{refusal_of}
-use Rattle.call_stages.specs.act_states.specs.WorkSteps.{refuse}
-use Rattle.call_stages.specs.act_states.specs.Acts.{act_begun}
-use Rattle.call_stages.specs.act_states.specs.Lookups.{met_right, met_name, met_free, met_held}
-use Rattle.call_stages.specs.Steps.{landed, found_more, next_by, named_one, took_found}
-use Rattle.call_stages.specs.Steps.{took_end, took_look}
+use Rattle.act_fits.specs.call_stages.specs.declared.stages.ActiveCall.{ActiveCall}
+use Rattle.act_fits.specs.act_states.specs.declared.work.Work.TheVariants.{Lookup}
+use Rattle.act_fits.specs.act_states.specs.declared.work.WorkStep.{WorkStep}
+use Rattle.act_fits.specs.act_states.specs.declared.work.WorkStep.TheVariants.{Goes}
+use Rattle.act_fits.specs.act_states.specs.Refusals.{refusal_of}
+use Rattle.act_fits.specs.act_states.specs.WorkSteps.{refuse}
+use Rattle.act_fits.specs.act_states.specs.Acts.{act_begun}
+use Rattle.act_fits.specs.act_states.specs.Lookups.{met_right, met_name, met_free, met_held}
+use Rattle.act_fits.specs.call_stages.specs.Steps.{landed, found_more, next_by, named_one, took_found}
+use Rattle.act_fits.specs.call_stages.specs.Steps.{took_end, took_look}
 use Rattle.act_fits.proofs.LandsFit.{TookFits, Facts, names_object, next_fits, landed_fits}
 
 module _ (own : Own) (a : ActiveCall) (facts : Facts own a) (none : a.counts ≡ []) (room : own.made < own.limit) where

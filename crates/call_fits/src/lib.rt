@@ -10,3 +10,5 @@
 //!
 //! See docs/PROOF.md, 'The invariant of the step machine'.
 #![tactic(auto)]
+
+pub use act_fits::call_stages;

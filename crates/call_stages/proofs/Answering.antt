@@ -1,5 +1,5 @@
 -- What a step of the work of a call decides.
-use Rattle.kernel_rules.specs.Laws.{IsRefusal}
+use Rattle.act_states.specs.kernel_rules.specs.Laws.{IsRefusal}
 use Rattle.act_states.specs.declared.work.WorkStep.{WorkStep}
 use Rattle.act_states.specs.declared.work.WorkStep.TheVariants.{Goes, Acquires, Refuses as refuses_to, Answers, Changes as work_changes}
 

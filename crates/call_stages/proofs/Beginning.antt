@@ -1,9 +1,9 @@
 -- What an act answers where it begins: nothing, but of a call that is decided where its last name is found.
-use Rattle.stage_quiet.specs.declared.quiet.Quiet.{Quiet}
-use Rattle.stage_quiet.specs.Scan.{quiet_scan}
+use Rattle.act_states.specs.stage_quiet.specs.declared.quiet.Quiet.{Quiet}
+use Rattle.act_states.specs.stage_quiet.specs.Scan.{quiet_scan}
 use Rattle.std.proofs.Common.{◌≡◌, ℕ, nat_lt, Bool, true, false, List, Option}
 use Rattle.std.proofs.Common.{Some, None, nat_le}
-use Rattle.call_plans.specs.Plans.{at_place}
+use Rattle.act_states.specs.call_plans.specs.Plans.{at_place}
 use Rattle.spk_nums.specs.Capability.{Capability}
 use Rattle.spk_nums.specs.declared.kinds.PageFlags.{PageFlags}
 use Rattle.spk_nums.specs.declared.kinds.FrameKind.{FrameKind}
@@ -13,11 +13,11 @@ use Rattle.spk_nums.specs.declared.calls.Call.{Call}
 use Rattle.spk_nums.specs.declared.calls.Call.TheVariants.{Look as look_call, Copy, Remove, Shrink, Unmap, Retype}
 use Rattle.spk_nums.specs.declared.calls.Call.TheVariants.{Make as make_call, Gate, Kill, Grow, Map}
 use Rattle.spk_nums.specs.declared.calls.Call.TheVariants.{Call as call_gate, Ret, Switch, Transfer, Delegate, Test}
-use Rattle.entry_words.specs.declared.entry.Entry.{Entry}
-use Rattle.entry_words.specs.declared.entry.Entry.TheVariants as entry
-use Rattle.kernel_rules.specs.Access.{found, Target as place, Under, InRoot}
-use Rattle.stage_look.specs.declared.look.Found.{Found}
-use Rattle.call_plans.specs.PlanOf.{plan_for}
+use Rattle.act_states.specs.entry_words.specs.declared.entry.Entry.{Entry}
+use Rattle.act_states.specs.entry_words.specs.declared.entry.Entry.TheVariants as entry
+use Rattle.act_states.specs.kernel_rules.specs.Access.{found, Target as place, Under, InRoot}
+use Rattle.act_states.specs.stage_look.specs.declared.look.Found.{Found}
+use Rattle.act_states.specs.call_plans.specs.PlanOf.{plan_for}
 use Rattle.act_states.specs.declared.own.Own.{Own}
 use Rattle.std.specs.Prelude.{nat_le}
 use Rattle.act_states.specs.declared.objects.NewObject.{NewObject}
@@ -34,12 +34,12 @@ use Rattle.act_states.specs.Acts.{kills_in, kills_at}
 use Rattle.act_states.specs.Acts.{maps_if, maps_at, comps_at, made_begun, invokes_if}
 use Rattle.act_states.specs.Acts.{invokes_in, invokes_at, returns_if}
 use Rattle.act_states.specs.Acts.{switches_at}
-use Rattle.call_plans.specs.declared.plans.Nth.TheVariants.{First, Second, Third, Fourth}
+use Rattle.act_states.specs.call_plans.specs.declared.plans.Nth.TheVariants.{First, Second, Third, Fourth}
 use Rattle.spk_nums.specs.declared.kinds.Kind.{Kind}
 use Rattle.spk_nums.specs.declared.kinds.Kind.TheVariants as kind
 use Rattle.act_states.specs.Lookups.{looks_under, looks_entry, looks_at}
 use Rattle.call_stages.specs.Steps.{decides_at_name}
-use Rattle.stage_tcap.specs.declared.pair.PairWork.TheVariants as share
+use Rattle.act_states.specs.stage_tcap.specs.declared.pair.PairWork.TheVariants as share
 use Rattle.call_stages.proofs.Answering.{NoAnswer}
 use Rattle.call_stages.proofs.ShareDecisions.{shares_no}
 

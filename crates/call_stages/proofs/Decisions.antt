@@ -1,14 +1,14 @@
 -- When a call is decided, and what a step of it may decide.
-use Rattle.stage_quiet.specs.declared.close.Close.TheVariants.{AtCompare, AtDraw, AtStore}
-use Rattle.stage_quiet.specs.declared.quiet.Quiet.{Quiet}
-use Rattle.stage_quiet.specs.Scan.{quiet_after, quiet_end}
-use Rattle.stage_pins.specs.declared.pin.Pin.{Pin}
-use Rattle.stage_pins.specs.declared.pin.Pinned.{Pinned}
-use Rattle.stage_pins.specs.declared.held.Acquired.{Acquired}
-use Rattle.stage_pins.specs.Acquire.{pin_after, pin_end}
+use Rattle.act_states.specs.stage_quiet.specs.declared.close.Close.TheVariants.{AtCompare, AtDraw, AtStore}
+use Rattle.act_states.specs.stage_quiet.specs.declared.quiet.Quiet.{Quiet}
+use Rattle.act_states.specs.stage_quiet.specs.Scan.{quiet_after, quiet_end}
+use Rattle.act_states.specs.stage_pins.specs.declared.pin.Pin.{Pin}
+use Rattle.act_states.specs.stage_pins.specs.declared.pin.Pinned.{Pinned}
+use Rattle.act_states.specs.stage_pins.specs.declared.held.Acquired.{Acquired}
+use Rattle.act_states.specs.stage_pins.specs.Acquire.{pin_after, pin_end}
 use Rattle.std.proofs.Common.{◌≡◌, ℕ, ℤ, ◌+◌, ◌==◌, ◌&&◌, Bool, true, false, List, [], ◌∷◌, length, Option}
 use Rattle.std.proofs.Common.{Some, None, refl, sym, ◌∙◌, ap, subst, arith, eqb-true, nat_le, ◌||◌}
-use Rattle.call_plans.specs.Plans.{pushed}
+use Rattle.act_states.specs.call_plans.specs.Plans.{pushed}
 use Rattle.spk_nums.specs.Capability.{Capability}
 use Rattle.spk_nums.specs.Rights.{neither}
 use Rattle.spk_nums.specs.declared.kinds.FrameKind.{FrameKind}
@@ -20,29 +20,29 @@ use Rattle.spk_nums.specs.declared.calls.Call.TheVariants.{Look as look_call, Co
 use Rattle.spk_nums.specs.declared.calls.Call.TheVariants.{Make as make_call, Tick, Gate, Kill, Grow, Flush, Map}
 use Rattle.spk_nums.specs.declared.calls.Call.TheVariants.{Call as call_gate, Ret, Switch, Transfer, Delegate, Test}
 use Rattle.spk_nums.specs.declared.replies.Reply.{Reply}
-use Rattle.entry_words.specs.declared.entry.Entry.{Entry}
-use Rattle.entry_words.specs.declared.entry.Entry.TheVariants as entry
-use Rattle.kernel_rules.specs.Access.{found}
-use Rattle.stage_look.specs.Shown.{shown_in, is_link}
-use Rattle.stage_look.specs.Lookup.{look_end, look_after, end_by_link, root_end, place_end}
-use Rattle.stage_look.specs.declared.look.Look.{Look}
-use Rattle.stage_look.specs.declared.look.Look.TheVariants.{AtRoot, AtLeaf, AtEntry}
-use Rattle.stage_look.specs.declared.look.Found.{Found}
+use Rattle.act_states.specs.entry_words.specs.declared.entry.Entry.{Entry}
+use Rattle.act_states.specs.entry_words.specs.declared.entry.Entry.TheVariants as entry
+use Rattle.act_states.specs.kernel_rules.specs.Access.{found}
+use Rattle.act_states.specs.stage_look.specs.Shown.{shown_in, is_link}
+use Rattle.act_states.specs.stage_look.specs.Lookup.{look_end, look_after, end_by_link, root_end, place_end}
+use Rattle.act_states.specs.stage_look.specs.declared.look.Look.{Look}
+use Rattle.act_states.specs.stage_look.specs.declared.look.Look.TheVariants.{AtRoot, AtLeaf, AtEntry}
+use Rattle.act_states.specs.stage_look.specs.declared.look.Found.{Found}
 use Rattle.spk_nums.specs.declared.steps.StageEnd.{StageEnd}
 use Rattle.spk_nums.specs.declared.steps.StageEnd.TheVariants as ends
-use Rattle.call_plans.specs.declared.plans.Name.{Name}
-use Rattle.call_plans.specs.declared.plans.Target.{Target}
-use Rattle.call_plans.specs.declared.plans.Target.TheVariants.{Nowhere}
-use Rattle.call_plans.specs.declared.plans.Plan.{Plan}
-use Rattle.call_plans.specs.PlanOf.{any_cap, plan_of_retype, plan_of_make, plan_for}
+use Rattle.act_states.specs.call_plans.specs.declared.plans.Name.{Name}
+use Rattle.act_states.specs.call_plans.specs.declared.plans.Target.{Target}
+use Rattle.act_states.specs.call_plans.specs.declared.plans.Target.TheVariants.{Nowhere}
+use Rattle.act_states.specs.call_plans.specs.declared.plans.Plan.{Plan}
+use Rattle.act_states.specs.call_plans.specs.PlanOf.{any_cap, plan_of_retype, plan_of_make, plan_for}
 use Rattle.act_states.specs.declared.refusals.Refusal.TheVariants as refusal
 use Rattle.act_states.specs.declared.own.Own.{Own}
 use Rattle.act_states.specs.Ticks.{took_charge, took_tick, is_charging}
-use Rattle.stage_tcap.specs.declared.charge.Charge.{Charge}
-use Rattle.stage_tcap.specs.declared.charge.Charge.TheVariants.{AtLoad as charge_load, AtCompare as charge_compare}
-use Rattle.stage_tcap.specs.Charging.{charged_end}
-use Rattle.stage_tcap.specs.Heads.{head}
-use Rattle.tcap_words.specs.Head.{word_of_head}
+use Rattle.act_states.specs.stage_tcap.specs.declared.charge.Charge.{Charge}
+use Rattle.act_states.specs.stage_tcap.specs.declared.charge.Charge.TheVariants.{AtLoad as charge_load, AtCompare as charge_compare}
+use Rattle.act_states.specs.stage_tcap.specs.Charging.{charged_end}
+use Rattle.act_states.specs.stage_tcap.specs.Heads.{head}
+use Rattle.act_states.specs.tcap_words.specs.Head.{word_of_head}
 use Rattle.std.specs.Prelude.{min, nat_le, is_some}
 use Rattle.act_states.specs.declared.lookups.Met.{Met}
 use Rattle.act_states.specs.declared.lookups.Met.TheVariants.{Finds, Refused}
@@ -60,8 +60,8 @@ use Rattle.act_states.specs.declared.work.Work.{Work}
 use Rattle.act_states.specs.declared.work.Work.TheVariants.{Lookup, Read, Scan, Acquire, Act}
 use Rattle.call_stages.specs.declared.stages.Stage.{Stage}
 use Rattle.call_stages.specs.declared.stages.Stage.TheVariants.{Enter, Living, Undecided, Decided, Leave}
-use Rattle.stage_thread.specs.Living.{alive_end, alive_after}
-use Rattle.stage_thread.specs.declared.alive.Alive.{Alive}
+use Rattle.act_states.specs.stage_thread.specs.Living.{alive_end, alive_after}
+use Rattle.act_states.specs.stage_thread.specs.declared.alive.Alive.{Alive}
 use Rattle.act_states.specs.declared.work.Tail.{Tail}
 use Rattle.act_states.specs.declared.work.Tail.TheVariants.{Nothing, Quiesce, Unmark, StoreDead, StoreFlush, Release, StoreLive}
 use Rattle.act_states.specs.declared.work.Tail.TheVariants.{Push as push_tail, Pop as pop_tail, StoreRunning, StoreIdle, Share}
@@ -81,18 +81,18 @@ use Rattle.act_states.specs.Acts.{took_invoking_at}
 use Rattle.act_states.specs.Acts.{took_returning_at, took_switching_at}
 use Rattle.act_states.specs.Comps.{comp_filling}
 use Rattle.act_states.specs.Comps.{comp_published}
-use Rattle.frame_words.specs.Live.{live_of_word}
+use Rattle.act_states.specs.frame_words.specs.Live.{live_of_word}
 use Rattle.act_states.specs.declared.comps.CompAt.{CompAt}
 use Rattle.act_states.specs.declared.comps.CompAt.TheVariants as comp_at_as
 use Rattle.act_states.specs.declared.comps.CompMaking.{CompMaking}
-use Rattle.frame_words.specs.declared.comp_word.CompWord.{CompWord}
-use Rattle.frame_words.specs.declared.live_word.LiveWord.{LiveWord}
-use Rattle.frame_words.specs.declared.live_word.LiveWord.TheVariants as live
+use Rattle.act_states.specs.frame_words.specs.declared.comp_word.CompWord.{CompWord}
+use Rattle.act_states.specs.frame_words.specs.declared.live_word.LiveWord.{LiveWord}
+use Rattle.act_states.specs.frame_words.specs.declared.live_word.LiveWord.TheVariants as live
 use Rattle.act_states.specs.declared.kills.Killing.{Killing}
 use Rattle.act_states.specs.declared.kills.KillingAt.{KillingAt}
 use Rattle.act_states.specs.declared.kills.KillingAt.TheVariants.{LoadComp, LoadLive, Close as kill_close, Draw as kill_draw}
 use Rattle.act_states.specs.Kills.{is_killing}
-use Rattle.word_map.specs.Places.{Shape}
+use Rattle.act_states.specs.word_map.specs.Places.{Shape}
 use Rattle.act_states.specs.declared.untypings.Untyping.{Untyping}
 use Rattle.act_states.specs.declared.untypings.UntypingAt.{UntypingAt}
 use Rattle.act_states.specs.declared.untypings.UntypingAt.TheVariants as untype
@@ -118,7 +118,8 @@ use Rattle.act_states.specs.declared.touches.Touching.{Touching}
 use Rattle.act_states.specs.Touches.{touches_if, touch_end, touched, is_at_page}
 use Rattle.call_stages.specs.Fits.{FoundFits, IsFirst, IsActive}
 use Rattle.call_stages.specs.Tails.{took_tail, tail_counts}
-use Rattle.call_plans.specs.After.{with_found, names_after, next_in, Next, NextName, NextFree, NextHeld, NextOwn, NextNothing, next_of}
+use Rattle.act_states.specs.call_plans.specs.After.{with_found, names_after, next_in, next_of}
+use Rattle.act_states.specs.call_plans.specs.After.{Next, NextName, NextFree, NextHeld, NextOwn, NextNothing}
 use Rattle.call_stages.specs.Steps.{GoesOn, landed, next_by, found_more, took_first, took_enter, took_alive, named_one, read_more}
 use Rattle.call_stages.specs.Steps.{took_read}
 use Rattle.call_stages.specs.Steps.{took_found, took_end, took_look, took_scan, took_count, gives_up, took_work}

@@ -4,17 +4,17 @@ use Rattle.spk_nums.specs.Capability.{Capability}
 use Rattle.spk_nums.specs.declared.replies.Reply.{Reply}
 use Rattle.spk_nums.specs.declared.replies.Reply.TheVariants as reply
 use Rattle.spk_nums.specs.declared.replies.Value.TheVariants as value
-use Rattle.tcap_words.specs.Head.{word_of_head, head_of_word}
-use Rattle.tcap_words.specs.Quality.{quality_of_word}
-use Rattle.tcap_words.specs.declared.head_word.HeadWord.{HeadWord}
-use Rattle.tcap_words.specs.declared.quality_word.QualityWord.{QualityWord}
-use Rattle.stage_tcap.specs.Charging.{end_by_mark, head_end}
-use Rattle.stage_tcap.specs.Pairs.{decided_by_mark, b_end, list_end, again_end, marked_end}
-use Rattle.stage_tcap.specs.declared.pair.Pair.{Pair}
-use Rattle.stage_tcap.specs.declared.pair.PairAt.{PairAt}
-use Rattle.stage_tcap.specs.declared.pair.PairAt.TheVariants.{LoadA, MarkA, ListA, LoadB, ListB, CompareB}
-use Rattle.stage_tcap.specs.declared.pair.PairAt.TheVariants.{AgainB, StoreList, StoreB, StoreA}
-use Rattle.stage_tcap.specs.declared.pair.PairWork.{PairWork}
+use Rattle.act_states.specs.tcap_words.specs.Head.{word_of_head, head_of_word}
+use Rattle.act_states.specs.tcap_words.specs.Quality.{quality_of_word}
+use Rattle.act_states.specs.tcap_words.specs.declared.head_word.HeadWord.{HeadWord}
+use Rattle.act_states.specs.tcap_words.specs.declared.quality_word.QualityWord.{QualityWord}
+use Rattle.act_states.specs.stage_tcap.specs.Charging.{end_by_mark, head_end}
+use Rattle.act_states.specs.stage_tcap.specs.Pairs.{decided_by_mark, b_end, list_end, again_end, marked_end}
+use Rattle.act_states.specs.stage_tcap.specs.declared.pair.Pair.{Pair}
+use Rattle.act_states.specs.stage_tcap.specs.declared.pair.PairAt.{PairAt}
+use Rattle.act_states.specs.stage_tcap.specs.declared.pair.PairAt.TheVariants.{LoadA, MarkA, ListA, LoadB, ListB, CompareB}
+use Rattle.act_states.specs.stage_tcap.specs.declared.pair.PairAt.TheVariants.{AgainB, StoreList, StoreB, StoreA}
+use Rattle.act_states.specs.stage_tcap.specs.declared.pair.PairWork.{PairWork}
 use Rattle.act_states.specs.Shares.{shared, took_shared, took_share, is_carried, is_sharing, shares_if, shares_at}
 use Rattle.call_stages.proofs.Answering.{NoAnswer, IsOver}
 

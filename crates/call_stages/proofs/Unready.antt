@@ -1,29 +1,29 @@
 -- A step of an act that is not ready answers nothing.
-use Rattle.stage_quiet.specs.declared.close.Close.{Close}
-use Rattle.stage_quiet.specs.declared.close.Close.TheVariants.{AtCompare, AtDraw, AtStore}
-use Rattle.stage_quiet.specs.declared.quiet.Quiet.{Quiet}
-use Rattle.stage_quiet.specs.Removal.{close_compared, close_end, close_after}
+use Rattle.act_states.specs.stage_quiet.specs.declared.close.Close.{Close}
+use Rattle.act_states.specs.stage_quiet.specs.declared.close.Close.TheVariants.{AtCompare, AtDraw, AtStore}
+use Rattle.act_states.specs.stage_quiet.specs.declared.quiet.Quiet.{Quiet}
+use Rattle.act_states.specs.stage_quiet.specs.Removal.{close_compared, close_end, close_after}
 use Rattle.std.proofs.Common.{◌≡◌, ℕ, ◌==◌, nat_lt, Bool, true, false, Option}
 use Rattle.std.proofs.Common.{Some, None, if◌then◌else◌, ◌||◌}
 use Rattle.spk_nums.specs.Capability.{Capability}
 use Rattle.spk_nums.specs.declared.kinds.FrameKind.{FrameKind}
 use Rattle.spk_nums.specs.declared.kinds.FrameKind.TheVariants.{Untyped, User, Kernel}
-use Rattle.entry_words.specs.declared.entry.Entry.{Entry}
-use Rattle.entry_words.specs.declared.entry.Entry.TheVariants as entry
-use Rattle.kernel_rules.specs.Access.{found}
-use Rattle.stage_look.specs.Shown.{shown_in}
-use Rattle.stage_look.specs.Lookup.{look_end, look_after, end_by_link, root_end}
-use Rattle.stage_look.specs.declared.look.Look.{Look}
-use Rattle.stage_look.specs.declared.look.Look.TheVariants.{AtRoot, AtLeaf, AtEntry}
+use Rattle.act_states.specs.entry_words.specs.declared.entry.Entry.{Entry}
+use Rattle.act_states.specs.entry_words.specs.declared.entry.Entry.TheVariants as entry
+use Rattle.act_states.specs.kernel_rules.specs.Access.{found}
+use Rattle.act_states.specs.stage_look.specs.Shown.{shown_in}
+use Rattle.act_states.specs.stage_look.specs.Lookup.{look_end, look_after, end_by_link, root_end}
+use Rattle.act_states.specs.stage_look.specs.declared.look.Look.{Look}
+use Rattle.act_states.specs.stage_look.specs.declared.look.Look.TheVariants.{AtRoot, AtLeaf, AtEntry}
 use Rattle.spk_nums.specs.declared.steps.StageEnd.{StageEnd}
 use Rattle.spk_nums.specs.declared.steps.StageEnd.TheVariants as ends
 use Rattle.act_states.specs.declared.refusals.Refusal.TheVariants as refusal
 use Rattle.act_states.specs.Ticks.{took_charge, took_tick, is_charging}
-use Rattle.stage_tcap.specs.declared.charge.Charge.{Charge}
-use Rattle.stage_tcap.specs.declared.charge.Charge.TheVariants.{AtLoad as charge_load, AtCompare as charge_compare}
-use Rattle.stage_tcap.specs.Charging.{end_by_mark, head_end}
-use Rattle.tcap_words.specs.Head.{head_of_word}
-use Rattle.tcap_words.specs.declared.head_word.HeadWord.{HeadWord}
+use Rattle.act_states.specs.stage_tcap.specs.declared.charge.Charge.{Charge}
+use Rattle.act_states.specs.stage_tcap.specs.declared.charge.Charge.TheVariants.{AtLoad as charge_load, AtCompare as charge_compare}
+use Rattle.act_states.specs.stage_tcap.specs.Charging.{end_by_mark, head_end}
+use Rattle.act_states.specs.tcap_words.specs.Head.{head_of_word}
+use Rattle.act_states.specs.tcap_words.specs.declared.head_word.HeadWord.{HeadWord}
 use Rattle.std.specs.Prelude.{is_some}
 use Rattle.spk_nums.specs.declared.kinds.Obj.{Obj}
 use Rattle.spk_nums.specs.declared.kinds.Obj.TheVariants.{Blank}
@@ -47,23 +47,23 @@ use Rattle.act_states.specs.Acts.{meets_below_table, meets_below_pages, took_ret
 use Rattle.act_states.specs.declared.fills.Fill.{Fill}
 use Rattle.act_states.specs.Comps.{comp_filling, comp_goes, comp_refuses, comp_meets, comp_meets_object, comp_meets_blank, number_met}
 use Rattle.act_states.specs.Comps.{number_shown, takes_number, scans_number, number_scanned, closes_number}
-use Rattle.frame_words.specs.Live.{live_of_word}
+use Rattle.act_states.specs.frame_words.specs.Live.{live_of_word}
 use Rattle.act_states.specs.declared.comps.CompAt.{CompAt}
 use Rattle.act_states.specs.declared.comps.CompAt.TheVariants as comp_at_as
 use Rattle.act_states.specs.declared.comps.CompMaking.{CompMaking}
 use Rattle.act_states.specs.declared.comps.LastEpoch.{LastEpoch}
-use Rattle.frame_words.specs.declared.frame_word.FrameWord.{FrameWord}
-use Rattle.frame_words.specs.declared.comp_word.CompWord.{CompWord}
-use Rattle.frame_words.specs.Comp.{comp_of_word}
-use Rattle.frame_words.specs.declared.live_word.LiveWord.{LiveWord}
-use Rattle.frame_words.specs.declared.live_word.LiveWord.TheVariants as live
+use Rattle.act_states.specs.frame_words.specs.declared.frame_word.FrameWord.{FrameWord}
+use Rattle.act_states.specs.frame_words.specs.declared.comp_word.CompWord.{CompWord}
+use Rattle.act_states.specs.frame_words.specs.Comp.{comp_of_word}
+use Rattle.act_states.specs.frame_words.specs.declared.live_word.LiveWord.{LiveWord}
+use Rattle.act_states.specs.frame_words.specs.declared.live_word.LiveWord.TheVariants as live
 use Rattle.act_states.specs.declared.kills.Killing.{Killing}
 use Rattle.act_states.specs.declared.kills.KillingAt.{KillingAt}
 use Rattle.act_states.specs.declared.kills.KillingAt.TheVariants.{LoadComp, LoadLive, Close as kill_close, Draw as kill_draw}
 use Rattle.act_states.specs.Kills.{is_killing}
-use Rattle.word_map.specs.Places.{Shape}
-use Rattle.stage_sweep.specs.declared.sweep.Sweep.{Sweep}
-use Rattle.stage_sweep.specs.declared.sweep.Swept.{Swept}
+use Rattle.act_states.specs.word_map.specs.Places.{Shape}
+use Rattle.act_states.specs.stage_sweep.specs.declared.sweep.Sweep.{Sweep}
+use Rattle.act_states.specs.stage_sweep.specs.declared.sweep.Swept.{Swept}
 use Rattle.act_states.specs.declared.untypings.Untyping.{Untyping}
 use Rattle.act_states.specs.declared.untypings.UntypingAt.{UntypingAt}
 use Rattle.act_states.specs.declared.untypings.UntypingAt.TheVariants as untype
@@ -79,9 +79,9 @@ use Rattle.act_states.specs.declared.switches.Switching.{Switching}
 use Rattle.act_states.specs.declared.switches.SwitchAt.{SwitchAt}
 use Rattle.act_states.specs.declared.switches.SwitchAt.TheVariants as switch_at
 use Rattle.act_states.specs.Switches.{is_switching, took_claim, switch_table}
-use Rattle.stage_thread.specs.Claiming.{claim_after, claim_end}
-use Rattle.stage_thread.specs.declared.claim.Claim.{Claim as ClaimOf}
-use Rattle.stage_thread.specs.declared.claim.Claimed.{Claimed}
+use Rattle.act_states.specs.stage_thread.specs.Claiming.{claim_after, claim_end}
+use Rattle.act_states.specs.stage_thread.specs.declared.claim.Claim.{Claim as ClaimOf}
+use Rattle.act_states.specs.stage_thread.specs.declared.claim.Claimed.{Claimed}
 use Rattle.act_states.specs.declared.typings.Typing.{Typing}
 use Rattle.act_states.specs.declared.typings.TypingAt.{TypingAt}
 use Rattle.act_states.specs.declared.typings.TypingAt.TheVariants.{Load, Compare as type_compare}

@@ -4,10 +4,10 @@ use Rattle.spk_nums.specs.Setting.{Setting}
 use Rattle.spk_nums.specs.declared.calls.Call.{Call}
 use Rattle.spk_nums.specs.declared.replies.Reply.{Reply}
 use Rattle.spk_nums.specs.declared.translations.CoreEnd.{CoreEnd}
-use Rattle.word_map.specs.Word.{ClockAt}
-use Rattle.word_map.specs.Moves.{Move, LoadOf}
-use Rattle.kernel_rules.specs.Laws.{calls_counted}
-use Rattle.call_plans.specs.PlanOf.{plan_for}
+use Rattle.act_states.specs.word_map.specs.Word.{ClockAt}
+use Rattle.act_states.specs.word_map.specs.Moves.{Move, LoadOf}
+use Rattle.act_states.specs.kernel_rules.specs.Laws.{calls_counted}
+use Rattle.act_states.specs.call_plans.specs.PlanOf.{plan_for}
 use Rattle.act_states.specs.declared.own.Own.{Own}
 use Rattle.act_states.specs.OwnChanges.{own_changed}
 use Rattle.call_stages.specs.declared.stages.Stage.TheVariants.{Enter}

@@ -5,19 +5,19 @@ use Rattle.spk_nums.specs.CallLimits.{InLimits}
 use Rattle.spk_nums.specs.Capability.{Capability}
 use Rattle.spk_nums.specs.declared.calls.Call.{Call}
 use Rattle.spk_nums.specs.declared.calls.Call.TheVariants.{Gate}
-use Rattle.frame_words.specs.Comp.{CompFits}
-use Rattle.kernel_rules.specs.Access.{Want}
-use Rattle.word_map.specs.Places.{Shape, IsShape}
-use Rattle.stage_look.specs.Shown.{CapNames}
-use Rattle.stage_look.specs.Lookup.{LookFits}
-use Rattle.stage_look.specs.declared.look.Look.{Look}
-use Rattle.stage_look.specs.declared.look.Look.TheVariants.{AtRoot, AtLeaf, AtEntry}
-use Rattle.call_plans.specs.declared.plans.Name.{Name}
-use Rattle.call_plans.specs.declared.plans.Target.{Target}
-use Rattle.call_plans.specs.declared.plans.Plan.{Plan}
-use Rattle.call_plans.specs.PlanOf.{plan_for}
-use Rattle.call_plans.specs.After.{Leads, names_after}
-use Rattle.call_plans.specs.Bounds.{living_steps, look_steps, act_steps}
+use Rattle.act_states.specs.frame_words.specs.Comp.{CompFits}
+use Rattle.act_states.specs.kernel_rules.specs.Access.{Want}
+use Rattle.act_states.specs.word_map.specs.Places.{Shape, IsShape}
+use Rattle.act_states.specs.stage_look.specs.Shown.{CapNames}
+use Rattle.act_states.specs.stage_look.specs.Lookup.{LookFits}
+use Rattle.act_states.specs.stage_look.specs.declared.look.Look.{Look}
+use Rattle.act_states.specs.stage_look.specs.declared.look.Look.TheVariants.{AtRoot, AtLeaf, AtEntry}
+use Rattle.act_states.specs.call_plans.specs.declared.plans.Name.{Name}
+use Rattle.act_states.specs.call_plans.specs.declared.plans.Target.{Target}
+use Rattle.act_states.specs.call_plans.specs.declared.plans.Plan.{Plan}
+use Rattle.act_states.specs.call_plans.specs.PlanOf.{plan_for}
+use Rattle.act_states.specs.call_plans.specs.After.{Leads, names_after}
+use Rattle.act_states.specs.call_plans.specs.Bounds.{living_steps, look_steps, act_steps}
 use Rattle.act_states.specs.declared.own.Own.{Own}
 use Rattle.act_states.specs.declared.work.Work.{Work}
 use Rattle.act_states.specs.declared.work.Work.TheVariants.{Lookup, Read, Scan, Acquire, Act}
@@ -29,18 +29,18 @@ use Rattle.act_states.specs.declared.work.Tail.TheVariants.{StoreLive, Push, Pop
 use Rattle.act_states.specs.Untypings.{ReleaseFits}
 use Rattle.act_states.specs.Shares.{SharedFits}
 use Rattle.call_stages.specs.declared.stages.ActiveCall.{ActiveCall}
-use Rattle.stage_quiet.specs.Scan.{QuietFits}
-use Rattle.stage_quiet.specs.Removal.{CloseFits}
-use Rattle.stage_pins.specs.declared.pin.Pin.{Pin}
-use Rattle.stage_pins.specs.declared.pin.Pin.TheVariants.{AtLoad, AtCompare}
-use Rattle.stage_pins.specs.declared.held.Acquired.{Acquired}
-use Rattle.stage_pins.specs.Acquire.{PinFits}
-use Rattle.stage_pins.specs.Held.{AllFit}
-use Rattle.stage_thread.specs.Living.{AliveFits}
-use Rattle.stage_thread.specs.declared.alive.Alive.{Alive}
-use Rattle.stage_thread.specs.declared.alive.Alive.TheVariants.{AtComp, AtLive}
-use Rattle.stage_thread.specs.Stacking.{PushFits, PopFits}
-use Rattle.tcap_words.specs.Thread.{DepthFits}
+use Rattle.act_states.specs.stage_quiet.specs.Scan.{QuietFits}
+use Rattle.act_states.specs.stage_quiet.specs.Removal.{CloseFits}
+use Rattle.act_states.specs.stage_pins.specs.declared.pin.Pin.{Pin}
+use Rattle.act_states.specs.stage_pins.specs.declared.pin.Pin.TheVariants.{AtLoad, AtCompare}
+use Rattle.act_states.specs.stage_pins.specs.declared.held.Acquired.{Acquired}
+use Rattle.act_states.specs.stage_pins.specs.Acquire.{PinFits}
+use Rattle.act_states.specs.stage_pins.specs.Held.{AllFit}
+use Rattle.act_states.specs.stage_thread.specs.Living.{AliveFits}
+use Rattle.act_states.specs.stage_thread.specs.declared.alive.Alive.{Alive}
+use Rattle.act_states.specs.stage_thread.specs.declared.alive.Alive.TheVariants.{AtComp, AtLive}
+use Rattle.act_states.specs.stage_thread.specs.Stacking.{PushFits, PopFits}
+use Rattle.act_states.specs.tcap_words.specs.Thread.{DepthFits}
 use Rattle.act_states.specs.Acts.{ActFits, act_left, dues}
 use Rattle.act_states.specs.Scans.{ScanFits, left_of_scan}
 use Rattle.call_stages.specs.Tails.{tail_left}

@@ -1,7 +1,7 @@
 -- When a call is decided, and what a step of it may decide. Each is the contract of a function of this crate.
 use Rattle.std.specs.Prelude.{◌≡◌, ℕ, true, false, Option, Some, None}
 use Rattle.spk_nums.specs.declared.replies.Reply.{Reply}
-use Rattle.kernel_rules.specs.Laws.{IsRefusal}
+use Rattle.act_states.specs.kernel_rules.specs.Laws.{IsRefusal}
 use Rattle.act_states.specs.declared.own.Own.{Own}
 use Rattle.call_stages.specs.declared.stages.Stage.{Stage}
 use Rattle.call_stages.specs.declared.stages.Stage.TheVariants.{Enter, Living, Undecided, Decided, Leave}

@@ -1,37 +1,37 @@
 -- The steps of a call: the next one, and what it takes from the word found. They depend on what the core has of its own, on
 -- where the call stands, and on the word found, and on nothing else.
 use Rattle.std.specs.Prelude.{ℕ, ℤ, ◌+◌, Bool, true, false, ◌&&◌, ◌==◌, nat_le, length, Option, Some, None, if◌then◌else◌, List}
-use Rattle.call_plans.specs.Plans.{pushed}
+use Rattle.act_states.specs.call_plans.specs.Plans.{pushed}
 use Rattle.spk_nums.specs.Capability.{Capability}
 use Rattle.spk_nums.specs.declared.replies.Reply.{Reply}
 use Rattle.spk_nums.specs.declared.replies.Reply.TheVariants.{Ok}
 use Rattle.spk_nums.specs.declared.steps.StageEnd.{StageEnd}
 use Rattle.spk_nums.specs.declared.steps.StageEnd.TheVariants as ends
-use Rattle.entry_words.specs.declared.entry.Entry.{Entry}
-use Rattle.frame_words.specs.Comp.{comp_of_word}
-use Rattle.frame_words.specs.Core.{word_of_core}
-use Rattle.frame_words.specs.declared.comp_word.CompWord.{CompWord}
-use Rattle.word_map.specs.Word.{EntryAt, CoreAt}
-use Rattle.word_map.specs.Moves.{Move, LoadOf, StoreOf}
-use Rattle.stage_look.specs.Shown.{shown_in}
-use Rattle.stage_look.specs.Lookup.{look_move, look_end, look_after}
-use Rattle.stage_look.specs.declared.look.Look.{Look}
-use Rattle.stage_look.specs.declared.look.Look.TheVariants.{AtRoot, AtLeaf, AtEntry}
-use Rattle.stage_look.specs.declared.look.Found.{Found}
-use Rattle.stage_quiet.specs.declared.quiet.Quiet.{Quiet}
-use Rattle.stage_quiet.specs.Scan.{quiet_move, quiet_end, quiet_after}
-use Rattle.stage_pins.specs.declared.pin.Pin.{Pin}
-use Rattle.stage_pins.specs.declared.pin.Pinned.{Pinned}
-use Rattle.stage_pins.specs.declared.held.Acquired.{Acquired}
-use Rattle.stage_pins.specs.Acquire.{pin_move, pin_after, pin_end}
-use Rattle.stage_pins.specs.Held.{pushed as count_pushed}
-use Rattle.stage_thread.specs.Living.{alive_move, alive_end, alive_after}
-use Rattle.stage_thread.specs.declared.alive.Alive.{Alive}
-use Rattle.stage_thread.specs.declared.alive.Alive.TheVariants.{AtComp}
-use Rattle.call_plans.specs.declared.plans.Decides.{Decides as Deciding}
-use Rattle.call_plans.specs.declared.plans.Decides.TheVariants.{LeafEntry}
-use Rattle.call_plans.specs.declared.plans.Plan.{Plan}
-use Rattle.call_plans.specs.After.{Next, NextName, NextFree, NextHeld, NextOwn, NextNothing, next_of}
+use Rattle.act_states.specs.entry_words.specs.declared.entry.Entry.{Entry}
+use Rattle.act_states.specs.frame_words.specs.Comp.{comp_of_word}
+use Rattle.act_states.specs.frame_words.specs.Core.{word_of_core}
+use Rattle.act_states.specs.frame_words.specs.declared.comp_word.CompWord.{CompWord}
+use Rattle.act_states.specs.word_map.specs.Word.{EntryAt, CoreAt}
+use Rattle.act_states.specs.word_map.specs.Moves.{Move, LoadOf, StoreOf}
+use Rattle.act_states.specs.stage_look.specs.Shown.{shown_in}
+use Rattle.act_states.specs.stage_look.specs.Lookup.{look_move, look_end, look_after}
+use Rattle.act_states.specs.stage_look.specs.declared.look.Look.{Look}
+use Rattle.act_states.specs.stage_look.specs.declared.look.Look.TheVariants.{AtRoot, AtLeaf, AtEntry}
+use Rattle.act_states.specs.stage_look.specs.declared.look.Found.{Found}
+use Rattle.act_states.specs.stage_quiet.specs.declared.quiet.Quiet.{Quiet}
+use Rattle.act_states.specs.stage_quiet.specs.Scan.{quiet_move, quiet_end, quiet_after}
+use Rattle.act_states.specs.stage_pins.specs.declared.pin.Pin.{Pin}
+use Rattle.act_states.specs.stage_pins.specs.declared.pin.Pinned.{Pinned}
+use Rattle.act_states.specs.stage_pins.specs.declared.held.Acquired.{Acquired}
+use Rattle.act_states.specs.stage_pins.specs.Acquire.{pin_move, pin_after, pin_end}
+use Rattle.act_states.specs.stage_pins.specs.Held.{pushed as count_pushed}
+use Rattle.act_states.specs.stage_thread.specs.Living.{alive_move, alive_end, alive_after}
+use Rattle.act_states.specs.stage_thread.specs.declared.alive.Alive.{Alive}
+use Rattle.act_states.specs.stage_thread.specs.declared.alive.Alive.TheVariants.{AtComp}
+use Rattle.act_states.specs.call_plans.specs.declared.plans.Decides.{Decides as Deciding}
+use Rattle.act_states.specs.call_plans.specs.declared.plans.Decides.TheVariants.{LeafEntry}
+use Rattle.act_states.specs.call_plans.specs.declared.plans.Plan.{Plan}
+use Rattle.act_states.specs.call_plans.specs.After.{Next, NextName, NextFree, NextHeld, NextOwn, NextNothing, next_of}
 use Rattle.act_states.specs.declared.refusals.Refusal.TheVariants as refusal
 use Rattle.act_states.specs.declared.own.Own.{Own}
 use Rattle.act_states.specs.declared.own.OwnChange.{OwnChange}

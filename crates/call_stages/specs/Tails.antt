@@ -2,26 +2,26 @@
 use Rattle.std.specs.Prelude.{ℕ, ◌-◌, ◌^◌, Bool, true, false, nat_lt, Option, List, [], ◌∷◌, if◌then◌else◌}
 use Rattle.spk_nums.specs.declared.replies.Reply.{Reply}
 use Rattle.spk_nums.specs.declared.replies.Reply.TheVariants.{Ok}
-use Rattle.word_map.specs.Word.{ClockAt, FrameAt, LiveAt}
-use Rattle.word_map.specs.Moves.{Move, LoadOf, StoreOf}
-use Rattle.stage_quiet.specs.Removal.{close_move}
-use Rattle.stage_quiet.specs.Flushing.{flush_move}
-use Rattle.stage_quiet.specs.declared.flush_mark.FlushMark.TheVariants.{AtStore}
-use Rattle.stage_pins.specs.declared.held.Acquired.{Acquired}
-use Rattle.stage_pins.specs.Commit.{settle_move}
-use Rattle.stage_pins.specs.Held.{commit_of, rest_of}
-use Rattle.stage_thread.specs.Stacking.{push_move, pop_move}
-use Rattle.stage_thread.specs.declared.stack.Push.{Push}
-use Rattle.stage_thread.specs.declared.stack.Push.TheVariants as push
-use Rattle.stage_thread.specs.declared.stack.Pop.{Pop}
-use Rattle.stage_thread.specs.declared.stack.Pop.TheVariants as pop
+use Rattle.act_states.specs.word_map.specs.Word.{ClockAt, FrameAt, LiveAt}
+use Rattle.act_states.specs.word_map.specs.Moves.{Move, LoadOf, StoreOf}
+use Rattle.act_states.specs.stage_quiet.specs.Removal.{close_move}
+use Rattle.act_states.specs.stage_quiet.specs.Flushing.{flush_move}
+use Rattle.act_states.specs.stage_quiet.specs.declared.flush_mark.FlushMark.TheVariants.{AtStore}
+use Rattle.act_states.specs.stage_pins.specs.declared.held.Acquired.{Acquired}
+use Rattle.act_states.specs.stage_pins.specs.Commit.{settle_move}
+use Rattle.act_states.specs.stage_pins.specs.Held.{commit_of, rest_of}
+use Rattle.act_states.specs.stage_thread.specs.Stacking.{push_move, pop_move}
+use Rattle.act_states.specs.stage_thread.specs.declared.stack.Push.{Push}
+use Rattle.act_states.specs.stage_thread.specs.declared.stack.Push.TheVariants as push
+use Rattle.act_states.specs.stage_thread.specs.declared.stack.Pop.{Pop}
+use Rattle.act_states.specs.stage_thread.specs.declared.stack.Pop.TheVariants as pop
 use Rattle.act_states.specs.Kills.{dead_move}
 use Rattle.act_states.specs.Switches.{running_move, idle_move}
 use Rattle.act_states.specs.declared.work.Tail.{Tail}
 use Rattle.act_states.specs.declared.work.Tail.TheVariants.{Nothing, Quiesce, Unmark, StoreDead, StoreFlush, Release, StoreLive}
 use Rattle.act_states.specs.declared.work.Tail.TheVariants.{Push as push_tail, Pop as pop_tail, StoreRunning, StoreIdle, Share}
 use Rattle.act_states.specs.Untypings.{release_move, release_after, release_left}
-use Rattle.stage_tcap.specs.Pairs.{pair_move}
+use Rattle.act_states.specs.stage_tcap.specs.Pairs.{pair_move}
 use Rattle.act_states.specs.Shares.{after_share, share_left}
 use Rattle.call_stages.specs.declared.stages.Stage.{Stage}
 use Rattle.call_stages.specs.declared.stages.Stage.TheVariants.{Decided, Leave}

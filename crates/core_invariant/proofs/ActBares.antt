@@ -3,34 +3,34 @@ use Rattle.std.proofs.Common.{◌≡◌, ℕ, Option, Some, None, refl, ◌∙�
 use Rattle.kernel_invariant.specs.spk_nums.specs.declared.calls.Call.{Call}
 use Rattle.kernel_history.specs.Trace.{Phase, Out, Open}
 use Rattle.kernel_history.specs.Trace as history
-use Rattle.call_stages.specs.stage_quiet.specs.declared.close.Close.TheVariants.{AtCompare as close_compare, AtDraw, AtStore}
-use Rattle.call_stages.specs.stage_sweep.specs.Freeze.{swept_of}
-use Rattle.call_stages.specs.stage_tcap.specs.declared.pair.PairAt.{PairAt}
-use Rattle.call_stages.specs.stage_tcap.specs.declared.pair.PairAt.TheVariants.{LoadA, MarkA, ListA, LoadB, ListB, CompareB}
-use Rattle.call_stages.specs.stage_tcap.specs.declared.pair.PairAt.TheVariants.{AgainB, StoreList, StoreB, StoreA}
-use Rattle.call_stages.specs.act_states.specs.Untypings.{release_of}
-use Rattle.call_stages.specs.act_states.specs.declared.comps.CompAt.{CompAt}
-use Rattle.call_stages.specs.act_states.specs.declared.comps.CompAt.TheVariants as comp_at
-use Rattle.call_stages.specs.act_states.specs.declared.kills.KillingAt.{KillingAt}
-use Rattle.call_stages.specs.act_states.specs.declared.kills.KillingAt.TheVariants.{LoadComp, LoadLive, Close as kill_close}
-use Rattle.call_stages.specs.act_states.specs.declared.kills.KillingAt.TheVariants.{Draw as kill_draw}
-use Rattle.call_stages.specs.act_states.specs.declared.makings.MakingAt.{MakingAt}
-use Rattle.call_stages.specs.act_states.specs.declared.makings.MakingAt.TheVariants.{Load as making_load, Mark, Store, Fill as making_fill}
-use Rattle.call_stages.specs.act_states.specs.declared.untypings.UntypingAt.{UntypingAt}
-use Rattle.call_stages.specs.act_states.specs.declared.untypings.UntypingAt.TheVariants as untype
-use Rattle.call_stages.specs.act_states.specs.declared.work.Act.{Act as ActOf}
-use Rattle.call_stages.specs.act_states.specs.declared.work.Act.TheVariants.{Fill as fill_act, Remove as remove_act, Retype as type_act}
-use Rattle.call_stages.specs.act_states.specs.declared.work.Act.TheVariants.{Make as make_act, Outside, Tick as tick_act}
-use Rattle.call_stages.specs.act_states.specs.declared.work.Act.TheVariants.{Flush as flush_act}
-use Rattle.call_stages.specs.act_states.specs.declared.work.Act.TheVariants.{Kill as kill_act, Untype as untype_act, Map as map_act}
-use Rattle.call_stages.specs.act_states.specs.declared.work.Act.TheVariants.{MakeComp as comp_act, Touch as touch_act, Share as share_act}
-use Rattle.call_stages.specs.act_states.specs.declared.work.Act.TheVariants.{Invoke as invoke_act, Return as return_act}
-use Rattle.call_stages.specs.act_states.specs.declared.work.Act.TheVariants.{Switch as switch_act}
-use Rattle.call_stages.specs.act_states.specs.declared.work.Work.{Work}
-use Rattle.call_stages.specs.act_states.specs.declared.work.Work.TheVariants.{Lookup, Read, Scan, Acquire, Act as act_work}
-use Rattle.call_stages.specs.declared.stages.ActiveCall.{ActiveCall}
-use Rattle.call_stages.specs.declared.stages.Stage.{Stage}
-use Rattle.call_stages.specs.declared.stages.Stage.TheVariants.{Enter, Living, Undecided, Decided, Leave}
+use Rattle.act_fits.specs.stage_quiet.specs.declared.close.Close.TheVariants.{AtCompare as close_compare, AtDraw, AtStore}
+use Rattle.act_fits.specs.stage_sweep.specs.Freeze.{swept_of}
+use Rattle.act_fits.specs.stage_tcap.specs.declared.pair.PairAt.{PairAt}
+use Rattle.act_fits.specs.stage_tcap.specs.declared.pair.PairAt.TheVariants.{LoadA, MarkA, ListA, LoadB, ListB, CompareB}
+use Rattle.act_fits.specs.stage_tcap.specs.declared.pair.PairAt.TheVariants.{AgainB, StoreList, StoreB, StoreA}
+use Rattle.act_fits.specs.act_states.specs.Untypings.{release_of}
+use Rattle.act_fits.specs.act_states.specs.declared.comps.CompAt.{CompAt}
+use Rattle.act_fits.specs.act_states.specs.declared.comps.CompAt.TheVariants as comp_at
+use Rattle.act_fits.specs.act_states.specs.declared.kills.KillingAt.{KillingAt}
+use Rattle.act_fits.specs.act_states.specs.declared.kills.KillingAt.TheVariants.{LoadComp, LoadLive, Close as kill_close}
+use Rattle.act_fits.specs.act_states.specs.declared.kills.KillingAt.TheVariants.{Draw as kill_draw}
+use Rattle.act_fits.specs.act_states.specs.declared.makings.MakingAt.{MakingAt}
+use Rattle.act_fits.specs.act_states.specs.declared.makings.MakingAt.TheVariants.{Load as making_load, Mark, Store, Fill as making_fill}
+use Rattle.act_fits.specs.act_states.specs.declared.untypings.UntypingAt.{UntypingAt}
+use Rattle.act_fits.specs.act_states.specs.declared.untypings.UntypingAt.TheVariants as untype
+use Rattle.act_fits.specs.act_states.specs.declared.work.Act.{Act as ActOf}
+use Rattle.act_fits.specs.act_states.specs.declared.work.Act.TheVariants.{Fill as fill_act, Remove as remove_act, Retype as type_act}
+use Rattle.act_fits.specs.act_states.specs.declared.work.Act.TheVariants.{Make as make_act, Outside, Tick as tick_act}
+use Rattle.act_fits.specs.act_states.specs.declared.work.Act.TheVariants.{Flush as flush_act}
+use Rattle.act_fits.specs.act_states.specs.declared.work.Act.TheVariants.{Kill as kill_act, Untype as untype_act, Map as map_act}
+use Rattle.act_fits.specs.act_states.specs.declared.work.Act.TheVariants.{MakeComp as comp_act, Touch as touch_act, Share as share_act}
+use Rattle.act_fits.specs.act_states.specs.declared.work.Act.TheVariants.{Invoke as invoke_act, Return as return_act}
+use Rattle.act_fits.specs.act_states.specs.declared.work.Act.TheVariants.{Switch as switch_act}
+use Rattle.act_fits.specs.act_states.specs.declared.work.Work.{Work}
+use Rattle.act_fits.specs.act_states.specs.declared.work.Work.TheVariants.{Lookup, Read, Scan, Acquire, Act as act_work}
+use Rattle.act_fits.specs.call_stages.specs.declared.stages.ActiveCall.{ActiveCall}
+use Rattle.act_fits.specs.call_stages.specs.declared.stages.Stage.{Stage}
+use Rattle.act_fits.specs.call_stages.specs.declared.stages.Stage.TheVariants.{Enter, Living, Undecided, Decided, Leave}
 use Rattle.core_invariant.specs.Holding.{Holding}
 use Rattle.core_invariant.specs.Frozen.{holds_untyping}
 use Rattle.core_invariant.specs.Knows.{phase_at}

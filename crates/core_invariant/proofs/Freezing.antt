@@ -5,10 +5,10 @@ use Rattle.std.proofs.lemmas.Bool.{false≢true, eq-eqb, ne_eqb, eqb-true, ltb-t
 use Rattle.kernel_history.specs.frame_words.specs.Count.{word_of_count}
 use Rattle.kernel_history.specs.word_map.specs.Word.{Word, EntryAt, FrameAt, CountAt, CoreAt, FlushAt, LiveAt, ClockAt, same_word}
 use Rattle.kernel_history.specs.word_map.proofs.WordLemmas.{same_same}
-use Rattle.call_stages.specs.stage_sweep.specs.Release.{released, thaw_of}
-use Rattle.call_stages.specs.stage_sweep.specs.declared.sweep.Swept.{Swept}
-use Rattle.call_stages.specs.stage_sweep.specs.declared.thaw.Thaw.{Thaw}
-use Rattle.call_stages.specs.act_states.specs.declared.untypings.Release.{Release}
+use Rattle.act_fits.specs.stage_sweep.specs.Release.{released, thaw_of}
+use Rattle.act_fits.specs.stage_sweep.specs.declared.sweep.Swept.{Swept}
+use Rattle.act_fits.specs.stage_sweep.specs.declared.thaw.Thaw.{Thaw}
+use Rattle.act_fits.specs.act_states.specs.declared.untypings.Release.{Release}
 use Rattle.core_invariant.specs.Frozen.{is_frozen, thawed, holds_thaw, holds_release}
 use Rattle.core_invariant.specs.Holding.{Holding}
 use Rattle.core_invariant.specs.Sweeps.{ThawsFrame}

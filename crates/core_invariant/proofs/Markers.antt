@@ -9,10 +9,10 @@ use Rattle.kernel_history.specs.Marking.{marked_by}
 use Rattle.kernel_history.specs.Trace.{Trace, Phase, Out, phase, state_after}
 use Rattle.kernel_history.specs.Stamps.{is_in}
 use Rattle.kernel_history.proofs.Inside.{inside_is}
-use Rattle.call_stages.specs.declared.stages.Stage.{Stage}
-use Rattle.call_stages.specs.declared.stages.Stage.TheVariants.{Enter, Living, Undecided, Decided, Leave}
-use Rattle.call_stages.specs.declared.stages.ActiveCall.{ActiveCall}
-use Rattle.call_stages.specs.View.{Core}
+use Rattle.act_fits.specs.call_stages.specs.declared.stages.Stage.{Stage}
+use Rattle.act_fits.specs.call_stages.specs.declared.stages.Stage.TheVariants.{Enter, Living, Undecided, Decided, Leave}
+use Rattle.act_fits.specs.call_stages.specs.declared.stages.ActiveCall.{ActiveCall}
+use Rattle.act_fits.specs.call_stages.specs.View.{Core}
 use Rattle.core_invariant.specs.Knows.{phase_at, KnowsAt, Knows, CallIs}
 use Rattle.core_invariant.specs.Invariant.{holds_in, Invariant}
 

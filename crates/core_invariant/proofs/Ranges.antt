@@ -2,8 +2,8 @@
 use Rattle.std.proofs.Common.{◌≡◌, ℕ, ℤ, pos, negsuc, ◌+ℤ◌, ◌+◌, ◌^◌, ◌<◌, ◌≤◌, arith, refl}
 use Rattle.std.proofs.lemmas.Int.{ints}
 use Rattle.kernel_history.specs.frame_words.specs.Count.{NumberFits}
-use Rattle.call_stages.specs.stage_pins.specs.Counts.{changed}
-use Rattle.call_stages.specs.stage_pins.proofs.PinLemmas.{in_field_same}
+use Rattle.act_fits.specs.stage_pins.specs.Counts.{changed}
+use Rattle.act_fits.specs.stage_pins.proofs.PinLemmas.{in_field_same}
 use Rattle.core_invariant.specs.CountWords.{IsWithin}
 
 -- Integers within a bound.

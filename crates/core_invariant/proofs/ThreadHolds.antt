@@ -3,13 +3,13 @@ use Rattle.std.proofs.Common.{◌≡◌, ℕ, true, not, if◌then◌else◌, re
 use Rattle.std.proofs.lemmas.Bool.{false≢true}
 use Rattle.kernel_history.specs.tcap_words.specs.Thread.{word_of_thread}
 use Rattle.kernel_history.specs.tcap_words.specs.declared.thread_word.ThreadWord.TheVariants.{Idle, Running}
-use Rattle.call_stages.specs.stage_thread.specs.declared.claim.Claim.TheVariants.{AtLoad, AtCompare, AtStack}
+use Rattle.act_fits.specs.stage_thread.specs.declared.claim.Claim.TheVariants.{AtLoad, AtCompare, AtStack}
 use Rattle.kernel_history.specs.word_map.specs.Word.{Word, EntryAt, CountAt, FlushAt, same_word}
 use Rattle.kernel_history.specs.word_map.proofs.WordLemmas.{same_same}
-use Rattle.call_stages.specs.act_states.specs.Switches.{is_switching, switching_undo}
-use Rattle.call_stages.specs.act_states.specs.declared.switches.Switching.{Switching}
-use Rattle.call_stages.specs.act_states.specs.declared.switches.SwitchAt.{SwitchAt}
-use Rattle.call_stages.specs.act_states.specs.declared.switches.SwitchAt.TheVariants.{Claim, LoadTable, LoadPages, Leave, Draw}
+use Rattle.act_fits.specs.act_states.specs.Switches.{is_switching, switching_undo}
+use Rattle.act_fits.specs.act_states.specs.declared.switches.Switching.{Switching}
+use Rattle.act_fits.specs.act_states.specs.declared.switches.SwitchAt.{SwitchAt}
+use Rattle.act_fits.specs.act_states.specs.declared.switches.SwitchAt.TheVariants.{Claim, LoadTable, LoadPages, Leave, Draw}
 use Rattle.core_invariant.specs.Holding.{Holding, keeps}
 use Rattle.core_invariant.specs.Invariant.{holds_tail}
 use Rattle.core_invariant.specs.Threads.{holds_idle, holds_switching, claimed_by, is_claimed}

@@ -9,12 +9,12 @@ use Rattle.kernel_history.specs.frame_words.specs.declared.comp_word.CompWord.{C
 use Rattle.kernel_invariant.specs.kernel_rules.specs.State.{CompFields, State, first_of_stack, thread_of, comp_in}
 use Rattle.kernel_invariant.specs.kernel_rules.specs.Fitting.{fits}
 use Rattle.kernel_invariant.specs.kernel_rules.specs.Relies.{IsGuarded}
-use Rattle.call_stages.specs.act_states.specs.declared.invocations.Invoking.{Invoking}
-use Rattle.call_stages.specs.act_states.specs.declared.invocations.InvokingAt.{InvokingAt}
-use Rattle.call_stages.specs.act_states.specs.declared.invocations.InvokingAt.TheVariants as invoking
-use Rattle.call_stages.specs.act_states.specs.declared.invocations.Returning.{Returning}
-use Rattle.call_stages.specs.act_states.specs.declared.invocations.ReturningAt.{ReturningAt}
-use Rattle.call_stages.specs.act_states.specs.declared.invocations.ReturningAt.TheVariants as returning
+use Rattle.act_fits.specs.act_states.specs.declared.invocations.Invoking.{Invoking}
+use Rattle.act_fits.specs.act_states.specs.declared.invocations.InvokingAt.{InvokingAt}
+use Rattle.act_fits.specs.act_states.specs.declared.invocations.InvokingAt.TheVariants as invoking
+use Rattle.act_fits.specs.act_states.specs.declared.invocations.Returning.{Returning}
+use Rattle.act_fits.specs.act_states.specs.declared.invocations.ReturningAt.{ReturningAt}
+use Rattle.act_fits.specs.act_states.specs.declared.invocations.ReturningAt.TheVariants as returning
 
 -- A component that no other core may retype.
 pub record HasComp (s : State) (c f : ℕ) : Type 0 where

@@ -1,8 +1,8 @@
 -- What a core tells of its step, as the events of the step.
 use Rattle.std.specs.Prelude.{Option, Some, None}
 use Rattle.kernel_invariant.specs.spk_nums.specs.declared.replies.Reply.{Reply}
-use Rattle.call_stages.specs.declared.stages.Absorbed.{Absorbed}
-use Rattle.call_stages.specs.declared.stages.Absorbed.TheVariants.{Going, Decided, Returned}
+use Rattle.act_fits.specs.call_stages.specs.declared.stages.Absorbed.{Absorbed}
+use Rattle.act_fits.specs.call_stages.specs.declared.stages.Absorbed.TheVariants.{Going, Decided, Returned}
 
 -- The reply that a core's step decides, and the one that it returns, as told.
 abbrev pub decided_in : Absorbed → Option Reply

@@ -2,13 +2,13 @@
 use Rattle.std.specs.Prelude.{ℕ, ◌&&◌, ◌==◌, nat_lt, nat_le, Bool, true, false, length, slice_get, Option, Some, None, if◌then◌else◌}
 use Rattle.kernel_history.specs.frame_words.specs.Count.{word_of_count}
 use Rattle.kernel_history.specs.word_map.specs.Word.{Word, CountAt, FrameAt}
-use Rattle.call_stages.specs.stage_sweep.specs.Freeze.{swept_of}
-use Rattle.call_stages.specs.stage_sweep.specs.Release.{released}
-use Rattle.call_stages.specs.stage_sweep.specs.declared.thaw.Thaw.{Thaw}
-use Rattle.call_stages.specs.act_states.specs.Untypings.{release_of}
-use Rattle.call_stages.specs.act_states.specs.declared.untypings.Release.{Release}
-use Rattle.call_stages.specs.act_states.specs.declared.untypings.UntypingAt.{UntypingAt}
-use Rattle.call_stages.specs.act_states.specs.declared.untypings.UntypingAt.TheVariants.{Load, Mark, Sweep as sweep_at, Draw}
+use Rattle.act_fits.specs.stage_sweep.specs.Freeze.{swept_of}
+use Rattle.act_fits.specs.stage_sweep.specs.Release.{released}
+use Rattle.act_fits.specs.stage_sweep.specs.declared.thaw.Thaw.{Thaw}
+use Rattle.act_fits.specs.act_states.specs.Untypings.{release_of}
+use Rattle.act_fits.specs.act_states.specs.declared.untypings.Release.{Release}
+use Rattle.act_fits.specs.act_states.specs.declared.untypings.UntypingAt.{UntypingAt}
+use Rattle.act_fits.specs.act_states.specs.declared.untypings.UntypingAt.TheVariants.{Load, Mark, Sweep as sweep_at, Draw}
 use Rattle.core_invariant.specs.Holding.{Holding, keeps}
 
 -- Whether a word is a counter that is frozen and still to be released.

@@ -9,11 +9,11 @@ use Rattle.kernel_history.specs.word_map.specs.Word.{Word, EntryAt, FrameAt, Cou
 use Rattle.kernel_invariant.specs.spk_nums.specs.Capability.{Capability}
 use Rattle.kernel_history.specs.entry_words.specs.EntryWord.{word_of_entry}
 use Rattle.kernel_history.specs.entry_words.specs.declared.entry.Entry.TheVariants.{Held, Quiescing}
-use Rattle.call_stages.specs.stage_quiet.specs.declared.close.Close.{Close}
-use Rattle.call_stages.specs.stage_quiet.specs.declared.close.Close.TheVariants.{AtCompare, AtDraw, AtStore}
-use Rattle.call_stages.specs.stage_pins.specs.declared.held.Acquired.{Acquired}
-use Rattle.call_stages.specs.stage_pins.specs.Commit.{settled_word}
-use Rattle.call_stages.specs.stage_pins.specs.Held.{commit_of}
+use Rattle.act_fits.specs.stage_quiet.specs.declared.close.Close.{Close}
+use Rattle.act_fits.specs.stage_quiet.specs.declared.close.Close.TheVariants.{AtCompare, AtDraw, AtStore}
+use Rattle.act_fits.specs.stage_pins.specs.declared.held.Acquired.{Acquired}
+use Rattle.act_fits.specs.stage_pins.specs.Commit.{settled_word}
+use Rattle.act_fits.specs.stage_pins.specs.Held.{commit_of}
 use Rattle.kernel_history.specs.Marking.{marked_by}
 use Rattle.kernel_history.specs.Trace.{Trace, last_left}
 

@@ -1,20 +1,20 @@
 -- When the cores of a machine stand for a trace: what holds between two steps, whatever the calls.
-use Rattle.call_stages.specs.act_states.specs.declared.makings.MakingAt.TheVariants.{Load, Mark, Store, Fill as making_fill}
-use Rattle.call_stages.specs.act_states.specs.declared.makings.MakingAt.{MakingAt}
-use Rattle.call_stages.specs.act_states.specs.declared.comps.CompAt.{CompAt}
-use Rattle.call_stages.specs.act_states.specs.declared.comps.CompAt.TheVariants as comp_at
-use Rattle.call_stages.specs.act_states.specs.declared.comps.CompMaking.{CompMaking}
-use Rattle.call_stages.specs.act_states.specs.declared.kills.KillingAt.{KillingAt}
-use Rattle.call_stages.specs.act_states.specs.declared.kills.KillingAt.TheVariants.{LoadComp, LoadLive, Close as kill_close}
-use Rattle.call_stages.specs.act_states.specs.declared.kills.KillingAt.TheVariants.{Draw as kill_draw}
+use Rattle.act_fits.specs.act_states.specs.declared.makings.MakingAt.TheVariants.{Load, Mark, Store, Fill as making_fill}
+use Rattle.act_fits.specs.act_states.specs.declared.makings.MakingAt.{MakingAt}
+use Rattle.act_fits.specs.act_states.specs.declared.comps.CompAt.{CompAt}
+use Rattle.act_fits.specs.act_states.specs.declared.comps.CompAt.TheVariants as comp_at
+use Rattle.act_fits.specs.act_states.specs.declared.comps.CompMaking.{CompMaking}
+use Rattle.act_fits.specs.act_states.specs.declared.kills.KillingAt.{KillingAt}
+use Rattle.act_fits.specs.act_states.specs.declared.kills.KillingAt.TheVariants.{LoadComp, LoadLive, Close as kill_close}
+use Rattle.act_fits.specs.act_states.specs.declared.kills.KillingAt.TheVariants.{Draw as kill_draw}
 use Rattle.kernel_history.specs.frame_words.specs.Live.{word_of_live}
 use Rattle.kernel_history.specs.tcap_words.specs.Stack.{word_of_stack}
 use Rattle.kernel_history.specs.tcap_words.specs.Thread.{word_of_thread, thread_of_word}
 use Rattle.kernel_history.specs.tcap_words.specs.declared.thread_word.ThreadWord.TheVariants.{Running}
-use Rattle.call_stages.specs.stage_thread.specs.declared.stack.Push.{Push as PushOf}
-use Rattle.call_stages.specs.stage_thread.specs.declared.stack.Push.TheVariants as push
-use Rattle.call_stages.specs.stage_thread.specs.declared.stack.Pop.{Pop as PopOf}
-use Rattle.call_stages.specs.stage_thread.specs.declared.stack.Pop.TheVariants as pop
+use Rattle.act_fits.specs.stage_thread.specs.declared.stack.Push.{Push as PushOf}
+use Rattle.act_fits.specs.stage_thread.specs.declared.stack.Push.TheVariants as push
+use Rattle.act_fits.specs.stage_thread.specs.declared.stack.Pop.{Pop as PopOf}
+use Rattle.act_fits.specs.stage_thread.specs.declared.stack.Pop.TheVariants as pop
 use Rattle.kernel_history.specs.frame_words.specs.declared.live_word.LiveWord.TheVariants.{Dead}
 use Rattle.std.specs.Prelude.{◌≡◌, ◌⊎◌, ◌+◌, ◌-◌, ◌<◌, ◌≤◌, ℕ, Bool, true, false, List, [], length, Option, Some, None}
 use Rattle.kernel_invariant.specs.spk_nums.specs.Setting.{Setting}
@@ -32,30 +32,30 @@ use Rattle.kernel_history.specs.Footprint.{KeepsFootprints}
 use Rattle.kernel_history.specs.Alone.{KeepsFirst}
 use Rattle.kernel_history.specs.Stamps.{stamp, clock, exit_of, flush_stored}
 use Rattle.kernel_history.specs.Graces.{GraceIs, TimesAre}
-use Rattle.call_stages.specs.declared.stages.Stage.{Stage}
-use Rattle.call_stages.specs.declared.stages.Stage.TheVariants.{Enter, Living, Undecided, Decided, Leave}
-use Rattle.call_stages.specs.declared.stages.ActiveCall.{ActiveCall}
+use Rattle.act_fits.specs.call_stages.specs.declared.stages.Stage.{Stage}
+use Rattle.act_fits.specs.call_stages.specs.declared.stages.Stage.TheVariants.{Enter, Living, Undecided, Decided, Leave}
+use Rattle.act_fits.specs.call_stages.specs.declared.stages.ActiveCall.{ActiveCall}
 use Rattle.kernel_invariant.specs.spk_nums.specs.declared.replies.Reply.{Reply}
 use Rattle.kernel_invariant.specs.spk_nums.specs.declared.replies.Reply.TheVariants.{Ok}
-use Rattle.call_stages.specs.stage_pins.specs.declared.held.Acquired.{Acquired}
-use Rattle.call_stages.specs.act_states.specs.declared.work.Act.{Act}
-use Rattle.call_stages.specs.act_states.specs.declared.work.Act.TheVariants.{Fill, Remove, Retype, Make, Outside, Tick, Flush, Kill, Untype}
-use Rattle.call_stages.specs.act_states.specs.declared.work.Act.TheVariants.{Map as map_act, MakeComp, Invoke, Return, Touch, Share, Switch}
-use Rattle.call_stages.specs.act_states.specs.declared.work.Work.{Work}
-use Rattle.call_stages.specs.act_states.specs.declared.work.Work.TheVariants.{Lookup, Read, Scan, Acquire, Act as act_work}
-use Rattle.call_stages.specs.act_states.specs.declared.work.Tail.{Tail}
-use Rattle.call_stages.specs.act_states.specs.declared.work.Tail.TheVariants.{Nothing, Quiesce, Unmark, StoreDead, StoreFlush, Release}
-use Rattle.call_stages.specs.act_states.specs.declared.work.Tail.TheVariants.{StoreLive, Push, Pop, Share as share_tail, StoreRunning}
-use Rattle.call_stages.specs.act_states.specs.declared.work.Tail.TheVariants.{StoreIdle}
+use Rattle.act_fits.specs.stage_pins.specs.declared.held.Acquired.{Acquired}
+use Rattle.act_fits.specs.act_states.specs.declared.work.Act.{Act}
+use Rattle.act_fits.specs.act_states.specs.declared.work.Act.TheVariants.{Fill, Remove, Retype, Make, Outside, Tick, Flush, Kill, Untype}
+use Rattle.act_fits.specs.act_states.specs.declared.work.Act.TheVariants.{Map as map_act, MakeComp, Invoke, Return, Touch, Share, Switch}
+use Rattle.act_fits.specs.act_states.specs.declared.work.Work.{Work}
+use Rattle.act_fits.specs.act_states.specs.declared.work.Work.TheVariants.{Lookup, Read, Scan, Acquire, Act as act_work}
+use Rattle.act_fits.specs.act_states.specs.declared.work.Tail.{Tail}
+use Rattle.act_fits.specs.act_states.specs.declared.work.Tail.TheVariants.{Nothing, Quiesce, Unmark, StoreDead, StoreFlush, Release}
+use Rattle.act_fits.specs.act_states.specs.declared.work.Tail.TheVariants.{StoreLive, Push, Pop, Share as share_tail, StoreRunning}
+use Rattle.act_fits.specs.act_states.specs.declared.work.Tail.TheVariants.{StoreIdle}
 use Rattle.kernel_history.specs.tcap_words.specs.Head.{word_of_head}
-use Rattle.call_stages.specs.stage_tcap.specs.Heads.{credited}
-use Rattle.call_stages.specs.stage_tcap.specs.Lists.{in_order}
-use Rattle.call_stages.specs.stage_tcap.specs.Pairs.{amount_of, left_a, word_of_list}
-use Rattle.call_stages.specs.stage_tcap.specs.declared.pair.Pair.{Pair}
-use Rattle.call_stages.specs.stage_tcap.specs.declared.pair.PairAt.{PairAt}
-use Rattle.call_stages.specs.stage_tcap.specs.declared.pair.PairAt.TheVariants.{LoadA, MarkA, ListA, LoadB, ListB, CompareB}
-use Rattle.call_stages.specs.stage_tcap.specs.declared.pair.PairAt.TheVariants.{AgainB, StoreList, StoreB, StoreA}
-use Rattle.call_stages.specs.View.{Core}
+use Rattle.act_fits.specs.stage_tcap.specs.Heads.{credited}
+use Rattle.act_fits.specs.stage_tcap.specs.Lists.{in_order}
+use Rattle.act_fits.specs.stage_tcap.specs.Pairs.{amount_of, left_a, word_of_list}
+use Rattle.act_fits.specs.stage_tcap.specs.declared.pair.Pair.{Pair}
+use Rattle.act_fits.specs.stage_tcap.specs.declared.pair.PairAt.{PairAt}
+use Rattle.act_fits.specs.stage_tcap.specs.declared.pair.PairAt.TheVariants.{LoadA, MarkA, ListA, LoadB, ListB, CompareB}
+use Rattle.act_fits.specs.stage_tcap.specs.declared.pair.PairAt.TheVariants.{AgainB, StoreList, StoreB, StoreA}
+use Rattle.act_fits.specs.call_stages.specs.View.{Core}
 use Rattle.core_invariant.specs.Holding.{Holding, nothing, holds_counts, holds_closed, holds_drawn}
 use Rattle.core_invariant.specs.Holding.{settled, MarkIs, keeps, will_store, keeps_bare, keeps_list}
 use Rattle.core_invariant.specs.Frozen.{holds_untyping, holds_release}

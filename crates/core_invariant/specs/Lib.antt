@@ -1,13 +1,14 @@
 -- What the crates above name through this one.
-pub use Rattle.call_stages.specs.call_plans
-pub use Rattle.call_stages.specs.stage_look
-pub use Rattle.call_stages.specs.stage_pins
-pub use Rattle.call_stages.specs.stage_quiet
-pub use Rattle.call_stages.specs.stage_thread
-pub use Rattle.call_stages.specs.stage_sweep
-pub use Rattle.call_stages.specs.stage_tcap
-pub use Rattle.call_stages.specs.act_states
-pub use Rattle.call_stages
+pub use Rattle.act_fits.specs.call_plans
+pub use Rattle.act_fits.specs.stage_look
+pub use Rattle.act_fits.specs.stage_pins
+pub use Rattle.act_fits.specs.stage_quiet
+pub use Rattle.act_fits.specs.stage_thread
+pub use Rattle.act_fits.specs.stage_sweep
+pub use Rattle.act_fits.specs.stage_tcap
+pub use Rattle.act_fits.specs.act_states
+pub use Rattle.act_fits.specs.call_stages
+pub use Rattle.act_fits
 -- Its own.
 pub mod Events
 pub mod Holding

@@ -1,26 +1,26 @@
 -- What a call knows of where its look-ups have led, and of the place that it fills or removes, said of the state.
-use Rattle.call_stages.specs.stage_tcap.specs.declared.charge.Charge.{Charge}
-use Rattle.call_stages.specs.stage_tcap.specs.declared.charge.Charge.TheVariants.{AtLoad as charge_load, AtCompare as charge_compare}
-use Rattle.call_stages.specs.stage_tcap.specs.Heads.{head}
+use Rattle.act_fits.specs.stage_tcap.specs.declared.charge.Charge.{Charge}
+use Rattle.act_fits.specs.stage_tcap.specs.declared.charge.Charge.TheVariants.{AtLoad as charge_load, AtCompare as charge_compare}
+use Rattle.act_fits.specs.stage_tcap.specs.Heads.{head}
 use Rattle.kernel_history.specs.tcap_words.specs.Head.{HeadFits, word_of_head}
-use Rattle.call_stages.specs.act_states.specs.Ticks.{ticks_due, ticks_of, is_charging}
+use Rattle.act_fits.specs.act_states.specs.Ticks.{ticks_due, ticks_of, is_charging}
 use Rattle.kernel_history.specs.Marking.{marked_by}
 use Rattle.kernel_history.specs.Marks.{frame_mark, live_mark}
 use Rattle.kernel_invariant.specs.spk_nums.specs.declared.kinds.Obj.TheVariants.{Blank}
-use Rattle.call_stages.specs.act_states.specs.Objects.{object_cap, object_made, object_word, last_word}
+use Rattle.act_fits.specs.act_states.specs.Objects.{object_cap, object_made, object_word, last_word}
 use Rattle.kernel_invariant.specs.spk_nums.specs.declared.calls.Make.TheVariants as make
 use Rattle.kernel_history.specs.frame_words.specs.declared.live_word.LiveWord.{LiveWord}
-use Rattle.call_stages.specs.act_states.specs.Acts.{comp_cap, dues, put_by, reads_of, removes_by, stamp_of_act, fills_page}
-use Rattle.call_stages.specs.act_states.specs.Comps.{comp_is_marked, comp_meets_number, comp_word_at}
-use Rattle.call_stages.specs.act_states.specs.declared.comps.CompAt.{CompAt}
-use Rattle.call_stages.specs.act_states.specs.declared.comps.CompAt.TheVariants as comp_at
-use Rattle.call_stages.specs.act_states.specs.declared.comps.CompMaking.{CompMaking}
-use Rattle.call_stages.specs.act_states.specs.declared.comps.LastEpoch.{LastEpoch}
-use Rattle.call_stages.specs.act_states.specs.Makings.{is_marked}
-use Rattle.call_stages.specs.act_states.specs.declared.makings.MakingAt.TheVariants.{Load as making_load, Mark, Store, Fill as making_fill}
-use Rattle.call_stages.specs.act_states.specs.declared.makings.MakingAt.{MakingAt}
-use Rattle.call_stages.specs.act_states.specs.declared.makings.Making.{Making}
-use Rattle.call_stages.specs.act_states.specs.declared.objects.NewObject.{NewObject}
+use Rattle.act_fits.specs.act_states.specs.Acts.{comp_cap, dues, put_by, reads_of, removes_by, stamp_of_act, fills_page}
+use Rattle.act_fits.specs.act_states.specs.Comps.{comp_is_marked, comp_meets_number, comp_word_at}
+use Rattle.act_fits.specs.act_states.specs.declared.comps.CompAt.{CompAt}
+use Rattle.act_fits.specs.act_states.specs.declared.comps.CompAt.TheVariants as comp_at
+use Rattle.act_fits.specs.act_states.specs.declared.comps.CompMaking.{CompMaking}
+use Rattle.act_fits.specs.act_states.specs.declared.comps.LastEpoch.{LastEpoch}
+use Rattle.act_fits.specs.act_states.specs.Makings.{is_marked}
+use Rattle.act_fits.specs.act_states.specs.declared.makings.MakingAt.TheVariants.{Load as making_load, Mark, Store, Fill as making_fill}
+use Rattle.act_fits.specs.act_states.specs.declared.makings.MakingAt.{MakingAt}
+use Rattle.act_fits.specs.act_states.specs.declared.makings.Making.{Making}
+use Rattle.act_fits.specs.act_states.specs.declared.objects.NewObject.{NewObject}
 use Rattle.std.specs.Prelude.{◌≡◌, ◌≢◌, ◌<◌, ◌≤◌, ◌+◌, ◌++◌, ◌/◌, ℕ, ℤ, Bool, true, false, map, All, List}
 use Rattle.std.specs.Prelude.{[], ◌∷◌, length, Option, Some, None, IsSome, IsTrue, not, ◌^◌, ◌⊎◌, is_some}
 use Rattle.kernel_invariant.specs.spk_nums.specs.Capability.{Capability}
@@ -46,8 +46,8 @@ use Rattle.kernel_history.specs.word_map.specs.Word.{EntryAt, CountAt, FrameAt, 
 use Rattle.kernel_invariant.specs.kernel_rules.specs.State.{User, Thing, PlaceOf, State, first_of_stack, thread_of, comp_of, comp_in}
 use Rattle.kernel_invariant.specs.kernel_rules.specs.State.{NumberOf, Dead}
 use Rattle.kernel_invariant.specs.kernel_rules.specs.MemoryCalls.{translation_of}
-use Rattle.call_stages.specs.act_states.specs.declared.touches.Touching.{Touching}
-use Rattle.call_stages.specs.act_states.specs.Touches.{is_at_page}
+use Rattle.act_fits.specs.act_states.specs.declared.touches.Touching.{Touching}
+use Rattle.act_fits.specs.act_states.specs.Touches.{is_at_page}
 use Rattle.kernel_invariant.specs.kernel_rules.specs.Access.{Want, Slot, Named, root_at, Target, Under, InRoot, usable, linked, root_slot}
 use Rattle.kernel_invariant.specs.kernel_rules.specs.Access.{reached, found}
 use Rattle.kernel_invariant.specs.kernel_rules.specs.Fitting.{fits}
@@ -59,59 +59,59 @@ use Rattle.kernel_history.specs.Trace as history
 use Rattle.kernel_history.specs.Ways.{root_passed}
 use Rattle.kernel_history.specs.Discipline.{counts_references, changes_places, changes_frames}
 use Rattle.kernel_history.specs.Discipline.{changes_numbers, stores_flush, changes_threads}
-use Rattle.call_stages.specs.stage_thread.specs.declared.stack.Push.{Push as PushOf}
-use Rattle.call_stages.specs.stage_thread.specs.declared.stack.Push.TheVariants as push
-use Rattle.call_stages.specs.stage_thread.specs.declared.stack.Pop.{Pop as PopOf}
-use Rattle.call_stages.specs.stage_thread.specs.declared.stack.Pop.TheVariants as pop
+use Rattle.act_fits.specs.stage_thread.specs.declared.stack.Push.{Push as PushOf}
+use Rattle.act_fits.specs.stage_thread.specs.declared.stack.Push.TheVariants as push
+use Rattle.act_fits.specs.stage_thread.specs.declared.stack.Pop.{Pop as PopOf}
+use Rattle.act_fits.specs.stage_thread.specs.declared.stack.Pop.TheVariants as pop
 use Rattle.kernel_history.specs.Footprint.{IsNearIn, is_one_of, frame_argument}
 use Rattle.kernel_history.specs.Justified.{HasReached, IsRemoved}
 use Rattle.kernel_history.specs.Stamps.{clock, stamp, exit_of, flush_of, flush_stored}
-use Rattle.call_stages.specs.stage_look.specs.declared.look.Look.{Look}
-use Rattle.call_stages.specs.stage_look.specs.declared.look.Look.TheVariants.{AtRoot, AtLeaf, AtEntry}
-use Rattle.call_stages.specs.stage_pins.specs.Counts.{unheld}
-use Rattle.call_stages.specs.stage_pins.specs.declared.pin.Pin.{Pin}
-use Rattle.call_stages.specs.stage_pins.specs.declared.pin.Pin.TheVariants.{AtLoad, AtCompare}
-use Rattle.call_stages.specs.stage_pins.specs.declared.held.Acquired.{Acquired}
-use Rattle.call_stages.specs.call_plans.specs.declared.plans.Plan.{Plan}
-use Rattle.call_stages.specs.call_plans.specs.After.{Leads, Next, NextName, NextFree, NextHeld, NextOwn, NextNothing, next_of}
-use Rattle.call_stages.specs.act_states.specs.declared.kills.Killing.{Killing}
-use Rattle.call_stages.specs.act_states.specs.declared.kills.KillingAt.{KillingAt}
-use Rattle.call_stages.specs.act_states.specs.declared.kills.KillingAt.TheVariants.{LoadComp, LoadLive, Close as kill_close}
-use Rattle.call_stages.specs.act_states.specs.declared.kills.KillingAt.TheVariants.{Draw as kill_draw}
-use Rattle.call_stages.specs.act_states.specs.Kills.{is_killing}
-use Rattle.call_stages.specs.act_states.specs.Invocations.{is_entering, is_leaving}
-use Rattle.call_stages.specs.act_states.specs.Switches.{is_switching}
-use Rattle.call_stages.specs.act_states.specs.declared.own.Own.{Own}
-use Rattle.call_stages.specs.act_states.specs.declared.fills.Fill.{Fill}
-use Rattle.call_stages.specs.act_states.specs.declared.typings.Typing.{Typing}
-use Rattle.call_stages.specs.act_states.specs.declared.typings.TypingAt.{TypingAt}
-use Rattle.call_stages.specs.act_states.specs.declared.typings.TypingAt.TheVariants.{Load, Compare as type_compare}
-use Rattle.call_stages.specs.act_states.specs.Typings.{is_typing}
+use Rattle.act_fits.specs.stage_look.specs.declared.look.Look.{Look}
+use Rattle.act_fits.specs.stage_look.specs.declared.look.Look.TheVariants.{AtRoot, AtLeaf, AtEntry}
+use Rattle.act_fits.specs.stage_pins.specs.Counts.{unheld}
+use Rattle.act_fits.specs.stage_pins.specs.declared.pin.Pin.{Pin}
+use Rattle.act_fits.specs.stage_pins.specs.declared.pin.Pin.TheVariants.{AtLoad, AtCompare}
+use Rattle.act_fits.specs.stage_pins.specs.declared.held.Acquired.{Acquired}
+use Rattle.act_fits.specs.call_plans.specs.declared.plans.Plan.{Plan}
+use Rattle.act_fits.specs.call_plans.specs.After.{Leads, Next, NextName, NextFree, NextHeld, NextOwn, NextNothing, next_of}
+use Rattle.act_fits.specs.act_states.specs.declared.kills.Killing.{Killing}
+use Rattle.act_fits.specs.act_states.specs.declared.kills.KillingAt.{KillingAt}
+use Rattle.act_fits.specs.act_states.specs.declared.kills.KillingAt.TheVariants.{LoadComp, LoadLive, Close as kill_close}
+use Rattle.act_fits.specs.act_states.specs.declared.kills.KillingAt.TheVariants.{Draw as kill_draw}
+use Rattle.act_fits.specs.act_states.specs.Kills.{is_killing}
+use Rattle.act_fits.specs.act_states.specs.Invocations.{is_entering, is_leaving}
+use Rattle.act_fits.specs.act_states.specs.Switches.{is_switching}
+use Rattle.act_fits.specs.act_states.specs.declared.own.Own.{Own}
+use Rattle.act_fits.specs.act_states.specs.declared.fills.Fill.{Fill}
+use Rattle.act_fits.specs.act_states.specs.declared.typings.Typing.{Typing}
+use Rattle.act_fits.specs.act_states.specs.declared.typings.TypingAt.{TypingAt}
+use Rattle.act_fits.specs.act_states.specs.declared.typings.TypingAt.TheVariants.{Load, Compare as type_compare}
+use Rattle.act_fits.specs.act_states.specs.Typings.{is_typing}
 use Rattle.kernel_invariant.specs.kernel_rules.specs.CapabilityCalls.{has_frame}
-use Rattle.call_stages.specs.act_states.specs.declared.work.Act.{Act as ActOf}
-use Rattle.call_stages.specs.act_states.specs.declared.work.Act.TheVariants.{Fill as fill_act, Remove as remove_act, Retype as type_act}
-use Rattle.call_stages.specs.act_states.specs.declared.work.Act.TheVariants.{Make as make_act, Outside, Tick as tick_act}
-use Rattle.call_stages.specs.act_states.specs.declared.work.Act.TheVariants.{Flush as flush_act}
-use Rattle.call_stages.specs.act_states.specs.declared.work.Act.TheVariants.{Kill as kill_act, Untype as untype_act, Map as map_act}
-use Rattle.call_stages.specs.act_states.specs.declared.work.Act.TheVariants.{MakeComp as comp_act, Invoke as invoke_act}
-use Rattle.call_stages.specs.act_states.specs.declared.work.Act.TheVariants.{Return as return_act}
-use Rattle.call_stages.specs.act_states.specs.declared.work.Act.TheVariants.{Touch as touch_act, Share as share_act, Switch as switch_act}
-use Rattle.call_stages.specs.act_states.specs.declared.work.Work.{Work}
-use Rattle.call_stages.specs.act_states.specs.declared.work.Due.{Due}
-use Rattle.call_stages.specs.act_states.specs.declared.work.Work.TheVariants.{Lookup, Read, Scan, Acquire, Act}
-use Rattle.call_stages.specs.act_states.specs.declared.work.Tail.{Tail}
-use Rattle.call_stages.specs.act_states.specs.declared.work.Tail.TheVariants.{Nothing, Quiesce, Unmark, StoreDead, StoreFlush, Release}
-use Rattle.call_stages.specs.act_states.specs.declared.work.Tail.TheVariants.{StoreLive, Push, Pop, Share, StoreRunning, StoreIdle}
-use Rattle.call_stages.specs.declared.stages.Stage.{Stage}
-use Rattle.call_stages.specs.declared.stages.Stage.TheVariants.{Enter, Undecided, Decided, Leave}
-use Rattle.call_stages.specs.declared.stages.ActiveCall.{ActiveCall}
-use Rattle.call_stages.specs.stage_quiet.specs.declared.close.Close.{Close}
-use Rattle.call_stages.specs.stage_quiet.specs.declared.close.Close.TheVariants.{AtCompare as close_compare, AtDraw, AtStore}
-use Rattle.call_stages.specs.stage_quiet.specs.declared.quiet.Quiet.{Quiet}
-use Rattle.call_stages.specs.stage_quiet.specs.declared.quiet.Quiet.TheVariants.{AtCore, AtFlush}
-use Rattle.call_stages.specs.View.{Core}
-use Rattle.call_stages.specs.Fits.{IsCore}
-use Rattle.call_stages.specs.act_states.specs.Untypings.{is_drawing}
+use Rattle.act_fits.specs.act_states.specs.declared.work.Act.{Act as ActOf}
+use Rattle.act_fits.specs.act_states.specs.declared.work.Act.TheVariants.{Fill as fill_act, Remove as remove_act, Retype as type_act}
+use Rattle.act_fits.specs.act_states.specs.declared.work.Act.TheVariants.{Make as make_act, Outside, Tick as tick_act}
+use Rattle.act_fits.specs.act_states.specs.declared.work.Act.TheVariants.{Flush as flush_act}
+use Rattle.act_fits.specs.act_states.specs.declared.work.Act.TheVariants.{Kill as kill_act, Untype as untype_act, Map as map_act}
+use Rattle.act_fits.specs.act_states.specs.declared.work.Act.TheVariants.{MakeComp as comp_act, Invoke as invoke_act}
+use Rattle.act_fits.specs.act_states.specs.declared.work.Act.TheVariants.{Return as return_act}
+use Rattle.act_fits.specs.act_states.specs.declared.work.Act.TheVariants.{Touch as touch_act, Share as share_act, Switch as switch_act}
+use Rattle.act_fits.specs.act_states.specs.declared.work.Work.{Work}
+use Rattle.act_fits.specs.act_states.specs.declared.work.Due.{Due}
+use Rattle.act_fits.specs.act_states.specs.declared.work.Work.TheVariants.{Lookup, Read, Scan, Acquire, Act}
+use Rattle.act_fits.specs.act_states.specs.declared.work.Tail.{Tail}
+use Rattle.act_fits.specs.act_states.specs.declared.work.Tail.TheVariants.{Nothing, Quiesce, Unmark, StoreDead, StoreFlush, Release}
+use Rattle.act_fits.specs.act_states.specs.declared.work.Tail.TheVariants.{StoreLive, Push, Pop, Share, StoreRunning, StoreIdle}
+use Rattle.act_fits.specs.call_stages.specs.declared.stages.Stage.{Stage}
+use Rattle.act_fits.specs.call_stages.specs.declared.stages.Stage.TheVariants.{Enter, Undecided, Decided, Leave}
+use Rattle.act_fits.specs.call_stages.specs.declared.stages.ActiveCall.{ActiveCall}
+use Rattle.act_fits.specs.stage_quiet.specs.declared.close.Close.{Close}
+use Rattle.act_fits.specs.stage_quiet.specs.declared.close.Close.TheVariants.{AtCompare as close_compare, AtDraw, AtStore}
+use Rattle.act_fits.specs.stage_quiet.specs.declared.quiet.Quiet.{Quiet}
+use Rattle.act_fits.specs.stage_quiet.specs.declared.quiet.Quiet.TheVariants.{AtCore, AtFlush}
+use Rattle.act_fits.specs.call_stages.specs.View.{Core}
+use Rattle.act_fits.specs.call_stages.specs.Fits.{IsCore}
+use Rattle.act_fits.specs.act_states.specs.Untypings.{is_drawing}
 use Rattle.core_invariant.specs.Shares.{KnowsShare, KnowsShared}
 use Rattle.core_invariant.specs.Holding.{count_of, holds_counts, AreApart}
 use Rattle.core_invariant.specs.Components.{HasComp, HasLife, IsRead, ReadIs, KnowsInvoking, KnowsReturning}

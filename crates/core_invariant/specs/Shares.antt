@@ -18,15 +18,15 @@ use Rattle.kernel_history.specs.Trace.{Step, Trace, state_after, last_left, own_
 use Rattle.kernel_history.specs.Marking.{marked_by}
 use Rattle.kernel_history.specs.Discipline.{changes_budgets}
 use Rattle.kernel_history.specs.Footprint.{IsNearIn}
-use Rattle.call_stages.specs.stage_tcap.specs.Heads.{marked}
-use Rattle.call_stages.specs.stage_tcap.specs.Lists.{read_word, in_order}
-use Rattle.call_stages.specs.stage_tcap.specs.Pairs.{amount_of, whole_b, judged}
-use Rattle.call_stages.specs.stage_tcap.specs.declared.pair.Pair.{Pair}
-use Rattle.call_stages.specs.stage_tcap.specs.declared.pair.PairAt.{PairAt}
-use Rattle.call_stages.specs.stage_tcap.specs.declared.pair.PairAt.TheVariants.{LoadA, MarkA, ListA, LoadB, ListB, CompareB}
-use Rattle.call_stages.specs.stage_tcap.specs.declared.pair.PairAt.TheVariants.{AgainB, StoreList, StoreB, StoreA}
-use Rattle.call_stages.specs.stage_tcap.specs.declared.pair.PairWork.{PairWork}
-use Rattle.call_stages.specs.stage_tcap.specs.declared.pair.PairWork.TheVariants as share
+use Rattle.act_fits.specs.stage_tcap.specs.Heads.{marked}
+use Rattle.act_fits.specs.stage_tcap.specs.Lists.{read_word, in_order}
+use Rattle.act_fits.specs.stage_tcap.specs.Pairs.{amount_of, whole_b, judged}
+use Rattle.act_fits.specs.stage_tcap.specs.declared.pair.Pair.{Pair}
+use Rattle.act_fits.specs.stage_tcap.specs.declared.pair.PairAt.{PairAt}
+use Rattle.act_fits.specs.stage_tcap.specs.declared.pair.PairAt.TheVariants.{LoadA, MarkA, ListA, LoadB, ListB, CompareB}
+use Rattle.act_fits.specs.stage_tcap.specs.declared.pair.PairAt.TheVariants.{AgainB, StoreList, StoreB, StoreA}
+use Rattle.act_fits.specs.stage_tcap.specs.declared.pair.PairWork.{PairWork}
+use Rattle.act_fits.specs.stage_tcap.specs.declared.pair.PairWork.TheVariants as share
 
 -- Whether the list of the temporal capability in a frame was changed by a step since its head was changed last.
 abbrev pub turns_list : Word → Bool → ℕ → Bool → Bool

@@ -20,22 +20,22 @@ use Rattle.kernel_history.specs.Counts.{counters}
 use Rattle.kernel_history.specs.Discipline.{counts_references}
 use Rattle.kernel_history.specs.Stamps.{clock, stamp}
 use Rattle.kernel_history.specs.Trace.{Trace, state_after, own_read}
-use Rattle.call_stages.specs.stage_pins.specs.Counts.{unheld}
-use Rattle.call_stages.specs.stage_pins.specs.declared.held.Acquired.{Acquired}
-use Rattle.call_stages.specs.stage_quiet.specs.declared.quiet.Quiet.{Quiet}
-use Rattle.call_stages.specs.stage_quiet.specs.declared.quiet.Quiet.TheVariants.{AtCore, AtFlush}
-use Rattle.call_stages.specs.stage_sweep.specs.Counters.{sum_of_counts, latest_stamp}
-use Rattle.call_stages.specs.stage_sweep.specs.Emptiness.{loads_of, may_be_cached}
-use Rattle.call_stages.specs.stage_sweep.specs.declared.empty.Owned.{Owned}
-use Rattle.call_stages.specs.stage_sweep.specs.declared.sweep.Sweep.{Sweep}
-use Rattle.call_stages.specs.stage_sweep.specs.declared.sweep.SweepAt.{SweepAt}
-use Rattle.call_stages.specs.stage_sweep.specs.declared.sweep.SweepAt.TheVariants.{Load as sweep_load, Compare, Scan, Empty}
-use Rattle.call_stages.specs.stage_sweep.specs.declared.sweep.Swept.{Swept}
-use Rattle.call_stages.specs.stage_sweep.specs.declared.thaw.Thaw.{Thaw}
-use Rattle.call_stages.specs.act_states.specs.declared.untypings.Release.{Release}
-use Rattle.call_stages.specs.act_states.specs.declared.untypings.UntypingAt.{UntypingAt}
-use Rattle.call_stages.specs.act_states.specs.declared.untypings.UntypingAt.TheVariants.{Load, Mark, Sweep as sweep_at, Draw}
-use Rattle.call_stages.specs.act_states.specs.declared.untypings.Untyping.{Untyping}
+use Rattle.act_fits.specs.stage_pins.specs.Counts.{unheld}
+use Rattle.act_fits.specs.stage_pins.specs.declared.held.Acquired.{Acquired}
+use Rattle.act_fits.specs.stage_quiet.specs.declared.quiet.Quiet.{Quiet}
+use Rattle.act_fits.specs.stage_quiet.specs.declared.quiet.Quiet.TheVariants.{AtCore, AtFlush}
+use Rattle.act_fits.specs.stage_sweep.specs.Counters.{sum_of_counts, latest_stamp}
+use Rattle.act_fits.specs.stage_sweep.specs.Emptiness.{loads_of, may_be_cached}
+use Rattle.act_fits.specs.stage_sweep.specs.declared.empty.Owned.{Owned}
+use Rattle.act_fits.specs.stage_sweep.specs.declared.sweep.Sweep.{Sweep}
+use Rattle.act_fits.specs.stage_sweep.specs.declared.sweep.SweepAt.{SweepAt}
+use Rattle.act_fits.specs.stage_sweep.specs.declared.sweep.SweepAt.TheVariants.{Load as sweep_load, Compare, Scan, Empty}
+use Rattle.act_fits.specs.stage_sweep.specs.declared.sweep.Swept.{Swept}
+use Rattle.act_fits.specs.stage_sweep.specs.declared.thaw.Thaw.{Thaw}
+use Rattle.act_fits.specs.act_states.specs.declared.untypings.Release.{Release}
+use Rattle.act_fits.specs.act_states.specs.declared.untypings.UntypingAt.{UntypingAt}
+use Rattle.act_fits.specs.act_states.specs.declared.untypings.UntypingAt.TheVariants.{Load, Mark, Sweep as sweep_at, Draw}
+use Rattle.act_fits.specs.act_states.specs.declared.untypings.Untyping.{Untyping}
 
 -- The call makes this frame untyped, which the range has to which its name has led.
 pub record IsUntyped (f : ℕ) (m : Untyping) (has : Bool) : Type 0 where

@@ -8,9 +8,9 @@ use Rattle.kernel_invariant.specs.spk_nums.specs.declared.calls.Call.TheVariants
 use Rattle.kernel_invariant.specs.spk_nums.specs.declared.kinds.Kind.TheVariants as kind
 use Rattle.kernel_history.specs.tcap_words.specs.Thread.{word_of_thread}
 use Rattle.kernel_history.specs.tcap_words.specs.declared.thread_word.ThreadWord.TheVariants.{Idle, Running}
-use Rattle.call_stages.specs.stage_thread.specs.declared.claim.Claim.{Claim as ClaimOf}
-use Rattle.call_stages.specs.stage_thread.specs.declared.claim.Claim.TheVariants.{AtLoad, AtCompare, AtStack}
-use Rattle.call_stages.specs.stage_thread.specs.declared.claim.Claimed.{Claimed}
+use Rattle.act_fits.specs.stage_thread.specs.declared.claim.Claim.{Claim as ClaimOf}
+use Rattle.act_fits.specs.stage_thread.specs.declared.claim.Claim.TheVariants.{AtLoad, AtCompare, AtStack}
+use Rattle.act_fits.specs.stage_thread.specs.declared.claim.Claimed.{Claimed}
 use Rattle.kernel_history.specs.word_map.specs.Word.{EntryAt}
 use Rattle.kernel_invariant.specs.kernel_rules.specs.State.{State, comp_in, first_of_stack, thread_in, thread_of}
 use Rattle.kernel_invariant.specs.kernel_rules.specs.Fitting.{fits}
@@ -18,9 +18,9 @@ use Rattle.kernel_invariant.specs.kernel_rules.specs.Relies.{IsGuarded}
 use Rattle.kernel_history.specs.Discipline.{changes_threads}
 use Rattle.kernel_history.specs.Footprint.{IsNearIn}
 use Rattle.kernel_history.specs.Trace.{Trace, WasAt, own_read, state_after}
-use Rattle.call_stages.specs.act_states.specs.declared.switches.Switching.{Switching}
-use Rattle.call_stages.specs.act_states.specs.declared.switches.SwitchAt.{SwitchAt}
-use Rattle.call_stages.specs.act_states.specs.declared.switches.SwitchAt.TheVariants.{Claim, LoadTable, LoadPages, Leave, Draw}
+use Rattle.act_fits.specs.act_states.specs.declared.switches.Switching.{Switching}
+use Rattle.act_fits.specs.act_states.specs.declared.switches.SwitchAt.{SwitchAt}
+use Rattle.act_fits.specs.act_states.specs.declared.switches.SwitchAt.TheVariants.{Claim, LoadTable, LoadPages, Leave, Draw}
 use Rattle.core_invariant.specs.Holding.{Holding, keeps}
 use Rattle.core_invariant.specs.Components.{HasComp}
 

@@ -26,7 +26,7 @@ use Rattle.kernel_invariant.specs.kernel_rules.specs.References.{sum_below, refs
 use Rattle.kernel_history.specs.Counts.{counters, count_sum}
 use Rattle.core_invariant.specs.CountWords.{IsWithin, newest_of}
 use Rattle.kernel_history.specs.ObjectWords.{frame_value, thread_value, at_height}
-use Rattle.call_stages.specs.stage_look.specs.Shown.{CapNames}
+use Rattle.act_fits.specs.stage_look.specs.Shown.{CapNames}
 
 -- The stamps that words carry: that of the grace period of a thing, and those of a core's last exit and last flush.
 pub record Times : Type 0 where

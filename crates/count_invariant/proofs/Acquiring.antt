@@ -22,10 +22,10 @@ use Rattle.step_ways.proofs.Common.{holds_tail, names_on, counts_on}
 use Rattle.count_invariant.proofs.SwitchCounts.{switch_of, switch_counts, switch_due_near, switch_left}
 use Rattle.count_invariant.proofs.StackCounts.{invoke_counts, invoke_near, invoking_due, returning_due, top_near}
 use Rattle.count_invariant.proofs.ActBares.{acquired_bares, committed_bares}
-use Rattle.act_fits.specs.act_states.specs.Comps.{comp_meets_number}
+use Rattle.step_ways.specs.act_states.specs.Comps.{comp_meets_number}
 use Rattle.count_invariant.proofs.ActHolds.{SparesSwept, undo_holds, act_count, act_over}
 use Rattle.count_invariant.proofs.CompCounts.{comp_call, comp_counts, comp_due_near, comp_left}
-use Rattle.act_fits.specs.act_states.specs.declared.comps.CompAt.TheVariants as comp_at
+use Rattle.step_ways.specs.act_states.specs.declared.comps.CompAt.TheVariants as comp_at
 use Rattle.std.proofs.Common.{length-append}
 use Rattle.std.proofs.Common.{lt-ltb}
 use Rattle.plan_ways.specs.spk_nums.specs.declared.replies.Reply.TheVariants as reply
@@ -34,13 +34,13 @@ use Rattle.plan_ways.specs.frame_words.specs.declared.count_word.Hold.TheVariant
 use Rattle.plan_ways.specs.frame_words.proofs.CountLemmas as counts
 use Rattle.plan_ways.specs.kernel_rules.specs.State.{Free as Vacant, Quiescing as Removed}
 use Rattle.plan_ways.specs.kernel_history.specs.Footprint.{frame_of_cap}
-use Rattle.act_fits.specs.stage_quiet.specs.declared.close.Close.TheVariants.{AtCompare as close_compare}
-use Rattle.act_fits.specs.stage_pins.specs.Counts.{acquired}
-use Rattle.act_fits.specs.stage_pins.specs.Acquire.{load_end, pinned_at, compare_end, pin_move, pin_end, pin_after, after_load}
-use Rattle.act_fits.specs.stage_pins.specs.Commit.{settled_word}
-use Rattle.act_fits.specs.stage_pins.specs.Held.{commit_of}
-use Rattle.act_fits.specs.stage_pins.specs.declared.pin.Pin.TheVariants.{AtCompare}
-use Rattle.act_fits.specs.stage_pins.proofs.PinLemmas.{changed_none}
+use Rattle.step_ways.specs.stage_quiet.specs.declared.close.Close.TheVariants.{AtCompare as close_compare}
+use Rattle.step_ways.specs.stage_pins.specs.Counts.{acquired}
+use Rattle.step_ways.specs.stage_pins.specs.Acquire.{load_end, pinned_at, compare_end, pin_move, pin_end, pin_after, after_load}
+use Rattle.step_ways.specs.stage_pins.specs.Commit.{settled_word}
+use Rattle.step_ways.specs.stage_pins.specs.Held.{commit_of}
+use Rattle.step_ways.specs.stage_pins.specs.declared.pin.Pin.TheVariants.{AtCompare}
+use Rattle.step_ways.specs.stage_pins.proofs.PinLemmas.{changed_none}
 use Rattle.plan_ways.specs.Laws.{IsTargetOf}
 use Rattle.plan_ways.proofs.Ways.{target_is}
 use Rattle.plan_ways.proofs.Near.{one_left, one_right, near_about}
@@ -48,20 +48,20 @@ use Rattle.count_invariant.proofs.MakingCounts.{no_due, made_counts, made_change
 use Rattle.count_invariant.proofs.SweepCounts.{sweep_counts, sweep_near, sweep_left, sweep_spares}
 use Rattle.count_invariant.proofs.KillingCounts.{kill_counts, kill_near, killing_due}
 use Rattle.count_invariant.proofs.Findings.{found_named}
-use Rattle.act_fits.specs.act_states.specs.declared.refusals.Refusal.TheVariants as refusal
-use Rattle.act_fits.specs.act_states.specs.declared.work.Act.{Act as ActOf}
-use Rattle.act_fits.specs.act_states.specs.declared.work.Act.TheVariants.{Fill as fill_act, Remove as remove_act, Retype as type_act}
-use Rattle.act_fits.specs.act_states.specs.declared.work.Act.TheVariants.{Make as make_act, Tick as tick_act, Flush as flush_act}
-use Rattle.act_fits.specs.act_states.specs.declared.work.Act.TheVariants.{Kill as kill_act, Untype as untype_act, Map as map_act}
-use Rattle.act_fits.specs.act_states.specs.declared.work.Act.TheVariants.{MakeComp as comp_act, Invoke as invoke_act, Return as return_act}
-use Rattle.act_fits.specs.act_states.specs.declared.work.Act.TheVariants.{Touch as touch_act, Share as share_act, Switch as switch_act}
-use Rattle.act_fits.specs.act_states.specs.declared.work.WorkStep.TheVariants.{Acquires}
-use Rattle.act_fits.specs.act_states.specs.Acts.{acquires}
-use Rattle.act_fits.specs.call_stages.specs.Steps.{took_count, gives_up}
-use Rattle.act_fits.specs.call_stages.specs.Tails.{is_ok}
-use Rattle.act_fits.proofs.DuesFit.{few_dues}
-use Rattle.act_fits.specs.act_states.specs.declared.untypings.UntypingAt.TheVariants as untype
-use Rattle.act_fits.specs.act_states.specs.Untypings.{is_drawing}
+use Rattle.step_ways.specs.act_states.specs.declared.refusals.Refusal.TheVariants as refusal
+use Rattle.step_ways.specs.act_states.specs.declared.work.Act.{Act as ActOf}
+use Rattle.step_ways.specs.act_states.specs.declared.work.Act.TheVariants.{Fill as fill_act, Remove as remove_act, Retype as type_act}
+use Rattle.step_ways.specs.act_states.specs.declared.work.Act.TheVariants.{Make as make_act, Tick as tick_act, Flush as flush_act}
+use Rattle.step_ways.specs.act_states.specs.declared.work.Act.TheVariants.{Kill as kill_act, Untype as untype_act, Map as map_act}
+use Rattle.step_ways.specs.act_states.specs.declared.work.Act.TheVariants.{MakeComp as comp_act, Invoke as invoke_act, Return as return_act}
+use Rattle.step_ways.specs.act_states.specs.declared.work.Act.TheVariants.{Touch as touch_act, Share as share_act, Switch as switch_act}
+use Rattle.step_ways.specs.act_states.specs.declared.work.WorkStep.TheVariants.{Acquires}
+use Rattle.step_ways.specs.act_states.specs.Acts.{acquires}
+use Rattle.step_ways.specs.call_stages.specs.Steps.{took_count, gives_up}
+use Rattle.step_ways.specs.call_stages.specs.Tails.{is_ok}
+use Rattle.step_ways.specs.act_fits.proofs.DuesFit.{few_dues}
+use Rattle.step_ways.specs.act_states.specs.declared.untypings.UntypingAt.TheVariants as untype
+use Rattle.step_ways.specs.act_states.specs.Untypings.{is_drawing}
 use Rattle.step_ways.specs.core_invariant.specs.Knows.{pin_frame}
 use Rattle.step_ways.specs.core_invariant.specs.Knows.{pin_core, IsRemoval, KnowsClose}
 use Rattle.plan_ways.specs.kernel_history.specs.Discipline.{may_count}

@@ -6,26 +6,26 @@ use Rattle.step_ways.proofs.Common.{EntryAt, CountAt, FrameAt, LiveAt, same_word
 use Rattle.step_ways.proofs.Common.{release_of, swept_of, thaw_of, holds_untyping, thaws_own, Holding, keeps, holds_act}
 use Rattle.step_ways.proofs.Common.{holds_tail, holds_making, holds_killing, holds_comp, holds_head, holds_share, PairAt, LoadA, MarkA}
 use Rattle.step_ways.proofs.Common.{ListA, LoadB, ListB, CompareB, AgainB, StoreList, StoreB, StoreA, amount_of, word_of_head}
-use Rattle.act_fits.specs.act_states.specs.Comps.{comp_undo}
-use Rattle.act_fits.specs.act_states.specs.Makings.{undo_at}
-use Rattle.act_fits.specs.act_states.specs.declared.comps.CompAt.TheVariants as comp_at
-use Rattle.act_fits.specs.act_states.specs.Kills.{is_killing}
-use Rattle.act_fits.specs.act_states.specs.declared.kills.KillingAt.TheVariants.{Close as kill_close, Draw as kill_draw}
-use Rattle.act_fits.specs.act_states.specs.declared.makings.MakingAt.TheVariants.{Load as making_load, Fill as making_fill}
+use Rattle.step_ways.specs.act_states.specs.Comps.{comp_undo}
+use Rattle.step_ways.specs.act_states.specs.Makings.{undo_at}
+use Rattle.step_ways.specs.act_states.specs.declared.comps.CompAt.TheVariants as comp_at
+use Rattle.step_ways.specs.act_states.specs.Kills.{is_killing}
+use Rattle.step_ways.specs.act_states.specs.declared.kills.KillingAt.TheVariants.{Close as kill_close, Draw as kill_draw}
+use Rattle.step_ways.specs.act_states.specs.declared.makings.MakingAt.TheVariants.{Load as making_load, Fill as making_fill}
 use Rattle.plan_ways.specs.frame_words.proofs.CountLemmas as counts
-use Rattle.act_fits.specs.stage_quiet.specs.declared.close.Close.TheVariants.{AtCompare as close_compare}
-use Rattle.act_fits.specs.act_states.specs.declared.work.Act.{Act as ActOf}
-use Rattle.act_fits.specs.act_states.specs.declared.work.Act.TheVariants.{Fill as fill_act, Remove as remove_act, Retype as type_act}
-use Rattle.act_fits.specs.act_states.specs.declared.work.Act.TheVariants.{Make as make_act, Tick as tick_act, Kill as kill_act}
-use Rattle.act_fits.specs.act_states.specs.declared.work.Act.TheVariants.{MakeComp as comp_act, Map as map_act, Flush as flush_act}
-use Rattle.act_fits.specs.act_states.specs.declared.work.Act.TheVariants.{Untype as untype_act, Touch as touch_act, Share as share_act}
-use Rattle.act_fits.specs.act_states.specs.declared.work.Act.TheVariants.{Invoke as invoke_act, Return as return_act, Switch as switch_act}
-use Rattle.act_fits.specs.act_states.specs.declared.untypings.UntypingAt.TheVariants as untype
-use Rattle.act_fits.specs.act_states.specs.Untypings.{untyping_undo}
+use Rattle.step_ways.specs.stage_quiet.specs.declared.close.Close.TheVariants.{AtCompare as close_compare}
+use Rattle.step_ways.specs.act_states.specs.declared.work.Act.{Act as ActOf}
+use Rattle.step_ways.specs.act_states.specs.declared.work.Act.TheVariants.{Fill as fill_act, Remove as remove_act, Retype as type_act}
+use Rattle.step_ways.specs.act_states.specs.declared.work.Act.TheVariants.{Make as make_act, Tick as tick_act, Kill as kill_act}
+use Rattle.step_ways.specs.act_states.specs.declared.work.Act.TheVariants.{MakeComp as comp_act, Map as map_act, Flush as flush_act}
+use Rattle.step_ways.specs.act_states.specs.declared.work.Act.TheVariants.{Untype as untype_act, Touch as touch_act, Share as share_act}
+use Rattle.step_ways.specs.act_states.specs.declared.work.Act.TheVariants.{Invoke as invoke_act, Return as return_act, Switch as switch_act}
+use Rattle.step_ways.specs.act_states.specs.declared.untypings.UntypingAt.TheVariants as untype
+use Rattle.step_ways.specs.act_states.specs.Untypings.{untyping_undo}
 use Rattle.step_ways.specs.core_invariant.proofs.Freezing.{release_over, thaw_away}
 use Rattle.step_ways.specs.core_invariant.specs.Knows.{is_counting}
 use Rattle.step_ways.specs.core_invariant.proofs.ThreadHolds.{switching_count, switching_over, switching_undo_holds}
-use Rattle.act_fits.specs.stage_tcap.specs.Pairs.{left_a}
+use Rattle.step_ways.specs.stage_tcap.specs.Pairs.{left_a}
 
 -- While its counts are acquired an act holds what it will hold at its next step, which is what a refusal has then to store.
 pub undo_holds : (act : ActOf) (h : Holding) → is_counting act ≡ true → holds_tail (undo act) h ≡ holds_act act h

@@ -11,8 +11,8 @@ use Rattle.plan_ways.specs.spk_nums.specs.declared.kinds.Kind.TheVariants as kin
 use Rattle.plan_ways.specs.kernel_history.specs.Footprint.{numbers_near}
 use Rattle.plan_ways.proofs.Near.{one_left, near_found}
 use Rattle.plan_ways.specs.call_plans.specs.declared.plans.Nth.TheVariants.{Third, Fourth}
-use Rattle.act_fits.specs.act_states.specs.Comps.{comp_undo, comp_meets_number}
-use Rattle.act_fits.specs.act_states.specs.declared.comps.CompAt.TheVariants as comp_at
+use Rattle.step_ways.specs.act_states.specs.Comps.{comp_undo, comp_meets_number}
+use Rattle.step_ways.specs.act_states.specs.declared.comps.CompAt.TheVariants as comp_at
 use Rattle.step_ways.specs.core_invariant.specs.Knows.{MakesCompBy}
 use Rattle.count_invariant.proofs.MakingCounts.{argument_near, blank_left, named_kind, no_due}
 

@@ -11,7 +11,7 @@ use Rattle.step_ways.proofs.Common.{settled_by, settled, SaysCount, count_room, 
 use Rattle.step_ways.proofs.Common.{count_shown, SumIs, Invariant, limits_of, ReadsAlike, others_settled, own_settled}
 use Rattle.std.proofs.lemmas.List.Elements.{All-map, All-weaker}
 use Rattle.plan_ways.specs.frame_words.proofs.CountLemmas as counts
-use Rattle.act_fits.specs.stage_pins.proofs.PinLemmas.{changed_none}
+use Rattle.step_ways.specs.stage_pins.proofs.PinLemmas.{changed_none}
 use Rattle.step_ways.specs.core_invariant.specs.CountWords.{newest_of}
 use Rattle.step_ways.specs.kept_facts.proofs.CountSums.{counter_once, sum_same, sum_by, newest_same, newest_one}
 use Rattle.step_ways.proofs.Counting.{first_marked, first_stands}

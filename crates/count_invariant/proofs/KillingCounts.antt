@@ -5,8 +5,8 @@ use Rattle.step_ways.proofs.Common.{First, at_place, plan_for, Leads, LeadsIn, K
 use Rattle.std.specs.Prelude.{List, negsuc}
 use Rattle.plan_ways.specs.spk_nums.specs.declared.kinds.Kind.TheVariants as kind
 use Rattle.plan_ways.proofs.Near.{near_found}
-use Rattle.act_fits.specs.act_states.specs.declared.kills.KillingAt.TheVariants.{Close, Draw}
-use Rattle.act_fits.specs.act_states.specs.Acts.{killing_dues}
+use Rattle.step_ways.specs.act_states.specs.declared.kills.KillingAt.TheVariants.{Close, Draw}
+use Rattle.step_ways.specs.act_states.specs.Acts.{killing_dues}
 use Rattle.step_ways.specs.core_invariant.specs.Knows.{KillsBy}
 use Rattle.count_invariant.proofs.MakingCounts.{no_due}
 

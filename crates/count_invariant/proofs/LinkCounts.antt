@@ -9,7 +9,7 @@ use Rattle.plan_ways.specs.spk_nums.specs.declared.kinds.Kind.TheVariants as kin
 use Rattle.plan_ways.specs.kernel_rules.specs.Start.{plain_cap}
 use Rattle.plan_ways.specs.kernel_rules.specs.CapabilityCalls.{leaf_of, leaf_for}
 use Rattle.plan_ways.proofs.Near.{near_found}
-use Rattle.act_fits.specs.act_states.specs.Acts.{link_to, page_of}
+use Rattle.step_ways.specs.act_states.specs.Acts.{link_to, page_of}
 use Rattle.count_invariant.proofs.MakingCounts.{argument_near, named_kind}
 
 -- A leaf names its frame.

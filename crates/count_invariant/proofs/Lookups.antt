@@ -20,16 +20,16 @@ use Rattle.plan_ways.specs.kernel_rules.specs.State.{Free as Vacant, Quiescing a
 use Rattle.plan_ways.specs.kernel_history.specs.Ways.{led_to}
 use Rattle.step_ways.specs.trace_laws.proofs.Stays.{relies_reached}
 use Rattle.plan_ways.specs.kernel_history.proofs.Steps.{own_left-here}
-use Rattle.act_fits.specs.stage_look.specs.Shown.{held_if, entry_within, is_link}
-use Rattle.act_fits.specs.stage_look.specs.Lookup.{found_at}
-use Rattle.act_fits.specs.act_states.specs.declared.refusals.Refusal.TheVariants as refusal
-use Rattle.act_fits.specs.call_stages.specs.Steps.{took_end, took_look, took_found}
+use Rattle.step_ways.specs.stage_look.specs.Shown.{held_if, entry_within, is_link}
+use Rattle.step_ways.specs.stage_look.specs.Lookup.{found_at}
+use Rattle.step_ways.specs.act_states.specs.declared.refusals.Refusal.TheVariants as refusal
+use Rattle.step_ways.specs.call_stages.specs.Steps.{took_end, took_look, took_found}
 use Rattle.step_ways.specs.core_invariant.specs.Knows.{ReliesOn}
 use Rattle.step_ways.proofs.Loads.{OnlyLooks, step_to, next_at, is_active, loads_on}
 use Rattle.step_ways.proofs.Places.{IsMarked, IsUnmarked, place_reads}
 use Rattle.step_ways.proofs.Refusals.{GoodTook, ticks_at, NobodyWaits, refuses_no_slot, refuses_busy}
-use Rattle.act_fits.specs.stage_look.specs.Lookup.{after_link}
-use Rattle.act_fits.specs.stage_look.specs.Lookup.{end_by_link}
+use Rattle.step_ways.specs.stage_look.specs.Lookup.{after_link}
+use Rattle.step_ways.specs.stage_look.specs.Lookup.{end_by_link}
 
 -- What an entry shows of a place.
 pub record ShowsHeld (frames : ℕ) (p : Place) (k : Capability) : Type 0 where

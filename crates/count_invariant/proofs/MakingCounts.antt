@@ -18,10 +18,10 @@ use Rattle.plan_ways.specs.frame_words.proofs.FrameLemmas as frames
 use Rattle.plan_ways.proofs.Near.{one_right, near_about, near_found}
 use Rattle.plan_ways.specs.call_plans.specs.declared.plans.Nth.TheVariants.{Third}
 use Rattle.plan_ways.specs.call_plans.specs.PlanOf.{of_kind as of_kind_name}
-use Rattle.act_fits.specs.act_states.specs.Objects.{object_names, thread_on}
-use Rattle.act_fits.specs.act_states.specs.Makings.{undo_at}
-use Rattle.act_fits.specs.act_states.specs.declared.makings.MakingAt.TheVariants.{Load as making_load, Fill as making_fill}
-use Rattle.act_fits.specs.act_states.specs.declared.objects.NewObject.TheVariants.{Table, Leaf, Pages, Pleaf, Thread, Tcap}
+use Rattle.step_ways.specs.act_states.specs.Objects.{object_names, thread_on}
+use Rattle.step_ways.specs.act_states.specs.Makings.{undo_at}
+use Rattle.step_ways.specs.act_states.specs.declared.makings.MakingAt.TheVariants.{Load as making_load, Fill as making_fill}
+use Rattle.step_ways.specs.act_states.specs.declared.objects.NewObject.TheVariants.{Table, Leaf, Pages, Pleaf, Thread, Tcap}
 
 -- The frame of a count that is due is one that the capability names.
 pub due_named : (fs : List ℕ) (z : ℤ) (xs : List Due) (d : Due) (rest : List Due)

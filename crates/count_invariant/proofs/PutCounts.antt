@@ -15,7 +15,7 @@ use Rattle.plan_ways.specs.spk_nums.specs.declared.kinds.Kind.TheVariants.{Comp 
 use Rattle.plan_ways.specs.kernel_rules.specs.Rules.{of_kind}
 use Rattle.plan_ways.proofs.Near.{near_found}
 use Rattle.count_invariant.proofs.LinkCounts.{link_near, page_near}
-use Rattle.act_fits.specs.act_states.specs.Acts.{gate_if, gate_to, kept_of}
+use Rattle.step_ways.specs.act_states.specs.Acts.{gate_if, gate_to, kept_of}
 
 -- A call that fills its target changes references, and the frame that it names there is near it: a line a call.
 pub put_counts : (call : Call) (ks : List Capability) (read : Option ℕ) (k : Capability) → put_by call ks read ≡ Some k

@@ -9,8 +9,8 @@ use Rattle.std.proofs.Math.Bool.{or-true}
 use Rattle.plan_ways.specs.spk_nums.specs.declared.kinds.Kind.TheVariants as kind
 use Rattle.plan_ways.specs.spk_nums.specs.declared.calls.Call.TheVariants.{Call as call_gate}
 use Rattle.plan_ways.proofs.Near.{near_found, one_left}
-use Rattle.act_fits.specs.act_states.specs.declared.invocations.InvokingAt.TheVariants as invoking
-use Rattle.act_fits.specs.act_states.specs.declared.invocations.ReturningAt.TheVariants as returning
+use Rattle.step_ways.specs.act_states.specs.declared.invocations.InvokingAt.TheVariants as invoking
+use Rattle.step_ways.specs.act_states.specs.declared.invocations.ReturningAt.TheVariants as returning
 use Rattle.count_invariant.proofs.MakingCounts.{no_due}
 
 -- The call that enters a component.

@@ -16,9 +16,9 @@ use Rattle.plan_ways.specs.kernel_invariant.proofs.SoundRemovals.{unnamed}
 use Rattle.plan_ways.specs.frame_words.proofs.FrameLemmas as frames
 use Rattle.plan_ways.specs.kernel_history.specs.Footprint.{frames_about}
 use Rattle.plan_ways.proofs.Near.{one_left, one_right}
-use Rattle.act_fits.specs.act_states.specs.Untypings.{is_drawing, untyping_undo}
-use Rattle.act_fits.specs.act_states.specs.declared.untypings.UntypingAt.TheVariants as untype
-use Rattle.act_fits.specs.act_states.specs.declared.work.Act.TheVariants.{Untype as untype_act}
+use Rattle.step_ways.specs.act_states.specs.Untypings.{is_drawing, untyping_undo}
+use Rattle.step_ways.specs.act_states.specs.declared.untypings.UntypingAt.TheVariants as untype
+use Rattle.step_ways.specs.act_states.specs.declared.work.Act.TheVariants.{Untype as untype_act}
 use Rattle.step_ways.specs.core_invariant.specs.Knows.{pin_frame}
 use Rattle.step_ways.proofs.Loads.{is_active}
 use Rattle.step_ways.specs.kept_facts.proofs.Swept.{no_refs}

@@ -9,11 +9,11 @@ use Rattle.step_ways.proofs.Common.{Switching, SwitchAt, LoadTable, Due, KnowsTa
 use Rattle.std.specs.Prelude.{List, pos, negsuc}
 use Rattle.plan_ways.specs.spk_nums.specs.declared.kinds.Kind.TheVariants as kind
 use Rattle.plan_ways.specs.kernel_history.specs.Footprint.{frames_about}
-use Rattle.act_fits.specs.stage_thread.specs.declared.claim.Claim.TheVariants.{AtLoad, AtCompare}
-use Rattle.act_fits.specs.stage_thread.specs.declared.claim.Claimed.{Claimed}
+use Rattle.step_ways.specs.stage_thread.specs.declared.claim.Claim.TheVariants.{AtLoad, AtCompare}
+use Rattle.step_ways.specs.stage_thread.specs.declared.claim.Claimed.{Claimed}
 use Rattle.plan_ways.proofs.Near.{near_found, one_left}
-use Rattle.act_fits.specs.act_states.specs.Switches.{switching_dues, switch_due_list, switching_undo}
-use Rattle.act_fits.specs.act_states.specs.declared.switches.SwitchAt.TheVariants.{Claim, LoadPages, Leave, Draw}
+use Rattle.step_ways.specs.act_states.specs.Switches.{switching_dues, switch_due_list, switching_undo}
+use Rattle.step_ways.specs.act_states.specs.declared.switches.SwitchAt.TheVariants.{Claim, LoadPages, Leave, Draw}
 use Rattle.step_ways.specs.core_invariant.specs.Threads.{KnowsIdle, LeavesOwn}
 use Rattle.step_ways.proofs.Refusals.{IsRefusing}
 use Rattle.count_invariant.proofs.MakingCounts.{named_kind}

@@ -17,4 +17,5 @@ pub use Rattle.core_invariant.specs.stage_sweep
 pub use Rattle.core_invariant.specs.stage_tcap
 pub use Rattle.core_invariant.specs.act_states
 pub use Rattle.core_invariant.specs.call_stages
+pub use Rattle.core_invariant.specs.act_fits
 pub use Rattle.core_invariant
