@@ -1,3 +1,7 @@
+-- What the crates above name through this one.
+pub use Rattle.core_kernel
+pub use Rattle.async_ends
+-- Its own.
 pub mod Looks
 pub mod Ends
 pub mod Meets

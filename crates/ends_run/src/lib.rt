@@ -21,6 +21,8 @@ mod tallies;
 mod tests;
 mod whole;
 
+pub use async_ends;
 pub use authority::{MOST_FRAMES, SeatAuthority};
+pub use core_kernel;
 pub use runner::EndRunner;
 pub use whole::{EndsRan, run_ends};

@@ -1,10 +1,10 @@
 //! The machine.
 
 ghost use Rattle.std.specs.Prelude.{◌≡◌};
-ghost use Rattle.core_kernel.specs.kernel_history.specs.Trace.{state_after};
-ghost use Rattle.core_kernel.specs.Calls.{HasSeen};
+ghost use Rattle.ends_run.specs.core_kernel.specs.kernel_history.specs.Trace.{state_after};
+ghost use Rattle.ends_run.specs.core_kernel.specs.Calls.{HasSeen};
 
-use core_kernel::{CoreSeat, Kernel};
+use ends_run::core_kernel::{CoreSeat, Kernel};
 use fixed_prio::Machine;
 use sched_run::Boot;
 use spk_nums::{Call, Memory, Reply, Setup};
@@ -20,7 +20,7 @@ pub struct OneCore {
 
 impl Model for OneCore {
     ghost use Rattle.std.specs.Prelude.{◌≡◌};
-    ghost use Rattle.core_kernel.specs.Kernel.{CoreSeatValue};
+    ghost use Rattle.ends_run.specs.core_kernel.specs.Kernel.{CoreSeatValue};
 
     ghost Value = { CoreSeatValue };
 
@@ -30,7 +30,7 @@ impl Model for OneCore {
 }
 
 impl Machine for OneCore {
-    ghost use Rattle.core_kernel.specs.kernel_history.specs.Trace.{calls_of};
+    ghost use Rattle.ends_run.specs.core_kernel.specs.kernel_history.specs.Trace.{calls_of};
 
     ghost setup = { λ m. m.kernel.setup };
 

@@ -1,4 +1,5 @@
 -- What the crates above name through this one.
+pub use Rattle.told_run.specs.lone_kernel
 pub use Rattle.told_run
 pub use Rattle.origin_lines
 -- Its own.

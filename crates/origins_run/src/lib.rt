@@ -7,3 +7,4 @@ mod given;
 mod tracking;
 
 pub use given::origins;
+pub use told_run;
