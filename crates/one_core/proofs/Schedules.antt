@@ -15,10 +15,10 @@ use Rattle.ends_run.specs.core_kernel.specs.Calls.{HasSeen}
 use Rattle.one_core_laws.specs.Plainly.{IsPlain}
 use Rattle.one_core_laws.proofs.Plain.{one_core_is_plain}
 use Rattle.sched_rules.specs.Schedule.{Step, calls_of as calls_of_turns}
-use Rattle.sched_laws.specs.Charging.{TurnsCharge}
-use Rattle.sched_laws.proofs.Exactly.{exact_ticks}
-use Rattle.fixed_prio.specs.Machines.{after_calls}
-use Rattle.sched_reader.specs.Inputs.{Input, input_of}
+use Rattle.sched_run.specs.sched_laws.specs.Charging.{TurnsCharge}
+use Rattle.sched_run.specs.sched_laws.proofs.Exactly.{exact_ticks}
+use Rattle.sched_run.specs.fixed_prio.specs.Machines.{after_calls}
+use Rattle.sched_run.specs.sched_reader.specs.Inputs.{Input, input_of}
 use Rattle.sched_start.specs.Owing.{IsNoTick}
 use Rattle.sched_start.proofs.Owed.{owes_nothing}
 use Rattle.sched_start.proofs.Taken.{takes_no_tick}

@@ -18,7 +18,7 @@ use Rattle.sched_rules.specs.declared.tasks.Rule.{Rule}
 use Rattle.sched_rules.specs.declared.turns.Turn.{Turn}
 use Rattle.sched_rules.specs.Schedule.{Step, at_first, turns_of, IsSchedule, TaskFits}
 use Rattle.sched_rules.specs.Texts.{ran_by}
-use Rattle.sched_laws.proofs.Working.{work_is_kept}
+use Rattle.fixed_prio.specs.sched_laws.proofs.Working.{work_is_kept}
 use Rattle.sched_text.specs.Fitting.{RunsFit}
 use Rattle.fixed_prio.specs.Machines.{after_calls, Beside, MakesBoth}
 use Rattle.fixed_prio.specs.Courses.{HasScheduled}

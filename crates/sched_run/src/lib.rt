@@ -9,4 +9,5 @@
 
 mod run;
 
+pub use fixed_prio;
 pub use run::{Boot, Scheduled, sched};
