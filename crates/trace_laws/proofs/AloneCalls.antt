@@ -2,26 +2,26 @@
 use Rattle.std.proofs.Common.{◌≡◌, ◌&&◌, ◌||◌, not, IsTrue, inl, inr, ℕ, Bool, true, false, [], ◌∷◌, Option, Some, None, refl, sym, ◌∙◌, ap}
 use Rattle.std.proofs.Common.{subst, if◌then◌else◌}
 use Rattle.std.proofs.lemmas.Bool.{cases_eq, false≢true}
-use Rattle.spk_nums.specs.Setting.{Setting}
-use Rattle.spk_nums.specs.declared.calls.Call.{Call}
-use Rattle.spk_nums.specs.declared.replies.Value.{Value}
-use Rattle.spk_nums.specs.declared.replies.Reply.{Reply}
-use Rattle.spk_nums.specs.declared.replies.Reply.TheVariants as reply
-use Rattle.kernel_rules.specs.State.{Thing, NumberOf, State, comp_of}
-use Rattle.kernel_rules.specs.Rules.{Judged, Refused, Found, IsFoundAnd}
-use Rattle.kernel_rules.specs.CallRelation.{MayReply, are_calls_spent, change_of}
-use Rattle.kernel_rules.specs.Life.{is_dead_in, lives, outlives, may_act, asks_life, acts}
-use Rattle.kernel_rules.specs.Alone.{reply_in, first_reply, alone}
-use Rattle.kernel_rules.proofs.AloneLaw.{AreInside, waits_inside}
-use Rattle.kernel_history.specs.Trace.{Step, Trace, Phase, Out, Open, Decided, phase, after_enter}
-use Rattle.kernel_history.specs.Trace.{after_decide, after_return, state_after, state_entered, state_before}
-use Rattle.kernel_history.specs.Stamps.{is_in}
-use Rattle.kernel_history.specs.Legal.{MayEnter, IsLegal}
-use Rattle.kernel_history.specs.Events.{events_of}
-use Rattle.kernel_history.specs.Alone.{UnlessEnters, IsUndisturbed, IsAlone}
-use Rattle.kernel_history.proofs.Steps.{phase-own}
-use Rattle.kernel_history.proofs.Events.{state_is}
-use Rattle.kernel_history.proofs.Inside.{inside_is}
+use Rattle.boot_words.specs.spk_nums.specs.Setting.{Setting}
+use Rattle.boot_words.specs.spk_nums.specs.declared.calls.Call.{Call}
+use Rattle.boot_words.specs.spk_nums.specs.declared.replies.Value.{Value}
+use Rattle.boot_words.specs.spk_nums.specs.declared.replies.Reply.{Reply}
+use Rattle.boot_words.specs.spk_nums.specs.declared.replies.Reply.TheVariants as reply
+use Rattle.boot_words.specs.kernel_rules.specs.State.{Thing, NumberOf, State, comp_of}
+use Rattle.boot_words.specs.kernel_rules.specs.Rules.{Judged, Refused, Found, IsFoundAnd}
+use Rattle.boot_words.specs.kernel_rules.specs.CallRelation.{MayReply, are_calls_spent, change_of}
+use Rattle.boot_words.specs.kernel_rules.specs.Life.{is_dead_in, lives, outlives, may_act, asks_life, acts}
+use Rattle.boot_words.specs.kernel_rules.specs.Alone.{reply_in, first_reply, alone}
+use Rattle.boot_words.specs.kernel_rules.proofs.AloneLaw.{AreInside, waits_inside}
+use Rattle.boot_words.specs.kernel_history.specs.Trace.{Step, Trace, Phase, Out, Open, Decided, phase, after_enter}
+use Rattle.boot_words.specs.kernel_history.specs.Trace.{after_decide, after_return, state_after, state_entered, state_before}
+use Rattle.boot_words.specs.kernel_history.specs.Stamps.{is_in}
+use Rattle.boot_words.specs.kernel_history.specs.Legal.{MayEnter, IsLegal}
+use Rattle.boot_words.specs.kernel_history.specs.Events.{events_of}
+use Rattle.boot_words.specs.kernel_history.specs.Alone.{UnlessEnters, IsUndisturbed, IsAlone}
+use Rattle.boot_words.specs.kernel_history.proofs.Steps.{phase-own}
+use Rattle.boot_words.specs.kernel_history.proofs.Events.{state_is}
+use Rattle.boot_words.specs.kernel_history.proofs.Inside.{inside_is}
 use Rattle.trace_laws.proofs.Stays.{state_plain}
 
 -- what a call answers alone
@@ -32,7 +32,7 @@ ok_first s c call v may =
     sym (ap (λ b. if b then reply.CallsSpent else first_reply s c call) may.0
     ∙ ap (λ b. if b then reply_in (change_of s c call) else reply.Dead) may.1.0 ∙ found (change_of s c call) may.1.1)
   where
-    found : (j : Judged Rattle.kernel_rules.specs.Rules.Change) → IsFoundAnd j (λ k. k.value ≡ v) → reply_in j ≡ reply.Ok v
+    found : (j : Judged Rattle.boot_words.specs.kernel_rules.specs.Rules.Change) → IsFoundAnd j (λ k. k.value ≡ v) → reply_in j ≡ reply.Ok v
     found (Refused r) h = absurd h
     found (Found change) h = ap reply.Ok h
 

@@ -2,27 +2,28 @@
 use Rattle.std.proofs.Common.{◌≡◌, ◌≢◌, inl, inr, ℕ, ◌<◌, ◌≤◌, arith, Bool, true, false, cond}
 use Rattle.std.proofs.Common.{refl, sym, ◌∙◌, ap, subst, ◌∷◌, Option, Some, None, IsTrue}
 use Rattle.std.proofs.lemmas.Bool.{false≢true, cases_eq}
-use Rattle.spk_nums.specs.Setting.{Setting, IsSetting}
-use Rattle.spk_nums.specs.declared.calls.Call.{Call}
-use Rattle.spk_nums.specs.declared.replies.Reply.{Reply}
-use Rattle.word_map.specs.Word.{ClockAt, same_word}
-use Rattle.word_map.specs.Moves.{word_of}
-use Rattle.kernel_rules.specs.State.{Grace, Thing, PlaceOf, NumberOf, State, put}
-use Rattle.kernel_rules.specs.Start.{no_grace}
-use Rattle.kernel_rules.specs.CallRelation.{MayReply}
-use Rattle.kernel_rules.proofs.Within.{put_same, put_other}
-use Rattle.kernel_rules.specs.Relies.{is_node}
-use Rattle.kernel_invariant.proofs.Ends.{MayEnd, ends_by_rule}
-use Rattle.kernel_history.specs.Trace.{Step, Trace, Phase, Out, Open, Decided, phase, after_enter, state_after, state_entered, state_before}
-use Rattle.kernel_history.specs.Stamps.{ends_in, begins_at, ends_at, flushes_at, stamp, awaits_flushes}
-use Rattle.kernel_history.specs.Stamps.{clock, clock_seen, exit_of, flush_of, flush_stored}
-use Rattle.kernel_invariant.proofs.SoundRuns.{opened}
-use Rattle.kernel_history.specs.Legal.{MayDecide, MayFollow, IsLegal}
-use Rattle.kernel_history.proofs.Events.{entered_events}
+use Rattle.boot_words.specs.spk_nums.specs.Setting.{Setting, IsSetting}
+use Rattle.boot_words.specs.spk_nums.specs.declared.calls.Call.{Call}
+use Rattle.boot_words.specs.spk_nums.specs.declared.replies.Reply.{Reply}
+use Rattle.boot_words.specs.word_map.specs.Word.{ClockAt, same_word}
+use Rattle.boot_words.specs.word_map.specs.Moves.{word_of}
+use Rattle.boot_words.specs.kernel_rules.specs.State.{Grace, Thing, PlaceOf, NumberOf, State, put}
+use Rattle.boot_words.specs.kernel_rules.specs.Start.{no_grace}
+use Rattle.boot_words.specs.kernel_rules.specs.CallRelation.{MayReply}
+use Rattle.boot_words.specs.kernel_rules.proofs.Within.{put_same, put_other}
+use Rattle.boot_words.specs.kernel_rules.specs.Relies.{is_node}
+use Rattle.found_stays.specs.kernel_invariant.proofs.Ends.{MayEnd, ends_by_rule}
+use Rattle.boot_words.specs.kernel_history.specs.Trace.{Step, Trace, Phase, Out, Open, Decided, phase, after_enter, state_after}
+use Rattle.boot_words.specs.kernel_history.specs.Trace.{state_entered, state_before}
+use Rattle.boot_words.specs.kernel_history.specs.Stamps.{ends_in, begins_at, ends_at, flushes_at, stamp, awaits_flushes}
+use Rattle.boot_words.specs.kernel_history.specs.Stamps.{clock, clock_seen, exit_of, flush_of, flush_stored}
+use Rattle.found_stays.specs.kernel_invariant.proofs.SoundRuns.{opened}
+use Rattle.boot_words.specs.kernel_history.specs.Legal.{MayDecide, MayFollow, IsLegal}
+use Rattle.boot_words.specs.kernel_history.proofs.Events.{entered_events}
 use Rattle.trace_laws.proofs.Opens.{opens, open_inj}
-use Rattle.kernel_history.proofs.Steps.{stamp-begins, stamp-ends, stamp-kept, clock_seen-own, clock_seen-other}
-use Rattle.kernel_history.proofs.Inside.{entered-inside}
-use Rattle.kernel_history.specs.Graces.{GraceIs, KeepsTime, IsLeave}
+use Rattle.boot_words.specs.kernel_history.proofs.Steps.{stamp-begins, stamp-ends, stamp-kept, clock_seen-own, clock_seen-other}
+use Rattle.boot_words.specs.kernel_history.proofs.Inside.{entered-inside}
+use Rattle.boot_words.specs.kernel_history.specs.Graces.{GraceIs, KeepsTime, IsLeave}
 use Rattle.trace_laws.proofs.GraceSets.{left_of, left_other}
 use Rattle.trace_laws.proofs.GraceSteps.{cases_bool, grace_then, grace_now, then_begins, then_ends, then_flushes, then_kept}
 
