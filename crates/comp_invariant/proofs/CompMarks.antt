@@ -8,13 +8,13 @@ use Rattle.scan_invariant.proofs.Common.{FrameAt, put_same, Target, alone, rule_
 use Rattle.scan_invariant.proofs.Common.{Refused, RuleMay, Blank, Kernel, State, put}
 use Rattle.scan_invariant.proofs.Common.{refused_first, Carries, same_word-other}
 use Rattle.scan_invariant.proofs.Common.{own_read-here, own_read-there, IsAlone}
-use Rattle.scan_invariant.proofs.Common.{frames_near, is_one_of, marked_by, frame_mark}
+use Rattle.scan_invariant.proofs.Common.{footprint_frames, is_one_of, marked_by, frame_mark}
 use Rattle.scan_invariant.proofs.Common.{frame_value, Trace, Open, phase, state_after, Step, last_left, own_read}
 use Rattle.scan_invariant.proofs.Common.{left_may, own_pages, Acquired, dues, next_work, comp_dues, refuse, CompMaking, CompAt}
 use Rattle.scan_invariant.proofs.Common.{Act, Goes, landed, Core, ActiveCall, Undecided, names_on}
 use Rattle.scan_invariant.proofs.Common.{counts_on, spot_on, holds_counts, settled_by, keeps, phase_at, due_of}
 use Rattle.scan_invariant.proofs.Common.{KnowsUndecided, KnowsComp, KnowsCompAt, blank_word, holds_at, holds_in, Invariant}
-use Rattle.scan_invariant.proofs.Common.{holds, held_by, holds_comp, as_none, counts_bare, lent_elsewhere}
+use Rattle.scan_invariant.proofs.Common.{holds, held_by, holds_comp, as_none, counts_bare, exclusive_elsewhere}
 use Rattle.std.specs.Prelude.{if◌then◌else◌, List}
 use Rattle.std.proofs.Common.{is_some}
 use Rattle.state_laws.specs.spk_nums.specs.declared.kinds.FrameKind.TheVariants.{Untyped as FrameUntyped, User as FrameUser}
@@ -37,7 +37,7 @@ use Rattle.scan_invariant.specs.step_ways.proofs.Loads.{call_is, core_is}
 use Rattle.scan_invariant.specs.step_ways.proofs.Refusals.{GoodTook, ticks_at, refuses_busy, refuses_raced, not_spent}
 use Rattle.scan_invariant.specs.core_invariant.specs.Knows.{HasBlank}
 use Rattle.scan_invariant.specs.count_invariant.proofs.Acquiring.{knows_next, next_holds}
-use Rattle.scan_invariant.specs.count_invariant.proofs.CompCounts.{IsCompCall, makes_comp_on, comp_changes, comp_near}
+use Rattle.scan_invariant.specs.count_invariant.proofs.CompCounts.{IsCompCall, makes_comp_on, comp_changes, comp_footprint}
 use Rattle.scan_invariant.specs.place_invariant.proofs.Outside.{vacant_slot, vacant_here, stands_alone}
 use Rattle.comp_invariant.proofs.CompCalls as calls
 use Rattle.frame_invariant.proofs.Makes.{made_looks, not_blank_by, not_kernel_by, marked_fits}
@@ -85,12 +85,12 @@ module _ (setup : Setting) (setting : IsSetting setup) (cores : ℕ → Core) (t
   is : IsCompCall a.call a.found m
   is = calls.is setup setting cores t stands c here a active m stage_is has
 
-  near : is_one_of f (frames_near s c a.call) ≡ true
-  near = comp_near a.call a.found m is s c
+  footprint : is_one_of f (footprint_frames s c a.call) ≡ true
+  footprint = comp_footprint a.call a.found m is s c
 
   loading : OnlyLooks setup t c a.call (LoadOf (FrameAt f))
   loading = record {
-    of_call = record { moves = made_looks a.call (comp_changes a.call a.found m is); near = inl near };
+    of_call = record { moves = made_looks a.call (comp_changes a.call a.found m is); footprint = inl footprint };
     kept = refl;
     apart = λ d. refl;
   }
@@ -262,7 +262,7 @@ module _ (setup : Setting) (setting : IsSetting setup) (cores : ℕ → Core) (t
     met = knows_at (Mark word) at_is
 
     mark_of_call : IsOfCall setup t c a.call mark_it
-    mark_of_call = record { moves = comp_changes a.call a.found m is; near = inl near }
+    mark_of_call = record { moves = comp_changes a.call a.found m is; footprint = inl footprint }
 
     mark_lost : (was == word) ≡ false → GoodTook setup cores t c mark_it (landed a (comp_marks m word false))
     mark_lost other =
@@ -315,7 +315,7 @@ module _ (setup : Setting) (setting : IsSetting setup) (cores : ℕ → Core) (t
         })
         (counts_on setup t e c a.call (λ own. refl) a.counts (call_is setup setting cores t stands c here a active).counts)
         (call_is setup setting cores t stands c here a active).apart
-        (spares_other setup t e (λ g i h. cc)) (lent_elsewhere cores e (λ g i h. cc))
+        (spares_other setup t e (λ g i h. cc)) (exclusive_elsewhere cores e (λ g i h. cc))
       where
         no_counts : a.counts ≡ []
         no_counts = none_of a.counts (dues_at (Mark word) at_is)

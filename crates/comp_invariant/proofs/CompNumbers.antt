@@ -36,7 +36,7 @@ use Rattle.scan_invariant.specs.step_ways.proofs.Loads.{step_to, OnlyLooks, load
 use Rattle.scan_invariant.specs.step_ways.proofs.Refusals.{GoodTook, ticks_at, not_spent, busy_leaving}
 use Rattle.scan_invariant.specs.core_invariant.specs.Knows.{HasPassed}
 use Rattle.scan_invariant.specs.core_invariant.specs.Knows.{SaysBlank, MayTake, ScansNumber}
-use Rattle.scan_invariant.specs.count_invariant.proofs.CompCounts.{IsCompCall, makes_comp_on, comp_changes, comp_argument, number_near}
+use Rattle.scan_invariant.specs.count_invariant.proofs.CompCounts.{IsCompCall, makes_comp_on, comp_changes, comp_argument, number_footprint}
 use Rattle.scan_invariant.specs.place_invariant.proofs.Outside.{vacant_slot, vacant_here, stands_alone}
 use Rattle.comp_invariant.proofs.CompCalls as calls
 use Rattle.state_laws.specs.kernel_rules.specs.Rules as rules
@@ -294,7 +294,7 @@ module _ (setup : Setting) (setting : IsSetting setup) (cores : ℕ → Core) (t
   number_of_call : (move : Move) → word_of move ≡ LiveAt l → IsOfCall setup t c a.call (LoadOf (LiveAt l))
   number_of_call move same = record {
     moves = subst (λ x. IsTrue (looks_at_numbers x)) (sym is.call_is) refl;
-    near = inl (number_near a.call a.found m is s c);
+    footprint = inl (number_footprint a.call a.found m is s c);
   }
 
   looking : OnlyLooks setup t c a.call (LoadOf (LiveAt l))
@@ -421,7 +421,7 @@ module _ (setup : Setting) (setting : IsSetting setup) (cores : ℕ → Core) (t
     other same = fits.0.1 (same ∙ sym scan.core)
 
     core_looks : OnlyLooks setup t c a.call load
-    core_looks = record { of_call = record { moves = refl; near = inl tt }; kept = refl; apart = λ d. refl }
+    core_looks = record { of_call = record { moves = refl; footprint = inl tt }; kept = refl; apart = λ d. refl }
 
     core_apart : EntryAt node index ≢ CoreAt at
     core_apart h = cc

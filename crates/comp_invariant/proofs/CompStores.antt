@@ -11,8 +11,8 @@ use Rattle.scan_invariant.proofs.Common.{went_with, went, Core, ActiveCall, Unde
 use Rattle.scan_invariant.proofs.Common.{holds_counts, Holding, settled_by, settled, keeps, phase_at, KnowsUndecided, KnowsUnmark}
 use Rattle.scan_invariant.proofs.Common.{KnowsComp, KnowsCompAt, holds_at, holds_in, Invariant, done_by, holds, held_by, holds_comp}
 use Rattle.scan_invariant.proofs.Common.{IsFrameWord, count_room, comp_dues, comp_due_list, CompMakingFits, CompMaking, CompAt}
-use Rattle.scan_invariant.proofs.Common.{live_of_word, LiveFits, word_of_live, LiveWord, as_none, counts_bare, may_keep, unlent_word}
-use Rattle.scan_invariant.proofs.Common.{lent_elsewhere}
+use Rattle.scan_invariant.proofs.Common.{live_of_word, LiveFits, word_of_live, LiveWord, as_none, counts_bare, may_keep, not_exclusive_word}
+use Rattle.scan_invariant.proofs.Common.{exclusive_elsewhere}
 use Rattle.std.specs.Prelude.{if◌then◌else◌, ◌==◌, ◌||◌}
 use Rattle.state_laws.specs.spk_nums.specs.declared.calls.Call.TheVariants.{Make as make_call}
 use Rattle.state_laws.specs.spk_nums.specs.declared.kinds.Obj.TheVariants as obj
@@ -30,14 +30,14 @@ use Rattle.scan_invariant.specs.step_ways.proofs.Loads.{IsOfCall, core_in_call, 
 use Rattle.scan_invariant.specs.step_ways.proofs.Refusals.{GoodTook, ticks_at, raced_leaving}
 use Rattle.scan_invariant.specs.step_ways.proofs.Writes.{stores_on}
 use Rattle.scan_invariant.specs.core_invariant.specs.Knows.{SaysBlank, MayTake, TakesNumber, HasWords, KnowsLive}
-use Rattle.scan_invariant.specs.count_invariant.proofs.Lookups.{near_way}
+use Rattle.scan_invariant.specs.count_invariant.proofs.Lookups.{footprint_way}
 use Rattle.scan_invariant.specs.count_invariant.proofs.MakingCounts.{blank_left}
 use Rattle.scan_invariant.specs.place_invariant.proofs.Fills.{target_way, changes_node}
 use Rattle.scan_invariant.specs.act_states.specs.Comps.{comp_goes, CompAtFits}
 use Rattle.scan_invariant.specs.act_states.specs.Comps.{comp_word_at, comp_stored, closes_number, comp_published}
 use Rattle.scan_invariant.specs.act_states.specs.declared.comps.CompAt.TheVariants.{Close, Store, Fill}
 use Rattle.scan_invariant.specs.count_invariant.proofs.CompCounts.{IsCompCall, makes_comp_on, comp_changes, comp_argument}
-use Rattle.scan_invariant.specs.count_invariant.proofs.CompCounts.{number_near, comp_places, comp_numbers, comp_near}
+use Rattle.scan_invariant.specs.count_invariant.proofs.CompCounts.{number_footprint, comp_places, comp_numbers, comp_footprint}
 use Rattle.comp_invariant.proofs.CompCalls as calls
 use Rattle.state_laws.specs.kernel_rules.specs.Rules as rules
 use Rattle.scan_invariant.specs.frame_words.specs.declared.live_word.LiveWord.TheVariants as live_word
@@ -103,7 +103,7 @@ module _ (setup : Setting) (setting : IsSetting setup) (cores : ℕ → Core) (t
   close_of_call : IsOfCall setup t c a.call close_it
   close_of_call = record {
     moves = subst (λ x. IsTrue (changes_numbers x)) (sym is.call_is) refl;
-    near = inl (number_near a.call a.found m is s c);
+    footprint = inl (number_footprint a.call a.found m is s c);
   }
 
   close_lost : (was == last.word) ≡ false → GoodTook setup cores t c close_it (landed a (closes_number m word last false))
@@ -207,7 +207,7 @@ module _ (setup : Setting) (setting : IsSetting setup) (cores : ℕ → Core) (t
         })
         (counts_on setup t e c a.call (λ own. refl) a.counts (call_is setup setting cores t stands c here a active).counts)
         (call_is setup setting cores t stands c here a active).apart
-        (spares_other setup t e (λ g i h. cc)) (lent_elsewhere cores e (λ g i h. cc))
+        (spares_other setup t e (λ g i h. cc)) (exclusive_elsewhere cores e (λ g i h. cc))
 
   pub close_good : GoodTook setup cores t c close_it (landed a (closes_number m word last (was == last.word)))
   close_good = by_test (was == last.word) refl
@@ -369,10 +369,10 @@ module _ (setup : Setting) (setting : IsSetting setup) (cores : ℕ → Core) (t
       (record {
         moves = subst (λ x. IsTrue (changes_in_frame x (now.frame f))) (sym of.call_is)
             (ap (changes_in_frame (make_call (make.Comp of.x of.p m.number) of.name f of.root of.slot)) blank);
-        near = inl (comp_near a.call a.found m of now c);
+        footprint = inl (comp_footprint a.call a.found m of now c);
       })
       (λ b. refl) (λ h. cc) (λ g b h. cc) lands
-      (stored_holds (nat_lt n 2) ∙ sym held_store) (unlent_word setup cores t stands f n (ap may_keep blank)) opens_now
+      (stored_holds (nat_lt n 2) ∙ sym held_store) (not_exclusive_word setup cores t stands f n (ap may_keep blank)) opens_now
       (subst (λ x. IsFrameWord now.limits.frames (count_room now) x (now.place f n) (stamp setup t (PlaceOf f n)) n (words n))
       (sym blank) tt)
       (spares_blank setup t e f n refl blank own_mark)
@@ -434,7 +434,7 @@ module _ (setup : Setting) (setting : IsSetting setup) (cores : ℕ → Core) (t
   put_of_call = record {
     moves = changes_node a.call (st_now.frame m.fill.node) (comp_places a.call a.found m call_of)
         (calls.in_node setup setting cores t stands c here a active m stage_is has);
-    near = inl (near_way st_now c a.call m.fill.node m.fill.entry
+    footprint = inl (footprint_way st_now c a.call m.fill.node m.fill.entry
         (next_on_way st_now c (own_pages st_now c) a.plan (rule_of st_now c a.call)
         a.found
         (calls.by_plan setup setting cores t stands c here a active m stage_is has)
@@ -454,7 +454,7 @@ module _ (setup : Setting) (setting : IsSetting setup) (cores : ℕ → Core) (t
   pub gives_back : (e : Step) → KnowsLive setup (e ∷ t) c a.call m.number last.word m.frame word
   gives_back e = record {
     numbers = comp_numbers a.call a.found m call_of;
-    near = inl (number_near a.call a.found m call_of (state_after setup (e ∷ t)) c);
+    footprint = inl (number_footprint a.call a.found m call_of (state_after setup (e ∷ t)) c);
     bare = (spelled (live_of_word last.word) refl at_fill.1.may).0;
     small = (spelled (live_of_word last.word) refl at_fill.1.may).1;
     unmark = blank_left m.frame word a.call (comp_changes a.call a.found m call_of) (comp_argument a.call a.found m call_of) at_fill.0;
@@ -509,7 +509,7 @@ module _ (setup : Setting) (setting : IsSetting setup) (cores : ℕ → Core) (t
       let e : Step = inner setup setting cores t stands c here a active give_back None None in
       let after : Core = core_in_call (cores c) (cores c).own.made next in
       counting.holds_on setup setting cores t stands c here a active give_back next (λ b. refl) (λ h. cc) refl
-      (record { moves = has.numbers; near = inr has.near }) lands has.small
+      (record { moves = has.numbers; footprint = inr has.footprint }) lands has.small
       (λ w there. (
         sym (ap (λ h. h.marks w) was_held ∙ ap (λ b. if b then true else rest.marks w) (same_word-other w (LiveAt l) there)),
         sym (ap (λ h. h.stands w) was_held ∙ ap (λ b. if b then live else rest.stands w) (same_word-other w (LiveAt l) there)),
@@ -525,4 +525,4 @@ module _ (setup : Setting) (setting : IsSetting setup) (cores : ℕ → Core) (t
       (λ carries. has.unmark)
       (counts_on setup t e c a.call (λ own. refl) a.counts (call_is setup setting cores t stands c here a active).counts)
       (call_is setup setting cores t stands c here a active).apart
-      (spares_other setup t e (λ g i h. cc)) (lent_elsewhere cores e (λ g i h. cc))
+      (spares_other setup t e (λ g i h. cc)) (exclusive_elsewhere cores e (λ g i h. cc))

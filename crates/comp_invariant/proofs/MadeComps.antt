@@ -23,8 +23,8 @@ use Rattle.scan_invariant.proofs.Common.{KnowsUndecided, WorksIn, MayFill, Knows
 use Rattle.scan_invariant.proofs.Common.{holds, held_by, times_of, SumIs, counted_in, holds_comp, PlaceIs, count_room, IsFrameWord}
 use Rattle.scan_invariant.proofs.Common.{WordIs, NumberIs, later, stamp_of_change, comp_dues, comp_due_list, CompMakingFits, CompMaking}
 use Rattle.scan_invariant.proofs.Common.{CompAt, Quiet, AtCore, AtFlush, quiet_end, quiet_after, quiet_move, live_of_word, LiveFits}
-use Rattle.scan_invariant.proofs.Common.{word_of_live, LiveWord, comp_of_word, cases_bool, counts_bare, may_keep, unlent_value}
-use Rattle.scan_invariant.proofs.Common.{unlent_word, node_keeps_none}
+use Rattle.scan_invariant.proofs.Common.{word_of_live, LiveWord, comp_of_word, cases_bool, counts_bare, may_keep, not_exclusive_value}
+use Rattle.scan_invariant.proofs.Common.{not_exclusive_word, node_keeps_none}
 use Rattle.std.specs.Prelude.{if◌then◌else◌, pos, List, ◌==◌, ◌||◌}
 use Rattle.state_laws.specs.spk_nums.specs.declared.kinds.Kind.TheVariants as kind
 use Rattle.state_laws.specs.spk_nums.specs.declared.replies.Reply.TheVariants as reply
@@ -64,7 +64,7 @@ use Rattle.scan_invariant.specs.act_states.specs.Comps.{component, comp_move, co
 use Rattle.scan_invariant.specs.act_states.specs.declared.comps.CompAt.TheVariants.{Load, Mark, LoadLive, Scan, Close, Store, Fill}
 use Rattle.scan_invariant.specs.act_states.specs.declared.refusals.Refusal.TheVariants as refusal
 use Rattle.scan_invariant.specs.step_ways.proofs.Counting as counting
-use Rattle.scan_invariant.specs.count_invariant.proofs.CompCounts.{IsCompCall, comp_changes, comp_argument, number_near, comp_numbers}
+use Rattle.scan_invariant.specs.count_invariant.proofs.CompCounts.{IsCompCall, comp_changes, comp_argument, number_footprint, comp_numbers}
 use Rattle.comp_invariant.proofs.CompCalls as calls
 use Rattle.state_laws.specs.kernel_rules.specs.Rules as rules
 use Rattle.scan_invariant.specs.frame_words.specs.declared.live_word.LiveWord.TheVariants as live_word
@@ -453,7 +453,7 @@ module _ (setup : Setting) (setting : IsSetting setup) (cores : ℕ → Core) (t
         settled_is : settled setup (held_by cores) t (EntryAt g i) ≡ last_left setup t (EntryAt f i)
         settled_is = ap (λ (h : ℕ). settled setup (held_by cores) t (EntryAt h i)) same
             ∙ ap (λ o. settled_by o (held_by cores) (EntryAt f i) (last_left setup t (EntryAt f i))) (no_mark i)
-            ∙ unlent_value setup cores t stands f (ap may_keep blank) i (last_left setup t (EntryAt f i))
+            ∙ not_exclusive_value setup cores t stands f (ap may_keep blank) i (last_left setup t (EntryAt f i))
 
     stays : (w : Word) → w ≢ EntryAt node index → marked_by setup t w ≢ Some c → StaysSaid setup cores t e w
     stays (EntryAt g i) there free = elim (cases_eq g f) [
@@ -679,7 +679,7 @@ module _ (setup : Setting) (setting : IsSetting setup) (cores : ℕ → Core) (t
     gives_live =
         let of : IsCompCall a.call a.found m = calls.is setup setting cores t stands c here a active m stage_is has in record {
           numbers = comp_numbers a.call a.found m of;
-          near = inl (number_near a.call a.found m of s' c);
+          footprint = inl (number_footprint a.call a.found m of s' c);
           bare = ap live_mark (lives_words.spelling.reads (live_word.Live epoch f) live_fits);
           small = lives_words.spelling.small (live_word.Live epoch f) live_fits;
           unmark = record {
@@ -696,7 +696,7 @@ module _ (setup : Setting) (setting : IsSetting setup) (cores : ℕ → Core) (t
         refl
         same_held
         (λ g i. counts_bare (Some None) a.counts g i ∙ sym (ap (λ h. h.bare g i) held ∙ counts_bare None a.counts g i))
-        (unlent_word setup cores t stands node index (node_keeps_none (s.frame node) in_node))
+        (not_exclusive_word setup cores t stands node index (node_keeps_none (s.frame node) in_node))
         alike begins_none (spares_node setup t e node index refl in_node)
         (inl (ap untypes (calls.is setup setting cores t stands c here a active m stage_is has).call_is)) rises works stays
         (subst (WordIs s' (times_of setup (e ∷ t)) (EntryAt node index)) (sym leaves_it) word_now) commits sums_are

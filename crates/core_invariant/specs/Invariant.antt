@@ -223,7 +223,7 @@ abbrev pub SumIs : Setting → (ℕ → Holding) → Trace → ℕ → Type 0
 SumIs setup held t f = CountsAre (state_after setup t) f (stamp setup t (FrameOf f)) (count_shown setup held t f)
 
 -- The core has made no step, and is in no call.
-pub record IsAway (core : Core) (t : Trace) (c : ℕ) : Type 0 where
+pub record IsAbsent (core : Core) (t : Trace) (c : ℕ) : Type 0 where
   pub out : phase t c ≡ Out
   pub none : calls_of t c ≡ []
   pub idle : core.active ≡ None
@@ -251,7 +251,7 @@ pub record IsOfList (setup : Setting) (t : Trace) (d f i : ℕ) : Type 0 where
 
 -- What a core keeps without a mark is a word of its current thread, or of a list that it has still to store: no other core steps on it but
 -- to leave it as found, and it carries no mark.
-pub record IsLent (setup : Setting) (t : Trace) (d f i : ℕ) : Type 0 where
+pub record IsExclusive (setup : Setting) (t : Trace) (d f i : ℕ) : Type 0 where
   pub core : d < setup.cores
   pub unmarked : marked_by setup t (EntryAt f i) ≡ None
   pub word : IsOfThread setup t d f i ⊎ IsOfList setup t d f i
@@ -271,7 +271,7 @@ pub record Invariant (setup : Setting) (cores : ℕ → Core) (t : Trace) : Type
   pub marked : (w : Word) (d : ℕ) → marked_by setup t w ≡ Some d → HasMarked setup t w d
   pub words : (w : Word) → WordIs (state_after setup t) (times_of setup t) w (settled setup (held_by cores) t w)
   -- a core keeps no word without a mark but those of its own thread, and those of a list that it has still to store
-  pub lent : (d f i v : ℕ) → (held_by cores d).bare f i ≡ Some v → IsLent setup t d f i
+  pub exclusive : (d f i v : ℕ) → (held_by cores d).bare f i ≡ Some v → IsExclusive setup t d f i
   -- the settled counts of each frame sum to the references to it
   pub sums : (f : ℕ) → SumIs setup (held_by cores) t f
   -- a counted call draws at most one stamp; no core has left or flushed later than now; and grace periods go with stamps
@@ -283,4 +283,4 @@ pub record Invariant (setup : Setting) (cores : ℕ → Core) (t : Trace) : Type
   pub unbegun : (x : Thing) (d : ℕ) → HasPassed setup t x 0 d × HasFlushed setup t x 0 d
   -- each core of the machine is where its model says, and there is no other
   pub each : (c : ℕ) → c < setup.cores → CoreIs setup (cores c) t c
-  pub away : (c : ℕ) → setup.cores ≤ c → IsAway (cores c) t c
+  pub away : (c : ℕ) → setup.cores ≤ c → IsAbsent (cores c) t c

@@ -62,7 +62,7 @@ use Rattle.act_fits.specs.stage_thread.specs.declared.stack.Push.{Push as PushOf
 use Rattle.act_fits.specs.stage_thread.specs.declared.stack.Push.TheVariants as push
 use Rattle.act_fits.specs.stage_thread.specs.declared.stack.Pop.{Pop as PopOf}
 use Rattle.act_fits.specs.stage_thread.specs.declared.stack.Pop.TheVariants as pop
-use Rattle.kernel_history.specs.Footprint.{IsNearIn, is_one_of, frame_argument}
+use Rattle.kernel_history.specs.Footprint.{IsInFootprint, is_one_of, frame_argument}
 use Rattle.kernel_history.specs.Justified.{HasReached, IsRemoved}
 use Rattle.kernel_history.specs.Stamps.{clock, stamp, exit_of, flush_of, flush_stored}
 use Rattle.act_fits.specs.stage_look.specs.declared.look.Look.{Look}
@@ -303,10 +303,11 @@ pub record KnowsUndecided (setup : Setting) (t : Trace) (c table : ℕ) (a : Act
   pub names : NamesAre setup t c table a.plan a.found
   pub knows : KnowsWork setup t c table a work
 
--- The node of an entry that is still to be stored is relied on, near the call at a moment of it, and the call is one that changes places.
+-- The node of an entry that is still to be stored is relied on, in the call's footprint at a moment of it, and the call is one that
+-- changes places.
 pub record IsStored (setup : Setting) (t : Trace) (c : ℕ) (call : Call) (node index : ℕ) : Type 0 where
   pub relies : Relies (state_after setup t) c node
-  pub near : WasAt (IsNearIn c call (EntryAt node index)) setup t c
+  pub footprint : WasAt (IsInFootprint c call (EntryAt node index)) setup t c
   pub places : changes_places call ≡ true
 
 abbrev pub KnowsStore : Setting → Trace → ℕ → Call → Close → Type 0
@@ -321,10 +322,11 @@ pub record KnowsUnmark (call : Call) (f word : ℕ) : Type 0 where
   pub bare : frame_mark (frame_of_word word) ≡ None
   pub small : word < 2 ^ 64
 
--- The liveness number whose word is still to be stored is near the call at a moment of it, and the call is one that changes numbers.
+-- The liveness number whose word is still to be stored is in the call's footprint at a moment of it, and the call is one that changes
+-- numbers.
 pub record KnowsDead (setup : Setting) (t : Trace) (c : ℕ) (call : Call) (life : CompWord) : Type 0 where
   pub numbers : changes_numbers call ≡ true
-  pub near : WasAt (IsNearIn c call (LiveAt life.number)) setup t c
+  pub footprint : WasAt (IsInFootprint c call (LiveAt life.number)) setup t c
 
 -- The flush whose stamp is still to be stored is the core's own, and its last.
 pub record KnowsFlush (t : Trace) (c : ℕ) (call : Call) (by at : ℕ) : Type 0 where
@@ -334,10 +336,11 @@ pub record KnowsFlush (t : Trace) (c : ℕ) (call : Call) (by at : ℕ) : Type 0
   pub small : at < 2 ^ 28
   pub last : flush_of t c ≡ at
 
--- The number and the frame whose words are still to be stored: the number is near the call at a moment of it, and both words are spelled.
+-- The number and the frame whose words are still to be stored: the number is in the call's footprint at a moment of it, and both words
+-- are spelled.
 pub record KnowsLive (setup : Setting) (t : Trace) (c : ℕ) (call : Call) (l live f word : ℕ) : Type 0 where
   pub numbers : changes_numbers call ≡ true
-  pub near : WasAt (IsNearIn c call (LiveAt l)) setup t c
+  pub footprint : WasAt (IsInFootprint c call (LiveAt l)) setup t c
   pub bare : live_mark (live_of_word live) ≡ None
   pub small : live < 2 ^ 64
   pub unmark : KnowsUnmark call f word
@@ -395,13 +398,13 @@ phase_at call (Undecided work) = Open call
 phase_at call (Decided r drawn tail) = history.Decided call r
 phase_at call (Leave r x) = history.Decided call r
 
--- A count that a call of core c has acquired: it is the core's own, of a frame that is near the call at a moment of it, and was
+-- A count that a call of core c has acquired: it is the core's own, of a frame that is in the call's footprint at a moment of it, and was
 -- found within its range; and the call is one that changes references.
 pub record IsCount (setup : Setting) (t : Trace) (c : ℕ) (call : Call) (x : Acquired) : Type 0 where
   pub counts : IsTrue (counts_references call)
   pub core : x.pin.core ≡ c
   pub fits : CountFits (unheld x.pin.word.count x.pin.word.stamp)
-  pub near : WasAt (IsNearIn c call (count_of x)) setup t c
+  pub footprint : WasAt (IsInFootprint c call (count_of x)) setup t c
 
 -- Core c is in this call, has made these steps of it, and has acquired these counts, none twice.
 pub record IsIn (setup : Setting) (t : Trace) (c table : ℕ) (a : ActiveCall) : Type 0 where

@@ -63,7 +63,7 @@ use Rattle.act_fits.specs.stage_thread.specs.declared.stack.Push.{Push as PushOf
 use Rattle.act_fits.specs.stage_thread.specs.declared.stack.Push.TheVariants as push
 use Rattle.act_fits.specs.stage_thread.specs.declared.stack.Pop.{Pop as PopOf}
 use Rattle.act_fits.specs.stage_thread.specs.declared.stack.Pop.TheVariants as pop
-use Rattle.kernel_history.specs.Footprint.{IsNearIn, is_one_of, frame_argument}
+use Rattle.kernel_history.specs.Footprint.{IsInFootprint, is_one_of, frame_argument}
 use Rattle.kernel_history.specs.Justified.{HasReached, IsRemoved}
 use Rattle.kernel_history.specs.Stamps.{clock, stamp, exit_of, flush_of, flush_stored}
 use Rattle.act_fits.specs.stage_look.specs.declared.look.Look.{Look}

@@ -17,7 +17,7 @@ use Rattle.kernel_invariant.specs.kernel_rules.specs.Relies.{IsGuarded}
 use Rattle.kernel_history.specs.Trace.{Step, Trace, state_after, last_left, own_read, WasAt}
 use Rattle.kernel_history.specs.Marking.{marked_by}
 use Rattle.kernel_history.specs.Discipline.{changes_budgets}
-use Rattle.kernel_history.specs.Footprint.{IsNearIn}
+use Rattle.kernel_history.specs.Footprint.{IsInFootprint}
 use Rattle.act_fits.specs.stage_tcap.specs.Heads.{marked}
 use Rattle.act_fits.specs.stage_tcap.specs.Lists.{read_word, in_order}
 use Rattle.act_fits.specs.stage_tcap.specs.Pairs.{amount_of, whole_b, judged}
@@ -170,7 +170,7 @@ pub record StoresB (setup : Setting) (t : Trace) (c : ℕ) (call : Call) (p : Pa
   pub fits : HeadFits p.head_b
   pub bare : p.head_b.mark ≡ None
   pub few : p.head_b.version + 1 < 2 ^ 28
-  pub near : WasAt (IsNearIn c call (EntryAt p.b 0)) setup t c
+  pub footprint : WasAt (IsInFootprint c call (EntryAt p.b 0)) setup t c
   pub tcap : HasTcap (state_after setup t) c p.b
   pub differ : p.a ≢ p.b
   pub spelled : (i : ℕ) → QualityFits (record { 0 = slice_get (in_order p.list_b) i })
@@ -191,6 +191,6 @@ KnowsStoresAt setup t c call p (StoreA moved v) = StoresA setup t p
 pub record KnowsShared (setup : Setting) (t : Trace) (c : ℕ) (call : Call) (p : Pair) : Type 0 where
   pub budgets : changes_budgets call ≡ true
   pub core : p.core ≡ c
-  pub near : WasAt (IsNearIn c call (EntryAt p.a 0)) setup t c
+  pub footprint : WasAt (IsInFootprint c call (EntryAt p.a 0)) setup t c
   pub tcap_a : HasTcap (state_after setup t) c p.a
   pub at : KnowsStoresAt setup t c call p p.at

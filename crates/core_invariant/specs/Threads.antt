@@ -16,7 +16,7 @@ use Rattle.kernel_invariant.specs.kernel_rules.specs.State.{State, comp_in, firs
 use Rattle.kernel_invariant.specs.kernel_rules.specs.Fitting.{fits}
 use Rattle.kernel_invariant.specs.kernel_rules.specs.Relies.{IsGuarded}
 use Rattle.kernel_history.specs.Discipline.{changes_threads}
-use Rattle.kernel_history.specs.Footprint.{IsNearIn}
+use Rattle.kernel_history.specs.Footprint.{IsInFootprint}
 use Rattle.kernel_history.specs.Trace.{Trace, WasAt, own_read, state_after}
 use Rattle.act_fits.specs.act_states.specs.declared.switches.Switching.{Switching}
 use Rattle.act_fits.specs.act_states.specs.declared.switches.SwitchAt.{SwitchAt}
@@ -120,16 +120,16 @@ pub record KnowsSwitch (setup : Setting) (t : Trace) (c : ℕ) (call : Call) (ks
   pub thread : HasThread (state_after setup t) c (claimed_by m.at)
   pub at : KnowsSwitchAt setup t c m.at
 
--- A thread whose word is still to be stored as idle: no other core may retype it, and it is near the call at a moment of it.
+-- A thread whose word is still to be stored as idle: no other core may retype it, and it is in the call's footprint at a moment of it.
 pub record KnowsIdle (setup : Setting) (t : Trace) (c : ℕ) (call : Call) (f : ℕ) : Type 0 where
   pub threads : changes_threads call ≡ true
-  pub near : WasAt (IsNearIn c call (EntryAt f 0)) setup t c
+  pub footprint : WasAt (IsInFootprint c call (EntryAt f 0)) setup t c
   pub thread : HasThread (state_after setup t) c f
 
 -- The thread whose word is still to be stored as running is that of the core, and the one that it has left is another.
 pub record KnowsRunning (setup : Setting) (t : Trace) (c : ℕ) (call : Call) (f by old : ℕ) : Type 0 where
   pub core : by ≡ c
   pub own : f ≡ ((state_after setup t).core c).thread
-  pub near : WasAt (IsNearIn c call (EntryAt f 0)) setup t c
+  pub footprint : WasAt (IsInFootprint c call (EntryAt f 0)) setup t c
   pub apart : f ≢ old
   pub rest : KnowsIdle setup t c call old

@@ -1,6 +1,6 @@
 -- A step by which a call acquires a count that its act changes is good: the count is held by another core, is lost to another core, or
 -- is acquired; and so is the step by which a decided call commits it.
-use Rattle.step_ways.proofs.Common.{lent_elsewhere, claimed_by}
+use Rattle.step_ways.proofs.Common.{exclusive_elsewhere, claimed_by}
 use Rattle.step_ways.proofs.Common.{◌≡◌, ◌≢◌, ℕ, ℤ, pos, negsuc, ◌+◌, ◌++◌, ◌==◌, ◌^◌, ◌<◌, ◌≤◌, map, slice_get, length}
 use Rattle.step_ways.proofs.Common.{Bool, true, false, if◌then◌else◌, cond, List, [], ◌∷◌, Option, Some, None, IsTrue, inl, inr}
 use Rattle.step_ways.proofs.Common.{arith, refl, sym, ◌∙◌, ap, subst, not, All, is_some, false≢true, eq-eqb, eqb-true, eqb-false, All-nil}
@@ -8,8 +8,8 @@ use Rattle.step_ways.proofs.Common.{All-cons, All-head, All-tail, All-append, Se
 use Rattle.step_ways.proofs.Common.{Reply, CountFits, word_of_count, count_of_word, CountWord}
 use Rattle.step_ways.proofs.Common.{left_if, Word, EntryAt, CountAt, ClockAt, FrameAt, LiveAt, Move, LoadOf}
 use Rattle.step_ways.proofs.Common.{CompareOf, StoreOf, word_of, left_of, Place, Holds, PlaceOf, State, put, named_by, put_same}
-use Rattle.step_ways.proofs.Common.{count_mark, marked_by, counts_references, changes_places, raises_clock, IsNearIn, frame_at_slot}
-use Rattle.step_ways.proofs.Common.{frame_argument, frames_named, is_one_of, frames_near, capability_in, target_of, rule_of, usable_in}
+use Rattle.step_ways.proofs.Common.{count_mark, marked_by, counts_references, changes_places, raises_clock, IsInFootprint, frame_at_slot}
+use Rattle.step_ways.proofs.Common.{frame_argument, frames_named, is_one_of, footprint_frames, capability_in, target_of, rule_of, usable_in}
 use Rattle.step_ways.proofs.Common.{Close, AtDraw, AtStore, Step, Trace, Open, phase, state_after, last_left, own_read, was_now}
 use Rattle.step_ways.proofs.Common.{cases_word, own_read-here, own_read-there, last_left-here, last_left-there, unheld}
 use Rattle.step_ways.proofs.Common.{Pin, AtLoad, Acquired, plan_for, Leads, LeadsIn, Plan, leads_by, GoesBy, own_pages, calls_go, Due}
@@ -19,12 +19,12 @@ use Rattle.step_ways.proofs.Common.{committed, holds_counts, AreApart, settled_b
 use Rattle.step_ways.proofs.Common.{own_in, HasFound, NamesAre, due_of, KnowsAct, KnowsWork, KnowsUndecided, IsCount, phase_at, KnowsTail}
 use Rattle.step_ways.proofs.Common.{goes_on, untypes, done_by, holds_act, holds_work, holds_at, holds_in, holds, held_by, Invariant}
 use Rattle.step_ways.proofs.Common.{holds_tail, names_on, counts_on}
-use Rattle.count_invariant.proofs.SwitchCounts.{switch_of, switch_counts, switch_due_near, switch_left}
-use Rattle.count_invariant.proofs.StackCounts.{invoke_counts, invoke_near, invoking_due, returning_due, top_near}
+use Rattle.count_invariant.proofs.SwitchCounts.{switch_of, switch_counts, switch_due_footprint, switch_left}
+use Rattle.count_invariant.proofs.StackCounts.{invoke_counts, invoke_footprint, invoking_due, returning_due, top_footprint}
 use Rattle.count_invariant.proofs.ActBares.{acquired_bares, committed_bares}
 use Rattle.step_ways.specs.act_states.specs.Comps.{comp_meets_number}
 use Rattle.count_invariant.proofs.ActHolds.{SparesSwept, undo_holds, act_count, act_over}
-use Rattle.count_invariant.proofs.CompCounts.{comp_call, comp_counts, comp_due_near, comp_left}
+use Rattle.count_invariant.proofs.CompCounts.{comp_call, comp_counts, comp_due_footprint, comp_left}
 use Rattle.step_ways.specs.act_states.specs.declared.comps.CompAt.TheVariants as comp_at
 use Rattle.std.proofs.Common.{length-append}
 use Rattle.std.proofs.Common.{lt-ltb}
@@ -43,10 +43,10 @@ use Rattle.step_ways.specs.stage_pins.specs.declared.pin.Pin.TheVariants.{AtComp
 use Rattle.step_ways.specs.stage_pins.proofs.PinLemmas.{changed_none}
 use Rattle.plan_ways.specs.Laws.{IsTargetOf}
 use Rattle.plan_ways.proofs.Ways.{target_is}
-use Rattle.plan_ways.proofs.Near.{one_left, one_right, near_about}
-use Rattle.count_invariant.proofs.MakingCounts.{no_due, made_counts, made_changes, made_argument, due_near, made_left, due_named}
-use Rattle.count_invariant.proofs.SweepCounts.{sweep_counts, sweep_near, sweep_left, sweep_spares}
-use Rattle.count_invariant.proofs.KillingCounts.{kill_counts, kill_near, killing_due}
+use Rattle.plan_ways.proofs.InFootprint.{one_left, one_right, footprint_about}
+use Rattle.count_invariant.proofs.MakingCounts.{no_due, made_counts, made_changes, made_argument, due_footprint, made_left, due_named}
+use Rattle.count_invariant.proofs.SweepCounts.{sweep_counts, sweep_footprint, sweep_left, sweep_spares}
+use Rattle.count_invariant.proofs.KillingCounts.{kill_counts, kill_footprint, killing_due}
 use Rattle.count_invariant.proofs.Findings.{found_named}
 use Rattle.step_ways.specs.act_states.specs.declared.refusals.Refusal.TheVariants as refusal
 use Rattle.step_ways.specs.act_states.specs.declared.work.Act.{Act as ActOf}
@@ -76,7 +76,7 @@ use Rattle.step_ways.proofs.Counting as counters
 use Rattle.step_ways.proofs.Users.{users_kept}
 use Rattle.step_ways.proofs.Loads.{IsOfCall, Lands, step_to, core_in_call, inner, call_is, is_active, loads_on}
 use Rattle.step_ways.proofs.Refusals.{GoodTook, IsRefusing, ticks_in, ticks_at, raced_knowing, busy_knowing}
-use Rattle.count_invariant.proofs.PutCounts.{put_counts, put_near}
+use Rattle.count_invariant.proofs.PutCounts.{put_counts, put_footprint}
 use Rattle.count_invariant.proofs.DueLists.{get_after, get_none, after_none, after_one, map_more, map_length, not_acquired}
 
 -- The count of one frame is due once.
@@ -175,7 +175,7 @@ module _ (setup : Setting) (setting : IsSetting setup) (cores : ℕ → Core) (t
     (frame_is : pin_frame pin ≡ frame) (core_is : pin_core pin ≡ d)
     (stage_is : a.stage ≡ Undecided (Acquire pin change act)) (has : KnowsUndecided setup t c (cores c).own.table a
     (Acquire pin change act))
-    (counting : IsTrue (counts_references a.call)) (near : (b : ℕ) → IsNearIn c a.call (CountAt frame b) (state_after setup t))
+    (counting : IsTrue (counts_references a.call)) (footprint : (b : ℕ) → IsInFootprint c a.call (CountAt frame b) (state_after setup t))
     (left : (e : Step) → IsRefusing setup t c e
     → KnowsTail setup (e ∷ t) c a.call a.counts (undo act)) (spares : SparesSwept act frame) where
   abbrev s : State
@@ -275,7 +275,7 @@ module _ (setup : Setting) (setting : IsSetting setup) (cores : ℕ → Core) (t
   -- it is held by another core
   held_good : (b : ℕ) → marked_by setup t at ≡ Some b → GoodTook setup cores t c (LoadOf at) (landed a (gives_up (refusal.Busy b) act))
   held_good b mark = busy_knowing setup setting cores t stands c here a active opens (undo act) undone left room (LoadOf at)
-      (record { of_call = record { moves = moved; near = inl (near d) }; kept = refl; apart = λ e. refl })
+      (record { of_call = record { moves = moved; footprint = inl (footprint d) }; kept = refl; apart = λ e. refl })
       plain b bare_here mark tt
 
   -- it is loaded, and held by none
@@ -286,7 +286,7 @@ module _ (setup : Setting) (setting : IsSetting setup) (cores : ℕ → Core) (t
       let spells = counts.spelling.spells was (unheld count stamp) reads in
       loads_on setup setting cores t stands c here a active (LoadOf at) a.found
       (Undecided (Acquire (AtCompare frame d count stamp) change act))
-      (record { of_call = record { moves = moved; near = inl (near d) }; kept = refl; apart = λ b. refl }) lands
+      (record { of_call = record { moves = moved; footprint = inl (footprint d) }; kept = refl; apart = λ b. refl }) lands
       (sym held_is) opens
       (λ carries. record {
         acts = has.acts;
@@ -353,7 +353,7 @@ module _ (setup : Setting) (setting : IsSetting setup) (cores : ℕ → Core) (t
     x = record { pin = pinned_at frame d count stamp; change = change }
 
     of_call : IsOfCall setup t c a.call compare
-    of_call = record { moves = moved; near = inl (near d) }
+    of_call = record { moves = moved; footprint = inl (footprint d) }
 
     count_lost : (was == expected) ≡ false → GoodTook setup cores t c compare (landed a (gives_up refusal.Raced act))
     count_lost other =
@@ -457,11 +457,11 @@ module _ (setup : Setting) (setting : IsSetting setup) (cores : ℕ → Core) (t
             counts = counting;
             core = own_core;
             fits = loaded.fits;
-            near = was_now (IsNearIn c a.call at) setup t e c (near d);
+            footprint = was_now (IsInFootprint c a.call at) setup t e c (footprint d);
           }) (All-nil (IsCount setup (e ∷ t) c a.call))))
           (counters.more_apart a.counts x (call_is setup setting cores t stands c here a active).apart new)
           (spares_other setup t (inner setup setting cores t stands c here a active compare None None) (λ f i h. cc))
-          (lent_elsewhere cores (inner setup setting cores t stands c here a active compare None None) (λ f i h. cc))
+          (exclusive_elsewhere cores (inner setup setting cores t stands c here a active compare None None) (λ f i h. cc))
 
       count_won : GoodTook setup cores t c compare (landed a (Acquires x (next_work (cores c).own.core (length a.counts + 1) act)))
       count_won = subst (λ (xs : List Acquired). GoodTook setup cores t c compare (GoesOn (more xs)))
@@ -478,23 +478,25 @@ module _ (setup : Setting) (setting : IsSetting setup) (cores : ℕ → Core) (t
         by true equal = count_won equal
         by false other = count_lost other
 
--- A step by which a call acquires a count is good, where its frame is near the call.
-acquire_near : (setup : Setting) → IsSetting setup → (cores : ℕ → Core) (t : Trace) → Invariant setup cores t → (c : ℕ) → c < setup.cores
+-- A step by which a call acquires a count is good, where its frame is in the call's footprint.
+acquire_footprint : (setup : Setting) → IsSetting setup → (cores : ℕ → Core) (t : Trace) → Invariant setup cores t → (c : ℕ)
+    → c < setup.cores
     → (a : ActiveCall) → (cores c).active ≡ Some a
     → (pin : Pin) (change : ℤ) (act : ActOf) → a.stage ≡ Undecided (Acquire pin change act)
     → KnowsUndecided setup t c (cores c).own.table a (Acquire pin change act)
-    → IsTrue (counts_references a.call) → ((b : ℕ) → IsNearIn c a.call (CountAt (pin_frame pin) b) (state_after setup t))
+    → IsTrue (counts_references a.call) → ((b : ℕ) → IsInFootprint c a.call (CountAt (pin_frame pin) b) (state_after setup t))
     → ((e : Step) → IsRefusing setup t c e → KnowsTail setup (e ∷ t) c a.call a.counts (undo act))
     → SparesSwept act (pin_frame pin) → goes_on act ≡ true
     → GoodTook setup cores t c (pin_move pin)
     (landed a (took_count (cores c).own.core (length a.counts) change act (pin_after pin (last_left setup t (word_of (pin_move pin))))
     (pin_end pin (last_left setup t (word_of (pin_move pin))))))
-acquire_near setup setting cores t stands c here a active (AtLoad frame d) change act is has counting near left spares goes =
+acquire_footprint setup setting cores t stands c here a active (AtLoad frame d) change act is has counting footprint left spares goes =
     load_good setup setting cores t stands c here a active frame d
-    (AtLoad frame d) change act refl refl is has counting near left spares refl
-acquire_near setup setting cores t stands c here a active (AtCompare frame d count stamp) change act is has counting near left spares goes =
+    (AtLoad frame d) change act refl refl is has counting footprint left spares refl
+acquire_footprint setup setting cores t stands c here a active (AtCompare frame d count stamp) change act is has counting footprint left
+    spares goes =
     compare_good setup setting cores t stands c here a active frame d (AtCompare frame d count stamp) change act refl refl is has counting
-    near left spares count stamp has.knows.loaded refl goes
+    footprint left spares count stamp has.knows.loaded refl goes
 
 -- A call that removes what its target holds changes references and places, raises the clock, and makes no frame untyped: a line a call.
 pub removal_counts : (call : Call) → removes_by call ≡ true → IsTrue (counts_references call)
@@ -547,11 +549,11 @@ module _ (setup : Setting) (setting : IsSetting setup) (cores : ℕ → Core) (t
   goes_by = subst (λ p. GoesBy (own_pages now c) p (rule_of now c a.call))
       (sym (is_active setup setting cores t stands c here a active).plan) (calls_go now c a.call)
 
-  -- the frame of what is removed is near
-  removed_near : (node index : ℕ) (cap : Capability) → IsRemoval setup t c a.call a.plan a.found node index cap → (f : ℕ)
+  -- the frame of what is removed is in the footprint
+  removed_footprint : (node index : ℕ) (cap : Capability) → IsRemoval setup t c a.call a.plan a.found node index cap → (f : ℕ)
       → is_one_of f (named_by cap.kind cap.frame) ≡ true
-      → is_one_of f (frames_near now c a.call) ≡ true
-  removed_near node index cap has f names_it = near_about now c a.call f
+      → is_one_of f (footprint_frames now c a.call) ≡ true
+  removed_footprint node index cap has f names_it = footprint_about now c a.call f
       (one_right f (frames_named now c (rule_of now c a.call)) (frame_at_slot now (target_of now c (rule_of now c a.call)) ++
       frame_argument a.call)
       (one_left f (frame_at_slot now (target_of now c (rule_of now c a.call))) (frame_argument a.call)
@@ -563,19 +565,19 @@ module _ (setup : Setting) (setting : IsSetting setup) (cores : ℕ → Core) (t
       slot = subst (λ x. IsTargetOf now c x (target_of now c (rule_of now c a.call))) has.next
           (target_is now c (own_pages now c) a.plan (rule_of now c a.call) a.found goes_by plan_leads) ∙ has.way.reached
 
-  removal_near : (close : Close) (cap : Capability) → KnowsClose setup t c a.call a.plan a.found close cap → (f : ℕ)
+  removal_footprint : (close : Close) (cap : Capability) → KnowsClose setup t c a.call a.plan a.found close cap → (f : ℕ)
       → is_one_of f (named_by cap.kind cap.frame) ≡ true
-      → is_one_of f (frames_near now c a.call) ≡ true
-  removal_near (close_compare node index word by) cap has = removed_near node index cap has.removal
-  removal_near (AtDraw node index) cap has = removed_near node index cap has
-  removal_near (AtStore node index at) cap has = absurd has
+      → is_one_of f (footprint_frames now c a.call) ≡ true
+  removal_footprint (close_compare node index word by) cap has = removed_footprint node index cap has.removal
+  removal_footprint (AtDraw node index) cap has = removed_footprint node index cap has
+  removal_footprint (AtStore node index at) cap has = absurd has
 
   removal_does : (close : Close) (cap : Capability) → KnowsClose setup t c a.call a.plan a.found close cap → removes_by a.call ≡ true
   removal_does (close_compare node index word by) cap has = has.removal.removes
   removal_does (AtDraw node index) cap has = has.removes
   removal_does (AtStore node index at) cap has = absurd has
 
--- The frame of a count that an act changes is near the call, which is one that changes references.
+-- The frame of a count that an act changes is in the call's footprint, which is one that changes references.
 pub acquire_good : (setup : Setting) → IsSetting setup
     → (cores : ℕ → Core) (t : Trace) → Invariant setup cores t → (c : ℕ) → c < setup.cores
     → (a : ActiveCall) → (cores c).active ≡ Some a
@@ -585,31 +587,31 @@ pub acquire_good : (setup : Setting) → IsSetting setup
     (landed a (took_count (cores c).own.core (length a.counts) change act (pin_after pin (last_left setup t (word_of (pin_move pin))))
     (pin_end pin (last_left setup t (word_of (pin_move pin))))))
 acquire_good setup setting cores t stands c here a active pin change (fill_act fill) is has =
-    acquire_near setup setting cores t stands c here a active pin change (fill_act fill) is has
+    acquire_footprint setup setting cores t stands c here a active pin change (fill_act fill) is has
     (put_counts a.call a.found has.knows.knows.read fill.cap has.knows.knows.puts)
-    (λ b. put_near (state_after setup t) c a.call a.found has.knows.knows.read fill.cap
+    (λ b. put_footprint (state_after setup t) c a.call a.found has.knows.knows.read fill.cap
     has.knows.knows.puts (call_leads setup setting cores t stands c here a active has.names) (pin_frame pin)
     (due_named (named_by fill.cap.kind fill.cap.frame) (pos 1) (map due_of a.counts) (record { frame = pin_frame pin; change = change })
     has.knows.rest has.knows.due)) (λ e by. tt) tt refl
 acquire_good setup setting cores t stands c here a active pin change (map_act fill) is has =
-    acquire_near setup setting cores t stands c here a active pin change (map_act fill) is has
+    acquire_footprint setup setting cores t stands c here a active pin change (map_act fill) is has
     (put_counts a.call a.found None fill.cap has.knows.knows.puts)
-    (λ b. put_near (state_after setup t) c a.call a.found None fill.cap
+    (λ b. put_footprint (state_after setup t) c a.call a.found None fill.cap
     has.knows.knows.puts (call_leads setup setting cores t stands c here a active has.names) (pin_frame pin)
     (due_named (named_by fill.cap.kind fill.cap.frame) (pos 1) (map due_of a.counts) (record { frame = pin_frame pin; change = change })
     has.knows.rest has.knows.due)) (λ e by. tt) tt refl
 acquire_good setup setting cores t stands c here a active pin change (type_act typing) is has =
     absurd (no_due (map due_of a.counts) (record { frame = pin_frame pin; change = change }) has.knows.rest has.knows.due)
 acquire_good setup setting cores t stands c here a active pin change (remove_act close cap) is has =
-    acquire_near setup setting cores t stands c here a active pin change (remove_act close cap) is has
+    acquire_footprint setup setting cores t stands c here a active pin change (remove_act close cap) is has
     (removal_counts a.call (removal_does setup setting cores t stands c here a active has.names close cap has.knows.knows))
-    (λ b. removal_near setup setting cores t stands c here a active has.names close cap has.knows.knows (pin_frame pin)
+    (λ b. removal_footprint setup setting cores t stands c here a active has.names close cap has.knows.knows (pin_frame pin)
     (due_named (named_by cap.kind cap.frame) (negsuc 0) (map due_of a.counts) (record { frame = pin_frame pin; change = change })
     has.knows.rest has.knows.due)) (λ e by. tt) tt refl
 acquire_good setup setting cores t stands c here a active pin change (make_act m) is has =
-    acquire_near setup setting cores t stands c here a active pin change (make_act m) is has
+    acquire_footprint setup setting cores t stands c here a active pin change (make_act m) is has
     (made_counts a.call a.found m has.knows.knows.makes)
-    (λ b. due_near (state_after setup t) c a.call a.found m has.knows.knows.makes
+    (λ b. due_footprint (state_after setup t) c a.call a.found m has.knows.knows.makes
     (call_leads setup setting cores t stands c here a active has.names) (map due_of a.counts)
     (record { frame = pin_frame pin; change = change }) has.knows.rest has.knows.due)
     (λ e by. made_left setup t (e ∷ t) c a.counts m.frame m.object m.at a.call (made_changes a.call a.found m has.knows.knows.makes)
@@ -623,40 +625,40 @@ acquire_good setup setting cores t stands c here a active pin change (touch_act 
 acquire_good setup setting cores t stands c here a active pin change (flush_act core) is has =
     absurd (no_due (map due_of a.counts) (record { frame = pin_frame pin; change = change }) has.knows.rest has.knows.due)
 acquire_good setup setting cores t stands c here a active pin change (invoke_act m) is has =
-    acquire_near setup setting cores t stands c here a active pin change (invoke_act m) is has
+    acquire_footprint setup setting cores t stands c here a active pin change (invoke_act m) is has
     (invoke_counts a.call a.found m has.knows.knows.invokes)
-    (λ b. ap (λ (n : ℕ). is_one_of n (frames_near (state_after setup t) c a.call))
+    (λ b. ap (λ (n : ℕ). is_one_of n (footprint_frames (state_after setup t) c a.call))
     (invoking_due m.comp m.at (map due_of a.counts) (record { frame = pin_frame pin; change = change }) has.knows.rest has.knows.due)
-    ∙ invoke_near (state_after setup t) c a.call a.found m has.knows.knows.invokes
+    ∙ invoke_footprint (state_after setup t) c a.call a.found m has.knows.knows.invokes
     (call_leads setup setting cores t stands c here a active has.names)) (λ e by. tt) tt refl
 acquire_good setup setting cores t stands c here a active pin change (return_act m) is has =
-    acquire_near setup setting cores t stands c here a active pin change (return_act m) is has
+    acquire_footprint setup setting cores t stands c here a active pin change (return_act m) is has
     (subst (λ x. IsTrue (counts_references x)) (sym has.knows.knows.call_is) refl)
-    (λ b. ap (λ (n : ℕ). is_one_of n (frames_near (state_after setup t) c a.call))
+    (λ b. ap (λ (n : ℕ). is_one_of n (footprint_frames (state_after setup t) c a.call))
     (returning_due m.top m.at (map due_of a.counts) (record { frame = pin_frame pin; change = change }) has.knows.rest has.knows.due)
-    ∙ top_near (state_after setup t) c a.call m.top has.knows.knows.top
+    ∙ top_footprint (state_after setup t) c a.call m.top has.knows.knows.top
     (let fits = (subst (StageFits (cores c).own.layout) is (is_active setup setting cores t stands c here a active).stage).1 in
     let some = fits.some_depth in let same = has.knows.knows.on.depth in omega (arith, some, same))) (λ e by. tt) tt refl
 acquire_good setup setting cores t stands c here a active pin change (kill_act m) is has =
-    acquire_near setup setting cores t stands c here a active pin change (kill_act m) is has
+    acquire_footprint setup setting cores t stands c here a active pin change (kill_act m) is has
     (kill_counts a.call a.found m.comp has.knows.knows.kills)
-    (λ b. ap (λ (n : ℕ). is_one_of n (frames_near (state_after setup t) c a.call))
+    (λ b. ap (λ (n : ℕ). is_one_of n (footprint_frames (state_after setup t) c a.call))
     (killing_due m.comp m.at (map due_of a.counts) (record { frame = pin_frame pin; change = change }) has.knows.rest has.knows.due)
-    ∙ kill_near (state_after setup t) c a.call a.found m.comp has.knows.knows.kills
+    ∙ kill_footprint (state_after setup t) c a.call a.found m.comp has.knows.knows.kills
     (call_leads setup setting cores t stands c here a active has.names)) (λ e by. tt) tt refl
 acquire_good setup setting cores t stands c here a active pin change (untype_act m) is has =
-    acquire_near setup setting cores t stands c here a active pin change (untype_act m) is has
+    acquire_footprint setup setting cores t stands c here a active pin change (untype_act m) is has
     (sweep_counts setup setting cores t stands c here a active pin change m is has)
-    (sweep_near setup setting cores t stands c here a active pin change m is has)
+    (sweep_footprint setup setting cores t stands c here a active pin change m is has)
     (λ e by. sweep_left setup setting cores t stands c here a active pin change m is has (e ∷ t))
     (sweep_spares setup setting cores t stands c here a active pin change m is has) refl
 acquire_good setup setting cores t stands c here a active pin change (share_act p) is has =
     absurd (no_due (map due_of a.counts) (record { frame = pin_frame pin; change = change }) has.knows.rest has.knows.due)
 acquire_good setup setting cores t stands c here a active pin change (switch_act m) is has =
     let call = switch_of a.call a.found (claimed_by m.at) m.tcap has.knows.knows.switches in
-    acquire_near setup setting cores t stands c here a active pin change (switch_act m) is has
+    acquire_footprint setup setting cores t stands c here a active pin change (switch_act m) is has
     (switch_counts a.call a.found (claimed_by m.at) m.tcap has.knows.knows.switches)
-    (λ b. switch_due_near (state_after setup t) c a.call a.found m has.knows.knows.leaves m.at call
+    (λ b. switch_due_footprint (state_after setup t) c a.call a.found m has.knows.knows.leaves m.at call
     (call_leads setup setting cores t stands c here a active has.names) (map due_of a.counts)
     (record { frame = pin_frame pin; change = change }) has.knows.rest has.knows.due)
     (λ e by. switch_left setup t e c a.call a.found a.counts m m.at call
@@ -664,9 +666,9 @@ acquire_good setup setting cores t stands c here a active pin change (switch_act
     ((call_is setup setting cores t stands c here a active).phase ∙ ap (phase_at a.call) is) by has.knows.knows.thread) tt refl
 acquire_good setup setting cores t stands c here a active pin change (comp_act m) is has =
     let of = comp_call a.call a.found m has.knows.knows.makes in
-    acquire_near setup setting cores t stands c here a active pin change (comp_act m) is has
+    acquire_footprint setup setting cores t stands c here a active pin change (comp_act m) is has
     (comp_counts a.call a.found m of)
-    (λ b. comp_due_near (state_after setup t) c a.call a.found m of
+    (λ b. comp_due_footprint (state_after setup t) c a.call a.found m of
     (call_leads setup setting cores t stands c here a active has.names) m.at (map due_of a.counts)
     (record { frame = pin_frame pin; change = change }) has.knows.rest has.knows.due)
     (λ e by. comp_left setup t (e ∷ t) c a.counts a.call a.found m of m.at
@@ -723,7 +725,7 @@ module _ (setup : Setting) (setting : IsSetting setup) (cores : ℕ → Core) (t
       let spells = counts.spelling.spells stored _ stored_says.says in
       counters.holds_on setup setting cores t stands c here a active store next (λ b. refl)
       (not_clock x.pin.frame x.pin.core) refl
-      (record { moves = own_counts a.call x.pin.frame c x.pin.core first.core first.counts; near = inr first.near }) lands
+      (record { moves = own_counts a.call x.pin.frame c x.pin.core first.core first.counts; footprint = inr first.footprint }) lands
       (subst (λ (n : ℕ). n < 2 ^ 64) spells.1 (counts.spelling.small _ spells.0))
       (λ w there.
       let rest = counters.rest_elsewhere (done_by r drawn) x xs w there in
@@ -735,4 +737,4 @@ module _ (setup : Setting) (setting : IsSetting setup) (cores : ℕ → Core) (t
       (ap (phase_at a.call) stage_is) (λ carries. tt)
       (counts_on setup t e c a.call (λ own. refl) xs (All-tail (IsCount setup t c a.call) x xs known))
       apart.1
-      (spares_other setup t e (λ f i h. cc)) (lent_elsewhere cores e (λ f i h. cc))
+      (spares_other setup t e (λ f i h. cc)) (exclusive_elsewhere cores e (λ f i h. cc))

@@ -1,20 +1,20 @@
 -- A call that makes a component: what it is, its counts, and what it has still to store where it is refused.
 use Rattle.step_ways.proofs.Common.{◌≡◌, true, false, Some, ◌∙◌, refl, ℕ, ◌==◌, ◌||◌, sym, [], ◌∷◌, ◌++◌, ap, subst}
 use Rattle.step_ways.proofs.Common.{IsTrue, eq-eqb, false≢true, Capability, Setting, Call, Kind, found, to_use, only, has_frame, named_by}
-use Rattle.step_ways.proofs.Common.{State, only_is, counts_references, changes_frames, changes_places, changes_numbers, frames_near}
+use Rattle.step_ways.proofs.Common.{State, only_is, counts_references, changes_frames, changes_places, changes_numbers, footprint_frames}
 use Rattle.step_ways.proofs.Common.{is_one_of, frame_argument, Trace, plan_for, Leads, LeadsIn, Acquired, comp_dues}
 use Rattle.step_ways.proofs.Common.{comp_due_list, CompAt, CompMaking, Due, KnowsTail, KnowsCompAt}
 use Rattle.std.specs.Prelude.{List, ℤ}
 use Rattle.plan_ways.specs.spk_nums.specs.declared.calls.Call.TheVariants.{Make as make_call}
 use Rattle.plan_ways.specs.spk_nums.specs.declared.calls.Make.TheVariants as make
 use Rattle.plan_ways.specs.spk_nums.specs.declared.kinds.Kind.TheVariants as kind
-use Rattle.plan_ways.specs.kernel_history.specs.Footprint.{numbers_near}
-use Rattle.plan_ways.proofs.Near.{one_left, near_found}
+use Rattle.plan_ways.specs.kernel_history.specs.Footprint.{footprint_numbers}
+use Rattle.plan_ways.proofs.InFootprint.{one_left, footprint_found}
 use Rattle.plan_ways.specs.call_plans.specs.declared.plans.Nth.TheVariants.{Third, Fourth}
 use Rattle.step_ways.specs.act_states.specs.Comps.{comp_undo, comp_meets_number}
 use Rattle.step_ways.specs.act_states.specs.declared.comps.CompAt.TheVariants as comp_at
 use Rattle.step_ways.specs.core_invariant.specs.Knows.{MakesCompBy}
-use Rattle.count_invariant.proofs.MakingCounts.{argument_near, blank_left, named_kind, no_due}
+use Rattle.count_invariant.proofs.MakingCounts.{argument_footprint, blank_left, named_kind, no_due}
 
 -- It makes this component in this frame, which the range has to which its first name has led, with what its third and its fourth have led
 -- to.
@@ -89,14 +89,14 @@ module _ (call : Call) (ks : List Capability) (m : CompMaking) (is : IsCompCall 
   pub comp_argument : is_one_of m.frame (frame_argument call) ≡ true
   comp_argument = ap (λ x. is_one_of m.frame (frame_argument x)) is.call_is ∙ ap (λ b. b || false) (eq-eqb m.frame m.frame refl)
 
-  pub comp_near : (s : State) (c : ℕ) → is_one_of m.frame (frames_near s c call) ≡ true
-  comp_near s c = argument_near s c call m.frame comp_argument
+  pub comp_footprint : (s : State) (c : ℕ) → is_one_of m.frame (footprint_frames s c call) ≡ true
+  comp_footprint s c = argument_footprint s c call m.frame comp_argument
 
-  pub number_near : (s : State) (c : ℕ) → is_one_of m.number (numbers_near s c call) ≡ true
-  number_near s c = ap (λ x. is_one_of m.number (numbers_near s c x)) is.call_is
+  pub number_footprint : (s : State) (c : ℕ) → is_one_of m.number (footprint_numbers s c call) ≡ true
+  number_footprint s c = ap (λ x. is_one_of m.number (footprint_numbers s c x)) is.call_is
       ∙ one_left m.number (m.number ∷ []) _ (ap (λ b. b || false) (eq-eqb m.number m.number refl))
 
--- What its third and its fourth name have led to is near it.
+-- What its third and its fourth name have led to is in its footprint.
 same_cap : (x y : Capability) → Some x ≡ Some y → x ≡ y
 same_cap x y h = cc
 
@@ -118,14 +118,14 @@ module _ (s : State) (c : ℕ) (call : Call) (ks : List Capability) (m : CompMak
       ap (λ (j : Kind). is_one_of g (named_by j k.frame)) (only_is want k.kind wanted) ∙ ap (is_one_of g) one
       ∙ ap (λ b. b || false) (eq-eqb k.frame g same)
 
-  pub table_near : is_one_of m.table (frames_near s c call) ≡ true
-  table_near = ap (λ x. is_one_of m.table (frames_near s c x)) is.call_is
-      ∙ near_found s c whole all leads Third is.table refl m.table
+  pub table_footprint : is_one_of m.table (footprint_frames s c call) ≡ true
+  table_footprint = ap (λ x. is_one_of m.table (footprint_frames s c x)) is.call_is
+      ∙ footprint_found s c whole all leads Third is.table refl m.table
       (named_one is.table kind.Table refl (named_kind s c is.x (to_use (only kind.Table)) is.table leads.1.1.0) m.table (sym is.table_is))
 
-  pub pages_near : is_one_of m.pages (frames_near s c call) ≡ true
-  pages_near = ap (λ x. is_one_of m.pages (frames_near s c x)) is.call_is
-      ∙ near_found s c whole all leads Fourth is.pages refl m.pages
+  pub pages_footprint : is_one_of m.pages (footprint_frames s c call) ≡ true
+  pages_footprint = ap (λ x. is_one_of m.pages (footprint_frames s c x)) is.call_is
+      ∙ footprint_found s c whole all leads Fourth is.pages refl m.pages
       (named_one is.pages kind.Pages refl (named_kind s c is.p (to_use (only kind.Pages)) is.pages leads.1.1.1.0) m.pages (sym is.pages_is))
 
   head_same : (x y : Due) (xs ys : List Due) → x ∷ xs ≡ y ∷ ys → x ≡ y
@@ -134,26 +134,26 @@ module _ (s : State) (c : ℕ) (call : Call) (ks : List Capability) (m : CompMak
   tail_same : (x y : Due) (xs ys : List Due) → x ∷ xs ≡ y ∷ ys → xs ≡ ys
   tail_same x y xs ys h = cc
 
-  list_near : (xs : List Due) (d : Due) (rest : List Due) → comp_due_list m ≡ xs ++ d ∷ rest
-      → is_one_of d.frame (frames_near s c call) ≡ true
-  list_near [] d rest h = subst (λ (y : Due). is_one_of y.frame (frames_near s c call) ≡ true) (head_same _ _ _ _ h)
-      (comp_near call ks m is s c)
-  list_near (y ∷ []) d rest h = subst (λ (y : Due). is_one_of y.frame (frames_near s c call) ≡ true)
-      (head_same _ _ _ _ (tail_same _ _ _ _ h)) table_near
-  list_near (y ∷ z ∷ []) d rest h = subst (λ (y : Due). is_one_of y.frame (frames_near s c call) ≡ true)
-      (head_same _ _ _ _ (tail_same _ _ _ _ (tail_same _ _ _ _ h))) pages_near
-  list_near (y ∷ z ∷ w ∷ ys) d rest h =
+  list_footprint : (xs : List Due) (d : Due) (rest : List Due) → comp_due_list m ≡ xs ++ d ∷ rest
+      → is_one_of d.frame (footprint_frames s c call) ≡ true
+  list_footprint [] d rest h = subst (λ (y : Due). is_one_of y.frame (footprint_frames s c call) ≡ true) (head_same _ _ _ _ h)
+      (comp_footprint call ks m is s c)
+  list_footprint (y ∷ []) d rest h = subst (λ (y : Due). is_one_of y.frame (footprint_frames s c call) ≡ true)
+      (head_same _ _ _ _ (tail_same _ _ _ _ h)) table_footprint
+  list_footprint (y ∷ z ∷ []) d rest h = subst (λ (y : Due). is_one_of y.frame (footprint_frames s c call) ≡ true)
+      (head_same _ _ _ _ (tail_same _ _ _ _ (tail_same _ _ _ _ h))) pages_footprint
+  list_footprint (y ∷ z ∷ w ∷ ys) d rest h =
       absurd (no_due ys d rest (tail_same _ _ _ _ (tail_same _ _ _ _ (tail_same _ _ _ _ h))))
 
-  pub comp_due_near : (at : CompAt) (xs : List Due) (d : Due) (rest : List Due) → comp_dues m at ≡ xs ++ d ∷ rest
-      → is_one_of d.frame (frames_near s c call) ≡ true
-  comp_due_near comp_at.Load xs d rest h = absurd (no_due xs d rest h)
-  comp_due_near (comp_at.Mark word) xs d rest h = absurd (no_due xs d rest h)
-  comp_due_near (comp_at.LoadLive word) xs d rest h = list_near xs d rest h
-  comp_due_near (comp_at.Scan word last q) xs d rest h = list_near xs d rest h
-  comp_due_near (comp_at.Close word last) xs d rest h = list_near xs d rest h
-  comp_due_near (comp_at.Store word last n) xs d rest h = list_near xs d rest h
-  comp_due_near (comp_at.Fill word last) xs d rest h = list_near xs d rest h
+  pub comp_due_footprint : (at : CompAt) (xs : List Due) (d : Due) (rest : List Due) → comp_dues m at ≡ xs ++ d ∷ rest
+      → is_one_of d.frame (footprint_frames s c call) ≡ true
+  comp_due_footprint comp_at.Load xs d rest h = absurd (no_due xs d rest h)
+  comp_due_footprint (comp_at.Mark word) xs d rest h = absurd (no_due xs d rest h)
+  comp_due_footprint (comp_at.LoadLive word) xs d rest h = list_footprint xs d rest h
+  comp_due_footprint (comp_at.Scan word last q) xs d rest h = list_footprint xs d rest h
+  comp_due_footprint (comp_at.Close word last) xs d rest h = list_footprint xs d rest h
+  comp_due_footprint (comp_at.Store word last n) xs d rest h = list_footprint xs d rest h
+  comp_due_footprint (comp_at.Fill word last) xs d rest h = list_footprint xs d rest h
 
 -- While its counts are acquired it has to store the word of its frame, as it was found.
 pub comp_left : (setup : Setting) (t u : Trace) (c : ℕ) (counts : List Acquired) (call : Call) (ks : List Capability) (m : CompMaking)

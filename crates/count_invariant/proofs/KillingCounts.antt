@@ -1,10 +1,11 @@
 -- The count and the component of a call that kills.
 use Rattle.step_ways.proofs.Common.{◌≡◌, refl, ℕ, true, false, sym, ◌∙◌, [], ◌∷◌, ◌++◌, ap, subst, IsTrue, ◌||◌, eq-eqb, Capability, Kind}
-use Rattle.step_ways.proofs.Common.{Call, Kill, named_by, State, counts_references, changes_numbers, raises_clock, frames_near, is_one_of}
+use Rattle.step_ways.proofs.Common.{Call, Kill, named_by, State}
+use Rattle.step_ways.proofs.Common.{counts_references, changes_numbers, raises_clock, footprint_frames, is_one_of}
 use Rattle.step_ways.proofs.Common.{First, at_place, plan_for, Leads, LeadsIn, KillingAt, LoadComp, LoadLive, Due, untypes}
 use Rattle.std.specs.Prelude.{List, negsuc}
 use Rattle.plan_ways.specs.spk_nums.specs.declared.kinds.Kind.TheVariants as kind
-use Rattle.plan_ways.proofs.Near.{near_found}
+use Rattle.plan_ways.proofs.InFootprint.{footprint_found}
 use Rattle.step_ways.specs.act_states.specs.declared.kills.KillingAt.TheVariants.{Close, Draw}
 use Rattle.step_ways.specs.act_states.specs.Acts.{killing_dues}
 use Rattle.step_ways.specs.core_invariant.specs.Knows.{KillsBy}
@@ -40,12 +41,12 @@ kill_raises call ks f is = subst (λ x. IsTrue (raises_clock x)) (sym (kill_of c
 pub kill_types : (call : Call) (ks : List Capability) (f : ℕ) → KillsBy call ks f → untypes call ≡ false
 kill_types call ks f is = ap untypes (kill_of call ks f is).call_is
 
--- The component is near it.
-pub kill_near : (s : State) (c : ℕ) (call : Call) (ks : List Capability) (f : ℕ) → KillsBy call ks f
-    → Leads (LeadsIn s c) (plan_for call).names [] ks → is_one_of f (frames_near s c call) ≡ true
-kill_near s c call ks f kills leads =
+-- The component is in its footprint.
+pub kill_footprint : (s : State) (c : ℕ) (call : Call) (ks : List Capability) (f : ℕ) → KillsBy call ks f
+    → Leads (LeadsIn s c) (plan_for call).names [] ks → is_one_of f (footprint_frames s c call) ≡ true
+kill_footprint s c call ks f kills leads =
     let is = kill_of call ks f kills in
-    near_found s c call ks leads First is.comp (ap (λ xs. at_place xs First) is.found_is) f
+    footprint_found s c call ks leads First is.comp (ap (λ xs. at_place xs First) is.found_is) f
     (ap (λ (k : Kind). is_one_of f (named_by k is.comp.frame)) is.kind ∙ ap (λ b. b || false)
     (eq-eqb is.comp.frame f (sym is.frame)))
 

@@ -7,7 +7,8 @@ use Rattle.step_ways.proofs.Common.{IsSetting, Call, Kind, Entry, Held, Closing,
 use Rattle.step_ways.proofs.Common.{Place, Holds, PlaceOf, State, Slot, Named, Target, Under, InRoot, place_at, only, usable_in, usable}
 use Rattle.step_ways.proofs.Common.{linked, slot_in, root_slot, reached, holds_link, has_no_slot, RuleMay, Refused, rule_of, change_of}
 use Rattle.step_ways.proofs.Common.{Relies, Step, Trace, Open, phase, state_after, last_left, own_left, capability_in, root_passed}
-use Rattle.step_ways.proofs.Common.{wide_way_to, wide_ways, frames_own, frames_near, is_one_of, is_slot_in, HasReached, stamp, CapNames}
+use Rattle.step_ways.proofs.Common.{wide_way_to, wide_ways, frames_own, footprint_frames}
+use Rattle.step_ways.proofs.Common.{is_one_of, is_slot_in, HasReached, stamp, CapNames}
 use Rattle.step_ways.proofs.Common.{end_of_frames, shown_in, look_move, Look, AtRoot, AtLeaf, AtEntry, Carries, next_of, Lookup}
 use Rattle.step_ways.proofs.Common.{Undecided, ActiveCall, Goes, refuse, landed, Core, holds_counts, CountsAt, PlaceIs, LooksUp, Knows}
 use Rattle.step_ways.proofs.Common.{phase_at, holds_at, holds_in, Invariant}
@@ -138,10 +139,10 @@ unlinked s table n found none =
     ap (λ b. nat_lt 4095 n || b) (ap (λ b. b && not (holds_link (place_at s (root_slot table.frame n)))) found ∙ ap not none) ∙ or_right
     (nat_lt 4095 n)
 
--- The node of a slot of the way is near.
-slot_near : (slots : List Slot) (g i : ℕ) → is_slot_in slots g i ≡ true → is_one_of g (map (λ at. at.node) slots) ≡ true
-slot_near [] g i h = h
-slot_near (at ∷ slots) g i h = by_node (at.node == g) (at.index == i) h (slot_near slots g i)
+-- The node of a slot of the way is in the footprint.
+slot_footprint : (slots : List Slot) (g i : ℕ) → is_slot_in slots g i ≡ true → is_one_of g (map (λ at. at.node) slots) ≡ true
+slot_footprint [] g i h = h
+slot_footprint (at ∷ slots) g i h = by_node (at.node == g) (at.index == i) h (slot_footprint slots g i)
   where
     by_node : (a b : Bool) → ((a && b) || is_slot_in slots g i) ≡ true
         → (is_slot_in slots g i ≡ true → is_one_of g (map (λ at. at.node) slots) ≡ true)
@@ -155,11 +156,11 @@ one_right xs ys g h = list_any-append (λ m. m == g) xs ys ∙ ap (λ b. is_one_
 one_left : (xs ys : List ℕ) (g : ℕ) → is_one_of g xs ≡ true → is_one_of g (xs ++ ys) ≡ true
 one_left xs ys g h = list_any-append (λ m. m == g) xs ys ∙ ap (λ b. b || is_one_of g ys) h
 
-pub near_way : (s : State) (c : ℕ) (call : Call) (g i : ℕ) → is_slot_in (wide_ways s c (rule_of s c call)) g i ≡ true
-    → is_one_of g (frames_near s c call) ≡ true
-near_way s c call g i h =
+pub footprint_way : (s : State) (c : ℕ) (call : Call) (g i : ℕ) → is_slot_in (wide_ways s c (rule_of s c call)) g i ≡ true
+    → is_one_of g (footprint_frames s c call) ≡ true
+footprint_way s c call g i h =
     one_right (frames_own s c) _ g (one_left (map (λ at. at.node) (wide_ways s c (rule_of s c call))) _ g
-    (slot_near (wide_ways s c (rule_of s c call)) g i h))
+    (slot_footprint (wide_ways s c (rule_of s c call)) g i h))
 
 -- Where no core waits, what is no link leads to no leaf.
 pub link_none : (k : Capability) → only kind.Link k.kind ≡ false → linked (Some k) ≡ None
@@ -189,7 +190,7 @@ module _ (setup : Setting) (setting : IsSetting setup) (cores : ℕ → Core) (t
     looks_at : (g i : ℕ) → is_slot_in (wide_way_to (state_after setup t) target) g i ≡ true
         → OnlyLooks setup t c a.call (LoadOf (EntryAt g i))
     looks_at g i way = record {
-      of_call = record { moves = refl; near = inl (near_way (state_after setup t) c a.call g i (on_way g i way)) };
+      of_call = record { moves = refl; footprint = inl (footprint_way (state_after setup t) c a.call g i (on_way g i way)) };
       kept = refl;
       apart = λ d. refl;
     }

@@ -3,7 +3,7 @@ use Rattle.step_ways.proofs.Common.{Want, to_use, ◌≡◌, Bool, true, false, 
 use Rattle.step_ways.proofs.Common.{◌++◌, ap}
 use Rattle.step_ways.proofs.Common.{subst, IsTrue, ◌||◌, map, eqb-true, eq-eqb, false≢true, Capability, Setting, Call, Make, Kind, only}
 use Rattle.step_ways.proofs.Common.{own, reached, usable, Found, named, and_then, or_refuse, only_is, frame_of_word, rule_of}
-use Rattle.step_ways.proofs.Common.{named_by, State, counts_references, changes_frames, frames_near, is_one_of, frames_named}
+use Rattle.step_ways.proofs.Common.{named_by, State, counts_references, changes_frames, footprint_frames, is_one_of, frames_named}
 use Rattle.step_ways.proofs.Common.{frame_at_slot, frame_argument, frame_mark, Trace, target_of, at_place, plan_for, Leads, LeadsIn}
 use Rattle.step_ways.proofs.Common.{Acquired, made_dues, object_dues, object_made, Making, MakingAt, Mark, Store, NewObject, Due}
 use Rattle.step_ways.proofs.Common.{KnowsTail, MakesBy, KnowsMakingAt, KnowsUnmark, blank_word, untypes}
@@ -15,7 +15,7 @@ use Rattle.plan_ways.specs.kernel_invariant.proofs.Facts.{Suits, then_parts, sui
 use Rattle.plan_ways.specs.spk_nums.specs.declared.replies.Reply.TheVariants as reply
 use Rattle.plan_ways.specs.spk_nums.specs.declared.calls.Call.TheVariants.{Make as make_call}
 use Rattle.plan_ways.specs.frame_words.proofs.FrameLemmas as frames
-use Rattle.plan_ways.proofs.Near.{one_right, near_about, near_found}
+use Rattle.plan_ways.proofs.InFootprint.{one_right, footprint_about, footprint_found}
 use Rattle.plan_ways.specs.call_plans.specs.declared.plans.Nth.TheVariants.{Third}
 use Rattle.plan_ways.specs.call_plans.specs.PlanOf.{of_kind as of_kind_name}
 use Rattle.step_ways.specs.act_states.specs.Objects.{object_names, thread_on}
@@ -64,15 +64,15 @@ made_argument (make_call what r f u b) (range ∷ ks) m is = ap (λ b. b || fals
 made_argument (make_call what r f u b) [] m is = absurd is
 made_argument call ks m is = absurd is
 
-pub argument_near : (s : State) (c : ℕ) (call : Call) (f : ℕ) → is_one_of f (frame_argument call) ≡ true
-    → is_one_of f (frames_near s c call) ≡ true
-argument_near s c call f is = near_about s c call f
+pub argument_footprint : (s : State) (c : ℕ) (call : Call) (f : ℕ) → is_one_of f (frame_argument call) ≡ true
+    → is_one_of f (footprint_frames s c call) ≡ true
+argument_footprint s c call f is = footprint_about s c call f
     (one_right f (frames_named s c (rule_of s c call)) (frame_at_slot s (target_of s c (rule_of s c call)) ++ frame_argument call)
     (one_right f (frame_at_slot s (target_of s c (rule_of s c call))) (frame_argument call) is))
 
-pub made_near : (s : State) (c : ℕ) (call : Call) (ks : List Capability) (m : Making) → MakesBy call ks m
-    → is_one_of m.frame (frames_near s c call) ≡ true
-made_near s c call ks m is = argument_near s c call m.frame (made_argument call ks m is)
+pub made_footprint : (s : State) (c : ℕ) (call : Call) (ks : List Capability) (m : Making) → MakesBy call ks m
+    → is_one_of m.frame (footprint_frames s c call) ≡ true
+made_footprint s c call ks m is = argument_footprint s c call m.frame (made_argument call ks m is)
 
 pub no_due : (xs : List Due) (d : Due) (rest : List Due) → [] ≡ xs ++ d ∷ rest → ⊥
 no_due [] d rest h = cc
@@ -105,7 +105,7 @@ same_object x y h = cc
 same_cap : (x y : Capability) → Some x ≡ Some y → x ≡ y
 same_cap x y h = cc
 
--- The frames of an object's counts are near the call: its own is its argument, and a name has led to a thread's component.
+-- The frames of an object's counts are in the call's footprint: its own is its argument, and a name has led to a thread's component.
 none_named : (object : NewObject) (g : ℕ) (R : Type 0) → object_names object ≡ [] → is_one_of g (object_names object) ≡ true → R
 none_named object g R none names_it = absurd (false≢true (sym (ap (is_one_of g) none) ∙ names_it))
 
@@ -119,55 +119,56 @@ comp_named s c r u n (x ∷ y ∷ z ∷ zs) k at lead =
     ap (λ (j : Kind). named_by j k.frame) (only_is kind.Comp k.kind
     (ap (λ (q : Capability). only kind.Comp q.kind) (sym (same_cap z k at)) ∙ named_kind s c n (to_use (only kind.Comp)) z lead.1.1.0))
 
-third_near : (s : State) (c r f u b n g : ℕ) (qs : List Capability) (o : Option Capability) → at_place qs Third ≡ o → (object : NewObject)
+third_footprint : (s : State) (c r f u b n g : ℕ) (qs : List Capability) (o : Option Capability) → at_place qs Third ≡ o →
+    (object : NewObject)
     → thread_on o ≡ Some object → Leads (LeadsIn s c) (plan_for (make_call (make.Thread n) r f u b)).names [] qs
-    → is_one_of g (object_names object) ≡ true → is_one_of g (frames_near s c (make_call (make.Thread n) r f u b)) ≡ true
-third_near s c r f u b n g qs None at object made lead names_it = absurd (cc)
-third_near s c r f u b n g qs (Some k) at object made lead names_it =
-    near_found s c (make_call (make.Thread n) r f u b) qs lead Third k at g
+    → is_one_of g (object_names object) ≡ true → is_one_of g (footprint_frames s c (make_call (make.Thread n) r f u b)) ≡ true
+third_footprint s c r f u b n g qs None at object made lead names_it = absurd (cc)
+third_footprint s c r f u b n g qs (Some k) at object made lead names_it =
+    footprint_found s c (make_call (make.Thread n) r f u b) qs lead Third k at g
     (ap (is_one_of g) (comp_named s c r u n qs k at lead) ∙ ap (λ (x : NewObject). is_one_of g (object_names x))
     (same_object (Thread k.frame) object made) ∙ names_it)
 
 by_make : (s : State) (c r f u b g : ℕ) (what : Make) (qs : List Capability) (object : NewObject) → object_made what qs ≡ Some object
     → Leads (LeadsIn s c) (plan_for (make_call what r f u b)).names [] qs
-    → is_one_of g (object_names object) ≡ true → is_one_of g (frames_near s c (make_call what r f u b)) ≡ true
+    → is_one_of g (object_names object) ≡ true → is_one_of g (footprint_frames s c (make_call what r f u b)) ≡ true
 by_make s c r f u b g make.Table qs object made lead names_it =
-    none_named object g (is_one_of g (frames_near s c (make_call make.Table r f u b)) ≡ true)
+    none_named object g (is_one_of g (footprint_frames s c (make_call make.Table r f u b)) ≡ true)
     (ap object_names (sym (same_object Table object made))) names_it
 by_make s c r f u b g make.Leaf qs object made lead names_it =
-    none_named object g (is_one_of g (frames_near s c (make_call make.Leaf r f u b)) ≡ true)
+    none_named object g (is_one_of g (footprint_frames s c (make_call make.Leaf r f u b)) ≡ true)
     (ap object_names (sym (same_object Leaf object made))) names_it
 by_make s c r f u b g make.Pages qs object made lead names_it =
-    none_named object g (is_one_of g (frames_near s c (make_call make.Pages r f u b)) ≡ true)
+    none_named object g (is_one_of g (footprint_frames s c (make_call make.Pages r f u b)) ≡ true)
     (ap object_names (sym (same_object Pages object made))) names_it
 by_make s c r f u b g make.Pleaf qs object made lead names_it =
-    none_named object g (is_one_of g (frames_near s c (make_call make.Pleaf r f u b)) ≡ true)
+    none_named object g (is_one_of g (footprint_frames s c (make_call make.Pleaf r f u b)) ≡ true)
     (ap object_names (sym (same_object Pleaf object made))) names_it
 by_make s c r f u b g (make.Thread n) qs object made lead names_it =
-    third_near s c r f u b n g qs (at_place qs Third) refl object made lead names_it
+    third_footprint s c r f u b n g qs (at_place qs Third) refl object made lead names_it
 by_make s c r f u b g (make.Tcap sched quality) qs object made lead names_it =
-    none_named object g (is_one_of g (frames_near s c (make_call (make.Tcap sched quality) r f u b)) ≡ true)
+    none_named object g (is_one_of g (footprint_frames s c (make_call (make.Tcap sched quality) r f u b)) ≡ true)
     (ap object_names (sym (same_object (Tcap sched quality) object made))) names_it
 by_make s c r f u b g (make.Comp table pages live) qs object made lead names_it = absurd (cc)
 
-named_near : (s : State) (c : ℕ) (call : Call) (ks : List Capability) (m : Making) → MakesBy call ks m
+named_footprint : (s : State) (c : ℕ) (call : Call) (ks : List Capability) (m : Making) → MakesBy call ks m
     → Leads (LeadsIn s c) (plan_for call).names [] ks → (g : ℕ) → is_one_of g (object_names m.object) ≡ true
-    → is_one_of g (frames_near s c call) ≡ true
-named_near s c (make_call what r f u b) (range ∷ ks) m is lead g names_it =
+    → is_one_of g (footprint_frames s c call) ≡ true
+named_footprint s c (make_call what r f u b) (range ∷ ks) m is lead g names_it =
     by_make s c r f u b g what (range ∷ ks) m.object is.object lead names_it
-named_near s c (make_call what r f u b) [] m is lead g names_it = absurd is
-named_near s c call ks m is lead g names_it = absurd is
+named_footprint s c (make_call what r f u b) [] m is lead g names_it = absurd is
+named_footprint s c call ks m is lead g names_it = absurd is
 
-pub due_near : (s : State) (c : ℕ) (call : Call) (ks : List Capability) (m : Making) → MakesBy call ks m
+pub due_footprint : (s : State) (c : ℕ) (call : Call) (ks : List Capability) (m : Making) → MakesBy call ks m
     → Leads (LeadsIn s c) (plan_for call).names [] ks → (xs : List Due) (d : Due) (rest : List Due)
-    → made_dues m.object m.frame m.at ≡ xs ++ d ∷ rest → is_one_of d.frame (frames_near s c call) ≡ true
-due_near s c call ks m is lead xs d rest due = by (m.frame == d.frame) refl (made_due m.object m.frame m.at xs d rest due)
+    → made_dues m.object m.frame m.at ≡ xs ++ d ∷ rest → is_one_of d.frame (footprint_frames s c call) ≡ true
+due_footprint s c call ks m is lead xs d rest due = by (m.frame == d.frame) refl (made_due m.object m.frame m.at xs d rest due)
   where
     by : (b : Bool) → (m.frame == d.frame) ≡ b → (b || is_one_of d.frame (object_names m.object)) ≡ true
-        → is_one_of d.frame (frames_near s c call) ≡ true
-    by true same one = subst (λ (g : ℕ). is_one_of g (frames_near s c call) ≡ true) (eqb-true m.frame d.frame same)
-        (made_near s c call ks m is)
-    by false other one = named_near s c call ks m is lead d.frame one
+        → is_one_of d.frame (footprint_frames s c call) ≡ true
+    by true same one = subst (λ (g : ℕ). is_one_of g (footprint_frames s c call) ≡ true) (eqb-true m.frame d.frame same)
+        (made_footprint s c call ks m is)
+    by false other one = named_footprint s c call ks m is lead d.frame one
 
 -- What a refused making has to store is the word of its frame, as it was found.
 pub blank_left : (f word : ℕ) (call : Call) → changes_frames call ≡ true → is_one_of f (frame_argument call) ≡ true

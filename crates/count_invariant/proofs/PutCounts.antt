@@ -1,10 +1,10 @@
--- What a call puts at its target is counted: the call changes references, and the frame that it names there is near it.
+-- What a call puts at its target is counted: the call changes references, and the frame that it names there is in its footprint.
 use Rattle.step_ways.proofs.Common.{◌≡◌, ◌≢◌, ℕ, ℤ, ◌+◌, ◌++◌, ◌==◌, ◌^◌, ◌<◌, ◌≤◌, Bool, true}
 use Rattle.step_ways.proofs.Common.{false, if◌then◌else◌, nat_le, List, [], ◌∷◌, Option, Some, None, IsTrue, refl}
 use Rattle.step_ways.proofs.Common.{sym, ◌∙◌, ap, subst}
 use Rattle.step_ways.proofs.Common.{Capability, cap_of, Call, Copy, Remove, Shrink, Unmap, Retype, Tick, Gate}
 use Rattle.step_ways.proofs.Common.{Kill, Grow, Touch, Flush, Map, Ret, Transfer, Delegate, Test, Switch, State, named_by}
-use Rattle.step_ways.proofs.Common.{counts_references, is_one_of, frames_near, only, Found, only_is, name_parts, at_place}
+use Rattle.step_ways.proofs.Common.{counts_references, is_one_of, footprint_frames, only, Found, only_is, name_parts, at_place}
 use Rattle.step_ways.proofs.Common.{First, Second, plan_for, Leads}
 use Rattle.step_ways.proofs.Common.{LeadsIn, put_by, to_use, Suits, suits}
 use Rattle.plan_ways.specs.spk_nums.specs.declared.calls.Call.TheVariants.{Look, Make as make_call}
@@ -13,11 +13,11 @@ use Rattle.plan_ways.specs.spk_nums.specs.Rights.{kept}
 use Rattle.plan_ways.specs.spk_nums.specs.declared.rights.Rights.{Rights}
 use Rattle.plan_ways.specs.spk_nums.specs.declared.kinds.Kind.TheVariants.{Comp as comp_kind, Gate as gate_kind}
 use Rattle.plan_ways.specs.kernel_rules.specs.Rules.{of_kind}
-use Rattle.plan_ways.proofs.Near.{near_found}
-use Rattle.count_invariant.proofs.LinkCounts.{link_near, page_near}
+use Rattle.plan_ways.proofs.InFootprint.{footprint_found}
+use Rattle.count_invariant.proofs.LinkCounts.{link_footprint, page_footprint}
 use Rattle.step_ways.specs.act_states.specs.Acts.{gate_if, gate_to, kept_of}
 
--- A call that fills its target changes references, and the frame that it names there is near it: a line a call.
+-- A call that fills its target changes references, and the frame that it names there is in its footprint: a line a call.
 pub put_counts : (call : Call) (ks : List Capability) (read : Option ℕ) (k : Capability) → put_by call ks read ≡ Some k
     → IsTrue (counts_references call)
 put_counts (Look a) ks read k puts = absurd (cc)
@@ -51,15 +51,15 @@ wanted_is j k h =
     ap (λ (x : Capability). x.kind) (sym w.is) ∙ only_is comp_kind j.kind w.kind
 
 -- A gate names the frame of the component to which its call's first name has led.
-gate_near : (s : State) (c : ℕ) (n u b : ℕ) (ks : List Capability) (o : Option Capability) (read : Option ℕ) (k : Capability)
+gate_footprint : (s : State) (c : ℕ) (n u b : ℕ) (ks : List Capability) (o : Option Capability) (read : Option ℕ) (k : Capability)
     → at_place ks First ≡ o → gate_to o read ≡ Some k
     → Leads (LeadsIn s c) (plan_for (Gate n u b)).names [] ks
-    → (f : ℕ) → is_one_of f (named_by k.kind k.frame) ≡ true → is_one_of f (frames_near s c (Gate n u b)) ≡ true
-gate_near s c n u b ks None read k is puts lead f names_it = absurd (cc)
-gate_near s c n u b ks (Some comp) None k is puts lead f names_it = absurd (cc)
-gate_near s c n u b [] (Some comp) (Some epoch) k is puts lead f names_it = absurd (cc)
-gate_near s c n u b (j ∷ ks) (Some comp) (Some epoch) k is puts lead f names_it =
-    near_found s c (Gate n u b) (j ∷ ks) lead First j refl f (by (nat_le 1 epoch) puts)
+    → (f : ℕ) → is_one_of f (named_by k.kind k.frame) ≡ true → is_one_of f (footprint_frames s c (Gate n u b)) ≡ true
+gate_footprint s c n u b ks None read k is puts lead f names_it = absurd (cc)
+gate_footprint s c n u b ks (Some comp) None k is puts lead f names_it = absurd (cc)
+gate_footprint s c n u b [] (Some comp) (Some epoch) k is puts lead f names_it = absurd (cc)
+gate_footprint s c n u b (j ∷ ks) (Some comp) (Some epoch) k is puts lead f names_it =
+    footprint_found s c (Gate n u b) (j ∷ ks) lead First j refl f (by (nat_le 1 epoch) puts)
   where
     by : (some : Bool) → gate_if some comp.frame epoch ≡ Some k → is_one_of f (named_by j.kind j.frame) ≡ true
     by true h =
@@ -71,37 +71,38 @@ gate_near s c n u b (j ∷ ks) (Some comp) (Some epoch) k is puts lead f names_i
     by false h = absurd (cc)
 
 -- A copy names the frame of the capability to which its first name has led.
-copy_near : (s : State) (c a u b : ℕ) (rights : Rights) (ks : List Capability) (o : Option Capability) (k : Capability)
+copy_footprint : (s : State) (c a u b : ℕ) (rights : Rights) (ks : List Capability) (o : Option Capability) (k : Capability)
     → at_place ks First ≡ o → kept_of rights.0 o ≡ Some k
     → Leads (LeadsIn s c) (plan_for (Copy a u b rights)).names [] ks
-    → (f : ℕ) → is_one_of f (named_by k.kind k.frame) ≡ true → is_one_of f (frames_near s c (Copy a u b rights)) ≡ true
-copy_near s c a u b rights ks None k is puts lead f names_it = absurd (cc)
-copy_near s c a u b rights ks (Some j) k is puts lead f names_it =
-    near_found s c (Copy a u b rights) ks lead First j is f
+    → (f : ℕ) → is_one_of f (named_by k.kind k.frame) ≡ true → is_one_of f (footprint_frames s c (Copy a u b rights)) ≡ true
+copy_footprint s c a u b rights ks None k is puts lead f names_it = absurd (cc)
+copy_footprint s c a u b rights ks (Some j) k is puts lead f names_it =
+    footprint_found s c (Copy a u b rights) ks lead First j is f
     (subst (λ (x : Capability). is_one_of f (named_by x.kind x.frame) ≡ true) (sym (cap_same (kept j rights.0) k puts)) names_it)
 
-pub put_near : (s : State) (c : ℕ) (call : Call) (ks : List Capability) (read : Option ℕ) (k : Capability)
+pub put_footprint : (s : State) (c : ℕ) (call : Call) (ks : List Capability) (read : Option ℕ) (k : Capability)
     → put_by call ks read ≡ Some k
     → Leads (LeadsIn s c) (plan_for call).names [] ks
-    → (f : ℕ) → is_one_of f (named_by k.kind k.frame) ≡ true → is_one_of f (frames_near s c call) ≡ true
-put_near s c (Look a) ks read k puts lead f names_it = absurd (cc)
-put_near s c (Copy a u b rights) ks read k puts lead f names_it =
-    copy_near s c a u b rights ks (at_place ks First) k refl puts lead f names_it
-put_near s c (Grow u i l) ks read k puts lead f names_it = link_near s c u i l ks k puts lead f names_it
-put_near s c (Remove u b) ks read k puts lead f names_it = absurd (cc)
-put_near s c (Shrink u i) ks read k puts lead f names_it = absurd (cc)
-put_near s c (Map p v r g w) ks read k puts lead f names_it = page_near s c p v r g w (at_place ks Second) k puts f names_it
-put_near s c (Unmap p v) ks read k puts lead f names_it = absurd (cc)
-put_near s c (Retype r g j) ks read k puts lead f names_it = absurd (cc)
-put_near s c (make_call what r g u b) ks read k puts lead f names_it = absurd (cc)
-put_near s c (Touch v) ks read k puts lead f names_it = absurd (cc)
-put_near s c Flush ks read k puts lead f names_it = absurd (cc)
-put_near s c (Tick n) ks read k puts lead f names_it = absurd (cc)
-put_near s c (Gate n u b) ks read k puts lead f names_it = gate_near s c n u b ks (at_place ks First) read k refl puts lead f names_it
-put_near s c (Kill n) ks read k puts lead f names_it = absurd (cc)
-put_near s c (call_gate n) ks read k puts lead f names_it = absurd (cc)
-put_near s c Ret ks read k puts lead f names_it = absurd (cc)
-put_near s c (Transfer x y m) ks read k puts lead f names_it = absurd (cc)
-put_near s c (Delegate x y m) ks read k puts lead f names_it = absurd (cc)
-put_near s c (Test x y) ks read k puts lead f names_it = absurd (cc)
-put_near s c (Switch x y) ks read k puts lead f names_it = absurd (cc)
+    → (f : ℕ) → is_one_of f (named_by k.kind k.frame) ≡ true → is_one_of f (footprint_frames s c call) ≡ true
+put_footprint s c (Look a) ks read k puts lead f names_it = absurd (cc)
+put_footprint s c (Copy a u b rights) ks read k puts lead f names_it =
+    copy_footprint s c a u b rights ks (at_place ks First) k refl puts lead f names_it
+put_footprint s c (Grow u i l) ks read k puts lead f names_it = link_footprint s c u i l ks k puts lead f names_it
+put_footprint s c (Remove u b) ks read k puts lead f names_it = absurd (cc)
+put_footprint s c (Shrink u i) ks read k puts lead f names_it = absurd (cc)
+put_footprint s c (Map p v r g w) ks read k puts lead f names_it = page_footprint s c p v r g w (at_place ks Second) k puts f names_it
+put_footprint s c (Unmap p v) ks read k puts lead f names_it = absurd (cc)
+put_footprint s c (Retype r g j) ks read k puts lead f names_it = absurd (cc)
+put_footprint s c (make_call what r g u b) ks read k puts lead f names_it = absurd (cc)
+put_footprint s c (Touch v) ks read k puts lead f names_it = absurd (cc)
+put_footprint s c Flush ks read k puts lead f names_it = absurd (cc)
+put_footprint s c (Tick n) ks read k puts lead f names_it = absurd (cc)
+put_footprint s c (Gate n u b) ks read k puts lead f names_it = gate_footprint s c n u b ks
+    (at_place ks First) read k refl puts lead f names_it
+put_footprint s c (Kill n) ks read k puts lead f names_it = absurd (cc)
+put_footprint s c (call_gate n) ks read k puts lead f names_it = absurd (cc)
+put_footprint s c Ret ks read k puts lead f names_it = absurd (cc)
+put_footprint s c (Transfer x y m) ks read k puts lead f names_it = absurd (cc)
+put_footprint s c (Delegate x y m) ks read k puts lead f names_it = absurd (cc)
+put_footprint s c (Test x y) ks read k puts lead f names_it = absurd (cc)
+put_footprint s c (Switch x y) ks read k puts lead f names_it = absurd (cc)

@@ -1,14 +1,14 @@
 -- The count, and the frames, of a call that enters a component or leaves one.
 use Rattle.step_ways.proofs.Common.{◌≡◌, refl, ℕ, ◌≤◌, Bool, true, false, sym, ◌∙◌, [], ◌∷◌, ◌++◌, length, ap, arith, subst, IsTrue, ◌||◌}
 use Rattle.step_ways.proofs.Common.{◌==◌, eq-eqb, Capability, Kind, Call, named_by, State, first_of_stack, thread_of, comp_of}
-use Rattle.step_ways.proofs.Common.{counts_references, changes_threads, frames_own, frames_near, is_one_of, First, at_place, plan_for}
+use Rattle.step_ways.proofs.Common.{counts_references, changes_threads, frames_own, footprint_frames, is_one_of, First, at_place, plan_for}
 use Rattle.step_ways.proofs.Common.{Leads, LeadsIn, Invoking, InvokingAt, ReturningAt, Due, invoking_dues, returning_dues, InvokesBy}
 use Rattle.step_ways.proofs.Common.{below_of}
 use Rattle.std.specs.Prelude.{List, ℤ, pos, negsuc}
 use Rattle.std.proofs.Math.Bool.{or-true}
 use Rattle.plan_ways.specs.spk_nums.specs.declared.kinds.Kind.TheVariants as kind
 use Rattle.plan_ways.specs.spk_nums.specs.declared.calls.Call.TheVariants.{Call as call_gate}
-use Rattle.plan_ways.proofs.Near.{near_found, one_left}
+use Rattle.plan_ways.proofs.InFootprint.{footprint_found, one_left}
 use Rattle.step_ways.specs.act_states.specs.declared.invocations.InvokingAt.TheVariants as invoking
 use Rattle.step_ways.specs.act_states.specs.declared.invocations.ReturningAt.TheVariants as returning
 use Rattle.count_invariant.proofs.MakingCounts.{no_due}
@@ -44,30 +44,30 @@ invoke_counts call ks m is = subst (λ x. IsTrue (counts_references x)) (sym (in
 pub invoke_threads : (call : Call) (ks : List Capability) (m : Invoking) → InvokesBy call ks m → changes_threads call ≡ true
 invoke_threads call ks m is = ap changes_threads (invoke_of call ks m is).call_is
 
--- The component is near it.
-pub invoke_near : (s : State) (c : ℕ) (call : Call) (ks : List Capability) (m : Invoking) → InvokesBy call ks m
-    → Leads (LeadsIn s c) (plan_for call).names [] ks → is_one_of m.comp (frames_near s c call) ≡ true
-invoke_near s c call ks m invokes leads =
+-- The component is in its footprint.
+pub invoke_footprint : (s : State) (c : ℕ) (call : Call) (ks : List Capability) (m : Invoking) → InvokesBy call ks m
+    → Leads (LeadsIn s c) (plan_for call).names [] ks → is_one_of m.comp (footprint_frames s c call) ≡ true
+invoke_footprint s c call ks m invokes leads =
     let is = invoke_of call ks m invokes in
-    near_found s c call ks leads First is.gate (ap (λ xs. at_place xs First) is.found_is) m.comp
+    footprint_found s c call ks leads First is.gate (ap (λ xs. at_place xs First) is.found_is) m.comp
     (ap (λ (k : Kind). is_one_of m.comp (named_by k is.gate.frame)) is.kind ∙ ap (λ b. b || false)
     (eq-eqb is.gate.frame m.comp (sym is.frame)))
 
--- A core's thread, and each component on its stack, is near each of its calls.
+-- A core's thread, and each component on its stack, is in the footprint of each of its calls.
 or_left : (a b : Bool) → a ≡ true → (a || b) ≡ true
 or_left a b is = ap (λ x. x || b) is
 
 or_right : (a b : Bool) → b ≡ true → (a || b) ≡ true
 or_right a b is = ap (λ x. a || x) is ∙ or-true a
 
-pub stack_near : (s : State) (c : ℕ) (call : Call) (f : ℕ) → is_one_of f (thread_of s c).stack ≡ true
-    → is_one_of f (frames_near s c call) ≡ true
-stack_near s c call f is = one_left f (frames_own s c) _
+pub stack_footprint : (s : State) (c : ℕ) (call : Call) (f : ℕ) → is_one_of f (thread_of s c).stack ≡ true
+    → is_one_of f (footprint_frames s c call) ≡ true
+stack_footprint s c call f is = one_left f (frames_own s c) _
     (or_right ((s.core c).thread == f) _ (or_right ((s.core c).tcap == f) _
     (one_left f (thread_of s c).stack ((comp_of s c).table ∷ (comp_of s c).pages ∷ []) is)))
 
-pub thread_near : (s : State) (c : ℕ) (call : Call) (f : ℕ) → (s.core c).thread ≡ f → is_one_of f (frames_near s c call) ≡ true
-thread_near s c call f is = one_left f (frames_own s c) _ (or_left ((s.core c).thread == f) _ (eq-eqb (s.core c).thread f is))
+pub thread_footprint : (s : State) (c : ℕ) (call : Call) (f : ℕ) → (s.core c).thread ≡ f → is_one_of f (footprint_frames s c call) ≡ true
+thread_footprint s c call f is = one_left f (frames_own s c) _ (or_left ((s.core c).thread == f) _ (eq-eqb (s.core c).thread f is))
 
 pub first_one : (fs : List ℕ) → 1 ≤ length fs → is_one_of (first_of_stack fs) fs ≡ true
 first_one [] some = absurd (omega (arith, some))
@@ -104,8 +104,9 @@ returning_due f (returning.LoadTable comp) xs d rest is = absurd (no_due xs d re
 returning_due f (returning.LoadPages comp table) xs d rest is = absurd (no_due xs d rest is)
 returning_due f (returning.Draw comp table pages) xs d rest is = only_due f (negsuc 0) xs d rest is
 
--- The component at the top of a core's stack is near each of its calls.
-pub top_near : (s : State) (c : ℕ) (call : Call) (top : ℕ) → top ≡ first_of_stack (thread_of s c).stack → 1 ≤ length (thread_of s c).stack
-    → is_one_of top (frames_near s c call) ≡ true
-top_near s c call top is some = stack_near s c call top
+-- The component at the top of a core's stack is in the footprint of each of its calls.
+pub top_footprint : (s : State) (c : ℕ) (call : Call) (top : ℕ) → top ≡ first_of_stack (thread_of s c).stack → 1 ≤ length
+    (thread_of s c).stack
+    → is_one_of top (footprint_frames s c call) ≡ true
+top_footprint s c call top is some = stack_footprint s c call top
     (subst (λ (n : ℕ). is_one_of n (thread_of s c).stack ≡ true) (sym is) (first_one (thread_of s c).stack some))

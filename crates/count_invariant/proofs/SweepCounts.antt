@@ -1,10 +1,10 @@
 -- The counts that a call acquires which makes a frame untyped: of the frames that its object names itself. None of them is the frame, since
--- nothing refers to that; and they are near the call.
+-- nothing refers to that; and they are in the call's footprint.
 use Rattle.step_ways.proofs.Common.{◌^◌, ◌≡◌, ◌≢◌, ◌⊎◌, ℕ, ℤ, negsuc, ◌<◌, ◌≤◌, ◌+◌, ◌++◌, ◌||◌, ◌==◌, map, cond, Bool, true}
 use Rattle.step_ways.proofs.Common.{false, IsTrue, List, [], ◌∷◌, Option, Some, None, arith, refl, sym, ◌∙◌, ap, subst, All, flat_map}
 use Rattle.step_ways.proofs.Common.{eq-eqb, eqb-true, false≢true, All-nil, All-cons, Capability, Setting, IsSetting, Call, Retype, Word}
 use Rattle.step_ways.proofs.Common.{CountAt, State, frame_names, times, refs, rule_of, times_cons, counts_references, changes_frames}
-use Rattle.step_ways.proofs.Common.{frame_mark, IsNearIn, is_one_of, frames_named, frame_at_slot, frame_argument, frames_own}
+use Rattle.step_ways.proofs.Common.{frame_mark, IsInFootprint, is_one_of, frames_named, frame_at_slot, frame_argument, frames_own}
 use Rattle.step_ways.proofs.Common.{Trace, state_after, last_left, wide_ways, target_of, Acquired, Pin, thaw_of, Swept}
 use Rattle.step_ways.proofs.Common.{dues, undo, released_dues, release_of, untyping_dues, UntypingAt, Untyping, Due, Acquire, StageFits}
 use Rattle.step_ways.proofs.Common.{ActiveCall, Undecided, Core, holds_release, holds_untyping, Holding, holds_counts, settled}
@@ -15,7 +15,7 @@ use Rattle.plan_ways.specs.spk_nums.specs.declared.kinds.FrameKind.TheVariants a
 use Rattle.plan_ways.specs.kernel_invariant.proofs.SoundRemovals.{unnamed}
 use Rattle.plan_ways.specs.frame_words.proofs.FrameLemmas as frames
 use Rattle.plan_ways.specs.kernel_history.specs.Footprint.{frames_about}
-use Rattle.plan_ways.proofs.Near.{one_left, one_right}
+use Rattle.plan_ways.proofs.InFootprint.{one_left, one_right}
 use Rattle.step_ways.specs.act_states.specs.Untypings.{is_drawing, untyping_undo}
 use Rattle.step_ways.specs.act_states.specs.declared.untypings.UntypingAt.TheVariants as untype
 use Rattle.step_ways.specs.act_states.specs.declared.work.Act.TheVariants.{Untype as untype_act}
@@ -170,8 +170,8 @@ module _ (setup : Setting) (setting : IsSetting setup) (cores : ℕ → Core) (t
       (one_right f (frame_at_slot s (target_of s c (rule_of s c a.call))) (frame_argument a.call)
       (subst (λ x. is_one_of f (frame_argument x) ≡ true) (sym is.call_is) (ap (λ b. b || false) (eq-eqb f f refl))))
 
-  pub sweep_near : (b : ℕ) → IsNearIn c a.call (CountAt (pin_frame pin) b) s
-  sweep_near b = one_right (pin_frame pin) (frames_own s c) _
+  pub sweep_footprint : (b : ℕ) → IsInFootprint c a.call (CountAt (pin_frame pin) b) s
+  sweep_footprint b = one_right (pin_frame pin) (frames_own s c) _
       (one_right (pin_frame pin) (map (λ at. at.node) (wide_ways s c (rule_of s c a.call))) _
       (one_right (pin_frame pin) (frames_about s c a.call) (flat_map (λ g. frame_names (s.frame g)) (frames_about s c a.call))
       (of_many (λ g. frame_names (s.frame g)) (pin_frame pin) f (frames_about s c a.call) about pin_named)))

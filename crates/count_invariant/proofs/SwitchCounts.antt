@@ -2,8 +2,8 @@
 use Rattle.step_ways.proofs.Common.{All, flat_map, ◌≡◌, ◌+◌, ◌<◌, inl, inr, refl, ℕ, Bool, true, false, sym, ◌∙◌, [], ◌∷◌, ◌++◌, map, ap}
 use Rattle.step_ways.proofs.Common.{subst, IsTrue, ◌||◌, ◌==◌, arith, eq-eqb, All-nil, All-cons, All-head, All-tail, Setting, Capability}
 use Rattle.step_ways.proofs.Common.{Kind, Call, Switch, to_use, only, EntryAt, rule_of, counted, named_by, frame_names, IsGuarded, State}
-use Rattle.step_ways.proofs.Common.{thread_of, comp_of, only_is, core_same_refs, counts_references, changes_threads, IsNearIn}
-use Rattle.step_ways.proofs.Common.{frames_near, frames_own, is_one_of, Step, Trace, Open, Out, WasAt, phase, state_after, wide_ways}
+use Rattle.step_ways.proofs.Common.{thread_of, comp_of, only_is, core_same_refs, counts_references, changes_threads, IsInFootprint}
+use Rattle.step_ways.proofs.Common.{footprint_frames, frames_own, is_one_of, Step, Trace, Open, Out, WasAt, phase, state_after, wide_ways}
 use Rattle.step_ways.proofs.Common.{was_now, was_stays, Acquired, AtStack, First, Second, plan_for, Leads, LeadsIn, tcap_dues}
 use Rattle.step_ways.proofs.Common.{Switching, SwitchAt, LoadTable, Due, KnowsTail, HasThread, SwitchesBy, claimed_by}
 use Rattle.std.specs.Prelude.{List, pos, negsuc}
@@ -11,7 +11,7 @@ use Rattle.plan_ways.specs.spk_nums.specs.declared.kinds.Kind.TheVariants as kin
 use Rattle.plan_ways.specs.kernel_history.specs.Footprint.{frames_about}
 use Rattle.step_ways.specs.stage_thread.specs.declared.claim.Claim.TheVariants.{AtLoad, AtCompare}
 use Rattle.step_ways.specs.stage_thread.specs.declared.claim.Claimed.{Claimed}
-use Rattle.plan_ways.proofs.Near.{near_found, one_left}
+use Rattle.plan_ways.proofs.InFootprint.{footprint_found, one_left}
 use Rattle.step_ways.specs.act_states.specs.Switches.{switching_dues, switch_due_list, switching_undo}
 use Rattle.step_ways.specs.act_states.specs.declared.switches.SwitchAt.TheVariants.{Claim, LoadPages, Leave, Draw}
 use Rattle.step_ways.specs.core_invariant.specs.Threads.{KnowsIdle, LeavesOwn}
@@ -48,7 +48,7 @@ switch_of call ks f q is = absurd is
 pub switch_counts : (call : Call) (ks : List Capability) (f q : ℕ) → SwitchesBy call ks f q → IsTrue (counts_references call)
 switch_counts call ks f q is = subst (λ x. IsTrue (counts_references x)) (sym (switch_of call ks f q is).call_is) refl
 
--- What its names have led to is of their kinds, and near it.
+-- What its names have led to is of their kinds, and in its footprint.
 module _ (s : State) (c : ℕ) (call : Call) (ks : List Capability) (f q : ℕ) (is : IsSwitch call ks f q)
     (lead : Leads (LeadsIn s c) (plan_for call).names [] ks) where
   abbrev whole : Call
@@ -72,26 +72,28 @@ module _ (s : State) (c : ℕ) (call : Call) (ks : List Capability) (f q : ℕ) 
   names_it k want one wanted g same =
       ap (λ (j : Kind). is_one_of g (named_by j k.frame)) wanted ∙ ap (is_one_of g) one ∙ ap (λ b. b || false) (eq-eqb k.frame g same)
 
-  pub thread_near : is_one_of f (frames_near s c call) ≡ true
-  thread_near = ap (λ x. is_one_of f (frames_near s c x)) is.call_is
-      ∙ near_found s c whole all leads First is.thread refl f (names_it is.thread kind.Thread refl thread_kind f (sym is.thread_is))
+  pub thread_footprint : is_one_of f (footprint_frames s c call) ≡ true
+  thread_footprint = ap (λ x. is_one_of f (footprint_frames s c x)) is.call_is
+      ∙ footprint_found s c whole all leads First is.thread refl f (names_it is.thread kind.Thread refl thread_kind f (sym is.thread_is))
 
-  pub tcap_near : is_one_of q (frames_near s c call) ≡ true
-  tcap_near = ap (λ x. is_one_of q (frames_near s c x)) is.call_is
-      ∙ near_found s c whole all leads Second is.tcap refl q (names_it is.tcap kind.Tcap refl tcap_kind q (sym is.tcap_is))
+  pub tcap_footprint : is_one_of q (footprint_frames s c call) ≡ true
+  tcap_footprint = ap (λ x. is_one_of q (footprint_frames s c x)) is.call_is
+      ∙ footprint_found s c whole all leads Second is.tcap refl q (names_it is.tcap kind.Tcap refl tcap_kind q (sym is.tcap_is))
 
--- The frame of its own thread is near it, and that of its own temporal capability.
-own_near : (s : State) (c : ℕ) (call : Call) (f : ℕ) → is_one_of f (frames_own s c) ≡ true → is_one_of f (frames_near s c call) ≡ true
-own_near s c call f is = one_left f (frames_own s c) (map (λ at. at.node) (wide_ways s c (rule_of s c call))
+-- The frame of its own thread is in its footprint, and that of its own temporal capability.
+own_footprint : (s : State) (c : ℕ) (call : Call) (f : ℕ) → is_one_of f (frames_own s c) ≡ true → is_one_of f
+    (footprint_frames s c call) ≡ true
+own_footprint s c call f is = one_left f (frames_own s c) (map (λ at. at.node) (wide_ways s c (rule_of s c call))
     ++ (frames_about s c call ++ flat_map (λ g. frame_names (s.frame g)) (frames_about s c call))) is
 
-pub old_near : (s : State) (c : ℕ) (call : Call) (m : Switching) → LeavesOwn s c m → is_one_of m.old (frames_near s c call) ≡ true
-old_near s c call m leaves = own_near s c call m.old
+pub old_footprint : (s : State) (c : ℕ) (call : Call) (m : Switching) → LeavesOwn s c m → is_one_of m.old (footprint_frames s c call) ≡ true
+old_footprint s c call m leaves = own_footprint s c call m.old
     (ap (λ b. b || is_one_of m.old ((s.core c).tcap ∷ ((thread_of s c).stack ++ ((comp_of s c).table ∷ (comp_of s c).pages ∷ []))))
     (eq-eqb (s.core c).thread m.old (sym leaves.thread)))
 
-pub old_tcap_near : (s : State) (c : ℕ) (call : Call) (m : Switching) → LeavesOwn s c m → is_one_of m.old_tcap (frames_near s c call) ≡ true
-old_tcap_near s c call m leaves = own_near s c call m.old_tcap (or_true ((s.core c).thread == m.old_tcap)
+pub old_tcap_footprint : (s : State) (c : ℕ) (call : Call) (m : Switching) → LeavesOwn s c m → is_one_of m.old_tcap
+    (footprint_frames s c call) ≡ true
+old_tcap_footprint s c call m leaves = own_footprint s c call m.old_tcap (or_true ((s.core c).thread == m.old_tcap)
     (ap (λ b. b || is_one_of m.old_tcap ((thread_of s c).stack ++ ((comp_of s c).table ∷ (comp_of s c).pages ∷ [])))
     (eq-eqb (s.core c).tcap m.old_tcap (sym leaves.tcap))))
   where
@@ -104,38 +106,40 @@ each_due : (P : Due → Type 0) (xs : List Due) (d : Due) (rest : List Due) → 
 each_due P [] d rest all = All-head P d rest all
 each_due P (x ∷ xs) d rest all = each_due P xs d rest (All-tail P x (xs ++ d ∷ rest) all)
 
--- The frames of the counts that it changes are near it.
+-- The frames of the counts that it changes are in its footprint.
 module _ (s : State) (c : ℕ) (call : Call) (ks : List Capability) (m : Switching) (leaves : LeavesOwn s c m) where
-  abbrev IsNear : Due → Type 0
-  IsNear d = is_one_of d.frame (frames_near s c call) ≡ true
+  abbrev IsFootprint : Due → Type 0
+  IsFootprint d = is_one_of d.frame (footprint_frames s c call) ≡ true
 
-  tcaps_near : (b : Bool) → is_one_of m.tcap (frames_near s c call) ≡ true → All IsNear (tcap_dues b m.tcap m.old_tcap)
-  tcaps_near true near = All-nil IsNear
-  tcaps_near false near =
-      All-cons IsNear (record { frame = m.tcap; change = pos 1 }) (record { frame = m.old_tcap; change = negsuc 0 } ∷ []) near
-      (All-cons IsNear (record { frame = m.old_tcap; change = negsuc 0 }) [] (old_tcap_near s c call m leaves) (All-nil IsNear))
+  tcaps_footprint : (b : Bool) → is_one_of m.tcap (footprint_frames s c call) ≡ true → All IsFootprint (tcap_dues b m.tcap m.old_tcap)
+  tcaps_footprint true footprint = All-nil IsFootprint
+  tcaps_footprint false footprint =
+      All-cons IsFootprint (record { frame = m.tcap; change = pos 1 }) (record { frame = m.old_tcap; change = negsuc 0 } ∷ []) footprint
+      (All-cons IsFootprint (record { frame = m.old_tcap; change = negsuc 0 }) [] (old_tcap_footprint s c call m leaves)
+      (All-nil IsFootprint))
 
-  all_near : (to : Claimed) → is_one_of to.thread (frames_near s c call) ≡ true → is_one_of m.tcap (frames_near s c call) ≡ true
-      → All IsNear (switch_due_list m to)
-  all_near to thread tcap =
-      All-cons IsNear (record { frame = to.thread; change = pos 1 })
+  all_footprint : (to : Claimed) → is_one_of to.thread (footprint_frames s c call) ≡ true → is_one_of m.tcap (footprint_frames s c call)
+      ≡ true
+      → All IsFootprint (switch_due_list m to)
+  all_footprint to thread tcap =
+      All-cons IsFootprint (record { frame = to.thread; change = pos 1 })
       (record { frame = m.old; change = negsuc 0 } ∷ tcap_dues (m.tcap == m.old_tcap) m.tcap m.old_tcap) thread
-      (All-cons IsNear (record { frame = m.old; change = negsuc 0 }) (tcap_dues (m.tcap == m.old_tcap) m.tcap m.old_tcap)
-      (old_near s c call m leaves) (tcaps_near (m.tcap == m.old_tcap) tcap))
+      (All-cons IsFootprint (record { frame = m.old; change = negsuc 0 }) (tcap_dues (m.tcap == m.old_tcap) m.tcap m.old_tcap)
+      (old_footprint s c call m leaves) (tcaps_footprint (m.tcap == m.old_tcap) tcap))
 
-  dues_near : (at : SwitchAt) → IsSwitch call ks (claimed_by at) m.tcap → Leads (LeadsIn s c) (plan_for call).names [] ks
-      → All IsNear (switching_dues m at)
-  dues_near (Claim claim) is lead = All-nil IsNear
-  dues_near (LoadTable to) is lead = All-nil IsNear
-  dues_near (LoadPages to table) is lead = All-nil IsNear
-  dues_near (Leave to table pages) is lead =
-      all_near to (thread_near s c call ks to.thread m.tcap is lead) (tcap_near s c call ks to.thread m.tcap is lead)
-  dues_near (Draw to table pages) is lead =
-      all_near to (thread_near s c call ks to.thread m.tcap is lead) (tcap_near s c call ks to.thread m.tcap is lead)
+  dues_footprint : (at : SwitchAt) → IsSwitch call ks (claimed_by at) m.tcap → Leads (LeadsIn s c) (plan_for call).names [] ks
+      → All IsFootprint (switching_dues m at)
+  dues_footprint (Claim claim) is lead = All-nil IsFootprint
+  dues_footprint (LoadTable to) is lead = All-nil IsFootprint
+  dues_footprint (LoadPages to table) is lead = All-nil IsFootprint
+  dues_footprint (Leave to table pages) is lead =
+      all_footprint to (thread_footprint s c call ks to.thread m.tcap is lead) (tcap_footprint s c call ks to.thread m.tcap is lead)
+  dues_footprint (Draw to table pages) is lead =
+      all_footprint to (thread_footprint s c call ks to.thread m.tcap is lead) (tcap_footprint s c call ks to.thread m.tcap is lead)
 
-  pub switch_due_near : (at : SwitchAt) → IsSwitch call ks (claimed_by at) m.tcap → Leads (LeadsIn s c) (plan_for call).names [] ks
-      → (xs : List Due) (d : Due) (rest : List Due) → switching_dues m at ≡ xs ++ d ∷ rest → IsNear d
-  switch_due_near at is lead xs d rest same = each_due IsNear xs d rest (subst (All IsNear) same (dues_near at is lead))
+  pub switch_due_footprint : (at : SwitchAt) → IsSwitch call ks (claimed_by at) m.tcap → Leads (LeadsIn s c) (plan_for call).names [] ks
+      → (xs : List Due) (d : Due) (rest : List Due) → switching_dues m at ≡ xs ++ d ∷ rest → IsFootprint d
+  switch_due_footprint at is lead xs d rest same = each_due IsFootprint xs d rest (subst (All IsFootprint) same (dues_footprint at is lead))
 
 -- What is said now is said at a moment of the call.
 pub was_here : (P : State → Type 0) (setup : Setting) (t : Trace) (c : ℕ) (call : Call) → phase t c ≡ Open call → P (state_after setup t)
@@ -169,8 +173,9 @@ switch_left setup t e c call ks counts m at is lead opens by has = left at is ha
     idle : (f : ℕ) → IsSwitch call ks f m.tcap → HasThread (state_after setup t) c f → KnowsIdle setup (e ∷ t) c call f
     idle f of thread = record {
       threads = subst (λ x. changes_threads x ≡ true) (sym of.call_is) refl;
-      near = was_stays (IsNearIn c call (EntryAt f 0)) setup t e c (λ own. by.entry)
-          (was_here (IsNearIn c call (EntryAt f 0)) setup t c call opens (thread_near (state_after setup t) c call ks f m.tcap of lead));
+      footprint = was_stays (IsInFootprint c call (EntryAt f 0)) setup t e c (λ own. by.entry)
+          (was_here (IsInFootprint c call (EntryAt f 0)) setup t c call opens (thread_footprint
+          (state_after setup t) c call ks f m.tcap of lead));
       thread = subst (λ s. HasThread s c f) (sym by.state) (counted_thread (state_after setup t) c f thread);
     }
 

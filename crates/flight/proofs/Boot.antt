@@ -339,7 +339,7 @@ boots setup setting = record {
       (sym (boot_mark setup setting w))
       (subst (WordIs (start setup) (times_of setup []) w)
       (sym (none_value (held_by (boot_cores setup)) w (boot_word setup w) (λ f i d. refl))) (boot_says setup setting w));
-  lent = λ d f i v h. absurd (none_some v h);
+  exclusive = λ d f i v h. absurd (none_some v h);
   sums = boot_sums setup setting;
   draws = omega arith;
   some_time = omega arith;

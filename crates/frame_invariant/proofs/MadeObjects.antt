@@ -1,6 +1,7 @@
 -- The decision of a call that makes an object: the compare of its target, where it is won, makes the frame that object, and puts its
 -- capability there.
-use Rattle.place_invariant.proofs.Common.{Want, counts_bare, may_keep, unlent_value, unlent_word, node_keeps_none, All, ◌≡◌, List, Bool}
+use Rattle.place_invariant.proofs.Common.{Want, counts_bare, may_keep, not_exclusive_value, not_exclusive_word}
+use Rattle.place_invariant.proofs.Common.{node_keeps_none, All, ◌≡◌, List, Bool}
 use Rattle.place_invariant.proofs.Common.{true}
 use Rattle.place_invariant.proofs.Common.{false, Some, None, refl, ℕ, ◌<◌, ◌^◌, ◌==◌, arith, ◌≢◌, ◌+◌, sym, ◌&&◌, [], ◌∷◌, ap, ◌∙◌, subst}
 use Rattle.place_invariant.proofs.Common.{◌≤◌, IsTrue, ◌⊎◌, inl, inr, max, map, ◌+ℤ◌, All-nil, All-cons, All-head, All-tail, ne_eqb}
@@ -381,7 +382,7 @@ module _ (setup : Setting) (setting : IsSetting setup) (cores : ℕ → Core) (t
         settled_is : settled setup (held_by cores) t (EntryAt g i) ≡ last_left setup t (EntryAt f i)
         settled_is = ap (λ (h : ℕ). settled setup (held_by cores) t (EntryAt h i)) same
             ∙ ap (λ o. settled_by o (held_by cores) (EntryAt f i) (last_left setup t (EntryAt f i))) (no_mark i)
-            ∙ unlent_value setup cores t stands f (ap may_keep blank) i (last_left setup t (EntryAt f i))
+            ∙ not_exclusive_value setup cores t stands f (ap may_keep blank) i (last_left setup t (EntryAt f i))
 
     stays : (w : Word) → w ≢ EntryAt node index → marked_by setup t w ≢ Some c → StaysSaid setup cores t e w
     stays (EntryAt g i) there free = elim (cases_eq g f) [
@@ -548,7 +549,7 @@ module _ (setup : Setting) (setting : IsSetting setup) (cores : ℕ → Core) (t
         refl
         same_held
         (λ g i. counts_bare (Some None) a.counts g i ∙ sym (ap (λ h. h.bare g i) held ∙ counts_bare None a.counts g i))
-        (unlent_word setup cores t stands node index (node_keeps_none (s.frame node) in_node))
+        (not_exclusive_word setup cores t stands node index (node_keeps_none (s.frame node) in_node))
         alike begins_none (spares_node setup t e node index refl in_node)
         (inl (made_types a.call a.found m knows.makes)) rises works stays
         (subst (WordIs s' (times_of setup (e ∷ t)) (EntryAt node index)) (sym leaves_it) word_now) commits sums_are

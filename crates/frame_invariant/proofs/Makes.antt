@@ -1,6 +1,7 @@
 -- The steps by which a call makes a node, up to its decision: the load of the frame's word, the compare that marks it, the stores of its
 -- places, and a compare of the target that is lost; and the store that gives the frame's word back.
-use Rattle.place_invariant.proofs.Common.{as_none, counts_bare, may_keep, unlent_word, lent_elsewhere, ◌≡◌, ◌≤◌, Bool, true, false, cond}
+use Rattle.place_invariant.proofs.Common.{as_none, counts_bare, may_keep, not_exclusive_word, exclusive_elsewhere}
+use Rattle.place_invariant.proofs.Common.{◌≡◌, ◌≤◌, Bool, true, false, cond}
 use Rattle.place_invariant.proofs.Common.{Option, Some, None, refl, ℕ, ◌<◌, ◌^◌, ◌==◌, arith, ◌≢◌, ◌+◌, sym, nat_lt, ◌&&◌, [], ◌∷◌, ◌++◌}
 use Rattle.place_invariant.proofs.Common.{length, ap, ◌∙◌, subst, IsTrue, inl, inr, not, map, lt-ltb, eqb-true, eqb-false, ltb-false}
 use Rattle.place_invariant.proofs.Common.{cases_eq, eq-eqb, false≢true, Capability, Setting, IsSetting, left_if, Call, Map, FrameKind}
@@ -10,7 +11,8 @@ use Rattle.place_invariant.proofs.Common.{rule_of, change_of, are_calls_spent, i
 use Rattle.place_invariant.proofs.Common.{Table, Pages, User, Kernel, State, put, Leaf, Pleaf, Comp, Thread, Tcap, Frame, PlaceOf}
 use Rattle.place_invariant.proofs.Common.{refused_first, Carries, same_word-other, last_left-here, last_left-there, own_read-here}
 use Rattle.place_invariant.proofs.Common.{own_read-there, IsAlone, changes_places, changes_frames, changes_in_frame, looks_at_frames}
-use Rattle.place_invariant.proofs.Common.{frames_near, is_one_of, IsSlot, marked_by, frame_mark, mark_in_frame, frame_value, stamp, Trace}
+use Rattle.place_invariant.proofs.Common.{footprint_frames, is_one_of, IsSlot, marked_by}
+use Rattle.place_invariant.proofs.Common.{frame_mark, mark_in_frame, frame_value, stamp, Trace}
 use Rattle.place_invariant.proofs.Common.{Open, phase, state_after, Step, last_left, own_read, left_may, own_pages, Acquired, dues}
 use Rattle.place_invariant.proofs.Common.{next_work, made_dues, object_dues, NewObject, refuse, Making, MakingAt, Mark, Store, Nothing}
 use Rattle.place_invariant.proofs.Common.{Unmark, Act, Goes, GoesOn, landed, went_with, Core, ActiveCall, Undecided, Decided, names_on}
@@ -46,9 +48,10 @@ use Rattle.place_invariant.specs.step_ways.proofs.Refusals.{GoodTook, ticks_at, 
 use Rattle.place_invariant.specs.step_ways.proofs.Writes.{stores_on}
 use Rattle.place_invariant.specs.core_invariant.specs.Knows.{KnowsMaking}
 use Rattle.place_invariant.specs.core_invariant.specs.Knows.{HasStored, HasBlank}
-use Rattle.place_invariant.specs.count_invariant.proofs.Lookups.{near_way}
+use Rattle.place_invariant.specs.count_invariant.proofs.Lookups.{footprint_way}
 use Rattle.place_invariant.specs.count_invariant.proofs.Acquiring.{knows_next, next_holds}
-use Rattle.place_invariant.specs.count_invariant.proofs.MakingCounts.{blank_left, made_changes, made_argument, made_near, argument_near}
+use Rattle.place_invariant.specs.count_invariant.proofs.MakingCounts.{blank_left, made_changes}
+use Rattle.place_invariant.specs.count_invariant.proofs.MakingCounts.{made_argument, made_footprint, argument_footprint}
 use Rattle.place_invariant.proofs.Fills.{target_way, changes_node}
 use Rattle.place_invariant.proofs.Outside.{vacant_slot, vacant_here, stands_alone}
 use Rattle.frame_invariant.proofs.MakeCalls as calls
@@ -158,12 +161,12 @@ module _ (setup : Setting) (setting : IsSetting setup) (cores : ℕ → Core) (t
   knows_at : (at : MakingAt) → m.at ≡ at → KnowsMakingAt setup t c f m.object at
   knows_at at is = subst (KnowsMakingAt setup t c f m.object) is knows.at
 
-  near : is_one_of f (frames_near s c a.call) ≡ true
-  near = made_near s c a.call a.found m knows.makes
+  footprint : is_one_of f (footprint_frames s c a.call) ≡ true
+  footprint = made_footprint s c a.call a.found m knows.makes
 
   loading : OnlyLooks setup t c a.call (LoadOf (FrameAt f))
   loading = record {
-    of_call = record { moves = made_looks a.call (made_changes a.call a.found m knows.makes); near = inl near };
+    of_call = record { moves = made_looks a.call (made_changes a.call a.found m knows.makes); footprint = inl footprint };
     kept = refl;
     apart = λ d. refl;
   }
@@ -334,7 +337,7 @@ module _ (setup : Setting) (setting : IsSetting setup) (cores : ℕ → Core) (t
     met = knows_at (Mark word) at_is
 
     mark_of_call : IsOfCall setup t c a.call mark_it
-    mark_of_call = record { moves = made_changes a.call a.found m knows.makes; near = inl near }
+    mark_of_call = record { moves = made_changes a.call a.found m knows.makes; footprint = inl footprint }
 
     mark_lost : (was == word) ≡ false → GoodTook setup cores t c mark_it (landed a (marks_if m word false))
     mark_lost other =
@@ -388,7 +391,7 @@ module _ (setup : Setting) (setting : IsSetting setup) (cores : ℕ → Core) (t
         })
         (counts_on setup t e c a.call (λ own. refl) a.counts (call_is setup setting cores t stands c here a active).counts)
         (call_is setup setting cores t stands c here a active).apart
-        (spares_other setup t e (λ g i h. cc)) (lent_elsewhere cores e (λ g i h. cc))
+        (spares_other setup t e (λ g i h. cc)) (exclusive_elsewhere cores e (λ g i h. cc))
       where
         no_counts : a.counts ≡ []
         no_counts = none_of a.counts (dues_at (Mark word) at_is)
@@ -474,10 +477,10 @@ module _ (setup : Setting) (setting : IsSetting setup) (cores : ℕ → Core) (t
         (calls.no_mark setup setting cores t stands c here a active m stage_is has word held_store stored_so.says n)
         (ap (λ x. mark_in_frame x n new_word) blank)
         (word_small m.object n fits_in.object.pair (calls.small_names setup setting cores t stands c here a active m stage_is has))
-        (record { moves = makes_in_blank a.call a.found m knows.makes (s.frame f) blank; near = inl near })
+        (record { moves = makes_in_blank a.call a.found m knows.makes (s.frame f) blank; footprint = inl footprint })
         (λ b. refl) (λ h. cc) (λ g b h. cc) lands
         (stored_holds m.object f word n (holds_counts None a.counts) ∙ sym held_store)
-        (unlent_word setup cores t stands f n (ap may_keep blank)) opens
+        (not_exclusive_word setup cores t stands f n (ap may_keep blank)) opens
         (subst (λ x. IsFrameWord s.limits.frames (count_room s) x (s.place f n) (stamp setup t (PlaceOf f n)) n new_word) (sym blank) tt)
         (spares_blank setup t e f n refl blank own_mark)
         (λ carries. record {
@@ -516,7 +519,7 @@ module _ (setup : Setting) (setting : IsSetting setup) (cores : ℕ → Core) (t
     put_of_call = record {
       moves = changes_node a.call (s.frame node) (makes_places a.call a.found m knows.makes)
           (calls.in_node setup setting cores t stands c here a active m stage_is has);
-      near = inl (near_way s c a.call node index (next_on_way s c (own_pages s c) a.plan (rule_of s c a.call) a.found
+      footprint = inl (footprint_way s c a.call node index (next_on_way s c (own_pages s c) a.plan (rule_of s c a.call) a.found
           (calls.by_plan setup setting cores t stands c here a active m stage_is has)
           (calls.leads setup setting cores t stands c here a active m stage_is has) knows.spot.target node index
           (subst (λ x. NextPlace s c x knows.spot.target) (sym knows.spot.next) refl)
@@ -576,7 +579,7 @@ module _ (setup : Setting) (setting : IsSetting setup) (cores : ℕ → Core) (t
       let e : Step = inner setup setting cores t stands c here a active give_back None None in
       let after : Core = core_in_call (cores c) (cores c).own.made next in
       counting.holds_on setup setting cores t stands c here a active give_back next (λ b. refl) (λ h. cc) refl
-      (record { moves = has.changes; near = inl (argument_near (state_after setup t) c a.call f has.argument) }) lands has.small
+      (record { moves = has.changes; footprint = inl (argument_footprint (state_after setup t) c a.call f has.argument) }) lands has.small
       (λ w there. (
         sym (ap (λ h. h.marks w) was_held ∙ ap (λ b. if b then true else rest.marks w) (same_word-other w (FrameAt f) there)),
         sym (ap (λ h. h.stands w) was_held ∙ ap (λ b. if b then word else rest.stands w) (same_word-other w (FrameAt f) there)),
@@ -591,4 +594,4 @@ module _ (setup : Setting) (setting : IsSetting setup) (cores : ℕ → Core) (t
       (λ carries. tt)
       (counts_on setup t e c a.call (λ own. refl) a.counts (call_is setup setting cores t stands c here a active).counts)
       (call_is setup setting cores t stands c here a active).apart
-      (spares_other setup t e (λ g i h. cc)) (lent_elsewhere cores e (λ g i h. cc))
+      (spares_other setup t e (λ g i h. cc)) (exclusive_elsewhere cores e (λ g i h. cc))

@@ -14,7 +14,7 @@ use Rattle.place_invariant.proofs.Common.{changed, counted, begins_in, MayReply,
 use Rattle.place_invariant.proofs.Common.{frame_value, mark_of, mark_in_frame, frame_mark, marked_by, Step, Trace, Open, phase}
 use Rattle.place_invariant.proofs.Common.{state_after, last_left, state_decided_in, own_left, ok_first, ends_in, flushes_in, stamp}
 use Rattle.place_invariant.proofs.Common.{changes_frames, looks_at_frames, is_one_of, frames_named, frame_at_slot, frame_argument}
-use Rattle.place_invariant.proofs.Common.{frames_near, HasReached, way_to, ways, target_of, own_read-here, decided-inside, GoesBy}
+use Rattle.place_invariant.proofs.Common.{footprint_frames, HasReached, way_to, ways, target_of, own_read-here, decided-inside, GoesBy}
 use Rattle.place_invariant.proofs.Common.{own_pages, rule_after, Leads, LeadsIn, leads_by, outcome_left, left_may, Acquired, Load, Act}
 use Rattle.place_invariant.proofs.Common.{Goes, refuse, Undecided, Decided, ActiveCall, StageFits, HasRoom, landed, Core, holds_counts}
 use Rattle.place_invariant.proofs.Common.{settled_by, settled, IsFrameWord, WordIs, count_room, HasFound, own_in, due_of, KnowsUndecided}
@@ -29,7 +29,7 @@ use Rattle.place_invariant.specs.frame_words.proofs.FrameLemmas.{spelling}
 use Rattle.place_invariant.specs.kernel_rules.specs.MemoryCalls.{not_untyped, not_retyped}
 use Rattle.place_invariant.specs.kernel_history.specs.Stamps.{begins_in as begins_then}
 use Rattle.place_invariant.specs.plan_ways.proofs.Ways.{all_ways}
-use Rattle.place_invariant.specs.plan_ways.proofs.Near.{one_right, near_about}
+use Rattle.place_invariant.specs.plan_ways.proofs.InFootprint.{one_right, footprint_about}
 use Rattle.place_invariant.specs.act_states.specs.declared.refusals.Refusal.TheVariants as refusal
 use Rattle.place_invariant.specs.act_states.specs.declared.typings.Typing.{Typing}
 use Rattle.place_invariant.specs.act_states.specs.declared.typings.TypingAt.{TypingAt}
@@ -144,9 +144,9 @@ retype_of (Retype r g j) [] f k at is = absurd is
 retype_of (Retype r g j) (range ∷ q ∷ ks) f k at is = absurd is
 retype_of call ks f k at is = absurd is
 
--- The frame that a retype names is near it.
-retype_near : (s : State) (c r f : ℕ) (k : FrameKind) → is_one_of f (frames_near s c (Retype r f k)) ≡ true
-retype_near s c r f k = near_about s c (Retype r f k) f
+-- The frame that a retype names is in its footprint.
+retype_footprint : (s : State) (c r f : ℕ) (k : FrameKind) → is_one_of f (footprint_frames s c (Retype r f k)) ≡ true
+retype_footprint s c r f k = footprint_about s c (Retype r f k) f
     (one_right f (frames_named s c (rule_of s c (Retype r f k)))
     (frame_at_slot s (target_of s c (rule_of s c (Retype r f k))) ++ frame_argument (Retype r f k))
     (one_right f (frame_at_slot s (target_of s c (rule_of s c (Retype r f k)))) (frame_argument (Retype r f k))
@@ -247,12 +247,12 @@ module _ (setup : Setting) (setting : IsSetting setup) (cores : ℕ → Core) (t
   some_word v u h = cc
 
   -- a step on the frame's word is one of the call
-  near : is_one_of f (frames_near s c a.call) ≡ true
-  near = subst (λ x. is_one_of f (frames_near s c x) ≡ true) (sym is.call_is) (retype_near s c is.name f k)
+  footprint : is_one_of f (footprint_frames s c a.call) ≡ true
+  footprint = subst (λ x. is_one_of f (footprint_frames s c x) ≡ true) (sym is.call_is) (retype_footprint s c is.name f k)
 
   loading : OnlyLooks setup t c a.call (LoadOf (FrameAt f))
   loading = record {
-    of_call = record { moves = subst (λ x. IsTrue (looks_at_frames x)) (sym is.call_is) refl; near = inl near };
+    of_call = record { moves = subst (λ x. IsTrue (looks_at_frames x)) (sym is.call_is) refl; footprint = inl footprint };
     kept = refl;
     apart = λ d. refl;
   }
@@ -346,7 +346,7 @@ module _ (setup : Setting) (setting : IsSetting setup) (cores : ℕ → Core) (t
     compare = CompareOf (FrameAt f) word new
 
     of_call : IsOfCall setup t c a.call compare
-    of_call = record { moves = subst (λ x. IsTrue (changes_frames x)) (sym is.call_is) refl; near = inl near }
+    of_call = record { moves = subst (λ x. IsTrue (changes_frames x)) (sym is.call_is) refl; footprint = inl footprint }
 
     lost : (was == word) ≡ false → GoodTook setup cores t c compare (landed a (typed_if false))
     lost other =

@@ -14,7 +14,7 @@ use Rattle.scan_invariant.proofs.Common.{Refuses, Undecided, ActiveCall, landed,
 use Rattle.scan_invariant.proofs.Common.{holds_counts, settled_by, settled, KnowsTail, KnowsUndecided, holds, holds_in}
 use Rattle.scan_invariant.proofs.Common.{held_by, Invariant, AreFrozen, KnowsSweep}
 use Rattle.scan_invariant.proofs.Common.{ThawsFrame, SaysCount, count_room, names_on, thaws_own}
-use Rattle.scan_invariant.proofs.Common.{HoldsSwept, release_swept, IsNearIn}
+use Rattle.scan_invariant.proofs.Common.{HoldsSwept, release_swept, IsInFootprint}
 use Rattle.std.specs.Prelude.{if◌then◌else◌}
 use Rattle.scan_invariant.specs.frame_words.specs.declared.count_word.Hold.{Hold}
 use Rattle.scan_invariant.specs.frame_words.specs.declared.count_word.Hold.TheVariants as hold
@@ -118,14 +118,14 @@ module _ (setup : Setting) (setting : IsSetting setup) (cores : ℕ → Core) (t
   )
 
   -- a step on one of its counters is one of the call
-  pub counter_near : (move : Move) (d : ℕ) → word_of move ≡ CountAt w.frame d
+  pub counter_footprint : (move : Move) (d : ℕ) → word_of move ≡ CountAt w.frame d
       → IsTrue (may_count c a.call w.frame d)
-  counter_near move d at = subst (λ k. IsTrue (may_count c k w.frame d)) (sym sweep_is.call_is)
+  counter_footprint move d at = subst (λ k. IsTrue (may_count c k w.frame d)) (sym sweep_is.call_is)
       (untype_counts sweep_is.name f w.frame c d sweep_knows.frame)
 
-  pub near_counter : (d : ℕ) → IsNearIn c a.call (CountAt w.frame d) (state_after setup t)
-  near_counter d = subst (λ (n : ℕ). IsNearIn c a.call (CountAt n d) (state_after setup t))
-      (sym sweep_knows.frame) (calls.near setup setting cores t stands c here a active sweep_call stage_is has)
+  pub footprint_counter : (d : ℕ) → IsInFootprint c a.call (CountAt w.frame d) (state_after setup t)
+  footprint_counter d = subst (λ (n : ℕ). IsInFootprint c a.call (CountAt n d) (state_after setup t))
+      (sym sweep_knows.frame) (calls.footprint setup setting cores t stands c here a active sweep_call stage_is has)
 
   -- its next counter is not held yet
   pub next_bare : (d : ℕ) → length w.kept ≤ d → (holds_in (Some a)).marks (CountAt w.frame d) ≡ false
@@ -188,8 +188,8 @@ module _ (setup : Setting) (setting : IsSetting setup) (cores : ℕ → Core) (t
     loads_counter : OnlyLooks setup t c a.call load
     loads_counter = record {
       of_call = record {
-        moves = counter_near setup setting cores t stands c here a active f core word w stage_is has load (length kept) refl;
-        near = inl (near_counter setup setting cores t stands c here a active f core word w stage_is has (length kept));
+        moves = counter_footprint setup setting cores t stands c here a active f core word w stage_is has load (length kept) refl;
+        footprint = inl (footprint_counter setup setting cores t stands c here a active f core word w stage_is has (length kept));
       };
       kept = refl;
       apart = λ d. refl;

@@ -76,7 +76,7 @@ module _ (setup : Setting) (setting : IsSetting setup) (cores : ℕ → Core) (t
   other same = fits.at.fits.at.1 (same ∙ sym scan.core)
 
   looks : OnlyLooks setup t c a.call load
-  looks = record { of_call = record { moves = refl; near = inl tt }; kept = refl; apart = λ d. refl }
+  looks = record { of_call = record { moves = refl; footprint = inl tt }; kept = refl; apart = λ d. refl }
 
   since : stamp setup t thing ≡ x
   since = sweep_since setup setting cores t stands c here a active f core word w stage_is has scan.frozen ∙ sym scan.stamp

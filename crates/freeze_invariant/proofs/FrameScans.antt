@@ -60,8 +60,8 @@ module _ (setup : Setting) (setting : IsSetting setup) (cores : ℕ → Core) (t
   pub page_known : may_be_cached v.kind v.object ≡ is_translated (s.frame f)
   page_known = ap (λ y. may_be_cached y.kind y.object) frame_is ∙ cached_is (s.frame f)
 
-  pub frame_near : f < setup.frames
-  frame_near = subst (λ (n : ℕ). f < n) (ap (λ l. l.frames) (limits_of setup t))
+  pub frame_footprint : f < setup.frames
+  frame_footprint = subst (λ (n : ℕ). f < n) (ap (λ l. l.frames) (limits_of setup t))
       (calls.below setup setting cores t stands c here a active m stage_is has)
 
   abbrev pub Result : Option Reply → Option SweepAt → Type 0

@@ -13,7 +13,7 @@ use Rattle.scan_invariant.proofs.Common.{release_of, Untyping, Work, Act, WorkSt
 use Rattle.scan_invariant.proofs.Common.{holds_release, Holding, holds_counts, settled_by}
 use Rattle.scan_invariant.proofs.Common.{KnowsUndecided, holds, holds_in, held_by, count_shown, Invariant, AreFrozen}
 use Rattle.scan_invariant.proofs.Common.{AreKept, IsQuiet, KnowsSweep, as_none, counts_bare, names_on, counts_on}
-use Rattle.scan_invariant.proofs.Common.{quiet_frame_on, lent_elsewhere, holds_work, KnowsWork}
+use Rattle.scan_invariant.proofs.Common.{quiet_frame_on, exclusive_elsewhere, holds_work, KnowsWork}
 use Rattle.std.specs.Prelude.{if◌then◌else◌}
 use Rattle.std.proofs.Common.{slice_get, lt-ltb, ◌*◌, ◌≤ℤ◌}
 use Rattle.std.proofs.lemmas.Bool.{cases_eq, ltb-false}
@@ -26,7 +26,7 @@ use Rattle.scan_invariant.specs.core_invariant.proofs.Freezing.{thaw_all, thaw_f
 use Rattle.scan_invariant.specs.kept_facts.proofs.FrozenSums.{counters_length, got_before, got_last, length_more, sum_most}
 use Rattle.scan_invariant.specs.kept_facts.proofs.Swept.{kept_stamp, kept_sum}
 use Rattle.scan_invariant.specs.step_ways.proofs.Writes.{room_small}
-use Rattle.freeze_invariant.proofs.Counters.{counter_near, counters_number, sweep_shows}
+use Rattle.freeze_invariant.proofs.Counters.{counter_footprint, counters_number, sweep_shows}
 use Rattle.freeze_invariant.proofs.OneMore.{frozen_beside}
 use Rattle.std.proofs.lemmas.Int.{ints}
 use Rattle.scan_invariant.specs.spk_nums.specs.declared.replies.Reply.TheVariants as reply
@@ -43,7 +43,7 @@ use Rattle.scan_invariant.specs.step_ways.proofs.Good.{spares_other}
 use Rattle.scan_invariant.specs.step_ways.proofs.Loads.{IsOfCall, next_at, core_in_call, inner, call_is}
 use Rattle.scan_invariant.specs.step_ways.proofs.Refusals.{GoodTook, ticks_at, raced_leaving}
 use Rattle.freeze_invariant.proofs.Counters.{sweeping, untyping_by, sweep_knows, sweep_held}
-use Rattle.freeze_invariant.proofs.Counters.{sweep_counts, sweep_frame, undo_with, undo_known, near_counter}
+use Rattle.freeze_invariant.proofs.Counters.{sweep_counts, sweep_frame, undo_with, undo_known, footprint_counter}
 use Rattle.freeze_invariant.proofs.FrameQuiet as quieting
 use Rattle.freeze_invariant.proofs.Refusing as refusing
 use Rattle.freeze_invariant.proofs.UntypeCalls as calls
@@ -117,8 +117,8 @@ module _ (setup : Setting) (setting : IsSetting setup) (cores : ℕ → Core) (t
 
   of_call : IsOfCall setup t c a.call compare
   of_call = record {
-    moves = counter_near setup setting cores t stands c here a active f core word w stage_is has compare (length kept) refl;
-    near = inl (near_counter setup setting cores t stands c here a active f core word w stage_is has (length kept));
+    moves = counter_footprint setup setting cores t stands c here a active f core word w stage_is has compare (length kept) refl;
+    footprint = inl (footprint_counter setup setting cores t stands c here a active f core word w stage_is has (length kept));
   }
 
   -- where the sweep stands after the step, by whether the compare is won
@@ -296,7 +296,7 @@ module _ (setup : Setting) (setting : IsSetting setup) (cores : ℕ → Core) (t
         })
         (counts_on setup t e c a.call (λ own. refl) a.counts (call_is setup setting cores t stands c here a active).counts)
         (call_is setup setting cores t stands c here a active).apart
-        (spares_other setup t e (λ h i. λ is. cc)) (lent_elsewhere cores e (λ h i. λ is. cc)))
+        (spares_other setup t e (λ h i. λ is. cc)) (exclusive_elsewhere cores e (λ h i. λ is. cc)))
 
     -- Counters are left: the next one is loaded.
     loads_next : Result more None (Some sweep_load)

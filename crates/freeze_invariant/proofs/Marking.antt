@@ -8,7 +8,7 @@ use Rattle.scan_invariant.proofs.Common.{Kernel, State, put, is_frame, is_untype
 use Rattle.scan_invariant.proofs.Common.{Trace, state_after, last_left, same_word-other, own_read-here, unheld, Acquired, untyping_dues}
 use Rattle.scan_invariant.proofs.Common.{refuse, Untyping, Act, Goes, Undecided, ActiveCall, landed, Core, holds_counts}
 use Rattle.scan_invariant.proofs.Common.{settled_by, KnowsUndecided, holds, holds_in, held_by, Invariant, KnowsUntyping}
-use Rattle.scan_invariant.proofs.Common.{as_none, counts_bare, names_on, counts_on, lent_elsewhere}
+use Rattle.scan_invariant.proofs.Common.{as_none, counts_bare, names_on, counts_on, exclusive_elsewhere}
 use Rattle.std.specs.Prelude.{if◌then◌else◌}
 use Rattle.scan_invariant.specs.spk_nums.specs.declared.kinds.FrameKind.TheVariants as kind
 use Rattle.scan_invariant.specs.spk_nums.specs.declared.replies.Reply.TheVariants as reply
@@ -172,7 +172,7 @@ module _ (setup : Setting) (setting : IsSetting setup) (cores : ℕ → Core) (t
     mark_of_call : IsOfCall setup t c a.call mark_it
     mark_of_call = record {
       moves = calls.untype_changes a.call a.found f (calls.is setup setting cores t stands c here a active m stage_is has);
-      near = inl (calls.near setup setting cores t stands c here a active m stage_is has);
+      footprint = inl (calls.footprint setup setting cores t stands c here a active m stage_is has);
     }
 
     mark_lost : (was == word) ≡ false → GoodTook setup cores t c mark_it (landed a (sweeps_if m word v false))
@@ -236,7 +236,7 @@ module _ (setup : Setting) (setting : IsSetting setup) (cores : ℕ → Core) (t
         })
         (counts_on setup t e c a.call (λ own. refl) a.counts (call_is setup setting cores t stands c here a active).counts)
         (call_is setup setting cores t stands c here a active).apart
-        (spares_other setup t e (λ g i h. cc)) (lent_elsewhere cores e (λ g i h. cc))
+        (spares_other setup t e (λ g i h. cc)) (exclusive_elsewhere cores e (λ g i h. cc))
       where
         held_before : holds (cores c) ≡ holds_counts None a.counts
         held_before = ap holds_in active ∙ mark_held

@@ -8,12 +8,12 @@ use Rattle.scan_invariant.proofs.Common.{ends_in, flushes_in, Step, Trace, Open,
 use Rattle.scan_invariant.proofs.Common.{decided-inside, last_left-there, Tail, Stage, Decided, ActiveCall, Core, settled_by, settled}
 use Rattle.scan_invariant.proofs.Common.{phase_at, KnowsTail, flushing_in, holds, held_by, Invariant, AsBefore, IsCalm}
 use Rattle.scan_invariant.proofs.Common.{calm_counted, calm_words, counted_rises, none_stored, IsUntimed, plain_begins, plain_exit}
-use Rattle.scan_invariant.proofs.Common.{lent_open, lent_elsewhere, sums_stay, marks_own}
+use Rattle.scan_invariant.proofs.Common.{exclusive_open, exclusive_elsewhere, sums_stay, marks_own}
 use Rattle.scan_invariant.specs.kernel_history.specs.Stamps.{begins_in}
 use Rattle.scan_invariant.specs.kept_facts.proofs.Calm.{none_time, none_flushed}
 use Rattle.scan_invariant.specs.step_ways.proofs.Flushing.{open_flushed}
 use Rattle.scan_invariant.specs.step_ways.proofs.Good.{IsGood, spares_other}
-use Rattle.scan_invariant.specs.kept_facts.proofs.Lent.{given_kept}
+use Rattle.scan_invariant.specs.kept_facts.proofs.Exclusive.{given_kept}
 use Rattle.scan_invariant.specs.step_ways.proofs.Loads.{IsOfCall, Lands, next_at, core_in_call, core_is, call_is, inner, inner_works}
 use Rattle.scan_invariant.specs.step_ways.proofs.OwnChanges as owning
 use Rattle.scan_invariant.specs.step_ways.proofs.Users.{spares_none}
@@ -85,8 +85,8 @@ module _ (setup : Setting) (setting : IsSetting setup) (cores : ℕ → Core) (t
       (hold_words setup cores t e after calm.frame elsewhere bares now unowned settles
       (λ v. calm_words setup t e calm plain v (λ g i h. ap (λ s. s.place g i) after_is)
       (λ d h. (decided-inside (Some r) (phase t c) (state_after setup t) c d, plain_exit t e refl d))) stands.words)
-      (lent_open setup cores t e after a a.call active opens (given_kept (holds (cores c)) (holds after) (word_of move) bares))
-      (lent_elsewhere cores e no_entry)
+      (exclusive_open setup cores t e after a a.call active opens (given_kept (holds (cores c)) (holds after) (word_of move) bares))
+      (exclusive_elsewhere cores e no_entry)
       (sums_stay setup t e (held_by cores) (held_by (put cores c after))
       (λ f d. settled_stays setup cores t e after calm.frame elsewhere bares now unowned settles (CountAt f d))
       calm plain (λ g i. ap (λ s. s.place g i) after_is) stands.sums)

@@ -5,7 +5,7 @@ use Rattle.scan_invariant.proofs.Common.{eq-eqb, Capability, Setting, IsSetting,
 use Rattle.scan_invariant.proofs.Common.{FrameAt, Frame, Untyped, User, Kernel, FrameOf, State, found, refs, Cause, Change}
 use Rattle.scan_invariant.proofs.Common.{Does, RuleMay, outcome, unless, first_of, first_cause, waits_of, When, outside}
 use Rattle.scan_invariant.proofs.Common.{is_frame, has_frame, is_untyped, is_empty, retypes, rule_of, change_of, are_calls_spent}
-use Rattle.scan_invariant.proofs.Common.{changes_frames, counts_references, raises_clock, looks_at_frames, frames_near, frame_argument}
+use Rattle.scan_invariant.proofs.Common.{changes_frames, counts_references, raises_clock, looks_at_frames, footprint_frames, frame_argument}
 use Rattle.scan_invariant.proofs.Common.{is_one_of, marked_by, frame_value, Trace, Open, phase, state_after, last_left, GoesBy, own_pages}
 use Rattle.scan_invariant.proofs.Common.{rule_after, Leads, LeadsIn, outcome_left, left_may, Acquired, UntypingFits}
 use Rattle.scan_invariant.proofs.Common.{untyping_dues, Untyping, UntypingAt, Act, Undecided, ActiveCall, StageFits, HasRoom, Core}
@@ -23,7 +23,7 @@ use Rattle.scan_invariant.specs.act_states.specs.declared.work.Act.TheVariants.{
 use Rattle.scan_invariant.specs.step_ways.proofs.Loads.{OnlyLooks, call_is, core_is, is_active}
 use Rattle.scan_invariant.specs.step_ways.proofs.Refusals.{not_spent}
 use Rattle.scan_invariant.specs.count_invariant.proofs.Acquiring.{plan_leads, goes_by}
-use Rattle.scan_invariant.specs.count_invariant.proofs.MakingCounts.{argument_near}
+use Rattle.scan_invariant.specs.count_invariant.proofs.MakingCounts.{argument_footprint}
 
 -- The call that makes a frame untyped.
 pub record IsUntype (call : Call) (ks : List Capability) (f : ℕ) : Type 0 where
@@ -135,9 +135,9 @@ module _ (setup : Setting) (setting : IsSetting setup) (cores : ℕ → Core) (t
       none_of [] h = refl
       none_of (x ∷ xs) h = absurd (cc)
 
-  -- its frame's words are near
-  pub near : is_one_of f (frames_near s c a.call) ≡ true
-  near = argument_near s c a.call f (untype_argument a.call a.found f is)
+  -- its frame's words are in the footprint
+  pub footprint : is_one_of f (footprint_frames s c a.call) ≡ true
+  footprint = argument_footprint s c a.call f (untype_argument a.call a.found f is)
 
   -- what is left of the rule after its name
   abbrev pub causes : List Cause
@@ -228,7 +228,7 @@ module _ (setup : Setting) (setting : IsSetting setup) (cores : ℕ → Core) (t
   -- a load of the frame's word is one of the call, and so is a step on one of its counts
   pub loading : OnlyLooks setup t c a.call (LoadOf (FrameAt f))
   loading = record {
-    of_call = record { moves = untype_looks a.call a.found f is; near = inl near };
+    of_call = record { moves = untype_looks a.call a.found f is; footprint = inl footprint };
     kept = refl;
     apart = λ d. refl;
   }

@@ -46,7 +46,7 @@ use Rattle.thread_laws.specs.kernel_history.proofs.Names.{cases_word}
 use Rattle.thread_laws.specs.kernel_history.proofs.Steps.{own_left-here, own_left-there}
 use Rattle.thread_laws.specs.trace_laws.proofs.Stays.{relies_reached}
 use Rattle.thread_laws.specs.trace_laws.proofs.Carries.{Carries, was_stays}
-use Rattle.thread_laws.specs.kernel_history.specs.Footprint.{IsNearIn}
+use Rattle.thread_laws.specs.kernel_history.specs.Footprint.{IsInFootprint}
 use Rattle.core_invariant.specs.call_plans.specs.declared.plans.Name.{Name}
 use Rattle.core_invariant.specs.call_plans.specs.declared.plans.Plan.{Plan}
 use Rattle.core_invariant.specs.call_plans.specs.GoesBy.{want_of}
@@ -746,7 +746,7 @@ module _ (setup : Setting) (setting : IsSetting setup) (t : Trace) (e : Step) (l
             work_on table a work pairs same stored users rests threads has.knows;
       }
 
--- The counts that a call has acquired are near it at a moment of it still, after a further step.
+-- The counts that a call has acquired are in its footprint at a moment of it still, after a further step.
 pub counts_on : (setup : Setting) (t : Trace) (e : Step) (c : ℕ) (call : Call) → (c ≡ e.core → e.enters ≡ None) → (xs : List Acquired)
     → All (IsCount setup t c call) xs → All (IsCount setup (e ∷ t) c call) xs
 counts_on setup t e c call no_entry [] has = All-nil (IsCount setup (e ∷ t) c call)
@@ -757,8 +757,8 @@ counts_on setup t e c call no_entry (x ∷ xs) has =
       counts = first.counts;
       core = first.core;
       fits = first.fits;
-      near = was_stays (IsNearIn c call (count_of x)) setup t e c
-          no_entry first.near;
+      footprint = was_stays (IsInFootprint c call (count_of x)) setup t e c
+          no_entry first.footprint;
     })
     (counts_on setup t e c call no_entry xs (All-tail (IsCount setup t c call) x xs has))
 
@@ -767,7 +767,7 @@ pub live_on : (setup : Setting) (t : Trace) (e : Step) (c : ℕ) (call : Call) �
     → KnowsLive setup t c call l live f word → KnowsLive setup (e ∷ t) c call l live f word
 live_on setup t e c call no_entry l live f word has = record {
   numbers = has.numbers;
-  near = was_stays (IsNearIn c call (LiveAt l)) setup t e c no_entry has.near;
+  footprint = was_stays (IsInFootprint c call (LiveAt l)) setup t e c no_entry has.footprint;
   bare = has.bare;
   small = has.small;
   unmark = has.unmark;
@@ -781,7 +781,7 @@ store_on setup t e c call no_entry relies (AtCompare node index word core) has =
 store_on setup t e c call no_entry relies (AtDraw node index) has = has
 store_on setup t e c call no_entry relies (AtStore node index at) has = record {
   relies = relies node has.relies;
-  near = was_stays (IsNearIn c call (EntryAt node index)) setup t e c no_entry has.near;
+  footprint = was_stays (IsInFootprint c call (EntryAt node index)) setup t e c no_entry has.footprint;
   places = has.places;
 }
 
@@ -789,4 +789,4 @@ store_on setup t e c call no_entry relies (AtStore node index at) has = record {
 pub dead_on : (setup : Setting) (t : Trace) (e : Step) (c : ℕ) (call : Call) → (c ≡ e.core → e.enters ≡ None) → (life : CompWord)
     → KnowsDead setup t c call life → KnowsDead setup (e ∷ t) c call life
 dead_on setup t e c call no_entry life has =
-    record { numbers = has.numbers; near = was_stays (IsNearIn c call (LiveAt life.number)) setup t e c no_entry has.near }
+    record { numbers = has.numbers; footprint = was_stays (IsInFootprint c call (LiveAt life.number)) setup t e c no_entry has.footprint }

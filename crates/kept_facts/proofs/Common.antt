@@ -113,7 +113,8 @@ pub use Rattle.thread_laws.specs.kernel_history.specs.Discipline.{changes_budget
 pub use Rattle.thread_laws.specs.kernel_history.specs.Discipline.{changes_places, changes_threads, counts_references, looks_at_frames}
 pub use Rattle.thread_laws.specs.kernel_history.specs.Discipline.{raises_clock}
 pub use Rattle.thread_laws.specs.kernel_history.specs.Events.{events_of}
-pub use Rattle.thread_laws.specs.kernel_history.specs.Footprint.{IsNearIn, frame_argument, frame_at_slot, frames_named, frames_near}
+pub use Rattle.thread_laws.specs.kernel_history.specs.Footprint.{IsInFootprint, frame_argument}
+pub use Rattle.thread_laws.specs.kernel_history.specs.Footprint.{frame_at_slot, frames_named, footprint_frames}
 pub use Rattle.thread_laws.specs.kernel_history.specs.Footprint.{frames_own, is_one_of}
 pub use Rattle.thread_laws.specs.kernel_history.specs.Graces.{KeepsTime}
 pub use Rattle.thread_laws.specs.kernel_history.specs.Justified.{HasRacedHead, HasReached, IsJustified, IsRaceLost, IsRemoved, IsSlot}
@@ -249,7 +250,7 @@ pub use Rattle.core_invariant.specs.Events.{decided_in, returned_in}
 pub use Rattle.core_invariant.specs.Frozen.{holds_release, holds_thaw, holds_untyping, is_frozen}
 pub use Rattle.core_invariant.specs.Holding.{AreApart, Holding, MarkIs, committed, count_of, holds_counts, keeps, nothing, settled}
 pub use Rattle.core_invariant.specs.Holding.{settled_by}
-pub use Rattle.core_invariant.specs.Invariant.{Invariant, IsLent, SumIs, count_shown, counted_in, done_by, held_by, holds, holds_act}
+pub use Rattle.core_invariant.specs.Invariant.{Invariant, IsExclusive, SumIs, count_shown, counted_in, done_by, held_by, holds, holds_act}
 pub use Rattle.core_invariant.specs.Invariant.{holds_at, holds_comp, holds_head, holds_heads, holds_in, holds_killing, holds_making}
 pub use Rattle.core_invariant.specs.Invariant.{holds_share, holds_shared, holds_tail, holds_work, is_done, times_of}
 pub use Rattle.core_invariant.specs.Knows.{AreDuesApart, CallIs, ChargesBy, CoreIs, HasFlushed, HasFound, IsCount, IsScanned, IsSpot}
@@ -267,8 +268,10 @@ pub use Rattle.kept_facts.proofs.Calm.{BeginsNone, IsCalm, IsUntimed, calm_count
 pub use Rattle.kept_facts.proofs.Calm.{plain_begins, plain_exit, plain_flush, plain_stamp, plain_time, room_grows}
 pub use Rattle.kept_facts.proofs.Carries.{counts_on, names_on, own_kept, quiet_frame_on, slot_relies, spot_on}
 pub use Rattle.kept_facts.proofs.CountSums.{counted_refs}
-pub use Rattle.kept_facts.proofs.Lent.{SparesLent, lent_elsewhere, lent_free, lent_kept, lent_none, lent_open, may_keep, node_keeps_none}
-pub use Rattle.kept_facts.proofs.Lent.{runs_on_own, unlent_head_value, unlent_head_word, unlent_value, unlent_word}
+pub use Rattle.kept_facts.proofs.Exclusive.{SparesExclusive, exclusive_elsewhere, exclusive_free, exclusive_kept}
+pub use Rattle.kept_facts.proofs.Exclusive.{exclusive_none, exclusive_open, may_keep, node_keeps_none}
+pub use Rattle.kept_facts.proofs.Exclusive.{runs_on_own, not_exclusive_head_value}
+pub use Rattle.kept_facts.proofs.Exclusive.{not_exclusive_head_word, not_exclusive_value, not_exclusive_word}
 pub use Rattle.kept_facts.proofs.Pairs.{marked_on}
 pub use Rattle.kept_facts.proofs.Sums.{sums_keep, sums_stay}
 pub use Rattle.kept_facts.proofs.Swept.{HoldsSwept, release_swept}

@@ -12,7 +12,7 @@ pub mod FrozenSums
 pub mod Sums
 -- Words kept without a mark, and the words of temporal capabilities.
 pub mod Tcaps
-pub mod Lent
+pub mod Exclusive
 pub mod Pairs
 pub mod SharesOn
 -- The names that proofs above take from here.

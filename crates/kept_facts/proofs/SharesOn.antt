@@ -9,7 +9,7 @@ use Rattle.thread_laws.specs.tcap_words.proofs.HeadLemmas as heads
 use Rattle.thread_laws.specs.word_map.specs.Word.{EntryAt}
 use Rattle.thread_laws.specs.word_map.specs.Moves.{word_of, left_of}
 use Rattle.thread_laws.specs.kernel_rules.specs.State.{Kernel, Tcap, TcapFields}
-use Rattle.thread_laws.specs.kernel_history.specs.Footprint.{IsNearIn}
+use Rattle.thread_laws.specs.kernel_history.specs.Footprint.{IsInFootprint}
 use Rattle.thread_laws.specs.kernel_history.specs.Legal.{MayFollow, IsLegal}
 use Rattle.thread_laws.specs.kernel_history.specs.Trace.{Step, Trace, phase, state_after, last_left}
 use Rattle.thread_laws.specs.kernel_history.specs.Stamps.{is_in}
@@ -74,7 +74,7 @@ module _ (setup : Setting) (setting : IsSetting setup) (t : Trace) (legal : IsLe
     fits = has.fits;
     bare = has.bare;
     few = has.few;
-    near = was_stays (IsNearIn c call (EntryAt p.b 0)) setup t e c (λ own. absurd (other own)) has.near;
+    footprint = was_stays (IsInFootprint c call (EntryAt p.b 0)) setup t e c (λ own. absurd (other own)) has.footprint;
     tcap = tcap_stays setup setting t legal e follows c here other inside p.b has.tcap;
     differ = has.differ;
     spelled = has.spelled;
@@ -99,7 +99,7 @@ module _ (setup : Setting) (setting : IsSetting setup) (t : Trace) (legal : IsLe
     decided = λ inside call p has. record {
       budgets = has.budgets;
       core = has.core;
-      near = was_stays (IsNearIn c call (EntryAt p.a 0)) setup t e c (λ own. absurd (other own)) has.near;
+      footprint = was_stays (IsInFootprint c call (EntryAt p.a 0)) setup t e c (λ own. absurd (other own)) has.footprint;
       tcap_a = tcap_stays setup setting t legal e follows c here other inside p.a has.tcap_a;
       at = stored_stays inside call p p.at has.tcap_a has.core has.at;
     };

@@ -390,10 +390,10 @@ module _ (setup : Setting) (cores : ℕ → Core) (t : Trace) (e : Step) (after 
       → WordIs (state_after setup (e ∷ t)) (times_of setup (e ∷ t)) w ((holds after).stands w))
       → ((w : Word) → WordIs (state_after setup t) (times_of setup t) w (settled setup (held_by cores) t w))
       → (w : Word) → WordIs (state_after setup (e ∷ t)) (times_of setup (e ∷ t)) w (settled setup carried (e ∷ t) w)
-  carry_words bares unlent same new own words w = elim (cases_word w (word_of e.move)) [
+  carry_words bares not_exclusive same new own words w = elim (cases_word w (word_of e.move)) [
     | inl here ↦ subst (WordIs (state_after setup (e ∷ t)) (times_of setup (e ∷ t)) w)
         (sym (ap (λ o. settled_by o carried w (last_left setup (e ∷ t) w)) (bare_here w here) ∙ kept_value w (last_left setup (e ∷ t) w)
-        ∙ ap (λ v. bare_value (held_by cores) v (last_left setup (e ∷ t) w)) here ∙ unlent (last_left setup (e ∷ t) w)
+        ∙ ap (λ v. bare_value (held_by cores) v (last_left setup (e ∷ t) w)) here ∙ not_exclusive (last_left setup (e ∷ t) w)
         ∙ last_left-here setup w e t here))
         (subst (λ v. WordIs (state_after setup (e ∷ t)) (times_of setup (e ∷ t)) v (left_of e.move e.found)) (sym here) new)
     | inr there ↦ by there (marked_by setup t w) refl

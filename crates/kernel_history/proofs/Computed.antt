@@ -1,4 +1,5 @@
--- Tests of worked traces, which the checker computes: a step may follow, is near its call, keeps its call's bound; and what a call
+-- Tests of worked traces, which the checker computes: a step may follow, is in the footprint of its call, keeps its call's bound; and
+-- what a call
 -- does out of the discipline, or far from its footprint, is refused.
 use Rattle.std.proofs.Common.{◌≡◌, ◌≢◌, ◌⊎◌, inl, inr, ℕ, ◌^◌, ◌==◌, ◌&&◌, Bool, true, false, [], ◌∷◌, List, Option, Some, None}
 use Rattle.std.proofs.Common.{refl, sym, ◌∙◌, subst}
@@ -16,7 +17,7 @@ use Rattle.kernel_rules.specs.State.{State}
 use Rattle.kernel_history.specs.BootWords.{shape_of}
 use Rattle.kernel_history.specs.Bounds.{call_in, IsWithin, KeepsBounds}
 use Rattle.kernel_history.specs.Discipline.{may_load, may_change, raises_clock, MayRaise, MayMove, KeepsDiscipline}
-use Rattle.kernel_history.specs.Footprint.{frames_near, numbers_near, is_one_of, IsNearIn, StepsNear, KeepsFootprints}
+use Rattle.kernel_history.specs.Footprint.{footprint_frames, footprint_numbers, is_one_of, IsInFootprint, StepsInFootprint, KeepsFootprints}
 use Rattle.kernel_history.specs.Justified.{HasReached}
 use Rattle.kernel_history.specs.Legal.{MayEnter, MayDecide, MayReturn, MayFollow}
 use Rattle.kernel_history.specs.Stamps.{is_in}
@@ -99,55 +100,56 @@ keeps_bounds n (e ∷ t) is = let p = and_parts (is_within n t) _ is in
     step None o is = absurd (false≢true is)
     step (Some call) o is = record { call = call; is_of = o; steps = leb-true _ _ is }
 
--- Whether a word is near a call.
-abbrev pub is_near_in : ℕ → Call → Word → State → Bool
-is_near_in c call (EntryAt f i) s = is_one_of f (frames_near s c call)
-is_near_in c call (FrameAt f) s = is_one_of f (frames_near s c call)
-is_near_in c call (CountAt f d) s = is_one_of f (frames_near s c call)
-is_near_in c call (CoreAt d) s = true
-is_near_in c call (FlushAt d) s = true
-is_near_in c call (LiveAt l) s = is_one_of l (numbers_near s c call)
-is_near_in c call ClockAt s = true
+-- Whether a word is in the footprint of a call.
+abbrev pub is_in_footprint : ℕ → Call → Word → State → Bool
+is_in_footprint c call (EntryAt f i) s = is_one_of f (footprint_frames s c call)
+is_in_footprint c call (FrameAt f) s = is_one_of f (footprint_frames s c call)
+is_in_footprint c call (CountAt f d) s = is_one_of f (footprint_frames s c call)
+is_in_footprint c call (CoreAt d) s = true
+is_in_footprint c call (FlushAt d) s = true
+is_in_footprint c call (LiveAt l) s = is_one_of l (footprint_numbers s c call)
+is_in_footprint c call ClockAt s = true
 
-near_in : (c : ℕ) (call : Call) (w : Word) (s : State) → is_near_in c call w s ≡ true → IsNearIn c call w s
-near_in c call (EntryAt f i) s is = is
-near_in c call (FrameAt f) s is = is
-near_in c call (CountAt f d) s is = is
-near_in c call (CoreAt d) s is = tt
-near_in c call (FlushAt d) s is = tt
-near_in c call (LiveAt l) s is = is
-near_in c call ClockAt s is = tt
+in_footprint : (c : ℕ) (call : Call) (w : Word) (s : State) → is_in_footprint c call w s ≡ true → IsInFootprint c call w s
+in_footprint c call (EntryAt f i) s is = is
+in_footprint c call (FrameAt f) s is = is
+in_footprint c call (CountAt f d) s is = is
+in_footprint c call (CoreAt d) s is = tt
+in_footprint c call (FlushAt d) s is = tt
+in_footprint c call (LiveAt l) s is = is
+in_footprint c call ClockAt s is = tt
 
-abbrev near_of : Setting → Trace → Step → Option Call → Bool
-near_of setup t e None = false
-near_of setup t e (Some call) = is_near_in e.core call (word_of e.move) (state_before setup t e)
+abbrev footprint_of : Setting → Trace → Step → Option Call → Bool
+footprint_of setup t e None = false
+footprint_of setup t e (Some call) = is_in_footprint e.core call (word_of e.move) (state_before setup t e)
 
-abbrev pub is_near : Setting → Trace → Bool
-is_near setup [] = true
-is_near setup (e ∷ t) = is_near setup t && near_of setup t e (call_in (after_enter e.enters (phase t e.core)))
+abbrev pub is_in_it : Setting → Trace → Bool
+is_in_it setup [] = true
+is_in_it setup (e ∷ t) = is_in_it setup t && footprint_of setup t e (call_in (after_enter e.enters (phase t e.core)))
 
-pub keeps_footprints : (setup : Setting) (t : Trace) → is_near setup t ≡ true → KeepsFootprints setup t
+pub keeps_footprints : (setup : Setting) (t : Trace) → is_in_it setup t ≡ true → KeepsFootprints setup t
 keeps_footprints setup [] is = tt
-keeps_footprints setup (e ∷ t) is = let p = and_parts (is_near setup t) _ is in
+keeps_footprints setup (e ∷ t) is = let p = and_parts (is_in_it setup t) _ is in
     (keeps_footprints setup t p.0, step (call_in (after_enter e.enters (phase t e.core))) refl p.1)
   where
-    step : (o : Option Call) → call_in (after_enter e.enters (phase t e.core)) ≡ o → near_of setup t e o ≡ true → StepsNear setup t e
+    step : (o : Option Call) → call_in (after_enter e.enters (phase t e.core)) ≡ o → footprint_of setup t e o ≡ true
+        → StepsInFootprint setup t e
     step None o is = absurd (false≢true is)
     step (Some call) o is =
-        record { call = call; is_of = o; near = inl (near_in e.core call (word_of e.move) (state_before setup t e) is) }
+        record { call = call; is_of = o; footprint = inl (in_footprint e.core call (word_of e.move) (state_before setup t e) is) }
 
 pub some_call : (j k : Call) → Some j ≡ Some k → j ≡ k
 some_call j k same = cc
 
--- A word that is not near a call.
-pub not_near_in : (c : ℕ) (call : Call) (w : Word) (s : State) → is_near_in c call w s ≡ false → IsNearIn c call w s → ⊥
-not_near_in c call (EntryAt f i) s not is = false≢true (sym not ∙ is)
-not_near_in c call (FrameAt f) s not is = false≢true (sym not ∙ is)
-not_near_in c call (CountAt f d) s not is = false≢true (sym not ∙ is)
-not_near_in c call (CoreAt d) s not is = false≢true (sym not)
-not_near_in c call (FlushAt d) s not is = false≢true (sym not)
-not_near_in c call (LiveAt l) s not is = false≢true (sym not ∙ is)
-not_near_in c call ClockAt s not is = false≢true (sym not)
+-- A word that is not in the footprint of a call.
+pub not_in_footprint : (c : ℕ) (call : Call) (w : Word) (s : State) → is_in_footprint c call w s ≡ false → IsInFootprint c call w s → ⊥
+not_in_footprint c call (EntryAt f i) s not is = false≢true (sym not ∙ is)
+not_in_footprint c call (FrameAt f) s not is = false≢true (sym not ∙ is)
+not_in_footprint c call (CountAt f d) s not is = false≢true (sym not ∙ is)
+not_in_footprint c call (CoreAt d) s not is = false≢true (sym not)
+not_in_footprint c call (FlushAt d) s not is = false≢true (sym not)
+not_in_footprint c call (LiveAt l) s not is = false≢true (sym not ∙ is)
+not_in_footprint c call ClockAt s not is = false≢true (sym not)
 
 -- Whether a call may make an operation.
 abbrev raises_well : Call → Word → ℕ → Bool

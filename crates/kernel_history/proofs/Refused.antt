@@ -22,7 +22,7 @@ use Rattle.word_map.specs.Moves.{Move, LoadOf, StoreOf, AddOf, word_of}
 use Rattle.kernel_rules.specs.Access.{Slot}
 use Rattle.kernel_rules.specs.References.{sum_below, node_refs, refs}
 use Rattle.kernel_history.specs.Discipline.{KeepsDiscipline}
-use Rattle.kernel_history.specs.Footprint.{IsNearIn, StepsNear}
+use Rattle.kernel_history.specs.Footprint.{IsInFootprint, StepsInFootprint}
 use Rattle.kernel_history.specs.Legal.{IsLegal}
 use Rattle.kernel_history.specs.Moments.{CoreSays, EntrySays}
 use Rattle.kernel_history.specs.Trace.{Step, state_after, WasBefore}
@@ -30,8 +30,8 @@ use Rattle.kernel_history.specs.Scenes.{two_cores, there, enters, goes, one_step
 use Rattle.kernel_history.specs.Scenes.{range_word, mark_word, retyped, named, marked_beside}
 use Rattle.kernel_history.specs.Refusals.{no_flags, BreaksDiscipline, DisciplineRefuses, OwnCountsRefuse, BreaksFootprint, FootprintsRefuse}
 use Rattle.kernel_history.specs.Refusals.{BoundsRefuse, looks_six, WordsRefuse}
-use Rattle.kernel_history.proofs.Computed.{neither, none, fits, may_follow, is_within, keeps_bounds, is_near, keeps_footprints}
-use Rattle.kernel_history.proofs.Computed.{is_near_in, not_near_in, moves_well, undisciplined, has_reached, some_call}
+use Rattle.kernel_history.proofs.Computed.{neither, none, fits, may_follow, is_within, keeps_bounds, is_in_it, keeps_footprints}
+use Rattle.kernel_history.proofs.Computed.{is_in_footprint, not_in_footprint, moves_well, undisciplined, has_reached, some_call}
 
 abbrev slot : ℕ → ℕ → Slot
 slot f i = record { node = f; index = i }
@@ -52,11 +52,11 @@ lone_legal k m limits fit = ((tt, may_follow refl refl (refl, limits) tt tt), ma
 
 -- the discipline
 
-row : (k : Call) (m : Move) → InLimits k → fits_next k m ≡ true → is_near two_cores (one_step k m) ≡ true
+row : (k : Call) (m : Move) → InLimits k → fits_next k m ≡ true → is_in_it two_cores (one_step k m) ≡ true
     → is_within 2 (one_step k m) ≡ true → moves_well (state_after two_cores (enters 0 k [])) 0 k m ≡ false → BreaksDiscipline (one_step k m)
-row k m limits fit near within not = record {
+row k m limits fit footprint within not = record {
   legal = lone_legal k m limits fit;
-  near = keeps_footprints two_cores (one_step k m) near;
+  footprint = keeps_footprints two_cores (one_step k m) footprint;
   within = keeps_bounds 2 (one_step k m) within;
   refused = undisciplined k refl not;
 }
@@ -76,7 +76,7 @@ retype_user = record {
     ),
     may_follow refl refl tt tt tt,
   );
-  near = keeps_footprints two_cores (goes 0 (StoreOf (EntryAt 8 0) 1) (retyped frame_kind.User 1)) refl;
+  footprint = keeps_footprints two_cores (goes 0 (StoreOf (EntryAt 8 0) 1) (retyped frame_kind.User 1)) refl;
   within = keeps_bounds 2 (goes 0 (StoreOf (EntryAt 8 0) 1) (retyped frame_kind.User 1)) refl;
   refused = undisciplined (call.Retype 0 8 frame_kind.User) refl refl;
 }
@@ -96,7 +96,7 @@ retype_blank = record {
     ),
     may_follow refl refl tt tt tt,
   );
-  near = keeps_footprints two_cores (goes 0 (StoreOf (EntryAt 8 0) 1) (retyped frame_kind.Kernel 2)) refl;
+  footprint = keeps_footprints two_cores (goes 0 (StoreOf (EntryAt 8 0) 1) (retyped frame_kind.Kernel 2)) refl;
   within = keeps_bounds 2 (goes 0 (StoreOf (EntryAt 8 0) 1) (retyped frame_kind.Kernel 2)) refl;
   refused = undisciplined (call.Retype 0 8 frame_kind.Kernel) refl refl;
 }
@@ -124,7 +124,7 @@ fills_marked = record {
     ),
     may_follow refl refl tt tt tt,
   );
-  near = keeps_footprints two_cores (goes 0 (StoreOf (EntryAt 1 21) range_word) marked_beside) refl;
+  footprint = keeps_footprints two_cores (goes 0 (StoreOf (EntryAt 1 21) range_word) marked_beside) refl;
   within = keeps_bounds 2 (goes 0 (StoreOf (EntryAt 1 21) range_word) marked_beside) refl;
   refused = λ keeps. let kept : 1573377 ≡ 6 = keeps.1.keeps 1 refl (λ e. omega (arith, e)) in omega (arith, kept);
 }
@@ -157,7 +157,7 @@ discipline_refuses = record {
   copy_raises_the_clock = row (whole_copy 0 1 20) (AddOf ClockAt 1) (omega arith) refl refl refl refl;
   puts_the_mark_of_another = record {
     legal = lone_legal (whole_copy 0 1 20) (StoreOf (EntryAt 1 20) (mark_word 1)) (omega arith) refl;
-    near = keeps_footprints two_cores (one_step (whole_copy 0 1 20) (StoreOf (EntryAt 1 20) (mark_word 1))) refl;
+    footprint = keeps_footprints two_cores (one_step (whole_copy 0 1 20) (StoreOf (EntryAt 1 20) (mark_word 1))) refl;
     within = keeps_bounds 2 (one_step (whole_copy 0 1 20) (StoreOf (EntryAt 1 20) (mark_word 1))) refl;
     refused = marks_another;
   };
@@ -177,24 +177,24 @@ own_counts_refuse = record {
 
 -- the footprints
 
-abbrev near_next : Call → Move → Bool
-near_next k m = is_near_in 0 k (word_of m) (state_after two_cores (enters 0 k []))
+abbrev footprint_next : Call → Move → Bool
+footprint_next k m = is_in_footprint 0 k (word_of m) (state_after two_cores (enters 0 k []))
 
--- A word that is not near the call as that is entered has not been near it.
-not_near : (k : Call) (m : Move) → near_next k m ≡ false → StepsNear two_cores (enters 0 k []) (next k m) → ⊥
-not_near k m not near = neither far (neither far none)
-    (subst (λ j. WasBefore (IsNearIn 0 j (word_of m)) two_cores (enters 0 k []) (next k m))
-    (some_call near.call k (sym near.is_of)) near.near)
+-- A word that is not in the call's footprint as that is entered has not been in its footprint.
+not_footprint : (k : Call) (m : Move) → footprint_next k m ≡ false → StepsInFootprint two_cores (enters 0 k []) (next k m) → ⊥
+not_footprint k m not footprint = neither far (neither far none)
+    (subst (λ j. WasBefore (IsInFootprint 0 j (word_of m)) two_cores (enters 0 k []) (next k m))
+    (some_call footprint.call k (sym footprint.is_of)) footprint.footprint)
   where
-    far : IsNearIn 0 k (word_of m) (state_after two_cores (enters 0 k [])) → ⊥
-    far = not_near_in 0 k (word_of m) (state_after two_cores (enters 0 k [])) not
+    far : IsInFootprint 0 k (word_of m) (state_after two_cores (enters 0 k [])) → ⊥
+    far = not_in_footprint 0 k (word_of m) (state_after two_cores (enters 0 k [])) not
 
 astray : (k : Call) (m : Move) → InLimits k → fits_next k m ≡ true → is_within 2 (one_step k m) ≡ true
-    → near_next k m ≡ false → BreaksFootprint (one_step k m)
+    → footprint_next k m ≡ false → BreaksFootprint (one_step k m)
 astray k m limits fit within not = record {
   legal = lone_legal k m limits fit;
   within = keeps_bounds 2 (one_step k m) within;
-  refused = λ near. not_near k m not near.1;
+  refused = λ footprint. not_footprint k m not footprint.1;
 }
 
 pub footprints_refuse : FootprintsRefuse
@@ -264,13 +264,13 @@ unfolding two_cores range_word word_of_entry
 words_refuse = record {
   core_says_out = record {
     legal = lone_legal (call.Look 0) (StoreOf (CoreAt 0) 0) tt refl;
-    near = keeps_footprints two_cores (one_step (call.Look 0) (StoreOf (CoreAt 0) 0)) refl;
+    footprint = keeps_footprints two_cores (one_step (call.Look 0) (StoreOf (CoreAt 0) 0)) refl;
     within = keeps_bounds 2 (one_step (call.Look 0) (StoreOf (CoreAt 0) 0)) refl;
     refused = λ say. let below : 0 < 2 = omega arith in says_out (say.1.cores 0 below);
   };
   entry_is_filled = record {
     legal = lone_legal (whole_copy 0 1 20) (StoreOf (EntryAt 1 20) range_word) (omega arith) refl;
-    near = keeps_footprints two_cores (one_step (whole_copy 0 1 20) (StoreOf (EntryAt 1 20) range_word)) refl;
+    footprint = keeps_footprints two_cores (one_step (whole_copy 0 1 20) (StoreOf (EntryAt 1 20) range_word)) refl;
     within = keeps_bounds 2 (one_step (whole_copy 0 1 20) (StoreOf (EntryAt 1 20) range_word)) refl;
     refused = λ say. let frame : 1 < 32 = omega arith in let place : 20 < 64 = omega arith in
         says_held (say.1.entries 1 20 frame place refl);

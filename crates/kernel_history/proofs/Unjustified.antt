@@ -31,7 +31,7 @@ use Rattle.kernel_history.specs.Scenes.{two_cores, there, decides, goes, range_w
 use Rattle.kernel_history.specs.Scenes.{name_removed, other_enters, clock_raised, removed, filled, fills_again}
 use Rattle.kernel_history.specs.Scenes.{between, both_look, ready_to_look}
 use Rattle.kernel_history.specs.Refusals.{deciding, Unjustified, JustificationRefuses, OrderRefuses}
-use Rattle.kernel_history.proofs.Computed.{neither, none, may_follow, is_within, keeps_bounds, is_near, keeps_footprints}
+use Rattle.kernel_history.proofs.Computed.{neither, none, may_follow, is_within, keeps_bounds, is_in_it, keeps_footprints}
 use Rattle.kernel_history.proofs.Computed.{has_stepped, has_reached}
 
 abbrev slot : ℕ → ℕ → Slot
@@ -42,12 +42,12 @@ open_call j k same = cc
 
 -- A decision of an open call that is not justified is not legal.
 unjustified : (c : ℕ) (m : Move) (k : Call) (r : Reply) (t : Trace) → IsLegal two_cores (goes c m t)
-    → is_near two_cores (goes c m t) ≡ true → is_within 2 (goes c m t) ≡ true → phase t c ≡ Open k
+    → is_in_it two_cores (goes c m t) ≡ true → is_within 2 (goes c m t) ≡ true → phase t c ≡ Open k
     → MayReply (state_before two_cores t (deciding c m r t)) c k r
     → (IsJustified two_cores t (deciding c m r t) k r → ⊥) → Unjustified c m k r t
-unjustified c m k r t legal near within is may not = record {
+unjustified c m k r t legal footprint within is may not = record {
   legal = legal;
-  near = keeps_footprints two_cores (goes c m t) near;
+  footprint = keeps_footprints two_cores (goes c m t) footprint;
   within = keeps_bounds 2 (goes c m t) within;
   is_open = is;
   permitted = may;

@@ -70,8 +70,8 @@ frames_own s c =
 
 -- The frames of a call's footprint: the core's own, the nodes of its way, those that it is about, and the fields and the
 -- stack's components of these.
-abbrev pub frames_near : State → ℕ → Call → List ℕ
-frames_near s c call =
+abbrev pub footprint_frames : State → ℕ → Call → List ℕ
+footprint_frames s c call =
     frames_own s c
     ++ (map (λ at. at.node) (wide_ways s c (rule_of s c call))
     ++ (frames_about s c call ++ flat_map (λ f. frame_names (s.frame f)) (frames_about s c call)))
@@ -81,31 +81,31 @@ abbrev pub number_in : Frame → List ℕ
 number_in (Kernel (Comp k)) = k.number ∷ []
 number_in _ = []
 
--- The liveness numbers of a call's footprint: its argument, and those of the components near.
-abbrev pub numbers_near : State → ℕ → Call → List ℕ
-numbers_near s c call = number_argument call ++ flat_map (λ f. number_in (s.frame f)) (frames_near s c call)
+-- The liveness numbers of a call's footprint: its argument, and those of the components in it.
+abbrev pub footprint_numbers : State → ℕ → Call → List ℕ
+footprint_numbers s c call = number_argument call ++ flat_map (λ f. number_in (s.frame f)) (footprint_frames s c call)
 
 -- The number is one of these.
 abbrev pub is_one_of : ℕ → List ℕ → Bool
 is_one_of n ns = list_any (λ m. m == n) ns
 
--- The word is near a call of core c in the state: of a frame or a number of its footprint, or of a core or the clock.
-abbrev pub IsNearIn : ℕ → Call → Word → State → Type 0
-IsNearIn c call (EntryAt f i) s = IsTrue (is_one_of f (frames_near s c call))
-IsNearIn c call (FrameAt f) s = IsTrue (is_one_of f (frames_near s c call))
-IsNearIn c call (CountAt f d) s = IsTrue (is_one_of f (frames_near s c call))
-IsNearIn c call (CoreAt d) s = Unit {0}
-IsNearIn c call (FlushAt d) s = Unit {0}
-IsNearIn c call (LiveAt l) s = IsTrue (is_one_of l (numbers_near s c call))
-IsNearIn c call ClockAt s = Unit {0}
+-- The word is in the footprint of a call of core c in the state: of a frame or a number of its footprint, or of a core or the clock.
+abbrev pub IsInFootprint : ℕ → Call → Word → State → Type 0
+IsInFootprint c call (EntryAt f i) s = IsTrue (is_one_of f (footprint_frames s c call))
+IsInFootprint c call (FrameAt f) s = IsTrue (is_one_of f (footprint_frames s c call))
+IsInFootprint c call (CountAt f d) s = IsTrue (is_one_of f (footprint_frames s c call))
+IsInFootprint c call (CoreAt d) s = Unit {0}
+IsInFootprint c call (FlushAt d) s = Unit {0}
+IsInFootprint c call (LiveAt l) s = IsTrue (is_one_of l (footprint_numbers s c call))
+IsInFootprint c call ClockAt s = Unit {0}
 
 -- The step is on a word that is in the footprint of its call, as that is at some moment of the call so far.
-pub record StepsNear (setup : Setting) (t : Trace) (e : Step) : Type 0 where
+pub record StepsInFootprint (setup : Setting) (t : Trace) (e : Step) : Type 0 where
   pub call : Call
   pub is_of : call_in (after_enter e.enters (phase t e.core)) ≡ Some call
-  pub near : WasBefore (IsNearIn e.core call (word_of e.move)) setup t e
+  pub footprint : WasBefore (IsInFootprint e.core call (word_of e.move)) setup t e
 
 -- Each step of the trace is in the footprint of its call.
 abbrev pub KeepsFootprints : Setting → Trace → Type 0
 KeepsFootprints setup [] = Unit {0}
-KeepsFootprints setup (e ∷ t) = KeepsFootprints setup t × StepsNear setup t e
+KeepsFootprints setup (e ∷ t) = KeepsFootprints setup t × StepsInFootprint setup t e

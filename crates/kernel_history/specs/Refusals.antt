@@ -25,10 +25,10 @@ use Rattle.kernel_history.specs.Scenes.{two_cores, there, enters, goes, decides,
 use Rattle.kernel_history.specs.Scenes.{named, half_named, marked_beside, name_removed, other_enters, clock_raised, fills_again}
 use Rattle.kernel_history.specs.Scenes.{between, both_look, ready_to_look}
 
--- The trace is legal, on words near its calls and within their bounds, but steps out of the discipline.
+-- The trace is legal, on words in the footprints of its calls and within their bounds, but steps out of the discipline.
 pub record BreaksDiscipline (t : Trace) : Type 0 where
   pub legal : IsLegal two_cores t
-  pub near : KeepsFootprints two_cores t
+  pub footprint : KeepsFootprints two_cores t
   pub within : KeepsBounds 2 t
   pub refused : KeepsDiscipline two_cores t → ⊥
 
@@ -84,13 +84,13 @@ pub record OwnCountsRefuse : Type 0 where
   pub untypes_another_frame : BreaksDiscipline (one_step (call.Retype 0 8 frame_kind.Untyped) (StoreOf (CountAt 0 1) 0))
   pub retypes_to_kernel : BreaksDiscipline (one_step (call.Retype 0 8 frame_kind.Kernel) (StoreOf (CountAt 8 1) 0))
 
--- The trace is legal and within its bounds, but a step of it is on a word that is not near its call.
+-- The trace is legal and within its bounds, but a step of it is on a word that is not in the footprint of its call.
 pub record BreaksFootprint (t : Trace) : Type 0 where
   pub legal : IsLegal two_cores t
   pub within : KeepsBounds 2 t
   pub refused : KeepsFootprints two_cores t → ⊥
 
--- A call steps near itself alone: on entries, on a frame's word, on its count, and on liveness numbers.
+-- A call steps within its footprint alone: on entries, on a frame's word, on its count, and on liveness numbers.
 pub record FootprintsRefuse : Type 0 where
   pub look_reads_a_far_entry : BreaksFootprint (one_step (call.Look 0) (LoadOf (EntryAt 8 0)))
   pub map_reads_a_far_frame : BreaksFootprint (one_step (call.Map 2 0 0 8 no_flags) (LoadOf (FrameAt 9)))
@@ -114,7 +114,7 @@ deciding c m r t = record { core = c; move = m; found = there t (word_of m); ent
 -- not justified.
 pub record Unjustified (c : ℕ) (m : Move) (k : Call) (r : Reply) (t : Trace) : Type 0 where
   pub legal : IsLegal two_cores (goes c m t)
-  pub near : KeepsFootprints two_cores (goes c m t)
+  pub footprint : KeepsFootprints two_cores (goes c m t)
   pub within : KeepsBounds 2 (goes c m t)
   pub is_open : phase t c ≡ Open k
   pub permitted : MayReply (state_before two_cores t (deciding c m r t)) c k r
@@ -134,10 +134,10 @@ pub record JustificationRefuses : Type 0 where
   -- a copy waits for a core that entered after the place, long removed, was filled again
   pub waits_for_nothing : Unjustified 0 (LoadOf (EntryAt 1 13)) (whole_copy 0 1 13) (reply.Quiescing 1) fills_again
 
--- The trace is legal, on words near its calls and within their bounds, but a word says otherwise than the state.
+-- The trace is legal, on words in the footprints of its calls and within their bounds, but a word says otherwise than the state.
 pub record BreaksWords (t : Trace) : Type 0 where
   pub legal : IsLegal two_cores t
-  pub near : KeepsFootprints two_cores t
+  pub footprint : KeepsFootprints two_cores t
   pub within : KeepsBounds 2 t
   pub refused : WordsSayAlong two_cores t → ⊥
 

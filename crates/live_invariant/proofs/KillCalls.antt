@@ -2,21 +2,21 @@
 use Rattle.count_invariant.proofs.Common.{◌≡◌, inl, ℕ, ◌<◌, ◌==◌, ◌&&◌, ◌||◌, not, Bool, true, false, if◌then◌else◌, List, [], ◌∷◌}
 use Rattle.count_invariant.proofs.Common.{Some, None, refl, sym, ◌∙◌, ap, subst, eq-eqb, Setting, IsSetting, Kill}
 use Rattle.count_invariant.proofs.Common.{CompFields, Comp, Kernel, State, comp_in, found, Cause, Does, RuleMay, outcome, unless}
-use Rattle.count_invariant.proofs.Common.{first_of, is_live_in, rule_of, change_of, is_one_of, frames_near, Trace, Open, phase}
+use Rattle.count_invariant.proofs.Common.{first_of, is_live_in, rule_of, change_of, is_one_of, footprint_frames, Trace, Open, phase}
 use Rattle.count_invariant.proofs.Common.{state_after, Plan, GoesBy, own_pages, rule_after, Leads, LeadsIn, outcome_left, left_may}
 use Rattle.count_invariant.proofs.Common.{KillingAt, Act, Undecided, ActiveCall, StageFits, HasRoom, Core, KnowsUndecided, phase_at}
 use Rattle.count_invariant.proofs.Common.{Invariant}
 use Rattle.state_laws.specs.spk_nums.specs.declared.replies.Reply.TheVariants as reply
 use Rattle.state_laws.specs.kernel_rules.specs.InvocationCalls.{not_live, kills, kill_comp}
-use Rattle.count_invariant.specs.kernel_history.specs.Footprint.{numbers_near, number_argument, number_in}
+use Rattle.count_invariant.specs.kernel_history.specs.Footprint.{footprint_numbers, number_argument, number_in}
 use Rattle.count_invariant.specs.act_states.specs.declared.kills.Killing.{Killing}
 use Rattle.count_invariant.specs.act_states.specs.Kills.{KillingFits}
 use Rattle.count_invariant.specs.act_states.specs.declared.work.Act.TheVariants.{Kill as kill_act}
 use Rattle.count_invariant.specs.step_ways.proofs.Loads.{call_is, is_active}
 use Rattle.count_invariant.proofs.Acquiring.{plan_leads, goes_by}
-use Rattle.count_invariant.proofs.KillingCounts.{IsKill, kill_of, kill_near}
+use Rattle.count_invariant.proofs.KillingCounts.{IsKill, kill_of, kill_footprint}
 use Rattle.live_invariant.proofs.Numbers.{one_of_many, comp_is}
-use Rattle.count_invariant.specs.plan_ways.proofs.Near.{one_right}
+use Rattle.count_invariant.specs.plan_ways.proofs.InFootprint.{one_right}
 
 module _ (setup : Setting) (setting : IsSetting setup) (cores : ℕ → Core) (t : Trace) (stands : Invariant setup cores t) (c : ℕ)
     (here : c < setup.cores)
@@ -81,12 +81,12 @@ module _ (setup : Setting) (setting : IsSetting setup) (cores : ℕ → Core) (t
   may_be_dead none = left_may s c (own_pages s c) a.plan (rule_of s c a.call) a.found by_plan leads reply.Dead
       (subst (λ x. RuleMay s c x reply.Dead) (sym left) (inl (ap (λ b. not b) none, refl)))
 
-  -- the component and its number are near
-  pub near : is_one_of f (frames_near s c a.call) ≡ true
-  near = kill_near s c a.call a.found f has.knows.knows.kills
+  -- the component and its number are in the footprint
+  pub footprint : is_one_of f (footprint_frames s c a.call) ≡ true
+  footprint = kill_footprint s c a.call a.found f has.knows.knows.kills
       (subst (λ (p : Plan). Leads (LeadsIn s c) p.names [] a.found) (is_active setup setting cores t stands c here a active).plan leads)
 
-  pub number_near : (l : ℕ) → fields.number ≡ l → is_one_of l (numbers_near s c a.call) ≡ true
-  number_near l same = one_right l (number_argument a.call) _
-      (one_of_many (λ g. number_in (s.frame g)) l f (frames_near s c a.call) near
+  pub number_footprint : (l : ℕ) → fields.number ≡ l → is_one_of l (footprint_numbers s c a.call) ≡ true
+  number_footprint l same = one_right l (number_argument a.call) _
+      (one_of_many (λ g. number_in (s.frame g)) l f (footprint_frames s c a.call) footprint
       (ap (λ x. is_one_of l (number_in x)) holds_comp ∙ ap (λ b. b || false) (eq-eqb fields.number l same)))

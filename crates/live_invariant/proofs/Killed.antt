@@ -1,6 +1,7 @@
 -- A killing draws its stamp and is decided: the number is dead, its reference to the component's frame is released, and the grace periods
 -- of both begin at the stamp. And the store of the dead number's word is good.
-use Rattle.count_invariant.proofs.Common.{Want, as_none, counts_bare, lent_elsewhere, IsSome, list_any, ◌≡◌, ◌≢◌, inl, inr, ℕ, pos, negsuc}
+use Rattle.count_invariant.proofs.Common.{Want, as_none, counts_bare, exclusive_elsewhere, IsSome, list_any}
+use Rattle.count_invariant.proofs.Common.{◌≡◌, ◌≢◌, inl, inr, ℕ, pos, negsuc}
 use Rattle.count_invariant.proofs.Common.{◌+ℤ◌, max, length, ◌+◌, ◌^◌, ◌<◌, ◌≤◌, ◌==◌, ◌||◌, true, false, if◌then◌else◌, List, []}
 use Rattle.count_invariant.proofs.Common.{◌∷◌, Option, Some, None, arith, refl, sym, ◌∙◌, ap, subst, cases_eq, eq-eqb, ne_eqb}
 use Rattle.count_invariant.proofs.Common.{All-nil, Capability, Setting, IsSetting, Call, Kill, Reply, LiveFits}
@@ -9,7 +10,7 @@ use Rattle.count_invariant.proofs.Common.{ClockAt, same_word, Move, AddOf, Store
 use Rattle.count_invariant.proofs.Common.{Thing, PlaceOf, FrameOf, NumberOf, Grace, State, put, comp_in, thread_in, with_grace, Slot, own}
 use Rattle.count_invariant.proofs.Common.{Change, Found, IsFoundAnd, frames_of, times, refs, is_live_in, MayReply, rule_of, ends_by}
 use Rattle.count_invariant.proofs.Common.{flushes_by, changed, change_of, counted, begins_in, same_thing, new_grace, calls_counted}
-use Rattle.count_invariant.proofs.Common.{grace_refs, put_same, put_other, IsNearIn, HasReached, marked_by, ends_in, flushes_in}
+use Rattle.count_invariant.proofs.Common.{grace_refs, put_same, put_other, IsInFootprint, HasReached, marked_by, ends_in, flushes_in}
 use Rattle.count_invariant.proofs.Common.{begins_at, ends_at, flushes_at, stamp, clock, flush_stored, Step, Trace, Out, Open, WasAt}
 use Rattle.count_invariant.proofs.Common.{phase, state_after, state_decided_in, last_left, own_left, way_to, ways, ok_first, was_now}
 use Rattle.count_invariant.proofs.Common.{was_stays, decided-inside, cases_word, same_word-other, stamp-begins, stamp-kept}
@@ -425,9 +426,9 @@ module _ (setup : Setting) (setting : IsSetting setup) (cores : ℕ → Core) (t
         (λ is_alone. ok_first s c a.call value.Nothing permitted)
         (record {
           numbers = kill_numbers a.call a.found f has.knows.knows.kills;
-          near = was_stays (IsNearIn c a.call at) setup t e c (λ own. refl)
-              (was_here (IsNearIn c a.call at) setup t c a.call is_open
-              (calls.number_near setup setting cores t stands c here a active f by (Draw life word) stage_is has life.number
+          footprint = was_stays (IsInFootprint c a.call at) setup t e c (λ own. refl)
+              (was_here (IsInFootprint c a.call at) setup t c a.call is_open
+              (calls.number_footprint setup setting cores t stands c here a active f by (Draw life word) stage_is has life.number
               has.knows.knows.at.has_life.number));
         })
 
@@ -501,7 +502,7 @@ module _ (setup : Setting) (setting : IsSetting setup) (cores : ℕ → Core) (t
       let e : Step = inner setup setting cores t stands c here a active store None None in
       let after : Core = core_in_call (cores c) (cores c).own.made next in
       counters.holds_on setup setting cores t stands c here a active store next (λ b. refl) (λ h. cc) refl
-      (record { moves = has.numbers; near = inr has.near }) lands says.small
+      (record { moves = has.numbers; footprint = inr has.footprint }) lands says.small
       (λ w there. (
         sym ((holds_is w).0 ∙ ap (λ b. if b then true else rest.marks w) (same_word-other w dead_at there)),
         sym ((holds_is w).1 ∙ ap (λ b. if b then dead_word else rest.stands w) (same_word-other w dead_at there)),
@@ -517,4 +518,4 @@ module _ (setup : Setting) (setting : IsSetting setup) (cores : ℕ → Core) (t
       (λ carries. tt)
       (counts_on setup t e c a.call (λ own. refl) a.counts (call_is setup setting cores t stands c here a active).counts)
       (call_is setup setting cores t stands c here a active).apart
-      (spares_other setup t e (λ g i h. cc)) (lent_elsewhere cores e (λ g i h. cc))
+      (spares_other setup t e (λ g i h. cc)) (exclusive_elsewhere cores e (λ g i h. cc))

@@ -1,6 +1,7 @@
 -- The steps of a killing before its draw are good: the loads of the component's word and of its number's word, and the compare that marks
 -- the number, which is lost to another core or holds it for the call.
-use Rattle.count_invariant.proofs.Common.{as_none, counts_bare, may_keep, unlent_value, lent_elsewhere, ◌≡◌, ◌≢◌, inl, ℕ, ◌+◌, ◌++◌, ◌^◌}
+use Rattle.count_invariant.proofs.Common.{as_none, counts_bare, may_keep, not_exclusive_value, exclusive_elsewhere, ◌≡◌}
+use Rattle.count_invariant.proofs.Common.{◌≢◌, inl, ℕ, ◌+◌, ◌++◌, ◌^◌}
 use Rattle.count_invariant.proofs.Common.{◌<◌, ◌==◌, map, length, Bool, true, false, if◌then◌else◌, List, [], ◌∷◌, Option, Some, None}
 use Rattle.count_invariant.proofs.Common.{IsTrue, arith, refl, sym, ◌∙◌, ap, subst, eqb-true, eqb-false, eq-eqb, Setting}
 use Rattle.count_invariant.proofs.Common.{IsSetting, left_if, comp_of_word, LiveFits, word_of_live, live_of_word, CompWord, LiveWord}
@@ -56,14 +57,18 @@ module _ (setup : Setting) (setting : IsSetting setup) (cores : ℕ → Core) (t
   says_life = subst (λ x. IsFrameWord s.limits.frames (count_room s) x (s.place f 2) (stamp setup t (PlaceOf f 2)) 2 was)
       (calls.holds_comp setup setting cores t stands c here a active f by LoadComp stage_is has)
       (subst (λ (n : ℕ). IsFrameWord s.limits.frames (count_room s) (s.frame f) (s.place f 2) (stamp setup t (PlaceOf f 2)) 2 n)
-      (unlent_value setup cores t stands f
+      (not_exclusive_value setup cores t stands f
       (ap may_keep (calls.holds_comp setup setting cores t stands c here a active f by LoadComp stage_is has)) 2 was)
       (subst (λ o. IsFrameWord s.limits.frames (count_room s) (s.frame f) (s.place f 2) (stamp setup t (PlaceOf f 2)) 2
       (settled_by o (held_by cores) (EntryAt f 2) was)) unmarked (stands.words (EntryAt f 2))))
 
   loading : OnlyLooks setup t c a.call (LoadOf (EntryAt f 2))
   loading = record {
-    of_call = record { moves = refl; near = inl (calls.near setup setting cores t stands c here a active f by LoadComp stage_is has) };
+    of_call = record {
+      moves = refl;
+      footprint = inl (calls.footprint setup setting cores t stands c here a active f by LoadComp stage_is
+          has);
+    };
     kept = refl;
     apart = λ d. refl;
   }
@@ -128,7 +133,7 @@ module _ (setup : Setting) (setting : IsSetting setup) (cores : ℕ → Core) (t
     of_call = record {
       moves = subst (λ x. IsTrue (looks_at_numbers x))
           (sym (calls.is setup setting cores t stands c here a active f by (LoadLive life) stage_is has).call_is) refl;
-      near = inl (calls.number_near setup setting cores t stands c here a active f by (LoadLive life) stage_is has life.number
+      footprint = inl (calls.number_footprint setup setting cores t stands c here a active f by (LoadLive life) stage_is has life.number
           has.knows.knows.at.number);
     };
     kept = refl;
@@ -250,7 +255,7 @@ module _ (setup : Setting) (setting : IsSetting setup) (cores : ℕ → Core) (t
   of_call = record {
     moves = subst (λ x. IsTrue (changes_numbers x))
         (sym (calls.is setup setting cores t stands c here a active f by (Close life word) stage_is has).call_is) refl;
-    near = inl (calls.number_near setup setting cores t stands c here a active f by (Close life word) stage_is has life.number
+    footprint = inl (calls.number_footprint setup setting cores t stands c here a active f by (Close life word) stage_is has life.number
         has.knows.knows.at.has_life.number);
   }
 
@@ -341,7 +346,7 @@ module _ (setup : Setting) (setting : IsSetting setup) (cores : ℕ → Core) (t
         })
         (counts_on setup t e c a.call (λ own. refl) a.counts (call_is setup setting cores t stands c here a active).counts)
         (call_is setup setting cores t stands c here a active).apart
-        (spares_other setup t e (λ g i h. cc)) (lent_elsewhere cores e (λ g i h. cc))
+        (spares_other setup t e (λ g i h. cc)) (exclusive_elsewhere cores e (λ g i h. cc))
 
   pub close_good : GoodTook setup cores t c compare (landed a (closes_if closes life word (left_there == word)))
   close_good = by_test (left_there == word) refl

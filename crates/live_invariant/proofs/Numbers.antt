@@ -1,4 +1,4 @@
--- Liveness numbers: what their words show, which are near a call, and whose component lives under one.
+-- Liveness numbers: what their words show, which are in the footprint of a call, and whose component lives under one.
 use Rattle.count_invariant.proofs.Common.{◌≡◌, ℕ, ◌^◌, ◌<◌, ◌==◌, ◌||◌, Bool, true, false, List, [], ◌∷◌, ◌++◌, Option, Some, None}
 use Rattle.count_invariant.proofs.Common.{IsTrue, refl, sym, ◌∙◌, ap, subst, flat_map, eqb-true, false≢true, Setting, IsSetting}
 use Rattle.count_invariant.proofs.Common.{live_of_word, LiveWord, Comp, Frame, Kernel, Liveness, Unused, Live, Dead, State, comp_in, fits}
@@ -7,7 +7,7 @@ use Rattle.count_invariant.proofs.Common.{events_of, Acquired, LiveAt, holds_cou
 use Rattle.state_laws.specs.spk_nums.specs.declared.kinds.Kind.TheVariants as kind
 use Rattle.count_invariant.specs.frame_words.specs.declared.live_word.LiveWord.TheVariants as live_word
 use Rattle.count_invariant.specs.frame_words.proofs.LiveLemmas as lives
-use Rattle.count_invariant.specs.plan_ways.proofs.Near.{one_left, one_right}
+use Rattle.count_invariant.specs.plan_ways.proofs.InFootprint.{one_left, one_right}
 use Rattle.state_laws.specs.Lives.{IsCompOf}
 use Rattle.state_laws.proofs.Lives.{live_numbers_fit}
 use Rattle.state_laws.proofs.CompsApart.{comps_apart}
@@ -70,7 +70,7 @@ number_is (Dead d) r e f o is shows = absurd (not_live (sym is.says ∙ shows))
     not_live : Some (live_word.Dead d r) ≡ Some (live_word.Live e f) → ⊥
     not_live h = cc
 
--- A number of a frame that is near is near.
+-- A number of a frame in the footprint is in it.
 pub one_of_many : (g : ℕ → List ℕ) (l f : ℕ) (fs : List ℕ) → is_one_of f fs ≡ true → is_one_of l (g f) ≡ true
     → is_one_of l (flat_map g fs) ≡ true
 one_of_many g l f [] is here = absurd (false≢true is)

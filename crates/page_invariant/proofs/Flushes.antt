@@ -2,7 +2,8 @@
 use Rattle.count_invariant.proofs.Common.{Own, Nothing, StoreFlush, Act, own_changed, own_decided, ActiveCall, Stage, Undecided, Decided}
 use Rattle.count_invariant.proofs.Common.{HasRoom, GoesOn, went_with, landed, Core, plain_exit, counts_on, counted_refs, limits_of}
 use Rattle.count_invariant.proofs.Common.{SameFor, marks_own, word_stays, reads_alike, carry_marks, carry_words, others_settled}
-use Rattle.count_invariant.proofs.Common.{own_settled, counts_bare, lent_none, lent_kept, lent_elsewhere, Holding, holds_counts}
+use Rattle.count_invariant.proofs.Common.{own_settled, counts_bare, exclusive_none}
+use Rattle.count_invariant.proofs.Common.{exclusive_kept, exclusive_elsewhere, Holding, holds_counts}
 use Rattle.count_invariant.proofs.Common.{settled_by, settled, due_of, KnowsUndecided, WorksIn, CoreIs, phase_at, untypes, is_done}
 use Rattle.count_invariant.proofs.Common.{holds_at, holds_in, holds, held_by, times_of, counted_in, Invariant, WordIs, count_room}
 use Rattle.count_invariant.proofs.Common.{decided-inside, same_word-other, last_small, phase-own, steps_in_call-own, stamp-kept}
@@ -23,7 +24,7 @@ use Rattle.count_invariant.specs.act_states.specs.Flushes.{took_flush}
 use Rattle.count_invariant.specs.kept_facts.proofs.CountSums.{calm_refs}
 use Rattle.count_invariant.specs.step_ways.proofs.Good.{spares_kept, spares_other}
 use Rattle.count_invariant.specs.step_ways.proofs.Loads.{IsOfCall, next_at, core_in_call, core_is, call_is, in_call}
-use Rattle.count_invariant.specs.step_ways.proofs.Loads.{inner, inner_within, inner_disciplined, inner_near, is_active}
+use Rattle.count_invariant.specs.step_ways.proofs.Loads.{inner, inner_within, inner_disciplined, inner_footprint, is_active}
 use Rattle.count_invariant.specs.step_ways.proofs.OwnChanges.{decides_owning}
 use Rattle.count_invariant.specs.step_ways.proofs.Refusals.{GoodTook, not_spent}
 use Rattle.count_invariant.specs.kept_facts.proofs.Sums.{sums_since}
@@ -238,7 +239,7 @@ module _ (setup : Setting) (setting : IsSetting setup) (cores : ℕ → Core) (t
 
   flush_now : GoodTook setup cores t c load (landed a (work_changes r Empties None (StoreFlush by now_at)))
   flush_now lands =
-      let of_call : IsOfCall setup t c a.call load = record { moves = refl; near = inl tt } in
+      let of_call : IsOfCall setup t c a.call load = record { moves = refl; footprint = inl tt } in
       let marks = carry_marks setup cores t e after same_marks (reads_alike setup t e frames) refl refl stands.marks in
       decides_owning setup setting cores t stands c here a active load r own' stage
       (record { core = refl; layout = refl; limit = refl; epochs = refl; exit = refl })
@@ -257,7 +258,7 @@ module _ (setup : Setting) (setting : IsSetting setup) (cores : ℕ → Core) (t
       (carry_words setup cores t e after same_marks (reads_alike setup t e frames) refl refl same_bare (λ x. refl)
       (λ w there free. word_stays s s' (times_of setup t) (times_of setup (e ∷ t)) w (settled setup (held_by cores) t w) (same_words w))
       tt (λ w own. absurd (free_of w own)) stands.words)
-      (lent_none setup (e ∷ t) c after (counts_bare (Some None) a.counts)) (lent_kept cores e refl)
+      (exclusive_none setup (e ∷ t) c after (counts_bare (Some None) a.counts)) (exclusive_kept cores e refl)
       (sums_since setup t e (held_by cores) (held_by (put cores c after)) alike (λ f. same_stamp (FrameOf f)) limits kept_refs
       stands.sums)
       (record { call = a.call; is_open = is_open; permitted = permitted; justified = justified })
@@ -370,7 +371,7 @@ module _ (setup : Setting) (setting : IsSetting setup) (cores : ℕ → Core) (t
   of_store : IsOfCall setup t c a.call store
   of_store = record {
     moves = ap (λ b. b && stores_flush a.call) (eq-eqb c c refl) ∙ has.stores;
-    near = inl tt;
+    footprint = inl tt;
   }
 
   stores_it : GoodTook setup cores t c store (GoesOn next)
@@ -395,7 +396,7 @@ module _ (setup : Setting) (setting : IsSetting setup) (cores : ℕ → Core) (t
         disciplined = inner_disciplined setup setting cores t stands c here a active store None None of_store
             (marks_own setup cores t storing stored_core (λ w there. still_marks w) stands.marks marks)
             (λ d m other. absurd (none_some d m));
-        near = inner_near setup setting cores t stands c here a active store None None of_store;
+        footprint = inner_footprint setup setting cores t stands c here a active store None None of_store;
         blanks = spares_other setup t storing (λ f i h. cc);
         counted = spares_none setup t storing (λ f. refl);
         marks = marks;
@@ -409,8 +410,8 @@ module _ (setup : Setting) (setting : IsSetting setup) (cores : ℕ → Core) (t
             (word_stays (state_after setup t) (state_after setup (storing ∷ t)) (times_of setup t) (times_of setup (storing ∷ t)) w
             (settled setup (held_by cores) t w) (said w (not_flush w own)) (stands.words w)))
             stands.words;
-        lent = lent_none setup (storing ∷ t) c stored_core (counts_bare (is_done (Decided r drawn Nothing)) a.counts);
-        spares = lent_elsewhere cores storing (λ f i h. cc);
+        exclusive = exclusive_none setup (storing ∷ t) c stored_core (counts_bare (is_done (Decided r drawn Nothing)) a.counts);
+        spares = exclusive_elsewhere cores storing (λ f i h. cc);
         sums = sums_since setup t storing (held_by cores) (held_by (put cores c stored_core)) counts_same (λ f. refl) refl (λ f. refl)
             stands.sums;
         draws = (let d = stands.draws in omega arith);

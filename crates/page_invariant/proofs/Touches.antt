@@ -10,14 +10,14 @@ use Rattle.count_invariant.proofs.Common.{comp_in, first_of_stack, thread_of, co
 use Rattle.count_invariant.proofs.Common.{usable, linked, slot_in, root_slot, reached, holds_link, held_in, refs, sum_below, Relies}
 use Rattle.count_invariant.proofs.Common.{Refused, Found, IsFoundAnd, outcome, RuleMay, answers, translation_of, rule_of, change_of}
 use Rattle.count_invariant.proofs.Common.{changed, counted, begins, ends, flushes, MayReply, opened, core_same_refs, sum_one}
-use Rattle.count_invariant.proofs.Common.{put_same, put_other, events_of, is_one_of, frames_own, frames_near, is_slot_in, HasReached}
+use Rattle.count_invariant.proofs.Common.{put_same, put_other, events_of, is_one_of, frames_own, footprint_frames, is_slot_in, HasReached}
 use Rattle.count_invariant.proofs.Common.{IsJustified, marked_by, ends_in, flushes_in, stamp, Step, Trace, Open, phase, state_after}
 use Rattle.count_invariant.proofs.Common.{state_decided_in, last_left, own_left, root_passed, wide_way_to, ways, wide_ways, ok_first}
 use Rattle.count_invariant.proofs.Common.{Carries, state_is, run_of, decided-inside, last_small, sound_of, opened_is, shown_in, look_move}
 use Rattle.count_invariant.proofs.Common.{Look, AtRoot, AtLeaf, AtEntry, Acquired, Own, Nothing, Act, WorkStep, Goes, own_changed, refuse}
 use Rattle.count_invariant.proofs.Common.{own_decided, ActiveCall, Undecided, Decided, HasRoom, landed, Core, holds_counts}
 use Rattle.count_invariant.proofs.Common.{due_of, LooksUp, KnowsUndecided, WorksIn, phase_at, untypes, holds_at, holds_in, holds, held_by}
-use Rattle.count_invariant.proofs.Common.{times_of, counted_in, Invariant, count_room, counts_bare, lent_none, lent_kept}
+use Rattle.count_invariant.proofs.Common.{times_of, counted_in, Invariant, count_room, counts_bare, exclusive_none, exclusive_kept}
 use Rattle.count_invariant.proofs.Common.{IsUntimed, plain_begins, plain_stamp, plain_flush, plain_exit, names_on, counted_refs}
 use Rattle.count_invariant.proofs.Common.{limits_of, sums_keep, SameFor, marks_own, settled_on, capability_in}
 use Rattle.kernel_laws.specs.spk_nums.specs.declared.kinds.Kind.TheVariants as kind
@@ -34,7 +34,7 @@ use Rattle.count_invariant.specs.kernel_history.specs.Stamps.{begins_in}
 use Rattle.count_invariant.specs.kernel_history.specs.Ways.{led_to}
 use Rattle.count_invariant.specs.trace_laws.proofs.Stays.{relies_reached}
 use Rattle.count_invariant.specs.kernel_history.proofs.Steps.{own_left-here}
-use Rattle.count_invariant.specs.plan_ways.proofs.Near.{one_left, one_right}
+use Rattle.count_invariant.specs.plan_ways.proofs.InFootprint.{one_left, one_right}
 use Rattle.count_invariant.specs.stage_look.specs.Shown.{entry_within, is_link}
 use Rattle.count_invariant.specs.stage_look.specs.Lookup.{look_end, look_after, root_end, root_after, place_end, end_by_link}
 use Rattle.count_invariant.specs.stage_look.specs.Lookup.{after_link}
@@ -53,7 +53,7 @@ use Rattle.count_invariant.specs.step_ways.proofs.Places.{IsMarked, IsUnmarked, 
 use Rattle.count_invariant.specs.step_ways.proofs.Refusals.{GoodTook, NobodyWaits, ticks_at, not_spent, refuses_fault, refuses_busy}
 use Rattle.count_invariant.specs.kept_facts.proofs.WordFrames.{load_keeps, load_marks, load_words}
 use Rattle.count_invariant.proofs.Lookups.{Shows, ShowsHeld, shown_of, link_kind, link_none, link_shown, passes, root_slots}
-use Rattle.count_invariant.proofs.Lookups.{slot_left, slot_right, slot_one, near_way, use_removed, leaf_reached}
+use Rattle.count_invariant.proofs.Lookups.{slot_left, slot_right, slot_one, footprint_way, use_removed, leaf_reached}
 use Rattle.page_invariant.proofs.TouchCalls.{told_by, unlinked_may, empty_may, unreached_first}
 use Rattle.page_invariant.proofs.TouchCalls.{empty_first, cached_first, mapped_is, mapped_first}
 use Rattle.count_invariant.specs.act_states.specs.Touches.{touched}
@@ -66,9 +66,9 @@ touched_at m look (Some item) found = Answers (translated item) None Nothing
 touched_at m look None found =
     touch_end m (look_after look (shown_in m.frames found)) (look_end look found (shown_in m.frames found))
 
--- The root of its core's pages is near each call.
-pages_near : (s : State) (c : ℕ) (call : Call) → is_one_of (comp_of s c).pages (frames_near s c call) ≡ true
-pages_near s c call = one_left (comp_of s c).pages (frames_own s c) _
+-- The root of its core's pages is in the footprint of each call.
+pages_footprint : (s : State) (c : ℕ) (call : Call) → is_one_of (comp_of s c).pages (footprint_frames s c call) ≡ true
+pages_footprint s c call = one_left (comp_of s c).pages (frames_own s c) _
     (ap (λ b. ((s.core c).thread == (comp_of s c).pages) || (((s.core c).tcap == (comp_of s c).pages) || b))
     (one_right (comp_of s c).pages (thread_of s c).stack ((comp_of s c).table ∷ (comp_of s c).pages ∷ [])
     (ap (λ b. ((comp_of s c).table == (comp_of s c).pages) || (b || false)) (eq-eqb (comp_of s c).pages (comp_of s c).pages refl)
@@ -137,11 +137,11 @@ module _ (setup : Setting) (setting : IsSetting setup) (cores : ℕ → Core) (t
       ∙ ap (touch_by s c m.pages m.page) (sym knows.known ∙ is)
 
   -- an entry on its way is loaded
-  looks_at : (g i : ℕ) → is_one_of g (frames_near s c a.call) ≡ true → OnlyLooks setup t c a.call (LoadOf (EntryAt g i))
-  looks_at g i near = record { of_call = record { moves = refl; near = inl near }; kept = refl; apart = λ d. refl }
+  looks_at : (g i : ℕ) → is_one_of g (footprint_frames s c a.call) ≡ true → OnlyLooks setup t c a.call (LoadOf (EntryAt g i))
+  looks_at g i footprint = record { of_call = record { moves = refl; footprint = inl footprint }; kept = refl; apart = λ d. refl }
 
-  root_near : is_one_of m.pages (frames_near s c a.call) ≡ true
-  root_near = subst (λ (p : ℕ). is_one_of p (frames_near s c a.call) ≡ true) (sym knows.root) (pages_near s c a.call)
+  root_footprint : is_one_of m.pages (footprint_frames s c a.call) ≡ true
+  root_footprint = subst (λ (p : ℕ). is_one_of p (footprint_frames s c a.call) ≡ true) (sym knows.root) (pages_footprint s c a.call)
 
   -- what it knows while its core's own step goes on
   knows_on : (e : Step) → Carries setup t e c → (look : Look) → m.cached ≡ None → LooksUp setup (e ∷ t) c target look
@@ -169,7 +169,7 @@ module _ (setup : Setting) (setting : IsSetting setup) (cores : ℕ → Core) (t
     answered : (i : ℕ) → GoodTook setup cores t c (LoadOf (EntryAt m.pages i)) (landed a (Answers (translated item) None Nothing))
     answered i lands =
         decides_on setup setting cores t stands c here a active (LoadOf (EntryAt m.pages i)) (reply.Ok (translated item)) a.found
-        (looks_at m.pages i root_near) lands (still (Some None)) opens
+        (looks_at m.pages i root_footprint) lands (still (Some None)) opens
         (ap (λ j. counted (changed s j) c) answers_it) refl
         (λ x. ap (λ j. begins_in_of_callrelation j x) answers_it)
         (λ x. ap (λ y. ends y (reply.Ok (translated item)) x) knows.call_is)
@@ -186,19 +186,20 @@ module _ (setup : Setting) (setting : IsSetting setup) (cores : ℕ → Core) (t
     way_is : wide_ways s c (rule_of s c a.call) ≡ wide_way_to s target
     way_is = ap (wide_ways s c) (rule_is None none)
 
-    faults : (g i : ℕ) → is_one_of g (frames_near s c a.call) ≡ true → RuleMay s c (touch_by s c m.pages m.page None) reply.Fault
+    faults : (g i : ℕ) → is_one_of g (footprint_frames s c a.call) ≡ true → RuleMay s c (touch_by s c m.pages m.page None) reply.Fault
         → (NobodyWaits s → outcome s c (touch_by s c m.pages m.page None) ≡ Refused reply.Fault)
         → GoodTook setup cores t c (LoadOf (EntryAt g i)) (landed a (refuse refusal.Fault))
-    faults g i near may first =
-        refuses_fault setup setting cores t stands c here a active opens held_is room (LoadOf (EntryAt g i)) (looks_at g i near) has.acts
+    faults g i footprint may first =
+        refuses_fault setup setting cores t stands c here a active opens held_is room (LoadOf (EntryAt g i))
+        (looks_at g i footprint) has.acts
         (subst (λ rule. RuleMay s c rule reply.Fault) (sym (rule_is None none)) may)
         (λ nobody. ap (outcome s c) (rule_is None none) ∙ first nobody)
 
-    busy : (g i : ℕ) → is_one_of g (frames_near s c a.call) ≡ true → is_slot_in (wide_way_to s target) g i ≡ true
+    busy : (g i : ℕ) → is_one_of g (footprint_frames s c a.call) ≡ true → is_slot_in (wide_way_to s target) g i ≡ true
         → (d : ℕ) → marked_by setup t (EntryAt g i) ≡ Some d
         → GoodTook setup cores t c (LoadOf (EntryAt g i)) (landed a (refuse (refusal.Busy d)))
-    busy g i near way d mark =
-        refuses_busy setup setting cores t stands c here a active opens held_is room (LoadOf (EntryAt g i)) (looks_at g i near)
+    busy g i footprint way d mark =
+        refuses_busy setup setting cores t stands c here a active opens held_is room (LoadOf (EntryAt g i)) (looks_at g i footprint)
         (ap ticks_at stage_is) d (ap (λ xs. (holds_counts None xs).marks (EntryAt g i)) no_counts) mark
         (λ node. ap (λ xs. is_slot_in xs g i) way_is ∙ way)
 
@@ -232,7 +233,7 @@ module _ (setup : Setting) (setting : IsSetting setup) (cores : ℕ → Core) (t
       no_page : holds_link (place_at s (root_slot m.pages m.page)) ≡ false
           → (NobodyWaits s → linked (usable s c (root_slot m.pages m.page)) ≡ None)
           → GoodTook setup cores t c root_load (landed a (refuse refusal.Fault))
-      no_page free unlinked = faults m.pages top root_near (unlinked_may s c m.pages m.page small free)
+      no_page free unlinked = faults m.pages top root_footprint (unlinked_may s c m.pages m.page small free)
           (λ nobody. unreached_first s c m.pages m.page past (unreached (unlinked nobody)))
 
       abbrev waits_there : Bool
@@ -243,7 +244,8 @@ module _ (setup : Setting) (setting : IsSetting setup) (cores : ℕ → Core) (t
       to_leaf k shows is lands =
           let e : Step = step_to c None root_load (last_left setup t (EntryAt m.pages top)) None None in
           loads_on setup setting cores t stands c here a active root_load a.found
-          (Undecided (Act (touch_act (record m { look = AtLeaf k.frame m.page })))) (looks_at m.pages top root_near) lands (sym held_is)
+          (Undecided (Act (touch_act (record m { look = AtLeaf k.frame m.page })))) (looks_at m.pages top root_footprint) lands
+          (sym held_is)
           opens
           (λ carries. record {
             acts = has.acts;
@@ -286,7 +288,7 @@ module _ (setup : Setting) (setting : IsSetting setup) (cores : ℕ → Core) (t
           by_read : IsMarked setup t m.pages top ⊎ IsUnmarked setup t m.pages top
               → FromRoot (shown_in setup.frames (last_left setup t (EntryAt m.pages top)))
           by_read (inl marked) = subst FromRoot (sym (ap (entry_within setup.frames) marked.says))
-              (busy m.pages top root_near root_way marked.by marked.mark)
+              (busy m.pages top root_footprint root_way marked.by marked.mark)
           by_read (inr p) =
               let shown = shown_of setup.frames (s.place m.pages top) (stamp setup t (PlaceOf m.pages top))
               (last_left setup t (EntryAt m.pages top)) p.says in
@@ -316,14 +318,14 @@ module _ (setup : Setting) (setting : IsSetting setup) (cores : ℕ → Core) (t
       page_way = slot_right (root_passed target) (option_to_list (led_to s target)) leaf index
           (ap (λ o. is_slot_in (option_to_list o) leaf index) leads ∙ slot_one leaf index)
 
-      page_near : is_one_of leaf (frames_near s c a.call) ≡ true
-      page_near = near_way s c a.call leaf index (ap (λ xs. is_slot_in xs leaf index) way_is ∙ page_way)
+      page_footprint : is_one_of leaf (footprint_frames s c a.call) ≡ true
+      page_footprint = footprint_way s c a.call leaf index (ap (λ xs. is_slot_in xs leaf index) way_is ∙ page_way)
 
       relies_leaf : Relies s c leaf
       relies_leaf = relies_reached setup setting t stands.legal c a.call is_open (root_at m.pages) m.page slot reaches
 
       no_mapping : held_in (place_at s slot) ≡ None → GoodTook setup cores t c page_load (landed a (refuse refusal.Fault))
-      no_mapping free = faults leaf index page_near (empty_may s c m.pages m.page slot small reaches free)
+      no_mapping free = faults leaf index page_footprint (empty_may s c m.pages m.page slot small reaches free)
           (λ nobody. empty_first s c m.pages m.page slot past reaches free)
 
       -- The mapping is answered, and its translation cached.
@@ -347,7 +349,7 @@ module _ (setup : Setting) (setting : IsSetting setup) (cores : ℕ → Core) (t
         after = record { own = own'; active = Some (next_at a a.found (Decided r None Nothing)) }
 
         looks : OnlyLooks setup t c a.call page_load
-        looks = looks_at leaf index page_near
+        looks = looks_at leaf index page_footprint
 
         found_it : mapped s c m.pages m.page ≡ Found k
         found_it = mapped_is s c m.pages m.page slot k past reaches holds_it
@@ -468,7 +470,7 @@ module _ (setup : Setting) (setting : IsSetting setup) (cores : ℕ → Core) (t
             (λ d n other. refl)
             (plain_begins setup t e plain) (spares_kept setup t e refl) (inl (ap untypes knows.call_is)) rises works marks
             (load_words setup cores t e after same_holds frames looks.kept same_words stands.words)
-            (lent_none setup (e ∷ t) c after (counts_bare (Some None) a.counts)) (lent_kept cores e refl)
+            (exclusive_none setup (e ∷ t) c after (counts_bare (Some None) a.counts)) (exclusive_kept cores e refl)
             (sums_keep setup t e (held_by cores) (held_by (put cores c after))
             (λ g d. settled_on setup cores t e after same_holds frames (CountAt g d)
             (load_keeps setup cores t e after same_holds frames looks.kept (CountAt g d)))
@@ -513,7 +515,7 @@ module _ (setup : Setting) (setting : IsSetting setup) (cores : ℕ → Core) (t
           by_read : IsMarked setup t leaf index ⊎ IsUnmarked setup t leaf index
               → FromPage (shown_in setup.frames (last_left setup t (EntryAt leaf index)))
           by_read (inl marked) = subst FromPage (sym (ap (entry_within setup.frames) marked.says))
-              (busy leaf index page_near page_way marked.by marked.mark)
+              (busy leaf index page_footprint page_way marked.by marked.mark)
           by_read (inr p) =
               let shown = shown_of setup.frames (s.place leaf index) (stamp setup t (PlaceOf leaf index))
               (last_left setup t (EntryAt leaf index)) p.says in

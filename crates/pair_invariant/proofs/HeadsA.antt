@@ -5,7 +5,7 @@ use Rattle.count_invariant.proofs.Common.{head_of_word, quality_of_word, HeadWor
 use Rattle.count_invariant.proofs.Common.{holds_node, Step, Trace, state_after, last_left, own_read-here, head_end, head, Pair, PairAt}
 use Rattle.count_invariant.proofs.Common.{LoadA, MarkA, ListA, LoadB, Act, Goes, refuse, took_shared, took_share, Undecided, ActiveCall}
 use Rattle.count_invariant.proofs.Common.{landed, Core, holds_counts, KnowsUndecided, read_up, HasMarkedA, KnowsPairAt, Invariant}
-use Rattle.count_invariant.proofs.Common.{marked_on, holds_share, TcapOf, frames_near, is_one_of}
+use Rattle.count_invariant.proofs.Common.{marked_on, holds_share, TcapOf, footprint_frames, is_one_of}
 use Rattle.count_invariant.specs.tcap_words.specs.declared.quality_word.QualityWord.{QualityWord}
 use Rattle.count_invariant.specs.stage_tcap.specs.Charging.{end_by_mark}
 use Rattle.count_invariant.specs.stage_tcap.specs.Lists.{read_word}
@@ -37,9 +37,9 @@ module _ (setup : Setting) (setting : IsSetting setup) (cores : ℕ → Core) (t
   abbrev e : Step
   e = step_to c None (LoadOf at) was None None
 
-  near : is_one_of p.a
-      (frames_near (state_after setup t) c a.call) ≡ true
-  near = calls.near_a setup setting cores t stands c here a active now_p stage_is has
+  footprint : is_one_of p.a
+      (footprint_frames (state_after setup t) c a.call) ≡ true
+  footprint = calls.footprint_a setup setting cores t stands c here a active now_p stage_is has
 
   tcap : TcapOf ((state_after setup t).frame p.a)
   tcap = calls.tcap_a setup setting cores t stands c here a active now_p stage_is has
@@ -51,7 +51,7 @@ module _ (setup : Setting) (setting : IsSetting setup) (cores : ℕ → Core) (t
       → GoodTook setup cores t c (LoadOf at) (landed a (Goes (Act (share_act (record p { head_a = head budget version; at = MarkA })))))
   free_good budget version reads =
       let spells = spelling.spells was (head budget version) reads in
-      load_goes setup setting cores t stands c here a active now_p stage_is has p.a 0 near
+      load_goes setup setting cores t stands c here a active now_p stage_is has p.a 0 footprint
       (record p { head_a = head budget version; at = MarkA }) refl refl refl refl refl (
         record {
           own = own_read-here c e t refl at refl ∙ ap (λ b. if b then Some was else None) (eq-eqb was was refl)
@@ -69,7 +69,7 @@ module _ (setup : Setting) (setting : IsSetting setup) (cores : ℕ → Core) (t
       (calls.opens setup setting cores t stands c here a active now_p stage_is has)
       (calls.held_is setup setting cores t stands c here a active now_p stage_is has)
       (calls.room setup setting cores t stands c here a active now_p stage_is has) (LoadOf at)
-      (loading setup setting cores t stands c here a active now_p stage_is has p.a 0 near) (ap ticks_at stage_is) d
+      (loading setup setting cores t stands c here a active now_p stage_is has p.a 0 footprint) (ap ticks_at stage_is) d
       (ap (λ xs. (holds_counts None xs).marks at) (calls.no_counts setup setting cores t stands c here a active now_p stage_is has)) mark
       (λ node. absurd (false≢true (ap holds_node (sym tcap.is) ∙ node)))
 
@@ -140,7 +140,7 @@ module _ (setup : Setting) (setting : IsSetting setup) (cores : ℕ → Core) (t
       → GoodTook setup cores t c (LoadOf word_at) (landed a (Goes (Act (share_act (record p { list_a = next_list; at = to })))))
   goes to holds_same knows =
       load_goes setup setting cores t stands c here a active list_p stage_is has p.a (suc n)
-      (calls.near_a setup setting cores t stands c here a active list_p stage_is has) (record p { list_a = next_list; at = to })
+      (calls.footprint_a setup setting cores t stands c here a active list_p stage_is has) (record p { list_a = next_list; at = to })
       refl refl refl refl holds_same knows
 
   by_more : (more : Bool) → nat_lt (suc n) 8 ≡ more

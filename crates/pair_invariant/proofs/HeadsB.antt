@@ -122,7 +122,7 @@ module _ (setup : Setting) (setting : IsSetting setup) (cores : ℕ → Core) (t
   free_good budget version reads =
       let spells = spelling.spells was (head budget version) reads in
       load_goes setup setting cores t stands c here a active now_p stage_is has p.b 0
-      (calls.near_b setup setting cores t stands c here a active now_p stage_is has)
+      (calls.footprint_b setup setting cores t stands c here a active now_p stage_is has)
       (record p { head_b = head budget version; at = ListB 1 }) refl refl refl refl refl (
         marked_also setup (e ∷ t) now_p 8 (head budget version) p.list_b (ListB 1)
             (marked_on setup t e refl now_p 8 (λ i h. refl) has.knows.knows.at.0),
@@ -152,7 +152,7 @@ module _ (setup : Setting) (setting : IsSetting setup) (cores : ℕ → Core) (t
       let is = has.knows.knows.shares in
       load_decides setup setting cores t stands c here a active now_p stage_is has 8 has.knows.knows.at.0 held (LoadOf at)
       (loading setup setting cores t stands c here a active now_p stage_is has p.b 0
-      (calls.near_b setup setting cores t stands c here a active now_p stage_is has)) (reply.Busy d)
+      (calls.footprint_b setup setting cores t stands c here a active now_p stage_is has)) (reply.Busy d)
       (record p { head_b = noted p.head_b (head_of_word was); at = giving_back }) value.Nothing refl refl refl refl (sym held)
       (ap (λ x. counted x c) (owes_share s c a.call a.found now_p is)) refl (λ x. refl) (λ x. refl) refl (
         not_spent setup (cores c) t c (core_is setup setting cores t stands c here a active)
@@ -286,7 +286,7 @@ module _ (setup : Setting) (setting : IsSetting setup) (cores : ℕ → Core) (t
       → GoodTook setup cores t c (LoadOf word_at) (landed a (Goes (Act (share_act (record p { list_b = list; at = to })))))
   goes list to holds_same knows =
       load_goes setup setting cores t stands c here a active list_p stage_is has p.b (suc n)
-      (calls.near_b setup setting cores t stands c here a active list_p stage_is has) (record p { list_b = list; at = to })
+      (calls.footprint_b setup setting cores t stands c here a active list_p stage_is has) (record p { list_b = list; at = to })
       refl refl refl refl holds_same knows
 
   -- the pair with both lists read, before it is judged

@@ -6,14 +6,15 @@ use Rattle.count_invariant.proofs.Common.{calls_counted, put_same, IsAlone, IsFi
 use Rattle.count_invariant.proofs.Common.{Step, Trace, Open, phase, after_decide, state_after, last_left, state_decided_in}
 use Rattle.count_invariant.proofs.Common.{decided-inside, last_left-there, Tail, Decided, ActiveCall, Core, settled_by, settled, phase_at}
 use Rattle.count_invariant.proofs.Common.{KnowsTail, holds, held_by, Invariant, AsBefore, IsCalm, calm_counted, calm_words, counted_rises}
-use Rattle.count_invariant.proofs.Common.{none_stored, IsUntimed, plain_time, plain_exit, plain_begins, SparesLent, lent_open, sums_stay}
+use Rattle.count_invariant.proofs.Common.{none_stored, IsUntimed, plain_time, plain_exit}
+use Rattle.count_invariant.proofs.Common.{plain_begins, SparesExclusive, exclusive_open, sums_stay}
 use Rattle.count_invariant.proofs.Common.{marks_own}
 use Rattle.count_invariant.specs.kernel_history.specs.Stamps.{begins_in}
 use Rattle.count_invariant.specs.step_ways.proofs.Flushing.{open_flushed}
 use Rattle.count_invariant.specs.step_ways.proofs.Good.{IsGood, SparesBlanks}
-use Rattle.count_invariant.specs.kept_facts.proofs.Lent.{given_kept}
+use Rattle.count_invariant.specs.kept_facts.proofs.Exclusive.{given_kept}
 use Rattle.count_invariant.specs.step_ways.proofs.Loads.{Lands, IsOfCall, next_at, core_in_call, core_is, call_is, in_call, inner}
-use Rattle.count_invariant.specs.step_ways.proofs.Loads.{inner_within, inner_disciplined, inner_near, inner_works, inner_own}
+use Rattle.count_invariant.specs.step_ways.proofs.Loads.{inner_within, inner_disciplined, inner_footprint, inner_works, inner_own}
 use Rattle.count_invariant.specs.step_ways.proofs.Users.{spares_none}
 use Rattle.count_invariant.specs.kept_facts.proofs.WordFrames.{hold_marks, hold_words, settled_stays}
 
@@ -47,7 +48,7 @@ module _ (setup : Setting) (setting : IsSetting setup) (cores : ℕ → Core) (t
       → MayReply (state_after setup t) c a.call r → IsJustified setup t e a.call r
       → (IsAlone t e → r ≡ alone (state_after setup t) c a.call)
       → KnowsTail setup (e ∷ t) c a.call a.counts tail
-      → SparesBlanks setup t e → SparesLent cores e
+      → SparesBlanks setup t e → SparesExclusive cores e
       → IsGood setup cores t e after
   decides_marking no_flush_word not_clock of_call lands small elsewhere bares now unowned settles opens state one none_begins none_ends
       no_flush permitted justified first knows blanks spares =
@@ -79,14 +80,14 @@ module _ (setup : Setting) (setting : IsSetting setup) (cores : ℕ → Core) (t
         disciplined = inner_disciplined setup setting cores t stands c here a active move (Some r) None of_call
             (marks_own setup cores t e after (λ w there. (elsewhere w there).0) stands.marks marks)
             (λ b m other. absurd (unowned b other m));
-        near = inner_near setup setting cores t stands c here a active move (Some r) None of_call;
+        footprint = inner_footprint setup setting cores t stands c here a active move (Some r) None of_call;
         blanks = blanks;
         counted = spares_none setup t e (λ f. plain.ends (FrameOf f));
         marks = marks;
         words = hold_words setup cores t e after calm.frame elsewhere bares now unowned settles
             (λ v. calm_words setup t e calm plain v (λ g i h. ap (λ s. s.place g i) after_it)
             (λ d h. (decided-inside (Some r) (phase t c) (state_after setup t) c d, plain_exit t e refl d))) stands.words;
-        lent = lent_open setup cores t e after a a.call active opens
+        exclusive = exclusive_open setup cores t e after a a.call active opens
             (given_kept (holds (cores c)) (holds after) (word_of move) bares);
         spares = spares;
         sums = sums_stay setup t e (held_by cores) (held_by (put cores c after))

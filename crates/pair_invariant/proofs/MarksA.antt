@@ -10,7 +10,8 @@ use Rattle.count_invariant.proofs.Common.{was_stays, marked, amount_of, giving_b
 use Rattle.count_invariant.proofs.Common.{took_shared, took_share, Undecided, Decided, ActiveCall, landed, went, GoesOn, Core}
 use Rattle.count_invariant.proofs.Common.{holds_counts, settled_by, HeadIs, count_room, KnowsUndecided, list_changed, TurnsHead}
 use Rattle.count_invariant.proofs.Common.{SparesTcap, HasTcap, holds_in, holds, held_by, Invariant, as_none, counts_bare}
-use Rattle.count_invariant.proofs.Common.{names_on, counts_on, unlent_head_value, unlent_head_word, lent_free, TcapOf, settled, IsNearIn}
+use Rattle.count_invariant.proofs.Common.{names_on, counts_on, not_exclusive_head_value, not_exclusive_head_word}
+use Rattle.count_invariant.proofs.Common.{exclusive_free, TcapOf, settled, IsInFootprint}
 use Rattle.count_invariant.proofs.Common.{word_of, counted, first_of, are_many, are_unlike}
 use Rattle.quality_lists.specs.spk_nums.specs.declared.replies.Reply.TheVariants as reply
 use Rattle.kernel_laws.specs.kernel_rules.specs.Access.{found as named_by}
@@ -90,7 +91,7 @@ module _ (setup : Setting) (setting : IsSetting setup) (cores : ℕ → Core) (t
   of_call : IsOfCall setup t c a.call compare
   of_call = record {
     moves = ap (changes_in_frame a.call) tcap.is ∙ is.budgets;
-    near = inl (calls.near_a setup setting cores t stands c here a active mark_p stage_is has);
+    footprint = inl (calls.footprint_a setup setting cores t stands c here a active mark_p stage_is has);
   }
 
   lost_good : (was == old) ≡ false → GoodTook setup cores t c compare (landed a (refuse refusal.Raced))
@@ -260,10 +261,10 @@ module _ (setup : Setting) (setting : IsSetting setup) (cores : ℕ → Core) (t
         (record {
           budgets = is.budgets;
           core = core_is_c;
-          near = was_stays (IsNearIn c a.call at) setup t e c (λ own. refl)
-              (now_was (IsNearIn c a.call at) setup t c a.call
+          footprint = was_stays (IsInFootprint c a.call at) setup t e c (λ own. refl)
+              (now_was (IsInFootprint c a.call at) setup t c a.call
               (calls.is_open setup setting cores t stands c here a active mark_p stage_is has)
-              (calls.near_a setup setting cores t stands c here a active mark_p stage_is has));
+              (calls.footprint_a setup setting cores t stands c here a active mark_p stage_is has));
           tcap_a = subst (λ x. HasTcap x c p.a) (sym now) (counted_tcap s c p.a has.knows.knows.tcap_a);
           at = record {
             raw = last_left-here setup at e t refl ∙ leaves;
@@ -274,7 +275,7 @@ module _ (setup : Setting) (setting : IsSetting setup) (cores : ℕ → Core) (t
           };
         })
         (spares_one setup t e p.a 0 q refl tcap.is (turns e refl refl refl))
-        (lent_free cores e (unlent_head_word setup cores t stands p.a tcap.fields tcap.is))
+        (exclusive_free cores e (not_exclusive_head_word setup cores t stands p.a tcap.fields tcap.is))
       where
         settles : (after : Core) → (holds after).marks at ≡ true → (holds after).stands at ≡ old
             → settled_by (if (holds after).marks at then Some c else None) (held_by (put cores c after)) at (left_of compare was)
@@ -282,7 +283,7 @@ module _ (setup : Setting) (setting : IsSetting setup) (cores : ℕ → Core) (t
         settles after marks stands_for =
             ap (λ b. settled_by (if b then Some c else None) (held_by (put cores c after)) at (left_of compare was)) marks
             ∙ ap (λ k. (holds k).stands at) (put_same cores c after c refl)
-            ∙ stands_for ∙ sym same ∙ sym (unlent_head_value setup cores t stands p.a tcap.fields tcap.is was)
+            ∙ stands_for ∙ sym same ∙ sym (not_exclusive_head_value setup cores t stands p.a tcap.fields tcap.is was)
             ∙ sym (ap (λ o. settled_by o (held_by cores) at was) bare)
 
     -- it is no less: the head is marked
@@ -316,7 +317,7 @@ module _ (setup : Setting) (setting : IsSetting setup) (cores : ℕ → Core) (t
         (ap (λ b. settled_by (if b then Some c else None) (held_by (put cores c after)) at (left_of compare was)) marks_it
         ∙ ap (λ k. (holds k).stands at) (put_same cores c after c refl)
         ∙ ap (λ b. if b then old else (holds_counts None a.counts).stands at) (same_same at)
-        ∙ sym same ∙ sym (unlent_head_value setup cores t stands p.a tcap.fields tcap.is was)
+        ∙ sym same ∙ sym (not_exclusive_head_value setup cores t stands p.a tcap.fields tcap.is was)
         ∙ sym (ap (λ o. settled_by o (held_by cores) at was) bare))
         (calls.opens setup setting cores t stands c here a active mark_p stage_is has)
         (λ carries. record {
@@ -347,7 +348,7 @@ module _ (setup : Setting) (setting : IsSetting setup) (cores : ℕ → Core) (t
         (counts_on setup t e c a.call (λ own. refl) a.counts (call_is setup setting cores t stands c here a active).counts)
         (call_is setup setting cores t stands c here a active).apart
         (spares_one setup t e p.a 0 q refl tcap.is (turns e refl refl refl))
-        (lent_free cores e (unlent_head_word setup cores t stands p.a tcap.fields tcap.is))
+        (exclusive_free cores e (not_exclusive_head_word setup cores t stands p.a tcap.fields tcap.is))
 
   pub mark_a_good : GoodTook setup cores t c compare (landed a (took_share mark_p was))
   mark_a_good = by_same (was == old) refl

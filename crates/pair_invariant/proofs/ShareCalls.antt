@@ -3,7 +3,7 @@ use Rattle.count_invariant.proofs.Common.{◌≡◌, ◌≢◌, ℕ, ◌<◌, �
 use Rattle.count_invariant.proofs.Common.{ap, subst, eq-eqb, ne_eqb, Setting, IsSetting, Capability, Call, Kind, Reply, Thing, State}
 use Rattle.count_invariant.proofs.Common.{Named, found, named_by, Change, Cause, Does, RuleMay, answers, leaves, outcome, unless}
 use Rattle.count_invariant.proofs.Common.{first_cause, tcap_at, moved, is_short, are_unlike, are_many, rule_of, change_of, ends_by}
-use Rattle.count_invariant.proofs.Common.{flushes_by, changes_budgets, is_one_of, frames_near, Trace, Open, phase, state_after, First}
+use Rattle.count_invariant.proofs.Common.{flushes_by, changes_budgets, is_one_of, footprint_frames, Trace, Open, phase, state_after, First}
 use Rattle.count_invariant.proofs.Common.{Second, Plan, at_place, plan_for, GoesBy, own_pages, rule_after, Leads, LeadsIn, leads_by}
 use Rattle.count_invariant.proofs.Common.{outcome_left, left_may, calls_go, Acquired, Pair, PairWork, Act, Undecided, ActiveCall}
 use Rattle.count_invariant.proofs.Common.{StageFits, HasRoom, Core, holds_counts, due_of, KnowsUndecided, phase_at, HasFound, own_in}
@@ -14,7 +14,7 @@ use Rattle.kernel_laws.specs.kernel_rules.specs.TimeCalls.{with_qualities, merge
 use Rattle.kernel_laws.specs.kernel_rules.specs.TimeCalls.{preemption, preempts}
 use Rattle.count_invariant.specs.call_plans.specs.declared.plans.Nth.{Nth}
 use Rattle.count_invariant.proofs.Findings.{found_named}
-use Rattle.count_invariant.specs.plan_ways.proofs.Near.{near_found}
+use Rattle.count_invariant.specs.plan_ways.proofs.InFootprint.{footprint_found}
 use Rattle.count_invariant.specs.stage_tcap.specs.Pairs.{PairFits}
 use Rattle.count_invariant.specs.stage_tcap.specs.declared.pair.PairWork.TheVariants.{Transfer, Delegate, Test}
 use Rattle.count_invariant.specs.act_states.specs.declared.work.Act.TheVariants.{Share as share_act}
@@ -101,12 +101,12 @@ share_of s c (call_as.Test x y) (a ∷ b ∷ []) p is = record {
 }
 share_of s c call ks p is = absurd is
 
--- A frame to which a name has led is near the call.
-name_near : (s : State) (c : ℕ) (call : Call) (ks : List Capability) → Leads (LeadsIn s c) (plan_for call).names [] ks
+-- A frame to which a name has led is in the call's footprint.
+name_footprint : (s : State) (c : ℕ) (call : Call) (ks : List Capability) → Leads (LeadsIn s c) (plan_for call).names [] ks
     → (at : Nth) (k : Capability) → at_place ks at ≡ Some k → k.kind ≡ kind.Tcap → (f : ℕ) → f ≡ k.frame
-    → is_one_of f (frames_near s c call) ≡ true
-name_near s c call ks leads at k is kind_is f frame_is =
-    near_found s c call ks leads at k is f
+    → is_one_of f (footprint_frames s c call) ≡ true
+name_footprint s c call ks leads at k is kind_is f frame_is =
+    footprint_found s c call ks leads at k is f
     (ap (λ (j : Kind). is_one_of f (named_by j k.frame)) kind_is ∙ ap (λ b. b || false) (eq-eqb k.frame f (sym frame_is)))
 
 module _ (setup : Setting) (setting : IsSetting setup) (cores : ℕ → Core) (t : Trace) (stands : Invariant setup cores t) (c : ℕ)
@@ -168,12 +168,12 @@ module _ (setup : Setting) (setting : IsSetting setup) (cores : ℕ → Core) (t
   call_leads = subst (λ (q : Plan). Leads (LeadsIn s c) q.names [] a.found)
       (is_active setup setting cores t stands c here a active).plan leads
 
-  pub near_a : is_one_of p.a (frames_near s c a.call) ≡ true
-  near_a = name_near s c a.call a.found call_leads First is.a
+  pub footprint_a : is_one_of p.a (footprint_frames s c a.call) ≡ true
+  footprint_a = name_footprint s c a.call a.found call_leads First is.a
       (ap (λ xs. at_place xs First) is.found_is) is.shared.first_kind p.a is.shared.first
 
-  pub near_b : is_one_of p.b (frames_near s c a.call) ≡ true
-  near_b = name_near s c a.call a.found call_leads Second is.b
+  pub footprint_b : is_one_of p.b (footprint_frames s c a.call) ≡ true
+  footprint_b = name_footprint s c a.call a.found call_leads Second is.b
       (ap (λ xs. at_place xs Second) is.found_is) is.shared.second_kind p.b is.shared.second
 
   -- what is left of the rule

@@ -4,13 +4,14 @@ use Rattle.count_invariant.proofs.Common.{Some, None, IsTrue, map, slice_get, ar
 use Rattle.count_invariant.proofs.Common.{IsSetting, Capability, Call, Reply, Value, HeadFits, word_of_head, head_of_word}
 use Rattle.count_invariant.proofs.Common.{quality_of_word, HeadWord, spelling, Word, EntryAt, Move, LoadOf, word_of, left_of, same_same}
 use Rattle.count_invariant.proofs.Common.{Kernel, Tcap, TcapFields, PlaceOf, Thing, State, IsGuarded, state_by, begins, ends, flushes}
-use Rattle.count_invariant.proofs.Common.{counted, MayReply, calls_counted, alone, IsAlone, IsNearIn, is_one_of, frames_near, IsJustified}
+use Rattle.count_invariant.proofs.Common.{counted, MayReply, calls_counted, alone}
+use Rattle.count_invariant.proofs.Common.{IsAlone, IsInFootprint, is_one_of, footprint_frames, IsJustified}
 use Rattle.count_invariant.proofs.Common.{mark_of, mark_in_frame, head_mark, marked_by, stamp, Step, Trace, Open, phase, state_after}
 use Rattle.count_invariant.proofs.Common.{last_left, state_decided_in, WasAt, was_stays, marked, Pair, StoreA, PairWork, Acquired, Act}
 use Rattle.count_invariant.proofs.Common.{Goes, Undecided, Decided, ActiveCall, landed, Core, holds_counts, settled_by, settled, HeadIs}
 use Rattle.count_invariant.proofs.Common.{IsFrameWord, count_room, due_of, KnowsUndecided, phase_at, HasTcap, HasMarkedA, SharesBy}
 use Rattle.count_invariant.proofs.Common.{KnowsPairAt, KnowsShared, holds_share, holds_in, held_by, Invariant}
-use Rattle.count_invariant.proofs.Common.{names_on, counted_refs, unlent_head_value, marked_on, done_by, holds_head, holds_shared}
+use Rattle.count_invariant.proofs.Common.{names_on, counted_refs, not_exclusive_head_value, marked_on, done_by, holds_head, holds_shared}
 use Rattle.count_invariant.proofs.Common.{KnowsStoresAt, list_changed}
 use Rattle.quality_lists.specs.spk_nums.specs.declared.calls.Call.TheVariants as call_as
 use Rattle.count_invariant.specs.stage_tcap.specs.declared.pair.PairWork.TheVariants as share
@@ -18,7 +19,7 @@ use Rattle.count_invariant.specs.act_states.specs.declared.work.Act.TheVariants.
 use Rattle.count_invariant.specs.act_states.specs.declared.work.Tail.TheVariants.{Share as share_tail}
 use Rattle.count_invariant.specs.core_invariant.specs.Shares.{IsShared}
 use Rattle.count_invariant.specs.core_invariant.proofs.ActBares.{open_bare}
-use Rattle.count_invariant.specs.kept_facts.proofs.Lent.{unlent_list_value}
+use Rattle.count_invariant.specs.kept_facts.proofs.Exclusive.{not_exclusive_list_value}
 use Rattle.count_invariant.specs.step_ways.proofs.Loads.{OnlyLooks, Lands, step_to, next_at, core_in_call, inner, loads_on, decides_with}
 use Rattle.count_invariant.specs.step_ways.proofs.Refusals.{GoodTook}
 use Rattle.count_invariant.specs.step_ways.proofs.Writes.{room_left}
@@ -70,7 +71,7 @@ module _ (setup : Setting) (setting : IsSetting setup) (cores : ℕ → Core) (t
     pub head_says : marked_by setup t (EntryAt f 0) ≡ None → HeadIs q (count_room s) (head_of_word (last_left setup t (EntryAt f 0)))
     head_says bare =
         subst (λ (n : ℕ). HeadIs q (count_room s) (head_of_word n))
-        (unlent_head_value setup cores t stands f q is (last_left setup t (EntryAt f 0)))
+        (not_exclusive_head_value setup cores t stands f q is (last_left setup t (EntryAt f 0)))
         (subst (λ o. HeadIs q (count_room s)
         (head_of_word (settled_by o (held_by cores) (EntryAt f 0) (last_left setup t (EntryAt f 0))))) bare
         (subst (λ x. IsFrameWord s.limits.frames (count_room s) x (s.place f 0) (stamp setup t (PlaceOf f 0)) 0
@@ -96,7 +97,8 @@ module _ (setup : Setting) (setting : IsSetting setup) (cores : ℕ → Core) (t
         → quality_of_word (last_left setup t (EntryAt f (suc j))) ≡ Some (record { 0 = slice_get q.qualities j })
     list_says j low marker =
         subst (λ (n : ℕ). quality_of_word n ≡ Some (record { 0 = slice_get q.qualities j }))
-        (unlent_list_value setup cores t stands f q is (suc j) (last_left setup t (EntryAt f (suc j))) (λ d some mark. marker d mark))
+        (not_exclusive_list_value setup cores t stands f q is (suc j) (last_left setup t (EntryAt f (suc j)))
+        (λ d some mark. marker d mark))
         (subst (λ o. quality_of_word (settled_by o (held_by cores) (EntryAt f (suc j)) (last_left setup t (EntryAt f (suc j))))
         ≡ Some (record { 0 = slice_get q.qualities j })) (list_bare j (last_left setup t (EntryAt f (suc j))))
         (subst (λ x. IsFrameWord s.limits.frames (count_room s) x (s.place f (suc j)) (stamp setup t (PlaceOf f (suc j))) (suc j)
@@ -124,19 +126,19 @@ module _ (setup : Setting) (setting : IsSetting setup) (cores : ℕ → Core) (t
   open_now : phase t c ≡ Open a.call
   open_now = calls.is_open setup setting cores t stands c here a active p stage_is has
 
-  pub loading : (f i : ℕ) → is_one_of f (frames_near before c a.call) ≡ true → OnlyLooks setup t c a.call (LoadOf (EntryAt f i))
-  loading f i near = record { of_call = record { moves = refl; near = inl near }; kept = refl; apart = λ d. refl }
+  pub loading : (f i : ℕ) → is_one_of f (footprint_frames before c a.call) ≡ true → OnlyLooks setup t c a.call (LoadOf (EntryAt f i))
+  loading f i footprint = record { of_call = record { moves = refl; footprint = inl footprint }; kept = refl; apart = λ d. refl }
 
   -- it goes on by a load
-  pub load_goes : (f i : ℕ) → is_one_of f (frames_near before c a.call) ≡ true → (q : Pair) → q.a ≡ p.a → q.b ≡ p.b → q.what ≡ p.what
+  pub load_goes : (f i : ℕ) → is_one_of f (footprint_frames before c a.call) ≡ true → (q : Pair) → q.a ≡ p.a → q.b ≡ p.b → q.what ≡ p.what
       → q.core ≡ p.core
       → holds_share q q.at (holds_counts None a.counts) ≡ holds_share p p.at (holds_counts None a.counts)
       → KnowsPairAt setup (step_to c None (LoadOf (EntryAt f i)) (last_left setup t (EntryAt f i)) None None ∷ t) c q q.at
       → GoodTook setup cores t c (LoadOf (EntryAt f i)) (landed a (Goes (Act (share_act q))))
-  load_goes f i near q first second work core holds_same knows lands =
+  load_goes f i footprint q first second work core holds_same knows lands =
       let e : Step = step_to c None (LoadOf (EntryAt f i)) (last_left setup t (EntryAt f i)) None None in
       loads_on setup setting cores t stands c here a active (LoadOf (EntryAt f i)) a.found (Undecided (Act (share_act q)))
-      (loading f i near) lands
+      (loading f i footprint) lands
       (holds_same ∙ sym (calls.held_is setup setting cores t stands c here a active p stage_is has)) opens_at
       (λ carries. record {
         acts = has.acts;
@@ -214,10 +216,10 @@ module _ (setup : Setting) (setting : IsSetting setup) (cores : ℕ → Core) (t
         let on = marked_on setup t e found_is p n kept marked_a in record {
           budgets = (calls.is setup setting cores t stands c here a active p stage_is has).budgets;
           core = core ∙ has.knows.knows.core;
-          near = was_stays (IsNearIn c a.call (EntryAt q.a 0)) setup t e c (λ same. no_entry)
-              (now_was (IsNearIn c a.call (EntryAt q.a 0)) setup t c a.call open_now
-              (subst (λ (f : ℕ). IsTrue (is_one_of f (frames_near before c a.call))) (sym first)
-              (calls.near_a setup setting cores t stands c here a active p stage_is has)));
+          footprint = was_stays (IsInFootprint c a.call (EntryAt q.a 0)) setup t e c (λ same. no_entry)
+              (now_was (IsInFootprint c a.call (EntryAt q.a 0)) setup t c a.call open_now
+              (subst (λ (f : ℕ). IsTrue (is_one_of f (footprint_frames before c a.call))) (sym first)
+              (calls.footprint_a setup setting cores t stands c here a active p stage_is has)));
           tcap_a = subst (HasTcap (state_after setup (e ∷ t)) c) (sym first) tcap;
           at = subst (KnowsStoresAt setup (e ∷ t) c a.call q) (sym at_is) (record {
             raw = ap (λ (f : ℕ). last_left setup (e ∷ t) (EntryAt f 0)) first ∙ on.raw

@@ -1,6 +1,7 @@
 -- The entry of a removal is closed and given back: the compare that marks it is lost to another core or holds it for the call, and the
 -- store of a decided removal leaves the quiescing entry for which it stood.
-use Rattle.count_invariant.proofs.Common.{as_none, counts_bare, unlent_value, unlent_word, node_keeps_none, lent_free, ◌≡◌, ◌≢◌, inl, inr}
+use Rattle.count_invariant.proofs.Common.{as_none, counts_bare, not_exclusive_value, not_exclusive_word, node_keeps_none}
+use Rattle.count_invariant.proofs.Common.{exclusive_free, ◌≡◌, ◌≢◌, inl, inr}
 use Rattle.count_invariant.proofs.Common.{ℕ, ◌^◌, ◌<◌, ◌==◌, ◌∷◌, [], Bool, true, false, List, Option, Some, None, arith, refl, sym, ◌∙◌}
 use Rattle.count_invariant.proofs.Common.{ap, subst, IsTrue, if◌then◌else◌, eqb-true, eqb-false, eq-eqb, Capability, Setting, IsSetting}
 use Rattle.count_invariant.proofs.Common.{left_if, Reply, Entry, EntryFits, word_of_entry, entry_of_word, Word, EntryAt, ClockAt}
@@ -12,7 +13,7 @@ use Rattle.count_invariant.proofs.Common.{Undecided, Decided, ActiveCall, StageF
 use Rattle.count_invariant.proofs.Common.{Holding, holds_counts, settled_by, settled, PlaceIs, count_room, KnowsUndecided, phase_at}
 use Rattle.count_invariant.proofs.Common.{done_by, holds_at, holds_in, holds, held_by, times_of, Invariant, names_on, slot_relies}
 use Rattle.count_invariant.proofs.Common.{counts_on, WordIs}
-use Rattle.count_invariant.specs.kept_facts.proofs.Lent.{unlent_after}
+use Rattle.count_invariant.specs.kept_facts.proofs.Exclusive.{not_exclusive_after}
 use Rattle.count_invariant.specs.step_ways.proofs.Good.{spares_node}
 use Rattle.count_invariant.specs.entry_words.specs.declared.entry.Entry.TheVariants as entry
 use Rattle.count_invariant.specs.entry_words.proofs.Spelling.{spelling}
@@ -29,7 +30,7 @@ use Rattle.count_invariant.specs.step_ways.proofs.Places.{node_mark, node_says}
 use Rattle.count_invariant.specs.step_ways.proofs.Refusals.{GoodTook, ticks_at, refuses_raced}
 use Rattle.count_invariant.proofs.Acquiring.{removal_places, plan_leads, goes_by}
 use Rattle.place_invariant.proofs.Fills.{changes_node, target_way}
-use Rattle.count_invariant.proofs.Lookups.{near_way}
+use Rattle.count_invariant.proofs.Lookups.{footprint_way}
 
 -- The clock is no entry, and no count is one.
 not_clock : (f i : ℕ) → ClockAt ≢ EntryAt f i
@@ -120,8 +121,8 @@ module _ (setup : Setting) (setting : IsSetting setup) (cores : ℕ → Core) (t
     of_call : IsOfCall setup t c a.call compare
     of_call = record {
       moves = changes_node a.call (s.frame node) (removal_places a.call has.knows.knows.removal.removes) in_node;
-      near =
-          inl (near_way s c a.call node index on_way);
+      footprint =
+          inl (footprint_way s c a.call node index on_way);
     }
 
     lost : (was == word) ≡ false
@@ -191,7 +192,7 @@ module _ (setup : Setting) (setting : IsSetting setup) (cores : ℕ → Core) (t
           ∙ ap (λ k. (holds k).stands at) (put_same cores c after c refl)
           ∙ ap (λ b. if b then word_of_entry (entry.Held cap) else (holds_counts None a.counts).stands at) (same_same at)
           ∙ spells.1 ∙ sym same ∙ sym (ap (λ o. settled_by o (held_by cores) at was) unmarked
-          ∙ unlent_value setup cores t stands node (node_keeps_none (s.frame node) in_node) index was))
+          ∙ not_exclusive_value setup cores t stands node (node_keeps_none (s.frame node) in_node) index was))
           opens
           (λ carries. record {
             acts = has.acts;
@@ -206,7 +207,7 @@ module _ (setup : Setting) (setting : IsSetting setup) (cores : ℕ → Core) (t
           (counts_on setup t e c a.call (λ own. refl) a.counts (call_is setup setting cores t stands c here a active).counts)
           (call_is setup setting cores t stands c here a active).apart
           (spares_node setup t e node index refl in_node)
-          (lent_free cores e (unlent_word setup cores t stands node index (node_keeps_none (s.frame node) in_node)))
+          (exclusive_free cores e (not_exclusive_word setup cores t stands node index (node_keeps_none (s.frame node) in_node)))
 
     pub close_good : GoodTook setup cores t c compare (landed a
         (took_close cap (close_at (was == word) node index word by) (close_compared (was == word))))
@@ -260,7 +261,7 @@ module _ (setup : Setting) (setting : IsSetting setup) (cores : ℕ → Core) (t
         let e : Step = inner setup setting cores t stands c here a active store None None in
         let after : Core = core_in_call (cores c) (cores c).own.made next in
         counters.holds_on setup setting cores t stands c here a active store next (λ b. refl) (not_clock node index) refl
-        (record { moves = changes_node a.call (s.frame node) has.places has.relies.node; near = inr has.near }) lands says.small
+        (record { moves = changes_node a.call (s.frame node) has.places has.relies.node; footprint = inr has.footprint }) lands says.small
         (λ w there. (
           sym ((holds_is w).0 ∙ ap (λ b. if b then true else rest.marks w) (same_word-other w at there)),
           sym ((holds_is w).1 ∙ ap (λ b. if b then stored else rest.stands w) (same_word-other w at there)),
@@ -273,11 +274,11 @@ module _ (setup : Setting) (setting : IsSetting setup) (cores : ℕ → Core) (t
         (λ b other is. other (sym (some_inj c b (sym own_mark ∙ is))))
         (ap (λ b. settled_by (if b then Some c else None) (held_by (put cores c after)) at stored)
         (no_entry (done_by r drawn) a.counts node index)
-        ∙ unlent_after setup cores t stands c after node index (node_keeps_none (s.frame node) has.relies.node)
+        ∙ not_exclusive_after setup cores t stands c after node index (node_keeps_none (s.frame node) has.relies.node)
         (counts_bare (done_by r drawn) a.counts node index) stored ∙ sym settles)
         (ap (phase_at a.call) stage_is)
         (λ carries. tt)
         (counts_on setup t e c a.call (λ own. refl) a.counts (call_is setup setting cores t stands c here a active).counts)
         (call_is setup setting cores t stands c here a active).apart
         (spares_node setup t e node index refl has.relies.node)
-        (lent_free cores e (unlent_word setup cores t stands node index (node_keeps_none (s.frame node) has.relies.node)))
+        (exclusive_free cores e (not_exclusive_word setup cores t stands node index (node_keeps_none (s.frame node) has.relies.node)))

@@ -1,5 +1,6 @@
 -- The filling compare of a copy is good: it is lost to another core, or the place is free and takes the capability.
-use Rattle.count_invariant.proofs.Common.{Want, unlent_word, node_keeps_none, ◌≡◌, ◌≢◌, ◌⊎◌, inl, inr, not, ℕ, pos, length, ◌≤◌, ◌+◌, ◌^◌}
+use Rattle.count_invariant.proofs.Common.{Want, not_exclusive_word, node_keeps_none, ◌≡◌, ◌≢◌, ◌⊎◌, inl}
+use Rattle.count_invariant.proofs.Common.{inr, not, ℕ, pos, length, ◌≤◌, ◌+◌, ◌^◌}
 use Rattle.count_invariant.proofs.Common.{◌/◌}
 use Rattle.count_invariant.proofs.Common.{◌%◌, ◌<◌, ◌==◌, ◌&&◌, nat_le, if◌then◌else◌, ◌∷◌, [], Bool, true, false, List, Option, Some}
 use Rattle.count_invariant.proofs.Common.{None, arith, refl, sym, ◌∙◌, ap, subst, IsTrue, ◌+ℤ◌, max, option_to_list, eqb-true, eqb-false}
@@ -56,7 +57,7 @@ use Rattle.count_invariant.specs.core_invariant.specs.Knows.{IsRead, HasUser}
 use Rattle.count_invariant.specs.step_ways.proofs.Loads.{IsOfCall, next_at, core_in_call, inner, call_is, is_active}
 use Rattle.count_invariant.specs.step_ways.proofs.Places.{IsMarked, IsUnmarked, node_mark, place_reads}
 use Rattle.count_invariant.specs.step_ways.proofs.Refusals.{GoodTook, ticks_at, not_spent, refuses_raced}
-use Rattle.count_invariant.proofs.Lookups.{slot_right, slot_one, near_way}
+use Rattle.count_invariant.proofs.Lookups.{slot_right, slot_one, footprint_way}
 use Rattle.count_invariant.proofs.Findings.{own_is, found_named, way_gone}
 use Rattle.count_invariant.proofs.Next.{Rest, ANameLeft, NoneLeft, rest_of, next_name}
 
@@ -194,7 +195,11 @@ module _ (setup : Setting) (setting : IsSetting setup) (cores : ℕ → Core) (t
       (target_way s c has.knows.knows.target slot has.knows.knows.way.reached)
 
   of_call : IsOfCall setup t c a.call compare
-  of_call = record { moves = changes_node a.call (s.frame node) puts.places in_node; near = inl (near_way s c a.call node index on_way) }
+  of_call = record {
+    moves = changes_node a.call (s.frame node) puts.places in_node;
+    footprint = inl
+        (footprint_way s c a.call node index on_way);
+  }
 
   -- lost
   lost : (was == word) ≡ false → GoodTook setup cores t c compare (landed a (filled_if false))
@@ -390,7 +395,7 @@ module _ (setup : Setting) (setting : IsSetting setup) (cores : ℕ → Core) (t
         ((cores c).own.made + calls_counted (reply.Ok Nothing)) (reply.Ok Nothing) a.found (Decided (reply.Ok Nothing) None no_tail)
         refl unmarked.mark bare_now
         (subst (λ (n : ℕ). n < 2 ^ 64) (sym leaves) (spelling.small (Held k) fits))
-        of_call lands opens refl refl (unlent_word setup cores t stands node index (node_keeps_none (s.frame node) in_node))
+        of_call lands opens refl refl (not_exclusive_word setup cores t stands node index (node_keeps_none (s.frame node) in_node))
         calm plain (spares_node setup t e node index refl in_node) counts elsewhere
         (subst (WordIs (state_after setup (e ∷ t)) (times_of setup (e ∷ t)) (EntryAt node index)) (sym leaves) word_now)
         held_is (λ w own. counts_commit setup setting cores t stands c here a active (pos 1) one_small None none_small

@@ -6,7 +6,8 @@ use Rattle.count_invariant.proofs.Common.{false≢true, Capability, Setting, IsS
 use Rattle.count_invariant.proofs.Common.{frame_of_word, FrameWord, EntryAt, FrameAt, CountAt, Move, LoadOf}
 use Rattle.count_invariant.proofs.Common.{Frame, Untyped, User, Kernel, State, Target, Under, found, has_frame, outside}
 use Rattle.count_invariant.proofs.Common.{is_frame, Change, RuleMay, Refused, Vacant, Does, and_then, unless, first_of, first_cause}
-use Rattle.count_invariant.proofs.Common.{outcome, rule_of, change_of, are_calls_spent, IsAlone, looks_at_frames, is_one_of, frames_near}
+use Rattle.count_invariant.proofs.Common.{outcome, rule_of, change_of, are_calls_spent}
+use Rattle.count_invariant.proofs.Common.{IsAlone, looks_at_frames, is_one_of, footprint_frames}
 use Rattle.count_invariant.proofs.Common.{frame_argument, marked_by, count_mark, frame_mark, frame_value, Step, Trace, Open, phase}
 use Rattle.count_invariant.proofs.Common.{state_after, last_left, refused_first, own_read-there, last_left-there, Plan, plan_for, GoesBy}
 use Rattle.count_invariant.proofs.Common.{own_pages, Leads, LeadsIn, NextFree, rule_after, next_of, left_may, outcome_left, Second}
@@ -29,7 +30,7 @@ use Rattle.count_invariant.specs.step_ways.proofs.Counting.{first_marked}
 use Rattle.count_invariant.specs.step_ways.proofs.Loads.{OnlyLooks, step_to, core_is, call_is, is_active, loads_on, decides_on}
 use Rattle.count_invariant.specs.step_ways.proofs.Refusals.{GoodTook, ticks_at, not_spent, refuses_busy}
 use Rattle.count_invariant.proofs.Acquiring.{plan_leads, goes_by}
-use Rattle.count_invariant.proofs.MakingCounts.{argument_near}
+use Rattle.count_invariant.proofs.MakingCounts.{argument_footprint}
 use Rattle.place_invariant.proofs.Outside.{vacant_slot, vacant_node, stands_alone}
 
 -- A frame that its word does not call a user frame is none.
@@ -179,13 +180,13 @@ module _ (setup : Setting) (setting : IsSetting setup) (cores : ℕ → Core) (t
       (ap (λ x. next_of (plan_for x) a.found) (sym is.call_is) ∙ ap (λ p. next_of p a.found) (sym plan_is) ∙ knows.spot.next)
       (subst (λ x. put_by x a.found None ≡ Some fill.cap) is.call_is knows.puts)))
 
-  near : is_one_of f (frames_near s c a.call) ≡ true
-  near = argument_near s c a.call f (subst (λ x. is_one_of f (frame_argument x) ≡ true) (sym is.call_is)
+  footprint : is_one_of f (footprint_frames s c a.call) ≡ true
+  footprint = argument_footprint s c a.call f (subst (λ x. is_one_of f (frame_argument x) ≡ true) (sym is.call_is)
       (ap (λ (n : ℕ). is_one_of f (n ∷ [])) frame_is ∙ ap (λ b. b || false) (eq-eqb f f refl)))
 
   looks : OnlyLooks setup t c a.call load
   looks = record {
-    of_call = record { moves = subst (λ x. IsTrue (looks_at_frames x)) (sym is.call_is) refl; near = inl near };
+    of_call = record { moves = subst (λ x. IsTrue (looks_at_frames x)) (sym is.call_is) refl; footprint = inl footprint };
     kept = refl;
     apart = λ d. refl;
   }

@@ -11,7 +11,7 @@ use Rattle.count_invariant.proofs.Common.{own, place_at, held_in, reached, Found
 use Rattle.count_invariant.proofs.Common.{frames_of, named_by, times, refs, MayReply, rule_of, ends_by, flushes_by, changed, change_of}
 use Rattle.count_invariant.proofs.Common.{counted, begins_in, same_thing, new_grace, calls_counted, is_node, IsGuarded, Relies, put_same}
 use Rattle.count_invariant.proofs.Common.{slot_is, place_here, place_there, Step, Trace, Out, Open, WasAt, phase, state_after}
-use Rattle.count_invariant.proofs.Common.{state_decided_in, last_left, way_to, ways, wide_ways, IsNearIn, is_slot_in, HasReached}
+use Rattle.count_invariant.proofs.Common.{state_decided_in, last_left, way_to, ways, wide_ways, IsInFootprint, is_slot_in, HasReached}
 use Rattle.count_invariant.proofs.Common.{marked_by, ends_in, flushes_in, begins_at, ends_at, flushes_at, stamp, clock, flush_stored}
 use Rattle.count_invariant.proofs.Common.{is_in, ok_first, was_now, was_stays, decided-inside, cases_word, same_word-other, stamp-begins}
 use Rattle.count_invariant.proofs.Common.{stamp-kept, flush_stored-own, flush_stored-other, Close, AtCompare, AtDraw, AtStore}
@@ -54,7 +54,7 @@ use Rattle.place_invariant.proofs.Closings.{close_good, store_at}
 use Rattle.count_invariant.proofs.CapChanges.{counts_commit, counts_sum}
 use Rattle.place_invariant.proofs.Fills.{node_word, target_way}
 use Rattle.count_invariant.proofs.Findings.{own_is, found_named, way_gone}
-use Rattle.count_invariant.proofs.Lookups.{near_way}
+use Rattle.count_invariant.proofs.Lookups.{footprint_way}
 use Rattle.count_invariant.proofs.Next.{Rest, ANameLeft, NoneLeft, rest_of, next_name}
 
 -- What a call takes away at its target: what is left of its rule after its names removes what the target holds.
@@ -505,8 +505,8 @@ module _ (setup : Setting) (setting : IsSetting setup) (cores : ℕ → Core) (t
         (λ is_alone. ok_first s c a.call value.Nothing permitted)
         (record {
           relies = record { node = subst (λ y. IsTrue (is_node y)) (sym (calm.frame node)) relies.node; guarded = guarded };
-          near = was_stays (IsNearIn c a.call at) setup t e c (λ own. refl)
-              (was_here (IsNearIn c a.call at) setup t c a.call is_open (near_way s c a.call node index on_way));
+          footprint = was_stays (IsInFootprint c a.call at) setup t e c (λ own. refl)
+              (was_here (IsInFootprint c a.call at) setup t c a.call is_open (footprint_way s c a.call node index on_way));
           places = removal_places a.call has.knows.knows.removes;
         })
 

@@ -1,2 +1,2 @@
 pub mod Ways
-pub mod Near
+pub mod InFootprint

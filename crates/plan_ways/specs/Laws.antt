@@ -11,7 +11,7 @@ use Rattle.kernel_rules.specs.References.{named_by}
 use Rattle.kernel_history.specs.Trace.{Trace}
 use Rattle.kernel_history.specs.Ways.{way_to, ways, wide_way_to, wide_ways, target_of, asked_of}
 use Rattle.kernel_history.specs.Justified.{is_slot_in, HasReached}
-use Rattle.kernel_history.specs.Footprint.{frames_named, is_one_of, IsNearIn}
+use Rattle.kernel_history.specs.Footprint.{frames_named, is_one_of, IsInFootprint}
 use Rattle.call_plans.specs.declared.plans.Nth.{Nth}
 use Rattle.call_plans.specs.declared.plans.Plan.{Plan}
 use Rattle.call_plans.specs.Plans.{at_place}
@@ -74,21 +74,21 @@ FoundAreNamed = AfterNames λ s c pages plan rule ks.
     → is_one_of f (named_by k.kind k.frame) ≡ true
     → is_one_of f (frames_named s c rule) ≡ true
 
--- The word of a frame and each of its count words are near a call of core c.
-pub record FrameIsNear (s : State) (c : ℕ) (call : Call) (f : ℕ) : Type 0 where
-  pub frame : IsNearIn c call (FrameAt f) s
-  pub count : (d : ℕ) → IsNearIn c call (CountAt f d) s
+-- The word of a frame and each of its count words are in the footprint of a call of core c.
+pub record FrameIsInFootprint (s : State) (c : ℕ) (call : Call) (f : ℕ) : Type 0 where
+  pub frame : IsInFootprint c call (FrameAt f) s
+  pub count : (d : ℕ) → IsInFootprint c call (CountAt f d) s
 
--- A frame that is named by a capability to which a name of a call has led is near the call.
-abbrev pub FoundAreNear : Type 0
-FoundAreNear =
+-- A frame that is named by a capability to which a name of a call has led is in the call's footprint.
+abbrev pub FoundAreInFootprint : Type 0
+FoundAreInFootprint =
     (s : State) (c : ℕ) (call : Call) (ks : List Capability)
     → Leads (LeadsIn s c) (plan_for call).names [] ks
     → (at : Nth) (k : Capability)
     → at_place ks at ≡ Some k
     → (f : ℕ)
     → is_one_of f (named_by k.kind k.frame) ≡ true
-    → FrameIsNear s c call f
+    → FrameIsInFootprint s c call f
 
 -- A call that has gone the way to each of these names, and all ways of what is left, has gone all ways of the rule.
 abbrev pub AllWays : Type 0

@@ -3,7 +3,7 @@
 //! See docs/MODEL.md, 'Ways', and docs/PROOF.md, 'The invariant of the step machine'.
 #![tactic(auto)]
 
-ghost use Rattle.plan_ways.specs.Laws.{NextOnWay, TargetIsNext, AskedIsLeft, NextIsFirst, AllWays, FoundAreNamed, FoundAreNear};
+ghost use Rattle.plan_ways.specs.Laws.{NextOnWay, TargetIsNext, AskedIsLeft, NextIsFirst, AllWays, FoundAreNamed, FoundAreInFootprint};
 
 /// The way of the next look-up is on the wide ways of the rule.
 #[tactic(auto, using(crate::proofs::Ways::next_on_way))]
@@ -36,13 +36,13 @@ pub fn all_ways()
 {}
 
 /// A frame to which a name has led is one of those to which the names of the rule lead.
-#[tactic(auto, using(crate::proofs::Near::named_near))]
+#[tactic(auto, using(crate::proofs::InFootprint::named_footprint))]
 pub fn found_are_named()
     ensures { FoundAreNamed }
 {}
 
-/// A frame to which a name of a call has led is near the call: its word and its counts.
-#[tactic(auto, using(crate::proofs::Near::found_near))]
-pub fn found_are_near()
-    ensures { FoundAreNear }
+/// A frame to which a name of a call has led is in the call's footprint: its word and its counts.
+#[tactic(auto, using(crate::proofs::InFootprint::found_footprint))]
+pub fn found_are_footprint()
+    ensures { FoundAreInFootprint }
 {}

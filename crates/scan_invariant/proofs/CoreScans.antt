@@ -109,7 +109,7 @@ module _ (setup : Setting) (setting : IsSetting setup) (cores : ℕ → Core) (t
   unpaged is = unpaged_flushed setup setting t stands.legal stands.graces node index x in_node (paging ∙ is) drawn
 
   looks : OnlyLooks setup t c a.call (LoadOf (CoreAt at))
-  looks = record { of_call = record { moves = refl; near = inl tt }; kept = refl; apart = λ d. refl }
+  looks = record { of_call = record { moves = refl; footprint = inl tt }; kept = refl; apart = λ d. refl }
 
   -- The core may still use what was removed.
   module _ (inside : (s.core at).inside ≡ true) (early : exit_of t at ≤ x) where

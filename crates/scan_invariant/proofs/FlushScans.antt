@@ -184,7 +184,7 @@ module _ (setup : Setting) (setting : IsSetting setup) (cores : ℕ → Core) (t
 
   looks : OnlyLooks setup t c a.call load
   looks = record {
-    of_call = record { moves = refl; near = inl tt };
+    of_call = record { moves = refl; footprint = inl tt };
     kept = refl;
     apart = λ d. stored_own (same_word (FlushAt d) (FlushAt at)) (d == c) d refl;
   }

@@ -78,7 +78,7 @@ module _ (setup : Setting) (setting : IsSetting setup) (cores : ℕ → Core) (t
 
   load : OnlyLooks setup t c a.call (LoadOf at)
   load = loading setup setting cores t stands c here a active now_p stage_is has p.b 0
-      (calls.near_b setup setting cores t stands c here a active now_p stage_is has)
+      (calls.footprint_b setup setting cores t stands c here a active now_p stage_is has)
 
   abbrev Decides : Value → Reply → Type 0
   Decides v reply_is =

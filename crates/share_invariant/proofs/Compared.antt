@@ -70,7 +70,7 @@ module _ (setup : Setting) (setting : IsSetting setup) (cores : ℕ → Core) (t
   pub of_call : IsOfCall setup t c a.call compare
   of_call = record {
     moves = ap (changes_in_frame a.call) tcap_b.is ∙ (calls.is setup setting cores t stands c here a active now_p stage_is has).budgets;
-    near = inl (calls.near_b setup setting cores t stands c here a active now_p stage_is has);
+    footprint = inl (calls.footprint_b setup setting cores t stands c here a active now_p stage_is has);
   }
 
   abbrev raced_e : Step

@@ -10,7 +10,7 @@ use Rattle.pair_invariant.proofs.Common.{debited, credited, in_order, same_list,
 use Rattle.pair_invariant.proofs.Common.{took_shared, took_share, Stage, Undecided, Decided, ActiveCall, landed, Core, holds_counts}
 use Rattle.pair_invariant.proofs.Common.{KnowsUndecided, list_changed, TurnsHead, SparesTcap, HasTcap, HasBoth, holds_at, holds_in}
 use Rattle.pair_invariant.proofs.Common.{holds_head, holds, held_by, times_of, Invariant, IsFrameWord, WordIs, count_room, counts_bare}
-use Rattle.pair_invariant.proofs.Common.{IsUntimed, plain_begins, unlent_head_word, sums_keep, TcapOf, ReadsAlike, StaysSaid}
+use Rattle.pair_invariant.proofs.Common.{IsUntimed, plain_begins, not_exclusive_head_word, sums_keep, TcapOf, ReadsAlike, StaysSaid}
 use Rattle.pair_invariant.proofs.Common.{others_settled, phase_at}
 use Rattle.pair_invariant.specs.spk_nums.specs.declared.replies.Reply.TheVariants as reply
 use Rattle.pair_invariant.specs.spk_nums.specs.declared.replies.Value.TheVariants as value
@@ -305,7 +305,7 @@ module _ (setup : Setting) (setting : IsSetting setup) (cores : ℕ → Core) (t
         (compared.of_call setup setting cores t stands c here a active what_p stage_is has) lands opens refl
         (λ w. ap (λ b. if same_word w at_a then true else b) (same_marks (Some None) None a.counts w) ∙ sym (ap (λ h. h.marks w) held))
         (λ g i. counts_bare (Some None) a.counts g i ∙ sym (ap (λ h. h.bare g i) held ∙ counts_bare None a.counts g i))
-        (unlent_head_word setup cores t stands p.b qb tcap_b.is) alike_now (plain_begins setup t e plain)
+        (not_exclusive_head_word setup cores t stands p.b qb tcap_b.is) alike_now (plain_begins setup t e plain)
         (spares_one setup t e p.b 0 qb refl tcap_b.is turns) (inr (spares_none setup t e (λ f. plain.ends (FrameOf f))))
         (moves.rises setup setting cores t stands c here a active compare p.a p.b qa qb qa_less qb_more is_moved)
         (moves.works setup setting cores t stands c here a active compare p.a p.b qa qb qa_less qb_more is_moved) stays

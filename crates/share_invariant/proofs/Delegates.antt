@@ -6,15 +6,16 @@ use Rattle.pair_invariant.proofs.Common.{sym, ◌∙◌, ap, subst, eq-eqb, eqb-
 use Rattle.pair_invariant.proofs.Common.{word_of_head, head_of_word, quality_of_word, HeadWord, spelling, Word, EntryAt, CountAt}
 use Rattle.pair_invariant.proofs.Common.{same_word, Move, CompareOf, left_of, same_same, Kernel, Tcap, TcapFields, PlaceOf, FrameOf}
 use Rattle.pair_invariant.proofs.Common.{State, put, tcap_in, Found, IsFoundAnd, unless, first_of, first_cause, leaves, tcap_at, moved}
-use Rattle.pair_invariant.proofs.Common.{is_short, are_many, change_of, changed, counted, MayReply, IsNearIn, mark_of, head_mark}
+use Rattle.pair_invariant.proofs.Common.{is_short, are_many, change_of, changed, counted, MayReply, IsInFootprint, mark_of, head_mark}
 use Rattle.pair_invariant.proofs.Common.{marked_by, ends_in, flushes_in, stamp, Step, Trace, Open, phase, state_after, last_left}
 use Rattle.pair_invariant.proofs.Common.{state_decided_in, WasAt, ok_first, was_stays, cases_word, same_word-other, last_left-here}
 use Rattle.pair_invariant.proofs.Common.{last_left-there, marked, debited, credited, in_order, again_end, by_room, Pair, CompareB, AgainB}
 use Rattle.pair_invariant.proofs.Common.{StoreList, Act, took_shared, took_share, Stage, Undecided, Decided, ActiveCall, landed, Core}
 use Rattle.pair_invariant.proofs.Common.{holds_counts, settled, MarkIs, KnowsUndecided, list_changed, TurnsHead, SparesTcap, HasTcap}
-use Rattle.pair_invariant.proofs.Common.{HasBoth, StoresA, KnowsShared, holds_in, holds_head, holds, held_by, times_of, IsLent, Invariant}
-use Rattle.pair_invariant.proofs.Common.{IsFrameWord, WordIs, count_room, counts_bare, IsUntimed, plain_begins, lent_free}
-use Rattle.pair_invariant.proofs.Common.{unlent_head_word, marked_on, sums_keep, TcapOf, ReadsAlike, StaysSaid, marks_own, put_same}
+use Rattle.pair_invariant.proofs.Common.{HasBoth, StoresA, KnowsShared, holds_in, holds_head}
+use Rattle.pair_invariant.proofs.Common.{holds, held_by, times_of, IsExclusive, Invariant}
+use Rattle.pair_invariant.proofs.Common.{IsFrameWord, WordIs, count_room, counts_bare, IsUntimed, plain_begins, exclusive_free}
+use Rattle.pair_invariant.proofs.Common.{not_exclusive_head_word, marked_on, sums_keep, TcapOf, ReadsAlike, StaysSaid, marks_own, put_same}
 use Rattle.std.proofs.lemmas.Bool.{and_parts, and_from}
 use Rattle.pair_invariant.specs.spk_nums.specs.Merging.{merged}
 use Rattle.pair_invariant.specs.spk_nums.specs.Qualities.{IsQualityList}
@@ -33,7 +34,7 @@ use Rattle.pair_invariant.specs.stage_tcap.proofs.ListLemmas.{got_pair, pair_in_
 use Rattle.pair_invariant.specs.stage_tcap.specs.declared.pair.PairWork.TheVariants.{Delegate}
 use Rattle.pair_invariant.specs.act_states.specs.declared.work.Act.TheVariants.{Share as share_act}
 use Rattle.pair_invariant.specs.act_states.specs.declared.work.Tail.TheVariants.{Share as share_tail}
-use Rattle.pair_invariant.specs.kept_facts.proofs.Lent.{unlent_list}
+use Rattle.pair_invariant.specs.kept_facts.proofs.Exclusive.{not_exclusive_list}
 use Rattle.pair_invariant.specs.step_ways.proofs.Loads.{next_at, core_in_call, core_is, inner}
 use Rattle.pair_invariant.specs.step_ways.proofs.OwnChanges.{decides_changing}
 use Rattle.pair_invariant.specs.step_ways.proofs.Refusals.{GoodTook, not_spent}
@@ -322,7 +323,7 @@ module _ (setup : Setting) (setting : IsSetting setup) (cores : ℕ → Core) (t
 
     -- no core keeps a word of this list
     unkept : (i d : ℕ) → (held_by cores d).bare p.b i ≡ None
-    unkept i = unlent_list setup cores t stands p.b qb tcap_b.is i (λ d some mark. absurd (none_some d (sym bare ∙ mark)))
+    unkept i = not_exclusive_list setup cores t stands p.b qb tcap_b.is i (λ d some mark. absurd (none_some d (sym bare ∙ mark)))
 
     taken : (g i v : ℕ) → (holds after).bare g i ≡ Some v → IsTaken setup cores t at g i
     taken g i v kept = at_place i (listed_at g i v kept)
@@ -433,9 +434,9 @@ module _ (setup : Setting) (setting : IsSetting setup) (cores : ℕ → Core) (t
     tcap_left : (f : ℕ) (q : TcapFields) → s'.frame f ≡ Kernel (Tcap q) → HasTcap s c f → HasTcap s' c f
     tcap_left = moves.tcap_left setup setting cores t stands c here a active compare p.a p.b qa qb qa_less qb_more is_moved
 
-    near : (f : ℕ) → IsNearIn c a.call (EntryAt f 0) s → WasAt (IsNearIn c a.call (EntryAt f 0)) setup (e ∷ t) c
-    near f now_near = was_stays (IsNearIn c a.call (EntryAt f 0)) setup t e c (λ same. refl)
-        (now_was (IsNearIn c a.call (EntryAt f 0)) setup t c a.call is_open now_near)
+    footprint : (f : ℕ) → IsInFootprint c a.call (EntryAt f 0) s → WasAt (IsInFootprint c a.call (EntryAt f 0)) setup (e ∷ t) c
+    footprint f now_footprint = was_stays (IsInFootprint c a.call (EntryAt f 0)) setup t e c (λ same. refl)
+        (now_was (IsInFootprint c a.call (EntryAt f 0)) setup t c a.call is_open now_footprint)
 
     left_a : StoresA setup (e ∷ t) left_p
     left_a =
@@ -457,7 +458,7 @@ module _ (setup : Setting) (setting : IsSetting setup) (cores : ℕ → Core) (t
     left_known = record {
       budgets = is.budgets;
       core = has.knows.knows.core;
-      near = near p.a (calls.near_a setup setting cores t stands c here a active now_p stage_is has);
+      footprint = footprint p.a (calls.footprint_a setup setting cores t stands c here a active now_p stage_is has);
       tcap_a = tcap_left p.a qa_less frame_a has.knows.knows.tcap_a;
       at = (
         omega arith,
@@ -468,7 +469,7 @@ module _ (setup : Setting) (setting : IsSetting setup) (cores : ℕ → Core) (t
           fits = both.b.head.fits;
           bare = both.b.head.bare;
           few = compared.few_b setup setting cores t stands c here a active what_p stage_is has equal;
-          near = near p.b (calls.near_b setup setting cores t stands c here a active now_p stage_is has);
+          footprint = footprint p.b (calls.footprint_b setup setting cores t stands c here a active now_p stage_is has);
           tcap = tcap_left p.b qb_more frame_b has.knows.knows.tcap_b;
           differ = differ;
           spelled = spelled;
@@ -476,8 +477,8 @@ module _ (setup : Setting) (setting : IsSetting setup) (cores : ℕ → Core) (t
       );
     }
 
-    lent : (g i v : ℕ) → (holds after).bare g i ≡ Some v → IsLent setup (e ∷ t) c g i
-    lent g i v kept =
+    exclusive : (g i v : ℕ) → (holds after).bare g i ≡ Some v → IsExclusive setup (e ∷ t) c g i
+    exclusive g i v kept =
         let is_in = listed_at g i v kept in
         let had = taken g i v kept in record {
           core = here;
@@ -520,7 +521,7 @@ module _ (setup : Setting) (setting : IsSetting setup) (cores : ℕ → Core) (t
         (inr (spares_none setup t e (λ f. plain.ends (FrameOf f))))
         (moves.rises setup setting cores t stands c here a active compare p.a p.b qa qb qa_less qb_more is_moved)
         (moves.works setup setting cores t stands c here a active compare p.a p.b qa qb qa_less qb_more is_moved)
-        marks words lent (lent_free cores e (unlent_head_word setup cores t stands p.b qb tcap_b.is))
+        marks words exclusive (exclusive_free cores e (not_exclusive_head_word setup cores t stands p.b qb tcap_b.is))
         (sums_keep setup t e (held_by cores) (held_by (put cores c after)) count_same plain
         (moves.limits setup setting cores t stands c here a active compare p.a p.b qa qb qa_less qb_more is_moved)
         (moves.refs_same setup setting cores t stands c here a active compare p.a p.b qa qb qa_less qb_more is_moved) stands.sums)

@@ -42,7 +42,7 @@ module _ (setup : Setting) (setting : IsSetting setup) (cores : ℕ → Core) (t
       head_good setup setting cores t stands c here a active r drawn (share_tail (record p { at = StoreB }))
       (share_tail (record p { at = StoreA true value.Nothing })) stage_is p.b p.head_b final (record {
         budgets = has.budgets;
-        near = knows.near;
+        footprint = knows.footprint;
         tcap = knows.tcap;
         raw = knows.raw ∙ ap (λ (b : ℕ). word_of_head (marked b p.head_b)) has.core;
         fits = knows.fits;

@@ -4,12 +4,13 @@ use Rattle.pair_invariant.proofs.Common.{◌≡◌, ◌≢◌, ◌⊎◌, ◌<�
 use Rattle.pair_invariant.proofs.Common.{◌∷◌, Option, Some, None, inl, inr, arith, refl, sym, ◌∙◌, ap, subst, cases_eq, ne_eqb, Setting}
 use Rattle.pair_invariant.proofs.Common.{IsSetting, Call, Reply, HeadFits, word_of_head, head_of_word, HeadWord, spelling, Word, EntryAt}
 use Rattle.pair_invariant.proofs.Common.{Move, StoreOf, word_of, left_of, same_same, State, put, put_same, put_other, changes_budgets}
-use Rattle.pair_invariant.proofs.Common.{changes_in_frame, IsNearIn, mark_of, head_mark, marked_by, Step, Trace, state_after, last_left}
+use Rattle.pair_invariant.proofs.Common.{changes_in_frame, IsInFootprint, mark_of, head_mark}
+use Rattle.pair_invariant.proofs.Common.{marked_by, Step, Trace, state_after, last_left}
 use Rattle.pair_invariant.proofs.Common.{WasAt, was_stays, same_word-other, last_left-there, Acquired, marked, Pair, PairAt, Tail}
 use Rattle.pair_invariant.proofs.Common.{Decided, ActiveCall, went_with, GoesOn, Core, Holding, keeps, holds_counts, settled_by}
 use Rattle.pair_invariant.proofs.Common.{KnowsTail, phase_at, list_changed, TurnsHead, SparesTcap, HasTcap, StoresA, KnowsStoresAt}
 use Rattle.pair_invariant.proofs.Common.{KnowsShared, done_by, holds_tail, holds_at, holds_in, holds, held_by, Invariant, as_none}
-use Rattle.pair_invariant.proofs.Common.{counts_on, unlent_head_word, lent_free, TcapOf}
+use Rattle.pair_invariant.proofs.Common.{counts_on, not_exclusive_head_word, exclusive_free, TcapOf}
 use Rattle.pair_invariant.specs.core_invariant.specs.Shares.{turns_list}
 use Rattle.pair_invariant.specs.core_invariant.proofs.Bare.{IsNotKept, free_value}
 use Rattle.pair_invariant.specs.step_ways.proofs.Counting as counters
@@ -52,7 +53,7 @@ pub shared_on : (setup : Setting) (t : Trace) (e : Step) (c : ℕ) (call : Call)
 shared_on setup t e c call p x no_entry still has at = record {
   budgets = has.budgets;
   core = has.core;
-  near = was_stays (IsNearIn c call (EntryAt p.a 0)) setup t e c (λ own. no_entry) has.near;
+  footprint = was_stays (IsInFootprint c call (EntryAt p.a 0)) setup t e c (λ own. no_entry) has.footprint;
   tcap_a = subst (λ s. HasTcap s c p.a) (sym still) has.tcap_a;
   at = at;
 }
@@ -61,7 +62,7 @@ shared_on setup t e c call p x no_entry still has at = record {
 pub record GivesBack (setup : Setting) (t : Trace) (c : ℕ) (call : Call)
     (f : ℕ) (head next : HeadWord) (before rest : Holding) : Type 0 where
   pub budgets : changes_budgets call ≡ true
-  pub near : WasAt (IsNearIn c call (EntryAt f 0)) setup t c
+  pub footprint : WasAt (IsInFootprint c call (EntryAt f 0)) setup t c
   pub tcap : HasTcap (state_after setup t) c f
   pub raw : last_left setup t (EntryAt f 0) ≡ word_of_head (marked c head)
   pub fits : HeadFits head
@@ -124,7 +125,7 @@ module _ (setup : Setting) (setting : IsSetting setup) (cores : ℕ → Core) (t
   bare_now = mark_is setup setting cores t stands f tcap.fields tcap.is (word_of_head final) ∙ ap head_mark reads_final ∙ gives.next_bare
 
   of_call : IsOfCall setup t c a.call give_back
-  of_call = record { moves = ap (changes_in_frame a.call) tcap.is ∙ gives.budgets; near = inr gives.near }
+  of_call = record { moves = ap (changes_in_frame a.call) tcap.is ∙ gives.budgets; footprint = inr gives.footprint }
 
   turns : SparesTcap setup t e f 0
   turns = inr (subst (λ o. TurnsHead c (list_changed t f) (head_of_word was) o) (sym reads_final)
@@ -139,7 +140,7 @@ module _ (setup : Setting) (setting : IsSetting setup) (cores : ℕ → Core) (t
   not_kept g i is d = elim (cases_eq d c) [
     | inl own ↦ ap (λ k. (holds k).bare g i) (put_same cores c after d own) ∙ gives.none g i
     | inr other ↦ ap (λ k. (holds k).bare g i) (put_other cores c after d other)
-        ∙ unlent_head_word setup cores t stands f tcap.fields tcap.is g i is d
+        ∙ not_exclusive_head_word setup cores t stands f tcap.fields tcap.is g i is d
   ]
 
   same_core : (b : ℕ) → Some b ≡ Some c → b ≡ c
@@ -165,4 +166,4 @@ module _ (setup : Setting) (setting : IsSetting setup) (cores : ℕ → Core) (t
       (counts_on setup t e c a.call (λ own. refl) a.counts (call_is setup setting cores t stands c here a active).counts)
       (call_is setup setting cores t stands c here a active).apart
       (spares_one setup t e f 0 tcap.fields refl tcap.is turns)
-      (lent_free cores e (unlent_head_word setup cores t stands f tcap.fields tcap.is))
+      (exclusive_free cores e (not_exclusive_head_word setup cores t stands f tcap.fields tcap.is))

@@ -3,7 +3,8 @@ use Rattle.pair_invariant.proofs.Common.{◌≡◌, ◌≢◌, inl, inr, ℕ, ze
 use Rattle.pair_invariant.proofs.Common.{false, if◌then◌else◌, ◌∷◌, Option, Some, None, slice_get, arith, refl, sym, ◌∙◌, ap, subst}
 use Rattle.pair_invariant.proofs.Common.{cases_eq, cases_lt, eq-eqb, ne_eqb, le-leb, lt-leb, leb-true, ltb-true, ltb-false, Setting}
 use Rattle.pair_invariant.proofs.Common.{IsSetting, Call, Reply, Word, EntryAt, Move, StoreOf, word_of, same_same, State, put, put_same}
-use Rattle.pair_invariant.proofs.Common.{put_other, changes_in_frame, IsNearIn, mark_of, marked_by, Step, Trace, state_after, last_left}
+use Rattle.pair_invariant.proofs.Common.{put_other, changes_in_frame, IsInFootprint, mark_of}
+use Rattle.pair_invariant.proofs.Common.{marked_by, Step, Trace, state_after, last_left}
 use Rattle.pair_invariant.proofs.Common.{was_stays, same_word-other, last_left-there, in_order, Pair, PairAt, StoreList, StoreB, Tail}
 use Rattle.pair_invariant.proofs.Common.{Decided, ActiveCall, went_with, GoesOn, Core, Holding, holds_counts, settled_by, KnowsTail}
 use Rattle.pair_invariant.proofs.Common.{phase_at, SparesTcap, HasTcap, KnowsStoresAt, done_by, holds_head, holds_heads, holds_shared}
@@ -17,7 +18,7 @@ use Rattle.pair_invariant.specs.act_states.specs.declared.work.Tail.TheVariants.
 use Rattle.pair_invariant.specs.core_invariant.specs.Shares.{StoresB}
 use Rattle.pair_invariant.specs.core_invariant.specs.Invariant.{holds_list}
 use Rattle.pair_invariant.specs.step_ways.proofs.Counting as counters
-use Rattle.pair_invariant.specs.kept_facts.proofs.Lent.{one_keeper, own_value}
+use Rattle.pair_invariant.specs.kept_facts.proofs.Exclusive.{one_keeper, own_value}
 use Rattle.pair_invariant.specs.step_ways.proofs.Loads.{IsOfCall, core_in_call, call_is, inner}
 use Rattle.pair_invariant.specs.step_ways.proofs.Refusals.{GoodTook}
 use Rattle.pair_invariant.specs.kept_facts.proofs.Tcaps.{tcap_of}
@@ -38,7 +39,7 @@ b_stored setup t e c j p x on no_entry still call has = record {
   fits = has.fits;
   bare = has.bare;
   few = has.few;
-  near = was_stays (IsNearIn c call (EntryAt p.b 0)) setup t e c (λ own. no_entry) has.near;
+  footprint = was_stays (IsInFootprint c call (EntryAt p.b 0)) setup t e c (λ own. no_entry) has.footprint;
   tcap = subst (λ s. HasTcap s c p.b) (sym still) has.tcap;
   differ = has.differ;
   spelled = has.spelled;
@@ -213,7 +214,7 @@ module _ (setup : Setting) (setting : IsSetting setup) (cores : ℕ → Core) (t
         ∙ counts_free (done_by r drawn) a.counts p.b (suc j)
 
     of_call : IsOfCall setup t c a.call store
-    of_call = record { moves = ap (changes_in_frame a.call) tcap.is ∙ has.budgets; near = inr knows.near }
+    of_call = record { moves = ap (changes_in_frame a.call) tcap.is ∙ has.budgets; footprint = inr knows.footprint }
 
     spelled : SparesTcap setup t e p.b (suc j)
     spelled = inr (own_mark, subst IsSome (sym (spelling.reads (record { 0 = slice_get (in_order p.list_b) (suc j - 1) }) fits)) refl)

@@ -45,7 +45,7 @@ module _ (setup : Setting) (setting : IsSetting setup) (cores : ℕ → Core) (t
       head_good setup setting cores t stands c here a active r drawn (share_tail (record p { at = StoreA moved v })) no_tail stage_is p.a
       p.head_a final (record {
         budgets = has.budgets;
-        near = has.near;
+        footprint = has.footprint;
         tcap = has.tcap_a;
         raw = knows.raw ∙ ap (λ (b : ℕ). word_of_head (marked b p.head_a)) has.core;
         fits = knows.fits;

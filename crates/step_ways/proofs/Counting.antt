@@ -6,17 +6,17 @@ use Rattle.kept_facts.proofs.Common.{last_left, mark_of, marked_by, MayFollow, C
 use Rattle.kept_facts.proofs.Common.{last_left-there, Acquired, ActiveCall, Core, count_of, committed, holds_counts, AreApart, settled_by}
 use Rattle.kept_facts.proofs.Common.{settled, phase_at, Knows, IsCount, CoreIs, flushing_in, holds_in, holds, held_by, Invariant}
 use Rattle.kept_facts.proofs.Common.{marks_own, sums_stay, calm_words, none_stored, IsUntimed, plain_time, plain_exit, AsBefore}
-use Rattle.kept_facts.proofs.Common.{SparesLent}
+use Rattle.kept_facts.proofs.Common.{SparesExclusive}
 use Rattle.kept_facts.specs.trace_laws.proofs.Carries.{carries_own}
 use Rattle.kept_facts.specs.kernel_history.proofs.Names.{same_word-same}
 use Rattle.kept_facts.proofs.WordFrames.{hold_marks, hold_words, settled_stays}
 use Rattle.kept_facts.proofs.Calm.{calm_same, plain_flushed}
 use Rattle.step_ways.proofs.Flushing.{still_flushed}
-use Rattle.kept_facts.proofs.Lent.{keeps_given, lent_still}
+use Rattle.kept_facts.proofs.Exclusive.{keeps_given, exclusive_still}
 use Rattle.step_ways.proofs.Good.{IsGood, SparesBlanks}
 use Rattle.step_ways.proofs.Users.{spares_none}
 use Rattle.step_ways.proofs.Loads.{Lands, IsOfCall, core_in_call, core_is, call_is, in_call}
-use Rattle.step_ways.proofs.Loads.{inner, inner_within, inner_disciplined, inner_near}
+use Rattle.step_ways.proofs.Loads.{inner, inner_within, inner_disciplined, inner_footprint}
 
 -- A step of a call, within it, on the word of a count, of an entry or of a frame: what the core holds of other words stays, no other core
 -- has marked the word, and what the word stands for stays too.
@@ -44,7 +44,7 @@ module _ (setup : Setting) (setting : IsSetting setup) (cores : ℕ → Core) (t
       → phase_at a.call a.stage ≡ phase_at next.call next.stage
       → (Carries setup t e c → Knows setup (e ∷ t) c (cores c).own.table next) → All (IsCount setup (e ∷ t) c next.call) next.counts
       → AreApart next.counts
-      → SparesBlanks setup t e → SparesLent cores e
+      → SparesBlanks setup t e → SparesExclusive cores e
       → IsGood setup cores t e after
   holds_on flushes not_clock one_more of_call lands small elsewhere bares now unowned settles same_phase knows counts apart blanks spares =
       let plain : IsUntimed setup t e = record {
@@ -73,14 +73,14 @@ module _ (setup : Setting) (setting : IsSetting setup) (cores : ℕ → Core) (t
         disciplined = inner_disciplined setup setting cores t stands c here a active move None None of_call
             (marks_own setup cores t e after (λ w there. (elsewhere w there).0) stands.marks marks)
             (λ b m other. absurd (unowned b other m));
-        near = inner_near setup setting cores t stands c here a active move None None of_call;
+        footprint = inner_footprint setup setting cores t stands c here a active move None None of_call;
         blanks = blanks;
         counted = spares_none setup t e (λ f. plain.ends (FrameOf f));
         marks = marks;
         words = hold_words setup cores t e after (λ g. refl) elsewhere bares now unowned settles
             (λ v. calm_words setup t e (calm_same (state_after setup t) c) plain v (λ g i h. refl) (λ b h. (refl, plain_exit t e refl b)))
             stands.words;
-        lent = lent_still setup cores t stands e after (keeps_given setup cores t e after bares) refl marks;
+        exclusive = exclusive_still setup cores t stands e after (keeps_given setup cores t e after bares) refl marks;
         spares = spares;
         sums = sums_stay setup t e (held_by cores) (held_by (put cores c after))
             (λ g b. settled_stays setup cores t e after (λ g. refl) elsewhere bares now unowned settles (CountAt g b))

@@ -5,14 +5,14 @@ use Rattle.kept_facts.proofs.Common.{put, alone, Step, Trace, Open, phase, after
 use Rattle.kept_facts.proofs.Common.{MayDecide, marked_by, flushes_at, clock, flush_of, phase-own, steps_in_call-own, flush_of-own}
 use Rattle.kept_facts.proofs.Common.{flush_stored-own, Stage, ActiveCall, Core, WordIs, phase_at, Knows, WorksIn, CoreIs, flushing_in}
 use Rattle.kept_facts.proofs.Common.{holds, held_by, times_of, counted_in, SumIs, Invariant, ReadsAlike, StaysSaid, marks_own}
-use Rattle.kept_facts.proofs.Common.{carry_marks, carry_words, plain_exit, lent_open, lent_elsewhere, counts_on}
+use Rattle.kept_facts.proofs.Common.{carry_marks, carry_words, plain_exit, exclusive_open, exclusive_elsewhere, counts_on}
 use Rattle.kept_facts.specs.kernel_history.specs.Trace.{Decided}
 use Rattle.step_ways.proofs.Flushing.{open_flushed}
 use Rattle.step_ways.proofs.Good.{IsGood, spares_other}
 use Rattle.step_ways.proofs.Users.{SparesBy, spared}
 use Rattle.step_ways.proofs.Writes.{clock_small}
 use Rattle.step_ways.proofs.Loads.{Lands, core_in_call, next_at, core_is, call_is, in_call}
-use Rattle.step_ways.proofs.Loads.{inner, inner_within, inner_disciplined, inner_near}
+use Rattle.step_ways.proofs.Loads.{inner, inner_within, inner_disciplined, inner_footprint}
 
 module _ (setup : Setting) (setting : IsSetting setup) (cores : ℕ → Core) (t : Trace) (stands : Invariant setup cores t) (c : ℕ)
     (here : c < setup.cores)
@@ -70,16 +70,16 @@ module _ (setup : Setting) (setting : IsSetting setup) (cores : ℕ → Core) (t
         alone = λ is_alone. subst (IsFirst setup t e (Some r)) (sym
             ((call_is setup setting cores t stands c here a active).phase ∙ opens)) (first is_alone);
         disciplined = inner_disciplined setup setting cores t stands c here a active draw (Some r) None
-            (record { moves = (raises, refl); near = inl tt })
+            (record { moves = (raises, refl); footprint = inl tt })
             (marks_own setup cores t e after (λ w there. still w) stands.marks marks) (λ d m other. absurd (none_some d m));
-        near = inner_near setup setting cores t stands c here a active draw (Some r) None
-            (record { moves = (raises, refl); near = inl tt });
+        footprint = inner_footprint setup setting cores t stands c here a active draw (Some r) None
+            (record { moves = (raises, refl); footprint = inl tt });
         blanks = spares_other setup t e (λ f i h. cc);
         counted = spared setup t e a.call ((call_is setup setting cores t stands c here a active).phase ∙ opens) counted;
         marks = marks;
         words = carry_words setup cores t e after still alike refl refl bares (λ x. refl) same tt held stands.words;
-        lent = lent_open setup cores t e after a a.call active opens (λ f i v kept. sym (bares f i) ∙ kept);
-        spares = lent_elsewhere cores e (λ f i h. cc);
+        exclusive = exclusive_open setup cores t e after a a.call active opens (λ f i v kept. sym (bares f i) ∙ kept);
+        spares = exclusive_elsewhere cores e (λ f i h. cc);
         sums = sums;
         draws = (let d = stands.draws in let b = raised in let g = more in omega arith);
         time = record {

@@ -6,7 +6,7 @@ use Rattle.kept_facts.proofs.Common.{Some, None, arith, sym, ◌∙◌, ap, subs
 use Rattle.kept_facts.proofs.Common.{if◌then◌else◌, refl, cases_eq, eqb-true, false≢true, Setting, IsSetting, Call, Word, EntryAt}
 use Rattle.kept_facts.proofs.Common.{FrameAt, LiveAt, put, first_of_stack, Frame, Untyped, User, Kernel, Blank, Table, Leaf, Pages, Pleaf}
 use Rattle.kept_facts.proofs.Common.{Comp, Thread, Tcap, put_same, put_other, Step, Trace, Out, Open, phase, state_after}
-use Rattle.kept_facts.proofs.Common.{last_left, marked_by, IsNearIn, MayFollow, is_in, clock, phase-other, flush_stored-other}
+use Rattle.kept_facts.proofs.Common.{last_left, marked_by, IsInFootprint, MayFollow, is_in, clock, phase-other, flush_stored-other}
 use Rattle.kept_facts.proofs.Common.{last_left-here, last_left-there, KeepsTime, Carries, was_stays, Stage, Enter, Living, Undecided}
 use Rattle.kept_facts.proofs.Common.{Decided}
 use Rattle.kept_facts.proofs.Common.{Leave, ActiveCall, Own, Nothing, Quiesce, Unmark, StoreDead, StoreFlush, Release, StoreLive, Push}
@@ -14,9 +14,9 @@ use Rattle.kept_facts.proofs.Common.{Pop, Share, StoreRunning, StoreIdle, Core, 
 use Rattle.kept_facts.proofs.Common.{settled, MarkIs, Holding, keeps, holds_counts, settled_by, WordIs, SparesTcap, phase_at, CallIs}
 use Rattle.kept_facts.proofs.Common.{KnowsAt, WorksIn, CoreIs, blank_word, KnowsMakingAt, KnowsAct, KnowsWork, KnowsCompAt, held_by}
 use Rattle.kept_facts.proofs.Common.{times_of, counted_in, SumIs, Invariant, is_done, holds_making, holds_act, holds_work, holds_at}
-use Rattle.kept_facts.proofs.Common.{holds_in, holds, holds_comp, IsLent, marker_inside, counts_on, latest_stamp, swept_of, Sweep}
+use Rattle.kept_facts.proofs.Common.{holds_in, holds, holds_comp, IsExclusive, marker_inside, counts_on, latest_stamp, swept_of, Sweep}
 use Rattle.kept_facts.proofs.Common.{SweepAt, Swept, release_of, UntypingAt, holds_release, holds_untyping, AreFrozen, AreKept, IsQuiet}
-use Rattle.kept_facts.proofs.Common.{KnowsSweep, KnowsSwept, KnowsUntypingAt, SaysTyped, HoldsSwept, release_swept, SparesLent}
+use Rattle.kept_facts.proofs.Common.{KnowsSweep, KnowsSwept, KnowsUntypingAt, SaysTyped, HoldsSwept, release_swept, SparesExclusive}
 use Rattle.kept_facts.specs.act_states.specs.declared.comps.CompAt.TheVariants as comp_at
 use Rattle.kept_facts.specs.act_states.specs.Comps.{comp_is_marked}
 use Rattle.kept_facts.specs.act_states.specs.Makings.{is_marked}
@@ -32,7 +32,7 @@ use Rattle.kept_facts.specs.act_states.specs.declared.work.Act.{Act as ActOf}
 use Rattle.std.proofs.lemmas.Bool.{true≢false}
 use Rattle.kept_facts.specs.kernel_history.specs.Bounds.{IsWithin}
 use Rattle.kept_facts.specs.kernel_history.specs.Discipline.{IsDisciplined}
-use Rattle.kept_facts.specs.kernel_history.specs.Footprint.{StepsNear}
+use Rattle.kept_facts.specs.kernel_history.specs.Footprint.{StepsInFootprint}
 use Rattle.kept_facts.specs.kernel_history.specs.Alone.{AnswersAlone}
 use Rattle.kept_facts.specs.kernel_history.specs.Legal.{MayEnter}
 use Rattle.kept_facts.specs.kernel_history.proofs.Steps.{calls_of-other, steps_in_call-other, own_read-other, exit_of-other}
@@ -59,7 +59,7 @@ use Rattle.kept_facts.specs.act_states.specs.declared.untypings.UntypingAt.TheVa
 use Rattle.kept_facts.specs.core_invariant.specs.Sweeps.{KnowsSweepAt}
 use Rattle.kept_facts.proofs.Swept.{LeavesFrame, kernel_is, swept_rests}
 use Rattle.kept_facts.proofs.SharesOn.{SharesStay, shares_other}
-use Rattle.kept_facts.proofs.Lent.{lent_other}
+use Rattle.kept_facts.proofs.Exclusive.{exclusive_other}
 
 -- A step changes a word of a blank frame only where its core has marked the frame, and a word of a temporal capability as `SparesTcap`
 -- says.
@@ -249,14 +249,14 @@ pub record IsGood (setup : Setting) (cores : ℕ → Core) (t : Trace) (e : Step
   pub within : IsWithin setup.cores t e
   pub alone : AnswersAlone setup t e
   pub disciplined : IsDisciplined setup t e
-  pub near : StepsNear setup t e
+  pub footprint : StepsInFootprint setup t e
   pub blanks : SparesBlanks setup t e
   pub counted : SparesCounted setup t e
   pub marks : (w : Word) (d : ℕ) → MarkIs setup (held_by (put cores e.core after)) (e ∷ t) w d
   pub words : (w : Word)
       → WordIs (state_after setup (e ∷ t)) (times_of setup (e ∷ t)) w (settled setup (held_by (put cores e.core after)) (e ∷ t) w)
-  pub lent : (f i v : ℕ) → (holds after).bare f i ≡ Some v → IsLent setup (e ∷ t) e.core f i
-  pub spares : SparesLent cores e
+  pub exclusive : (f i v : ℕ) → (holds after).bare f i ≡ Some v → IsExclusive setup (e ∷ t) e.core f i
+  pub spares : SparesExclusive cores e
   pub sums : (f : ℕ) → SumIs setup (held_by (put cores e.core after)) (e ∷ t) f
   pub draws : clock setup (e ∷ t) ≤ 1 + counted_in setup (state_after setup (e ∷ t))
   pub time : KeepsTime setup t e
@@ -420,7 +420,7 @@ module _ (setup : Setting) (setting : IsSetting setup) (cores : ℕ → Core) (t
       → KnowsIdle setup (e ∷ t) c call f
   idle_other follows c other inside call f has = record {
     threads = has.threads;
-    near = was_stays (IsNearIn c call (EntryAt f 0)) setup t e c (λ own. absurd (other own)) has.near;
+    footprint = was_stays (IsInFootprint c call (EntryAt f 0)) setup t e c (λ own. absurd (other own)) has.footprint;
     thread = guarded_thread setup setting cores t stands e follows c other inside f has.thread;
   }
 
@@ -429,7 +429,7 @@ module _ (setup : Setting) (setting : IsSetting setup) (cores : ℕ → Core) (t
   running_other follows c other inside call f core old has = record {
     core = has.core;
     own = has.own ∙ ap (λ k. k.thread) (sym (stays_in_other setup setting t stands.legal e follows c other inside).own.core);
-    near = was_stays (IsNearIn c call (EntryAt f 0)) setup t e c (λ own. absurd (other own)) has.near;
+    footprint = was_stays (IsInFootprint c call (EntryAt f 0)) setup t e c (λ own. absurd (other own)) has.footprint;
     apart = has.apart;
     rest = idle_other follows c other inside call old has.rest;
   }
@@ -561,15 +561,15 @@ module _ (setup : Setting) (setting : IsSetting setup) (cores : ℕ → Core) (t
     bounds = (stands.bounds, good.within);
     alone = (stands.alone, good.alone);
     discipline = (stands.discipline, good.disciplined);
-    footprints = (stands.footprints, good.near);
+    footprints = (stands.footprints, good.footprint);
     marks = good.marks;
     marked = marked_on setup t e good.disciplined.marks (λ call is w. bare call is
         (subst (λ o. MayEnter o (phase t e.core)) is good.follows.enters).0 w) stands.marked;
     words = good.words;
-    lent = λ d f i v is. elim (cases_eq d e.core) [
-      | inl own ↦ subst (λ (b : ℕ). IsLent setup (e ∷ t) b f i) (sym own)
-          (good.lent f i v (sym (ap (λ k. (holds k).bare f i) (put_same cores e.core after d own)) ∙ is))
-      | inr other ↦ lent_other setup setting cores t stands e good.follows good.disciplined.keeps good.spares d f i v other
+    exclusive = λ d f i v is. elim (cases_eq d e.core) [
+      | inl own ↦ subst (λ (b : ℕ). IsExclusive setup (e ∷ t) b f i) (sym own)
+          (good.exclusive f i v (sym (ap (λ k. (holds k).bare f i) (put_same cores e.core after d own)) ∙ is))
+      | inr other ↦ exclusive_other setup setting cores t stands e good.follows good.disciplined.keeps good.spares d f i v other
           (sym (ap (λ k. (holds k).bare f i) (put_other cores e.core after d other)) ∙ is)
     ];
     sums = good.sums;

@@ -7,7 +7,7 @@ use Rattle.kept_facts.proofs.Common.{last_left, cases_word, last_left-here, last
 use Rattle.kept_facts.proofs.Common.{held_by, times_of, Invariant, runs_on_own, ReadsAlike, StaysSaid, others_settled, own_settled}
 use Rattle.kept_facts.specs.core_invariant.specs.Holding.{bare_value}
 use Rattle.kept_facts.specs.core_invariant.proofs.Bare.{own_kept, same_value, core_bare, free_value}
-use Rattle.kept_facts.proofs.Lent.{runs_no_tcap, lent_thread}
+use Rattle.kept_facts.proofs.Exclusive.{runs_no_tcap, exclusive_thread}
 
 none_some : (v : ℕ) → None ≡ Some v → ⊥
 none_some v h = cc
@@ -32,11 +32,11 @@ module _ (setup : Setting) (setting : IsSetting setup) (cores : ℕ → Core) (t
       by : (o : Option ℕ) → (held_by cores b).bare f i ≡ o → (held_by cores b).bare f i ≡ None
       by None free = free
       by (Some u) kept =
-          let l = stands.lent b f i u kept in
+          let l = stands.exclusive b f i u kept in
           let runs : (thread_in ((state_after setup t).frame f)).runs_on ≡ Some e.core =
           ap (λ (g : ℕ). (thread_in ((state_after setup t).frame g)).runs_on) (sym (own_thread f i v is).0)
           ∙ runs_on_own setup setting cores t stands e.core below in
-          let w = lent_thread setup t b f i l (runs_no_tcap ((state_after setup t).frame f) e.core runs) in
+          let w = exclusive_thread setup t b f i l (runs_no_tcap ((state_after setup t).frame f) e.core runs) in
           absurd (other (same_number b e.core
           (sym (runs_on_own setup setting cores t stands b l.core)
           ∙ ap (λ (g : ℕ). (thread_in ((state_after setup t).frame g)).runs_on) w.thread

@@ -4,19 +4,20 @@ use Rattle.kept_facts.proofs.Common.{Tail, ◌≡◌, ◌≢◌, ◌⊎◌, ℕ,
 use Rattle.kept_facts.proofs.Common.{◌∙◌, ap, subst, Capability, Setting, IsSetting, Call, Reply, Word, CountAt, FlushAt, ClockAt}
 use Rattle.kept_facts.proofs.Common.{same_word, Move, word_of, left_of, Thing, FrameOf, put, MayReply, state_by, counted, begins, ends}
 use Rattle.kept_facts.proofs.Common.{flushes, alone, calls_counted, put_same, decided-inside, Step, Trace, Out, Open, phase, after_decide}
-use Rattle.kept_facts.proofs.Common.{after_return, state_after, state_decided_in, last_left, WasAt, shape_of, IsNearIn, IsAlone, IsFirst}
+use Rattle.kept_facts.proofs.Common.{after_return, state_after, state_decided_in, last_left}
+use Rattle.kept_facts.proofs.Common.{WasAt, shape_of, IsInFootprint, IsAlone, IsFirst}
 use Rattle.kept_facts.proofs.Common.{IsJustified, MayFollow, Carries, ends_in, flushes_in, flush_stored, last_small, phase-own}
 use Rattle.kept_facts.proofs.Common.{steps_in_call-own, Stage, Nothing, Enter, Living, Undecided, Decided, Leave, ActiveCall, Core}
 use Rattle.kept_facts.proofs.Common.{phase_at}
 use Rattle.kept_facts.proofs.Common.{Knows, CallIs, WorksIn, CoreIs, KnowsTail, is_flushing, flushing_in, done_by, holds_at, holds_in}
 use Rattle.kept_facts.proofs.Common.{holds, held_by, Invariant, marks_own, settled_on, sums_stay, counts_on, holds_counts, IsCalm}
 use Rattle.kept_facts.proofs.Common.{calm_counted, calm_words, counted_rises, IsUntimed, plain_time, plain_exit, BeginsNone, plain_begins}
-use Rattle.kept_facts.proofs.Common.{lent_open, lent_kept}
+use Rattle.kept_facts.proofs.Common.{exclusive_open, exclusive_kept}
 use Rattle.kept_facts.specs.spk_nums.specs.Bounds.{bound_of}
 use Rattle.kept_facts.specs.word_map.specs.Places.{IsIn as IsInShape}
 use Rattle.kept_facts.specs.kernel_history.specs.Trace.{steps_in_call}
 use Rattle.kept_facts.specs.kernel_history.specs.Discipline.{MayMove, MarksOwn, KeepsMarked, IsDisciplined}
-use Rattle.kept_facts.specs.kernel_history.specs.Footprint.{StepsNear}
+use Rattle.kept_facts.specs.kernel_history.specs.Footprint.{StepsInFootprint}
 use Rattle.kept_facts.specs.kernel_history.specs.Bounds.{call_in, IsWithin}
 use Rattle.kept_facts.specs.trace_laws.proofs.Carries.{carries_own}
 use Rattle.kept_facts.specs.kernel_history.specs.Stamps.{begins_in}
@@ -29,7 +30,7 @@ use Rattle.step_ways.proofs.Good.{IsGood, spares_kept}
 use Rattle.step_ways.proofs.Users.{spares_none}
 use Rattle.kept_facts.proofs.Calm.{calm_same, calm_own, stored_by}
 use Rattle.kept_facts.proofs.Calm.{none_flushed}
-use Rattle.kept_facts.proofs.Lent.{keeps_loads, lent_still}
+use Rattle.kept_facts.proofs.Exclusive.{keeps_loads, exclusive_still}
 
 -- A step of core c.
 abbrev pub step_to : ℕ → Option Call → Move → ℕ → Option Reply → Option Reply → Step
@@ -63,7 +64,7 @@ pub record Lands (setup : Setting) (core : Core) (w : Word) : Type 0 where
 -- The operation is one of the call, and its word is in the call's footprint.
 pub record IsOfCall (setup : Setting) (t : Trace) (c : ℕ) (call : Call) (move : Move) : Type 0 where
   pub moves : MayMove (state_after setup t) c call move
-  pub near : IsNearIn c call (word_of move) (state_after setup t) ⊎ WasAt (IsNearIn c call (word_of move)) setup t c
+  pub footprint : IsInFootprint c call (word_of move) (state_after setup t) ⊎ WasAt (IsInFootprint c call (word_of move)) setup t c
 
 -- And it leaves its word as found, and what flushes are stored: its word is no flush word, or the core's last flush is stored there.
 pub record OnlyLooks (setup : Setting) (t : Trace) (c : ℕ) (call : Call) (move : Move) : Type 0 where
@@ -125,8 +126,8 @@ module _ (setup : Setting) (setting : IsSetting setup) (cores : ℕ → Core) (t
         → IsDisciplined setup t inner
     inner_disciplined of_call marks keeps = record { call = a.call; is_of = is_of; moves = of_call.moves; marks = marks; keeps = keeps }
 
-    pub inner_near : IsOfCall setup t c a.call move → StepsNear setup t inner
-    inner_near of_call = record { call = a.call; is_of = is_of; near = of_call.near }
+    pub inner_footprint : IsOfCall setup t c a.call move → StepsInFootprint setup t inner
+    inner_footprint of_call = record { call = a.call; is_of = is_of; footprint = of_call.footprint }
 
     -- where a step leaves the frames the core works where it did
     pub inner_works : (made : ℕ) → IsCalm (state_after setup t) (state_after setup (inner ∷ t)) c
@@ -219,16 +220,16 @@ module _ (setup : Setting) (setting : IsSetting setup) (cores : ℕ → Core) (t
         alone = λ is_alone. tt;
         disciplined = inner_disciplined move None None looks.of_call
             (marks_own setup cores t e after (λ w there. ap (λ h. h.marks w) still) stands.marks marks) (λ d m other. looks.kept);
-        near = inner_near move None None looks.of_call;
+        footprint = inner_footprint move None None looks.of_call;
         blanks = spares_kept setup t e looks.kept;
         counted = spares_none setup t e (λ f. plain.ends (FrameOf f));
         marks = marks;
         words = load_words setup cores t e after still (λ g. refl) looks.kept
             (λ v. calm_words setup t e (calm_same (state_after setup t) c) plain v (λ g i h. refl) (λ d h. (refl, plain_exit t e refl d)))
             stands.words;
-        lent = lent_still setup cores t stands e after
+        exclusive = exclusive_still setup cores t stands e after
             (keeps_loads setup cores t e after still (load_keeps setup cores t e after still (λ g. refl) looks.kept)) refl marks;
-        spares = lent_kept cores e looks.kept;
+        spares = exclusive_kept cores e looks.kept;
         sums = sums_stay setup t e (held_by cores) (held_by (put cores c after))
             (λ f d. settled_on setup cores t e after still (λ g. refl) (CountAt f d)
             (load_keeps setup cores t e after still (λ g. refl) looks.kept (CountAt f d)))
@@ -294,15 +295,15 @@ module _ (setup : Setting) (setting : IsSetting setup) (cores : ℕ → Core) (t
         alone = λ is_alone. subst (IsFirst setup t e (Some r)) (sym is_open) (first is_alone);
         disciplined = inner_disciplined move (Some r) None looks.of_call
             (marks_own setup cores t e after (λ w there. ap (λ h. h.marks w) still) stands.marks marks) (λ d m other. looks.kept);
-        near = inner_near move (Some r) None looks.of_call;
+        footprint = inner_footprint move (Some r) None looks.of_call;
         blanks = spares_kept setup t e looks.kept;
         counted = spares_none setup t e (λ f. plain.ends (FrameOf f));
         marks = marks;
         words = load_words setup cores t e after still calm.frame looks.kept
             (λ v. calm_words setup t e calm plain v (λ g i h. ap (λ s. s.place g i) now)
             (λ d h. (decided-inside (Some r) (phase t c) (state_after setup t) c d, plain_exit t e refl d))) stands.words;
-        lent = lent_open setup cores t e after a a.call active opens (λ f i v kept. sym (ap (λ h. h.bare f i) still) ∙ kept);
-        spares = lent_kept cores e looks.kept;
+        exclusive = exclusive_open setup cores t e after a a.call active opens (λ f i v kept. sym (ap (λ h. h.bare f i) still) ∙ kept);
+        spares = exclusive_kept cores e looks.kept;
         sums = sums_stay setup t e (held_by cores) (held_by (put cores c after))
             (λ f d. settled_on setup cores t e after still calm.frame (CountAt f d)
             (load_keeps setup cores t e after still calm.frame looks.kept (CountAt f d)))

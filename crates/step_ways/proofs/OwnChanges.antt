@@ -5,14 +5,15 @@ use Rattle.kept_facts.proofs.Common.{IsSetting, Reply, Word, Move, word_of, left
 use Rattle.kept_facts.proofs.Common.{state_after, last_left, IsAlone, IsFirst, KeepsTime, MayDecide, clock, flush_of, flush_stored}
 use Rattle.kept_facts.proofs.Common.{phase-own, steps_in_call-own, Own, Stage, ActiveCall, Core, MarkIs, settled, WordIs, phase_at, Knows}
 use Rattle.kept_facts.proofs.Common.{WorksIn, CoreIs, is_flushing, flushing_in, held_by, times_of, counted_in, SumIs, Invariant, holds}
-use Rattle.kept_facts.proofs.Common.{IsLent, BeginsNone, plain_exit, counts_on, SparesLent}
+use Rattle.kept_facts.proofs.Common.{IsExclusive, BeginsNone, plain_exit, counts_on, SparesExclusive}
 use Rattle.kept_facts.specs.kernel_history.specs.Trace.{Decided}
 use Rattle.kept_facts.specs.kernel_history.specs.Discipline.{MarksOwn, KeepsMarked}
 use Rattle.kept_facts.proofs.Calm.{none_time, none_flushed}
 use Rattle.step_ways.proofs.Flushing.{open_flushed}
 use Rattle.step_ways.proofs.Good.{IsGood, SparesBlanks}
 use Rattle.step_ways.proofs.Users.{SparesBy, spared}
-use Rattle.step_ways.proofs.Loads.{Lands, IsOfCall, next_at, core_is, call_is, in_call, inner, inner_within, inner_disciplined, inner_near}
+use Rattle.step_ways.proofs.Loads.{Lands, IsOfCall, next_at, core_is, call_is}
+use Rattle.step_ways.proofs.Loads.{in_call, inner, inner_within, inner_disciplined, inner_footprint}
 
 -- A core is where it was, on its machine.
 pub record IsSameCore (own own' : Own) : Type 0 where
@@ -44,14 +45,14 @@ module _ (setup : Setting) (setting : IsSetting setup) (cores : ℕ → Core) (t
       → ((w : Word) (d : ℕ) → MarkIs setup (held_by (put cores c changed_core)) (changing ∷ t) w d)
       → ((w : Word) → WordIs (state_after setup (changing ∷ t)) (times_of setup (changing ∷ t)) w
       (settled setup (held_by (put cores c changed_core)) (changing ∷ t) w))
-      → ((f i v : ℕ) → (holds changed_core).bare f i ≡ Some v → IsLent setup (changing ∷ t) c f i)
-      → SparesLent cores changing
+      → ((f i v : ℕ) → (holds changed_core).bare f i ≡ Some v → IsExclusive setup (changing ∷ t) c f i)
+      → SparesExclusive cores changing
       → ((f : ℕ) → SumIs setup (held_by (put cores c changed_core)) (changing ∷ t) f)
       → MayDecide setup t changing (Some r) (phase t c)
       → (IsAlone t changing → r ≡ alone (state_after setup t) c a.call)
       → Knows setup (changing ∷ t) c own.table (next_at a a.found stage)
       → IsGood setup cores t changing changed_core
-  decides_timed small of_call lands opens closes puts keeps time draws flushed blanks counted works marks words lent spares sums
+  decides_timed small of_call lands opens closes puts keeps time draws flushed blanks counted works marks words exclusive spares sums
       may first knows =
       let now : CoreIs setup (cores c) t c = core_is setup setting cores t stands c here a active in
       let in_flight = call_is setup setting cores t stands c here a active in
@@ -69,12 +70,12 @@ module _ (setup : Setting) (setting : IsSetting setup) (cores : ℕ → Core) (t
         within = inner_within setup setting cores t stands c here a active move (Some r) None;
         alone = λ is_alone. subst (IsFirst setup t changing (Some r)) (sym (in_flight.phase ∙ opens)) (first is_alone);
         disciplined = inner_disciplined setup setting cores t stands c here a active move (Some r) None of_call puts keeps;
-        near = inner_near setup setting cores t stands c here a active move (Some r) None of_call;
+        footprint = inner_footprint setup setting cores t stands c here a active move (Some r) None of_call;
         blanks = blanks;
         counted = spared setup t changing a.call (in_flight.phase ∙ opens) counted;
         marks = marks;
         words = words;
-        lent = lent;
+        exclusive = exclusive;
         spares = spares;
         sums = sums;
         draws = draws;
@@ -112,8 +113,8 @@ module _ (setup : Setting) (setting : IsSetting setup) (cores : ℕ → Core) (t
       → ((w : Word) (d : ℕ) → MarkIs setup (held_by (put cores c changed_core)) (changing ∷ t) w d)
       → ((w : Word) → WordIs (state_after setup (changing ∷ t)) (times_of setup (changing ∷ t)) w
       (settled setup (held_by (put cores c changed_core)) (changing ∷ t) w))
-      → ((f i v : ℕ) → (holds changed_core).bare f i ≡ Some v → IsLent setup (changing ∷ t) c f i)
-      → SparesLent cores changing
+      → ((f i v : ℕ) → (holds changed_core).bare f i ≡ Some v → IsExclusive setup (changing ∷ t) c f i)
+      → SparesExclusive cores changing
       → ((f : ℕ) → SumIs setup (held_by (put cores c changed_core)) (changing ∷ t) f)
       → MayDecide setup t changing (Some r) (phase t c)
       → (IsAlone t changing → r ≡ alone (state_after setup t) c a.call)
@@ -134,8 +135,8 @@ module _ (setup : Setting) (setting : IsSetting setup) (cores : ℕ → Core) (t
       → ((w : Word) (d : ℕ) → MarkIs setup (held_by (put cores c changed_core)) (changing ∷ t) w d)
       → ((w : Word) → WordIs (state_after setup (changing ∷ t)) (times_of setup (changing ∷ t)) w
       (settled setup (held_by (put cores c changed_core)) (changing ∷ t) w))
-      → ((f i v : ℕ) → (holds changed_core).bare f i ≡ Some v → IsLent setup (changing ∷ t) c f i)
-      → SparesLent cores changing
+      → ((f i v : ℕ) → (holds changed_core).bare f i ≡ Some v → IsExclusive setup (changing ∷ t) c f i)
+      → SparesExclusive cores changing
       → ((f : ℕ) → SumIs setup (held_by (put cores c changed_core)) (changing ∷ t) f)
       → MayDecide setup t changing (Some r) (phase t c)
       → (IsAlone t changing → r ≡ alone (state_after setup t) c a.call)

@@ -3,7 +3,7 @@ use Rattle.kept_facts.proofs.Common.{◌≡◌, ◌⊎◌, inl, inr, ℕ, ◌<�
 use Rattle.kept_facts.proofs.Common.{false≢true, Setting, Entry, Held, Closing, entry_of_word, EntryAt, Place, Frame, Kernel, Table, Leaf}
 use Rattle.kept_facts.proofs.Common.{Pages, Pleaf, PlaceOf, is_node, entry_mark, mark_in_frame, Trace, state_after, last_left, stamp}
 use Rattle.kept_facts.proofs.Common.{Core, marked_by, settled_by, PlaceIs, IsFrameWord, count_room, held_by, Invariant, limits_of}
-use Rattle.kept_facts.proofs.Common.{unlent_value, node_keeps_none}
+use Rattle.kept_facts.proofs.Common.{not_exclusive_value, node_keeps_none}
 use Rattle.kept_facts.specs.entry_words.specs.declared.entry.Entry.TheVariants.{Free, Quiescing}
 
 -- The word of a place carries the mark of a core.
@@ -58,7 +58,8 @@ place_reads setup cores t stands f i node below = by_mark (marked_by setup t (En
           (subst (λ (n : ℕ). IsFrameWord (state_after setup t).limits.frames
           (count_room (state_after setup t)) ((state_after setup t).frame f)
           ((state_after setup t).place f i) (stamp setup t (PlaceOf f i)) i n)
-          (unlent_value setup cores t stands f (node_keeps_none ((state_after setup t).frame f) node) i (last_left setup t (EntryAt f i)))
+          (not_exclusive_value setup cores t stands f (node_keeps_none ((state_after setup t).frame f) node) i (last_left setup t
+          (EntryAt f i)))
           (subst (λ o. IsFrameWord (state_after setup t).limits.frames (count_room (state_after setup t))
           ((state_after setup t).frame f) ((state_after setup t).place f i)
           (stamp setup t (PlaceOf f i)) i

@@ -10,7 +10,8 @@ use Rattle.kept_facts.proofs.Common.{Stage, Decided, Leave, ActiveCall, Core, co
 use Rattle.kept_facts.proofs.Common.{phase_at, KnowsAt, Knows, IsCount, CallIs, WorksIn, CoreIs, is_flushing, flushing_in, is_done}
 use Rattle.kept_facts.proofs.Common.{holds_at, holds_in, holds, held_by, times_of, counted_in, SumIs, Invariant, marks_own, settled_on}
 use Rattle.kept_facts.proofs.Common.{ReadsAlike, reads_alike, StaysSaid, word_stays, carry_marks, carry_words, sums_stay, counts_bare}
-use Rattle.kept_facts.proofs.Common.{lent_open, lent_none, lent_free, lent_elsewhere, nothing, count_of, holds_counts, settled, Acquired}
+use Rattle.kept_facts.proofs.Common.{exclusive_open, exclusive_none, exclusive_free, exclusive_elsewhere}
+use Rattle.kept_facts.proofs.Common.{nothing, count_of, holds_counts, settled, Acquired}
 use Rattle.kept_facts.proofs.Common.{CountsAt, All-nil, IsCalm, calm_words, counted_rises, none_stored, IsUntimed, plain_time, plain_exit}
 use Rattle.kept_facts.proofs.Common.{BeginsNone, plain_begins}
 use Rattle.kept_facts.specs.trace_laws.proofs.Carries.{carries_own}
@@ -24,14 +25,14 @@ use Rattle.kept_facts.specs.kernel_history.proofs.Inside.{inside-own, inside-oth
 use Rattle.kept_facts.specs.kernel_history.proofs.Steps.{exit_of-own, exit_of-other}
 use Rattle.kept_facts.proofs.WordFrames.{write_marks, write_words}
 use Rattle.kept_facts.specs.core_invariant.proofs.Bare.{IsNotKept, free_value}
-use Rattle.kept_facts.proofs.Lent.{keeps_there, lent_still}
+use Rattle.kept_facts.proofs.Exclusive.{keeps_there, exclusive_still}
 use Rattle.step_ways.proofs.Flushing.{still_flushed, open_flushed}
 use Rattle.step_ways.proofs.Good.{IsGood, SparesBlanks, spares_other}
 use Rattle.step_ways.proofs.Users.{SparesBy, spared, spares_none}
 use Rattle.kept_facts.proofs.Calm.{calm_returned, calm_own}
 use Rattle.kept_facts.proofs.Calm.{plain_flushed, none_time, calm_same}
 use Rattle.step_ways.proofs.Loads.{Lands, IsOfCall, step_to, next_at, core_in_call, some_left, core_is, call_is, in_call}
-use Rattle.step_ways.proofs.Loads.{inner, inner_within, inner_disciplined, inner_near, inner_works, inner_own, is_active}
+use Rattle.step_ways.proofs.Loads.{inner, inner_within, inner_disciplined, inner_footprint, inner_works, inner_own, is_active}
 
 -- The clock fits a stamp: each stamp was drawn by a call that was counted.
 
@@ -122,7 +123,7 @@ module _ (setup : Setting) (setting : IsSetting setup) (cores : ℕ → Core) (t
         → Knows setup (e ∷ t) c (cores c).own.table (next_at a found stage)
         → IsGood setup cores t e (core_in_call (cores c) made (next_at a found stage)))
     decides_writing move made r found stage was now small of_call lands
-        opens closes same_held same_bare unlent alike plain blanks counted rises
+        opens closes same_held same_bare not_exclusive alike plain blanks counted rises
         works same
         new commits sums may first knows =
         let e : Step = inner setup setting cores t stands c here a active move (Some r) None in
@@ -149,14 +150,14 @@ module _ (setup : Setting) (setting : IsSetting setup) (cores : ℕ → Core) (t
           disciplined = inner_disciplined setup setting cores t stands c here a active move (Some r) None of_call
               (marks_own setup cores t e after (λ w there. still w) stands.marks marks)
               (λ d m other. absurd (none_some d (sym was ∙ m)));
-          near = inner_near setup setting cores t stands c here a active move (Some r) None of_call;
+          footprint = inner_footprint setup setting cores t stands c here a active move (Some r) None of_call;
           blanks = blanks;
           counted = spared setup t e a.call ((call_is setup setting cores t stands c here a active).phase ∙ opens) counted;
           marks = marks;
           words = carry_words setup cores t e after still alike was now bares
-              (λ x. free_value (held_by cores) (word_of move) x unlent) same new commits stands.words;
-          lent = lent_open setup cores t e after a a.call active opens (λ f i v kept. sym (bares f i) ∙ kept);
-          spares = lent_free cores e unlent;
+              (λ x. free_value (held_by cores) (word_of move) x not_exclusive) same new commits stands.words;
+          exclusive = exclusive_open setup cores t e after a a.call active opens (λ f i v kept. sym (bares f i) ∙ kept);
+          spares = exclusive_free cores e not_exclusive;
           sums = sums;
           draws = (let d = stands.draws in let b = plain.same in let g = rises in omega arith);
           time = none_time setup t e plain;
@@ -190,14 +191,14 @@ module _ (setup : Setting) (setting : IsSetting setup) (cores : ℕ → Core) (t
         → Knows setup (e ∷ t) c (cores c).own.table (next_at a found stage)
         → IsGood setup cores t e (core_in_call (cores c) made (next_at a found stage)))
     writes_on move made r found stage was now small of_call lands opens
-        closes bare_stage unlent alike plain blanks counted rises works same new
+        closes bare_stage not_exclusive alike plain blanks counted rises works same new
         held
         commits sums may first knows =
         let e : Step = inner setup setting cores t stands c here a active move (Some r) None in
         decides_writing move made r found stage was now small of_call lands opens closes
         (λ w. ap (λ h. h.marks w) bare_stage ∙ same_marks (is_done stage) None a.counts w ∙ sym (ap (λ h. h.marks w) held))
         (λ f i. ap (λ h. h.bare f i) bare_stage ∙ counts_bare (is_done stage) a.counts f i
-        ∙ sym (ap (λ h. h.bare f i) held ∙ counts_bare None a.counts f i)) unlent
+        ∙ sym (ap (λ h. h.bare f i) held ∙ counts_bare None a.counts f i)) not_exclusive
         alike plain blanks counted rises works same new
         (λ w own. subst (λ h. WordIs (state_after setup (e ∷ t)) (times_of setup (e ∷ t)) w (h.stands w)) (sym bare_stage) (commits w own))
         sums may first knows
@@ -226,7 +227,7 @@ module _ (setup : Setting) (setting : IsSetting setup) (cores : ℕ → Core) (t
         → (IsAlone t e → r ≡ alone (state_after setup t) c a.call)
         → Knows setup (e ∷ t) c (cores c).own.table (next_at a found stage)
         → IsGood setup cores t e (core_in_call (cores c) made (next_at a found stage)))
-    writes_entry move node index made r found stage at was now small of_call lands opens closes bare_stage unlent calm plain blanks
+    writes_entry move node index made r found stage at was now small of_call lands opens closes bare_stage not_exclusive calm plain blanks
         counts places
         new
         held commits sums may first knows =
@@ -234,7 +235,7 @@ module _ (setup : Setting) (setting : IsSetting setup) (cores : ℕ → Core) (t
         writes_on move made r found stage (ap (marked_by setup t) at ∙ was)
         (ap (λ w. mark_of (state_after setup t) w (left_of move (last_left setup t w))) at ∙ now)
         (subst (λ w. left_of move (last_left setup t w) < 2 ^ 64) (sym at) small) of_call lands opens closes bare_stage
-        (subst (IsNotKept (held_by cores)) (sym at) unlent)
+        (subst (IsNotKept (held_by cores)) (sym at) not_exclusive)
         (reads_alike setup t e calm.frame) (plain_begins setup t e plain) blanks
         (inr (spares_none setup t e (λ f. plain.ends (FrameOf f)))) (counted_rises setup (state_after setup t)
         (state_after setup (e ∷ t)) c calm)
@@ -261,7 +262,7 @@ module _ (setup : Setting) (setting : IsSetting setup) (cores : ℕ → Core) (t
         → SparesBlanks setup t e
         → (Carries setup t e c → Knows setup (e ∷ t) c (cores c).own.table (next_at a found stage))
         → IsGood setup cores t e (core_in_call (cores c) (cores c).own.made (next_at a found stage)))
-    stores_on move found stage was now small of_call flushes not_clock no_count lands same unlent at new blanks knows =
+    stores_on move found stage was now small of_call flushes not_clock no_count lands same not_exclusive at new blanks knows =
         let e : Step = inner setup setting cores t stands c here a active move None None in
         let after : Core = core_in_call (cores c) (cores c).own.made (next_at a found stage) in
         let still : holds after ≡ holds (cores c) = same ∙ ap holds_in (sym active) in
@@ -290,20 +291,20 @@ module _ (setup : Setting) (setting : IsSetting setup) (cores : ℕ → Core) (t
           disciplined = inner_disciplined setup setting cores t stands c here a active move None None of_call
               (marks_own setup cores t e after (λ w there. ap (λ h. h.marks w) still) stands.marks marks)
               (λ d m other. absurd (none_some d (sym was ∙ m)));
-          near = inner_near setup setting cores t stands c here a active move None None of_call;
+          footprint = inner_footprint setup setting cores t stands c here a active move None None of_call;
           blanks = blanks;
           counted = spares_none setup t e (λ f. plain.ends (FrameOf f));
           marks = marks;
           words = write_words setup cores t e after still (λ g. refl) was now
-              (λ x. free_value (held_by cores) (word_of move) x unlent)
+              (λ x. free_value (held_by cores) (word_of move) x not_exclusive)
               (λ v there. calm_words setup t e (calm_same (state_after setup t) c) plain v (λ g i h. refl)
               (λ d h. (refl, plain_exit t e refl d)))
               (word_stays (state_after setup t) (state_after setup (e ∷ t)) (times_of setup t) (times_of setup (e ∷ t)) (word_of move)
               (left_of move (last_left setup t (word_of move)))
               (calm_words setup t e (calm_same (state_after setup t) c) plain (word_of move) (λ g i h. refl)
               (λ d h. (refl, plain_exit t e refl d))) new) stands.words;
-          lent = lent_still setup cores t stands e after (keeps_there setup cores t e after still unlent) refl marks;
-          spares = lent_free cores e unlent;
+          exclusive = exclusive_still setup cores t stands e after (keeps_there setup cores t e after still not_exclusive) refl marks;
+          spares = exclusive_free cores e not_exclusive;
           sums = sums_stay setup t e (held_by cores) (held_by (put cores c after))
               (λ f d. settled_on setup cores t e after still (λ g. refl) (CountAt f d)
               (last_left-there setup (CountAt f d) e t (no_count f d)))
@@ -357,7 +358,8 @@ module _ (setup : Setting) (setting : IsSetting setup) (cores : ℕ → Core) (t
               (Some r) own_word
               (marks_own setup cores t e after (λ w there. ap (λ h. h.marks w) still) stands.marks marks)
               (λ d m other. absurd (none_some d m));
-          near = inner_near setup setting cores t stands c here a active (StoreOf (CoreAt c) (core_word false x)) None (Some r) own_word;
+          footprint = inner_footprint setup setting cores t stands c here a active (StoreOf (CoreAt c) (core_word false x)) None
+              (Some r) own_word;
           blanks = spares_other setup t e (λ f i h. cc);
           counted = spares_none setup t e (λ f. plain.ends (FrameOf f));
           marks = marks;
@@ -370,8 +372,8 @@ module _ (setup : Setting) (setting : IsSetting setup) (cores : ℕ → Core) (t
               (core_reads false x (omega arith) ∙ ap (λ b. Some (record { inside = b; stamp = x })) (sym inside)
               ∙ ap (λ (y : ℕ). Some (record { inside = ((state_after setup (e ∷ t)).core c).inside; stamp = y })) (sym out))
               stands.words;
-          lent = lent_none setup (e ∷ t) c after (λ f i. refl);
-          spares = lent_elsewhere cores e (λ f i h. cc);
+          exclusive = exclusive_none setup (e ∷ t) c after (λ f i. refl);
+          spares = exclusive_elsewhere cores e (λ f i h. cc);
           sums = sums_stay setup t e (held_by cores) (held_by (put cores c after))
               (λ f d. settled_on setup cores t e after still calm.frame (CountAt f d)
               (last_left-there setup (CountAt f d) e t (count_apart f d c)))
@@ -401,7 +403,7 @@ module _ (setup : Setting) (setting : IsSetting setup) (cores : ℕ → Core) (t
         }
       where
         own_word : IsOfCall setup t c a.call (StoreOf (CoreAt c) (core_word false x))
-        own_word = record { moves = eq-eqb c c refl; near = inl tt }
+        own_word = record { moves = eq-eqb c c refl; footprint = inl tt }
 
         counts : CoreIs setup (cores c) t c → (cores c).own.made ≡ ((returned (state_after setup t) c).core c).counted
         counts now = now.works.made ∙ sym (ap (λ k. k.counted) (put_same (state_after setup t).core c _ c refl))
@@ -460,7 +462,7 @@ module _ (setup : Setting) (setting : IsSetting setup) (cores : ℕ → Core) (t
           marks = marks_own setup cores t e after (λ w there. ap (λ h. h.marks w) still) stands.marks marks;
           keeps = λ b m other. absurd (none_some b m);
         };
-        near = record { call = call; is_of = refl; near = inl tt };
+        footprint = record { call = call; is_of = refl; footprint = inl tt };
         blanks = spares_other setup t e (λ f i h. cc);
         counted = spares_none setup t e (λ f. plain.ends (FrameOf f));
         marks = marks;
@@ -474,8 +476,8 @@ module _ (setup : Setting) (setting : IsSetting setup) (cores : ℕ → Core) (t
             (sym inside)
             ∙ ap (λ (y : ℕ). Some (record { inside = ((state_after setup (e ∷ t)).core c).inside; stamp = y })) (sym last))
             stands.words;
-        lent = lent_none setup (e ∷ t) c after (λ f i. ap (λ h. h.bare f i) bare);
-        spares = lent_elsewhere cores e (λ f i h. cc);
+        exclusive = exclusive_none setup (e ∷ t) c after (λ f i. ap (λ h. h.bare f i) bare);
+        spares = exclusive_elsewhere cores e (λ f i h. cc);
         sums = sums_stay setup t e (held_by cores) (held_by (put cores c after))
             (λ f d. settled_on setup cores t e after still calm.frame (CountAt f d)
             (last_left-there setup (CountAt f d) e t (count_apart f d c)))

@@ -39,7 +39,7 @@ use Rattle.freeze_invariant.specs.core_invariant.specs.Holding.{holds_closed, ho
 use Rattle.freeze_invariant.specs.core_invariant.specs.Knows.{KnowsClose, KnowsStore}
 use Rattle.freeze_invariant.specs.core_invariant.specs.Invariant.{holds_pop, holds_push}
 use Rattle.freeze_invariant.specs.core_invariant.specs.Invariant.{holds_stage}
-use Rattle.freeze_invariant.specs.kept_facts.proofs.Lent.{lent_unmarked}
+use Rattle.freeze_invariant.specs.kept_facts.proofs.Exclusive.{exclusive_unmarked}
 use Rattle.freeze_invariant.specs.core_invariant.specs.Holding.{kept_or}
 
 none_some : (x : ℕ) → None ≡ Some x → ⊥
@@ -257,8 +257,8 @@ module _ (setup : Setting) (setting : IsSetting setup) (cores : ℕ → Core) (t
         by : (o : Option ℕ) → (held_by cores d).bare f i ≡ o → o ≡ None
         by None is = refl
         by (Some v) is =
-            let l = stands.lent d f i v is in
-            absurd (no_thread d l.core (lent_unmarked setup cores t stands d f i l (held_none d 0)).thread)
+            let l = stands.exclusive d f i v is in
+            absurd (no_thread d l.core (exclusive_unmarked setup cores t stands d f i l (held_none d 0)).thread)
 
     -- and each settles to what it is
     pub entry_settles : (i : ℕ) → settled setup (held_by cores) t (EntryAt f i) ≡ last_left setup t (EntryAt f i)

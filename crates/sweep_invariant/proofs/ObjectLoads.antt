@@ -16,7 +16,7 @@ use Rattle.freeze_invariant.proofs.Common.{Undecided, ActiveCall, landed, Core, 
 use Rattle.freeze_invariant.proofs.Common.{KnowsUndecided, holds_in, Invariant, holds}
 use Rattle.freeze_invariant.proofs.Common.{IsQuiet, KnowsSweep, IsLookedAt, names_of, names_on}
 use Rattle.freeze_invariant.proofs.Common.{quiet_frame_on, limits_of, refs, frame_names, opened, events_of, sound_of}
-use Rattle.freeze_invariant.proofs.Common.{IsFrameWord, count_room, release_entry, OwnedBy, IsNearIn}
+use Rattle.freeze_invariant.proofs.Common.{IsFrameWord, count_room, release_entry, OwnedBy, IsInFootprint}
 use Rattle.std.specs.Prelude.{if◌then◌else◌, not}
 use Rattle.freeze_invariant.specs.spk_nums.specs.declared.replies.Reply.TheVariants as reply
 use Rattle.freeze_invariant.specs.act_states.specs.Untypings.{owned_dues}
@@ -106,8 +106,8 @@ module _ (setup : Setting) (setting : IsSetting setup) (cores : ℕ → Core) (t
     looks = record {
       of_call = record {
         moves = refl;
-        near = inl (subst (λ (n : ℕ). IsNearIn c a.call (EntryAt n i) s) (sym knows.frame)
-            (calls.near setup setting cores t stands c here a active m stage_is has));
+        footprint = inl (subst (λ (n : ℕ). IsInFootprint c a.call (EntryAt n i) s) (sym knows.frame)
+            (calls.footprint setup setting cores t stands c here a active m stage_is has));
       };
       kept = refl;
       apart = λ d. refl;

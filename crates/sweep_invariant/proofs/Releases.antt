@@ -5,12 +5,12 @@ use Rattle.freeze_invariant.proofs.Common.{false, List, [], ◌∷◌, Option, S
 use Rattle.freeze_invariant.proofs.Common.{ne_eqb, le-leb, leb-true, leb-false, ltb-true, ltb-false, All-head}
 use Rattle.freeze_invariant.proofs.Common.{All-tail, Setting, IsSetting, Reply, count_of_word, word_of_count, Word, EntryAt}
 use Rattle.freeze_invariant.proofs.Common.{FrameAt, CountAt, CoreAt, FlushAt, LiveAt, ClockAt, same_word, Move, StoreOf, word_of, told_of}
-use Rattle.freeze_invariant.proofs.Common.{State, put, IsNearIn, frames_near, is_one_of, marked_by, count_mark, Step, Trace}
+use Rattle.freeze_invariant.proofs.Common.{State, put, IsInFootprint, footprint_frames, is_one_of, marked_by, count_mark, Step, Trace}
 use Rattle.freeze_invariant.proofs.Common.{state_after, last_left, same_word-other, Acquired, Thaw, Nothing, StageFits, ActiveCall}
 use Rattle.freeze_invariant.proofs.Common.{Decided, GoesOn, went_with, Core, holds_release, holds_thaw, AreApart, Holding}
 use Rattle.freeze_invariant.proofs.Common.{committed, count_of, holds_counts, settled, settled_by, IsCount, KnowsTail, KnowsUnmark}
 use Rattle.freeze_invariant.proofs.Common.{phase_at, Invariant, done_by, held_by, holds, holds_at, holds_in, ThawsFrame, SaysCount}
-use Rattle.freeze_invariant.proofs.Common.{count_room, as_none, counts_bare, counts_on, lent_elsewhere}
+use Rattle.freeze_invariant.proofs.Common.{count_room, as_none, counts_bare, counts_on, exclusive_elsewhere}
 use Rattle.std.specs.Prelude.{if◌then◌else◌, slice_get}
 use Rattle.std.proofs.Common.{All}
 use Rattle.freeze_invariant.specs.spk_nums.specs.declared.replies.Reply.TheVariants as reply
@@ -32,7 +32,7 @@ use Rattle.freeze_invariant.specs.step_ways.proofs.Good.{spares_other}
 use Rattle.freeze_invariant.specs.step_ways.proofs.Loads.{call_is, core_in_call, inner, is_active}
 use Rattle.freeze_invariant.specs.step_ways.proofs.Refusals.{GoodTook}
 use Rattle.freeze_invariant.specs.step_ways.proofs.Writes.{same_marks}
-use Rattle.freeze_invariant.specs.count_invariant.proofs.MakingCounts.{argument_near}
+use Rattle.freeze_invariant.specs.count_invariant.proofs.MakingCounts.{argument_footprint}
 
 some_inj : (x y : ℕ) → Some x ≡ Some y → x ≡ y
 some_inj x y h = cc
@@ -192,8 +192,8 @@ module _ (setup : Setting) (setting : IsSetting setup) (cores : ℕ → Core) (t
   none_kept : (o : Option Thaw) (xs : List Acquired) (g i : ℕ) → (holds_release (release o) (holds_counts fate xs)).bare g i ≡ None
   none_kept o xs g i = release_bare (release o) (holds_counts fate xs) g i ∙ counts_bare fate xs g i
 
-  frame_near : KnowsUnmark a.call f word → is_one_of f (frames_near s c a.call) ≡ true
-  frame_near unmark = argument_near s c a.call f unmark.argument
+  frame_footprint : KnowsUnmark a.call f word → is_one_of f (footprint_frames s c a.call) ≡ true
+  frame_footprint unmark = argument_footprint s c a.call f unmark.argument
 
   -- A count is committed.
   module _ (o : Option Thaw) (stage_is : IsAt o) (has : Known o) (x : Acquired) (xs : List Acquired) (counts_are : a.counts ≡ x ∷ xs) where
@@ -246,7 +246,7 @@ module _ (setup : Setting) (setting : IsSetting setup) (cores : ℕ → Core) (t
         let after : Core = core_in_call (cores c) (cores c).own.made next in
         let spells = counts.spelling.spells stored _ stored_says.says in
         counting.holds_on setup setting cores t stands c here a active store next (λ b. refl) (λ h. cc) refl
-        (record { moves = own_counts a.call x.pin.frame c x.pin.core first.core first.counts; near = inr first.near }) lands
+        (record { moves = own_counts a.call x.pin.frame c x.pin.core first.core first.counts; footprint = inr first.footprint }) lands
         (subst (λ (k : ℕ). k < 2 ^ 64) spells.1 (counts.spelling.small _ spells.0))
         (λ w there.
         let rest = counting.rest_elsewhere fate x xs w there in
@@ -270,7 +270,7 @@ module _ (setup : Setting) (setting : IsSetting setup) (cores : ℕ → Core) (t
         ))
         (counts_on setup t e c a.call (λ own. refl) xs (All-tail (IsCount setup t c a.call) x xs known))
         apart.1
-        (spares_other setup t e (λ g i h. cc)) (lent_elsewhere cores e (λ g i h. cc))
+        (spares_other setup t e (λ g i h. cc)) (exclusive_elsewhere cores e (λ g i h. cc))
 
   -- All are committed: a counter of the frame is given back.
   module _ (th : Thaw) (stage_is : IsAt (Some th)) (has : Known (Some th)) (counts_are : a.counts ≡ []) where
@@ -314,8 +314,8 @@ module _ (setup : Setting) (setting : IsSetting setup) (cores : ℕ → Core) (t
           ap (λ (k : ℕ). if same_word w (FrameAt f) then word else k) over.1,
         )
 
-    near_counter : IsNearIn c a.call at s
-    near_counter = subst (λ (k : ℕ). is_one_of k (frames_near s c a.call) ≡ true) (sym has.1.thaws) (frame_near has.0)
+    footprint_counter : IsInFootprint c a.call at s
+    footprint_counter = subst (λ (k : ℕ). is_one_of k (footprint_frames s c a.call) ≡ true) (sym has.1.thaws) (frame_footprint has.0)
 
     counts_own : IsTrue (may_count c a.call th.frame th.at)
     counts_own = subst (λ k. IsTrue (may_count c k th.frame th.at)) (sym has.1.retypes)
@@ -328,7 +328,7 @@ module _ (setup : Setting) (setting : IsSetting setup) (cores : ℕ → Core) (t
         let after : Core = core_in_call (cores c) (cores c).own.made next in
         let spells = counts.spelling.spells given _ given_says.says in
         counting.holds_on setup setting cores t stands c here a active (thaw_move th) next (λ b. refl) (λ h. cc) refl
-        (record { moves = counts_own; near = inl near_counter }) lands
+        (record { moves = counts_own; footprint = inl footprint_counter }) lands
         (subst (λ (k : ℕ). k < 2 ^ 64) spells.1 (counts.spelling.small _ spells.0))
         (λ w there.
         let over = elsewhere w there in
@@ -350,7 +350,7 @@ module _ (setup : Setting) (setting : IsSetting setup) (cores : ℕ → Core) (t
           },
         ))
         (Rattle.std.proofs.lemmas.List.Elements.All-nil (IsCount setup (e ∷ t) c a.call)) tt
-        (spares_other setup t e (λ g i h. cc)) (lent_elsewhere cores e (λ g i h. cc))
+        (spares_other setup t e (λ g i h. cc)) (exclusive_elsewhere cores e (λ g i h. cc))
 
   -- And then its word.
   module _ (stage_is : IsAt None) (has : Known None) (counts_are : a.counts ≡ []) where
@@ -376,7 +376,7 @@ module _ (setup : Setting) (setting : IsSetting setup) (cores : ℕ → Core) (t
         let e : Step = inner setup setting cores t stands c here a active give_back None None in
         let after : Core = core_in_call (cores c) (cores c).own.made next in
         counting.holds_on setup setting cores t stands c here a active give_back next (λ b. refl) (λ h. cc) refl
-        (record { moves = has.0.changes; near = inl (frame_near has.0) }) lands has.0.small
+        (record { moves = has.0.changes; footprint = inl (frame_footprint has.0) }) lands has.0.small
         (λ w there. (
           sym (ap (λ h. h.marks w) was_marked ∙ ap (λ b. if b then true else none.marks w) (same_word-other w (FrameAt f) there)),
           sym (ap (λ h. h.stands w) was_marked ∙ ap (λ b. if b then word else none.stands w) (same_word-other w (FrameAt f) there)),
@@ -390,7 +390,7 @@ module _ (setup : Setting) (setting : IsSetting setup) (cores : ℕ → Core) (t
         (ap (phase_at a.call) stage_is)
         (λ carries. tt)
         (Rattle.std.proofs.lemmas.List.Elements.All-nil (IsCount setup (e ∷ t) c a.call)) tt
-        (spares_other setup t e (λ g i h. cc)) (lent_elsewhere cores e (λ g i h. cc))
+        (spares_other setup t e (λ g i h. cc)) (exclusive_elsewhere cores e (λ g i h. cc))
 
 -- The step of a call that has still to release a frame.
 pub release_good : (setup : Setting) → IsSetting setup

@@ -4,7 +4,7 @@ use Rattle.thread_invariant.proofs.Common.{None, IsTrue, refl, sym, ◌∙◌, a
 use Rattle.thread_invariant.proofs.Common.{IsSetting, Switch, EntryAt, Move, LoadOf, word_of, Thread, Kernel, State, thread_in, found}
 use Rattle.thread_invariant.proofs.Common.{fits, frame_names, named_by, Rule, Change, Judged, Refused, Found, RuleMay, outcome, rule_of}
 use Rattle.thread_invariant.proofs.Common.{change_of, named_fit, IsSound, opened, changes_in_frame, changes_threads, raises_clock}
-use Rattle.thread_invariant.proofs.Common.{events_of, is_one_of, frames_named, frames_near, frames_own, frame_argument, frame_at_slot}
+use Rattle.thread_invariant.proofs.Common.{events_of, is_one_of, frames_named, footprint_frames, frames_own, frame_argument, frame_at_slot}
 use Rattle.thread_invariant.proofs.Common.{Step, Trace, Open, phase, state_after, last_left, target_of, wide_ways, opened_is}
 use Rattle.thread_invariant.proofs.Common.{sound_of, calls_go, First, plan_for, GoesBy, own_pages, rule_after, Leads, LeadsIn, Plan}
 use Rattle.thread_invariant.proofs.Common.{outcome_left, left_may, dues, Switching, SwitchAt, Act, Goes, Undecided, ActiveCall, StageFits}
@@ -15,7 +15,7 @@ use Rattle.thread_invariant.specs.spk_nums.specs.declared.kinds.Kind.TheVariants
 use Rattle.thread_invariant.specs.spk_nums.specs.declared.replies.Reply.TheVariants as reply
 use Rattle.thread_invariant.specs.kernel_rules.specs.InvocationCalls.{switch_to, switches}
 use Rattle.thread_invariant.specs.kernel_history.specs.Footprint.{frames_about}
-use Rattle.thread_invariant.specs.plan_ways.proofs.Near.{named_near, one_left, one_right}
+use Rattle.thread_invariant.specs.plan_ways.proofs.InFootprint.{named_footprint, one_left, one_right}
 use Rattle.thread_invariant.specs.act_states.specs.Switches.{SwitchingFits, switching_dues}
 use Rattle.thread_invariant.specs.act_states.specs.declared.work.Act.TheVariants.{Switch as switch_act}
 use Rattle.thread_invariant.specs.core_invariant.specs.Threads.{KnowsSwitch, KnowsSwitchAt}
@@ -23,7 +23,7 @@ use Rattle.thread_invariant.specs.step_ways.proofs.Loads.{OnlyLooks, step_to, ca
 use Rattle.thread_invariant.specs.step_ways.proofs.Refusals.{GoodTook, ticks_at}
 use Rattle.thread_invariant.specs.core_invariant.proofs.ThreadHolds.{switching_bare}
 use Rattle.thread_invariant.specs.count_invariant.proofs.Acquiring.{plan_leads, goes_by}
-use Rattle.thread_invariant.specs.count_invariant.proofs.SwitchCounts.{IsSwitch, switch_of, thread_kind, thread_near, old_near}
+use Rattle.thread_invariant.specs.count_invariant.proofs.SwitchCounts.{IsSwitch, switch_of, thread_kind, thread_footprint, old_footprint}
 use Rattle.thread_invariant.specs.live_invariant.proofs.Numbers.{one_of_many}
 use Rattle.switch_invariant.proofs.ThreadWords.{thread_is}
 
@@ -32,7 +32,7 @@ thread_about : (s : State) (c : ℕ) (call : Call) (ks : List Capability) (f q :
     (is : IsSwitch call ks f q) → Leads (LeadsIn s c) (plan_for call).names [] ks → is_one_of f (frames_about s c call) ≡ true
 thread_about s c call ks f q is lead =
     one_left f (frames_named s c (rule_of s c call)) (frame_at_slot s (target_of s c (rule_of s c call)) ++ frame_argument call)
-    (named_near s c (own_pages s c) (plan_for call) (rule_of s c call) ks (calls_go s c call) lead First is.thread at f names_it)
+    (named_footprint s c (own_pages s c) (plan_for call) (rule_of s c call) ks (calls_go s c call) lead First is.thread at f names_it)
   where
     at : at_place ks First ≡ Some is.thread
     at = ap (λ xs. at_place xs First) is.found_is
@@ -152,16 +152,16 @@ module _ (setup : Setting) (setting : IsSetting setup) (cores : ℕ → Core) (t
   may_run e so = left_may s c (own_pages s c) a.plan (rule_of s c a.call) a.found by_plan leads (reply.Running e)
       (subst (λ x. RuleMay s c x (reply.Running e)) (sym (left ∙ ap left_rule so)) (inl (refl, refl)))
 
-  -- the thread is near, and the core's own, and the components of its stack
-  pub near : is_one_of (claimed_by m.at) (frames_near (state_after setup t) c a.call) ≡ true
-  near = thread_near s c a.call a.found f m.tcap is_switch call_leads
+  -- the thread is in the footprint, and the core's own, and the components of its stack
+  pub footprint : is_one_of (claimed_by m.at) (footprint_frames (state_after setup t) c a.call) ≡ true
+  footprint = thread_footprint s c a.call a.found f m.tcap is_switch call_leads
 
-  pub near_own : is_one_of m.old (frames_near (state_after setup t) c a.call) ≡ true
-  near_own = old_near s c a.call m knows.leaves
+  pub footprint_own : is_one_of m.old (footprint_frames (state_after setup t) c a.call) ≡ true
+  footprint_own = old_footprint s c a.call m knows.leaves
 
-  pub near_stack : (g : ℕ) → is_one_of g (frame_names ((state_after setup t).frame (claimed_by m.at))) ≡ true
-      → is_one_of g (frames_near (state_after setup t) c a.call) ≡ true
-  near_stack g in_stack =
+  pub footprint_stack : (g : ℕ) → is_one_of g (frame_names ((state_after setup t).frame (claimed_by m.at))) ≡ true
+      → is_one_of g (footprint_frames (state_after setup t) c a.call) ≡ true
+  footprint_stack g in_stack =
       one_right g (frames_own s c) (map (λ at. at.node) (wide_ways s c (rule_of s c a.call))
       ++ (frames_about s c a.call ++ flat_map (λ h. frame_names (s.frame h)) (frames_about s c a.call)))
       (one_right g (map (λ at. at.node) (wide_ways s c (rule_of s c a.call)))
@@ -200,23 +200,23 @@ module _ (setup : Setting) (setting : IsSetting setup) (cores : ℕ → Core) (t
     at = now;
   }
 
-  pub looks_at : (g i : ℕ) → is_one_of g (frames_near (state_after setup t) c a.call) ≡ true
+  pub looks_at : (g i : ℕ) → is_one_of g (footprint_frames (state_after setup t) c a.call) ≡ true
       → OnlyLooks setup t c a.call (LoadOf (EntryAt g i))
-  looks_at g i near_it = record { of_call = record { moves = refl; near = inl near_it }; kept = refl; apart = λ d. refl }
+  looks_at g i footprint_it = record { of_call = record { moves = refl; footprint = inl footprint_it }; kept = refl; apart = λ d. refl }
 
   abbrev pub load : ℕ → ℕ → Step
   load g i = step_to c None (LoadOf (EntryAt g i)) (last_left setup t (EntryAt g i)) None None
 
   -- it goes on after a load
-  pub goes_on_to : (g i : ℕ) → is_one_of g (frames_near (state_after setup t) c a.call) ≡ true
+  pub goes_on_to : (g i : ℕ) → is_one_of g (footprint_frames (state_after setup t) c a.call) ≡ true
       → (at : SwitchAt) → claimed_by at ≡ claimed_by m.at
       → holds_at (Undecided (Act (switch_act (record m { at = at })))) a.counts ≡ holds_in (Some a)
       → KnowsSwitchAt setup (load g i ∷ t) c at
       → dues (switch_act (record m { at = at })) ≡ map due_of a.counts
       → GoodTook setup cores t c (LoadOf (EntryAt g i)) (landed a (Goes (Act (switch_act (record m { at = at })))))
-  goes_on_to g i near_it at same held now due lands =
+  goes_on_to g i footprint_it at same held now due lands =
       loads_on setup setting cores t stands c here a active (LoadOf (EntryAt g i)) a.found
-      (Undecided (Act (switch_act (record m { at = at })))) (looks_at g i near_it) lands held opens
+      (Undecided (Act (switch_act (record m { at = at })))) (looks_at g i footprint_it) lands held opens
       (λ carries. record {
         acts = has.acts;
         names = names_on setup setting t (load g i) stands.legal c a.call is_open carries (cores c).own.table a.plan a.found has.names;

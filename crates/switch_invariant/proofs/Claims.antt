@@ -5,11 +5,11 @@ use Rattle.thread_invariant.proofs.Common.{Option, Some, None, IsTrue, arith, re
 use Rattle.thread_invariant.proofs.Common.{lt-ltb, Setting, IsSetting, left_if, stack_of_word, DepthFits, ThreadFits, word_of_thread}
 use Rattle.thread_invariant.proofs.Common.{thread_of_word, ThreadWord, Idle, Running, Claimed, Word, EntryAt, Move, LoadOf, CompareOf}
 use Rattle.thread_invariant.proofs.Common.{left_of, word_of, same_same, State, first_of_stack, put, thread_in, fits, put_same, is_one_of}
-use Rattle.thread_invariant.proofs.Common.{frames_near, thread_mark, marked_by, thread_value, Step, Trace, state_after, last_left}
+use Rattle.thread_invariant.proofs.Common.{footprint_frames, thread_mark, marked_by, thread_value, Step, Trace, state_after, last_left}
 use Rattle.thread_invariant.proofs.Common.{own_read, same_word-other, own_read-here, AtStack, Switching, LoadTable, Act, Goes, Undecided}
 use Rattle.thread_invariant.proofs.Common.{ActiveCall, GoesOn, landed, went, Core, holds_counts, settled_by, KnowsUndecided, holds}
 use Rattle.thread_invariant.proofs.Common.{held_by, holds_in, Invariant, HasComp, claimed_by, holds_idle, as_none, counts_bare, none_kept}
-use Rattle.thread_invariant.proofs.Common.{names_on, counts_on, lent_free}
+use Rattle.thread_invariant.proofs.Common.{names_on, counts_on, exclusive_free}
 use Rattle.thread_invariant.specs.spk_nums.specs.declared.kinds.Kind.TheVariants as kind
 use Rattle.thread_invariant.specs.tcap_words.proofs.ThreadLemmas as words
 use Rattle.thread_invariant.specs.stage_thread.specs.Claiming.{claim_compared, claimed_within, compared_after, stack_end, thread_after}
@@ -70,10 +70,10 @@ module _ (setup : Setting) (setting : IsSetting setup) (cores : ℕ → Core) (t
     thread_at : IsTrue (fits kind.Thread ((state_after setup t).frame f))
     thread_at = subst (λ at. IsTrue (fits kind.Thread (s.frame (claimed_by at)))) is has.knows.knows.thread.thread
 
-    near_it : is_one_of f (frames_near s c a.call) ≡ true
-    near_it = subst (λ at. is_one_of (claimed_by at)
-        (frames_near s c a.call) ≡ true) is
-        (calls.near setup setting cores t stands c here a active m stage_is has)
+    footprint_it : is_one_of f (footprint_frames s c a.call) ≡ true
+    footprint_it = subst (λ at. is_one_of (claimed_by at)
+        (footprint_frames s c a.call) ≡ true) is
+        (calls.footprint setup setting cores t stands c here a active m stage_is has)
 
     held_is : holds_in (Some a) ≡ holds_counts None a.counts
     held_is = calls.held_at setup setting cores t stands c here a active m stage_is has (Claim (AtLoad f by)) is
@@ -91,7 +91,7 @@ module _ (setup : Setting) (setting : IsSetting setup) (cores : ℕ → Core) (t
     idle_good depth says =
         let spells = words.spelling.spells was (Idle depth) says in
         let e : Step = calls.load setup setting cores t stands c here a active m stage_is has f 0 in
-        calls.goes_on_to setup setting cores t stands c here a active m stage_is has f 0 near_it (Claim (AtCompare f by depth))
+        calls.goes_on_to setup setting cores t stands c here a active m stage_is has f 0 footprint_it (Claim (AtCompare f by depth))
         (sym (ap claimed_by is)) (sym held_is)
         ((
           calls.known_at setup setting cores t stands c here a active m stage_is has (Claim (AtLoad f by)) is,
@@ -105,7 +105,7 @@ module _ (setup : Setting) (setting : IsSetting setup) (cores : ℕ → Core) (t
         refuses_running setup setting cores t stands c here a active
         (calls.opens setup setting cores t stands c here a active m stage_is has) held_is
         (calls.room setup setting cores t stands c here a active m stage_is has) (LoadOf (EntryAt f 0))
-        (calls.looks_at setup setting cores t stands c here a active m stage_is has f 0 near_it) e has.acts
+        (calls.looks_at setup setting cores t stands c here a active m stage_is has f 0 footprint_it) e has.acts
         (calls.may_run setup setting cores t stands c here a active m stage_is has e (runs_at (Some e) runs))
         (λ nobody. calls.by_runs setup setting cores t stands c here a active m stage_is has (Some e) (runs_at (Some e) runs))
       where
@@ -132,7 +132,7 @@ module _ (setup : Setting) (setting : IsSetting setup) (cores : ℕ → Core) (t
         refuses_busy setup setting cores t stands c here a active
         (calls.opens setup setting cores t stands c here a active m stage_is has) held_is
         (calls.room setup setting cores t stands c here a active m stage_is has) (LoadOf (EntryAt f 0))
-        (calls.looks_at setup setting cores t stands c here a active m stage_is has f 0 near_it)
+        (calls.looks_at setup setting cores t stands c here a active m stage_is has f 0 footprint_it)
         (calls.plain setup setting cores t stands c here a active m stage_is has) d
         (counts_apart None a.counts f 0) (mark_is ∙ ap thread_mark says) (λ node. absurd (no_node (s.frame f) thread_at node))
 
@@ -177,9 +177,9 @@ module _ (setup : Setting) (setting : IsSetting setup) (cores : ℕ → Core) (t
     is_thread : IsTrue (fits kind.Thread (s.frame f))
     is_thread = subst (λ x. IsTrue (fits kind.Thread (s.frame (claimed_by x)))) is has.knows.knows.thread.thread
 
-    is_near : is_one_of f (frames_near s c a.call) ≡ true
-    is_near = subst (λ x. is_one_of (claimed_by x) (frames_near s c a.call) ≡ true) is
-        (calls.near setup setting cores t stands c here a active m stage_is has)
+    is_in_it : is_one_of f (footprint_frames s c a.call) ≡ true
+    is_in_it = subst (λ x. is_one_of (claimed_by x) (footprint_frames s c a.call) ≡ true) is
+        (calls.footprint setup setting cores t stands c here a active m stage_is has)
 
     counts_held : holds_in (Some a) ≡ holds_counts None a.counts
     counts_held = calls.held_at setup setting cores t stands c here a active m stage_is has (Claim (AtCompare f by depth)) is
@@ -194,7 +194,7 @@ module _ (setup : Setting) (setting : IsSetting setup) (cores : ℕ → Core) (t
     of_call : IsOfCall setup t c a.call compare
     of_call = record {
       moves = calls.changes_it setup setting cores t stands c here a active m stage_is has f is_thread;
-      near = inl is_near;
+      footprint = inl is_in_it;
     }
 
     mark_shows : marked_by setup t (EntryAt f 0) ≡ thread_mark (thread_of_word found)
@@ -300,7 +300,7 @@ module _ (setup : Setting) (setting : IsSetting setup) (cores : ℕ → Core) (t
           (counts_on setup t e c a.call (λ own. refl) a.counts (call_is setup setting cores t stands c here a active).counts)
           (call_is setup setting cores t stands c here a active).apart
           (spares_thread setup t e f 0 refl is_thread)
-          (lent_free cores e (not_kept cores f 0 unkept))
+          (exclusive_free cores e (not_kept cores f 0 unkept))
 
     pub compare_good : GoodTook setup cores t c compare
         (landed a (took_claim m (compared_after (found == expected) f by depth) (claim_compared (found == expected))))
@@ -369,8 +369,8 @@ module _ (setup : Setting) (setting : IsSetting setup) (cores : ℕ → Core) (t
 
     goes : GoodTook setup cores t c (LoadOf (EntryAt f depth)) (landed a (Goes (Act (switch_act (record m { at = LoadTable to })))))
     goes = calls.goes_on_to setup setting cores t stands c here a active m stage_is has f depth
-        (subst (λ x. is_one_of (claimed_by x) (frames_near s c a.call) ≡ true) is
-        (calls.near setup setting cores t stands c here a active m stage_is has)) (LoadTable to)
+        (subst (λ x. is_one_of (claimed_by x) (footprint_frames s c a.call) ≡ true) is
+        (calls.footprint setup setting cores t stands c here a active m stage_is has)) (LoadTable to)
         (sym (ap claimed_by is)) (sym idle_held) at_top
         (calls.dues_at setup setting cores t stands c here a active m stage_is has (Claim (AtStack f depth)) is)
 

@@ -6,7 +6,7 @@ use Rattle.thread_invariant.proofs.Common.{StoreOf, same_same, State, put, threa
 use Rattle.thread_invariant.proofs.Common.{thread_value, Step, Trace, state_after, last_left, same_word-other, Switching, Act, Undecided}
 use Rattle.thread_invariant.proofs.Common.{ActiveCall, landed, went, Core, Holding, holds_counts, settled_by, KnowsUndecided, holds}
 use Rattle.thread_invariant.proofs.Common.{holds_in, held_by, Invariant, claimed_by, holds_idle, is_claimed, as_none, counts_bare}
-use Rattle.thread_invariant.proofs.Common.{none_kept, names_on, counts_on, lent_free, runs_on_own}
+use Rattle.thread_invariant.proofs.Common.{none_kept, names_on, counts_on, exclusive_free, runs_on_own}
 use Rattle.thread_invariant.specs.spk_nums.specs.declared.kinds.Kind.TheVariants as kind
 use Rattle.thread_invariant.specs.tcap_words.proofs.ThreadLemmas as words
 use Rattle.thread_invariant.specs.stage_thread.specs.declared.claim.Claimed.{Claimed as ClaimedOf}
@@ -122,7 +122,7 @@ module _ (setup : Setting) (setting : IsSetting setup) (cores : ℕ → Core) (t
       counters.holds_on setup setting cores t stands c here a active store next (λ b. refl) (λ h. cc) refl
       (record {
         moves = calls.changes_it setup setting cores t stands c here a active m stage_is has m.old own;
-        near = inl (calls.near_own setup setting cores t stands c here a active m stage_is has);
+        footprint = inl (calls.footprint_own setup setting cores t stands c here a active m stage_is has);
       }) lands
       (words.spelling.small (Claimed m.core m.old_depth) claimed_fits)
       (λ w other. (
@@ -155,4 +155,4 @@ module _ (setup : Setting) (setting : IsSetting setup) (cores : ℕ → Core) (t
       (counts_on setup t e c a.call (λ own. refl) a.counts (call_is setup setting cores t stands c here a active).counts)
       (call_is setup setting cores t stands c here a active).apart
       (spares_thread setup t e m.old 0 refl own)
-      (lent_free cores e (not_kept cores m.old 0 unkept))
+      (exclusive_free cores e (not_kept cores m.old 0 unkept))

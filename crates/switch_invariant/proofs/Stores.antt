@@ -3,11 +3,11 @@
 use Rattle.thread_invariant.proofs.Common.{◌≡◌, ◌≢◌, ◌<◌, ◌^◌, ◌∷◌, inr, ℕ, true, false, if◌then◌else◌, Option, Some, None, IsTrue}
 use Rattle.thread_invariant.proofs.Common.{arith, refl, sym, ◌∙◌, ap, subst, Setting, IsSetting, Reply, DepthFits, ThreadFits}
 use Rattle.thread_invariant.proofs.Common.{word_of_thread, ThreadWord, Idle, Running, Word, EntryAt, same_word, Move, StoreOf, same_same}
-use Rattle.thread_invariant.proofs.Common.{State, put, fits, changes_in_frame, changes_threads, IsNearIn, thread_mark, marked_by, Step}
+use Rattle.thread_invariant.proofs.Common.{State, put, fits, changes_in_frame, changes_threads, IsInFootprint, thread_mark, marked_by, Step}
 use Rattle.thread_invariant.proofs.Common.{Trace, WasAt, state_after, last_left, was_stays, same_word-other, Tail, Nothing, StoreRunning}
 use Rattle.thread_invariant.proofs.Common.{StoreIdle, StageFits, Decided, ActiveCall, GoesOn, went_with, Core, Holding, holds_counts}
 use Rattle.thread_invariant.proofs.Common.{settled_by, KnowsTail, phase_at, done_by, holds, holds_at, holds_in, holds_tail}
-use Rattle.thread_invariant.proofs.Common.{held_by, Invariant, as_none, counts_bare, none_kept, counts_on, lent_free}
+use Rattle.thread_invariant.proofs.Common.{held_by, Invariant, as_none, counts_bare, none_kept, counts_on, exclusive_free}
 use Rattle.thread_invariant.specs.spk_nums.specs.declared.kinds.Kind.TheVariants as kind
 use Rattle.thread_invariant.specs.tcap_words.proofs.ThreadLemmas as words
 use Rattle.thread_invariant.specs.act_states.specs.Switches.{idle_move, running_move}
@@ -27,7 +27,7 @@ module _ (setup : Setting) (setting : IsSetting setup) (cores : ℕ → Core) (t
     (here : c < setup.cores)
     (a : ActiveCall) (active : (cores c).active ≡ Some a) (r : Reply) (drawn : Option ℕ) (tail left : Tail)
     (stage_is : a.stage ≡ Decided r drawn tail) (f : ℕ) (v : ThreadWord)
-    (threads : changes_threads a.call ≡ true) (near : WasAt (IsNearIn c a.call (EntryAt f 0)) setup t c)
+    (threads : changes_threads a.call ≡ true) (footprint : WasAt (IsInFootprint c a.call (EntryAt f 0)) setup t c)
     (thread : IsTrue (fits kind.Thread ((state_after setup t).frame f))) (v_fits : ThreadFits v) (unmarked : thread_mark (Some v) ≡ None)
     (before : (w : Word) → (holds_tail tail (holds_counts (done_by r drawn) a.counts)).marks w
     ≡ (if same_word w (EntryAt f 0) then true else (holds_tail left (holds_counts (done_by r drawn) a.counts)).marks w))
@@ -74,7 +74,7 @@ module _ (setup : Setting) (setting : IsSetting setup) (cores : ℕ → Core) (t
     where
       by : (o : Option ℕ) → (held_by cores d).bare f 0 ≡ o → (held_by cores d).bare f 0 ≡ None
       by None is = is
-      by (Some x) is = absurd (none_some c (sym (stands.lent d f 0 x is).unmarked ∙ mark))
+      by (Some x) is = absurd (none_some c (sym (stands.exclusive d f 0 x is).unmarked ∙ mark))
 
   none_after : (d : ℕ) → (held_by (put cores c after) d).bare f 0 ≡ None
   none_after d = core_bare cores c after f 0 (bare_after f 0 ∙ sym (ap (λ h. h.bare f 0) held_is ∙ bare_before f 0)) d ∙ none_before d
@@ -85,7 +85,7 @@ module _ (setup : Setting) (setting : IsSetting setup) (cores : ℕ → Core) (t
       counters.holds_on setup setting cores t stands c here a active store next (λ b. refl) (λ h. cc) refl
       (record {
         moves = subst (λ x. IsTrue (changes_in_frame a.call x)) (sym (thread_is (s.frame f) thread)) threads;
-        near = inr near;
+        footprint = inr footprint;
       }) lands
       (words.spelling.small v v_fits)
       (λ w other. (
@@ -108,7 +108,7 @@ module _ (setup : Setting) (setting : IsSetting setup) (cores : ℕ → Core) (t
       (counts_on setup t e c a.call (λ own. refl) a.counts (call_is setup setting cores t stands c here a active).counts)
       (call_is setup setting cores t stands c here a active).apart
       (spares_thread setup t e f 0 refl thread)
-      (lent_free cores e (not_kept cores f 0 none_before))
+      (exclusive_free cores e (not_kept cores f 0 none_before))
     where
       same_core : (b d : ℕ) → Some b ≡ Some d → b ≡ d
       same_core b d h = cc
@@ -127,7 +127,7 @@ module _ (setup : Setting) (setting : IsSetting setup) (cores : ℕ → Core) (t
       → GoodTook setup cores t c (idle_move f depth) (GoesOn (went_with a a.counts (Decided r drawn Nothing)))
   idle_good f depth stage_is knows =
       word_good setup setting cores t stands c here a active r drawn (StoreIdle f depth) Nothing stage_is f (Idle depth) knows.threads
-      knows.near knows.thread.thread (is_small (StoreIdle f depth) stage_is).1 refl (λ w. refl) (λ w. refl)
+      knows.footprint knows.thread.thread (is_small (StoreIdle f depth) stage_is).1 refl (λ w. refl) (λ w. refl)
       (counts_apart (done_by r drawn) a.counts f 0) (counts_bare (done_by r drawn) a.counts) (counts_bare (done_by r drawn) a.counts) tt
 
   -- the thread to which the core went on
@@ -136,7 +136,7 @@ module _ (setup : Setting) (setting : IsSetting setup) (cores : ℕ → Core) (t
       → GoodTook setup cores t c (running_move f core depth) (GoesOn (went_with a a.counts (Decided r drawn (StoreIdle old old_depth))))
   running_good f core depth old old_depth stage_is knows =
       word_good setup setting cores t stands c here a active r drawn (StoreRunning f core depth old old_depth) (StoreIdle old old_depth)
-      stage_is f (Running core depth) knows.rest.threads knows.near thread (
+      stage_is f (Running core depth) knows.rest.threads knows.footprint thread (
         (let below : c < setup.cores = here in let most = setting.most_cores in
             let own = knows.core in omega (arith, below, most, own)),
         depth_fits,
@@ -147,8 +147,8 @@ module _ (setup : Setting) (setting : IsSetting setup) (cores : ℕ → Core) (t
       (counts_bare (done_by r drawn) a.counts) (counts_bare (done_by r drawn) a.counts)
       (record {
         threads = knows.rest.threads;
-        near = was_stays (IsNearIn c a.call (EntryAt old 0)) setup t
-            (inner setup setting cores t stands c here a active (running_move f core depth) None None) c (λ own. refl) knows.rest.near;
+        footprint = was_stays (IsInFootprint c a.call (EntryAt old 0)) setup t
+            (inner setup setting cores t stands c here a active (running_move f core depth) None None) c (λ own. refl) knows.rest.footprint;
         thread = knows.rest.thread;
       })
     where

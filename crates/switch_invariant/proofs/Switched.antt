@@ -10,7 +10,7 @@ use Rattle.thread_invariant.proofs.Common.{CompFields, Frame, ThreadFields, Comp
 use Rattle.thread_invariant.proofs.Common.{Grace, State, first_of_stack, comp_in, comp_of, thread_in, thread_of, put, fits}
 use Rattle.thread_invariant.proofs.Common.{Found, IsFoundAnd, frames_of, times, refs, sum_below, MayReply, rule_of, change_of}
 use Rattle.thread_invariant.proofs.Common.{changed, counted, begins_in, ends_by, flushes_by, same_thing, new_grace, grace_refs}
-use Rattle.thread_invariant.proofs.Common.{opened, sum_one, events_of, IsNearIn, KeepsTime, HasReached}
+use Rattle.thread_invariant.proofs.Common.{opened, sum_one, events_of, IsInFootprint, KeepsTime, HasReached}
 use Rattle.thread_invariant.proofs.Common.{marked_by, mark_in_frame, frame_value, thread_value, ends_in, flushes_in, begins_at, ends_at}
 use Rattle.thread_invariant.proofs.Common.{flushes_at, stamp, clock, flush_of, flush_stored, Step, Trace, Open, WasAt, phase, state_after}
 use Rattle.thread_invariant.proofs.Common.{state_decided_in, last_left, own_left, way_to, ways, ok_first, was_stays, cases_word}
@@ -21,7 +21,7 @@ use Rattle.thread_invariant.proofs.Common.{Stage, Undecided, Decided, ActiveCall
 use Rattle.thread_invariant.proofs.Common.{IsFrameWord, IsThreadWord, WordIs, count_room, HasFound, due_of, flushing_in, KnowsUndecided}
 use Rattle.thread_invariant.proofs.Common.{own_in, WorksIn, holds, holds_in, held_by, times_of, counted_in, SumIs, Invariant}
 use Rattle.thread_invariant.proofs.Common.{claimed_by, is_claimed, counts_bare, plain_exit, decided-inside, own_kept}
-use Rattle.thread_invariant.proofs.Common.{lent_elsewhere, lent_none, limits_of, ReadsAlike, SameFor, StaysSaid, word_stays}
+use Rattle.thread_invariant.proofs.Common.{exclusive_elsewhere, exclusive_none, limits_of, ReadsAlike, SameFor, StaysSaid, word_stays}
 use Rattle.thread_invariant.proofs.Common.{marks_own, carry_marks, carry_words, holds_switching}
 use Rattle.thread_invariant.specs.spk_nums.specs.declared.kinds.Kind.TheVariants as kind
 use Rattle.thread_invariant.specs.spk_nums.specs.declared.replies.Reply.TheVariants as reply
@@ -607,20 +607,20 @@ module _ (setup : Setting) (setting : IsSetting setup) (cores : ℕ → Core) (t
       )
 
   -- what is still to be stored
-  near_at : (g : ℕ) → IsNearIn c a.call (EntryAt g 0) s → WasAt (IsNearIn c a.call (EntryAt g 0)) setup (e ∷ t) c
-  near_at g near = was_stays (IsNearIn c a.call (EntryAt g 0)) setup t e c (λ own. refl)
-      (was_here (IsNearIn c a.call (EntryAt g 0)) setup t c a.call is_open near)
+  footprint_at : (g : ℕ) → IsInFootprint c a.call (EntryAt g 0) s → WasAt (IsInFootprint c a.call (EntryAt g 0)) setup (e ∷ t) c
+  footprint_at g footprint = was_stays (IsInFootprint c a.call (EntryAt g 0)) setup t e c (λ own. refl)
+      (was_here (IsInFootprint c a.call (EntryAt g 0)) setup t c a.call is_open footprint)
 
   known : KnowsRunning setup (e ∷ t) c a.call to.thread m.core m.old
   known = record {
     core = core_is;
     own = ap (λ k. k.thread) (sym core_now);
-    near = near_at to.thread (subst (λ (g : ℕ). IsNearIn c a.call (EntryAt g 0) s) claimed_is
-        (calls.near setup setting cores t stands c here a active m stage_is has));
+    footprint = footprint_at to.thread (subst (λ (g : ℕ). IsInFootprint c a.call (EntryAt g 0) s) claimed_is
+        (calls.footprint setup setting cores t stands c here a active m stage_is has));
     apart = λ same. apart (same ∙ old_same);
     rest = record {
       threads = calls.threads_change setup setting cores t stands c here a active m stage_is has;
-      near = near_at m.old (calls.near_own setup setting cores t stands c here a active m stage_is has);
+      footprint = footprint_at m.old (calls.footprint_own setup setting cores t stands c here a active m stage_is has);
       thread = record {
         thread = subst (λ y. IsTrue (fits kind.Thread y)) (sym (old_frame m.old old_same)) refl;
         guarded = inr waits;
@@ -649,7 +649,7 @@ module _ (setup : Setting) (setting : IsSetting setup) (cores : ℕ → Core) (t
       decides_timed setup setting cores t stands c here a active move r own' stage
       (record { core = refl; layout = refl; limit = refl; epochs = refl; exit = refl })
       (subst (λ (n : ℕ). n < 2 ^ 64) (sym clock_now) (omega (arith, low)))
-      (record { moves = (calls.raises setup setting cores t stands c here a active m stage_is has, refl); near = inl tt }) lands
+      (record { moves = (calls.raises setup setting cores t stands c here a active m stage_is has, refl); footprint = inl tt }) lands
       (calls.opens setup setting cores t stands c here a active m stage_is has) refl
       (marks_own setup cores t e after (λ w there. still w) stands.marks marks)
       (λ d mark other. absurd (none_some d mark))
@@ -663,8 +663,8 @@ module _ (setup : Setting) (setting : IsSetting setup) (cores : ℕ → Core) (t
       works marks
       (carry_words setup cores t e after still alike refl refl (λ g i. none_after g i ∙ sym (none_before g i)) (λ y. refl) stays tt held_now
       stands.words)
-      (lent_none setup (e ∷ t) c after none_after)
-      (lent_elsewhere cores e (λ g i h. no_entry g i h))
+      (exclusive_none setup (e ∷ t) c after none_after)
+      (exclusive_elsewhere cores e (λ g i h. no_entry g i h))
       sums_now
       (record { call = a.call; is_open = is_open; permitted = permitted; justified = gone })
       (λ is_alone. ok_first s c a.call value.Nothing permitted)

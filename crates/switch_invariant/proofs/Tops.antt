@@ -4,7 +4,7 @@ use Rattle.thread_invariant.proofs.Common.{◌≡◌, ◌≢◌, ◌<◌, ◌≤
 use Rattle.thread_invariant.proofs.Common.{◌∷◌, Option, Some, None, IsTrue, pos, negsuc, arith, refl, sym, ◌∙◌, ap, subst, eq-eqb}
 use Rattle.thread_invariant.proofs.Common.{eqb-false, All-nil, All-cons, Setting, IsSetting}
 use Rattle.thread_invariant.proofs.Common.{word_of_thread, thread_of_word, Idle, Running, EntryAt, LoadOf, State}
-use Rattle.thread_invariant.proofs.Common.{comp_in, first_of_stack, thread_in, fits, frame_names, is_one_of, frames_near, marked_by}
+use Rattle.thread_invariant.proofs.Common.{comp_in, first_of_stack, thread_in, fits, frame_names, is_one_of, footprint_frames, marked_by}
 use Rattle.thread_invariant.proofs.Common.{thread_value, Step, Trace, state_after, last_left, Acquired, dues, next_work, frame_in}
 use Rattle.thread_invariant.proofs.Common.{tcap_dues, Switching, LoadTable, Due, Act, Goes, Undecided, ActiveCall, landed, Core}
 use Rattle.thread_invariant.proofs.Common.{holds_counts, AreDuesApart, due_of, KnowsUndecided, holds, holds_in, Invariant, claimed_by}
@@ -125,10 +125,10 @@ module _ (setup : Setting) (setting : IsSetting setup) (cores : ℕ → Core) (t
       (apart_tcap to.thread m.tcap thread to_tcap) (apart_tcap to.thread m.old_tcap thread own_tcap)
       (apart_tcap m.old m.tcap own to_tcap) (apart_tcap m.old m.old_tcap own own_tcap)
 
-  -- the component at the top of its stack is near
-  pub near_top : is_claimed m.at ≡ true → (to : ClaimedOf) → to.thread ≡ claimed_by m.at → IsTop (state_after setup t) c to
-      → is_one_of to.comp (frames_near (state_after setup t) c a.call) ≡ true
-  near_top claimed to same at = calls.near_stack setup setting cores t stands c here a active m stage_is has to.comp
+  -- the component at the top of its stack is in the footprint
+  pub footprint_top : is_claimed m.at ≡ true → (to : ClaimedOf) → to.thread ≡ claimed_by m.at → IsTop (state_after setup t) c to
+      → is_one_of to.comp (footprint_frames (state_after setup t) c a.call) ≡ true
+  footprint_top claimed to same at = calls.footprint_stack setup setting cores t stands c here a active m stage_is has to.comp
       (ap (λ x. is_one_of to.comp (frame_names x)) (calls.holds_thread setup setting cores t stands c here a active m stage_is has)
       ∙ first_in (thread_in (s.frame (claimed_by m.at))).stack to.comp
       (ap (λ (g : ℕ). first_of_stack (thread_in (s.frame g)).stack) (sym same) ∙ at.top) (is_idle claimed).some)
@@ -150,7 +150,7 @@ module _ (setup : Setting) (setting : IsSetting setup) (cores : ℕ → Core) (t
       (let low = table_below setup setting cores t stands to.comp at.comp.comp in
       let same = calls.frames_are setup setting cores t stands c here a active m stage_is has in omega (arith, low, same))))
       (calls.goes_on_to setup setting cores t stands c here a active m stage_is has to.comp 0
-      (near_top (ap is_claimed is) to (sym (ap claimed_by is)) at) (LoadPages to (comp_in (s.frame to.comp)).table)
+      (footprint_top (ap is_claimed is) to (sym (ap claimed_by is)) at) (LoadPages to (comp_in (s.frame to.comp)).table)
       (sym (ap claimed_by is))
       (sym (calls.held_at setup setting cores t stands c here a active m stage_is has (LoadTable to) is))
       (record { top = at; table = refl })
@@ -175,7 +175,7 @@ module _ (setup : Setting) (setting : IsSetting setup) (cores : ℕ → Core) (t
         let e : Step = step_to c None (LoadOf (EntryAt to.comp 1)) (last_left setup t (EntryAt to.comp 1)) None None in
         loads_on setup setting cores t stands c here a active (LoadOf (EntryAt to.comp 1)) a.found (Undecided (next_work m.core 0 act))
         (calls.looks_at setup setting cores t stands c here a active m stage_is has to.comp 1
-        (near_top (ap is_claimed is) to (sym (ap claimed_by is)) at_table.top)) lands
+        (footprint_top (ap is_claimed is) to (sym (ap claimed_by is)) at_table.top)) lands
         (next_holds m.core 0 act (holds_counts None a.counts)
         ∙ sym (calls.held_at setup setting cores t stands c here a active m stage_is has (LoadPages to table) is))
         (calls.opens setup setting cores t stands c here a active m stage_is has)

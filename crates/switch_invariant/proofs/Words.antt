@@ -9,7 +9,7 @@ use Rattle.thread_invariant.specs.spk_nums.specs.declared.kinds.Kind.TheVariants
 use Rattle.thread_invariant.specs.found_stays.proofs.Stays.{object_named}
 use Rattle.thread_invariant.specs.kernel_invariant.proofs.Sums.{times_first}
 use Rattle.thread_invariant.specs.core_invariant.specs.Invariant.{IsOfThread, SaysRunning}
-use Rattle.thread_invariant.specs.kept_facts.proofs.Lent.{lent_thread}
+use Rattle.thread_invariant.specs.kept_facts.proofs.Exclusive.{exclusive_thread}
 use Rattle.thread_invariant.specs.kept_facts.proofs.Tcaps.{is_tcap}
 use Rattle.switch_invariant.proofs.ThreadWords.{same_some, thread_is}
 
@@ -51,13 +51,14 @@ module _ (setup : Setting) (setting : IsSetting setup) (cores : ℕ → Core) (t
       (settled_by o (held_by cores) (EntryAt f i) (last_left setup t (EntryAt f i)))) mark (stands.words (EntryAt f i)))
 
   kept_of_thread : (d i v : ℕ) → (held_by cores d).bare f i ≡ Some v → IsOfThread setup t d f i
-  kept_of_thread d i v is = lent_thread setup t d f i (stands.lent d f i v is) (λ tcap. false≢true (ap is_tcap (sym frame_is) ∙ tcap))
+  kept_of_thread d i v is = exclusive_thread setup t d f i (stands.exclusive d f i v is) (λ tcap. false≢true (ap is_tcap (sym frame_is)
+      ∙ tcap))
 
   -- a core that keeps a word of it runs it
   keeper_runs : (d i v : ℕ) → (held_by cores d).bare f i ≡ Some v → (thread_in ((state_after setup t).frame f)).runs_on ≡ Some d
   keeper_runs d i v is =
       ap (λ (g : ℕ). (thread_in (s.frame g)).runs_on) (sym (kept_of_thread d i v is).thread)
-      ∙ runs_on_own setup setting cores t stands d (stands.lent d f i v is).core
+      ∙ runs_on_own setup setting cores t stands d (stands.exclusive d f i v is).core
 
   -- so none keeps a word of one that runs on none, or on another core
   pub no_keeper : (d i : ℕ) → (thread_in ((state_after setup t).frame f)).runs_on ≢ Some d → (held_by cores d).bare f i ≡ None

@@ -13,7 +13,8 @@ use Rattle.live_invariant.proofs.Common.{state_after, state_decided_in, last_lef
 use Rattle.live_invariant.proofs.Common.{Invoking, InvokingAt, Own, Works, Tail, Push, Act, own_changed, own_decided, Stage, Undecided}
 use Rattle.live_invariant.proofs.Common.{Decided, ActiveCall, landed, Core, IsWithin, Holding, holds_counts, WordIs}
 use Rattle.live_invariant.proofs.Common.{KnowsUndecided, WorksIn, holds_at, holds_in, holds, times_of, Invariant, counts_bare}
-use Rattle.live_invariant.proofs.Common.{IsUntimed, plain_begins, plain_stamp, plain_flush, lent_kept, marks_own, carry_marks, word_stays}
+use Rattle.live_invariant.proofs.Common.{IsUntimed, plain_begins, plain_stamp, plain_flush}
+use Rattle.live_invariant.proofs.Common.{exclusive_kept, marks_own, carry_marks, word_stays}
 use Rattle.live_invariant.proofs.Common.{last_small, invoking_dues, due_of}
 use Rattle.live_invariant.specs.spk_nums.specs.declared.replies.Reply.TheVariants as reply
 use Rattle.live_invariant.specs.spk_nums.specs.declared.replies.Value.TheVariants as value
@@ -45,7 +46,7 @@ use Rattle.thread_invariant.proofs.Invokes.{knows_at, looking, says, lives_so, d
 use Rattle.thread_invariant.proofs.Invokes.{closing_good, load_table_good, load_pages_good, load_comp_good}
 use Rattle.thread_invariant.proofs.OwnStack.{own_thread}
 use Rattle.thread_invariant.proofs.Restacks.{IsRestack, frame_away, core_now, limits, whose, refs_now}
-use Rattle.thread_invariant.proofs.Restacks.{grows, more_room, alike, restack_words, restack_lent}
+use Rattle.thread_invariant.proofs.Restacks.{grows, more_room, alike, restack_words, restack_exclusive}
 use Rattle.thread_invariant.proofs.Stacked.{stacked}
 use Rattle.thread_invariant.proofs.Stacks.{kept_here, kept_there, kept_is}
 
@@ -346,10 +347,11 @@ module _ (setup : Setting) (setting : IsSetting setup) (cores : ℕ → Core) (t
       after fs m.depth graces restack still none_kept none_marked no_entry
       unmarked
       unmarked number_said held)
-      (restack_lent setup setting cores t stands c here a active move r after fs m.depth graces restack still none_kept none_marked no_entry
+      (restack_exclusive setup setting cores t stands c here a active move r after fs m.depth graces restack still none_kept none_marked
+      no_entry
       unmarked
       unmarked)
-      (lent_kept cores e refl)
+      (exclusive_kept cores e refl)
       (counts_sum setup setting cores t stands c here a active (pos 1) one_small None none_drawn (m.comp ∷ []) few dues_are move r
       after still
       (λ f d. (ap (λ h. h.marks (CountAt f d)) held_before, ap (λ h. h.stands (CountAt f d)) held_before)) (λ f d. refl)

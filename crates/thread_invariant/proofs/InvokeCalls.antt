@@ -4,22 +4,22 @@ use Rattle.live_invariant.proofs.Common.{if◌then◌else◌}
 use Rattle.live_invariant.proofs.Common.{[], ◌∷◌, length, Some, None, arith, refl, sym, ◌∙◌, ap, subst, eq-eqb}
 use Rattle.live_invariant.proofs.Common.{lt-leb, All-nil, Capability, Setting, IsSetting, EntryAt, CompFields, Comp, Kernel, State}
 use Rattle.live_invariant.proofs.Common.{comp_in, thread_of, Slot, found, own, Rule, When, Does, RuleMay, outcome, unless, first_of}
-use Rattle.live_invariant.proofs.Common.{is_live_in, pushes, rule_of, change_of, is_one_of, frames_near, HasReached, Step, Trace, Open}
+use Rattle.live_invariant.proofs.Common.{is_live_in, pushes, rule_of, change_of, is_one_of, footprint_frames, HasReached, Step, Trace, Open}
 use Rattle.live_invariant.proofs.Common.{phase, state_after, own_left, way_to, ways, Plan, GoesBy, own_pages, rule_after, Leads, LeadsIn}
 use Rattle.live_invariant.proofs.Common.{outcome_left, left_may, leads_by, Invoking, Act, Undecided, ActiveCall, StageFits, HasRoom, Core}
 use Rattle.live_invariant.proofs.Common.{HasFound, KnowsUndecided, own_in, phase_at, Invariant, own_kept}
 use Rattle.live_invariant.specs.spk_nums.specs.declared.calls.Call.TheVariants.{Call as call_gate}
 use Rattle.live_invariant.specs.spk_nums.specs.declared.replies.Reply.TheVariants as reply
 use Rattle.live_invariant.specs.kernel_rules.specs.InvocationCalls.{not_live}
-use Rattle.live_invariant.specs.kernel_history.specs.Footprint.{numbers_near, number_argument, number_in}
-use Rattle.live_invariant.specs.plan_ways.proofs.Near.{one_right}
+use Rattle.live_invariant.specs.kernel_history.specs.Footprint.{footprint_numbers, number_argument, number_in}
+use Rattle.live_invariant.specs.plan_ways.proofs.InFootprint.{one_right}
 use Rattle.live_invariant.specs.plan_ways.proofs.Ways.{all_ways}
 use Rattle.live_invariant.specs.act_states.specs.Invocations.{InvokingFits}
 use Rattle.live_invariant.specs.act_states.specs.declared.work.Act.TheVariants.{Invoke as invoke_act}
 use Rattle.live_invariant.specs.step_ways.proofs.Loads.{call_is, is_active}
 use Rattle.live_invariant.specs.count_invariant.proofs.Findings.{own_is, found_named, way_gone}
 use Rattle.live_invariant.specs.count_invariant.proofs.Acquiring.{plan_leads, goes_by}
-use Rattle.live_invariant.specs.count_invariant.proofs.StackCounts.{IsInvoke, invoke_of, invoke_near}
+use Rattle.live_invariant.specs.count_invariant.proofs.StackCounts.{IsInvoke, invoke_of, invoke_footprint}
 use Rattle.live_invariant.proofs.Numbers.{one_of_many, comp_is}
 
 -- What is left of the rule of a call through a gate to this frame, made in this epoch.
@@ -93,14 +93,14 @@ module _ (setup : Setting) (setting : IsSetting setup) (cores : ℕ → Core) (t
   may_be_dead none = left_may s c (own_pages s c) a.plan (rule_of s c a.call) a.found by_plan leads reply.Dead
       (subst (λ x. RuleMay s c x reply.Dead) (sym left) (inr (inl (ap (λ b. not b) none, refl))))
 
-  -- the component and its number are near
-  pub near : is_one_of m.comp (frames_near s c a.call) ≡ true
-  near = invoke_near s c a.call a.found m has.knows.knows.invokes
+  -- the component and its number are in the footprint
+  pub footprint : is_one_of m.comp (footprint_frames s c a.call) ≡ true
+  footprint = invoke_footprint s c a.call a.found m has.knows.knows.invokes
       (subst (λ (p : Plan). Leads (LeadsIn s c) p.names [] a.found) (is_active setup setting cores t stands c here a active).plan leads)
 
-  pub number_near : (l : ℕ) → fields.number ≡ l → is_one_of l (numbers_near s c a.call) ≡ true
-  number_near l same = one_right l (number_argument a.call) _
-      (one_of_many (λ g. number_in (s.frame g)) l m.comp (frames_near s c a.call) near
+  pub number_footprint : (l : ℕ) → fields.number ≡ l → is_one_of l (footprint_numbers s c a.call) ≡ true
+  number_footprint l same = one_right l (number_argument a.call) _
+      (one_of_many (λ g. number_in (s.frame g)) l m.comp (footprint_frames s c a.call) footprint
       (ap (λ x. is_one_of l (number_in x)) holds_comp ∙ ap (λ b. b || false) (eq-eqb fields.number l same)))
 
   -- the places of the name are gone

@@ -68,7 +68,7 @@ module _ (setup : Setting) (setting : IsSetting setup) (cores : ℕ → Core) (t
 
   loading : (i : ℕ) → OnlyLooks setup t c a.call (LoadOf (EntryAt m.comp i))
   loading i = record {
-    of_call = record { moves = refl; near = inl (calls.near setup setting cores t stands c here a active m stage_is has) };
+    of_call = record { moves = refl; footprint = inl (calls.footprint setup setting cores t stands c here a active m stage_is has) };
     kept = refl;
     apart = λ d. refl;
   }
@@ -179,7 +179,7 @@ module _ (setup : Setting) (setting : IsSetting setup) (cores : ℕ → Core) (t
       of_call = record {
         moves = subst (λ x. IsTrue (looks_at_numbers x))
             (sym (calls.is setup setting cores t stands c here a active m stage_is has).call_is) refl;
-        near = inl (calls.number_near setup setting cores t stands c here a active m stage_is has at_life.number loaded.2);
+        footprint = inl (calls.number_footprint setup setting cores t stands c here a active m stage_is has at_life.number loaded.2);
       };
       kept = refl;
       apart = λ d. refl;

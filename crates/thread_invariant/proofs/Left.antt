@@ -14,7 +14,7 @@ use Rattle.live_invariant.proofs.Common.{ok_first, stamp-begins, stamp-kept, flu
 use Rattle.live_invariant.proofs.Common.{drawn_stamp, later, stamp_of_change, ReturningAt, Own, Works, Tail, Pop, Act, own_changed}
 use Rattle.live_invariant.proofs.Common.{own_decided, Stage, Undecided, Decided, ActiveCall, landed, Core, IsWithin, Holding}
 use Rattle.live_invariant.proofs.Common.{holds_counts, WordIs, due_of, flushing_in, KnowsUndecided, WorksIn, holds_in, holds}
-use Rattle.live_invariant.proofs.Common.{times_of, Invariant, counts_bare, lent_elsewhere, marks_own, carry_marks}
+use Rattle.live_invariant.proofs.Common.{times_of, Invariant, counts_bare, exclusive_elsewhere, marks_own, carry_marks}
 use Rattle.live_invariant.proofs.Common.{returning_dues}
 use Rattle.std.proofs.Common.{take, drop}
 use Rattle.std.proofs.Math.IntN.{pos-+ℤ-pos, +ℤ_assoc, +ℤ_invr, +ℤ_idr}
@@ -48,7 +48,7 @@ use Rattle.thread_invariant.proofs.Returns.{opens, is_open, room, return_fits, d
 use Rattle.thread_invariant.proofs.Returns.{return_held, loaded_at, load_below_good, load_table_good, load_pages_good}
 use Rattle.thread_invariant.proofs.OwnStack.{own_thread, split_stack}
 use Rattle.thread_invariant.proofs.Restacks.{IsRestack, frame_away, core_now, limits, whose, refs_now}
-use Rattle.thread_invariant.proofs.Restacks.{grows, more_room, alike, restack_words, restack_lent}
+use Rattle.thread_invariant.proofs.Restacks.{grows, more_room, alike, restack_words, restack_exclusive}
 use Rattle.thread_invariant.proofs.Stacked.{stacked}
 use Rattle.thread_invariant.proofs.Stacks.{kept_here, kept_there, kept_is}
 
@@ -379,7 +379,7 @@ module _ (setup : Setting) (setting : IsSetting setup) (cores : ℕ → Core) (t
       decides_timed setup setting cores t stands c here a active move r own' stage
       (record { core = refl; layout = refl; limit = refl; epochs = refl; exit = refl })
       (subst (λ (n : ℕ). n < 2 ^ 64) (sym clock_now) (omega arith))
-      (record { moves = (subst (λ y. IsTrue (raises_clock y)) (sym knows.call_is) refl, refl); near = inl tt }) lands
+      (record { moves = (subst (λ y. IsTrue (raises_clock y)) (sym knows.call_is) refl, refl); footprint = inl tt }) lands
       (opens setup setting cores t stands c here a active m stage_is has) refl
       (marks_own setup cores t e after (λ w there. still w) stands.marks marks)
       (λ d mark other. absurd (none_some d mark))
@@ -395,9 +395,10 @@ module _ (setup : Setting) (setting : IsSetting setup) (cores : ℕ → Core) (t
       (restack_words setup setting cores t stands c here a active move r after fs height graces restack still none_kept none_marked no_entry
       refl
       refl tt held)
-      (restack_lent setup setting cores t stands c here a active move r after fs height graces restack still none_kept none_marked no_entry
+      (restack_exclusive setup setting cores t stands c here a active move r after fs height graces restack still none_kept none_marked
+      no_entry
       refl refl)
-      (lent_elsewhere cores e (λ f i h. no_entry f i h))
+      (exclusive_elsewhere cores e (λ f i h. no_entry f i h))
       (counts_sum setup setting cores t stands c here a active (negsuc 0) one_small (Some now_at) drawn_small (m.top ∷ []) few dues_are
       move r
       after still (λ f d. (ap (λ h. h.marks (CountAt f d)) held_before, ap (λ h. h.stands (CountAt f d)) held_before)) (λ f d. refl)

@@ -3,7 +3,7 @@ use Rattle.live_invariant.proofs.Common.{◌≡◌, ◌≢◌, ◌<◌, inl, inr
 use Rattle.live_invariant.proofs.Common.{Setting, IsSetting, EntryAt, PlaceOf, State, thread_in, thread_of, stamp, Trace, state_after}
 use Rattle.live_invariant.proofs.Common.{last_left, Core, settled_by, IsFrameWord, IsThreadWord, count_room, holds, held_by, Invariant}
 use Rattle.live_invariant.proofs.Common.{none_kept, runs_on_own}
-use Rattle.live_invariant.specs.kept_facts.proofs.Lent.{lent_thread, runs_no_tcap}
+use Rattle.live_invariant.specs.kept_facts.proofs.Exclusive.{exclusive_thread, runs_no_tcap}
 use Rattle.thread_invariant.proofs.EntryMarks.{thread_unmarked}
 use Rattle.thread_invariant.proofs.OwnStack.{own_thread}
 
@@ -31,9 +31,9 @@ module _ (setup : Setting) (setting : IsSetting setup) (cores : ℕ → Core) (t
           → (held_by cores d).bare ((state_after setup t).core c).thread i ≡ None
       by other None free = free
       by other (Some u) kept =
-          let l = stands.lent d ((state_after setup t).core c).thread i u kept in
+          let l = stands.exclusive d ((state_after setup t).core c).thread i u kept in
           let runs = runs_on_own setup setting cores t stands c here in
-          let w = lent_thread setup t d thread i l (runs_no_tcap ((state_after setup t).frame thread) c runs) in
+          let w = exclusive_thread setup t d thread i l (runs_no_tcap ((state_after setup t).frame thread) c runs) in
           absurd (other (same_core d c (sym (runs_on_own setup setting cores t stands d l.core)
           ∙ ap (λ (g : ℕ). (thread_in ((state_after setup t).frame g)).runs_on) w.thread ∙ runs)))
 

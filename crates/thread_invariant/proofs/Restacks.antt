@@ -7,7 +7,7 @@ use Rattle.live_invariant.proofs.Common.{ClockAt, Move, word_of, left_of, Grace,
 use Rattle.live_invariant.proofs.Common.{State, thread_of, put, sum_below, times, refs, sum_one, mark_of, mark_in_frame, marked_by}
 use Rattle.live_invariant.proofs.Common.{at_height, thread_value, stamp, flush_stored, Step, Trace, phase, state_after, last_left}
 use Rattle.live_invariant.proofs.Common.{decided-inside, last_left-there, ActiveCall, Core, settled, IsFrameWord, IsThreadWord, WordIs}
-use Rattle.live_invariant.proofs.Common.{count_room, holds, held_by, times_of, counted_in, IsLent, Invariant, plain_exit, runs_on_own}
+use Rattle.live_invariant.proofs.Common.{count_room, holds, held_by, times_of, counted_in, IsExclusive, Invariant, plain_exit, runs_on_own}
 use Rattle.live_invariant.proofs.Common.{limits_of, ReadsAlike, SameFor, StaysSaid, word_stays, frame_value}
 use Rattle.live_invariant.specs.core_invariant.specs.Invariant.{SaysRunning}
 use Rattle.live_invariant.specs.step_ways.proofs.Keeping.{keeping_words}
@@ -220,8 +220,8 @@ module _ (setup : Setting) (setting : IsSetting setup) (cores : ℕ → Core) (t
     restack_words new held =
         keeping_words setup setting cores t stands e after here still alike apart was unmarked none own_kept stays new held keeps
 
-    pub restack_lent : (f i v : ℕ) → (holds after).bare f i ≡ Some v → IsLent setup (e ∷ t) c f i
-    restack_lent f i v is = record {
+    pub restack_exclusive : (f i v : ℕ) → (holds after).bare f i ≡ Some v → IsExclusive setup (e ∷ t) c f i
+    restack_exclusive f i v is = record {
       core = here;
       unmarked = alike (EntryAt f i) ∙ ap (mark_of s (EntryAt f i)) (last_left-there setup (EntryAt f i) e t (λ h. apart f i (sym h)))
           ∙ (own_kept f i v is).1;

@@ -3,7 +3,8 @@ use Rattle.live_invariant.proofs.Common.{IsSome, ◌≡◌, inl, ℕ, suc, ◌<�
 use Rattle.live_invariant.proofs.Common.{true, false, if◌then◌else◌, List, [], ◌∷◌, Option, Some, None, arith, refl, sym, ◌∙◌, ap}
 use Rattle.live_invariant.proofs.Common.{subst, lt-leb, lt-ltb, All-nil, Setting, IsSetting, stack_of_word, EntryAt, LoadOf}
 use Rattle.live_invariant.proofs.Common.{State, comp_in, thread_of, Slot, Found, unless, first_of, rule_of, change_of}
-use Rattle.live_invariant.proofs.Common.{is_one_of, frames_near, HasReached, at_height, Step, Trace, Open, phase, state_after, last_left}
+use Rattle.live_invariant.proofs.Common.{is_one_of, footprint_frames, HasReached, at_height, Step}
+use Rattle.live_invariant.proofs.Common.{Trace, Open, phase, state_after, last_left}
 use Rattle.live_invariant.proofs.Common.{own_left, ways, Acquired, ReturningAt, Act, Goes, frame_in, dues, returning_dues}
 use Rattle.live_invariant.proofs.Common.{next_work, Undecided, ActiveCall, StageFits, HasRoom, landed, Core, HasComp, below_of}
 use Rattle.live_invariant.proofs.Common.{holds_counts, due_of, KnowsUndecided, phase_at, holds_at, holds_in, holds, Invariant}
@@ -21,7 +22,7 @@ use Rattle.live_invariant.specs.kept_facts.proofs.Carries.{returning_on}
 use Rattle.live_invariant.specs.step_ways.proofs.Loads.{OnlyLooks, step_to, next_at, call_is, is_active, loads_on}
 use Rattle.live_invariant.specs.step_ways.proofs.Refusals.{GoodTook}
 use Rattle.live_invariant.specs.count_invariant.proofs.Acquiring.{knows_next, next_holds, one_apart}
-use Rattle.live_invariant.specs.count_invariant.proofs.StackCounts.{stack_near, thread_near, below_one}
+use Rattle.live_invariant.specs.count_invariant.proofs.StackCounts.{stack_footprint, thread_footprint, below_one}
 use Rattle.thread_invariant.proofs.EntryMarks.{counts_apart}
 use Rattle.thread_invariant.proofs.CompWords.{comp_says, table_below, pages_below, comp_below}
 use Rattle.thread_invariant.proofs.Heights.{at_below}
@@ -97,23 +98,23 @@ module _ (setup : Setting) (setting : IsSetting setup) (cores : ℕ → Core) (t
   pub loaded_at : (at : ReturningAt) → m.at ≡ at → HasLoadedBelow s c at
   loaded_at at is = subst (HasLoadedBelow s c) is knows.at
 
-  looks_at : (f i : ℕ) → is_one_of f (frames_near s c a.call) ≡ true → OnlyLooks setup t c a.call (LoadOf (EntryAt f i))
-  looks_at f i near = record { of_call = record { moves = refl; near = inl near }; kept = refl; apart = λ d. refl }
+  looks_at : (f i : ℕ) → is_one_of f (footprint_frames s c a.call) ≡ true → OnlyLooks setup t c a.call (LoadOf (EntryAt f i))
+  looks_at f i footprint = record { of_call = record { moves = refl; footprint = inl footprint }; kept = refl; apart = λ d. refl }
 
-  below_near : (comp : ℕ) → IsBelow s c comp → is_one_of comp (frames_near s c a.call) ≡ true
-  below_near comp at = stack_near s c a.call comp
+  below_footprint : (comp : ℕ) → IsBelow s c comp → is_one_of comp (footprint_frames s c a.call) ≡ true
+  below_footprint comp at = stack_footprint s c a.call comp
       (subst (λ (n : ℕ). is_one_of n (thread_of s c).stack ≡ true) (sym at.is) (below_one (thread_of s c).stack deep))
 
   abbrev load : ℕ → ℕ → Step
   load f i = step_to c None (LoadOf (EntryAt f i)) (last_left setup t (EntryAt f i)) None None
 
   -- it goes on to the next load
-  goes_on_to : (f i : ℕ) → is_one_of f (frames_near s c a.call) ≡ true → (at : ReturningAt) → HasLoadedBelow s c at
+  goes_on_to : (f i : ℕ) → is_one_of f (footprint_frames s c a.call) ≡ true → (at : ReturningAt) → HasLoadedBelow s c at
       → returning_dues m.top at ≡ map due_of a.counts
       → GoodTook setup cores t c (LoadOf (EntryAt f i)) (landed a (Goes (Act (return_act (record m { at = at })))))
-  goes_on_to f i near at now due lands =
+  goes_on_to f i footprint at now due lands =
       loads_on setup setting cores t stands c here a active (LoadOf (EntryAt f i)) a.found
-      (Undecided (Act (return_act (record m { at = at })))) (looks_at f i near) lands (sym return_held) opens
+      (Undecided (Act (return_act (record m { at = at })))) (looks_at f i footprint) lands (sym return_held) opens
       (λ carries. record {
         acts = has.acts;
         names = names_on setup setting t (load f i) stands.legal c a.call is_open carries (cores c).own.table a.plan a.found has.names;
@@ -130,7 +131,7 @@ module _ (setup : Setting) (setting : IsSetting setup) (cores : ℕ → Core) (t
       (landed a (meets_below m (below_in m.frames (last_left setup t (EntryAt m.thread (m.depth - 1))))))
   load_below_good is = subst (λ o. GoodTook setup cores t c (LoadOf (EntryAt m.thread (m.depth - 1))) (landed a (meets_below m o)))
       (sym shown)
-      (goes_on_to m.thread (m.depth - 1) (thread_near s c a.call m.thread (sym knows.on.thread)) (LoadTable below) at_below_it
+      (goes_on_to m.thread (m.depth - 1) (thread_footprint s c a.call m.thread (sym knows.on.thread)) (LoadTable below) at_below_it
       (dues_at LoadBelow is))
     where
       has_comp : HasComp s c below
@@ -170,7 +171,7 @@ module _ (setup : Setting) (setting : IsSetting setup) (cores : ℕ → Core) (t
       (sym (frame_shown m.frames (last_left setup t (EntryAt comp 0)) (comp_in (s.frame comp)).table
       (comp_says setup setting cores t stands comp at.comp.comp 0)
       (let low = table_below setup setting cores t stands comp at.comp.comp in let same = frames_are in omega (arith, low, same))))
-      (goes_on_to comp 0 (below_near comp at) (LoadPages comp (comp_in (s.frame comp)).table) (at, refl) (dues_at (LoadTable comp) is))
+      (goes_on_to comp 0 (below_footprint comp at) (LoadPages comp (comp_in (s.frame comp)).table) (at, refl) (dues_at (LoadTable comp) is))
 
   none_of : (xs : List Acquired) → [] ≡ map due_of xs → xs ≡ []
   none_of [] h = refl
@@ -194,7 +195,7 @@ module _ (setup : Setting) (setting : IsSetting setup) (cores : ℕ → Core) (t
     counts_next lands =
         let e : Step = load comp 1 in
         loads_on setup setting cores t stands c here a active (LoadOf (EntryAt comp 1)) a.found (Undecided (next_work m.core 0 act))
-        (looks_at comp 1 (below_near comp at_pages.0)) lands
+        (looks_at comp 1 (below_footprint comp at_pages.0)) lands
         (next_holds m.core 0 act (holds_counts None a.counts) ∙ sym return_held) opens
         (λ carries. record {
           acts = has.acts;

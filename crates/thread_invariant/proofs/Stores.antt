@@ -5,15 +5,16 @@ use Rattle.live_invariant.proofs.Common.{◌++◌, length, Option, Some, None, I
 use Rattle.live_invariant.proofs.Common.{Setting, IsSetting, Reply, Word, EntryAt, Move, StoreOf, ThreadFields, Frame, Untyped}
 use Rattle.live_invariant.proofs.Common.{User, Kernel, Blank, Table, Leaf, Pages, Pleaf, Comp, Thread, Tcap, State, thread_in, thread_of}
 use Rattle.live_invariant.proofs.Common.{comp_of, put, put_same, put_other, changes_threads, changes_in_frame, is_one_of, frames_own}
-use Rattle.live_invariant.proofs.Common.{frames_near, mark_in_frame, Step, Trace, state_after, last_left, Acquired, Tail}
+use Rattle.live_invariant.proofs.Common.{footprint_frames, mark_in_frame, Step, Trace, state_after, last_left, Acquired, Tail}
 use Rattle.live_invariant.proofs.Common.{Decided, ActiveCall, GoesOn, went_with, Core, Holding, holds_counts, settled_by, phase_at}
-use Rattle.live_invariant.proofs.Common.{KnowsTail, done_by, holds_tail, holds_at, holds_in, holds, held_by, IsLent, Invariant, AsBefore}
+use Rattle.live_invariant.proofs.Common.{KnowsTail, done_by, holds_tail, holds_at, holds_in}
+use Rattle.live_invariant.proofs.Common.{holds, held_by, IsExclusive, Invariant, AsBefore}
 use Rattle.live_invariant.proofs.Common.{none_kept, counts_on}
-use Rattle.live_invariant.specs.plan_ways.proofs.Near.{one_left}
+use Rattle.live_invariant.specs.plan_ways.proofs.InFootprint.{one_left}
 use Rattle.live_invariant.specs.core_invariant.specs.Invariant.{IsOfThread}
 use Rattle.live_invariant.specs.step_ways.proofs.Counting as counters
 use Rattle.live_invariant.specs.step_ways.proofs.Good.{Spared}
-use Rattle.live_invariant.specs.kept_facts.proofs.Lent.{lent_unmarked, one_keeper, own_value}
+use Rattle.live_invariant.specs.kept_facts.proofs.Exclusive.{exclusive_unmarked, one_keeper, own_value}
 use Rattle.live_invariant.specs.step_ways.proofs.Loads.{core_in_call, inner, call_is}
 use Rattle.live_invariant.specs.step_ways.proofs.Refusals.{GoodTook}
 
@@ -79,11 +80,11 @@ module _ (setup : Setting) (setting : IsSetting setup) (cores : ℕ → Core) (t
     is_kept : (held_by cores c).bare f i ≡ Some v
     is_kept = ap (λ h. h.bare f i) was_held ∙ kept
 
-    lent : IsLent setup t c f i
-    lent = stands.lent c f i v is_kept
+    exclusive : IsExclusive setup t c f i
+    exclusive = stands.exclusive c f i v is_kept
 
     of_thread : IsOfThread setup t c f i
-    of_thread = lent_unmarked setup cores t stands c f i lent
+    of_thread = exclusive_unmarked setup cores t stands c f i exclusive
         (ap (λ h. h.marks (EntryAt f 0)) was_held ∙ (before (EntryAt f 0)).0 ∙ counts_apart (done_by r drawn) a.counts f 0)
 
     frame_is : s.frame f ≡ Kernel (Thread (thread_in (s.frame f)))
@@ -105,8 +106,8 @@ module _ (setup : Setting) (setting : IsSetting setup) (cores : ℕ → Core) (t
     no_mark : (holds after).marks at ≡ false
     no_mark = (later at).0 ∙ counts_apart (done_by r drawn) a.counts f i
 
-    near : is_one_of f (frames_near s c a.call) ≡ true
-    near = one_left f (frames_own s c) _ (ap (λ b. b || is_one_of f ((s.core c).tcap ∷ ((thread_of s c).stack ++
+    footprint : is_one_of f (footprint_frames s c a.call) ≡ true
+    footprint = one_left f (frames_own s c) _ (ap (λ b. b || is_one_of f ((s.core c).tcap ∷ ((thread_of s c).stack ++
         ((comp_of s c).table ∷ (comp_of s c).pages ∷ [])))) (eq-eqb (s.core c).thread f of_thread.thread))
 
     same_frame : (g j : ℕ) → EntryAt f i ≡ EntryAt g j → f ≡ g
@@ -121,7 +122,7 @@ module _ (setup : Setting) (setting : IsSetting setup) (cores : ℕ → Core) (t
         counters.holds_on setup setting cores t stands c here a active store next (λ b. refl) (λ h. cc) refl
         (record {
           moves = subst (λ x. IsTrue (changes_in_frame a.call x)) (sym frame_is) threads;
-          near = inl near;
+          footprint = inl footprint;
         }) lands small
         (λ w there. (
           (later w).0 ∙ sym (ap (λ h. h.marks w) was_held ∙ (before w).0),
@@ -129,10 +130,11 @@ module _ (setup : Setting) (setting : IsSetting setup) (cores : ℕ → Core) (t
         ))
         (subst (λ h. AsBefore h (holds after) at) (sym was_held) bares)
         (ap (λ x. mark_in_frame x i v) frame_is ∙ plain (thread_in (s.frame f)) ∙ sym (ap (λ b. if b then Some c else None) no_mark))
-        (λ b other is. none_some b (sym lent.unmarked ∙ is))
+        (λ b other is. none_some b (sym exclusive.unmarked ∙ is))
         (ap (λ b. settled_by (if b then Some c else None) (held_by (put cores c after)) at v) no_mark
         ∙ none_kept 8 (held_by (put cores c after)) f i v none_after
-        ∙ sym (ap (λ o. settled_by o (held_by cores) at was) lent.unmarked ∙ own_value setup setting cores t stands c f i v was is_kept))
+        ∙ sym (ap (λ o. settled_by o (held_by cores) at was) exclusive.unmarked
+        ∙ own_value setup setting cores t stands c f i v was is_kept))
         (ap (phase_at a.call) stage_is)
         (λ carries. knows (e ∷ t))
         (counts_on setup t e c a.call (λ own. refl) a.counts (call_is setup setting cores t stands c here a active).counts)

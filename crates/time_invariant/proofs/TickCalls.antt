@@ -1,8 +1,8 @@
--- The calls that charge ticks, and what lies near them.
+-- The calls that charge ticks, and what lies in their footprints.
 use Rattle.step_ways.proofs.Common.{◌≡◌, ℕ, ◌||◌, ◌++◌, ◌==◌, Bool, true, false, [], ◌∷◌, refl, sym, ◌∙◌, ap, subst, eq-eqb, Call, Tick}
-use Rattle.step_ways.proofs.Common.{Frame, Kernel, Tcap, TcapFields, State, thread_of, comp_of, is_one_of, frames_own, frames_near}
+use Rattle.step_ways.proofs.Common.{Frame, Kernel, Tcap, TcapFields, State, thread_of, comp_of, is_one_of, frames_own, footprint_frames}
 use Rattle.step_ways.proofs.Common.{HasRacedHead, Charge, ChargesBy}
-use Rattle.plan_ways.proofs.Near.{one_left}
+use Rattle.plan_ways.proofs.InFootprint.{one_left}
 use Rattle.step_ways.specs.core_invariant.specs.Knows.{IsCharge}
 
 -- The call that charges ticks.
@@ -15,9 +15,9 @@ pub tick_of : (s : State) (c : ℕ) (call : Call) (charge_at : Charge) → Charg
 tick_of s c (Tick n) charge_at is = record { ticks = n; call_is = refl; charged = is }
 tick_of s c call charge_at is = absurd is
 
--- The temporal capability of a core is near each of its calls.
-pub own_near : (s : State) (c : ℕ) (call : Call) → is_one_of (s.core c).tcap (frames_near s c call) ≡ true
-own_near s c call = one_left (s.core c).tcap (frames_own s c) _
+-- The temporal capability of a core is in the footprint of each of its calls.
+pub own_footprint : (s : State) (c : ℕ) (call : Call) → is_one_of (s.core c).tcap (footprint_frames s c call) ≡ true
+own_footprint s c call = one_left (s.core c).tcap (frames_own s c) _
     (ap (λ b. ((s.core c).thread == (s.core c).tcap) || (b || is_one_of (s.core c).tcap ((thread_of s c).stack ++
     ((comp_of s c).table ∷ (comp_of s c).pages ∷ [])))) (eq-eqb (s.core c).tcap (s.core c).tcap refl)
     ∙ last ((s.core c).thread == (s.core c).tcap))

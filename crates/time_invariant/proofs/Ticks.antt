@@ -1,6 +1,7 @@
 -- The steps of a tick are good: the load of the head of its core's temporal capability, and the compare, which is lost to another core or
 -- charges the ticks that are due.
-use Rattle.step_ways.proofs.Common.{counts_bare, unlent_head_value, unlent_head_word, lent_none, lent_kept, lent_free, min, IsSome}
+use Rattle.step_ways.proofs.Common.{counts_bare, not_exclusive_head_value, not_exclusive_head_word, exclusive_none}
+use Rattle.step_ways.proofs.Common.{exclusive_kept, exclusive_free, min, IsSome}
 use Rattle.step_ways.proofs.Common.{All-nil, ◌≡◌, ◌≢◌, inl, inr, ℕ, zero, suc, map, ◌+◌, ◌-◌, ◌*◌, ◌^◌, ◌<◌, ◌≤◌, ◌==◌, true, false, List}
 use Rattle.step_ways.proofs.Common.{[], ◌∷◌, length, Option, Some, None, arith, refl, sym, ◌∙◌, ap, subst, if◌then◌else◌, eqb-true}
 use Rattle.step_ways.proofs.Common.{eqb-false, eq-eqb, cases_eq, false≢true, Setting, IsSetting, InLimits, left_if, Call, Tick, Reply}
@@ -10,7 +11,8 @@ use Rattle.step_ways.proofs.Common.{tcap_in, Thing, PlaceOf, NumberOf, State, pu
 use Rattle.step_ways.proofs.Common.{first_of_stack, sum_below, refs, frame_names, times, Change, Found, IsFoundAnd, rule_of, change_of}
 use Rattle.step_ways.proofs.Common.{changed, counted, state_by, begins, ends, flushes, MayReply, calls_counted, frame_refs, sum_one}
 use Rattle.step_ways.proofs.Common.{core_same_refs, put_same, put_other, mark_of, mark_in_frame, head_mark, marked_by, IsAlone}
-use Rattle.step_ways.proofs.Common.{holds_node, frame_value, ways, Slot, names_on, changes_in_frame, is_one_of, frames_near, HasReached}
+use Rattle.step_ways.proofs.Common.{holds_node, frame_value, ways, Slot}
+use Rattle.step_ways.proofs.Common.{names_on, changes_in_frame, is_one_of, footprint_frames, HasReached}
 use Rattle.step_ways.proofs.Common.{IsJustified, IsRaceLost, ends_in, flushes_in, stamp, Step, Trace, Open, phase, state_after, last_left}
 use Rattle.step_ways.proofs.Common.{state_decided_in, own_left, ok_first, decided-inside, not_inside, not_changed, last_small}
 use Rattle.step_ways.proofs.Common.{own_read-here, Acquired, head, debited, head_end, Charge, Own, own_changed, Act, Goes, Undecided}
@@ -43,7 +45,7 @@ use Rattle.step_ways.specs.kept_facts.proofs.WordFrames.{load_keeps}
 use Rattle.step_ways.specs.kept_facts.proofs.WordFrames.{load_marks, load_words}
 use Rattle.step_ways.proofs.Writes.{same_marks, room_left}
 use Rattle.time_invariant.proofs.Budgets.{tcap_is, IsTcap, Numbers, numbers_of}
-use Rattle.time_invariant.proofs.TickCalls.{IsTick, tick_of, own_near, raced_head}
+use Rattle.time_invariant.proofs.TickCalls.{IsTick, tick_of, own_footprint, raced_head}
 
 -- A core that has counted one call more.
 abbrev one_more : CoreFields → CoreFields
@@ -116,7 +118,8 @@ module _ (setup : Setting) (setting : IsSetting setup) (cores : ℕ → Core) (t
 
   -- what the head's word shows, where no core has marked it
   head_says : marked_by setup t at ≡ None → HeadIs q (count_room s) (head_of_word was)
-  head_says unmarked = subst (λ (n : ℕ). HeadIs q (count_room s) (head_of_word n)) (unlent_head_value setup cores t stands f q tcap.is was)
+  head_says unmarked = subst (λ (n : ℕ). HeadIs q (count_room s) (head_of_word n))
+      (not_exclusive_head_value setup cores t stands f q tcap.is was)
       (subst (λ o. HeadIs q (count_room s) (head_of_word (settled_by o (held_by cores) at was))) unmarked
       (subst (λ x. IsFrameWord s.limits.frames (count_room s) x (s.place f 0)
       (stamp setup t (PlaceOf f 0)) 0 (settled setup (held_by cores) t at))
@@ -125,8 +128,8 @@ module _ (setup : Setting) (setting : IsSetting setup) (cores : ℕ → Core) (t
   mark_is : (x : ℕ) → mark_of s at x ≡ head_mark (head_of_word x)
   mark_is x = ap (λ y. mark_in_frame y 0 x) tcap.is
 
-  near : is_one_of f (frames_near s c a.call) ≡ true
-  near = own_near s c a.call
+  footprint : is_one_of f (footprint_frames s c a.call) ≡ true
+  footprint = own_footprint s c a.call
 
   -- the rule of a tick refuses nothing
   abbrev due : ℕ
@@ -281,7 +284,7 @@ module _ (setup : Setting) (setting : IsSetting setup) (cores : ℕ → Core) (t
         (λ d m other. looks.kept)
         (plain_begins setup t e plain) (spares_kept setup t e looks.kept) (inl (ap untypes is.call_is)) rises works marks
         (load_words setup cores t e after still frames looks.kept same_words stands.words)
-        (lent_none setup (e ∷ t) c after (counts_bare (done_by r None) a.counts)) (lent_kept cores e looks.kept)
+        (exclusive_none setup (e ∷ t) c after (counts_bare (done_by r None) a.counts)) (exclusive_kept cores e looks.kept)
         (sums_keep setup t e (held_by cores) (held_by (put cores c after))
         (λ g d. settled_on setup cores t e after still frames (CountAt g d)
         (load_keeps setup cores t e after still frames looks.kept (CountAt g d)))
@@ -324,7 +327,7 @@ module _ (setup : Setting) (setting : IsSetting setup) (cores : ℕ → Core) (t
     of_compare : IsOfCall setup t c a.call compare
     of_compare = record {
       moves = ap (changes_in_frame a.call) tcap.is ∙ ap (λ x. changes_in_frame x (Kernel (Tcap q))) is.call_is;
-      near = inl near;
+      footprint = inl footprint;
     }
 
     pub lost_good : (was == old) ≡ false → GoodTook setup cores t c compare (landed a (owes reply.Raced (ticks_of charge_at)))
@@ -352,7 +355,7 @@ module _ (setup : Setting) (setting : IsSetting setup) (cores : ℕ → Core) (t
     here_is = ap charged_tcap (sym charge_is) ∙ is.charged.tcap
 
     loading : OnlyLooks setup t c a.call (LoadOf at)
-    loading = record { of_call = record { moves = refl; near = inl near }; kept = refl; apart = λ d. refl }
+    loading = record { of_call = record { moves = refl; footprint = inl footprint }; kept = refl; apart = λ d. refl }
 
     -- it is free, and the compare comes next
     free_good : (budget version : ℕ) → head_of_word was ≡ Some (head budget version)
@@ -401,7 +404,7 @@ module _ (setup : Setting) (setting : IsSetting setup) (cores : ℕ → Core) (t
         by_mark budget version None shown = free_good budget version shown
         by_mark budget version (Some d) shown =
             subst (λ (m : ℕ). GoodTook setup cores t c (LoadOf at) (landed a (owes (reply.Busy d) m))) same_due
-            (busy_good (record { moves = refl; near = inl near }) d (mark_is was ∙ ap head_mark shown))
+            (busy_good (record { moves = refl; footprint = inl footprint }) d (mark_is was ∙ ap head_mark shown))
 
         by_word : (o : Option HeadWord) → head_of_word was ≡ o
             → GoodTook setup cores t c (LoadOf at) (landed a (took_charge ticks (after_head f ticks o) (head_end o)))
@@ -728,10 +731,10 @@ module _ (setup : Setting) (setting : IsSetting setup) (cores : ℕ → Core) (t
         (carry_words setup cores t e_won after_won still_won alike_won unmarked bare_now
         (λ g i. counts_bare (Some None) a.counts g i
         ∙ sym (ap (λ h. h.bare g i) (ap holds_in active ∙ held_is) ∙ counts_bare None a.counts g i))
-        (unlent_head_value setup cores t stands f q tcap.is) stays_won now_says
+        (not_exclusive_head_value setup cores t stands f q tcap.is) stays_won now_says
         (λ w own. absurd (free_of w own)) stands.words)
-        (lent_none setup (e_won ∷ t) c after_won (counts_bare (Some None) a.counts))
-        (lent_free cores e_won (unlent_head_word setup cores t stands f q tcap.is))
+        (exclusive_none setup (e_won ∷ t) c after_won (counts_bare (Some None) a.counts))
+        (exclusive_free cores e_won (not_exclusive_head_word setup cores t stands f q tcap.is))
         (sums_keep setup t e_won (held_by cores) (held_by (put cores c after_won))
         (λ g d. others_settled setup cores t e_won after_won still_won alike_won unmarked bare_now (CountAt g d) (no_count g d)
         (free_of (CountAt g d)) refl)

@@ -1,5 +1,5 @@
 -- The time of a machine is that of the sequential kernel, whose laws hold of each legal trace; and heads say it.
-use Rattle.flight.proofs.Common.{to_use, unlent_head_value, ◌≡◌, ℕ, ◌+◌, ◌∷◌, [], ◌&&◌, ◌==◌, Bool, true, false, Some, None}
+use Rattle.flight.proofs.Common.{to_use, not_exclusive_head_value, ◌≡◌, ℕ, ◌+◌, ◌∷◌, [], ◌&&◌, ◌==◌, Bool, true, false, Some, None}
 use Rattle.flight.proofs.Common.{if◌then◌else◌, refl, sym, ◌∙◌, ap, subst, Setting, IsSetting, head_of_word, EntryAt, PlaceOf, State}
 use Rattle.flight.proofs.Common.{events_of, IsLegal, MayDecide, stamp, Trace, state_after, last_left, Step, Open, phase, after_enter}
 use Rattle.flight.proofs.Common.{state_before, state_is, run_of, settled_by, settled, held_by, Invariant, HeadIs, IsFrameWord, count_room}
@@ -36,7 +36,7 @@ heads_say setup setting t made f q is unmarked = record { version = says.version
 
     says : HeadIs q (count_room (state_after setup t)) (head_of_word (last_left setup t (EntryAt f 0)))
     says = subst (λ (n : ℕ). HeadIs q (count_room (state_after setup t)) (head_of_word n))
-        (unlent_head_value setup (cores_after setup t) t stands f q is (last_left setup t (EntryAt f 0)))
+        (not_exclusive_head_value setup (cores_after setup t) t stands f q is (last_left setup t (EntryAt f 0)))
         (subst (λ o. HeadIs q (count_room (state_after setup t))
         (head_of_word (settled_by o (held_by (cores_after setup t)) (EntryAt f 0) (last_left setup t (EntryAt f 0)))))
         unmarked

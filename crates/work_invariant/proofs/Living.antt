@@ -5,11 +5,12 @@ use Rattle.comp_invariant.proofs.Common.{None}
 use Rattle.comp_invariant.proofs.Common.{List, [], ◌∷◌, refl, sym, ap, subst, leb-true, leb-false, lt-ltb, eq-eqb, map}
 use Rattle.comp_invariant.proofs.Common.{Setting, IsSetting, Call, Word, EntryAt, LiveAt, LoadOf, word_of, told_of, State, Kernel, Comp}
 use Rattle.comp_invariant.proofs.Common.{NumberOf, PlaceOf, comp_of, thread_of, first_of_stack, lives, acts, asks_life, may_act}
-use Rattle.comp_invariant.proofs.Common.{IsTrue, is_live_in, is_one_of, frames_near, Trace, Open, phase, state_after, last_left, stamp}
+use Rattle.comp_invariant.proofs.Common.{IsTrue, is_live_in, is_one_of, footprint_frames, Trace, Open, phase, state_after, last_left, stamp}
 use Rattle.comp_invariant.proofs.Common.{marked_by, mark_in_frame, live_mark, live_of_word, comp_of_word, LiveWord, CompWord, Living}
 use Rattle.comp_invariant.proofs.Common.{Undecided, ActiveCall, Core, GoesOn, landed, refuse, went, KnowsAlive, NamesAre, Invariant}
 use Rattle.comp_invariant.proofs.Common.{HasComp, holds_at, holds_in, holds_counts, held_by, settled_by, IsFrameWord, NumberIs, count_room}
-use Rattle.comp_invariant.proofs.Common.{may_keep, unlent_value, phase_at, HasRoom, CountsAt, Acquired, due_of, Alive, AtComp, AtLive}
+use Rattle.comp_invariant.proofs.Common.{may_keep, not_exclusive_value, phase_at, HasRoom, CountsAt}
+use Rattle.comp_invariant.proofs.Common.{Acquired, due_of, Alive, AtComp, AtLive}
 use Rattle.comp_invariant.proofs.Common.{plan_for, Plan, Act, translation_of}
 use Rattle.comp_invariant.proofs.Common.{RuleMay, Refused, rule_of, change_of, found_more, Touch, Retype, Copy, Grow, Remove, Shrink}
 use Rattle.comp_invariant.proofs.Common.{Map, Unmap, Flush, Gate, Kill, Ret, Switch, Tick, Transfer, Delegate, Test, Relies, Capability}
@@ -20,9 +21,9 @@ use Rattle.comp_invariant.specs.spk_nums.specs.declared.calls.Make.TheVariants a
 use Rattle.comp_invariant.specs.spk_nums.specs.declared.replies.Reply.TheVariants as reply
 use Rattle.comp_invariant.specs.frame_words.specs.declared.live_word.LiveWord.TheVariants as live_word
 use Rattle.comp_invariant.specs.kernel_rules.specs.Life.{outlives}
-use Rattle.comp_invariant.specs.kernel_history.specs.Footprint.{numbers_near, number_argument, number_in}
+use Rattle.comp_invariant.specs.kernel_history.specs.Footprint.{footprint_numbers, number_argument, number_in}
 use Rattle.comp_invariant.specs.trace_laws.proofs.Stays.{relies_pages}
-use Rattle.comp_invariant.specs.plan_ways.proofs.Near.{one_right}
+use Rattle.comp_invariant.specs.plan_ways.proofs.InFootprint.{one_right}
 use Rattle.switch_invariant.specs.thread_invariant.specs.stage_thread.specs.Living.{alive_move, alive_after, alive_end, comp_after}
 use Rattle.switch_invariant.specs.thread_invariant.specs.stage_thread.specs.Living.{comp_end}
 use Rattle.switch_invariant.specs.thread_invariant.specs.stage_thread.specs.Living.{live_end, number_end, lives_end}
@@ -33,7 +34,7 @@ use Rattle.comp_invariant.specs.call_stages.specs.Fits.{IsFirst}
 use Rattle.comp_invariant.specs.call_stages.specs.Steps.{next_by as what_next, took_alive}
 use Rattle.comp_invariant.specs.step_ways.proofs.Loads.{OnlyLooks, step_to, call_is, is_active, loads_on}
 use Rattle.comp_invariant.specs.step_ways.proofs.Refusals.{GoodTook, refuses_asking, refuses_busy, refuses_no_slot, ticks_at}
-use Rattle.comp_invariant.specs.count_invariant.proofs.StackCounts.{top_near}
+use Rattle.comp_invariant.specs.count_invariant.proofs.StackCounts.{top_footprint}
 use Rattle.switch_invariant.specs.live_invariant.proofs.Numbers.{no_number, shows_live, lives_as_shown, shows_some, one_of_many, comp_is}
 use Rattle.switch_invariant.specs.thread_invariant.proofs.OwnStack.{top_comp, some_stack}
 use Rattle.page_invariant.proofs.TouchCalls.{past_may, past_first}
@@ -108,12 +109,12 @@ module _ (setup : Setting) (setting : IsSetting setup) (cores : ℕ → Core) (t
   holds_comp : s.frame comp ≡ Kernel (Comp (comp_of s c))
   holds_comp = comp_is (s.frame comp) has_comp.comp
 
-  comp_near : is_one_of comp (frames_near s c a.call) ≡ true
-  comp_near = top_near s c a.call comp refl (some_stack setup setting t stands.legal c here)
+  comp_footprint : is_one_of comp (footprint_frames s c a.call) ≡ true
+  comp_footprint = top_footprint s c a.call comp refl (some_stack setup setting t stands.legal c here)
 
-  number_near : (l : ℕ) → (comp_of s c).number ≡ l → is_one_of l (numbers_near s c a.call) ≡ true
-  number_near l same = one_right l (number_argument a.call) _
-      (one_of_many (λ g. number_in (s.frame g)) l comp (frames_near s c a.call) comp_near
+  number_footprint : (l : ℕ) → (comp_of s c).number ≡ l → is_one_of l (footprint_numbers s c a.call) ≡ true
+  number_footprint l same = one_right l (number_argument a.call) _
+      (one_of_many (λ g. number_in (s.frame g)) l comp (footprint_frames s c a.call) comp_footprint
       (ap (λ x. is_one_of l (number_in x)) holds_comp ∙ ap (λ b. b || false) (eq-eqb (comp_of s c).number l same)))
 
   -- The load of the component's word.
@@ -129,12 +130,12 @@ module _ (setup : Setting) (setting : IsSetting setup) (cores : ℕ → Core) (t
   says_life : comp_of_word was ≡ Some its_life
   says_life = subst (λ x. IsFrameWord s.limits.frames (count_room s) x (s.place comp 2) (stamp setup t (PlaceOf comp 2)) 2 was) holds_comp
       (subst (λ (n : ℕ). IsFrameWord s.limits.frames (count_room s) (s.frame comp) (s.place comp 2) (stamp setup t (PlaceOf comp 2)) 2 n)
-      (unlent_value setup cores t stands comp (ap may_keep holds_comp) 2 was)
+      (not_exclusive_value setup cores t stands comp (ap may_keep holds_comp) 2 was)
       (subst (λ o. IsFrameWord s.limits.frames (count_room s) (s.frame comp) (s.place comp 2) (stamp setup t (PlaceOf comp 2)) 2
       (settled_by o (held_by cores) (EntryAt comp 2) was)) unmarked (stands.words (EntryAt comp 2))))
 
   loading : OnlyLooks setup t c a.call (LoadOf (EntryAt comp 2))
-  loading = record { of_call = record { moves = refl; near = inl comp_near }; kept = refl; apart = λ d. refl }
+  loading = record { of_call = record { moves = refl; footprint = inl comp_footprint }; kept = refl; apart = λ d. refl }
 
   asks_on : GoodTook setup cores t c (LoadOf (EntryAt comp 2)) (GoesOn (went a (Living (AtLive its_life))))
   asks_on lands =
@@ -165,7 +166,15 @@ module _ (setup : Setting) (setting : IsSetting setup) (cores : ℕ → Core) (t
     after = AtLive life
 
     looking : OnlyLooks setup t c a.call (LoadOf at)
-    looking = record { of_call = record { moves = has.asks; near = inl (number_near life.number number) }; kept = refl; apart = λ d. refl }
+    looking = record {
+      of_call = record {
+        moves = has.asks;
+        footprint = inl
+            (number_footprint life.number number);
+      };
+      kept = refl;
+      apart = λ d. refl;
+    }
 
     -- what it shows, where no core has marked it
     says : marked_by setup t at ≡ None → NumberIs (s.number life.number) (stamp setup t (NumberOf life.number)) (live_of_word found)

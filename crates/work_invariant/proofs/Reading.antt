@@ -2,16 +2,16 @@
 use Rattle.comp_invariant.proofs.Common.{◌≡◌, inl, ℕ, ◌<◌, ◌||◌, true, false, List, [], ◌∷◌, Some, None, refl, sym, ◌∙◌, ap, subst}
 use Rattle.comp_invariant.proofs.Common.{eq-eqb, Capability, Setting, IsSetting, Kind, Call, Gate, comp_of_word, CompWord, EntryAt}
 use Rattle.comp_invariant.proofs.Common.{LoadOf, State, Kernel, Comp, PlaceOf, comp_in, to_use, only, named_by, only_is, opened, events_of}
-use Rattle.comp_invariant.proofs.Common.{is_one_of, frames_near, IsLegal, mark_in_frame, marked_by, stamp, Step, Trace, Open, phase}
+use Rattle.comp_invariant.proofs.Common.{is_one_of, footprint_frames, IsLegal, mark_in_frame, marked_by, stamp, Step, Trace, Open, phase}
 use Rattle.comp_invariant.proofs.Common.{state_after, last_left, sound_of, opened_is, Look, First, Plan, plan_for, Leads, LeadsIn, Next}
 use Rattle.comp_invariant.proofs.Common.{Lookup, Read, reads_of, Undecided, ActiveCall, Core, settled_by, IsFrameWord, count_room}
 use Rattle.comp_invariant.proofs.Common.{LooksFor, ReadIs, ReadBefore, KnowsUndecided, phase_at, holds_at, held_by, Invariant, names_on}
-use Rattle.comp_invariant.proofs.Common.{may_keep, unlent_value}
+use Rattle.comp_invariant.proofs.Common.{may_keep, not_exclusive_value}
 use Rattle.comp_invariant.specs.spk_nums.specs.declared.kinds.Kind.TheVariants as kind
 use Rattle.comp_invariant.specs.frame_words.specs.Comp.{CompFits}
 use Rattle.comp_invariant.specs.frame_words.proofs.CompLemmas.{comp_spells}
 use Rattle.comp_invariant.specs.kernel_invariant.proofs.Facts.{named_good}
-use Rattle.comp_invariant.specs.plan_ways.proofs.Near.{near_found}
+use Rattle.comp_invariant.specs.plan_ways.proofs.InFootprint.{footprint_found}
 use Rattle.comp_invariant.specs.call_stages.specs.Steps.{took_read}
 use Rattle.comp_invariant.specs.core_invariant.specs.Knows.{HasComp}
 use Rattle.comp_invariant.specs.kept_facts.proofs.Carries.{looks_on}
@@ -36,21 +36,21 @@ reads_comp setup setting t legal c (Gate n u b) is_open (k ∷ ks) lead f reads 
     frame_same g f h = cc
 reads_comp setup setting t legal c call is_open ks lead f reads = absurd (cc)
 
--- Its frame is near the call.
-reads_near : (setup : Setting) → IsSetting setup → (t : Trace) → IsLegal setup t → (c : ℕ) (call : Call) → phase t c ≡ Open call
+-- Its frame is in the call's footprint.
+reads_footprint : (setup : Setting) → IsSetting setup → (t : Trace) → IsLegal setup t → (c : ℕ) (call : Call) → phase t c ≡ Open call
     → (ks : List Capability) → Leads (LeadsIn (state_after setup t) c) (plan_for call).names [] ks
-    → (f : ℕ) → reads_of call ks ≡ Some f → is_one_of f (frames_near (state_after setup t) c call) ≡ true
-reads_near setup setting t legal c (Gate n u b) is_open [] lead f reads = absurd (cc)
-reads_near setup setting t legal c (Gate n u b) is_open (k ∷ ks) lead f reads =
+    → (f : ℕ) → reads_of call ks ≡ Some f → is_one_of f (footprint_frames (state_after setup t) c call) ≡ true
+reads_footprint setup setting t legal c (Gate n u b) is_open [] lead f reads = absurd (cc)
+reads_footprint setup setting t legal c (Gate n u b) is_open (k ∷ ks) lead f reads =
     let good = named_good (state_after setup t) (opened (events_of t)) c n (to_use (only kind.Comp)) k (sound_of setup setting t legal)
     (opened_is t c (Gate n u b) is_open) lead.0 in
-    near_found (state_after setup t) c (Gate n u b) (k ∷ ks) lead First k refl f
+    footprint_found (state_after setup t) c (Gate n u b) (k ∷ ks) lead First k refl f
     (ap (λ (x : Kind). is_one_of f (named_by x k.frame)) (only_is kind.Comp k.kind good.1)
     ∙ ap (λ b. b || false) (eq-eqb k.frame f (frame_same k.frame f reads)))
   where
     frame_same : (g f : ℕ) → Some g ≡ Some f → g ≡ f
     frame_same g f h = cc
-reads_near setup setting t legal c call is_open ks lead f reads = absurd (cc)
+reads_footprint setup setting t legal c call is_open ks lead f reads = absurd (cc)
 
 -- The load of the component's word.
 module _ (setup : Setting) (setting : IsSetting setup) (cores : ℕ → Core) (t : Trace) (stands : Invariant setup cores t) (c : ℕ)
@@ -81,7 +81,7 @@ module _ (setup : Setting) (setting : IsSetting setup) (cores : ℕ → Core) (t
   says_life : comp_of_word was ≡ Some life
   says_life = subst (λ x. IsFrameWord s.limits.frames (count_room s) x (s.place f 2) (stamp setup t (PlaceOf f 2)) 2 was) holds_comp
       (subst (λ (n : ℕ). IsFrameWord s.limits.frames (count_room s) (s.frame f) (s.place f 2) (stamp setup t (PlaceOf f 2)) 2 n)
-      (unlent_value setup cores t stands f (ap may_keep holds_comp) 2 was)
+      (not_exclusive_value setup cores t stands f (ap may_keep holds_comp) 2 was)
       (subst (λ o. IsFrameWord s.limits.frames (count_room s) (s.frame f) (s.place f 2) (stamp setup t (PlaceOf f 2)) 2
       (settled_by o (held_by cores) (EntryAt f 2) was)) unmarked (stands.words (EntryAt f 2))))
 
@@ -96,7 +96,7 @@ module _ (setup : Setting) (setting : IsSetting setup) (cores : ℕ → Core) (t
   loading = record {
     of_call = record {
       moves = refl;
-      near = inl (reads_near setup setting t stands.legal c a.call is_open a.found leads f has.knows.reads);
+      footprint = inl (reads_footprint setup setting t stands.legal c a.call is_open a.found leads f has.knows.reads);
     };
     kept = refl;
     apart = λ d. refl;

@@ -52,7 +52,7 @@ module _ (setup : Setting) (setting : IsSetting setup) (cores : ℕ → Core) (t
           (GoesOn (went_with a xs (Leave r (clock setup t))))) none λ lands.
           let e : Step = step_to c None (LoadOf ClockAt) (clock setup t) None None in
           loads_on setup setting cores t stands c here a active (LoadOf ClockAt) a.found (Leave r (clock setup t))
-          (record { of_call = record { moves = refl; near = inl tt }; kept = refl; apart = λ d. refl }) lands
+          (record { of_call = record { moves = refl; footprint = inl tt }; kept = refl; apart = λ d. refl }) lands
           (ap (holds_counts None) none ∙ sym (ap (λ s. holds_at s a.counts) at ∙ ap (holds_counts (done_by r drawn)) none))
           (ap (phase_at a.call) at)
           (λ carries. record {

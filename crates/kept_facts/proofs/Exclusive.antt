@@ -32,7 +32,7 @@ use Rattle.core_invariant.specs.call_stages.specs.View.{Core}
 use Rattle.core_invariant.specs.Holding.{Holding, bare_value, MarkIs}
 use Rattle.core_invariant.specs.Knows.{phase_at}
 use Rattle.core_invariant.specs.Shares.{HasTcap}
-use Rattle.core_invariant.specs.Invariant.{holds, holds_in, held_by, IsLent, IsOfThread, IsOfList, SaysRunning, Invariant}
+use Rattle.core_invariant.specs.Invariant.{holds, holds_in, held_by, IsExclusive, IsOfThread, IsOfList, SaysRunning, Invariant}
 use Rattle.core_invariant.proofs.ActBares.{open_bare}
 use Rattle.core_invariant.proofs.Bare.{AsBefore, IsNotKept, none_kept, own_kept, core_bare}
 use Rattle.core_invariant.proofs.Markers.{marker_inside}
@@ -84,27 +84,27 @@ given_kept before after w bares f i v is = elim (cases_word (EntryAt f i) w) [
 ]
 
 -- A step of a call that has not been decided, after which its core keeps no more than before: it keeps nothing.
-pub lent_open : (setup : Setting) (cores : ℕ → Core) (t : Trace) (e : Step) (after : Core) (a : ActiveCall) (call : Call)
+pub exclusive_open : (setup : Setting) (cores : ℕ → Core) (t : Trace) (e : Step) (after : Core) (a : ActiveCall) (call : Call)
     → (cores e.core).active ≡ Some a → phase_at a.call a.stage ≡ Open call
     → ((f i v : ℕ) → (holds after).bare f i ≡ Some v → (holds (cores e.core)).bare f i ≡ Some v)
-    → (f i v : ℕ) → (holds after).bare f i ≡ Some v → IsLent setup (e ∷ t) e.core f i
-lent_open setup cores t e after a call active opens keeps f i v is =
+    → (f i v : ℕ) → (holds after).bare f i ≡ Some v → IsExclusive setup (e ∷ t) e.core f i
+exclusive_open setup cores t e after a call active opens keeps f i v is =
     absurd (none_some v (sym (ap (λ o. (holds_in o).bare f i) active ∙ open_bare a call opens f i) ∙ keeps f i v is))
 
 -- A step that leaves the state, and after which the core keeps what it kept.
-pub lent_still : (setup : Setting) (cores : ℕ → Core) (t : Trace) → Invariant setup cores t → (e : Step) (after : Core)
+pub exclusive_still : (setup : Setting) (cores : ℕ → Core) (t : Trace) → Invariant setup cores t → (e : Step) (after : Core)
     → KeepsLeft setup cores t e after → state_after setup (e ∷ t) ≡ state_after setup t
     → ((w : Word) (d : ℕ) → MarkIs setup (held_by (put cores e.core after)) (e ∷ t) w d)
-    → (f i v : ℕ) → (holds after).bare f i ≡ Some v → IsLent setup (e ∷ t) e.core f i
-lent_still setup cores t stands e after keeps same marks f i v is = record {
+    → (f i v : ℕ) → (holds after).bare f i ≡ Some v → IsExclusive setup (e ∷ t) e.core f i
+exclusive_still setup cores t stands e after keeps same marks f i v is = record {
   core = before.core;
   unmarked = mark_kept setup t e (EntryAt f i) (ap (λ s. mark_of s (EntryAt f i) (last_left setup (e ∷ t) (EntryAt f i))) same)
       (keeps f i v is).1 ∙ before.unmarked;
   word = by before.word;
 }
   where
-    before : IsLent setup t e.core f i
-    before = stands.lent e.core f i v (keeps f i v is).0
+    before : IsExclusive setup t e.core f i
+    before = stands.exclusive e.core f i v (keeps f i v is).0
 
     by : IsOfThread setup t e.core f i ⊎ IsOfList setup t e.core f i
         → IsOfThread setup (e ∷ t) e.core f i ⊎ IsOfList setup (e ∷ t) e.core f i
@@ -122,19 +122,19 @@ lent_still setup cores t stands e after keeps same marks f i v is = record {
     })
 
 -- A step on a word that another core keeps leaves it as found.
-abbrev pub SparesLent : (ℕ → Core) → Step → Type 0
-SparesLent cores e =
+abbrev pub SparesExclusive : (ℕ → Core) → Step → Type 0
+SparesExclusive cores e =
     (d f i v : ℕ) → d ≢ e.core → (held_by cores d).bare f i ≡ Some v → word_of e.move ≡ EntryAt f i → left_of e.move e.found ≡ e.found
 
 -- So does each load, a step on a word of another kind, and one on a word that no core keeps.
-pub lent_kept : (cores : ℕ → Core) (e : Step) → left_of e.move e.found ≡ e.found → SparesLent cores e
-lent_kept cores e kept d f i v other is at = kept
+pub exclusive_kept : (cores : ℕ → Core) (e : Step) → left_of e.move e.found ≡ e.found → SparesExclusive cores e
+exclusive_kept cores e kept d f i v other is at = kept
 
-pub lent_elsewhere : (cores : ℕ → Core) (e : Step) → ((f i : ℕ) → word_of e.move ≢ EntryAt f i) → SparesLent cores e
-lent_elsewhere cores e apart d f i v other is at = absurd (apart f i at)
+pub exclusive_elsewhere : (cores : ℕ → Core) (e : Step) → ((f i : ℕ) → word_of e.move ≢ EntryAt f i) → SparesExclusive cores e
+exclusive_elsewhere cores e apart d f i v other is at = absurd (apart f i at)
 
-pub lent_free : (cores : ℕ → Core) (e : Step) → IsNotKept (held_by cores) (word_of e.move) → SparesLent cores e
-lent_free cores e free d f i v other is at = absurd (none_some v (sym (free f i at d) ∙ is))
+pub exclusive_free : (cores : ℕ → Core) (e : Step) → IsNotKept (held_by cores) (word_of e.move) → SparesExclusive cores e
+exclusive_free cores e free d f i v other is at = absurd (none_some v (sym (free f i at d) ∙ is))
 
 -- A mark in a thread's word is read as in each thread.
 abbrev a_thread : Frame
@@ -163,10 +163,10 @@ list_mark f i v tcap some = ap (λ x. mark_in_frame x i v) (tcap_of f tcap).is
 
 -- Another core keeps what it kept: its own thread stays, and so does a temporal capability whose head it has marked.
 module _ (setup : Setting) (setting : IsSetting setup) (cores : ℕ → Core) (t : Trace) (stands : Invariant setup cores t) (e : Step)
-    (follows : MayFollow setup t e) (marked : KeepsMarked setup t e) (spares : SparesLent cores e) (d f i v : ℕ) (other : d ≢ e.core)
+    (follows : MayFollow setup t e) (marked : KeepsMarked setup t e) (spares : SparesExclusive cores e) (d f i v : ℕ) (other : d ≢ e.core)
     (is : (held_by cores d).bare f i ≡ Some v) where
-  before : IsLent setup t d f i
-  before = stands.lent d f i v is
+  before : IsExclusive setup t d f i
+  before = stands.exclusive d f i v is
 
   left : last_left setup (e ∷ t) (EntryAt f i) ≡ last_left setup t (EntryAt f i)
   left = elim (cases_word (EntryAt f i) (word_of e.move)) [
@@ -175,7 +175,7 @@ module _ (setup : Setting) (setting : IsSetting setup) (cores : ℕ → Core) (t
     | inr there ↦ last_left-there setup (EntryAt f i) e t there
   ]
 
-  of_thread : IsOfThread setup t d f i → IsLent setup (e ∷ t) d f i
+  of_thread : IsOfThread setup t d f i → IsExclusive setup (e ∷ t) d f i
   of_thread w = record {
     core = before.core;
     unmarked = mark_kept setup t e (EntryAt f i) alike left ∙ before.unmarked;
@@ -197,7 +197,7 @@ module _ (setup : Setting) (setting : IsSetting setup) (cores : ℕ → Core) (t
           (subst (λ (g : ℕ). 1 ≤ length (thread_in ((state_after setup (e ∷ t)).frame g)).stack) thread stack)
           (subst (λ (g : ℕ). 1 ≤ length (thread_in ((state_after setup t).frame g)).stack) w.thread w.stack)
 
-  of_list : IsOfList setup t d f i → IsLent setup (e ∷ t) d f i
+  of_list : IsOfList setup t d f i → IsExclusive setup (e ∷ t) d f i
   of_list w = record {
     core = before.core;
     unmarked = list_mark ((state_after setup (e ∷ t)).frame f) i (last_left setup (e ∷ t) (EntryAt f i)) stays.tcap w.list;
@@ -222,26 +222,27 @@ module _ (setup : Setting) (setting : IsSetting setup) (cores : ℕ → Core) (t
         | inr there ↦ last_left-there setup (EntryAt f 0) e t there
       ]
 
-  pub lent_other : IsLent setup (e ∷ t) d f i
-  lent_other = by before.word
+  pub exclusive_other : IsExclusive setup (e ∷ t) d f i
+  exclusive_other = by before.word
     where
-      by : IsOfThread setup t d f i ⊎ IsOfList setup t d f i → IsLent setup (e ∷ t) d f i
+      by : IsOfThread setup t d f i ⊎ IsOfList setup t d f i → IsExclusive setup (e ∷ t) d f i
       by (inl w) = of_thread w
       by (inr w) = of_list w
 
 -- A word that a core keeps is one of its thread, where its frame is no temporal capability, or where the core has not marked its first
 -- word.
-pub lent_thread : (setup : Setting) (t : Trace) (d f i : ℕ) → IsLent setup t d f i
+pub exclusive_thread : (setup : Setting) (t : Trace) (d f i : ℕ) → IsExclusive setup t d f i
     → (IsTrue (is_tcap ((state_after setup t).frame f)) → ⊥) → IsOfThread setup t d f i
-lent_thread setup t d f i has not = by has.word
+exclusive_thread setup t d f i has not = by has.word
   where
     by : IsOfThread setup t d f i ⊎ IsOfList setup t d f i → IsOfThread setup t d f i
     by (inl w) = w
     by (inr w) = absurd (not w.tcap.tcap)
 
-pub lent_unmarked : (setup : Setting) (cores : ℕ → Core) (t : Trace) → Invariant setup cores t → (d f i : ℕ) → IsLent setup t d f i
+pub exclusive_unmarked : (setup : Setting) (cores : ℕ → Core) (t : Trace) → Invariant setup cores t → (d f i : ℕ)
+    → IsExclusive setup t d f i
     → (held_by cores d).marks (EntryAt f 0) ≡ false → IsOfThread setup t d f i
-lent_unmarked setup cores t stands d f i has none = by has.word
+exclusive_unmarked setup cores t stands d f i has none = by has.word
   where
     by : IsOfThread setup t d f i ⊎ IsOfList setup t d f i → IsOfThread setup t d f i
     by (inl w) = w
@@ -280,9 +281,9 @@ no_stack (Kernel (Thread k)) not = absurd (false≢true (sym not))
 no_stack (Kernel (Tcap q)) not = absurd (false≢true (sym not))
 
 -- A word of another frame is kept by no core without a mark, and settles to itself where it carries none.
-pub unlent : (setup : Setting) (cores : ℕ → Core) (t : Trace) → Invariant setup cores t → (f : ℕ)
+pub not_exclusive : (setup : Setting) (cores : ℕ → Core) (t : Trace) → Invariant setup cores t → (f : ℕ)
     → may_keep ((state_after setup t).frame f) ≡ false → (i d : ℕ) → (held_by cores d).bare f i ≡ None
-unlent setup cores t stands f not i d = by ((held_by cores d).bare f i) refl
+not_exclusive setup cores t stands f not i d = by ((held_by cores d).bare f i) refl
   where
     no_word : IsOfThread setup t d f i ⊎ IsOfList setup t d f i → ⊥
     no_word (inl w) =
@@ -294,11 +295,11 @@ unlent setup cores t stands f not i d = by ((held_by cores d).bare f i) refl
 
     by : (o : Option ℕ) → (held_by cores d).bare f i ≡ o → (held_by cores d).bare f i ≡ None
     by None is = is
-    by (Some v) is = absurd (no_word (stands.lent d f i v is).word)
+    by (Some v) is = absurd (no_word (stands.exclusive d f i v is).word)
 
-pub unlent_value : (setup : Setting) (cores : ℕ → Core) (t : Trace) → Invariant setup cores t → (f : ℕ)
+pub not_exclusive_value : (setup : Setting) (cores : ℕ → Core) (t : Trace) → Invariant setup cores t → (f : ℕ)
     → may_keep ((state_after setup t).frame f) ≡ false → (i x : ℕ) → bare_value (held_by cores) (EntryAt f i) x ≡ x
-unlent_value setup cores t stands f not i x = none_kept 8 (held_by cores) f i x (unlent setup cores t stands f not i)
+not_exclusive_value setup cores t stands f not i x = none_kept 8 (held_by cores) f i x (not_exclusive setup cores t stands f not i)
 
 -- So where no core keeps a word of this frame and index.
 pub unkept_word : (cores : ℕ → Core) (f i : ℕ) → ((d : ℕ) → (held_by cores d).bare f i ≡ None) → IsNotKept (held_by cores) (EntryAt f i)
@@ -311,17 +312,18 @@ unkept_word cores f i none g j at d = subst (λ (n : ℕ). (held_by cores d).bar
     index : (f i g j : ℕ) → EntryAt f i ≡ EntryAt g j → i ≡ j
     index f i g j h = cc
 
-pub unlent_word : (setup : Setting) (cores : ℕ → Core) (t : Trace) → Invariant setup cores t → (f i : ℕ)
+pub not_exclusive_word : (setup : Setting) (cores : ℕ → Core) (t : Trace) → Invariant setup cores t → (f i : ℕ)
     → may_keep ((state_after setup t).frame f) ≡ false → IsNotKept (held_by cores) (EntryAt f i)
-unlent_word setup cores t stands f i not = unkept_word cores f i (unlent setup cores t stands f not i)
+not_exclusive_word setup cores t stands f i not = unkept_word cores f i (not_exclusive setup cores t stands f not i)
 
 -- So it is after a step whose core keeps none of it.
-pub unlent_after : (setup : Setting) (cores : ℕ → Core) (t : Trace) → Invariant setup cores t → (c : ℕ) (after : Core) (f i : ℕ)
+pub not_exclusive_after : (setup : Setting) (cores : ℕ → Core) (t : Trace) → Invariant setup cores t → (c : ℕ) (after : Core) (f i : ℕ)
     → may_keep ((state_after setup t).frame f) ≡ false → (holds after).bare f i ≡ None → (x : ℕ)
     → bare_value (held_by (put cores c after)) (EntryAt f i) x ≡ x
-unlent_after setup cores t stands c after f i not none x =
+not_exclusive_after setup cores t stands c after f i not none x =
     none_kept 8 (held_by (put cores c after)) f i x
-    (λ d. core_bare cores c after f i (none ∙ sym (unlent setup cores t stands f not i c)) d ∙ unlent setup cores t stands f not i d)
+    (λ d. core_bare cores c after f i (none ∙ sym (not_exclusive setup cores t stands f not i c)) d
+    ∙ not_exclusive setup cores t stands f not i d)
 
 -- A word of a temporal capability is kept by no core without a mark, where it is the head, or none that has marked the head keeps it.
 module _ (setup : Setting) (cores : ℕ → Core) (t : Trace) (stands : Invariant setup cores t) (f : ℕ) (q : TcapFields)
@@ -329,9 +331,10 @@ module _ (setup : Setting) (cores : ℕ → Core) (t : Trace) (stands : Invarian
   tcap_is : IsTrue (is_tcap ((state_after setup t).frame f))
   tcap_is = subst (λ x. IsTrue (is_tcap x)) (sym is) refl
 
-  pub unlent_list : (i : ℕ) → ((d : ℕ) → 1 ≤ i → marked_by setup t (EntryAt f 0) ≡ Some d → (held_by cores d).bare f i ≡ None) → (d : ℕ)
+  pub not_exclusive_list : (i : ℕ) → ((d : ℕ) → 1 ≤ i → marked_by setup t (EntryAt f 0) ≡ Some d → (held_by cores d).bare f i ≡ None) →
+      (d : ℕ)
       → (held_by cores d).bare f i ≡ None
-  unlent_list i marker d = by ((held_by cores d).bare f i) refl
+  not_exclusive_list i marker d = by ((held_by cores d).bare f i) refl
     where
       of_word : IsOfThread setup t d f i ⊎ IsOfList setup t d f i → (held_by cores d).bare f i ≡ None
       of_word (inl w) = absurd (thread_no_tcap setup t d f i w tcap_is)
@@ -339,21 +342,21 @@ module _ (setup : Setting) (cores : ℕ → Core) (t : Trace) (stands : Invarian
 
       by : (o : Option ℕ) → (held_by cores d).bare f i ≡ o → (held_by cores d).bare f i ≡ None
       by None none = none
-      by (Some v) some = of_word (stands.lent d f i v some).word
+      by (Some v) some = of_word (stands.exclusive d f i v some).word
 
-  pub unlent_list_value : (i x : ℕ)
+  pub not_exclusive_list_value : (i x : ℕ)
       → ((d : ℕ) → 1 ≤ i → marked_by setup t (EntryAt f 0) ≡ Some d → (held_by cores d).bare f i ≡ None)
       → bare_value (held_by cores) (EntryAt f i) x ≡ x
-  unlent_list_value i x marker = none_kept 8 (held_by cores) f i x (unlent_list i marker)
+  not_exclusive_list_value i x marker = none_kept 8 (held_by cores) f i x (not_exclusive_list i marker)
 
-  pub unlent_head : (d : ℕ) → (held_by cores d).bare f 0 ≡ None
-  unlent_head = unlent_list 0 (λ d some mark. absurd (omega (arith, some)))
+  pub not_exclusive_head : (d : ℕ) → (held_by cores d).bare f 0 ≡ None
+  not_exclusive_head = not_exclusive_list 0 (λ d some mark. absurd (omega (arith, some)))
 
-  pub unlent_head_word : IsNotKept (held_by cores) (EntryAt f 0)
-  unlent_head_word = unkept_word cores f 0 unlent_head
+  pub not_exclusive_head_word : IsNotKept (held_by cores) (EntryAt f 0)
+  not_exclusive_head_word = unkept_word cores f 0 not_exclusive_head
 
-  pub unlent_head_value : (x : ℕ) → bare_value (held_by cores) (EntryAt f 0) x ≡ x
-  unlent_head_value x = none_kept 8 (held_by cores) f 0 x unlent_head
+  pub not_exclusive_head_value : (x : ℕ) → bare_value (held_by cores) (EntryAt f 0) x ≡ x
+  not_exclusive_head_value x = none_kept 8 (held_by cores) f 0 x not_exclusive_head
 
 pub node_keeps_none : (x : Frame) → IsTrue (is_node x) → may_keep x ≡ false
 node_keeps_none (Kernel Table) node = refl
@@ -373,7 +376,7 @@ runs_on_own setup setting cores t stands b below =
 -- No word has two keepers: a thread runs on one core, and a head carries one mark.
 pub one_keeper : (setup : Setting) → IsSetting setup → (cores : ℕ → Core) (t : Trace) → Invariant setup cores t → (f i c d v u : ℕ)
     → (held_by cores c).bare f i ≡ Some v → (held_by cores d).bare f i ≡ Some u → c ≡ d
-one_keeper setup setting cores t stands f i c d v u is is' = by (stands.lent c f i v is).word (stands.lent d f i u is').word
+one_keeper setup setting cores t stands f i c d v u is is' = by (stands.exclusive c f i v is).word (stands.exclusive d f i u is').word
   where
     runs : (b : ℕ) → b < setup.cores → IsOfThread setup t b f i → (thread_in ((state_after setup t).frame f)).runs_on ≡ Some b
     runs b below w = ap (λ (g : ℕ). (thread_in ((state_after setup t).frame g)).runs_on) (sym w.thread)
@@ -383,7 +386,7 @@ one_keeper setup setting cores t stands f i c d v u is is' = by (stands.lent c f
     same_core x y h = cc
 
     by : IsOfThread setup t c f i ⊎ IsOfList setup t c f i → IsOfThread setup t d f i ⊎ IsOfList setup t d f i → c ≡ d
-    by (inl w) (inl x) = same_core c d (sym (runs c (stands.lent c f i v is).core w) ∙ runs d (stands.lent d f i u is').core x)
+    by (inl w) (inl x) = same_core c d (sym (runs c (stands.exclusive c f i v is).core w) ∙ runs d (stands.exclusive d f i u is').core x)
     by (inl w) (inr u) = absurd (thread_no_tcap setup t c f i w u.tcap.tcap)
     by (inr w) (inl u) = absurd (thread_no_tcap setup t d f i u w.tcap.tcap)
     by (inr w) (inr u) = same_core c d (sym w.head ∙ u.head)
@@ -393,7 +396,7 @@ pub own_value : (setup : Setting) → IsSetting setup → (cores : ℕ → Core)
     → (held_by cores c).bare f i ≡ Some v → bare_value (held_by cores) (EntryAt f i) x ≡ v
 own_value setup setting cores t stands c f i v x is =
     own_kept 8 (held_by cores) f i x v c
-    (let below = (stands.lent c f i v is).core in let most = setting.most_cores in omega (arith, below, most)) is others
+    (let below = (stands.exclusive c f i v is).core in let most = setting.most_cores in omega (arith, below, most)) is others
   where
     others : (b : ℕ) → b ≢ c → (held_by cores b).bare f i ≡ None
     others b other = by ((held_by cores b).bare f i) refl
@@ -403,6 +406,6 @@ own_value setup setting cores t stands c f i v x is =
         by (Some u) some = absurd (other (one_keeper setup setting cores t stands f i b c u v some is))
 
 -- A core that keeps none.
-pub lent_none : (setup : Setting) (t : Trace) (c : ℕ) (after : Core) → ((f i : ℕ) → (holds after).bare f i ≡ None) → (f i v : ℕ)
-    → (holds after).bare f i ≡ Some v → IsLent setup t c f i
-lent_none setup t c after none f i v is = absurd (none_some v (sym (none f i) ∙ is))
+pub exclusive_none : (setup : Setting) (t : Trace) (c : ℕ) (after : Core) → ((f i : ℕ) → (holds after).bare f i ≡ None) → (f i v : ℕ)
+    → (holds after).bare f i ≡ Some v → IsExclusive setup t c f i
+exclusive_none setup t c after none f i v is = absurd (none_some v (sym (none f i) ∙ is))

@@ -1,4 +1,4 @@
--- The frames to which a call's names have led are near the call.
+-- The frames to which a call's names have led are in the call's footprint.
 use Rattle.std.proofs.Common.{◌≡◌, ℕ, Bool, true, ◌||◌, ◌==◌, List, [], ◌∷◌, ◌++◌, map, Some, None, sym, ◌∙◌, ap, subst}
 use Rattle.std.specs.List.{flat_map}
 use Rattle.std.proofs.lemmas.List.Folds.{list_any-append}
@@ -14,7 +14,7 @@ use Rattle.kernel_rules.specs.Rules.{Mapped as mapped_rule, Does, Found, named, 
 use Rattle.kernel_rules.specs.CallRelation.{rule_of}
 use Rattle.kernel_history.specs.Ways.{wide_ways, target_of}
 use Rattle.kernel_history.specs.Footprint.{frame_of_name, frames_named, frame_at_slot, frame_argument}
-use Rattle.kernel_history.specs.Footprint.{frames_about, frames_own, frames_near, is_one_of}
+use Rattle.kernel_history.specs.Footprint.{frames_about, frames_own, footprint_frames, is_one_of}
 use Rattle.call_plans.specs.declared.plans.Nth.{Nth}
 use Rattle.call_plans.specs.declared.plans.Nth.TheVariants.{First, Second, Third, Fourth}
 use Rattle.call_plans.specs.declared.plans.Name.{Name}
@@ -24,7 +24,7 @@ use Rattle.call_plans.specs.PlanOf.{plan_for}
 use Rattle.call_plans.specs.GoesBy.{OwnPages, own_pages, GoesOn}
 use Rattle.call_plans.specs.After.{Leads, LeadsIn}
 use Rattle.call_plans.proofs.CallsGoBy.{calls_go}
-use Rattle.plan_ways.specs.Laws.{FoundAreNamed, FoundAreNear}
+use Rattle.plan_ways.specs.Laws.{FoundAreNamed, FoundAreInFootprint}
 
 pub one_left : (f : ℕ) (xs ys : List ℕ) → is_one_of f xs ≡ true → is_one_of f (xs ++ ys) ≡ true
 one_left f xs ys h = list_any-append (λ m. m == f) xs ys ∙ ap (λ b. b || is_one_of f ys) h
@@ -87,29 +87,29 @@ module _ (s : State) (c : ℕ) (pages : OwnPages) (target : Target) (k : Capabil
   found_named (name ∷ names) caps (mapped_rule t v rest) (j ∷ ks) at goes leads is = absurd goes
   found_named (name ∷ names) caps (Does causes change) (j ∷ ks) at goes leads is = absurd goes
 
-pub named_near : FoundAreNamed
-named_near s c pages plan rule ks goes leads at k is f names_it =
+pub named_footprint : FoundAreNamed
+named_footprint s c pages plan rule ks goes leads at k is f names_it =
     found_named s c pages plan.target k f names_it plan.names [] rule ks at goes leads is
 
--- A frame that the call is about is near it.
-pub near_about : (s : State) (c : ℕ) (call : Call) (f : ℕ)
-    → is_one_of f (frames_about s c call) ≡ true → is_one_of f (frames_near s c call) ≡ true
-near_about s c call f h =
+-- A frame that the call is about is in its footprint.
+pub footprint_about : (s : State) (c : ℕ) (call : Call) (f : ℕ)
+    → is_one_of f (frames_about s c call) ≡ true → is_one_of f (footprint_frames s c call) ≡ true
+footprint_about s c call f h =
     one_right f (frames_own s c) _
     (one_right f (map (λ at. at.node) (wide_ways s c (rule_of s c call))) _
     (one_left f (frames_about s c call) (flat_map (λ g. frame_names (s.frame g)) (frames_about s c call)) h))
 
 -- So is one to which a name of the call has led.
-pub near_found : (s : State) (c : ℕ) (call : Call) (ks : List Capability) → Leads (LeadsIn s c) (plan_for call).names [] ks
+pub footprint_found : (s : State) (c : ℕ) (call : Call) (ks : List Capability) → Leads (LeadsIn s c) (plan_for call).names [] ks
     → (at : Nth) (k : Capability) → at_place ks at ≡ Some k → (f : ℕ) → is_one_of f (named_by k.kind k.frame) ≡ true
-    → is_one_of f (frames_near s c call) ≡ true
-near_found s c call ks leads at k is f names_it =
-    near_about s c call f
+    → is_one_of f (footprint_frames s c call) ≡ true
+footprint_found s c call ks leads at k is f names_it =
+    footprint_about s c call f
     (one_left f (frames_named s c (rule_of s c call)) (frame_at_slot s (target_of s c (rule_of s c call)) ++ frame_argument call)
-    (named_near s c (own_pages s c) (plan_for call) (rule_of s c call) ks (calls_go s c call) leads at k is f names_it))
+    (named_footprint s c (own_pages s c) (plan_for call) (rule_of s c call) ks (calls_go s c call) leads at k is f names_it))
 
-pub found_near : FoundAreNear
-found_near s c call ks leads at k is f names_it = record {
-  frame = near_found s c call ks leads at k is f names_it;
-  count = λ d. near_found s c call ks leads at k is f names_it;
+pub found_footprint : FoundAreInFootprint
+found_footprint s c call ks leads at k is f names_it = record {
+  frame = footprint_found s c call ks leads at k is f names_it;
+  count = λ d. footprint_found s c call ks leads at k is f names_it;
 }
