@@ -27,7 +27,7 @@ use Rattle.kernel_invariant.proofs.SoundRuns.{opened, limits_stay, runs_sound}
 use Rattle.kernel_invariant.proofs.GraceChanges.{grace_by, grace_is, flushed_by}
 use Rattle.kernel_invariant.proofs.FrameTurns.{is_typed}
 use Rattle.kernel_invariant.proofs.Releases.{begins_typed}
-use Rattle.same_changes.proofs.Reaching.{is_some_kind, fit_below}
+use Rattle.plain_kernel.specs.same_changes.proofs.Reaching.{is_some_kind, fit_below}
 use Rattle.seq_plans.specs.OwnCauses.{retype_beyond, judged_rule}
 use Rattle.seq_plans.specs.Refusals.{Iff}
 

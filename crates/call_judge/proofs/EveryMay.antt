@@ -33,10 +33,11 @@ use Rattle.kernel_rules.specs.Relies.{is_node}
 use Rattle.kernel_invariant.proofs.Facts.{named_fit}
 use Rattle.seq_state.specs.Representation.{SameState}
 use Rattle.seq_state.proofs.Same.{same_refs}
-use Rattle.same_changes.proofs.Reaching.{Twins, is_some_kind, fit_below, core_below, pages_good, core_same, comp_same, thread_same}
-use Rattle.same_changes.proofs.CapabilityRules.{root_named, frame_test}
-use Rattle.same_changes.proofs.MemoryRules.{named_pages, empty_same}
-use Rattle.same_changes.proofs.TimeRules.{named_frame, named_table, alive_same, gate_comp}
+use Rattle.plain_kernel.specs.same_changes.proofs.Reaching.{Twins, is_some_kind, fit_below, core_below, pages_good, core_same, comp_same}
+use Rattle.plain_kernel.specs.same_changes.proofs.Reaching.{thread_same}
+use Rattle.plain_kernel.specs.same_changes.proofs.CapabilityRules.{root_named, frame_test}
+use Rattle.plain_kernel.specs.same_changes.proofs.MemoryRules.{named_pages, empty_same}
+use Rattle.plain_kernel.specs.same_changes.proofs.TimeRules.{named_frame, named_table, alive_same, gate_comp}
 use Rattle.seq_plans.specs.OwnCauses.{retype_beyond, judged_rule}
 use Rattle.call_judge.proofs.SameMay.{SameMayCause, SameMayRule}
 

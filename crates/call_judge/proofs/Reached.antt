@@ -25,17 +25,17 @@ use Rattle.kernel_rules.proofs.AloneLaw.{Waits, rule_waits, rule_plain, waits_in
 use Rattle.kernel_rules.proofs.Changes.{IfFound, outcome_all}
 use Rattle.kernel_rules.proofs.Within.{waits_within}
 use Rattle.kernel_invariant.proofs.SoundRuns.{opened, limits_stay, open_limits}
-use Rattle.kernel_laws.proofs.RangesLaw.{ranges_hold}
+use Rattle.plain_kernel.specs.kernel_laws.proofs.RangesLaw.{ranges_hold}
 use Rattle.seq_state.specs.Maps.{Maps, state_of}
 use Rattle.seq_state.specs.Representation.{SameState, Represents}
 use Rattle.seq_state.proofs.Same.{same_by, same_then, same_core}
 use Rattle.seq_lookups.specs.Carried.{IsCarriedOut}
 use Rattle.seq_lookups.specs.Ranges.{IsInRange}
-use Rattle.same_changes.specs.Same.{SameChange, SameOutcome}
-use Rattle.same_changes.proofs.Reaching.{Twins, core_below, here, here_fit, comp_same}
-use Rattle.same_changes.proofs.Alike.{begun_same}
-use Rattle.same_changes.proofs.EveryCall.{changes_same, same_acts, stays_in_range, twins}
-use Rattle.same_changes.proofs.TimeRules.{alive_same}
+use Rattle.plain_kernel.specs.same_changes.specs.Same.{SameChange, SameOutcome}
+use Rattle.plain_kernel.specs.same_changes.proofs.Reaching.{Twins, core_below, here, here_fit, comp_same}
+use Rattle.plain_kernel.specs.same_changes.proofs.Alike.{begun_same}
+use Rattle.plain_kernel.specs.same_changes.proofs.EveryCall.{changes_same, same_acts, stays_in_range, twins}
+use Rattle.plain_kernel.specs.same_changes.proofs.TimeRules.{alive_same}
 use Rattle.seq_plans.specs.OwnCauses.{judged_rule}
 use Rattle.seq_plans.specs.Refusals.{Decides, Iff}
 use Rattle.seq_plans.proofs.Deciding.{decides_true, decides_false, decides_both}

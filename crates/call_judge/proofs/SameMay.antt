@@ -19,8 +19,10 @@ use Rattle.kernel_rules.specs.Relies.{is_node}
 use Rattle.kernel_invariant.proofs.Sound.{IsSound}
 use Rattle.kernel_invariant.proofs.Facts.{reached_node, RootIsNode}
 use Rattle.seq_state.specs.Representation.{IsThing, SameGrace, SameState}
-use Rattle.same_changes.proofs.Reaching.{Twins, IsSlot, core_below, place_same, usable_same, own_good, own_same, root_is, node_below}
-use Rattle.same_changes.proofs.Reaching.{found_part, number_part, named_same, held_same, mapped_same, reached_same, RootGood}
+use Rattle.plain_kernel.specs.same_changes.proofs.Reaching.{Twins, IsSlot, core_below, place_same, usable_same, own_good, own_same}
+use Rattle.plain_kernel.specs.same_changes.proofs.Reaching.{root_is, node_below}
+use Rattle.plain_kernel.specs.same_changes.proofs.Reaching.{found_part, number_part, named_same, held_same, mapped_same, reached_same}
+use Rattle.plain_kernel.specs.same_changes.proofs.Reaching.{RootGood}
 use Rattle.seq_plans.specs.Refusals.{Iff}
 
 -- ---- exactly where
@@ -85,7 +87,7 @@ module _ {t s : State} {o : ℕ → Bool} {c : ℕ} (w : Twins t s o c) where
 
   is_slot : (target : Target) (at : Slot) → RootMay s target → reached s c target ≡ Some at → IsSlot s at
   is_slot target at good is = elim (good_or_none s target good) [
-    | inl root ↦ Rattle.same_changes.proofs.Reaching.slot_good w target at root is
+    | inl root ↦ Rattle.plain_kernel.specs.same_changes.proofs.Reaching.slot_good w target at root is
     | inr none ↦ absurd (none_some at (sym (none s c) ∙ is))
   ]
 

@@ -11,8 +11,8 @@ ghost use Rattle.seq_lookups.specs.Ranges.{IsInRange};
 ghost use Rattle.call_judge.specs.Judged.{CarriesOut, RefusesPlainly, IsAnswerOf};
 ghost use Rattle.call_judge.specs.Putting.{answers_value};
 
-use crate::families::step;
 use crate::values::is_value;
+use plain_kernel::decide;
 use seq_state::{Core, Frame, SeqKernel};
 use spk_nums::{Call, CoreNo, Memory, Reply, Value};
 use std::alloc::Global;
@@ -68,7 +68,7 @@ fn carry_out_with(
 {
     let kept = *k.core(core);
     let tcap = k.frame(kept.tcap);
-    let reply = step(alloc, k, core, call)?;
+    let reply = decide(alloc, k, core, call)?;
     match answer_of(&reply) {
         Some(found) => {
             if is_value(&found, value) {
@@ -97,7 +97,7 @@ fn carry_out_plain(
         → RefusesPlainly (change_of (state_of k.old) core call.now)
         → IfOk result (λ b. CarriesOut (state_of k.old) (change_of (state_of k.old) core call.now) Nothing b k.new) }
 {
-    let reply = step(alloc, k, core, call)?;
+    let reply = decide(alloc, k, core, call)?;
     Ok(answer_of(&reply).is_some())
 }
 

@@ -2,21 +2,22 @@
 
 ghost use Rattle.std.specs.Prelude.{◌≡◌, ◌<◌, ◌≤◌, IsOk, IfOk};
 ghost use Rattle.spk_nums.specs.CallLimits.{InLimits};
-ghost use Rattle.kernel_rules.specs.Life.{lives, acts};
+ghost use Rattle.kernel_rules.specs.Life.{lives};
 ghost use Rattle.kernel_rules.specs.Rules.{RuleMay};
-ghost use Rattle.kernel_rules.specs.CallRelation.{are_calls_spent, counted, owed_by, MayBeDead};
+ghost use Rattle.kernel_rules.specs.CallRelation.{counted, owed_by, MayBeDead};
 ghost use Rattle.seq_state.specs.Maps.{state_of};
 ghost use Rattle.seq_state.specs.Representation.{Represents};
 ghost use Rattle.seq_lookups.specs.Ranges.{IsInRange};
-ghost use Rattle.seq_plans.specs.OwnCauses.{judged_rule};
+ghost use Rattle.seq_plans.specs.Walks.{left_of, causes_of};
+ghost use Rattle.seq_plans.specs.OwnCauses.{causes_in, AreFitCauses, judged_rule};
 ghost use Rattle.seq_plans.specs.Refusals.{Decides};
 ghost use Rattle.call_judge.specs.Judged.{IsOfSort, JudgesExactly};
 
 use crate::carrying::carry_out;
-use crate::families::causes;
 use call_plans::plan_of;
-use seq_lookups::{comp_of, is_live_in, may_act};
-use seq_plans::{Reach, look_up, looks_may, one_may};
+use plain_kernel::{Family, acts, are_spent, family_of, seq_caps, seq_memory, seq_time};
+use seq_lookups::{comp_of, is_live_in};
+use seq_plans::{Causes, Looked, Reach, look_up, looks_may, one_may};
 use seq_state::{Core, SeqKernel};
 use spk_nums::{Call, CoreNo, Memory, Reply, Value};
 use std::alloc::Global;
@@ -45,14 +46,6 @@ fn sort_of(reply: &Reply) -> Sort
         Reply::CallsSpent => Sort::Spent,
         _ => Sort::Refused,
     }
-}
-
-/// Whether a core has made as many calls as its limit.
-fn are_spent(k: &SeqKernel, core: CoreNo) -> bool
-    requires { core < (state_of k.now).limits.cores }
-    ensures { result ≡ are_calls_spent (state_of k.now) core }
-{
-    k.calls() <= k.core(core).counted
 }
 
 /// Counts one more call of a core.
@@ -93,14 +86,6 @@ fn lives(k: &SeqKernel, core: CoreNo) -> bool
     is_live_in(&k.number(comp.number), u32::from(comp.epoch))
 }
 
-/// Whether a core may make a call: it may act, or the call does not ask for it.
-fn acts(k: &SeqKernel, core: CoreNo, call: &Call) -> bool
-    requires { core < (state_of k.now).limits.cores }
-    ensures { result ≡ acts (state_of k.now) core call.now }
-{
-    !plan_of(call).living || may_act(k, core)
-}
-
 /// Whether a call may be refused with `dead` before all else: it asks that its core may act, and the core's component does not live.
 fn may_be_dead(k: &SeqKernel, core: CoreNo, call: &Call) -> bool
     requires { core < (state_of k.now).limits.cores }
@@ -109,6 +94,19 @@ fn may_be_dead(k: &SeqKernel, core: CoreNo, call: &Call) -> bool
     let plan = plan_of(call);
     let alive = lives(k, core);
     plan.living & !alive
+}
+
+/// The own causes of a call of a core that has looked this up, by its family.
+fn causes(k: &SeqKernel, core: CoreNo, call: &Call, looked: &Looked) -> Causes
+    requires core { core < (state_of k.now).limits.cores }
+    ensures exact { causes_in result ≡ causes_of (left_of (judged_rule (state_of k.now) core call.now) looked.now) }
+    ensures fit { AreFitCauses (causes_in result) }
+{
+    match family_of(call) {
+        Family::Caps => seq_caps::causes(k, core, call, looked),
+        Family::Memory => seq_memory::causes(k, core, call, looked),
+        Family::Time => seq_time::causes(k, core, call, looked),
+    }
 }
 
 /// Whether the rule of a call may refuse it so: by one of its look-ups, or by an own cause, whatever else does.

@@ -12,7 +12,6 @@
 
 mod carrying;
 mod deciding;
-mod families;
 mod values;
 
 pub use deciding::decide_by;

@@ -9,7 +9,12 @@
 //! See docs/PROOF.md, 'The laws of the sequential kernel': the plain kernel.
 #![tactic(auto)]
 
+mod families;
 mod step;
 
+pub use families::{Family, decide, family_of};
+pub use seq_caps;
+pub use seq_memory;
 pub use seq_state::SeqKernel;
-pub use step::plain_step;
+pub use seq_time;
+pub use step::{acts, are_spent, plain_step};

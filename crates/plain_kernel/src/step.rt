@@ -4,62 +4,19 @@ ghost use Rattle.std.specs.Prelude.{◌≡◌, ◌<◌, ◌≤◌, IsOk, IfOk};
 ghost use Rattle.spk_nums.specs.CallLimits.{InLimits};
 ghost use Rattle.kernel_rules.specs.GracePeriods.{returned};
 ghost use Rattle.kernel_rules.specs.Life.{asks_life, acts};
-ghost use Rattle.kernel_rules.specs.CallRelation.{change_of, are_calls_spent, counted};
+ghost use Rattle.kernel_rules.specs.CallRelation.{are_calls_spent, counted};
 ghost use Rattle.seq_state.specs.Maps.{state_of};
 ghost use Rattle.seq_state.specs.Representation.{Represents};
-ghost use Rattle.seq_lookups.specs.Carried.{IsCarriedOut};
-ghost use Rattle.seq_lookups.specs.Ranges.{IsInRange};
 ghost use Rattle.plain_kernel.specs.Step.{StepsExactly};
 
+use crate::families::decide;
 use seq_lookups::may_act;
 use seq_state::{Core, SeqKernel};
 use spk_nums::{Call, CoreNo, Memory, Reply};
 use std::alloc::Global;
 
-/// The family of a call.
-enum Family {
-    Caps,
-    Memory,
-    Time,
-}
-
-/// The family that a call is of.
-fn family_of(call: &Call) -> Family
-    ensures { IsOf result call.now }
-{
-    match call {
-        Call::Look { .. }
-        | Call::Copy { .. }
-        | Call::Remove { .. }
-        | Call::Grow { .. }
-        | Call::Shrink { .. }
-        | Call::Make { .. } => Family::Caps,
-        Call::Retype { .. }
-        | Call::Map { .. }
-        | Call::Unmap { .. }
-        | Call::Touch { .. }
-        | Call::Flush => Family::Memory,
-        _ => Family::Time,
-    }
-}
-
-/// Decides a call by its family.
-fn decide(alloc: Global, k: &mut SeqKernel, core: CoreNo, call: &Call) -> Result<Reply, Memory>
-    requires limits { InLimits call.now }
-    requires core { core < (state_of k.old).limits.cores }
-    ensures answers { IsOk result }
-    ensures exact { IsInRange (state_of k.old) core call.now
-        → IfOk result (λ r. IsCarriedOut (state_of k.old) (change_of (state_of k.old) core call.now) r k.new) }
-{
-    match family_of(call) {
-        Family::Caps => seq_caps::step(alloc, k, core, call),
-        Family::Memory => seq_memory::step(alloc, k, core, call),
-        Family::Time => seq_time::step(alloc, k, core, call),
-    }
-}
-
 /// Whether a core has made as many calls as its limit.
-fn are_spent(k: &SeqKernel, core: CoreNo) -> bool
+pub fn are_spent(k: &SeqKernel, core: CoreNo) -> bool
     requires { core < (state_of k.now).limits.cores }
     ensures value { result ≡ are_calls_spent (state_of k.now) core }
     ensures limit { (state_of k.now).limits.calls ≤ 4194304 }
@@ -78,7 +35,7 @@ fn asks_life(call: &Call) -> bool
 }
 
 /// Whether a core may make a call: it may act, or the call does not ask for it.
-fn acts(k: &SeqKernel, core: CoreNo, call: &Call) -> bool
+pub fn acts(k: &SeqKernel, core: CoreNo, call: &Call) -> bool
     requires { core < (state_of k.now).limits.cores }
     ensures { result ≡ acts (state_of k.now) core call.now }
 {
@@ -138,5 +95,3 @@ pub fn plain_step(
     finish(k, core);
     Ok(reply)
 }
-
-ghost use Rattle.plain_kernel.specs.Families.{IsOf};
