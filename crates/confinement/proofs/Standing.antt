@@ -17,8 +17,8 @@ use Rattle.kernel_invariant.proofs.SoundRuns.{phase_own, phase_other, limits_sta
 use Rattle.seq_state.specs.Maps.{Maps, state_of}
 use Rattle.seq_state.specs.Representation.{SameGrace, SameState, Represents}
 use Rattle.seq_state.proofs.Same.{same_by, same_then, same_core}
-use Rattle.same_changes.proofs.Reaching.{Twins}
-use Rattle.same_changes.proofs.EveryCall.{twins}
+use Rattle.call_judge.specs.same_changes.proofs.Reaching.{Twins}
+use Rattle.call_judge.specs.same_changes.proofs.EveryCall.{twins}
 use Rattle.call_judge.specs.Judged.{JudgesExactly, IsJudged}
 use Rattle.origin_rules.specs.Chains.{Origin, ChainValue, Put, puts_by, with_put, decided, origin_of, held_at, own_cap, with_origin}
 use Rattle.confinement.specs.Links.{Table, origin_at, PutsBy, origin_at_start, put_origin}

@@ -19,11 +19,11 @@ use Rattle.kernel_rules.specs.Relies.{is_node}
 use Rattle.kernel_invariant.proofs.Sound.{IsObjectGood}
 use Rattle.kernel_invariant.proofs.Facts.{usable_good}
 use Rattle.kernel_invariant.proofs.SoundRuns.{opened, limits_stay, runs_sound}
-use Rattle.kernel_laws.proofs.RangesLaw.{ranges_hold}
+use Rattle.plain_kernel.specs.kernel_laws.proofs.RangesLaw.{ranges_hold}
 use Rattle.seq_state.specs.Maps.{Maps, state_of}
 use Rattle.seq_state.specs.Representation.{SameState, Represents}
-use Rattle.same_changes.proofs.Reaching.{Twins, RootGood, comp_same, frame_same, here, here_fit}
-use Rattle.same_changes.proofs.Reaching.{table_node, reached_same, slot_good, usable_same}
+use Rattle.plain_kernel.specs.same_changes.proofs.Reaching.{Twins, RootGood, comp_same, frame_same, here, here_fit}
+use Rattle.plain_kernel.specs.same_changes.proofs.Reaching.{table_node, reached_same, slot_good, usable_same}
 use Rattle.plain_kernel.specs.Step.{IsReached}
 use Rattle.plain_kernel.proofs.Stepping.{entered_same}
 use Rattle.sched_rules.specs.declared.tasks.Rule.{Rule}

@@ -16,7 +16,7 @@ use Rattle.seq_state.specs.Representation.{Represents}
 use Rattle.seq_state.proofs.Same.{same_then}
 use Rattle.seq_plans.specs.Refusals.{Decides}
 use Rattle.call_judge.specs.Judged.{IsDecided, IsJudged, JudgesExactly}
-use Rattle.plain_kernel.proofs.Stepping.{entered_same, returned_same}
+use Rattle.call_judge.specs.plain_kernel.proofs.Stepping.{entered_same, returned_same}
 use Rattle.marked_history.specs.declared.marks.Mark.{Mark}
 use Rattle.marked_history.specs.declared.marks.Mark.TheVariants.{Enter, Decide, Return}
 use Rattle.marked_history.specs.Histories.{with_decision, events_of, phase, state, IsOther, IsAnotherIn, enters, Unless, HasMet, MayBeHeldUp}

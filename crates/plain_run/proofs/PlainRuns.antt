@@ -12,7 +12,7 @@ use Rattle.kernel_rules.specs.Alone.{plain_reply, plain_step, plain_steps}
 use Rattle.spk_nums.specs.declared.kinds.Kind.TheVariants as kind
 use Rattle.kernel_rules.specs.Runs.{after}
 use Rattle.kernel_invariant.proofs.SoundRuns.{opened, limits_stay, runs_sound}
-use Rattle.same_changes.proofs.Reaching.{fit_below}
+use Rattle.plain_kernel.specs.same_changes.proofs.Reaching.{fit_below}
 use Rattle.plain_tables.specs.Within.{ThreadsWithin}
 use Rattle.kernel_history.specs.Tables.{lines_below, tables_of}
 use Rattle.kernel_rules.specs.Start.{start}
