@@ -5,6 +5,8 @@
 #![tactic(auto)]
 
 #[cfg(test)]
+mod crossing;
+#[cfg(test)]
 mod endpoints;
 #[cfg(test)]
 mod loads;
