@@ -105,6 +105,11 @@ fn core(number: u8) -> CoreNo
     CoreNo::new(number)
 }
 
+// The capability that its look answers.
+fn looked_up() -> Cap {
+    Cap::with_rights(Kind::Range, FrameNo::new(8), 24, Rights::of_bits(2))
+}
+
 // What the lines of the next test say.
 fn wanted() -> [Said; 6] {
     [
@@ -126,12 +131,7 @@ fn wanted() -> [Said; 6] {
             core: core(0),
             index: 1,
             call: Call::Look { a: CapId::new(20) },
-            reply: Reply::Ok(Value::Cap(Cap::with_rights(
-                Kind::Range,
-                FrameNo::new(8),
-                24,
-                Rights::of_bits(2),
-            ))),
+            reply: Reply::Ok(Value::Cap(looked_up())),
         },
         Said::Whole {
             core: core(1),
