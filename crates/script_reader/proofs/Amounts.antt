@@ -1,6 +1,6 @@
 -- No list of a script has more calls than the script has words.
 use Rattle.std.proofs.Common.{◌≡◌, ℕ, suc, ◌+◌, ◌≤◌, eqb, List, [], ◌∷◌, ◌++◌, length, All}
-use Rattle.std.proofs.Common.{IfOk, Result, Ok, Err, refl, sym, ap, subst, ◌∙◌, arith, inl, inr}
+use Rattle.std.proofs.Common.{IfOk, Result, Ok, Err, refl, subst, arith, inl, inr}
 use Rattle.std.proofs.lemmas.Bool.{cases_Bool, cases_lt}
 use Rattle.std.proofs.lemmas.List.{get_or_past, length_push}
 use Rattle.std.proofs.lemmas.List.Elements.{All-set, All-get_or, All-weaker, All-take, All-replicate}
@@ -19,7 +19,8 @@ use Rattle.script_reader.specs.Heads.{line_of, is_whole}
 use Rattle.script_reader.specs.Orders.{items_of}
 use Rattle.script_reader.specs.Readings.{Row, with_word, rows_of, Draft_of, Meaning, First_fault, no_draft, calls_of}
 use Rattle.script_reader.specs.Readings.{with_call, with_line, is_order, behind_line, draft_behind, at_line, and_then}
-use Rattle.script_reader.specs.Readings.{draft_from, meaning_of, meaning_at, script_of, AtMost, Gives, script_view, lists_of}
+use Rattle.script_reader.specs.Readings.{draft_step, draft_from, meaning_of, meaning_at, script_of, AtMost, Gives, script_view, lists_of}
+use Rattle.script_reader.proofs.LineSteps.{lines_keep}
 
 abbrev judged : {A : Type 0} → A → Result A Cause
 judged x = Ok x
@@ -81,12 +82,8 @@ few_behind n d e words is h =
 
 few_from : (n : ℕ) (d e : Draft_of) (rows : List Row) → draft_from d rows ≡ Ok e
     → All (AtMost n) d.lists → All (AtMost (n + length rows)) e.lists
-few_from n d e [] is h =
-    subst (λ (x : Draft_of). All (AtMost (n + 0)) x.lists) (read_is d e is) (few_weaker n (n + 0) d.lists (omega arith) h)
-few_from n d e (row ∷ rows) is h =
-    let b = then_ok (at_line row.number (draft_behind d row.words)) (λ more. draft_from more rows) e is in
-    let one = few_behind n d b.0 row.words (at_line_ok row.number (draft_behind d row.words) b.0 b.1) h in
-    few_weaker (n + 1 + length rows) (n + suc (length rows)) e.lists (omega arith) (few_from (n + 1) b.0 e rows b.2 one)
+few_from = lines_keep draft_step (λ n (x : Draft_of). All (AtMost n) x.lists)
+    (λ n d e number words is h. few_behind n d e words (at_line_ok number (draft_behind d words) e is) h)
 
 pub few_rows : (ws : List Word) → length (rows_of ws) ≤ length ws
 few_rows [] = omega arith

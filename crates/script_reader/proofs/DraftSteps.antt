@@ -1,50 +1,19 @@
 -- What a draft keeps, line by line.
-use Rattle.std.proofs.Common.{◌≡◌, ℕ, zero, suc, ◌+◌, ◌<◌, ◌≤◌, true, List, [], ◌∷◌, ◌++◌, length}
-use Rattle.std.proofs.Common.{get_or, take, drop, All, Ok, refl, sym, ap, subst, ◌∙◌, arith, inl, inr}
+use Rattle.std.proofs.Common.{◌≡◌, ℕ, zero, suc, ◌<◌, ◌≤◌, true, List, [], ◌∷◌, ◌++◌, length}
+use Rattle.std.proofs.Common.{get_or, take, All, Ok, refl, sym, ap, subst, ◌∙◌, arith, inl, inr}
 use Rattle.std.specs.Prelude.{slice_set, slice_index_or}
 use Rattle.std.specs.Global.{Vec}
-use Rattle.std.proofs.lemmas.Bool.{cases_lt, eq-eqb, ne_eqb}
-use Rattle.std.proofs.lemmas.List.{drop_more, drop_all, map-set, length-map, length-set, length-take-le, get_or_past}
+use Rattle.std.proofs.lemmas.Bool.{cases_lt}
+use Rattle.std.proofs.lemmas.List.{map-set, length-map, length-set, length-take-le, get_or_past}
 use Rattle.std.proofs.lemmas.List.Elements.{All-push, All-set, All-get_or, All-take, All-nil}
 use Rattle.spk_nums.specs.declared.calls.Call.{Call}
 use Rattle.spk_nums.specs.CallLimits.{InLimits}
-use Rattle.script_tokens.specs.declared.token.Token.{Token}
-use Rattle.script_tokens.specs.Words.{view, views}
 use Rattle.script_tokens.specs.declared.scanning.Ending.{Ending}
-use Rattle.script_tokens.specs.declared.scanning.Ending.TheVariants.{Whole}
 use Rattle.script_reader.specs.declared.reading.Script.{Script}
 use Rattle.script_reader.specs.Heads.{is_whole}
-use Rattle.script_reader.specs.Readings.{words_in, lists_of, with_call, calls_of, setting_of, meaning_of}
-use Rattle.script_reader.specs.Readings.{meaning_at, script_view, Draft_of, IsDraft, IsScript, BelowCores}
-
--- ---- the words of a line
-
--- the words of the line so far, and those that follow
-pub record Counts (tokens : List Token) (line i n : ℕ) : Type 0 where
-  pub so_far : n ≡ i
-  pub value : n + words_in line (views (drop i tokens)) ≡ words_in line (views tokens)
-
-cut : (tokens : List Token) (i : ℕ) (d : Token) → i < length tokens
-    → views (drop i tokens) ≡ view (get_or tokens i d) ∷ views (drop (i + 1) tokens)
-cut tokens i d lt = ap views (drop_more tokens i d lt)
-
-pub counts_more : (tokens : List Token) (line i n : ℕ) (d : Token) → i < length tokens
-    → (get_or tokens i d).line ≡ line → Counts tokens line i n → Counts tokens line (i + 1) (n + 1)
-counts_more tokens line i n d lt e c =
-    let step : words_in line (views (drop i tokens)) ≡ words_in line (views (drop (i + 1) tokens)) + 1 =
-    ap (words_in line) (cut tokens i d lt) ∙ rw (eq-eqb _ _ e) refl in
-    record { so_far = omega (arith, c.so_far); value = omega (arith, step, c.value) }
-
-pub counts_end : (tokens : List Token) (line i n : ℕ) (d : Token) → i < length tokens
-    → ¬ ((get_or tokens i d).line ≡ line) → Counts tokens line i n → n ≡ words_in line (views tokens)
-counts_end tokens line i n d lt e c =
-    let step : words_in line (views (drop i tokens)) ≡ 0 = ap (words_in line) (cut tokens i d lt) ∙ rw (ne_eqb _ _ e) refl in
-    omega (arith, step, c.value)
-
-pub counts_all : (tokens : List Token) (line i n : ℕ) → length tokens ≤ i → Counts tokens line i n → n ≡ words_in line (views tokens)
-counts_all tokens line i n le c =
-    let step : words_in line (views (drop i tokens)) ≡ 0 = ap (λ ts. words_in line (views ts)) (drop_all i tokens le) in
-    omega (arith, step, c.value)
+use Rattle.script_reader.specs.Lines.{and_then, whole_lines}
+use Rattle.script_reader.specs.Readings.{lists_of, with_call, calls_of, setting_of, meaning_of}
+use Rattle.script_reader.specs.Readings.{meaning_in, meaning_at, script_view, Draft_of, IsDraft, IsScript, BelowCores}
 
 -- ---- one more call
 
@@ -89,13 +58,13 @@ call_kept d lists call h fits new =
 
 -- ---- the end
 
-pub finished : (d : Draft_of) (ending : Ending) (lines : ℕ) (s : Script) → ending ≡ Whole lines → is_whole d.head.section ≡ true
+pub finished : (d : Draft_of) (ending : Ending) (lines : ℕ) (s : Script) → whole_lines ending ≡ Ok lines → is_whole d.head.section ≡ true
     → s.version ≡ d.head.version → s.setup ≡ setting_of d.head → lists_of s.lists.items ≡ take d.head.cores d.lists
     → s.order.items ≡ d.order → meaning_at d ending ≡ Ok (script_view s)
 finished d ending lines s end whole version setup lists order =
     let same : meaning_of d ≡ script_view s =
     λ i. record { version = sym version i; setup = sym setup i; lists = sym lists i; order = sym order i } in
-    ap (meaning_at d) end ∙ rw whole (ap Ok same)
+    ap (λ r. and_then r (meaning_in d)) end ∙ rw whole (ap Ok same)
 
 pub is_script : (d : Draft_of) (s : Script) → IsDraft d → s.version ≡ d.head.version → s.setup ≡ setting_of d.head
     → lists_of s.lists.items ≡ take d.head.cores d.lists → s.order.items ≡ d.order → IsScript s

@@ -1,15 +1,12 @@
 -- Lines, from the words that they have.
 use Rattle.std.proofs.Common.{◌≡◌, ℕ, zero, suc, ◌+◌, ◌-◌, ◌<◌, ◌≤◌, true, false, eqb, List, [], ◌∷◌, length}
-use Rattle.std.proofs.Common.{get_or, take, drop, map, Ok, Err, refl, sym, ap, ◌∙◌, arith, add-one, inl, inr}
+use Rattle.std.proofs.Common.{get_or, take, drop, map, refl, sym, ap, ◌∙◌, arith, add-one, inl, inr}
 use Rattle.std.proofs.lemmas.Bool.{cases_Bool, eqb-true, eqb-false, eq-eqb, ne_eqb}
 use Rattle.std.proofs.lemmas.List.{drop_more, drop_all, drop-drop, take_rest, length-drop}
 use Rattle.script_tokens.specs.declared.token.Token.{Token}
 use Rattle.script_tokens.specs.Words.{Word, view, views}
-use Rattle.script_reader.specs.declared.cause.LineFault.{LineFault}
-use Rattle.script_reader.specs.declared.cause.LineFault.TheVariants as line_fault
 use Rattle.script_reader.specs.Arguments.{texts}
-use Rattle.script_reader.specs.Readings.{Row, with_word, rows_of, words_in, Draft_of, draft_behind}
-use Rattle.script_reader.specs.Readings.{draft_from, fault_at, Takes, Fails, IsDraft}
+use Rattle.script_reader.specs.Lines.{Row, with_word, rows_of, words_in}
 
 -- the texts of words
 abbrev texts_of : List Word → List (List ℕ)
@@ -42,12 +39,6 @@ rows_run w (v ∷ vs) =
           let apart : eqb w.line v.line ≡ false = ne_eqb w.line v.line (λ h. other (sym h)) in
           ahead ∙ rw (apart, e) (ap (λ (rows : List Row). record { number = w.line; words = w.text ∷ [] } ∷ rows) (sym (rows_run v vs)))
     ]
-
--- the draft so far, and what the lines that follow still make of it
-pub record Goes (old : Draft_of) (tokens : List Token) (at : ℕ) (d : Draft_of) : Type 0 where
-  pub value : draft_from d (rows_of (views (drop at tokens))) ≡ draft_from old (rows_of (views tokens))
-  pub draft : IsDraft d
-  pub within : at ≤ length tokens
 
 texts_views : (ts : List Token) (n : ℕ) → texts_of (take n (views ts)) ≡ texts (take n ts)
 texts_views ts zero = refl
@@ -106,32 +97,35 @@ some_words tokens at n d lt e =
     ∙ ap (λ (ts : List Token). words_in t.line (views ts)) (drop_more tokens at d lt) ∙ rw (eq-eqb t.line t.line refl) refl in
     omega arith
 
--- a line that is refused
-pub goes_fault : (old d new : Draft_of) (tokens : List Token) (at n : ℕ) (t : Token) (f : LineFault)
-    → Goes old tokens at d → at < length tokens → Stands tokens at n t
-    → Takes (Err f) new (draft_behind d (line_words tokens at n))
-    → Fails (fault_at (get_or tokens at t).line f) (draft_from old (rows_of (views tokens)))
-goes_fault old d new tokens at n t line_fault.Memory g lt e taken = tt
-goes_fault old d new tokens at n t (line_fault.Cause c) g lt e taken =
-    let refused : draft_behind d (texts (take n (drop at tokens))) ≡ Err c =
-    ap (draft_behind d) (sym (line_words_are tokens at n)) ∙ taken in
-    sym g.value ∙ ap (draft_from d) (rows_cut tokens at n t lt (stands tokens at n t e)) ∙ rw refused refl
-
--- a line that is taken
-pub goes_more : (old d new : Draft_of) (tokens : List Token) (at n : ℕ) (t : Token)
-    → Goes old tokens at d → at < length tokens → Stands tokens at n t
-    → draft_behind d (line_words tokens at n) ≡ Ok new → IsDraft new → at + n ≤ length tokens → Goes old tokens (at + n) new
-goes_more old d new tokens at n t g lt e taken draft within =
-    let more : draft_behind d (texts (take n (drop at tokens))) ≡ Ok new = ap (draft_behind d) (sym (line_words_are tokens at n)) ∙ taken in
-    let step : draft_from d (rows_of (views (drop at tokens))) ≡ draft_from new (rows_of (views (drop (at + n) tokens))) =
-    ap (draft_from d) (rows_cut tokens at n t lt (stands tokens at n t e)) ∙ rw more refl in
-    record { value = sym step ∙ g.value; draft = draft; within = within }
-
--- the end of the lines
-pub goes_all : (old d : Draft_of) (tokens : List Token) (at : ℕ) → Goes old tokens at d
-    → length tokens ≤ at → draft_from old (rows_of (views tokens)) ≡ Ok d
-goes_all old d tokens at g le = sym g.value ∙ ap (λ (ts : List Token). draft_from d (rows_of (views ts))) (drop_all at tokens le)
-
 pub within_line : (tokens : List Token) (at n : ℕ) → at < length tokens
     → n ≤ length (take (length tokens - at) (drop at tokens)) → at + n ≤ length tokens
 within_line tokens at n lt le = omega (arith, ap length (take_rest tokens at), length-drop at tokens)
+
+-- ---- the words of a line
+
+-- the words of the line so far, and those that follow
+pub record Counts (tokens : List Token) (line i n : ℕ) : Type 0 where
+  pub so_far : n ≡ i
+  pub value : n + words_in line (views (drop i tokens)) ≡ words_in line (views tokens)
+
+cut : (tokens : List Token) (i : ℕ) (d : Token) → i < length tokens
+    → views (drop i tokens) ≡ view (get_or tokens i d) ∷ views (drop (i + 1) tokens)
+cut tokens i d lt = ap views (drop_more tokens i d lt)
+
+pub counts_more : (tokens : List Token) (line i n : ℕ) (d : Token) → i < length tokens
+    → (get_or tokens i d).line ≡ line → Counts tokens line i n → Counts tokens line (i + 1) (n + 1)
+counts_more tokens line i n d lt e c =
+    let step : words_in line (views (drop i tokens)) ≡ words_in line (views (drop (i + 1) tokens)) + 1 =
+    ap (words_in line) (cut tokens i d lt) ∙ rw (eq-eqb _ _ e) refl in
+    record { so_far = omega (arith, c.so_far); value = omega (arith, step, c.value) }
+
+pub counts_end : (tokens : List Token) (line i n : ℕ) (d : Token) → i < length tokens
+    → ¬ ((get_or tokens i d).line ≡ line) → Counts tokens line i n → n ≡ words_in line (views tokens)
+counts_end tokens line i n d lt e c =
+    let step : words_in line (views (drop i tokens)) ≡ 0 = ap (words_in line) (cut tokens i d lt) ∙ rw (ne_eqb _ _ e) refl in
+    omega (arith, step, c.value)
+
+pub counts_all : (tokens : List Token) (line i n : ℕ) → length tokens ≤ i → Counts tokens line i n → n ≡ words_in line (views tokens)
+counts_all tokens line i n le c =
+    let step : words_in line (views (drop i tokens)) ≡ 0 = ap (λ ts. words_in line (views ts)) (drop_all i tokens le) in
+    omega (arith, step, c.value)

@@ -4,6 +4,7 @@ pub mod Arguments
 pub mod FirstWords
 pub mod CallLines
 pub mod OneLine
+pub mod Lines
 pub mod Heads
 pub mod Orders
 pub mod Readings

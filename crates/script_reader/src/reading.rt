@@ -1,19 +1,19 @@
 //! Reads a script, line by line.
 
 ghost use Rattle.std.specs.Prelude.{◌≡◌, ◌<◌, ◌≤◌, ◌^◌, true, false, [], length, replicate, All, IfOk, IfErr, OnOk};
-ghost use Rattle.script_tokens.specs.Words.{views, words_of, FewLines};
+ghost use Rattle.script_tokens.specs.Words.{words_of, FewLines};
 ghost use Rattle.script_reader.specs.Arguments.{texts};
 ghost use Rattle.script_reader.specs.declared.cause.LineFault.TheVariants as line_fault;
-ghost use Rattle.script_reader.specs.declared.cause.ReadFault.TheVariants as read_fault;
 ghost use Rattle.script_reader.specs.Heads.{is_whole, IsHead};
-ghost use Rattle.script_reader.specs.Readings.{draft_view, script_view, draft_behind, draft_from, rows_of, script_of};
-ghost use Rattle.script_reader.specs.Readings.{no_draft, meaning_at, words_in, lists_of, with_call, behind_line, fault_at};
-ghost use Rattle.script_reader.specs.Readings.{is_order, setting_of, Takes, Leads, Gives, IsDraft, IsScript, AtMost};
+ghost use Rattle.script_reader.specs.Lines.{Takes, Gives};
+ghost use Rattle.script_reader.specs.Readings.{draft_view, script_view, draft_behind, script_of, no_draft, meaning_at, lists_of};
+ghost use Rattle.script_reader.specs.Readings.{with_call, behind_line, is_order, setting_of, IsDraft, IsScript, AtMost};
 
 use crate::cause::{Cause, LineFault, ReadFault};
+use crate::engine::{Lines, fault_at, read_lines, whole_lines};
 use crate::head::{Head, Line, Section, is_whole, line_of, no_head};
 use crate::items::take_items;
-use script_tokens::{ByteFault, Ending, Scanned, Token, scan};
+use script_tokens::{Ending, Token};
 use spk_nums::{Call, CoreNo, Item, Make, Setup};
 use std::alloc::{AllocError, Global};
 
@@ -132,49 +132,6 @@ fn setup_of(head: &Head) -> Setup
     setup.unwrap()
 }
 
-/// How many tokens at the front stand in a line.
-pub fn line_length(tokens: &[Token], line: u32) -> usize
-    ensures value { result ≡ words_in line (views tokens.now) }
-    ensures within { result ≤ length tokens.now }
-{
-    let mut length = 0;
-    'words: for token in tokens {
-        if token.line != line {
-            return length;
-        }
-        length += 1;
-    }
-    length
-}
-
-// Takes the lines of these tokens.
-fn take_lines(draft: &mut Draft, tokens: &[Token]) -> Result<(), ReadFault>
-    requires { IsDraft (draft_view draft.old) }
-    ensures value { Leads result (draft_view draft.new) (draft_from (draft_view draft.old) (rows_of (views tokens.now))) }
-    ensures draft { OnOk result (IsDraft (draft_view draft.new)) }
-{
-    let mut at = 0;
-    'lines: while at < tokens.len() {
-        let line = tokens[at].line;
-        let end = at + line_length(&tokens[at..], line);
-        if let Err(fault) = take_line(draft, &tokens[at..end]) {
-            return Err(fault_at(line, fault));
-        }
-        at = end;
-    }
-    Ok(())
-}
-
-// The fault of a line.
-fn fault_at(line: u32, fault: LineFault) -> ReadFault
-    ensures { result ≡ fault_at line fault }
-{
-    match fault {
-        LineFault::Cause(cause) => ReadFault::Script { line, cause },
-        LineFault::Memory => ReadFault::Memory,
-    }
-}
-
 // Ends a script.
 fn finish(draft: Draft, ending: Ending) -> Result<Script, ReadFault>
     requires draft { IsDraft (draft_view draft) }
@@ -182,13 +139,12 @@ fn finish(draft: Draft, ending: Ending) -> Result<Script, ReadFault>
     ensures value { Gives script_view result (meaning_at (draft_view draft) ending) }
     ensures script { IfOk result IsScript }
 {
-    let line = match ending {
-        Ending::Fault(ByteFault::NotAscii { line }) => return Err(script_fault(line, Cause::S8)),
-        Ending::Fault(ByteFault::TooManyLines) => return Err(script_fault(20_001, Cause::S9)),
-        Ending::Whole { lines } => lines + 1,
-    };
+    let lines = whole_lines(ending)?;
     if !is_whole(draft.head.section) {
-        return Err(script_fault(line, Cause::S7));
+        return Err(ReadFault::Script {
+            line: lines + 1,
+            cause: Cause::S7,
+        });
     }
     let Draft {
         head,
@@ -257,13 +213,26 @@ impl Draft {
     }
 }
 
-fn script_fault(line: u32, cause: Cause) -> ReadFault
-    ensures { result ≡ read_fault.Script line cause }
-{
-    ReadFault::Script { line, cause }
+impl Lines for Draft {
+    ghost use Rattle.script_reader.specs.Readings.{Draft_of, draft_view, draft_step, IsDraft};
+
+    ghost Said = { Draft_of };
+
+    ghost said = { draft_view };
+
+    ghost Kept = { IsDraft };
+
+    ghost step = { draft_step };
+
+    fn take_line(&mut self, line: u32, words: &[Token]) -> Result<(), ReadFault> {
+        if let Err(fault) = self.take(words) {
+            return Err(fault_at(line, fault));
+        }
+        Ok(())
+    }
 }
 
-// Reads the words of a script, and takes them line by line.
+// Reads the lines of a script, and ends it.
 #[tactic(auto, unfolding(crate::specs::Readings::script_of))]
 fn read_words(alloc: Global, source: &[u8]) -> Result<Script, ReadFault>
     requires { length source.now < 2 ^ 32 }
@@ -271,9 +240,8 @@ fn read_words(alloc: Global, source: &[u8]) -> Result<Script, ReadFault>
     ensures script { IfOk result IsScript }
     ensures words { IfOk result (λ s. length (words_of source.now) ≤ length source.now) }
 {
-    let Scanned { words, ending } = scan(alloc, source)?;
     let mut draft = no_draft(alloc)?;
-    take_lines(&mut draft, &words)?;
+    let ending = read_lines(alloc, &mut draft, source)?;
     finish(draft, ending)
 }
 

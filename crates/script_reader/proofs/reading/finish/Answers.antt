@@ -12,7 +12,7 @@ returns-clause-value c =
     record { version = d.head.version; setup = c.setup_of-setup.result; lists = c.truncate.new.self; order = c.args.draft.order } in
     let lists : lists_of c.truncate.new.self.items ≡ take d.head.cores d.lists = ap lists_of c.truncate.ensures.items
     ∙ sym (take-map (λ v. v.items) c.from.result c.args.draft.lists.items) ∙ ap (λ n. take n d.lists) c.from.ensures in
-    finished d c.args.ending c.in-Whole.lines s c.in-Whole.is (sym c.if-not-is_whole.ensures) refl c.setup_of-setup.ensures lists refl
+    finished d c.args.ending c.in_ok-lines.lines s c.in_ok-lines.ensures.value (sym c.if-not-is_whole.ensures) refl c.setup_of-setup.ensures lists refl
 
 pub returns-clause-script : goal.returns-clause-script
 returns-clause-script c =
