@@ -1,5 +1,5 @@
 -- No list of what is read has more calls than the bytes have words.
-use Rattle.std.proofs.Common.{◌≡◌, ℕ, suc, ◌+◌, ◌≤◌, List, [], ◌∷◌, ◌++◌, length, take, All}
+use Rattle.std.proofs.Common.{◌≡◌, ℕ, ◌+◌, ◌≤◌, List, [], ◌∷◌, ◌++◌, length, take, All}
 use Rattle.std.proofs.Common.{IfOk, Result, Ok, Err, subst, arith, inl, inr}
 use Rattle.std.specs.Prelude.{slice_get}
 use Rattle.std.specs.Option.{ok_or, option_and_then}
@@ -17,9 +17,10 @@ use Rattle.script_reader.specs.declared.cause.Cause.TheVariants.{S2, S7}
 use Rattle.script_reader.specs.declared.cause.ReadFault.{ReadFault}
 use Rattle.script_reader.specs.Causes.{◌>>=◌}
 use Rattle.script_reader.specs.Arguments.{end_at}
-use Rattle.script_reader.specs.Readings.{Row, rows_of, Draft_of, draft_behind, at_line, meaning_of, AtMost, Gives, lists_of}
+use Rattle.script_reader.specs.Readings.{Row, rows_of, Draft_of, draft_behind, meaning_of, AtMost, Gives, lists_of}
 use Rattle.script_reader.specs.Readings.{First_fault}
 use Rattle.script_reader.proofs.Amounts.{judged_is, read_is, bind_ok, then_ok, at_line_ok, few_weaker, few_behind, few_rows}
+use Rattle.script_reader.proofs.LineSteps.{lines_keep}
 use Rattle.ends_reader.specs.declared.part.PartWord.{PartWord}
 use Rattle.ends_reader.specs.declared.part.PartWord.TheVariants.{Core, Ask}
 use Rattle.ends_reader.specs.declared.reading.EndsSection.TheVariants.{Ends, Calls}
@@ -27,7 +28,7 @@ use Rattle.ends_reader.specs.declared.reading.EndsInput.{EndsInput}
 use Rattle.ends_reader.specs.Parts.{begins_ends, part_word, core_in, ask_in}
 use Rattle.ends_reader.specs.Inputs.{Input_draft, no_input, asks_of, with_ask, is_script, is_calls, may_end, ends_line, script_line}
 use Rattle.ends_reader.specs.Inputs.{core_line, ask_line, part_by, part_line}
-use Rattle.ends_reader.specs.Inputs.{input_behind, input_from, Input, input_in, input_at, input_of, input_view, ask_lists, FewAsks}
+use Rattle.ends_reader.specs.Inputs.{input_behind, input_step, input_from, Input, input_in, input_at, input_of, input_view, ask_lists, FewAsks}
 
 -- at most n calls in each list of calls and of endpoint calls
 pub record AreFew (n : ℕ) (d : Input_draft) : Type 0 where
@@ -113,11 +114,8 @@ few_in n d e words is h =
     ]
 
 few_from : (n : ℕ) (d e : Input_draft) (rows : List Row) → input_from d rows ≡ Ok e → AreFew n d → AreFew (n + length rows) e
-few_from n d e [] is h = subst (AreFew (n + 0)) (read_is d e is) (weaker n (n + 0) d (omega arith) h)
-few_from n d e (row ∷ rows) is h =
-    let b = then_ok (at_line row.number (input_behind d row.words)) (λ more. input_from more rows) e is in
-    let one = few_in n d b.0 row.words (at_line_ok row.number (input_behind d row.words) b.0 b.1) h in
-    weaker (n + 1 + length rows) (n + suc (length rows)) e (omega arith) (few_from (n + 1) b.0 e rows b.2 one)
+few_from = lines_keep input_step AreFew
+    (λ n d e number words is h. few_in n d e words (at_line_ok number (input_behind d words) e is) h)
 
 -- at most n calls in each list of what was read
 record AreShort (n : ℕ) (i : Input) : Type 0 where

@@ -5,11 +5,13 @@ use Rattle.std.specs.Prelude.{slice_set, slice_index_or}
 use Rattle.std.specs.Global.{Vec}
 use Rattle.std.proofs.lemmas.List.{map-set}
 use Rattle.async_ends.specs.declared.asks.EndAsk.{EndAsk}
+use Rattle.script_tokens.specs.declared.scanning.Ending.{Ending}
 use Rattle.script_tokens.specs.declared.scanning.Ending.TheVariants.{Whole}
 use Rattle.script_reader.specs.Heads.{is_whole}
+use Rattle.script_reader.specs.Lines.{and_then, whole_lines}
 use Rattle.script_reader.specs.Readings.{Meaning, meaning_of, meaning_at}
 use Rattle.script_reader.proofs.Amounts.{read_is}
-use Rattle.ends_reader.specs.Inputs.{Input_draft, ask_lists, asks_of, with_ask, is_script, input_in}
+use Rattle.ends_reader.specs.Inputs.{Input_draft, ask_lists, asks_of, with_ask, is_script, input_in, input_at}
 
 get_or_lists : (asks : List (Vec EndAsk)) (i : ℕ) (d : Vec EndAsk) → i < length asks
     → slice_index_or (ask_lists asks) i [] ≡ (get_or asks i d).items
@@ -28,9 +30,9 @@ ask_added asks i core ask old new lt at is more =
     same ∙ sym step ∙ ap (λ k. with_ask (ask_lists asks) k ask) at
 
 -- what lines that have come to the line `ends` say
-pub ended : (d : Input_draft) (lines : ℕ) (m : Meaning) (asks : List (List EndAsk)) → is_script d.section ≡ false
-    → is_whole d.script.head.section ≡ true → meaning_at d.script (Whole lines) ≡ Ok m → asks ≡ take d.script.head.cores d.asks
-    → input_in d lines ≡ Ok (record { script = m; asks = asks })
-ended d lines m asks part whole is same =
+pub ended : (d : Input_draft) (ending : Ending) (lines : ℕ) (m : Meaning) (asks : List (List EndAsk)) → whole_lines ending ≡ Ok lines
+    → is_script d.section ≡ false → is_whole d.script.head.section ≡ true → meaning_at d.script (Whole lines) ≡ Ok m
+    → asks ≡ take d.script.head.cores d.asks → input_at d ending ≡ Ok (record { script = m; asks = asks })
+ended d ending lines m asks end part whole is same =
     let said : meaning_of d.script ≡ m = read_is (meaning_of d.script) m (rw whole at is) in
-    rw part (λ i. Ok (record { script = said i; asks = sym same i }))
+    ap (λ r. and_then r (input_in d)) end ∙ rw part (λ i. Ok (record { script = said i; asks = sym same i }))

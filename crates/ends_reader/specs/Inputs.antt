@@ -5,17 +5,16 @@ use Rattle.std.specs.Global.{Vec}
 use Rattle.std.specs.Option.{ok_or, option_and_then}
 use Rattle.async_ends.specs.declared.endpoint.EndOp.{EndOp}
 use Rattle.async_ends.specs.declared.asks.EndAsk.{EndAsk}
-use Rattle.script_tokens.specs.declared.scanning.ByteFault.TheVariants.{NotAscii, TooManyLines}
 use Rattle.script_tokens.specs.declared.scanning.Ending.{Ending}
-use Rattle.script_tokens.specs.declared.scanning.Ending.TheVariants.{Whole, Fault as Faulty}
 use Rattle.script_tokens.specs.Words.{words_of, ending_of}
 use Rattle.script_reader.specs.declared.cause.Cause.{Cause}
-use Rattle.script_reader.specs.declared.cause.Cause.TheVariants.{S2, S7, S8, S9}
+use Rattle.script_reader.specs.declared.cause.Cause.TheVariants.{S2, S7}
 use Rattle.script_reader.specs.Causes.{◌>>=◌}
 use Rattle.script_reader.specs.Arguments.{end_at}
 use Rattle.script_reader.specs.Heads.{is_whole}
-use Rattle.script_reader.specs.Readings.{Row, rows_of, Draft_of, no_draft, draft_behind, Meaning, meaning_of, First_fault, at_line}
-use Rattle.script_reader.specs.Readings.{and_then, IsDraft, IsScript, draft_view, script_view}
+use Rattle.script_reader.specs.Lines.{Row, rows_of, First_fault, at_line, and_then, Step, lines_from, whole_lines}
+use Rattle.script_reader.specs.Readings.{Draft_of, no_draft, draft_behind, Meaning, meaning_of}
+use Rattle.script_reader.specs.Readings.{IsDraft, IsScript, draft_view, script_view}
 use Rattle.ends_reader.specs.declared.part.PartWord.{PartWord}
 use Rattle.ends_reader.specs.declared.part.PartWord.TheVariants.{Core, Ask}
 use Rattle.ends_reader.specs.declared.reading.EndsSection.{EndsSection}
@@ -100,10 +99,13 @@ part_line d words = do
 abbrev pub input_behind : Input_draft → List (List ℕ) → Result Input_draft Cause
 input_behind d words = if is_script d.section then script_line d words else part_line d words
 
+-- the draft after a line of this number, or its fault
+abbrev pub input_step : Step Input_draft
+input_step d number words = at_line number (input_behind d words)
+
 -- the draft after lines, or the first fault
 abbrev pub input_from : Input_draft → List Row → Result Input_draft First_fault
-input_from d [] = Ok d
-input_from d (row ∷ rows) = and_then (at_line row.number (input_behind d row.words)) (λ more. input_from more rows)
+input_from d rows = lines_from input_step d rows
 
 -- ---- the whole
 
@@ -118,11 +120,9 @@ input_in d lines =
     if is_script d.section then Err (record { line = lines + 1; cause = S7 })
     else Ok (record { script = meaning_of d.script; asks = take d.script.head.cores d.asks })
 
--- the end of the bytes: the byte or line that ended them, S8 or S9; else S7 after the last line where there is no line `ends`
+-- the end of the bytes: the byte or line that ended them; else that of the lines
 abbrev pub input_at : Input_draft → Ending → Result Input First_fault
-input_at d (Faulty (NotAscii number)) = Err (record { line = number; cause = S8 })
-input_at d (Faulty TooManyLines) = Err (record { line = 20001; cause = S9 })
-input_at d (Whole lines) = input_in d lines
+input_at d ending = and_then (whole_lines ending) (input_in d)
 
 -- what bytes say: the script with endpoint calls that they are, or their first fault
 unfoldable pub input_of : List ℕ → Result Input First_fault

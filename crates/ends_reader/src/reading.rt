@@ -1,18 +1,21 @@
 //! Reads the lines of a script and of the endpoint calls after it.
 
 ghost use Rattle.std.specs.Prelude.{◌≡◌, ◌<◌, ◌≤◌, ◌^◌, true, false, [], length, replicate, All, IfOk, IfErr, OnOk};
-ghost use Rattle.script_tokens.specs.Words.{views, words_of, FewLines};
+ghost use Rattle.script_tokens.specs.Words.{words_of, FewLines};
 ghost use Rattle.script_reader.specs.Arguments.{texts};
 ghost use Rattle.script_reader.specs.declared.cause.LineFault.TheVariants as line_fault;
-ghost use Rattle.script_reader.specs.Readings.{lists_of, rows_of, fault_at, Takes, Leads, Gives, AtMost};
+ghost use Rattle.script_reader.specs.Lines.{Takes, Gives};
+ghost use Rattle.script_reader.specs.Readings.{lists_of, AtMost};
 ghost use Rattle.ends_reader.specs.Inputs.{ask_lists, with_ask, no_input, is_script, is_calls, ends_line, script_line};
-ghost use Rattle.ends_reader.specs.Inputs.{core_line, ask_line, part_line, input_behind, input_from};
+ghost use Rattle.ends_reader.specs.Inputs.{core_line, ask_line, part_line, input_behind};
 ghost use Rattle.ends_reader.specs.Inputs.{input_at, input_of, draft_seen, input_view, IsInput, IsEndsInput, FewAsks};
 
 use crate::part::{PartWord, ask_in, begins_ends, core_in, first_of};
 use async_ends::{EndAsk, EndOp};
-use script_reader::{Cause, Draft, LineFault, ReadFault, Script, end_at, line_length};
-use script_tokens::{ByteFault, Ending, Scanned, Token, scan};
+use script_reader::{
+    Cause, Draft, LineFault, Lines, ReadFault, Script, end_at, fault_at, read_lines, whole_lines,
+};
+use script_tokens::{Ending, Token};
 use spk_nums::{Call, CoreNo, Make};
 use std::alloc::{AllocError, Global};
 
@@ -185,41 +188,33 @@ fn take_line(draft: &mut InputDraft, words: &[Token]) -> Result<(), LineFault>
     }
 }
 
-// The fault of a line.
-fn fault_at(line: u32, fault: LineFault) -> ReadFault
-    ensures { result ≡ fault_at line fault }
-{
-    match fault {
-        LineFault::Cause(cause) => ReadFault::Script { line, cause },
-        LineFault::Memory => ReadFault::Memory,
-    }
-}
+impl Lines for InputDraft {
+    ghost use Rattle.ends_reader.specs.Inputs.{Input_draft, draft_seen, input_step, IsInput};
 
-// Takes the lines of these tokens.
-fn take_lines(draft: &mut InputDraft, tokens: &[Token]) -> Result<(), ReadFault>
-    requires { IsInput (draft_seen draft.old) }
-    ensures value { Leads result (draft_seen draft.new) (input_from (draft_seen draft.old) (rows_of (views tokens.now))) }
-    ensures input { OnOk result (IsInput (draft_seen draft.new)) }
-{
-    let mut at = 0;
-    'lines: while at < tokens.len() {
-        let line = tokens[at].line;
-        let end = at + line_length(&tokens[at..], line);
-        if let Err(fault) = take_line(draft, &tokens[at..end]) {
+    ghost Said = { Input_draft };
+
+    ghost said = { draft_seen };
+
+    ghost Kept = { IsInput };
+
+    ghost step = { input_step };
+
+    fn take_line(&mut self, line: u32, words: &[Token]) -> Result<(), ReadFault> {
+        if let Err(fault) = take_line(self, words) {
             return Err(fault_at(line, fault));
         }
-        at = end;
+        Ok(())
     }
-    Ok(())
 }
 
-// Ends the lines of bytes that are whole.
-fn finish_whole(draft: InputDraft, lines: u32) -> Result<EndsInput, ReadFault>
+// Ends the lines.
+fn finish(draft: InputDraft, ending: Ending) -> Result<EndsInput, ReadFault>
     requires input { IsInput (draft_seen draft) }
-    requires lines { lines ≤ 20000 }
-    ensures value { Gives input_view result (input_at (draft_seen draft) (Ending.Whole lines)) }
+    requires lines { FewLines ending }
+    ensures value { Gives input_view result (input_at (draft_seen draft) ending) }
     ensures input { IfOk result IsEndsInput }
 {
+    let lines = whole_lines(ending)?;
     if is_script(draft.section) {
         return Err(ReadFault::Script {
             line: lines + 1,
@@ -236,27 +231,7 @@ fn finish_whole(draft: InputDraft, lines: u32) -> Result<EndsInput, ReadFault>
     Ok(EndsInput { script, asks })
 }
 
-// Ends the lines.
-fn finish(draft: InputDraft, ending: Ending) -> Result<EndsInput, ReadFault>
-    requires input { IsInput (draft_seen draft) }
-    requires lines { FewLines ending }
-    ensures value { Gives input_view result (input_at (draft_seen draft) ending) }
-    ensures input { IfOk result IsEndsInput }
-{
-    match ending {
-        Ending::Fault(ByteFault::NotAscii { line }) => Err(ReadFault::Script {
-            line,
-            cause: Cause::S8,
-        }),
-        Ending::Fault(ByteFault::TooManyLines) => Err(ReadFault::Script {
-            line: 20_001,
-            cause: Cause::S9,
-        }),
-        Ending::Whole { lines } => finish_whole(draft, lines),
-    }
-}
-
-// Reads the words, and takes them line by line.
+// Reads the lines, and ends them.
 #[tactic(auto, unfolding(crate::specs::Inputs::input_of))]
 fn read_words(alloc: Global, source: &[u8]) -> Result<EndsInput, ReadFault>
     requires { length source.now < 2 ^ 32 }
@@ -264,9 +239,8 @@ fn read_words(alloc: Global, source: &[u8]) -> Result<EndsInput, ReadFault>
     ensures input { IfOk result IsEndsInput }
     ensures words { IfOk result (λ i. length (words_of source.now) ≤ length source.now) }
 {
-    let Scanned { words, ending } = scan(alloc, source)?;
     let mut draft = no_input(alloc)?;
-    take_lines(&mut draft, &words)?;
+    let ending = read_lines(alloc, &mut draft, source)?;
     finish(draft, ending)
 }
 

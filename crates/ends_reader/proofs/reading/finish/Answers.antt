@@ -3,7 +3,7 @@ use Rattle.std.proofs.lemmas.List.{take-map}
 use Rattle.script_reader.specs.Readings.{script_view}
 use Rattle.ends_reader.specs.Inputs.{draft_seen, ask_lists}
 use Rattle.ends_reader.proofs.InputSteps.{ended}
-use Rattle.ends_reader.proofs.reading.finish_whole.Goals as goal
+use Rattle.ends_reader.proofs.reading.finish.Goals as goal
 
 pub returns-clause-value : goal.returns-clause-value
 returns-clause-value c =
@@ -12,5 +12,5 @@ returns-clause-value c =
     let asks : ask_lists c.truncate.new.self.items ≡ take d.script.head.cores d.asks = ap ask_lists c.truncate.ensures.items
     ∙ sym (take-map (λ v. v.items) c.from.result c.args.draft.asks.items)
     ∙ ap (λ n. take n d.asks) (c.from.ensures ∙ c.cores.ensures.value) in
-    ended d c.args.lines (script_view c.in_ok-script.script) (ask_lists c.truncate.new.self.items) part (c.requires.input.whole part)
-    c.in_ok-script.ensures.value asks
+    ended d c.args.ending c.in_ok-lines.lines (script_view c.in_ok-script.script) (ask_lists c.truncate.new.self.items)
+    c.in_ok-lines.ensures.value part (c.requires.input.whole part) c.in_ok-script.ensures.value asks
