@@ -1,16 +1,15 @@
 -- A script and the tasks after it, as a whole: the lines of the bytes, one after another, and the end.
 use Rattle.std.specs.Prelude.{◌≡◌, ◌≤◌, ℕ, ◌+◌, ◌==◌, List, [], ◌∷◌, ◌++◌, Bool, true, false, Option, Some, None, Result, Ok, Err}
 use Rattle.std.specs.Prelude.{length, codes, All, IfSome, IsSome, if◌then◌else◌}
-use Rattle.script_tokens.specs.declared.scanning.ByteFault.TheVariants.{NotAscii, TooManyLines}
 use Rattle.script_tokens.specs.declared.scanning.Ending.{Ending}
-use Rattle.script_tokens.specs.declared.scanning.Ending.TheVariants.{Whole, Fault as Faulty}
 use Rattle.script_tokens.specs.Words.{words_of, ending_of}
 use Rattle.script_reader.specs.declared.cause.Cause.{Cause}
-use Rattle.script_reader.specs.declared.cause.Cause.TheVariants.{S5, S7, S8, S9}
+use Rattle.script_reader.specs.declared.cause.Cause.TheVariants.{S5, S7, S9}
 use Rattle.script_reader.specs.Causes.{◌>>=◌}
 use Rattle.script_reader.specs.Heads.{is_whole}
-use Rattle.script_reader.specs.Readings.{Row, rows_of, Draft_of, no_draft, draft_behind, Meaning, meaning_of, First_fault, at_line}
-use Rattle.script_reader.specs.Readings.{and_then, IsDraft, IsScript, draft_view, script_view}
+use Rattle.script_reader.specs.Lines.{Row, rows_of, First_fault, at_line, and_then, lines_from as all_lines_from, whole_lines}
+use Rattle.script_reader.specs.Readings.{Draft_of, no_draft, draft_behind, Meaning, meaning_of}
+use Rattle.script_reader.specs.Readings.{IsDraft, IsScript, draft_view, script_view}
 use Rattle.sched_rules.specs.declared.tasks.Rule.{Rule}
 use Rattle.sched_rules.specs.declared.tasks.Task.{Task}
 use Rattle.sched_rules.specs.Schedule.{TaskFits, RuleFits}
@@ -93,8 +92,7 @@ line_behind d line words = line_by d line words d.rule
 
 -- the draft after lines, or the first fault
 abbrev pub lines_from : Sched_draft → List Row → Result Sched_draft First_fault
-lines_from d [] = Ok d
-lines_from d (row ∷ rows) = and_then (line_behind d row.number row.words) (λ more. lines_from more rows)
+lines_from d rows = all_lines_from line_behind d rows
 
 -- ---- the whole
 
@@ -109,11 +107,9 @@ abbrev pub input_by : Sched_draft → ℕ → Option Rule → Result Input First
 input_by d lines None = and_then (script_end d (lines + 1)) (λ done. Err (record { line = lines + 1; cause = S7 }))
 input_by d lines (Some rule) = Ok (record { script = meaning_of d.script; rule = rule; tasks = d.tasks })
 
--- the end of the bytes: the byte or line that ended them, S8 or S9; else that of the lines
+-- the end of the bytes: the byte or line that ended them; else that of the lines
 abbrev pub input_at : Sched_draft → Ending → Result Input First_fault
-input_at d (Faulty (NotAscii number)) = Err (record { line = number; cause = S8 })
-input_at d (Faulty TooManyLines) = Err (record { line = 20001; cause = S9 })
-input_at d (Whole lines) = input_by d lines d.rule
+input_at d ending = and_then (whole_lines ending) (λ lines. input_by d lines d.rule)
 
 -- what bytes say: the script with tasks that they are, or their first fault
 unfoldable pub input_of : List ℕ → Result Input First_fault

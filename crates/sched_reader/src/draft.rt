@@ -3,16 +3,16 @@
 ghost use Rattle.std.specs.Prelude.{◌≡◌, ◌≤◌, ◌<◌, ◌^◌, [], length, All, None, Some, IfOk, OnOk, IsSome, is_some, true, false};
 ghost use Rattle.script_reader.specs.Arguments.{texts};
 ghost use Rattle.script_reader.specs.Heads.{is_whole};
-ghost use Rattle.script_reader.specs.Readings.{Leads, Gives, fault_at};
+ghost use Rattle.script_reader.specs.Lines.{Leads, Gives};
 ghost use Rattle.script_reader.specs.declared.cause.ReadFault.TheVariants as read_fault;
 ghost use Rattle.sched_rules.specs.Schedule.{TaskFits, RuleFits};
 ghost use Rattle.sched_reader.specs.Inputs.{draft_seen, no_input, noted, first_line, script_line};
 ghost use Rattle.sched_reader.specs.Inputs.{script_end, unfit, sched_line, task_line_of};
-ghost use Rattle.sched_reader.specs.Inputs.{line_behind, unless, IsInput};
+ghost use Rattle.sched_reader.specs.Inputs.{unless, IsInput};
 
 use crate::lines::{begins, rule_at, task_line};
 use sched_rules::{Rule, Task};
-use script_reader::{Cause, Draft, LineFault, ReadFault};
+use script_reader::{Cause, Draft, Lines, ReadFault, fault_at};
 use script_tokens::Token;
 use spk_nums::Make;
 use std::alloc::{AllocError, Global};
@@ -43,16 +43,6 @@ pub fn no_input(alloc: Global) -> Result<SchedDraft, AllocError>
         rule: None,
         tasks: Vec::new(alloc),
     })
-}
-
-// The fault of a line.
-fn fault_at(line: u32, fault: LineFault) -> ReadFault
-    ensures { result ≡ fault_at line fault }
-{
-    match fault {
-        LineFault::Cause(cause) => ReadFault::Script { line, cause },
-        LineFault::Memory => ReadFault::Memory,
-    }
 }
 
 // The line of the first of two.
@@ -172,17 +162,24 @@ fn take_task_line(draft: &mut SchedDraft, line: u32, words: &[Token]) -> Result<
     }
 }
 
-/// Takes a line.
-pub fn take_line(draft: &mut SchedDraft, line: u32, words: &[Token]) -> Result<(), ReadFault>
-    requires { IsInput (draft_seen draft.old) }
-    ensures value { Leads result (draft_seen draft.new) (line_behind (draft_seen draft.old) line (texts words.now)) }
-    ensures input { OnOk result (IsInput (draft_seen draft.new)) }
-{
-    if draft.rule.is_some() {
-        take_task_line(draft, line, words)
-    } else if begins(words, "sched") {
-        take_sched_line(draft, line, words)
-    } else {
-        take_script_line(draft, line, words)
+impl Lines for SchedDraft {
+    ghost use Rattle.sched_reader.specs.Inputs.{Sched_draft, draft_seen, line_behind, IsInput};
+
+    ghost Said = { Sched_draft };
+
+    ghost said = { draft_seen };
+
+    ghost Kept = { IsInput };
+
+    ghost step = { line_behind };
+
+    fn take_line(&mut self, line: u32, words: &[Token]) -> Result<(), ReadFault> {
+        if self.rule.is_some() {
+            take_task_line(self, line, words)
+        } else if begins(words, "sched") {
+            take_sched_line(self, line, words)
+        } else {
+            take_script_line(self, line, words)
+        }
     }
 }

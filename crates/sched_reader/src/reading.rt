@@ -1,14 +1,14 @@
 //! Reads a script and the tasks after it.
 
-ghost use Rattle.std.specs.Prelude.{◌≡◌, ◌<◌, ◌≤◌, ◌^◌, length, IfOk, OnOk};
-ghost use Rattle.script_tokens.specs.Words.{views, FewLines};
-ghost use Rattle.script_reader.specs.Readings.{rows_of, Leads, Gives};
-ghost use Rattle.sched_reader.specs.Inputs.{draft_seen, lines_from, input_at, input_of, input_view, IsInput, IsSchedInput};
+ghost use Rattle.std.specs.Prelude.{◌<◌, ◌^◌, length, IfOk};
+ghost use Rattle.script_tokens.specs.Words.{FewLines};
+ghost use Rattle.script_reader.specs.Lines.{Gives};
+ghost use Rattle.sched_reader.specs.Inputs.{draft_seen, input_at, input_of, input_view, IsInput, IsSchedInput};
 
-use crate::draft::{SchedDraft, no_input, script_end, take_line};
+use crate::draft::{SchedDraft, no_input, script_end};
 use sched_rules::{Rule, Task};
-use script_reader::{Cause, ReadFault, Script, line_length};
-use script_tokens::{ByteFault, Ending, Scanned, Token, scan};
+use script_reader::{Cause, ReadFault, Script, read_lines, whole_lines};
+use script_tokens::Ending;
 use std::alloc::Global;
 
 /// A script of one core that has no `tick`, the rule of a scheduler, and at most 32 tasks.
@@ -19,31 +19,14 @@ pub struct SchedInput {
     pub tasks: Vec<Task>,
 }
 
-// Takes the lines of these tokens.
-fn take_lines(draft: &mut SchedDraft, tokens: &[Token]) -> Result<(), ReadFault>
-    requires { IsInput (draft_seen draft.old) }
-    ensures value { Leads result (draft_seen draft.new) (lines_from (draft_seen draft.old) (rows_of (views tokens.now))) }
-    ensures input { OnOk result (IsInput (draft_seen draft.new)) }
-{
-    let mut at = 0;
-    'lines: while at < tokens.len() {
-        let line = tokens[at].line;
-        let end = at + line_length(&tokens[at..], line);
-        if let Err(fault) = take_line(draft, line, &tokens[at..end]) {
-            return Err(fault);
-        }
-        at = end;
-    }
-    Ok(())
-}
-
-// Ends the lines of bytes that are whole.
-fn finish_whole(draft: SchedDraft, lines: u32) -> Result<SchedInput, ReadFault>
+// Ends the lines.
+fn finish(draft: SchedDraft, ending: Ending) -> Result<SchedInput, ReadFault>
     requires input { IsInput (draft_seen draft) }
-    requires lines { lines ≤ 20000 }
-    ensures value { Gives input_view result (input_at (draft_seen draft) (Ending.Whole lines)) }
+    requires lines { FewLines ending }
+    ensures value { Gives input_view result (input_at (draft_seen draft) ending) }
     ensures input { IfOk result IsSchedInput }
 {
+    let lines = whole_lines(ending)?;
     let Some(rule) = draft.rule else {
         script_end(&draft, lines + 1)?;
         return Err(ReadFault::Script {
@@ -60,36 +43,15 @@ fn finish_whole(draft: SchedDraft, lines: u32) -> Result<SchedInput, ReadFault>
     })
 }
 
-// Ends the lines.
-fn finish(draft: SchedDraft, ending: Ending) -> Result<SchedInput, ReadFault>
-    requires input { IsInput (draft_seen draft) }
-    requires lines { FewLines ending }
-    ensures value { Gives input_view result (input_at (draft_seen draft) ending) }
-    ensures input { IfOk result IsSchedInput }
-{
-    match ending {
-        Ending::Fault(ByteFault::NotAscii { line }) => Err(ReadFault::Script {
-            line,
-            cause: Cause::S8,
-        }),
-        Ending::Fault(ByteFault::TooManyLines) => Err(ReadFault::Script {
-            line: 20_001,
-            cause: Cause::S9,
-        }),
-        Ending::Whole { lines } => finish_whole(draft, lines),
-    }
-}
-
-// Reads the words, and takes them line by line.
+// Reads the lines, and ends them.
 #[tactic(auto, unfolding(crate::specs::Inputs::input_of))]
 fn read_words(alloc: Global, source: &[u8]) -> Result<SchedInput, ReadFault>
     requires { length source.now < 2 ^ 32 }
     ensures value { Gives input_view result (input_of source.now) }
     ensures input { IfOk result IsSchedInput }
 {
-    let Scanned { words, ending } = scan(alloc, source)?;
     let mut draft = no_input(alloc)?;
-    take_lines(&mut draft, &words)?;
+    let ending = read_lines(alloc, &mut draft, source)?;
     finish(draft, ending)
 }
 
