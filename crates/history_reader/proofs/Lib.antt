@@ -1,3 +1,3 @@
 pub mod Cores
 pub mod WordTexts
-pub mod HistorySteps
+mod Amounts

@@ -9,8 +9,8 @@ use Rattle.script_reader.specs.declared.cause.Cause.{Cause}
 use Rattle.script_reader.specs.declared.cause.Cause.TheVariants.{S2, S7}
 use Rattle.script_reader.specs.Causes.{◌>>=◌}
 use Rattle.script_reader.specs.Heads.{is_whole}
-use Rattle.script_reader.specs.Readings.{Row, rows_of, Draft_of, no_draft, draft_behind, meaning_at, First_fault, at_line, and_then}
-use Rattle.script_reader.specs.Readings.{IsDraft, draft_view}
+use Rattle.script_reader.specs.Lines.{Row, rows_of, First_fault, at_line, and_then, Step, lines_from as all_lines_from}
+use Rattle.script_reader.specs.Readings.{Draft_of, no_draft, draft_behind, meaning_at, IsDraft, draft_view}
 use Rattle.marked_history.specs.declared.marks.Said.{Said}
 use Rattle.marked_history.specs.declared.marks.Line.{Line}
 use Rattle.marked_history.specs.Verdicts.{LinesFit}
@@ -61,10 +61,13 @@ line_behind d number words = do
   w ← ok_or (option_and_then line_word (slice_get words 0)) S2
   line_by d number words w
 
+-- the draft after that line, or its fault
+abbrev pub line_step : Step History_draft
+line_step d number words = at_line number (line_behind d number words)
+
 -- the draft after lines, or the first fault
 abbrev pub lines_from : History_draft → List Row → Result History_draft First_fault
-lines_from d [] = Ok d
-lines_from d (row ∷ rows) = and_then (at_line row.number (line_behind d row.number row.words)) (λ more. lines_from more rows)
+lines_from d rows = all_lines_from line_step d rows
 
 -- ---- the whole
 

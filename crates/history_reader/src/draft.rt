@@ -1,15 +1,15 @@
 //! What the lines so far say.
 
-ghost use Rattle.std.specs.Prelude.{◌≡◌, ◌≤◌, ◌+◌, [], length, true, IfOk, OnOk};
+ghost use Rattle.std.specs.Prelude.{◌≡◌, [], true, IfOk, OnOk};
 ghost use Rattle.script_reader.specs.Arguments.{texts};
-ghost use Rattle.script_reader.specs.Readings.{Takes};
+ghost use Rattle.script_reader.specs.Lines.{Takes};
 ghost use Rattle.marked_history.specs.Verdicts.{SaidFits};
 ghost use Rattle.history_reader.specs.Inputs.{no_history, head_line, with_said, given_line, line_by, line_behind, draft_seen};
 ghost use Rattle.history_reader.specs.Inputs.{IsHistoryDraft};
 
 use crate::lines::{LineWord, first_of, said_by};
 use marked_history::{Line, Mark, Said};
-use script_reader::{Cause, Draft, LineFault};
+use script_reader::{Cause, Draft, LineFault, Lines, ReadFault, fault_at};
 use script_tokens::Token;
 use spk_nums::{Call, Make, Reply, Value};
 use std::alloc::{AllocError, Global};
@@ -38,7 +38,6 @@ fn take_head_line(draft: &mut HistoryDraft, words: &[Token]) -> Result<(), LineF
     requires { IsHistoryDraft (draft_seen draft.old) }
     ensures value { Takes result (draft_seen draft.new) (head_line (draft_seen draft.old) (texts words.now)) }
     ensures draft { OnOk result (IsHistoryDraft (draft_seen draft.new)) }
-    ensures few { length draft.new.lines.items ≤ length draft.old.lines.items + 1 }
 {
     if draft.lines.is_empty() {
         draft.script.take(words)
@@ -53,7 +52,6 @@ fn add_said(draft: &mut HistoryDraft, number: u32, said: Said) -> Result<(), Lin
     requires fits { SaidFits (draft_seen draft.old).script.head.cores said }
     ensures value { Takes result (draft_seen draft.new) (Ok (with_said (draft_seen draft.old) number said)) }
     ensures draft { OnOk result (IsHistoryDraft (draft_seen draft.new)) }
-    ensures few { length draft.new.lines.items ≤ length draft.old.lines.items + 1 }
 {
     draft.lines.push(Line { number, said })?;
     Ok(())
@@ -70,7 +68,6 @@ fn take_given_line(
     requires { IsHistoryDraft (draft_seen draft.old) }
     ensures value { Takes result (draft_seen draft.new) (given_line (draft_seen draft.old) number (texts words.now) word) }
     ensures draft { OnOk result (IsHistoryDraft (draft_seen draft.new)) }
-    ensures few { length draft.new.lines.items ≤ length draft.old.lines.items + 1 }
 {
     // The check of a function that moves calls and replies asks for the types that they hold.
     let _made: Option<Make> = None;
@@ -86,16 +83,34 @@ fn take_given_line(
     add_said(draft, number, said)
 }
 
-/// Takes a line with this number.
+// Takes a line with this number.
 #[tactic(auto, unfolding(crate::specs::Inputs::line_behind))]
-pub fn take_line(draft: &mut HistoryDraft, number: u32, words: &[Token]) -> Result<(), LineFault>
+fn take_line(draft: &mut HistoryDraft, number: u32, words: &[Token]) -> Result<(), LineFault>
     requires { IsHistoryDraft (draft_seen draft.old) }
     ensures value { Takes result (draft_seen draft.new) (line_behind (draft_seen draft.old) number (texts words.now)) }
     ensures draft { OnOk result (IsHistoryDraft (draft_seen draft.new)) }
-    ensures few { length draft.new.lines.items ≤ length draft.old.lines.items + 1 }
 {
     match first_of(words).ok_or(Cause::S2)? {
         LineWord::Head => take_head_line(draft, words),
         word => take_given_line(draft, number, words, word),
+    }
+}
+
+impl Lines for HistoryDraft {
+    ghost use Rattle.history_reader.specs.Inputs.{History_draft, draft_seen, line_step, IsHistoryDraft};
+
+    ghost Said = { History_draft };
+
+    ghost said = { draft_seen };
+
+    ghost Kept = { IsHistoryDraft };
+
+    ghost step = { line_step };
+
+    fn take_line(&mut self, line: u32, words: &[Token]) -> Result<(), ReadFault> {
+        if let Err(fault) = take_line(self, line, words) {
+            return Err(fault_at(line, fault));
+        }
+        Ok(())
     }
 }

@@ -1,15 +1,15 @@
 //! Reads the lines of a given history.
 
-ghost use Rattle.std.specs.Prelude.{◌≡◌, ◌<◌, ◌≤◌, ◌+◌, ◌^◌, length, IfOk, OnOk};
-ghost use Rattle.script_tokens.specs.Words.{views, words_of, FewLines};
-ghost use Rattle.script_reader.specs.Readings.{rows_of, fault_at, Leads, Gives};
+ghost use Rattle.std.specs.Prelude.{◌<◌, ◌≤◌, ◌^◌, length, IfOk};
+ghost use Rattle.script_tokens.specs.Words.{words_of, FewLines};
+ghost use Rattle.script_reader.specs.Lines.{Gives};
 ghost use Rattle.marked_history.specs.Verdicts.{LinesFit};
-ghost use Rattle.history_reader.specs.Inputs.{draft_seen, lines_from, history_at, history_of, history_view, IsHistoryDraft};
+ghost use Rattle.history_reader.specs.Inputs.{draft_seen, history_at, history_of, history_view, IsHistoryDraft};
 
-use crate::draft::{HistoryDraft, no_history, take_line};
+use crate::draft::{HistoryDraft, no_history};
 use marked_history::Line;
-use script_reader::{LineFault, ReadFault, line_length};
-use script_tokens::{Ending, Scanned, Token, scan};
+use script_reader::{ReadFault, read_lines};
+use script_tokens::Ending;
 use spk_nums::{Make, Setup};
 use std::alloc::Global;
 
@@ -20,42 +20,12 @@ pub struct GivenHistory {
     pub lines: Vec<Line>,
 }
 
-// The fault of a line.
-fn fault_at(line: u32, fault: LineFault) -> ReadFault
-    ensures { result ≡ fault_at line fault }
-{
-    match fault {
-        LineFault::Cause(cause) => ReadFault::Script { line, cause },
-        LineFault::Memory => ReadFault::Memory,
-    }
-}
-
-// Takes the lines of these tokens.
-fn take_lines(draft: &mut HistoryDraft, tokens: &[Token]) -> Result<(), ReadFault>
-    requires { IsHistoryDraft (draft_seen draft.old) }
-    ensures value { Leads result (draft_seen draft.new) (lines_from (draft_seen draft.old) (rows_of (views tokens.now))) }
-    ensures draft { OnOk result (IsHistoryDraft (draft_seen draft.new)) }
-    ensures few { OnOk result (length draft.new.lines.items ≤ length draft.old.lines.items + length tokens.now) }
-{
-    let mut at = 0;
-    'lines: while at < tokens.len() {
-        let line = tokens[at].line;
-        let end = at + line_length(&tokens[at..], line);
-        if let Err(fault) = take_line(draft, line, &tokens[at..end]) {
-            return Err(fault_at(line, fault));
-        }
-        at = end;
-    }
-    Ok(())
-}
-
 // Ends the lines.
 fn finish(draft: HistoryDraft, ending: Ending) -> Result<GivenHistory, ReadFault>
     requires draft { IsHistoryDraft (draft_seen draft) }
     requires lines { FewLines ending }
     ensures value { Gives history_view result (history_at (draft_seen draft) ending) }
     ensures fit { IfOk result (λ h. LinesFit h.setup.cores h.lines.items) }
-    ensures same { IfOk result (λ h. h.lines.items ≡ draft.lines.items) }
 {
     let HistoryDraft { script, lines } = draft;
     let script = script.end(ending)?;
@@ -65,17 +35,16 @@ fn finish(draft: HistoryDraft, ending: Ending) -> Result<GivenHistory, ReadFault
     })
 }
 
-// Reads the words, and takes them line by line.
+// Reads the lines, and ends them.
 #[tactic(auto, unfolding(crate::specs::Inputs::history_of))]
 fn read_words(alloc: Global, source: &[u8]) -> Result<GivenHistory, ReadFault>
     requires { length source.now < 2 ^ 32 }
     ensures value { Gives history_view result (history_of source.now) }
     ensures fit { IfOk result (λ h. LinesFit h.setup.cores h.lines.items) }
-    ensures few { IfOk result (λ h. length h.lines.items ≤ length source.now) }
+    ensures words { IfOk result (λ h. length (words_of source.now) ≤ length source.now) }
 {
-    let Scanned { words, ending } = scan(alloc, source)?;
     let mut draft = no_history(alloc)?;
-    take_lines(&mut draft, &words)?;
+    let ending = read_lines(alloc, &mut draft, source)?;
     finish(draft, ending)
 }
 
