@@ -1,5 +1,5 @@
 -- The text of a verdict.
-use Rattle.std.specs.Prelude.{ℕ, List, [], ◌∷◌, ◌++◌, codes, decimal}
+use Rattle.std.specs.Prelude.{ℕ, List, ◌++◌, codes, decimal}
 use Rattle.marked_history.specs.declared.marks.Why.{Why}
 use Rattle.marked_history.specs.declared.marks.Why.TheVariants as why
 use Rattle.marked_history.specs.declared.marks.Verdict.{Verdict}

@@ -1,6 +1,5 @@
 -- A given history as a whole: the lines of the bytes, one after another, and the end.
-use Rattle.std.specs.Prelude.{◌≡◌, ◌≤◌, ℕ, ◌+◌, List, [], ◌∷◌, ◌++◌, Bool, true, false, Option, Result, Ok, Err, slice_get}
-use Rattle.std.specs.Prelude.{length, All, if◌then◌else◌}
+use Rattle.std.specs.Prelude.{ℕ, List, [], ◌∷◌, ◌++◌, Bool, true, false, Result, Ok, Err, slice_get, if◌then◌else◌}
 use Rattle.std.specs.Option.{ok_or, option_and_then}
 use Rattle.spk_nums.specs.Setting.{Setting}
 use Rattle.script_tokens.specs.declared.scanning.Ending.{Ending}

@@ -1,5 +1,5 @@
 -- Replies as they are written: a name, and what comes after it. A reply is the list of its words; its name is at 0.
-use Rattle.std.specs.Prelude.{ℕ, ◌+◌, ◌==◌, nat_lt, nat_le, List, length, slice_get, Bool, true, false, Option, Some, None}
+use Rattle.std.specs.Prelude.{ℕ, ◌+◌, nat_le, List, length, slice_get, Bool, false, Option, Some, None}
 use Rattle.std.specs.Prelude.{Result, Ok, Err, codes, if◌then◌else◌}
 use Rattle.std.specs.Option.{ok_or}
 use Rattle.spk_nums.specs.Rights.{least_rights}
