@@ -1,0 +1,25 @@
+-- Which replies are read back from their texts, and that they are.
+use Rattle.std.specs.Prelude.{◌≡◌, ℕ, ◌≤◌, [], ◌∷◌, Ok}
+use Rattle.spk_nums.specs.Texts.{reply_text}
+use Rattle.spk_nums.specs.declared.replies.Reply.{Reply}
+use Rattle.reply_reads.specs.Ranges.{ReplyFits}
+use Rattle.script_tokens.specs.Words.{words_of}
+use Rattle.script_reader.specs.Readings.{rows_of}
+use Rattle.script_printer.specs.Printing.{line}
+use Rattle.history_reader.specs.Replies.{reply_of}
+use Rattle.reply_reads.specs.Words.{spaced, reply_words}
+
+-- A reply is in the ranges in which it is read on a machine of so many cores.
+abbrev pub IsReplyWithin : ℕ → Reply → Type 0
+IsReplyWithin cores r = ReplyFits cores r
+
+-- The text of a reply is its words, with a space between each two; a line of it has these words and no others; and they are read, on a
+-- machine of so many cores, as the reply.
+pub record ReplyReads (cores : ℕ) (r : Reply) : Type 0 where
+  pub text : reply_text r ≡ spaced (reply_words r)
+  pub row : rows_of (words_of (line (reply_text r))) ≡ record { number = 1; words = reply_words r } ∷ []
+  pub read : reply_of cores (reply_words r) ≡ Ok r
+
+-- Each reply in the ranges reads back.
+abbrev pub RepliesReadBack : Type 0
+RepliesReadBack = (cores : ℕ) → cores ≤ 8 → (r : Reply) → IsReplyWithin cores r → ReplyReads cores r
