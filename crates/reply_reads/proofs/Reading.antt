@@ -13,7 +13,7 @@ use Rattle.spk_nums.specs.declared.replies.Value.{Value}
 use Rattle.spk_nums.specs.declared.replies.Value.TheVariants as value
 use Rattle.spk_nums.specs.declared.replies.Reply.{Reply}
 use Rattle.spk_nums.specs.declared.replies.Reply.TheVariants as reply
-use Rattle.reply_reads.specs.Ranges.{ValueFits}
+use Rattle.reply_ranges.specs.Ranges.{ValueFits}
 use Rattle.script_tokens.specs.Words.{spans, first_fault, line_count, ending_from, before_fault, word_at as word_there, words_of}
 use Rattle.script_reader.specs.Readings.{rows_of}
 use Rattle.script_reader.specs.Numerals.{is_digits}

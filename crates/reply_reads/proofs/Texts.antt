@@ -12,7 +12,7 @@ use Rattle.spk_nums.specs.declared.replies.Value.{Value}
 use Rattle.spk_nums.specs.declared.replies.Value.TheVariants as value
 use Rattle.spk_nums.specs.declared.replies.Reply.{Reply}
 use Rattle.spk_nums.specs.declared.replies.Reply.TheVariants as reply
-use Rattle.reply_reads.specs.Ranges.{ValueFits}
+use Rattle.reply_ranges.specs.Ranges.{ValueFits}
 use Rattle.script_printer.proofs.Spans.{is_text, are_texts, is_line, line_onto}
 use Rattle.script_printer.proofs.NumberWords.{number_text}
 use Rattle.reply_reads.specs.Words.{spaced, rights_words, cap_words_by, value_words, words_after, reply_words}

@@ -1,15 +1,19 @@
--- Which replies are read back from their texts, and that they are.
-use Rattle.std.specs.Prelude.{◌≡◌, ℕ, ◌≤◌, [], ◌∷◌, Ok}
+-- Which replies are read back from their texts, that they are, and that legal traces decide no others.
+use Rattle.std.specs.Prelude.{◌≡◌, ℕ, ◌≤◌, [], ◌∷◌, All, Ok}
+use Rattle.spk_nums.specs.Setting.{Setting, IsSetting}
 use Rattle.spk_nums.specs.Texts.{reply_text}
 use Rattle.spk_nums.specs.declared.replies.Reply.{Reply}
-use Rattle.reply_reads.specs.Ranges.{ReplyFits}
+use Rattle.spk_nums.specs.declared.replies.Decision.{Decision}
+use Rattle.kernel_history.specs.Trace.{Trace, decisions_of}
+use Rattle.kernel_history.specs.Legal.{IsLegal}
+use Rattle.reply_ranges.specs.Ranges.{ReplyFits}
 use Rattle.script_tokens.specs.Words.{words_of}
 use Rattle.script_reader.specs.Readings.{rows_of}
 use Rattle.script_printer.specs.Printing.{line}
 use Rattle.history_reader.specs.Replies.{reply_of}
 use Rattle.reply_reads.specs.Words.{spaced, reply_words}
 
--- A reply is in the ranges in which it is read on a machine of so many cores.
+-- A reply is in the ranges in which it is read on a machine of so many cores: those in which the replies of runs are.
 abbrev pub IsReplyWithin : ℕ → Reply → Type 0
 IsReplyWithin cores r = ReplyFits cores r
 
@@ -23,3 +27,8 @@ pub record ReplyReads (cores : ℕ) (r : Reply) : Type 0 where
 -- Each reply in the ranges reads back.
 abbrev pub RepliesReadBack : Type 0
 RepliesReadBack = (cores : ℕ) → cores ≤ 8 → (r : Reply) → IsReplyWithin cores r → ReplyReads cores r
+
+-- Each reply that a legal trace decides is in the ranges in which replies are read on its machine.
+abbrev pub LegalReplies : Type 0
+LegalReplies = (setup : Setting) → IsSetting setup → (t : Trace) → IsLegal setup t
+    → All (λ (d : Decision). IsReplyWithin setup.cores d.reply) (decisions_of t)
