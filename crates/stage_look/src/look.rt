@@ -9,7 +9,10 @@
 //! place that another core is removing is busy. A word that is that of no entry, or that names a frame past the
 //! machine's, never comes; it is answered `raced`, so that every word is taken.
 
-ghost use Rattle.std.specs.Prelude.{◌≡◌, ◌<◌, ◌≤◌, nat_le};
+ghost use Rattle.std.specs.Prelude.{◌≡◌, ◌<◌, ◌≤◌, nat_le, IfSome, Some};
+ghost use Rattle.spk_nums.specs.Capability.{cap_of};
+ghost use Rattle.spk_nums.specs.declared.kinds.Kind.TheVariants.{Link};
+ghost use Rattle.entry_words.specs.declared.entry.Entry.TheVariants.{Held};
 ghost use Rattle.word_map.specs.Places.{size_of};
 ghost use Rattle.word_map.specs.Moves.{op_of};
 ghost use Rattle.spk_nums.specs.WordSteps.{place_in};
@@ -19,6 +22,9 @@ ghost use Rattle.stage_look.specs.Lookup.{LookFits, look_move, root_end, place_e
 use entry_words::Entry;
 use spk_nums::{Cap, CapId, EntryNo, FrameNo, Kind, Reply, StageEnd, WordOp};
 use word_map::Layout;
+
+// The low bits of the word of a link; above them it has its leaf alone.
+const LINK: u64 = 37;
 
 /// A look-up, between two of its steps.
 #[derive(Clone, Copy, PartialEq, Eq, Debug)]
@@ -98,7 +104,7 @@ impl Look {
     /// where a core is removing what stands there, and with `raced` where the word is that of no entry of this
     /// machine; else the last step is done with the place. The frames that the look-up names are below the layout's,
     /// and stay so.
-    #[inline]
+    #[inline(always)]
     pub fn take(&mut self, layout: &Layout, found: u64) -> StageEnd<Found>
         requires { LookFits layout.now self.old }
         ensures end { result ≡ look_end self.old found (shown_in layout.now.frames found) }
@@ -106,7 +112,37 @@ impl Look {
         ensures fits { LookFits layout.now self.new }
         ensures found { EndFits layout.now result }
     {
-        let shown = shown_in(layout.frames(), found);
+        self.took(layout.frames(), found)
+    }
+
+    // Takes the word that the step found, on a machine of so many frames. The word of a link is told by a comparison, and not read.
+    #[inline]
+    fn took(&mut self, frames: u16, found: u64) -> StageEnd<Found>
+        requires { frames ≤ 512 }
+        ensures end { result ≡ look_end self.old found (shown_in frames found) }
+        ensures after { self.new ≡ look_after self.old (shown_in frames found) }
+    {
+        let at = *self;
+        match at {
+            Look::AtRoot { root: _, number } => match link_in(frames, found) {
+                None => self.took_shown(frames, found),
+                Some(leaf) => {
+                    *self = Look::AtLeaf { leaf, number };
+                    StageEnd::Going
+                }
+            },
+            Look::AtLeaf { leaf: _, number: _ } => self.took_shown(frames, found),
+            Look::AtEntry { root: _, entry: _ } => self.took_shown(frames, found),
+        }
+    }
+
+    // The same, by what the word shows.
+    #[inline(never)]
+    fn took_shown(&mut self, frames: u16, found: u64) -> StageEnd<Found>
+        ensures end { result ≡ look_end self.old found (shown_in frames found) }
+        ensures after { self.new ≡ look_after self.old (shown_in frames found) }
+    {
+        let shown = shown_in(frames, found);
         let end = self.end(found, &shown);
         *self = self.after(&shown);
         end
@@ -136,6 +172,21 @@ impl Look {
             Look::AtLeaf { leaf, number } => Look::AtLeaf { leaf, number },
             Look::AtEntry { root, entry } => Look::AtEntry { root, entry },
         }
+    }
+}
+
+// The leaf of a link, where the word is that of a link to a frame of a machine of so many.
+#[inline]
+#[tactic(auto, using(crate::proofs::Links::link_shown))]
+fn link_in(frames: u16, word: u64) -> Option<FrameNo>
+    requires { frames ≤ 512 }
+    ensures { IfSome result (λ leaf. shown_in frames word ≡ Some (Held (cap_of Link leaf 0))) }
+{
+    let leaf = word / 64;
+    if word % 64 == LINK && leaf < u64::from(frames) {
+        Some(FrameNo::new(leaf as u16))
+    } else {
+        None
     }
 }
 

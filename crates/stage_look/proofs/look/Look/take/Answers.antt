@@ -8,12 +8,12 @@ pub returns-clause-fits : goal.returns-clause-fits
 returns-clause-fits c =
     let s = c.args.layout.now in
     let shown = shown_in s.frames c.args.found in
-    let after : c.after.result ≡ look_after c.args.self.now shown = cc in
+    let after : c.took.new.self ≡ look_after c.args.self.now shown = cc in
     rw after (after_fits s c.args.self.now shown (shown_names s.frames c.args.found) c.requires)
 
 pub returns-clause-found : goal.returns-clause-found
 returns-clause-found c =
     let s = c.args.layout.now in
     let shown = shown_in s.frames c.args.found in
-    let ends : c.end-end.result ≡ look_end c.args.self.now c.args.found shown = cc in
+    let ends : c.took.result ≡ look_end c.args.self.now c.args.found shown = cc in
     rw ends (end_fits s c.args.self.now c.args.found shown (shown_names s.frames c.args.found) c.requires)
