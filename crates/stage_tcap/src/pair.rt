@@ -168,7 +168,42 @@ impl Pair {
     /// that differ decide `unlike`, and a merged list with more than 8 schedulers `too-many`. The last store is done
     /// with the call's value: whether A preempts B, or nothing. Both temporal capabilities are below the layout's frames,
     /// and stay so.
+    #[inline(always)]
+    #[tactic(auto, using(crate::proofs::PairLemmas::pair_after_fits))]
     pub fn take(&mut self, _layout: &Layout, found: u64) -> StageEnd<Value>
+        requires { PairFits _layout.now self.old }
+        ensures end { result ≡ pair_end self.old found }
+        ensures after { self.new ≡ pair_after self.old found }
+        ensures fits { PairFits _layout.now self.new }
+    {
+        let at = self.at;
+        match at {
+            PairAt::ListA { entry } => match QualityWord::unpack(found) {
+                Some(QualityWord(None)) => {
+                    self.at = next_of_a(entry);
+                    StageEnd::Going
+                }
+                _ => self.takes(_layout, found),
+            },
+            PairAt::ListB { entry } => match QualityWord::unpack(found) {
+                Some(QualityWord(None)) if entry.number() < 8 => {
+                    self.at = PairAt::ListB {
+                        entry: EntryNo::new(entry.number() + 1),
+                    };
+                    StageEnd::Going
+                }
+                _ => self.takes(_layout, found),
+            },
+            _ => self.takes(_layout, found),
+        }
+    }
+}
+
+impl Pair {
+    // Takes the word that any step found. It stands apart, since most words of a list have no pair, and then only the place in the list
+    // changes.
+    #[inline(never)]
+    fn takes(&mut self, _layout: &Layout, found: u64) -> StageEnd<Value>
         requires { PairFits _layout.now self.old }
         ensures end { result ≡ pair_end self.old found }
         ensures after { self.new ≡ pair_after self.old found }
@@ -179,9 +214,7 @@ impl Pair {
         self.at = self.after(found);
         end
     }
-}
 
-impl Pair {
     // What is put in the place of head B: a transfer gives it the ticks, a delegation marks it first.
     fn next_b(&self) -> HeadWord
         requires { VersionFits self.now.head_b }

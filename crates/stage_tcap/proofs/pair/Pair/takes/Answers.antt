@@ -2,7 +2,7 @@ use Rattle.std.proofs.Common.{rules, ◌≡◌}
 use Rattle.stage_tcap.specs.Pairs.{pair_after}
 use Rattle.stage_tcap.specs.declared.pair.Pair.{Pair}
 use Rattle.stage_tcap.proofs.PairLemmas.{head_a_fits, head_b_fits, pair_after_fits}
-use Rattle.stage_tcap.proofs.pair.Pair.take.Goals as goal
+use Rattle.stage_tcap.proofs.pair.Pair.takes.Goals as goal
 
 pub end-end-requires-clause-a : goal.end-end-requires-clause-a
 end-end-requires-clause-a c = rw c.note.ensures (head_a_fits c.args.self.now.at c.args.self.now.head_a c.args.found c.requires.head_a)
