@@ -1,0 +1,176 @@
+-- The text of a trace is read as the given history of its marks.
+use Rattle.std.proofs.Common.{◌≡◌, ℕ, ◌+◌, ◌≤◌, true, List, [], ◌∷◌, ◌++◌, length, map, All, Ok}
+use Rattle.std.proofs.Common.{refl, sym, ap, subst, ◌∙◌, arith, append_assoc, reverse}
+use Rattle.std.specs.Prelude.{Result}
+use Rattle.std.proofs.lemmas.Bool.{and_from}
+use Rattle.std.proofs.lemmas.List.{append-nil, map-append}
+use Rattle.std.proofs.lemmas.List.Elements.{All-head, All-tail}
+use Rattle.spk_nums.specs.Setting.{Setting, IsSetting}
+use Rattle.marked_laws.specs.kernel_history.specs.Trace.{Trace}
+use Rattle.script_tokens.specs.Words.{line_count, words_of, ending_of}
+use Rattle.script_reader.specs.Lines.{rows_of, and_then, First_fault}
+use Rattle.script_reader.specs.Readings.{Draft_of, no_draft, draft_from, Meaning}
+use Rattle.trace_lines.specs.script_printer.specs.Printing.{setup_lines}
+use Rattle.trace_lines.specs.script_printer.proofs.Spans.{are_lines, line_onto, lines_onto, rows_from, both_left, both_right}
+use Rattle.marked_laws.specs.marked_history.specs.declared.marks.Mark.{Mark}
+use Rattle.marked_laws.specs.marked_history.specs.declared.marks.Said.TheVariants.{One}
+use Rattle.marked_laws.specs.marked_history.specs.declared.marks.Line.{Line}
+use Rattle.marked_laws.specs.Marks.{marks_of}
+use Rattle.trace_lines.specs.Traces.{Told, line_end, trace_text}
+use Rattle.check_run.specs.history_reader.specs.Inputs.{History, History_draft, no_history, lines_from, history_at, history_of}
+use Rattle.trace_reads.specs.Texts.{mark_lines, history_told}
+use Rattle.reply_reads.specs.Words.{spaced}
+use Rattle.trace_reads.proofs.NotedLines.{Noted, words_onto, noted_onto, are_noted, words_in, IsScanned, noted_scanned}
+use Rattle.trace_reads.proofs.Told.{Marked, mark_text, marked_text, marks_in, notes_of, notes_marks}
+use Rattle.trace_reads.proofs.Told.{notes_printed, notes_are_printed, told_is}
+use Rattle.trace_reads.proofs.MarkLines.{mark_words, MarkReads}
+use Rattle.trace_reads.proofs.HeadRows.{head_lines, head_onto, head_length, head_are_lines, IsHeadOf, headed_draft, head_rows}
+
+-- ---- lines with their words
+
+-- lines without comments
+abbrev plain_line : List (List ℕ) → Noted
+plain_line ws = record { words = ws; note = [] }
+
+abbrev plain : List (List (List ℕ)) → List Noted
+plain lines = map plain_line lines
+
+-- the lines of marks, as their words
+abbrev worded_line : Marked → Noted
+worded_line l = record { words = mark_words l.mark; note = l.note }
+
+abbrev worded : List Marked → List Noted
+worded lines = map worded_line lines
+
+spaced_onto : (ws : List (List ℕ)) (tail : List ℕ) → spaced ws ++ tail ≡ words_onto ws tail
+spaced_onto [] tail = refl
+spaced_onto (w ∷ []) tail = refl
+spaced_onto (w ∷ v ∷ ws) tail =
+    append_assoc w (32 ∷ spaced (v ∷ ws)) tail ∙ ap (λ t. w ++ 32 ∷ t) (spaced_onto (v ∷ ws) tail)
+
+feed_onto : (ws : List (List ℕ)) (rest : List ℕ) → line_onto ws rest ≡ words_onto ws (10 ∷ rest)
+feed_onto [] rest = refl
+feed_onto (w ∷ []) rest = refl
+feed_onto (w ∷ v ∷ ws) rest = ap (λ t. w ++ 32 ∷ t) (feed_onto (v ∷ ws) rest)
+
+-- the text of plain lines before that of others
+plain_onto : (lines : List (List (List ℕ))) (more : List Noted) → lines_onto lines [] ++ noted_onto more ≡ noted_onto (plain lines ++ more)
+plain_onto [] more = refl
+plain_onto (ws ∷ lines) more =
+    let rest = lines_onto lines [] in
+    ap (λ t. t ++ noted_onto more) (feed_onto ws rest ∙ sym (spaced_onto ws (10 ∷ rest)))
+    ∙ append_assoc (spaced ws) (10 ∷ rest) (noted_onto more)
+    ∙ ap (λ t. spaced ws ++ 10 ∷ t) (plain_onto lines more)
+    ∙ spaced_onto ws (10 ∷ noted_onto (plain lines ++ more))
+
+-- the text of lines of marks, each of which is its words
+worded_onto : (s : Draft_of) (lines : List Marked) → All (MarkReads s) (marks_in lines) → marked_text lines ≡ noted_onto (worded lines)
+worded_onto s [] all = refl
+worded_onto s (l ∷ lines) all =
+    let one : MarkReads s l.mark = All-head (MarkReads s) l.mark (marks_in lines) all in
+    let rest = marked_text lines in
+    append_assoc (mark_text l.mark) (line_end l.note) rest
+    ∙ ap (λ t. t ++ (line_end l.note ++ rest)) one.text
+    ∙ ap (λ t. spaced (mark_words l.mark) ++ (line_end l.note ++ t))
+    (worded_onto s lines (All-tail (MarkReads s) l.mark (marks_in lines) all))
+    ∙ spaced_onto (mark_words l.mark) (line_end l.note ++ noted_onto (worded lines))
+
+-- they have words, and comments of printed characters
+plain_noted : (lines : List (List (List ℕ))) (more : List Noted) → are_lines lines ≡ true → are_noted more ≡ true
+    → are_noted (plain lines ++ more) ≡ true
+plain_noted [] more h k = k
+plain_noted (ws ∷ lines) more h k =
+    and_from _ _ (and_from _ _ (both_left _ _ h) refl) (plain_noted lines more (both_right _ _ h) k)
+
+worded_noted : (s : Draft_of) (lines : List Marked) → All (MarkReads s) (marks_in lines) → notes_printed lines ≡ true
+    → are_noted (worded lines) ≡ true
+worded_noted s [] all h = refl
+worded_noted s (l ∷ lines) all h =
+    let one : MarkReads s l.mark = All-head (MarkReads s) l.mark (marks_in lines) all in
+    and_from _ _ (and_from _ _ one.line (both_left _ _ h))
+    (worded_noted s lines (All-tail (MarkReads s) l.mark (marks_in lines) all) (both_right _ _ h))
+
+plain_words : (lines : List (List (List ℕ))) → words_in (plain lines) ≡ lines
+plain_words [] = refl
+plain_words (ws ∷ lines) = ap (λ (ls : List (List (List ℕ))). ws ∷ ls) (plain_words lines)
+
+worded_words : (lines : List Marked) → words_in (worded lines) ≡ map mark_words (marks_in lines)
+worded_words [] = refl
+worded_words (l ∷ lines) = ap (λ (ls : List (List (List ℕ))). mark_words l.mark ∷ ls) (worded_words lines)
+
+all_words : (head : List (List (List ℕ))) (lines : List Marked)
+    → words_in (plain head ++ worded lines) ≡ head ++ map mark_words (marks_in lines)
+all_words head lines =
+    map-append (λ (l : Noted). l.words) (plain head) (worded lines)
+    ∙ ap (λ ls. ls ++ words_in (worded lines)) (plain_words head) ∙ ap (λ ls. head ++ ls) (worded_words lines)
+
+-- ---- marks are read one after another
+
+-- a draft with lines of a history
+abbrev drafted : Draft_of → List Line → History_draft
+drafted s lines = record { script = s; lines = lines }
+
+abbrev given : ℕ → Mark → Line
+given number m = record { number = number; said = One m }
+
+marks_from : (s : Draft_of) (n : ℕ) (before : List Line) (marks : List Mark) → All (MarkReads s) marks
+    → lines_from (drafted s before) (rows_from n (map mark_words marks)) ≡ Ok (drafted s (before ++ mark_lines n marks))
+marks_from s n before [] all = ap (λ (ls : List Line). Ok (drafted s ls)) (sym (append-nil before))
+marks_from s n before (m ∷ marks) all =
+    let one : MarkReads s m = All-head (MarkReads s) m marks all in
+    rw (one.read before n)
+    (marks_from s (n + 1) (before ++ given n m ∷ []) marks (All-tail (MarkReads s) m marks all)
+    ∙ ap (λ (ls : List Line). Ok (drafted s ls)) (append_assoc before (given n m ∷ []) (mark_lines (n + 1) marks)))
+
+-- ---- the whole
+
+-- what a script's head and lines say as a history
+abbrev history_as : List Line → Meaning → History
+history_as lines m = record { setup = m.setup; lines = lines }
+
+module _ (v : ℕ) (setup : Setting) (t : Trace) (some : 1 ≤ v) (most : v ≤ 2) (within : IsSetting setup)
+    (d : Draft_of) (head : IsHeadOf v setup some most within d) (read : draft_from no_draft (rows_from 1 (head_lines v setup)) ≡ Ok d)
+    (all : All (MarkReads d) (reverse (marks_of t))) where
+  all_in : All (MarkReads d) (marks_in (notes_of t).lines)
+  all_in = subst (All (MarkReads d)) (sym (notes_marks t)) all
+
+  abbrev lines : List Noted
+  lines = plain (head_lines v setup) ++ worded (notes_of t).lines
+
+  text_is : trace_text v setup t ≡ noted_onto lines
+  text_is =
+      ap (λ (w : Told). w.lines) (told_is (setup_lines v setup) t)
+      ∙ ap (λ ts. ts ++ marked_text (notes_of t).lines) (head_onto v setup)
+      ∙ ap (λ ts. lines_onto (head_lines v setup) [] ++ ts) (worded_onto d (notes_of t).lines all_in)
+      ∙ plain_onto (head_lines v setup) (worded (notes_of t).lines)
+
+  are : are_noted lines ≡ true
+  are = plain_noted (head_lines v setup) (worded (notes_of t).lines) (head_are_lines v setup some most within)
+      (worded_noted d (notes_of t).lines all_in (notes_are_printed t).lines)
+
+  words_are : words_in lines ≡ head_lines v setup ++ map mark_words (reverse (marks_of t))
+  words_are =
+      all_words (head_lines v setup) (notes_of t).lines
+      ∙ ap (λ (ms : List Mark). head_lines v setup ++ map mark_words ms) (notes_marks t)
+
+  draft_is : lines_from no_history (rows_from 1 (words_in lines))
+      ≡ Ok (drafted d (mark_lines (setup.cores + 6) (reverse (marks_of t))))
+  draft_is =
+      let n : 1 + length (head_lines v setup) ≡ setup.cores + 6 = omega (arith, head_length v setup within) in
+      ap (λ ls. lines_from no_history (rows_from 1 ls)) words_are
+      ∙ head_rows v setup d (map mark_words (reverse (marks_of t))) read
+      ∙ ap (λ k. lines_from (headed_draft d) (rows_from k (map mark_words (reverse (marks_of t))))) n
+      ∙ marks_from d (setup.cores + 6) [] (reverse (marks_of t)) all
+
+  pub text_read : line_count (trace_text v setup t) ≤ 20000 → history_of (trace_text v setup t) ≡ Ok (history_told setup t)
+  unfolding history_of
+  text_read few =
+      let source = noted_onto lines in
+      let scanned : IsScanned source (words_in lines) = noted_scanned lines are (subst (λ ts. line_count ts ≤ 20000) text_is few) in
+      let told : History_draft = drafted d (mark_lines (setup.cores + 6) (reverse (marks_of t))) in
+      let rows : lines_from no_history (rows_of (words_of source)) ≡ Ok told =
+      ap (λ rs. lines_from no_history rs) scanned.rows ∙ draft_is in
+      ap history_of text_is
+      ∙ ap (λ (r : Result History_draft First_fault). and_then r (λ e. history_at e (ending_of source))) rows
+      ∙ ap (λ e. history_at told e) scanned.ending
+      ∙ ap (λ (r : Result Meaning First_fault). and_then r (λ m. Ok (history_as told.lines m))) (head.ends (line_count source))
