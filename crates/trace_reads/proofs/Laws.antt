@@ -8,6 +8,7 @@ use Rattle.spk_nums.specs.Setting.{Setting, IsSetting}
 use Rattle.spk_nums.specs.declared.calls.Call.{Call}
 use Rattle.spk_nums.specs.declared.replies.Reply.{Reply}
 use Rattle.marked_laws.specs.kernel_history.specs.Trace.{Step, Trace, decisions_of}
+use Rattle.marked_laws.specs.kernel_history.specs.Legal.{IsLegal}
 use Rattle.script_reader.specs.Lines.{First_fault}
 use Rattle.script_reader.specs.Readings.{Draft_of}
 use Rattle.trace_lines.specs.script_printer.specs.Law.{IsCallWithin}
@@ -25,6 +26,7 @@ use Rattle.check_run.specs.Checked.{IsJudged}
 use Rattle.reply_reads.specs.Laws.{IsReplyWithin}
 use Rattle.reply_reads.proofs.Texts.{reply_spaced, reply_is_line}
 use Rattle.reply_reads.proofs.Reading.{reply_read}
+use Rattle.reply_reads.proofs.Legal.{decided_within}
 use Rattle.trace_reads.specs.Texts.{history_told, EntersWithin, DecidesWithin, IsStepWithin}
 use Rattle.trace_reads.specs.Laws.{MarksRead, TracesAreLegal}
 use Rattle.trace_reads.proofs.MarkLines.{MarkReads, enter_reads, decide_reads, return_reads}
@@ -94,16 +96,31 @@ marks_read v setup t is all =
 
 -- ---- and legal
 
+-- the steps of a legal trace are of cores of the machine, and decide replies in range
+legal_step : (setup : Setting) → IsSetting setup → (t : Trace) (e : Step) → IsLegal setup (e ∷ t)
+    → (o : Option Reply) → e.decides ≡ o → DecidesWithin setup.cores o
+legal_step setup lim t e legal None is = tt
+legal_step setup lim t e legal (Some r) is = decided_within setup lim t e legal r is
+
+legal_steps : (v : ℕ) (setup : Setting) → IsSetting setup → (t : Trace) → IsLegal setup t → All (λ (e : Step). EntersWithin v e.enters) t
+    → All (IsStepWithin v setup.cores) t
+legal_steps v setup lim [] legal all = All-nil (IsStepWithin v setup.cores)
+legal_steps v setup lim (e ∷ t) legal all =
+    let call : EntersWithin v e.enters = All-head (λ (e : Step). EntersWithin v e.enters) e t all in
+    All-cons (IsStepWithin v setup.cores) e t
+    (record { core = legal.1.is_core; call = call; reply = legal_step setup lim t e legal e.decides refl })
+    (legal_steps v setup lim t legal.0 (All-tail (λ (e : Step). EntersWithin v e.enters) e t all))
+
 -- what was read, or another where it is none
 abbrev history_or : History → Result History First_fault → History
 history_or other (Ok h) = h
 history_or other (Err f) = other
 
 pub traces_are_legal : TracesAreLegal
-traces_are_legal v setup t is legal all =
+traces_are_legal v setup t is legal calls =
     let n = length (decisions_of t) in
     let read : history_of (trace_text v setup t) ≡ Ok (history_told setup t) =
-    marks_read v setup t is all in
+    marks_read v setup t is (legal_steps v setup is.within t legal calls) in
     let verdict : AreLegal setup (history_told setup t).lines n =
     lines_legal setup (setup.cores + 6) (marks_of t) n (legal_marks setup t legal).history (legal_marks setup t legal).decided in
     record {

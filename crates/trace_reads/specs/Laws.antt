@@ -1,7 +1,7 @@
 -- That the text of a trace is read back, and found legal.
 use Rattle.std.specs.Prelude.{◌≡◌, ℕ, All, List, length, Ok}
 use Rattle.spk_nums.specs.Setting.{Setting}
-use Rattle.marked_laws.specs.kernel_history.specs.Trace.{Trace, decisions_of}
+use Rattle.marked_laws.specs.kernel_history.specs.Trace.{Step, Trace, decisions_of}
 use Rattle.marked_laws.specs.kernel_history.specs.Legal.{IsLegal}
 use Rattle.marked_laws.specs.marked_history.specs.declared.marks.Verdict.TheVariants.{Legal}
 use Rattle.marked_laws.specs.marked_history.specs.Verdicts.{IsVerdict}
@@ -9,7 +9,7 @@ use Rattle.trace_lines.specs.Traces.{trace_text}
 use Rattle.check_run.specs.history_reader.specs.Inputs.{history_of}
 use Rattle.check_run.specs.Texts.{verdict_text}
 use Rattle.check_run.specs.Checked.{IsChecked}
-use Rattle.trace_reads.specs.Texts.{history_told, IsStepWithin, IsTextOf}
+use Rattle.trace_reads.specs.Texts.{history_told, EntersWithin, IsStepWithin, IsTextOf}
 
 -- The text of each trace whose steps are in range is read as its marks.
 abbrev pub MarksRead : Type 0
@@ -23,7 +23,7 @@ pub record IsFoundLegal (version : ℕ) (setup : Setting) (t : Trace) (decided :
   pub checked : IsChecked (trace_text version setup t) (verdict_text (Legal decided))
   pub alone : (written : List ℕ) → IsChecked (trace_text version setup t) written → written ≡ verdict_text (Legal decided)
 
--- The text of each legal trace whose calls and replies are in range is found legal, with as many decisions as the trace has.
+-- The text of each legal trace whose calls are in range is found legal, with as many decisions as the trace has.
 abbrev pub TracesAreLegal : Type 0
 TracesAreLegal = (version : ℕ) (setup : Setting) (t : Trace) → IsTextOf version setup t → IsLegal setup t
-    → All (IsStepWithin version setup.cores) t → IsFoundLegal version setup t (length (decisions_of t))
+    → All (λ (e : Step). EntersWithin version e.enters) t → IsFoundLegal version setup t (length (decisions_of t))

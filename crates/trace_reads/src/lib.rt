@@ -3,8 +3,8 @@
 //! **Read back.** The text of a trace says its setup and its marks, one a line, in order: the steps stand in comments, which have no
 //! words. So it is read where the trace's calls, replies and cores are in the ranges in which they are read, and the lines are few.
 //!
-//! **Found legal.** The marks of a legal trace are a history. So what `check` finds of such a text of one is `legal` and the number of the
-//! trace's decisions, and it can find nothing else.
+//! **Found legal.** The marks of a legal trace are a history, and its replies and cores are in those ranges. So what `check` finds of
+//! such a text is `legal` and the number of the trace's decisions, and it can find nothing else.
 //!
 //! See docs/TRACES.md, 'The marks alone', and docs/MODEL.md, 'A given history'.
 #![tactic(auto)]
@@ -17,7 +17,7 @@ pub fn marks_read()
     ensures { MarksRead }
 {}
 
-/// The text of each legal trace whose calls and replies are in range has the verdict `legal` with the trace's decisions, and no other.
+/// The text of each legal trace whose calls are in range has the verdict `legal` with the trace's decisions, and no other.
 #[tactic(auto)]
 pub fn traces_are_legal()
     ensures { TracesAreLegal }
