@@ -1,6 +1,7 @@
 -- Where a call stands that makes a step after its look-ups, and what a step leads to that ends a scan or the acquiring of a count.
 use Rattle.std.specs.Prelude.{ℕ, ◌+◌, length, Option, Some, None}
 use Rattle.stage_pins.specs.declared.pin.Pinned.{Pinned}
+use Rattle.stage_pins.specs.declared.held.Acquired.{Acquired}
 use Rattle.act_states.specs.declared.own.Own.{Own}
 use Rattle.act_states.specs.declared.refusals.Refusal.{Refusal}
 use Rattle.act_states.specs.declared.refusals.Refusal.TheVariants.{Raced}
@@ -10,15 +11,16 @@ use Rattle.spk_nums.specs.declared.steps.StageEnd.TheVariants as ends
 use Rattle.stage_look.specs.declared.look.Found.{Found}
 use Rattle.call_plans.specs.After.{next_of}
 use Rattle.act_states.specs.Refusals.{refusal_of}
-use Rattle.act_states.specs.declared.work.Act.TheVariants.{Share}
-use Rattle.act_states.specs.declared.work.Work.TheVariants.{Scan, Acquire, Act}
+use Rattle.act_states.specs.declared.work.Act.TheVariants.{Invoke, Remove, Return, Share, Switch, Tick}
+use Rattle.act_states.specs.declared.work.Tail.TheVariants.{Share as share_tail}
+use Rattle.act_states.specs.declared.work.Work.TheVariants.{Lookup, Read, Scan, Acquire, Act}
 use Rattle.act_states.specs.declared.work.WorkStep.TheVariants.{Acquires}
 use Rattle.act_states.specs.WorkSteps.{refuse}
 use Rattle.act_states.specs.Acts.{next_work, starts}
 use Rattle.act_states.specs.Shares.{took_shared}
 use Rattle.call_stages.specs.declared.stages.ActiveCall.{ActiveCall}
 use Rattle.call_stages.specs.declared.stages.Stage.{Stage}
-use Rattle.call_stages.specs.declared.stages.Stage.TheVariants.{Undecided, Decided}
+use Rattle.call_stages.specs.declared.stages.Stage.TheVariants.{Living, Undecided, Decided}
 use Rattle.call_stages.specs.Steps.{Took, GoesOn, went, landed, next_by, took_found, gives_up}
 
 -- the call makes its act
@@ -30,6 +32,41 @@ IsActing _ = ⊥
 abbrev pub IsSharing : Stage → Type 0
 IsSharing (Undecided (Act (Share p))) = Unit {0}
 IsSharing _ = ⊥
+
+-- it makes an act of another kind
+abbrev pub IsRemoving : Stage → Type 0
+IsRemoving (Undecided (Act (Remove close cap))) = Unit {0}
+IsRemoving _ = ⊥
+
+abbrev pub IsTicking : Stage → Type 0
+IsTicking (Undecided (Act (Tick charge))) = Unit {0}
+IsTicking _ = ⊥
+
+abbrev pub IsInvoking : Stage → Type 0
+IsInvoking (Undecided (Act (Invoke m))) = Unit {0}
+IsInvoking _ = ⊥
+
+abbrev pub IsReturning : Stage → Type 0
+IsReturning (Undecided (Act (Return m))) = Unit {0}
+IsReturning _ = ⊥
+
+abbrev pub IsSwitching : Stage → Type 0
+IsSwitching (Undecided (Act (Switch m))) = Unit {0}
+IsSwitching _ = ⊥
+
+-- it is asked whether its core's component lives
+abbrev pub IsAsking : Stage → Type 0
+IsAsking (Living alive) = Unit {0}
+IsAsking _ = ⊥
+
+-- a place is looked up, or the word of a component is loaded before
+abbrev pub IsLooking : Stage → Type 0
+IsLooking (Undecided (Lookup look)) = Unit {0}
+IsLooking _ = ⊥
+
+abbrev pub IsReading : Stage → Type 0
+IsReading (Undecided (Read comp look)) = Unit {0}
+IsReading _ = ⊥
 
 -- the other cores are scanned for it
 abbrev pub IsScanning : Stage → Type 0
@@ -45,6 +82,11 @@ IsAcquiring _ = ⊥
 abbrev pub IsStoring : Stage → Type 0
 IsStoring (Decided r drawn tail) = Unit {0}
 IsStoring _ = ⊥
+
+-- it is decided, and has words of two temporal capabilities to store
+abbrev pub IsStoringShare : Stage → Type 0
+IsStoringShare (Decided r drawn (share_tail p)) = Unit {0}
+IsStoringShare _ = ⊥
 
 -- what a call takes from a step of a look-up, which stands here after it
 abbrev pub looked_to : Own → ActiveCall → StageEnd Found → Took
@@ -75,6 +117,11 @@ abbrev pub counted : Own → ActiveCall → Stage → Pinned → Took
 counted own a (Undecided (Acquire pin change act)) p =
     landed a (Acquires (record { pin = p; change = change }) (next_work own.core (length a.counts + 1) act))
 counted own a _ p = landed a (refuse Raced)
+
+-- the same, by how much the call changes it being known
+abbrev pub counted_to : Own → ActiveCall → Stage → Acquired → Took
+counted_to own a (Undecided (Acquire pin change act)) count = landed a (Acquires count (next_work own.core (length a.counts + 1) act))
+counted_to own a _ count = landed a (refuse Raced)
 
 -- a call that does not acquire a count is refused, with what it has then still to store
 abbrev pub given_up : ActiveCall → Stage → Refusal → Took

@@ -1,63 +1,33 @@
-//! The steps of a call after its look-ups, each in its place.
+//! The steps of acts, each in its place.
 //!
-//! **In place.** A step changes where the call's act, its scan, the acquiring of a count or its next store stands, and the number of its
-//! steps. The small `StageEnd` that it leads to says whether that is all.
+//! **In place.** A step changes where the call's act stands, and the number of its steps. The small `StageEnd` that it leads to says whether
+//! that is all.
 //!
-//! **What is wide.** A step that ends one of these leads to a `WorkStep`, which holds a whole act. It is built in functions that are never
-//! inlined, since a function makes room on the stack for all that it may build, and clears it, at each of its calls.
+//! **Apart.** A function makes room on the stack for all that it may build, and clears it, at each of its calls. So the step of each act
+//! that builds something stands in a function of its own, which is never inlined, and the one that chooses among them builds nothing.
 
 ghost use Rattle.std.specs.Prelude.{◌≡◌, ◌<◌, ◌≤◌, None};
 ghost use Rattle.call_stages.specs.Steps.{landed, took, told, call_after};
-ghost use Rattle.call_stages.specs.Fits.{StageFits, IsLater};
+ghost use Rattle.call_stages.specs.Fits.{StageFits};
 ghost use Rattle.act_states.specs.Shares.{shared};
 ghost use Rattle.act_states.specs.WorkSteps.{refuse};
 ghost use Rattle.act_states.specs.declared.work.WorkStep.TheVariants.{Answers};
 ghost use Rattle.spk_nums.specs.declared.replies.Value.TheVariants.{Nothing};
-ghost use Rattle.call_steps.specs.Stepping.{IsActing, IsSharing, IsScanning, IsAcquiring, IsStoring};
-ghost use Rattle.call_steps.specs.Stepping.{shared_to, scanned, counted, given_up};
+ghost use Rattle.call_steps.specs.Stepping.{IsActing, IsRemoving, IsTicking, IsSharing, shared_to};
 
-use crate::steps::{decide, go_on, goes_on, has_read, land, refused};
-use crate::tails::{commits, stamp_of, took_tail};
+use crate::ends::{charged, flushed, invoke_ends, removed, return_ends, stays_owed, switch_ends};
+use crate::steps::{decide, goes_on, land, refused};
+use crate::values::ticks_of;
 use act_states::{Act, Own, Refusal, Tail, Work};
-use call_acts::{act_moves, act_took, next_work, starts, undo};
+use call_acts::{act_moves, act_took};
 use call_stages::{ActiveCall, Stage, Told};
-use frame_words::CompWord;
 use spk_nums::{Reply, StageEnd, Value};
-use stage_pins::{Acquired, Pinned};
 use stage_tcap::Pair;
 
-/// The step of a call after its look-ups. It stands apart, so that a step of a look-up, which most are, has no room on the stack for what
-/// comes later.
-#[inline(never)]
-#[tactic(auto, using(crate::proofs::Staged::told_from, crate::proofs::Staged::call_from))]
-pub(crate) fn absorb_later(active: &mut ActiveCall, own: &Own, found: u64, tells: &mut Told)
-    requires core { own.now.core < own.now.layout.cores }
-    requires cores { own.now.layout.cores ≤ 8 }
-    requires fits { StageFits own.now.layout active.old.stage }
-    requires later { IsLater active.old.stage }
-    requires few { active.old.steps < 1000 }
-    requires going { tells.old ≡ Told.Going }
-    ensures told { tells.new ≡ told (took own.now active.old found) }
-    ensures after { active.new ≡ call_after active.old (took own.now active.old found) }
-{
-    match &mut active.stage {
-        Stage::Undecided {
-            work: Work::Act { act },
-        } => match act {
-            Act::Share { pair } => match pair.take(&own.layout, found) {
-                StageEnd::Going => goes_on(active),
-                end => share_ends(active, &end, tells),
-            },
-            _ => act_step(active, own, found, tells),
-        },
-        _ => absorb_other(active, own, found, tells),
-    }
-}
-
-// A step of the call's act: one by which the place of its target is filled, one that is made in the act's place, or another.
+/// A step of the call's act.
 #[inline]
 #[tactic(auto, using(crate::proofs::Staged::told_from, crate::proofs::Staged::call_from))]
-fn act_step(active: &mut ActiveCall, own: &Own, found: u64, tells: &mut Told)
+pub(crate) fn act_step(active: &mut ActiveCall, own: &Own, found: u64, tells: &mut Told)
     requires fits { StageFits own.now.layout active.old.stage }
     requires acting { IsActing active.old.stage }
     requires few { active.old.steps < 1000 }
@@ -75,13 +45,14 @@ fn act_step(active: &mut ActiveCall, own: &Own, found: u64, tells: &mut Told)
                         refused_late(active, Refusal::Raced, tells)
                     }
                 }
-                _ => {
-                    if act_moves(act, &own.layout, found) {
-                        goes_on(active)
-                    } else {
-                        act_lands(active, own, found, tells)
-                    }
+                Act::Remove { close: _, cap: _ } => remove_step(active, own, found, tells),
+                Act::Tick { charge: _ } => tick_step(active, own, found, tells),
+                Act::Flush { core } => {
+                    let core = *core;
+                    flushed(active, own, core, found, tells)
                 }
+                Act::Share { pair: _ } => share_step(active, own, found, tells),
+                _ => other_step(active, own, found, tells),
             },
             Work::Lookup { .. } | Work::Read { .. } | Work::Scan { .. } | Work::Acquire { .. } =>
                 unreachable!(),
@@ -91,54 +62,156 @@ fn act_step(active: &mut ActiveCall, own: &Own, found: u64, tells: &mut Told)
     }
 }
 
-// The step of a call that makes no step of its act.
-#[inline]
+// A step of a removal.
+#[inline(never)]
 #[tactic(auto, using(crate::proofs::Staged::told_from, crate::proofs::Staged::call_from))]
-fn absorb_other(active: &mut ActiveCall, own: &Own, found: u64, tells: &mut Told)
-    requires core { own.now.core < own.now.layout.cores }
-    requires cores { own.now.layout.cores ≤ 8 }
+fn remove_step(active: &mut ActiveCall, own: &Own, found: u64, tells: &mut Told)
     requires fits { StageFits own.now.layout active.old.stage }
-    requires later { IsLater active.old.stage }
+    requires removes { IsRemoving active.old.stage }
     requires few { active.old.steps < 1000 }
     requires going { tells.old ≡ Told.Going }
     ensures told { tells.new ≡ told (took own.now active.old found) }
     ensures after { active.new ≡ call_after active.old (took own.now active.old found) }
 {
     match &mut active.stage {
-        Stage::Enter | Stage::Living { .. } => unreachable!(),
         Stage::Undecided { work } => match work {
-            Work::Lookup { look: _ } => unreachable!(),
-            Work::Read { comp: _, look } => {
-                let look = *look;
-                has_read(active, look, CompWord::unpack(found), tells)
-            }
-            Work::Scan { quiet, act: _ } => match quiet.take(&own.layout, found) {
-                StageEnd::Going => goes_on(active),
-                StageEnd::Decided(reply) => refused_late(active, Refusal::of(&reply), tells),
-                StageEnd::Done(_) => starts_act(active, own, tells),
-                StageEnd::Refuse(reply) => refused_late(active, Refusal::of(&reply), tells),
+            Work::Act { act } => match act {
+                Act::Remove { close, cap: _ } => match close.take(&own.layout, found) {
+                    StageEnd::Going => goes_on(active),
+                    StageEnd::Decided(_) => {
+                        let close = *close;
+                        removed(active, &close, tells)
+                    }
+                    StageEnd::Done(_) => refused_late(active, Refusal::Raced, tells),
+                    StageEnd::Refuse(reply) => refused_late(active, Refusal::of(&reply), tells),
+                },
+                _ => unreachable!(),
             },
-            Work::Acquire { pin, .. } => match pin.take(&own.layout, found) {
-                StageEnd::Going => goes_on(active),
-                StageEnd::Decided(reply) => gives_up(active, Refusal::of(&reply), tells),
-                StageEnd::Done(pin) => acquires(active, own, &pin),
-                StageEnd::Refuse(reply) => gives_up(active, Refusal::of(&reply), tells),
-            },
-            Work::Act { act: _ } => act_lands(active, own, found, tells),
+            Work::Lookup { .. } | Work::Read { .. } | Work::Scan { .. } | Work::Acquire { .. } =>
+                unreachable!(),
         },
-        Stage::Decided { .. } => store(active, own, found),
-        Stage::Leave { reply, stamp } => {
-            *tells = Told::Returned {
-                reply: *reply,
-                stamp: *stamp,
-            };
-        }
+        Stage::Enter | Stage::Living { .. } | Stage::Decided { .. } | Stage::Leave { .. } =>
+            unreachable!(),
     }
 }
 
-// A step of the call's act, after which the same act does not go on, or of an act whose steps are not made in its place.
+// A step of a tick.
 #[inline(never)]
-fn act_lands(active: &mut ActiveCall, own: &Own, found: u64, tells: &mut Told)
+#[tactic(auto, using(crate::proofs::Staged::told_from, crate::proofs::Staged::call_from))]
+fn tick_step(active: &mut ActiveCall, own: &Own, found: u64, tells: &mut Told)
+    requires fits { StageFits own.now.layout active.old.stage }
+    requires ticks { IsTicking active.old.stage }
+    requires few { active.old.steps < 1000 }
+    requires going { tells.old ≡ Told.Going }
+    ensures told { tells.new ≡ told (took own.now active.old found) }
+    ensures after { active.new ≡ call_after active.old (took own.now active.old found) }
+{
+    match &mut active.stage {
+        Stage::Undecided { work } => match work {
+            Work::Act { act } => match act {
+                Act::Tick { charge } => {
+                    let due = ticks_of(charge);
+                    match charge.take(&own.layout, found) {
+                        StageEnd::Going => goes_on(active),
+                        StageEnd::Decided(reply) => stays_owed(active, due, &reply, tells),
+                        StageEnd::Done(value) => charged(active, due, &value, tells),
+                        StageEnd::Refuse(reply) => stays_owed(active, due, &reply, tells),
+                    }
+                }
+                _ => unreachable!(),
+            },
+            Work::Lookup { .. } | Work::Read { .. } | Work::Scan { .. } | Work::Acquire { .. } =>
+                unreachable!(),
+        },
+        Stage::Enter | Stage::Living { .. } | Stage::Decided { .. } | Stage::Leave { .. } =>
+            unreachable!(),
+    }
+}
+
+// A step of a call on two temporal capabilities.
+#[inline(never)]
+#[tactic(auto, using(crate::proofs::Staged::told_from, crate::proofs::Staged::call_from))]
+fn share_step(active: &mut ActiveCall, own: &Own, found: u64, tells: &mut Told)
+    requires fits { StageFits own.now.layout active.old.stage }
+    requires shares { IsSharing active.old.stage }
+    requires few { active.old.steps < 1000 }
+    requires going { tells.old ≡ Told.Going }
+    ensures told { tells.new ≡ told (took own.now active.old found) }
+    ensures after { active.new ≡ call_after active.old (took own.now active.old found) }
+{
+    match &mut active.stage {
+        Stage::Undecided { work } => match work {
+            Work::Act { act } => match act {
+                Act::Share { pair } => match pair.take(&own.layout, found) {
+                    StageEnd::Going => goes_on(active),
+                    end => share_ends(active, &end, tells),
+                },
+                _ => unreachable!(),
+            },
+            Work::Lookup { .. } | Work::Read { .. } | Work::Scan { .. } | Work::Acquire { .. } =>
+                unreachable!(),
+        },
+        Stage::Enter | Stage::Living { .. } | Stage::Decided { .. } | Stage::Leave { .. } =>
+            unreachable!(),
+    }
+}
+
+// A step of another act.
+#[inline(never)]
+fn other_step(active: &mut ActiveCall, own: &Own, found: u64, tells: &mut Told)
+    requires fits { StageFits own.now.layout active.old.stage }
+    requires acting { IsActing active.old.stage }
+    requires few { active.old.steps < 1000 }
+    requires going { tells.old ≡ Told.Going }
+    ensures told { tells.new ≡ told (took own.now active.old found) }
+    ensures after { active.new ≡ call_after active.old (took own.now active.old found) }
+{
+    match &mut active.stage {
+        Stage::Undecided { work } => match work {
+            Work::Act { act } => {
+                if act_moves(act, &own.layout, found) {
+                    goes_on(active)
+                } else {
+                    act_ends(active, own, found, tells)
+                }
+            }
+            Work::Lookup { .. } | Work::Read { .. } | Work::Scan { .. } | Work::Acquire { .. } =>
+                unreachable!(),
+        },
+        Stage::Enter | Stage::Living { .. } | Stage::Decided { .. } | Stage::Leave { .. } =>
+            unreachable!(),
+    }
+}
+
+// A step of the call's act, after which the same act does not go on: one that ends in its place, or another.
+#[inline]
+fn act_ends(active: &mut ActiveCall, own: &Own, found: u64, tells: &mut Told)
+    requires fits { StageFits own.now.layout active.old.stage }
+    requires acting { IsActing active.old.stage }
+    requires few { active.old.steps < 1000 }
+    requires going { tells.old ≡ Told.Going }
+    ensures told { tells.new ≡ told (took own.now active.old found) }
+    ensures after { active.new ≡ call_after active.old (took own.now active.old found) }
+{
+    match &active.stage {
+        Stage::Undecided { work } => match work {
+            Work::Act { act } => match act {
+                Act::Invoke { invoking: _ } => invoke_ends(active, own, found, tells),
+                Act::Return { returning: _ } => return_ends(active, own, found, tells),
+                Act::Switch { switching: _ } => switch_ends(active, own, found, tells),
+                _ => act_lands(active, own, found, tells),
+            },
+            Work::Lookup { .. } | Work::Read { .. } | Work::Scan { .. } | Work::Acquire { .. } =>
+                unreachable!(),
+        },
+        Stage::Enter | Stage::Living { .. } | Stage::Decided { .. } | Stage::Leave { .. } =>
+            unreachable!(),
+    }
+}
+
+/// A step of the call's act, after which the same act does not go on, or of an act whose steps are not made in its place.
+#[inline(never)]
+pub(crate) fn act_lands(active: &mut ActiveCall, own: &Own, found: u64, tells: &mut Told)
     requires fits { StageFits own.now.layout active.old.stage }
     requires acting { IsActing active.old.stage }
     requires few { active.old.steps < 1000 }
@@ -223,166 +296,13 @@ fn carried_out(active: &mut ActiveCall, tells: &mut Told)
     )
 }
 
-// The call is refused, with nothing to store.
+/// The call is refused, with nothing to store.
 #[inline(never)]
-fn refused_late(active: &mut ActiveCall, refusal: Refusal, tells: &mut Told)
+pub(crate) fn refused_late(active: &mut ActiveCall, refusal: Refusal, tells: &mut Told)
     requires few { active.old.steps < 1000 }
     requires going { tells.old ≡ Told.Going }
     ensures told { tells.new ≡ told (landed active.old (refuse refusal)) }
     ensures after { active.new ≡ call_after active.old (landed active.old (refuse refusal)) }
 {
     refused(active, refusal, tells)
-}
-
-// The act of a call starts whose scan is done.
-#[inline(never)]
-fn starts_act(active: &mut ActiveCall, own: &Own, tells: &mut Told)
-    requires scans { IsScanning active.old.stage }
-    requires few { active.old.steps < 1000 }
-    requires going { tells.old ≡ Told.Going }
-    ensures told { tells.new ≡ told (scanned own.now active.old active.old.stage) }
-    ensures after { active.new ≡ call_after active.old (scanned own.now active.old active.old.stage) }
-{
-    match &active.stage {
-        Stage::Undecided { work } => match work {
-            Work::Scan { quiet: _, act } => {
-                let step = starts(own.core, act);
-                land(active, &step, tells)
-            }
-            Work::Lookup { .. } | Work::Read { .. } | Work::Acquire { .. } | Work::Act { .. } =>
-                unreachable!(),
-        },
-        Stage::Enter | Stage::Living { .. } | Stage::Decided { .. } | Stage::Leave { .. } =>
-            unreachable!(),
-    }
-}
-
-// The call has acquired a count, and goes on to the next, or to its act.
-#[inline(never)]
-fn acquires(active: &mut ActiveCall, own: &Own, pin: &Pinned)
-    requires acquires { IsAcquiring active.old.stage }
-    requires few { active.old.steps < 1000 }
-    ensures told { told (counted own.now active.old active.old.stage pin.now) ≡ Told.Going }
-    ensures after { active.new ≡ call_after active.old (counted own.now active.old active.old.stage pin.now) }
-{
-    match &active.stage {
-        Stage::Undecided { work } => match work {
-            Work::Acquire {
-                pin: _,
-                change,
-                act,
-            } => {
-                let count = Acquired {
-                    pin: *pin,
-                    change: *change,
-                };
-                let work = next_work(own.core, active.counts.count() + 1, act);
-                active.counts.push(count);
-                go_on(active, Stage::Undecided { work });
-            }
-            Work::Lookup { .. } | Work::Read { .. } | Work::Scan { .. } | Work::Act { .. } =>
-                unreachable!(),
-        },
-        Stage::Enter | Stage::Living { .. } | Stage::Decided { .. } | Stage::Leave { .. } =>
-            unreachable!(),
-    }
-}
-
-// The call does not acquire a count, and is refused, with what it has then still to store.
-#[inline(never)]
-fn gives_up(active: &mut ActiveCall, refusal: Refusal, tells: &mut Told)
-    requires acquires { IsAcquiring active.old.stage }
-    requires few { active.old.steps < 1000 }
-    requires going { tells.old ≡ Told.Going }
-    ensures told { tells.new ≡ told (given_up active.old active.old.stage refusal) }
-    ensures after { active.new ≡ call_after active.old (given_up active.old active.old.stage refusal) }
-{
-    match &active.stage {
-        Stage::Undecided { work } => match work {
-            Work::Acquire {
-                pin: _,
-                change: _,
-                act,
-            } => {
-                let tail = undo(act);
-                decide(active, &refusal.reply(), None, &tail, tells)
-            }
-            Work::Lookup { .. } | Work::Read { .. } | Work::Scan { .. } | Work::Act { .. } =>
-                unreachable!(),
-        },
-        Stage::Enter | Stage::Living { .. } | Stage::Decided { .. } | Stage::Leave { .. } =>
-            unreachable!(),
-    }
-}
-
-// A step of a call that is decided: a store, a commit, or the load of the clock.
-#[inline]
-fn store(active: &mut ActiveCall, own: &Own, found: u64)
-    requires fits { StageFits own.now.layout active.old.stage }
-    requires decided { IsStoring active.old.stage }
-    requires few { active.old.steps < 1000 }
-    ensures told { told (took own.now active.old found) ≡ Told.Going }
-    ensures after { active.new ≡ call_after active.old (took own.now active.old found) }
-{
-    match &mut active.stage {
-        Stage::Decided {
-            reply,
-            drawn: _,
-            tail,
-        } => match tail {
-            Tail::Nothing => match active.counts.first() {
-                None => {
-                    let reply = *reply;
-                    go_on(
-                        active,
-                        Stage::Leave {
-                            reply,
-                            stamp: stamp_of(found),
-                        },
-                    );
-                }
-                Some(_) => {
-                    active.counts.pop();
-                    goes_on(active)
-                }
-            },
-            Tail::Share { pair } => match pair.take(&own.layout, found) {
-                StageEnd::Going => goes_on(active),
-                _ => {
-                    *tail = Tail::Nothing;
-                    goes_on(active)
-                }
-            },
-            Tail::Quiesce { close: _ } | Tail::Unmark { frame: _, word: _ } => {
-                *tail = Tail::Nothing;
-                goes_on(active)
-            }
-            _ => store_other(active, own, found),
-        },
-        Stage::Enter | Stage::Living { .. } | Stage::Undecided { .. } | Stage::Leave { .. } =>
-            unreachable!(),
-    }
-}
-
-// A store of a call that is decided, after which another may come.
-#[inline(never)]
-fn store_other(active: &mut ActiveCall, own: &Own, found: u64)
-    requires fits { StageFits own.now.layout active.old.stage }
-    requires decided { IsStoring active.old.stage }
-    requires few { active.old.steps < 1000 }
-    ensures told { told (took own.now active.old found) ≡ Told.Going }
-    ensures after { active.new ≡ call_after active.old (took own.now active.old found) }
-{
-    match &active.stage {
-        Stage::Decided { reply, drawn, tail } => {
-            let (reply, drawn, tail) = (*reply, *drawn, *tail);
-            let stage = took_tail(reply, drawn, &tail, &active.counts, &own.layout, found);
-            if commits(&tail) {
-                active.counts.pop();
-            }
-            go_on(active, stage);
-        }
-        Stage::Enter | Stage::Living { .. } | Stage::Undecided { .. } | Stage::Leave { .. } =>
-            unreachable!(),
-    }
 }

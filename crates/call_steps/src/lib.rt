@@ -33,10 +33,14 @@
 #![tactic(auto)]
 
 mod core_state;
+mod counts;
+mod ends;
 #[cfg(test)]
 mod invoke_tests;
 mod later;
+mod starts;
 mod steps;
+mod stores;
 #[cfg(test)]
 mod switch_tests;
 mod tails;
@@ -44,6 +48,7 @@ mod tails;
 mod tests;
 #[cfg(test)]
 mod untype_tests;
+mod values;
 
 pub use call_stages::Absorbed;
 pub use core_state::CoreState;

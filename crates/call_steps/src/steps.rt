@@ -12,7 +12,7 @@ ghost use Rattle.call_stages.specs.Steps.{landed, next_by, took_enter, took_foun
 ghost use Rattle.call_stages.specs.Steps.{is_last, decides_at_name, work_ready, is_ready, is_spent, named_one, decided, Changes};
 ghost use Rattle.call_stages.specs.Fits.{WorkFits, StageFits};
 ghost use Rattle.call_stages.specs.declared.stages.Stage.TheVariants.{Decided};
-ghost use Rattle.call_steps.specs.Stepping.{looked_to, asked_to};
+ghost use Rattle.call_steps.specs.Stepping.{IsAsking, IsLooking, IsReading, looked_to, asked_to};
 ghost use Rattle.call_plans.specs.GoesBy.{place_of_spot};
 ghost use Rattle.act_states.specs.WorkSteps.{refuse};
 ghost use Rattle.act_states.specs.Acts.{act_begun, looked as answered, reads_of};
@@ -23,12 +23,13 @@ ghost use Rattle.act_states.specs.Touches.{touches};
 ghost use Rattle.act_states.specs.declared.work.WorkStep.TheVariants.{Goes};
 ghost use Rattle.act_states.specs.declared.work.Work.TheVariants.{Lookup, Read};
 
-use crate::later::absorb_later;
+use crate::counts::{acquire_step, scan_step};
+use crate::later::act_step;
+use crate::starts::{act_begins, found_free, found_held};
+use crate::stores::store;
 use crate::tails::tail_op;
 use act_states::{Met, Own, OwnChange, Refusal, Tail, Work, WorkStep};
-use call_acts::{
-    act_op, act_ready, begin_act, begin_touch, frame_of, met_free, met_held, met_name, reads_of,
-};
+use call_acts::{act_op, act_ready, begin_touch, frame_of, met_name, reads_of};
 use call_plans::{Decides, Next, Nth, Spot};
 use call_stages::{ActiveCall, Stage, Told};
 use frame_words::{CompWord, CoreWord};
@@ -159,7 +160,7 @@ fn work_ready(active: &ActiveCall, work: &Work) -> bool
 /// and only in what the step changes. One that returns stays as it was. What the step led to is told where it said before that the call
 /// goes on.
 #[inline]
-#[tactic(auto, using(crate::proofs::Staged::told_looked, crate::proofs::Staged::call_looked, crate::proofs::Staged::told_asked, crate::proofs::Staged::call_asked))]
+#[tactic(auto, using(crate::proofs::Staged::told_from, crate::proofs::Staged::call_from))]
 pub fn absorb(active: &mut ActiveCall, own: &Own, found: u64, tells: &mut Told)
     requires core { own.now.core < own.now.layout.cores }
     requires cores { own.now.layout.cores ≤ 8 }
@@ -171,27 +172,100 @@ pub fn absorb(active: &mut ActiveCall, own: &Own, found: u64, tells: &mut Told)
 {
     match &mut active.stage {
         Stage::Enter => enter(active, own.limit <= own.made, own, tells),
+        Stage::Living { alive: _ } => ask(active, own, found, tells),
+        Stage::Undecided { work } => match work {
+            Work::Lookup { look: _ } => look_up(active, own, found, tells),
+            Work::Read { comp: _, look: _ } => read(active, own, found, tells),
+            Work::Scan { quiet: _, act: _ } => scan_step(active, own, found, tells),
+            Work::Acquire { .. } => acquire_step(active, own, found, tells),
+            Work::Act { act: _ } => act_step(active, own, found, tells),
+        },
+        Stage::Decided { .. } => store(active, own, found),
+        Stage::Leave { reply, stamp } => {
+            *tells = Told::Returned {
+                reply: *reply,
+                stamp: *stamp,
+            };
+        }
+    }
+}
+
+// A step of the question whether the core's component lives.
+#[inline(never)]
+#[tactic(auto, using(crate::proofs::Staged::told_asked, crate::proofs::Staged::call_asked))]
+fn ask(active: &mut ActiveCall, own: &Own, found: u64, tells: &mut Told)
+    requires core { own.now.core < own.now.layout.cores }
+    requires cores { own.now.layout.cores ≤ 8 }
+    requires fits { StageFits own.now.layout active.old.stage }
+    requires asks { IsAsking active.old.stage }
+    requires few { active.old.steps < 1000 }
+    requires going { tells.old ≡ Told.Going }
+    ensures told { tells.new ≡ told (took own.now active.old found) }
+    ensures after { active.new ≡ call_after active.old (took own.now active.old found) }
+{
+    match &mut active.stage {
         Stage::Living { alive } => match alive.take(&own.layout, found) {
             StageEnd::Going => goes_on(active),
             end => asked(active, own, &end, tells),
         },
+        Stage::Enter | Stage::Undecided { .. } | Stage::Decided { .. } | Stage::Leave { .. } =>
+            unreachable!(),
+    }
+}
+
+// A step of a look-up.
+#[inline(never)]
+#[tactic(auto, using(crate::proofs::Staged::told_looked, crate::proofs::Staged::call_looked))]
+fn look_up(active: &mut ActiveCall, own: &Own, found: u64, tells: &mut Told)
+    requires core { own.now.core < own.now.layout.cores }
+    requires cores { own.now.layout.cores ≤ 8 }
+    requires fits { StageFits own.now.layout active.old.stage }
+    requires looks { IsLooking active.old.stage }
+    requires few { active.old.steps < 1000 }
+    requires going { tells.old ≡ Told.Going }
+    ensures told { tells.new ≡ told (took own.now active.old found) }
+    ensures after { active.new ≡ call_after active.old (took own.now active.old found) }
+{
+    match &mut active.stage {
         Stage::Undecided { work } => match work {
             Work::Lookup { look } => match look.take(&own.layout, found) {
                 StageEnd::Going => goes_on(active),
                 end => looked(active, own, &end, tells),
             },
-            Work::Read { comp: _, look: _ } => absorb_later(active, own, found, tells),
-            Work::Scan { quiet: _, act: _ } => absorb_later(active, own, found, tells),
-            Work::Acquire { .. } => absorb_later(active, own, found, tells),
-            Work::Act { act: _ } => absorb_later(active, own, found, tells),
+            Work::Read { .. } | Work::Scan { .. } | Work::Acquire { .. } | Work::Act { .. } =>
+                unreachable!(),
         },
-        Stage::Decided { .. } => absorb_later(active, own, found, tells),
-        Stage::Leave { .. } => absorb_later(active, own, found, tells),
+        Stage::Enter | Stage::Living { .. } | Stage::Decided { .. } | Stage::Leave { .. } =>
+            unreachable!(),
+    }
+}
+
+// The load of a component's word before a look-up.
+#[inline(never)]
+fn read(active: &mut ActiveCall, own: &Own, found: u64, tells: &mut Told)
+    requires reads { IsReading active.old.stage }
+    requires few { active.old.steps < 1000 }
+    requires going { tells.old ≡ Told.Going }
+    ensures told { tells.new ≡ told (took own.now active.old found) }
+    ensures after { active.new ≡ call_after active.old (took own.now active.old found) }
+{
+    let _own = own;
+    match &active.stage {
+        Stage::Undecided { work } => match work {
+            Work::Read { comp: _, look } => {
+                let look = *look;
+                has_read(active, look, CompWord::unpack(found), tells)
+            }
+            Work::Lookup { .. } | Work::Scan { .. } | Work::Acquire { .. } | Work::Act { .. } =>
+                unreachable!(),
+        },
+        Stage::Enter | Stage::Living { .. } | Stage::Decided { .. } | Stage::Leave { .. } =>
+            unreachable!(),
     }
 }
 
 // The first step of a call.
-#[inline]
+#[inline(never)]
 fn enter(active: &mut ActiveCall, spent: bool, own: &Own, tells: &mut Told)
     requires core { own.now.core < own.now.layout.cores }
     requires cores { own.now.layout.cores ≤ 8 }
@@ -308,37 +382,6 @@ fn named_one(active: &mut ActiveCall, own: &Own, met: &Met, tells: &mut Told)
     }
 }
 
-// The place of a target that is to be free was found.
-#[inline(never)]
-fn found_free(active: &mut ActiveCall, own: &Own, found: &Found, tells: &mut Told)
-    requires core { own.now.core < own.now.layout.cores }
-    requires cores { own.now.layout.cores ≤ 8 }
-    requires few { active.old.steps < 1000 }
-    requires going { tells.old ≡ Told.Going }
-    ensures told { tells.new
-        ≡ told (landed active.old (met_free own.now active.old.call active.old.found active.old.read found.now found.now.value)) }
-    ensures after { active.new ≡ call_after active.old
-        (landed active.old (met_free own.now active.old.call active.old.found active.old.read found.now found.now.value)) }
-{
-    let step = met_free(own, &active.call, &active.found, active.read, found);
-    land(active, &step, tells)
-}
-
-// The place of a target that is to be held was found.
-#[inline(never)]
-fn found_held(active: &mut ActiveCall, own: &Own, found: &Found, tells: &mut Told)
-    requires core { own.now.core < own.now.layout.cores }
-    requires cores { own.now.layout.cores ≤ 8 }
-    requires few { active.old.steps < 1000 }
-    requires going { tells.old ≡ Told.Going }
-    ensures told { tells.new ≡ told (landed active.old (met_held own.now active.old.call active.old.found found.now found.now.value)) }
-    ensures after { active.new
-        ≡ call_after active.old (landed active.old (met_held own.now active.old.call active.old.found found.now found.now.value)) }
-{
-    let step = met_held(own, &active.call, &active.found, found);
-    land(active, &step, tells)
-}
-
 // What comes next of the call: a look-up, or its act.
 #[inline]
 fn look_next(active: &mut ActiveCall, own: &Own, tells: &mut Told)
@@ -424,12 +467,7 @@ fn reads_first(active: &mut ActiveCall, comp: FrameNo, look: Look)
 // A component's word was loaded, which names this, and this look-up comes next.
 #[inline]
 #[tactic(auto, using(call_fits::proofs::Landing::same_call))]
-pub(crate) fn has_read(
-    active: &mut ActiveCall,
-    look: Look,
-    life: Option<CompWord>,
-    tells: &mut Told,
-)
+fn has_read(active: &mut ActiveCall, look: Look, life: Option<CompWord>, tells: &mut Told)
     requires few { active.old.steps < 1000 }
     requires going { tells.old ≡ Told.Going }
     ensures told { tells.new ≡ told (took_read active.old look life) }
@@ -462,20 +500,6 @@ fn look_answers(active: &mut ActiveCall, tells: &mut Told)
         ),
         None => refused(active, Refusal::Raced, tells),
     }
-}
-
-// The act of a call without a target begins.
-#[inline(never)]
-fn act_begins(active: &mut ActiveCall, own: &Own, tells: &mut Told)
-    requires core { own.now.core < own.now.layout.cores }
-    requires cores { own.now.layout.cores ≤ 8 }
-    requires few { active.old.steps < 1000 }
-    requires going { tells.old ≡ Told.Going }
-    ensures told { tells.new ≡ told (landed active.old (act_begun own.now active.old.call active.old.found None None)) }
-    ensures after { active.new ≡ call_after active.old (landed active.old (act_begun own.now active.old.call active.old.found None None)) }
-{
-    let step = begin_act(own, &active.call, &active.found, None, &None);
-    land(active, &step, tells)
 }
 
 // A page of the core's own pages is touched.
