@@ -2,13 +2,13 @@
 
 ghost use Rattle.std.specs.Prelude.{◌≡◌, false};
 
-use crate::crossing::Crossing;
 use crate::shared::{by_words, list_of};
 use byte_ends::{MemSink, MemSource};
 use speck_run::{FreeGate, Gate, Status, speck};
 use spk_nums::CoreNo;
 use std::alloc::Global;
 use std::str::from_utf8;
+use std::sync::atomic::{AtomicU64, Ordering};
 use std::test::Fail;
 
 // A list of one call of core 0, and then two sends of each core.
@@ -17,6 +17,63 @@ const TWO_SENDS_EACH: &str =
 
 const FOUR_SENDS: &str =
     "0.1 gate 3 1 20 = ok\n0.1 send 20 = ok\n0.2 send 20 = ok\n1.1 send 20 = ok\n1.2 send 20 = ok\nend 3 sent 4 taken 0 left 4\n";
+
+// Lets core 0 make its first send once core 1 asks for its second one, and core 1 its first once core 0 has asked for its
+// first. It counts how often it was asked, and how often it has answered false.
+#[derive(Drop)]
+struct Crossing {
+    first_of_0: AtomicU64,
+    second_of_1: AtomicU64,
+    asked: AtomicU64,
+    refused: AtomicU64,
+}
+
+impl Crossing {
+    fn new() -> Crossing {
+        Crossing {
+            first_of_0: AtomicU64::new(0),
+            second_of_1: AtomicU64::new(0),
+            asked: AtomicU64::new(0),
+            refused: AtomicU64::new(0),
+        }
+    }
+}
+
+// Whether the flag was raised within so many loads.
+fn is_raised(flag: &AtomicU64) -> bool {
+    for _ in 0..200_000_000u32 {
+        if flag.load(Ordering::SeqCst) > 0 {
+            return true;
+        }
+    }
+    false
+}
+
+impl Gate for Crossing {
+    ghost use Rattle.std.specs.Prelude.{false};
+
+    ghost is_free = { λ _. false };
+
+    fn may_go(&self, core: CoreNo, made: u32) -> bool {
+        let _asked = self.asked.fetch_add(1, Ordering::SeqCst);
+        let goes = match (core.number(), made) {
+            (0, 1) => {
+                self.first_of_0.store(1, Ordering::SeqCst);
+                is_raised(&self.second_of_1)
+            }
+            (1, 0) => is_raised(&self.first_of_0),
+            (1, 1) => {
+                self.second_of_1.store(1, Ordering::SeqCst);
+                true
+            }
+            _ => true,
+        };
+        if !goes {
+            let _refused = self.refused.fetch_add(1, Ordering::SeqCst);
+        }
+        goes
+    }
+}
 
 // A gate that lets a core make one call.
 struct Once;
@@ -33,7 +90,7 @@ impl Gate for Once {
 
 #[test]
 fn endpoint_calls_go_by_threads_of_their_own(rt: HostRuntime) -> Result<(), Fail> {
-    let gate = Crossing::new(1);
+    let gate = Crossing::new();
     assert!(rt;
         by_words(
             &rt,
@@ -45,8 +102,8 @@ fn endpoint_calls_go_by_threads_of_their_own(rt: HostRuntime) -> Result<(), Fail
             FOUR_SENDS
         )?
     );
-    assert_eq!(rt; gate.asked(), 5);
-    assert_eq!(rt; gate.refused(), 0);
+    assert_eq!(rt; gate.asked.load(Ordering::SeqCst), 5);
+    assert_eq!(rt; gate.refused.load(Ordering::SeqCst), 0);
     Ok(())
 }
 

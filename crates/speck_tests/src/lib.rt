@@ -5,8 +5,6 @@
 #![tactic(auto)]
 
 #[cfg(test)]
-mod crossing;
-#[cfg(test)]
 mod endpoints;
 #[cfg(test)]
 mod loads;

@@ -2,10 +2,10 @@
 
 ghost use Rattle.std.specs.Prelude.{◌≡◌, false};
 
-use crate::crossing::Crossing;
 use crate::shared::runs;
 use speck_run::{Gate, Status};
 use spk_nums::CoreNo;
+use std::sync::atomic::{AtomicU64, Ordering};
 use std::test::Fail;
 
 // Two cores that make two calls each, on entries of their own.
@@ -47,6 +47,63 @@ core 1 thread 5 tcap 7 comp 3 spent 0 owed 0
 total 200
 ";
 
+// Lets core 0 make its first call once core 1 asks for its second one, and core 1 its first once core 0 has asked for
+// its first. It counts how often it was asked, and how often it has answered false.
+#[derive(Drop)]
+struct Meeting {
+    first_of_0: AtomicU64,
+    second_of_1: AtomicU64,
+    asked: AtomicU64,
+    refused: AtomicU64,
+}
+
+impl Meeting {
+    fn new() -> Meeting {
+        Meeting {
+            first_of_0: AtomicU64::new(0),
+            second_of_1: AtomicU64::new(0),
+            asked: AtomicU64::new(0),
+            refused: AtomicU64::new(0),
+        }
+    }
+}
+
+// Whether the flag was raised within so many loads.
+fn is_raised(flag: &AtomicU64) -> bool {
+    for _ in 0..200_000_000u32 {
+        if flag.load(Ordering::SeqCst) > 0 {
+            return true;
+        }
+    }
+    false
+}
+
+impl Gate for Meeting {
+    ghost use Rattle.std.specs.Prelude.{false};
+
+    ghost is_free = { λ _. false };
+
+    fn may_go(&self, core: CoreNo, made: u32) -> bool {
+        let _asked = self.asked.fetch_add(1, Ordering::SeqCst);
+        let goes = match (core.number(), made) {
+            (0, 0) => {
+                self.first_of_0.store(1, Ordering::SeqCst);
+                is_raised(&self.second_of_1)
+            }
+            (1, 0) => is_raised(&self.first_of_0),
+            (1, 1) => {
+                self.second_of_1.store(1, Ordering::SeqCst);
+                true
+            }
+            _ => true,
+        };
+        if !goes {
+            let _refused = self.refused.fetch_add(1, Ordering::SeqCst);
+        }
+        goes
+    }
+}
+
 // A gate that lets no call go on.
 struct Shut;
 
@@ -63,10 +120,10 @@ impl Gate for Shut {
 #[test]
 fn cores_run_in_threads_of_their_own(rt: HostRuntime) -> Result<(), Fail> {
     let text = format!(in rt.alloc(); "{REPLIES}{TABLES}")?;
-    let gate = Crossing::new(0);
+    let gate = Meeting::new();
     assert!(rt; runs(&rt, rt.alloc(), &gate, TWO_LISTS, Status::Done, &text)?);
-    assert_eq!(rt; gate.asked(), 4);
-    assert_eq!(rt; gate.refused(), 0);
+    assert_eq!(rt; gate.asked.load(Ordering::SeqCst), 4);
+    assert_eq!(rt; gate.refused.load(Ordering::SeqCst), 0);
     Ok(())
 }
 
