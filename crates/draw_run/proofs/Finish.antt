@@ -3,11 +3,11 @@ use Rattle.std.proofs.Common.{◌≡◌, ℕ, List, [], ◌∷◌, refl, sym, �
 use Rattle.spk_nums.specs.Setting.{Setting}
 use Rattle.spk_nums.specs.declared.calls.Call.{Call}
 use Rattle.spk_nums.specs.declared.steps.Item.{Item}
-use Rattle.origins_run.specs.lone_kernel.specs.kernel_history.specs.Trace.{Step, Trace}
-use Rattle.origins_run.specs.lone_kernel.specs.kernel_history.specs.BootWords.{shape_of}
+use Rattle.told_run.specs.lone_kernel.specs.kernel_history.specs.Trace.{Step, Trace}
+use Rattle.told_run.specs.lone_kernel.specs.kernel_history.specs.BootWords.{shape_of}
 use Rattle.trace_drawing.specs.step_views.specs.declared.views.StepMade.{StepMade}
-use Rattle.origins_run.specs.told_run.specs.Watching.{IsNext}
-use Rattle.origins_run.specs.told_run.specs.GivenWatched.{GivenWatched}
+use Rattle.told_run.specs.Watching.{IsNext}
+use Rattle.told_run.specs.GivenWatched.{GivenWatched}
 use Rattle.trace_drawing.specs.Pictures.{Picture, blank, step_drawn, pictured, seen, picture_text}
 use Rattle.trace_drawing.specs.Views.{seen_made}
 use Rattle.trace_drawing.proofs.Views.{seen_as_made}

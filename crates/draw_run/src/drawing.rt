@@ -2,10 +2,10 @@
 ghost use Rattle.std.specs.Prelude.{◌≡◌, IfOk, string_bytes};
 ghost use Rattle.trace_drawing.specs.Pictures.{blank, picture_text};
 
-use origins_run::told_run::Watcher;
 use spk_nums::Setup;
 use std::alloc::{AllocError, Global};
 use std::marker::Model;
+use told_run::Watcher;
 use trace_drawing::{StepMade, TracePicture};
 
 /// The picture of the steps that it was told, one after another.

@@ -1,12 +1,12 @@
 //! Lists and an order, as a picture.
 ghost use Rattle.std.specs.Prelude.{◌≡◌, ◌<◌, IfOk, All, map, length, string_bytes};
-ghost use Rattle.origins_run.specs.lone_kernel.specs.Machine.{AreLists};
+ghost use Rattle.told_run.specs.lone_kernel.specs.Machine.{AreLists};
 ghost use Rattle.draw_run.specs.GivenDrawing.{GivenDrawing};
 
 use crate::drawing::Drawing;
-use origins_run::told_run::watch;
 use spk_nums::{Call, Item, Memory, Setup};
 use std::alloc::Global;
+use told_run::watch;
 
 /// Takes the items of the order, then runs each core out, as `replay` does, and answers the picture of the trace that this makes, as the
 /// text of an SVG image. There is a list for each core, each of fewer than 2^32 calls that are within their limits; it fails only where

@@ -7,5 +7,3 @@ mod drawing;
 mod given;
 
 pub use given::draw;
-pub use origins_run;
-pub use origins_run::told_run;

@@ -3,15 +3,15 @@ use Rattle.std.proofs.Common.{◌≡◌, ℕ, List, [], ◌∷◌, ◌++◌, Som
 use Rattle.spk_nums.specs.Setting.{Setting}
 use Rattle.spk_nums.specs.declared.calls.Call.{Call}
 use Rattle.spk_nums.specs.declared.replies.Reply.{Reply}
-use Rattle.ends_run.specs.core_kernel.specs.kernel_history.specs.Trace.{Step, Trace, calls_of}
-use Rattle.ends_run.specs.core_kernel.specs.kernel_history.specs.Legal.{IsLegal}
-use Rattle.ends_run.specs.core_kernel.specs.kernel_history.specs.Alone.{KeepsFirst}
-use Rattle.ends_run.specs.core_kernel.specs.Kernel.{KernelValue, CoreSeatValue}
-use Rattle.ends_run.specs.core_kernel.specs.Calls.{HasSeen, MakesCall}
-use Rattle.ends_run.specs.core_kernel.proofs.Lists.{calls_of-append}
+use Rattle.core_kernel.specs.kernel_history.specs.Trace.{Step, Trace, calls_of}
+use Rattle.core_kernel.specs.kernel_history.specs.Legal.{IsLegal}
+use Rattle.core_kernel.specs.kernel_history.specs.Alone.{KeepsFirst}
+use Rattle.core_kernel.specs.Kernel.{KernelValue, CoreSeatValue}
+use Rattle.core_kernel.specs.Calls.{HasSeen, MakesCall}
+use Rattle.core_kernel.proofs.Lists.{calls_of-append}
 use Rattle.one_core_laws.proofs.Plain.{returns_plainly}
 use Rattle.sched_rules.specs.Schedule.{reply_to}
-use Rattle.sched_run.specs.fixed_prio.specs.Machines.{after_calls}
+use Rattle.fixed_prio.specs.Machines.{after_calls}
 
 -- One call more is made.
 pub made_more : (s made : CoreSeatValue) (call : Call) (r : Reply) → s.core ≡ 0 → MakesCall s call r made

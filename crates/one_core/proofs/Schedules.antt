@@ -7,18 +7,18 @@ use Rattle.std.proofs.lemmas.List.Elements.{All-nil, All-cons, All-head, All-tai
 use Rattle.spk_nums.specs.Setting.{Setting}
 use Rattle.spk_nums.specs.CallLimits.{InLimits}
 use Rattle.spk_nums.specs.declared.calls.Call.{Call}
-use Rattle.ends_run.specs.core_kernel.specs.kernel_history.specs.Trace.{Trace, Out, phase, calls_of}
-use Rattle.ends_run.specs.core_kernel.specs.kernel_history.specs.Order.{IsIdle, HasCalls}
-use Rattle.ends_run.specs.core_kernel.specs.flight_laws.specs.Histories.{IsHistory}
-use Rattle.ends_run.specs.core_kernel.specs.Kernel.{CoreSeatValue}
-use Rattle.ends_run.specs.core_kernel.specs.Calls.{HasSeen}
+use Rattle.core_kernel.specs.kernel_history.specs.Trace.{Trace, Out, phase, calls_of}
+use Rattle.core_kernel.specs.kernel_history.specs.Order.{IsIdle, HasCalls}
+use Rattle.core_kernel.specs.flight_laws.specs.Histories.{IsHistory}
+use Rattle.core_kernel.specs.Kernel.{CoreSeatValue}
+use Rattle.core_kernel.specs.Calls.{HasSeen}
 use Rattle.one_core_laws.specs.Plainly.{IsPlain}
 use Rattle.one_core_laws.proofs.Plain.{one_core_is_plain}
 use Rattle.sched_rules.specs.Schedule.{Step, calls_of as calls_of_turns}
-use Rattle.sched_run.specs.sched_laws.specs.Charging.{TurnsCharge}
-use Rattle.sched_run.specs.sched_laws.proofs.Exactly.{exact_ticks}
-use Rattle.sched_run.specs.fixed_prio.specs.Machines.{after_calls}
-use Rattle.sched_run.specs.sched_reader.specs.Inputs.{Input, input_of}
+use Rattle.sched_laws.specs.Charging.{TurnsCharge}
+use Rattle.sched_laws.proofs.Exactly.{exact_ticks}
+use Rattle.fixed_prio.specs.Machines.{after_calls}
+use Rattle.sched_reader.specs.Inputs.{Input, input_of}
 use Rattle.sched_start.specs.Owing.{IsNoTick}
 use Rattle.sched_start.proofs.Owed.{owes_nothing}
 use Rattle.sched_start.proofs.Taken.{takes_no_tick}

@@ -2,7 +2,7 @@
 use Rattle.std.proofs.Common.{◌≡◌, ℕ, ◌+◌, List, [], ◌∷◌, ◌++◌, length, refl, sym, ◌∙◌, ap, arith}
 use Rattle.std.specs.Prelude.{slice_get}
 use Rattle.std.proofs.lemmas.List.{length-append}
-use Rattle.ends_run.specs.core_kernel.specs.Kernel.{KernelValue, CoreSeatValue, AreAllSeats, AreFresh}
+use Rattle.core_kernel.specs.Kernel.{KernelValue, CoreSeatValue, AreAllSeats, AreFresh}
 
 -- The seat is of the kernel and of core 0, and has seen the empty trace.
 pub record IsOnlySeat (of : KernelValue) (s : CoreSeatValue) : Type 0 where

@@ -12,7 +12,5 @@
 mod machine;
 mod run;
 
-pub use ends_run;
-pub use ends_run::{async_ends, core_kernel};
 pub use machine::OneCore;
 pub use run::run_sched;

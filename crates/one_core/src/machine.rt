@@ -1,12 +1,12 @@
 //! The machine.
 
 ghost use Rattle.std.specs.Prelude.{◌≡◌};
-ghost use Rattle.ends_run.specs.core_kernel.specs.kernel_history.specs.Trace.{state_after};
-ghost use Rattle.ends_run.specs.core_kernel.specs.Calls.{HasSeen};
+ghost use Rattle.core_kernel.specs.kernel_history.specs.Trace.{state_after};
+ghost use Rattle.core_kernel.specs.Calls.{HasSeen};
 
-use ends_run::core_kernel::{CoreSeat, Kernel};
+use core_kernel::{CoreSeat, Kernel};
+use fixed_prio::Machine;
 use sched_run::Boot;
-use sched_run::fixed_prio::Machine;
 use spk_nums::{Call, Memory, Reply, Setup};
 use std::alloc::Global;
 use std::marker::Model;
@@ -20,7 +20,7 @@ pub struct OneCore {
 
 impl Model for OneCore {
     ghost use Rattle.std.specs.Prelude.{◌≡◌};
-    ghost use Rattle.ends_run.specs.core_kernel.specs.Kernel.{CoreSeatValue};
+    ghost use Rattle.core_kernel.specs.Kernel.{CoreSeatValue};
 
     ghost Value = { CoreSeatValue };
 
@@ -30,7 +30,7 @@ impl Model for OneCore {
 }
 
 impl Machine for OneCore {
-    ghost use Rattle.ends_run.specs.core_kernel.specs.kernel_history.specs.Trace.{calls_of};
+    ghost use Rattle.core_kernel.specs.kernel_history.specs.Trace.{calls_of};
 
     ghost setup = { λ m. m.kernel.setup };
 

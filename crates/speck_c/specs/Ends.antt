@@ -2,9 +2,9 @@
 use Rattle.std.specs.Prelude.{◌≡◌, ◌≢◌, ℕ, ◌<◌, ◌≤◌, ◌⊎◌, List, [], ◌∷◌, ◌++◌, length, take, drop, Option, Some, None, String, string_bytes}
 use Rattle.std.specs.Global.{Global}
 use Rattle.spk_nums.specs.declared.translations.CoreEnd.{CoreEnd}
-use Rattle.core_machine.specs.core_kernel.specs.kernel_history.specs.BootWords.{shape_of}
-use Rattle.core_machine.specs.core_kernel.specs.Kernel.{CoreSeatValue}
-use Rattle.core_machine.specs.core_kernel.specs.Calls.{EndsAt}
+use Rattle.core_kernel.specs.kernel_history.specs.BootWords.{shape_of}
+use Rattle.core_kernel.specs.Kernel.{CoreSeatValue}
+use Rattle.core_kernel.specs.Calls.{EndsAt}
 use Rattle.core_machine.specs.Seats.{SeatsValue}
 use Rattle.table_report.specs.Shown.{tables_shown}
 use Rattle.speck_c.specs.declared.held.Held.{Held}

@@ -1,8 +1,8 @@
 -- What the exports on machines, ports and notes make of what their slots hold.
 use Rattle.std.specs.Prelude.{◌≡◌, ℕ, ◌+◌, ◌≤◌, ◌⊎◌, Option, Some, None, Result, Ok, Err, []}
 use Rattle.spk_nums.specs.Setting.{Setting}
-use Rattle.core_machine.specs.core_kernel.specs.Kernel.{CoreSeatValue, CoreNoteValue}
-use Rattle.core_machine.specs.core_kernel.specs.Calls.{Meets}
+use Rattle.core_kernel.specs.Kernel.{CoreSeatValue, CoreNoteValue}
+use Rattle.core_kernel.specs.Calls.{Meets}
 use Rattle.core_machine.specs.Seats.{SeatsValue, IsDealt}
 use Rattle.speck_c.specs.declared.held.Held.{Held}
 use Rattle.speck_c.specs.declared.held.What.{What}

@@ -1,7 +1,7 @@
 //! Notes, which one thread hands to another.
 
 ghost use Rattle.std.specs.Prelude.{◌≡◌, ◌≢◌, Some, None, IfSome, IfNone, IsTrue, IsSome, ◌↔◌, MatchOption};
-ghost use Rattle.core_machine.specs.core_kernel.specs.Calls.{Meets};
+ghost use Rattle.core_kernel.specs.Calls.{Meets};
 ghost use Rattle.speck_c.specs.Slots.{held_in, port_held, port_of};
 ghost use Rattle.speck_c.specs.Machines.{AreOfOne, HoldsMet, Notes, Tells, note_held, note_of};
 

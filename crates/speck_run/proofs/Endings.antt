@@ -10,15 +10,15 @@ use Rattle.trace_run.specs.lone_kernel.specs.kernel_history.specs.Order.{list_of
 use Rattle.trace_run.specs.lone_kernel.specs.kernel_history.specs.Tables.{lines_below}
 use Rattle.trace_run.specs.lone_kernel.specs.kernel_history.specs.Text.{reply_lines, decisions_by}
 use Rattle.trace_run.specs.lone_kernel.specs.kernel_history.specs.Trace.{calls_of}
-use Rattle.one_core.specs.async_ends.specs.declared.asks.EndAsk.{EndAsk}
-use Rattle.one_core.specs.async_ends.specs.declared.asks.EndDone.{EndDone}
-use Rattle.one_core.specs.async_ends.specs.Events.{taken_at}
+use Rattle.async_ends.specs.declared.asks.EndAsk.{EndAsk}
+use Rattle.async_ends.specs.declared.asks.EndDone.{EndDone}
+use Rattle.async_ends.specs.Events.{taken_at}
 use Rattle.script_reader.specs.Readings.{AtMost}
 use Rattle.ends_reader.specs.Inputs.{FewAsks as FewOfInput}
 use Rattle.ends_text.specs.Lines.{done_lines, count_lines, end_lines}
 use Rattle.ends_text.proofs.Counted.{counted}
-use Rattle.one_core.specs.ends_run.specs.declared.whole.EndsRan.{EndsRan}
-use Rattle.one_core.specs.ends_run.specs.Whole.{AreEnded, FewCalls, FewAsks}
+use Rattle.ends_run.specs.declared.whole.EndsRan.{EndsRan}
+use Rattle.ends_run.specs.Whole.{AreEnded, FewCalls, FewAsks}
 use Rattle.speck_run.specs.Ends.{EndsText}
 use Rattle.speck_run.specs.Written.{lines_of, core_lines}
 use Rattle.speck_run.proofs.ByCores.{lines_by_cores}

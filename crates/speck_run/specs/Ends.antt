@@ -5,9 +5,9 @@ use Rattle.spk_nums.specs.Setting.{Setting}
 use Rattle.trace_run.specs.lone_kernel.specs.kernel_history.specs.Tables.{lines_below}
 use Rattle.trace_run.specs.lone_kernel.specs.kernel_history.specs.Text.{decisions_by, reply_lines}
 use Rattle.trace_run.specs.lone_kernel.specs.kernel_history.specs.Trace.{calls_of}
-use Rattle.one_core.specs.async_ends.specs.declared.asks.EndAsk.{EndAsk}
+use Rattle.async_ends.specs.declared.asks.EndAsk.{EndAsk}
 use Rattle.ends_text.specs.Lines.{done_lines, end_lines}
-use Rattle.one_core.specs.ends_run.specs.Ends.{EndsHistory}
+use Rattle.ends_run.specs.Ends.{EndsHistory}
 
 -- The reply lines of the lists' calls, core by core, then the lines of the endpoint calls, core by core, then those of the frames.
 abbrev pub ends_text : (setup : Setting) (lists : List (List Call)) (asks : List (List EndAsk)) → EndsHistory setup lists asks → List ℕ

@@ -2,11 +2,11 @@
 use Rattle.std.specs.Prelude.{◌≡◌, ℕ, List, Result, Ok, Err}
 use Rattle.trace_run.specs.lone_kernel.specs.kernel_history.specs.Order.{list_of}
 use Rattle.trace_run.specs.lone_kernel.specs.kernel_history.specs.Text.{plain_text}
-use Rattle.one_core.specs.core_kernel.specs.TakenSteps.{TakenSteps}
+use Rattle.core_kernel.specs.TakenSteps.{TakenSteps}
 use Rattle.trace_run.specs.lone_kernel.specs.GivenSteps.{GivenSteps}
 use Rattle.trace_run.specs.GivenTrace.{GivenTrace}
-use Rattle.trace_run.specs.draw_run.specs.GivenDrawing.{GivenDrawing}
-use Rattle.trace_run.specs.origins_run.specs.GivenOrigins.{GivenOrigins}
+use Rattle.draw_run.specs.GivenDrawing.{GivenDrawing}
+use Rattle.origins_run.specs.GivenOrigins.{GivenOrigins}
 use Rattle.check_run.specs.history_reader.specs.Inputs.{History, history_of}
 use Rattle.check_run.specs.Checked.{IsJudged}
 use Rattle.script_reader.specs.declared.cause.Cause.{Cause}

@@ -5,7 +5,7 @@ use Rattle.spk_nums.specs.declared.replies.Decision.{Decision}
 use Rattle.trace_run.specs.lone_kernel.specs.kernel_history.specs.Order.{list_of}
 use Rattle.trace_run.specs.lone_kernel.specs.kernel_history.specs.Tables.{lines_below}
 use Rattle.trace_run.specs.lone_kernel.specs.kernel_history.specs.Text.{reply_lines}
-use Rattle.one_core.specs.async_ends.specs.declared.asks.EndDone.{EndDone}
+use Rattle.async_ends.specs.declared.asks.EndDone.{EndDone}
 use Rattle.ends_text.specs.Lines.{done_lines}
 
 -- The reply lines of the decisions, in the order decided, by the lists of the cores' calls.

@@ -1,16 +1,16 @@
 //! Lists and the endpoint calls after them, made as `ends` does.
 ghost use Rattle.std.specs.Prelude.{◌≡◌, ◌<◌, ◌^◌, ◌++◌, true, All, IfOk, IfSome, IsSome, OnOk, map, length, string_bytes};
 ghost use Rattle.trace_run.specs.lone_kernel.specs.Machine.{AreLists};
-ghost use Rattle.one_core.specs.ends_run.specs.Whole.{FewCalls, FewAsks};
+ghost use Rattle.ends_run.specs.Whole.{FewCalls, FewAsks};
 ghost use Rattle.speck_run.specs.Ends.{EndsText};
 ghost use Rattle.speck_run.specs.Written.{core_lines};
 
 use crate::text::write_decisions;
+use async_ends::EndDone;
+use core_kernel::Gate;
 use ends_reader::EndsInput;
+use ends_run::run_ends;
 use ends_text::{push_done_lines, push_end_lines};
-use one_core::async_ends::EndDone;
-use one_core::core_kernel::Gate;
-use one_core::ends_run::run_ends;
 use spk_nums::{CoreNo, Memory};
 use std::alloc::{AllocError, Global};
 use std::thread::Threads;

@@ -11,17 +11,17 @@ use crate::runs::run_lists;
 use crate::top::Status;
 use crate::words::Command;
 use check_run::check;
+use core_kernel::Gate;
+use draw_run::draw;
 use ends_reader::read_ends;
-use one_core::core_kernel::Gate;
 use one_core::run_sched;
+use origins_run::origins;
 use plain_run::plain;
 use script_printer::print;
 use script_reader::{ReadFault, Script, read};
 use spk_nums::Memory;
 use std::alloc::Global;
 use std::thread::Threads;
-use trace_run::draw_run::draw;
-use trace_run::origins_run::origins;
 use trace_run::trace;
 
 // What is due under `replay`.

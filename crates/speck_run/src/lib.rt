@@ -15,8 +15,8 @@ mod text;
 mod top;
 mod words;
 
+pub use core_kernel::{FreeGate, Gate};
 pub use ends::make_ends;
-pub use one_core::core_kernel::{FreeGate, Gate};
 pub use runs::run_lists;
 pub use summary::{Summed, sum_up};
 pub use top::{Status, speck};

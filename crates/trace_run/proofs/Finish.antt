@@ -6,15 +6,15 @@ use Rattle.spk_nums.specs.declared.calls.Call.{Call}
 use Rattle.spk_nums.specs.declared.steps.Item.{Item}
 use Rattle.spk_nums.specs.declared.replies.Reply.{Reply}
 use Rattle.trace_lines.specs.script_printer.specs.Printing.{setup_lines}
-use Rattle.draw_run.specs.lone_kernel.specs.kernel_rules.proofs.Within.{put_same}
-use Rattle.draw_run.specs.lone_kernel.specs.kernel_history.specs.Trace.{Step, Trace, Out, phase}
-use Rattle.draw_run.specs.lone_kernel.specs.kernel_history.specs.BootWords.{shape_of}
-use Rattle.draw_run.specs.lone_kernel.specs.flight.specs.Made.{IsMade, cores_after, core_after, stepping_core}
-use Rattle.draw_run.specs.lone_kernel.specs.flight.proofs.Phases.{made_phases, made_events}
-use Rattle.draw_run.specs.lone_kernel.proofs.Runs.{none_of}
-use Rattle.draw_run.specs.lone_kernel.specs.step_views.specs.declared.views.StepMade.{StepMade}
-use Rattle.draw_run.specs.told_run.specs.Watching.{IsNext}
-use Rattle.draw_run.specs.told_run.specs.GivenWatched.{GivenWatched}
+use Rattle.told_run.specs.lone_kernel.specs.kernel_rules.proofs.Within.{put_same}
+use Rattle.told_run.specs.lone_kernel.specs.kernel_history.specs.Trace.{Step, Trace, Out, phase}
+use Rattle.told_run.specs.lone_kernel.specs.kernel_history.specs.BootWords.{shape_of}
+use Rattle.told_run.specs.lone_kernel.specs.flight.specs.Made.{IsMade, cores_after, core_after, stepping_core}
+use Rattle.told_run.specs.lone_kernel.specs.flight.proofs.Phases.{made_phases, made_events}
+use Rattle.told_run.specs.lone_kernel.proofs.Runs.{none_of}
+use Rattle.told_run.specs.lone_kernel.specs.step_views.specs.declared.views.StepMade.{StepMade}
+use Rattle.told_run.specs.Watching.{IsNext}
+use Rattle.told_run.specs.GivenWatched.{GivenWatched}
 use Rattle.trace_lines.specs.Steps.{step_text, lines_at, event_lines}
 use Rattle.trace_lines.specs.Traces.{Told, step_told, told}
 use Rattle.trace_lines.specs.Views.{view_text, made_lines}

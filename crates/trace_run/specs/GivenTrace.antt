@@ -3,10 +3,10 @@ use Rattle.std.specs.Prelude.{◌≡◌, ℕ, List, []}
 use Rattle.spk_nums.specs.Setting.{Setting}
 use Rattle.spk_nums.specs.declared.calls.Call.{Call}
 use Rattle.spk_nums.specs.declared.steps.Item.{Item}
-use Rattle.draw_run.specs.lone_kernel.specs.kernel_history.specs.Trace.{Trace}
-use Rattle.draw_run.specs.lone_kernel.specs.kernel_history.specs.Order.{HasCalls, Follows}
-use Rattle.draw_run.specs.lone_kernel.specs.flight.specs.Made.{ready_after}
-use Rattle.draw_run.specs.lone_kernel.specs.flight_laws.specs.Histories.{IsHistory}
+use Rattle.told_run.specs.lone_kernel.specs.kernel_history.specs.Trace.{Trace}
+use Rattle.told_run.specs.lone_kernel.specs.kernel_history.specs.Order.{HasCalls, Follows}
+use Rattle.told_run.specs.lone_kernel.specs.flight.specs.Made.{ready_after}
+use Rattle.told_run.specs.lone_kernel.specs.flight_laws.specs.Histories.{IsHistory}
 use Rattle.trace_lines.specs.script_printer.specs.Printing.{setup_lines}
 use Rattle.trace_lines.specs.Traces.{told, trace_text}
 

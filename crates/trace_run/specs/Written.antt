@@ -1,6 +1,6 @@
 -- What is written of a trace by one who watches it.
 use Rattle.std.specs.Prelude.{◌≡◌, ℕ, List, []}
-use Rattle.draw_run.specs.lone_kernel.specs.kernel_history.specs.Trace.{Trace}
+use Rattle.told_run.specs.lone_kernel.specs.kernel_history.specs.Trace.{Trace}
 use Rattle.trace_lines.specs.Traces.{Told, told}
 
 -- After a head that is all that was written first, the trace is told.

@@ -1,12 +1,12 @@
 //! Lists and an order, as a text of each step.
 ghost use Rattle.std.specs.Prelude.{◌≡◌, ◌<◌, IfOk, All, map, length, string_bytes};
-ghost use Rattle.draw_run.specs.lone_kernel.specs.Machine.{AreLists};
+ghost use Rattle.told_run.specs.lone_kernel.specs.Machine.{AreLists};
 ghost use Rattle.trace_run.specs.GivenTrace.{GivenTrace};
 
 use crate::writing::Writing;
-use draw_run::told_run::watch;
 use spk_nums::{Call, Item, Memory, Setup};
 use std::alloc::Global;
+use told_run::watch;
 
 /// Takes the items of the order, then runs each core out, as `replay` does, and answers the text of the trace that this makes: the head
 /// of a script of this version, then a line for each event, in the comment after which stands each step since the line before. There is

@@ -6,7 +6,5 @@
 mod given;
 mod writing;
 
-pub use draw_run;
-pub use draw_run::origins_run;
-pub use draw_run::told_run::lone_kernel;
 pub use given::trace;
+pub use told_run::lone_kernel;

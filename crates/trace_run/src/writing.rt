@@ -3,10 +3,10 @@ ghost use Rattle.std.specs.Prelude.{◌≡◌, [], IfOk, string_bytes};
 ghost use Rattle.trace_lines.specs.script_printer.specs.Printing.{setup_lines};
 ghost use Rattle.trace_lines.specs.Traces.{told};
 
-use draw_run::told_run::{StepMade, Watcher};
 use spk_nums::Setup;
 use std::alloc::{AllocError, Global};
 use std::marker::Model;
+use told_run::{StepMade, Watcher};
 use trace_lines::TraceLines;
 
 /// The lines of the steps that it was told, one after another.

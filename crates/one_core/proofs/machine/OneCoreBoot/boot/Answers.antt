@@ -1,6 +1,6 @@
 use Rattle.std.proofs.Common.{◌≡◌, ◌∙◌, ap}
-use Rattle.ends_run.specs.core_kernel.specs.kernel_history.specs.Trace.{calls_of, Trace}
-use Rattle.ends_run.specs.core_kernel.specs.Kernel.{KernelValue}
+use Rattle.core_kernel.specs.kernel_history.specs.Trace.{calls_of, Trace}
+use Rattle.core_kernel.specs.Kernel.{KernelValue}
 use Rattle.spk_nums.specs.Setting.{Setting}
 use Rattle.one_core.proofs.Seats.{only_seat}
 use Rattle.one_core.proofs.machine.OneCoreBoot.boot.Goals as goal
