@@ -1,5 +1,5 @@
 -- The steps of a look-up, and what each takes from the word that it finds.
-use Rattle.std.specs.Prelude.{ℕ, ◌/◌, ◌%◌, ◌<◌, ◌≤◌, Bool, Option, Some, None, if◌then◌else◌}
+use Rattle.std.specs.Prelude.{ℕ, ◌/◌, ◌%◌, ◌<◌, ◌≤◌, ◌==◌, ◌&&◌, nat_lt, is_some, Bool, false, Option, Some, None, if◌then◌else◌}
 use Rattle.spk_nums.specs.declared.replies.Reply.TheVariants as reply
 use Rattle.spk_nums.specs.declared.steps.StageEnd.{StageEnd}
 use Rattle.spk_nums.specs.declared.steps.StageEnd.TheVariants.{Going, Decided, Done, Refuse}
@@ -72,6 +72,17 @@ abbrev pub look_after : Look → Option Entry → Look
 look_after (AtRoot root number) shown = root_after root number shown
 look_after (AtLeaf leaf number) shown = AtLeaf leaf number
 look_after (AtEntry root entry) shown = AtEntry root entry
+
+-- the leaf of a link to a frame of a machine of so many, where the word is that of one: its low bits are those of a link, and above them it
+-- has its leaf alone
+abbrev pub leaf_of_word : ℕ → ℕ → Option ℕ
+leaf_of_word frames word = if (word % 64 == 37) && nat_lt (word / 64) frames then Some (word / 64) else None
+
+-- whether a look-up has found the word of a link in a root
+abbrev pub is_followed : Look → ℕ → ℕ → Bool
+is_followed (AtRoot root number) frames word = is_some (leaf_of_word frames word)
+is_followed (AtLeaf leaf number) frames word = false
+is_followed (AtEntry root entry) frames word = false
 
 -- a place that was found is one of a node of the machine, and names no frame past the machine's
 pub record FoundFits (s : Shape) (f : Found) : Type 0 where

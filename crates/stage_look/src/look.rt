@@ -9,16 +9,23 @@
 //! place that another core is removing is busy. A word that is that of no entry, or that names a frame past the
 //! machine's, never comes; it is answered `raced`, so that every word is taken.
 
-ghost use Rattle.std.specs.Prelude.{◌≡◌, ◌<◌, ◌≤◌, nat_le};
+ghost use Rattle.std.specs.Prelude.{◌≡◌, ◌<◌, ◌≤◌, nat_le, IfSome, Some, IsTrue, IsFalse};
+ghost use Rattle.spk_nums.specs.Capability.{cap_of};
+ghost use Rattle.spk_nums.specs.declared.kinds.Kind.TheVariants.{Link};
+ghost use Rattle.spk_nums.specs.declared.steps.StageEnd.TheVariants.{Going};
+ghost use Rattle.entry_words.specs.declared.entry.Entry.TheVariants.{Held};
 ghost use Rattle.word_map.specs.Places.{size_of};
 ghost use Rattle.word_map.specs.Moves.{op_of};
 ghost use Rattle.spk_nums.specs.WordSteps.{place_in};
 ghost use Rattle.stage_look.specs.Shown.{end_of_frames, shown_in, entry_within, held_if, is_link};
-ghost use Rattle.stage_look.specs.Lookup.{LookFits, look_move, root_end, place_end, look_end, root_after, look_after, EndFits};
+ghost use Rattle.stage_look.specs.Lookup.{leaf_of_word, is_followed, LookFits, look_move, root_end, place_end, look_end, root_after, look_after, EndFits};
 
 use entry_words::Entry;
 use spk_nums::{Cap, CapId, EntryNo, FrameNo, Kind, Reply, StageEnd, WordOp};
 use word_map::Layout;
+
+// The low bits of the word of a link; above them it has its leaf alone.
+const LINK: u64 = 37;
 
 /// A look-up, between two of its steps.
 #[derive(Clone, Copy, PartialEq, Eq, Debug)]
@@ -112,6 +119,32 @@ impl Look {
         end
     }
 
+    /// Takes the word that the step found, as `take` does, where a root was loaded and the word is that of a link to a frame of the machine:
+    /// it is told by a comparison, and not read. Else nothing is done, and it is false. The frames that the look-up names are below the
+    /// layout's, and stay so.
+    #[inline(always)]
+    pub fn follows(&mut self, layout: &Layout, found: u64) -> bool
+        requires { LookFits layout.now self.old }
+        ensures value { result ≡ is_followed self.old layout.now.frames found }
+        ensures end { IsTrue result → look_end self.old found (shown_in layout.now.frames found) ≡ Going }
+        ensures after { IsTrue result → self.new ≡ look_after self.old (shown_in layout.now.frames found) }
+        ensures stays { IsFalse result → self.new ≡ self.old }
+        ensures fits { LookFits layout.now self.new }
+    {
+        let at = *self;
+        match at {
+            Look::AtRoot { root: _, number } => match leaf_of_word(layout.frames(), found) {
+                None => false,
+                Some(leaf) => {
+                    *self = Look::AtLeaf { leaf, number };
+                    true
+                }
+            },
+            Look::AtLeaf { leaf: _, number: _ } => false,
+            Look::AtEntry { root: _, entry: _ } => false,
+        }
+    }
+
     // What the step leads to that finds this word, which shows this.
     #[inline]
     fn end(&self, word: u64, shown: &Option<Entry>) -> StageEnd<Found>
@@ -136,6 +169,23 @@ impl Look {
             Look::AtLeaf { leaf, number } => Look::AtLeaf { leaf, number },
             Look::AtEntry { root, entry } => Look::AtEntry { root, entry },
         }
+    }
+}
+
+// The leaf of a link, where the word is that of a link to a frame of a machine of so many.
+#[inline]
+#[tactic(auto, using(crate::proofs::Links::link_shown))]
+fn leaf_of_word(frames: u16, word: u64) -> Option<FrameNo>
+    requires { frames ≤ 512 }
+    ensures value { result ≡ leaf_of_word frames word }
+    ensures shown { IfSome result (λ leaf. shown_in frames word ≡ Some (Held (cap_of Link leaf 0))) }
+    ensures below { IfSome result (λ leaf. leaf < frames) }
+{
+    let leaf = word / 64;
+    if word % 64 == LINK && leaf < u64::from(frames) {
+        Some(FrameNo::new(leaf as u16))
+    } else {
+        None
     }
 }
 
@@ -328,6 +378,26 @@ mod tests {
                 value: Entry::Held(Cap::new(Kind::Link, FrameNo::new(1), 0)),
             };
             assert_eq!(rt; entry.take(&layout, LINK_TO_1), StageEnd::Done(link));
+        }
+    }
+
+    #[test]
+    fn follows_links_from_a_root_alone(rt: HostRuntime) {
+        if let Some(layout) = Layout::new(1, 8) {
+            let start = Look::own(FrameNo::new(0), CapId::new(70));
+            for word in [
+                0, TABLE_0, RANGE_6_2, LINK_TO_8, CLOSING, QUIESCING, FOREIGN,
+            ] {
+                let mut look = start;
+                assert_eq!(rt; look.follows(&layout, word), false, "at {word:#x}");
+                assert_eq!(rt; look, start);
+            }
+            let mut look = start;
+            assert_eq!(rt; look.follows(&layout, LINK_TO_1), true);
+            assert_eq!(rt; look.next(&layout), WordOp::Load { at: 70 });
+            assert_eq!(rt; look.follows(&layout, LINK_TO_1), false);
+            let mut entry = Look::root(FrameNo::new(2), EntryNo::new(63));
+            assert_eq!(rt; entry.follows(&layout, LINK_TO_1), false);
         }
     }
 

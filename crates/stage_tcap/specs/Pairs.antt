@@ -1,5 +1,5 @@
 -- The steps of a call on two temporal capabilities, and what each takes from the word that it finds.
-use Rattle.std.specs.Prelude.{ℕ, ◌+◌, ◌-◌, ◌<◌, ◌≤◌, ◌==◌, nat_lt, Bool, true, false, Option, Some, None, List, slice_get, if◌then◌else◌}
+use Rattle.std.specs.Prelude.{ℕ, ◌+◌, ◌-◌, ◌<◌, ◌≤◌, ◌==◌, ◌&&◌, nat_lt, is_none, Bool, true, false, Option, Some, None, List, slice_get, if◌then◌else◌}
 use Rattle.spk_nums.specs.Merging.{preempts_by}
 use Rattle.spk_nums.specs.declared.replies.Reply.{Reply}
 use Rattle.spk_nums.specs.declared.replies.Reply.TheVariants as reply
@@ -221,6 +221,17 @@ pair_after p found = record {
   list_b = list_b_after p.at p.what p.list_a p.list_b found;
   at = at_after (noted_by p found) p.at found;
 }
+
+-- whether the word of a list has no pair
+abbrev pub has_no_pair : Option QualityWord → Bool
+has_no_pair None = false
+has_no_pair (Some v) = is_none v.0
+
+-- whether such a word was found, and that not the last of list B: then the call goes on to the next one, and nothing else changes
+abbrev pub is_passed : PairAt → ℕ → Bool
+is_passed (ListA entry) found = has_no_pair (quality_of_word found)
+is_passed (ListB entry) found = has_no_pair (quality_of_word found) && nat_lt entry 8
+is_passed _ found = false
 
 -- the compare that marks head A: a budget that is too small is told there
 abbrev pub end_by_budget : Bool → ℕ → StageEnd Value

@@ -12,7 +12,8 @@
 //!
 //! **Giving back.** Once head A is marked, a refusal decides the call, and head A is stored as it was.
 
-ghost use Rattle.std.specs.Prelude.{◌≡◌, ◌<◌, ◌≤◌, ◌+◌, ◌==◌, nat_lt, [], Some};
+ghost use Rattle.std.specs.Prelude.{◌≡◌, ◌<◌, ◌≤◌, ◌+◌, ◌==◌, ◌&&◌, nat_lt, [], Some, IsTrue, IsFalse};
+ghost use Rattle.spk_nums.specs.declared.steps.StageEnd.TheVariants.{Going};
 ghost use Rattle.spk_nums.specs.WordSteps.{place_in};
 ghost use Rattle.spk_nums.specs.Merging.{preempts_by};
 ghost use Rattle.tcap_words.specs.Head.{word_of_head, head_of_word};
@@ -27,6 +28,7 @@ ghost use Rattle.stage_tcap.specs.Pairs.{whole_b};
 ghost use Rattle.stage_tcap.specs.Pairs.{noted_by, giving_back, by_alike, by_room, by_preempting, judged, at_by_mark};
 ghost use Rattle.stage_tcap.specs.Pairs.{at_by_head, at_by_budget, at_marked, at_read, a_next, b_next, store_next};
 ghost use Rattle.stage_tcap.specs.Pairs.{at_decided, compared_after, again_value, at_after, pair_after, end_at, pair_end};
+ghost use Rattle.stage_tcap.specs.Pairs.{has_no_pair, is_passed};
 
 use crate::charge::head_end;
 use crate::ends::{again_end, again_value, b_end, list_end, marked_end};
@@ -125,7 +127,22 @@ impl Pair {
     }
 
     /// The next step. Both temporal capabilities are below the layout's frames.
+    #[inline]
     pub fn next(&self, layout: &Layout) -> WordOp
+        requires { PairFits layout.now self.now }
+        ensures step { result ≡ op_of layout.now (pair_move self.now) }
+        ensures below { place_in result < size_of layout.now }
+    {
+        match self.at {
+            PairAt::ListA { entry } => load(layout, self.a, entry),
+            PairAt::ListB { entry } => load(layout, self.b, entry),
+            _ => self.next_of(layout),
+        }
+    }
+
+    // The next step, of any. It stands apart, since most are loads of a list.
+    #[inline(never)]
+    fn next_of(&self, layout: &Layout) -> WordOp
         requires { PairFits layout.now self.now }
         ensures step { result ≡ op_of layout.now (pair_move self.now) }
         ensures below { place_in result < size_of layout.now }
@@ -158,6 +175,42 @@ impl Pair {
                 at: layout.entry_at(self.a, EntryNo::new(0)),
                 word: word_of(self.left_a(moved)),
             },
+        }
+    }
+
+    /// Takes the word that the step found, as `take` does, where it is a word of a list that has no pair, and not the last of list B: then
+    /// the call goes on to the next word, and nothing else of it changes. Else nothing is done, and it is false.
+    #[inline(always)]
+    #[tactic(auto, using(crate::proofs::PairLemmas::pair_after_fits))]
+    pub fn passes(&mut self, _layout: &Layout, found: u64) -> bool
+        requires { PairFits _layout.now self.old }
+        ensures value { result ≡ is_passed self.old.at found }
+        ensures end { IsTrue result → pair_end self.old found ≡ Going }
+        ensures after { IsTrue result → self.new ≡ pair_after self.old found }
+        ensures stays { IsFalse result → self.new ≡ self.old }
+        ensures fits { PairFits _layout.now self.new }
+    {
+        let at = self.at;
+        match at {
+            PairAt::ListA { entry } => {
+                if has_no_pair(found) {
+                    self.at = next_of_a(entry);
+                    true
+                } else {
+                    false
+                }
+            }
+            PairAt::ListB { entry } => {
+                if has_no_pair(found) && entry.number() < 8 {
+                    self.at = PairAt::ListB {
+                        entry: EntryNo::new(entry.number() + 1),
+                    };
+                    true
+                } else {
+                    false
+                }
+            }
+            _ => false,
         }
     }
 
@@ -323,6 +376,17 @@ impl Pair {
                 by_preempting(preempts(self.head_a.budget, &a, self.head_b.budget, &b))
             }
         }
+    }
+}
+
+// Whether the word of a list has no pair.
+#[inline]
+fn has_no_pair(word: u64) -> bool
+    ensures { result ≡ has_no_pair (quality_of_word word) }
+{
+    match QualityWord::unpack(word) {
+        Some(QualityWord(None)) => true,
+        _ => false,
     }
 }
 
@@ -623,6 +687,27 @@ mod tests {
             };
             assert_eq!(rt; pair.next(&layout), less);
             assert_eq!(rt; pair.take(&layout, LESS), StageEnd::Done(Value::Nothing));
+        }
+    }
+
+    #[test]
+    fn passes_words_without_a_pair(rt: HostRuntime) {
+        if let Some(layout) = Layout::new(1, 8) {
+            let what = PairWork::Test;
+            let mut pair = Pair::new(FrameNo::new(6), FrameNo::new(7), what, CoreNo::new(0));
+            assert_eq!(rt; pair.passes(&layout, 0), false);
+            pair.at = PairAt::ListA {
+                entry: EntryNo::new(8),
+            };
+            assert_eq!(rt; pair.passes(&layout, GOOD), false);
+            assert_eq!(rt; pair.passes(&layout, 0), true);
+            assert_eq!(rt; pair.at, PairAt::LoadB);
+            pair.at = PairAt::ListB {
+                entry: EntryNo::new(7),
+            };
+            assert_eq!(rt; pair.passes(&layout, 0), true);
+            assert_eq!(rt; pair.passes(&layout, 0), false);
+            assert_eq!(rt; pair.next(&layout), WordOp::Load { at: 456 });
         }
     }
 
