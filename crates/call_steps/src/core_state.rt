@@ -142,7 +142,7 @@ impl CoreState {
     }
 
     /// The next step of the core's call. The layout is that of its machine.
-    #[inline]
+    #[inline(always)]
     pub fn next_op(&self, layout: &Layout) -> WordOp
         requires in_call { IsSome self.now.active }
         requires machine { layout.now ≡ self.now.own.layout }
@@ -178,26 +178,42 @@ impl CoreState {
         ensures fewer { steps_left self.new < steps_left self.old }
         ensures fits { IsCore self.new }
     {
+        let mut told = Absorbed::Going;
+        self.absorb_to(found, &mut told);
+        told
+    }
+
+    /// Takes the word that the step of the core's call found, as `absorb` does. What the step has told is written where it said before that
+    /// the call goes on, so that most steps write none of it.
+    #[inline(always)]
+    pub fn absorb_to(&mut self, found: u64, told: &mut Absorbed)
+        requires in_call { IsSome self.old.active }
+        requires going { told.old ≡ Absorbed.Going }
+        ensures told { told.new ≡ told_of_step self.old found }
+        ensures state { self.new ≡ absorbed self.old found }
+        ensures fewer { steps_left self.new < steps_left self.old }
+        ensures fits { IsCore self.new }
+    {
         let mut tells = Told::Going;
         match &mut self.active {
             Some(active) => absorb(active, &self.own, found, &mut tells),
             None => unreachable!(),
         }
         match tells {
-            Told::Going => Absorbed::Going,
+            Told::Going => {}
             Told::Decided { reply } => {
                 self.own.made += calls_counted(&reply);
-                Absorbed::Decided(reply)
+                *told = Absorbed::Decided(reply);
             }
             Told::Returned { reply, stamp } => {
                 self.own.exit = stamp;
                 leave(&mut self.active);
-                Absorbed::Returned(reply)
+                *told = Absorbed::Returned(reply);
             }
             Told::Changed { reply, change } => {
                 self.own.change(&change);
                 self.own.made += calls_counted(&reply);
-                Absorbed::Decided(reply)
+                *told = Absorbed::Decided(reply);
             }
         }
     }

@@ -25,7 +25,7 @@ use spk_nums::{Reply, StageEnd, Value};
 use stage_tcap::Pair;
 
 /// A step of the call's act.
-#[inline]
+#[inline(always)]
 #[tactic(auto, using(crate::proofs::Staged::told_from, crate::proofs::Staged::call_from))]
 pub(crate) fn act_step(active: &mut ActiveCall, own: &Own, found: u64, tells: &mut Told)
     requires fits { StageFits own.now.layout active.old.stage }
@@ -51,7 +51,13 @@ pub(crate) fn act_step(active: &mut ActiveCall, own: &Own, found: u64, tells: &m
                     let core = *core;
                     flushed(active, own, core, found, tells)
                 }
-                Act::Share { pair: _ } => share_step(active, own, found, tells),
+                Act::Share { pair } => {
+                    if pair.passes(&own.layout, found) {
+                        goes_on(active)
+                    } else {
+                        share_step(active, own, found, tells)
+                    }
+                }
                 _ => other_step(active, own, found, tells),
             },
             Work::Lookup { .. } | Work::Read { .. } | Work::Scan { .. } | Work::Acquire { .. } =>

@@ -3,7 +3,7 @@
 //! **In place.** Where an act begins, the call's stage is written, and nothing else. The others begin by `begin_act`, which builds a whole
 //! `WorkStep`, in functions that are never inlined.
 
-ghost use Rattle.std.specs.Prelude.{◌≡◌, ◌<◌, ◌≤◌, nat_le, None, Some, false};
+ghost use Rattle.std.specs.Prelude.{◌≡◌, ◌<◌, ◌≤◌, ◌==◌, nat_le, None, Some, false};
 ghost use Rattle.call_plans.specs.Plans.{at_place};
 ghost use Rattle.call_plans.specs.declared.plans.Nth.TheVariants.{First, Second};
 ghost use Rattle.call_stages.specs.Steps.{landed, told, call_after};
@@ -12,6 +12,7 @@ ghost use Rattle.act_states.specs.Acts.{invokes_if, starts, switches_at};
 ghost use Rattle.entry_words.specs.declared.entry.Entry.TheVariants.{Held};
 ghost use Rattle.act_states.specs.Flushes.{flushes};
 ghost use Rattle.act_states.specs.Lookups.{met_free, met_held};
+ghost use Rattle.act_states.specs.Shares.{shares_at, shares_if};
 ghost use Rattle.act_states.specs.Ticks.{charges};
 
 use crate::steps::{go_on, land, refused};
@@ -24,11 +25,11 @@ use call_acts::begin_act;
 use call_plans::Nth;
 use call_stages::{ActiveCall, Stage, Told};
 use entry_words::Entry;
-use spk_nums::{Call, Cap, Kind, Rights};
+use spk_nums::{Call, Cap, FrameNo, Kind, Rights};
 use stage_look::Found;
 use stage_pins::Pin;
 use stage_quiet::{Close, Quiet};
-use stage_tcap::Charge;
+use stage_tcap::{Charge, Pair, PairWork};
 use stage_thread::Claim;
 
 /// The act of a call without a target begins.
@@ -50,6 +51,15 @@ pub(crate) fn act_begins(active: &mut ActiveCall, own: &Own, tells: &mut Told)
         Call::Ret => returns(active, own, tells),
         Call::Call { g: _ } => invokes(active, own, tells),
         Call::Switch { h: _, q: _ } => switches(active, own, tells),
+        Call::Transfer { a: _, b: _, m } => {
+            let what = PairWork::Transfer(*m);
+            shares(active, own, what, tells)
+        }
+        Call::Delegate { a: _, b: _, m } => {
+            let what = PairWork::Delegate(*m);
+            shares(active, own, what, tells)
+        }
+        Call::Test { a: _, b: _ } => shares(active, own, PairWork::Test, tells),
         _ => other_begins(active, own, tells),
     }
 }
@@ -216,6 +226,53 @@ fn switches(active: &mut ActiveCall, own: &Own, tells: &mut Told)
             },
         ),
         _ => refused(active, Refusal::Raced, tells),
+    }
+}
+
+// This is done with the two temporal capabilities to which the names have led.
+#[inline]
+fn shares(active: &mut ActiveCall, own: &Own, what: PairWork, tells: &mut Told)
+    requires few { active.old.steps < 1000 }
+    requires going { tells.old ≡ Told.Going }
+    ensures told { tells.new ≡ told (landed active.old
+        (shares_at own.now.core what (at_place active.old.found First) (at_place active.old.found Second))) }
+    ensures after { active.new ≡ call_after active.old
+        (landed active.old (shares_at own.now.core what (at_place active.old.found First) (at_place active.old.found Second))) }
+{
+    match (active.found.get(Nth::First), active.found.get(Nth::Second)) {
+        (Some(a), Some(b)) => shares_of(active, own, what, a.frame(), b.frame(), tells),
+        _ => refused(active, Refusal::Raced, tells),
+    }
+}
+
+// This is done with these two, unless they are the same.
+#[inline]
+fn shares_of(
+    active: &mut ActiveCall,
+    own: &Own,
+    what: PairWork,
+    a: FrameNo,
+    b: FrameNo,
+    tells: &mut Told,
+)
+    requires few { active.old.steps < 1000 }
+    requires going { tells.old ≡ Told.Going }
+    ensures told { tells.new ≡ told (landed active.old (shares_if (a == b) own.now.core what a b)) }
+    ensures after { active.new ≡ call_after active.old (landed active.old (shares_if (a == b) own.now.core what a b)) }
+{
+    if a == b {
+        refused(active, Refusal::Same, tells)
+    } else {
+        go_on(
+            active,
+            Stage::Undecided {
+                work: Work::Act {
+                    act: Act::Share {
+                        pair: Pair::new(a, b, what, own.core),
+                    },
+                },
+            },
+        )
     }
 }
 

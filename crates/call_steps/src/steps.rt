@@ -40,7 +40,7 @@ use stage_thread::Alive;
 use word_map::Layout;
 
 /// The next step of a call that has acquired these counts, at a stage. What it names is of the layout's machine.
-#[inline]
+#[inline(always)]
 pub fn stage_op(own: &Own, counts: &AcquiredCounts, stage: &Stage, layout: &Layout) -> WordOp
     requires fits { StageFits layout.now stage.now }
     requires counts { AllFit layout.now counts.now }
@@ -64,7 +64,7 @@ pub fn stage_op(own: &Own, counts: &AcquiredCounts, stage: &Stage, layout: &Layo
 }
 
 // The next step of the work of a call.
-#[inline]
+#[inline(always)]
 fn work_op(work: &Work, layout: &Layout) -> WordOp
     requires { WorkFits layout.now work.now }
     ensures step { result ≡ op_of layout.now (work_move work.now) }
@@ -159,7 +159,7 @@ fn work_ready(active: &ActiveCall, work: &Work) -> bool
 /// Takes the word that the call's step found; after a store this is the word stored. The call is changed in its place,
 /// and only in what the step changes. One that returns stays as it was. What the step led to is told where it said before that the call
 /// goes on.
-#[inline]
+#[inline(always)]
 #[tactic(auto, using(crate::proofs::Staged::told_from, crate::proofs::Staged::call_from))]
 pub fn absorb(active: &mut ActiveCall, own: &Own, found: u64, tells: &mut Told)
     requires core { own.now.core < own.now.layout.cores }
@@ -174,7 +174,13 @@ pub fn absorb(active: &mut ActiveCall, own: &Own, found: u64, tells: &mut Told)
         Stage::Enter => enter(active, own.limit <= own.made, own, tells),
         Stage::Living { alive: _ } => ask(active, own, found, tells),
         Stage::Undecided { work } => match work {
-            Work::Lookup { look: _ } => look_up(active, own, found, tells),
+            Work::Lookup { look } => {
+                if look.follows(&own.layout, found) {
+                    goes_on(active)
+                } else {
+                    look_up(active, own, found, tells)
+                }
+            }
             Work::Read { comp: _, look: _ } => read(active, own, found, tells),
             Work::Scan { quiet: _, act: _ } => scan_step(active, own, found, tells),
             Work::Acquire { .. } => acquire_step(active, own, found, tells),

@@ -14,7 +14,7 @@ use spk_nums::StageEnd;
 use stage_thread::{Pop, Push};
 
 /// A step of a call that is decided: a store, a commit, or the load of the clock.
-#[inline]
+#[inline(always)]
 pub(crate) fn store(active: &mut ActiveCall, own: &Own, found: u64)
     requires fits { StageFits own.now.layout active.old.stage }
     requires decided { IsStoring active.old.stage }

@@ -21,7 +21,7 @@ use word_map::Layout;
 /// The next step of a decided call that has acquired these counts: its next store, then the commit of its earliest count, then the
 /// load of the clock; counters that the call has frozen, and their frame's word, are stored after the commits. The counts are of the
 /// layout's machine.
-#[inline]
+#[inline(always)]
 pub fn tail_op(
     reply: &Reply,
     drawn: Option<Stamp>,

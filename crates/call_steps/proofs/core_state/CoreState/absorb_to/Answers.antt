@@ -1,6 +1,6 @@
 use Rattle.std.proofs.Common.{sym, ◌∙◌}
 use Rattle.call_fits.proofs.CoreFitting.{goes_on, decides_on, changes_to}
-use Rattle.call_steps.proofs.core_state.CoreState.absorb.Goals as goal
+use Rattle.call_steps.proofs.core_state.CoreState.absorb_to.Goals as goal
 
 pub invariant_of-self : goal.invariant_of-self
 invariant_of-self c = (goes_on c.self.inside.own c.self.inside.active c.in-Some.active c.absorb.new.active
