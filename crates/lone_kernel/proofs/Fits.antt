@@ -111,7 +111,7 @@ same_took own (Changes r (Works comp table pages depth) g) = record { core = ref
 same_took own (Changes r (Caches item) g) = record { core = refl; layout = refl }
 same_took own (Changes r (Switches thread depth comp table pages tcap) g) = record { core = refl; layout = refl }
 
-same_in : (own : Own) (o : Option ActiveCall) (found : ℕ) → IsTheSame own (absorbed_in own o found).own
+pub same_in : (own : Own) (o : Option ActiveCall) (found : ℕ) → IsTheSame own (absorbed_in own o found).own
 same_in own None found = record { core = refl; layout = refl }
 same_in own (Some f) found = same_took own (took own f found)
 
@@ -135,7 +135,7 @@ stays_absorbed own None found some h = absurd (cc)
 stays_absorbed own (Some f) found some h = stays_took own (took own f found) (subst (λ b. Turns b (took own f found)) h
     (took_turns own f found))
 
-undecided_turn : (core : Core) (f : Turn) → is_decided_in core.active ≡ false → is_decided_in (core_in core f).active ≡ false
+pub undecided_turn : (core : Core) (f : Turn) → is_decided_in core.active ≡ false → is_decided_in (core_in core f).active ≡ false
 undecided_turn core (Begins call) h = refl
 undecided_turn core GoesOn h = h
 

@@ -1,5 +1,5 @@
 -- How many steps a machine says that a core has made of its call: those of each trace for which it stands, and fewer than the bound.
-use Rattle.std.proofs.Common.{◌≡◌, ℕ, ◌+◌, ◌<◌, ◌≤◌, Option, Some, None, IfSome, ◌↔◌, refl, sym, ap, subst, arith}
+use Rattle.std.proofs.Common.{◌≡◌, ℕ, ◌<◌, Option, Some, None, IfSome, ◌↔◌, refl, sym, ap, subst, arith}
 use Rattle.spk_nums.specs.Setting.{Setting, IsSetting}
 use Rattle.boot_words.specs.kernel_history.specs.Trace.{Trace, steps_in_call}
 use Rattle.call_steps.specs.call_stages.specs.declared.stages.ActiveCall.{ActiveCall}

@@ -4,6 +4,7 @@ pub mod Fits
 pub mod Advance
 pub mod Shown
 pub mod Runs
+pub mod Items
 pub mod Boot
 pub mod Close
 pub mod Inside

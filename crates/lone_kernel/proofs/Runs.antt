@@ -1,7 +1,7 @@
 -- Moves: steps of one core, one after another, until it is there.
 use Rattle.std.proofs.Common.{◌≡◌, ◌≢◌, ◌⊎◌, inl, inr, ℕ, ◌-◌, ◌<◌, ◌≤◌, ◌++◌, [], ◌∷◌, length}
 use Rattle.std.proofs.Common.{get_or, arith, refl, sym, ◌∙◌, ap, subst, true, false, Bool}
-use Rattle.std.specs.Prelude.{Option, Some, None, IsSome, IsTrue, IsFalse, option_map}
+use Rattle.std.specs.Prelude.{Option, Some, None, IsSome, IsFalse, option_map}
 use Rattle.std.proofs.lemmas.List.{length-take-le}
 use Rattle.std.proofs.lemmas.List.Elements.{All-cons, All-nil}
 use Rattle.std.proofs.lemmas.Option.{slice_get_cases}

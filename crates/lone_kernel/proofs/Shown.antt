@@ -1,5 +1,5 @@
 -- What a machine shows and tells of its steps is what its traces have.
-use Rattle.std.proofs.Common.{◌≡◌, ℕ, ◌<◌, List, ◌∷◌, get_or, Option, Some, None, map, sym, ◌∙◌, ap, subst, refl}
+use Rattle.std.proofs.Common.{◌≡◌, ℕ, ◌<◌, List, ◌∷◌, get_or, Option, Some, map, sym, ◌∙◌, ap, subst, refl}
 use Rattle.spk_nums.specs.Setting.{Setting, IsSetting}
 use Rattle.spk_nums.specs.declared.calls.Call.{Call}
 use Rattle.spk_nums.specs.declared.replies.Decision.{Decision}
@@ -11,10 +11,9 @@ use Rattle.boot_words.specs.kernel_history.specs.Trace.{Trace}
 use Rattle.boot_words.specs.kernel_history.specs.BootWords.{shape_of}
 use Rattle.call_steps.specs.call_stages.specs.declared.stages.Absorbed.{Absorbed}
 use Rattle.flight_laws.specs.core_invariant.specs.Events.{decided_in, returned_in}
-use Rattle.flight_laws.specs.flight.specs.Made.{IsMadeStep, step_of}
+use Rattle.flight_laws.specs.flight.specs.Made.{step_of}
 use Rattle.flight_laws.specs.flight.proofs.ByPlace.{place_is, left_is}
 use Rattle.step_views.specs.declared.names.WordName.{WordName}
-use Rattle.step_views.specs.declared.views.StepMade.{StepMade}
 use Rattle.step_views.specs.declared.views.StepView.{StepView}
 use Rattle.step_views.specs.Names.{named}
 use Rattle.step_views.specs.Views.{IsShown}
@@ -24,7 +23,7 @@ use Rattle.call_steps.specs.call_stages.specs.View.{Core}
 use Rattle.call_steps.specs.call_stages.specs.Fits.{IsCore}
 use Rattle.call_steps.specs.call_stages.specs.Cores.{move_of}
 use Rattle.lone_kernel.specs.Machine.{Machine, CanTake, core_in, seat_at, core_at, enters_as, turn_of, turn_at, found_by}
-use Rattle.lone_kernel.specs.Machine.{IsFit, stepped, step_in}
+use Rattle.lone_kernel.specs.Machine.{IsFit, step_in}
 use Rattle.lone_kernel.specs.Stands.{StandsFor}
 use Rattle.lone_kernel.specs.Shown.{IsNextView, ShowsNext, Steps, TellsStep}
 use Rattle.lone_kernel.proofs.OneStep.{seat_is, fit_here, calls_here, turn_here}

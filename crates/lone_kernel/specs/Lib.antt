@@ -15,3 +15,4 @@ pub mod Moves
 pub mod GivenSteps
 pub mod Inside
 pub mod Shown
+pub mod Items

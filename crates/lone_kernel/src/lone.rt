@@ -22,7 +22,7 @@ ghost use Rattle.flight_laws.specs.core_invariant.specs.Events.{decided_in};
 ghost use Rattle.spk_nums.specs.declared.steps.How.TheVariants.{One, Ready, Decide, Return};
 ghost use Rattle.flight_laws.specs.flight.specs.Decided.{is_decided_in};
 ghost use Rattle.lone_kernel.specs.Machine.{IsFitSeat, turn_of, begun_by, core_in, said_by, CanTake, MakesTurn, TakesTurn};
-ghost use Rattle.lone_kernel.specs.Machine.{seat_after, words_after, place_next, decisions_in, IsFinished, IsInCall, HasDecided};
+ghost use Rattle.lone_kernel.specs.Machine.{seat_after, words_after, place_next, decisions_in, due_in, IsFinished, IsInCall, HasDecided};
 ghost use Rattle.lone_kernel.specs.Machine.{IsReady, IsThere, IsDone, list_at, seat_at, core_at, AreLists, AreFresh};
 ghost use Rattle.lone_kernel.specs.Stands.{StandsFor};
 ghost use Rattle.call_steps.specs.Stepping.{steps_made};
@@ -30,7 +30,9 @@ ghost use Rattle.lone_kernel.specs.Inside.{IsBelowBound};
 ghost use Rattle.lone_kernel.specs.Moves.{MovesBy, StepsOnce, GoesBy, GoesFurther, calls_left};
 ghost use Rattle.lone_kernel.specs.Shown.{IsNextView, ShowsNext, Steps, TellsBy};
 ghost use Rattle.lone_kernel.specs.Machine.{enters_as, turn_at};
+ghost use Rattle.lone_kernel.specs.Items.{placed, IsAt, TakesItem, is_over};
 ghost use Rattle.lone_kernel.specs.declared.seats.Turn.{Turn};
+ghost use Rattle.call_steps.specs.call_stages.specs.declared.stages.Absorbed.TheVariants.{Going};
 ghost use Rattle.flight_laws.specs.core_invariant.specs.Events.{returned_in};
 ghost use Rattle.word_map.specs.Places.{IsIn};
 ghost use Rattle.word_map.specs.Moves.{op_of, word_of};
@@ -158,6 +160,7 @@ fn begin(seat: &mut Seat, turn: &Turn)
 }
 
 // How many calls a step decides.
+#[inline(always)]
 fn decisions_in(absorbed: &Absorbed) -> usize
     ensures { result ≡ decisions_in absorbed.now }
 {
@@ -167,21 +170,22 @@ fn decisions_in(absorbed: &Absorbed) -> usize
     }
 }
 
-// The core makes its next step over the words.
-fn go(seat: &mut Seat, layout: &Layout, words: &mut Vec<u64>) -> Absorbed
+// The core makes its next step over the words, and what it tells is written where it said before that the call goes on.
+#[inline(always)]
+fn go(seat: &mut Seat, layout: &Layout, words: &mut Vec<u64>, absorbed: &mut Absorbed)
     requires in_call { IsSome seat.old.state.active }
     requires machine { layout.now ≡ seat.old.state.own.layout }
     requires size { length words.old.items ≡ size_of layout.now }
     requires due { is_decided_in seat.old.state.active ≡ false → 0 < seat.old.due }
-    ensures goes { MakesTurn layout.now seat.old seat.new words.old.items words.new.items result }
+    requires going { absorbed.old ≡ Going }
+    ensures goes { MakesTurn layout.now seat.old seat.new words.old.items words.new.items absorbed.new }
     ensures fits { IsCore seat.new.state }
     ensures fewer { steps_left seat.new.state < steps_left seat.old.state }
 {
     let op = seat.state.next_op(layout);
     let found = perform(words, &op);
-    let absorbed = seat.state.absorb(told(&op, found));
-    seat.due -= decisions_in(&absorbed);
-    absorbed
+    seat.state.absorb_to(told(&op, found), absorbed);
+    seat.due -= decisions_in(absorbed);
 }
 
 // The core takes its turn: the turn's call begins, where it is one that does, and the core makes its next step.
@@ -195,21 +199,93 @@ fn take(seat: &mut Seat, turn: &Turn, layout: &Layout, words: &mut Vec<u64>) -> 
     ensures fits { IsCore seat.new.state }
     ensures fewer { steps_left seat.new.state < steps_left (core_in seat.old.state turn.now) }
 {
+    let mut absorbed = Absorbed::Going;
     begin(seat, turn);
-    go(seat, layout, words)
+    go(seat, layout, words, &mut absorbed);
+    absorbed
 }
 
-// Room for it was made at the start, so this takes no memory.
+// Notes the decision that a step has told, if it has told one.
+#[inline(always)]
 fn note(decisions: &mut Vec<Decision>, absorbed: &Absorbed, core: CoreNo, index: u32)
     requires { decided_in absorbed.now ≢ None → vec_len decisions.old < vec_capacity decisions.old }
     ensures items { decisions.new.items ≡ decisions.old.items ++ decision_at (decided_in absorbed.now) core index }
     ensures room { vec_capacity decisions.old ≤ vec_capacity decisions.new }
 {
-    if let Absorbed::Decided(reply) = *absorbed {
-        let decision = Decision { core, index, reply };
-        match decisions.push(decision) {
-            Ok(()) => {}
-            Err(_) => unreachable!(),
+    match absorbed {
+        Absorbed::Going | Absorbed::Returned(_) => {}
+        Absorbed::Decided(reply) => {
+            let reply = *reply;
+            note_reply(decisions, &reply, core, index)
+        }
+    }
+}
+
+// Room for it was made at the start, so this takes no memory.
+#[inline(never)]
+fn note_reply(decisions: &mut Vec<Decision>, reply: &Reply, core: CoreNo, index: u32)
+    requires { vec_len decisions.old < vec_capacity decisions.old }
+    ensures items { decisions.new.items ≡ decisions.old.items ++ decision_at (Some reply.now) core index }
+    ensures room { vec_capacity decisions.old ≤ vec_capacity decisions.new }
+{
+    let decision = Decision {
+        core,
+        index,
+        reply: *reply,
+    };
+    match decisions.push(decision) {
+        Ok(()) => {}
+        Err(_) => unreachable!(),
+    }
+}
+
+// Whether an item that takes the core this far is done with a step that has told this and left the core so.
+#[inline]
+fn is_over(how: How, absorbed: &Absorbed, state: &CoreState) -> bool
+    requires { absorbed.now ≡ Going → IsSome state.now.active }
+    ensures { result ≡ is_over how absorbed.now state.now }
+{
+    match absorbed {
+        Absorbed::Going => match how {
+            How::One => true,
+            How::Ready => state.is_ready(),
+            How::Decide | How::Return => false,
+        },
+        Absorbed::Decided(_) => match how {
+            How::One | How::Ready | How::Decide => true,
+            How::Return => false,
+        },
+        Absorbed::Returned(_) => true,
+    }
+}
+
+// The core takes its turn, and makes further steps until it is there. It has one seat and one list of words for them all.
+fn take_item(
+    seat: &mut Seat,
+    turn: &Turn,
+    layout: &Layout,
+    words: &mut Vec<u64>,
+    decisions: &mut Vec<Decision>,
+    core: CoreNo,
+    how: How,
+)
+    requires can { CanTake turn.now seat.old.state }
+    requires few { begun_by turn.now seat.old.begun < 2 ^ 32 }
+    requires machine { layout.now ≡ seat.old.state.own.layout }
+    requires size { length words.old.items ≡ size_of layout.now }
+    requires due { due_in (core_in seat.old.state turn.now).active ≤ seat.old.due }
+    requires room { vec_len decisions.old + due_in (core_in seat.old.state turn.now).active ≤ vec_capacity decisions.old }
+    ensures takes { (m : _) → IsAt m core turn.now seat.old words.old.items decisions.old.items → (IsDone how m core → ⊥)
+        → TakesItem how m (placed m core seat.new words.new.items decisions.new.items) core }
+    ensures room { vec_capacity decisions.old ≤ vec_capacity decisions.new }
+{
+    begin(seat, turn);
+    'going: loop {
+        let mut absorbed = Absorbed::Going;
+        go(seat, layout, words, &mut absorbed);
+        note(decisions, &absorbed, core, seat.begun as u32);
+        if is_over(how, &absorbed, &seat.state) {
+            return;
         }
     }
 }
@@ -508,25 +584,19 @@ impl LoneKernel {
         ensures goes { GoesBy how self.old self.new core }
         ensures fewer { how ≡ Return → calls_left self.new core < calls_left self.old core }
     {
-        let _setup = &self.setup;
-        'going: loop {
-            self.step_once(core);
-            if self.is_there(core, how) {
-                return;
-            }
-        }
-    }
-
-    // Makes one step of a core that has a turn.
-    fn step_once(&mut self, core: CoreNo)
-        requires here { core < self.old.setup.cores }
-        requires begins { IsFinished self.old core → ⊥ }
-        ensures setup { self.new.setup ≡ self.old.setup }
-        ensures lists { self.new.lists ≡ self.old.lists }
-        ensures goes { StepsOnce self.old self.new core }
-        ensures work { GoesFurther self.old self.new core }
-    {
-        self.advance(core);
+        let at = usize::from(core.number());
+        let Some(turn) = turn(&self.lists[at], &self.seats[at]) else {
+            unreachable!()
+        };
+        take_item(
+            &mut self.seats[at],
+            &turn,
+            &self.layout,
+            &mut self.words,
+            &mut self.decisions,
+            core,
+            how,
+        );
     }
 
     // Makes one step of a core that has a turn, and answers what the core tells of it.

@@ -6,7 +6,7 @@ use Rattle.lone_kernel.specs.declared.seats.Seat.{Seat}
 use Rattle.lone_kernel.specs.Machine.{Machine, seat_at, core_at, list_at, IsFit, IsFitSeat, IsFinished}
 use Rattle.lone_kernel.specs.Machine.{stepped, turn_at, turn_of, seat_after, found_by, decisions_in}
 use Rattle.lone_kernel.specs.Moves.{StepsOnce}
-use Rattle.lone_kernel.proofs.OneStep.{list_is, seat_is, turn_here, fit_here, calls_here, takes_here, stepped_is, fits_behind, fewer_behind}
+use Rattle.lone_kernel.proofs.OneStep.{seat_is, turn_here, fit_here, calls_here, takes_here, stepped_is, fits_behind, fewer_behind}
 use Rattle.lone_kernel.proofs.Fits.{IsOf, turn_is, fits_on, due_on, further, one_decision, count_decided, undecided_due}
 use Rattle.lone_kernel.proofs.Advance.{one_step, steps_like, further_like}
 use Rattle.lone_kernel.proofs.Shown.{steps_as}

@@ -1,59 +1,152 @@
-use Rattle.std.proofs.Common.{◌<◌, ◌∙◌, inl, refl, ap, sym, arith, subst}
-use Rattle.std.proofs.lemmas.Bool.{false≢true}
-use Rattle.spk_nums.specs.Setting.{IsSetting}
-use Rattle.lone_kernel.specs.Machine.{IsThere, IsInCall}
-use Rattle.lone_kernel.proofs.Runs.{begins_in_call, short_none, short_more, open_first, open_after}
-use Rattle.lone_kernel.proofs.Runs.{inside_after, there_at_last, works_on, counted_more}
+use Rattle.std.proofs.Common.{◌≡◌, ℕ, ◌<◌, ◌≤◌, map, Some, refl, sym, ◌∙◌, ap, subst, arith, slice_set, sum_by, get_or}
+use Rattle.std.proofs.lemmas.List.Sums.{sum_by-set}
+use Rattle.lone_kernel.specs.declared.seats.Seat.{Seat}
+use Rattle.lone_kernel.specs.Machine.{Machine, seat_at, turn_at, turn_of, IsFitSeat, IsDone}
+use Rattle.lone_kernel.specs.Moves.{GoesBy, calls_left}
+use Rattle.lone_kernel.specs.Items.{placed, IsAt, TakesItem}
+use Rattle.lone_kernel.proofs.OneStep.{seat_is, turn_here, fit_here, calls_here}
+use Rattle.lone_kernel.proofs.Fits.{IsOf, turn_is}
 use Rattle.lone_kernel.proofs.lone.LoneKernel.until.Goals as goal
+use Rattle.lone_kernel.proofs.lone.LoneKernel.until.Goals.{In-Some, After-self-1}
 
-pub going-init : goal.going-init
-going-init c = record {
-  setup = refl;
-  lists = refl;
-  begins = c.requires.begins;
-  stays_open = open_first c.args.how c.args.self.now c.args.core c.requires.undone;
-  counted = inl refl;
-  goes = short_none c.args.how c.args.self.now c.args.core;
+abbrev machine : In-Some → Machine
+machine c = record {
+  setup = c.self.inside.setup;
+  words = c.self.inside.words.items;
+  lists = map (λ v. v.items) c.self.inside.lists.items;
+  seats = c.self.inside.seats.items;
+  decisions = c.self.inside.decisions.items;
 }
 
-pub going-preserved : goal.going-preserved
-going-preserved c =
-    let i = c.going.invariant in
-    let s = c.step_once.ensures in
-    let v = ap (λ x. x.cores) i.setup in
+at : (c : In-Some) → c.from-at.result < c.self.inside.setup.cores
+at c =
+    let n = c.number.ensures.value in
+    let f = c.from-at.ensures in
     let r : c.args.core < c.args.self.now.setup.cores = c.requires.here in
-    let here : c.args.core < c.going.self.setup.cores = omega arith in
-    let short : IsThere c.args.how c.step_once.new.self c.args.core
-    → ⊥ = λ h. false≢true (sym c.if-is_there.false ∙ c.is_there.ensures.1 h) in
-    let inside : IsInCall c.step_once.new.self c.args.core =
-    inside_after c.args.how c.going.self c.step_once.new.self c.args.core i.stays_open s.work short in
-    record {
-      setup = s.setup ∙ i.setup;
-      lists = s.lists ∙ i.lists;
-      begins = begins_in_call c.step_once.new.self c.args.core inside;
-      stays_open = open_after c.args.how c.step_once.new.self c.args.core short;
-      counted = counted_more c.args.self.now c.going.self c.step_once.new.self c.args.core inside s.work i.counted;
-      goes = short_more c.args.self.now c.going.self c.step_once.new.self c.args.core i.setup s.setup here s.goes c.args.how short inside
-          i.goes;
-    }
+    let v = ap (λ m. m.setup.cores) c.self.view_is in
+    omega arith
 
-pub going-smaller : goal.going-smaller
-going-smaller c =
-    let i = c.going.invariant in
-    let s = c.step_once.ensures in
-    let short : IsThere c.args.how c.step_once.new.self c.args.core
-    → ⊥ = λ h. false≢true (sym c.if-is_there.false ∙ c.is_there.ensures.1 h) in
-    let inside : IsInCall c.step_once.new.self c.args.core =
-    inside_after c.args.how c.going.self c.step_once.new.self c.args.core i.stays_open s.work short in
-    works_on c.going.self c.step_once.new.self c.args.core inside s.work
+core_is : (c : In-Some) → c.from-at.result ≡ c.args.core
+core_is c = let n = c.number.ensures.value in let f = c.from-at.ensures in omega arith
 
-pub returns-then-is_there-clause-goes : goal.returns-then-is_there-clause-goes
-returns-then-is_there-clause-goes c =
-    let i = c.going.invariant in
-    let s = c.step_once.ensures in
-    let v = ap (λ x. x.cores) i.setup in
-    let r : c.args.core < c.args.self.now.setup.cores = c.requires.here in
-    let here : c.args.core < c.going.self.setup.cores = omega arith in
-    let setting : IsSetting c.args.self.now.setup = subst IsSetting (ap (λ m. m.setup) c.self.view_is) c.self.invariant.2 in
-    there_at_last c.args.self.now c.going.self c.step_once.new.self c.args.core i.setup s.setup here s.goes c.args.how r setting
-    c.requires.begins c.requires.undone i.stays_open (c.is_there.ensures.0 c.if-is_there.true) i.goes
+-- a seat read at the core's place
+module _ (c : In-Some) (k : Seat) (k_is : k ≡ get_or c.self.inside.seats.items c.from-at.result k) where
+  lent_is : seat_at (machine c) c.from-at.result ≡ k
+  lent_is = seat_is (λ v. v.items) c.self.inside.setup c.self.inside.words.items c.self.inside.lists.items c.self.inside.seats.items
+      c.self.inside.decisions.items c.from-at.result c.index.result.now k c.self.invariant.0 (at c) c.index.ensures k_is
+
+  pub fit_lent : IsFitSeat c.self.inside.setup c.index.result.now.items c.from-at.result k
+  fit_lent = fit_here (λ v. v.items) c.self.inside.setup c.self.inside.words.items c.self.inside.lists.items c.self.inside.seats.items
+      c.self.inside.decisions.items c.from-at.result c.index.result.now k c.self.invariant.0 (at c) c.index.ensures k_is
+
+  begins_lent : turn_of c.index.result.now.items k ≡ Some c.in-Some.turn
+  begins_lent =
+      let read : seat_at (machine c) c.from-at.result ≡ c.index-2.result.now =
+      seat_is (λ v. v.items) c.self.inside.setup c.self.inside.words.items c.self.inside.lists.items c.self.inside.seats.items
+      c.self.inside.decisions.items c.from-at.result c.index.result.now c.index-2.result.now c.self.invariant.0 (at c) c.index.ensures
+      c.index-2.ensures in
+      ap (turn_of c.index.result.now.items) (sym lent_is ∙ read) ∙ sym c.turn.ensures ∙ c.in-Some.is
+
+  begins_at : turn_at (machine c) c.from-at.result ≡ Some c.in-Some.turn
+  begins_at = turn_here (λ v. v.items) c.self.inside.setup c.self.inside.words.items c.self.inside.lists.items c.self.inside.seats.items
+      c.self.inside.decisions.items c.from-at.result c.index.result.now k c.self.invariant.0 (at c) c.index.ensures k_is c.in-Some.turn
+      begins_lent
+
+  pub of_lent : IsOf c.index.result.now.items k c.in-Some.turn
+  of_lent = turn_is c.self.inside.setup c.index.result.now.items c.from-at.result k c.in-Some.turn fit_lent
+      (calls_here (λ v. v.items) c.self.inside.setup c.self.inside.words.items c.self.inside.lists.items c.self.inside.seats.items
+      c.self.inside.decisions.items c.from-at.result c.index.result.now k c.self.invariant.0 (at c) c.index.ensures k_is) begins_lent
+
+  -- its decisions to come are among those of all cores
+  pub few_due : k.due ≤ sum_by (λ seat. seat.due) c.self.inside.seats.items
+  few_due =
+      let a = at c in
+      let seats = c.self.invariant.0.seats in
+      let none : Seat = record { begun = 0; due = 0; state = k.state } in
+      let all = sum_by-set (λ seat. seat.due) c.self.inside.seats.items c.from-at.result none k (omega arith) in
+      let same : k.due ≡ (get_or c.self.inside.seats.items c.from-at.result k).due = ap (λ (s : Seat). s.due) k_is in
+      omega arith
+
+  pub is_at : IsAt (machine c) c.args.core c.in-Some.turn k c.self.inside.words.items c.self.inside.decisions.items
+  is_at = subst (λ (n : ℕ). IsAt (machine c) n c.in-Some.turn k c.self.inside.words.items c.self.inside.decisions.items) (core_is c) (record {
+    fit = c.self.invariant.0;
+    setting = c.self.invariant.2;
+    here = at c;
+    begins = begins_at;
+    seat_is = sym lent_is;
+    words_are = refl;
+    decisions_are = refl;
+  })
+
+pub take_item-requires-clause-can : goal.take_item-requires-clause-can
+take_item-requires-clause-can c =
+    let i = (goal.at.take_item-requires-clause-can c).In-Some in
+    (of_lent i c.index_mut.result.now c.index_mut.ensures.value).can
+
+pub take_item-requires-clause-few : goal.take_item-requires-clause-few
+take_item-requires-clause-few c =
+    let i = (goal.at.take_item-requires-clause-few c).In-Some in
+    let within = (of_lent i c.index_mut.result.now c.index_mut.ensures.value).within in
+    let small = (fit_lent i c.index_mut.result.now c.index_mut.ensures.value).small in
+    omega arith
+
+pub take_item-requires-clause-machine : goal.take_item-requires-clause-machine
+take_item-requires-clause-machine c =
+    let i = (goal.at.take_item-requires-clause-machine c).In-Some in
+    i.self.invariant.1 ∙ sym (fit_lent i c.index_mut.result.now c.index_mut.ensures.value).shape
+
+pub take_item-requires-clause-due : goal.take_item-requires-clause-due
+take_item-requires-clause-due c =
+    let i = (goal.at.take_item-requires-clause-due c).In-Some in
+    let of = of_lent i c.index_mut.result.now c.index_mut.ensures.value in
+    let all = of.due in
+    let low = of.within in
+    omega arith
+
+pub take_item-requires-clause-room : goal.take_item-requires-clause-room
+take_item-requires-clause-room c =
+    let i = (goal.at.take_item-requires-clause-room c).In-Some in
+    let of = of_lent i c.index_mut.result.now c.index_mut.ensures.value in
+    let all = of.due in
+    let low = of.within in
+    let few = few_due i c.index_mut.result.now c.index_mut.ensures.value in
+    let room = i.self.invariant.3 in
+    omega arith
+
+abbrev before : After-self-1 → In-Some
+before c = (goal.at.returns-clause-goes c).In-Some
+
+abbrev now : After-self-1 → Machine
+now c = record {
+  setup = c.self.inside.setup;
+  words = c.take_item.new.words.items;
+  lists = map (λ v. v.items) c.self.inside.lists.items;
+  seats = slice_set c.self.inside.seats.items c.from-at.result c.take_item.new.seat;
+  decisions = c.take_item.new.decisions.items;
+}
+
+item : (c : After-self-1) → TakesItem c.args.how (machine (before c)) (now c) c.args.core
+item c =
+    let i = before c in
+    let m = machine i in
+    let placed_as : (n : ℕ) → Machine = λ n. placed m n c.take_item.new.seat c.take_item.new.words.items c.take_item.new.decisions.items in
+    subst (λ x. TakesItem c.args.how m x c.args.core) (ap placed_as (sym (core_is i)))
+    (c.take_item.ensures.takes m (is_at i c.index_mut.result.now c.index_mut.ensures.value)
+    (λ done. i.requires.undone (subst (λ x. IsDone c.args.how x c.args.core) i.self.view_is done)))
+
+pub invariant_of-self : goal.invariant_of-self
+invariant_of-self c =
+    let i = before c in
+    let due = (item c).due in
+    let room = c.take_item.ensures.room in
+    let was = i.self.invariant.3 in
+    let v = c.take_item.new.decisions.ok.0 in
+    let w = c.self.inside.decisions.ok.0 in
+    ((item c).fit, i.self.invariant.1, i.self.invariant.2, omega (arith, due, room, was, v, w))
+
+pub returns-clause-goes : goal.returns-clause-goes
+returns-clause-goes c = subst (λ x. GoesBy c.args.how x (now c) c.args.core) (before c).self.view_is (item c).goes
+
+pub returns-clause-fewer : goal.returns-clause-fewer
+returns-clause-fewer c returns =
+    subst (λ x. calls_left (now c) c.args.core < calls_left x c.args.core) (before c).self.view_is ((item c).fewer returns)
