@@ -28,7 +28,7 @@ use crate::later::act_step;
 use crate::starts::{act_begins, found_free, found_held};
 use crate::stores::store;
 use crate::tails::tail_op;
-use act_states::{Met, Own, OwnChange, Refusal, Tail, Work, WorkStep};
+use act_states::{Act, Met, Own, OwnChange, Refusal, Tail, Work, WorkStep};
 use call_acts::{act_op, act_ready, begin_touch, frame_of, met_name, reads_of};
 use call_plans::{Decides, Next, Nth, Spot};
 use call_stages::{ActiveCall, Stage, Told};
@@ -81,7 +81,12 @@ fn work_op(work: &Work, layout: &Layout) -> WordOp
             change: _,
             act: _,
         } => pin.next(layout),
-        Work::Act { act } => act_op(act, layout),
+        Work::Act { act } => match act {
+            Act::Remove { close, cap: _ } => close.next(layout),
+            Act::Tick { charge } => charge.next(layout),
+            Act::Share { pair } => pair.next(layout),
+            _ => act_op(act, layout),
+        },
     }
 }
 
