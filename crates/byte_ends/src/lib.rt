@@ -60,6 +60,3 @@ pub trait Sink {
         ensures failed { OnErr result (HasRisen (faults self.old) (faults self.new)) }
         ensures count { faults self.old ≤ faults self.new };
 }
-
-#[cfg(test)]
-mod tests;

@@ -1,1 +1,20 @@
+-- What the crates above name through this one.
+pub use Rattle.make_acts.specs.entry_words
+pub use Rattle.make_acts.specs.frame_words
+pub use Rattle.make_acts.specs.tcap_words
+pub use Rattle.make_acts.specs.word_map
+pub use Rattle.make_acts.specs.kernel_rules
+pub use Rattle.make_acts.specs.call_plans
+pub use Rattle.make_acts.specs.stage_look
+pub use Rattle.make_acts.specs.stage_pins
+pub use Rattle.make_acts.specs.stage_quiet
+pub use Rattle.make_acts.specs.stage_thread
+pub use Rattle.make_acts.specs.stage_sweep
+pub use Rattle.make_acts.specs.stage_tcap
+pub use Rattle.make_acts.specs.act_states
+pub use Rattle.make_acts.specs.act_counts
+pub use Rattle.make_acts
+pub use Rattle.thread_acts
+pub use Rattle.frame_acts
+-- Its own.
 pub mod Moving

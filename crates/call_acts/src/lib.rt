@@ -1,13 +1,14 @@
-//! What a call does between its look-ups and its decision, as code: its act, the counts that the act changes, and the scan before it.
+//! The steps of any act, as code: its next step, what it takes from the word found, whether that step decides.
 //!
 //! Each function computes one of `act_states`, where the types and the definitions stand.
 //!
-//! **Work.** An undecided call looks up what its plan names, each name in order and then the target: one program for all calls
-//! (`lookups`). Then its act begins, which is a call's own (`acts`). A step of the work goes on, refuses or answers. A refusal is
-//! a type without `ok`, so that a step which may only refuse carries nothing out, by its type.
+//! **Work.** An undecided call looks up what its plan names, each name in order and then the target: one program for all calls.
+//! Then its act begins, which is a call's own (`begin_acts`). A step of the work goes on, refuses or answers. A refusal is
+//! a type without `ok`, so that a step which may only refuse carries nothing out, by its type. The steps of each act stand with its
+//! family: `make_acts`, `thread_acts`, `frame_acts`; here they are chosen among.
 //!
 //! **Counts.** An act that changes the references to a frame says which counts it changes, and by how much. Each is acquired
-//! before the act's first step, by a load and a compare.
+//! before the act's first step, by a load and a compare (`act_counts`).
 //!
 //! **Copy.** The count of what is copied is acquired; a range names frames without a reference, and no count is. Then the target's
 //! entry is compared with the word that this call has loaded there; the compare decides. A target that is quiescing is scanned for
@@ -80,36 +81,15 @@
 //! component that does not live, and of the number of one that is made `occupied`, `quiescing` and `epochs-spent`; `running` of a thread
 //! that runs. A lost compare is `raced`.
 //!
-//! **A call more** adds a line to each function of `acts`: where its act begins, which counts it changes, the act's next step, what
-//! it takes, whether that step decides.
+//! **A call more** adds a line to each function of `acts`: the act's next step, what it takes, whether that step decides; and below, to
+//! `begin_act` where its act begins, and to `due` which counts it changes.
 //!
 //! See docs/FORMATS.md, 'Steps of calls', and docs/CLAIMS.md, 'Steps of calls'.
 #![tactic(auto)]
 
 mod acts;
-mod comps;
-mod counts;
-mod fills;
-mod flushes;
-mod invocations;
-mod kills;
-mod lookups;
-mod makings;
 mod moves;
-mod shares;
-mod switches;
-mod ticks;
-mod touches;
-mod typings;
-mod untypings;
 
-pub use acts::{act_op, act_ready, act_took, begin_act, reads_of, refuse, starts, undo};
-pub use counts::next_work;
-pub use flushes::flushed_op;
-pub use kills::dead_op;
-pub use lookups::{frame_of, met_free, met_held, met_name};
+pub use acts::{act_op, act_ready, act_took};
+pub use make_acts::act_counts;
 pub use moves::act_moves;
-pub use shares::{shared_more, shared_op};
-pub use switches::{idle_op, running_op};
-pub use touches::begin_touch;
-pub use untypings::{release_op, release_took};

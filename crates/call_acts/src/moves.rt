@@ -4,29 +4,30 @@
 //! to build, to copy or to store. A step that ends an act, or that few calls make, leaves the act as it was: what it leads to is told by
 //! `act_took`.
 
-ghost use Rattle.std.specs.Prelude.{◌≡◌, ◌≤◌};
-ghost use Rattle.stage_quiet.specs.Removal.{CloseFits, close_after, close_end};
-ghost use Rattle.stage_tcap.specs.Charging.{ChargeFits};
-ghost use Rattle.stage_thread.specs.Claiming.{ClaimFits, claim_after, claim_end};
-ghost use Rattle.act_states.specs.Acts.{ActFits, took_act, took_close, took_making, took_untyping, took_invoking, took_returning};
-ghost use Rattle.act_states.specs.Acts.{took_switching};
-ghost use Rattle.act_states.specs.Switches.{SwitchingFits, took_claim};
-ghost use Rattle.act_states.specs.Ticks.{took_tick};
-ghost use Rattle.act_states.specs.Touches.{TouchFits, took_touch};
-ghost use Rattle.act_states.specs.Untypings.{UntypingFits};
 ghost use Rattle.call_acts.specs.Moving.{MovesTo};
+ghost use Rattle.make_acts.specs.act_states.specs.Acts.{ActFits, took_act, took_close, took_invoking, took_making, took_returning};
+ghost use Rattle.make_acts.specs.act_states.specs.Acts.{took_switching, took_untyping};
+ghost use Rattle.make_acts.specs.act_states.specs.Switches.{SwitchingFits, took_claim};
+ghost use Rattle.make_acts.specs.act_states.specs.Ticks.{took_tick};
+ghost use Rattle.make_acts.specs.act_states.specs.Touches.{TouchFits, took_touch};
+ghost use Rattle.make_acts.specs.act_states.specs.Untypings.{UntypingFits};
+ghost use Rattle.make_acts.specs.stage_quiet.specs.Removal.{CloseFits, close_after, close_end};
+ghost use Rattle.make_acts.specs.stage_tcap.specs.Charging.{ChargeFits};
+ghost use Rattle.make_acts.specs.stage_thread.specs.Claiming.{ClaimFits, claim_after, claim_end};
+ghost use Rattle.std.specs.Prelude.{◌≤◌};
 
-use crate::invocations::{below_in, frame_in};
-use crate::makings::stored;
-use act_states::{
+use make_acts::act_counts::frame_in;
+use make_acts::act_states::{
     Act, Invoking, InvokingAt, Making, MakingAt, Returning, ReturningAt, SwitchAt, Switching,
     Touching, Untyping, UntypingAt,
 };
+use make_acts::stage_quiet::Close;
+use make_acts::stage_tcap::Charge;
+use make_acts::stage_thread::Claim;
+use make_acts::stored;
+use make_acts::word_map::Layout;
 use spk_nums::{Cap, StageEnd};
-use stage_quiet::Close;
-use stage_tcap::Charge;
-use stage_thread::Claim;
-use word_map::Layout;
+use thread_acts::below_in;
 
 /// Makes the step of an act that found this word, where the same act goes on after it, and says so; else the act stays as it was. What it
 /// names is of the layout's machine.

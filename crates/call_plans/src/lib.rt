@@ -18,8 +18,6 @@ mod calls;
 mod found;
 mod laws;
 mod plans;
-#[cfg(test)]
-mod tests;
 
 pub use bounds::{act_steps, bound, look_steps};
 pub use calls::plan_of;

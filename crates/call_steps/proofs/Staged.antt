@@ -1,104 +1,15 @@
--- Where a step takes a call does not depend on the stage that it leaves.
-use Rattle.std.proofs.Common.{◌≡◌, refl}
-use Rattle.spk_nums.specs.declared.steps.StageEnd.{StageEnd}
-use Rattle.spk_nums.specs.declared.steps.StageEnd.TheVariants as ends
-use Rattle.stage_look.specs.declared.look.Look.{Look}
-use Rattle.stage_look.specs.declared.look.Found.{Found}
-use Rattle.call_plans.specs.Plans.{pushed}
-use Rattle.call_plans.specs.After.{Next, NextName, NextFree, NextHeld, NextOwn, NextNothing, next_of}
-use Rattle.act_states.specs.declared.own.Own.{Own}
-use Rattle.act_states.specs.declared.lookups.Met.{Met}
-use Rattle.act_states.specs.declared.lookups.Met.TheVariants.{Finds, Refused}
-use Rattle.act_states.specs.declared.refusals.Refusal.TheVariants as refusal
-use Rattle.act_states.specs.declared.work.Work.TheVariants.{Lookup}
-use Rattle.act_states.specs.Refusals.{refusal_of}
-use Rattle.act_states.specs.WorkSteps.{refuse}
-use Rattle.act_states.specs.Lookups.{met_name, met_free, met_held}
-use Rattle.act_states.specs.declared.work.WorkStep.{WorkStep}
-use Rattle.act_states.specs.declared.work.WorkStep.TheVariants.{Goes, Acquires, Refuses, Answers, Changes as work_changes}
-use Rattle.call_stages.specs.declared.stages.ActiveCall.{ActiveCall}
-use Rattle.call_stages.specs.declared.stages.Stage.{Stage}
-use Rattle.stage_thread.specs.declared.alive.Alive.{Alive}
-use Rattle.call_stages.specs.declared.stages.Stage.TheVariants.{Living, Undecided}
-use Rattle.call_stages.specs.Steps.{landed, told, call_after, found_more, next_by, named_one, took_found, took_end, took_alive}
-use Rattle.call_steps.specs.Stepping.{looked_to, asked_to}
+-- Where a step takes a call does not depend on the stage that it leaves: two lemmas of `step_lands`, where a function of this crate can name
+-- them.
+use Rattle.std.proofs.Common.{◌≡◌}
+use Rattle.step_looks.specs.act_states.specs.declared.work.WorkStep.{WorkStep}
+use Rattle.step_looks.specs.call_stages.specs.declared.stages.ActiveCall.{ActiveCall}
+use Rattle.step_looks.specs.call_stages.specs.declared.stages.Stage.{Stage}
+use Rattle.step_looks.specs.call_stages.specs.Steps.{landed, told, call_after}
+use Rattle.step_looks.specs.step_lands.proofs.Staged.{told_from as told_landed, call_from as call_landed}
 
 pub told_from : (a : ActiveCall) (s : Stage) (step : WorkStep) → told (landed (record a { stage = s }) step) ≡ told (landed a step)
-told_from a s (Goes work) = refl
-told_from a s (Acquires count work) = refl
-told_from a s (Refuses r tail) = refl
-told_from a s (Answers v drawn tail) = refl
-told_from a s (work_changes r change drawn tail) = refl
+told_from a s step = told_landed a s step
 
 pub call_from : (a : ActiveCall) (s : Stage) (step : WorkStep)
     → call_after (record a { stage = s }) (landed (record a { stage = s }) step) ≡ call_after a (landed a step)
-call_from a s (Goes work) = refl
-call_from a s (Acquires count work) = refl
-call_from a s (Refuses r tail) = refl
-call_from a s (Answers v drawn tail) = refl
-call_from a s (work_changes r change drawn tail) = refl
-
--- as `call_from`, of a call that was another before it found what it has found
-after_from : (old now a : ActiveCall) (s : Stage) (step : WorkStep)
-    → call_after old (landed (record a { stage = s }) step) ≡ call_after now (landed a step)
-after_from old now a s (Goes work) = refl
-after_from old now a s (Acquires count work) = refl
-after_from old now a s (Refuses r tail) = refl
-after_from old now a s (Answers v drawn tail) = refl
-after_from old now a s (work_changes r change drawn tail) = refl
-
-told_named : (own : Own) (a : ActiveCall) (s : Stage) (m : Met) → told (named_one own (record a { stage = s }) m) ≡ told (named_one own a m)
-told_named own a s (Finds k) = told_from (found_more a (pushed a.found k)) s (next_by own (found_more a (pushed a.found k)))
-told_named own a s (Refused r) = told_from a s (refuse r)
-
-call_named : (own : Own) (a : ActiveCall) (s : Stage) (m : Met)
-    → call_after (record a { stage = s }) (named_one own (record a { stage = s }) m) ≡ call_after a (named_one own a m)
-call_named own a s (Finds k) =
-    after_from (record a { stage = s }) a (found_more a (pushed a.found k)) s (next_by own (found_more a (pushed a.found k)))
-call_named own a s (Refused r) = call_from a s (refuse r)
-
-told_found : (own : Own) (a : ActiveCall) (s : Stage) (n : Next) (f : Found)
-    → told (took_found own (record a { stage = s }) n f) ≡ told (took_found own a n f)
-told_found own a s (NextName n wanted) f = told_named own a s (met_name wanted f.value)
-told_found own a s (NextFree target) f = told_from a s (met_free own a.call a.found a.read f f.value)
-told_found own a s (NextHeld target) f = told_from a s (met_held own a.call a.found f f.value)
-told_found own a s (NextOwn v) f = told_from a s (refuse refusal.Raced)
-told_found own a s NextNothing f = told_from a s (refuse refusal.Raced)
-
-call_found : (own : Own) (a : ActiveCall) (s : Stage) (n : Next) (f : Found)
-    → call_after (record a { stage = s }) (took_found own (record a { stage = s }) n f) ≡ call_after a (took_found own a n f)
-call_found own a s (NextName n wanted) f = call_named own a s (met_name wanted f.value)
-call_found own a s (NextFree target) f = call_from a s (met_free own a.call a.found a.read f f.value)
-call_found own a s (NextHeld target) f = call_from a s (met_held own a.call a.found f f.value)
-call_found own a s (NextOwn v) f = call_from a s (refuse refusal.Raced)
-call_found own a s NextNothing f = call_from a s (refuse refusal.Raced)
-
-pub told_looked : (own : Own) (a : ActiveCall) (look : Look) (end : StageEnd Found)
-    → told (looked_to own (record a { stage = Undecided (Lookup look) }) end) ≡ told (took_end own a look end)
-told_looked own a look ends.Going = refl
-told_looked own a look (ends.Decided r) = told_from a (Undecided (Lookup look)) (refuse (refusal_of r))
-told_looked own a look (ends.Done f) = told_found own a (Undecided (Lookup look)) (next_of a.plan a.found) f
-told_looked own a look (ends.Refuse r) = told_from a (Undecided (Lookup look)) (refuse (refusal_of r))
-
-pub call_looked : (own : Own) (a : ActiveCall) (look : Look) (end : StageEnd Found)
-    → call_after (record a { stage = Undecided (Lookup look) }) (looked_to own (record a { stage = Undecided (Lookup look) }) end)
-    ≡ call_after a (took_end own a look end)
-call_looked own a look ends.Going = refl
-call_looked own a look (ends.Decided r) = call_from a (Undecided (Lookup look)) (refuse (refusal_of r))
-call_looked own a look (ends.Done f) = call_found own a (Undecided (Lookup look)) (next_of a.plan a.found) f
-call_looked own a look (ends.Refuse r) = call_from a (Undecided (Lookup look)) (refuse (refusal_of r))
-
-pub told_asked : (own : Own) (a : ActiveCall) (alive : Alive) (end : StageEnd (Unit {0}))
-    → told (asked_to own (record a { stage = Living alive }) end) ≡ told (took_alive own a alive end)
-told_asked own a alive ends.Going = refl
-told_asked own a alive (ends.Decided r) = told_from a (Living alive) (refuse (refusal_of r))
-told_asked own a alive (ends.Done x) = told_from a (Living alive) (next_by own a)
-told_asked own a alive (ends.Refuse r) = told_from a (Living alive) (refuse (refusal_of r))
-
-pub call_asked : (own : Own) (a : ActiveCall) (alive : Alive) (end : StageEnd (Unit {0}))
-    → call_after (record a { stage = Living alive }) (asked_to own (record a { stage = Living alive }) end)
-    ≡ call_after a (took_alive own a alive end)
-call_asked own a alive ends.Going = refl
-call_asked own a alive (ends.Decided r) = call_from a (Living alive) (refuse (refusal_of r))
-call_asked own a alive (ends.Done x) = call_from a (Living alive) (next_by own a)
-call_asked own a alive (ends.Refuse r) = call_from a (Living alive) (refuse (refusal_of r))
+call_from a s step = call_landed a s step

@@ -1,5 +1,5 @@
 -- What the crates above name through this one.
-pub use Rattle.act_states
-pub use Rattle.call_stages
+pub use Rattle.step_looks.specs.act_states
+pub use Rattle.step_looks.specs.call_stages
 -- Its own.
 pub mod Stepping

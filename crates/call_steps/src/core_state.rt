@@ -3,25 +3,21 @@
 ghost use Rattle.std.specs.Prelude.{◌≡◌, ◌<◌, ◌≤◌, None, IsSome, IsTrue, ◌↔◌};
 ghost use Rattle.spk_nums.specs.CallLimits.{InLimits};
 ghost use Rattle.spk_nums.specs.WordSteps.{place_in};
-ghost use Rattle.word_map.specs.Places.{size_of};
-ghost use Rattle.word_map.specs.Moves.{op_of};
-ghost use Rattle.kernel_rules.specs.Laws.{calls_counted};
-ghost use Rattle.call_stages.specs.Cores.{started, end_of, begun, move_of, ready_of, absorbed, told_of_step};
-ghost use Rattle.call_stages.specs.Fits.{IsCore, steps_left};
+ghost use Rattle.step_looks.specs.word_map.specs.Places.{size_of};
+ghost use Rattle.step_looks.specs.word_map.specs.Moves.{op_of};
+ghost use Rattle.step_looks.specs.kernel_rules.specs.Laws.{calls_counted};
+ghost use Rattle.step_looks.specs.call_stages.specs.Cores.{started, end_of, begun, move_of, ready_of, absorbed, told_of_step};
+ghost use Rattle.step_looks.specs.call_stages.specs.Fits.{IsCore, steps_left};
 ghost use Rattle.call_steps.specs.Stepping.{steps_made};
 
 use crate::steps::{absorb, is_ready, stage_op};
-use act_states::Own;
-#[cfg(test)]
-use act_states::{Act, Untyping, UntypingAt, Work};
-use call_plans::{Caps, plan_of};
-use call_stages::{Absorbed, ActiveCall, Stage, Told};
 use spk_nums::{Call, CoreEnd, CoreNo, FrameNo, Reply, Setup, Stamp, Translations, WordOp};
-#[cfg(test)]
-use spk_nums::{CapId, FrameArg, Make};
-use stage_pins::AcquiredCounts;
 use std::marker::Model;
-use word_map::Layout;
+use step_looks::act_states::Own;
+use step_looks::call_plans::{Caps, plan_of};
+use step_looks::call_stages::{Absorbed, ActiveCall, Stage, Told};
+use step_looks::stage_pins::AcquiredCounts;
+use step_looks::word_map::Layout;
 
 /// A core of a machine: its call, if it is in one, and what it has of its own.
 #[derive(Clone, Copy, PartialEq, Eq, Debug)]
@@ -31,11 +27,11 @@ pub struct CoreState {
 }
 
 impl Model for CoreState {
-    ghost use Rattle.call_stages.specs.View.{Core};
+    ghost use Rattle.step_looks.specs.call_stages.specs.View.{Core};
 
     ghost Value = { Core };
 
-    ghost use Rattle.call_stages.specs.Fits.{IsCore};
+    ghost use Rattle.step_looks.specs.call_stages.specs.Fits.{IsCore};
 
     ghost view = { λ s. record { own = s.own; active = s.active } };
 
@@ -231,49 +227,6 @@ impl CoreState {
             owed: self.own.owed,
             cached: self.own.cached,
         }
-    }
-}
-
-#[cfg(test)]
-impl CoreState {
-    /// A core that is inside a call which is about to load the word of a frame that it makes untyped. The call has a larger bound than a
-    /// retype. The machine has at most 2 cores.
-    pub(crate) fn untyping(core: CoreNo, setup: &Setup, frame: FrameNo) -> CoreState
-        requires core { core < setup.now.cores }
-        requires cores { setup.now.cores ≤ 2 }
-        requires frame { frame < setup.now.frames }
-        requires calls { 1 ≤ setup.now.calls }
-        ensures { IsSome result.active }
-    {
-        let call = Call::Make {
-            what: Make::Table,
-            range: CapId::new(0),
-            frame: FrameArg::new(frame.number()),
-            table: CapId::new(1),
-            slot: CapId::new(20),
-        };
-        let mut state = CoreState::start(core, setup);
-        let plan = plan_of(&call);
-        state.active = Some(ActiveCall {
-            steps: 0,
-            stage: Stage::Undecided {
-                work: Work::Act {
-                    act: Act::Untype {
-                        untyping: Untyping {
-                            frame,
-                            core,
-                            at: UntypingAt::Load,
-                        },
-                    },
-                },
-            },
-            found: Caps::none(),
-            read: None,
-            counts: AcquiredCounts::none(),
-            call,
-            plan,
-        });
-        state
     }
 }
 

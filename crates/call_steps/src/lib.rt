@@ -1,6 +1,8 @@
 //! The steps of calls: one atomic step after another, as code.
 //!
-//! Each function computes one of `call_stages`, where the types and the definitions stand.
+//! Each function computes one of `call_stages`, where the types and the definitions stand. A step stands with its stage, in the crate
+//! below that has it: up to its look-ups in `step_looks`, where its act begins and acquires its counts in `step_starts`, in its act in
+//! `step_ends`, and once it is decided in `step_stores`. Here they are chosen among.
 //!
 //! **The life of a call.** It enters, asks whether its core's component lives, is undecided, is decided, and leaves, and these stages are
 //! the same for all calls, but that `ret`, `flush` and `tick` do not ask. The first step stores the core word with inside set and the stamp
@@ -8,8 +10,8 @@
 //! the core word with inside cleared and the clock that was loaded. So a core that is inside a call has entered it after everything that
 //! was removed at an earlier stamp.
 //!
-//! **Work.** An undecided call makes its look-ups, by its plan, and then its act, which is its own: both are of `call_acts`. A step
-//! of the work goes on, refuses or answers.
+//! **Work.** An undecided call makes its look-ups, by its plan, and then its act, which is its own (`begin_acts`,
+//! `call_acts`). A step of the work goes on, refuses or answers.
 //!
 //! **Counts.** An act that changes the references to a frame says which counts it changes, and by how much. Each is acquired
 //! before the act's first step, by a load and a compare, and is committed after the call is decided, by one store: with its change
@@ -27,28 +29,13 @@
 //! **Words that never come.** Every word is taken: what is no entry of this machine is refused with `raced`, and a clock past the
 //! range of a stamp stays at the range's end.
 //!
-//! **A call more** is a call more of `call_acts`; here it adds to the tail, if it has something to store.
+//! **A call more** is a call more of `call_acts`; to the steps it adds to the tail, if it has something to store.
 //!
 //! See docs/FORMATS.md, 'Steps of calls', and docs/PROOF.md, 'The invariant of the step machine'.
 #![tactic(auto)]
 
 mod core_state;
-mod counts;
-mod ends;
-#[cfg(test)]
-mod invoke_tests;
-mod later;
-mod starts;
 mod steps;
-mod stores;
-#[cfg(test)]
-mod switch_tests;
-mod tails;
-#[cfg(test)]
-mod tests;
-#[cfg(test)]
-mod untype_tests;
-mod values;
 
-pub use call_stages::Absorbed;
 pub use core_state::CoreState;
+pub use step_looks::call_stages::Absorbed;

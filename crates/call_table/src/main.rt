@@ -7,8 +7,6 @@
 mod formula;
 mod plan_words;
 mod rows;
-#[cfg(test)]
-mod tests;
 
 use crate::rows::{HEAD, rows};
 use std::io;

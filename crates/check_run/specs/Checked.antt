@@ -1,7 +1,7 @@
 -- What the command `check` writes.
 use Rattle.std.specs.Prelude.{◌≡◌, ℕ, List, Ok}
-use Rattle.script_reader.specs.declared.cause.ReadFault.{ReadFault}
-use Rattle.script_reader.specs.Readings.{Fails}
+use Rattle.line_reader.specs.declared.cause.ReadFault.{ReadFault}
+use Rattle.line_reader.specs.Lines.{Fails}
 use Rattle.marked_history.specs.declared.marks.Verdict.{Verdict}
 use Rattle.marked_history.specs.Verdicts.{IsVerdict}
 use Rattle.history_reader.specs.Inputs.{History, history_of}

@@ -7,8 +7,8 @@ ghost use Rattle.check_run.specs.Checked.{IsChecked, IsCheckFault};
 
 use history_check::verdict;
 use history_reader::read_history;
+use line_reader::ReadFault;
 use marked_history::{Line, Mark, Said, Verdict, Why};
-use script_reader::ReadFault;
 use spk_nums::{Call, Make, Reply, Value};
 use std::alloc::{AllocError, Global};
 

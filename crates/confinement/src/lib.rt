@@ -19,8 +19,6 @@ mod chain;
 mod origins;
 mod puts;
 mod table;
-#[cfg(test)]
-mod tests;
 
 pub use chain::Chain;
 pub use origin_rules::{ChainLink, Step};

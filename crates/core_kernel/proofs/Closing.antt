@@ -6,7 +6,7 @@ use Rattle.std.specs.Option.{option_map}
 use Rattle.std.proofs.lemmas.Bool.{cases_eq, cases_lt}
 use Rattle.std.proofs.lemmas.List.{length-map, length-append, get_or_push, get_or_append_left}
 use Rattle.std.proofs.lemmas.List.Elements.{All-get_or}
-use Rattle.std.proofs.lemmas.Option.{slice_get-map, slice_get-get_or, slice_get_within, slice_get_read, get_or_from_slice_get}
+use Rattle.std.proofs.lemmas.Option.{slice_get-map, slice_get-get_or, slice_get_cases, slice_get_read, get_or_from_slice_get}
 use Rattle.spk_nums.specs.declared.calls.Call.{Call}
 use Rattle.spk_nums.specs.declared.translations.CoreEnd.{CoreEnd}
 use Rattle.spk_nums.specs.Setting.{Setting, IsSetting}
@@ -117,6 +117,18 @@ fresh_seats setup table seats booted all fresh k d h =
       };
       between = ap (λ p. p.state.active) began;
     }
+
+-- an element that is there
+pub record At {A : Type 0} (xs : List A) (k : ℕ) : Type 0 where
+  pub x : A
+  pub at : slice_get xs k ≡ Some x
+  pub read : get_or xs k x ≡ x
+
+pub at_of : {A : Type 0} (xs : List A) (k : ℕ) → k < length xs → At xs k
+at_of xs k h = elim (slice_get_cases xs k).1 [
+  | inl found ↦ record { x = found.0; at = found.2; read = found.3 }
+  | inr past ↦ absurd (let far = past.0 in omega arith)
+]
 
 -- a member of a mapped list is that of a member
 pub mapped : {A B : Type 0} (f : A → B) (xs : List A) (k : ℕ) (y : B) → slice_get (map f xs) k ≡ Some y → (x : A)

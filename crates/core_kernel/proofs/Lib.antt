@@ -4,7 +4,3 @@ pub mod Along
 pub mod Turns
 pub mod Seats
 pub mod Closing
-pub mod Zips
-pub mod Lanes
-pub mod Numbered
-pub mod Wholes

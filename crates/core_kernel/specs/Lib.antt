@@ -11,6 +11,3 @@ pub mod Replies
 pub mod Kernel
 pub mod Turns
 pub mod Calls
-pub mod Runs
-pub mod Whole
-pub mod TakenSteps

@@ -35,12 +35,12 @@ impl CoreProgram for CoreRun {
 
     ghost steps = { running };
 
-    #[inline]
+    #[inline(always)]
     fn begin(&mut self, call: Call) {
         self.state.begin(call);
     }
 
-    #[inline]
+    #[inline(always)]
     fn next_op(&self) -> Option<WordOp> {
         if self.state.in_call() {
             Some(self.state.next_op(self.state.layout()))
@@ -49,9 +49,11 @@ impl CoreProgram for CoreRun {
         }
     }
 
-    #[inline]
+    #[inline(always)]
     fn absorb(&mut self, found: u64) {
-        match self.state.absorb(found) {
+        let mut told = Absorbed::Going;
+        self.state.absorb_to(found, &mut told);
+        match told {
             Absorbed::Going => {}
             Absorbed::Decided(_) => {}
             Absorbed::Returned(reply) => self.last = Some(reply),

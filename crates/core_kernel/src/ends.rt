@@ -37,10 +37,7 @@ fn spread_of(setup: &Setup) -> Spread
     ensures { 0 < result.row }
 {
     let frames = u32::from(setup.frames());
-    Spread {
-        first: 65 * frames,
-        row: frames + 2,
-    }
+    Spread::rows(65 * frames, frames + 2)
 }
 
 // The seats of a table as those of its kernel.

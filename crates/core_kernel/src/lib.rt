@@ -20,19 +20,11 @@ mod core_run;
 mod ends;
 mod gate;
 mod kernel;
-mod run;
-mod runner;
 mod seat;
-#[cfg(test)]
-mod tests;
 mod threads;
-mod whole;
 
 pub use core_run::CoreRun;
 pub use gate::{FreeGate, Gate};
 pub use kernel::Kernel;
-pub use run::run_cores;
-pub use runner::Runner;
 pub use seat::{CoreNote, CoreSeat, Front};
 pub use threads::cross_threads;
-pub use whole::{Ran, any_held, decisions_of, run_whole, runners_of, seats_of};

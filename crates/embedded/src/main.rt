@@ -1,6 +1,6 @@
 //! The kernel in a program of its own: two cores, each in a thread, one of which then tells the other what it has done.
 //!
-//! The README quotes `two_cores` line by line, and `./test` compares the two. No proof file is needed: all that the calls ask for
+//! docs/EMBEDDING.md quotes `two_cores` line by line, and `./test` compares the two. No proof file is needed: all that the calls ask for
 //! stands in the contracts of the calls before.
 #![tactic(auto)]
 

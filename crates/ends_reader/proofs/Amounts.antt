@@ -12,15 +12,17 @@ use Rattle.script_tokens.specs.declared.scanning.Ending.{Ending}
 use Rattle.script_tokens.specs.declared.scanning.Ending.TheVariants.{Whole, Fault}
 use Rattle.script_tokens.specs.declared.scanning.ByteFault.TheVariants.{NotAscii, TooManyLines}
 use Rattle.script_tokens.specs.Words.{words_of, ending_of}
-use Rattle.script_reader.specs.declared.cause.Cause.{Cause}
-use Rattle.script_reader.specs.declared.cause.Cause.TheVariants.{S2, S7}
-use Rattle.script_reader.specs.declared.cause.ReadFault.{ReadFault}
-use Rattle.script_reader.specs.Causes.{◌>>=◌}
-use Rattle.script_reader.specs.Arguments.{end_at}
+use Rattle.line_reader.specs.declared.cause.Cause.{Cause}
+use Rattle.line_reader.specs.declared.cause.Cause.TheVariants.{S2, S7}
+use Rattle.line_reader.specs.declared.cause.ReadFault.{ReadFault}
+use Rattle.line_reader.specs.Causes.{◌>>=◌}
+use Rattle.line_reader.specs.Arguments.{end_at}
+use Rattle.line_reader.proofs.Judged.{judged_is, read_is, bind_ok, then_ok, at_line_ok}
+use Rattle.line_reader.proofs.Rows.{few_rows}
+use Rattle.line_reader.proofs.LineSteps.{lines_keep}
 use Rattle.script_reader.specs.Readings.{Row, rows_of, Draft_of, draft_behind, meaning_of, AtMost, Gives, lists_of}
 use Rattle.script_reader.specs.Readings.{First_fault}
-use Rattle.script_reader.proofs.Amounts.{judged_is, read_is, bind_ok, then_ok, at_line_ok, few_weaker, few_behind, few_rows}
-use Rattle.script_reader.proofs.LineSteps.{lines_keep}
+use Rattle.script_reader.proofs.Amounts.{few_weaker, few_behind}
 use Rattle.ends_reader.specs.declared.part.PartWord.{PartWord}
 use Rattle.ends_reader.specs.declared.part.PartWord.TheVariants.{Core, Ask}
 use Rattle.ends_reader.specs.declared.reading.EndsSection.TheVariants.{Ends, Calls}

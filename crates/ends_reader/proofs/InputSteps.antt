@@ -7,10 +7,10 @@ use Rattle.std.proofs.lemmas.List.{map-set}
 use Rattle.async_ends.specs.declared.asks.EndAsk.{EndAsk}
 use Rattle.script_tokens.specs.declared.scanning.Ending.{Ending}
 use Rattle.script_tokens.specs.declared.scanning.Ending.TheVariants.{Whole}
+use Rattle.line_reader.specs.Lines.{and_then, whole_lines}
+use Rattle.line_reader.proofs.Judged.{read_is}
 use Rattle.script_reader.specs.Heads.{is_whole}
-use Rattle.script_reader.specs.Lines.{and_then, whole_lines}
 use Rattle.script_reader.specs.Readings.{Meaning, meaning_of, meaning_at}
-use Rattle.script_reader.proofs.Amounts.{read_is}
 use Rattle.ends_reader.specs.Inputs.{Input_draft, ask_lists, asks_of, with_ask, is_script, input_in, input_at}
 
 get_or_lists : (asks : List (Vec EndAsk)) (i : ℕ) (d : Vec EndAsk) → i < length asks

@@ -7,12 +7,12 @@ use Rattle.async_ends.specs.declared.endpoint.EndOp.{EndOp}
 use Rattle.async_ends.specs.declared.asks.EndAsk.{EndAsk}
 use Rattle.script_tokens.specs.declared.scanning.Ending.{Ending}
 use Rattle.script_tokens.specs.Words.{words_of, ending_of}
-use Rattle.script_reader.specs.declared.cause.Cause.{Cause}
-use Rattle.script_reader.specs.declared.cause.Cause.TheVariants.{S2, S7}
-use Rattle.script_reader.specs.Causes.{◌>>=◌}
-use Rattle.script_reader.specs.Arguments.{end_at}
+use Rattle.line_reader.specs.declared.cause.Cause.{Cause}
+use Rattle.line_reader.specs.declared.cause.Cause.TheVariants.{S2, S7}
+use Rattle.line_reader.specs.Causes.{◌>>=◌}
+use Rattle.line_reader.specs.Arguments.{end_at}
+use Rattle.line_reader.specs.Lines.{Row, rows_of, First_fault, at_line, and_then, Step, lines_from, whole_lines}
 use Rattle.script_reader.specs.Heads.{is_whole}
-use Rattle.script_reader.specs.Lines.{Row, rows_of, First_fault, at_line, and_then, Step, lines_from, whole_lines}
 use Rattle.script_reader.specs.Readings.{Draft_of, no_draft, draft_behind, Meaning, meaning_of}
 use Rattle.script_reader.specs.Readings.{IsDraft, IsScript, draft_view, script_view}
 use Rattle.ends_reader.specs.declared.part.PartWord.{PartWord}

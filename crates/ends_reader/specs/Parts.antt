@@ -3,9 +3,9 @@ use Rattle.std.specs.Prelude.{ℕ, List, Bool, false, Option, Some, None, Result
 use Rattle.async_ends.specs.declared.endpoint.EndOp.{EndOp}
 use Rattle.async_ends.specs.declared.endpoint.EndOp.TheVariants.{Send, Recv}
 use Rattle.async_ends.specs.declared.asks.EndAsk.{EndAsk}
-use Rattle.script_reader.specs.declared.cause.Cause.{Cause}
-use Rattle.script_reader.specs.Causes.{◌>>=◌}
-use Rattle.script_reader.specs.Arguments.{is_word, name_at, core_at, end_at}
+use Rattle.line_reader.specs.declared.cause.Cause.{Cause}
+use Rattle.line_reader.specs.Causes.{◌>>=◌}
+use Rattle.line_reader.specs.Arguments.{is_word, name_at, core_at, end_at}
 use Rattle.ends_reader.specs.declared.part.PartWord.{PartWord}
 use Rattle.ends_reader.specs.declared.part.PartWord.TheVariants.{Core, Ask}
 

@@ -2,11 +2,12 @@
 
 ghost use Rattle.std.specs.Prelude.{◌≡◌, ◌≤◌, slice_get};
 ghost use Rattle.std.specs.Option.{option_and_then};
-ghost use Rattle.script_reader.specs.Arguments.{texts};
+ghost use Rattle.line_reader.specs.Arguments.{texts};
 ghost use Rattle.ends_reader.specs.Parts.{begins_ends, part_word, core_in, ask_in};
 
 use async_ends::{EndAsk, EndOp};
-use script_reader::{Cause, capability_at, core_at, end_at, is_word};
+use call_reader::{capability_at, core_at};
+use line_reader::{Cause, end_at, is_word};
 use script_tokens::Token;
 use spk_nums::CoreNo;
 

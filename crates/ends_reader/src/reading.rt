@@ -2,9 +2,9 @@
 
 ghost use Rattle.std.specs.Prelude.{◌≡◌, ◌<◌, ◌≤◌, ◌^◌, true, false, [], length, replicate, All, IfOk, IfErr, OnOk};
 ghost use Rattle.script_tokens.specs.Words.{words_of, FewLines};
-ghost use Rattle.script_reader.specs.Arguments.{texts};
-ghost use Rattle.script_reader.specs.declared.cause.LineFault.TheVariants as line_fault;
-ghost use Rattle.script_reader.specs.Lines.{Takes, Gives};
+ghost use Rattle.line_reader.specs.Arguments.{texts};
+ghost use Rattle.line_reader.specs.declared.cause.LineFault.TheVariants as line_fault;
+ghost use Rattle.line_reader.specs.Lines.{Takes, Gives};
 ghost use Rattle.script_reader.specs.Readings.{lists_of, AtMost};
 ghost use Rattle.ends_reader.specs.Inputs.{ask_lists, with_ask, no_input, is_script, is_calls, ends_line, script_line};
 ghost use Rattle.ends_reader.specs.Inputs.{core_line, ask_line, part_line, input_behind};
@@ -12,9 +12,8 @@ ghost use Rattle.ends_reader.specs.Inputs.{input_at, input_of, draft_seen, input
 
 use crate::part::{PartWord, ask_in, begins_ends, core_in, first_of};
 use async_ends::{EndAsk, EndOp};
-use script_reader::{
-    Cause, Draft, LineFault, Lines, ReadFault, Script, end_at, fault_at, read_lines, whole_lines,
-};
+use line_reader::{Cause, LineFault, Lines, ReadFault, end_at, fault_at, read_lines, whole_lines};
+use script_reader::{Draft, Script};
 use script_tokens::{Ending, Token};
 use spk_nums::{Call, CoreNo, Make};
 use std::alloc::{AllocError, Global};

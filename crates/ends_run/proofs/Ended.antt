@@ -11,21 +11,21 @@ use Rattle.std.proofs.lemmas.Option.{slice_get-map, slice_get_within, get_or_fro
 use Rattle.spk_nums.specs.declared.calls.Call.{Call}
 use Rattle.spk_nums.specs.declared.replies.Reply.{Reply}
 use Rattle.spk_nums.specs.Setting.{Setting}
-use Rattle.core_kernel.specs.kernel_history.specs.Legal.{IsLegal}
-use Rattle.core_kernel.specs.kernel_history.specs.Trace.{Trace, Out, phase, calls_of}
-use Rattle.core_kernel.specs.kernel_history.proofs.Steps.{phase-other}
-use Rattle.core_kernel.specs.flight_laws.specs.Histories.{IsHistory}
-use Rattle.core_kernel.specs.Replies.{replies_of, AreOfOthers}
-use Rattle.core_kernel.specs.Kernel.{KernelValue, CoreSeatValue, AreAllSeats, AreFresh}
+use Rattle.core_runs.specs.core_kernel.specs.kernel_history.specs.Legal.{IsLegal}
+use Rattle.core_runs.specs.core_kernel.specs.kernel_history.specs.Trace.{Trace, Out, phase, calls_of}
+use Rattle.core_runs.specs.core_kernel.specs.kernel_history.proofs.Steps.{phase-other}
+use Rattle.core_runs.specs.core_kernel.specs.flight_laws.specs.Histories.{IsHistory}
+use Rattle.core_runs.specs.core_kernel.specs.Replies.{replies_of, AreOfOthers}
+use Rattle.core_runs.specs.core_kernel.specs.Kernel.{KernelValue, CoreSeatValue, AreAllSeats, AreFresh}
 use Rattle.spk_nums.specs.declared.translations.CoreEnd.{CoreEnd}
-use Rattle.core_kernel.specs.Calls.{HasSeen, ExtendsByOthers, EndsAt}
-use Rattle.core_kernel.specs.Runs.{RunnerValue, MakesCalls}
-use Rattle.core_kernel.specs.Whole.{decided, AreRunners}
-use Rattle.core_kernel.proofs.Closing.{mapped}
-use Rattle.core_kernel.proofs.Lists.{calls_of-append, calls_of-others, calls_of-past}
-use Rattle.core_kernel.proofs.Lists.{replies_of-append, replies_of-others, replies_of-other}
-use Rattle.core_kernel.proofs.Wholes.{at_of, all_back, lane, has_calls, all_decisions}
-use Rattle.ends_run.specs.Meets.{AreOf, HaveMet}
+use Rattle.core_runs.specs.core_kernel.specs.Calls.{HasSeen, ExtendsByOthers, EndsAt}
+use Rattle.core_runs.specs.Runs.{RunnerValue, MakesCalls}
+use Rattle.core_runs.specs.Whole.{decided, AreRunners}
+use Rattle.core_runs.specs.core_kernel.proofs.Closing.{at_of, mapped}
+use Rattle.core_runs.specs.core_kernel.proofs.Lists.{calls_of-append, calls_of-others, calls_of-past}
+use Rattle.core_runs.specs.core_kernel.proofs.Lists.{replies_of-append, replies_of-others, replies_of-other}
+use Rattle.core_runs.proofs.Wholes.{all_back, lane, has_calls, all_decisions}
+use Rattle.ends_runners.specs.Meets.{AreOf, HaveMet}
 use Rattle.async_ends.specs.declared.asks.EndAsk.{EndAsk}
 use Rattle.async_ends.specs.declared.asks.EndDone.{EndDone}
 use Rattle.async_ends.specs.Events.{Event, events_by, sent_to, taken_at}
@@ -37,12 +37,15 @@ use Rattle.async_ends.specs.Asked.{event_of, IsAnswered}
 use Rattle.async_ends.proofs.Asked.{events_kept, events_none, sent_by_cores}
 use Rattle.ends_run.specs.declared.whole.Listed.{Listed}
 use Rattle.ends_run.specs.declared.whole.EndsRan.{EndsRan}
-use Rattle.ends_run.specs.Ends.{EndsHistory, MakesAsked, asks_of, look_call}
-use Rattle.ends_run.specs.Runs.{EndRunnerValue, AwaitsEnds, MakesAsks}
-use Rattle.ends_run.specs.Tallies.{sends_by}
-use Rattle.ends_run.specs.Whole.{AreListed, IsReady, AreEndRunners, AreEnded}
-use Rattle.ends_run.proofs.Runs.{FewOf}
-use Rattle.ends_run.proofs.Sends.{among_events, by_cores}
+use Rattle.ends_runners.specs.Runs.{look_call}
+use Rattle.ends_runners.specs.Runners.{asks_of}
+use Rattle.ends_run.specs.Ends.{EndsHistory, MakesAsked}
+use Rattle.ends_runners.specs.Runs.{EndRunnerValue, AwaitsEnds, MakesAsks}
+use Rattle.ends_runners.specs.Tallies.{sends_by}
+use Rattle.ends_runners.specs.Runners.{IsReady, AreEndRunners}
+use Rattle.ends_run.specs.Whole.{AreListed, AreEnded}
+use Rattle.ends_runners.proofs.Runs.{FewOf}
+use Rattle.ends_runners.proofs.Sends.{among_events, by_cores}
 
 the_same : {A : Type 0} (x y : A) (o : Option A) → o ≡ Some x → o ≡ Some y → x ≡ y
 the_same x y o i j = cc

@@ -1,5 +1,1 @@
-pub mod Looks
-pub mod Runs
-pub mod Telling
-pub mod Sends
 pub mod Ended

@@ -1,25 +1,18 @@
 -- Lists of calls, and the endpoint calls that are made after them.
-use Rattle.std.specs.Prelude.{◌≡◌, ℕ, ◌+◌, List, [], ◌++◌, All, map, slice_index_or}
+use Rattle.std.specs.Prelude.{◌≡◌, ℕ, ◌+◌, List, ◌++◌, All, map}
 use Rattle.std.specs.List.{flat_map}
 use Rattle.spk_nums.specs.declared.calls.Call.{Call}
-use Rattle.spk_nums.specs.declared.calls.Call.TheVariants as call
 use Rattle.spk_nums.specs.Setting.{Setting}
-use Rattle.core_kernel.specs.kernel_history.specs.Order.{HasCalls}
-use Rattle.core_kernel.specs.kernel_history.specs.Trace.{Trace, Out, phase, calls_of}
-use Rattle.core_kernel.specs.flight_laws.specs.Histories.{IsHistory}
-use Rattle.core_kernel.specs.Replies.{replies_of}
+use Rattle.core_runs.specs.core_kernel.specs.kernel_history.specs.Order.{HasCalls}
+use Rattle.core_runs.specs.core_kernel.specs.kernel_history.specs.Trace.{Trace, Out, phase, calls_of}
+use Rattle.core_runs.specs.core_kernel.specs.flight_laws.specs.Histories.{IsHistory}
+use Rattle.core_runs.specs.core_kernel.specs.Replies.{replies_of}
 use Rattle.async_ends.specs.declared.asks.EndAsk.{EndAsk}
 use Rattle.async_ends.specs.declared.asks.EndDone.{EndDone}
 use Rattle.async_ends.specs.Events.{Event, IsLegal, events_by, sent_to, taken_at, untaken}
 use Rattle.async_ends.specs.Asked.{event_of, IsAnswered}
-
--- The endpoint calls that a core is to make.
-abbrev pub asks_of : List (List EndAsk) → ℕ → List EndAsk
-asks_of asks c = slice_index_or asks c []
-
--- The look of an endpoint call.
-abbrev pub look_call : EndDone → Call
-look_call d = call.Look d.ask.number
+use Rattle.ends_runners.specs.Runs.{look_call}
+use Rattle.ends_runners.specs.Runners.{asks_of}
 
 -- Core c's endpoint calls: one look for each, in order, in the trace that follows the lists; and in the endpoint history those that
 -- were not refused, in order, each at the frame to which its own look led. Each answer is one that its look allows.

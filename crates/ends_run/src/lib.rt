@@ -12,17 +12,9 @@
 //! See docs/MODEL.md, 'Endpoints', and docs/CLAIMS.md.
 #![tactic(auto)]
 
-mod authority;
-mod meets;
-mod run;
-mod runner;
-mod tallies;
-#[cfg(test)]
-mod tests;
 mod whole;
 
 pub use async_ends;
-pub use authority::{MOST_FRAMES, SeatAuthority};
-pub use core_kernel;
-pub use runner::EndRunner;
+pub use core_runs;
+pub use ends_runners::{EndRunner, MOST_FRAMES, SeatAuthority};
 pub use whole::{EndsRan, run_ends};

@@ -1,24 +1,21 @@
 //! Lists of calls, and endpoint calls after them: a kernel is booted, each core makes its list and then its endpoint calls, and
 //! the endpoints and the kernel are closed.
 
-ghost use Rattle.std.specs.Prelude.{◌≡◌, ◌≤◌, true, false, All, IfOk, IfSome, IsSome, length, map};
-ghost use Rattle.core_kernel.specs.Whole.{IsList};
-ghost use Rattle.core_kernel.specs.Kernel.{KernelValue, AreAllSeats};
+ghost use Rattle.std.specs.Prelude.{◌≡◌, ◌≤◌, true, All, IfOk, IfSome, IsSome, length, map};
+ghost use Rattle.core_runs.specs.Whole.{IsList};
+ghost use Rattle.core_runs.specs.core_kernel.specs.Kernel.{KernelValue, AreAllSeats};
 ghost use Rattle.async_ends.specs.Tables.{AreFresh};
 ghost use Rattle.async_ends.specs.Tables as ends;
-ghost use Rattle.ends_run.specs.Whole.{AreListed, AreEndRunners, AreParts, AreEnded, FewCalls, FewAsks};
+ghost use Rattle.ends_run.specs.Whole.{AreListed, AreEnded, FewCalls, FewAsks};
 
-use crate::authority::{MOST_FRAMES, SeatAuthority};
-use crate::meets::meet_all;
-use crate::run::run_asks;
-use crate::runner::EndRunner;
-use crate::tallies::sent_by;
-use async_ends::{EndAsk, EndDone, EndSeat, EndTable};
-use core_kernel::{
-    CoreSeat, Gate, Kernel, any_held, decisions_of, run_cores, runners_of, seats_of,
+use async_ends::{EndAsk, EndDone, EndTable};
+use core_runs::core_kernel::{CoreSeat, Kernel};
+use core_runs::{Gate, any_held, decisions_of, run_cores, runners_of, seats_of};
+use ends_runners::{
+    MOST_FRAMES, Parts, any_stopped, end_runners, meet_all, parts_of, run_asks, sent_by,
 };
 use spk_nums::{Call, Decision, Memory, Setup};
-use std::alloc::{AllocError, Global};
+use std::alloc::Global;
 use std::thread::Threads;
 
 /// What lists of calls and endpoint calls after them have led to.
@@ -40,14 +37,6 @@ struct Listed {
     kernel: Kernel,
     seats: Vec<CoreSeat>,
     decisions: Vec<Decision>,
-}
-
-// The seats of runners, and the calls that they have made.
-#[derive(Drop)]
-struct Parts {
-    seats: Vec<CoreSeat>,
-    ends: Vec<EndSeat>,
-    done: Vec<Vec<EndDone>>,
 }
 
 // Makes the lists, and tells each seat that they are made. None comes exactly where the gate has stopped a runner.
@@ -79,77 +68,6 @@ fn make_lists<R: Threads + Sync, G: Gate>(
         seats,
         decisions,
     }))
-}
-
-// A runner for each seat at the kernel, with the seat at the endpoints, the endpoint calls and the list of its place.
-fn end_runners<'a>(
-    alloc: Global,
-    kernel: &'a Kernel,
-    seats: Vec<CoreSeat>,
-    ends: Vec<EndSeat>,
-    lists: &[Vec<Call>],
-    asks: &[Vec<EndAsk>],
-) -> Result<Vec<EndRunner<'a>>, Memory>
-    requires seats { All (λ s. s.kernel ≡ kernel.now) seats.items }
-    requires one_end_each { length ends.items ≡ length seats.items }
-    requires one_list_each { length lists.now ≡ length seats.items }
-    requires one_asks_each { length asks.now ≡ length seats.items }
-    requires few { All FewCalls lists.now }
-    requires few_asks { All FewAsks asks.now }
-    ensures { IfOk result (λ v. AreEndRunners seats.items ends.items (map (λ v. v.items) asks.now) v.items) }
-{
-    let mut rest = ends;
-    let mut runners = Vec::with_capacity(alloc, seats.len())?;
-    for seat in seats {
-        let at = runners.len();
-        let who = SeatAuthority::new(kernel, seat);
-        let end = rest.remove(0);
-        let asked = Vec::from_slice(alloc, asks[at].as_slice())?;
-        let runner = EndRunner::new(alloc, who, end, asked, lists[at].len() as u32)?;
-        match runners.push(runner) {
-            Ok(()) => {}
-            Err(_) => return Err(Memory),
-        }
-    }
-    Ok(runners)
-}
-
-// Whether the gate has stopped a runner.
-fn any_stopped(runners: &[EndRunner]) -> bool
-    ensures none { result ≡ false → All (λ r. r.held ≡ false) runners.now }
-    ensures some { All (λ r. r.held ≡ false) runners.now → result ≡ false }
-{
-    for runner in runners {
-        if runner.held {
-            return true;
-        }
-    }
-    false
-}
-
-// The runners' seats and calls.
-fn parts_of(alloc: Global, runners: Vec<EndRunner>) -> Result<Parts, AllocError>
-    ensures { IfOk result (λ p. AreParts runners.entry.items p.seats.items p.ends.items (map (λ v. v.items) p.done.items)) }
-{
-    let mut seats = Vec::with_capacity(alloc, runners.len())?;
-    let mut ends = Vec::with_capacity(alloc, runners.len())?;
-    let mut all = Vec::with_capacity(alloc, runners.len())?;
-    for runner in runners {
-        let EndRunner {
-            who,
-            seat,
-            done,
-            ..
-        } = runner;
-        seats.push(who.seat())?;
-        ends.push(seat)?;
-        all.push(done)?;
-    }
-    Ok(Parts {
-        seats,
-        ends,
-        done: all,
-    })
 }
 
 // Makes the endpoint calls after the lists. None comes exactly where the gate has stopped a runner.

@@ -11,7 +11,8 @@ mod names;
 mod runs;
 
 use crate::names::{Role, answers, file_paths, is_script, role_of};
-use crate::runs::{Outcome, run};
+use crate::runs::run;
+use run_outcomes::Outcome;
 use std::fs;
 use std::io::{self, ErrorKind};
 use std::process::ExitCode;

@@ -5,14 +5,15 @@ use Rattle.std.specs.Option.{ok_or, option_and_then}
 use Rattle.std.proofs.lemmas.Bool.{cases_Bool}
 use Rattle.std.proofs.lemmas.List.{length_push}
 use Rattle.script_tokens.specs.Words.{words_of, ending_of}
-use Rattle.script_reader.specs.declared.cause.Cause.{Cause}
-use Rattle.script_reader.specs.declared.cause.Cause.TheVariants.{S2, S7}
-use Rattle.script_reader.specs.declared.cause.ReadFault.{ReadFault}
+use Rattle.line_reader.specs.declared.cause.Cause.{Cause}
+use Rattle.line_reader.specs.declared.cause.Cause.TheVariants.{S2, S7}
+use Rattle.line_reader.specs.declared.cause.ReadFault.{ReadFault}
+use Rattle.line_reader.specs.Lines.{Row, rows_of, Gives}
+use Rattle.line_reader.proofs.LineSteps.{lines_keep}
+use Rattle.line_reader.proofs.Judged.{judged_is, read_is, bind_ok, then_ok, at_line_ok}
+use Rattle.line_reader.proofs.Rows.{few_rows}
 use Rattle.script_reader.specs.Heads.{is_whole}
-use Rattle.script_reader.specs.Lines.{Row, rows_of, Gives}
 use Rattle.script_reader.specs.Readings.{draft_behind, meaning_at}
-use Rattle.script_reader.proofs.LineSteps.{lines_keep}
-use Rattle.script_reader.proofs.Amounts.{judged_is, read_is, bind_ok, then_ok, at_line_ok, few_rows}
 use Rattle.history_reader.specs.declared.lines.LineWord.{LineWord}
 use Rattle.history_reader.specs.declared.lines.LineWord.TheVariants as known
 use Rattle.history_reader.specs.declared.reading.GivenHistory.{GivenHistory}

@@ -2,11 +2,11 @@
 use Rattle.std.proofs.Common.{◌≡◌, ℕ, ◌<◌, Bool, true, false, List, Result, Ok, Err, refl, sym, subst, nat_lt, if◌then◌else◌}
 use Rattle.std.specs.Option.{ok_or}
 use Rattle.std.proofs.lemmas.Bool.{ltb-true}
-use Rattle.script_reader.specs.declared.cause.Cause.{Cause}
-use Rattle.script_reader.specs.declared.cause.Cause.TheVariants.{S1, S6}
-use Rattle.script_reader.specs.Causes.{◌>>=◌}
-use Rattle.script_reader.specs.Numerals.{number_of}
-use Rattle.script_reader.specs.Arguments.{word_at, core_at}
+use Rattle.line_reader.specs.declared.cause.Cause.{Cause}
+use Rattle.line_reader.specs.declared.cause.Cause.TheVariants.{S1, S6}
+use Rattle.line_reader.specs.Causes.{◌>>=◌}
+use Rattle.line_reader.specs.Numerals.{number_of}
+use Rattle.line_reader.specs.Arguments.{word_at, core_at}
 
 abbrev judged : ℕ → Result ℕ Cause
 judged n = Ok n

@@ -2,7 +2,7 @@
 use Rattle.std.proofs.Common.{◌≡◌, ℕ, ◌-◌, List, length, take, drop, sym, ap, ◌∙◌}
 use Rattle.std.proofs.lemmas.List.{take_rest, take-map, drop-map}
 use Rattle.script_tokens.specs.declared.token.Token.{Token}
-use Rattle.script_reader.specs.Arguments.{texts}
+use Rattle.line_reader.specs.Arguments.{texts}
 
 pub texts_before : (words : List Token) (place : ℕ) → texts (take place words) ≡ take place (texts words)
 texts_before words place = sym (take-map (λ (t : Token). t.text.now) place words)

@@ -4,11 +4,11 @@ use Rattle.std.specs.Option.{ok_or, option_and_then}
 use Rattle.spk_nums.specs.Setting.{Setting}
 use Rattle.script_tokens.specs.declared.scanning.Ending.{Ending}
 use Rattle.script_tokens.specs.Words.{words_of, ending_of}
-use Rattle.script_reader.specs.declared.cause.Cause.{Cause}
-use Rattle.script_reader.specs.declared.cause.Cause.TheVariants.{S2, S7}
-use Rattle.script_reader.specs.Causes.{◌>>=◌}
+use Rattle.line_reader.specs.declared.cause.Cause.{Cause}
+use Rattle.line_reader.specs.declared.cause.Cause.TheVariants.{S2, S7}
+use Rattle.line_reader.specs.Causes.{◌>>=◌}
+use Rattle.line_reader.specs.Lines.{Row, rows_of, First_fault, at_line, and_then, Step, lines_from as all_lines_from}
 use Rattle.script_reader.specs.Heads.{is_whole}
-use Rattle.script_reader.specs.Lines.{Row, rows_of, First_fault, at_line, and_then, Step, lines_from as all_lines_from}
 use Rattle.script_reader.specs.Readings.{Draft_of, no_draft, draft_behind, meaning_at, IsDraft, draft_view}
 use Rattle.marked_history.specs.declared.marks.Said.{Said}
 use Rattle.marked_history.specs.declared.marks.Line.{Line}

@@ -3,16 +3,16 @@ use Rattle.std.specs.Prelude.{ℕ, ◌+◌, ◌==◌, nat_lt, ◌&&◌, List, []
 use Rattle.std.specs.Prelude.{Result, Ok, Err, codes, if◌then◌else◌}
 use Rattle.std.specs.Option.{ok_or}
 use Rattle.spk_nums.specs.declared.calls.Call.{Call}
-use Rattle.script_reader.specs.declared.cause.Cause.{Cause}
-use Rattle.script_reader.specs.declared.cause.Cause.TheVariants.{S1, S2, S6}
-use Rattle.script_reader.specs.declared.first_words.FirstWord.{FirstWord}
-use Rattle.script_reader.specs.declared.first_words.FirstWord.TheVariants as first
-use Rattle.script_reader.specs.Causes.{◌>>=◌}
-use Rattle.script_reader.specs.Numerals.{is_digits, number_of}
-use Rattle.script_reader.specs.Arguments.{is_word, word_at, core_at, end_at}
-use Rattle.script_reader.specs.FirstWords.{first_word}
-use Rattle.script_reader.specs.CallLines.{call_line}
-use Rattle.script_reader.specs.OneLine.{verb_at}
+use Rattle.line_reader.specs.declared.cause.Cause.{Cause}
+use Rattle.line_reader.specs.declared.cause.Cause.TheVariants.{S1, S2, S6}
+use Rattle.line_reader.specs.Causes.{◌>>=◌}
+use Rattle.line_reader.specs.Numerals.{is_digits, number_of}
+use Rattle.line_reader.specs.Arguments.{is_word, word_at, core_at, end_at}
+use Rattle.call_reader.specs.declared.first_words.FirstWord.{FirstWord}
+use Rattle.call_reader.specs.declared.first_words.FirstWord.TheVariants as first
+use Rattle.call_reader.specs.FirstWords.{first_word}
+use Rattle.call_reader.specs.CallLines.{call_line}
+use Rattle.call_reader.specs.OneLine.{verb_at}
 use Rattle.marked_history.specs.declared.marks.Mark.TheVariants.{Enter, Decide, Return}
 use Rattle.marked_history.specs.declared.marks.Said.{Said}
 use Rattle.marked_history.specs.declared.marks.Said.TheVariants.{One, Whole}

@@ -9,11 +9,11 @@ use Rattle.spk_nums.specs.declared.replies.Value.{Value}
 use Rattle.spk_nums.specs.declared.replies.Value.TheVariants as value
 use Rattle.spk_nums.specs.declared.replies.Reply.{Reply}
 use Rattle.spk_nums.specs.declared.replies.Reply.TheVariants as reply
-use Rattle.script_reader.specs.declared.cause.Cause.{Cause}
-use Rattle.script_reader.specs.declared.cause.Cause.TheVariants.{S1, S2}
-use Rattle.script_reader.specs.Causes.{◌>>=◌}
-use Rattle.script_reader.specs.Numerals.{is_digits}
-use Rattle.script_reader.specs.Arguments.{is_word, word_at, number_at, core_at, end_at}
+use Rattle.line_reader.specs.declared.cause.Cause.{Cause}
+use Rattle.line_reader.specs.declared.cause.Cause.TheVariants.{S1, S2}
+use Rattle.line_reader.specs.Causes.{◌>>=◌}
+use Rattle.line_reader.specs.Numerals.{is_digits}
+use Rattle.line_reader.specs.Arguments.{is_word, word_at, number_at, core_at, end_at}
 use Rattle.history_reader.specs.declared.replies.ReplyName.{ReplyName}
 use Rattle.history_reader.specs.declared.replies.ReplyName.TheVariants as name
 

@@ -1,15 +1,16 @@
 //! What the lines so far say.
 
 ghost use Rattle.std.specs.Prelude.{◌≡◌, [], true, IfOk, OnOk};
-ghost use Rattle.script_reader.specs.Arguments.{texts};
-ghost use Rattle.script_reader.specs.Lines.{Takes};
+ghost use Rattle.line_reader.specs.Arguments.{texts};
+ghost use Rattle.line_reader.specs.Lines.{Takes};
 ghost use Rattle.marked_history.specs.Verdicts.{SaidFits};
 ghost use Rattle.history_reader.specs.Inputs.{no_history, head_line, with_said, given_line, line_by, line_behind, draft_seen};
 ghost use Rattle.history_reader.specs.Inputs.{IsHistoryDraft};
 
 use crate::lines::{LineWord, first_of, said_by};
+use line_reader::{Cause, LineFault, Lines, ReadFault, fault_at};
 use marked_history::{Line, Mark, Said};
-use script_reader::{Cause, Draft, LineFault, Lines, ReadFault, fault_at};
+use script_reader::Draft;
 use script_tokens::Token;
 use spk_nums::{Call, Make, Reply, Value};
 use std::alloc::{AllocError, Global};

@@ -12,6 +12,3 @@ mod values;
 mod words;
 
 pub use reading::{GivenHistory, read_history};
-
-#[cfg(test)]
-mod tests;

@@ -3,20 +3,17 @@
 ghost use Rattle.std.specs.Prelude.{◌≡◌, ◌<◌, ◌≤◌, ◌+◌, IfOk, length, slice_get, take, drop};
 ghost use Rattle.std.specs.Option.{option_and_then};
 ghost use Rattle.spk_nums.specs.CallLimits.{InLimits};
-ghost use Rattle.script_reader.specs.Arguments.{texts};
-ghost use Rattle.script_reader.specs.FirstWords.{first_word};
-ghost use Rattle.script_reader.specs.OneLine.{verb_at};
+ghost use Rattle.line_reader.specs.Arguments.{texts};
+ghost use Rattle.call_reader.specs.FirstWords.{first_word};
 ghost use Rattle.marked_history.specs.Verdicts.{SaidFits};
 ghost use Rattle.history_reader.specs.Lines.{is_of_head, dot_at, is_numbered, line_word, call_in, enter_line, decide_line, return_line};
 ghost use Rattle.history_reader.specs.Lines.{core_before, index_after, before_equals, answered, whole_line, said_by};
 
 use crate::replies::reply_of;
 use crate::words::{words_before, words_from};
+use call_reader::{FirstWord, call_line, core_at, first_word, verb_at};
+use line_reader::{Cause, end_at, is_digits, is_word, read_number, word_at};
 use marked_history::{Mark, Said};
-use script_reader::{
-    Cause, FirstWord, Verb, call_line, core_at, end_at, first_word, is_digits, is_word,
-    read_number, word_at,
-};
 use script_tokens::Token;
 use spk_nums::{Call, CoreNo};
 
@@ -110,19 +107,6 @@ pub fn first_of(words: &[Token]) -> Option<LineWord>
     match words.first() {
         Some(word) => line_word(word.text),
         None => None,
-    }
-}
-
-// The word of a call that words begin with.
-#[tactic(auto, unfolding(script_reader::specs::OneLine::verb_at))]
-fn verb_at(words: &[Token]) -> Result<Verb, Cause>
-    ensures { result ≡ verb_at (texts words.now) }
-{
-    let word = word_at(words, 0)?;
-    match first_word(word) {
-        Some(FirstWord::Call(verb)) => Ok(verb),
-        Some(_) => Err(Cause::S7),
-        None => Err(Cause::S2),
     }
 }
 

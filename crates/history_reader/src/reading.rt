@@ -2,13 +2,13 @@
 
 ghost use Rattle.std.specs.Prelude.{◌<◌, ◌≤◌, ◌^◌, length, IfOk};
 ghost use Rattle.script_tokens.specs.Words.{words_of, FewLines};
-ghost use Rattle.script_reader.specs.Lines.{Gives};
+ghost use Rattle.line_reader.specs.Lines.{Gives};
 ghost use Rattle.marked_history.specs.Verdicts.{LinesFit};
 ghost use Rattle.history_reader.specs.Inputs.{draft_seen, history_at, history_of, history_view, IsHistoryDraft};
 
 use crate::draft::{HistoryDraft, no_history};
+use line_reader::{ReadFault, read_lines};
 use marked_history::Line;
-use script_reader::{ReadFault, read_lines};
 use script_tokens::Ending;
 use spk_nums::{Make, Setup};
 use std::alloc::Global;

@@ -1,11 +1,12 @@
 //! Replies.
 
 ghost use Rattle.std.specs.Prelude.{◌≡◌, ◌<◌, ◌≤◌, IfOk};
-ghost use Rattle.script_reader.specs.Arguments.{texts};
+ghost use Rattle.line_reader.specs.Arguments.{texts};
 ghost use Rattle.history_reader.specs.Replies.{later_name, plain_name, reply_name, core_named, count_named, reply_by, reply_of};
 
 use crate::values::value_at;
-use script_reader::{Cause, core_at, end_at, is_word, number_at, word_at};
+use call_reader::core_at;
+use line_reader::{Cause, end_at, is_word, number_at, word_at};
 use script_tokens::Token;
 use spk_nums::{CoreNo, Reply, Value};
 

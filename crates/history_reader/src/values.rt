@@ -3,11 +3,11 @@
 ghost use Rattle.std.specs.Prelude.{◌≡◌, ◌<◌, ◌≤◌, IfOk, slice_get, codes};
 ghost use Rattle.spk_nums.specs.Limits.{least_arg, end_of_arg};
 ghost use Rattle.spk_nums.specs.Rights.{least_rights};
-ghost use Rattle.script_reader.specs.Arguments.{texts, number_at};
+ghost use Rattle.line_reader.specs.Arguments.{texts, number_at};
 ghost use Rattle.history_reader.specs.Replies.{kind_of, arg_at, rights_place, is_name, fewer_rights, both_rights, rights_at, cap_at};
 ghost use Rattle.history_reader.specs.Replies.{ticks_at, page_at, said_at, numbers_at, named_at, value_at};
 
-use script_reader::{Cause, end_at, is_digits, is_word, number_at};
+use line_reader::{Cause, end_at, is_digits, is_word, number_at};
 use script_tokens::Token;
 use spk_nums::{Cap, FrameNo, Kind, PageFlags, Rights, Value};
 

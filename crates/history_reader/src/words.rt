@@ -1,7 +1,7 @@
 //! The words of a line from a place on, and up to a place.
 
 ghost use Rattle.std.specs.Prelude.{◌≡◌, take, drop};
-ghost use Rattle.script_reader.specs.Arguments.{texts};
+ghost use Rattle.line_reader.specs.Arguments.{texts};
 
 use script_tokens::Token;
 

@@ -1,4 +1,5 @@
-//! Tests of the judge of decisions: for a state, a call and a reply, whether the reply is permitted, and whether the state then changes.
+//! Tests of the sequential kernel's state, part by part; and of the judge of decisions: for a state, a call and a reply, whether the reply is
+//! permitted, and whether the state then changes.
 //!
 //! See docs/CLAIMS.md, 'Crate by crate'.
 #![tactic(auto)]
@@ -7,3 +8,5 @@
 mod judging;
 #[cfg(test)]
 mod rows;
+#[cfg(test)]
+mod states;

@@ -13,6 +13,3 @@ pub use calls::push_call;
 pub use line::push_line;
 pub use numbers::{push_number, push_one, push_pair};
 pub use replies::push_reply;
-
-#[cfg(test)]
-mod tests;

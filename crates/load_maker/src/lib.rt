@@ -10,6 +10,3 @@ mod script;
 
 pub use law::is_accepted;
 pub use script::{load_script, made_script};
-
-#[cfg(test)]
-mod tests;

@@ -8,6 +8,3 @@ mod law;
 
 pub use counts::{push_counts, push_total};
 pub use law::{counts_once, counts_tell_each};
-
-#[cfg(test)]
-mod tests;

@@ -11,7 +11,7 @@ use Rattle.core_kernel.specs.Calls.{HasSeen, MakesCall}
 use Rattle.core_kernel.proofs.Lists.{calls_of-append}
 use Rattle.one_core_laws.proofs.Plain.{returns_plainly}
 use Rattle.sched_rules.specs.Schedule.{reply_to}
-use Rattle.fixed_prio.specs.Machines.{after_calls}
+use Rattle.sched_run.specs.fixed_prio.specs.Machines.{after_calls}
 
 -- One call more is made.
 pub made_more : (s made : CoreSeatValue) (call : Call) (r : Reply) → s.core ≡ 0 → MakesCall s call r made

@@ -17,7 +17,7 @@ use Rattle.one_core_laws.proofs.Plain.{one_core_is_plain}
 use Rattle.sched_rules.specs.Schedule.{Step, calls_of as calls_of_turns}
 use Rattle.sched_laws.specs.Charging.{TurnsCharge}
 use Rattle.sched_laws.proofs.Exactly.{exact_ticks}
-use Rattle.fixed_prio.specs.Machines.{after_calls}
+use Rattle.sched_run.specs.fixed_prio.specs.Machines.{after_calls}
 use Rattle.sched_reader.specs.Inputs.{Input, input_of}
 use Rattle.sched_start.specs.Owing.{IsNoTick}
 use Rattle.sched_start.proofs.Owed.{owes_nothing}

@@ -7,7 +7,7 @@ use Rattle.one_core_laws.specs.Plainly.{IsPlain}
 use Rattle.sched_rules.specs.Schedule.{Progress, Step, at_first, turns_of, calls_of, IsSchedule}
 use Rattle.sched_rules.specs.Texts.{schedule_text}
 use Rattle.sched_laws.specs.Charging.{TurnsCharge}
-use Rattle.fixed_prio.specs.Machines.{after_calls}
+use Rattle.sched_run.specs.fixed_prio.specs.Machines.{after_calls}
 use Rattle.sched_reader.specs.Inputs.{Input, input_of}
 use Rattle.sched_run.specs.Made.{calls_in}
 

@@ -5,8 +5,8 @@ ghost use Rattle.core_kernel.specs.kernel_history.specs.Trace.{state_after};
 ghost use Rattle.core_kernel.specs.Calls.{HasSeen};
 
 use core_kernel::{CoreSeat, Kernel};
-use fixed_prio::Machine;
 use sched_run::Boot;
+use sched_run::fixed_prio::Machine;
 use spk_nums::{Call, Memory, Reply, Setup};
 use std::alloc::Global;
 use std::marker::Model;

@@ -8,8 +8,6 @@
 #![tactic(auto)]
 
 mod lines;
-#[cfg(test)]
-mod tests;
 mod whole;
 
 pub use confinement::Origins;

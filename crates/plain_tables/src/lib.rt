@@ -10,8 +10,6 @@ mod frames;
 mod names;
 mod objects;
 mod rest;
-#[cfg(test)]
-mod tests;
 mod whole;
 
 pub use whole::tables;

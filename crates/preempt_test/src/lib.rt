@@ -67,21 +67,3 @@ pub fn preempts(a_budget: u32, a: &Qualities, b_budget: u32, b: &Qualities) -> b
 pub fn merging_gives_no_power()
     ensures { MergingGivesNoPower }
 {}
-
-#[cfg(test)]
-mod tests {
-    use super::*;
-
-    #[test]
-    fn preempts_by_budget_then_by_common_schedulers(rt: HostRuntime) {
-        let best = Qualities::one(0, 1);
-        let good = Qualities::one(0, 5);
-        let other = Qualities::one(1, 9);
-        assert!(rt; preempts(1, &best, 1, &good), "smaller");
-        assert!(rt; !preempts(1, &good, 1, &best), "larger");
-        assert!(rt; !preempts(1, &best, 1, &best), "equal");
-        assert!(rt; preempts(1, &good, 1, &other), "no scheduler in common");
-        assert!(rt; preempts(1, &good, 0, &best), "the other has no budget");
-        assert!(rt; !preempts(0, &best, 0, &good), "no budget");
-    }
-}

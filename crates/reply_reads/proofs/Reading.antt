@@ -15,9 +15,9 @@ use Rattle.spk_nums.specs.declared.replies.Reply.{Reply}
 use Rattle.spk_nums.specs.declared.replies.Reply.TheVariants as reply
 use Rattle.reply_ranges.specs.Ranges.{ValueFits}
 use Rattle.script_tokens.specs.Words.{spans, first_fault, line_count, ending_from, before_fault, word_at as word_there, words_of}
-use Rattle.script_reader.specs.Lines.{rows_of}
-use Rattle.script_reader.specs.Numerals.{is_digits}
-use Rattle.script_reader.specs.Arguments.{is_word, word_at, end_at}
+use Rattle.line_reader.specs.Lines.{rows_of}
+use Rattle.line_reader.specs.Numerals.{is_digits}
+use Rattle.line_reader.specs.Arguments.{is_word, word_at, end_at}
 use Rattle.script_printer.proofs.Spans.{is_line, are_lines, line_onto, lines_rows, lines_fault}
 use Rattle.script_printer.proofs.NumberWords.{number_digits, number_back, core_back}
 use Rattle.history_reader.specs.Replies.{kind_of, arg_at, rights_place, fewer_rights, both_rights, rights_at, cap_at}

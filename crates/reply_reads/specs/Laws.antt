@@ -8,7 +8,7 @@ use Rattle.kernel_history.specs.Trace.{Trace, decisions_of}
 use Rattle.kernel_history.specs.Legal.{IsLegal}
 use Rattle.reply_ranges.specs.Ranges.{ReplyFits}
 use Rattle.script_tokens.specs.Words.{words_of}
-use Rattle.script_reader.specs.Lines.{rows_of}
+use Rattle.line_reader.specs.Lines.{rows_of}
 use Rattle.script_printer.specs.Printing.{line}
 use Rattle.history_reader.specs.Replies.{reply_of}
 use Rattle.reply_reads.specs.Words.{spaced, reply_words}

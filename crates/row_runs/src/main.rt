@@ -11,8 +11,9 @@ mod cuts;
 mod runs;
 
 use crate::cuts::untold;
-use crate::runs::{Outcome, run};
+use crate::runs::run;
 use row_reader::{Fault, Row, rows_of};
+use run_outcomes::Outcome;
 use std::fs;
 use std::io::{self, ErrorKind};
 use std::process::ExitCode;

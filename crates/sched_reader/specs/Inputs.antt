@@ -3,11 +3,11 @@ use Rattle.std.specs.Prelude.{◌≡◌, ◌≤◌, ℕ, ◌+◌, ◌==◌, List
 use Rattle.std.specs.Prelude.{length, codes, All, IfSome, IsSome, if◌then◌else◌}
 use Rattle.script_tokens.specs.declared.scanning.Ending.{Ending}
 use Rattle.script_tokens.specs.Words.{words_of, ending_of}
-use Rattle.script_reader.specs.declared.cause.Cause.{Cause}
-use Rattle.script_reader.specs.declared.cause.Cause.TheVariants.{S5, S7, S9}
-use Rattle.script_reader.specs.Causes.{◌>>=◌}
+use Rattle.line_reader.specs.declared.cause.Cause.{Cause}
+use Rattle.line_reader.specs.declared.cause.Cause.TheVariants.{S5, S7, S9}
+use Rattle.line_reader.specs.Causes.{◌>>=◌}
+use Rattle.line_reader.specs.Lines.{Row, rows_of, First_fault, at_line, and_then, lines_from as all_lines_from, whole_lines}
 use Rattle.script_reader.specs.Heads.{is_whole}
-use Rattle.script_reader.specs.Lines.{Row, rows_of, First_fault, at_line, and_then, lines_from as all_lines_from, whole_lines}
 use Rattle.script_reader.specs.Readings.{Draft_of, no_draft, draft_behind, Meaning, meaning_of}
 use Rattle.script_reader.specs.Readings.{IsDraft, IsScript, draft_view, script_view}
 use Rattle.sched_rules.specs.declared.tasks.Rule.{Rule}

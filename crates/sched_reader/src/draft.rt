@@ -1,18 +1,19 @@
 //! What the lines so far say.
 
 ghost use Rattle.std.specs.Prelude.{◌≡◌, ◌≤◌, ◌<◌, ◌^◌, [], length, All, None, Some, IfOk, OnOk, IsSome, is_some, true, false};
-ghost use Rattle.script_reader.specs.Arguments.{texts};
+ghost use Rattle.line_reader.specs.Arguments.{texts};
+ghost use Rattle.line_reader.specs.Lines.{Leads, Gives};
+ghost use Rattle.line_reader.specs.declared.cause.ReadFault.TheVariants as read_fault;
 ghost use Rattle.script_reader.specs.Heads.{is_whole};
-ghost use Rattle.script_reader.specs.Lines.{Leads, Gives};
-ghost use Rattle.script_reader.specs.declared.cause.ReadFault.TheVariants as read_fault;
 ghost use Rattle.sched_rules.specs.Schedule.{TaskFits, RuleFits};
 ghost use Rattle.sched_reader.specs.Inputs.{draft_seen, no_input, noted, first_line, script_line};
 ghost use Rattle.sched_reader.specs.Inputs.{script_end, unfit, sched_line, task_line_of};
 ghost use Rattle.sched_reader.specs.Inputs.{unless, IsInput};
 
 use crate::lines::{begins, rule_at, task_line};
+use line_reader::{Cause, Lines, ReadFault, fault_at};
 use sched_rules::{Rule, Task};
-use script_reader::{Cause, Draft, Lines, ReadFault, fault_at};
+use script_reader::Draft;
 use script_tokens::Token;
 use spk_nums::Make;
 use std::alloc::{AllocError, Global};

@@ -1,12 +1,13 @@
 //! The line `sched`, the lines of tasks, and which lines of a script are kept in mind.
 
 ghost use Rattle.std.specs.Prelude.{◌≡◌, ◌≤◌, IfOk};
-ghost use Rattle.script_reader.specs.Arguments.{texts, number_at};
+ghost use Rattle.line_reader.specs.Arguments.{texts, number_at};
 ghost use Rattle.sched_rules.specs.Schedule.{TaskFits, RuleFits};
 ghost use Rattle.sched_reader.specs.Lines.{begins, rule_at, task_at, task_line};
 
+use call_reader::capability_at;
+use line_reader::{Cause, end_at, is_word, read_number};
 use sched_rules::{Rule, Task};
-use script_reader::{Cause, capability_at, end_at, is_word, read_number};
 use script_tokens::Token;
 
 /// Whether a line's first word is this one.
@@ -20,7 +21,7 @@ pub fn begins(words: &[Token], name: &str) -> bool
 }
 
 // The number at a place, from `least` to `most`.
-#[tactic(auto, unfolding(script_reader::specs::Arguments::number_at, script_reader::specs::Arguments::word_at))]
+#[tactic(auto, unfolding(line_reader::specs::Arguments::number_at, line_reader::specs::Arguments::word_at))]
 fn number_at(words: &[Token], place: usize, least: u32, most: u32) -> Result<u32, Cause>
     ensures value { result ≡ number_at (texts words.now) place least most }
     ensures range { IfOk result (λ n. (least ≤ n) × (n ≤ most)) }

@@ -2,12 +2,13 @@
 
 ghost use Rattle.std.specs.Prelude.{◌<◌, ◌^◌, length, IfOk};
 ghost use Rattle.script_tokens.specs.Words.{FewLines};
-ghost use Rattle.script_reader.specs.Lines.{Gives};
+ghost use Rattle.line_reader.specs.Lines.{Gives};
 ghost use Rattle.sched_reader.specs.Inputs.{draft_seen, input_at, input_of, input_view, IsInput, IsSchedInput};
 
 use crate::draft::{SchedDraft, no_input, script_end};
+use line_reader::{Cause, ReadFault, read_lines, whole_lines};
 use sched_rules::{Rule, Task};
-use script_reader::{Cause, ReadFault, Script, read_lines, whole_lines};
+use script_reader::Script;
 use script_tokens::Ending;
 use std::alloc::Global;
 

@@ -2,7 +2,7 @@
 use Rattle.std.specs.Prelude.{◌≡◌, ℕ, List, ◌++◌, Result, Ok}
 use Rattle.spk_nums.specs.Setting.{Setting}
 use Rattle.spk_nums.specs.declared.calls.Call.{Call}
-use Rattle.script_reader.specs.declared.cause.ReadFault.{ReadFault}
+use Rattle.line_reader.specs.declared.cause.ReadFault.{ReadFault}
 use Rattle.script_reader.specs.Readings.{Meaning, calls_of, Fails}
 use Rattle.sched_rules.specs.Schedule.{Step, at_first, turns_of, calls_of as calls_of_turns, IsSchedule}
 use Rattle.sched_rules.specs.Texts.{schedule_text}

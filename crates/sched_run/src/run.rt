@@ -8,9 +8,9 @@ ghost use Rattle.sched_run.specs.Made.{IsMade, IsSchedMade, IsSchedFault};
 
 use fixed_prio::plain_kernel::SeqKernel;
 use fixed_prio::{Machine, call_both, schedule};
+use line_reader::ReadFault;
 use sched_reader::{SchedInput, read_sched};
 use sched_text::schedule_text;
-use script_reader::ReadFault;
 use spk_nums::{Call, Make, Memory, Setup};
 use std::alloc::Global;
 

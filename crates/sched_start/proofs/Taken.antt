@@ -13,12 +13,12 @@ use Rattle.script_tokens.specs.declared.scanning.ByteFault.TheVariants.{NotAscii
 use Rattle.script_tokens.specs.declared.scanning.Ending.{Ending}
 use Rattle.script_tokens.specs.declared.scanning.Ending.TheVariants.{Whole, Fault as Faulty}
 use Rattle.script_tokens.specs.Words.{words_of, ending_of}
-use Rattle.script_reader.specs.declared.cause.Cause.{Cause}
-use Rattle.script_reader.specs.declared.cause.Cause.TheVariants.{S5, S7, S9}
+use Rattle.line_reader.specs.declared.cause.Cause.{Cause}
+use Rattle.line_reader.specs.declared.cause.Cause.TheVariants.{S5, S7, S9}
+use Rattle.line_reader.specs.Causes.{◌>>=◌}
+use Rattle.line_reader.specs.Arguments.{is_word}
 use Rattle.script_reader.specs.declared.head.Line.{Line}
 use Rattle.script_reader.specs.declared.head.Line.TheVariants as line
-use Rattle.script_reader.specs.Causes.{◌>>=◌}
-use Rattle.script_reader.specs.Arguments.{is_word}
 use Rattle.script_reader.specs.Heads.{is_whole, line_of}
 use Rattle.script_reader.specs.Orders.{items_of}
 use Rattle.script_reader.specs.Readings.{Row, rows_of, Draft_of, calls_of, with_call, with_line, is_order, behind_line, draft_behind}

@@ -5,21 +5,22 @@ use Rattle.std.specs.Prelude.{slice_get, codes}
 use Rattle.std.specs.Option.{ok_or, option_and_then}
 use Rattle.std.proofs.lemmas.Bool.{false≢true}
 use Rattle.spk_nums.specs.declared.calls.Call.{Call}
-use Rattle.script_reader.specs.declared.cause.Cause.{Cause}
-use Rattle.script_reader.specs.declared.cause.Cause.TheVariants.{S2, S7}
-use Rattle.script_reader.specs.declared.first_words.Verb.{Verb}
-use Rattle.script_reader.specs.declared.first_words.Verb.TheVariants as verb
-use Rattle.script_reader.specs.declared.first_words.FirstWord.{FirstWord}
-use Rattle.script_reader.specs.declared.first_words.FirstWord.TheVariants as first
+use Rattle.line_reader.specs.declared.cause.Cause.{Cause}
+use Rattle.line_reader.specs.declared.cause.Cause.TheVariants.{S2, S7}
+use Rattle.line_reader.specs.Causes.{◌>>=◌}
+use Rattle.line_reader.specs.Arguments.{is_word, name_at, number_at, amount_at, end_at}
+use Rattle.call_reader.specs.declared.first_words.Verb.{Verb}
+use Rattle.call_reader.specs.declared.first_words.Verb.TheVariants as verb
+use Rattle.call_reader.specs.declared.first_words.FirstWord.{FirstWord}
+use Rattle.call_reader.specs.declared.first_words.FirstWord.TheVariants as first
+use Rattle.call_reader.specs.CallLines.{frame_kind_at}
+use Rattle.call_reader.specs.FirstWords.{first_word, verb_of, later_verb_of, call_word}
+use Rattle.call_reader.specs.CallLines.{look_line, rights_at, copy_line, remove_line, grow_line, shrink_line, retype_line, map_line}
+use Rattle.call_reader.specs.CallLines.{unmap_line, touch_line, flush_line, gate_line, kill_line, enter_line, ret_line, switch_line}
+use Rattle.call_reader.specs.CallLines.{tick_line, transfer_line, delegate_line, test_line, object_at, made_at, make_line, call_line}
 use Rattle.script_reader.specs.declared.head.Head.{Head}
 use Rattle.script_reader.specs.declared.head.Line.{Line}
 use Rattle.script_reader.specs.declared.head.Line.TheVariants as line
-use Rattle.script_reader.specs.Causes.{◌>>=◌}
-use Rattle.script_reader.specs.Arguments.{is_word, name_at, number_at, amount_at, end_at, frame_kind_at}
-use Rattle.script_reader.specs.FirstWords.{first_word, verb_of, later_verb_of, call_word}
-use Rattle.script_reader.specs.CallLines.{look_line, rights_at, copy_line, remove_line, grow_line, shrink_line, retype_line, map_line}
-use Rattle.script_reader.specs.CallLines.{unmap_line, touch_line, flush_line, gate_line, kill_line, enter_line, ret_line, switch_line}
-use Rattle.script_reader.specs.CallLines.{tick_line, transfer_line, delegate_line, test_line, object_at, made_at, make_line, call_line}
 use Rattle.script_reader.specs.Heads.{may_stand, goes_on, line_by, line_of}
 use Rattle.sched_reader.specs.Lines.{is_name, begins}
 use Rattle.sched_start.specs.Owing.{IsNoTick}

@@ -10,18 +10,19 @@ use Rattle.spk_nums.specs.declared.calls.Make.{Make}
 use Rattle.spk_nums.specs.declared.calls.Make.TheVariants as make
 use Rattle.spk_nums.specs.declared.calls.Call.{Call}
 use Rattle.spk_nums.specs.declared.calls.Call.TheVariants as call
-use Rattle.script_reader.specs.declared.cause.Cause.{Cause}
-use Rattle.script_reader.specs.declared.cause.Cause.TheVariants.{S1, S2, S5}
-use Rattle.script_reader.specs.declared.first_words.Verb.{Verb}
-use Rattle.script_reader.specs.declared.first_words.Verb.TheVariants as verb
-use Rattle.script_reader.specs.Causes.{◌>>=◌}
-use Rattle.script_reader.specs.Numerals.{number_of}
-use Rattle.script_reader.specs.Arguments.{is_word, word_at, number_at, end_at, frame_kind_at}
-use Rattle.script_reader.specs.CallLines.{fourth_at, both_at, rights_at}
-use Rattle.script_reader.specs.CallLines.{call_line, look_line, copy_line, remove_line, grow_line, shrink_line, retype_line}
-use Rattle.script_reader.specs.CallLines.{map_line, unmap_line, touch_line, flush_line, gate_line, kill_line, enter_line}
-use Rattle.script_reader.specs.CallLines.{ret_line, switch_line, tick_line, transfer_line, delegate_line, test_line}
-use Rattle.script_reader.specs.CallLines.{object_of, object_at, thread_at, tcap_at, comp_at, plain_at, made_at, make_line}
+use Rattle.line_reader.specs.declared.cause.Cause.{Cause}
+use Rattle.line_reader.specs.declared.cause.Cause.TheVariants.{S1, S2, S5}
+use Rattle.line_reader.specs.Causes.{◌>>=◌}
+use Rattle.line_reader.specs.Numerals.{number_of}
+use Rattle.line_reader.specs.Arguments.{is_word, word_at, number_at, end_at}
+use Rattle.call_reader.specs.declared.first_words.Verb.{Verb}
+use Rattle.call_reader.specs.declared.first_words.Verb.TheVariants as verb
+use Rattle.call_reader.specs.CallLines.{frame_kind_at}
+use Rattle.call_reader.specs.CallLines.{fourth_at, both_at, rights_at}
+use Rattle.call_reader.specs.CallLines.{call_line, look_line, copy_line, remove_line, grow_line, shrink_line, retype_line}
+use Rattle.call_reader.specs.CallLines.{map_line, unmap_line, touch_line, flush_line, gate_line, kill_line, enter_line}
+use Rattle.call_reader.specs.CallLines.{ret_line, switch_line, tick_line, transfer_line, delegate_line, test_line}
+use Rattle.call_reader.specs.CallLines.{object_of, object_at, thread_at, tcap_at, comp_at, plain_at, made_at, make_line}
 use Rattle.script_printer.specs.Law.{IsName, IsMakeWithin, IsCallWithin}
 use Rattle.script_printer.proofs.Spans.{both_left, both_right}
 

@@ -13,19 +13,20 @@ use Rattle.spk_nums.specs.declared.calls.Call.{Call}
 use Rattle.spk_nums.specs.declared.calls.Call.TheVariants.{Look, Copy, Remove, Grow, Shrink, Retype, Make as make_call}
 use Rattle.spk_nums.specs.declared.calls.Call.TheVariants.{Map, Unmap, Touch, Flush, Gate, Kill, Call as call_gate}
 use Rattle.spk_nums.specs.declared.calls.Call.TheVariants.{Ret, Switch, Tick, Transfer, Delegate, Test}
-use Rattle.script_reader.specs.declared.first_words.Verb.{Verb}
-use Rattle.script_reader.specs.declared.first_words.Verb.TheVariants as verb
-use Rattle.script_reader.specs.declared.first_words.FirstWord.TheVariants as first
+use Rattle.line_reader.specs.Arguments.{is_word, word_at, end_at}
+use Rattle.call_reader.specs.declared.first_words.Verb.{Verb}
+use Rattle.call_reader.specs.declared.first_words.Verb.TheVariants as verb
+use Rattle.call_reader.specs.declared.first_words.FirstWord.TheVariants as first
+use Rattle.call_reader.specs.FirstWords.{first_word, verb_of, later_verb_of}
+use Rattle.call_reader.specs.CallLines.{frame_kind_of, frame_kind_at}
+use Rattle.call_reader.specs.CallLines.{fourth_at, both_at, rights_at}
+use Rattle.call_reader.specs.CallLines.{call_line, look_line, copy_line, remove_line, grow_line, shrink_line, retype_line}
+use Rattle.call_reader.specs.CallLines.{map_line, unmap_line, touch_line, flush_line, gate_line, kill_line, enter_line}
+use Rattle.call_reader.specs.CallLines.{ret_line, switch_line, tick_line, transfer_line, delegate_line, test_line}
+use Rattle.call_reader.specs.CallLines.{object_of, object_at, thread_at, tcap_at, comp_at, plain_at, made_at, make_line}
 use Rattle.script_reader.specs.declared.head.Section.TheVariants as section
 use Rattle.script_reader.specs.declared.head.Head.{Head}
 use Rattle.script_reader.specs.declared.head.Line.TheVariants as line
-use Rattle.script_reader.specs.FirstWords.{first_word, verb_of, later_verb_of}
-use Rattle.script_reader.specs.Arguments.{is_word, word_at, end_at, frame_kind_of, frame_kind_at}
-use Rattle.script_reader.specs.CallLines.{fourth_at, both_at, rights_at}
-use Rattle.script_reader.specs.CallLines.{call_line, look_line, copy_line, remove_line, grow_line, shrink_line, retype_line}
-use Rattle.script_reader.specs.CallLines.{map_line, unmap_line, touch_line, flush_line, gate_line, kill_line, enter_line}
-use Rattle.script_reader.specs.CallLines.{ret_line, switch_line, tick_line, transfer_line, delegate_line, test_line}
-use Rattle.script_reader.specs.CallLines.{object_of, object_at, thread_at, tcap_at, comp_at, plain_at, made_at, make_line}
 use Rattle.script_reader.specs.Heads.{line_of, line_by}
 use Rattle.script_printer.specs.Law.{IsName, IsMakeWithin, IsCallWithin}
 use Rattle.script_printer.proofs.NumberWords.{number_back, name_back}

@@ -3,13 +3,13 @@ use Rattle.std.proofs.Common.{◌≡◌, ℕ, ◌+◌, ◌*◌, ◌<◌, ◌≤�
 use Rattle.std.specs.Prelude.{codes, decimal}
 use Rattle.spk_nums.specs.declared.grants.Grant.{Grant}
 use Rattle.spk_nums.specs.Setting.{GrantFits}
+use Rattle.line_reader.specs.Numerals.{number_of}
+use Rattle.line_reader.specs.Arguments.{is_word, word_at, number_at, end_at}
+use Rattle.call_reader.specs.FirstWords.{first_word}
 use Rattle.script_reader.specs.declared.head.Section.{Section}
 use Rattle.script_reader.specs.declared.head.Section.TheVariants as section
 use Rattle.script_reader.specs.declared.head.Head.{Head}
 use Rattle.script_reader.specs.declared.head.Line.TheVariants as line
-use Rattle.script_reader.specs.Numerals.{number_of}
-use Rattle.script_reader.specs.FirstWords.{first_word}
-use Rattle.script_reader.specs.Arguments.{is_word, word_at, number_at, end_at}
 use Rattle.script_reader.specs.Heads.{no_head, granted, line_of, line_by, speck_line, cores_line, frames_line}
 use Rattle.script_reader.specs.Heads.{grant_line, calls_line, epochs_line, core_line, order_line}
 use Rattle.script_printer.proofs.NumberWords.{number_back, core_back}

@@ -9,7 +9,7 @@ use Rattle.std.proofs.lemmas.Fmt.{decimal_digit}
 use Rattle.spk_nums.specs.declared.steps.How.{How}
 use Rattle.spk_nums.specs.declared.steps.How.TheVariants.{One, Ready, Decide, Return}
 use Rattle.spk_nums.specs.declared.steps.Item.{Item}
-use Rattle.script_reader.specs.Numerals.{value_of}
+use Rattle.line_reader.specs.Numerals.{value_of}
 use Rattle.script_reader.specs.Orders.{parts_of, item_of}
 use Rattle.script_printer.specs.Printing.{how_text, item_text, before_item, items_text, order_lines}
 use Rattle.script_printer.proofs.Spans.{is_text, are_lines, lines_onto}

@@ -5,9 +5,9 @@ use Rattle.std.proofs.lemmas.Bool.{and_from, leb-true, le-leb, lt-ltb, ne_eqb}
 use Rattle.std.proofs.lemmas.Fmt.{digits_decimal, digits_value-decimal, decimal_nonempty}
 use Rattle.std.proofs.lemmas.Str.Parse.{IsNumeralModel, numerals_by_fold}
 use Rattle.script_tokens.specs.Bytes.{is_word_byte}
-use Rattle.script_reader.specs.Numerals.{is_digit, all_digits, is_digits, value_from, value_of, number_of}
-use Rattle.script_reader.specs.Arguments.{word_at, number_at, core_at}
-use Rattle.script_reader.proofs.Digits.{number_is}
+use Rattle.line_reader.specs.Numerals.{is_digit, all_digits, is_digits, value_from, value_of, number_of}
+use Rattle.line_reader.specs.Arguments.{word_at, number_at, core_at}
+use Rattle.line_reader.proofs.Digits.{number_is}
 use Rattle.script_printer.proofs.Spans.{is_text, are_word_bytes, both_left, both_right}
 
 own : IsNumeralModel (λ ds. all_digits ds ≡ true) (value_from 0)

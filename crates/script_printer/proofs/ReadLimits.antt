@@ -15,20 +15,20 @@ use Rattle.script_tokens.specs.declared.scanning.ByteFault.TheVariants.{NotAscii
 use Rattle.script_tokens.specs.declared.scanning.Ending.{Ending}
 use Rattle.script_tokens.specs.declared.scanning.Ending.TheVariants.{Whole, Fault}
 use Rattle.script_tokens.specs.Words.{words_of, ending_of, line_count}
-use Rattle.script_reader.specs.declared.cause.Cause.{Cause}
-use Rattle.script_reader.specs.declared.cause.Cause.TheVariants.{S2, S6, S7, S9}
-use Rattle.script_reader.specs.declared.first_words.FirstWord.{FirstWord}
-use Rattle.script_reader.specs.declared.first_words.FirstWord.TheVariants as first
+use Rattle.line_reader.specs.declared.cause.Cause.{Cause}
+use Rattle.line_reader.specs.declared.cause.Cause.TheVariants.{S2, S6, S7, S9}
+use Rattle.line_reader.specs.Causes.{◌>>=◌}
+use Rattle.line_reader.specs.Numerals.{value_of}
+use Rattle.line_reader.specs.Arguments.{number_at, core_at, end_at}
+use Rattle.call_reader.specs.declared.first_words.FirstWord.{FirstWord}
+use Rattle.call_reader.specs.declared.first_words.FirstWord.TheVariants as first
+use Rattle.call_reader.specs.FirstWords.{first_word}
+use Rattle.call_reader.specs.CallLines.{call_line}
 use Rattle.script_reader.specs.declared.head.Section.{Section}
 use Rattle.script_reader.specs.declared.head.Section.TheVariants as section
 use Rattle.script_reader.specs.declared.head.Head.{Head}
 use Rattle.script_reader.specs.declared.head.Line.{Line}
 use Rattle.script_reader.specs.declared.head.Line.TheVariants as line
-use Rattle.script_reader.specs.Causes.{◌>>=◌}
-use Rattle.script_reader.specs.Numerals.{value_of}
-use Rattle.script_reader.specs.Arguments.{number_at, core_at, end_at}
-use Rattle.script_reader.specs.FirstWords.{first_word}
-use Rattle.script_reader.specs.CallLines.{call_line}
 use Rattle.script_reader.specs.Heads.{may_stand, granted, is_whole, AreFrames, HasCome, IsHead, line_of, line_by, speck_line}
 use Rattle.script_reader.specs.Heads.{cores_line, frames_line, grant_line, calls_line, epochs_line, core_line, order_line}
 use Rattle.script_reader.specs.Orders.{Parts, parts_of, no_item, item_of, judged, with_item, items_of}

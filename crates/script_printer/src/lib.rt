@@ -13,6 +13,3 @@ pub use law::{has_few_lines, reads_back};
 pub use printing::print;
 pub use reply_lines::{push_reply_line, reply_line};
 pub use setup::push_setup;
-
-#[cfg(test)]
-mod tests;

@@ -1,6 +1,6 @@
 -- No list of a script has more calls than the script has words.
-use Rattle.std.proofs.Common.{◌≡◌, ℕ, suc, ◌+◌, ◌≤◌, eqb, List, [], ◌∷◌, ◌++◌, length, All}
-use Rattle.std.proofs.Common.{IfOk, Result, Ok, Err, refl, subst, arith, inl, inr}
+use Rattle.std.proofs.Common.{◌≡◌, ℕ, ◌+◌, ◌≤◌, List, [], ◌∷◌, ◌++◌, length, All}
+use Rattle.std.proofs.Common.{IfOk, Result, Ok, Err, subst, arith, inl, inr}
 use Rattle.std.proofs.lemmas.Bool.{cases_Bool, cases_lt}
 use Rattle.std.proofs.lemmas.List.{get_or_past, length_push}
 use Rattle.std.proofs.lemmas.List.Elements.{All-set, All-get_or, All-weaker, All-take, All-replicate}
@@ -8,45 +8,19 @@ use Rattle.spk_nums.specs.declared.calls.Call.{Call}
 use Rattle.script_tokens.specs.declared.scanning.Ending.{Ending}
 use Rattle.script_tokens.specs.declared.scanning.Ending.TheVariants.{Whole, Fault}
 use Rattle.script_tokens.specs.declared.scanning.ByteFault.TheVariants.{NotAscii, TooManyLines}
-use Rattle.script_tokens.specs.Words.{Word, words_of, ending_of}
-use Rattle.script_reader.specs.declared.cause.Cause.{Cause}
+use Rattle.script_tokens.specs.Words.{words_of, ending_of}
+use Rattle.line_reader.specs.declared.cause.ReadFault.{ReadFault}
+use Rattle.line_reader.proofs.Judged.{judged_is, read_is, bind_ok, then_ok, at_line_ok}
+use Rattle.line_reader.proofs.Rows.{few_rows}
+use Rattle.line_reader.proofs.LineSteps.{lines_keep}
 use Rattle.script_reader.specs.declared.head.Line.{Line}
 use Rattle.script_reader.specs.declared.head.Line.TheVariants as line
-use Rattle.script_reader.specs.declared.cause.ReadFault.{ReadFault}
 use Rattle.script_reader.specs.declared.reading.Script.{Script}
-use Rattle.script_reader.specs.Causes.{◌>>=◌}
 use Rattle.script_reader.specs.Heads.{line_of, is_whole}
 use Rattle.script_reader.specs.Orders.{items_of}
-use Rattle.script_reader.specs.Readings.{Row, with_word, rows_of, Draft_of, Meaning, First_fault, no_draft, calls_of}
-use Rattle.script_reader.specs.Readings.{with_call, with_line, is_order, behind_line, draft_behind, at_line, and_then}
+use Rattle.script_reader.specs.Readings.{Row, rows_of, Draft_of, Meaning, First_fault, no_draft, calls_of}
+use Rattle.script_reader.specs.Readings.{with_call, with_line, is_order, behind_line, draft_behind}
 use Rattle.script_reader.specs.Readings.{draft_step, draft_from, meaning_of, meaning_at, script_of, AtMost, Gives, script_view, lists_of}
-use Rattle.script_reader.proofs.LineSteps.{lines_keep}
-
-abbrev judged : {A : Type 0} → A → Result A Cause
-judged x = Ok x
-
-pub judged_is : {A : Type 0} (x y : A) → judged x ≡ judged y → x ≡ y
-judged_is x y e = cc
-
-abbrev read : {A : Type 0} → A → Result A First_fault
-read x = Ok x
-
-pub read_is : {A : Type 0} (x y : A) → read x ≡ read y → x ≡ y
-read_is x y e = cc
-
--- the value of judgements that did not fail
-pub bind_ok : {A B : Type 0} (r : Result A Cause) (f : A → Result B Cause) (y : B) → (r >>= f) ≡ Ok y → (x : A) × (r ≡ Ok x) × (f x ≡ Ok y)
-bind_ok (Ok x) f y e = (x, refl, e)
-bind_ok (Err c) f y e = absurd cc
-
-pub then_ok : {A B : Type 0} (r : Result A First_fault) (f : A → Result B First_fault) (y : B)
-    → and_then r f ≡ Ok y → (x : A) × (r ≡ Ok x) × (f x ≡ Ok y)
-then_ok (Ok x) f y e = (x, refl, e)
-then_ok (Err c) f y e = absurd cc
-
-pub at_line_ok : {A : Type 0} (number : ℕ) (r : Result A Cause) (x : A) → at_line number r ≡ Ok x → r ≡ Ok x
-at_line_ok number (Ok y) x e = cc
-at_line_ok number (Err c) x e = absurd cc
 
 pub few_weaker : (m n : ℕ) (lists : List (List Call)) → m ≤ n → All (AtMost m) lists → All (AtMost n) lists
 few_weaker m n lists le h = All-weaker (AtMost m) (AtMost n) (λ calls k. omega (arith, k)) lists h
@@ -84,14 +58,6 @@ few_from : (n : ℕ) (d e : Draft_of) (rows : List Row) → draft_from d rows �
     → All (AtMost n) d.lists → All (AtMost (n + length rows)) e.lists
 few_from = lines_keep draft_step (λ n (x : Draft_of). All (AtMost n) x.lists)
     (λ n d e number words is h. few_behind n d e words (at_line_ok number (draft_behind d words) e is) h)
-
-pub few_rows : (ws : List Word) → length (rows_of ws) ≤ length ws
-few_rows [] = omega arith
-few_rows (w ∷ ws) = let h = few_rows ws in omega (arith, one_more w (rows_of ws), h)
-  where
-    one_more : (w : Word) (rows : List Row) → length (with_word w rows) ≤ suc (length rows)
-    one_more w [] = omega arith
-    one_more w (row ∷ rows) = elim (cases_Bool (eqb w.line row.number)) [ inl e ↦ rw e (omega arith) | inr e ↦ rw e (omega arith) ]
 
 few_at : (n : ℕ) (d : Draft_of) (e : Ending) (m : Meaning) → meaning_at d e ≡ Ok m → All (AtMost n) d.lists → All (AtMost n) m.lists
 few_at n d (Fault (NotAscii number)) m is h = absurd cc

@@ -9,9 +9,9 @@ use Rattle.std.proofs.lemmas.List.Elements.{All-push, All-set, All-get_or, All-t
 use Rattle.spk_nums.specs.declared.calls.Call.{Call}
 use Rattle.spk_nums.specs.CallLimits.{InLimits}
 use Rattle.script_tokens.specs.declared.scanning.Ending.{Ending}
+use Rattle.line_reader.specs.Lines.{and_then, whole_lines}
 use Rattle.script_reader.specs.declared.reading.Script.{Script}
 use Rattle.script_reader.specs.Heads.{is_whole}
-use Rattle.script_reader.specs.Lines.{and_then, whole_lines}
 use Rattle.script_reader.specs.Readings.{lists_of, with_call, calls_of, setting_of, meaning_of}
 use Rattle.script_reader.specs.Readings.{meaning_in, meaning_at, script_view, Draft_of, IsDraft, IsScript, BelowCores}
 

@@ -5,7 +5,7 @@ use Rattle.std.proofs.lemmas.List.{drop_more}
 use Rattle.std.proofs.lemmas.List.Elements.{All-push}
 use Rattle.spk_nums.specs.declared.steps.Item.{Item}
 use Rattle.script_tokens.specs.declared.token.Token.{Token}
-use Rattle.script_reader.specs.Arguments.{texts}
+use Rattle.line_reader.specs.Arguments.{texts}
 use Rattle.script_reader.specs.Orders.{item_of, items_of}
 use Rattle.script_reader.specs.Readings.{BelowCores}
 

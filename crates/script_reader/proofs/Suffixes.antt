@@ -4,10 +4,10 @@ use Rattle.std.specs.Prelude.{slice_get}
 use Rattle.std.proofs.lemmas.Bool.{lt-ltb, le-ltb}
 use Rattle.std.proofs.lemmas.List.{take_at, length-append}
 use Rattle.spk_nums.specs.declared.steps.How.{How}
-use Rattle.script_reader.specs.declared.cause.Cause.TheVariants.{S6}
-use Rattle.script_reader.specs.Numerals.{is_digits, value_of, number_of}
+use Rattle.line_reader.specs.declared.cause.Cause.TheVariants.{S6}
+use Rattle.line_reader.specs.Numerals.{is_digits, value_of, number_of}
+use Rattle.line_reader.proofs.Digits.{digits_some, digits_none}
 use Rattle.script_reader.specs.Orders.{how_of, suffixed, core_below}
-use Rattle.script_reader.proofs.Digits.{digits_some, digits_none}
 
 slice_get_at : (front : List ℕ) (x : ℕ) → slice_get (front ++ x ∷ []) (length front) ≡ Some x
 slice_get_at [] x = refl

@@ -1,10 +1,3 @@
-pub mod Causes
-pub mod Numerals
-pub mod Arguments
-pub mod FirstWords
-pub mod CallLines
-pub mod OneLine
-pub mod Lines
 pub mod Heads
 pub mod Orders
 pub mod Readings

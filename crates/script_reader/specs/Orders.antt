@@ -5,11 +5,11 @@ use Rattle.std.specs.Option.{option_and_then}
 use Rattle.spk_nums.specs.declared.steps.How.{How}
 use Rattle.spk_nums.specs.declared.steps.How.TheVariants.{One, Ready, Decide, Return}
 use Rattle.spk_nums.specs.declared.steps.Item.{Item}
-use Rattle.script_reader.specs.declared.cause.Cause.{Cause}
-use Rattle.script_reader.specs.declared.cause.Cause.TheVariants.{S2, S6, S7, S9}
-use Rattle.script_reader.specs.Causes.{◌>>=◌}
-use Rattle.script_reader.specs.Numerals.{is_digits, value_of}
-use Rattle.script_reader.specs.FirstWords.{first_word}
+use Rattle.line_reader.specs.declared.cause.Cause.{Cause}
+use Rattle.line_reader.specs.declared.cause.Cause.TheVariants.{S2, S6, S7, S9}
+use Rattle.line_reader.specs.Causes.{◌>>=◌}
+use Rattle.line_reader.specs.Numerals.{is_digits, value_of}
+use Rattle.call_reader.specs.FirstWords.{first_word}
 
 -- the suffixes `<`, `!` and `.`
 abbrev pub how_of : ℕ → Option How

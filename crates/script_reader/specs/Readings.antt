@@ -8,8 +8,12 @@ use Rattle.spk_nums.specs.CallLimits.{InLimits}
 use Rattle.spk_nums.specs.Setting.{Setting}
 use Rattle.script_tokens.specs.declared.scanning.Ending.{Ending}
 use Rattle.script_tokens.specs.Words.{words_of, ending_of}
-use Rattle.script_reader.specs.declared.cause.Cause.{Cause}
-use Rattle.script_reader.specs.declared.cause.Cause.TheVariants.{S7}
+use Rattle.line_reader.specs.declared.cause.Cause.{Cause}
+use Rattle.line_reader.specs.declared.cause.Cause.TheVariants.{S7}
+use Rattle.line_reader.specs.Causes.{◌>>=◌}
+use Rattle.line_reader.specs.Lines.{Step, lines_from, whole_lines}
+pub use Rattle.line_reader.specs.Lines.{Row, with_word, rows_of, words_in, First_fault, at_line, and_then}
+pub use Rattle.line_reader.specs.Lines.{Takes, Fails, fault_at, Leads, Gives}
 use Rattle.script_reader.specs.declared.head.Section.{Section}
 use Rattle.script_reader.specs.declared.head.Section.TheVariants as section
 use Rattle.script_reader.specs.declared.head.Head.{Head}
@@ -17,12 +21,8 @@ use Rattle.script_reader.specs.declared.head.Line.{Line}
 use Rattle.script_reader.specs.declared.head.Line.TheVariants as line
 use Rattle.script_reader.specs.declared.reading.Draft.{Draft}
 use Rattle.script_reader.specs.declared.reading.Script.{Script}
-use Rattle.script_reader.specs.Causes.{◌>>=◌}
 use Rattle.script_reader.specs.Heads.{line_of, no_head, is_whole, IsHead}
-use Rattle.script_reader.specs.Lines.{Step, lines_from, whole_lines}
 use Rattle.script_reader.specs.Orders.{items_of}
-pub use Rattle.script_reader.specs.Lines.{Row, with_word, rows_of, words_in, First_fault, at_line, and_then}
-pub use Rattle.script_reader.specs.Lines.{Takes, Fails, fault_at, Leads, Gives}
 
 -- ---- lines
 

@@ -2,16 +2,14 @@
 
 ghost use Rattle.std.specs.Prelude.{◌≡◌, ◌<◌, length, true, slice_get, IfOk};
 ghost use Rattle.std.specs.Option.{option_and_then};
+ghost use Rattle.line_reader.specs.Arguments.{texts};
+ghost use Rattle.call_reader.specs.FirstWords.{first_word};
 ghost use Rattle.script_reader.specs.declared.head.Section.TheVariants as section;
-ghost use Rattle.script_reader.specs.FirstWords.{first_word};
-ghost use Rattle.script_reader.specs.Arguments.{texts};
 ghost use Rattle.script_reader.specs.Heads.{may_stand, speck_line, cores_line, frames_line, grant_line, calls_line, epochs_line};
 ghost use Rattle.script_reader.specs.Heads.{core_line, order_line, line_by, line_of, no_head, is_whole, granted, IsHead, IsLine};
 
-use crate::arguments::{byte_at, core_at, end_at, half_at, whole_at};
-use crate::call_lines::call_line;
-use crate::cause::Cause;
-use crate::first_words::{FirstWord, first_word};
+use call_reader::{FirstWord, byte_at, call_line, core_at, first_word, half_at, whole_at};
+use line_reader::{Cause, end_at};
 use script_tokens::Token;
 use spk_nums::{Call, CoreNo, Grant, Grants};
 

@@ -1,14 +1,13 @@
 //! The items of an order of steps.
 
 ghost use Rattle.std.specs.Prelude.{◌≡◌, ◌≤◌, ◌<◌, true, IfOk, IfSome};
-ghost use Rattle.script_reader.specs.Numerals.{is_digits, value_of};
-ghost use Rattle.script_reader.specs.Arguments.{texts};
+ghost use Rattle.line_reader.specs.Numerals.{is_digits, value_of};
+ghost use Rattle.line_reader.specs.Arguments.{texts};
 ghost use Rattle.script_reader.specs.Orders.{how_of, lent_parts, suffixed, parts_of, no_item, item_of, core_below, items_of};
 ghost use Rattle.script_reader.specs.Readings.{Takes, BelowCores};
 
-use crate::cause::{Cause, LineFault};
-use crate::first_words::first_word;
-use crate::numerals::{is_digits, read_number};
+use call_reader::first_word;
+use line_reader::{Cause, LineFault, is_digits, read_number};
 use script_tokens::Token;
 use spk_nums::{CoreNo, How, Item};
 

@@ -2,17 +2,16 @@
 
 ghost use Rattle.std.specs.Prelude.{◌≡◌, ◌<◌, ◌≤◌, ◌^◌, true, false, [], length, replicate, All, IfOk, IfErr, OnOk};
 ghost use Rattle.script_tokens.specs.Words.{words_of, FewLines};
-ghost use Rattle.script_reader.specs.Arguments.{texts};
-ghost use Rattle.script_reader.specs.declared.cause.LineFault.TheVariants as line_fault;
+ghost use Rattle.line_reader.specs.Arguments.{texts};
+ghost use Rattle.line_reader.specs.declared.cause.LineFault.TheVariants as line_fault;
+ghost use Rattle.line_reader.specs.Lines.{Takes, Gives};
 ghost use Rattle.script_reader.specs.Heads.{is_whole, IsHead};
-ghost use Rattle.script_reader.specs.Lines.{Takes, Gives};
 ghost use Rattle.script_reader.specs.Readings.{draft_view, script_view, draft_behind, script_of, no_draft, meaning_at, lists_of};
 ghost use Rattle.script_reader.specs.Readings.{with_call, behind_line, is_order, setting_of, IsDraft, IsScript, AtMost};
 
-use crate::cause::{Cause, LineFault, ReadFault};
-use crate::engine::{Lines, fault_at, read_lines, whole_lines};
 use crate::head::{Head, Line, Section, is_whole, line_of, no_head};
 use crate::items::take_items;
+use line_reader::{Cause, LineFault, Lines, ReadFault, fault_at, read_lines, whole_lines};
 use script_tokens::{Ending, Token};
 use spk_nums::{Call, CoreNo, Item, Make, Setup};
 use std::alloc::{AllocError, Global};

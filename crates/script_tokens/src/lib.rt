@@ -9,6 +9,3 @@ mod token;
 
 pub use scanning::{ByteFault, Ending, MOST_LINES, Scanned, TokenFault, scan, tokens};
 pub use token::Token;
-
-#[cfg(test)]
-mod tests;

@@ -19,8 +19,6 @@ mod carrying;
 mod frames;
 mod one;
 mod own_causes;
-#[cfg(test)]
-mod tests;
 
 pub use carrying::carry_out;
 pub use one::step;

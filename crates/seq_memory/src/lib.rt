@@ -20,8 +20,6 @@ mod frames;
 mod one;
 mod own_causes;
 mod retyping;
-#[cfg(test)]
-mod tests;
 mod touching;
 
 pub use carrying::carry_out;

@@ -14,8 +14,6 @@ mod passing;
 mod setters;
 mod stack;
 mod start;
-#[cfg(test)]
-mod tests;
 mod times;
 
 pub use kernel::SeqKernel;

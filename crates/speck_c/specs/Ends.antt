@@ -2,9 +2,9 @@
 use Rattle.std.specs.Prelude.{◌≡◌, ◌≢◌, ℕ, ◌<◌, ◌≤◌, ◌⊎◌, List, [], ◌∷◌, ◌++◌, length, take, drop, Option, Some, None, String, string_bytes}
 use Rattle.std.specs.Global.{Global}
 use Rattle.spk_nums.specs.declared.translations.CoreEnd.{CoreEnd}
-use Rattle.core_kernel.specs.kernel_history.specs.BootWords.{shape_of}
-use Rattle.core_kernel.specs.Kernel.{CoreSeatValue}
-use Rattle.core_kernel.specs.Calls.{EndsAt}
+use Rattle.core_machine.specs.core_kernel.specs.kernel_history.specs.BootWords.{shape_of}
+use Rattle.core_machine.specs.core_kernel.specs.Kernel.{CoreSeatValue}
+use Rattle.core_machine.specs.core_kernel.specs.Calls.{EndsAt}
 use Rattle.core_machine.specs.Seats.{SeatsValue}
 use Rattle.table_report.specs.Shown.{tables_shown}
 use Rattle.speck_c.specs.declared.held.Held.{Held}
@@ -34,12 +34,12 @@ pub record HasBack (m : SeatsValue) (p : CoreSeatValue) (now : SeatsValue) : Typ
   pub dealt : now.dealt ≡ m.dealt
   pub back : now.back ≡ m.back ++ p ∷ []
 
--- 0 where it was the port's turn; 2, and nothing changes, where it was not; 5, out of memory, where the port is lost.
+-- 0 where it was the port's turn; 245, and nothing changes, where it was not; 247, out of memory, where the port is lost.
 abbrev pub TakesBack : SeatsValue → CoreSeatValue → ℕ → SeatsValue → Option Held → Option Held → Type 0
 TakesBack m p answer now held port =
     ((answer ≡ 0) × (p.core ≡ length m.back) × HasBack m p now × (port ≡ None))
-    ⊎ ((answer ≡ 2) × (p.core ≢ length m.back) × (now ≡ m) × (port ≡ held))
-    ⊎ ((answer ≡ 5) × (p.core ≡ length m.back) × (now.kernel ≡ m.kernel) × (port ≡ None))
+    ⊎ ((answer ≡ 245) × (p.core ≢ length m.back) × (now ≡ m) × (port ≡ held))
+    ⊎ ((answer ≡ 247) × (p.core ≡ length m.back) × (now.kernel ≡ m.kernel) × (port ≡ None))
 
 abbrev pub HoldsBack : SeatsValue → CoreSeatValue → ℕ → Option SeatsValue → Option Held → Option Held → Type 0
 HoldsBack m p answer None held port = ⊥
@@ -56,12 +56,12 @@ abbrev pub HoldsFinal : SeatsValue → Option (String Global) → Type 0
 HoldsFinal m None = ⊥
 HoldsFinal m (Some t) = IsFinal m (string_bytes t)
 
--- 0 comes with the tables; 2, and nothing changes, where a port is not back; 5 where memory has run out, and the machine is then gone.
+-- 0 comes with the tables; 246, and nothing changes, where a port is not back; 247 where memory has run out, and the machine is then gone.
 abbrev pub Finishes : SeatsValue → ℕ → Option Held → Option Held → Option Held → Type 0
 Finishes m answer held now text =
     ((answer ≡ 0) × (length m.back ≡ m.kernel.setup.cores) × HoldsFinal m (text_held text) × (now ≡ None))
-    ⊎ ((answer ≡ 2) × (length m.back ≢ m.kernel.setup.cores) × (now ≡ held) × (text ≡ None))
-    ⊎ ((answer ≡ 5) × (length m.back ≡ m.kernel.setup.cores) × (now ≡ None) × (text ≡ None))
+    ⊎ ((answer ≡ 246) × (length m.back ≢ m.kernel.setup.cores) × (now ≡ held) × (text ≡ None))
+    ⊎ ((answer ≡ 247) × (length m.back ≡ m.kernel.setup.cores) × (now ≡ None) × (text ≡ None))
 
 -- The whole length of the text is answered, and its beginning stands at the beginning of the bytes, as far as there is room.
 pub record ReadsInto (text bytes : List ℕ) (answer : ℕ) (now : List ℕ) : Type 0 where

@@ -1,8 +1,8 @@
 -- What the exports on machines, ports and notes make of what their slots hold.
 use Rattle.std.specs.Prelude.{◌≡◌, ℕ, ◌+◌, ◌≤◌, ◌⊎◌, Option, Some, None, Result, Ok, Err, []}
 use Rattle.spk_nums.specs.Setting.{Setting}
-use Rattle.core_kernel.specs.Kernel.{CoreSeatValue, CoreNoteValue}
-use Rattle.core_kernel.specs.Calls.{Meets}
+use Rattle.core_machine.specs.core_kernel.specs.Kernel.{CoreSeatValue, CoreNoteValue}
+use Rattle.core_machine.specs.core_kernel.specs.Calls.{Meets}
 use Rattle.core_machine.specs.Seats.{SeatsValue, IsDealt}
 use Rattle.speck_c.specs.declared.held.Held.{Held}
 use Rattle.speck_c.specs.declared.held.What.{What}
@@ -41,9 +41,9 @@ abbrev pub HoldsNew : Setting → Option SeatsValue → Type 0
 HoldsNew setup None = ⊥
 HoldsNew setup (Some m) = IsNew setup m
 
--- 0 comes with a new machine held; 5, out of memory, with what was held before.
+-- 0 comes with a new machine held; 247, out of memory, with what was held before.
 abbrev pub Boots : Setting → Option Held → ℕ → Option Held → Type 0
-Boots setup held answer now = ((answer ≡ 0) × HoldsNew setup (machine_held now)) ⊎ ((answer ≡ 5) × (now ≡ held))
+Boots setup held answer now = ((answer ≡ 0) × HoldsNew setup (machine_held now)) ⊎ ((answer ≡ 247) × (now ≡ held))
 
 -- The machine is as it was, but for the number of ports dealt.
 pub record HasDealt (m : SeatsValue) (n : ℕ) (now : SeatsValue) : Type 0 where
@@ -55,19 +55,19 @@ pub record HasDealt (m : SeatsValue) (n : ℕ) (now : SeatsValue) : Type 0 where
 abbrev pub DealsPort : SeatsValue → Result CoreSeatValue ℕ → Option SeatsValue → Type 0
 DealsPort m dealt None = ⊥
 DealsPort m (Ok p) (Some now) = IsDealt m p × HasDealt m (m.dealt + 1) now
-DealsPort m (Err e) (Some now) = (e ≡ 2) × (m.kernel.setup.cores ≤ m.dealt) × HasDealt m m.dealt now
+DealsPort m (Err e) (Some now) = (e ≡ 244) × (m.kernel.setup.cores ≤ m.dealt) × HasDealt m m.dealt now
 
 abbrev pub HoldsDealt : SeatsValue → Option CoreSeatValue → Type 0
 HoldsDealt m None = ⊥
 HoldsDealt m (Some p) = IsDealt m p
 
--- 0 comes with the port of the next core held; 2 where all are dealt; 5, out of memory, where the next core's port is lost.
+-- 0 comes with the port of the next core held; 244 where all are dealt; 247, out of memory, where the next core's port is lost.
 abbrev pub Deals : SeatsValue → ℕ → Option SeatsValue → Option Held → Type 0
 Deals m answer None port = ⊥
 Deals m answer (Some now) port =
     ((answer ≡ 0) × HasDealt m (m.dealt + 1) now × HoldsDealt m (port_held port))
-    ⊎ ((answer ≡ 2) × (m.kernel.setup.cores ≤ m.dealt) × HasDealt m m.dealt now × (port ≡ None))
-    ⊎ ((answer ≡ 5) × HasDealt m (m.dealt + 1) now × (port ≡ None))
+    ⊎ ((answer ≡ 244) × (m.kernel.setup.cores ≤ m.dealt) × HasDealt m m.dealt now × (port ≡ None))
+    ⊎ ((answer ≡ 247) × HasDealt m (m.dealt + 1) now × (port ≡ None))
 
 -- The port and the note that are held, if such are, are of one kernel.
 abbrev pub AreOfOne : Option CoreSeatValue → Option CoreNoteValue → Type 0
@@ -84,9 +84,9 @@ abbrev pub HoldsTold : CoreSeatValue → Option CoreNoteValue → Type 0
 HoldsTold p None = ⊥
 HoldsTold p (Some n) = Tells p n
 
--- 0 comes with the note held, and the port as it was; 5, out of memory, with nothing done.
+-- 0 comes with the note held, and the port as it was; 247, out of memory, with nothing done.
 abbrev pub Notes : CoreSeatValue → ℕ → Option CoreSeatValue → Option Held → Type 0
-Notes p answer now note = (now ≡ Some p) × (((answer ≡ 0) × HoldsTold p (note_held note)) ⊎ ((answer ≡ 5) × (note ≡ None)))
+Notes p answer now note = (now ≡ Some p) × (((answer ≡ 0) × HoldsTold p (note_held note)) ⊎ ((answer ≡ 247) × (note ≡ None)))
 
 abbrev pub HoldsMet : CoreSeatValue → CoreNoteValue → Option CoreSeatValue → Type 0
 HoldsMet p n None = ⊥

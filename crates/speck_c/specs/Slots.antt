@@ -2,8 +2,8 @@
 use Rattle.std.specs.Prelude.{◌≡◌, Bool, true, false, Option, Some, None, MatchOption}
 use Rattle.spk_nums.specs.declared.calls.Call.{Call}
 use Rattle.spk_nums.specs.declared.replies.Reply.{Reply}
-use Rattle.core_kernel.specs.Kernel.{CoreSeatValue}
-use Rattle.core_kernel.specs.Calls.{MakesCall}
+use Rattle.core_machine.specs.core_kernel.specs.Kernel.{CoreSeatValue}
+use Rattle.core_machine.specs.core_kernel.specs.Calls.{MakesCall}
 use Rattle.speck_c.specs.declared.held.Held.{Held}
 use Rattle.speck_c.specs.declared.held.What.{What}
 use Rattle.speck_c.specs.declared.held.What.TheVariants.{Machine, Core, Told, Tables}

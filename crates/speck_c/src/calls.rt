@@ -11,264 +11,326 @@ use crate::slot::Slot;
 use spk_nums::{Call, CapId, EntryNo, FrameArg, FrameKind, PageFlags, PageNo, Rights};
 use std::alloc::Global;
 
-/// Answers the capability `a`, by the port's core.
+/// Answers the capability of this number, by the port's core.
 #[unsafe(no_mangle)]
-pub extern "C" fn speck_look(alloc: Global, port: &mut Slot, a: u16) -> SpeckReply
-    ensures { IsCalled (held_in port.old) (Call.Look a) result (held_in port.new) }
+pub extern "C" fn speck_inner_look(alloc: Global, port: &mut Slot, capability: u16) -> SpeckReply
+    ensures { IsCalled (held_in port.old) (Call.Look capability) result (held_in port.new) }
 {
-    make_call(alloc, port, Call::Look { a: CapId::new(a) })
+    make_call(
+        alloc,
+        port,
+        Call::Look {
+            a: CapId::new(capability),
+        },
+    )
 }
 
-/// Puts the capability `a` into the entry `b` of the table `t`, with those of its rights that are among `rights`, 0 to 3: bit 0 to copy it,
-/// bit 1 to use it. By the port's core.
+/// Puts the capability into the entry `slot` of `table`, with those of its rights that are among `rights`, 0 to 3: bit 0 to copy it, bit 1 to
+/// use it. By the port's core.
 #[unsafe(no_mangle)]
-pub extern "C" fn speck_copy(
+pub extern "C" fn speck_inner_copy(
     alloc: Global,
     port: &mut Slot,
-    a: u16,
-    t: u16,
-    b: u16,
+    capability: u16,
+    table: u16,
+    slot: u16,
     rights: u8,
 ) -> SpeckReply
     ensures called { rights < 4
-        → IsCalled (held_in port.old) (Call.Copy a t b (record { 0 = rights })) result (held_in port.new) }
+        → IsCalled (held_in port.old) (Call.Copy capability table slot (record { 0 = rights })) result (held_in port.new) }
     ensures outside { ¬ rights < 4 → IsOutside (held_in port.old) result (held_in port.new) }
 {
     try_call(
         alloc,
         port,
         Call::Copy {
-            a: CapId::new(a),
-            t: CapId::new(t),
-            b: CapId::new(b),
+            a: CapId::new(capability),
+            t: CapId::new(table),
+            b: CapId::new(slot),
             rights: Rights::of_bits(rights),
         },
     )
 }
 
-/// Removes the entry `b` of the table `t`, by the port's core.
+/// Removes the entry `slot` of `table`, by the port's core.
 #[unsafe(no_mangle)]
-pub extern "C" fn speck_remove(alloc: Global, port: &mut Slot, t: u16, b: u16) -> SpeckReply
-    ensures { IsCalled (held_in port.old) (Call.Remove t b) result (held_in port.new) }
+pub extern "C" fn speck_inner_remove(
+    alloc: Global,
+    port: &mut Slot,
+    table: u16,
+    slot: u16,
+) -> SpeckReply
+    ensures { IsCalled (held_in port.old) (Call.Remove table slot) result (held_in port.new) }
 {
     make_call(
         alloc,
         port,
         Call::Remove {
-            t: CapId::new(t),
-            b: CapId::new(b),
+            t: CapId::new(table),
+            b: CapId::new(slot),
         },
     )
 }
 
-/// Links the leaf `l` into the root entry `i` of `t`, by the port's core.
+/// Links `leaf` into the entry `entry` of `root`, by the port's core.
 #[unsafe(no_mangle)]
-pub extern "C" fn speck_grow(alloc: Global, port: &mut Slot, t: u16, i: u16, l: u16) -> SpeckReply
-    ensures { IsCalled (held_in port.old) (Call.Grow t i l) result (held_in port.new) }
+pub extern "C" fn speck_inner_grow(
+    alloc: Global,
+    port: &mut Slot,
+    root: u16,
+    entry: u16,
+    leaf: u16,
+) -> SpeckReply
+    ensures { IsCalled (held_in port.old) (Call.Grow root entry leaf) result (held_in port.new) }
 {
     make_call(
         alloc,
         port,
         Call::Grow {
-            t: CapId::new(t),
-            i: EntryNo::new(i),
-            l: CapId::new(l),
+            t: CapId::new(root),
+            i: EntryNo::new(entry),
+            l: CapId::new(leaf),
         },
     )
 }
 
-/// Removes the link in the root entry `i` of `t`, by the port's core.
+/// Removes the link in the entry `entry` of `root`, by the port's core.
 #[unsafe(no_mangle)]
-pub extern "C" fn speck_shrink(alloc: Global, port: &mut Slot, t: u16, i: u16) -> SpeckReply
-    ensures { IsCalled (held_in port.old) (Call.Shrink t i) result (held_in port.new) }
+pub extern "C" fn speck_inner_shrink(
+    alloc: Global,
+    port: &mut Slot,
+    root: u16,
+    entry: u16,
+) -> SpeckReply
+    ensures { IsCalled (held_in port.old) (Call.Shrink root entry) result (held_in port.new) }
 {
     make_call(
         alloc,
         port,
         Call::Shrink {
-            t: CapId::new(t),
-            i: EntryNo::new(i),
+            t: CapId::new(root),
+            i: EntryNo::new(entry),
         },
     )
 }
 
-/// Removes the mapping of the page `v` of `p`, by the port's core.
+/// Removes the mapping of `page` in `pages`, by the port's core.
 #[unsafe(no_mangle)]
-pub extern "C" fn speck_unmap(alloc: Global, port: &mut Slot, p: u16, v: u16) -> SpeckReply
-    ensures { IsCalled (held_in port.old) (Call.Unmap p v) result (held_in port.new) }
+pub extern "C" fn speck_inner_unmap(
+    alloc: Global,
+    port: &mut Slot,
+    pages: u16,
+    page: u16,
+) -> SpeckReply
+    ensures { IsCalled (held_in port.old) (Call.Unmap pages page) result (held_in port.new) }
 {
     make_call(
         alloc,
         port,
         Call::Unmap {
-            p: CapId::new(p),
-            v: PageNo::new(v),
+            p: CapId::new(pages),
+            v: PageNo::new(page),
         },
     )
 }
 
-/// Answers the frame and flags of the page `v` of the caller's component, by the port's core.
+/// Answers the frame and flags of `page` of the caller's component, by the port's core.
 #[unsafe(no_mangle)]
-pub extern "C" fn speck_touch(alloc: Global, port: &mut Slot, v: u16) -> SpeckReply
-    ensures { IsCalled (held_in port.old) (Call.Touch v) result (held_in port.new) }
+pub extern "C" fn speck_inner_touch(alloc: Global, port: &mut Slot, page: u16) -> SpeckReply
+    ensures { IsCalled (held_in port.old) (Call.Touch page) result (held_in port.new) }
 {
-    make_call(alloc, port, Call::Touch { v: PageNo::new(v) })
+    make_call(
+        alloc,
+        port,
+        Call::Touch {
+            v: PageNo::new(page),
+        },
+    )
 }
 
 /// Empties the core's translations, by the port's core.
 #[unsafe(no_mangle)]
-pub extern "C" fn speck_flush(alloc: Global, port: &mut Slot) -> SpeckReply
+pub extern "C" fn speck_inner_flush(alloc: Global, port: &mut Slot) -> SpeckReply
     ensures { IsCalled (held_in port.old) Call.Flush result (held_in port.new) }
 {
     make_call(alloc, port, Call::Flush)
 }
 
-/// Puts a gate to the component `c` into the entry `b` of the table `t`, by the port's core.
+/// Puts a gate to the component `comp` into the entry `slot` of `table`, by the port's core.
 #[unsafe(no_mangle)]
-pub extern "C" fn speck_gate(alloc: Global, port: &mut Slot, c: u16, t: u16, b: u16) -> SpeckReply
-    ensures { IsCalled (held_in port.old) (Call.Gate c t b) result (held_in port.new) }
+pub extern "C" fn speck_inner_gate(
+    alloc: Global,
+    port: &mut Slot,
+    comp: u16,
+    table: u16,
+    slot: u16,
+) -> SpeckReply
+    ensures { IsCalled (held_in port.old) (Call.Gate comp table slot) result (held_in port.new) }
 {
     make_call(
         alloc,
         port,
         Call::Gate {
-            c: CapId::new(c),
-            t: CapId::new(t),
-            b: CapId::new(b),
+            c: CapId::new(comp),
+            t: CapId::new(table),
+            b: CapId::new(slot),
         },
     )
 }
 
-/// Ends the life of the component `c`, by the port's core.
+/// Ends the life of the component `comp`, by the port's core.
 #[unsafe(no_mangle)]
-pub extern "C" fn speck_kill(alloc: Global, port: &mut Slot, c: u16) -> SpeckReply
-    ensures { IsCalled (held_in port.old) (Call.Kill c) result (held_in port.new) }
+pub extern "C" fn speck_inner_kill(alloc: Global, port: &mut Slot, comp: u16) -> SpeckReply
+    ensures { IsCalled (held_in port.old) (Call.Kill comp) result (held_in port.new) }
 {
-    make_call(alloc, port, Call::Kill { c: CapId::new(c) })
+    make_call(
+        alloc,
+        port,
+        Call::Kill {
+            c: CapId::new(comp),
+        },
+    )
 }
 
-/// Enters the component behind the gate `g`, by the port's core.
+/// Enters the component behind `gate`, by the port's core.
 #[unsafe(no_mangle)]
-pub extern "C" fn speck_call(alloc: Global, port: &mut Slot, g: u16) -> SpeckReply
-    ensures { IsCalled (held_in port.old) (Call.Call g) result (held_in port.new) }
+pub extern "C" fn speck_inner_call(alloc: Global, port: &mut Slot, gate: u16) -> SpeckReply
+    ensures { IsCalled (held_in port.old) (Call.Call gate) result (held_in port.new) }
 {
-    make_call(alloc, port, Call::Call { g: CapId::new(g) })
+    make_call(
+        alloc,
+        port,
+        Call::Call {
+            g: CapId::new(gate),
+        },
+    )
 }
 
 /// Leaves the component, by the port's core.
 #[unsafe(no_mangle)]
-pub extern "C" fn speck_ret(alloc: Global, port: &mut Slot) -> SpeckReply
+pub extern "C" fn speck_inner_ret(alloc: Global, port: &mut Slot) -> SpeckReply
     ensures { IsCalled (held_in port.old) Call.Ret result (held_in port.new) }
 {
     make_call(alloc, port, Call::Ret)
 }
 
-/// Goes on as the thread `h` with the temporal capability `q`, by the port's core.
+/// Goes on as `thread` with the temporal capability `tcap`, by the port's core.
 #[unsafe(no_mangle)]
-pub extern "C" fn speck_switch(alloc: Global, port: &mut Slot, h: u16, q: u16) -> SpeckReply
-    ensures { IsCalled (held_in port.old) (Call.Switch h q) result (held_in port.new) }
+pub extern "C" fn speck_inner_switch(
+    alloc: Global,
+    port: &mut Slot,
+    thread: u16,
+    tcap: u16,
+) -> SpeckReply
+    ensures { IsCalled (held_in port.old) (Call.Switch thread tcap) result (held_in port.new) }
 {
     make_call(
         alloc,
         port,
         Call::Switch {
-            h: CapId::new(h),
-            q: CapId::new(q),
+            h: CapId::new(thread),
+            q: CapId::new(tcap),
         },
     )
 }
 
-/// Moves `m` ticks from `a` to `b`, whose lists are equal, by the port's core.
+/// Moves so many ticks from `source` to `target`, whose lists are equal, by the port's core.
 #[unsafe(no_mangle)]
-pub extern "C" fn speck_transfer(
+pub extern "C" fn speck_inner_transfer(
     alloc: Global,
     port: &mut Slot,
-    a: u16,
-    b: u16,
-    m: u32,
+    source: u16,
+    target: u16,
+    ticks: u32,
 ) -> SpeckReply
-    ensures { IsCalled (held_in port.old) (Call.Transfer a b m) result (held_in port.new) }
+    ensures { IsCalled (held_in port.old) (Call.Transfer source target ticks) result (held_in port.new) }
 {
     make_call(
         alloc,
         port,
         Call::Transfer {
-            a: CapId::new(a),
-            b: CapId::new(b),
-            m,
+            a: CapId::new(source),
+            b: CapId::new(target),
+            m: ticks,
         },
     )
 }
 
-/// Moves `m` ticks from `a` to `b`, and gives `b` the merged list, by the port's core.
+/// Moves so many ticks from `source` to `target`, and gives `target` the merged list, by the port's core.
 #[unsafe(no_mangle)]
-pub extern "C" fn speck_delegate(
+pub extern "C" fn speck_inner_delegate(
     alloc: Global,
     port: &mut Slot,
-    a: u16,
-    b: u16,
-    m: u32,
+    source: u16,
+    target: u16,
+    ticks: u32,
 ) -> SpeckReply
-    ensures { IsCalled (held_in port.old) (Call.Delegate a b m) result (held_in port.new) }
+    ensures { IsCalled (held_in port.old) (Call.Delegate source target ticks) result (held_in port.new) }
 {
     make_call(
         alloc,
         port,
         Call::Delegate {
-            a: CapId::new(a),
-            b: CapId::new(b),
-            m,
+            a: CapId::new(source),
+            b: CapId::new(target),
+            m: ticks,
         },
     )
 }
 
-/// Answers whether `a` preempts `b`, by the port's core.
+/// Answers whether `first` preempts `second`, by the port's core.
 #[unsafe(no_mangle)]
-pub extern "C" fn speck_test(alloc: Global, port: &mut Slot, a: u16, b: u16) -> SpeckReply
-    ensures { IsCalled (held_in port.old) (Call.Test a b) result (held_in port.new) }
+pub extern "C" fn speck_inner_test(
+    alloc: Global,
+    port: &mut Slot,
+    first: u16,
+    second: u16,
+) -> SpeckReply
+    ensures { IsCalled (held_in port.old) (Call.Test first second) result (held_in port.new) }
 {
     make_call(
         alloc,
         port,
         Call::Test {
-            a: CapId::new(a),
-            b: CapId::new(b),
+            a: CapId::new(first),
+            b: CapId::new(second),
         },
     )
 }
 
-/// Charges `n` ticks, at most 1,000,000, by the port's core.
+/// Charges so many ticks, at most 1,000,000, by the port's core.
 #[unsafe(no_mangle)]
-pub extern "C" fn speck_tick(alloc: Global, port: &mut Slot, n: u32) -> SpeckReply
-    ensures called { InLimits (Call.Tick n) → IsCalled (held_in port.old) (Call.Tick n) result (held_in port.new) }
-    ensures outside { ¬ InLimits (Call.Tick n) → IsOutside (held_in port.old) result (held_in port.new) }
+pub extern "C" fn speck_inner_tick(alloc: Global, port: &mut Slot, ticks: u32) -> SpeckReply
+    ensures called { InLimits (Call.Tick ticks) → IsCalled (held_in port.old) (Call.Tick ticks) result (held_in port.new) }
+    ensures outside { ¬ InLimits (Call.Tick ticks) → IsOutside (held_in port.old) result (held_in port.new) }
 {
-    try_call(alloc, port, Call::Tick { n })
+    try_call(alloc, port, Call::Tick { n: ticks })
 }
 
-/// Maps the user frame `f` of the range `r` at the page `v` of `p`, with the flags `w`, 0 to 3, by the port's core.
+/// Maps the user frame `frame` of `range` at `page` of `pages`, with the flags, 0 to 3, by the port's core.
 #[unsafe(no_mangle)]
-pub extern "C" fn speck_map(
+pub extern "C" fn speck_inner_map(
     alloc: Global,
     port: &mut Slot,
-    p: u16,
-    v: u16,
-    r: u16,
-    f: u16,
-    w: u8,
+    pages: u16,
+    page: u16,
+    range: u16,
+    frame: u16,
+    flags: u8,
 ) -> SpeckReply
-    ensures called { w < 4 → IsCalled (held_in port.old) (Call.Map p v r f (record { 0 = w })) result (held_in port.new) }
-    ensures outside { ¬ w < 4 → IsOutside (held_in port.old) result (held_in port.new) }
+    ensures called { flags < 4
+        → IsCalled (held_in port.old) (Call.Map pages page range frame (record { 0 = flags })) result (held_in port.new) }
+    ensures outside { ¬ flags < 4 → IsOutside (held_in port.old) result (held_in port.new) }
 {
     try_call(
         alloc,
         port,
         Call::Map {
-            p: CapId::new(p),
-            v: PageNo::new(v),
-            r: CapId::new(r),
-            f: FrameArg::new(f),
-            w: PageFlags::of_bits(w),
+            p: CapId::new(pages),
+            v: PageNo::new(page),
+            r: CapId::new(range),
+            f: FrameArg::new(frame),
+            w: PageFlags::of_bits(flags),
         },
     )
 }
@@ -288,18 +350,24 @@ fn kind_of(k: u8) -> Option<FrameKind>
     }
 }
 
-/// Makes the frame `f` of the range `r` one of the kind `k`: 0 untyped, 1 user, 2 kernel. By the port's core.
+/// Makes the frame `frame` of `range` one of this kind: 0 untyped, 1 user, 2 kernel. By the port's core.
 #[unsafe(no_mangle)]
-pub extern "C" fn speck_retype(alloc: Global, port: &mut Slot, r: u16, f: u16, k: u8) -> SpeckReply
-    ensures { IsKindCalled (held_in port.old) r f (frame_kinds k) result (held_in port.new) }
+pub extern "C" fn speck_inner_retype(
+    alloc: Global,
+    port: &mut Slot,
+    range: u16,
+    frame: u16,
+    kind: u8,
+) -> SpeckReply
+    ensures { IsKindCalled (held_in port.old) range frame (frame_kinds kind) result (held_in port.new) }
 {
-    match kind_of(k) {
+    match kind_of(kind) {
         Some(k) => make_call(
             alloc,
             port,
             Call::Retype {
-                r: CapId::new(r),
-                f: FrameArg::new(f),
+                r: CapId::new(range),
+                f: FrameArg::new(frame),
                 k,
             },
         ),

@@ -48,9 +48,9 @@ fn take_port_back(alloc: Global, seats: &mut Seats, port: &mut Slot) -> u8
     };
     if usize::from(core) != seats.returned() {
         port.put(held);
-        return 2;
+        return 245;
     }
-    if take_held_back(seats, held) { 0 } else { 5 }
+    if take_held_back(seats, held) { 0 } else { 247 }
 }
 
 // The same of a machine that is held.
@@ -70,10 +70,10 @@ fn back_held(alloc: Global, held: &mut Held, port: &mut Slot) -> u8
 }
 
 /// Takes a port of the machine back, core 0's first, empties its slot, and answers 0. Else, with nothing changed, 254 where no
-/// machine or no port is held, and 2 where the ports with lower numbers are not all back; 5 where memory has run out, and the
+/// machine or no port is held, and 245 where the ports with lower numbers are not all back; 247 where memory has run out, and the
 /// port is then lost. A machine and a port that are held are of one kernel.
 #[unsafe(no_mangle)]
-pub extern "C" fn speck_take_back(alloc: Global, machine: &mut Slot, port: &mut Slot) -> u8
+pub extern "C" fn speck_inner_take_back(alloc: Global, machine: &mut Slot, port: &mut Slot) -> u8
     requires { AreOfMachine (machine_held (held_in machine.old)) (port_held (held_in port.old)) }
     ensures machine { machine_held (held_in machine.old) ≡ None
         → (result ≡ 254) × (held_in machine.new ≡ held_in machine.old) × (held_in port.new ≡ held_in port.old) }
@@ -119,19 +119,19 @@ fn tables_of(alloc: Global, held: Box<Held>) -> Option<String>
 }
 
 /// Finishes the machine, whose slot is then empty, puts the tables of its final words into an empty slot, and answers 0. Else,
-/// with nothing changed, 1 where the text's slot is not empty, 254 where no machine is held, and 2 where a port is not back; 5
+/// with nothing changed, 240 where the text's slot is not empty, 254 where no machine is held, and 246 where a port is not back; 247
 /// where memory has run out, and the machine is then gone.
 #[unsafe(no_mangle)]
-pub extern "C" fn speck_finish(alloc: Global, machine: &mut Slot, text: &mut Slot) -> u8
+pub extern "C" fn speck_inner_finish(alloc: Global, machine: &mut Slot, text: &mut Slot) -> u8
     ensures full { held_in text.old ≢ None
-        → (result ≡ 1) × (held_in text.new ≡ held_in text.old) × (held_in machine.new ≡ held_in machine.old) }
+        → (result ≡ 240) × (held_in text.new ≡ held_in text.old) × (held_in machine.new ≡ held_in machine.old) }
     ensures none { held_in text.old ≡ None → machine_held (held_in machine.old) ≡ None
         → (result ≡ 254) × (held_in text.new ≡ None) × (held_in machine.new ≡ held_in machine.old) }
     ensures finishes { held_in text.old ≡ None → IfSome (machine_held (held_in machine.old))
         (λ m. Finishes m result (held_in machine.old) (held_in machine.new) (held_in text.new)) }
 {
     if !text.is_empty() {
-        return 1;
+        return 240;
     }
     let Some(held) = machine.take(alloc) else {
         return 254;
@@ -143,24 +143,24 @@ pub extern "C" fn speck_finish(alloc: Global, machine: &mut Slot, text: &mut Slo
         }
         Some(false) => {
             machine.put(held);
-            2
+            246
         }
         Some(true) => match tables_of(alloc, held) {
             Some(tables) => {
                 if put_new(alloc, text, What::Tables(tables)) {
                     0
                 } else {
-                    5
+                    247
                 }
             }
-            None => 5,
+            None => 247,
         },
     }
 }
 
 /// Empties a text's slot.
 #[unsafe(no_mangle)]
-pub extern "C" fn speck_free_text(alloc: Global, text: &mut Slot)
+pub extern "C" fn speck_inner_free_text(alloc: Global, text: &mut Slot)
     ensures { held_in text.new ≡ None }
 {
     let _gone = text.take(alloc);

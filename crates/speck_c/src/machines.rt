@@ -28,55 +28,55 @@ fn boot_into(alloc: Global, machine: &mut Slot, cores: u8, frames: u16, budget: 
     ensures { Boots (equal_setting cores frames budget) (held_in machine.old) result (held_in machine.new) }
 {
     let Ok(setup) = Setup::equal(cores, frames, budget) else {
-        return 5;
+        return 247;
     };
     let Ok(seats) = Seats::boot(alloc, &setup) else {
-        return 5;
+        return 247;
     };
     if put_new(alloc, machine, What::Machine(seats)) {
         0
     } else {
-        5
+        247
     }
 }
 
 /// Boots a machine of so many cores and frames, whose cores are each granted `budget` ticks, into an empty slot, and answers 0.
-/// The first that holds of these is answered instead, and the slot stays as it is: 1 where the slot is not empty; 2 where there
-/// are not 1 to 8 cores; 3 where there are not `4 + 2 * cores` to 512 frames; 4 where the budget is past 500,000,000; 5 where
+/// The first that holds of these is answered instead, and the slot stays as it is: 240 where the slot is not empty; 241 where there
+/// are not 1 to 8 cores; 242 where there are not `4 + 2 * cores` to 512 frames; 243 where the budget is past 500,000,000; 247 where
 /// memory has run out.
 #[unsafe(no_mangle)]
-pub extern "C" fn speck_boot(
+pub extern "C" fn speck_inner_boot(
     alloc: Global,
     machine: &mut Slot,
     cores: u8,
     frames: u16,
     budget: u32,
 ) -> u8
-    ensures full { held_in machine.old ≢ None → (result ≡ 1) × (held_in machine.new ≡ held_in machine.old) }
-    ensures cores { held_in machine.old ≡ None → (cores < 1) ⊎ (8 < cores) → (result ≡ 2) × (held_in machine.new ≡ None) }
+    ensures full { held_in machine.old ≢ None → (result ≡ 240) × (held_in machine.new ≡ held_in machine.old) }
+    ensures cores { held_in machine.old ≡ None → (cores < 1) ⊎ (8 < cores) → (result ≡ 241) × (held_in machine.new ≡ None) }
     ensures frames { held_in machine.old ≡ None → 1 ≤ cores → cores ≤ 8 → (frames < 4 + 2 * cores) ⊎ (512 < frames)
-        → (result ≡ 3) × (held_in machine.new ≡ None) }
+        → (result ≡ 242) × (held_in machine.new ≡ None) }
     ensures budget { held_in machine.old ≡ None → 1 ≤ cores → cores ≤ 8 → 4 + 2 * cores ≤ frames → frames ≤ 512 → 500000000 < budget
-        → (result ≡ 4) × (held_in machine.new ≡ None) }
+        → (result ≡ 243) × (held_in machine.new ≡ None) }
     ensures boots { held_in machine.old ≡ None → 1 ≤ cores → cores ≤ 8 → 4 + 2 * cores ≤ frames → frames ≤ 512 → budget ≤ 500000000
         → Boots (equal_setting cores frames budget) None result (held_in machine.new) }
 {
     if !machine.is_empty() {
-        return 1;
+        return 240;
     }
     if cores < 1 || 8 < cores {
-        return 2;
+        return 241;
     }
     if frames < 4 + 2 * u16::from(cores) || 512 < frames {
-        return 3;
+        return 242;
     }
     if 500_000_000 < budget {
-        return 4;
+        return 243;
     }
     boot_into(alloc, machine, cores, frames, budget)
 }
 
-// The port of the next core; 2 where all are dealt, 254 where no machine is held.
+// The port of the next core; 244 where all are dealt, 254 where no machine is held.
 fn deal_held(held: &mut Held) -> Result<Port, u8>
     ensures { MatchOption (machine_of held.old.what) ((result ≡ Err 254) × (held.new ≡ held.old))
         (λ m. DealsPort m result (machine_of held.new.what)) }
@@ -84,18 +84,18 @@ fn deal_held(held: &mut Held) -> Result<Port, u8>
     match &mut held.what {
         What::Machine(seats) => match seats.deal() {
             Some(port) => Ok(port),
-            None => Err(2),
+            None => Err(244),
         },
         _ => Err(254),
     }
 }
 
-/// Puts the port of the machine's next core, core 0's first, into an empty slot, and answers 0. Else 1 where the port's slot is
-/// not empty; 254 where no machine is held; 2 where each core has its port; 5 where memory has run out, and the next core's
+/// Puts the port of the machine's next core, core 0's first, into an empty slot, and answers 0. Else 240 where the port's slot is
+/// not empty; 254 where no machine is held; 244 where each core has its port; 247 where memory has run out, and the next core's
 /// port is lost.
 #[unsafe(no_mangle)]
-pub extern "C" fn speck_deal(alloc: Global, machine: &mut Slot, port: &mut Slot) -> u8
-    ensures full { held_in port.old ≢ None → (result ≡ 1) × (held_in port.new ≡ held_in port.old)
+pub extern "C" fn speck_inner_deal(alloc: Global, machine: &mut Slot, port: &mut Slot) -> u8
+    ensures full { held_in port.old ≢ None → (result ≡ 240) × (held_in port.new ≡ held_in port.old)
         × (held_in machine.new ≡ held_in machine.old) }
     ensures none { held_in port.old ≡ None → machine_held (held_in machine.old) ≡ None
         → (result ≡ 254) × (held_in port.new ≡ None) × (held_in machine.new ≡ held_in machine.old) }
@@ -103,7 +103,7 @@ pub extern "C" fn speck_deal(alloc: Global, machine: &mut Slot, port: &mut Slot)
         (λ m. Deals m result (machine_held (held_in machine.new)) (held_in port.new)) }
 {
     if !port.is_empty() {
-        return 1;
+        return 240;
     }
     let Some(mut held) = machine.take(alloc) else {
         return 254;
@@ -115,7 +115,7 @@ pub extern "C" fn speck_deal(alloc: Global, machine: &mut Slot, port: &mut Slot)
             if put_new(alloc, port, What::Core(next)) {
                 0
             } else {
-                5
+                247
             }
         }
         Err(code) => code,
@@ -134,7 +134,7 @@ pub(crate) fn core_of(held: &Held) -> Option<u8>
 
 /// Answers the core of the port, 0 to 7; 254 where no port is held. The slot keeps what it holds.
 #[unsafe(no_mangle)]
-pub extern "C" fn speck_core(alloc: Global, port: &mut Slot) -> u8
+pub extern "C" fn speck_inner_core(alloc: Global, port: &mut Slot) -> u8
     ensures kept { held_in port.new ≡ held_in port.old }
     ensures core { MatchOption (port_held (held_in port.old)) (result ≡ 254) (λ p. result ≡ p.core) }
 {
@@ -151,7 +151,7 @@ pub extern "C" fn speck_core(alloc: Global, port: &mut Slot) -> u8
 
 /// Empties a machine's slot. A kernel is freed with the last of its machine and its ports.
 #[unsafe(no_mangle)]
-pub extern "C" fn speck_free_machine(alloc: Global, machine: &mut Slot)
+pub extern "C" fn speck_inner_free_machine(alloc: Global, machine: &mut Slot)
     ensures { held_in machine.new ≡ None }
 {
     let _gone = machine.take(alloc);
@@ -159,7 +159,7 @@ pub extern "C" fn speck_free_machine(alloc: Global, machine: &mut Slot)
 
 /// Empties a port's slot.
 #[unsafe(no_mangle)]
-pub extern "C" fn speck_free_port(alloc: Global, port: &mut Slot)
+pub extern "C" fn speck_inner_free_port(alloc: Global, port: &mut Slot)
     ensures { held_in port.new ≡ None }
 {
     let _gone = port.take(alloc);
@@ -167,7 +167,7 @@ pub extern "C" fn speck_free_port(alloc: Global, port: &mut Slot)
 
 /// Empties a note's slot.
 #[unsafe(no_mangle)]
-pub extern "C" fn speck_free_note(alloc: Global, note: &mut Slot)
+pub extern "C" fn speck_inner_free_note(alloc: Global, note: &mut Slot)
     ensures { held_in note.new ≡ None }
 {
     let _gone = note.take(alloc);

@@ -13,7 +13,7 @@ use std::alloc::Global;
 /// Makes the root of a capability table. It goes into the blank frame `frame`
 /// of `range`, and its capability into the entry `slot` of `table`.
 #[unsafe(no_mangle)]
-pub extern "C" fn speck_make_table(
+pub extern "C" fn speck_inner_make_table(
     alloc: Global,
     port: &mut Slot,
     range: u16,
@@ -39,7 +39,7 @@ pub extern "C" fn speck_make_table(
 /// Makes a leaf of a capability table. It goes into the blank frame `frame`
 /// of `range`, and its capability into the entry `slot` of `table`.
 #[unsafe(no_mangle)]
-pub extern "C" fn speck_make_leaf(
+pub extern "C" fn speck_inner_make_leaf(
     alloc: Global,
     port: &mut Slot,
     range: u16,
@@ -65,7 +65,7 @@ pub extern "C" fn speck_make_leaf(
 /// Makes the root of a page table. It goes into the blank frame `frame`
 /// of `range`, and its capability into the entry `slot` of `table`.
 #[unsafe(no_mangle)]
-pub extern "C" fn speck_make_pages(
+pub extern "C" fn speck_inner_make_pages(
     alloc: Global,
     port: &mut Slot,
     range: u16,
@@ -91,7 +91,7 @@ pub extern "C" fn speck_make_pages(
 /// Makes a leaf of a page table. It goes into the blank frame `frame`
 /// of `range`, and its capability into the entry `slot` of `table`.
 #[unsafe(no_mangle)]
-pub extern "C" fn speck_make_pleaf(
+pub extern "C" fn speck_inner_make_pleaf(
     alloc: Global,
     port: &mut Slot,
     range: u16,
@@ -117,7 +117,7 @@ pub extern "C" fn speck_make_pleaf(
 /// Makes a thread whose stack holds the component `comp`. It goes into the blank frame `frame`
 /// of `range`, and its capability into the entry `slot` of `table`.
 #[unsafe(no_mangle)]
-pub extern "C" fn speck_make_thread(
+pub extern "C" fn speck_inner_make_thread(
     alloc: Global,
     port: &mut Slot,
     comp: u16,
@@ -146,7 +146,7 @@ pub extern "C" fn speck_make_thread(
 /// Makes a temporal capability without budget, with the list of the one pair `sched`, 0 to 63, and `quality`, 1 to 16,777,215. It goes
 /// into the blank frame `frame` of `range`, and its capability into the entry `slot` of `table`.
 #[unsafe(no_mangle)]
-pub extern "C" fn speck_make_tcap(
+pub extern "C" fn speck_inner_make_tcap(
     alloc: Global,
     port: &mut Slot,
     sched: u8,
@@ -177,7 +177,7 @@ pub extern "C" fn speck_make_tcap(
 /// Makes a component with the table `names`, the pages `pages` and the liveness number `live`, 0 to 63. It goes into the blank
 /// frame `frame` of `range`, and its capability into the entry `slot` of `table`.
 #[unsafe(no_mangle)]
-pub extern "C" fn speck_make_comp(
+pub extern "C" fn speck_inner_make_comp(
     alloc: Global,
     port: &mut Slot,
     names: u16,

@@ -42,6 +42,7 @@ pub(crate) fn make_call(alloc: Global, slot: &mut Slot, call: Call) -> SpeckRepl
 }
 
 // Makes the call where it is in its limits.
+#[inline(always)]
 pub(crate) fn try_call(alloc: Global, slot: &mut Slot, call: Call) -> SpeckReply
     ensures called { InLimits call → IsCalled (held_in slot.old) call result (held_in slot.new) }
     ensures outside { ¬ InLimits call → IsOutside (held_in slot.old) result (held_in slot.new) }

@@ -1,7 +1,7 @@
 //! Notes, which one thread hands to another.
 
 ghost use Rattle.std.specs.Prelude.{◌≡◌, ◌≢◌, Some, None, IfSome, IfNone, IsTrue, IsSome, ◌↔◌, MatchOption};
-ghost use Rattle.core_kernel.specs.Calls.{Meets};
+ghost use Rattle.core_machine.specs.core_kernel.specs.Calls.{Meets};
 ghost use Rattle.speck_c.specs.Slots.{held_in, port_held, port_of};
 ghost use Rattle.speck_c.specs.Machines.{AreOfOne, HoldsMet, Notes, Tells, note_held, note_of};
 
@@ -22,18 +22,18 @@ fn note_from(held: &mut Held) -> Option<CoreNote>
     }
 }
 
-/// Puts a note of what the port has seen into an empty slot, and answers 0; the port stays as it is. Else 1 where the note's
-/// slot is not empty; 254 where no port is held; 5 where memory has run out.
+/// Puts a note of what the port has seen into an empty slot, and answers 0; the port stays as it is. Else 240 where the note's
+/// slot is not empty; 254 where no port is held; 247 where memory has run out.
 #[unsafe(no_mangle)]
-pub extern "C" fn speck_note(alloc: Global, port: &mut Slot, note: &mut Slot) -> u8
-    ensures full { held_in note.old ≢ None → (result ≡ 1) × (held_in note.new ≡ held_in note.old) × (held_in port.new ≡ held_in port.old) }
+pub extern "C" fn speck_inner_note(alloc: Global, port: &mut Slot, note: &mut Slot) -> u8
+    ensures full { held_in note.old ≢ None → (result ≡ 240) × (held_in note.new ≡ held_in note.old) × (held_in port.new ≡ held_in port.old) }
     ensures none { held_in note.old ≡ None → port_held (held_in port.old) ≡ None
         → (result ≡ 254) × (held_in note.new ≡ None) × (held_in port.new ≡ held_in port.old) }
     ensures notes { held_in note.old ≡ None → IfSome (port_held (held_in port.old))
         (λ p. Notes p result (port_held (held_in port.new)) (held_in note.new)) }
 {
     if !note.is_empty() {
-        return 1;
+        return 240;
     }
     let Some(mut held) = port.take(alloc) else {
         return 254;
@@ -45,7 +45,7 @@ pub extern "C" fn speck_note(alloc: Global, port: &mut Slot, note: &mut Slot) ->
             if put_new(alloc, note, What::Told(told)) {
                 0
             } else {
-                5
+                247
             }
         }
         None => 254,
@@ -102,7 +102,7 @@ fn meet_held(alloc: Global, held: &mut Held, note: &mut Slot) -> u8
 /// Tells the port all that the note tells, empties the note's slot, and answers 0. Else 254, and nothing changes, where no port
 /// or no note is held. A port and a note that are held are of one kernel.
 #[unsafe(no_mangle)]
-pub extern "C" fn speck_meet(alloc: Global, port: &mut Slot, note: &mut Slot) -> u8
+pub extern "C" fn speck_inner_meet(alloc: Global, port: &mut Slot, note: &mut Slot) -> u8
     requires { AreOfOne (port_held (held_in port.old)) (note_held (held_in note.old)) }
     ensures port { port_held (held_in port.old) ≡ None
         → (result ≡ 254) × (held_in port.new ≡ held_in port.old) × (held_in note.new ≡ held_in note.old) }

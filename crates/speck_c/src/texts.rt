@@ -35,7 +35,7 @@ fn read_held(held: &Held, bytes: &mut [u8]) -> u64
 /// Copies the text to the beginning of `bytes`, or as much of it as there is room for, and answers the length of the whole text;
 /// 0, and copies nothing, where no text is held. The slot keeps what it holds.
 #[unsafe(no_mangle)]
-pub extern "C" fn speck_read(alloc: Global, text: &mut Slot, bytes: &mut [u8]) -> u64
+pub extern "C" fn speck_inner_read(alloc: Global, text: &mut Slot, bytes: &mut [u8]) -> u64
     ensures kept { held_in text.new ≡ held_in text.old }
     ensures none { text_held (held_in text.old) ≡ None → (result ≡ 0) × (bytes.new ≡ bytes.old) }
     ensures reads { IfSome (text_held (held_in text.old)) (λ t. ReadsInto (string_bytes t) bytes.old result bytes.new) }

@@ -8,9 +8,9 @@ use Rattle.trace_run.specs.lone_kernel.specs.kernel_history.specs.Order.{list_of
 use Rattle.trace_run.specs.lone_kernel.specs.kernel_history.specs.Tables.{tables_of, lines_below}
 use Rattle.trace_run.specs.lone_kernel.specs.kernel_history.specs.Text.{line_of, reply_lines, decisions_by}
 use Rattle.trace_run.specs.lone_kernel.specs.kernel_history.specs.Trace.{Trace, state_after, calls_of}
-use Rattle.core_kernel.specs.declared.whole.Ran.{Ran}
-use Rattle.core_kernel.specs.TakenSteps.{TakenSteps}
-use Rattle.core_kernel.specs.Whole.{decisions_below, IsList, AreMade}
+use Rattle.ends_run.specs.core_runs.specs.declared.whole.Ran.{Ran}
+use Rattle.ends_run.specs.core_runs.specs.TakenSteps.{TakenSteps}
+use Rattle.ends_run.specs.core_runs.specs.Whole.{decisions_below, IsList, AreMade}
 use Rattle.trace_run.specs.lone_kernel.specs.Machine.{AreLists}
 use Rattle.speck_run.specs.Written.{lines_of}
 

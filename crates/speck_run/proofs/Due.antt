@@ -5,8 +5,8 @@ use Rattle.std.specs.Prelude.{◌≤◌, if◌then◌else◌, length, codes, str
 use lib.Pointwise.{pointwise}
 use Rattle.spk_nums.specs.declared.memory.Memory.{Memory as Out_of_memory}
 use Rattle.byte_ends.specs.Ends.{HasRisen, Adds}
-use Rattle.script_reader.specs.Numerals.{number_of}
-use Rattle.script_reader.specs.declared.cause.Cause.{Cause}
+use Rattle.line_reader.specs.Numerals.{number_of}
+use Rattle.line_reader.specs.declared.cause.Cause.{Cause}
 use Rattle.script_reader.specs.Readings.{First_fault}
 use Rattle.load_maker.specs.Loads.{load_text}
 use Rattle.speck_run.specs.declared.words.Command.{Command}

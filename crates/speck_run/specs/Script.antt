@@ -2,14 +2,14 @@
 use Rattle.std.specs.Prelude.{◌≡◌, ℕ, List, Result, Ok, Err}
 use Rattle.trace_run.specs.lone_kernel.specs.kernel_history.specs.Order.{list_of}
 use Rattle.trace_run.specs.lone_kernel.specs.kernel_history.specs.Text.{plain_text}
-use Rattle.core_kernel.specs.TakenSteps.{TakenSteps}
+use Rattle.ends_run.specs.core_runs.specs.TakenSteps.{TakenSteps}
 use Rattle.trace_run.specs.lone_kernel.specs.GivenSteps.{GivenSteps}
 use Rattle.trace_run.specs.GivenTrace.{GivenTrace}
 use Rattle.draw_run.specs.GivenDrawing.{GivenDrawing}
 use Rattle.origins_run.specs.GivenOrigins.{GivenOrigins}
 use Rattle.check_run.specs.history_reader.specs.Inputs.{History, history_of}
 use Rattle.check_run.specs.Checked.{IsJudged}
-use Rattle.script_reader.specs.declared.cause.Cause.{Cause}
+use Rattle.line_reader.specs.declared.cause.Cause.{Cause}
 use Rattle.script_reader.specs.Readings.{Meaning, First_fault, script_of}
 use Rattle.script_printer.specs.Printing.{printed}
 use Rattle.ends_reader.specs.Inputs.{Input, input_of}

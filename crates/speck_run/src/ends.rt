@@ -7,8 +7,8 @@ ghost use Rattle.speck_run.specs.Written.{core_lines};
 
 use crate::text::write_decisions;
 use async_ends::EndDone;
-use core_kernel::Gate;
 use ends_reader::EndsInput;
+use ends_run::core_runs::Gate;
 use ends_run::run_ends;
 use ends_text::{push_done_lines, push_end_lines};
 use spk_nums::{CoreNo, Memory};

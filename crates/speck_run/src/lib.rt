@@ -15,8 +15,9 @@ mod text;
 mod top;
 mod words;
 
-pub use core_kernel::{FreeGate, Gate};
 pub use ends::make_ends;
+pub use ends_run::core_runs::{FreeGate, Gate};
+pub use replay::replay;
 pub use runs::run_lists;
 pub use summary::{Summed, sum_up};
 pub use top::{Status, speck};

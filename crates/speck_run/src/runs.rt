@@ -1,11 +1,11 @@
 //! Lists, made as `run` does.
 ghost use Rattle.std.specs.Prelude.{◌≡◌, true, IfOk, IfSome, IsSome, map, length, string_bytes};
-ghost use Rattle.core_kernel.specs.TakenSteps.{TakenSteps};
+ghost use Rattle.ends_run.specs.core_runs.specs.TakenSteps.{TakenSteps};
 ghost use Rattle.trace_run.specs.lone_kernel.specs.Machine.{AreLists};
 
 use crate::closed::tables;
 use crate::text::write_decisions;
-use core_kernel::{Gate, run_whole};
+use ends_run::core_runs::{Gate, run_whole};
 use script_reader::Script;
 use spk_nums::Memory;
 use std::alloc::Global;

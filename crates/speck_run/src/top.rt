@@ -4,7 +4,7 @@ ghost use Rattle.std.specs.Prelude.{◌≡◌, ℕ, ◌<◌, ◌⊎◌, true, If
 ghost use Rattle.byte_ends.specs.Ends.{HasRisen, Adds};
 ghost use Rattle.trace_run.specs.lone_kernel.specs.kernel_history.specs.Order.{list_of};
 ghost use Rattle.trace_run.specs.lone_kernel.specs.kernel_history.specs.Text.{plain_text};
-ghost use Rattle.core_kernel.specs.TakenSteps.{TakenSteps};
+ghost use Rattle.ends_run.specs.core_runs.specs.TakenSteps.{TakenSteps};
 ghost use Rattle.trace_run.specs.lone_kernel.specs.GivenSteps.{GivenSteps};
 ghost use Rattle.trace_run.specs.GivenTrace.{GivenTrace};
 ghost use Rattle.draw_run.specs.GivenDrawing.{GivenDrawing};
@@ -31,7 +31,7 @@ use crate::inputs::judge_input;
 use crate::summary::summarize;
 use crate::words::{command_of, number_after};
 use byte_ends::{Sink, Source};
-use core_kernel::Gate;
+use ends_run::core_runs::Gate;
 use load_maker::{load_script, made_script};
 use script_reader::{Cause, Script};
 use spk_nums::Memory;

@@ -58,6 +58,30 @@ fn a_number_is_read_with_zeros_before_it(rt: HostRuntime) -> Result<(), Fail> {
     Ok(())
 }
 
+// What stands for all the bytes of a text: each is added to 31 times the bytes before.
+fn measure(text: &[u8]) -> u32 {
+    let mut all: u32 = 0;
+    for byte in text {
+        all = all.wrapping_mul(31).wrapping_add(u32::from(*byte));
+    }
+    all
+}
+
+#[test]
+fn whole_texts_are_those_of_another_program(rt: HostRuntime) -> Result<(), Fail> {
+    for (number, all) in [
+        ("0", 77_022_900),
+        ("1", 2_755_813_863),
+        ("5", 2_903_009_235),
+        ("4294967295", 3_280_827_103),
+    ] {
+        let (status, text) = written(&rt, rt.alloc(), &["make", number], b"", &[])?;
+        assert_eq!(rt; status, Status::Done);
+        assert_eq!(rt; (count(&text, b'\n'), measure(&text)), (2_618, all));
+    }
+    Ok(())
+}
+
 // The words of replies, in the order of their numbers.
 const WORDS: [&str; 25] = [
     "ok",

@@ -102,20 +102,3 @@ fn stamp_of(clock: u64) -> Stamp
         Stamp::new((1 << 28) - 1)
     }
 }
-
-#[cfg(test)]
-mod tests {
-    use super::*;
-
-    #[test]
-    fn stores_the_clock_that_it_loaded(rt: HostRuntime) {
-        if let Some(layout) = Layout::new(2, 8) {
-            let mut mark = FlushMark::new(CoreNo::new(1));
-            assert_eq!(rt; mark.next(&layout), WordOp::Load { at: 604 });
-            let ok = StageEnd::Decided(Reply::Ok(Value::Nothing));
-            assert_eq!(rt; mark.take(&layout, 9), ok);
-            assert_eq!(rt; mark.next(&layout), WordOp::Store { at: 539, word: 9 });
-            assert_eq!(rt; mark.take(&layout, 9), StageEnd::Done(()));
-        }
-    }
-}

@@ -117,25 +117,3 @@ impl CountWords {
         latest
     }
 }
-
-#[cfg(test)]
-mod tests {
-    use super::*;
-
-    #[test]
-    fn sums_counts_and_finds_the_latest_stamp(rt: HostRuntime) {
-        let mut words = CountWords::empty();
-        assert_eq!(rt; (words.sum(), words.stamp()), (0, Stamp::new(0)));
-        for (count, stamp) in [(3, 5), (-2, 9), (1, 7)] {
-            let word = CountWord {
-                hold: Hold::Unheld,
-                count,
-                stamp: Stamp::new(stamp),
-            };
-            assert_eq!(rt; words.add(word), true, "at {count}");
-        }
-        assert_eq!(rt; (words.sum(), words.stamp()), (2, Stamp::new(9)));
-        assert_eq!(rt; words.len(), 3);
-        assert_eq!(rt; words.get(3), None);
-    }
-}

@@ -104,30 +104,3 @@ fn unheld(count: i32, stamp: Stamp) -> CountWord
         stamp,
     }
 }
-
-#[cfg(test)]
-mod tests {
-    use super::*;
-    use crate::sweep::Sweep;
-    use frame_words::FrameWord;
-    use spk_nums::{FrameKind, Obj};
-
-    #[test]
-    fn releases_no_counter_where_none_is_frozen(rt: HostRuntime) {
-        let word = FrameWord {
-            kind: FrameKind::Kernel,
-            object: Obj::Blank,
-            mark: None,
-        };
-        let sweep = Sweep::new(FrameNo::new(3), word, CoreNo::new(1));
-        assert_eq!(rt; Thaw::new(&sweep.kept(), false).is_none(), true);
-    }
-
-    #[test]
-    fn stores_a_counter_as_it_was_found_or_cleared(rt: HostRuntime) {
-        let found = unheld(2, Stamp::new(5));
-        let cleared = unheld(0, Stamp::new(0));
-        assert_eq!(rt; released(false, Some(found)), found);
-        assert_eq!(rt; released(true, Some(found)), cleared);
-    }
-}

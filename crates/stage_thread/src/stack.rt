@@ -246,33 +246,3 @@ fn running_word(core: CoreNo, depth: u8) -> u64
     let word = ThreadWord::Running { core, depth };
     word.pack()
 }
-
-#[cfg(test)]
-mod tests {
-    use super::*;
-
-    // A machine of two cores and eight frames; the words of thread 4 begin at 256.
-    #[test]
-    fn pushes_a_component_and_pops_it(rt: HostRuntime) {
-        if let Some(layout) = Layout::new(2, 8) {
-            let mut push = Push::new(FrameNo::new(4), CoreNo::new(1), 1, FrameNo::new(3));
-            assert_eq!(rt; push.next(&layout), WordOp::Store { at: 258, word: 7 });
-            assert_eq!(rt; push.take(&layout, 7), StageEnd::Going);
-            let raised = WordOp::Store {
-                at: 256,
-                word: 0x45,
-            };
-            assert_eq!(rt; push.next(&layout), raised);
-            assert_eq!(rt; push.take(&layout, 0x45), StageEnd::Done(()));
-            let mut pop = Pop::new(FrameNo::new(4), CoreNo::new(1), 2);
-            let lowered = WordOp::Store {
-                at: 256,
-                word: 0x25,
-            };
-            assert_eq!(rt; pop.next(&layout), lowered);
-            assert_eq!(rt; pop.take(&layout, 0x25), StageEnd::Going);
-            assert_eq!(rt; pop.next(&layout), WordOp::Store { at: 258, word: 0 });
-            assert_eq!(rt; pop.take(&layout, 0), StageEnd::Done(()));
-        }
-    }
-}

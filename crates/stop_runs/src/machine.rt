@@ -11,6 +11,7 @@ use crate::fault::Fault;
 use crate::judge::{Judge, Within};
 use lone_kernel::LoneKernel;
 use plain_tables::tables;
+use run_outcomes::are_due;
 use spk_nums::{Call, CoreNo, How, Item, Reply, Setup, in_limits};
 use std::alloc::Global;
 use table_report::machine_image::image_of;
@@ -76,13 +77,6 @@ fn is_so(said: Option<u32>, within: &Option<Within>) -> bool
         (Some(made), Some(within)) => made == within.made && made < within.bound,
         _ => false,
     }
-}
-
-// Whether these tables are those that are due.
-fn are_due(found: &str, due: &str) -> bool
-    ensures { IsTrue result ↔ (found.now ≡ due.now) }
-{
-    found == due
 }
 
 // Whether no core is in a call.
@@ -199,7 +193,7 @@ impl Machine {
         let closed = kernel.close(alloc)?;
         let found = report_closed(alloc, &closed)?;
         let due = tables(alloc, judge.plain())?;
-        if are_due(&found, &due) {
+        if are_due(found.as_bytes(), due.as_bytes()) {
             Ok(())
         } else {
             Err(Fault::OtherTables)

@@ -17,6 +17,3 @@ pub use machine_image;
 pub use spk_nums;
 pub use whole::{report, total};
 pub use word_map;
-
-#[cfg(test)]
-mod tests;

@@ -9,13 +9,13 @@ use Rattle.spk_nums.specs.declared.grants.Grant.{Grant}
 use Rattle.spk_nums.specs.declared.steps.Item.{Item}
 use Rattle.spk_nums.specs.Setting.{Setting, IsSetting}
 use Rattle.script_tokens.specs.declared.scanning.Ending.TheVariants.{Whole}
-use Rattle.script_reader.specs.declared.cause.Cause.{Cause}
-use Rattle.script_reader.specs.declared.cause.Cause.TheVariants.{S7}
-use Rattle.script_reader.specs.Causes.{◌>>=◌}
-use Rattle.script_reader.specs.Arguments.{is_word}
-use Rattle.script_reader.specs.FirstWords.{first_word}
+use Rattle.line_reader.specs.declared.cause.Cause.{Cause}
+use Rattle.line_reader.specs.declared.cause.Cause.TheVariants.{S7}
+use Rattle.line_reader.specs.Causes.{◌>>=◌}
+use Rattle.line_reader.specs.Arguments.{is_word}
+use Rattle.line_reader.specs.Lines.{First_fault, at_line, and_then}
+use Rattle.call_reader.specs.FirstWords.{first_word}
 use Rattle.script_reader.specs.Heads.{is_whole}
-use Rattle.script_reader.specs.Lines.{First_fault, at_line, and_then}
 use Rattle.script_reader.specs.Readings.{Draft_of, Meaning, no_draft, draft_behind, draft_from}
 use Rattle.script_reader.specs.Readings.{setting_of, meaning_of, meaning_at, BelowCores}
 use Rattle.trace_lines.specs.script_printer.specs.Printing.{setup_lines, list_lines, printed}

@@ -9,7 +9,7 @@ use Rattle.spk_nums.specs.declared.calls.Call.{Call}
 use Rattle.spk_nums.specs.declared.replies.Reply.{Reply}
 use Rattle.marked_laws.specs.kernel_history.specs.Trace.{Step, Trace, decisions_of}
 use Rattle.marked_laws.specs.kernel_history.specs.Legal.{IsLegal}
-use Rattle.script_reader.specs.Lines.{First_fault}
+use Rattle.line_reader.specs.Lines.{First_fault}
 use Rattle.script_reader.specs.Readings.{Draft_of}
 use Rattle.trace_lines.specs.script_printer.specs.Law.{IsCallWithin}
 use Rattle.marked_laws.specs.marked_history.specs.declared.marks.Mark.{Mark}

@@ -9,21 +9,21 @@ use Rattle.std.proofs.Math.Seq.{take-append_seam}
 use Rattle.spk_nums.specs.Texts.{call_text, with_one, reply_text}
 use Rattle.spk_nums.specs.declared.calls.Call.{Call}
 use Rattle.spk_nums.specs.declared.replies.Reply.{Reply}
-use Rattle.script_reader.specs.declared.cause.Cause.{Cause}
-use Rattle.script_reader.specs.declared.cause.Cause.TheVariants.{S2, S7}
-use Rattle.script_reader.specs.declared.first_words.FirstWord.{FirstWord}
-use Rattle.script_reader.specs.declared.first_words.FirstWord.TheVariants as first
+use Rattle.line_reader.specs.declared.cause.Cause.{Cause}
+use Rattle.line_reader.specs.declared.cause.Cause.TheVariants.{S2, S7}
+use Rattle.line_reader.specs.Causes.{◌>>=◌}
+use Rattle.line_reader.specs.Arguments.{is_word, word_at, end_at}
+use Rattle.call_reader.specs.declared.first_words.FirstWord.{FirstWord}
+use Rattle.call_reader.specs.declared.first_words.FirstWord.TheVariants as first
+use Rattle.call_reader.specs.FirstWords.{first_word}
+use Rattle.call_reader.specs.CallLines.{call_line}
+use Rattle.call_reader.specs.OneLine.{verb_in, verb_at}
 use Rattle.script_reader.specs.declared.head.Section.TheVariants as section
 use Rattle.script_reader.specs.declared.head.Head.{Head}
 use Rattle.script_reader.specs.declared.head.Line.{Line}
 use Rattle.script_reader.specs.declared.head.Line.TheVariants as line
-use Rattle.script_reader.specs.Causes.{◌>>=◌}
-use Rattle.script_reader.specs.Arguments.{is_word, word_at, end_at}
-use Rattle.script_reader.specs.FirstWords.{first_word}
-use Rattle.script_reader.specs.CallLines.{call_line}
 use Rattle.script_reader.specs.Heads.{line_of, line_by, goes_on, may_stand, core_line, order_line, is_whole, no_head}
 use Rattle.script_reader.specs.Readings.{Draft_of}
-use Rattle.script_reader.specs.OneLine.{verb_in, verb_at}
 use Rattle.trace_lines.specs.script_printer.specs.Printing.{call_line as call_line_text}
 use Rattle.trace_lines.specs.script_printer.specs.Law.{IsCallWithin}
 use Rattle.trace_lines.specs.script_printer.proofs.Spans.{is_text, is_line, line_onto}

@@ -11,7 +11,7 @@ use Rattle.script_tokens.specs.Bytes.{is_feed, is_hash, is_word_byte, is_allowed
 use Rattle.script_tokens.specs.Words.{Span, Word, joined, spans, first_fault, word_at, words_of, line_count}
 use Rattle.script_tokens.specs.Words.{ending_from, ending_of, before_fault}
 use Rattle.script_tokens.proofs.Steps.{RisesFrom, RisesFrom-weaker, spans_rise}
-use Rattle.script_reader.specs.Lines.{Row, with_word, rows_of}
+use Rattle.line_reader.specs.Lines.{Row, with_word, rows_of}
 use Rattle.trace_lines.specs.script_printer.proofs.Spans.{are_word_bytes, is_text, are_texts, is_line, rows_from, both_left, both_right}
 use Rattle.trace_lines.specs.Traces.{line_end}
 use Rattle.trace_reads.proofs.Printed.{is_printed, are_printed}

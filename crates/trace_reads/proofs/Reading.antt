@@ -8,7 +8,7 @@ use Rattle.std.proofs.lemmas.List.Elements.{All-head, All-tail}
 use Rattle.spk_nums.specs.Setting.{Setting, IsSetting}
 use Rattle.marked_laws.specs.kernel_history.specs.Trace.{Trace}
 use Rattle.script_tokens.specs.Words.{line_count, words_of, ending_of}
-use Rattle.script_reader.specs.Lines.{rows_of, and_then, First_fault}
+use Rattle.line_reader.specs.Lines.{rows_of, and_then, First_fault}
 use Rattle.script_reader.specs.Readings.{Draft_of, no_draft, draft_from, Meaning}
 use Rattle.trace_lines.specs.script_printer.specs.Printing.{setup_lines}
 use Rattle.trace_lines.specs.script_printer.proofs.Spans.{are_lines, line_onto, lines_onto, rows_from, both_left, both_right}

@@ -11,9 +11,8 @@ use Rattle.turn_rule.specs.declared.view.Entry.{Entry}
 use Rattle.turn_rule.specs.declared.view.Start.{Start}
 use Rattle.turn_rule.specs.declared.view.Part.{Part}
 use Rattle.turn_rule.specs.declared.view.View.{View}
-use Rattle.turn_rule.specs.declared.spread.Spread.{Spread}
 use Rattle.turn_rule.specs.Steps.{Steps}
-use Rattle.turn_rule.specs.Positions.{position}
+use Rattle.turn_rule.specs.Positions.{SpreadValue, position}
 use Rattle.turn_rule.specs.Trace.{AreOfOthers, word_after, program_after, IsSound}
 use Rattle.turn_rule.specs.Seats.{TableValue, SeatValue, EndsAt}
 use Rattle.turn_rule.specs.Rule.{part, Begins, Kept, IsSeated, Stays, Gathers}
@@ -98,7 +97,7 @@ module _ {P C : Type 0} (T : Steps P C) where
       }
 
   -- where one view has all cores
-  pub ends : (table : TableValue P) (spread : Spread) (s : State (Unit {0}) (View P C)) (h : Kept T spread table.start s) (id : ℕ) (v : View P C)
+  pub ends : (table : TableValue P) (spread : SpreadValue) (s : State (Unit {0}) (View P C)) (h : Kept T spread table.start s) (id : ℕ) (v : View P C)
       → get_elem? s.views id ≡ some v → (seats : List (SeatValue P C)) → v.own.to ≡ length seats → v.own.from ≡ 0
       → v.own.start ≡ table.start → length seats ≡ length table.start.programs
       → ((k : ℕ) (one : SeatValue P C) → slice_get seats k ≡ Some one → one.core ≡ k)

@@ -13,9 +13,8 @@ use Rattle.turn_rule.specs.declared.view.Entry.{Entry}
 use Rattle.turn_rule.specs.declared.view.Start.{Start}
 use Rattle.turn_rule.specs.declared.view.Part.{Part}
 use Rattle.turn_rule.specs.declared.view.View.{View}
-use Rattle.turn_rule.specs.declared.spread.Spread.{Spread}
 use Rattle.turn_rule.specs.Steps.{Steps}
-use Rattle.turn_rule.specs.Positions.{position}
+use Rattle.turn_rule.specs.Positions.{SpreadValue, position}
 use Rattle.spk_nums.specs.WordSteps.{place_in, left_by, told_by}
 use Rattle.turn_rule.specs.Trace.{entry, AreOfOthers, called, MayCall, program_after, IsStep, MayFollow, IsSound}
 use Rattle.turn_rule.specs.Rule.{part, nothing, view, Begins, Fits, Kept, IsSeated, IsDue, Goes}
@@ -23,7 +22,7 @@ use Rattle.turn_rule.proofs.Positions.{position_grows, position_apart, position_
 use Rattle.turn_rule.proofs.Traces.{program_here, program_stays}
 
 -- the word of a place after one was stored at another
-stored_at : (s : Spread) → 0 < s.row → (l : List ℕ) (at i x : ℕ) → position s at < length l
+stored_at : (s : SpreadValue) → 0 < s.row → (l : List ℕ) (at i x : ℕ) → position s at < length l
     → get_or (set l (position s at) x) (position s i) 0 ≡ (if at == i then x else get_or l (position s i) 0)
 stored_at s row l at i x inside = dite (ℕ_discrete at i)
     (λ (same : at ≡ i). subst (λ (j : ℕ). get_or (set l (position s at) x) (position s j) 0 ≡ x) same
@@ -64,7 +63,7 @@ module _ {P C : Type 0} (T : Steps P C) where
   program_seen start t p c b low high = ap (λ (l : List (Entry C)). program_after T start l c) b.whole
       ∙ program_stays T start c b.since p.seen (b.apart c low high)
 
-module _ {P C : Type 0} (T : Steps P C) (spread : Spread) (some_row : 0 < spread.row) (start : Start P) where
+module _ {P C : Type 0} (T : Steps P C) (spread : SpreadValue) (some_row : 0 < spread.row) (start : Start P) where
   module _ (s : State (Unit {0}) (View P C)) (h : Kept T spread start s) (id : ℕ) (me : Me (Unit {0}) (View P C))
       (at : get_elem? s.views id ≡ some me.0) (call : Option C) (op : WordOp) (due : IsDue T (length start.words) me call op)
       (small : get_or s.words (position spread (place_in op)) 0 < 18446744073709551616) where
@@ -160,7 +159,7 @@ module _ {P C : Type 0} (T : Steps P C) (spread : Spread) (some_row : 0 < spread
 
 module _ {P C : Type 0} (T : Steps P C) where
   -- the same where the step is named otherwise, and its word lies in so much memory
-  pub made_on : (mine theirs : Spread) → mine ≡ theirs → 0 < mine.row → (start : Start P) (n seen memory : ℕ) → n ≡ length start.words
+  pub made_on : (mine theirs : SpreadValue) → mine ≡ theirs → 0 < mine.row → (start : Start P) (n seen memory : ℕ) → n ≡ length start.words
       → length start.words ≡ seen → memory ≡ position mine n
       → (slots id : ℕ) (me : Me (Unit {0}) (View P C)) (call : Option C) (said op now : WordOp) → said ≡ op → op ≡ now → IsDue T seen me call op
       → (lies : ℕ) → lies ≡ position mine (place_in now)
@@ -172,8 +171,8 @@ module _ {P C : Type 0} (T : Steps P C) where
       subst (λ (z : ℕ × WordOp). IsDue T z.0 me call z.1) (λ i. (sym as_seen i, becomes i)) due in
       let inside = due_now.inside in
       let within = position_within mine row (place_in now) n memory (omega arith) room in
-      let row_theirs = subst (λ (s : Spread). 0 < s.row) same row in
-      let at_theirs : lies ≡ position theirs (place_in now) = at ∙ ap (λ (s : Spread). position s (place_in now)) same in (
+      let row_theirs = subst (λ (s : SpreadValue). 0 < s.row) same row in
+      let at_theirs : lies ≡ position theirs (place_in now) = at ∙ ap (λ (s : SpreadValue). position s (place_in now)) same in (
         omega arith,
         subst (λ (z : WordOp × ℕ). Allows (Kept T theirs start) slots id me z.1 (left_by now)
             (λ n m. Goes T me.0.own call z.0 (told_by now n) m.0.own × (m.1 ≡ me.1)))

@@ -10,9 +10,8 @@ use Rattle.turn_rule.specs.declared.view.Entry.{Entry}
 use Rattle.turn_rule.specs.declared.view.Start.{Start}
 use Rattle.turn_rule.specs.declared.view.Part.{Part}
 use Rattle.turn_rule.specs.declared.view.View.{View}
-use Rattle.turn_rule.specs.declared.spread.Spread.{Spread}
 use Rattle.turn_rule.specs.Steps.{Steps}
-use Rattle.turn_rule.specs.Positions.{position, IsLaid}
+use Rattle.turn_rule.specs.Positions.{SpreadValue, position, IsLaid}
 use Rattle.turn_rule.specs.Trace.{program_after, IsSound}
 use Rattle.turn_rule.specs.Rule.{part, nothing, view, note_of, joined, first_core, other_cores}
 use Rattle.turn_rule.specs.Rule.{Fits, Kept, IsSeated, Stays, Gathers, met, gathered, starts}
@@ -63,7 +62,7 @@ module _ {P C : Type 0} (start : Start P) (t : List (Entry C)) where
       → ((c : ℕ) → p.from ≤ c → c < p.to → owner c ≡ id → other c ≡ j) → Fits start t other j p
   owned_by owner other id j p f owns = narrower owner other id j p p f refl refl refl (λ c low high. (low, high)) owns
 
-module _ {P C : Type 0} (T : Steps P C) (spread : Spread) (start : Start P) where
+module _ {P C : Type 0} (T : Steps P C) (spread : SpreadValue) (start : Start P) where
   abbrev K : State (Unit {0}) (View P C) → Type 0
   K = Kept T spread start
 

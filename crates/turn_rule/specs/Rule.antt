@@ -8,9 +8,8 @@ use Rattle.turn_rule.specs.declared.view.Entry.{Entry}
 use Rattle.turn_rule.specs.declared.view.Start.{Start}
 use Rattle.turn_rule.specs.declared.view.Part.{Part}
 use Rattle.turn_rule.specs.declared.view.View.{View}
-use Rattle.turn_rule.specs.declared.spread.Spread.{Spread}
 use Rattle.turn_rule.specs.Steps.{Steps}
-use Rattle.turn_rule.specs.Positions.{position}
+use Rattle.turn_rule.specs.Positions.{SpreadValue, position}
 use Rattle.spk_nums.specs.WordSteps.{place_in, told_by}
 use Rattle.turn_rule.specs.Trace.{entry, AreOfOthers, word_after, called, MayCall, IsSound, Follows}
 
@@ -60,7 +59,7 @@ module _ {P C : Type 0} where
 module _ {P C : Type 0} (T : Steps P C) where
   -- There is one sound trace, which leaves the words at their positions, and what each seat has seen or was told fits it. One seat owns a
   -- core
-  pub record Kept (spread : Spread) (start : Start P) (s : State (Unit {0}) (View P C)) : Type 0 where
+  pub record Kept (spread : SpreadValue) (start : Start P) (s : State (Unit {0}) (View P C)) : Type 0 where
     pub trace : List (Entry C)
     pub count : length s.words ≡ position spread (length start.words)
     pub words : (i : ℕ) → i < length start.words → slice_index s.words (position spread i) ≡ word_after start trace i

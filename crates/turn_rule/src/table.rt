@@ -49,7 +49,7 @@ impl<P: CoreProgram> Model for TurnTable<P> {
 impl<P: CoreProgram> TurnTable<P> {
     // Makes the step `op`, which W names, and which is due once the call that W names, if any, is begun. It returns the
     // word that the program is told: the word found, or for a store the word stored.
-    #[inline]
+    #[inline(always)]
     fn make<W: Said<P::Call>>(&self, seat: &mut Seat<(), View<P, P::Call>>, op: WordOp) -> u64
         requires said { W.op ≡ op }
         requires table { seat.old.table_id ≡ self.now.id }
@@ -76,7 +76,7 @@ impl<P: CoreProgram> TurnTable<P> {
     }
 
     // Makes the first step of the call that was `said`, which is begun. It gives the proof a place to name the call.
-    #[inline]
+    #[inline(always)]
     fn make_first<W: Said<P::Call>>(
         &self,
         seat: &mut Seat<(), View<P, P::Call>>,
@@ -94,6 +94,7 @@ impl<P: CoreProgram> TurnTable<P> {
     }
 
     /// Makes the core's next step, and says whether there was one. Without one the seat stays as it is.
+    #[inline(always)]
     pub fn turn(&self, seat: &mut TurnSeat<P>) -> bool
         requires { seat.old.table ≡ self.now }
         ensures some { IsTrue result ↔ IsSome (P.steps.next seat.old.program) }

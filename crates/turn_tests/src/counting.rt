@@ -1,6 +1,6 @@
 //! Whole calls at the table, and what is left at its end.
 
-ghost use Rattle.std.specs.Prelude.{◌≡◌, ◌+◌, ◌<◌, ◌%◌, ◌^◌, [], ◌∷◌, IsNone, IfOk, All, slice_index, sum_by, length};
+ghost use Rattle.std.specs.Prelude.{◌≡◌, ◌+◌, ◌<◌, ◌%◌, ◌^◌, [], ◌∷◌, ◌↔◌, IsNone, IsSome, IsTrue, IfOk, All, slice_index, sum_by, length};
 ghost use Rattle.std.specs.Thread.{IsSync};
 ghost use Rattle.std.specs.List.{AllZip};
 ghost use Rattle.turn_rule.specs.Trace.{Extends};
@@ -24,6 +24,14 @@ pub fn count(table: &TurnTable<Counter>, seat: &mut TurnSeat<Counter>, tries: u8
 {
     table.first(seat, tries);
     while table.turn(seat) {}
+}
+
+/// Makes the core's next step, if it has one, and says whether it had.
+pub fn step(table: &TurnTable<Counter>, seat: &mut TurnSeat<Counter>) -> bool
+    requires { seat.old.table ≡ table.now }
+    ensures { IsTrue result ↔ IsSome (counter_steps.next seat.old.program) }
+{
+    table.turn(seat)
 }
 
 /// Gives back the word and the cores' programs. The word is the number of all wins, if it was so at the start.

@@ -12,6 +12,6 @@ mod taking;
 mod tests;
 
 pub use counter::{Counter, Stage};
-pub use counting::{count, count_all, count_in_two, count_many, finish, tell};
+pub use counting::{count, count_all, count_in_two, count_many, finish, step, tell};
 pub use taker::{Phase, Side, Taker};
 pub use taking::{close_shown, take, take_in_two, take_often};

@@ -94,7 +94,7 @@ pub fn take_in_two<R: Threads + Sync>(
     else {
         return Err(Memory);
     };
-    let (table, mut seats) = TurnTable::new(alloc, words, programs, Spread { first: 1, row: 1 })?;
+    let (table, mut seats) = TurnTable::new(alloc, words, programs, Spread::rows(1, 1))?;
     let (left, right) = seats.as_mut_slice().split_at_mut(1);
     take_both(rt, &table, calls, &mut left[0], &mut right[0]);
     close_shown(alloc, table, seats)

@@ -68,7 +68,7 @@ fn taken_in_turn(alloc: Global) -> Result<[u64; 6], Memory> {
     else {
         return Err(Memory);
     };
-    let (table, mut seats) = TurnTable::new(alloc, words, programs, Spread { first: 1, row: 1 })?;
+    let (table, mut seats) = TurnTable::new(alloc, words, programs, Spread::rows(1, 1))?;
     let (left, right) = seats.as_mut_slice().split_at_mut(1);
     let [first, second, third, fourth] = take_in_turn(&table, &mut left[0], &mut right[0]);
     let (taken, last) = (left[0].program().taken, right[0].program().last);

@@ -1,8 +1,11 @@
-//! Tests of the packed words: worked words and the ends of each field, both ways, and words of no value.
+//! Tests of the packed words: worked words and the ends of each field, both ways, and words of no value; and of their places, and the words of the
+//! start.
 //!
 //! See docs/CLAIMS.md, 'Crate by crate'.
 #![tactic(auto)]
 
+#[cfg(test)]
+mod boots;
 #[cfg(test)]
 mod comps;
 #[cfg(test)]
@@ -19,6 +22,8 @@ mod frames;
 mod heads;
 #[cfg(test)]
 mod lives;
+#[cfg(test)]
+mod places;
 #[cfg(test)]
 mod qualities;
 #[cfg(test)]

@@ -44,7 +44,7 @@ made_legal = (
   may_follow refl refl tt (carried_out {k = call.Make make.Pages 0 8 1 20} refl (refl, (refl, refl)) refl) tt,
 )
 
-removed_legal : IsLegal two_cores removed
+pub removed_legal : IsLegal two_cores removed
 unfolding two_cores typed made removed word_of_entry
 removed_legal = (
   (

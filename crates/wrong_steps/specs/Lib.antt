@@ -9,3 +9,9 @@ pub mod Returns
 pub mod Untypings
 pub mod Clearings
 pub mod Switches
+pub mod Freeings
+pub mod Credits
+pub mod Sums
+pub mod Overwrites
+pub mod Deaths
+pub mod Flushes

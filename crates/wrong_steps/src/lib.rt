@@ -17,6 +17,12 @@ ghost use Rattle.wrong_steps.specs.Returns.{ReturnsKeep};
 ghost use Rattle.wrong_steps.specs.Charges.{ChargesLose};
 ghost use Rattle.wrong_steps.specs.Clearings.{RetypesLeaveCounts};
 ghost use Rattle.wrong_steps.specs.Switches.{SwitchesMixDepths};
+ghost use Rattle.wrong_steps.specs.Freeings.{RemovalsFree};
+ghost use Rattle.wrong_steps.specs.Credits.{TransfersKeep};
+ghost use Rattle.wrong_steps.specs.Sums.{SweepsSum};
+ghost use Rattle.wrong_steps.specs.Overwrites.{AcquisitionsOverwrite};
+ghost use Rattle.wrong_steps.specs.Deaths.{KillsShow};
+ghost use Rattle.wrong_steps.specs.Flushes.{FlushesForget};
 
 /// A copy that stores in place of its compare: of two copies to one place both are carried out, and the second is not permitted.
 #[tactic(auto, using(crate::proofs::Copies::copies_overwrite))]
@@ -84,4 +90,43 @@ pub fn retypes_leave_counts()
 #[tactic(auto, using(crate::proofs::Switches::switches_mix_depths))]
 pub fn switches_mix_depths()
     ensures { SwitchesMixDepths }
+{}
+
+/// A removal that leaves its place free at once: the place is filled while a core may still use what stood there.
+#[tactic(auto, using(crate::proofs::Freeings::removals_free))]
+pub fn removals_free()
+    ensures { RemovalsFree }
+{}
+
+/// A transfer that gives its ticks before it takes them, and keeps the credit where the compare that would take them is lost: the words
+/// have more ticks than the state.
+#[tactic(auto, using(crate::proofs::Credits::transfers_keep))]
+pub fn transfers_keep()
+    ensures { TransfersKeep }
+{}
+
+/// A sweep that adds up count words without freezing them: while it goes through them, one core copies a capability and another removes the
+/// one that was copied, and the sum that is found is 0.
+#[tactic(auto, using(crate::proofs::Sums::sweeps_sum))]
+pub fn sweeps_sum()
+    ensures { SweepsSum }
+{}
+
+/// An acquisition that stores in place of its compare: the count that a sweep has frozen is changed, and the change is lost.
+#[tactic(auto, using(crate::proofs::Overwrites::acquisitions_overwrite))]
+pub fn acquisitions_overwrite()
+    ensures { AcquisitionsOverwrite }
+{}
+
+/// A kill that puts the dead number in place of its mark, before its stamp is drawn: a call is refused with `dead` while the component
+/// lives.
+#[tactic(auto, using(crate::proofs::Deaths::kills_show))]
+pub fn kills_show()
+    ensures { KillsShow }
+{}
+
+/// A flush that stores no stamp: a call still waits for the core, which has flushed.
+#[tactic(auto, using(crate::proofs::Flushes::flushes_forget))]
+pub fn flushes_forget()
+    ensures { FlushesForget }
 {}

@@ -1,13 +1,13 @@
 use Rattle.std.proofs.Common.{◌≡◌, ◌∙◌, ◌<◌, ◌^◌, false, length, map, refl, sym, ap, subst, arith, All}
 use Rattle.std.proofs.lemmas.List.{length-map}
 use Rattle.std.proofs.lemmas.List.Elements.{All-map}
-use Rattle.core_kernel.specs.Kernel.{AreAllSeats}
-use Rattle.core_kernel.specs.Calls.{EndsAt}
-use Rattle.core_kernel.proofs.Wholes.{clash}
+use Rattle.core_runs.specs.core_kernel.specs.Kernel.{AreAllSeats}
+use Rattle.core_runs.specs.core_kernel.specs.Calls.{EndsAt}
+use Rattle.core_runs.proofs.Wholes.{clash}
 use Rattle.async_ends.specs.Tables as tables
-use Rattle.ends_run.specs.Runs.{EndRunnerValue}
-use Rattle.ends_run.specs.Tallies.{sends_by}
-use Rattle.ends_run.proofs.Runs.{FewOf, all_go, few_done}
+use Rattle.ends_runners.specs.Runs.{EndRunnerValue}
+use Rattle.ends_runners.specs.Tallies.{sends_by}
+use Rattle.ends_runners.proofs.Runs.{FewOf, all_go, few_done}
 use Rattle.ends_run.proofs.Ended.{seat_count, all_of, all_await, count, who_back, ends_back, ended}
 use Rattle.ends_run.proofs.whole.make_asks.Goals as goal
 

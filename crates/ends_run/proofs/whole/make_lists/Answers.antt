@@ -2,10 +2,10 @@ use Rattle.std.proofs.Common.{◌≡◌, ◌∙◌, ◌<◌, ◌^◌, false, len
 use Rattle.std.specs.List.{flat_map}
 use Rattle.std.proofs.lemmas.List.{length-map}
 use Rattle.std.proofs.lemmas.List.Elements.{All-map}
-use Rattle.core_kernel.specs.Runs.{RunnerValue}
-use Rattle.core_kernel.specs.Whole.{IsList, decided}
-use Rattle.core_kernel.proofs.Wholes.{all_wait, all_back, all_free, few_replies, clash}
-use Rattle.ends_run.specs.Meets.{AreOf, HaveMet}
+use Rattle.core_runs.specs.Runs.{RunnerValue}
+use Rattle.core_runs.specs.Whole.{IsList, decided}
+use Rattle.core_runs.proofs.Wholes.{all_wait, all_back, all_free, few_replies, clash}
+use Rattle.ends_runners.specs.Meets.{AreOf, HaveMet}
 use Rattle.ends_run.proofs.Ended.{back_of, listed}
 use Rattle.ends_run.proofs.whole.make_lists.Goals as goal
 

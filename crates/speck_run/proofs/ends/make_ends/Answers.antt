@@ -1,6 +1,6 @@
 use Rattle.std.proofs.Common.{◌≡◌, ◌++◌, ◌∙◌, ◌^◌, ◌<◌, map, length, sym, subst, All}
 use Rattle.std.specs.Prelude.{string_bytes}
-use Rattle.core_kernel.specs.Whole.{IsList}
+use Rattle.ends_run.specs.core_runs.specs.Whole.{IsList}
 use Rattle.ends_text.specs.Lines.{count_lines}
 use Rattle.speck_run.specs.Written.{lines_of, core_lines}
 use Rattle.speck_run.proofs.ByCores.{lists_fit}

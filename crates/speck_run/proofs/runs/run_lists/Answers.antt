@@ -6,7 +6,7 @@ use Rattle.trace_run.specs.lone_kernel.specs.kernel_history.specs.FinalWords.{Re
 use Rattle.trace_run.specs.lone_kernel.specs.kernel_history.specs.Tables.{tables_of}
 use Rattle.trace_run.specs.lone_kernel.specs.kernel_history.specs.Trace.{state_after}
 use Rattle.trace_run.specs.lone_kernel.specs.core_invariant.proofs.Sounds.{limits_of}
-use Rattle.core_kernel.specs.Whole.{IsList, AreMade}
+use Rattle.ends_run.specs.core_runs.specs.Whole.{IsList, AreMade}
 use Rattle.speck_run.specs.Written.{lines_of}
 use Rattle.speck_run.proofs.ByCores.{taken, lists_fit}
 use Rattle.speck_run.proofs.runs.run_lists.Goals as goal

@@ -1,5 +1,5 @@
 use Rattle.std.proofs.Common.{sym, ◌∙◌}
-use Rattle.call_fits.proofs.CoreFitting.{goes_on, decides_on, changes_to}
+use Rattle.step_looks.specs.call_fits.proofs.CoreFitting.{goes_on, decides_on, changes_to}
 use Rattle.call_steps.proofs.core_state.CoreState.absorb_to.Goals as goal
 
 pub invariant_of-self : goal.invariant_of-self

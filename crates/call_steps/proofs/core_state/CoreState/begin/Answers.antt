@@ -1,4 +1,4 @@
-use Rattle.call_fits.proofs.Begun.{begun_fits}
+use Rattle.step_looks.specs.call_fits.proofs.Begun.{begun_fits}
 use Rattle.call_steps.proofs.core_state.CoreState.begin.Goals as goal
 
 pub invariant_of-self : goal.invariant_of-self

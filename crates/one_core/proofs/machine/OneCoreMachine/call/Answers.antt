@@ -2,7 +2,7 @@ use Rattle.std.proofs.Common.{◌≡◌, ◌∙◌, [], ◌∷◌, ◌++◌, ap,
 use Rattle.core_kernel.specs.kernel_history.specs.Trace.{calls_of}
 use Rattle.core_kernel.specs.Kernel.{KernelValue, CoreSeatValue}
 use Rattle.sched_rules.specs.Schedule.{reply_to}
-use Rattle.fixed_prio.specs.Machines.{after_calls}
+use Rattle.sched_run.specs.fixed_prio.specs.Machines.{after_calls}
 use Rattle.one_core.proofs.Calls.{made_more, replied}
 use Rattle.one_core.proofs.machine.OneCoreMachine.call.Goals as goal
 

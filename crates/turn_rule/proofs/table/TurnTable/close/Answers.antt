@@ -1,7 +1,6 @@
 use Rattle.std.proofs.Common.{rules, arith, ◌≡◌, ◌<◌, ℕ, List, [], length, get_or, refl, sym, ap, ◌∙◌, subst}
-use Rattle.turn_rule.specs.declared.spread.Spread.{Spread}
 use Rattle.turn_rule.specs.declared.view.Start.{Start}
-use Rattle.turn_rule.specs.Positions.{position}
+use Rattle.turn_rule.specs.Positions.{SpreadValue, position}
 use Rattle.turn_rule.specs.Rule.{start_of, part, view, Kept}
 use Rattle.turn_rule.proofs.Views.{comes}
 use Rattle.turn_rule.proofs.AllSeats.{ends}
@@ -21,7 +20,7 @@ returns g c =
     let all = c.gather.new.all in
     let first = c.load_new_seat.ensures.2 in
     let joined = c.in_ok-programs.ensures in
-    let kept = subst (λ (z : Spread × Start g.row.P.Denot). Kept T z.0 z.1 last.0)
+    let kept = subst (λ (z : SpreadValue × Start g.row.P.Denot). Kept T z.0 z.1 last.0)
     (λ j. (sym i.4 j, ap (λ t. t.start) c.self.view_is j)) last.1.0 in
     let room : length c.in_ok-words.words.items ≡ c.self.inside.words = search rules in
     let count = c.words_of.ensures.count in

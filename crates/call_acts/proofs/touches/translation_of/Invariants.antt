@@ -1,7 +1,0 @@
-use Rattle.std.proofs.Common.{◌≡◌, ◌&&◌, ◌==◌, drop}
-use Rattle.std.specs.Prelude.{find}
-use Rattle.kernel_rules.specs.MemoryCalls.{translation_of}
-use Rattle.call_acts.proofs.touches.translation_of.Given as goal
-
-abbrev pub invariant-each : goal.invariant-each
-invariant-each l = translation_of l.cached l.pages l.page ≡ find (λ t. t.pages == l.pages && t.page == l.page) (drop l.at l.cached)

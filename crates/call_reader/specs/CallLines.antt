@@ -1,0 +1,294 @@
+-- The line of each call: its arguments from left to right, and then nothing. The call's word is at 0.
+use Rattle.std.specs.Prelude.{ℕ, ◌==◌, ◌&&◌, nat_lt, List, length, Option, Some, None, Result, Ok, codes, if◌then◌else◌}
+use Rattle.std.specs.Option.{ok_or}
+use Rattle.spk_nums.specs.Rights.{both}
+use Rattle.spk_nums.specs.declared.rights.Rights.{Rights}
+use Rattle.spk_nums.specs.declared.kinds.FrameKind.{FrameKind}
+use Rattle.spk_nums.specs.declared.kinds.FrameKind.TheVariants.{Untyped, User, Kernel}
+use Rattle.spk_nums.specs.declared.calls.Call.{Call}
+use Rattle.spk_nums.specs.declared.calls.Call.TheVariants as call
+use Rattle.spk_nums.specs.declared.calls.Make.{Make}
+use Rattle.spk_nums.specs.declared.calls.Make.TheVariants as make
+use Rattle.line_reader.specs.declared.cause.Cause.{Cause}
+use Rattle.line_reader.specs.declared.cause.Cause.TheVariants.{S2}
+use Rattle.line_reader.specs.Causes.{◌>>=◌}
+use Rattle.line_reader.specs.Arguments.{is_word, word_at, number_at, name_at, amount_at, end_at}
+use Rattle.call_reader.specs.declared.first_words.Verb.{Verb}
+use Rattle.call_reader.specs.declared.first_words.Verb.TheVariants as verb
+use Rattle.call_reader.specs.declared.call_lines.Object.{Object}
+use Rattle.call_reader.specs.declared.call_lines.Object.TheVariants as object
+
+-- `look A`
+unfoldable pub look_line : List (List ℕ) → Result Call Cause
+look_line words = do
+  a ← name_at words 1
+  done ← end_at words 2
+  Ok (call.Look a)
+
+-- the fourth number of a `copy`: its rights
+unfoldable pub fourth_at : List (List ℕ) → Result Rights Cause
+fourth_at words = do
+  r ← number_at words 4 0 3
+  done ← end_at words 5
+  Ok (record { 0 = r })
+
+-- without it: both rights
+unfoldable pub both_at : List (List ℕ) → Result Rights Cause
+both_at words = do
+  done ← end_at words 4
+  Ok (record { 0 = both })
+
+-- after `copy A T B`: in version 2 there may be a fourth number, the rights
+unfoldable pub rights_at : ℕ → List (List ℕ) → Result Rights Cause
+rights_at version words = if version == 2 && nat_lt 4 (length words) then fourth_at words else both_at words
+
+-- `copy A T B`, and in version 2 also `copy A T B R`
+unfoldable pub copy_line : ℕ → List (List ℕ) → Result Call Cause
+copy_line version words = do
+  a ← name_at words 1
+  t ← name_at words 2
+  b ← name_at words 3
+  rights ← rights_at version words
+  Ok (call.Copy a t b rights)
+
+-- `remove T B`
+unfoldable pub remove_line : List (List ℕ) → Result Call Cause
+remove_line words = do
+  t ← name_at words 1
+  b ← name_at words 2
+  done ← end_at words 3
+  Ok (call.Remove t b)
+
+-- `grow T I L`
+unfoldable pub grow_line : List (List ℕ) → Result Call Cause
+grow_line words = do
+  t ← name_at words 1
+  i ← name_at words 2
+  l ← name_at words 3
+  done ← end_at words 4
+  Ok (call.Grow t i l)
+
+-- `shrink T I`
+unfoldable pub shrink_line : List (List ℕ) → Result Call Cause
+shrink_line words = do
+  t ← name_at words 1
+  i ← name_at words 2
+  done ← end_at words 3
+  Ok (call.Shrink t i)
+
+-- the kinds of frame that a `retype` names
+unfoldable pub frame_kind_of : List ℕ → Option FrameKind
+frame_kind_of word =
+    if is_word word (codes "untyped") then Some Untyped
+    else (if is_word word (codes "user") then Some User
+    else (if is_word word (codes "kernel") then Some Kernel
+    else None))
+
+-- the kind of frame at a place: S3, then S2
+unfoldable pub frame_kind_at : List (List ℕ) → ℕ → Result FrameKind Cause
+frame_kind_at words place = do
+  word ← word_at words place
+  ok_or (frame_kind_of word) S2
+
+-- `retype R F K`
+unfoldable pub retype_line : List (List ℕ) → Result Call Cause
+retype_line words = do
+  r ← name_at words 1
+  f ← name_at words 2
+  k ← frame_kind_at words 3
+  done ← end_at words 4
+  Ok (call.Retype r f k)
+
+-- `map P V R F W`
+unfoldable pub map_line : List (List ℕ) → Result Call Cause
+map_line words = do
+  p ← name_at words 1
+  v ← name_at words 2
+  r ← name_at words 3
+  f ← name_at words 4
+  w ← number_at words 5 0 3
+  done ← end_at words 6
+  Ok (call.Map p v r f (record { 0 = w }))
+
+-- `unmap P V`
+unfoldable pub unmap_line : List (List ℕ) → Result Call Cause
+unmap_line words = do
+  p ← name_at words 1
+  v ← name_at words 2
+  done ← end_at words 3
+  Ok (call.Unmap p v)
+
+-- `touch V`
+unfoldable pub touch_line : List (List ℕ) → Result Call Cause
+touch_line words = do
+  v ← name_at words 1
+  done ← end_at words 2
+  Ok (call.Touch v)
+
+-- `flush`
+unfoldable pub flush_line : List (List ℕ) → Result Call Cause
+flush_line words = do
+  done ← end_at words 1
+  Ok call.Flush
+
+-- `gate C T B`
+unfoldable pub gate_line : List (List ℕ) → Result Call Cause
+gate_line words = do
+  c ← name_at words 1
+  t ← name_at words 2
+  b ← name_at words 3
+  done ← end_at words 4
+  Ok (call.Gate c t b)
+
+-- `kill C`
+unfoldable pub kill_line : List (List ℕ) → Result Call Cause
+kill_line words = do
+  c ← name_at words 1
+  done ← end_at words 2
+  Ok (call.Kill c)
+
+-- `call G`
+unfoldable pub enter_line : List (List ℕ) → Result Call Cause
+enter_line words = do
+  g ← name_at words 1
+  done ← end_at words 2
+  Ok (call.Call g)
+
+-- `ret`
+unfoldable pub ret_line : List (List ℕ) → Result Call Cause
+ret_line words = do
+  done ← end_at words 1
+  Ok call.Ret
+
+-- `switch H Q`
+unfoldable pub switch_line : List (List ℕ) → Result Call Cause
+switch_line words = do
+  h ← name_at words 1
+  q ← name_at words 2
+  done ← end_at words 3
+  Ok (call.Switch h q)
+
+-- `tick N`
+unfoldable pub tick_line : List (List ℕ) → Result Call Cause
+tick_line words = do
+  n ← number_at words 1 0 1000000
+  done ← end_at words 2
+  Ok (call.Tick n)
+
+-- `transfer A B M`
+unfoldable pub transfer_line : List (List ℕ) → Result Call Cause
+transfer_line words = do
+  a ← name_at words 1
+  b ← name_at words 2
+  m ← amount_at words 3
+  done ← end_at words 4
+  Ok (call.Transfer a b m)
+
+-- `delegate A B M`
+unfoldable pub delegate_line : List (List ℕ) → Result Call Cause
+delegate_line words = do
+  a ← name_at words 1
+  b ← name_at words 2
+  m ← amount_at words 3
+  done ← end_at words 4
+  Ok (call.Delegate a b m)
+
+-- `test A B`
+unfoldable pub test_line : List (List ℕ) → Result Call Cause
+test_line words = do
+  a ← name_at words 1
+  b ← name_at words 2
+  done ← end_at words 3
+  Ok (call.Test a b)
+
+-- the objects that a `make` names
+unfoldable pub object_of : List ℕ → Option Object
+object_of word =
+    if is_word word (codes "table") then Some object.Table
+    else (if is_word word (codes "leaf") then Some object.Leaf
+    else (if is_word word (codes "pages") then Some object.Pages
+    else (if is_word word (codes "pleaf") then Some object.Pleaf
+    else (if is_word word (codes "thread") then Some object.Thread
+    else (if is_word word (codes "tcap") then Some object.Tcap
+    else (if is_word word (codes "comp") then Some object.Comp
+    else None))))))
+
+-- the object at 1: S3, then S2
+unfoldable pub object_at : List (List ℕ) → Result Object Cause
+object_at words = do
+  word ← word_at words 1
+  ok_or (object_of word) S2
+
+-- after `make thread R F T B`: `C`
+unfoldable pub thread_at : List (List ℕ) → Result Make Cause
+thread_at words = do
+  comp ← name_at words 6
+  done ← end_at words 7
+  Ok (make.Thread comp)
+
+-- after `make tcap R F T B`: `S W`
+unfoldable pub tcap_at : List (List ℕ) → Result Make Cause
+tcap_at words = do
+  sched ← number_at words 6 0 63
+  quality ← number_at words 7 1 16777215
+  done ← end_at words 8
+  Ok (make.Tcap sched quality)
+
+-- after `make comp R F T B`: `X P L`
+unfoldable pub comp_at : List (List ℕ) → Result Make Cause
+comp_at words = do
+  table ← name_at words 6
+  pages ← name_at words 7
+  live ← number_at words 8 0 63
+  done ← end_at words 9
+  Ok (make.Comp table pages live)
+
+-- after `make O R F T B` for the other objects: nothing
+unfoldable pub plain_at : List (List ℕ) → Make → Result Make Cause
+plain_at words what = do
+  done ← end_at words 6
+  Ok what
+
+-- what is made, by the arguments after `make O R F T B`
+unfoldable pub made_at : List (List ℕ) → Object → Result Make Cause
+made_at words object.Table = plain_at words make.Table
+made_at words object.Leaf = plain_at words make.Leaf
+made_at words object.Pages = plain_at words make.Pages
+made_at words object.Pleaf = plain_at words make.Pleaf
+made_at words object.Thread = thread_at words
+made_at words object.Tcap = tcap_at words
+made_at words object.Comp = comp_at words
+
+-- `make O R F T B`, and the arguments of the object
+unfoldable pub make_line : List (List ℕ) → Result Call Cause
+make_line words = do
+  o ← object_at words
+  range ← name_at words 2
+  frame ← name_at words 3
+  table ← name_at words 4
+  slot ← name_at words 5
+  what ← made_at words o
+  Ok (call.Make what range frame table slot)
+
+-- the line of the call of that word, in a script of this version
+unfoldable pub call_line : ℕ → List (List ℕ) → Verb → Result Call Cause
+call_line version words verb.Look = look_line words
+call_line version words verb.Copy = copy_line version words
+call_line version words verb.Remove = remove_line words
+call_line version words verb.Grow = grow_line words
+call_line version words verb.Shrink = shrink_line words
+call_line version words verb.Retype = retype_line words
+call_line version words verb.Make = make_line words
+call_line version words verb.Map = map_line words
+call_line version words verb.Unmap = unmap_line words
+call_line version words verb.Touch = touch_line words
+call_line version words verb.Flush = flush_line words
+call_line version words verb.Gate = gate_line words
+call_line version words verb.Kill = kill_line words
+call_line version words verb.Call = enter_line words
+call_line version words verb.Ret = ret_line words
+call_line version words verb.Switch = switch_line words
+call_line version words verb.Tick = tick_line words
+call_line version words verb.Transfer = transfer_line words
+call_line version words verb.Delegate = delegate_line words
+call_line version words verb.Test = test_line words

@@ -1,0 +1,3 @@
+pub mod FirstWords
+pub mod CallLines
+pub mod OneLine

@@ -1,6 +1,0 @@
-use Rattle.std.proofs.Common.{◌≡◌, ◌++◌, take}
-use Rattle.core_kernel.specs.Whole.{numbered}
-use Rattle.core_kernel.proofs.whole.add_decisions.Given as goal
-
-abbrev pub invariant-loop-at : goal.invariant-loop-at
-invariant-loop-at l = l.decisions.items ≡ l.initial.decisions.items ++ numbered l.core 1 (take l.at l.replies)

@@ -1,7 +1,0 @@
-use Rattle.std.proofs.Common.{◌≡◌, take}
-use Rattle.std.specs.List.{flat_map}
-use Rattle.core_kernel.specs.Whole.{decided}
-use Rattle.core_kernel.proofs.whole.decisions_of.Given as goal
-
-abbrev pub invariant-loop-runner : goal.invariant-loop-runner
-invariant-loop-runner l = l.decisions.items ≡ flat_map decided (take l.runner-index l.runners)

@@ -1,9 +1,0 @@
-use Rattle.std.proofs.Common.{◌≡◌, ℕ, length, slice_get, map, Some}
-use Rattle.core_kernel.specs.Whole.{IsReady}
-use Rattle.core_kernel.proofs.whole.runners_of.Given as goal
-
-abbrev pub invariant-loop-seat : goal.invariant-loop-seat
-invariant-loop-seat l = record {
-  count : length l.runners.items ≡ length l.yielded;
-  each : (k : ℕ) (r : _) → slice_get l.runners.items k ≡ Some r → IsReady l.fn.seats.items (map (λ v. v.items) l.lists) k r;
-}

@@ -1,0 +1,4 @@
+pub mod Zips
+pub mod Lanes
+pub mod Numbered
+pub mod Wholes

@@ -1,0 +1,16 @@
+-- The theorem on taken steps.
+use Rattle.std.specs.Prelude.{◌≡◌, ℕ, List}
+use Rattle.spk_nums.specs.declared.calls.Call.{Call}
+use Rattle.spk_nums.specs.Setting.{Setting}
+use Rattle.core_kernel.specs.kernel_history.specs.Order.{HasCalls}
+use Rattle.core_kernel.specs.kernel_history.specs.Text.{text_by_cores}
+use Rattle.core_kernel.specs.kernel_history.specs.Trace.{Trace}
+use Rattle.core_kernel.specs.flight_laws.specs.Histories.{IsHistory}
+
+-- There is one trace that is a history of the machine and has the calls of the lists once and in order, and whose text, core by
+-- core, this is.
+pub record TakenSteps (setup : Setting) (lists : List (List Call)) (text : List ℕ) : Type 0 where
+  pub trace : Trace
+  pub history : IsHistory setup trace
+  pub calls : HasCalls lists trace
+  pub is_text : text ≡ text_by_cores setup trace

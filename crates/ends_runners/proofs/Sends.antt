@@ -1,0 +1,146 @@
+-- The sends of calls, of runners, and of a history.
+use Rattle.std.proofs.Common.{◌≡◌, inl, inr, ℕ, zero, suc, ◌+◌, ◌*◌, ◌<◌, ◌≤◌, ◌^◌, List, [], ◌∷◌, ◌++◌, length}
+use Rattle.std.proofs.Common.{take, replicate, get_or, Result, Ok, Err, All, if◌then◌else◌, eq-eqb, ne_eqb}
+use Rattle.std.proofs.Common.{refl, sym, ◌∙◌, ap, subst, arith}
+use Rattle.std.specs.Prelude.{slice_get, slice_index, Some}
+use Rattle.std.specs.List.{flat_map}
+use Rattle.std.proofs.lemmas.Bool.{cases_eq}
+use Rattle.std.proofs.lemmas.List.{take_more, length-take-le, get_or-take}
+use Rattle.std.proofs.lemmas.List.Concat.{flat_map-cons}
+use Rattle.std.proofs.lemmas.Option.{get_or_from_slice_get}
+use Rattle.spk_nums.specs.declared.replies.Reply.{Reply}
+use Rattle.async_ends.specs.declared.endpoint.EndReply.{EndReply}
+use Rattle.async_ends.specs.declared.endpoint.EndReply.TheVariants.{Sent, Taken, Raced, Refused}
+use Rattle.async_ends.specs.declared.asks.EndDone.{EndDone}
+use Rattle.async_ends.specs.Events.{Event, sent_to}
+use Rattle.async_ends.specs.Calls.{reached}
+use Rattle.async_ends.specs.Asked.{event_at, event_of}
+use Rattle.async_ends.proofs.Asked.{sent_append, sum_below}
+use Rattle.ends_runners.specs.Runs.{EndRunnerValue}
+use Rattle.ends_runners.specs.Tallies.{sends_of, sends_among, sends_by}
+
+-- whose call it is makes no difference
+any_core : (c : ℕ) (r : Result ℕ Reply) (answer : EndReply) (f : ℕ) → sent_to (event_at c r answer) f ≡ sent_to (event_at 0 r answer) f
+any_core c (Err e) answer f = refl
+any_core c (Ok g) Sent f = refl
+any_core c (Ok g) (Taken k) f = refl
+any_core c (Ok g) Raced f = refl
+any_core c (Ok g) (Refused r) f = refl
+
+pub among_events : (c : ℕ) (done : List EndDone) (f : ℕ) → sent_to (flat_map (event_of c) done) f ≡ sends_among done f
+among_events c [] f = refl
+among_events c (d ∷ ds) f =
+    let one = any_core c (reached d.ask.op d.looked) d.answer f in
+    let rest = among_events c ds f in
+    let parts = ap (λ (l : List Event). sent_to l f) (flat_map-cons (event_of c) d ds) in
+    let sum = sent_append (event_of c d) (flat_map (event_of c) ds) f in
+    omega arith
+
+-- a call sends at most once
+one_at_most : (r : Result ℕ Reply) (answer : EndReply) (f : ℕ) → sent_to (event_at 0 r answer) f ≤ 1
+one_at_most (Err e) answer f = omega arith
+one_at_most (Ok g) Sent f = elim (cases_eq g f) [
+  | inl same ↦ let is : sent_to (event_at 0 (Ok g) Sent) f ≡ 1 + 0 = ap (λ b. (if b then 1 else 0) + 0) (eq-eqb g f same) in omega arith
+  | inr other ↦ let is : sent_to (event_at 0 (Ok g) Sent) f ≡ 0 + 0 = ap (λ b. (if b then 1 else 0) + 0) (ne_eqb g f other) in omega arith
+]
+one_at_most (Ok g) (Taken k) f = elim (cases_eq g f) [
+  | inl same ↦
+      let is : sent_to (event_at 0 (Ok g) (Taken k)) f ≡ 0 + 0 = ap (λ b. (if b then 0 else 0) + 0) (eq-eqb g f same) in omega arith
+  | inr other ↦
+      let is : sent_to (event_at 0 (Ok g) (Taken k)) f ≡ 0 + 0 = ap (λ b. (if b then 0 else 0) + 0) (ne_eqb g f other) in omega arith
+]
+one_at_most (Ok g) Raced f = elim (cases_eq g f) [
+  | inl same ↦ let is : sent_to (event_at 0 (Ok g) Raced) f ≡ 0 + 0 = ap (λ b. (if b then 0 else 0) + 0) (eq-eqb g f same) in omega arith
+  | inr other ↦ let is : sent_to (event_at 0 (Ok g) Raced) f ≡ 0 + 0 = ap (λ b. (if b then 0 else 0) + 0) (ne_eqb g f other) in omega arith
+]
+one_at_most (Ok g) (Refused r) f = omega arith
+
+pub sends_at_most : (d : EndDone) (f : ℕ) → sends_of d f ≤ 1
+sends_at_most d f = one_at_most (reached d.ask.op d.looked) d.answer f
+
+pub among_at_most : (done : List EndDone) (f : ℕ) → sends_among done f ≤ length done
+among_at_most [] f = omega arith
+among_at_most (d ∷ ds) f = let one = sends_at_most d f in let rest = among_at_most ds f in omega arith
+
+pub among_push : (ds : List EndDone) (d : EndDone) (f : ℕ) → sends_among (ds ++ d ∷ []) f ≡ sends_among ds f + sends_of d f
+among_push [] d f = omega arith
+among_push (e ∷ ds) d f = let rest = among_push ds d f in omega arith
+
+pub by_push : (rs : List EndRunnerValue) (r : EndRunnerValue) (f : ℕ) → sends_by (rs ++ r ∷ []) f ≡ sends_by rs f + sends_among r.done f
+by_push [] r f = omega arith
+by_push (q ∷ rs) r f = let rest = by_push rs r f in omega arith
+
+-- few runners of few calls have few sends
+pub by_at_most : (rs : List EndRunnerValue) (n f : ℕ) → All (λ r. length r.done < n) rs → sends_by rs f ≤ length rs * n
+by_at_most [] n f few = omega arith
+by_at_most (r ∷ rs) n f few =
+    let most = among_at_most r.done f in
+    let here = few 0 r (omega arith) in
+    let rest : sends_by rs f ≤ length rs * n = by_at_most rs n f (λ k d lt. few (suc k) d (omega arith)) in
+    grind arith
+
+-- ---- as they are counted
+
+pub zeros : (n f : ℕ) → slice_index (replicate n 0) f ≡ 0
+zeros zero f = refl
+zeros (suc n) zero = refl
+zeros (suc n) (suc f) = zeros n f
+
+pub added_more : (ds : List EndDone) (k : ℕ) (d : EndDone) (first old new : List ℕ) → k < length ds → d ≡ get_or ds k d
+    → ((f : ℕ) → slice_index old f ≡ slice_index first f + sends_among (take k ds) f)
+    → ((f : ℕ) → slice_index new f ≡ slice_index old f + sends_of d f)
+    → (f : ℕ) → slice_index new f ≡ slice_index first f + sends_among (take (k + 1) ds) f
+added_more ds k d first old new low at was adds f =
+    let more : take (k + 1) ds ≡ take k ds ++ d ∷ [] = take_more ds k d low ∙ ap (λ x. take k ds ++ x ∷ []) (sym at) in
+    let pushed = ap (λ (q : List EndDone). sends_among q f) more ∙ among_push (take k ds) d f in
+    let a = was f in
+    let b = adds f in
+    omega arith
+
+pub added_room : (ds : List EndDone) (k : ℕ) (first old : List ℕ) → k < length ds
+    → ((f : ℕ) → slice_index old f ≡ slice_index first f + sends_among (take k ds) f)
+    → ((f : ℕ) → slice_index first f + length ds < 2 ^ 64) → (f : ℕ) → slice_index old f + 1 < 2 ^ 64
+added_room ds k first old low was room f =
+    let size = length-take-le k ds (omega arith) in
+    let most = among_at_most (take k ds) f in
+    let a = was f in
+    let b = room f in
+    omega arith
+
+pub sent_more : (rs : List EndRunnerValue) (k : ℕ) (r : EndRunnerValue) (old new : List ℕ) → k < length rs → r ≡ get_or rs k r
+    → ((f : ℕ) → slice_index old f ≡ sends_by (take k rs) f)
+    → ((f : ℕ) → slice_index new f ≡ slice_index old f + sends_among r.done f)
+    → (f : ℕ) → slice_index new f ≡ sends_by (take (k + 1) rs) f
+sent_more rs k r old new low at was adds f =
+    let more : take (k + 1) rs ≡ take k rs ++ r ∷ [] = take_more rs k r low ∙ ap (λ x. take k rs ++ x ∷ []) (sym at) in
+    let pushed = ap (λ (q : List EndRunnerValue). sends_by q f) more ∙ by_push (take k rs) r f in
+    let a = was f in
+    let b = adds f in
+    omega arith
+
+pub sent_room : (rs : List EndRunnerValue) (k : ℕ) (r : EndRunnerValue) (old : List ℕ) → length rs ≤ 8 → k < length rs
+    → r ≡ get_or rs k r → All (λ r. length r.done < 2 ^ 32) rs → ((f : ℕ) → slice_index old f ≡ sends_by (take k rs) f)
+    → (f : ℕ) → slice_index old f + length r.done < 2 ^ 64
+sent_room rs k r old most low at few was f =
+    let here : length r.done < 2 ^ 32 = subst (λ (x : EndRunnerValue). length x.done < 2 ^ 32) (sym at) (few k r low) in
+    let size : length (take k rs) ≡ k = length-take-le k rs (omega arith) in
+    let sum : sends_by (take k rs) f ≤ length (take k rs) * 2 ^ 32 = by_at_most (take k rs) (2 ^ 32) f
+    (λ j d lt. subst (λ (x : EndRunnerValue). length x.done < 2 ^ 32) (sym (get_or-take k rs j d (omega arith))) (few j d (omega arith))) in
+    let a = was f in
+    omega arith
+
+-- the sends of runners are the sum of those of their cores
+pub by_cores : (rs : List EndRunnerValue) (g : ℕ → ℕ) (n f : ℕ) → n ≤ length rs
+    → ((k : ℕ) → k < n → (r : EndRunnerValue) × (slice_get rs k ≡ Some r) × (sends_among r.done f ≡ g k))
+    → sends_by (take n rs) f ≡ sum_below g n
+by_cores rs g zero f le each = refl
+by_cores rs g (suc n) f le each =
+    let l = each n (omega arith) in
+    let before = by_cores rs g n f (omega arith) (λ k lt. each k (omega arith)) in
+    let next : suc n ≡ n + 1 = omega arith in
+    let read : get_or rs n l.0 ≡ l.0 = get_or_from_slice_get rs n l.0 l.0 l.1 in
+    let more : take (suc n) rs ≡ take n rs ++ l.0 ∷ [] =
+    ap (λ (k : ℕ). take k rs) next ∙ take_more rs n l.0 (omega arith) ∙ ap (λ r. take n rs ++ r ∷ []) read in
+    let pushed = ap (λ (q : List EndRunnerValue). sends_by q f) more ∙ by_push (take n rs) l.0 f in
+    let here = l.2 in
+    omega arith

@@ -1,0 +1,69 @@
+-- What runners of endpoint calls do.
+use Rattle.std.specs.Prelude.{◌≡◌, ℕ, ◌+◌, ◌<◌, ◌≤◌, ◌^◌, Bool, true, false, List, [], ◌++◌, take, length, map, All}
+use Rattle.std.specs.List.{flat_map}
+use Rattle.spk_nums.specs.declared.calls.Call.{Call}
+use Rattle.spk_nums.specs.declared.calls.Call.TheVariants as call
+use Rattle.core_kernel.specs.kernel_history.specs.Trace.{Trace, calls_of}
+use Rattle.core_kernel.specs.Replies.{replies_of}
+use Rattle.core_kernel.specs.Kernel.{CoreSeatValue}
+use Rattle.core_kernel.specs.Calls.{HasSeen}
+use Rattle.async_ends.specs.declared.asks.EndAsk.{EndAsk}
+use Rattle.async_ends.specs.declared.asks.EndDone.{EndDone}
+use Rattle.async_ends.specs.Events.{events_by}
+use Rattle.async_ends.specs.Seen.{history_of}
+use Rattle.async_ends.specs.Tables.{EndTableValue, EndSeatValue}
+use Rattle.async_ends.specs.Asked.{event_of, IsAnswered}
+
+-- The look of an endpoint call.
+abbrev pub look_call : EndDone → Call
+look_call d = call.Look d.ask.number
+
+-- A runner as contracts see it: its seats, its calls, those made so far, how many calls its list has, and whether the gate has stopped it.
+pub record EndRunnerValue : Type 0 where
+  pub who : CoreSeatValue
+  pub seat : EndSeatValue
+  pub asks : List EndAsk
+  pub done : List EndDone
+  pub listed : ℕ
+  pub held : Bool
+
+-- A runner's calls are few enough, also with those of its list, and there is room for each.
+pub record IsEndRunner (asks : List EndAsk) (listed room : ℕ) : Type 0 where
+  pub few : length asks ≤ 4194304
+  pub fit : listed + length asks < 2 ^ 32
+  pub room_for_all : length asks ≤ room
+
+-- The runner is of this table, its two seats are of one core, and it has made no call yet.
+pub record AwaitsEnds (table : EndTableValue) (runner : EndRunnerValue) : Type 0 where
+  pub seen : HasSeen runner.who
+  pub table_is : runner.seat.table ≡ table
+  pub frames : 512 ≤ table.frames
+  pub core : runner.seat.core ≡ runner.who.core
+  pub fresh : runner.seat.made ≡ 0
+  pub none : runner.done ≡ []
+  pub free : runner.held ≡ false
+
+-- The runner has made the calls that it tells as done, in order: its seats have gone on by their looks and their events.
+pub record HasDone (runner now : EndRunnerValue) : Type 0 where
+  pub since : Trace
+  pub begins : now.who.seen ≡ since ++ runner.who.seen
+  pub looked : calls_of since runner.who.core ≡ map look_call now.done
+  pub replied : replies_of since runner.who.core ≡ map (λ d. d.looked) now.done
+  pub answered : All IsAnswered now.done
+  pub made : events_by (history_of now.seat.seen) runner.who.core
+      ≡ events_by (history_of runner.seat.seen) runner.who.core ++ flat_map (event_of runner.who.core) now.done
+  pub list : now.asks ≡ runner.asks
+  pub core : now.who.core ≡ runner.who.core
+  pub kernel : now.who.kernel ≡ runner.who.kernel
+  pub seen : HasSeen now.who
+  pub seat_core : now.seat.core ≡ runner.seat.core
+  pub table : now.seat.table ≡ runner.seat.table
+
+-- The runner has made the first calls of its list in order. It has made all of them where it is not held, and is not held where the
+-- gate is free.
+pub record MakesAsks (gate_is_free : Bool) (runner after : EndRunnerValue) : Type 0 where
+  pub does : HasDone runner after
+  pub asked : map (λ d. d.ask) after.done ≡ take (length after.done) runner.asks
+  pub within : length after.done ≤ length runner.asks
+  pub whole : after.held ≡ false → length after.done ≡ length runner.asks
+  pub free : gate_is_free ≡ true → after.held ≡ false

@@ -1,0 +1,5 @@
+pub mod Judged
+pub mod Digits
+pub mod Rows
+pub mod LineSteps
+mod FirstFaults

@@ -1,0 +1,4 @@
+pub mod Causes
+pub mod Numerals
+pub mod Arguments
+pub mod Lines

@@ -1,5 +1,0 @@
-use Rattle.script_reader.proofs.Rows.{Counts}
-use Rattle.script_reader.proofs.engine.line_length.Given as goal
-
-abbrev pub invariant-words : goal.invariant-words
-invariant-words l = Counts l.tokens l.line l.token-index l.length

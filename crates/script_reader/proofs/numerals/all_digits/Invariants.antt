@@ -1,6 +1,0 @@
-use Rattle.std.proofs.Common.{◌≡◌, drop}
-use Rattle.script_reader.specs.Numerals.{all_digits}
-use Rattle.script_reader.proofs.numerals.all_digits.Given as goal
-
-abbrev pub invariant-digits : goal.invariant-digits
-invariant-digits l = all_digits (drop l.byte-index l.word) ≡ all_digits l.word

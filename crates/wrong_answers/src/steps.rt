@@ -1,0 +1,74 @@
+//! The steps of a script's order, taken one after another: their text, their trace, their picture and their origins.
+
+ghost use Rattle.std.specs.Prelude.{◌≡◌, ◌<◌, All, IfOk, length, map, string_bytes};
+ghost use Rattle.trace_run.specs.lone_kernel.specs.Machine.{AreLists};
+ghost use Rattle.trace_run.specs.lone_kernel.specs.GivenSteps.{GivenSteps};
+ghost use Rattle.trace_run.specs.GivenTrace.{GivenTrace};
+ghost use Rattle.draw_run.specs.GivenDrawing.{GivenDrawing};
+ghost use Rattle.origins_run.specs.GivenOrigins.{GivenOrigins};
+
+use spk_nums::{Call, Item, Memory, Setup};
+use std::alloc::Global;
+
+/// The text of the trace that the order makes, as `replay` writes it.
+pub fn replay(
+    alloc: Global,
+    setup: &Setup,
+    lists: Vec<Vec<Call>>,
+    items: &[Item],
+) -> Result<String, Memory>
+    requires can_run { AreLists (map (λ v. v.items) lists.items) }
+    requires one_each { length lists.items ≡ setup.now.cores }
+    requires named { All (λ item. item.core < setup.now.cores) items.now }
+    ensures { IfOk result (λ text. GivenSteps setup.now (map (λ v. v.items) lists.items) items.now (string_bytes text)) }
+{
+    let text = speck_run::replay(alloc, setup, lists, items)?;
+    Ok(text)
+}
+
+/// The trace that the order makes, as `trace` writes it.
+pub fn trace(
+    alloc: Global,
+    version: u8,
+    setup: &Setup,
+    lists: Vec<Vec<Call>>,
+    items: &[Item],
+) -> Result<String, Memory>
+    requires can_run { AreLists (map (λ v. v.items) lists.items) }
+    requires one_each { length lists.items ≡ setup.now.cores }
+    requires named { All (λ item. item.core < setup.now.cores) items.now }
+    ensures { IfOk result (λ text. GivenTrace version setup.now (map (λ v. v.items) lists.items) items.now (string_bytes text)) }
+{
+    trace_run::trace(alloc, version, setup, lists, items)
+}
+
+/// The picture of the trace that the order makes, as `draw` writes it.
+pub fn draw(
+    alloc: Global,
+    setup: &Setup,
+    lists: Vec<Vec<Call>>,
+    items: &[Item],
+) -> Result<String, Memory>
+    requires can_run { AreLists (map (λ v. v.items) lists.items) }
+    requires one_each { length lists.items ≡ setup.now.cores }
+    requires named { All (λ item. item.core < setup.now.cores) items.now }
+    ensures { IfOk result (λ text. GivenDrawing setup.now (map (λ v. v.items) lists.items) items.now (string_bytes text)) }
+{
+    draw_run::draw(alloc, setup, lists, items)
+}
+
+/// The origins of what is held after the steps of the order, as `origins` writes them.
+pub fn origins(
+    alloc: Global,
+    setup: &Setup,
+    lists: Vec<Vec<Call>>,
+    items: &[Item],
+) -> Result<String, Memory>
+    requires can_run { AreLists (map (λ v. v.items) lists.items) }
+    requires few { All (λ calls. length calls < 536870912) (map (λ v. v.items) lists.items) }
+    requires one_each { length lists.items ≡ setup.now.cores }
+    requires named { All (λ item. item.core < setup.now.cores) items.now }
+    ensures { IfOk result (λ text. GivenOrigins setup.now (map (λ v. v.items) lists.items) items.now (string_bytes text)) }
+{
+    origins_run::origins(alloc, setup, lists, items)
+}
