@@ -1,26 +1,95 @@
 /*
- * The kernel for C: machines, ports, notes and texts of the static library that crates/speck_c makes.
+ * speck.h: the kernel for C. Version 0.1.
  *
- * A machine is a kernel with its seats. Each core has a port, which makes the core's calls; threads share a kernel through their
- * ports. A note tells what a port has seen; a port that meets it has then seen that too.
+ * WHAT IT IS. A machine is a kernel with a seat for each core. Each core has a port, which makes the core's calls. Threads, or the
+ * processors of a bare machine, share a kernel through their ports alone. A note tells what a port has seen; a port that meets it has
+ * then seen that too. No call waits for another core, takes a lock, starts a thread, or tries anything a second time; each is a bounded
+ * number of steps. The calls of a core take no memory.
  *
- * The library proves what each call does with what its slots hold. Of a caller in C nothing is checked, so keep these rules:
+ *     struct speck_machine machine = {0};
+ *     struct speck_port port[2] = {{{0}}};
+ *     struct speck_text tables = {0};
+ *     if (speck_boot(&machine, 2, 32, 100) != SPECK_OK) return 1;                      two cores, 32 frames, 100 ticks for each core
+ *     for (int core = 0; core < 2; core++) speck_deal(&machine, &port[core]);          core 0's port comes first
+ *     struct speck_reply reply = speck_copy(&port[0], 0, 1, 20, SPECK_RIGHT_COPY | SPECK_RIGHT_USE);
+ *     for (int core = 0; core < 2; core++) speck_take_back(&machine, &port[core]);     core 0's port first
+ *     if (speck_finish(&machine, &tables) == SPECK_OK) ..                              the text of its tables: speck_read
+ *     speck_free_text(&tables);
  *
- * - A slot is zeroed before its first use (`struct speck_port p = {0};`). No field of it is yours. Hand in valid, distinct slots,
- *   never null. A slot may be moved; a copy and its original are never both used.
- * - One call at a time on one slot. Calls on different slots may run at once, in any threads. Hand a slot to another thread only
- *   across the start or the join of a thread, a lock, or a sequentially consistent atomic.
- * - `speck_meet`: the note is of the port's kernel. `speck_take_back`: the port is of that machine.
- * - Free every slot that is not empty. The last of a machine and its ports frees the kernel. To overwrite a full slot leaks it.
- * - `malloc`, `realloc` and `free` are those of one allocator, aligned to 16 bytes. No call comes from a signal handler, nor from
- *   the child of a fork of a program with threads.
+ * Linked with -lspeck and with nothing else. What is proved of it, and what is tried alone, is told at the end.
  *
- * No call waits for another thread, takes a lock, starts a thread, or tries anything a second time. The calls of a core take no memory.
+ * WHAT A CALLER KEEPS
+ *
+ * - A slot (machine, port, note, text) is zeroed before its first use. No field of it is yours. It may be moved; a copy and its original
+ *   are never both used. Free each slot that is not empty: the last of a machine and its ports frees the kernel.
+ * - Hand a slot to another thread only across the start or the join of a thread, a lock, or a sequentially consistent atomic.
+ * - `malloc`, `realloc` and `free` are those of one allocator, aligned to 16 bytes, and may be called by several threads at once. Beside
+ *   them the library calls memcpy, memmove and memset alone.
+ * - Nothing is called from the child of a fork of a program with threads.
+ *
+ * WHAT IS TESTED, AND ANSWERED BY A CODE, WITH NOTHING CHANGED
+ *
+ *     a slot that is null, or holds nothing, or something else         SPECK_NOTHING_HELD
+ *     a slot that is in a call: from an interrupt or a signal handler,
+ *     or from a second thread; or one slot given twice                 SPECK_IN_CALL (that call goes on, and is not disturbed)
+ *     a slot to be filled that is not empty                            SPECK_FULL
+ *     a note or a port of another machine                              SPECK_OTHER_MACHINE
+ *     a port that comes back before those with lower numbers           SPECK_NOT_ITS_TURN
+ *     a machine that is finished before all its ports are back         SPECK_PORT_OUT
+ *     one port more than there are cores                               SPECK_ALL_DEALT
+ *     an argument outside its limits                                   SPECK_OUTSIDE; of a boot SPECK_BAD_CORES and those after it
+ *
+ * WHAT A MACHINE HOLDS AT BOOT, with n cores and f frames
+ *
+ *     capability   kind                    in frame     what it is
+ *     0            SPECK_KIND_RANGE        4 + 2n       the free memory: all frames from 4 + 2n on, of which there are f - 4 - 2n
+ *     1            SPECK_KIND_TABLE        0            the capability table itself; its one leaf, in frame 1, has the numbers 0 to 63
+ *     2            SPECK_KIND_PAGES        2            the page table, in which nothing is mapped and no leaf linked
+ *     3            SPECK_KIND_COMP         3            the component of all cores, of liveness number 0
+ *     4 + core     SPECK_KIND_THREAD       4 + core     the thread that the core runs
+ *     12 + core    SPECK_KIND_TCAP         4 + n + core the temporal capability by which it runs, with the budget of the boot,
+ *                                                       of scheduler 0 and quality 1
+ *
+ * A `table`, `root`, `pages`, `range`, `comp`, `thread`, `tcap`, `gate` or `leaf` among the arguments is the number of a capability of
+ * that kind; a `slot` is the number under which something is put into a table, a `page` the same of a page table, an `entry` one of the
+ * 64 of a root, and a `frame` the number of a frame of the machine.
+ *
+ * LIMITS. 1 to 8 cores; 4 + 2n to 512 frames, of 64 words; numbers of capabilities and pages 0 to 4,095; a component's name is a liveness
+ * number, 0 to 63, of up to 65,535 epochs; a thread is in up to 16 components; a temporal capability's list names up to 8 schedulers of 0
+ * to 63; a quality is 1 to 16,777,215, and a smaller one is better; a budget is up to 500,000,000 ticks, a `tick` up to 1,000,000; a core
+ * makes up to 4,194,304 calls, after which each answers SPECK_CALLS_SPENT.
+ *
+ * WHAT TO DO ABOUT A REPLY is its `advice` (below). To make a call until it is carried out or refused for good:
+ *
+ *     struct speck_reply reply;
+ *     for (;;) {
+ *         reply = speck_map(port, 2, page, 0, frame, 1);
+ *         switch (reply.advice) {
+ *         case SPECK_ADVICE_AGAIN:         continue;               a lost race: the call is made again, where it is still wanted
+ *         case SPECK_ADVICE_AWAIT_RETURN:  sched_yield(); continue; core reply.n is to return from its call
+ *         case SPECK_ADVICE_AWAIT_FLUSH:   have_flushed(reply.n);  continue; speck_flush at that core's port, which may be this one
+ *         }
+ *         break;
+ *     }
+ *
+ * where `have_flushed(n)` is `speck_flush(port)` where n is `speck_core(port)`, and else asks the thread that has core n's port, or sends
+ * core n an interrupt whose handler makes the flush, or, told SPECK_IN_CALL, leaves it to be made after the call in progress. A `tick`
+ * that lost a race is made again with 0 ticks: its own are owed already.
+ *
+ * IN RING 0. `c/build --kernel` makes the library without a red zone and without SSE: then an interrupt may be taken in the midst of a
+ * call, on the same stack, by a handler that keeps the general registers alone. As built without --kernel, take interrupts on a stack of
+ * their own, by handlers that keep the SSE registers too, or make each call with interrupts off: it is bounded. A handler may make calls
+ * at ports; at one that is in a call it is told SPECK_IN_CALL. A 4 KiB stack does not do: `c/stacks` tells the bytes of each call. Your
+ * own heap may take the place of `malloc` (--heap none) in three functions, which may be called by several cores at once:
+ *
+ *     struct got { uint64_t is_some; void *at; };                                     is_some 0: out of memory
+ *     struct got rattle_alloc(size_t size, size_t align);                             a block, aligned to `align`, at most 16
+ *     struct got rattle_realloc(void *at, size_t old, size_t size, size_t align);     the same with the first bytes of the block at `at`
+ *     void rattle_dealloc(void *at);
  */
 #ifndef SPECK_H
 #define SPECK_H
 
-#include <stdbool.h>
 #include <stddef.h>
 #include <stdint.h>
 
@@ -28,14 +97,14 @@
 extern "C" {
 #endif
 
-struct speck_machine { bool full; void *at; };
-struct speck_port { bool full; void *at; };
-struct speck_note { bool full; void *at; };
-struct speck_text { bool full; void *at; };
+#define SPECK_VERSION 100 /* 10,000 for the first number, 100 for the second, 1 for the third; docs/CHANGES.md has what each changed */
 
-/* What a call of a core answers. `code` is the number of its reply (SPECK_OK to SPECK_NO_RIGHT), or one of the two codes that are no
- * replies. `value` says what SPECK_OK carries: 0 nothing, 1 a capability (`kind`, `frame`, `n` its number, `flags` its rights: 1 to copy,
- * 2 to use), 2 a page (`frame`, `flags`), 3 an amount (`n`), 4 preempts, 5 stays. Of SPECK_QUIESCING, SPECK_UNFLUSHED, SPECK_RUNNING and
+struct speck_machine { uint64_t own[4]; };
+struct speck_port { uint64_t own[4]; };
+struct speck_note { uint64_t own[4]; };
+struct speck_text { uint64_t own[4]; };
+
+/* What a call of a core answers. Of SPECK_OK, `value` says what it carries. Of SPECK_QUIESCING, SPECK_UNFLUSHED, SPECK_RUNNING and
  * SPECK_BUSY, `n` is the core, of SPECK_REFERENCED the count, of SPECK_SHORT the budget. `advice` says what the caller may do. What does
  * not apply is 0. */
 struct speck_reply {
@@ -48,109 +117,152 @@ struct speck_reply {
     uint32_t n;
 };
 
-/* The replies. When each comes, and what to do about it, is in docs/REPLIES.md. */
+/* The codes: one meaning each, whatever function answers them. Those up to 24 are the replies of the kernel (docs/REPLIES.md). */
 enum {
-    SPECK_OK = 0,
-    SPECK_NO_SLOT = 1,
-    SPECK_EMPTY = 2,
-    SPECK_WRONG_CAP = 3,
-    SPECK_OCCUPIED = 4,
-    SPECK_QUIESCING = 5,
-    SPECK_UNFLUSHED = 6,
-    SPECK_FRAME_KIND = 7,
-    SPECK_OUT_OF_RANGE = 8,
-    SPECK_REFERENCED = 9,
-    SPECK_NOT_EMPTY = 10,
-    SPECK_DEAD = 11,
-    SPECK_DEEP = 12,
-    SPECK_BOTTOM = 13,
-    SPECK_RUNNING = 14,
-    SPECK_SHORT = 15,
-    SPECK_UNLIKE = 16,
-    SPECK_TOO_MANY = 17,
-    SPECK_SAME = 18,
-    SPECK_EPOCHS_SPENT = 19,
-    SPECK_RACED = 20,
-    SPECK_BUSY = 21,
-    SPECK_FAULT = 22,
-    SPECK_CALLS_SPENT = 23,
-    SPECK_NO_RIGHT = 24
+    SPECK_OK = 0,            /* it was carried out */
+    SPECK_NO_SLOT = 1,       /* the number is past the limits, or no leaf is linked where it leads */
+    SPECK_EMPTY = 2,         /* the slot that is named holds nothing */
+    SPECK_WRONG_CAP = 3,     /* the capability has another kind than the call wants */
+    SPECK_OCCUPIED = 4,      /* the target holds something; of a component also: its liveness number lives */
+    SPECK_QUIESCING = 5,     /* core n may still use what was removed there */
+    SPECK_UNFLUSHED = 6,     /* core n may have a translation cached that leads to what was removed there */
+    SPECK_FRAME_KIND = 7,    /* the frame is not of the kind that the call needs */
+    SPECK_OUT_OF_RANGE = 8,  /* the frame is not in the range */
+    SPECK_REFERENCED = 9,    /* n references to the frame stand */
+    SPECK_NOT_EMPTY = 10,    /* the object in the frame is not empty, and no capability names it any more */
+    SPECK_DEAD = 11,         /* a component was killed: see SPECK_ADVICE_RETURN */
+    SPECK_DEEP = 12,         /* the thread is in 16 components */
+    SPECK_BOTTOM = 13,       /* the thread is in its first component */
+    SPECK_RUNNING = 14,      /* the thread runs on core n */
+    SPECK_SHORT = 15,        /* the temporal capability has only n ticks */
+    SPECK_UNLIKE = 16,       /* the two lists of qualities differ */
+    SPECK_TOO_MANY = 17,     /* the merged list would name more than eight schedulers */
+    SPECK_SAME = 18,         /* both numbers lead to one temporal capability */
+    SPECK_EPOCHS_SPENT = 19, /* the liveness number has had its last epoch */
+    SPECK_RACED = 20,        /* another core changed the word meanwhile */
+    SPECK_BUSY = 21,         /* core n is changing the word */
+    SPECK_FAULT = 22,        /* the page is not mapped */
+    SPECK_CALLS_SPENT = 23,  /* the core has made its last call */
+    SPECK_NO_RIGHT = 24,     /* the capability lacks the right that the call needs */
+
+    /* No replies of the kernel: no call was made, and with the one exception that is told nothing was changed. */
+    SPECK_FULL = 240,
+    SPECK_BAD_CORES = 241,     /* not 1 to 8 */
+    SPECK_BAD_FRAMES = 242,    /* not 4 + 2 * cores to 512 */
+    SPECK_BAD_BUDGET = 243,    /* past 500,000,000 ticks */
+    SPECK_ALL_DEALT = 244,
+    SPECK_NOT_ITS_TURN = 245,
+    SPECK_PORT_OUT = 246,
+    SPECK_NO_MEMORY = 247,     /* and then the next core's port (speck_deal), the port (speck_take_back), the machine (speck_finish) is gone */
+    SPECK_OTHER_MACHINE = 248,
+    SPECK_IN_CALL = 253,
+    SPECK_NOTHING_HELD = 254,
+    SPECK_OUTSIDE = 255
 };
 
-/* No numbers of replies: a slot does not hold what is asked of it; the arguments are outside the limits. No call was then made, and the
- * slots stay as they are. */
-enum { SPECK_NOTHING_HELD = 254, SPECK_OUTSIDE = 255 };
-
-/* What a caller may do about a reply: nothing, it was carried out; change what it asked for; give up, the core makes no further
- * call; have `n` references released; wait until core `n` has returned from its call; have core `n` flush; choose another thread, or
- * wait until core `n` runs another; after a lost race, make the call again. A `tick` that lost a race is made again with 0 ticks: its
- * own are owed already. */
+/* What SPECK_OK carries. */
 enum {
-    SPECK_ADVICE_DONE = 0,
-    SPECK_ADVICE_CHANGE = 1,
-    SPECK_ADVICE_GIVE_UP = 2,
-    SPECK_ADVICE_RELEASE = 3,
-    SPECK_ADVICE_AWAIT_RETURN = 4,
-    SPECK_ADVICE_AWAIT_FLUSH = 5,
-    SPECK_ADVICE_AWAIT_SWITCH = 6,
-    SPECK_ADVICE_AGAIN = 7
+    SPECK_VALUE_NOTHING = 0,
+    SPECK_VALUE_CAPABILITY = 1, /* its `kind`, `frame`, rights (`flags`) and argument (`n`: a range's length, a gate's epoch) */
+    SPECK_VALUE_PAGE = 2,       /* its `frame` and `flags` */
+    SPECK_VALUE_AMOUNT = 3,     /* `n` */
+    SPECK_VALUE_PREEMPTS = 4,
+    SPECK_VALUE_STAYS = 5
 };
 
-/* What the calls on machines, notes and texts answer, beside SPECK_NOTHING_HELD. SPECK_FULL: the slot to be filled is not empty.
- * `speck_boot`: SPECK_CORES, not 1 to 8 cores; SPECK_FRAMES, not `4 + 2 * cores` to 512 frames; SPECK_BUDGET, more than 500,000,000 ticks.
- * SPECK_TURN: each core has its port (`speck_deal`), ports with lower numbers are not all back (`speck_take_back`), or a port is not back
- * (`speck_finish`). With SPECK_MEMORY, out of memory, the next core's port (`speck_deal`), the port (`speck_take_back`) or the machine
- * (`speck_finish`) is gone. In all other cases a refusal changes nothing. */
-enum { SPECK_DONE = 0, SPECK_FULL = 1, SPECK_CORES = 2, SPECK_TURN = 2, SPECK_FRAMES = 3, SPECK_BUDGET = 4, SPECK_MEMORY = 5 };
+/* What a caller may do. */
+enum {
+    SPECK_ADVICE_DONE = 0,         /* nothing: it was carried out */
+    SPECK_ADVICE_CHANGE = 1,       /* ask for something else. SPECK_DEAD of speck_kill and speck_call with this advice: what was named is dead,
+                                    * so choose another; but where a look then answers SPECK_DEAD too, it is the core's own component */
+    SPECK_ADVICE_GIVE_UP = 2,      /* the core makes no further call */
+    SPECK_ADVICE_RELEASE = 3,      /* have `n` references released */
+    SPECK_ADVICE_AWAIT_RETURN = 4, /* wait until core `n` has returned from its call, then ask again */
+    SPECK_ADVICE_AWAIT_FLUSH = 5,  /* have core `n` flush, then ask again */
+    SPECK_ADVICE_AWAIT_SWITCH = 6, /* choose another thread, or wait until core `n` runs another */
+    SPECK_ADVICE_AGAIN = 7,        /* a lost race: ask again at once, where it is still wanted; a `tick` with 0 ticks */
+    SPECK_ADVICE_RETURN = 8        /* SPECK_DEAD: the component in which the core works was killed: `speck_ret` leaves it. In the first
+                                    * component of a thread only speck_flush and speck_tick are left */
+};
 
 /* The kinds of capabilities. */
 enum {
-    SPECK_RANGE = 0,
-    SPECK_TABLE = 1,
-    SPECK_LEAF = 2,
-    SPECK_PAGES = 3,
-    SPECK_PLEAF = 4,
-    SPECK_COMP = 5,
-    SPECK_GATE = 6,
-    SPECK_THREAD = 7,
-    SPECK_TCAP = 8,
-    SPECK_LINK = 9,
-    SPECK_PAGE = 10
+    SPECK_KIND_RANGE = 0,
+    SPECK_KIND_TABLE = 1,
+    SPECK_KIND_LEAF = 2,
+    SPECK_KIND_PAGES = 3,
+    SPECK_KIND_PLEAF = 4,
+    SPECK_KIND_COMP = 5,
+    SPECK_KIND_GATE = 6,
+    SPECK_KIND_THREAD = 7,
+    SPECK_KIND_TCAP = 8,
+    SPECK_KIND_LINK = 9,
+    SPECK_KIND_PAGE = 10
 };
 
-/* The kinds of frames, for `speck_retype`. */
-enum { SPECK_UNTYPED = 0, SPECK_USER = 1, SPECK_KERNEL = 2 };
+/* The kinds of frames, for `speck_retype`, and the rights of a capability. */
+enum { SPECK_FRAME_UNTYPED = 0, SPECK_FRAME_USER = 1, SPECK_FRAME_KERNEL = 2 };
+enum { SPECK_RIGHT_COPY = 1, SPECK_RIGHT_USE = 2 };
 
-/* Machines. */
+/* Machines: booted into an empty slot; the ports dealt into empty slots, core 0's first, and taken back in the same order; finished once
+ * all are back, which empties the machine's slot and fills the text's. */
 uint8_t speck_boot(struct speck_machine *machine, uint8_t cores, uint16_t frames, uint32_t budget);
 uint8_t speck_deal(struct speck_machine *machine, struct speck_port *port);
 uint8_t speck_take_back(struct speck_machine *machine, struct speck_port *port);
 uint8_t speck_finish(struct speck_machine *machine, struct speck_text *text);
-void speck_free_machine(struct speck_machine *machine);
-void speck_free_port(struct speck_port *port);
-void speck_free_note(struct speck_note *note);
-void speck_free_text(struct speck_text *text);
 
-/* The core of a port, 0 to 7. */
+/* Each empties its slot, and answers SPECK_OK, also where it was empty; or SPECK_IN_CALL. */
+uint8_t speck_free_machine(struct speck_machine *machine);
+uint8_t speck_free_port(struct speck_port *port);
+uint8_t speck_free_note(struct speck_note *note);
+uint8_t speck_free_text(struct speck_text *text);
+
+/* The core of a port, 0 to 7; else SPECK_NOTHING_HELD or SPECK_IN_CALL. */
 uint8_t speck_core(struct speck_port *port);
 
-/* Notes. */
+/* A note of what the port has seen goes into an empty slot. A port that meets it has then seen that too, and the note's slot is empty:
+ * its next call comes after all that the note tells of. */
 uint8_t speck_note(struct speck_port *port, struct speck_note *note);
 uint8_t speck_meet(struct speck_port *port, struct speck_note *note);
 
-/* The tables of a machine that was finished. Copies the beginning of the text, as much as there is room for, and answers its whole
- * length; 0 where no text is held. It ends with no zero. `bytes` is not null, also where there is no room. */
+/* Copies the beginning of the text, as much as there is room for, and answers its whole length; 0 where no text is held. It ends with no
+ * zero. `bytes` is not null, also where there is no room. */
 uint64_t speck_read(struct speck_text *text, uint8_t *bytes, size_t room);
 
-/* The calls of a port's core, as docs/MODEL.md has them. SPECK_NOTHING_HELD is answered where no port is held, SPECK_OUTSIDE for
- * arguments outside the limits: more than 1,000,000 ticks of `tick`, `rights` or flags `w` past 3, a kind `k` past 2, a `sched` or `live`
- * past 63, a `quality` that is 0 or past 16,777,215. */
-struct speck_reply speck_look(struct speck_port *port, uint16_t a);
-struct speck_reply speck_copy(struct speck_port *port, uint16_t a, uint16_t t, uint16_t b, uint8_t rights);
-struct speck_reply speck_remove(struct speck_port *port, uint16_t t, uint16_t b);
-struct speck_reply speck_grow(struct speck_port *port, uint16_t t, uint16_t i, uint16_t l);
-struct speck_reply speck_shrink(struct speck_port *port, uint16_t t, uint16_t i);
-struct speck_reply speck_retype(struct speck_port *port, uint16_t r, uint16_t f, uint8_t k);
+/* The tables line by line: what a line tells, and its numbers in the order of the text. */
+enum {
+    SPECK_LINE_FRAME = 1,   /* frame, references to it; `kind` is the object's, SPECK_IS_USER, or SPECK_IS_BLANK, a kernel frame with none */
+    SPECK_LINE_ENTRY = 2,   /* of the node above: entry, frame, a range's length, a gate's epoch or a page's flags, rights; `kind` */
+    SPECK_LINE_FIELDS = 3,  /* of the component above: the frames of its table and of its pages, its liveness number, its epoch */
+    SPECK_LINE_STACK = 4,   /* of the thread above: the frames of the components that it is in, the first first */
+    SPECK_LINE_BUDGET = 5,  /* of the temporal capability above: ticks */
+    SPECK_LINE_QUALITY = 6, /* of the same: scheduler, quality */
+    SPECK_LINE_LIVE = 7,    /* a liveness number, its epoch, the component's frame */
+    SPECK_LINE_DEAD = 8,    /* a liveness number, the epoch that ended */
+    SPECK_LINE_CORE = 9,    /* core; the frames of its thread, its temporal capability and its component; ticks spent, ticks owed */
+    SPECK_LINE_CACHED = 10, /* of the core above: the frame of a page table, page, frame, flags */
+    SPECK_LINE_TOTAL = 11   /* all budgets and all ticks spent */
+};
+enum { SPECK_IS_USER = 11, SPECK_IS_BLANK = 12 };
+
+struct speck_line {
+    uint8_t what;
+    uint8_t kind;
+    uint8_t count; /* of the numbers */
+    uint64_t n[16];
+};
+
+/* Reads the line that begins at `at` of a text that speck_read has copied, which ends at `end`, and answers where the next begins; null at
+ * the end of the text, and of what is no line of such a text. */
+const uint8_t *speck_next_line(const uint8_t *at, const uint8_t *end, struct speck_line *line);
+
+/* The calls of a port's core, as docs/MODEL.md has them. */
+struct speck_reply speck_look(struct speck_port *port, uint16_t capability);
+struct speck_reply speck_copy(struct speck_port *port, uint16_t capability, uint16_t table, uint16_t slot, uint8_t rights);
+struct speck_reply speck_remove(struct speck_port *port, uint16_t table, uint16_t slot);
+struct speck_reply speck_grow(struct speck_port *port, uint16_t root, uint16_t entry, uint16_t leaf);
+struct speck_reply speck_shrink(struct speck_port *port, uint16_t root, uint16_t entry);
+struct speck_reply speck_retype(struct speck_port *port, uint16_t range, uint16_t frame, uint8_t kind);
 struct speck_reply speck_make_table(struct speck_port *port, uint16_t range, uint16_t frame, uint16_t table, uint16_t slot);
 struct speck_reply speck_make_leaf(struct speck_port *port, uint16_t range, uint16_t frame, uint16_t table, uint16_t slot);
 struct speck_reply speck_make_pages(struct speck_port *port, uint16_t range, uint16_t frame, uint16_t table, uint16_t slot);
@@ -160,19 +272,24 @@ struct speck_reply speck_make_tcap(struct speck_port *port, uint8_t sched, uint3
     uint16_t range, uint16_t frame, uint16_t table, uint16_t slot);
 struct speck_reply speck_make_comp(struct speck_port *port, uint16_t names, uint16_t pages, uint8_t live,
     uint16_t range, uint16_t frame, uint16_t table, uint16_t slot);
-struct speck_reply speck_map(struct speck_port *port, uint16_t p, uint16_t v, uint16_t r, uint16_t f, uint8_t w);
-struct speck_reply speck_unmap(struct speck_port *port, uint16_t p, uint16_t v);
-struct speck_reply speck_touch(struct speck_port *port, uint16_t v);
+struct speck_reply speck_map(struct speck_port *port, uint16_t pages, uint16_t page, uint16_t range, uint16_t frame, uint8_t flags);
+struct speck_reply speck_unmap(struct speck_port *port, uint16_t pages, uint16_t page);
+struct speck_reply speck_touch(struct speck_port *port, uint16_t page);
 struct speck_reply speck_flush(struct speck_port *port);
-struct speck_reply speck_gate(struct speck_port *port, uint16_t c, uint16_t t, uint16_t b);
-struct speck_reply speck_kill(struct speck_port *port, uint16_t c);
-struct speck_reply speck_call(struct speck_port *port, uint16_t g);
+struct speck_reply speck_gate(struct speck_port *port, uint16_t comp, uint16_t table, uint16_t slot);
+struct speck_reply speck_kill(struct speck_port *port, uint16_t comp);
+struct speck_reply speck_call(struct speck_port *port, uint16_t gate);
 struct speck_reply speck_ret(struct speck_port *port);
-struct speck_reply speck_switch(struct speck_port *port, uint16_t h, uint16_t q);
-struct speck_reply speck_tick(struct speck_port *port, uint32_t n);
-struct speck_reply speck_transfer(struct speck_port *port, uint16_t a, uint16_t b, uint32_t m);
-struct speck_reply speck_delegate(struct speck_port *port, uint16_t a, uint16_t b, uint32_t m);
-struct speck_reply speck_test(struct speck_port *port, uint16_t a, uint16_t b);
+struct speck_reply speck_switch(struct speck_port *port, uint16_t thread, uint16_t tcap);
+struct speck_reply speck_tick(struct speck_port *port, uint32_t ticks);
+struct speck_reply speck_transfer(struct speck_port *port, uint16_t source, uint16_t target, uint32_t ticks);
+struct speck_reply speck_delegate(struct speck_port *port, uint16_t source, uint16_t target, uint32_t ticks);
+struct speck_reply speck_test(struct speck_port *port, uint16_t first, uint16_t second);
+
+/* WHAT IS PROVED. Each function is a guard in C (c/guard.c) around an export of the crate speck_c, which is proved to do with what its
+ * slots hold what the kernel's contracts say: the call of one core of a machine whose calls are linearizable, each in its bound of steps.
+ * The guards keep a slot from being used twice at once and machines apart, which the exports ask of their callers; they are tested
+ * (c/misuses.c, and in bare/ with a trap after each instruction), not proved. */
 
 #ifdef __cplusplus
 }

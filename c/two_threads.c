@@ -2,6 +2,7 @@
  * fills and empties a place again and again, and makes a call anew where the answer advises that. */
 #include "speck.h"
 #include <pthread.h>
+#include <stdbool.h>
 #include <stdio.h>
 
 static void *copies(void *port) {
