@@ -1,0 +1,9 @@
+# Made by cli/pages from cli/commands.txt. Completes the words of speck in bash, once it is read: . cli/speck.bash
+_speck() {
+    local word=${COMP_WORDS[COMP_CWORD]}
+    COMPREPLY=()
+    if [ "$COMP_CWORD" -eq 1 ]; then
+        mapfile -t COMPREPLY < <(compgen -W 'replay trace draw origins run plain print ends sched check make load' -- "$word")
+    fi
+}
+complete -o default -F _speck speck ./speck
