@@ -1,8 +1,8 @@
 //! The steps of calls: one atomic step after another, as code.
 //!
 //! Each function computes one of `call_stages`, where the types and the definitions stand. A step stands with its stage, in the crate
-//! below that has it: up to its look-ups in `step_looks`, where its act begins and acquires its counts in `step_starts`, in its act in
-//! `step_ends`, and once it is decided in `step_stores`. Here they are chosen among.
+//! below that has it: up to its look-ups in `step_looks`, where its act begins in `step_starts`, its scan and its counts in `step_counts`,
+//! in its act in `step_ends` and `act_ends`, and once it is decided in `step_stores`. Here they are chosen among.
 //!
 //! **The life of a call.** It enters, asks whether its core's component lives, is undecided, is decided, and leaves, and these stages are
 //! the same for all calls, but that `ret`, `flush` and `tick` do not ask. The first step stores the core word with inside set and the stamp

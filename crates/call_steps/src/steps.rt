@@ -10,6 +10,7 @@ ghost use Rattle.step_looks.specs.word_map.specs.Moves.{op_of};
 ghost use Rattle.step_looks.specs.word_map.specs.Places.{size_of};
 
 use spk_nums::{EntryNo, Stamp, WordOp};
+use step_counts::{acquire_step, scan_step};
 use step_ends::act_step;
 use step_ends::call_acts::{act_op, act_ready};
 use step_ends::step_lands::goes_on;
@@ -19,7 +20,6 @@ use step_looks::call_stages::{ActiveCall, Stage, Told};
 use step_looks::frame_words::CoreWord;
 use step_looks::stage_look::Look;
 use step_looks::stage_pins::AcquiredCounts;
-use step_looks::step_starts::{acquire_step, scan_step};
 use step_looks::word_map::Layout;
 use step_looks::{ask, enter, look_up, read};
 use step_stores::{store, tail_op};

@@ -13,11 +13,12 @@ ghost use Rattle.step_lands.specs.act_states.specs.declared.work.WorkStep.TheVar
 ghost use Rattle.step_lands.specs.call_stages.specs.Fits.{StageFits};
 ghost use Rattle.step_lands.specs.call_stages.specs.Steps.{call_after, landed, told, took};
 
-use crate::ends::{act_lands, charged, flushed, removed, share_ends, stays_owed};
-use crate::entries::{invoke_ends, return_ends};
-use crate::switches::switch_ends;
-use call_acts::act_counts::ticks_of;
-use call_acts::act_moves;
+use act_ends::call_acts::act_counts::ticks_of;
+use act_ends::call_acts::act_moves;
+use act_ends::{
+    act_lands, charged, flushed, invoke_ends, removed, return_ends, share_ends, stays_owed,
+    switch_ends,
+};
 use spk_nums::{Reply, StageEnd, Value};
 use step_lands::act_states::{Act, Own, Refusal, Tail, Work};
 use step_lands::call_stages::{ActiveCall, Stage, Told};

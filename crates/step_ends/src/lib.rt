@@ -1,4 +1,4 @@
-//! The steps of a call's act, each in its place, and what they end in: the call is decided, or a count is to be acquired.
+//! The steps of a call's act, each in its place.
 //!
 //! `act_step` chooses by the act, and builds nothing.
 //!
@@ -6,10 +6,7 @@
 #![tactic(auto)]
 
 mod acts;
-mod ends;
-mod entries;
-mod switches;
 
+pub use act_ends::call_acts;
 pub use acts::act_step;
-pub use call_acts;
 pub use step_lands;

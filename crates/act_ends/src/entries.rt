@@ -23,7 +23,7 @@ use step_lands::{go_on, refused_late};
 /// A step of an entering that does not go on to the next load: after it the count of the component's frame is acquired, or the call is
 /// decided.
 #[inline(never)]
-pub(crate) fn invoke_ends(active: &mut ActiveCall, own: &Own, found: u64, tells: &mut Told)
+pub fn invoke_ends(active: &mut ActiveCall, own: &Own, found: u64, tells: &mut Told)
     requires fits { StageFits own.now.layout active.old.stage }
     requires invokes { IsInvoking active.old.stage }
     requires few { active.old.steps < 1000 }
@@ -158,7 +158,7 @@ fn entered(
 
 /// A step of a leaving that does not go on to the next load: after it the count of the top's frame is acquired, or the call is decided.
 #[inline(never)]
-pub(crate) fn return_ends(active: &mut ActiveCall, own: &Own, found: u64, tells: &mut Told)
+pub fn return_ends(active: &mut ActiveCall, own: &Own, found: u64, tells: &mut Told)
     requires fits { StageFits own.now.layout active.old.stage }
     requires returns { IsReturning active.old.stage }
     requires few { active.old.steps < 1000 }

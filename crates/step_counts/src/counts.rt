@@ -7,7 +7,7 @@ ghost use Rattle.step_lands.specs.act_states.specs.declared.work.WorkStep.TheVar
 ghost use Rattle.step_lands.specs.call_stages.specs.Fits.{StageFits};
 ghost use Rattle.step_lands.specs.call_stages.specs.Steps.{call_after, landed, told, took};
 
-use begin_acts::act_counts::{cap_due, next_work, starts, undo};
+use act_counts::{cap_due, next_work, starts, undo};
 use spk_nums::{Cap, StageEnd};
 use step_lands::act_states::{Act, Fill, Own, Refusal, Work};
 use step_lands::call_stages::{ActiveCall, Stage, Told};

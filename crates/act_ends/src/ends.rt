@@ -28,7 +28,7 @@ use step_lands::{decide, go_on, goes_on, land, refused, refused_late};
 
 /// A removal is carried out, and has the entry still to store: it stands here.
 #[inline(never)]
-pub(crate) fn removed(active: &mut ActiveCall, close: &Close, tells: &mut Told)
+pub fn removed(active: &mut ActiveCall, close: &Close, tells: &mut Told)
     requires few { active.old.steps < 1000 }
     requires going { tells.old ≡ Told.Going }
     ensures told { tells.new ≡ told (landed active.old (Answers Nothing (drawn_by close.now) (tail.Quiesce close.now))) }
@@ -49,7 +49,7 @@ pub(crate) fn removed(active: &mut ActiveCall, close: &Close, tells: &mut Told)
 
 /// So many ticks, as this value says, are charged of those that are due.
 #[inline(never)]
-pub(crate) fn charged(active: &mut ActiveCall, due: u64, value: &Value, tells: &mut Told)
+pub fn charged(active: &mut ActiveCall, due: u64, value: &Value, tells: &mut Told)
     requires few { active.old.steps < 1000 }
     requires going { tells.old ≡ Told.Going }
     ensures told { tells.new
@@ -69,7 +69,7 @@ pub(crate) fn charged(active: &mut ActiveCall, due: u64, value: &Value, tells: &
 
 /// A tick is refused with this reply, and all ticks that are due stay owed.
 #[inline(never)]
-pub(crate) fn stays_owed(active: &mut ActiveCall, due: u64, reply: &Reply, tells: &mut Told)
+pub fn stays_owed(active: &mut ActiveCall, due: u64, reply: &Reply, tells: &mut Told)
     requires few { active.old.steps < 1000 }
     requires going { tells.old ≡ Told.Going }
     ensures told { tells.new ≡ told (landed active.old (owes reply.now due)) }
@@ -110,13 +110,7 @@ fn changes(active: &mut ActiveCall, reply: &Reply, change: &OwnChange, tells: &m
 
 /// A flush of a core has found this clock: it is carried out, and has its stamp still to store.
 #[inline(never)]
-pub(crate) fn flushed(
-    active: &mut ActiveCall,
-    own: &Own,
-    core: CoreNo,
-    found: u64,
-    tells: &mut Told,
-)
+pub fn flushed(active: &mut ActiveCall, own: &Own, core: CoreNo, found: u64, tells: &mut Told)
     requires core { core < own.now.layout.cores }
     requires few { active.old.steps < 1000 }
     requires going { tells.old ≡ Told.Going }
@@ -146,7 +140,7 @@ pub(crate) fn flushed(
 
 /// A step of the call's act, after which the same act does not go on, or of an act whose steps are not made in its place.
 #[inline(never)]
-pub(crate) fn act_lands(active: &mut ActiveCall, own: &Own, found: u64, tells: &mut Told)
+pub fn act_lands(active: &mut ActiveCall, own: &Own, found: u64, tells: &mut Told)
     requires fits { StageFits own.now.layout active.old.stage }
     requires acting { IsActing active.old.stage }
     requires few { active.old.steps < 1000 }
@@ -170,7 +164,7 @@ pub(crate) fn act_lands(active: &mut ActiveCall, own: &Own, found: u64, tells: &
 
 /// A step of a call on two temporal capabilities, after which it does not go on.
 #[inline(never)]
-pub(crate) fn share_ends(active: &mut ActiveCall, end: &StageEnd<Value>, tells: &mut Told)
+pub fn share_ends(active: &mut ActiveCall, end: &StageEnd<Value>, tells: &mut Told)
     requires shares { IsSharing active.old.stage }
     requires few { active.old.steps < 1000 }
     requires going { tells.old ≡ Told.Going }

@@ -19,7 +19,7 @@ use step_lands::stage_thread::Claimed;
 
 /// A step of a switch that does not go on to the next: after it the first count is acquired, or the call is decided.
 #[inline(never)]
-pub(crate) fn switch_ends(active: &mut ActiveCall, own: &Own, found: u64, tells: &mut Told)
+pub fn switch_ends(active: &mut ActiveCall, own: &Own, found: u64, tells: &mut Told)
     requires fits { StageFits own.now.layout active.old.stage }
     requires switches { IsSwitching active.old.stage }
     requires few { active.old.steps < 1000 }
