@@ -6,7 +6,7 @@ ghost use Rattle.speck_run.specs.Top.{IsDueOf};
 
 use crate::answers::{Answer, line, made, refuse};
 use crate::ends::make_ends;
-use crate::replay::replay;
+use crate::given::replay;
 use crate::runs::run_lists;
 use crate::top::Status;
 use crate::words::Command;

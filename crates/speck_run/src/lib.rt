@@ -6,9 +6,9 @@
 mod answers;
 mod closed;
 mod ends;
+mod given;
 mod inputs;
 mod orders;
-mod replay;
 mod runs;
 mod summary;
 mod text;
@@ -17,7 +17,7 @@ mod words;
 
 pub use ends::make_ends;
 pub use ends_run::core_runs::{FreeGate, Gate};
-pub use replay::replay;
+pub use given::replay;
 pub use runs::run_lists;
 pub use summary::{Summed, sum_up};
 pub use top::{Status, speck};

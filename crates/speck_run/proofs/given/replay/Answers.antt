@@ -11,7 +11,7 @@ use Rattle.trace_run.specs.lone_kernel.specs.core_invariant.proofs.Sounds.{limit
 use Rattle.trace_run.specs.lone_kernel.specs.flight_laws.proofs.Histories.{made_histories}
 use Rattle.speck_run.specs.Written.{lines_of}
 use Rattle.speck_run.proofs.Finish.{all_out, run, given}
-use Rattle.speck_run.proofs.replay.replay.Goals as goal
+use Rattle.speck_run.proofs.given.replay.Goals as goal
 
 pub close-requires : goal.close-requires
 close-requires c =
