@@ -13,8 +13,8 @@ use Rattle.kernel_rules.specs.GracePeriods.{entered, returned}
 use Rattle.kernel_rules.specs.CallRelation.{state_by}
 use Rattle.kernel_history.specs.BootWords.{boot_word}
 
--- An atomic step of a core: its operation on a word, the value found there, and the events of the core's call at it: invocation,
--- decision (the linearization point) and response. What it leaves in the word is a function of the operation and of what it found.
+-- An atomic step of a core: its operation on a word, the value found there, and the events of the core's call at it: it enters,
+-- decides (the call takes effect there) or returns. What it leaves in the word is a function of the operation and of what it found.
 pub record Step : Type 0 where
   pub core : ℕ
   pub move : Move

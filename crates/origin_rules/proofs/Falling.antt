@@ -1,4 +1,4 @@
--- Rights only fall along a chain.
+-- Rights only fall along a chain of copies.
 use Rattle.std.proofs.Common.{◌≡◌, ℕ, sym, ◌∙◌, ap, subst, IsTrue}
 use Rattle.std.proofs.lemmas.Bool.{eqb-true, eq-eqb}
 use Rattle.std.specs.Int.Bits.{bit_and, and_self}

@@ -7,8 +7,8 @@
 //! **As the parent stood.** The parent is what the name led to when the call was decided. It may have been removed while the call was in
 //! progress, and it may stand in the very place that the call fills.
 //!
-//! **Laws.** Every chain is real: each of its links is a decision of the run that named a parent with the rest of the chain. And rights
-//! only fall along it.
+//! **Laws.** Every chain is real: each of its links is a decision of the run that named a parent with the rest of the chain. And along
+//! copies rights only fall: a copy has no right that what it was copied from lacks. What is made, and a gate, has both rights.
 //!
 //! See docs/ORIGINS.md.
 #![tactic(auto)]
