@@ -1,0 +1,29 @@
+use Rattle.std.proofs.Common.{◌≡◌, ◌∙◌, None, All, map, ap, sym, subst}
+use Rattle.call_steps.specs.call_stages.specs.Cores.{end_of}
+use Rattle.core_kernel.specs.Kernel.{AreAllSeats}
+use Rattle.core_kernel.specs.Calls.{EndsAt}
+use Rattle.core_kernel.proofs.Closing.{all_unwrapped, ended_between, ends_at}
+use Rattle.core_kernel.proofs.kernel.Kernel.finish_in.Goals as goal
+
+pub close_in-requires : goal.close_in-requires
+close_in-requires c =
+    let all = subst (λ k. AreAllSeats k c.args.seats.items) (sym c.self.view_is) c.requires.seats in
+    all_unwrapped c.self.inside.setup c.self.inside.table c.self.invariant c.turn_seats_of-turn_seats.result.items c.args.seats.items
+    c.turn_seats_of-turn_seats.ensures all
+
+pub ends_of-requires : goal.ends_of-requires
+ends_of-requires c =
+    let all = subst (λ k. AreAllSeats k c.args.seats.items) (sym c.self.view_is) c.requires.seats in
+    subst (All (λ p. p.state.active ≡ None)) (sym c.deref.ensures.value)
+    (ended_between c.self.inside.setup c.self.inside.table c.self.invariant c.turn_seats_of-turn_seats.result.items c.args.seats.items
+    c.turn_seats_of-turn_seats.ensures all
+    c.close_in.result.0.items c.close_in.result.1.items c.close_in.ensures)
+
+pub returns-clause-ends : goal.returns-clause-ends
+returns-clause-ends c =
+    let all = subst (λ k. AreAllSeats k c.args.seats.items) (sym c.self.view_is) c.requires.seats in
+    subst (λ k. EndsAt k c.args.seats.items c.close_in.result.0.items c.ends_of-ends.result.items) c.self.view_is
+    (ends_at c.self.inside.setup c.self.inside.table c.self.invariant c.turn_seats_of-turn_seats.result.items c.args.seats.items
+    c.turn_seats_of-turn_seats.ensures all
+    c.close_in.result.0.items c.close_in.result.1.items c.close_in.ensures c.ends_of-ends.result.items (c.ends_of-ends.ensures
+    ∙ ap (map (λ p. end_of p.state)) c.deref.ensures.value))
