@@ -14,7 +14,7 @@ mod seats;
 mod threads;
 
 pub use core_kernel::CoreNote;
-pub use finish::FinishFault;
+pub use finish::{FinishFault, Unfinished};
 pub use port::Port;
 pub use seats::Seats;
 pub use threads::cross_threads;
