@@ -1,5 +1,5 @@
 use Rattle.std.proofs.Common.{rules, arith, ◌≡◌, ◌∙◌, ◌++◌, ◌<◌, ◌≤◌, [], ◌∷◌, length, map, ap, sym, subst, map-id, All}
-use Rattle.std.proofs.lemmas.List.{map-append}
+use Rattle.std.proofs.lemmas.List.{length-map, map-append}
 use Rattle.std.proofs.lemmas.List.Elements.{All-get_or, All-push}
 use Rattle.std.proofs.lemmas.Iterator.Consumers.{YieldsList-turn, YieldsList-end}
 use Rattle.std.proofs.lemmas.Iterator.Adapters.{YieldsList-from_vec}
@@ -44,3 +44,14 @@ returns c =
     (search rules)) c.loop-one.yielded c.loop-one.one-iterator c.loop-one.yielded_by c.next.result c.next.new.self c.in-None.is
     c.next.ensures.steps in
     subst (λ l. AreWrapped c.args.setup.now c.loop-one.turn_seats.items l) (sym (map-id c.loop-one.yielded) ∙ end.0) c.loop-one.invariant.0
+
+pub push_reserved-requires : goal.push_reserved-requires
+push_reserved-requires c =
+    let turn = YieldsList-turn (YieldsList-from_vec {s = c.into_iter-one-iterator.result} c.args.seats.items (search rules)
+    (search rules)) c.loop-one.yielded c.loop-one.one-iterator c.loop-one.yielded_by c.next.result c.next.new.self c.in-Some.one
+    c.in-Some.is c.next.ensures.steps in
+    let seats = c.loop-one.turn_seats in
+    let count = sym (length-map (seat_value c.args.setup.now) seats.items) ∙ ap length c.loop-one.invariant.0.same in
+    let lt = turn.0 in
+    let len = seats.ok.0 in
+    let room = c.loop-one.invariant.1 in omega arith

@@ -5,14 +5,14 @@ use Rattle.core_kernel.specs.Calls.{EndsAt}
 use Rattle.core_kernel.proofs.Closing.{all_unwrapped, ended_between, ends_at}
 use Rattle.core_kernel.proofs.kernel.Kernel.finish_in.Goals as goal
 
-pub close_in-requires : goal.close_in-requires
-close_in-requires c =
+pub close_in-requires-clause-seats : goal.close_in-requires-clause-seats
+close_in-requires-clause-seats c =
     let all = subst (λ k. AreAllSeats k c.args.seats.items) (sym c.self.view_is) c.requires.seats in
     all_unwrapped c.self.inside.setup c.self.inside.table c.self.invariant c.turn_seats_of-turn_seats.result.items c.args.seats.items
     c.turn_seats_of-turn_seats.ensures all
 
-pub ends_of-requires : goal.ends_of-requires
-ends_of-requires c =
+pub ends_of-requires-clause-between : goal.ends_of-requires-clause-between
+ends_of-requires-clause-between c =
     let all = subst (λ k. AreAllSeats k c.args.seats.items) (sym c.self.view_is) c.requires.seats in
     subst (All (λ p. p.state.active ≡ None)) (sym c.deref.ensures.value)
     (ended_between c.self.inside.setup c.self.inside.table c.self.invariant c.turn_seats_of-turn_seats.result.items c.args.seats.items
