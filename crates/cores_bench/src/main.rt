@@ -91,7 +91,7 @@ enum Asked {
     Count { work: Work, calls: u32 },
 }
 
-fn asked(rt: &HostRuntime) -> Option<Asked> {
+fn asked_by(rt: &HostRuntime) -> Option<Asked> {
     let mut args = env::args(rt).ok()?;
     let _name = args.next();
     let Some(word) = args.next() else {
@@ -121,7 +121,7 @@ fn work_of(word: &str) -> Option<Work> {
 
 fn main(rt: HostRuntime) -> ExitCode {
     let alloc = rt.alloc();
-    let printed = match asked(&rt) {
+    let printed = match asked_by(&rt) {
         Some(Asked::Few) => print_few(&rt, alloc),
         Some(Asked::Times) => print_times(&rt, alloc),
         Some(Asked::One) => print_one(&rt, alloc),

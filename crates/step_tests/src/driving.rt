@@ -109,7 +109,6 @@ fn a_copy_makes_fifteen_steps_and_is_ready_at_the_compare_of_its_target(rt: Host
         word: 5,
     };
     let leaves = WordOp::Store { at: 528, word: 14 };
-    let ok = Reply::Ok(Value::Nothing);
     let rows = [
         stores(528, 1, false),
         loads(194, 0x40, false),
@@ -122,10 +121,15 @@ fn a_copy_makes_fifteen_steps_and_is_ready_at_the_compare_of_its_target(rt: Host
         loads(84, 0, false),
         loads(520, TWO, false),
         (acquires, TWO, Absorbed::Going, false),
-        (fills, 0, Absorbed::Decided(ok), true),
+        (fills, 0, Absorbed::Decided(Reply::Ok(Value::Nothing)), true),
         stores(520, THREE, true),
         loads(594, 7, true),
-        (leaves, 14, Absorbed::Returned(ok), true),
+        (
+            leaves,
+            14,
+            Absorbed::Returned(Reply::Ok(Value::Nothing)),
+            true,
+        ),
     ];
     let Some(mut core) = core_of(9) else {
         panic!(rt; "no core");

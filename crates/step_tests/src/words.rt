@@ -41,22 +41,29 @@ fn are_decided(rows: &[(Call, &[u64], Reply)]) -> Option<usize> {
     Some(at)
 }
 
+fn busy() -> Reply {
+    Reply::Busy(CoreNo::new(1))
+}
+
+// Whether the call is decided with this reply where it finds this word of its component's liveness number.
+fn is_asked(call: &Call, word: u64, reply: Reply) -> bool {
+    let found = [1, COMP, word];
+    let rows: [(Call, &[u64], Reply); 1] = [(*call, &found, reply)];
+    are_decided(&rows) == Some(1)
+}
+
 #[test]
 fn a_call_asks_whether_its_component_lives_before_all_else(rt: HostRuntime) {
-    let busy = Reply::Busy(CoreNo::new(1));
-    let mut rows = 0;
-    for call in [look(63), look(4096), copy(63, 0)] {
+    let calls = [look(63), look(4096), copy(63, 0)];
+    let mut asked = true;
+    for call in &calls {
         // Live in another epoch, dead, and closed by core 1.
-        let asked: [(Call, &[u64], Reply); 3] = [
-            (call, &[1, COMP, 0xc_0009], Reply::Dead),
-            (call, &[1, COMP, 0x50_0000_0007], Reply::Dead),
-            (call, &[1, COMP, 0x800_0006], busy),
-        ];
-        if are_decided(&asked) == Some(3) {
-            rows += 1;
-        }
+        asked = asked
+            && is_asked(call, 0xc_0009, Reply::Dead)
+            && is_asked(call, 0x50_0000_0007, Reply::Dead)
+            && is_asked(call, 0x800_0006, busy());
     }
-    assert!(rt; rows == 3);
+    assert!(rt; asked);
     let unasked: [(Call, &[u64], Reply); 2] = [
         (Call::Flush, &[1, 9], Reply::Ok(Value::Nothing)),
         (Call::Ret, &[1], Reply::Bottom),
@@ -74,7 +81,6 @@ fn retype(f: u16) -> Call {
 
 #[test]
 fn a_call_is_refused_at_the_first_cause(rt: HostRuntime) {
-    let busy = Reply::Busy(CoreNo::new(1));
     let rows: [(Call, &[u64], Reply); 10] = [
         (look(63), &[1, COMP, LIVES, LINK, 0], Reply::Empty),
         (look(0), &[1, COMP, LIVES, TABLE], Reply::NoSlot),
@@ -94,15 +100,15 @@ fn a_call_is_refused_at_the_first_cause(rt: HostRuntime) {
         (
             copy(0, 0),
             &[1, COMP, LIVES, LINK, RANGE, LINK, CLOSING],
-            busy,
+            busy(),
         ),
         (
             copy(1, 20),
             &[1, COMP, LIVES, LINK, TABLE, LINK, TABLE, LINK, 0, TWO_BY_1],
-            busy,
+            busy(),
         ),
         (retype(8), &[1, COMP, LIVES, LINK, RANGE], Reply::OutOfRange),
-        (retype(6), &[1, COMP, LIVES, LINK, RANGE, 130], busy),
+        (retype(6), &[1, COMP, LIVES, LINK, RANGE, 130], busy()),
     ];
     assert!(rt; are_decided(&rows) == Some(10));
 }
