@@ -1,7 +1,8 @@
 //! A machine with endpoints: its ports are dealt, and come back.
 
-ghost use Rattle.std.specs.Prelude.{◌≡◌, ◌+◌, ◌<◌, ◌++◌, ◌∷◌, ◌↔◌, ℕ, [], length, All, IfOk, IfSome, IsSome, MatchOption};
+ghost use Rattle.std.specs.Prelude.{◌≡◌, ◌+◌, ◌<◌, ◌++◌, ◌∷◌, ◌↔◌, [], length, IfOk, IfSome, IsSome, MatchOption};
 ghost use Rattle.std.specs.Arc.{arc_value};
+ghost use Rattle.async_ends.specs.Tables.{AreAllSeats};
 ghost use Rattle.end_ports.specs.Ports.{IsPortDealt};
 
 use crate::end::End;
@@ -39,7 +40,7 @@ fn ends_of(
     seats: Vec<EndSeat>,
 ) -> Result<Vec<End>, AllocError>
     requires frames { (arc_value table.now).frames ≡ 512 }
-    requires seats { All (λ s. s.table ≡ arc_value table.now) seats.items }
+    requires seats { AreAllSeats (arc_value table.now) seats.items }
     ensures { IfOk result (λ v. v.items ≡ seats.items) }
 {
     let mut ends = Vec::with_capacity(alloc, seats.len())?;
