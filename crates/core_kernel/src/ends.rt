@@ -117,6 +117,27 @@ impl Model for Room {
         × ((r.ends.items ≡ []) × (r.setup.cores ≤ vec_capacity r.ends)) };
 }
 
+// Room for what kernels of this setup leave behind.
+fn room_of(alloc: Global, setup: &Setup) -> Result<Room, Memory>
+    ensures { IfOk result (λ room. room ≡ setup.now) }
+{
+    let Some(layout) = Layout::new(setup.cores(), setup.frames()) else {
+        unreachable!()
+    };
+    let cores = usize::from(setup.cores());
+    let words = vec![in alloc; 0; layout.size() as usize]?;
+    let turn_seats = Vec::with_capacity(alloc, cores)?;
+    let programs = Vec::with_capacity(alloc, cores)?;
+    let ends = Vec::with_capacity(alloc, cores)?;
+    Ok(Room {
+        setup: *setup,
+        words,
+        turn_seats,
+        programs,
+        ends,
+    })
+}
+
 impl Kernel {
     /// The kernel of a machine that has just booted, and a seat for each core, core 0 first. Each seat has seen the empty
     /// trace. It fails only where memory runs out.
@@ -140,18 +161,7 @@ impl Kernel {
     pub fn room(&self, alloc: Global) -> Result<Room, Memory>
         ensures { IfOk result (λ room. room ≡ self.now.setup) }
     {
-        let cores = usize::from(self.setup.cores());
-        let words = vec![in alloc; 0; self.table.word_count()]?;
-        let turn_seats = Vec::with_capacity(alloc, cores)?;
-        let programs = Vec::with_capacity(alloc, cores)?;
-        let ends = Vec::with_capacity(alloc, cores)?;
-        Ok(Room {
-            setup: self.setup,
-            words,
-            turn_seats,
-            programs,
-            ends,
-        })
+        room_of(alloc, &self.setup)
     }
 
     /// The words and where each core ended, given all seats in the order of their cores. It fails only where memory runs out.
@@ -182,8 +192,9 @@ impl Kernel {
         let Some(layout) = Layout::new(setup.cores(), setup.frames()) else {
             unreachable!()
         };
-        let turn_seats = turn_seats_of(turn_seats, &setup, seats);
-        let (words, programs) = table.close_in(words, programs, turn_seats);
+        let given = turn_seats_of(turn_seats, &setup, seats);
+        let closed = table.close_in(words, programs, given);
+        let (words, programs) = closed;
         let ends = ends_of(ends, &programs);
         Closed {
             layout,

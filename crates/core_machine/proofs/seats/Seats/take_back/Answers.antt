@@ -15,3 +15,13 @@ invariant_of-self c =
     let core = c.requires.core ∙ sym (ap (λ (v : SeatsValue). length v.back) c.self.view_is) in
     let all = back_on (arc_value m.kernel) m.here.items back now c.args.port is own core c.self.invariant.1.0 in
     (c.self.invariant.0, all, subst (λ k. m.setup.cores ≤ k) (sym c.push_reserved.ensures.capacity) c.self.invariant.1.1)
+
+pub push_reserved-requires : goal.push_reserved-requires
+push_reserved-requires c =
+    let m = c.self.inside in
+    let kernel = c.requires.kernel ∙ sym (ap (λ (v : SeatsValue). v.kernel) c.self.view_is) in
+    let cores = ap (λ k. k.setup.cores) kernel ∙ ap (λ s. s.cores) c.self.invariant.0 in
+    let core = c.requires.core ∙ sym (ap (λ (v : SeatsValue). length v.back) c.self.view_is) in
+    let inside = c.core-_core.ensures.inside in
+    let len = m.back.ok.0 in
+    let room = c.self.invariant.1.1 in omega arith
