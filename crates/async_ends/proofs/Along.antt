@@ -1,6 +1,6 @@
 -- What holds along a sound trace of the table: the words are the counts of a legal history.
-use Rattle.std.proofs.Common.{◌≡◌, ◌≢◌, ◌⊎◌, ℕ, ◌+◌, ◌*◌, ◌<◌, ◌≤◌, ◌^◌, List, [], ◌∷◌, ◌++◌, Option, Some, None}
-use Rattle.std.proofs.Common.{inl, inr, ⊎_elim, refl, sym, ap, ◌∙◌, subst, arith}
+use Rattle.std.proofs.Common.{◌≡◌, ◌≢◌, ℕ, ◌+◌, ◌*◌, ◌<◌, ◌≤◌, ◌^◌, List, [], ◌∷◌, Option, Some, None}
+use Rattle.std.proofs.Common.{refl, sym, ap, ◌∙◌, subst, arith}
 use mathlib.Core.Logic.{dite}
 use native.Mathlib.Decide.{ℕ_discrete}
 use Rattle.turn_rule.specs.declared.view.Entry.{Entry}
@@ -8,15 +8,12 @@ use Rattle.turn_rule.specs.declared.view.Start.{Start}
 use Rattle.turn_rule.specs.Trace.{word_after, program_after, MayFollow, IsSound}
 use Rattle.turn_rule.proofs.Traces.{kept_along, word_here, word_elsewhere, program_here, program_elsewhere, core_inside}
 use Rattle.async_ends.specs.declared.endpoint.EndCall.{EndCall}
-use Rattle.async_ends.specs.declared.run.EndStage.{EndStage}
-use Rattle.async_ends.specs.declared.run.EndStage.TheVariants.{Idle, Adds, Loads, Takes}
-use Rattle.async_ends.specs.Events.{Event, AreOfOthers, IsLegal, WasCrossed, untaken}
+use Rattle.async_ends.specs.Events.{Event, event, count_by, sends_in, receiving, AreOfOthers, IsLegal, untaken}
 use Rattle.async_ends.specs.Running.{EndCore, most_calls, end_steps}
-use Rattle.async_ends.specs.Seen.{noted, history_of}
+use Rattle.async_ends.specs.Seen.{history_of}
 use Rattle.async_ends.specs.Tables.{IsStart}
-use Rattle.async_ends.proofs.Histories.{counted, sends, untaken_here, untaken_elsewhere, untaken_at_most, legal_noted, others_noted}
-use Rattle.async_ends.proofs.Histories.{crossed_noted, crossed_now}
-use Rattle.async_ends.proofs.Steps.{Knows, Rests, Did, made_of, did}
+use Rattle.async_ends.proofs.Histories.{untaken_here, untaken_elsewhere, untaken_at_most, receiving_here, receiving_elsewhere}
+use Rattle.async_ends.proofs.Steps.{Knows, Did, made_of, did}
 use Rattle.async_ends.proofs.Totals.{total, total_changed, total_at_most}
 
 module _ (frames cores : ℕ) (start : Start EndCore) (is : IsStart frames cores start) where
@@ -30,7 +27,7 @@ module _ (frames cores : ℕ) (start : Start EndCore) (is : IsStart frames cores
   pub record Good (t : List (Entry EndCall)) (c : ℕ) (p : EndCore) : Type 0 where
     pub most : p.begun ≤ most_calls
     pub frames_are : p.frames ≡ frames
-    pub knows : Knows (word_after start t) (history_of t) c p.stage
+    pub knows : Knows (receiving (history_of t) c) p.stage
 
   pub record Kept (t : List (Entry EndCall)) : Type 0 where
     pub counts : (f : ℕ) → word_after start t f ≡ untaken (history_of t) f
@@ -46,7 +43,7 @@ module _ (frames cores : ℕ) (start : Start EndCore) (is : IsStart frames cores
     legal = tt;
     inside = λ c past. tt;
     good = λ c p runs. let new = is.each c p runs in
-        subst (Good [] c) (sym new) record { most = omega arith; frames_are = refl; knows = tt };
+        subst (Good [] c) (sym new) record { most = omega arith; frames_are = refl; knows = refl };
   }
 
   module _ (t : List (Entry EndCall)) (e : Entry EndCall) (m : MayFollow end_steps start t e) (k : Kept t) where
@@ -75,25 +72,28 @@ module _ (frames cores : ℕ) (start : Start EndCore) (is : IsStart frames cores
     q = made_of m.program e.call m.step.op e.found
 
     d : Did h e.core e.at e.found e.left e.call m.program q
-    d = did (word_after start t) h e.core e.at e.found e.left m.step.op m.step.place m.step.left (m.found ∙ k.counts e.at) small
-        m.program e.call m.step.may mine.most mine.knows m.found m.step.next
+    d = did h e.core e.at e.found e.left m.step.op m.step.place m.step.left (m.found ∙ k.counts e.at) small
+        m.program e.call m.step.may mine.most mine.knows m.step.next
+
+    abbrev new : Event
+    new = event e.core e.at d.step
 
     abbrev grown : List Event
-    grown = noted e.core e.at d.act ++ h
+    grown = new ∷ h
 
     now : history_of (e ∷ t) ≡ grown
-    now = ap (λ a. noted e.core e.at a ++ h) d.is
+    now = ap (λ s. event e.core e.at s ∷ h) d.is
 
     runs_here : program_after end_steps start (e ∷ t) e.core ≡ Some q
     runs_here = program_here end_steps start e t e.core m.program refl m.runs m.step
 
     counts : (f : ℕ) → word_after start (e ∷ t) f ≡ untaken grown f
     counts f = dite (ℕ_discrete e.at f)
-        (λ (same : e.at ≡ f). word_here start e t f same ∙ d.count ∙ ap (counted d.act) (m.found ∙ k.counts e.at ∙ ap (untaken h) same)
-        ∙ sym (untaken_here h e.core e.at d.act f same))
-        (λ (other : e.at ≢ f). word_elsewhere start e t f other ∙ k.counts f ∙ sym (untaken_elsewhere h e.core e.at d.act f other))
+        (λ (same : e.at ≡ f). word_here start e t f same ∙ d.count ∙ ap (count_by d.step) (m.found ∙ k.counts e.at ∙ ap (untaken h) same)
+        ∙ sym (untaken_here new h f same))
+        (λ (other : e.at ≢ f). word_elsewhere start e t f other ∙ k.counts f ∙ sym (untaken_elsewhere new h f other))
 
-    more : total (begun_after t) cores + sends d.act ≤ total (begun_after (e ∷ t)) cores
+    more : total (begun_after t) cores + sends_in d.step ≤ total (begun_after (e ∷ t)) cores
     more =
         let inside = core_inside end_steps start t e.core m.program m.runs in
         let count = is.count in
@@ -104,35 +104,12 @@ module _ (frames cores : ℕ) (start : Start EndCore) (is : IsStart frames cores
         let step = d.more in
         omega arith
 
-    knows_here : (stage : EndStage) → Rests e.at e.left stage → Knows (word_after start (e ∷ t)) grown e.core stage
-    knows_here Idle rests = tt
-    knows_here (Adds f) rests = rests
-    knows_here (Loads f) rests = rests
-    knows_here (Takes f n) rests = (rests.1, inl (word_here start e t f rests.0 ∙ rests.2))
-
-    still : (c f n : ℕ) → e.core ≢ c → (word_after start t f ≡ n) ⊎ WasCrossed h c f
-        → (word_after start (e ∷ t) f ≡ n) ⊎ WasCrossed grown c f
-    still c f n other (inr w) = inr (crossed_noted h e.core e.at d.act c f other w)
-    still c f n other (inl same) = dite (ℕ_discrete e.at f)
-        (λ (here : e.at ≡ f). ⊎_elim
-        (λ (left : e.left ≡ e.found). inl (word_here start e t f here ∙ left ∙ m.found ∙ ap (word_after start t) here ∙ same))
-        (λ moves. inr (crossed_now h e.core e.at d.act c f other here moves))
-        d.moves)
-        (λ (elsewhere : e.at ≢ f). inl (word_elsewhere start e t f elsewhere ∙ same))
-
-    knows_elsewhere : (c : ℕ) (stage : EndStage) → e.core ≢ c → Knows (word_after start t) h c stage
-        → Knows (word_after start (e ∷ t)) grown c stage
-    knows_elsewhere c Idle other knows = tt
-    knows_elsewhere c (Adds f) other knows = knows
-    knows_elsewhere c (Loads f) other knows = knows
-    knows_elsewhere c (Takes f n) other knows = (knows.0, still c f n other knows.1)
-
-    good_now : (c : ℕ) (p : EndCore) → p.begun ≤ most_calls → p.frames ≡ frames → Knows (word_after start (e ∷ t)) grown c p.stage
+    good_now : (c : ℕ) (p : EndCore) → p.begun ≤ most_calls → p.frames ≡ frames → Knows (receiving grown c) p.stage
         → Good (e ∷ t) c p
     good_now c p most frames_are knows = record {
       most = most;
       frames_are = frames_are;
-      knows = subst (λ l. Knows (word_after start (e ∷ t)) l c p.stage) (sym now) knows;
+      knows = subst (λ l. Knows (receiving l c) p.stage) (sym now) knows;
     }
 
     good : (c : ℕ) (p : EndCore) → program_after end_steps start (e ∷ t) c ≡ Some p → Good (e ∷ t) c p
@@ -141,10 +118,11 @@ module _ (frames cores : ℕ) (start : Start EndCore) (is : IsStart frames cores
         let ran : program_after end_steps start (e ∷ t) e.core ≡ Some p = ap (program_after end_steps start (e ∷ t)) same ∙ runs in
         let it : q ≡ p = the_same q p (program_after end_steps start (e ∷ t) e.core) runs_here ran in
         subst (λ (z : ℕ × EndCore). Good (e ∷ t) z.0 z.1) (λ i. (same i, it i))
-        (good_now e.core q d.most (d.frames_are ∙ mine.frames_are) (knows_here q.stage d.rests)))
+        (good_now e.core q d.most (d.frames_are ∙ mine.frames_are)
+        (subst (λ o. Knows o q.stage) (sym (receiving_here new h e.core refl)) d.knows)))
         (λ (other : e.core ≢ c).
         let was = k.good c p (sym (program_elsewhere end_steps start e t c other) ∙ runs) in
-        good_now c p was.most was.frames_are (knows_elsewhere c p.stage other was.knows))
+        good_now c p was.most was.frames_are (subst (λ o. Knows o p.stage) (sym (receiving_elsewhere new h c other)) was.knows))
       where
         the_same : (x y : EndCore) (o : Option EndCore) → o ≡ Some x → o ≡ Some y → x ≡ y
         the_same x y o i j = cc
@@ -153,11 +131,12 @@ module _ (frames cores : ℕ) (start : Start EndCore) (is : IsStart frames cores
     keeps = record {
       counts = λ f. counts f ∙ ap (λ l. untaken l f) (sym now);
       few = λ f. subst (λ l. untaken l f ≤ total (begun_after (e ∷ t)) cores) (sym now)
-          (untaken_at_most h e.core e.at d.act f (total (begun_after t) cores) (total (begun_after (e ∷ t)) cores) (k.few f) more);
-      legal = subst IsLegal (sym now) (legal_noted h e.core e.at d.act k.legal d.may);
-      inside = λ c past. subst (AreOfOthers c) (sym now) (others_noted h e.core e.at d.act c
-          (λ same. let inside = core_inside end_steps start t e.core m.program m.runs in let count = is.count in omega arith)
-          (k.inside c past));
+          (untaken_at_most new h f (total (begun_after t) cores) (total (begun_after (e ∷ t)) cores) (k.few f) more);
+      legal = subst IsLegal (sym now) (k.legal, d.may);
+      inside = λ c past. subst (AreOfOthers c) (sym now) (
+        (λ same. let inside = core_inside end_steps start t e.core m.program m.runs in let count = is.count in omega arith),
+        k.inside c past,
+      );
       good = good;
     }
 

@@ -1,19 +1,32 @@
 -- What a call adds to the events of its core, and that the sends to a frame are those of all cores.
 use Rattle.std.proofs.Common.{◌≡◌, ◌≢◌, inl, inr, ℕ, zero, suc, ◌+◌, ◌<◌, ◌≤◌, ◌==◌, List, [], ◌∷◌, ◌++◌, if◌then◌else◌}
-use Rattle.std.proofs.Common.{Some, Result, Ok, Err, refl, sym, ap, ◌∙◌, subst, arith, append-nil, eq-eqb, ne_eqb}
+use Rattle.std.proofs.Common.{Some, None, Result, Ok, Err, refl, sym, ap, ◌∙◌, subst, arith, append-nil, append_assoc, eq-eqb, ne_eqb}
+use Rattle.std.specs.List.{flat_map}
 use Rattle.std.proofs.lemmas.Bool.{cases_eq, cases_lt}
+use Rattle.std.proofs.lemmas.Grind.{flat_map-append}
+use mathlib.Core.Logic.{dite}
+use native.Mathlib.Decide.{ℕ_discrete}
 use Rattle.spk_nums.specs.declared.replies.Reply.{Reply}
+use Rattle.spk_nums.specs.declared.steps.WordOp.TheVariants.{Load, Compare, Add}
+use Rattle.spk_nums.specs.WordSteps.{left_by}
+use Rattle.turn_rule.specs.declared.view.Entry.{Entry}
+use Rattle.turn_rule.specs.Trace.{entry}
+use Rattle.turn_rule.specs.Trace as table
+use Rattle.async_ends.specs.declared.asks.Look.{Look}
 use Rattle.async_ends.specs.declared.endpoint.EndOp.{EndOp}
 use Rattle.async_ends.specs.declared.endpoint.EndOp.TheVariants.{Send, Recv}
-use Rattle.async_ends.specs.declared.endpoint.EndAct.{EndAct}
-use Rattle.async_ends.specs.declared.endpoint.EndAct.TheVariants.{Sent, Taken, Raced}
+use Rattle.async_ends.specs.declared.endpoint.EndCall.{EndCall}
 use Rattle.async_ends.specs.declared.endpoint.EndReply.{EndReply}
+use Rattle.async_ends.specs.declared.endpoint.EndReply.TheVariants.{Sent, Taken, Raced}
 use Rattle.async_ends.specs.declared.asks.EndDone.{EndDone}
-use Rattle.async_ends.specs.Events.{Event, event, events_by, AreOfOthers, ExtendsByOthers, sends_in, sent_to}
-use Rattle.async_ends.specs.Seen.{noted, history_of}
-use Rattle.async_ends.specs.Calls.{reached, reply_of, Fits, ComesTo, Comes}
+use Rattle.async_ends.specs.Looks.{reached}
+use Rattle.async_ends.specs.Events.{Added, Loaded, Took, Missed, Event, event, events_by, AreOfOthers, ExtendsByOthers, sends_in, sent_to}
+use Rattle.async_ends.specs.Seen.{event_in, history_of}
+use Rattle.async_ends.specs.Calls.{call_of, AddsOne, FindsNone, ComparesIt, ComesTo, Comes}
 use Rattle.async_ends.specs.Tables.{EndSeatValue}
-use Rattle.async_ends.specs.Asked.{act_in, event_at, event_of, IsAnsweredBy, IsAnswered}
+use Rattle.async_ends.specs.Asked.{taken_by, AreStepsBy, AreStepsOf, AreStepsOfAll, look_in}
+use Rattle.async_ends.proofs.Histories.{history_of-append, history_of-others}
+use Rattle.async_ends.proofs.Closing.{all_zip_push}
 
 -- ---- the events of a core
 
@@ -37,45 +50,105 @@ events_none c (e ∷ h) apart = events_other c e h apart.0 ∙ events_none c h a
 
 -- ---- a call
 
-act_in_reply : (act : EndAct) → act_in (reply_of act) ≡ Some act
-act_in_reply Sent = refl
-act_in_reply (Taken k) = refl
-act_in_reply Raced = refl
+-- a call's events, in order, by which its core's have grown
+pub record StepsMade (op : EndOp) (c : ℕ) (l : Look) (r : Result ℕ Reply) (answer : EndReply) (before after : List Event) : Type 0 where
+  pub steps : List Event
+  pub are : AreStepsBy op c l r answer steps
+  pub more : events_by after c ≡ events_by before c ++ steps
 
-answered_by : (op : EndOp) (f : ℕ) (act : EndAct) → Fits op act → IsAnsweredBy op (Ok f) (reply_of act)
-answered_by Send f Sent fits = refl
-answered_by Send f (Taken k) fits = absurd fits
-answered_by Send f Raced fits = absurd fits
-answered_by Recv f Sent fits = absurd fits
-answered_by Recv f (Taken k) fits = refl
-answered_by Recv f Raced fits = refl
+-- an entry of core c on top of others' entries
+own_after : (c : ℕ) (e : Entry EndCall) (others before : List (Entry EndCall)) → e.core ≡ c → table.AreOfOthers c others
+    → events_by (history_of (e ∷ (others ++ before))) c ≡ events_by (history_of before) c ++ event_in e ∷ []
+own_after c e others before own apart = events_own c (event_in e) (history_of (others ++ before)) own
+    ∙ ap (λ (l : List Event). l ++ event_in e ∷ []) (ap (λ (h : List Event). events_by h c) (history_of-append others before)
+    ∙ events_past c (history_of others) (history_of before) (history_of-others c others apart))
 
-is_answered : (op : EndOp) (c : ℕ) (r : Result ℕ Reply) (answer : EndReply) (before after : List Event)
-    → ComesTo op c r answer before after → IsAnsweredBy op r answer
-is_answered op c (Err refusal) answer before after comes = comes.0
-is_answered op c (Ok f) answer before after d = subst (IsAnsweredBy op (Ok f)) (sym d.is) (answered_by op f d.act d.fits)
+module _ (c f : ℕ) (l : Look) (before after : List (Entry EndCall)) where
+  sent : AddsOne c f l before after → (answer : EndReply) → answer ≡ Sent
+      → StepsMade Send c l (Ok f) answer (history_of before) (history_of after)
+  sent d answer is = subst (λ r. StepsMade Send c l (Ok f) r (history_of before) (history_of after)) (sym is) record {
+    steps = event c f (Added l) ∷ [];
+    are = (refl, refl);
+    more = ap (λ t. events_by (history_of t) c) d.whole
+        ∙ own_after c (entry c (Add f 1) d.found (Some (call_of Send f l))) d.others before refl d.apart;
+  }
 
-one_more : (op : EndOp) (c : ℕ) (r : Result ℕ Reply) (answer : EndReply) (before after : List Event)
-    → ComesTo op c r answer before after → events_by after c ≡ events_by before c ++ event_at c r answer
-one_more op c (Err refusal) answer before after comes =
-    ap (λ (h : List Event). events_by h c) comes.1 ∙ sym (append-nil (events_by before c))
-one_more op c (Ok f) answer before after d =
-    let new : noted c f (act_in answer) ≡ event c f d.act ∷ [] =
-    ap (λ (a : EndReply). noted c f (act_in a)) d.is ∙ ap (noted c f) (act_in_reply d.act) in
-    ap (λ (h : List Event). events_by h c) d.whole ∙ events_own c (event c f d.act) (d.others ++ before) refl
-    ∙ ap (λ (l : List Event). l ++ event c f d.act ∷ []) (events_past c d.others before d.apart)
-    ∙ ap (λ (l : List Event). events_by before c ++ l) (sym new)
+  none_taken : FindsNone c f l before after → (answer : EndReply) → answer ≡ Taken 0
+      → StepsMade Recv c l (Ok f) answer (history_of before) (history_of after)
+  none_taken d answer is = subst (λ r. StepsMade Recv c l (Ok f) r (history_of before) (history_of after)) (sym is) record {
+    steps = event c f (Loaded l 0) ∷ [];
+    are = (refl, refl);
+    more = ap (λ t. events_by (history_of t) c) d.whole
+        ∙ own_after c (entry c (Load f) 0 (Some (call_of Recv f l))) d.others before refl d.apart;
+  }
 
--- the answer of a call is one that its look allows
-pub done_answered : (d : EndDone) (seat made : EndSeatValue) → Comes d.ask.op d.looked d.answer seat made → IsAnswered d
-done_answered d seat made m = is_answered d.ask.op seat.core (reached d.ask.op d.looked) d.answer
-    (history_of seat.seen) (history_of made.seen) m.comes
+  module _ (answer : EndReply) (d : ComparesIt c f l answer before after) where
+    abbrev last : Event
+    last = event_in (entry c (Compare f d.seen 0) d.found None)
 
--- and its event is the core's next
-pub done_event : (d : EndDone) (seat made : EndSeatValue) → Comes d.ask.op d.looked d.answer seat made
-    → events_by (history_of made.seen) seat.core ≡ events_by (history_of seat.seen) seat.core ++ event_of seat.core d
-done_event d seat made m = one_more d.ask.op seat.core (reached d.ask.op d.looked) d.answer
-    (history_of seat.seen) (history_of made.seen) m.comes
+    two : events_by (history_of after) c ≡ events_by (history_of before) c ++ event c f (Loaded l d.seen) ∷ last ∷ []
+    two =
+        let first = entry c (Load f) d.seen (Some (call_of Recv f l)) in
+        ap (λ t. events_by (history_of t) c) d.whole
+        ∙ own_after c (entry c (Compare f d.seen 0) d.found None) d.between (first ∷ (d.others ++ before)) refl d.between_apart
+        ∙ ap (λ (h : List Event). h ++ last ∷ []) (own_after c first d.others before refl d.apart)
+        ∙ append_assoc (events_by (history_of before) c) (event c f (Loaded l d.seen) ∷ []) (last ∷ [])
+
+    two_steps : StepsMade Recv c l (Ok f) answer (history_of before) (history_of after)
+    two_steps = dite (ℕ_discrete d.found d.seen)
+        (λ (same : d.found ≡ d.seen).
+        let taken : answer ≡ Taken d.seen = d.is ∙ ap (λ b. if b then Taken d.seen else Raced) (eq-eqb d.found d.seen same) in
+        let left : left_by (Compare f d.seen 0) d.found ≡ 0 = ap (λ b. if b then 0 else d.found) (eq-eqb d.found d.seen same) in
+        let some = d.some in
+        let step : last ≡ event c f (Took d.seen) = ap (λ b. event c f (if b then Missed d.found else Took d.found))
+        (ne_eqb d.found (left_by (Compare f d.seen 0) d.found) (λ e. omega arith)) ∙ ap (λ n. event c f (Took n)) same in
+        subst (λ r. StepsMade Recv c l (Ok f) r (history_of before) (history_of after)) (sym taken) record {
+          steps = taken_by c f l d.seen;
+          are = (refl, refl);
+          more = two ∙ ap (λ (e : Event). events_by (history_of before) c ++ event c f (Loaded l d.seen) ∷ e ∷ []) step
+              ∙ ap (λ b. events_by (history_of before) c ++ event c f (Loaded l d.seen) ∷ (if b then [] else event c f (Took d.seen) ∷ []))
+              (sym (ne_eqb d.seen 0 (λ e. omega arith)));
+        })
+        (λ (other : d.found ≢ d.seen).
+        let raced : answer ≡ Raced = d.is ∙ ap (λ b. if b then Taken d.seen else Raced) (ne_eqb d.found d.seen other) in
+        let left : left_by (Compare f d.seen 0) d.found ≡ d.found = ap (λ b. if b then 0 else d.found) (ne_eqb d.found d.seen other) in
+        let step : last ≡ event c f (Missed d.found) = ap (λ b. event c f (if b then Missed d.found else Took d.found))
+        (eq-eqb d.found (left_by (Compare f d.seen 0) d.found) (sym left)) in
+        subst (λ r. StepsMade Recv c l (Ok f) r (history_of before) (history_of after)) (sym raced) record {
+          steps = event c f (Loaded l d.seen) ∷ event c f (Missed d.found) ∷ [];
+          are = (refl, record { seen = d.seen; some = d.some; found = d.found; another = other; are = refl });
+          more = two ∙ ap (λ (e : Event). events_by (history_of before) c ++ event c f (Loaded l d.seen) ∷ e ∷ []) step;
+        })
+
+steps_made : (op : EndOp) (c : ℕ) (l : Look) (r : Result ℕ Reply) (answer : EndReply) (before after : List (Entry EndCall))
+    → ComesTo op c l r answer before after → StepsMade op c l r answer (history_of before) (history_of after)
+steps_made op c l (Err refusal) answer before after comes = record {
+  steps = [];
+  are = (comes.0, refl);
+  more = ap (λ t. events_by (history_of t) c) comes.1 ∙ sym (append-nil (events_by (history_of before) c));
+}
+steps_made Send c l (Ok f) answer before after does = sent c f l before after does.0 answer does.1
+steps_made Recv c l (Ok f) answer before after (inl does) = none_taken c f l before after does.0 answer does.1
+steps_made Recv c l (Ok f) answer before after (inr does) = two_steps c f l before after answer does
+
+-- the events of a call that was made are its core's next
+pub done_steps : (d : EndDone) (seat made : EndSeatValue) → Comes d.ask.op (look_in d) d.answer seat made
+    → StepsMade d.ask.op seat.core (look_in d) (reached d.ask.op d.looked) d.answer (history_of seat.seen) (history_of made.seen)
+done_steps d seat made m = steps_made d.ask.op seat.core (look_in d) (reached d.ask.op d.looked) d.answer seat.seen made.seen m.comes
+
+-- a core that has made no call, and one that has made one more
+pub no_steps : (c : ℕ) (events : List Event) → events ≡ [] → AreStepsOfAll c [] events
+no_steps c events none = record { steps = []; each = tt; whole = none }
+
+pub one_more : (c : ℕ) (done : List EndDone) (events : List Event) (d : EndDone) (steps : List Event) → AreStepsOfAll c done events
+    → AreStepsOf c d steps → AreStepsOfAll c (done ++ d ∷ []) (events ++ steps)
+one_more c done events d steps all are = record {
+  steps = all.steps ++ steps ∷ [];
+  each = all_zip_push (AreStepsOf c) done all.steps d steps all.each are;
+  whole = ap (λ (l : List Event). l ++ steps) all.whole
+      ∙ ap (λ (l : List Event). flat_map (λ s. s) all.steps ++ l) (sym (append-nil steps))
+      ∙ sym (flat_map-append (λ s. s) all.steps (steps ∷ []));
+}
 
 -- ---- sends
 
@@ -115,7 +188,7 @@ pub sent_by_cores : (n : ℕ) (h : List Event) (f : ℕ) → ((c : ℕ) → n �
 sent_by_cores n [] f none = sym (sum_zero n)
 sent_by_cores n (e ∷ h) f none =
     let inside : e.core < n = elim (cases_lt e.core n) [ inl lt ↦ lt | inr le ↦ absurd ((none e.core le).0 refl) ] in
-    let m = if e.frame == f then sends_in e.act else 0 in
+    let m = if e.frame == f then sends_in e.step else 0 in
     let here : sent_to (events_by (e ∷ h) e.core) f ≡ sent_to (events_by h e.core) f + m =
     ap (λ (l : List Event). sent_to l f) (events_own e.core e h refl) ∙ sent_append (events_by h e.core) (e ∷ []) f
     ∙ (let one : sent_to (e ∷ []) f ≡ m + 0 = refl in omega arith) in

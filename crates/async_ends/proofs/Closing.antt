@@ -1,8 +1,9 @@
 -- How a table begins with its seats, and how it ends with them.
 use Rattle.std.proofs.Common.{◌≡◌, ℕ, zero, suc, ◌+◌, ◌<◌, ◌≤◌, List, [], ◌∷◌, ◌++◌, length, slice_get, get_or, map, replicate, All}
-use Rattle.std.proofs.Common.{Option, Some, None, refl, sym, ap, ◌∙◌, subst, arith}
+use Rattle.std.proofs.Common.{inl, inr, Option, Some, None, refl, sym, ap, ◌∙◌, subst, arith}
 use Rattle.std.specs.List.{AllZip}
 use Rattle.std.specs.Option.{option_map}
+use Rattle.std.proofs.lemmas.Bool.{cases_lt}
 use Rattle.std.proofs.lemmas.List.{length-map, length-replicate}
 use Rattle.std.proofs.lemmas.Option.{slice_get-map, slice_get-get_or}
 use Rattle.turn_rule.specs.declared.view.Entry.{Entry}
@@ -11,13 +12,14 @@ use Rattle.turn_rule.specs.Trace.{program_after, IsSound}
 use Rattle.turn_rule.specs.Seats as turns
 use Rattle.turn_rule.specs.Seats.{TableValue, SeatValue}
 use Rattle.async_ends.specs.declared.endpoint.EndCall.{EndCall}
-use Rattle.async_ends.specs.Events.{ExtendsByOthers, taken_at}
+use Rattle.async_ends.specs.Events.{ExtendsByOthers, receiving, taken_at}
 use Rattle.async_ends.specs.Running.{EndCore, unused, end_steps}
 use Rattle.async_ends.specs.Seen.{history_of}
 use Rattle.async_ends.specs.Tables.{EndSeatValue, table_value, seat_value, IsStart, IsSeat, AreAllSeats, AreFresh, EndsAt}
 use Rattle.async_ends.specs.Tables.{IsWrapped, AreWrapped}
 use Rattle.async_ends.proofs.Along.{along}
-use Rattle.async_ends.proofs.Histories.{extends_by_others, balance}
+use Rattle.async_ends.proofs.Histories.{extends_by_others, receiving_past, receiving_none, all_crossed, balance}
+use Rattle.async_ends.proofs.Made.{between}
 
 abbrev Seat : Type 0
 Seat = SeatValue EndCore EndCall
@@ -51,6 +53,11 @@ module _ {A B : Type 0} (R : A → B → Type 0) where
   all_zip_push [] (z ∷ ys) x y h r = absurd h
   all_zip_push (z ∷ xs) [] x y h r = absurd h
   all_zip_push (z ∷ xs) (w ∷ ys) x y h r = (h.0, all_zip_push xs ys x y h.1 r)
+
+at_of : {A : Type 0} (xs : List A) (k : ℕ) → k < length xs → (x : A) × (slice_get xs k ≡ Some x)
+at_of [] k h = absurd (omega arith)
+at_of (x ∷ xs) zero h = (x, refl)
+at_of (x ∷ xs) (suc k) h = at_of xs k (omega arith)
 
 -- each of so many is the same one
 at_same : (n i x : ℕ) → get_or (replicate n x) i x ≡ x
@@ -135,9 +142,20 @@ module _ (frames cores : ℕ) (table : TableValue EndCore) (is : IsStart frames 
     ends_at words programs end =
         let k = along frames cores table.start is end.trace end.sound in
         let h = history_of end.trace in
+        let out : (c : ℕ) → c < cores → receiving h c ≡ None = λ c lt.
+        let size = all_unwrapped.count in
+        let n = is.count in
+        let x = at_of xs c (omega arith) in
+        let y = at_left IsWrapped xs seats c x.0 are x.1 in
+        let w = extends_by_others x.0.core x.0.seen end.trace (end.begins c x.0 x.1) in
+        subst (λ (i : ℕ). receiving h i ≡ None) (all_unwrapped.core c x.0 x.1)
+        (ap (λ l. receiving l x.0.core) w.begins ∙ receiving_past x.0.core w.since (history_of x.0.seen) w.apart
+        ∙ between y.0.table.frames y.0.table.cores y.0.made x.0 y.2.is) in
         let left : (f : ℕ) → get_or words f 0 ≡ _ = λ f. end.word f ∙ k.counts f in record {
           history = h;
           legal = k.legal;
+          crossed = all_crossed h k.legal;
+          returned = λ c. elim (cases_lt c cores) [ inl lt ↦ out c lt | inr past ↦ receiving_none c h (k.inside c past) ];
           begins = λ i s e. let x = at_right IsWrapped xs seats i s are e in
               subst (λ (z : EndSeatValue). ExtendsByOthers z.core (history_of z.seen) h) x.2.same
               (extends_by_others x.0.core x.0.seen end.trace (end.begins i x.0 x.1));

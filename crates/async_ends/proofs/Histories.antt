@@ -1,102 +1,158 @@
--- Histories that grow by what an entry has done.
-use Rattle.std.proofs.Common.{◌≡◌, ◌≢◌, ℕ, ◌+◌, ◌≤◌, Bool, List, [], ◌∷◌, ◌++◌, if◌then◌else◌}
-use Rattle.std.proofs.Common.{Option, Some, None, refl, sym, ap, ◌∙◌, subst, arith, append_assoc, eq-eqb, ne_eqb}
+-- Histories that grow by a step.
+use Rattle.std.proofs.Common.{◌≡◌, ◌≢◌, ◌⊎◌, ⊎_elim, inl, inr, ℕ, ◌+◌, ◌≤◌, Bool, List, [], ◌∷◌, ◌++◌, if◌then◌else◌}
+use Rattle.std.proofs.Common.{Some, None, refl, sym, ap, ◌∙◌, subst, arith, eq-eqb, ne_eqb}
+use Rattle.std.proofs.lemmas.Option.{none-some}
 use mathlib.Core.Logic.{dite}
 use native.Mathlib.Decide.{ℕ_discrete}
 use Rattle.turn_rule.specs.declared.view.Entry.{Entry}
 use Rattle.turn_rule.specs.Trace as table
 use Rattle.async_ends.specs.declared.endpoint.EndCall.{EndCall}
-use Rattle.async_ends.specs.declared.endpoint.EndAct.{EndAct}
-use Rattle.async_ends.specs.declared.endpoint.EndAct.TheVariants.{Sent, Taken, Raced}
-use Rattle.async_ends.specs.Events.{Event, event, count_by, untaken, sends_in, takes_in, sent_to, taken_at, Moves, AreOfOthers}
-use Rattle.async_ends.specs.Events.{WasCrossed, MayDo, IsLegal, ExtendsByOthers}
-use Rattle.async_ends.specs.Seen.{act_of, noted, history_of}
+use Rattle.async_ends.specs.Events.{EndStep, Added, Loaded, Took, Missed, Event, event, count_by, untaken, sends_in, takes_in, sent_to}
+use Rattle.async_ends.specs.Events.{taken_at, receive_at, going, receiving, MayDo, IsLegal, AreOfOthers, ExtendsByOthers}
+use Rattle.async_ends.specs.Events.{Moves, WasCrossed, CrossedBefore, AreCrossed}
+use Rattle.async_ends.specs.Seen.{event_in, history_of}
+use Rattle.async_ends.specs.Calls.{IsMoved}
 
-pub others_append : (c : ℕ) (xs ys : List Event) → AreOfOthers c xs → AreOfOthers c ys → AreOfOthers c (xs ++ ys)
-others_append c [] ys h k = k
-others_append c (e ∷ xs) ys h k = (h.0, others_append c xs ys h.1 k)
+counted_at_most : (step : EndStep) (n : ℕ) → count_by step n ≤ n + sends_in step
+counted_at_most (Added l) n = omega arith
+counted_at_most (Loaded l k) n = omega arith
+counted_at_most (Took k) n = omega arith
+counted_at_most (Missed k) n = omega arith
 
--- what an entry does to its frame's count, and how many it sends
-abbrev pub counted : Option EndAct → ℕ → ℕ
-counted None n = n
-counted (Some act) n = count_by act n
+-- a step keeps the count, or moves it
+keeps_or_moves : (step : EndStep) (n : ℕ) → (count_by step n ≡ n) ⊎ Moves step
+keeps_or_moves (Added l) n = inr tt
+keeps_or_moves (Loaded l k) n = inl refl
+keeps_or_moves (Took k) n = inr tt
+keeps_or_moves (Missed k) n = inl refl
 
-abbrev pub sends : Option EndAct → ℕ
-sends None = 0
-sends (Some act) = sends_in act
+module _ (e : Event) (h : List Event) where
+  pub untaken_here : (f : ℕ) → e.frame ≡ f → untaken (e ∷ h) f ≡ count_by e.step (untaken h f)
+  untaken_here f same = ap (λ b. if b then count_by e.step (untaken h f) else untaken h f) (eq-eqb e.frame f same)
 
-abbrev pub MovesIt : Option EndAct → Type 0
-MovesIt None = ⊥
-MovesIt (Some act) = Moves act
+  pub untaken_elsewhere : (f : ℕ) → e.frame ≢ f → untaken (e ∷ h) f ≡ untaken h f
+  untaken_elsewhere f other = ap (λ b. if b then count_by e.step (untaken h f) else untaken h f) (ne_eqb e.frame f other)
 
-abbrev pub May : List Event → ℕ → ℕ → Option EndAct → Type 0
-May h c f None = Unit {0}
-May h c f (Some act) = MayDo h c f act
+  pub untaken_at_most : (f n m : ℕ) → untaken h f ≤ n → n + sends_in e.step ≤ m → untaken (e ∷ h) f ≤ m
+  untaken_at_most f n m few more = dite (ℕ_discrete e.frame f)
+      (λ (same : e.frame ≡ f). let is = untaken_here f same in let most = counted_at_most e.step (untaken h f) in omega arith)
+      (λ (other : e.frame ≢ f). let is = untaken_elsewhere f other in omega arith)
 
-counted_at_most : (act : Option EndAct) (n : ℕ) → counted act n ≤ n + sends act
-counted_at_most None n = omega arith
-counted_at_most (Some Sent) n = omega arith
-counted_at_most (Some (Taken k)) n = omega arith
-counted_at_most (Some Raced) n = omega arith
+  pub receiving_here : (c : ℕ) → e.core ≡ c → receiving (e ∷ h) c ≡ going e.frame e.step
+  receiving_here c own = ap (λ b. if b then going e.frame e.step else receiving h c) (eq-eqb e.core c own)
 
-module _ (h : List Event) (c f : ℕ) where
-  pub untaken_here : (act : Option EndAct) (g : ℕ) → f ≡ g → untaken (noted c f act ++ h) g ≡ counted act (untaken h g)
-  untaken_here None g same = refl
-  untaken_here (Some act) g same = ap (λ b. if b then count_by act (untaken h g) else untaken h g) (eq-eqb f g same)
+  pub receiving_elsewhere : (c : ℕ) → e.core ≢ c → receiving (e ∷ h) c ≡ receiving h c
+  receiving_elsewhere c other = ap (λ b. if b then going e.frame e.step else receiving h c) (ne_eqb e.core c other)
 
-  pub untaken_elsewhere : (act : Option EndAct) (g : ℕ) → f ≢ g → untaken (noted c f act ++ h) g ≡ untaken h g
-  untaken_elsewhere None g other = refl
-  untaken_elsewhere (Some act) g other = ap (λ b. if b then count_by act (untaken h g) else untaken h g) (ne_eqb f g other)
+  -- a step that keeps the frame's count, or moves it
+  kept_or_moved : (f : ℕ) → (untaken (e ∷ h) f ≡ untaken h f) ⊎ ((e.frame ≡ f) × Moves e.step)
+  kept_or_moved f = dite (ℕ_discrete e.frame f)
+      (λ (same : e.frame ≡ f). ⊎_elim (λ keeps. inl (untaken_here f same ∙ keeps)) (λ moves. inr (same, moves))
+      (keeps_or_moves e.step (untaken h f)))
+      (λ (other : e.frame ≢ f). inl (untaken_elsewhere f other))
 
-  pub untaken_at_most : (act : Option EndAct) (g n m : ℕ) → untaken h g ≤ n → n + sends act ≤ m → untaken (noted c f act ++ h) g ≤ m
-  untaken_at_most act g n m few more = dite (ℕ_discrete f g)
-      (λ (same : f ≡ g). let is = untaken_here act g same in let most = counted_at_most act (untaken h g) in omega arith)
-      (λ (other : f ≢ g). let is = untaken_elsewhere act g other in omega arith)
+-- a core that no event is of has no receive in progress
+pub receiving_past : (c : ℕ) (xs ys : List Event) → AreOfOthers c xs → receiving (xs ++ ys) c ≡ receiving ys c
+receiving_past c [] ys apart = refl
+receiving_past c (e ∷ xs) ys apart = receiving_elsewhere e (xs ++ ys) c apart.0 ∙ receiving_past c xs ys apart.1
 
-  pub legal_noted : (act : Option EndAct) → IsLegal h → May h c f act → IsLegal (noted c f act ++ h)
-  legal_noted None legal may = legal
-  legal_noted (Some act) legal may = (legal, may)
+pub receiving_none : (c : ℕ) (h : List Event) → AreOfOthers c h → receiving h c ≡ None
+receiving_none c [] apart = refl
+receiving_none c (e ∷ h) apart = receiving_elsewhere e h c apart.0 ∙ receiving_none c h apart.1
 
-  pub others_noted : (act : Option EndAct) (d : ℕ) → c ≢ d → AreOfOthers d h → AreOfOthers d (noted c f act ++ h)
-  others_noted None d other apart = apart
-  others_noted (Some act) d other apart = (other, apart)
+-- ---- crossings
 
-  pub crossed_noted : (act : Option EndAct) (d g : ℕ) → c ≢ d → WasCrossed h d g → WasCrossed (noted c f act ++ h) d g
-  crossed_noted None d g other w = w
-  crossed_noted (Some act) d g other w = record {
-    since = event c f act ∷ w.since;
-    other = w.other;
-    older = w.older;
-    whole = ap (λ l. event c f act ∷ l) w.whole;
-    apart = (other, w.apart);
-    another = w.another;
-    there = w.there;
-    moves = w.moves;
-  }
+-- events that change a frame's count have one that moves it
+pub moved : (xs h : List Event) (f : ℕ) → untaken (xs ++ h) f ≢ untaken h f → IsMoved xs f
+moved [] h f other = absurd (other refl)
+moved (e ∷ xs) h f other = ⊎_elim
+    (λ keeps. let m = moved xs h f (λ same. other (keeps ∙ same)) in record {
+      since = e ∷ m.since;
+      by = m.by;
+      older = m.older;
+      whole = ap (λ (l : List Event). e ∷ l) m.whole;
+      there = m.there;
+      moves = m.moves;
+    })
+    (λ (moves : (e.frame ≡ f) × Moves e.step). record {
+      since = [];
+      by = e;
+      older = xs;
+      whole = refl;
+      there = moves.0;
+      moves = moves.1;
+    })
+    (kept_or_moved e (xs ++ h) f)
 
-  pub crossed_now : (act : Option EndAct) (d g : ℕ) → c ≢ d → f ≡ g → MovesIt act → WasCrossed (noted c f act ++ h) d g
-  crossed_now None d g other there moves = absurd moves
-  crossed_now (Some act) d g other there moves = record {
-    since = [];
-    other = event c f act;
-    older = h;
-    whole = refl;
-    apart = tt;
-    another = other;
-    there = there;
-    moves = moves;
-  }
+-- the count just after a load of some is the one loaded
+loaded : (h : List Event) (c g f seen : ℕ) (step : EndStep) → MayDo h c g step → going g step ≡ Some (receive_at f seen)
+    → untaken (event c g step ∷ h) f ≡ seen
+loaded h c g f seen (Added l) may is = absurd (none-some (receive_at f seen) is)
+loaded h c g f seen (Took k) may is = absurd (none-some (receive_at f seen) is)
+loaded h c g f seen (Missed k) may is = absurd (none-some (receive_at f seen) is)
+loaded h c g f seen (Loaded l k) may is = dite (ℕ_discrete k 0)
+    (λ (none : k ≡ 0). absurd (none-some (receive_at f seen)
+    (sym (ap (λ b. if b then None else Some (receive_at g k)) (eq-eqb k 0 none)) ∙ is)))
+    (λ (some : k ≢ 0).
+    let it : Some (receive_at g k) ≡ Some (receive_at f seen) =
+    sym (ap (λ b. if b then None else Some (receive_at g k)) (ne_eqb k 0 some)) ∙ is in
+    let same : receive_at g k ≡ receive_at f seen = cc in
+    let here : g ≡ f = ap (λ r. r.frame) same in
+    untaken_here (event c g (Loaded l k)) h f here ∙ ap (untaken h) (sym here) ∙ sym may.1 ∙ ap (λ r. r.seen) same)
+
+-- a core in a receive was crossed since its load, or the count is still the one that it has loaded
+pub still_or_crossed : (h : List Event) (c f seen : ℕ) → IsLegal h → receiving h c ≡ Some (receive_at f seen)
+    → (untaken h f ≡ seen) ⊎ WasCrossed h c f
+still_or_crossed [] c f seen legal is = absurd (none-some (receive_at f seen) is)
+still_or_crossed (e ∷ h) c f seen legal is = dite (ℕ_discrete e.core c)
+    (λ (own : e.core ≡ c). inl (loaded h e.core e.frame f seen e.step legal.1 (sym (receiving_here e h c own) ∙ is)))
+    (λ (other : e.core ≢ c). ⊎_elim
+    (λ (same : untaken h f ≡ seen). ⊎_elim (λ keeps. inl (keeps ∙ same))
+    (λ (moves : (e.frame ≡ f) × Moves e.step). inr record {
+      since = [];
+      other = e;
+      older = h;
+      whole = refl;
+      apart = tt;
+      another = other;
+      there = moves.0;
+      moves = moves.1;
+    })
+    (kept_or_moved e h f))
+    (λ (w : WasCrossed h c f). inr record {
+      since = e ∷ w.since;
+      other = w.other;
+      older = w.older;
+      whole = ap (λ (l : List Event). e ∷ l) w.whole;
+      apart = (other, w.apart);
+      another = w.another;
+      there = w.there;
+      moves = w.moves;
+    })
+    (still_or_crossed h c f seen legal.0 (sym (receiving_elsewhere e h c other) ∙ is)))
+
+crossed_before : (h : List Event) (c f : ℕ) (step : EndStep) → IsLegal h → MayDo h c f step → CrossedBefore h c f step
+crossed_before h c f (Added l) legal may = tt
+crossed_before h c f (Loaded l k) legal may = tt
+crossed_before h c f (Took k) legal may = tt
+crossed_before h c f (Missed k) legal may = ⊎_elim (λ still. absurd (may.another (may.count ∙ still))) (λ w. w)
+    (still_or_crossed h c f may.seen legal may.receives)
+
+-- in a legal history each receive that missed was crossed
+pub all_crossed : (h : List Event) → IsLegal h → AreCrossed h
+all_crossed [] legal = tt
+all_crossed (e ∷ h) legal = (all_crossed h legal.0, crossed_before h e.core e.frame e.step legal.0 legal.1)
+
+-- ---- entries
 
 -- entries on top of others are their histories on top of each other
 pub history_of-append : (xs ys : List (Entry EndCall)) → history_of (xs ++ ys) ≡ history_of xs ++ history_of ys
 history_of-append [] ys = refl
-history_of-append (e ∷ xs) ys = let new = noted e.core e.at (act_of e.call e.found e.left) in
-    ap (λ l. new ++ l) (history_of-append xs ys) ∙ sym (append_assoc new (history_of xs) (history_of ys))
+history_of-append (e ∷ xs) ys = ap (λ l. event_in e ∷ l) (history_of-append xs ys)
 
 pub history_of-others : (c : ℕ) (xs : List (Entry EndCall)) → table.AreOfOthers c xs → AreOfOthers c (history_of xs)
 history_of-others c [] h = tt
-history_of-others c (e ∷ xs) h =
-    others_noted (history_of xs) e.core e.at (act_of e.call e.found e.left) c h.0 (history_of-others c xs h.1)
+history_of-others c (e ∷ xs) h = (h.0, history_of-others c xs h.1)
 
 pub extends_by_others : (c : ℕ) (older newer : List (Entry EndCall)) → table.ExtendsByOthers c older newer
     → ExtendsByOthers c (history_of older) (history_of newer)
@@ -106,12 +162,15 @@ extends_by_others c older newer x = record {
   apart = history_of-others c x.since x.apart;
 }
 
--- what is left of an act on its frame, where all before it balances
-balanced : (act : EndAct) (h : List Event) (c f u t s : ℕ) → MayDo h c f act → untaken h f ≡ u → u + t ≡ s
-    → count_by act u + (takes_in act + t) ≡ sends_in act + s
-balanced Sent h c f u t s may is sums = omega arith
-balanced (Taken k) h c f u t s may is sums = let took : k ≡ untaken h f = may in omega arith
-balanced Raced h c f u t s may is sums = omega arith
+-- ---- what is left
+
+-- what is left of a step on its frame, where all before it balances
+balanced : (step : EndStep) (h : List Event) (c f u t s : ℕ) → MayDo h c f step → untaken h f ≡ u → u + t ≡ s
+    → count_by step u + (takes_in step + t) ≡ sends_in step + s
+balanced (Added l) h c f u t s may is sums = omega arith
+balanced (Loaded l k) h c f u t s may is sums = omega arith
+balanced (Took k) h c f u t s may is sums = let took : k ≡ untaken h f = may.1 in omega arith
+balanced (Missed k) h c f u t s may is sums = omega arith
 
 -- in a legal history each send was taken once, or is left
 pub balance : (h : List Event) (f : ℕ) → IsLegal h → untaken h f + taken_at h f ≡ sent_to h f
@@ -119,9 +178,9 @@ balance [] f legal = refl
 balance (e ∷ h) f legal =
     let before = balance h f legal.0 in
     let u = untaken h f in
-    let sums : Bool → Type 0 = λ b. (if b then count_by e.act u else u) + ((if b then takes_in e.act else 0) + taken_at h f)
-    ≡ (if b then sends_in e.act else 0) + sent_to h f in
+    let sums : Bool → Type 0 = λ b. (if b then count_by e.step u else u) + ((if b then takes_in e.step else 0) + taken_at h f)
+    ≡ (if b then sends_in e.step else 0) + sent_to h f in
     dite (ℕ_discrete e.frame f)
     (λ (same : e.frame ≡ f). subst sums (sym (eq-eqb e.frame f same))
-    (balanced e.act h e.core e.frame u (taken_at h f) (sent_to h f) legal.1 (ap (untaken h) same) before))
+    (balanced e.step h e.core e.frame u (taken_at h f) (sent_to h f) legal.1 (ap (untaken h) same) before))
     (λ (other : e.frame ≢ f). subst sums (sym (ne_eqb e.frame f other)) (omega arith))

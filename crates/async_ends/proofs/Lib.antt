@@ -5,3 +5,4 @@ pub mod Along
 pub mod Made
 pub mod Closing
 pub mod Asked
+pub mod Refused

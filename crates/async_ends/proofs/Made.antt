@@ -1,33 +1,35 @@
 -- What a seat has seen, and what a whole call adds to it.
-use Rattle.std.proofs.Common.{◌≡◌, ◌≢◌, ℕ, zero, suc, ◌+◌, ◌<◌, ◌==◌, Bool, true, false, if◌then◌else◌, List, ◌∷◌, ◌++◌}
-use Rattle.std.proofs.Common.{Option, Some, None, IsNone, Err, refl, sym, ap, ◌∙◌, subst, arith, append_assoc, eq-eqb, ne_eqb}
+use Rattle.std.proofs.Common.{◌≡◌, ◌≢◌, inl, inr, ℕ, zero, suc, ◌+◌, ◌<◌, ◌==◌, Bool, true, false}
+use Rattle.std.proofs.Common.{if◌then◌else◌, List, [], ◌∷◌, ◌++◌}
+use Rattle.std.proofs.Common.{Some, None, IsNone, Err, refl, sym, ap, ◌∙◌, subst, arith, eq-eqb, ne_eqb}
 use Rattle.std.proofs.lemmas.Option.{none-some}
 use mathlib.Core.Logic.{dite}
 use native.Mathlib.Decide.{ℕ_discrete}
 use Rattle.spk_nums.specs.declared.replies.Reply.{Reply}
+use Rattle.spk_nums.specs.declared.steps.WordOp.{WordOp}
 use Rattle.spk_nums.specs.declared.steps.WordOp.TheVariants.{Load, Compare, Add}
-use Rattle.spk_nums.specs.WordSteps.{place_in, left_by, told_by}
+use Rattle.spk_nums.specs.WordSteps.{left_by, told_by}
 use Rattle.turn_rule.specs.declared.view.Entry.{Entry}
-use Rattle.turn_rule.specs.Trace.{entry}
-use Rattle.turn_rule.specs.Trace as table
+use Rattle.turn_rule.specs.Trace.{entry, AreOfOthers}
 use Rattle.turn_rule.specs.Seats.{SeatValue, FollowsTrace, Turns, TurnsOn, MakesCall}
+use Rattle.async_ends.specs.declared.asks.Look.{Look}
 use Rattle.async_ends.specs.declared.endpoint.EndOp.{EndOp}
 use Rattle.async_ends.specs.declared.endpoint.EndOp.TheVariants.{Send, Recv}
 use Rattle.async_ends.specs.declared.endpoint.EndCall.{EndCall}
 use Rattle.async_ends.specs.declared.endpoint.EndAct.{EndAct}
-use Rattle.async_ends.specs.declared.endpoint.EndAct.TheVariants.{Sent, Taken, Raced}
+use Rattle.async_ends.specs.declared.endpoint.EndAct.TheVariants as act
 use Rattle.async_ends.specs.declared.endpoint.EndReply.{EndReply}
-use Rattle.async_ends.specs.declared.endpoint.EndReply.TheVariants.{Refused}
-use Rattle.async_ends.specs.declared.run.EndStage.{EndStage}
-use Rattle.async_ends.specs.declared.run.EndStage.TheVariants.{Idle, Adds, Loads, Takes}
-use Rattle.async_ends.specs.Events.{Event, event, AreOfOthers, IsLegal}
-use Rattle.async_ends.specs.Running.{EndCore, end_core, most_calls, next_at, end_steps}
-use Rattle.async_ends.specs.Seen.{act_later, act_of, noted, history_of}
+use Rattle.async_ends.specs.declared.endpoint.EndReply.TheVariants.{Taken, Raced, Refused}
+use Rattle.async_ends.specs.declared.run.EndStage.TheVariants.{Idle, Takes}
+use Rattle.async_ends.specs.Looks.{reached}
+use Rattle.async_ends.specs.Events.{Missed, Took, Event, untaken, receiving, MayDo, IsLegal}
+use Rattle.async_ends.specs.Running.{EndCore, end_core, most_calls, next_at, end_steps, reply_of}
+use Rattle.async_ends.specs.Seen.{event_in, history_of}
 use Rattle.async_ends.specs.Tables.{table_value, seat_value, IsStart, IsSeat}
-use Rattle.async_ends.specs.Calls.{reached, reply_of, Fits, Does, ComesTo, Comes, Acts}
+use Rattle.async_ends.specs.Calls.{call_of, compared, IsMoved, Does, ComesTo, Comes, Acts}
 use Rattle.async_ends.proofs.Along.{along}
-use Rattle.async_ends.proofs.Histories.{history_of-append, history_of-others, others_append}
-use Rattle.async_ends.proofs.Steps.{call_of}
+use Rattle.async_ends.proofs.Histories.{history_of-append, moved}
+use Rattle.async_ends.proofs.Steps.{Knows, idle_of}
 
 abbrev Seat : Type 0
 Seat = SeatValue EndCore EndCall
@@ -36,53 +38,65 @@ Seat = SeatValue EndCore EndCall
 pub legal : (frames cores made : ℕ) (s : Seat) → IsSeat frames cores made s → IsLegal (history_of s.seen)
 legal frames cores made s is = (along frames cores s.table.start is.start s.seen is.follows.sound).legal
 
+-- and its core has no receive in progress
+pub between : (frames cores made : ℕ) (s : Seat) → IsSeat frames cores made s → receiving (history_of s.seen) s.core ≡ None
+between frames cores made s is =
+    let good = (along frames cores s.table.start is.start s.seen is.follows.sound).good s.core s.program is.follows.runs in
+    subst (Knows (receiving (history_of s.seen) s.core)) is.idle good.knows
+
+-- ---- a receive that compares
+
+module _ (c f : ℕ) (l : Look) (seen found : ℕ) (others between before after : List (Entry EndCall))
+    (whole : after ≡ entry c (Compare f seen 0) found None
+    ∷ (between ++ entry c (Load f) seen (Some (call_of Recv f l)) ∷ (others ++ before))) (is_legal : IsLegal (history_of after)) where
+  abbrev from : List (Entry EndCall)
+  from = entry c (Load f) seen (Some (call_of Recv f l)) ∷ (others ++ before)
+
+  -- where the compare finds another count, it was changed in between
+  crossed : found ≢ seen → IsMoved (history_of between) f
+  crossed other =
+      let all : IsLegal (event_in (entry c (Compare f seen 0) found None) ∷ (history_of between ++ history_of from)) =
+      subst IsLegal (ap history_of whole ∙ ap (λ h. event_in (entry c (Compare f seen 0) found None) ∷ h) (history_of-append between from))
+      is_legal in
+      let left : left_by (Compare f seen 0) found ≡ found = ap (λ b. if b then 0 else found) (ne_eqb found seen other) in
+      let miss : MayDo (history_of between ++ history_of from) c f (Missed found) =
+      subst (MayDo (history_of between ++ history_of from) c f)
+      (ap (λ b. if b then Missed found else Took found) (eq-eqb found (left_by (Compare f seen 0) found) (sym left))) all.1 in
+      let was : seen ≡ untaken (history_of (others ++ before)) f = (legal_below (history_of between) (history_of from) all.0).1.1 in
+      let here : untaken (history_of from) f ≡ untaken (history_of (others ++ before)) f =
+      ap (λ b. if b then untaken (history_of (others ++ before)) f else untaken (history_of (others ++ before)) f) (eq-eqb f f refl) in
+      moved (history_of between) (history_of from) f (λ same. other (miss.count ∙ same ∙ here ∙ sym was))
+    where
+      legal_below : (xs h : List Event) → IsLegal (xs ++ h) → IsLegal h
+      legal_below [] h k = k
+      legal_below (e ∷ xs) h k = legal_below xs h k.0
+
+-- ---- a whole call
+
 -- the seat has made a whole call at frame f
-pub record Answered (op : EndOp) (f : ℕ) (old new : Seat) : Type 0 where
-  pub does : Does op old.core f (reply_of new.program.last) (history_of old.seen) (history_of new.seen)
+pub record Answered (op : EndOp) (f : ℕ) (l : Look) (old new : Seat) : Type 0 where
+  pub does : IsLegal (history_of new.seen) → Does op old.core f l (reply_of new.program.last) old.seen new.seen
   pub idle : new.program.stage ≡ Idle
   pub frames_are : new.program.frames ≡ old.program.frames
   pub begun : new.program.begun ≡ old.program.begun + 1
   pub core : new.core ≡ old.core
   pub table : new.table ≡ old.table
 
--- an entry that decides is its event
-decides : (c f : ℕ) (act : EndAct) (e : Entry EndCall) (others older : List (Entry EndCall)) → e.core ≡ c → e.at ≡ f
-    → act_of e.call e.found e.left ≡ Some act
-    → history_of (e ∷ (others ++ older)) ≡ event c f act ∷ (history_of others ++ history_of older)
-decides c f act e others older core place is =
-    ap (λ (z : ℕ × ℕ × Option EndAct). noted z.0 z.1 z.2 ++ history_of (others ++ older)) (λ i. (core i, place i, is i))
-    ∙ ap (λ l. event c f act ∷ l) (history_of-append others older)
-
 -- a core between calls makes no further step of a call
 ends_here : (n : ℕ) (a b : Seat) → a.program.stage ≡ Idle → TurnsOn end_steps n a b → b ≡ a
 ends_here zero a b idle turns = turns
 ends_here (suc n) a b idle turns = absurd (none-some turns.1.op (ap next_at (sym idle) ∙ turns.1.next))
 
-idle_of : (stage : EndStage) → IsNone (next_at stage) → stage ≡ Idle
-idle_of Idle none = refl
-idle_of (Adds f) none = absurd (cc)
-idle_of (Loads f) none = absurd (cc)
-idle_of (Takes f n) none = absurd (cc)
-
 -- the first step is the call's last one
-module _ (asks : EndOp) (f : ℕ) (old new : Seat) (m : MakesCall end_steps old (call_of asks f) new) (act : EndAct) (fits : Fits asks act)
-    (here : place_in m.first.op ≡ f)
-    (is : act_of (Some (call_of asks f)) m.first.makes.found (left_by m.first.op m.first.makes.found) ≡ Some act)
-    (program : m.begun.program ≡ end_core Idle old.program.frames (old.program.begun + 1) act) where
-  answered_first : Answered asks f old new
+module _ (asks : EndOp) (f : ℕ) (l : Look) (old new : Seat) (m : MakesCall end_steps old (call_of asks f l) new) (did : EndAct)
+    (program : m.begun.program ≡ end_core Idle old.program.frames (old.program.begun + 1) did)
+    (does : Does asks old.core f l (reply_of did) old.seen m.begun.seen) where
+  answered_first : Answered asks f l old new
   answered_first =
       let s = m.first.makes in
       let end : new ≡ m.begun = ends_here m.count m.begun new (ap (λ p. p.stage) program) m.rest in
-      subst (Answered asks f old) (sym end) record {
-        does = record {
-          act = act;
-          fits = fits;
-          is = ap (λ p. reply_of p.last) program;
-          others = history_of s.others;
-          apart = history_of-others old.core s.others s.apart;
-          whole = ap history_of s.seen
-              ∙ decides old.core f act (entry old.core m.first.op s.found (Some (call_of asks f))) s.others old.seen refl here is;
-        };
+      subst (Answered asks f l old) (sym end) record {
+        does = λ k. subst (λ r. Does asks old.core f l r old.seen m.begun.seen) (sym (ap (λ p. reply_of p.last) program)) does;
         idle = ap (λ p. p.stage) program;
         frames_are = ap (λ p. p.frames) program;
         begun = ap (λ p. p.begun) program;
@@ -90,41 +104,52 @@ module _ (asks : EndOp) (f : ℕ) (old new : Seat) (m : MakesCall end_steps old 
         table = s.table;
       }
 
-answered_send : (f : ℕ) (old new : Seat) → MakesCall end_steps old (call_of Send f) new → Answered Send f old new
-answered_send f old new m =
+-- what was seen after a first step of this operation
+begun_with : (asks : EndOp) (f : ℕ) (l : Look) (old new : Seat) (m : MakesCall end_steps old (call_of asks f l) new) (op : WordOp)
+    → m.first.op ≡ op
+    → m.begun.seen ≡ entry old.core op m.first.makes.found (Some (call_of asks f l)) ∷ (m.first.makes.others ++ old.seen)
+begun_with asks f l old new m op is = let s = m.first.makes in
+    s.seen ∙ ap (λ o. entry old.core o s.found (Some (call_of asks f l)) ∷ (s.others ++ old.seen)) is
+
+answered_send : (f : ℕ) (l : Look) (old new : Seat) → MakesCall end_steps old (call_of Send f l) new → Answered Send f l old new
+answered_send f l old new m =
     let next : Some (Add f 1) ≡ Some m.first.op = m.first.next in
     let is : m.first.op ≡ Add f 1 = cc in
-    answered_first Send f old new m Sent tt (ap place_in is) refl m.first.makes.program
+    let s = m.first.makes in
+    answered_first Send f l old new m act.Sent s.program (
+      record {
+        found = s.found;
+        others = s.others;
+        apart = s.apart;
+        whole = begun_with Send f l old new m (Add f 1) is;
+      },
+      refl,
+    )
 
 -- what a compare took or not, by the count that it found
 took : Bool → ℕ → EndAct
-took b n = if b then Taken n else Raced
+took b n = if b then act.Taken n else act.Raced
 
-fits_took : (b : Bool) (n : ℕ) → Fits Recv (took b n)
+answer_is : (b : Bool) (n : ℕ) → reply_of (took b n) ≡ (if b then Taken n else Raced)
 unfolding took
-fits_took true n = tt
-fits_took false n = tt
+answer_is true n = refl
+answer_is false n = refl
 
-took_is : (found left seen : ℕ) → seen ≢ 0 → left ≡ (if found == seen then 0 else found)
-    → act_later found left ≡ took (found == seen) seen
-unfolding took
-took_is found left seen some leaves = dite (ℕ_discrete found seen)
-    (λ (same : found ≡ seen).
-    let test = eq-eqb found seen same in
-    let none : left ≡ 0 = leaves ∙ ap (λ b. if b then 0 else found) test in
-    let apart = ne_eqb found left (λ e. some (sym same ∙ e ∙ none)) in
-    ap (λ b. if b then Raced else Taken found) apart ∙ ap Taken same ∙ sym (ap (λ b. if b then Taken seen else Raced) test))
-    (λ (other : found ≢ seen).
-    let test = ne_eqb found seen other in
-    let kept : left ≡ found = leaves ∙ ap (λ b. if b then 0 else found) test in
-    ap (λ b. if b then Raced else Taken found) (eq-eqb found left (sym kept)) ∙ sym (ap (λ b. if b then Taken seen else Raced) test))
+raced_is : (found seen : ℕ) → compared seen found ≡ Raced → found ≢ seen
+raced_is found seen raced same =
+    let taken : compared seen found ≡ Taken seen = ap (λ b. if b then Taken seen else Raced) (eq-eqb found seen same) in
+    apart seen (sym taken ∙ raced)
+  where
+    apart : (n : ℕ) → Taken n ≡ Raced → ⊥
+    apart n e = absurd (cc)
 
 -- the compare of a receive that has loaded a count other than 0
-module _ (f seen begun : ℕ) (last : EndAct) (old loaded new : Seat) (some : seen ≢ 0)
-    (before : List Event) (apart : AreOfOthers old.core before) (history : history_of loaded.seen ≡ before ++ history_of old.seen)
+module _ (f : ℕ) (l : Look) (seen begun : ℕ) (last : EndAct) (old loaded new : Seat) (some : seen ≢ 0)
+    (others : List (Entry EndCall)) (apart : AreOfOthers old.core others)
+    (history : loaded.seen ≡ entry old.core (Load f) seen (Some (call_of Recv f l)) ∷ (others ++ old.seen))
     (core : loaded.core ≡ old.core) (same_table : loaded.table ≡ old.table) (more : begun ≡ old.program.begun + 1)
     (program : loaded.program ≡ end_core (Takes f seen) old.program.frames begun last) where
-  compares : Turns end_steps loaded None new → Answered Recv f old new
+  compares : Turns end_steps loaded None new → Answered Recv f l old new
   unfolding took
   compares turn =
       let s = turn.makes in
@@ -134,21 +159,24 @@ module _ (f seen begun : ℕ) (last : EndAct) (old loaded new : Seat) (some : se
       let now : new.program ≡ end_core Idle old.program.frames begun (took (s.found == seen) seen) = s.program
       ∙ ap (λ p. end_steps.after p (told_by turn.op s.found)) program
       ∙ ap (λ n. end_core Idle old.program.frames begun (took (n == seen) seen)) told in
-      let e : Entry EndCall = entry loaded.core turn.op s.found None in
-      let did : act_of e.call e.found e.left ≡ Some (took (s.found == seen) seen) =
-      ap Some (took_is s.found e.left seen some (ap (λ o. left_by o s.found) is)) in
+      let answer : reply_of new.program.last ≡ compared seen s.found = ap (λ p. reply_of p.last) now ∙ answer_is (s.found == seen) seen in
+      let whole : new.seen ≡ entry old.core (Compare f seen 0) s.found None
+      ∷ (s.others ++ entry old.core (Load f) seen (Some (call_of Recv f l)) ∷ (others ++ old.seen)) =
+      s.seen ∙ ap (λ (z : ℕ × WordOp × List (Entry EndCall)). entry z.0 z.1 s.found None ∷ (s.others ++ z.2))
+      (λ i. (core i, is i, history i)) in
       record {
-        does = record {
-          act = took (s.found == seen) seen;
-          fits = fits_took (s.found == seen) seen;
-          is = ap (λ p. reply_of p.last) now;
-          others = history_of s.others ++ before;
-          apart = others_append old.core (history_of s.others) before
-              (history_of-others old.core s.others (subst (λ c. table.AreOfOthers c s.others) core s.apart)) apart;
-          whole = ap history_of s.seen
-              ∙ decides old.core f (took (s.found == seen) seen) e s.others loaded.seen core (ap place_in is) did
-              ∙ ap (λ l. event old.core f (took (s.found == seen) seen) ∷ l)
-              (ap (λ l. history_of s.others ++ l) history ∙ sym (append_assoc (history_of s.others) before (history_of old.seen)));
+        does = λ k. inr record {
+          seen = seen;
+          some = omega arith;
+          found = s.found;
+          is = answer;
+          others = others;
+          apart = apart;
+          between = s.others;
+          between_apart = subst (λ c. AreOfOthers c s.others) core s.apart;
+          whole = whole;
+          crossed = λ raced. crossed old.core f l seen s.found others s.others old.seen new.seen whole k
+              (raced_is s.found seen (sym answer ∙ raced));
         };
         idle = ap (λ p. p.stage) now;
         frames_are = ap (λ p. p.frames) now;
@@ -157,7 +185,7 @@ module _ (f seen begun : ℕ) (last : EndAct) (old loaded new : Seat) (some : se
         table = s.table ∙ same_table;
       }
 
-  later : (n : ℕ) → TurnsOn end_steps n loaded new → IsNone (next_at new.program.stage) → Answered Recv f old new
+  later : (n : ℕ) → TurnsOn end_steps n loaded new → IsNone (next_at new.program.stage) → Answered Recv f l old new
   later zero turns none =
       let stage : new.program.stage ≡ Takes f seen = ap (λ (s : Seat). s.program.stage) turns ∙ ap (λ p. p.stage) program in
       let idle = idle_of new.program.stage none in
@@ -168,8 +196,8 @@ module _ (f seen begun : ℕ) (last : EndAct) (old loaded new : Seat) (some : se
       ∙ ap (λ p. end_steps.after p (told_by turns.1.op turns.1.makes.found)) program) in
       compares (subst (Turns end_steps loaded None) (sym (ends_here n turns.0 new idle turns.2)) turns.1)
 
-answered_recv : (f : ℕ) (old new : Seat) → MakesCall end_steps old (call_of Recv f) new → Answered Recv f old new
-answered_recv f old new m =
+answered_recv : (f : ℕ) (l : Look) (old new : Seat) → MakesCall end_steps old (call_of Recv f l) new → Answered Recv f l old new
+answered_recv f l old new m =
     let s = m.first.makes in
     let n : ℕ = s.found in
     let p = old.program in
@@ -177,27 +205,33 @@ answered_recv f old new m =
     let is : m.first.op ≡ Load f = cc in
     let told : told_by m.first.op n ≡ n = ap (λ o. told_by o n) is in
     let loaded : ℕ → Bool → EndCore = λ k b.
-    end_core (if b then Idle else Takes f k) p.frames (p.begun + 1) (if b then Taken 0 else p.last) in
+    end_core (if b then Idle else Takes f k) p.frames (p.begun + 1) (if b then act.Taken 0 else p.last) in
     let program : m.begun.program ≡ loaded n (n == 0) = s.program ∙ ap (λ k. loaded k (k == 0)) told in
-    let first : Bool → Option EndAct = λ b. if b then Some (Taken 0) else None in
+    let seen = begun_with Recv f l old new m (Load f) is in
     dite (ℕ_discrete n 0)
-    (λ (none : n ≡ 0). let test = eq-eqb n 0 none in
-    answered_first Recv f old new m (Taken 0) tt (ap place_in is) (ap first test) (program ∙ ap (loaded n) test))
-    (λ (some : n ≢ 0). let test = ne_eqb n 0 some in
-    later f n (p.begun + 1) p.last old m.begun new some (history_of s.others) (history_of-others old.core s.others s.apart)
-    (ap history_of s.seen ∙ ap (λ o. noted old.core (place_in m.first.op) o ++ history_of (s.others ++ old.seen)) (ap first test)
-    ∙ history_of-append s.others old.seen)
-    s.core s.table refl (program ∙ ap (loaded n) test) m.count m.rest m.idle)
+    (λ (none : n ≡ 0).
+    answered_first Recv f l old new m (act.Taken 0) (program ∙ ap (loaded n) (eq-eqb n 0 none)) (inl (
+      record {
+        others = s.others;
+        apart = s.apart;
+        whole = seen ∙ ap (λ k. entry old.core (Load f) k (Some (call_of Recv f l)) ∷ (s.others ++ old.seen)) none;
+      },
+      refl,
+    )))
+    (λ (some : n ≢ 0).
+    later f l n (p.begun + 1) p.last old m.begun new some s.others s.apart seen s.core s.table refl
+    (program ∙ ap (loaded n) (ne_eqb n 0 some)) m.count m.rest m.idle)
 
-pub answered : (asks : EndOp) (f : ℕ) (old new : Seat) → MakesCall end_steps old (call_of asks f) new → Answered asks f old new
-answered Send f old new m = answered_send f old new m
-answered Recv f old new m = answered_recv f old new m
+pub answered : (asks : EndOp) (f : ℕ) (l : Look) (old new : Seat) → MakesCall end_steps old (call_of asks f l) new
+    → Answered asks f l old new
+answered Send f l old new m = answered_send f l old new m
+answered Recv f l old new m = answered_recv f l old new m
 
 module _ (frames cores made : ℕ) (old : Seat) (is : IsSeat frames cores made old) where
   -- a seat that has made a call is one
-  pub still_seat : (op : EndOp) (f : ℕ) (new : Seat) → Answered op f old new → FollowsTrace end_steps new → made < most_calls
-      → IsSeat frames cores (made + 1) new
-  still_seat op f new a follows few = record {
+  pub still_seat : (op : EndOp) (f : ℕ) (l : Look) (new : Seat) → Answered op f l old new → FollowsTrace end_steps new
+      → made < most_calls → IsSeat frames cores (made + 1) new
+  still_seat op f l new a follows few = record {
     start = subst (λ t. IsStart frames cores t.start) (sym a.table) is.start;
     follows = follows;
     idle = a.idle;
@@ -206,22 +240,22 @@ module _ (frames cores made : ℕ) (old : Seat) (is : IsSeat frames cores made o
     most = omega arith;
   }
 
-  pub acts : (op : EndOp) (f : ℕ) (r : EndReply) (new : Seat) → Answered op f old new → IsSeat frames cores (made + 1) new
-      → r ≡ reply_of new.program.last
-      → Acts op f r (seat_value frames cores made old) (seat_value frames cores (made + 1) new)
-  acts op f r new a now answer = record {
-    does = subst (λ x. Does op old.core f x (history_of old.seen) (history_of new.seen)) (sym answer) a.does;
-    legal = legal frames cores (made + 1) new now;
+  pub acts : (op : EndOp) (f : ℕ) (l : Look) (r : EndReply) (new : Seat) → Answered op f l old new
+      → IsSeat frames cores (made + 1) new → r ≡ reply_of new.program.last
+      → Acts op f l r (seat_value frames cores made old) (seat_value frames cores (made + 1) new)
+  acts op f l r new a now answer = let k = legal frames cores (made + 1) new now in record {
+    does = subst (λ x. Does op old.core f l x old.seen new.seen) (sym answer) (a.does k);
+    legal = k;
     counted = refl;
     core = a.core;
     table = ap (table_value frames cores) a.table;
   }
 
   -- a call that was refused
-  pub refused : (op : EndOp) (looked refusal : Reply) → reached op looked ≡ Err refusal
-      → Comes op looked (Refused refusal) (seat_value frames cores made old) (seat_value frames cores (made + 1) old)
-  refused op looked refusal is_refused = record {
-    comes = subst (λ x. ComesTo op old.core x (Refused refusal) (history_of old.seen) (history_of old.seen)) (sym is_refused) (refl, refl);
+  pub refused : (op : EndOp) (l : Look) (refusal : Reply) → reached op l.reply ≡ Err refusal
+      → Comes op l (Refused refusal) (seat_value frames cores made old) (seat_value frames cores (made + 1) old)
+  refused op l refusal is_refused = record {
+    comes = subst (λ x. ComesTo op old.core l x (Refused refusal) old.seen old.seen) (sym is_refused) (refl, refl);
     legal = legal frames cores made old is;
     counted = refl;
     core = refl;

@@ -1,46 +1,54 @@
 -- Endpoint calls that were made: what each has done, and whether its answer is the one due.
-use Rattle.std.specs.Prelude.{◌≡◌, ℕ, List, [], ◌∷◌, ◌++◌, Option, Some, None, Result, Ok, Err}
+use Rattle.std.specs.Prelude.{◌≡◌, ◌≢◌, ℕ, ◌<◌, ◌==◌, List, [], ◌∷◌, ◌++◌, if◌then◌else◌, Result, Ok, Err}
+use Rattle.std.specs.List.{AllZip, flat_map}
 use Rattle.spk_nums.specs.declared.replies.Reply.{Reply}
 use Rattle.async_ends.specs.declared.endpoint.EndOp.{EndOp}
 use Rattle.async_ends.specs.declared.endpoint.EndOp.TheVariants.{Send, Recv}
-use Rattle.async_ends.specs.declared.endpoint.EndAct.{EndAct}
-use Rattle.async_ends.specs.declared.endpoint.EndAct.TheVariants as act
 use Rattle.async_ends.specs.declared.endpoint.EndReply.{EndReply}
 use Rattle.async_ends.specs.declared.endpoint.EndReply.TheVariants.{Sent, Taken, Raced, Refused}
+use Rattle.async_ends.specs.declared.asks.Look.{Look}
 use Rattle.async_ends.specs.declared.asks.EndDone.{EndDone}
-use Rattle.async_ends.specs.Events.{Event}
-use Rattle.async_ends.specs.Seen.{noted}
-use Rattle.async_ends.specs.Calls.{Look, look, reached, Comes}
+use Rattle.async_ends.specs.Looks.{look, reached}
+use Rattle.async_ends.specs.Events.{Added, Loaded, Took, Missed, Event, event}
+use Rattle.async_ends.specs.Calls.{Comes}
 use Rattle.async_ends.specs.Tables.{EndSeatValue}
 
--- What an answer tells to have been done.
-abbrev pub act_in : EndReply → Option EndAct
-act_in Sent = Some act.Sent
-act_in (Taken k) = Some (act.Taken k)
-act_in Raced = Some act.Raced
-act_in (Refused r) = None
+-- The events of a receive that took k: a load, and a compare where k is not 0.
+abbrev pub taken_by : ℕ → ℕ → Look → ℕ → List Event
+taken_by c f l k = event c f (Loaded l k) ∷ (if k == 0 then [] else event c f (Took k) ∷ [])
 
-abbrev pub event_at : ℕ → Result ℕ Reply → EndReply → List Event
-event_at c (Ok f) answer = noted c f (act_in answer)
-event_at c (Err r) answer = []
+-- The events of a receive that was raced: a load of some, and a compare that found another count.
+pub record AreRaced (c f : ℕ) (l : Look) (steps : List Event) : Type 0 where
+  pub seen : ℕ
+  pub some : 0 < seen
+  pub found : ℕ
+  pub another : found ≢ seen
+  pub are : steps ≡ event c f (Loaded l seen) ∷ event c f (Missed found) ∷ []
 
--- The event of core c's call, at the frame that its look led to; none where it was refused.
-abbrev pub event_of : ℕ → EndDone → List Event
-event_of c d = event_at c (reached d.ask.op d.looked) d.answer
+-- These are the events of core c's call with this look, in order, by where the look led and what the call was answered.
+abbrev pub AreStepsBy : EndOp → ℕ → Look → Result ℕ Reply → EndReply → List Event → Type 0
+AreStepsBy op c l (Err refusal) answer steps = (answer ≡ Refused refusal) × (steps ≡ [])
+AreStepsBy op c l (Ok f) Sent steps = (op ≡ Send) × (steps ≡ event c f (Added l) ∷ [])
+AreStepsBy op c l (Ok f) (Taken k) steps = (op ≡ Recv) × (steps ≡ taken_by c f l k)
+AreStepsBy op c l (Ok f) Raced steps = (op ≡ Recv) × AreRaced c f l steps
+AreStepsBy op c l (Ok f) (Refused r) steps = ⊥
 
--- A send that reached a frame sent; a receive there took or was raced; a call that reached none has its refusal.
-abbrev pub IsAnsweredBy : EndOp → Result ℕ Reply → EndReply → Type 0
-IsAnsweredBy op (Ok f) Sent = op ≡ Send
-IsAnsweredBy op (Ok f) (Taken k) = op ≡ Recv
-IsAnsweredBy op (Ok f) Raced = op ≡ Recv
-IsAnsweredBy op (Ok f) (Refused r) = ⊥
-IsAnsweredBy op (Err r) answer = answer ≡ Refused r
+-- The look of a call that was made.
+abbrev pub look_in : EndDone → Look
+look_in d = look d.ask.number d.looked
 
--- The call's answer is one that its look allows.
-abbrev pub IsAnswered : EndDone → Type 0
-IsAnswered d = IsAnsweredBy d.ask.op (reached d.ask.op d.looked) d.answer
+-- These are the events of core c's call, in order. The first of them has the call's own look. A send that reached a frame is answered
+-- `Sent`, a receive there what it took or that it was raced; a call that reached none has its refusal.
+abbrev pub AreStepsOf : ℕ → EndDone → List Event → Type 0
+AreStepsOf c d steps = AreStepsBy d.ask.op c (look_in d) (reached d.ask.op d.looked) d.answer steps
+
+-- These are the events of core c's calls, in order, call by call.
+pub record AreStepsOfAll (c : ℕ) (done : List EndDone) (events : List Event) : Type 0 where
+  pub steps : List (List Event)
+  pub each : AllZip (AreStepsOf c) done steps
+  pub whole : events ≡ flat_map (λ s. s) steps
 
 -- The seat's core has made this call. Its authority's looks have grown by the call's own.
 pub record MakesDone (looks now : List Look) (seat : EndSeatValue) (d : EndDone) (made : EndSeatValue) : Type 0 where
-  pub asks : now ≡ looks ++ look d.ask.number d.looked ∷ []
-  pub comes : Comes d.ask.op d.looked d.answer seat made
+  pub asks : now ≡ looks ++ look_in d ∷ []
+  pub comes : Comes d.ask.op (look_in d) d.answer seat made

@@ -1,103 +1,97 @@
--- What calls at endpoints answer and add to a seat's history.
-use Rattle.std.specs.Prelude.{◌≡◌, ◌≢◌, ℕ, ◌+◌, ◌<◌, List, [], ◌∷◌, ◌++◌, Bool, true, false, Result, Ok, Err}
-use Rattle.spk_nums.specs.Capability.{Capability}
-use Rattle.spk_nums.specs.declared.kinds.Kind.{Kind}
-use Rattle.spk_nums.specs.declared.kinds.Kind.TheVariants.{Range, Gate, Comp}
-use Rattle.spk_nums.specs.declared.replies.Value.{Value}
-use Rattle.spk_nums.specs.declared.replies.Value.TheVariants.{Cap}
+-- What calls at endpoints answer, and the steps by which they extend what a seat has seen.
+use Rattle.std.specs.Prelude.{◌≡◌, ℕ, ◌+◌, ◌<◌, ◌==◌, ◌⊎◌, List, [], ◌∷◌, ◌++◌, if◌then◌else◌, Some, None, Result, Ok, Err}
 use Rattle.spk_nums.specs.declared.replies.Reply.{Reply}
-use Rattle.spk_nums.specs.declared.replies.Reply.TheVariants.{WrongCap}
-use Rattle.spk_nums.specs.declared.replies.Reply.TheVariants as reply
+use Rattle.spk_nums.specs.declared.steps.WordOp.TheVariants.{Load, Compare, Add}
+use Rattle.turn_rule.specs.declared.view.Entry.{Entry}
+use Rattle.turn_rule.specs.Trace.{entry, AreOfOthers}
+use Rattle.async_ends.specs.declared.asks.Look.{Look}
 use Rattle.async_ends.specs.declared.endpoint.EndOp.{EndOp}
 use Rattle.async_ends.specs.declared.endpoint.EndOp.TheVariants.{Send, Recv}
-use Rattle.async_ends.specs.declared.endpoint.EndAct.{EndAct}
-use Rattle.async_ends.specs.declared.endpoint.EndAct.TheVariants.{Sent, Taken, Raced}
+use Rattle.async_ends.specs.declared.endpoint.EndCall.{EndCall}
 use Rattle.async_ends.specs.declared.endpoint.EndReply.{EndReply}
-use Rattle.async_ends.specs.declared.endpoint.EndReply.TheVariants as answer
-use Rattle.async_ends.specs.Events.{Event, event, AreOfOthers, IsLegal}
+use Rattle.async_ends.specs.declared.endpoint.EndReply.TheVariants.{Sent, Taken, Raced, Refused}
+use Rattle.async_ends.specs.Looks.{look, reached}
+use Rattle.async_ends.specs.Events.{Event, Moves, IsLegal}
 use Rattle.async_ends.specs.Seen.{history_of}
 use Rattle.async_ends.specs.Tables.{EndSeatValue}
 
--- A look: the number asked for, and the reply.
-pub record Look : Type 0 where
-  pub number : ℕ
-  pub reply : Reply
+abbrev pub call_of : EndOp → ℕ → Look → EndCall
+call_of op f l = record { op = op; frame = f; look = l }
 
-abbrev pub look : ℕ → Reply → Look
-look number r = record { number = number; reply = r }
-
--- A capability that the reply has names a frame below n, if it is no range.
-abbrev pub NamesBelow : ℕ → Reply → Type 0
-NamesBelow n r = (cap : Capability) → r ≡ reply.Ok (Cap cap) → cap.kind ≢ Range → cap.frame < n
-
--- A send goes through a gate, a receive through a component capability.
-abbrev pub serves : EndOp → Kind → Bool
-serves Send Gate = true
-serves Send _ = false
-serves Recv Comp = true
-serves Recv _ = false
-
--- What an answered capability leads to: the frame's endpoint, or the refusal.
-abbrev pub frame_by : Bool → Capability → Result ℕ Reply
-frame_by true cap = Ok cap.frame
-frame_by false cap = Err WrongCap
-
-abbrev pub reached_by : EndOp → Value → Result ℕ Reply
-reached_by op (Cap cap) = frame_by (serves op cap.kind) cap
-reached_by op _ = Err WrongCap
-
--- The frame whose endpoint a look leads to, or the refusal: the look's own, or `wrong-cap` where it answered another kind.
-abbrev pub reached : EndOp → Reply → Result ℕ Reply
-reached op (reply.Ok value) = reached_by op value
-reached op refusal = Err refusal
-
-abbrev pub reply_of : EndAct → EndReply
-reply_of Sent = answer.Sent
-reply_of (Taken k) = answer.Taken k
-reply_of Raced = answer.Raced
-
--- A send sends, and a receive takes or is raced.
-abbrev pub Fits : EndOp → EndAct → Type 0
-Fits Send Sent = Unit {0}
-Fits Send _ = ⊥
-Fits Recv Sent = ⊥
-Fits Recv _ = Unit {0}
-
--- The history goes on by events of other cores, and ends with one of core c at frame f, to which r is the answer.
-pub record Does (op : EndOp) (c f : ℕ) (r : EndReply) (before after : List Event) : Type 0 where
-  pub act : EndAct
-  pub fits : Fits op act
-  pub is : r ≡ reply_of act
-  pub others : List Event
+-- The call at frame f was one step: it added one.
+pub record AddsOne (c f : ℕ) (l : Look) (before after : List (Entry EndCall)) : Type 0 where
+  pub found : ℕ
+  pub others : List (Entry EndCall)
   pub apart : AreOfOthers c others
-  pub whole : after ≡ event c f act ∷ (others ++ before)
+  pub whole : after ≡ entry c (Add f 1) found (Some (call_of Send f l)) ∷ (others ++ before)
+
+-- The call at frame f was one step: it loaded 0.
+pub record FindsNone (c f : ℕ) (l : Look) (before after : List (Entry EndCall)) : Type 0 where
+  pub others : List (Entry EndCall)
+  pub apart : AreOfOthers c others
+  pub whole : after ≡ entry c (Load f) 0 (Some (call_of Recv f l)) ∷ (others ++ before)
+
+-- Some step of these sent to frame f, or took some there.
+pub record IsMoved (h : List Event) (f : ℕ) : Type 0 where
+  pub since : List Event
+  pub by : Event
+  pub older : List Event
+  pub whole : h ≡ since ++ by ∷ older
+  pub there : by.frame ≡ f
+  pub moves : Moves by.step
+
+-- What a receive is answered that has loaded a count other than 0, by what its compare found.
+abbrev pub compared : ℕ → ℕ → EndReply
+compared seen found = if found == seen then Taken seen else Raced
+
+-- The call at frame f was two steps: it loaded a count other than 0, and put 0 in its place by one compare. Where that found another
+-- count, other cores had sent to the frame or taken some there between the two.
+pub record ComparesIt (c f : ℕ) (l : Look) (r : EndReply) (before after : List (Entry EndCall)) : Type 0 where
+  pub seen : ℕ
+  pub some : 0 < seen
+  pub found : ℕ
+  pub is : r ≡ compared seen found
+  pub others : List (Entry EndCall)
+  pub apart : AreOfOthers c others
+  pub between : List (Entry EndCall)
+  pub between_apart : AreOfOthers c between
+  pub whole : after ≡ entry c (Compare f seen 0) found None
+      ∷ (between ++ entry c (Load f) seen (Some (call_of Recv f l)) ∷ (others ++ before))
+  pub crossed : r ≡ Raced → IsMoved (history_of between) f
+
+-- The call's own steps at frame f, with those of other cores between them, and its answer. A receive is raced exactly where its compare
+-- found another count than its load.
+abbrev pub Does : EndOp → ℕ → ℕ → Look → EndReply → List (Entry EndCall) → List (Entry EndCall) → Type 0
+Does Send c f l r before after = AddsOne c f l before after × (r ≡ Sent)
+Does Recv c f l r before after = (FindsNone c f l before after × (r ≡ Taken 0)) ⊎ ComparesIt c f l r before after
 
 -- What becomes of a call that reached a frame, or was refused.
-abbrev pub ComesTo : EndOp → ℕ → Result ℕ Reply → EndReply → List Event → List Event → Type 0
-ComesTo op c (Err refusal) r before after = (r ≡ answer.Refused refusal) × (after ≡ before)
-ComesTo op c (Ok f) r before after = Does op c f r before after
+abbrev pub ComesTo : EndOp → ℕ → Look → Result ℕ Reply → EndReply → List (Entry EndCall) → List (Entry EndCall) → Type 0
+ComesTo op c l (Err refusal) r before after = (r ≡ Refused refusal) × (after ≡ before)
+ComesTo op c l (Ok f) r before after = Does op c f l r before after
 
--- The seat's core has made this call at frame f, and was answered r.
-pub record Acts (op : EndOp) (f : ℕ) (r : EndReply) (seat made : EndSeatValue) : Type 0 where
-  pub does : Does op seat.core f r (history_of seat.seen) (history_of made.seen)
+-- The seat's core has made this call at frame f, to which its look has led, and was answered r.
+pub record Acts (op : EndOp) (f : ℕ) (l : Look) (r : EndReply) (seat made : EndSeatValue) : Type 0 where
+  pub does : Does op seat.core f l r seat.seen made.seen
   pub legal : IsLegal (history_of made.seen)
   pub counted : made.made ≡ seat.made + 1
   pub core : made.core ≡ seat.core
   pub table : made.table ≡ seat.table
 
--- The seat's core has made a call whose look was answered so, and was answered r. The seat's history, which is legal, has grown by the
--- call's event, or is the same where the call was refused.
-pub record Comes (op : EndOp) (looked : Reply) (r : EndReply) (seat made : EndSeatValue) : Type 0 where
-  pub comes : ComesTo op seat.core (reached op looked) r (history_of seat.seen) (history_of made.seen)
+-- The seat's core has made a call with this look, and was answered r. What the seat has seen, which is a legal history, has grown by the
+-- call's steps, or is the same where the call was refused.
+pub record Comes (op : EndOp) (l : Look) (r : EndReply) (seat made : EndSeatValue) : Type 0 where
+  pub comes : ComesTo op seat.core l (reached op l.reply) r seat.seen made.seen
   pub legal : IsLegal (history_of made.seen)
   pub counted : made.made ≡ seat.made + 1
   pub core : made.core ≡ seat.core
   pub table : made.table ≡ seat.table
 
 -- The seat's core has made this call with the capability of this number, and was answered r. Its authority's looks have grown by the
--- call's own.
-pub record MakesEndCall (op : EndOp) (number : ℕ) (looks now : List Look) (seat : EndSeatValue) (r : EndReply) (made : EndSeatValue)
-    : Type 0 where
+-- call's own, and the authority is what that look has made of it.
+pub record MakesEndCall (op : EndOp) (number : ℕ) (looks now : List Look) (goes : Look → Type 0) (seat : EndSeatValue) (r : EndReply)
+    (made : EndSeatValue) : Type 0 where
   pub looked : Reply
   pub asks : now ≡ looks ++ look number looked ∷ []
-  pub comes : Comes op looked r seat made
+  pub led : goes (look number looked)
+  pub comes : Comes op (look number looked) r seat made

@@ -1,5 +1,5 @@
 -- The program of an endpoint call.
-use Rattle.std.specs.Prelude.{ℕ, ◌+◌, ◌<◌, ◌==◌, if◌then◌else◌, Option, Some, None}
+use Rattle.std.specs.Prelude.{ℕ, ◌+◌, ◌<◌, ◌==◌, ◌≡◌, if◌then◌else◌, Option, Some, None, Ok}
 use Rattle.spk_nums.specs.declared.steps.WordOp.{WordOp}
 use Rattle.spk_nums.specs.declared.steps.WordOp.TheVariants.{Load, Compare, Add}
 use Rattle.turn_rule.specs.Steps.{Steps}
@@ -8,8 +8,17 @@ use Rattle.async_ends.specs.declared.endpoint.EndOp.TheVariants.{Send, Recv}
 use Rattle.async_ends.specs.declared.endpoint.EndCall.{EndCall}
 use Rattle.async_ends.specs.declared.endpoint.EndAct.{EndAct}
 use Rattle.async_ends.specs.declared.endpoint.EndAct.TheVariants.{Sent, Taken, Raced}
+use Rattle.async_ends.specs.declared.endpoint.EndReply.{EndReply}
+use Rattle.async_ends.specs.declared.endpoint.EndReply.TheVariants as answer
 use Rattle.async_ends.specs.declared.run.EndStage.{EndStage}
 use Rattle.async_ends.specs.declared.run.EndStage.TheVariants.{Idle, Adds, Loads, Takes}
+use Rattle.async_ends.specs.Looks.{reached}
+
+-- What a call is answered that has done so.
+abbrev pub reply_of : EndAct → EndReply
+reply_of Sent = answer.Sent
+reply_of (Taken k) = answer.Taken k
+reply_of Raced = answer.Raced
 
 -- A core as contracts see it: where its call stands, the number of frames, how many calls it has begun, and what the last one did.
 pub record EndCore : Type 0 where
@@ -65,11 +74,17 @@ steps_left (Adds f) = 1
 steps_left (Loads f) = 2
 steps_left (Takes f n) = 1
 
+-- The call's frame is one of the table's, and the one to which its look has led; and the core has begun fewer calls than it may.
+pub record MayCall (p : EndCore) (call : EndCall) : Type 0 where
+  pub frame : call.frame < p.frames
+  pub few : p.begun < most_calls
+  pub leads : reached call.op call.look.reply ≡ Ok call.frame
+
 abbrev pub end_steps : Steps EndCore EndCall
 end_steps = record {
   next = λ p. next_at p.stage;
   after = λ p n. end_core (stage_after p.stage n) p.frames p.begun (did_after p.stage p.last n);
-  fit = λ p call. (call.frame < p.frames) × (p.begun < most_calls);
+  fit = MayCall;
   begun = λ p call. end_core (first_stage call.op call.frame) p.frames (p.begun + 1) p.last;
   size = λ p. p.frames;
   left = λ p. steps_left p.stage;

@@ -1,12 +1,12 @@
 -- A table of endpoints and its seats as contracts see them.
-use Rattle.std.specs.Prelude.{◌≡◌, ℕ, ◌+◌, ◌<◌, ◌≤◌, List, [], length, slice_get, slice_index, Some}
+use Rattle.std.specs.Prelude.{◌≡◌, ℕ, ◌+◌, ◌<◌, ◌≤◌, List, [], length, slice_get, slice_index, Some, None}
 use Rattle.std.specs.List.{AllZip}
 use Rattle.turn_rule.specs.declared.view.Entry.{Entry}
 use Rattle.turn_rule.specs.declared.view.Start.{Start}
 use Rattle.turn_rule.specs.Seats.{TableValue, SeatValue, FollowsTrace}
 use Rattle.async_ends.specs.declared.endpoint.EndCall.{EndCall}
 use Rattle.async_ends.specs.declared.run.EndStage.TheVariants.{Idle}
-use Rattle.async_ends.specs.Events.{Event, ExtendsByOthers, IsLegal, AreOfOthers, untaken, sent_to, taken_at}
+use Rattle.async_ends.specs.Events.{Event, ExtendsByOthers, IsLegal, AreCrossed, AreOfOthers, receiving, untaken, sent_to, taken_at}
 use Rattle.async_ends.specs.Running.{EndCore, unused, end_steps, most_calls}
 use Rattle.async_ends.specs.Seen.{history_of}
 
@@ -58,11 +58,14 @@ pub record AreAllSeats (of : EndTableValue) (seats : List EndSeatValue) : Type 0
 abbrev pub AreFresh : List EndSeatValue → Type 0
 AreFresh seats = (k : ℕ) (s : EndSeatValue) → slice_get seats k ≡ Some s → (s.seen ≡ []) × (s.made ≡ 0)
 
--- There is one legal history, which begins with each seat's and has no further event of the seat's core. The count left for each frame
--- is what was sent there since the last receive that was not raced, so it is the sends less what was taken.
+-- There is one legal history, which begins with each seat's and has no further event of the seat's core. No receive is in progress after
+-- it, and each that was raced was crossed. The count left for each frame is what was sent there since the last receive that took some, so
+-- it is the sends less what was taken.
 pub record EndsAt (table : EndTableValue) (seats : List EndSeatValue) (counts : List ℕ) : Type 0 where
   pub history : List Event
   pub legal : IsLegal history
+  pub crossed : AreCrossed history
+  pub returned : (c : ℕ) → receiving history c ≡ None
   pub begins : (k : ℕ) (s : EndSeatValue) → slice_get seats k ≡ Some s → ExtendsByOthers s.core (history_of s.seen) history
   pub no_other : (c : ℕ) → table.cores ≤ c → AreOfOthers c history
   pub count : length counts ≡ table.frames

@@ -3,6 +3,15 @@
 use crate::endpoint::{EndOp, EndReply};
 use spk_nums::{CapId, Reply};
 
+/// A look at a capability, by which an endpoint is reached.
+#[derive(Clone, Copy, PartialEq, Eq, Debug)]
+pub struct Look {
+    /// The capability's number.
+    pub number: CapId,
+    /// What the look was answered.
+    pub reply: Reply,
+}
+
 /// A call at the endpoint that a capability leads to.
 #[derive(Clone, Copy, PartialEq, Eq, Debug)]
 pub struct EndAsk {

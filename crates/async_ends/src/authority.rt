@@ -1,14 +1,15 @@
 //! Who may reach an endpoint: what answers a core's looks at its capabilities.
 
 ghost use Rattle.std.specs.Prelude.{◌≡◌, ◌<◌, ◌++◌, [], ◌∷◌};
-ghost use Rattle.async_ends.specs.Calls.{look, NamesBelow};
+ghost use Rattle.async_ends.specs.Looks.{look, NamesBelow};
 
 use spk_nums::{CapId, Reply};
 
 /// What a call at an endpoint asks for the capability that it names.
 pub trait Authority {
     ghost use Rattle.std.specs.Prelude.{◌≡◌, ℕ, List, ◌++◌, [], ◌∷◌};
-    ghost use Rattle.async_ends.specs.Calls.{Look, look, NamesBelow};
+    ghost use Rattle.async_ends.specs.declared.asks.Look.{Look};
+    ghost use Rattle.async_ends.specs.Looks.{look, NamesBelow};
 
     // The looks so far, in order, with their replies.
     ghost looks: { Self → List Look };

@@ -1,8 +1,10 @@
 //! What is asked of an endpoint, what is done there, and what is answered.
 
 ghost use Rattle.std.specs.Prelude.{◌≡◌};
-ghost use Rattle.async_ends.specs.Calls.{reached, reply_of, serves};
+ghost use Rattle.async_ends.specs.Looks.{reached, serves};
+ghost use Rattle.async_ends.specs.Running.{reply_of};
 
+use crate::asks::Look;
 use spk_nums::{FrameNo, Kind, Reply, Value};
 
 /// What is asked of an endpoint.
@@ -14,13 +16,16 @@ pub enum EndOp {
     Recv,
 }
 
-/// A send or a receive at a frame's endpoint.
+/// A send or a receive at a frame's endpoint, with the look that led there. So the step with which it begins has what the
+/// look was answered, and comes after it.
 #[derive(Clone, Copy, PartialEq, Eq, Debug)]
 pub struct EndCall {
     /// What is asked.
     pub op: EndOp,
     /// The frame.
     pub frame: u16,
+    /// The look.
+    pub look: Look,
 }
 
 /// What a send or a receive has done.
@@ -30,7 +35,7 @@ pub enum EndAct {
     Sent,
     /// So many were taken, which were all that had been sent and not been taken.
     Taken(u64),
-    /// Nothing was taken: another core changed the count between the two steps of the receive.
+    /// Nothing was taken: the receive's compare found another count than its load.
     Raced,
 }
 
@@ -41,7 +46,8 @@ pub enum EndReply {
     Sent,
     /// So many were taken.
     Taken(u64),
-    /// The receive took nothing, since another core sent or received in between.
+    /// The receive took nothing: between its load and its compare another core sent or received, so that the compare found
+    /// another count than the load.
     Raced,
     /// The look was answered so, or led to a capability of another kind, which is `wrong-cap`. Nothing was done.
     Refused(Reply),

@@ -1,7 +1,7 @@
 //! The handle with which a core sends and receives.
 
-ghost use Rattle.std.specs.Prelude.{◌≡◌, ◌≤◌};
-ghost use Rattle.async_ends.specs.Events.{IsLegal};
+ghost use Rattle.std.specs.Prelude.{◌≡◌, ◌≤◌, None};
+ghost use Rattle.async_ends.specs.Events.{AreCrossed, IsLegal, receiving};
 ghost use Rattle.async_ends.specs.Running.{most_calls};
 ghost use Rattle.async_ends.specs.Seen.{history_of};
 
@@ -31,11 +31,14 @@ impl Model for EndSeat {
 
 impl EndSeat {
     /// How many calls were made with the seat, the refused ones too: at most 4,194,304. Its contract also says what holds
-    /// of every seat: the history that it has seen is legal.
+    /// of every seat: the history that it has seen is legal, each receive in it that was raced was crossed by another core
+    /// between its two steps, and the seat's core is between calls.
     pub fn made(&self) -> u32
         ensures value { result ≡ self.now.made }
         ensures most { self.now.made ≤ most_calls }
         ensures legal { IsLegal (history_of self.now.seen) }
+        ensures crossed { AreCrossed (history_of self.now.seen) }
+        ensures between { receiving (history_of self.now.seen) self.now.core ≡ None }
     {
         self.made
     }

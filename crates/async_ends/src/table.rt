@@ -1,17 +1,18 @@
 //! The table of endpoints, and the calls that seats make at it.
 
-ghost use Rattle.std.specs.Prelude.{◌≡◌, ◌<◌, ◌≤◌};
+ghost use Rattle.std.specs.Prelude.{◌≡◌, ◌<◌, ◌≤◌, Ok};
 ghost use Rattle.async_ends.specs.declared.endpoint.EndOp.TheVariants.{Send, Recv};
 ghost use Rattle.async_ends.specs.Asked.{MakesDone};
-ghost use Rattle.async_ends.specs.Calls.{Acts, Comes, MakesEndCall, NamesBelow, look};
+ghost use Rattle.async_ends.specs.Calls.{Acts, Comes, MakesEndCall};
+ghost use Rattle.async_ends.specs.Looks.{NamesBelow, look, reached};
 ghost use Rattle.async_ends.specs.Running.{most_calls};
 
-use crate::asks::{EndAsk, EndDone};
+use crate::asks::{EndAsk, EndDone, Look};
 use crate::authority::Authority;
 use crate::endpoint::{EndCall, EndOp, EndReply};
 use crate::run::EndRun;
 use crate::seat::EndSeat;
-use spk_nums::{CapId, FrameNo, Reply};
+use spk_nums::{CapId, FrameNo};
 use std::marker::Model;
 use turn_rule::TurnTable;
 
@@ -34,8 +35,9 @@ impl Model for EndTable {
 }
 
 impl EndTable {
-    /// Sends one to the component of the gate of this number: adds one to its frame's count. It is refused where the look
-    /// at the gate is, and with `wrong-cap` where that is a capability of another kind; nothing is sent then.
+    /// Sends one to the component of the gate of this number: adds one to its frame's count, in one step. It is refused
+    /// where the look at the gate is, and with `wrong-cap` where that is a capability of another kind; nothing is sent then,
+    /// and no step made. The look comes first: the step has it.
     ///
     /// The seat has made fewer than 4,194,304 calls, and the authority knows no more frames than the table. It takes no
     /// memory.
@@ -43,21 +45,24 @@ impl EndTable {
         requires table { seat.old.table ≡ self.now }
         requires few { seat.old.made < most_calls }
         requires frames { A.frame_count who.old ≤ self.now.frames }
-        ensures makes { MakesEndCall Send gate (A.looks who.old) (A.looks who.new) seat.old result seat.new }
+        ensures makes { MakesEndCall Send gate (A.looks who.old) (A.looks who.new) (λ l. A.goes who.old l who.new)
+            seat.old result seat.new }
         ensures frames { A.frame_count who.new ≡ A.frame_count who.old }
     {
         let op = EndOp::Send;
         self.ask(seat, who, EndAsk { op, number: gate }).answer
     }
 
-    /// Takes all that was sent to the component of the capability of this number and was not taken yet. It is raced, and
-    /// takes nothing, only where another core sent there or received from there since it began. It is refused as a send
-    /// is, and its conditions are the same.
+    /// Takes all that was sent to the component of the capability of this number and was not taken yet. It is one step, a
+    /// load of the count, where that is 0; else two, the load and a compare that puts 0 in place of what it loaded. It is
+    /// raced, and takes nothing, exactly where the compare finds another count than the load: then another core sent there
+    /// or took some between the two. It is refused as a send is, and its conditions are the same.
     pub fn recv<A: Authority>(&self, seat: &mut EndSeat, who: &mut A, comp: CapId) -> EndReply
         requires table { seat.old.table ≡ self.now }
         requires few { seat.old.made < most_calls }
         requires frames { A.frame_count who.old ≤ self.now.frames }
-        ensures makes { MakesEndCall Recv comp (A.looks who.old) (A.looks who.new) seat.old result seat.new }
+        ensures makes { MakesEndCall Recv comp (A.looks who.old) (A.looks who.new) (λ l. A.goes who.old l who.new)
+            seat.old result seat.new }
         ensures frames { A.frame_count who.new ≡ A.frame_count who.old }
     {
         let op = EndOp::Recv;
@@ -75,24 +80,27 @@ impl EndTable {
         ensures goes { A.goes who.old (look ask.number result.looked) who.new }
         ensures frames { A.frame_count who.new ≡ A.frame_count who.old }
     {
-        let looked = who.look(ask.number);
-        let answer = self.answer(seat, ask.op, &looked);
+        let EndAsk { op, number } = ask;
+        let reply = who.look(number);
+        let look = Look { number, reply };
+        let answer = self.answer(seat, op, &look);
+        let Look { number, reply } = look;
         EndDone {
-            ask,
-            looked,
+            ask: EndAsk { op, number },
+            looked: reply,
             answer,
         }
     }
 
-    // Makes the call whose look was answered so: at the frame that it leads to, if it does.
-    fn answer(&self, seat: &mut EndSeat, op: EndOp, looked: &Reply) -> EndReply
+    // Makes the call with this look: at the frame that it leads to, if it does.
+    fn answer(&self, seat: &mut EndSeat, op: EndOp, look: &Look) -> EndReply
         requires table { seat.old.table ≡ self.now }
         requires few { seat.old.made < most_calls }
-        requires frames { NamesBelow self.now.frames looked.now }
-        ensures { Comes op looked.now result seat.old seat.new }
+        requires frames { NamesBelow self.now.frames look.now.reply }
+        ensures { Comes op look.now result seat.old seat.new }
     {
-        match op.reach(looked) {
-            Ok(frame) => self.act(seat, op, frame),
+        match op.reach(&look.reply) {
+            Ok(frame) => self.act(seat, op, frame, look),
             Err(refusal) => {
                 seat.made += 1;
                 EndReply::Refused(refusal)
@@ -100,15 +108,17 @@ impl EndTable {
         }
     }
 
-    // Makes the call at the frame.
-    fn act(&self, seat: &mut EndSeat, op: EndOp, frame: FrameNo) -> EndReply
+    // Makes the call at the frame to which its look has led.
+    fn act(&self, seat: &mut EndSeat, op: EndOp, frame: FrameNo, look: &Look) -> EndReply
         requires table { seat.old.table ≡ self.now }
         requires few { seat.old.made < most_calls }
         requires frame { frame < self.now.frames }
-        ensures acts { Acts op frame result seat.old seat.new }
+        requires leads { reached op look.now.reply ≡ Ok frame }
+        ensures acts { Acts op frame look.now result seat.old seat.new }
     {
         let frame = frame.number();
-        self.table.call(&mut seat.seat, EndCall { op, frame });
+        let look = *look;
+        self.table.call(&mut seat.seat, EndCall { op, frame, look });
         seat.made += 1;
         seat.seat.program().last.reply()
     }

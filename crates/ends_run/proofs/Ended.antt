@@ -6,7 +6,7 @@ use Rattle.std.specs.List.{AllZip, flat_map}
 use Rattle.std.specs.Option.{option_map}
 use Rattle.std.proofs.lemmas.Bool.{cases_lt}
 use Rattle.std.proofs.lemmas.List.{length-map, take_all, get_or_past, get_or_default, append_cancel_right}
-use Rattle.std.proofs.lemmas.List.Elements.{length_all_zip, AllZip-get_or, All-get_or, All-nil}
+use Rattle.std.proofs.lemmas.List.Elements.{length_all_zip, AllZip-get_or, All-get_or}
 use Rattle.std.proofs.lemmas.Option.{slice_get-map, slice_get_within, get_or_from_slice_get}
 use Rattle.spk_nums.specs.declared.calls.Call.{Call}
 use Rattle.spk_nums.specs.declared.replies.Reply.{Reply}
@@ -33,8 +33,8 @@ use Rattle.async_ends.specs.Events as tables_by
 use Rattle.async_ends.specs.Seen.{history_of}
 use Rattle.async_ends.specs.Tables as tables
 use Rattle.async_ends.specs.Tables.{EndTableValue, EndSeatValue}
-use Rattle.async_ends.specs.Asked.{event_of, IsAnswered}
-use Rattle.async_ends.proofs.Asked.{events_kept, events_none, sent_by_cores}
+use Rattle.async_ends.specs.Asked.{AreStepsOfAll}
+use Rattle.async_ends.proofs.Asked.{events_kept, events_none, no_steps, sent_by_cores}
 use Rattle.ends_run.specs.declared.whole.Listed.{Listed}
 use Rattle.ends_run.specs.declared.whole.EndsRan.{EndsRan}
 use Rattle.ends_runners.specs.Runs.{look_call}
@@ -308,7 +308,7 @@ module _ (setup : Setting) (lists : List (List Call)) (l : Listed) (is : AreList
           ∙ append-nil (replies_of (m ++ s.front) k) ∙ replies_of-append k m s.front
           ∙ ap (λ (q : List Reply). q ++ replies_of m k) (replies_of-others k s.front s.front_apart)
 
-      events_here : (k : ℕ) (w : EndLane k) → events_by events k ≡ flat_map (event_of k) w.now.done
+      events_here : (k : ℕ) (w : EndLane k) → AreStepsOfAll k w.now.done (events_by events k)
       events_here k w =
           let at : slice_get (map (λ (r : EndRunnerValue). r.seat) after) k ≡ Some w.now.seat =
           slice_get-map (λ (r : EndRunnerValue). r.seat) after k ∙ ap (option_map (λ (r : EndRunnerValue). r.seat)) w.at in
@@ -317,11 +317,12 @@ module _ (setup : Setting) (lists : List (List Call)) (l : Listed) (is : AreList
           events_kept k (history_of w.now.seat.seen) events
           (subst (λ (i : ℕ). tables_by.ExtendsByOthers i (history_of w.now.seat.seen) events) core (closed.begins k w.now.seat at)) in
           let none : history_of w.before.seat.seen ≡ [] = ap history_of (fresh k w.before.seat w.ready.end).0 in
-          let made : events_by (history_of w.now.seat.seen) k
-          ≡ events_by (history_of w.before.seat.seen) k ++ flat_map (event_of k) w.now.done =
-          subst (λ (i : ℕ). events_by (history_of w.now.seat.seen) i
-          ≡ events_by (history_of w.before.seat.seen) i ++ flat_map (event_of i) w.now.done) w.core w.makes.does.made in
-          kept ∙ made ∙ ap (λ (h : List Event). events_by h k ++ flat_map (event_of k) w.now.done) none
+          let own : List Event = w.makes.does.events in
+          let made : events_by (history_of w.now.seat.seen) k ≡ events_by (history_of w.before.seat.seen) k ++ own =
+          subst (λ (i : ℕ). events_by (history_of w.now.seat.seen) i ≡ events_by (history_of w.before.seat.seen) i ++ own) w.core
+          w.makes.does.grown in
+          let all : events_by events k ≡ own = kept ∙ made ∙ ap (λ (h : List Event). events_by h k ++ own) none in
+          subst (AreStepsOfAll k w.now.done) (sym all) (subst (λ (i : ℕ). AreStepsOfAll i w.now.done own) w.core w.makes.does.made)
 
       held_at : (P : EndRunnerValue → Type 0) (xs : List EndRunnerValue) (n : ℕ) (x : EndRunnerValue) → All P xs
           → slice_get xs n ≡ Some x → P x
@@ -341,8 +342,7 @@ module _ (setup : Setting) (lists : List (List Call)) (l : Listed) (is : AreList
             ∙ ap (λ (u : Trace). calls_of u c) (sym split) ∙ calls_of-past setup c t past setup_history.legal);
         replied = append_none (replies_of is.first c) (replies_of looks c) (sym (replies_of-append c looks is.first)
             ∙ ap (λ (u : Trace). replies_of u c) (sym split) ∙ replies_of_past setup c t past setup_history.legal);
-        answered = All-nil IsAnswered;
-        made = events_none c events (closed.no_other c (let n = cores in omega arith));
+        made = no_steps c (events_by events c) (events_none c events (closed.no_other c (let n = cores in omega arith)));
       }
 
       made_here : (c : ℕ) (w : EndLane c) → MakesAsked c (asks_of asks c) looks events
@@ -356,7 +356,6 @@ module _ (setup : Setting) (lists : List (List Call)) (l : Listed) (is : AreList
                 ∙ subst (λ (i : ℕ). calls_of w.makes.does.since i ≡ map look_call w.now.done) w.core w.makes.does.looked;
             replied = replies_here c w
                 ∙ subst (λ (i : ℕ). replies_of w.makes.does.since i ≡ map (λ d. d.looked) w.now.done) w.core w.makes.does.replied;
-            answered = w.makes.does.answered;
             made = events_here c w;
           }
 
@@ -374,6 +373,7 @@ module _ (setup : Setting) (lists : List (List Call)) (l : Listed) (is : AreList
         returned = λ c. ap (λ (u : Trace). phase u c) (sym split) ∙ end.returned c;
         events = events;
         legal = closed.legal;
+        crossed = closed.crossed;
         made = λ c. made_by c (cases_lt c setup.cores);
         balance = λ f. ap (λ n. n + taken_at events f) (sym (closed.left f)) ∙ closed.balance f;
       }
@@ -407,7 +407,7 @@ module _ (setup : Setting) (lists : List (List Call)) (l : Listed) (is : AreList
           ap (λ (q : List EndRunnerValue). sends_by q f) (sym all_of)
           ∙ by_cores after (λ c. sent_to (events_by events c) f) setup.cores f (omega arith)
           (λ k h. let w = end_lane k h in
-          (w.now, w.at, sym (among_events k w.now.done f) ∙ ap (λ (q : List Event). sent_to q f) (sym (events_here k w))))
+          (w.now, w.at, sym (among_events k w.now.done (events_by events k) f (events_here k w))))
           ∙ sym (sent_by_cores setup.cores events f (λ c past. closed.no_other c (let m = cores in omega arith)))
 
       pub ended : (ran : EndsRan) → All (FewOf 4194304) asks → ran.decisions.items ≡ l.decisions.items

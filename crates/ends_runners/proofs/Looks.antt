@@ -9,7 +9,7 @@ use Rattle.core_kernel.specs.Kernel.{CoreSeatValue}
 use Rattle.core_kernel.specs.Calls.{HasSeen, MakesCall}
 use Rattle.core_kernel.proofs.Balance.{balanced, AreBalanced}
 use Rattle.core_kernel.proofs.Lists.{calls_of-append, replies_of-append}
-use Rattle.async_ends.specs.Calls.{look}
+use Rattle.async_ends.specs.Looks.{look}
 use Rattle.ends_runners.specs.Looks.{look_if, looks_among, looks_in}
 
 among_more : (cs : List Call) (rs : List Reply) (n : ℕ) (r : Reply) → length cs ≡ length rs

@@ -2,10 +2,9 @@
 use Rattle.std.proofs.Common.{◌≡◌, ℕ, suc, ◌+◌, ◌<◌, ◌≤◌, ◌^◌, Bool, true, false, List, [], ◌∷◌, ◌++◌, All, map}
 use Rattle.std.proofs.Common.{length, take, get_or, refl, sym, ◌∙◌, ap, subst, arith, append_assoc, append-nil}
 use Rattle.std.specs.Prelude.{IsTrue}
-use Rattle.std.specs.List.{AllZip, flat_map}
-use Rattle.std.proofs.lemmas.Grind.{flat_map-append}
+use Rattle.std.specs.List.{AllZip}
 use Rattle.std.proofs.lemmas.List.{length-append, take_more, map-append}
-use Rattle.std.proofs.lemmas.List.Elements.{All-nil, All-push, All-get_or, AllZip-get_or, length_all_zip}
+use Rattle.std.proofs.lemmas.List.Elements.{All-get_or, AllZip-get_or, length_all_zip}
 use Rattle.core_kernel.specs.kernel_history.specs.Trace.{Trace, calls_of}
 use Rattle.core_kernel.specs.Replies.{replies_of}
 use Rattle.core_kernel.specs.Kernel.{CoreSeatValue}
@@ -16,10 +15,11 @@ use Rattle.async_ends.specs.declared.asks.EndAsk.{EndAsk}
 use Rattle.async_ends.specs.declared.asks.EndDone.{EndDone}
 use Rattle.async_ends.specs.Events.{Event, events_by}
 use Rattle.async_ends.specs.Seen.{history_of}
-use Rattle.async_ends.specs.Calls.{Look, look}
+use Rattle.async_ends.specs.declared.asks.Look.{Look}
+use Rattle.async_ends.specs.Looks.{look}
 use Rattle.async_ends.specs.Tables.{EndTableValue, EndSeatValue}
-use Rattle.async_ends.specs.Asked.{event_of, IsAnswered, MakesDone}
-use Rattle.async_ends.proofs.Asked.{done_answered, done_event}
+use Rattle.async_ends.specs.Asked.{AreStepsOf, AreStepsOfAll, MakesDone}
+use Rattle.async_ends.proofs.Asked.{no_steps, one_more, done_steps}
 use Rattle.ends_runners.specs.Looks.{HasLooked}
 use Rattle.ends_runners.specs.Runs.{look_call}
 use Rattle.ends_runners.specs.Runners.{asks_of}
@@ -52,9 +52,9 @@ asked_none table u h = record {
     begins = refl;
     looked = sym (ap (map look_call) h.none);
     replied = sym (ap (map (λ d. d.looked)) h.none);
-    answered = subst (All IsAnswered) (sym h.none) (All-nil IsAnswered);
-    made = sym (ap (λ l. events_by (history_of u.seat.seen) u.who.core ++ flat_map (event_of u.who.core) l) h.none
-        ∙ append-nil (events_by (history_of u.seat.seen) u.who.core));
+    events = [];
+    made = subst (λ l. AreStepsOfAll u.who.core l []) (sym h.none) (no_steps u.who.core [] refl);
+    grown = sym (append-nil (events_by (history_of u.seat.seen) u.who.core));
     list = refl;
     core = refl;
     kernel = refl;
@@ -83,13 +83,10 @@ module _ (table : EndTableValue) (u v w : EndRunnerValue) (n : ℕ) (ask : EndAs
       subst (λ (i : ℕ). calls_of call_is.since i ≡ look_call d ∷ []) h.does.core call_is.calls in
       let answer : replies_of call_is.since c ≡ d.looked ∷ [] =
       subst (λ (i : ℕ). replies_of call_is.since i ≡ d.looked ∷ []) h.does.core call_is.replies in
-      let event : events_by (history_of w.seat.seen) c ≡ events_by (history_of v.seat.seen) c ++ event_of c d =
-      subst (λ (i : ℕ). events_by (history_of w.seat.seen) i ≡ events_by (history_of v.seat.seen) i ++ event_of i d) seat_core
-      (done_event d v.seat w.seat m.comes) in
-      let before : List Event = events_by (history_of u.seat.seen) c in
-      let many : flat_map (event_of c) w.done ≡ flat_map (event_of c) v.done ++ event_of c d =
-      ap (flat_map (event_of c)) done ∙ flat_map-append (event_of c) v.done (d ∷ [])
-      ∙ ap (λ (x : List Event). flat_map (event_of c) v.done ++ x) (append-nil (event_of c d)) in
+      let s = done_steps d v.seat w.seat m.comes in
+      let are : AreStepsOf c d s.steps = subst (λ (i : ℕ). AreStepsOf i d s.steps) seat_core s.are in
+      let event : events_by (history_of w.seat.seen) c ≡ events_by (history_of v.seat.seen) c ++ s.steps =
+      subst (λ (i : ℕ). events_by (history_of w.seat.seen) i ≡ events_by (history_of v.seat.seen) i ++ s.steps) seat_core s.more in
       record {
         waited = h.waited;
         does = record {
@@ -100,11 +97,11 @@ module _ (table : EndTableValue) (u v w : EndRunnerValue) (n : ℕ) (ask : EndAs
               ∙ sym (map-append look_call v.done (d ∷ [])) ∙ ap (map look_call) (sym done);
           replied = replies_of-append c call_is.since h.does.since ∙ (λ i. h.does.replied i ++ answer i)
               ∙ sym (map-append (λ x. x.looked) v.done (d ∷ [])) ∙ ap (map (λ x. x.looked)) (sym done);
-          answered = subst (All IsAnswered) (sym done)
-              (All-push IsAnswered v.done d h.does.answered (done_answered d v.seat w.seat m.comes));
-          made = event ∙ ap (λ (x : List Event). x ++ event_of c d) h.does.made
-              ∙ append_assoc before (flat_map (event_of c) v.done) (event_of c d)
-              ∙ ap (λ (x : List Event). before ++ x) (sym many);
+          events = h.does.events ++ s.steps;
+          made = subst (λ l. AreStepsOfAll c l (h.does.events ++ s.steps)) (sym done)
+              (one_more c v.done h.does.events d s.steps h.does.made are);
+          grown = event ∙ ap (λ (x : List Event). x ++ s.steps) h.does.grown
+              ∙ append_assoc (events_by (history_of u.seat.seen) c) h.does.events s.steps;
           list = list ∙ h.does.list;
           core = call_is.core ∙ h.does.core;
           kernel = call_is.kernel ∙ h.does.kernel;
@@ -130,8 +127,9 @@ stops table free held u v w n h low is whole is_free = subst (MakesAsks free u) 
     begins = h.does.begins;
     looked = h.does.looked;
     replied = h.does.replied;
-    answered = h.does.answered;
+    events = h.does.events;
     made = h.does.made;
+    grown = h.does.grown;
     list = h.does.list;
     core = h.does.core;
     kernel = h.does.kernel;

@@ -1,58 +1,73 @@
 -- The sends of calls, of runners, and of a history.
-use Rattle.std.proofs.Common.{◌≡◌, inl, inr, ℕ, zero, suc, ◌+◌, ◌*◌, ◌<◌, ◌≤◌, ◌^◌, List, [], ◌∷◌, ◌++◌, length}
+use Rattle.std.proofs.Common.{◌≡◌, inl, inr, Bool, true, false, ◌==◌, ℕ, zero, suc, ◌+◌, ◌*◌, ◌<◌, ◌≤◌, ◌^◌, List, [], ◌∷◌, ◌++◌, length}
 use Rattle.std.proofs.Common.{take, replicate, get_or, Result, Ok, Err, All, if◌then◌else◌, eq-eqb, ne_eqb}
 use Rattle.std.proofs.Common.{refl, sym, ◌∙◌, ap, subst, arith}
 use Rattle.std.specs.Prelude.{slice_get, slice_index, Some}
-use Rattle.std.specs.List.{flat_map}
+use Rattle.std.specs.List.{AllZip, flat_map}
 use Rattle.std.proofs.lemmas.Bool.{cases_eq}
 use Rattle.std.proofs.lemmas.List.{take_more, length-take-le, get_or-take}
 use Rattle.std.proofs.lemmas.List.Concat.{flat_map-cons}
 use Rattle.std.proofs.lemmas.Option.{get_or_from_slice_get}
 use Rattle.spk_nums.specs.declared.replies.Reply.{Reply}
+use Rattle.async_ends.specs.declared.endpoint.EndOp.{EndOp}
 use Rattle.async_ends.specs.declared.endpoint.EndReply.{EndReply}
 use Rattle.async_ends.specs.declared.endpoint.EndReply.TheVariants.{Sent, Taken, Raced, Refused}
+use Rattle.async_ends.specs.declared.asks.Look.{Look}
 use Rattle.async_ends.specs.declared.asks.EndDone.{EndDone}
-use Rattle.async_ends.specs.Events.{Event, sent_to}
-use Rattle.async_ends.specs.Calls.{reached}
-use Rattle.async_ends.specs.Asked.{event_at, event_of}
+use Rattle.async_ends.specs.Events.{Loaded, Took, Event, event, sent_to}
+use Rattle.async_ends.specs.Looks.{reached}
+use Rattle.async_ends.specs.Asked.{AreStepsBy, AreStepsOf, AreStepsOfAll, look_in}
 use Rattle.async_ends.proofs.Asked.{sent_append, sum_below}
 use Rattle.ends_runners.specs.Runs.{EndRunnerValue}
-use Rattle.ends_runners.specs.Tallies.{sends_of, sends_among, sends_by}
+use Rattle.ends_runners.specs.Tallies.{sends_at, sends_of, sends_among, sends_by}
 
--- whose call it is makes no difference
-any_core : (c : ℕ) (r : Result ℕ Reply) (answer : EndReply) (f : ℕ) → sent_to (event_at c r answer) f ≡ sent_to (event_at 0 r answer) f
-any_core c (Err e) answer f = refl
-any_core c (Ok g) Sent f = refl
-any_core c (Ok g) (Taken k) f = refl
-any_core c (Ok g) Raced f = refl
-any_core c (Ok g) (Refused r) f = refl
+zero_either : (b : Bool) → ◌≡◌ {A = ℕ} (if b then 0 else 0) 0
+zero_either true = refl
+zero_either false = refl
 
-pub among_events : (c : ℕ) (done : List EndDone) (f : ℕ) → sent_to (flat_map (event_of c) done) f ≡ sends_among done f
-among_events c [] f = refl
-among_events c (d ∷ ds) f =
-    let one = any_core c (reached d.ask.op d.looked) d.answer f in
-    let rest = among_events c ds f in
-    let parts = ap (λ (l : List Event). sent_to l f) (flat_map-cons (event_of c) d ds) in
-    let sum = sent_append (event_of c d) (flat_map (event_of c) ds) f in
+-- what a call's events send
+sent_by_steps : (op : EndOp) (c : ℕ) (l : Look) (r : Result ℕ Reply) (answer : EndReply) (steps : List Event) (f : ℕ)
+    → AreStepsBy op c l r answer steps → sent_to steps f ≡ sends_at r answer f
+sent_by_steps op c l (Err refusal) answer steps f h = ap (λ (s : List Event). sent_to s f) h.1
+sent_by_steps op c l (Ok g) Sent steps f h =
+    let is : sent_to steps f ≡ (if g == f then 1 else 0) + 0 = ap (λ (s : List Event). sent_to s f) h.1 in omega arith
+sent_by_steps op c l (Ok g) (Taken k) steps f h = ap (λ (s : List Event). sent_to s f) h.1 ∙ either (k == 0)
+  where
+    either : (b : Bool) → sent_to (event c g (Loaded l k) ∷ (if b then [] else event c g (Took k) ∷ [])) f ≡ 0
+    either true = (let zero = zero_either (g == f) in omega arith)
+    either false = (let zero = zero_either (g == f) in omega arith)
+sent_by_steps op c l (Ok g) Raced steps f h =
+    let zero = zero_either (g == f) in
+    let is : sent_to steps f ≡ (if g == f then 0 else 0) + ((if g == f then 0 else 0) + 0) =
+    ap (λ (s : List Event). sent_to s f) h.1.are in
+    omega arith
+sent_by_steps op c l (Ok g) (Refused q) steps f h = absurd h
+
+sent_by_zip : (c : ℕ) (done : List EndDone) (steps : List (List Event)) (f : ℕ) → AllZip (AreStepsOf c) done steps
+    → sent_to (flat_map (λ s. s) steps) f ≡ sends_among done f
+sent_by_zip c [] [] f z = refl
+sent_by_zip c [] (s ∷ ss) f z = absurd z
+sent_by_zip c (d ∷ ds) [] f z = absurd z
+sent_by_zip c (d ∷ ds) (s ∷ ss) f z =
+    let one : sent_to s f ≡ sends_of d f = sent_by_steps d.ask.op c (look_in d) (reached d.ask.op d.looked) d.answer s f z.0 in
+    let rest = sent_by_zip c ds ss f z.1 in
+    let parts = ap (λ (l : List Event). sent_to l f) (flat_map-cons (λ (x : List Event). x) s ss) in
+    let sum = sent_append s (flat_map (λ x. x) ss) f in
     omega arith
 
+pub among_events : (c : ℕ) (done : List EndDone) (events : List Event) (f : ℕ) → AreStepsOfAll c done events
+    → sent_to events f ≡ sends_among done f
+among_events c done events f all = ap (λ (l : List Event). sent_to l f) all.whole ∙ sent_by_zip c done all.steps f all.each
+
 -- a call sends at most once
-one_at_most : (r : Result ℕ Reply) (answer : EndReply) (f : ℕ) → sent_to (event_at 0 r answer) f ≤ 1
+one_at_most : (r : Result ℕ Reply) (answer : EndReply) (f : ℕ) → sends_at r answer f ≤ 1
 one_at_most (Err e) answer f = omega arith
 one_at_most (Ok g) Sent f = elim (cases_eq g f) [
-  | inl same ↦ let is : sent_to (event_at 0 (Ok g) Sent) f ≡ 1 + 0 = ap (λ b. (if b then 1 else 0) + 0) (eq-eqb g f same) in omega arith
-  | inr other ↦ let is : sent_to (event_at 0 (Ok g) Sent) f ≡ 0 + 0 = ap (λ b. (if b then 1 else 0) + 0) (ne_eqb g f other) in omega arith
+  | inl same ↦ let is : sends_at (Ok g) Sent f ≡ 1 = ap (λ b. if b then 1 else 0) (eq-eqb g f same) in omega arith
+  | inr other ↦ let is : sends_at (Ok g) Sent f ≡ 0 = ap (λ b. if b then 1 else 0) (ne_eqb g f other) in omega arith
 ]
-one_at_most (Ok g) (Taken k) f = elim (cases_eq g f) [
-  | inl same ↦
-      let is : sent_to (event_at 0 (Ok g) (Taken k)) f ≡ 0 + 0 = ap (λ b. (if b then 0 else 0) + 0) (eq-eqb g f same) in omega arith
-  | inr other ↦
-      let is : sent_to (event_at 0 (Ok g) (Taken k)) f ≡ 0 + 0 = ap (λ b. (if b then 0 else 0) + 0) (ne_eqb g f other) in omega arith
-]
-one_at_most (Ok g) Raced f = elim (cases_eq g f) [
-  | inl same ↦ let is : sent_to (event_at 0 (Ok g) Raced) f ≡ 0 + 0 = ap (λ b. (if b then 0 else 0) + 0) (eq-eqb g f same) in omega arith
-  | inr other ↦ let is : sent_to (event_at 0 (Ok g) Raced) f ≡ 0 + 0 = ap (λ b. (if b then 0 else 0) + 0) (ne_eqb g f other) in omega arith
-]
+one_at_most (Ok g) (Taken k) f = omega arith
+one_at_most (Ok g) Raced f = omega arith
 one_at_most (Ok g) (Refused r) f = omega arith
 
 pub sends_at_most : (d : EndDone) (f : ℕ) → sends_of d f ≤ 1

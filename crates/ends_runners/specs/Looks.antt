@@ -7,7 +7,8 @@ use Rattle.core_kernel.specs.kernel_history.specs.Trace.{calls_of}
 use Rattle.core_kernel.specs.Replies.{replies_of}
 use Rattle.core_kernel.specs.Kernel.{CoreSeatValue}
 use Rattle.core_kernel.specs.Calls.{HasSeen, MakesCall}
-use Rattle.async_ends.specs.Calls.{Look, look}
+use Rattle.async_ends.specs.declared.asks.Look.{Look}
+use Rattle.async_ends.specs.Looks.{look}
 
 -- A call with its reply, where it is a look.
 abbrev pub look_if : Call → Reply → List Look

@@ -1,6 +1,5 @@
 -- What runners of endpoint calls do.
-use Rattle.std.specs.Prelude.{◌≡◌, ℕ, ◌+◌, ◌<◌, ◌≤◌, ◌^◌, Bool, true, false, List, [], ◌++◌, take, length, map, All}
-use Rattle.std.specs.List.{flat_map}
+use Rattle.std.specs.Prelude.{◌≡◌, ℕ, ◌+◌, ◌<◌, ◌≤◌, ◌^◌, Bool, true, false, List, [], ◌++◌, take, length, map}
 use Rattle.spk_nums.specs.declared.calls.Call.{Call}
 use Rattle.spk_nums.specs.declared.calls.Call.TheVariants as call
 use Rattle.core_kernel.specs.kernel_history.specs.Trace.{Trace, calls_of}
@@ -9,10 +8,10 @@ use Rattle.core_kernel.specs.Kernel.{CoreSeatValue}
 use Rattle.core_kernel.specs.Calls.{HasSeen}
 use Rattle.async_ends.specs.declared.asks.EndAsk.{EndAsk}
 use Rattle.async_ends.specs.declared.asks.EndDone.{EndDone}
-use Rattle.async_ends.specs.Events.{events_by}
+use Rattle.async_ends.specs.Events.{Event, events_by}
 use Rattle.async_ends.specs.Seen.{history_of}
 use Rattle.async_ends.specs.Tables.{EndTableValue, EndSeatValue}
-use Rattle.async_ends.specs.Asked.{event_of, IsAnswered}
+use Rattle.async_ends.specs.Asked.{AreStepsOfAll}
 
 -- The look of an endpoint call.
 abbrev pub look_call : EndDone → Call
@@ -43,15 +42,16 @@ pub record AwaitsEnds (table : EndTableValue) (runner : EndRunnerValue) : Type 0
   pub none : runner.done ≡ []
   pub free : runner.held ≡ false
 
--- The runner has made the calls that it tells as done, in order: its seats have gone on by their looks and their events.
+-- The runner has made the calls that it tells as done, in order: its seats have gone on by their looks and their events. Each call's
+-- answer is that of its events, the first of which has its look.
 pub record HasDone (runner now : EndRunnerValue) : Type 0 where
   pub since : Trace
   pub begins : now.who.seen ≡ since ++ runner.who.seen
   pub looked : calls_of since runner.who.core ≡ map look_call now.done
   pub replied : replies_of since runner.who.core ≡ map (λ d. d.looked) now.done
-  pub answered : All IsAnswered now.done
-  pub made : events_by (history_of now.seat.seen) runner.who.core
-      ≡ events_by (history_of runner.seat.seen) runner.who.core ++ flat_map (event_of runner.who.core) now.done
+  pub events : List Event
+  pub made : AreStepsOfAll runner.who.core now.done events
+  pub grown : events_by (history_of now.seat.seen) runner.who.core ≡ events_by (history_of runner.seat.seen) runner.who.core ++ events
   pub list : now.asks ≡ runner.asks
   pub core : now.who.core ≡ runner.who.core
   pub kernel : now.who.kernel ≡ runner.who.kernel

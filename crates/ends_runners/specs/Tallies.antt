@@ -1,13 +1,20 @@
 -- How often was sent to a frame.
-use Rattle.std.specs.Prelude.{ℕ, ◌+◌, List, [], ◌∷◌}
+use Rattle.std.specs.Prelude.{ℕ, ◌+◌, ◌==◌, List, [], ◌∷◌, if◌then◌else◌, Result, Ok, Err}
+use Rattle.spk_nums.specs.declared.replies.Reply.{Reply}
+use Rattle.async_ends.specs.declared.endpoint.EndReply.{EndReply}
+use Rattle.async_ends.specs.declared.endpoint.EndReply.TheVariants.{Sent}
 use Rattle.async_ends.specs.declared.asks.EndDone.{EndDone}
-use Rattle.async_ends.specs.Events.{sent_to}
-use Rattle.async_ends.specs.Asked.{event_of}
+use Rattle.async_ends.specs.Looks.{reached}
 use Rattle.ends_runners.specs.Runs.{EndRunnerValue}
 
--- 1 where the call sent to frame f, else 0; whose call it is makes no difference.
+-- 1 where a call with this answer, whose look led there, sent to frame f, else 0.
+abbrev pub sends_at : Result ℕ Reply → EndReply → ℕ → ℕ
+sends_at (Ok g) Sent f = if g == f then 1 else 0
+sends_at (Ok g) _ f = 0
+sends_at (Err r) _ f = 0
+
 abbrev pub sends_of : EndDone → ℕ → ℕ
-sends_of d f = sent_to (event_of 0 d) f
+sends_of d f = sends_at (reached d.ask.op d.looked) d.answer f
 
 abbrev pub sends_among : List EndDone → ℕ → ℕ
 sends_among [] f = 0

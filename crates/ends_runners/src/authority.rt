@@ -2,7 +2,7 @@
 
 ghost use Rattle.std.specs.Prelude.{◌≡◌};
 ghost use Rattle.core_kernel.specs.Calls.{HasSeen};
-ghost use Rattle.async_ends.specs.Calls.{NamesBelow};
+ghost use Rattle.async_ends.specs.Looks.{NamesBelow};
 
 use async_ends::Authority;
 use core_kernel::{CoreSeat, Kernel};

@@ -1,9 +1,10 @@
 //! Endpoint calls, and how a table of endpoints ends.
 
 ghost use Rattle.std.specs.Prelude.{◌≡◌, ◌<◌, ◌≤◌, IfOk};
-ghost use Rattle.async_ends.specs.declared.endpoint.EndOp.TheVariants.{Recv};
+ghost use Rattle.async_ends.specs.declared.endpoint.EndOp.TheVariants.{Send, Recv};
 ghost use Rattle.async_ends.specs.Asked.{MakesDone};
-ghost use Rattle.async_ends.specs.Calls.{MakesEndCall, look};
+ghost use Rattle.async_ends.specs.Calls.{MakesEndCall};
+ghost use Rattle.async_ends.specs.Looks.{look};
 ghost use Rattle.async_ends.specs.Running.{most_calls};
 ghost use Rattle.async_ends.specs.Tables.{AreAllSeats, EndsAt};
 
@@ -22,6 +23,21 @@ pub fn ask<A: Authority>(table: &EndTable, seat: &mut EndSeat, who: &mut A, ask:
     table.ask(seat, who, ask)
 }
 
+/// Sends one to the component of the gate of this number.
+pub fn send<A: Authority>(
+    table: &EndTable,
+    seat: &mut EndSeat,
+    who: &mut A,
+    gate: CapId,
+) -> EndReply
+    requires table { seat.old.table ≡ table.now }
+    requires few { seat.old.made < most_calls }
+    requires frames { A.frame_count who.old ≤ table.now.frames }
+    ensures { MakesEndCall Send gate (A.looks who.old) (A.looks who.new) (λ l. A.goes who.old l who.new) seat.old result seat.new }
+{
+    table.send(seat, who, gate)
+}
+
 /// Takes all that was sent to the component of the capability of this number.
 pub fn recv<A: Authority>(
     table: &EndTable,
@@ -32,7 +48,7 @@ pub fn recv<A: Authority>(
     requires table { seat.old.table ≡ table.now }
     requires few { seat.old.made < most_calls }
     requires frames { A.frame_count who.old ≤ table.now.frames }
-    ensures { MakesEndCall Recv comp (A.looks who.old) (A.looks who.new) seat.old result seat.new }
+    ensures { MakesEndCall Recv comp (A.looks who.old) (A.looks who.new) (λ l. A.goes who.old l who.new) seat.old result seat.new }
 {
     table.recv(seat, who, comp)
 }

@@ -9,5 +9,5 @@ pub returns-in-Err : goal.returns-in-Err
 returns-in-Err c =
     let s = c.seat.inside in
     let r = c.in-Err.refusal in
-    subst (λ z. Comes c.args.op c.args.looked.now (Refused r) z (seat_value s.frames s.cores (s.made + 1) s.seat)) c.seat.view_is
-    (refused s.frames s.cores s.made s.seat c.seat.invariant c.args.op c.args.looked.now r (sym c.reach.ensures ∙ c.in-Err.is))
+    subst (λ z. Comes c.args.op c.args.look.now (Refused r) z (seat_value s.frames s.cores (s.made + 1) s.seat)) c.seat.view_is
+    (refused s.frames s.cores s.made s.seat c.seat.invariant c.args.op c.args.look.now r (sym c.reach.ensures ∙ c.in-Err.is))
