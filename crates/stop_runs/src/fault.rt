@@ -21,6 +21,10 @@ pub enum Fault {
     Astray(CoreNo),
     /// The definitions do not permit this reply of a core's call where it was decided.
     Forbidden { core: CoreNo, reply: Reply },
+    /// A core's call answers that it lost a race at a word that nothing has changed since it stepped on it.
+    NoRace(CoreNo),
+    /// A core's call answers that another core holds a word that this core is not changing.
+    NotHeld(CoreNo),
     /// A core's call returned with another reply than it was decided with, or was decided twice or not at all.
     OtherReply(CoreNo),
     /// The machine says that a core is elsewhere in its call than the steps show.
@@ -67,6 +71,12 @@ impl fmt::Display for Fault {
                     f,
                     "the definitions do not permit core {core}'s reply {reply}"
                 )
+            }
+            Fault::NoRace(core) => {
+                write!(f, "core {core} answers raced where nothing was changed")
+            }
+            Fault::NotHeld(core) => {
+                write!(f, "core {core} answers busy where the word is not held")
             }
             Fault::OtherReply(core) => {
                 write!(f, "core {core} returns with another reply than it decided")

@@ -1,13 +1,14 @@
 //! The plain kernel, told the events of a trace in their order: that a call begins, its decision, and its return. Of each decision it
 //! is asked whether the definitions permit the reply, by the wide reach: any refusal whose own cause stands.
 
+use crate::causes::{CallAt, Causes};
 use crate::fault::Fault;
 use call_judge::decide_by;
 use call_plans::bound;
 use seq_state::SeqKernel;
 use spk_nums::{Call, CoreNo, Memory, Reply, Setup, in_limits};
 use std::alloc::Global;
-use step_views::StepMade;
+use step_views::{StepMade, StepView};
 
 /// A call that a core is in.
 #[derive(Clone, Copy, Debug, PartialEq, Eq)]
@@ -31,11 +32,12 @@ pub struct Seat {
     pub within: Option<Within>,
 }
 
-/// The plain kernel, what each core has done, and the last call that was not carried out, if one was not.
+/// The plain kernel, what each core has done and what it left in the words, and the last call that was not carried out, if one was not.
 #[derive(Drop)]
 pub struct Judge {
     plain: SeqKernel,
     seats: Vec<Seat>,
+    causes: Causes,
     refused: Option<(CoreNo, Reply)>,
 }
 
@@ -89,6 +91,7 @@ impl Judge {
         Ok(Judge {
             plain,
             seats,
+            causes: Causes::none(alloc),
             refused: None,
         })
     }
@@ -145,21 +148,45 @@ impl Judge {
         Ok(())
     }
 
+    // The call that a core has begun last.
+    fn call_of(&self, core: CoreNo) -> CallAt {
+        CallAt {
+            core,
+            number: self.seat(core).begun,
+        }
+    }
+
+    // A reply that lays the refusal on other cores does so by what they have done.
+    fn check_cause(&self, step: &StepView, reply: &Reply) -> Result<(), Fault> {
+        let core = step.core;
+        match reply {
+            Reply::Raced => {
+                if !self.causes.has_lost(&self.call_of(core), step) {
+                    return Err(Fault::NoRace(core));
+                }
+            }
+            Reply::Busy(by) => {
+                let other = *by != core && self.seat(*by).within.is_some();
+                if !other || !self.causes.holds(&self.call_of(*by), step) {
+                    return Err(Fault::NotHeld(core));
+                }
+            }
+            _ => {}
+        }
+        Ok(())
+    }
+
     // A core's call makes a step, and is decided at it where a reply is told.
-    fn go_on(
-        &mut self,
-        alloc: Global,
-        core: CoreNo,
-        within: Within,
-        told: Option<Reply>,
-    ) -> Result<Within, Fault> {
+    fn go_on(&mut self, alloc: Global, within: Within, step: &StepMade) -> Result<Within, Fault> {
+        let core = step.view.core;
         let made = within.made.saturating_add(1);
-        let Some(reply) = told else {
+        let Some(reply) = step.decides else {
             return Ok(Within { made, ..within });
         };
         if within.reply.is_some() {
             return Err(Fault::OtherReply(core));
         }
+        self.check_cause(&step.view, &reply)?;
         if !decide(alloc, &mut self.plain, core, &within.call, &reply)? {
             return Err(Fault::Forbidden { core, reply });
         }
@@ -183,7 +210,9 @@ impl Judge {
         let Some(within) = within else {
             return Err(Fault::Astray(core));
         };
-        let within = self.go_on(alloc, core, within, step.decides)?;
+        let within = self.go_on(alloc, within, step)?;
+        let call = self.call_of(core);
+        self.causes.keep(call, &step.view)?;
         if within.bound < within.made {
             return Err(Fault::TooLong(core));
         }

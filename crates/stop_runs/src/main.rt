@@ -7,7 +7,9 @@
 //! so.
 //!
 //! **What is asked.** The plain kernel is told the events of the trace in their order, that a call begins, its decision and its return,
-//! and is asked of each decision whether the definitions permit the reply, by the wide reach. After each step the machine says of every
+//! and is asked of each decision whether the definitions permit the reply, by the wide reach. A call answers `raced` only where it finds
+//! another value in a word than it had left there, and `busy` only where core d is in a call that was the last to change the word found.
+//! After each step the machine says of every
 //! core how many steps of its call it has made, if it is in one, which is fewer than the call's bound. In the end the machine's tables
 //! are byte for byte those of the plain kernel, which counts the references afresh.
 //!
@@ -17,6 +19,7 @@
 //! See CONTRIBUTING.md, 'To add a test'.
 #![tactic(auto)]
 
+mod causes;
 mod fault;
 mod judge;
 mod machine;
