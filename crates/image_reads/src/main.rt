@@ -6,11 +6,14 @@
 //! last line come the capabilities and the mappings of a machine in which core 0 has mapped a page.
 #![tactic(auto)]
 
-ghost use Rattle.std.specs.Prelude.{◌≡◌, ◌<◌, true, IfSome, length};
+ghost use Rattle.std.specs.Prelude.{◌≡◌, ◌<◌, true, IfOk, length};
 ghost use Rattle.spk_nums.specs.CallLimits.{InLimits};
 ghost use Rattle.core_machine.specs.core_kernel.specs.word_map.specs.Places.{size_of};
 
-use core_machine::Seats;
+mod fault;
+
+use crate::fault::Fault;
+use core_machine::{Port, Seats};
 use machine_image::{Image, image_of};
 use spk_nums::{
     Call, CapId, EntryNo, FrameArg, FrameKind, FrameNo, Make, PageFlags, PageNo, Reply, Rights,
@@ -45,88 +48,113 @@ fn remove(slot: u16) -> Call
     }
 }
 
-// The calls of the two cores, one after another, by their cores.
-fn shared(made: u8) -> (u8, Call)
-    ensures { InLimits result.1 }
+// Makes a call, if it is wanted, and answers whether it was answered `ok`, as one that is not wanted is.
+fn is_made(port: &mut Port, wanted: bool, call: Call) -> bool
+    requires { InLimits call }
+    ensures kernel { port.new.kernel ≡ port.old.kernel }
+    ensures core { port.new.core ≡ port.old.core }
 {
-    match made {
-        0 => (0, copy(20)),
-        1 => (0, copy(21)),
-        2 => (1, copy(22)),
-        3 => (1, remove(20)),
-        _ => (1, remove(21)),
+    if !wanted {
+        return true;
+    }
+    match port.call(call) {
+        Reply::Ok(_) => true,
+        _ => false,
     }
 }
 
-// Maps the user frame 9 as page 5 of the component, in five calls of one core.
-fn mapped(made: u8) -> Call
+// Makes the first so many of five calls: core 0 puts two copies, core 1 puts a third and removes core 0's.
+fn share(first: &mut Port, second: &mut Port, shares: u8) -> bool
+    ensures kernels { (first.new.kernel ≡ first.old.kernel) × (second.new.kernel ≡ second.old.kernel) }
+    ensures cores { (first.new.core ≡ first.old.core) × (second.new.core ≡ second.old.core) }
+{
+    let one = is_made(first, 1 <= shares, copy(20));
+    let two = is_made(first, 2 <= shares, copy(21));
+    let three = is_made(second, 3 <= shares, copy(22));
+    let four = is_made(second, 4 <= shares, remove(20));
+    let five = is_made(second, 5 <= shares, remove(21));
+    one && two && three && four && five
+}
+
+fn retype(f: u16, k: FrameKind) -> Call
     ensures { InLimits result }
 {
-    let (r, t) = (CapId::new(0), CapId::new(1));
-    match made {
-        0 => Call::Retype {
-            r,
-            f: FrameArg::new(8),
-            k: FrameKind::Kernel,
-        },
-        1 => Call::Make {
-            what: Make::Pleaf,
-            range: r,
-            frame: FrameArg::new(8),
-            table: t,
-            slot: CapId::new(20),
-        },
-        2 => Call::Grow {
-            t: CapId::new(2),
-            i: EntryNo::new(0),
-            l: CapId::new(20),
-        },
-        3 => Call::Retype {
-            r,
-            f: FrameArg::new(9),
-            k: FrameKind::User,
-        },
-        _ => Call::Map {
-            p: CapId::new(2),
-            v: PageNo::new(5),
-            r,
-            f: FrameArg::new(9),
-            w: PageFlags::WRITE,
-        },
+    Call::Retype {
+        r: CapId::new(0),
+        f: FrameArg::new(f),
+        k,
     }
 }
 
-// A machine of two cores that has made so many calls of `shared`, and then so many of `mapped` by core 0, all of them `ok`, and has
-// stopped.
-fn stopped(alloc: Global, shares: u8, maps: u8) -> Option<Closed>
-    ensures words { IfSome result (λ closed. length closed.words.items ≡ size_of closed.layout) }
-    ensures ends { IfSome result (λ closed. length closed.ends.items ≡ closed.layout.cores) }
+// Makes a leaf of pages in the frame 8.
+fn make_leaf() -> Call
+    ensures { InLimits result }
 {
-    let mut seats = Seats::boot(alloc, &Setup::equal(2, 32, 100).ok()?).ok()?;
-    let mut first = seats.deal()?;
-    let mut second = seats.deal()?;
-    for made in 0..shares {
-        let (core, call) = shared(made);
-        let reply = if core == 0 {
-            first.call(call)
-        } else {
-            second.call(call)
-        };
-        if !matches!(reply, Reply::Ok(_)) {
-            return None;
-        }
+    Call::Make {
+        what: Make::Pleaf,
+        range: CapId::new(0),
+        frame: FrameArg::new(8),
+        table: CapId::new(1),
+        slot: CapId::new(20),
     }
-    for made in 0..maps {
-        if !matches!(first.call(mapped(made)), Reply::Ok(_)) {
-            return None;
-        }
+}
+
+fn grow() -> Call
+    ensures { InLimits result }
+{
+    Call::Grow {
+        t: CapId::new(2),
+        i: EntryNo::new(0),
+        l: CapId::new(20),
     }
-    seats.take_back(first).ok()?;
-    seats.take_back(second).ok()?;
-    match seats.finish(alloc) {
-        Ok(closed) => Some(closed),
-        Err(_) => None,
+}
+
+fn map_call() -> Call
+    ensures { InLimits result }
+{
+    Call::Map {
+        p: CapId::new(2),
+        v: PageNo::new(5),
+        r: CapId::new(0),
+        f: FrameArg::new(9),
+        w: PageFlags::WRITE,
     }
+}
+
+// Maps the user frame 9 as page 5 of the component, if it is wanted.
+fn map_page(port: &mut Port, wanted: bool) -> bool
+    ensures kernel { port.new.kernel ≡ port.old.kernel }
+    ensures core { port.new.core ≡ port.old.core }
+{
+    let kernel = is_made(port, wanted, retype(8, FrameKind::Kernel));
+    let leaf = is_made(port, wanted, make_leaf());
+    let grown = is_made(port, wanted, grow());
+    let user = is_made(port, wanted, retype(9, FrameKind::User));
+    let mapped = is_made(port, wanted, map_call());
+    kernel && leaf && grown && user && mapped
+}
+
+// A machine of two cores that has made so many shares, and has mapped the page where that is wanted, and has stopped.
+fn stopped(alloc: Global, shares: u8, maps: bool) -> Result<Closed, Fault>
+    ensures words { IfOk result (λ closed. length closed.words.items ≡ size_of closed.layout) }
+    ensures ends { IfOk result (λ closed. length closed.ends.items ≡ closed.layout.cores) }
+{
+    let mut seats = Seats::boot(alloc, &Setup::equal(2, 32, 100)?)?;
+    let Some(mut first) = seats.deal() else {
+        return Err(Fault::Ports)
+    };
+    let Some(mut second) = seats.deal() else {
+        return Err(Fault::Ports)
+    };
+    let shared = share(&mut first, &mut second, shares);
+    let mapped = map_page(&mut first, maps);
+    seats.take_back(first)?;
+    seats.take_back(second)?;
+    let closed = seats.finish(alloc)?;
+    if shared && mapped {
+        return Ok(closed);
+    }
+    Err(Fault::Refused)
 }
 
 // Whether these are frames of the image.
@@ -173,13 +201,13 @@ fn print_nodes<R: Print>(rt: &R, closed: &Closed) -> io::Result<()>
 // Prints a line for each number of shares, and what is mapped. False comes where a call is refused or memory runs out.
 fn print_all<R: Print>(rt: &R, alloc: Global) -> io::Result<bool> {
     for shares in 0..6 {
-        let Some(closed) = stopped(alloc, shares, 0) else {
+        let Ok(closed) = stopped(alloc, shares, false) else {
             return Ok(false);
         };
         print!(rt; "after {shares} shares")?;
         print_counts(rt, &closed)?;
     }
-    let Some(closed) = stopped(alloc, 0, 5) else {
+    let Ok(closed) = stopped(alloc, 0, true) else {
         return Ok(false);
     };
     print_nodes(rt, &closed)?;

@@ -1,0 +1,37 @@
+//! Why the program stopped.
+
+use core_machine::FinishFault;
+use spk_nums::{Memory, SetupFault};
+
+/// Why no machine has made its calls and stopped.
+#[derive(Clone, Copy, PartialEq, Eq, Debug)]
+pub enum Fault {
+    /// The setup is outside the limits.
+    Setup(SetupFault),
+    /// There is no port for a core.
+    Ports,
+    /// A call is refused.
+    Refused,
+    /// The machine was not finished.
+    Finish(FinishFault),
+    /// Memory has run out.
+    Memory,
+}
+
+impl From<SetupFault> for Fault {
+    fn from(fault: SetupFault) -> Fault {
+        Fault::Setup(fault)
+    }
+}
+
+impl From<FinishFault> for Fault {
+    fn from(fault: FinishFault) -> Fault {
+        Fault::Finish(fault)
+    }
+}
+
+impl From<Memory> for Fault {
+    fn from(_fault: Memory) -> Fault {
+        Fault::Memory
+    }
+}
