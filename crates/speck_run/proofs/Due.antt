@@ -1,5 +1,5 @@
 -- What is due is the status that the input has.
-use Rattle.std.proofs.Common.{◌≡◌, ◌⊎◌, ℕ, List, [], ◌∷◌, Option, Some, None, Result, Ok, Err}
+use Rattle.std.proofs.Common.{◌≡◌, ◌≢◌, ◌⊎◌, ℕ, List, [], ◌∷◌, Option, Some, None, Result, Ok, Err}
 use Rattle.std.proofs.Common.{Bool, IfOk, refl, sym, ap, subst, ◌∙◌, arith, inl, inr, eqb, get_or}
 use Rattle.std.specs.Prelude.{◌≤◌, if◌then◌else◌, length, codes, string_bytes}
 use lib.Pointwise.{pointwise}
@@ -16,46 +16,78 @@ use Rattle.speck_run.specs.declared.top.Status.{Status}
 use Rattle.speck_run.specs.declared.top.Status.TheVariants.{Done, Words, Script, ReadFault, WriteFault, Memory, TooLong, Stopped}
 use Rattle.whole_ends.specs.Ends.{GivesAll}
 use Rattle.speck_run.specs.Script.{read_by, MadeBy, IsFaultOf, AreInput}
-use Rattle.speck_run.specs.Top.{CommandLine, texts_of, word_of, Asked, Asks, AsksNumber, HasNumber, AsksMake, AsksLoad, IsCommand}
-use Rattle.speck_run.specs.Top.{IsMake, IsLoad, IsUnderstood, IsNumberOf, IsNumberIn, IsDue, IsDueOf, IsSummary, IsDone}
+use Rattle.speck_run.specs.Top.{CommandLine, texts_of, Asked, Asks, AsksNumber, HasNumber, AsksMake, AsksLoad, IsCommand}
+use Rattle.speck_run.specs.Top.{IsMake, IsLoad, IsUnderstood, IsNumberOf, IsNumberIn, IsPageOf, IsCommandOf, IsDue, IsDueOf, IsSummary, IsDone}
 use Rattle.speck_run.specs.Top.{InputMakes, CarriesOut, IsStatusOf, Answers, IsAccepted, Writes, InputRuns, Finishes}
 
 same_fault : {A : Type 0} (f g : First_fault) (r : Result A First_fault) → r ≡ Err f → r ≡ Err g → f ≡ g
 same_fault f g r p q = cc
 
--- The words are those of one command: the one that their text tells.
+-- The words are those of one command: the one that their text tells. Of `draw` it tells the word alone.
 is_word : List (List ℕ) → List ℕ → Bool
 is_word texts word = pointwise (λ x y. pointwise eqb x y) texts (word ∷ [])
 
 told : List (List ℕ) → Option Command
 told texts = if is_word texts (codes "replay") then Some Replay else if is_word texts (codes "trace") then Some Trace
-    else if is_word texts (codes "draw") then Some Draw
+    else if is_word texts (codes "draw") then Some (Draw 1)
     else if is_word texts (codes "run") then Some Run else if is_word texts (codes "plain") then Some Plain
     else if is_word texts (codes "print") then Some Print else if is_word texts (codes "ends") then Some Ends
     else if is_word texts (codes "sched") then Some Sched else if is_word texts (codes "check") then Some Check
     else if is_word texts (codes "origins") then Some Origins else None
 
-told_word : (command : Command) → told (word_of command ∷ []) ≡ Some command
-unfolding told is_word
-told_word Replay = refl
-told_word command = refl
-
-asks_told : (words : CommandLine) (command : Command) → Asks words command → told (texts_of words) ≡ Some command
-asks_told words command p = ap told p ∙ told_word command
-
 some_same : (a b : Command) → Some a ≡ Some b → a ≡ b
 some_same a b e = cc
 
-pub asks_same : (words : CommandLine) (a b : Command) → Asks words a → Asks words b → a ≡ b
-asks_same words a b p q = some_same a b (sym (asks_told words a p) ∙ asks_told words b q)
+-- The letter with which the words begin.
+first_letter : List (List ℕ) → ℕ
+first_letter texts = get_or (get_or texts 0 []) 0 0
 
--- Words that ask for a command that takes a script are one, and those that ask for the script of a number are two.
-one_word : (words : CommandLine) (command : Command) → Asks words command → length (texts_of words) ≡ 1
-one_word words command p = ap length p
+-- What words ask for: a command by their text alone, or a page of a drawing by its number.
+data Asked_by (words : CommandLine) (command : Command) : Type 0 where
+  By_text : told (texts_of words) ≡ Some command → length (texts_of words) ≡ 1 → Asked_by words command
+  By_page : (page : ℕ) → command ≡ Draw page → AsksNumber (codes "draw") words page → Asked_by words command
 
-asks_apart : (name : List ℕ) (words : CommandLine) (command : Command) → Asks words command → HasNumber name words → ⊥
-asks_apart name words command asks m = let one : length (texts_of words) ≡ 1 = one_word words command asks in
-    let two : length (texts_of words) ≡ 2 = ap length m.asks.asks in omega arith
+by_text : (words : CommandLine) (command : Command) (word : List ℕ) → told (word ∷ []) ≡ Some command → texts_of words ≡ word ∷ []
+    → Asked_by words command
+by_text words command word is p = By_text (ap told p ∙ is) (ap length p)
+
+asked_by : (words : CommandLine) (command : Command) → Asks words command → Asked_by words command
+unfolding told is_word
+asked_by words (Draw page) (inl p) =
+    by_text words (Draw page) (codes "draw") (ap (λ (n : ℕ). Some (Draw n)) (sym p.1)) p.0
+asked_by words (Draw page) (inr p) = By_page page refl p.0
+asked_by words Replay p = by_text words Replay (codes "replay") refl p
+asked_by words Trace p = by_text words Trace (codes "trace") refl p
+asked_by words Run p = by_text words Run (codes "run") refl p
+asked_by words Plain p = by_text words Plain (codes "plain") refl p
+asked_by words Print p = by_text words Print (codes "print") refl p
+asked_by words Ends p = by_text words Ends (codes "ends") refl p
+asked_by words Sched p = by_text words Sched (codes "sched") refl p
+asked_by words Check p = by_text words Check (codes "check") refl p
+asked_by words Origins p = by_text words Origins (codes "origins") refl p
+
+one_or_two : (words : CommandLine) (name digits : List ℕ) → length (texts_of words) ≡ 1 → texts_of words ≡ name ∷ digits ∷ [] → ⊥
+one_or_two words name digits one p = let two : length (texts_of words) ≡ 2 = ap length p in omega arith
+
+-- Words that ask for something of a number that is no page of a drawing are two, and begin with another letter.
+apart_by : (name : List ℕ) (words : CommandLine) (command : Command) → (get_or name 0 0 ≡ 100 → ⊥) → Asked_by words command
+    → HasNumber name words → ⊥
+unfolding first_letter
+apart_by name words command other (By_text told_so one) m = one_or_two words name m.asks.digits one m.asks.asks
+apart_by name words command other (By_page page is asks) m =
+    let named : first_letter (texts_of words) ≡ get_or name 0 0 = ap first_letter m.asks.asks in
+    let drawn : first_letter (texts_of words) ≡ 100 = ap first_letter asks.asks in
+    other (sym named ∙ drawn)
+
+asks_apart : (name : List ℕ) (words : CommandLine) (command : Command) → (get_or name 0 0 ≡ 100 → ⊥) → Asks words command
+    → HasNumber name words → ⊥
+asks_apart name words command other asks m = apart_by name words command other (asked_by words command asks) m
+
+not_make : get_or (codes "make") 0 0 ≡ 100 → ⊥
+not_make e = omega (arith, e)
+
+not_load_word : get_or (codes "load") 0 0 ≡ 100 → ⊥
+not_load_word e = omega (arith, e)
 
 -- They ask for one number.
 second_same : (v w x y : List ℕ) → v ∷ x ∷ [] ≡ w ∷ y ∷ [] → x ≡ y
@@ -77,10 +109,49 @@ numbers_same name words m n p q =
     let digits : p.digits ≡ q.digits = second_same _ _ _ _ (sym p.asks ∙ q.asks) in
     number_same (number_of p.digits) m n p.says (ap number_of digits ∙ q.says)
 
--- And for one thing.
-first_letter : List (List ℕ) → ℕ
-first_letter texts = get_or (get_or texts 0 []) 0 0
+same_by : (words : CommandLine) (a b : Command) → Asked_by words a → Asked_by words b → a ≡ b
+same_by words a b (By_text p one) (By_text q one') = some_same a b (sym p ∙ q)
+same_by words a b (By_text p one) (By_page page is asks) = absurd (one_or_two words (codes "draw") asks.digits one asks.asks)
+same_by words a b (By_page page is asks) (By_text q one) = absurd (one_or_two words (codes "draw") asks.digits one asks.asks)
+same_by words a b (By_page page is asks) (By_page page' is' asks') =
+    is ∙ ap (λ (n : ℕ). Draw n) (numbers_same (codes "draw") words page page' asks asks') ∙ sym is'
 
+pub asks_same : (words : CommandLine) (a b : Command) → Asks words a → Asks words b → a ≡ b
+asks_same words a b p q = same_by words a b (asked_by words a p) (asked_by words b q)
+
+-- What words ask for by the number of a page.
+pub no_page : (words : CommandLine) → (HasNumber (codes "draw") words → ⊥) → IsPageOf words None
+no_page words no = λ page asks some. no (record { number = page; asks = asks })
+
+pub page_zero : (words : CommandLine) (n : ℕ) → AsksNumber (codes "draw") words n → n ≡ 0 → IsPageOf words None
+page_zero words n asks is = λ page other some.
+    let same : page ≡ n = numbers_same (codes "draw") words page n other asks in omega (arith, same, is, some)
+
+pub page_asked : (words : CommandLine) (n : ℕ) → AsksNumber (codes "draw") words n → n ≢ 0 → IsPageOf words (Some (Draw n))
+page_asked words n asks some = inr (asks, omega (arith, some))
+
+-- Words that are no command's word alone ask for a page, or for no command.
+pub page_or_none : (words : CommandLine) (result : Option Command)
+    → (texts_of words ≡ codes "replay" ∷ [] → ⊥) → (texts_of words ≡ codes "trace" ∷ [] → ⊥) → (texts_of words ≡ codes "draw" ∷ [] → ⊥)
+    → (texts_of words ≡ codes "run" ∷ [] → ⊥) → (texts_of words ≡ codes "plain" ∷ [] → ⊥) → (texts_of words ≡ codes "print" ∷ [] → ⊥)
+    → (texts_of words ≡ codes "ends" ∷ [] → ⊥) → (texts_of words ≡ codes "sched" ∷ [] → ⊥) → (texts_of words ≡ codes "check" ∷ [] → ⊥)
+    → (texts_of words ≡ codes "origins" ∷ [] → ⊥) → IsPageOf words result → IsCommandOf words result
+page_or_none words (Some command) n1 n2 n3 n4 n5 n6 n7 n8 n9 n10 is = is
+page_or_none words None n1 n2 n3 n4 n5 n6 n7 n8 n9 n10 is = λ c. by c.command c.asks where
+  by : (command : Command) → Asks words command → ⊥
+  by Replay asks = n1 asks
+  by Trace asks = n2 asks
+  by (Draw page) (inl asks) = n3 asks.0
+  by (Draw page) (inr asks) = is page asks.0 asks.1
+  by Run asks = n4 asks
+  by Plain asks = n5 asks
+  by Print asks = n6 asks
+  by Ends asks = n7 asks
+  by Sched asks = n8 asks
+  by Check asks = n9 asks
+  by Origins asks = n10 asks
+
+-- And for one thing.
 make_apart : (words : CommandLine) → IsMake words → IsLoad words → ⊥
 unfolding first_letter
 make_apart words m l =
@@ -205,9 +276,9 @@ module _ (words : CommandLine) (command : Command) (asks : Asks words command) w
   makes_as left left' f f' text (inl d) =
       subst (λ (c : Command). InputMakes (MadeBy c) left left' text) (asks_same words d.command command d.asks asks) d.makes
   makes_as left left' f f' text (inr (inl d)) =
-      absurd (asks_apart (codes "make") words command asks record { number = d.number; asks = d.asks })
+      absurd (asks_apart (codes "make") words command not_make asks record { number = d.number; asks = d.asks })
   makes_as left left' f f' text (inr (inr d)) =
-      absurd (asks_apart (codes "load") words command asks record { number = d.number; asks = d.asks })
+      absurd (asks_apart (codes "load") words command not_load_word asks record { number = d.number; asks = d.asks })
 
   -- What is due for an input that the source tells.
   status_due : (left : List ℕ) (left' : Option (List ℕ)) (f f' : ℕ) (s : Status) (text : List ℕ) →
@@ -318,15 +389,15 @@ nothing_asked words no_command no_make no_load (inr (inl m)) = no_make m
 nothing_asked words no_command no_make no_load (inr (inr l)) = no_load l
 
 -- Words that ask for something of a number ask for no command.
-no_command : (name : List ℕ) (words : CommandLine) → HasNumber name words → IsCommand words → ⊥
-no_command name words m c = asks_apart name words c.command c.asks m
+no_command : (name : List ℕ) (words : CommandLine) → (get_or name 0 0 ≡ 100 → ⊥) → HasNumber name words → IsCommand words → ⊥
+no_command name words other m c = asks_apart name words c.command other c.asks m
 
 module _ (words : CommandLine) (number : ℕ) (asks : AsksMake words number) where
   understood : IsMake words
   understood = record { number = number; asks = asks }
 
   apart : IsCommand words → ⊥
-  apart = no_command (codes "make") words understood
+  apart = no_command (codes "make") words not_make understood
 
   not_load : IsLoad words → ⊥
   not_load = make_apart words understood
@@ -351,7 +422,7 @@ module _ (words : CommandLine) (number : ℕ) (asks : AsksLoad words number) whe
   sums_up = record { number = number; asks = asks }
 
   no_script : IsCommand words → ⊥
-  no_script = no_command (codes "load") words sums_up
+  no_script = no_command (codes "load") words not_load_word sums_up
 
   same_load : (n : ℕ) → AsksLoad words n → n ≡ number
   same_load n other = numbers_same (codes "load") words n number other asks

@@ -26,7 +26,7 @@ texts_of words = map (λ word. string_bytes word) words.items
 abbrev pub word_of : Command → List ℕ
 word_of Replay = codes "replay"
 word_of Trace = codes "trace"
-word_of Draw = codes "draw"
+word_of (Draw page) = codes "draw"
 word_of Run = codes "run"
 word_of Plain = codes "plain"
 word_of Print = codes "print"
@@ -35,16 +35,22 @@ word_of Sched = codes "sched"
 word_of Check = codes "check"
 word_of Origins = codes "origins"
 
--- The words ask for the command: they are its word alone.
-abbrev pub Asks : CommandLine → Command → Type 0
-Asks words command = texts_of words ≡ word_of command ∷ []
-
 -- The words ask for something of a number: this word, and the number, from 0 to 4,294,967,295, as a script writes numbers.
 pub record AsksNumber (name : List ℕ) (words : CommandLine) (number : ℕ) : Type 0 where
   pub digits : List ℕ
   pub asks : texts_of words ≡ name ∷ digits ∷ []
   pub says : number_of digits ≡ Some number
   pub range : number < 2 ^ 32
+
+-- The words ask for a page of a drawing: they are `draw` alone, for the first, or `draw` and the page's number, at least 1.
+abbrev pub AsksPage : CommandLine → ℕ → Type 0
+AsksPage words page =
+    ((texts_of words ≡ codes "draw" ∷ []) × (page ≡ 1)) ⊎ (AsksNumber (codes "draw") words page × (1 ≤ page))
+
+-- The words ask for the command: they are its word alone; `draw` may have the number of a page after it.
+abbrev pub Asks : CommandLine → Command → Type 0
+Asks words (Draw page) = AsksPage words page
+Asks words command = texts_of words ≡ word_of command ∷ []
 
 -- The words ask for it of some number.
 pub record HasNumber (name : List ℕ) (words : CommandLine) : Type 0 where
@@ -88,6 +94,11 @@ IsUnderstood words = IsCommand words ⊎ (IsMake words ⊎ IsLoad words)
 abbrev pub IsCommandOf : CommandLine → Option Command → Type 0
 IsCommandOf words (Some command) = Asks words command
 IsCommandOf words None = IsCommand words → ⊥
+
+-- The command to draw a page of which the words give the number, or none where they give none.
+abbrev pub IsPageOf : CommandLine → Option Command → Type 0
+IsPageOf words (Some command) = Asks words command
+IsPageOf words None = (page : ℕ) → AsksNumber (codes "draw") words page → 1 ≤ page → ⊥
 
 -- The source has given its input to the end, at most 1,048,576 bytes, and the text is this of it.
 pub record InputMakes (Made : List ℕ → List ℕ → Type 0) (left left' : Option (List ℕ)) (text : List ℕ) : Type 0 where

@@ -1,7 +1,7 @@
 //! The commands, and the words by which they are asked.
 
 ghost use Rattle.std.specs.Prelude.{◌≡◌, [], ◌∷◌, ◌↔◌, IsTrue, codes};
-ghost use Rattle.speck_run.specs.Top.{IsCommandOf, IsNumberOf, IsNumberIn, texts_of};
+ghost use Rattle.speck_run.specs.Top.{IsCommandOf, IsNumberOf, IsNumberIn, IsPageOf, texts_of};
 
 use script_reader::read_number;
 
@@ -12,8 +12,11 @@ pub enum Command {
     Replay,
     /// Takes given steps of a script, and writes each of them.
     Trace,
-    /// Takes given steps of a script, and writes a picture of them.
-    Draw,
+    /// Takes given steps of a script, and writes a picture of a page of them; pages count from 1.
+    Draw {
+        /// The page.
+        page: u32,
+    },
     /// Makes the lists of a script, each core in a thread of its own, and writes what they did.
     Run,
     /// Makes the calls of a script alone, core 0's first, and writes what they did.
@@ -40,7 +43,8 @@ fn is_alone(words: &Vec<String>, name: &str) -> bool
     }
 }
 
-/// The command whose word the words are, alone; none for other words.
+/// The command whose word the words are, alone, or `draw` with the number of a page; none for other words.
+#[tactic(auto, using(crate::proofs::Due::page_or_none))]
 pub fn command_of(words: &Vec<String>) -> Option<Command>
     ensures { IsCommandOf words.now result }
 {
@@ -51,7 +55,7 @@ pub fn command_of(words: &Vec<String>) -> Option<Command>
         return Some(Command::Trace);
     }
     if is_alone(words, "draw") {
-        return Some(Command::Draw);
+        return Some(Command::Draw { page: 1 });
     }
     if is_alone(words, "run") {
         return Some(Command::Run);
@@ -74,7 +78,21 @@ pub fn command_of(words: &Vec<String>) -> Option<Command>
     if is_alone(words, "origins") {
         return Some(Command::Origins);
     }
-    None
+    page_of(words)
+}
+
+// The command to draw a page, where the words are `draw` and its number, which is at least 1; none for other words.
+#[tactic(auto, using(crate::proofs::Due::no_page, crate::proofs::Due::page_zero, crate::proofs::Due::page_asked))]
+fn page_of(words: &Vec<String>) -> Option<Command>
+    ensures { IsPageOf words.now result }
+{
+    let Some(page) = number_after(words, "draw") else {
+        return None;
+    };
+    if page == 0 {
+        return None;
+    }
+    Some(Command::Draw { page })
 }
 
 // The number from 0 to 4,294,967,295 that a word stands for; none for another word.
