@@ -7,7 +7,8 @@ use Rattle.time_laws.proofs.Common.{opened, MayDecide, MayFollow, IsLegal, marke
 use Rattle.time_laws.proofs.Common.{Open}
 use Rattle.time_laws.proofs.Common.{phase, after_enter, after_decide, after_return, state_after, state_before, state_entered, state_decided}
 use Rattle.time_laws.proofs.Common.{state_returned, own_read, run_of, cases_word, open_inj, sound_of, opened_is, phase-own, phase-other}
-use Rattle.time_laws.proofs.Common.{own_read-here, own_read-there, Invariant}
+use Rattle.time_laws.proofs.Common.{own_read-here, own_read-there, Invariant, Core, CallIs, Untyping}
+use Rattle.time_laws.specs.call_stages.specs.Cores.{move_of}
 use Rattle.time_laws.specs.spk_nums.specs.declared.kinds.FrameKind.TheVariants as frame_kind
 use Rattle.time_laws.specs.spk_nums.specs.declared.kinds.Kind.TheVariants as kind
 use Rattle.time_laws.specs.spk_nums.specs.declared.calls.Call.TheVariants.{Make as make_call}
@@ -19,7 +20,7 @@ use Rattle.time_laws.specs.kernel_invariant.proofs.SoundCalls.{IsOpen}
 use Rattle.time_laws.specs.kernel_invariant.proofs.SoundRuns.{open_limits}
 use Rattle.time_laws.specs.kernel_history.specs.Legal.{MayEnter, DecidesBy}
 use Rattle.time_laws.specs.kernel_history.specs.Trace.{Decided}
-use Rattle.time_laws.specs.kernel_history.specs.Trace.{only_reads}
+use Rattle.time_laws.specs.kernel_history.specs.Trace.{reads, only_reads}
 use Rattle.time_laws.specs.kernel_history.specs.Events.{plain_phase}
 use Rattle.time_laws.specs.kernel_history.proofs.Events.{entered_events, entered_phase, entered_run}
 use Rattle.time_laws.specs.trace_laws.proofs.Opens.{opens}
@@ -29,12 +30,13 @@ use Rattle.time_laws.specs.state_laws.proofs.Flushes.{frame_flushed}
 use Rattle.time_laws.specs.state_laws.proofs.Relied.{own_frame, own_relies}
 use Rattle.time_laws.specs.kept_facts.proofs.CountSums.{counter_all}
 use Rattle.flight_laws.specs.Frames.{MakesUntyped, UntypedFramesAreUnused, CountedFramesStay, GoesOn, IsLooked, LookedNodesStay}
-use Rattle.time_laws.specs.flight.specs.Made.{cores_after, IsMade}
+use Rattle.flight_laws.specs.Frames.{asks_untyped, ReadsNode, ReadNodesStay}
+use Rattle.time_laws.specs.flight.specs.Made.{turned, cores_after, IsMade}
 use Rattle.time_laws.specs.flight.proofs.Made.{made_stands, made_counted}
 use Rattle.flight_laws.proofs.Places.{IsNoEntry, IsBeside, beside_other, beside_own, beside_no_node}
 use Rattle.flight_laws.proofs.Places.{WasOpen, was_open, has_read, entered_none, comp_no_node, tcap_no_node}
-use Rattle.flight_laws.proofs.Places.{swept_other, swept_own, no_entry_kept, enters_none, read_rests}
-use Rattle.flight_laws.proofs.Sweeping.{IsSwept, swept_no_node}
+use Rattle.flight_laws.proofs.Places.{swept_other, swept_own, no_entry_kept, enters_none, read_rests, step_relies}
+use Rattle.flight_laws.proofs.Sweeping.{IsSwept, swept_no_node, untyping_now, looks_asked}
 
 -- It is the end of the frame's grace period.
 untyping_ends : (t : Trace) (e : Step) (f : ℕ) → MakesUntyped t e f → ends_at t e (FrameOf f) ≡ true
@@ -159,10 +161,9 @@ module _ (setup : Setting) (setting : IsSetting setup) where
   rests_along [] made = λ c call is f i w read looked. absurd (none_some w read)
   rests_along (e ∷ t) made = rests_on t e made (rests_along t made.0)
 
-  looked_relies : (t : Trace) → IsMade setup t → (c : ℕ) (call : Call) → phase t c ≡ Open call → (f i w : ℕ)
-      → own_read t c (EntryAt f i) ≡ Some w → IsLooked call w → IsTrue (is_node ((state_after setup t).frame f))
-      → Relies (state_after setup t) c f
-  looked_relies t made c call is f i w read looked node = by (rests_along t made c call is f i w read looked)
+  rests_relies : (t : Trace) → IsMade setup t → (c : ℕ) (call : Call) → phase t c ≡ Open call → (f : ℕ) → Rests setup t c f
+      → IsTrue (is_node ((state_after setup t).frame f)) → Relies (state_after setup t) c f
+  rests_relies t made c call is f rests node = by rests
     where
       stands : Invariant setup (cores_after setup t) t
       stands = made_stands setup setting t made
@@ -180,6 +181,52 @@ module _ (setup : Setting) (setting : IsSetting setup) where
           absurd (false≢true (sym (swept_no_node setup (cores_after setup t) t stands c f swept) ∙ node))
       by (inr (inr (inr (inr is)))) = absurd (false≢true
           (sym (beside_no_node (state_after setup t) c f ((sound_of setup setting t stands.legal).cores c below).0 is) ∙ node))
+
+  looked_relies : (t : Trace) → IsMade setup t → (c : ℕ) (call : Call) → phase t c ≡ Open call → (f i w : ℕ)
+      → own_read t c (EntryAt f i) ≡ Some w → IsLooked call w → IsTrue (is_node ((state_after setup t).frame f))
+      → Relies (state_after setup t) c f
+  looked_relies t made c call is f i w read looked node =
+      rests_relies t made c call is f (rests_along t made c call is f i w read looked) node
+
+  -- a step that reads an entry of a node that the call is not asked to make untyped, whether it decides the call or not
+  module _ (t : Trace) (e : Step) (made : IsMade setup (e ∷ t)) (f : ℕ) (is : ReadsNode setup t e f) where
+    abbrev core : Core
+    core = cores_after setup t e.core
+
+    enters_nothing : e.enters ≡ None
+    enters_nothing = enters_none setup setting t e made e.enters refl f is.entry (sym is.on)
+
+    reads_relies : Relies (state_after setup t) e.core f
+    reads_relies = rests_relies t made.0 e.core is.call is.is_open f (by (untyping_now core.active) refl) is.node
+      where
+        stands : Invariant setup (cores_after setup t) t
+        stands = made_stands setup setting t made.0
+
+        move_is : e.move ≡ move_of (turned None core)
+        move_is = ap (λ (x : Step). x.move) made.1.made ∙ ap (λ o. move_of (turned o core)) enters_nothing
+
+        its : CallIs setup t e.core core.own.table core.active
+        its = (stands.each e.core made.1.is_core).active
+
+        moves : word_of (move_of core) ≡ EntryAt f is.entry
+        moves = sym (ap word_of move_is) ∙ is.on
+
+        by : (o : Option Untyping) → untyping_now core.active ≡ o → Rests setup t e.core f
+        by None at = step_relies setup setting t (cores_after setup t) stands e.core is.call is.is_open f is.entry core.own.table core.own
+            core.active its moves (sym (ap reads move_is) ∙ is.by_read) at
+        by (Some m) at = absurd (false≢true (sym is.apart
+            ∙ looks_asked setup t e.core core.own.table core.own is.call is.is_open f is.entry core.active its moves m at))
+
+    ends_not : ends_at t e (FrameOf f) ≡ false
+    ends_not = by (ends_at t e (FrameOf f)) refl
+      where
+        asked : MakesUntyped t e f → ⊥
+        asked m = false≢true (sym is.apart ∙ ap (λ k. asks_untyped k f) (open_inj is.call (Retype m.range f frame_kind.Untyped)
+            (sym m.call ∙ ap (λ o. after_enter o (phase t e.core)) enters_nothing ∙ is.is_open)) ∙ eq-eqb f f refl)
+
+        by : (b : Bool) → ends_at t e (FrameOf f) ≡ b → ends_at t e (FrameOf f) ≡ false
+        by true ended = absurd (asked (ends_untyping t e f ended))
+        by false ended = ended
 
 -- A core that is in a call relies on a node, which is this still.
 record IsThere (setup : Setting) (t : Trace) (c f : ℕ) (x : Frame) : Type 0 where
@@ -282,14 +329,28 @@ there_along setup setting (e ∷ u) t made c f x there goes =
     not_true true never = absurd (never refl)
     not_true false never = refl
 
+made_before : (setup : Setting) (u t : Trace) → IsMade setup (u ++ t) → IsMade setup t
+made_before setup [] t made = made
+made_before setup (g ∷ u) t made = made_before setup u t made.0
+
 pub looked_nodes_stay : (setup : Setting) → IsSetting setup → (u t : Trace) → IsMade setup (u ++ t) → LookedNodesStay setup u t
 looked_nodes_stay setup setting u t made c call is f i w read looked node goes =
     (there_along setup setting u t made c f ((state_after setup t).frame f) (record {
       inside = ap is_in is;
-      relies = looked_relies setup setting t (made_before u t made) c call is f i w read looked node;
+      relies = looked_relies setup setting t (made_before setup u t made) c call is f i w read looked node;
       same = refl;
     }) goes).same
-  where
-    made_before : (u t : Trace) → IsMade setup (u ++ t) → IsMade setup t
-    made_before [] t made = made
-    made_before (g ∷ u) t made = made_before u t made.0
+
+pub read_nodes_stay : (setup : Setting) → IsSetting setup → (u t : Trace) → IsMade setup (u ++ t) → ReadNodesStay setup u t
+read_nodes_stay setup setting u [] made = tt
+read_nodes_stay setup setting u (e ∷ t) made = λ f is no_return goes.
+    let made_now : IsMade setup (e ∷ t) = made_before setup u (e ∷ t) made in
+    let legal : IsLegal setup (e ∷ t) = (made_stands setup setting (e ∷ t) made_now).legal in
+    let x : Frame = (state_after setup t).frame f in
+    let there : IsThere setup t e.core f x = record {
+      inside = ap is_in is.is_open;
+      relies = reads_relies setup setting t e made_now f is;
+      same = refl;
+    } in
+    (there_along setup setting u (e ∷ t) made e.core f x
+    (there_own setup setting t legal.0 e legal.1 e.core f x there refl no_return (ends_not setup setting t e made_now f is)) goes).same

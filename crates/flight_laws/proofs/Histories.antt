@@ -10,8 +10,9 @@ use Rattle.flight_laws.specs.Places.{ScannedCores}
 use Rattle.flight_laws.specs.Lives.{KilledStop}
 use Rattle.flight_laws.specs.Invocations.{EntersNoneKilled}
 use Rattle.flight_laws.proofs.Places.{places_found, scanned_cores}
-use Rattle.flight_laws.proofs.Frames.{counted_frames_stay, looked_nodes_stay, untyped_unused}
+use Rattle.flight_laws.proofs.Frames.{counted_frames_stay, looked_nodes_stay, read_nodes_stay, untyped_unused}
 use Rattle.flight_laws.proofs.CountHolds.{frozen_say}
+use Rattle.flight_laws.proofs.Sums.{frozen_sums, time_sums}
 use Rattle.flight_laws.proofs.CountsTold.{counts_tell}
 use Rattle.flight_laws.proofs.StampsTold.{stamps_tell}
 use Rattle.flight_laws.proofs.Ready.{ready_decides, unready_refuses}
@@ -74,12 +75,14 @@ made_histories setup lim t made =
       unready_refuses = steps setup t made (λ v e is. unready_refuses setup lim v e is);
       places_found = moments setup t made (places_found setup lim);
       looked_nodes_stay = stretches setup t made (looked_nodes_stay setup lim);
+      read_nodes_stay = stretches setup t made (read_nodes_stay setup lim);
       scanned_cores = stretches setup t made (scans setup lim);
       counted_frames_stay = steps setup t made (counted_frames_stay setup lim);
       untyped_frames_are_unused = steps setup t made (untyped_unused setup lim);
       counts_tell = moments setup t made (counts_tell setup lim);
       stamps_tell = moments setup t made (stamps_tell setup lim);
       frozen_say = moments setup t made (frozen_say setup lim);
+      frozen_sums = moments setup t made (frozen_sums setup lim);
       cached_frames_stay = moments setup t made (cached_frames_stay setup lim);
       cached_till_flush = stretches setup t made (cached_till_flush setup lim);
       touches_cache = steps setup t made (λ v e is. touches_cache setup lim e v is);
@@ -89,6 +92,7 @@ made_histories setup lim t made =
       killed_stop = stretches setup t made (stops setup lim);
       threads_run_apart = moments setup t made (threads_apart setup lim);
       thread_words_say = moments setup t made (words_say setup lim);
+      time_sums = moments setup t made (time_sums setup lim);
       time_is_kept = moments setup t made (time_kept setup lim);
       ticks_are_counted = moments setup t made (ticks_counted setup lim);
       heads_say = moments setup t made (heads_say setup lim);

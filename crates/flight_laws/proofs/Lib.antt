@@ -13,6 +13,7 @@ pub mod DrawnStamps
 pub mod SettledCounts
 pub mod CountsTold
 pub mod StampsTold
+pub mod Sums
 pub mod Ready
 pub mod Invocations
 pub mod Threads

@@ -285,7 +285,7 @@ module _ (setup : Setting) (setting : IsSetting setup) (t : Trace) (cores : ℕ 
   by_stage table own a (Decided r drawn tail) is has on read none = absurd (cc)
   by_stage table own a (Leave r x) is has on read none = absurd (cc)
 
-  step_relies : (table : ℕ) (own : Own) (o : Option ActiveCall) → CallIs setup t c table o → word_of (move_in own o) ≡ EntryAt f i
+  pub step_relies : (table : ℕ) (own : Own) (o : Option ActiveCall) → CallIs setup t c table o → word_of (move_in own o) ≡ EntryAt f i
       → reads (move_in own o) ≡ true → untyping_now o ≡ None → Rests
   step_relies table own None is on read none = absurd (cc)
   step_relies table own (Some a) is on read none = by_stage table own a a.stage (sym is.phase ∙ is_open) is.knows on read none

@@ -1,7 +1,7 @@
 -- A call that makes a frame untyped looks at the object in it. What it finds held in the entry of a node refuses it; so a word of the frame
 -- that it reads and goes on from, and that says that something is held, is of no node.
 use Rattle.time_laws.proofs.Common.{◌≡◌, ℕ, ℤ, ◌+◌, nat_le, Bool, true, false, List, [], ◌∷◌, length, slice_get, Option, Some, None, refl}
-use Rattle.time_laws.proofs.Common.{sym, ◌∙◌, ap, subst, false≢true, Capability, Setting, Call, Retype, Obj, Reply, StageEnd, entry_of_word}
+use Rattle.time_laws.proofs.Common.{sym, ◌∙◌, ap, subst, eq-eqb, false≢true, Capability, Setting, Call, Retype, Obj, Reply, StageEnd, entry_of_word}
 use Rattle.time_laws.proofs.Common.{frame_of_word, FrameWord, Word, EntryAt, FrameAt, word_of, Frame, Untyped, User, Kernel, Blank}
 use Rattle.time_laws.proofs.Common.{Table, Leaf, Pages, Pleaf, Comp, Thread, Tcap, is_node, frame_value, Trace, Open, phase, state_after}
 use Rattle.time_laws.proofs.Common.{last_left, open_inj, end_of_frames, shown_in, Pin, AtLoad, AtCore, AtFlush, end_by, swept_of, Sweep}
@@ -33,6 +33,7 @@ use Rattle.time_laws.specs.call_stages.specs.Cores.{move_in, told_of_step}
 use Rattle.time_laws.specs.call_stages.specs.Steps.{took_at, took_count}
 use Rattle.time_laws.specs.call_stages.specs.declared.stages.Absorbed.TheVariants as told_as
 use Rattle.time_laws.specs.core_invariant.proofs.Freezing.{release_frame}
+use Rattle.flight_laws.specs.Frames.{asks_untyped}
 
 -- Whether an object is a node, and whether a frame's word says so.
 abbrev is_node_object : Obj → Bool
@@ -347,6 +348,51 @@ module _ (setup : Setting) (t : Trace) (c table : ℕ) (own : Own) (call : Call)
       → untyping_now o ≡ Some m → untypes call ≡ true
   looks_untypes None has on m is = absurd (none_some m is)
   looks_untypes (Some a) has on m is = stage_untypes a m a.stage has.phase has.knows on is
+
+  -- the entry is one of the frame that the call is asked to make untyped
+  frame_there : (g j : ℕ) → EntryAt g j ≡ EntryAt f i → g ≡ f
+  frame_there g j h = cc
+
+  untypes_asked : (asked : Call) (ks : List Capability) (m : Untyping) → UntypesBy asked ks m → m.frame ≡ f → asks_untyped asked f ≡ true
+  untypes_asked (Retype r g frame_kind.Untyped) (range ∷ []) m is same = eq-eqb f g (sym same ∙ is.frame)
+  untypes_asked (Retype r g frame_kind.Untyped) [] m is same = absurd is
+  untypes_asked (Retype r g frame_kind.Untyped) (range ∷ k ∷ ks) m is same = absurd is
+  untypes_asked asked ks m is same = absurd is
+
+  at_frame : (m : Untyping) (at : UntypingAt) → KnowsUntypingAt setup t c m.frame at → word_of (untyping_at m.frame m.core at) ≡ EntryAt f i
+      → m.frame ≡ f
+  at_frame m untype.Load knows on = absurd (cc)
+  at_frame m (untype.Mark word v) knows on = absurd (cc)
+  at_frame m (untype.Draw word w) knows on = absurd (cc)
+  at_frame m (untype.Sweep word w) knows on = by_sweep w.at on
+    where
+      by_sweep : (at : SweepAt) → word_of (move_at w.frame w.core (length w.kept) at) ≡ EntryAt f i → m.frame ≡ f
+      by_sweep sweep_load on = absurd (cc)
+      by_sweep (Compare count stamp) on = absurd (cc)
+      by_sweep (sweep_scan (AtCore x by at page)) on = absurd (cc)
+      by_sweep (sweep_scan (AtFlush x at)) on = absurd (cc)
+      by_sweep (Empty entry_no) on = sym knows.frame ∙ frame_there w.frame entry_no on
+
+  stage_asks : (a : ActiveCall) (m : Untyping) (stage : Stage) → phase t c ≡ phase_at a.call stage → KnowsAt setup t c table a stage
+      → word_of (stage_move own a.counts stage) ≡ EntryAt f i → untyping_of stage ≡ Some m → asks_untyped call f ≡ true
+  stage_asks a m Enter at has on is = absurd (none_some m is)
+  stage_asks a m (Living alive) at has on is = absurd (none_some m is)
+  stage_asks a m (Decided r drawn tail) at has on is = absurd (none_some m is)
+  stage_asks a m (Leave r x) at has on is = absurd (none_some m is)
+  stage_asks a m (Undecided (Lookup look)) at has on is = absurd (none_some m is)
+  stage_asks a m (Undecided (Read comp look)) at has on is = absurd (none_some m is)
+  stage_asks a m (Undecided (Scan q act)) at has on is = absurd (none_some m is)
+  stage_asks a m (Undecided (Acquire (AtLoad frame core) change act)) at has on is = absurd (cc)
+  stage_asks a m (Undecided (Acquire (pin_compare frame core count stamp) change act)) at has on is = absurd (cc)
+  stage_asks a m (Undecided (Act (Untype n))) at has on is =
+      ap (λ k. asks_untyped k f) (open_inj call a.call (sym at ∙ is_open))
+      ∙ untypes_asked a.call a.found n has.knows.knows.untypes (at_frame n n.at has.knows.knows.at on)
+  stage_asks a m (Undecided (Act act)) at has on is = absurd (none_some m is)
+
+  pub looks_asked : (o : Option ActiveCall) → CallIs setup t c table o → word_of (move_in own o) ≡ EntryAt f i → (m : Untyping)
+      → untyping_now o ≡ Some m → asks_untyped call f ≡ true
+  looks_asked None has on m is = absurd (none_some m is)
+  looks_asked (Some a) has on m is = stage_asks a m a.stage has.phase has.knows on is
 
   stage_swept : (a : ActiveCall) (m : Untyping) (stage : Stage) → KnowsAt setup t c table a stage
       → word_of (stage_move own a.counts stage) ≡ EntryAt f i → untyping_of stage ≡ Some m → (found : ℕ) (k : Capability)

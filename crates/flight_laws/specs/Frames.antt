@@ -1,5 +1,5 @@
 -- Frames that are made untyped again: what then held, and which frames stay as they are.
-use Rattle.std.specs.Prelude.{◌≡◌, ◌≢◌, ◌<◌, ◌⊎◌, ℕ, Bool, true, false, [], ◌∷◌, ◌++◌, Option, Some, None, IsTrue}
+use Rattle.std.specs.Prelude.{◌≡◌, ◌≢◌, ◌<◌, ◌==◌, ◌⊎◌, ℕ, Bool, true, false, [], ◌∷◌, ◌++◌, Option, Some, None, IsTrue}
 use Rattle.time_laws.specs.spk_nums.specs.Setting.{Setting}
 use Rattle.time_laws.specs.spk_nums.specs.declared.kinds.FrameKind.TheVariants.{Untyped}
 use Rattle.time_laws.specs.spk_nums.specs.declared.calls.Call.{Call}
@@ -9,12 +9,13 @@ use Rattle.time_laws.specs.spk_nums.specs.declared.replies.Reply.TheVariants.{Ok
 use Rattle.time_laws.specs.entry_words.specs.EntryWord.{entry_of_word}
 use Rattle.time_laws.specs.entry_words.specs.declared.entry.Entry.{Entry}
 use Rattle.time_laws.specs.entry_words.specs.declared.entry.Entry.TheVariants.{Held}
+use Rattle.time_laws.specs.word_map.specs.Moves.{word_of}
 use Rattle.time_laws.specs.word_map.specs.Word.{EntryAt, CountAt}
 use Rattle.time_laws.specs.kernel_rules.specs.State.{FrameOf, State}
 use Rattle.time_laws.specs.kernel_rules.specs.References.{refs}
 use Rattle.time_laws.specs.kernel_rules.specs.Relies.{is_node}
 use Rattle.time_laws.specs.kernel_history.specs.Marking.{marked_by}
-use Rattle.time_laws.specs.kernel_history.specs.Trace.{Step, Trace, Open, phase, after_enter, state_after, state_before, own_read}
+use Rattle.time_laws.specs.kernel_history.specs.Trace.{Step, Trace, Open, phase, after_enter, state_after, state_before, own_read, reads}
 use Rattle.time_laws.specs.core_invariant.specs.Knows.{untypes}
 
 -- The step e after t decides `ok` of a retype of the frame to untyped.
@@ -59,3 +60,25 @@ LookedNodesStay setup u t = (c : ℕ) (call : Call) → phase t c ≡ Open call
     → (f i w : ℕ) → own_read t c (EntryAt f i) ≡ Some w → IsLooked call w
     → IsTrue (is_node ((state_after setup t).frame f)) → GoesOn u t c f
     → (state_after setup (u ++ t)).frame f ≡ (state_after setup t).frame f
+
+-- The call is asked to make this frame untyped.
+abbrev pub asks_untyped : Call → ℕ → Bool
+asks_untyped (Retype range g Untyped) f = f == g
+asks_untyped _ f = false
+
+-- The step e after t is one of a call that is not decided yet, and reads an entry of the node f, which is not the frame that the call is
+-- asked to make untyped. It may decide the call.
+pub record ReadsNode (setup : Setting) (t : Trace) (e : Step) (f : ℕ) : Type 0 where
+  pub call : Call
+  pub is_open : phase t e.core ≡ Open call
+  pub apart : asks_untyped call f ≡ false
+  pub node : IsTrue (is_node ((state_after setup t).frame f))
+  pub entry : ℕ
+  pub on : word_of e.move ≡ EntryAt f entry
+  pub by_read : reads e.move ≡ true
+
+-- A node of which a call reads an entry stays what it is from then on till the call returns, also where that step decides the call.
+abbrev pub ReadNodesStay : Setting → Trace → Trace → Type 0
+ReadNodesStay setup u [] = Unit {0}
+ReadNodesStay setup u (e ∷ t) = (f : ℕ) → ReadsNode setup t e f → e.returns ≡ None → GoesOn u (e ∷ t) e.core f
+    → (state_after setup (u ++ e ∷ t)).frame f ≡ (state_after setup t).frame f

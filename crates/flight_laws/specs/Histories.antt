@@ -10,8 +10,9 @@ use Rattle.time_laws.specs.kernel_history.specs.Moments.{WordsSayAlong}
 use Rattle.time_laws.specs.flight.specs.Made.{IsMade}
 use Rattle.flight_laws.specs.Moments.{AtEachMoment, AtEachStep, OfEachStretch}
 use Rattle.flight_laws.specs.Places.{PlacesFound, ScannedCores}
-use Rattle.flight_laws.specs.Frames.{LookedNodesStay, CountedFramesStay, UntypedFramesAreUnused}
+use Rattle.flight_laws.specs.Frames.{LookedNodesStay, ReadNodesStay, CountedFramesStay, UntypedFramesAreUnused}
 use Rattle.flight_laws.specs.Counts.{CountsTell, FrozenSay}
+use Rattle.flight_laws.specs.Sums.{FrozenSums, TimeSums}
 use Rattle.flight_laws.specs.Stamps.{StampsTell}
 use Rattle.flight_laws.specs.Ready.{ReadyDecides, UnreadyRefuses}
 use Rattle.flight_laws.specs.Pages.{CachedFramesStay, CachedTillFlush, TouchesCache}
@@ -39,6 +40,7 @@ pub record IsHistory (setup : Setting) (t : Trace) : Type 0 where
   -- what calls have found, and what scans have shown
   pub places_found : AtEachMoment (PlacesFound setup) t
   pub looked_nodes_stay : OfEachStretch (LookedNodesStay setup) t
+  pub read_nodes_stay : OfEachStretch (ReadNodesStay setup) t
   pub scanned_cores : OfEachStretch (ScannedCores setup) t
   -- frames and the references to them
   pub counted_frames_stay : AtEachStep (CountedFramesStay setup) t
@@ -46,6 +48,7 @@ pub record IsHistory (setup : Setting) (t : Trace) : Type 0 where
   pub counts_tell : AtEachMoment (CountsTell setup) t
   pub stamps_tell : AtEachMoment (StampsTell setup) t
   pub frozen_say : AtEachMoment (FrozenSay setup) t
+  pub frozen_sums : AtEachMoment (FrozenSums setup) t
   -- translations
   pub cached_frames_stay : AtEachMoment (CachedFramesStay setup) t
   pub cached_till_flush : OfEachStretch (CachedTillFlush setup) t
@@ -59,6 +62,7 @@ pub record IsHistory (setup : Setting) (t : Trace) : Type 0 where
   pub threads_run_apart : AtEachMoment (ThreadsRunApart setup) t
   pub thread_words_say : AtEachMoment (ThreadWordsSay setup) t
   -- time
+  pub time_sums : AtEachMoment (TimeSums setup) t
   pub time_is_kept : AtEachMoment (TimeIsKept setup) t
   pub ticks_are_counted : AtEachMoment (TicksAreCounted setup) t
   pub heads_say : AtEachMoment (HeadsSay setup) t

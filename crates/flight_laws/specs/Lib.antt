@@ -14,6 +14,7 @@ pub mod Invocations
 pub mod Pages
 pub mod Frames
 pub mod Counts
+pub mod Sums
 pub mod Stamps
 pub mod Ready
 pub mod Histories
