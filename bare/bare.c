@@ -164,9 +164,10 @@ static void start_second_core(void) {
     }
 }
 static void end(void) {
+    struct speck_final last = {0};
     struct speck_text tables = {0};
     uint8_t bytes[4096];
-    int code = speck_take_back(&machine, &port[0]) | speck_take_back(&machine, &port[1]) | speck_finish(&machine, &tables);
+    int code = speck_take_back(&machine, &port[0]) | speck_take_back(&machine, &port[1]) | speck_finish(&machine, &last) | speck_show(&last, &tables);
     text("taken back and finished: ");
     number((uint64_t)code);
     put('\n');

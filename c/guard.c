@@ -100,12 +100,17 @@ CALL(tick, OWN, (HELD(port), ticks), uint32_t ticks)
 CALL(transfer, OWN, (HELD(port), source, target, ticks), uint16_t source, uint16_t target, uint32_t ticks)
 CALL(delegate, OWN, (HELD(port), source, target, ticks), uint16_t source, uint16_t target, uint32_t ticks)
 CALL(test, OWN, (HELD(port), first, second), uint16_t first, uint16_t second)
+CALL(send, OWN, (HELD(port), gate), uint16_t gate)
+CALL(recv, OWN, (HELD(port), comp), uint16_t comp)
 
 /* Machines, notes and texts. */
 uint8_t speck_inner_boot(struct held *machine, uint8_t cores, uint16_t frames, uint32_t budget);
 uint8_t speck_inner_deal(struct held *machine, struct held *port);
 uint8_t speck_inner_take_back(struct held *machine, struct held *port);
-uint8_t speck_inner_finish(struct held *machine, struct held *text);
+uint8_t speck_inner_boot_with(struct held *machine, uint16_t frames, uint32_t calls, uint16_t epochs, const struct speck_grant *grants,
+    size_t cores);
+uint8_t speck_inner_finish(struct held *machine, struct held *last);
+uint8_t speck_inner_show(struct held *last, struct held *text);
 uint8_t speck_inner_core(struct held *port);
 uint8_t speck_inner_note(struct held *port, struct held *note);
 uint8_t speck_inner_meet(struct held *port, struct held *note);
@@ -113,13 +118,25 @@ uint64_t speck_inner_read(struct held *text, uint8_t *bytes, size_t room);
 
 static uint64_t boots;
 
+/* Gives a machine that has booted its number. */
+static uint8_t booted(struct guarded *machine, uint8_t code) {
+    if (code == SPECK_OK) machine->machine = __atomic_add_fetch(&boots, 1, __ATOMIC_RELAXED);
+    leave(machine);
+    return code;
+}
+
 uint8_t speck_boot(struct speck_machine *machine, uint8_t cores, uint16_t frames, uint32_t budget) {
     if (!machine) return SPECK_NOTHING_HELD;
     if (!enter(GUARD(machine))) return SPECK_IN_CALL;
-    uint8_t code = speck_inner_boot(HELD(machine), cores, frames, budget);
-    if (code == SPECK_OK) GUARD(machine)->machine = __atomic_add_fetch(&boots, 1, __ATOMIC_RELAXED);
-    leave(GUARD(machine));
-    return code;
+    return booted(GUARD(machine), speck_inner_boot(HELD(machine), cores, frames, budget));
+}
+
+uint8_t speck_boot_with(struct speck_machine *machine, uint16_t frames, uint32_t calls, uint16_t epochs,
+    const struct speck_grant *grants, size_t cores) {
+    static const struct speck_grant none; /* a slice is never null, also where it is empty */
+    if (!machine || (!grants && cores)) return SPECK_NOTHING_HELD;
+    if (!enter(GUARD(machine))) return SPECK_IN_CALL;
+    return booted(GUARD(machine), speck_inner_boot_with(HELD(machine), frames, calls, epochs, grants ? grants : &none, cores));
 }
 
 uint8_t speck_deal(struct speck_machine *machine, struct speck_port *port) {
@@ -139,12 +156,43 @@ uint8_t speck_take_back(struct speck_machine *machine, struct speck_port *port) 
     return leave_both(GUARD(machine), GUARD(port), code);
 }
 
-uint8_t speck_finish(struct speck_machine *machine, struct speck_text *text) {
-    if (!machine || !text) return SPECK_NOTHING_HELD;
-    uint8_t code = enter_both(GUARD(machine), GUARD(text));
+uint8_t speck_finish(struct speck_machine *machine, struct speck_final *last) {
+    if (!machine || !last) return SPECK_NOTHING_HELD;
+    uint8_t code = enter_both(GUARD(machine), GUARD(last));
     if (code != SPECK_OK) return code;
-    return leave_both(GUARD(machine), GUARD(text), speck_inner_finish(HELD(machine), HELD(text)));
+    return leave_both(GUARD(machine), GUARD(last), speck_inner_finish(HELD(machine), HELD(last)));
 }
+
+uint8_t speck_show(struct speck_final *last, struct speck_text *text) {
+    if (!last || !text) return SPECK_NOTHING_HELD;
+    uint8_t code = enter_both(GUARD(last), GUARD(text));
+    if (code != SPECK_OK) return code;
+    return leave_both(GUARD(last), GUARD(text), speck_inner_show(HELD(last), HELD(text)));
+}
+
+/* The parts of a finished machine. */
+#define READ(name, part, given, ...) \
+    uint8_t speck_inner_read_##name(struct held *last, ##__VA_ARGS__, part *into); \
+    uint8_t speck_read_##name(struct speck_final *last, ##__VA_ARGS__, part *into) { \
+        if (!last || !into) return SPECK_NOTHING_HELD; \
+        if (!enter(GUARD(last))) return SPECK_IN_CALL; \
+        uint8_t code = speck_inner_read_##name given; \
+        leave(GUARD(last)); \
+        return code; \
+    }
+
+READ(size, struct speck_size, (HELD(last), into))
+READ(frame, struct speck_frame, (HELD(last), frame, into), uint16_t frame)
+READ(count, int32_t, (HELD(last), frame, core, into), uint16_t frame, uint8_t core)
+READ(entry, struct speck_capability, (HELD(last), frame, entry, into), uint16_t frame, uint16_t entry)
+READ(under, struct speck_capability, (HELD(last), root, number, into), uint16_t root, uint16_t number)
+READ(comp, struct speck_component, (HELD(last), frame, into), uint16_t frame)
+READ(stack, uint16_t, (HELD(last), frame, height, into), uint16_t frame, uint16_t height)
+READ(budget, uint32_t, (HELD(last), frame, into), uint16_t frame)
+READ(quality, struct speck_quality, (HELD(last), frame, place, into), uint16_t frame, uint16_t place)
+READ(live, struct speck_life, (HELD(last), number, into), uint8_t number)
+READ(core, struct speck_core_end, (HELD(last), core, into), uint8_t core)
+READ(cached, struct speck_translation, (HELD(last), core, place, into), uint8_t core, uint8_t place)
 
 uint8_t speck_note(struct speck_port *port, struct speck_note *note) {
     if (!port || !note) return SPECK_NOTHING_HELD;
@@ -191,4 +239,5 @@ uint64_t speck_read(struct speck_text *text, uint8_t *bytes, size_t room) {
 FREE(machine)
 FREE(port)
 FREE(note)
+FREE(final)
 FREE(text)

@@ -4,12 +4,29 @@
 #include <pthread.h>
 #include <signal.h>
 #include <stdio.h>
-#include <string.h>
+#include <stdlib.h>
 #include <sys/time.h>
+
+/* The library's heap (speck.h, 'In ring 0'), in place of the one over malloc: the allocation of this number, if any, fails. */
+static unsigned fails_at;
+static int fails(void) { return fails_at && --fails_at == 0; }
+struct got { uint64_t is_some; void *at; };
+struct got rattle_alloc(size_t size, size_t align) {
+    (void)align;
+    void *at = fails() ? 0 : malloc(size);
+    return (struct got){ at != 0, at };
+}
+struct got rattle_realloc(void *at, size_t old, size_t size, size_t align) {
+    (void)old, (void)align;
+    void *now = fails() ? 0 : realloc(at, size);
+    return (struct got){ now != 0, now };
+}
+void rattle_dealloc(void *at) { free(at); }
 
 static struct speck_machine machine, other;
 static struct speck_port port[2], others;
 static struct speck_note note, of_other;
+static struct speck_final last, other_last;
 static struct speck_text tables;
 
 static void tell(const char *what, int code) { printf("%s: %d\n", what, code); }
@@ -57,6 +74,49 @@ static void from_two_threads(void) {
     tell("two threads at one port: answers of another kind", (int)(wrong_answers[0] + wrong_answers[1]));
 }
 
+/* Parts that are none: what is to be written stays as it was. */
+static void parts(void) {
+    struct speck_capability cap = { .frame = 77 };
+    uint16_t frame = 77;
+    tell("a frame past the last", speck_read_entry(&last, 32, 0, &cap));
+    tell("an entry past the last", speck_read_entry(&last, 0, 64, &cap));
+    tell("an entry of a thread", speck_read_entry(&last, 4, 0, &cap));
+    tell("an entry that holds nothing", speck_read_entry(&last, 1, 63, &cap));
+    tell("a height with no component", speck_read_stack(&last, 4, 1, &frame));
+    tell("nowhere to write to", speck_read_entry(&last, 0, 0, 0));
+    tell("a part of a text", speck_read_entry((struct speck_final *)&tables, 0, 0, &cap));
+    tell("written", cap.frame != 77 || frame != 77);
+}
+
+/* Each allocation of a machine's life fails in turn: nothing is lost, so the same step is made again and goes on. */
+static int from_a_full_heap(void) {
+    struct speck_machine it = {{0}};
+    struct speck_port one = {{0}};
+    struct speck_note seen = {{0}};
+    struct speck_final left = {{0}};
+    struct speck_text text = {{0}};
+    int refused = 0, other_codes = 0;
+#define STEP(call) \
+    for (unsigned at = 1; ; at++) { \
+        fails_at = at; \
+        uint8_t code = call; \
+        fails_at = 0; \
+        if (code == SPECK_NO_MEMORY) { refused++; continue; } \
+        if (code != SPECK_OK) other_codes++; \
+        break; \
+    }
+    STEP(speck_boot(&it, 1, 16, 100))
+    STEP(speck_deal(&it, &one))
+    STEP(speck_note(&one, &seen))
+    STEP(speck_meet(&one, &seen))
+    STEP(speck_look(&one, 0).code)
+    STEP(speck_take_back(&it, &one))
+    STEP(speck_finish(&it, &left))
+    STEP(speck_show(&left, &text))
+    tell("refused for want of memory, at least once a step that takes some", refused >= 5);
+    return other_codes | speck_free_text(&text) | speck_free_final(&left);
+}
+
 int main(void) {
     struct speck_port empty = {{0}};
     tell("a call at no slot", speck_look(0, 0).code);
@@ -70,14 +130,25 @@ int main(void) {
     tell("rights outside the limits", speck_copy(&port[0], 0, 1, 20, 4).code);
     tell("too many ticks", speck_tick(&port[0], 1000001).code);
     tell("a kind that is none", speck_retype(&port[0], 0, 20, 3).code);
+    tell("nothing wrong where each allocation fails in turn", from_a_full_heap());
     tell("cores, frames, budget outside the limits",
         speck_boot(&other, 9, 32, 100) * 1000000 + speck_boot(&other, 2, 7, 100) * 1000 + speck_boot(&other, 2, 32, 500000001));
 
+    struct speck_grant grants[9] = {{ .budget = 1, .quality = 1, .sched = 64 }};
+    tell("no grants", speck_boot_with(&other, 32, 1, 1, 0, 0));
+    tell("no list of grants", speck_boot_with(&other, 32, 1, 1, 0, 1));
+    tell("nine cores", speck_boot_with(&other, 32, 1, 1, grants, 9));
+    tell("a scheduler past 63", speck_boot_with(&other, 32, 1, 1, grants, 1));
+    grants[0].sched = 63;
+    tell("too many calls", speck_boot_with(&other, 32, 4194305, 0, grants, 1));
+    tell("no epoch", speck_boot_with(&other, 32, 1, 0, grants, 1));
+    tell("a send through what is no gate", speck_send(&port[0], 3).code);
+    tell("a receive by what is no component", speck_recv(&port[0], 0).code);
     tell("another machine", speck_boot(&other, 1, 16, 100) | speck_deal(&other, &others) | speck_note(&others, &of_other));
     tell("its note met", speck_meet(&port[0], &of_other));
     tell("its port taken back", speck_take_back(&machine, &others));
     tell("the note is still there, and met by its own port", speck_meet(&others, &of_other));
-    tell("finished before a port is back", speck_finish(&machine, &tables));
+    tell("finished before a port is back", speck_finish(&machine, &last));
     tell("the other's port can still make calls", speck_look(&others, 0).code);
     tell("core 1's port back before core 0's", speck_take_back(&machine, &port[1]));
 
@@ -90,12 +161,16 @@ int main(void) {
     tell("met once more", speck_meet(&port[1], &note));
     tell("core 0's port back", speck_take_back(&machine, &port[0]));
     tell("once more", speck_take_back(&machine, &port[0]));
-    tell("finished with a port out", speck_finish(&machine, &tables));
+    tell("finished with a port out", speck_finish(&machine, &last));
     tell("the port that is out", speck_look(&port[1], 0).code);
     tell("it is back", speck_take_back(&machine, &port[1]));
-    tell("finished", speck_finish(&machine, &tables));
-    tell("finished once more", speck_finish(&machine, &tables));
-    tell("a text into a full slot", speck_take_back(&other, &others) | speck_finish(&other, &tables));
-    tell("the other machine is still there", speck_finish(&other, (struct speck_text *)&empty));
-    return speck_free_text(&tables) | speck_free_text((struct speck_text *)&empty);
+    tell("finished", speck_finish(&machine, &last));
+    tell("finished once more", speck_finish(&machine, &last));
+    tell("the other's into a full slot", speck_take_back(&other, &others) | speck_finish(&other, &last));
+    tell("the other machine is still there", speck_finish(&other, &other_last));
+    parts();
+    tell("the text", speck_show(&last, &tables));
+    tell("a text into a full slot", speck_show(&other_last, &tables));
+    tell("of a slot that holds nothing", speck_show((struct speck_final *)&empty, (struct speck_text *)&machine));
+    return speck_free_text(&tables) | speck_free_final(&last) | speck_free_final(&other_last);
 }

@@ -8,19 +8,21 @@
  *
  *     struct speck_machine machine = {0};
  *     struct speck_port port[2] = {{{0}}};
+ *     struct speck_final last = {0};
  *     struct speck_text tables = {0};
  *     if (speck_boot(&machine, 2, 32, 100) != SPECK_OK) return 1;                      two cores, 32 frames, 100 ticks for each core
  *     for (int core = 0; core < 2; core++) speck_deal(&machine, &port[core]);          core 0's port comes first
  *     struct speck_reply reply = speck_copy(&port[0], 0, 1, 20, SPECK_RIGHT_COPY | SPECK_RIGHT_USE);
  *     for (int core = 0; core < 2; core++) speck_take_back(&machine, &port[core]);     core 0's port first
- *     if (speck_finish(&machine, &tables) == SPECK_OK) ..                              the text of its tables: speck_read
- *     speck_free_text(&tables);
+ *     if (speck_finish(&machine, &last) == SPECK_OK) ..                                what it has left, part by part: speck_read_..
+ *     if (speck_show(&last, &tables) == SPECK_OK) ..                                   or as the text of its tables: speck_read
+ *     speck_free_text(&tables), speck_free_final(&last);
  *
  * Linked with -lspeck and with nothing else. What is proved of it, and what is tried alone, is told at the end.
  *
  * WHAT A CALLER KEEPS
  *
- * - A slot (machine, port, note, text) is zeroed before its first use. No field of it is yours. It may be moved; a copy and its original
+ * - A slot (machine, port, note, final, text) is zeroed before its first use. No field of it is yours. It may be moved; a copy and its original
  *   are never both used. Free each slot that is not empty: the last of a machine and its ports frees the kernel.
  * - Hand a slot to another thread only across the start or the join of a thread, a lock, or a sequentially consistent atomic.
  * - `malloc`, `realloc` and `free` are those of one allocator, aligned to 16 bytes, and may be called by several threads at once. Beside
@@ -29,7 +31,8 @@
  *
  * WHAT IS TESTED, AND ANSWERED BY A CODE, WITH NOTHING CHANGED
  *
- *     a slot that is null, or holds nothing, or something else         SPECK_NOTHING_HELD
+ *     a slot that is null, or holds nothing, or something else; a
+ *     place to write to that is null                                   SPECK_NOTHING_HELD
  *     a slot that is in a call: from an interrupt or a signal handler,
  *     or from a second thread; or one slot given twice                 SPECK_IN_CALL (that call goes on, and is not disturbed)
  *     a slot to be filled that is not empty                            SPECK_FULL
@@ -37,7 +40,8 @@
  *     a port that comes back before those with lower numbers           SPECK_NOT_ITS_TURN
  *     a machine that is finished before all its ports are back         SPECK_PORT_OUT
  *     one port more than there are cores                               SPECK_ALL_DEALT
- *     an argument outside its limits                                   SPECK_OUTSIDE; of a boot SPECK_BAD_CORES and those after it
+ *     an argument outside its limits                                   SPECK_OUTSIDE; of a boot the SPECK_BAD_.. of the first such
+ *     no memory                                                        SPECK_NO_MEMORY: a machine, a port, a note, a final is never lost by it
  *
  * WHAT A MACHINE HOLDS AT BOOT, with n cores and f frames
  *
@@ -48,7 +52,7 @@
  *     3            SPECK_KIND_COMP         3            the component of all cores, of liveness number 0
  *     4 + core     SPECK_KIND_THREAD       4 + core     the thread that the core runs
  *     12 + core    SPECK_KIND_TCAP         4 + n + core the temporal capability by which it runs, with the budget of the boot,
- *                                                       of scheduler 0 and quality 1
+ *                                                       of scheduler 0 and quality 1; or as its grant says (speck_boot_with)
  *
  * A `table`, `root`, `pages`, `range`, `comp`, `thread`, `tcap`, `gate` or `leaf` among the arguments is the number of a capability of
  * that kind; a `slot` is the number under which something is put into a table, a `page` the same of a page table, an `entry` one of the
@@ -57,7 +61,7 @@
  * LIMITS. 1 to 8 cores; 4 + 2n to 512 frames, of 64 words; numbers of capabilities and pages 0 to 4,095; a component's name is a liveness
  * number, 0 to 63, of up to 65,535 epochs; a thread is in up to 16 components; a temporal capability's list names up to 8 schedulers of 0
  * to 63; a quality is 1 to 16,777,215, and a smaller one is better; a budget is up to 500,000,000 ticks, a `tick` up to 1,000,000; a core
- * makes up to 4,194,304 calls, after which each answers SPECK_CALLS_SPENT.
+ * makes up to 4,194,304 calls, after which each answers SPECK_CALLS_SPENT, and up to as many sends and receives, the refused ones too.
  *
  * WHAT TO DO ABOUT A REPLY is its `advice` (below). To make a call until it is carried out or refused for good:
  *
@@ -102,6 +106,7 @@ extern "C" {
 struct speck_machine { uint64_t own[4]; };
 struct speck_port { uint64_t own[4]; };
 struct speck_note { uint64_t own[4]; };
+struct speck_final { uint64_t own[4]; };
 struct speck_text { uint64_t own[4]; };
 
 /* What a call of a core answers. Of SPECK_OK, `value` says what it carries. Of SPECK_QUIESCING, SPECK_UNFLUSHED, SPECK_RUNNING and
@@ -145,16 +150,18 @@ enum {
     SPECK_CALLS_SPENT = 23,  /* the core has made its last call */
     SPECK_NO_RIGHT = 24,     /* the capability lacks the right that the call needs */
 
-    /* No replies of the kernel: no call was made, and with the one exception that is told nothing was changed. */
+    /* No replies of the kernel: no call was made, and nothing was changed. */
     SPECK_FULL = 240,
     SPECK_BAD_CORES = 241,     /* not 1 to 8 */
     SPECK_BAD_FRAMES = 242,    /* not 4 + 2 * cores to 512 */
-    SPECK_BAD_BUDGET = 243,    /* past 500,000,000 ticks */
+    SPECK_BAD_GRANT = 243,     /* a budget past 500,000,000 ticks, a scheduler past 63, or a quality that is not 1 to 16,777,215 */
     SPECK_ALL_DEALT = 244,
     SPECK_NOT_ITS_TURN = 245,
     SPECK_PORT_OUT = 246,
-    SPECK_NO_MEMORY = 247,     /* and then the next core's port (speck_deal), the port (speck_take_back), the machine (speck_finish) is gone */
+    SPECK_NO_MEMORY = 247,
     SPECK_OTHER_MACHINE = 248,
+    SPECK_BAD_CALLS = 249,     /* past 4,194,304 */
+    SPECK_BAD_EPOCHS = 250,    /* 0 */
     SPECK_IN_CALL = 253,
     SPECK_NOTHING_HELD = 254,
     SPECK_OUTSIDE = 255
@@ -165,7 +172,7 @@ enum {
     SPECK_VALUE_NOTHING = 0,
     SPECK_VALUE_CAPABILITY = 1, /* its `kind`, `frame`, rights (`flags`) and argument (`n`: a range's length, a gate's epoch) */
     SPECK_VALUE_PAGE = 2,       /* its `frame` and `flags` */
-    SPECK_VALUE_AMOUNT = 3,     /* `n` */
+    SPECK_VALUE_AMOUNT = 3,     /* `n`: the ticks that speck_tick charged, how many speck_recv took */
     SPECK_VALUE_PREEMPTS = 4,
     SPECK_VALUE_STAYS = 5
 };
@@ -205,16 +212,24 @@ enum { SPECK_FRAME_UNTYPED = 0, SPECK_FRAME_USER = 1, SPECK_FRAME_KERNEL = 2 };
 enum { SPECK_RIGHT_COPY = 1, SPECK_RIGHT_USE = 2 };
 
 /* Machines: booted into an empty slot; the ports dealt into empty slots, core 0's first, and taken back in the same order; finished once
- * all are back, which empties the machine's slot and fills the text's. */
+ * all are back, which empties the machine's slot and fills that of what it has left. Until then a machine that could not be finished is as it
+ * was. What was sent to an endpoint and not taken is dropped then. */
 uint8_t speck_boot(struct speck_machine *machine, uint8_t cores, uint16_t frames, uint32_t budget);
 uint8_t speck_deal(struct speck_machine *machine, struct speck_port *port);
 uint8_t speck_take_back(struct speck_machine *machine, struct speck_port *port);
-uint8_t speck_finish(struct speck_machine *machine, struct speck_text *text);
+uint8_t speck_finish(struct speck_machine *machine, struct speck_final *last);
+
+/* Boots a machine whose cores are each granted ticks of their own, through a scheduler at a quality, core 0's grant first; each may make so
+ * many calls, and a liveness number has so many epochs (1 to 65,535). */
+struct speck_grant { uint32_t budget; uint32_t quality; uint8_t sched; };
+uint8_t speck_boot_with(struct speck_machine *machine, uint16_t frames, uint32_t calls, uint16_t epochs,
+    const struct speck_grant *grants, size_t cores);
 
 /* Each empties its slot, and answers SPECK_OK, also where it was empty; or SPECK_IN_CALL. */
 uint8_t speck_free_machine(struct speck_machine *machine);
 uint8_t speck_free_port(struct speck_port *port);
 uint8_t speck_free_note(struct speck_note *note);
+uint8_t speck_free_final(struct speck_final *last);
 uint8_t speck_free_text(struct speck_text *text);
 
 /* The core of a port, 0 to 7; else SPECK_NOTHING_HELD or SPECK_IN_CALL. */
@@ -225,36 +240,44 @@ uint8_t speck_core(struct speck_port *port);
 uint8_t speck_note(struct speck_port *port, struct speck_note *note);
 uint8_t speck_meet(struct speck_port *port, struct speck_note *note);
 
+/* What a finished machine holds, part by part. Each function writes the part to `into` and answers SPECK_OK. Else it writes nothing: SPECK_OUTSIDE
+ * where a number is outside the machine, SPECK_FRAME_KIND where the frame holds no such object, SPECK_EMPTY where nothing stands there. */
+struct speck_size { uint16_t frames; uint8_t cores; };
+struct speck_frame { uint8_t kind; uint8_t object; };                          /* SPECK_FRAME_..; its object's SPECK_KIND_.., or SPECK_NO_OBJECT */
+struct speck_capability { uint8_t kind; uint8_t rights; uint16_t frame; uint32_t argument; }; /* a range's length, a gate's epoch, a page's flags */
+struct speck_component { uint16_t table; uint16_t pages; uint16_t epoch; uint8_t live; };     /* the frames of its two roots; its name */
+struct speck_quality { uint32_t quality; uint8_t sched; };
+struct speck_life { uint16_t epoch; uint16_t frame; uint8_t lives; };          /* `lives` 1: the frame of its component; 0: it was killed */
+struct speck_core_end { uint64_t spent; uint64_t owed; uint16_t thread; uint16_t tcap; uint16_t comp; uint16_t cached; }; /* ticks, frames, a count */
+struct speck_translation { uint16_t pages; uint16_t page; uint16_t frame; uint8_t flags; };
+enum { SPECK_NO_OBJECT = 255 };
+
+uint8_t speck_read_size(struct speck_final *last, struct speck_size *into);
+uint8_t speck_read_frame(struct speck_final *last, uint16_t frame, struct speck_frame *into);
+/* What a core counts of the references to a frame, those made less those released: the references to it are the sum over all cores. */
+uint8_t speck_read_count(struct speck_final *last, uint16_t frame, uint8_t core, int32_t *into);
+/* What an entry, 0 to 63, of a node holds: of a root a link, of a leaf a capability or a mapping (SPECK_KIND_PAGE). */
+uint8_t speck_read_entry(struct speck_final *last, uint16_t frame, uint16_t entry, struct speck_capability *into);
+/* What stands under the number of a capability, or of a page, of the table with this root. */
+uint8_t speck_read_under(struct speck_final *last, uint16_t root, uint16_t number, struct speck_capability *into);
+uint8_t speck_read_comp(struct speck_final *last, uint16_t frame, struct speck_component *into);
+/* The frame of the component at a height of a thread's stack, 0 to 15; its first component is at 0. */
+uint8_t speck_read_stack(struct speck_final *last, uint16_t frame, uint16_t height, uint16_t *into);
+uint8_t speck_read_budget(struct speck_final *last, uint16_t frame, uint32_t *into);
+/* The pair at a place, 0 to 7, of a temporal capability's list. */
+uint8_t speck_read_quality(struct speck_final *last, uint16_t frame, uint16_t place, struct speck_quality *into);
+/* What a liveness number, 0 to 63, stands for; SPECK_EMPTY where no component was ever named so. */
+uint8_t speck_read_live(struct speck_final *last, uint8_t number, struct speck_life *into);
+uint8_t speck_read_core(struct speck_final *last, uint8_t core, struct speck_core_end *into);
+/* A translation that the core has cached, the earliest at place 0. */
+uint8_t speck_read_cached(struct speck_final *last, uint8_t core, uint8_t place, struct speck_translation *into);
+
+/* The text of all this (docs/FORMATS.md), into an empty slot. */
+uint8_t speck_show(struct speck_final *last, struct speck_text *text);
+
 /* Copies the beginning of the text, as much as there is room for, and answers its whole length; 0 where no text is held. It ends with no
  * zero. `bytes` is not null, also where there is no room. */
 uint64_t speck_read(struct speck_text *text, uint8_t *bytes, size_t room);
-
-/* The tables line by line: what a line tells, and its numbers in the order of the text. */
-enum {
-    SPECK_LINE_FRAME = 1,   /* frame, references to it; `kind` is the object's, SPECK_IS_USER, or SPECK_IS_BLANK, a kernel frame with none */
-    SPECK_LINE_ENTRY = 2,   /* of the node above: entry, frame, a range's length, a gate's epoch or a page's flags, rights; `kind` */
-    SPECK_LINE_FIELDS = 3,  /* of the component above: the frames of its table and of its pages, its liveness number, its epoch */
-    SPECK_LINE_STACK = 4,   /* of the thread above: the frames of the components that it is in, the first first */
-    SPECK_LINE_BUDGET = 5,  /* of the temporal capability above: ticks */
-    SPECK_LINE_QUALITY = 6, /* of the same: scheduler, quality */
-    SPECK_LINE_LIVE = 7,    /* a liveness number, its epoch, the component's frame */
-    SPECK_LINE_DEAD = 8,    /* a liveness number, the epoch that ended */
-    SPECK_LINE_CORE = 9,    /* core; the frames of its thread, its temporal capability and its component; ticks spent, ticks owed */
-    SPECK_LINE_CACHED = 10, /* of the core above: the frame of a page table, page, frame, flags */
-    SPECK_LINE_TOTAL = 11   /* all budgets and all ticks spent */
-};
-enum { SPECK_IS_USER = 11, SPECK_IS_BLANK = 12 };
-
-struct speck_line {
-    uint8_t what;
-    uint8_t kind;
-    uint8_t count; /* of the numbers */
-    uint64_t n[16];
-};
-
-/* Reads the line that begins at `at` of a text that speck_read has copied, which ends at `end`, and answers where the next begins; null at
- * the end of the text, and of what is no line of such a text. */
-const uint8_t *speck_next_line(const uint8_t *at, const uint8_t *end, struct speck_line *line);
 
 /* The calls of a port's core, as docs/MODEL.md has them. */
 struct speck_reply speck_look(struct speck_port *port, uint16_t capability);
@@ -286,10 +309,17 @@ struct speck_reply speck_transfer(struct speck_port *port, uint16_t source, uint
 struct speck_reply speck_delegate(struct speck_port *port, uint16_t source, uint16_t target, uint32_t ticks);
 struct speck_reply speck_test(struct speck_port *port, uint16_t first, uint16_t second);
 
-/* WHAT IS PROVED. Each function is a guard in C (c/guard.c) around an export of the crate speck_c, which is proved to do with what its
- * slots hold what the kernel's contracts say: the call of one core of a machine whose calls are linearizable, each in its bound of steps.
- * The guards keep a slot from being used twice at once and machines apart, which the exports ask of their callers; they are tested
- * (c/misuses.c, and in bare/ with a trap after each instruction), not proved. */
+/* Sends and receives. Each component has an endpoint, which counts: a send through a gate adds one, a receive by the component's capability
+ * takes all that there is (0 too). Each is a look of the core, which may be refused as speck_look is, and then one or two steps. An endpoint is
+ * that of the component's frame: a component made later in the frame receives what was sent to the one before it. */
+struct speck_reply speck_send(struct speck_port *port, uint16_t gate);
+struct speck_reply speck_recv(struct speck_port *port, uint16_t comp);
+
+/* WHAT IS PROVED. Each function is a guard in C (c/guard.c) around an export of the crate speck_c. Of the export it is proved that it does
+ * with what its slots hold what the kernel's contracts say: the call of one core of a machine whose runs are legal histories, each call in its
+ * bound of steps; and that of a finished machine it reads what the words and ends of that machine say. The guards keep a slot from being used
+ * twice at once, and machines apart, which the exports ask of their callers. They are not proved; they are tested (c/misuses.c, and in bare/
+ * with a trap after each instruction of a call). */
 
 #ifdef __cplusplus
 }

@@ -61,6 +61,7 @@ static unsigned depth_of(void (*what)(void)) {
 static struct speck_machine machine;
 static struct speck_port port[2], *const p = port, *const q = port + 1;
 static struct speck_note note;
+static struct speck_final last;
 static struct speck_text tables;
 static uint8_t bytes[8192], code;
 static struct speck_reply reply;
@@ -79,15 +80,15 @@ static void nothing(void) {}
 static void heap_of(uint8_t cores, uint16_t frames) {
     struct speck_machine one = {0};
     struct speck_port ports[8] = {{{0}}};
-    struct speck_text text = {0};
+    struct speck_final left = {0};
     taken = most = 0;
     if (speck_boot(&one, cores, frames, 100)) exit(1);
     for (int k = 0; k < cores; k++) speck_deal(&one, &ports[k]);
     size_t held = taken, boot = most;
     for (int k = 0; k < cores; k++) speck_take_back(&one, &ports[k]);
-    if (speck_finish(&one, &text)) exit(1);
+    if (speck_finish(&one, &left)) exit(1);
     printf("%2d cores, %3d frames: %7zu held, %7zu at most while it boots, %7zu while it is finished\n", cores, frames, held, boot, most);
-    speck_free_text(&text);
+    speck_free_final(&left);
 }
 
 int main(void) {
@@ -127,7 +128,8 @@ int main(void) {
     ROW("note", code = speck_note(q, &note));
     ROW("meet", code = speck_meet(p, &note));
     ROW("take back", code = speck_take_back(&machine, p); code |= speck_take_back(&machine, q));
-    ROW("finish", code = speck_finish(&machine, &tables));
+    ROW("finish", code = speck_finish(&machine, &last));
+    ROW("show", code = speck_show(&last, &tables));
     ROW("read", speck_read(&tables, bytes, sizeof bytes));
     ROW("free text", code = speck_free_text(&tables));
     printf("deepest      %6u\n\nbytes of heap\n", deepest);

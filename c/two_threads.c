@@ -45,6 +45,7 @@ int main(void) {
     struct speck_machine machine = {0};
     struct speck_port first = {0}, second = {0}, third = {0};
     struct speck_note note = {0};
+    struct speck_final last = {0};
     struct speck_text text = {0};
     uint8_t tables[4096];
     pthread_t threads[2];
@@ -78,13 +79,15 @@ int main(void) {
     if (pthread_join(threads[0], &copied) || pthread_join(threads[1], &ticked)) return 1;
     printf("filled and emptied: %d and %d times\n", (int)(uintptr_t)copied, (int)(uintptr_t)ticked);
 
-    printf("finished too early: %d\n", speck_finish(&machine, &text));
+    printf("finished too early: %d\n", speck_finish(&machine, &last));
     printf("core 1 taken back first: %d\n", speck_take_back(&machine, &second));
     printf("core 0 taken back: %d\n", speck_take_back(&machine, &first));
     printf("core 1 taken back: %d\n", speck_take_back(&machine, &second));
-    printf("finished: %d\n", speck_finish(&machine, &text));
+    printf("finished: %d\n", speck_finish(&machine, &last));
+    printf("its text: %d\n", speck_show(&last, &text));
     fwrite(tables, 1, speck_read(&text, tables, sizeof tables), stdout);
     speck_free_text(&text);
+    speck_free_final(&last);
 
     printf("booted anew: %d\n", speck_boot(&machine, 2, 32, 100));
     printf("ports: %d", speck_deal(&machine, &first));

@@ -22,16 +22,86 @@ pub struct Reply {
     pub n: u32,
 }
 
+/// How large a machine is.
 #[repr(C)]
-pub(crate) struct Line {
-    pub(crate) what: u8,
-    pub(crate) kind: u8,
-    pub(crate) count: u8,
-    pub(crate) n: [u64; 16],
+#[derive(Clone, Copy, PartialEq, Eq, Debug, Default)]
+pub struct SizePart {
+    pub frames: u16,
+    pub cores: u8,
 }
 
-unsafe extern "C" {
-    pub(crate) fn speck_next_line(at: *const u8, end: *const u8, line: *mut Line) -> *const u8;
+#[repr(C)]
+#[derive(Clone, Copy, Default)]
+pub struct FramePart {
+    pub kind: u8,
+    pub object: u8,
+}
+
+#[repr(C)]
+#[derive(Clone, Copy, Default)]
+pub struct CapPart {
+    pub kind: u8,
+    pub rights: u8,
+    pub frame: u16,
+    pub argument: u32,
+}
+
+/// A component: the frames of the roots of its capability table and of its page table, its epoch, and its liveness number.
+#[repr(C)]
+#[derive(Clone, Copy, PartialEq, Eq, Debug, Default)]
+pub struct CompPart {
+    pub table: u16,
+    pub pages: u16,
+    pub epoch: u16,
+    pub live: u8,
+}
+
+/// A scheduler and the quality there.
+#[repr(C)]
+#[derive(Clone, Copy, PartialEq, Eq, Debug, Default)]
+pub struct QualityPart {
+    pub quality: u32,
+    pub sched: u8,
+}
+
+#[repr(C)]
+#[derive(Clone, Copy, Default)]
+pub struct LivePart {
+    pub epoch: u16,
+    pub frame: u16,
+    pub lives: u8,
+}
+
+/// Where a core ended: ticks spent and owed; the frames of its thread, its temporal capability and its component; how many translations it has
+/// cached.
+#[repr(C)]
+#[derive(Clone, Copy, PartialEq, Eq, Debug, Default)]
+pub struct CorePart {
+    pub spent: u64,
+    pub owed: u64,
+    pub thread: u16,
+    pub tcap: u16,
+    pub comp: u16,
+    pub cached: u16,
+}
+
+/// A translation that a core has cached: the frame of the root of the page table, the page, the frame mapped there, and how it may be used.
+#[repr(C)]
+#[derive(Clone, Copy, PartialEq, Eq, Debug, Default)]
+pub struct CachedPart {
+    pub pages: u16,
+    pub page: u16,
+    pub frame: u16,
+    pub flags: u8,
+}
+
+/// What a core is granted: ticks, through a scheduler, 0 to 63, at a quality, 1 to 16,777,215.
+#[repr(C)]
+#[derive(Clone, Copy, PartialEq, Eq, Debug)]
+pub struct Grant {
+    pub budget: u32,
+    pub quality: u32,
+    pub sched: u8,
 }
 
 unsafe extern "C" {
@@ -42,7 +112,22 @@ unsafe extern "C" {
     pub(crate) fn speck_free_port(port: *mut Slot) -> u8;
     pub(crate) fn speck_free_note(note: *mut Slot) -> u8;
     pub(crate) fn speck_take_back(machine: *mut Slot, port: *mut Slot) -> u8;
-    pub(crate) fn speck_finish(machine: *mut Slot, text: *mut Slot) -> u8;
+    pub(crate) fn speck_finish(machine: *mut Slot, last: *mut Slot) -> u8;
+    pub(crate) fn speck_boot_with(machine: *mut Slot, frames: u16, calls: u32, epochs: u16, grants: *const Grant, cores: usize) -> u8;
+    pub(crate) fn speck_free_final(last: *mut Slot) -> u8;
+    pub(crate) fn speck_read_size(last: *mut Slot, into: *mut SizePart) -> u8;
+    pub(crate) fn speck_read_frame(last: *mut Slot, frame: u16, into: *mut FramePart) -> u8;
+    pub(crate) fn speck_read_count(last: *mut Slot, frame: u16, core: u8, into: *mut i32) -> u8;
+    pub(crate) fn speck_read_entry(last: *mut Slot, frame: u16, entry: u16, into: *mut CapPart) -> u8;
+    pub(crate) fn speck_read_under(last: *mut Slot, root: u16, number: u16, into: *mut CapPart) -> u8;
+    pub(crate) fn speck_read_comp(last: *mut Slot, frame: u16, into: *mut CompPart) -> u8;
+    pub(crate) fn speck_read_stack(last: *mut Slot, frame: u16, height: u16, into: *mut u16) -> u8;
+    pub(crate) fn speck_read_budget(last: *mut Slot, frame: u16, into: *mut u32) -> u8;
+    pub(crate) fn speck_read_quality(last: *mut Slot, frame: u16, place: u16, into: *mut QualityPart) -> u8;
+    pub(crate) fn speck_read_live(last: *mut Slot, number: u8, into: *mut LivePart) -> u8;
+    pub(crate) fn speck_read_core(last: *mut Slot, core: u8, into: *mut CorePart) -> u8;
+    pub(crate) fn speck_read_cached(last: *mut Slot, core: u8, place: u8, into: *mut CachedPart) -> u8;
+    pub(crate) fn speck_show(last: *mut Slot, text: *mut Slot) -> u8;
     pub(crate) fn speck_free_text(text: *mut Slot) -> u8;
     pub(crate) fn speck_read(text: *mut Slot, bytes: *mut u8, room: usize) -> u64;
     pub(crate) fn speck_note(port: *mut Slot, note: *mut Slot) -> u8;
@@ -73,4 +158,6 @@ unsafe extern "C" {
     pub(crate) fn speck_transfer(port: *mut Slot, source: u16, target: u16, ticks: u32) -> Reply;
     pub(crate) fn speck_delegate(port: *mut Slot, source: u16, target: u16, ticks: u32) -> Reply;
     pub(crate) fn speck_test(port: *mut Slot, first: u16, second: u16) -> Reply;
+    pub(crate) fn speck_send(port: *mut Slot, gate: u16) -> Reply;
+    pub(crate) fn speck_recv(port: *mut Slot, comp: u16) -> Reply;
 }

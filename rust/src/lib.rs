@@ -12,10 +12,9 @@
 //! assert!(matches!(second.look(20)?, Value::Capability { kind: Kind::Range, .. }));
 //! machine.take_back(first)?;
 //! machine.take_back(second)?;
-//! let mut tables = machine.finish()?;
-//! let mut text = [0; 4096];
-//! let length = tables.read(&mut text);
-//! assert!(speck::lines(&text[..length]).count() > 10);
+//! let mut last = machine.finish()?; // what it has left, part by part
+//! assert_eq!(last.under(0, 20)?.frame, 8);
+//! assert_eq!(last.core(1)?.spent, 7);
 //! # Ok::<(), Box<dyn std::error::Error>>(())
 //! ```
 //!
@@ -28,12 +27,13 @@
 mod ffi;
 #[cfg(feature = "heap")]
 mod heap;
-mod lines;
+mod last;
 mod machine;
 mod port;
 mod reply;
 
-pub use lines::{InFrame, Line, Lines, lines};
-pub use machine::{Fault, Kept, Machine, Note, Tables};
+pub use ffi::{CachedPart as Translation, CompPart as Component, CorePart as CoreEnd, Grant, QualityPart as Quality, SizePart as Size};
+pub use last::{Capability, Final, Frame, Life, Missing, Tables};
+pub use machine::{Fault, Kept, Machine, Note};
 pub use port::Port;
 pub use reply::{Advice, FrameKind, Kind, Refused, Rights, Value, Why};

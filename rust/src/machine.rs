@@ -1,6 +1,7 @@
-//! Machines, notes, and the tables of a machine that was finished.
+//! Machines and notes.
 
-use crate::ffi::{self, Slot};
+use crate::ffi::{self, Grant, Slot};
+use crate::last::Final;
 use crate::port::Port;
 use core::fmt;
 
@@ -11,8 +12,12 @@ pub enum Fault {
     Cores,
     /// Not `4 + 2 * cores` to 512 frames.
     Frames,
-    /// A budget past 500,000,000 ticks.
-    Budget,
+    /// A budget past 500,000,000 ticks, a scheduler past 63, or a quality that is not 1 to 16,777,215.
+    Grant,
+    /// More than 4,194,304 calls of a core.
+    Calls,
+    /// No epoch of a liveness number.
+    Epochs,
     /// Each core has its port.
     AllDealt,
     /// The ports with lower numbers are not all back.
@@ -30,7 +35,9 @@ impl fmt::Display for Fault {
         f.write_str(match self {
             Fault::Cores => "not 1 to 8 cores",
             Fault::Frames => "not 4 + 2 * cores to 512 frames",
-            Fault::Budget => "more than 500,000,000 ticks",
+            Fault::Grant => "a grant out of range",
+            Fault::Calls => "more than 4,194,304 calls of a core",
+            Fault::Epochs => "no epoch of a liveness number",
             Fault::AllDealt => "each core has its port",
             Fault::NotItsTurn => "the ports with lower numbers are not all back",
             Fault::PortOut => "a port is not back",
@@ -48,7 +55,9 @@ pub(crate) fn done(code: u8) -> Result<(), Fault> {
         0 => Ok(()),
         241 => Err(Fault::Cores),
         242 => Err(Fault::Frames),
-        243 => Err(Fault::Budget),
+        243 => Err(Fault::Grant),
+        249 => Err(Fault::Calls),
+        250 => Err(Fault::Epochs),
         244 => Err(Fault::AllDealt),
         245 => Err(Fault::NotItsTurn),
         246 => Err(Fault::PortOut),
@@ -57,10 +66,10 @@ pub(crate) fn done(code: u8) -> Result<(), Fault> {
     }
 }
 
-/// What was refused, with why. It is None where memory ran out, and it is then gone.
+/// What was refused, with why.
 pub struct Kept<T> {
     pub fault: Fault,
-    pub it: Option<T>,
+    pub it: T,
 }
 
 impl<T> fmt::Debug for Kept<T> {
@@ -95,6 +104,14 @@ impl Machine {
         Ok(machine)
     }
 
+    /// A machine of a core for each grant, core 0's first, of so many frames, whose cores may each make so many calls, at most 4,194,304, and
+    /// whose liveness numbers have so many epochs.
+    pub fn boot_with(frames: u16, calls: u32, epochs: u16, grants: &[Grant]) -> Result<Machine, Fault> {
+        let mut machine = Machine { slot: Slot::EMPTY };
+        done(unsafe { ffi::speck_boot_with(&mut machine.slot, frames, calls, epochs, grants.as_ptr(), grants.len()) })?;
+        Ok(machine)
+    }
+
     /// The next core's port, core 0's first.
     pub fn deal(&mut self) -> Result<Port, Fault> {
         let mut port = Port::EMPTY;
@@ -104,18 +121,15 @@ impl Machine {
 
     /// Takes a port of this machine back, core 0's first. What is refused is given back.
     pub fn take_back(&mut self, mut port: Port) -> Result<(), Kept<Port>> {
-        done(unsafe { ffi::speck_take_back(&mut self.slot, &mut port.slot) }).map_err(|fault| Kept {
-            fault,
-            it: (fault != Fault::Memory).then_some(port),
-        })
+        done(unsafe { ffi::speck_take_back(&mut self.slot, &mut port.slot) }).map_err(|fault| Kept { fault, it: port })
     }
 
-    /// The tables of the final state, once all ports are back; else the machine is given back.
-    pub fn finish(mut self) -> Result<Tables, Kept<Machine>> {
-        let mut tables = Tables { slot: Slot::EMPTY };
-        match done(unsafe { ffi::speck_finish(&mut self.slot, &mut tables.slot) }) {
-            Ok(()) => Ok(tables),
-            Err(fault) => Err(Kept { fault, it: (fault != Fault::Memory).then_some(self) }),
+    /// What it has left, once all ports are back; else the machine is given back as it was.
+    pub fn finish(mut self) -> Result<Final, Kept<Machine>> {
+        let mut last = Final { slot: Slot::EMPTY };
+        match done(unsafe { ffi::speck_finish(&mut self.slot, &mut last.slot) }) {
+            Ok(()) => Ok(last),
+            Err(fault) => Err(Kept { fault, it: self }),
         }
     }
 }
@@ -137,26 +151,5 @@ unsafe impl Send for Note {}
 impl Drop for Note {
     fn drop(&mut self) {
         unsafe { ffi::speck_free_note(&mut self.slot) };
-    }
-}
-
-/// The tables of a machine that was finished.
-#[derive(Debug)]
-pub struct Tables {
-    slot: Slot,
-}
-
-unsafe impl Send for Tables {}
-
-impl Tables {
-    /// Copies the beginning of their text, as much as there is room for, and answers its whole length.
-    pub fn read(&mut self, bytes: &mut [u8]) -> usize {
-        unsafe { ffi::speck_read(&mut self.slot, bytes.as_mut_ptr(), bytes.len()) as usize }
-    }
-}
-
-impl Drop for Tables {
-    fn drop(&mut self) {
-        unsafe { ffi::speck_free_text(&mut self.slot) };
     }
 }

@@ -146,6 +146,16 @@ impl Port {
     pub fn test(&mut self, first: u16, second: u16) -> Result<Value, Refused> {
         answer(unsafe { ffi::speck_test(&mut self.slot, first, second) })
     }
+
+    /// Sends one to the component of the gate.
+    pub fn send(&mut self, gate: u16) -> Result<Value, Refused> {
+        answer(unsafe { ffi::speck_send(&mut self.slot, gate) })
+    }
+
+    /// Takes all that was sent to the component and was not taken yet: `Value::Amount`.
+    pub fn recv(&mut self, comp: u16) -> Result<Value, Refused> {
+        answer(unsafe { ffi::speck_recv(&mut self.slot, comp) })
+    }
 }
 
 impl Port {
@@ -165,7 +175,7 @@ impl Port {
 
     /// Tells the port all that the note tells; a note of another machine is given back.
     pub fn meet(&mut self, mut note: Note) -> Result<(), Kept<Note>> {
-        done(unsafe { ffi::speck_meet(&mut self.slot, &mut note.slot) }).map_err(|fault| Kept { fault, it: Some(note) })
+        done(unsafe { ffi::speck_meet(&mut self.slot, &mut note.slot) }).map_err(|fault| Kept { fault, it: note })
     }
 }
 

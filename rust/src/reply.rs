@@ -65,7 +65,7 @@ pub enum Value {
     /// `argument` is a range's length or a gate's epoch, else 0.
     Capability { kind: Kind, frame: u16, argument: u32, rights: Rights },
     Page { frame: u16, flags: u8 },
-    /// The ticks that a `tick` charged.
+    /// The ticks that a `tick` charged, or how many a `recv` took.
     Amount(u32),
     Preempts,
     Stays,

@@ -1,6 +1,6 @@
-//! Two threads at one kernel, each refusal of a machine, a port and a note, and the tables read line by line.
+//! Two threads at one kernel, each refusal of a machine, a port and a note, grants and endpoints, and a finished machine read part by part.
 
-use speck::{Advice, Fault, FrameKind, InFrame, Kind, Line, Machine, Port, Refused, Rights, Value, Why, lines};
+use speck::{Advice, Capability, Fault, Final, Frame, FrameKind, Grant, Kind, Life, Machine, Missing, Port, Quality, Refused, Rights, Value, Why};
 use std::alloc::{GlobalAlloc, Layout, System};
 use std::sync::atomic::{AtomicUsize, Ordering};
 
@@ -43,11 +43,8 @@ fn fill(port: &mut Port) -> u32 {
     100
 }
 
-fn text_of(machine: Machine) -> Vec<u8> {
-    let mut tables = machine.finish().expect("all ports are back");
-    let mut text = vec![0; tables.read(&mut [])];
-    tables.read(&mut text);
-    text
+fn last_of(machine: Machine) -> Final {
+    machine.finish().expect("all ports are back")
 }
 
 #[test]
@@ -73,20 +70,53 @@ fn two_threads_share_a_kernel() {
     assert_eq!(filled, (100, 100));
     machine.take_back(first).expect("core 0's");
     machine.take_back(second).expect("core 1's");
-    let text = text_of(machine);
-    let all: Vec<Line> = lines(&text).collect();
-    assert_eq!(all.len(), text.iter().filter(|it| **it == b'\n').count());
-    assert!(all.contains(&Line::Frame { frame: 0, what: InFrame::Object(Kind::Table), references: 2 }));
-    assert!(all.contains(&Line::Entry { entry: 20, kind: Kind::Range, frame: 8, argument: 24, rights: Rights::Use }));
-    assert!(all.contains(&Line::Core { core: 1, thread: 5, tcap: 7, comp: 3, spent: 7, owed: 0 }));
-    assert_eq!(all.last(), Some(&Line::Total(200)));
+    let mut last = last_of(machine);
+    assert_eq!((last.size().frames, last.size().cores), (32, 2));
+    assert_eq!(last.frame(0), Ok(Frame { kind: FrameKind::Kernel, object: Some(Kind::Table) }));
+    assert_eq!((last.references(0), last.references(3)), (Ok(2), Ok(4)));
+    let range = Capability { kind: Kind::Range, frame: 8, argument: 24, rights: Rights::Use };
+    assert_eq!((last.entry(1, 20), last.under(0, 20)), (Ok(range), Ok(range)));
+    assert_eq!(last.core(1).map(|it| (it.thread, it.tcap, it.comp, it.spent)), Ok((5, 7, 3, 7)));
+    assert_eq!((last.budget(6), last.budget(7)), (Ok(100), Ok(93)));
+    let mut tables = last.tables().expect("memory");
+    let mut text = vec![0; tables.read(&mut [])];
+    assert_eq!(tables.read(&mut text), text.len());
+    assert!(text.ends_with(b"total 200\n"));
+}
+
+#[test]
+fn each_core_has_its_grant_and_endpoints_count() {
+    let grants = [Grant { budget: 500, quality: 3, sched: 7 }, Grant { budget: 20, quality: 9, sched: 63 }];
+    assert_eq!(Machine::boot_with(32, 4_194_305, 1, &grants).err(), Some(Fault::Calls));
+    assert_eq!(Machine::boot_with(32, 9, 0, &grants).err(), Some(Fault::Epochs));
+    assert_eq!(Machine::boot_with(32, 9, 1, &[Grant { quality: 0, ..grants[0] }]).err(), Some(Fault::Grant));
+    assert_eq!(Machine::boot_with(32, 9, 1, &[]).err(), Some(Fault::Cores));
+    let mut machine = Machine::boot_with(32, 4, 1, &grants).expect("a machine");
+    let (mut first, mut second) = (machine.deal().expect("core 0"), machine.deal().expect("core 1"));
+    assert_eq!(first.gate(3, 1, 40), Ok(Value::Nothing));
+    assert_eq!((first.send(40), first.send(40)), (Ok(Value::Nothing), Ok(Value::Nothing)));
+    assert_eq!(second.recv(3), Ok(Value::Amount(2)));
+    assert_eq!(second.recv(3), Ok(Value::Amount(0)));
+    assert_eq!(second.recv(40).map_err(|it| it.why), Err(Why::WrongCap));
+    assert_eq!(first.look(0).map(|_| ()), Ok(()));
+    assert_eq!(first.send(40).map_err(|it| (it.why, it.advice)), Err((Why::CallsSpent, Advice::GiveUp))); // its look would be the fifth call
+    machine.take_back(first).expect("core 0's");
+    machine.take_back(second).expect("core 1's");
+    let mut last = last_of(machine);
+    assert_eq!((last.quality(6, 0), last.quality(7, 0)), (Ok(Quality { quality: 3, sched: 7 }), Ok(Quality { quality: 9, sched: 63 })));
+    assert_eq!((last.budget(6), last.budget(7)), (Ok(500), Ok(20)));
+    assert_eq!((last.quality(6, 1), last.quality(6, 8), last.budget(5)), (Err(Missing::Empty), Err(Missing::Outside), Err(Missing::OtherObject)));
+    assert_eq!((last.live(0), last.live(1)), (Ok(Life::Live { epoch: 1, frame: 3 }), Err(Missing::Empty)));
+    assert_eq!(last.comp(3).map(|it| (it.table, it.pages, it.live, it.epoch)), Ok((0, 2, 0, 1)));
+    assert_eq!((last.stack(4, 0), last.stack(4, 1)), (Ok(3), Err(Missing::Empty)));
+    assert_eq!(last.cached(0, 0), Err(Missing::Empty));
 }
 
 #[test]
 fn what_is_refused_says_why_and_is_given_back() {
     assert_eq!(Machine::boot(9, 32, 100).err(), Some(Fault::Cores));
     assert_eq!(Machine::boot(2, 7, 100).err(), Some(Fault::Frames));
-    assert_eq!(Machine::boot(2, 32, 500_000_001).err(), Some(Fault::Budget));
+    assert_eq!(Machine::boot(2, 32, 500_000_001).err(), Some(Fault::Grant));
     let mut machine = Machine::boot(2, 32, 100).expect("a machine");
     let mut other = Machine::boot(1, 16, 100).expect("another");
     let (first, second) = (machine.deal().expect("core 0"), machine.deal().expect("core 1"));
@@ -94,23 +124,23 @@ fn what_is_refused_says_why_and_is_given_back() {
     assert_eq!(machine.deal().err(), Some(Fault::AllDealt));
     let refused = machine.take_back(others).expect_err("a port of another machine");
     assert_eq!(refused.fault, Fault::OtherMachine);
-    others = refused.it.expect("given back");
+    others = refused.it;
     let refused = machine.take_back(second).expect_err("core 0's comes first");
     assert_eq!(refused.fault, Fault::NotItsTurn);
-    let mut second = refused.it.expect("given back");
+    let mut second = refused.it;
     let refused = second.meet(others.note().expect("memory")).expect_err("a note of another machine");
     assert_eq!(refused.fault, Fault::OtherMachine);
-    others.meet(refused.it.expect("given back")).expect("its own note");
+    others.meet(refused.it).expect("its own note");
     machine.take_back(first).expect("core 0's");
     let refused = machine.finish().expect_err("core 1's port is out");
     assert_eq!(refused.fault, Fault::PortOut);
-    let mut machine = refused.it.expect("given back");
+    let mut machine = refused.it;
     assert_eq!(second.look(60), Err(Refused { why: Why::Empty, advice: Advice::Change }));
     assert_eq!(second.tick(1_000_001), Err(Refused { why: Why::Outside, advice: Advice::Change }));
     assert_eq!(second.switch(4, 12), Err(Refused { why: Why::Running(0), advice: Advice::AwaitSwitch(0) }));
     assert_eq!(second.transfer(12, 13, 101), Err(Refused { why: Why::Short(100), advice: Advice::Change }));
     machine.take_back(second).expect("core 1's");
-    assert!(!text_of(machine).is_empty());
+    assert!(last_of(machine).tables().is_ok());
 }
 
 #[test]

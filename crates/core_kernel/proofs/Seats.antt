@@ -33,6 +33,10 @@ has_seen setup s is = record {
       is.between;
 }
 
+-- the seat's core is one of the machine's
+pub front_inside : (setup : Setting) (s : SeatValue CoreRun Call) → IsSeat setup s → s.core < setup.cores
+front_inside setup s is = here setup is.booted.setting s.table.start is.booted.start s.seen s.core s.program is.follows.runs
+
 -- where the seat's core stands
 pub front_core : (setup : Setting) (s : SeatValue CoreRun Call) → IsSeat setup s → s.program.state.own.core ≡ s.core
 front_core setup s is =

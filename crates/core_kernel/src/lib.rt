@@ -24,6 +24,7 @@ mod seat;
 mod threads;
 
 pub use core_run::CoreRun;
+pub use ends::Room;
 pub use gate::{FreeGate, Gate};
 pub use kernel::Kernel;
 pub use seat::{CoreNote, CoreSeat, Front};

@@ -1,6 +1,6 @@
 //! The handle with which a core makes its calls, and the note of what it has seen.
 
-ghost use Rattle.std.specs.Prelude.{◌≡◌};
+ghost use Rattle.std.specs.Prelude.{◌≡◌, ◌<◌};
 ghost use Rattle.boot_words.specs.kernel_history.specs.Trace.{state_after};
 ghost use Rattle.core_kernel.specs.Calls.{HasSeen};
 
@@ -52,9 +52,10 @@ pub struct Front {
 
 impl CoreSeat {
     /// Where the core stands. Its contract also says what holds of every seat: what it has seen is a legal history, and
-    /// its core is between calls.
+    /// its core, one of the machine's, is between calls.
     pub fn front(&self) -> Front
         ensures core { result.core ≡ self.now.core }
+        ensures inside { self.now.core < self.now.kernel.setup.cores }
         ensures calls { result.calls ≡ ((state_after self.now.kernel.setup self.now.seen).core self.now.core).counted }
         ensures seen { HasSeen self.now }
     {

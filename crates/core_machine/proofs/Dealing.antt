@@ -1,7 +1,6 @@
 -- Seats that are taken from the end of all seats of a kernel, and stand as ports in the opposite order; ports that come back.
 use Rattle.std.proofs.Common.{◌≡◌, ◌⊎◌, ℕ, zero, suc, ◌+◌, ◌<◌, ◌≤◌, List, [], ◌∷◌, ◌++◌, length, slice_get, Option, Some, None}
 use Rattle.std.proofs.Common.{◌-◌, refl, sym, ap, ◌∙◌, subst, ⊎_elim, inl, inr, arith, append-nil, option_to_list, IfSome}
-use Rattle.std.proofs.Common.{Bool, true, false, if◌then◌else◌}
 use Rattle.std.proofs.lemmas.List.{length-append}
 use Rattle.core_kernel.specs.Kernel.{KernelValue, CoreSeatValue}
 use Rattle.spk_nums.specs.Setting.{Setting}
@@ -74,12 +73,6 @@ back_on of here back now s on own core h = record {
   left = h.left;
   back_in_order = each_pushed (IsBack of) back s now on h.back_in_order (record { kernel = own; core = core });
 }
-
--- one more that is back, if there was room for it
-pub back_after : (of : KernelValue) (here back now : List CoreSeatValue) (s : CoreSeatValue) (put : Bool)
-    → now ≡ (if put then back ++ s ∷ [] else back) → s.kernel ≡ of → s.core ≡ length back → HasSeats of here back → HasSeats of here now
-back_after of here back now s true is own core h = back_on of here back now s is own core h
-back_after of here back now s false is own core h = subst (λ (l : List CoreSeatValue). HasSeats of here l) (sym is) h
 
 -- the ports that are left once the last of them is dealt, if there was one
 pub left_after : (of : KernelValue) (here left back : List CoreSeatValue) (o : Option CoreSeatValue) → here ≡ left ++ option_to_list o

@@ -9,12 +9,14 @@
 #![tactic(auto)]
 
 mod finish;
+mod named;
 mod port;
 mod seats;
 mod threads;
 
 pub use core_kernel::CoreNote;
-pub use finish::FinishFault;
+pub use finish::{FinishFault, Unfinished};
+pub use named::{Names, NoteOf, PortOf, SeatsOf};
 pub use port::Port;
 pub use seats::Seats;
 pub use threads::cross_threads;

@@ -1,6 +1,6 @@
 //! A seat of a kernel, with a share of the kernel.
 
-ghost use Rattle.std.specs.Prelude.{◌≡◌};
+ghost use Rattle.std.specs.Prelude.{◌≡◌, ◌<◌};
 ghost use Rattle.std.specs.Arc.{arc_value};
 ghost use Rattle.spk_nums.specs.CallLimits.{InLimits};
 ghost use Rattle.core_kernel.specs.Calls.{HasSeen, MakesCall, Meets};
@@ -38,10 +38,11 @@ impl Port {
         Port { kernel, seat }
     }
 
-    /// The port's core. Its contract also says what holds of every port: what it has seen is a legal history, and its core
-    /// is between calls.
+    /// The port's core. Its contract also says what holds of every port: what it has seen is a legal history, and its core,
+    /// one of the machine's, is between calls.
     pub fn core(&self) -> CoreNo
         ensures core { result ≡ self.now.core }
+        ensures inside { self.now.core < self.now.kernel.setup.cores }
         ensures seen { HasSeen self.now }
     {
         self.seat.front().core

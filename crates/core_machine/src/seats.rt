@@ -22,7 +22,7 @@ pub struct Seats {
 }
 
 impl Model for Seats {
-    ghost use Rattle.std.specs.Prelude.{◌≡◌, ◌-◌, length};
+    ghost use Rattle.std.specs.Prelude.{◌≡◌, ◌-◌, ◌≤◌, length, vec_capacity};
     ghost use Rattle.std.specs.Arc.{arc_value};
     ghost use Rattle.core_machine.specs.Seats.{SeatsValue, HasSeats};
 
@@ -30,7 +30,9 @@ impl Model for Seats {
 
     ghost view = { λ s. record { kernel = arc_value s.kernel; dealt = s.setup.cores - length s.here.items; back = s.back.items } };
 
-    ghost invariant = { λ s. ((arc_value s.kernel).setup ≡ s.setup) × HasSeats (arc_value s.kernel) s.here.items s.back.items };
+    ghost invariant = { λ s. ((arc_value s.kernel).setup ≡ s.setup)
+        × HasSeats (arc_value s.kernel) s.here.items s.back.items
+        × (s.setup.cores ≤ vec_capacity s.back) };
 }
 
 // A port for each seat, the last core's first.
@@ -64,11 +66,12 @@ impl Seats {
             Err(_) => return Err(Memory),
         };
         let here = ports_of(alloc, &kernel, seats)?;
+        let back = Vec::with_capacity(alloc, usize::from(setup.cores()))?;
         Ok(Seats {
             setup: *setup,
             kernel,
             here,
-            back: Vec::new(alloc),
+            back,
         })
     }
 
@@ -97,18 +100,16 @@ impl Seats {
         self.back.len()
     }
 
-    /// Takes a port of this machine back: core 0's first, then core 1's and so on. It fails only where memory runs out; the
-    /// port is then dropped.
-    pub fn take_back(&mut self, port: Port) -> Result<(), Memory>
+    /// Takes a port of this machine back: core 0's first, then core 1's and so on. It takes no memory, so it does not fail.
+    pub fn take_back(&mut self, port: Port)
         requires kernel { port.kernel ≡ self.old.kernel }
         requires core { port.core ≡ length self.old.back }
-        ensures back { IfOk result (λ _. self.new.back ≡ self.old.back ++ port ∷ []) }
+        ensures back { self.new.back ≡ self.old.back ++ port ∷ [] }
         ensures kernel { self.new.kernel ≡ self.old.kernel }
         ensures dealt { self.new.dealt ≡ self.old.dealt }
     {
-        match self.back.push(port.into_seat()) {
-            Ok(()) => Ok(()),
-            Err(_) => Err(Memory),
-        }
+        // So the proof learns that there is room for one more.
+        let _core = port.core();
+        self.back.push_reserved(port.into_seat());
     }
 }

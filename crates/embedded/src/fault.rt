@@ -1,6 +1,6 @@
 //! Why the program stopped.
 
-use core_machine::FinishFault;
+use core_machine::{FinishFault, Unfinished};
 use spk_nums::{Memory, SetupFault};
 
 /// Why the two cores did not come to their end.
@@ -22,9 +22,9 @@ impl From<SetupFault> for Fault {
     }
 }
 
-impl From<FinishFault> for Fault {
-    fn from(fault: FinishFault) -> Fault {
-        Fault::Finish(fault)
+impl From<Unfinished> for Fault {
+    fn from(unfinished: Unfinished) -> Fault {
+        Fault::Finish(unfinished.fault)
     }
 }
 

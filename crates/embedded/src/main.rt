@@ -71,8 +71,8 @@ fn two_cores<R: Threads>(rt: &R, alloc: Global) -> Result<Told, Fault> {
     let note = first.note();
     second.meet(note);
     let looked = second.call(look());
-    seats.take_back(first)?;
-    seats.take_back(second)?;
+    seats.take_back(first);
+    seats.take_back(second);
     let closed = seats.finish(alloc)?;
     let tables = report(alloc, &image_of(&closed))?;
     Ok(Told {

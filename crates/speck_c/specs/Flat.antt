@@ -4,27 +4,12 @@ use Rattle.spk_nums.specs.Advices.{advice_of}
 use Rattle.spk_nums.specs.Names.{reply_code}
 use Rattle.spk_nums.specs.declared.advice.Advice.{Advice}
 use Rattle.spk_nums.specs.declared.advice.Advice.TheVariants.{Done, Change, GiveUp, Release, AwaitReturn, AwaitFlush, AwaitSwitch, Again}
-use Rattle.spk_nums.specs.declared.kinds.Kind.{Kind}
-use Rattle.spk_nums.specs.declared.kinds.Kind.TheVariants as kind
 use Rattle.spk_nums.specs.declared.replies.Reply.{Reply}
 use Rattle.spk_nums.specs.declared.replies.Reply.TheVariants.{Ok as ok_reply, Quiescing, Unflushed, Referenced, Running, Short, Busy}
 use Rattle.spk_nums.specs.declared.replies.Value.{Value}
 use Rattle.spk_nums.specs.declared.replies.Value.TheVariants.{Nothing, Cap, Page, Amount, Preempts, Stays}
+use Rattle.final_parts.specs.Kinds.{kind_code}
 use Rattle.speck_c.specs.declared.reply.SpeckReply.{SpeckReply}
-
--- the number of a kind of entry, from 0 in the order of its declaration
-abbrev pub kind_code : Kind → ℕ
-kind_code kind.Range = 0
-kind_code kind.Table = 1
-kind_code kind.Leaf = 2
-kind_code kind.Pages = 3
-kind_code kind.Pleaf = 4
-kind_code kind.Comp = 5
-kind_code kind.Gate = 6
-kind_code kind.Thread = 7
-kind_code kind.Tcap = 8
-kind_code kind.Link = 9
-kind_code kind.Page = 10
 
 -- the number of an advice, from 0 in the order of its declaration
 abbrev pub advice_code : Advice → ℕ

@@ -4,3 +4,6 @@ pub mod Slots
 pub mod Kinds
 pub mod Machines
 pub mod Ends
+pub mod Asks
+pub mod Reads
+pub mod Grants

@@ -2,11 +2,11 @@
 use Rattle.std.specs.Prelude.{◌≡◌, Bool, true, false, Option, Some, None, MatchOption}
 use Rattle.spk_nums.specs.declared.calls.Call.{Call}
 use Rattle.spk_nums.specs.declared.replies.Reply.{Reply}
-use Rattle.core_machine.specs.core_kernel.specs.Kernel.{CoreSeatValue}
-use Rattle.core_machine.specs.core_kernel.specs.Calls.{MakesCall}
+use Rattle.end_ports.specs.core_machine.specs.core_kernel.specs.Calls.{MakesCall}
+use Rattle.end_ports.specs.Ports.{EndPortValue}
 use Rattle.speck_c.specs.declared.held.Held.{Held}
 use Rattle.speck_c.specs.declared.held.What.{What}
-use Rattle.speck_c.specs.declared.held.What.TheVariants.{Machine, Core, Told, Tables}
+use Rattle.speck_c.specs.declared.held.What.TheVariants.{Machine, Core, Told, Final, Tables}
 use Rattle.speck_c.specs.declared.reply.SpeckReply.{SpeckReply}
 use Rattle.speck_c.specs.declared.slot.Slot.{Slot}
 use Rattle.speck_c.specs.Flat.{flat, blank}
@@ -20,29 +20,32 @@ abbrev pub held_in : Slot → Option Held
 held_in slot = held_if slot.full slot.handle.held
 
 -- the port among what may be held
-abbrev pub port_of : What → Option CoreSeatValue
+abbrev pub port_of : What → Option EndPortValue
 port_of (Machine s) = None
 port_of (Core p) = Some p
 port_of (Told n) = None
+port_of (Final i) = None
 port_of (Tables t) = None
 
-abbrev pub port_held : Option Held → Option CoreSeatValue
+abbrev pub port_held : Option Held → Option EndPortValue
 port_held None = None
 port_held (Some h) = port_of h.what
 
--- The port has made the call and was answered the reply, which is told; it is still held.
-pub record HasAnswered (port : CoreSeatValue) (call : Call) (told : Option Reply) (now : Option CoreSeatValue) : Type 0 where
+-- The port has made the call at its kernel and was answered the reply, which is told; it is still held.
+pub record HasAnswered (port : EndPortValue) (call : Call) (told : Option Reply) (now : Option EndPortValue) : Type 0 where
   pub reply : Reply
-  pub made : CoreSeatValue
-  pub makes : MakesCall port call reply made
+  pub made : EndPortValue
+  pub makes : MakesCall port.port call reply made.port
+  pub end : made.end ≡ port.end
   pub is_told : told ≡ Some reply
   pub still : now ≡ Some made
 
 -- The port has made the call, and the answer tells its reply; it is still held.
-pub record IsAnswered (port : CoreSeatValue) (call : Call) (answer : SpeckReply) (now : Option CoreSeatValue) : Type 0 where
+pub record IsAnswered (port : EndPortValue) (call : Call) (answer : SpeckReply) (now : Option EndPortValue) : Type 0 where
   pub reply : Reply
-  pub made : CoreSeatValue
-  pub makes : MakesCall port call reply made
+  pub made : EndPortValue
+  pub makes : MakesCall port.port call reply made.port
+  pub end : made.end ≡ port.end
   pub is_told : answer ≡ flat reply
   pub still : now ≡ Some made
 

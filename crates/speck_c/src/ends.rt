@@ -1,38 +1,34 @@
 //! How ports come back, and how a machine is finished.
 
-ghost use Rattle.std.specs.Prelude.{◌≡◌, ◌≢◌, ◌<◌, ◌++◌, ◌∷◌, ◌⊎◌, [], ℕ, length, slice_get, string_bytes};
-ghost use Rattle.std.specs.Prelude.{Some, None, IfSome, IfOk, IsSome, MatchOption, MatchResult, IsTrue, ◌↔◌};
-ghost use Rattle.core_machine.specs.Seats.{SeatsValue};
+ghost use Rattle.std.specs.Prelude.{◌≡◌, ◌≢◌, ◌<◌, ◌++◌, ◌∷◌, ◌⊎◌, [], ℕ, length, slice_get, Some, None, IfSome, IsSome};
 ghost use Rattle.speck_c.specs.Slots.{held_in, port_held, port_of};
 ghost use Rattle.speck_c.specs.Machines.{machine_held, machine_of};
-ghost use Rattle.speck_c.specs.Ends.{AreOfMachine, Finishes, HoldsBack, IsFinal, TakesBack, text_held, text_of};
+ghost use Rattle.speck_c.specs.Ends.{AreOfMachine, EndsHeld, Finishes, HasBack, HoldsBack, TakesBack};
 
 use crate::held::{Held, What};
-use crate::machines::{core_of, put_new};
+use crate::machines::core_of;
 use crate::slot::Slot;
-use core_machine::Seats;
-use machine_image::image_of;
+use end_ports::{EndSeats, Unended};
+use final_parts::Last;
 use std::alloc::Global;
-use table_report::report;
+use std::mem;
 
-// Takes the port that is held back; false where memory has run out.
-fn take_held_back(seats: &mut Seats, held: Box<Held>) -> bool
+// Takes the port that is held back.
+fn take_held_back(seats: &mut EndSeats, held: Box<Held>)
     requires some { IsSome (port_of held.value.what) }
-    requires kernel { IfSome (port_of held.value.what) (λ p. p.kernel ≡ seats.old.kernel) }
-    requires core { IfSome (port_of held.value.what) (λ p. p.core ≡ length seats.old.back) }
-    ensures kernel { seats.new.kernel ≡ seats.old.kernel }
-    ensures dealt { seats.new.dealt ≡ seats.old.dealt }
-    ensures back { IsTrue result → IfSome (port_of held.value.what) (λ p. seats.new.back ≡ seats.old.back ++ p ∷ []) }
+    requires kernel { IfSome (port_of held.value.what) (λ p. p.port.kernel ≡ seats.old.seats.kernel) }
+    requires core { IfSome (port_of held.value.what) (λ p. p.port.core ≡ length seats.old.seats.back) }
+    ensures { IfSome (port_of held.value.what) (λ p. HasBack seats.old p seats.new) }
 {
     let Held { what } = Box::into_inner(held);
     match what {
-        What::Core(port) => seats.take_back(port).is_ok(),
+        What::Core(port) => seats.take_back(port),
         _ => unreachable!(),
     }
 }
 
 // Takes back the port in the slot.
-fn take_port_back(alloc: Global, seats: &mut Seats, port: &mut Slot) -> u8
+fn take_port_back(alloc: Global, seats: &mut EndSeats, port: &mut Slot) -> u8
     requires { AreOfMachine (Some seats.old) (port_held (held_in port.old)) }
     ensures none { port_held (held_in port.old) ≡ None
         → (result ≡ 254) × (seats.new ≡ seats.old) × (held_in port.new ≡ held_in port.old) }
@@ -50,7 +46,8 @@ fn take_port_back(alloc: Global, seats: &mut Seats, port: &mut Slot) -> u8
         port.put(held);
         return 245;
     }
-    if take_held_back(seats, held) { 0 } else { 247 }
+    take_held_back(seats, held);
+    0
 }
 
 // The same of a machine that is held.
@@ -70,8 +67,7 @@ fn back_held(alloc: Global, held: &mut Held, port: &mut Slot) -> u8
 }
 
 /// Takes a port of the machine back, core 0's first, empties its slot, and answers 0. Else, with nothing changed, 254 where no
-/// machine or no port is held, and 245 where the ports with lower numbers are not all back; 247 where memory has run out, and the
-/// port is then lost. A machine and a port that are held are of one kernel.
+/// machine or no port is held, and 245 where the ports with lower numbers are not all back. It takes no memory. A machine and a port that are held are of one kernel.
 #[unsafe(no_mangle)]
 pub extern "C" fn speck_inner_take_back(alloc: Global, machine: &mut Slot, port: &mut Slot) -> u8
     requires { AreOfMachine (machine_held (held_in machine.old)) (port_held (held_in port.old)) }
@@ -90,78 +86,54 @@ pub extern "C" fn speck_inner_take_back(alloc: Global, machine: &mut Slot, port:
     answer
 }
 
-// Whether a machine is held, and all its ports are back; None where none is held.
-fn all_back(held: &Held) -> Option<bool>
-    ensures { MatchOption (machine_of held.now.what) (result ≡ None)
-        (λ m. IsSome result × IfSome result (λ all. IsTrue all ↔ (length m.back ≡ m.kernel.setup.cores))) }
+// Has what is held be what the machine that was held has left. Else it stays.
+fn end_held(alloc: Global, held: &mut Held) -> u8
+    ensures none { machine_of held.old.what ≡ None → (result ≡ 254) × (held.new ≡ held.old) }
+    ensures ends { IfSome (machine_of held.old.what) (λ m. EndsHeld m result held.old held.new) }
 {
-    match &held.what {
-        What::Machine(seats) => Some(seats.returned() == usize::from(seats.setup().cores())),
-        _ => None,
-    }
-}
-
-// The tables of the machine that is held; None where memory has run out.
-fn tables_of(alloc: Global, held: Box<Held>) -> Option<String>
-    requires { IsSome (machine_of held.value.what) }
-    ensures { IfSome (machine_of held.value.what) (λ m. IfSome result (λ t. IsFinal m (string_bytes t))) }
-{
-    let Held { what } = Box::into_inner(held);
-    match what {
+    match mem::replace(&mut held.what, What::Tables(String::new(alloc))) {
         What::Machine(seats) => {
-            let Ok(closed) = seats.finish(alloc) else {
-                return None;
-            };
-            report(alloc, &image_of(&closed)).ok()
-        }
-        _ => unreachable!(),
-    }
-}
-
-/// Finishes the machine, whose slot is then empty, puts the tables of its final words into an empty slot, and answers 0. Else,
-/// with nothing changed, 240 where the text's slot is not empty, 254 where no machine is held, and 246 where a port is not back; 247
-/// where memory has run out, and the machine is then gone.
-#[unsafe(no_mangle)]
-pub extern "C" fn speck_inner_finish(alloc: Global, machine: &mut Slot, text: &mut Slot) -> u8
-    ensures full { held_in text.old ≢ None
-        → (result ≡ 240) × (held_in text.new ≡ held_in text.old) × (held_in machine.new ≡ held_in machine.old) }
-    ensures none { held_in text.old ≡ None → machine_held (held_in machine.old) ≡ None
-        → (result ≡ 254) × (held_in text.new ≡ None) × (held_in machine.new ≡ held_in machine.old) }
-    ensures finishes { held_in text.old ≡ None → IfSome (machine_held (held_in machine.old))
-        (λ m. Finishes m result (held_in machine.old) (held_in machine.new) (held_in text.new)) }
-{
-    if !text.is_empty() {
-        return 240;
-    }
-    let Some(held) = machine.take(alloc) else {
-        return 254;
-    };
-    match all_back(&held) {
-        None => {
-            machine.put(held);
-            254
-        }
-        Some(false) => {
-            machine.put(held);
-            246
-        }
-        Some(true) => match tables_of(alloc, held) {
-            Some(tables) => {
-                if put_new(alloc, text, What::Tables(tables)) {
+            let all_back = seats.returned() == usize::from(seats.cores());
+            match seats.finish(alloc) {
+                Ok(closed) => {
+                    held.what = What::Final(Last::new(closed));
                     0
-                } else {
-                    247
+                }
+                Err(Unended { seats, fault: _ }) => {
+                    held.what = What::Machine(seats);
+                    if all_back { 247 } else { 246 }
                 }
             }
-            None => 247,
-        },
+        }
+        other => {
+            held.what = other;
+            254
+        }
     }
 }
 
-/// Empties a text's slot.
+/// Finishes the machine, whose slot is then empty, puts what it has left into an empty slot, and answers 0. Else, with nothing changed, 240
+/// where that slot is not empty; 254 where no machine is held; 246 where a port is not back; 247 where memory has run out.
 #[unsafe(no_mangle)]
-pub extern "C" fn speck_inner_free_text(alloc: Global, text: &mut Slot)
-    ensures { held_in text.new ≡ None }
+pub extern "C" fn speck_inner_finish(alloc: Global, machine: &mut Slot, last: &mut Slot) -> u8
+    ensures full { held_in last.old ≢ None
+        → (result ≡ 240) × (held_in last.new ≡ held_in last.old) × (held_in machine.new ≡ held_in machine.old) }
+    ensures none { held_in last.old ≡ None → machine_held (held_in machine.old) ≡ None
+        → (result ≡ 254) × (held_in last.new ≡ None) × (held_in machine.new ≡ held_in machine.old) }
+    ensures finishes { held_in last.old ≡ None → IfSome (machine_held (held_in machine.old))
+        (λ m. Finishes m result (held_in machine.old) (held_in machine.new) (held_in last.new)) }
 {
-    let _gone = text.take(alloc);
+    if !last.is_empty() {
+        return 240;
+    }
+    let Some(mut held) = machine.take(alloc) else {
+        return 254;
+    };
+    let answer = end_held(alloc, &mut held);
+    if answer == 0 {
+        last.put(held);
+    } else {
+        machine.put(held);
+    }
+    answer
 }

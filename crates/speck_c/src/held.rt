@@ -1,17 +1,20 @@
 //! What a handle holds.
 
-use core_machine::{CoreNote, Port, Seats};
+use end_ports::{CoreNote, EndPort, EndSeats};
+use final_parts::Last;
 
 /// What a handle may hold.
 #[derive(Drop)]
 pub enum What {
-    /// A machine: a kernel with its seats.
-    Machine(Seats),
+    /// A machine: a kernel and its endpoints, with their seats.
+    Machine(EndSeats),
     /// A core's port.
-    Core(Port),
+    Core(EndPort),
     /// A note.
     Told(CoreNote),
-    /// The tables of a machine that was finished.
+    /// What a machine that was finished has left.
+    Final(Last),
+    /// The text of its tables.
     Tables(String),
 }
 

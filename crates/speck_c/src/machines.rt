@@ -1,14 +1,11 @@
-//! Machines: how they boot, how their ports are dealt, and how what is held is let go.
+//! Machines: how their ports are dealt, and how what is held is let go.
 
-ghost use Rattle.std.specs.Prelude.{◌≡◌, ◌≢◌, ◌+◌, ◌*◌, ◌<◌, ◌≤◌, ◌⊎◌, Some, None, Err, IfSome, MatchBool, MatchOption};
-ghost use Rattle.spk_nums.specs.SetupFaults.{equal_setting};
+ghost use Rattle.std.specs.Prelude.{◌≡◌, ◌≢◌, ◌<◌, ◌≤◌, ◌⊎◌, Some, None, IfSome, MatchBool, MatchOption};
 ghost use Rattle.speck_c.specs.Slots.{held_in, port_held, port_of};
-ghost use Rattle.speck_c.specs.Machines.{Boots, Deals, DealsPort, machine_held, machine_of};
+ghost use Rattle.speck_c.specs.Machines.{Deals, machine_held, machine_of};
 
 use crate::held::{Held, What};
 use crate::slot::Slot;
-use core_machine::{Port, Seats};
-use spk_nums::Setup;
 use std::alloc::Global;
 
 // Puts this into an empty slot; false where memory has run out.
@@ -24,75 +21,45 @@ pub(crate) fn put_new(alloc: Global, slot: &mut Slot, what: What) -> bool
     }
 }
 
-fn boot_into(alloc: Global, machine: &mut Slot, cores: u8, frames: u16, budget: u32) -> u8
-    ensures { Boots (equal_setting cores frames budget) (held_in machine.old) result (held_in machine.new) }
-{
-    let Ok(setup) = Setup::equal(cores, frames, budget) else {
-        return 247;
-    };
-    let Ok(seats) = Seats::boot(alloc, &setup) else {
-        return 247;
-    };
-    if put_new(alloc, machine, What::Machine(seats)) {
-        0
-    } else {
-        247
-    }
+// Room for what a slot is to hold; it holds an empty text till then. None where memory has run out.
+fn room_for(alloc: Global) -> Option<Box<Held>> {
+    let what = What::Tables(String::new(alloc));
+    Box::new(alloc, Held { what }).ok()
 }
 
-/// Boots a machine of so many cores and frames, whose cores are each granted `budget` ticks, into an empty slot, and answers 0.
-/// The first that holds of these is answered instead, and the slot stays as it is: 240 where the slot is not empty; 241 where there
-/// are not 1 to 8 cores; 242 where there are not `4 + 2 * cores` to 512 frames; 243 where the budget is past 500,000,000; 247 where
-/// memory has run out.
-#[unsafe(no_mangle)]
-pub extern "C" fn speck_inner_boot(
-    alloc: Global,
-    machine: &mut Slot,
-    cores: u8,
-    frames: u16,
-    budget: u32,
-) -> u8
-    ensures full { held_in machine.old ≢ None → (result ≡ 240) × (held_in machine.new ≡ held_in machine.old) }
-    ensures cores { held_in machine.old ≡ None → (cores < 1) ⊎ (8 < cores) → (result ≡ 241) × (held_in machine.new ≡ None) }
-    ensures frames { held_in machine.old ≡ None → 1 ≤ cores → cores ≤ 8 → (frames < 4 + 2 * cores) ⊎ (512 < frames)
-        → (result ≡ 242) × (held_in machine.new ≡ None) }
-    ensures budget { held_in machine.old ≡ None → 1 ≤ cores → cores ≤ 8 → 4 + 2 * cores ≤ frames → frames ≤ 512 → 500000000 < budget
-        → (result ≡ 243) × (held_in machine.new ≡ None) }
-    ensures boots { held_in machine.old ≡ None → 1 ≤ cores → cores ≤ 8 → 4 + 2 * cores ≤ frames → frames ≤ 512 → budget ≤ 500000000
-        → Boots (equal_setting cores frames budget) None result (held_in machine.new) }
+// Puts this into an empty slot, in room that was had before.
+fn put_in(mut room: Box<Held>, slot: &mut Slot, what: What)
+    ensures { held_in slot.new ≡ Some (record { what = what }) }
 {
-    if !machine.is_empty() {
-        return 240;
-    }
-    if cores < 1 || 8 < cores {
-        return 241;
-    }
-    if frames < 4 + 2 * u16::from(cores) || 512 < frames {
-        return 242;
-    }
-    if 500_000_000 < budget {
-        return 243;
-    }
-    boot_into(alloc, machine, cores, frames, budget)
+    room.what = what;
+    slot.put(room);
 }
 
-// The port of the next core; 244 where all are dealt, 254 where no machine is held.
-fn deal_held(held: &mut Held) -> Result<Port, u8>
-    ensures { MatchOption (machine_of held.old.what) ((result ≡ Err 254) × (held.new ≡ held.old))
-        (λ m. DealsPort m result (machine_of held.new.what)) }
+// Puts the port of the next core into an empty slot; room is had first, so that no port is lost.
+fn deal_into(alloc: Global, held: &mut Held, port: &mut Slot) -> u8
+    requires { held_in port.old ≡ None }
+    ensures none { machine_of held.old.what ≡ None → (result ≡ 254) × (held.new ≡ held.old) × (held_in port.new ≡ None) }
+    ensures deals { IfSome (machine_of held.old.what) (λ m. Deals m result (machine_of held.new.what) (held_in port.new)) }
 {
     match &mut held.what {
-        What::Machine(seats) => match seats.deal() {
-            Some(port) => Ok(port),
-            None => Err(244),
-        },
-        _ => Err(254),
+        What::Machine(seats) => {
+            let Some(room) = room_for(alloc) else {
+                return 247;
+            };
+            match seats.deal() {
+                Some(next) => {
+                    put_in(room, port, What::Core(next));
+                    0
+                }
+                None => 244,
+            }
+        }
+        _ => 254,
     }
 }
 
-/// Puts the port of the machine's next core, core 0's first, into an empty slot, and answers 0. Else 240 where the port's slot is
-/// not empty; 254 where no machine is held; 244 where each core has its port; 247 where memory has run out, and the next core's
-/// port is lost.
+/// Puts the port of the machine's next core, core 0's first, into an empty slot, and answers 0. Else, with nothing changed, 240 where the
+/// port's slot is not empty; 254 where no machine is held; 244 where each core has its port; 247 where memory has run out.
 #[unsafe(no_mangle)]
 pub extern "C" fn speck_inner_deal(alloc: Global, machine: &mut Slot, port: &mut Slot) -> u8
     ensures full { held_in port.old ≢ None → (result ≡ 240) × (held_in port.new ≡ held_in port.old)
@@ -108,23 +75,14 @@ pub extern "C" fn speck_inner_deal(alloc: Global, machine: &mut Slot, port: &mut
     let Some(mut held) = machine.take(alloc) else {
         return 254;
     };
-    let dealt = deal_held(&mut held);
+    let answer = deal_into(alloc, &mut held, port);
     machine.put(held);
-    match dealt {
-        Ok(next) => {
-            if put_new(alloc, port, What::Core(next)) {
-                0
-            } else {
-                247
-            }
-        }
-        Err(code) => code,
-    }
+    answer
 }
 
 // The core of the port that is held.
 pub(crate) fn core_of(held: &Held) -> Option<u8>
-    ensures { MatchOption (port_of held.now.what) (result ≡ None) (λ p. result ≡ Some p.core) }
+    ensures { MatchOption (port_of held.now.what) (result ≡ None) (λ p. result ≡ Some p.port.core) }
 {
     match &held.what {
         What::Core(port) => Some(port.core().number()),
@@ -136,7 +94,7 @@ pub(crate) fn core_of(held: &Held) -> Option<u8>
 #[unsafe(no_mangle)]
 pub extern "C" fn speck_inner_core(alloc: Global, port: &mut Slot) -> u8
     ensures kept { held_in port.new ≡ held_in port.old }
-    ensures core { MatchOption (port_held (held_in port.old)) (result ≡ 254) (λ p. result ≡ p.core) }
+    ensures core { MatchOption (port_held (held_in port.old)) (result ≡ 254) (λ p. result ≡ p.port.core) }
 {
     let Some(held) = port.take(alloc) else {
         return 254;
@@ -171,4 +129,12 @@ pub extern "C" fn speck_inner_free_note(alloc: Global, note: &mut Slot)
     ensures { held_in note.new ≡ None }
 {
     let _gone = note.take(alloc);
+}
+
+/// Empties a finished machine's slot.
+#[unsafe(no_mangle)]
+pub extern "C" fn speck_inner_free_final(alloc: Global, last: &mut Slot)
+    ensures { held_in last.new ≡ None }
+{
+    let _gone = last.take(alloc);
 }

@@ -1,14 +1,14 @@
 //! Notes, which one thread hands to another.
 
 ghost use Rattle.std.specs.Prelude.{◌≡◌, ◌≢◌, Some, None, IfSome, IfNone, IsTrue, IsSome, ◌↔◌, MatchOption};
-ghost use Rattle.core_machine.specs.core_kernel.specs.Calls.{Meets};
+ghost use Rattle.end_ports.specs.core_machine.specs.core_kernel.specs.Calls.{Meets};
 ghost use Rattle.speck_c.specs.Slots.{held_in, port_held, port_of};
 ghost use Rattle.speck_c.specs.Machines.{AreOfOne, HoldsMet, Notes, Tells, note_held, note_of};
 
 use crate::held::{Held, What};
 use crate::machines::put_new;
 use crate::slot::Slot;
-use core_machine::{CoreNote, Port};
+use end_ports::{CoreNote, EndPort};
 use std::alloc::Global;
 
 // A note of the port that is held, which stays as it is.
@@ -63,10 +63,10 @@ fn is_note(held: &Held) -> bool
 }
 
 // Has the port meet the note in the slot, which is then empty.
-fn meet_port(alloc: Global, port: &mut Port, note: &mut Slot) -> u8
+fn meet_port(alloc: Global, port: &mut EndPort, note: &mut Slot) -> u8
     requires { AreOfOne (Some port.old) (note_held (held_in note.old)) }
     ensures none { note_held (held_in note.old) ≡ None → (result ≡ 254) × (port.new ≡ port.old) × (held_in note.new ≡ held_in note.old) }
-    ensures met { IfSome (note_held (held_in note.old)) (λ n. (result ≡ 0) × Meets port.old n port.new × (held_in note.new ≡ None)) }
+    ensures met { IfSome (note_held (held_in note.old)) (λ n. (result ≡ 0) × Meets port.old.port n port.new.port × (port.new.end ≡ port.old.end) × (held_in note.new ≡ None)) }
 {
     let Some(told) = note.take(alloc) else {
         return 254;

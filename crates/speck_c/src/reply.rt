@@ -1,9 +1,10 @@
 //! A reply as C reads it.
 
 ghost use Rattle.std.specs.Prelude.{◌≡◌};
-ghost use Rattle.speck_c.specs.Flat.{kind_code, advice_code, blank, refusal, carried, named, flat};
+ghost use Rattle.speck_c.specs.Flat.{advice_code, blank, refusal, carried, named, flat};
 
-use spk_nums::{Advice, Kind, Reply, Value, reply_number};
+use final_parts::kind_number;
+use spk_nums::{Advice, Reply, Value, reply_number};
 
 /// A reply's number as `spk_nums` has it (`reply_number`), or 254 or 255, which are no replies, and what it carries: `value` says what
 /// (0 nothing, 1 a capability, 2 a page, 3 an amount, 4 preempts, 5 stays), `kind` the kind of a capability, `flags` its
@@ -39,24 +40,6 @@ fn refusal_reply(code: u8, advice: u8, n: u32) -> SpeckReply
         frame: 0,
         advice,
         n,
-    }
-}
-
-fn kind_number(kind: Kind) -> u8
-    ensures { result ≡ kind_code kind }
-{
-    match kind {
-        Kind::Range => 0,
-        Kind::Table => 1,
-        Kind::Leaf => 2,
-        Kind::Pages => 3,
-        Kind::Pleaf => 4,
-        Kind::Comp => 5,
-        Kind::Gate => 6,
-        Kind::Thread => 7,
-        Kind::Tcap => 8,
-        Kind::Link => 9,
-        Kind::Page => 10,
     }
 }
 

@@ -1,12 +1,64 @@
-//! The text of a machine's tables, which C reads.
+//! The text of the tables of a finished machine, which C reads.
 
-ghost use Rattle.std.specs.Prelude.{◌≡◌, ◌≤◌, ◌<◌, ◌++◌, length, take, drop, string_bytes, None, IfSome};
+ghost use Rattle.std.specs.Prelude.{◌≡◌, ◌≤◌, ◌<◌, ◌++◌, length, take, drop, string_bytes, Some, None, ◌≢◌, ◌⊎◌, IfSome};
 ghost use Rattle.speck_c.specs.Slots.{held_in};
-ghost use Rattle.speck_c.specs.Ends.{ReadsInto, text_held, text_of};
+ghost use Rattle.speck_c.specs.Ends.{ReadsInto, Shows, final_held, final_of, text_held, text_of};
 
 use crate::held::{Held, What};
+use crate::machines::put_new;
 use crate::slot::Slot;
+use final_parts::Last;
 use std::alloc::Global;
+use table_report::report;
+
+// Puts the text of these tables into an empty slot.
+fn show_last(alloc: Global, last: &Last, text: &mut Slot) -> u8
+    requires { held_in text.old ≡ None }
+    ensures { Shows last.now result (held_in text.new) }
+{
+    match report(alloc, &last.image()) {
+        Ok(tables) => {
+            if put_new(alloc, text, What::Tables(tables)) {
+                0
+            } else {
+                247
+            }
+        }
+        Err(_) => 247,
+    }
+}
+
+// The same where a finished machine is held.
+fn show_held(alloc: Global, held: &Held, text: &mut Slot) -> u8
+    requires { held_in text.old ≡ None }
+    ensures none { final_of held.now.what ≡ None → (result ≡ 254) × (held_in text.new ≡ None) }
+    ensures shows { IfSome (final_of held.now.what) (λ i. Shows i result (held_in text.new)) }
+{
+    match &held.what {
+        What::Final(last) => show_last(alloc, last, text),
+        _ => 254,
+    }
+}
+
+/// Puts the text of the tables of a finished machine, which stays as it is, into an empty slot, and answers 0. Else, with nothing changed,
+/// 240 where the text's slot is not empty; 254 where no finished machine is held; 247 where memory has run out.
+#[unsafe(no_mangle)]
+pub extern "C" fn speck_inner_show(alloc: Global, last: &mut Slot, text: &mut Slot) -> u8
+    ensures kept { held_in last.new ≡ held_in last.old }
+    ensures full { held_in text.old ≢ None → (result ≡ 240) × (held_in text.new ≡ held_in text.old) }
+    ensures none { held_in text.old ≡ None → final_held (held_in last.old) ≡ None → (result ≡ 254) × (held_in text.new ≡ None) }
+    ensures shows { held_in text.old ≡ None → IfSome (final_held (held_in last.old)) (λ i. Shows i result (held_in text.new)) }
+{
+    if !text.is_empty() {
+        return 240;
+    }
+    let Some(held) = last.take(alloc) else {
+        return 254;
+    };
+    let answer = show_held(alloc, &held, text);
+    last.put(held);
+    answer
+}
 
 // Copies as much of the text as there is room for, and answers its whole length.
 fn copy_text(text: &[u8], bytes: &mut [u8]) -> u64
@@ -46,4 +98,12 @@ pub extern "C" fn speck_inner_read(alloc: Global, text: &mut Slot, bytes: &mut [
     let length = read_held(&held, bytes);
     text.put(held);
     length
+}
+
+/// Empties a text's slot.
+#[unsafe(no_mangle)]
+pub extern "C" fn speck_inner_free_text(alloc: Global, text: &mut Slot)
+    ensures { held_in text.new ≡ None }
+{
+    let _gone = text.take(alloc);
 }

@@ -1,6 +1,6 @@
 //! How a table begins, with a seat for each program, and how it ends.
 
-ghost use Rattle.std.specs.Prelude.{◌≡◌, ℕ, ◌+◌, ◌<◌, ◌^◌, [], length, slice_get, slice_index, vec_len, All, IfOk, Some};
+ghost use Rattle.std.specs.Prelude.{◌≡◌, ℕ, ◌+◌, ◌<◌, ◌≤◌, ◌^◌, [], length, slice_get, slice_index, vec_len, vec_capacity, All, IfOk, Some};
 ghost use Rattle.std.specs.Slots.{slots_items, slots_len, IsFull};
 ghost use Rattle.turn_rule.specs.Trace.{program_after};
 ghost use Rattle.turn_rule.specs.Positions.{position, IsLaid};
@@ -78,39 +78,65 @@ impl<P: CoreProgram> TurnTable<P> {
         Ok(seats)
     }
 
+    /// How many words the table has.
+    pub fn word_count(&self) -> usize
+        ensures { result ≡ length self.now.start.words }
+    {
+        self.words as usize
+    }
+
     /// Gives back the words and the programs. The seats are all seats of the table, in the order of their cores.
     pub fn close(self, alloc: Global, seats: Vec<TurnSeat<P>>) -> Result<(Vec<u64>, Vec<P>), Memory>
         requires { AreAllSeats self seats.items }
         ensures { IfOk result (λ r. EndsAt P.steps self seats.items r.0.items r.1.items) }
     {
-        let words = vec![in alloc; 0; self.words as usize]?;
-        let mut all = self.table.shared.load_new_seat::<Starts<P>>(0).1;
-        let programs = self.gather(&mut all, alloc, seats)?;
-        let TurnTable { table, spread, .. } = self;
-        let closed = table.close_with(all);
-        Ok((words_of(closed, words, spread), programs))
+        let words = vec![in alloc; 0; self.word_count()]?;
+        let programs = Vec::with_capacity(alloc, seats.len())?;
+        Ok(self.close_in(words, programs, seats))
     }
 
-    // Joins all seats into one, and gives their programs.
+    /// Gives back the words and the programs as `close` does, in lists that are given for them: of as many words as the table has,
+    /// whatever they are, and with room for each program. It takes no memory, so it does not fail.
+    pub fn close_in(
+        self,
+        words: Vec<u64>,
+        programs: Vec<P>,
+        seats: Vec<TurnSeat<P>>,
+    ) -> (Vec<u64>, Vec<P>)
+        requires seats { AreAllSeats self seats.items }
+        requires words { vec_len words ≡ length self.start.words }
+        requires none { programs.items ≡ [] }
+        requires room { length seats.items ≤ vec_capacity programs }
+        ensures { EndsAt P.steps self seats.items result.0.items result.1.items }
+    {
+        let mut all = self.table.shared.load_new_seat::<Starts<P>>(0).1;
+        let programs = self.gather(&mut all, programs, seats);
+        let TurnTable { table, spread, .. } = self;
+        let closed = table.close_with(all);
+        (words_of(closed, words, spread), programs)
+    }
+
+    // Joins all seats into one, and gives their programs in the list given for them.
     fn gather(
         &self,
         all: &mut Seat<(), View<P, P::Call>>,
-        alloc: Global,
+        mut programs: Vec<P>,
         seats: Vec<TurnSeat<P>>,
-    ) -> Result<Vec<P>, AllocError>
+    ) -> Vec<P>
         requires table { (all.old.table_id ≡ self.now.id) × (all.old.me.0.own.from ≡ 0) }
         requires none { Stays P.steps all.old.me.0.own 0 all.old.me.0.own }
         requires seats { AreAllSeats self.now seats.items }
+        requires empty { programs.items ≡ [] }
+        requires room { length seats.items ≤ vec_capacity programs }
         ensures table { (all.new.table_id ≡ all.old.table_id) × (all.new.id ≡ all.old.id) }
-        ensures count { IfOk result (λ v. length v.items ≡ length seats.items) }
-        ensures all { IfOk result (λ v. Stays P.steps all.old.me.0.own (length seats.items) all.new.me.0.own) }
-        ensures programs { IfOk result (λ v. (k : ℕ) (p : _) → slice_get v.items k ≡ Some p
-            → program_after P.steps all.new.me.0.own.start all.new.me.0.own.seen k ≡ Some p) }
-        ensures seen { IfOk result (λ v. (k : ℕ) (s : _) → slice_get seats.items k ≡ Some s
-            → Begins all.new.me.0.own.seen (part self.now.start k (k + 1) s.seen)) }
+        ensures count { length result.items ≡ length seats.items }
+        ensures all { Stays P.steps all.old.me.0.own (length seats.items) all.new.me.0.own }
+        ensures programs { (k : ℕ) (p : _) → slice_get result.items k ≡ Some p
+            → program_after P.steps all.new.me.0.own.start all.new.me.0.own.seen k ≡ Some p }
+        ensures seen { (k : ℕ) (s : _) → slice_get seats.items k ≡ Some s
+            → Begins all.new.me.0.own.seen (part self.now.start k (k + 1) s.seen) }
     {
         let shared = &self.table.shared;
-        let mut programs = Vec::with_capacity(alloc, seats.len())?;
         for one in seats {
             let TurnSeat {
                 seat,
@@ -119,9 +145,9 @@ impl<P: CoreProgram> TurnTable<P> {
             } = one;
             shared.join_seat::<Takes>(all, seat);
             shared.load::<Gathers<P>>(all, 0);
-            programs.push(program)?;
+            programs.push_reserved(program);
         }
-        Ok(programs)
+        programs
     }
 }
 

@@ -1,10 +1,9 @@
 //! Ports that are dealt and taken back.
 
-ghost use Rattle.std.specs.Prelude.{◌≡◌, ◌++◌, ◌∷◌, [], length, IfOk, IfSome};
+ghost use Rattle.std.specs.Prelude.{◌≡◌, ◌++◌, ◌∷◌, [], length, IfSome};
 ghost use Rattle.core_machine.specs.Seats.{IsDealt};
 
 use core_machine::{Port, Seats};
-use spk_nums::Memory;
 
 /// The port of the next core.
 pub fn deal(seats: &mut Seats) -> Option<Port>
@@ -14,22 +13,22 @@ pub fn deal(seats: &mut Seats) -> Option<Port>
 }
 
 /// Takes a port back.
-pub fn take_back(seats: &mut Seats, port: Port) -> Result<(), Memory>
+pub fn take_back(seats: &mut Seats, port: Port)
     requires kernel { port.kernel ≡ seats.old.kernel }
     requires core { port.core ≡ length seats.old.back }
-    ensures { IfOk result (λ _. seats.new.back ≡ seats.old.back ++ port ∷ []) }
+    ensures { seats.new.back ≡ seats.old.back ++ port ∷ [] }
 {
-    seats.take_back(port)
+    seats.take_back(port);
 }
 
 /// Takes the ports of cores 0 and 1 back, in this order.
-pub fn take_both_back(seats: &mut Seats, first: Port, second: Port) -> Result<(), Memory>
+pub fn take_both_back(seats: &mut Seats, first: Port, second: Port)
     requires none { seats.old.back ≡ [] }
     requires first { (first.kernel ≡ seats.old.kernel) × (first.core ≡ 0) }
     requires second { (second.kernel ≡ seats.old.kernel) × (second.core ≡ 1) }
     ensures { seats.new.kernel ≡ seats.old.kernel }
 {
     let (one, other) = (first, second);
-    seats.take_back(one)?;
-    seats.take_back(other)
+    seats.take_back(one);
+    seats.take_back(other);
 }

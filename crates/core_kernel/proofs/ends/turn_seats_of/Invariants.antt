@@ -1,5 +1,6 @@
+use Rattle.std.proofs.Common.{◌≤◌, length, vec_capacity}
 use Rattle.core_kernel.specs.Turns.{AreWrapped}
 use Rattle.core_kernel.proofs.ends.turn_seats_of.Given as goal
 
 abbrev pub invariant-loop-one : goal.invariant-loop-one
-invariant-loop-one l = AreWrapped l.setup l.turn_seats.items l.yielded
+invariant-loop-one l = AreWrapped l.setup l.turn_seats.items l.yielded × (length l.fn.seats.items ≤ vec_capacity l.turn_seats)

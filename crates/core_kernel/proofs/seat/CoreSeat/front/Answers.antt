@@ -1,7 +1,7 @@
-use Rattle.std.proofs.Common.{◌≡◌, ◌∙◌, ap, sym, subst}
+use Rattle.std.proofs.Common.{◌≡◌, ◌<◌, ◌∙◌, ap, sym, subst}
 use Rattle.boot_words.specs.kernel_history.specs.Trace.{state_after}
 use Rattle.core_kernel.specs.Calls.{HasSeen}
-use Rattle.core_kernel.proofs.Seats.{has_seen, front_core, front_calls}
+use Rattle.core_kernel.proofs.Seats.{has_seen, front_core, front_calls, front_inside}
 use Rattle.core_kernel.proofs.seat.CoreSeat.front.Goals as goal
 
 pub returns-clause-core : goal.returns-clause-core
@@ -17,3 +17,7 @@ returns-clause-calls c =
 
 pub returns-clause-seen : goal.returns-clause-seen
 returns-clause-seen c = subst HasSeen c.self.view_is (has_seen c.self.inside.setup c.self.inside.seat c.self.invariant)
+
+pub returns-clause-inside : goal.returns-clause-inside
+returns-clause-inside c = subst (λ s. s.core < s.kernel.setup.cores) c.self.view_is
+    (front_inside c.self.inside.setup c.self.inside.seat c.self.invariant)

@@ -1,4 +1,4 @@
-use Rattle.std.proofs.Common.{rules, arith, true, ◌≡◌, ◌+◌, ℕ, [], ◌∷◌, ◌++◌, length, Some, refl, sym, ap, ◌∙◌, subst}
+use Rattle.std.proofs.Common.{rules, arith, true, ◌≡◌, ◌+◌, ◌≤◌, ℕ, [], ◌∷◌, ◌++◌, length, Some, refl, sym, ap, ◌∙◌, subst}
 use Rattle.std.proofs.lemmas.Option.{slice_get_read, slice_get_within}
 use Rattle.std.proofs.lemmas.List.{length_push}
 use Rattle.std.proofs.lemmas.Iterator.Consumers.{YieldsList-turn}
@@ -72,9 +72,10 @@ loop-one-preserved g c =
       table = c.load.ensures.0 ∙ c.join_seat.ensures.0 ∙ i.table;
       id = c.load.ensures.1 ∙ c.join_seat.ensures.1 ∙ i.id;
       all = subst (λ (k : ℕ). Stays T c.args.all.now.me.0.own k x) (sym more) all.stays;
-      count = ap length c.in_ok-push.ensures.items ∙ length_push c.loop-one.programs.items _ ∙ ap (λ (k : ℕ). k + 1) i.count ∙ sym more;
+      room = subst (λ (k : ℕ). length c.args.seats.items ≤ k) (sym c.push_reserved.ensures.capacity) i.room;
+      count = ap length c.push_reserved.ensures.items ∙ length_push c.loop-one.programs.items _ ∙ ap (λ (k : ℕ). k + 1) i.count ∙ sym more;
       programs = each_pushed (λ k p. program_after T x.start x.seen k ≡ Some p)
-          c.loop-one.programs.items _ n c.push.new.self.items c.in_ok-push.ensures.items i.count
+          c.loop-one.programs.items _ n c.push_reserved.new.self.items c.push_reserved.ensures.items i.count
           (λ k q e. let lt = slice_get_within c.loop-one.programs.items k q e in all.before k q (omega arith) (i.programs k q e)) all.here;
       seen = each_pushed (λ (k : ℕ) (s : Value). Begins x.seen (part start k (k + 1) s.seen)) c.loop-one.yielded one n
           (c.loop-one.yielded ++ one ∷ []) refl refl

@@ -1,0 +1,35 @@
+-- Seats at the endpoints that are dealt from the first on.
+use Rattle.std.proofs.Common.{◌≡◌, ℕ, zero, suc, ◌+◌, ◌<◌, List, [], ◌∷◌, length, slice_get, get_or, Some, refl, sym, ap, ◌∙◌, subst, arith, remove}
+use Rattle.async_ends.specs.Tables.{EndTableValue, EndSeatValue, AreAllSeats, AreFresh}
+use Rattle.end_ports.specs.Ports.{HasEnds, IsFreshEnd}
+
+-- all seats of a new table
+pub all_ends : (of : EndTableValue) (cores : ℕ) (seats here : List EndSeatValue) → of.frames ≡ 512 → of.cores ≡ cores → AreAllSeats of seats
+    → AreFresh seats → here ≡ seats → HasEnds of cores 0 here
+all_ends of cores seats here frames count all fresh is = record {
+  frames = frames;
+  count = ap length is ∙ all.count ∙ count;
+  each = λ k s e. let at = subst (λ (l : List EndSeatValue). slice_get l k ≡ Some s) is e in
+      let f = fresh k s at in record { table = all.table k s at; core_is = all.core k s at; seen = f.0; made = f.1 };
+}
+
+-- those that are left when the first is dealt
+pub others_left : (of : EndTableValue) (cores dealt : ℕ) (here left : List EndSeatValue) → left ≡ remove here 0 → 0 < length here
+    → HasEnds of cores dealt here → HasEnds of cores (dealt + 1) left
+others_left of cores dealt [] left is some h = absurd (omega arith)
+others_left of cores dealt (x ∷ xs) left is some h =
+    let same : left ≡ xs = is in let size = ap length same in let count = h.count in record {
+      frames = h.frames;
+      count = omega arith;
+      each = λ k s e. let at = subst (λ (l : List EndSeatValue). slice_get l k ≡ Some s) same e in
+          let next : dealt + suc k ≡ (dealt + 1) + k = omega arith in
+          subst (λ (n : ℕ). IsFreshEnd of n s) next (h.each (suc k) s at);
+    }
+
+-- the first, which is dealt
+pub first_dealt : (of : EndTableValue) (cores dealt : ℕ) (here : List EndSeatValue) (s : EndSeatValue) → s ≡ get_or here 0 s → 0 < length here
+    → HasEnds of cores dealt here → IsFreshEnd of dealt s
+first_dealt of cores dealt [] s is some h = absurd (omega arith)
+first_dealt of cores dealt (x ∷ xs) s is some h =
+    let zero_more : dealt + 0 ≡ dealt = omega arith in
+    subst (λ (n : ℕ). IsFreshEnd of n s) zero_more (h.each 0 s (ap Some (sym is)))
