@@ -1,8 +1,8 @@
 //! The test of the examples: in the folder `data/`, which the program runs in, each script `NAME.speck` stands beside
-//! what a command prints of it, with that status, as `NAME.COMMAND.STATUS`. The top call is run on each in memory, and
-//! a line for each says whether status and bytes are the same. A script with no answer, an answer with no script and a
-//! file that is neither are told. The exit status is 0 where each is the same and none of these was found, 2 where a
-//! file cannot be read or memory runs out, else 1.
+//! what a command prints of it, with that status, as `NAME.COMMAND.STATUS`; a command of two words has a `-` between
+//! them. The top call is run on each in memory, and a line for each says whether status and bytes are the same. A script
+//! with no answer, an answer with no script and a file that is neither are told. The exit status is 0 where each is the
+//! same and none of these was found, 2 where a file cannot be read or memory runs out, else 1.
 //!
 //! See CONTRIBUTING.md, 'To add an example'.
 #![tactic(auto)]

@@ -23,6 +23,24 @@ fn list_of(alloc: Global, word: &str) -> Result<Vec<String>, AllocError>
     Ok(words)
 }
 
+// The list of these two words.
+fn pair_of(alloc: Global, first: &str, second: &str) -> Result<Vec<String>, AllocError>
+    ensures { IfOk result (λ words. map string_bytes words.items ≡ first.now ∷ second.now ∷ []) }
+{
+    let mut words = list_of(alloc, first)?;
+    let second = String::from_str(alloc, second)?;
+    words.push(second)?;
+    Ok(words)
+}
+
+// The words of a command, of which a `-` parts two.
+fn words_of(alloc: Global, command: &str) -> Result<Vec<String>, AllocError> {
+    match command.split_once('-') {
+        Some((first, second)) => pair_of(alloc, first, second),
+        None => list_of(alloc, command),
+    }
+}
+
 /// Runs the command on the script in memory, and compares its status and text with those wanted.
 pub fn run<R: Threads + Sync>(
     rt: &R,
@@ -32,7 +50,7 @@ pub fn run<R: Threads + Sync>(
     wanted: u8,
     answer: &[u8],
 ) -> Result<Outcome, Memory> {
-    let words = list_of(alloc, command)?;
+    let words = words_of(alloc, command)?;
     let mut source = MemSource::new(script, PIECE, Vec::new(alloc));
     let mut sink = MemSink::new(alloc, ROOM, PIECE, Vec::new(alloc))?;
     let status = speck(rt, alloc, &FreeGate, &words, &mut source, &mut sink);

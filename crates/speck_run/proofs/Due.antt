@@ -10,14 +10,17 @@ use Rattle.line_reader.specs.declared.cause.Cause.{Cause}
 use Rattle.script_reader.specs.Readings.{First_fault}
 use Rattle.load_maker.specs.Loads.{load_text}
 use Rattle.speck_run.specs.declared.words.Command.{Command}
-use Rattle.speck_run.specs.declared.words.Command.TheVariants.{Replay, Trace, Draw, Run, Plain, Print, Ends, Sched, Check, Origins}
+use Rattle.speck_run.specs.declared.words.Command.TheVariants.{Replay, Trace, Draw, Run, Plain, Print, Ends, Sched, Check, Origins, Explain}
+use Rattle.explain_run.specs.line_forms.specs.declared.context.Reading.{Reading}
+use Rattle.explain_run.specs.line_forms.specs.declared.context.Reading.TheVariants as reading
 use Rattle.speck_run.specs.declared.answers.Answer.{Answer}
 use Rattle.speck_run.specs.declared.top.Status.{Status}
 use Rattle.speck_run.specs.declared.top.Status.TheVariants.{Done, Words, Script, ReadFault, WriteFault, Memory, TooLong, Stopped}
 use Rattle.whole_ends.specs.Ends.{GivesAll}
 use Rattle.speck_run.specs.Script.{read_by, MadeBy, IsFaultOf, AreInput}
-use Rattle.speck_run.specs.Top.{CommandLine, texts_of, word_of, Asked, Asks, AsksNumber, HasNumber, AsksMake, AsksLoad, IsCommand}
-use Rattle.speck_run.specs.Top.{IsMake, IsLoad, IsUnderstood, IsNumberOf, IsNumberIn, IsDue, IsDueOf, IsSummary, IsDone}
+use Rattle.speck_run.specs.Top.{CommandLine, texts_of, subject_of, words_of, Asked, Asks, AsksNumber, HasNumber, AsksMake, AsksLoad}
+use Rattle.speck_run.specs.Top.{IsReadingOf, IsExplainedAfter, IsCommand, IsMake, IsLoad, IsUnderstood, IsNumberOf, IsNumberIn, IsDue}
+use Rattle.speck_run.specs.Top.{IsDueOf, IsSummary, IsDone}
 use Rattle.speck_run.specs.Top.{InputMakes, CarriesOut, IsStatusOf, Answers, IsAccepted, Writes, InputRuns, Finishes}
 
 same_fault : {A : Type 0} (f g : First_fault) (r : Result A First_fault) → r ≡ Err f → r ≡ Err g → f ≡ g
@@ -27,17 +30,30 @@ same_fault f g r p q = cc
 is_word : List (List ℕ) → List ℕ → Bool
 is_word texts word = pointwise (λ x y. pointwise eqb x y) texts (word ∷ [])
 
+is_pair : List (List ℕ) → List ℕ → Bool
+is_pair texts subject = pointwise (λ x y. pointwise eqb x y) texts (codes "explain" ∷ subject ∷ [])
+
+explained : List (List ℕ) → Option Command
+explained texts = if is_pair texts (codes "print") then Some (Explain reading.Script)
+    else if is_pair texts (codes "ends") then Some (Explain reading.Ends)
+    else if is_pair texts (codes "sched") then Some (Explain reading.Sched)
+    else if is_pair texts (codes "check") then Some (Explain reading.History) else None
+
 told : List (List ℕ) → Option Command
 told texts = if is_word texts (codes "replay") then Some Replay else if is_word texts (codes "trace") then Some Trace
     else if is_word texts (codes "draw") then Some Draw
     else if is_word texts (codes "run") then Some Run else if is_word texts (codes "plain") then Some Plain
     else if is_word texts (codes "print") then Some Print else if is_word texts (codes "ends") then Some Ends
     else if is_word texts (codes "sched") then Some Sched else if is_word texts (codes "check") then Some Check
-    else if is_word texts (codes "origins") then Some Origins else None
+    else if is_word texts (codes "origins") then Some Origins else explained texts
 
-told_word : (command : Command) → told (word_of command ∷ []) ≡ Some command
-unfolding told is_word
+told_word : (command : Command) → told (words_of command) ≡ Some command
+unfolding told is_word explained is_pair
 told_word Replay = refl
+told_word (Explain reading.Script) = refl
+told_word (Explain reading.Ends) = refl
+told_word (Explain reading.Sched) = refl
+told_word (Explain reading.History) = refl
 told_word command = refl
 
 asks_told : (words : CommandLine) (command : Command) → Asks words command → told (texts_of words) ≡ Some command
@@ -49,13 +65,37 @@ some_same a b e = cc
 pub asks_same : (words : CommandLine) (a b : Command) → Asks words a → Asks words b → a ≡ b
 asks_same words a b p q = some_same a b (sym (asks_told words a p) ∙ asks_told words b q)
 
--- Words that ask for a command that takes a script are one, and those that ask for the script of a number are two.
-one_word : (words : CommandLine) (command : Command) → Asks words command → length (texts_of words) ≡ 1
-one_word words command p = ap length p
+-- Words that ask for something of a number are two, and those of a command are one, or begin with another word.
+first_letter : List (List ℕ) → ℕ
+first_letter texts = get_or (get_or texts 0 []) 0 0
 
-asks_apart : (name : List ℕ) (words : CommandLine) (command : Command) → Asks words command → HasNumber name words → ⊥
-asks_apart name words command asks m = let one : length (texts_of words) ≡ 1 = one_word words command asks in
-    let two : length (texts_of words) ≡ 2 = ap length m.asks.asks in omega arith
+explain_apart : (name digits subject : List ℕ) (texts : List (List ℕ)) → texts ≡ codes "explain" ∷ subject ∷ []
+    → texts ≡ name ∷ digits ∷ [] → (get_or name 0 0 ≡ 101 → ⊥) → ⊥
+unfolding first_letter
+explain_apart name digits subject texts p q other = other (sym (ap first_letter q) ∙ ap first_letter p)
+
+one_apart : (name digits word : List ℕ) (texts : List (List ℕ)) → texts ≡ word ∷ [] → texts ≡ name ∷ digits ∷ [] → ⊥
+one_apart name digits word texts p q = let one : length texts ≡ 1 = ap length p in let two : length texts ≡ 2 = ap length q in omega arith
+
+asks_apart : (name : List ℕ) (words : CommandLine) (command : Command) → (get_or name 0 0 ≡ 101 → ⊥) → Asks words command
+    → HasNumber name words → ⊥
+asks_apart name words (Explain r) other asks m = explain_apart name m.asks.digits (subject_of r) (texts_of words) asks m.asks.asks other
+asks_apart name words Replay other asks m = one_apart name m.asks.digits _ (texts_of words) asks m.asks.asks
+asks_apart name words Trace other asks m = one_apart name m.asks.digits _ (texts_of words) asks m.asks.asks
+asks_apart name words Draw other asks m = one_apart name m.asks.digits _ (texts_of words) asks m.asks.asks
+asks_apart name words Run other asks m = one_apart name m.asks.digits _ (texts_of words) asks m.asks.asks
+asks_apart name words Plain other asks m = one_apart name m.asks.digits _ (texts_of words) asks m.asks.asks
+asks_apart name words Print other asks m = one_apart name m.asks.digits _ (texts_of words) asks m.asks.asks
+asks_apart name words Ends other asks m = one_apart name m.asks.digits _ (texts_of words) asks m.asks.asks
+asks_apart name words Sched other asks m = one_apart name m.asks.digits _ (texts_of words) asks m.asks.asks
+asks_apart name words Check other asks m = one_apart name m.asks.digits _ (texts_of words) asks m.asks.asks
+asks_apart name words Origins other asks m = one_apart name m.asks.digits _ (texts_of words) asks m.asks.asks
+
+no_make : get_or (codes "make") 0 0 ≡ 101 → ⊥
+no_make e = let same : 109 ≡ 101 = e in omega (arith, same)
+
+no_load : get_or (codes "load") 0 0 ≡ 101 → ⊥
+no_load e = let same : 108 ≡ 101 = e in omega (arith, same)
 
 -- They ask for one number.
 second_same : (v w x y : List ℕ) → v ∷ x ∷ [] ≡ w ∷ y ∷ [] → x ≡ y
@@ -72,15 +112,18 @@ number_told name words digits None e h = λ m.
     let same : digits ≡ m.asks.digits = second_same _ _ _ _ (sym e ∙ m.asks.asks) in
     h m.number (ap number_of same ∙ m.asks.says) m.asks.range
 
+-- What is to be explained of such words is told by the second.
+pub reading_told : (name : List ℕ) (words : CommandLine) (subject : List ℕ) (o : Option Reading)
+    → texts_of words ≡ name ∷ subject ∷ [] → IsReadingOf subject o → IsExplainedAfter name words o
+reading_told name words subject (Some r) e h = e ∙ ap (λ x. name ∷ x ∷ []) h
+reading_told name words subject None e h = λ r m. h r (second_same _ _ _ _ (sym e ∙ m))
+
 numbers_same : (name : List ℕ) (words : CommandLine) (m n : ℕ) → AsksNumber name words m → AsksNumber name words n → m ≡ n
 numbers_same name words m n p q =
     let digits : p.digits ≡ q.digits = second_same _ _ _ _ (sym p.asks ∙ q.asks) in
     number_same (number_of p.digits) m n p.says (ap number_of digits ∙ q.says)
 
 -- And for one thing.
-first_letter : List (List ℕ) → ℕ
-first_letter texts = get_or (get_or texts 0 []) 0 0
-
 make_apart : (words : CommandLine) → IsMake words → IsLoad words → ⊥
 unfolding first_letter
 make_apart words m l =
@@ -205,9 +248,9 @@ module _ (words : CommandLine) (command : Command) (asks : Asks words command) w
   makes_as left left' f f' text (inl d) =
       subst (λ (c : Command). InputMakes (MadeBy c) left left' text) (asks_same words d.command command d.asks asks) d.makes
   makes_as left left' f f' text (inr (inl d)) =
-      absurd (asks_apart (codes "make") words command asks record { number = d.number; asks = d.asks })
+      absurd (asks_apart (codes "make") words command no_make asks record { number = d.number; asks = d.asks })
   makes_as left left' f f' text (inr (inr d)) =
-      absurd (asks_apart (codes "load") words command asks record { number = d.number; asks = d.asks })
+      absurd (asks_apart (codes "load") words command no_load asks record { number = d.number; asks = d.asks })
 
   -- What is due for an input that the source tells.
   status_due : (left : List ℕ) (left' : Option (List ℕ)) (f f' : ℕ) (s : Status) (text : List ℕ) →
@@ -313,20 +356,20 @@ stops_run a s text d e = (subst (λ (due : Status). IsDue a due text) e d).0
 
 -- Words that ask for no number's script and no number's summary, and for no command, ask for nothing.
 pub nothing_asked : (words : CommandLine) → (IsCommand words → ⊥) → (IsMake words → ⊥) → (IsLoad words → ⊥) → IsUnderstood words → ⊥
-nothing_asked words no_command no_make no_load (inl c) = no_command c
-nothing_asked words no_command no_make no_load (inr (inl m)) = no_make m
-nothing_asked words no_command no_make no_load (inr (inr l)) = no_load l
+nothing_asked words command make load (inl c) = command c
+nothing_asked words command make load (inr (inl m)) = make m
+nothing_asked words command make load (inr (inr l)) = load l
 
 -- Words that ask for something of a number ask for no command.
-no_command : (name : List ℕ) (words : CommandLine) → HasNumber name words → IsCommand words → ⊥
-no_command name words m c = asks_apart name words c.command c.asks m
+no_command : (name : List ℕ) (words : CommandLine) → (get_or name 0 0 ≡ 101 → ⊥) → HasNumber name words → IsCommand words → ⊥
+no_command name words other m c = asks_apart name words c.command other c.asks m
 
 module _ (words : CommandLine) (number : ℕ) (asks : AsksMake words number) where
   understood : IsMake words
   understood = record { number = number; asks = asks }
 
   apart : IsCommand words → ⊥
-  apart = no_command (codes "make") words understood
+  apart = no_command (codes "make") words no_make understood
 
   not_load : IsLoad words → ⊥
   not_load = make_apart words understood
@@ -351,7 +394,7 @@ module _ (words : CommandLine) (number : ℕ) (asks : AsksLoad words number) whe
   sums_up = record { number = number; asks = asks }
 
   no_script : IsCommand words → ⊥
-  no_script = no_command (codes "load") words sums_up
+  no_script = no_command (codes "load") words no_load sums_up
 
   same_load : (n : ℕ) → AsksLoad words n → n ≡ number
   same_load n other = numbers_same (codes "load") words n number other asks

@@ -16,6 +16,9 @@ bytes_own : (xs : List ℕ) → pointwise eqb xs xs ≡ true
 bytes_own [] = refl
 bytes_own (x ∷ xs) = and_from (eqb x x) (pointwise eqb xs xs) (eq-eqb x x refl) (bytes_own xs)
 
+pub same_bytes : (xs ys : List ℕ) (b : Bool) → b ≡ pointwise eqb xs ys → (b ≡ true → xs ≡ ys) × (xs ≡ ys → b ≡ true)
+same_bytes xs ys b test = (λ t. bytes_same xs ys (sym test ∙ t), λ same. test ∙ ap (pointwise eqb xs) (sym same) ∙ bytes_own xs)
+
 head_inj : (x y : List ℕ) (xs ys : List (List ℕ)) → x ∷ xs ≡ y ∷ ys → x ≡ y
 head_inj x y xs ys h = cc
 

@@ -9,6 +9,7 @@ use Rattle.draw_run.specs.GivenDrawing.{GivenDrawing}
 use Rattle.origins_run.specs.GivenOrigins.{GivenOrigins}
 use Rattle.check_run.specs.history_reader.specs.Inputs.{History, history_of}
 use Rattle.check_run.specs.Checked.{IsJudged}
+use Rattle.explain_run.specs.Explained.{IsExplained}
 use Rattle.line_reader.specs.declared.cause.Cause.{Cause}
 use Rattle.script_reader.specs.Readings.{Meaning, First_fault, script_of}
 use Rattle.script_printer.specs.Printing.{printed}
@@ -16,7 +17,7 @@ use Rattle.ends_reader.specs.Inputs.{Input, input_of}
 use Rattle.one_core.specs.sched_reader.specs.Inputs.{Input as Sched_input, input_of as sched_input_of}
 use Rattle.one_core.specs.Scheduled.{SchedTrace}
 use Rattle.speck_run.specs.declared.words.Command.{Command}
-use Rattle.speck_run.specs.declared.words.Command.TheVariants.{Replay, Trace, Draw, Run, Plain, Print, Ends, Sched, Check, Origins}
+use Rattle.speck_run.specs.declared.words.Command.TheVariants.{Replay, Trace, Draw, Run, Plain, Print, Ends, Sched, Check, Origins, Explain}
 use Rattle.speck_run.specs.Ends.{EndsText}
 
 -- The bytes are this script.
@@ -38,11 +39,13 @@ pub record IsMade {I : Type 0} (read : List ℕ → Result I First_fault) (Is : 
   pub is_input : read bytes ≡ Ok input
   pub is_text : Is input text
 
--- What a command takes: `ends` a script with endpoint calls, `sched` one with tasks, `check` a given history, each other a script.
+-- What a command takes: `ends` a script with endpoint calls, `sched` one with tasks, `check` a given history, `explain` any bytes, each
+-- other a script.
 abbrev pub InputOf : Command → Type 0
 InputOf Ends = Input
 InputOf Sched = Sched_input
 InputOf Check = History
+InputOf (Explain reading) = List ℕ
 InputOf command = Meaning
 
 -- What bytes are under a command, or their first fault.
@@ -50,11 +53,13 @@ abbrev pub read_by : (command : Command) → List ℕ → Result (InputOf comman
 read_by Ends bytes = input_of bytes
 read_by Sched bytes = sched_input_of bytes
 read_by Check bytes = history_of bytes
+read_by (Explain reading) bytes = Ok bytes
 read_by command bytes = script_of bytes
 
 -- What a command makes of what it takes: `replay` the text of given steps, `trace` that of each of them, `draw` the picture of them,
 -- `run` the text of taken ones, `plain` that of its calls made alone, `print` the printed form, `ends` that of lists and of endpoint
--- calls after them, `sched` that of the schedule of its tasks, `check` that of the verdict, `origins` the origins after given steps.
+-- calls after them, `sched` that of the schedule of its tasks, `check` that of the verdict, `origins` the origins after given steps,
+-- `explain` what is told of what another command would read.
 abbrev pub IsAnswer : (command : Command) → InputOf command → List ℕ → Type 0
 IsAnswer Replay script text = GivenSteps script.setup script.lists script.order text
 IsAnswer Trace script text = GivenTrace script.version script.setup script.lists script.order text
@@ -66,6 +71,7 @@ IsAnswer Ends input text = EndsText input.script.setup input.script.lists input.
 IsAnswer Sched input text = SchedTrace input text
 IsAnswer Check history text = IsJudged history text
 IsAnswer Origins script text = GivenOrigins script.setup script.lists script.order text
+IsAnswer (Explain reading) bytes text = IsExplained reading bytes text
 
 -- The command makes calls by threads, and asks the gate.
 abbrev pub UsesThreads : Command → Type 0

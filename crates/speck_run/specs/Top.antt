@@ -6,9 +6,11 @@ use Rattle.byte_ends.specs.Ends.{HasRisen, Adds}
 use Rattle.line_reader.specs.declared.cause.Cause.{Cause}
 use Rattle.line_reader.specs.Causes.{cause_text}
 use Rattle.line_reader.specs.Numerals.{number_of}
+use Rattle.explain_run.specs.line_forms.specs.declared.context.Reading.{Reading}
+use Rattle.explain_run.specs.line_forms.specs.declared.context.Reading.TheVariants as reading
 use Rattle.load_maker.specs.Loads.{script_made, load_text}
 use Rattle.speck_run.specs.declared.words.Command.{Command}
-use Rattle.speck_run.specs.declared.words.Command.TheVariants.{Replay, Trace, Draw, Run, Plain, Print, Ends, Sched, Check, Origins}
+use Rattle.speck_run.specs.declared.words.Command.TheVariants.{Replay, Trace, Draw, Run, Plain, Print, Ends, Sched, Check, Origins, Explain}
 use Rattle.speck_run.specs.declared.top.Status.{Status}
 use Rattle.speck_run.specs.declared.top.Status.TheVariants.{Done, Words, Script, ReadFault, WriteFault, Memory, TooLong, Stopped}
 use Rattle.whole_ends.specs.Ends.{Gives, GivesAll, AddsFront}
@@ -22,22 +24,40 @@ CommandLine = Vec (String Global)
 abbrev pub texts_of : CommandLine → List (List ℕ)
 texts_of words = map (λ word. string_bytes word) words.items
 
--- The word of a command.
-abbrev pub word_of : Command → List ℕ
-word_of Replay = codes "replay"
-word_of Trace = codes "trace"
-word_of Draw = codes "draw"
-word_of Run = codes "run"
-word_of Plain = codes "plain"
-word_of Print = codes "print"
-word_of Ends = codes "ends"
-word_of Sched = codes "sched"
-word_of Check = codes "check"
-word_of Origins = codes "origins"
+-- The word of the command that reads such bytes.
+abbrev pub subject_of : Reading → List ℕ
+subject_of reading.Script = codes "print"
+subject_of reading.Ends = codes "ends"
+subject_of reading.Sched = codes "sched"
+subject_of reading.History = codes "check"
 
--- The words ask for the command: they are its word alone.
+-- The words of a command.
+abbrev pub words_of : Command → List (List ℕ)
+words_of Replay = codes "replay" ∷ []
+words_of Trace = codes "trace" ∷ []
+words_of Draw = codes "draw" ∷ []
+words_of Run = codes "run" ∷ []
+words_of Plain = codes "plain" ∷ []
+words_of Print = codes "print" ∷ []
+words_of Ends = codes "ends" ∷ []
+words_of Sched = codes "sched" ∷ []
+words_of Check = codes "check" ∷ []
+words_of Origins = codes "origins" ∷ []
+words_of (Explain r) = codes "explain" ∷ subject_of r ∷ []
+
+-- The words ask for the command: they are its words.
 abbrev pub Asks : CommandLine → Command → Type 0
-Asks words command = texts_of words ≡ word_of command ∷ []
+Asks words command = texts_of words ≡ words_of command
+
+-- What the command of that word reads, or none where no command of that word is explained.
+abbrev pub IsReadingOf : List ℕ → Option Reading → Type 0
+IsReadingOf word (Some r) = word ≡ subject_of r
+IsReadingOf word None = (r : Reading) → word ≡ subject_of r → ⊥
+
+-- The words are this one and that of the command that reads such bytes, or no such words.
+abbrev pub IsExplainedAfter : List ℕ → CommandLine → Option Reading → Type 0
+IsExplainedAfter name words (Some r) = texts_of words ≡ name ∷ subject_of r ∷ []
+IsExplainedAfter name words None = (r : Reading) → texts_of words ≡ name ∷ subject_of r ∷ [] → ⊥
 
 -- The words ask for something of a number: this word, and the number, from 0 to 4,294,967,295, as a script writes numbers.
 pub record AsksNumber (name : List ℕ) (words : CommandLine) (number : ℕ) : Type 0 where

@@ -14,6 +14,7 @@ use check_run::check;
 use draw_run::draw;
 use ends_reader::read_ends;
 use ends_run::core_runs::Gate;
+use explain_run::{Reading, explain};
 use one_core::run_sched;
 use origins_run::origins;
 use plain_run::plain;
@@ -210,6 +211,18 @@ fn judge_origins(alloc: Global, bytes: &[u8]) -> Result<Answer, Memory>
     Ok(made(text))
 }
 
+// What is due under `explain`.
+fn judge_explain(alloc: Global, reading: Reading, bytes: &[u8]) -> Result<Answer, Memory>
+    requires { length bytes.now ≤ 1048576 }
+    ensures due { IfOk result (λ answer. IsDueOf (commands.Explain reading) bytes.now answer.status (string_bytes answer.text)) }
+    ensures free { IfOk result (λ answer. answer.status ≡ Status.Stopped → ⊥) }
+{
+    match explain(alloc, reading, bytes) {
+        Ok(text) => Ok(made(text)),
+        Err(_) => Err(Memory),
+    }
+}
+
 /// What is due for an input that was read to its end.
 pub fn judge_input<R: Threads + Sync, G: Gate>(
     rt: &R,
@@ -233,5 +246,6 @@ pub fn judge_input<R: Threads + Sync, G: Gate>(
         Command::Sched => judge_sched(alloc, bytes),
         Command::Check => judge_history(alloc, bytes),
         Command::Origins => judge_origins(alloc, bytes),
+        Command::Explain(reading) => judge_explain(alloc, reading, bytes),
     }
 }

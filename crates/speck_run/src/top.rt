@@ -1,6 +1,6 @@
 //! The top call: words, then reading, then the script, then writing.
 
-ghost use Rattle.std.specs.Prelude.{◌≡◌, ℕ, ◌<◌, ◌⊎◌, true, IfOk, string_bytes};
+ghost use Rattle.std.specs.Prelude.{◌≡◌, ℕ, ◌<◌, ◌⊎◌, true, IfOk, Ok, string_bytes};
 ghost use Rattle.byte_ends.specs.Ends.{HasRisen, Adds};
 ghost use Rattle.trace_run.specs.lone_kernel.specs.kernel_history.specs.Order.{list_of};
 ghost use Rattle.trace_run.specs.lone_kernel.specs.kernel_history.specs.Text.{plain_text};
@@ -16,6 +16,8 @@ ghost use Rattle.one_core.specs.Scheduled.{SchedTrace};
 ghost use Rattle.check_run.specs.history_reader.specs.Inputs.{history_of};
 ghost use Rattle.check_run.specs.Checked.{IsJudged};
 ghost use Rattle.origins_run.specs.GivenOrigins.{GivenOrigins};
+ghost use Rattle.explain_run.specs.Explained.{IsExplained};
+ghost use Rattle.explain_run.specs.line_forms.specs.declared.context.Reading.{Reading};
 ghost use Rattle.load_maker.specs.Loads.{load_text};
 ghost use Rattle.speck_run.specs.declared.words.Command.{Command};
 ghost use Rattle.speck_run.specs.declared.words.Command.TheVariants as commands;
@@ -173,9 +175,9 @@ fn finish<K: Sink>(sink: &mut K, answer: &Answer) -> Status
 /// the sink.
 ///
 /// Words other than `replay`, `trace`, `draw`, `run`, `plain`, `print`, `ends`, `sched`, `check` or `origins` alone,
-/// and `make` and `load` with a number from 0 to 4,294,967,295, are `Words`, and nothing is read. Under `make` and `load` nothing is read
-/// either, and the status is `Done`: `make` writes the text of the number's script, and `load` takes
-/// the steps of that script as `replay` does and writes their summary.
+/// `explain` with `print`, `ends`, `sched` or `check`, and `make` and `load` with a number from 0 to 4,294,967,295, are
+/// `Words`, and nothing is read. Under `make` and `load` nothing is read either, and the status is `Done`: `make` writes the
+/// text of the number's script, and `load` takes the steps of that script as `replay` does and writes their summary.
 /// A source that fails is `ReadFault`, and one that gives a byte past 1,048,576 is `TooLong`; no more
 /// than that byte is taken. An input that is no script is `Script`, with its first fault. Under
 /// `replay` and `run` the script's steps are taken and their text is written, the reply lines and
@@ -197,7 +199,8 @@ fn finish<K: Sink>(sink: &mut K, answer: &Answer) -> Status
 /// task, and the status is `Done`. Under `check` the input is a given history; its verdict is written,
 /// and the status is `Done`, whatever the verdict. Under `origins` the steps are taken as under
 /// `replay`; a line for each link of each capability that is held in the end is written, and the status
-/// is `Done`. Each of the other statuses writes its line in place
+/// is `Done`. Under `explain` what is told of the input of the command that is named is written, and the status
+/// is `Done`, also where that command would refuse it. Each of the other statuses writes its line in place
 /// of the text. A sink that fails is `WriteFault`, and holds a prefix of what was due. `Memory` may
 /// come in place of any status, and has written nothing. No read and no write that failed is tried
 /// again.
@@ -240,6 +243,8 @@ pub fn speck<R: Threads + Sync, G: Gate, S: Source, K: Sink>(
     ensures origins { Asks words.now commands.Origins → result ≡ Status.Done
         → CarriesOut (IsMade script_of (λ script text. GivenOrigins script.setup script.lists script.order text))
         (S.left source.old) (S.left source.new) (K.held sink.old) (K.held sink.new) }
+    ensures explain { (reading : Reading) → Asks words.now (commands.Explain reading) → result ≡ Status.Done
+        → CarriesOut (IsMade Ok (IsExplained reading)) (S.left source.old) (S.left source.new) (K.held sink.old) (K.held sink.new) }
     ensures make { (number : ℕ) → AsksMake words.now number → result ≡ Status.Done
         → Adds (load_text number) (K.held sink.old) (K.held sink.new) }
     ensures load { (number : ℕ) → AsksLoad words.now number → result ≡ Status.Done

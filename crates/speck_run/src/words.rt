@@ -1,8 +1,9 @@
 //! The commands, and the words by which they are asked.
 
 ghost use Rattle.std.specs.Prelude.{◌≡◌, [], ◌∷◌, ◌↔◌, IsTrue, codes};
-ghost use Rattle.speck_run.specs.Top.{IsCommandOf, IsNumberOf, IsNumberIn, texts_of};
+ghost use Rattle.speck_run.specs.Top.{IsCommandOf, IsReadingOf, IsExplainedAfter, IsNumberOf, IsNumberIn, texts_of};
 
+use explain_run::Reading;
 use script_reader::read_number;
 
 /// A command of the program that takes an input.
@@ -28,6 +29,8 @@ pub enum Command {
     Check,
     /// Takes given steps of a script, and writes where each capability came from that is held in the end.
     Origins,
+    /// Reads what another command reads, and writes what to do where that would be refused.
+    Explain(Reading),
 }
 
 // Whether the words are this one alone.
@@ -40,7 +43,43 @@ fn is_alone(words: &Vec<String>, name: &str) -> bool
     }
 }
 
-/// The command whose word the words are, alone; none for other words.
+// Whether two words are one.
+fn is_same(word: &str, name: &str) -> bool
+    ensures { IsTrue result ↔ (word.now ≡ name.now) }
+{
+    word == name
+}
+
+// What the command of a word reads, where it is one that is explained.
+fn reading_of(word: &str) -> Option<Reading>
+    ensures { IsReadingOf word.now result }
+{
+    if is_same(word, "print") {
+        return Some(Reading::Script);
+    }
+    if is_same(word, "ends") {
+        return Some(Reading::Ends);
+    }
+    if is_same(word, "sched") {
+        return Some(Reading::Sched);
+    }
+    if is_same(word, "check") {
+        return Some(Reading::History);
+    }
+    None
+}
+
+// What is to be explained, where the words are this one and that of such a command.
+fn explained_after(words: &Vec<String>, name: &str) -> Option<Reading>
+    ensures { IsExplainedAfter name.now words.now result }
+{
+    match words.as_slice() {
+        [word, subject] if word.as_str() == name => reading_of(subject.as_str()),
+        _ => None,
+    }
+}
+
+/// The command that the words ask for; none for other words.
 pub fn command_of(words: &Vec<String>) -> Option<Command>
     ensures { IsCommandOf words.now result }
 {
@@ -74,7 +113,10 @@ pub fn command_of(words: &Vec<String>) -> Option<Command>
     if is_alone(words, "origins") {
         return Some(Command::Origins);
     }
-    None
+    match explained_after(words, "explain") {
+        Some(reading) => Some(Command::Explain(reading)),
+        None => None,
+    }
 }
 
 // The number from 0 to 4,294,967,295 that a word stands for; none for another word.

@@ -1,0 +1,19 @@
+-- What is told of bytes that are read, and of bytes that are refused.
+use Rattle.std.proofs.Common.{◌≡◌, ℕ, List, IfOk, Result, Ok, Err, inl, inr}
+use Rattle.std.specs.Prelude.{String, string_bytes}
+use Rattle.std.specs.Global.{Global}
+use Rattle.line_reader.specs.declared.cause.Cause.{Cause}
+use Rattle.line_reader.specs.Lines.{First_fault}
+use Rattle.line_forms.specs.declared.context.Reading.{Reading}
+use Rattle.fault_texts.specs.Told.{fault_text}
+use Rattle.explain_run.specs.Explained.{accepted_text, IsAccepted, IsTold}
+
+pub read_told : {I : Type 0} (read : Result I First_fault) (input : I) (r : Reading) (source text : List ℕ) → read ≡ Ok input
+    → text ≡ accepted_text r → IsTold read (IsAccepted r) r source text
+read_told read input r source text is told = inl record { input = input; is_input = is; tells = told }
+
+pub refusal_told : {I E : Type 0} (read : Result I First_fault) (Tells : I → List ℕ → Type 0) (r : Reading) (source : List ℕ)
+    (line : ℕ) (cause : Cause) (res : Result (String Global) E) → read ≡ Err (record { line = line; cause = cause })
+    → IfOk res (λ t. string_bytes t ≡ fault_text r source line cause) → IfOk res (λ t. IsTold read Tells r source (string_bytes t))
+refusal_told read Tells r source line cause (Ok t) is told = inr record { line = line; cause = cause; is_fault = is; told = told }
+refusal_told read Tells r source line cause (Err e) is told = tt

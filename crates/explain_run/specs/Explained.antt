@@ -1,0 +1,47 @@
+-- What the command `explain` writes.
+use Rattle.std.specs.Prelude.{◌≡◌, ◌⊎◌, ℕ, List, Result, Ok, Err, codes}
+use Rattle.line_reader.specs.declared.cause.Cause.{Cause}
+use Rattle.line_reader.specs.Lines.{First_fault}
+use Rattle.script_reader.specs.Readings.{script_of}
+use Rattle.ends_reader.specs.Inputs.{input_of}
+use Rattle.sched_reader.specs.Inputs.{input_of as sched_input_of}
+use Rattle.check_run.specs.history_reader.specs.Inputs.{History, history_of}
+use Rattle.check_run.specs.Checked.{IsJudged}
+use Rattle.line_forms.specs.declared.context.Reading.{Reading}
+use Rattle.line_forms.specs.declared.context.Reading.TheVariants as reading
+use Rattle.fault_texts.specs.Told.{fault_text}
+
+-- the line that tells that bytes are read
+abbrev pub accepted_text : Reading → List ℕ
+accepted_text reading.Script = codes "accepted: a script\n"
+accepted_text reading.Ends = codes "accepted: a script with endpoint calls\n"
+accepted_text reading.Sched = codes "accepted: a script of one core with tasks\n"
+accepted_text reading.History = codes "accepted: a given history\n"
+
+-- the bytes are read, and the text is this of what they say
+pub record IsRead {I : Type 0} (read : Result I First_fault) (Tells : I → List ℕ → Type 0) (text : List ℕ) : Type 0 where
+  pub input : I
+  pub is_input : read ≡ Ok input
+  pub tells : Tells input text
+
+-- the bytes are refused, and the text is that of their first fault
+pub record IsRefused {I : Type 0} (read : Result I First_fault) (r : Reading) (source text : List ℕ) : Type 0 where
+  pub line : ℕ
+  pub cause : Cause
+  pub is_fault : read ≡ Err (record { line = line; cause = cause })
+  pub told : text ≡ fault_text r source line cause
+
+-- the text is this of what the bytes say, or that of their first fault
+abbrev pub IsTold : {I : Type 0} → Result I First_fault → (I → List ℕ → Type 0) → Reading → List ℕ → List ℕ → Type 0
+IsTold read Tells r source text = IsRead read Tells text ⊎ IsRefused read r source text
+
+-- that they are read
+abbrev pub IsAccepted : {I : Type 0} → Reading → I → List ℕ → Type 0
+IsAccepted r input text = text ≡ accepted_text r
+
+-- what is told of bytes, by what they are to be
+abbrev pub IsExplained : Reading → List ℕ → List ℕ → Type 0
+IsExplained reading.Script source text = IsTold (script_of source) (IsAccepted reading.Script) reading.Script source text
+IsExplained reading.Ends source text = IsTold (input_of source) (IsAccepted reading.Ends) reading.Ends source text
+IsExplained reading.Sched source text = IsTold (sched_input_of source) (IsAccepted reading.Sched) reading.Sched source text
+IsExplained reading.History source text = IsTold (history_of source) IsJudged reading.History source text

@@ -1,0 +1,4 @@
+pub mod Appended
+pub mod BadBytes
+pub mod Misfits
+pub mod Telling

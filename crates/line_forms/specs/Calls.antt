@@ -1,0 +1,102 @@
+-- What may stand at each place of a call. Places are counted from its word on, and the words are those of the line from there on.
+use Rattle.std.specs.Prelude.{ℕ, ◌==◌, ◌&&◌, nat_le, List, Bool, false, Option, Some, None, slice_get, codes, if◌then◌else◌}
+use Rattle.line_reader.specs.Arguments.{is_word}
+use Rattle.call_reader.specs.declared.first_words.Verb.{Verb}
+use Rattle.call_reader.specs.declared.first_words.Verb.TheVariants as verb
+use Rattle.call_reader.specs.declared.first_words.FirstWord.{FirstWord}
+use Rattle.call_reader.specs.declared.first_words.FirstWord.TheVariants.{Call}
+use Rattle.call_reader.specs.FirstWords.{first_word}
+use Rattle.line_forms.specs.declared.slots.Slot.{Slot}
+use Rattle.line_forms.specs.declared.slots.Slot.TheVariants.{Number, MayNumber, FrameKind, Object, Verb as verb_slot_of, End}
+use Rattle.line_forms.specs.Slots.{name, names, number_then}
+
+abbrev pub is_name : List ℕ → Option (List ℕ) → Bool
+is_name text None = false
+is_name text (Some word) = is_word word text
+
+-- the word at a place is this one
+abbrev pub is_at : List (List ℕ) → ℕ → List ℕ → Bool
+is_at words place text = is_name text (slice_get words place)
+
+abbrev pub verb_in : Option FirstWord → Option Verb
+verb_in (Some (Call v)) = Some v
+verb_in _ = None
+
+-- the word of a call that a word is
+abbrev pub verb_of : List ℕ → Option Verb
+verb_of word = verb_in (first_word word)
+
+-- `copy A T B`, and in version 2 also `copy A T B R`
+abbrev pub copy_slot : ℕ → ℕ → Slot
+copy_slot version place = if place == 4 && version == 2 then MayNumber 0 3 else names place 3
+
+-- `retype R F K`
+abbrev pub retype_slot : ℕ → Slot
+retype_slot place = if place == 3 then FrameKind else names place 2
+
+-- `map P V R F W`
+abbrev pub map_slot : ℕ → Slot
+map_slot place = if nat_le place 4 then name else number_then place 5 0 3
+
+-- `transfer A B M` and `delegate A B M`
+abbrev pub moved_slot : ℕ → Slot
+moved_slot place = if nat_le place 2 then name else number_then place 3 0 4000000000
+
+-- after `make tcap R F T B`: `S W`
+abbrev pub tcap_slot : ℕ → Slot
+tcap_slot place = if place == 6 then Number 0 63 else number_then place 7 1 16777215
+
+-- after `make comp R F T B`: `X P L`
+abbrev pub comp_slot : ℕ → Slot
+comp_slot place = if nat_le place 7 then name else number_then place 8 0 63
+
+-- after `make O R F T B`
+abbrev pub object_slot : List (List ℕ) → ℕ → Slot
+object_slot words place =
+    if is_at words 1 (codes "thread") then names place 6
+    else (if is_at words 1 (codes "tcap") then tcap_slot place
+    else (if is_at words 1 (codes "comp") then comp_slot place
+    else End))
+
+-- `make O R F T B`, and the arguments of the object
+abbrev pub make_slot : List (List ℕ) → ℕ → Slot
+make_slot words place =
+    if nat_le place 1 then Object
+    else (if nat_le place 5 then name
+    else object_slot words place)
+
+-- the arguments of a call, from place 1 on
+abbrev pub verb_slot : ℕ → Verb → List (List ℕ) → ℕ → Slot
+verb_slot version verb.Flush words place = End
+verb_slot version verb.Ret words place = End
+verb_slot version verb.Look words place = names place 1
+verb_slot version verb.Touch words place = names place 1
+verb_slot version verb.Kill words place = names place 1
+verb_slot version verb.Call words place = names place 1
+verb_slot version verb.Remove words place = names place 2
+verb_slot version verb.Shrink words place = names place 2
+verb_slot version verb.Unmap words place = names place 2
+verb_slot version verb.Switch words place = names place 2
+verb_slot version verb.Test words place = names place 2
+verb_slot version verb.Grow words place = names place 3
+verb_slot version verb.Gate words place = names place 3
+verb_slot version verb.Copy words place = copy_slot version place
+verb_slot version verb.Retype words place = retype_slot place
+verb_slot version verb.Make words place = make_slot words place
+verb_slot version verb.Map words place = map_slot place
+verb_slot version verb.Tick words place = number_then place 1 0 1000000
+verb_slot version verb.Transfer words place = moved_slot place
+verb_slot version verb.Delegate words place = moved_slot place
+
+abbrev pub slot_by : ℕ → Option Verb → List (List ℕ) → ℕ → Slot
+slot_by version None words place = End
+slot_by version (Some v) words place = verb_slot version v words place
+
+abbrev pub slot_of_word : ℕ → Option (List ℕ) → List (List ℕ) → ℕ → Slot
+slot_of_word version None words place = End
+slot_of_word version (Some word) words place = slot_by version (verb_of word) words place
+
+-- what may stand at a place of a call
+abbrev pub call_slot : ℕ → List (List ℕ) → ℕ → Slot
+call_slot version words place =
+    if place == 0 then verb_slot_of else slot_of_word version (slice_get words 0) words place

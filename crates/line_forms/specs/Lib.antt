@@ -1,0 +1,11 @@
+pub mod Numbered
+pub mod Slots
+pub mod Starts
+pub mod Contexts
+pub mod Calls
+pub mod Replies
+pub mod Firsts
+pub mod Lines
+pub mod Fitting
+pub mod Forms
+pub mod Texts

@@ -1,0 +1,122 @@
+-- What may stand at each place of a line.
+use Rattle.std.specs.Prelude.{ℕ, ◌+◌, ◌*◌, ◌-◌, ◌==◌, not, nat_le, nat_lt, List, [], ◌∷◌, drop, Bool, true, false, Option, Some, None}
+use Rattle.std.specs.Prelude.{codes, if◌then◌else◌}
+use Rattle.line_reader.specs.Arguments.{is_word}
+use Rattle.call_reader.specs.declared.first_words.FirstWord.{FirstWord}
+use Rattle.call_reader.specs.declared.first_words.FirstWord.TheVariants as first
+use Rattle.line_forms.specs.declared.context.Reading.{Reading}
+use Rattle.line_forms.specs.declared.context.Reading.TheVariants as reading
+use Rattle.line_forms.specs.declared.context.Stage.{Stage}
+use Rattle.line_forms.specs.declared.context.Stage.TheVariants as stage
+use Rattle.line_forms.specs.declared.context.Context.{Context}
+use Rattle.line_forms.specs.declared.starts.Start.{Start}
+use Rattle.line_forms.specs.declared.starts.Start.TheVariants as start
+use Rattle.line_forms.specs.declared.slots.Slot.{Slot}
+use Rattle.line_forms.specs.declared.slots.Slot.TheVariants.{First, Number, Core, Item, Equals, End}
+use Rattle.line_forms.specs.Slots.{name, names, number_then, core_then, fits_end}
+use Rattle.line_forms.specs.Starts.{start_of}
+use Rattle.line_forms.specs.Calls.{call_slot}
+use Rattle.line_forms.specs.Replies.{reply_slot}
+
+-- `sched S U`
+abbrev pub sched_slot : ℕ → Slot
+sched_slot place = if place == 1 then Number 0 63 else number_then place 2 1 1000000
+
+-- `task H Q A N`
+abbrev pub task_slot : ℕ → Slot
+task_slot place =
+    if nat_le place 2 then name
+    else (if place == 3 then Number 0 1000000
+    else number_then place 4 1 10000)
+
+-- `grant B S W`
+abbrev pub grant_slot : ℕ → Slot
+grant_slot place =
+    if place == 1 then Number 0 500000000
+    else (if place == 2 then Number 0 63
+    else number_then place 3 1 16777215)
+
+-- the most cores of a script
+abbrev pub cores_most : Reading → ℕ
+cores_most reading.Sched = 1
+cores_most _ = 8
+
+-- the least frames of a script
+abbrev pub least_frames : ℕ → ℕ
+least_frames cores = 4 + 2 * cores
+
+-- a line of a script, from place 1 on
+abbrev pub head_slot : Context → FirstWord → List (List ℕ) → ℕ → Slot
+head_slot context first.Speck words place = number_then place 1 1 2
+head_slot context first.Cores words place = number_then place 1 1 (cores_most context.reading)
+head_slot context first.Frames words place = number_then place 1 (least_frames context.cores) 512
+head_slot context first.Grant words place = grant_slot place
+head_slot context first.Calls words place = number_then place 1 0 4194304
+head_slot context first.Epochs words place = number_then place 1 1 65535
+head_slot context first.Core words place = core_then place 1 context.cores
+head_slot context first.Order words place = End
+head_slot context (first.Call v) words place = call_slot context.version words place
+
+-- how many words stand before the first `=`
+abbrev pub before_equals : List (List ℕ) → ℕ
+before_equals [] = 0
+before_equals (w ∷ ws) = if is_word w (codes "=") then 0 else before_equals ws + 1
+
+-- where the call of a line ends: `=`, unless the call wants a word more
+abbrev pub close_slot : Slot → Slot
+close_slot slot = if fits_end slot then Equals else slot
+
+-- `C.I CALL = REPLY`, where `equals` words stand before the `=`; from place 1 on
+abbrev pub whole_slot : Context → List (List ℕ) → ℕ → ℕ → Slot
+whole_slot context words equals place =
+    if nat_lt place equals then call_slot context.version (drop 1 words) (place - 1)
+    else (if place == equals then close_slot (call_slot context.version (drop 1 words) (place - 1))
+    else reply_slot (drop 1 (drop equals words)) context.cores (place - equals - 1))
+
+-- `enter C CALL`
+abbrev pub enter_slot : Context → List (List ℕ) → ℕ → Slot
+enter_slot context words place =
+    if place == 1 then Core context.cores else call_slot context.version (drop 2 words) (place - 2)
+
+-- `decide C REPLY`
+abbrev pub decide_slot : Context → List (List ℕ) → ℕ → Slot
+decide_slot context words place =
+    if place == 1 then Core context.cores else reply_slot (drop 2 words) context.cores (place - 2)
+
+-- a line that begins so, from place 1 on
+abbrev pub slot_after : Context → Start → List (List ℕ) → ℕ → Slot
+slot_after context (start.Head f) words place = head_slot context f words place
+slot_after context start.Ends words place = End
+slot_after context start.Send words place = names place 1
+slot_after context start.Recv words place = names place 1
+slot_after context start.Sched words place = sched_slot place
+slot_after context start.Task words place = task_slot place
+slot_after context start.Enter words place = enter_slot context words place
+slot_after context start.Decide words place = decide_slot context words place
+slot_after context start.Return words place = core_then place 1 context.cores
+slot_after context start.Whole words place = whole_slot context words (before_equals words) place
+
+-- a line that ends the order items begins so
+abbrev pub ends_order : Option Start → Bool
+ends_order (Some start.Ends) = true
+ends_order (Some start.Sched) = true
+ends_order _ = false
+
+-- the line is one of order items
+abbrev pub is_items : Stage → Option Start → Bool
+is_items stage.Order s = not (ends_order s)
+is_items _ s = false
+
+abbrev pub slot_by : Context → Option Start → List (List ℕ) → ℕ → Slot
+slot_by context None words place = End
+slot_by context (Some s) words place = slot_after context s words place
+
+abbrev pub slot_in : Context → Option Start → List (List ℕ) → ℕ → Slot
+slot_in context s words place =
+    if is_items context.stage s then Item context.cores
+    else (if place == 0 then First
+    else slot_by context s words place)
+
+-- what may stand at a place of a line
+abbrev pub slot_at : Context → List (List ℕ) → ℕ → Slot
+slot_at context words place = slot_in context (start_of context.reading context.stage words) words place

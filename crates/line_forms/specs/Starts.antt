@@ -1,0 +1,65 @@
+-- The words with which a line may begin.
+use Rattle.std.specs.Prelude.{ℕ, List, Option, Some, None, slice_get, codes, if◌then◌else◌}
+use Rattle.std.specs.Option.{option_and_then}
+use Rattle.line_reader.specs.Arguments.{is_word}
+use Rattle.call_reader.specs.declared.first_words.FirstWord.{FirstWord}
+use Rattle.call_reader.specs.declared.first_words.FirstWord.TheVariants as first
+use Rattle.call_reader.specs.FirstWords.{first_word}
+use Rattle.line_forms.specs.declared.context.Reading.{Reading}
+use Rattle.line_forms.specs.declared.context.Reading.TheVariants as reading
+use Rattle.line_forms.specs.declared.context.Stage.{Stage}
+use Rattle.line_forms.specs.declared.context.Stage.TheVariants as stage
+use Rattle.line_forms.specs.declared.starts.Start.{Start}
+use Rattle.line_forms.specs.declared.starts.Start.TheVariants.{Head, Ends, Send, Recv, Sched, Task, Enter, Decide, Return, Whole}
+use Rattle.line_forms.specs.Numbered.{is_numbered}
+
+abbrev pub head_start : Option FirstWord → Option Start
+head_start None = None
+head_start (Some f) = Some (Head f)
+
+-- after the line `ends`
+unfoldable pub ask_start : List ℕ → Option Start
+ask_start word =
+    if is_word word (codes "core") then Some (Head first.Core)
+    else (if is_word word (codes "send") then Some Send
+    else (if is_word word (codes "recv") then Some Recv
+    else None))
+
+-- what `ends` reads
+unfoldable pub ends_start : Stage → List ℕ → Option Start
+ends_start stage.Asks word = ask_start word
+ends_start stage.AskList word = ask_start word
+ends_start _ word = if is_word word (codes "ends") then Some Ends else head_start (first_word word)
+
+-- what `sched` reads
+unfoldable pub sched_start : Stage → List ℕ → Option Start
+sched_start stage.Tasks word = if is_word word (codes "task") then Some Task else None
+sched_start _ word = if is_word word (codes "sched") then Some Sched else head_start (first_word word)
+
+-- the words of the head of a given history
+abbrev pub given_head : Option FirstWord → Option Start
+given_head None = None
+given_head (Some first.Core) = None
+given_head (Some first.Order) = None
+given_head (Some (first.Call verb)) = None
+given_head (Some f) = Some (Head f)
+
+-- what `check` reads
+unfoldable pub history_start : List ℕ → Option Start
+history_start word =
+    if is_word word (codes "enter") then Some Enter
+    else (if is_word word (codes "decide") then Some Decide
+    else (if is_word word (codes "return") then Some Return
+    else (if is_numbered word then Some Whole
+    else given_head (first_word word))))
+
+-- the known first word that a word is
+abbrev pub start_in : Reading → Stage → List ℕ → Option Start
+start_in reading.Script s word = head_start (first_word word)
+start_in reading.Ends s word = ends_start s word
+start_in reading.Sched s word = sched_start s word
+start_in reading.History s word = history_start word
+
+-- the known first word of a line, if it has one
+abbrev pub start_of : Reading → Stage → List (List ℕ) → Option Start
+start_of r s words = option_and_then (start_in r s) (slice_get words 0)

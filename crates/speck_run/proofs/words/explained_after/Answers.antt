@@ -1,0 +1,31 @@
+use Rattle.std.proofs.Common.{◌≡◌, ◌∙◌, true, sym, ap, subst, length, get_or, arith, eqb}
+use Rattle.std.specs.Prelude.{string_bytes}
+use lib.Pointwise.{pointwise}
+use Rattle.speck_run.specs.Top.{IsReadingOf, subject_of}
+use Rattle.speck_run.proofs.Due.{reading_told}
+use Rattle.speck_run.proofs.OneWord.{first_word, two_words}
+use Rattle.speck_run.proofs.words.explained_after.Goals as goal
+
+pub returns-in-len2 : goal.returns-in-len2
+returns-in-len2 c =
+    let words = c.args.words.now in
+    let s = c.as_slice.ensures.value in
+    let two : length words.items ≡ 2 = let l = ap length s in
+    let a = c.in-len2.len_at_least in let b = c.in-len2.len_below in omega arith in
+    let first = c.word-item.is ∙ ap (λ l. get_or l 0 c.word-item.result) s in
+    let second = c.subject-item.is ∙ ap (λ l. get_or l 1 c.subject-item.result) s in
+    let test : true ≡ pointwise eqb (string_bytes c.word-item.result) c.args.name.now =
+    sym c.if-eq.true ∙ c.eq.ensures ∙ ap (λ l. pointwise eqb l c.args.name.now) c.as_str.ensures.value in
+    reading_told c.args.name.now words (string_bytes c.subject-item.result) c.reading_of.result
+    (two_words (λ w. string_bytes w) words.items c.word-item.result c.subject-item.result c.args.name.now two first second test)
+    (subst (λ subject. IsReadingOf subject c.reading_of.result) c.as_str-in-len2.ensures.value c.reading_of.ensures)
+
+pub returns-in_default-2 : goal.returns-in_default-2
+returns-in_default-2 c = λ r h.
+    let words = c.args.words.now in
+    let first = c.word-item.is ∙ ap (λ l. get_or l 0 c.word-item.result) c.as_slice.ensures.value in
+    let same : c.eq.result ≡ true =
+    c.eq.ensures ∙ ap (λ l. pointwise eqb l c.args.name.now) c.as_str.ensures.value
+    ∙ first_word (λ w. string_bytes w) words.items c.word-item.result c.args.name.now (subject_of r) first h in
+    let other = c.if-eq.false in
+    cc
