@@ -1,8 +1,9 @@
 -- What is drawn of a trace by one who watches it.
-use Rattle.std.specs.Prelude.{◌≡◌}
+use Rattle.std.specs.Prelude.{◌≡◌, ℕ}
+use Rattle.spk_nums.specs.Setting.{Setting}
 use Rattle.told_run.specs.lone_kernel.specs.kernel_history.specs.Trace.{Trace}
-use Rattle.trace_drawing.specs.Pictures.{Picture, blank, pictured}
+use Rattle.page_drawing.specs.Pages.{Page, blank, page_after}
 
--- After a picture of nothing, the trace is drawn.
-abbrev pub has_drawn : Picture → Trace → Picture → Type 0
-has_drawn first t last = first ≡ blank → last ≡ pictured t
+-- After a blank page, the page that is asked for of the trace.
+abbrev pub has_drawn : Setting → Page → Trace → Page → Type 0
+has_drawn setup first t last = (wanted : ℕ) → first ≡ blank wanted setup → last ≡ page_after wanted setup t

@@ -7,13 +7,13 @@ use Rattle.told_run.specs.lone_kernel.specs.kernel_history.specs.Trace.{Trace}
 use Rattle.told_run.specs.lone_kernel.specs.kernel_history.specs.Order.{HasCalls, Follows}
 use Rattle.told_run.specs.lone_kernel.specs.flight.specs.Made.{ready_after}
 use Rattle.told_run.specs.lone_kernel.specs.flight_laws.specs.Histories.{IsHistory}
-use Rattle.trace_drawing.specs.Pictures.{drawing}
+use Rattle.page_drawing.specs.Pictures.{picture}
 
 -- There is one trace that is a history of the machine, has the calls of the lists once and in order, follows the order, and of which
--- this text is the drawing.
-pub record GivenDrawing (setup : Setting) (lists : List (List Call)) (items : List Item) (text : List ℕ) : Type 0 where
+-- this text is the picture of this page.
+pub record GivenDrawing (page : ℕ) (setup : Setting) (lists : List (List Call)) (items : List Item) (text : List ℕ) : Type 0 where
   pub trace : Trace
   pub history : IsHistory setup trace
   pub calls : HasCalls lists trace
   pub order : Follows (ready_after setup) lists items trace
-  pub is_drawing : text ≡ drawing setup trace
+  pub is_picture : text ≡ picture page setup trace

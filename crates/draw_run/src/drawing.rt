@@ -1,52 +1,53 @@
-//! The picture of a trace, as a watcher of its steps.
+//! The picture of a page of a trace, as a watcher of its steps.
 ghost use Rattle.std.specs.Prelude.{◌≡◌, IfOk, string_bytes};
-ghost use Rattle.trace_drawing.specs.Pictures.{blank, picture_text};
+ghost use Rattle.page_drawing.specs.Pages.{blank};
+ghost use Rattle.page_drawing.specs.Pictures.{text_of};
 
+use page_drawing::{StepMade, TracePage};
 use spk_nums::Setup;
 use std::alloc::{AllocError, Global};
 use std::marker::Model;
 use told_run::Watcher;
-use trace_drawing::{StepMade, TracePicture};
 
-/// The picture of the steps that it was told, one after another.
+/// The page of the steps that it was told, one after another.
 #[derive(Drop)]
 pub struct Drawing {
-    picture: TracePicture,
+    page: TracePage,
 }
 
 impl Model for Drawing {
-    ghost use Rattle.trace_drawing.specs.Pictures.{Picture};
+    ghost use Rattle.page_drawing.specs.Pages.{Page};
 
-    ghost Value = { Picture };
+    ghost Value = { Page };
 
-    ghost view = { λ d. d.picture };
+    ghost view = { λ d. d.page };
 }
 
 impl Drawing {
-    /// A picture of no step.
-    pub fn begin(alloc: Global) -> Drawing
-        ensures { result ≡ blank }
+    /// This page, of no step, in a machine of this setup. It fails only where memory runs out.
+    pub fn begin(alloc: Global, page: u32, setup: &Setup) -> Result<Drawing, AllocError>
+        ensures { IfOk result (λ d. d ≡ blank page setup.now) }
     {
-        Drawing {
-            picture: TracePicture::new(alloc),
-        }
+        let page = TracePage::new(alloc, page, setup)?;
+        Ok(Drawing { page })
     }
 
-    /// The text of the picture, in a machine of this setup. It fails only where memory runs out.
-    pub fn text(&self, alloc: Global, setup: &Setup) -> Result<String, AllocError>
-        ensures { IfOk result (λ text. string_bytes text ≡ picture_text setup.now.cores self.now) }
+    /// The text of the picture. It fails only where memory runs out.
+    pub fn into_text(self, alloc: Global) -> Result<String, AllocError>
+        ensures { IfOk result (λ text. string_bytes text ≡ text_of self) }
     {
-        self.picture.text(alloc, setup)
+        let Drawing { page } = self;
+        page.into_text(alloc)
     }
 }
 
 impl Watcher for Drawing {
     ghost use Rattle.draw_run.specs.Drawn.{has_drawn};
 
-    ghost has_seen = { λ setup first t last. has_drawn first t last };
+    ghost has_seen = { λ setup first t last. has_drawn setup first t last };
 
     fn tell(&mut self, made: &StepMade) -> Result<(), AllocError> {
-        self.picture.tell(made)?;
+        self.page.tell(made)?;
         Ok(())
     }
 }

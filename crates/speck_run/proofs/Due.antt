@@ -1,5 +1,5 @@
 -- What is due is the status that the input has.
-use Rattle.std.proofs.Common.{◌≡◌, ◌⊎◌, ℕ, List, [], ◌∷◌, Option, Some, None, Result, Ok, Err}
+use Rattle.std.proofs.Common.{◌≡◌, ◌≢◌, ◌⊎◌, ℕ, List, [], ◌∷◌, Option, Some, None, Result, Ok, Err}
 use Rattle.std.proofs.Common.{Bool, IfOk, refl, sym, ap, subst, ◌∙◌, arith, inl, inr, eqb, get_or}
 use Rattle.std.specs.Prelude.{◌≤◌, if◌then◌else◌, length, codes, string_bytes}
 use lib.Pointwise.{pointwise}
@@ -26,7 +26,7 @@ use Rattle.speck_run.specs.Top.{InputMakes, CarriesOut, IsStatusOf, Answers, IsA
 same_fault : {A : Type 0} (f g : First_fault) (r : Result A First_fault) → r ≡ Err f → r ≡ Err g → f ≡ g
 same_fault f g r p q = cc
 
--- The words are those of one command: the one that their text tells.
+-- The words are those of one command: the one that their text tells. Of `draw` it tells the word alone.
 is_word : List (List ℕ) → List ℕ → Bool
 is_word texts word = pointwise (λ x y. pointwise eqb x y) texts (word ∷ [])
 
@@ -41,7 +41,7 @@ explained texts = if is_pair texts (codes "print") then Some (Explain reading.Sc
 
 told : List (List ℕ) → Option Command
 told texts = if is_word texts (codes "replay") then Some Replay else if is_word texts (codes "trace") then Some Trace
-    else if is_word texts (codes "draw") then Some Draw
+    else if is_word texts (codes "draw") then Some (Draw 1)
     else if is_word texts (codes "run") then Some Run else if is_word texts (codes "plain") then Some Plain
     else if is_word texts (codes "print") then Some Print else if is_word texts (codes "ends") then Some Ends
     else if is_word texts (codes "sched") then Some Sched else if is_word texts (codes "check") then Some Check
@@ -62,8 +62,9 @@ asks_told words command p = ap told p ∙ told_word command
 some_same : (a b : Command) → Some a ≡ Some b → a ≡ b
 some_same a b e = cc
 
-pub asks_same : (words : CommandLine) (a b : Command) → Asks words a → Asks words b → a ≡ b
-asks_same words a b p q = some_same a b (sym (asks_told words a p) ∙ asks_told words b q)
+-- The letter with which the words begin.
+first_letter : List (List ℕ) → ℕ
+first_letter texts = get_or (get_or texts 0 []) 0 0
 
 -- Words that ask for something of a number are two, and those of a command are one, or begin with another word.
 first_letter : List (List ℕ) → ℕ

@@ -56,14 +56,14 @@ read_by Check bytes = history_of bytes
 read_by (Explain reading) bytes = Ok bytes
 read_by command bytes = script_of bytes
 
--- What a command makes of what it takes: `replay` the text of given steps, `trace` that of each of them, `draw` the picture of them,
+-- What a command makes of what it takes: `replay` the text of given steps, `trace` that of each of them, `draw` the picture of a page,
 -- `run` the text of taken ones, `plain` that of its calls made alone, `print` the printed form, `ends` that of lists and of endpoint
 -- calls after them, `sched` that of the schedule of its tasks, `check` that of the verdict, `origins` the origins after given steps,
 -- `explain` what is told of what another command would read.
 abbrev pub IsAnswer : (command : Command) → InputOf command → List ℕ → Type 0
 IsAnswer Replay script text = GivenSteps script.setup script.lists script.order text
 IsAnswer Trace script text = GivenTrace script.version script.setup script.lists script.order text
-IsAnswer Draw script text = GivenDrawing script.setup script.lists script.order text
+IsAnswer (Draw page) script text = GivenDrawing page script.setup script.lists script.order text
 IsAnswer Run script text = TakenSteps script.setup script.lists text
 IsAnswer Plain script text = text ≡ plain_text script.setup (list_of script.lists)
 IsAnswer Print script text = text ≡ printed script

@@ -66,6 +66,16 @@ pub record AsksNumber (name : List ℕ) (words : CommandLine) (number : ℕ) : T
   pub says : number_of digits ≡ Some number
   pub range : number < 2 ^ 32
 
+-- The words ask for a page of a drawing: they are `draw` alone, for the first, or `draw` and the page's number, at least 1.
+abbrev pub AsksPage : CommandLine → ℕ → Type 0
+AsksPage words page =
+    ((texts_of words ≡ codes "draw" ∷ []) × (page ≡ 1)) ⊎ (AsksNumber (codes "draw") words page × (1 ≤ page))
+
+-- The words ask for the command: they are its word alone; `draw` may have the number of a page after it.
+abbrev pub Asks : CommandLine → Command → Type 0
+Asks words (Draw page) = AsksPage words page
+Asks words command = texts_of words ≡ word_of command ∷ []
+
 -- The words ask for it of some number.
 pub record HasNumber (name : List ℕ) (words : CommandLine) : Type 0 where
   pub number : ℕ
@@ -108,6 +118,11 @@ IsUnderstood words = IsCommand words ⊎ (IsMake words ⊎ IsLoad words)
 abbrev pub IsCommandOf : CommandLine → Option Command → Type 0
 IsCommandOf words (Some command) = Asks words command
 IsCommandOf words None = IsCommand words → ⊥
+
+-- The command to draw a page of which the words give the number, or none where they give none.
+abbrev pub IsPageOf : CommandLine → Option Command → Type 0
+IsPageOf words (Some command) = Asks words command
+IsPageOf words None = (page : ℕ) → AsksNumber (codes "draw") words page → 1 ≤ page → ⊥
 
 -- The source has given its input to the end, at most 1,048,576 bytes, and the text is this of it.
 pub record InputMakes (Made : List ℕ → List ℕ → Type 0) (left left' : Option (List ℕ)) (text : List ℕ) : Type 0 where

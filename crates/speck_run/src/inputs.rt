@@ -67,10 +67,10 @@ fn judge_trace(alloc: Global, bytes: &[u8]) -> Result<Answer, Memory>
     Ok(made(text))
 }
 
-// What is due under `draw`.
-fn judge_draw(alloc: Global, bytes: &[u8]) -> Result<Answer, Memory>
+// What is due under `draw`, of this page.
+fn judge_draw(alloc: Global, page: u32, bytes: &[u8]) -> Result<Answer, Memory>
     requires { length bytes.now ≤ 1048576 }
-    ensures due { IfOk result (λ answer. IsDueOf commands.Draw bytes.now answer.status (string_bytes answer.text)) }
+    ensures due { IfOk result (λ answer. IsDueOf (commands.Draw page) bytes.now answer.status (string_bytes answer.text)) }
     ensures free { IfOk result (λ answer. answer.status ≡ Status.Stopped → ⊥) }
 {
     let script = match read(alloc, bytes) {
@@ -84,7 +84,7 @@ fn judge_draw(alloc: Global, bytes: &[u8]) -> Result<Answer, Memory>
         lists,
         order,
     } = script;
-    let text = draw(alloc, &setup, lists, &order)?;
+    let text = draw(alloc, page, &setup, lists, &order)?;
     Ok(made(text))
 }
 
@@ -238,7 +238,7 @@ pub fn judge_input<R: Threads + Sync, G: Gate>(
     match command {
         Command::Replay => judge_replay(alloc, bytes),
         Command::Trace => judge_trace(alloc, bytes),
-        Command::Draw => judge_draw(alloc, bytes),
+        Command::Draw { page } => judge_draw(alloc, page, bytes),
         Command::Run => judge_run(rt, alloc, gate, bytes),
         Command::Plain => judge_plain(alloc, bytes),
         Command::Print => judge_print(alloc, bytes),

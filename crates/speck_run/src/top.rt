@@ -184,7 +184,8 @@ fn finish<K: Sink>(sink: &mut K, answer: &Answer) -> Status
 /// the tables, and the status is `Done`. Under `trace` the steps are taken as under `replay`; the head
 /// of the script is written and then a line for each event with the steps since the line before, and
 /// the status is `Done`.
-/// Under `draw` they are taken so too, and a picture of them is written, as SVG, and the status is `Done`.
+/// Under `draw` they are taken so too, and a picture of a page of them is written, as SVG, the first or the one of the number, and the
+/// status is `Done`; a page past the end is a picture of one sentence.
 /// `run` makes each core's calls in a thread of its own
 /// where one can be made, and asks the gate before each call: where the gate stops a core, which a
 /// free one never does, the status is `Stopped` and nothing is written. Under `plain` the calls of
@@ -219,8 +220,8 @@ pub fn speck<R: Threads + Sync, G: Gate, S: Source, K: Sink>(
     ensures trace { Asks words.now commands.Trace → result ≡ Status.Done
         → CarriesOut (IsMade script_of (λ script text. GivenTrace script.version script.setup script.lists script.order text))
         (S.left source.old) (S.left source.new) (K.held sink.old) (K.held sink.new) }
-    ensures draw { Asks words.now commands.Draw → result ≡ Status.Done
-        → CarriesOut (IsMade script_of (λ script text. GivenDrawing script.setup script.lists script.order text))
+    ensures draw { (page : ℕ) → Asks words.now (commands.Draw page) → result ≡ Status.Done
+        → CarriesOut (IsMade script_of (λ script text. GivenDrawing page script.setup script.lists script.order text))
         (S.left source.old) (S.left source.new) (K.held sink.old) (K.held sink.new) }
     ensures run { Asks words.now commands.Run → result ≡ Status.Done
         → CarriesOut (IsMade script_of (λ script text. TakenSteps script.setup script.lists text))

@@ -13,8 +13,11 @@ pub enum Command {
     Replay,
     /// Takes given steps of a script, and writes each of them.
     Trace,
-    /// Takes given steps of a script, and writes a picture of them.
-    Draw,
+    /// Takes given steps of a script, and writes a picture of a page of them; pages count from 1.
+    Draw {
+        /// The page.
+        page: u32,
+    },
     /// Makes the lists of a script, each core in a thread of its own, and writes what they did.
     Run,
     /// Makes the calls of a script alone, core 0's first, and writes what they did.
@@ -90,7 +93,7 @@ pub fn command_of(words: &Vec<String>) -> Option<Command>
         return Some(Command::Trace);
     }
     if is_alone(words, "draw") {
-        return Some(Command::Draw);
+        return Some(Command::Draw { page: 1 });
     }
     if is_alone(words, "run") {
         return Some(Command::Run);

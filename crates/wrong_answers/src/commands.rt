@@ -86,8 +86,8 @@ pub fn draws<R: Threads + Sync, G: Gate, S: Source, K: Sink>(
     sink: &mut K,
 ) -> Status
     requires { Asks _others.now commands.Trace }
-    ensures { Asks words.now commands.Draw → result ≡ Status.Done
-        → CarriesOut (IsMade script_of (λ script text. GivenDrawing script.setup script.lists script.order text))
+    ensures { (page : ℕ) → Asks words.now (commands.Draw page) → result ≡ Status.Done
+        → CarriesOut (IsMade script_of (λ script text. GivenDrawing page script.setup script.lists script.order text))
         (S.left source.old) (S.left source.new) (K.held sink.old) (K.held sink.new) }
 {
     let draws = words;

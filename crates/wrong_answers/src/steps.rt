@@ -42,9 +42,10 @@ pub fn trace(
     trace_run::trace(alloc, version, setup, lists, items)
 }
 
-/// The picture of the trace that the order makes, as `draw` writes it.
+/// The picture of a page of the trace that the order makes, as `draw` writes it.
 pub fn draw(
     alloc: Global,
+    page: u32,
     setup: &Setup,
     lists: Vec<Vec<Call>>,
     items: &[Item],
@@ -52,9 +53,9 @@ pub fn draw(
     requires can_run { AreLists (map (λ v. v.items) lists.items) }
     requires one_each { length lists.items ≡ setup.now.cores }
     requires named { All (λ item. item.core < setup.now.cores) items.now }
-    ensures { IfOk result (λ text. GivenDrawing setup.now (map (λ v. v.items) lists.items) items.now (string_bytes text)) }
+    ensures { IfOk result (λ text. GivenDrawing page setup.now (map (λ v. v.items) lists.items) items.now (string_bytes text)) }
 {
-    draw_run::draw(alloc, setup, lists, items)
+    draw_run::draw(alloc, page, setup, lists, items)
 }
 
 /// The origins of what is held after the steps of the order, as `origins` writes them.

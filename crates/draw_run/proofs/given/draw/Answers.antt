@@ -4,5 +4,5 @@ use Rattle.draw_run.proofs.given.draw.Goals as goal
 
 pub returns : goal.returns
 returns c =
-    given c.args.setup.now (map (λ v. v.items) c.args.lists.items) c.args.items.now c.begin-drawing.result
-    c.watch.new.watcher _ c.begin-drawing.ensures c.in_ok-text.ensures (c.in_ok-watch.ensures (λ begun. begun))
+    given c.args.page c.args.setup.now (map (λ v. v.items) c.args.lists.items) c.args.items.now c.in_ok-drawing.drawing
+    c.watch.new.watcher _ c.in_ok-drawing.ensures c.in_ok-text.ensures (c.in_ok-watch.ensures (λ wanted begun. begun))

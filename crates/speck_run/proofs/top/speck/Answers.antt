@@ -19,8 +19,8 @@ returns-in-Ok-clause-trace g c asks done =
     _ _ (g.K.Sink.held c.args.sink.now) _ c.finish.result c.in-Ok.ensures.due c.finish.ensures done
 
 pub returns-in-Ok-clause-draw : goal.returns-in-Ok-clause-draw
-returns-in-Ok-clause-draw g c asks done =
-    carries c.args.words.now commands.Draw asks (g.S.Source.left c.args.source.now) _ _ _ c.in-Ok.answer.status _
+returns-in-Ok-clause-draw g c page asks done =
+    carries c.args.words.now (commands.Draw page) asks (g.S.Source.left c.args.source.now) _ _ _ c.in-Ok.answer.status _
     _ _ (g.K.Sink.held c.args.sink.now) _ c.finish.result c.in-Ok.ensures.due c.finish.ensures done
 
 pub returns-in-Ok-clause-run : goal.returns-in-Ok-clause-run

@@ -1,0 +1,4 @@
+pub mod Feet
+pub mod Room
+pub mod Sound
+pub mod Views

@@ -1,0 +1,48 @@
+-- What a picture shows of a step.
+use Rattle.std.specs.Prelude.{ℕ, Option}
+use Rattle.spk_nums.specs.WordSteps.{place_in}
+use Rattle.spk_nums.specs.declared.calls.Call.{Call}
+use Rattle.spk_nums.specs.declared.replies.Reply.{Reply}
+use Rattle.step_views.specs.word_map.specs.Word.{Word}
+use Rattle.step_views.specs.word_map.specs.Places.{Shape, place_of}
+use Rattle.step_views.specs.word_map.specs.Moves.{word_of, left_of}
+use Rattle.step_views.specs.Names.{named}
+use Rattle.step_views.specs.declared.views.StepMade.{StepMade}
+use Rattle.kernel_history.specs.Trace.{Step}
+
+-- Its core; its word, by its place and its name; what it finds there and leaves; and its events.
+pub record Seen : Type 0 where
+  pub core : ℕ
+  pub place : ℕ
+  pub word : Word
+  pub found : ℕ
+  pub left : ℕ
+  pub enters : Option Call
+  pub decides : Option Reply
+  pub returns : Option Reply
+
+-- Of a step of a trace, in a machine of this shape.
+abbrev pub seen : Shape → Step → Seen
+seen shape e = record {
+  core = e.core;
+  place = place_of shape (word_of e.move);
+  word = word_of e.move;
+  found = e.found;
+  left = left_of e.move e.found;
+  enters = e.enters;
+  decides = e.decides;
+  returns = e.returns;
+}
+
+-- Of a step that was made.
+abbrev pub seen_made : StepMade → Seen
+seen_made made = record {
+  core = made.view.core;
+  place = place_in made.view.op;
+  word = named made.view.word;
+  found = made.view.found;
+  left = made.view.left;
+  enters = made.view.enters;
+  decides = made.decides;
+  returns = made.returns;
+}

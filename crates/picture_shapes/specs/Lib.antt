@@ -1,0 +1,4 @@
+pub mod Frame
+pub mod Bars
+pub mod Arrows
+pub mod Lines
