@@ -1,21 +1,9 @@
 //! What a lost race and a held word rest on: what calls have left in the words that they stepped on.
 
-ghost use Rattle.std.specs.Prelude.{◌↔◌, IsTrue};
-ghost use Rattle.stop_runs.specs.Causes.{IsLost, IsHeld};
-
 use crate::fault::Fault;
-use spk_nums::CoreNo;
 use std::alloc::Global;
 use step_views::{StepView, WordName};
-
-/// A call of a core, by its number among the calls that the core has begun.
-#[derive(Clone, Copy, Debug, PartialEq, Eq)]
-pub struct CallAt {
-    /// The core.
-    pub core: CoreNo,
-    /// The number.
-    pub number: usize,
-}
+use stop_causes::{CallAt, is_held, is_lost};
 
 /// A step that was made: its call, its word, what it left there, and whether that is another value than it found.
 #[derive(Clone, Copy, Debug, PartialEq, Eq)]
@@ -30,26 +18,6 @@ struct Past {
 #[derive(Drop)]
 pub struct Causes {
     past: Vec<Past>,
-}
-
-// Whether a call that last left this in a word, where it has stepped on it, has lost a race where it finds this there.
-fn is_lost(left: &Option<u64>, found: u64) -> bool
-    ensures { IsTrue result ↔ IsLost left.now found }
-{
-    match left {
-        Some(left) => *left != found,
-        None => false,
-    }
-}
-
-// Whether a word that was last changed by this call, if by any, is held by that call.
-fn is_held(changed: &Option<CallAt>, by: &CallAt) -> bool
-    ensures { IsTrue result ↔ IsHeld changed.now by.now }
-{
-    match changed {
-        Some(call) => *call == *by,
-        None => false,
-    }
 }
 
 impl Causes {

@@ -1,7 +1,7 @@
 //! The plain kernel, told the events of a trace in their order: that a call begins, its decision, and its return. Of each decision it
 //! is asked whether the definitions permit the reply, by the wide reach: any refusal whose own cause stands.
 
-use crate::causes::{CallAt, Causes};
+use crate::causes::Causes;
 use crate::fault::Fault;
 use call_judge::decide_by;
 use call_plans::bound;
@@ -9,6 +9,7 @@ use seq_state::SeqKernel;
 use spk_nums::{Call, CoreNo, Memory, Reply, Setup, in_limits};
 use std::alloc::Global;
 use step_views::{StepMade, StepView};
+use stop_causes::{CallAt, Progress};
 
 /// A call that a core is in.
 #[derive(Clone, Copy, Debug, PartialEq, Eq)]
@@ -146,6 +147,14 @@ impl Judge {
         );
         enter(&mut self.plain, core);
         Ok(())
+    }
+
+    /// How far the core is in its call, if it is in one.
+    pub fn progress(&self, core: CoreNo) -> Option<Progress> {
+        match self.seat(core).within {
+            Some(Within { made, bound, .. }) => Some(Progress { made, bound }),
+            None => None,
+        }
     }
 
     // The call that a core has begun last.

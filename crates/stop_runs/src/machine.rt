@@ -4,16 +4,16 @@ ghost use Rattle.std.specs.Prelude.{◌≡◌, ◌<◌, ◌^◌, ◌↔◌, ℕ,
 ghost use Rattle.spk_nums.specs.CallLimits.{InLimits};
 ghost use Rattle.lone_kernel.specs.Machine.{AreLists, core_at};
 ghost use Rattle.lone_kernel.specs.word_map.specs.Places.{size_of};
-ghost use Rattle.stop_runs.specs.Inside.{IsSo};
 ghost use Rattle.stop_runs.specs.Lists.{IsRunnable};
 
 use crate::fault::Fault;
-use crate::judge::{Judge, Within};
+use crate::judge::Judge;
 use lone_kernel::LoneKernel;
 use plain_tables::tables;
 use run_outcomes::are_due;
 use spk_nums::{Call, CoreNo, How, Item, Reply, Setup, in_limits};
 use std::alloc::Global;
+use stop_causes::is_so;
 use table_report::machine_image::image_of;
 use table_report::report;
 use table_report::word_map::Closed;
@@ -68,17 +68,6 @@ fn copied(alloc: Global, lists: &[Vec<Call>]) -> Result<Vec<Vec<Call>>, Fault> {
     Ok(copies)
 }
 
-// Whether what the machine says of a core is so, where the core is in this call, if in one.
-fn is_so(said: Option<u32>, within: &Option<Within>) -> bool
-    ensures { IsTrue result ↔ IsSo said within.now }
-{
-    match (said, within) {
-        (None, None) => true,
-        (Some(made), Some(within)) => made == within.made && made < within.bound,
-        _ => false,
-    }
-}
-
 // Whether no core is in a call.
 fn are_out(kernel: &LoneKernel) -> bool
     ensures { result ≡ true → (c : ℕ) → c < kernel.now.setup.cores → (core_at kernel.now c).active ≡ None }
@@ -115,7 +104,7 @@ impl Machine {
     fn check_inside(&self) -> Result<(), Fault> {
         for number in 0..self.kernel.setup().cores() {
             let core = CoreNo::new(number);
-            if !is_so(self.kernel.inside(core), &self.judge.seat(core).within) {
+            if !is_so(self.kernel.inside(core), &self.judge.progress(core)) {
                 return Err(Fault::Elsewhere(core));
             }
         }

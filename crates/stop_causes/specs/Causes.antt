@@ -1,6 +1,6 @@
 -- What a lost race and a held word rest on.
 use Rattle.std.specs.Prelude.{◌≡◌, ◌≢◌, ℕ, Option, Some, None}
-use Rattle.stop_runs.specs.declared.causes.CallAt.{CallAt}
+use Rattle.stop_causes.specs.declared.CallAt.{CallAt}
 
 -- A race is lost at a word that the call has stepped on before, where it finds another value than it had left there.
 abbrev pub IsLost : Option ℕ → ℕ → Type 0
