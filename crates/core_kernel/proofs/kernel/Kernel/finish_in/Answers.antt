@@ -31,7 +31,7 @@ pub close_in-requires-clause-room : goal.close_in-requires-clause-room
 close_in-requires-clause-room c =
     let setup = c.room.view_is ∙ c.requires.room in
     let cores = ap (λ (s : Setting). s.cores) setup in
-    let same = sym (length-map (seat_value c.self.inside.setup) c.turn_seats_of-given.result.items)
+    let same = sym (length-map c.turn_seats_of-given.result.items (seat_value c.self.inside.setup))
     ∙ ap length c.turn_seats_of-given.ensures.same in
     let count = c.requires.seats.count in
     let room = c.room.invariant.1.1.0.1 in omega arith
