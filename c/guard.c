@@ -220,8 +220,9 @@ uint8_t speck_core(struct speck_port *port) {
 }
 
 uint64_t speck_read(struct speck_text *text, uint8_t *bytes, size_t room) {
+    uint8_t none; /* a slice is never null, also where it is empty */
     if (!text || !enter(GUARD(text))) return 0;
-    uint64_t length = speck_inner_read(HELD(text), bytes, room);
+    uint64_t length = speck_inner_read(HELD(text), bytes ? bytes : &none, bytes ? room : 0);
     leave(GUARD(text));
     return length;
 }

@@ -140,6 +140,10 @@ int main(void) {
     tell("nine cores", speck_boot_with(&other, 32, 1, 1, grants, 9));
     tell("a scheduler past 63", speck_boot_with(&other, 32, 1, 1, grants, 1));
     grants[0].sched = 63;
+    grants[0].quality = 0;
+    tell("a quality of 0", speck_boot_with(&other, 32, 1, 1, grants, 1));
+    grants[0].quality = 1;
+    tell("booted by grants into a full slot", speck_boot_with(&machine, 32, 1, 1, grants, 1));
     tell("too many calls", speck_boot_with(&other, 32, 4194305, 0, grants, 1));
     tell("no epoch", speck_boot_with(&other, 32, 1, 0, grants, 1));
     tell("a send through what is no gate", speck_send(&port[0], 3).code);
@@ -166,11 +170,16 @@ int main(void) {
     tell("it is back", speck_take_back(&machine, &port[1]));
     tell("finished", speck_finish(&machine, &last));
     tell("finished once more", speck_finish(&machine, &last));
+    tell("finished with no machine", speck_finish(&machine, &other_last));
     tell("the other's into a full slot", speck_take_back(&other, &others) | speck_finish(&other, &last));
     tell("the other machine is still there", speck_finish(&other, &other_last));
     parts();
     tell("the text", speck_show(&last, &tables));
     tell("a text into a full slot", speck_show(&other_last, &tables));
+    uint8_t bytes[4096] = {0};
+    uint64_t length = speck_read(&tables, 0, sizeof bytes);
+    tell("its length, read to nowhere", length > 0 && length == speck_read(&tables, bytes, sizeof bytes) && bytes[length - 1] == '\n');
+    tell("the length of no text", (int)speck_read((struct speck_text *)&empty, bytes, sizeof bytes));
     tell("of a slot that holds nothing", speck_show((struct speck_final *)&empty, (struct speck_text *)&machine));
     return speck_free_text(&tables) | speck_free_final(&last) | speck_free_final(&other_last);
 }

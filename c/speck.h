@@ -67,7 +67,7 @@
  *
  *     struct speck_reply reply;
  *     for (;;) {
- *         reply = speck_map(port, 2, page, 0, frame, 1);
+ *         reply = speck_map(port, 2, page, 0, frame, SPECK_PAGE_WRITE);
  *         switch (reply.advice) {
  *         case SPECK_ADVICE_AGAIN:         continue;               a lost race: the call is made again, where it is still wanted
  *         case SPECK_ADVICE_AWAIT_RETURN:  sched_yield(); continue; core reply.n is to return from its call
@@ -207,9 +207,10 @@ enum {
     SPECK_KIND_PAGE = 10
 };
 
-/* The kinds of frames, for `speck_retype`, and the rights of a capability. */
+/* The kinds of frames, for `speck_retype`; the rights of a capability; the flags of a page, of which the kernel makes no use itself. */
 enum { SPECK_FRAME_UNTYPED = 0, SPECK_FRAME_USER = 1, SPECK_FRAME_KERNEL = 2 };
 enum { SPECK_RIGHT_COPY = 1, SPECK_RIGHT_USE = 2 };
+enum { SPECK_PAGE_WRITE = 1, SPECK_PAGE_EXECUTE = 2 };
 
 /* Machines: booted into an empty slot; the ports dealt into empty slots, core 0's first, and taken back in the same order; finished once
  * all are back, which empties the machine's slot and fills that of what it has left. Until then a machine that could not be finished is as it
@@ -275,17 +276,32 @@ uint8_t speck_read_cached(struct speck_final *last, uint8_t core, uint8_t place,
 /* The text of all this (docs/FORMATS.md), into an empty slot. */
 uint8_t speck_show(struct speck_final *last, struct speck_text *text);
 
-/* Copies the beginning of the text, as much as there is room for, and answers its whole length; 0 where no text is held. It ends with no
- * zero. `bytes` is not null, also where there is no room. */
+/* Copies the beginning of the text, as much as there is room for, and answers its whole length; 0 where no text is held, or the slot is in a call.
+ * It ends with no zero. Where `bytes` is null nothing is copied: so the length is had first. */
 uint64_t speck_read(struct speck_text *text, uint8_t *bytes, size_t room);
 
-/* The calls of a port's core, as docs/MODEL.md has them. */
+/* The calls of a port's core: docs/MODEL.md has the rule of each, docs/REPLIES.md what each refusal means. Each looks up its names in the
+ * capability table of the component in which the core works. */
+
+/* Capabilities. A look answers what stands under a number. A copy goes under the number `slot`, which holds nothing, of `table`, with those of
+ * the rights of the capability that are in `rights` (SPECK_RIGHT_..). What is removed may still be used by calls of other cores that had begun;
+ * until these have returned nothing can be put there: SPECK_QUIESCING. */
 struct speck_reply speck_look(struct speck_port *port, uint16_t capability);
 struct speck_reply speck_copy(struct speck_port *port, uint16_t capability, uint16_t table, uint16_t slot, uint8_t rights);
 struct speck_reply speck_remove(struct speck_port *port, uint16_t table, uint16_t slot);
+
+/* Tables grow by leaves: with a leaf in its entry e a root has the numbers 64 e to 64 e + 63. A root of capabilities takes leaves of
+ * capabilities, one of pages leaves of pages. */
 struct speck_reply speck_grow(struct speck_port *port, uint16_t root, uint16_t entry, uint16_t leaf);
 struct speck_reply speck_shrink(struct speck_port *port, uint16_t root, uint16_t entry);
+
+/* Memory. A frame of a range is untyped at first. As SPECK_FRAME_USER it can be mapped, as SPECK_FRAME_KERNEL an object can be made in it; and
+ * it can be made untyped again once nothing refers to it, or SPECK_REFERENCED. */
 struct speck_reply speck_retype(struct speck_port *port, uint16_t range, uint16_t frame, uint8_t kind);
+
+/* Objects. Each is made in a frame of the range that was made SPECK_FRAME_KERNEL and holds none; its capability, with both rights, goes under the
+ * number `slot`, which holds nothing, of `table`. Roots and leaves of capability tables; roots and leaves of page tables; a thread in a component;
+ * a temporal capability without ticks, with one scheduler and quality; a component of two roots, under the name `live`, which no other has. */
 struct speck_reply speck_make_table(struct speck_port *port, uint16_t range, uint16_t frame, uint16_t table, uint16_t slot);
 struct speck_reply speck_make_leaf(struct speck_port *port, uint16_t range, uint16_t frame, uint16_t table, uint16_t slot);
 struct speck_reply speck_make_pages(struct speck_port *port, uint16_t range, uint16_t frame, uint16_t table, uint16_t slot);
@@ -295,15 +311,27 @@ struct speck_reply speck_make_tcap(struct speck_port *port, uint8_t sched, uint3
     uint16_t range, uint16_t frame, uint16_t table, uint16_t slot);
 struct speck_reply speck_make_comp(struct speck_port *port, uint16_t names, uint16_t pages, uint8_t live,
     uint16_t range, uint16_t frame, uint16_t table, uint16_t slot);
+
+/* Pages. A map puts a user frame of the range at `page`, which needs a leaf of pages there (speck_grow) and holds nothing, with these flags
+ * (SPECK_PAGE_..). A touch answers frame and flags of a page of the component in which the core works, and the core then has that translation
+ * cached, until it flushes: what was unmapped may be mapped anew once all cores have, till then SPECK_UNFLUSHED. */
 struct speck_reply speck_map(struct speck_port *port, uint16_t pages, uint16_t page, uint16_t range, uint16_t frame, uint8_t flags);
 struct speck_reply speck_unmap(struct speck_port *port, uint16_t pages, uint16_t page);
 struct speck_reply speck_touch(struct speck_port *port, uint16_t page);
 struct speck_reply speck_flush(struct speck_port *port);
+
+/* Components. A gate to a component goes into a slot; a call through it has the core's thread enter the component, a return leaves it. A kill
+ * frees the component's name for another one, and each gate to it is dead. A switch has the core go on as another thread, which runs on no core,
+ * by a temporal capability. */
 struct speck_reply speck_gate(struct speck_port *port, uint16_t comp, uint16_t table, uint16_t slot);
 struct speck_reply speck_kill(struct speck_port *port, uint16_t comp);
 struct speck_reply speck_call(struct speck_port *port, uint16_t gate);
 struct speck_reply speck_ret(struct speck_port *port);
 struct speck_reply speck_switch(struct speck_port *port, uint16_t thread, uint16_t tcap);
+
+/* Time. A tick charges these ticks, and what the core owes, to the temporal capability by which it runs, as far as its budget goes, and answers
+ * what it charged; the rest is owed. Ticks move between temporal capabilities of equal lists by a transfer, between any two by a delegate, which
+ * merges the lists. A test answers whether the first would preempt the second: SPECK_VALUE_PREEMPTS or SPECK_VALUE_STAYS. */
 struct speck_reply speck_tick(struct speck_port *port, uint32_t ticks);
 struct speck_reply speck_transfer(struct speck_port *port, uint16_t source, uint16_t target, uint32_t ticks);
 struct speck_reply speck_delegate(struct speck_port *port, uint16_t source, uint16_t target, uint32_t ticks);

@@ -82,7 +82,7 @@ impl Port {
         answer(unsafe { ffi::speck_make_comp(&mut self.slot, names, pages, live, range, frame, table, slot) })
     }
 
-    /// Maps the user frame of the range at `page` of `pages`, with these flags, 0 to 3.
+    /// Maps the user frame of the range at `page` of `pages`, with these flags: the sum of 1, to write, and 2, to execute.
     pub fn map(&mut self, pages: u16, page: u16, range: u16, frame: u16, flags: u8) -> Result<Value, Refused> {
         answer(unsafe { ffi::speck_map(&mut self.slot, pages, page, range, frame, flags) })
     }

@@ -1,5 +1,5 @@
 -- Along a sound trace of the table, the kernel's trace is the step machine's own.
-use Rattle.std.proofs.Common.{◌≡◌, ◌≢◌, ◌⊎◌, inl, inr, ℕ, ◌<◌, List, [], ◌∷◌, length, slice_get}
+use Rattle.std.proofs.Common.{◌≡◌, inl, inr, ℕ, ◌<◌, List, [], ◌∷◌, slice_get}
 use Rattle.std.proofs.Common.{Option, Some, None, IsSome, IsNone, refl, sym, ◌∙◌, ap, subst, arith}
 use Rattle.std.proofs.lemmas.Bool.{cases_eq}
 use Rattle.spk_nums.specs.declared.calls.Call.{Call}
@@ -10,7 +10,7 @@ use Rattle.word_map.specs.Word.{Word}
 use Rattle.word_map.specs.Places.{IsShape, place_of}
 use Rattle.word_map.specs.Moves.{word_of, op_of, left_of, told_of}
 use Rattle.boot_words.specs.kernel_rules.proofs.Within.{put_same, put_other}
-use Rattle.boot_words.specs.kernel_history.specs.BootWords.{shape_of, boot_word}
+use Rattle.boot_words.specs.kernel_history.specs.BootWords.{shape_of}
 use Rattle.boot_words.specs.kernel_history.specs.Trace.{Out, phase, last_left}
 use Rattle.boot_words.specs.kernel_history.proofs.Names.{cases_word}
 use Rattle.boot_words.specs.kernel_history.proofs.Steps.{last_left-here, last_left-there}

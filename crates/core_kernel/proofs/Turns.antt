@@ -1,6 +1,6 @@
 -- A turn of a seat as steps of the kernel.
-use Rattle.std.proofs.Common.{◌≡◌, ◌≢◌, ◌⊎◌, inl, inr, ℕ, ◌+◌, ◌<◌, List, [], ◌∷◌, ◌++◌, length, Option, Some, None, IsSome}
-use Rattle.std.proofs.Common.{IsSomeAnd, MatchOption, option_to_list, refl, sym, ◌∙◌, ap, subst, arith, append_assoc, eq-eqb}
+use Rattle.std.proofs.Common.{◌≡◌, ℕ, ◌<◌, List, ◌∷◌, ◌++◌, Option, Some, None, IsSome}
+use Rattle.std.proofs.Common.{IsSomeAnd, MatchOption, option_to_list, refl, sym, ◌∙◌, ap, subst, append_assoc}
 use Rattle.spk_nums.specs.declared.calls.Call.{Call}
 use Rattle.spk_nums.specs.declared.replies.Reply.{Reply}
 use Rattle.spk_nums.specs.declared.steps.WordOp.{WordOp}
@@ -9,7 +9,6 @@ use Rattle.boot_words.specs.kernel_history.specs.Trace.{Step, Trace, calls_of}
 use Rattle.boot_words.specs.kernel_history.proofs.Steps.{calls_of-own}
 use Rattle.turn_rule.specs.declared.view.Entry.{Entry}
 use Rattle.turn_rule.specs.declared.view.Start.{Start}
-use Rattle.spk_nums.specs.WordSteps as table
 use Rattle.turn_rule.specs.Trace.{entry, called, program_after, IsSound}
 use Rattle.turn_rule.proofs.Traces.{program_stays}
 use Rattle.turn_rule.specs.Seats.{SeatValue, MakesStep, FollowsTrace}

@@ -4,13 +4,24 @@ use Rattle.async_ends.specs.Tables.{EndTableValue, EndSeatValue, AreAllSeats, Ar
 use Rattle.end_ports.specs.Ports.{HasEnds, IsFreshEnd}
 
 -- all seats of a new table
-pub all_ends : (of : EndTableValue) (cores : ℕ) (seats here : List EndSeatValue) → of.frames ≡ 512 → of.cores ≡ cores → AreAllSeats of seats
-    → AreFresh seats → here ≡ seats → HasEnds of cores 0 here
-all_ends of cores seats here frames count all fresh is = record {
-  frames = frames;
-  count = ap length is ∙ all.count ∙ count;
+pub all_ends : (of table : EndTableValue) (cores dealt : ℕ) (seats here : List EndSeatValue) → of ≡ table → dealt ≡ 0 → table.frames ≡ 512
+    → table.cores ≡ cores → AreAllSeats table seats → AreFresh seats → here ≡ seats → HasEnds of cores dealt here
+all_ends of table cores dealt seats here same none frames count all fresh is = record {
+  frames = ap (λ (t : EndTableValue). t.frames) same ∙ frames;
+  count = let size : length here ≡ cores = ap length is ∙ all.count ∙ count in omega arith;
   each = λ k s e. let at = subst (λ (l : List EndSeatValue). slice_get l k ≡ Some s) is e in
-      let f = fresh k s at in record { table = all.table k s at; core_is = all.core k s at; seen = f.0; made = f.1 };
+      let f = fresh k s at in
+      let core = all.core k s at in
+      record { table = all.table k s at ∙ sym same; core_is = omega arith; seen = f.0; made = f.1 };
+}
+
+-- the same seats of a machine with as many cores, of which as many are dealt
+pub as_many : (of : EndTableValue) (cores now_cores dealt now_dealt : ℕ) (here : List EndSeatValue) → now_cores ≡ cores → now_dealt ≡ dealt
+    → HasEnds of cores dealt here → HasEnds of now_cores now_dealt here
+as_many of cores now_cores dealt now_dealt here same_cores same_dealt h = record {
+  frames = h.frames;
+  count = let count = h.count in omega arith;
+  each = λ k s e. let at : dealt + k ≡ now_dealt + k = omega arith in subst (λ (n : ℕ). IsFreshEnd of n s) at (h.each k s e);
 }
 
 -- those that are left when the first is dealt

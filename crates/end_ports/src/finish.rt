@@ -37,10 +37,11 @@ impl EndSeats {
         let EndSeats { seats, table, here } = self;
         match seats.finish(alloc) {
             Ok(closed) => Ok(closed),
-            Err(Unfinished { seats, fault }) => Err(Unended {
-                seats: EndSeats { seats, table, here },
-                fault,
-            }),
+            Err(unfinished) => {
+                let Unfinished { seats, fault } = unfinished;
+                let seats = EndSeats { seats, table, here };
+                Err(Unended { seats, fault })
+            }
         }
     }
 }

@@ -105,13 +105,11 @@ impl EndPort {
         ensures asks { self.old.end.made < most_calls → HasAsked op number self.old result self.new }
         ensures spent { most_calls ≤ self.old.end.made → (result ≡ Refused CallsSpent) × (self.new ≡ self.old) }
     {
-        if 4_194_304 <= self.end.seat.made() {
+        if 4_194_304 <= self.end.made() {
             return EndReply::Refused(Reply::CallsSpent);
         }
-        self.end
-            .table
-            .ask(&mut self.end.seat, &mut self.looker, EndAsk { op, number })
-            .answer
+        let done = self.end.ask(&mut self.looker, EndAsk { op, number });
+        done.answer
     }
 
     // The port at the kernel. The seat at the endpoints is given up.

@@ -1,4 +1,3 @@
-use Rattle.std.proofs.Common.{◌≡◌, map, take}
 use Rattle.core_kernel.specs.Turns.{ArePrograms}
 use Rattle.core_kernel.proofs.ends.programs_of.Given as goal
 

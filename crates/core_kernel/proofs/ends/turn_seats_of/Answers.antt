@@ -1,4 +1,4 @@
-use Rattle.std.proofs.Common.{rules, arith, ◌≡◌, ◌∙◌, ◌++◌, ◌<◌, ◌≤◌, [], ◌∷◌, length, map, ap, sym, subst, map-id, All}
+use Rattle.std.proofs.Common.{rules, arith, ◌≡◌, ◌∙◌, ◌++◌, ◌≤◌, [], ◌∷◌, length, map, ap, sym, subst, map-id, All}
 use Rattle.std.proofs.lemmas.List.{length-map, map-append}
 use Rattle.std.proofs.lemmas.List.Elements.{All-get_or, All-push}
 use Rattle.std.proofs.lemmas.Iterator.Consumers.{YieldsList-turn, YieldsList-end}
@@ -51,7 +51,7 @@ push_reserved-requires c =
     (search rules)) c.loop-one.yielded c.loop-one.one-iterator c.loop-one.yielded_by c.next.result c.next.new.self c.in-Some.one
     c.in-Some.is c.next.ensures.steps in
     let seats = c.loop-one.turn_seats in
-    let count = sym (length-map (seat_value c.args.setup.now) seats.items) ∙ ap length c.loop-one.invariant.0.same in
+    let count = sym (length-map seats.items (seat_value c.args.setup.now)) ∙ ap length c.loop-one.invariant.0.same in
     let lt = turn.0 in
     let len = seats.ok.0 in
     let room = c.loop-one.invariant.1 in omega arith

@@ -1,4 +1,4 @@
-use Rattle.std.proofs.Common.{◌≡◌, ◌∙◌, None, [], ap, sym, subst}
+use Rattle.std.proofs.Common.{◌≡◌, ◌∙◌, None, [], sym, subst}
 use Rattle.turn_rule.specs.Seats.{MakesStep}
 use Rattle.core_kernel.specs.Running.{running}
 use Rattle.core_kernel.specs.Kernel.{IsBooted}
