@@ -1,5 +1,5 @@
 -- The head of an arrow finds what its tail left.
-use Rattle.std.proofs.Common.{◌≡◌, ◌≢◌, ◌⊎◌, inl, inr, ℕ, suc, ◌==◌, ◌&&◌, ◌||◌, not, cond, Bool, true, false, [], ◌∷◌}
+use Rattle.std.proofs.Common.{◌≡◌, ◌≢◌, ◌⊎◌, inl, inr, ℕ, suc, ◌<◌, ◌==◌, ◌&&◌, ◌||◌, not, cond, Bool, true, false, [], ◌∷◌}
 use Rattle.std.proofs.Common.{length, Option, Some, None, refl, sym, ◌∙◌, ap, subst}
 use Rattle.std.specs.Prelude.{slice_index_or}
 use Rattle.std.proofs.lemmas.Bool.{cases_eq, eqb-true, ne_eqb, eq-eqb, true≢false}
@@ -46,6 +46,18 @@ newest_left setup (e ∷ t) legal w a u is = elim (cases_word w (word_of e.move)
   by_change false changed h here =
       ap (λ (x : Step). left_of x.move x.found)
       (head_same e a t u (sym (ap (λ (b : Bool). cond (not b) (e ∷ t) (newest t w)) changed) ∙ h))
+
+-- The newest change of a word is a step of one of the machine's cores.
+pub newest_core : (setup : Setting) (t : Trace) → IsLegal setup t → (w : Word) (a : Step) (u : Trace) → newest t w ≡ a ∷ u
+    → a.core < setup.cores
+newest_core setup [] legal w a u is = cc
+newest_core setup (e ∷ t) legal w a u is = by (changes e w) is where
+  head_same : (x y : Step) (s r : Trace) → x ∷ s ≡ y ∷ r → x ≡ y
+  head_same x y s r h = cc
+
+  by : (b : Bool) → cond b (e ∷ t) (newest t w) ≡ a ∷ u → a.core < setup.cores
+  by true h = subst (λ (x : Step). x.core < setup.cores) (head_same e a t u h) legal.1.is_core
+  by false h = newest_core setup t legal.0 w a u h
 
 none_some : {A : Type 0} (x : A) → None ≡ Some x → ⊥
 none_some x h = cc
