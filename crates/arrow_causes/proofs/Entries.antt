@@ -25,7 +25,7 @@ use Rattle.flight_laws.specs.time_laws.specs.flight.specs.Made.{cores_after, IsM
 use Rattle.flight_laws.specs.time_laws.specs.flight.proofs.Made.{made_stands}
 use Rattle.arrow_laws.specs.Arrows.{changes, newest, entered_at}
 use Rattle.arrow_laws.proofs.Calls.{entered_own}
-use Rattle.arrow_causes.proofs.Holders.{IsHolders, changes_parts, by_this, by_earlier}
+use Rattle.arrow_causes.proofs.Holders.{IsHolders, changes_parts, by_this, by_earlier, this_before, earlier_before}
 
 -- The newest change of core d's word is the entry of its call.
 pub record IsEntry (t : Trace) (d : ℕ) : Type 0 where
@@ -104,7 +104,8 @@ module _ (setup : Setting) (setting : IsSetting setup) (e : Step) (t : Trace) (m
   entered_now : d ≡ e.core → phase t d ≡ Out → phase (e ∷ t) d ≢ Out → is_some e.enters ≡ true → IsEntry (e ∷ t) d
   entered_now own out inside enters = record {
     holds = by_this e t w d (by (changes e w) refl) (sym own);
-    entry = sym (ap (entered_at (e ∷ t)) own ∙ entered_own e t ∙ ap (λ (b : Bool). cond b (suc (length t)) (entered_at t e.core)) enters);
+    entry = ap (λ (u : Trace). suc (length u)) (this_before e t w d (by (changes e w) refl) (sym own))
+        ∙ sym (ap (entered_at (e ∷ t)) own ∙ entered_own e t ∙ ap (λ (b : Bool). cond b (suc (length t)) (entered_at t e.core)) enters);
   } where
     by : (b : Bool) → changes e w ≡ b → b ≡ true
     by true is = refl
@@ -117,7 +118,7 @@ module _ (setup : Setting) (setting : IsSetting setup) (e : Step) (t : Trace) (m
   goes_on : changes e w ≡ false → (d == e.core && is_some e.enters) ≡ false → IsEntry t d → IsEntry (e ∷ t) d
   goes_on kept none h = record {
     holds = by_earlier e t w d kept none h.holds;
-    entry = h.entry ∙ sym (ap (λ (b : Bool). cond b (suc (length t)) (entered_at t d)) none);
+    entry = ap (λ (u : Trace). suc (length u)) (earlier_before e t w d kept none h.holds) ∙ h.entry ∙ sym (ap (λ (b : Bool). cond b (suc (length t)) (entered_at t d)) none);
   }
 
   own_kept : d ≡ e.core → phase t d ≢ Out → phase (e ∷ t) d ≢ Out → e.returns ≡ None → changes e w ≡ false

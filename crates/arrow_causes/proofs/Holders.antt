@@ -56,3 +56,13 @@ module _ (e : Step) (t : Trace) (w : Word) (d : ℕ) where
     same_calls (inl own) = calls_of-own d e t own ∙ ap (λ (o : Option Call). calls_of t d ++ option_to_list o)
         (none e.enters own goes) ∙ append-nil (calls_of t d)
     same_calls (inr other) = calls_of-other d e t other
+
+  -- They name the trace before the change.
+  pub this_before : (change : changes e w ≡ true) (own : e.core ≡ d) → (by_this change own).before ≡ t
+  unfolding by_this
+  this_before change own = refl
+
+  pub earlier_before : (kept : changes e w ≡ false) (goes : (d == e.core && is_some e.enters) ≡ false) (h : IsHolders t w d)
+      → (by_earlier kept goes h).before ≡ h.before
+  unfolding by_earlier
+  earlier_before kept goes h = refl

@@ -26,10 +26,10 @@ use Rattle.arrow_causes.proofs.Holders.{IsHolders}
 module _ (page : ℕ) (setup : Setting) (setting : IsSetting setup) (t : Trace) (e : Step) (legal : IsLegal setup (e ∷ t))
     (taken : HasTaken page setup t) (blamed : is_blamed e.decides ≡ true) (word : is_clock (word_of e.move) ≡ false) (d : ℕ)
     (other : d ≢ e.core) (inside : phase t d ≢ Out) (holds : IsHolders t (word_of e.move) d) where
-  s : Seen
+  abbrev s : Seen
   s = seen (shape_of setup) e
 
-  touch : Touch
+  abbrev touch : Touch
   touch = slice_index_or (page_after page setup t).words (place_of (shape_of setup) (word_of e.move)) untouched
 
   -- d's last return was before the entry of its call

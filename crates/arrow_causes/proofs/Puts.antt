@@ -46,8 +46,8 @@ use Rattle.flight_laws.specs.time_laws.specs.core_invariant.specs.Knows.{KnowsTa
 use Rattle.flight_laws.specs.time_laws.specs.core_invariant.specs.Invariant.{Invariant, is_done, holds_tail, holds_stage, holds_in, held_by, times_of}
 use Rattle.flight_laws.specs.time_laws.specs.flight.specs.Made.{cores_after, IsMade}
 use Rattle.flight_laws.specs.time_laws.specs.flight.proofs.Made.{made_stands}
-use Rattle.mark_kinds.specs.Kinds.{ReadAlike}
-use Rattle.mark_kinds.proofs.Kinds.{kinds_stay, nodes_stay}
+use Rattle.mark_kinds.specs.Reads.{ReadAlike}
+use Rattle.mark_kinds.proofs.Alike.{kinds_stay, nodes_stay}
 
 -- ---- what a call has marked
 
@@ -211,26 +211,26 @@ module _ (setup : Setting) (setting : IsSetting setup) (t : Trace) (e : Step) (m
     abbrev before : State
     before = state_entered e.enters s e.core
 
-    abbrev by : State
-    by = state_by before e.core call q
+    abbrev done : State
+    done = state_by before e.core call q
 
-    state_is : s' ≡ state_returned e.returns by e.core
+    state_is : s' ≡ state_returned e.returns done e.core
     state_is = ap (λ (o : Option Reply). state_returned e.returns (state_decided o p before e.core) e.core) decides
         ∙ ap (λ (x : Phase). state_returned e.returns (state_decided (Some q) x before e.core) e.core) opens
 
-    frames_are : s'.frame ≡ by.frame
-    frames_are = ap (λ (x : State). x.frame) state_is ∙ returned_frames e.returns by e.core
+    frames_are : s'.frame ≡ done.frame
+    frames_are = ap (λ (x : State). x.frame) state_is ∙ returned_frames e.returns done e.core
 
-    places_are : s'.place ≡ by.place
-    places_are = ap (λ (x : State). x.place) state_is ∙ returned_places e.returns by e.core
+    places_are : s'.place ≡ done.place
+    places_are = ap (λ (x : State). x.place) state_is ∙ returned_places e.returns done e.core
 
-    reads : (f i v : ℕ) → mark_in_frame (by.frame f) i v ≡ mark_in_frame (before.frame f) i v
+    reads : (f i v : ℕ) → mark_in_frame (done.frame f) i v ≡ mark_in_frame (before.frame f) i v
         → mark_in_frame (s'.frame f) i v ≡ mark_in_frame (s.frame f) i v
     reads f i v same = ap (λ (r : ℕ → Frame). mark_in_frame (r f) i v) frames_are ∙ same
         ∙ ap (λ (r : ℕ → Frame). mark_in_frame (r f) i v) (entered_frames e.enters s e.core)
 
     plain_alike : changes_frames call ≡ false → ReadAlike s s'
-    plain_alike no f i v = reads f i v (kinds_stay before e.core call q no f i v)
+    plain_alike stays f i v = reads f i v (kinds_stay before e.core call q stays f i v)
 
     stored_alike : (h : Holding) (f i : ℕ) → i < 64 → WordIs s' (times_of setup (e ∷ t)) (EntryAt f i) (h.stands (EntryAt f i))
         → Stores setup (e ∷ t) call h f i → (v : ℕ) → mark_in_frame (s'.frame f) i v ≡ mark_in_frame (s.frame f) i v

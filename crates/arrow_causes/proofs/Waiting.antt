@@ -20,7 +20,6 @@ use Rattle.flight_laws.specs.time_laws.specs.act_states.specs.declared.work.Act.
 use Rattle.flight_laws.specs.time_laws.specs.act_states.specs.declared.work.Act.TheVariants as act_as
 use Rattle.flight_laws.specs.time_laws.specs.act_states.specs.declared.work.Work.{Work}
 use Rattle.flight_laws.specs.time_laws.specs.act_states.specs.declared.work.Work.TheVariants.{Lookup, Read, Scan, Acquire, Act}
-use Rattle.flight_laws.specs.time_laws.specs.call_stages.specs.View.{Core}
 use Rattle.flight_laws.specs.time_laws.specs.call_stages.specs.Cores.{begun, move_in, move_of, told_by, told_in, told_of_step}
 use Rattle.flight_laws.specs.time_laws.specs.call_stages.specs.Steps.{Took, GoesOn, Decides, Returns, Changes, took}
 use Rattle.flight_laws.specs.time_laws.specs.call_stages.specs.declared.stages.Stage.{Stage}
@@ -112,11 +111,8 @@ on_core : (setup : Setting) → IsSetting setup → (t : Trace) (e : Step) → I
     → e.decides ≡ Some (reply.Quiescing d) → word_of e.move ≡ CoreAt d
 on_core setup setting t e made d is =
     ap (λ (x : Step). word_of x.move) made.1.made
-    ∙ core_at core.own core.active _ d (by e.enters) (sym (ap (λ (x : Step). x.decides) made.1.made) ∙ is)
+    ∙ core_at (stepping_core setup t e).own (stepping_core setup t e).active _ d (by e.enters) (sym (ap (λ (x : Step). x.decides) made.1.made) ∙ is)
   where
-    core : Core
-    core = stepping_core setup t e
-
     stands : CallIs setup t e.core (cores_after setup t e.core).own.table (cores_after setup t e.core).active
     stands = ((made_stands setup setting t made.0).each e.core made.1.is_core).active
 

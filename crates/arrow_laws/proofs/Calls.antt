@@ -13,34 +13,38 @@ use Rattle.arrow_laws.specs.Arrows.{entered_at, returned_at, before_entry}
 
 pub entered_before : (t : Trace) (c : ℕ) → entered_at t c ≤ length t
 entered_before [] c = omega arith
-entered_before (e ∷ t) c = by (c == e.core && is_some e.enters) where
-  by : (b : Bool) → cond b (suc (length t)) (entered_at t c) ≤ suc (length t)
-  by true = omega arith
-  by false = let h = entered_before t c in omega arith
+entered_before (e ∷ t) c = by (c == e.core && is_some e.enters) (entered_before t c) where
+  by : (b : Bool) → entered_at t c ≤ length t → cond b (suc (length t)) (entered_at t c) ≤ suc (length t)
+  by true h = omega arith
+  by false h = omega (arith, h)
 
 pub returned_before : (t : Trace) (c : ℕ) → returned_at t c ≤ length t
 returned_before [] c = omega arith
-returned_before (e ∷ t) c = by (c == e.core && is_some e.returns) where
-  by : (b : Bool) → cond b (suc (length t)) (returned_at t c) ≤ suc (length t)
-  by true = omega arith
-  by false = let h = returned_before t c in omega arith
+returned_before (e ∷ t) c = by (c == e.core && is_some e.returns) (returned_before t c) where
+  by : (b : Bool) → returned_at t c ≤ length t → cond b (suc (length t)) (returned_at t c) ≤ suc (length t)
+  by true h = omega arith
+  by false h = omega (arith, h)
 
 pub before_less : (t : Trace) (c : ℕ) → length (before_entry t c) ≤ entered_at t c
 before_less [] c = omega arith
-before_less (e ∷ t) c = by (c == e.core && is_some e.enters) where
-  by : (b : Bool) → length (cond b t (before_entry t c)) ≤ cond b (suc (length t)) (entered_at t c)
-  by true = omega arith
-  by false = before_less t c
+before_less (e ∷ t) c = by (c == e.core && is_some e.enters) (before_less t c) where
+  by : (b : Bool) → length (before_entry t c) ≤ entered_at t c
+      → length (cond b t (before_entry t c)) ≤ cond b (suc (length t)) (entered_at t c)
+  by true h = omega arith
+  by false h = h
 
 -- A core that had returned when another entered its call has returned no earlier since.
 pub before_returns : (t : Trace) (c d : ℕ) → returned_at (before_entry t c) d ≤ returned_at t d
 before_returns [] c d = omega arith
-before_returns (e ∷ t) c d = by (c == e.core && is_some e.enters) (d == e.core && is_some e.returns) where
-  by : (b k : Bool) → returned_at (cond b t (before_entry t c)) d ≤ cond k (suc (length t)) (returned_at t d)
-  by true true = let h = returned_before t d in omega arith
-  by true false = omega arith
-  by false true = let h = before_returns t c d in let g = returned_before t d in omega arith
-  by false false = before_returns t c d
+before_returns (e ∷ t) c d =
+    by (c == e.core && is_some e.enters) (d == e.core && is_some e.returns) (before_returns t c d) (returned_before t d)
+  where
+    by : (b k : Bool) → returned_at (before_entry t c) d ≤ returned_at t d → returned_at t d ≤ length t
+        → returned_at (cond b t (before_entry t c)) d ≤ cond k (suc (length t)) (returned_at t d)
+    by true true h g = omega (arith, g)
+    by true false h g = omega arith
+    by false true h g = omega (arith, h, g)
+    by false false h g = h
 
 -- Of its own step, and of another core's.
 module _ (e : Step) (t : Trace) where

@@ -26,7 +26,7 @@ pub newest_left : (setup : Setting) (t : Trace) → IsLegal setup t → (w : Wor
 newest_left setup [] legal w a u is = cc
 newest_left setup (e ∷ t) legal w a u is = elim (cases_word w (word_of e.move)) [
   | inl here ↦ last_left-here setup w e t here ∙ by_change (e.found == left_of e.move e.found) refl
-      (sym (newest_here here) ∙ is) here
+      (sym (newest_here here) ∙ is) here (λ h. newest_left setup t legal.0 w a u h)
   | inr there ↦ last_left-there setup w e t there ∙ newest_left setup t legal.0 w a u (sym (newest_there there) ∙ is)
 ] where
   newest_here : w ≡ word_of e.move → newest (e ∷ t) w ≡ cond (not (e.found == left_of e.move e.found)) (e ∷ t) (newest t w)
@@ -39,11 +39,12 @@ newest_left setup (e ∷ t) legal w a u is = elim (cases_word w (word_of e.move)
   head_same x y s r h = cc
 
   by_change : (b : Bool) → (e.found == left_of e.move e.found) ≡ b → cond (not (e.found == left_of e.move e.found)) (e ∷ t) (newest t w) ≡ a ∷ u
-      → w ≡ word_of e.move → left_of e.move e.found ≡ left_of a.move a.found
-  by_change true kept h here =
+      → w ≡ word_of e.move → (newest t w ≡ a ∷ u → last_left setup t w ≡ left_of a.move a.found)
+      → left_of e.move e.found ≡ left_of a.move a.found
+  by_change true kept h here earlier =
       sym (eqb-true e.found (left_of e.move e.found) kept) ∙ legal.1.found ∙ ap (last_left setup t) (sym here)
-      ∙ newest_left setup t legal.0 w a u (sym (ap (λ (b : Bool). cond (not b) (e ∷ t) (newest t w)) kept) ∙ h)
-  by_change false changed h here =
+      ∙ earlier (sym (ap (λ (b : Bool). cond (not b) (e ∷ t) (newest t w)) kept) ∙ h)
+  by_change false changed h here earlier =
       ap (λ (x : Step). left_of x.move x.found)
       (head_same e a t u (sym (ap (λ (b : Bool). cond (not b) (e ∷ t) (newest t w)) changed) ∙ h))
 
@@ -51,13 +52,13 @@ newest_left setup (e ∷ t) legal w a u is = elim (cases_word w (word_of e.move)
 pub newest_core : (setup : Setting) (t : Trace) → IsLegal setup t → (w : Word) (a : Step) (u : Trace) → newest t w ≡ a ∷ u
     → a.core < setup.cores
 newest_core setup [] legal w a u is = cc
-newest_core setup (e ∷ t) legal w a u is = by (changes e w) is where
+newest_core setup (e ∷ t) legal w a u is = by (changes e w) is (λ h. newest_core setup t legal.0 w a u h) where
   head_same : (x y : Step) (s r : Trace) → x ∷ s ≡ y ∷ r → x ≡ y
   head_same x y s r h = cc
 
-  by : (b : Bool) → cond b (e ∷ t) (newest t w) ≡ a ∷ u → a.core < setup.cores
-  by true h = subst (λ (x : Step). x.core < setup.cores) (head_same e a t u h) legal.1.is_core
-  by false h = newest_core setup t legal.0 w a u h
+  by : (b : Bool) → cond b (e ∷ t) (newest t w) ≡ a ∷ u → (newest t w ≡ a ∷ u → a.core < setup.cores) → a.core < setup.cores
+  by true h earlier = subst (λ (x : Step). x.core < setup.cores) (head_same e a t u h) legal.1.is_core
+  by false h earlier = earlier h
 
 none_some : {A : Type 0} (x : A) → None ≡ Some x → ⊥
 none_some x h = cc

@@ -183,7 +183,7 @@ module _ (setup : Setting) (setting : IsSetting setup) (t : Trace) (e : Step) (l
   places : HasPlaces (shape_of setup)
   places = has_places (shape_of setup) shape
 
-  w : Word
+  abbrev w : Word
   w = word_of e.move
 
   own_core : e.core < 8
@@ -191,14 +191,14 @@ module _ (setup : Setting) (setting : IsSetting setup) (t : Trace) (e : Step) (l
 
   -- The page has taken the trace, and takes the step: at a height, by its number.
   module _ (p : Page) (known : Known setup t p) (y n : ℕ) (is : n ≡ suc (length t)) where
-    own : Lane
+    abbrev own : Lane
     own = lane_of p.lanes e.core
 
     -- the core's calls before it returns, and after that
-    at_step : Lane
+    abbrev at_step : Lane
     at_step = lane_topped e.enters y (lane_decided e.decides n (lane_entered e.enters n (returns_of p.lanes) own))
 
-    after_step : Lane
+    abbrev after_step : Lane
     after_step = lane_returned e.returns n at_step
 
     lanes_known : (c : ℕ) → c < 8 → KnownLane (e ∷ t) c (lane_of (slice_set p.lanes e.core after_step) c)
@@ -211,10 +211,10 @@ module _ (setup : Setting) (setting : IsSetting setup) (t : Trace) (e : Step) (l
           (other_lane t e c (lane_of p.lanes c) apart (known.lanes c lt))
     ]
 
-    tells : Bool
+    abbrev tells : Bool
     tells = not (e.found == left_of e.move e.found)
 
-    change : Change
+    abbrev change : Change
     change = record { core = e.core; index = at_step.index; step = n; y = y }
 
     change_says : Says (e ∷ t) (Some change)
@@ -226,13 +226,13 @@ module _ (setup : Setting) (setting : IsSetting setup) (t : Trace) (e : Step) (l
           ∙ index_more e.enters (calls_of t e.core) ∙ sym (ap length (calls_of-own e.core e t refl)),
     )
 
-    at : ℕ
+    abbrev at : ℕ
     at = place_of (shape_of setup) w
 
-    touch : Touch
+    abbrev touch : Touch
     touch = touched tells change (slice_index_or p.words at untouched)
 
-    table : List Touch
+    abbrev table : List Touch
     table = slice_set p.words at touch
 
     in_table : at < length p.words

@@ -3,4 +3,4 @@ pub mod Known
 pub mod Heads
 pub mod Lines
 pub mod Races
-pub mod Rows
+pub mod Apart

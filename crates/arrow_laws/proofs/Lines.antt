@@ -23,7 +23,7 @@ others_at (Some c) None n o l = refl
 others_at (Some c) (Some r) n o l = refl
 
 module _ (page : ℕ) (setup : Setting) (t : Trace) (e : Step) (known : Known setup t (page_after page setup t)) (own_core : e.core < 8) where
-  p : Page
+  abbrev p : Page
   p = page_after page setup t
 
   pub line_is : (c : Change) → c.core < 8

@@ -86,14 +86,14 @@ changed_newest (e ∷ t) c w (inl h) = by_this e t c w
     ∙ ap not (ne_eqb e.found (left_of e.move e.found) (λ s. h.changed (sym s)))) h.other
 changed_newest (e ∷ t) c w (inr h) =
     let parts = not_if (c == e.core && (same_word w (word_of e.move) || is_some e.enters)) (WasChanged t c w) h in
-    by (changes e w) refl parts.0 parts.1
+    by (changes e w) refl parts.0 parts.1 (λ was. changed_newest t c w was)
   where
     by : (b : Bool) → changes e w ≡ b → (c == e.core && (same_word w (word_of e.move) || is_some e.enters)) ≡ false → WasChanged t c w
-        → ByAnother (e ∷ t) c w
-    by true change goes was = by_this e t c w change (λ same. true≢false (sym (eq-eqb c e.core (sym same))
+        → (WasChanged t c w → ByAnother t c w) → ByAnother (e ∷ t) c w
+    by true change goes was earlier = by_this e t c w change (λ same. true≢false (sym (eq-eqb c e.core (sym same))
         ∙ first_false (c == e.core) (same_word w (word_of e.move)) (is_some e.enters) goes (left_true (same_word w (word_of e.move)) _ change)))
-    by false kept goes was = by_earlier e t c w kept
-        (left_false (c == e.core) (same_word w (word_of e.move)) (is_some e.enters) goes) (changed_newest t c w was)
+    by false kept goes was earlier = by_earlier e t c w kept
+        (left_false (c == e.core) (same_word w (word_of e.move)) (is_some e.enters) goes) (earlier was)
 
 -- What is known of a step that decides `raced`: it enters no call, and its word is not the clock.
 no_clock : (s : State) (c : ℕ) (rule : Rule) (w : Word) → MayLose s c rule w → is_clock w ≡ false
@@ -139,13 +139,13 @@ blamed_met t s c blamed clock is apart =
 module _ (page : ℕ) (setup : Setting) (t : Trace) (e : Step) (legal : IsLegal setup (e ∷ t)) (raced : e.decides ≡ Some reply.Raced)
     (known : Known setup t (page_after page setup t)) (is : IsRaced setup t e) (by : ByAnother t e.core (word_of e.move))
     (own_core : e.core < 8) (most : setup.cores ≤ 8) where
-  p : Page
+  abbrev p : Page
   p = page_after page setup t
 
-  s : Seen
+  abbrev s : Seen
   s = seen (shape_of setup) e
 
-  touch : Touch
+  abbrev touch : Touch
   touch = slice_index_or p.words (place_of (shape_of setup) (word_of e.move)) untouched
 
   blamed : is_blamed e.decides ≡ true

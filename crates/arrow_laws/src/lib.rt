@@ -29,7 +29,7 @@ pub fn races_are_lines()
 
 /// Of two steps of a page the later one is not above the earlier one; texts are 17 pixels apart, and of a core's events each is as far
 /// below the one before as its mark and its text ask.
-#[tactic(auto, using(crate::proofs::Rows::rows_are_apart))]
+#[tactic(auto, using(crate::proofs::Apart::rows_are_apart))]
 pub fn rows_are_apart()
     ensures { RowsAreApart }
 {}

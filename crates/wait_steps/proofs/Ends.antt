@@ -1,8 +1,9 @@
 -- What is found elsewhere than in a core's word, and what begins, says of no wait.
-use Rattle.std.proofs.Common.{Bool, true, false, List, Option, Some, None, refl}
+use Rattle.std.proofs.Common.{if◌then◌else◌, Bool, true, false, List, Option, Some, None, refl, ℕ, ◌&&◌, nat_le}
 use Rattle.call_stages.specs.act_states.specs.word_map.specs.Word.{Word, CoreAt}
 use Rattle.call_stages.specs.act_states.specs.word_map.specs.Moves.{word_of}
 use Rattle.call_stages.specs.spk_nums.specs.Capability.{Capability}
+use Rattle.call_stages.specs.spk_nums.specs.Rights.{has_rights}
 use Rattle.call_stages.specs.spk_nums.specs.declared.kinds.FrameKind.{FrameKind}
 use Rattle.call_stages.specs.spk_nums.specs.declared.kinds.Kind.{Kind}
 use Rattle.call_stages.specs.spk_nums.specs.declared.kinds.Kind.TheVariants as kind
@@ -33,7 +34,7 @@ use Rattle.call_stages.specs.act_states.specs.tcap_words.specs.declared.head_wor
 use Rattle.call_stages.specs.act_states.specs.tcap_words.specs.declared.quality_word.QualityWord.{QualityWord}
 use Rattle.call_stages.specs.act_states.specs.call_plans.specs.After.{Next, NextName, NextFree, NextHeld, NextOwn, NextNothing}
 use Rattle.call_stages.specs.act_states.specs.kernel_rules.specs.Access.{Target as place, Under, InRoot}
-use Rattle.call_stages.specs.act_states.specs.kernel_rules.specs.Rules.{Want}
+use Rattle.call_stages.specs.act_states.specs.kernel_rules.specs.Access.{Want}
 use Rattle.call_stages.specs.act_states.specs.stage_look.specs.declared.look.Look.{Look}
 use Rattle.call_stages.specs.act_states.specs.stage_look.specs.declared.look.Look.TheVariants as look
 use Rattle.call_stages.specs.act_states.specs.stage_look.specs.declared.look.Found.{Found}
@@ -65,7 +66,11 @@ use Rattle.call_stages.specs.act_states.specs.declared.refusals.Refusal.TheVaria
 use Rattle.call_stages.specs.act_states.specs.declared.own.Own.{Own}
 use Rattle.call_stages.specs.act_states.specs.declared.lookups.Met.{Met}
 use Rattle.call_stages.specs.act_states.specs.declared.lookups.Met.TheVariants.{Finds, Refused}
+use Rattle.call_stages.specs.act_states.specs.call_plans.specs.Plans.{at_place}
+use Rattle.call_stages.specs.act_states.specs.call_plans.specs.declared.plans.Nth.TheVariants.{First, Second}
+use Rattle.call_stages.specs.act_states.specs.stage_tcap.specs.declared.pair.PairWork.TheVariants as share
 use Rattle.call_stages.specs.act_states.specs.declared.objects.NewObject.{NewObject}
+use Rattle.call_stages.specs.act_states.specs.Objects.{object_made}
 use Rattle.call_stages.specs.act_states.specs.declared.work.Act.{Act as ActType}
 use Rattle.call_stages.specs.act_states.specs.declared.work.Act.TheVariants as act_as
 use Rattle.call_stages.specs.act_states.specs.declared.work.Work.TheVariants.{Lookup}
@@ -95,14 +100,14 @@ fault_at w _ h = tt
 -- The scan of a core's word.
 pub core_at : (stamp at : ℕ) (o : Option CoreWord) → MayAt (CoreAt at) (core_refuses stamp at o)
 core_at stamp at None = tt
-core_at stamp at (Some v) = by _ where
+core_at stamp at (Some v) = by (v.inside && nat_le v.stamp stamp) where
   by : (b : Bool) → MayAt (CoreAt at) (if b then Some (reply.Quiescing at) else None)
   by true = refl
   by false = tt
 
 pub flush_at : (w : Word) (stamp at : ℕ) (o : Option FlushWord) → MayAt w (flush_refuses stamp at o)
 flush_at w stamp at None = tt
-flush_at w stamp at (Some v) = by _ where
+flush_at w stamp at (Some v) = by (nat_le v.stamp stamp) where
   by : (b : Bool) → MayAt w (if b then Some (reply.Unflushed at) else None)
   by true = tt
   by false = tt
@@ -358,12 +363,12 @@ module _ (w : Word) where
 
   pub made_found : (own : Own) (what : Make) (ks : List Capability) (frame : ℕ) (f : Option Found) → StepAt w (made_begun own what ks frame f)
   made_found own (make.Comp table pages number) ks frame f = comps_found own number _ _ _ frame f
-  made_found own make.Table ks frame f = makes_found own _ _ frame f
-  made_found own make.Leaf ks frame f = makes_found own _ _ frame f
-  made_found own make.Pages ks frame f = makes_found own _ _ frame f
-  made_found own make.Pleaf ks frame f = makes_found own _ _ frame f
-  made_found own (make.Thread comp) ks frame f = makes_found own _ _ frame f
-  made_found own (make.Tcap sched quality) ks frame f = makes_found own _ _ frame f
+  made_found own make.Table ks frame f = makes_found own (object_made make.Table ks) (at_place ks First) frame f
+  made_found own make.Leaf ks frame f = makes_found own (object_made make.Leaf ks) (at_place ks First) frame f
+  made_found own make.Pages ks frame f = makes_found own (object_made make.Pages ks) (at_place ks First) frame f
+  made_found own make.Pleaf ks frame f = makes_found own (object_made make.Pleaf ks) (at_place ks First) frame f
+  made_found own (make.Thread comp) ks frame f = makes_found own (object_made (make.Thread comp) ks) (at_place ks First) frame f
+  made_found own (make.Tcap sched quality) ks frame f = makes_found own (object_made (make.Tcap sched quality) ks) (at_place ks First) frame f
 
   pub kills_kind : (core : ℕ) (k : Kind) (f : ℕ) → StepAt w (kills_in core k f)
   kills_kind core kind.Comp f = tt
@@ -411,7 +416,7 @@ module _ (w : Word) where
   begun_at own (call_as.Remove t b) ks read f = removes_found own.core f
   begun_at own (call_as.Shrink t i) ks read f = removes_found own.core f
   begun_at own (call_as.Unmap p v) ks read f = removes_found own.core f
-  begun_at own (call_as.Retype r g k) ks read f = types_found own _ _ _
+  begun_at own (call_as.Retype r g k) ks read f = types_found own (at_place ks First) g k
   begun_at own (call_as.Make what range frame table slot) ks read f = made_found own what ks frame f
   begun_at own call_as.Flush ks read f = tt
   begun_at own (call_as.Tick n) ks read f = tt
@@ -420,9 +425,9 @@ module _ (w : Word) where
   begun_at own (call_as.Call g) ks read f = invokes_found own _
   begun_at own call_as.Ret ks read f = returns_bottom _ own
   begun_at own (call_as.Switch h q) ks read f = switches_found own _ _
-  begun_at own (call_as.Transfer a b m) ks read f = shares_found own.core _ _ _
-  begun_at own (call_as.Delegate a b m) ks read f = shares_found own.core _ _ _
-  begun_at own (call_as.Test a b) ks read f = shares_found own.core _ _ _
+  begun_at own (call_as.Transfer a b m) ks read f = shares_found own.core (share.Transfer m) (at_place ks First) (at_place ks Second)
+  begun_at own (call_as.Delegate a b m) ks read f = shares_found own.core (share.Delegate m) (at_place ks First) (at_place ks Second)
+  begun_at own (call_as.Test a b) ks read f = shares_found own.core share.Test (at_place ks First) (at_place ks Second)
   begun_at own (call_as.Touch v) ks read f = tt
 
   pub touches_at : (b : Bool) (own : Own) (v : ℕ) → StepAt w (touches_if b own v)
@@ -442,7 +447,7 @@ module _ (w : Word) where
   MetAt (Refused r) = RefusesAt w r
 
   pub right_at : (needs : ℕ) (k : Capability) → MetAt (met_right needs k)
-  right_at needs k = by _ where
+  right_at needs k = by (has_rights k.rights needs) where
     by : (b : Bool) → MetAt (if b then Finds k else Refused refusal.NoRight)
     by true = tt
     by false = tt

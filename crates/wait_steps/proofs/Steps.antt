@@ -1,6 +1,6 @@
 -- A step of a call that is decided with a wait for a core is the load of that core's word.
-use Rattle.std.proofs.Common.{pos, negsuc, Bool, true, false, List, Option, Some, None}
-use Rattle.call_stages.specs.act_states.specs.word_map.specs.Word.{Word}
+use Rattle.std.proofs.Common.{length, if◌then◌else◌, pos, negsuc, Bool, true, false, List, Option, Some, None, ℕ, ℤ, ◌==◌, nat_lt}
+use Rattle.call_stages.specs.act_states.specs.word_map.specs.Word.{Word, CountAt, LiveAt}
 use Rattle.call_stages.specs.act_states.specs.word_map.specs.Places.{Shape}
 use Rattle.call_stages.specs.act_states.specs.word_map.specs.Moves.{word_of}
 use Rattle.call_stages.specs.spk_nums.specs.Capability.{Capability}
@@ -29,7 +29,7 @@ use Rattle.call_stages.specs.act_states.specs.tcap_words.specs.declared.thread_w
 use Rattle.call_stages.specs.act_states.specs.tcap_words.specs.declared.thread_word.ThreadWord.TheVariants as thread
 use Rattle.call_stages.specs.act_states.specs.tcap_words.specs.declared.stack_word.StackWord.{StackWord}
 use Rattle.call_stages.specs.act_states.specs.tcap_words.specs.declared.head_word.HeadWord.{HeadWord}
-use Rattle.call_stages.specs.act_states.specs.call_plans.specs.After.{Next, NextName, NextFree, NextHeld, NextOwn, NextNothing}
+use Rattle.call_stages.specs.act_states.specs.call_plans.specs.After.{next_of, Next, NextName, NextFree, NextHeld, NextOwn, NextNothing}
 use Rattle.call_stages.specs.act_states.specs.stage_look.specs.declared.look.Look.{Look}
 use Rattle.call_stages.specs.act_states.specs.stage_look.specs.declared.look.Found.{Found}
 use Rattle.call_stages.specs.act_states.specs.stage_quiet.specs.declared.quiet.Quiet.{Quiet}
@@ -82,6 +82,16 @@ use Rattle.call_stages.specs.act_states.specs.declared.typings.TypingAt.{TypingA
 use Rattle.call_stages.specs.act_states.specs.declared.typings.TypingAt.TheVariants as typing_at
 use Rattle.call_stages.specs.act_states.specs.declared.touches.Touching.{Touching}
 use Rattle.call_stages.specs.act_states.specs.declared.fills.Fill.{Fill}
+use Rattle.call_stages.specs.act_states.specs.tcap_words.specs.Thread.{thread_of_word}
+use Rattle.call_stages.specs.act_states.specs.tcap_words.specs.Stack.{stack_of_word}
+use Rattle.call_stages.specs.act_states.specs.tcap_words.specs.Head.{head_of_word}
+use Rattle.call_stages.specs.act_states.specs.frame_words.specs.Live.{live_of_word}
+use Rattle.call_stages.specs.act_states.specs.frame_words.specs.Count.{word_of_count}
+use Rattle.call_stages.specs.act_states.specs.stage_pins.specs.Counts.{unheld}
+use Rattle.call_stages.specs.act_states.specs.stage_sweep.specs.Counters.{counters_of}
+use Rattle.call_stages.specs.act_states.specs.stage_sweep.specs.Counters.{sum_of_counts}
+use Rattle.call_stages.specs.act_states.specs.call_plans.specs.Plans.{pushed}
+use Rattle.call_stages.specs.act_states.specs.stage_tcap.specs.Pairs.{pair_move, pair_after, pair_end, noted_by}
 use Rattle.call_stages.specs.act_states.specs.declared.work.Act.{Act as ActType}
 use Rattle.call_stages.specs.act_states.specs.declared.work.Act.TheVariants as act_as
 use Rattle.call_stages.specs.act_states.specs.declared.work.Work.{Work}
@@ -105,7 +115,7 @@ use Rattle.call_stages.specs.act_states.specs.Acts.{meets_below_table, meets_bel
 use Rattle.call_stages.specs.declared.stages.Stage.{Stage}
 use Rattle.call_stages.specs.declared.stages.Stage.TheVariants.{Enter, Living, Undecided, Decided, Leave}
 use Rattle.call_stages.specs.declared.stages.ActiveCall.{ActiveCall}
-use Rattle.call_stages.specs.Steps.{landed, next_by, took_first, took_enter, took_alive, named_one, took_found}
+use Rattle.call_stages.specs.Steps.{found_more, landed, next_by, took_first, took_enter, took_alive, named_one, took_found}
 use Rattle.call_stages.specs.Steps.{took_end, took_read, took_count, took_scan, took_work, took_at, stage_move, work_move, is_spent}
 use Rattle.wait_steps.specs.Waits.{StepAt, EndAt, MayAt, TookAt, AgainIn, AgainOf, AgainAt}
 use Rattle.wait_steps.proofs.Ends.{refused_at, replied_at, fault_at, quiet_at, look_at, alive_at, claim_at, pin_at, charge_end_at, pair_at, took_shared_at, starts_at, next_at, name_at, free_at, held_at, MetAt}
@@ -299,7 +309,7 @@ module _ (w : Word) where
   switching_step m (switch_at.Draw to table pages) found = tt
 
   taking_at : (m : CompMaking) (word : ℕ) (last : LastEpoch) → StepAt w (takes_number m word last)
-  taking_at m word last = by _ where
+  taking_at m word last = by (nat_lt last.epoch m.epochs) where
     by : (b : Bool) → StepAt w (if b then comp_goes m (comp_at.Close word last)
         else comp_refuses m word refusal.EpochsSpent)
     by true = tt
@@ -427,7 +437,7 @@ module _ (w : Word) where
   field_empty false = tt
 
   depth_empty : (depth : ℕ) → MayAt w (depth_refuses depth)
-  depth_empty depth = by _ where
+  depth_empty depth = by (depth == 1) where
     by : (b : Bool) → MayAt w (if b then None else Some reply.NotEmpty)
     by true = tt
     by false = tt
@@ -447,7 +457,7 @@ module _ (w : Word) where
   stack_empty frames (Some v) = place_empty frames v.0
 
   head_empty_by : (budget : ℕ) (o : Option ℕ) → MayAt w (head_by_mark budget o)
-  head_empty_by budget None = by _ where
+  head_empty_by budget None = by (budget == 0) where
     by : (b : Bool) → MayAt w (if b then None else Some reply.NotEmpty)
     by true = tt
     by false = tt
@@ -468,14 +478,16 @@ module _ (w : Word) where
   object_empty frames obj.Pages at found = entry_empty _
   object_empty frames obj.Pleaf at found = entry_empty _
   object_empty frames obj.Comp at found = field_empty _
-  object_empty frames obj.Thread at found = turn_empty _ _ _ (thread_empty _) (stack_empty frames _)
-  object_empty frames obj.Tcap at found = head_empty _
+  object_empty frames obj.Thread at found =
+      turn_empty (at == 0) (thread_refuses (thread_of_word found)) (stack_refuses frames (stack_of_word found))
+      (thread_empty (thread_of_word found)) (stack_empty frames (stack_of_word found))
+  object_empty frames obj.Tcap at found = head_empty (head_of_word found)
 
 -- The sweep of a frame that is made untyped scans cores too, and the making of a component.
 swept_at : (s : Shape) (o : Obj) (frame core n : ℕ) (kept : List CountWord) (at : SweepAt) (found : ℕ)
     → MayAt (word_of (freeze.move_at frame core n at)) (refuses_at s o kept at found)
 swept_at s o frame core n kept sweep.Load found = counts_at _ _
-swept_at s o frame core n kept (sweep.Compare count stamp) found = compares_at _ _ _ _
+swept_at s o frame core n kept (sweep.Compare count stamp) found = compares_at (CountAt frame n) (found == word_of_count (unheld count stamp)) (nat_lt (length kept) (counters_of s)) (sum_of_counts kept)
 swept_at s o frame core n kept (sweep.Scan q) found = scan_refusal _ _ (quiet_at s.cores q found)
 swept_at s o frame core n kept (sweep.Empty index) found = object_empty _ s.frames o index found
 
@@ -493,7 +505,7 @@ comp_step : (m : CompMaking) (at : CompAt) (found : ℕ)
     → StepAt (word_of (act_move (act_as.MakeComp (record m { at = at })))) (took_comp_at m at found)
 comp_step m comp_at.Load found = comp_met_at _ m found _
 comp_step m (comp_at.Mark word) found = comp_marks_at _ m word _
-comp_step m (comp_at.LoadLive word) found = number_met_at _ m word found _
+comp_step m (comp_at.LoadLive word) found = number_met_at (LiveAt m.number) m word found (live_of_word found)
 comp_step m (comp_at.Scan word last q) found = scanned_at _ m word last _ _ (quiet_at m.cores q found)
 comp_step m (comp_at.Close word last) found = comp_closes_at _ m word last _
 comp_step m (comp_at.Store word last index) found = tt
@@ -514,7 +526,8 @@ act_step s (act_as.Untype m) found h = untyping_step s m m.at found
 act_step s (act_as.MakeComp m) found h = comp_step m m.at found
 act_step s (act_as.Invoke m) found h = invoking_step _ m m.at found
 act_step s (act_as.Return m) found h = returning_step _ m m.at found
-act_step s (act_as.Share p) found h = took_shared_at _ _ _ (pair_at _ _ p.at found h)
+act_step s (act_as.Share p) found h = took_shared_at (word_of (pair_move p)) (pair_after p found) (pair_end p found)
+    (pair_at (word_of (pair_move p)) (noted_by p found) p.at found h)
 act_step s (act_as.Switch m) found h = switching_step _ m m.at found
 
 -- A step of a call.
@@ -525,8 +538,12 @@ landed_at w a (refuses_to r tail) h = replied_at w r h
 landed_at w a (Answers v drawn tail) h = tt
 landed_at w a (work_changes r change drawn tail) h = h
 
+begins_at : (w : Word) (own : Own) (a : ActiveCall) → StepAt w (next_by own a)
+begins_at w own a = next_at w own a.call a.found (next_of a.plan a.found)
+
 named_at : (w : Word) (own : Own) (a : ActiveCall) (met : Met) → MetAt w met → TookAt w (named_one own a met)
-named_at w own a (Finds k) h = landed_at w _ _ (next_at w _ _ _ _)
+named_at w own a (Finds k) h = landed_at w (found_more a (pushed a.found k)) (next_by own (found_more a (pushed a.found k)))
+    (begins_at w own (found_more a (pushed a.found k)))
 named_at w own a (Refused r) h = replied_at w r h
 
 found_at : (w : Word) (own : Own) (a : ActiveCall) (next : Next) (f : Found) → TookAt w (took_found own a next f)
@@ -568,7 +585,7 @@ work_at own a (Act act) found h = landed_at _ a _ (act_step own.layout act found
 
 first_at : (w : Word) (living : Bool) (own : Own) (a : ActiveCall) → TookAt w (took_first living own a)
 first_at w true own a = tt
-first_at w false own a = landed_at w a (next_by own a) (next_at w _ _ _ _)
+first_at w false own a = landed_at w a (next_by own a) (begins_at w own a)
 
 enter_at : (w : Word) (spent : Bool) (own : Own) (a : ActiveCall) → TookAt w (took_enter spent own a)
 enter_at w true own a = tt
@@ -577,7 +594,7 @@ enter_at w false own a = first_at w a.plan.living own a
 asks_at : (w : Word) (own : Own) (a : ActiveCall) (x : Alive) (end : StageEnd (Unit {0})) → EndAt w end → TookAt w (took_alive own a x end)
 asks_at w own a x ends.Going h = tt
 asks_at w own a x (ends.Decided r) h = replied_at w (refusal_of r) (refused_at w r h)
-asks_at w own a x (ends.Done u) h = landed_at w a (next_by own a) (next_at w _ _ _ _)
+asks_at w own a x (ends.Done u) h = landed_at w a (next_by own a) (begins_at w own a)
 asks_at w own a x (ends.Refuse r) h = replied_at w (refusal_of r) (refused_at w r h)
 
 pub took_at_core : (own : Own) (a : ActiveCall) (stage : Stage) (found : ℕ) → AgainAt stage

@@ -3,10 +3,7 @@
 
 ghost use Rattle.wait_steps.specs.Waits.{WaitsAtCores};
 
-pub use spk_nums;
-
 /// A step that decides `quiescing d` is on the word of core d.
-#[tactic(auto, using(crate::proofs::Steps::took_at_core))]
 pub fn waits_at_cores()
     ensures { WaitsAtCores }
 {}

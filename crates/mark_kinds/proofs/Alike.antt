@@ -10,11 +10,11 @@ use Rattle.spk_nums.specs.declared.calls.Call.TheVariants as call
 use Rattle.spk_nums.specs.declared.replies.Reply.{Reply}
 use Rattle.spk_nums.specs.declared.replies.Reply.TheVariants as reply
 use Rattle.spk_nums.specs.declared.translations.Translation.{Translation}
-use Rattle.kernel_rules.specs.State.{Place, Free, Holds, Quiescing, ThreadFields, TcapFields, Object, Thread, Tcap, Frame, Kernel, State, put}
-use Rattle.kernel_rules.specs.State.{comp_of, thread_of}
+use Rattle.kernel_rules.specs.State.{Place, Free, Holds, Quiescing, ThreadFields, TcapFields, Object, Table, Leaf, Pages, Pleaf, Thread, Tcap, Frame, Kernel, State, put}
+use Rattle.kernel_rules.specs.State.{comp_of, thread_in, thread_of}
 use Rattle.kernel_rules.specs.Relies.{is_node}
 use Rattle.kernel_rules.specs.Rules.{Change, Rule, Judged, Refused, Found}
-use Rattle.kernel_rules.specs.Access.{Named}
+use Rattle.kernel_rules.specs.Access.{Named, found}
 use Rattle.kernel_rules.specs.CapabilityCalls.{make_node, makes, cleared, make_rule}
 use Rattle.kernel_rules.specs.MemoryCalls.{touch_by, translation_of}
 use Rattle.kernel_rules.specs.InvocationCalls.{with_thread, with_stack, running, switch_to}
@@ -25,7 +25,7 @@ use Rattle.kernel_rules.proofs.Within.{put_same, put_other}
 use Rattle.kernel_invariant.proofs.Sound.{put_all}
 use Rattle.kernel_history.specs.Marks.{mark_in_frame}
 use Rattle.kernel_history.specs.Discipline.{changes_frames, changes_places}
-use Rattle.mark_kinds.specs.Kinds.{ReadAlike, KindsStay, NodesStay}
+use Rattle.mark_kinds.specs.Reads.{ReadAlike, KindsStay, NodesStay}
 
 -- A frame with another thread in place of its own, or another temporal capability, is read as before.
 thread_alike : (x : Frame) (u : ThreadFields) (i v : ℕ) → mark_in_frame (with_thread x u) i v ≡ mark_in_frame x i v
@@ -73,27 +73,27 @@ switch_all s c h q (Some e) = λ f i v.
     running_alike (running s (s.core c).thread None) h.frame (Some c) f i v ∙ running_alike s (s.core c).thread None f i v
 
 all_alike : (s : State) (c : ℕ) (what : Call) → changes_frames what ≡ false → AllAlike s (rule_of s c what)
-all_alike s c (call.Look a) no = λ k f i v. refl
-all_alike s c (call.Copy a t b rights) no = λ k table at f i v. refl
-all_alike s c (call.Remove t b) no = λ table at k f i v. refl
-all_alike s c (call.Grow t j l) no = λ table leaf at f i v. refl
-all_alike s c (call.Shrink t j) no = λ table at k f i v. refl
-all_alike s c (call.Retype r g k) no = absurd (true≢false no)
-all_alike s c (call.Make what r g t b) no = absurd (true≢false no)
-all_alike s c (call.Map p u r g w) no = λ pages range at f i v. refl
-all_alike s c (call.Unmap p u) no = λ pages at k f i v. refl
-all_alike s c (call.Touch u) no = touch_all s c (comp_of s c).pages u (translation_of (s.core c).cached (comp_of s c).pages u)
-all_alike s c call.Flush no = λ f i v. refl
-all_alike s c (call.Gate k t b) no = λ comp table at f i v. refl
-all_alike s c (call.Kill k) no = λ comp f i v. refl
-all_alike s c (call.Call g) no = λ gate. stack_alike s c (gate.frame ∷ (thread_of s c).stack)
-all_alike s c call.Ret no = stack_alike s c (drop 1 (thread_of s c).stack)
-all_alike s c (call.Switch h q) no = λ thread tcap. switch_all s c _ tcap.frame _
-all_alike s c (call.Tick n) no = budget_alike s (s.core c).tcap _
-all_alike s c (call.Transfer a b m) no = λ j k. moved_alike s j.frame k.frame m
-all_alike s c (call.Delegate a b m) no = λ j k f i v.
+all_alike s c (call.Look a) stays = λ k f i v. refl
+all_alike s c (call.Copy a t b rights) stays = λ k table at f i v. refl
+all_alike s c (call.Remove t b) stays = λ table at k f i v. refl
+all_alike s c (call.Grow t j l) stays = λ table leaf at f i v. refl
+all_alike s c (call.Shrink t j) stays = λ table at k f i v. refl
+all_alike s c (call.Retype r g k) stays = absurd (true≢false stays)
+all_alike s c (call.Make what r g t b) stays = absurd (true≢false stays)
+all_alike s c (call.Map p u r g w) stays = λ pages range at f i v. refl
+all_alike s c (call.Unmap p u) stays = λ pages at k f i v. refl
+all_alike s c (call.Touch u) stays = touch_all s c (comp_of s c).pages u (translation_of (s.core c).cached (comp_of s c).pages u)
+all_alike s c call.Flush stays = λ f i v. refl
+all_alike s c (call.Gate k t b) stays = λ comp table at f i v. refl
+all_alike s c (call.Kill k) stays = λ comp f i v. refl
+all_alike s c (call.Call g) stays = λ gate. stack_alike s c (gate.frame ∷ (thread_of s c).stack)
+all_alike s c call.Ret stays = stack_alike s c (drop 1 (thread_of s c).stack)
+all_alike s c (call.Switch h q) stays = λ thread tcap. switch_all s c (found thread) tcap.frame (thread_in (s.frame thread.frame)).runs_on
+all_alike s c (call.Tick n) stays = budget_alike s (s.core c).tcap _
+all_alike s c (call.Transfer a b m) stays = λ j k. moved_alike s j.frame k.frame m
+all_alike s c (call.Delegate a b m) stays = λ j k f i v.
     list_alike (moved s j.frame k.frame m) k.frame (merged_list s j.frame k.frame) f i v ∙ moved_alike s j.frame k.frame m f i v
-all_alike s c (call.Test a b) no = λ j k f i v. refl
+all_alike s c (call.Test a b) stays = λ j k f i v. refl
 
 -- What is owed changes no frame.
 owed_alike : (s : State) (c : ℕ) (what : Call) → ReadAlike s (owed_by s c what)
@@ -105,16 +105,16 @@ changed_alike s (Refused r) h f i v = refl
 changed_alike s (Found change) h f i v = h f i v
 
 pub kinds_stay : KindsStay
-kinds_stay s c what (reply.Ok x) no f i v = changed_alike s (change_of s c what)
-    (outcome_all (λ change. ReadAlike s change.next) s c (rule_of s c what) (all_alike s c what no)) f i v
-kinds_stay s c what reply.Raced no f i v = owed_alike s c what f i v
-kinds_stay s c what (reply.Busy d) no f i v = owed_alike s c what f i v
-kinds_stay s c what _ no f i v = refl
+kinds_stay s c what (reply.Ok x) stays f i v = changed_alike s (change_of s c what)
+    (outcome_all (λ change. ReadAlike s change.next) s c (rule_of s c what) (all_alike s c what stays)) f i v
+kinds_stay s c what reply.Raced stays f i v = owed_alike s c what f i v
+kinds_stay s c what (reply.Busy d) stays f i v = owed_alike s c what f i v
+kinds_stay s c what _ stays f i v = refl
 
 -- A place of a node that is made anew holds nothing removed.
-abbrev NodesAlike : State → State → Type 0
-NodesAlike s t = (f i : ℕ) (k : Capability) → IsTrue (is_node (t.frame f)) → t.place f i ≡ Quiescing k
-    → (v : ℕ) → mark_in_frame (t.frame f) i v ≡ mark_in_frame (s.frame f) i v
+abbrev NodesAlike : (ℕ → Frame) → (ℕ → Frame) → (ℕ → ℕ → Place) → Type 0
+NodesAlike frame frame' place' = (f i : ℕ) (k : Capability) → IsTrue (is_node (frame' f)) → place' f i ≡ Quiescing k → (v : ℕ)
+    → mark_in_frame (frame' f) i v ≡ mark_in_frame (frame f) i v
 
 free_removed : (k : Capability) → Free ≡ Quiescing k → ⊥
 free_removed k h = cc
@@ -136,45 +136,43 @@ filled place g j h k f i is = elim (cases_eq f g) [
 ]
 
 -- A node is made in frame g, whose places are then free; or an object that is no node.
-node_made : (s : State) (object : Object) (k : Kind) (g : ℕ) (node j : ℕ) (h : Capability)
-    → NodesAlike s (record (cleared s g) {
-      frame = put s.frame g (Kernel object);
-      place = put (put s.place g (λ i. Free)) node (put (put s.place g (λ i. Free) node) j (Holds h));
-    })
-node_made s object k g node j h f i m is removed v = elim (cases_eq f g) [
-  | inr other ↦ ap (λ x. mark_in_frame x i v) (put_other s.frame g (Kernel object) f other)
-  | inl same ↦ absurd (free_removed m (sym (ap (λ (r : ℕ → Place). r i) (put_same s.place g (λ i. Free) f same))
-      ∙ filled (put s.place g (λ i. Free)) node j h m f i removed))
+node_made : (frame : ℕ → Frame) (place : ℕ → ℕ → Place) (object : Object) (g node j : ℕ) (h : Capability)
+    → NodesAlike frame (put frame g (Kernel object))
+    (put (put place g (λ i. Free)) node (put (put place g (λ i. Free) node) j (Holds h)))
+node_made frame place object g node j h f i m is removed v = elim (cases_eq f g) [
+  | inr other ↦ ap (λ x. mark_in_frame x i v) (put_other frame g (Kernel object) f other)
+  | inl same ↦ absurd (free_removed m (sym (ap (λ (r : ℕ → Place). r i) (put_same place g (λ i. Free) f same))
+      ∙ filled (put place g (λ i. Free)) node j h m f i removed))
 ]
 
-object_made : (s : State) (object : Object) (g : ℕ) (t : State) → t.frame ≡ put s.frame g (Kernel object) → is_node (Kernel object) ≡ false
-    → NodesAlike s t
-object_made s object g t is none f i m node removed v = elim (cases_eq f g) [
-  | inr other ↦ ap (λ (r : ℕ → Frame). mark_in_frame (r f) i v) is ∙ ap (λ x. mark_in_frame x i v) (put_other s.frame g (Kernel object) f other)
-  | inl same ↦ absurd (false≢true (sym none ∙ ap is_node (sym (ap (λ (r : ℕ → Frame). r f) is ∙ put_same s.frame g (Kernel object) f same))
-      ∙ node))
+object_made : (frame : ℕ → Frame) (place : ℕ → ℕ → Place) (object : Object) (g : ℕ) → is_node (Kernel object) ≡ false
+    → NodesAlike frame (put frame g (Kernel object)) place
+object_made frame place object g bare f i m node removed v = elim (cases_eq f g) [
+  | inr other ↦ ap (λ x. mark_in_frame x i v) (put_other frame g (Kernel object) f other)
+  | inl same ↦ absurd (false≢true (sym bare ∙ ap is_node (sym (put_same frame g (Kernel object) f same)) ∙ node))
 ]
 
 abbrev AllNodes : State → Rule → Type 0
-AllNodes s rule = AllChanges (λ change. NodesAlike s change.next) rule
+AllNodes s rule = AllChanges (λ change. NodesAlike s.frame change.next.frame change.next.place) rule
 
 make_nodes : (s : State) (what : Make) (r g t b : ℕ) → AllNodes s (make_rule s what r g t b)
-make_nodes s make.Table r g t b = λ range table at. node_made s _ _ g at.node at.index _
-make_nodes s make.Leaf r g t b = λ range table at. node_made s _ _ g at.node at.index _
-make_nodes s make.Pages r g t b = λ range table at. node_made s _ _ g at.node at.index _
-make_nodes s make.Pleaf r g t b = λ range table at. node_made s _ _ g at.node at.index _
-make_nodes s (make.Thread comp) r g t b = λ range table own at. object_made s _ g _ refl refl
-make_nodes s (make.Tcap sched quality) r g t b = λ range table at. object_made s _ g _ refl refl
-make_nodes s (make.Comp x p l) r g t b = λ range table own pages at. object_made s _ g _ refl refl
+make_nodes s make.Table r g t b = λ range table at. node_made s.frame s.place Table g at.node at.index _
+make_nodes s make.Leaf r g t b = λ range table at. node_made s.frame s.place Leaf g at.node at.index _
+make_nodes s make.Pages r g t b = λ range table at. node_made s.frame s.place Pages g at.node at.index _
+make_nodes s make.Pleaf r g t b = λ range table at. node_made s.frame s.place Pleaf g at.node at.index _
+make_nodes s (make.Thread comp) r g t b = λ range table own at. object_made s.frame _ _ g refl
+make_nodes s (make.Tcap sched quality) r g t b = λ range table at. object_made s.frame _ _ g refl
+make_nodes s (make.Comp x p l) r g t b = λ range table own pages at. object_made s.frame _ _ g refl
 
-changed_nodes : (s : State) (x : Judged Change) → IfFound x (λ change. NodesAlike s change.next) → NodesAlike s (changed s x)
+changed_nodes : (s : State) (x : Judged Change) → IfFound x (λ change. NodesAlike s.frame change.next.frame change.next.place)
+    → NodesAlike s.frame (changed s x).frame (changed s x).place
 changed_nodes s (Refused r) h f i k node removed v = refl
 changed_nodes s (Found change) h f i k node removed v = h f i k node removed v
 
 made_nodes : (s : State) (c : ℕ) (what : Make) (r g t b : ℕ) (q : Reply)
-    → NodesAlike s (state_by s c (call.Make what r g t b) q)
+    → NodesAlike s.frame (state_by s c (call.Make what r g t b) q).frame (state_by s c (call.Make what r g t b) q).place
 made_nodes s c what r g t b (reply.Ok x) = changed_nodes s (change_of s c (call.Make what r g t b))
-    (outcome_all (λ change. NodesAlike s change.next) s c (make_rule s what r g t b) (make_nodes s what r g t b))
+    (outcome_all (λ change. NodesAlike s.frame change.next.frame change.next.place) s c (make_rule s what r g t b) (make_nodes s what r g t b))
 made_nodes s c what r g t b _ = λ f i k node removed v. refl
 
 pub nodes_stay : NodesStay

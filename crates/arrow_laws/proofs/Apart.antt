@@ -42,19 +42,21 @@ module _ (due : List ℕ) (r : Placed) (t : List Placed) where
   -- The last text is not above that of r.
   texts_all : has_text r ≡ true → (u : List Placed) → height due (r ∷ t) ≤ (rows_of due (u ++ r ∷ t)).text
   texts_all is [] = subst (λ (b : Bool). height due (r ∷ t) ≤ cond b (height due (r ∷ t)) (rows_of due t).text) (sym is) (omega arith)
-  texts_all is (s ∷ u) = by (has_text s) where
-    by : (b : Bool) → height due (r ∷ t) ≤ cond b (height due (s ∷ (u ++ r ∷ t))) (rows_of due (u ++ r ∷ t)).text
-    by true = falls_all (s ∷ u)
-    by false = texts_all is u
+  texts_all is (s ∷ u) = by (has_text s) (texts_all is u) where
+    by : (b : Bool) → height due (r ∷ t) ≤ (rows_of due (u ++ r ∷ t)).text
+        → height due (r ∷ t) ≤ cond b (height due (s ∷ (u ++ r ∷ t))) (rows_of due (u ++ r ∷ t)).text
+    by true h = falls_all (s ∷ u)
+    by false h = h
 
   -- As many cores have something due.
   due_length : (xs : List Placed) → length (rows_of due xs).due ≡ length due
   due_length [] = refl
-  due_length (s ∷ xs) = by (has_event s) where
-    by : (b : Bool) → length (cond b (slice_set (rows_of due xs).due s.core (height due (s ∷ xs) + room_after s)) (rows_of due xs).due)
+  due_length (s ∷ xs) = by (has_event s) (due_length xs) where
+    by : (b : Bool) → length (rows_of due xs).due ≡ length due
+        → length (cond b (slice_set (rows_of due xs).due s.core (height due (s ∷ xs) + room_after s)) (rows_of due xs).due)
         ≡ length due
-    by true = length-set (rows_of due xs).due s.core (height due (s ∷ xs) + room_after s) ∙ due_length xs
-    by false = due_length xs
+    by true h = length-set (rows_of due xs).due s.core (height due (s ∷ xs) + room_after s) ∙ h
+    by false h = h
 
   -- What r asks of its core is due till the core's next event.
   due_all : r.core < length due → has_event r ≡ true → (u : List Placed) → AreQuiet r.core u
