@@ -1,6 +1,6 @@
 -- The picture of a page: its name, its key, its layers one over another, and what stands below.
 use Rattle.std.specs.Prelude.{ℕ, zero, suc, ◌+◌, ◌*◌, max, nat_lt, ◌==◌, ◌||◌, Bool, true, false, if◌then◌else◌, List, [], ◌++◌, codes}
-use Rattle.std.specs.Prelude.{decimal, Option, Some, None}
+use Rattle.std.specs.Prelude.{decimal}
 use Rattle.spk_nums.specs.Setting.{Setting}
 use Rattle.kernel_history.specs.Trace.{Trace}
 use Rattle.page_layers.specs.picture_shapes.specs.Frame.{right_x, picture_begin, picture_end, title_begin, title_end, heading_begin}
