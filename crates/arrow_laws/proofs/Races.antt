@@ -1,0 +1,179 @@
+-- Each lost race is shown by a line from a step that is later than the call's own entry.
+use Rattle.std.proofs.Common.{◌≡◌, ◌≢◌, inl, inr, ℕ, suc, ◌<◌, ◌≤◌, ◌==◌, ◌&&◌, ◌||◌, not, cond, Bool, true, false, [], ◌∷◌}
+use Rattle.std.proofs.Common.{length, Option, Some, None, refl, sym, ◌∙◌, ap, subst, arith}
+use Rattle.std.specs.Prelude.{is_some, slice_index_or}
+use Rattle.std.proofs.lemmas.Bool.{ne_eqb, eq-eqb, true≢false}
+use Rattle.spk_nums.specs.Setting.{Setting}
+use Rattle.spk_nums.specs.declared.calls.Call.{Call}
+use Rattle.spk_nums.specs.declared.replies.Reply.TheVariants as reply
+use Rattle.word_map.specs.Word.{Word, EntryAt, FrameAt, CountAt, CoreAt, FlushAt, LiveAt, ClockAt, same_word}
+use Rattle.word_map.specs.Places.{place_of}
+use Rattle.word_map.specs.Moves.{word_of, left_of}
+use Rattle.kernel_rules.specs.Rules.{Rule}
+use Rattle.kernel_rules.specs.State.{State}
+use Rattle.kernel_rules.specs.CallRelation.{rule_of}
+use Rattle.kernel_history.specs.Trace.{Step, Trace, phase, after_enter, state_before, IfNot}
+use Rattle.kernel_history.specs.Legal.{IsLegal, MayDecide}
+use Rattle.kernel_history.specs.Justified.{MayLose}
+use Rattle.kernel_history.specs.Laws.{WasChanged}
+use Rattle.kernel_history.specs.BootWords.{shape_of}
+use Rattle.kernel_history.proofs.Names.{same_word-same}
+use Rattle.kernel_history.proofs.Races.{raced_by_another}
+use Rattle.page_drawing.specs.page_layers.specs.Seen.{Seen, seen}
+use Rattle.page_drawing.specs.page_layers.specs.Layers.{is_blamed}
+use Rattle.page_drawing.specs.page_layers.specs.declared.lanes.Change.{Change}
+use Rattle.page_drawing.specs.declared.touches.Touch.{Touch}
+use Rattle.page_drawing.specs.Touches.{untouched, is_clock, is_first, is_told_of, met_by}
+use Rattle.page_drawing.specs.Pages.{Page, page_after}
+use Rattle.arrow_laws.specs.Arrows.{changes, newest, entered_at, returned_at, before_entry, IsLateLine, RacesAreLines}
+use Rattle.arrow_laws.proofs.Calls.{entered_before, returned_before, before_less, before_own, entered_other}
+use Rattle.arrow_laws.proofs.Heads.{newest_core}
+use Rattle.arrow_laws.proofs.Known.{Says, Known, page_known}
+use Rattle.arrow_laws.proofs.Lines.{line_from}
+
+-- The newest change of a word is another core's than c, and later than c's last entry.
+pub record ByAnother (t : Trace) (c : ℕ) (w : Word) : Type 0 where
+  tail : Step
+  before : Trace
+  is_newest : newest t w ≡ tail ∷ before
+  other : tail.core ≢ c
+  later : entered_at t c < suc (length before)
+
+module _ (e : Step) (t : Trace) (c : ℕ) (w : Word) where
+  by_this : changes e w ≡ true → e.core ≢ c → ByAnother (e ∷ t) c w
+  by_this change other = record {
+    tail = e;
+    before = t;
+    is_newest = ap (λ (b : Bool). cond b (e ∷ t) (newest t w)) change;
+    other = other;
+    later = let h = entered_before t c in
+        let same = entered_other e t c (λ h. other (sym h)) in omega arith;
+  }
+
+  by_earlier : changes e w ≡ false → (c == e.core && is_some e.enters) ≡ false → ByAnother t c w → ByAnother (e ∷ t) c w
+  by_earlier kept goes b = record {
+    tail = b.tail;
+    before = b.before;
+    is_newest = ap (λ (x : Bool). cond x (e ∷ t) (newest t w)) kept ∙ b.is_newest;
+    other = b.other;
+    later = subst (λ (n : ℕ). n < suc (length b.before)) (sym (ap (λ (x : Bool). cond x (suc (length t)) (entered_at t c)) goes)) b.later;
+  }
+
+not_if : (b : Bool) (Said : Type 0) → IfNot b Said → (b ≡ false) × Said
+not_if true Said h = absurd h
+not_if false Said h = (refl, h)
+
+left_false : (a b c : Bool) → (a && (b || c)) ≡ false → (a && c) ≡ false
+left_false true true c h = absurd (true≢false h)
+left_false true false c h = h
+left_false false b c h = refl
+
+first_false : (a b c : Bool) → (a && (b || c)) ≡ false → b ≡ true → a ≡ false
+first_false true true c h is = absurd (true≢false h)
+first_false true false c h is = absurd (true≢false (sym is))
+first_false false b c h is = refl
+
+left_true : (a b : Bool) → (a && b) ≡ true → a ≡ true
+left_true true b h = refl
+left_true false b h = absurd (true≢false (sym h))
+
+pub changed_newest : (t : Trace) (c : ℕ) (w : Word) → WasChanged t c w → ByAnother t c w
+changed_newest [] c w was = absurd was
+changed_newest (e ∷ t) c w (inl h) = by_this e t c w
+    (ap (λ (b : Bool). b && not (e.found == left_of e.move e.found)) (same_word-same w (word_of e.move) (sym h.here))
+    ∙ ap not (ne_eqb e.found (left_of e.move e.found) (λ s. h.changed (sym s)))) h.other
+changed_newest (e ∷ t) c w (inr h) =
+    let parts = not_if (c == e.core && (same_word w (word_of e.move) || is_some e.enters)) (WasChanged t c w) h in
+    by (changes e w) refl parts.0 parts.1 (λ was. changed_newest t c w was)
+  where
+    by : (b : Bool) → changes e w ≡ b → (c == e.core && (same_word w (word_of e.move) || is_some e.enters)) ≡ false → WasChanged t c w
+        → (WasChanged t c w → ByAnother t c w) → ByAnother (e ∷ t) c w
+    by true change goes was earlier = by_this e t c w change (λ same. true≢false (sym (eq-eqb c e.core (sym same))
+        ∙ first_false (c == e.core) (same_word w (word_of e.move)) (is_some e.enters) goes (left_true (same_word w (word_of e.move)) _ change)))
+    by false kept goes was earlier = by_earlier e t c w kept
+        (left_false (c == e.core) (same_word w (word_of e.move)) (is_some e.enters) goes) (earlier was)
+
+-- What is known of a step that decides `raced`: it enters no call, and its word is not the clock.
+no_clock : (s : State) (c : ℕ) (rule : Rule) (w : Word) → MayLose s c rule w → is_clock w ≡ false
+no_clock s c rule (EntryAt f i) h = refl
+no_clock s c rule (FrameAt f) h = refl
+no_clock s c rule (CountAt f d) h = refl
+no_clock s c rule (CoreAt d) h = refl
+no_clock s c rule (FlushAt d) h = refl
+no_clock s c rule (LiveAt l) h = refl
+no_clock s c rule ClockAt h = absurd h
+
+no_entry : (o : Option Call) (r : Option ℕ) (v : ℕ) → cond (is_some o) None r ≡ Some v → o ≡ None
+no_entry None r v h = refl
+no_entry (Some call) r v h = cc
+
+record IsRaced (setup : Setting) (t : Trace) (e : Step) : Type 0 where
+  word : is_clock (word_of e.move) ≡ false
+  entry : e.enters ≡ None
+
+raced_step : (setup : Setting) (t : Trace) (e : Step) → MayDecide setup t e (Some reply.Raced) (after_enter e.enters (phase t e.core))
+    → IsRaced setup t e
+raced_step setup t e may = record {
+  word = no_clock (state_before setup t e) e.core (rule_of (state_before setup t e) e.core may.call) (word_of e.move) may.justified.at;
+  entry = no_entry e.enters _ may.justified.own may.justified.has_read;
+}
+
+-- A step that is blamed is met by the change of another core.
+blamed_met : (t : Touch) (s : Seen) (c : Change) → is_blamed s.decides ≡ true → is_clock s.word ≡ false → t.change ≡ Some c
+    → c.core ≢ s.core → met_by (is_told_of t s) t.change s ≡ Some c
+blamed_met t s c blamed clock is apart =
+    ap (λ (o : Option Change). met_by (is_told_of t s) o s) is
+    ∙ ap (λ (b : Bool). cond (b && not (c.core == s.core)) (Some c) None) told
+    ∙ ap (λ (b : Bool). cond (not b) (Some c) None) (ne_eqb c.core s.core apart)
+  where
+    or_true : (b : Bool) → (b || true) ≡ true
+    or_true true = refl
+    or_true false = refl
+
+    told : is_told_of t s ≡ true
+    told = ap (λ (b : Bool). is_first t s || (b && not (is_clock s.word))) blamed
+        ∙ ap (λ (b : Bool). is_first t s || not b) clock ∙ or_true (is_first t s)
+
+module _ (page : ℕ) (setup : Setting) (t : Trace) (e : Step) (legal : IsLegal setup (e ∷ t)) (raced : e.decides ≡ Some reply.Raced)
+    (known : Known setup t (page_after page setup t)) (is : IsRaced setup t e) (by : ByAnother t e.core (word_of e.move))
+    (own_core : e.core < 8) (most : setup.cores ≤ 8) where
+  abbrev p : Page
+  p = page_after page setup t
+
+  abbrev s : Seen
+  s = seen (shape_of setup) e
+
+  abbrev touch : Touch
+  touch = slice_index_or p.words (place_of (shape_of setup) (word_of e.move)) untouched
+
+  blamed : is_blamed e.decides ≡ true
+  blamed = ap is_blamed raced
+
+  -- when e's call was entered, no core had returned later than that
+  no_later : (d : ℕ) → returned_at (before_entry (e ∷ t) e.core) d ≤ entered_at t e.core
+  no_later d = subst (λ (u : Trace). returned_at u d ≤ entered_at t e.core)
+      (sym (before_own e t ∙ ap (λ (o : Option Call). cond (is_some o) t (before_entry t e.core)) is.entry))
+      (let h = returned_before (before_entry t e.core) d in let g = before_less t e.core in omega arith)
+
+  few : (d : ℕ) → d ≡ by.tail.core → d < 8
+  few d same = omega (arith, same, newest_core setup t legal.0 (word_of e.move) by.tail by.before by.is_newest, most)
+
+  by_says : (o : Option Change) → touch.change ≡ o → Says (by.tail ∷ by.before) o → IsLateLine page setup t e
+  by_says None there says = absurd says
+  by_says (Some c) there says = record {
+    change = c;
+    arrow = blamed_met touch s c blamed is.word there (λ h. by.other (sym says.0 ∙ h));
+    line = line_from page setup t e known own_core c (few c.core says.0) (omega (arith, no_later c.core, by.later, says.1));
+    later = omega (arith, by.later, says.1);
+  }
+
+  late_line : IsLateLine page setup t e
+  late_line = by_says touch.change refl (subst (λ (u : Trace). Says u touch.change) by.is_newest
+      (known.words (word_of e.move) legal.1.is_in))
+
+pub races_are_lines : RacesAreLines
+races_are_lines page setup t e setting legal uncut raced =
+    late_line page setup t e legal raced (page_known page setup setting t legal.0 uncut)
+    (raced_step setup t e (subst (λ o. MayDecide setup t e o (after_enter e.enters (phase t e.core))) raced legal.1.decides))
+    (changed_newest t e.core (word_of e.move) (raced_by_another setup t e legal raced))
+    (omega (arith, legal.1.is_core, setting.most_cores)) setting.most_cores
