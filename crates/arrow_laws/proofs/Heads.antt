@@ -1,13 +1,13 @@
 -- The head of an arrow finds what its tail left.
-use Rattle.std.proofs.Common.{◌≡◌, ◌≢◌, ◌⊎◌, inl, inr, ℕ, suc, ◌==◌, ◌&&◌, ◌||◌, not, cond, Bool, true, false, [], ◌∷◌}
-use Rattle.std.proofs.Common.{length, Option, Some, None, refl, sym, ◌∙◌, ap, subst}
+use Rattle.std.proofs.Common.{◌≡◌, ◌≢◌, inl, inr, ◌<◌, ◌==◌, ◌&&◌, not, cond, Bool, true, false, [], ◌∷◌}
+use Rattle.std.proofs.Common.{Option, Some, None, refl, sym, ◌∙◌, ap, subst}
 use Rattle.std.specs.Prelude.{slice_index_or}
-use Rattle.std.proofs.lemmas.Bool.{cases_eq, eqb-true, ne_eqb, eq-eqb, true≢false}
-use Rattle.spk_nums.specs.Setting.{Setting, IsSetting}
-use Rattle.word_map.specs.Word.{Word, same_word}
+use Rattle.std.proofs.lemmas.Bool.{eqb-true, eq-eqb, true≢false}
+use Rattle.spk_nums.specs.Setting.{Setting}
+use Rattle.word_map.specs.Word.{Word}
 use Rattle.word_map.specs.Places.{place_of}
 use Rattle.word_map.specs.Moves.{word_of, left_of}
-use Rattle.kernel_history.specs.Trace.{Step, Trace, last_left, calls_of}
+use Rattle.kernel_history.specs.Trace.{Step, Trace, last_left}
 use Rattle.kernel_history.specs.Legal.{IsLegal}
 use Rattle.kernel_history.specs.BootWords.{shape_of}
 use Rattle.kernel_history.proofs.Names.{cases_word, same_word-same, same_word-other}
@@ -16,9 +16,9 @@ use Rattle.page_drawing.specs.page_layers.specs.Seen.{Seen, seen}
 use Rattle.page_drawing.specs.page_layers.specs.declared.lanes.Change.{Change}
 use Rattle.page_drawing.specs.declared.touches.Touch.{Touch}
 use Rattle.page_drawing.specs.Touches.{untouched, is_told_of, met_by}
-use Rattle.page_drawing.specs.Pages.{page_after, tail_at}
+use Rattle.page_drawing.specs.Pages.{page_after}
 use Rattle.arrow_laws.specs.Arrows.{changes, newest, ComesFrom, HeadsFindTails}
-use Rattle.arrow_laws.proofs.Known.{Says, Known, page_known}
+use Rattle.arrow_laws.proofs.Known.{Says, page_known}
 
 -- The word has last what its newest change left.
 pub newest_left : (setup : Setting) (t : Trace) → IsLegal setup t → (w : Word) (a : Step) (u : Trace) → newest t w ≡ a ∷ u
@@ -26,7 +26,7 @@ pub newest_left : (setup : Setting) (t : Trace) → IsLegal setup t → (w : Wor
 newest_left setup [] legal w a u is = cc
 newest_left setup (e ∷ t) legal w a u is = elim (cases_word w (word_of e.move)) [
   | inl here ↦ last_left-here setup w e t here ∙ by_change (e.found == left_of e.move e.found) refl
-      (sym (newest_here here) ∙ is) here
+      (sym (newest_here here) ∙ is) here (λ h. newest_left setup t legal.0 w a u h)
   | inr there ↦ last_left-there setup w e t there ∙ newest_left setup t legal.0 w a u (sym (newest_there there) ∙ is)
 ] where
   newest_here : w ≡ word_of e.move → newest (e ∷ t) w ≡ cond (not (e.found == left_of e.move e.found)) (e ∷ t) (newest t w)
@@ -39,13 +39,26 @@ newest_left setup (e ∷ t) legal w a u is = elim (cases_word w (word_of e.move)
   head_same x y s r h = cc
 
   by_change : (b : Bool) → (e.found == left_of e.move e.found) ≡ b → cond (not (e.found == left_of e.move e.found)) (e ∷ t) (newest t w) ≡ a ∷ u
-      → w ≡ word_of e.move → left_of e.move e.found ≡ left_of a.move a.found
-  by_change true kept h here =
+      → w ≡ word_of e.move → (newest t w ≡ a ∷ u → last_left setup t w ≡ left_of a.move a.found)
+      → left_of e.move e.found ≡ left_of a.move a.found
+  by_change true kept h here earlier =
       sym (eqb-true e.found (left_of e.move e.found) kept) ∙ legal.1.found ∙ ap (last_left setup t) (sym here)
-      ∙ newest_left setup t legal.0 w a u (sym (ap (λ (b : Bool). cond (not b) (e ∷ t) (newest t w)) kept) ∙ h)
-  by_change false changed h here =
+      ∙ earlier (sym (ap (λ (b : Bool). cond (not b) (e ∷ t) (newest t w)) kept) ∙ h)
+  by_change false changed h here earlier =
       ap (λ (x : Step). left_of x.move x.found)
       (head_same e a t u (sym (ap (λ (b : Bool). cond (not b) (e ∷ t) (newest t w)) changed) ∙ h))
+
+-- The newest change of a word is a step of one of the machine's cores.
+pub newest_core : (setup : Setting) (t : Trace) → IsLegal setup t → (w : Word) (a : Step) (u : Trace) → newest t w ≡ a ∷ u
+    → a.core < setup.cores
+newest_core setup [] legal w a u is = cc
+newest_core setup (e ∷ t) legal w a u is = by (changes e w) is (λ h. newest_core setup t legal.0 w a u h) where
+  head_same : (x y : Step) (s r : Trace) → x ∷ s ≡ y ∷ r → x ≡ y
+  head_same x y s r h = cc
+
+  by : (b : Bool) → cond b (e ∷ t) (newest t w) ≡ a ∷ u → (newest t w ≡ a ∷ u → a.core < setup.cores) → a.core < setup.cores
+  by true h earlier = subst (λ (x : Step). x.core < setup.cores) (head_same e a t u h) legal.1.is_core
+  by false h earlier = earlier h
 
 none_some : {A : Type 0} (x : A) → None ≡ Some x → ⊥
 none_some x h = cc

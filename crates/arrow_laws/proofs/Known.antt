@@ -1,13 +1,13 @@
 -- What a page that has taken all steps of a trace knows of it.
-use Rattle.std.proofs.Common.{◌≡◌, ◌≢◌, ◌⊎◌, inl, inr, ℕ, zero, suc, ◌+◌, ◌<◌, ◌≤◌, ◌++◌, ◌==◌, ◌&&◌, not, cond, Bool, true, false, List, [], ◌∷◌}
-use Rattle.std.proofs.Common.{length, get_or, set, replicate, Option, Some, None, refl, sym, ◌∙◌, ap, subst, arith, length-set, length-append}
+use Rattle.std.proofs.Common.{◌≡◌, ◌≢◌, inl, inr, ℕ, zero, suc, ◌+◌, ◌<◌, ◌++◌, ◌==◌, not, cond, Bool, true, false, List, [], ◌∷◌}
+use Rattle.std.proofs.Common.{length, get_or, replicate, Option, Some, None, refl, sym, ◌∙◌, ap, subst, arith, length-set, length-append}
 use Rattle.std.specs.Prelude.{is_some, option_to_list, slice_index_or, slice_set, nat_lt}
-use Rattle.std.proofs.lemmas.Bool.{cases_eq, eq-eqb, ne_eqb, true≢false}
+use Rattle.std.proofs.lemmas.Bool.{cases_eq, true≢false}
 use Rattle.std.proofs.lemmas.List.{get_or-set_same, get_or-set_other, get_or-replicate, length-replicate}
 use Rattle.spk_nums.specs.Setting.{Setting, IsSetting}
 use Rattle.spk_nums.specs.declared.calls.Call.{Call}
 use Rattle.spk_nums.specs.declared.replies.Reply.{Reply}
-use Rattle.word_map.specs.Word.{Word, same_word}
+use Rattle.word_map.specs.Word.{Word}
 use Rattle.word_map.specs.Places.{IsShape, IsIn, HasPlaces, place_of, size_of}
 use Rattle.word_map.specs.Moves.{word_of, left_of}
 use Rattle.word_map.proofs.PlaceLemmas.{has_places}
@@ -23,9 +23,10 @@ use Rattle.page_drawing.specs.page_layers.specs.declared.lanes.Lane.{Lane}
 use Rattle.page_drawing.specs.page_layers.specs.declared.lanes.Change.{Change}
 use Rattle.page_drawing.specs.declared.touches.Touch.{Touch}
 use Rattle.page_drawing.specs.Touches.{untouched, touched}
-use Rattle.page_drawing.specs.Pages.{Page, blank, is_full, lane_of, returns_of, turned, placed, next_step, lane_at, tail_at, change_at}
-use Rattle.page_drawing.specs.Pages.{words_after, taken, turned_to, step_taken, page_after}
-use Rattle.arrow_laws.specs.Arrows.{changes, newest, entered_at}
+use Rattle.page_drawing.specs.Pages.{Page, blank, is_full, lane_of, returns_of, turned, placed, next_step, tail_at}
+use Rattle.page_drawing.specs.Pages.{taken, turned_to, page_after}
+use Rattle.arrow_laws.specs.Arrows.{newest, entered_at, returned_at, before_entry}
+use Rattle.arrow_laws.proofs.Calls.{entered_own, returned_own, before_own, entered_other, returned_other, before_other}
 
 -- The change tells of the newest one.
 abbrev pub Says : Trace → Option Change → Type 0
@@ -34,16 +35,16 @@ Says [] (Some c) = ⊥
 Says (a ∷ u) None = ⊥
 Says (a ∷ u) (Some c) = (c.core ≡ a.core) × (c.step ≡ suc (length u)) × (c.index ≡ length (calls_of (a ∷ u) a.core))
 
--- Each number of the list is at most n.
-abbrev pub AtMost : List ℕ → ℕ → Type 0
-AtMost xs n = (d : ℕ) → get_or xs d 0 ≤ n
+-- The list has for each of eight cores the step of its last return in the trace.
+abbrev pub AreReturns : List ℕ → Trace → Type 0
+AreReturns xs t = (d : ℕ) → d < 8 → get_or xs d 0 ≡ returned_at t d
 
 -- What is known of a core's calls.
 pub record KnownLane (t : Trace) (c : ℕ) (l : Lane) : Type 0 where
   pub index : l.index ≡ length (calls_of t c)
   pub entered : l.entered ≡ entered_at t c
-  pub returned : l.returned ≤ length t
-  pub others : AtMost l.others l.entered
+  pub returned : l.returned ≡ returned_at t c
+  pub others : AreReturns l.others (before_entry t c)
 
 pub record Known (setup : Setting) (t : Trace) (p : Page) : Type 0 where
   pub count : p.first + p.rows.count ≡ length t
@@ -110,59 +111,52 @@ index_more : (enters : Option Call) (calls : List Call) → cond (is_some enters
 index_more None calls = omega (arith, length-append calls [])
 index_more (Some call) calls = sym (length-append calls (call ∷ []))
 
-at_most_more : (b : Bool) (xs ys : List ℕ) (m n : ℕ) → AtMost xs n → AtMost ys m → AtMost (cond b xs ys) (cond b n m)
-at_most_more true xs ys m n h k = h
-at_most_more false xs ys m n h k = k
-
-returned_most : (b : Bool) (n m k : ℕ) → n ≤ k → m ≤ k → cond b n m ≤ k
-returned_most true n m k h g = h
-returned_most false n m k h g = g
+pub returns_more : (b : Bool) (xs ys : List ℕ) (t u : Trace) → AreReturns xs t → AreReturns ys u → AreReturns (cond b xs ys) (cond b t u)
+returns_more true xs ys t u h k = h
+returns_more false xs ys t u h k = k
 
 -- Of its own step a core's calls are known.
-own_lane : (t : Trace) (e : Step) (l : Lane) (others : List ℕ) (n y : ℕ) → n ≡ suc (length t) → AtMost others n → KnownLane t e.core l
+own_lane : (t : Trace) (e : Step) (l : Lane) (others : List ℕ) (n y : ℕ) → n ≡ suc (length t) → AreReturns others t → KnownLane t e.core l
     → KnownLane (e ∷ t) e.core (lane_next e.enters e.decides e.returns n y others l)
-own_lane t e l others n y is few k = record {
+own_lane t e l others n y is now k = record {
   index = index_next n y others e.enters e.decides e.returns l
       ∙ ap (λ (i : ℕ). cond (is_some e.enters) (i + 1) i) k.index
       ∙ index_more e.enters (calls_of t e.core) ∙ sym (ap length (calls_of-own e.core e t refl));
   entered = entered_next n y others e.enters e.decides e.returns l ∙ ap (cond (is_some e.enters) n) k.entered
-      ∙ ap (λ (i : ℕ). cond (is_some e.enters) i (entered_at t e.core)) is ∙ sym (entered_own e.enters refl);
-  returned = subst (λ (i : ℕ). i ≤ suc (length t)) (sym (returned_next n y others e.enters e.decides e.returns l))
-      (returned_most (is_some e.returns) n l.returned (suc (length t)) (omega (arith, is)) (omega (arith, k.returned)));
-  others = λ d. subst (λ (p : List ℕ × ℕ). get_or p.0 d 0 ≤ p.1)
-      (λ i. (sym (others_next n y others e.enters e.decides e.returns l) i, sym (entered_next n y others e.enters e.decides e.returns l) i))
-      (at_most_more (is_some e.enters) others l.others l.entered n few k.others d);
-} where
-  entered_own : (o : Option Call) → e.enters ≡ o → entered_at (e ∷ t) e.core ≡ cond (is_some e.enters) (suc (length t)) (entered_at t e.core)
-  entered_own o is = rw (eq-eqb e.core e.core refl)
+      ∙ ap (λ (i : ℕ). cond (is_some e.enters) i (entered_at t e.core)) is ∙ sym (entered_own e t);
+  returned = returned_next n y others e.enters e.decides e.returns l ∙ ap (cond (is_some e.returns) n) k.returned
+      ∙ ap (λ (i : ℕ). cond (is_some e.returns) i (returned_at t e.core)) is ∙ sym (returned_own e t);
+  others = λ d lt. ap (λ (xs : List ℕ). get_or xs d 0) (others_next n y others e.enters e.decides e.returns l)
+      ∙ returns_more (is_some e.enters) others l.others t (before_entry t e.core) now k.others d lt
+      ∙ ap (λ (u : Trace). returned_at u d) (sym (before_own e t));
+}
 
 other_lane : (t : Trace) (e : Step) (c : ℕ) (l : Lane) → c ≢ e.core → KnownLane t c l → KnownLane (e ∷ t) c l
 other_lane t e c l apart k = record {
   index = k.index ∙ sym (ap length (calls_of-other c e t apart));
-  entered = k.entered ∙ sym entered_other;
-  returned = omega (arith, k.returned);
-  others = k.others;
-} where
-  entered_other : entered_at (e ∷ t) c ≡ entered_at t c
-  entered_other = rw (ne_eqb c e.core apart)
+  entered = k.entered ∙ sym (entered_other e t c apart);
+  returned = k.returned ∙ sym (returned_other e t c apart);
+  others = λ d lt. k.others d lt ∙ ap (λ (u : Trace). returned_at u d) (sym (before_other e t c apart));
+}
 
 -- The last returns of eight cores.
-eight_most : (a b c d e f g h n : ℕ) → a ≤ n → b ≤ n → c ≤ n → d ≤ n → e ≤ n → f ≤ n → g ≤ n → h ≤ n
-    → AtMost (a ∷ b ∷ c ∷ d ∷ e ∷ f ∷ g ∷ h ∷ []) n
-eight_most a b c d e f g h n la lb lc ld le lf lg lh zero = la
-eight_most a b c d e f g h n la lb lc ld le lf lg lh (suc zero) = lb
-eight_most a b c d e f g h n la lb lc ld le lf lg lh (suc (suc zero)) = lc
-eight_most a b c d e f g h n la lb lc ld le lf lg lh (suc (suc (suc zero))) = ld
-eight_most a b c d e f g h n la lb lc ld le lf lg lh (suc (suc (suc (suc zero)))) = le
-eight_most a b c d e f g h n la lb lc ld le lf lg lh (suc (suc (suc (suc (suc zero))))) = lf
-eight_most a b c d e f g h n la lb lc ld le lf lg lh (suc (suc (suc (suc (suc (suc zero)))))) = lg
-eight_most a b c d e f g h n la lb lc ld le lf lg lh (suc (suc (suc (suc (suc (suc (suc zero))))))) = lh
-eight_most a b c d e f g h n la lb lc ld le lf lg lh (suc (suc (suc (suc (suc (suc (suc (suc i)))))))) = omega arith
+eight_returns : (a b c d e f g h : ℕ) (t : Trace) → a ≡ returned_at t 0 → b ≡ returned_at t 1 → c ≡ returned_at t 2 → d ≡ returned_at t 3
+    → e ≡ returned_at t 4 → f ≡ returned_at t 5 → g ≡ returned_at t 6 → h ≡ returned_at t 7
+    → AreReturns (a ∷ b ∷ c ∷ d ∷ e ∷ f ∷ g ∷ h ∷ []) t
+eight_returns a b c d e f g h t la lb lc ld le lf lg lh zero lt = la
+eight_returns a b c d e f g h t la lb lc ld le lf lg lh (suc zero) lt = lb
+eight_returns a b c d e f g h t la lb lc ld le lf lg lh (suc (suc zero)) lt = lc
+eight_returns a b c d e f g h t la lb lc ld le lf lg lh (suc (suc (suc zero))) lt = ld
+eight_returns a b c d e f g h t la lb lc ld le lf lg lh (suc (suc (suc (suc zero)))) lt = le
+eight_returns a b c d e f g h t la lb lc ld le lf lg lh (suc (suc (suc (suc (suc zero))))) lt = lf
+eight_returns a b c d e f g h t la lb lc ld le lf lg lh (suc (suc (suc (suc (suc (suc zero)))))) lt = lg
+eight_returns a b c d e f g h t la lb lc ld le lf lg lh (suc (suc (suc (suc (suc (suc (suc zero))))))) lt = lh
+eight_returns a b c d e f g h t la lb lc ld le lf lg lh (suc (suc (suc (suc (suc (suc (suc (suc i)))))))) lt = absurd (omega (arith, lt))
 
-returns_most : (t : Trace) (lanes : List Lane) (n : ℕ) → length t ≤ n → ((c : ℕ) → c < 8 → KnownLane t c (lane_of lanes c)) → AtMost (returns_of lanes) n
-returns_most t lanes n le known =
-    let r : (c : ℕ) → c < 8 → (lane_of lanes c).returned ≤ n = λ c lt. omega (arith, (known c lt).returned, le) in
-    eight_most _ _ _ _ _ _ _ _ n (r 0 (omega arith)) (r 1 (omega arith)) (r 2 (omega arith)) (r 3 (omega arith)) (r 4 (omega arith))
+pub returns_now : (t : Trace) (lanes : List Lane) → ((c : ℕ) → c < 8 → KnownLane t c (lane_of lanes c)) → AreReturns (returns_of lanes) t
+returns_now t lanes known =
+    let r : (c : ℕ) → c < 8 → (lane_of lanes c).returned ≡ returned_at t c = λ c lt. (known c lt).returned in
+    eight_returns _ _ _ _ _ _ _ _ t (r 0 (omega arith)) (r 1 (omega arith)) (r 2 (omega arith)) (r 3 (omega arith)) (r 4 (omega arith))
     (r 5 (omega arith)) (r 6 (omega arith)) (r 7 (omega arith))
 
 -- ---- words
@@ -189,7 +183,7 @@ module _ (setup : Setting) (setting : IsSetting setup) (t : Trace) (e : Step) (l
   places : HasPlaces (shape_of setup)
   places = has_places (shape_of setup) shape
 
-  w : Word
+  abbrev w : Word
   w = word_of e.move
 
   own_core : e.core < 8
@@ -197,14 +191,14 @@ module _ (setup : Setting) (setting : IsSetting setup) (t : Trace) (e : Step) (l
 
   -- The page has taken the trace, and takes the step: at a height, by its number.
   module _ (p : Page) (known : Known setup t p) (y n : ℕ) (is : n ≡ suc (length t)) where
-    own : Lane
+    abbrev own : Lane
     own = lane_of p.lanes e.core
 
     -- the core's calls before it returns, and after that
-    at_step : Lane
+    abbrev at_step : Lane
     at_step = lane_topped e.enters y (lane_decided e.decides n (lane_entered e.enters n (returns_of p.lanes) own))
 
-    after_step : Lane
+    abbrev after_step : Lane
     after_step = lane_returned e.returns n at_step
 
     lanes_known : (c : ℕ) → c < 8 → KnownLane (e ∷ t) c (lane_of (slice_set p.lanes e.core after_step) c)
@@ -212,16 +206,15 @@ module _ (setup : Setting) (setting : IsSetting setup) (t : Trace) (e : Step) (l
       | inl mine ↦ subst (λ (d : ℕ). KnownLane (e ∷ t) d (lane_of (slice_set p.lanes e.core after_step) d)) (sym mine)
           (subst (KnownLane (e ∷ t) e.core)
           (sym (get_or-set_same p.lanes e.core after_step no_call (omega (arith, own_core, known.eight))))
-          (own_lane t e own (returns_of p.lanes) n y is
-          (returns_most t p.lanes n (omega (arith, is)) known.lanes) (known.lanes e.core own_core)))
+          (own_lane t e own (returns_of p.lanes) n y is (returns_now t p.lanes known.lanes) (known.lanes e.core own_core)))
       | inr apart ↦ subst (KnownLane (e ∷ t) c) (sym (get_or-set_other p.lanes e.core c after_step no_call apart))
           (other_lane t e c (lane_of p.lanes c) apart (known.lanes c lt))
     ]
 
-    tells : Bool
+    abbrev tells : Bool
     tells = not (e.found == left_of e.move e.found)
 
-    change : Change
+    abbrev change : Change
     change = record { core = e.core; index = at_step.index; step = n; y = y }
 
     change_says : Says (e ∷ t) (Some change)
@@ -233,13 +226,13 @@ module _ (setup : Setting) (setting : IsSetting setup) (t : Trace) (e : Step) (l
           ∙ index_more e.enters (calls_of t e.core) ∙ sym (ap length (calls_of-own e.core e t refl)),
     )
 
-    at : ℕ
+    abbrev at : ℕ
     at = place_of (shape_of setup) w
 
-    touch : Touch
+    abbrev touch : Touch
     touch = touched tells change (slice_index_or p.words at untouched)
 
-    table : List Touch
+    abbrev table : List Touch
     table = slice_set p.words at touch
 
     in_table : at < length p.words
@@ -310,12 +303,9 @@ blank_lanes : (c : ℕ) → c < 8 → KnownLane [] c (lane_of (replicate 8 no_ca
 blank_lanes c lt = subst (KnownLane [] c) (sym (get_or-replicate 8 c no_call no_call lt)) record {
   index = refl;
   entered = refl;
-  returned = omega arith;
-  others = λ d. none_most d;
-} where
-  none_most : (d : ℕ) → get_or (replicate 8 0) d 0 ≤ 0
-  none_most d = eight_most 0 0 0 0 0 0 0 0 0 (omega arith) (omega arith) (omega arith) (omega arith) (omega arith) (omega arith)
-      (omega arith) (omega arith) d
+  returned = refl;
+  others = λ d less. get_or-replicate 8 d 0 0 less;
+}
 
 blank_known : (page : ℕ) (setup : Setting) → Known setup [] (blank page setup)
 blank_known page setup = record {

@@ -1,18 +1,18 @@
 -- Each lost race is shown by a line from a step that is later than the call's own entry.
-use Rattle.std.proofs.Common.{◌≡◌, ◌≢◌, ◌⊎◌, inl, inr, ℕ, suc, ◌<◌, ◌≤◌, ◌==◌, ◌&&◌, ◌||◌, not, cond, Bool, true, false, List, [], ◌∷◌}
-use Rattle.std.proofs.Common.{length, get_or, Option, Some, None, refl, sym, ◌∙◌, ap, subst, arith}
-use Rattle.std.specs.Prelude.{is_some, slice_index_or, nat_lt}
-use Rattle.std.proofs.lemmas.Bool.{cases_eq, ne_eqb, eq-eqb, true≢false, lt-ltb}
-use Rattle.spk_nums.specs.Setting.{Setting, IsSetting}
+use Rattle.std.proofs.Common.{◌≡◌, ◌≢◌, inl, inr, ℕ, suc, ◌<◌, ◌≤◌, ◌==◌, ◌&&◌, ◌||◌, not, cond, Bool, true, false, [], ◌∷◌}
+use Rattle.std.proofs.Common.{length, Option, Some, None, refl, sym, ◌∙◌, ap, subst, arith}
+use Rattle.std.specs.Prelude.{is_some, slice_index_or}
+use Rattle.std.proofs.lemmas.Bool.{ne_eqb, eq-eqb, true≢false}
+use Rattle.spk_nums.specs.Setting.{Setting}
 use Rattle.spk_nums.specs.declared.calls.Call.{Call}
-use Rattle.spk_nums.specs.declared.replies.Reply.{Reply}
 use Rattle.spk_nums.specs.declared.replies.Reply.TheVariants as reply
 use Rattle.word_map.specs.Word.{Word, EntryAt, FrameAt, CountAt, CoreAt, FlushAt, LiveAt, ClockAt, same_word}
 use Rattle.word_map.specs.Places.{place_of}
 use Rattle.word_map.specs.Moves.{word_of, left_of}
 use Rattle.kernel_rules.specs.Rules.{Rule}
 use Rattle.kernel_rules.specs.State.{State}
-use Rattle.kernel_history.specs.Trace.{Step, Trace, phase, after_enter, own_read, IfNot}
+use Rattle.kernel_rules.specs.CallRelation.{rule_of}
+use Rattle.kernel_history.specs.Trace.{Step, Trace, phase, after_enter, state_before, IfNot}
 use Rattle.kernel_history.specs.Legal.{IsLegal, MayDecide}
 use Rattle.kernel_history.specs.Justified.{MayLose}
 use Rattle.kernel_history.specs.Laws.{WasChanged}
@@ -20,25 +20,19 @@ use Rattle.kernel_history.specs.BootWords.{shape_of}
 use Rattle.kernel_history.proofs.Names.{same_word-same}
 use Rattle.kernel_history.proofs.Races.{raced_by_another}
 use Rattle.page_drawing.specs.page_layers.specs.Seen.{Seen, seen}
-use Rattle.page_drawing.specs.page_layers.specs.Lanes.{lane_entered, lane_decided, overlaps}
 use Rattle.page_drawing.specs.page_layers.specs.Layers.{is_blamed}
-use Rattle.page_drawing.specs.page_layers.specs.declared.lanes.Lane.{Lane}
 use Rattle.page_drawing.specs.page_layers.specs.declared.lanes.Change.{Change}
 use Rattle.page_drawing.specs.declared.touches.Touch.{Touch}
 use Rattle.page_drawing.specs.Touches.{untouched, is_clock, is_first, is_told_of, met_by}
-use Rattle.page_drawing.specs.Pages.{Page, page_after, lane_of, returns_of, lane_at, tail_at}
-use Rattle.arrow_laws.specs.Arrows.{changes, newest, entered_at, IsLateLine, RacesAreLines}
+use Rattle.page_drawing.specs.Pages.{Page, page_after}
+use Rattle.arrow_laws.specs.Arrows.{changes, newest, entered_at, returned_at, before_entry, IsLateLine, RacesAreLines}
+use Rattle.arrow_laws.proofs.Calls.{entered_before, returned_before, before_less, before_own, entered_other}
+use Rattle.arrow_laws.proofs.Heads.{newest_core}
 use Rattle.arrow_laws.proofs.Known.{Says, Known, page_known}
-
-entered_before : (t : Trace) (c : ℕ) → entered_at t c ≤ length t
-entered_before [] c = omega arith
-entered_before (e ∷ t) c = by (c == e.core && is_some e.enters) where
-  by : (b : Bool) → cond b (suc (length t)) (entered_at t c) ≤ suc (length t)
-  by true = omega arith
-  by false = let h = entered_before t c in omega arith
+use Rattle.arrow_laws.proofs.Lines.{line_from}
 
 -- The newest change of a word is another core's than c, and later than c's last entry.
-record ByAnother (t : Trace) (c : ℕ) (w : Word) : Type 0 where
+pub record ByAnother (t : Trace) (c : ℕ) (w : Word) : Type 0 where
   tail : Step
   before : Trace
   is_newest : newest t w ≡ tail ∷ before
@@ -46,9 +40,6 @@ record ByAnother (t : Trace) (c : ℕ) (w : Word) : Type 0 where
   later : entered_at t c < suc (length before)
 
 module _ (e : Step) (t : Trace) (c : ℕ) (w : Word) where
-  entered_other : c ≢ e.core → entered_at (e ∷ t) c ≡ entered_at t c
-  entered_other apart = rw (ne_eqb c e.core apart)
-
   by_this : changes e w ≡ true → e.core ≢ c → ByAnother (e ∷ t) c w
   by_this change other = record {
     tail = e;
@@ -56,7 +47,7 @@ module _ (e : Step) (t : Trace) (c : ℕ) (w : Word) where
     is_newest = ap (λ (b : Bool). cond b (e ∷ t) (newest t w)) change;
     other = other;
     later = let h = entered_before t c in
-        let same = entered_other (λ h. other (sym h)) in omega arith;
+        let same = entered_other e t c (λ h. other (sym h)) in omega arith;
   }
 
   by_earlier : changes e w ≡ false → (c == e.core && is_some e.enters) ≡ false → ByAnother t c w → ByAnother (e ∷ t) c w
@@ -93,14 +84,14 @@ changed_newest (e ∷ t) c w (inl h) = by_this e t c w
     ∙ ap not (ne_eqb e.found (left_of e.move e.found) (λ s. h.changed (sym s)))) h.other
 changed_newest (e ∷ t) c w (inr h) =
     let parts = not_if (c == e.core && (same_word w (word_of e.move) || is_some e.enters)) (WasChanged t c w) h in
-    by (changes e w) refl parts.0 parts.1
+    by (changes e w) refl parts.0 parts.1 (λ was. changed_newest t c w was)
   where
     by : (b : Bool) → changes e w ≡ b → (c == e.core && (same_word w (word_of e.move) || is_some e.enters)) ≡ false → WasChanged t c w
-        → ByAnother (e ∷ t) c w
-    by true change goes was = by_this e t c w change (λ same. true≢false (sym (eq-eqb c e.core (sym same))
+        → (WasChanged t c w → ByAnother t c w) → ByAnother (e ∷ t) c w
+    by true change goes was earlier = by_this e t c w change (λ same. true≢false (sym (eq-eqb c e.core (sym same))
         ∙ first_false (c == e.core) (same_word w (word_of e.move)) (is_some e.enters) goes (left_true (same_word w (word_of e.move)) _ change)))
-    by false kept goes was = by_earlier e t c w kept
-        (left_false (c == e.core) (same_word w (word_of e.move)) (is_some e.enters) goes) (changed_newest t c w was)
+    by false kept goes was earlier = by_earlier e t c w kept
+        (left_false (c == e.core) (same_word w (word_of e.move)) (is_some e.enters) goes) (earlier was)
 
 -- What is known of a step that decides `raced`: it enters no call, and its word is not the clock.
 no_clock : (s : State) (c : ℕ) (rule : Rule) (w : Word) → MayLose s c rule w → is_clock w ≡ false
@@ -123,7 +114,7 @@ record IsRaced (setup : Setting) (t : Trace) (e : Step) : Type 0 where
 raced_step : (setup : Setting) (t : Trace) (e : Step) → MayDecide setup t e (Some reply.Raced) (after_enter e.enters (phase t e.core))
     → IsRaced setup t e
 raced_step setup t e may = record {
-  word = no_clock _ _ _ _ may.justified.at;
+  word = no_clock (state_before setup t e) e.core (rule_of (state_before setup t e) e.core may.call) (word_of e.move) may.justified.at;
   entry = no_entry e.enters _ may.justified.own may.justified.has_read;
 }
 
@@ -143,38 +134,36 @@ blamed_met t s c blamed clock is apart =
     told = ap (λ (b : Bool). is_first t s || (b && not (is_clock s.word))) blamed
         ∙ ap (λ (b : Bool). is_first t s || not b) clock ∙ or_true (is_first t s)
 
-others_at : (enters : Option Call) (decides : Option Reply) (n : ℕ) (o : List ℕ) (l : Lane) → enters ≡ None
-    → (lane_decided decides n (lane_entered enters n o l)).others ≡ l.others
-others_at None None n o l is = refl
-others_at None (Some r) n o l is = refl
-others_at (Some c) d n o l is = cc
-
 module _ (page : ℕ) (setup : Setting) (t : Trace) (e : Step) (legal : IsLegal setup (e ∷ t)) (raced : e.decides ≡ Some reply.Raced)
     (known : Known setup t (page_after page setup t)) (is : IsRaced setup t e) (by : ByAnother t e.core (word_of e.move))
-    (own_core : e.core < 8) where
-  p : Page
+    (own_core : e.core < 8) (most : setup.cores ≤ 8) where
+  abbrev p : Page
   p = page_after page setup t
 
-  s : Seen
+  abbrev s : Seen
   s = seen (shape_of setup) e
 
-  touch : Touch
+  abbrev touch : Touch
   touch = slice_index_or p.words (place_of (shape_of setup) (word_of e.move)) untouched
 
   blamed : is_blamed e.decides ≡ true
   blamed = ap is_blamed raced
+
+  -- when e's call was entered, no core had returned later than that
+  no_later : (d : ℕ) → returned_at (before_entry (e ∷ t) e.core) d ≤ entered_at t e.core
+  no_later d = subst (λ (u : Trace). returned_at u d ≤ entered_at t e.core)
+      (sym (before_own e t ∙ ap (λ (o : Option Call). cond (is_some o) t (before_entry t e.core)) is.entry))
+      (let h = returned_before (before_entry t e.core) d in let g = before_less t e.core in omega arith)
+
+  few : (d : ℕ) → d ≡ by.tail.core → d < 8
+  few d same = omega (arith, same, newest_core setup t legal.0 (word_of e.move) by.tail by.before by.is_newest, most)
 
   by_says : (o : Option Change) → touch.change ≡ o → Says (by.tail ∷ by.before) o → IsLateLine page setup t e
   by_says None there says = absurd says
   by_says (Some c) there says = record {
     change = c;
     arrow = blamed_met touch s c blamed is.word there (λ h. by.other (sym says.0 ∙ h));
-    line = λ n.
-        let lane = known.lanes e.core own_core in
-        let few = lane.others c.core in
-        ap (λ (o : List ℕ). nat_lt (get_or o c.core 0) c.step)
-        (others_at e.enters e.decides n (returns_of p.lanes) (lane_of p.lanes e.core) is.entry)
-        ∙ lt-ltb (get_or (lane_of p.lanes e.core).others c.core 0) c.step (omega (arith, few, lane.entered, by.later, says.1));
+    line = line_from page setup t e known own_core c (few c.core says.0) (omega (arith, no_later c.core, by.later, says.1));
     later = omega (arith, by.later, says.1);
   }
 
@@ -187,4 +176,4 @@ races_are_lines page setup t e setting legal uncut raced =
     late_line page setup t e legal raced (page_known page setup setting t legal.0 uncut)
     (raced_step setup t e (subst (λ o. MayDecide setup t e o (after_enter e.enters (phase t e.core))) raced legal.1.decides))
     (changed_newest t e.core (word_of e.move) (raced_by_another setup t e legal raced))
-    (omega (arith, legal.1.is_core, setting.most_cores))
+    (omega (arith, legal.1.is_core, setting.most_cores)) setting.most_cores

@@ -1,5 +1,6 @@
 -- What the arrows of a picture say of its trace.
-use Rattle.std.specs.Prelude.{◌≡◌, ◌≢◌, ◌<◌, ℕ, suc, Bool, true, false, ◌==◌, ◌&&◌, not, if◌then◌else◌, [], ◌∷◌, length, Option, Some, is_some}
+use Rattle.std.specs.Prelude.{◌≡◌, ◌≢◌, ◌<◌, ℕ, suc, Bool, true, false, ◌==◌, ◌&&◌, not, nat_lt, if◌then◌else◌, [], ◌∷◌, length}
+use Rattle.std.specs.Prelude.{Option, Some, is_some}
 use Rattle.spk_nums.specs.Setting.{Setting, IsSetting}
 use Rattle.spk_nums.specs.declared.replies.Reply.TheVariants as reply
 use Rattle.word_map.specs.Word.{Word, same_word}
@@ -7,10 +8,10 @@ use Rattle.word_map.specs.Moves.{word_of, left_of}
 use Rattle.kernel_history.specs.Trace.{Step, Trace, calls_of}
 use Rattle.kernel_history.specs.Legal.{IsLegal}
 use Rattle.kernel_history.specs.BootWords.{shape_of}
-use Rattle.page_drawing.specs.page_layers.specs.Seen.{seen}
+use Rattle.page_drawing.specs.page_layers.specs.Seen.{Seen, seen}
 use Rattle.page_drawing.specs.page_layers.specs.Lanes.{overlaps}
 use Rattle.page_drawing.specs.page_layers.specs.declared.lanes.Change.{Change}
-use Rattle.page_drawing.specs.Pages.{Page, page_after, tail_at, lane_at}
+use Rattle.page_drawing.specs.Pages.{Page, page_after, tail_at, lane_at, next_step}
 
 -- A step leaves another value in this word.
 abbrev pub changes : Step → Word → Bool
@@ -44,16 +45,39 @@ abbrev pub HeadsFindTails : Type 0
 HeadsFindTails = (page : ℕ) (setup : Setting) (t : Trace) (e : Step) (c : Change) → IsSetting setup → IsLegal setup (e ∷ t)
     → HasTaken page setup t → arrow_to page setup t e ≡ Some c → ComesFrom t e c
 
--- The number of the step at which a core has entered a call last; 0 where it has entered none.
+-- The number of the step at which a core has entered a call last; 0 where it has entered none. And that of its last return.
 abbrev pub entered_at : Trace → ℕ → ℕ
 entered_at [] c = 0
 entered_at (e ∷ t) c = if c == e.core && is_some e.enters then suc (length t) else entered_at t c
 
--- An arrow that is a line: its two calls overlap, and its tail is later than the entry of e's call.
+abbrev pub returned_at : Trace → ℕ → ℕ
+returned_at [] c = 0
+returned_at (e ∷ t) c = if c == e.core && is_some e.returns then suc (length t) else returned_at t c
+
+-- The steps before the one at which a core has entered a call last; none where it has entered none.
+abbrev pub before_entry : Trace → ℕ → Trace
+before_entry [] c = []
+before_entry (e ∷ t) c = if c == e.core && is_some e.enters then t else before_entry t c
+
+-- The arrow to e from this change is a line; else it is short.
+abbrev pub is_line_on : Page → Seen → Change → Bool
+is_line_on p s c = overlaps (lane_at p s (next_step p)) c
+
+abbrev pub is_line : ℕ → Setting → Trace → Step → Change → Bool
+is_line page setup t e c = is_line_on (page_after page setup t) (seen (shape_of setup) e) c
+
+-- An arrow is a line exactly where its two calls overlap: where the tail's core had not returned from the tail on when the call of the
+-- head was entered.
+abbrev pub LinesOverlap : Type 0
+LinesOverlap = (page : ℕ) (setup : Setting) (t : Trace) (e : Step) (c : Change) → IsSetting setup → IsLegal setup (e ∷ t)
+    → HasTaken page setup t → arrow_to page setup t e ≡ Some c
+    → is_line page setup t e c ≡ nat_lt (returned_at (before_entry (e ∷ t) e.core) c.core) c.step
+
+-- An arrow that is a line, and whose tail is later than the entry of e's call.
 pub record IsLateLine (page : ℕ) (setup : Setting) (t : Trace) (e : Step) : Type 0 where
   pub change : Change
   pub arrow : arrow_to page setup t e ≡ Some change
-  pub line : (n : ℕ) → overlaps (lane_at (page_after page setup t) (seen (shape_of setup) e) n) change ≡ true
+  pub line : is_line page setup t e change ≡ true
   pub later : entered_at t e.core < change.step
 
 abbrev pub RacesAreLines : Type 0

@@ -14,7 +14,7 @@ use Rattle.page_drawing.specs.Pages.{IsSound}
 pub dues_most : (a b c d e f g h : ℕ) → a ≤ 178 → b ≤ 178 → c ≤ 178 → d ≤ 178 → e ≤ 178 → f ≤ 178 → g ≤ 178 → h ≤ 178
     → All (λ x. x ≤ 178) (a ∷ b ∷ c ∷ d ∷ e ∷ f ∷ g ∷ h ∷ [])
 dues_most a b c d e f g h la lb lc ld le lf lg lh =
-    All-from_recursion (λ (x : ℕ). x ≤ 178) (a ∷ b ∷ c ∷ d ∷ e ∷ f ∷ g ∷ h ∷ []) (la, lb, lc, ld, le, lf, lg, lh, tt)
+    All-from_recursion (λ (x : ℕ). x ≤ 178) (a ∷ b ∷ c ∷ d ∷ e ∷ f ∷ g ∷ h ∷ []) (la, (lb, (lc, (ld, (le, (lf, (lg, (lh, tt))))))))
 
 -- No core has entered more calls than steps are made.
 pub lanes_noted : (lanes : List Lane) (core n m : ℕ) (l : Lane) → All (λ x. x.index ≤ n) lanes → n ≤ m → l.index ≤ m

@@ -4,8 +4,8 @@ use Rattle.std.specs.Prelude.{ℕ, ◌+◌, ◌*◌, ◌≤◌, All, nat_lt, nat
 use Rattle.std.specs.Prelude.{List, [], ◌∷◌, replicate, slice_index_or, slice_set, Option, Some, None}
 use Rattle.spk_nums.specs.Setting.{Setting}
 use Rattle.spk_nums.specs.declared.calls.Call.{Call}
-use Rattle.step_views.specs.word_map.specs.Places.{Shape, size_of}
-use Rattle.kernel_history.specs.Trace.{Step, Trace}
+use Rattle.step_views.specs.word_map.specs.Places.{size_of}
+use Rattle.kernel_history.specs.Trace.{Trace}
 use Rattle.kernel_history.specs.BootWords.{shape_of}
 use Rattle.picture_rows.specs.declared.rows.Placed.{Placed}
 use Rattle.picture_rows.specs.declared.rows.Rows.{Rows}

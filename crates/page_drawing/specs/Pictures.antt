@@ -1,6 +1,6 @@
 -- The picture of a page: its name, its key, its layers one over another, and what stands below.
 use Rattle.std.specs.Prelude.{ℕ, zero, suc, ◌+◌, ◌*◌, max, nat_lt, ◌==◌, ◌||◌, Bool, true, false, if◌then◌else◌, List, [], ◌++◌, codes}
-use Rattle.std.specs.Prelude.{decimal, Option, Some, None}
+use Rattle.std.specs.Prelude.{decimal}
 use Rattle.spk_nums.specs.Setting.{Setting}
 use Rattle.kernel_history.specs.Trace.{Trace}
 use Rattle.page_layers.specs.picture_shapes.specs.Frame.{right_x, picture_begin, picture_end, title_begin, title_end, heading_begin}
@@ -58,16 +58,26 @@ width_of cores letters = max 760 (right_x cores + (46 + 8 * letters))
 abbrev pub height_of : ℕ → ℕ → Bool → ℕ
 height_of y feet cut = y + (46 + 17 * (if cut then feet + 1 else feet))
 
--- How a picture of this size begins, with this name.
+-- How a picture of this size begins, with this name, as its title and as its heading.
+abbrev pub picture_title : List ℕ → List ℕ
+picture_title name = title_begin ++ (name ++ title_end)
+
+abbrev pub picture_heading : List ℕ → List ℕ
+picture_heading name = heading_begin ++ (name ++ text_end)
+
 abbrev pub picture_head : ℕ → ℕ → List ℕ → List ℕ
 picture_head width height name =
-    picture_begin width height ++ (title_begin ++ (name ++ (title_end ++ (about ++ (styles ++ (paper width height
-    ++ (heading_begin ++ (name ++ text_end))))))))
+    picture_begin width height ++ (picture_title name ++ (about ++ (styles ++ (paper width height ++ picture_heading name))))
 
 -- The layers, one over another.
+abbrev pub lower_layers : Layers → List ℕ
+lower_layers l = l.grounds ++ (l.leads ++ (l.arrows ++ (l.bars ++ l.edges)))
+
+abbrev pub upper_layers : Layers → List ℕ
+upper_layers l = l.teeth ++ (l.marks ++ (l.texts ++ l.names))
+
 abbrev pub layers_text : Layers → List ℕ
-layers_text l =
-    l.grounds ++ (l.leads ++ (l.arrows ++ (l.bars ++ (l.edges ++ (l.teeth ++ (l.marks ++ (l.texts ++ l.names)))))))
+layers_text l = lower_layers l ++ upper_layers l
 
 abbrev pub page_text : Page → Layers → List ℕ
 page_text p l =

@@ -17,8 +17,10 @@ untouched = record { change = None; cores = replicate 8 false }
 
 -- A word after a core's step on it: a step that leaves another value is its newest change, and that core alone has come to it since.
 abbrev pub touched : Bool → Change → Touch → Touch
-touched false c t = record t { cores = slice_set t.cores c.core true }
-touched true c t = record { change = Some c; cores = slice_set (replicate 8 false) c.core true }
+touched changes c t = record {
+  change = if changes then Some c else t.change;
+  cores = slice_set (if changes then replicate 8 false else t.cores) c.core true;
+}
 
 -- The words whose first finding is told: the entries of frames, their kinds, and the liveness numbers.
 abbrev pub is_told : Word → Bool

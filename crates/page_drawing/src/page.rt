@@ -1,9 +1,9 @@
 //! A page, as it grows.
 
-ghost use Rattle.std.specs.Prelude.{◌≡◌, ◌+◌, ◌*◌, ◌<◌, ◌≤◌, ◌^◌, OnOk, IfOk, All, true, ◌&&◌, if◌then◌else◌, is_some, not, replicate};
+ghost use Rattle.std.specs.Prelude.{◌≡◌, ◌==◌, ◌+◌, ◌*◌, ◌<◌, ◌≤◌, ◌^◌, OnOk, IfOk, All, true, ◌&&◌, if◌then◌else◌, is_some, not, replicate};
 ghost use Rattle.word_map.specs.Places.{size_of};
 ghost use Rattle.picture_rows.specs.Rows.{IsWithin};
-ghost use Rattle.page_layers.specs.Lanes.{lane_entered, lane_decided, lane_returned};
+ghost use Rattle.page_layers.specs.Lanes.{lane_entered, lane_decided, lane_topped, lane_returned};
 ghost use Rattle.kernel_history.specs.BootWords.{shape_of};
 ghost use Rattle.page_layers.specs.Seen.{seen_made};
 ghost use Rattle.page_drawing.specs.Pages.{blank, is_full, lane_of, first_due, first_dues, returns_of, turned, follows, run_after};
@@ -13,7 +13,7 @@ ghost use Rattle.page_drawing.specs.Pages.{step_taken};
 ghost use Rattle.page_drawing.specs.Touches.{untouched, frame_of};
 
 use crate::touches::{
-    Touch, frame_of, note_frame, note_word, start_words, tail_of, untouched, word_at,
+    Touch, first_words, frame_of, note_frame, note_word, start_words, tail_of, untouched, word_at,
 };
 use page_layers::{Change, Lane, Moment, Sheet};
 use picture_rows::{Placed, Rows};
@@ -44,10 +44,10 @@ pub struct TracePage {
     pub(crate) is_cut: bool,
     pub(crate) first: u64,
     pub(crate) calls: u16,
-    decisions: u64,
+    pub(crate) decisions: u64,
     pub(crate) lanes: [Lane; 8],
-    words: Vec<Touch>,
-    frames: Vec<u64>,
+    pub(crate) words: Vec<Touch>,
+    pub(crate) frames: Vec<u64>,
     pub(crate) rows: Rows,
     pub(crate) run: Option<Run>,
     pub(crate) sheet: Sheet,
@@ -134,6 +134,19 @@ fn lane_at(lanes: &[Lane; 8], made: &StepMade, step: u64) -> Lane
     lane
 }
 
+// And with the height of its entry.
+#[tactic(auto, using(crate::proofs::Sound::index_most))]
+fn lane_drawn(lanes: &[Lane; 8], made: &StepMade, step: u64, y: u16) -> Lane
+    requires { (lane_of lanes.now made.now.view.core).index + 1 < 2 ^ 64 }
+    ensures value { result ≡ lane_topped made.now.view.enters y (lane_decided made.now.decides step
+        (lane_entered made.now.view.enters step (returns_of lanes.now) (lane_of lanes.now made.now.view.core))) }
+    ensures index { result.index ≤ (lane_of lanes.now made.now.view.core).index + 1 }
+{
+    let mut lane = lane_at(lanes, made, step);
+    lane.set_top(&made.view.enters, y);
+    lane
+}
+
 fn follows(run: &Option<Run>, core: u8) -> bool
     ensures { result ≡ follows run.now core }
 {
@@ -187,7 +200,8 @@ fn next_run(run: &mut Option<Run>, made: &StepMade, y: u16)
 }
 
 fn placing(run: &Option<Run>, made: &StepMade, met: bool) -> Placed
-    ensures { result ≡ record {
+    ensures core { result.core < 8 }
+    ensures value { result ≡ record {
       core = made.now.view.core;
       enters = is_some made.now.view.enters;
       decides = is_some made.now.decides;
@@ -208,16 +222,24 @@ fn placing(run: &Option<Run>, made: &StepMade, met: bool) -> Placed
     }
 }
 
-// The words of the table before any step.
-fn first_words(alloc: Global, setup: &Setup) -> Result<Vec<Touch>, AllocError>
-    ensures { IfOk result (λ words. words.items ≡ replicate (size_of (shape_of setup.now)) untouched) }
+// How many words the table has.
+fn table_size(setup: &Setup) -> u32
+    ensures { result ≡ size_of (shape_of setup.now) }
 {
     let Some(layout) = Layout::new(setup.cores(), setup.frames()) else {
         // A setup is within the limits of a layout.
-        return Ok(Vec::new(alloc));
+        return 0;
     };
-    let words = vec![in alloc; untouched(); layout.size() as usize]?;
-    Ok(words)
+    layout.size()
+}
+
+// The number of the next step, after so many pages and steps.
+pub(crate) fn next_step(page: u32, first: u64, count: u16) -> u64
+    requires before { first ≤ 2000 * page }
+    ensures { result ≡ first + (count + 1) }
+{
+    let _page = page;
+    first + (u64::from(count) + 1)
 }
 
 impl TracePage {
@@ -226,7 +248,7 @@ impl TracePage {
     pub fn new(alloc: Global, wanted: u32, setup: &Setup) -> Result<TracePage, AllocError>
         ensures { IfOk result (λ page. page ≡ blank wanted setup.now) }
     {
-        let words = first_words(alloc, setup)?;
+        let words = first_words(alloc, table_size(setup))?;
         let frames = start_words(alloc, setup.cores(), setup.frames())?;
         Ok(TracePage {
             cores: setup.cores(),
@@ -276,39 +298,46 @@ impl TracePage {
         if self.is_cut {
             return Ok(());
         }
-        if self.is_full(&made.view.enters) {
-            if self.wanted <= self.page {
-                self.is_cut = true;
-                return Ok(());
-            }
-            self.turn();
+        if !self.is_full(&made.view.enters) {
+            return self.take(made);
         }
+        self.tell_next(made)
+    }
+
+    #[tactic(auto, using(crate::proofs::Room::rows_room, crate::proofs::Room::calls_room))]
+    // Takes the first step of the next page, if that is still wanted.
+    fn tell_next(&mut self, made: &StepMade) -> Result<(), AllocError>
+        ensures { OnOk result (self.new ≡ turned_to self.old (seen_made made.now)) }
+    {
+        if self.wanted <= self.page {
+            self.is_cut = true;
+            return Ok(());
+        }
+        self.turn();
         self.take(made)
     }
 
     // Takes a step for which the page has room.
-    #[tactic(auto, using(crate::proofs::Sound::step_room, crate::proofs::Sound::call_room, crate::proofs::Sound::index_most))]
+    #[tactic(auto, using(crate::proofs::Sound::step_room, crate::proofs::Sound::call_room, crate::proofs::Sound::own_index))]
     fn take(&mut self, made: &StepMade) -> Result<(), AllocError>
         requires rows { self.old.rows.count < 2000 }
         requires calls { is_some made.now.view.enters ≡ true → self.old.calls < 60 }
         ensures { OnOk result (self.new ≡ taken self.old (seen_made made.now)) }
     {
-        let step = self.first + (u64::from(self.rows.count) + 1);
+        let step = next_step(self.page, self.first, self.rows.count);
         let word = word_at(&self.words, place_in(&made.view.op) as usize);
         let tail = tail_of(&word, made);
         let mut rows = self.rows;
         rows.take(&placing(&self.run, made, tail.is_some()));
-        let mut lane = lane_at(&self.lanes, made, step);
-        lane.set_top(&made.view.enters, rows.y);
+        let lane = lane_drawn(&self.lanes, made, step, rows.y);
         self.draw(made, &lane, &tail, step, rows.y)?;
         self.note(made, &lane, step, &rows);
         Ok(())
     }
 
     // Where a step stands, at this height.
-    #[tactic(auto, using(crate::proofs::Sound::decision_room))]
     fn moment(&self, made: &StepMade, step: u64, y: u16) -> Moment
-        requires { self.now.rows.count < 2000 }
+        requires { self.now.decisions + 1 < 2 ^ 64 }
         ensures { result ≡ moment self.now (seen_made made.now) step y }
     {
         Moment {
@@ -322,6 +351,7 @@ impl TracePage {
     }
 
     // Draws a step at this height, where the page is the one that is asked for.
+    #[tactic(auto, using(crate::proofs::Sound::decision_room))]
     fn draw(
         &mut self,
         made: &StepMade,
@@ -338,7 +368,9 @@ impl TracePage {
             return Ok(());
         }
         let moment = self.moment(made, step, y);
-        leave_run(&mut self.sheet, &self.run, made, self.rows.y)?;
+        let run = self.run;
+        let last = self.rows.y;
+        leave_run(&mut self.sheet, &run, made, last)?;
         self.sheet.draw_step(&moment, made, lane, tail)?;
         self.sheet
             .draw_return(&moment, made.view.core.number(), &made.returns, lane)
@@ -367,7 +399,7 @@ impl TracePage {
             &mut self.words,
             place_in(&made.view.op) as usize,
             made.view.found != made.view.left,
-            change,
+            &change,
         );
         note_frame(&mut self.frames, &made.view.word, made.view.left);
         next_run(&mut self.run, made, rows.y);

@@ -6,10 +6,10 @@ ghost use Rattle.page_layers.specs.Layers.{foot_y};
 ghost use Rattle.page_drawing.specs.Pages.{Page};
 ghost use Rattle.page_drawing.specs.Pictures.{counted, number_words, steps_words, page_words, cores_finished, finished, cut_here};
 ghost use Rattle.page_drawing.specs.Pictures.{cut_line, cut_words, width_of, height_of};
-ghost use Rattle.page_drawing.specs.Pictures.{layers_text, page_text, none_words, none_text, text_of, picture_head};
+ghost use Rattle.page_drawing.specs.Pictures.{picture_title, picture_heading, lower_layers, upper_layers, layers_text, page_text, none_words, none_text, text_of, picture_head};
 
-use crate::page::{TracePage, end_run};
-use page_layers::Sheet;
+use crate::page::{TracePage, end_run, next_step};
+use page_layers::{Lane, Sheet};
 use picture_shapes::{
     begin_heading, begin_picture, begin_sentence, begin_title, end_picture, end_text, end_title,
     push_about, push_heads, push_key, push_paper, push_styles,
@@ -73,34 +73,59 @@ fn push_none(text: &mut String, wanted: u32, page: u32) -> Result<(), AllocError
     write!(text, "There is no page {wanted}: the last is page {page}.")
 }
 
-// Begins a picture of this size, with this name.
-fn push_head(text: &mut String, width: u32, height: u32, name: &String) -> Result<(), AllocError>
-    ensures { OnOk result (string_bytes text.new ≡ string_bytes text.old ++ picture_head width height (string_bytes name.now)) }
+// Appends the name of a picture as its title, and as its heading.
+fn push_title(text: &mut String, name: &String) -> Result<(), AllocError>
+    ensures { OnOk result (string_bytes text.new ≡ string_bytes text.old ++ picture_title (string_bytes name.now)) }
 {
-    begin_picture(text, width, height)?;
     begin_title(text)?;
     text.push_str(name)?;
-    end_title(text)?;
-    push_about(text)?;
-    push_styles(text)?;
-    push_paper(text, width, height)?;
+    end_title(text)
+}
+
+fn push_heading(text: &mut String, name: &String) -> Result<(), AllocError>
+    ensures { OnOk result (string_bytes text.new ≡ string_bytes text.old ++ picture_heading (string_bytes name.now)) }
+{
     begin_heading(text)?;
     text.push_str(name)?;
     end_text(text)
 }
 
-fn push_layers(text: &mut String, sheet: &Sheet) -> Result<(), AllocError>
-    ensures { OnOk result (string_bytes text.new ≡ string_bytes text.old ++ layers_text sheet.now) }
+// Begins a picture of this size, with this name.
+fn push_head(text: &mut String, width: u32, height: u32, name: &String) -> Result<(), AllocError>
+    ensures { OnOk result (string_bytes text.new ≡ string_bytes text.old ++ picture_head width height (string_bytes name.now)) }
+{
+    begin_picture(text, width, height)?;
+    push_title(text, name)?;
+    push_about(text)?;
+    push_styles(text)?;
+    push_paper(text, width, height)?;
+    push_heading(text, name)
+}
+
+fn push_lower(text: &mut String, sheet: &Sheet) -> Result<(), AllocError>
+    ensures { OnOk result (string_bytes text.new ≡ string_bytes text.old ++ lower_layers sheet.now) }
 {
     text.push_str(&sheet.grounds)?;
     text.push_str(&sheet.leads)?;
     text.push_str(&sheet.arrows)?;
     text.push_str(&sheet.bars)?;
-    text.push_str(&sheet.edges)?;
+    text.push_str(&sheet.edges)
+}
+
+fn push_upper(text: &mut String, sheet: &Sheet) -> Result<(), AllocError>
+    ensures { OnOk result (string_bytes text.new ≡ string_bytes text.old ++ upper_layers sheet.now) }
+{
     text.push_str(&sheet.teeth)?;
     text.push_str(&sheet.marks)?;
     text.push_str(&sheet.texts)?;
     text.push_str(&sheet.names)
+}
+
+fn push_layers(text: &mut String, sheet: &Sheet) -> Result<(), AllocError>
+    ensures { OnOk result (string_bytes text.new ≡ string_bytes text.old ++ layers_text sheet.now) }
+{
+    push_lower(text, sheet)?;
+    push_upper(text, sheet)
 }
 
 fn width_of(cores: u8, letters: u16) -> u32
@@ -128,6 +153,26 @@ fn foot_y(y: u16, feet: u8) -> u32
     u32::from(y) + 53 + 17 * u32::from(feet)
 }
 
+// Finishes the lanes of all cores.
+#[tactic(auto, using(crate::proofs::Feet::feet_of_core))]
+fn finish_cores(
+    sheet: &mut Sheet,
+    cores: u8,
+    lanes: &[Lane; 8],
+    first: u64,
+    y: u16,
+) -> Result<(), AllocError>
+    requires few { cores ≤ 8 }
+    requires none { sheet.old.feet ≡ 0 }
+    ensures { OnOk result (sheet.new ≡ cores_finished cores lanes.now first y sheet.old cores) }
+{
+    'cores: for core in 0..cores {
+        let lane = lanes[usize::from(core)];
+        sheet.finish_core(cores, core, &lane, first, y)?;
+    }
+    Ok(())
+}
+
 impl TracePage {
     fn push_name(&self, text: &mut String) -> Result<(), AllocError>
         ensures { OnOk result (string_bytes text.new ≡ string_bytes text.old ++ page_words self.now) }
@@ -153,33 +198,48 @@ impl TracePage {
         push_cut(
             text,
             foot_y(self.rows.y, self.sheet.feet),
-            self.first + (u64::from(self.rows.count) + 1),
+            next_step(self.page, self.first, self.rows.count),
         )
     }
 
-    // Finishes the lanes of all cores.
-    #[tactic(auto, using(crate::proofs::Feet::feet_of_core))]
-    fn finish_cores(&mut self) -> Result<(), AllocError>
-        requires { self.old.layers.feet ≡ 0 }
-        ensures { OnOk result (self.new ≡ record self.old {
-          layers = cores_finished self.old.cores self.old.lanes self.old.first self.old.rows.y self.old.layers self.old.cores;
-        }) }
-    {
-        'cores: for core in 0..self.cores {
-            let lane = self.lanes[usize::from(core)];
-            self.sheet
-                .finish_core(self.cores, core, &lane, self.first, self.rows.y)?;
-        }
-        Ok(())
-    }
-
     // Finishes the page.
-    fn finish(&mut self) -> Result<(), AllocError>
-        ensures { OnOk result (self.new ≡ record self.old { layers = finished self.old }) }
+    fn finish(self) -> Result<TracePage, AllocError>
+        ensures { IfOk result (λ page. page ≡ record self { layers = finished self }) }
     {
-        end_run(&mut self.sheet, &self.run, self.rows.y)?;
-        self.sheet.feet = 0;
-        self.finish_cores()
+        let TracePage {
+            cores,
+            wanted,
+            page,
+            is_cut,
+            first,
+            calls,
+            decisions,
+            lanes,
+            words,
+            frames,
+            rows,
+            run,
+            sheet,
+        } = self;
+        let mut sheet = sheet;
+        end_run(&mut sheet, &run, rows.y)?;
+        sheet.feet = 0;
+        finish_cores(&mut sheet, cores, &lanes, first, rows.y)?;
+        Ok(TracePage {
+            cores,
+            wanted,
+            page,
+            is_cut,
+            first,
+            calls,
+            decisions,
+            lanes,
+            words,
+            frames,
+            rows,
+            run,
+            sheet,
+        })
     }
 
     // Appends the page, whose lanes are finished.
@@ -214,13 +274,12 @@ impl TracePage {
     pub fn into_text(self, alloc: Global) -> Result<String, AllocError>
         ensures { IfOk result (λ text. string_bytes text ≡ text_of self) }
     {
-        let mut page = self;
         let mut text = String::new(alloc);
-        if page.page != page.wanted {
-            page.push_no_page(alloc, &mut text)?;
+        if self.page != self.wanted {
+            self.push_no_page(alloc, &mut text)?;
             return Ok(text);
         }
-        page.finish()?;
+        let page = self.finish()?;
         page.push_page(alloc, &mut text)?;
         Ok(text)
     }

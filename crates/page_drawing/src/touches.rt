@@ -1,6 +1,6 @@
 //! The words of the table, and the frames' words.
 
-ghost use Rattle.std.specs.Prelude.{◌≡◌, ◌+◌, ◌*◌, ◌<◌, ◌≤◌, IfOk, if◌then◌else◌, nat_lt, slice_index_or, slice_set};
+ghost use Rattle.std.specs.Prelude.{◌≡◌, ◌+◌, ◌*◌, ◌<◌, ◌≤◌, IfOk, Some, true, false, replicate, if◌then◌else◌, nat_lt, slice_index_or, slice_set};
 ghost use Rattle.spk_nums.specs.declared.kinds.Obj.TheVariants.{Thread, Tcap};
 ghost use Rattle.step_views.specs.Names.{named};
 ghost use Rattle.page_layers.specs.Seen.{seen_made};
@@ -31,15 +31,29 @@ pub fn untouched() -> Touch
     }
 }
 
-/// Notes a step on a word.
-pub fn note_touch(word: &mut Touch, changes: bool, change: Change)
-    ensures { word.new ≡ touched changes change word.old }
+// The newest change of a word after a step that makes this change, or none.
+fn newest(old: &Option<Change>, changes: bool, change: &Change) -> Option<Change>
+    ensures { result ≡ (if changes then Some change.now else old.now) }
 {
-    if changes {
-        word.change = Some(change);
-        word.cores = [false; 8];
-    }
-    word.cores[usize::from(change.core.number())] = true;
+    if changes { Some(*change) } else { *old }
+}
+
+// The cores that have come to a word since its newest change, but for the one that steps on it.
+fn cores_since(cores: [bool; 8], changes: bool) -> [bool; 8]
+    ensures { result ≡ (if changes then replicate 8 false else cores) }
+{
+    if changes { [false; 8] } else { cores }
+}
+
+/// Notes a step on a word.
+pub fn note_touch(word: &mut Touch, changes: bool, change: &Change)
+    ensures { word.new ≡ touched changes change.now word.old }
+{
+    let newest = newest(&word.change, changes, change);
+    let mut cores = cores_since(word.cores, changes);
+    cores[usize::from(change.core.number())] = true;
+    word.change = newest;
+    word.cores = cores;
 }
 
 fn is_told(word: &WordName) -> bool
@@ -111,6 +125,19 @@ fn untyped_word() -> u64
         mark: None,
     }
     .pack()
+}
+
+/// So many words that no step has changed.
+pub fn first_words(alloc: Global, size: u32) -> Result<Vec<Touch>, AllocError>
+    ensures { IfOk result (λ words. words.items ≡ replicate size untouched) }
+{
+    let change: Option<Change> = None;
+    let blank = Touch {
+        change,
+        cores: [false; 8],
+    };
+    let words = vec![in alloc; blank; size as usize]?;
+    Ok(words)
 }
 
 // The word of a frame at the start, among so many cores.
@@ -187,8 +214,8 @@ pub fn word_at(words: &[Touch], place: usize) -> Touch
 }
 
 /// Notes a step on the word at a place.
-pub fn note_word(words: &mut [Touch], place: usize, changes: bool, change: Change)
-    ensures { words.new ≡ slice_set words.old place (touched changes change (slice_index_or words.old place untouched)) }
+pub fn note_word(words: &mut [Touch], place: usize, changes: bool, change: &Change)
+    ensures { words.new ≡ slice_set words.old place (touched changes change.now (slice_index_or words.old place untouched)) }
 {
     if place < words.len() {
         note_touch(&mut words[place], changes, change);

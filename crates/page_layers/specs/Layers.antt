@@ -152,9 +152,12 @@ with_open core l (Some call) first y p = with_open_bar core l first y p
 abbrev pub foot_y : ℕ → ℕ → ℕ
 foot_y y feet = y + 53 + 17 * feet
 
+-- What stands after a call there.
+abbrev pub in_progress : List ℕ
+in_progress = aside_begin ++ (codes "in progress" ++ (span_end ++ text_end))
+
 abbrev pub foot_line : ℕ → ℕ → Lane → ℕ → ℕ → List ℕ
-foot_line cores core l y feet =
-    line_begin cores (foot_y y feet) ++ (lane_words core l ++ (aside_begin ++ (codes "in progress" ++ (span_end ++ text_end))))
+foot_line cores core l y feet = line_begin cores (foot_y y feet) ++ (lane_words core l ++ in_progress)
 
 abbrev pub with_foot : ℕ → ℕ → Lane → ℕ → Layers → Layers
 with_foot cores core l y p = record p {

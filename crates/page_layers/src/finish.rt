@@ -2,7 +2,7 @@
 
 ghost use Rattle.std.specs.Prelude.{◌≡◌, ◌+◌, ◌*◌, ◌<◌, ◌≤◌, ◌++◌, max, OnOk, IfOk, codes, string_bytes};
 ghost use Rattle.page_layers.specs.Words.{letters, lane_words};
-ghost use Rattle.page_layers.specs.Layers.{with_ground, with_open_bar, with_open, foot_y, foot_line, with_foot, with_undecided, with_progress, with_core};
+ghost use Rattle.page_layers.specs.Layers.{with_ground, with_open_bar, with_open, foot_y, in_progress, foot_line, with_foot, with_undecided, with_progress, with_core};
 
 use crate::lanes::Lane;
 use crate::sheet::{Sheet, larger};
@@ -20,6 +20,16 @@ fn foot_y(y: u16, feet: u8) -> u32
     u32::from(y) + 53 + 17 * u32::from(feet)
 }
 
+// Appends what stands after a call in progress.
+fn push_in_progress(text: &mut String) -> Result<(), AllocError>
+    ensures { OnOk result (string_bytes text.new ≡ string_bytes text.old ++ in_progress) }
+{
+    begin_aside(text)?;
+    text.push_str("in progress")?;
+    end_span(text)?;
+    end_text(text)
+}
+
 // Appends the line of a call in progress, and says for how many letters it counts.
 fn push_foot_line(
     text: &mut String,
@@ -34,10 +44,7 @@ fn push_foot_line(
 {
     begin_line(text, cores, foot_y(y, feet))?;
     let call = push_lane_words(text, core, lane)?;
-    begin_aside(text)?;
-    text.push_str("in progress")?;
-    end_span(text)?;
-    end_text(text)?;
+    push_in_progress(text)?;
     Ok(call + 13)
 }
 

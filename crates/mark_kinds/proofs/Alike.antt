@@ -1,0 +1,189 @@
+-- Few calls change how the words of frames are read for marks.
+use Rattle.std.proofs.Common.{◌≡◌, ◌≢◌, ◌⊎◌, inl, inr, ℕ, ◌-◌, ◌+◌, true, false, List, ◌∷◌, drop, Option, Some, None, IsTrue, refl, sym, ◌∙◌, ap, subst}
+use Rattle.std.proofs.lemmas.Bool.{cases_eq, true≢false, false≢true}
+use Rattle.spk_nums.specs.Capability.{Capability}
+use Rattle.spk_nums.specs.declared.kinds.Kind.{Kind}
+use Rattle.spk_nums.specs.declared.calls.Make.{Make}
+use Rattle.spk_nums.specs.declared.calls.Make.TheVariants as make
+use Rattle.spk_nums.specs.declared.calls.Call.{Call}
+use Rattle.spk_nums.specs.declared.calls.Call.TheVariants as call
+use Rattle.spk_nums.specs.declared.replies.Reply.{Reply}
+use Rattle.spk_nums.specs.declared.replies.Reply.TheVariants as reply
+use Rattle.spk_nums.specs.declared.translations.Translation.{Translation}
+use Rattle.kernel_rules.specs.State.{Place, Free, Holds, Quiescing, ThreadFields, TcapFields, Object, Table, Leaf, Pages, Pleaf, Thread, Tcap, Frame, Kernel, State, put}
+use Rattle.kernel_rules.specs.State.{comp_of, thread_in, thread_of}
+use Rattle.kernel_rules.specs.Relies.{is_node}
+use Rattle.kernel_rules.specs.Rules.{Change, Rule, Judged, Refused, Found}
+use Rattle.kernel_rules.specs.Access.{Named, found}
+use Rattle.kernel_rules.specs.CapabilityCalls.{make_node, makes, cleared, make_rule}
+use Rattle.kernel_rules.specs.MemoryCalls.{touch_by, translation_of}
+use Rattle.kernel_rules.specs.InvocationCalls.{with_thread, with_stack, running, switch_to}
+use Rattle.kernel_rules.specs.TimeCalls.{tcap_at, with_tcap, with_budget, with_qualities, moved, merged_list}
+use Rattle.kernel_rules.specs.CallRelation.{rule_of, change_of, changed, owed_by, state_by}
+use Rattle.kernel_rules.proofs.Changes.{AllChanges, IfFound, outcome_all}
+use Rattle.kernel_rules.proofs.Within.{put_same, put_other}
+use Rattle.kernel_invariant.proofs.Sound.{put_all}
+use Rattle.kernel_history.specs.Marks.{mark_in_frame}
+use Rattle.kernel_history.specs.Discipline.{changes_frames, changes_places}
+use Rattle.mark_kinds.specs.Reads.{ReadAlike, KindsStay, NodesStay}
+
+-- A frame with another thread in place of its own, or another temporal capability, is read as before.
+thread_alike : (x : Frame) (u : ThreadFields) (i v : ℕ) → mark_in_frame (with_thread x u) i v ≡ mark_in_frame x i v
+thread_alike (Kernel (Thread t)) u i v = refl
+thread_alike _ u i v = refl
+
+tcap_alike : (x : Frame) (q : TcapFields) (i v : ℕ) → mark_in_frame (with_tcap x q) i v ≡ mark_in_frame x i v
+tcap_alike (Kernel (Tcap p)) q i v = refl
+tcap_alike _ q i v = refl
+
+put_alike : (frame : ℕ → Frame) (f : ℕ) (y : Frame) → ((i v : ℕ) → mark_in_frame y i v ≡ mark_in_frame (frame f) i v) → (g i v : ℕ)
+    → mark_in_frame (put frame f y g) i v ≡ mark_in_frame (frame g) i v
+put_alike frame f y new g i v = put_all (λ h x. mark_in_frame x i v ≡ mark_in_frame (frame h) i v) frame f y g
+    (λ same. new i v ∙ ap (λ n. mark_in_frame (frame n) i v) (sym same)) (λ other. refl)
+
+stack_alike : (s : State) (c : ℕ) (stack : List ℕ) → ReadAlike s (with_stack s c stack)
+stack_alike s c stack = put_alike s.frame (s.core c).thread _ (thread_alike (s.frame (s.core c).thread) (record (thread_of s c) { stack = stack }))
+
+running_alike : (s : State) (f : ℕ) (core : Option ℕ) → ReadAlike s (running s f core)
+running_alike s f core = put_alike s.frame f _ (thread_alike (s.frame f) _)
+
+budget_alike : (s : State) (f budget : ℕ) → ReadAlike s (with_budget s f budget)
+budget_alike s f budget = put_alike s.frame f _ (tcap_alike (s.frame f) (record (tcap_at s f) { budget = budget }))
+
+list_alike : (s : State) (f : ℕ) (list : List (ℕ × ℕ)) → ReadAlike s (with_qualities s f list)
+list_alike s f list = put_alike s.frame f _ (tcap_alike (s.frame f) (record (tcap_at s f) { qualities = list }))
+
+moved_alike : (s : State) (a b m : ℕ) → ReadAlike s (moved s a b m)
+moved_alike s a b m f i v =
+    budget_alike (with_budget s a ((tcap_at s a).budget - m)) b ((tcap_at s b).budget + m) f i v
+    ∙ budget_alike s a ((tcap_at s a).budget - m) f i v
+
+-- The changes that a rule can make leave all words read as before.
+abbrev AllAlike : State → Rule → Type 0
+AllAlike s rule = AllChanges (λ change. ReadAlike s change.next) rule
+
+touch_all : (s : State) (c pages v : ℕ) (o : Option Translation) → AllAlike s (touch_by s c pages v o)
+touch_all s c pages v None = λ k f i w. refl
+touch_all s c pages v (Some t) = λ f i w. refl
+
+switch_all : (s : State) (c : ℕ) (h : Named) (q : ℕ) (o : Option ℕ) → AllAlike s (switch_to s c h q o)
+switch_all s c h q None = λ f i v.
+    running_alike (running s (s.core c).thread None) h.frame (Some c) f i v ∙ running_alike s (s.core c).thread None f i v
+switch_all s c h q (Some e) = λ f i v.
+    running_alike (running s (s.core c).thread None) h.frame (Some c) f i v ∙ running_alike s (s.core c).thread None f i v
+
+all_alike : (s : State) (c : ℕ) (what : Call) → changes_frames what ≡ false → AllAlike s (rule_of s c what)
+all_alike s c (call.Look a) stays = λ k f i v. refl
+all_alike s c (call.Copy a t b rights) stays = λ k table at f i v. refl
+all_alike s c (call.Remove t b) stays = λ table at k f i v. refl
+all_alike s c (call.Grow t j l) stays = λ table leaf at f i v. refl
+all_alike s c (call.Shrink t j) stays = λ table at k f i v. refl
+all_alike s c (call.Retype r g k) stays = absurd (true≢false stays)
+all_alike s c (call.Make what r g t b) stays = absurd (true≢false stays)
+all_alike s c (call.Map p u r g w) stays = λ pages range at f i v. refl
+all_alike s c (call.Unmap p u) stays = λ pages at k f i v. refl
+all_alike s c (call.Touch u) stays = touch_all s c (comp_of s c).pages u (translation_of (s.core c).cached (comp_of s c).pages u)
+all_alike s c call.Flush stays = λ f i v. refl
+all_alike s c (call.Gate k t b) stays = λ comp table at f i v. refl
+all_alike s c (call.Kill k) stays = λ comp f i v. refl
+all_alike s c (call.Call g) stays = λ gate. stack_alike s c (gate.frame ∷ (thread_of s c).stack)
+all_alike s c call.Ret stays = stack_alike s c (drop 1 (thread_of s c).stack)
+all_alike s c (call.Switch h q) stays = λ thread tcap. switch_all s c (found thread) tcap.frame (thread_in (s.frame thread.frame)).runs_on
+all_alike s c (call.Tick n) stays = budget_alike s (s.core c).tcap _
+all_alike s c (call.Transfer a b m) stays = λ j k. moved_alike s j.frame k.frame m
+all_alike s c (call.Delegate a b m) stays = λ j k f i v.
+    list_alike (moved s j.frame k.frame m) k.frame (merged_list s j.frame k.frame) f i v ∙ moved_alike s j.frame k.frame m f i v
+all_alike s c (call.Test a b) stays = λ j k f i v. refl
+
+-- What is owed changes no frame.
+owed_alike : (s : State) (c : ℕ) (what : Call) → ReadAlike s (owed_by s c what)
+owed_alike s c (call.Tick n) f i v = refl
+owed_alike s c _ f i v = refl
+
+changed_alike : (s : State) (x : Judged Change) → IfFound x (λ change. ReadAlike s change.next) → ReadAlike s (changed s x)
+changed_alike s (Refused r) h f i v = refl
+changed_alike s (Found change) h f i v = h f i v
+
+pub kinds_stay : KindsStay
+kinds_stay s c what (reply.Ok x) stays f i v = changed_alike s (change_of s c what)
+    (outcome_all (λ change. ReadAlike s change.next) s c (rule_of s c what) (all_alike s c what stays)) f i v
+kinds_stay s c what reply.Raced stays f i v = owed_alike s c what f i v
+kinds_stay s c what (reply.Busy d) stays f i v = owed_alike s c what f i v
+kinds_stay s c what _ stays f i v = refl
+
+-- A place of a node that is made anew holds nothing removed.
+abbrev NodesAlike : (ℕ → Frame) → (ℕ → Frame) → (ℕ → ℕ → Place) → Type 0
+NodesAlike frame frame' place' = (f i : ℕ) (k : Capability) → IsTrue (is_node (frame' f)) → place' f i ≡ Quiescing k → (v : ℕ)
+    → mark_in_frame (frame' f) i v ≡ mark_in_frame (frame f) i v
+
+free_removed : (k : Capability) → Free ≡ Quiescing k → ⊥
+free_removed k h = cc
+
+held_removed : (j k : Capability) → Holds j ≡ Quiescing k → ⊥
+held_removed j k h = cc
+
+-- Where a place holds something that is not removed, it is another.
+filled : (place : ℕ → ℕ → Place) (g j : ℕ) (h k : Capability) (f i : ℕ) → put place g (put (place g) j (Holds h)) f i ≡ Quiescing k
+    → place f i ≡ Quiescing k
+filled place g j h k f i is = elim (cases_eq f g) [
+  | inr other ↦ sym (ap (λ (r : ℕ → Place). r i) (put_other place g (put (place g) j (Holds h)) f other)) ∙ is
+  | inl same ↦ elim (cases_eq i j) [
+    | inl here ↦ absurd (held_removed h k (sym (ap (λ (r : ℕ → Place). r i) (put_same place g (put (place g) j (Holds h)) f same)
+        ∙ put_same (place g) j (Holds h) i here) ∙ is))
+    | inr there ↦ ap (λ (n : ℕ). place n i) same ∙ sym (ap (λ (r : ℕ → Place). r i) (put_same place g (put (place g) j (Holds h)) f same)
+        ∙ put_other (place g) j (Holds h) i there) ∙ is
+  ]
+]
+
+-- A node is made in frame g, whose places are then free; or an object that is no node.
+node_made : (frame : ℕ → Frame) (place : ℕ → ℕ → Place) (object : Object) (g node j : ℕ) (h : Capability)
+    → NodesAlike frame (put frame g (Kernel object))
+    (put (put place g (λ i. Free)) node (put (put place g (λ i. Free) node) j (Holds h)))
+node_made frame place object g node j h f i m is removed v = elim (cases_eq f g) [
+  | inr other ↦ ap (λ x. mark_in_frame x i v) (put_other frame g (Kernel object) f other)
+  | inl same ↦ absurd (free_removed m (sym (ap (λ (r : ℕ → Place). r i) (put_same place g (λ i. Free) f same))
+      ∙ filled (put place g (λ i. Free)) node j h m f i removed))
+]
+
+object_made : (frame : ℕ → Frame) (place : ℕ → ℕ → Place) (object : Object) (g : ℕ) → is_node (Kernel object) ≡ false
+    → NodesAlike frame (put frame g (Kernel object)) place
+object_made frame place object g bare f i m node removed v = elim (cases_eq f g) [
+  | inr other ↦ ap (λ x. mark_in_frame x i v) (put_other frame g (Kernel object) f other)
+  | inl same ↦ absurd (false≢true (sym bare ∙ ap is_node (sym (put_same frame g (Kernel object) f same)) ∙ node))
+]
+
+abbrev AllNodes : State → Rule → Type 0
+AllNodes s rule = AllChanges (λ change. NodesAlike s.frame change.next.frame change.next.place) rule
+
+make_nodes : (s : State) (what : Make) (r g t b : ℕ) → AllNodes s (make_rule s what r g t b)
+make_nodes s make.Table r g t b = λ range table at. node_made s.frame s.place Table g at.node at.index _
+make_nodes s make.Leaf r g t b = λ range table at. node_made s.frame s.place Leaf g at.node at.index _
+make_nodes s make.Pages r g t b = λ range table at. node_made s.frame s.place Pages g at.node at.index _
+make_nodes s make.Pleaf r g t b = λ range table at. node_made s.frame s.place Pleaf g at.node at.index _
+make_nodes s (make.Thread comp) r g t b = λ range table own at. object_made s.frame _ _ g refl
+make_nodes s (make.Tcap sched quality) r g t b = λ range table at. object_made s.frame _ _ g refl
+make_nodes s (make.Comp x p l) r g t b = λ range table own pages at. object_made s.frame _ _ g refl
+
+changed_nodes : (s : State) (x : Judged Change) → IfFound x (λ change. NodesAlike s.frame change.next.frame change.next.place)
+    → NodesAlike s.frame (changed s x).frame (changed s x).place
+changed_nodes s (Refused r) h f i k node removed v = refl
+changed_nodes s (Found change) h f i k node removed v = h f i k node removed v
+
+made_nodes : (s : State) (c : ℕ) (what : Make) (r g t b : ℕ) (q : Reply)
+    → NodesAlike s.frame (state_by s c (call.Make what r g t b) q).frame (state_by s c (call.Make what r g t b) q).place
+made_nodes s c what r g t b (reply.Ok x) = changed_nodes s (change_of s c (call.Make what r g t b))
+    (outcome_all (λ change. NodesAlike s.frame change.next.frame change.next.place) s c (make_rule s what r g t b) (make_nodes s what r g t b))
+made_nodes s c what r g t b _ = λ f i k node removed v. refl
+
+pub nodes_stay : NodesStay
+nodes_stay s c (call.Make what r g t b) q places f i k node removed v = made_nodes s c what r g t b q f i k node removed v
+nodes_stay s c (call.Retype r g k) q places f i m node removed v = absurd (true≢false (sym places))
+nodes_stay s c (call.Look a) q places f i k node removed v = kinds_stay s c (call.Look a) q refl f i v
+nodes_stay s c (call.Copy a t b rights) q places f i k node removed v = kinds_stay s c (call.Copy a t b rights) q refl f i v
+nodes_stay s c (call.Remove t b) q places f i k node removed v = kinds_stay s c (call.Remove t b) q refl f i v
+nodes_stay s c (call.Grow t j l) q places f i k node removed v = kinds_stay s c (call.Grow t j l) q refl f i v
+nodes_stay s c (call.Shrink t j) q places f i k node removed v = kinds_stay s c (call.Shrink t j) q refl f i v
+nodes_stay s c (call.Map p u r g w) q places f i k node removed v = kinds_stay s c (call.Map p u r g w) q refl f i v
+nodes_stay s c (call.Unmap p u) q places f i k node removed v = kinds_stay s c (call.Unmap p u) q refl f i v
+nodes_stay s c (call.Gate m t b) q places f i k node removed v = kinds_stay s c (call.Gate m t b) q refl f i v
+nodes_stay s c _ q places f i k node removed v = absurd (true≢false (sym places))

@@ -1,0 +1,478 @@
+-- What is found elsewhere than in a core's word, and what begins, says of no wait.
+use Rattle.std.proofs.Common.{if◌then◌else◌, Bool, true, false, List, Option, Some, None, refl, ℕ, ◌&&◌, nat_le}
+use Rattle.call_stages.specs.act_states.specs.word_map.specs.Word.{Word, CoreAt}
+use Rattle.call_stages.specs.act_states.specs.word_map.specs.Moves.{word_of}
+use Rattle.call_stages.specs.spk_nums.specs.Capability.{Capability}
+use Rattle.call_stages.specs.spk_nums.specs.Rights.{has_rights}
+use Rattle.call_stages.specs.spk_nums.specs.declared.kinds.FrameKind.{FrameKind}
+use Rattle.call_stages.specs.spk_nums.specs.declared.kinds.Kind.{Kind}
+use Rattle.call_stages.specs.spk_nums.specs.declared.kinds.Kind.TheVariants as kind
+use Rattle.call_stages.specs.spk_nums.specs.declared.kinds.PageFlags.{PageFlags}
+use Rattle.call_stages.specs.spk_nums.specs.declared.calls.Make.{Make}
+use Rattle.call_stages.specs.spk_nums.specs.declared.calls.Make.TheVariants as make
+use Rattle.call_stages.specs.spk_nums.specs.declared.calls.Call.{Call}
+use Rattle.call_stages.specs.spk_nums.specs.declared.calls.Call.TheVariants as call_as
+use Rattle.call_stages.specs.spk_nums.specs.declared.replies.Value.{Value}
+use Rattle.call_stages.specs.spk_nums.specs.declared.replies.Reply.{Reply}
+use Rattle.call_stages.specs.spk_nums.specs.declared.replies.Reply.TheVariants as reply
+use Rattle.call_stages.specs.spk_nums.specs.declared.steps.StageEnd.{StageEnd}
+use Rattle.call_stages.specs.spk_nums.specs.declared.steps.StageEnd.TheVariants as ends
+use Rattle.call_stages.specs.act_states.specs.entry_words.specs.declared.entry.Entry.{Entry}
+use Rattle.call_stages.specs.act_states.specs.entry_words.specs.declared.entry.Entry.TheVariants as entry
+use Rattle.call_stages.specs.act_states.specs.frame_words.specs.declared.count_word.CountWord.{CountWord}
+use Rattle.call_stages.specs.act_states.specs.frame_words.specs.declared.count_word.Hold.{Hold}
+use Rattle.call_stages.specs.act_states.specs.frame_words.specs.declared.count_word.Hold.TheVariants as hold
+use Rattle.call_stages.specs.act_states.specs.frame_words.specs.declared.core_word.CoreWord.{CoreWord}
+use Rattle.call_stages.specs.act_states.specs.frame_words.specs.declared.flush_word.FlushWord.{FlushWord}
+use Rattle.call_stages.specs.act_states.specs.frame_words.specs.declared.comp_word.CompWord.{CompWord}
+use Rattle.call_stages.specs.act_states.specs.frame_words.specs.declared.live_word.LiveWord.{LiveWord}
+use Rattle.call_stages.specs.act_states.specs.frame_words.specs.declared.live_word.LiveWord.TheVariants as live
+use Rattle.call_stages.specs.act_states.specs.tcap_words.specs.declared.thread_word.ThreadWord.{ThreadWord}
+use Rattle.call_stages.specs.act_states.specs.tcap_words.specs.declared.thread_word.ThreadWord.TheVariants as thread
+use Rattle.call_stages.specs.act_states.specs.tcap_words.specs.declared.stack_word.StackWord.{StackWord}
+use Rattle.call_stages.specs.act_states.specs.tcap_words.specs.declared.head_word.HeadWord.{HeadWord}
+use Rattle.call_stages.specs.act_states.specs.tcap_words.specs.declared.quality_word.QualityWord.{QualityWord}
+use Rattle.call_stages.specs.act_states.specs.call_plans.specs.After.{Next, NextName, NextFree, NextHeld, NextOwn, NextNothing}
+use Rattle.call_stages.specs.act_states.specs.kernel_rules.specs.Access.{Target as place, Under, InRoot}
+use Rattle.call_stages.specs.act_states.specs.kernel_rules.specs.Access.{Want}
+use Rattle.call_stages.specs.act_states.specs.stage_look.specs.declared.look.Look.{Look}
+use Rattle.call_stages.specs.act_states.specs.stage_look.specs.declared.look.Look.TheVariants as look
+use Rattle.call_stages.specs.act_states.specs.stage_look.specs.declared.look.Found.{Found}
+use Rattle.call_stages.specs.act_states.specs.stage_look.specs.Lookup.{look_end, end_by_link, root_end, place_end}
+use Rattle.call_stages.specs.act_states.specs.stage_quiet.specs.declared.quiet.Quiet.{Quiet}
+use Rattle.call_stages.specs.act_states.specs.stage_quiet.specs.declared.quiet.Quiet.TheVariants as quiet
+use Rattle.call_stages.specs.act_states.specs.stage_quiet.specs.Scan.{quiet_move, quiet_end, quiet_refuses, scan_end, core_refuses, flush_refuses}
+use Rattle.call_stages.specs.act_states.specs.stage_thread.specs.Living.{lives_end, number_end, live_end, comp_end, alive_end}
+use Rattle.call_stages.specs.act_states.specs.stage_thread.specs.declared.alive.Alive.{Alive}
+use Rattle.call_stages.specs.act_states.specs.stage_thread.specs.declared.alive.Alive.TheVariants as alive
+use Rattle.call_stages.specs.act_states.specs.stage_thread.specs.Claiming.{thread_end, claim_compared, claimed_within, top_end, stack_end, claim_end}
+use Rattle.call_stages.specs.act_states.specs.stage_thread.specs.declared.claim.Claim.{Claim as ClaimOf}
+use Rattle.call_stages.specs.act_states.specs.stage_thread.specs.declared.claim.Claim.TheVariants as claim
+use Rattle.call_stages.specs.act_states.specs.stage_thread.specs.declared.claim.Claimed.{Claimed}
+use Rattle.call_stages.specs.act_states.specs.stage_pins.specs.Acquire.{end_by_hold, load_end, compare_end, pin_end}
+use Rattle.call_stages.specs.act_states.specs.stage_pins.specs.declared.pin.Pin.{Pin}
+use Rattle.call_stages.specs.act_states.specs.stage_pins.specs.declared.pin.Pin.TheVariants as pin
+use Rattle.call_stages.specs.act_states.specs.stage_pins.specs.declared.pin.Pinned.{Pinned}
+use Rattle.call_stages.specs.act_states.specs.stage_tcap.specs.Charging.{end_by_mark, head_end, charged_end, charge_end}
+use Rattle.call_stages.specs.act_states.specs.stage_tcap.specs.declared.charge.Charge.{Charge}
+use Rattle.call_stages.specs.act_states.specs.stage_tcap.specs.declared.charge.Charge.TheVariants as charge
+use Rattle.call_stages.specs.act_states.specs.stage_tcap.specs.Pairs.{end_by_budget, marked_end, decided_by_mark, b_end, list_end, again_end, end_at}
+use Rattle.call_stages.specs.act_states.specs.stage_tcap.specs.declared.pair.Pair.{Pair}
+use Rattle.call_stages.specs.act_states.specs.stage_tcap.specs.declared.pair.PairAt.{PairAt}
+use Rattle.call_stages.specs.act_states.specs.stage_tcap.specs.declared.pair.PairAt.TheVariants as pair
+use Rattle.call_stages.specs.act_states.specs.stage_tcap.specs.declared.pair.PairWork.{PairWork}
+use Rattle.call_stages.specs.act_states.specs.declared.refusals.Refusal.{Refusal}
+use Rattle.call_stages.specs.act_states.specs.declared.refusals.Refusal.TheVariants as refusal
+use Rattle.call_stages.specs.act_states.specs.declared.own.Own.{Own}
+use Rattle.call_stages.specs.act_states.specs.declared.lookups.Met.{Met}
+use Rattle.call_stages.specs.act_states.specs.declared.lookups.Met.TheVariants.{Finds, Refused}
+use Rattle.call_stages.specs.act_states.specs.call_plans.specs.Plans.{at_place}
+use Rattle.call_stages.specs.act_states.specs.call_plans.specs.declared.plans.Nth.TheVariants.{First, Second}
+use Rattle.call_stages.specs.act_states.specs.stage_tcap.specs.declared.pair.PairWork.TheVariants as share
+use Rattle.call_stages.specs.act_states.specs.declared.objects.NewObject.{NewObject}
+use Rattle.call_stages.specs.act_states.specs.Objects.{object_made}
+use Rattle.call_stages.specs.act_states.specs.declared.work.Act.{Act as ActType}
+use Rattle.call_stages.specs.act_states.specs.declared.work.Act.TheVariants as act_as
+use Rattle.call_stages.specs.act_states.specs.declared.work.Work.TheVariants.{Lookup}
+use Rattle.call_stages.specs.act_states.specs.declared.work.WorkStep.{WorkStep}
+use Rattle.call_stages.specs.act_states.specs.declared.work.WorkStep.TheVariants.{Goes, Acquires, Refuses as refuses_to, Answers, Changes as work_changes}
+use Rattle.call_stages.specs.act_states.specs.Refusals.{reply_of, refusal_of}
+use Rattle.call_stages.specs.act_states.specs.Lookups.{looks_under, looks_entry, looks_at, read_first, next_step, met_right, met_cap, met_name, met_free, met_held}
+use Rattle.call_stages.specs.act_states.specs.Touches.{fault_of, touches_if}
+use Rattle.call_stages.specs.act_states.specs.Shares.{shared, took_shared, shares_if, shares_at}
+use Rattle.call_stages.specs.act_states.specs.Acts.{looked, scans, starts, fills_with, removes_held, removes_at, types_if, types_at, makes_at}
+use Rattle.call_stages.specs.act_states.specs.Acts.{maps_if, maps_at, comps_at, made_begun, kills_in, kills_at, invokes_if, invokes_in, invokes_at, returns_if, switches_at, act_begun}
+use Rattle.call_stages.specs.declared.stages.Stage.TheVariants.{Decided}
+use Rattle.wait_steps.specs.Waits.{RefusesAt, RepliesAt, StepAt, EndAt, MayAt, IsAgain}
+
+pub refused_at : (w : Word) (r : Reply) → RepliesAt w r → RefusesAt w (refusal_of r)
+refused_at w (reply.Quiescing d) h = h
+refused_at w _ h = tt
+
+pub replied_at : (w : Word) (r : Refusal) → RefusesAt w r → RepliesAt w (reply_of r)
+replied_at w (refusal.Quiescing d) h = h
+replied_at w _ h = tt
+
+pub fault_at : (w : Word) (r : Reply) → RepliesAt w r → RefusesAt w (fault_of r)
+fault_at w (reply.Quiescing d) h = h
+fault_at w _ h = tt
+
+-- The scan of a core's word.
+pub core_at : (stamp at : ℕ) (o : Option CoreWord) → MayAt (CoreAt at) (core_refuses stamp at o)
+core_at stamp at None = tt
+core_at stamp at (Some v) = by (v.inside && nat_le v.stamp stamp) where
+  by : (b : Bool) → MayAt (CoreAt at) (if b then Some (reply.Quiescing at) else None)
+  by true = refl
+  by false = tt
+
+pub flush_at : (w : Word) (stamp at : ℕ) (o : Option FlushWord) → MayAt w (flush_refuses stamp at o)
+flush_at w stamp at None = tt
+flush_at w stamp at (Some v) = by (nat_le v.stamp stamp) where
+  by : (b : Bool) → MayAt w (if b then Some (reply.Unflushed at) else None)
+  by true = tt
+  by false = tt
+
+pub refuses_scan : (q : Quiet) (found : ℕ) → MayAt (word_of (quiet_move q)) (quiet_refuses q found)
+refuses_scan (quiet.AtCore stamp core at page) found = core_at stamp at _
+refuses_scan (quiet.AtFlush stamp at) found = flush_at _ stamp at _
+
+pub scan_at : (w : Word) (o : Option Reply) (next : Option Quiet) → MayAt w o → EndAt w (scan_end o next)
+scan_at w (Some r) next h = h
+scan_at w None (Some q) h = tt
+scan_at w None None h = tt
+
+pub quiet_at : (cores : ℕ) (q : Quiet) (found : ℕ) → EndAt (word_of (quiet_move q)) (quiet_end cores q found)
+quiet_at cores q found = scan_at _ (quiet_refuses q found) _ (refuses_scan q found)
+
+-- What is found elsewhere says of no wait.
+module _ (w : Word) where
+  pub link_at : (b : Bool) → EndAt w (end_by_link b)
+  link_at true = tt
+  link_at false = tt
+
+  pub root_at : (o : Option Entry) → EndAt w (root_end o)
+  root_at None = tt
+  root_at (Some entry.Free) = tt
+  root_at (Some (entry.Held k)) = link_at _
+  root_at (Some (entry.Closing by)) = tt
+  root_at (Some (entry.Quiescing stamp)) = tt
+
+  pub place_at : (node index word : ℕ) (o : Option Entry) → EndAt w (place_end node index word o)
+  place_at node index word None = tt
+  place_at node index word (Some entry.Free) = tt
+  place_at node index word (Some (entry.Held k)) = tt
+  place_at node index word (Some (entry.Closing by)) = tt
+  place_at node index word (Some (entry.Quiescing stamp)) = tt
+
+  pub look_at : (l : Look) (word : ℕ) (o : Option Entry) → EndAt w (look_end l word o)
+  look_at (look.AtRoot root number) word o = root_at o
+  look_at (look.AtLeaf leaf number) word o = place_at _ _ _ o
+  look_at (look.AtEntry root index) word o = place_at _ _ _ o
+
+  pub lives_at : (b : Bool) → EndAt w (lives_end b)
+  lives_at true = tt
+  lives_at false = tt
+
+  pub number_at : (epoch : ℕ) (v : LiveWord) → EndAt w (number_end epoch v)
+  number_at epoch live.Free = tt
+  number_at epoch (live.Live now f) = lives_at _
+  number_at epoch (live.Closing now by) = tt
+  number_at epoch (live.Dead now stamp) = tt
+
+  pub live_at : (epoch : ℕ) (o : Option LiveWord) → EndAt w (live_end epoch o)
+  live_at epoch None = tt
+  live_at epoch (Some v) = number_at epoch v
+
+  pub comp_end_at : (o : Option CompWord) → EndAt w (comp_end o)
+  comp_end_at None = tt
+  comp_end_at (Some v) = tt
+
+  pub alive_at : (a : Alive) (found : ℕ) → EndAt w (alive_end a found)
+  alive_at (alive.AtComp comp) found = comp_end_at _
+  alive_at (alive.AtLive life) found = live_at life.epoch _
+
+  pub thread_at : (o : Option ThreadWord) → EndAt w (thread_end o)
+  thread_at None = tt
+  thread_at (Some (thread.Idle depth)) = tt
+  thread_at (Some (thread.Running core depth)) = tt
+  thread_at (Some (thread.Claimed core depth)) = tt
+
+  pub claim_compared_at : (b : Bool) → EndAt w (claim_compared b)
+  claim_compared_at true = tt
+  claim_compared_at false = tt
+
+  pub within_at : (b : Bool) (c : Claimed) → EndAt w (claimed_within b c)
+  within_at true c = tt
+  within_at false c = tt
+
+  pub top_at : (frames t depth : ℕ) (o : Option ℕ) → EndAt w (top_end frames t depth o)
+  top_at frames t depth None = tt
+  top_at frames t depth (Some comp) = within_at _ _
+
+  pub stack_at : (frames t depth : ℕ) (o : Option StackWord) → EndAt w (stack_end frames t depth o)
+  stack_at frames t depth None = tt
+  stack_at frames t depth (Some v) = top_at frames t depth v.0
+
+  pub claim_at : (frames : ℕ) (c : ClaimOf) (found : ℕ) → EndAt w (claim_end frames c found)
+  claim_at frames (claim.AtLoad t core) found = thread_at _
+  claim_at frames (claim.AtCompare t core depth) found = claim_compared_at _
+  claim_at frames (claim.AtStack t depth) found = stack_at frames t depth _
+
+  pub hold_at : (h : Hold) → EndAt w (end_by_hold h)
+  hold_at hold.Unheld = tt
+  hold_at (hold.Pinned by) = tt
+  hold_at (hold.Closed by) = tt
+
+  pub load_at : (o : Option CountWord) → EndAt w (load_end o)
+  load_at None = tt
+  load_at (Some v) = hold_at v.hold
+
+  pub compare_at : (b : Bool) (p : Pinned) → EndAt w (compare_end b p)
+  compare_at true p = tt
+  compare_at false p = tt
+
+  pub pin_at : (p : Pin) (found : ℕ) → EndAt w (pin_end p found)
+  pin_at (pin.AtLoad frame core) found = load_at _
+  pin_at (pin.AtCompare frame core count stamp) found = compare_at _ _
+
+  pub mark_at : (o : Option ℕ) → EndAt w (end_by_mark o)
+  mark_at None = tt
+  mark_at (Some by) = tt
+
+  pub head_at : (o : Option HeadWord) → EndAt w (head_end o)
+  head_at None = tt
+  head_at (Some h) = mark_at h.mark
+
+  pub charged_at : (b : Bool) (n : ℕ) → EndAt w (charged_end b n)
+  charged_at true n = tt
+  charged_at false n = tt
+
+  pub charge_end_at : (c : Charge) (found : ℕ) → EndAt w (charge_end c found)
+  charge_end_at (charge.AtLoad t ticks) found = head_at _
+  charge_end_at (charge.AtCompare t ticks budget version) found = charged_at _ _
+
+  -- two temporal capabilities
+  pub budget_at : (b : Bool) (n : ℕ) → EndAt w (end_by_budget b n)
+  budget_at true n = tt
+  budget_at false n = tt
+
+  pub marked_at : (b short : Bool) (n : ℕ) → EndAt w (marked_end b short n)
+  marked_at true short n = budget_at short n
+  marked_at false short n = tt
+
+  pub decided_at : (o : Option ℕ) → EndAt w (decided_by_mark o)
+  decided_at None = tt
+  decided_at (Some by) = tt
+
+  pub b_at : (o : Option HeadWord) → EndAt w (b_end o)
+  b_at None = tt
+  b_at (Some h) = decided_at h.mark
+
+  pub list_at : (o : Option QualityWord) → EndAt w (list_end o)
+  list_at None = tt
+  list_at (Some v) = tt
+
+  pub again_at : (b : Bool) (r : Reply) → IsAgain (pair.AgainB r) → EndAt w (again_end b r)
+  again_at false r h = tt
+  again_at true (reply.Quiescing d) h = absurd h
+  again_at true _ h = tt
+
+  pub pair_at : (p : Pair) (at : PairAt) (found : ℕ) → IsAgain at → EndAt w (end_at p at found)
+  pair_at p pair.LoadA found h = head_at _
+  pair_at p pair.MarkA found h = marked_at _ _ _
+  pair_at p (pair.ListA n) found h = list_at _
+  pair_at p pair.LoadB found h = b_at _
+  pair_at p (pair.ListB n) found h = list_at _
+  pair_at p pair.CompareB found h = again_at _ _ tt
+  pair_at p (pair.AgainB r) found h = again_at _ r h
+  pair_at p (pair.StoreList n) found h = tt
+  pair_at p pair.StoreB found h = tt
+  pair_at p (pair.StoreA moved v) found h = tt
+
+  pub shared_at : (p : Pair) (r : Reply) → RepliesAt w r → StepAt w (shared p r)
+  shared_at p (reply.Ok v) h = tt
+  shared_at p (reply.Quiescing d) h = h
+  shared_at p _ h = tt
+
+  pub took_shared_at : (p : Pair) (end : StageEnd Value) → EndAt w end → StepAt w (took_shared p end)
+  took_shared_at p ends.Going h = tt
+  took_shared_at p (ends.Decided r) h = shared_at p r h
+  took_shared_at p (ends.Done v) h = tt
+  took_shared_at p (ends.Refuse r) h = refused_at w r h
+
+  -- what begins
+  pub under_at : (b : Bool) (top n : ℕ) → StepAt w (looks_under b top n)
+  under_at true top n = tt
+  under_at false top n = tt
+
+  pub entry_at : (b : Bool) (top n : ℕ) → StepAt w (looks_entry b top n)
+  entry_at true top n = tt
+  entry_at false top n = tt
+
+  pub target_at : (t : place) → StepAt w (looks_at t)
+  target_at (Under table n) = under_at _ _ _
+  target_at (InRoot table i) = entry_at _ _ _
+
+  pub read_at : (o : Option ℕ) (step : WorkStep) → StepAt w step → StepAt w (read_first o step)
+  read_at None step h = h
+  read_at (Some comp) (Goes (Lookup l)) h = tt
+  read_at (Some comp) (Goes _) h = tt
+  read_at (Some comp) (Acquires count work) h = tt
+  read_at (Some comp) (refuses_to r tail) h = h
+  read_at (Some comp) (Answers v drawn tail) h = tt
+  read_at (Some comp) (work_changes r change drawn tail) h = h
+
+  pub looked_at : (o : Option Capability) → StepAt w (looked o)
+  looked_at None = tt
+  looked_at (Some k) = tt
+
+  pub starts_at : (core : ℕ) (act : ActType) → StepAt w (starts core act)
+  starts_at core (act_as.Outside node index word) = tt
+  starts_at core _ = tt
+
+  pub scans_at : (core : ℕ) (o : Option Quiet) (act : ActType) → StepAt w (scans core o act)
+  scans_at core None act = starts_at core act
+  scans_at core (Some q) act = tt
+
+  pub fills_at : (own : Own) (o : Option Capability) (page : Bool) (f : Option Found) → StepAt w (fills_with own o page f)
+  fills_at own None page f = tt
+  fills_at own (Some k) page None = tt
+  fills_at own (Some k) page (Some f) = scans_at _ _ _
+
+  pub removes_entry : (core : ℕ) (f : Found) (v : Entry) → StepAt w (removes_held core f v)
+  removes_entry core f entry.Free = tt
+  removes_entry core f (entry.Held k) = tt
+  removes_entry core f (entry.Closing by) = tt
+  removes_entry core f (entry.Quiescing stamp) = tt
+
+  pub removes_found : (core : ℕ) (o : Option Found) → StepAt w (removes_at core o)
+  removes_found core None = tt
+  removes_found core (Some f) = removes_entry core f f.value
+
+  pub types_within : (b : Bool) (core f : ℕ) (k : FrameKind) → StepAt w (types_if b core f k)
+  types_within true core f k = tt
+  types_within false core f k = tt
+
+  pub types_found : (own : Own) (o : Option Capability) (f : ℕ) (k : FrameKind) → StepAt w (types_at own o f k)
+  types_found own None f k = tt
+  types_found own (Some range) f k = types_within _ _ f k
+
+  pub makes_found : (own : Own) (o : Option NewObject) (k : Option Capability) (frame : ℕ) (f : Option Found) → StepAt w (makes_at own o k frame f)
+  makes_found own (Some object) (Some range) frame (Some f) = scans_at _ _ _
+  makes_found own (Some object) (Some range) frame None = tt
+  makes_found own (Some object) None frame f = tt
+  makes_found own None k frame f = tt
+
+  pub maps_flags : (b : Bool) (own : Own) (range : Capability) (frame : ℕ) (flags : PageFlags) (f : Found)
+      → StepAt w (maps_if b own range frame flags f)
+  maps_flags true own range frame flags f = scans_at _ _ _
+  maps_flags false own range frame flags f = tt
+
+  pub maps_found : (own : Own) (o : Option Capability) (frame : ℕ) (flags : PageFlags) (f : Option Found) → StepAt w (maps_at own o frame flags f)
+  maps_found own (Some range) frame flags (Some f) = maps_flags _ own range frame flags f
+  maps_found own (Some range) frame flags None = tt
+  maps_found own None frame flags f = tt
+
+  pub comps_found : (own : Own) (number : ℕ) (a b c : Option Capability) (frame : ℕ) (f : Option Found)
+      → StepAt w (comps_at own number a b c frame f)
+  comps_found own number (Some range) (Some table) (Some pages) frame (Some f) = scans_at _ _ _
+  comps_found own number (Some range) (Some table) (Some pages) frame None = tt
+  comps_found own number (Some range) (Some table) None frame f = tt
+  comps_found own number (Some range) None c frame f = tt
+  comps_found own number None b c frame f = tt
+
+  pub made_found : (own : Own) (what : Make) (ks : List Capability) (frame : ℕ) (f : Option Found) → StepAt w (made_begun own what ks frame f)
+  made_found own (make.Comp table pages number) ks frame f = comps_found own number _ _ _ frame f
+  made_found own make.Table ks frame f = makes_found own (object_made make.Table ks) (at_place ks First) frame f
+  made_found own make.Leaf ks frame f = makes_found own (object_made make.Leaf ks) (at_place ks First) frame f
+  made_found own make.Pages ks frame f = makes_found own (object_made make.Pages ks) (at_place ks First) frame f
+  made_found own make.Pleaf ks frame f = makes_found own (object_made make.Pleaf ks) (at_place ks First) frame f
+  made_found own (make.Thread comp) ks frame f = makes_found own (object_made (make.Thread comp) ks) (at_place ks First) frame f
+  made_found own (make.Tcap sched quality) ks frame f = makes_found own (object_made (make.Tcap sched quality) ks) (at_place ks First) frame f
+
+  pub kills_kind : (core : ℕ) (k : Kind) (f : ℕ) → StepAt w (kills_in core k f)
+  kills_kind core kind.Comp f = tt
+  kills_kind core _ f = tt
+
+  pub kills_found : (own : Own) (o : Option Capability) → StepAt w (kills_at own o)
+  kills_found own None = tt
+  kills_found own (Some k) = kills_kind own.core k.kind k.frame
+
+  pub invokes_deep : (b : Bool) (own : Own) (f epoch : ℕ) → StepAt w (invokes_if b own f epoch)
+  invokes_deep true own f epoch = tt
+  invokes_deep false own f epoch = tt
+
+  pub invokes_kind : (own : Own) (k : Kind) (f epoch : ℕ) → StepAt w (invokes_in own k f epoch)
+  invokes_kind own kind.Gate f epoch = invokes_deep _ own f epoch
+  invokes_kind own _ f epoch = tt
+
+  pub invokes_found : (own : Own) (o : Option Capability) → StepAt w (invokes_at own o)
+  invokes_found own None = tt
+  invokes_found own (Some k) = invokes_kind own k.kind k.frame k.arg
+
+  pub returns_bottom : (b : Bool) (own : Own) → StepAt w (returns_if b own)
+  returns_bottom true own = tt
+  returns_bottom false own = tt
+
+  pub switches_found : (own : Own) (a b : Option Capability) → StepAt w (switches_at own a b)
+  switches_found own (Some thread) (Some tcap) = tt
+  switches_found own (Some thread) None = tt
+  switches_found own None b = tt
+
+  pub shares_same : (b : Bool) (core : ℕ) (what : PairWork) (x y : ℕ) → StepAt w (shares_if b core what x y)
+  shares_same true core what x y = tt
+  shares_same false core what x y = tt
+
+  pub shares_found : (core : ℕ) (what : PairWork) (a b : Option Capability) → StepAt w (shares_at core what a b)
+  shares_found core what (Some a) (Some b) = shares_same _ core what _ _
+  shares_found core what (Some a) None = tt
+  shares_found core what None b = tt
+
+  pub begun_at : (own : Own) (call : Call) (ks : List Capability) (read : Option ℕ) (f : Option Found) → StepAt w (act_begun own call ks read f)
+  begun_at own (call_as.Look a) ks read f = looked_at _
+  begun_at own (call_as.Copy a t b rights) ks read f = fills_at own _ _ f
+  begun_at own (call_as.Grow t i l) ks read f = fills_at own _ _ f
+  begun_at own (call_as.Map p v r g flags) ks read f = maps_found own _ _ _ f
+  begun_at own (call_as.Remove t b) ks read f = removes_found own.core f
+  begun_at own (call_as.Shrink t i) ks read f = removes_found own.core f
+  begun_at own (call_as.Unmap p v) ks read f = removes_found own.core f
+  begun_at own (call_as.Retype r g k) ks read f = types_found own (at_place ks First) g k
+  begun_at own (call_as.Make what range frame table slot) ks read f = made_found own what ks frame f
+  begun_at own call_as.Flush ks read f = tt
+  begun_at own (call_as.Tick n) ks read f = tt
+  begun_at own (call_as.Gate c t b) ks read f = fills_at own _ _ f
+  begun_at own (call_as.Kill k) ks read f = kills_found own _
+  begun_at own (call_as.Call g) ks read f = invokes_found own _
+  begun_at own call_as.Ret ks read f = returns_bottom _ own
+  begun_at own (call_as.Switch h q) ks read f = switches_found own _ _
+  begun_at own (call_as.Transfer a b m) ks read f = shares_found own.core (share.Transfer m) (at_place ks First) (at_place ks Second)
+  begun_at own (call_as.Delegate a b m) ks read f = shares_found own.core (share.Delegate m) (at_place ks First) (at_place ks Second)
+  begun_at own (call_as.Test a b) ks read f = shares_found own.core share.Test (at_place ks First) (at_place ks Second)
+  begun_at own (call_as.Touch v) ks read f = tt
+
+  pub touches_at : (b : Bool) (own : Own) (v : ℕ) → StepAt w (touches_if b own v)
+  touches_at true own v = tt
+  touches_at false own v = tt
+
+  pub next_at : (own : Own) (call : Call) (ks : List Capability) (next : Next) → StepAt w (next_step own call ks next)
+  next_at own call ks (NextName n want) = under_at _ _ _
+  next_at own call ks (NextFree target) = read_at _ _ (target_at target)
+  next_at own call ks (NextHeld target) = target_at target
+  next_at own call ks (NextOwn v) = touches_at _ own v
+  next_at own call ks NextNothing = begun_at own call ks None None
+
+  -- what a name has led to
+  abbrev pub MetAt : Met → Type 0
+  MetAt (Finds k) = Unit {0}
+  MetAt (Refused r) = RefusesAt w r
+
+  pub right_at : (needs : ℕ) (k : Capability) → MetAt (met_right needs k)
+  right_at needs k = by (has_rights k.rights needs) where
+    by : (b : Bool) → MetAt (if b then Finds k else Refused refusal.NoRight)
+    by true = tt
+    by false = tt
+
+  pub cap_at : (want : Want) (k : Capability) → MetAt (met_cap want k)
+  cap_at want k = by (want.kinds k.kind) where
+    by : (b : Bool) → MetAt (if b then met_right want.needs k else Refused refusal.WrongCap)
+    by true = right_at want.needs k
+    by false = tt
+
+  pub name_at : (want : Want) (v : Entry) → MetAt (met_name want v)
+  name_at want entry.Free = tt
+  name_at want (entry.Held k) = cap_at want k
+  name_at want (entry.Closing by) = tt
+  name_at want (entry.Quiescing stamp) = tt
+
+  pub free_at : (own : Own) (call : Call) (ks : List Capability) (read : Option ℕ) (f : Found) (v : Entry)
+      → StepAt w (met_free own call ks read f v)
+  free_at own call ks read f entry.Free = begun_at own call ks read (Some f)
+  free_at own call ks read f (entry.Held k) = tt
+  free_at own call ks read f (entry.Closing by) = tt
+  free_at own call ks read f (entry.Quiescing stamp) = begun_at own call ks read (Some f)
+
+  pub held_at : (own : Own) (call : Call) (ks : List Capability) (f : Found) (v : Entry) → StepAt w (met_held own call ks f v)
+  held_at own call ks f entry.Free = tt
+  held_at own call ks f (entry.Held k) = begun_at own call ks None (Some f)
+  held_at own call ks f (entry.Closing by) = tt
+  held_at own call ks f (entry.Quiescing stamp) = tt
