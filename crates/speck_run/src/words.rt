@@ -1,7 +1,7 @@
 //! The commands, and the words by which they are asked.
 
 ghost use Rattle.std.specs.Prelude.{◌≡◌, [], ◌∷◌, ◌↔◌, IsTrue, codes};
-ghost use Rattle.speck_run.specs.Top.{IsCommandOf, IsReadingOf, IsExplainedAfter, IsNumberOf, IsNumberIn, texts_of};
+ghost use Rattle.speck_run.specs.Top.{IsCommandOf, IsReadingOf, IsExplainedAfter, IsNumberOf, IsNumberIn, IsPageOf, texts_of};
 
 use explain_run::Reading;
 use script_reader::read_number;
@@ -82,6 +82,37 @@ fn explained_after(words: &Vec<String>, name: &str) -> Option<Reading>
     }
 }
 
+// The number from 0 to 4,294,967,295 that a word stands for; none for another word.
+fn number_in(word: &str) -> Option<u32>
+    ensures { IsNumberIn word.now result }
+{
+    let number = read_number(word.as_bytes())?;
+    u32::try_from(number).ok()
+}
+
+/// The number after this word, where the words are these two; none for other words.
+pub fn number_after(words: &Vec<String>, name: &str) -> Option<u32>
+    ensures { IsNumberOf name.now words.now result }
+{
+    match words.as_slice() {
+        [word, number] if word.as_str() == name => number_in(number.as_str()),
+        _ => None,
+    }
+}
+
+// The command to draw a page, where the words are `draw` and its number, which is at least 1; none for other words.
+fn page_of(words: &Vec<String>) -> Option<Command>
+    ensures { IsPageOf words.now result }
+{
+    let Some(page) = number_after(words, "draw") else {
+        return None;
+    };
+    if page == 0 {
+        return None;
+    }
+    Some(Command::Draw { page })
+}
+
 /// The command that the words ask for; none for other words.
 pub fn command_of(words: &Vec<String>) -> Option<Command>
     ensures { IsCommandOf words.now result }
@@ -116,26 +147,8 @@ pub fn command_of(words: &Vec<String>) -> Option<Command>
     if is_alone(words, "origins") {
         return Some(Command::Origins);
     }
-    match explained_after(words, "explain") {
-        Some(reading) => Some(Command::Explain(reading)),
-        None => None,
+    if let Some(reading) = explained_after(words, "explain") {
+        return Some(Command::Explain(reading));
     }
-}
-
-// The number from 0 to 4,294,967,295 that a word stands for; none for another word.
-fn number_in(word: &str) -> Option<u32>
-    ensures { IsNumberIn word.now result }
-{
-    let number = read_number(word.as_bytes())?;
-    u32::try_from(number).ok()
-}
-
-/// The number after this word, where the words are these two; none for other words.
-pub fn number_after(words: &Vec<String>, name: &str) -> Option<u32>
-    ensures { IsNumberOf name.now words.now result }
-{
-    match words.as_slice() {
-        [word, number] if word.as_str() == name => number_in(number.as_str()),
-        _ => None,
-    }
+    page_of(words)
 }
