@@ -1,11 +1,11 @@
 -- The text of a fault is that of what its lines tell.
-use Rattle.std.proofs.Common.{◌≡◌, ℕ, List, ◌++◌, Result, Ok, sym, ◌∙◌, ap}
+use Rattle.std.proofs.Common.{◌≡◌, ℕ, List, ◌++◌, Result, Ok, refl, sym, ◌∙◌, ap}
 use Rattle.script_tokens.specs.Words.{words_of}
 use Rattle.line_reader.specs.declared.cause.Cause.{Cause}
 use Rattle.line_reader.specs.Lines.{First_fault, rows_of, lines_from}
 use Rattle.line_forms.specs.declared.context.Reading.{Reading}
 use Rattle.fault_texts.specs.Found.{Found, no_found, find_step}
-use Rattle.fault_texts.specs.Told.{head_text, found_body, body_text, fault_text}
+use Rattle.fault_texts.specs.Told.{head_text, found_body, body_text, rest_text, fault_text}
 
 pub told_is : (reading : Reading) (source : List ℕ) (line : ℕ) (cause : Cause) (start d : Found) (text : List ℕ)
     → start ≡ no_found reading line cause → lines_from find_step start (rows_of (words_of source)) ≡ Ok d
@@ -14,3 +14,9 @@ unfolding fault_text
 told_is reading source line cause start d text is found told =
     told ∙ ap (λ (r : Result Found First_fault). head_text line cause ++ body_text source r)
     (sym found ∙ ap (λ (s : Found). lines_from find_step s (rows_of (words_of source))) is)
+
+-- It begins with the line of the fault.
+pub begins : (reading : Reading) (source : List ℕ) (line : ℕ) (cause : Cause)
+    → fault_text reading source line cause ≡ head_text line cause ++ rest_text reading source line cause
+unfolding fault_text
+begins reading source line cause = refl

@@ -21,7 +21,10 @@ abbrev pub body_text : List ℕ → Result Found First_fault → List ℕ
 body_text source (Ok d) = found_body source d
 body_text source (Err e) = []
 
+-- what to do of a fault of a text, at that line
+abbrev pub rest_text : Reading → List ℕ → ℕ → Cause → List ℕ
+rest_text reading source line cause = body_text source (lines_from find_step (no_found reading line cause) (rows_of (words_of source)))
+
 -- what is told of a fault of a text, at that line
 unfoldable pub fault_text : Reading → List ℕ → ℕ → Cause → List ℕ
-fault_text reading source line cause = head_text line cause
-    ++ body_text source (lines_from find_step (no_found reading line cause) (rows_of (words_of source)))
+fault_text reading source line cause = head_text line cause ++ rest_text reading source line cause

@@ -1,5 +1,5 @@
 -- What is due is the status that the input has.
-use Rattle.std.proofs.Common.{◌≡◌, ◌≢◌, ◌⊎◌, ℕ, List, [], ◌∷◌, Option, Some, None, Result, Ok, Err}
+use Rattle.std.proofs.Common.{◌≡◌, ◌⊎◌, ℕ, List, [], ◌∷◌, Option, Some, None, Result, Ok, Err}
 use Rattle.std.proofs.Common.{Bool, IfOk, refl, sym, ap, subst, ◌∙◌, arith, inl, inr, eqb, get_or}
 use Rattle.std.specs.Prelude.{◌≤◌, if◌then◌else◌, length, codes, string_bytes}
 use lib.Pointwise.{pointwise}
@@ -159,7 +159,7 @@ same_by words a b (By_page page is asks) (By_page page' is' asks') =
 pub asks_same : (words : CommandLine) (a b : Command) → Asks words a → Asks words b → a ≡ b
 asks_same words a b p q = same_by words a b (asked_by words a p) (asked_by words b q)
 
--- What words ask for by the number of a page.
+-- The page of which words give the number.
 pub no_page : (words : CommandLine) → (HasNumber (codes "draw") words → ⊥) → IsPageOf words None
 no_page words no = λ page asks some. no (record { number = page; asks = asks })
 
@@ -167,31 +167,27 @@ pub page_zero : (words : CommandLine) (n : ℕ) → AsksNumber (codes "draw") wo
 page_zero words n asks is = λ page other some.
     let same : page ≡ n = numbers_same (codes "draw") words page n other asks in omega (arith, same, is, some)
 
-pub page_asked : (words : CommandLine) (n : ℕ) → AsksNumber (codes "draw") words n → n ≢ 0 → IsPageOf words (Some (Draw n))
-page_asked words n asks some = inr (asks, omega (arith, some))
-
--- Words that are no command's words without a number ask for a page, or for no command.
-pub page_or_none : (words : CommandLine) (result : Option Command)
-    → (texts_of words ≡ codes "replay" ∷ [] → ⊥) → (texts_of words ≡ codes "trace" ∷ [] → ⊥) → (texts_of words ≡ codes "draw" ∷ [] → ⊥)
-    → (texts_of words ≡ codes "run" ∷ [] → ⊥) → (texts_of words ≡ codes "plain" ∷ [] → ⊥) → (texts_of words ≡ codes "print" ∷ [] → ⊥)
-    → (texts_of words ≡ codes "ends" ∷ [] → ⊥) → (texts_of words ≡ codes "sched" ∷ [] → ⊥) → (texts_of words ≡ codes "check" ∷ [] → ⊥)
-    → (texts_of words ≡ codes "origins" ∷ [] → ⊥) → IsExplainedAfter (codes "explain") words None → IsPageOf words result
-    → IsCommandOf words result
-page_or_none words (Some command) n1 n2 n3 n4 n5 n6 n7 n8 n9 n10 n11 is = is
-page_or_none words None n1 n2 n3 n4 n5 n6 n7 n8 n9 n10 n11 is = λ c. by c.command c.asks where
-  by : (command : Command) → Asks words command → ⊥
-  by Replay asks = n1 asks
-  by Trace asks = n2 asks
-  by (Draw page) (inl asks) = n3 asks.0
-  by (Draw page) (inr asks) = is page asks.0 asks.1
-  by Run asks = n4 asks
-  by Plain asks = n5 asks
-  by Print asks = n6 asks
-  by Ends asks = n7 asks
-  by Sched asks = n8 asks
-  by Check asks = n9 asks
-  by Origins asks = n10 asks
-  by (Explain r) asks = n11 r asks
+-- Words that are no command's words ask for no command.
+pub no_words : (words : CommandLine) → (texts_of words ≡ codes "replay" ∷ [] → ⊥) → (texts_of words ≡ codes "trace" ∷ [] → ⊥)
+    → (texts_of words ≡ codes "draw" ∷ [] → ⊥) → (texts_of words ≡ codes "run" ∷ [] → ⊥) → (texts_of words ≡ codes "plain" ∷ [] → ⊥)
+    → (texts_of words ≡ codes "print" ∷ [] → ⊥) → (texts_of words ≡ codes "ends" ∷ [] → ⊥) → (texts_of words ≡ codes "sched" ∷ [] → ⊥)
+    → (texts_of words ≡ codes "check" ∷ [] → ⊥) → (texts_of words ≡ codes "origins" ∷ [] → ⊥)
+    → IsExplainedAfter (codes "explain") words None → IsPageOf words None → IsCommandOf words None
+no_words words n1 n2 n3 n4 n5 n6 n7 n8 n9 n10 explain page = λ c. by c.command c.asks
+  where
+    by : (command : Command) → Asks words command → ⊥
+    by Replay asks = n1 asks
+    by Trace asks = n2 asks
+    by (Draw page_asked) (inl asks) = n3 asks.0
+    by (Draw page_asked) (inr asks) = page page_asked asks.0 asks.1
+    by Run asks = n4 asks
+    by Plain asks = n5 asks
+    by Print asks = n6 asks
+    by Ends asks = n7 asks
+    by Sched asks = n8 asks
+    by Check asks = n9 asks
+    by Origins asks = n10 asks
+    by (Explain r) asks = explain r asks
 
 -- And for one thing.
 make_apart : (words : CommandLine) → IsMake words → IsLoad words → ⊥

@@ -117,9 +117,9 @@ abbrev pub IsCommandOf : CommandLine → Option Command → Type 0
 IsCommandOf words (Some command) = Asks words command
 IsCommandOf words None = IsCommand words → ⊥
 
--- The command to draw a page of which the words give the number, or none where they give none.
-abbrev pub IsPageOf : CommandLine → Option Command → Type 0
-IsPageOf words (Some command) = Asks words command
+-- The page of a drawing of which the words give the number, or none where they give none.
+abbrev pub IsPageOf : CommandLine → Option ℕ → Type 0
+IsPageOf words (Some page) = AsksNumber (codes "draw") words page × (1 ≤ page)
 IsPageOf words None = (page : ℕ) → AsksNumber (codes "draw") words page → 1 ≤ page → ⊥
 
 -- The source has given its input to the end, at most 1,048,576 bytes, and the text is this of it.

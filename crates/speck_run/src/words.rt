@@ -100,20 +100,20 @@ pub fn number_after(words: &Vec<String>, name: &str) -> Option<u32>
     }
 }
 
-// The command to draw a page, where the words are `draw` and its number, which is at least 1; none for other words.
-fn page_of(words: &Vec<String>) -> Option<Command>
+// The page of a drawing for which the words ask, where they are `draw` and a number that is at least 1; none for other words.
+#[tactic(auto, using(crate::proofs::Due::no_page, crate::proofs::Due::page_zero))]
+fn page_of(words: &Vec<String>) -> Option<u32>
     ensures { IsPageOf words.now result }
 {
-    let Some(page) = number_after(words, "draw") else {
-        return None;
-    };
+    let page = number_after(words, "draw")?;
     if page == 0 {
         return None;
     }
-    Some(Command::Draw { page })
+    Some(page)
 }
 
 /// The command that the words ask for; none for other words.
+#[tactic(auto, using(crate::proofs::Due::no_words))]
 pub fn command_of(words: &Vec<String>) -> Option<Command>
     ensures { IsCommandOf words.now result }
 {
@@ -150,5 +150,8 @@ pub fn command_of(words: &Vec<String>) -> Option<Command>
     if let Some(reading) = explained_after(words, "explain") {
         return Some(Command::Explain(reading));
     }
-    page_of(words)
+    match page_of(words) {
+        Some(page) => Some(Command::Draw { page }),
+        None => None,
+    }
 }
