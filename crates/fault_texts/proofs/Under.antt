@@ -39,20 +39,20 @@ blank_words (w ∷ ws) all =
 pub under : (before : List (List ℕ)) (word : List ℕ) (after : List (List ℕ)) → All IsAscii before → IsAscii word
     → IsUnder before word after
 under before word after all ascii = record {
-  front = codes " " ++ words_text before ++ codes " ";
+  front = (codes " " ++ words_text before) ++ codes " ";
   shown =
-      ap (λ (x : List ℕ). codes " " ++ words_text before ++ codes " " ++ x)
-          (append_assoc (word_text word) (words_text after) (codes "\n")
-          ∙ ap (λ (x : List ℕ). x ++ words_text after ++ codes "\n") (own_text word ascii))
-      ∙ ap (λ (x : List ℕ). codes " " ++ x)
-          (sym (append_assoc (words_text before) (codes " ") (word ++ words_text after ++ codes "\n")));
+      ap (λ (x : List ℕ). x ++ codes "\n")
+      (sym (append_assoc (codes " " ++ words_text before) (codes " " ++ word_text word) (words_text after))
+      ∙ ap (λ (x : List ℕ). x ++ words_text after)
+      (sym (append_assoc (codes " " ++ words_text before) (codes " ") (word_text word))
+      ∙ ap (λ (x : List ℕ). ((codes " " ++ words_text before) ++ codes " ") ++ x) (own_text word ascii)));
   mark =
       let n = length (words_text before) in
       let whole : length (words_text before ++ codes " ") ≡ length (words_text before) + 1 =
       length-append (words_text before) (codes " ") in
       let more : suc (suc (length (words_text before))) ≡ suc (length (words_text before ++ codes " ")) = omega (arith, whole) in
-      ap (λ (x : List ℕ). codes " " ++ x ++ codes " ^\n") (blank_words before all)
-      ∙ ap (λ (x : List ℕ). codes " " ++ x) (sym (append_assoc (blanks n) (codes " ") (codes "^\n")))
-      ∙ ap (λ (x : List ℕ). x ++ codes "^\n") (blank_first (suc n))
+      ap (λ (x : List ℕ). (codes " " ++ x) ++ codes " ^\n") (blank_words before all)
+      ∙ ap (λ (x : List ℕ). x ++ codes " ^\n") (blank_first n)
+      ∙ sym (append_assoc (blanks (suc n)) (codes " ") (codes "^\n"))
       ∙ ap (λ (k : ℕ). blanks k ++ codes "^\n") more;
 }

@@ -10,7 +10,7 @@ use Rattle.fault_texts.specs.Ends.{wordless_text}
 
 -- the line of a fault, as it is told where the text is refused
 abbrev pub head_text : ℕ → Cause → List ℕ
-head_text line cause = codes "line " ++ decimal line ++ codes ": " ++ cause_text cause ++ codes "\n"
+head_text line cause = codes "line " ++ (decimal line ++ (codes ": " ++ (cause_text cause ++ codes "\n")))
 
 -- what to do: of the line of the fault, or of a fault without words
 abbrev pub found_body : List ℕ → Found → List ℕ
