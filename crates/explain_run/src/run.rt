@@ -33,7 +33,7 @@ fn explain_script(alloc: Global, source: &[u8]) -> Result<String, AllocError>
     ensures { IfOk result (λ text. IsExplained reading.Script source.now (string_bytes text)) }
 {
     match read(alloc, source) {
-        Ok(_) => accepted(alloc, Reading::Script),
+        Ok(_script) => accepted(alloc, Reading::Script),
         Err(ReadFault::Memory) => Err(AllocError),
         Err(ReadFault::Script { line, cause }) => {
             explain_fault(alloc, Reading::Script, source, line, cause)
@@ -46,7 +46,7 @@ fn explain_ends(alloc: Global, source: &[u8]) -> Result<String, AllocError>
     ensures { IfOk result (λ text. IsExplained reading.Ends source.now (string_bytes text)) }
 {
     match read_ends(alloc, source) {
-        Ok(_) => accepted(alloc, Reading::Ends),
+        Ok(_input) => accepted(alloc, Reading::Ends),
         Err(ReadFault::Memory) => Err(AllocError),
         Err(ReadFault::Script { line, cause }) => {
             explain_fault(alloc, Reading::Ends, source, line, cause)
@@ -59,7 +59,7 @@ fn explain_sched(alloc: Global, source: &[u8]) -> Result<String, AllocError>
     ensures { IfOk result (λ text. IsExplained reading.Sched source.now (string_bytes text)) }
 {
     match read_sched(alloc, source) {
-        Ok(_) => accepted(alloc, Reading::Sched),
+        Ok(_input) => accepted(alloc, Reading::Sched),
         Err(ReadFault::Memory) => Err(AllocError),
         Err(ReadFault::Script { line, cause }) => {
             explain_fault(alloc, Reading::Sched, source, line, cause)

@@ -5,7 +5,7 @@ use Rattle.std.specs.Prelude.{codes}
 use Rattle.std.specs.Str.{IsAscii}
 use Rattle.std.proofs.lemmas.Str.{utf8_lossy-IsUtf8, IsUtf8-from_ascii}
 use Rattle.std.proofs.lemmas.List.Elements.{All-head, All-tail}
-use Rattle.fault_texts.specs.Pieces.{word_text, words_text, blanks, blanks_text, shown_text, mark_text}
+use Rattle.fault_texts.specs.Pieces.{word_text, words_text, blanks, blanks_text}
 use Rattle.fault_texts.specs.Marks.{IsUnder}
 
 -- a word is told as it stands
