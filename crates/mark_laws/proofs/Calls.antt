@@ -1,28 +1,22 @@
 -- Each call is judged word by word.
-use Rattle.std.proofs.Common.{◌≡◌, ℕ, ◌+◌, ◌<◌, ◌≤◌, ◌==◌, Bool, true, false, ◌&&◌, List, [], ◌∷◌, length, drop, Option, Some, None, Result, Ok, Err}
-use Rattle.std.proofs.Common.{refl, sym, ◌∙◌, ap, arith, if◌then◌else◌}
-use Rattle.std.specs.Prelude.{nat_le, nat_lt, slice_get, codes}
+use Rattle.std.proofs.Common.{◌≡◌, ℕ, ◌≤◌, ◌==◌, Bool, true, false, ◌&&◌, List, ◌∷◌, length, Some, None, Result, Ok, Err}
+use Rattle.std.proofs.Common.{refl, ◌∙◌, ap, arith, if◌then◌else◌}
+use Rattle.std.specs.Prelude.{nat_lt, slice_get, codes}
 use Rattle.std.proofs.lemmas.Bool.{ltb-false}
-use Rattle.spk_nums.specs.declared.kinds.FrameKind.{FrameKind}
-use Rattle.spk_nums.specs.declared.calls.Call.{Call}
 use Rattle.spk_nums.specs.declared.calls.Make.{Make}
 use Rattle.spk_nums.specs.declared.calls.Make.TheVariants as make
-use Rattle.spk_nums.specs.declared.rights.Rights.{Rights}
 use Rattle.line_reader.specs.declared.cause.Cause.{Cause}
 use Rattle.line_reader.specs.Causes.{◌>>=◌}
-use Rattle.line_reader.specs.Arguments.{is_word, number_at, end_at}
+use Rattle.line_reader.specs.Arguments.{is_word, word_at}
 use Rattle.call_reader.specs.declared.first_words.Verb.{Verb}
 use Rattle.call_reader.specs.declared.first_words.Verb.TheVariants as verb
-use Rattle.call_reader.specs.declared.call_lines.Object.{Object}
-use Rattle.call_reader.specs.declared.call_lines.Object.TheVariants as object
 use Rattle.call_reader.specs.CallLines.{call_line, look_line, copy_line, rights_at, fourth_at, both_at, remove_line, grow_line, shrink_line}
 use Rattle.call_reader.specs.CallLines.{retype_line, map_line, unmap_line, touch_line, flush_line, gate_line, kill_line, enter_line, ret_line}
 use Rattle.call_reader.specs.CallLines.{switch_line, tick_line, transfer_line, delegate_line, test_line, object_of}
-use Rattle.call_reader.specs.CallLines.{make_line, made_at, plain_at, thread_at, tcap_at, comp_at}
+use Rattle.call_reader.specs.CallLines.{make_line, object_at, made_at, plain_at, thread_at, tcap_at, comp_at}
 use Rattle.line_forms.specs.declared.context.Context.{Context}
-use Rattle.line_forms.specs.declared.context.Stage.TheVariants as stage
 use Rattle.line_forms.specs.declared.slots.Slot.{Slot}
-use Rattle.line_forms.specs.declared.slots.Slot.TheVariants.{Number, MayNumber, End}
+use Rattle.line_forms.specs.declared.slots.Slot.TheVariants.{MayNumber, Object as Object_slot, End}
 use Rattle.line_forms.specs.Slots.{names}
 use Rattle.line_forms.specs.Calls.{verb_slot, object_slot, tcap_slot, comp_slot}
 use Rattle.line_forms.specs.Lines.{slot_at}
@@ -30,8 +24,8 @@ use Rattle.line_forms.specs.Fitting.{fits_by, fits}
 use Rattle.fault_texts.specs.Places.{misfit_from}
 use Rattle.mark_laws.specs.Marked.{GoesByMark, in_list, IsCallLine, cause_at}
 use Rattle.mark_laws.proofs.Gets.{cond_true}
-use Rattle.mark_laws.proofs.Words.{object_is, object_word}
-use Rattle.mark_laws.proofs.Chains.{Judged, judge_number, judge_range, may_ranges, judge_kind, judge_object, judge_end, judge_last}
+use Rattle.mark_laws.proofs.Words.{objects_same, word_same, Whenever, whenever_if, whenever_none}
+use Rattle.mark_laws.proofs.Chains.{Judged, judge_number, judge_range, may_ranges, judge_name, judge_kind, judge_end, judge_last}
 
 module _ (context : Context) (word : List ℕ) (rest : List (List ℕ)) where
   abbrev here : Context
@@ -183,49 +177,72 @@ module _ (context : Context) (word : List ℕ) (rest : List (List ℕ)) where
       (λ t l2. judge_number here ws 3 0 65535 _ (at 3 refl)
       (λ b l3. mapped 4 _ _ (rights_by at l3 (context.version == 2) (nat_lt 4 (length ws)) refl refl))))
 
-  -- what may stand after `make O R F T B`, by the object
-  abbrev object_slots : Object → ℕ → Slot
-  object_slots object.Thread p = names p 6
-  object_slots object.Tcap p = tcap_slot p
-  object_slots object.Comp p = comp_slot p
-  object_slots o p = End
+  -- what may stand after `make O R F T B`, by the object's word
+  abbrev At_name : List ℕ → Type 0
+  At_name name = slice_get ws 1 ≡ Some name
 
-  slots_of : (o : Object) (p : ℕ) → slice_get ws 1 ≡ Some (object_word o) → object_slot ws p ≡ object_slots o p
+  none_slot : (name : List ℕ) (p : ℕ) → is_word name (codes "thread") ≡ false → is_word name (codes "tcap") ≡ false
+      → is_word name (codes "comp") ≡ false → At_name name → object_slot ws p ≡ End
+  none_slot name p a b c e = rw (e, a, b, c) refl
+
+  thread_slot : (p : ℕ) → At_name (codes "thread") → object_slot ws p ≡ names p 6
   unfolding is_word
-  slots_of object.Table p e = rw e refl
-  slots_of object.Leaf p e = rw e refl
-  slots_of object.Pages p e = rw e refl
-  slots_of object.Pleaf p e = rw e refl
-  slots_of object.Thread p e = rw e refl
-  slots_of object.Tcap p e = rw e refl
-  slots_of object.Comp p e = rw e refl
+  thread_slot p e = rw e refl
 
-  made_by : At verb.Make → (o : Object) → slice_get ws 1 ≡ Some (object_word o) → 6 ≤ length ws → Judged here ws 6 (made_at ws o)
-  unfolding made_at plain_at thread_at tcap_at comp_at
-  made_by at object.Table e l5 = judge_end here ws 6 _ l5 (at 6 refl ∙ slots_of object.Table 6 e)
-  made_by at object.Leaf e l5 = judge_end here ws 6 _ l5 (at 6 refl ∙ slots_of object.Leaf 6 e)
-  made_by at object.Pages e l5 = judge_end here ws 6 _ l5 (at 6 refl ∙ slots_of object.Pages 6 e)
-  made_by at object.Pleaf e l5 = judge_end here ws 6 _ l5 (at 6 refl ∙ slots_of object.Pleaf 6 e)
-  made_by at object.Thread e l5 =
-      judge_number here ws 6 0 65535 _ (at 6 refl ∙ slots_of object.Thread 6 e)
-      (λ a l6. judge_end here ws 7 _ l6 (at 7 refl ∙ slots_of object.Thread 7 e))
-  made_by at object.Tcap e l5 =
-      judge_number here ws 6 0 63 _ (at 6 refl ∙ slots_of object.Tcap 6 e)
-      (λ a l6. judge_number here ws 7 1 16777215 _ (at 7 refl ∙ slots_of object.Tcap 7 e)
-      (λ b l7. judge_end here ws 8 _ l7 (at 8 refl ∙ slots_of object.Tcap 8 e)))
-  made_by at object.Comp e l5 =
-      judge_number here ws 6 0 65535 _ (at 6 refl ∙ slots_of object.Comp 6 e)
-      (λ a l6. judge_number here ws 7 0 65535 _ (at 7 refl ∙ slots_of object.Comp 7 e)
-      (λ b l7. judge_number here ws 8 0 63 _ (at 8 refl ∙ slots_of object.Comp 8 e)
-      (λ c l8. judge_end here ws 9 _ l8 (at 9 refl ∙ slots_of object.Comp 9 e))))
+  a_tcap_slot : (p : ℕ) → At_name (codes "tcap") → object_slot ws p ≡ tcap_slot p
+  unfolding is_word
+  a_tcap_slot p e = rw e refl
+
+  a_comp_slot : (p : ℕ) → At_name (codes "comp") → object_slot ws p ≡ comp_slot p
+  unfolding is_word
+  a_comp_slot p e = rw e refl
+
+  plain : At verb.Make → (what : Make) (name : List ℕ) → is_word name (codes "thread") ≡ false → is_word name (codes "tcap") ≡ false
+      → is_word name (codes "comp") ≡ false → At_name name → 6 ≤ length ws → Judged here ws 6 (plain_at ws what)
+  unfolding plain_at
+  plain at what name a b c e l5 = judge_end here ws 6 _ l5 (at 6 refl ∙ none_slot name 6 a b c e)
+
+  thread : At verb.Make → At_name (codes "thread") → 6 ≤ length ws → Judged here ws 6 (thread_at ws)
+  unfolding thread_at
+  thread at e l5 =
+      judge_number here ws 6 0 65535 _ (at 6 refl ∙ thread_slot 6 e) (λ a l6. judge_end here ws 7 _ l6 (at 7 refl ∙ thread_slot 7 e))
+
+  tcap : At verb.Make → At_name (codes "tcap") → 6 ≤ length ws → Judged here ws 6 (tcap_at ws)
+  unfolding tcap_at
+  tcap at e l5 =
+      judge_number here ws 6 0 63 _ (at 6 refl ∙ a_tcap_slot 6 e) (λ a l6. judge_number here ws 7 1 16777215 _ (at 7 refl ∙ a_tcap_slot 7 e)
+      (λ b l7. judge_end here ws 8 _ l7 (at 8 refl ∙ a_tcap_slot 8 e)))
+
+  comp : At verb.Make → At_name (codes "comp") → 6 ≤ length ws → Judged here ws 6 (comp_at ws)
+  unfolding comp_at
+  comp at e l5 =
+      judge_number here ws 6 0 65535 _ (at 6 refl ∙ a_comp_slot 6 e) (λ a l6. judge_number here ws 7 0 65535 _ (at 7 refl ∙ a_comp_slot 7 e)
+      (λ b l7. judge_number here ws 8 0 63 _ (at 8 refl ∙ a_comp_slot 8 e) (λ c l8. judge_end here ws 9 _ l8 (at 9 refl ∙ a_comp_slot 9 e))))
+
+  -- a word that is another one
+  named : (w name : List ℕ) → slice_get ws 1 ≡ Some w → is_word w name ≡ true → At_name name
+  named w name e is = e ∙ ap (λ (x : List ℕ). Some x) (word_same w name is)
+
+  made : At verb.Make → 6 ≤ length ws → (w : List ℕ) → slice_get ws 1 ≡ Some w
+      → Whenever (object_of w) (λ o. Judged here ws 6 (made_at ws o))
+  unfolding object_of made_at is_word
+  made at l5 w e =
+      whenever_if (is_word w (codes "table")) _ _ _ (λ is. plain at make.Table (codes "table") refl refl refl (named w (codes "table") e is) l5)
+      (whenever_if (is_word w (codes "leaf")) _ _ _ (λ is. plain at make.Leaf (codes "leaf") refl refl refl (named w (codes "leaf") e is) l5)
+      (whenever_if (is_word w (codes "pages")) _ _ _ (λ is. plain at make.Pages (codes "pages") refl refl refl (named w (codes "pages") e is) l5)
+      (whenever_if (is_word w (codes "pleaf")) _ _ _ (λ is. plain at make.Pleaf (codes "pleaf") refl refl refl (named w (codes "pleaf") e is) l5)
+      (whenever_if (is_word w (codes "thread")) _ _ _ (λ is. thread at (named w (codes "thread") e is) l5)
+      (whenever_if (is_word w (codes "tcap")) _ _ _ (λ is. tcap at (named w (codes "tcap") e is) l5)
+      (whenever_if (is_word w (codes "comp")) _ _ _ (λ is. comp at (named w (codes "comp") e is) l5) (whenever_none _)))))))
 
   makes : At verb.Make → Judged here ws 1 (make_line ws)
-  unfolding make_line
+  unfolding make_line object_at word_at
   makes at =
-      judge_object here ws _ (at 1 refl) (λ w e o named l1. judge_number here ws 2 0 65535 _ (at 2 refl)
+      judge_name here ws 1 Object_slot object_of (λ w. objects_same w) (λ w. refl) (at 1 refl) _
+      (λ w e o meant l1. judge_number here ws 2 0 65535 _ (at 2 refl)
       (λ a l2. judge_number here ws 3 0 65535 _ (at 3 refl) (λ b l3. judge_number here ws 4 0 65535 _ (at 4 refl)
       (λ c l4. judge_number here ws 5 0 65535 _ (at 5 refl)
-      (λ d l5. mapped 6 _ _ (made_by at o (e ∙ ap (λ (x : List ℕ). Some x) (object_is w o named)) l5))))))
+      (λ d l5. mapped 6 _ _ ((made at l5 w e).holds o meant)))))) (slice_get ws 1) refl
 
   judged : (v : Verb) → At v → Judged here ws 1 (call_line context.version ws v)
   unfolding call_line

@@ -1,5 +1,5 @@
 -- A line is judged word by word, and so is its first word found that does not fit.
-use Rattle.std.proofs.Common.{◌≡◌, ℕ, ◌+◌, ◌<◌, ◌≤◌, Bool, true, false, ◌&&◌, List, [], ◌∷◌, length, drop, Option, Some, None, Result, Ok, Err}
+use Rattle.std.proofs.Common.{◌≡◌, ℕ, ◌+◌, ◌<◌, ◌≤◌, Bool, true, false, ◌&&◌, List, length, drop, Option, Some, None, Result, Ok, Err}
 use Rattle.std.proofs.Common.{refl, sym, ◌∙◌, ap, arith, if◌then◌else◌}
 use Rattle.std.specs.Prelude.{nat_le, slice_get, is_some}
 use Rattle.std.specs.Option.{ok_or}
@@ -10,19 +10,17 @@ use Rattle.line_reader.specs.declared.cause.Cause.TheVariants.{S1, S2, S3, S4, S
 use Rattle.line_reader.specs.Causes.{◌>>=◌}
 use Rattle.line_reader.specs.Numerals.{number_of}
 use Rattle.line_reader.specs.Arguments.{word_at, number_at, end_at}
-use Rattle.call_reader.specs.declared.first_words.Verb.{Verb}
-use Rattle.call_reader.specs.declared.call_lines.Object.{Object}
-use Rattle.call_reader.specs.CallLines.{frame_kind_of, frame_kind_at, object_of, object_at}
+use Rattle.call_reader.specs.CallLines.{frame_kind_of, frame_kind_at}
 use Rattle.line_forms.specs.declared.context.Context.{Context}
 use Rattle.line_forms.specs.declared.slots.Slot.{Slot}
-use Rattle.line_forms.specs.declared.slots.Slot.TheVariants.{Number, MayNumber, FrameKind as Frame_kind, Object as Object_slot, End}
+use Rattle.line_forms.specs.declared.slots.Slot.TheVariants.{Number, MayNumber, FrameKind as Frame_kind, End}
 use Rattle.line_forms.specs.Slots.{is_number_between}
 use Rattle.line_forms.specs.Lines.{slot_at}
 use Rattle.line_forms.specs.Fitting.{fits_by, fits}
 use Rattle.fault_texts.specs.Places.{misfit_from}
 use Rattle.mark_laws.specs.Marked.{number_cause, cause_by, cause_at}
 use Rattle.mark_laws.proofs.Gets.{cond_true, cond_false, get_drop, get_end, get_low, get_none, get_some}
-use Rattle.mark_laws.proofs.Words.{kinds_same, objects_same}
+use Rattle.mark_laws.proofs.Words.{kinds_same}
 
 module _ (here : Context) (ws : List (List ℕ)) where
   -- the first place from this one on whose word does not fit
@@ -59,7 +57,7 @@ module _ (here : Context) (ws : List (List ℕ)) where
       ap (λ (x : Slot). cause_by x (slice_get ws p)) es ∙ ap (λ (x : Option (List ℕ)). cause_by s x) eo
 
   refused : {B : Type 0} (p : ℕ) (s : Slot) (o : Option (List ℕ)) (c : Cause) → slot_at here ws p ≡ s → slice_get ws p ≡ o
-      → from p ≡ p → cause_by s o ≡ c → Judged {B} p (Err c)
+      → from p ≡ p → cause_by s o ≡ c → Judged {B = B} p (Err c)
   refused p s o c es eo stop cause = record {
     goes = ap (λ (k : ℕ). cause_at here ws k) stop ∙ cause_is p s o es eo ∙ cause;
   }
@@ -142,13 +140,6 @@ module _ (here : Context) (ws : List (List ℕ)) where
   judge_kind p k slot next =
       judge_name p Frame_kind frame_kind_of (λ w. kinds_same w) (λ w. refl) slot k (λ w e x named low. next x low) (slice_get ws p) refl
 
-  pub judge_object : {B : Type 0} (k : Object → Result B Cause) → slot_at here ws 1 ≡ Object_slot
-      → ((w : List ℕ) → slice_get ws 1 ≡ Some w → (x : Object) → object_of w ≡ Some x → 1 + 1 ≤ length ws → Judged (1 + 1) (k x))
-      → Judged 1 (object_at ws >>= k)
-  unfolding object_at word_at
-  judge_object k slot next =
-      judge_name 1 Object_slot object_of (λ w. objects_same w) (λ w. refl) slot k next (slice_get ws 1) refl
-
   -- the end of a line, at a place where it may end and no word may stand
   module _ {B : Type 0} (p : ℕ) (s : Slot) (x : B) (low : p ≤ length ws) (slot : slot_at here ws p ≡ s)
       (may_end : fits_by here ws s None ≡ true) where
@@ -165,10 +156,10 @@ module _ (here : Context) (ws : List (List ℕ)) where
 
     end_by : ((w : List ℕ) → fits_by here ws s (Some w) ≡ false) → ((w : List ℕ) → cause_by s (Some w) ≡ S4) → (b : Bool)
         → nat_le (length ws) p ≡ b → Judged p ((if b then Ok tt else Err S4) >>= λ (done : Unit {0}). Ok x)
-    end_by no cause true past = taken (leb-true (length ws) p past)
-    end_by no cause false more =
+    end_by unfit cause true past = taken (leb-true (length ws) p past)
+    end_by unfit cause false more =
         let w = get_some ws p (leb-false (length ws) p more) in
-        refused p s (Some w.0) S4 slot w.1 (walk_stop p w.0 w.1 (fits_is p s (Some w.0) slot w.1 ∙ no w.0)) (cause w.0)
+        refused p s (Some w.0) S4 slot w.1 (walk_stop p w.0 w.1 (fits_is p s (Some w.0) slot w.1 ∙ unfit w.0)) (cause w.0)
 
   pub judge_end : {B : Type 0} (p : ℕ) (x : B) → p ≤ length ws → slot_at here ws p ≡ End
       → Judged p (end_at ws p >>= λ (done : Unit {0}). Ok x)
@@ -179,4 +170,4 @@ module _ (here : Context) (ws : List (List ℕ)) where
   pub judge_last : {B : Type 0} (p : ℕ) (s : Slot) (x : B) → p ≤ length ws → length ws ≤ p → slot_at here ws p ≡ s
       → fits_by here ws s None ≡ true → Judged p (end_at ws p >>= λ (done : Unit {0}). Ok x)
   unfolding end_at
-  judge_last p s x low past slot may_end = rw le-leb (length ws) p past (taken p s x low slot may_end past)
+  judge_last p s x low past slot may_end = rw (le-leb (length ws) p past) (taken p s x low slot may_end past)
