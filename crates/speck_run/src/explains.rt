@@ -8,7 +8,6 @@ ghost use Rattle.speck_run.specs.Explains.{GoesByCommand};
 
 /// A law: of bytes that a command refuses, what `explain` writes begins with the line that the command writes of them, which tells
 /// their first fault; of bytes that it takes, it says so, and of a given history it is the verdict.
-#[tactic(auto, using(crate::proofs::Explaining::goes_by_command))]
 pub fn explains_commands()
     ensures { (r : Reading) (bytes text : List ℕ) → MadeBy (Explain r) bytes text → GoesByCommand r bytes text }
 {}
