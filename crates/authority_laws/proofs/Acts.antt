@@ -85,19 +85,21 @@ pub record IsGiven (s : State) (c : ℕ) (k : Capability) : Type 0 where
   pub frame : InRange s c k.frame ⊎ LedTo s c is_given k.frame
 
 -- A call enters a component by a gate.
-pub record Enters (call : Call) (s : State) (c f : ℕ) : Type 0 where
+pub record Enters (act : Call) (s : State) (c f : ℕ) : Type 0 where
   pub number : ℕ
-  pub is : call ≡ call.Call number
+  pub is : act ≡ call.Call number
   pub gate : Capability
   pub names : named s c number (to_use (only kind.Gate)) ≡ Found gate
+  pub may : MayUse s c gate
+  pub kind : gate.kind ≡ kind.Gate
   pub frame : gate.frame ≡ f
   pub lives : is_live_in (s.number (comp_in (s.frame f)).number) gate.arg ≡ true
 
 -- A core goes on as another thread, with a temporal capability.
-pub record GoesOn (call : Call) (s : State) (c h q : ℕ) : Type 0 where
+pub record GoesOn (act : Call) (s : State) (c h q : ℕ) : Type 0 where
   pub first : ℕ
   pub second : ℕ
-  pub is : call ≡ call.Switch first second
+  pub is : act ≡ call.Switch first second
   pub thread : Capability
   pub names : named s c first (to_use (only kind.Thread)) ≡ Found thread
   pub frame : thread.frame ≡ h
@@ -113,21 +115,21 @@ pub record Makes (s : State) (c : ℕ) (k : CompFields) : Type 0 where
 
 -- By what core c makes an edit for a call, in the state in which the call is decided.
 abbrev pub By : Call → State → ℕ → Edit → Type 0
-By call s c (Fill at k) = InNode s c at.node × (IsCopied s c k ⊎ IsGiven s c k)
-By call s c (Remove at k) = InNode s c at.node × (place_at s at ≡ Holds k)
-By call s c (Node f object) = InRange s c f × IsTrue (is_bare (s.frame f)) × (fits kind.Comp (Kernel object) ≡ false)
-By call s c (Become f x) = InRange s c f × IsTrue (is_bare (s.frame f)) × (fits kind.Comp x ≡ false)
-By call s c (Untype f) = InRange s c f
-By call s c (Component f k) = InRange s c f × IsTrue (is_bare (s.frame f)) × Makes s c k
-By call s c (Deaden l e) = (k : Capability) × MayUse s c k × (k.kind ≡ kind.Comp) × LivesBy s k.frame l
-By call s c (Push f) = Enters call s c f
-By call s c Pop = call ≡ call.Ret
-By call s c (Switch h q) = GoesOn call s c h q
-By call s c (Cache t) = Unit {0}
-By call s c Flush = Unit {0}
-By call s c (Charge n) = call ≡ call.Tick n
-By call s c (Move a b m) = LedTo s c (only kind.Tcap) a × LedTo s c (only kind.Tcap) b
-By call s c (Merge f qs) = LedTo s c (only kind.Tcap) f
+By act s c (Fill at k) = InNode s c at.node × (IsCopied s c k ⊎ IsGiven s c k)
+By act s c (Remove at k) = InNode s c at.node × (place_at s at ≡ Holds k)
+By act s c (Node f object) = InRange s c f × IsTrue (is_bare (s.frame f)) × (fits kind.Comp (Kernel object) ≡ false)
+By act s c (Become f x) = InRange s c f × IsTrue (is_bare (s.frame f)) × (fits kind.Comp x ≡ false)
+By act s c (Untype f) = InRange s c f
+By act s c (Component f k) = InRange s c f × IsTrue (is_bare (s.frame f)) × Makes s c k
+By act s c (Deaden l e) = (k : Capability) × MayUse s c k × (k.kind ≡ kind.Comp) × LivesBy s k.frame l
+By act s c (Push f) = Enters act s c f
+By act s c Pop = act ≡ call.Ret
+By act s c (Switch h q) = GoesOn act s c h q
+By act s c (Cache t) = Unit {0}
+By act s c Flush = Unit {0}
+By act s c (Charge n) = act ≡ call.Tick n
+By act s c (Move a b m) = LedTo s c (only kind.Tcap) a × LedTo s c (only kind.Tcap) b
+By act s c (Merge f qs) = LedTo s c (only kind.Tcap) f
 
 abbrev pub EachBy : Call → State → ℕ → List Edit → Type 0
 EachBy call s c [] = Unit {0}
@@ -312,12 +314,15 @@ module _ (s : State) (c : ℕ) (o : ℕ → Bool) (h : IsOpen s o c) where
       let q3 = none_parts (refusal_of s c (When (is_live (s.number l)) reply.Occupied)) _ q2.1 in
       let fields : CompFields =
       record { table = own_table.frame; pages = own_pages.frame; number = l; epoch = epoch_of (s.number l) + 1 } in
-      two (call.Make (make.Comp x p l) r f t b) s c (Component f fields) (Fill at (plain_cap kind.Comp f)) Nothing (refl, λ x. refl, tt)
-      (within, bare_blank r f range (not_taken s l) e calm, record {
-        dead = when_not (is_live (s.number l)) reply.Occupied q3.0;
-        table = led_by s c x (only kind.Table) own_table a;
-        pages = led_by s c p (only kind.Pages) own_pages d;
-      })
+      two (call.Make (make.Comp x p l) r f t b) s c (Component f fields) (Fill at (plain_cap kind.Comp f)) Nothing (refl, λ x. refl, tt) (
+        within,
+        bare_blank r f range (not_taken s l) e calm,
+        record {
+          dead = when_not (is_live (s.number l)) reply.Occupied q3.0;
+          table = led_by s c x (only kind.Table) own_table a;
+          pages = led_by s c p (only kind.Pages) own_pages d;
+        },
+      )
       (place_by t b table at g v, made_cap kind.Comp f refl within)
 
   retype_acts : (r f : ℕ) (k : FrameKind) → ChangesFrom (Acts (call.Retype r f k) c s) s c (retype_rule s r f k)
@@ -403,11 +408,14 @@ module _ (s : State) (c : ℕ) (o : ℕ → Bool) (h : IsOpen s o c) where
   rule_acts (call.Call g) = λ gate e calm.
       let p = none_parts (refusal_of s c (When (nat_le 16 (length (thread_of s c).stack)) reply.Deep)) _ calm in
       let q = none_parts (refusal_of s c (not_live s (found gate) (comp_in (s.frame gate.frame)).number gate.arg)) None p.1 in
+      let m = may_by s c g (only kind.Gate) gate e in
       one (call.Call g) s c (Push gate.frame) Nothing (record {
         number = g;
         is = refl;
         gate = gate;
         names = e;
+        may = m.0;
+        kind = only_is kind.Gate gate.kind m.1;
         frame = refl;
         lives = not_not _ (when_not _ reply.Dead q.0);
       })

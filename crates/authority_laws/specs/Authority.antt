@@ -1,7 +1,8 @@
 -- Authority: which parts of the state a core may change, and by which capability.
-use Rattle.std.specs.Prelude.{◌≡◌, ◌⊎◌, ℕ, true, false, List, [], ◌∷◌, Some, None, IsTrue}
+use Rattle.std.specs.Prelude.{◌≡◌, ◌⊎◌, ℕ, Bool, true, false, List, [], ◌∷◌, Some, None, IsTrue}
 use Rattle.spk_nums.specs.Setting.{Setting, IsSetting}
 use Rattle.spk_nums.specs.declared.calls.Call.{Call}
+use Rattle.spk_nums.specs.declared.calls.Call.TheVariants as call
 use Rattle.spk_nums.specs.declared.replies.Reply.{Reply}
 use Rattle.spk_nums.specs.Capability.{Capability}
 use Rattle.spk_nums.specs.Rights.{has_rights, right_to_use}
@@ -71,9 +72,15 @@ IsOwn s c (RunsIs f) = f ≡ (s.core c).thread
 IsOwn s c (BudgetIs f) = f ≡ (s.core c).tcap
 IsOwn s c x = ⊥
 
+-- A part lies under a capability that may be used.
+pub record IsUnderOne (s : State) (c : ℕ) (x : Part) : Type 0 where
+  pub cap : Capability
+  pub may : MayUse s c cap
+  pub over : Over s c cap.kind cap x
+
 -- Core c may change this part.
 abbrev pub MayChange : State → ℕ → Part → Type 0
-MayChange s c x = IsOwn s c x ⊎ ((k : Capability) × MayUse s c k × Over s c k.kind k x)
+MayChange s c x = IsOwn s c x ⊎ IsUnderOne s c x
 
 -- The fields of a thread, and of a temporal capability, are compared where the frame has one before and after; where it has one before or
 -- after alone, the frame itself is another.
@@ -91,8 +98,38 @@ SamePart s t (ListIs f) = Stays kind.Tcap (s.frame f) (t.frame f) → (tcap_in (
 SamePart s t (NumberIs l) = t.number l ≡ s.number l
 SamePart s t (CoreIs c) = t.core c ≡ s.core c
 
+-- Whether a call is for the stack of its core's thread, for where that runs, or for its budget.
+abbrev pub is_of_stack : Call → Bool
+is_of_stack (call.Call gate) = true
+is_of_stack call.Ret = true
+is_of_stack _ = false
+
+abbrev pub is_of_thread : Call → Bool
+is_of_thread (call.Switch thread tcap) = true
+is_of_thread _ = false
+
+abbrev pub is_of_budget : Call → Bool
+is_of_budget (call.Tick n) = true
+is_of_budget _ = false
+
+-- What of its core's own a call may change: the core; the stack by `call` and `ret`; where the thread runs by `switch`; the budget by
+-- `tick`.
+abbrev pub OwnBy : Call → State → ℕ → Part → Type 0
+OwnBy call s c (CoreIs d) = d ≡ c
+OwnBy call s c (StackIs f) = (f ≡ (s.core c).thread) × IsTrue (is_of_stack call)
+OwnBy call s c (RunsIs f) = (f ≡ (s.core c).thread) × IsTrue (is_of_thread call)
+OwnBy call s c (BudgetIs f) = (f ≡ (s.core c).tcap) × IsTrue (is_of_budget call)
+OwnBy call s c x = ⊥
+
 -- In every run, each part that a decision of core c changes is one that c may change.
 abbrev pub DecisionsHaveAuthority : Type 0
 DecisionsHaveAuthority = (setting : Setting) → IsSetting setting → (events : List Event) (c : ℕ) (call : Call) (r : Reply)
     → IsRun setting (Decides c call r ∷ events) → (x : Part)
     → SamePart (after setting events) (after setting (Decides c call r ∷ events)) x ⊎ MayChange (after setting events) c x
+
+-- What is its core's own, a decision changes by the calls that are for it alone.
+abbrev pub CallsChangeTheirOwn : Type 0
+CallsChangeTheirOwn = (setting : Setting) → IsSetting setting → (events : List Event) (c : ℕ) (call : Call) (r : Reply)
+    → IsRun setting (Decides c call r ∷ events) → (x : Part)
+    → SamePart (after setting events) (after setting (Decides c call r ∷ events)) x
+    ⊎ (OwnBy call (after setting events) c x ⊎ IsUnderOne (after setting events) c x)

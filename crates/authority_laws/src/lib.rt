@@ -7,11 +7,18 @@
 //! See docs/WORLDS.md.
 #![tactic(auto)]
 
-ghost use Rattle.authority_laws.specs.Authority.{DecisionsHaveAuthority};
+ghost use Rattle.authority_laws.specs.Authority.{CallsChangeTheirOwn, DecisionsHaveAuthority};
 
 /// In every run, each part of the state that a decision changes is its core's own, or lies under a capability to which a number of the
 /// component's table led that core, and that has the right to use.
-#[tactic(auto, using(crate::proofs::Acts::rule_acts))]
+#[tactic(auto, using(crate::proofs::DecidedParts::decisions_have_authority))]
 pub fn decisions_have_authority()
     ensures { DecisionsHaveAuthority }
+{}
+
+/// In every run, what is its core's own a decision changes by the calls that are for it alone: the stack of the core's thread by `call`
+/// and `ret`, where the thread runs by `switch`, the budget of its temporal capability by `tick`.
+#[tactic(auto, using(crate::proofs::DecidedParts::calls_change_their_own))]
+pub fn calls_change_their_own()
+    ensures { CallsChangeTheirOwn }
 {}
