@@ -26,7 +26,7 @@ use Rattle.kernel_rules.specs.Rules.{Change, Cause, When, Found, named, vacant, 
 use Rattle.kernel_rules.specs.Rules.{waits_of}
 use Rattle.kernel_rules.specs.CapabilityCalls.{has_frame, outside, not_blank, makes, make_node, make_rule, not_taken, is_live, epoch_of}
 use Rattle.kernel_rules.specs.CapabilityCalls.{leaf_of, leaf_for}
-use Rattle.kernel_rules.specs.MemoryCalls.{not_untyped, not_retyped, retype_rule, touch_by, translation_of, translated}
+use Rattle.kernel_rules.specs.MemoryCalls.{not_user, not_untyped, not_retyped, retype_rule, touch_by, translation_of, translated}
 use Rattle.kernel_rules.specs.Life.{is_live_in}
 use Rattle.kernel_rules.specs.InvocationCalls.{not_live, switch_to}
 use Rattle.kernel_rules.specs.TimeCalls.{merged_list}
@@ -385,7 +385,7 @@ module _ (s : State) (c : ℕ) (o : ℕ → Bool) (h : IsOpen s o c) where
   rule_acts (call.Map p v r f w) = λ pages e range g at u calm.
       filled (call.Map p v r f w) s c at (cap_of kind.Page f w.0)
       (pages_node s c p pages at.node e (under_leaf s c pages v at (vacant_facts s c (Under (found pages) v) at u).0))
-      (inr (record { rights = refl; kind = refl; frame = inl (range_by s c r f range _ g calm) }))
+      (inr (record { rights = refl; kind = refl; frame = inl (range_by s c r f range (not_user s f ∷ []) g calm) }))
   rule_acts (call.Unmap p v) = λ pages e at k g calm.
       removed (call.Unmap p v) s c (Under (found pages) v) at k
       (pages_node s c p pages at.node e (under_leaf s c pages v at (held_facts s c (Under (found pages) v) at k g).0)) g
