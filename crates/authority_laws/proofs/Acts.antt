@@ -186,7 +186,7 @@ module _ (s : State) (c : ℕ) where
       }
 
   -- what is reached under a number of a table is in a leaf of it
-  under_leaf : (table : Capability) (n : ℕ) (at : Slot) → reached s c (Under (found table) n) ≡ Some at → IsUnder s c table.frame at.node
+  pub under_leaf : (table : Capability) (n : ℕ) (at : Slot) → reached s c (Under (found table) n) ≡ Some at → IsUnder s c table.frame at.node
   under_leaf table n at e = inr (n / 64, by_number (nat_le n 4095) e)
     where
       by_slot : (l : Option ℕ) → slot_in l (n % 64) ≡ Some at → l ≡ Some at.node

@@ -155,11 +155,12 @@ module _ (setting : Setting) (lim : IsSetting setting) (events : List Event) (c 
   core_stays d other = elim (calls_change_their_own setting lim events c call r run (CoreIs d)) [
     | inl same ↦ same
     | inr (inl own) ↦ absurd (other own)
-    | inr (inr one) ↦ absurd (no_core one.cap.kind one.over)
+    | inr (inr one) ↦ absurd (no_core one.cap.kind one.cap one.over)
   ]
     where
-      no_core : (j : Kind) {k : Capability} → Over s c j k (CoreIs d) → ⊥
-      no_core _ over = over
+      no_core : (j : Kind) (k : Capability) → Over s c j k (CoreIs d) → ⊥
+      no_core kind.Range k over = over
+      no_core _ k over = over
 
   -- the frame of a component is not that of the core's thread or temporal capability
   comp_apart : (f : ℕ) → IsTrue (fits kind.Comp (s.frame f)) → (f ≢ (s.core c).thread) × (f ≢ (s.core c).tcap)

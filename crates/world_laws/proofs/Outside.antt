@@ -58,7 +58,7 @@ works_outside w s c o h links sealed out = record {
 
 module _ (w : ℕ → Bool) (s : State) (c : ℕ) (h : WorksOutside w s c) where
   -- a leaf of a root that is outside is outside
-  under_out : (root f : ℕ) → w root ≡ false → IsUnder s c root f → w f ≡ false
+  pub under_out : (root f : ℕ) → w root ≡ false → IsUnder s c root f → w f ≡ false
   under_out root f out (inl same) = ap w same ∙ out
   under_out root f out (inr (i, e)) = by_link (usable s c (record { node = root; index = i })) refl e
     where
