@@ -1,9 +1,9 @@
 -- Every call that is carried out is a list of edits, each with the capabilities by which it is made.
-use Rattle.std.proofs.Common.{◌≡◌, ◌⊎◌, inl, inr, ℕ, ◌+◌, ◌/◌, ◌%◌, Bool, true, false, ◌&&◌, not, refl, sym, ◌∙◌, ap, subst}
-use Rattle.std.proofs.Common.{◌==◌, nat_le, if◌then◌else◌, length, IsTrue, List, [], ◌∷◌, Option, Some, None}
+use Rattle.std.proofs.Common.{◌≡◌, ◌⊎◌, inl, inr, ℕ, ◌+◌, ◌/◌, ◌%◌, Bool, true, false, not, refl, sym, ◌∙◌, ap, subst}
+use Rattle.std.proofs.Common.{nat_le, if◌then◌else◌, length, IsTrue, List, [], ◌∷◌, Option, Some, None}
 use Rattle.std.proofs.lemmas.Bool.{false≢true}
 use Rattle.spk_nums.specs.Capability.{Capability, cap_of}
-use Rattle.spk_nums.specs.Rights.{both, kept, has_rights, right_to_use}
+use Rattle.spk_nums.specs.Rights.{both, kept, has_rights}
 use Rattle.spk_nums.specs.declared.kinds.Kind.{Kind}
 use Rattle.spk_nums.specs.declared.kinds.Kind.TheVariants as kind
 use Rattle.spk_nums.specs.declared.kinds.FrameKind.{FrameKind}
@@ -16,14 +16,13 @@ use Rattle.spk_nums.specs.declared.translations.Translation.{Translation}
 use Rattle.spk_nums.specs.declared.replies.Value.{Value}
 use Rattle.spk_nums.specs.declared.replies.Value.TheVariants.{Nothing, Amount}
 use Rattle.spk_nums.specs.declared.replies.Reply.TheVariants as reply
-use Rattle.kernel_rules.specs.State.{Holds, CompFields, Object, Blank, Table, Leaf, Pages, Pleaf, Comp, Thread, Tcap, Frame}
-use Rattle.kernel_rules.specs.State.{Untyped, User, Kernel, State, NumberOf, comp_in, comp_of, thread_in, thread_of}
+use Rattle.kernel_rules.specs.State.{Holds, CompFields, Object, Blank, Table, Leaf, Pages, Pleaf, Thread, Tcap}
+use Rattle.kernel_rules.specs.State.{User, Kernel, State, comp_in, comp_of, thread_in, thread_of}
 use Rattle.kernel_rules.specs.Start.{plain_cap}
 use Rattle.kernel_rules.specs.Access.{Want, to_use, to_copy, any, only, root, found, Slot, Target, Under, InRoot}
 use Rattle.kernel_rules.specs.Access.{linked, slot_in, usable, reached, own, place_at, root_slot}
 use Rattle.kernel_rules.specs.Fitting.{fits}
-use Rattle.kernel_rules.specs.Rules.{Change, Cause, When, Found, named, vacant, held, mapped, fills, removes, answers, first_cause, refusal_of}
-use Rattle.kernel_rules.specs.Rules.{waits_of}
+use Rattle.kernel_rules.specs.Rules.{Change, Cause, When, Found, named, vacant, held, fills, removes, answers, first_cause, refusal_of}
 use Rattle.kernel_rules.specs.CapabilityCalls.{has_frame, outside, not_blank, makes, make_node, make_rule, not_taken, is_live, epoch_of}
 use Rattle.kernel_rules.specs.CapabilityCalls.{leaf_of, leaf_for}
 use Rattle.kernel_rules.specs.MemoryCalls.{not_user, not_untyped, not_retyped, retype_rule, touch_by, translation_of, translated}

@@ -1,8 +1,6 @@
 -- What an edit changes of the parts of a state is what its core may change.
-use Rattle.std.proofs.Common.{◌≡◌, ◌⊎◌, inl, inr, ℕ, ◌+◌, ◌-◌, true, false, refl, sym, ◌∙◌, ap, subst, IsTrue, List, [], ◌∷◌, drop, Some, None}
+use Rattle.std.proofs.Common.{◌≡◌, ◌⊎◌, inl, inr, ℕ, ◌+◌, ◌-◌, false, refl, sym, ◌∙◌, ap, subst, IsTrue, List, [], ◌∷◌, drop, Some, None}
 use Rattle.std.proofs.lemmas.Bool.{false≢true}
-use Rattle.spk_nums.specs.Capability.{Capability}
-use Rattle.spk_nums.specs.declared.kinds.Kind.{Kind}
 use Rattle.spk_nums.specs.declared.kinds.Kind.TheVariants as kind
 use Rattle.spk_nums.specs.declared.calls.Call.{Call}
 use Rattle.kernel_rules.specs.State.{Place, Free, Holds, Quiescing, ThreadFields, TcapFields, Blank, Comp, Thread, Tcap, Frame}
@@ -19,7 +17,7 @@ use Rattle.kernel_invariant.proofs.Sound.{put_all, only_is}
 use Rattle.kernel_invariant.proofs.SoundSteps.{place_all}
 use Rattle.kernel_invariant.proofs.Edited.{is_bare, AreLater, Calm}
 use Rattle.authority_laws.specs.Authority.{PlaceIs, FrameIs, StackIs, RunsIs, BudgetIs, ListIs, NumberIs, CoreIs}
-use Rattle.authority_laws.specs.Authority.{bare_of, Part, Over, MayUse, IsUnderOne, OwnBy, Stays, is_of_stack, is_of_thread, is_of_budget}
+use Rattle.authority_laws.specs.Authority.{bare_of, Part, Over, IsUnderOne, OwnBy, Stays, is_of_stack, is_of_thread, is_of_budget}
 use Rattle.authority_laws.proofs.Acts.{LedTo, InRange, InNode, By, EachBy}
 
 -- Core c may change this part by a call.

@@ -1,5 +1,5 @@
 -- In every state that a run reaches, each link that a core may use has both rights; and who waits after a return waited before.
-use Rattle.std.proofs.Common.{◌≡◌, ◌⊎◌, inl, inr, ℕ, Bool, true, false, refl, sym, ◌∙◌, ap, subst, if◌then◌else◌, IsTrue, List, [], ◌∷◌, Some, None}
+use Rattle.std.proofs.Common.{◌≡◌, inl, inr, ℕ, Bool, true, false, refl, ◌∙◌, ap, subst, if◌then◌else◌, IsTrue, List, [], ◌∷◌, Some, None}
 use Rattle.std.proofs.lemmas.Bool.{false≢true}
 use Rattle.spk_nums.specs.Setting.{Setting, IsSetting}
 use Rattle.spk_nums.specs.Capability.{Capability}
@@ -14,7 +14,6 @@ use Rattle.kernel_invariant.proofs.Facts.{none_some}
 use Rattle.kernel_invariant.proofs.Sound.{put_all, only_is}
 use Rattle.kernel_invariant.proofs.SoundRuns.{opened, open_is}
 use Rattle.state_laws.proofs.BothRights.{both_stay}
-use Rattle.authority_laws.proofs.Acts.{IsCopied, IsGiven}
 use Rattle.world_laws.proofs.Puts.{Put, usable_from}
 use Rattle.world_laws.proofs.Outside.{LinksHaveBoth}
 

@@ -1,14 +1,14 @@
 -- What a decision puts: what places hold and what cores may use after it was so before, or was put from what the core named; so it is of
 -- components.
-use Rattle.std.proofs.Common.{◌≡◌, ◌⊎◌, inl, inr, ℕ, ◌+◌, ◌-◌, Bool, true, false, cond, refl, sym, ◌∙◌, ap, subst, if◌then◌else◌, IsTrue}
-use Rattle.std.proofs.Common.{List, [], ◌∷◌, drop, Option, Some, None, is_some}
+use Rattle.std.proofs.Common.{◌≡◌, ◌⊎◌, inl, inr, ℕ, ◌+◌, ◌-◌, Bool, true, false, cond, refl, sym, ◌∙◌, ap, subst, if◌then◌else◌}
+use Rattle.std.proofs.Common.{List, [], ◌∷◌, drop, Some, None, is_some}
 use Rattle.std.proofs.lemmas.Bool.{false≢true}
 use Rattle.spk_nums.specs.Capability.{Capability}
 use Rattle.spk_nums.specs.declared.kinds.Kind.TheVariants as kind
 use Rattle.spk_nums.specs.declared.calls.Call.{Call}
 use Rattle.spk_nums.specs.declared.replies.Reply.{Reply}
 use Rattle.kernel_rules.specs.State.{Place, Free, Holds, Quiescing, CompFields, ThreadFields, TcapFields, Comp, Thread, Tcap, Frame}
-use Rattle.kernel_rules.specs.State.{Untyped, Kernel, Live, Dead, Grace, Thing, PlaceOf, State, put, with_place, with_frame, thread_in, thread_of}
+use Rattle.kernel_rules.specs.State.{Untyped, Kernel, Live, Dead, Grace, Thing, PlaceOf, State, with_place, with_frame, thread_in, thread_of}
 use Rattle.kernel_rules.specs.Start.{no_grace}
 use Rattle.kernel_rules.specs.Access.{Slot, usable, usable_in, held_in}
 use Rattle.kernel_rules.specs.GracePeriods.{new_grace}

@@ -1,5 +1,5 @@
 -- Sealed worlds over parts of runs.
-use Rattle.std.proofs.Common.{◌≡◌, ◌⊎◌, inl, inr, ℕ, Bool, true, false, not, refl, sym, ◌∙◌, ap, List, [], ◌∷◌, ◌++◌}
+use Rattle.std.proofs.Common.{◌≡◌, ◌⊎◌, inl, inr, ℕ, Bool, true, false, not, refl, ◌∙◌, ap, List, [], ◌∷◌, ◌++◌}
 use Rattle.std.proofs.lemmas.Bool.{true≢false}
 use Rattle.spk_nums.specs.Setting.{Setting, IsSetting}
 use Rattle.spk_nums.specs.declared.calls.Call.{Call}
@@ -8,9 +8,9 @@ use Rattle.spk_nums.specs.declared.replies.Reply.{Reply}
 use Rattle.spk_nums.specs.declared.replies.Reply.TheVariants as reply
 use Rattle.kernel_rules.specs.State.{State}
 use Rattle.kernel_rules.specs.CallRelation.{owed_by, state_by}
-use Rattle.kernel_rules.specs.Runs.{Event, Enters, Decides, Returns, after, is_open, IsRun}
+use Rattle.kernel_rules.specs.Runs.{Event, Enters, Decides, Returns, after, IsRun}
 use Rattle.kernel_invariant.proofs.SoundRuns.{opened}
-use Rattle.world_laws.specs.Worlds.{works_in, lives_at, gates, IsSealed, AreApart, LeavesAlone}
+use Rattle.world_laws.specs.Worlds.{works_in, lives_at, gates, IsSealed, AreApart}
 use Rattle.world_laws.specs.Laws.{ActsInside, OpenedFromInside, ApartForGood, DiesByItsOwn}
 use Rattle.world_laws.proofs.Leaving.{opened_call, outside, outside_leaves}
 use Rattle.world_laws.proofs.Sealing.{sealed_entered, sealed_returned, sealed_counted, sealed_owed, sealed_outside, sealed_inside, seals_stay}

@@ -32,7 +32,6 @@ pub fn opened_from_inside()
 {}
 
 /// In every run, two worlds that only gates join stay so, whatever any core does.
-#[tactic(auto, using(crate::proofs::Stretches::apart_for_good))]
 pub fn apart_for_good()
     ensures { ApartForGood }
 {}
