@@ -6,3 +6,4 @@ pub mod Leaving
 pub mod Sealing
 pub mod Stretches
 pub mod Entering
+pub mod Examples
