@@ -31,7 +31,7 @@ use Rattle.kernel_rules.specs.InvocationCalls.{not_live, switch_to}
 use Rattle.kernel_rules.specs.TimeCalls.{merged_list}
 use Rattle.kernel_rules.specs.CallRelation.{rule_of}
 use Rattle.kernel_invariant.specs.Edits.{Edit, Fill, Remove, Node, Become, Untype, Component, Deaden, Push, Pop, Switch, Cache, Flush}
-use Rattle.kernel_invariant.specs.Edits.{Charge, Move, Merge, does}
+use Rattle.kernel_invariant.specs.Edits.{Charge, Move, Merge, begins_in, does}
 use Rattle.kernel_invariant.proofs.Sound.{only_is}
 use Rattle.kernel_invariant.proofs.SoundCalls.{IsOpen, blank_by, untyped_by}
 use Rattle.kernel_invariant.proofs.Facts.{ChangesFrom, Suits, suits, none_some, some_inj, some_none, vacant_facts, held_facts, none_parts, when_not, not_not}
@@ -134,11 +134,18 @@ abbrev pub EachBy : Call → State → ℕ → List Edit → Type 0
 EachBy call s c [] = Unit {0}
 EachBy call s c (e ∷ es) = By call s c e × EachBy call s c es
 
+-- Of two edits the first begins no grace period.
+abbrev pub Quiet : ℕ → State → List Edit → Type 0
+Quiet c s [] = Unit {0}
+Quiet c s (e ∷ []) = Unit {0}
+Quiet c s (e ∷ (x ∷ es)) = begins_in c s e ≡ []
+
 -- The change of a call of core c is that of a list of edits, each with what it is made by.
 pub record Acts (call : Call) (c : ℕ) (s : State) (change : Change) : Type 0 where
   pub list : List Edit
   pub is : change ≡ does c s change.value list
   pub calm : Calm c s list
+  pub quiet : Quiet c s list
   pub by : EachBy call s c list
 
 -- ---- names
@@ -240,13 +247,13 @@ module _ (s : State) (c : ℕ) where
 
 module _ (call : Call) (s : State) (c : ℕ) where
   nothing : {v : Value} → Acts call c s (answers s v)
-  nothing = record { list = []; is = refl; calm = tt; by = tt }
+  nothing = record { list = []; is = refl; calm = tt; quiet = tt; by = tt }
 
   one : (e : Edit) (v : Value) → By call s c e → Acts call c s (does c s v (e ∷ []))
-  one e v by = record { list = e ∷ []; is = refl; calm = (refl, λ x. refl, tt); by = (by, tt) }
+  one e v by = record { list = e ∷ []; is = refl; calm = (refl, λ x. refl, tt); quiet = tt; by = (by, tt) }
 
-  two : (e x : Edit) (v : Value) → Calm c s (e ∷ x ∷ []) → By call s c e → By call s c x → Acts call c s (does c s v (e ∷ x ∷ []))
-  two e x v calm by next = record { list = e ∷ x ∷ []; is = refl; calm = calm; by = (by, (next, tt)) }
+  two : (e x : Edit) (v : Value) → Calm c s (e ∷ x ∷ []) → begins_in c s e ≡ [] → By call s c e → By call s c x → Acts call c s (does c s v (e ∷ x ∷ []))
+  two e x v calm quiet by next = record { list = e ∷ x ∷ []; is = refl; calm = calm; quiet = quiet; by = (by, (next, tt)) }
 
   filled : (at : Slot) (k : Capability) → InNode s c at.node → IsCopied s c k ⊎ IsGiven s c k → Acts call c s (fills s at k)
   filled at k node from = one (Fill at k) Nothing (node, from)
@@ -278,9 +285,9 @@ module _ (s : State) (c : ℕ) (o : ℕ → Bool) (h : IsOpen s o c) where
   node_acts : (call : Call) (object : Object) (k : Kind) (r f t b : ℕ) → fits kind.Comp (Kernel object) ≡ false
       → only kind.Range k ≡ false → ((at : Slot) → Calm c s (Node f object ∷ Fill at (plain_cap k f) ∷ []))
       → ChangesFrom (Acts call c s) s c (make_node s object k r f t b)
-  node_acts call object k r f t b none other quiet = λ range e table g at v calm.
+  node_acts call object k r f t b none other calm_at = λ range e table g at v calm.
       let within = range_by s c r f range (not_blank s f ∷ []) e calm in
-      two call s c (Node f object) (Fill at (plain_cap k f)) Nothing (quiet at)
+      two call s c (Node f object) (Fill at (plain_cap k f)) Nothing (calm_at at) refl
       (within, bare_blank r f range [] e calm, none)
       (place_by t b table at g v, made_cap k f other within)
 
@@ -291,7 +298,7 @@ module _ (s : State) (c : ℕ) (o : ℕ → Bool) (h : IsOpen s o c) where
       → first_cause s c (outside (found range) f ∷ not_blank s f ∷ []) ≡ None → Acts call c s (makes s f object k at)
   made_acts call object k r f t b range table at none other e g v calm =
       let within = range_by s c r f range (not_blank s f ∷ []) e calm in
-      two call s c (Become f (Kernel object)) (Fill at (plain_cap k f)) Nothing (refl, λ x. refl, tt)
+      two call s c (Become f (Kernel object)) (Fill at (plain_cap k f)) Nothing (refl, λ x. refl, tt) refl
       (within, bare_blank r f range [] e calm, none)
       (place_by t b table at g v, made_cap k f other within)
 
@@ -313,7 +320,7 @@ module _ (s : State) (c : ℕ) (o : ℕ → Bool) (h : IsOpen s o c) where
       let q3 = none_parts (refusal_of s c (When (is_live (s.number l)) reply.Occupied)) _ q2.1 in
       let fields : CompFields =
       record { table = own_table.frame; pages = own_pages.frame; number = l; epoch = epoch_of (s.number l) + 1 } in
-      two (call.Make (make.Comp x p l) r f t b) s c (Component f fields) (Fill at (plain_cap kind.Comp f)) Nothing (refl, λ x. refl, tt) (
+      two (call.Make (make.Comp x p l) r f t b) s c (Component f fields) (Fill at (plain_cap kind.Comp f)) Nothing (refl, λ x. refl, tt) refl (
         within,
         bare_blank r f range (not_taken s l) e calm,
         record {
@@ -426,5 +433,5 @@ module _ (s : State) (c : ℕ) (o : ℕ → Bool) (h : IsOpen s o c) where
       one (call.Transfer a b m) s c (Move j.frame k.frame m) Nothing (led_by s c a (only kind.Tcap) j e, led_by s c b (only kind.Tcap) k f)
   rule_acts (call.Delegate a b m) = λ j e k f calm.
       two (call.Delegate a b m) s c (Move j.frame k.frame m) (Merge k.frame (merged_list s j.frame k.frame)) Nothing
-      (refl, λ x. refl, tt) (led_by s c a (only kind.Tcap) j e, led_by s c b (only kind.Tcap) k f) (led_by s c b (only kind.Tcap) k f)
+      (refl, λ x. refl, tt) refl (led_by s c a (only kind.Tcap) j e, led_by s c b (only kind.Tcap) k f) (led_by s c b (only kind.Tcap) k f)
   rule_acts (call.Test a b) = λ j e k f calm. nothing (call.Test a b) s c

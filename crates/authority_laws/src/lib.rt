@@ -8,6 +8,7 @@
 #![tactic(auto)]
 
 ghost use Rattle.authority_laws.specs.Authority.{CallsChangeTheirOwn, DecisionsHaveAuthority};
+ghost use Rattle.authority_laws.specs.Graces.{GracesHaveCause};
 
 /// In every run, each part of the state that a decision changes is its core's own, or lies under a capability to which a number of the
 /// component's table led that core, and that has the right to use.
@@ -21,4 +22,11 @@ pub fn decisions_have_authority()
 #[tactic(auto, using(crate::proofs::DecidedParts::calls_change_their_own))]
 pub fn calls_change_their_own()
     ensures { CallsChangeTheirOwn }
+{}
+
+/// In every run, the grace period of a place begins only where a capability that it held is removed, that of a liveness number where it was
+/// live and is dead, and that of a frame where some part of the state has lost a reference to it.
+#[tactic(auto, using(crate::proofs::Causes::graces_have_cause))]
+pub fn graces_have_cause()
+    ensures { GracesHaveCause }
 {}
