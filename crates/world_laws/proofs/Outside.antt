@@ -17,8 +17,15 @@ use Rattle.kernel_invariant.proofs.Facts.{none_some, some_inj}
 use Rattle.found_stays.proofs.Stays.{comp_fit}
 use Rattle.authority_laws.specs.Authority.{IsUnder, MayUse}
 use Rattle.authority_laws.proofs.Acts.{LedTo, InRange, InNode, IsCopied, IsGiven, is_given, under_leaf}
-use Rattle.world_laws.specs.Worlds.{works_in, LeadsTo, gates, HoldsNone, IsSealed}
+use Rattle.world_laws.specs.Worlds.{works_in, LeadsTo, gates, OnlyGates, HoldsNone, IsSealed}
 use Rattle.world_laws.proofs.Puts.{Put}
+
+-- What is sealed where fewer kinds cross is so where gates do.
+pub sealed_for_gates : (w : ℕ → Bool) (crosses : Kind → Bool) (s : State) → OnlyGates crosses → IsSealed w crosses s → IsSealed w gates s
+sealed_for_gates w crosses s only h = record {
+  places = λ f i d k out e right crossing g leads. h.places f i d k out e right (only k.kind crossing) g leads;
+  comps = h.comps;
+}
 
 -- Each link that a core may use has both rights.
 abbrev pub LinksHaveBoth : State → Type 0
@@ -104,18 +111,18 @@ module _ (w : ℕ → Bool) (s : State) (c : ℕ) (h : WorksOutside w s c) where
   given_kind kind.Comp given = (refl, refl)
   given_kind _ given = absurd (false≢true given)
 
-  -- what core c puts holds nothing of the world
-  copied_none : (k : Capability) → IsCopied s c k → HoldsNone w gates k
-  copied_none k x = subst (HoldsNone w gates) (sym x.is) (λ right crosses f leads.
-      h.sealed.places x.at.node x.at.index c x.source (reached_out x.number x.at x.reaches) x.from
-      (kept_has x.source.kind x.source.rights x.rights right_to_use right) crosses f (leads_kept x.source.kind f leads))
+  -- what core c puts holds nothing of the world, whatever may cross
+  copied_none : (crosses : Kind → Bool) → IsSealed w crosses s → (k : Capability) → IsCopied s c k → HoldsNone w crosses k
+  copied_none crosses sealed k x = subst (HoldsNone w crosses) (sym x.is) (λ right crossing f leads.
+      sealed.places x.at.node x.at.index c x.source (reached_out x.number x.at x.reaches) x.from
+      (kept_has x.source.kind x.source.rights x.rights right_to_use right) crossing f (leads_kept x.source.kind f leads))
     where
       leads_kept : (j : Kind) (f : ℕ) → LeadsTo j (kept x.source x.rights) f → LeadsTo j x.source f
       leads_kept kind.Range f leads = leads
       leads_kept _ f leads = leads
 
-  given_none : (k : Capability) → IsGiven s c k → HoldsNone w gates k
-  given_none k x right crosses f leads = ap w (leads_frame k.kind x.kind leads) ∙ by_frame x.frame
+  given_none : (crosses : Kind → Bool) (k : Capability) → IsGiven s c k → HoldsNone w crosses k
+  given_none crosses k x right crossing f leads = ap w (leads_frame k.kind x.kind leads) ∙ by_frame x.frame
     where
       leads_frame : (j : Kind) → only kind.Range j ≡ false → LeadsTo j k f → f ≡ k.frame
       leads_frame kind.Range other l = absurd (true≢false other)
@@ -127,6 +134,6 @@ module _ (w : ℕ → Bool) (s : State) (c : ℕ) (h : WorksOutside w s c) where
           let g = given_kind l.cap.kind l.kind in
           may_out l.cap l.cap.kind k.frame l.may refl g.0 (leads_plain l.cap.kind l.cap k.frame g.1 (sym l.frame))
 
-  pub put_none : (f : ℕ) (k : Capability) → Put s c f k → HoldsNone w gates k
-  put_none f k (node, inl x) = copied_none k x
-  put_none f k (node, inr x) = given_none k x
+  pub put_none : (crosses : Kind → Bool) → IsSealed w crosses s → (f : ℕ) (k : Capability) → Put s c f k → HoldsNone w crosses k
+  put_none crosses sealed f k (node, inl x) = copied_none crosses sealed k x
+  put_none crosses sealed f k (node, inr x) = given_none crosses k x

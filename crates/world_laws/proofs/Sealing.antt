@@ -16,7 +16,7 @@ use Rattle.world_laws.specs.Worlds.{gates, IsSealed}
 use Rattle.world_laws.specs.Laws.{SealsStay}
 use Rattle.world_laws.proofs.Puts.{decided_put, usable_from}
 use Rattle.world_laws.proofs.Links.{returned_uses}
-use Rattle.world_laws.proofs.Outside.{WorksOutside, range_out, node_out, led_frame, put_none}
+use Rattle.world_laws.proofs.Outside.{WorksOutside, sealed_for_gates, range_out, node_out, led_frame, put_none}
 use Rattle.world_laws.proofs.Leaving.{opened_call, outside}
 
 pub sealed_entered : (w : ℕ → Bool) (crosses : Kind → Bool) (s : State) (c : ℕ) → IsSealed w crosses s → IsSealed w crosses (entered s c)
@@ -44,14 +44,14 @@ module _ (w : ℕ → Bool) (s : State) (c : ℕ) (o : ℕ → Bool) (h : IsOpen
   t = state_by s c call r
 
   -- a decision of a core that works outside
-  pub sealed_outside : IsSealed w gates t
-  sealed_outside = record {
+  pub sealed_outside : (crosses : Kind → Bool) → IsSealed w crosses s → IsSealed w crosses t
+  sealed_outside crosses sealed = record {
     places = λ f i d k away e. elim (usable_from s c o h call r may f i d k e) [
-      | inl was ↦ out.sealed.places f i d k away was
-      | inr new ↦ put_none w s c out f k new
+      | inl was ↦ sealed.places f i d k away was
+      | inr new ↦ put_none w s c out crosses sealed f k new
     ];
     comps = λ f k away e. elim ((decided_put s c o h call r may).comp f k e) [
-      | inl was ↦ out.sealed.comps f k away was
+      | inl was ↦ sealed.comps f k away was
       | inr made ↦ (
         led_frame w s c out kind.Table k.table refl refl made.1.table,
         led_frame w s c out kind.Pages k.pages refl refl made.1.pages,
@@ -60,8 +60,9 @@ module _ (w : ℕ → Bool) (s : State) (c : ℕ) (o : ℕ → Bool) (h : IsOpen
   }
 
   -- and what the world holds of the rest stays
-  pub sealed_inside : (u : ℕ → Bool) → ((f : ℕ) → u f ≡ false → w f ≡ true) → IsSealed u gates s → IsSealed u gates t
-  sealed_inside u rest sealed = record {
+  pub sealed_inside : (u : ℕ → Bool) (crosses : Kind → Bool) → ((f : ℕ) → u f ≡ false → w f ≡ true) → IsSealed u crosses s
+      → IsSealed u crosses t
+  sealed_inside u crosses rest sealed = record {
     places = λ f i d k away e. elim (usable_from s c o h call r may f i d k e) [
       | inl was ↦ sealed.places f i d k away was
       | inr new ↦ absurd (false≢true (sym (node_out w s c out f new.0) ∙ rest f away))
@@ -73,6 +74,7 @@ module _ (w : ℕ → Bool) (s : State) (c : ℕ) (o : ℕ → Bool) (h : IsOpen
   }
 
 pub seals_stay : SealsStay
-seals_stay setting lim events c call r run w sealed out =
-    sealed_outside w (after setting events) c (opened events) (opened_call setting lim events c call r run w sealed out)
-    (outside setting lim events c call r run w sealed out) call r run.1.permitted
+seals_stay setting lim events c call r run w crosses only sealed out =
+    let narrow = sealed_for_gates w crosses (after setting events) only sealed in
+    sealed_outside w (after setting events) c (opened events) (opened_call setting lim events c call r run w narrow out)
+    (outside setting lim events c call r run w narrow out) call r run.1.permitted crosses sealed

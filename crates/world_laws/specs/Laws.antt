@@ -4,6 +4,7 @@ use Rattle.spk_nums.specs.Setting.{Setting, IsSetting}
 use Rattle.spk_nums.specs.Capability.{Capability}
 use Rattle.spk_nums.specs.declared.calls.Call.{Call}
 use Rattle.spk_nums.specs.declared.calls.Call.TheVariants as call
+use Rattle.spk_nums.specs.declared.kinds.Kind.{Kind}
 use Rattle.spk_nums.specs.declared.kinds.Kind.TheVariants as kind
 use Rattle.spk_nums.specs.declared.replies.Value.{Value}
 use Rattle.spk_nums.specs.declared.replies.Reply.{Reply}
@@ -13,7 +14,7 @@ use Rattle.kernel_rules.specs.Access.{only, to_use}
 use Rattle.kernel_rules.specs.Rules.{Found, named}
 use Rattle.kernel_rules.specs.Runs.{Event, Decides, after, IsRun}
 use Rattle.authority_laws.specs.Authority.{Part, PlaceIs, FrameIs, StackIs, RunsIs, BudgetIs, ListIs, OwnBy, SamePart}
-use Rattle.world_laws.specs.Worlds.{works_in, lives_at, gates, IsSealed, AreApart, LeavesAlone}
+use Rattle.world_laws.specs.Worlds.{works_in, lives_at, gates, OnlyGates, IsSealed, AreApart, LeavesAlone}
 
 -- In every run, a decision of a core that works outside a sealed world leaves it alone.
 abbrev pub OutsideLeaves : Type 0
@@ -26,8 +27,8 @@ OutsideLeaves = (setting : Setting) → IsSetting setting → (events : List Eve
 abbrev pub SealsStay : Type 0
 SealsStay = (setting : Setting) → IsSetting setting → (events : List Event) (c : ℕ) (call : Call) (r : Reply)
     → IsRun setting (Decides c call r ∷ events)
-    → (w : ℕ → Bool) → IsSealed w gates (after setting events) → w (works_in (after setting events) c) ≡ false
-    → IsSealed w gates (after setting (Decides c call r ∷ events))
+    → (w : ℕ → Bool) (crosses : Kind → Bool) → OnlyGates crosses → IsSealed w crosses (after setting events)
+    → w (works_in (after setting events) c) ≡ false → IsSealed w crosses (after setting (Decides c call r ∷ events))
 
 -- Since `before`, a call of a core that worked inside the world was carried out.
 pub record ActsInside (setting : Setting) (w : ℕ → Bool) (before later : List Event) : Type 0 where
@@ -42,13 +43,14 @@ pub record ActsInside (setting : Setting) (w : ℕ → Bool) (before later : Lis
 -- A sealed world is sealed at the end of each part of a run, or a core that worked inside has carried out a call in this part.
 abbrev pub OpenedFromInside : Type 0
 OpenedFromInside = (setting : Setting) → IsSetting setting → (before later : List Event) → IsRun setting (later ++ before)
-    → (w : ℕ → Bool) → IsSealed w gates (after setting before)
-    → IsSealed w gates (after setting (later ++ before)) ⊎ ActsInside setting w before later
+    → (w : ℕ → Bool) (crosses : Kind → Bool) → OnlyGates crosses → IsSealed w crosses (after setting before)
+    → IsSealed w crosses (after setting (later ++ before)) ⊎ ActsInside setting w before later
 
--- Two worlds that only gates join stay so, whatever any core does.
+-- Two worlds that only gates join, or nothing, stay so, whatever any core does.
 abbrev pub ApartForGood : Type 0
 ApartForGood = (setting : Setting) → IsSetting setting → (before later : List Event) → IsRun setting (later ++ before)
-    → (w : ℕ → Bool) → AreApart w (after setting before) → AreApart w (after setting (later ++ before))
+    → (w : ℕ → Bool) (crosses : Kind → Bool) → OnlyGates crosses → AreApart w crosses (after setting before)
+    → AreApart w crosses (after setting (later ++ before))
 
 -- How a core comes to work in a set of frames: by a gate to a component in it that lives; by returning into one that stands below on its
 -- stack; or by going on as a thread whose top is one.

@@ -37,10 +37,14 @@ pub record IsSealed (w : ℕ → Bool) (crosses : Kind → Bool) (s : State) : T
   pub places : (f i d : ℕ) (k : Capability) → w f ≡ false → usable s d (record { node = f; index = i }) ≡ Some k → HoldsNone w crosses k
   pub comps : (f : ℕ) (k : CompFields) → w f ≡ false → s.frame f ≡ Kernel (Comp k) → (w k.table ≡ false) × (w k.pages ≡ false)
 
--- Two worlds that only gates join: a set of frames and the rest.
-pub record AreApart (w : ℕ → Bool) (s : State) : Type 0 where
-  pub inside : IsSealed w gates s
-  pub outside : IsSealed (λ f. not (w f)) gates s
+-- Nothing but gates may cross; so it is where nothing crosses at all.
+abbrev pub OnlyGates : (Kind → Bool) → Type 0
+OnlyGates crosses = (k : Kind) → gates k ≡ false → crosses k ≡ false
+
+-- Two worlds, a set of frames and the rest, are joined by what may cross alone.
+pub record AreApart (w : ℕ → Bool) (crosses : Kind → Bool) (s : State) : Type 0 where
+  pub inside : IsSealed w crosses s
+  pub outside : IsSealed (λ f. not (w f)) crosses s
 
 -- From s to t nothing of a world changes but the thread and the temporal capability on which core c runs.
 pub record LeavesAlone (w : ℕ → Bool) (s t : State) (c : ℕ) : Type 0 where

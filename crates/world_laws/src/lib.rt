@@ -4,7 +4,7 @@
 //! or its pages there. Gates may cross. What was removed counts while it still serves a call.
 //!
 //! **The laws.** A decision of a core that works outside leaves a sealed world alone, and sealed: whatever the order of steps. It is opened
-//! from inside alone. Two worlds that only gates join stay so for good.
+//! from inside alone. Two worlds that only gates join, or nothing, stay so for good.
 //!
 //! See docs/WORLDS.md.
 #![tactic(auto)]
@@ -31,7 +31,7 @@ pub fn opened_from_inside()
     ensures { OpenedFromInside }
 {}
 
-/// In every run, two worlds that only gates join stay so, whatever any core does.
+/// In every run, two worlds that only gates join, or nothing, stay so, whatever any core does.
 pub fn apart_for_good()
     ensures { ApartForGood }
 {}
