@@ -1,7 +1,7 @@
 -- Every call that is carried out is a list of edits, each with the capabilities by which it is made.
-use Rattle.std.proofs.Common.{◌≡◌, ◌⊎◌, inl, inr, ℕ, ◌+◌, ◌/◌, ◌%◌, Bool, true, false, not, refl, sym, ◌∙◌, ap, subst}
-use Rattle.std.proofs.Common.{nat_le, if◌then◌else◌, length, IsTrue, List, [], ◌∷◌, Option, Some, None}
-use Rattle.std.proofs.lemmas.Bool.{false≢true}
+use Rattle.std.proofs.Common.{◌≡◌, ◌≢◌, ◌⊎◌, inl, inr, ℕ, ◌≤◌, ◌+◌, ◌/◌, ◌%◌, Bool, true, false, not, refl, sym, ◌∙◌, ap, subst}
+use Rattle.std.proofs.Common.{◌==◌, nat_lt, nat_le, if◌then◌else◌, length, IsTrue, List, [], ◌∷◌, Option, Some, None}
+use Rattle.std.proofs.lemmas.Bool.{false≢true, eqb-true, eqb-false, ltb-false}
 use Rattle.spk_nums.specs.Capability.{Capability, cap_of}
 use Rattle.spk_nums.specs.Rights.{both, kept, has_rights}
 use Rattle.spk_nums.specs.declared.kinds.Kind.{Kind}
@@ -17,24 +17,25 @@ use Rattle.spk_nums.specs.declared.replies.Value.{Value}
 use Rattle.spk_nums.specs.declared.replies.Value.TheVariants.{Nothing, Amount}
 use Rattle.spk_nums.specs.declared.replies.Reply.TheVariants as reply
 use Rattle.kernel_rules.specs.State.{Holds, CompFields, Object, Blank, Table, Leaf, Pages, Pleaf, Thread, Tcap}
-use Rattle.kernel_rules.specs.State.{User, Kernel, State, comp_in, comp_of, thread_in, thread_of}
+use Rattle.kernel_rules.specs.State.{Frame, User, Kernel, FrameOf, State, tcap_in, comp_in, comp_of, thread_in, thread_of}
 use Rattle.kernel_rules.specs.Start.{plain_cap}
 use Rattle.kernel_rules.specs.Access.{Want, to_use, to_copy, any, only, root, found, Slot, Target, Under, InRoot}
 use Rattle.kernel_rules.specs.Access.{linked, slot_in, usable, reached, own, place_at, root_slot}
 use Rattle.kernel_rules.specs.Fitting.{fits}
-use Rattle.kernel_rules.specs.Rules.{Change, Cause, When, Found, named, vacant, held, fills, removes, answers, first_cause, refusal_of}
+use Rattle.kernel_rules.specs.References.{refs}
+use Rattle.kernel_rules.specs.Rules.{waits_of, flushes_of, WaitedFor, Unflushed, Change, Cause, When, Found, named, vacant, held, fills, removes, answers, first_cause, refusal_of}
 use Rattle.kernel_rules.specs.CapabilityCalls.{has_frame, outside, not_blank, makes, make_node, make_rule, not_taken, is_live, epoch_of}
 use Rattle.kernel_rules.specs.CapabilityCalls.{leaf_of, leaf_for}
-use Rattle.kernel_rules.specs.MemoryCalls.{not_user, not_untyped, not_retyped, retype_rule, touch_by, translation_of, translated}
+use Rattle.kernel_rules.specs.MemoryCalls.{not_user, not_untyped, not_retyped, retype_rule, touch_by, translation_of, translated, is_empty, is_untyped_now}
 use Rattle.kernel_rules.specs.Life.{is_live_in}
 use Rattle.kernel_rules.specs.InvocationCalls.{not_live, switch_to}
-use Rattle.kernel_rules.specs.TimeCalls.{merged_list}
+use Rattle.kernel_rules.specs.TimeCalls.{merged_list, tcap_at, are_same, is_short, are_unlike, are_many}
 use Rattle.kernel_rules.specs.CallRelation.{rule_of}
 use Rattle.kernel_invariant.specs.Edits.{Edit, Fill, Remove, Node, Become, Untype, Component, Deaden, Push, Pop, Switch, Cache, Flush}
 use Rattle.kernel_invariant.specs.Edits.{Charge, Move, Merge, begins_in, does}
 use Rattle.kernel_invariant.proofs.Sound.{only_is}
 use Rattle.kernel_invariant.proofs.SoundCalls.{IsOpen, blank_by, untyped_by}
-use Rattle.kernel_invariant.proofs.Facts.{ChangesFrom, Suits, suits, none_some, some_inj, some_none, vacant_facts, held_facts, none_parts, when_not, not_not}
+use Rattle.kernel_invariant.proofs.Facts.{ChangesFrom, Suits, suits, none_some, some_inj, some_none, vacant_facts, held_facts, none_parts, when_not, not_not, first_two}
 use Rattle.kernel_invariant.proofs.Edited.{is_bare, Calm}
 use Rattle.found_stays.proofs.Stays.{name_parts}
 use Rattle.authority_laws.specs.Authority.{IsUnder, LivesBy, MayUse}
@@ -112,13 +113,23 @@ pub record Makes (s : State) (c : ℕ) (k : CompFields) : Type 0 where
   pub table : LedTo s c (only kind.Table) k.table
   pub pages : LedTo s c (only kind.Pages) k.pages
 
+-- A temporal capability has as many ticks to move to another one.
+pub record Affords (s : State) (a b m : ℕ) : Type 0 where
+  pub apart : a ≢ b
+  pub enough : m ≤ (tcap_at s a).budget
+
+-- What is no component, and has no budget.
+pub record IsFresh (x : Frame) : Type 0 where
+  pub no_comp : fits kind.Comp x ≡ false
+  pub poor : (tcap_in x).budget ≡ 0
+
 -- By what core c makes an edit for a call, in the state in which the call is decided.
 abbrev pub By : Call → State → ℕ → Edit → Type 0
 By act s c (Fill at k) = InNode s c at.node × (IsCopied s c k ⊎ IsGiven s c k)
 By act s c (Remove at k) = InNode s c at.node × (place_at s at ≡ Holds k)
-By act s c (Node f object) = InRange s c f × IsTrue (is_bare (s.frame f)) × (fits kind.Comp (Kernel object) ≡ false)
-By act s c (Become f x) = InRange s c f × IsTrue (is_bare (s.frame f)) × (fits kind.Comp x ≡ false)
-By act s c (Untype f) = InRange s c f
+By act s c (Node f object) = InRange s c f × IsTrue (is_bare (s.frame f)) × IsFresh (Kernel object)
+By act s c (Become f x) = InRange s c f × IsTrue (is_bare (s.frame f)) × IsFresh x
+By act s c (Untype f) = InRange s c f × ((tcap_in (s.frame f)).budget ≡ 0)
 By act s c (Component f k) = InRange s c f × IsTrue (is_bare (s.frame f)) × Makes s c k
 By act s c (Deaden l e) = (k : Capability) × MayUse s c k × (k.kind ≡ kind.Comp) × LivesBy s k.frame l
 By act s c (Push f) = Enters act s c f
@@ -127,7 +138,7 @@ By act s c (Switch h q) = GoesOn act s c h q
 By act s c (Cache t) = Unit {0}
 By act s c Flush = Unit {0}
 By act s c (Charge n) = act ≡ call.Tick n
-By act s c (Move a b m) = LedTo s c (only kind.Tcap) a × LedTo s c (only kind.Tcap) b
+By act s c (Move a b m) = LedTo s c (only kind.Tcap) a × LedTo s c (only kind.Tcap) b × Affords s a b m
 By act s c (Merge f qs) = LedTo s c (only kind.Tcap) f
 
 abbrev pub EachBy : Call → State → ℕ → List Edit → Type 0
@@ -264,6 +275,10 @@ module _ (call : Call) (s : State) (c : ℕ) where
 
 -- ---- the calls
 
+empty_budget : (s : State) (f : ℕ) (x : Frame) → is_empty s f x ≡ true → (tcap_in x).budget ≡ 0
+empty_budget s f (Kernel (Tcap q)) e = eqb-true q.budget 0 e
+empty_budget s f _ e = refl
+
 module _ (s : State) (c : ℕ) (o : ℕ → Bool) (h : IsOpen s o c) where
   bare_blank : (r f : ℕ) (range : Capability) (causes : List Cause) → named s c r (to_use (only kind.Range)) ≡ Found range
       → first_cause s c (outside (found range) f ∷ not_blank s f ∷ causes) ≡ None → IsTrue (is_bare (s.frame f))
@@ -282,7 +297,7 @@ module _ (s : State) (c : ℕ) (o : ℕ → Bool) (h : IsOpen s o c) where
       → vacant s c (Under (found table) b) ≡ Found at → InNode s c at.node
   place_by t b table at e g = table_node s c t table at.node e (under_leaf s c table b at (vacant_facts s c (Under (found table) b) at g).0)
 
-  node_acts : (call : Call) (object : Object) (k : Kind) (r f t b : ℕ) → fits kind.Comp (Kernel object) ≡ false
+  node_acts : (call : Call) (object : Object) (k : Kind) (r f t b : ℕ) → IsFresh (Kernel object)
       → only kind.Range k ≡ false → ((at : Slot) → Calm c s (Node f object ∷ Fill at (plain_cap k f) ∷ []))
       → ChangesFrom (Acts call c s) s c (make_node s object k r f t b)
   node_acts call object k r f t b none other calm_at = λ range e table g at v calm.
@@ -292,7 +307,7 @@ module _ (s : State) (c : ℕ) (o : ℕ → Bool) (h : IsOpen s o c) where
       (place_by t b table at g v, made_cap k f other within)
 
   made_acts : (call : Call) (object : Object) (k : Kind) (r f t b : ℕ) (range table : Capability) (at : Slot)
-      → fits kind.Comp (Kernel object) ≡ false → only kind.Range k ≡ false
+      → IsFresh (Kernel object) → only kind.Range k ≡ false
       → named s c r (to_use (only kind.Range)) ≡ Found range → named s c t (to_use (only kind.Table)) ≡ Found table
       → vacant s c (Under (found table) b) ≡ Found at
       → first_cause s c (outside (found range) f ∷ not_blank s f ∷ []) ≡ None → Acts call c s (makes s f object k at)
@@ -303,16 +318,20 @@ module _ (s : State) (c : ℕ) (o : ℕ → Bool) (h : IsOpen s o c) where
       (place_by t b table at g v, made_cap k f other within)
 
   make_acts : (what : Make) (r f t b : ℕ) → ChangesFrom (Acts (call.Make what r f t b) c s) s c (make_rule s what r f t b)
-  make_acts make.Table r f t b = node_acts (call.Make make.Table r f t b) Table kind.Table r f t b refl refl (λ at. (refl, λ x. refl, tt))
-  make_acts make.Leaf r f t b = node_acts (call.Make make.Leaf r f t b) Leaf kind.Leaf r f t b refl refl (λ at. (refl, λ x. refl, tt))
-  make_acts make.Pages r f t b = node_acts (call.Make make.Pages r f t b) Pages kind.Pages r f t b refl refl (λ at. (refl, λ x. refl, tt))
-  make_acts make.Pleaf r f t b = node_acts (call.Make make.Pleaf r f t b) Pleaf kind.Pleaf r f t b refl refl (λ at. (refl, λ x. refl, tt))
+  make_acts make.Table r f t b = node_acts (call.Make make.Table r f t b) Table kind.Table r f t b (record { no_comp = refl; poor = refl }) refl
+      (λ at. (refl, λ x. refl, tt))
+  make_acts make.Leaf r f t b = node_acts (call.Make make.Leaf r f t b) Leaf kind.Leaf r f t b (record { no_comp = refl; poor = refl }) refl
+      (λ at. (refl, λ x. refl, tt))
+  make_acts make.Pages r f t b = node_acts (call.Make make.Pages r f t b) Pages kind.Pages r f t b (record { no_comp = refl; poor = refl }) refl
+      (λ at. (refl, λ x. refl, tt))
+  make_acts make.Pleaf r f t b = node_acts (call.Make make.Pleaf r f t b) Pleaf kind.Pleaf r f t b (record { no_comp = refl; poor = refl }) refl
+      (λ at. (refl, λ x. refl, tt))
   make_acts (make.Thread comp) r f t b = λ range e table g k j at v calm.
       made_acts (call.Make (make.Thread comp) r f t b) (Thread (record { stack = k.frame ∷ []; runs_on = None })) kind.Thread r f t b
-      range table at refl refl e g v calm
+      range table at (record { no_comp = refl; poor = refl }) refl e g v calm
   make_acts (make.Tcap sched quality) r f t b = λ range e table g at v calm.
       made_acts (call.Make (make.Tcap sched quality) r f t b) (Tcap (record { budget = 0; qualities = (sched, quality) ∷ [] }))
-      kind.Tcap r f t b range table at refl refl e g v calm
+      kind.Tcap r f t b range table at (record { no_comp = refl; poor = refl }) refl e g v calm
   make_acts (make.Comp x p l) r f t b = λ range e table g own_table a own_pages d at v calm.
       let within = range_by s c r f range (not_blank s f ∷ not_taken s l) e calm in
       let q1 = none_parts (refusal_of s c (outside (found range) f)) (first_cause s c (not_blank s f ∷ not_taken s l)) calm in
@@ -334,12 +353,24 @@ module _ (s : State) (c : ℕ) (o : ℕ → Bool) (h : IsOpen s o c) where
   retype_acts : (r f : ℕ) (k : FrameKind) → ChangesFrom (Acts (call.Retype r f k) c s) s c (retype_rule s r f k)
   retype_acts r f frame_kind.User = λ range e calm.
       one (call.Retype r f frame_kind.User) s c (Become f User) Nothing
-      (range_by s c r f range (not_untyped s f ∷ []) e calm, bare_untyped r f range e calm, refl)
+      (range_by s c r f range (not_untyped s f ∷ []) e calm, bare_untyped r f range e calm, record { no_comp = refl; poor = refl })
   retype_acts r f frame_kind.Kernel = λ range e calm.
       one (call.Retype r f frame_kind.Kernel) s c (Become f (Kernel Blank)) Nothing
-      (range_by s c r f range (not_untyped s f ∷ []) e calm, bare_untyped r f range e calm, refl)
+      (range_by s c r f range (not_untyped s f ∷ []) e calm, bare_untyped r f range e calm, record { no_comp = refl; poor = refl })
   retype_acts r f frame_kind.Untyped = λ range e calm.
-      one (call.Retype r f frame_kind.Untyped) s c (Untype f) Nothing (range_by s c r f range (not_retyped s f frame_kind.Untyped) e calm)
+      let full : Cause = When (not (is_empty s f (s.frame f))) reply.NotEmpty in
+      let referenced : Cause = When (nat_lt 0 (refs s f)) (reply.Referenced (refs s f)) in
+      let p = none_parts (refusal_of s c (outside (found range) f)) (first_cause s c (not_retyped s f frame_kind.Untyped)) calm in
+      let p1 = none_parts (refusal_of s c (is_untyped_now s f))
+      (first_cause s c (referenced ∷ WaitedFor (FrameOf f) ∷ Unflushed (FrameOf f) ∷ full ∷ [])) p.1 in
+      let p2 = none_parts (refusal_of s c referenced) (first_cause s c (WaitedFor (FrameOf f) ∷ Unflushed (FrameOf f) ∷ full ∷ [])) p1.1 in
+      let p3 = none_parts (waits_of s c (FrameOf f)) (first_cause s c (Unflushed (FrameOf f) ∷ full ∷ [])) p2.1 in
+      let p4 = none_parts (flushes_of s (FrameOf f)) (first_cause s c (full ∷ [])) p3.1 in
+      let p5 = none_parts (refusal_of s c full) None p4.1 in
+      let empty : is_empty s f (s.frame f) ≡ true =
+      not_not (is_empty s f (s.frame f)) (when_not (not (is_empty s f (s.frame f))) reply.NotEmpty p5.0) in
+      one (call.Retype r f frame_kind.Untyped) s c (Untype f) Nothing
+      (range_by s c r f range (not_retyped s f frame_kind.Untyped) e calm, empty_budget s f (s.frame f) empty)
 
   touch_acts : (v : ℕ) (t : Option Translation) → ChangesFrom (Acts (call.Touch v) c s) s c (touch_by s c (comp_of s c).pages v t)
   touch_acts v None = λ mapping e calm.
@@ -363,6 +394,16 @@ module _ (s : State) (c : ℕ) (o : ℕ → Bool) (h : IsOpen s o c) where
         tcap = led_by s c b (only kind.Tcap) k q;
         idle = is;
       })
+
+  affords : (m : ℕ) (j k : Capability) (causes : List Cause)
+      → first_cause s c (are_same (found j) (found k) ∷ is_short s (found j) m ∷ causes) ≡ None → Affords s j.frame k.frame m
+  affords m j k causes calm =
+      let p = first_two s c (are_same (found j) (found k)) (is_short s (found j) m) causes calm in
+      let budget : ℕ = (tcap_at s j.frame).budget in
+      record {
+        apart = eqb-false j.frame k.frame (when_not (j.frame == k.frame) reply.Same p.0);
+        enough = ltb-false budget m (when_not (nat_lt budget m) (reply.Short budget) p.1);
+      }
 
   pub rule_acts : (call : Call) → ChangesFrom (Acts call c s) s c (rule_of s c call)
   rule_acts (call.Look a) = λ k e calm. nothing (call.Look a) s c
@@ -430,8 +471,16 @@ module _ (s : State) (c : ℕ) (o : ℕ → Bool) (h : IsOpen s o c) where
       switch_acts f q thread tcap e g (thread_in (s.frame thread.frame)).runs_on refl
   rule_acts (call.Tick n) = λ calm. one (call.Tick n) s c (Charge n) (Amount _) refl
   rule_acts (call.Transfer a b m) = λ j e k f calm.
-      one (call.Transfer a b m) s c (Move j.frame k.frame m) Nothing (led_by s c a (only kind.Tcap) j e, led_by s c b (only kind.Tcap) k f)
+      one (call.Transfer a b m) s c (Move j.frame k.frame m) Nothing (
+        led_by s c a (only kind.Tcap) j e,
+        led_by s c b (only kind.Tcap) k f,
+        affords m j k (are_unlike s (found j) (found k) ∷ []) calm,
+      )
   rule_acts (call.Delegate a b m) = λ j e k f calm.
       two (call.Delegate a b m) s c (Move j.frame k.frame m) (Merge k.frame (merged_list s j.frame k.frame)) Nothing
-      (refl, λ x. refl, tt) refl (led_by s c a (only kind.Tcap) j e, led_by s c b (only kind.Tcap) k f) (led_by s c b (only kind.Tcap) k f)
+      (refl, λ x. refl, tt) refl (
+        led_by s c a (only kind.Tcap) j e,
+        led_by s c b (only kind.Tcap) k f,
+        affords m j k (are_many s (found j) (found k) ∷ []) calm,
+      ) (led_by s c b (only kind.Tcap) k f)
   rule_acts (call.Test a b) = λ j e k f calm. nothing (call.Test a b) s c

@@ -34,27 +34,27 @@ module _ (s : State) (c : ℕ) (o : ℕ → Bool) (h : IsOpen s o c) (call : Cal
       found_after (Found change) acts ok =
           subst (λ (k : Change). Q (begun s k.begins k.next)) (sym acts.is) (by acts.list acts.calm acts.by)
 
-  -- What holds before, and holds on where the core, but for its thread, or grace periods change, holds after a decision if it does after a call's edits.
-  pub decided_from : (Q : State → Type 0) → Q s → ((t : State) (k : Core) → k.thread ≡ (t.core c).thread → Q t → Q (with_core t c k))
+  -- What holds before, and holds on where the core, but for its thread and what it has spent, or grace periods change, holds after a decision if it does after a call's edits.
+  pub decided_from : (Q : State → Type 0) → Q s → ((t : State) (k : Core) → k.thread ≡ (t.core c).thread → k.spent ≡ (t.core c).spent → Q t → Q (with_core t c k))
       → ((t : State) (g : Thing → Grace) → Q t → Q (with_grace t g))
       → ((es : List Edit) → Calm c s es → EachBy call s c es → Q (after_edits c s es))
       → (r : Reply) → MayReply s c call r → Q (state_by s c call r)
   decided_from Q same core grace by r may = by_reply r may
     where
       owed : (made : Call) → Q (owed_by s c made)
-      owed (Tick n) = core s _ refl same
+      owed (Tick n) = core s _ refl refl same
       owed _ = same
 
       by_reply : (r : Reply) → MayReply s c call r → Q (state_by s c call r)
-      by_reply (reply.Ok v) may = core (changed s (change_of s c call)) _ refl
+      by_reply (reply.Ok v) may = core (changed s (change_of s c call)) _ refl refl
           (acts_ok v Q may (λ es calm each. grace (after_edits c s es) _ (by es calm each)))
       by_reply reply.CallsSpent may = same
-      by_reply reply.Raced may = core (owed_by s c call) _ refl (owed call)
-      by_reply (reply.Busy d) may = core (owed_by s c call) _ refl (owed call)
-      by_reply _ may = core s _ refl same
+      by_reply reply.Raced may = core (owed_by s c call) _ refl refl (owed call)
+      by_reply (reply.Busy d) may = core (owed_by s c call) _ refl refl (owed call)
+      by_reply _ may = core s _ refl refl same
 
   pub decided_within : (r : Reply) → MayReply s c call r → Within call s c (state_by s c call r)
-  decided_within = decided_from (Within call s c) (within_same call s c) (λ t k same w. within_core call s c t k w)
+  decided_within = decided_from (Within call s c) (within_same call s c) (λ t k same spent w. within_core call s c t k w)
       (λ t g w. within_grace call s c t g w) (λ es calm by. edits_within call s c es calm by)
 
 pub each_part : (call : Call) (s : State) (c : ℕ) (t : State) → Within call s c t → (x : Part) → SamePart s t x ⊎ MayBy call s c x

@@ -246,7 +246,7 @@ module _ (call : Call) (s : State) (c : ℕ) where
         core = w.core;
       }
   edit_within (Become f x) by = within_put f x (fields_fresh f x by.0 by.1)
-  edit_within (Untype f) by = within_grace (with_frame s f Untyped) _ (within_put f Untyped (fields_untyped f by))
+  edit_within (Untype f) by = within_grace (with_frame s f Untyped) _ (within_put f Untyped (fields_untyped f by.0))
   edit_within (Component f k) by =
       let w = within_put f (Kernel (Comp k)) (fields_fresh f (Kernel (Comp k)) by.0 by.1) in
       let n = within_number s k.number (Live k.epoch f) (range_number f k.number by.0 by.2.dead) within_same in

@@ -231,7 +231,7 @@ module _ (setting : Setting) (lim : IsSetting setting) (events : List Event) (c 
 
   goes : Goes act s c t
   goes = decided_from s c (opened events) open_call act (Goes act s c) (same_goes act s c own)
-      (λ u k same h. goes_on act s c own u _ (core_goes act s c own u k same) (λ g. refl) (λ g fit. fit) h)
+      (λ u k same spent h. goes_on act s c own u _ (core_goes act s c own u k same) (λ g. refl) (λ g fit. fit) h)
       (λ u g h. goes_on act s c own u _ refl (λ g. refl) (λ g fit. fit) h)
       (λ es calm by. edits_goes act s c own es calm by) r run.1.permitted
 

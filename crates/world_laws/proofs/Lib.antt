@@ -7,3 +7,4 @@ pub mod Sealing
 pub mod Stretches
 pub mod Entering
 pub mod Examples
+pub mod Timing

@@ -100,10 +100,10 @@ module _ (call : Call) (s : State) (c : ℕ) where
   edit_put (Node f object) by = record {
     held = λ g i k. put_all (λ g row. row i ≡ Holds k → (s.place g i ≡ Holds k) ⊎ Put s c g k) s.place f (λ i. Free) g
         (λ same e. absurd (free_holds k e)) (λ other e. inl e);
-    comp = (frame_put s f (Kernel object) (λ k e. absurd (no_comp (Kernel object) k by.2 e)) same_put).comp;
+    comp = (frame_put s f (Kernel object) (λ k e. absurd (no_comp (Kernel object) k by.2.no_comp e)) same_put).comp;
     live = λ l e g q. inl q;
   }
-  edit_put (Become f x) by = frame_put s f x (λ k e. absurd (no_comp x k by.2 e)) same_put
+  edit_put (Become f x) by = frame_put s f x (λ k e. absurd (no_comp x k by.2.no_comp e)) same_put
   edit_put (Untype f) by =
       let h = frame_put s f Untyped (λ k e. absurd (no_comp Untyped k refl e)) same_put in
       record { held = h.held; comp = h.comp; live = h.live }
@@ -156,7 +156,7 @@ module _ (call : Call) (s : State) (c : ℕ) where
 pub decided_put : (s : State) (c : ℕ) (o : ℕ → Bool) → IsOpen s o c → (call : Call) (r : Reply) → MayReply s c call r
     → PutFrom s c (state_by s c call r)
 decided_put s c o h call r may = decided_from s c o h call (PutFrom s c) (same_put call s c)
-    (λ t k same p. record { held = p.held; comp = p.comp; live = p.live }) (λ t g p. record { held = p.held; comp = p.comp; live = p.live })
+    (λ t k same spent p. record { held = p.held; comp = p.comp; live = p.live }) (λ t g p. record { held = p.held; comp = p.comp; live = p.live })
     (λ es calm by. edits_put call s c es calm by) r may
 
 held_usable : (p : Place) (b : Bool) (k : Capability) → p ≡ Holds k → usable_in p b ≡ Some k

@@ -10,6 +10,7 @@
 #![tactic(auto)]
 
 ghost use Rattle.world_laws.specs.Laws.{ApartForGood, DiesByItsOwn, EnteredBy, LentAlone, OpenedFromInside, OutsideLeaves, SealsStay};
+ghost use Rattle.world_laws.specs.Time.{TimeOfWorlds};
 
 /// In every run, a decision of a core that works outside a sealed world changes none of its places, none of its frames but the thread and
 /// the temporal capability on which the core runs, the life of none of its components, and no other core.
@@ -55,4 +56,12 @@ pub fn lent_alone()
 #[tactic(auto, using(crate::proofs::Stretches::dies_by_its_own))]
 pub fn dies_by_its_own()
     ensures { DiesByItsOwn }
+{}
+
+/// In every run, of two worlds that only gates join, or nothing, each has as many ticks, in budgets and spent, at the end of each part of the
+/// run as at its beginning; or in this part a call was carried out by a core whose thread or temporal capability was on another side than the
+/// component in which it worked.
+#[tactic(auto, using(crate::proofs::Timing::time_of_worlds))]
+pub fn time_of_worlds()
+    ensures { TimeOfWorlds }
 {}
