@@ -1,6 +1,6 @@
 -- Worked examples, which the checker computes: states in which the world of frame 5 is not sealed, and one in which it is.
-use Rattle.std.proofs.Common.{◌≡◌, ℕ, Bool, true, false, ◌==◌, refl, sym, ◌∙◌, ap, [], Some, None}
-use Rattle.std.proofs.lemmas.Bool.{false≢true, true≢false}
+use Rattle.std.proofs.Common.{◌≡◌, ℕ, Bool, false, ◌==◌, refl, ◌∙◌, ap, [], Some}
+use Rattle.std.proofs.lemmas.Bool.{true≢false}
 use Rattle.spk_nums.specs.Capability.{Capability, cap_of}
 use Rattle.spk_nums.specs.declared.kinds.Kind.{Kind}
 use Rattle.spk_nums.specs.declared.kinds.Kind.TheVariants as kind

@@ -12,7 +12,7 @@ use Rattle.kernel_rules.specs.CallRelation.{counted, owed_by, state_by, MayReply
 use Rattle.kernel_rules.specs.Runs.{after}
 use Rattle.kernel_invariant.proofs.SoundCalls.{IsOpen}
 use Rattle.kernel_invariant.proofs.SoundRuns.{opened}
-use Rattle.world_laws.specs.Worlds.{gates, IsSealed}
+use Rattle.world_laws.specs.Worlds.{IsSealed}
 use Rattle.world_laws.specs.Laws.{SealsStay}
 use Rattle.world_laws.proofs.Puts.{decided_put, usable_from}
 use Rattle.world_laws.proofs.Links.{returned_uses}

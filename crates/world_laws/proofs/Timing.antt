@@ -1,5 +1,5 @@
 -- Worlds keep their ticks, but for what a core does that runs across.
-use Rattle.std.proofs.Common.{◌≡◌, ◌≢◌, ◌⊎◌, inl, inr, ℕ, ◌+◌, ◌-◌, ◌<◌, ◌≤◌, min, arith, Bool, true, false, not, cond, refl, sym, ◌∙◌, ap, subst}
+use Rattle.std.proofs.Common.{◌≡◌, ◌⊎◌, inl, inr, ℕ, ◌+◌, ◌-◌, ◌<◌, ◌≤◌, min, arith, Bool, true, false, not, refl, sym, ◌∙◌, ap, subst}
 use Rattle.std.proofs.Common.{IsTrue, List, [], ◌∷◌, ◌++◌, Some, None}
 use Rattle.std.proofs.lemmas.Bool.{false≢true, true≢false}
 use Rattle.spk_nums.specs.Setting.{Setting, IsSetting}
@@ -10,7 +10,7 @@ use Rattle.spk_nums.specs.declared.calls.Call.TheVariants.{Tick}
 use Rattle.spk_nums.specs.declared.replies.Reply.{Reply}
 use Rattle.spk_nums.specs.declared.replies.Reply.TheVariants as reply
 use Rattle.kernel_rules.specs.State.{ThreadFields, TcapFields, Blank, Comp, Thread, Tcap, Frame, Untyped, Kernel, Core, State}
-use Rattle.kernel_rules.specs.State.{put, with_frame, with_core, thread_in, thread_of, tcap_in}
+use Rattle.kernel_rules.specs.State.{put, with_frame, with_core, tcap_in}
 use Rattle.kernel_rules.specs.Access.{only}
 use Rattle.kernel_rules.specs.Fitting.{fits}
 use Rattle.kernel_rules.specs.InvocationCalls.{with_thread, running}
@@ -18,7 +18,7 @@ use Rattle.kernel_rules.specs.TimeCalls.{tcap_at, with_tcap, with_budget, charge
 use Rattle.kernel_rules.specs.CallRelation.{owed_by, state_by, MayReply}
 use Rattle.kernel_rules.specs.Runs.{Event, Enters, Decides, Returns, after, IsRun}
 use Rattle.kernel_rules.proofs.Within.{put_same, put_other}
-use Rattle.kernel_invariant.specs.Edits.{Edit, Fill, Remove, Node, Become, Untype, Component, Deaden, Push, Pop, Switch, Cache, Flush}
+use Rattle.kernel_invariant.specs.Edits.{Edit, Fill, Node, Become, Untype, Component, Push, Pop, Switch, Cache, Flush}
 use Rattle.kernel_invariant.specs.Edits.{Charge, Move, Merge, edited, after_edits}
 use Rattle.kernel_invariant.proofs.Sums.{sum_same, sum_one}
 use Rattle.kernel_invariant.proofs.Sound.{put_all, only_is}
@@ -28,9 +28,9 @@ use Rattle.kernel_invariant.proofs.Facts.{usable_good}
 use Rattle.kernel_invariant.proofs.Edited.{is_bare, AreLater, Calm}
 use Rattle.authority_laws.proofs.Acts.{LedTo, By, EachBy}
 use Rattle.authority_laws.proofs.DecidedParts.{decided_from}
-use Rattle.world_laws.specs.Worlds.{works_in, gates, OnlyGates, IsSealed, AreApart}
+use Rattle.world_laws.specs.Worlds.{works_in, gates, OnlyGates, AreApart}
 use Rattle.world_laws.specs.Time.{counted_if, ticks_in, RunsAcross, ActsAcross, TimeOfWorlds}
-use Rattle.world_laws.proofs.Outside.{WorksOutside, sealed_for_gates, led_frame}
+use Rattle.world_laws.proofs.Outside.{sealed_for_gates, led_frame}
 use Rattle.world_laws.proofs.Leaving.{opened_call, outside}
 use Rattle.world_laws.proofs.Stretches.{apart_for_good}
 
