@@ -1,5 +1,5 @@
 -- Seats that are taken from the end of all seats of a kernel, and stand as ports in the opposite order; ports that come back.
-use Rattle.std.proofs.Common.{◌≡◌, ◌⊎◌, ℕ, zero, suc, ◌+◌, ◌<◌, ◌≤◌, List, [], ◌∷◌, ◌++◌, length, slice_get, Option, Some, None}
+use Rattle.std.proofs.Common.{◌≡◌, ◌⊎◌, ℕ, zero, suc, ◌+◌, List, [], ◌∷◌, ◌++◌, length, slice_get, Option, Some, None}
 use Rattle.std.proofs.Common.{◌-◌, refl, sym, ap, ◌∙◌, subst, ⊎_elim, inl, inr, arith, append-nil, option_to_list, IfSome}
 use Rattle.std.proofs.lemmas.List.{length-append}
 use Rattle.core_kernel.specs.Kernel.{KernelValue, CoreSeatValue}

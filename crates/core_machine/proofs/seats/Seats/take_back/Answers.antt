@@ -1,4 +1,4 @@
-use Rattle.std.proofs.Common.{rules, arith, ◌≡◌, ◌∙◌, ◌++◌, ◌<◌, ◌≤◌, [], ◌∷◌, sym, ap, subst, length}
+use Rattle.std.proofs.Common.{arith, ◌≡◌, ◌∙◌, ◌++◌, ◌≤◌, [], ◌∷◌, sym, ap, subst, length}
 use Rattle.core_kernel.specs.Kernel.{CoreSeatValue}
 use Rattle.core_machine.specs.Seats.{SeatsValue}
 use Rattle.std.specs.Arc.{arc_value}
@@ -13,8 +13,8 @@ invariant_of-self c =
     let is = subst (λ (s : CoreSeatValue). now ≡ back ++ s ∷ []) c.into_seat.ensures c.push_reserved.ensures.items in
     let own = c.requires.kernel ∙ sym (ap (λ (v : SeatsValue). v.kernel) c.self.view_is) in
     let core = c.requires.core ∙ sym (ap (λ (v : SeatsValue). length v.back) c.self.view_is) in
-    let all = back_on (arc_value m.kernel) m.here.items back now c.args.port is own core c.self.invariant.1.0 in
-    (c.self.invariant.0, all, subst (λ k. m.setup.cores ≤ k) (sym c.push_reserved.ensures.capacity) c.self.invariant.1.1)
+    let all = back_on (arc_value m.kernel) m.here.items back now c.args.port is own core c.self.invariant.1 in
+    (c.self.invariant.0, all, subst (λ k. m.setup.cores ≤ k) (sym c.push_reserved.ensures.capacity) c.self.invariant.2)
 
 pub push_reserved-requires : goal.push_reserved-requires
 push_reserved-requires c =
@@ -22,6 +22,6 @@ push_reserved-requires c =
     let kernel = c.requires.kernel ∙ sym (ap (λ (v : SeatsValue). v.kernel) c.self.view_is) in
     let cores = ap (λ k. k.setup.cores) kernel ∙ ap (λ s. s.cores) c.self.invariant.0 in
     let core = c.requires.core ∙ sym (ap (λ (v : SeatsValue). length v.back) c.self.view_is) in
-    let inside = c.core-_core.ensures.inside in
+    let inside = c.core-core.ensures.inside in
     let len = m.back.ok.0 in
-    let room = c.self.invariant.1.1 in omega arith
+    let room = c.self.invariant.2 in omega arith

@@ -4,8 +4,8 @@ use Rattle.end_ports.specs.Ports.{EndPortValue, EndSeatsValue, IsPortDealt}
 use Rattle.end_ports.proofs.Dealt.{as_many, others_left, first_dealt}
 use Rattle.end_ports.proofs.seats.EndSeats.deal.Goals as goal
 
-pub remove-requires : goal.remove-requires
-remove-requires c =
+pub remove-end-requires : goal.remove-end-requires
+remove-end-requires c =
     let m = c.self.inside in
     let few = c.in-Some.ensures.none.0 tt in
     let count = c.self.invariant.count in
