@@ -161,7 +161,7 @@ asks_same words a b p q = same_by words a b (asked_by words a p) (asked_by words
 
 -- The page of which words give the number.
 pub no_page : (words : CommandLine) → (HasNumber (codes "draw") words → ⊥) → IsPageOf words None
-no_page words no = λ page asks some. no (record { number = page; asks = asks })
+no_page words none = λ page asks some. none (record { number = page; asks = asks })
 
 pub page_zero : (words : CommandLine) (n : ℕ) → AsksNumber (codes "draw") words n → n ≡ 0 → IsPageOf words None
 page_zero words n asks is = λ page other some.
