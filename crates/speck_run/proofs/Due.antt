@@ -18,7 +18,7 @@ use Rattle.speck_run.specs.declared.top.Status.{Status}
 use Rattle.speck_run.specs.declared.top.Status.TheVariants.{Done, Words, Script, ReadFault, WriteFault, Memory, TooLong, Stopped}
 use Rattle.whole_ends.specs.Ends.{GivesAll}
 use Rattle.speck_run.specs.Script.{read_by, MadeBy, IsFaultOf, AreInput}
-use Rattle.speck_run.specs.Top.{CommandLine, texts_of, subject_of, Asked, Asks, AsksNumber, HasNumber, AsksMake, AsksLoad}
+use Rattle.speck_run.specs.Top.{CommandLine, texts_of, Asked, Asks, AsksNumber, HasNumber, AsksMake, AsksLoad}
 use Rattle.speck_run.specs.Top.{IsReadingOf, IsExplainedAfter, IsCommand, IsMake, IsLoad, IsUnderstood, IsNumberOf, IsNumberIn, IsDue}
 use Rattle.speck_run.specs.Top.{IsPageOf, IsCommandOf, IsDueOf, IsSummary, IsDone}
 use Rattle.speck_run.specs.Top.{InputMakes, CarriesOut, IsStatusOf, Answers, IsAccepted, Writes, InputRuns, Finishes}
