@@ -18,7 +18,7 @@ use Rattle.speck_run.specs.declared.top.Status.{Status}
 use Rattle.speck_run.specs.declared.top.Status.TheVariants.{Done, Words, Script, ReadFault, WriteFault, Memory, TooLong, Stopped}
 use Rattle.whole_ends.specs.Ends.{GivesAll}
 use Rattle.speck_run.specs.Script.{read_by, MadeBy, IsFaultOf, AreInput}
-use Rattle.speck_run.specs.Top.{CommandLine, texts_of, subject_of, Asked, Asks, AsksNumber, HasNumber, AsksMake, AsksLoad}
+use Rattle.speck_run.specs.Top.{CommandLine, texts_of, Asked, Asks, AsksNumber, HasNumber, AsksMake, AsksLoad}
 use Rattle.speck_run.specs.Top.{IsReadingOf, IsExplainedAfter, IsCommand, IsMake, IsLoad, IsUnderstood, IsNumberOf, IsNumberIn, IsDue}
 use Rattle.speck_run.specs.Top.{IsPageOf, IsCommandOf, IsDueOf, IsSummary, IsDone}
 use Rattle.speck_run.specs.Top.{InputMakes, CarriesOut, IsStatusOf, Answers, IsAccepted, Writes, InputRuns, Finishes}
@@ -161,7 +161,7 @@ asks_same words a b p q = same_by words a b (asked_by words a p) (asked_by words
 
 -- The page of which words give the number.
 pub no_page : (words : CommandLine) → (HasNumber (codes "draw") words → ⊥) → IsPageOf words None
-no_page words no = λ page asks some. no (record { number = page; asks = asks })
+no_page words none = λ page asks some. none (record { number = page; asks = asks })
 
 pub page_zero : (words : CommandLine) (n : ℕ) → AsksNumber (codes "draw") words n → n ≡ 0 → IsPageOf words None
 page_zero words n asks is = λ page other some.
