@@ -1,5 +1,5 @@
 -- Seats at the endpoints that are dealt from the first on.
-use Rattle.std.proofs.Common.{◌≡◌, ℕ, zero, suc, ◌+◌, ◌<◌, List, [], ◌∷◌, length, slice_get, get_or, Some, refl, sym, ap, ◌∙◌, subst, arith, remove}
+use Rattle.std.proofs.Common.{◌≡◌, ℕ, suc, ◌+◌, ◌<◌, List, [], ◌∷◌, length, slice_get, get_or, Some, sym, ap, ◌∙◌, subst, arith, remove}
 use Rattle.async_ends.specs.Tables.{EndTableValue, EndSeatValue, AreAllSeats, AreFresh}
 use Rattle.end_ports.specs.Ports.{HasEnds, IsFreshEnd}
 

@@ -5,7 +5,8 @@ use Rattle.core_machine.specs.core_kernel.specs.Kernel.{CoreSeatValue}
 use Rattle.core_machine.specs.Seats.{SeatsValue, IsDealt}
 use Rattle.async_ends.specs.declared.endpoint.EndOp.{EndOp}
 use Rattle.async_ends.specs.declared.endpoint.EndReply.{EndReply}
-use Rattle.async_ends.specs.Calls.{Comes, look}
+use Rattle.async_ends.specs.Calls.{Comes}
+use Rattle.async_ends.specs.Looks.{look}
 use Rattle.async_ends.specs.Tables.{EndTableValue, EndSeatValue}
 use Rattle.ends_runners.specs.Looks.{HasLooked}
 
@@ -23,7 +24,7 @@ pub record EndSeatsValue : Type 0 where
 pub record HasAsked (op : EndOp) (number : ℕ) (port : EndPortValue) (r : EndReply) (made : EndPortValue) : Type 0 where
   pub looked : Reply
   pub looks : HasLooked port.port (look number looked) made.port
-  pub comes : Comes op looked r port.end made.end
+  pub comes : Comes op (look number looked) r port.end made.end
 
 -- A seat of the table, of this core, with which no call was made.
 pub record IsFreshEnd (of : EndTableValue) (core : ℕ) (s : EndSeatValue) : Type 0 where

@@ -1,7 +1,7 @@
 //! A core's port as the authority of its endpoint calls.
 
 ghost use Rattle.std.specs.Prelude.{◌≡◌};
-ghost use Rattle.async_ends.specs.Calls.{NamesBelow};
+ghost use Rattle.async_ends.specs.Looks.{NamesBelow};
 
 use async_ends::Authority;
 use core_machine::Port;

@@ -1,4 +1,4 @@
-use Rattle.std.proofs.Common.{◌≡◌, ◌<◌, ap, sym, subst, arith, length}
+use Rattle.std.proofs.Common.{◌<◌, refl, ap, sym, subst, arith, length}
 use Rattle.std.specs.Arc.{arc_value}
 use Rattle.end_ports.specs.Ports.{EndPortValue, EndSeatsValue, IsPortDealt}
 use Rattle.end_ports.proofs.Dealt.{as_many, others_left, first_dealt}
@@ -7,14 +7,14 @@ use Rattle.end_ports.proofs.seats.EndSeats.deal.Goals as goal
 pub remove-end-requires : goal.remove-end-requires
 remove-end-requires c =
     let m = c.self.inside in
-    let few = c.in-Some.ensures.none.0 tt in
+    let few = c.in-Some.ensures.none.0 refl in
     let count = c.self.invariant.count in
     let len = m.here.ok.0 in omega arith
 
-pub invariant_of-self-in-Some : goal.invariant_of-self-in-Some
-invariant_of-self-in-Some c =
+pub invariant_of-self : goal.invariant_of-self
+invariant_of-self c =
     let m = c.self.inside in
-    let few = c.in-Some.ensures.none.0 tt in
+    let few = c.in-Some.ensures.none.0 refl in
     let count = c.self.invariant.count in
     let some : 0 < length m.here.items = omega arith in
     let now = c.deal.new.self in
@@ -33,7 +33,7 @@ invariant_of-self-in-None c =
 pub returns-in-Some-clause-port : goal.returns-in-Some-clause-port
 returns-in-Some-clause-port c =
     let m = c.self.inside in
-    let few = c.in-Some.ensures.none.0 tt in
+    let few = c.in-Some.ensures.none.0 refl in
     let count = c.self.invariant.count in
     let some : 0 < length m.here.items = omega arith in
     let first = first_dealt (arc_value m.table) m.seats.kernel.setup.cores m.seats.dealt m.here.items c.remove-end.result
