@@ -14,7 +14,6 @@ pub fn busy_are_lines()
 {}
 
 /// Each call that is answered `quiescing d` has a line from core d, from the entry of the call in which d still is.
-#[tactic(auto, using(crate::proofs::Waiting::waits_are_lines))]
 pub fn waits_are_lines()
     ensures { WaitsAreLines }
 {}
