@@ -1,10 +1,9 @@
 -- `busy d` has a line from the call of core d that has marked the word.
-use Rattle.std.proofs.Common.{◌≡◌, ◌≢◌, ◌⊎◌, inl, inr, ℕ, suc, ◌≤◌, ◌==◌, ◌&&◌, ◌++◌, not, cond, Bool, true, false, [], ◌∷◌, length}
-use Rattle.std.proofs.Common.{Option, Some, None, IsTrue, refl, sym, ◌∙◌, ap, subst, arith}
+use Rattle.std.proofs.Common.{◌≡◌, ◌≢◌, inl, inr, ℕ, ◌==◌, ◌&&◌, not, Bool, true, false, [], ◌∷◌}
+use Rattle.std.proofs.Common.{Some, IsTrue, refl, sym, ◌∙◌, ap, subst}
 use Rattle.std.specs.Prelude.{is_some}
-use Rattle.std.proofs.lemmas.Bool.{cases_eq, eq-eqb, ne_eqb, eqb-true, true≢false, false≢true}
+use Rattle.std.proofs.lemmas.Bool.{cases_eq, eq-eqb, ne_eqb, true≢false, false≢true}
 use Rattle.flight_laws.specs.time_laws.specs.spk_nums.specs.Setting.{Setting, IsSetting}
-use Rattle.flight_laws.specs.time_laws.specs.spk_nums.specs.declared.calls.Call.{Call}
 use Rattle.flight_laws.specs.time_laws.specs.spk_nums.specs.declared.replies.Reply.TheVariants as reply
 use Rattle.flight_laws.specs.time_laws.specs.word_map.specs.Word.{Word, EntryAt, FrameAt, CountAt, CoreAt, FlushAt, LiveAt, ClockAt, same_word}
 use Rattle.flight_laws.specs.time_laws.specs.word_map.specs.Moves.{word_of, left_of}
@@ -13,9 +12,8 @@ use Rattle.flight_laws.specs.time_laws.specs.kernel_history.specs.Marks.{mark_of
 use Rattle.flight_laws.specs.time_laws.specs.kernel_history.specs.Marking.{marked_by, HasMarked}
 use Rattle.flight_laws.specs.time_laws.specs.kernel_history.specs.Stamps.{is_in}
 use Rattle.flight_laws.specs.time_laws.specs.kernel_history.specs.Legal.{MayDecide, IsLegal}
-use Rattle.flight_laws.specs.time_laws.specs.kernel_history.specs.Justified.{IsHeldUp}
-use Rattle.flight_laws.specs.time_laws.specs.kernel_history.specs.Trace.{Step, Trace, Phase, Out, phase, after_enter, calls_of, state_after}
-use Rattle.flight_laws.specs.time_laws.specs.kernel_history.specs.Trace.{state_entered, state_before, last_left, IfNot}
+use Rattle.flight_laws.specs.time_laws.specs.kernel_history.specs.Trace.{Step, Trace, Out, phase, after_enter, state_after}
+use Rattle.flight_laws.specs.time_laws.specs.kernel_history.specs.Trace.{state_before, IfNot}
 use Rattle.flight_laws.specs.time_laws.specs.kernel_history.proofs.Inside.{inside_is, entered-inside}
 use Rattle.flight_laws.specs.time_laws.specs.kernel_history.proofs.Markings.{cases_mark}
 use Rattle.flight_laws.specs.time_laws.specs.kernel_history.proofs.Names.{same_word-same, same_word-other, cases_word}
@@ -26,7 +24,7 @@ use Rattle.flight_laws.specs.time_laws.specs.flight.proofs.Made.{made_stands}
 use Rattle.arrow_laws.specs.page_layers.specs.Layers.{is_blamed}
 use Rattle.arrow_laws.specs.page_drawing.specs.Touches.{is_clock}
 use Rattle.arrow_laws.specs.Arrows.{changes}
-use Rattle.arrow_causes.specs.Causes.{BusyAreLines, IsLineFrom}
+use Rattle.arrow_causes.specs.Causes.{BusyAreLines}
 use Rattle.arrow_causes.proofs.Puts.{puts_by_change, entered_frames}
 use Rattle.arrow_causes.proofs.Holders.{IsHolders, changes_parts, by_this, by_earlier}
 use Rattle.arrow_causes.proofs.Lines.{line_of}

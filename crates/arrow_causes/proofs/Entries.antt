@@ -1,8 +1,8 @@
 -- While a core is in a call, the newest change of its word is the entry of that call.
-use Rattle.std.proofs.Common.{◌≡◌, ◌≢◌, ◌⊎◌, inl, inr, ℕ, suc, ◌==◌, ◌&&◌, not, cond, Bool, true, false, [], ◌∷◌, length}
-use Rattle.std.proofs.Common.{Option, Some, None, IsTrue, refl, sym, ◌∙◌, ap, subst}
+use Rattle.std.proofs.Common.{◌≡◌, ◌≢◌, inl, inr, ℕ, suc, ◌==◌, ◌&&◌, not, cond, Bool, true, false, [], ◌∷◌, length}
+use Rattle.std.proofs.Common.{Option, Some, None, refl, sym, ◌∙◌, ap, subst}
 use Rattle.std.specs.Prelude.{is_some}
-use Rattle.std.proofs.lemmas.Bool.{cases_eq, eq-eqb, ne_eqb, eqb-true, true≢false, false≢true}
+use Rattle.std.proofs.lemmas.Bool.{cases_eq, eq-eqb, ne_eqb, eqb-true, true≢false}
 use Rattle.flight_laws.specs.time_laws.specs.spk_nums.specs.Setting.{Setting, IsSetting}
 use Rattle.flight_laws.specs.time_laws.specs.spk_nums.specs.declared.calls.Call.{Call}
 use Rattle.flight_laws.specs.time_laws.specs.spk_nums.specs.declared.replies.Reply.{Reply}
@@ -16,14 +16,14 @@ use Rattle.flight_laws.specs.time_laws.specs.kernel_history.specs.Discipline.{Ma
 use Rattle.flight_laws.specs.time_laws.specs.kernel_history.specs.Legal.{MayEnter, MayFollow}
 use Rattle.flight_laws.specs.time_laws.specs.kernel_history.specs.Stamps.{is_in, exit_of, exit_after, clock_seen}
 use Rattle.flight_laws.specs.time_laws.specs.kernel_history.specs.Trace.{Step, Trace, Phase, Out, Open, Decided, phase, after_enter, after_decide, after_return}
-use Rattle.flight_laws.specs.time_laws.specs.kernel_history.specs.Trace.{calls_of, state_after, last_left}
+use Rattle.flight_laws.specs.time_laws.specs.kernel_history.specs.Trace.{state_after, last_left}
 use Rattle.flight_laws.specs.time_laws.specs.kernel_history.proofs.Inside.{inside_is}
 use Rattle.flight_laws.specs.time_laws.specs.kernel_history.proofs.Names.{cases_word, same_word-same, same_word-other}
 use Rattle.flight_laws.specs.time_laws.specs.kernel_history.proofs.Steps.{phase-own, phase-other, last_left-here, last_left-there}
 use Rattle.flight_laws.specs.time_laws.specs.core_invariant.specs.Invariant.{Invariant}
 use Rattle.flight_laws.specs.time_laws.specs.flight.specs.Made.{cores_after, IsMade}
 use Rattle.flight_laws.specs.time_laws.specs.flight.proofs.Made.{made_stands}
-use Rattle.arrow_laws.specs.Arrows.{changes, newest, entered_at}
+use Rattle.arrow_laws.specs.Arrows.{changes, entered_at}
 use Rattle.arrow_laws.proofs.Calls.{entered_own}
 use Rattle.arrow_causes.proofs.Holders.{IsHolders, changes_parts, by_this, by_earlier, this_before, earlier_before}
 

@@ -1,8 +1,7 @@
 -- A step that is blamed, and whose word's newest change is another core's in its present call, has a line from that.
-use Rattle.std.proofs.Common.{◌≡◌, ◌≢◌, ℕ, suc, ◌<◌, ◌≤◌, true, false, [], ◌∷◌, length, Option, Some, None, refl, sym, ◌∙◌, ap, subst, arith}
+use Rattle.std.proofs.Common.{◌≡◌, ◌≢◌, ℕ, suc, ◌<◌, true, false, ◌∷◌, length, Option, Some, None, refl, sym, ◌∙◌, ap, subst, arith}
 use Rattle.std.specs.Prelude.{slice_index_or}
 use Rattle.flight_laws.specs.time_laws.specs.spk_nums.specs.Setting.{Setting, IsSetting}
-use Rattle.flight_laws.specs.time_laws.specs.word_map.specs.Word.{Word}
 use Rattle.flight_laws.specs.time_laws.specs.word_map.specs.Places.{place_of}
 use Rattle.flight_laws.specs.time_laws.specs.word_map.specs.Moves.{word_of}
 use Rattle.flight_laws.specs.time_laws.specs.kernel_history.specs.Trace.{Step, Trace, Out, phase, calls_of}
@@ -14,7 +13,7 @@ use Rattle.arrow_laws.specs.page_layers.specs.declared.lanes.Change.{Change}
 use Rattle.arrow_laws.specs.page_drawing.specs.declared.touches.Touch.{Touch}
 use Rattle.arrow_laws.specs.page_drawing.specs.Touches.{untouched, is_clock}
 use Rattle.arrow_laws.specs.page_drawing.specs.Pages.{page_after}
-use Rattle.arrow_laws.specs.Arrows.{HasTaken, newest, entered_at, returned_at, before_entry}
+use Rattle.arrow_laws.specs.Arrows.{HasTaken, returned_at, before_entry}
 use Rattle.arrow_laws.proofs.Calls.{before_returns, returned_other, in_call_since}
 use Rattle.arrow_laws.proofs.Heads.{newest_core}
 use Rattle.arrow_laws.proofs.Known.{Says, page_known}

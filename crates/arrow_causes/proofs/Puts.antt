@@ -1,5 +1,5 @@
 -- A step that puts a core's mark in its word leaves another value there.
-use Rattle.std.proofs.Common.{◌≡◌, ◌≢◌, ◌⊎◌, inl, inr, ℕ, ◌+◌, ◌*◌, ◌^◌, ◌-◌, ◌<◌, cond, Bool, true, false, List, [], ◌∷◌}
+use Rattle.std.proofs.Common.{◌≡◌, ◌≢◌, ◌⊎◌, inl, inr, ℕ, ◌<◌, cond, Bool, true, false, List, [], ◌∷◌}
 use Rattle.std.proofs.Common.{Option, Some, None, IsTrue, refl, sym, ◌∙◌, ap, subst, arith}
 use Rattle.std.proofs.lemmas.Bool.{true≢false, false≢true}
 use Rattle.flight_laws.specs.time_laws.specs.spk_nums.specs.Capability.{Capability}
@@ -10,11 +10,11 @@ use Rattle.flight_laws.specs.time_laws.specs.spk_nums.specs.declared.replies.Rep
 use Rattle.flight_laws.specs.time_laws.specs.entry_words.specs.EntryWord.{word_of_entry, entry_of_word}
 use Rattle.flight_laws.specs.time_laws.specs.entry_words.specs.declared.entry.Entry.TheVariants as entry
 use Rattle.flight_laws.specs.time_laws.specs.entry_words.proofs.Spelling.{spelling}
-use Rattle.flight_laws.specs.time_laws.specs.word_map.specs.Word.{Word, EntryAt, FrameAt, CountAt, CoreAt, FlushAt, LiveAt, ClockAt, same_word}
+use Rattle.flight_laws.specs.time_laws.specs.word_map.specs.Word.{Word, EntryAt, FrameAt, CountAt, CoreAt, FlushAt, LiveAt, ClockAt}
 use Rattle.flight_laws.specs.time_laws.specs.word_map.specs.Moves.{word_of, left_of}
 use Rattle.flight_laws.specs.time_laws.specs.word_map.specs.Places.{IsIn}
-use Rattle.flight_laws.specs.time_laws.specs.kernel_rules.specs.State.{Place, Free, Holds, Quiescing, Object, Blank, Table, Leaf, Pages, Pleaf, Comp}
-use Rattle.flight_laws.specs.time_laws.specs.kernel_rules.specs.State.{Thread, Tcap, Frame, Untyped, User, Kernel, State}
+use Rattle.flight_laws.specs.time_laws.specs.kernel_rules.specs.State.{Place, Free, Holds, Quiescing, Table, Leaf, Pages, Pleaf}
+use Rattle.flight_laws.specs.time_laws.specs.kernel_rules.specs.State.{Frame, Kernel, State}
 use Rattle.flight_laws.specs.time_laws.specs.kernel_rules.specs.Relies.{is_node}
 use Rattle.flight_laws.specs.time_laws.specs.kernel_rules.specs.CallRelation.{state_by}
 use Rattle.flight_laws.specs.time_laws.specs.kernel_history.specs.Marks.{mark_in_frame, mark_of}
@@ -35,7 +35,6 @@ use Rattle.flight_laws.specs.time_laws.specs.stage_quiet.specs.declared.close.Cl
 use Rattle.flight_laws.specs.time_laws.specs.stage_sweep.specs.declared.thaw.Thaw.{Thaw}
 use Rattle.flight_laws.specs.time_laws.specs.stage_thread.specs.declared.stack.Push.TheVariants as push
 use Rattle.flight_laws.specs.time_laws.specs.stage_thread.specs.declared.stack.Pop.TheVariants as pop
-use Rattle.flight_laws.specs.time_laws.specs.call_stages.specs.View.{Core}
 use Rattle.flight_laws.specs.time_laws.specs.call_stages.specs.declared.stages.Stage.{Stage}
 use Rattle.flight_laws.specs.time_laws.specs.call_stages.specs.declared.stages.Stage.TheVariants.{Enter, Living, Undecided, Decided, Leave}
 use Rattle.flight_laws.specs.time_laws.specs.call_stages.specs.declared.stages.ActiveCall.{ActiveCall}

@@ -1,14 +1,13 @@
 -- `quiescing d` has a line from the entry of the call in which core d is.
-use Rattle.std.proofs.Common.{◌≡◌, ◌≢◌, ℕ, suc, Bool, true, false, List, ◌∷◌, length, Option, Some, None, IsTrue, refl, sym, ◌∙◌, ap, subst, arith}
-use Rattle.std.proofs.lemmas.Bool.{false≢true}
+use Rattle.std.proofs.Common.{◌≡◌, ◌≢◌, ℕ, suc, Bool, true, false, List, ◌∷◌, length, Option, Some, None, refl, sym, ◌∙◌, ap, subst}
 use Rattle.flight_laws.specs.time_laws.specs.spk_nums.specs.Setting.{Setting, IsSetting}
 use Rattle.flight_laws.specs.time_laws.specs.spk_nums.specs.declared.calls.Call.{Call}
 use Rattle.flight_laws.specs.time_laws.specs.spk_nums.specs.declared.replies.Reply.{Reply}
 use Rattle.flight_laws.specs.time_laws.specs.spk_nums.specs.declared.replies.Reply.TheVariants as reply
 use Rattle.flight_laws.specs.time_laws.specs.word_map.specs.Word.{Word, CoreAt}
-use Rattle.flight_laws.specs.time_laws.specs.word_map.specs.Moves.{word_of, told_of}
+use Rattle.flight_laws.specs.time_laws.specs.word_map.specs.Moves.{word_of}
 use Rattle.flight_laws.specs.time_laws.specs.kernel_history.specs.Legal.{MayDecide}
-use Rattle.flight_laws.specs.time_laws.specs.kernel_history.specs.Trace.{Step, Trace, Out, phase, after_enter, state_before}
+use Rattle.flight_laws.specs.time_laws.specs.kernel_history.specs.Trace.{Step, Trace, Out, phase, after_enter}
 use Rattle.flight_laws.specs.time_laws.specs.stage_tcap.specs.Pairs.{by_alike, by_room, judged}
 use Rattle.flight_laws.specs.time_laws.specs.stage_tcap.specs.declared.pair.Pair.{Pair}
 use Rattle.flight_laws.specs.time_laws.specs.stage_tcap.specs.declared.pair.PairAt.{PairAt}
@@ -19,11 +18,11 @@ use Rattle.flight_laws.specs.time_laws.specs.act_states.specs.declared.own.Own.{
 use Rattle.flight_laws.specs.time_laws.specs.act_states.specs.declared.work.Act.{Act as ActType}
 use Rattle.flight_laws.specs.time_laws.specs.act_states.specs.declared.work.Act.TheVariants as act_as
 use Rattle.flight_laws.specs.time_laws.specs.act_states.specs.declared.work.Work.{Work}
-use Rattle.flight_laws.specs.time_laws.specs.act_states.specs.declared.work.Work.TheVariants.{Lookup, Read, Scan, Acquire, Act}
-use Rattle.flight_laws.specs.time_laws.specs.call_stages.specs.Cores.{begun, move_in, move_of, told_by, told_in, told_of_step}
+use Rattle.flight_laws.specs.time_laws.specs.act_states.specs.declared.work.Work.TheVariants.{Act}
+use Rattle.flight_laws.specs.time_laws.specs.call_stages.specs.Cores.{move_in, told_by, told_in}
 use Rattle.flight_laws.specs.time_laws.specs.call_stages.specs.Steps.{Took, GoesOn, Decides, Returns, Changes, took}
 use Rattle.flight_laws.specs.time_laws.specs.call_stages.specs.declared.stages.Stage.{Stage}
-use Rattle.flight_laws.specs.time_laws.specs.call_stages.specs.declared.stages.Stage.TheVariants.{Enter, Living, Undecided, Decided, Leave}
+use Rattle.flight_laws.specs.time_laws.specs.call_stages.specs.declared.stages.Stage.TheVariants.{Undecided}
 use Rattle.flight_laws.specs.time_laws.specs.call_stages.specs.declared.stages.ActiveCall.{ActiveCall}
 use Rattle.flight_laws.specs.time_laws.specs.core_invariant.specs.Events.{decided_in}
 use Rattle.flight_laws.specs.time_laws.specs.core_invariant.specs.Shares.{KnowsPairAt}
@@ -34,7 +33,7 @@ use Rattle.arrow_laws.specs.page_layers.specs.Layers.{is_blamed}
 use Rattle.arrow_laws.specs.page_drawing.specs.Touches.{is_clock}
 use Rattle.wait_steps.specs.Waits.{RepliesAt, TookAt, IsAgain, AgainIn, AgainOf, AgainAt}
 use Rattle.wait_steps.proofs.Steps.{took_at_core}
-use Rattle.arrow_causes.specs.Causes.{IsLineFrom, WaitsAreLines}
+use Rattle.arrow_causes.specs.Causes.{WaitsAreLines}
 use Rattle.arrow_causes.proofs.Busy.{inside_then}
 use Rattle.arrow_causes.proofs.Entries.{newest_entry}
 use Rattle.arrow_causes.proofs.Holders.{IsHolders}
