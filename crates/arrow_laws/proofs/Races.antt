@@ -119,7 +119,7 @@ raced_step setup t e may = record {
 }
 
 -- A step that is blamed is met by the change of another core.
-blamed_met : (t : Touch) (s : Seen) (c : Change) → is_blamed s.decides ≡ true → is_clock s.word ≡ false → t.change ≡ Some c
+pub blamed_met : (t : Touch) (s : Seen) (c : Change) → is_blamed s.decides ≡ true → is_clock s.word ≡ false → t.change ≡ Some c
     → c.core ≢ s.core → met_by (is_told_of t s) t.change s ≡ Some c
 blamed_met t s c blamed clock is apart =
     ap (λ (o : Option Change). met_by (is_told_of t s) o s) is
