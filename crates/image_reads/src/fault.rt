@@ -1,6 +1,6 @@
 //! Why the program stopped.
 
-use core_machine::FinishFault;
+use core_machine::{FinishFault, Unfinished};
 use spk_nums::{Memory, SetupFault};
 
 /// Why no machine has made its calls and stopped.
@@ -24,9 +24,9 @@ impl From<SetupFault> for Fault {
     }
 }
 
-impl From<FinishFault> for Fault {
-    fn from(fault: FinishFault) -> Fault {
-        Fault::Finish(fault)
+impl From<Unfinished> for Fault {
+    fn from(unfinished: Unfinished) -> Fault {
+        Fault::Finish(unfinished.fault)
     }
 }
 

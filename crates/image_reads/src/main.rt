@@ -148,8 +148,8 @@ fn stopped(alloc: Global, shares: u8, maps: bool) -> Result<Closed, Fault>
     };
     let shared = share(&mut first, &mut second, shares);
     let mapped = map_page(&mut first, maps);
-    seats.take_back(first)?;
-    seats.take_back(second)?;
+    seats.take_back(first);
+    seats.take_back(second);
     let closed = seats.finish(alloc)?;
     if shared && mapped {
         return Ok(closed);
