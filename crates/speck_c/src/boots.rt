@@ -81,6 +81,17 @@ pub extern "C" fn speck_inner_boot(
     boot_into(alloc, machine, cores, frames, budget)
 }
 
+// What a core is granted.
+fn granted_of(grant: &SpeckGrant) -> Grant
+    ensures { result ≡ granted grant.now }
+{
+    Grant {
+        budget: grant.budget,
+        sched: grant.sched,
+        quality: grant.quality,
+    }
+}
+
 // What each core is granted, core 0 first. There are at most 8.
 fn grants_of(given: &[SpeckGrant]) -> Grants
     requires { length given.now ≤ 8 }
@@ -88,11 +99,7 @@ fn grants_of(given: &[SpeckGrant]) -> Grants
 {
     let mut grants = Grants::empty();
     'each: for grant in given {
-        let _added = grants.add(Grant {
-            budget: grant.budget,
-            sched: grant.sched,
-            quality: grant.quality,
-        });
+        let _added = grants.add(granted_of(grant));
     }
     grants
 }
