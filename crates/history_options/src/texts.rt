@@ -1,15 +1,16 @@
 //! A line of a given history, as it is written.
 
-ghost use Rattle.std.specs.Prelude.{Some};
-ghost use Rattle.history_options.specs.Texts.{said_text};
+ghost use Rattle.std.specs.Prelude.{◌≡◌, ◌++◌, OnOk, string_bytes, Some};
+ghost use Rattle.history_options.specs.Texts.{said_text, said_line};
 
 use marked_history::{Mark, Said};
+use std::alloc::AllocError;
 use std::fmt;
 
-/// A line, to be printed.
+// A line, to be printed.
 #[derive(Clone, Copy)]
-pub struct SaidLine<'a> {
-    pub said: &'a Said,
+struct SaidLine<'a> {
+    said: &'a Said,
 }
 
 impl<'a> fmt::Display for SaidLine<'a> {
@@ -28,4 +29,12 @@ impl<'a> fmt::Display for SaidLine<'a> {
             } => write!(f, "{core}.{index} {call} = {reply}"),
         }
     }
+}
+
+/// Appends a line of a history, after two spaces.
+pub fn push_said(text: &mut String, said: &Said) -> Result<(), AllocError>
+    ensures { OnOk result (string_bytes text.new ≡ string_bytes text.old ++ said_line said.now) }
+{
+    let line = SaidLine { said };
+    write!(text, "  {line}\n")
 }
