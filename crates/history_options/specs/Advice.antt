@@ -1,5 +1,5 @@
 -- What may stand in the place of a line.
-use Rattle.std.specs.Prelude.{◌≡◌, ℕ, ◌+◌, List, ◌++◌, reverse, codes, decimal, string_bytes}
+use Rattle.std.specs.Prelude.{◌≡◌, ℕ, ◌+◌, Bool, true, false, List, ◌++◌, reverse, codes, decimal, string_bytes}
 use Rattle.spk_nums.specs.Setting.{Setting}
 use Rattle.spk_nums.specs.Texts.{call_text, reply_text}
 use Rattle.spk_nums.specs.declared.calls.Call.{Call}
@@ -34,10 +34,19 @@ done_text c = codes "core " ++ decimal c ++ codes " is in a call that is decided
 abbrev pub in_text : ℕ → Call → List ℕ
 in_text c call = codes "core " ++ decimal c ++ codes " is in " ++ call_text call ++ codes "\n"
 
+-- whether a reply is no refusal
+abbrev pub is_ok : Reply → Bool
+is_ok (reply.Ok v) = true
+is_ok _ = false
+
+-- what is said before the first reply in order
+abbrev pub first_words : Bool → List ℕ
+first_words true = codes "no cause of refusal stands: "
+first_words false = codes "the first cause of refusal: "
+
 -- the first reply in order: the first cause of refusal that stands, or that none does
 abbrev pub first_text : Reply → List ℕ
-first_text (reply.Ok v) = codes "no cause of refusal stands: " ++ reply_text (reply.Ok v) ++ codes "\n"
-first_text r = codes "the first cause of refusal: " ++ reply_text r ++ codes "\n"
+first_text r = first_words (is_ok r) ++ reply_text r ++ codes "\n"
 
 -- the lines before the options: the call, what its names lead to, and the first reply in order
 abbrev pub finding_text : ℕ → Call → List ℕ → Reply → List ℕ
@@ -50,15 +59,15 @@ found_text c call found = finding_text c call (string_bytes found.names) found.a
 pub record IsCallAdvice (setting : Setting) (before : List Line) (number : ℕ) (s : State) (c : ℕ) (call : Call) (form : Form) (text : List ℕ)
     : Type 0 where
   pub options : List ℕ
-  pub are : AreOptions setting before number c form (replies_of setting.cores (alone s c call) (told s c call)) options
+  pub are : AreOptions setting before number c call form (replies_of setting.cores (alone s c call) (told s c call)) options
   pub is_text : text ≡ finding_text c call (names_text s c call) (alone s c call) ++ options
 
 -- what may stand at this place of a line after these
 abbrev pub IsAdviceAt : Setting → List Line → ℕ → ℕ → Place → List ℕ → Type 0
-IsAdviceAt setting before number c Without text = text ≡ out_text c (entered (marks_of (reverse before)) c + 1)
+IsAdviceAt setting before number c (Without next) text = text ≡ out_text c next
 IsAdviceAt setting before number c Done text = text ≡ done_text c
 IsAdviceAt setting before number c (During call form) text =
-    IsCallAdvice setting before number (state setting (marks_at (marks_of (reverse before)) c form)) c call form text
+    IsCallAdvice setting before number (state setting (marks_at (marks_of (reverse before)) c call form)) c call form text
 
 -- where a line after these stands
 abbrev pub place_after : List Line → Line → Place
@@ -78,7 +87,7 @@ pub record Adds (Tells : List ℕ → Type 0) (old new : List ℕ) : Type 0 wher
 
 abbrev pub AddsCallAdvice : Setting → List Line → ℕ → ℕ → Call → Form → List ℕ → List ℕ → Type 0
 AddsCallAdvice setting before number c call form old new =
-    Adds (IsCallAdvice setting before number (state setting (marks_at (marks_of (reverse before)) c form)) c call form) old new
+    Adds (IsCallAdvice setting before number (state setting (marks_at (marks_of (reverse before)) c call form)) c call form) old new
 
 abbrev pub AddsAdvice : Setting → List Line → Line → List ℕ → List ℕ → Type 0
 AddsAdvice setting before line old new = Adds (IsAdvice setting before line) old new

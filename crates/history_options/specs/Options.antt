@@ -1,6 +1,7 @@
 -- The lines that may stand in the place of one.
 use Rattle.std.specs.Prelude.{◌≡◌, ℕ, List, [], ◌∷◌, ◌++◌, Bool, true, false, if◌then◌else◌}
 use Rattle.spk_nums.specs.Setting.{Setting}
+use Rattle.spk_nums.specs.declared.calls.Call.{Call}
 use Rattle.spk_nums.specs.declared.replies.Reply.{Reply}
 use Rattle.marked_history.specs.declared.marks.Said.{Said}
 use Rattle.marked_history.specs.declared.marks.Line.{Line}
@@ -26,15 +27,15 @@ abbrev pub option_of : Bool → Said → List ℕ
 option_of goes said = if goes then said_line said else []
 
 -- the text has, of the lines with these replies, in order, each with which the lines before go on, and no other
-abbrev pub AreOptions : Setting → List Line → ℕ → ℕ → Form → List Reply → List ℕ → Type 0
-AreOptions setting before number c form [] text = text ≡ []
-AreOptions setting before number c form (r ∷ replies) text =
-    (goes : Bool) × (rest : List ℕ) × GoesOn setting before number (with_form c form r) goes
-    × AreOptions setting before number c form replies rest × (text ≡ option_of goes (with_form c form r) ++ rest)
+abbrev pub AreOptions : Setting → List Line → ℕ → ℕ → Call → Form → List Reply → List ℕ → Type 0
+AreOptions setting before number c call form [] text = text ≡ []
+AreOptions setting before number c call form (r ∷ replies) text =
+    (goes : Bool) × (rest : List ℕ) × GoesOn setting before number (with_form c call form r) goes
+    × AreOptions setting before number c call form replies rest × (text ≡ option_of goes (with_form c call form r) ++ rest)
 
 -- a text has these after what stood there
-pub record AddsOptions (setting : Setting) (before : List Line) (number c : ℕ) (form : Form) (replies : List Reply) (old new : List ℕ) : Type 0
+pub record AddsOptions (setting : Setting) (before : List Line) (number c : ℕ) (call : Call) (form : Form) (replies : List Reply) (old new : List ℕ) : Type 0
   where
     pub options : List ℕ
-    pub are : AreOptions setting before number c form replies options
+    pub are : AreOptions setting before number c call form replies options
     pub added : new ≡ old ++ options

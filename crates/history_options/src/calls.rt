@@ -1,14 +1,13 @@
 //! What is told of the call that a line would decide.
 
 ghost use Rattle.std.specs.Prelude.{◌≡◌, ◌<◌, ◌+◌, ◌^◌, ◌++◌, length, reverse, IfOk, OnOk, string_bytes};
-ghost use Rattle.spk_nums.specs.CallLimits.{InLimits};
 ghost use Rattle.marked_history.specs.Verdicts.{AreHistory, LinesFit, marks_of};
-ghost use Rattle.history_check.specs.Judging.{HasCome, IsJudge};
-ghost use Rattle.history_options.specs.Forms.{FormFits, marks_at, Stands};
-ghost use Rattle.history_options.specs.Advice.{in_text, first_text, AddsCallAdvice};
+ghost use Rattle.history_check.specs.Judging.{HasCome};
+ghost use Rattle.history_options.specs.Forms.{lines_at, marks_at, CanDecide};
+ghost use Rattle.history_options.specs.Advice.{in_text, is_ok, first_words, first_text, found_text, AddsCallAdvice};
 
 use crate::forms::Form;
-use crate::options::{lines_with, push_options};
+use crate::options::push_options;
 use crate::replies::replies_of;
 use history_check::{Judge, come_to};
 use marked_history::{Line, Mark, Said};
@@ -16,34 +15,49 @@ use open_calls::{Outlook, outlook_at};
 use spk_nums::{Call, CoreNo, Make, Memory, Reply, Setup, Value};
 use std::alloc::{AllocError, Global};
 
-// The judge where the core is in its call: after these lines, or after its entry too where the line makes the call whole.
+// The lines after which the core is in its call: these, and its entry too where the line makes the call whole.
+fn lines_at(
+    alloc: Global,
+    before: &[Line],
+    core: CoreNo,
+    call: &Call,
+    form: &Form,
+) -> Result<Vec<Line>, AllocError>
+    ensures { IfOk result (λ v. v.items ≡ lines_at before.now core call.now form.now) }
+{
+    let _made: Option<Make> = None;
+    let _value: Option<Value> = None;
+    let mut lines = Vec::new(alloc);
+    lines.extend_from_slice(before)?;
+    match *form {
+        Form::Decided => {}
+        Form::Whole { index: _ } => lines.push(Line {
+            number: 0,
+            said: Said::One(Mark::Enter { core, call: *call }),
+        })?,
+    }
+    Ok(lines)
+}
+
+// The judge there.
+#[tactic(auto, using(crate::proofs::Places::fit_at, crate::proofs::Places::few_at))]
 fn judge_at(
     alloc: Global,
     setup: &Setup,
     before: &[Line],
     core: CoreNo,
+    call: &Call,
     form: &Form,
 ) -> Result<Judge, Memory>
     requires few { length before.now + 1 < 2 ^ 32 }
     requires fit { LinesFit setup.now.cores before.now }
-    requires form { FormFits setup.now.cores core form.now }
     requires history { AreHistory setup.now (reverse before.now) }
-    requires stands { Stands (marks_of (reverse before.now)) core form.now }
-    ensures judge { IfOk result IsJudge }
-    ensures come { IfOk result (HasCome setup.now (marks_at (marks_of (reverse before.now)) core form.now)) }
+    requires decides { CanDecide setup.now.cores (marks_of (reverse before.now)) core call.now form.now }
+    ensures { IfOk result (HasCome setup.now (marks_at (marks_of (reverse before.now)) core call.now form.now)) }
 {
-    let _value: Option<Value> = None;
-    match *form {
-        Form::Decided => come_to(alloc, setup, before),
-        Form::Whole { index: _, call } => {
-            let entry = Line {
-                number: 0,
-                said: Said::One(Mark::Enter { core, call }),
-            };
-            let lines = lines_with(alloc, before, &entry)?;
-            come_to(alloc, setup, &lines)
-        }
-    }
+    let lines = lines_at(alloc, before, core, call, form)?;
+    let judge = come_to(alloc, setup, &lines)?;
+    Ok(judge)
 }
 
 // Appends which call it is.
@@ -53,14 +67,30 @@ fn push_call(text: &mut String, core: CoreNo, call: &Call) -> Result<(), AllocEr
     write!(text, "core {core} is in {call}\n")
 }
 
+// Whether a reply is no refusal.
+fn is_ok(reply: &Reply) -> bool
+    ensures { result ≡ is_ok reply.now }
+{
+    matches!(*reply, Reply::Ok(_))
+}
+
+// What is said before the first reply in order.
+fn first_words(ok: bool) -> &'static str
+    ensures { result.now ≡ first_words ok }
+{
+    if ok {
+        "no cause of refusal stands: "
+    } else {
+        "the first cause of refusal: "
+    }
+}
+
 // Appends the first cause of refusal that stands, or that none does.
 fn push_first(text: &mut String, alone: &Reply) -> Result<(), AllocError>
     ensures { OnOk result (string_bytes text.new ≡ string_bytes text.old ++ first_text alone.now) }
 {
-    match *alone {
-        Reply::Ok(_) => write!(text, "no cause of refusal stands: {alone}\n"),
-        _ => write!(text, "the first cause of refusal: {alone}\n"),
-    }
+    text.push_str(first_words(is_ok(alone)))?;
+    write!(text, "{alone}\n")
 }
 
 // Appends what is found of the call, before the lines that may stand there.
@@ -79,6 +109,7 @@ fn push_outlook(
 }
 
 /// Appends what is told of the call that a reply in the place of a line would decide, the line of this number after these.
+#[tactic(auto, using(crate::proofs::Places::core_there, crate::proofs::Places::most_cores))]
 pub fn push_call_advice(
     alloc: Global,
     text: &mut String,
@@ -91,21 +122,17 @@ pub fn push_call_advice(
 ) -> Result<(), Memory>
     requires few { length before.now + 1 < 2 ^ 32 }
     requires fit { LinesFit setup.now.cores before.now }
-    requires form { FormFits setup.now.cores core form.now }
-    requires call { InLimits call.now }
     requires history { AreHistory setup.now (reverse before.now) }
-    requires stands { Stands (marks_of (reverse before.now)) core form.now }
-    requires opens { phase (marks_at (marks_of (reverse before.now)) core form.now) core ≡ Open call.now }
+    requires decides { CanDecide setup.now.cores (marks_of (reverse before.now)) core call.now form.now }
     ensures { OnOk result (AddsCallAdvice setup.now before.now number core call.now form.now (string_bytes text.old) (string_bytes text.new)) }
 {
     let cores = setup.cores();
-    let mut judge = judge_at(alloc, setup, before, core, form)?;
+    let mut judge = judge_at(alloc, setup, before, core, call, form)?;
     let found = outlook_at(alloc, &mut judge.kernel, core, call)?;
     push_outlook(text, core, call, &found)?;
     let replies = replies_of(alloc, cores, &found.alone, &found.told)?;
-    push_options(alloc, text, setup, before, number, core, form, &replies)
+    push_options(
+        alloc, text, setup, before, number, core, call, form, &replies,
+    )?;
+    Ok(())
 }
-
-ghost use Rattle.kernel_rules.specs.Runs.{Open};
-ghost use Rattle.marked_history.specs.Histories.{phase};
-ghost use Rattle.history_options.specs.Advice.{found_text};

@@ -1,6 +1,7 @@
 //! Where a line stands, and how a reply is written in its place.
 
 ghost use Rattle.std.specs.Prelude.{◌≡◌};
+ghost use Rattle.history_check.specs.declared.seen.At.TheVariants.{Out};
 ghost use Rattle.history_options.specs.Forms.{core_of, place_of, with_form};
 
 use history_check::At;
@@ -13,14 +14,14 @@ pub enum Form {
     /// As the decision of the core's open call.
     Decided,
     /// In the line of a call made whole, with the number of the core's next call.
-    Whole { index: u64, call: Call },
+    Whole { index: u64 },
 }
 
 /// What a reply in the place of a line would decide.
 #[derive(Clone, Copy, Debug)]
 pub enum Place {
-    /// Nothing: the core is in no call, and the line makes none.
-    Without,
+    /// Nothing: the core is in no call, and the line makes none. Its next call has this number.
+    Without { next: u64 },
     /// Nothing: the core's call is decided.
     Done,
     /// This call, so written.
@@ -49,7 +50,7 @@ fn place_out(said: &Said, next: u64) -> Place
     ensures { result ≡ place_of said.now Out next }
 {
     match *said {
-        Said::One(_) => Place::Without,
+        Said::One(_) => Place::Without { next },
         Said::Whole {
             core: _,
             index: _,
@@ -57,7 +58,7 @@ fn place_out(said: &Said, next: u64) -> Place
             reply: _,
         } => Place::During {
             call,
-            form: Form::Whole { index: next, call },
+            form: Form::Whole { index: next },
         },
     }
 }
@@ -76,9 +77,9 @@ pub fn place_of(said: &Said, at: &At, next: u64) -> Place
     }
 }
 
-/// The line with a reply of a core.
-pub fn with_form(core: CoreNo, form: &Form, reply: &Reply) -> Said
-    ensures { result ≡ with_form core form.now reply.now }
+/// The line with a reply to a call of a core.
+pub fn with_form(core: CoreNo, call: &Call, form: &Form, reply: &Reply) -> Said
+    ensures { result ≡ with_form core call.now form.now reply.now }
 {
     let _made: Option<Make> = None;
     let _value: Option<Value> = None;
@@ -87,13 +88,11 @@ pub fn with_form(core: CoreNo, form: &Form, reply: &Reply) -> Said
             core,
             reply: *reply,
         }),
-        Form::Whole { index, call } => Said::Whole {
+        Form::Whole { index } => Said::Whole {
             core,
             index,
-            call,
+            call: *call,
             reply: *reply,
         },
     }
 }
-
-ghost use Rattle.history_check.specs.declared.seen.At.TheVariants.{Out};

@@ -13,9 +13,9 @@
 mod advice;
 mod calls;
 mod forms;
+mod history;
 mod options;
 mod replies;
 mod texts;
-mod told;
 
-pub use told::told;
+pub use history::told;

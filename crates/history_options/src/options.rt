@@ -2,7 +2,7 @@
 
 ghost use Rattle.std.specs.Prelude.{◌≡◌, ◌<◌, ◌+◌, ◌^◌, ◌++◌, ◌∷◌, [], length, IfOk, OnOk, string_bytes};
 ghost use Rattle.marked_history.specs.Verdicts.{LinesFit, SaidFits};
-ghost use Rattle.history_options.specs.Forms.{FormFits};
+ghost use Rattle.spk_nums.specs.CallLimits.{InLimits};
 ghost use Rattle.history_options.specs.Options.{is_legal, GoesOn, option_of, AreOptions, AddsOptions};
 
 use crate::forms::{Form, with_form};
@@ -21,8 +21,8 @@ fn is_legal(verdict: Verdict) -> bool
     }
 }
 
-/// These lines with one more.
-pub fn lines_with(alloc: Global, before: &[Line], line: &Line) -> Result<Vec<Line>, AllocError>
+// These lines with one more.
+fn lines_with(alloc: Global, before: &[Line], line: &Line) -> Result<Vec<Line>, AllocError>
     ensures { IfOk result (λ v. v.items ≡ before.now ++ line.now ∷ []) }
 {
     let mut lines = Vec::new(alloc);
@@ -32,6 +32,7 @@ pub fn lines_with(alloc: Global, before: &[Line], line: &Line) -> Result<Vec<Lin
 }
 
 // Whether a history goes on after these lines with a line of this number that says this.
+#[tactic(auto, using(crate::proofs::Places::fit_more, crate::proofs::Places::few_more))]
 fn goes_on(
     alloc: Global,
     setup: &Setup,
@@ -73,16 +74,19 @@ pub fn push_options(
     before: &[Line],
     number: u32,
     core: CoreNo,
+    call: &Call,
     form: &Form,
     replies: &[Reply],
 ) -> Result<(), Memory>
     requires few { length before.now + 1 < 2 ^ 32 }
     requires fit { LinesFit setup.now.cores before.now }
-    requires form { FormFits setup.now.cores core form.now }
-    ensures { OnOk result (AddsOptions setup.now before.now number core form.now replies.now (string_bytes text.old) (string_bytes text.new)) }
+    requires core { core < setup.now.cores }
+    requires call { InLimits call.now }
+    ensures { OnOk result (AddsOptions setup.now before.now number core call.now form.now replies.now
+        (string_bytes text.old) (string_bytes text.new)) }
 {
     'replies: for reply in replies {
-        let said = with_form(core, form, reply);
+        let said = with_form(core, call, form, reply);
         let goes = goes_on(alloc, setup, before, number, &said)?;
         push_option(text, goes, &said)?;
     }

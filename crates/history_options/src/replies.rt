@@ -21,6 +21,7 @@ fn add_ok(replies: &mut Vec<Reply>, alone: &Reply) -> Result<(), AllocError>
 fn add_told(replies: &mut Vec<Reply>, told: &Option<Reply>) -> Result<(), AllocError>
     ensures { OnOk result (replies.new.items ≡ replies.old.items ++ listed told.now) }
 {
+    let _value: Option<Value> = None;
     match *told {
         Some(reply) => replies.push(reply)?,
         None => {}
