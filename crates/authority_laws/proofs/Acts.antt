@@ -1,0 +1,437 @@
+-- Every call that is carried out is a list of edits, each with the capabilities by which it is made.
+use Rattle.std.proofs.Common.{◌≡◌, ◌⊎◌, inl, inr, ℕ, ◌+◌, ◌/◌, ◌%◌, Bool, true, false, not, refl, sym, ◌∙◌, ap, subst}
+use Rattle.std.proofs.Common.{nat_le, if◌then◌else◌, length, IsTrue, List, [], ◌∷◌, Option, Some, None}
+use Rattle.std.proofs.lemmas.Bool.{false≢true}
+use Rattle.spk_nums.specs.Capability.{Capability, cap_of}
+use Rattle.spk_nums.specs.Rights.{both, kept, has_rights}
+use Rattle.spk_nums.specs.declared.kinds.Kind.{Kind}
+use Rattle.spk_nums.specs.declared.kinds.Kind.TheVariants as kind
+use Rattle.spk_nums.specs.declared.kinds.FrameKind.{FrameKind}
+use Rattle.spk_nums.specs.declared.kinds.FrameKind.TheVariants as frame_kind
+use Rattle.spk_nums.specs.declared.calls.Make.{Make}
+use Rattle.spk_nums.specs.declared.calls.Make.TheVariants as make
+use Rattle.spk_nums.specs.declared.calls.Call.{Call}
+use Rattle.spk_nums.specs.declared.calls.Call.TheVariants as call
+use Rattle.spk_nums.specs.declared.translations.Translation.{Translation}
+use Rattle.spk_nums.specs.declared.replies.Value.{Value}
+use Rattle.spk_nums.specs.declared.replies.Value.TheVariants.{Nothing, Amount}
+use Rattle.spk_nums.specs.declared.replies.Reply.TheVariants as reply
+use Rattle.kernel_rules.specs.State.{Holds, CompFields, Object, Blank, Table, Leaf, Pages, Pleaf, Thread, Tcap}
+use Rattle.kernel_rules.specs.State.{User, Kernel, State, comp_in, comp_of, thread_in, thread_of}
+use Rattle.kernel_rules.specs.Start.{plain_cap}
+use Rattle.kernel_rules.specs.Access.{Want, to_use, to_copy, any, only, root, found, Slot, Target, Under, InRoot}
+use Rattle.kernel_rules.specs.Access.{linked, slot_in, usable, reached, own, place_at, root_slot}
+use Rattle.kernel_rules.specs.Fitting.{fits}
+use Rattle.kernel_rules.specs.Rules.{Change, Cause, When, Found, named, vacant, held, fills, removes, answers, first_cause, refusal_of}
+use Rattle.kernel_rules.specs.CapabilityCalls.{has_frame, outside, not_blank, makes, make_node, make_rule, not_taken, is_live, epoch_of}
+use Rattle.kernel_rules.specs.CapabilityCalls.{leaf_of, leaf_for}
+use Rattle.kernel_rules.specs.MemoryCalls.{not_user, not_untyped, not_retyped, retype_rule, touch_by, translation_of, translated}
+use Rattle.kernel_rules.specs.Life.{is_live_in}
+use Rattle.kernel_rules.specs.InvocationCalls.{not_live, switch_to}
+use Rattle.kernel_rules.specs.TimeCalls.{merged_list}
+use Rattle.kernel_rules.specs.CallRelation.{rule_of}
+use Rattle.kernel_invariant.specs.Edits.{Edit, Fill, Remove, Node, Become, Untype, Component, Deaden, Push, Pop, Switch, Cache, Flush}
+use Rattle.kernel_invariant.specs.Edits.{Charge, Move, Merge, begins_in, does}
+use Rattle.kernel_invariant.proofs.Sound.{only_is}
+use Rattle.kernel_invariant.proofs.SoundCalls.{IsOpen, blank_by, untyped_by}
+use Rattle.kernel_invariant.proofs.Facts.{ChangesFrom, Suits, suits, none_some, some_inj, some_none, vacant_facts, held_facts, none_parts, when_not, not_not}
+use Rattle.kernel_invariant.proofs.Edited.{is_bare, Calm}
+use Rattle.found_stays.proofs.Stays.{name_parts}
+use Rattle.authority_laws.specs.Authority.{IsUnder, LivesBy, MayUse}
+
+-- A number leads core c to a capability of one of these kinds, on this frame, which may be used.
+pub record LedTo (s : State) (c : ℕ) (kinds : Kind → Bool) (f : ℕ) : Type 0 where
+  pub cap : Capability
+  pub may : MayUse s c cap
+  pub kind : IsTrue (kinds cap.kind)
+  pub frame : cap.frame ≡ f
+
+-- A frame is in a range that core c may use.
+pub record InRange (s : State) (c f : ℕ) : Type 0 where
+  pub range : Capability
+  pub may : MayUse s c range
+  pub kind : range.kind ≡ kind.Range
+  pub has : has_frame (found range) f ≡ true
+
+-- A node is one of a table, or of pages, that core c may use.
+pub record InNode (s : State) (c f : ℕ) : Type 0 where
+  pub root : Capability
+  pub may : MayUse s c root
+  pub kind : (root.kind ≡ kind.Table) ⊎ (root.kind ≡ kind.Pages)
+  pub under : IsUnder s c root.frame f
+
+-- A copy of a capability that core c may use.
+pub record IsCopied (s : State) (c : ℕ) (k : Capability) : Type 0 where
+  pub number : ℕ
+  pub at : Slot
+  pub reaches : reached s c (own s c number) ≡ Some at
+  pub source : Capability
+  pub from : usable s c at ≡ Some source
+  pub rights : ℕ
+  pub is : k ≡ kept source rights
+
+-- Whether a kind is that of a leaf, or of a component.
+abbrev pub is_given : Kind → Bool
+is_given kind.Leaf = true
+is_given kind.Pleaf = true
+is_given kind.Comp = true
+is_given _ = false
+
+-- What else is put has both rights, is no range, and is on a frame of a range that core c may use, or on that of a leaf or component.
+pub record IsGiven (s : State) (c : ℕ) (k : Capability) : Type 0 where
+  pub rights : k.rights ≡ both
+  pub kind : only kind.Range k.kind ≡ false
+  pub frame : InRange s c k.frame ⊎ LedTo s c is_given k.frame
+
+-- A call enters a component by a gate.
+pub record Enters (act : Call) (s : State) (c f : ℕ) : Type 0 where
+  pub number : ℕ
+  pub is : act ≡ call.Call number
+  pub gate : Capability
+  pub names : named s c number (to_use (only kind.Gate)) ≡ Found gate
+  pub may : MayUse s c gate
+  pub kind : gate.kind ≡ kind.Gate
+  pub frame : gate.frame ≡ f
+  pub lives : is_live_in (s.number (comp_in (s.frame f)).number) gate.arg ≡ true
+
+-- A core goes on as another thread, with a temporal capability.
+pub record GoesOn (act : Call) (s : State) (c h q : ℕ) : Type 0 where
+  pub first : ℕ
+  pub second : ℕ
+  pub is : act ≡ call.Switch first second
+  pub thread : Capability
+  pub names : named s c first (to_use (only kind.Thread)) ≡ Found thread
+  pub frame : thread.frame ≡ h
+  pub led : LedTo s c (only kind.Thread) h
+  pub tcap : LedTo s c (only kind.Tcap) q
+  pub idle : (thread_in (s.frame h)).runs_on ≡ None
+
+-- A component is made of a table and of pages that core c may use, with a number that is not live.
+pub record Makes (s : State) (c : ℕ) (k : CompFields) : Type 0 where
+  pub dead : is_live (s.number k.number) ≡ false
+  pub table : LedTo s c (only kind.Table) k.table
+  pub pages : LedTo s c (only kind.Pages) k.pages
+
+-- By what core c makes an edit for a call, in the state in which the call is decided.
+abbrev pub By : Call → State → ℕ → Edit → Type 0
+By act s c (Fill at k) = InNode s c at.node × (IsCopied s c k ⊎ IsGiven s c k)
+By act s c (Remove at k) = InNode s c at.node × (place_at s at ≡ Holds k)
+By act s c (Node f object) = InRange s c f × IsTrue (is_bare (s.frame f)) × (fits kind.Comp (Kernel object) ≡ false)
+By act s c (Become f x) = InRange s c f × IsTrue (is_bare (s.frame f)) × (fits kind.Comp x ≡ false)
+By act s c (Untype f) = InRange s c f
+By act s c (Component f k) = InRange s c f × IsTrue (is_bare (s.frame f)) × Makes s c k
+By act s c (Deaden l e) = (k : Capability) × MayUse s c k × (k.kind ≡ kind.Comp) × LivesBy s k.frame l
+By act s c (Push f) = Enters act s c f
+By act s c Pop = act ≡ call.Ret
+By act s c (Switch h q) = GoesOn act s c h q
+By act s c (Cache t) = Unit {0}
+By act s c Flush = Unit {0}
+By act s c (Charge n) = act ≡ call.Tick n
+By act s c (Move a b m) = LedTo s c (only kind.Tcap) a × LedTo s c (only kind.Tcap) b
+By act s c (Merge f qs) = LedTo s c (only kind.Tcap) f
+
+abbrev pub EachBy : Call → State → ℕ → List Edit → Type 0
+EachBy call s c [] = Unit {0}
+EachBy call s c (e ∷ es) = By call s c e × EachBy call s c es
+
+-- Of two edits the first begins no grace period.
+abbrev pub Quiet : ℕ → State → List Edit → Type 0
+Quiet c s [] = Unit {0}
+Quiet c s (e ∷ []) = Unit {0}
+Quiet c s (e ∷ (x ∷ es)) = begins_in c s e ≡ []
+
+-- The change of a call of core c is that of a list of edits, each with what it is made by.
+pub record Acts (call : Call) (c : ℕ) (s : State) (change : Change) : Type 0 where
+  pub list : List Edit
+  pub is : change ≡ does c s change.value list
+  pub calm : Calm c s list
+  pub quiet : Quiet c s list
+  pub by : EachBy call s c list
+
+-- ---- names
+
+-- A name leads to a slot, where core c may use a capability such as is wanted.
+record NamedAt (s : State) (c n : ℕ) (want : Want) (k : Capability) : Type 0 where
+  at : Slot
+  reaches : reached s c (own s c n) ≡ Some at
+  from : usable s c at ≡ Some k
+  kind : IsTrue (want.kinds k.kind)
+  rights : IsTrue (has_rights k.rights want.needs)
+
+named_at : (s : State) (c n : ℕ) (want : Want) (k : Capability) → named s c n want ≡ Found k → NamedAt s c n want k
+named_at s c n want k e =
+    let p = name_parts s c n want k e in
+    let w : Suits want p.2 k = suits want p.2 k p.4 in
+    record {
+      at = p.0;
+      reaches = p.1;
+      from = p.3 ∙ ap Some w.is;
+      kind = subst (λ (j : Capability). IsTrue (want.kinds j.kind)) w.is w.kind;
+      rights = subst (λ (j : Capability). IsTrue (has_rights j.rights want.needs)) w.is w.rights;
+    }
+
+module _ (s : State) (c : ℕ) where
+  may_by : (n : ℕ) (kinds : Kind → Bool) (k : Capability) → named s c n (to_use kinds) ≡ Found k → MayUse s c k × IsTrue (kinds k.kind)
+  may_by n kinds k e =
+      let x : NamedAt s c n (to_use kinds) k = named_at s c n (to_use kinds) k e in
+      (record { number = n; at = x.at; reaches = x.reaches; usable = x.from; right = x.rights }, x.kind)
+
+  led_by : (n : ℕ) (kinds : Kind → Bool) (k : Capability) → named s c n (to_use kinds) ≡ Found k → LedTo s c kinds k.frame
+  led_by n kinds k e = let p = may_by n kinds k e in record { cap = k; may = p.0; kind = p.1; frame = refl }
+
+  -- the frame of a call is in its range
+  range_by : (n f : ℕ) (range : Capability) (causes : List Cause) → named s c n (to_use (only kind.Range)) ≡ Found range
+      → first_cause s c (outside (found range) f ∷ causes) ≡ None → InRange s c f
+  range_by n f range causes e calm =
+      let p = may_by n (only kind.Range) range e in
+      record {
+        range = range;
+        may = p.0;
+        kind = only_is kind.Range range.kind p.1;
+        has = not_not (has_frame (found range) f) (when_not (not (has_frame (found range) f)) reply.OutOfRange (none_parts _ _ calm).0);
+      }
+
+  -- what is reached under a number of a table is in a leaf of it
+  pub under_leaf : (table : Capability) (n : ℕ) (at : Slot) → reached s c (Under (found table) n) ≡ Some at → IsUnder s c table.frame at.node
+  under_leaf table n at e = inr (n / 64, by_number (nat_le n 4095) e)
+    where
+      by_slot : (l : Option ℕ) → slot_in l (n % 64) ≡ Some at → l ≡ Some at.node
+      by_slot None q = absurd (none_some at q)
+      by_slot (Some leaf) q = ap (λ (x : Slot). Some x.node) (some_inj record { node = leaf; index = n % 64 } at q)
+
+      by_number : (b : Bool) → (if b then slot_in (linked (usable s c (root_slot table.frame n))) (n % 64) else None) ≡ Some at
+          → linked (usable s c (root_slot table.frame n)) ≡ Some at.node
+      by_number true q = by_slot (linked (usable s c (root_slot table.frame n))) q
+      by_number false q = absurd (none_some at q)
+
+  entry_root : (table : Capability) (i : ℕ) (at : Slot) → reached s c (InRoot (found table) i) ≡ Some at → at.node ≡ table.frame
+  entry_root table i at e = by_entry (nat_le i 63) e
+    where
+      by_entry : (b : Bool) → (if b then Some record { node = table.frame; index = i } else None) ≡ Some at → at.node ≡ table.frame
+      by_entry true q = ap (λ (x : Slot). x.node) (sym (some_inj record { node = table.frame; index = i } at q))
+      by_entry false q = absurd (none_some at q)
+
+  root_kind : (k : Kind) → IsTrue (root k) → (k ≡ kind.Table) ⊎ (k ≡ kind.Pages)
+  root_kind kind.Table h = inl refl
+  root_kind kind.Pages h = inr refl
+  root_kind _ h = absurd (false≢true h)
+
+  table_node : (t : ℕ) (table : Capability) (f : ℕ) → named s c t (to_use (only kind.Table)) ≡ Found table
+      → IsUnder s c table.frame f → InNode s c f
+  table_node t table f e under =
+      let p = may_by t (only kind.Table) table e in
+      record { root = table; may = p.0; kind = inl (only_is kind.Table table.kind p.1); under = under }
+
+  pages_node : (t : ℕ) (pages : Capability) (f : ℕ) → named s c t (to_use (only kind.Pages)) ≡ Found pages
+      → IsUnder s c pages.frame f → InNode s c f
+  pages_node t pages f e under =
+      let p = may_by t (only kind.Pages) pages e in
+      record { root = pages; may = p.0; kind = inr (only_is kind.Pages pages.kind p.1); under = under }
+
+  root_node : (t : ℕ) (table : Capability) (f : ℕ) → named s c t (to_use root) ≡ Found table → f ≡ table.frame → InNode s c f
+  root_node t table f e same =
+      let p = may_by t root table e in
+      record { root = table; may = p.0; kind = root_kind table.kind p.1; under = inl same }
+
+  leaf_kind : (j k : Kind) → IsTrue (only (leaf_of j) k) → IsTrue (is_given k)
+  leaf_kind j k h = by_kind (leaf_of j) (leaf_is j) (only_is (leaf_of j) k h)
+    where
+      leaf_is : (j : Kind) → IsTrue (is_given (leaf_of j))
+      leaf_is kind.Table = refl
+      leaf_is _ = refl
+
+      by_kind : (i : Kind) → IsTrue (is_given i) → k ≡ i → IsTrue (is_given k)
+      by_kind i given same = subst (λ i. IsTrue (is_given i)) (sym same) given
+
+-- ---- lists of one edit, and of two
+
+module _ (call : Call) (s : State) (c : ℕ) where
+  nothing : {v : Value} → Acts call c s (answers s v)
+  nothing = record { list = []; is = refl; calm = tt; quiet = tt; by = tt }
+
+  one : (e : Edit) (v : Value) → By call s c e → Acts call c s (does c s v (e ∷ []))
+  one e v by = record { list = e ∷ []; is = refl; calm = (refl, λ x. refl, tt); quiet = tt; by = (by, tt) }
+
+  two : (e x : Edit) (v : Value) → Calm c s (e ∷ x ∷ []) → begins_in c s e ≡ [] → By call s c e → By call s c x → Acts call c s (does c s v (e ∷ x ∷ []))
+  two e x v calm quiet by next = record { list = e ∷ x ∷ []; is = refl; calm = calm; quiet = quiet; by = (by, (next, tt)) }
+
+  filled : (at : Slot) (k : Capability) → InNode s c at.node → IsCopied s c k ⊎ IsGiven s c k → Acts call c s (fills s at k)
+  filled at k node from = one (Fill at k) Nothing (node, from)
+
+  removed : (target : Target) (at : Slot) (k : Capability) → InNode s c at.node → held s c target ≡ Found (at, k)
+      → Acts call c s (removes s at k)
+  removed target at k node e = one (Remove at k) Nothing (node, (held_facts s c target at k e).1)
+
+-- ---- the calls
+
+module _ (s : State) (c : ℕ) (o : ℕ → Bool) (h : IsOpen s o c) where
+  bare_blank : (r f : ℕ) (range : Capability) (causes : List Cause) → named s c r (to_use (only kind.Range)) ≡ Found range
+      → first_cause s c (outside (found range) f ∷ not_blank s f ∷ causes) ≡ None → IsTrue (is_bare (s.frame f))
+  bare_blank r f range causes e calm = subst (λ x. IsTrue (is_bare x)) (sym (blank_by s o c r f range causes h e calm).1) refl
+
+  bare_untyped : (r f : ℕ) (range : Capability) → named s c r (to_use (only kind.Range)) ≡ Found range
+      → first_cause s c (outside (found range) f ∷ not_untyped s f ∷ []) ≡ None → IsTrue (is_bare (s.frame f))
+  bare_untyped r f range e calm = subst (λ x. IsTrue (is_bare x)) (sym (untyped_by s o c r f range h e calm).1) refl
+
+  -- the capability of what is made
+  made_cap : (k : Kind) (f : ℕ) → only kind.Range k ≡ false → InRange s c f → IsCopied s c (plain_cap k f) ⊎ IsGiven s c (plain_cap k f)
+  made_cap k f other range = inr (record { rights = refl; kind = other; frame = inl range })
+
+  -- the place of a named table
+  place_by : (t b : ℕ) (table : Capability) (at : Slot) → named s c t (to_use (only kind.Table)) ≡ Found table
+      → vacant s c (Under (found table) b) ≡ Found at → InNode s c at.node
+  place_by t b table at e g = table_node s c t table at.node e (under_leaf s c table b at (vacant_facts s c (Under (found table) b) at g).0)
+
+  node_acts : (call : Call) (object : Object) (k : Kind) (r f t b : ℕ) → fits kind.Comp (Kernel object) ≡ false
+      → only kind.Range k ≡ false → ((at : Slot) → Calm c s (Node f object ∷ Fill at (plain_cap k f) ∷ []))
+      → ChangesFrom (Acts call c s) s c (make_node s object k r f t b)
+  node_acts call object k r f t b none other calm_at = λ range e table g at v calm.
+      let within = range_by s c r f range (not_blank s f ∷ []) e calm in
+      two call s c (Node f object) (Fill at (plain_cap k f)) Nothing (calm_at at) refl
+      (within, bare_blank r f range [] e calm, none)
+      (place_by t b table at g v, made_cap k f other within)
+
+  made_acts : (call : Call) (object : Object) (k : Kind) (r f t b : ℕ) (range table : Capability) (at : Slot)
+      → fits kind.Comp (Kernel object) ≡ false → only kind.Range k ≡ false
+      → named s c r (to_use (only kind.Range)) ≡ Found range → named s c t (to_use (only kind.Table)) ≡ Found table
+      → vacant s c (Under (found table) b) ≡ Found at
+      → first_cause s c (outside (found range) f ∷ not_blank s f ∷ []) ≡ None → Acts call c s (makes s f object k at)
+  made_acts call object k r f t b range table at none other e g v calm =
+      let within = range_by s c r f range (not_blank s f ∷ []) e calm in
+      two call s c (Become f (Kernel object)) (Fill at (plain_cap k f)) Nothing (refl, λ x. refl, tt) refl
+      (within, bare_blank r f range [] e calm, none)
+      (place_by t b table at g v, made_cap k f other within)
+
+  make_acts : (what : Make) (r f t b : ℕ) → ChangesFrom (Acts (call.Make what r f t b) c s) s c (make_rule s what r f t b)
+  make_acts make.Table r f t b = node_acts (call.Make make.Table r f t b) Table kind.Table r f t b refl refl (λ at. (refl, λ x. refl, tt))
+  make_acts make.Leaf r f t b = node_acts (call.Make make.Leaf r f t b) Leaf kind.Leaf r f t b refl refl (λ at. (refl, λ x. refl, tt))
+  make_acts make.Pages r f t b = node_acts (call.Make make.Pages r f t b) Pages kind.Pages r f t b refl refl (λ at. (refl, λ x. refl, tt))
+  make_acts make.Pleaf r f t b = node_acts (call.Make make.Pleaf r f t b) Pleaf kind.Pleaf r f t b refl refl (λ at. (refl, λ x. refl, tt))
+  make_acts (make.Thread comp) r f t b = λ range e table g k j at v calm.
+      made_acts (call.Make (make.Thread comp) r f t b) (Thread (record { stack = k.frame ∷ []; runs_on = None })) kind.Thread r f t b
+      range table at refl refl e g v calm
+  make_acts (make.Tcap sched quality) r f t b = λ range e table g at v calm.
+      made_acts (call.Make (make.Tcap sched quality) r f t b) (Tcap (record { budget = 0; qualities = (sched, quality) ∷ [] }))
+      kind.Tcap r f t b range table at refl refl e g v calm
+  make_acts (make.Comp x p l) r f t b = λ range e table g own_table a own_pages d at v calm.
+      let within = range_by s c r f range (not_blank s f ∷ not_taken s l) e calm in
+      let q1 = none_parts (refusal_of s c (outside (found range) f)) (first_cause s c (not_blank s f ∷ not_taken s l)) calm in
+      let q2 = none_parts (refusal_of s c (not_blank s f)) (first_cause s c (not_taken s l)) q1.1 in
+      let q3 = none_parts (refusal_of s c (When (is_live (s.number l)) reply.Occupied)) _ q2.1 in
+      let fields : CompFields =
+      record { table = own_table.frame; pages = own_pages.frame; number = l; epoch = epoch_of (s.number l) + 1 } in
+      two (call.Make (make.Comp x p l) r f t b) s c (Component f fields) (Fill at (plain_cap kind.Comp f)) Nothing (refl, λ x. refl, tt) refl (
+        within,
+        bare_blank r f range (not_taken s l) e calm,
+        record {
+          dead = when_not (is_live (s.number l)) reply.Occupied q3.0;
+          table = led_by s c x (only kind.Table) own_table a;
+          pages = led_by s c p (only kind.Pages) own_pages d;
+        },
+      )
+      (place_by t b table at g v, made_cap kind.Comp f refl within)
+
+  retype_acts : (r f : ℕ) (k : FrameKind) → ChangesFrom (Acts (call.Retype r f k) c s) s c (retype_rule s r f k)
+  retype_acts r f frame_kind.User = λ range e calm.
+      one (call.Retype r f frame_kind.User) s c (Become f User) Nothing
+      (range_by s c r f range (not_untyped s f ∷ []) e calm, bare_untyped r f range e calm, refl)
+  retype_acts r f frame_kind.Kernel = λ range e calm.
+      one (call.Retype r f frame_kind.Kernel) s c (Become f (Kernel Blank)) Nothing
+      (range_by s c r f range (not_untyped s f ∷ []) e calm, bare_untyped r f range e calm, refl)
+  retype_acts r f frame_kind.Untyped = λ range e calm.
+      one (call.Retype r f frame_kind.Untyped) s c (Untype f) Nothing (range_by s c r f range (not_retyped s f frame_kind.Untyped) e calm)
+
+  touch_acts : (v : ℕ) (t : Option Translation) → ChangesFrom (Acts (call.Touch v) c s) s c (touch_by s c (comp_of s c).pages v t)
+  touch_acts v None = λ mapping e calm.
+      let t : Translation = record { pages = (comp_of s c).pages; page = v; frame = mapping.frame; flags = record { 0 = mapping.arg } } in
+      one (call.Touch v) s c (Cache t) (translated t) tt
+  touch_acts v (Some t) = λ calm. nothing (call.Touch v) s c
+
+  switch_acts : (a b : ℕ) (j k : Capability) → named s c a (to_use (only kind.Thread)) ≡ Found j
+      → named s c b (to_use (only kind.Tcap)) ≡ Found k → (e : Option ℕ) → (thread_in (s.frame j.frame)).runs_on ≡ e
+      → ChangesFrom (Acts (call.Switch a b) c s) s c (switch_to s c (found j) k.frame e)
+  switch_acts a b j k g q (Some e) is = λ calm. absurd (some_none (reply.Running e) (none_parts (Some (reply.Running e)) None calm).0)
+  switch_acts a b j k g q None is = λ calm.
+      one (call.Switch a b) s c (Switch j.frame k.frame) Nothing (record {
+        first = a;
+        second = b;
+        is = refl;
+        thread = j;
+        names = g;
+        frame = refl;
+        led = led_by s c a (only kind.Thread) j g;
+        tcap = led_by s c b (only kind.Tcap) k q;
+        idle = is;
+      })
+
+  pub rule_acts : (call : Call) → ChangesFrom (Acts call c s) s c (rule_of s c call)
+  rule_acts (call.Look a) = λ k e calm. nothing (call.Look a) s c
+  rule_acts (call.Copy a t b rights) = λ k e table g at v calm.
+      let x = named_at s c a (to_copy any) k e in
+      filled (call.Copy a t b rights) s c at (kept k rights.0) (place_by t b table at g v)
+      (inl (record { number = a; at = x.at; reaches = x.reaches; source = k; from = x.from; rights = rights.0; is = refl }))
+  rule_acts (call.Remove t b) = λ table e at k g calm.
+      removed (call.Remove t b) s c (Under (found table) b) at k
+      (table_node s c t table at.node e (under_leaf s c table b at (held_facts s c (Under (found table) b) at k g).0)) g
+  rule_acts (call.Grow t i l) = λ table e leaf f at g calm.
+      filled (call.Grow t i l) s c at (plain_cap kind.Link leaf.frame)
+      (root_node s c t table at.node e (entry_root s c table i at (vacant_facts s c (InRoot (found table) i) at g).0))
+      (inr (record { rights = refl; kind = refl; frame = inr (leaf_led l table leaf f) }))
+    where
+      leaf_led : (l : ℕ) (table leaf : Capability) → named s c l (to_use (leaf_for (found table))) ≡ Found leaf
+          → LedTo s c is_given leaf.frame
+      leaf_led l table leaf f =
+          let p = may_by s c l (leaf_for (found table)) leaf f in
+          record { cap = leaf; may = p.0; kind = leaf_kind s c table.kind leaf.kind p.1; frame = refl }
+  rule_acts (call.Shrink t i) = λ table e at k g calm.
+      removed (call.Shrink t i) s c (InRoot (found table) i) at k
+      (root_node s c t table at.node e (entry_root s c table i at (held_facts s c (InRoot (found table) i) at k g).0)) g
+  rule_acts (call.Retype r f k) = retype_acts r f k
+  rule_acts (call.Make what r f t b) = make_acts what r f t b
+  rule_acts (call.Map p v r f w) = λ pages e range g at u calm.
+      filled (call.Map p v r f w) s c at (cap_of kind.Page f w.0)
+      (pages_node s c p pages at.node e (under_leaf s c pages v at (vacant_facts s c (Under (found pages) v) at u).0))
+      (inr (record { rights = refl; kind = refl; frame = inl (range_by s c r f range (not_user s f ∷ []) g calm) }))
+  rule_acts (call.Unmap p v) = λ pages e at k g calm.
+      removed (call.Unmap p v) s c (Under (found pages) v) at k
+      (pages_node s c p pages at.node e (under_leaf s c pages v at (held_facts s c (Under (found pages) v) at k g).0)) g
+  rule_acts (call.Touch v) = touch_acts v (translation_of (s.core c).cached (comp_of s c).pages v)
+  rule_acts call.Flush = λ calm. one call.Flush s c Flush Nothing tt
+  rule_acts (call.Gate k t b) = λ comp e table g at v calm.
+      filled (call.Gate k t b) s c at (cap_of kind.Gate comp.frame (comp_in (s.frame comp.frame)).epoch) (place_by t b table at g v)
+      (inr (record { rights = refl; kind = refl; frame = inr (comp_led k comp e) }))
+    where
+      comp_led : (k : ℕ) (comp : Capability) → named s c k (to_use (only kind.Comp)) ≡ Found comp → LedTo s c is_given comp.frame
+      comp_led k comp e =
+          let p = may_by s c k (only kind.Comp) comp e in
+          record { cap = comp; may = p.0; kind = subst (λ j. IsTrue (is_given j)) (sym (only_is kind.Comp comp.kind p.1)) refl; frame = refl }
+  rule_acts (call.Kill k) = λ comp e calm.
+      let fields = comp_in (s.frame comp.frame) in
+      let p = none_parts (refusal_of s c (not_live s (found comp) fields.number fields.epoch)) None calm in
+      let live : is_live_in (s.number fields.number) fields.epoch ≡ true = not_not _ (when_not _ reply.Dead p.0) in
+      let q = may_by s c k (only kind.Comp) comp e in
+      one (call.Kill k) s c (Deaden fields.number fields.epoch) Nothing (comp, q.0, only_is kind.Comp comp.kind q.1, (refl, live))
+  rule_acts (call.Call g) = λ gate e calm.
+      let p = none_parts (refusal_of s c (When (nat_le 16 (length (thread_of s c).stack)) reply.Deep)) _ calm in
+      let q = none_parts (refusal_of s c (not_live s (found gate) (comp_in (s.frame gate.frame)).number gate.arg)) None p.1 in
+      let m = may_by s c g (only kind.Gate) gate e in
+      one (call.Call g) s c (Push gate.frame) Nothing (record {
+        number = g;
+        is = refl;
+        gate = gate;
+        names = e;
+        may = m.0;
+        kind = only_is kind.Gate gate.kind m.1;
+        frame = refl;
+        lives = not_not _ (when_not _ reply.Dead q.0);
+      })
+  rule_acts call.Ret = λ calm. one call.Ret s c Pop Nothing refl
+  rule_acts (call.Switch f q) = λ thread e tcap g.
+      switch_acts f q thread tcap e g (thread_in (s.frame thread.frame)).runs_on refl
+  rule_acts (call.Tick n) = λ calm. one (call.Tick n) s c (Charge n) (Amount _) refl
+  rule_acts (call.Transfer a b m) = λ j e k f calm.
+      one (call.Transfer a b m) s c (Move j.frame k.frame m) Nothing (led_by s c a (only kind.Tcap) j e, led_by s c b (only kind.Tcap) k f)
+  rule_acts (call.Delegate a b m) = λ j e k f calm.
+      two (call.Delegate a b m) s c (Move j.frame k.frame m) (Merge k.frame (merged_list s j.frame k.frame)) Nothing
+      (refl, λ x. refl, tt) refl (led_by s c a (only kind.Tcap) j e, led_by s c b (only kind.Tcap) k f) (led_by s c b (only kind.Tcap) k f)
+  rule_acts (call.Test a b) = λ j e k f calm. nothing (call.Test a b) s c

@@ -1,0 +1,4 @@
+pub mod Acts
+pub mod EditParts
+pub mod DecidedParts
+pub mod Causes

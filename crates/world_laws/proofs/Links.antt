@@ -1,0 +1,57 @@
+-- In every state that a run reaches, each link that a core may use has both rights; and who waits after a return waited before.
+use Rattle.std.proofs.Common.{◌≡◌, inl, inr, ℕ, Bool, true, false, refl, ◌∙◌, ap, subst, if◌then◌else◌, IsTrue, List, [], ◌∷◌, Some, None}
+use Rattle.std.proofs.lemmas.Bool.{false≢true}
+use Rattle.spk_nums.specs.Setting.{Setting, IsSetting}
+use Rattle.spk_nums.specs.Capability.{Capability}
+use Rattle.spk_nums.specs.Rights.{both, kept_rights}
+use Rattle.spk_nums.specs.declared.kinds.Kind.{Kind}
+use Rattle.spk_nums.specs.declared.kinds.Kind.TheVariants as kind
+use Rattle.kernel_rules.specs.State.{Place, Free, Holds, Quiescing, PlaceOf, State}
+use Rattle.kernel_rules.specs.Access.{Slot, only, usable, usable_in}
+use Rattle.kernel_rules.specs.GracePeriods.{returned}
+use Rattle.kernel_rules.specs.Runs.{Event, Enters, Decides, Returns, after, is_open, IsRun}
+use Rattle.kernel_invariant.proofs.Facts.{none_some}
+use Rattle.kernel_invariant.proofs.Sound.{put_all, only_is}
+use Rattle.kernel_invariant.proofs.SoundRuns.{opened, open_is}
+use Rattle.state_laws.proofs.BothRights.{both_stay}
+use Rattle.world_laws.proofs.Puts.{Put, usable_from}
+use Rattle.world_laws.proofs.Outside.{LinksHaveBoth}
+
+fewer_use : (p : Place) (a b : Bool) (k : Capability) → (a ≡ true → b ≡ true) → usable_in p a ≡ Some k → usable_in p b ≡ Some k
+fewer_use Free a b k less e = e
+fewer_use (Holds j) a b k less e = e
+fewer_use (Quiescing j) true b k less e = ap (λ x. if x then Some j else None) (less refl) ∙ e
+fewer_use (Quiescing j) false b k less e = absurd (none_some k e)
+
+-- What a core may use after a return it might use before.
+pub returned_uses : (s : State) (c d : ℕ) (at : Slot) (k : Capability) → usable (returned s c) d at ≡ Some k → usable s d at ≡ Some k
+returned_uses s c d at k = fewer_use (s.place at.node at.index) _ ((s.grace (PlaceOf at.node at.index)).waits d) k
+    (put_all (λ d x. x ≡ true → (s.grace (PlaceOf at.node at.index)).waits d ≡ true) (s.grace (PlaceOf at.node at.index)).waits c false d
+    (λ same e. absurd (false≢true e)) (λ other e. e))
+
+link_kept : (j : Kind) (own these : ℕ) → IsTrue (only kind.Link j) → own ≡ both → kept_rights j own these ≡ both
+link_kept j own these is e = by_kind j (only_is kind.Link j is)
+  where
+    by_kind : (j : Kind) → j ≡ kind.Link → kept_rights j own these ≡ both
+    by_kind j same = ap (λ i. kept_rights i own these) same ∙ e
+
+put_both : (s : State) (c f : ℕ) (k : Capability) → LinksHaveBoth s → Put s c f k → IsTrue (only kind.Link k.kind) → k.rights ≡ both
+put_both s c f k h (node, inr given) is = given.rights
+put_both s c f k h (node, inl copied) is =
+    let link : IsTrue (only kind.Link copied.source.kind) = subst (λ (j : Capability). IsTrue (only kind.Link j.kind)) copied.is is in
+    ap (λ (j : Capability). j.rights) copied.is
+    ∙ link_kept copied.source.kind copied.source.rights copied.rights link
+    (h copied.at.node copied.at.index c copied.source copied.from link)
+
+pub links_have_both : (setting : Setting) → IsSetting setting → (events : List Event) → IsRun setting events
+    → LinksHaveBoth (after setting events)
+links_have_both setting lim [] run f i d k e is = (both_stay setting [] tt).used d (record { node = f; index = i }) k e
+links_have_both setting lim (Enters c call ∷ events) run f i d k e is = links_have_both setting lim events run.0 f i d k e is
+links_have_both setting lim (Returns c ∷ events) run f i d k e is =
+    links_have_both setting lim events run.0 f i d k (returned_uses (after setting events) c d (record { node = f; index = i }) k e) is
+links_have_both setting lim (Decides c call r ∷ events) run f i d k e is =
+    elim (usable_from (after setting events) c (opened events) (open_is setting lim events c run.0 (ap is_open run.1.is_open)) call r
+    run.1.permitted f i d k e) [
+      | inl was ↦ links_have_both setting lim events run.0 f i d k was is
+      | inr new ↦ put_both (after setting events) c f k (links_have_both setting lim events run.0) new is
+    ]

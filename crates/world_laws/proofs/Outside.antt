@@ -1,0 +1,132 @@
+-- What a core that works outside a sealed world names lies outside, or may not be used.
+use Rattle.std.proofs.Common.{◌≡◌, ◌⊎◌, inl, inr, ℕ, Bool, true, false, refl, sym, ◌∙◌, ap, subst, if◌then◌else◌, IsTrue}
+use Rattle.std.proofs.Common.{Option, Some, None}
+use Rattle.std.proofs.lemmas.Bool.{false≢true, true≢false}
+use Rattle.spk_nums.specs.Capability.{Capability}
+use Rattle.spk_nums.specs.Rights.{both, kept, has_rights, right_to_use}
+use Rattle.spk_nums.proofs.KeptRights.{kept_has}
+use Rattle.spk_nums.specs.declared.kinds.Kind.{Kind}
+use Rattle.spk_nums.specs.declared.kinds.Kind.TheVariants as kind
+use Rattle.kernel_rules.specs.State.{Comp, Frame, Kernel, State, comp_in, comp_of}
+use Rattle.kernel_rules.specs.Start.{plain_cap}
+use Rattle.kernel_rules.specs.Access.{Slot, only, linked, usable, reached, own}
+use Rattle.kernel_rules.specs.Fitting.{fits}
+use Rattle.kernel_invariant.proofs.Sound.{only_is}
+use Rattle.kernel_invariant.proofs.SoundCalls.{IsOpen}
+use Rattle.kernel_invariant.proofs.Facts.{none_some, some_inj}
+use Rattle.found_stays.proofs.Stays.{comp_fit}
+use Rattle.authority_laws.specs.Authority.{IsUnder, MayUse}
+use Rattle.authority_laws.proofs.Acts.{LedTo, InRange, InNode, IsCopied, IsGiven, is_given, under_leaf}
+use Rattle.world_laws.specs.Worlds.{works_in, LeadsTo, gates, HoldsNone, IsSealed}
+use Rattle.world_laws.proofs.Puts.{Put}
+
+-- Each link that a core may use has both rights.
+abbrev pub LinksHaveBoth : State → Type 0
+LinksHaveBoth s = (f i d : ℕ) (k : Capability) → usable s d (record { node = f; index = i }) ≡ Some k → IsTrue (only kind.Link k.kind)
+    → k.rights ≡ both
+
+-- A capability that is no range leads to its frame.
+pub leads_plain : (j : Kind) (k : Capability) (f : ℕ) → only kind.Range j ≡ false → f ≡ k.frame → LeadsTo j k f
+leads_plain kind.Range k f other e = absurd (true≢false other)
+leads_plain _ k f other e = e
+
+-- A capability that holds nothing leads outside, where it may be used and may not cross.
+pub led_out : (w : ℕ → Bool) (k : Capability) (j : Kind) (f : ℕ) → HoldsNone w gates k → IsTrue (has_rights k.rights right_to_use)
+    → k.kind ≡ j → gates j ≡ false → LeadsTo j k f → w f ≡ false
+led_out w k j f none right is crosses leads =
+    none right (ap gates is ∙ crosses) f (subst (λ i. LeadsTo i k f) (sym is) leads)
+
+comp_is : (x : Frame) → IsTrue (fits kind.Comp x) → x ≡ Kernel (Comp (comp_in x))
+comp_is (Kernel (Comp k)) fit = refl
+comp_is _ fit = absurd (false≢true fit)
+
+-- Core c works outside a sealed world.
+pub record WorksOutside (w : ℕ → Bool) (s : State) (c : ℕ) : Type 0 where
+  pub sealed : IsSealed w gates s
+  pub links : LinksHaveBoth s
+  pub table : w (comp_of s c).table ≡ false
+
+pub works_outside : (w : ℕ → Bool) (s : State) (c : ℕ) (o : ℕ → Bool) → IsOpen s o c → LinksHaveBoth s → IsSealed w gates s
+    → w (works_in s c) ≡ false → WorksOutside w s c
+works_outside w s c o h links sealed out = record {
+  sealed = sealed;
+  links = links;
+  table = (sealed.comps (works_in s c) (comp_of s c) out
+      (comp_is (s.frame (works_in s c)) (comp_fit s o c h.sound (h.sound.inside c h.is).1))).0;
+}
+
+module _ (w : ℕ → Bool) (s : State) (c : ℕ) (h : WorksOutside w s c) where
+  -- a leaf of a root that is outside is outside
+  pub under_out : (root f : ℕ) → w root ≡ false → IsUnder s c root f → w f ≡ false
+  under_out root f out (inl same) = ap w same ∙ out
+  under_out root f out (inr (i, e)) = by_link (usable s c (record { node = root; index = i })) refl e
+    where
+      by_kind : (j : Capability) (b : Bool) → only kind.Link j.kind ≡ b → usable s c (record { node = root; index = i }) ≡ Some j
+          → (if b then Some j.frame else None) ≡ Some f → w f ≡ false
+      by_kind j false is u q = absurd (none_some f q)
+      by_kind j true is u q = led_out w j kind.Link f (h.sealed.places root i c j out u)
+          (subst (λ r. IsTrue (has_rights r right_to_use)) (sym (h.links root i c j u is)) refl)
+          (only_is kind.Link j.kind is) refl (sym (some_inj j.frame f q))
+
+      by_link : (u : Option Capability) → usable s c (record { node = root; index = i }) ≡ u → linked u ≡ Some f → w f ≡ false
+      by_link None is q = absurd (none_some f q)
+      by_link (Some j) is q = by_kind j (only kind.Link j.kind) refl is q
+
+  -- a slot that a number leads to is outside
+  reached_out : (n : ℕ) (at : Slot) → reached s c (own s c n) ≡ Some at → w at.node ≡ false
+  reached_out n at e =
+      under_out (comp_of s c).table at.node h.table (under_leaf s c (plain_cap kind.Table (comp_of s c).table) n at e)
+
+  pub may_none : (k : Capability) → MayUse s c k → HoldsNone w gates k
+  may_none k m = h.sealed.places m.at.node m.at.index c k (reached_out m.number m.at m.reaches) m.usable
+
+  pub may_out : (k : Capability) (j : Kind) (f : ℕ) → MayUse s c k → k.kind ≡ j → gates j ≡ false → LeadsTo j k f → w f ≡ false
+  may_out k j f m = led_out w k j f (may_none k m) m.right
+
+  pub range_out : (f : ℕ) → InRange s c f → w f ≡ false
+  range_out f r = may_out r.range kind.Range f r.may r.kind refl r.has
+
+  pub node_out : (f : ℕ) → InNode s c f → w f ≡ false
+  node_out f n = under_out n.root.frame f (by_kind n.kind) n.under
+    where
+      by_kind : (n.root.kind ≡ kind.Table) ⊎ (n.root.kind ≡ kind.Pages) → w n.root.frame ≡ false
+      by_kind (inl is) = may_out n.root kind.Table n.root.frame n.may is refl refl
+      by_kind (inr is) = may_out n.root kind.Pages n.root.frame n.may is refl refl
+
+  -- a capability of one kind, which is neither a gate's nor a range's
+  pub led_frame : (j : Kind) (f : ℕ) → gates j ≡ false → only kind.Range j ≡ false → LedTo s c (only j) f → w f ≡ false
+  led_frame j f crosses other l =
+      may_out l.cap j f l.may (only_is j l.cap.kind l.kind) crosses (leads_plain j l.cap f other (sym l.frame))
+
+  given_kind : (j : Kind) → IsTrue (is_given j) → (gates j ≡ false) × (only kind.Range j ≡ false)
+  given_kind kind.Leaf given = (refl, refl)
+  given_kind kind.Pleaf given = (refl, refl)
+  given_kind kind.Comp given = (refl, refl)
+  given_kind _ given = absurd (false≢true given)
+
+  -- what core c puts holds nothing of the world
+  copied_none : (k : Capability) → IsCopied s c k → HoldsNone w gates k
+  copied_none k x = subst (HoldsNone w gates) (sym x.is) (λ right crosses f leads.
+      h.sealed.places x.at.node x.at.index c x.source (reached_out x.number x.at x.reaches) x.from
+      (kept_has x.source.kind x.source.rights x.rights right_to_use right) crosses f (leads_kept x.source.kind f leads))
+    where
+      leads_kept : (j : Kind) (f : ℕ) → LeadsTo j (kept x.source x.rights) f → LeadsTo j x.source f
+      leads_kept kind.Range f leads = leads
+      leads_kept _ f leads = leads
+
+  given_none : (k : Capability) → IsGiven s c k → HoldsNone w gates k
+  given_none k x right crosses f leads = ap w (leads_frame k.kind x.kind leads) ∙ by_frame x.frame
+    where
+      leads_frame : (j : Kind) → only kind.Range j ≡ false → LeadsTo j k f → f ≡ k.frame
+      leads_frame kind.Range other l = absurd (true≢false other)
+      leads_frame _ other l = l
+
+      by_frame : InRange s c k.frame ⊎ LedTo s c is_given k.frame → w k.frame ≡ false
+      by_frame (inl r) = range_out k.frame r
+      by_frame (inr l) =
+          let g = given_kind l.cap.kind l.kind in
+          may_out l.cap l.cap.kind k.frame l.may refl g.0 (leads_plain l.cap.kind l.cap k.frame g.1 (sym l.frame))
+
+  pub put_none : (f : ℕ) (k : Capability) → Put s c f k → HoldsNone w gates k
+  put_none f k (node, inl x) = copied_none k x
+  put_none f k (node, inr x) = given_none k x

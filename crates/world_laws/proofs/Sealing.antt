@@ -1,0 +1,78 @@
+-- A sealed world stays sealed through each event but a decision of a core that works inside.
+use Rattle.std.proofs.Common.{◌≡◌, inl, inr, ℕ, Bool, true, false, refl, sym, ◌∙◌}
+use Rattle.std.proofs.lemmas.Bool.{false≢true}
+use Rattle.spk_nums.specs.declared.kinds.Kind.{Kind}
+use Rattle.spk_nums.specs.declared.kinds.Kind.TheVariants as kind
+use Rattle.spk_nums.specs.declared.calls.Call.{Call}
+use Rattle.spk_nums.specs.declared.calls.Call.TheVariants.{Tick}
+use Rattle.spk_nums.specs.declared.replies.Reply.{Reply}
+use Rattle.kernel_rules.specs.State.{State}
+use Rattle.kernel_rules.specs.GracePeriods.{entered, returned}
+use Rattle.kernel_rules.specs.CallRelation.{counted, owed_by, state_by, MayReply}
+use Rattle.kernel_rules.specs.Runs.{after}
+use Rattle.kernel_invariant.proofs.SoundCalls.{IsOpen}
+use Rattle.kernel_invariant.proofs.SoundRuns.{opened}
+use Rattle.world_laws.specs.Worlds.{gates, IsSealed}
+use Rattle.world_laws.specs.Laws.{SealsStay}
+use Rattle.world_laws.proofs.Puts.{decided_put, usable_from}
+use Rattle.world_laws.proofs.Links.{returned_uses}
+use Rattle.world_laws.proofs.Outside.{WorksOutside, range_out, node_out, led_frame, put_none}
+use Rattle.world_laws.proofs.Leaving.{opened_call, outside}
+
+pub sealed_entered : (w : ℕ → Bool) (crosses : Kind → Bool) (s : State) (c : ℕ) → IsSealed w crosses s → IsSealed w crosses (entered s c)
+sealed_entered w crosses s c h = record { places = h.places; comps = h.comps }
+
+pub sealed_returned : (w : ℕ → Bool) (crosses : Kind → Bool) (s : State) (c : ℕ) → IsSealed w crosses s
+    → IsSealed w crosses (returned s c)
+sealed_returned w crosses s c h = record {
+  places = λ f i d k out e. h.places f i d k out (returned_uses s c d (record { node = f; index = i }) k e);
+  comps = h.comps;
+}
+
+-- a refusal
+pub sealed_counted : (w : ℕ → Bool) (crosses : Kind → Bool) (s : State) (c : ℕ) → IsSealed w crosses s → IsSealed w crosses (counted s c)
+sealed_counted w crosses s c h = record { places = h.places; comps = h.comps }
+
+pub sealed_owed : (w : ℕ → Bool) (crosses : Kind → Bool) (s : State) (c : ℕ) (call : Call) → IsSealed w crosses s
+    → IsSealed w crosses (owed_by s c call)
+sealed_owed w crosses s c (Tick n) h = record { places = h.places; comps = h.comps }
+sealed_owed w crosses s c _ h = h
+
+module _ (w : ℕ → Bool) (s : State) (c : ℕ) (o : ℕ → Bool) (h : IsOpen s o c) (out : WorksOutside w s c) (call : Call) (r : Reply)
+    (may : MayReply s c call r) where
+  abbrev t : State
+  t = state_by s c call r
+
+  -- a decision of a core that works outside
+  pub sealed_outside : IsSealed w gates t
+  sealed_outside = record {
+    places = λ f i d k away e. elim (usable_from s c o h call r may f i d k e) [
+      | inl was ↦ out.sealed.places f i d k away was
+      | inr new ↦ put_none w s c out f k new
+    ];
+    comps = λ f k away e. elim ((decided_put s c o h call r may).comp f k e) [
+      | inl was ↦ out.sealed.comps f k away was
+      | inr made ↦ (
+        led_frame w s c out kind.Table k.table refl refl made.1.table,
+        led_frame w s c out kind.Pages k.pages refl refl made.1.pages,
+      )
+    ];
+  }
+
+  -- and what the world holds of the rest stays
+  pub sealed_inside : (u : ℕ → Bool) → ((f : ℕ) → u f ≡ false → w f ≡ true) → IsSealed u gates s → IsSealed u gates t
+  sealed_inside u rest sealed = record {
+    places = λ f i d k away e. elim (usable_from s c o h call r may f i d k e) [
+      | inl was ↦ sealed.places f i d k away was
+      | inr new ↦ absurd (false≢true (sym (node_out w s c out f new.0) ∙ rest f away))
+    ];
+    comps = λ f k away e. elim ((decided_put s c o h call r may).comp f k e) [
+      | inl was ↦ sealed.comps f k away was
+      | inr made ↦ absurd (false≢true (sym (range_out w s c out f made.0) ∙ rest f away))
+    ];
+  }
+
+pub seals_stay : SealsStay
+seals_stay setting lim events c call r run w sealed out =
+    sealed_outside w (after setting events) c (opened events) (opened_call setting lim events c call r run w sealed out)
+    (outside setting lim events c call r run w sealed out) call r run.1.permitted

@@ -1,0 +1,149 @@
+-- Sealed worlds over parts of runs.
+use Rattle.std.proofs.Common.{◌≡◌, ◌⊎◌, inl, inr, ℕ, Bool, true, false, not, refl, ◌∙◌, ap, List, [], ◌∷◌, ◌++◌}
+use Rattle.std.proofs.lemmas.Bool.{true≢false}
+use Rattle.spk_nums.specs.Setting.{Setting, IsSetting}
+use Rattle.spk_nums.specs.declared.calls.Call.{Call}
+use Rattle.spk_nums.specs.declared.calls.Call.TheVariants.{Tick}
+use Rattle.spk_nums.specs.declared.replies.Reply.{Reply}
+use Rattle.spk_nums.specs.declared.replies.Reply.TheVariants as reply
+use Rattle.kernel_rules.specs.State.{State}
+use Rattle.kernel_rules.specs.CallRelation.{owed_by, state_by}
+use Rattle.kernel_rules.specs.Runs.{Event, Enters, Decides, Returns, after, IsRun}
+use Rattle.kernel_invariant.proofs.SoundRuns.{opened}
+use Rattle.world_laws.specs.Worlds.{works_in, lives_at, gates, IsSealed, AreApart}
+use Rattle.world_laws.specs.Laws.{ActsInside, OpenedFromInside, ApartForGood, DiesByItsOwn}
+use Rattle.world_laws.proofs.Leaving.{opened_call, outside, outside_leaves}
+use Rattle.world_laws.proofs.Sealing.{sealed_entered, sealed_returned, sealed_counted, sealed_owed, sealed_outside, sealed_inside, seals_stay}
+
+-- From s to t a world stays sealed, and none of its components dies.
+record Lasts (w : ℕ → Bool) (s t : State) : Type 0 where
+  sealed : IsSealed w gates t
+  life : (f : ℕ) → w f ≡ true → lives_at s f ≡ true → lives_at t f ≡ true
+
+-- An event more after the part.
+more_acts : (setting : Setting) (w : ℕ → Bool) (before later : List Event) (e : Event) → ActsInside setting w before later
+    → ActsInside setting w before (e ∷ later)
+more_acts setting w before later e h = record {
+  since = h.since;
+  more = e ∷ h.more;
+  core = h.core;
+  call = h.call;
+  value = h.value;
+  is_part = ap (λ es. e ∷ es) h.is_part;
+  inside = h.inside;
+}
+
+-- A refusal leaves a world as it was.
+owed_lives : (s : State) (c : ℕ) (call : Call) (f : ℕ) → lives_at (owed_by s c call) f ≡ lives_at s f
+owed_lives s c (Tick n) f = refl
+owed_lives s c _ f = refl
+
+module _ (setting : Setting) (lim : IsSetting setting) (w : ℕ → Bool) (before : List Event)
+    (start : IsSealed w gates (after setting before)) where
+  module _ (c : ℕ) (call : Call) (later : List Event) (h : Lasts w (after setting before) (after setting (later ++ before))) where
+    abbrev s : State
+    s = after setting (later ++ before)
+
+    by_outside : (r : Reply) → IsRun setting (Decides c call r ∷ (later ++ before)) → w (works_in s c) ≡ false
+        → Lasts w (after setting before) (state_by s c call r)
+    by_outside r run out = record {
+      sealed = seals_stay setting lim (later ++ before) c call r run w h.sealed out;
+      life = λ f of lives. (outside_leaves setting lim (later ++ before) c call r run w h.sealed out).life f of ∙ h.life f of lives;
+    }
+
+    by_inside : (r : Reply) → w (works_in s c) ≡ true
+        → Lasts w (after setting before) (state_by s c call r) ⊎ ActsInside setting w before (Decides c call r ∷ later)
+    by_inside (reply.Ok v) inside =
+        inr (record { since = later; more = []; core = c; call = call; value = v; is_part = refl; inside = inside })
+    by_inside reply.CallsSpent inside = inl h
+    by_inside reply.Raced inside = inl (record {
+      sealed = sealed_counted w gates (owed_by s c call) c (sealed_owed w gates s c call h.sealed);
+      life = λ f of lives. owed_lives s c call f ∙ h.life f of lives;
+    })
+    by_inside (reply.Busy d) inside = inl (record {
+      sealed = sealed_counted w gates (owed_by s c call) c (sealed_owed w gates s c call h.sealed);
+      life = λ f of lives. owed_lives s c call f ∙ h.life f of lives;
+    })
+    by_inside _ inside = inl (record { sealed = sealed_counted w gates s c h.sealed; life = h.life })
+
+    by_side : (r : Reply) → IsRun setting (Decides c call r ∷ (later ++ before)) → (b : Bool) → w (works_in s c) ≡ b
+        → Lasts w (after setting before) (state_by s c call r) ⊎ ActsInside setting w before (Decides c call r ∷ later)
+    by_side r run true is = by_inside r is
+    by_side r run false is = inl (by_outside r run is)
+
+  part_of : (later : List Event) → IsRun setting (later ++ before)
+      → Lasts w (after setting before) (after setting (later ++ before)) ⊎ ActsInside setting w before later
+  part_of [] run = inl (record { sealed = start; life = λ f of lives. lives })
+  part_of (Enters c call ∷ later) run = elim (part_of later run.0) [
+    | inl h ↦ inl (record { sealed = sealed_entered w gates (after setting (later ++ before)) c h.sealed; life = h.life })
+    | inr acts ↦ inr (more_acts setting w before later (Enters c call) acts)
+  ]
+  part_of (Returns c ∷ later) run = elim (part_of later run.0) [
+    | inl h ↦ inl (record { sealed = sealed_returned w gates (after setting (later ++ before)) c h.sealed; life = h.life })
+    | inr acts ↦ inr (more_acts setting w before later (Returns c) acts)
+  ]
+  part_of (Decides c call r ∷ later) run = elim (part_of later run.0) [
+    | inl h ↦ by_side c call later h r run (w (works_in (after setting (later ++ before)) c)) refl
+    | inr acts ↦ inr (more_acts setting w before later (Decides c call r) acts)
+  ]
+
+pub opened_from_inside : OpenedFromInside
+opened_from_inside setting lim before later run w sealed = elim (part_of setting lim w before sealed later run) [
+  | inl h ↦ inl h.sealed
+  | inr acts ↦ inr acts
+]
+
+pub dies_by_its_own : DiesByItsOwn
+dies_by_its_own setting lim before later run w sealed f of lives = elim (part_of setting lim w before sealed later run) [
+  | inl h ↦ inl (h.life f of lives)
+  | inr acts ↦ inr acts
+]
+
+-- ---- two worlds
+
+not_false : (b : Bool) → not b ≡ false → b ≡ true
+not_false true e = refl
+not_false false e = absurd (true≢false e)
+
+module _ (setting : Setting) (lim : IsSetting setting) (events : List Event) (c : ℕ) (call : Call) (r : Reply)
+    (run : IsRun setting (Decides c call r ∷ events)) where
+  abbrev now : State
+  now = after setting events
+
+  -- a core works in v, and not in u, which is the rest
+  by_rest : (u v : ℕ → Bool) → ((f : ℕ) → v f ≡ false → u f ≡ true) → u (works_in now c) ≡ false
+      → IsSealed u gates now → IsSealed v gates now
+      → IsSealed u gates (after setting (Decides c call r ∷ events)) × IsSealed v gates (after setting (Decides c call r ∷ events))
+  by_rest u v rest out inner outer =
+      let open_call = opened_call setting lim events c call r run u inner out in
+      let works = outside setting lim events c call r run u inner out in (
+        sealed_outside u now c (opened events) open_call works call r run.1.permitted,
+        sealed_inside u now c (opened events) open_call works call r run.1.permitted v rest outer,
+      )
+
+  decided_apart : (w : ℕ → Bool) → AreApart w now → (b : Bool) → w (works_in now c) ≡ b
+      → AreApart w (after setting (Decides c call r ∷ events))
+  decided_apart w h false is =
+      let p = by_rest w (λ f. not (w f)) (λ f e. not_false (w f) e) is h.inside h.outside in
+      record { inside = p.0; outside = p.1 }
+  decided_apart w h true is =
+      let p = by_rest (λ f. not (w f)) w (λ f e. ap not e) (ap not is) h.outside h.inside in
+      record { inside = p.1; outside = p.0 }
+
+pub apart_for_good : ApartForGood
+apart_for_good setting lim before [] run w h = h
+apart_for_good setting lim before (Enters c call ∷ later) run w h =
+    let a = apart_for_good setting lim before later run.0 w h in
+    record {
+      inside = sealed_entered w gates (after setting (later ++ before)) c a.inside;
+      outside = sealed_entered (λ f. not (w f)) gates (after setting (later ++ before)) c a.outside;
+    }
+apart_for_good setting lim before (Returns c ∷ later) run w h =
+    let a = apart_for_good setting lim before later run.0 w h in
+    record {
+      inside = sealed_returned w gates (after setting (later ++ before)) c a.inside;
+      outside = sealed_returned (λ f. not (w f)) gates (after setting (later ++ before)) c a.outside;
+    }
+apart_for_good setting lim before (Decides c call r ∷ later) run w h =
+    decided_apart setting lim (later ++ before) c call r run w (apart_for_good setting lim before later run.0 w h)
+    (w (works_in (after setting (later ++ before)) c)) refl
