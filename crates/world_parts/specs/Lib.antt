@@ -1,0 +1,4 @@
+pub mod Holding
+pub mod Finest
+pub mod Partitions
+pub mod Sealing
