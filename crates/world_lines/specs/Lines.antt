@@ -77,9 +77,9 @@ range_words r x = if x.world == r then word x.first ++ word x.count else []
 -- The line of the world that begins at frame r: its frames, the cores that work in it, and its ranges.
 abbrev pub world_line : State → (ℕ → ℕ) → ℕ → List ℕ
 world_line s world r = if is_told s world r then
-      codes "world " ++ (decimal (number_at s world r) ++ (codes " frames" ++ (those (λ f. world f == r) s.limits.frames
-      ++ (codes " cores" ++ (none_if_empty (those (λ c. world (works_in s c) == r) s.limits.cores)
-      ++ (codes " memory" ++ (none_if_empty (flat_map (range_words r) (ranges_of s world)) ++ codes "\n")))))))
+    codes "world " ++ (decimal (number_at s world r) ++ (codes " frames" ++ (those (λ f. world f == r) s.limits.frames
+    ++ (codes " cores" ++ (none_if_empty (those (λ c. world (works_in s c) == r) s.limits.cores)
+    ++ (codes " memory" ++ (none_if_empty (flat_map (range_words r) (ranges_of s world)) ++ codes "\n")))))))
     else []
 
 -- The line of a gate that place i of node f holds, where its component is of another world.

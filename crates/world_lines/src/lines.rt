@@ -66,11 +66,7 @@ fn push_cores(
 }
 
 /// Appends the ranges of a world.
-fn push_ranges(
-    text: &mut String,
-    ranges: &[WorldRange],
-    world: FrameNo,
-) -> Result<(), AllocError> {
+fn push_ranges(text: &mut String, ranges: &[WorldRange], world: FrameNo) -> Result<(), AllocError> {
     if !has_range(ranges, world) {
         return text.push_str(" none");
     }
@@ -115,5 +111,8 @@ pub fn push_gate(
     }
     let from = table.number(node);
     let to = table.number(frame);
-    write!(text, "gate {node} {entry} world {from} to {to} frame {frame}\n")
+    write!(
+        text,
+        "gate {node} {entry} world {from} to {to} frame {frame}\n"
+    )
 }

@@ -1,5 +1,8 @@
 //! The lines of all worlds and gates.
 
+ghost use Rattle.std.specs.Prelude.{OnOk, string_bytes};
+ghost use Rattle.world_lines.specs.Telling.{TellsWorlds};
+
 use crate::lines::{push_gate, push_world};
 use crate::ranges::held_in;
 use crate::table::WorldTable;
@@ -74,7 +77,9 @@ fn push_all_gates(text: &mut String, k: &SeqKernel, table: &WorldTable) -> Resul
 
 /// Appends a line for each world of the machine, in the order of their least frames, and for each gate to another world, by ascending frame
 /// and index. It fails only where memory runs out; the text may then have a part of them.
-pub fn push_worlds(alloc: Global, text: &mut String, k: &SeqKernel) -> Result<(), Memory> {
+pub fn push_worlds(alloc: Global, text: &mut String, k: &SeqKernel) -> Result<(), Memory>
+    ensures { OnOk result (TellsWorlds k.now (string_bytes text.old) (string_bytes text.new)) }
+{
     let table = WorldTable::of(alloc, k)?;
     push_all_worlds(text, k, &table)?;
     push_all_gates(text, k, &table)?;

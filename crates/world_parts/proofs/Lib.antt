@@ -1,0 +1,7 @@
+pub mod Reached
+pub mod Leads
+pub mod Frees
+pub mod Seals
+pub mod Joining
+pub mod Steps
+pub mod FinestLaw

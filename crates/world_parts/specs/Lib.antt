@@ -1,4 +1,5 @@
 pub mod Holding
-pub mod Finest
-pub mod Partitions
 pub mod Sealing
+pub mod Partitions
+pub mod Led
+pub mod Finest

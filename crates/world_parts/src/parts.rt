@@ -1,7 +1,8 @@
 //! Partitions of a machine's frames: each frame has the least frame of its world.
 
-ghost use Rattle.std.specs.Prelude.{◌≡◌, ◌<◌, ◌==◌, ◌×◌, if◌then◌else◌, ℕ};
-ghost use Rattle.world_parts.specs.Partitions.{world_in, JoinsBy};
+ghost use Rattle.std.specs.Prelude.{◌≡◌, ◌<◌, ℕ, Some, length, slice_get};
+ghost use Rattle.std.specs.Option.{option_map};
+ghost use Rattle.world_parts.specs.Partitions.{world_in, moved, JoinsBy};
 
 use spk_nums::FrameNo;
 use std::marker::Model;
@@ -14,13 +15,41 @@ pub struct Parts {
 
 impl Model for Parts {
     ghost use Rattle.std.specs.Prelude.{ℕ, List};
-    ghost use Rattle.world_parts.specs.Partitions.{IsPartition};
+    ghost use Rattle.world_parts.specs.Partitions.{IsParts};
 
     ghost Value = { List ℕ };
 
     ghost view = { λ p. p.least };
 
-    ghost invariant = { IsPartition };
+    ghost invariant = { λ p. IsParts p.least };
+}
+
+/// The numbers from 0 to 511.
+fn numbers() -> [u16; 512]
+    ensures { (f : ℕ) → f < 512 → slice_get result f ≡ Some f }
+{
+    let mut numbers = [0; 512];
+    'numbers: for number in 0..512u16 {
+        numbers[usize::from(number)] = number;
+    }
+    numbers
+}
+
+/// One number for another, and all others as they are.
+fn moved(number: u16, from: u16, to: u16) -> u16
+    ensures { result ≡ moved from to number }
+{
+    if number == from { to } else { number }
+}
+
+/// Puts one number in place of another wherever that stands.
+fn move_all(least: &mut [u16; 512], from: u16, to: u16)
+    ensures size { length least.new ≡ 512 }
+    ensures moves { (f : ℕ) → slice_get least.new f ≡ option_map (moved from to) (slice_get least.old f) }
+{
+    'frames: for frame in 0..512usize {
+        least[frame] = moved(least[frame], from, to);
+    }
 }
 
 impl Parts {
@@ -28,35 +57,20 @@ impl Parts {
     pub fn alone() -> Parts
         ensures { (f : ℕ) → world_in result f ≡ f }
     {
-        let mut least = [0; 512];
-        'frames: for frame in 0..512u16 {
-            least[usize::from(frame)] = frame;
-        }
-        Parts { least }
+        Parts { least: numbers() }
     }
 
     /// The least frame of a frame's world.
     pub fn world(&self, frame: FrameNo) -> FrameNo
         ensures { result ≡ world_in self.now frame }
     {
-        let number = frame.number();
-        if number < 512 {
-            FrameNo::new(self.least[usize::from(number)])
-        } else {
-            frame
+        match self.least.get(usize::from(frame.number())) {
+            Some(first) => FrameNo::new(*first),
+            None => frame,
         }
     }
 
-    /// All frames of one world go over to another.
-    fn move_all(&mut self, from: u16, to: u16) {
-        'frames: for frame in 0..512u16 {
-            if self.least[usize::from(frame)] == from {
-                self.least[usize::from(frame)] = to;
-            }
-        }
-    }
-
-    /// The worlds of two frames below 512 are one. A frame past these stays alone.
+    /// The worlds of two frames below 512 become one. Where one is past these, nothing is done.
     pub fn join(&mut self, one: FrameNo, other: FrameNo)
         ensures { JoinsBy (λ f g. (f ≡ one) × (g ≡ other)) self.old self.new }
     {
@@ -66,10 +80,11 @@ impl Parts {
         let first = self.world(one).number();
         let second = self.world(other).number();
         if first < second {
-            self.move_all(second, first);
+            move_all(&mut self.least, second, first);
+            return;
         }
         if second < first {
-            self.move_all(first, second);
+            move_all(&mut self.least, first, second);
         }
     }
 }

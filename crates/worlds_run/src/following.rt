@@ -1,5 +1,12 @@
 //! The plain kernel, as a watcher of steps.
 
+ghost use Rattle.std.specs.Prelude.{◌≡◌, ◌∷◌, [], OnOk, IfOk, nat_lt};
+ghost use Rattle.spk_nums.specs.CallLimits.{InLimits};
+ghost use Rattle.spk_nums.specs.declared.calls.Call.{Call};
+ghost use Rattle.told_run.specs.lone_kernel.specs.kernel_rules.specs.Runs.{Enters, Decides, Returns};
+ghost use Rattle.seq_state.specs.Maps.{state_of};
+ghost use Rattle.worlds_run.specs.Followed.{Takes, EntersBy, DecidesOpen, DecidesBy, LeavesBy, IsAfter};
+
 use call_judge::decide_by;
 use seq_state::SeqKernel;
 use spk_nums::{Call, CoreNo, Memory, Reply, Setup, in_limits};
@@ -23,9 +30,53 @@ impl Model for Following {
     ghost view = { λ w. record { kernel = w.kernel; opened = w.opened } };
 }
 
+/// Whether the machine has a core.
+fn has(kernel: &SeqKernel, core: CoreNo) -> bool
+    ensures { result ≡ nat_lt core (state_of kernel.now).limits.cores }
+{
+    core.number() < kernel.cores()
+}
+
+/// Takes the next event of a run: that a core enters a call.
+fn enter(kernel: &mut SeqKernel, core: CoreNo)
+    ensures { (call : Call) → Takes kernel.old (Enters core call) kernel.new }
+{
+    if has(kernel, core) {
+        kernel.enter(core);
+    }
+}
+
+/// Takes the next event of a run: that the call of a core is decided with this reply.
+fn decide(
+    alloc: Global,
+    kernel: &mut SeqKernel,
+    core: CoreNo,
+    call: &Call,
+    reply: &Reply,
+) -> Result<(), Memory>
+    requires { InLimits call.now }
+    ensures { OnOk result (Takes kernel.old (Decides core call.now reply.now) kernel.new) }
+{
+    if has(kernel, core) {
+        decide_by(alloc, kernel, core, call, reply)?;
+    }
+    Ok(())
+}
+
+/// Takes the next event of a run: that a core returns from its call.
+fn leave(kernel: &mut SeqKernel, core: CoreNo)
+    ensures { Takes kernel.old (Returns core) kernel.new }
+{
+    if has(kernel, core) {
+        kernel.leave(core);
+    }
+}
+
 impl Following {
     /// Before the first step. It fails only where memory runs out.
-    pub fn start(alloc: Global, setup: &Setup) -> Result<Following, Memory> {
+    pub fn start(alloc: Global, setup: &Setup) -> Result<Following, Memory>
+        ensures { IfOk result (λ w. IsAfter setup.now [] w) }
+    {
         let kernel = SeqKernel::start(alloc, setup)?;
         Ok(Following {
             kernel,
@@ -35,30 +86,31 @@ impl Following {
     }
 
     /// The kernel.
-    pub fn kernel(&self) -> &SeqKernel {
+    pub fn kernel(&self) -> &SeqKernel
+        ensures { result.now ≡ self.now.kernel }
+    {
         &self.kernel
     }
 
-    /// Whether the machine has a core.
-    fn has(&self, core: CoreNo) -> bool {
-        core.number() < self.kernel.cores()
-    }
-
     /// A core enters a call, if it does.
-    fn enter(&mut self, core: CoreNo, enters: &Option<Call>) {
+    fn enter(&mut self, core: CoreNo, enters: &Option<Call>)
+        ensures { EntersBy self.old core enters.now self.new }
+    {
         if let Some(call) = enters {
-            self.kernel.enter(core);
+            enter(&mut self.kernel, core);
             self.opened[usize::from(core.number())] = Some(*call);
         }
     }
 
     /// The open call of a core is decided.
-    fn decide_open(&mut self, core: CoreNo, call: &Call, reply: &Reply) -> Result<(), AllocError> {
+    fn decide_open(&mut self, core: CoreNo, call: &Call, reply: &Reply) -> Result<(), AllocError>
+        ensures { OnOk result (DecidesOpen self.old core call.now reply.now self.new) }
+    {
         if !in_limits(call) {
             return Ok(());
         }
-        match decide_by(self.alloc, &mut self.kernel, core, call, reply) {
-            Ok(_) => {}
+        match decide(self.alloc, &mut self.kernel, core, call, reply) {
+            Ok(()) => {}
             Err(_) => return Err(AllocError),
         }
         self.opened[usize::from(core.number())] = None;
@@ -66,7 +118,9 @@ impl Following {
     }
 
     /// The call of a core is decided, if it is.
-    fn decide(&mut self, core: CoreNo, decides: &Option<Reply>) -> Result<(), AllocError> {
+    fn decide(&mut self, core: CoreNo, decides: &Option<Reply>) -> Result<(), AllocError>
+        ensures { OnOk result (DecidesBy self.old core decides.now self.new) }
+    {
         let Some(reply) = decides else {
             return Ok(());
         };
@@ -77,9 +131,11 @@ impl Following {
     }
 
     /// A core returns from its call, if it does.
-    fn leave(&mut self, core: CoreNo, returns: &Option<Reply>) {
+    fn leave(&mut self, core: CoreNo, returns: &Option<Reply>)
+        ensures { LeavesBy self.old core returns.now self.new }
+    {
         if let Some(_) = returns {
-            self.kernel.leave(core);
+            leave(&mut self.kernel, core);
             self.opened[usize::from(core.number())] = None;
         }
     }
@@ -92,9 +148,6 @@ impl Watcher for Following {
 
     fn tell(&mut self, made: &StepMade) -> Result<(), AllocError> {
         let core = made.view.core;
-        if !self.has(core) {
-            return Ok(());
-        }
         self.enter(core, &made.view.enters);
         self.decide(core, &made.decides)?;
         self.leave(core, &made.returns);

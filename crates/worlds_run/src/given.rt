@@ -1,5 +1,9 @@
 //! Lists and an order, as the worlds of the machine that are then apart.
 
+ghost use Rattle.std.specs.Prelude.{◌≡◌, ◌<◌, IfOk, All, map, length, string_bytes};
+ghost use Rattle.told_run.specs.lone_kernel.specs.Machine.{AreLists};
+ghost use Rattle.worlds_run.specs.GivenWorlds.{GivenWorlds};
+
 use crate::following::Following;
 use spk_nums::{Call, Item, Memory, Setup};
 use std::alloc::Global;
@@ -18,6 +22,7 @@ pub fn worlds(
     requires can_run { AreLists (map (λ v. v.items) lists.items) }
     requires one_each { length lists.items ≡ setup.now.cores }
     requires named { All (λ item. item.core < setup.now.cores) items.now }
+    ensures { IfOk result (λ text. GivenWorlds setup.now (map (λ v. v.items) lists.items) items.now (string_bytes text)) }
 {
     let mut following = Following::start(alloc, setup)?;
     watch(alloc, setup, lists, items, &mut following)?;
