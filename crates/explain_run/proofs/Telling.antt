@@ -8,9 +8,11 @@ use Rattle.line_forms.specs.declared.context.Reading.{Reading}
 use Rattle.fault_texts.specs.Told.{fault_text}
 use Rattle.explain_run.specs.Explained.{accepted_text, IsAccepted, IsTold}
 
-pub read_told : {I : Type 0} (read : Result I First_fault) (input : I) (r : Reading) (source text : List ℕ) → read ≡ Ok input
-    → text ≡ accepted_text r → IsTold read (IsAccepted r) r source text
-read_told read input r source text is told = inl record { input = input; is_input = is; tells = told }
+pub read_told : {I E : Type 0} (read : Result I First_fault) (input : I) (r : Reading) (source : List ℕ) (res : Result (String Global) E)
+    → read ≡ Ok input → IfOk res (λ t. string_bytes t ≡ accepted_text r)
+    → IfOk res (λ t. IsTold read (IsAccepted r) r source (string_bytes t))
+read_told read input r source (Ok t) is told = inl record { input = input; is_input = is; tells = told }
+read_told read input r source (Err e) is told = tt
 
 pub refusal_told : {I E : Type 0} (read : Result I First_fault) (Tells : I → List ℕ → Type 0) (r : Reading) (source : List ℕ)
     (line : ℕ) (cause : Cause) (res : Result (String Global) E) → read ≡ Err (record { line = line; cause = cause })

@@ -28,52 +28,52 @@ fn accepted(alloc: Global, reading: Reading) -> Result<String, AllocError>
     )
 }
 
-fn explain_script(alloc: Global, source: &[u8]) -> Result<String, ReadFault>
+fn explain_script(alloc: Global, source: &[u8]) -> Result<String, AllocError>
     requires { length source.now < 2 ^ 32 }
     ensures { IfOk result (λ text. IsExplained reading.Script source.now (string_bytes text)) }
 {
     match read(alloc, source) {
-        Ok(_) => Ok(accepted(alloc, Reading::Script)?),
-        Err(ReadFault::Memory) => Err(ReadFault::Memory),
+        Ok(_script) => accepted(alloc, Reading::Script),
+        Err(ReadFault::Memory) => Err(AllocError),
         Err(ReadFault::Script { line, cause }) => {
             explain_fault(alloc, Reading::Script, source, line, cause)
         }
     }
 }
 
-fn explain_ends(alloc: Global, source: &[u8]) -> Result<String, ReadFault>
+fn explain_ends(alloc: Global, source: &[u8]) -> Result<String, AllocError>
     requires { length source.now < 2 ^ 32 }
     ensures { IfOk result (λ text. IsExplained reading.Ends source.now (string_bytes text)) }
 {
     match read_ends(alloc, source) {
-        Ok(_) => Ok(accepted(alloc, Reading::Ends)?),
-        Err(ReadFault::Memory) => Err(ReadFault::Memory),
+        Ok(_input) => accepted(alloc, Reading::Ends),
+        Err(ReadFault::Memory) => Err(AllocError),
         Err(ReadFault::Script { line, cause }) => {
             explain_fault(alloc, Reading::Ends, source, line, cause)
         }
     }
 }
 
-fn explain_sched(alloc: Global, source: &[u8]) -> Result<String, ReadFault>
+fn explain_sched(alloc: Global, source: &[u8]) -> Result<String, AllocError>
     requires { length source.now < 2 ^ 32 }
     ensures { IfOk result (λ text. IsExplained reading.Sched source.now (string_bytes text)) }
 {
     match read_sched(alloc, source) {
-        Ok(_) => Ok(accepted(alloc, Reading::Sched)?),
-        Err(ReadFault::Memory) => Err(ReadFault::Memory),
+        Ok(_input) => accepted(alloc, Reading::Sched),
+        Err(ReadFault::Memory) => Err(AllocError),
         Err(ReadFault::Script { line, cause }) => {
             explain_fault(alloc, Reading::Sched, source, line, cause)
         }
     }
 }
 
-fn explain_history(alloc: Global, source: &[u8]) -> Result<String, ReadFault>
+fn explain_history(alloc: Global, source: &[u8]) -> Result<String, AllocError>
     requires { length source.now < 2 ^ 32 }
     ensures { IfOk result (λ text. IsExplained reading.History source.now (string_bytes text)) }
 {
     match check(alloc, source) {
         Ok(text) => Ok(text),
-        Err(ReadFault::Memory) => Err(ReadFault::Memory),
+        Err(ReadFault::Memory) => Err(AllocError),
         Err(ReadFault::Script { line, cause }) => {
             explain_fault(alloc, Reading::History, source, line, cause)
         }
@@ -82,7 +82,7 @@ fn explain_history(alloc: Global, source: &[u8]) -> Result<String, ReadFault>
 
 /// What is told of fewer than 2^32 bytes that a command would read: that they are read, or of their first fault what to do; of a given
 /// history the verdict. It fails only where memory runs out.
-pub fn explain(alloc: Global, reading: Reading, source: &[u8]) -> Result<String, ReadFault>
+pub fn explain(alloc: Global, reading: Reading, source: &[u8]) -> Result<String, AllocError>
     requires { length source.now < 2 ^ 32 }
     ensures { IfOk result (λ text. IsExplained reading source.now (string_bytes text)) }
 {

@@ -1,10 +1,18 @@
 -- Texts of words appended one after another.
-use Rattle.std.proofs.Common.{◌≡◌, ℕ, suc, ◌+◌, ◌<◌, ◌≤◌, List, ◌++◌, length, drop, get_or, append_assoc, append-nil, sym, ◌∙◌, ap, arith}
+use Rattle.std.proofs.Common.{◌≡◌, ℕ, suc, ◌+◌, ◌<◌, ◌≤◌, List, ◌++◌, length, drop, get_or, append_assoc, append-nil, sym, ◌∙◌, ap, subst, arith}
+use Rattle.std.proofs.Common.{OnOk, Result, Ok, Err}
 use Rattle.std.specs.Prelude.{codes}
 use Rattle.std.proofs.lemmas.List.{drop_more, drop_all}
 use Rattle.script_tokens.specs.declared.token.Token.{Token}
 use Rattle.line_reader.specs.Arguments.{texts}
+use Rattle.line_reader.specs.declared.cause.Cause.{Cause}
+use Rattle.line_forms.specs.declared.context.Context.{Context}
+use Rattle.line_forms.specs.declared.slots.Slot.{Slot}
+use Rattle.fault_texts.specs.declared.notes.Note.{Note}
+use Rattle.fault_texts.specs.Places.{place_of, slot_of}
+use Rattle.fault_texts.specs.Notes.{note_of}
 use Rattle.fault_texts.specs.Pieces.{spaced_text, words_text, blank_text, blanks_text, blanks}
+use Rattle.fault_texts.specs.Pieces.{at_text, due_line, forms_text, fault_at_text, fault_line_text}
 
 pub words_more : (ts : List Token) (n : ℕ) (d : Token) (all old new : List ℕ) → n < length ts
     → all ++ words_text (texts (drop n ts)) ≡ old → new ≡ all ++ spaced_text (get_or ts n d).text.now
@@ -36,3 +44,24 @@ space_more n old all new before push =
     let next : suc n ≡ n + 1 = omega arith in
     push ∙ ap (λ (x : List ℕ). x ++ codes " ") before ∙ append_assoc old (blanks n) (codes " ")
     ∙ ap (λ (k : ℕ). old ++ blanks k) next
+
+-- three texts, one after another
+pub thrice : {A E : Type 0} (r : Result A E) (t0 t1 t2 t3 a b b' c c' : List ℕ) → t1 ≡ t0 ++ a → t2 ≡ t1 ++ b → b ≡ b' → c ≡ c'
+    → OnOk r (t3 ≡ t2 ++ c) → OnOk r (t3 ≡ t0 ++ ((a ++ b') ++ c'))
+thrice (Ok x) t0 t1 t2 t3 a b b' c c' p q eb ec f =
+    f ∙ ap (λ (x : List ℕ). x ++ c) (q ∙ ap (λ (x : List ℕ). x ++ b) p) ∙ ap (λ (x : List ℕ). ((t0 ++ a) ++ x) ++ c) eb
+    ∙ ap (λ (x : List ℕ). ((t0 ++ a) ++ b') ++ x) ec ∙ ap (λ (x : List ℕ). x ++ c') (append_assoc t0 a b') ∙ append_assoc t0 (a ++ b') c'
+thrice (Err e) t0 t1 t2 t3 a b b' c c' p q eb ec f = tt
+
+-- what is told of a fault of a line, one piece after another
+pub fault_told : {A E : Type 0} (r : Result A E) (context : Context) (words : List (List ℕ)) (cause : Cause) (place : ℕ) (slot : Slot)
+    (note : Note) (t0 t1 t2 t3 : List ℕ) → place ≡ place_of context words cause → slot ≡ slot_of context words place cause
+    → note ≡ note_of context words place cause → t1 ≡ t0 ++ at_text words place
+    → t2 ≡ t1 ++ due_line context.reading context.stage slot → OnOk r (t3 ≡ t2 ++ forms_text context words note)
+    → OnOk r (t3 ≡ t0 ++ fault_line_text context words cause)
+fault_told r context words cause place slot note t0 t1 t2 t3 ep es en p q f =
+    subst (λ (x : ℕ). OnOk r (t3 ≡ t0 ++ fault_at_text context words cause x)) ep
+    (thrice r t0 t1 t2 t3 (at_text words place) (due_line context.reading context.stage slot)
+    (due_line context.reading context.stage (slot_of context words place cause)) (forms_text context words note)
+    (forms_text context words (note_of context words place cause)) p q
+    (ap (λ (s : Slot). due_line context.reading context.stage s) es) (ap (λ (n : Note). forms_text context words n) en) f)

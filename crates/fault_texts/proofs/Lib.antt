@@ -2,3 +2,4 @@ pub mod Appended
 pub mod BadBytes
 pub mod Misfits
 pub mod Telling
+pub mod Under

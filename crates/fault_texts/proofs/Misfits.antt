@@ -11,7 +11,10 @@ use Rattle.fault_texts.specs.Places.{misfit_from, first_misfit}
 cut : (ts : List Token) (at : ℕ) → at < length ts → (t : Token) × (drop at ts ≡ t ∷ drop (at + 1) ts)
 cut [] at low = absurd (omega (arith, low))
 cut (t ∷ ts) zero low = (t, refl)
-cut (t ∷ ts) (suc at) low = cut ts at (omega (arith, low))
+cut (t ∷ ts) (suc at) low =
+    let rest = cut ts at (omega (arith, low)) in
+    let next : suc at + 1 ≡ suc (at + 1) = omega arith in
+    (rest.0, rest.1 ∙ ap (λ (k : ℕ). rest.0 ∷ drop k (t ∷ ts)) (sym next))
 
 module _ (context : Context) (words : List Token) (at : ℕ) where
   from : List Token → ℕ

@@ -1,16 +1,27 @@
 -- The text of a fault is that of what its lines tell.
-use Rattle.std.proofs.Common.{◌≡◌, ℕ, List, ◌++◌, Result, Ok, sym, ◌∙◌, ap}
+use Rattle.std.proofs.Common.{◌≡◌, ℕ, List, ◌++◌, IfOk, Result, Ok, Err, refl, sym, ◌∙◌, ap}
+use Rattle.std.specs.Prelude.{String, string_bytes}
+use Rattle.std.specs.Global.{Global}
 use Rattle.script_tokens.specs.Words.{words_of}
 use Rattle.line_reader.specs.declared.cause.Cause.{Cause}
 use Rattle.line_reader.specs.Lines.{First_fault, rows_of, lines_from}
 use Rattle.line_forms.specs.declared.context.Reading.{Reading}
 use Rattle.fault_texts.specs.Found.{Found, no_found, find_step}
-use Rattle.fault_texts.specs.Told.{head_text, found_body, body_text, fault_text}
+use Rattle.fault_texts.specs.Told.{head_text, found_body, body_text, rest_text, fault_text}
 
-pub told_is : (reading : Reading) (source : List ℕ) (line : ℕ) (cause : Cause) (start d : Found) (text : List ℕ)
-    → start ≡ no_found reading line cause → lines_from find_step start (rows_of (words_of source)) ≡ Ok d
-    → text ≡ head_text line cause ++ found_body source d → text ≡ fault_text reading source line cause
+pub told_is : {E : Type 0} (reading : Reading) (source : List ℕ) (line : ℕ) (cause : Cause) (start d : Found)
+    (res : Result (String Global) E) → start ≡ no_found reading line cause
+    → lines_from find_step start (rows_of (words_of source)) ≡ Ok d
+    → IfOk res (λ t. string_bytes t ≡ head_text line cause ++ found_body source d)
+    → IfOk res (λ t. string_bytes t ≡ fault_text reading source line cause)
 unfolding fault_text
-told_is reading source line cause start d text is found told =
+told_is reading source line cause start d (Ok t) is found told =
     told ∙ ap (λ (r : Result Found First_fault). head_text line cause ++ body_text source r)
     (sym found ∙ ap (λ (s : Found). lines_from find_step s (rows_of (words_of source))) is)
+told_is reading source line cause start d (Err e) is found told = tt
+
+-- It begins with the line of the fault.
+pub begins : (reading : Reading) (source : List ℕ) (line : ℕ) (cause : Cause)
+    → fault_text reading source line cause ≡ head_text line cause ++ rest_text reading source line cause
+unfolding fault_text
+begins reading source line cause = refl

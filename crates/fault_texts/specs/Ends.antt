@@ -13,8 +13,9 @@ use Rattle.fault_texts.specs.Pieces.{due_line}
 -- a byte that may not stand in a text
 abbrev pub byte_text : Option BadByte → List ℕ
 byte_text None = []
-byte_text (Some bad) = codes "byte " ++ decimal bad.column ++ codes " of the line is " ++ decimal bad.byte
-    ++ codes "\nhere may stand: a tab, 32 to 126, a carriage return right before a line feed\n"
+byte_text (Some bad) =
+    codes "byte " ++ (decimal bad.column ++ (codes " of the line is " ++ (decimal bad.byte
+    ++ codes "\nhere may stand: a tab, 32 to 126, a carriage return right before a line feed\n")))
 
 -- the end of a text that may not end there
 abbrev pub end_text : Context → List ℕ

@@ -10,9 +10,11 @@
 mod bytes;
 mod ends;
 mod finder;
+mod marks;
 mod notes;
 mod pieces;
 mod places;
 mod told;
 
+pub use marks::marks_stand_under;
 pub use told::explain_fault;

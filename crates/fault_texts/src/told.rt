@@ -7,7 +7,7 @@ ghost use Rattle.fault_texts.specs.Told.{head_text, found_body, fault_text};
 use crate::ends::push_wordless;
 use crate::finder::{Finder, no_found};
 use line_forms::Reading;
-use line_reader::{Cause, ReadFault, read_lines};
+use line_reader::{Cause, read_lines};
 use std::alloc::{AllocError, Global};
 
 // Appends what to do: of the line of the fault, or of a fault without words.
@@ -46,12 +46,13 @@ pub fn explain_fault(
     source: &[u8],
     line: u32,
     cause: Cause,
-) -> Result<String, ReadFault>
+) -> Result<String, AllocError>
     requires { length source.now < 2 ^ 32 }
     ensures { IfOk result (λ text. string_bytes text ≡ fault_text reading source.now line cause) }
 {
     let mut finder = no_found(alloc, reading, line, cause);
-    read_lines(alloc, &mut finder, source)?;
-    let text = told(alloc, source, line, cause, &finder)?;
-    Ok(text)
+    match read_lines(alloc, &mut finder, source) {
+        Ok(_) => told(alloc, source, line, cause, &finder),
+        Err(_) => Err(AllocError),
+    }
 }

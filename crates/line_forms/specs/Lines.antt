@@ -1,5 +1,5 @@
 -- What may stand at each place of a line.
-use Rattle.std.specs.Prelude.{ℕ, ◌+◌, ◌*◌, ◌-◌, ◌==◌, not, nat_le, nat_lt, List, [], ◌∷◌, drop, Bool, true, false, Option, Some, None}
+use Rattle.std.specs.Prelude.{ℕ, ◌+◌, ◌*◌, ◌-◌, ◌==◌, not, nat_le, nat_lt, List, [], ◌∷◌, length, drop, Bool, true, false, Option, Some, None}
 use Rattle.std.specs.Prelude.{codes, if◌then◌else◌}
 use Rattle.line_reader.specs.Arguments.{is_word}
 use Rattle.call_reader.specs.declared.first_words.FirstWord.{FirstWord}
@@ -36,10 +36,10 @@ grant_slot place =
     else (if place == 2 then Number 0 63
     else number_then place 3 1 16777215)
 
--- the most cores of a script
-abbrev pub cores_most : Reading → ℕ
-cores_most reading.Sched = 1
-cores_most _ = 8
+-- the most cores of a script; that one with tasks has one core is judged last, after a word too many
+abbrev pub cores_most : Reading → List (List ℕ) → ℕ
+cores_most reading.Sched words = if nat_le (length words) 2 then 1 else 8
+cores_most _ words = 8
 
 -- the least frames of a script
 abbrev pub least_frames : ℕ → ℕ
@@ -48,7 +48,7 @@ least_frames cores = 4 + 2 * cores
 -- a line of a script, from place 1 on
 abbrev pub head_slot : Context → FirstWord → List (List ℕ) → ℕ → Slot
 head_slot context first.Speck words place = number_then place 1 1 2
-head_slot context first.Cores words place = number_then place 1 1 (cores_most context.reading)
+head_slot context first.Cores words place = number_then place 1 1 (cores_most context.reading words)
 head_slot context first.Frames words place = number_then place 1 (least_frames context.cores) 512
 head_slot context first.Grant words place = grant_slot place
 head_slot context first.Calls words place = number_then place 1 0 4194304

@@ -58,12 +58,12 @@ fn grant_slot(place: usize) -> Slot
     }
 }
 
-// The most cores of a script.
-fn cores_most(reading: Reading) -> u64
-    ensures { result ≡ cores_most reading }
+// The most cores of a script. That one with tasks has one core is judged last, after a word too many.
+fn cores_most(reading: Reading, words: &[Token]) -> u64
+    ensures { result ≡ cores_most reading (texts words.now) }
 {
     match reading {
-        Reading::Sched => 1,
+        Reading::Sched => { if words.len() <= 2 { 1 } else { 8 } }
         _ => 8,
     }
 }
@@ -81,7 +81,7 @@ fn head_slot(context: &Context, first: FirstWord, words: &[Token], place: usize)
 {
     match first {
         FirstWord::Speck => number_then(place, 1, 1, 2),
-        FirstWord::Cores => number_then(place, 1, 1, cores_most(context.reading)),
+        FirstWord::Cores => number_then(place, 1, 1, cores_most(context.reading, words)),
         FirstWord::Frames => number_then(place, 1, least_frames(context.cores), 512),
         FirstWord::Grant => grant_slot(place),
         FirstWord::Calls => number_then(place, 1, 0, 4_194_304),

@@ -1,5 +1,5 @@
 -- What is due is the status that the input has.
-use Rattle.std.proofs.Common.{◌≡◌, ◌≢◌, ◌⊎◌, ℕ, List, [], ◌∷◌, Option, Some, None, Result, Ok, Err}
+use Rattle.std.proofs.Common.{◌≡◌, ◌⊎◌, ℕ, List, [], ◌∷◌, Option, Some, None, Result, Ok, Err}
 use Rattle.std.proofs.Common.{Bool, IfOk, refl, sym, ap, subst, ◌∙◌, arith, inl, inr, eqb, get_or}
 use Rattle.std.specs.Prelude.{◌≤◌, if◌then◌else◌, length, codes, string_bytes}
 use lib.Pointwise.{pointwise}
@@ -18,15 +18,15 @@ use Rattle.speck_run.specs.declared.top.Status.{Status}
 use Rattle.speck_run.specs.declared.top.Status.TheVariants.{Done, Words, Script, ReadFault, WriteFault, Memory, TooLong, Stopped}
 use Rattle.whole_ends.specs.Ends.{GivesAll}
 use Rattle.speck_run.specs.Script.{read_by, MadeBy, IsFaultOf, AreInput}
-use Rattle.speck_run.specs.Top.{CommandLine, texts_of, subject_of, words_of, Asked, Asks, AsksNumber, HasNumber, AsksMake, AsksLoad}
+use Rattle.speck_run.specs.Top.{CommandLine, texts_of, subject_of, Asked, Asks, AsksNumber, HasNumber, AsksMake, AsksLoad}
 use Rattle.speck_run.specs.Top.{IsReadingOf, IsExplainedAfter, IsCommand, IsMake, IsLoad, IsUnderstood, IsNumberOf, IsNumberIn, IsDue}
-use Rattle.speck_run.specs.Top.{IsDueOf, IsSummary, IsDone}
+use Rattle.speck_run.specs.Top.{IsPageOf, IsCommandOf, IsDueOf, IsSummary, IsDone}
 use Rattle.speck_run.specs.Top.{InputMakes, CarriesOut, IsStatusOf, Answers, IsAccepted, Writes, InputRuns, Finishes}
 
 same_fault : {A : Type 0} (f g : First_fault) (r : Result A First_fault) → r ≡ Err f → r ≡ Err g → f ≡ g
 same_fault f g r p q = cc
 
--- The words are those of one command: the one that their text tells. Of `draw` it tells the word alone.
+-- Words without a number are those of one command: the one that their text tells.
 is_word : List (List ℕ) → List ℕ → Bool
 is_word texts word = pointwise (λ x y. pointwise eqb x y) texts (word ∷ [])
 
@@ -47,56 +47,79 @@ told texts = if is_word texts (codes "replay") then Some Replay else if is_word 
     else if is_word texts (codes "sched") then Some Sched else if is_word texts (codes "check") then Some Check
     else if is_word texts (codes "origins") then Some Origins else explained texts
 
-told_word : (command : Command) → told (words_of command) ≡ Some command
-unfolding told is_word explained is_pair
-told_word Replay = refl
-told_word (Explain reading.Script) = refl
-told_word (Explain reading.Ends) = refl
-told_word (Explain reading.Sched) = refl
-told_word (Explain reading.History) = refl
-told_word command = refl
-
-asks_told : (words : CommandLine) (command : Command) → Asks words command → told (texts_of words) ≡ Some command
-asks_told words command p = ap told p ∙ told_word command
-
 some_same : (a b : Command) → Some a ≡ Some b → a ≡ b
 some_same a b e = cc
+
+some_none : (a : Command) → Some a ≡ None → ⊥
+some_none a e = cc
+
+-- What words ask for: a command that their text tells, or a page of a drawing by its number.
+data Asked_by (words : CommandLine) (command : Command) : Type 0 where
+  By_text : told (texts_of words) ≡ Some command → Asked_by words command
+  By_page : (page : ℕ) → command ≡ Draw page → AsksNumber (codes "draw") words page → Asked_by words command
+
+by_text : (words : CommandLine) (command : Command) (texts : List (List ℕ)) → told texts ≡ Some command → texts_of words ≡ texts
+    → Asked_by words command
+by_text words command texts is p = By_text (ap told p ∙ is)
+
+asked_by : (words : CommandLine) (command : Command) → Asks words command → Asked_by words command
+unfolding told is_word explained is_pair
+asked_by words (Draw page) (inl p) =
+    by_text words (Draw page) (codes "draw" ∷ []) (ap (λ (n : ℕ). Some (Draw n)) (sym p.1)) p.0
+asked_by words (Draw page) (inr p) = By_page page refl p.0
+asked_by words Replay p = by_text words Replay (codes "replay" ∷ []) refl p
+asked_by words Trace p = by_text words Trace (codes "trace" ∷ []) refl p
+asked_by words Run p = by_text words Run (codes "run" ∷ []) refl p
+asked_by words Plain p = by_text words Plain (codes "plain" ∷ []) refl p
+asked_by words Print p = by_text words Print (codes "print" ∷ []) refl p
+asked_by words Ends p = by_text words Ends (codes "ends" ∷ []) refl p
+asked_by words Sched p = by_text words Sched (codes "sched" ∷ []) refl p
+asked_by words Check p = by_text words Check (codes "check" ∷ []) refl p
+asked_by words Origins p = by_text words Origins (codes "origins" ∷ []) refl p
+asked_by words (Explain reading.Script) p = by_text words (Explain reading.Script) (codes "explain" ∷ codes "print" ∷ []) refl p
+asked_by words (Explain reading.Ends) p = by_text words (Explain reading.Ends) (codes "explain" ∷ codes "ends" ∷ []) refl p
+asked_by words (Explain reading.Sched) p = by_text words (Explain reading.Sched) (codes "explain" ∷ codes "sched" ∷ []) refl p
+asked_by words (Explain reading.History) p = by_text words (Explain reading.History) (codes "explain" ∷ codes "check" ∷ []) refl p
+
+-- The text of such words of a number tells no command.
+draw_untold : (digits : List ℕ) → told (codes "draw" ∷ digits ∷ []) ≡ None
+unfolding told is_word explained is_pair
+draw_untold digits = refl
+
+make_untold : (digits : List ℕ) → told (codes "make" ∷ digits ∷ []) ≡ None
+unfolding told is_word explained is_pair
+make_untold digits = refl
+
+load_untold : (digits : List ℕ) → told (codes "load" ∷ digits ∷ []) ≡ None
+unfolding told is_word explained is_pair
+load_untold digits = refl
+
+untold : (words : CommandLine) (command : Command) (name digits : List ℕ) → told (name ∷ digits ∷ []) ≡ None
+    → texts_of words ≡ name ∷ digits ∷ [] → told (texts_of words) ≡ Some command → ⊥
+untold words command name digits none is p = some_none command (sym p ∙ ap told is ∙ none)
 
 -- The letter with which the words begin.
 first_letter : List (List ℕ) → ℕ
 first_letter texts = get_or (get_or texts 0 []) 0 0
 
--- Words that ask for something of a number are two, and those of a command are one, or begin with another word.
-first_letter : List (List ℕ) → ℕ
-first_letter texts = get_or (get_or texts 0 []) 0 0
-
-explain_apart : (name digits subject : List ℕ) (texts : List (List ℕ)) → texts ≡ codes "explain" ∷ subject ∷ []
-    → texts ≡ name ∷ digits ∷ [] → (get_or name 0 0 ≡ 101 → ⊥) → ⊥
+-- Words that ask for something of a number that is no page of a drawing ask for no command.
+apart_by : (name : List ℕ) (words : CommandLine) (command : Command) → ((digits : List ℕ) → told (name ∷ digits ∷ []) ≡ None)
+    → (get_or name 0 0 ≡ 100 → ⊥) → Asked_by words command → HasNumber name words → ⊥
 unfolding first_letter
-explain_apart name digits subject texts p q other = other (sym (ap first_letter q) ∙ ap first_letter p)
+apart_by name words command none other (By_text p) m =
+    untold words command name m.asks.digits (none m.asks.digits) m.asks.asks p
+apart_by name words command none other (By_page page is asks) m =
+    let named : first_letter (texts_of words) ≡ get_or name 0 0 = ap first_letter m.asks.asks in
+    let drawn : first_letter (texts_of words) ≡ 100 = ap first_letter asks.asks in
+    other (sym named ∙ drawn)
 
-one_apart : (name digits word : List ℕ) (texts : List (List ℕ)) → texts ≡ word ∷ [] → texts ≡ name ∷ digits ∷ [] → ⊥
-one_apart name digits word texts p q = let one : length texts ≡ 1 = ap length p in let two : length texts ≡ 2 = ap length q in omega arith
+make_asks_none : (words : CommandLine) (command : Command) → Asks words command → IsMake words → ⊥
+make_asks_none words command asks m =
+    apart_by (codes "make") words command make_untold (λ e. omega (arith, e)) (asked_by words command asks) m
 
-asks_apart : (name : List ℕ) (words : CommandLine) (command : Command) → (get_or name 0 0 ≡ 101 → ⊥) → Asks words command
-    → HasNumber name words → ⊥
-asks_apart name words (Explain r) other asks m = explain_apart name m.asks.digits (subject_of r) (texts_of words) asks m.asks.asks other
-asks_apart name words Replay other asks m = one_apart name m.asks.digits _ (texts_of words) asks m.asks.asks
-asks_apart name words Trace other asks m = one_apart name m.asks.digits _ (texts_of words) asks m.asks.asks
-asks_apart name words Draw other asks m = one_apart name m.asks.digits _ (texts_of words) asks m.asks.asks
-asks_apart name words Run other asks m = one_apart name m.asks.digits _ (texts_of words) asks m.asks.asks
-asks_apart name words Plain other asks m = one_apart name m.asks.digits _ (texts_of words) asks m.asks.asks
-asks_apart name words Print other asks m = one_apart name m.asks.digits _ (texts_of words) asks m.asks.asks
-asks_apart name words Ends other asks m = one_apart name m.asks.digits _ (texts_of words) asks m.asks.asks
-asks_apart name words Sched other asks m = one_apart name m.asks.digits _ (texts_of words) asks m.asks.asks
-asks_apart name words Check other asks m = one_apart name m.asks.digits _ (texts_of words) asks m.asks.asks
-asks_apart name words Origins other asks m = one_apart name m.asks.digits _ (texts_of words) asks m.asks.asks
-
-no_make : get_or (codes "make") 0 0 ≡ 101 → ⊥
-no_make e = let same : 109 ≡ 101 = e in omega (arith, same)
-
-no_load : get_or (codes "load") 0 0 ≡ 101 → ⊥
-no_load e = let same : 108 ≡ 101 = e in omega (arith, same)
+load_asks_none : (words : CommandLine) (command : Command) → Asks words command → IsLoad words → ⊥
+load_asks_none words command asks l =
+    apart_by (codes "load") words command load_untold (λ e. omega (arith, e)) (asked_by words command asks) l
 
 -- They ask for one number.
 second_same : (v w x y : List ℕ) → v ∷ x ∷ [] ≡ w ∷ y ∷ [] → x ≡ y
@@ -123,6 +146,48 @@ numbers_same : (name : List ℕ) (words : CommandLine) (m n : ℕ) → AsksNumbe
 numbers_same name words m n p q =
     let digits : p.digits ≡ q.digits = second_same _ _ _ _ (sym p.asks ∙ q.asks) in
     number_same (number_of p.digits) m n p.says (ap number_of digits ∙ q.says)
+
+same_by : (words : CommandLine) (a b : Command) → Asked_by words a → Asked_by words b → a ≡ b
+same_by words a b (By_text p) (By_text q) = some_same a b (sym p ∙ q)
+same_by words a b (By_text p) (By_page page is asks) =
+    absurd (untold words a (codes "draw") asks.digits (draw_untold asks.digits) asks.asks p)
+same_by words a b (By_page page is asks) (By_text q) =
+    absurd (untold words b (codes "draw") asks.digits (draw_untold asks.digits) asks.asks q)
+same_by words a b (By_page page is asks) (By_page page' is' asks') =
+    is ∙ ap (λ (n : ℕ). Draw n) (numbers_same (codes "draw") words page page' asks asks') ∙ sym is'
+
+pub asks_same : (words : CommandLine) (a b : Command) → Asks words a → Asks words b → a ≡ b
+asks_same words a b p q = same_by words a b (asked_by words a p) (asked_by words b q)
+
+-- The page of which words give the number.
+pub no_page : (words : CommandLine) → (HasNumber (codes "draw") words → ⊥) → IsPageOf words None
+no_page words no = λ page asks some. no (record { number = page; asks = asks })
+
+pub page_zero : (words : CommandLine) (n : ℕ) → AsksNumber (codes "draw") words n → n ≡ 0 → IsPageOf words None
+page_zero words n asks is = λ page other some.
+    let same : page ≡ n = numbers_same (codes "draw") words page n other asks in omega (arith, same, is, some)
+
+-- Words that are no command's words ask for no command.
+pub no_words : (words : CommandLine) → (texts_of words ≡ codes "replay" ∷ [] → ⊥) → (texts_of words ≡ codes "trace" ∷ [] → ⊥)
+    → (texts_of words ≡ codes "draw" ∷ [] → ⊥) → (texts_of words ≡ codes "run" ∷ [] → ⊥) → (texts_of words ≡ codes "plain" ∷ [] → ⊥)
+    → (texts_of words ≡ codes "print" ∷ [] → ⊥) → (texts_of words ≡ codes "ends" ∷ [] → ⊥) → (texts_of words ≡ codes "sched" ∷ [] → ⊥)
+    → (texts_of words ≡ codes "check" ∷ [] → ⊥) → (texts_of words ≡ codes "origins" ∷ [] → ⊥)
+    → IsExplainedAfter (codes "explain") words None → IsPageOf words None → IsCommandOf words None
+no_words words n1 n2 n3 n4 n5 n6 n7 n8 n9 n10 explain page = λ c. by c.command c.asks
+  where
+    by : (command : Command) → Asks words command → ⊥
+    by Replay asks = n1 asks
+    by Trace asks = n2 asks
+    by (Draw page_asked) (inl asks) = n3 asks.0
+    by (Draw page_asked) (inr asks) = page page_asked asks.0 asks.1
+    by Run asks = n4 asks
+    by Plain asks = n5 asks
+    by Print asks = n6 asks
+    by Ends asks = n7 asks
+    by Sched asks = n8 asks
+    by Check asks = n9 asks
+    by Origins asks = n10 asks
+    by (Explain r) asks = explain r asks
 
 -- And for one thing.
 make_apart : (words : CommandLine) → IsMake words → IsLoad words → ⊥
@@ -249,9 +314,9 @@ module _ (words : CommandLine) (command : Command) (asks : Asks words command) w
   makes_as left left' f f' text (inl d) =
       subst (λ (c : Command). InputMakes (MadeBy c) left left' text) (asks_same words d.command command d.asks asks) d.makes
   makes_as left left' f f' text (inr (inl d)) =
-      absurd (asks_apart (codes "make") words command no_make asks record { number = d.number; asks = d.asks })
+      absurd (make_asks_none words command asks record { number = d.number; asks = d.asks })
   makes_as left left' f f' text (inr (inr d)) =
-      absurd (asks_apart (codes "load") words command no_load asks record { number = d.number; asks = d.asks })
+      absurd (load_asks_none words command asks record { number = d.number; asks = d.asks })
 
   -- What is due for an input that the source tells.
   status_due : (left : List ℕ) (left' : Option (List ℕ)) (f f' : ℕ) (s : Status) (text : List ℕ) →
@@ -361,16 +426,12 @@ nothing_asked words command make load (inl c) = command c
 nothing_asked words command make load (inr (inl m)) = make m
 nothing_asked words command make load (inr (inr l)) = load l
 
--- Words that ask for something of a number ask for no command.
-no_command : (name : List ℕ) (words : CommandLine) → (get_or name 0 0 ≡ 101 → ⊥) → HasNumber name words → IsCommand words → ⊥
-no_command name words other m c = asks_apart name words c.command other c.asks m
-
 module _ (words : CommandLine) (number : ℕ) (asks : AsksMake words number) where
   understood : IsMake words
   understood = record { number = number; asks = asks }
 
   apart : IsCommand words → ⊥
-  apart = no_command (codes "make") words no_make understood
+  apart c = make_asks_none words c.command c.asks understood
 
   not_load : IsLoad words → ⊥
   not_load = make_apart words understood
@@ -395,7 +456,7 @@ module _ (words : CommandLine) (number : ℕ) (asks : AsksLoad words number) whe
   sums_up = record { number = number; asks = asks }
 
   no_script : IsCommand words → ⊥
-  no_script = no_command (codes "load") words no_load sums_up
+  no_script c = load_asks_none words c.command c.asks sums_up
 
   same_load : (n : ℕ) → AsksLoad words n → n ≡ number
   same_load n other = numbers_same (codes "load") words n number other asks

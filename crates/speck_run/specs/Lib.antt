@@ -4,3 +4,4 @@ pub mod Ends
 pub mod Script
 pub mod Summary
 pub mod Top
+pub mod Explains

@@ -31,23 +31,19 @@ subject_of reading.Ends = codes "ends"
 subject_of reading.Sched = codes "sched"
 subject_of reading.History = codes "check"
 
--- The words of a command.
-abbrev pub words_of : Command → List (List ℕ)
-words_of Replay = codes "replay" ∷ []
-words_of Trace = codes "trace" ∷ []
-words_of Draw = codes "draw" ∷ []
-words_of Run = codes "run" ∷ []
-words_of Plain = codes "plain" ∷ []
-words_of Print = codes "print" ∷ []
-words_of Ends = codes "ends" ∷ []
-words_of Sched = codes "sched" ∷ []
-words_of Check = codes "check" ∷ []
-words_of Origins = codes "origins" ∷ []
-words_of (Explain r) = codes "explain" ∷ subject_of r ∷ []
-
--- The words ask for the command: they are its words.
-abbrev pub Asks : CommandLine → Command → Type 0
-Asks words command = texts_of words ≡ words_of command
+-- The word of a command, or the first of its words.
+abbrev pub word_of : Command → List ℕ
+word_of Replay = codes "replay"
+word_of Trace = codes "trace"
+word_of (Draw page) = codes "draw"
+word_of Run = codes "run"
+word_of Plain = codes "plain"
+word_of Print = codes "print"
+word_of Ends = codes "ends"
+word_of Sched = codes "sched"
+word_of Check = codes "check"
+word_of Origins = codes "origins"
+word_of (Explain r) = codes "explain"
 
 -- What the command of that word reads, or none where no command of that word is explained.
 abbrev pub IsReadingOf : List ℕ → Option Reading → Type 0
@@ -71,9 +67,11 @@ abbrev pub AsksPage : CommandLine → ℕ → Type 0
 AsksPage words page =
     ((texts_of words ≡ codes "draw" ∷ []) × (page ≡ 1)) ⊎ (AsksNumber (codes "draw") words page × (1 ≤ page))
 
--- The words ask for the command: they are its word alone; `draw` may have the number of a page after it.
+-- The words ask for the command: they are its word alone; `draw` may have the number of a page after it, and `explain` has the word of
+-- the command that reads such bytes.
 abbrev pub Asks : CommandLine → Command → Type 0
 Asks words (Draw page) = AsksPage words page
+Asks words (Explain r) = texts_of words ≡ codes "explain" ∷ subject_of r ∷ []
 Asks words command = texts_of words ≡ word_of command ∷ []
 
 -- The words ask for it of some number.
@@ -119,9 +117,9 @@ abbrev pub IsCommandOf : CommandLine → Option Command → Type 0
 IsCommandOf words (Some command) = Asks words command
 IsCommandOf words None = IsCommand words → ⊥
 
--- The command to draw a page of which the words give the number, or none where they give none.
-abbrev pub IsPageOf : CommandLine → Option Command → Type 0
-IsPageOf words (Some command) = Asks words command
+-- The page of a drawing of which the words give the number, or none where they give none.
+abbrev pub IsPageOf : CommandLine → Option ℕ → Type 0
+IsPageOf words (Some page) = AsksNumber (codes "draw") words page × (1 ≤ page)
 IsPageOf words None = (page : ℕ) → AsksNumber (codes "draw") words page → 1 ≤ page → ⊥
 
 -- The source has given its input to the end, at most 1,048,576 bytes, and the text is this of it.

@@ -217,10 +217,8 @@ fn judge_explain(alloc: Global, reading: Reading, bytes: &[u8]) -> Result<Answer
     ensures due { IfOk result (λ answer. IsDueOf (commands.Explain reading) bytes.now answer.status (string_bytes answer.text)) }
     ensures free { IfOk result (λ answer. answer.status ≡ Status.Stopped → ⊥) }
 {
-    match explain(alloc, reading, bytes) {
-        Ok(text) => Ok(made(text)),
-        Err(_) => Err(Memory),
-    }
+    let text = explain(alloc, reading, bytes)?;
+    Ok(made(text))
 }
 
 /// What is due for an input that was read to its end.

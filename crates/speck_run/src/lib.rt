@@ -6,6 +6,7 @@
 mod answers;
 mod closed;
 mod ends;
+mod explains;
 mod given;
 mod inputs;
 mod orders;
@@ -17,6 +18,7 @@ mod words;
 
 pub use ends::make_ends;
 pub use ends_run::core_runs::{FreeGate, Gate};
+pub use explains::explains_commands;
 pub use given::replay;
 pub use runs::run_lists;
 pub use summary::{Summed, sum_up};

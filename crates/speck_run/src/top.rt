@@ -175,18 +175,18 @@ fn finish<K: Sink>(sink: &mut K, answer: &Answer) -> Status
 /// the sink.
 ///
 /// Words other than `replay`, `trace`, `draw`, `run`, `plain`, `print`, `ends`, `sched`, `check` or `origins` alone,
-/// `explain` with `print`, `ends`, `sched` or `check`, and `make` and `load` with a number from 0 to 4,294,967,295, are
-/// `Words`, and nothing is read. Under `make` and `load` nothing is read either, and the status is `Done`: `make` writes the
-/// text of the number's script, and `load` takes the steps of that script as `replay` does and writes their summary.
+/// `draw` with a page's number from 1 to 4,294,967,295, `explain` with `print`, `ends`, `sched` or `check`, and `make` and
+/// `load` with a number from 0 to 4,294,967,295, are `Words`, and nothing is read. Under `make` and `load` nothing is read
+/// either, and the status is `Done`: `make` writes the text of the number's script, and `load` takes the steps of that
+/// script as `replay` does and writes their summary.
 /// A source that fails is `ReadFault`, and one that gives a byte past 1,048,576 is `TooLong`; no more
 /// than that byte is taken. An input that is no script is `Script`, with its first fault. Under
 /// `replay` and `run` the script's steps are taken and their text is written, the reply lines and
 /// the tables, and the status is `Done`. Under `trace` the steps are taken as under `replay`; the head
 /// of the script is written and then a line for each event with the steps since the line before, and
-/// the status is `Done`.
-/// Under `draw` they are taken so too, and a picture of a page of them is written, as SVG, the first or the one of the number, and the
-/// status is `Done`; a page past the end is a picture of one sentence.
-/// `run` makes each core's calls in a thread of its own
+/// the status is `Done`. Under `draw` they are taken so too, and a picture of a page of them is written,
+/// as SVG, the first or the one of the number, and the status is `Done`; a page past the end is a picture
+/// of one sentence. `run` makes each core's calls in a thread of its own
 /// where one can be made, and asks the gate before each call: where the gate stops a core, which a
 /// free one never does, the status is `Stopped` and nothing is written. Under `plain` the calls of
 /// each script are made alone, core 0's first, whatever its order says; their text is written, the
@@ -200,9 +200,9 @@ fn finish<K: Sink>(sink: &mut K, answer: &Answer) -> Status
 /// task, and the status is `Done`. Under `check` the input is a given history; its verdict is written,
 /// and the status is `Done`, whatever the verdict. Under `origins` the steps are taken as under
 /// `replay`; a line for each link of each capability that is held in the end is written, and the status
-/// is `Done`. Under `explain` what is told of the input of the command that is named is written, and the status
-/// is `Done`, also where that command would refuse it. Each of the other statuses writes its line in place
-/// of the text. A sink that fails is `WriteFault`, and holds a prefix of what was due. `Memory` may
+/// is `Done`. Under `explain` what is told of the input of the command that is named is written: where and why that
+/// command would refuse it, or that it would not; the status is `Done` either way. Each of the other statuses writes
+/// its line in place of the text. A sink that fails is `WriteFault`, and holds a prefix of what was due. `Memory` may
 /// come in place of any status, and has written nothing. No read and no write that failed is tried
 /// again.
 pub fn speck<R: Threads + Sync, G: Gate, S: Source, K: Sink>(

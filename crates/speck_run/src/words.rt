@@ -1,7 +1,7 @@
 //! The commands, and the words by which they are asked.
 
 ghost use Rattle.std.specs.Prelude.{◌≡◌, [], ◌∷◌, ◌↔◌, IsTrue, codes};
-ghost use Rattle.speck_run.specs.Top.{IsCommandOf, IsReadingOf, IsExplainedAfter, IsNumberOf, IsNumberIn, texts_of};
+ghost use Rattle.speck_run.specs.Top.{IsCommandOf, IsReadingOf, IsExplainedAfter, IsNumberOf, IsNumberIn, IsPageOf, texts_of};
 
 use explain_run::Reading;
 use script_reader::read_number;
@@ -82,7 +82,38 @@ fn explained_after(words: &Vec<String>, name: &str) -> Option<Reading>
     }
 }
 
+// The number from 0 to 4,294,967,295 that a word stands for; none for another word.
+fn number_in(word: &str) -> Option<u32>
+    ensures { IsNumberIn word.now result }
+{
+    let number = read_number(word.as_bytes())?;
+    u32::try_from(number).ok()
+}
+
+/// The number after this word, where the words are these two; none for other words.
+pub fn number_after(words: &Vec<String>, name: &str) -> Option<u32>
+    ensures { IsNumberOf name.now words.now result }
+{
+    match words.as_slice() {
+        [word, number] if word.as_str() == name => number_in(number.as_str()),
+        _ => None,
+    }
+}
+
+// The page of a drawing for which the words ask, where they are `draw` and a number that is at least 1; none for other words.
+#[tactic(auto, using(crate::proofs::Due::no_page, crate::proofs::Due::page_zero))]
+fn page_of(words: &Vec<String>) -> Option<u32>
+    ensures { IsPageOf words.now result }
+{
+    let page = number_after(words, "draw")?;
+    if page == 0 {
+        return None;
+    }
+    Some(page)
+}
+
 /// The command that the words ask for; none for other words.
+#[tactic(auto, using(crate::proofs::Due::no_words))]
 pub fn command_of(words: &Vec<String>) -> Option<Command>
     ensures { IsCommandOf words.now result }
 {
@@ -116,26 +147,11 @@ pub fn command_of(words: &Vec<String>) -> Option<Command>
     if is_alone(words, "origins") {
         return Some(Command::Origins);
     }
-    match explained_after(words, "explain") {
-        Some(reading) => Some(Command::Explain(reading)),
-        None => None,
+    if let Some(reading) = explained_after(words, "explain") {
+        return Some(Command::Explain(reading));
     }
-}
-
-// The number from 0 to 4,294,967,295 that a word stands for; none for another word.
-fn number_in(word: &str) -> Option<u32>
-    ensures { IsNumberIn word.now result }
-{
-    let number = read_number(word.as_bytes())?;
-    u32::try_from(number).ok()
-}
-
-/// The number after this word, where the words are these two; none for other words.
-pub fn number_after(words: &Vec<String>, name: &str) -> Option<u32>
-    ensures { IsNumberOf name.now words.now result }
-{
-    match words.as_slice() {
-        [word, number] if word.as_str() == name => number_in(number.as_str()),
-        _ => None,
+    match page_of(words) {
+        Some(page) => Some(Command::Draw { page }),
+        None => None,
     }
 }

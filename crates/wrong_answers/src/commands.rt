@@ -1,6 +1,6 @@
 //! What each command has written where it is done. Beside the words of the call stand others, which ask for something else.
 
-ghost use Rattle.std.specs.Prelude.{◌≡◌, ℕ};
+ghost use Rattle.std.specs.Prelude.{◌≡◌, ℕ, Ok};
 ghost use Rattle.trace_run.specs.lone_kernel.specs.kernel_history.specs.Order.{list_of};
 ghost use Rattle.trace_run.specs.lone_kernel.specs.kernel_history.specs.Text.{plain_text};
 ghost use Rattle.draw_run.specs.GivenDrawing.{GivenDrawing};
@@ -9,6 +9,9 @@ ghost use Rattle.one_core.specs.sched_reader.specs.Inputs.{input_of as sched_inp
 ghost use Rattle.one_core.specs.Scheduled.{SchedTrace};
 ghost use Rattle.check_run.specs.history_reader.specs.Inputs.{history_of};
 ghost use Rattle.check_run.specs.Checked.{IsJudged};
+ghost use Rattle.explain_run.specs.Explained.{IsExplained};
+ghost use Rattle.explain_run.specs.line_forms.specs.declared.context.Reading.{Reading};
+ghost use Rattle.explain_run.specs.line_forms.specs.declared.context.Reading.TheVariants as reading;
 ghost use Rattle.speck_run.specs.declared.words.Command.TheVariants as commands;
 ghost use Rattle.speck_run.specs.Top.{Asks, AsksLoad, CarriesOut, WritesSummary};
 ghost use Rattle.speck_run.specs.Script.{IsMade};
@@ -54,6 +57,24 @@ pub fn check<R: Threads + Sync, G: Gate, S: Source, K: Sink>(
 {
     let check = words;
     speck(rt, alloc, gate, check, source, sink)
+}
+
+/// Under `explain` the text is what is told of what the named command reads. The others ask for `explain print`.
+pub fn explains<R: Threads + Sync, G: Gate, S: Source, K: Sink>(
+    rt: &R,
+    alloc: Global,
+    gate: &G,
+    words: &Vec<String>,
+    _others: &Vec<String>,
+    source: &mut S,
+    sink: &mut K,
+) -> Status
+    requires { Asks _others.now (commands.Explain reading.Script) }
+    ensures { (r : Reading) → Asks words.now (commands.Explain r) → result ≡ Status.Done
+        → CarriesOut (IsMade Ok (IsExplained r)) (S.left source.old) (S.left source.new) (K.held sink.old) (K.held sink.new) }
+{
+    let explains = words;
+    speck(rt, alloc, gate, explains, source, sink)
 }
 
 /// Under `sched` the text is that of the schedule of the input's tasks. The others ask for `plain`.

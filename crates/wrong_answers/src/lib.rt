@@ -11,7 +11,7 @@ mod machines;
 mod steps;
 mod texts;
 
-pub use commands::{check, draws, load, plain, sched};
+pub use commands::{check, draws, explains, load, plain, sched};
 pub use faults::{long, other_words, unread, write_faults};
 pub use machines::{booted, name_at, next_cap, next_count, scheduled, until_ready};
 pub use steps::{draw, origins, replay, trace};

@@ -5,8 +5,8 @@ use Rattle.explain_run.proofs.run.explain_ends.Goals as goal
 
 pub returns-in-Ok : goal.returns-in-Ok
 returns-in-Ok c =
-    read_told (input_of c.args.source.now) (input_view c.in-Ok.field-0) reading.Ends c.args.source.now _ c.in-Ok.ensures.value
-    c.in_ok-accepted.ensures
+    read_told (input_of c.args.source.now) (input_view c.in-Ok._input) reading.Ends c.args.source.now c.accepted.result
+    c.in-Ok.ensures.value c.accepted.ensures
 
 pub returns-in-Err-Script : goal.returns-in-Err-Script
 returns-in-Err-Script c =

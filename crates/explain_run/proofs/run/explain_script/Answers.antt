@@ -5,8 +5,8 @@ use Rattle.explain_run.proofs.run.explain_script.Goals as goal
 
 pub returns-in-Ok : goal.returns-in-Ok
 returns-in-Ok c =
-    read_told (script_of c.args.source.now) (script_view c.in-Ok.field-0) reading.Script c.args.source.now _ c.in-Ok.ensures.value
-    c.in_ok-accepted.ensures
+    read_told (script_of c.args.source.now) (script_view c.in-Ok._script) reading.Script c.args.source.now c.accepted.result
+    c.in-Ok.ensures.value c.accepted.ensures
 
 pub returns-in-Err-Script : goal.returns-in-Err-Script
 returns-in-Err-Script c =

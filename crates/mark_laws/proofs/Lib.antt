@@ -1,0 +1,4 @@
+pub mod Gets
+pub mod Words
+pub mod Chains
+pub mod Calls
