@@ -2,6 +2,6 @@ pub mod Reached
 pub mod Leads
 pub mod Frees
 pub mod Seals
-pub mod Joining
+pub mod JoinLaws
 pub mod Steps
 pub mod FinestLaw

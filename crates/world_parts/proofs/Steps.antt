@@ -12,7 +12,7 @@ use Rattle.world_laws.specs.Worlds.{LeadsTo}
 use Rattle.world_parts.specs.Holding.{holds, IsUsedAt}
 use Rattle.world_parts.specs.Led.{HasField, HoldsAt, HoldsBelow, HoldsFrame, IsHeldBelow}
 use Rattle.world_parts.specs.Partitions.{Joins}
-use Rattle.world_parts.proofs.Joining.{joins_none, joins_then, joins_as}
+use Rattle.world_parts.proofs.JoinLaws.{joins_none, joins_then, joins_as}
 use Rattle.world_parts.proofs.Frees.{used_same}
 
 -- ---- a range
