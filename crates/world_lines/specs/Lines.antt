@@ -11,10 +11,13 @@ use Rattle.world_laws.specs.Worlds.{works_in}
 use Rattle.world_parts.specs.Holding.{holds}
 use Rattle.world_lines.specs.declared.ranges.WorldRange.{WorldRange}
 
+-- A range of a world comes before another of it: by first frame, then by count.
+abbrev pub is_less : WorldRange → WorldRange → Bool
+is_less x y = nat_lt x.first y.first || (x.first == y.first && nat_lt x.count y.count)
+
 -- A range comes before another: by world, then by first frame, then by count.
 abbrev pub is_before : WorldRange → WorldRange → Bool
-is_before x y = nat_lt x.world y.world
-    || (x.world == y.world && (nat_lt x.first y.first || (x.first == y.first && nat_lt x.count y.count)))
+is_before x y = nat_lt x.world y.world || (x.world == y.world && is_less x y)
 
 -- A range stands among ascending ones, once.
 abbrev pub put_range : WorldRange → List WorldRange → List WorldRange
