@@ -41,9 +41,10 @@ fn has(kernel: &SeqKernel, core: CoreNo) -> bool
 fn enter(kernel: &mut SeqKernel, core: CoreNo)
     ensures { (call : Call) → Takes kernel.old (Enters core call) kernel.new }
 {
-    if has(kernel, core) {
-        kernel.enter(core);
+    if !has(kernel, core) {
+        return;
     }
+    kernel.enter(core);
 }
 
 /// Takes the next event of a run: that the call of a core is decided with this reply.
@@ -57,9 +58,10 @@ fn decide(
     requires { InLimits call.now }
     ensures { OnOk result (Takes kernel.old (Decides core call.now reply.now) kernel.new) }
 {
-    if has(kernel, core) {
-        decide_by(alloc, kernel, core, call, reply)?;
+    if !has(kernel, core) {
+        return Ok(());
     }
+    decide_by(alloc, kernel, core, call, reply)?;
     Ok(())
 }
 
@@ -67,9 +69,10 @@ fn decide(
 fn leave(kernel: &mut SeqKernel, core: CoreNo)
     ensures { Takes kernel.old (Returns core) kernel.new }
 {
-    if has(kernel, core) {
-        kernel.leave(core);
+    if !has(kernel, core) {
+        return;
     }
+    kernel.leave(core);
 }
 
 impl Following {
