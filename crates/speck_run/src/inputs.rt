@@ -24,6 +24,7 @@ use spk_nums::Memory;
 use std::alloc::Global;
 use std::thread::Threads;
 use trace_run::trace;
+use worlds_run::worlds;
 
 // What is due under `replay`.
 fn judge_replay(alloc: Global, bytes: &[u8]) -> Result<Answer, Memory>
@@ -211,6 +212,27 @@ fn judge_origins(alloc: Global, bytes: &[u8]) -> Result<Answer, Memory>
     Ok(made(text))
 }
 
+// What is due under `worlds`.
+fn judge_worlds(alloc: Global, bytes: &[u8]) -> Result<Answer, Memory>
+    requires { length bytes.now ≤ 1048576 }
+    ensures due { IfOk result (λ answer. IsDueOf commands.Worlds bytes.now answer.status (string_bytes answer.text)) }
+    ensures free { IfOk result (λ answer. answer.status ≡ Status.Stopped → ⊥) }
+{
+    let script = match read(alloc, bytes) {
+        Ok(script) => script,
+        Err(ReadFault::Memory) => return Err(Memory),
+        Err(ReadFault::Script { line, cause }) => return refuse(alloc, line, cause),
+    };
+    let Script {
+        version: _,
+        setup,
+        lists,
+        order,
+    } = script;
+    let text = worlds(alloc, &setup, lists, &order)?;
+    Ok(made(text))
+}
+
 // What is due under `explain`.
 fn judge_explain(alloc: Global, reading: Reading, bytes: &[u8]) -> Result<Answer, Memory>
     requires { length bytes.now ≤ 1048576 }
@@ -244,6 +266,7 @@ pub fn judge_input<R: Threads + Sync, G: Gate>(
         Command::Sched => judge_sched(alloc, bytes),
         Command::Check => judge_history(alloc, bytes),
         Command::Origins => judge_origins(alloc, bytes),
+        Command::Worlds => judge_worlds(alloc, bytes),
         Command::Explain(reading) => judge_explain(alloc, reading, bytes),
     }
 }
