@@ -1,5 +1,5 @@
 -- What is told of what the endpoints replied.
-use Rattle.std.proofs.Common.{◌≡◌, ℕ, Option, Some, None, refl, sym, ap, ◌∙◌, subst}
+use Rattle.std.proofs.Common.{◌≡◌, ℕ, Option, Some, None, sym, ap, ◌∙◌, subst}
 use Rattle.std.specs.Prelude.{MatchOption}
 use Rattle.end_ports.specs.async_ends.specs.declared.endpoint.EndOp.{EndOp}
 use Rattle.end_ports.specs.async_ends.specs.declared.endpoint.EndReply.{EndReply}

@@ -1,5 +1,5 @@
 -- Sends and receives as C asks for them.
-use Rattle.std.specs.Prelude.{◌≡◌, ℕ, ◌<◌, ◌≤◌, nat_lt, if◌then◌else◌, Option, Some, None, MatchOption}
+use Rattle.std.specs.Prelude.{◌≡◌, ℕ, ◌<◌, ◌≤◌, nat_lt, if◌then◌else◌, Option, Some, MatchOption}
 use Rattle.spk_nums.specs.declared.replies.Reply.TheVariants.{Raced as raced, CallsSpent}
 use Rattle.spk_nums.specs.declared.replies.Value.TheVariants.{Nothing, Amount}
 use Rattle.end_ports.specs.async_ends.specs.declared.endpoint.EndOp.{EndOp}

@@ -1,4 +1,4 @@
-use Rattle.std.proofs.Common.{rules, sym}
+use Rattle.std.proofs.Common.{rules}
 use Rattle.end_ports.specs.async_ends.specs.declared.endpoint.EndOp.TheVariants.{Send}
 use Rattle.speck_c.specs.Slots.{held_in}
 use Rattle.speck_c.proofs.Told.{told_asked}
