@@ -1,5 +1,0 @@
-use Rattle.std.specs.Prelude.{Some}
-use Rattle.listed_ports.proofs.main.started.Given as goal
-
-abbrev pub ghosts-all_cores : goal.ghosts-all_cores
-ghosts-all_cores a = record { kernel = Some a.seats.kernel }
