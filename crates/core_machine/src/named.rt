@@ -3,7 +3,7 @@
 //! A function over a type parameter `K: Names` handles the machine that K names: `K.kernel` is that machine's kernel, whichever the caller's
 //! is. The caller passes `Brand` for K, and its proof picks the kernel (docs/EMBEDDING.md, 'Ports in a list').
 
-ghost use Rattle.std.specs.Prelude.{◌≡◌, ◌++◌, ◌∷◌, [], length, Some, IfOk, IfErr, IfSome};
+ghost use Rattle.std.specs.Prelude.{◌≡◌, ◌<◌, ◌+◌, ◌↔◌, ◌++◌, ◌∷◌, [], length, Some, IsSome, IfOk, IfErr, IfSome, MatchOption};
 ghost use Rattle.spk_nums.specs.CallLimits.{InLimits};
 ghost use Rattle.core_kernel.specs.Calls.{HasSeen, MakesCall, Meets};
 ghost use Rattle.core_machine.specs.Seats.{IsDealt};
@@ -106,8 +106,11 @@ impl<K: Names> SeatsOf<K> {
         }
     }
 
-    /// The port of the next core, as `Seats::deal`.
+    /// The port of the next core, as `Seats::deal`: none once each core has had its own.
     pub fn deal(&mut self) -> Option<PortOf<K>>
+        ensures none { IsSome result ↔ (self.old.seats.dealt < self.old.seats.kernel.setup.cores) }
+        ensures dealt { MatchOption result (self.new.seats.dealt ≡ self.old.seats.dealt)
+            (λ _. self.new.seats.dealt ≡ self.old.seats.dealt + 1) }
         ensures port { IfSome result (λ p. IsDealt self.old.seats p.port) }
         ensures back { self.new.seats.back ≡ self.old.seats.back }
     {
