@@ -23,7 +23,7 @@ use Rattle.kernel_rules.specs.Access.{Want, to_use, to_copy, any, only, root, fo
 use Rattle.kernel_rules.specs.Access.{linked, slot_in, usable, reached, own, place_at, root_slot}
 use Rattle.kernel_rules.specs.Fitting.{fits}
 use Rattle.kernel_rules.specs.References.{refs}
-use Rattle.kernel_rules.specs.Rules.{waits_of, flushes_of, WaitedFor, Unflushed, Change, Cause, When, Found, named, vacant, held, fills, removes, answers, first_cause, refusal_of}
+use Rattle.kernel_rules.specs.Rules.{waits_of, flushes_of, WaitedFor, Unflushed, Change, Cause, When, Found, name_of, named, vacant, held, fills, removes, answers, first_cause, refusal_of}
 use Rattle.kernel_rules.specs.CapabilityCalls.{has_frame, outside, not_blank, makes, make_node, make_rule, not_taken, is_live, epoch_of}
 use Rattle.kernel_rules.specs.CapabilityCalls.{leaf_of, leaf_for}
 use Rattle.kernel_rules.specs.MemoryCalls.{not_user, not_untyped, not_retyped, retype_rule, touch_by, translation_of, translated, is_empty, is_untyped_now}
@@ -38,26 +38,27 @@ use Rattle.kernel_invariant.proofs.SoundCalls.{IsOpen, blank_by, untyped_by}
 use Rattle.kernel_invariant.proofs.Facts.{ChangesFrom, Suits, suits, none_some, some_inj, some_none, vacant_facts, held_facts, none_parts, when_not, not_not, first_two}
 use Rattle.kernel_invariant.proofs.Edited.{is_bare, Calm}
 use Rattle.found_stays.proofs.Stays.{name_parts}
+use Rattle.call_names.specs.Names.{IsName}
 use Rattle.authority_laws.specs.Authority.{IsUnder, LivesBy, MayUse}
 
 -- A number leads core c to a capability of one of these kinds, on this frame, which may be used.
-pub record LedTo (s : State) (c : ℕ) (kinds : Kind → Bool) (f : ℕ) : Type 0 where
+pub record LedTo (act : Call) (s : State) (c : ℕ) (kinds : Kind → Bool) (f : ℕ) : Type 0 where
   pub cap : Capability
-  pub may : MayUse s c cap
+  pub may : MayUse act s c cap
   pub kind : IsTrue (kinds cap.kind)
   pub frame : cap.frame ≡ f
 
 -- A frame is in a range that core c may use.
-pub record InRange (s : State) (c f : ℕ) : Type 0 where
+pub record InRange (act : Call) (s : State) (c f : ℕ) : Type 0 where
   pub range : Capability
-  pub may : MayUse s c range
+  pub may : MayUse act s c range
   pub kind : range.kind ≡ kind.Range
   pub has : has_frame (found range) f ≡ true
 
 -- A node is one of a table, or of pages, that core c may use.
-pub record InNode (s : State) (c f : ℕ) : Type 0 where
+pub record InNode (act : Call) (s : State) (c f : ℕ) : Type 0 where
   pub root : Capability
-  pub may : MayUse s c root
+  pub may : MayUse act s c root
   pub kind : (root.kind ≡ kind.Table) ⊎ (root.kind ≡ kind.Pages)
   pub under : IsUnder s c root.frame f
 
@@ -79,10 +80,10 @@ is_given kind.Comp = true
 is_given _ = false
 
 -- What else is put has both rights, is no range, and is on a frame of a range that core c may use, or on that of a leaf or component.
-pub record IsGiven (s : State) (c : ℕ) (k : Capability) : Type 0 where
+pub record IsGiven (act : Call) (s : State) (c : ℕ) (k : Capability) : Type 0 where
   pub rights : k.rights ≡ both
   pub kind : only kind.Range k.kind ≡ false
-  pub frame : InRange s c k.frame ⊎ LedTo s c is_given k.frame
+  pub frame : InRange act s c k.frame ⊎ LedTo act s c is_given k.frame
 
 -- A call enters a component by a gate.
 pub record Enters (act : Call) (s : State) (c f : ℕ) : Type 0 where
@@ -90,7 +91,7 @@ pub record Enters (act : Call) (s : State) (c f : ℕ) : Type 0 where
   pub is : act ≡ call.Call number
   pub gate : Capability
   pub names : named s c number (to_use (only kind.Gate)) ≡ Found gate
-  pub may : MayUse s c gate
+  pub may : MayUse act s c gate
   pub kind : gate.kind ≡ kind.Gate
   pub frame : gate.frame ≡ f
   pub lives : is_live_in (s.number (comp_in (s.frame f)).number) gate.arg ≡ true
@@ -103,15 +104,15 @@ pub record GoesOn (act : Call) (s : State) (c h q : ℕ) : Type 0 where
   pub thread : Capability
   pub names : named s c first (to_use (only kind.Thread)) ≡ Found thread
   pub frame : thread.frame ≡ h
-  pub led : LedTo s c (only kind.Thread) h
-  pub tcap : LedTo s c (only kind.Tcap) q
+  pub led : LedTo act s c (only kind.Thread) h
+  pub tcap : LedTo act s c (only kind.Tcap) q
   pub idle : (thread_in (s.frame h)).runs_on ≡ None
 
 -- A component is made of a table and of pages that core c may use, with a number that is not live.
-pub record Makes (s : State) (c : ℕ) (k : CompFields) : Type 0 where
+pub record Makes (act : Call) (s : State) (c : ℕ) (k : CompFields) : Type 0 where
   pub dead : is_live (s.number k.number) ≡ false
-  pub table : LedTo s c (only kind.Table) k.table
-  pub pages : LedTo s c (only kind.Pages) k.pages
+  pub table : LedTo act s c (only kind.Table) k.table
+  pub pages : LedTo act s c (only kind.Pages) k.pages
 
 -- A temporal capability has as many ticks to move to another one.
 pub record Affords (s : State) (a b m : ℕ) : Type 0 where
@@ -125,21 +126,21 @@ pub record IsFresh (x : Frame) : Type 0 where
 
 -- By what core c makes an edit for a call, in the state in which the call is decided.
 abbrev pub By : Call → State → ℕ → Edit → Type 0
-By act s c (Fill at k) = InNode s c at.node × (IsCopied s c k ⊎ IsGiven s c k)
-By act s c (Remove at k) = InNode s c at.node × (place_at s at ≡ Holds k)
-By act s c (Node f object) = InRange s c f × IsTrue (is_bare (s.frame f)) × IsFresh (Kernel object)
-By act s c (Become f x) = InRange s c f × IsTrue (is_bare (s.frame f)) × IsFresh x
-By act s c (Untype f) = InRange s c f × ((tcap_in (s.frame f)).budget ≡ 0)
-By act s c (Component f k) = InRange s c f × IsTrue (is_bare (s.frame f)) × Makes s c k
-By act s c (Deaden l e) = (k : Capability) × MayUse s c k × (k.kind ≡ kind.Comp) × LivesBy s k.frame l
+By act s c (Fill at k) = InNode act s c at.node × (IsCopied s c k ⊎ IsGiven act s c k)
+By act s c (Remove at k) = InNode act s c at.node × (place_at s at ≡ Holds k)
+By act s c (Node f object) = InRange act s c f × IsTrue (is_bare (s.frame f)) × IsFresh (Kernel object)
+By act s c (Become f x) = InRange act s c f × IsTrue (is_bare (s.frame f)) × IsFresh x
+By act s c (Untype f) = InRange act s c f × ((tcap_in (s.frame f)).budget ≡ 0)
+By act s c (Component f k) = InRange act s c f × IsTrue (is_bare (s.frame f)) × Makes act s c k
+By act s c (Deaden l e) = (k : Capability) × MayUse act s c k × (k.kind ≡ kind.Comp) × LivesBy s k.frame l
 By act s c (Push f) = Enters act s c f
 By act s c Pop = act ≡ call.Ret
 By act s c (Switch h q) = GoesOn act s c h q
 By act s c (Cache t) = Unit {0}
 By act s c Flush = Unit {0}
 By act s c (Charge n) = act ≡ call.Tick n
-By act s c (Move a b m) = LedTo s c (only kind.Tcap) a × LedTo s c (only kind.Tcap) b × Affords s a b m
-By act s c (Merge f qs) = LedTo s c (only kind.Tcap) f
+By act s c (Move a b m) = LedTo act s c (only kind.Tcap) a × LedTo act s c (only kind.Tcap) b × Affords s a b m
+By act s c (Merge f qs) = LedTo act s c (only kind.Tcap) f
 
 abbrev pub EachBy : Call → State → ℕ → List Edit → Type 0
 EachBy call s c [] = Unit {0}
@@ -162,12 +163,12 @@ pub record Acts (call : Call) (c : ℕ) (s : State) (change : Change) : Type 0 w
 -- ---- names
 
 -- A name leads to a slot, where core c may use a capability such as is wanted.
-record NamedAt (s : State) (c n : ℕ) (want : Want) (k : Capability) : Type 0 where
-  at : Slot
-  reaches : reached s c (own s c n) ≡ Some at
-  from : usable s c at ≡ Some k
-  kind : IsTrue (want.kinds k.kind)
-  rights : IsTrue (has_rights k.rights want.needs)
+pub record NamedAt (s : State) (c n : ℕ) (want : Want) (k : Capability) : Type 0 where
+  pub at : Slot
+  pub reaches : reached s c (own s c n) ≡ Some at
+  pub from : usable s c at ≡ Some k
+  pub kind : IsTrue (want.kinds k.kind)
+  pub rights : IsTrue (has_rights k.rights want.needs)
 
 named_at : (s : State) (c n : ℕ) (want : Want) (k : Capability) → named s c n want ≡ Found k → NamedAt s c n want k
 named_at s c n want k e =
@@ -181,27 +182,11 @@ named_at s c n want k e =
       rights = subst (λ (j : Capability). IsTrue (has_rights j.rights want.needs)) w.is w.rights;
     }
 
+-- So does a number by which a call may use a capability.
+pub used_at : {act : Call} (s : State) (c : ℕ) (k : Capability) → (m : MayUse act s c k) → NamedAt s c m.number (to_use m.kinds) k
+used_at s c k m = named_at s c m.number (to_use m.kinds) k m.leads
+
 module _ (s : State) (c : ℕ) where
-  may_by : (n : ℕ) (kinds : Kind → Bool) (k : Capability) → named s c n (to_use kinds) ≡ Found k → MayUse s c k × IsTrue (kinds k.kind)
-  may_by n kinds k e =
-      let x : NamedAt s c n (to_use kinds) k = named_at s c n (to_use kinds) k e in
-      (record { number = n; at = x.at; reaches = x.reaches; usable = x.from; right = x.rights }, x.kind)
-
-  led_by : (n : ℕ) (kinds : Kind → Bool) (k : Capability) → named s c n (to_use kinds) ≡ Found k → LedTo s c kinds k.frame
-  led_by n kinds k e = let p = may_by n kinds k e in record { cap = k; may = p.0; kind = p.1; frame = refl }
-
-  -- the frame of a call is in its range
-  range_by : (n f : ℕ) (range : Capability) (causes : List Cause) → named s c n (to_use (only kind.Range)) ≡ Found range
-      → first_cause s c (outside (found range) f ∷ causes) ≡ None → InRange s c f
-  range_by n f range causes e calm =
-      let p = may_by n (only kind.Range) range e in
-      record {
-        range = range;
-        may = p.0;
-        kind = only_is kind.Range range.kind p.1;
-        has = not_not (has_frame (found range) f) (when_not (not (has_frame (found range) f)) reply.OutOfRange (none_parts _ _ calm).0);
-      }
-
   -- what is reached under a number of a table is in a leaf of it
   pub under_leaf : (table : Capability) (n : ℕ) (at : Slot) → reached s c (Under (found table) n) ≡ Some at → IsUnder s c table.frame at.node
   under_leaf table n at e = inr (n / 64, by_number (nat_le n 4095) e)
@@ -222,37 +207,74 @@ module _ (s : State) (c : ℕ) where
       by_entry true q = ap (λ (x : Slot). x.node) (sym (some_inj record { node = table.frame; index = i } at q))
       by_entry false q = absurd (none_some at q)
 
-  root_kind : (k : Kind) → IsTrue (root k) → (k ≡ kind.Table) ⊎ (k ≡ kind.Pages)
-  root_kind kind.Table h = inl refl
-  root_kind kind.Pages h = inr refl
-  root_kind _ h = absurd (false≢true h)
+root_kind : (k : Kind) → IsTrue (root k) → (k ≡ kind.Table) ⊎ (k ≡ kind.Pages)
+root_kind kind.Table h = inl refl
+root_kind kind.Pages h = inr refl
+root_kind _ h = absurd (false≢true h)
 
-  table_node : (t : ℕ) (table : Capability) (f : ℕ) → named s c t (to_use (only kind.Table)) ≡ Found table
-      → IsUnder s c table.frame f → InNode s c f
-  table_node t table f e under =
-      let p = may_by t (only kind.Table) table e in
+leaf_kind : (j k : Kind) → IsTrue (only (leaf_of j) k) → IsTrue (is_given k)
+leaf_kind j k h = by_kind (leaf_of j) (leaf_is j) (only_is (leaf_of j) k h)
+  where
+    leaf_is : (j : Kind) → IsTrue (is_given (leaf_of j))
+    leaf_is kind.Table = refl
+    leaf_is _ = refl
+
+    by_kind : (i : Kind) → IsTrue (is_given i) → k ≡ i → IsTrue (is_given k)
+    by_kind i given same = subst (λ i. IsTrue (is_given i)) (sym same) given
+
+module _ (call : Call) (s : State) (c : ℕ) where
+  -- the call names this number, and would use what it leads to, of one of these kinds
+  abbrev Uses : ℕ → (Kind → Bool) → Type 0
+  Uses n kinds = IsName s c (rule_of s c call) n (to_use kinds)
+
+  may_by : (n : ℕ) (kinds : Kind → Bool) (k : Capability) → Uses n kinds → named s c n (to_use kinds) ≡ Found k
+      → MayUse call s c k × IsTrue (kinds k.kind)
+  may_by n kinds k is e = (record { number = n; kinds = kinds; is_name = is; leads = e }, (named_at s c n (to_use kinds) k e).kind)
+
+  led_by : (n : ℕ) (kinds : Kind → Bool) (k : Capability) → Uses n kinds → named s c n (to_use kinds) ≡ Found k → LedTo call s c kinds k.frame
+  led_by n kinds k is e = let p = may_by n kinds k is e in record { cap = k; may = p.0; kind = p.1; frame = refl }
+
+  -- the frame of a call is in its range
+  range_by : (n f : ℕ) (range : Capability) (causes : List Cause) → Uses n (only kind.Range)
+      → named s c n (to_use (only kind.Range)) ≡ Found range
+      → first_cause s c (outside (found range) f ∷ causes) ≡ None → InRange call s c f
+  range_by n f range causes is e calm =
+      let p = may_by n (only kind.Range) range is e in
+      record {
+        range = range;
+        may = p.0;
+        kind = only_is kind.Range range.kind p.1;
+        has = not_not (has_frame (found range) f) (when_not (not (has_frame (found range) f)) reply.OutOfRange (none_parts _ _ calm).0);
+      }
+
+  table_node : (t : ℕ) (table : Capability) (f : ℕ) → Uses t (only kind.Table) → named s c t (to_use (only kind.Table)) ≡ Found table
+      → IsUnder s c table.frame f → InNode call s c f
+  table_node t table f is e under =
+      let p = may_by t (only kind.Table) table is e in
       record { root = table; may = p.0; kind = inl (only_is kind.Table table.kind p.1); under = under }
 
-  pages_node : (t : ℕ) (pages : Capability) (f : ℕ) → named s c t (to_use (only kind.Pages)) ≡ Found pages
-      → IsUnder s c pages.frame f → InNode s c f
-  pages_node t pages f e under =
-      let p = may_by t (only kind.Pages) pages e in
+  pages_node : (t : ℕ) (pages : Capability) (f : ℕ) → Uses t (only kind.Pages) → named s c t (to_use (only kind.Pages)) ≡ Found pages
+      → IsUnder s c pages.frame f → InNode call s c f
+  pages_node t pages f is e under =
+      let p = may_by t (only kind.Pages) pages is e in
       record { root = pages; may = p.0; kind = inr (only_is kind.Pages pages.kind p.1); under = under }
 
-  root_node : (t : ℕ) (table : Capability) (f : ℕ) → named s c t (to_use root) ≡ Found table → f ≡ table.frame → InNode s c f
-  root_node t table f e same =
-      let p = may_by t root table e in
+  root_node : (t : ℕ) (table : Capability) (f : ℕ) → Uses t root → named s c t (to_use root) ≡ Found table → f ≡ table.frame
+      → InNode call s c f
+  root_node t table f is e same =
+      let p = may_by t root table is e in
       record { root = table; may = p.0; kind = root_kind table.kind p.1; under = inl same }
 
-  leaf_kind : (j k : Kind) → IsTrue (only (leaf_of j) k) → IsTrue (is_given k)
-  leaf_kind j k h = by_kind (leaf_of j) (leaf_is j) (only_is (leaf_of j) k h)
-    where
-      leaf_is : (j : Kind) → IsTrue (is_given (leaf_of j))
-      leaf_is kind.Table = refl
-      leaf_is _ = refl
+  -- the place of a named table
+  place_by : (t b : ℕ) (table : Capability) (at : Slot) → Uses t (only kind.Table) → named s c t (to_use (only kind.Table)) ≡ Found table
+      → vacant s c (Under (found table) b) ≡ Found at → InNode call s c at.node
+  place_by t b table at is e g =
+      table_node t table at.node is e (under_leaf s c table b at (vacant_facts s c (Under (found table) b) at g).0)
 
-      by_kind : (i : Kind) → IsTrue (is_given i) → k ≡ i → IsTrue (is_given k)
-      by_kind i given same = subst (λ i. IsTrue (is_given i)) (sym same) given
+  -- the capability of what is made
+  made_cap : (k : Kind) (f : ℕ) → only kind.Range k ≡ false → InRange call s c f
+      → IsCopied s c (plain_cap k f) ⊎ IsGiven call s c (plain_cap k f)
+  made_cap k f other range = inr (record { rights = refl; kind = other; frame = inl range })
 
 -- ---- lists of one edit, and of two
 
@@ -266,10 +288,10 @@ module _ (call : Call) (s : State) (c : ℕ) where
   two : (e x : Edit) (v : Value) → Calm c s (e ∷ x ∷ []) → begins_in c s e ≡ [] → By call s c e → By call s c x → Acts call c s (does c s v (e ∷ x ∷ []))
   two e x v calm quiet by next = record { list = e ∷ x ∷ []; is = refl; calm = calm; quiet = quiet; by = (by, (next, tt)) }
 
-  filled : (at : Slot) (k : Capability) → InNode s c at.node → IsCopied s c k ⊎ IsGiven s c k → Acts call c s (fills s at k)
+  filled : (at : Slot) (k : Capability) → InNode call s c at.node → IsCopied s c k ⊎ IsGiven call s c k → Acts call c s (fills s at k)
   filled at k node from = one (Fill at k) Nothing (node, from)
 
-  removed : (target : Target) (at : Slot) (k : Capability) → InNode s c at.node → held s c target ≡ Found (at, k)
+  removed : (target : Target) (at : Slot) (k : Capability) → InNode call s c at.node → held s c target ≡ Found (at, k)
       → Acts call c s (removes s at k)
   removed target at k node e = one (Remove at k) Nothing (node, (held_facts s c target at k e).1)
 
@@ -288,75 +310,76 @@ module _ (s : State) (c : ℕ) (o : ℕ → Bool) (h : IsOpen s o c) where
       → first_cause s c (outside (found range) f ∷ not_untyped s f ∷ []) ≡ None → IsTrue (is_bare (s.frame f))
   bare_untyped r f range e calm = subst (λ x. IsTrue (is_bare x)) (sym (untyped_by s o c r f range h e calm).1) refl
 
-  -- the capability of what is made
-  made_cap : (k : Kind) (f : ℕ) → only kind.Range k ≡ false → InRange s c f → IsCopied s c (plain_cap k f) ⊎ IsGiven s c (plain_cap k f)
-  made_cap k f other range = inr (record { rights = refl; kind = other; frame = inl range })
-
-  -- the place of a named table
-  place_by : (t b : ℕ) (table : Capability) (at : Slot) → named s c t (to_use (only kind.Table)) ≡ Found table
-      → vacant s c (Under (found table) b) ≡ Found at → InNode s c at.node
-  place_by t b table at e g = table_node s c t table at.node e (under_leaf s c table b at (vacant_facts s c (Under (found table) b) at g).0)
-
-  node_acts : (call : Call) (object : Object) (k : Kind) (r f t b : ℕ) → IsFresh (Kernel object)
-      → only kind.Range k ≡ false → ((at : Slot) → Calm c s (Node f object ∷ Fill at (plain_cap k f) ∷ []))
+  node_acts : (call : Call) (object : Object) (k : Kind) (r f t b : ℕ) → Uses call s c r (only kind.Range) → Uses call s c t (only kind.Table)
+      → IsFresh (Kernel object) → only kind.Range k ≡ false → ((at : Slot) → Calm c s (Node f object ∷ Fill at (plain_cap k f) ∷ []))
       → ChangesFrom (Acts call c s) s c (make_node s object k r f t b)
-  node_acts call object k r f t b none other calm_at = λ range e table g at v calm.
-      let within = range_by s c r f range (not_blank s f ∷ []) e calm in
+  node_acts call object k r f t b by_range by_table none other calm_at = λ range e table g at v calm.
+      let within = range_by call s c r f range (not_blank s f ∷ []) by_range e calm in
       two call s c (Node f object) (Fill at (plain_cap k f)) Nothing (calm_at at) refl
       (within, bare_blank r f range [] e calm, none)
-      (place_by t b table at g v, made_cap k f other within)
+      (place_by call s c t b table at by_table g v, made_cap call s c k f other within)
 
   made_acts : (call : Call) (object : Object) (k : Kind) (r f t b : ℕ) (range table : Capability) (at : Slot)
-      → IsFresh (Kernel object) → only kind.Range k ≡ false
+      → Uses call s c r (only kind.Range) → Uses call s c t (only kind.Table) → IsFresh (Kernel object) → only kind.Range k ≡ false
       → named s c r (to_use (only kind.Range)) ≡ Found range → named s c t (to_use (only kind.Table)) ≡ Found table
       → vacant s c (Under (found table) b) ≡ Found at
       → first_cause s c (outside (found range) f ∷ not_blank s f ∷ []) ≡ None → Acts call c s (makes s f object k at)
-  made_acts call object k r f t b range table at none other e g v calm =
-      let within = range_by s c r f range (not_blank s f ∷ []) e calm in
+  made_acts call object k r f t b range table at by_range by_table none other e g v calm =
+      let within = range_by call s c r f range (not_blank s f ∷ []) by_range e calm in
       two call s c (Become f (Kernel object)) (Fill at (plain_cap k f)) Nothing (refl, λ x. refl, tt) refl
       (within, bare_blank r f range [] e calm, none)
-      (place_by t b table at g v, made_cap k f other within)
+      (place_by call s c t b table at by_table g v, made_cap call s c k f other within)
+
+  -- the first two names of a `make`
+  first : {n : ℕ} {want : Want} {A : Type 0} → ((n ≡ n) × (want ≡ want)) ⊎ A
+  first = inl (refl, refl)
+
+  second : {m n : ℕ} {other want : Want} {A : Type 0} → ((n ≡ m) × (want ≡ other)) ⊎ (((n ≡ n) × (want ≡ want)) ⊎ A)
+  second = inr (inl (refl, refl))
 
   make_acts : (what : Make) (r f t b : ℕ) → ChangesFrom (Acts (call.Make what r f t b) c s) s c (make_rule s what r f t b)
-  make_acts make.Table r f t b = node_acts (call.Make make.Table r f t b) Table kind.Table r f t b (record { no_comp = refl; poor = refl }) refl
+  make_acts make.Table r f t b = node_acts (call.Make make.Table r f t b) Table kind.Table r f t b first second (record { no_comp = refl; poor = refl }) refl
       (λ at. (refl, λ x. refl, tt))
-  make_acts make.Leaf r f t b = node_acts (call.Make make.Leaf r f t b) Leaf kind.Leaf r f t b (record { no_comp = refl; poor = refl }) refl
+  make_acts make.Leaf r f t b = node_acts (call.Make make.Leaf r f t b) Leaf kind.Leaf r f t b first second (record { no_comp = refl; poor = refl }) refl
       (λ at. (refl, λ x. refl, tt))
-  make_acts make.Pages r f t b = node_acts (call.Make make.Pages r f t b) Pages kind.Pages r f t b (record { no_comp = refl; poor = refl }) refl
+  make_acts make.Pages r f t b = node_acts (call.Make make.Pages r f t b) Pages kind.Pages r f t b first second (record { no_comp = refl; poor = refl }) refl
       (λ at. (refl, λ x. refl, tt))
-  make_acts make.Pleaf r f t b = node_acts (call.Make make.Pleaf r f t b) Pleaf kind.Pleaf r f t b (record { no_comp = refl; poor = refl }) refl
+  make_acts make.Pleaf r f t b = node_acts (call.Make make.Pleaf r f t b) Pleaf kind.Pleaf r f t b first second (record { no_comp = refl; poor = refl }) refl
       (λ at. (refl, λ x. refl, tt))
   make_acts (make.Thread comp) r f t b = λ range e table g k j at v calm.
       made_acts (call.Make (make.Thread comp) r f t b) (Thread (record { stack = k.frame ∷ []; runs_on = None })) kind.Thread r f t b
-      range table at (record { no_comp = refl; poor = refl }) refl e g v calm
+      range table at first second (record { no_comp = refl; poor = refl }) refl e g v calm
   make_acts (make.Tcap sched quality) r f t b = λ range e table g at v calm.
       made_acts (call.Make (make.Tcap sched quality) r f t b) (Tcap (record { budget = 0; qualities = (sched, quality) ∷ [] }))
-      kind.Tcap r f t b range table at (record { no_comp = refl; poor = refl }) refl e g v calm
+      kind.Tcap r f t b range table at first second (record { no_comp = refl; poor = refl }) refl e g v calm
   make_acts (make.Comp x p l) r f t b = λ range e table g own_table a own_pages d at v calm.
-      let within = range_by s c r f range (not_blank s f ∷ not_taken s l) e calm in
+      let act : Call = call.Make (make.Comp x p l) r f t b in
+      let within = range_by act s c r f range (not_blank s f ∷ not_taken s l) first e calm in
       let q1 = none_parts (refusal_of s c (outside (found range) f)) (first_cause s c (not_blank s f ∷ not_taken s l)) calm in
       let q2 = none_parts (refusal_of s c (not_blank s f)) (first_cause s c (not_taken s l)) q1.1 in
       let q3 = none_parts (refusal_of s c (When (is_live (s.number l)) reply.Occupied)) _ q2.1 in
       let fields : CompFields =
       record { table = own_table.frame; pages = own_pages.frame; number = l; epoch = epoch_of (s.number l) + 1 } in
-      two (call.Make (make.Comp x p l) r f t b) s c (Component f fields) (Fill at (plain_cap kind.Comp f)) Nothing (refl, λ x. refl, tt) refl (
+      two act s c (Component f fields) (Fill at (plain_cap kind.Comp f)) Nothing (refl, λ x. refl, tt) refl (
         within,
         bare_blank r f range (not_taken s l) e calm,
         record {
           dead = when_not (is_live (s.number l)) reply.Occupied q3.0;
-          table = led_by s c x (only kind.Table) own_table a;
-          pages = led_by s c p (only kind.Pages) own_pages d;
+          table = led_by act s c x (only kind.Table) own_table (inr (inr (inl (refl, refl)))) a;
+          pages = led_by act s c p (only kind.Pages) own_pages (inr (inr (inr (inl (refl, refl))))) d;
         },
       )
-      (place_by t b table at g v, made_cap kind.Comp f refl within)
+      (place_by act s c t b table at second g v, made_cap act s c kind.Comp f refl within)
 
   retype_acts : (r f : ℕ) (k : FrameKind) → ChangesFrom (Acts (call.Retype r f k) c s) s c (retype_rule s r f k)
   retype_acts r f frame_kind.User = λ range e calm.
       one (call.Retype r f frame_kind.User) s c (Become f User) Nothing
-      (range_by s c r f range (not_untyped s f ∷ []) e calm, bare_untyped r f range e calm, record { no_comp = refl; poor = refl })
+      (range_by (call.Retype r f frame_kind.User) s c r f range (not_untyped s f ∷ []) first e calm, bare_untyped r f range e calm,
+      record { no_comp = refl; poor = refl })
   retype_acts r f frame_kind.Kernel = λ range e calm.
       one (call.Retype r f frame_kind.Kernel) s c (Become f (Kernel Blank)) Nothing
-      (range_by s c r f range (not_untyped s f ∷ []) e calm, bare_untyped r f range e calm, record { no_comp = refl; poor = refl })
+      (range_by (call.Retype r f frame_kind.Kernel) s c r f range (not_untyped s f ∷ []) first e calm, bare_untyped r f range e calm,
+      record { no_comp = refl; poor = refl })
   retype_acts r f frame_kind.Untyped = λ range e calm.
       let full : Cause = When (not (is_empty s f (s.frame f))) reply.NotEmpty in
       let referenced : Cause = When (nat_lt 0 (refs s f)) (reply.Referenced (refs s f)) in
@@ -370,7 +393,7 @@ module _ (s : State) (c : ℕ) (o : ℕ → Bool) (h : IsOpen s o c) where
       let empty : is_empty s f (s.frame f) ≡ true =
       not_not (is_empty s f (s.frame f)) (when_not (not (is_empty s f (s.frame f))) reply.NotEmpty p5.0) in
       one (call.Retype r f frame_kind.Untyped) s c (Untype f) Nothing
-      (range_by s c r f range (not_retyped s f frame_kind.Untyped) e calm, empty_budget s f (s.frame f) empty)
+      (range_by (call.Retype r f frame_kind.Untyped) s c r f range (not_retyped s f frame_kind.Untyped) first e calm, empty_budget s f (s.frame f) empty)
 
   touch_acts : (v : ℕ) (t : Option Translation) → ChangesFrom (Acts (call.Touch v) c s) s c (touch_by s c (comp_of s c).pages v t)
   touch_acts v None = λ mapping e calm.
@@ -390,8 +413,8 @@ module _ (s : State) (c : ℕ) (o : ℕ → Bool) (h : IsOpen s o c) where
         thread = j;
         names = g;
         frame = refl;
-        led = led_by s c a (only kind.Thread) j g;
-        tcap = led_by s c b (only kind.Tcap) k q;
+        led = led_by (call.Switch a b) s c a (only kind.Thread) j first g;
+        tcap = led_by (call.Switch a b) s c b (only kind.Tcap) k second q;
         idle = is;
       })
 
@@ -409,53 +432,55 @@ module _ (s : State) (c : ℕ) (o : ℕ → Bool) (h : IsOpen s o c) where
   rule_acts (call.Look a) = λ k e calm. nothing (call.Look a) s c
   rule_acts (call.Copy a t b rights) = λ k e table g at v calm.
       let x = named_at s c a (to_copy any) k e in
-      filled (call.Copy a t b rights) s c at (kept k rights.0) (place_by t b table at g v)
+      filled (call.Copy a t b rights) s c at (kept k rights.0) (place_by (call.Copy a t b rights) s c t b table at second g v)
       (inl (record { number = a; at = x.at; reaches = x.reaches; source = k; from = x.from; rights = rights.0; is = refl }))
   rule_acts (call.Remove t b) = λ table e at k g calm.
       removed (call.Remove t b) s c (Under (found table) b) at k
-      (table_node s c t table at.node e (under_leaf s c table b at (held_facts s c (Under (found table) b) at k g).0)) g
+      (table_node (call.Remove t b) s c t table at.node first e (under_leaf s c table b at (held_facts s c (Under (found table) b) at k g).0)) g
   rule_acts (call.Grow t i l) = λ table e leaf f at g calm.
       filled (call.Grow t i l) s c at (plain_cap kind.Link leaf.frame)
-      (root_node s c t table at.node e (entry_root s c table i at (vacant_facts s c (InRoot (found table) i) at g).0))
-      (inr (record { rights = refl; kind = refl; frame = inr (leaf_led l table leaf f) }))
+      (root_node (call.Grow t i l) s c t table at.node first e (entry_root s c table i at (vacant_facts s c (InRoot (found table) i) at g).0))
+      (inr (record { rights = refl; kind = refl; frame = inr (leaf_led t i l table leaf e f) }))
     where
-      leaf_led : (l : ℕ) (table leaf : Capability) → named s c l (to_use (leaf_for (found table))) ≡ Found leaf
-          → LedTo s c is_given leaf.frame
-      leaf_led l table leaf f =
-          let p = may_by s c l (leaf_for (found table)) leaf f in
-          record { cap = leaf; may = p.0; kind = leaf_kind s c table.kind leaf.kind p.1; frame = refl }
+      leaf_led : (t i l : ℕ) (table leaf : Capability) → named s c t (to_use root) ≡ Found table
+          → named s c l (to_use (leaf_for (found table))) ≡ Found leaf → LedTo (call.Grow t i l) s c is_given leaf.frame
+      leaf_led t i l table leaf e f =
+          let p = may_by (call.Grow t i l) s c l (leaf_for (found table)) leaf
+          (inr (inl (refl, ap (λ j. to_use (leaf_for (name_of j))) (sym e)))) f in
+          record { cap = leaf; may = p.0; kind = leaf_kind table.kind leaf.kind p.1; frame = refl }
   rule_acts (call.Shrink t i) = λ table e at k g calm.
       removed (call.Shrink t i) s c (InRoot (found table) i) at k
-      (root_node s c t table at.node e (entry_root s c table i at (held_facts s c (InRoot (found table) i) at k g).0)) g
+      (root_node (call.Shrink t i) s c t table at.node first e (entry_root s c table i at (held_facts s c (InRoot (found table) i) at k g).0)) g
   rule_acts (call.Retype r f k) = retype_acts r f k
   rule_acts (call.Make what r f t b) = make_acts what r f t b
   rule_acts (call.Map p v r f w) = λ pages e range g at u calm.
       filled (call.Map p v r f w) s c at (cap_of kind.Page f w.0)
-      (pages_node s c p pages at.node e (under_leaf s c pages v at (vacant_facts s c (Under (found pages) v) at u).0))
-      (inr (record { rights = refl; kind = refl; frame = inl (range_by s c r f range (not_user s f ∷ []) g calm) }))
+      (pages_node (call.Map p v r f w) s c p pages at.node first e (under_leaf s c pages v at (vacant_facts s c (Under (found pages) v) at u).0))
+      (inr (record { rights = refl; kind = refl; frame = inl (range_by (call.Map p v r f w) s c r f range (not_user s f ∷ []) second g calm) }))
   rule_acts (call.Unmap p v) = λ pages e at k g calm.
       removed (call.Unmap p v) s c (Under (found pages) v) at k
-      (pages_node s c p pages at.node e (under_leaf s c pages v at (held_facts s c (Under (found pages) v) at k g).0)) g
+      (pages_node (call.Unmap p v) s c p pages at.node first e (under_leaf s c pages v at (held_facts s c (Under (found pages) v) at k g).0)) g
   rule_acts (call.Touch v) = touch_acts v (translation_of (s.core c).cached (comp_of s c).pages v)
   rule_acts call.Flush = λ calm. one call.Flush s c Flush Nothing tt
   rule_acts (call.Gate k t b) = λ comp e table g at v calm.
-      filled (call.Gate k t b) s c at (cap_of kind.Gate comp.frame (comp_in (s.frame comp.frame)).epoch) (place_by t b table at g v)
-      (inr (record { rights = refl; kind = refl; frame = inr (comp_led k comp e) }))
+      filled (call.Gate k t b) s c at (cap_of kind.Gate comp.frame (comp_in (s.frame comp.frame)).epoch) (place_by (call.Gate k t b) s c t b table at second g v)
+      (inr (record { rights = refl; kind = refl; frame = inr (comp_led k t b comp e) }))
     where
-      comp_led : (k : ℕ) (comp : Capability) → named s c k (to_use (only kind.Comp)) ≡ Found comp → LedTo s c is_given comp.frame
-      comp_led k comp e =
-          let p = may_by s c k (only kind.Comp) comp e in
+      comp_led : (k t b : ℕ) (comp : Capability) → named s c k (to_use (only kind.Comp)) ≡ Found comp
+          → LedTo (call.Gate k t b) s c is_given comp.frame
+      comp_led k t b comp e =
+          let p = may_by (call.Gate k t b) s c k (only kind.Comp) comp first e in
           record { cap = comp; may = p.0; kind = subst (λ j. IsTrue (is_given j)) (sym (only_is kind.Comp comp.kind p.1)) refl; frame = refl }
   rule_acts (call.Kill k) = λ comp e calm.
       let fields = comp_in (s.frame comp.frame) in
       let p = none_parts (refusal_of s c (not_live s (found comp) fields.number fields.epoch)) None calm in
       let live : is_live_in (s.number fields.number) fields.epoch ≡ true = not_not _ (when_not _ reply.Dead p.0) in
-      let q = may_by s c k (only kind.Comp) comp e in
+      let q = may_by (call.Kill k) s c k (only kind.Comp) comp first e in
       one (call.Kill k) s c (Deaden fields.number fields.epoch) Nothing (comp, q.0, only_is kind.Comp comp.kind q.1, (refl, live))
   rule_acts (call.Call g) = λ gate e calm.
       let p = none_parts (refusal_of s c (When (nat_le 16 (length (thread_of s c).stack)) reply.Deep)) _ calm in
       let q = none_parts (refusal_of s c (not_live s (found gate) (comp_in (s.frame gate.frame)).number gate.arg)) None p.1 in
-      let m = may_by s c g (only kind.Gate) gate e in
+      let m = may_by (call.Call g) s c g (only kind.Gate) gate first e in
       one (call.Call g) s c (Push gate.frame) Nothing (record {
         number = g;
         is = refl;
@@ -472,15 +497,15 @@ module _ (s : State) (c : ℕ) (o : ℕ → Bool) (h : IsOpen s o c) where
   rule_acts (call.Tick n) = λ calm. one (call.Tick n) s c (Charge n) (Amount _) refl
   rule_acts (call.Transfer a b m) = λ j e k f calm.
       one (call.Transfer a b m) s c (Move j.frame k.frame m) Nothing (
-        led_by s c a (only kind.Tcap) j e,
-        led_by s c b (only kind.Tcap) k f,
+        led_by (call.Transfer a b m) s c a (only kind.Tcap) j first e,
+        led_by (call.Transfer a b m) s c b (only kind.Tcap) k second f,
         affords m j k (are_unlike s (found j) (found k) ∷ []) calm,
       )
   rule_acts (call.Delegate a b m) = λ j e k f calm.
       two (call.Delegate a b m) s c (Move j.frame k.frame m) (Merge k.frame (merged_list s j.frame k.frame)) Nothing
       (refl, λ x. refl, tt) refl (
-        led_by s c a (only kind.Tcap) j e,
-        led_by s c b (only kind.Tcap) k f,
+        led_by (call.Delegate a b m) s c a (only kind.Tcap) j first e,
+        led_by (call.Delegate a b m) s c b (only kind.Tcap) k second f,
         affords m j k (are_many s (found j) (found k) ∷ []) calm,
-      ) (led_by s c b (only kind.Tcap) k f)
+      ) (led_by (call.Delegate a b m) s c b (only kind.Tcap) k second f)
   rule_acts (call.Test a b) = λ j e k f calm. nothing (call.Test a b) s c

@@ -11,7 +11,7 @@ use Rattle.spk_nums.specs.declared.replies.Reply.TheVariants as reply
 use Rattle.kernel_rules.specs.State.{Place, Holds, Quiescing, Thread, Frame, Untyped, Kernel, Liveness, Unused, Live, Dead, ThreadFields}
 use Rattle.kernel_rules.specs.State.{Grace, Thing, PlaceOf, FrameOf, NumberOf, State, put, thread_in, thread_of}
 use Rattle.kernel_rules.specs.References.{place_names, frame_names, number_names, core_names, times}
-use Rattle.kernel_rules.specs.Access.{only}
+use Rattle.kernel_rules.specs.Access.{only, to_use}
 use Rattle.kernel_rules.specs.Fitting.{fits}
 use Rattle.kernel_rules.specs.GracePeriods.{same_thing, begun}
 use Rattle.kernel_rules.specs.Rules.{Change, Judged, Refused, Found, frames_of}
@@ -34,7 +34,7 @@ use Rattle.kernel_invariant.proofs.Edited.{Calm}
 use Rattle.state_laws.proofs.Threads.{threads_run}
 use Rattle.authority_laws.specs.Authority.{Part, PlaceIs, FrameIs, NumberIs, CoreIs}
 use Rattle.authority_laws.specs.Graces.{names_of, LosesOne, HasCause, GracesHaveCause}
-use Rattle.authority_laws.proofs.Acts.{LedTo, By, EachBy, Quiet, Acts, rule_acts}
+use Rattle.authority_laws.proofs.Acts.{LedTo, By, EachBy, Quiet, Acts, NamedAt, used_at, rule_acts}
 
 -- ---- lists of frames
 
@@ -121,10 +121,12 @@ module _ (call : Call) (s : State) (c : ℕ) (o : ℕ → Bool) (h : IsOpen s o 
   own_tcap : IsTrue (fits kind.Tcap (s.frame (s.core c).tcap))
   own_tcap = (h.sound.cores c (h.sound.inside c h.is).1).1
 
-  led_fit : (j : Kind) (f : ℕ) → LedTo s c (only j) f → IsTrue (fits j (s.frame f))
-  led_fit j f l = subst (λ n. IsTrue (fits j (s.frame n))) l.frame
+  led_fit : (j : Kind) (f : ℕ) → LedTo call s c (only j) f → IsTrue (fits j (s.frame f))
+  led_fit j f l =
+      let x : NamedAt s c l.may.number (to_use l.may.kinds) l.cap = used_at s c l.cap l.may in
+      subst (λ n. IsTrue (fits j (s.frame n))) l.frame
       (subst (λ i. IsTrue (fits i (s.frame l.cap.frame))) (only_is j l.cap.kind l.kind)
-      (usable_good s o c l.may.at l.cap h.sound h.is l.may.usable).fit)
+      (usable_good s o c x.at l.cap h.sound h.is x.from).fit)
 
   -- a part whose names are known
   lost : (t : State) (f : ℕ) (part : Part) (after before : List ℕ) → names_of t part ≡ after → names_of s part ≡ before

@@ -22,7 +22,7 @@ use Rattle.authority_laws.proofs.Acts.{LedTo, InRange, InNode, By, EachBy}
 
 -- Core c may change this part by a call.
 abbrev pub MayBy : Call → State → ℕ → Part → Type 0
-MayBy call s c x = OwnBy call s c x ⊎ IsUnderOne s c x
+MayBy call s c x = OwnBy call s c x ⊎ IsUnderOne call s c x
 
 -- From x to y the frame g keeps its kind, and its fields but for those that core c may change.
 record KeptAt (call : Call) (s : State) (c g : ℕ) (x y : Frame) : Type 0 where
@@ -89,31 +89,31 @@ bare_then (inr m) f = inr m
 module _ (call : Call) (s : State) (c : ℕ) where
   -- ---- what may be changed by what
 
-  node_may : (f i : ℕ) → InNode s c f → MayBy call s c (PlaceIs f i)
+  node_may : (f i : ℕ) → InNode call s c f → MayBy call s c (PlaceIs f i)
   node_may f i n = inr (record { cap = n.root; may = n.may; over = by_kind n.kind })
     where
       by_kind : (n.root.kind ≡ kind.Table) ⊎ (n.root.kind ≡ kind.Pages) → Over s c n.root.kind n.root (PlaceIs f i)
       by_kind (inl is) = subst (λ k. Over s c k n.root (PlaceIs f i)) (sym is) n.under
       by_kind (inr is) = subst (λ k. Over s c k n.root (PlaceIs f i)) (sym is) n.under
 
-  range_may : (f : ℕ) → InRange s c f → MayBy call s c (FrameIs f)
+  range_may : (f : ℕ) → InRange call s c f → MayBy call s c (FrameIs f)
   range_may f r = inr (record { cap = r.range; may = r.may; over = subst (λ k. Over s c k r.range (FrameIs f)) (sym r.kind) r.has })
 
-  range_place : (f i : ℕ) → InRange s c f → MayBy call s c (PlaceIs f i)
+  range_place : (f i : ℕ) → InRange call s c f → MayBy call s c (PlaceIs f i)
   range_place f i r = inr (record { cap = r.range; may = r.may; over = subst (λ k. Over s c k r.range (PlaceIs f i)) (sym r.kind) r.has })
 
-  range_number : (f l : ℕ) → InRange s c f → is_live (s.number l) ≡ false → MayBy call s c (NumberIs l)
+  range_number : (f l : ℕ) → InRange call s c f → is_live (s.number l) ≡ false → MayBy call s c (NumberIs l)
   range_number f l r none = inr (record { cap = r.range; may = r.may; over = subst (λ k. Over s c k r.range (NumberIs l)) (sym r.kind) none })
 
-  thread_may : (h : ℕ) → LedTo s c (only kind.Thread) h → MayBy call s c (RunsIs h)
+  thread_may : (h : ℕ) → LedTo call s c (only kind.Thread) h → MayBy call s c (RunsIs h)
   thread_may h l =
       inr (record { cap = l.cap; may = l.may; over = subst (λ k. Over s c k l.cap (RunsIs h)) (sym (only_is kind.Thread l.cap.kind l.kind)) (sym l.frame) })
 
-  budget_may : (q : ℕ) → LedTo s c (only kind.Tcap) q → MayBy call s c (BudgetIs q)
+  budget_may : (q : ℕ) → LedTo call s c (only kind.Tcap) q → MayBy call s c (BudgetIs q)
   budget_may q l =
       inr (record { cap = l.cap; may = l.may; over = subst (λ k. Over s c k l.cap (BudgetIs q)) (sym (only_is kind.Tcap l.cap.kind l.kind)) (sym l.frame) })
 
-  list_may : (q : ℕ) → LedTo s c (only kind.Tcap) q → MayBy call s c (ListIs q)
+  list_may : (q : ℕ) → LedTo call s c (only kind.Tcap) q → MayBy call s c (ListIs q)
   list_may q l =
       inr (record { cap = l.cap; may = l.may; over = subst (λ k. Over s c k l.cap (ListIs q)) (sym (only_is kind.Tcap l.cap.kind l.kind)) (sym l.frame) })
 
@@ -141,7 +141,7 @@ module _ (call : Call) (s : State) (c : ℕ) where
   }
 
   -- a frame that had no object
-  fields_fresh : (f : ℕ) (y : Frame) → InRange s c f → IsTrue (is_bare (s.frame f)) → FieldsAt call s c f (s.frame f) y
+  fields_fresh : (f : ℕ) (y : Frame) → InRange call s c f → IsTrue (is_bare (s.frame f)) → FieldsAt call s c f (s.frame f) y
   fields_fresh f y range bare = record {
     bare = inr (range_may f range);
     stack = inl (λ stays. absurd (no_thread (s.frame f) bare stays.0));
@@ -150,7 +150,7 @@ module _ (call : Call) (s : State) (c : ℕ) where
     list = inl (λ stays. absurd (no_tcap (s.frame f) bare stays.0));
   }
 
-  fields_untyped : (f : ℕ) → InRange s c f → FieldsAt call s c f (s.frame f) Untyped
+  fields_untyped : (f : ℕ) → InRange call s c f → FieldsAt call s c f (s.frame f) Untyped
   fields_untyped f range = record {
     bare = inr (range_may f range);
     stack = inl (λ stays. absurd (false≢true stays.1));
@@ -212,11 +212,11 @@ module _ (call : Call) (s : State) (c : ℕ) where
     core = w.core;
   }
 
-  within_place : (t : State) (at : Slot) (p : Place) → InNode s c at.node → Within call s c t → Within call s c (with_place t at.node at.index p)
+  within_place : (t : State) (at : Slot) (p : Place) → InNode call s c at.node → Within call s c t → Within call s c (with_place t at.node at.index p)
   within_place t at p node w = record {
     fields = w.fields;
     place = λ f i. place_all (λ f i x. (x ≡ s.place f i) ⊎ MayBy call s c (PlaceIs f i)) t at.node at.index p f i
-        (λ here on. inr (node_may f i (subst (InNode s c) (sym here) node))) (w.place f i);
+        (λ here on. inr (node_may f i (subst (InNode call s c) (sym here) node))) (w.place f i);
     number = w.number;
     core = w.core;
   }
@@ -241,7 +241,7 @@ module _ (call : Call) (s : State) (c : ℕ) where
       record {
         fields = w.fields;
         place = λ g i. put_all (λ g row. (row i ≡ s.place g i) ⊎ MayBy call s c (PlaceIs g i)) s.place f (λ i. Free) g
-            (λ same. inr (range_place g i (subst (InRange s c) (sym same) by.0))) (λ other. inl refl);
+            (λ same. inr (range_place g i (subst (InRange call s c) (sym same) by.0))) (λ other. inl refl);
         number = w.number;
         core = w.core;
       }

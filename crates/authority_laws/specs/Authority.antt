@@ -5,15 +5,17 @@ use Rattle.spk_nums.specs.declared.calls.Call.{Call}
 use Rattle.spk_nums.specs.declared.calls.Call.TheVariants as call
 use Rattle.spk_nums.specs.declared.replies.Reply.{Reply}
 use Rattle.spk_nums.specs.Capability.{Capability}
-use Rattle.spk_nums.specs.Rights.{has_rights, right_to_use}
 use Rattle.spk_nums.specs.declared.kinds.Kind.{Kind}
 use Rattle.spk_nums.specs.declared.kinds.Kind.TheVariants as kind
 use Rattle.kernel_rules.specs.State.{Thread, Tcap, Frame, Kernel, State, comp_in, thread_in, tcap_in}
-use Rattle.kernel_rules.specs.Access.{Slot, found, usable, reached, own, linked}
+use Rattle.kernel_rules.specs.Access.{found, to_use, usable, linked}
 use Rattle.kernel_rules.specs.Fitting.{fits}
+use Rattle.kernel_rules.specs.Rules.{Found, named}
 use Rattle.kernel_rules.specs.CapabilityCalls.{has_frame, is_live}
 use Rattle.kernel_rules.specs.Life.{is_live_in}
+use Rattle.kernel_rules.specs.CallRelation.{rule_of}
 use Rattle.kernel_rules.specs.Runs.{Event, Decides, after, IsRun}
+use Rattle.call_names.specs.Names.{IsName}
 
 -- A part of the state: what a place of a node is; what kind of frame it is, and what object but for what follows; the stack of a thread,
 -- and where it runs; the budget and the list of a temporal capability; a liveness number; a core.
@@ -56,13 +58,12 @@ Over s c kind.Tcap k (BudgetIs f) = f ≡ k.frame
 Over s c kind.Tcap k (ListIs f) = f ≡ k.frame
 Over s c _ k x = ⊥
 
--- A number of its component's table leads core c to this capability, which may be used.
-pub record MayUse (s : State) (c : ℕ) (k : Capability) : Type 0 where
+-- One of the numbers that the call names, and would use, leads core c to this capability; so this has the right to use.
+pub record MayUse (call : Call) (s : State) (c : ℕ) (k : Capability) : Type 0 where
   pub number : ℕ
-  pub at : Slot
-  pub reaches : reached s c (own s c number) ≡ Some at
-  pub usable : usable s c at ≡ Some k
-  pub right : IsTrue (has_rights k.rights right_to_use)
+  pub kinds : Kind → Bool
+  pub is_name : IsName s c (rule_of s c call) number (to_use kinds)
+  pub leads : named s c number (to_use kinds) ≡ Found k
 
 -- What is core c's own: itself, its thread's stack and where that runs, and the budget of its temporal capability.
 abbrev pub IsOwn : State → ℕ → Part → Type 0
@@ -72,15 +73,15 @@ IsOwn s c (RunsIs f) = f ≡ (s.core c).thread
 IsOwn s c (BudgetIs f) = f ≡ (s.core c).tcap
 IsOwn s c x = ⊥
 
--- A part lies under a capability that may be used.
-pub record IsUnderOne (s : State) (c : ℕ) (x : Part) : Type 0 where
+-- A part lies under a capability that the call may use.
+pub record IsUnderOne (call : Call) (s : State) (c : ℕ) (x : Part) : Type 0 where
   pub cap : Capability
-  pub may : MayUse s c cap
+  pub may : MayUse call s c cap
   pub over : Over s c cap.kind cap x
 
--- Core c may change this part.
-abbrev pub MayChange : State → ℕ → Part → Type 0
-MayChange s c x = IsOwn s c x ⊎ IsUnderOne s c x
+-- Core c may change this part by the call.
+abbrev pub MayChange : Call → State → ℕ → Part → Type 0
+MayChange call s c x = IsOwn s c x ⊎ IsUnderOne call s c x
 
 -- The fields of a thread, and of a temporal capability, are compared where the frame has one before and after; where it has one before or
 -- after alone, the frame itself is another.
@@ -121,15 +122,15 @@ OwnBy call s c (RunsIs f) = (f ≡ (s.core c).thread) × IsTrue (is_of_thread ca
 OwnBy call s c (BudgetIs f) = (f ≡ (s.core c).tcap) × IsTrue (is_of_budget call)
 OwnBy call s c x = ⊥
 
--- In every run, each part that a decision of core c changes is one that c may change.
+-- In every run, each part that a decision of core c changes is one that c may change by that call.
 abbrev pub DecisionsHaveAuthority : Type 0
 DecisionsHaveAuthority = (setting : Setting) → IsSetting setting → (events : List Event) (c : ℕ) (call : Call) (r : Reply)
     → IsRun setting (Decides c call r ∷ events) → (x : Part)
-    → SamePart (after setting events) (after setting (Decides c call r ∷ events)) x ⊎ MayChange (after setting events) c x
+    → SamePart (after setting events) (after setting (Decides c call r ∷ events)) x ⊎ MayChange call (after setting events) c x
 
 -- What is its core's own, a decision changes by the calls that are for it alone.
 abbrev pub CallsChangeTheirOwn : Type 0
 CallsChangeTheirOwn = (setting : Setting) → IsSetting setting → (events : List Event) (c : ℕ) (call : Call) (r : Reply)
     → IsRun setting (Decides c call r ∷ events) → (x : Part)
     → SamePart (after setting events) (after setting (Decides c call r ∷ events)) x
-    ⊎ (OwnBy call (after setting events) c x ⊎ IsUnderOne (after setting events) c x)
+    ⊎ (OwnBy call (after setting events) c x ⊎ IsUnderOne call (after setting events) c x)

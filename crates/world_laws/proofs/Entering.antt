@@ -22,7 +22,7 @@ use Rattle.kernel_invariant.proofs.SoundRuns.{opened, open_is, runs_sound, limit
 use Rattle.kernel_invariant.proofs.Edited.{is_bare, AreLater, Calm}
 use Rattle.state_laws.proofs.Gates.{gates_fit}
 use Rattle.authority_laws.specs.Authority.{Stays}
-use Rattle.authority_laws.proofs.Acts.{Enters, GoesOn, By, EachBy}
+use Rattle.authority_laws.proofs.Acts.{Enters, GoesOn, By, EachBy, used_at}
 use Rattle.authority_laws.proofs.DecidedParts.{decided_from}
 use Rattle.world_laws.specs.Worlds.{works_in, lives_at}
 use Rattle.world_laws.specs.Laws.{EntersBy, EnteredBy}
@@ -241,8 +241,9 @@ module _ (setting : Setting) (lim : IsSetting setting) (events : List Event) (c 
 
   gate_lives : (comp : ℕ) (e : Enters act s c comp) → lives_at s e.gate.frame ≡ true
   gate_lives comp e =
+      let x = used_at s c e.gate e.may in
       let epoch : e.gate.arg ≡ (comp_in (s.frame e.gate.frame)).epoch =
-      (gates_fit setting lim events run.0).used c e.may.at e.gate (ap is_open run.1.is_open) e.may.usable e.kind in
+      (gates_fit setting lim events run.0).used c x.at e.gate (ap is_open run.1.is_open) x.from e.kind in
       let live : is_live_in (s.number (comp_in (s.frame e.gate.frame)).number) e.gate.arg ≡ true =
       subst (λ n. is_live_in (s.number (comp_in (s.frame n)).number) e.gate.arg ≡ true) (sym e.frame) e.lives in
       subst (λ n. is_live_in (s.number (comp_in (s.frame e.gate.frame)).number) n ≡ true) epoch live

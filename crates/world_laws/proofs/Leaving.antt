@@ -91,7 +91,7 @@ module _ (w : ℕ → Bool) (s : State) (c : ℕ) (h : WorksOutside w s c) where
   inside_out : (f : ℕ) → w f ≡ true → w f ≡ false → ⊥
   inside_out f inside out = false≢true (sym out ∙ inside)
 
-  over_out : (x : Part) → IsOf w x → IsUnderOne s c x → ⊥
+  over_out : {call : Call} (x : Part) → IsOf w x → IsUnderOne call s c x → ⊥
   over_out x of one = by_kind one.cap.kind refl x one.over of
     where
       by_kind : (j : Kind) → one.cap.kind ≡ j → (x : Part) → Over s c j one.cap x → IsOf w x → ⊥
@@ -125,7 +125,7 @@ module _ (setting : Setting) (lim : IsSetting setting) (events : List Event) (c 
   pub outside : WorksOutside w s c
   outside = works_outside w s c (opened events) opened_call (links_have_both setting lim events run.0) sealed out
 
-  puts : PutFrom s c t
+  puts : PutFrom call s c t
   puts = decided_put s c (opened events) opened_call call r run.1.permitted
 
   lent : (x : Part) → IsOf w x → SamePart s t x ⊎ OwnBy call s c x
@@ -214,7 +214,7 @@ module _ (setting : Setting) (lim : IsSetting setting) (events : List Event) (c 
       live_inj : (e d f g : ℕ) → Live e f ≡ Live d g → f ≡ g
       live_inj e d f g q = cc
 
-      by_kind : (f : ℕ) → w f ≡ true → LivesFor s f → (one : IsUnderOne s c (NumberIs (comp_in (s.frame f)).number)) → (j : Kind)
+      by_kind : (f : ℕ) → w f ≡ true → LivesFor s f → (one : IsUnderOne call s c (NumberIs (comp_in (s.frame f)).number)) → (j : Kind)
           → one.cap.kind ≡ j → Over s c j one.cap (NumberIs (comp_in (s.frame f)).number) → ⊥
       by_kind f of h one kind.Range is none = false≢true (sym none ∙ ap is_live h.live)
       by_kind f of h one kind.Comp is by =

@@ -6,6 +6,7 @@ use Rattle.spk_nums.specs.Capability.{Capability}
 use Rattle.spk_nums.specs.Rights.{both, kept_rights}
 use Rattle.spk_nums.specs.declared.kinds.Kind.{Kind}
 use Rattle.spk_nums.specs.declared.kinds.Kind.TheVariants as kind
+use Rattle.spk_nums.specs.declared.calls.Call.{Call}
 use Rattle.kernel_rules.specs.State.{Place, Free, Holds, Quiescing, PlaceOf, State}
 use Rattle.kernel_rules.specs.Access.{Slot, only, usable, usable_in}
 use Rattle.kernel_rules.specs.GracePeriods.{returned}
@@ -35,7 +36,7 @@ link_kept j own these is e = by_kind j (only_is kind.Link j is)
     by_kind : (j : Kind) → j ≡ kind.Link → kept_rights j own these ≡ both
     by_kind j same = ap (λ i. kept_rights i own these) same ∙ e
 
-put_both : (s : State) (c f : ℕ) (k : Capability) → LinksHaveBoth s → Put s c f k → IsTrue (only kind.Link k.kind) → k.rights ≡ both
+put_both : {call : Call} (s : State) (c f : ℕ) (k : Capability) → LinksHaveBoth s → Put call s c f k → IsTrue (only kind.Link k.kind) → k.rights ≡ both
 put_both s c f k h (node, inr given) is = given.rights
 put_both s c f k h (node, inl copied) is =
     let link : IsTrue (only kind.Link copied.source.kind) = subst (λ (j : Capability). IsTrue (only kind.Link j.kind)) copied.is is in

@@ -7,6 +7,7 @@ use Rattle.spk_nums.specs.Rights.{both, kept, has_rights, right_to_use}
 use Rattle.spk_nums.proofs.KeptRights.{kept_has}
 use Rattle.spk_nums.specs.declared.kinds.Kind.{Kind}
 use Rattle.spk_nums.specs.declared.kinds.Kind.TheVariants as kind
+use Rattle.spk_nums.specs.declared.calls.Call.{Call}
 use Rattle.kernel_rules.specs.State.{Comp, Frame, Kernel, State, comp_in, comp_of}
 use Rattle.kernel_rules.specs.Start.{plain_cap}
 use Rattle.kernel_rules.specs.Access.{Slot, only, linked, usable, reached, own}
@@ -16,7 +17,7 @@ use Rattle.kernel_invariant.proofs.SoundCalls.{IsOpen}
 use Rattle.kernel_invariant.proofs.Facts.{none_some, some_inj}
 use Rattle.found_stays.proofs.Stays.{comp_fit}
 use Rattle.authority_laws.specs.Authority.{IsUnder, MayUse}
-use Rattle.authority_laws.proofs.Acts.{LedTo, InRange, InNode, IsCopied, IsGiven, is_given, under_leaf}
+use Rattle.authority_laws.proofs.Acts.{LedTo, InRange, InNode, IsCopied, IsGiven, is_given, used_at, under_leaf}
 use Rattle.world_laws.specs.Worlds.{works_in, LeadsTo, gates, OnlyGates, HoldsNone, IsSealed}
 use Rattle.world_laws.proofs.Puts.{Put}
 
@@ -84,16 +85,16 @@ module _ (w : ℕ → Bool) (s : State) (c : ℕ) (h : WorksOutside w s c) where
   reached_out n at e =
       under_out (comp_of s c).table at.node h.table (under_leaf s c (plain_cap kind.Table (comp_of s c).table) n at e)
 
-  pub may_none : (k : Capability) → MayUse s c k → HoldsNone w gates k
-  may_none k m = h.sealed.places m.at.node m.at.index c k (reached_out m.number m.at m.reaches) m.usable
+  pub may_none : {call : Call} (k : Capability) → MayUse call s c k → HoldsNone w gates k
+  may_none k m = let x = used_at s c k m in h.sealed.places x.at.node x.at.index c k (reached_out m.number x.at x.reaches) x.from
 
-  pub may_out : (k : Capability) (j : Kind) (f : ℕ) → MayUse s c k → k.kind ≡ j → gates j ≡ false → LeadsTo j k f → w f ≡ false
-  may_out k j f m = led_out w k j f (may_none k m) m.right
+  pub may_out : {call : Call} (k : Capability) (j : Kind) (f : ℕ) → MayUse call s c k → k.kind ≡ j → gates j ≡ false → LeadsTo j k f → w f ≡ false
+  may_out k j f m = led_out w k j f (may_none k m) (used_at s c k m).rights
 
-  pub range_out : (f : ℕ) → InRange s c f → w f ≡ false
+  pub range_out : {call : Call} (f : ℕ) → InRange call s c f → w f ≡ false
   range_out f r = may_out r.range kind.Range f r.may r.kind refl r.has
 
-  pub node_out : (f : ℕ) → InNode s c f → w f ≡ false
+  pub node_out : {call : Call} (f : ℕ) → InNode call s c f → w f ≡ false
   node_out f n = under_out n.root.frame f (by_kind n.kind) n.under
     where
       by_kind : (n.root.kind ≡ kind.Table) ⊎ (n.root.kind ≡ kind.Pages) → w n.root.frame ≡ false
@@ -101,7 +102,7 @@ module _ (w : ℕ → Bool) (s : State) (c : ℕ) (h : WorksOutside w s c) where
       by_kind (inr is) = may_out n.root kind.Pages n.root.frame n.may is refl refl
 
   -- a capability of one kind, which is neither a gate's nor a range's
-  pub led_frame : (j : Kind) (f : ℕ) → gates j ≡ false → only kind.Range j ≡ false → LedTo s c (only j) f → w f ≡ false
+  pub led_frame : {call : Call} (j : Kind) (f : ℕ) → gates j ≡ false → only kind.Range j ≡ false → LedTo call s c (only j) f → w f ≡ false
   led_frame j f crosses other l =
       may_out l.cap j f l.may (only_is j l.cap.kind l.kind) crosses (leads_plain j l.cap f other (sym l.frame))
 
@@ -121,19 +122,19 @@ module _ (w : ℕ → Bool) (s : State) (c : ℕ) (h : WorksOutside w s c) where
       leads_kept kind.Range f leads = leads
       leads_kept _ f leads = leads
 
-  given_none : (crosses : Kind → Bool) (k : Capability) → IsGiven s c k → HoldsNone w crosses k
+  given_none : {call : Call} (crosses : Kind → Bool) (k : Capability) → IsGiven call s c k → HoldsNone w crosses k
   given_none crosses k x right crossing f leads = ap w (leads_frame k.kind x.kind leads) ∙ by_frame x.frame
     where
       leads_frame : (j : Kind) → only kind.Range j ≡ false → LeadsTo j k f → f ≡ k.frame
       leads_frame kind.Range other l = absurd (true≢false other)
       leads_frame _ other l = l
 
-      by_frame : InRange s c k.frame ⊎ LedTo s c is_given k.frame → w k.frame ≡ false
+      by_frame : InRange call s c k.frame ⊎ LedTo call s c is_given k.frame → w k.frame ≡ false
       by_frame (inl r) = range_out k.frame r
       by_frame (inr l) =
           let g = given_kind l.cap.kind l.kind in
           may_out l.cap l.cap.kind k.frame l.may refl g.0 (leads_plain l.cap.kind l.cap k.frame g.1 (sym l.frame))
 
-  pub put_none : (crosses : Kind → Bool) → IsSealed w crosses s → (f : ℕ) (k : Capability) → Put s c f k → HoldsNone w crosses k
+  pub put_none : {call : Call} (crosses : Kind → Bool) → IsSealed w crosses s → (f : ℕ) (k : Capability) → Put call s c f k → HoldsNone w crosses k
   put_none crosses sealed f k (node, inl x) = copied_none crosses sealed k x
   put_none crosses sealed f k (node, inr x) = given_none crosses k x

@@ -26,7 +26,7 @@ use Rattle.kernel_invariant.proofs.SoundCalls.{IsOpen, tcap_below}
 use Rattle.kernel_invariant.proofs.SoundRuns.{opened}
 use Rattle.kernel_invariant.proofs.Facts.{usable_good}
 use Rattle.kernel_invariant.proofs.Edited.{is_bare, AreLater, Calm}
-use Rattle.authority_laws.proofs.Acts.{LedTo, By, EachBy}
+use Rattle.authority_laws.proofs.Acts.{LedTo, By, EachBy, used_at}
 use Rattle.authority_laws.proofs.DecidedParts.{decided_from}
 use Rattle.world_laws.specs.Worlds.{works_in, gates, OnlyGates, AreApart}
 use Rattle.world_laws.specs.Time.{counted_if, ticks_in, RunsAcross, ActsAcross, TimeOfWorlds}
@@ -106,15 +106,17 @@ moved_sum = charged_sum
 -- ---- edits
 
 module _ (w : ℕ → Bool) (call : Call) (s : State) (c : ℕ) (o : ℕ → Bool) (h : IsOpen s o c) (b : Bool)
-    (side : (j : Kind) (f : ℕ) → gates j ≡ false → only kind.Range j ≡ false → LedTo s c (only j) f → w f ≡ b)
+    (side : (j : Kind) (f : ℕ) → gates j ≡ false → only kind.Range j ≡ false → LedTo call s c (only j) f → w f ≡ b)
     (of_thread : w (s.core c).thread ≡ b) (of_tcap : w (s.core c).tcap ≡ b) where
   below : c < s.limits.cores
   below = (h.sound.inside c h.is).1
 
-  tcap_fit : (f : ℕ) → LedTo s c (only kind.Tcap) f → IsTrue (fits kind.Tcap (s.frame f))
-  tcap_fit f l = subst (λ n. IsTrue (fits kind.Tcap (s.frame n))) l.frame
+  tcap_fit : (f : ℕ) → LedTo call s c (only kind.Tcap) f → IsTrue (fits kind.Tcap (s.frame f))
+  tcap_fit f l =
+      let x = used_at s c l.cap l.may in
+      subst (λ n. IsTrue (fits kind.Tcap (s.frame n))) l.frame
       (subst (λ i. IsTrue (fits i (s.frame l.cap.frame))) (only_is kind.Tcap l.cap.kind l.kind)
-      (usable_good s o c l.may.at l.cap h.sound h.is l.may.usable).fit)
+      (usable_good s o c x.at l.cap h.sound h.is x.from).fit)
 
   own_fit : IsTrue (fits kind.Tcap (s.frame (s.core c).tcap))
   own_fit = (h.sound.cores c below).1
@@ -224,7 +226,7 @@ module _ (setting : Setting) (lim : IsSetting setting) (events : List Event) (c 
   now = after setting events
 
   side_of : (b : Bool) → w (works_in now c) ≡ b → (j : Kind) (f : ℕ) → gates j ≡ false → only kind.Range j ≡ false
-      → LedTo now c (only j) f → w f ≡ b
+      → LedTo call now c (only j) f → w f ≡ b
   side_of false is j f crosses plain led =
       led_frame w now c (outside setting lim events c call r run w apart.inside is) j f crosses plain led
   side_of true is j f crosses plain led = not_false (w f)
