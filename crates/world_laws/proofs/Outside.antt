@@ -123,7 +123,7 @@ module _ (w : ℕ → Bool) (s : State) (c : ℕ) (h : WorksOutside w s c) where
       leads_kept _ f leads = leads
 
   given_none : {call : Call} (crosses : Kind → Bool) (k : Capability) → IsGiven call s c k → HoldsNone w crosses k
-  given_none crosses k x right crossing f leads = ap w (leads_frame k.kind x.kind leads) ∙ by_frame x.frame
+  given_none {call = call} crosses k x right crossing f leads = ap w (leads_frame k.kind x.kind leads) ∙ by_frame x.frame
     where
       leads_frame : (j : Kind) → only kind.Range j ≡ false → LeadsTo j k f → f ≡ k.frame
       leads_frame kind.Range other l = absurd (true≢false other)

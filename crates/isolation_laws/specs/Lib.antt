@@ -1,0 +1,4 @@
+pub mod Carried
+pub mod Authority
+pub mod Worlds
+pub mod Origins
