@@ -20,6 +20,9 @@ use Rattle.flight_laws.proofs.Pages.{cached_frames_stay, cached_till_flush, touc
 use Rattle.flight_laws.proofs.Lives.{dead_for_good, killed_stop}
 use Rattle.flight_laws.proofs.Invocations.{enters_none_killed, enters_the_living}
 use Rattle.flight_laws.proofs.Threads.{threads_apart, words_say}
+use Rattle.isolation_laws.proofs.StepAuthority.{steps_have_authority}
+use Rattle.isolation_laws.proofs.StepWorlds.{steps_enter_worlds, steps_spare_worlds}
+use Rattle.isolation_laws.proofs.StretchWorlds.{stretches_keep_worlds}
 use Rattle.time_laws.proofs.Time.{time_kept, ticks_counted, heads_say, lists_say, tests_tell}
 use Rattle.time_laws.proofs.MarkedHeads.{open_heads_say}
 use Rattle.time_laws.proofs.OwedHeads.{marked_heads_say}
@@ -100,4 +103,8 @@ made_histories setup lim t made =
       marked_heads_say = moments setup t made (marked_heads_say setup lim);
       lists_say = moments setup t made (lists_say setup lim);
       tests_tell = steps setup t made (λ v e is. tests_tell setup lim e v is);
+      have_authority = steps setup t made (λ v e is. steps_have_authority setup lim v e (made_stands setup lim (e ∷ v) is).legal);
+      worlds_spared = steps setup t made (λ v e is. steps_spare_worlds setup lim v e (made_stands setup lim (e ∷ v) is).legal);
+      worlds_entered = steps setup t made (λ v e is. steps_enter_worlds setup lim v e (made_stands setup lim (e ∷ v) is).legal);
+      worlds_stay = stretches setup t made (λ u v is. stretches_keep_worlds setup lim u v (made_stands setup lim (u ++ v) is).legal);
     }

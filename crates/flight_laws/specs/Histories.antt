@@ -19,13 +19,15 @@ use Rattle.flight_laws.specs.Pages.{CachedFramesStay, CachedTillFlush, TouchesCa
 use Rattle.flight_laws.specs.Lives.{DeadForGood, KilledStop}
 use Rattle.flight_laws.specs.Invocations.{EntersTheLiving, EntersNoneKilled}
 use Rattle.flight_laws.specs.Threads.{ThreadsRunApart, ThreadWordsSay}
+use Rattle.isolation_laws.specs.Authority.{HasAuthority}
+use Rattle.isolation_laws.specs.Worlds.{SparesWorlds, EntersWorlds, WorldsStay}
 use Rattle.time_laws.specs.Time.{TimeIsKept, TicksAreCounted, HeadsSay, OpenHeadsSay, MarkedHeadsSay, ListsSay, TestsTell}
 
 -- The trace is the machine's, and is a legal history: its replies are those of the sequential kernel, each at a step of its call,
 -- and justified. Its calls keep within their bounds of steps, each step keeps the discipline of words and is in the footprint of its
 -- call, at each moment the words say what the state is, and a call made alone answers as in the sequential kernel. Then come the
--- laws of when calls are decided, places, frames, counts, translations, components, threads and time; what each says stands with its
--- definition.
+-- laws of when calls are decided, places, frames, counts, translations, components, threads, time, authority and worlds; what each says
+-- stands with its definition.
 pub record IsHistory (setup : Setting) (t : Trace) : Type 0 where
   pub made : IsMade setup t
   pub legal : IsLegal setup t
@@ -70,6 +72,11 @@ pub record IsHistory (setup : Setting) (t : Trace) : Type 0 where
   pub marked_heads_say : AtEachMoment (MarkedHeadsSay setup) t
   pub lists_say : AtEachMoment (ListsSay setup) t
   pub tests_tell : AtEachStep (TestsTell setup) t
+  -- what a step may change, and worlds that nothing outside holds
+  pub have_authority : AtEachStep (HasAuthority setup) t
+  pub worlds_spared : AtEachStep (SparesWorlds setup) t
+  pub worlds_entered : AtEachStep (EntersWorlds setup) t
+  pub worlds_stay : OfEachStretch (WorldsStay setup) t
 
 -- Each trace that is the machine's is such a history.
 abbrev pub MadeHistories : Type 0

@@ -4,6 +4,7 @@ pub use Rattle.time_laws.specs.trace_laws
 pub use Rattle.time_laws.specs.core_invariant
 pub use Rattle.time_laws.specs.flight
 pub use Rattle.time_laws
+pub use Rattle.isolation_laws
 -- Its own: the laws, and the record that has them.
 pub mod Moments
 pub use Rattle.time_laws.specs.Time

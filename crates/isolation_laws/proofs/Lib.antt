@@ -6,3 +6,5 @@ pub mod StepWorlds
 pub mod StretchWorlds
 -- Where capabilities come from.
 pub mod Origins
+-- What follows from all of them.
+pub mod Uses

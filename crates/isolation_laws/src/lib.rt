@@ -9,6 +9,7 @@
 
 ghost use Rattle.isolation_laws.specs.Authority.{StepsHaveAuthority};
 ghost use Rattle.isolation_laws.specs.Origins.{StepsPutFalling, StretchesConfine, TracesHaveChains};
+ghost use Rattle.isolation_laws.specs.Uses.{SparedPlacesStay, UndecidedChangeNothing, WorldsStayAlone};
 ghost use Rattle.isolation_laws.specs.Worlds.{StepsEnterWorlds, StepsSpareWorlds, StretchesKeepWorlds};
 
 /// In every legal trace, each part of the state that a step changes is its core itself, or its core's own by a call that is for it, or lies
@@ -55,4 +56,23 @@ pub fn traces_have_chains()
 #[tactic(auto, using(crate::proofs::Origins::stretches_confine))]
 pub fn stretches_confine()
     ensures { StretchesConfine }
+{}
+
+/// A step that has authority and decides nothing changes no part of the state but its core.
+#[tactic(auto, using(crate::proofs::Uses::undecided_change_nothing))]
+pub fn undecided_change_nothing()
+    ensures { UndecidedChangeNothing }
+{}
+
+/// A step that spares worlds changes no place of a sealed world outside of which its core works.
+#[tactic(auto, using(crate::proofs::Uses::spared_places_stay))]
+pub fn spared_places_stay()
+    ensures { SparedPlacesStay }
+{}
+
+/// Where worlds stay over some steps, and no core that makes one of them works inside a sealed world, it is sealed after them, and its
+/// components live. Where two worlds are apart they stay so; and each keeps its ticks where no core that makes one of the steps runs across.
+#[tactic(auto, using(crate::proofs::Uses::worlds_stay_alone))]
+pub fn worlds_stay_alone()
+    ensures { WorldsStayAlone }
 {}

@@ -1,5 +1,5 @@
-//! Laws of a history as a caller of the kernel for threads has them: each from the contract of `Kernel::call` alone, by one projection of
-//! the record of all that holds of a machine's history. Should a law be out of a caller's reach, this crate would not be proved.
+//! Laws of a history as a caller of the kernel for threads has them: each from the contract of `Kernel::call` or of a port alone, by one
+//! projection of the record of all that holds of a machine's history. Should a law be out of a caller's reach, this crate would not be proved.
 //!
 //! See docs/CLAIMS.md, 'The laws of a history'.
 #![tactic(auto)]
@@ -10,9 +10,11 @@ ghost use Rattle.core_kernel.specs.Calls.{MakesCall};
 ghost use Rattle.core_kernel.specs.flight_laws.specs.Pages.{CachedFramesStay};
 ghost use Rattle.core_kernel.specs.flight_laws.specs.Threads.{ThreadsRunApart};
 ghost use Rattle.core_kernel.specs.flight_laws.specs.Time.{TimeIsKept};
+ghost use Rattle.seat_laws.specs.Ports.{StaySince, TellsOfWorlds};
 
 use core_kernel::{CoreSeat, Kernel};
-use spk_nums::{Call, Make, Reply};
+use core_machine::Port;
+use spk_nums::{Call, CoreNo, Make, Reply};
 
 /// Makes the call of the seat's core, and answers its reply. After all that the seat has then seen, budgets and spent ticks sum to the
 /// grants, no thread is the current one of two cores, and each translation that a core has cached names a user frame. The call is in its
@@ -27,4 +29,27 @@ pub fn call_and_tell(kernel: &Kernel, seat: &mut CoreSeat, call: Call) -> Reply
 {
     let _made: Option<Make> = None;
     kernel.call(seat, call)
+}
+
+/// The port's core. Its contract says what every port tells of authority and of worlds, by all that it has seen.
+#[tactic(auto, using(crate::proofs::Ports::tells))]
+pub fn port_tells(port: &Port) -> CoreNo
+    ensures core { result ≡ port.now.core }
+    ensures worlds { TellsOfWorlds port.now }
+{
+    port.core()
+}
+
+/// Makes the call of the port's core, and answers its reply. Worlds that were apart after what the port had seen are so after what it has
+/// then seen, whatever all cores have done since; one that was sealed is so too, or a core inside has carried out a call. The call is in its
+/// limits.
+#[tactic(auto, using(crate::proofs::Ports::tells, crate::proofs::Ports::stay_since))]
+pub fn ask_and_tell(port: &mut Port, call: Call) -> Reply
+    requires limits { InLimits call }
+    ensures makes { MakesCall port.old call result port.new }
+    ensures worlds { TellsOfWorlds port.new }
+    ensures since { StaySince port.old port.new }
+{
+    let _made: Option<Make> = None;
+    port.call(call)
 }

@@ -1,0 +1,35 @@
+-- What a port tells of worlds, by projections of the record of a history.
+use Rattle.std.proofs.Common.{◌≡◌, inl, inr, ℕ, Bool, [], ◌++◌, sym, subst}
+use Rattle.spk_nums.specs.declared.calls.Call.{Call}
+use Rattle.spk_nums.specs.declared.replies.Reply.{Reply}
+use Rattle.core_kernel.specs.Calls.{HasSeen, MakesCall}
+use Rattle.core_kernel.specs.Kernel.{KernelValue, CoreSeatValue}
+use Rattle.core_kernel.specs.kernel_history.specs.Trace.{Trace, state_after}
+use Rattle.core_kernel.specs.flight_laws.specs.Histories.{IsHistory}
+use Rattle.core_kernel.specs.flight_laws.specs.isolation_laws.specs.Worlds.{WorldsStay}
+use Rattle.core_kernel.specs.flight_laws.specs.isolation_laws.specs.world_laws.specs.Worlds.{IsSealed, AreApart}
+use Rattle.seat_laws.specs.Ports.{TellsOfWorlds, StaySince}
+
+pub tells : (port : CoreSeatValue) → HasSeen port → TellsOfWorlds port
+tells port seen = record {
+  authority = seen.history.have_authority;
+  spared = seen.history.worlds_spared;
+  entered = seen.history.worlds_entered;
+  stay = seen.history.worlds_stay;
+}
+
+pub stay_since : (older newer : CoreSeatValue) (call : Call) (r : Reply) → MakesCall older call r newer → HasSeen newer → StaySince older newer
+stay_since older newer call r makes seen =
+    let history : IsHistory older.kernel.setup newer.seen =
+    subst (λ (k : KernelValue). IsHistory k.setup newer.seen) makes.kernel seen.history in
+    let stay : WorldsStay older.kernel.setup makes.since older.seen = history.worlds_stay [] makes.since older.seen makes.begins in
+    record {
+      since = makes.since;
+      begins = makes.begins;
+      apart = λ w crosses only apart. subst (λ (u : Trace). AreApart w crosses (state_after older.kernel.setup u)) (sym makes.begins)
+          (stay.apart w crosses only apart);
+      sealed = λ w crosses only sealed. elim (stay.sealed w crosses only sealed) [
+        | inl h ↦ inl (subst (λ (u : Trace). IsSealed w crosses (state_after older.kernel.setup u)) (sym makes.begins) h)
+        | inr by ↦ inr by
+      ];
+    }
