@@ -2,42 +2,47 @@
 use Rattle.std.proofs.Common.{◌≡◌, ◌≢◌, ◌⊎◌, inl, inr, ℕ, ◌≤◌, ◌+◌, ◌/◌, ◌%◌, Bool, true, false, not, refl, sym, ◌∙◌, ap, subst}
 use Rattle.std.proofs.Common.{◌==◌, nat_lt, nat_le, if◌then◌else◌, length, IsTrue, List, [], ◌∷◌, Option, Some, None}
 use Rattle.std.proofs.lemmas.Bool.{false≢true, eqb-true, eqb-false, ltb-false}
-use Rattle.spk_nums.specs.Capability.{Capability, cap_of}
-use Rattle.spk_nums.specs.Rights.{both, kept, has_rights}
-use Rattle.spk_nums.specs.declared.kinds.Kind.{Kind}
-use Rattle.spk_nums.specs.declared.kinds.Kind.TheVariants as kind
-use Rattle.spk_nums.specs.declared.kinds.FrameKind.{FrameKind}
-use Rattle.spk_nums.specs.declared.kinds.FrameKind.TheVariants as frame_kind
-use Rattle.spk_nums.specs.declared.calls.Make.{Make}
-use Rattle.spk_nums.specs.declared.calls.Make.TheVariants as make
-use Rattle.spk_nums.specs.declared.calls.Call.{Call}
-use Rattle.spk_nums.specs.declared.calls.Call.TheVariants as call
-use Rattle.spk_nums.specs.declared.translations.Translation.{Translation}
-use Rattle.spk_nums.specs.declared.replies.Value.{Value}
-use Rattle.spk_nums.specs.declared.replies.Value.TheVariants.{Nothing, Amount}
-use Rattle.spk_nums.specs.declared.replies.Reply.TheVariants as reply
-use Rattle.kernel_rules.specs.State.{Holds, CompFields, Object, Blank, Table, Leaf, Pages, Pleaf, Thread, Tcap}
-use Rattle.kernel_rules.specs.State.{Frame, User, Kernel, FrameOf, State, tcap_in, comp_in, comp_of, thread_in, thread_of}
-use Rattle.kernel_rules.specs.Start.{plain_cap}
-use Rattle.kernel_rules.specs.Access.{Want, to_use, to_copy, any, only, root, found, Slot, Target, Under, InRoot}
-use Rattle.kernel_rules.specs.Access.{linked, slot_in, usable, reached, own, place_at, root_slot}
-use Rattle.kernel_rules.specs.Fitting.{fits}
-use Rattle.kernel_rules.specs.References.{refs}
-use Rattle.kernel_rules.specs.Rules.{waits_of, flushes_of, WaitedFor, Unflushed, Change, Cause, When, Found, name_of, named, vacant, held, fills, removes, answers, first_cause, refusal_of}
-use Rattle.kernel_rules.specs.CapabilityCalls.{has_frame, outside, not_blank, makes, make_node, make_rule, not_taken, is_live, epoch_of}
-use Rattle.kernel_rules.specs.CapabilityCalls.{leaf_of, leaf_for}
-use Rattle.kernel_rules.specs.MemoryCalls.{not_user, not_untyped, not_retyped, retype_rule, touch_by, translation_of, translated, is_empty, is_untyped_now}
-use Rattle.kernel_rules.specs.Life.{is_live_in}
-use Rattle.kernel_rules.specs.InvocationCalls.{not_live, switch_to}
-use Rattle.kernel_rules.specs.TimeCalls.{merged_list, tcap_at, are_same, is_short, are_unlike, are_many}
-use Rattle.kernel_rules.specs.CallRelation.{rule_of}
-use Rattle.kernel_invariant.specs.Edits.{Edit, Fill, Remove, Node, Become, Untype, Component, Deaden, Push, Pop, Switch, Cache, Flush}
-use Rattle.kernel_invariant.specs.Edits.{Charge, Move, Merge, begins_in, does}
-use Rattle.kernel_invariant.proofs.Sound.{only_is}
-use Rattle.kernel_invariant.proofs.SoundCalls.{IsOpen, blank_by, untyped_by}
-use Rattle.kernel_invariant.proofs.Facts.{ChangesFrom, Suits, suits, none_some, some_inj, some_none, vacant_facts, held_facts, none_parts, when_not, not_not, first_two}
-use Rattle.kernel_invariant.proofs.Edited.{is_bare, Calm}
-use Rattle.found_stays.proofs.Stays.{name_parts}
+use Rattle.state_laws.specs.spk_nums.specs.Capability.{Capability, cap_of}
+use Rattle.state_laws.specs.spk_nums.specs.Rights.{both, kept, has_rights}
+use Rattle.state_laws.specs.spk_nums.specs.declared.kinds.Kind.{Kind}
+use Rattle.state_laws.specs.spk_nums.specs.declared.kinds.Kind.TheVariants as kind
+use Rattle.state_laws.specs.spk_nums.specs.declared.kinds.FrameKind.{FrameKind}
+use Rattle.state_laws.specs.spk_nums.specs.declared.kinds.FrameKind.TheVariants as frame_kind
+use Rattle.state_laws.specs.spk_nums.specs.declared.calls.Make.{Make}
+use Rattle.state_laws.specs.spk_nums.specs.declared.calls.Make.TheVariants as make
+use Rattle.state_laws.specs.spk_nums.specs.declared.calls.Call.{Call}
+use Rattle.state_laws.specs.spk_nums.specs.declared.calls.Call.TheVariants as call
+use Rattle.state_laws.specs.spk_nums.specs.declared.translations.Translation.{Translation}
+use Rattle.state_laws.specs.spk_nums.specs.declared.replies.Value.{Value}
+use Rattle.state_laws.specs.spk_nums.specs.declared.replies.Value.TheVariants.{Nothing, Amount}
+use Rattle.state_laws.specs.spk_nums.specs.declared.replies.Reply.TheVariants as reply
+use Rattle.state_laws.specs.kernel_rules.specs.State.{Holds, CompFields, Object, Blank, Table, Leaf, Pages, Pleaf, Thread, Tcap}
+use Rattle.state_laws.specs.kernel_rules.specs.State.{Frame, User, Kernel, FrameOf, State, tcap_in, comp_in, comp_of, thread_in, thread_of}
+use Rattle.state_laws.specs.kernel_rules.specs.Start.{plain_cap}
+use Rattle.state_laws.specs.kernel_rules.specs.Access.{Want, to_use, to_copy, any, only, root, found, Slot, Target, Under, InRoot}
+use Rattle.state_laws.specs.kernel_rules.specs.Access.{linked, slot_in, usable, reached, own, place_at, root_slot}
+use Rattle.state_laws.specs.kernel_rules.specs.Fitting.{fits}
+use Rattle.state_laws.specs.kernel_rules.specs.References.{refs}
+use Rattle.state_laws.specs.kernel_rules.specs.Rules.{waits_of, flushes_of, WaitedFor, Unflushed, Change, Cause, When, Found, name_of}
+use Rattle.state_laws.specs.kernel_rules.specs.Rules.{named, vacant, held, fills, removes, answers, first_cause, refusal_of}
+use Rattle.state_laws.specs.kernel_rules.specs.CapabilityCalls.{has_frame, outside, not_blank, makes, make_node, make_rule, not_taken}
+use Rattle.state_laws.specs.kernel_rules.specs.CapabilityCalls.{is_live, epoch_of}
+use Rattle.state_laws.specs.kernel_rules.specs.CapabilityCalls.{leaf_of, leaf_for}
+use Rattle.state_laws.specs.kernel_rules.specs.MemoryCalls.{not_user, not_untyped, not_retyped, retype_rule, touch_by, translation_of}
+use Rattle.state_laws.specs.kernel_rules.specs.MemoryCalls.{translated, is_empty, is_untyped_now}
+use Rattle.state_laws.specs.kernel_rules.specs.Life.{is_live_in}
+use Rattle.state_laws.specs.kernel_rules.specs.InvocationCalls.{not_live, switch_to}
+use Rattle.state_laws.specs.kernel_rules.specs.TimeCalls.{merged_list, tcap_at, are_same, is_short, are_unlike, are_many}
+use Rattle.state_laws.specs.kernel_rules.specs.CallRelation.{rule_of}
+use Rattle.state_laws.specs.kernel_invariant.specs.Edits.{Edit, Fill, Remove, Node, Become, Untype, Component, Deaden, Push, Pop, Switch}
+use Rattle.state_laws.specs.kernel_invariant.specs.Edits.{Cache, Flush}
+use Rattle.state_laws.specs.kernel_invariant.specs.Edits.{Charge, Move, Merge, begins_in, does}
+use Rattle.state_laws.specs.kernel_invariant.proofs.Sound.{only_is}
+use Rattle.state_laws.specs.kernel_invariant.proofs.SoundCalls.{IsOpen, blank_by, untyped_by}
+use Rattle.state_laws.specs.kernel_invariant.proofs.Facts.{ChangesFrom, Suits, suits, none_some, some_inj, some_none, vacant_facts}
+use Rattle.state_laws.specs.kernel_invariant.proofs.Facts.{held_facts, none_parts, when_not, not_not, first_two}
+use Rattle.state_laws.specs.kernel_invariant.proofs.Edited.{is_bare, Calm}
+use Rattle.state_laws.specs.found_stays.proofs.Stays.{name_parts}
 use Rattle.call_names.specs.Names.{IsName}
 use Rattle.authority_laws.specs.Authority.{IsUnder, LivesBy, MayUse}
 
@@ -231,7 +236,8 @@ module _ (call : Call) (s : State) (c : ℕ) where
       → MayUse call s c k × IsTrue (kinds k.kind)
   may_by n kinds k is e = (record { number = n; kinds = kinds; is_name = is; leads = e }, (named_at s c n (to_use kinds) k e).kind)
 
-  led_by : (n : ℕ) (kinds : Kind → Bool) (k : Capability) → Uses n kinds → named s c n (to_use kinds) ≡ Found k → LedTo call s c kinds k.frame
+  led_by : (n : ℕ) (kinds : Kind → Bool) (k : Capability) → Uses n kinds → named s c n (to_use kinds) ≡ Found k
+      → LedTo call s c kinds k.frame
   led_by n kinds k is e = let p = may_by n kinds k is e in record { cap = k; may = p.0; kind = p.1; frame = refl }
 
   -- the frame of a call is in its range
@@ -310,8 +316,8 @@ module _ (s : State) (c : ℕ) (o : ℕ → Bool) (h : IsOpen s o c) where
       → first_cause s c (outside (found range) f ∷ not_untyped s f ∷ []) ≡ None → IsTrue (is_bare (s.frame f))
   bare_untyped r f range e calm = subst (λ x. IsTrue (is_bare x)) (sym (untyped_by s o c r f range h e calm).1) refl
 
-  node_acts : (call : Call) (object : Object) (k : Kind) (r f t b : ℕ) → Uses call s c r (only kind.Range) → Uses call s c t (only kind.Table)
-      → IsFresh (Kernel object) → only kind.Range k ≡ false → ((at : Slot) → Calm c s (Node f object ∷ Fill at (plain_cap k f) ∷ []))
+  node_acts : (call : Call) (object : Object) (k : Kind) (r f t b : ℕ) → Uses call s c r (only kind.Range)
+      → Uses call s c t (only kind.Table) → IsFresh (Kernel object) → only kind.Range k ≡ false → ((at : Slot) → Calm c s (Node f object ∷ Fill at (plain_cap k f) ∷ []))
       → ChangesFrom (Acts call c s) s c (make_node s object k r f t b)
   node_acts call object k r f t b by_range by_table none other calm_at = λ range e table g at v calm.
       let within = range_by call s c r f range (not_blank s f ∷ []) by_range e calm in
@@ -338,13 +344,17 @@ module _ (s : State) (c : ℕ) (o : ℕ → Bool) (h : IsOpen s o c) where
   second = inr (inl (refl, refl))
 
   make_acts : (what : Make) (r f t b : ℕ) → ChangesFrom (Acts (call.Make what r f t b) c s) s c (make_rule s what r f t b)
-  make_acts make.Table r f t b = node_acts (call.Make make.Table r f t b) Table kind.Table r f t b first second (record { no_comp = refl; poor = refl }) refl
+  make_acts make.Table r f t b = node_acts (call.Make make.Table r f t b) Table kind.Table r f t b first second
+      (record { no_comp = refl; poor = refl }) refl
       (λ at. (refl, λ x. refl, tt))
-  make_acts make.Leaf r f t b = node_acts (call.Make make.Leaf r f t b) Leaf kind.Leaf r f t b first second (record { no_comp = refl; poor = refl }) refl
+  make_acts make.Leaf r f t b = node_acts (call.Make make.Leaf r f t b) Leaf kind.Leaf r f t b first second
+      (record { no_comp = refl; poor = refl }) refl
       (λ at. (refl, λ x. refl, tt))
-  make_acts make.Pages r f t b = node_acts (call.Make make.Pages r f t b) Pages kind.Pages r f t b first second (record { no_comp = refl; poor = refl }) refl
+  make_acts make.Pages r f t b = node_acts (call.Make make.Pages r f t b) Pages kind.Pages r f t b first second
+      (record { no_comp = refl; poor = refl }) refl
       (λ at. (refl, λ x. refl, tt))
-  make_acts make.Pleaf r f t b = node_acts (call.Make make.Pleaf r f t b) Pleaf kind.Pleaf r f t b first second (record { no_comp = refl; poor = refl }) refl
+  make_acts make.Pleaf r f t b = node_acts (call.Make make.Pleaf r f t b) Pleaf kind.Pleaf r f t b first second
+      (record { no_comp = refl; poor = refl }) refl
       (λ at. (refl, λ x. refl, tt))
   make_acts (make.Thread comp) r f t b = λ range e table g k j at v calm.
       made_acts (call.Make (make.Thread comp) r f t b) (Thread (record { stack = k.frame ∷ []; runs_on = None })) kind.Thread r f t b
@@ -373,13 +383,17 @@ module _ (s : State) (c : ℕ) (o : ℕ → Bool) (h : IsOpen s o c) where
 
   retype_acts : (r f : ℕ) (k : FrameKind) → ChangesFrom (Acts (call.Retype r f k) c s) s c (retype_rule s r f k)
   retype_acts r f frame_kind.User = λ range e calm.
-      one (call.Retype r f frame_kind.User) s c (Become f User) Nothing
-      (range_by (call.Retype r f frame_kind.User) s c r f range (not_untyped s f ∷ []) first e calm, bare_untyped r f range e calm,
-      record { no_comp = refl; poor = refl })
+      one (call.Retype r f frame_kind.User) s c (Become f User) Nothing (
+        range_by (call.Retype r f frame_kind.User) s c r f range (not_untyped s f ∷ []) first e calm,
+        bare_untyped r f range e calm,
+        record { no_comp = refl; poor = refl },
+      )
   retype_acts r f frame_kind.Kernel = λ range e calm.
-      one (call.Retype r f frame_kind.Kernel) s c (Become f (Kernel Blank)) Nothing
-      (range_by (call.Retype r f frame_kind.Kernel) s c r f range (not_untyped s f ∷ []) first e calm, bare_untyped r f range e calm,
-      record { no_comp = refl; poor = refl })
+      one (call.Retype r f frame_kind.Kernel) s c (Become f (Kernel Blank)) Nothing (
+        range_by (call.Retype r f frame_kind.Kernel) s c r f range (not_untyped s f ∷ []) first e calm,
+        bare_untyped r f range e calm,
+        record { no_comp = refl; poor = refl },
+      )
   retype_acts r f frame_kind.Untyped = λ range e calm.
       let full : Cause = When (not (is_empty s f (s.frame f))) reply.NotEmpty in
       let referenced : Cause = When (nat_lt 0 (refs s f)) (reply.Referenced (refs s f)) in
@@ -392,8 +406,10 @@ module _ (s : State) (c : ℕ) (o : ℕ → Bool) (h : IsOpen s o c) where
       let p5 = none_parts (refusal_of s c full) None p4.1 in
       let empty : is_empty s f (s.frame f) ≡ true =
       not_not (is_empty s f (s.frame f)) (when_not (not (is_empty s f (s.frame f))) reply.NotEmpty p5.0) in
-      one (call.Retype r f frame_kind.Untyped) s c (Untype f) Nothing
-      (range_by (call.Retype r f frame_kind.Untyped) s c r f range (not_retyped s f frame_kind.Untyped) first e calm, empty_budget s f (s.frame f) empty)
+      one (call.Retype r f frame_kind.Untyped) s c (Untype f) Nothing (
+        range_by (call.Retype r f frame_kind.Untyped) s c r f range (not_retyped s f frame_kind.Untyped) first e calm,
+        empty_budget s f (s.frame f) empty,
+      )
 
   touch_acts : (v : ℕ) (t : Option Translation) → ChangesFrom (Acts (call.Touch v) c s) s c (touch_by s c (comp_of s c).pages v t)
   touch_acts v None = λ mapping e calm.
@@ -436,10 +452,12 @@ module _ (s : State) (c : ℕ) (o : ℕ → Bool) (h : IsOpen s o c) where
       (inl (record { number = a; at = x.at; reaches = x.reaches; source = k; from = x.from; rights = rights.0; is = refl }))
   rule_acts (call.Remove t b) = λ table e at k g calm.
       removed (call.Remove t b) s c (Under (found table) b) at k
-      (table_node (call.Remove t b) s c t table at.node first e (under_leaf s c table b at (held_facts s c (Under (found table) b) at k g).0)) g
+      (table_node (call.Remove t b) s c t table at.node first e
+      (under_leaf s c table b at (held_facts s c (Under (found table) b) at k g).0)) g
   rule_acts (call.Grow t i l) = λ table e leaf f at g calm.
       filled (call.Grow t i l) s c at (plain_cap kind.Link leaf.frame)
-      (root_node (call.Grow t i l) s c t table at.node first e (entry_root s c table i at (vacant_facts s c (InRoot (found table) i) at g).0))
+      (root_node (call.Grow t i l) s c t table at.node first e
+      (entry_root s c table i at (vacant_facts s c (InRoot (found table) i) at g).0))
       (inr (record { rights = refl; kind = refl; frame = inr (leaf_led t i l table leaf e f) }))
     where
       leaf_led : (t i l : ℕ) (table leaf : Capability) → named s c t (to_use root) ≡ Found table
@@ -450,20 +468,28 @@ module _ (s : State) (c : ℕ) (o : ℕ → Bool) (h : IsOpen s o c) where
           record { cap = leaf; may = p.0; kind = leaf_kind table.kind leaf.kind p.1; frame = refl }
   rule_acts (call.Shrink t i) = λ table e at k g calm.
       removed (call.Shrink t i) s c (InRoot (found table) i) at k
-      (root_node (call.Shrink t i) s c t table at.node first e (entry_root s c table i at (held_facts s c (InRoot (found table) i) at k g).0)) g
+      (root_node (call.Shrink t i) s c t table at.node first e
+      (entry_root s c table i at (held_facts s c (InRoot (found table) i) at k g).0)) g
   rule_acts (call.Retype r f k) = retype_acts r f k
   rule_acts (call.Make what r f t b) = make_acts what r f t b
   rule_acts (call.Map p v r f w) = λ pages e range g at u calm.
       filled (call.Map p v r f w) s c at (cap_of kind.Page f w.0)
-      (pages_node (call.Map p v r f w) s c p pages at.node first e (under_leaf s c pages v at (vacant_facts s c (Under (found pages) v) at u).0))
-      (inr (record { rights = refl; kind = refl; frame = inl (range_by (call.Map p v r f w) s c r f range (not_user s f ∷ []) second g calm) }))
+      (pages_node (call.Map p v r f w) s c p pages at.node first e
+      (under_leaf s c pages v at (vacant_facts s c (Under (found pages) v) at u).0))
+      (inr (record {
+        rights = refl;
+        kind = refl;
+        frame = inl (range_by (call.Map p v r f w) s c r f range (not_user s f ∷ []) second g calm);
+      }))
   rule_acts (call.Unmap p v) = λ pages e at k g calm.
       removed (call.Unmap p v) s c (Under (found pages) v) at k
-      (pages_node (call.Unmap p v) s c p pages at.node first e (under_leaf s c pages v at (held_facts s c (Under (found pages) v) at k g).0)) g
+      (pages_node (call.Unmap p v) s c p pages at.node first e
+      (under_leaf s c pages v at (held_facts s c (Under (found pages) v) at k g).0)) g
   rule_acts (call.Touch v) = touch_acts v (translation_of (s.core c).cached (comp_of s c).pages v)
   rule_acts call.Flush = λ calm. one call.Flush s c Flush Nothing tt
   rule_acts (call.Gate k t b) = λ comp e table g at v calm.
-      filled (call.Gate k t b) s c at (cap_of kind.Gate comp.frame (comp_in (s.frame comp.frame)).epoch) (place_by (call.Gate k t b) s c t b table at second g v)
+      filled (call.Gate k t b) s c at (cap_of kind.Gate comp.frame (comp_in (s.frame comp.frame)).epoch)
+      (place_by (call.Gate k t b) s c t b table at second g v)
       (inr (record { rights = refl; kind = refl; frame = inr (comp_led k t b comp e) }))
     where
       comp_led : (k t b : ℕ) (comp : Capability) → named s c k (to_use (only kind.Comp)) ≡ Found comp

@@ -3,34 +3,36 @@ use Rattle.std.proofs.Common.{◌≡◌, ◌≢◌, inl, inr, ℕ, ◌<◌, ◌�
 use Rattle.std.proofs.Common.{if◌then◌else◌, refl, sym, ◌∙◌, ap, subst, IsTrue, List, [], ◌∷◌, take, drop, Some}
 use Rattle.std.proofs.lemmas.Bool.{cases_eq, false≢true, eqb-true, eq-eqb, ne_eqb, and_parts}
 use Rattle.std.specs.List.{list_any}
-use Rattle.spk_nums.specs.declared.kinds.Kind.{Kind}
-use Rattle.spk_nums.specs.declared.kinds.Kind.TheVariants as kind
-use Rattle.spk_nums.specs.declared.calls.Call.{Call}
-use Rattle.spk_nums.specs.declared.replies.Reply.{Reply}
-use Rattle.spk_nums.specs.declared.replies.Reply.TheVariants as reply
-use Rattle.kernel_rules.specs.State.{Place, Holds, Quiescing, Thread, Frame, Untyped, Kernel, Liveness, Unused, Live, Dead, ThreadFields}
-use Rattle.kernel_rules.specs.State.{Grace, Thing, PlaceOf, FrameOf, NumberOf, State, put, thread_in, thread_of}
-use Rattle.kernel_rules.specs.References.{place_names, frame_names, number_names, core_names, times}
-use Rattle.kernel_rules.specs.Access.{only, to_use}
-use Rattle.kernel_rules.specs.Fitting.{fits}
-use Rattle.kernel_rules.specs.GracePeriods.{same_thing, begun}
-use Rattle.kernel_rules.specs.Rules.{Change, Judged, Refused, Found, frames_of}
-use Rattle.kernel_rules.specs.CapabilityCalls.{is_live}
-use Rattle.kernel_rules.specs.InvocationCalls.{with_thread}
-use Rattle.kernel_rules.specs.Life.{is_live_in}
-use Rattle.kernel_rules.specs.CallRelation.{rule_of, change_of, changed, counted, state_by, begins}
-use Rattle.kernel_rules.specs.CallRelation.{begins_in as begun_in}
-use Rattle.kernel_rules.specs.Runs.{after, is_open}
-use Rattle.kernel_rules.proofs.Changes.{IfFound}
-use Rattle.kernel_rules.proofs.Within.{put_same}
-use Rattle.kernel_invariant.specs.Edits.{Edit, Remove, Untype, Deaden, Pop, Switch, edited, after_edits, begins_in, begins_all}
-use Rattle.kernel_invariant.proofs.Sums.{times_cons, times_first}
-use Rattle.kernel_invariant.proofs.Sound.{put_all, only_is}
-use Rattle.kernel_invariant.proofs.SoundRemovals.{frames_no_place}
-use Rattle.kernel_invariant.proofs.SoundCalls.{IsOpen}
-use Rattle.kernel_invariant.proofs.SoundRuns.{opened, open_is}
-use Rattle.kernel_invariant.proofs.Facts.{outcome_from, usable_good, none_some}
-use Rattle.kernel_invariant.proofs.Edited.{Calm}
+use Rattle.state_laws.specs.spk_nums.specs.declared.kinds.Kind.{Kind}
+use Rattle.state_laws.specs.spk_nums.specs.declared.kinds.Kind.TheVariants as kind
+use Rattle.state_laws.specs.spk_nums.specs.declared.calls.Call.{Call}
+use Rattle.state_laws.specs.spk_nums.specs.declared.replies.Reply.{Reply}
+use Rattle.state_laws.specs.spk_nums.specs.declared.replies.Reply.TheVariants as reply
+use Rattle.state_laws.specs.kernel_rules.specs.State.{Place, Holds, Quiescing, Thread, Frame, Untyped, Kernel, Liveness, Unused, Live, Dead}
+use Rattle.state_laws.specs.kernel_rules.specs.State.{ThreadFields}
+use Rattle.state_laws.specs.kernel_rules.specs.State.{Grace, Thing, PlaceOf, FrameOf, NumberOf, State, put, thread_in, thread_of}
+use Rattle.state_laws.specs.kernel_rules.specs.References.{place_names, frame_names, number_names, core_names, times}
+use Rattle.state_laws.specs.kernel_rules.specs.Access.{only, to_use}
+use Rattle.state_laws.specs.kernel_rules.specs.Fitting.{fits}
+use Rattle.state_laws.specs.kernel_rules.specs.GracePeriods.{same_thing, begun}
+use Rattle.state_laws.specs.kernel_rules.specs.Rules.{Change, Judged, Refused, Found, frames_of}
+use Rattle.state_laws.specs.kernel_rules.specs.CapabilityCalls.{is_live}
+use Rattle.state_laws.specs.kernel_rules.specs.InvocationCalls.{with_thread}
+use Rattle.state_laws.specs.kernel_rules.specs.Life.{is_live_in}
+use Rattle.state_laws.specs.kernel_rules.specs.CallRelation.{rule_of, change_of, changed, counted, state_by, begins}
+use Rattle.state_laws.specs.kernel_rules.specs.CallRelation.{begins_in as begun_in}
+use Rattle.state_laws.specs.kernel_rules.specs.Runs.{after, is_open}
+use Rattle.state_laws.specs.kernel_rules.proofs.Changes.{IfFound}
+use Rattle.state_laws.specs.kernel_rules.proofs.Within.{put_same}
+use Rattle.state_laws.specs.kernel_invariant.specs.Edits.{Edit, Remove, Untype, Deaden, Pop, Switch, edited, after_edits, begins_in}
+use Rattle.state_laws.specs.kernel_invariant.specs.Edits.{begins_all}
+use Rattle.state_laws.specs.kernel_invariant.proofs.Sums.{times_cons, times_first}
+use Rattle.state_laws.specs.kernel_invariant.proofs.Sound.{put_all, only_is}
+use Rattle.state_laws.specs.kernel_invariant.proofs.SoundRemovals.{frames_no_place}
+use Rattle.state_laws.specs.kernel_invariant.proofs.SoundCalls.{IsOpen}
+use Rattle.state_laws.specs.kernel_invariant.proofs.SoundRuns.{opened, open_is}
+use Rattle.state_laws.specs.kernel_invariant.proofs.Facts.{outcome_from, usable_good, none_some}
+use Rattle.state_laws.specs.kernel_invariant.proofs.Edited.{Calm}
 use Rattle.state_laws.proofs.Threads.{threads_run}
 use Rattle.authority_laws.specs.Authority.{Part, PlaceIs, FrameIs, NumberIs, CoreIs}
 use Rattle.authority_laws.specs.Graces.{names_of, LosesOne, HasCause, GracesHaveCause}

@@ -1,21 +1,21 @@
 -- What a decision changes is its core's own, or lies under a capability that it named and that has the right to use.
 use Rattle.std.proofs.Common.{◌≡◌, ◌⊎◌, inl, inr, ℕ, Bool, refl, sym, ap, subst, List}
-use Rattle.spk_nums.specs.declared.calls.Call.{Call}
-use Rattle.spk_nums.specs.declared.calls.Call.TheVariants.{Tick}
-use Rattle.spk_nums.specs.declared.replies.Value.{Value}
-use Rattle.spk_nums.specs.declared.replies.Reply.{Reply}
-use Rattle.spk_nums.specs.declared.replies.Reply.TheVariants as reply
-use Rattle.kernel_rules.specs.State.{Core, Grace, Thing, State, with_core, with_grace}
-use Rattle.kernel_rules.specs.GracePeriods.{begun}
-use Rattle.kernel_rules.specs.Rules.{Change, Judged, Refused, Found, IsFoundAnd}
-use Rattle.kernel_rules.specs.CallRelation.{MayReply, rule_of, change_of, changed, owed_by, state_by}
-use Rattle.kernel_rules.specs.Runs.{is_open, after}
-use Rattle.kernel_rules.proofs.Changes.{IfFound}
-use Rattle.kernel_invariant.specs.Edits.{Edit, after_edits, begins_all}
-use Rattle.kernel_invariant.proofs.Facts.{outcome_from}
-use Rattle.kernel_invariant.proofs.SoundCalls.{IsOpen}
-use Rattle.kernel_invariant.proofs.SoundRuns.{opened, open_is}
-use Rattle.kernel_invariant.proofs.Edited.{Calm}
+use Rattle.state_laws.specs.spk_nums.specs.declared.calls.Call.{Call}
+use Rattle.state_laws.specs.spk_nums.specs.declared.calls.Call.TheVariants.{Tick}
+use Rattle.state_laws.specs.spk_nums.specs.declared.replies.Value.{Value}
+use Rattle.state_laws.specs.spk_nums.specs.declared.replies.Reply.{Reply}
+use Rattle.state_laws.specs.spk_nums.specs.declared.replies.Reply.TheVariants as reply
+use Rattle.state_laws.specs.kernel_rules.specs.State.{Core, Grace, Thing, State, with_core, with_grace}
+use Rattle.state_laws.specs.kernel_rules.specs.GracePeriods.{begun}
+use Rattle.state_laws.specs.kernel_rules.specs.Rules.{Change, Judged, Refused, Found, IsFoundAnd}
+use Rattle.state_laws.specs.kernel_rules.specs.CallRelation.{MayReply, rule_of, change_of, changed, owed_by, state_by}
+use Rattle.state_laws.specs.kernel_rules.specs.Runs.{is_open, after}
+use Rattle.state_laws.specs.kernel_rules.proofs.Changes.{IfFound}
+use Rattle.state_laws.specs.kernel_invariant.specs.Edits.{Edit, after_edits, begins_all}
+use Rattle.state_laws.specs.kernel_invariant.proofs.Facts.{outcome_from}
+use Rattle.state_laws.specs.kernel_invariant.proofs.SoundCalls.{IsOpen}
+use Rattle.state_laws.specs.kernel_invariant.proofs.SoundRuns.{opened, open_is}
+use Rattle.state_laws.specs.kernel_invariant.proofs.Edited.{Calm}
 use Rattle.authority_laws.specs.Authority.{Part, PlaceIs, FrameIs, StackIs, RunsIs, BudgetIs, ListIs, NumberIs, CoreIs}
 use Rattle.authority_laws.specs.Authority.{IsOwn, OwnBy, SamePart, DecisionsHaveAuthority, CallsChangeTheirOwn}
 use Rattle.authority_laws.proofs.Acts.{EachBy, Acts, rule_acts}

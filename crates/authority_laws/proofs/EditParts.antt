@@ -1,21 +1,23 @@
 -- What an edit changes of the parts of a state is what its core may change.
 use Rattle.std.proofs.Common.{◌≡◌, ◌⊎◌, inl, inr, ℕ, ◌+◌, ◌-◌, false, refl, sym, ◌∙◌, ap, subst, IsTrue, List, [], ◌∷◌, drop, Some, None}
 use Rattle.std.proofs.lemmas.Bool.{false≢true}
-use Rattle.spk_nums.specs.declared.kinds.Kind.TheVariants as kind
-use Rattle.spk_nums.specs.declared.calls.Call.{Call}
-use Rattle.kernel_rules.specs.State.{Place, Free, Holds, Quiescing, ThreadFields, TcapFields, Blank, Comp, Thread, Tcap, Frame}
-use Rattle.kernel_rules.specs.State.{Untyped, Kernel, Liveness, Live, Dead, Grace, Thing, Core, State}
-use Rattle.kernel_rules.specs.State.{put, with_place, with_frame, with_core, with_grace, thread_in, thread_of, tcap_in}
-use Rattle.kernel_rules.specs.Access.{Slot, only}
-use Rattle.kernel_rules.specs.Fitting.{fits}
-use Rattle.kernel_rules.specs.CapabilityCalls.{is_live}
-use Rattle.kernel_rules.specs.InvocationCalls.{with_thread, running}
-use Rattle.kernel_rules.specs.TimeCalls.{tcap_at, with_tcap, with_budget, charge}
-use Rattle.kernel_invariant.specs.Edits.{Edit, Fill, Remove, Node, Become, Untype, Component, Deaden, Push, Pop, Switch, Cache, Flush}
-use Rattle.kernel_invariant.specs.Edits.{Charge, Move, Merge, edited, after_edits}
-use Rattle.kernel_invariant.proofs.Sound.{put_all, only_is}
-use Rattle.kernel_invariant.proofs.SoundSteps.{place_all}
-use Rattle.kernel_invariant.proofs.Edited.{is_bare, AreLater, Calm}
+use Rattle.state_laws.specs.spk_nums.specs.declared.kinds.Kind.TheVariants as kind
+use Rattle.state_laws.specs.spk_nums.specs.declared.calls.Call.{Call}
+use Rattle.state_laws.specs.kernel_rules.specs.State.{Place, Free, Holds, Quiescing, ThreadFields, TcapFields, Blank, Comp, Thread, Tcap}
+use Rattle.state_laws.specs.kernel_rules.specs.State.{Frame}
+use Rattle.state_laws.specs.kernel_rules.specs.State.{Untyped, Kernel, Liveness, Live, Dead, Grace, Thing, Core, State}
+use Rattle.state_laws.specs.kernel_rules.specs.State.{put, with_place, with_frame, with_core, with_grace, thread_in, thread_of, tcap_in}
+use Rattle.state_laws.specs.kernel_rules.specs.Access.{Slot, only}
+use Rattle.state_laws.specs.kernel_rules.specs.Fitting.{fits}
+use Rattle.state_laws.specs.kernel_rules.specs.CapabilityCalls.{is_live}
+use Rattle.state_laws.specs.kernel_rules.specs.InvocationCalls.{with_thread, running}
+use Rattle.state_laws.specs.kernel_rules.specs.TimeCalls.{tcap_at, with_tcap, with_budget, charge}
+use Rattle.state_laws.specs.kernel_invariant.specs.Edits.{Edit, Fill, Remove, Node, Become, Untype, Component, Deaden, Push, Pop, Switch}
+use Rattle.state_laws.specs.kernel_invariant.specs.Edits.{Cache, Flush}
+use Rattle.state_laws.specs.kernel_invariant.specs.Edits.{Charge, Move, Merge, edited, after_edits}
+use Rattle.state_laws.specs.kernel_invariant.proofs.Sound.{put_all, only_is}
+use Rattle.state_laws.specs.kernel_invariant.proofs.SoundSteps.{place_all}
+use Rattle.state_laws.specs.kernel_invariant.proofs.Edited.{is_bare, AreLater, Calm}
 use Rattle.authority_laws.specs.Authority.{PlaceIs, FrameIs, StackIs, RunsIs, BudgetIs, ListIs, NumberIs, CoreIs}
 use Rattle.authority_laws.specs.Authority.{bare_of, Part, Over, IsUnderOne, OwnBy, Stays, is_of_stack, is_of_thread, is_of_budget}
 use Rattle.authority_laws.proofs.Acts.{LedTo, InRange, InNode, By, EachBy}
@@ -212,7 +214,8 @@ module _ (call : Call) (s : State) (c : ℕ) where
     core = w.core;
   }
 
-  within_place : (t : State) (at : Slot) (p : Place) → InNode call s c at.node → Within call s c t → Within call s c (with_place t at.node at.index p)
+  within_place : (t : State) (at : Slot) (p : Place) → InNode call s c at.node → Within call s c t
+      → Within call s c (with_place t at.node at.index p)
   within_place t at p node w = record {
     fields = w.fields;
     place = λ f i. place_all (λ f i x. (x ≡ s.place f i) ⊎ MayBy call s c (PlaceIs f i)) t at.node at.index p f i

@@ -1,20 +1,20 @@
 -- Authority: which parts of the state a core may change, and by which capability.
 use Rattle.std.specs.Prelude.{◌≡◌, ◌⊎◌, ℕ, Bool, true, false, List, [], ◌∷◌, Some, None, IsTrue}
-use Rattle.spk_nums.specs.Setting.{Setting, IsSetting}
-use Rattle.spk_nums.specs.declared.calls.Call.{Call}
-use Rattle.spk_nums.specs.declared.calls.Call.TheVariants as call
-use Rattle.spk_nums.specs.declared.replies.Reply.{Reply}
-use Rattle.spk_nums.specs.Capability.{Capability}
-use Rattle.spk_nums.specs.declared.kinds.Kind.{Kind}
-use Rattle.spk_nums.specs.declared.kinds.Kind.TheVariants as kind
-use Rattle.kernel_rules.specs.State.{Thread, Tcap, Frame, Kernel, State, comp_in, thread_in, tcap_in}
-use Rattle.kernel_rules.specs.Access.{found, to_use, usable, linked}
-use Rattle.kernel_rules.specs.Fitting.{fits}
-use Rattle.kernel_rules.specs.Rules.{Found, named}
-use Rattle.kernel_rules.specs.CapabilityCalls.{has_frame, is_live}
-use Rattle.kernel_rules.specs.Life.{is_live_in}
-use Rattle.kernel_rules.specs.CallRelation.{rule_of}
-use Rattle.kernel_rules.specs.Runs.{Event, Decides, after, IsRun}
+use Rattle.state_laws.specs.spk_nums.specs.Setting.{Setting, IsSetting}
+use Rattle.state_laws.specs.spk_nums.specs.declared.calls.Call.{Call}
+use Rattle.state_laws.specs.spk_nums.specs.declared.calls.Call.TheVariants as call
+use Rattle.state_laws.specs.spk_nums.specs.declared.replies.Reply.{Reply}
+use Rattle.state_laws.specs.spk_nums.specs.Capability.{Capability}
+use Rattle.state_laws.specs.spk_nums.specs.declared.kinds.Kind.{Kind}
+use Rattle.state_laws.specs.spk_nums.specs.declared.kinds.Kind.TheVariants as kind
+use Rattle.state_laws.specs.kernel_rules.specs.State.{Thread, Tcap, Frame, Kernel, State, comp_in, thread_in, tcap_in}
+use Rattle.state_laws.specs.kernel_rules.specs.Access.{found, to_use, usable, linked}
+use Rattle.state_laws.specs.kernel_rules.specs.Fitting.{fits}
+use Rattle.state_laws.specs.kernel_rules.specs.Rules.{Found, named}
+use Rattle.state_laws.specs.kernel_rules.specs.CapabilityCalls.{has_frame, is_live}
+use Rattle.state_laws.specs.kernel_rules.specs.Life.{is_live_in}
+use Rattle.state_laws.specs.kernel_rules.specs.CallRelation.{rule_of}
+use Rattle.state_laws.specs.kernel_rules.specs.Runs.{Event, Decides, after, IsRun}
 use Rattle.call_names.specs.Names.{IsName}
 
 -- A part of the state: what a place of a node is; what kind of frame it is, and what object but for what follows; the stack of a thread,

@@ -1,14 +1,14 @@
 -- Why grace periods begin.
 use Rattle.std.specs.Prelude.{◌≡◌, ◌<◌, ℕ, true, false, List, [], ◌∷◌}
-use Rattle.spk_nums.specs.Setting.{Setting, IsSetting}
-use Rattle.spk_nums.specs.Capability.{Capability}
-use Rattle.spk_nums.specs.declared.calls.Call.{Call}
-use Rattle.spk_nums.specs.declared.replies.Reply.{Reply}
-use Rattle.kernel_rules.specs.State.{Holds, Quiescing, Thing, PlaceOf, FrameOf, NumberOf, State}
-use Rattle.kernel_rules.specs.References.{place_names, frame_names, number_names, core_names, times}
-use Rattle.kernel_rules.specs.CapabilityCalls.{is_live}
-use Rattle.kernel_rules.specs.CallRelation.{begins}
-use Rattle.kernel_rules.specs.Runs.{Event, Decides, after, IsRun}
+use Rattle.state_laws.specs.spk_nums.specs.Setting.{Setting, IsSetting}
+use Rattle.state_laws.specs.spk_nums.specs.Capability.{Capability}
+use Rattle.state_laws.specs.spk_nums.specs.declared.calls.Call.{Call}
+use Rattle.state_laws.specs.spk_nums.specs.declared.replies.Reply.{Reply}
+use Rattle.state_laws.specs.kernel_rules.specs.State.{Holds, Quiescing, Thing, PlaceOf, FrameOf, NumberOf, State}
+use Rattle.state_laws.specs.kernel_rules.specs.References.{place_names, frame_names, number_names, core_names, times}
+use Rattle.state_laws.specs.kernel_rules.specs.CapabilityCalls.{is_live}
+use Rattle.state_laws.specs.kernel_rules.specs.CallRelation.{begins}
+use Rattle.state_laws.specs.kernel_rules.specs.Runs.{Event, Decides, after, IsRun}
 use Rattle.authority_laws.specs.Authority.{Part, PlaceIs, FrameIs, NumberIs, CoreIs}
 
 -- The frames to which a part has references: those of a thread's stack are its frame's.

@@ -1,16 +1,16 @@
 -- What a step puts has a parent; and the chains and the confinement of runs, said of traces.
 use Rattle.std.proofs.Common.{◌≡◌, ◌⊎◌, inl, inr, ℕ, true, refl, sym, ◌∙◌, ap, subst, List, [], ◌∷◌, ◌++◌, Option, Some, None}
-use Rattle.spk_nums.specs.Capability.{Capability}
-use Rattle.spk_nums.specs.declared.calls.Call.{Call}
-use Rattle.spk_nums.specs.declared.replies.Value.{Value}
-use Rattle.spk_nums.specs.declared.replies.Reply.{Reply}
-use Rattle.spk_nums.specs.declared.replies.Reply.TheVariants as reply
-use Rattle.kernel_rules.specs.State.{Place, Free, Holds, Quiescing, State}
-use Rattle.kernel_rules.specs.Rules.{Change, Judged, Refused, Found, IsFoundAnd}
-use Rattle.kernel_rules.specs.CallRelation.{rule_of, change_of, changed, state_by}
-use Rattle.kernel_rules.specs.Runs.{Event, Enters, Decides, Returns, after, IsRun}
-use Rattle.kernel_rules.proofs.Changes.{IfFound}
-use Rattle.kernel_invariant.proofs.Facts.{outcome_from}
+use Rattle.world_laws.specs.spk_nums.specs.Capability.{Capability}
+use Rattle.world_laws.specs.spk_nums.specs.declared.calls.Call.{Call}
+use Rattle.world_laws.specs.spk_nums.specs.declared.replies.Value.{Value}
+use Rattle.world_laws.specs.spk_nums.specs.declared.replies.Reply.{Reply}
+use Rattle.world_laws.specs.spk_nums.specs.declared.replies.Reply.TheVariants as reply
+use Rattle.world_laws.specs.kernel_rules.specs.State.{Place, Free, Holds, Quiescing, State}
+use Rattle.world_laws.specs.kernel_rules.specs.Rules.{Change, Judged, Refused, Found, IsFoundAnd}
+use Rattle.world_laws.specs.kernel_rules.specs.CallRelation.{rule_of, change_of, changed, state_by}
+use Rattle.world_laws.specs.kernel_rules.specs.Runs.{Event, Enters, Decides, Returns, after, IsRun}
+use Rattle.world_laws.specs.kernel_rules.proofs.Changes.{IfFound}
+use Rattle.world_laws.specs.kernel_invariant.proofs.Facts.{outcome_from}
 use Rattle.kernel_history.specs.Trace.{Step, Trace, Phase, Out, Open, Decided, phase, after_enter, state_after}
 use Rattle.kernel_history.specs.Events.{with_entry, with_decision, with_return, events_of}
 use Rattle.kernel_history.proofs.Events.{entered_events, state_is, run_of}
@@ -72,15 +72,15 @@ steps_put_falling setup lim t e legal f i k is own = elim (step_does setup t e l
     by_call : Carrying setup t e legal → (shown ((state_after setup t).place f i) ≡ Some k) ⊎ PutsBy setup t e k
     by_call x = elim (shows x f i k
         (sym (same_shown (decided setup t e legal) (state_after setup (e ∷ t)) e.core f i (out_of setup t e legal)) ∙ is) own) [
-      | inl was ↦ inl (sym (same_shown (state_after setup t) (before setup t e legal) e.core f i (into setup t e legal)) ∙ was)
-      | inr given ↦ inr (record {
-        done = carried setup t e legal x;
-        way = given.way;
-        parent = given.parent;
-        gives = given.gives;
-        falls = rights_only_fall (before setup t e legal) e.core x.call given.way given.parent k given.gives;
-      })
-    ]
+          | inl was ↦ inl (sym (same_shown (state_after setup t) (before setup t e legal) e.core f i (into setup t e legal)) ∙ was)
+          | inr given ↦ inr (record {
+            done = carried setup t e legal x;
+            way = given.way;
+            parent = given.parent;
+            gives = given.gives;
+            falls = rights_only_fall (before setup t e legal) e.core x.call given.way given.parent k given.gives;
+          })
+        ]
 
 -- ---- traces
 

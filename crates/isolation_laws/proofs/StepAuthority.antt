@@ -1,11 +1,11 @@
 -- Each part of the state that a step changes is one that its core may change by the call that the step carries out.
 use Rattle.std.proofs.Common.{◌≡◌, ◌⊎◌, inl, inr, ◌∷◌}
-use Rattle.spk_nums.specs.declared.replies.Reply.TheVariants as reply
-use Rattle.kernel_rules.specs.State.{State}
+use Rattle.world_laws.specs.spk_nums.specs.declared.replies.Reply.TheVariants as reply
+use Rattle.world_laws.specs.kernel_rules.specs.State.{State}
 use Rattle.kernel_history.specs.Trace.{Step, Trace, state_after}
 use Rattle.kernel_history.proofs.Events.{entered_events}
-use Rattle.authority_laws.specs.Authority.{Part, CoreIs, IsUnderOne, OwnBy, SamePart}
-use Rattle.authority_laws.proofs.DecidedParts.{calls_change_their_own}
+use Rattle.world_laws.specs.authority_laws.specs.Authority.{Part, CoreIs, IsUnderOne, OwnBy, SamePart}
+use Rattle.world_laws.specs.authority_laws.proofs.DecidedParts.{calls_change_their_own}
 use Rattle.isolation_laws.specs.Authority.{ChangesBy, StepsHaveAuthority}
 use Rattle.isolation_laws.proofs.Steps.{part_on, part_only, before, decided, into, out_of, Carrying, step_does, carried, at_decision}
 
@@ -31,7 +31,7 @@ steps_have_authority setup lim t e legal x = elim (step_does setup t e legal) [
       | inr change ↦ inr (inr (record { done = carried setup t e legal k; may = change }))
       | inl same ↦ elim (part_on (state_after setup t) (before setup t e legal) (decided setup t e legal) (state_after setup (e ∷ t)) e.core
           (into setup t e legal) (out_of setup t e legal) x same) [
-        | inl stays ↦ inl stays
-        | inr core ↦ inr (inl core)
-      ]
+            | inl stays ↦ inl stays
+            | inr core ↦ inr (inl core)
+          ]
     ]

@@ -1,23 +1,24 @@
 -- A step of a core that works outside a sealed world leaves the world alone; and how a step brings its core into a world.
 use Rattle.std.proofs.Common.{◌≡◌, ◌≢◌, ◌⊎◌, inl, inr, ℕ, Bool, true, false, sym, ◌∙◌, ap, subst, ◌∷◌, Option, Some, None}
 use Rattle.std.proofs.lemmas.Bool.{false≢true}
-use Rattle.spk_nums.specs.Setting.{Setting, IsSetting}
-use Rattle.spk_nums.specs.declared.kinds.Kind.{Kind}
-use Rattle.spk_nums.specs.declared.calls.Call.{Call}
-use Rattle.spk_nums.specs.declared.replies.Reply.TheVariants as reply
-use Rattle.kernel_rules.specs.State.{Place, Frame, Liveness, State, comp_in, thread_in, first_of_stack}
-use Rattle.kernel_rules.specs.Life.{is_live_in}
+use Rattle.world_laws.specs.spk_nums.specs.Setting.{Setting, IsSetting}
+use Rattle.world_laws.specs.spk_nums.specs.declared.kinds.Kind.{Kind}
+use Rattle.world_laws.specs.spk_nums.specs.declared.calls.Call.{Call}
+use Rattle.world_laws.specs.spk_nums.specs.declared.replies.Reply.TheVariants as reply
+use Rattle.world_laws.specs.kernel_rules.specs.State.{Place, Frame, Liveness, State, comp_in, thread_in, first_of_stack}
+use Rattle.world_laws.specs.kernel_rules.specs.Life.{is_live_in}
 use Rattle.kernel_history.specs.Trace.{Step, Trace, state_after, state_entered}
 use Rattle.kernel_history.specs.Legal.{IsLegal}
 use Rattle.kernel_history.proofs.Events.{entered_events}
-use Rattle.authority_laws.specs.Authority.{Part, CoreIs, OwnBy, SamePart}
+use Rattle.world_laws.specs.authority_laws.specs.Authority.{Part, CoreIs, OwnBy, SamePart}
 use Rattle.world_laws.specs.Worlds.{works_in, lives_at, gates, IsSealed, LeavesAlone}
 use Rattle.world_laws.specs.Laws.{EntersBy, IsOf}
 use Rattle.world_laws.proofs.Entering.{entered_by}
 use Rattle.world_laws.proofs.Leaving.{outside_leaves, lent_alone}
 use Rattle.world_laws.proofs.Sealing.{sealed_entered}
 use Rattle.isolation_laws.specs.Worlds.{LendsTo, SparesWorld, ComesIn, StepsSpareWorlds, StepsEnterWorlds}
-use Rattle.isolation_laws.proofs.Steps.{OnlyCore, part_on, part_only, before, decided, into, out_of, Carrying, step_does, carried, at_decision}
+use Rattle.isolation_laws.proofs.Steps.{OnlyCore, part_on, part_only, before, decided, into, out_of, Carrying, step_does, carried}
+use Rattle.isolation_laws.proofs.Steps.{at_decision}
 
 -- ---- where at most a core is another
 
@@ -108,12 +109,12 @@ module _ (setup : Setting) (lim : IsSetting setup) (t : Trace) (e : Step) (legal
         lent = λ x of. elim (at_decision setup t e legal
             (λ s u. IsSealed w gates s → w (works_in s e.core) ≡ false → (x : Part) → IsOf w x → SamePart s u x ⊎ OwnBy k.call s e.core x) k
             (lent_alone setup lim (entered_events t e) e.core k.call (reply.Ok k.value) k.run w) sealed_from out_from x of) [
-          | inr own ↦ inr (record { done = carried setup t e legal k; own = own })
-          | inl same ↦ elim (part_on first from onto last e.core (into setup t e legal) (out_of setup t e legal) x same) [
-            | inl stays ↦ inl stays
-            | inr core ↦ absurd (no_core w e.core x core of)
-          ]
-        ];
+              | inr own ↦ inr (record { done = carried setup t e legal k; own = own })
+              | inl same ↦ elim (part_on first from onto last e.core (into setup t e legal) (out_of setup t e legal) x same) [
+                | inl stays ↦ inl stays
+                | inr core ↦ absurd (no_core w e.core x core of)
+              ]
+            ];
       }
 
     comes : w (works_in last e.core) ≡ true → ComesIn setup w t e

@@ -2,23 +2,24 @@
 -- at most that its core is another, which runs on the same.
 use Rattle.std.proofs.Common.{◌≡◌, ◌≢◌, ◌⊎◌, inl, inr, ℕ, ◌+◌, true, false, refl, sym, ◌∙◌, ap, subst, ◌∷◌, Option, Some, None}
 use Rattle.std.proofs.lemmas.Bool.{cases_eq}
-use Rattle.spk_nums.specs.Setting.{Setting}
-use Rattle.spk_nums.specs.declared.kinds.Kind.TheVariants as kind
-use Rattle.spk_nums.specs.declared.calls.Call.{Call}
-use Rattle.spk_nums.specs.declared.calls.Call.TheVariants.{Tick}
-use Rattle.spk_nums.specs.declared.replies.Value.{Value}
-use Rattle.spk_nums.specs.declared.replies.Reply.{Reply}
-use Rattle.spk_nums.specs.declared.replies.Reply.TheVariants as reply
-use Rattle.kernel_rules.specs.State.{Place, Frame, Liveness, Core, State, with_core, thread_in, tcap_in}
-use Rattle.kernel_rules.specs.CallRelation.{counted, owed_by, state_by}
-use Rattle.kernel_rules.specs.Runs.{Decides, after, IsRun}
-use Rattle.kernel_rules.proofs.Within.{put_same, put_other}
+use Rattle.world_laws.specs.spk_nums.specs.Setting.{Setting}
+use Rattle.world_laws.specs.spk_nums.specs.declared.kinds.Kind.TheVariants as kind
+use Rattle.world_laws.specs.spk_nums.specs.declared.calls.Call.{Call}
+use Rattle.world_laws.specs.spk_nums.specs.declared.calls.Call.TheVariants.{Tick}
+use Rattle.world_laws.specs.spk_nums.specs.declared.replies.Value.{Value}
+use Rattle.world_laws.specs.spk_nums.specs.declared.replies.Reply.{Reply}
+use Rattle.world_laws.specs.spk_nums.specs.declared.replies.Reply.TheVariants as reply
+use Rattle.world_laws.specs.kernel_rules.specs.State.{Place, Frame, Liveness, Core, State, with_core, thread_in, tcap_in}
+use Rattle.world_laws.specs.kernel_rules.specs.CallRelation.{counted, owed_by, state_by}
+use Rattle.world_laws.specs.kernel_rules.specs.Runs.{Decides, after, IsRun}
+use Rattle.world_laws.specs.kernel_rules.proofs.Within.{put_same, put_other}
 use Rattle.kernel_history.specs.Trace.{Step, Trace, Phase, Out, Open, Decided, phase, after_enter, state_after, state_before}
 use Rattle.kernel_history.specs.Trace.{state_entered, state_decided, state_returned}
 use Rattle.kernel_history.specs.Events.{with_decision}
 use Rattle.kernel_history.specs.Legal.{IsLegal}
 use Rattle.kernel_history.proofs.Events.{entered_events, before_is, decided_run, run_of}
-use Rattle.authority_laws.specs.Authority.{bare_of, Part, PlaceIs, FrameIs, StackIs, RunsIs, BudgetIs, ListIs, NumberIs, CoreIs, Stays, SamePart}
+use Rattle.world_laws.specs.authority_laws.specs.Authority.{bare_of, Part, PlaceIs, FrameIs, StackIs, RunsIs, BudgetIs, ListIs, NumberIs}
+use Rattle.world_laws.specs.authority_laws.specs.Authority.{CoreIs, Stays, SamePart}
 use Rattle.isolation_laws.specs.Carried.{CarriesOut}
 
 -- From s to t at most core c is another, and it runs on the same thread and temporal capability; or grace periods change.
@@ -169,16 +170,17 @@ module _ (setup : Setting) (t : Trace) (e : Step) (legal : IsLegal setup (e ∷ 
   pub step_does : OnlyCore (state_after setup t) (state_after setup (e ∷ t)) e.core ⊎ Carrying
   step_does = elim (by_decision setup t e e.decides (after_enter e.enters (phase t e.core))
       (decided_run setup t e legal.0 legal.1 (run_of setup t legal.0))) [
-    | inl only ↦ inl (only_on (state_after setup t) decided (state_after setup (e ∷ t)) e.core
-        (only_on (state_after setup t) before decided e.core into only) out_of)
-    | inr carries ↦ inr carries
-  ]
+        | inl only ↦ inl (only_on (state_after setup t) decided (state_after setup (e ∷ t)) e.core
+            (only_on (state_after setup t) before decided e.core into only) out_of)
+        | inr carries ↦ inr carries
+      ]
 
   pub carried : Carrying → CarriesOut t e
   carried k = record { call = k.call; value = k.value; is_open = k.is_open; decides = k.decides }
 
   -- what is said of a decision in runs holds of the states before it and after it
   pub at_decision : (T : State → State → Type 0) (k : Carrying)
-      → T (after setup (entered_events t e)) (after setup (Decides e.core k.call (reply.Ok k.value) ∷ entered_events t e)) → T before decided
+      → T (after setup (entered_events t e)) (after setup (Decides e.core k.call (reply.Ok k.value) ∷ entered_events t e))
+      → T before decided
   at_decision T k h = subst (T before) (sym k.left)
       (subst (λ s. T s (state_by s e.core k.call (reply.Ok k.value))) (sym (before_is setup t e)) h)

@@ -1,14 +1,14 @@
--- Worlds over stretches of steps: what each event of a run keeps, or is a call that is carried out by such a core, holds after each stretch,
--- or such a call was carried out in it.
+-- Worlds over stretches of steps: what each event of a run keeps, or is a call that is carried out by such a core, holds after each
+-- stretch, or such a call was carried out in it.
 use Rattle.std.proofs.Common.{◌≡◌, ◌⊎◌, inl, inr, ℕ, Bool, true, refl, sym, ◌∙◌, ap, subst, List, [], ◌∷◌, ◌++◌, Option, Some, None}
-use Rattle.spk_nums.specs.Setting.{Setting, IsSetting}
-use Rattle.spk_nums.specs.declared.kinds.Kind.{Kind}
-use Rattle.spk_nums.specs.declared.calls.Call.{Call}
-use Rattle.spk_nums.specs.declared.replies.Value.{Value}
-use Rattle.spk_nums.specs.declared.replies.Reply.{Reply}
-use Rattle.spk_nums.specs.declared.replies.Reply.TheVariants as reply
-use Rattle.kernel_rules.specs.State.{State}
-use Rattle.kernel_rules.specs.Runs.{Event, Enters, Decides, Returns, after, IsRun}
+use Rattle.world_laws.specs.spk_nums.specs.Setting.{Setting, IsSetting}
+use Rattle.world_laws.specs.spk_nums.specs.declared.kinds.Kind.{Kind}
+use Rattle.world_laws.specs.spk_nums.specs.declared.calls.Call.{Call}
+use Rattle.world_laws.specs.spk_nums.specs.declared.replies.Value.{Value}
+use Rattle.world_laws.specs.spk_nums.specs.declared.replies.Reply.{Reply}
+use Rattle.world_laws.specs.spk_nums.specs.declared.replies.Reply.TheVariants as reply
+use Rattle.world_laws.specs.kernel_rules.specs.State.{State}
+use Rattle.world_laws.specs.kernel_rules.specs.Runs.{Event, Enters, Decides, Returns, after, IsRun}
 use Rattle.kernel_history.specs.Trace.{Step, Trace, Phase, Out, Open, Decided, phase, after_enter, state_after, state_before}
 use Rattle.kernel_history.specs.Events.{with_entry, with_decision, with_return, events_of}
 use Rattle.kernel_history.specs.Legal.{IsLegal}
@@ -73,8 +73,8 @@ module _ (setup : Setting) (P : State → ℕ → Type 0) (S : State → Type 0)
     | inr acts ↦ absurd (no_return c acts.core acts.call (reply.Ok acts.value) acts.is)
   ]
 
-  decision : (o : Option Reply) (p : Phase) (c : ℕ) (events : List Event) → IsRun setup (with_decision o p c events) → S (after setup events)
-      → S (after setup (with_decision o p c events)) ⊎ DecidedNow P o p (after setup events) c
+  decision : (o : Option Reply) (p : Phase) (c : ℕ) (events : List Event) → IsRun setup (with_decision o p c events)
+      → S (after setup events) → S (after setup (with_decision o p c events)) ⊎ DecidedNow P o p (after setup events) c
   decision None p c events run s = inl s
   decision (Some r) Out c events run s = inl s
   decision (Some r) (Decided call q) c events run s = inl s
@@ -189,11 +189,11 @@ module _ (setup : Setting) (lim : IsSetting setup) (w : ℕ → Bool) (crosses :
   apart_next earlier event run apart = apart_for_good setup lim earlier (event ∷ []) run w crosses only apart
 
   stays_apart : AreApart w crosses (state_after setup t) → AreApart w crosses (state_after setup (u ++ t))
-  stays_apart apart = elim (stretch setup None_of (AreApart w crosses) (λ earlier event run h. inl (apart_next earlier event run h)) u t legal
-      apart) [
-    | inl h ↦ h
-    | inr acts ↦ absurd acts.holds
-  ]
+  stays_apart apart = elim (stretch setup None_of (AreApart w crosses) (λ earlier event run h. inl (apart_next earlier event run h))
+      u t legal apart) [
+        | inl h ↦ h
+        | inr acts ↦ absurd acts.holds
+      ]
 
   -- worlds that are apart, one of which has as many ticks
   abbrev HasTicks : ℕ → State → Type 0

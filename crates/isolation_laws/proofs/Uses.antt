@@ -1,9 +1,9 @@
 -- What follows from the laws of steps and of stretches by their words alone.
 use Rattle.std.proofs.Common.{◌≡◌, ◌≢◌, inl, inr, ℕ, sym, ◌∙◌, subst, [], ◌∷◌, ◌++◌, Option, Some, None}
-use Rattle.spk_nums.specs.Setting.{Setting}
-use Rattle.spk_nums.specs.declared.replies.Reply.{Reply}
-use Rattle.spk_nums.specs.declared.replies.Reply.TheVariants as reply
-use Rattle.kernel_rules.specs.State.{State}
+use Rattle.world_laws.specs.spk_nums.specs.Setting.{Setting}
+use Rattle.world_laws.specs.spk_nums.specs.declared.replies.Reply.{Reply}
+use Rattle.world_laws.specs.spk_nums.specs.declared.replies.Reply.TheVariants as reply
+use Rattle.world_laws.specs.kernel_rules.specs.State.{State}
 use Rattle.kernel_history.specs.Trace.{Step, Trace, state_before}
 use Rattle.world_laws.specs.Time.{RunsAcross}
 use Rattle.isolation_laws.specs.Carried.{CarriedOutBy}

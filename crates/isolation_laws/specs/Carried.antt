@@ -1,10 +1,10 @@
 -- Calls that steps carry out.
 use Rattle.std.specs.Prelude.{◌≡◌, ℕ, ◌∷◌, ◌++◌, Some}
-use Rattle.spk_nums.specs.Setting.{Setting}
-use Rattle.spk_nums.specs.declared.calls.Call.{Call}
-use Rattle.spk_nums.specs.declared.replies.Value.{Value}
-use Rattle.spk_nums.specs.declared.replies.Reply.TheVariants.{Ok}
-use Rattle.kernel_rules.specs.State.{State}
+use Rattle.world_laws.specs.spk_nums.specs.Setting.{Setting}
+use Rattle.world_laws.specs.spk_nums.specs.declared.calls.Call.{Call}
+use Rattle.world_laws.specs.spk_nums.specs.declared.replies.Value.{Value}
+use Rattle.world_laws.specs.spk_nums.specs.declared.replies.Reply.TheVariants.{Ok}
+use Rattle.world_laws.specs.kernel_rules.specs.State.{State}
 use Rattle.kernel_history.specs.Trace.{Step, Trace, Open, phase, after_enter, state_before}
 
 -- The step e, made after t, carries its core's call out: it decides it with `ok`.

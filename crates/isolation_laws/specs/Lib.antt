@@ -1,5 +1,5 @@
 -- What the crates above name through this one.
-pub use Rattle.authority_laws
+pub use Rattle.world_laws.specs.authority_laws
 pub use Rattle.world_laws
 pub use Rattle.origin_rules
 pub use Rattle.origin_laws

@@ -1,8 +1,8 @@
 -- Where the capabilities of legal traces come from.
 use Rattle.std.specs.Prelude.{◌≡◌, ◌⊎◌, ℕ, true, ◌∷◌, ◌++◌, Option, Some, None}
-use Rattle.spk_nums.specs.Capability.{Capability}
-use Rattle.spk_nums.specs.Setting.{Setting, IsSetting}
-use Rattle.kernel_rules.specs.State.{Place, Free, Holds, Quiescing}
+use Rattle.world_laws.specs.spk_nums.specs.Capability.{Capability}
+use Rattle.world_laws.specs.spk_nums.specs.Setting.{Setting, IsSetting}
+use Rattle.world_laws.specs.kernel_rules.specs.State.{Place, Free, Holds, Quiescing}
 use Rattle.kernel_history.specs.Trace.{Step, Trace, state_after, state_before}
 use Rattle.kernel_history.specs.Events.{events_of}
 use Rattle.kernel_history.specs.Legal.{IsLegal}

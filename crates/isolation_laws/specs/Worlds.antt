@@ -1,11 +1,11 @@
 -- Sealed worlds along legal traces.
 use Rattle.std.specs.Prelude.{◌≡◌, ◌⊎◌, ℕ, Bool, true, false, ◌∷◌, ◌++◌}
-use Rattle.spk_nums.specs.Setting.{Setting, IsSetting}
-use Rattle.spk_nums.specs.declared.kinds.Kind.{Kind}
-use Rattle.kernel_rules.specs.State.{State}
+use Rattle.world_laws.specs.spk_nums.specs.Setting.{Setting, IsSetting}
+use Rattle.world_laws.specs.spk_nums.specs.declared.kinds.Kind.{Kind}
+use Rattle.world_laws.specs.kernel_rules.specs.State.{State}
 use Rattle.kernel_history.specs.Trace.{Step, Trace, state_after, state_before}
 use Rattle.kernel_history.specs.Legal.{IsLegal}
-use Rattle.authority_laws.specs.Authority.{Part, OwnBy, SamePart}
+use Rattle.world_laws.specs.authority_laws.specs.Authority.{Part, OwnBy, SamePart}
 use Rattle.world_laws.specs.Worlds.{works_in, lives_at, gates, OnlyGates, IsSealed, AreApart, LeavesAlone}
 use Rattle.world_laws.specs.Laws.{EntersBy, IsOf}
 use Rattle.world_laws.specs.Time.{ticks_in, RunsAcross}

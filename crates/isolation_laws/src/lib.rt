@@ -1,8 +1,8 @@
 //! Isolation in every legal trace: the authority of each step, sealed worlds, and where capabilities come from.
 //!
 //! `authority_laws`, `world_laws`, `origin_rules` and `origin_laws` speak of runs of the sequential kernel. Here the same is said of steps:
-//! what a step of one core changes between those of all others, and what stays over any stretch of steps of all cores. Each trace that is the
-//! machine's is legal, so each command and each port has these of its trace.
+//! what a step of one core changes between those of all others, and what stays over any stretch of steps of all cores. Each trace that is
+//! the machine's is legal, so each command and each port has these of its trace.
 //!
 //! See docs/WORLDS.md and docs/ORIGINS.md.
 #![tactic(auto)]
@@ -25,8 +25,8 @@ pub fn steps_spare_worlds()
     ensures { StepsSpareWorlds }
 {}
 
-/// In every legal trace, a core comes to work in a set of frames only by `call` of a gate to a component that lives, by `ret` into one below
-/// on its stack, or by `switch` to a thread whose top is one.
+/// In every legal trace, a core comes to work in a set of frames only by `call` of a gate to a component that lives, by `ret` into one
+/// below on its stack, or by `switch` to a thread whose top is one.
 #[tactic(auto, using(crate::proofs::StepWorlds::steps_enter_worlds))]
 pub fn steps_enter_worlds()
     ensures { StepsEnterWorlds }
@@ -71,7 +71,8 @@ pub fn spared_places_stay()
 {}
 
 /// Where worlds stay over some steps, and no core that makes one of them works inside a sealed world, it is sealed after them, and its
-/// components live. Where two worlds are apart they stay so; and each keeps its ticks where no core that makes one of the steps runs across.
+/// components live. Where two worlds are apart they stay so; and each keeps its ticks where no core that makes one of the steps runs
+/// across.
 #[tactic(auto, using(crate::proofs::Uses::worlds_stay_alone))]
 pub fn worlds_stay_alone()
     ensures { WorldsStayAlone }

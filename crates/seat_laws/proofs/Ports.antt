@@ -18,7 +18,8 @@ tells port seen = record {
   stay = seen.history.worlds_stay;
 }
 
-pub stay_since : (older newer : CoreSeatValue) (call : Call) (r : Reply) → MakesCall older call r newer → HasSeen newer → StaySince older newer
+pub stay_since : (older newer : CoreSeatValue) (call : Call) (r : Reply) → MakesCall older call r newer → HasSeen newer
+    → StaySince older newer
 stay_since older newer call r makes seen =
     let history : IsHistory older.kernel.setup newer.seen =
     subst (λ (k : KernelValue). IsHistory k.setup newer.seen) makes.kernel seen.history in

@@ -9,8 +9,8 @@ use Rattle.core_kernel.specs.flight_laws.specs.isolation_laws.specs.Carried.{Car
 use Rattle.core_kernel.specs.flight_laws.specs.isolation_laws.specs.Worlds.{SparesWorlds, EntersWorlds, WorksInside, WorldsStay}
 use Rattle.core_kernel.specs.flight_laws.specs.isolation_laws.specs.world_laws.specs.Worlds.{OnlyGates, IsSealed, AreApart}
 
--- Of all that a port has seen: each step has authority for what it changes; each step of a core that works outside a sealed world spares it;
--- cores come to work in worlds by gates, returns and switches; and over each stretch of steps worlds stay.
+-- Of all that a port has seen: each step has authority for what it changes; each step of a core that works outside a sealed world spares
+-- it; cores come to work in worlds by gates, returns and switches; and over each stretch of steps worlds stay.
 pub record TellsOfWorlds (port : CoreSeatValue) : Type 0 where
   pub authority : AtEachStep (HasAuthority port.kernel.setup) port.seen
   pub spared : AtEachStep (SparesWorlds port.kernel.setup) port.seen

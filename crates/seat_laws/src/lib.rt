@@ -1,5 +1,6 @@
 //! Laws of a history as a caller of the kernel for threads has them: each from the contract of `Kernel::call` or of a port alone, by one
-//! projection of the record of all that holds of a machine's history. Should a law be out of a caller's reach, this crate would not be proved.
+//! projection of the record of all that holds of a machine's history. Should a law be out of a caller's reach, this crate would not be
+//! proved.
 //!
 //! See docs/CLAIMS.md, 'The laws of a history'.
 #![tactic(auto)]
@@ -41,8 +42,8 @@ pub fn port_tells(port: &Port) -> CoreNo
 }
 
 /// Makes the call of the port's core, and answers its reply. Worlds that were apart after what the port had seen are so after what it has
-/// then seen, whatever all cores have done since; one that was sealed is so too, or a core inside has carried out a call. The call is in its
-/// limits.
+/// then seen, whatever all cores have done since; one that was sealed is so too, or a core inside has carried out a call. The call is in
+/// its limits.
 #[tactic(auto, using(crate::proofs::Ports::tells, crate::proofs::Ports::stay_since))]
 pub fn ask_and_tell(port: &mut Port, call: Call) -> Reply
     requires limits { InLimits call }

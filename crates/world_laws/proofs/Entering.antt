@@ -1,26 +1,28 @@
 -- How a core comes to work in another component: by a gate, by a return, or as another thread.
-use Rattle.std.proofs.Common.{◌≡◌, ◌⊎◌, inl, inr, ℕ, ◌+◌, ◌-◌, ◌<◌, Bool, true, false, refl, sym, ◌∙◌, ap, subst, IsTrue, List, [], ◌∷◌, drop, Option, Some, None}
+use Rattle.std.proofs.Common.{◌≡◌, ◌⊎◌, inl, inr, ℕ, ◌+◌, ◌-◌, ◌<◌, Bool, true, false, refl, sym, ◌∙◌, ap, subst, IsTrue, List, [], ◌∷◌}
+use Rattle.std.proofs.Common.{drop, Option, Some, None}
 use Rattle.std.proofs.lemmas.Bool.{false≢true}
-use Rattle.spk_nums.specs.Setting.{Setting, IsSetting}
-use Rattle.spk_nums.specs.declared.kinds.Kind.TheVariants as kind
-use Rattle.spk_nums.specs.declared.calls.Call.{Call}
-use Rattle.spk_nums.specs.declared.calls.Call.TheVariants as call
-use Rattle.spk_nums.specs.declared.replies.Reply.{Reply}
-use Rattle.kernel_rules.specs.State.{Blank, Thread, Tcap, Comp, Frame, Untyped, Kernel, ThreadFields, TcapFields, Core, State}
-use Rattle.kernel_rules.specs.State.{put, with_frame, comp_in, thread_in, thread_of, first_of_stack}
-use Rattle.kernel_rules.specs.Fitting.{fits}
-use Rattle.kernel_rules.specs.Life.{is_live_in}
-use Rattle.kernel_rules.specs.InvocationCalls.{with_thread}
-use Rattle.kernel_rules.specs.TimeCalls.{tcap_at, with_tcap, charge}
-use Rattle.kernel_rules.specs.Runs.{Event, Decides, after, is_open, IsRun}
-use Rattle.kernel_rules.proofs.Within.{put_same}
-use Rattle.kernel_invariant.specs.Edits.{Edit, Fill, Node, Become, Untype, Component, Push, Pop, Switch, Cache, Flush}
-use Rattle.kernel_invariant.specs.Edits.{Charge, Move, Merge, edited, after_edits}
-use Rattle.kernel_invariant.proofs.Sound.{put_all}
-use Rattle.kernel_invariant.proofs.SoundCalls.{IsOpen}
-use Rattle.kernel_invariant.proofs.SoundRuns.{opened, open_is, runs_sound, limits_stay}
-use Rattle.kernel_invariant.proofs.Edited.{is_bare, AreLater, Calm}
-use Rattle.state_laws.proofs.Gates.{gates_fit}
+use Rattle.authority_laws.specs.spk_nums.specs.Setting.{Setting, IsSetting}
+use Rattle.authority_laws.specs.spk_nums.specs.declared.kinds.Kind.TheVariants as kind
+use Rattle.authority_laws.specs.spk_nums.specs.declared.calls.Call.{Call}
+use Rattle.authority_laws.specs.spk_nums.specs.declared.calls.Call.TheVariants as call
+use Rattle.authority_laws.specs.spk_nums.specs.declared.replies.Reply.{Reply}
+use Rattle.authority_laws.specs.kernel_rules.specs.State.{Blank, Thread, Tcap, Comp, Frame, Untyped, Kernel, ThreadFields, TcapFields, Core}
+use Rattle.authority_laws.specs.kernel_rules.specs.State.{State}
+use Rattle.authority_laws.specs.kernel_rules.specs.State.{put, with_frame, comp_in, thread_in, thread_of, first_of_stack}
+use Rattle.authority_laws.specs.kernel_rules.specs.Fitting.{fits}
+use Rattle.authority_laws.specs.kernel_rules.specs.Life.{is_live_in}
+use Rattle.authority_laws.specs.kernel_rules.specs.InvocationCalls.{with_thread}
+use Rattle.authority_laws.specs.kernel_rules.specs.TimeCalls.{tcap_at, with_tcap, charge}
+use Rattle.authority_laws.specs.kernel_rules.specs.Runs.{Event, Decides, after, is_open, IsRun}
+use Rattle.authority_laws.specs.kernel_rules.proofs.Within.{put_same}
+use Rattle.authority_laws.specs.kernel_invariant.specs.Edits.{Edit, Fill, Node, Become, Untype, Component, Push, Pop, Switch, Cache, Flush}
+use Rattle.authority_laws.specs.kernel_invariant.specs.Edits.{Charge, Move, Merge, edited, after_edits}
+use Rattle.authority_laws.specs.kernel_invariant.proofs.Sound.{put_all}
+use Rattle.authority_laws.specs.kernel_invariant.proofs.SoundCalls.{IsOpen}
+use Rattle.authority_laws.specs.kernel_invariant.proofs.SoundRuns.{opened, open_is, runs_sound, limits_stay}
+use Rattle.authority_laws.specs.kernel_invariant.proofs.Edited.{is_bare, AreLater, Calm}
+use Rattle.authority_laws.specs.state_laws.proofs.Gates.{gates_fit}
 use Rattle.authority_laws.specs.Authority.{Stays}
 use Rattle.authority_laws.proofs.Acts.{Enters, GoesOn, By, EachBy, used_at}
 use Rattle.authority_laws.proofs.DecidedParts.{decided_from}

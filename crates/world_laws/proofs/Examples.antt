@@ -1,14 +1,15 @@
 -- Worked examples, which the checker computes: states in which the world of frame 5 is not sealed, and one in which it is.
 use Rattle.std.proofs.Common.{◌≡◌, ℕ, Bool, false, ◌==◌, refl, ◌∙◌, ap, [], Some}
 use Rattle.std.proofs.lemmas.Bool.{true≢false}
-use Rattle.spk_nums.specs.Capability.{Capability, cap_of}
-use Rattle.spk_nums.specs.declared.kinds.Kind.{Kind}
-use Rattle.spk_nums.specs.declared.kinds.Kind.TheVariants as kind
-use Rattle.kernel_rules.specs.State.{Place, Free, Holds, Quiescing, Comp, Untyped, Kernel, Unused, State, with_place, with_frame, with_grace}
-use Rattle.kernel_rules.specs.Start.{plain_cap, no_grace}
-use Rattle.kernel_rules.specs.Access.{only, usable_in}
-use Rattle.kernel_invariant.proofs.SoundSteps.{place_all}
-use Rattle.kernel_invariant.proofs.Facts.{none_some, some_inj}
+use Rattle.authority_laws.specs.spk_nums.specs.Capability.{Capability, cap_of}
+use Rattle.authority_laws.specs.spk_nums.specs.declared.kinds.Kind.{Kind}
+use Rattle.authority_laws.specs.spk_nums.specs.declared.kinds.Kind.TheVariants as kind
+use Rattle.authority_laws.specs.kernel_rules.specs.State.{Place, Free, Holds, Quiescing, Comp, Untyped, Kernel, Unused, State, with_place}
+use Rattle.authority_laws.specs.kernel_rules.specs.State.{with_frame, with_grace}
+use Rattle.authority_laws.specs.kernel_rules.specs.Start.{plain_cap, no_grace}
+use Rattle.authority_laws.specs.kernel_rules.specs.Access.{only, usable_in}
+use Rattle.authority_laws.specs.kernel_invariant.proofs.SoundSteps.{place_all}
+use Rattle.authority_laws.specs.kernel_invariant.proofs.Facts.{none_some, some_inj}
 use Rattle.world_laws.specs.Worlds.{gates, HoldsNone, IsSealed}
 use Rattle.world_laws.proofs.Outside.{leads_plain}
 
@@ -76,5 +77,5 @@ gate_stays = record {
   comps = λ f k out e. absurd (no_comp k e);
 }
   where
-    no_comp : (k : Rattle.kernel_rules.specs.State.CompFields) → Untyped ≡ Kernel (Comp k) → ⊥
+    no_comp : (k : Rattle.authority_laws.specs.kernel_rules.specs.State.CompFields) → Untyped ≡ Kernel (Comp k) → ⊥
     no_comp k e = cc

@@ -1,19 +1,19 @@
 -- A decision of a core that works outside a sealed world leaves it alone.
 use Rattle.std.proofs.Common.{◌≡◌, ◌≢◌, ◌⊎◌, inl, inr, ℕ, Bool, true, false, refl, sym, ◌∙◌, ap, subst, IsTrue, List, ◌∷◌, Option}
 use Rattle.std.proofs.lemmas.Bool.{false≢true}
-use Rattle.spk_nums.specs.Setting.{Setting, IsSetting}
-use Rattle.spk_nums.specs.Capability.{Capability}
-use Rattle.spk_nums.specs.declared.kinds.Kind.{Kind}
-use Rattle.spk_nums.specs.declared.kinds.Kind.TheVariants as kind
-use Rattle.spk_nums.specs.declared.calls.Call.{Call}
-use Rattle.spk_nums.specs.declared.replies.Reply.{Reply}
-use Rattle.kernel_rules.specs.State.{Comp, Thread, Tcap, Frame, Kernel, Live, State, comp_in, thread_in, tcap_in}
-use Rattle.kernel_rules.specs.CapabilityCalls.{is_live}
-use Rattle.kernel_rules.specs.Life.{is_live_in}
-use Rattle.kernel_rules.specs.Fitting.{fits}
-use Rattle.kernel_rules.specs.Runs.{Event, Decides, after, is_open, IsRun}
-use Rattle.kernel_invariant.proofs.SoundCalls.{IsOpen}
-use Rattle.kernel_invariant.proofs.SoundRuns.{opened, open_is}
+use Rattle.authority_laws.specs.spk_nums.specs.Setting.{Setting, IsSetting}
+use Rattle.authority_laws.specs.spk_nums.specs.Capability.{Capability}
+use Rattle.authority_laws.specs.spk_nums.specs.declared.kinds.Kind.{Kind}
+use Rattle.authority_laws.specs.spk_nums.specs.declared.kinds.Kind.TheVariants as kind
+use Rattle.authority_laws.specs.spk_nums.specs.declared.calls.Call.{Call}
+use Rattle.authority_laws.specs.spk_nums.specs.declared.replies.Reply.{Reply}
+use Rattle.authority_laws.specs.kernel_rules.specs.State.{Comp, Thread, Tcap, Frame, Kernel, Live, State, comp_in, thread_in, tcap_in}
+use Rattle.authority_laws.specs.kernel_rules.specs.CapabilityCalls.{is_live}
+use Rattle.authority_laws.specs.kernel_rules.specs.Life.{is_live_in}
+use Rattle.authority_laws.specs.kernel_rules.specs.Fitting.{fits}
+use Rattle.authority_laws.specs.kernel_rules.specs.Runs.{Event, Decides, after, is_open, IsRun}
+use Rattle.authority_laws.specs.kernel_invariant.proofs.SoundCalls.{IsOpen}
+use Rattle.authority_laws.specs.kernel_invariant.proofs.SoundRuns.{opened, open_is}
 use Rattle.authority_laws.specs.Authority.{Part, PlaceIs, FrameIs, StackIs, RunsIs, BudgetIs, ListIs, NumberIs, CoreIs}
 use Rattle.authority_laws.specs.Authority.{bare_of, Over, OwnBy, IsUnderOne, SamePart, Stays}
 use Rattle.authority_laws.proofs.DecidedParts.{calls_change_their_own}

@@ -1,20 +1,20 @@
 -- In every state that a run reaches, each link that a core may use has both rights; and who waits after a return waited before.
 use Rattle.std.proofs.Common.{◌≡◌, inl, inr, ℕ, Bool, true, false, refl, ◌∙◌, ap, subst, if◌then◌else◌, IsTrue, List, [], ◌∷◌, Some, None}
 use Rattle.std.proofs.lemmas.Bool.{false≢true}
-use Rattle.spk_nums.specs.Setting.{Setting, IsSetting}
-use Rattle.spk_nums.specs.Capability.{Capability}
-use Rattle.spk_nums.specs.Rights.{both, kept_rights}
-use Rattle.spk_nums.specs.declared.kinds.Kind.{Kind}
-use Rattle.spk_nums.specs.declared.kinds.Kind.TheVariants as kind
-use Rattle.spk_nums.specs.declared.calls.Call.{Call}
-use Rattle.kernel_rules.specs.State.{Place, Free, Holds, Quiescing, PlaceOf, State}
-use Rattle.kernel_rules.specs.Access.{Slot, only, usable, usable_in}
-use Rattle.kernel_rules.specs.GracePeriods.{returned}
-use Rattle.kernel_rules.specs.Runs.{Event, Enters, Decides, Returns, after, is_open, IsRun}
-use Rattle.kernel_invariant.proofs.Facts.{none_some}
-use Rattle.kernel_invariant.proofs.Sound.{put_all, only_is}
-use Rattle.kernel_invariant.proofs.SoundRuns.{opened, open_is}
-use Rattle.state_laws.proofs.BothRights.{both_stay}
+use Rattle.authority_laws.specs.spk_nums.specs.Setting.{Setting, IsSetting}
+use Rattle.authority_laws.specs.spk_nums.specs.Capability.{Capability}
+use Rattle.authority_laws.specs.spk_nums.specs.Rights.{both, kept_rights}
+use Rattle.authority_laws.specs.spk_nums.specs.declared.kinds.Kind.{Kind}
+use Rattle.authority_laws.specs.spk_nums.specs.declared.kinds.Kind.TheVariants as kind
+use Rattle.authority_laws.specs.spk_nums.specs.declared.calls.Call.{Call}
+use Rattle.authority_laws.specs.kernel_rules.specs.State.{Place, Free, Holds, Quiescing, PlaceOf, State}
+use Rattle.authority_laws.specs.kernel_rules.specs.Access.{Slot, only, usable, usable_in}
+use Rattle.authority_laws.specs.kernel_rules.specs.GracePeriods.{returned}
+use Rattle.authority_laws.specs.kernel_rules.specs.Runs.{Event, Enters, Decides, Returns, after, is_open, IsRun}
+use Rattle.authority_laws.specs.kernel_invariant.proofs.Facts.{none_some}
+use Rattle.authority_laws.specs.kernel_invariant.proofs.Sound.{put_all, only_is}
+use Rattle.authority_laws.specs.kernel_invariant.proofs.SoundRuns.{opened, open_is}
+use Rattle.authority_laws.specs.state_laws.proofs.BothRights.{both_stay}
 use Rattle.world_laws.proofs.Puts.{Put, usable_from}
 use Rattle.world_laws.proofs.Outside.{LinksHaveBoth}
 
@@ -36,7 +36,8 @@ link_kept j own these is e = by_kind j (only_is kind.Link j is)
     by_kind : (j : Kind) → j ≡ kind.Link → kept_rights j own these ≡ both
     by_kind j same = ap (λ i. kept_rights i own these) same ∙ e
 
-put_both : {call : Call} (s : State) (c f : ℕ) (k : Capability) → LinksHaveBoth s → Put call s c f k → IsTrue (only kind.Link k.kind) → k.rights ≡ both
+put_both : {call : Call} (s : State) (c f : ℕ) (k : Capability) → LinksHaveBoth s → Put call s c f k
+    → IsTrue (only kind.Link k.kind) → k.rights ≡ both
 put_both s c f k h (node, inr given) is = given.rights
 put_both s c f k h (node, inl copied) is =
     let link : IsTrue (only kind.Link copied.source.kind) = subst (λ (j : Capability). IsTrue (only kind.Link j.kind)) copied.is is in

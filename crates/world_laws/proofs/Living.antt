@@ -1,17 +1,17 @@
 -- In the states that runs reach, a component lives exactly where its number is live for its frame.
 use Rattle.std.proofs.Common.{◌≡◌, ℕ, ◌≤◌, arith, Bool, true, false, ◌==◌, refl, sym, ◌∙◌, ap, IsTrue, List}
 use Rattle.std.proofs.lemmas.Bool.{false≢true, eqb-true, eq-eqb}
-use Rattle.spk_nums.specs.Setting.{Setting, IsSetting}
-use Rattle.spk_nums.specs.declared.kinds.Kind.TheVariants as kind
-use Rattle.kernel_rules.specs.State.{Comp, Frame, Kernel, Liveness, Unused, Live, Dead, State, comp_in}
-use Rattle.kernel_rules.specs.Fitting.{fits}
-use Rattle.kernel_rules.specs.Life.{is_live_in}
-use Rattle.kernel_rules.specs.Ranges.{FrameInRange}
-use Rattle.kernel_rules.specs.Runs.{Event, after, IsRun}
-use Rattle.kernel_laws.proofs.RangesLaw.{ranges_hold}
-use Rattle.state_laws.specs.Lives.{IsCompOf}
-use Rattle.state_laws.proofs.Lives.{live_numbers_fit}
-use Rattle.state_laws.proofs.CompsApart.{comps_apart}
+use Rattle.authority_laws.specs.spk_nums.specs.Setting.{Setting, IsSetting}
+use Rattle.authority_laws.specs.spk_nums.specs.declared.kinds.Kind.TheVariants as kind
+use Rattle.authority_laws.specs.kernel_rules.specs.State.{Comp, Frame, Kernel, Liveness, Unused, Live, Dead, State, comp_in}
+use Rattle.authority_laws.specs.kernel_rules.specs.Fitting.{fits}
+use Rattle.authority_laws.specs.kernel_rules.specs.Life.{is_live_in}
+use Rattle.authority_laws.specs.kernel_rules.specs.Ranges.{FrameInRange}
+use Rattle.authority_laws.specs.kernel_rules.specs.Runs.{Event, after, IsRun}
+use Rattle.authority_laws.specs.kernel_laws.proofs.RangesLaw.{ranges_hold}
+use Rattle.authority_laws.specs.state_laws.specs.Lives.{IsCompOf}
+use Rattle.authority_laws.specs.state_laws.proofs.Lives.{live_numbers_fit}
+use Rattle.authority_laws.specs.state_laws.proofs.CompsApart.{comps_apart}
 use Rattle.world_laws.specs.Worlds.{lives_at}
 
 -- The number of a component that lives is live for its frame.

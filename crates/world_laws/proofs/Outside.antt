@@ -2,20 +2,20 @@
 use Rattle.std.proofs.Common.{◌≡◌, ◌⊎◌, inl, inr, ℕ, Bool, true, false, refl, sym, ◌∙◌, ap, subst, if◌then◌else◌, IsTrue}
 use Rattle.std.proofs.Common.{Option, Some, None}
 use Rattle.std.proofs.lemmas.Bool.{false≢true, true≢false}
-use Rattle.spk_nums.specs.Capability.{Capability}
-use Rattle.spk_nums.specs.Rights.{both, kept, has_rights, right_to_use}
-use Rattle.spk_nums.proofs.KeptRights.{kept_has}
-use Rattle.spk_nums.specs.declared.kinds.Kind.{Kind}
-use Rattle.spk_nums.specs.declared.kinds.Kind.TheVariants as kind
-use Rattle.spk_nums.specs.declared.calls.Call.{Call}
-use Rattle.kernel_rules.specs.State.{Comp, Frame, Kernel, State, comp_in, comp_of}
-use Rattle.kernel_rules.specs.Start.{plain_cap}
-use Rattle.kernel_rules.specs.Access.{Slot, only, linked, usable, reached, own}
-use Rattle.kernel_rules.specs.Fitting.{fits}
-use Rattle.kernel_invariant.proofs.Sound.{only_is}
-use Rattle.kernel_invariant.proofs.SoundCalls.{IsOpen}
-use Rattle.kernel_invariant.proofs.Facts.{none_some, some_inj}
-use Rattle.found_stays.proofs.Stays.{comp_fit}
+use Rattle.authority_laws.specs.spk_nums.specs.Capability.{Capability}
+use Rattle.authority_laws.specs.spk_nums.specs.Rights.{both, kept, has_rights, right_to_use}
+use Rattle.authority_laws.specs.spk_nums.proofs.KeptRights.{kept_has}
+use Rattle.authority_laws.specs.spk_nums.specs.declared.kinds.Kind.{Kind}
+use Rattle.authority_laws.specs.spk_nums.specs.declared.kinds.Kind.TheVariants as kind
+use Rattle.authority_laws.specs.spk_nums.specs.declared.calls.Call.{Call}
+use Rattle.authority_laws.specs.kernel_rules.specs.State.{Comp, Frame, Kernel, State, comp_in, comp_of}
+use Rattle.authority_laws.specs.kernel_rules.specs.Start.{plain_cap}
+use Rattle.authority_laws.specs.kernel_rules.specs.Access.{Slot, only, linked, usable, reached, own}
+use Rattle.authority_laws.specs.kernel_rules.specs.Fitting.{fits}
+use Rattle.authority_laws.specs.kernel_invariant.proofs.Sound.{only_is}
+use Rattle.authority_laws.specs.kernel_invariant.proofs.SoundCalls.{IsOpen}
+use Rattle.authority_laws.specs.kernel_invariant.proofs.Facts.{none_some, some_inj}
+use Rattle.authority_laws.specs.found_stays.proofs.Stays.{comp_fit}
 use Rattle.authority_laws.specs.Authority.{IsUnder, MayUse}
 use Rattle.authority_laws.proofs.Acts.{LedTo, InRange, InNode, IsCopied, IsGiven, is_given, used_at, under_leaf}
 use Rattle.world_laws.specs.Worlds.{works_in, LeadsTo, gates, OnlyGates, HoldsNone, IsSealed}
@@ -88,7 +88,8 @@ module _ (w : ℕ → Bool) (s : State) (c : ℕ) (h : WorksOutside w s c) where
   pub may_none : {call : Call} (k : Capability) → MayUse call s c k → HoldsNone w gates k
   may_none k m = let x = used_at s c k m in h.sealed.places x.at.node x.at.index c k (reached_out m.number x.at x.reaches) x.from
 
-  pub may_out : {call : Call} (k : Capability) (j : Kind) (f : ℕ) → MayUse call s c k → k.kind ≡ j → gates j ≡ false → LeadsTo j k f → w f ≡ false
+  pub may_out : {call : Call} (k : Capability) (j : Kind) (f : ℕ) → MayUse call s c k → k.kind ≡ j → gates j ≡ false → LeadsTo j k f
+      → w f ≡ false
   may_out k j f m = led_out w k j f (may_none k m) (used_at s c k m).rights
 
   pub range_out : {call : Call} (f : ℕ) → InRange call s c f → w f ≡ false
@@ -135,6 +136,7 @@ module _ (w : ℕ → Bool) (s : State) (c : ℕ) (h : WorksOutside w s c) where
           let g = given_kind l.cap.kind l.kind in
           may_out l.cap l.cap.kind k.frame l.may refl g.0 (leads_plain l.cap.kind l.cap k.frame g.1 (sym l.frame))
 
-  pub put_none : {call : Call} (crosses : Kind → Bool) → IsSealed w crosses s → (f : ℕ) (k : Capability) → Put call s c f k → HoldsNone w crosses k
+  pub put_none : {call : Call} (crosses : Kind → Bool) → IsSealed w crosses s → (f : ℕ) (k : Capability) → Put call s c f k
+      → HoldsNone w crosses k
   put_none crosses sealed f k (node, inl x) = copied_none crosses sealed k x
   put_none crosses sealed f k (node, inr x) = given_none crosses k x

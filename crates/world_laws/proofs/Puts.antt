@@ -3,28 +3,31 @@
 use Rattle.std.proofs.Common.{◌≡◌, ◌⊎◌, inl, inr, ℕ, ◌+◌, ◌-◌, Bool, true, false, cond, refl, sym, ◌∙◌, ap, subst, if◌then◌else◌}
 use Rattle.std.proofs.Common.{List, [], ◌∷◌, drop, Some, None, is_some}
 use Rattle.std.proofs.lemmas.Bool.{false≢true}
-use Rattle.spk_nums.specs.Capability.{Capability}
-use Rattle.spk_nums.specs.declared.kinds.Kind.TheVariants as kind
-use Rattle.spk_nums.specs.declared.calls.Call.{Call}
-use Rattle.spk_nums.specs.declared.replies.Reply.{Reply}
-use Rattle.kernel_rules.specs.State.{Place, Free, Holds, Quiescing, CompFields, ThreadFields, TcapFields, Comp, Thread, Tcap, Frame}
-use Rattle.kernel_rules.specs.State.{Untyped, Kernel, Live, Dead, Grace, Thing, PlaceOf, State, with_place, with_frame, thread_in, thread_of}
-use Rattle.kernel_rules.specs.Start.{no_grace}
-use Rattle.kernel_rules.specs.Access.{Slot, usable, usable_in, held_in}
-use Rattle.kernel_rules.specs.GracePeriods.{new_grace}
-use Rattle.kernel_rules.specs.Fitting.{fits}
-use Rattle.kernel_rules.specs.InvocationCalls.{with_thread, running}
-use Rattle.kernel_rules.specs.TimeCalls.{tcap_at, with_tcap, with_budget, charge}
-use Rattle.kernel_rules.specs.CallRelation.{begins, ends, flushes, state_by, MayReply}
-use Rattle.kernel_invariant.specs.Edits.{Edit, Fill, Remove, Node, Become, Untype, Component, Deaden, Push, Pop, Switch}
-use Rattle.kernel_invariant.specs.Edits.{Charge, Move, Merge, edited, after_edits}
-use Rattle.kernel_invariant.proofs.Sound.{put_all}
-use Rattle.kernel_invariant.proofs.SoundSteps.{place_all, free_holds, quiescing_holds, holds_inj}
-use Rattle.kernel_invariant.proofs.SoundCalls.{IsOpen}
-use Rattle.kernel_invariant.proofs.Facts.{none_some, some_inj}
-use Rattle.kernel_invariant.proofs.GraceChanges.{flushed_by, grace_is}
-use Rattle.kernel_invariant.proofs.Edited.{AreLater, Calm}
-use Rattle.state_laws.proofs.Kept.{KeptBy, decided_kept}
+use Rattle.authority_laws.specs.spk_nums.specs.Capability.{Capability}
+use Rattle.authority_laws.specs.spk_nums.specs.declared.kinds.Kind.TheVariants as kind
+use Rattle.authority_laws.specs.spk_nums.specs.declared.calls.Call.{Call}
+use Rattle.authority_laws.specs.spk_nums.specs.declared.replies.Reply.{Reply}
+use Rattle.authority_laws.specs.kernel_rules.specs.State.{Place, Free, Holds, Quiescing, CompFields, ThreadFields, TcapFields, Comp, Thread}
+use Rattle.authority_laws.specs.kernel_rules.specs.State.{Tcap, Frame}
+use Rattle.authority_laws.specs.kernel_rules.specs.State.{Untyped, Kernel, Live, Dead, Grace, Thing, PlaceOf, State, with_place, with_frame}
+use Rattle.authority_laws.specs.kernel_rules.specs.State.{thread_in, thread_of}
+use Rattle.authority_laws.specs.kernel_rules.specs.Start.{no_grace}
+use Rattle.authority_laws.specs.kernel_rules.specs.Access.{Slot, usable, usable_in, held_in}
+use Rattle.authority_laws.specs.kernel_rules.specs.GracePeriods.{new_grace}
+use Rattle.authority_laws.specs.kernel_rules.specs.Fitting.{fits}
+use Rattle.authority_laws.specs.kernel_rules.specs.InvocationCalls.{with_thread, running}
+use Rattle.authority_laws.specs.kernel_rules.specs.TimeCalls.{tcap_at, with_tcap, with_budget, charge}
+use Rattle.authority_laws.specs.kernel_rules.specs.CallRelation.{begins, ends, flushes, state_by, MayReply}
+use Rattle.authority_laws.specs.kernel_invariant.specs.Edits.{Edit, Fill, Remove, Node, Become, Untype, Component, Deaden, Push, Pop}
+use Rattle.authority_laws.specs.kernel_invariant.specs.Edits.{Switch}
+use Rattle.authority_laws.specs.kernel_invariant.specs.Edits.{Charge, Move, Merge, edited, after_edits}
+use Rattle.authority_laws.specs.kernel_invariant.proofs.Sound.{put_all}
+use Rattle.authority_laws.specs.kernel_invariant.proofs.SoundSteps.{place_all, free_holds, quiescing_holds, holds_inj}
+use Rattle.authority_laws.specs.kernel_invariant.proofs.SoundCalls.{IsOpen}
+use Rattle.authority_laws.specs.kernel_invariant.proofs.Facts.{none_some, some_inj}
+use Rattle.authority_laws.specs.kernel_invariant.proofs.GraceChanges.{flushed_by, grace_is}
+use Rattle.authority_laws.specs.kernel_invariant.proofs.Edited.{AreLater, Calm}
+use Rattle.authority_laws.specs.state_laws.proofs.Kept.{KeptBy, decided_kept}
 use Rattle.authority_laws.proofs.Acts.{InRange, InNode, IsCopied, IsGiven, Makes, By, EachBy}
 use Rattle.authority_laws.proofs.DecidedParts.{decided_from}
 

@@ -1,17 +1,17 @@
 -- A sealed world stays sealed through each event but a decision of a core that works inside.
 use Rattle.std.proofs.Common.{◌≡◌, inl, inr, ℕ, Bool, true, false, refl, sym, ◌∙◌}
 use Rattle.std.proofs.lemmas.Bool.{false≢true}
-use Rattle.spk_nums.specs.declared.kinds.Kind.{Kind}
-use Rattle.spk_nums.specs.declared.kinds.Kind.TheVariants as kind
-use Rattle.spk_nums.specs.declared.calls.Call.{Call}
-use Rattle.spk_nums.specs.declared.calls.Call.TheVariants.{Tick}
-use Rattle.spk_nums.specs.declared.replies.Reply.{Reply}
-use Rattle.kernel_rules.specs.State.{State}
-use Rattle.kernel_rules.specs.GracePeriods.{entered, returned}
-use Rattle.kernel_rules.specs.CallRelation.{counted, owed_by, state_by, MayReply}
-use Rattle.kernel_rules.specs.Runs.{after}
-use Rattle.kernel_invariant.proofs.SoundCalls.{IsOpen}
-use Rattle.kernel_invariant.proofs.SoundRuns.{opened}
+use Rattle.authority_laws.specs.spk_nums.specs.declared.kinds.Kind.{Kind}
+use Rattle.authority_laws.specs.spk_nums.specs.declared.kinds.Kind.TheVariants as kind
+use Rattle.authority_laws.specs.spk_nums.specs.declared.calls.Call.{Call}
+use Rattle.authority_laws.specs.spk_nums.specs.declared.calls.Call.TheVariants.{Tick}
+use Rattle.authority_laws.specs.spk_nums.specs.declared.replies.Reply.{Reply}
+use Rattle.authority_laws.specs.kernel_rules.specs.State.{State}
+use Rattle.authority_laws.specs.kernel_rules.specs.GracePeriods.{entered, returned}
+use Rattle.authority_laws.specs.kernel_rules.specs.CallRelation.{counted, owed_by, state_by, MayReply}
+use Rattle.authority_laws.specs.kernel_rules.specs.Runs.{after}
+use Rattle.authority_laws.specs.kernel_invariant.proofs.SoundCalls.{IsOpen}
+use Rattle.authority_laws.specs.kernel_invariant.proofs.SoundRuns.{opened}
 use Rattle.world_laws.specs.Worlds.{IsSealed}
 use Rattle.world_laws.specs.Laws.{SealsStay}
 use Rattle.world_laws.proofs.Puts.{decided_put, usable_from}

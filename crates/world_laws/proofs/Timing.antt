@@ -2,30 +2,31 @@
 use Rattle.std.proofs.Common.{◌≡◌, ◌⊎◌, inl, inr, ℕ, ◌+◌, ◌-◌, ◌<◌, ◌≤◌, min, arith, Bool, true, false, not, refl, sym, ◌∙◌, ap, subst}
 use Rattle.std.proofs.Common.{IsTrue, List, [], ◌∷◌, ◌++◌, Some, None}
 use Rattle.std.proofs.lemmas.Bool.{false≢true, true≢false}
-use Rattle.spk_nums.specs.Setting.{Setting, IsSetting}
-use Rattle.spk_nums.specs.declared.kinds.Kind.{Kind}
-use Rattle.spk_nums.specs.declared.kinds.Kind.TheVariants as kind
-use Rattle.spk_nums.specs.declared.calls.Call.{Call}
-use Rattle.spk_nums.specs.declared.calls.Call.TheVariants.{Tick}
-use Rattle.spk_nums.specs.declared.replies.Reply.{Reply}
-use Rattle.spk_nums.specs.declared.replies.Reply.TheVariants as reply
-use Rattle.kernel_rules.specs.State.{ThreadFields, TcapFields, Blank, Comp, Thread, Tcap, Frame, Untyped, Kernel, Core, State}
-use Rattle.kernel_rules.specs.State.{put, with_frame, with_core, tcap_in}
-use Rattle.kernel_rules.specs.Access.{only}
-use Rattle.kernel_rules.specs.Fitting.{fits}
-use Rattle.kernel_rules.specs.InvocationCalls.{with_thread, running}
-use Rattle.kernel_rules.specs.TimeCalls.{tcap_at, with_tcap, with_budget, charge}
-use Rattle.kernel_rules.specs.CallRelation.{owed_by, state_by, MayReply}
-use Rattle.kernel_rules.specs.Runs.{Event, Enters, Decides, Returns, after, IsRun}
-use Rattle.kernel_rules.proofs.Within.{put_same, put_other}
-use Rattle.kernel_invariant.specs.Edits.{Edit, Fill, Node, Become, Untype, Component, Push, Pop, Switch, Cache, Flush}
-use Rattle.kernel_invariant.specs.Edits.{Charge, Move, Merge, edited, after_edits}
-use Rattle.kernel_invariant.proofs.Sums.{sum_same, sum_one}
-use Rattle.kernel_invariant.proofs.Sound.{put_all, only_is}
-use Rattle.kernel_invariant.proofs.SoundCalls.{IsOpen, tcap_below}
-use Rattle.kernel_invariant.proofs.SoundRuns.{opened}
-use Rattle.kernel_invariant.proofs.Facts.{usable_good}
-use Rattle.kernel_invariant.proofs.Edited.{is_bare, AreLater, Calm}
+use Rattle.authority_laws.specs.spk_nums.specs.Setting.{Setting, IsSetting}
+use Rattle.authority_laws.specs.spk_nums.specs.declared.kinds.Kind.{Kind}
+use Rattle.authority_laws.specs.spk_nums.specs.declared.kinds.Kind.TheVariants as kind
+use Rattle.authority_laws.specs.spk_nums.specs.declared.calls.Call.{Call}
+use Rattle.authority_laws.specs.spk_nums.specs.declared.calls.Call.TheVariants.{Tick}
+use Rattle.authority_laws.specs.spk_nums.specs.declared.replies.Reply.{Reply}
+use Rattle.authority_laws.specs.spk_nums.specs.declared.replies.Reply.TheVariants as reply
+use Rattle.authority_laws.specs.kernel_rules.specs.State.{ThreadFields, TcapFields, Blank, Comp, Thread, Tcap, Frame, Untyped, Kernel, Core}
+use Rattle.authority_laws.specs.kernel_rules.specs.State.{State}
+use Rattle.authority_laws.specs.kernel_rules.specs.State.{put, with_frame, with_core, tcap_in}
+use Rattle.authority_laws.specs.kernel_rules.specs.Access.{only}
+use Rattle.authority_laws.specs.kernel_rules.specs.Fitting.{fits}
+use Rattle.authority_laws.specs.kernel_rules.specs.InvocationCalls.{with_thread, running}
+use Rattle.authority_laws.specs.kernel_rules.specs.TimeCalls.{tcap_at, with_tcap, with_budget, charge}
+use Rattle.authority_laws.specs.kernel_rules.specs.CallRelation.{owed_by, state_by, MayReply}
+use Rattle.authority_laws.specs.kernel_rules.specs.Runs.{Event, Enters, Decides, Returns, after, IsRun}
+use Rattle.authority_laws.specs.kernel_rules.proofs.Within.{put_same, put_other}
+use Rattle.authority_laws.specs.kernel_invariant.specs.Edits.{Edit, Fill, Node, Become, Untype, Component, Push, Pop, Switch, Cache, Flush}
+use Rattle.authority_laws.specs.kernel_invariant.specs.Edits.{Charge, Move, Merge, edited, after_edits}
+use Rattle.authority_laws.specs.kernel_invariant.proofs.Sums.{sum_same, sum_one}
+use Rattle.authority_laws.specs.kernel_invariant.proofs.Sound.{put_all, only_is}
+use Rattle.authority_laws.specs.kernel_invariant.proofs.SoundCalls.{IsOpen, tcap_below}
+use Rattle.authority_laws.specs.kernel_invariant.proofs.SoundRuns.{opened}
+use Rattle.authority_laws.specs.kernel_invariant.proofs.Facts.{usable_good}
+use Rattle.authority_laws.specs.kernel_invariant.proofs.Edited.{is_bare, AreLater, Calm}
 use Rattle.authority_laws.proofs.Acts.{LedTo, By, EachBy, used_at}
 use Rattle.authority_laws.proofs.DecidedParts.{decided_from}
 use Rattle.world_laws.specs.Worlds.{works_in, gates, OnlyGates, AreApart}

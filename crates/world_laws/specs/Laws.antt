@@ -1,18 +1,18 @@
 -- Laws of sealed worlds, each the contract of a function of this crate.
 use Rattle.std.specs.Prelude.{◌≡◌, ◌⊎◌, ℕ, Bool, true, false, List, ◌∷◌, ◌++◌, drop}
-use Rattle.spk_nums.specs.Setting.{Setting, IsSetting}
-use Rattle.spk_nums.specs.Capability.{Capability}
-use Rattle.spk_nums.specs.declared.calls.Call.{Call}
-use Rattle.spk_nums.specs.declared.calls.Call.TheVariants as call
-use Rattle.spk_nums.specs.declared.kinds.Kind.{Kind}
-use Rattle.spk_nums.specs.declared.kinds.Kind.TheVariants as kind
-use Rattle.spk_nums.specs.declared.replies.Value.{Value}
-use Rattle.spk_nums.specs.declared.replies.Reply.{Reply}
-use Rattle.spk_nums.specs.declared.replies.Reply.TheVariants.{Ok}
-use Rattle.kernel_rules.specs.State.{State, thread_in, thread_of, first_of_stack}
-use Rattle.kernel_rules.specs.Access.{only, to_use}
-use Rattle.kernel_rules.specs.Rules.{Found, named}
-use Rattle.kernel_rules.specs.Runs.{Event, Decides, after, IsRun}
+use Rattle.authority_laws.specs.spk_nums.specs.Setting.{Setting, IsSetting}
+use Rattle.authority_laws.specs.spk_nums.specs.Capability.{Capability}
+use Rattle.authority_laws.specs.spk_nums.specs.declared.calls.Call.{Call}
+use Rattle.authority_laws.specs.spk_nums.specs.declared.calls.Call.TheVariants as call
+use Rattle.authority_laws.specs.spk_nums.specs.declared.kinds.Kind.{Kind}
+use Rattle.authority_laws.specs.spk_nums.specs.declared.kinds.Kind.TheVariants as kind
+use Rattle.authority_laws.specs.spk_nums.specs.declared.replies.Value.{Value}
+use Rattle.authority_laws.specs.spk_nums.specs.declared.replies.Reply.{Reply}
+use Rattle.authority_laws.specs.spk_nums.specs.declared.replies.Reply.TheVariants.{Ok}
+use Rattle.authority_laws.specs.kernel_rules.specs.State.{State, thread_in, thread_of, first_of_stack}
+use Rattle.authority_laws.specs.kernel_rules.specs.Access.{only, to_use}
+use Rattle.authority_laws.specs.kernel_rules.specs.Rules.{Found, named}
+use Rattle.authority_laws.specs.kernel_rules.specs.Runs.{Event, Decides, after, IsRun}
 use Rattle.authority_laws.specs.Authority.{Part, PlaceIs, FrameIs, StackIs, RunsIs, BudgetIs, ListIs, OwnBy, SamePart}
 use Rattle.world_laws.specs.Worlds.{works_in, lives_at, gates, OnlyGates, IsSealed, AreApart, LeavesAlone}
 

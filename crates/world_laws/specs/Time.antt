@@ -1,13 +1,13 @@
 -- The time of worlds.
 use Rattle.std.specs.Prelude.{◌≡◌, ◌⊎◌, ℕ, ◌+◌, Bool, not, cond, List, ◌∷◌, ◌++◌}
-use Rattle.spk_nums.specs.Setting.{Setting, IsSetting}
-use Rattle.spk_nums.specs.declared.calls.Call.{Call}
-use Rattle.spk_nums.specs.declared.kinds.Kind.{Kind}
-use Rattle.spk_nums.specs.declared.replies.Value.{Value}
-use Rattle.spk_nums.specs.declared.replies.Reply.TheVariants.{Ok}
-use Rattle.kernel_rules.specs.State.{State, tcap_in}
-use Rattle.kernel_rules.specs.References.{sum_below}
-use Rattle.kernel_rules.specs.Runs.{Event, Decides, after, IsRun}
+use Rattle.authority_laws.specs.spk_nums.specs.Setting.{Setting, IsSetting}
+use Rattle.authority_laws.specs.spk_nums.specs.declared.calls.Call.{Call}
+use Rattle.authority_laws.specs.spk_nums.specs.declared.kinds.Kind.{Kind}
+use Rattle.authority_laws.specs.spk_nums.specs.declared.replies.Value.{Value}
+use Rattle.authority_laws.specs.spk_nums.specs.declared.replies.Reply.TheVariants.{Ok}
+use Rattle.authority_laws.specs.kernel_rules.specs.State.{State, tcap_in}
+use Rattle.authority_laws.specs.kernel_rules.specs.References.{sum_below}
+use Rattle.authority_laws.specs.kernel_rules.specs.Runs.{Event, Decides, after, IsRun}
 use Rattle.world_laws.specs.Worlds.{works_in, OnlyGates, AreApart}
 
 -- The ticks of a world: the budgets of its frames, and what the cores have spent whose threads are in it.

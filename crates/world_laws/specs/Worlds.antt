@@ -1,13 +1,13 @@
 -- Worlds: sets of frames that nothing outside holds.
 use Rattle.std.specs.Prelude.{◌≡◌, ◌≢◌, ℕ, Bool, true, false, not, Some, IsTrue}
-use Rattle.spk_nums.specs.Capability.{Capability}
-use Rattle.spk_nums.specs.Rights.{has_rights, right_to_use}
-use Rattle.spk_nums.specs.declared.kinds.Kind.{Kind}
-use Rattle.spk_nums.specs.declared.kinds.Kind.TheVariants as kind
-use Rattle.kernel_rules.specs.State.{CompFields, Comp, Kernel, State, comp_in, thread_of, first_of_stack}
-use Rattle.kernel_rules.specs.Access.{found, usable}
-use Rattle.kernel_rules.specs.CapabilityCalls.{has_frame}
-use Rattle.kernel_rules.specs.Life.{is_live_in}
+use Rattle.authority_laws.specs.spk_nums.specs.Capability.{Capability}
+use Rattle.authority_laws.specs.spk_nums.specs.Rights.{has_rights, right_to_use}
+use Rattle.authority_laws.specs.spk_nums.specs.declared.kinds.Kind.{Kind}
+use Rattle.authority_laws.specs.spk_nums.specs.declared.kinds.Kind.TheVariants as kind
+use Rattle.authority_laws.specs.kernel_rules.specs.State.{CompFields, Comp, Kernel, State, comp_in, thread_of, first_of_stack}
+use Rattle.authority_laws.specs.kernel_rules.specs.Access.{found, usable}
+use Rattle.authority_laws.specs.kernel_rules.specs.CapabilityCalls.{has_frame}
+use Rattle.authority_laws.specs.kernel_rules.specs.Life.{is_live_in}
 
 -- The frame of the component in which a core works: the one on top of its current thread's stack.
 abbrev pub works_in : State → ℕ → ℕ
