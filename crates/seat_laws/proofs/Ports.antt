@@ -1,22 +1,27 @@
 -- What a port tells of worlds, by projections of the record of a history.
-use Rattle.std.proofs.Common.{◌≡◌, inl, inr, ℕ, Bool, [], ◌++◌, sym, subst}
+use Rattle.std.proofs.Common.{inl, inr, ℕ, List, [], ◌++◌, sym, subst}
+use Rattle.spk_nums.specs.Setting.{Setting}
 use Rattle.spk_nums.specs.declared.calls.Call.{Call}
 use Rattle.spk_nums.specs.declared.replies.Reply.{Reply}
-use Rattle.core_kernel.specs.Calls.{HasSeen, MakesCall}
+use Rattle.spk_nums.specs.declared.translations.CoreEnd.{CoreEnd}
+use Rattle.core_kernel.specs.Calls.{HasSeen, MakesCall, EndsAt}
 use Rattle.core_kernel.specs.Kernel.{KernelValue, CoreSeatValue}
 use Rattle.core_kernel.specs.kernel_history.specs.Trace.{Trace, state_after}
 use Rattle.core_kernel.specs.flight_laws.specs.Histories.{IsHistory}
 use Rattle.core_kernel.specs.flight_laws.specs.isolation_laws.specs.Worlds.{WorldsStay}
 use Rattle.core_kernel.specs.flight_laws.specs.isolation_laws.specs.world_laws.specs.Worlds.{IsSealed, AreApart}
-use Rattle.seat_laws.specs.Ports.{TellsOfWorlds, StaySince}
+use Rattle.seat_laws.specs.Ports.{TellsOfWorlds, StaySince, EndsInWorlds}
 
-pub tells : (port : CoreSeatValue) → HasSeen port → TellsOfWorlds port
-tells port seen = record {
-  authority = seen.history.have_authority;
-  spared = seen.history.worlds_spared;
-  entered = seen.history.worlds_entered;
-  stay = seen.history.worlds_stay;
+of_worlds : (setup : Setting) (t : Trace) → IsHistory setup t → TellsOfWorlds setup t
+of_worlds setup t history = record {
+  authority = history.have_authority;
+  spared = history.worlds_spared;
+  entered = history.worlds_entered;
+  stay = history.worlds_stay;
 }
+
+pub tells : (port : CoreSeatValue) → HasSeen port → TellsOfWorlds port.kernel.setup port.seen
+tells port seen = of_worlds port.kernel.setup port.seen seen.history
 
 pub stay_since : (older newer : CoreSeatValue) (call : Call) (r : Reply) → MakesCall older call r newer → HasSeen newer
     → StaySince older newer
@@ -34,3 +39,15 @@ stay_since older newer call r makes seen =
         | inr by ↦ inr by
       ];
     }
+
+pub ends_in_worlds : (kernel : KernelValue) (seats : List CoreSeatValue) (words : List ℕ) (ends : List CoreEnd)
+    → EndsAt kernel seats words ends → EndsInWorlds kernel seats words ends
+ends_in_worlds kernel seats words ends end = record {
+  trace = end.trace;
+  represent = end.represent;
+  worlds = of_worlds kernel.setup end.trace end.history;
+  apart = λ k port at w crosses only apart.
+      let goes = end.begins k port at in
+      subst (λ (u : Trace). AreApart w crosses (state_after kernel.setup u)) (sym goes.begins)
+      ((end.history.worlds_stay [] goes.since port.seen goes.begins).apart w crosses only apart);
+}

@@ -1,7 +1,11 @@
 -- What a port tells of worlds.
-use Rattle.std.specs.Prelude.{◌≡◌, ◌⊎◌, ℕ, Bool, ◌++◌}
+use Rattle.std.specs.Prelude.{◌≡◌, ◌⊎◌, ℕ, Bool, List, ◌++◌, slice_get, Some}
+use Rattle.spk_nums.specs.Setting.{Setting}
 use Rattle.spk_nums.specs.declared.kinds.Kind.{Kind}
-use Rattle.core_kernel.specs.Kernel.{CoreSeatValue}
+use Rattle.spk_nums.specs.declared.translations.CoreEnd.{CoreEnd}
+use Rattle.core_kernel.specs.Kernel.{KernelValue, CoreSeatValue}
+use Rattle.core_kernel.specs.kernel_history.specs.BootWords.{shape_of}
+use Rattle.core_kernel.specs.kernel_history.specs.FinalWords.{Represent, word_in, end_in}
 use Rattle.core_kernel.specs.kernel_history.specs.Trace.{Trace, state_after}
 use Rattle.core_kernel.specs.flight_laws.specs.Moments.{AtEachStep, OfEachStretch}
 use Rattle.core_kernel.specs.flight_laws.specs.isolation_laws.specs.Authority.{HasAuthority}
@@ -9,13 +13,13 @@ use Rattle.core_kernel.specs.flight_laws.specs.isolation_laws.specs.Carried.{Car
 use Rattle.core_kernel.specs.flight_laws.specs.isolation_laws.specs.Worlds.{SparesWorlds, EntersWorlds, WorksInside, WorldsStay}
 use Rattle.core_kernel.specs.flight_laws.specs.isolation_laws.specs.world_laws.specs.Worlds.{OnlyGates, IsSealed, AreApart}
 
--- Of all that a port has seen: each step has authority for what it changes; each step of a core that works outside a sealed world spares
+-- Of a trace: each step has authority for what it changes; each step of a core that works outside a sealed world spares
 -- it; cores come to work in worlds by gates, returns and switches; and over each stretch of steps worlds stay.
-pub record TellsOfWorlds (port : CoreSeatValue) : Type 0 where
-  pub authority : AtEachStep (HasAuthority port.kernel.setup) port.seen
-  pub spared : AtEachStep (SparesWorlds port.kernel.setup) port.seen
-  pub entered : AtEachStep (EntersWorlds port.kernel.setup) port.seen
-  pub stay : OfEachStretch (WorldsStay port.kernel.setup) port.seen
+pub record TellsOfWorlds (setup : Setting) (t : Trace) : Type 0 where
+  pub authority : AtEachStep (HasAuthority setup) t
+  pub spared : AtEachStep (SparesWorlds setup) t
+  pub entered : AtEachStep (EntersWorlds setup) t
+  pub stay : OfEachStretch (WorldsStay setup) t
 
 -- Since a port had seen the older trace, worlds that were apart have stayed so, and one that was sealed is sealed, or a core inside has
 -- carried out a call.
@@ -27,3 +31,12 @@ pub record StaySince (older newer : CoreSeatValue) : Type 0 where
   pub sealed : (w : ℕ → Bool) (crosses : Kind → Bool) → OnlyGates crosses
       → IsSealed w crosses (state_after older.kernel.setup older.seen)
       → IsSealed w crosses (state_after older.kernel.setup newer.seen) ⊎ CarriedOutBy (WorksInside w) older.kernel.setup since older.seen
+
+-- The words and ends of a finished machine are those after one trace, of which this is so. Worlds that were apart after all that a port had
+-- seen are apart in the state that they represent.
+pub record EndsInWorlds (kernel : KernelValue) (seats : List CoreSeatValue) (words : List ℕ) (ends : List CoreEnd) : Type 0 where
+  pub trace : Trace
+  pub represent : Represent (word_in (shape_of kernel.setup) words) (end_in ends) (state_after kernel.setup trace)
+  pub worlds : TellsOfWorlds kernel.setup trace
+  pub apart : (k : ℕ) (port : CoreSeatValue) → slice_get seats k ≡ Some port → (w : ℕ → Bool) (crosses : Kind → Bool) → OnlyGates crosses
+      → AreApart w crosses (state_after kernel.setup port.seen) → AreApart w crosses (state_after kernel.setup trace)

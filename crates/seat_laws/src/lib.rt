@@ -5,17 +5,19 @@
 //! See docs/CLAIMS.md, 'The laws of a history'.
 #![tactic(auto)]
 
-ghost use Rattle.std.specs.Prelude.{◌≡◌};
+ghost use Rattle.std.specs.Prelude.{◌≡◌, IfOk};
 ghost use Rattle.spk_nums.specs.CallLimits.{InLimits};
 ghost use Rattle.core_kernel.specs.Calls.{MakesCall};
 ghost use Rattle.core_kernel.specs.flight_laws.specs.Pages.{CachedFramesStay};
 ghost use Rattle.core_kernel.specs.flight_laws.specs.Threads.{ThreadsRunApart};
 ghost use Rattle.core_kernel.specs.flight_laws.specs.Time.{TimeIsKept};
-ghost use Rattle.seat_laws.specs.Ports.{StaySince, TellsOfWorlds};
+ghost use Rattle.seat_laws.specs.Ports.{EndsInWorlds, StaySince, TellsOfWorlds};
 
 use core_kernel::{CoreSeat, Kernel};
-use core_machine::Port;
+use core_machine::{Port, Seats, Unfinished};
 use spk_nums::{Call, CoreNo, Make, Reply};
+use std::alloc::Global;
+use word_map::Closed;
 
 /// Makes the call of the seat's core, and answers its reply. After all that the seat has then seen, budgets and spent ticks sum to the
 /// grants, no thread is the current one of two cores, and each translation that a core has cached names a user frame. The call is in its
@@ -36,7 +38,7 @@ pub fn call_and_tell(kernel: &Kernel, seat: &mut CoreSeat, call: Call) -> Reply
 #[tactic(auto, using(crate::proofs::Ports::tells))]
 pub fn port_tells(port: &Port) -> CoreNo
     ensures core { result ≡ port.now.core }
-    ensures worlds { TellsOfWorlds port.now }
+    ensures worlds { TellsOfWorlds port.now.kernel.setup port.now.seen }
 {
     port.core()
 }
@@ -48,9 +50,22 @@ pub fn port_tells(port: &Port) -> CoreNo
 pub fn ask_and_tell(port: &mut Port, call: Call) -> Reply
     requires limits { InLimits call }
     ensures makes { MakesCall port.old call result port.new }
-    ensures worlds { TellsOfWorlds port.new }
+    ensures worlds { TellsOfWorlds port.new.kernel.setup port.new.seen }
     ensures since { StaySince port.old port.new }
 {
     let _made: Option<Make> = None;
     port.call(call)
+}
+
+/// The words and where each core ended, once all ports are back, as `Seats::finish`. They are those after one trace of all cores, and
+/// worlds that were apart after all that a port had seen are apart in the state that they represent.
+///
+/// # Errors
+///
+/// `Ports` where a port is not back; `Memory` where memory has run out.
+#[tactic(auto, using(crate::proofs::Ports::ends_in_worlds))]
+pub fn finish_and_tell(seats: Seats, alloc: Global) -> Result<Closed, Unfinished>
+    ensures worlds { IfOk result (λ closed. EndsInWorlds seats.kernel seats.back closed.words.items closed.ends.items) }
+{
+    seats.finish(alloc)
 }
