@@ -175,7 +175,7 @@ module _ (setup : Setting) (t : Trace) (e : Step) (legal : IsLegal setup (e ∷ 
         | inr carries ↦ inr carries
       ]
 
-  pub carried : Carrying → CarriesOut t e
+  abbrev pub carried : Carrying → CarriesOut t e
   carried k = record { call = k.call; value = k.value; is_open = k.is_open; decides = k.decides }
 
   -- what is said of a decision in runs holds of the states before it and after it

@@ -20,14 +20,12 @@ pub fn steps_have_authority()
 {}
 
 /// In every legal trace, a step of a core that works outside a sealed world leaves the world alone, but for what the core runs on.
-#[tactic(auto, using(crate::proofs::StepWorlds::steps_spare_worlds))]
 pub fn steps_spare_worlds()
     ensures { StepsSpareWorlds }
 {}
 
 /// In every legal trace, a core comes to work in a set of frames only by `call` of a gate to a component that lives, by `ret` into one
 /// below on its stack, or by `switch` to a thread whose top is one.
-#[tactic(auto, using(crate::proofs::StepWorlds::steps_enter_worlds))]
 pub fn steps_enter_worlds()
     ensures { StepsEnterWorlds }
 {}
