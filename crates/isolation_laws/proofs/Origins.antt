@@ -11,7 +11,7 @@ use Rattle.world_laws.specs.kernel_rules.specs.CallRelation.{rule_of, change_of,
 use Rattle.world_laws.specs.kernel_rules.specs.Runs.{Event, Enters, Decides, Returns, after, IsRun}
 use Rattle.world_laws.specs.kernel_rules.proofs.Changes.{IfFound}
 use Rattle.world_laws.specs.kernel_invariant.proofs.Facts.{outcome_from}
-use Rattle.kernel_history.specs.Trace.{Step, Trace, Phase, Out, Open, Decided, phase, after_enter, state_after}
+use Rattle.kernel_history.specs.Trace.{Trace, Phase, Out, Open, Decided, phase, after_enter, state_after}
 use Rattle.kernel_history.specs.Events.{with_entry, with_decision, with_return, events_of}
 use Rattle.kernel_history.proofs.Events.{entered_events, state_is, run_of}
 use Rattle.origin_rules.specs.declared.chains.Step.{Step as Way}

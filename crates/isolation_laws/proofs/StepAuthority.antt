@@ -1,10 +1,9 @@
 -- Each part of the state that a step changes is one that its core may change by the call that the step carries out.
 use Rattle.std.proofs.Common.{◌≡◌, ◌⊎◌, inl, inr, ◌∷◌}
 use Rattle.world_laws.specs.spk_nums.specs.declared.replies.Reply.TheVariants as reply
-use Rattle.world_laws.specs.kernel_rules.specs.State.{State}
-use Rattle.kernel_history.specs.Trace.{Step, Trace, state_after}
+use Rattle.kernel_history.specs.Trace.{state_after}
 use Rattle.kernel_history.proofs.Events.{entered_events}
-use Rattle.world_laws.specs.authority_laws.specs.Authority.{Part, CoreIs, IsUnderOne, OwnBy, SamePart}
+use Rattle.world_laws.specs.authority_laws.specs.Authority.{CoreIs, IsUnderOne, OwnBy, SamePart}
 use Rattle.world_laws.specs.authority_laws.proofs.DecidedParts.{calls_change_their_own}
 use Rattle.isolation_laws.specs.Authority.{ChangesBy, StepsHaveAuthority}
 use Rattle.isolation_laws.proofs.Steps.{part_on, part_only, before, decided, into, out_of, Carrying, step_does, carried, at_decision}

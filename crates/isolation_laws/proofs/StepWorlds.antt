@@ -16,7 +16,7 @@ use Rattle.world_laws.specs.Laws.{EntersBy, IsOf}
 use Rattle.world_laws.proofs.Entering.{entered_by}
 use Rattle.world_laws.proofs.Leaving.{outside_leaves, lent_alone}
 use Rattle.world_laws.proofs.Sealing.{sealed_entered}
-use Rattle.isolation_laws.specs.Worlds.{LendsTo, SparesWorld, ComesIn, StepsSpareWorlds, StepsEnterWorlds}
+use Rattle.isolation_laws.specs.Worlds.{SparesWorld, ComesIn, StepsSpareWorlds, StepsEnterWorlds}
 use Rattle.isolation_laws.proofs.Steps.{OnlyCore, part_on, part_only, before, decided, into, out_of, Carrying, step_does, carried}
 use Rattle.isolation_laws.proofs.Steps.{at_decision}
 

@@ -1,5 +1,5 @@
 -- What follows from the laws of steps and of stretches by their words alone.
-use Rattle.std.proofs.Common.{◌≡◌, ◌≢◌, inl, inr, ℕ, sym, ◌∙◌, subst, [], ◌∷◌, ◌++◌, Option, Some, None}
+use Rattle.std.proofs.Common.{◌≡◌, inl, inr, ℕ, sym, ◌∙◌, subst, [], ◌∷◌, ◌++◌, Some, None}
 use Rattle.world_laws.specs.spk_nums.specs.Setting.{Setting}
 use Rattle.world_laws.specs.spk_nums.specs.declared.replies.Reply.{Reply}
 use Rattle.world_laws.specs.spk_nums.specs.declared.replies.Reply.TheVariants as reply

@@ -1,5 +1,5 @@
 -- What a port tells of worlds, by projections of the record of a history.
-use Rattle.std.proofs.Common.{inl, inr, ℕ, List, [], ◌++◌, sym, subst}
+use Rattle.std.proofs.Common.{inl, inr, ℕ, List, [], sym, subst}
 use Rattle.spk_nums.specs.Setting.{Setting}
 use Rattle.spk_nums.specs.declared.calls.Call.{Call}
 use Rattle.spk_nums.specs.declared.replies.Reply.{Reply}
