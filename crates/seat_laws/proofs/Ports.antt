@@ -1,5 +1,5 @@
 -- What a port tells of worlds, by projections of the record of a history.
-use Rattle.std.proofs.Common.{inl, inr, ℕ, List, [], sym, subst}
+use Rattle.std.proofs.Common.{inl, inr, ℕ, List, [], IfOk, Result, Ok, Err, sym, subst}
 use Rattle.spk_nums.specs.Setting.{Setting}
 use Rattle.spk_nums.specs.declared.calls.Call.{Call}
 use Rattle.spk_nums.specs.declared.replies.Reply.{Reply}
@@ -51,3 +51,8 @@ ends_in_worlds kernel seats words ends end = record {
       subst (λ (u : Trace). AreApart w crosses (state_after kernel.setup u)) (sym goes.begins)
       ((end.history.worlds_stay [] goes.since port.seen goes.begins).apart w crosses only apart);
 }
+
+-- What follows of each value follows of the one that there is, if there is one.
+pub of_ok : {T E : Type 0} {P Q : T → Type 0} (r : Result T E) → ((x : T) → P x → Q x) → IfOk r P → IfOk r Q
+of_ok (Ok x) law h = law x h
+of_ok (Err e) law h = tt

@@ -35,7 +35,6 @@ pub fn call_and_tell(kernel: &Kernel, seat: &mut CoreSeat, call: Call) -> Reply
 }
 
 /// The port's core. Its contract says what every port tells of authority and of worlds, by all that it has seen.
-#[tactic(auto, using(crate::proofs::Ports::tells))]
 pub fn port_tells(port: &Port) -> CoreNo
     ensures core { result ≡ port.now.core }
     ensures worlds { TellsOfWorlds port.now.kernel.setup port.now.seen }
@@ -46,7 +45,6 @@ pub fn port_tells(port: &Port) -> CoreNo
 /// Makes the call of the port's core, and answers its reply. Worlds that were apart after what the port had seen are so after what it has
 /// then seen, whatever all cores have done since; one that was sealed is so too, or a core inside has carried out a call. The call is in
 /// its limits.
-#[tactic(auto, using(crate::proofs::Ports::tells, crate::proofs::Ports::stay_since))]
 pub fn ask_and_tell(port: &mut Port, call: Call) -> Reply
     requires limits { InLimits call }
     ensures makes { MakesCall port.old call result port.new }
@@ -63,7 +61,6 @@ pub fn ask_and_tell(port: &mut Port, call: Call) -> Reply
 /// # Errors
 ///
 /// `Ports` where a port is not back; `Memory` where memory has run out.
-#[tactic(auto, using(crate::proofs::Ports::ends_in_worlds))]
 pub fn finish_and_tell(seats: Seats, alloc: Global) -> Result<Closed, Unfinished>
     ensures worlds { IfOk result (λ closed. EndsInWorlds seats.kernel seats.back closed.words.items closed.ends.items) }
 {
