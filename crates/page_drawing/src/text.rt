@@ -180,7 +180,7 @@ impl TracePage {
         push_page_number(text, self.page > 1 || self.is_cut, self.page)?;
         push_counted(text, u16::from(self.cores), "core")?;
         text.push_str(", ")?;
-        push_counted(text, self.calls, "call")?;
+        push_counted(text, self.rows.calls, "call")?;
         push_steps(
             text,
             self.first + 1,
