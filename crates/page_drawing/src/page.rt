@@ -298,7 +298,7 @@ impl TracePage {
     }
 
     // Takes a step for which the page has room.
-    #[tactic(auto, using(crate::proofs::Sound::step_room, crate::proofs::Sound::call_room, crate::proofs::Sound::own_index, picture_rows::proofs::Room::steps_room))]
+    #[tactic(auto, using(crate::proofs::Sound::step_room, crate::proofs::Sound::call_room, crate::proofs::Sound::own_index))]
     fn take(&mut self, made: &StepMade) -> Result<(), AllocError>
         requires room { is_full self.old.rows (is_some made.now.view.enters) ≡ false }
         ensures { OnOk result (self.new ≡ taken self.old (seen_made made.now)) }

@@ -71,7 +71,8 @@ rows_after p s = rows_at p s (step_y p s)
 abbrev pub no_rows : List ℕ → Rows
 no_rows due = record { count = 0; calls = 0; y = 156; text = 139; quiet = 0; due = due }
 
--- A page has at most 2,000 steps and 60 calls; no step is more than 22 below the one before, and nothing is due more than 22 below the last.
+-- A page has at most 2,000 steps and 60 calls; no step is more than 22 below the one before, and nothing is due more than 22 below the
+-- last.
 pub record IsWithin (p : Rows) : Type 0 where
   pub count : p.count ≤ 2000
   pub calls : p.calls ≤ 60

@@ -22,8 +22,8 @@ pub struct Placed {
     pub follows: bool,
 }
 
-/// The rows of a page so far: how many, how many calls are entered there, the height of the last one and of the last one that has a text, how many quiet steps of one core
-/// stand at its end, and for each core the least height of its next event.
+/// The rows of a page so far: how many, and how many calls are entered there; the height of the last one and of the last one that has a
+/// text; how many quiet steps of one core stand at its end; and for each core the least height of its next event.
 #[derive(Clone, Copy)]
 pub struct Rows {
     pub count: u16,
@@ -180,6 +180,7 @@ impl Rows {
         requires room { is_full self.old step.now.enters ≡ false }
         ensures value { self.new ≡ rows_after self.old step.now }
         ensures within { IsWithin self.new }
+        ensures had_room { self.old.count < 2000 }
     {
         let y = self.step_y(step);
         let quiet = self.quiet_after(step);
