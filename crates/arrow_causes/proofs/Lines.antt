@@ -18,7 +18,7 @@ use Rattle.arrow_laws.proofs.Calls.{before_returns, returned_other, in_call_sinc
 use Rattle.arrow_laws.proofs.Heads.{newest_core}
 use Rattle.arrow_laws.proofs.Known.{Says, page_known}
 use Rattle.arrow_laws.proofs.Lines.{line_from}
-use Rattle.arrow_laws.specs.page_drawing.specs.page_touches.proofs.Met.{blamed_are_met}
+use Rattle.arrow_laws.specs.page_drawing.specs.page_touches.proofs.Blamed.{blamed_are_met}
 use Rattle.arrow_causes.specs.Causes.{IsLineFrom}
 use Rattle.arrow_causes.proofs.Holders.{IsHolders}
 

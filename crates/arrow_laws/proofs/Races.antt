@@ -24,7 +24,7 @@ use Rattle.page_drawing.specs.page_layers.specs.Layers.{is_blamed}
 use Rattle.page_drawing.specs.page_layers.specs.declared.lanes.Change.{Change}
 use Rattle.page_drawing.specs.page_touches.specs.declared.touches.Touch.{Touch}
 use Rattle.page_drawing.specs.page_touches.specs.Touches.{untouched, is_clock}
-use Rattle.page_drawing.specs.page_touches.proofs.Met.{blamed_are_met}
+use Rattle.page_drawing.specs.page_touches.proofs.Blamed.{blamed_are_met}
 use Rattle.page_drawing.specs.Pages.{Page, page_after}
 use Rattle.arrow_laws.specs.Arrows.{changes, newest, entered_at, returned_at, before_entry, IsLateLine, RacesAreLines}
 use Rattle.arrow_laws.proofs.Calls.{entered_before, returned_before, before_less, before_own, entered_other}

@@ -3,4 +3,4 @@ pub use Rattle.step_views
 pub use Rattle.page_layers
 -- Its own.
 pub mod Touches
-pub mod Met
+pub mod Blamed

@@ -6,7 +6,7 @@
 
 mod touches;
 
-ghost use Rattle.page_touches.specs.Met.{BlamedAreMet};
+ghost use Rattle.page_touches.specs.Blamed.{BlamedAreMet};
 
 pub use page_layers::Change;
 pub use step_views::StepMade;
@@ -16,7 +16,7 @@ pub use touches::{
 
 /// A step that says by its call's reply that another is in the way has an arrow from the newest change of its word, whatever word this is
 /// but the clock, if that change is another core's.
-#[tactic(auto, using(crate::proofs::Met::blamed_are_met))]
+#[tactic(auto, using(crate::proofs::Blamed::blamed_are_met))]
 pub fn blamed_are_met()
     ensures { BlamedAreMet }
 {}
