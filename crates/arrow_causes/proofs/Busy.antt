@@ -22,7 +22,7 @@ use Rattle.flight_laws.specs.time_laws.specs.core_invariant.specs.Invariant.{Inv
 use Rattle.flight_laws.specs.time_laws.specs.flight.specs.Made.{cores_after, IsMade}
 use Rattle.flight_laws.specs.time_laws.specs.flight.proofs.Made.{made_stands}
 use Rattle.arrow_laws.specs.page_layers.specs.Layers.{is_blamed}
-use Rattle.arrow_laws.specs.page_drawing.specs.Touches.{is_clock}
+use Rattle.arrow_laws.specs.page_drawing.specs.page_touches.specs.Touches.{is_clock}
 use Rattle.arrow_laws.specs.Arrows.{changes}
 use Rattle.arrow_causes.specs.Causes.{BusyAreLines}
 use Rattle.arrow_causes.proofs.Puts.{puts_by_change, entered_frames}

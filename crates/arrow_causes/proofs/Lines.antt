@@ -10,15 +10,15 @@ use Rattle.flight_laws.specs.time_laws.specs.kernel_history.specs.BootWords.{sha
 use Rattle.arrow_laws.specs.page_layers.specs.Seen.{Seen, seen}
 use Rattle.arrow_laws.specs.page_layers.specs.Layers.{is_blamed}
 use Rattle.arrow_laws.specs.page_layers.specs.declared.lanes.Change.{Change}
-use Rattle.arrow_laws.specs.page_drawing.specs.declared.touches.Touch.{Touch}
-use Rattle.arrow_laws.specs.page_drawing.specs.Touches.{untouched, is_clock}
+use Rattle.arrow_laws.specs.page_drawing.specs.page_touches.specs.declared.touches.Touch.{Touch}
+use Rattle.arrow_laws.specs.page_drawing.specs.page_touches.specs.Touches.{untouched, is_clock}
 use Rattle.arrow_laws.specs.page_drawing.specs.Pages.{page_after}
 use Rattle.arrow_laws.specs.Arrows.{HasTaken, returned_at, before_entry}
 use Rattle.arrow_laws.proofs.Calls.{before_returns, returned_other, in_call_since}
 use Rattle.arrow_laws.proofs.Heads.{newest_core}
 use Rattle.arrow_laws.proofs.Known.{Says, page_known}
 use Rattle.arrow_laws.proofs.Lines.{line_from}
-use Rattle.arrow_laws.proofs.Races.{blamed_met}
+use Rattle.arrow_laws.specs.page_drawing.specs.page_touches.proofs.Blamed.{blamed_are_met}
 use Rattle.arrow_causes.specs.Causes.{IsLineFrom}
 use Rattle.arrow_causes.proofs.Holders.{IsHolders}
 
@@ -49,7 +49,7 @@ module _ (page : ℕ) (setup : Setting) (setting : IsSetting setup) (t : Trace) 
       let core : c.core ≡ d = says.0 ∙ holds.own in (
         record {
           change = c;
-          arrow = blamed_met touch s c blamed word there (λ h. other (sym core ∙ h));
+          arrow = blamed_are_met touch s c blamed word there (λ h. other (sym core ∙ h));
           line = line_from page setup t e (page_known page setup setting t legal.0 taken)
               (omega (arith, legal.1.is_core, setting.most_cores)) c
               (omega (

@@ -30,7 +30,7 @@ use Rattle.flight_laws.specs.time_laws.specs.core_invariant.specs.Knows.{KnowsAc
 use Rattle.flight_laws.specs.time_laws.specs.flight.specs.Made.{turned, stepping_core, cores_after, IsMade}
 use Rattle.flight_laws.specs.time_laws.specs.flight.proofs.Made.{made_stands}
 use Rattle.arrow_laws.specs.page_layers.specs.Layers.{is_blamed}
-use Rattle.arrow_laws.specs.page_drawing.specs.Touches.{is_clock}
+use Rattle.arrow_laws.specs.page_drawing.specs.page_touches.specs.Touches.{is_clock}
 use Rattle.wait_steps.specs.Waits.{RepliesAt, TookAt, IsAgain, AgainIn, AgainOf, AgainAt}
 use Rattle.wait_steps.proofs.Steps.{took_at_core}
 use Rattle.arrow_causes.specs.Causes.{WaitsAreLines}

@@ -14,8 +14,8 @@ use Rattle.kernel_history.proofs.Names.{cases_word, same_word-same, same_word-ot
 use Rattle.kernel_history.proofs.Steps.{last_left-here, last_left-there}
 use Rattle.page_drawing.specs.page_layers.specs.Seen.{Seen, seen}
 use Rattle.page_drawing.specs.page_layers.specs.declared.lanes.Change.{Change}
-use Rattle.page_drawing.specs.declared.touches.Touch.{Touch}
-use Rattle.page_drawing.specs.Touches.{untouched, is_told_of, met_by}
+use Rattle.page_drawing.specs.page_touches.specs.declared.touches.Touch.{Touch}
+use Rattle.page_drawing.specs.page_touches.specs.Touches.{untouched, is_told_of, met_by}
 use Rattle.page_drawing.specs.Pages.{page_after}
 use Rattle.arrow_laws.specs.Arrows.{changes, newest, ComesFrom, HeadsFindTails}
 use Rattle.arrow_laws.proofs.Known.{Says, page_known}

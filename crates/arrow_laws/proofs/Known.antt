@@ -21,8 +21,8 @@ use Rattle.page_drawing.specs.page_layers.specs.Seen.{Seen, seen}
 use Rattle.page_drawing.specs.page_layers.specs.Lanes.{no_call, lane_entered, lane_decided, lane_topped, lane_returned}
 use Rattle.page_drawing.specs.page_layers.specs.declared.lanes.Lane.{Lane}
 use Rattle.page_drawing.specs.page_layers.specs.declared.lanes.Change.{Change}
-use Rattle.page_drawing.specs.declared.touches.Touch.{Touch}
-use Rattle.page_drawing.specs.Touches.{untouched, touched}
+use Rattle.page_drawing.specs.page_touches.specs.declared.touches.Touch.{Touch}
+use Rattle.page_drawing.specs.page_touches.specs.Touches.{untouched, touched}
 use Rattle.page_drawing.specs.Pages.{Page, blank, is_full, lane_of, returns_of, turned, placed, next_step, tail_at}
 use Rattle.page_drawing.specs.Pages.{taken, turned_to, page_after}
 use Rattle.arrow_laws.specs.Arrows.{newest, entered_at, returned_at, before_entry}

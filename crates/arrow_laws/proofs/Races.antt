@@ -22,8 +22,9 @@ use Rattle.kernel_history.proofs.Races.{raced_by_another}
 use Rattle.page_drawing.specs.page_layers.specs.Seen.{Seen, seen}
 use Rattle.page_drawing.specs.page_layers.specs.Layers.{is_blamed}
 use Rattle.page_drawing.specs.page_layers.specs.declared.lanes.Change.{Change}
-use Rattle.page_drawing.specs.declared.touches.Touch.{Touch}
-use Rattle.page_drawing.specs.Touches.{untouched, is_clock, is_first, is_told_of, met_by}
+use Rattle.page_drawing.specs.page_touches.specs.declared.touches.Touch.{Touch}
+use Rattle.page_drawing.specs.page_touches.specs.Touches.{untouched, is_clock}
+use Rattle.page_drawing.specs.page_touches.proofs.Blamed.{blamed_are_met}
 use Rattle.page_drawing.specs.Pages.{Page, page_after}
 use Rattle.arrow_laws.specs.Arrows.{changes, newest, entered_at, returned_at, before_entry, IsLateLine, RacesAreLines}
 use Rattle.arrow_laws.proofs.Calls.{entered_before, returned_before, before_less, before_own, entered_other}
@@ -118,22 +119,6 @@ raced_step setup t e may = record {
   entry = no_entry e.enters _ may.justified.own may.justified.has_read;
 }
 
--- A step that is blamed is met by the change of another core.
-pub blamed_met : (t : Touch) (s : Seen) (c : Change) → is_blamed s.decides ≡ true → is_clock s.word ≡ false → t.change ≡ Some c
-    → c.core ≢ s.core → met_by (is_told_of t s) t.change s ≡ Some c
-blamed_met t s c blamed clock is apart =
-    ap (λ (o : Option Change). met_by (is_told_of t s) o s) is
-    ∙ ap (λ (b : Bool). cond (b && not (c.core == s.core)) (Some c) None) told
-    ∙ ap (λ (b : Bool). cond (not b) (Some c) None) (ne_eqb c.core s.core apart)
-  where
-    or_true : (b : Bool) → (b || true) ≡ true
-    or_true true = refl
-    or_true false = refl
-
-    told : is_told_of t s ≡ true
-    told = ap (λ (b : Bool). is_first t s || (b && not (is_clock s.word))) blamed
-        ∙ ap (λ (b : Bool). is_first t s || not b) clock ∙ or_true (is_first t s)
-
 module _ (page : ℕ) (setup : Setting) (t : Trace) (e : Step) (legal : IsLegal setup (e ∷ t)) (raced : e.decides ≡ Some reply.Raced)
     (known : Known setup t (page_after page setup t)) (is : IsRaced setup t e) (by : ByAnother t e.core (word_of e.move))
     (own_core : e.core < 8) (most : setup.cores ≤ 8) where
@@ -162,7 +147,7 @@ module _ (page : ℕ) (setup : Setting) (t : Trace) (e : Step) (legal : IsLegal 
   by_says None there says = absurd says
   by_says (Some c) there says = record {
     change = c;
-    arrow = blamed_met touch s c blamed is.word there (λ h. by.other (sym says.0 ∙ h));
+    arrow = blamed_are_met touch s c blamed is.word there (λ h. by.other (sym says.0 ∙ h));
     line = line_from page setup t e known own_core c (few c.core says.0) (omega (arith, no_later c.core, by.later, says.1));
     later = omega (arith, by.later, says.1);
   }

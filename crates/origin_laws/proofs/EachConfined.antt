@@ -14,8 +14,10 @@ use Rattle.spk_nums.specs.declared.replies.Reply.TheVariants as reply
 use Rattle.kernel_rules.specs.State.{State}
 use Rattle.kernel_rules.specs.Access.{Want, found, any, only, to_copy, to_use}
 use Rattle.kernel_rules.specs.Rules.{Found, named}
-use Rattle.kernel_rules.specs.CapabilityCalls.{has_frame}
+use Rattle.kernel_rules.specs.CapabilityCalls.{has_frame, make_rule}
+use Rattle.kernel_rules.specs.CallRelation.{rule_of}
 use Rattle.kernel_rules.specs.Runs.{Event, Enters, Decides, Returns, after}
+use Rattle.call_names.specs.Names.{IsName}
 use Rattle.origin_rules.specs.declared.chains.Step.{Step}
 use Rattle.origin_rules.specs.declared.chains.Step.TheVariants.{Copied, Made, Gated}
 use Rattle.origin_rules.specs.declared.chains.ChainLink.{ChainLink}
@@ -131,15 +133,40 @@ covers_on r p k (inr (inr w)) (inr (inr v)) = absurd (w.other v.is_range)
 -- ---- the law
 
 -- What a call named.
-pub record Names (s : State) (c : ℕ) (r : Capability) : Type 0 where
+pub record Names (s : State) (c : ℕ) (call : Call) (r : Capability) : Type 0 where
   pub number : ℕ
   pub want : Want
+  pub is_name : IsName s c (rule_of s c call) number want
   pub is : named s c number want ≡ Found r
 
-named_by : (s : State) (c : ℕ) (call : Call) (what : Step) (parent k : Capability) → Gives s c call what parent k → Names s c parent
-named_by s c (call.Copy a t b rights) Copied parent k g = record { number = a; want = to_copy any; is = g.names }
-named_by s c (call.Make what r f t b) Made parent k g = record { number = r; want = to_use (only kind.Range); is = g.names }
-named_by s c (call.Gate comp t b) Gated parent k g = record { number = comp; want = to_use (only kind.Comp); is = g.names }
+range_name : (s : State) (c : ℕ) (what : Make) (r f t b : ℕ) → IsName s c (make_rule s what r f t b) r (to_use (only kind.Range))
+range_name s c make.Table r f t b = inl (refl, refl)
+range_name s c make.Leaf r f t b = inl (refl, refl)
+range_name s c make.Pages r f t b = inl (refl, refl)
+range_name s c make.Pleaf r f t b = inl (refl, refl)
+range_name s c (make.Thread comp) r f t b = inl (refl, refl)
+range_name s c (make.Tcap sched quality) r f t b = inl (refl, refl)
+range_name s c (make.Comp table pages live) r f t b = inl (refl, refl)
+
+named_by : (s : State) (c : ℕ) (call : Call) (what : Step) (parent k : Capability) → Gives s c call what parent k → Names s c call parent
+named_by s c (call.Copy a t b rights) Copied parent k g = record {
+  number = a;
+  want = to_copy any;
+  is_name = inl (refl, refl);
+  is = g.names;
+}
+named_by s c (call.Make what r f t b) Made parent k g = record {
+  number = r;
+  want = to_use (only kind.Range);
+  is_name = range_name s c what r f t b;
+  is = g.names;
+}
+named_by s c (call.Gate comp t b) Gated parent k g = record {
+  number = comp;
+  want = to_use (only kind.Comp);
+  is_name = inl (refl, refl);
+  is = g.names;
+}
 named_by s c call what parent k g = absurd g
 
 -- What was reached before some events was reached before more.
@@ -156,6 +183,7 @@ reached_later setting before c events more whole r is h = record {
   is_since = h.is_since;
   number = h.number;
   want = h.want;
+  is_name = h.is_name;
   names = h.names;
   links = h.links;
   start = h.start;
@@ -205,6 +233,8 @@ confined setting before c (x ∷ xs) start later events k is h = elim (cases_lt 
             is_since = is_since;
             number = n.number;
             want = n.want;
+            is_name = subst (λ d. IsName (after setting h.before) d (rule_of (after setting h.before) d h.call) n.number n.want) own
+                n.is_name;
             names = subst (λ d. named (after setting h.before) d n.number n.want ≡ Found h.parent) own n.is;
             links = xs;
             start = start;

@@ -11,7 +11,9 @@ use Rattle.kernel_rules.specs.State.{Holds}
 use Rattle.kernel_rules.specs.Access.{Want, found}
 use Rattle.kernel_rules.specs.Rules.{Found, named}
 use Rattle.kernel_rules.specs.CapabilityCalls.{has_frame}
+use Rattle.kernel_rules.specs.CallRelation.{rule_of}
 use Rattle.kernel_rules.specs.Runs.{Event, Decides, after, IsRun}
+use Rattle.call_names.specs.Names.{IsName}
 use Rattle.origin_rules.specs.declared.chains.ChainLink.{ChainLink}
 use Rattle.origin_rules.specs.Chains.{decided, origin_of, is_own}
 use Rattle.origin_rules.specs.Derived.{HasChain}
@@ -58,7 +60,7 @@ abbrev pub IsForeign : List Event → ℕ → List Event → List ChainLink → 
 IsForeign before c events [] = Unit {0}
 IsForeign before c events (x ∷ xs) = (x.decision ≤ decided before) ⊎ IsOfOther c events x
 
--- Since `before` core c has made a call for which a number led it to capability r, and r it had not put since.
+-- Since `before` core c has carried out a call, one of whose names led it to capability r when it was decided, and r it had not put since.
 pub record HasReached (setting : Setting) (before : List Event) (c : ℕ) (events : List Event) (r : Capability) : Type 0 where
   pub moment : List Event
   pub since : List Event
@@ -69,6 +71,7 @@ pub record HasReached (setting : Setting) (before : List Event) (c : ℕ) (event
   pub is_since : moment ≡ since ++ before
   pub number : ℕ
   pub want : Want
+  pub is_name : IsName (after setting moment) c (rule_of (after setting moment) c call) number want
   pub names : named (after setting moment) c number want ≡ Found r
   pub links : List ChainLink
   pub start : ℕ

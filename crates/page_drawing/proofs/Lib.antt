@@ -1,4 +1,3 @@
 pub mod Feet
-pub mod Room
 pub mod Sound
 pub mod Views

@@ -1,5 +1,5 @@
 -- The numbers of a page have their room.
-use Rattle.std.proofs.Common.{◌≡◌, ℕ, ◌+◌, ◌*◌, ◌^◌, ◌<◌, ◌≤◌, List, [], ◌∷◌, length, All, Option, Some, None, arith}
+use Rattle.std.proofs.Common.{◌≡◌, ℕ, ◌+◌, ◌^◌, ◌<◌, ◌≤◌, List, [], ◌∷◌, length, All, Option, Some, None, arith}
 use Rattle.std.specs.Prelude.{slice_index_or, slice_set, replicate}
 use Rattle.std.proofs.lemmas.List.Elements.{All-from_recursion, All-set, All-weaker, All-replicate}
 use Rattle.spk_nums.specs.declared.calls.Call.{Call}
@@ -27,36 +27,33 @@ pub own_index : (lanes : List Lane) (core n : ℕ) → All (λ x. x.index ≤ n)
 own_index lanes core n all lt = all core no_call lt
 
 -- A page before any step, one that begins, and one with a step more.
-pub blank_sound : (cores : ℕ) → cores ≤ 8 → IsWithin (no_rows (replicate 8 156)) → IsSound (no_rows (replicate 8 156)) cores 0 1 0 0 (replicate 8 no_call)
+pub blank_sound : (cores : ℕ) → cores ≤ 8 → IsWithin (no_rows (replicate 8 156)) → IsSound (no_rows (replicate 8 156)) cores 1 0 0 (replicate 8 no_call)
 blank_sound cores few within = record {
   within = within;
   few_cores = few;
-  few_calls = omega arith;
   before = omega arith;
   decided = omega arith;
   entered = All-replicate (λ (x : Lane). x.index ≤ 0) 8 no_call (omega arith);
 }
 
-module _ (rows : Rows) (cores calls page first decisions : ℕ) (lanes : List Lane) (sound : IsSound rows cores calls page first decisions lanes) where
+module _ (rows : Rows) (cores page first decisions : ℕ) (lanes : List Lane) (sound : IsSound rows cores page first decisions lanes) where
   pub turned_sound : (rows' : Rows) → IsWithin rows' → rows'.count ≡ 0
-      → IsSound rows' cores 0 (page + 1) (first + rows.count) decisions lanes
+      → IsSound rows' cores (page + 1) (first + rows.count) decisions lanes
   turned_sound rows' within none = record {
     within = within;
     few_cores = sound.few_cores;
-    few_calls = omega arith;
     before = omega (arith, sound.before, sound.within.count);
     decided = omega (arith, sound.decided, none);
     entered = All-weaker (λ (x : Lane). x.index ≤ first + rows.count) (λ (x : Lane). x.index ≤ first + rows.count + rows'.count)
         (λ x h. omega (arith, h)) lanes sound.entered;
   }
 
-  pub noted_sound : (rows' : Rows) (calls' decisions' core : ℕ) (l : Lane) → IsWithin rows' → rows'.count ≡ rows.count + 1 → calls' ≤ 60
+  pub noted_sound : (rows' : Rows) (decisions' core : ℕ) (l : Lane) → IsWithin rows' → rows'.count ≡ rows.count + 1
       → decisions' ≤ decisions + 1 → l.index ≤ first + rows'.count
-      → IsSound rows' cores calls' page first decisions' (slice_set lanes core l)
-  noted_sound rows' calls' decisions' core l within next few decided own = record {
+      → IsSound rows' cores page first decisions' (slice_set lanes core l)
+  noted_sound rows' decisions' core l within next decided own = record {
     within = within;
     few_cores = sound.few_cores;
-    few_calls = few;
     before = sound.before;
     decided = omega (arith, sound.decided, next, decided);
     entered = lanes_noted lanes core (first + rows.count) (first + rows'.count) l sound.entered (omega (arith, next)) own;

@@ -3,7 +3,7 @@ pub use Rattle.kernel_history
 pub use Rattle.step_views
 pub use Rattle.page_layers
 pub use Rattle.picture_rows
+pub use Rattle.page_touches
 -- Its own.
-pub mod Touches
 pub mod Pages
 pub mod Pictures

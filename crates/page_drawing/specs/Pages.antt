@@ -1,36 +1,33 @@
 -- The pages of a trace. A page has at most 60 calls and 2,000 steps: it ends before the step at which a 61st call would be entered, or
 -- before the 2,001st step, and the next begins there. One of them is drawn.
-use Rattle.std.specs.Prelude.{ℕ, ◌+◌, ◌*◌, ◌≤◌, All, nat_lt, nat_le, ◌==◌, ◌&&◌, ◌||◌, not, Bool, true, false, if◌then◌else◌, is_some}
+use Rattle.std.specs.Prelude.{ℕ, ◌+◌, ◌*◌, ◌≤◌, All, nat_lt, ◌==◌, ◌&&◌, not, Bool, true, false, if◌then◌else◌, is_some}
 use Rattle.std.specs.Prelude.{List, [], ◌∷◌, replicate, slice_index_or, slice_set, Option, Some, None}
 use Rattle.spk_nums.specs.Setting.{Setting}
-use Rattle.spk_nums.specs.declared.calls.Call.{Call}
 use Rattle.step_views.specs.word_map.specs.Places.{size_of}
 use Rattle.kernel_history.specs.Trace.{Trace}
 use Rattle.kernel_history.specs.BootWords.{shape_of}
 use Rattle.picture_rows.specs.declared.rows.Placed.{Placed}
 use Rattle.picture_rows.specs.declared.rows.Rows.{Rows}
-use Rattle.picture_rows.specs.Rows.{IsWithin, no_rows, rows_after}
+use Rattle.picture_rows.specs.Rows.{IsWithin, is_full, no_rows, rows_after}
 use Rattle.page_layers.specs.Seen.{Seen, seen}
 use Rattle.page_layers.specs.Lanes.{no_call, lane_entered, lane_decided, lane_topped, lane_returned}
 use Rattle.page_layers.specs.Layers.{Layers, no_layers, with_step, with_edge, with_return}
 use Rattle.page_layers.specs.declared.lanes.Lane.{Lane}
 use Rattle.page_layers.specs.declared.lanes.Change.{Change}
 use Rattle.page_layers.specs.declared.sheet.Moment.{Moment}
-use Rattle.page_drawing.specs.declared.touches.Touch.{Touch}
+use Rattle.page_touches.specs.declared.touches.Touch.{Touch}
+use Rattle.page_touches.specs.Touches.{untouched, touched, tail_of, start_words, frames_after, frame_of}
 use Rattle.page_drawing.specs.declared.page.Run.{Run}
-use Rattle.page_drawing.specs.Touches.{untouched, touched, tail_of, start_words, frames_after, frame_of}
 
 -- What is known after some steps: the page that is asked for and the page so far; whether there are more steps after the page that is
--- asked for; how many steps lie before the page, how many calls it has, and how many calls are decided up to now; the cores' calls; the
--- words of the table, by their places; the frames' words; the rows of the page; the core that steps, since when; and the layers of the
--- page that is asked for.
+-- asked for; how many steps lie before the page, and how many calls are decided up to now; the cores' calls; the words of the table, by
+-- their places; the frames' words; the rows of the page; the core that steps, since when; and the layers of the page that is asked for.
 pub record Page : Type 0 where
   pub cores : ℕ
   pub wanted : ℕ
   pub page : ℕ
   pub is_cut : Bool
   pub first : ℕ
-  pub calls : ℕ
   pub decisions : ℕ
   pub lanes : List Lane
   pub words : List Touch
@@ -47,7 +44,6 @@ blank wanted setup = record {
   page = 1;
   is_cut = false;
   first = 0;
-  calls = 0;
   decisions = 0;
   lanes = replicate 8 no_call;
   words = replicate (size_of (shape_of setup)) untouched;
@@ -58,17 +54,12 @@ blank wanted setup = record {
 }
 
 -- So many steps lie on a page, and no more calls are decided, or entered by a core, than steps are made: each number has its room.
-pub record IsSound (rows : Rows) (cores calls page first decisions : ℕ) (lanes : List Lane) : Type 0 where
+pub record IsSound (rows : Rows) (cores page first decisions : ℕ) (lanes : List Lane) : Type 0 where
   pub within : IsWithin rows
   pub few_cores : cores ≤ 8
-  pub few_calls : calls ≤ 60
   pub before : first ≤ 2000 * page
   pub decided : decisions ≤ first + rows.count
   pub entered : All (λ l. l.index ≤ first + rows.count) lanes
-
--- A page has no room for a step.
-abbrev pub is_full : Page → Option Call → Bool
-is_full p enters = nat_le 2000 p.rows.count || (is_some enters && nat_le 60 p.calls)
 
 -- A core's calls, and what is due of a core at the beginning of a page: of one in a call that is not decided, its decision.
 abbrev pub lane_of : List Lane → ℕ → Lane
@@ -93,7 +84,6 @@ abbrev pub turned : Page → Page
 turned p = record p {
   page = p.page + 1;
   first = p.first + p.rows.count;
-  calls = 0;
   rows = no_rows (first_dues p.lanes);
   run = None;
 }
@@ -137,10 +127,7 @@ lane_at p s n = lane_decided s.decides n (lane_entered s.enters n (returns_of p.
 abbrev pub tail_at : Page → Seen → Option Change
 tail_at p s = tail_of (slice_index_or p.words s.place untouched) s
 
--- How many calls are entered on the page, and decided, with the step.
-abbrev pub calls_after : Page → Seen → ℕ
-calls_after p s = if is_some s.enters then p.calls + 1 else p.calls
-
+-- How many calls are decided, with the step.
 abbrev pub decisions_after : Page → Seen → ℕ
 decisions_after p s = if is_some s.decides then p.decisions + 1 else p.decisions
 
@@ -176,7 +163,6 @@ words_after p s l n y =
 -- The page with the step noted and not drawn, where the rows and its core's calls are these; then with its layers.
 abbrev pub noted : Page → Seen → Rows → Lane → ℕ → Page
 noted p s rows l n = record p {
-  calls = calls_after p s;
   decisions = decisions_after p s;
   lanes = slice_set p.lanes s.core (lane_returned s.returns n l);
   words = words_after p s l n rows.y;
@@ -201,7 +187,7 @@ turned_to p s = if nat_lt p.page p.wanted then taken (turned p) s else record p 
 abbrev pub step_taken : Page → Seen → Page
 step_taken p s =
     if p.is_cut then p
-    else if is_full p s.enters then turned_to p s
+    else if is_full p.rows (is_some s.enters) then turned_to p s
     else taken p s
 
 -- After a trace.

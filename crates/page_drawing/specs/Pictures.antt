@@ -25,7 +25,7 @@ steps_words first last = codes ", steps " ++ (decimal first ++ (codes " to " ++ 
 abbrev pub page_words : Page → List ℕ
 page_words p =
     number_words (nat_lt 1 p.page || p.is_cut) p.page
-    ++ (counted p.cores (codes "core") ++ (codes ", " ++ (counted p.calls (codes "call")
+    ++ (counted p.cores (codes "core") ++ (codes ", " ++ (counted p.rows.calls (codes "call")
     ++ steps_words (p.first + 1) (p.first + p.rows.count))))
 
 -- The layers with the lanes of the first n cores finished, where so many steps lie before the page and its last step has height y.

@@ -10,7 +10,6 @@
 
 mod page;
 mod text;
-mod touches;
 
 pub use page::TracePage;
 pub use step_views::StepMade;

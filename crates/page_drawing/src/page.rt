@@ -1,32 +1,27 @@
 //! A page, as it grows.
 
-ghost use Rattle.std.specs.Prelude.{◌≡◌, ◌==◌, ◌+◌, ◌*◌, ◌<◌, ◌≤◌, ◌^◌, OnOk, IfOk, All, true, ◌&&◌, if◌then◌else◌, is_some, not, replicate};
+ghost use Rattle.std.specs.Prelude.{◌≡◌, ◌==◌, ◌+◌, ◌*◌, ◌<◌, ◌≤◌, ◌^◌, OnOk, IfOk, All, false, ◌&&◌, if◌then◌else◌, is_some, not, replicate};
 ghost use Rattle.word_map.specs.Places.{size_of};
-ghost use Rattle.picture_rows.specs.Rows.{IsWithin};
+ghost use Rattle.picture_rows.specs.Rows.{IsWithin, is_full};
 ghost use Rattle.page_layers.specs.Lanes.{lane_entered, lane_decided, lane_topped, lane_returned};
 ghost use Rattle.kernel_history.specs.BootWords.{shape_of};
 ghost use Rattle.page_layers.specs.Seen.{seen_made};
-ghost use Rattle.page_drawing.specs.Pages.{blank, is_full, lane_of, first_due, first_dues, returns_of, turned, follows, run_after};
-ghost use Rattle.page_drawing.specs.Pages.{run_ended, run_left, placed, next_step, lane_at, tail_at, calls_after, decisions_after, moment};
+ghost use Rattle.page_drawing.specs.Pages.{blank, lane_of, first_due, first_dues, returns_of, turned, follows, run_after};
+ghost use Rattle.page_drawing.specs.Pages.{run_ended, run_left, placed, next_step, lane_at, tail_at, decisions_after, moment};
 ghost use Rattle.page_drawing.specs.Pages.{layers_at, layers_after, change_at, words_after, noted, taken_at, taken_in, taken, turned_to};
 ghost use Rattle.page_drawing.specs.Pages.{step_taken};
-ghost use Rattle.page_drawing.specs.Touches.{untouched, frame_of};
+ghost use Rattle.page_touches.specs.Touches.{frame_of};
 
-use crate::touches::{
-    Touch, first_words, frame_of, note_frame, note_word, start_words, tail_of, untouched, word_at,
-};
 use page_layers::{Change, Lane, Moment, Sheet};
+use page_touches::{
+    Touch, first_words, frame_of, note_frame, note_word, start_words, tail_of, word_at,
+};
 use picture_rows::{Placed, Rows};
-use spk_nums::{Call, Setup};
+use spk_nums::Setup;
 use std::alloc::{AllocError, Global};
 use std::marker::Model;
 use step_views::{StepMade, place_in};
 use word_map::Layout;
-
-// A page shows no more steps and calls than these.
-const ROWS: u16 = 2000;
-
-const CALLS: u16 = 60;
 
 /// Steps of one core in a row: the core, and the height of the first.
 #[derive(Clone, Copy)]
@@ -43,7 +38,6 @@ pub struct TracePage {
     pub(crate) page: u32,
     pub(crate) is_cut: bool,
     pub(crate) first: u64,
-    pub(crate) calls: u16,
     pub(crate) decisions: u64,
     pub(crate) lanes: [Lane; 8],
     pub(crate) words: Vec<Touch>,
@@ -64,7 +58,6 @@ impl Model for TracePage {
       page = p.page;
       is_cut = p.is_cut;
       first = p.first;
-      calls = p.calls;
       decisions = p.decisions;
       lanes = p.lanes;
       words = p.words.items;
@@ -74,7 +67,7 @@ impl Model for TracePage {
       layers = p.sheet;
     } };
 
-    ghost invariant = { λ p. IsSound p.rows p.cores p.calls p.page p.first p.decisions p.lanes };
+    ghost invariant = { λ p. IsSound p.rows p.cores p.page p.first p.decisions p.lanes };
 }
 
 fn first_due(lane: &Lane) -> u16
@@ -256,7 +249,6 @@ impl TracePage {
             page: 1,
             is_cut: false,
             first: 0,
-            calls: 0,
             decisions: 0,
             lanes: [Lane::new(); 8],
             words,
@@ -267,16 +259,6 @@ impl TracePage {
         })
     }
 
-    // Whether the page has no room for a step.
-    fn is_full(&self, enters: &Option<Call>) -> bool
-        ensures { result ≡ is_full self.now enters.now }
-    {
-        if self.rows.count >= ROWS {
-            return true;
-        }
-        enters.is_some() && self.calls >= CALLS
-    }
-
     // Begins the next page.
     #[tactic(auto, using(crate::proofs::Sound::turned_sound))]
     fn turn(&mut self)
@@ -285,12 +267,10 @@ impl TracePage {
     {
         self.first += u64::from(self.rows.count);
         self.page += 1;
-        self.calls = 0;
         self.rows = Rows::new(first_dues(&self.lanes));
         self.run = None;
     }
 
-    #[tactic(auto, using(crate::proofs::Room::rows_room, crate::proofs::Room::calls_room))]
     /// Takes a step that was made. Where memory has run out a part of it may be drawn.
     pub fn tell(&mut self, made: &StepMade) -> Result<(), AllocError>
         ensures { OnOk result (self.new ≡ step_taken self.old (seen_made made.now)) }
@@ -298,14 +278,14 @@ impl TracePage {
         if self.is_cut {
             return Ok(());
         }
-        if !self.is_full(&made.view.enters) {
+        if !self.rows.is_full(made.view.enters.is_some()) {
             return self.take(made);
         }
         self.tell_next(made)
     }
 
-    #[tactic(auto, using(crate::proofs::Room::rows_room, crate::proofs::Room::calls_room))]
     // Takes the first step of the next page, if that is still wanted.
+    #[tactic(auto, using(picture_rows::proofs::Room::none_room))]
     fn tell_next(&mut self, made: &StepMade) -> Result<(), AllocError>
         ensures { OnOk result (self.new ≡ turned_to self.old (seen_made made.now)) }
     {
@@ -320,8 +300,7 @@ impl TracePage {
     // Takes a step for which the page has room.
     #[tactic(auto, using(crate::proofs::Sound::step_room, crate::proofs::Sound::call_room, crate::proofs::Sound::own_index))]
     fn take(&mut self, made: &StepMade) -> Result<(), AllocError>
-        requires rows { self.old.rows.count < 2000 }
-        requires calls { is_some made.now.view.enters ≡ true → self.old.calls < 60 }
+        requires room { is_full self.old.rows (is_some made.now.view.enters) ≡ false }
         ensures { OnOk result (self.new ≡ taken self.old (seen_made made.now)) }
     {
         let step = next_step(self.page, self.first, self.rows.count);
@@ -382,7 +361,6 @@ impl TracePage {
         requires within { IsWithin rows.now }
         requires rows { rows.now.count ≡ self.old.rows.count + 1 }
         requires room { self.old.rows.count < 2000 }
-        requires calls { is_some made.now.view.enters ≡ true → self.old.calls < 60 }
         requires index { lane.now.index ≤ self.old.first + rows.now.count }
         ensures { self.new ≡ noted self.old (seen_made made.now) rows.now lane.now step }
     {
@@ -393,7 +371,6 @@ impl TracePage {
             step,
             y: rows.y,
         };
-        self.calls = entered(self.calls, made);
         self.decisions = decided(self.decisions, made);
         note_word(
             &mut self.words,
@@ -408,18 +385,7 @@ impl TracePage {
     }
 }
 
-// How many calls are entered on the page, and decided, with a step more.
-fn entered(calls: u16, made: &StepMade) -> u16
-    requires { is_some made.now.view.enters ≡ true → calls < 60 }
-    ensures { result ≡ (if is_some made.now.view.enters then calls + 1 else calls) }
-{
-    if made.view.enters.is_some() {
-        calls + 1
-    } else {
-        calls
-    }
-}
-
+// How many calls are decided, with a step more.
 fn decided(decisions: u64, made: &StepMade) -> u64
     requires { decisions + 1 < 2 ^ 64 }
     ensures { result ≡ (if is_some made.now.decides then decisions + 1 else decisions) }

@@ -180,7 +180,7 @@ impl TracePage {
         push_page_number(text, self.page > 1 || self.is_cut, self.page)?;
         push_counted(text, u16::from(self.cores), "core")?;
         text.push_str(", ")?;
-        push_counted(text, self.calls, "call")?;
+        push_counted(text, self.rows.calls, "call")?;
         push_steps(
             text,
             self.first + 1,
@@ -212,7 +212,6 @@ impl TracePage {
             page,
             is_cut,
             first,
-            calls,
             decisions,
             lanes,
             words,
@@ -231,7 +230,6 @@ impl TracePage {
             page,
             is_cut,
             first,
-            calls,
             decisions,
             lanes,
             words,

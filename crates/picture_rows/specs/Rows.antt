@@ -1,8 +1,16 @@
--- The heights of the steps of a page, in pixels: each is the greatest that a rule asks for.
-use Rattle.std.specs.Prelude.{ℕ, ◌+◌, ◌*◌, ◌≤◌, max, nat_lt, ◌&&◌, ◌||◌, not, Bool, true, false, if◌then◌else◌, List, slice_index_or}
-use Rattle.std.specs.Prelude.{slice_set, All}
+-- The rows of a page: how many steps and calls it has room for, and the heights of its steps, in pixels: each is the greatest that a rule
+-- asks for.
+use Rattle.std.specs.Prelude.{ℕ, ◌+◌, ◌*◌, ◌≤◌, max, nat_lt, nat_le, ◌&&◌, ◌||◌, Bool, if◌then◌else◌, List}
+use Rattle.std.specs.Prelude.{slice_index_or, slice_set, All}
 use Rattle.picture_rows.specs.declared.rows.Placed.{Placed}
 use Rattle.picture_rows.specs.declared.rows.Rows.{Rows}
+
+-- A page has room for 2,000 steps, and for 60 calls: it is full for each step more, and for one that enters a 61st call.
+abbrev pub is_full : Rows → Bool → Bool
+is_full p enters = nat_le 2000 p.count || (enters && nat_le 60 p.calls)
+
+abbrev pub calls_after : Rows → Placed → ℕ
+calls_after p s = if s.enters then p.calls + 1 else p.calls
 
 -- A step has an event where it enters, decides or returns a call.
 abbrev pub has_event : Placed → Bool
@@ -49,6 +57,7 @@ due_after p s y = if has_event s then slice_set p.due s.core (y + room_after s) 
 abbrev pub rows_at : Rows → Placed → ℕ → Rows
 rows_at p s y = record {
   count = p.count + 1;
+  calls = calls_after p s;
   y = y;
   text = if has_text s then y else p.text;
   quiet = quiet_after p s;
@@ -60,11 +69,13 @@ rows_after p s = rows_at p s (step_y p s)
 
 -- The rows of a page without steps, where this is due of the cores.
 abbrev pub no_rows : List ℕ → Rows
-no_rows due = record { count = 0; y = 156; text = 139; quiet = 0; due = due }
+no_rows due = record { count = 0; calls = 0; y = 156; text = 139; quiet = 0; due = due }
 
--- No step is more than 22 below the one before, and nothing is due more than 22 below the last; a page has at most 2,000 steps.
+-- A page has at most 2,000 steps and 60 calls; no step is more than 22 below the one before, and nothing is due more than 22 below the
+-- last.
 pub record IsWithin (p : Rows) : Type 0 where
   pub count : p.count ≤ 2000
+  pub calls : p.calls ≤ 60
   pub height : p.y ≤ 156 + 22 * p.count
   pub text : p.text ≤ p.y
   pub quiet : p.quiet ≤ p.count

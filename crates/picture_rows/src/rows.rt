@@ -1,8 +1,13 @@
 //! The rows of a page.
 
-ghost use Rattle.std.specs.Prelude.{◌≡◌, ◌+◌, ◌<◌, ◌≤◌, max, nat_lt, if◌then◌else◌, All};
-ghost use Rattle.picture_rows.specs.Rows.{has_event, has_text, quiet_after, text_y, event_y, step_y, room_after, due_after, rows_after};
-ghost use Rattle.picture_rows.specs.Rows.{no_rows, IsWithin};
+ghost use Rattle.std.specs.Prelude.{◌≡◌, ◌+◌, ◌<◌, ◌≤◌, max, nat_lt, if◌then◌else◌, All, false};
+ghost use Rattle.picture_rows.specs.Rows.{is_full, calls_after, has_event, has_text, quiet_after, text_y, event_y, step_y, room_after};
+ghost use Rattle.picture_rows.specs.Rows.{due_after, rows_after, no_rows, IsWithin};
+
+// A page has no more steps and calls than these.
+const STEPS: u16 = 2000;
+
+const CALLS: u16 = 60;
 
 /// What the height of a step depends on: its core, whether it enters, decides or returns a call, whether it has an arrow's head, whether
 /// it leaves another value in its word, and whether the step before it on the page is of the same core.
@@ -17,11 +22,12 @@ pub struct Placed {
     pub follows: bool,
 }
 
-/// The rows of a page so far: how many, the height of the last one and of the last one that has a text, how many quiet steps of one core
-/// stand at its end, and for each core the least height of its next event.
+/// The rows of a page so far: how many, and how many calls are entered there; the height of the last one and of the last one that has a
+/// text; how many quiet steps of one core stand at its end; and for each core the least height of its next event.
 #[derive(Clone, Copy)]
 pub struct Rows {
     pub count: u16,
+    pub calls: u16,
     pub y: u16,
     pub text: u16,
     pub quiet: u16,
@@ -74,6 +80,7 @@ impl Rows {
     {
         Rows {
             count: 0,
+            calls: 0,
             y: 156,
             text: 139,
             quiet: 0,
@@ -150,22 +157,51 @@ impl Rows {
         }
     }
 
-    /// Takes a step more.
+    #[inline]
+    #[tactic(auto, using(crate::proofs::Room::calls_most))]
+    fn calls_after(&self, step: &Placed) -> u16
+        requires within { IsWithin self.now }
+        requires room { is_full self.now step.now.enters ≡ false }
+        ensures value { result ≡ calls_after self.now step.now }
+        ensures most { result ≤ 60 }
+    {
+        if step.enters {
+            self.calls + 1
+        } else {
+            self.calls
+        }
+    }
+
+    /// Takes a step more, for which the page has room.
+    #[tactic(auto, using(crate::proofs::Room::steps_room))]
     pub fn take(&mut self, step: &Placed)
         requires within { IsWithin self.old }
         requires core { step.now.core < 8 }
-        requires room { self.old.count < 2000 }
+        requires room { is_full self.old step.now.enters ≡ false }
         ensures value { self.new ≡ rows_after self.old step.now }
         ensures within { IsWithin self.new }
+        ensures had_room { self.old.count < 2000 }
     {
         let y = self.step_y(step);
         let quiet = self.quiet_after(step);
+        let calls = self.calls_after(step);
         self.set_due(step, y);
         if step.has_text() {
             self.text = y;
         }
         self.quiet = quiet;
         self.y = y;
+        self.calls = calls;
         self.count += 1;
+    }
+
+    /// Whether the page has no room for a step, which enters a call or does not: the next page begins with it.
+    pub fn is_full(&self, enters: bool) -> bool
+        ensures { result ≡ is_full self.now enters }
+    {
+        if self.count >= STEPS {
+            return true;
+        }
+        enters && self.calls >= CALLS
     }
 }

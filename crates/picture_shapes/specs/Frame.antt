@@ -26,7 +26,7 @@ picture_end = codes "</svg>\n"
 
 -- Its name: before it and after it, as a title and as a heading.
 unfoldable pub title_begin : List ℕ
-title_begin = codes "<title id='t'>Run of "
+title_begin = codes "<title id='t'>"
 
 unfoldable pub title_end : List ℕ
 title_end = codes "</title>\n"

@@ -73,7 +73,7 @@ pub fn end_picture(text: &mut String) -> Result<(), AllocError>
 pub fn begin_title(text: &mut String) -> Result<(), AllocError>
     ensures { OnOk result (string_bytes text.new ≡ string_bytes text.old ++ title_begin) }
 {
-    text.push_str("<title id='t'>Run of ")
+    text.push_str("<title id='t'>")
 }
 
 /// Ends its title.

@@ -5,8 +5,8 @@ ghost use Rattle.spk_nums.specs.declared.kinds.Obj.TheVariants.{Thread, Tcap};
 ghost use Rattle.step_views.specs.Names.{named};
 ghost use Rattle.page_layers.specs.Seen.{seen_made};
 ghost use Rattle.page_layers.specs.Layers.{is_blamed};
-ghost use Rattle.page_drawing.specs.Touches.{untouched, touched, is_told, is_clock, is_first, is_told_of, met_by, tail_of};
-ghost use Rattle.page_drawing.specs.Touches.{kernel_word, untyped_word, start_word, start_words, frames_after, frame_of};
+ghost use Rattle.page_touches.specs.Touches.{untouched, touched, is_told, is_clock, is_first, is_told_of, met_by, tail_of};
+ghost use Rattle.page_touches.specs.Touches.{kernel_word, untyped_word, start_word, start_words, frames_after, frame_of};
 
 use frame_words::FrameWord;
 use page_layers::{Change, is_blamed};

@@ -9,7 +9,7 @@ use Rattle.step_views.specs.word_map.specs.Word.{Word, EntryAt, FrameAt, CountAt
 use Rattle.page_layers.specs.Seen.{Seen}
 use Rattle.page_layers.specs.Layers.{is_blamed}
 use Rattle.page_layers.specs.declared.lanes.Change.{Change}
-use Rattle.page_drawing.specs.declared.touches.Touch.{Touch}
+use Rattle.page_touches.specs.declared.touches.Touch.{Touch}
 
 -- A word that no step has changed.
 abbrev pub untouched : Touch
