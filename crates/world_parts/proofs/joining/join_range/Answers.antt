@@ -1,0 +1,9 @@
+use Rattle.world_parts.specs.Partitions.{world_in}
+use Rattle.world_parts.proofs.Steps.{range_none, range_more, range_all}
+use Rattle.world_parts.proofs.joining.join_range.Goals as goal
+
+pub frames-init : goal.frames-init
+frames-init c = range_none c.args.range c.args.node (world_in c.args.parts.now)
+
+pub frames-preserved : goal.frames-preserved
+frames-preserved c = range_more c.args.range c.args.node c.frames.frame _ _ _ c.frames.invariant (rw c.new.ensures at c.join_one.ensures)
