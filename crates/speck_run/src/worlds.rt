@@ -28,5 +28,6 @@ pub fn worlds(
     follow(&mut kernel, items);
     run_rest(&mut kernel, setup);
     let closed = kernel.close(alloc)?;
-    worlds_text(alloc, &closed)
+    let text = worlds_text(alloc, &closed)?;
+    Ok(text)
 }

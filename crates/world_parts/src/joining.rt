@@ -1,6 +1,6 @@
 //! The finest partition of a machine's frames into worlds that are apart.
 
-ghost use Rattle.std.specs.Prelude.{◌≡◌, ◌⊎◌, true};
+ghost use Rattle.std.specs.Prelude.{◌≡◌, ◌⊎◌, None, true};
 ghost use Rattle.kernel_rules.specs.Access.{found};
 ghost use Rattle.kernel_rules.specs.CapabilityCalls.{has_frame};
 ghost use Rattle.world_laws.specs.Worlds.{LeadsTo};
@@ -34,8 +34,8 @@ fn join_range(parts: &mut Parts, node: FrameNo, range: Cap)
 }
 
 /// Whether a range has the same frames as another.
-fn is_same_range(range: Cap, done: Option<Cap>) -> bool
-    ensures { result ≡ true → (g : _) → has_frame (found range) g ≡ true → InRange done g }
+fn is_same_range(range: Cap, done: &Option<Cap>) -> bool
+    ensures { result ≡ true → (g : _) → has_frame (found range) g ≡ true → InRange done.now g }
 {
     match done {
         None => false,
@@ -44,8 +44,8 @@ fn is_same_range(range: Cap, done: Option<Cap>) -> bool
 }
 
 /// Joins a node with each frame of a range, unless it is the one with whose frames the node was joined last.
-fn join_new(parts: &mut Parts, node: FrameNo, range: Cap, done: Option<Cap>)
-    requires { AreWith parts.old node done }
+fn join_new(parts: &mut Parts, node: FrameNo, range: Cap, done: &Option<Cap>)
+    requires { AreWith parts.old node done.now }
     ensures { JoinsBy (λ f g. (f ≡ node) × (has_frame (found range) g ≡ true)) parts.old parts.new }
 {
     if is_same_range(range, done) {
@@ -55,8 +55,8 @@ fn join_new(parts: &mut Parts, node: FrameNo, range: Cap, done: Option<Cap>)
 }
 
 /// Joins a node with each frame to which a capability leads.
-fn join_led(parts: &mut Parts, node: FrameNo, cap: Cap, done: Option<Cap>)
-    requires { AreWith parts.old node done }
+fn join_led(parts: &mut Parts, node: FrameNo, cap: Cap, done: &Option<Cap>)
+    requires { AreWith parts.old node done.now }
     ensures { JoinsBy (λ f g. (f ≡ node) × LeadsTo cap.kind cap g) parts.old parts.new }
 {
     match cap.kind() {
@@ -66,8 +66,8 @@ fn join_led(parts: &mut Parts, node: FrameNo, cap: Cap, done: Option<Cap>)
 }
 
 /// Joins a node with each frame to which a capability leads that may be used and is no gate.
-fn join_cap(parts: &mut Parts, node: FrameNo, cap: Cap, done: Option<Cap>)
-    requires { AreWith parts.old node done }
+fn join_cap(parts: &mut Parts, node: FrameNo, cap: Cap, done: &Option<Cap>)
+    requires { AreWith parts.old node done.now }
     ensures { JoinsBy (λ f g. (f ≡ node) × ((holds cap ≡ true) × LeadsTo cap.kind cap g)) parts.old parts.new }
 {
     if holds(cap) {
@@ -76,25 +76,39 @@ fn join_cap(parts: &mut Parts, node: FrameNo, cap: Cap, done: Option<Cap>)
 }
 
 /// Joins a node with what one of its places holds.
-fn join_held(parts: &mut Parts, node: FrameNo, held: Option<Cap>, done: Option<Cap>)
-    requires { AreWith parts.old node done }
-    ensures { JoinsBy (λ f g. (f ≡ node) × Reaches held g) parts.old parts.new }
+fn join_held(parts: &mut Parts, node: FrameNo, held: &Option<Cap>, done: &Option<Cap>)
+    requires { AreWith parts.old node done.now }
+    ensures { JoinsBy (λ f g. (f ≡ node) × Reaches held.now g) parts.old parts.new }
 {
     if let Some(cap) = held {
-        join_cap(parts, node, cap, done);
+        join_cap(parts, node, *cap, done);
+    }
+}
+
+/// Before the first range.
+fn no_range() -> Option<Cap>
+    ensures { result ≡ None }
+{
+    None
+}
+
+/// A range that may be used, or else the one that is done.
+fn range_after(cap: Cap, done: &Option<Cap>) -> Option<Cap>
+    ensures { (g : _) → InRange result g → ((holds cap ≡ true) × LeadsTo cap.kind cap g) ⊎ InRange done.now g }
+{
+    match cap.kind() {
+        Kind::Range => { if holds(cap) { Some(cap) } else { *done } }
+        _ => *done,
     }
 }
 
 /// The range with whose frames a node was joined last, after what a place holds.
-fn last_range(held: Option<Cap>, done: Option<Cap>) -> Option<Cap>
-    ensures { (g : _) → InRange result g → Reaches held g ⊎ InRange done g }
+fn last_range(held: &Option<Cap>, done: &Option<Cap>) -> Option<Cap>
+    ensures { (g : _) → InRange result g → Reaches held.now g ⊎ InRange done.now g }
 {
     match held {
-        None => done,
-        Some(cap) => match cap.kind() {
-            Kind::Range if holds(cap) => Some(cap),
-            _ => done,
-        },
+        None => *done,
+        Some(cap) => range_after(*cap, done),
     }
 }
 
@@ -112,11 +126,11 @@ fn join_fields(parts: &mut Parts, frame: FrameNo, fields: Option<(FrameNo, Frame
 fn join_places(parts: &mut Parts, image: &Image<'_>, node: FrameNo)
     ensures { JoinsBy (λ f g. (f ≡ node) × HoldsBelow (seen image.now) node 64 g) parts.old parts.new }
 {
-    let mut done = None;
+    let mut done = no_range();
     'places: for index in 0..64 {
         let held = held_at(image, node, EntryNo::new(index));
-        join_held(parts, node, held, done);
-        done = last_range(held, done);
+        join_held(parts, node, &held, &done);
+        done = last_range(&held, &done);
     }
 }
 
