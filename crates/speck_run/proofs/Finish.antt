@@ -154,7 +154,7 @@ module _ (setup : Setting) (lists : List (List Call)) (items : List Item) (k0 k1
         let limits : IsSetting k2.setup = subst IsSetting (sym setup_same) setting in
         let runs = legal_runs k2.setup r.trace (histories k2.setup limits r.trace r.stands.made).legal in
         let last : IsLast k2.setup (events_of r.trace) image = record {
-          setting = limits;
+          limits = limits;
           run = runs.run;
           out = λ c. plain_is r.trace c ∙ ap plain_phase (calls_are c).out;
           frames = ap (λ (s : Shape). s.frames) shape;

@@ -105,7 +105,7 @@ memory_words ranges r = or_none (has_range r ranges) (flat_map (range_words r) r
 -- Its line.
 abbrev pub told_line : Sight → (ℕ → ℕ) → List WorldRange → ℕ → List ℕ
 told_line x world ranges r =
-    (codes "world" ++ (number (number_at x world ranges r) ++ codes " frames"))
+    (codes "world" ++ (number (number_at x world ranges (world r)) ++ codes " frames"))
     ++ (frames_in x world r
     ++ (codes " cores" ++ (core_words x world r ++ (codes " memory" ++ (memory_words ranges r ++ codes "\n")))))
 

@@ -6,7 +6,7 @@ ghost use Rattle.world_parts.specs.Seen.{seen};
 ghost use Rattle.world_parts.specs.Partitions.{world_in};
 ghost use Rattle.kernel_history.specs.Tables.{number};
 ghost use Rattle.world_lines.specs.Lines.{frames_in, works_there, any_below, those, core_words, range_words, memory_words};
-ghost use Rattle.world_lines.specs.Lines.{told_line, world_line, gate_words, gate_between, gate_line};
+ghost use Rattle.world_lines.specs.Lines.{told_line, world_line, gate_words, gate_between, gate_line, number_at};
 ghost use Rattle.world_lines.specs.Table.{IsTable};
 
 use crate::ranges::{WorldRange, either, has_range};
@@ -17,11 +17,11 @@ use world_parts::machine_image::Image;
 use world_parts::{Parts, works_in};
 
 /// Appends a number, if it is to be told.
-fn push_if(text: &mut String, told: bool, number: u16) -> Result<(), AllocError>
-    ensures { OnOk result (string_bytes text.new ≡ string_bytes text.old ++ (if told then number number else [])) }
+fn push_if(text: &mut String, told: bool, value: u16) -> Result<(), AllocError>
+    ensures { OnOk result (string_bytes text.new ≡ string_bytes text.old ++ (if told then number value else [])) }
 {
     if told {
-        write!(text, " {number}")
+        write!(text, " {value}")
     } else {
         Ok(())
     }
@@ -127,8 +127,12 @@ fn push_ranges(text: &mut String, ranges: &[WorldRange], world: FrameNo) -> Resu
 }
 
 /// Appends the memory of a world.
-fn push_memory(text: &mut String, ranges: &[WorldRange], world: FrameNo) -> Result<(), AllocError>
-    ensures { OnOk result (string_bytes text.new ≡ string_bytes text.old ++ memory_words ranges.now world) }
+fn push_memory(
+    text: &mut String,
+    ranges: &Vec<WorldRange>,
+    world: FrameNo,
+) -> Result<(), AllocError>
+    ensures { OnOk result (string_bytes text.new ≡ string_bytes text.old ++ memory_words ranges.now.items world) }
 {
     if has_range(ranges, world) {
         push_ranges(text, ranges, world)
@@ -138,10 +142,10 @@ fn push_memory(text: &mut String, ranges: &[WorldRange], world: FrameNo) -> Resu
 }
 
 /// Begins the line of a world.
-fn push_start(text: &mut String, number: u16) -> Result<(), AllocError>
-    ensures { OnOk result (string_bytes text.new ≡ string_bytes text.old ++ (codes "world" ++ (number number ++ codes " frames"))) }
+fn push_start(text: &mut String, value: u16) -> Result<(), AllocError>
+    ensures { OnOk result (string_bytes text.new ≡ string_bytes text.old ++ (codes "world" ++ (number value ++ codes " frames"))) }
 {
-    write!(text, "world {number} frames")
+    write!(text, "world {value} frames")
 }
 
 /// Appends a piece of a line.
@@ -156,14 +160,14 @@ fn push_told(
     text: &mut String,
     image: &Image<'_>,
     parts: &Parts,
-    ranges: &[WorldRange],
+    ranges: &Vec<WorldRange>,
     world: FrameNo,
-    number: u16,
+    index: u16,
 ) -> Result<(), AllocError>
-    requires { number ≡ number_at (seen image.now) (world_in parts.now) ranges.now world }
-    ensures { OnOk result (string_bytes text.new ≡ string_bytes text.old ++ told_line (seen image.now) (world_in parts.now) ranges.now world) }
+    requires { index ≡ number_at (seen image.now) (world_in parts.now) ranges.now.items (world_in parts.now world) }
+    ensures { OnOk result (string_bytes text.new ≡ string_bytes text.old ++ told_line (seen image.now) (world_in parts.now) ranges.now.items world) }
 {
-    push_start(text, number)?;
+    push_start(text, index)?;
     push_frames(text, image, parts, world)?;
     push_piece(text, " cores")?;
     push_cores(text, image, parts, world)?;
@@ -171,8 +175,6 @@ fn push_told(
     push_memory(text, ranges, world)?;
     push_piece(text, "\n")
 }
-
-ghost use Rattle.world_lines.specs.Lines.{number_at};
 
 /// Appends the line of the world that begins at a frame, if one does that has a line.
 pub fn push_world(
@@ -186,8 +188,8 @@ pub fn push_world(
         ≡ string_bytes text.old ++ world_line (seen image.now) (world_in table.now.parts) table.now.ranges.items world) }
 {
     if is_told(image, &table.parts, &table.ranges, world) {
-        let number = table.number(world);
-        return push_told(text, image, &table.parts, &table.ranges, world, number);
+        let index = table.number(world);
+        return push_told(text, image, &table.parts, &table.ranges, world, index);
     }
     Ok(())
 }

@@ -27,8 +27,8 @@ pub struct WorldTable {
 }
 
 /// Whether the world that begins at a frame has a line: all of the machine have but an untyped frame that is in no range.
-pub fn is_told(image: &Image<'_>, parts: &Parts, ranges: &[WorldRange], frame: FrameNo) -> bool
-    ensures { result ≡ is_told (seen image.now) (world_in parts.now) ranges.now frame }
+pub fn is_told(image: &Image<'_>, parts: &Parts, ranges: &Vec<WorldRange>, frame: FrameNo) -> bool
+    ensures { result ≡ is_told (seen image.now) (world_in parts.now) ranges.now.items frame }
 {
     let begins = parts.world(frame).number() == frame.number();
     let of_use = either(!is_untyped(image, frame), has_range(ranges, frame));
@@ -48,10 +48,10 @@ fn number_all(
     numbers: &mut [u16; 512],
     image: &Image<'_>,
     parts: &Parts,
-    ranges: &[WorldRange],
+    ranges: &Vec<WorldRange>,
 ) -> u16
-    ensures numbers { (r : ℕ) → r < 512 → slice_get numbers.new r ≡ Some (number_at (seen image.now) (world_in parts.now) ranges.now r) }
-    ensures told { (r : ℕ) → 512 ≤ r → result ≡ number_at (seen image.now) (world_in parts.now) ranges.now r }
+    ensures numbers { (r : ℕ) → r < 512 → slice_get numbers.new r ≡ Some (number_at (seen image.now) (world_in parts.now) ranges.now.items r) }
+    ensures told { (r : ℕ) → 512 ≤ r → result ≡ number_at (seen image.now) (world_in parts.now) ranges.now.items r }
 {
     let _frames = image.frames();
     let mut told: u16 = 0;

@@ -6,7 +6,8 @@ use Rattle.spk_nums.specs.Setting.{Setting, IsSetting}
 use Rattle.spk_nums.specs.Capability.{Capability}
 use Rattle.spk_nums.specs.Rights.{has_rights, right_to_use}
 use Rattle.machine_image.specs.Views.{ImageOf}
-use Rattle.kernel_rules.specs.State.{Place, Free, Holds, Quiescing, CompFields, Comp, Frame, Untyped, Kernel, PlaceOf, Limits, State}
+use Rattle.kernel_rules.specs.State.{Place, Free, Holds, Quiescing, CompFields, Blank, Table, Leaf, Pages, Pleaf, Comp, Thread, Tcap}
+use Rattle.kernel_rules.specs.State.{Frame, Untyped, User, Kernel, PlaceOf, Limits, State}
 use Rattle.kernel_rules.specs.Access.{held_in, usable, usable_in}
 use Rattle.kernel_rules.specs.Runs.{Event, after, is_in}
 use Rattle.kernel_rules.proofs.AloneLaw.{waits_inside}
@@ -40,10 +41,21 @@ sides false false x y = refl
 
 -- What a frame holds is on its side of each world that is sealed.
 module _ (w : ℕ → Bool) (s : State) (h : IsSealed w gates s) (f g : ℕ) (out : w f ≡ false) where
+  fields_side : (k : CompFields) → s.frame f ≡ Kernel (Comp k) → HasField (Some (k.table, k.pages)) g → w g ≡ false
+  fields_side k is (inl e) = ap w e ∙ (h.comps f k out is).0
+  fields_side k is (inr e) = ap w e ∙ (h.comps f k out is).1
+
   comp_side : (x : Frame) → s.frame f ≡ x → HasField (fields_of x) g → w g ≡ false
-  comp_side (Kernel (Comp k)) is (inl e) = ap w e ∙ (h.comps f k out is).0
-  comp_side (Kernel (Comp k)) is (inr e) = ap w e ∙ (h.comps f k out is).1
-  comp_side _ is no = absurd no
+  comp_side (Kernel (Comp k)) is field = fields_side k is field
+  comp_side Untyped is never = absurd never
+  comp_side User is never = absurd never
+  comp_side (Kernel Blank) is never = absurd never
+  comp_side (Kernel Table) is never = absurd never
+  comp_side (Kernel Leaf) is never = absurd never
+  comp_side (Kernel Pages) is never = absurd never
+  comp_side (Kernel Pleaf) is never = absurd never
+  comp_side (Kernel (Thread t)) is never = absurd never
+  comp_side (Kernel (Tcap q)) is never = absurd never
 
   cap_side : (i : ℕ) (k : Capability) → s.place f i ≡ Holds k → (holds k ≡ true) × LeadsTo k.kind k g → w g ≡ false
   cap_side i k is it =
@@ -53,8 +65,8 @@ module _ (w : ℕ → Bool) (s : State) (h : IsSealed w gates s) (f g : ℕ) (ou
 
   place_side : (i : ℕ) (p : Place) → s.place f i ≡ p → Reaches (held_in p) g → w g ≡ false
   place_side i (Holds k) is it = cap_side i k is it
-  place_side i Free is no = absurd no
-  place_side i (Quiescing k) is no = absurd no
+  place_side i Free is never = absurd never
+  place_side i (Quiescing k) is never = absurd never
 
   frame_side : HoldsFrame (sight_of s) f g → w g ≡ false
   frame_side (inl field) = comp_side (s.frame f) refl field
@@ -74,7 +86,7 @@ module _ (setting : Setting) (events : List Event) (m : ImageOf) (last : IsLast 
   frames_are = ap (λ (l : Limits). l.frames) (limits_stay setting events)
 
   small : (f : ℕ) → f < setting.frames → f < 512
-  small f below = let most = last.setting.most_frames in omega (arith, below, most)
+  small f below = let most = last.limits.most_frames in omega (arith, below, most)
 
   here : (f : ℕ) → f < setting.frames → f < s.limits.frames
   here f = subst (λ n. f < n) (sym frames_are)
@@ -99,21 +111,21 @@ module _ (setting : Setting) (events : List Event) (m : ImageOf) (last : IsLast 
       → has_rights k.rights right_to_use ≡ true → gates k.kind ≡ false → LeadsTo k.kind k g → new f ≡ new g
   place_joins f i d g k e right kind leads =
       let is : s.place f i ≡ Holds k = used_held f i d k (s.place f i) refl e in
-      let at : (f < setting.frames) × (i < 64) = held_within setting last.setting events last.run f i k is in
+      let at : (f < setting.frames) × (i < 64) = held_within setting last.limits events last.run f i k is in
       let held : holds k ≡ true = ap (λ b. b && not (gates k.kind)) right ∙ ap not kind in
-      joined.joins f g (here f at.0, inr (i, (at.1, subst (λ p. Reaches (held_in p) g) (sym is) (held, leads)))) (small f at.0)
-      (small g (held_leads setting last.setting events last.run f i k is g leads))
+      joined.joins f g (here f at.0, inr (i, at.1, subst (λ p. Reaches (held_in p) g) (sym is) (held, leads))) (small f at.0)
+      (small g (held_leads setting last.limits events last.run f i k is g leads))
 
   -- So does a component with its table and its pages.
   fields_join : (f : ℕ) (k : CompFields) → s.frame f ≡ Kernel (Comp k) → (new f ≡ new k.table) × (new f ≡ new k.pages)
   fields_join f k is = elim (cases_lt f s.limits.frames) [
     | inl below ↦
-        let within = fields_within setting last.setting events last.run f k is in
+        let within = fields_within setting last.limits events last.run f k is in
         let low : f < 512 = small f (subst (λ n. f < n) frames_are below) in (
           joined.joins f k.table (below, inl (subst (λ x. HasField (fields_of x) k.table) (sym is) (inl refl))) low (small k.table within.0),
           joined.joins f k.pages (below, inl (subst (λ x. HasField (fields_of x) k.pages) (sym is) (inr refl))) low (small k.pages within.1),
         )
-    | inr past ↦ absurd (untyped_comp k (sym ((runs_sound setting last.setting events last.run).beyond f past) ∙ is))
+    | inr past ↦ absurd (untyped_comp k (sym ((runs_sound setting last.limits events last.run).beyond f past) ∙ is))
   ]
 
   -- A union of worlds is sealed.

@@ -35,9 +35,9 @@ says_held (Holds k) shown h = ap held_by h
 says_held (Quiescing k) shown h = ap held_by h.says
 
 none_held : (p : Place) → ((k : _) → p ≡ Holds k → ⊥) → None ≡ held_in p
-none_held Free no = refl
-none_held (Holds k) no = absurd (no k refl)
-none_held (Quiescing k) no = refl
+none_held Free never = refl
+none_held (Holds k) never = absurd (never k refl)
+none_held (Quiescing k) never = refl
 
 says_node : (x : Frame) → says is_node (Some (frame_value x)) ≡ holds_node x
 says_node Untyped = refl
@@ -97,7 +97,7 @@ module _ (setting : Setting) (events : List Event) (m : ImageOf) (last : IsLast 
   within f below = subst (λ n. f < n) frames_are below
 
   beyond : (f : ℕ) → m.shape.frames ≤ f → s.frame f ≡ Untyped
-  beyond f past = (runs_sound setting last.setting events last.run).beyond f (subst (λ n. n ≤ f) frames_are past)
+  beyond f past = (runs_sound setting last.limits events last.run).beyond f (subst (λ n. n ≤ f) frames_are past)
 
   -- What a place holds.
   node_held : (f i : ℕ) → f < m.shape.frames → i < 64 → (b : Bool) → holds_node (s.frame f) ≡ b
@@ -124,7 +124,7 @@ module _ (setting : Setting) (events : List Event) (m : ImageOf) (last : IsLast 
   -- A place outside the machine holds nothing.
   held_outside : (f i : ℕ) → (f < setting.frames → i < 64 → ⊥) → None ≡ held_in (s.place f i)
   held_outside f i out = none_held (s.place f i) (λ k is.
-      let at = held_within setting last.setting events last.run f i k is in out at.0 at.1)
+      let at = held_within setting last.limits events last.run f i k is in out at.0 at.1)
 
   held_same : (f i : ℕ) → held_seen m f i ≡ held_in (s.place f i)
   held_same f i = elim (cases_lt f m.shape.frames) [
@@ -150,8 +150,8 @@ module _ (setting : Setting) (events : List Event) (m : ImageOf) (last : IsLast 
   comp_inside : (f : ℕ) → f < m.shape.frames → (x : Frame) → s.frame f ≡ x
       → (if says is_comp (Some (frame_value x)) then fields (component_at m.shape m.words f) else None) ≡ fields_of x
   comp_inside f below (Kernel (Comp k)) is =
-      let most = last.setting.most_frames in
-      let at = fields_within setting last.setting events last.run f k is in
+      let most = last.limits.most_frames in
+      let at = fields_within setting last.limits events last.run f k is in
       let low = at.0 in
       let high = at.1 in
       comp_value k (word f) (subst (λ x. AreFrame x (s.place f) (word f)) is (last.represents.objects f (within f below)))

@@ -2,6 +2,8 @@
 use Rattle.std.proofs.Common.{◌≡◌, ◌⊎◌, inl, inr, ℕ, ◌+◌, ◌<◌, ◌≤◌, Bool, true, false, refl, sym, ◌∙◌, ap, subst, arith, List, Option, Some, None}
 use Rattle.std.proofs.lemmas.Bool.{false≢true, cases_lt}
 use Rattle.spk_nums.specs.Capability.{Capability}
+use Rattle.spk_nums.specs.declared.kinds.Kind.{Kind}
+use Rattle.spk_nums.specs.declared.kinds.Kind.TheVariants as kind
 use Rattle.kernel_rules.specs.Access.{found}
 use Rattle.kernel_rules.specs.CapabilityCalls.{has_frame}
 use Rattle.world_laws.specs.Worlds.{LeadsTo}
@@ -54,13 +56,28 @@ range_all k node old new a = joins_as (RangeBelow k node 512) (λ f g. (f ≡ no
     (λ f g h. (h.0, h.1.0)) (λ f g h _ low. (h.0, (h.1, low))) a
 
 -- The same range again.
-pub range_again : (k : Capability) (done : Option Capability) (node : ℕ) (least : List ℕ) → AreWith least node done
-    → ((g : ℕ) → has_frame (found k) g ≡ true → InRange done g)
+pub range_again : (k : Capability) (before : Option Capability) (node : ℕ) (least : List ℕ) → AreWith least node before
+    → ((g : ℕ) → has_frame (found k) g ≡ true → InRange before g)
     → Joins (λ f g. (f ≡ node) × (has_frame (found k) g ≡ true)) (world_in least) (world_in least)
-range_again k done node least are same = joins_none (λ f g. (f ≡ node) × (has_frame (found k) g ≡ true)) (world_in least)
+range_again k before node least are same = joins_none (λ f g. (f ≡ node) × (has_frame (found k) g ≡ true)) (world_in least)
     (λ f g h low high. ap (world_in least) h.0 ∙ are g (subst (λ n. n < 512) h.0 low) high (same g h.1))
 
 -- ---- a place
+
+-- A capability that is no range leads to its own frame.
+pub led_other : (j : Kind) (k : Capability) (node : ℕ) (old new : ℕ → ℕ) → (j ≡ kind.Range → ⊥)
+    → Joins (λ f g. (f ≡ node) × (g ≡ k.frame)) old new → Joins (λ f g. (f ≡ node) × LeadsTo j k g) old new
+led_other kind.Range k node old new other a = absurd (other refl)
+led_other kind.Table k node old new other a = a
+led_other kind.Leaf k node old new other a = a
+led_other kind.Pages k node old new other a = a
+led_other kind.Pleaf k node old new other a = a
+led_other kind.Comp k node old new other a = a
+led_other kind.Gate k node old new other a = a
+led_other kind.Thread k node old new other a = a
+led_other kind.Tcap k node old new other a = a
+led_other kind.Link k node old new other a = a
+led_other kind.Page k node old new other a = a
 
 pub cap_free : (k : Capability) (node : ℕ) (world : ℕ → ℕ) → holds k ≡ false
     → Joins (λ f g. (f ≡ node) × ((holds k ≡ true) × LeadsTo k.kind k g)) world world
@@ -79,14 +96,14 @@ held_none node world = joins_none (λ f g. (f ≡ node) × Reaches None g) world
 -- ---- what was joined last
 
 pub with_none : (least : List ℕ) (node : ℕ) → AreWith least node None
-with_none least node g low high no = absurd no
+with_none least node g low high never = absurd never
 
-pub with_next : (held done next : Option Capability) (node : ℕ) (old new : List ℕ) → AreWith old node done
+pub with_next : (held before next : Option Capability) (node : ℕ) (old new : List ℕ) → AreWith old node before
     → Joins (λ f g. (f ≡ node) × Reaches held g) (world_in old) (world_in new)
-    → ((g : ℕ) → InRange next g → Reaches held g ⊎ InRange done g) → AreWith new node next
-with_next held done next node old new are joined from g low high in_next = elim (from g in_next) [
+    → ((g : ℕ) → InRange next g → Reaches held g ⊎ InRange before g) → AreWith new node next
+with_next held before next node old new are joined from g low high in_next = elim (from g in_next) [
   | inl reached ↦ joined.joins node g (refl, reached) low high
-  | inr before ↦ joined.keeps node g (are g low high before)
+  | inr was ↦ joined.keeps node g (are g low high was)
 ]
 
 -- ---- the places of a node
@@ -108,12 +125,12 @@ places_more x node n old mid new a b =
     (joins_then (PlacesBelow x node n) (PlaceAt x node n) old mid new a b)
   where
     there : (f g : ℕ) → PlacesBelow x node n f g ⊎ PlaceAt x node n f g → PlacesBelow x node (n + 1) f g
-    there f g (inl h) = let below : h.1.0 < n = h.1.1 in (h.0, (h.1.0, (omega (arith, below), h.1.2)))
-    there f g (inr h) = (h.0, (n, (omega arith, h.1)))
+    there f g (inl h) = let below : h.1.0 < n = h.1.1 in (h.0, (h.1.0, omega (arith, below), h.1.2))
+    there f g (inr h) = (h.0, (n, omega arith, h.1))
 
     back : (f g : ℕ) → PlacesBelow x node (n + 1) f g → f < 512 → g < 512 → PlacesBelow x node n f g ⊎ PlaceAt x node n f g
     back f g h _ _ = elim (cases_lt h.1.0 n) [
-      | inl low ↦ inl (h.0, (h.1.0, (low, h.1.2)))
+      | inl low ↦ inl (h.0, (h.1.0, low, h.1.2))
       | inr high ↦
           let below : h.1.0 < n + 1 = h.1.1 in
           let same : h.1.0 ≡ n = omega (arith, below, high) in

@@ -7,7 +7,7 @@ use Rattle.kernel_history.specs.FinalWords.{Represent, word_in, end_in}
 
 -- The words and the ends represent the state after a run, and no core is then in a call.
 pub record IsLast (setting : Setting) (events : List Event) (m : ImageOf) : Type 0 where
-  pub setting : IsSetting setting
+  pub limits : IsSetting setting
   pub run : IsRun setting events
   pub out : (c : ℕ) → phase_of events c ≡ Out
   pub frames : m.shape.frames ≡ setting.frames

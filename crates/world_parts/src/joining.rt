@@ -4,6 +4,7 @@ ghost use Rattle.std.specs.Prelude.{◌≡◌, ◌⊎◌, None, true};
 ghost use Rattle.kernel_rules.specs.Access.{found};
 ghost use Rattle.kernel_rules.specs.CapabilityCalls.{has_frame};
 ghost use Rattle.world_laws.specs.Worlds.{LeadsTo};
+ghost use Rattle.seal_check.specs.Holding.{holds};
 ghost use Rattle.world_parts.specs.Seen.{seen};
 ghost use Rattle.world_parts.specs.Partitions.{JoinsBy};
 ghost use Rattle.world_parts.specs.Led.{HasField, Reaches, HoldsBelow, HoldsFrame, IsHeldBelow, InRange, AreWith};
@@ -116,9 +117,9 @@ fn last_range(held: &Option<Cap>, done: &Option<Cap>) -> Option<Cap>
 fn join_fields(parts: &mut Parts, frame: FrameNo, fields: Option<(FrameNo, FrameNo)>)
     ensures { JoinsBy (λ f g. (f ≡ frame) × HasField fields g) parts.old parts.new }
 {
-    if let Some((table, pages)) = fields {
-        parts.join(frame, table);
-        parts.join(frame, pages);
+    if let Some(both) = fields {
+        parts.join(frame, both.0);
+        parts.join(frame, both.1);
     }
 }
 
@@ -157,5 +158,6 @@ pub fn parts_of(image: &Image<'_>) -> Parts
 {
     let mut parts = Parts::alone();
     join_all(&mut parts, image);
+    let _first = parts.first();
     parts
 }

@@ -2,7 +2,7 @@
 
 ghost use Rattle.std.specs.Prelude.{◌≡◌, ◌<◌, ℕ, Some, length, slice_get};
 ghost use Rattle.std.specs.Option.{option_map};
-ghost use Rattle.world_parts.specs.Partitions.{world_in, moved, JoinsBy};
+ghost use Rattle.world_parts.specs.Partitions.{world_in, moved, JoinsBy, IsParts};
 
 use spk_nums::FrameNo;
 use std::marker::Model;
@@ -68,6 +68,13 @@ impl Parts {
             Some(first) => FrameNo::new(*first),
             None => frame,
         }
+    }
+
+    /// The least frame of frame 0's world, which is 0; and that the worlds are a partition.
+    pub(crate) fn first(&self) -> u16
+        ensures { IsParts self.now }
+    {
+        self.least[0]
     }
 
     /// The worlds of two frames below 512 become one. Where one is past these, nothing is done.
