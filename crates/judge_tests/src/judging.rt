@@ -79,8 +79,8 @@ fn call_of(alloc: Global, line: &str) -> Result<Call, Fail> {
     }
 }
 
-// The plain kernel in this state.
-fn set(alloc: Global, scene: &Scene) -> Result<SeqKernel, Fail> {
+/// The plain kernel in this state.
+pub fn set(alloc: Global, scene: &Scene) -> Result<SeqKernel, Fail> {
     let script = script_of(alloc, scene.script)?;
     let mut kernel = SeqKernel::start(alloc, &script.setup)?;
     if let Some(core) = scene.inside {

@@ -1,5 +1,5 @@
 //! Tests of the sequential kernel's state, part by part; and of the judge of decisions: for a state, a call and a reply, whether the reply is
-//! permitted, and whether the state then changes.
+//! permitted, and whether the state then changes; and of the test for sealed worlds.
 //!
 //! See docs/CLAIMS.md, 'Crate by crate'.
 #![tactic(auto)]
@@ -8,5 +8,7 @@
 mod judging;
 #[cfg(test)]
 mod rows;
+#[cfg(test)]
+mod seals;
 #[cfg(test)]
 mod states;

@@ -10,7 +10,7 @@ use Rattle.line_reader.specs.declared.cause.Cause.{Cause}
 use Rattle.script_reader.specs.Readings.{First_fault}
 use Rattle.load_maker.specs.Loads.{load_text}
 use Rattle.speck_run.specs.declared.words.Command.{Command}
-use Rattle.speck_run.specs.declared.words.Command.TheVariants.{Replay, Trace, Draw, Run, Plain, Print, Ends, Sched, Check, Origins, Explain}
+use Rattle.speck_run.specs.declared.words.Command.TheVariants.{Replay, Trace, Draw, Run, Plain, Print, Ends, Sched, Check, Origins, Worlds, Explain}
 use Rattle.explain_run.specs.line_forms.specs.declared.context.Reading.{Reading}
 use Rattle.explain_run.specs.line_forms.specs.declared.context.Reading.TheVariants as reading
 use Rattle.speck_run.specs.declared.answers.Answer.{Answer}
@@ -45,7 +45,7 @@ told texts = if is_word texts (codes "replay") then Some Replay else if is_word 
     else if is_word texts (codes "run") then Some Run else if is_word texts (codes "plain") then Some Plain
     else if is_word texts (codes "print") then Some Print else if is_word texts (codes "ends") then Some Ends
     else if is_word texts (codes "sched") then Some Sched else if is_word texts (codes "check") then Some Check
-    else if is_word texts (codes "origins") then Some Origins else explained texts
+    else if is_word texts (codes "origins") then Some Origins else if is_word texts (codes "worlds") then Some Worlds else explained texts
 
 some_same : (a b : Command) → Some a ≡ Some b → a ≡ b
 some_same a b e = cc
@@ -76,6 +76,7 @@ asked_by words Ends p = by_text words Ends (codes "ends" ∷ []) refl p
 asked_by words Sched p = by_text words Sched (codes "sched" ∷ []) refl p
 asked_by words Check p = by_text words Check (codes "check" ∷ []) refl p
 asked_by words Origins p = by_text words Origins (codes "origins" ∷ []) refl p
+asked_by words Worlds p = by_text words Worlds (codes "worlds" ∷ []) refl p
 asked_by words (Explain reading.Script) p = by_text words (Explain reading.Script) (codes "explain" ∷ codes "print" ∷ []) refl p
 asked_by words (Explain reading.Ends) p = by_text words (Explain reading.Ends) (codes "explain" ∷ codes "ends" ∷ []) refl p
 asked_by words (Explain reading.Sched) p = by_text words (Explain reading.Sched) (codes "explain" ∷ codes "sched" ∷ []) refl p
@@ -172,8 +173,9 @@ pub no_words : (words : CommandLine) → (texts_of words ≡ codes "replay" ∷ 
     → (texts_of words ≡ codes "draw" ∷ [] → ⊥) → (texts_of words ≡ codes "run" ∷ [] → ⊥) → (texts_of words ≡ codes "plain" ∷ [] → ⊥)
     → (texts_of words ≡ codes "print" ∷ [] → ⊥) → (texts_of words ≡ codes "ends" ∷ [] → ⊥) → (texts_of words ≡ codes "sched" ∷ [] → ⊥)
     → (texts_of words ≡ codes "check" ∷ [] → ⊥) → (texts_of words ≡ codes "origins" ∷ [] → ⊥)
+    → (texts_of words ≡ codes "worlds" ∷ [] → ⊥)
     → IsExplainedAfter (codes "explain") words None → IsPageOf words None → IsCommandOf words None
-no_words words n1 n2 n3 n4 n5 n6 n7 n8 n9 n10 explain page = λ c. by c.command c.asks
+no_words words n1 n2 n3 n4 n5 n6 n7 n8 n9 n10 n11 explain page = λ c. by c.command c.asks
   where
     by : (command : Command) → Asks words command → ⊥
     by Replay asks = n1 asks
@@ -187,6 +189,7 @@ no_words words n1 n2 n3 n4 n5 n6 n7 n8 n9 n10 explain page = λ c. by c.command 
     by Sched asks = n8 asks
     by Check asks = n9 asks
     by Origins asks = n10 asks
+    by Worlds asks = n11 asks
     by (Explain r) asks = explain r asks
 
 -- And for one thing.

@@ -6,9 +6,17 @@ use Rattle.std.proofs.lemmas.List.{get_or_past}
 use Rattle.spk_nums.specs.Setting.{Setting, IsSetting}
 use Rattle.spk_nums.specs.declared.calls.Call.{Call}
 use Rattle.spk_nums.specs.declared.steps.Item.{Item}
+use Rattle.table_report.specs.machine_image.specs.Views.{ImageOf}
+use Rattle.trace_run.specs.lone_kernel.specs.word_map.specs.Places.{Shape}
 use Rattle.trace_run.specs.lone_kernel.specs.kernel_rules.specs.Laws.{ticks}
+use Rattle.trace_run.specs.lone_kernel.specs.kernel_rules.specs.Runs.{after}
 use Rattle.trace_run.specs.lone_kernel.specs.kernel_history.specs.Trace.{Trace, state_after, calls_of, decisions_of}
 use Rattle.trace_run.specs.lone_kernel.specs.kernel_history.specs.Order.{IsIdle, HasCalls, FollowsItems, FollowsCores, Follows, list_of}
+use Rattle.trace_run.specs.lone_kernel.specs.kernel_history.specs.BootWords.{shape_of}
+use Rattle.trace_run.specs.lone_kernel.specs.kernel_history.specs.Events.{events_of, plain_phase}
+use Rattle.trace_run.specs.lone_kernel.specs.kernel_history.specs.FinalWords.{Represent, word_in, end_in}
+use Rattle.trace_run.specs.lone_kernel.specs.kernel_history.proofs.Events.{phase_is as plain_is}
+use Rattle.trace_run.specs.lone_kernel.specs.kernel_history.proofs.Laws.{legal_runs}
 use Rattle.trace_run.specs.lone_kernel.specs.kernel_history.specs.Tables.{tables_of}
 use Rattle.trace_run.specs.lone_kernel.specs.kernel_history.specs.Text.{reply_lines, text_of}
 use Rattle.trace_run.specs.lone_kernel.specs.trace_laws.proofs.Idle.{all_idle}
@@ -24,6 +32,12 @@ use Rattle.trace_run.specs.lone_kernel.proofs.Runs.{none_of}
 use Rattle.speck_run.specs.Orders.{GoesByItems, RunsCoresOut}
 use Rattle.load_summary.specs.Summaries.{summary_text}
 use Rattle.speck_run.specs.Summary.{GivenSummary}
+use Rattle.speck_run.specs.Worlds.{GivenWorlds}
+use Rattle.world_lines.specs.world_parts.specs.Sight.{sight_of}
+use Rattle.world_lines.specs.world_parts.specs.Last.{IsLast}
+use Rattle.world_lines.specs.world_parts.specs.Finest.{IsFinest}
+use Rattle.world_lines.specs.Lines.{worlds_text}
+use Rattle.world_lines.specs.Telling.{TellsIn, TellsWorlds}
 use Rattle.speck_run.specs.Written.{lines_of}
 
 -- a machine that stands for a trace in which its cores are idle
@@ -131,3 +145,31 @@ module _ (setup : Setting) (lists : List (List Call)) (items : List Item) (k0 k1
           ∙ ap (λ ds. summary_text ds (ticks (state_after k2.setup r.trace))) r.stands.decisions
           ∙ ap (λ (s : Setting). summary_text (decisions_of r.trace) (ticks (state_after s r.trace))) setup_same;
     }
+
+    -- and the worlds of its final state
+    pub worlds_told : (histories : MadeHistories) (image : ImageOf) (text : List ℕ) → image.shape ≡ shape_of k2.setup
+        → Represent (word_in image.shape image.words) (end_in image.ends) (state_after k2.setup r.trace) → TellsWorlds image [] text
+        → GivenWorlds setup lists items text
+    worlds_told histories image text shape represent tells =
+        let limits : IsSetting k2.setup = subst IsSetting (sym setup_same) setting in
+        let runs = legal_runs k2.setup r.trace (histories k2.setup limits r.trace r.stands.made).legal in
+        let last : IsLast k2.setup (events_of r.trace) image = record {
+          limits = limits;
+          run = runs.run;
+          out = λ c. plain_is r.trace c ∙ ap plain_phase (calls_are c).out;
+          frames = ap (λ (s : Shape). s.frames) shape;
+          cores = ap (λ (s : Shape). s.cores) shape;
+          represents = subst (Represent (word_in image.shape image.words) (end_in image.ends)) runs.state represent;
+        } in
+        let told : TellsIn (after k2.setup (events_of r.trace)) [] text = tells k2.setup (events_of r.trace) last in
+        let same : after k2.setup (events_of r.trace) ≡ state_after setup r.trace =
+        sym runs.state ∙ ap (λ (s : Setting). state_after s r.trace) setup_same in
+        record {
+          trace = r.trace;
+          history = history_is histories;
+          calls = subst (λ l. HasCalls l r.trace) lists_same calls_are;
+          order = r.order;
+          world = told.world;
+          finest = subst (λ s. IsFinest s told.world) same told.finest;
+          is_text = told.is_text ∙ ap (λ s. worlds_text (sight_of s) told.world) same;
+        }

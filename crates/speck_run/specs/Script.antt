@@ -7,6 +7,7 @@ use Rattle.trace_run.specs.lone_kernel.specs.GivenSteps.{GivenSteps}
 use Rattle.trace_run.specs.GivenTrace.{GivenTrace}
 use Rattle.draw_run.specs.GivenDrawing.{GivenDrawing}
 use Rattle.origins_run.specs.GivenOrigins.{GivenOrigins}
+use Rattle.speck_run.specs.Worlds.{GivenWorlds}
 use Rattle.check_run.specs.history_reader.specs.Inputs.{History, history_of}
 use Rattle.check_run.specs.Checked.{IsJudged}
 use Rattle.explain_run.specs.Explained.{IsExplained}
@@ -17,7 +18,7 @@ use Rattle.ends_reader.specs.Inputs.{Input, input_of}
 use Rattle.one_core.specs.sched_reader.specs.Inputs.{Input as Sched_input, input_of as sched_input_of}
 use Rattle.one_core.specs.Scheduled.{SchedTrace}
 use Rattle.speck_run.specs.declared.words.Command.{Command}
-use Rattle.speck_run.specs.declared.words.Command.TheVariants.{Replay, Trace, Draw, Run, Plain, Print, Ends, Sched, Check, Origins, Explain}
+use Rattle.speck_run.specs.declared.words.Command.TheVariants.{Replay, Trace, Draw, Run, Plain, Print, Ends, Sched, Check, Origins, Worlds, Explain}
 use Rattle.speck_run.specs.Ends.{EndsText}
 
 -- The bytes are this script.
@@ -59,7 +60,7 @@ read_by command bytes = script_of bytes
 -- What a command makes of what it takes: `replay` the text of given steps, `trace` that of each of them, `draw` the picture of a page,
 -- `run` the text of taken ones, `plain` that of its calls made alone, `print` the printed form, `ends` that of lists and of endpoint
 -- calls after them, `sched` that of the schedule of its tasks, `check` that of the verdict, `origins` the origins after given steps,
--- `explain` what is told of what another command would read.
+-- `worlds` the worlds that are then apart, `explain` what is told of what another command would read.
 abbrev pub IsAnswer : (command : Command) → InputOf command → List ℕ → Type 0
 IsAnswer Replay script text = GivenSteps script.setup script.lists script.order text
 IsAnswer Trace script text = GivenTrace script.version script.setup script.lists script.order text
@@ -71,6 +72,7 @@ IsAnswer Ends input text = EndsText input.script.setup input.script.lists input.
 IsAnswer Sched input text = SchedTrace input text
 IsAnswer Check history text = IsJudged history text
 IsAnswer Origins script text = GivenOrigins script.setup script.lists script.order text
+IsAnswer Worlds script text = GivenWorlds script.setup script.lists script.order text
 IsAnswer (Explain reading) bytes text = IsExplained reading bytes text
 
 -- The command makes calls by threads, and asks the gate.

@@ -10,7 +10,7 @@ use Rattle.explain_run.specs.line_forms.specs.declared.context.Reading.{Reading}
 use Rattle.explain_run.specs.line_forms.specs.declared.context.Reading.TheVariants as reading
 use Rattle.load_maker.specs.Loads.{script_made, load_text}
 use Rattle.speck_run.specs.declared.words.Command.{Command}
-use Rattle.speck_run.specs.declared.words.Command.TheVariants.{Replay, Trace, Draw, Run, Plain, Print, Ends, Sched, Check, Origins, Explain}
+use Rattle.speck_run.specs.declared.words.Command.TheVariants.{Replay, Trace, Draw, Run, Plain, Print, Ends, Sched, Check, Origins, Worlds, Explain}
 use Rattle.speck_run.specs.declared.top.Status.{Status}
 use Rattle.speck_run.specs.declared.top.Status.TheVariants.{Done, Words, Script, ReadFault, WriteFault, Memory, TooLong, Stopped}
 use Rattle.whole_ends.specs.Ends.{Gives, GivesAll, AddsFront}
@@ -43,6 +43,7 @@ word_of Ends = codes "ends"
 word_of Sched = codes "sched"
 word_of Check = codes "check"
 word_of Origins = codes "origins"
+word_of Worlds = codes "worlds"
 word_of (Explain r) = codes "explain"
 
 -- What the command of that word reads, or none where no command of that word is explained.

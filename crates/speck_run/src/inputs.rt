@@ -10,6 +10,7 @@ use crate::given::replay;
 use crate::runs::run_lists;
 use crate::top::Status;
 use crate::words::Command;
+use crate::worlds::worlds;
 use check_run::check;
 use draw_run::draw;
 use ends_reader::read_ends;
@@ -211,6 +212,27 @@ fn judge_origins(alloc: Global, bytes: &[u8]) -> Result<Answer, Memory>
     Ok(made(text))
 }
 
+// What is due under `worlds`.
+fn judge_worlds(alloc: Global, bytes: &[u8]) -> Result<Answer, Memory>
+    requires { length bytes.now ≤ 1048576 }
+    ensures due { IfOk result (λ answer. IsDueOf commands.Worlds bytes.now answer.status (string_bytes answer.text)) }
+    ensures free { IfOk result (λ answer. answer.status ≡ Status.Stopped → ⊥) }
+{
+    let script = match read(alloc, bytes) {
+        Ok(script) => script,
+        Err(ReadFault::Memory) => return Err(Memory),
+        Err(ReadFault::Script { line, cause }) => return refuse(alloc, line, cause),
+    };
+    let Script {
+        version: _,
+        setup,
+        lists,
+        order,
+    } = script;
+    let text = worlds(alloc, &setup, lists, &order)?;
+    Ok(made(text))
+}
+
 // What is due under `explain`.
 fn judge_explain(alloc: Global, reading: Reading, bytes: &[u8]) -> Result<Answer, Memory>
     requires { length bytes.now ≤ 1048576 }
@@ -244,6 +266,7 @@ pub fn judge_input<R: Threads + Sync, G: Gate>(
         Command::Sched => judge_sched(alloc, bytes),
         Command::Check => judge_history(alloc, bytes),
         Command::Origins => judge_origins(alloc, bytes),
+        Command::Worlds => judge_worlds(alloc, bytes),
         Command::Explain(reading) => judge_explain(alloc, reading, bytes),
     }
 }

@@ -15,6 +15,7 @@ mod summary;
 mod text;
 mod top;
 mod words;
+mod worlds;
 
 pub use ends::make_ends;
 pub use ends_run::core_runs::{FreeGate, Gate};
@@ -24,3 +25,4 @@ pub use runs::run_lists;
 pub use summary::{Summed, sum_up};
 pub use top::{Status, speck};
 pub use words::Command;
+pub use worlds::worlds;

@@ -16,6 +16,7 @@ ghost use Rattle.one_core.specs.Scheduled.{SchedTrace};
 ghost use Rattle.check_run.specs.history_reader.specs.Inputs.{history_of};
 ghost use Rattle.check_run.specs.Checked.{IsJudged};
 ghost use Rattle.origins_run.specs.GivenOrigins.{GivenOrigins};
+ghost use Rattle.speck_run.specs.Worlds.{GivenWorlds};
 ghost use Rattle.explain_run.specs.Explained.{IsExplained};
 ghost use Rattle.explain_run.specs.line_forms.specs.declared.context.Reading.{Reading};
 ghost use Rattle.load_maker.specs.Loads.{load_text};
@@ -174,7 +175,7 @@ fn finish<K: Sink>(sink: &mut K, answer: &Answer) -> Status
 /// Does all that the program does: judges the words, reads the source, takes the script and writes
 /// the sink.
 ///
-/// Words other than `replay`, `trace`, `draw`, `run`, `plain`, `print`, `ends`, `sched`, `check` or `origins` alone,
+/// Words other than `replay`, `trace`, `draw`, `run`, `plain`, `print`, `ends`, `sched`, `check`, `origins` or `worlds` alone,
 /// `draw` with a page's number from 1 to 4,294,967,295, `explain` with `print`, `ends`, `sched` or `check`, and `make` and
 /// `load` with a number from 0 to 4,294,967,295, are `Words`, and nothing is read. Under `make` and `load` nothing is read
 /// either, and the status is `Done`: `make` writes the text of the number's script, and `load` takes the steps of that
@@ -200,7 +201,8 @@ fn finish<K: Sink>(sink: &mut K, answer: &Answer) -> Status
 /// task, and the status is `Done`. Under `check` the input is a given history; its verdict is written,
 /// and the status is `Done`, whatever the verdict. Under `origins` the steps are taken as under
 /// `replay`; a line for each link of each capability that is held in the end is written, and the status
-/// is `Done`. Under `explain` what is told of the input of the command that is named is written: where and why that
+/// is `Done`. Under `worlds` the steps are taken so too; a line for each world that is apart in the end is written, and
+/// one for each gate between them, and the status is `Done`. Under `explain` what is told of the input of the command that is named is written: where and why that
 /// command would refuse it, or that it would not; the status is `Done` either way. Each of the other statuses writes
 /// its line in place of the text. A sink that fails is `WriteFault`, and holds a prefix of what was due. `Memory` may
 /// come in place of any status, and has written nothing. No read and no write that failed is tried
@@ -243,6 +245,9 @@ pub fn speck<R: Threads + Sync, G: Gate, S: Source, K: Sink>(
         (S.left source.old) (S.left source.new) (K.held sink.old) (K.held sink.new) }
     ensures origins { Asks words.now commands.Origins → result ≡ Status.Done
         → CarriesOut (IsMade script_of (λ script text. GivenOrigins script.setup script.lists script.order text))
+        (S.left source.old) (S.left source.new) (K.held sink.old) (K.held sink.new) }
+    ensures worlds { Asks words.now commands.Worlds → result ≡ Status.Done
+        → CarriesOut (IsMade script_of (λ script text. GivenWorlds script.setup script.lists script.order text))
         (S.left source.old) (S.left source.new) (K.held sink.old) (K.held sink.new) }
     ensures explain { (reading : Reading) → Asks words.now (commands.Explain reading) → result ≡ Status.Done
         → CarriesOut (IsMade Ok (IsExplained reading)) (S.left source.old) (S.left source.new) (K.held sink.old) (K.held sink.new) }

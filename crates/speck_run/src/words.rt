@@ -32,6 +32,8 @@ pub enum Command {
     Check,
     /// Takes given steps of a script, and writes where each capability came from that is held in the end.
     Origins,
+    /// Takes given steps of a script, and writes the worlds that are apart in the end, and the gates between them.
+    Worlds,
     /// Reads what another command reads, and writes what to do where that would be refused.
     Explain(Reading),
 }
@@ -146,6 +148,9 @@ pub fn command_of(words: &Vec<String>) -> Option<Command>
     }
     if is_alone(words, "origins") {
         return Some(Command::Origins);
+    }
+    if is_alone(words, "worlds") {
+        return Some(Command::Worlds);
     }
     if let Some(reading) = explained_after(words, "explain") {
         return Some(Command::Explain(reading));

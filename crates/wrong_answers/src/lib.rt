@@ -14,5 +14,5 @@ mod texts;
 pub use commands::{check, draws, explains, load, plain, sched};
 pub use faults::{long, other_words, unread, write_faults};
 pub use machines::{booted, name_at, next_cap, next_count, scheduled, until_ready};
-pub use steps::{draw, origins, replay, trace};
+pub use steps::{draw, origins, replay, trace, worlds};
 pub use texts::{ends, make, sched_text};

@@ -1,4 +1,4 @@
-//! The steps of a script's order, taken one after another: their text, their trace, their picture and their origins.
+//! The steps of a script's order, taken one after another: their text, their trace, their picture, their origins and their worlds.
 
 ghost use Rattle.std.specs.Prelude.{◌≡◌, ◌<◌, All, IfOk, length, map, string_bytes};
 ghost use Rattle.trace_run.specs.lone_kernel.specs.Machine.{AreLists};
@@ -6,6 +6,7 @@ ghost use Rattle.trace_run.specs.lone_kernel.specs.GivenSteps.{GivenSteps};
 ghost use Rattle.trace_run.specs.GivenTrace.{GivenTrace};
 ghost use Rattle.draw_run.specs.GivenDrawing.{GivenDrawing};
 ghost use Rattle.origins_run.specs.GivenOrigins.{GivenOrigins};
+ghost use Rattle.speck_run.specs.Worlds.{GivenWorlds};
 
 use spk_nums::{Call, Item, Memory, Setup};
 use std::alloc::Global;
@@ -72,4 +73,20 @@ pub fn origins(
     ensures { IfOk result (λ text. GivenOrigins setup.now (map (λ v. v.items) lists.items) items.now (string_bytes text)) }
 {
     origins_run::origins(alloc, setup, lists, items)
+}
+
+/// The worlds that are apart after the steps of the order, as `worlds` writes them.
+pub fn worlds(
+    alloc: Global,
+    setup: &Setup,
+    lists: Vec<Vec<Call>>,
+    items: &[Item],
+) -> Result<String, Memory>
+    requires can_run { AreLists (map (λ v. v.items) lists.items) }
+    requires one_each { length lists.items ≡ setup.now.cores }
+    requires named { All (λ item. item.core < setup.now.cores) items.now }
+    ensures { IfOk result (λ text. GivenWorlds setup.now (map (λ v. v.items) lists.items) items.now (string_bytes text)) }
+{
+    let text = speck_run::worlds(alloc, setup, lists, items)?;
+    Ok(text)
 }

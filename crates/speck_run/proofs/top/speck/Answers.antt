@@ -72,6 +72,11 @@ returns-in-Ok-clause-origins g c asks done =
     carries c.args.words.now commands.Origins asks (g.S.Source.left c.args.source.now) _ _ _ c.in-Ok.answer.status _
     _ _ (g.K.Sink.held c.args.sink.now) _ c.finish.result c.in-Ok.ensures.due c.finish.ensures done
 
+pub returns-in-Ok-clause-worlds : goal.returns-in-Ok-clause-worlds
+returns-in-Ok-clause-worlds g c asks done =
+    carries c.args.words.now commands.Worlds asks (g.S.Source.left c.args.source.now) _ _ _ c.in-Ok.answer.status _
+    _ _ (g.K.Sink.held c.args.sink.now) _ c.finish.result c.in-Ok.ensures.due c.finish.ensures done
+
 pub returns-in-Ok-clause-explain : goal.returns-in-Ok-clause-explain
 returns-in-Ok-clause-explain g c reading asks done =
     carries c.args.words.now (commands.Explain reading) asks (g.S.Source.left c.args.source.now) _ _ _ c.in-Ok.answer.status _

@@ -1,0 +1,8 @@
+use Rattle.std.proofs.Common.{◌≡◌, ◌<◌, ℕ, true, false}
+use Rattle.kernel_rules.specs.Access.{found}
+use Rattle.kernel_rules.specs.CapabilityCalls.{has_frame}
+use Rattle.seal_check.specs.Sealing.{is_in}
+use Rattle.seal_check.proofs.sealed.is_range_free.Given as goal
+
+abbrev pub invariant-frames : goal.invariant-frames
+invariant-frames l = (f : ℕ) → f < l.frame → has_frame (found l.range) f ≡ true → is_in l.world f ≡ false

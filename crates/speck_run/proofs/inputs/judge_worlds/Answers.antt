@@ -1,0 +1,10 @@
+use Rattle.std.proofs.Common.{length, arith}
+use Rattle.script_reader.specs.Readings.{lists_of}
+use Rattle.speck_run.proofs.Accepted.{accepted}
+use Rattle.speck_run.proofs.inputs.judge_worlds.Goals as goal
+
+pub worlds-requires-clause-can_run : goal.worlds-requires-clause-can_run
+worlds-requires-clause-can_run c =
+    let small = c.requires in
+    accepted (length c.args.bytes.now) (lists_of c.in-Ok.script.lists.items)
+    c.in-Ok.ensures.script.limits c.in-Ok.ensures.calls (omega arith)

@@ -1,0 +1,46 @@
+use Rattle.std.proofs.Common.{◌≡◌, ◌∙◌, sym, ap, subst, map}
+use Rattle.std.specs.Prelude.{string_bytes}
+use Rattle.std.proofs.lemmas.List.{length-map}
+use Rattle.trace_run.specs.lone_kernel.specs.word_map.specs.Places.{Shape}
+use Rattle.trace_run.specs.lone_kernel.specs.kernel_history.specs.Trace.{state_after}
+use Rattle.trace_run.specs.lone_kernel.specs.kernel_history.specs.FinalWords.{Represent, word_in, end_in}
+use Rattle.spk_nums.specs.Setting.{IsSetting}
+use Rattle.trace_run.specs.lone_kernel.specs.flight_laws.proofs.Histories.{made_histories}
+use Rattle.table_report.specs.machine_image.specs.Views.{ImageOf}
+use Rattle.speck_run.proofs.Finish.{all_out, run, worlds_told}
+use Rattle.speck_run.proofs.worlds.worlds.Goals as goal
+
+pub close-requires : goal.close-requires
+close-requires c =
+    let lists = map (λ v. v.items) c.args.lists.items in
+    let booted = c.in_ok-kernel.ensures in
+    let followed = c.follow.ensures in
+    let ran = c.run_rest.ensures in
+    let r = run c.args.setup.now lists c.args.items.now c.in_ok-kernel.kernel c.follow.new.kernel
+    c.run_rest.new.kernel booted.setup followed.setup ran.setup booted.lists followed.lists ran.lists
+    c.cores-cores.ensures.limits (length-map c.args.lists.items (λ v. v.items) ∙ c.requires.one_each)
+    booted.stands followed.goes ran.goes in
+    all_out c.run_rest.new.kernel r.trace (subst IsSetting (sym (ran.setup ∙ followed.setup ∙ booted.setup)) c.cores-cores.ensures.limits)
+    r.stands r.idle
+
+pub returns : goal.returns
+returns c =
+    let lists = map (λ v. v.items) c.args.lists.items in
+    let ended = c.run_rest.new.kernel in
+    let booted = c.in_ok-kernel.ensures in
+    let followed = c.follow.ensures in
+    let ran = c.run_rest.ensures in
+    let one_each = length-map c.args.lists.items (λ v. v.items) ∙ c.requires.one_each in
+    let r = run c.args.setup.now lists c.args.items.now c.in_ok-kernel.kernel c.follow.new.kernel
+    ended booted.setup followed.setup ran.setup booted.lists followed.lists ran.lists
+    c.cores-cores.ensures.limits one_each booted.stands followed.goes ran.goes in
+    let closed = c.in_ok-closed.closed in
+    let done = c.in_ok-closed.ensures in
+    let image : ImageOf = record { shape = closed.layout; words = closed.words.items; ends = closed.ends.items } in
+    worlds_told c.args.setup.now lists c.args.items.now c.in_ok-kernel.kernel c.follow.new.kernel
+    ended booted.setup followed.setup ran.setup booted.lists followed.lists ran.lists
+    c.cores-cores.ensures.limits one_each booted.stands followed.goes ran.goes r made_histories image (string_bytes c.in_ok-text.text)
+    done.layout
+    (subst (λ (s : Shape). Represent (word_in s closed.words.items) (end_in closed.ends.items) (state_after ended.setup r.trace))
+    (sym done.layout) (done.represent r.trace r.stands))
+    c.in_ok-text.ensures

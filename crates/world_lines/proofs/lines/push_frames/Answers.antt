@@ -1,0 +1,9 @@
+use Rattle.table_lines.proofs.Lines.{begins, goes_on, lines_none, lines_more}
+use Rattle.world_lines.proofs.lines.push_frames.Goals as goal
+
+pub frames-init : goal.frames-init
+frames-init c = begins _ _ (lines_none _)
+
+pub frames-preserved : goal.frames-preserved
+frames-preserved c =
+    goes_on _ _ _ _ _ _ (rw c.new.ensures at (rw c.is_of.ensures at c.in_ok-push_if.ensures)) c.frames.invariant (lines_more _ _)

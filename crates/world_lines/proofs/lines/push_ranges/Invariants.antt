@@ -1,0 +1,8 @@
+use Rattle.std.proofs.Common.{◌≡◌, ◌++◌, take}
+use Rattle.std.specs.Prelude.{string_bytes}
+use Rattle.std.specs.List.{flat_map}
+use Rattle.world_lines.specs.Lines.{range_words}
+use Rattle.world_lines.proofs.lines.push_ranges.Given as goal
+
+abbrev pub invariant-ranges : goal.invariant-ranges
+invariant-ranges l = string_bytes l.text ≡ string_bytes l.initial.text ++ flat_map (range_words l.world) (take l.range-index l.ranges)

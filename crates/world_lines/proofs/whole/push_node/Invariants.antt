@@ -1,0 +1,11 @@
+use Rattle.std.proofs.Common.{◌≡◌, ◌++◌}
+use Rattle.std.specs.Prelude.{string_bytes}
+use Rattle.kernel_history.specs.Tables.{lines_below}
+use Rattle.world_parts.specs.Seen.{seen}
+use Rattle.world_parts.specs.Partitions.{world_in}
+use Rattle.world_lines.specs.Lines.{gate_line}
+use Rattle.world_lines.proofs.whole.push_node.Given as goal
+
+abbrev pub invariant-entries : goal.invariant-entries
+invariant-entries l = string_bytes l.text ≡ string_bytes l.initial.text ++ lines_below (λ i.
+    gate_line (seen l.image) (world_in l.table.parts) l.table.ranges.items l.node i ((seen l.image).held l.node i)) l.index

@@ -1,0 +1,5 @@
+pub mod Leads
+pub mod JoinLaws
+pub mod Steps
+pub mod SeenLaw
+pub mod FinestLaw

@@ -1,0 +1,216 @@
+-- What the words and the ends of a machine say of its worlds is so in the final state that they represent.
+use Rattle.std.proofs.Common.{◌≡◌, inl, inr, ℕ, ◌*◌, ◌<◌, ◌≤◌, ◌&&◌, Bool, true, false, nat_lt, refl, sym, ◌∙◌, ap, subst, arith}
+use Rattle.std.proofs.Common.{List, take, drop, slice_index, Option, Some, None, if◌then◌else◌}
+use Rattle.std.proofs.lemmas.Bool.{true≢false, cases_lt, lt-ltb, le-ltb}
+use Rattle.std.proofs.lemmas.List.{get_or-take, get_or-drop}
+use Rattle.spk_nums.specs.Setting.{Setting, IsSetting}
+use Rattle.entry_words.specs.EntryWord.{entry_of_word}
+use Rattle.entry_words.specs.declared.entry.Entry.{Entry}
+use Rattle.frame_words.specs.Comp.{comp_of_word}
+use Rattle.frame_words.specs.declared.frame_word.FrameWord.{FrameWord}
+use Rattle.word_map.specs.Word.{EntryAt}
+use Rattle.word_map.specs.Places.{Shape, place_of}
+use Rattle.machine_image.specs.Views.{ImageOf, word_at, node_words, held_by, component_of, component_at}
+use Rattle.kernel_rules.specs.State.{Place, Free, Holds, Quiescing, CompFields, Blank, Table, Leaf, Pages, Pleaf, Comp, Thread, Tcap}
+use Rattle.kernel_rules.specs.State.{Frame, Untyped, User, Kernel, Limits, State}
+use Rattle.kernel_rules.specs.Access.{held_in}
+use Rattle.kernel_rules.specs.Runs.{Event, after}
+use Rattle.kernel_invariant.proofs.SoundRuns.{limits_stay, runs_sound}
+use Rattle.kernel_history.specs.ObjectWords.{holds_node, frame_value}
+use Rattle.kernel_history.specs.FinalWords.{SaysPlace, AreComp, AreEntries, AreFrame}
+use Rattle.world_laws.specs.Worlds.{works_in}
+use Rattle.seal_check.proofs.Reached.{held_within}
+use Rattle.world_parts.specs.Sight.{fields_of, is_untyped, sight_of}
+use Rattle.world_parts.specs.Seen.{is_node, is_comp, says, says_untyped, fields, frame_said, held_seen, comp_seen, untyped_seen, works_seen, seen}
+use Rattle.world_parts.specs.Last.{IsLast}
+use Rattle.world_parts.proofs.Leads.{fields_within}
+
+node_word : (shape : Shape) (words : List ℕ) (f i : ℕ) → i < 64 → slice_index (node_words words f) i ≡ word_at shape words (EntryAt f i)
+unfolding place_of
+node_word shape words f i h = get_or-take 64 (drop (64 * f) words) i 0 h ∙ get_or-drop (64 * f) words i 0
+
+says_held : (p : Place) (shown : Option Entry) → SaysPlace p shown → held_by shown ≡ held_in p
+says_held Free shown h = ap held_by h
+says_held (Holds k) shown h = ap held_by h
+says_held (Quiescing k) shown h = ap held_by h.says
+
+none_held : (p : Place) → ((k : _) → p ≡ Holds k → ⊥) → None ≡ held_in p
+none_held Free never = refl
+none_held (Holds k) never = absurd (never k refl)
+none_held (Quiescing k) never = refl
+
+says_node : (x : Frame) → says is_node (Some (frame_value x)) ≡ holds_node x
+says_node Untyped = refl
+says_node User = refl
+says_node (Kernel Blank) = refl
+says_node (Kernel Table) = refl
+says_node (Kernel Leaf) = refl
+says_node (Kernel Pages) = refl
+says_node (Kernel Pleaf) = refl
+says_node (Kernel (Comp k)) = refl
+says_node (Kernel (Thread t)) = refl
+says_node (Kernel (Tcap q)) = refl
+
+says_free : (x : Frame) → says_untyped (Some (frame_value x)) ≡ is_untyped x
+says_free Untyped = refl
+says_free User = refl
+says_free (Kernel object) = refl
+
+entries_of : (x : Frame) (place : ℕ → Place) (word : ℕ → ℕ) → holds_node x ≡ true → AreFrame x place word → AreEntries place word
+entries_of Untyped place word node h = absurd (true≢false (sym node))
+entries_of User place word node h = absurd (true≢false (sym node))
+entries_of (Kernel Blank) place word node h = absurd (true≢false (sym node))
+entries_of (Kernel Table) place word node h = h
+entries_of (Kernel Leaf) place word node h = h
+entries_of (Kernel Pages) place word node h = h
+entries_of (Kernel Pleaf) place word node h = h
+entries_of (Kernel (Comp k)) place word node h = absurd (true≢false (sym node))
+entries_of (Kernel (Thread t)) place word node h = absurd (true≢false (sym node))
+entries_of (Kernel (Tcap q)) place word node h = absurd (true≢false (sym node))
+
+-- A component whose table and pages are frames.
+comp_value : (k : CompFields) (word : ℕ → ℕ) → AreComp k word → k.table < 512 → k.pages < 512
+    → fields (component_of (word 0) (word 1) (comp_of_word (word 2))) ≡ Some (k.table, k.pages)
+comp_value k word h low high =
+    ap (λ o. fields (component_of (word 0) (word 1) o)) h.live
+    ∙ ap (λ a. fields (component_of a (word 1) (Some (record { number = k.number; epoch = k.epoch })))) h.table
+    ∙ ap (λ b. fields (component_of k.table b (Some (record { number = k.number; epoch = k.epoch })))) h.pages
+    ∙ ap (λ b. fields (if b && nat_lt k.pages 512
+    then Some (record { table = k.table; pages = k.pages; number = k.number; epoch = k.epoch }) else None)) (lt-ltb k.table 512 low)
+    ∙ ap (λ b. fields (if b then Some (record { table = k.table; pages = k.pages; number = k.number; epoch = k.epoch }) else None))
+    (lt-ltb k.pages 512 high)
+
+module _ (setting : Setting) (events : List Event) (m : ImageOf) (last : IsLast setting events m) where
+  abbrev s : State
+  s = after setting events
+
+  abbrev word : ℕ → ℕ → ℕ
+  word f i = word_at m.shape m.words (EntryAt f i)
+
+  frames_are : m.shape.frames ≡ s.limits.frames
+  frames_are = last.frames ∙ sym (ap (λ (l : Limits). l.frames) (limits_stay setting events))
+
+  cores_are : m.shape.cores ≡ s.limits.cores
+  cores_are = last.cores ∙ sym (ap (λ (l : Limits). l.cores) (limits_stay setting events))
+
+  within : (f : ℕ) → f < m.shape.frames → f < s.limits.frames
+  within f below = subst (λ n. f < n) frames_are below
+
+  beyond : (f : ℕ) → m.shape.frames ≤ f → s.frame f ≡ Untyped
+  beyond f past = (runs_sound setting last.limits events last.run).beyond f (subst (λ n. n ≤ f) frames_are past)
+
+  -- What a place holds.
+  node_held : (f i : ℕ) → f < m.shape.frames → i < 64 → (b : Bool) → holds_node (s.frame f) ≡ b
+      → (if b then held_by (entry_of_word (slice_index (node_words m.words f) i)) else None) ≡ held_in (s.place f i)
+  node_held f i below small true node =
+      ap (λ w. held_by (entry_of_word w)) (node_word m.shape m.words f i small)
+      ∙ says_held (s.place f i) (entry_of_word (word f i))
+      (entries_of (s.frame f) (s.place f) (word f) node (last.represents.objects f (within f below)) i small)
+  node_held f i below small false none = sym (last.represents.bare f (within f below) none i small)
+
+  held_inside : (f i : ℕ) → f < m.shape.frames → i < 64 → held_seen m f i ≡ held_in (s.place f i)
+  held_inside f i below small =
+      ap (λ b. if b && nat_lt i 64
+      then (if says is_node (frame_said m f) then held_by (entry_of_word (slice_index (node_words m.words f) i)) else None) else None)
+      (lt-ltb f m.shape.frames below)
+      ∙ ap (λ b. if b
+      then (if says is_node (frame_said m f) then held_by (entry_of_word (slice_index (node_words m.words f) i)) else None) else None)
+      (lt-ltb i 64 small)
+      ∙ ap (λ o. if says is_node o then held_by (entry_of_word (slice_index (node_words m.words f) i)) else None)
+      (last.represents.kinds f (within f below))
+      ∙ ap (λ b. if b then held_by (entry_of_word (slice_index (node_words m.words f) i)) else None) (says_node (s.frame f))
+      ∙ node_held f i below small (holds_node (s.frame f)) refl
+
+  -- A place outside the machine holds nothing.
+  held_outside : (f i : ℕ) → (f < setting.frames → i < 64 → ⊥) → None ≡ held_in (s.place f i)
+  held_outside f i out = none_held (s.place f i) (λ k is.
+      let at = held_within setting last.limits events last.run f i k is in out at.0 at.1)
+
+  held_same : (f i : ℕ) → held_seen m f i ≡ held_in (s.place f i)
+  held_same f i = elim (cases_lt f m.shape.frames) [
+    | inl below ↦ elim (cases_lt i 64) [
+      | inl small ↦ held_inside f i below small
+      | inr large ↦
+          ap (λ b. if b && nat_lt i 64
+          then (if says is_node (frame_said m f) then held_by (entry_of_word (slice_index (node_words m.words f) i)) else None) else None)
+          (lt-ltb f m.shape.frames below)
+          ∙ ap (λ b. if b
+          then (if says is_node (frame_said m f) then held_by (entry_of_word (slice_index (node_words m.words f) i)) else None) else None)
+          (le-ltb i 64 large)
+          ∙ held_outside f i (λ low small. omega (arith, small, large))
+    ]
+    | inr past ↦
+        ap (λ b. if b && nat_lt i 64
+        then (if says is_node (frame_said m f) then held_by (entry_of_word (slice_index (node_words m.words f) i)) else None) else None)
+        (le-ltb f m.shape.frames past)
+        ∙ held_outside f i (λ low small. let same = last.frames in omega (arith, low, past, same))
+  ]
+
+  -- The table and the pages of a component.
+  comp_inside : (f : ℕ) → f < m.shape.frames → (x : Frame) → s.frame f ≡ x
+      → (if says is_comp (Some (frame_value x)) then fields (component_at m.shape m.words f) else None) ≡ fields_of x
+  comp_inside f below (Kernel (Comp k)) is =
+      let most = last.limits.most_frames in
+      let at = fields_within setting last.limits events last.run f k is in
+      let low = at.0 in
+      let high = at.1 in
+      comp_value k (word f) (subst (λ x. AreFrame x (s.place f) (word f)) is (last.represents.objects f (within f below)))
+      (omega (arith, low, most)) (omega (arith, high, most))
+  comp_inside f below Untyped is = refl
+  comp_inside f below User is = refl
+  comp_inside f below (Kernel Blank) is = refl
+  comp_inside f below (Kernel Table) is = refl
+  comp_inside f below (Kernel Leaf) is = refl
+  comp_inside f below (Kernel Pages) is = refl
+  comp_inside f below (Kernel Pleaf) is = refl
+  comp_inside f below (Kernel (Thread t)) is = refl
+  comp_inside f below (Kernel (Tcap q)) is = refl
+
+  comp_same : (f : ℕ) → comp_seen m f ≡ fields_of (s.frame f)
+  comp_same f = elim (cases_lt f m.shape.frames) [
+    | inl below ↦
+        ap (λ b. if b then (if says is_comp (frame_said m f) then fields (component_at m.shape m.words f) else None) else None)
+        (lt-ltb f m.shape.frames below)
+        ∙ ap (λ o. if says is_comp o then fields (component_at m.shape m.words f) else None) (last.represents.kinds f (within f below))
+        ∙ comp_inside f below (s.frame f) refl
+    | inr past ↦
+        ap (λ b. if b then (if says is_comp (frame_said m f) then fields (component_at m.shape m.words f) else None) else None)
+        (le-ltb f m.shape.frames past)
+        ∙ sym (ap fields_of (beyond f past))
+  ]
+
+  -- Which frames are untyped.
+  untyped_same : (f : ℕ) → untyped_seen m f ≡ is_untyped (s.frame f)
+  untyped_same f = elim (cases_lt f m.shape.frames) [
+    | inl below ↦
+        ap (λ b. if b then says_untyped (frame_said m f) else true) (lt-ltb f m.shape.frames below)
+        ∙ ap says_untyped (last.represents.kinds f (within f below))
+        ∙ says_free (s.frame f)
+    | inr past ↦
+        ap (λ b. if b then says_untyped (frame_said m f) else true) (le-ltb f m.shape.frames past)
+        ∙ sym (ap is_untyped (beyond f past))
+  ]
+
+  -- Where cores work.
+  works_same : (c : ℕ) → works_seen m c ≡ (if nat_lt c s.limits.cores then works_in s c else 0)
+  works_same c = elim (cases_lt c m.shape.cores) [
+    | inl below ↦
+        let here : c < s.limits.cores = subst (λ n. c < n) cores_are below in
+        ap (λ b. if b then (Rattle.kernel_history.specs.FinalWords.end_in m.ends c).comp else 0) (lt-ltb c m.shape.cores below)
+        ∙ ap (λ e. e.comp) (last.represents.ends c here)
+        ∙ sym (ap (λ b. if b then works_in s c else 0) (lt-ltb c s.limits.cores here))
+    | inr past ↦
+        let out : s.limits.cores ≤ c = subst (λ n. n ≤ c) cores_are past in
+        ap (λ b. if b then (Rattle.kernel_history.specs.FinalWords.end_in m.ends c).comp else 0) (le-ltb c m.shape.cores past)
+        ∙ sym (ap (λ b. if b then works_in s c else 0) (le-ltb c s.limits.cores out))
+  ]
+
+  pub seen_is : seen m ≡ sight_of s
+  seen_is = λ i. record {
+    frames = frames_are i;
+    cores = cores_are i;
+    held = λ f k. held_same f k i;
+    comp = λ f. comp_same f i;
+    untyped = λ f. untyped_same f i;
+    works = λ c. works_same c i;
+  }
