@@ -5,7 +5,7 @@ use Rattle.line_reader.specs.Lines.{First_fault}
 use Rattle.script_reader.specs.Readings.{script_of}
 use Rattle.ends_reader.specs.Inputs.{input_of}
 use Rattle.sched_reader.specs.Inputs.{input_of as sched_input_of}
-use Rattle.history_options.specs.check_run.specs.history_reader.specs.Inputs.{History, history_of}
+use Rattle.history_reader.specs.Inputs.{History, history_of}
 use Rattle.history_options.specs.Told.{IsHistoryTold}
 use Rattle.line_forms.specs.declared.context.Reading.{Reading}
 use Rattle.line_forms.specs.declared.context.Reading.TheVariants as reading

@@ -1,4 +1,5 @@
 -- What the crates above name through this one.
+pub use Rattle.marked_history
 pub use Rattle.check_run
 -- Its own.
 pub mod Texts

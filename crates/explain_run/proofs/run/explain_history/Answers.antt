@@ -1,4 +1,4 @@
-use Rattle.history_options.specs.check_run.specs.history_reader.specs.Inputs.{history_of, history_view}
+use Rattle.history_reader.specs.Inputs.{history_of, history_view}
 use Rattle.line_forms.specs.declared.context.Reading.TheVariants as reading
 use Rattle.explain_run.specs.Explained.{IsToldOf}
 use Rattle.explain_run.proofs.Telling.{input_told, refusal_told}
