@@ -8,3 +8,4 @@ pub mod Replies
 pub mod Options
 pub mod Advice
 pub mod Told
+pub mod Every

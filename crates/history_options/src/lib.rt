@@ -14,8 +14,10 @@ mod advice;
 mod calls;
 mod forms;
 mod history;
+mod laws;
 mod options;
 mod replies;
 mod texts;
 
 pub use history::told;
+pub use laws::every_reply_is_tried;
