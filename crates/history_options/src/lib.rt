@@ -5,7 +5,8 @@
 //! may stand there exactly where that verdict is `legal`. So nothing is said of the sequential kernel a second time.
 //!
 //! **Which lines are tried.** The decision of the call that is open there, or the call made whole, with each reply: the value of an `ok`, and
-//! a number that a refusal tells, are those of the state (`open_calls`); each refusal that names a core comes with each core.
+//! a number that a refusal tells, are those of the state (`open_calls`); each refusal that names a core comes with each core. No other may
+//! stand there (`every_reply_is_tried`).
 //!
 //! See docs/FORMATS.md, 'Explanations'.
 #![tactic(auto)]
