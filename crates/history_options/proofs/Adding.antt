@@ -1,6 +1,6 @@
 -- Texts and lists of replies, one piece after another.
-use Rattle.std.proofs.Common.{◌≡◌, ℕ, suc, ◌+◌, ◌<◌, ◌≤◌, List, [], ◌∷◌, ◌++◌, Bool, length, drop, get_or, append_assoc, append-nil, refl, sym, ◌∙◌}
-use Rattle.std.proofs.Common.{ap, subst, arith}
+use Rattle.std.proofs.Common.{◌≡◌, ℕ, suc, ◌+◌, ◌<◌, ◌≤◌, List, [], ◌∷◌, ◌++◌, Bool, length, drop, get_or, append_assoc, append-nil}
+use Rattle.std.proofs.Common.{refl, sym, ◌∙◌, ap, subst, arith}
 use Rattle.std.proofs.lemmas.List.{drop_more, drop_all}
 use Rattle.spk_nums.specs.Setting.{Setting}
 use Rattle.spk_nums.specs.declared.calls.Call.{Call}
@@ -31,12 +31,14 @@ module _ (setting : Setting) (before : List Line) (number c : ℕ) (call : Call)
   adding_more i d goes text new lt is so push adding rest are =
       let here : d ∷ drop (i + 1) replies ≡ drop i replies =
       ap (λ (x : Reply). x ∷ drop (i + 1) replies) is ∙ sym (drop_more replies i d lt) in
-      let all = subst (λ (rs : List Reply). AreOptions setting before number c call form rs (option_of goes (with_form c call form d) ++ rest)) here
+      let option = option_of goes (with_form c call form d) in
+      let all = subst (λ (rs : List Reply). AreOptions setting before number c call form rs (option ++ rest)) here
       (goes, (rest, (so, (are, refl)))) in
       subst (AddsOptions setting before number c call form replies old)
-      (sym (append_assoc text (option_of goes (with_form c call form d)) rest) ∙ ap (λ (x : List ℕ). x ++ rest) (sym push)) (adding _ all)
+      (sym (append_assoc text option rest) ∙ ap (λ (x : List ℕ). x ++ rest) (sym push)) (adding _ all)
 
-  pub adding_end : (i : ℕ) (text : List ℕ) → length replies ≤ i → Adding i text → AddsOptions setting before number c call form replies old text
+  pub adding_end : (i : ℕ) (text : List ℕ) → length replies ≤ i → Adding i text
+      → AddsOptions setting before number c call form replies old text
   adding_end i text past adding =
       subst (AddsOptions setting before number c call form replies old) (append-nil text)
       (adding [] (subst (λ (rs : List Reply). AreOptions setting before number c call form rs []) (sym (drop_all i replies past)) refl))

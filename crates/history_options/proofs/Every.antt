@@ -161,4 +161,5 @@ module _ (setting : Setting) (lim : IsSetting setting) (marks : List Mark) (hist
 
 pub every_reply : EveryReplyIsTried
 every_reply setting lim marks history c call opens r may =
-    tried setting lim marks history c call opens r (subst (λ (p : Phase). MayDecideIn p (state setting marks) c r) opens may.permitted) may.held_up
+    tried setting lim marks history c call opens r
+    (subst (λ (p : Phase). MayDecideIn p (state setting marks) c r) opens may.permitted) may.held_up

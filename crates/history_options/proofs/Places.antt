@@ -1,9 +1,9 @@
 -- Where a line stands, the judge there, and what is told of it.
-use Rattle.std.proofs.Common.{◌≡◌, ℕ, ◌+◌, ◌^◌, ◌<◌, ◌≤◌, ◌==◌, List, [], ◌∷◌, ◌++◌, reverse, take, drop, length, get_or, if◌then◌else◌, refl, sym, ◌∙◌}
-use Rattle.std.proofs.Common.{ap, subst, arith, append_assoc, inl, inr}
+use Rattle.std.proofs.Common.{◌≡◌, ℕ, ◌+◌, ◌^◌, ◌<◌, ◌≤◌, ◌==◌, List, [], ◌∷◌, ◌++◌, reverse, take, drop, length, get_or}
+use Rattle.std.proofs.Common.{if◌then◌else◌, refl, sym, ◌∙◌, ap, subst, arith, append_assoc, inl, inr}
 use Rattle.std.specs.Prelude.{All}
 use Rattle.std.proofs.lemmas.Bool.{eq-eqb}
-use Rattle.std.proofs.lemmas.List.{reverse-append, length-append, length-reverse, length-take-le, take-append-drop, drop_more, get_or_default}
+use Rattle.std.proofs.lemmas.List.{reverse-append, length-append, length-reverse, length-take-le, take-append-drop, drop_more}
 use Rattle.std.proofs.lemmas.List.Elements.{All-append, All-get_or, All-take}
 use Rattle.spk_nums.specs.Setting.{Setting, IsSetting}
 use Rattle.spk_nums.specs.CallLimits.{InLimits}
@@ -41,7 +41,8 @@ use Rattle.history_options.specs.Forms.{core_of, place_of, marks_at, lines_at, C
 use Rattle.history_options.specs.Replies.{replies_of}
 use Rattle.history_options.specs.Texts.{said_line}
 use Rattle.history_options.specs.Options.{AreOptions, AddsOptions}
-use Rattle.history_options.specs.Advice.{out_text, done_text, finding_text, found_text, IsAdviceAt, place_after, Adds, AddsCallAdvice, AddsAdvice}
+use Rattle.history_options.specs.Advice.{out_text, done_text, finding_text, found_text, IsAdviceAt, place_after}
+use Rattle.history_options.specs.Advice.{Adds, AddsCallAdvice, AddsAdvice}
 use Rattle.history_options.specs.Told.{TellsBreak, IsBreakTold, IsHistoryTold}
 
 -- ---- lines with one more

@@ -6,7 +6,8 @@ use Rattle.spk_nums.specs.Setting.{Setting}
 use Rattle.spk_nums.specs.Capability.{Capability}
 use Rattle.spk_nums.specs.declared.kinds.Kind.{Kind}
 use Rattle.spk_nums.specs.declared.kinds.Kind.TheVariants as kind
-use Rattle.kernel_rules.specs.State.{Place, Free, Holds, Quiescing, Frame, Untyped, Kernel, Comp, Thread, Liveness, Unused, Live, Dead, State}
+use Rattle.kernel_rules.specs.State.{Place, Free, Holds, Quiescing, Frame, Untyped, Kernel, Comp, Thread, State}
+use Rattle.kernel_rules.specs.State.{Liveness, Unused, Live, Dead}
 use Rattle.kernel_rules.specs.References.{named_by, place_names, frame_names, number_names, core_names, sum_below, times, node_refs, refs}
 use Rattle.kernel_rules.specs.Fitting.{fits, IsGood}
 use Rattle.kernel_rules.specs.Runs.{Event, Enters, Decides, Returns, is_in, phase_of, IsRun}

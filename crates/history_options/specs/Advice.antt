@@ -56,8 +56,8 @@ abbrev pub found_text : ℕ → Call → Outlook → List ℕ
 found_text c call found = finding_text c call (string_bytes found.names) found.alone
 
 -- what is told of the call of core c that is open in state s, and which a reply in the place of a line after these would decide
-pub record IsCallAdvice (setting : Setting) (before : List Line) (number : ℕ) (s : State) (c : ℕ) (call : Call) (form : Form) (text : List ℕ)
-    : Type 0 where
+pub record IsCallAdvice (setting : Setting) (before : List Line) (number : ℕ) (s : State) (c : ℕ) (call : Call) (form : Form)
+    (text : List ℕ) : Type 0 where
   pub options : List ℕ
   pub are : AreOptions setting before number c call form (replies_of setting.cores (alone s c call) (told s c call)) options
   pub is_text : text ≡ finding_text c call (names_text s c call) (alone s c call) ++ options

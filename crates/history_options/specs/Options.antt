@@ -34,8 +34,8 @@ AreOptions setting before number c call form (r ∷ replies) text =
     × AreOptions setting before number c call form replies rest × (text ≡ option_of goes (with_form c call form r) ++ rest)
 
 -- a text has these after what stood there
-pub record AddsOptions (setting : Setting) (before : List Line) (number c : ℕ) (call : Call) (form : Form) (replies : List Reply) (old new : List ℕ) : Type 0
-  where
-    pub options : List ℕ
-    pub are : AreOptions setting before number c call form replies options
-    pub added : new ≡ old ++ options
+pub record AddsOptions (setting : Setting) (before : List Line) (number c : ℕ) (call : Call) (form : Form) (replies : List Reply)
+    (old new : List ℕ) : Type 0 where
+  pub options : List ℕ
+  pub are : AreOptions setting before number c call form replies options
+  pub added : new ≡ old ++ options
