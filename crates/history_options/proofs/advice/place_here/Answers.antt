@@ -1,6 +1,6 @@
 use Rattle.std.proofs.Common.{◌≡◌, ◌<◌, ◌+◌, ◌∙◌, sym, ap, subst, arith}
 use Rattle.marked_history.specs.Verdicts.{marks_of}
-use Rattle.history_check.specs.Judging.{seen_of}
+use Rattle.history_check.specs.Judging.{seen_of, HasCome}
 use Rattle.history_check.proofs.Cores.{seen_at}
 use Rattle.history_options.specs.Forms.{core_of, DecidesAt}
 use Rattle.history_options.proofs.Places.{place_is, place_can, room}
