@@ -7,4 +7,4 @@
 
 mod run;
 
-pub use run::check;
+pub use run::{check, verdict_text};

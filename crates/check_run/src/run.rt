@@ -32,8 +32,8 @@ fn illegal_text(alloc: Global, line: u32, word: &str) -> Result<String, AllocErr
     Ok(text)
 }
 
-// The text of a verdict.
-fn verdict_text(alloc: Global, verdict: Verdict) -> Result<String, AllocError>
+/// The text of a verdict. It fails only where memory runs out.
+pub fn verdict_text(alloc: Global, verdict: Verdict) -> Result<String, AllocError>
     ensures { IfOk result (λ text. string_bytes text ≡ verdict_text verdict) }
 {
     match verdict {

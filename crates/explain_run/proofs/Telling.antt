@@ -19,3 +19,9 @@ pub refusal_told : {I E : Type 0} (read : Result I First_fault) (Tells : I → L
     → IfOk res (λ t. string_bytes t ≡ fault_text r source line cause) → IfOk res (λ t. IsTold read Tells r source (string_bytes t))
 refusal_told read Tells r source line cause (Ok t) is told = inr record { line = line; cause = cause; is_fault = is; told = told }
 refusal_told read Tells r source line cause (Err e) is told = tt
+
+pub input_told : {I E : Type 0} (read : Result I First_fault) (Tells : I → List ℕ → Type 0) (input : I) (r : Reading) (source : List ℕ)
+    (res : Result (String Global) E) → read ≡ Ok input
+    → IfOk res (λ t. Tells input (string_bytes t)) → IfOk res (λ t. IsTold read Tells r source (string_bytes t))
+input_told read Tells input r source (Ok t) is told = inl record { input = input; is_input = is; tells = told }
+input_told read Tells input r source (Err e) is told = tt

@@ -5,8 +5,8 @@ use Rattle.line_reader.specs.Lines.{First_fault}
 use Rattle.script_reader.specs.Readings.{script_of}
 use Rattle.ends_reader.specs.Inputs.{input_of}
 use Rattle.sched_reader.specs.Inputs.{input_of as sched_input_of}
-use Rattle.check_run.specs.history_reader.specs.Inputs.{history_of}
-use Rattle.check_run.specs.Checked.{IsJudged}
+use Rattle.history_reader.specs.Inputs.{History, history_of}
+use Rattle.history_options.specs.Told.{IsHistoryTold}
 use Rattle.line_forms.specs.declared.context.Reading.{Reading}
 use Rattle.line_forms.specs.declared.context.Reading.TheVariants as reading
 use Rattle.fault_texts.specs.Told.{fault_text}
@@ -39,9 +39,13 @@ IsTold read Tells r source text = IsRead read Tells text ⊎ IsRefused read r so
 abbrev pub IsAccepted : {I : Type 0} → Reading → I → List ℕ → Type 0
 IsAccepted r input text = text ≡ accepted_text r
 
+-- what is told of a given history: that it is legal, or of the first line with which none goes on
+abbrev pub IsToldOf : History → List ℕ → Type 0
+IsToldOf history text = IsHistoryTold history.setup history.lines text
+
 -- what is told of bytes, by what they are to be
 abbrev pub IsExplained : Reading → List ℕ → List ℕ → Type 0
 IsExplained reading.Script source text = IsTold (script_of source) (IsAccepted reading.Script) reading.Script source text
 IsExplained reading.Ends source text = IsTold (input_of source) (IsAccepted reading.Ends) reading.Ends source text
 IsExplained reading.Sched source text = IsTold (sched_input_of source) (IsAccepted reading.Sched) reading.Sched source text
-IsExplained reading.History source text = IsTold (history_of source) IsJudged reading.History source text
+IsExplained reading.History source text = IsTold (history_of source) IsToldOf reading.History source text

@@ -1,5 +1,6 @@
 -- What the crates above name through this one.
 pub use Rattle.line_forms
 pub use Rattle.fault_texts
+pub use Rattle.history_options
 -- Its own.
 pub mod Explained

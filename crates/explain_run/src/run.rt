@@ -2,11 +2,14 @@
 
 ghost use Rattle.std.specs.Prelude.{◌≡◌, ◌<◌, ◌^◌, length, IfOk, string_bytes};
 ghost use Rattle.line_forms.specs.declared.context.Reading.TheVariants as reading;
-ghost use Rattle.explain_run.specs.Explained.{accepted_text, IsExplained};
+ghost use Rattle.history_reader.specs.Inputs.{history_view};
+ghost use Rattle.marked_history.specs.Verdicts.{LinesFit};
+ghost use Rattle.explain_run.specs.Explained.{accepted_text, IsToldOf, IsExplained};
 
-use check_run::check;
 use ends_reader::read_ends;
 use fault_texts::explain_fault;
+use history_options::told;
+use history_reader::{GivenHistory, read_history};
 use line_forms::Reading;
 use line_reader::ReadFault;
 use sched_reader::read_sched;
@@ -67,12 +70,24 @@ fn explain_sched(alloc: Global, source: &[u8]) -> Result<String, AllocError>
     }
 }
 
+// What is told of a given history.
+fn tell_history(alloc: Global, history: &GivenHistory) -> Result<String, AllocError>
+    requires fit { LinesFit history.now.setup.cores history.now.lines.items }
+    requires few { length history.now.lines.items < 2 ^ 32 }
+    ensures { IfOk result (λ text. IsToldOf (history_view history.now) (string_bytes text)) }
+{
+    match told(alloc, &history.setup, &history.lines) {
+        Ok(text) => Ok(text),
+        Err(_) => Err(AllocError),
+    }
+}
+
 fn explain_history(alloc: Global, source: &[u8]) -> Result<String, AllocError>
     requires { length source.now < 2 ^ 32 }
     ensures { IfOk result (λ text. IsExplained reading.History source.now (string_bytes text)) }
 {
-    match check(alloc, source) {
-        Ok(text) => Ok(text),
+    match read_history(alloc, source) {
+        Ok(history) => tell_history(alloc, &history),
         Err(ReadFault::Memory) => Err(AllocError),
         Err(ReadFault::Script { line, cause }) => {
             explain_fault(alloc, Reading::History, source, line, cause)
@@ -81,7 +96,7 @@ fn explain_history(alloc: Global, source: &[u8]) -> Result<String, AllocError>
 }
 
 /// What is told of fewer than 2^32 bytes that a command would read: that they are read, or of their first fault what to do; of a given
-/// history the verdict. It fails only where memory runs out.
+/// history the verdict, and of an illegal one what may stand where it breaks. It fails only where memory runs out.
 pub fn explain(alloc: Global, reading: Reading, source: &[u8]) -> Result<String, AllocError>
     requires { length source.now < 2 ^ 32 }
     ensures { IfOk result (λ text. IsExplained reading source.now (string_bytes text)) }

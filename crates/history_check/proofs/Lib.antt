@@ -1,3 +1,4 @@
 pub mod Cores
 pub mod Marks
 pub mod Lines
+pub mod Ends

@@ -125,7 +125,7 @@ decisions_more marks (Enter d call) = omega arith
 decisions_more marks (Decide d r) = omega arith
 decisions_more marks (Return d) = omega arith
 
-few_entered : (lines : List Line) (c : ℕ) → entered (marks_of lines) c ≤ length lines
+pub few_entered : (lines : List Line) (c : ℕ) → entered (marks_of lines) c ≤ length lines
 few_entered [] c = omega arith
 few_entered (l ∷ lines) c = omega (arith, by_said l.said, few_entered lines c)
   where
@@ -149,10 +149,10 @@ pub record Goes (setting : Setting) (lines : List Line) (i : ℕ) (j : Judge) : 
   pub come : HasCome setting (marks_of (reverse (take i lines))) j
   pub judge : IsJudge j
 
-one_line : (lines : List Line) (i : ℕ) (d : Line) → i < length lines → reverse (take (i + 1) lines) ≡ get_or lines i d ∷ reverse (take i lines)
+pub one_line : (lines : List Line) (i : ℕ) (d : Line) → i < length lines → reverse (take (i + 1) lines) ≡ get_or lines i d ∷ reverse (take i lines)
 one_line lines i d lt = ap reverse (take_more lines i d lt) ∙ reverse-append (take i lines) (get_or lines i d ∷ [])
 
-room_at : (setting : Setting) (lines : List Line) (i : ℕ) → i < length lines → length lines < 2 ^ 32
+pub room_at : (setting : Setting) (lines : List Line) (i : ℕ) → i < length lines → length lines < 2 ^ 32
     → HasRoom (marks_of (reverse (take i lines)))
 room_at setting lines i lt few = record {
   entries = λ c. omega (arith, few_entered (reverse (take i lines)) c, long, lt, few);

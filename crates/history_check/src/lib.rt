@@ -11,8 +11,12 @@
 //! See docs/MODEL.md, 'A given history'.
 #![tactic(auto)]
 
+mod coming;
 mod judge;
 mod seen;
 mod verdicts;
 
+pub use coming::{Finding, come_to, find_break};
+pub use judge::Judge;
+pub use seen::{At, Seen};
 pub use verdicts::verdict;

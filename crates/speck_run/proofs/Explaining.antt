@@ -1,21 +1,24 @@
 -- What is explained goes by what the command that is named makes of the bytes.
-use Rattle.std.proofs.Common.{◌≡◌, ℕ, List, Result, Ok, Err, refl, sym, ◌∙◌, subst, inl, inr}
+use Rattle.std.proofs.Common.{◌≡◌, ℕ, List, [], ◌++◌, Result, Ok, Err, get_or, refl, sym, ◌∙◌, ap, subst, inl, inr, append-nil}
 use Rattle.line_reader.specs.declared.cause.Cause.{Cause}
 use Rattle.line_reader.specs.Lines.{First_fault}
 use Rattle.script_reader.specs.Readings.{script_of}
 use Rattle.ends_reader.specs.Inputs.{input_of}
 use Rattle.one_core.specs.sched_reader.specs.Inputs.{input_of as sched_input_of}
-use Rattle.check_run.specs.history_reader.specs.Inputs.{history_of}
-use Rattle.check_run.specs.Checked.{IsJudged}
+use Rattle.explain_run.specs.history_options.specs.marked_history.specs.declared.marks.Verdict.TheVariants.{Legal, Illegal}
+use Rattle.explain_run.specs.history_options.specs.marked_history.specs.declared.marks.Why.{Why}
+use Rattle.check_run.specs.history_reader.specs.Inputs.{History, history_of}
+use Rattle.check_run.specs.Texts.{verdict_text}
 use Rattle.explain_run.specs.line_forms.specs.declared.context.Reading.{Reading}
 use Rattle.explain_run.specs.line_forms.specs.declared.context.Reading.TheVariants as reading
 use Rattle.explain_run.specs.fault_texts.specs.Told.{rest_text, fault_text}
 use Rattle.explain_run.specs.fault_texts.proofs.Telling.{begins}
-use Rattle.explain_run.specs.Explained.{IsAccepted, IsTold, IsExplained}
+use Rattle.explain_run.specs.history_options.specs.Texts.{said_line}
+use Rattle.explain_run.specs.Explained.{IsAccepted, IsTold, IsToldOf, IsExplained}
 use Rattle.speck_run.specs.declared.words.Command.TheVariants.{Explain}
 use Rattle.speck_run.specs.Script.{MadeBy, AreInput}
 use Rattle.speck_run.specs.Top.{script_line}
-use Rattle.speck_run.specs.Explains.{named, BeginsWith, IsOfFault, TellsTaken, GoesByCommand}
+use Rattle.speck_run.specs.Explains.{named, BeginsWith, IsOfFault, TellsVerdict, TellsTaken, GoesByCommand}
 
 same_fault : {I : Type 0} (f g : First_fault) (r : Result I First_fault) → r ≡ Err f → r ≡ Err g → f ≡ g
 same_fault f g r p q = cc
@@ -60,7 +63,45 @@ refused_of reading.Sched bytes text t = record {
       refused_by (sched_input_of bytes) (IsAccepted reading.Sched) reading.Sched bytes text line cause is t;
 }
 refused_of reading.History bytes text t = record {
-  begins = λ line cause is. refused_by (history_of bytes) IsJudged reading.History bytes text line cause is t;
+  begins = λ line cause is. refused_by (history_of bytes) IsToldOf reading.History bytes text line cause is t;
+}
+
+-- What is told of a given history begins with its verdict: the words of an illegal one are no words of a legal one.
+not_legal : (number decided : ℕ) (w : Why) → verdict_text (Illegal number w) ≡ verdict_text (Legal decided) → ⊥
+not_legal number decided w same = let wrong : 105 ≡ 108 = ap (λ (x : List ℕ). get_or x 0 0) same in cc
+
+verdict_first : (bytes text : List ℕ) (history : History) → history_of bytes ≡ Ok history → IsToldOf history text → TellsVerdict bytes text
+verdict_first bytes text history is (inl t) = record {
+  verdict = verdict_text (Legal t.decided);
+  made = record {
+    input = history;
+    is_input = is;
+    is_text = record { verdict = Legal t.decided; is_verdict = t.legal; text = refl };
+  };
+  begins = record { rest = []; is = t.is_text ∙ sym (append-nil (verdict_text (Legal t.decided))) };
+  alone = λ decided same. t.is_text;
+}
+verdict_first bytes text history is (inr t) = record {
+  verdict = verdict_text (Illegal t.line.number t.why);
+  made = record {
+    input = history;
+    is_input = is;
+    is_text = record {
+      verdict = Illegal t.line.number t.why;
+      is_verdict = record {
+        before = t.before;
+        line = t.line;
+        rest = t.rest;
+        are = t.are;
+        is_number = refl;
+        history = t.history;
+        breaks = t.breaks;
+      };
+      text = refl;
+    };
+  };
+  begins = record { rest = said_line t.line.said ++ t.told.advice; is = t.told.is_text };
+  alone = λ decided same. absurd (not_legal t.line.number decided t.why same);
 }
 
 taken_of : (r : Reading) (bytes text : List ℕ) → IsExplained r bytes text → AreInput (named r) bytes → TellsTaken r bytes text
@@ -70,11 +111,8 @@ taken_of reading.Ends bytes text t a =
     taken_by (input_of bytes) (IsAccepted reading.Ends) reading.Ends bytes text a.input a.is_input t
 taken_of reading.Sched bytes text t a =
     taken_by (sched_input_of bytes) (IsAccepted reading.Sched) reading.Sched bytes text a.input a.is_input t
-taken_of reading.History bytes text t a = record {
-  input = a.input;
-  is_input = a.is_input;
-  is_text = taken_by (history_of bytes) IsJudged reading.History bytes text a.input a.is_input t;
-}
+taken_of reading.History bytes text t a =
+    verdict_first bytes text a.input a.is_input (taken_by (history_of bytes) IsToldOf reading.History bytes text a.input a.is_input t)
 
 pub goes_by_command : (r : Reading) (bytes text : List ℕ) → MadeBy (Explain r) bytes text → GoesByCommand r bytes text
 goes_by_command r bytes text m =

@@ -1,6 +1,8 @@
 -- What `explain` writes, beside what the command that it names writes of the same bytes.
 use Rattle.std.specs.Prelude.{◌≡◌, ◌++◌, ℕ, List}
 use Rattle.line_reader.specs.declared.cause.Cause.{Cause}
+use Rattle.explain_run.specs.history_options.specs.marked_history.specs.declared.marks.Verdict.TheVariants.{Legal}
+use Rattle.check_run.specs.Texts.{verdict_text}
 use Rattle.explain_run.specs.Explained.{accepted_text}
 use Rattle.explain_run.specs.line_forms.specs.declared.context.Reading.{Reading}
 use Rattle.explain_run.specs.line_forms.specs.declared.context.Reading.TheVariants as reading
@@ -25,9 +27,16 @@ pub record BeginsWith (front text : List ℕ) : Type 0 where
 pub record IsOfFault (r : Reading) (bytes text : List ℕ) : Type 0 where
   pub begins : (line : ℕ) (cause : Cause) → IsFaultOf (named r) bytes line cause → BeginsWith (script_line line cause) text
 
--- Of bytes that it takes: that they are taken; of a given history the verdict of `check`.
+-- Of a given history: first what `check` writes of it, and of a legal one that alone.
+pub record TellsVerdict (bytes text : List ℕ) : Type 0 where
+  pub verdict : List ℕ
+  pub made : MadeBy Check bytes verdict
+  pub begins : BeginsWith verdict text
+  pub alone : (decided : ℕ) → verdict ≡ verdict_text (Legal decided) → text ≡ verdict
+
+-- Of bytes that it takes: that they are taken; of a given history the verdict.
 abbrev pub TellsTaken : Reading → List ℕ → List ℕ → Type 0
-TellsTaken reading.History bytes text = MadeBy Check bytes text
+TellsTaken reading.History bytes text = TellsVerdict bytes text
 TellsTaken r bytes text = text ≡ accepted_text r
 
 -- What `explain` makes of bytes goes by what the command that it names makes of them.

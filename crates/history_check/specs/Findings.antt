@@ -1,0 +1,19 @@
+-- Where lines are no history any more.
+use Rattle.std.specs.Prelude.{◌≡◌, ◌<◌, ℕ, List, reverse, take, length, get_or}
+use Rattle.spk_nums.specs.Setting.{Setting}
+use Rattle.marked_history.specs.declared.marks.Line.{Line}
+use Rattle.marked_history.specs.declared.marks.Why.{Why}
+use Rattle.marked_history.specs.Verdicts.{marks_of, AreHistory, LineBreaks, AreLegal}
+use Rattle.history_check.specs.declared.coming.Finding.{Finding}
+use Rattle.history_check.specs.declared.coming.Finding.TheVariants.{Legal, Broken}
+
+-- The first i lines are a history, and none goes on with the line after them.
+pub record BreaksAfter (setting : Setting) (lines : List Line) (i : ℕ) (w : Why) : Type 0 where
+  pub within : i < length lines
+  pub history : AreHistory setting (reverse (take i lines))
+  pub breaks : (line : Line) → line ≡ get_or lines i line → LineBreaks setting (marks_of (reverse (take i lines))) line.said w
+
+-- What is found of lines.
+abbrev pub IsFinding : Setting → List Line → Finding → Type 0
+IsFinding setting lines (Legal decided) = AreLegal setting lines decided
+IsFinding setting lines (Broken i w) = BreaksAfter setting lines i w

@@ -1,0 +1,47 @@
+-- Texts and lists of replies, one piece after another.
+use Rattle.std.proofs.Common.{◌≡◌, ℕ, suc, ◌+◌, ◌<◌, ◌≤◌, List, [], ◌∷◌, ◌++◌, Bool, length, drop, get_or, append_assoc, append-nil}
+use Rattle.std.proofs.Common.{refl, sym, ◌∙◌, ap, subst, arith}
+use Rattle.std.proofs.lemmas.List.{drop_more, drop_all}
+use Rattle.spk_nums.specs.Setting.{Setting}
+use Rattle.spk_nums.specs.declared.calls.Call.{Call}
+use Rattle.spk_nums.specs.declared.replies.Reply.{Reply}
+use Rattle.marked_history.specs.declared.marks.Line.{Line}
+use Rattle.history_options.specs.declared.forms.Form.{Form}
+use Rattle.history_options.specs.Forms.{with_form}
+use Rattle.history_options.specs.Replies.{core_replies, below_replies}
+use Rattle.history_options.specs.Options.{GoesOn, option_of, AreOptions, AddsOptions}
+
+-- those of one core more
+pub cores_more : (n : ℕ) (old all new : List Reply) → all ≡ old ++ below_replies n → new ≡ all ++ core_replies n
+    → new ≡ old ++ below_replies (n + 1)
+cores_more n old all new before push =
+    let next : suc n ≡ n + 1 = omega arith in
+    push ∙ ap (λ (x : List Reply). x ++ core_replies n) before ∙ append_assoc old (below_replies n) (core_replies n)
+    ∙ ap (λ (k : ℕ). old ++ below_replies k) next
+
+module _ (setting : Setting) (before : List Line) (number c : ℕ) (call : Call) (form : Form) (replies : List Reply) (old : List ℕ) where
+  -- with what is due of the replies from the one at i on, the text has what is due of all
+  abbrev pub Adding : ℕ → List ℕ → Type 0
+  Adding i text = (rest : List ℕ) → AreOptions setting before number c call form (drop i replies) rest
+      → AddsOptions setting before number c call form replies old (text ++ rest)
+
+  pub adding_more : (i : ℕ) (d : Reply) (goes : Bool) (text new : List ℕ) → i < length replies → d ≡ get_or replies i d
+      → GoesOn setting before number (with_form c call form d) goes → new ≡ text ++ option_of goes (with_form c call form d)
+      → Adding i text → Adding (i + 1) new
+  adding_more i d goes text new lt is so push adding rest are =
+      let here : d ∷ drop (i + 1) replies ≡ drop i replies =
+      ap (λ (x : Reply). x ∷ drop (i + 1) replies) is ∙ sym (drop_more replies i d lt) in
+      let option = option_of goes (with_form c call form d) in
+      let all = subst (λ (rs : List Reply). AreOptions setting before number c call form rs (option ++ rest)) here
+      (goes, (rest, (so, (are, refl)))) in
+      subst (AddsOptions setting before number c call form replies old)
+      (sym (append_assoc text option rest) ∙ ap (λ (x : List ℕ). x ++ rest) (sym push)) (adding _ all)
+
+  pub adding_end : (i : ℕ) (text : List ℕ) → length replies ≤ i → Adding i text
+      → AddsOptions setting before number c call form replies old text
+  adding_end i text past adding =
+      subst (AddsOptions setting before number c call form replies old) (append-nil text)
+      (adding [] (subst (λ (rs : List Reply). AreOptions setting before number c call form rs []) (sym (drop_all i replies past)) refl))
+
+  pub adding_none : Adding 0 old
+  adding_none rest are = record { options = rest; are = are; added = refl }

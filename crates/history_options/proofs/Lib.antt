@@ -1,0 +1,4 @@
+pub mod Adding
+pub mod Places
+pub mod Within
+pub mod Every

@@ -1,0 +1,10 @@
+//! A law of what is told.
+
+ghost use Rattle.history_options.specs.Every.{EveryReplyIsTried};
+
+/// A law: after a history, each reply that may decide a call which is open there is one of those that are tried of it. So a line with a
+/// reply that is not told of may not stand there.
+#[tactic(auto, using(crate::proofs::Every::every_reply))]
+pub fn every_reply_is_tried()
+    ensures { EveryReplyIsTried }
+{}

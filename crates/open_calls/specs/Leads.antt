@@ -1,0 +1,35 @@
+-- What the names of a call lead to.
+use Rattle.std.specs.Prelude.{ℕ, List, [], ◌++◌, Option, Some, None, codes, decimal}
+use Rattle.spk_nums.specs.Capability.{Capability}
+use Rattle.spk_nums.specs.Texts.{cap_text, reply_text}
+use Rattle.spk_nums.specs.declared.calls.Call.{Call}
+use Rattle.kernel_rules.specs.State.{State}
+use Rattle.kernel_rules.specs.Access.{any, to_look}
+use Rattle.kernel_rules.specs.Rules.{Judged, Refused, Found, named}
+use Rattle.call_plans.specs.declared.plans.Nth.TheVariants.{First, Second, Third, Fourth}
+use Rattle.call_plans.specs.declared.plans.Name.{Name}
+use Rattle.call_plans.specs.Plans.{at_place}
+use Rattle.call_plans.specs.PlanOf.{plan_for}
+
+-- the capability to which a number leads core c, of whichever kind and with whichever rights: what a `look` of it would find
+abbrev pub lead : State → ℕ → ℕ → Judged Capability
+lead s c n = named s c n (to_look any)
+
+-- what was found, or why nothing was: `no-slot` or `empty`
+abbrev pub lead_text : Judged Capability → List ℕ
+lead_text (Found k) = cap_text k
+lead_text (Refused r) = codes "nothing: " ++ reply_text r
+
+-- the line that tells it
+abbrev pub lead_line : ℕ → Judged Capability → List ℕ
+lead_line n found = decimal n ++ codes " leads to " ++ lead_text found ++ codes "\n"
+
+-- that of a name, if there is one
+abbrev pub some_name : State → ℕ → Option Name → List ℕ
+some_name s c None = []
+some_name s c (Some name) = lead_line name.number (lead s c name.number)
+
+-- a line for each name of a call, in their order
+abbrev pub names_text : State → ℕ → Call → List ℕ
+names_text s c call = some_name s c (at_place (plan_for call).names First) ++ some_name s c (at_place (plan_for call).names Second)
+    ++ some_name s c (at_place (plan_for call).names Third) ++ some_name s c (at_place (plan_for call).names Fourth)
