@@ -3,10 +3,10 @@
 //! A function over a type parameter `K: Names` handles the machine that K names: `K.kernel` is that machine's kernel, whichever the caller's
 //! is. The caller passes `Brand` for K, and its proof picks the kernel (docs/EMBEDDING.md, 'Ports in a list').
 
-ghost use Rattle.std.specs.Prelude.{◌≡◌, ◌<◌, ◌+◌, ◌↔◌, ◌++◌, ◌∷◌, [], length, Some, IsSome, IfOk, IfErr, IfSome, MatchOption};
+ghost use Rattle.std.specs.Prelude.{◌≡◌, ◌<◌, ◌+◌, ◌↔◌, ◌++◌, ◌∷◌, ℕ, [], length, slice_get, Some, IsSome, IfOk, IfErr, IfSome, MatchOption};
 ghost use Rattle.spk_nums.specs.CallLimits.{InLimits};
 ghost use Rattle.core_kernel.specs.Calls.{HasSeen, MakesCall, Meets};
-ghost use Rattle.core_machine.specs.Seats.{IsDealt};
+ghost use Rattle.core_machine.specs.Seats.{IsDealt, IsDealtAfter};
 
 use crate::port::Port;
 use crate::seats::Seats;
@@ -123,14 +123,17 @@ impl<K: Names> SeatsOf<K> {
         }
     }
 
-    /// The ports that are not dealt yet, core 0's first. It fails only where memory runs out; those that were dealt by then are gone.
-    pub fn deal_all(&mut self, alloc: Global) -> Result<Vec<PortOf<K>>, AllocError> {
-        let mut ports = Vec::with_capacity(alloc, 8)?;
-        'cores: for _core in 0..8 {
-            match self.deal() {
-                Some(port) => ports.push(port)?,
-                None => {}
-            }
+    /// All ports that are not dealt yet, in the order of their cores. It fails only where memory runs out, and then deals none.
+    pub fn deal_all(&mut self, alloc: Global) -> Result<Vec<PortOf<K>>, AllocError>
+        ensures count { IfOk result (λ v. self.old.seats.dealt + length v.items ≡ self.old.seats.kernel.setup.cores) }
+        ensures each { IfOk result (λ v. (k : ℕ) (p : _) → slice_get v.items k ≡ Some p → IsDealtAfter k self.old.seats p.port) }
+        ensures dealt { IfOk result (λ _. self.new.seats.dealt ≡ self.old.seats.kernel.setup.cores) }
+        ensures back { IfOk result (λ _. self.new.seats.back ≡ self.old.seats.back) }
+        ensures kept { IfErr result (λ _. self.new.seats ≡ self.old.seats) }
+    {
+        let mut ports = Vec::with_capacity(alloc, self.seats.left())?;
+        'cores: while let Some(port) = self.deal() {
+            ports.push_reserved(port);
         }
         Ok(ports)
     }
