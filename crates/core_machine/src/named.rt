@@ -112,6 +112,7 @@ impl<K: Names> SeatsOf<K> {
         ensures dealt { MatchOption result (self.new.seats.dealt ≡ self.old.seats.dealt)
             (λ _. self.new.seats.dealt ≡ self.old.seats.dealt + 1) }
         ensures port { IfSome result (λ p. IsDealt self.old.seats p.port) }
+        ensures kernel { self.new.seats.kernel ≡ self.old.seats.kernel }
         ensures back { self.new.seats.back ≡ self.old.seats.back }
     {
         match self.seats.deal() {
@@ -128,7 +129,8 @@ impl<K: Names> SeatsOf<K> {
         ensures count { IfOk result (λ v. self.old.seats.dealt + length v.items ≡ self.old.seats.kernel.setup.cores) }
         ensures each { IfOk result (λ v. (k : ℕ) (p : _) → slice_get v.items k ≡ Some p → IsDealtAfter k self.old.seats p.port) }
         ensures dealt { IfOk result (λ _. self.new.seats.dealt ≡ self.old.seats.kernel.setup.cores) }
-        ensures back { IfOk result (λ _. self.new.seats.back ≡ self.old.seats.back) }
+        ensures kernel { self.new.seats.kernel ≡ self.old.seats.kernel }
+        ensures back { self.new.seats.back ≡ self.old.seats.back }
         ensures kept { IfErr result (λ _. self.new.seats ≡ self.old.seats) }
     {
         let mut ports = Vec::with_capacity(alloc, self.seats.left())?;
@@ -142,6 +144,8 @@ impl<K: Names> SeatsOf<K> {
     pub fn take_back(&mut self, port: PortOf<K>) -> Result<(), PortOf<K>>
         ensures taken { IfOk result (λ _. (port.port.core ≡ length self.old.seats.back)
             × (self.new.seats.back ≡ self.old.seats.back ++ port.port ∷ [])) }
+        ensures kernel { self.new.seats.kernel ≡ self.old.seats.kernel }
+        ensures dealt { self.new.seats.dealt ≡ self.old.seats.dealt }
         ensures given_back { IfErr result (λ p. (p.port ≡ port.port) × (self.new.seats ≡ self.old.seats)) }
     {
         if usize::from(port.port.core().number()) != self.seats.returned() {
