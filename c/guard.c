@@ -1,11 +1,11 @@
 /*
  * The functions of speck.h: a guard around each proved export of crates/speck_c.
  *
- * A slot has two words before what the proved export sees of it. The first is 1 while a call has the slot: it is set by one atomic
+ * A slot has three words before what the proved export sees of it. The first is 1 while a call has the slot: it is set by one atomic
  * exchange before the export is called and cleared after it has returned, so a call that comes meanwhile, from a handler or another
- * thread, finds 1 and touches nothing else. The second tells machines apart: each boot draws a number, which its ports and their notes
- * carry on. With both the guards see to what the exports ask of their callers: that a slot is theirs alone while they run, and that a
- * note or a port is of the machine.
+ * thread, finds 1 and touches nothing else. The others tell machines apart: what the slot was last filled with, and of which machine that
+ * is. Each boot draws a number, which its ports and their notes carry on. With all three the guards see to what the exports ask of their
+ * callers: that a slot is theirs alone while they run, and that a note or a port is of the machine.
  *
  * That an export's own parameter holds such a word is not possible: what is exported to C may hold no atomic.
  */
@@ -14,7 +14,9 @@
 /* A slot as the exports see it. */
 struct held { _Bool full; void *at; };
 
-struct guarded { uint64_t in_call, machine; struct held held; };
+enum kind { OTHER, MACHINE, PORT, NOTE };
+
+struct guarded { uint32_t in_call, kind; uint64_t machine; struct held held; };
 
 _Static_assert(sizeof(struct guarded) == sizeof(struct speck_port), "a slot has the guard's words and what is held");
 
@@ -39,9 +41,15 @@ static uint8_t leave_both(struct guarded *one, struct guarded *other, uint8_t co
     return code;
 }
 
-/* Whether what both hold is of different machines. */
-static int apart(const struct guarded *one, const struct guarded *other) {
-    return one->held.full && other->held.full && one->machine != other->machine;
+/* Says of what has been put into a slot what it is and of which machine, where the code is SPECK_OK; and answers the code. */
+static uint8_t filled(struct guarded *slot, uint8_t code, enum kind kind, uint64_t machine) {
+    if (code == SPECK_OK) slot->kind = kind, slot->machine = machine;
+    return code;
+}
+
+/* Whether these two are held, and of different machines. */
+static int apart(const struct guarded *one, enum kind first, const struct guarded *other, enum kind second) {
+    return one->held.full && other->held.full && one->kind == first && other->kind == second && one->machine != other->machine;
 }
 
 /* A reply as it is returned on this processor, in two registers; so no guard puts it into memory and reads it again. */
@@ -120,7 +128,7 @@ static uint64_t boots;
 
 /* Gives a machine that has booted its number. */
 static uint8_t booted(struct guarded *machine, uint8_t code) {
-    if (code == SPECK_OK) machine->machine = __atomic_add_fetch(&boots, 1, __ATOMIC_RELAXED);
+    if (code == SPECK_OK) filled(machine, code, MACHINE, __atomic_add_fetch(&boots, 1, __ATOMIC_RELAXED));
     leave(machine);
     return code;
 }
@@ -143,8 +151,7 @@ uint8_t speck_deal(struct speck_machine *machine, struct speck_port *port) {
     if (!machine || !port) return SPECK_NOTHING_HELD;
     uint8_t code = enter_both(GUARD(machine), GUARD(port));
     if (code != SPECK_OK) return code;
-    code = speck_inner_deal(HELD(machine), HELD(port));
-    if (code == SPECK_OK) GUARD(port)->machine = GUARD(machine)->machine;
+    code = filled(GUARD(port), speck_inner_deal(HELD(machine), HELD(port)), PORT, GUARD(machine)->machine);
     return leave_both(GUARD(machine), GUARD(port), code);
 }
 
@@ -152,7 +159,7 @@ uint8_t speck_take_back(struct speck_machine *machine, struct speck_port *port) 
     if (!machine || !port) return SPECK_NOTHING_HELD;
     uint8_t code = enter_both(GUARD(machine), GUARD(port));
     if (code != SPECK_OK) return code;
-    code = apart(GUARD(machine), GUARD(port)) ? SPECK_OTHER_MACHINE : speck_inner_take_back(HELD(machine), HELD(port));
+    code = apart(GUARD(machine), MACHINE, GUARD(port), PORT) ? SPECK_OTHER_MACHINE : speck_inner_take_back(HELD(machine), HELD(port));
     return leave_both(GUARD(machine), GUARD(port), code);
 }
 
@@ -160,14 +167,16 @@ uint8_t speck_finish(struct speck_machine *machine, struct speck_final *last) {
     if (!machine || !last) return SPECK_NOTHING_HELD;
     uint8_t code = enter_both(GUARD(machine), GUARD(last));
     if (code != SPECK_OK) return code;
-    return leave_both(GUARD(machine), GUARD(last), speck_inner_finish(HELD(machine), HELD(last)));
+    code = filled(GUARD(last), speck_inner_finish(HELD(machine), HELD(last)), OTHER, 0);
+    return leave_both(GUARD(machine), GUARD(last), code);
 }
 
 uint8_t speck_show(struct speck_final *last, struct speck_text *text) {
     if (!last || !text) return SPECK_NOTHING_HELD;
     uint8_t code = enter_both(GUARD(last), GUARD(text));
     if (code != SPECK_OK) return code;
-    return leave_both(GUARD(last), GUARD(text), speck_inner_show(HELD(last), HELD(text)));
+    code = filled(GUARD(text), speck_inner_show(HELD(last), HELD(text)), OTHER, 0);
+    return leave_both(GUARD(last), GUARD(text), code);
 }
 
 /* The parts of a finished machine. */
@@ -198,8 +207,7 @@ uint8_t speck_note(struct speck_port *port, struct speck_note *note) {
     if (!port || !note) return SPECK_NOTHING_HELD;
     uint8_t code = enter_both(GUARD(port), GUARD(note));
     if (code != SPECK_OK) return code;
-    code = speck_inner_note(HELD(port), HELD(note));
-    if (code == SPECK_OK) GUARD(note)->machine = GUARD(port)->machine;
+    code = filled(GUARD(note), speck_inner_note(HELD(port), HELD(note)), NOTE, GUARD(port)->machine);
     return leave_both(GUARD(port), GUARD(note), code);
 }
 
@@ -207,7 +215,7 @@ uint8_t speck_meet(struct speck_port *port, struct speck_note *note) {
     if (!port || !note) return SPECK_NOTHING_HELD;
     uint8_t code = enter_both(GUARD(port), GUARD(note));
     if (code != SPECK_OK) return code;
-    code = apart(GUARD(port), GUARD(note)) ? SPECK_OTHER_MACHINE : speck_inner_meet(HELD(port), HELD(note));
+    code = apart(GUARD(port), PORT, GUARD(note), NOTE) ? SPECK_OTHER_MACHINE : speck_inner_meet(HELD(port), HELD(note));
     return leave_both(GUARD(port), GUARD(note), code);
 }
 

@@ -36,8 +36,12 @@ static volatile unsigned in_call, looked, unlike;
 static void on_signal(int number) {
     (void)number;
     struct speck_reply reply = speck_look(&port[0], 0);
-    if (reply.code == SPECK_IN_CALL) in_call++;
-    else if (reply.code == SPECK_OK && reply.frame == 8) looked++;
+    if (reply.code == SPECK_IN_CALL) {
+        in_call++;
+        if (speck_free_port(&port[0]) != SPECK_IN_CALL || speck_take_back(&machine, &port[0]) != SPECK_IN_CALL) unlike++;
+        if (speck_note(&port[0], &note) != SPECK_IN_CALL || speck_core(&port[0]) != SPECK_IN_CALL) unlike++;
+        if (speck_deal(&machine, &port[0]) != SPECK_IN_CALL || speck_meet(&port[0], &note) != SPECK_IN_CALL) unlike++;
+    } else if (reply.code == SPECK_OK && reply.frame == 8) looked++;
     else unlike++;
 }
 
@@ -74,6 +78,21 @@ static void from_two_threads(void) {
     tell("two threads at one port: answers of another kind", (int)(wrong_answers[0] + wrong_answers[1]));
 }
 
+/* Each function at no slot, and where it has two at no second one: how many answer otherwise than by SPECK_NOTHING_HELD. */
+static int at_no_slot(void) {
+    struct speck_size size;
+    uint8_t answers[] = {
+        speck_boot(0, 1, 16, 100), speck_boot_with(0, 16, 1, 1, 0, 0), speck_deal(0, &port[0]), speck_deal(&machine, 0),
+        speck_take_back(0, &port[0]), speck_take_back(&machine, 0), speck_finish(0, &last), speck_finish(&machine, 0),
+        speck_free_machine(0), speck_free_port(0), speck_free_note(0), speck_free_final(0), speck_free_text(0), speck_core(0),
+        speck_note(0, &note), speck_note(&port[0], 0), speck_meet(0, &note), speck_meet(&port[0], 0), speck_read_size(0, &size),
+        speck_show(0, &tables), speck_show(&last, 0), speck_tick(0, 1).code, speck_send(0, 1).code,
+    };
+    int others_of_them = 0;
+    for (size_t at = 0; at < sizeof answers; at++) others_of_them += answers[at] != SPECK_NOTHING_HELD;
+    return others_of_them;
+}
+
 /* Parts that are none: what is to be written stays as it was. */
 static void parts(void) {
     struct speck_capability cap = { .frame = 77 };
@@ -85,6 +104,20 @@ static void parts(void) {
     tell("a height with no component", speck_read_stack(&last, 4, 1, &frame));
     tell("nowhere to write to", speck_read_entry(&last, 0, 0, 0));
     tell("a part of a text", speck_read_entry((struct speck_final *)&tables, 0, 0, &cap));
+    tell("a root past the last", speck_read_under(&last, 32, 0, &cap));
+    tell("a number past 4,095", speck_read_under(&last, 0, 4096, &cap));
+    tell("a height past 15", speck_read_stack(&last, 4, 16, &frame));
+    struct speck_quality quality;
+    struct speck_life life;
+    struct speck_core_end core;
+    int32_t count;
+    uint32_t budget;
+    tell("a place past 7", speck_read_quality(&last, 6, 8, &quality));
+    tell("a liveness number past 63", speck_read_live(&last, 64, &life));
+    tell("a liveness number never named", speck_read_live(&last, 63, &life));
+    tell("a core past the last", speck_read_core(&last, 2, &core));
+    tell("its count", speck_read_count(&last, 0, 2, &count));
+    tell("the budget of a thread", speck_read_budget(&last, 4, &budget));
     tell("written", cap.frame != 77 || frame != 77);
 }
 
@@ -125,11 +158,18 @@ int main(void) {
     tell("booted into a full slot", speck_boot(&machine, 2, 32, 100));
     tell("one port more", speck_deal(&machine, &empty));
     tell("a port dealt into a full slot", speck_deal(&machine, &port[0]));
+    tell("at no slot, answered otherwise", at_no_slot());
     tell("a call at the slot of a machine", speck_look((struct speck_port *)&machine, 0).code);
     tell("one slot given twice", speck_note(&port[0], (struct speck_note *)&port[0]));
+    tell("a machine's slot given twice", speck_deal(&machine, (struct speck_port *)&machine));
     tell("rights outside the limits", speck_copy(&port[0], 0, 1, 20, 4).code);
     tell("too many ticks", speck_tick(&port[0], 1000001).code);
     tell("a kind that is none", speck_retype(&port[0], 0, 20, 3).code);
+    tell("flags outside the limits", speck_map(&port[0], 2, 0, 0, 20, 4).code);
+    tell("a scheduler past 63 made", speck_make_tcap(&port[0], 64, 1, 0, 20, 1, 20).code);
+    tell("a quality of 0 made", speck_make_tcap(&port[0], 0, 0, 0, 20, 1, 20).code);
+    tell("a quality past the last made", speck_make_tcap(&port[0], 0, 16777216, 0, 20, 1, 20).code);
+    tell("a liveness number past 63 made", speck_make_comp(&port[0], 1, 2, 64, 0, 20, 1, 20).code);
     tell("nothing wrong where each allocation fails in turn", from_a_full_heap());
     tell("cores, frames, budget outside the limits",
         speck_boot(&other, 9, 32, 100) * 1000000 + speck_boot(&other, 2, 7, 100) * 1000 + speck_boot(&other, 2, 32, 500000001));
@@ -138,6 +178,7 @@ int main(void) {
     tell("no grants", speck_boot_with(&other, 32, 1, 1, 0, 0));
     tell("no list of grants", speck_boot_with(&other, 32, 1, 1, 0, 1));
     tell("nine cores", speck_boot_with(&other, 32, 1, 1, grants, 9));
+    tell("too many frames, and a scheduler past 63", speck_boot_with(&other, 513, 1, 1, grants, 1));
     tell("a scheduler past 63", speck_boot_with(&other, 32, 1, 1, grants, 1));
     grants[0].sched = 63;
     grants[0].quality = 0;
@@ -151,6 +192,10 @@ int main(void) {
     tell("another machine", speck_boot(&other, 1, 16, 100) | speck_deal(&other, &others) | speck_note(&others, &of_other));
     tell("its note met", speck_meet(&port[0], &of_other));
     tell("its port taken back", speck_take_back(&machine, &others));
+    tell("its port in the place of a note", speck_meet(&port[0], (struct speck_note *)&others));
+    tell("its note in the place of a port", speck_take_back(&machine, (struct speck_port *)&of_other));
+    tell("its port in the place of a machine", speck_take_back((struct speck_machine *)&others, &port[0]));
+    tell("in the place of one that is finished", speck_finish((struct speck_machine *)&others, &last));
     tell("the note is still there, and met by its own port", speck_meet(&others, &of_other));
     tell("finished before a port is back", speck_finish(&machine, &last));
     tell("the other's port can still make calls", speck_look(&others, 0).code);
@@ -175,11 +220,15 @@ int main(void) {
     tell("the other machine is still there", speck_finish(&other, &other_last));
     parts();
     tell("the text", speck_show(&last, &tables));
+    tell("what is finished, taken back", speck_take_back(&machine, (struct speck_port *)&last));
+    tell("a final's slot given twice", speck_show(&last, (struct speck_text *)&last));
     tell("a text into a full slot", speck_show(&other_last, &tables));
     uint8_t bytes[4096] = {0};
     uint64_t length = speck_read(&tables, 0, sizeof bytes);
     tell("its length, read to nowhere", length > 0 && length == speck_read(&tables, bytes, sizeof bytes) && bytes[length - 1] == '\n');
     tell("the length of no text", (int)speck_read((struct speck_text *)&empty, bytes, sizeof bytes));
     tell("of a slot that holds nothing", speck_show((struct speck_final *)&empty, (struct speck_text *)&machine));
+    tell("freed, and once more", speck_free_text(&tables) | speck_free_text(&tables));
+    tell("a text that was freed", (int)speck_read(&tables, bytes, sizeof bytes));
     return speck_free_text(&tables) | speck_free_final(&last) | speck_free_final(&other_last);
 }

@@ -77,8 +77,9 @@
  *     }
  *
  * where `have_flushed(n)` is `speck_flush(port)` where n is `speck_core(port)`, and else asks the thread that has core n's port, or sends
- * core n an interrupt whose handler makes the flush, or, told SPECK_IN_CALL, leaves it to be made after the call in progress. A `tick`
- * that lost a race is made again with 0 ticks: its own are owed already.
+ * core n an interrupt whose handler makes the flush, or, told SPECK_IN_CALL, leaves it to be made after the call in progress. Who asks and
+ * waits makes the flushes that it is asked for meanwhile; and where core n's thread has ended, whoever has its port makes its flush. A
+ * `tick` that lost a race is made again with 0 ticks: its own are owed already. Each turn counts among the calls that a core may make.
  *
  * IN RING 0. `c/build --kernel` makes the library without a red zone and without SSE: then an interrupt may be taken in the midst of a
  * call, on the same stack, by a handler that keeps the general registers alone. As built without --kernel, take interrupts on a stack of
@@ -180,8 +181,9 @@ enum {
 /* What a caller may do. */
 enum {
     SPECK_ADVICE_DONE = 0,         /* nothing: it was carried out */
-    SPECK_ADVICE_CHANGE = 1,       /* ask for something else. SPECK_DEAD of speck_kill and speck_call with this advice: what was named is dead,
-                                    * so choose another; but where a look then answers SPECK_DEAD too, it is the core's own component */
+    SPECK_ADVICE_CHANGE = 1,       /* ask for something else; the codes from 240 on have it too. SPECK_DEAD of speck_kill and speck_call with
+                                    * this advice: what was named is dead, so choose another; but where a look then answers SPECK_DEAD too,
+                                    * it is the core's own component */
     SPECK_ADVICE_GIVE_UP = 2,      /* the core makes no further call */
     SPECK_ADVICE_RELEASE = 3,      /* have `n` references released */
     SPECK_ADVICE_AWAIT_RETURN = 4, /* wait until core `n` has returned from its call, then ask again */
@@ -226,7 +228,8 @@ struct speck_grant { uint32_t budget; uint32_t quality; uint8_t sched; };
 uint8_t speck_boot_with(struct speck_machine *machine, uint16_t frames, uint32_t calls, uint16_t epochs,
     const struct speck_grant *grants, size_t cores);
 
-/* Each empties its slot, and answers SPECK_OK, also where it was empty; or SPECK_IN_CALL. */
+/* Each empties its slot, whatever it holds, and answers SPECK_OK, also where it was empty; or SPECK_NOTHING_HELD of a slot that is null, or
+ * SPECK_IN_CALL. */
 uint8_t speck_free_machine(struct speck_machine *machine);
 uint8_t speck_free_port(struct speck_port *port);
 uint8_t speck_free_note(struct speck_note *note);

@@ -1,10 +1,10 @@
 -- Seats that are taken from the end of all seats of a kernel, and stand as ports in the opposite order; ports that come back.
-use Rattle.std.proofs.Common.{◌≡◌, ◌⊎◌, ℕ, zero, suc, ◌+◌, List, [], ◌∷◌, ◌++◌, length, slice_get, Option, Some, None}
+use Rattle.std.proofs.Common.{◌≡◌, ◌<◌, ◌≤◌, ◌⊎◌, ℕ, zero, suc, ◌+◌, List, [], ◌∷◌, ◌++◌, length, slice_get, Option, Some, None}
 use Rattle.std.proofs.Common.{◌-◌, refl, sym, ap, ◌∙◌, subst, ⊎_elim, inl, inr, arith, append-nil, option_to_list, IfSome}
 use Rattle.std.proofs.lemmas.List.{length-append}
 use Rattle.core_kernel.specs.Kernel.{KernelValue, CoreSeatValue}
 use Rattle.spk_nums.specs.Setting.{Setting}
-use Rattle.core_machine.specs.Seats.{IsDealt, IsLeft, IsBack, HasSeats}
+use Rattle.core_machine.specs.Seats.{SeatsValue, IsDealt, IsDealtAfter, IsLeft, IsBack, HasSeats}
 
 -- The first seats of the kernel are still there, and the others stand in the opposite order.
 pub record AreTurned (of : KernelValue) (seats ports : List CoreSeatValue) : Type 0 where
@@ -94,3 +94,61 @@ dealt_port of setup here left back (Some s) same is h =
     let core = last.core in
     record { kernel = last.kernel; core = omega arith; fresh = last.fresh }
 dealt_port of setup here left back None same is h = tt
+
+module _ {A : Type 0} where
+  -- The first of the ports that were not dealt at the start are dealt, of so many that there were.
+  pub record AreFirst (of : A → CoreSeatValue) (start now : SeatsValue) (room : ℕ) (ports : List A) : Type 0 where
+    pub all : start.dealt + room ≡ start.kernel.setup.cores
+    pub kernel : now.kernel ≡ start.kernel
+    pub back : now.back ≡ start.back
+    pub dealt : now.dealt ≡ start.dealt + length ports
+    pub few : length ports ≤ room
+    pub each : (k : ℕ) (p : A) → slice_get ports k ≡ Some p → IsDealtAfter k start (of p)
+
+  -- none yet
+  pub none_yet : (of : A → CoreSeatValue) (start : SeatsValue) (room left : ℕ) (ports : List A) → ports ≡ [] → room ≡ left
+      → start.dealt + left ≡ start.kernel.setup.cores → AreFirst of start start room ports
+  none_yet of start room left ports is size all = record {
+    all = omega arith;
+    kernel = refl;
+    back = refl;
+    dealt = let len = ap length is in omega arith;
+    few = let len = ap length is in omega arith;
+    each = λ k p e. absurd (none_there k p (subst (λ l. slice_get l k ≡ Some p) is e));
+  } where
+    none_there : (k : ℕ) (p : A) → slice_get [] k ≡ Some p → ⊥
+    none_there k p e = cc
+
+  -- one more
+  pub one_more : (of : A → CoreSeatValue) (start now next : SeatsValue) (room : ℕ) (ports more : List A) (p : A) → more ≡ ports ++ p ∷ []
+      → next.kernel ≡ now.kernel → next.back ≡ now.back → next.dealt ≡ now.dealt + 1 → now.dealt < now.kernel.setup.cores
+      → IsDealt now (of p) → AreFirst of start now room ports → AreFirst of start next room more
+  one_more of start now next room ports more p is same back on inside dealt a =
+    let size = ap length is ∙ length-append ports (p ∷ []) in
+    let cores = ap (λ k. k.setup.cores) a.kernel in
+    let all = a.all in let kernel = a.kernel in let before = a.dealt in let core = dealt.core in record {
+      all = all;
+      kernel = same ∙ kernel;
+      back = back ∙ a.back;
+      dealt = omega arith;
+      few = omega arith;
+      each = each_pushed (λ k q. IsDealtAfter k start (of q)) ports p more is a.each
+        (record { kernel = dealt.kernel ∙ kernel; core = core ∙ before; fresh = dealt.fresh });
+    }
+
+  -- there is room for one more
+  pub room_left : (of : A → CoreSeatValue) (start now : SeatsValue) (room : ℕ) (ports : List A) → now.dealt < now.kernel.setup.cores
+      → AreFirst of start now room ports → length ports < room
+  room_left of start now room ports inside a =
+    let all = a.all in let cores = ap (λ k. k.setup.cores) a.kernel in let dealt = a.dealt in omega arith
+
+  pub fewer_left : (room now : ℕ) (ports more : List A) (p : A) → more ≡ ports ++ p ∷ [] → now ≡ room → length ports < room
+      → now - length more < room - length ports
+  fewer_left room now ports more p is same inside = let size = ap length is ∙ length-append ports (p ∷ []) in omega arith
+
+  -- all of them
+  pub all_dealt : (of : A → CoreSeatValue) (start now next : SeatsValue) (room : ℕ) (ports : List A) → ¬ now.dealt < now.kernel.setup.cores
+      → next.dealt ≡ now.dealt → AreFirst of start now room ports
+      → (start.dealt + length ports ≡ start.kernel.setup.cores) × (next.dealt ≡ start.kernel.setup.cores)
+  all_dealt of start now next room ports none same a =
+    let all = a.all in let cores = ap (λ k. k.setup.cores) a.kernel in let dealt = a.dealt in let few = a.few in (omega arith, omega arith)

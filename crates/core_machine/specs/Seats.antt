@@ -14,6 +14,12 @@ pub record IsDealt (seats : SeatsValue) (port : CoreSeatValue) : Type 0 where
   pub core : port.core ≡ seats.dealt
   pub fresh : port.seen ≡ []
 
+-- The same of the core that comes k cores after the next.
+pub record IsDealtAfter (k : ℕ) (seats : SeatsValue) (port : CoreSeatValue) : Type 0 where
+  pub kernel : port.kernel ≡ seats.kernel
+  pub core : port.core ≡ seats.dealt + k
+  pub fresh : port.seen ≡ []
+
 -- A seat of the kernel that has seen nothing, the next after k others that are left.
 pub record IsLeft (of : KernelValue) (k : ℕ) (s : CoreSeatValue) : Type 0 where
   pub kernel : s.kernel ≡ of

@@ -3,10 +3,10 @@
 //! A function over a type parameter `K: Names` handles the machine that K names: `K.kernel` is that machine's kernel, whichever the caller's
 //! is. The caller passes `Brand` for K, and its proof picks the kernel (docs/EMBEDDING.md, 'Ports in a list').
 
-ghost use Rattle.std.specs.Prelude.{◌≡◌, ◌<◌, ◌+◌, ◌↔◌, ◌++◌, ◌∷◌, [], length, Some, IsSome, IfOk, IfErr, IfSome, MatchOption};
+ghost use Rattle.std.specs.Prelude.{◌≡◌, ◌<◌, ◌+◌, ◌↔◌, ◌++◌, ◌∷◌, ℕ, [], length, slice_get, Some, IsSome, IfOk, IfErr, IfSome, MatchOption};
 ghost use Rattle.spk_nums.specs.CallLimits.{InLimits};
 ghost use Rattle.core_kernel.specs.Calls.{HasSeen, MakesCall, Meets};
-ghost use Rattle.core_machine.specs.Seats.{IsDealt};
+ghost use Rattle.core_machine.specs.Seats.{IsDealt, IsDealtAfter};
 
 use crate::port::Port;
 use crate::seats::Seats;
@@ -112,6 +112,7 @@ impl<K: Names> SeatsOf<K> {
         ensures dealt { MatchOption result (self.new.seats.dealt ≡ self.old.seats.dealt)
             (λ _. self.new.seats.dealt ≡ self.old.seats.dealt + 1) }
         ensures port { IfSome result (λ p. IsDealt self.old.seats p.port) }
+        ensures kernel { self.new.seats.kernel ≡ self.old.seats.kernel }
         ensures back { self.new.seats.back ≡ self.old.seats.back }
     {
         match self.seats.deal() {
@@ -123,14 +124,18 @@ impl<K: Names> SeatsOf<K> {
         }
     }
 
-    /// The ports that are not dealt yet, core 0's first. It fails only where memory runs out; those that were dealt by then are gone.
-    pub fn deal_all(&mut self, alloc: Global) -> Result<Vec<PortOf<K>>, AllocError> {
-        let mut ports = Vec::with_capacity(alloc, 8)?;
-        'cores: for _core in 0..8 {
-            match self.deal() {
-                Some(port) => ports.push(port)?,
-                None => {}
-            }
+    /// All ports that are not dealt yet, in the order of their cores. It fails only where memory runs out, and then deals none.
+    pub fn deal_all(&mut self, alloc: Global) -> Result<Vec<PortOf<K>>, AllocError>
+        ensures count { IfOk result (λ v. self.old.seats.dealt + length v.items ≡ self.old.seats.kernel.setup.cores) }
+        ensures each { IfOk result (λ v. (k : ℕ) (p : _) → slice_get v.items k ≡ Some p → IsDealtAfter k self.old.seats p.port) }
+        ensures dealt { IfOk result (λ _. self.new.seats.dealt ≡ self.old.seats.kernel.setup.cores) }
+        ensures kernel { self.new.seats.kernel ≡ self.old.seats.kernel }
+        ensures back { self.new.seats.back ≡ self.old.seats.back }
+        ensures kept { IfErr result (λ _. self.new.seats ≡ self.old.seats) }
+    {
+        let mut ports = Vec::with_capacity(alloc, self.seats.left())?;
+        'cores: while let Some(port) = self.deal() {
+            ports.push_reserved(port);
         }
         Ok(ports)
     }
@@ -139,6 +144,8 @@ impl<K: Names> SeatsOf<K> {
     pub fn take_back(&mut self, port: PortOf<K>) -> Result<(), PortOf<K>>
         ensures taken { IfOk result (λ _. (port.port.core ≡ length self.old.seats.back)
             × (self.new.seats.back ≡ self.old.seats.back ++ port.port ∷ [])) }
+        ensures kernel { self.new.seats.kernel ≡ self.old.seats.kernel }
+        ensures dealt { self.new.seats.dealt ≡ self.old.seats.dealt }
         ensures given_back { IfErr result (λ p. (p.port ≡ port.port) × (self.new.seats ≡ self.old.seats)) }
     {
         if usize::from(port.port.core().number()) != self.seats.returned() {

@@ -93,6 +93,13 @@ impl Seats {
         self.here.pop()
     }
 
+    /// How many ports are not dealt yet.
+    pub fn left(&self) -> usize
+        ensures { self.now.dealt + result ≡ self.now.kernel.setup.cores }
+    {
+        self.here.len()
+    }
+
     /// How many ports are back, which is also the core whose port is taken back next.
     pub fn returned(&self) -> usize
         ensures { result ≡ length self.now.back }

@@ -12,6 +12,7 @@ use spk_nums::{Call, Make, Reply, in_limits};
 use std::alloc::Global;
 
 // Makes the call where a port is held.
+#[inline(always)]
 fn call_held(held: &mut Held, call: Call) -> Option<Reply>
     requires { InLimits call }
     ensures { MatchOption (port_of held.old.what) ((result ≡ None) × (held.new ≡ held.old))
@@ -25,6 +26,7 @@ fn call_held(held: &mut Held, call: Call) -> Option<Reply>
 }
 
 // Makes the call of the port in the slot, and tells its reply.
+#[inline(always)]
 pub(crate) fn make_call(alloc: Global, slot: &mut Slot, call: Call) -> SpeckReply
     requires { InLimits call }
     ensures { IsCalled (held_in slot.old) call result (held_in slot.new) }

@@ -57,6 +57,7 @@ fn carried_value(value: u8, kind: u8, flags: u8, frame: u16, n: u32) -> SpeckRep
     }
 }
 
+#[inline(always)]
 fn value_reply(value: Value) -> SpeckReply
     ensures { result ≡ carried value }
 {
@@ -106,16 +107,25 @@ fn named_number(reply: &Reply) -> u32
     }
 }
 
+// The answer that tells a refusal.
+#[inline(never)]
+fn refused_reply(reply: Reply) -> SpeckReply
+    ensures { result ≡ refusal (reply_code reply) (advice_code (advice_of reply)) (named reply) }
+{
+    refusal_reply(
+        reply_number(&reply),
+        advice_number(reply.advice()),
+        named_number(&reply),
+    )
+}
+
 // The answer that tells the reply.
+#[inline(always)]
 pub(crate) fn flat_reply(reply: Reply) -> SpeckReply
     ensures { result ≡ flat reply }
 {
     match reply {
         Reply::Ok(value) => value_reply(value),
-        other => refusal_reply(
-            reply_number(&other),
-            advice_number(other.advice()),
-            named_number(&other),
-        ),
+        other => refused_reply(other),
     }
 }

@@ -12,5 +12,5 @@ mod setups;
 
 pub use ends::{ask, close, recv, send};
 pub use ports::{call, charge, meet, run, tell};
-pub use seats::{deal, take_back, take_both_back};
+pub use seats::{deal, deal_all, take_back, take_both_back};
 pub use setups::{equal, may_call, setup_of};
