@@ -16,14 +16,14 @@ use Rattle.kernel_history.specs.Legal.{IsLegal}
 use Rattle.kernel_history.specs.BootWords.{shape_of}
 use Rattle.kernel_history.proofs.Names.{cases_word, same_word-same, same_word-other}
 use Rattle.kernel_history.proofs.Steps.{calls_of-own, calls_of-other}
-use Rattle.page_drawing.specs.picture_rows.specs.Rows.{rows_after}
+use Rattle.page_drawing.specs.picture_rows.specs.Rows.{is_full, rows_after}
 use Rattle.page_drawing.specs.page_layers.specs.Seen.{Seen, seen}
 use Rattle.page_drawing.specs.page_layers.specs.Lanes.{no_call, lane_entered, lane_decided, lane_topped, lane_returned}
 use Rattle.page_drawing.specs.page_layers.specs.declared.lanes.Lane.{Lane}
 use Rattle.page_drawing.specs.page_layers.specs.declared.lanes.Change.{Change}
 use Rattle.page_drawing.specs.page_touches.specs.declared.touches.Touch.{Touch}
 use Rattle.page_drawing.specs.page_touches.specs.Touches.{untouched, touched}
-use Rattle.page_drawing.specs.Pages.{Page, blank, is_full, lane_of, returns_of, turned, placed, next_step, tail_at}
+use Rattle.page_drawing.specs.Pages.{Page, blank, lane_of, returns_of, turned, placed, next_step, tail_at}
 use Rattle.page_drawing.specs.Pages.{taken, turned_to, page_after}
 use Rattle.arrow_laws.specs.Arrows.{newest, entered_at, returned_at, before_entry}
 use Rattle.arrow_laws.proofs.Calls.{entered_own, returned_own, before_own, entered_other, returned_other, before_other}
@@ -327,5 +327,5 @@ pub page_known : (page : ℕ) (setup : Setting) → IsSetting setup → (t : Tra
     → (page_after page setup t).is_cut ≡ false → Known setup t (page_after page setup t)
 page_known page setup setting [] legal uncut = blank_known page setup
 page_known page setup setting (e ∷ t) legal uncut =
-    step_known setup setting t e legal (page_after page setup t).is_cut (is_full (page_after page setup t) e.enters)
+    step_known setup setting t e legal (page_after page setup t).is_cut (is_full (page_after page setup t).rows (is_some e.enters))
     (page_after page setup t) (λ h. page_known page setup setting t legal.0 h) uncut refl
