@@ -1,5 +1,5 @@
 -- The worlds of a machine, its ranges, and the numbers of its worlds.
-use Rattle.std.specs.Prelude.{◌≡◌, ◌<◌, ℕ, Some, slice_get}
+use Rattle.std.specs.Prelude.{◌≡◌, ◌<◌, ◌≤◌, ℕ, Some, slice_get}
 use Rattle.world_parts.specs.Sight.{Sight}
 use Rattle.world_parts.specs.Partitions.{world_in}
 use Rattle.world_lines.specs.Lines.{ranges_of, number_at}

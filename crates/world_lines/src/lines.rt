@@ -120,7 +120,7 @@ fn push_range(text: &mut String, world: FrameNo, range: &WorldRange) -> Result<(
 fn push_ranges(text: &mut String, ranges: &[WorldRange], world: FrameNo) -> Result<(), AllocError>
     ensures { OnOk result (string_bytes text.new ≡ string_bytes text.old ++ flat_map (range_words world) ranges.now) }
 {
-    'ranges: for range in ranges {
+    'each: for range in ranges {
         push_range(text, world, range)?;
     }
     Ok(())

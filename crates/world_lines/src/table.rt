@@ -44,6 +44,7 @@ fn more(told: u16, is: bool) -> u16
 }
 
 /// Fills the numbers of the worlds, and answers how many have lines.
+#[tactic(auto, using(crate::proofs::Numbers::zero_number))]
 fn number_all(
     numbers: &mut [u16; 512],
     image: &Image<'_>,

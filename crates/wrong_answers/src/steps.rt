@@ -87,6 +87,5 @@ pub fn worlds(
     requires named { All (λ item. item.core < setup.now.cores) items.now }
     ensures { IfOk result (λ text. GivenWorlds setup.now (map (λ v. v.items) lists.items) items.now (string_bytes text)) }
 {
-    let text = speck_run::worlds(alloc, setup, lists, items)?;
-    Ok(text)
+    speck_run::worlds(alloc, setup, lists, items)
 }

@@ -11,7 +11,7 @@ cores-init c = sym (any_none (works_there (seen c.args.image.now) (world_in c.ar
 pub cores-preserved : goal.cores-preserved
 cores-preserved c =
     let is = works_there (seen c.args.image.now) (world_in c.args.parts.now) c.args.world in
-    c.either.ensures
+    c.either-has.ensures
     ∙ ap (λ b. b || c.works_there.result) c.cores.invariant
     ∙ ap (λ b. any_below is c.cores.core || b) (rw c.new.ensures at c.works_there.ensures)
     ∙ sym (any_more is c.cores.core)

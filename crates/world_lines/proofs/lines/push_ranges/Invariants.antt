@@ -4,5 +4,5 @@ use Rattle.std.specs.List.{flat_map}
 use Rattle.world_lines.specs.Lines.{range_words}
 use Rattle.world_lines.proofs.lines.push_ranges.Given as goal
 
-abbrev pub invariant-ranges : goal.invariant-ranges
-invariant-ranges l = string_bytes l.text ≡ string_bytes l.initial.text ++ flat_map (range_words l.world) (take l.range-index l.ranges)
+abbrev pub invariant-each : goal.invariant-each
+invariant-each l = string_bytes l.text ≡ string_bytes l.initial.text ++ flat_map (range_words l.world) (take l.range-index l.ranges)

@@ -7,5 +7,5 @@ entries-init c = begins _ _ (lines_none _)
 
 pub entries-preserved : goal.entries-preserved
 entries-preserved c =
-    goes_on _ _ _ _ _ _ ((rw c.held_at.ensures at (rw c.new-entry.ensures at c.in_ok-push_gate.ensures)) (seen c.args.image.now) c.requires)
+    goes_on _ _ _ _ _ _ ((rw c.new-entry.ensures at (rw c.held_at.ensures at c.in_ok-push_gate.ensures)) (seen c.args.image.now) c.requires)
     c.entries.invariant (lines_more _ _)

@@ -1,12 +1,9 @@
 -- The lines of what an image shows are those of the final state.
-use Rattle.std.proofs.Common.{◌≡◌, ℕ, ◌++◌, List, ◌∙◌, ap, sym, append_assoc}
-use Rattle.spk_nums.specs.Setting.{Setting}
+use Rattle.std.proofs.Common.{◌≡◌, ℕ, ◌++◌, List, ◌∙◌, ap, append_assoc}
 use Rattle.machine_image.specs.Views.{ImageOf}
-use Rattle.kernel_rules.specs.Runs.{Event}
 use Rattle.kernel_history.specs.Tables.{lines_below}
-use Rattle.world_parts.specs.Sight.{Sight, sight_of}
+use Rattle.world_parts.specs.Sight.{Sight}
 use Rattle.world_parts.specs.Seen.{seen}
-use Rattle.world_parts.specs.Last.{IsLast}
 use Rattle.world_parts.specs.Partitions.{world_in}
 use Rattle.world_parts.specs.Finest.{TellsFinest}
 use Rattle.world_parts.proofs.SeenLaw.{seen_is}
