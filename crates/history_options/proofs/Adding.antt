@@ -11,6 +11,15 @@ use Rattle.history_options.specs.Forms.{with_form}
 use Rattle.history_options.specs.Replies.{core_replies, below_replies}
 use Rattle.history_options.specs.Options.{GoesOn, option_of, AreOptions, AddsOptions}
 
+-- four texts after one another
+pub four_more : (old a b c d first second third fourth : List ℕ) → first ≡ old ++ a → second ≡ first ++ b → third ≡ second ++ c
+    → fourth ≡ third ++ d → fourth ≡ old ++ (a ++ b ++ c ++ d)
+four_more old a b c d first second third fourth p q r s =
+    s ∙ ap (λ (x : List ℕ). x ++ d) (r ∙ ap (λ (x : List ℕ). x ++ c) (q ∙ ap (λ (x : List ℕ). x ++ b) p))
+    ∙ ap (λ (x : List ℕ). x ++ c ++ d) (append_assoc old a b)
+    ∙ ap (λ (x : List ℕ). x ++ d) (append_assoc old (a ++ b) c)
+    ∙ append_assoc old (a ++ b ++ c) d
+
 -- those of one core more
 pub cores_more : (n : ℕ) (old all new : List Reply) → all ≡ old ++ below_replies n → new ≡ all ++ core_replies n
     → new ≡ old ++ below_replies (n + 1)
@@ -33,7 +42,7 @@ module _ (setting : Setting) (before : List Line) (number c : ℕ) (call : Call)
       ap (λ (x : Reply). x ∷ drop (i + 1) replies) is ∙ sym (drop_more replies i d lt) in
       let option = option_of goes (with_form c call form d) in
       let all = subst (λ (rs : List Reply). AreOptions setting before number c call form rs (option ++ rest)) here
-      (goes, (rest, (so, (are, refl)))) in
+      (goes, rest, so, are, refl) in
       subst (AddsOptions setting before number c call form replies old)
       (sym (append_assoc text option rest) ∙ ap (λ (x : List ℕ). x ++ rest) (sym push)) (adding _ all)
 
@@ -42,6 +51,3 @@ module _ (setting : Setting) (before : List Line) (number c : ℕ) (call : Call)
   adding_end i text past adding =
       subst (AddsOptions setting before number c call form replies old) (append-nil text)
       (adding [] (subst (λ (rs : List Reply). AreOptions setting before number c call form rs []) (sym (drop_all i replies past)) refl))
-
-  pub adding_none : Adding 0 old
-  adding_none rest are = record { options = rest; are = are; added = refl }

@@ -1,4 +1,2 @@
 pub mod Adding
 pub mod Places
-pub mod Within
-pub mod Every

@@ -1,15 +1,13 @@
 -- Where a line stands, the judge there, and what is told of it.
-use Rattle.std.proofs.Common.{◌≡◌, ℕ, ◌+◌, ◌^◌, ◌<◌, ◌≤◌, ◌==◌, List, [], ◌∷◌, ◌++◌, reverse, take, drop, length, get_or}
-use Rattle.std.proofs.Common.{if◌then◌else◌, refl, sym, ◌∙◌, ap, subst, arith, append_assoc, inl, inr}
-use Rattle.std.specs.Prelude.{All}
+use Rattle.std.proofs.Common.{◌≡◌, ℕ, ◌+◌, ◌^◌, ◌<◌, ◌≤◌, List, [], ◌∷◌, ◌++◌, reverse, take, drop, length, get_or}
+use Rattle.std.proofs.Common.{if◌then◌else◌, refl, sym, ◌∙◌, ap, subst, arith, append_assoc, inr}
 use Rattle.std.proofs.lemmas.Bool.{eq-eqb}
 use Rattle.std.proofs.lemmas.List.{reverse-append, length-append, length-reverse, length-take-le, take-append-drop, drop_more}
-use Rattle.std.proofs.lemmas.List.Elements.{All-append, All-get_or, All-take}
+use Rattle.std.proofs.lemmas.List.Elements.{All-nil, All-cons, All-append, All-get_or, All-take}
 use Rattle.spk_nums.specs.Setting.{Setting, IsSetting}
-use Rattle.spk_nums.specs.CallLimits.{InLimits}
 use Rattle.spk_nums.specs.declared.calls.Call.{Call}
 use Rattle.spk_nums.specs.declared.replies.Reply.{Reply}
-use Rattle.kernel_rules.specs.State.{Limits, State}
+use Rattle.kernel_rules.specs.State.{Limits}
 use Rattle.kernel_rules.specs.Runs.{Phase, Out, Open, Decided}
 use Rattle.kernel_rules.specs.Alone.{alone}
 use Rattle.kernel_invariant.proofs.SoundRuns.{limits_stay}
@@ -43,14 +41,15 @@ use Rattle.history_options.specs.Texts.{said_line}
 use Rattle.history_options.specs.Options.{AreOptions, AddsOptions}
 use Rattle.history_options.specs.Advice.{out_text, done_text, finding_text, found_text, IsAdviceAt, place_after}
 use Rattle.history_options.specs.Advice.{Adds, AddsCallAdvice, AddsAdvice}
-use Rattle.history_options.specs.Told.{TellsBreak, IsBreakTold, IsHistoryTold}
+use Rattle.history_options.specs.Told.{TellsBreak, IsHistoryTold}
 
 -- ---- lines with one more
 
 pub fit_more : (cores : ℕ) (before : List Line) (line : Line) (lines : List Line) → LinesFit cores before → SaidFits cores line.said
     → lines ≡ before ++ line ∷ [] → LinesFit cores lines
 fit_more cores before line lines fit said is = subst (LinesFit cores) (sym is)
-    (All-append (λ (l : Line). SaidFits cores l.said) before (line ∷ []) fit (said, tt))
+    (All-append (λ (l : Line). SaidFits cores l.said) before (line ∷ []) fit
+    (All-cons (λ (l : Line). SaidFits cores l.said) line [] said (All-nil (λ (l : Line). SaidFits cores l.said))))
 
 pub few_more : (before : List Line) (line : Line) (lines : List Line) → length before + 1 < 2 ^ 32 → lines ≡ before ++ line ∷ []
     → length lines < 2 ^ 32

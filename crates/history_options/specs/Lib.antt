@@ -8,4 +8,3 @@ pub mod Replies
 pub mod Options
 pub mod Advice
 pub mod Told
-pub mod Every

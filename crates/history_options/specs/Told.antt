@@ -13,7 +13,7 @@ use Rattle.history_options.specs.Advice.{IsAdvice}
 pub record TellsBreak (setting : Setting) (before : List Line) (line : Line) (w : Why) (text : List ℕ) : Type 0 where
   pub advice : List ℕ
   pub is_advice : IsAdvice setting before line advice
-  pub is_text : text ≡ verdict_text (Illegal line.number w) ++ said_line line.said ++ advice
+  pub is_text : text ≡ verdict_text (Illegal line.number w) ++ (said_line line.said ++ advice)
 
 -- the lines are a history, and the text says so
 pub record IsLegalTold (setting : Setting) (lines : List Line) (text : List ℕ) : Type 0 where

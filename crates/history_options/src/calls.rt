@@ -105,7 +105,8 @@ fn push_outlook(
     push_call(text, core, call)?;
     text.push_str(found.names.as_str())?;
     push_first(text, &found.alone)?;
-    text.push_str("here may stand:\n")
+    text.push_str("here may stand:\n")?;
+    Ok(())
 }
 
 /// Appends what is told of the call that a reply in the place of a line would decide, the line of this number after these.

@@ -15,10 +15,8 @@ mod advice;
 mod calls;
 mod forms;
 mod history;
-mod laws;
 mod options;
 mod replies;
 mod texts;
 
 pub use history::told;
-pub use laws::every_reply_is_tried;

@@ -1,15 +1,20 @@
+use Rattle.std.proofs.Common.{◌∙◌, ◌++◌, ap, subst}
 use Rattle.std.specs.Prelude.{string_bytes}
-use Rattle.history_options.proofs.Adding.{adding_more, adding_end, adding_none}
+use Rattle.marked_history.specs.declared.marks.Said.{Said}
+use Rattle.history_options.specs.Options.{GoesOn, option_of}
+use Rattle.history_options.proofs.Adding.{adding_more, adding_end}
 use Rattle.history_options.proofs.options.push_options.Goals as goal
-
-pub replies-initial : goal.replies-initial
-replies-initial c = adding_none _ _ _ _ _ _ _ _
 
 pub replies-preserved : goal.replies-preserved
 replies-preserved c =
     adding_more c.args.setup.now c.args.before.now c.args.number c.args.core c.args.call.now c.args.form.now c.args.replies.now _
-    c.replies.reply-index c.reply-item.result.now _ (string_bytes c.replies.text) (string_bytes c.push_option.new.text) c.replies-test.true c.reply-item.is
-    c.in_ok-goes.ensures c.in_ok-push_option.ensures c.replies.invariant
+    c.replies.reply-index c.reply-item.result c.in_ok-goes.goes (string_bytes c.replies.text) (string_bytes c.push_option.new.text)
+    c.replies-test.true c.reply-item.is
+    (subst (λ (said : Said). GoesOn c.args.setup.now c.args.before.now c.args.number said c.in_ok-goes.goes) c.with_form-said.ensures
+    c.in_ok-goes.ensures)
+    (c.in_ok-push_option.ensures
+    ∙ ap (λ (said : Said). string_bytes c.replies.text ++ option_of c.in_ok-goes.goes said) c.with_form-said.ensures)
+    c.replies.invariant
 
 pub returns : goal.returns
 returns c =
