@@ -1,0 +1,106 @@
+-- What a run's states name is of the machine: cores that are in a call, and frames with references.
+use Rattle.std.proofs.Common.{◌≡◌, ◌≢◌, ◌<◌, ◌≤◌, ◌+◌, ◌==◌, ℕ, Bool, true, false, IsTrue, List, [], ◌∷◌, refl, sym, ◌∙◌, ap, subst, arith}
+use Rattle.std.proofs.Common.{inl, inr, cond, suc, zero}
+use Rattle.std.proofs.lemmas.Bool.{false≢true, cases_eq, ne_eqb}
+use Rattle.spk_nums.specs.Setting.{Setting}
+use Rattle.spk_nums.specs.Capability.{Capability}
+use Rattle.spk_nums.specs.declared.kinds.Kind.{Kind}
+use Rattle.spk_nums.specs.declared.kinds.Kind.TheVariants as kind
+use Rattle.kernel_rules.specs.State.{Place, Free, Holds, Quiescing, Frame, Untyped, Kernel, Comp, Thread, State}
+use Rattle.kernel_rules.specs.State.{Liveness, Unused, Live, Dead}
+use Rattle.kernel_rules.specs.References.{named_by, place_names, frame_names, number_names, core_names, sum_below, times, node_refs, refs}
+use Rattle.kernel_rules.specs.Fitting.{fits, IsGood}
+use Rattle.kernel_rules.specs.Runs.{Event, Enters, Decides, Returns, is_in, phase_of, IsRun}
+use Rattle.kernel_invariant.proofs.Sums.{times_cons}
+use Rattle.kernel_invariant.proofs.Sound.{AreComps, IsStack, IsSound, IsObjectGood}
+use Rattle.kernel_invariant.proofs.SoundRuns.{phase_own, phase_other}
+
+-- ---- cores
+
+pub core_within : (setting : Setting) (events : List Event) → IsRun setting events → (d : ℕ) → IsTrue (is_in (phase_of events d))
+    → d < setting.cores
+core_within setting [] run d inside = absurd (false≢true inside)
+core_within setting (Enters c call ∷ events) run d inside = elim (cases_eq d c) [
+  | inl same ↦ subst (λ (x : ℕ). x < setting.cores) (sym same) run.1.is_core
+  | inr other ↦ core_within setting events run.0 d (sym (ap is_in (phase_other (Enters c call) events d other)) ∙ inside)
+]
+core_within setting (Returns c ∷ events) run d inside = elim (cases_eq d c) [
+  | inl same ↦ absurd (false≢true (sym (ap is_in (phase_own (Returns c) events d same)) ∙ inside))
+  | inr other ↦ core_within setting events run.0 d (sym (ap is_in (phase_other (Returns c) events d other)) ∙ inside)
+]
+core_within setting (Decides c call r ∷ events) run d inside = elim (cases_eq d c) [
+  | inl same ↦ core_within setting events run.0 d (ap (λ (n : ℕ). is_in (phase_of events n)) same ∙ ap is_in run.1.is_open)
+  | inr other ↦ core_within setting events run.0 d (sym (ap is_in (phase_other (Decides c call r) events d other)) ∙ inside)
+]
+
+-- ---- frames
+
+sum_none : (f : ℕ → ℕ) (n : ℕ) → ((i : ℕ) → i < n → f i ≡ 0) → sum_below f n ≡ 0
+unfolding sum_below
+sum_none f zero none = refl
+sum_none f (suc n) none = let p = sum_none f n (λ i h. none i (omega arith)) in let q = none n (omega arith) in omega (arith, p, q)
+
+module _ (s : State) (o : ℕ → Bool) (sound : IsSound s o) (f : ℕ) (past : s.limits.frames ≤ f) where
+  -- What is named as no untyped frame is not f.
+  other : (k : Kind) (g : ℕ) → fits k Untyped ≡ false → IsTrue (fits k (s.frame g)) → g ≢ f
+  other k g none fit same =
+      false≢true (sym none ∙ sym (ap (fits k) (sound.beyond f past)) ∙ sym (ap (λ (h : ℕ). fits k (s.frame h)) same) ∙ fit)
+
+  more : (g : ℕ) (fs : List ℕ) → g ≢ f → times f fs ≡ 0 → times f (g ∷ fs) ≡ 0
+  more g fs apart none = times_cons f g fs ∙ ap (λ (b : Bool). cond b 1 0 + times f fs) (ne_eqb g f apart) ∙ none
+
+  by_kind : (k : Kind) (g : ℕ) → IsTrue (fits k (s.frame g)) → times f (named_by k g) ≡ 0
+  by_kind kind.Range g fit = refl
+  by_kind kind.Table g fit = more g [] (other kind.Table g refl fit) refl
+  by_kind kind.Leaf g fit = more g [] (other kind.Leaf g refl fit) refl
+  by_kind kind.Pages g fit = more g [] (other kind.Pages g refl fit) refl
+  by_kind kind.Pleaf g fit = more g [] (other kind.Pleaf g refl fit) refl
+  by_kind kind.Comp g fit = more g [] (other kind.Comp g refl fit) refl
+  by_kind kind.Gate g fit = more g [] (other kind.Gate g refl fit) refl
+  by_kind kind.Thread g fit = more g [] (other kind.Thread g refl fit) refl
+  by_kind kind.Tcap g fit = more g [] (other kind.Tcap g refl fit) refl
+  by_kind kind.Link g fit = more g [] (other kind.Link g refl fit) refl
+  by_kind kind.Page g fit = more g [] (other kind.Page g refl fit) refl
+
+  by_place : (p : Place) (g i : ℕ) → s.place g i ≡ p → times f (place_names p) ≡ 0
+  by_place Free g i is = refl
+  by_place (Holds k) g i is = by_kind k.kind k.frame (sound.held g i k is).fit
+  by_place (Quiescing k) g i is = refl
+
+  by_comps : (fs : List ℕ) → AreComps s fs → times f fs ≡ 0
+  by_comps [] are = refl
+  by_comps (g ∷ fs) are = more g fs (other kind.Comp g refl are.0) (by_comps fs are.1)
+
+  by_stack : (fs : List ℕ) → IsStack s fs → times f fs ≡ 0
+  by_stack [] is = absurd is
+  by_stack (g ∷ fs) is = more g fs (other kind.Comp g refl is.0) (by_comps fs is.1)
+
+  by_object : (x : Frame) → IsObjectGood s x → times f (frame_names x) ≡ 0
+  by_object (Kernel (Comp k)) good =
+      more k.table (k.pages ∷ []) (other kind.Table k.table refl good.0) (more k.pages [] (other kind.Pages k.pages refl good.1) refl)
+  by_object (Kernel (Thread t)) good = by_stack t.stack good
+  by_object _ good = refl
+
+  by_number : (x : Liveness) (l : ℕ) → s.number l ≡ x → times f (number_names x) ≡ 0
+  by_number Unused l is = refl
+  by_number (Live e g) l is = more g [] (other kind.Comp g refl (sound.numbers l e g is).0) refl
+  by_number (Dead e) l is = refl
+
+  by_core : (c : ℕ) → c < s.limits.cores → times f (core_names (s.core c)) ≡ 0
+  by_core c low =
+      let fit = sound.cores c low in
+      more (s.core c).thread ((s.core c).tcap ∷ []) (other kind.Thread (s.core c).thread refl fit.0)
+      (more (s.core c).tcap [] (other kind.Tcap (s.core c).tcap refl fit.1) refl)
+
+  by_node : (g : ℕ) → node_refs s f g ≡ 0
+  unfolding node_refs
+  by_node g = sum_none (λ i. times f (place_names (s.place g i))) 64 (λ i low. by_place (s.place g i) g i refl)
+
+  pub unnamed_past : refs s f ≡ 0
+  unfolding refs
+  unnamed_past =
+      let places = sum_none (node_refs s f) s.limits.frames (λ g low. by_node g) in
+      let objects = sum_none (λ g. times f (frame_names (s.frame g))) s.limits.frames (λ g low. by_object (s.frame g) (sound.objects g)) in
+      let cores = sum_none (λ c. times f (core_names (s.core c))) s.limits.cores by_core in
+      let numbers = sum_none (λ l. times f (number_names (s.number l))) 64 (λ l low. by_number (s.number l) l refl) in
+      omega (arith, places, objects, cores, numbers)
