@@ -1,6 +1,8 @@
 //! A reply as C reads it.
 
 ghost use Rattle.std.specs.Prelude.{◌≡◌};
+ghost use Rattle.spk_nums.specs.Advices.{advice_of};
+ghost use Rattle.spk_nums.specs.Names.{reply_code};
 ghost use Rattle.speck_c.specs.Flat.{advice_code, blank, refusal, carried, named, flat};
 
 use final_parts::kind_number;
