@@ -5,12 +5,12 @@ ghost use Rattle.speck_run.specs.declared.words.Command.TheVariants as commands;
 ghost use Rattle.speck_run.specs.Top.{IsDueOf};
 
 use crate::answers::{Answer, line, made, refuse};
+use crate::apart::worlds;
 use crate::ends::make_ends;
 use crate::given::replay;
 use crate::runs::run_lists;
 use crate::top::Status;
 use crate::words::Command;
-use crate::worlds::worlds;
 use check_run::check;
 use draw_run::draw;
 use ends_reader::read_ends;

@@ -4,6 +4,7 @@
 #![tactic(auto)]
 
 mod answers;
+mod apart;
 mod closed;
 mod ends;
 mod explains;
@@ -15,8 +16,8 @@ mod summary;
 mod text;
 mod top;
 mod words;
-mod worlds;
 
+pub use apart::worlds;
 pub use ends::make_ends;
 pub use ends_run::core_runs::{FreeGate, Gate};
 pub use explains::explains_commands;
@@ -25,4 +26,3 @@ pub use runs::run_lists;
 pub use summary::{Summed, sum_up};
 pub use top::{Status, speck};
 pub use words::Command;
-pub use worlds::worlds;

@@ -8,7 +8,7 @@ use Rattle.spk_nums.specs.Setting.{IsSetting}
 use Rattle.trace_run.specs.lone_kernel.specs.flight_laws.proofs.Histories.{made_histories}
 use Rattle.world_lines.specs.world_parts.specs.machine_image.specs.Views.{ImageOf}
 use Rattle.speck_run.proofs.Finish.{all_out, run, worlds_told}
-use Rattle.speck_run.proofs.worlds.worlds.Goals as goal
+use Rattle.speck_run.proofs.apart.worlds.Goals as goal
 
 pub close-requires : goal.close-requires
 close-requires c =
