@@ -124,23 +124,23 @@ module _ {A : Type 0} where
       → next.kernel ≡ now.kernel → next.back ≡ now.back → next.dealt ≡ now.dealt + 1 → now.dealt < now.kernel.setup.cores
       → IsDealt now (of p) → AreFirst of start now room ports → AreFirst of start next room more
   one_more of start now next room ports more p is same back on inside dealt a =
-    let size = ap length is ∙ length-append ports (p ∷ []) in
-    let cores = ap (λ k. k.setup.cores) a.kernel in
-    let all = a.all in let kernel = a.kernel in let before = a.dealt in let core = dealt.core in record {
-      all = all;
-      kernel = same ∙ kernel;
-      back = back ∙ a.back;
-      dealt = omega arith;
-      few = omega arith;
-      each = each_pushed (λ k q. IsDealtAfter k start (of q)) ports p more is a.each
-        (record { kernel = dealt.kernel ∙ kernel; core = core ∙ before; fresh = dealt.fresh });
-    }
+      let size = ap length is ∙ length-append ports (p ∷ []) in
+      let cores = ap (λ k. k.setup.cores) a.kernel in
+      let all = a.all in let kernel = a.kernel in let before = a.dealt in let core = dealt.core in record {
+        all = all;
+        kernel = same ∙ kernel;
+        back = back ∙ a.back;
+        dealt = omega arith;
+        few = omega arith;
+        each = each_pushed (λ k q. IsDealtAfter k start (of q)) ports p more is a.each
+            (record { kernel = dealt.kernel ∙ kernel; core = core ∙ before; fresh = dealt.fresh });
+      }
 
   -- there is room for one more
   pub room_left : (of : A → CoreSeatValue) (start now : SeatsValue) (room : ℕ) (ports : List A) → now.dealt < now.kernel.setup.cores
       → AreFirst of start now room ports → length ports < room
   room_left of start now room ports inside a =
-    let all = a.all in let cores = ap (λ k. k.setup.cores) a.kernel in let dealt = a.dealt in omega arith
+      let all = a.all in let cores = ap (λ k. k.setup.cores) a.kernel in let dealt = a.dealt in omega arith
 
   pub fewer_left : (room now : ℕ) (ports more : List A) (p : A) → more ≡ ports ++ p ∷ [] → now ≡ room → length ports < room
       → now - length more < room - length ports
@@ -151,4 +151,4 @@ module _ {A : Type 0} where
       → next.dealt ≡ now.dealt → AreFirst of start now room ports
       → (start.dealt + length ports ≡ start.kernel.setup.cores) × (next.dealt ≡ start.kernel.setup.cores)
   all_dealt of start now next room ports none same a =
-    let all = a.all in let cores = ap (λ k. k.setup.cores) a.kernel in let dealt = a.dealt in let few = a.few in (omega arith, omega arith)
+      let all = a.all in let cores = ap (λ k. k.setup.cores) a.kernel in let dealt = a.dealt in let few = a.few in (omega arith, omega arith)
