@@ -1,4 +1,5 @@
--- In every state that a run reaches, what a core may use stands in a place of the machine, and what some core may use one of the machine's may.
+-- In every state that a run reaches, what a core may use stands in a place of the machine, and what some core may use, one of the
+-- machine's may.
 use Rattle.std.proofs.Common.{◌≡◌, inl, inr, ℕ, ◌<◌, ◌≤◌, Bool, true, false, refl, sym, ◌∙◌, ap, subst, arith}
 use Rattle.std.proofs.Common.{List, [], ◌∷◌, Option, Some, None, IsTrue, ◌==◌, if◌then◌else◌}
 use Rattle.std.proofs.lemmas.Bool.{false≢true, cases_eq, cases_lt}

@@ -10,7 +10,8 @@ use Rattle.line_reader.specs.declared.cause.Cause.{Cause}
 use Rattle.script_reader.specs.Readings.{First_fault}
 use Rattle.load_maker.specs.Loads.{load_text}
 use Rattle.speck_run.specs.declared.words.Command.{Command}
-use Rattle.speck_run.specs.declared.words.Command.TheVariants.{Replay, Trace, Draw, Run, Plain, Print, Ends, Sched, Check, Origins, Worlds, Explain}
+use Rattle.speck_run.specs.declared.words.Command.TheVariants.{Replay, Trace, Draw, Run, Plain, Print, Ends, Sched}
+use Rattle.speck_run.specs.declared.words.Command.TheVariants.{Check, Origins, Worlds, Explain}
 use Rattle.explain_run.specs.line_forms.specs.declared.context.Reading.{Reading}
 use Rattle.explain_run.specs.line_forms.specs.declared.context.Reading.TheVariants as reading
 use Rattle.speck_run.specs.declared.answers.Answer.{Answer}

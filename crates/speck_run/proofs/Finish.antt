@@ -6,7 +6,7 @@ use Rattle.std.proofs.lemmas.List.{get_or_past}
 use Rattle.spk_nums.specs.Setting.{Setting, IsSetting}
 use Rattle.spk_nums.specs.declared.calls.Call.{Call}
 use Rattle.spk_nums.specs.declared.steps.Item.{Item}
-use Rattle.table_report.specs.machine_image.specs.Views.{ImageOf}
+use Rattle.world_lines.specs.world_parts.specs.machine_image.specs.Views.{ImageOf}
 use Rattle.trace_run.specs.lone_kernel.specs.word_map.specs.Places.{Shape}
 use Rattle.trace_run.specs.lone_kernel.specs.kernel_rules.specs.Laws.{ticks}
 use Rattle.trace_run.specs.lone_kernel.specs.kernel_rules.specs.Runs.{after}

@@ -18,7 +18,8 @@ use Rattle.ends_reader.specs.Inputs.{Input, input_of}
 use Rattle.one_core.specs.sched_reader.specs.Inputs.{Input as Sched_input, input_of as sched_input_of}
 use Rattle.one_core.specs.Scheduled.{SchedTrace}
 use Rattle.speck_run.specs.declared.words.Command.{Command}
-use Rattle.speck_run.specs.declared.words.Command.TheVariants.{Replay, Trace, Draw, Run, Plain, Print, Ends, Sched, Check, Origins, Worlds, Explain}
+use Rattle.speck_run.specs.declared.words.Command.TheVariants.{Replay, Trace, Draw, Run, Plain, Print, Ends, Sched}
+use Rattle.speck_run.specs.declared.words.Command.TheVariants.{Check, Origins, Worlds, Explain}
 use Rattle.speck_run.specs.Ends.{EndsText}
 
 -- The bytes are this script.

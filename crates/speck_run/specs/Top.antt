@@ -10,7 +10,8 @@ use Rattle.explain_run.specs.line_forms.specs.declared.context.Reading.{Reading}
 use Rattle.explain_run.specs.line_forms.specs.declared.context.Reading.TheVariants as reading
 use Rattle.load_maker.specs.Loads.{script_made, load_text}
 use Rattle.speck_run.specs.declared.words.Command.{Command}
-use Rattle.speck_run.specs.declared.words.Command.TheVariants.{Replay, Trace, Draw, Run, Plain, Print, Ends, Sched, Check, Origins, Worlds, Explain}
+use Rattle.speck_run.specs.declared.words.Command.TheVariants.{Replay, Trace, Draw, Run, Plain, Print, Ends, Sched}
+use Rattle.speck_run.specs.declared.words.Command.TheVariants.{Check, Origins, Worlds, Explain}
 use Rattle.speck_run.specs.declared.top.Status.{Status}
 use Rattle.speck_run.specs.declared.top.Status.TheVariants.{Done, Words, Script, ReadFault, WriteFault, Memory, TooLong, Stopped}
 use Rattle.whole_ends.specs.Ends.{Gives, GivesAll, AddsFront}

@@ -46,8 +46,8 @@ pub fn total_ticks(closed: &Closed) -> u128
 pub fn worlds_text(alloc: Global, closed: &Closed) -> Result<String, Memory>
     requires words { length closed.now.words.items ≡ size_of closed.now.layout }
     requires ends { length closed.now.ends.items ≡ closed.now.layout.cores }
-    ensures { IfOk result (λ text. TellsWorlds record { shape = closed.now.layout; words = closed.now.words.items; ends = closed.now.ends.items }
-        [] (string_bytes text)) }
+    ensures { IfOk result (λ text. TellsWorlds
+        record { shape = closed.now.layout; words = closed.now.words.items; ends = closed.now.ends.items } [] (string_bytes text)) }
 {
     let mut text = String::new(alloc);
     push_worlds(alloc, &mut text, &image_of(closed))?;

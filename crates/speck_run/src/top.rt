@@ -202,7 +202,8 @@ fn finish<K: Sink>(sink: &mut K, answer: &Answer) -> Status
 /// and the status is `Done`, whatever the verdict. Under `origins` the steps are taken as under
 /// `replay`; a line for each link of each capability that is held in the end is written, and the status
 /// is `Done`. Under `worlds` the steps are taken so too; a line for each world that is apart in the end is written, and
-/// one for each gate between them, and the status is `Done`. Under `explain` what is told of the input of the command that is named is written: where and why that
+/// one for each gate between them, and the status is `Done`. Under `explain` what is told of the input of the command that
+/// is named is written: where and why that
 /// command would refuse it, or that it would not; the status is `Done` either way. Each of the other statuses writes
 /// its line in place of the text. A sink that fails is `WriteFault`, and holds a prefix of what was due. `Memory` may
 /// come in place of any status, and has written nothing. No read and no write that failed is tried

@@ -165,7 +165,8 @@ fn push_told(
     index: u16,
 ) -> Result<(), AllocError>
     requires { index ≡ number_at (seen image.now) (world_in parts.now) ranges.now.items (world_in parts.now world) }
-    ensures { OnOk result (string_bytes text.new ≡ string_bytes text.old ++ told_line (seen image.now) (world_in parts.now) ranges.now.items world) }
+    ensures { OnOk result (string_bytes text.new
+        ≡ string_bytes text.old ++ told_line (seen image.now) (world_in parts.now) ranges.now.items world) }
 {
     push_start(text, index)?;
     push_frames(text, image, parts, world)?;

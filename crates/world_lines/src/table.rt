@@ -51,7 +51,8 @@ fn number_all(
     parts: &Parts,
     ranges: &Vec<WorldRange>,
 ) -> u16
-    ensures numbers { (r : ℕ) → r < 512 → slice_get numbers.new r ≡ Some (number_at (seen image.now) (world_in parts.now) ranges.now.items r) }
+    ensures numbers { (r : ℕ) → r < 512
+        → slice_get numbers.new r ≡ Some (number_at (seen image.now) (world_in parts.now) ranges.now.items r) }
     ensures told { (r : ℕ) → 512 ≤ r → result ≡ number_at (seen image.now) (world_in parts.now) ranges.now.items r }
 {
     let _frames = image.frames();
@@ -83,7 +84,8 @@ impl WorldTable {
 
     /// How many worlds with a line begin before that of a frame.
     pub fn number(&self, frame: FrameNo) -> u16
-        ensures { (x : _) → IsTable x self.now → result ≡ number_at x (world_in self.now.parts) self.now.ranges.items (world_in self.now.parts frame) }
+        ensures { (x : _) → IsTable x self.now
+            → result ≡ number_at x (world_in self.now.parts) self.now.ranges.items (world_in self.now.parts frame) }
     {
         match self
             .numbers

@@ -122,8 +122,10 @@ module _ (setting : Setting) (events : List Event) (m : ImageOf) (last : IsLast 
     | inl below ↦
         let within = fields_within setting last.limits events last.run f k is in
         let low : f < 512 = small f (subst (λ n. f < n) frames_are below) in (
-          joined.joins f k.table (below, inl (subst (λ x. HasField (fields_of x) k.table) (sym is) (inl refl))) low (small k.table within.0),
-          joined.joins f k.pages (below, inl (subst (λ x. HasField (fields_of x) k.pages) (sym is) (inr refl))) low (small k.pages within.1),
+          joined.joins f k.table (below, inl (subst (λ x. HasField (fields_of x) k.table) (sym is) (inl refl))) low
+              (small k.table within.0),
+          joined.joins f k.pages (below, inl (subst (λ x. HasField (fields_of x) k.pages) (sym is) (inr refl))) low
+              (small k.pages within.1),
         )
     | inr past ↦ absurd (untyped_comp k (sym ((runs_sound setting last.limits events last.run).beyond f past) ∙ is))
   ]

@@ -70,13 +70,15 @@ pub held_leads : (setting : Setting) → IsSetting setting → (events : List Ev
     → (after setting events).place f i ≡ Holds k → LeadsWithin setting.frames k
 held_leads setting lim events run f i k is =
     let sound = runs_sound setting lim events run in
-    subst (λ n. LeadsWithin n k) (frames_are setting events) (good_within (after setting events) (opened events) k sound (sound.held f i k is))
+    subst (λ n. LeadsWithin n k) (frames_are setting events)
+    (good_within (after setting events) (opened events) k sound (sound.held f i k is))
 
 -- And a component has its table and its pages there.
 pub fields_within : (setting : Setting) → IsSetting setting → (events : List Event) → IsRun setting events → (f : ℕ) (k : CompFields)
     → (after setting events).frame f ≡ Kernel (Comp k) → (k.table < setting.frames) × (k.pages < setting.frames)
 fields_within setting lim events run f k is =
-    let good : IsTrue (fits kind.Table ((after setting events).frame k.table)) × IsTrue (fits kind.Pages ((after setting events).frame k.pages)) =
+    let s : State = after setting events in
+    let good : IsTrue (fits kind.Table (s.frame k.table)) × IsTrue (fits kind.Pages (s.frame k.pages)) =
     subst (IsObjectGood (after setting events)) is (sound.objects f) in
     (within kind.Table k.table (λ e. cc) good.0, within kind.Pages k.pages (λ e. cc) good.1)
   where

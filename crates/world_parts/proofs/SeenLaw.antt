@@ -21,7 +21,8 @@ use Rattle.kernel_history.specs.FinalWords.{SaysPlace, AreComp, AreEntries, AreF
 use Rattle.world_laws.specs.Worlds.{works_in}
 use Rattle.seal_check.proofs.Reached.{held_within}
 use Rattle.world_parts.specs.Sight.{fields_of, is_untyped, sight_of}
-use Rattle.world_parts.specs.Seen.{is_node, is_comp, says, says_untyped, fields, frame_said, held_seen, comp_seen, untyped_seen, works_seen, seen}
+use Rattle.world_parts.specs.Seen.{is_node, is_comp, says, says_untyped, fields, frame_said, held_seen}
+use Rattle.world_parts.specs.Seen.{comp_seen, untyped_seen, works_seen, seen}
 use Rattle.world_parts.specs.Last.{IsLast}
 use Rattle.world_parts.proofs.Leads.{fields_within}
 

@@ -1,4 +1,5 @@
 -- What the crates above name through this one.
+pub use Rattle.machine_image
 pub use Rattle.seal_check
 -- Its own.
 pub mod Sight

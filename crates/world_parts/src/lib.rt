@@ -4,7 +4,8 @@
 //! which it leads, and a component joins its frame with those of its table and its pages. What is then one world is on one side of every
 //! set of frames that only gates join with the rest, and each world is joined with the rest by gates alone.
 //!
-//! **The final state.** All is read off the image of a machine in which no core is in a call: so nothing that was removed may still be used.
+//! **The final state.** All is read off the image of a machine in which no core is in a call, so nothing that was removed may still be
+//! used.
 //!
 //! **No memory.** Nothing here takes memory.
 //!

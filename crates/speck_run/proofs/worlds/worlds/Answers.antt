@@ -6,7 +6,7 @@ use Rattle.trace_run.specs.lone_kernel.specs.kernel_history.specs.Trace.{state_a
 use Rattle.trace_run.specs.lone_kernel.specs.kernel_history.specs.FinalWords.{Represent, word_in, end_in}
 use Rattle.spk_nums.specs.Setting.{IsSetting}
 use Rattle.trace_run.specs.lone_kernel.specs.flight_laws.proofs.Histories.{made_histories}
-use Rattle.table_report.specs.machine_image.specs.Views.{ImageOf}
+use Rattle.world_lines.specs.world_parts.specs.machine_image.specs.Views.{ImageOf}
 use Rattle.speck_run.proofs.Finish.{all_out, run, worlds_told}
 use Rattle.speck_run.proofs.worlds.worlds.Goals as goal
 

@@ -6,4 +6,5 @@ use Rattle.world_lines.specs.Lines.{those, works_there}
 use Rattle.world_lines.proofs.lines.push_those.Given as goal
 
 abbrev pub invariant-cores : goal.invariant-cores
-invariant-cores l = string_bytes l.text ≡ string_bytes l.initial.text ++ those (works_there (seen l.image) (world_in l.parts) l.world) l.core
+invariant-cores l = string_bytes l.text
+    ≡ string_bytes l.initial.text ++ those (works_there (seen l.image) (world_in l.parts) l.world) l.core

@@ -15,4 +15,5 @@ pub returns-in_default : goal.returns-in_default
 returns-in_default c =
     led_other c.args.cap.kind c.args.cap c.args.node (world_in c.args.parts.now) (world_in c.join.new.self)
     (λ e. c.in_default.not-Range (c.kind.ensures ∙ e))
-    (subst (λ n. Joins (λ f g. (f ≡ c.args.node) × (g ≡ n)) (world_in c.args.parts.now) (world_in c.join.new.self)) c.frame.ensures c.join.ensures)
+    (subst (λ n. Joins (λ f g. (f ≡ c.args.node) × (g ≡ n)) (world_in c.args.parts.now) (world_in c.join.new.self))
+    c.frame.ensures c.join.ensures)

@@ -8,4 +8,5 @@ use Rattle.world_parts.proofs.joining.join_one.Goals as goal
 pub returns-then-in_range : goal.returns-then-in_range
 returns-then-in_range c =
     range_one c.args.range c.args.node c.args.frame (world_in c.args.parts.now) (world_in c.join.new.self) c.join.ensures
-    (ap (λ n. has_frame (found c.args.range) n) (sym (c.from.ensures ∙ c.number.ensures.value)) ∙ sym c.in_range.ensures ∙ c.if-in_range.true)
+    (ap (λ n. has_frame (found c.args.range) n) (sym (c.from.ensures ∙ c.number.ensures.value))
+    ∙ sym c.in_range.ensures ∙ c.if-in_range.true)
