@@ -1,5 +1,5 @@
 -- Each reply that may decide an open call is one of those that are tried.
-use Rattle.std.proofs.Common.{◌≡◌, ◌<◌, ◌≤◌, ◌+◌, ℕ, zero, suc, Bool, true, false, IsTrue, List, [], ◌∷◌, ◌++◌, Option, Some, None, get_or}
+use Rattle.std.proofs.Common.{◌≡◌, ◌<◌, ◌≤◌, ℕ, zero, suc, Bool, true, false, List, [], ◌∷◌, ◌++◌, Option, Some, None, get_or}
 use Rattle.std.proofs.Common.{refl, sym, ◌∙◌, ap, subst, arith, inl, inr, if◌then◌else◌}
 use Rattle.std.specs.List.{Contains}
 use Rattle.std.proofs.lemmas.Bool.{false≢true, cases_lt, lt-ltb}
@@ -120,7 +120,7 @@ is_busy _ = false
 
 module _ (setting : Setting) (lim : IsSetting setting) (marks : List Mark) (history : IsHistory setting marks) (c : ℕ) (call : Call)
     (opens : phase marks c ≡ Open call) where
-  s : State
+  abbrev s : State
   s = state setting marks
 
   run : IsRun setting (events_of marks)
@@ -130,38 +130,51 @@ module _ (setting : Setting) (lim : IsSetting setting) (marks : List Mark) (hist
   in_range r may busy = replies_in_range setting lim (events_of marks) run c call r (record { is_open = opens; permitted = may }) busy
 
   not_busy : (r : Reply) → is_busy r ≡ false → (d : ℕ) → r ≡ reply.Busy d → d < setting.cores
-  not_busy r no d is = absurd (false≢true (sym no ∙ ap is_busy is))
+  not_busy r other d is = absurd (false≢true (sym other ∙ ap is_busy is))
 
   unnamed : (f : ℕ) → s.limits.frames ≤ f → refs s f ≡ 0
   unnamed f past = unnamed_past s (opened (events_of marks)) (runs_sound setting lim (events_of marks) run) f past
 
-  tried : (r : Reply) → MayReply s c call r → MayBeHeldUp marks c r → Contains (replies_of setting.cores (alone s c call) (told s c call)) r
-  tried (reply.Ok v) may up = tried_ok _ _ _ v (ok_alone s c call v may)
-  tried (reply.Referenced n) may up = tried_number _ _ _ (reply.Referenced n)
+  abbrev first : Reply
+  first = alone s c call
+
+  abbrev number : Option Reply
+  number = told s c call
+
+  plain : (k : ℕ) → k < 18 → Contains (replies_of setting.cores first number) (get_or plain_replies k reply.Dead)
+  plain = tried_plain setting.cores first number
+
+  core : (e k : ℕ) → e < setting.cores → k < 4 → Contains (replies_of setting.cores first number) (get_or (core_replies e) k reply.Dead)
+  core = tried_core setting.cores first number
+
+  tried : (r : Reply) → MayReply s c call r → MayBeHeldUp marks c r → Contains (replies_of setting.cores first number) r
+  tried (reply.Ok v) may up = tried_ok setting.cores first number v (ok_alone s c call v may)
+  tried (reply.Referenced n) may up = tried_number setting.cores first number (reply.Referenced n)
       (referenced_told s c call n unnamed (causes_stand s c call (reply.Referenced n) may))
-  tried (reply.Short n) may up = tried_number _ _ _ (reply.Short n) (short_told s c call n (causes_stand s c call (reply.Short n) may))
-  tried (reply.Quiescing e) may up = tried_core _ _ _ e 0 (in_range (reply.Quiescing e) may (not_busy _ refl)) (omega arith)
-  tried (reply.Unflushed e) may up = tried_core _ _ _ e 1 (in_range (reply.Unflushed e) may (not_busy _ refl)) (omega arith)
-  tried (reply.Running e) may up = tried_core _ _ _ e 2 (in_range (reply.Running e) may (not_busy _ refl)) (omega arith)
-  tried (reply.Busy e) may up = tried_core _ _ _ e 3 (core_within setting (events_of marks) run e up.inside) (omega arith)
-  tried reply.NoSlot may up = tried_plain _ _ _ 0 (omega arith)
-  tried reply.Empty may up = tried_plain _ _ _ 1 (omega arith)
-  tried reply.WrongCap may up = tried_plain _ _ _ 2 (omega arith)
-  tried reply.NoRight may up = tried_plain _ _ _ 3 (omega arith)
-  tried reply.Occupied may up = tried_plain _ _ _ 4 (omega arith)
-  tried reply.FrameKind may up = tried_plain _ _ _ 5 (omega arith)
-  tried reply.OutOfRange may up = tried_plain _ _ _ 6 (omega arith)
-  tried reply.NotEmpty may up = tried_plain _ _ _ 7 (omega arith)
-  tried reply.Dead may up = tried_plain _ _ _ 8 (omega arith)
-  tried reply.Deep may up = tried_plain _ _ _ 9 (omega arith)
-  tried reply.Bottom may up = tried_plain _ _ _ 10 (omega arith)
-  tried reply.Unlike may up = tried_plain _ _ _ 11 (omega arith)
-  tried reply.TooMany may up = tried_plain _ _ _ 12 (omega arith)
-  tried reply.Same may up = tried_plain _ _ _ 13 (omega arith)
-  tried reply.EpochsSpent may up = tried_plain _ _ _ 14 (omega arith)
-  tried reply.Raced may up = tried_plain _ _ _ 15 (omega arith)
-  tried reply.Fault may up = tried_plain _ _ _ 16 (omega arith)
-  tried reply.CallsSpent may up = tried_plain _ _ _ 17 (omega arith)
+  tried (reply.Short n) may up = tried_number setting.cores first number (reply.Short n)
+      (short_told s c call n (causes_stand s c call (reply.Short n) may))
+  tried (reply.Quiescing e) may up = core e 0 (in_range (reply.Quiescing e) may (not_busy _ refl)) (omega arith)
+  tried (reply.Unflushed e) may up = core e 1 (in_range (reply.Unflushed e) may (not_busy _ refl)) (omega arith)
+  tried (reply.Running e) may up = core e 2 (in_range (reply.Running e) may (not_busy _ refl)) (omega arith)
+  tried (reply.Busy e) may up = core e 3 (core_within setting (events_of marks) run e up.inside) (omega arith)
+  tried reply.NoSlot may up = plain 0 (omega arith)
+  tried reply.Empty may up = plain 1 (omega arith)
+  tried reply.WrongCap may up = plain 2 (omega arith)
+  tried reply.NoRight may up = plain 3 (omega arith)
+  tried reply.Occupied may up = plain 4 (omega arith)
+  tried reply.FrameKind may up = plain 5 (omega arith)
+  tried reply.OutOfRange may up = plain 6 (omega arith)
+  tried reply.NotEmpty may up = plain 7 (omega arith)
+  tried reply.Dead may up = plain 8 (omega arith)
+  tried reply.Deep may up = plain 9 (omega arith)
+  tried reply.Bottom may up = plain 10 (omega arith)
+  tried reply.Unlike may up = plain 11 (omega arith)
+  tried reply.TooMany may up = plain 12 (omega arith)
+  tried reply.Same may up = plain 13 (omega arith)
+  tried reply.EpochsSpent may up = plain 14 (omega arith)
+  tried reply.Raced may up = plain 15 (omega arith)
+  tried reply.Fault may up = plain 16 (omega arith)
+  tried reply.CallsSpent may up = plain 17 (omega arith)
 
 pub every_reply : EveryReplyIsTried
 every_reply setting lim marks history c call opens r may =

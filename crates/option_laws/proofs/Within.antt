@@ -1,15 +1,14 @@
 -- What a run's states name is of the machine: cores that are in a call, and frames with references.
-use Rattle.std.proofs.Common.{◌≡◌, ◌≢◌, ◌<◌, ◌≤◌, ◌+◌, ◌==◌, ℕ, Bool, true, false, IsTrue, List, [], ◌∷◌, refl, sym, ◌∙◌, ap, subst, arith}
+use Rattle.std.proofs.Common.{◌≡◌, ◌≢◌, ◌<◌, ◌≤◌, ◌==◌, ℕ, Bool, false, IsTrue, List, [], ◌∷◌, refl, sym, ◌∙◌, ap, subst, arith}
 use Rattle.std.proofs.Common.{inl, inr, cond, suc, zero}
 use Rattle.std.proofs.lemmas.Bool.{false≢true, cases_eq, ne_eqb}
 use Rattle.spk_nums.specs.Setting.{Setting}
-use Rattle.spk_nums.specs.Capability.{Capability}
 use Rattle.spk_nums.specs.declared.kinds.Kind.{Kind}
 use Rattle.spk_nums.specs.declared.kinds.Kind.TheVariants as kind
 use Rattle.kernel_rules.specs.State.{Place, Free, Holds, Quiescing, Frame, Untyped, Kernel, Comp, Thread, State}
 use Rattle.kernel_rules.specs.State.{Liveness, Unused, Live, Dead}
 use Rattle.kernel_rules.specs.References.{named_by, place_names, frame_names, number_names, core_names, sum_below, times, node_refs, refs}
-use Rattle.kernel_rules.specs.Fitting.{fits, IsGood}
+use Rattle.kernel_rules.specs.Fitting.{fits}
 use Rattle.kernel_rules.specs.Runs.{Event, Enters, Decides, Returns, is_in, phase_of, IsRun}
 use Rattle.kernel_invariant.proofs.Sums.{times_cons}
 use Rattle.kernel_invariant.proofs.Sound.{AreComps, IsStack, IsSound, IsObjectGood}
@@ -47,7 +46,10 @@ module _ (s : State) (o : ℕ → Bool) (sound : IsSound s o) (f : ℕ) (past : 
       false≢true (sym none ∙ sym (ap (fits k) (sound.beyond f past)) ∙ sym (ap (λ (h : ℕ). fits k (s.frame h)) same) ∙ fit)
 
   more : (g : ℕ) (fs : List ℕ) → g ≢ f → times f fs ≡ 0 → times f (g ∷ fs) ≡ 0
-  more g fs apart none = times_cons f g fs ∙ ap (λ (b : Bool). cond b 1 0 + times f fs) (ne_eqb g f apart) ∙ none
+  more g fs apart none =
+      let first = times_cons f g fs in
+      let nothing : cond {A = ℕ} (g == f) 1 0 ≡ 0 = ap (λ (b : Bool). cond {A = ℕ} b 1 0) (ne_eqb g f apart) in
+      omega (arith, first, nothing, none)
 
   by_kind : (k : Kind) (g : ℕ) → IsTrue (fits k (s.frame g)) → times f (named_by k g) ≡ 0
   by_kind kind.Range g fit = refl

@@ -1,5 +1,6 @@
 -- What is explained goes by what the command that is named makes of the bytes.
-use Rattle.std.proofs.Common.{◌≡◌, ℕ, List, [], ◌++◌, Result, Ok, Err, get_or, refl, sym, ◌∙◌, ap, subst, inl, inr, append-nil}
+use Rattle.std.proofs.Common.{◌≡◌, ◌==◌, ℕ, List, [], ◌++◌, Result, Ok, Err, get_or, refl, sym, ◌∙◌, ap, subst, inl, inr, append-nil}
+use Rattle.std.proofs.lemmas.Bool.{false≢true}
 use Rattle.line_reader.specs.declared.cause.Cause.{Cause}
 use Rattle.line_reader.specs.Lines.{First_fault}
 use Rattle.script_reader.specs.Readings.{script_of}
@@ -68,7 +69,7 @@ refused_of reading.History bytes text t = record {
 
 -- What is told of a given history begins with its verdict: the words of an illegal one are no words of a legal one.
 not_legal : (number decided : ℕ) (w : Why) → verdict_text (Illegal number w) ≡ verdict_text (Legal decided) → ⊥
-not_legal number decided w same = let wrong : 105 ≡ 108 = ap (λ (x : List ℕ). get_or x 0 0) same in cc
+not_legal number decided w same = false≢true (ap (λ (x : List ℕ). get_or x 0 0 == 108) same)
 
 verdict_first : (bytes text : List ℕ) (history : History) → history_of bytes ≡ Ok history → IsToldOf history text → TellsVerdict bytes text
 verdict_first bytes text history is (inl t) = record {
