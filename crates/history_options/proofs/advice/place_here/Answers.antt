@@ -16,8 +16,13 @@ returns-clause-place c =
     (c.from.ensures ∙ c.number.ensures.value) c.index.ensures) in
     let come = c.in_ok-judge.ensures.come c.requires.history in
     let more : c.saturating_add-next.result ≡ c.index.result.now.entered + 1 =
-    omega (arith, c.saturating_add-next.ensures, room c.args.before.now (core_of c.args.line.now.said) c.requires.few,
-    ap (λ (x : Seen). x.entered) own, come.entered (core_of c.args.line.now.said)) in
+    omega (
+      arith,
+      c.saturating_add-next.ensures,
+      room c.args.before.now (core_of c.args.line.now.said) c.requires.few,
+      ap (λ (x : Seen). x.entered) own,
+      come.entered (core_of c.args.line.now.said),
+    ) in
     c.place_of.ensures ∙ place_is c.args.setup.now c.args.before.now c.args.line.now c.in_ok-judge.judge c.index.result.now
     c.saturating_add-next.result come own more
 
@@ -30,8 +35,13 @@ returns-clause-decides c =
     (c.from.ensures ∙ c.number.ensures.value) c.index.ensures) in
     let come = c.in_ok-judge.ensures.come c.requires.history in
     let more : c.saturating_add-next.result ≡ c.index.result.now.entered + 1 =
-    omega (arith, c.saturating_add-next.ensures, room c.args.before.now (core_of c.args.line.now.said) c.requires.few,
-    ap (λ (x : Seen). x.entered) own, come.entered (core_of c.args.line.now.said)) in
+    omega (
+      arith,
+      c.saturating_add-next.ensures,
+      room c.args.before.now (core_of c.args.line.now.said) c.requires.few,
+      ap (λ (x : Seen). x.entered) own,
+      come.entered (core_of c.args.line.now.said),
+    ) in
     subst (DecidesAt c.args.setup.now.cores (marks_of (reverse c.args.before.now)) (core_of c.args.line.now.said)) (sym c.place_of.ensures)
     (place_can c.args.setup.now c.args.before.now c.args.line.now c.in_ok-judge.judge c.index.result.now c.saturating_add-next.result
     come own more c.in_ok-judge.ensures.judge c.cores-limits.ensures.limits c.requires.said)
