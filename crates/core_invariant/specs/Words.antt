@@ -27,6 +27,7 @@ use Rattle.kernel_history.specs.Counts.{counters, count_sum}
 use Rattle.core_invariant.specs.CountWords.{IsWithin, newest_of}
 use Rattle.kernel_history.specs.ObjectWords.{frame_value, thread_value, at_height}
 use Rattle.act_fits.specs.stage_look.specs.Shown.{CapNames}
+use Rattle.act_fits.specs.stage_tcap.specs.quality_lists.specs.Rank.{rank}
 
 -- The stamps that words carry: that of the grace period of a thing, and those of a core's last exit and last flush.
 pub record Times : Type 0 where
@@ -57,37 +58,37 @@ abbrev pub IsThreadWord : ThreadFields → ℕ → ℕ → Type 0
 IsThreadWord t zero x = thread_of_word x ≡ Some (thread_value t.runs_on (length t.stack))
 IsThreadWord t (suc h) x = h < 16 → stack_of_word x ≡ Some (record { 0 = at_height t.stack h })
 
--- The head of a temporal capability: its budget, in a version of at most so much. Its list has at most 8 pairs.
-pub record HeadIs (q : TcapFields) (room : ℕ) (shown : Option HeadWord) : Type 0 where
+-- The head of a temporal capability: its budget, in a version that is at most the rank of its list, which has at most 8 pairs. So a version
+-- stays within its field: it is raised where the list becomes another, and that has a greater rank.
+pub record HeadIs (q : TcapFields) (shown : Option HeadWord) : Type 0 where
   pub version : ℕ
   pub says : shown ≡ Some (record { budget = q.budget; mark = None; version = version })
-  pub within : version ≤ room
+  pub within : version ≤ rank q.qualities
   pub most : length q.qualities ≤ 8
 
 -- The word i of a temporal capability: its head, then its list.
-abbrev pub IsTcapWord : TcapFields → ℕ → ℕ → ℕ → Type 0
-IsTcapWord q room zero x = HeadIs q room (head_of_word x)
-IsTcapWord q room (suc j) x = j < 8 → quality_of_word x ≡ Some (record { 0 = slice_get q.qualities j })
+abbrev pub IsTcapWord : TcapFields → ℕ → ℕ → Type 0
+IsTcapWord q zero x = HeadIs q (head_of_word x)
+IsTcapWord q (suc j) x = j < 8 → quality_of_word x ≡ Some (record { 0 = slice_get q.qualities j })
 
 -- The word i of an object, where its place i is this, with the stamp of that place.
-abbrev pub IsObjectWord : ℕ → ℕ → Object → Place → ℕ → ℕ → ℕ → Type 0
-IsObjectWord frames room Blank place stamp i x = Unit {0}
-IsObjectWord frames room Table place stamp i x = i < 64 → PlaceIs frames place stamp (entry_of_word x)
-IsObjectWord frames room Leaf place stamp i x = i < 64 → PlaceIs frames place stamp (entry_of_word x)
-IsObjectWord frames room Pages place stamp i x = i < 64 → PlaceIs frames place stamp (entry_of_word x)
-IsObjectWord frames room Pleaf place stamp i x = i < 64 → PlaceIs frames place stamp (entry_of_word x)
-IsObjectWord frames room (Comp k) place stamp i x = IsCompWord k i x
-IsObjectWord frames room (Thread t) place stamp i x = IsThreadWord t i x
-IsObjectWord frames room (Tcap q) place stamp i x = IsTcapWord q room i x
+abbrev pub IsObjectWord : ℕ → Object → Place → ℕ → ℕ → ℕ → Type 0
+IsObjectWord frames Blank place stamp i x = Unit {0}
+IsObjectWord frames Table place stamp i x = i < 64 → PlaceIs frames place stamp (entry_of_word x)
+IsObjectWord frames Leaf place stamp i x = i < 64 → PlaceIs frames place stamp (entry_of_word x)
+IsObjectWord frames Pages place stamp i x = i < 64 → PlaceIs frames place stamp (entry_of_word x)
+IsObjectWord frames Pleaf place stamp i x = i < 64 → PlaceIs frames place stamp (entry_of_word x)
+IsObjectWord frames (Comp k) place stamp i x = IsCompWord k i x
+IsObjectWord frames (Thread t) place stamp i x = IsThreadWord t i x
+IsObjectWord frames (Tcap q) place stamp i x = IsTcapWord q i x
 
 -- The word i of a frame; of a frame without an object nothing is said.
-abbrev pub IsFrameWord : ℕ → ℕ → Frame → Place → ℕ → ℕ → ℕ → Type 0
-IsFrameWord frames room Untyped place stamp i x = Unit {0}
-IsFrameWord frames room User place stamp i x = Unit {0}
-IsFrameWord frames room (Kernel object) place stamp i x = IsObjectWord frames room object place stamp i x
+abbrev pub IsFrameWord : ℕ → Frame → Place → ℕ → ℕ → ℕ → Type 0
+IsFrameWord frames Untyped place stamp i x = Unit {0}
+IsFrameWord frames User place stamp i x = Unit {0}
+IsFrameWord frames (Kernel object) place stamp i x = IsObjectWord frames object place stamp i x
 
--- How far a count may be from 0: a call that is counted changes it by 4 at most. No version of a head is greater: such a call raises it by
--- 1.
+-- How far a count may be from 0: a call that is counted changes it by 4 at most.
 abbrev pub count_room : State → ℕ
 count_room s = 16 + 4 * sum_below (λ c. (s.core c).counted) s.limits.cores
 
@@ -117,7 +118,7 @@ NumberIs (Dead epoch) stamp shown = DeadSince epoch stamp shown
 
 -- The settled word of this name says what the state is.
 abbrev pub WordIs : State → Times → Word → ℕ → Type 0
-WordIs s times (EntryAt f i) x = IsFrameWord s.limits.frames (count_room s) (s.frame f) (s.place f i) (times.stamp (PlaceOf f i)) i x
+WordIs s times (EntryAt f i) x = IsFrameWord s.limits.frames (s.frame f) (s.place f i) (times.stamp (PlaceOf f i)) i x
 WordIs s times (FrameAt f) x = frame_of_word x ≡ Some (frame_value (s.frame f))
 WordIs s times (CountAt f c) x = SaysCount (count_room s) (count_of_word x)
 WordIs s times (CoreAt c) x = core_of_word x ≡ Some (record { inside = (s.core c).inside; stamp = times.exit c })

@@ -118,13 +118,13 @@ next i = omega arith
 -- The head of a temporal capability is in its first version.
 first_version : (q : TcapFields) (version : ℕ)
     → head_of_word (word_of_head (record { budget = q.budget; mark = None; version = 0 }))
-    ≡ Some (record { budget = q.budget; mark = None; version = version }) → version ≤ 16
+    ≡ Some (record { budget = q.budget; mark = None; version = version }) → version ≡ 0
 first_version q version says =
     let fits = (heads.spelling.spells _ (record { budget = q.budget; mark = None; version = version }) says).0 in
     let none : Some (record { budget = q.budget; mark = None; version = 0 })
     ≡ Some (record { budget = q.budget; mark = None; version = version })
     = sym (heads.spelling.reads (record { budget = q.budget; mark = None; version = 0 }) (fits.0, tt, omega arith)) ∙ says in
-    let same = version_of _ _ none in omega (arith, same)
+    sym (version_of _ _ none)
   where
     version_of : (v u : HeadWord) → Some v ≡ Some u → v.version ≡ u.version
     version_of v u h = cc
@@ -182,7 +182,7 @@ module _ (setup : Setting) (setting : IsSetting setup) where
       (ap head_mark h.head)
 
   object_says : (f : ℕ) (x : Object) → AreObject x (start_place setup f) (λ i. boot_object x (start_place setup f) i)
-      → (i : ℕ) → IsObjectWord setup.frames boot_room x (start_place setup f i) 0 i (boot_object x (start_place setup f) i)
+      → (i : ℕ) → IsObjectWord setup.frames x (start_place setup f i) 0 i (boot_object x (start_place setup f) i)
   object_says f Blank h i = tt
   object_says f Table h i = node_says f h i
   object_says f Leaf h i = node_says f h i
@@ -200,8 +200,7 @@ module _ (setup : Setting) (setting : IsSetting setup) where
   object_says f (Tcap q) h zero = record {
     version = h.version;
     says = h.head;
-    within =
-        (let few = first_version q h.version h.head in omega (arith, few));
+    within = (let first = first_version q h.version h.head in omega (arith, first));
     most = h.most;
   }
   object_says f (Tcap q) h (suc i) =
@@ -216,7 +215,7 @@ module _ (setup : Setting) (setting : IsSetting setup) where
   frame_marks f (Kernel x) h i = object_marks f x h i
 
   frame_says : (f : ℕ) (x : Frame) → AreFrame x (start_place setup f) (λ i. boot_frame x (start_place setup f) i)
-      → (i : ℕ) → IsFrameWord setup.frames boot_room x (start_place setup f i) 0 i (boot_frame x (start_place setup f) i)
+      → (i : ℕ) → IsFrameWord setup.frames x (start_place setup f i) 0 i (boot_frame x (start_place setup f) i)
   frame_says f Untyped h i = tt
   frame_says f User h i = tt
   frame_says f (Kernel x) h i = object_says f x h i

@@ -374,9 +374,9 @@ module _ (setup : Setting) (setting : IsSetting setup) (cores : ℕ → Core) (t
     -- a word of the frame says what the object is
     made_says : (g i : ℕ) → g ≡ f → StaysSaid setup cores t e (EntryAt g i)
     made_says g i same before =
-        subst (λ x. IsFrameWord s'.limits.frames (count_room s') x (s'.place g i) (stamp setup (e ∷ t) (PlaceOf g i)) i
+        subst (λ x. IsFrameWord s'.limits.frames x (s'.place g i) (stamp setup (e ∷ t) (PlaceOf g i)) i
         (settled setup (held_by cores) t (EntryAt g i))) (sym (frame_here g same))
-        (word_new m.object s'.limits.frames (count_room s') (s'.place g i) (stamp setup (e ∷ t) (PlaceOf g i)) i
+        (word_new m.object s'.limits.frames (s'.place g i) (stamp setup (e ∷ t) (PlaceOf g i)) i
         (settled setup (held_by cores) t (EntryAt g i)) (place_made g i same) (subst (SaysNew m.object i) (sym settled_is) (word_says i)))
       where
         settled_is : settled setup (held_by cores) t (EntryAt g i) ≡ last_left setup t (EntryAt f i)
@@ -392,7 +392,6 @@ module _ (setup : Setting) (setting : IsSetting setup) (cores : ℕ → Core) (t
         frame = frame_there g other;
         place = place_kept g i other there;
         stamp = stamp_kept (PlaceOf g i) (ne_eqb g f other);
-        room = (let more = more_room in omega arith);
       })
     ]
     stays (FrameAt g) there free = said (FrameAt g) (frame_there g (λ same. free (ap (λ (x : ℕ). marked_by setup t (FrameAt x)) same
@@ -408,7 +407,7 @@ module _ (setup : Setting) (setting : IsSetting setup) (cores : ℕ → Core) (t
 
     -- the word of the target
     word_now : WordIs s' (times_of setup (e ∷ t)) (EntryAt node index) new
-    word_now = node_word s'.limits.frames (count_room s') (s'.frame node)
+    word_now = node_word s'.limits.frames (s'.frame node)
         (s'.place node index) (stamp setup (e ∷ t) (PlaceOf node index)) index new
         (subst (λ x. IsTrue (is_node x)) (sym (frame_there node (λ h. apart (sym h)))) in_node)
         (subst (λ p. PlaceIs s'.limits.frames p (stamp setup (e ∷ t) (PlaceOf node index)) (entry_of_word new)) (sym place_target) (

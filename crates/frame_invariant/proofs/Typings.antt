@@ -79,10 +79,10 @@ typed_comp kind.Untyped = refl
 typed_comp kind.User = refl
 typed_comp kind.Kernel = refl
 
-typed_says : (k : FrameKind) (n m : ℕ) (p : Place) (r i x : ℕ) → IsFrameWord n m (typed_frame k) p r i x
-typed_says kind.Untyped n m p r i x = tt
-typed_says kind.User n m p r i x = tt
-typed_says kind.Kernel n m p r i x = tt
+typed_says : (k : FrameKind) (n : ℕ) (p : Place) (r i x : ℕ) → IsFrameWord n (typed_frame k) p r i x
+typed_says kind.Untyped n p r i x = tt
+typed_says kind.User n p r i x = tt
+typed_says kind.Kernel n p r i x = tt
 
 typed_mark : (k : FrameKind) (i x : ℕ) → mark_in_frame (typed_frame k) i x ≡ None
 typed_mark kind.Untyped i x = refl
@@ -469,16 +469,15 @@ module _ (setup : Setting) (setting : IsSetting setup) (cores : ℕ → Core) (t
 
       stays : (w : Word) → w ≢ FrameAt f → marked_by setup t w ≢ Some c → StaysSaid setup cores t e w
       stays (EntryAt g i) there free = elim (cases_eq g f) [
-        | inl same ↦ λ h. subst (λ x. IsFrameWord s'.limits.frames (count_room s') x (s'.place g i) (stamp setup (e ∷ t) (PlaceOf g i)) i
+        | inl same ↦ λ h. subst (λ x. IsFrameWord s'.limits.frames x (s'.place g i) (stamp setup (e ∷ t) (PlaceOf g i)) i
             (settled setup (held_by cores) t (EntryAt g i))) (sym (frame_here g same))
-            (typed_says k s'.limits.frames (count_room s') (s'.place g i) (stamp setup (e ∷ t) (PlaceOf g i)) i
+            (typed_says k s'.limits.frames (s'.place g i) (stamp setup (e ∷ t) (PlaceOf g i)) i
             (settled setup (held_by cores) t (EntryAt g i)))
         | inr other ↦ said (EntryAt g i) (record {
           frames = ap (λ l. l.frames) limits;
           frame = frame_there g other;
           place = ap (λ x. x.place g i) now;
           stamp = plain_stamp setup t e plain (PlaceOf g i);
-          room = more_room;
         })
       ]
       stays (FrameAt g) there free = said (FrameAt g) (frame_there g (λ same. there (ap (λ (x : ℕ). FrameAt x) same)))

@@ -239,7 +239,6 @@ calm_words setup t e calm plain (EntryAt f i) place inside = record {
   frame = calm.frame f;
   place = place f i refl;
   stamp = plain_stamp setup t e plain (PlaceOf f i);
-  room = room_rises (state_after setup t) (state_after setup (e ∷ t)) e.core calm;
 }
 calm_words setup t e calm plain (FrameAt f) place inside = calm.frame f
 calm_words setup t e calm plain (CountAt f c) place inside = room_rises (state_after setup t) (state_after setup (e ∷ t)) e.core calm

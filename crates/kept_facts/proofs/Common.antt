@@ -180,7 +180,7 @@ pub use Rattle.core_invariant.specs.stage_sweep.specs.declared.sweep.SweepAt.The
 pub use Rattle.core_invariant.specs.stage_sweep.specs.declared.sweep.Swept.{Swept}
 pub use Rattle.core_invariant.specs.stage_sweep.specs.declared.thaw.Thaw.{Thaw}
 pub use Rattle.core_invariant.specs.stage_tcap.specs.Charging.{head_end}
-pub use Rattle.core_invariant.specs.stage_tcap.specs.Heads.{credited, debited, head, marked}
+pub use Rattle.core_invariant.specs.stage_tcap.specs.Heads.{credited, debited, head, marked, relisted}
 pub use Rattle.core_invariant.specs.stage_tcap.specs.Lists.{in_order, same_list}
 pub use Rattle.core_invariant.specs.stage_tcap.specs.Pairs.{again_end, amount_of, by_alike, by_room, giving_back, judged}
 pub use Rattle.core_invariant.specs.stage_tcap.specs.declared.charge.Charge.{Charge}

@@ -280,7 +280,6 @@ module _ (setup : Setting) (setting : IsSetting setup) (cores : ℕ → Core) (t
       frame = frames g;
       place = ap (λ y. y.place g i) now;
       stamp = stamp_stays (PlaceOf g i) refl;
-      room = (let more = more_room in omega arith);
     }
     same (FrameAt g) no_clock bare = frames g
     same (CountAt g d) no_clock bare = (let more = more_room in omega arith)

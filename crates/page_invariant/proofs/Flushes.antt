@@ -209,7 +209,6 @@ module _ (setup : Setting) (setting : IsSetting setup) (cores : ℕ → Core) (t
     frame = frames g;
     place = ap (λ x. x.place g i) now;
     stamp = same_stamp (PlaceOf g i);
-    room = more_room;
   }
   same_words (FrameAt g) = frames g
   same_words (CountAt g d) = more_room
@@ -338,7 +337,7 @@ module _ (setup : Setting) (setting : IsSetting setup) (cores : ℕ → Core) (t
 
   said : (w : Word) → w ≢ FlushAt c
       → SameFor (state_after setup t) (state_after setup (storing ∷ t)) (times_of setup t) (times_of setup (storing ∷ t)) w
-  said (EntryAt g i) there = record { frames = refl; frame = refl; place = refl; stamp = refl; room = omega arith }
+  said (EntryAt g i) there = record { frames = refl; frame = refl; place = refl; stamp = refl }
   said (FrameAt g) there = refl
   said (CountAt g d) there = omega arith
   said (CoreAt d) there = record { inside = refl; exit = plain_exit t storing refl d }

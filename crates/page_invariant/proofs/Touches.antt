@@ -437,7 +437,6 @@ module _ (setup : Setting) (setting : IsSetting setup) (cores : ℕ → Core) (t
           frame = frames g;
           place = ap (λ x. x.place g i) now;
           stamp = plain_stamp setup t e plain (PlaceOf g i);
-          room = more_room;
         }
         same_words (FrameAt g) = frames g
         same_words (CountAt g d) = more_room

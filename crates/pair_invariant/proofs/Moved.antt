@@ -202,18 +202,18 @@ module _ (setup : Setting) (setting : IsSetting setup) (cores : ℕ → Core) (t
   SayAlike y z i = (j : ℕ) → i ≡ suc j → j < 8 → slice_get z.qualities j ≡ slice_get y.qualities j
 
   list_stays : (y z : TcapFields) (h i x : ℕ) → i ≢ 0 → SayAlike y z i
-      → IsFrameWord s.limits.frames (count_room s) (Kernel (Tcap y)) (s.place h i) (stamp setup t (PlaceOf h i)) i x
-      → IsFrameWord s'.limits.frames (count_room s') (Kernel (Tcap z)) (s'.place h i) (stamp setup (e ∷ t) (PlaceOf h i)) i x
+      → IsFrameWord s.limits.frames (Kernel (Tcap y)) (s.place h i) (stamp setup t (PlaceOf h i)) i x
+      → IsFrameWord s'.limits.frames (Kernel (Tcap z)) (s'.place h i) (stamp setup (e ∷ t) (PlaceOf h i)) i x
   list_stays y z h zero x some same before = absurd (some refl)
   list_stays y z h (suc j) x some same before = λ low. before low ∙ ap (λ o. Some (record { 0 = o })) (sym (same j refl low))
 
   entry_stays : (h : ℕ) (y z : TcapFields) → s.frame h ≡ Kernel (Tcap y) → s'.frame h ≡ Kernel (Tcap z) → (i : ℕ) → i ≢ 0 → SayAlike y z i
       → StaysSaid setup cores t e (EntryAt h i)
   entry_stays h y z before now_is i some same said_before =
-      subst (λ x. IsFrameWord s'.limits.frames (count_room s') x (s'.place h i) (stamp setup (e ∷ t) (PlaceOf h i)) i
+      subst (λ x. IsFrameWord s'.limits.frames x (s'.place h i) (stamp setup (e ∷ t) (PlaceOf h i)) i
       (settled setup (held_by cores) t (EntryAt h i))) (sym now_is)
       (list_stays y z h i (settled setup (held_by cores) t (EntryAt h i)) some same
-      (subst (λ x. IsFrameWord s.limits.frames (count_room s) x (s.place h i) (stamp setup t (PlaceOf h i)) i
+      (subst (λ x. IsFrameWord s.limits.frames x (s.place h i) (stamp setup t (PlaceOf h i)) i
       (settled setup (held_by cores) t (EntryAt h i))) before said_before))
 
   -- the first keeps its list, and so does the second where its word says the same
@@ -235,7 +235,6 @@ module _ (setup : Setting) (setting : IsSetting setup) (cores : ℕ → Core) (t
         frame = frame_there h away;
         place = ap (λ x. x.place h i) is.now;
         stamp = plain_stamp setup t e is.plain (PlaceOf h i);
-        room = room_grows;
       })
     ]
   ]

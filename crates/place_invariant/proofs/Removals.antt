@@ -18,7 +18,7 @@ use Rattle.count_invariant.proofs.Common.{stamp-kept, flush_stored-own, flush_st
 use Rattle.count_invariant.proofs.Common.{drawn_stamp, Plan, of_kind, plan_for, GoesBy, own_pages, rule_after, names_after, Leads}
 use Rattle.count_invariant.proofs.Common.{LeadsIn, NextName, NextHeld, next_of, leads_by, outcome_left, later, Act, Nothing, Quiesce}
 use Rattle.count_invariant.proofs.Common.{Undecided, Decided, ActiveCall, removes_by, StageFits, HasRoom, GoesOn, landed, went_with, Core}
-use Rattle.count_invariant.proofs.Common.{IsWithin, Holding, holds_counts, settled_by, settled, PlaceIs, WordIs, count_room, HasFound}
+use Rattle.count_invariant.proofs.Common.{IsWithin, Holding, holds_counts, settled_by, settled, PlaceIs, WordIs, HasFound}
 use Rattle.count_invariant.proofs.Common.{KnowsUndecided, own_in, phase_at, holds_at, holds_in, holds, held_by, times_of, Invariant}
 use Rattle.count_invariant.proofs.Common.{IsCalm, plain_exit, room_grows, own_kept, slot_relies, limits_of, SameFor, ReadsAlike}
 use Rattle.count_invariant.proofs.Common.{reads_alike, StaysSaid, word_stays, Stage}
@@ -238,7 +238,7 @@ module _ (setup : Setting) (setting : IsSetting setup) (cores : ℕ → Core) (t
   held_cap : s.place node index ≡ Holds cap
   held_cap = holds_place s.limits.frames (s.place node index) (stamp setup t (PlaceOf node index))
       (entry_of_word (word_of_entry (entry.Held cap))) cap
-      (node_says s.limits.frames (count_room s) (s.frame node) (s.place node index) (stamp setup t (PlaceOf node index)) index
+      (node_says s.limits.frames (s.frame node) (s.place node index) (stamp setup t (PlaceOf node index)) index
       (word_of_entry (entry.Held cap)) relies.node fits.0.1
       (subst (WordIs s (times_of setup t) at) stood_for (stands.words at)))
       (spelling.reads (entry.Held cap) has.knows.knows.fits)
@@ -334,7 +334,6 @@ module _ (setup : Setting) (setting : IsSetting setup) (cores : ℕ → Core) (t
         frame = calm.frame g;
         place = there g i other;
         stamp = stamp_stays (PlaceOf g i) (apart_place g i other);
-        room = room_rises s s' c calm;
       }
     ]
 
@@ -365,7 +364,7 @@ module _ (setup : Setting) (setting : IsSetting setup) (cores : ℕ → Core) (t
     stored_fits = let low = small in let is = drawn_is in omega arith
 
     entry_now : WordIs s' (times_of setup (e ∷ t)) at (word_of_entry (entry.Quiescing now_at))
-    entry_now = node_word s'.limits.frames (count_room s') (s'.frame node)
+    entry_now = node_word s'.limits.frames (s'.frame node)
         (s'.place node index) (stamp setup (e ∷ t) (PlaceOf node index)) index
         (word_of_entry (entry.Quiescing now_at))
         (subst (λ y. IsTrue (is_node y)) (sym (calm.frame node)) relies.node)

@@ -351,7 +351,7 @@ module _ (setup : Setting) (setting : IsSetting setup) (cores : ℕ → Core) (t
 
     stays : (q : Word) → q ≢ ClockAt → marked_by setup t q ≢ Some c → StaysSaid setup cores t e q
     stays (EntryAt g i) no_clock bare = elim (cases_eq g f) [
-      | inl same ↦ λ is. subst (λ y. IsFrameWord s'.limits.frames (count_room s') y (s'.place g i)
+      | inl same ↦ λ is. subst (λ y. IsFrameWord s'.limits.frames y (s'.place g i)
           (stamp setup (e ∷ t) (PlaceOf g i)) i (settled setup (held_by cores) t (EntryAt g i))) (sym (ap s'.frame same ∙ frame_now)) tt
       | inr other ↦ word_stays s s' (times_of setup t) (times_of setup (e ∷ t))
           (EntryAt g i) (settled setup (held_by cores) t (EntryAt g i))
@@ -360,7 +360,6 @@ module _ (setup : Setting) (setting : IsSetting setup) (cores : ℕ → Core) (t
             frame = frames_now g other;
             place = ap (λ y. y.place g i) now;
             stamp = stamp_place g i;
-            room = (let more = more_room in omega arith);
           })
     ]
     stays (FrameAt g) no_clock bare = elim (cases_eq g f) [

@@ -349,10 +349,10 @@ module _ (setup : Setting) (setting : IsSetting setup) (cores : ℕ → Core) (t
   said w same = word_stays s s' (times_of setup t) (times_of setup (e ∷ t)) w (settled setup (held_by cores) t w) same
 
   abbrev Says : Frame → ℕ → ℕ → ℕ → Type 0
-  Says y g i v = IsFrameWord s'.limits.frames (count_room s') y (s'.place g i) (stamp setup (e ∷ t) (PlaceOf g i)) i v
+  Says y g i v = IsFrameWord s'.limits.frames y (s'.place g i) (stamp setup (e ∷ t) (PlaceOf g i)) i v
 
   abbrev SaysBefore : Frame → ℕ → ℕ → ℕ → Type 0
-  SaysBefore y g i v = IsFrameWord s.limits.frames (count_room s) y (s.place g i) (stamp setup t (PlaceOf g i)) i v
+  SaysBefore y g i v = IsFrameWord s.limits.frames y (s.place g i) (stamp setup t (PlaceOf g i)) i v
 
   -- a word above the first of a thread shows its stack, which stays
   above : (k : ThreadFields) (o : Option ℕ) (i v : ℕ) → i ≢ 0 → IsThreadWord k i v → IsThreadWord (record k { runs_on = o }) i v
@@ -383,7 +383,6 @@ module _ (setup : Setting) (setting : IsSetting setup) (cores : ℕ → Core) (t
       ∙ ap (λ (n : ℕ). marked_by setup t (EntryAt n 0)) (same ∙ sym old_same) ∙ old_mark))
   entry_stays g i free (inr (inr others)) = said (EntryAt g i) (record {
     frames = ap (λ l. l.frames) limits;
-    room = (let more = more_room in omega (arith, more));
     frame = away_frame g others.0 others.1;
     place = ap (λ y. y.place g i) now;
     stamp = stamp_stays (PlaceOf g i) (no_place same_tcap g i);

@@ -121,7 +121,6 @@ module _ (setup : Setting) (setting : IsSetting setup) (cores : ℕ → Core) (t
   frame_word : (g i : ℕ) → g ≢ (s.core c).thread → StaysSaid setup cores t e (EntryAt g i)
   frame_word g i other = said (EntryAt g i) (record {
     frames = ap (λ l. l.frames) limits;
-    room = (let more = more_room in omega (arith, more));
     frame = frame_away g other;
     place = ap (λ x. x.place g i) r.now;
     stamp = r.places g i;
@@ -129,10 +128,10 @@ module _ (setup : Setting) (setting : IsSetting setup) (cores : ℕ → Core) (t
 
   own_word : (g i : ℕ) → g ≡ (s.core c).thread → (holds after).bare g i ≡ None → StaysSaid setup cores t e (EntryAt g i)
   own_word g i same unkept before =
-      subst (λ x. IsFrameWord s'.limits.frames (count_room s') x (s'.place g i) (stamp setup (e ∷ t) (PlaceOf g i)) i
+      subst (λ x. IsFrameWord s'.limits.frames x (s'.place g i) (stamp setup (e ∷ t) (PlaceOf g i)) i
       (settled setup (held_by cores) t (EntryAt g i))) (sym (frame_now g same))
       (thread_says i first place (settled setup (held_by cores) t (EntryAt g i))
-      (subst (λ x. IsFrameWord s.limits.frames (count_room s) x (s.place g i) (stamp setup t (PlaceOf g i)) i
+      (subst (λ x. IsFrameWord s.limits.frames x (s.place g i) (stamp setup t (PlaceOf g i)) i
       (settled setup (held_by cores) t (EntryAt g i))) (ap s.frame same ∙ own) before))
     where
       at_thread : (holds after).bare g i ≡ (holds after).bare (s.core c).thread i
@@ -172,14 +171,14 @@ module _ (setup : Setting) (setting : IsSetting setup) (cores : ℕ → Core) (t
 
   keeps_thread : Said (s.core c).thread 0 r.thread_word
   keeps_thread =
-      subst (λ x. IsFrameWord s'.limits.frames (count_room s') x (s'.place (s.core c).thread 0)
+      subst (λ x. IsFrameWord s'.limits.frames x (s'.place (s.core c).thread 0)
       (stamp setup (e ∷ t) (PlaceOf (s.core c).thread 0)) 0
       r.thread_word) (sym (frame_now (s.core c).thread refl))
       (r.says_thread ∙ ap (λ o. Some (thread_value o (length fs))) (sym (runs_on_own setup setting cores t stands c here)))
 
   keeps_place : Said (s.core c).thread (suc height) r.place_word
   keeps_place =
-      subst (λ x. IsFrameWord s'.limits.frames (count_room s') x (s'.place (s.core c).thread (suc height))
+      subst (λ x. IsFrameWord s'.limits.frames x (s'.place (s.core c).thread (suc height))
       (stamp setup (e ∷ t) (PlaceOf (s.core c).thread (suc height))) (suc height)
       r.place_word) (sym (frame_now (s.core c).thread refl)) (λ low. r.says_place)
 
