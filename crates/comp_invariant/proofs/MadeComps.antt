@@ -16,11 +16,11 @@ use Rattle.scan_invariant.proofs.Common.{decided-inside, cases_word, same_word-o
 use Rattle.scan_invariant.proofs.Common.{marked_by, frame_mark, mark_of, entry_mark, mark_in_frame, live_mark, frame_value, stamp}
 use Rattle.scan_invariant.proofs.Common.{ends_in, flushes_in, Trace, Open, phase, state_after, Step, last_left, state_decided_in, way_to}
 use Rattle.scan_invariant.proofs.Common.{ways, leads_by, LeadsIn, own_pages, CapNames, Due, StoreLive, Act, landed, Core, ActiveCall}
-use Rattle.scan_invariant.proofs.Common.{Stage, Undecided, Decided, calm_counted, plain_exit, counted_rises, BeginsNone, room_grows}
-use Rattle.scan_invariant.proofs.Common.{counts, own_kept, counted_refs, limits_of, ReadsAlike, StaysSaid, word_stays, SameFor, IsWithin}
+use Rattle.scan_invariant.proofs.Common.{Stage, Undecided, Decided, calm_counted, plain_exit, counted_rises, BeginsNone}
+use Rattle.scan_invariant.proofs.Common.{counts, own_kept, counted_refs, limits_of, ReadsAlike, StaysSaid, word_stays, SameFor}
 use Rattle.scan_invariant.proofs.Common.{holds_counts, settled_by, settled, keeps, AreDuesApart, HasFound, own_in, phase_at, due_of}
 use Rattle.scan_invariant.proofs.Common.{KnowsUndecided, WorksIn, MayFill, KnowsComp, KnowsCompAt, untypes, holds_at, holds_in, Invariant}
-use Rattle.scan_invariant.proofs.Common.{holds, held_by, times_of, SumIs, counted_in, holds_comp, PlaceIs, count_room, IsFrameWord}
+use Rattle.scan_invariant.proofs.Common.{holds, held_by, times_of, SumIs, counted_in, holds_comp, PlaceIs, IsFrameWord}
 use Rattle.scan_invariant.proofs.Common.{WordIs, NumberIs, later, stamp_of_change, comp_dues, comp_due_list, CompMakingFits, CompMaking}
 use Rattle.scan_invariant.proofs.Common.{CompAt, Quiet, AtCore, AtFlush, quiet_end, quiet_after, quiet_move, live_of_word, LiveFits}
 use Rattle.scan_invariant.proofs.Common.{word_of_live, LiveWord, comp_of_word, cases_bool, counts_bare, may_keep, not_exclusive_value}
@@ -414,10 +414,6 @@ module _ (setup : Setting) (setting : IsSetting setup) (cores : ℕ → Core) (t
     rises : counted_in setup s ≤ counted_in setup s'
     rises = subst (λ y. counted_in setup s ≤ counted_in setup y) (sym now) (counted_rises setup s (counted s c) c (calm_counted s c))
 
-    more_room : count_room s + 4 ≤ count_room s'
-    more_room = subst (λ y. count_room s + 4 ≤ count_room y) (sym now) (room_grows s (counted s c) c (calm_counted s c) core_below
-        (ap (λ j. j.counted) (put_same s.core c (record (s.core c) { counted = (s.core c).counted + 1 }) c refl)))
-
     -- each word reads as before
     kept_left : (g i : ℕ) → g ≡ f → last_left setup (e ∷ t) (EntryAt g i) ≡ last_left setup t (EntryAt f i)
     kept_left g i same = last_left-there setup (EntryAt g i) e t (λ h. apart (sym same ∙ same_node g i node index h))
@@ -467,7 +463,7 @@ module _ (setup : Setting) (setting : IsSetting setup) (cores : ℕ → Core) (t
     ]
     stays (FrameAt g) there free = said (FrameAt g) (frame_there g (λ same. free (ap (λ (x : ℕ). marked_by setup t (FrameAt x)) same
         ∙ own_mark)))
-    stays (CountAt g d) there free = said (CountAt g d) (let more = more_room in omega arith)
+    stays (CountAt g d) there free = said (CountAt g d) tt
     stays (CoreAt d) there free = said (CoreAt d) (record {
       inside = decided-inside (Some (reply.Ok Nothing)) (phase t c) s c d;
       exit = plain_exit t e refl d;
@@ -517,12 +513,6 @@ module _ (setup : Setting) (setting : IsSetting setup) (cores : ℕ → Core) (t
     max_zero : (n : ℕ) → n ≡ max n 0
     max_zero n = omega arith
 
-    small_changes : All (λ d. IsWithin d.change 4) (comp_due_list m)
-    small_changes =
-        All-cons (λ d. IsWithin d.change 4) (due_by f 2) (due_by m.table 1 ∷ due_by m.pages 1 ∷ []) (omega arith)
-        (All-cons (λ d. IsWithin d.change 4) (due_by m.table 1) (due_by m.pages 1 ∷ []) (omega arith)
-        (All-cons (λ d. IsWithin d.change 4) (due_by m.pages 1) [] (omega arith) (All-nil (λ d. IsWithin d.change 4))))
-
     commits : (w : Word) → marked_by setup t w ≡ Some c → WordIs s' (times_of setup (e ∷ t)) w ((holds_at stage a.counts).stands w)
     commits w own = elim (cases_word w (LiveAt l)) [
       | inl same ↦ subst (λ v. WordIs s' (times_of setup (e ∷ t)) v ((holds_at stage a.counts).stands v)) (sym same) live_says
@@ -537,8 +527,8 @@ module _ (setup : Setting) (setting : IsSetting setup) (cores : ℕ → Core) (t
             (same_word-other w (LiveAt l) apart_from)
             ∙ ap (λ b. if b then made_word else (holds_counts (Some None) a.counts).stands w) (same_word-other w (FrameAt f) other)))
             (dues_commit setup setting cores t stands c here a active None none_small (comp_due_list m) dues_are
-            small_changes put_it (reply.Ok Nothing) after still before_count (λ g d. refl) alike
-            unmarked.mark bare_now no_count more_room w
+            put_it (reply.Ok Nothing) after still before_count (λ g d. refl) alike
+            unmarked.mark bare_now no_count w
             (sym (ap (λ h. h.marks w) holds_is
             ∙ ap (λ b. if b then true else (keeps (FrameAt f) word (holds_counts None a.counts)).marks w)
             (same_word-other w (LiveAt l) apart_from)
@@ -629,7 +619,7 @@ module _ (setup : Setting) (setting : IsSetting setup) (cores : ℕ → Core) (t
 
     sums_are : (g : ℕ) → SumIs setup (held_by (put cores c after)) (e ∷ t) g
     sums_are = dues_sum setup setting cores t stands c here a active None none_small (comp_due_list m) dues_are
-        small_changes put_it (reply.Ok Nothing) after still before_count (λ g d. refl) alike unmarked.mark
+        put_it (reply.Ok Nothing) after still before_count (λ g d. refl) alike unmarked.mark
         bare_now no_count (ap (λ l. l.cores) limits)
         (λ g none. (
           (let more = grows g in

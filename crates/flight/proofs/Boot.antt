@@ -7,7 +7,7 @@ use Rattle.work_invariant.proofs.Common.{FrameAt, CountAt, CoreAt, FlushAt, Live
 use Rattle.work_invariant.proofs.Common.{Table, Leaf, Pages, Pleaf, Comp, Thread, Tcap, TcapFields, Frame, Untyped, User, Kernel, State}
 use Rattle.work_invariant.proofs.Common.{comp_in, thread_in, thread_of, first_of_stack, refs, fits, frame_value, entry_mark, frame_mark}
 use Rattle.work_invariant.proofs.Common.{count_mark, live_mark, thread_mark, head_mark, mark_in_frame, CapNames, marked_by, settled_by}
-use Rattle.work_invariant.proofs.Common.{PlaceIs, IsFrameWord, NumberIs, WordIs, count_room, word_of_head, head_of_word, HeadWord}
+use Rattle.work_invariant.proofs.Common.{PlaceIs, IsFrameWord, NumberIs, WordIs, word_of_head, head_of_word, HeadWord}
 use Rattle.work_invariant.proofs.Common.{held_by, times_of, count_shown, SumIs, stamp_in, count_in, word_of_count, word_of_frame}
 use Rattle.work_invariant.proofs.Common.{word_of_live, at_height, thread_value, quality_of_word, stack_of_word, thread_of_word}
 use Rattle.work_invariant.proofs.Common.{end_of_frames}
@@ -18,6 +18,7 @@ use Rattle.boot_words.specs.entry_words.proofs.Spelling as entries
 use Rattle.boot_words.specs.frame_words.specs.declared.count_word.CountWord.{CountWord}
 use Rattle.boot_words.specs.frame_words.specs.declared.count_word.Hold.TheVariants.{Unheld}
 use Rattle.boot_words.specs.frame_words.specs.declared.live_word.LiveWord.TheVariants as live_word
+use Rattle.boot_words.specs.frame_words.specs.Residue.{residue}
 use Rattle.boot_words.specs.frame_words.proofs.CoreLemmas as core_words
 use Rattle.boot_words.specs.frame_words.proofs.CountLemmas as counts
 use Rattle.boot_words.specs.frame_words.proofs.FlushLemmas as flushes
@@ -130,10 +131,6 @@ first_version q version says =
     version_of v u h = cc
 
 module _ (setup : Setting) (setting : IsSetting setup) where
-  -- no call is counted
-  abbrev boot_room : ℕ
-  boot_room = count_room (start setup)
-
   parts : Represent (boot_word setup) (λ c. end_of (start setup) c) (start setup)
   parts = (boot_represents setup setting).parts
 
@@ -280,7 +277,6 @@ module _ (setup : Setting) (setting : IsSetting setup) where
     count = pos (if c == 0 then refs (start setup) f else 0);
     stamp = 0;
     says = count_reads f (if c == 0 then refs (start setup) f else 0) (least c (refs (start setup) f));
-    within = (let few = refs_most setup setting f in let part = least c (refs (start setup) f) in omega arith);
   }
   boot_says (CoreAt c) = core_words.spelling.reads (record { inside = false; stamp = 0 }) (omega arith)
   boot_says (FlushAt c) = flushes.spelling.reads (record { stamp = 0 }) (omega arith)
@@ -290,7 +286,7 @@ module _ (setup : Setting) (setting : IsSetting setup) where
   -- the counts of the start are its references
   boot_sums : (f : ℕ) → SumIs setup (held_by (boot_cores setup)) [] f
   boot_sums f = record {
-    sum = sum_of_first shown_at setup.cores setting.some_core other_none ∙ ap count_in (each 0);
+    sum = ap residue (sum_of_first shown_at setup.cores setting.some_core other_none ∙ ap count_in (each 0));
     newest = newest_none (counters setup.cores);
   }
     where

@@ -7,11 +7,14 @@ use Rattle.work_invariant.proofs.Common.{LiveAt, Place, Free, Holds, Quiescing, 
 use Rattle.work_invariant.proofs.Common.{Frame, Untyped, User, Kernel, Liveness, Unused, Live, Dead, PlaceOf, NumberOf, State, held_in}
 use Rattle.work_invariant.proofs.Common.{counters, holds_node, at_height, Trace, Phase, Out, Open, phase, state_after, last_left, is_in}
 use Rattle.work_invariant.proofs.Common.{stamp, exit_of, sound_of, Core, marked_by, settled_by, settled, PlaceIs, IsFrameWord, SaysCount}
-use Rattle.work_invariant.proofs.Common.{count_room, NumberIs, WordIs, CallIs, WorksIn, holds_in, held_by, times_of, count_shown}
+use Rattle.work_invariant.proofs.Common.{NumberIs, WordIs, CallIs, WorksIn, holds_in, held_by, times_of, count_shown}
 use Rattle.work_invariant.proofs.Common.{Invariant, limits_of, marker_inside}
 use Rattle.work_invariant.specs.core_invariant.proofs.Bare.{none_value}
 use Rattle.std.proofs.lemmas.Bool.{true≢false}
 use Rattle.boot_words.specs.spk_nums.specs.declared.translations.CoreEnd.{CoreEnd}
+use Rattle.boot_words.specs.frame_words.specs.Residue.{residue}
+use Rattle.boot_words.specs.frame_words.proofs.ResidueLemmas.{residue_pos}
+use Rattle.boot_words.specs.kernel_rules.specs.References.{refs}
 use Rattle.boot_words.specs.kernel_rules.specs.Relies.{is_node as is_sound_node}
 use Rattle.boot_words.specs.kernel_rules.specs.Start.{start}
 use Rattle.boot_words.specs.kernel_history.specs.Counts.{count_at, IsUnheld, RepresentCounts}
@@ -22,6 +25,7 @@ use Rattle.boot_words.specs.kernel_history.proofs.Inside.{inside_is}
 use Rattle.call_stages.specs.Cores.{end_of}
 use Rattle.flight.specs.Theorems.{SaysWords, AreBetween, Represents, RepresentsCounts}
 use Rattle.work_invariant.specs.kept_facts.proofs.CountSums.{sum_same}
+use Rattle.work_invariant.specs.kept_facts.proofs.Few.{few_after}
 use Rattle.work_invariant.specs.step_ways.proofs.Places.{IsMarked, IsUnmarked, place_reads}
 
 sound_node : (x : Frame) → IsTrue (holds_node x) → IsTrue (is_sound_node x)
@@ -188,19 +192,21 @@ module _ (setup : Setting) (setting : IsSetting setup) (cores : ℕ → Core) (t
     ends = λ c here. ends_are (cores c) (state_after setup t) c (works c here);
   }
 
-  unheld_is : (o : Option CountWord) (n : ℕ) → SaysCount n o → IsUnheld o
-  unheld_is o n says = subst IsUnheld (sym says.says) refl
+  unheld_is : (o : Option CountWord) → SaysCount o → IsUnheld o
+  unheld_is o says = subst IsUnheld (sym says.says) refl
 
   every : (f : ℕ) (ds : List ℕ) → All (λ d. IsUnheld (count_at (last_left setup t) f d)) ds
   every f [] = All-nil (λ d. IsUnheld (count_at (last_left setup t) f d))
   every f (d ∷ ds) = All-cons (λ d. IsUnheld (count_at (last_left setup t) f d)) d ds
-      (unheld_is (count_at (last_left setup t) f d) (count_room (state_after setup t)) (word_is (CountAt f d))) (every f ds)
+      (unheld_is (count_at (last_left setup t) f d) (word_is (CountAt f d))) (every f ds)
 
   counts_represent : RepresentCounts (last_left setup t) (state_after setup t)
   counts_represent f here = record {
     unheld = every f (counters (state_after setup t).limits.cores);
-    sum = sum_same (count_shown setup (held_by cores) t f) (count_at (last_left setup t) f) (counters (state_after setup t).limits.cores)
-        (λ d. sym (ap count_of_word (settled_is (CountAt f d)))) ∙ (stands.sums f).sum;
+    sum = ap residue (sum_same (count_shown setup (held_by cores) t f) (count_at (last_left setup t) f)
+        (counters (state_after setup t).limits.cores) (λ d. sym (ap count_of_word (settled_is (CountAt f d)))))
+        ∙ (stands.sums f).sum ∙ residue_pos (refs (state_after setup t) f)
+        (let few = few_after setup setting t stands.legal f in omega (arith, few));
   }
 
 pub represents : Represents

@@ -18,8 +18,7 @@ use Rattle.core_invariant.specs.call_stages.specs.View.{Core}
 use Rattle.thread_laws.specs.kernel_history.specs.Marking.{marked_by}
 use Rattle.thread_laws.specs.kernel_history.specs.Discipline.{MarksOwn}
 use Rattle.core_invariant.specs.Holding.{Holding, bare_value, settled_by, settled, MarkIs}
-use Rattle.core_invariant.specs.Words.{Times, IsFrameWord, NumberIs, count_room, WordIs}
-use Rattle.core_invariant.proofs.Ranges.{within_more}
+use Rattle.core_invariant.specs.Words.{Times, IsFrameWord, NumberIs, WordIs}
 use Rattle.core_invariant.proofs.Bare.{same_value, core_bare, AsBefore}
 use Rattle.core_invariant.specs.Invariant.{holds, held_by, times_of}
 
@@ -41,7 +40,7 @@ pub record SameNumber (s s' : State) (m m' : Times) (l : ℕ) : Type 0 where
 abbrev pub SameFor : State → State → Times → Times → Word → Type 0
 SameFor s s' m m' (EntryAt f i) = SameEntry s s' m m' f i
 SameFor s s' m m' (FrameAt f) = s'.frame f ≡ s.frame f
-SameFor s s' m m' (CountAt f c) = count_room s ≤ count_room s'
+SameFor s s' m m' (CountAt f c) = Unit {0}
 SameFor s s' m m' (CoreAt c) = SameCore s s' m m' c
 SameFor s s' m m' (FlushAt c) = m'.flush c ≡ m.flush c
 SameFor s s' m m' (LiveAt l) = SameNumber s s' m m' l
@@ -63,8 +62,7 @@ number_same {a} {a'} {r} {r'} x ns rs h =
 pub word_stays : (s s' : State) (m m' : Times) (w : Word) (x : ℕ) → SameFor s s' m m' w → WordIs s m w x → WordIs s' m' w x
 word_stays s s' m m' (EntryAt f i) x same h = entry_same i x same.frames same.frame same.place same.stamp h
 word_stays s s' m m' (FrameAt f) x same h = h ∙ ap (λ y. Some (frame_value y)) (sym same)
-word_stays s s' m m' (CountAt f c) x same h =
-    record { count = h.count; stamp = h.stamp; says = h.says; within = within_more h.count (count_room s) (count_room s') same h.within }
+word_stays s s' m m' (CountAt f c) x same h = h
 word_stays s s' m m' (CoreAt c) x same h =
     h ∙ ap (λ y. Some (record { inside = y; stamp = m.exit c })) (sym same.inside) ∙ ap
     (λ (y : ℕ). Some (record { inside = (s'.core c).inside; stamp = y })) (sym same.exit)

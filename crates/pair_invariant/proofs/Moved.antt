@@ -8,7 +8,7 @@ use Rattle.count_invariant.proofs.Common.{with_frame, thread_in, comp_in, thread
 use Rattle.count_invariant.proofs.Common.{frame_names, times, IsGuarded, tcap_at, moved, counted, frame_refs, sum_one, put_same}
 use Rattle.count_invariant.proofs.Common.{put_other, mark_in_frame, frame_value, stamp, Step, Trace, phase, state_after, last_left}
 use Rattle.count_invariant.proofs.Common.{decided-inside, ActiveCall, Core, settled, WorksIn, HasTcap, held_by, times_of, counted_in}
-use Rattle.count_invariant.proofs.Common.{Invariant, IsFrameWord, count_room, IsUntimed, plain_stamp, plain_flush, plain_exit}
+use Rattle.count_invariant.proofs.Common.{Invariant, IsFrameWord, IsUntimed, plain_stamp, plain_flush, plain_exit}
 use Rattle.count_invariant.proofs.Common.{counted_refs, limits_of, SameFor, ReadsAlike, StaysSaid, word_stays, fits}
 use Rattle.quality_lists.specs.spk_nums.specs.declared.replies.Reply.TheVariants as reply
 use Rattle.quality_lists.specs.spk_nums.specs.declared.replies.Value.TheVariants as value
@@ -147,15 +147,6 @@ module _ (setup : Setting) (setting : IsSetting setup) (cores : ℕ → Core) (t
   pub rises : counted_in setup s ≤ counted_in setup s'
   rises = let more = rises_more in omega (arith, more)
 
-  pub room_more : 1 + count_room s ≤ count_room s'
-  room_more =
-      subst (λ (n : ℕ). 1 + count_room s ≤ 16 + 4 * sum_below (λ d. (s'.core d).counted) n) (sym (ap (λ l. l.cores) limits))
-      (subst (λ (n : ℕ). 1 + (16 + 4 * sum_below (λ d. (s.core d).counted) n) ≤ 16 + 4 * sum_below (λ d. (s'.core d).counted) n)
-      (sym (ap (λ l. l.cores) (limits_of setup t))) (let more = rises_more in omega (arith, more)))
-
-  room_grows : count_room s ≤ count_room s'
-  room_grows = let more = room_more in omega (arith, more)
-
   whose : thread_of s' c ≡ thread_of s c
   whose = still_so _ thread_in (λ y z. refl) (s'.core c).thread ∙ ap (λ k. thread_in (s.frame k.thread)) core_now
 
@@ -239,7 +230,7 @@ module _ (setup : Setting) (setting : IsSetting setup) (cores : ℕ → Core) (t
     ]
   ]
   stays lists (FrameAt h) first second same = λ before. before ∙ sym (ap (λ v. Some v) (still_so _ frame_value (λ y z. refl) h))
-  stays lists (CountAt h d) first second same = said (CountAt h d) room_grows
+  stays lists (CountAt h d) first second same = said (CountAt h d) tt
   stays lists (CoreAt d) first second same = said (CoreAt d) (record {
     inside = decided-inside (Some (reply.Ok value.Nothing)) (phase t c) s c d;
     exit = plain_exit t e refl d;

@@ -19,8 +19,8 @@ use Rattle.count_invariant.proofs.Common.{wide_ways, target_of, changes_places, 
 use Rattle.count_invariant.proofs.Common.{ok_first, entry_mark, mark_in_frame, mark_of, marked_by, ends_in, flushes_in, stamp}
 use Rattle.count_invariant.proofs.Common.{CapNames, Plan, of_kind, plan_for, GoesBy, own_pages, calls_go, leads_by, outcome_left}
 use Rattle.count_invariant.proofs.Common.{rule_after, names_after, Leads, LeadsIn, NextName, NextFree, next_of, Act, Undecided, Decided}
-use Rattle.count_invariant.proofs.Common.{ActiveCall, put_by, reads_of, page_cap, named_by, times, refs, reads_alike, room_grows, IsCalm}
-use Rattle.count_invariant.proofs.Common.{IsUntimed, plain_stamp, limits_of, holds_counts, IsWithin, landed, Core, StageFits, HasRoom}
+use Rattle.count_invariant.proofs.Common.{ActiveCall, put_by, reads_of, page_cap, named_by, times, refs, reads_alike, IsCalm}
+use Rattle.count_invariant.proofs.Common.{IsUntimed, plain_stamp, limits_of, holds_counts, landed, Core, StageFits, HasRoom}
 use Rattle.count_invariant.proofs.Common.{PlaceIs, IsFrameWord, WordIs, HasFound, ReadIs, MayFill, KnowsUndecided, own_in}
 use Rattle.count_invariant.proofs.Common.{phase_at, holds_at, holds_in, holds, times_of, Invariant, own_kept, slot_relies}
 use Rattle.count_invariant.specs.step_ways.proofs.Good.{spares_node}
@@ -361,9 +361,6 @@ module _ (setup : Setting) (setting : IsSetting setup) (cores : ℕ → Core) (t
         let same = counts in
         omega arith
 
-    one_small : IsWithin (pos 1) 1
-    one_small = omega arith
-
     none_small : 0 < 2 ^ 28
     none_small = omega arith
 
@@ -397,11 +394,10 @@ module _ (setup : Setting) (setting : IsSetting setup) (cores : ℕ → Core) (t
         of_call lands opens refl refl (not_exclusive_word setup cores t stands node index (node_keeps_none (s.frame node) in_node))
         calm plain (spares_node setup t e node index refl in_node) counts elsewhere
         (subst (WordIs (state_after setup (e ∷ t)) (times_of setup (e ∷ t)) (EntryAt node index)) (sym leaves) word_now)
-        held_is (λ w own. counts_commit setup setting cores t stands c here a active (pos 1) one_small None none_small
+        held_is (λ w own. counts_commit setup setting cores t stands c here a active (pos 1) None none_small
         (named_by k.kind k.frame) few has.knows.all compare
-        (reply.Ok Nothing) after still before_count (λ f d. refl) (reads_alike setup t e calm.frame) unmarked.mark bare_now no_count
-        (room_grows s (state_after setup (e ∷ t)) c calm core_below one_more) w (own_marked w own))
-        (counts_sum setup setting cores t stands c here a active (pos 1) one_small None none_small (named_by k.kind k.frame) few
+        (reply.Ok Nothing) after still before_count (λ f d. refl) (reads_alike setup t e calm.frame) unmarked.mark bare_now no_count w (own_marked w own))
+        (counts_sum setup setting cores t stands c here a active (pos 1) None none_small (named_by k.kind k.frame) few
         has.knows.all compare
         (reply.Ok Nothing) after still before_count (λ f d. refl) (reads_alike setup t e calm.frame) unmarked.mark bare_now no_count
         (ap (λ l. l.cores) calm.limits)

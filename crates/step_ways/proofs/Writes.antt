@@ -6,7 +6,7 @@ use Rattle.kept_facts.proofs.Common.{InLimits, Setting, IsSetting, Call, Reply, 
 use Rattle.kept_facts.proofs.Common.{FlushAt, ClockAt, Move, StoreOf, word_of, left_of, FrameOf, put, sum_below, alone, put_same, Step}
 use Rattle.kept_facts.proofs.Common.{Trace, Out, Open, phase, after_decide, state_after, last_left, IsAlone, IsFirst, MayDecide}
 use Rattle.kept_facts.proofs.Common.{MayFollow, mark_of, clock, exit_of, decided-inside, phase-own, steps_in_call-own, last_left-there}
-use Rattle.kept_facts.proofs.Common.{Stage, Decided, Leave, ActiveCall, Core, core_word, fresh, marked_by, count_room, WordIs, limits_of}
+use Rattle.kept_facts.proofs.Common.{Stage, Decided, Leave, ActiveCall, Core, core_word, fresh, marked_by, WordIs, limits_of}
 use Rattle.kept_facts.proofs.Common.{phase_at, KnowsAt, Knows, IsCount, CallIs, WorksIn, CoreIs, is_flushing, flushing_in, is_done}
 use Rattle.kept_facts.proofs.Common.{holds_at, holds_in, holds, held_by, times_of, counted_in, SumIs, Invariant, marks_own, settled_on}
 use Rattle.kept_facts.proofs.Common.{ReadsAlike, reads_alike, StaysSaid, word_stays, carry_marks, carry_words, sums_stay, counts_bare}
@@ -56,20 +56,6 @@ clock_small setup setting cores t stands =
     let draws = stands.draws in
     let few = setting.most_cores in
     omega arith
-
--- So few calls leave room in each count's field, and in that of each version.
-pub room_left : (setup : Setting) → IsSetting setup → (cores : ℕ → Core) (t : Trace) → Invariant setup cores t
-    → count_room (state_after setup t) + 1 < 2 ^ 28
-room_left setup setting cores t stands =
-    subst (λ (n : ℕ). 16 + 4 * sum_below (λ c. ((state_after setup t).core c).counted) n + 1 < 2 ^ 28)
-    (sym (ap (λ l. l.cores) (limits_of setup t)))
-    (let most = sum_most (λ c. ((state_after setup t).core c).counted) setup.cores (made_most setup cores t stands) in
-    let few = setting.most_cores in
-    omega arith)
-
-pub room_small : (setup : Setting) → IsSetting setup → (cores : ℕ → Core) (t : Trace) → Invariant setup cores t
-    → count_room (state_after setup t) < 2 ^ 28
-room_small setup setting cores t stands = let more = room_left setup setting cores t stands in omega arith
 
 -- The word of a core reads as what was stored.
 pub core_reads : (inside : Bool) (stamp : ℕ) → stamp < 2 ^ 28

@@ -7,7 +7,7 @@ use Rattle.live_invariant.proofs.Common.{ClockAt, Move, word_of, left_of, Grace,
 use Rattle.live_invariant.proofs.Common.{State, thread_of, put, sum_below, times, refs, sum_one, mark_of, mark_in_frame, marked_by}
 use Rattle.live_invariant.proofs.Common.{at_height, thread_value, stamp, flush_stored, Step, Trace, phase, state_after, last_left}
 use Rattle.live_invariant.proofs.Common.{decided-inside, last_left-there, ActiveCall, Core, settled, IsFrameWord, IsThreadWord, WordIs}
-use Rattle.live_invariant.proofs.Common.{count_room, holds, held_by, times_of, counted_in, IsExclusive, Invariant, plain_exit, runs_on_own}
+use Rattle.live_invariant.proofs.Common.{holds, held_by, times_of, counted_in, IsExclusive, Invariant, plain_exit, runs_on_own}
 use Rattle.live_invariant.proofs.Common.{limits_of, ReadsAlike, SameFor, StaysSaid, word_stays, frame_value}
 use Rattle.live_invariant.specs.core_invariant.specs.Invariant.{SaysRunning}
 use Rattle.live_invariant.specs.step_ways.proofs.Keeping.{keeping_words}
@@ -89,12 +89,6 @@ module _ (setup : Setting) (setting : IsSetting setup) (cores : ℕ → Core) (t
       let more : (s'.core c).counted ≡ (s.core c).counted + 1 = ap (λ k. k.counted) core_now in
       omega (arith, sum, more)
 
-  pub more_room : count_room s + 4 ≤ count_room s'
-  more_room =
-      subst (λ (m : ℕ). count_room s + 4 ≤ 16 + 4 * sum_below (λ d. (s'.core d).counted) m) (sym (ap (λ l. l.cores) limits))
-      (subst (λ (m : ℕ). 16 + 4 * sum_below (λ d. (s.core d).counted) m + 4 ≤ 16 + 4 * sum_below (λ d. (s'.core d).counted) m)
-      (sym (ap (λ l. l.cores) (limits_of setup t))) (let more = grows in omega (arith, more)))
-
   pub alike : ReadsAlike setup t e
   alike (EntryAt g i) = elim (cases_eq g (s.core c).thread) [
     | inl same ↦ ap (λ x. mark_in_frame x i (last_left setup (e ∷ t) (EntryAt g i))) (frame_now g same)
@@ -156,7 +150,7 @@ module _ (setup : Setting) (setting : IsSetting setup) (cores : ℕ → Core) (t
         ∙ ap (λ x. Some (frame_value x)) (sym (frame_now g same))
     | inr other ↦ said (FrameAt g) (frame_away g other)
   ]
-  stays (CountAt g d) there free unkept = said (CountAt g d) (let more = more_room in omega (arith, more))
+  stays (CountAt g d) there free unkept = said (CountAt g d) tt
   stays (CoreAt d) there free unkept = said (CoreAt d) (record {
     inside = decided-inside (Some reply) (phase t c) s c d;
     exit = plain_exit t e refl d;

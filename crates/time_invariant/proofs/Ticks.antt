@@ -17,7 +17,7 @@ use Rattle.step_ways.proofs.Common.{IsJustified, IsRaceLost, ends_in, flushes_in
 use Rattle.step_ways.proofs.Common.{state_decided_in, own_left, ok_first, decided-inside, not_inside, not_changed, last_small}
 use Rattle.step_ways.proofs.Common.{own_read-here, Acquired, head, debited, head_end, Charge, Own, own_changed, Act, Goes, Undecided}
 use Rattle.step_ways.proofs.Common.{Decided, ActiveCall, HasRoom, landed, own_decided, Core, holds_counts, settled_by, settled, HeadIs}
-use Rattle.step_ways.proofs.Common.{IsFrameWord, WordIs, count_room, due_of, ChargesBy, KnowsUndecided, WorksIn, phase_at, untypes}
+use Rattle.step_ways.proofs.Common.{IsFrameWord, WordIs, due_of, ChargesBy, KnowsUndecided, WorksIn, phase_at, untypes}
 use Rattle.step_ways.proofs.Common.{holds_at, holds_in, holds, held_by, times_of, counted_in, Invariant, done_by, IsUntimed, plain_begins}
 use Rattle.step_ways.proofs.Common.{plain_stamp, plain_flush, plain_exit, counted_refs, list_changed, TurnsHead, SparesTcap}
 use Rattle.step_ways.proofs.Common.{marker_inside, limits_of, sums_keep, SameFor, ReadsAlike, StaysSaid, marks_own, settled_on}
@@ -194,12 +194,6 @@ module _ (setup : Setting) (setting : IsSetting setup) (cores : ℕ → Core) (t
         let more : (s'.core c).counted ≡ (s.core c).counted + 1 = ap (λ k. k.counted) core_now in
         omega arith
 
-    more_room : count_room s ≤ count_room s'
-    more_room =
-        subst (λ (m : ℕ). count_room s ≤ 16 + 4 * sum_below (λ d. (s'.core d).counted) m) (sym (ap (λ l. l.cores) limits))
-        (subst (λ (m : ℕ). 16 + 4 * sum_below (λ d. (s.core d).counted) m ≤ 16 + 4 * sum_below (λ d. (s'.core d).counted) m)
-        (sym (ap (λ l. l.cores) (limits_of setup t))) (let more = rises in omega arith))
-
     still : holds after ≡ holds (cores c)
     still = held_after ∙ sym held_is ∙ ap holds_in (sym active)
 
@@ -262,7 +256,7 @@ module _ (setup : Setting) (setting : IsSetting setup) (cores : ℕ → Core) (t
       stamp = plain_stamp setup t e plain (PlaceOf g i);
     }
     same_words (FrameAt g) = frames g
-    same_words (CountAt g d) = more_room
+    same_words (CountAt g d) = tt
     same_words (CoreAt d) = record { inside = decided-inside (Some r) (phase t c) s c d; exit = plain_exit t e refl d }
     same_words (FlushAt d) = plain_flush setup t e plain d
     same_words (LiveAt l) = record { number = ap (λ x. x.number l) now; stamp = plain_stamp setup t e plain (NumberOf l) }
@@ -527,15 +521,6 @@ module _ (setup : Setting) (setting : IsSetting setup) (cores : ℕ → Core) (t
     rises_won : counted_in setup s ≤ counted_in setup s_won
     rises_won = let more = rises_more in omega arith
 
-    room_more : 1 + count_room s ≤ count_room s_won
-    room_more =
-        subst (λ (m : ℕ). 1 + count_room s ≤ 16 + 4 * sum_below (λ d. (s_won.core d).counted) m) (sym (ap (λ l. l.cores) limits_won))
-        (subst (λ (m : ℕ). 1 + (16 + 4 * sum_below (λ d. (s.core d).counted) m) ≤ 16 + 4 * sum_below (λ d. (s_won.core d).counted) m)
-        (sym (ap (λ l. l.cores) (limits_of setup t))) (let more = rises_more in omega arith))
-
-    room_won : count_room s ≤ count_room s_won
-    room_won = let more = room_more in omega arith
-
     whose_won : thread_of s_won c ≡ thread_of s c
     whose_won = threads_won (s_won.core c).thread ∙ ap (λ k. thread_in (s.frame k.thread)) core_won
 
@@ -627,7 +612,7 @@ module _ (setup : Setting) (setting : IsSetting setup) (cores : ℕ → Core) (t
           ∙ ap (λ x. Some (frame_value x)) (sym (frame_here g same))
       | inr other ↦ said_won (FrameAt g) (frame_there g other)
     ]
-    stays_won (CountAt g d) there free = said_won (CountAt g d) room_won
+    stays_won (CountAt g d) there free = said_won (CountAt g d) tt
     stays_won (CoreAt d) there free = said_won (CoreAt d) (record {
       inside = decided-inside (Some (reply.Ok (Amount charged))) (phase t c) s c d;
       exit = plain_exit t e_won refl d;
