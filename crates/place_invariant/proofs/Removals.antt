@@ -358,7 +358,7 @@ module _ (setup : Setting) (setting : IsSetting setup) (cores : ℕ → Core) (t
         (same w no_clock bare)
 
     -- the entry stands for the quiescing one
-    small : x < 2 ^ 28
+    small : x < 2 ^ 43
     small = clock_small setup setting cores t stands
 
     stored_fits : EntryFits (entry.Quiescing now_at)
@@ -397,7 +397,7 @@ module _ (setup : Setting) (setting : IsSetting setup) (cores : ℕ → Core) (t
     one_small : IsWithin (negsuc 0) 1
     one_small = omega arith
 
-    drawn_small : later 0 (Some now_at) < 2 ^ 28
+    drawn_small : later 0 (Some now_at) < 2 ^ 43
     drawn_small = let low = small in let is = drawn_is in omega arith
 
     no_count : (f d : ℕ) → CountAt f d ≢ ClockAt

@@ -449,7 +449,7 @@ module _ (setup : Setting) (setting : IsSetting setup) (cores : ℕ → Core) (t
       (All-cons IsSmall (record { frame = (s.core c).thread; change = negsuc 0 }) (tcap_dues same_tcap m.tcap (s.core c).tcap) down_small
       (small_tcaps same_tcap))
 
-  drawn_small : later 0 (Some now_at) < 2 ^ 28
+  drawn_small : later 0 (Some now_at) < 2 ^ 43
   drawn_small = let low = clock_small setup setting cores t stands in let same = drawn_is in omega (arith, low, same)
 
   -- the references
