@@ -507,7 +507,7 @@ module _ (setup : Setting) (setting : IsSetting setup) (cores : ℕ → Core) (t
     no_count : (g d : ℕ) → CountAt g d ≢ EntryAt node index
     no_count g d h = cc
 
-    none_small : 0 < 2 ^ 28
+    none_small : 0 < 2 ^ 43
     none_small = omega arith
 
     max_zero : (n : ℕ) → n ≡ max n 0

@@ -333,7 +333,7 @@ pub record KnowsFlush (t : Trace) (c : ℕ) (call : Call) (by at : ℕ) : Type 0
   pub stores : stores_flush call ≡ true
   pub core : by ≡ c
   pub some : 1 ≤ at
-  pub small : at < 2 ^ 28
+  pub small : at < 2 ^ 43
   pub last : flush_of t c ≡ at
 
 -- The number and the frame whose words are still to be stored: the number is in the call's footprint at a moment of it, and both words

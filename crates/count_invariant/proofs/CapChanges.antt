@@ -20,7 +20,7 @@ two_named z f g fs few = omega arith
 module _ (setup : Setting) (setting : IsSetting setup) (cores : ℕ → Core) (t : Trace) (stands : Invariant setup cores t) (c : ℕ)
     (here : c < setup.cores)
     (a : ActiveCall) (active : (cores c).active ≡ Some a) (z : ℤ) (drawn : Option ℕ)
-    (drawn_small : later 0 drawn < 2 ^ 28)
+    (drawn_small : later 0 drawn < 2 ^ 43)
     (fs : List ℕ) (few : length (dues_of z fs) ≤ 1) (all : dues_of z fs ≡ map due_of a.counts)
     (move : Move) (r : Reply) (after : Core) (still : (w : Word) → (holds after).marks w ≡ (holds (cores c)).marks w)
     (before_count : (f d : ℕ) → ((holds (cores c)).marks (CountAt f d) ≡ (holds_counts None a.counts).marks (CountAt f d))

@@ -31,7 +31,7 @@ later_max x None = omega arith
 later_max x (Some y) = omega arith
 
 -- The stamp that a change brings is the one that was drawn, or none.
-brought_small : (z : ℤ) (drawn : Option ℕ) → later 0 drawn < 2 ^ 28 → later 0 (stamp_of_change z drawn) < 2 ^ 28
+brought_small : (z : ℤ) (drawn : Option ℕ) → later 0 drawn < 2 ^ 43 → later 0 (stamp_of_change z drawn) < 2 ^ 43
 brought_small (pos n) drawn small = omega arith
 brought_small (negsuc n) drawn small = small
 
@@ -149,7 +149,7 @@ count_word (x ∷ xs) w mark = elim (cases_word w (count_of x)) [
 -- holds no count beside those; the frames of these are spared.
 module _ (setup : Setting) (setting : IsSetting setup) (cores : ℕ → Core) (t : Trace) (stands : Invariant setup cores t) (c : ℕ)
     (here : c < setup.cores)
-    (a : ActiveCall) (active : (cores c).active ≡ Some a) (drawn : Option ℕ) (drawn_small : later 0 drawn < 2 ^ 28)
+    (a : ActiveCall) (active : (cores c).active ≡ Some a) (drawn : Option ℕ) (drawn_small : later 0 drawn < 2 ^ 43)
     (ds : List Due) (all : ds ≡ map due_of a.counts)
     (spared : ℕ → Type 0) (all_spared : All (λ x. spared x.pin.frame) a.counts)
     (move : Move) (r : Reply) (after : Core) (still : (w : Word) → (holds after).marks w ≡ (holds (cores c)).marks w)
@@ -240,7 +240,7 @@ module _ (setup : Setting) (setting : IsSetting setup) (cores : ℕ → Core) (t
     abbrev made_count : ℤ
     made_count = changed count x.change
 
-    new_small : new < 2 ^ 28
+    new_small : new < 2 ^ 43
     new_small =
         let a = later_max old brought in
         let b = known.fits.2 in
@@ -359,7 +359,7 @@ all_unit (x ∷ xs) = All-cons (λ x. Unit {0}) x xs tt (all_unit xs)
 -- The core holds no other count.
 module _ (setup : Setting) (setting : IsSetting setup) (cores : ℕ → Core) (t : Trace) (stands : Invariant setup cores t) (c : ℕ)
     (here : c < setup.cores)
-    (a : ActiveCall) (active : (cores c).active ≡ Some a) (drawn : Option ℕ) (drawn_small : later 0 drawn < 2 ^ 28)
+    (a : ActiveCall) (active : (cores c).active ≡ Some a) (drawn : Option ℕ) (drawn_small : later 0 drawn < 2 ^ 43)
     (ds : List Due) (all : ds ≡ map due_of a.counts)
     (move : Move) (r : Reply) (after : Core) (still : (w : Word) → (holds after).marks w ≡ (holds (cores c)).marks w)
     (before_count : (f d : ℕ) → ((holds (cores c)).marks (CountAt f d) ≡ (holds_counts None a.counts).marks (CountAt f d))

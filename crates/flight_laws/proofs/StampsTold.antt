@@ -111,8 +111,8 @@ within_more (pos k) n m low within = omega (arith, low, within)
 within_more (negsuc k) n m low within = omega (arith, low, within)
 
 -- The stamp that is stored with a count that changes.
-later_small : (stamp : ℕ) (change : ℤ) (drawn : Option ℕ) → stamp < 2 ^ 28 → IsSmall drawn
-    → later stamp (stamp_of_change change drawn) < 2 ^ 28
+later_small : (stamp : ℕ) (change : ℤ) (drawn : Option ℕ) → stamp < 2 ^ 43 → IsSmall drawn
+    → later stamp (stamp_of_change change drawn) < 2 ^ 43
 later_small stamp (pos n) drawn small fits = small
 later_small stamp (negsuc n) None small fits = small
 later_small stamp (negsuc n) (Some x) small fits = omega (arith, small, fits)

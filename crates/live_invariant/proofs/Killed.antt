@@ -292,7 +292,7 @@ module _ (setup : Setting) (setting : IsSetting setup) (cores : ℕ → Core) (t
         (same w no_clock bare)
 
     -- the number's word stands for the dead one
-    small : x < 2 ^ 28
+    small : x < 2 ^ 43
     small = clock_small setup setting cores t stands
 
     stored_fits : LiveFits (live_word.Dead life.epoch now_at)
@@ -330,7 +330,7 @@ module _ (setup : Setting) (setting : IsSetting setup) (cores : ℕ → Core) (t
     few : length (dues_of (negsuc 0) fs) ≤ 1
     few = omega arith
 
-    drawn_small : later 0 (Some now_at) < 2 ^ 28
+    drawn_small : later 0 (Some now_at) < 2 ^ 43
     drawn_small = let low = small in let is = drawn_is in omega arith
 
     no_count : (g d : ℕ) → CountAt g d ≢ ClockAt

@@ -361,7 +361,7 @@ module _ (setup : Setting) (setting : IsSetting setup) (cores : ℕ → Core) (t
         let same = counts in
         omega arith
 
-    none_small : 0 < 2 ^ 28
+    none_small : 0 < 2 ^ 43
     none_small = omega arith
 
     max_zero : (n : ℕ) → n ≡ max n 0

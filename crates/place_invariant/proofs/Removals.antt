@@ -357,7 +357,7 @@ module _ (setup : Setting) (setting : IsSetting setup) (cores : ℕ → Core) (t
         (same w no_clock bare)
 
     -- the entry stands for the quiescing one
-    small : x < 2 ^ 28
+    small : x < 2 ^ 43
     small = clock_small setup setting cores t stands
 
     stored_fits : EntryFits (entry.Quiescing now_at)
@@ -393,7 +393,7 @@ module _ (setup : Setting) (setting : IsSetting setup) (cores : ℕ → Core) (t
     falls : (f : ℕ) → refs s' f + times f fs ≡ refs s f
     falls f = ap (λ y. refs y f + times f fs) now ∙ removed_refs s c node index cap graces node_below fits.0.1 held_cap f
 
-    drawn_small : later 0 (Some now_at) < 2 ^ 28
+    drawn_small : later 0 (Some now_at) < 2 ^ 43
     drawn_small = let low = small in let is = drawn_is in omega arith
 
     no_count : (f d : ℕ) → CountAt f d ≢ ClockAt

@@ -425,7 +425,7 @@ module _ (setup : Setting) (setting : IsSetting setup) (cores : ℕ → Core) (t
         let none : times g (frame_names Untyped) ≡ 0 = refl in
         omega (arith, one, two, three, four, five, none)
 
-    drawn_small : later 0 (Some now_at) < 2 ^ 28
+    drawn_small : later 0 (Some now_at) < 2 ^ 43
     drawn_small = let low = clock_small setup setting cores t stands in let is = drawn_is in omega arith
 
     kept : (g : ℕ) → g ≢ f → All (λ (d : Due). g ≢ d.frame) ds

@@ -421,7 +421,7 @@ module _ (setup : Setting) (setting : IsSetting setup) (cores : ℕ → Core) (t
       ∙ ap (λ (g : ℕ). all_dues (m.tcap == m.old_tcap) to.thread g m.tcap m.old_tcap) (sym old_same)
       ∙ calls.dues_at setup setting cores t stands c here a active m stage_is has (Draw to table pages) is
 
-  drawn_small : later 0 (Some now_at) < 2 ^ 28
+  drawn_small : later 0 (Some now_at) < 2 ^ 43
   drawn_small = let low = clock_small setup setting cores t stands in let same = drawn_is in omega (arith, low, same)
 
   -- the references

@@ -279,7 +279,7 @@ module _ (setup : Setting) (setting : IsSetting setup) (cores : ℕ → Core) (t
   few : length (dues_of (pos 1) (m.comp ∷ [])) ≤ 1
   few = omega arith
 
-  none_drawn : later 0 None < 2 ^ 28
+  none_drawn : later 0 None < 2 ^ 43
   none_drawn = omega arith
 
   dues_are : dues_of (pos 1) (m.comp ∷ []) ≡ Rattle.std.proofs.Common.map due_of a.counts

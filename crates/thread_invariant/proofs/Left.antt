@@ -303,7 +303,7 @@ module _ (setup : Setting) (setting : IsSetting setup) (cores : ℕ → Core) (t
   few : length (dues_of (negsuc 0) (m.top ∷ [])) ≤ 1
   few = omega arith
 
-  drawn_small : later 0 (Some now_at) < 2 ^ 28
+  drawn_small : later 0 (Some now_at) < 2 ^ 43
   drawn_small = let low = clock_small setup setting cores t stands in let same = drawn_is in omega arith
 
   dues_are : dues_of (negsuc 0) (m.top ∷ []) ≡ Rattle.std.proofs.Common.map due_of a.counts
