@@ -1,5 +1,5 @@
 -- Sums of integers modulo 2 ^ 16.
-use Rattle.std.proofs.Common.{◌≡◌, ℕ, ℤ, pos, negsuc, ◌+ℤ◌, ◌-ℤ◌, ◌*ℤ◌, ◌^◌, ◌<◌, arith}
+use Rattle.std.proofs.Common.{◌≡◌, ℕ, ℤ, pos, negsuc, ◌+ℤ◌, ◌-ℤ◌, ◌*ℤ◌, ◌^◌, ◌<◌, arith, ◌∙◌, ap}
 use Rattle.std.proofs.lemmas.Int.{ints}
 use Rattle.kernel_history.specs.frame_words.specs.Residue.{residue}
 use Rattle.kernel_history.specs.frame_words.proofs.ResidueLemmas.{residue_small, over}
@@ -23,3 +23,12 @@ residue_plus x z y same =
     by : (r q w : ℕ) (k m n : ℤ) → r ≡ q → z ≡ pos r +ℤ pos (2 ^ 16) *ℤ k → y ≡ pos q +ℤ pos (2 ^ 16) *ℤ m
         → x +ℤ y ≡ pos w +ℤ pos (2 ^ 16) *ℤ n → x +ℤ z ≡ pos w +ℤ pos (2 ^ 16) *ℤ (n +ℤ (k -ℤ m))
     by r q w k m n is one two three = omega (arith, ints, is, one, two, three)
+
+turned : (a b : ℤ) → a +ℤ b ≡ b +ℤ a
+turned a b = omega (arith, ints)
+
+pub plus_residue : (x z y : ℤ) → residue x ≡ residue z → residue (x +ℤ y) ≡ residue (z +ℤ y)
+plus_residue x z y same = ap residue (turned x y) ∙ residue_plus y x z same ∙ ap residue (turned y z)
+
+pub both_residues : (x z y w : ℤ) → residue x ≡ residue z → residue y ≡ residue w → residue (x +ℤ y) ≡ residue (z +ℤ w)
+both_residues x z y w first second = plus_residue x z y first ∙ residue_plus z y w second

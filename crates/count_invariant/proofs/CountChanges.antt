@@ -9,7 +9,6 @@ use Rattle.step_ways.proofs.Common.{Step, Trace, state_after, last_left, cases_w
 use Rattle.step_ways.proofs.Common.{Acquired, Due, ActiveCall, Core, stamp_in, count_of, committed, holds_counts, AreApart}
 use Rattle.step_ways.proofs.Common.{settled_by, settled, SaysCount, WordIs, due_of, IsCount, holds, held_by, times_of}
 use Rattle.step_ways.proofs.Common.{count_shown, SumIs, Invariant, limits_of, ReadsAlike, others_settled, own_settled}
-use Rattle.std.proofs.lemmas.Int.{ints}
 use Rattle.std.proofs.lemmas.List.Elements.{All-map, All-weaker}
 use Rattle.plan_ways.specs.frame_words.specs.Residue.{residue}
 use Rattle.plan_ways.specs.frame_words.proofs.CountLemmas as counts
@@ -20,7 +19,7 @@ use Rattle.step_ways.specs.core_invariant.specs.CountWords.{newest_of}
 use Rattle.step_ways.specs.kept_facts.proofs.CountSums.{counter_once, sum_same, sum_by, newest_same, newest_one}
 use Rattle.step_ways.proofs.Counting.{first_marked, first_stands}
 use Rattle.step_ways.proofs.Loads.{call_is, inner}
-use Rattle.step_ways.specs.core_invariant.proofs.Residues.{residue_plus}
+use Rattle.step_ways.specs.core_invariant.proofs.Residues.{plus_residue}
 
 same_count : (f d g b : ℕ) → CountAt f d ≡ CountAt g b → (f ≡ g) × (d ≡ b)
 same_count f d g b h = (cc, cc)
@@ -34,13 +33,6 @@ later_max x (Some y) = omega arith
 brought_small : (z : ℤ) (drawn : Option ℕ) → later 0 drawn < 2 ^ 43 → later 0 (stamp_of_change z drawn) < 2 ^ 43
 brought_small (pos n) drawn small = omega arith
 brought_small (negsuc n) drawn small = small
-
--- Integers of one residue have one residue still where a change is added.
-added_alike : (x z y : ℤ) → residue x ≡ residue z → residue (x +ℤ y) ≡ residue (z +ℤ y)
-added_alike x z y same = ap residue (turned x y) ∙ residue_plus y x z same ∙ ap residue (sym (turned z y))
-  where
-    turned : (a b : ℤ) → a +ℤ b ≡ b +ℤ a
-    turned a b = omega (arith, ints)
 
 -- One of the counts that a call has acquired, and the only one of its frame: what the call's words of the frame are by it.
 record IsOneOf (xs : List Acquired) (x : Acquired) : Type 0 where
@@ -314,7 +306,7 @@ module _ (setup : Setting) (setting : IsSetting setup) (cores : ℕ → Core) (t
           record {
             sum = ap (λ (n : ℕ). residue (count_sum (shown' has.x.pin.frame) (counters n))) cores_same
                 ∙ sum_here f has
-                ∙ added_alike (count_sum (shown has.x.pin.frame) (counters s.limits.cores)) (pos (refs s has.x.pin.frame)) has.x.change
+                ∙ plus_residue (count_sum (shown has.x.pin.frame) (counters s.limits.cores)) (pos (refs s has.x.pin.frame)) has.x.change
                 (stands.sums has.x.pin.frame).sum
                 ∙ ap residue (sym change.0);
             newest = ap (λ (n : ℕ). newest_of (shown' has.x.pin.frame) (counters n)) cores_same

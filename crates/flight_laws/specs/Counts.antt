@@ -6,6 +6,7 @@ use Rattle.time_laws.specs.spk_nums.specs.Setting.{Setting}
 use Rattle.time_laws.specs.spk_nums.specs.declared.kinds.FrameKind.TheVariants.{Untyped}
 use Rattle.time_laws.specs.spk_nums.specs.declared.calls.Call.TheVariants.{Retype}
 use Rattle.time_laws.specs.spk_nums.specs.declared.replies.Reply.TheVariants.{Ok}
+use Rattle.time_laws.specs.frame_words.specs.Residue.{residue}
 use Rattle.time_laws.specs.frame_words.specs.declared.count_word.CountWord.{CountWord}
 use Rattle.time_laws.specs.frame_words.specs.declared.count_word.Hold.{Hold}
 use Rattle.time_laws.specs.frame_words.specs.declared.count_word.Hold.TheVariants.{Unheld, Pinned, Closed}
@@ -50,9 +51,9 @@ abbrev pub sum_then : Setting → Trace → ℕ → List ℕ → ℤ
 sum_then setup t f [] = pos 0
 sum_then setup t f (k ∷ ks) = will_show setup t f (count_at (last_left setup t) f k) +ℤ sum_then setup t f ks
 
--- At each moment what the count words of a frame will show sums to the references to it.
+-- At each moment what the count words of a frame will show sums to the references to it, modulo 2 ^ 16.
 abbrev pub CountsTell : Setting → Trace → Type 0
-CountsTell setup t = (f : ℕ) → sum_then setup t f (counters setup.cores) ≡ pos (refs (state_after setup t) f)
+CountsTell setup t = (f : ℕ) → residue (sum_then setup t f (counters setup.cores)) ≡ refs (state_after setup t) f
 
 -- A call of this phase is one that makes frame f untyped.
 pub record Untypes (f : ℕ) (p : Phase) : Type 0 where
