@@ -60,6 +60,7 @@ use Rattle.step_ways.specs.act_states.specs.Acts.{acquires}
 use Rattle.step_ways.specs.call_stages.specs.Steps.{took_count, gives_up}
 use Rattle.step_ways.specs.call_stages.specs.Tails.{is_ok}
 use Rattle.step_ways.specs.act_fits.proofs.DuesFit.{few_dues}
+use Rattle.step_ways.specs.act_fits.proofs.DuesSmall.{due_small}
 use Rattle.step_ways.specs.act_states.specs.declared.untypings.UntypingAt.TheVariants as untype
 use Rattle.step_ways.specs.act_states.specs.Untypings.{is_drawing}
 use Rattle.step_ways.specs.core_invariant.specs.Knows.{pin_frame}
@@ -458,6 +459,7 @@ module _ (setup : Setting) (setting : IsSetting setup) (cores : ℕ → Core) (t
             core = own_core;
             fits = loaded.fits;
             footprint = was_now (IsInFootprint c a.call at) setup t e c (footprint d);
+            small = due_small act (map due_of a.counts) (record { frame = pin_frame pin; change = change }) has.knows.rest has.knows.due;
           }) (All-nil (IsCount setup (e ∷ t) c a.call))))
           (counters.more_apart a.counts x (call_is setup setting cores t stands c here a active).apart new)
           (spares_other setup t (inner setup setting cores t stands c here a active compare None None) (λ f i h. cc))
