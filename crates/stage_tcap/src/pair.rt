@@ -12,7 +12,7 @@
 //!
 //! **Giving back.** Once head A is marked, a refusal decides the call, and head A is stored as it was.
 
-ghost use Rattle.std.specs.Prelude.{◌≡◌, ◌<◌, ◌≤◌, ◌+◌, ◌==◌, ◌&&◌, nat_lt, [], Some, IsTrue, IsFalse};
+ghost use Rattle.std.specs.Prelude.{◌≡◌, ◌<◌, ◌≤◌, ◌+◌, ◌==◌, ◌&&◌, nat_lt, false, [], Some, IsTrue, IsFalse};
 ghost use Rattle.spk_nums.specs.declared.steps.StageEnd.TheVariants.{Going};
 ghost use Rattle.spk_nums.specs.WordSteps.{place_in};
 ghost use Rattle.spk_nums.specs.Merging.{preempts_by};
