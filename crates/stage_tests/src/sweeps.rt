@@ -11,20 +11,20 @@ use word_map::Layout;
 
 // A counter with 2 references, one with one less than none, one with none and the stamp 5, and that frozen by core 1;
 // one with none and the stamp 4; the word of a core that is inside a call since an exit at 5.
-const TWO: u64 = 0x0400_0000_2000_0000;
+const TWO: u64 = 0x0000_1000_0000_0000;
 
-const ONE_LESS: u64 = 0x03ff_ffff_f000_0000;
+const ONE_LESS: u64 = 0x07ff_f800_0000_0000;
 
-const NONE: u64 = 0x0400_0000_0000_0005;
+const NONE: u64 = 5;
 
-const FROZEN: u64 = 0x9400_0000_0000_0005;
+const FROZEN: u64 = 0x9000_0000_0000_0005;
 
-const EARLIER: u64 = 0x0400_0000_0000_0004;
+const EARLIER: u64 = 4;
 
 // That of two references, and that of the earlier stamp, frozen by core 1.
-const TWO_FROZEN: u64 = 0x9400_0000_2000_0000;
+const TWO_FROZEN: u64 = 0x9000_1000_0000_0000;
 
-const FROZEN_EARLIER: u64 = 0x9400_0000_0000_0004;
+const FROZEN_EARLIER: u64 = 0x9000_0000_0000_0004;
 
 const INSIDE_5: u64 = 11;
 

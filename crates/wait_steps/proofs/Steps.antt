@@ -406,8 +406,7 @@ module _ (w : Word) where
   some_at false n = tt
 
   sum_at : (z : ℤ) → MayAt w (sum_refuses z)
-  sum_at (pos n) = some_at _ n
-  sum_at (negsuc n) = tt
+  sum_at z = some_at _ (residue z)
 
   compares_at : (same more : Bool) (z : ℤ) → MayAt w (compare_refuses same more z)
   compares_at true true z = tt
