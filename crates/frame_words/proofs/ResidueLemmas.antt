@@ -8,9 +8,12 @@ use Rattle.frame_words.specs.Count.{NumberFits}
 use Rattle.frame_words.specs.Residue.{residue, signed, wrapped}
 
 -- the residue is what is left by a division by 2 ^ 16
-pub euclid : (z : ℤ) → int_rem_euclid z (pos (2 ^ 16)) ≡ pos (residue z)
+euclid : (z : ℤ) → int_rem_euclid z (pos (2 ^ 16)) ≡ pos (residue z)
 euclid (pos n) = refl
 euclid (negsuc n) = refl
+
+pub euclid_is : (z y d r : ℤ) → r ≡ int_rem_euclid z d → z ≡ y → d ≡ pos (2 ^ 16) → r ≡ pos (residue y)
+euclid_is z y d r is same by = is ∙ ap (int_rem_euclid z) by ∙ euclid z ∙ ap (λ x. pos (residue x)) same
 
 pub residue_small : (z : ℤ) → residue z < 2 ^ 16
 residue_small (pos n) = omega arith
@@ -45,12 +48,12 @@ signed_is n small = chosen (nat_lt n (2 ^ 15)) _ _ (signed n) refl
 pub signed_residue : (z : ℤ) → NumberFits z → signed (residue z) ≡ z
 signed_residue (pos n) fits =
     let same : n % 2 ^ 16 ≡ n = omega arith in
-    rw same in low_signed n fits
+    rw same (low_signed n fits)
 signed_residue (negsuc n) fits =
     let same : n % 2 ^ 16 ≡ n = omega arith in
     let high : 2 ^ 15 ≤ 2 ^ 16 - 1 - n = omega arith in
     let back : 2 ^ 16 - 1 - (2 ^ 16 - 1 - n) ≡ n = omega arith in
-    rw same in high_signed (2 ^ 16 - 1 - n) high ∙ ap negsuc back
+    rw same (high_signed (2 ^ 16 - 1 - n) high ∙ ap negsuc back)
 
 -- an integer that is wrapped is within the range of counts, has the same residue, and stays where it is within that range
 pub wraps : (z : ℤ) → signed (residue z) ≡ wrapped z

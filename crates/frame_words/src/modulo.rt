@@ -6,7 +6,6 @@ ghost use Rattle.frame_words.specs.Residue.{residue, signed, wrapped};
 
 /// The number below 2^16 that differs from this one by a multiple of 2^16.
 #[inline]
-#[tactic(auto, using(crate::proofs::ResidueLemmas::euclid))]
 pub fn residue(number: i64) -> u16
     ensures { result ≡ residue number }
 {
