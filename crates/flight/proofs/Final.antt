@@ -14,6 +14,7 @@ use Rattle.std.proofs.lemmas.Bool.{true≢false}
 use Rattle.boot_words.specs.spk_nums.specs.declared.translations.CoreEnd.{CoreEnd}
 use Rattle.boot_words.specs.kernel_rules.specs.Relies.{is_node as is_sound_node}
 use Rattle.boot_words.specs.kernel_rules.specs.Start.{start}
+use Rattle.boot_words.specs.frame_words.specs.Residue.{residue}
 use Rattle.boot_words.specs.kernel_history.specs.Counts.{count_at, IsUnheld, RepresentCounts}
 use Rattle.boot_words.specs.kernel_history.specs.FinalWords.{SaysPlace, AreFrame, SaysNumber, Represent, end_of as end_in}
 use Rattle.boot_words.specs.kernel_history.specs.Moments.{EntrySays, CoreSays}
@@ -200,8 +201,8 @@ module _ (setup : Setting) (setting : IsSetting setup) (cores : ℕ → Core) (t
   counts_represent : RepresentCounts (last_left setup t) (state_after setup t)
   counts_represent f here = record {
     unheld = every f (counters (state_after setup t).limits.cores);
-    sum = sum_same (count_shown setup (held_by cores) t f) (count_at (last_left setup t) f) (counters (state_after setup t).limits.cores)
-        (λ d. sym (ap count_of_word (settled_is (CountAt f d)))) ∙ (stands.sums f).sum;
+    sum = ap residue (sum_same (count_shown setup (held_by cores) t f) (count_at (last_left setup t) f)
+        (counters (state_after setup t).limits.cores) (λ d. sym (ap count_of_word (settled_is (CountAt f d))))) ∙ (stands.sums f).sum;
   }
 
 pub represents : Represents
