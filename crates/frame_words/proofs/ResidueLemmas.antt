@@ -1,5 +1,5 @@
 -- Integers modulo 2 ^ 16: residues, what has them, and sums.
-use Rattle.std.proofs.Common.{◌≡◌, ℕ, ℤ, pos, negsuc, ◌+ℤ◌, ◌*ℤ◌, ◌+◌, ◌-◌, ◌*◌, ◌/◌, ◌%◌, ◌^◌, ◌<◌, ◌≤◌, nat_lt, refl, subst, ap, sym, ◌∙◌, arith}
+use Rattle.std.proofs.Common.{◌≡◌, ℕ, ℤ, pos, negsuc, ◌+ℤ◌, ◌+◌, ◌-◌, ◌*◌, ◌/◌, ◌%◌, ◌^◌, ◌<◌, ◌≤◌, nat_lt, refl, subst, ap, sym, ◌∙◌, arith}
 use Rattle.std.proofs.lemmas.Int.{ints}
 use Rattle.std.proofs.lemmas.Bool.{lt-ltb, le-ltb, ltb-true, ltb-false}
 use Rattle.std.specs.Int.{int_rem_euclid}
@@ -8,9 +8,12 @@ use Rattle.frame_words.specs.Count.{NumberFits}
 use Rattle.frame_words.specs.Residue.{residue, signed, wrapped}
 
 -- the residue is what is left by a division by 2 ^ 16
-pub euclid : (z : ℤ) → int_rem_euclid z (pos (2 ^ 16)) ≡ pos (residue z)
+euclid : (z : ℤ) → int_rem_euclid z (pos (2 ^ 16)) ≡ pos (residue z)
 euclid (pos n) = refl
 euclid (negsuc n) = refl
+
+pub euclid_is : (z y d r : ℤ) → r ≡ int_rem_euclid z d → z ≡ y → d ≡ pos (2 ^ 16) → r ≡ pos (residue y)
+euclid_is z y d r is same by = is ∙ ap (int_rem_euclid z) by ∙ euclid z ∙ ap (λ x. pos (residue x)) same
 
 pub residue_small : (z : ℤ) → residue z < 2 ^ 16
 residue_small (pos n) = omega arith
@@ -45,31 +48,59 @@ signed_is n small = chosen (nat_lt n (2 ^ 15)) _ _ (signed n) refl
 pub signed_residue : (z : ℤ) → NumberFits z → signed (residue z) ≡ z
 signed_residue (pos n) fits =
     let same : n % 2 ^ 16 ≡ n = omega arith in
-    rw same in low_signed n fits
+    rw same (low_signed n fits)
 signed_residue (negsuc n) fits =
     let same : n % 2 ^ 16 ≡ n = omega arith in
     let high : 2 ^ 15 ≤ 2 ^ 16 - 1 - n = omega arith in
     let back : 2 ^ 16 - 1 - (2 ^ 16 - 1 - n) ≡ n = omega arith in
-    rw same in high_signed (2 ^ 16 - 1 - n) high ∙ ap negsuc back
+    rw same (high_signed (2 ^ 16 - 1 - n) high ∙ ap negsuc back)
 
 -- an integer that is wrapped is within the range of counts, has the same residue, and stays where it is within that range
+pub wraps : (z : ℤ) → signed (residue z) ≡ wrapped z
+wraps (pos n) = refl
+wraps (negsuc n) = refl
+
 pub wrapped_fits : (z : ℤ) → NumberFits (wrapped z)
-unfolding wrapped
-wrapped_fits z = (signed_is (residue z) (residue_small z)).in_range
+wrapped_fits z = subst NumberFits (wraps z) (signed_is (residue z) (residue_small z)).in_range
 
 pub residue_wrapped : (z : ℤ) → residue (wrapped z) ≡ residue z
-unfolding wrapped
-residue_wrapped z = (signed_is (residue z) (residue_small z)).number
+residue_wrapped z = ap residue (sym (wraps z)) ∙ (signed_is (residue z) (residue_small z)).number
 
 pub wrapped_same : (z : ℤ) → NumberFits z → wrapped z ≡ z
-unfolding wrapped
-wrapped_same z fits = signed_residue z fits
+wrapped_same z fits = sym (wraps z) ∙ signed_residue z fits
 
--- an integer is its residue and a multiple of 2 ^ 16
-pub record IsOver (z : ℤ) : Type 0 where
-  pub times : ℤ
-  pub is : z ≡ pos (residue z) +ℤ pos (2 ^ 16) *ℤ times
+-- Two integers of one residue differ by a multiple of 2 ^ 16, which is the difference of the multiples that each is past its residue.
+pub record IsPast (z : ℤ) : Type 0 where
+  pub up : ℕ
+  pub down : ℕ
+  pub is : z +ℤ pos (2 ^ 16 * down) ≡ pos (residue z + 2 ^ 16 * up)
 
-pub over : (z : ℤ) → IsOver z
-over (pos n) = record { times = pos (n / 2 ^ 16); is = omega (arith, ints) }
-over (negsuc n) = record { times = negsuc (n / 2 ^ 16); is = omega (arith, ints) }
+pub past : (z : ℤ) → IsPast z
+past (pos n) = record { up = n / 2 ^ 16; down = 0; is = omega (arith, ints) }
+past (negsuc n) = record { up = 0; down = 1 + n / 2 ^ 16; is = omega (arith, ints) }
+
+-- the residue is the one number below 2 ^ 16 that differs by a multiple of 2 ^ 16
+pub residue_is : (z : ℤ) (n up down : ℕ) → n < 2 ^ 16 → z +ℤ pos (2 ^ 16 * down) ≡ pos (n + 2 ^ 16 * up) → residue z ≡ n
+residue_is (pos m) n up down small is = omega (arith, ints)
+residue_is (negsuc m) n up down small is = omega (arith, ints)
+
+-- sums of integers have the residue of sums of others that have theirs
+pub residue_sum : (x y z : ℤ) → residue x ≡ residue y → residue (x +ℤ z) ≡ residue (y +ℤ z)
+residue_sum x y z same =
+    let a = past x in
+    let b = past y in
+    let c = past (y +ℤ z) in
+    residue_is (x +ℤ z) (residue (y +ℤ z)) (a.up + b.down + c.up) (a.down + b.up + c.down) (residue_small (y +ℤ z))
+    (omega (arith, ints, a.is, b.is, c.is, same))
+
+-- so a count that is changed modulo 2 ^ 16 changes the residue of the sum by the change
+pub residue_changed : (x z rest : ℤ) → residue (wrapped (x +ℤ z) +ℤ rest) ≡ residue ((x +ℤ rest) +ℤ z)
+residue_changed x z rest =
+    residue_sum (wrapped (x +ℤ z)) (x +ℤ z) rest (residue_wrapped (x +ℤ z)) ∙ ap residue (moved x z rest)
+  where
+    moved : (x z rest : ℤ) → (x +ℤ z) +ℤ rest ≡ (x +ℤ rest) +ℤ z
+    moved x z rest = omega (arith, ints)
+
+-- a sum of that many references has that residue
+pub residue_refs : (z : ℤ) (n : ℕ) → n < 2 ^ 16 → z ≡ pos n → residue z ≡ n
+residue_refs z n small is = ap residue is ∙ residue_pos n small

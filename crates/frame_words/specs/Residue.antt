@@ -11,5 +11,6 @@ abbrev pub signed : ℕ → ℤ
 signed n = if nat_lt n (2 ^ 15) then pos n else negsuc (2 ^ 16 - 1 - n)
 
 -- the integer from -2 ^ 15 to 2 ^ 15 - 1 that differs from this one by a multiple of 2 ^ 16
-unfoldable pub wrapped : ℤ → ℤ
-wrapped z = signed (residue z)
+abbrev pub wrapped : ℤ → ℤ
+wrapped (pos n) = signed (n % 2 ^ 16)
+wrapped (negsuc n) = signed (2 ^ 16 - 1 - n % 2 ^ 16)

@@ -5,7 +5,7 @@ ghost use Rattle.spk_nums.specs.Spelling.{IsOneSpelling};
 ghost use Rattle.frame_words.specs.Count.{CountFits, number_of_hold, hold_of_number, word_of_count, count_of_word};
 ghost use Rattle.frame_words.specs.declared.count_word.CountWord.{CountWord};
 
-use crate::residue::{residue, signed};
+use crate::modulo::{residue, signed};
 use spk_nums::{CoreNo, Stamp};
 
 /// Which core holds a count word.

@@ -6,7 +6,6 @@ ghost use Rattle.frame_words.specs.Residue.{residue, signed, wrapped};
 
 /// The number below 2^16 that differs from this one by a multiple of 2^16.
 #[inline]
-#[tactic(auto, using(crate::proofs::ResidueLemmas::euclid))]
 pub fn residue(number: i64) -> u16
     ensures { result ≡ residue number }
 {
@@ -27,7 +26,7 @@ pub fn signed(residue: u16) -> i32
 
 /// The number from -2^15 to 2^15 - 1 that differs from this one by a multiple of 2^16.
 #[inline]
-#[tactic(auto, unfolding(crate::specs::Residue::wrapped), using(crate::proofs::ResidueLemmas::wrapped_fits))]
+#[tactic(auto, using(crate::proofs::ResidueLemmas::wraps, crate::proofs::ResidueLemmas::wrapped_fits))]
 pub fn wrapped(number: i64) -> i32
     ensures value { result ≡ wrapped number }
     ensures range { NumberFits result }
