@@ -1,6 +1,6 @@
 -- What count words tell of stamps while calls hold them: the stamp that a word will show, by the phase of the call that holds it, is that
 -- of what it settles to. So the newest that the count words of a frame will show is that of its last grace period.
-use Rattle.std.proofs.Common.{◌≡◌, ◌≢◌, inl, inr, ℕ, ℤ, pos, negsuc, ◌+ℤ◌, ◌-ℤ◌, ◌*ℤ◌, ◌-◌, ◌^◌, ◌≤◌, ◌<◌, ◌&&◌, Bool}
+use Rattle.std.proofs.Common.{◌≡◌, ◌≢◌, inl, inr, ℕ, ℤ, pos, negsuc, ◌+ℤ◌, ◌-ℤ◌, ◌-◌, ◌^◌, ◌≤◌, ◌<◌, ◌&&◌, Bool}
 use Rattle.std.proofs.Common.{true, false, max, if◌then◌else◌, List, [], ◌∷◌, Option, Some, None, arith, refl, sym, ◌∙◌, ap, subst}
 use Rattle.std.specs.Prelude.{is_some}
 use Rattle.std.specs.Prelude.{All}
@@ -67,7 +67,7 @@ use Rattle.time_laws.specs.core_invariant.proofs.Sounds.{limits_of}
 use Rattle.time_laws.specs.kept_facts.proofs.CountSums.{counted_refs, counter_once, newest_most}
 use Rattle.time_laws.specs.step_ways.proofs.Loads.{call_is, is_active}
 use Rattle.time_laws.specs.frame_words.specs.Residue.{residue}
-use Rattle.time_laws.specs.frame_words.proofs.ResidueLemmas.{over, residue_wrapped, wrapped_fits}
+use Rattle.time_laws.specs.frame_words.proofs.ResidueLemmas.{past, residue_wrapped, wrapped_fits}
 use Rattle.time_laws.specs.flight.specs.Made.{cores_after, IsMade}
 use Rattle.time_laws.specs.flight.proofs.Made.{made_stands, made_times}
 use Rattle.flight_laws.specs.Counts.{Untypes, has_cleared, is_carried_out}
@@ -102,15 +102,13 @@ falls_begin s o c call v h lim may f less =
 -- A count that falls by two at most is none that rises by as many as the references to a frame, modulo 2 ^ 16.
 less_not : (v : ℤ) (n d : ℕ) → n ≤ 1 → d ≤ 32848 → residue (v +ℤ negsuc n) ≡ residue (v +ℤ pos d) → ⊥
 less_not v n d small few same =
-    let one = over (v +ℤ negsuc n) in
-    let two = over (v +ℤ pos d) in
-    by (residue (v +ℤ negsuc n)) (residue (v +ℤ pos d)) one.times two.times same one.is two.is
+    let one = past (v +ℤ negsuc n) in
+    let two = past (v +ℤ pos d) in
+    by (residue (v +ℤ negsuc n)) (residue (v +ℤ pos d)) one.up one.down two.up two.down same one.is two.is
   where
-    by : (r q : ℕ) (k m : ℤ) → r ≡ q → v +ℤ negsuc n ≡ pos r +ℤ pos (2 ^ 16) *ℤ k → v +ℤ pos d ≡ pos q +ℤ pos (2 ^ 16) *ℤ m → ⊥
-    by r q (pos k) (pos m) is one two = absurd (omega (arith, ints, small, few, is, one, two))
-    by r q (pos k) (negsuc m) is one two = absurd (omega (arith, ints, small, few, is, one, two))
-    by r q (negsuc k) (pos m) is one two = absurd (omega (arith, ints, small, few, is, one, two))
-    by r q (negsuc k) (negsuc m) is one two = absurd (omega (arith, ints, small, few, is, one, two))
+    by : (r q a b x y : ℕ) → r ≡ q → (v +ℤ negsuc n) +ℤ pos (2 ^ 16 * b) ≡ pos (r + 2 ^ 16 * a)
+        → (v +ℤ pos d) +ℤ pos (2 ^ 16 * y) ≡ pos (q + 2 ^ 16 * x) → ⊥
+    by r q a b x y is one two = absurd (omega (arith, ints, small, few, is, one, two))
 
 -- The stamp that is stored with a count that changes.
 later_small : (stamp : ℕ) (change : ℤ) (drawn : Option ℕ) → stamp < 2 ^ 43 → IsSmall drawn
