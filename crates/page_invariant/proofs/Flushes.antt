@@ -333,7 +333,7 @@ module _ (setup : Setting) (setting : IsSetting setup) (cores : ℕ → Core) (t
       → SameFor (state_after setup t) (state_after setup (storing ∷ t)) (times_of setup t) (times_of setup (storing ∷ t)) w
   said (EntryAt g i) there = record { frames = refl; frame = refl; place = refl; stamp = refl }
   said (FrameAt g) there = refl
-  said (CountAt g d) there = omega arith
+  said (CountAt g d) there = tt
   said (CoreAt d) there = record { inside = refl; exit = plain_exit t storing refl d }
   said (FlushAt d) there = flush_stored-other d storing t (λ own. there (ap FlushAt own))
   said (LiveAt l) there = record { number = refl; stamp = refl }
