@@ -69,17 +69,17 @@ module _ (setup : Setting) (setting : IsSetting setup) (t : Trace) (legal : IsLe
       → StoresB setup t c call p → StoresB setup (e ∷ t) c call p
   b_stays inside call p tcap core has =
       let spared = kept p.b p.core p.head_b has.tcap core (few p core) has.fits has.raw in record {
-    a = a_stays p tcap core has.a;
-    raw = left_same setup t e follows.found (EntryAt p.b 0) (spared 0) ∙ has.raw;
-    fits = has.fits;
-    bare = has.bare;
-    few = has.few;
-    footprint = was_stays (IsInFootprint c call (EntryAt p.b 0)) setup t e c (λ own. absurd (other own)) has.footprint;
-    tcap = tcap_stays setup setting t legal e follows c here other inside p.b has.tcap;
-    differ = has.differ;
-    spelled = has.spelled;
-    same = λ is. keeps_on_b setup t e follows.found p spared (has.same is);
-  }
+        a = a_stays p tcap core has.a;
+        raw = left_same setup t e follows.found (EntryAt p.b 0) (spared 0) ∙ has.raw;
+        fits = has.fits;
+        bare = has.bare;
+        few = has.few;
+        footprint = was_stays (IsInFootprint c call (EntryAt p.b 0)) setup t e c (λ own. absurd (other own)) has.footprint;
+        tcap = tcap_stays setup setting t legal e follows c here other inside p.b has.tcap;
+        differ = has.differ;
+        spelled = has.spelled;
+        same = λ is. keeps_on_b setup t e follows.found p spared (has.same is);
+      }
 
   stored_stays : is_in (phase t c) ≡ true → (call : Call) (p : Pair) (at : PairAt) → HasTcap (state_after setup t) c p.a → p.core ≡ c
       → KnowsStoresAt setup t c call p at → KnowsStoresAt setup (e ∷ t) c call p at

@@ -205,5 +205,5 @@ module _ (setup : Setting) (setting : IsSetting setup) (cores : ℕ → Core) (t
       where
         budget_now : min (h.budget + amount_of p.what) (2 ^ 32 - 1) ≡ qb.budget + amount_of p.what
         budget_now =
-            let zero = same_budget in let one = budget_b in let two = enough in let three = sum in
-            omega (arith, zero, one, two, three)
+            let alike = same_budget in let one = budget_b in let two = enough in let three = sum in
+            omega (arith, alike, one, two, three)

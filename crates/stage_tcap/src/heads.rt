@@ -55,7 +55,11 @@ pub(crate) fn relisted(changed: bool, h: &HeadWord) -> HeadWord
     HeadWord {
         budget: h.budget,
         mark: h.mark,
-        version: if changed { raised(h.version) } else { h.version },
+        version: if changed {
+            raised(h.version)
+        } else {
+            h.version
+        },
     }
 }
 
