@@ -13,8 +13,6 @@ use Rattle.work_invariant.specs.core_invariant.proofs.Bare.{none_value}
 use Rattle.std.proofs.lemmas.Bool.{true≢false}
 use Rattle.boot_words.specs.spk_nums.specs.declared.translations.CoreEnd.{CoreEnd}
 use Rattle.boot_words.specs.frame_words.specs.Residue.{residue}
-use Rattle.boot_words.specs.frame_words.proofs.ResidueLemmas.{residue_pos}
-use Rattle.boot_words.specs.kernel_rules.specs.References.{refs}
 use Rattle.boot_words.specs.kernel_rules.specs.Relies.{is_node as is_sound_node}
 use Rattle.boot_words.specs.kernel_rules.specs.Start.{start}
 use Rattle.boot_words.specs.kernel_history.specs.Counts.{count_at, IsUnheld, RepresentCounts}
@@ -25,7 +23,7 @@ use Rattle.boot_words.specs.kernel_history.proofs.Inside.{inside_is}
 use Rattle.call_stages.specs.Cores.{end_of}
 use Rattle.flight.specs.Theorems.{SaysWords, AreBetween, Represents, RepresentsCounts}
 use Rattle.work_invariant.specs.kept_facts.proofs.CountSums.{sum_same}
-use Rattle.work_invariant.specs.kept_facts.proofs.Few.{few_after}
+use Rattle.work_invariant.specs.kept_facts.proofs.Few.{refs_residue}
 use Rattle.work_invariant.specs.step_ways.proofs.Places.{IsMarked, IsUnmarked, place_reads}
 
 sound_node : (x : Frame) → IsTrue (holds_node x) → IsTrue (is_sound_node x)
@@ -205,8 +203,7 @@ module _ (setup : Setting) (setting : IsSetting setup) (cores : ℕ → Core) (t
     unheld = every f (counters (state_after setup t).limits.cores);
     sum = ap residue (sum_same (count_shown setup (held_by cores) t f) (count_at (last_left setup t) f)
         (counters (state_after setup t).limits.cores) (λ d. sym (ap count_of_word (settled_is (CountAt f d)))))
-        ∙ (stands.sums f).sum ∙ residue_pos (refs (state_after setup t) f)
-        (let few = few_after setup setting t stands.legal f in omega (arith, few));
+        ∙ (stands.sums f).sum ∙ refs_residue setup setting t stands.legal f;
   }
 
 pub represents : Represents

@@ -354,7 +354,8 @@ module _ (setup : Setting) (setting : IsSetting setup) (f k : ℕ) (t : Trace) (
         by (negsuc n) at = absurd (less_not v.count n (refs (state_after setup (e ∷ t)) f - refs (state_after setup t) f)
             (subst IsSmallChange at small_change) (let few = few_now in omega (arith, few))
             (ap (λ z. residue (v.count +ℤ z)) (sym at) ∙ sym (residue_wrapped (v.count +ℤ change)) ∙ sym (ap residue (ap count_in shown_now))
-            ∙ count_changes setup setting f k t e made v is pinned
+            ∙ ap residue (count_changes setup setting f k t e made v is pinned)
+            ∙ residue_wrapped (count_in (was k) +ℤ (pos (refs (state_after setup (e ∷ t)) f) -ℤ pos (refs (state_after setup t) f)))
             ∙ ap (λ o. residue (count_in o +ℤ (pos (refs (state_after setup (e ∷ t)) f) -ℤ pos (refs (state_after setup t) f)))) shown_then
             ∙ ap (λ z. residue (v.count +ℤ z))
             (rises_by (refs (state_after setup t) f) (refs (state_after setup (e ∷ t)) f) (no_fall none))))

@@ -1,5 +1,5 @@
 -- Integers modulo 2 ^ 16: residues, what has them, and sums.
-use Rattle.std.proofs.Common.{◌≡◌, ℕ, ℤ, pos, negsuc, ◌+ℤ◌, ◌+◌, ◌-◌, ◌*◌, ◌/◌, ◌%◌, ◌^◌, ◌<◌, ◌≤◌, nat_lt, refl, subst, ap, sym, ◌∙◌, arith}
+use Rattle.std.proofs.Common.{◌≡◌, ℕ, ℤ, pos, negsuc, ◌+ℤ◌, ◌-ℤ◌, ◌+◌, ◌-◌, ◌*◌, ◌/◌, ◌%◌, ◌^◌, ◌<◌, ◌≤◌, nat_lt, refl, subst, ap, sym, ◌∙◌, arith}
 use Rattle.std.proofs.lemmas.Int.{ints}
 use Rattle.std.proofs.lemmas.Bool.{lt-ltb, le-ltb, ltb-true, ltb-false}
 use Rattle.std.specs.Int.{int_rem_euclid}
@@ -84,14 +84,32 @@ pub residue_is : (z : ℤ) (n up down : ℕ) → n < 2 ^ 16 → z +ℤ pos (2 ^ 
 residue_is (pos m) n up down small is = omega (arith, ints)
 residue_is (negsuc m) n up down small is = omega (arith, ints)
 
+-- two integers that differ by a multiple of 2 ^ 16 have one residue
+pub residue_shift : (y z : ℤ) (up down : ℕ) → y +ℤ pos (2 ^ 16 * down) ≡ z +ℤ pos (2 ^ 16 * up) → residue y ≡ residue z
+residue_shift y z up down differ =
+    let c = past z in
+    residue_is y (residue z) (up + c.up) (down + c.down) (residue_small z) (omega (arith, ints, differ, c.is))
+
 -- sums of integers have the residue of sums of others that have theirs
 pub residue_sum : (x y z : ℤ) → residue x ≡ residue y → residue (x +ℤ z) ≡ residue (y +ℤ z)
 residue_sum x y z same =
     let a = past x in
     let b = past y in
-    let c = past (y +ℤ z) in
-    residue_is (x +ℤ z) (residue (y +ℤ z)) (a.up + b.down + c.up) (a.down + b.up + c.down) (residue_small (y +ℤ z))
-    (omega (arith, ints, a.is, b.is, c.is, same))
+    residue_shift (x +ℤ z) (y +ℤ z) (a.up + b.down) (a.down + b.up) (omega (arith, ints, a.is, b.is, same))
+
+-- what is wrapped goes by the residue
+pub wrapped_alike : (y z : ℤ) → residue y ≡ residue z → wrapped y ≡ wrapped z
+wrapped_alike y z same = sym (wraps y) ∙ ap signed same ∙ wraps z
+
+-- Of sums that say, modulo 2 ^ 16, how many there are of something before and after one of the counts changes: that count is wrapped by as
+-- much as there are more.
+pub count_wraps : (a b x y : ℤ) (n m : ℕ) → b +ℤ x ≡ a +ℤ y → residue a ≡ n → residue b ≡ m → NumberFits y
+    → y ≡ wrapped (x +ℤ (pos m -ℤ pos n))
+count_wraps a b x y n m one first second fits =
+    let p = past a in
+    let q = past b in
+    sym (wrapped_same y fits) ∙ wrapped_alike y (x +ℤ (pos m -ℤ pos n))
+    (residue_shift y (x +ℤ (pos m -ℤ pos n)) (p.down + q.up) (p.up + q.down) (omega (arith, ints, one, first, second, p.is, q.is)))
 
 -- so a count that is changed modulo 2 ^ 16 changes the residue of the sum by the change
 pub residue_changed : (x z rest : ℤ) → residue (wrapped (x +ℤ z) +ℤ rest) ≡ residue ((x +ℤ rest) +ℤ z)

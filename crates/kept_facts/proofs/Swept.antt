@@ -11,7 +11,6 @@ use Rattle.thread_laws.specs.spk_nums.specs.declared.kinds.Obj.TheVariants as ob
 use Rattle.thread_laws.specs.frame_words.specs.Count.{CountFits, word_of_count, count_of_word}
 use Rattle.thread_laws.specs.frame_words.specs.Frame.{frame_of_word}
 use Rattle.thread_laws.specs.frame_words.specs.Residue.{residue}
-use Rattle.thread_laws.specs.frame_words.proofs.ResidueLemmas.{residue_pos}
 use Rattle.thread_laws.specs.frame_words.specs.declared.count_word.CountWord.{CountWord}
 use Rattle.thread_laws.specs.frame_words.specs.declared.frame_word.FrameWord.{FrameWord}
 use Rattle.thread_laws.specs.frame_words.proofs.CountLemmas as counts
@@ -43,7 +42,7 @@ use Rattle.core_invariant.specs.Sweeps.{AreFrozen, AreKept, IsLookedAt, IsQuiet,
 use Rattle.core_invariant.proofs.Sounds.{limits_of}
 use Rattle.core_invariant.proofs.Freezing.{release_frame, thaw_all, thaw_from, thaw_here}
 use Rattle.kept_facts.proofs.FrozenSums.{counters_are, frozen_sum, got_all}
-use Rattle.kept_facts.proofs.Few.{few_after}
+use Rattle.kept_facts.proofs.Few.{refs_residue}
 
 -- A frame of which the word says that it is a blank kernel frame.
 pub kernel_is : (x : Frame) → (frame_value x).kind ≡ frame_kind.Kernel → (frame_value x).object ≡ obj.Blank → x ≡ Kernel Blank
@@ -135,8 +134,7 @@ module _ (setup : Setting) (cores : ℕ → Core) (t : Trace) (stands : Invarian
 
   -- which are fewer than 2 ^ 16, and so are that
   pub kept_refs : IsSetting setup → residue (sum_of_counts kept) ≡ refs (state_after setup t) f
-  kept_refs setting = kept_sum ∙ residue_pos (refs (state_after setup t) f)
-      (let few = few_after setup setting t stands.legal f in omega (arith, few))
+  kept_refs setting = kept_sum ∙ refs_residue setup setting t stands.legal f
 
   pub kept_stamp : stamp setup t (FrameOf f) ≡ latest_stamp kept
   kept_stamp = sym (stands.sums f).newest ∙ ap (newest_of its_counts) counters_here ∙ found_here.1

@@ -50,7 +50,7 @@ fn spells_worked_words(rt: HostRuntime) {
         &Entry::Quiescing {
             stamp: Stamp::new(5),
         },
-        0x0000_0005_0000_0003,
+        0x53,
     );
 }
 
