@@ -2,6 +2,7 @@
 -- core two, and a liveness number one.
 use Rattle.std.proofs.Common.{◌≡◌, ℕ, zero, suc, ◌+◌, ◌*◌, ◌<◌, ◌≤◌, ◌==◌, Bool, true, false, cond, refl, sym, ap, subst, arith}
 use Rattle.std.proofs.Common.{List, [], ◌∷◌, length, IsTrue}
+use Rattle.std.proofs.lemmas.Bool.{false≢true}
 use Rattle.spk_nums.specs.Capability.{Capability}
 use Rattle.spk_nums.specs.declared.kinds.Kind.{Kind}
 use Rattle.spk_nums.specs.declared.kinds.Kind.TheVariants as kind
@@ -79,7 +80,7 @@ module _ (s : State) (open_cores : ℕ → Bool) (sound : IsSound s open_cores) 
       (λ i. place_none f (s.place g i) (λ k held. false_true (subst (λ y. IsTrue (is_node y)) is (sound.bare g i k held).0) other))
     where
       false_true : IsTrue (is_node x) → is_node x ≡ false → ⊥
-      false_true yes no = absurd (subst IsTrue no yes)
+      false_true there not_there = false≢true (subst IsTrue not_there there)
 
   pub frame_most : (g : ℕ) → node_refs s f g + times f (frame_names (s.frame g)) ≤ 64
   frame_most g = by (s.frame g) refl

@@ -1,7 +1,7 @@
 -- What a call on two temporal capabilities knows of both, where the head of the second is as it was read: their budgets and their lists.
 use Rattle.count_invariant.proofs.Common.{Want, ◌≡◌, ◌⊎◌, inl, inr, ℕ, ◌+◌, ◌<◌, ◌≤◌, ◌^◌, ◌==◌, ◌&&◌, true, false, List, [], ◌∷◌, Option}
 use Rattle.count_invariant.proofs.Common.{Some, None, refl, sym, ◌∙◌, ap, subst, false≢true, All-nil, Setting, IsSetting, Capability}
-use Rattle.count_invariant.proofs.Common.{word_of_head, head_of_word, HeadWord, spelling, EntryAt, Slot, own, Kernel, Tcap}
+use Rattle.count_invariant.proofs.Common.{arith, word_of_head, head_of_word, HeadWord, spelling, EntryAt, Slot, own, Kernel, Tcap}
 use Rattle.count_invariant.proofs.Common.{TcapFields, State, tcap_in, comp_of, InRanges, rule_of, tcap_at, events_of, HasReached, IsLegal}
 use Rattle.count_invariant.proofs.Common.{head_mark, marked_by, Step, Trace, state_after, last_left, own_left, way_to, ways, state_is}
 use Rattle.count_invariant.proofs.Common.{run_of, leads_by, LeadsIn, own_pages, same_list, Pair, Act, Undecided, ActiveCall, Core}
