@@ -119,6 +119,23 @@ residue_changed x z rest =
     moved : (x z rest : ℤ) → (x +ℤ z) +ℤ rest ≡ (x +ℤ rest) +ℤ z
     moved x z rest = omega (arith, ints)
 
+-- so a sum in which one count is changed modulo 2 ^ 16 has the residue of the sum with the change
+pub residue_by : (a b x z : ℤ) → b +ℤ x ≡ a +ℤ wrapped (x +ℤ z) → residue b ≡ residue (a +ℤ z)
+residue_by a b x z one =
+    let p = past (wrapped (x +ℤ z)) in
+    let q = past (x +ℤ z) in
+    let same = residue_wrapped (x +ℤ z) in
+    residue_shift b (a +ℤ z) (p.up + q.down) (p.down + q.up) (omega (arith, ints, one, p.is, q.is, same))
+
+-- an integer less by 4 at most, and more by few, are wrapped apart
+pub wrapped_apart : (x : ℤ) (n j : ℕ) → n < 4 → j ≤ 32848 → wrapped (x +ℤ negsuc n) ≡ wrapped (x +ℤ pos j) → ⊥
+wrapped_apart x n j less few same =
+    let one : residue (x +ℤ negsuc n) ≡ residue (x +ℤ pos j) =
+    sym (residue_wrapped (x +ℤ negsuc n)) ∙ ap residue same ∙ residue_wrapped (x +ℤ pos j) in
+    let p = past (x +ℤ negsuc n) in
+    let q = past (x +ℤ pos j) in
+    omega (arith, ints, one, p.is, q.is, less, few)
+
 -- a sum of that many references has that residue
 pub residue_refs : (z : ℤ) (n : ℕ) → n < 2 ^ 16 → z ≡ pos n → residue z ≡ n
 residue_refs z n small is = ap residue is ∙ residue_pos n small

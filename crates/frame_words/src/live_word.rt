@@ -52,9 +52,7 @@ impl LiveWord {
             LiveWord::Closing { epoch, by } => 2
                 + ((epoch as u64) << 2)
                 + ((by.number() as u64) << 27),
-            LiveWord::Dead { epoch, stamp } => 3
-                + ((epoch as u64) << 2)
-                + (stamp.number() << 18),
+            LiveWord::Dead { epoch, stamp } => 3 + ((epoch as u64) << 2) + (stamp.number() << 18),
         }
     }
 

@@ -7,7 +7,9 @@
 ghost use Rattle.spk_nums.specs.CallLimits.{InLimits};
 
 use core_machine::{Port, Seats};
-use spk_nums::{Call, CapId, CoreNo, FrameArg, FrameKind, Make, Reply, ReplyLine, Rights, Setup, Value};
+use spk_nums::{
+    Call, CapId, CoreNo, FrameArg, FrameKind, Make, Reply, ReplyLine, Rights, Setup, Value,
+};
 use std::alloc::Global;
 use std::io;
 use std::process::ExitCode;

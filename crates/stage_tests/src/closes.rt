@@ -57,7 +57,12 @@ fn closes_draws_and_stores(rt: HostRuntime) {
 
 #[test]
 fn keeps_a_drawn_stamp_in_its_range(rt: HostRuntime) {
-    for (clock, stamp) in [(0, 1), (7, 7), (1 << 42, 1 << 42), (1 << 50, 0x7ff_ffff_ffff)] {
+    for (clock, stamp) in [
+        (0, 1),
+        (7, 7),
+        (1 << 42, 1 << 42),
+        (1 << 50, 0x7ff_ffff_ffff),
+    ] {
         assert!(rt; drawn(clock) == Stamp::new(stamp), "at {clock}");
     }
 }
