@@ -61,7 +61,7 @@ object_small NewTable f = (omega arith, tt)
 object_small NewLeaf f = (omega arith, tt)
 object_small NewPages f = (omega arith, tt)
 object_small NewPleaf f = (omega arith, tt)
-object_small (NewThread comp) f = (omega arith, omega arith, tt)
+object_small (NewThread comp) f = (omega arith, (omega arith, tt))
 object_small (NewTcap sched quality) f = (omega arith, tt)
 
 made_small : (object : NewObject) (f : ℕ) (at : MakingAt) → AreSmall (made_dues object f at)
@@ -80,7 +80,7 @@ released_small : (f g : Option ℕ) → AreSmall (released_dues f g)
 released_small None None = tt
 released_small None (Some g) = (omega arith, tt)
 released_small (Some f) None = (omega arith, tt)
-released_small (Some f) (Some g) = (omega arith, omega arith, tt)
+released_small (Some f) (Some g) = (omega arith, (omega arith, tt))
 
 untyped_small : (at : UntypingAt) → AreSmall (untyping_dues at)
 untyped_small untype.Load = tt
@@ -91,11 +91,11 @@ untyped_small (untype.Draw word w) = released_small w.owned.first w.owned.second
 comp_small : (m : CompMaking) (at : CompAt) → AreSmall (comp_dues m at)
 comp_small m comp_at_as.Load = tt
 comp_small m (comp_at_as.Mark word) = tt
-comp_small m (comp_at_as.LoadLive word) = (omega arith, omega arith, omega arith, tt)
-comp_small m (comp_at_as.Scan word last q) = (omega arith, omega arith, omega arith, tt)
-comp_small m (comp_at_as.Close word last) = (omega arith, omega arith, omega arith, tt)
-comp_small m (comp_at_as.Store word last entry) = (omega arith, omega arith, omega arith, tt)
-comp_small m (comp_at_as.Fill word last) = (omega arith, omega arith, omega arith, tt)
+comp_small m (comp_at_as.LoadLive word) = (omega arith, (omega arith, (omega arith, tt)))
+comp_small m (comp_at_as.Scan word last q) = (omega arith, (omega arith, (omega arith, tt)))
+comp_small m (comp_at_as.Close word last) = (omega arith, (omega arith, (omega arith, tt)))
+comp_small m (comp_at_as.Store word last entry) = (omega arith, (omega arith, (omega arith, tt)))
+comp_small m (comp_at_as.Fill word last) = (omega arith, (omega arith, (omega arith, tt)))
 
 invoking_small : (f : ℕ) (at : InvokingAt) → AreSmall (invoking_dues f at)
 invoking_small f invoking.LoadTable = tt
@@ -111,10 +111,10 @@ returning_small f (returning.Draw comp table pages) = (omega arith, tt)
 
 tcaps_small : (same : Bool) (q old : ℕ) → AreSmall (tcap_dues same q old)
 tcaps_small true q old = tt
-tcaps_small false q old = (omega arith, omega arith, tt)
+tcaps_small false q old = (omega arith, (omega arith, tt))
 
 switch_small : (m : Switching) (to : Claimed) → AreSmall (switch_due_list m to)
-switch_small m to = (omega arith, omega arith, tcaps_small (m.tcap == m.old_tcap) m.tcap m.old_tcap)
+switch_small m to = (omega arith, (omega arith, tcaps_small (m.tcap == m.old_tcap) m.tcap m.old_tcap))
 
 switching_small : (m : Switching) (at : SwitchAt) → AreSmall (switching_dues m at)
 switching_small m (switch_at.Claim claim) = tt
