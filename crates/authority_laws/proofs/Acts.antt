@@ -23,16 +23,19 @@ use Rattle.kernel_rules.specs.Access.{Want, to_use, to_copy, any, only, root, fo
 use Rattle.kernel_rules.specs.Access.{linked, slot_in, usable, reached, own, place_at, root_slot}
 use Rattle.kernel_rules.specs.Fitting.{fits}
 use Rattle.kernel_rules.specs.References.{refs}
-use Rattle.kernel_rules.specs.Rules.{waits_of, flushes_of, WaitedFor, Unflushed, Change, Cause, When, Found, named, vacant, held, fills, removes, answers, first_cause, refusal_of}
-use Rattle.kernel_rules.specs.CapabilityCalls.{has_frame, outside, not_blank, makes, make_node, make_rule, not_taken, is_live, epoch_of}
+use Rattle.kernel_rules.specs.Rules.{waits_of, flushes_of, WaitedFor, Unflushed, Change, Cause, When, Found, named, vacant, held}
+use Rattle.kernel_rules.specs.Rules.{first_cause, refusal_of}
+use Rattle.kernel_rules.specs.CapabilityCalls.{has_frame, outside, not_blank, make_node, make_rule, not_taken, is_live, epoch_of}
 use Rattle.kernel_rules.specs.CapabilityCalls.{leaf_of, leaf_for}
 use Rattle.kernel_rules.specs.MemoryCalls.{not_user, not_untyped, not_retyped, retype_rule, touch_by, translation_of, translated, is_empty, is_untyped_now}
 use Rattle.kernel_rules.specs.Life.{is_live_in}
 use Rattle.kernel_rules.specs.InvocationCalls.{not_live, switch_to}
-use Rattle.kernel_rules.specs.TimeCalls.{merged_list, tcap_at, are_same, is_short, are_unlike, are_many}
+use Rattle.kernel_rules.specs.TimeCalls.{merged_list, are_same, is_short, are_unlike, are_many}
+use Rattle.kernel_rules.specs.Edits.{tcap_at}
 use Rattle.kernel_rules.specs.CallRelation.{rule_of}
-use Rattle.kernel_invariant.specs.Edits.{Edit, Fill, Remove, Node, Become, Untype, Component, Deaden, Push, Pop, Switch, Cache, Flush}
-use Rattle.kernel_invariant.specs.Edits.{Charge, Move, Merge, begins_in, does}
+use Rattle.kernel_rules.specs.Edits.{Edit, Fill, Remove, Node, Become, Untype, Component, Deaden, Push, Pop, Switch, Cache, Flush}
+use Rattle.kernel_rules.specs.Edits.{Charge, Move, Merge, begins_in}
+use Rattle.kernel_rules.specs.Rules.{does}
 use Rattle.kernel_invariant.proofs.Sound.{only_is}
 use Rattle.kernel_invariant.proofs.SoundCalls.{IsOpen, blank_by, untyped_by}
 use Rattle.kernel_invariant.proofs.Facts.{ChangesFrom, Suits, suits, none_some, some_inj, some_none, vacant_facts, held_facts, none_parts, when_not, not_not, first_two}
@@ -372,7 +375,7 @@ module _ (s : State) (c : ℕ) (o : ℕ → Bool) (h : IsOpen s o c) where
       one (call.Retype r f frame_kind.Untyped) s c (Untype f) Nothing
       (range_by s c r f range (not_retyped s f frame_kind.Untyped) e calm, empty_budget s f (s.frame f) empty)
 
-  touch_acts : (v : ℕ) (t : Option Translation) → ChangesFrom (Acts (call.Touch v) c s) s c (touch_by s c (comp_of s c).pages v t)
+  touch_acts : (v : ℕ) (t : Option Translation) → ChangesFrom (Acts (call.Touch v) c s) s c (touch_by (comp_of s c).pages v t)
   touch_acts v None = λ mapping e calm.
       let t : Translation = record { pages = (comp_of s c).pages; page = v; frame = mapping.frame; flags = record { 0 = mapping.arg } } in
       one (call.Touch v) s c (Cache t) (translated t) tt
@@ -380,7 +383,7 @@ module _ (s : State) (c : ℕ) (o : ℕ → Bool) (h : IsOpen s o c) where
 
   switch_acts : (a b : ℕ) (j k : Capability) → named s c a (to_use (only kind.Thread)) ≡ Found j
       → named s c b (to_use (only kind.Tcap)) ≡ Found k → (e : Option ℕ) → (thread_in (s.frame j.frame)).runs_on ≡ e
-      → ChangesFrom (Acts (call.Switch a b) c s) s c (switch_to s c (found j) k.frame e)
+      → ChangesFrom (Acts (call.Switch a b) c s) s c (switch_to (found j) k.frame e)
   switch_acts a b j k g q (Some e) is = λ calm. absurd (some_none (reply.Running e) (none_parts (Some (reply.Running e)) None calm).0)
   switch_acts a b j k g q None is = λ calm.
       one (call.Switch a b) s c (Switch j.frame k.frame) Nothing (record {

@@ -11,7 +11,7 @@ use Rattle.kernel_rules.specs.Rules.{Change, Judged, Refused, Found, IsFoundAnd}
 use Rattle.kernel_rules.specs.CallRelation.{MayReply, rule_of, change_of, changed, owed_by, state_by}
 use Rattle.kernel_rules.specs.Runs.{is_open, after}
 use Rattle.kernel_rules.proofs.Changes.{IfFound}
-use Rattle.kernel_invariant.specs.Edits.{Edit, after_edits, begins_all}
+use Rattle.kernel_rules.specs.Edits.{Edit, after_edits, begins_all}
 use Rattle.kernel_invariant.proofs.Facts.{outcome_from}
 use Rattle.kernel_invariant.proofs.SoundCalls.{IsOpen}
 use Rattle.kernel_invariant.proofs.SoundRuns.{opened, open_is}

@@ -59,7 +59,7 @@ nothing_typed s r f frame_kind.User = λ range. refl
 nothing_typed s r f frame_kind.Kernel = λ range. refl
 
 nothing_switched : (s : State) (c : ℕ) (h : Rattle.kernel_rules.specs.Access.Named) (q : ℕ) (e : Option ℕ)
-    → AllChanges (λ change. change.value ≡ Nothing) (switch_to s c h q e)
+    → AllChanges (λ change. change.value ≡ Nothing) (switch_to h q e)
 nothing_switched s c h q None = refl
 nothing_switched s c h q (Some e) = refl
 
@@ -127,7 +127,7 @@ both_change s f c x k inside = record {
   grace = λ x is. same_grace_by s.limits.cores (s.grace x) (s.grace x) refl;
 }
 
-nearly_touched : (s : State) (c pages v : ℕ) (tr : Option Translation) → AllChanges (Nearly s c) (touch_by s c pages v tr)
+nearly_touched : (s : State) (c pages v : ℕ) (tr : Option Translation) → AllChanges (Nearly s c) (touch_by pages v tr)
 nearly_touched s c pages v (Some tr) = no_change s (s.core c).tcap c
 nearly_touched s c pages v None = λ mapping. core_change s (s.core c).tcap c _ refl
 

@@ -26,7 +26,8 @@ use Rattle.kernel_rules.specs.CapabilityCalls.{is_live, epoch_of, is_blank, not_
 use Rattle.kernel_rules.specs.MemoryCalls.{is_untyped, is_user, is_empty, translation_of, touch_by, retype_rule}
 use Rattle.kernel_rules.specs.InvocationCalls.{kill_comp, switch_to}
 use Rattle.kernel_rules.specs.Life.{is_live_in}
-use Rattle.kernel_rules.specs.TimeCalls.{tcap_at, are_alike}
+use Rattle.kernel_rules.specs.TimeCalls.{are_alike}
+use Rattle.kernel_rules.specs.Edits.{tcap_at}
 use Rattle.kernel_rules.specs.CallRelation.{rule_of}
 use Rattle.kernel_rules.specs.Fitting.{fits}
 use Rattle.kernel_rules.specs.Relies.{is_node}
@@ -162,7 +163,7 @@ module _ {t s : State} {o : ℕ → Bool} {c : ℕ} (w : Twins t s o c) where
   kernel_may r f = (refl, refl, ((refl, λ on. refl), ((frame_test w f (λ x. not (is_untyped x)), λ on. refl), tt)))
 
   touched_may : (v : ℕ) (tr : Option Translation)
-      → SameMayRule w (touch_by t c (comp_of s c).pages v tr) (touch_by s c (comp_of s c).pages v tr)
+      → SameMayRule w (touch_by (comp_of s c).pages v tr) (touch_by (comp_of s c).pages v tr)
   touched_may v (Some tr) = ((refl, λ on. refl), tt)
   touched_may v None = (refl, refl, pages_good w, λ mapping. tt)
 
@@ -171,7 +172,7 @@ module _ {t s : State} {o : ℕ → Bool} {c : ℕ} (w : Twins t s o c) where
       let pages : (comp_of t c).pages ≡ (comp_of s c).pages = ap (λ (k : CompFields). k.pages) (comp_same w) in
       let tr : translation_of (t.core c).cached (comp_of t c).pages v ≡ translation_of (s.core c).cached (comp_of s c).pages v = λ i.
       translation_of (core_same w i).cached (pages i) v in
-      subst (λ r. SameMayRule w r (rule_of s c (Touch v))) (λ i. touch_by t c (sym pages i) v (sym tr i))
+      subst (λ r. SameMayRule w r (rule_of s c (Touch v))) (λ i. touch_by (sym pages i) v (sym tr i))
       (touched_may v (translation_of (s.core c).cached (comp_of s c).pages v))
 
   -- ---- invocation
@@ -224,7 +225,7 @@ module _ {t s : State} {o : ℕ → Bool} {c : ℕ} (w : Twins t s o c) where
     ),
   )
 
-  switch_found : (h : Named) (q : ℕ) (e : Option ℕ) → SameMayRule w (switch_to t c h q e) (switch_to s c h q e)
+  switch_found : (h : Named) (q : ℕ) (e : Option ℕ) → SameMayRule w (switch_to h q e) (switch_to h q e)
   switch_found h q None = tt
   switch_found h q (Some e) = ((refl, λ on. refl), tt)
 
@@ -237,8 +238,8 @@ module _ {t s : State} {o : ℕ → Bool} {c : ℕ} (w : Twins t s o c) where
         (
           refl,
           refl,
-          subst (λ x. SameMayRule w (switch_to t c thread tcap.frame (thread_in x).runs_on)
-              (switch_to s c thread tcap.frame (thread_in (s.frame thread.frame)).runs_on)) (sym (name_frame h kind.Thread refl))
+          subst (λ x. SameMayRule w (switch_to thread tcap.frame (thread_in x).runs_on)
+              (switch_to thread tcap.frame (thread_in (s.frame thread.frame)).runs_on)) (sym (name_frame h kind.Thread refl))
               (switch_found thread tcap.frame (thread_in (s.frame thread.frame)).runs_on),
         ),
       )

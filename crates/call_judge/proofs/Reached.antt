@@ -14,7 +14,7 @@ use Rattle.kernel_rules.specs.State.{CompFields, Core, Limits, State, comp_of, w
 use Rattle.kernel_rules.specs.GracePeriods.{begun}
 use Rattle.kernel_rules.specs.Laws.{IsRefusal}
 use Rattle.kernel_rules.specs.Rules.{Change, Judged, Refused, Found, IsFoundAnd, RuleMay}
-use Rattle.kernel_rules.specs.TimeCalls.{owing}
+use Rattle.kernel_rules.specs.CallRelation.{owing}
 use Rattle.kernel_rules.specs.Life.{is_live_in, lives, asks_life, acts}
 use Rattle.kernel_rules.specs.CallRelation.{rule_of, change_of, changed, owed_by, counted, state_by, are_calls_spent}
 use Rattle.kernel_rules.specs.CallRelation.{MayBeDead, MayReply}

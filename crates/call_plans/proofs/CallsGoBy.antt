@@ -19,12 +19,12 @@ use Rattle.spk_nums.specs.declared.kinds.FrameKind.TheVariants.{Untyped, User, K
 use Rattle.call_plans.specs.PlanOf.{plan_of_retype, plan_of_make, plan_for}
 use Rattle.call_plans.specs.GoesBy.{OwnPages, own_pages, OnlyDoes, GoesBy}
 
-switch_does : (s : State) (c : ℕ) (h : Named) (q : ℕ) (runs_on : Option ℕ) → OnlyDoes (switch_to s c h q runs_on)
+switch_does : (s : State) (c : ℕ) (h : Named) (q : ℕ) (runs_on : Option ℕ) → OnlyDoes (switch_to h q runs_on)
 switch_does s c h q None = tt
 switch_does s c h q (Some e) = tt
 
 touch_goes : (s : State) (c : ℕ) (pages : OwnPages) (v : ℕ) (o : Option Translation) → pages.cached v ≡ is_some o
-    → GoesBy pages (plan_for (Touch v)) (touch_by s c pages.table v o)
+    → GoesBy pages (plan_for (Touch v)) (touch_by pages.table v o)
 touch_goes s c pages v None is = (refl, refl, is, λ k. tt)
 touch_goes s c pages v (Some t) is = is
 

@@ -64,7 +64,7 @@ kill_begun s c k = λ comp e calm l is. dies (comp_in (s.frame comp.frame)).numb
       | inr other ↦ no_frame_thing _ l fs (ap (λ b. b || list_any (same_thing (NumberOf l)) (frames_of fs)) (sym (ne_eqb l n other)) ∙ is)
     ]
 
-touch_begun : (s : State) (c pages v : ℕ) (t : Option Translation) → ChangesFrom (Begun s) s c (touch_by s c pages v t)
+touch_begun : (s : State) (c pages v : ℕ) (t : Option Translation) → ChangesFrom (Begun s) s c (touch_by pages v t)
 touch_begun s c pages v None = λ mapping e calm l is. no_thing _ is
 touch_begun s c pages v (Some t) = λ calm l is. no_thing _ is
 
@@ -73,7 +73,7 @@ retype_begun s c r f frame_kind.Untyped = λ range e calm l is. no_frame_thing _
 retype_begun s c r f frame_kind.User = λ range e calm l is. no_thing _ is
 retype_begun s c r f frame_kind.Kernel = λ range e calm l is. no_thing _ is
 
-switch_begun : (s : State) (c q : ℕ) (name : Named) (e : Option ℕ) → ChangesFrom (Begun s) s c (switch_to s c name q e)
+switch_begun : (s : State) (c q : ℕ) (name : Named) (e : Option ℕ) → ChangesFrom (Begun s) s c (switch_to name q e)
 switch_begun s c q name None = λ calm l is.
     no_frame_thing _ l ((s.core c).thread ∷ (if q == (s.core c).tcap then [] else (s.core c).tcap ∷ [])) is
 switch_begun s c q name (Some e) = λ calm l is.

@@ -12,7 +12,7 @@ use Rattle.kernel_rules.specs.State.{CompFields, Frame, Kernel, Comp, Core, Limi
 use Rattle.kernel_rules.specs.Start.{start}
 use Rattle.kernel_rules.specs.Access.{Slot, Under, Target, root_at, only, usable, reached, own}
 use Rattle.kernel_rules.specs.GracePeriods.{entered}
-use Rattle.kernel_rules.specs.TimeCalls.{tcap_at}
+use Rattle.kernel_rules.specs.Edits.{tcap_at}
 use Rattle.kernel_rules.specs.Runs.{Event, Enters, after, IsRun}
 use Rattle.kernel_rules.specs.Fitting.{fits, IsGood}
 use Rattle.kernel_rules.specs.Relies.{is_node}

@@ -14,7 +14,6 @@ use Rattle.work_invariant.proofs.Common.{Act, Nothing, Undecided, Decided, Core}
 use Rattle.work_invariant.proofs.Common.{refuse, core_word, Took, landed, fresh, core_after, told_by, decided_in, returned_in}
 use Rattle.work_invariant.proofs.Common.{CallIs, ChargesBy, Invariant, limits_of, calm_counted}
 use Rattle.boot_words.specs.spk_nums.specs.declared.replies.Reply.TheVariants as reply
-use Rattle.boot_words.specs.kernel_rules.specs.InvocationCalls.{pops}
 use Rattle.boot_words.specs.kernel_rules.specs.GracePeriods.{entered}
 use Rattle.work_invariant.specs.trace_laws.proofs.AloneCalls.{spent_first}
 use Rattle.call_stages.specs.act_states.specs.declared.refusals.Refusal.TheVariants as refusal

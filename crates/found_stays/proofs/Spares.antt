@@ -28,12 +28,16 @@ use Rattle.kernel_rules.specs.Access.{Slot, found, Target, Under, InRoot, place_
 use Rattle.kernel_rules.specs.GracePeriods.{same_thing, new_grace, begun, flushed}
 use Rattle.kernel_rules.specs.Life.{is_live_in, is_dead_in}
 use Rattle.kernel_rules.specs.Rules.{Change, Cause, When, WaitedFor, Unflushed, Found, named, vacant, held, unless}
-use Rattle.kernel_rules.specs.Rules.{not_vacant, first_cause, refusal_of, waits_of, flushes_of, frames_of, fills, removes}
-use Rattle.kernel_rules.specs.CapabilityCalls.{is_live, not_blank, outside, epoch_of, makes, cleared, make_node, makes_comp, make_rule}
+use Rattle.kernel_rules.specs.Rules.{not_vacant, first_cause, refusal_of, waits_of, flushes_of}
+use Rattle.kernel_rules.specs.Edits.{frames_of}
+use Rattle.kernel_rules.specs.CapabilityCalls.{is_live, not_blank, outside, epoch_of, make_node, make_rule}
+use Rattle.kernel_rules.specs.Edits.{cleared}
 use Rattle.kernel_rules.specs.CapabilityCalls.{not_taken}
 use Rattle.kernel_rules.specs.MemoryCalls.{is_untyped_now, is_empty, not_retyped, retypes, retype_rule, touch_by, translation_of}
-use Rattle.kernel_rules.specs.InvocationCalls.{not_live, kills, with_thread, pushes, pops, running, switches, switch_to}
-use Rattle.kernel_rules.specs.TimeCalls.{with_tcap, with_budget, with_qualities, tcap_at, moved, merged_list}
+use Rattle.kernel_rules.specs.InvocationCalls.{not_live, switch_to}
+use Rattle.kernel_rules.specs.Edits.{with_thread, running, switched}
+use Rattle.kernel_rules.specs.TimeCalls.{merged_list}
+use Rattle.kernel_rules.specs.Edits.{with_tcap, with_budget, with_qualities, tcap_at, moved}
 use Rattle.kernel_rules.specs.CallRelation.{rule_of}
 use Rattle.kernel_rules.specs.Fitting.{fits}
 use Rattle.kernel_rules.proofs.Within.{put_same, put_other}

@@ -33,7 +33,7 @@ use Rattle.place_invariant.specs.kernel_invariant.proofs.Refs.{place_refs}
 use Rattle.place_invariant.specs.found_stays.proofs.Stays.{comp_fit}
 use Rattle.place_invariant.specs.kernel_invariant.proofs.Sums as sums
 use Rattle.place_invariant.specs.kernel_rules.specs.Fitting.{fits as fits_kind}
-use Rattle.place_invariant.specs.kernel_rules.specs.CapabilityCalls.{is_place_of}
+use Rattle.place_invariant.specs.kernel_rules.specs.Edits.{is_place_of}
 use Rattle.place_invariant.specs.kernel_history.specs.Stamps.{begins_in as begins_then}
 use Rattle.place_invariant.specs.call_plans.proofs.AfterNames.{before}
 use Rattle.place_invariant.specs.plan_ways.proofs.Ways.{all_ways}

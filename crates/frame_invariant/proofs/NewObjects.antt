@@ -18,7 +18,7 @@ use Rattle.place_invariant.specs.tcap_words.proofs.QualityLemmas as qualities
 use Rattle.place_invariant.specs.tcap_words.proofs.StackLemmas as stacks
 use Rattle.place_invariant.specs.tcap_words.proofs.ThreadLemmas as threads
 use Rattle.place_invariant.specs.kernel_rules.specs.State.{Free as Vacant}
-use Rattle.place_invariant.specs.kernel_rules.specs.CapabilityCalls.{is_place_of}
+use Rattle.place_invariant.specs.kernel_rules.specs.Edits.{is_place_of}
 use Rattle.place_invariant.specs.kernel_invariant.proofs.Refs.{cleared_refs}
 use Rattle.place_invariant.specs.act_states.specs.declared.objects.NewObject.TheVariants as objects
 use Rattle.place_invariant.specs.act_states.specs.Objects.{object_cap, object_word, thread_word, tcap_word, last_word, object_names}

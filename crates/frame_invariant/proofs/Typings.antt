@@ -218,7 +218,7 @@ module _ (setup : Setting) (setting : IsSetting setup) (cores : ℕ → Core) (t
       ∙ ap (λ x. Does (outside (found is.range) f ∷ x) (retypes s f k)) (typing_causes s f k types)
       ∙ ap (Does causes) (typing_change s f k types)
 
-  outcome_is : change_of s c a.call ≡ outcome s c (Does causes change)
+  outcome_is : change_of s c a.call ≡ outcome s c (Does causes value edits)
   outcome_is = outcome_left s c (own_pages s c) a.plan (rule_of s c a.call) a.found by_plan leads ∙ ap (outcome s c) left
 
   -- the range has the frame, so only what the frame is may refuse it

@@ -157,7 +157,7 @@ module _ (setup : Setting) (setting : IsSetting setup) (cores : ℕ → Core) (t
   left = ap (λ x. rule_after (rule_of s c x) a.found) is.call_is
       ∙ ap (rule_after (rule_of s c (Retype is.name f kind.Untyped))) is.found_is
 
-  pub may_refuse : (r : Reply) → RuleMay s c (Does causes change) r → RuleMay s c (rule_of s c a.call) r
+  pub may_refuse : (r : Reply) → RuleMay s c (Does causes value edits) r → RuleMay s c (rule_of s c a.call) r
   may_refuse r may = left_may s c (own_pages s c) a.plan (rule_of s c a.call) a.found by_plan leads r
       (subst (λ x. RuleMay s c x r) (sym left) may)
 

@@ -23,8 +23,9 @@ use Rattle.thread_laws.specs.kernel_rules.specs.Fitting.{fits}
 use Rattle.thread_laws.specs.kernel_rules.specs.Rules.{Change, Judged, Refused, Found}
 use Rattle.thread_laws.specs.kernel_rules.specs.CapabilityCalls.{make_node, make_rule, not_taken}
 use Rattle.thread_laws.specs.kernel_rules.specs.MemoryCalls.{retype_rule, touch_by, translation_of}
-use Rattle.thread_laws.specs.kernel_rules.specs.InvocationCalls.{with_thread, running, switch_to}
-use Rattle.thread_laws.specs.kernel_rules.specs.TimeCalls.{with_tcap, with_budget, tcap_at, moved}
+use Rattle.thread_laws.specs.kernel_rules.specs.InvocationCalls.{switch_to}
+use Rattle.thread_laws.specs.kernel_rules.specs.Edits.{with_thread, running}
+use Rattle.thread_laws.specs.kernel_rules.specs.Edits.{with_tcap, with_budget, tcap_at, moved}
 use Rattle.thread_laws.specs.kernel_rules.specs.CallRelation.{rule_of, change_of, changed, owed_by, state_by, ends, ends_by, MayReply}
 use Rattle.thread_laws.specs.kernel_invariant.proofs.Sound.{put_all}
 use Rattle.thread_laws.specs.kernel_invariant.proofs.SoundCalls.{IsOpen, blank_by, untyped_by}

@@ -362,7 +362,7 @@ module _ (s : State) (c : ℕ) where
   page_cause v _ is h = absurd h
 
   touch_cause : (v : ℕ) (q : Reply) → (t : Option Translation) → translation_of (s.core c).cached (comp_of s c).pages v ≡ t
-      → RuleMay s c (touch_by s c (comp_of s c).pages v t) q → HasCause s c (Touch v) q
+      → RuleMay s c (touch_by (comp_of s c).pages v t) q → HasCause s c (Touch v) q
   touch_cause v q None is (inl h) = page_cause v q is h
   touch_cause v q None is (inr h) = absurd (page_none (mapped s c (comp_of s c).pages v) h)
   touch_cause v q (Some t) is (inl h) = when_cause s c (Touch v) _ reply.NoSlot q (λ t. inr (inr (inr (ltb-true 4095 v t)))) h
@@ -404,7 +404,7 @@ module _ (s : State) (c : ℕ) where
 
   switch_own : (h q : ℕ) (x : Named) (p : ℕ) (r : Reply) → x ≡ leads_as s c h (only kind.Thread) → (e : Option ℕ)
       → (thread_in (s.frame x.frame)).runs_on ≡ e
-      → RuleMay s c (switch_to s c x p e) r → HasCause s c (Switch h q) r
+      → RuleMay s c (switch_to x p e) r → HasCause s c (Switch h q) r
   switch_own h q x p r at None is may = absurd may
   switch_own h q x p r at (Some e) is (inl may) =
       when_cause s c (Switch h q) _ (reply.Running e) r

@@ -29,11 +29,14 @@ use Rattle.kernel_rules.specs.Access.{Want, any, to_copy, to_use, Slot, Named, f
 use Rattle.kernel_rules.specs.Access.{held_in, usable_in, usable, reached, root_slot, only, root}
 use Rattle.kernel_rules.specs.GracePeriods.{same_thing, begun}
 use Rattle.kernel_rules.specs.Rules.{Change, Cause, When, WaitedFor, Unflushed, Judged, Refused, Found, IsFoundAnd, named, held, mapped}
-use Rattle.kernel_rules.specs.Rules.{and_then, or_refuse, unless, first_cause, refusal_of, waits_of, flushes_of, frames_of, fills, removes}
-use Rattle.kernel_rules.specs.CapabilityCalls.{leaf_of, outside, cleared, makes, make_node, make_rule, not_taken}
+use Rattle.kernel_rules.specs.Rules.{and_then, or_refuse, unless, first_cause, refusal_of, waits_of, flushes_of}
+use Rattle.kernel_rules.specs.Edits.{frames_of}
+use Rattle.kernel_rules.specs.CapabilityCalls.{leaf_of, outside, make_node, make_rule, not_taken}
+use Rattle.kernel_rules.specs.Edits.{cleared}
 use Rattle.kernel_rules.specs.MemoryCalls.{is_untyped_now, is_empty, not_retyped, retypes, retype_rule, touch_by, translation_of}
-use Rattle.kernel_rules.specs.InvocationCalls.{kills, with_thread, pops, running, switches, switch_to}
-use Rattle.kernel_rules.specs.TimeCalls.{with_tcap, with_budget, tcap_at, moved}
+use Rattle.kernel_rules.specs.InvocationCalls.{switch_to}
+use Rattle.kernel_rules.specs.Edits.{with_thread, running, switched}
+use Rattle.kernel_rules.specs.Edits.{with_tcap, with_budget, tcap_at, moved}
 use Rattle.kernel_rules.specs.CallRelation.{rule_of, change_of, changed, counted, owed_by, state_by, MayReply}
 use Rattle.kernel_rules.specs.Runs.{Event, Enters, Decides, Returns, after, is_in, is_open, IsRun}
 use Rattle.kernel_rules.specs.Relies.{is_node}
@@ -277,12 +280,12 @@ module _ (s : State) (o : ℕ → Bool) (c : ℕ) (h : IsOpen s o c) (w : IsFitt
       (λ g i d q. not_chosen (list_any (same_thing (PlaceOf g i)) (frames_of (frame_names (s.frame f))))
       _ _ d (frames_no_place g i (frame_names (s.frame f))) q) fitted
 
-  touch_keeps : (pages v : ℕ) (t : Option Translation) → ChangesFrom Keeps s c (touch_by s c pages v t)
+  touch_keeps : (pages v : ℕ) (t : Option Translation) → ChangesFrom Keeps s c (touch_by pages v t)
   touch_keeps pages v None =
       λ mapping e calm. framed (with_core s c _) [] (λ g i. refl) (λ g i. refl) (λ g. alike_same (s.frame g)) (λ g i d q. q)
   touch_keeps pages v (Some t) = λ calm. same
 
-  switch_keeps : (j : Capability) (q : ℕ) (e : Option ℕ) → ChangesFrom Keeps s c (switch_to s c (found j) q e)
+  switch_keeps : (j : Capability) (q : ℕ) (e : Option ℕ) → ChangesFrom Keeps s c (switch_to (found j) q e)
   switch_keeps j q None = λ calm. switched j q
     where
       switched : (j : Capability) (q : ℕ) → Keeps (switches s c (s.core c) j.frame q)

@@ -13,16 +13,17 @@ use Rattle.kernel_rules.specs.State.{Thread, Tcap, Frame, Untyped, Kernel, Liven
 use Rattle.kernel_rules.specs.State.{Core, State, put, thread_in, tcap_in, thread_of}
 use Rattle.kernel_rules.specs.Rules.{Change}
 use Rattle.kernel_rules.specs.CapabilityCalls.{epoch_of}
-use Rattle.kernel_rules.specs.MemoryCalls.{caching}
+use Rattle.kernel_rules.specs.Edits.{caching}
 use Rattle.kernel_rules.specs.Life.{is_live_in}
-use Rattle.kernel_rules.specs.InvocationCalls.{with_thread, with_stack, running}
-use Rattle.kernel_rules.specs.TimeCalls.{tcap_at, with_tcap, with_budget, charge}
+use Rattle.kernel_rules.specs.Edits.{with_thread, with_stack, running}
+use Rattle.kernel_rules.specs.Edits.{tcap_at, with_tcap, with_budget, charge}
 use Rattle.kernel_rules.specs.Ranges.{EpochInRange, CompInRange, ThreadInRange, NumberInRange}
 use Rattle.kernel_rules.specs.Fitting.{fits}
 use Rattle.kernel_rules.specs.Relies.{is_node}
 use Rattle.kernel_rules.proofs.Within.{put_same, put_other}
-use Rattle.kernel_invariant.specs.Edits.{Edit, Fill, Node, Become, Untype, Component, Deaden, Push, Pop, Switch, Cache, Flush}
-use Rattle.kernel_invariant.specs.Edits.{Charge, Move, Merge, edited, after_edits, charged_by, charged_in, charged_all}
+use Rattle.kernel_rules.specs.Edits.{Edit, Fill, Node, Become, Untype, Component, Deaden, Push, Pop, Switch, Cache, Flush}
+use Rattle.kernel_invariant.specs.Edits.{charged_by, charged_in, charged_all}
+use Rattle.kernel_rules.specs.Edits.{Charge, Move, Merge, edited, after_edits}
 use Rattle.kernel_invariant.proofs.Sound.{put_all}
 use Rattle.kernel_invariant.proofs.SoundCalls.{IsOpen}
 use Rattle.kernel_invariant.proofs.Edited.{Tested, Limited, Known, Each, Edits}

@@ -9,13 +9,14 @@ use Rattle.spk_nums.specs.declared.replies.Reply.{Reply}
 use Rattle.spk_nums.specs.declared.replies.Reply.TheVariants as reply
 use Rattle.kernel_rules.specs.State.{Core, State, put}
 use Rattle.kernel_rules.specs.Rules.{RuleMay}
-use Rattle.kernel_rules.specs.MemoryCalls.{caching}
-use Rattle.kernel_rules.specs.TimeCalls.{tcap_at, charge}
+use Rattle.kernel_rules.specs.Edits.{caching}
+use Rattle.kernel_rules.specs.Edits.{tcap_at, charge}
 use Rattle.kernel_rules.specs.Life.{asks_life}
 use Rattle.kernel_rules.specs.CallRelation.{rule_of, change_of, changed, counted, owed_by, state_by, MayBeDead, MayReply}
 use Rattle.kernel_rules.specs.Runs.{Enters, Decides, Returns, after}
 use Rattle.kernel_rules.proofs.Within.{put_same, put_other}
-use Rattle.kernel_invariant.specs.Edits.{Edit, Switch, Cache, Flush, Charge, edited, after_edits, charged_by, charged_in, charged_all}
+use Rattle.kernel_invariant.specs.Edits.{charged_by, charged_in, charged_all}
+use Rattle.kernel_rules.specs.Edits.{Edit, Switch, Cache, Flush, Charge, edited, after_edits}
 use Rattle.kernel_invariant.proofs.Sound.{put_all}
 use Rattle.kernel_invariant.proofs.Edited.{after_ok}
 use Rattle.kernel_laws.specs.Laws.{ticks_of, ticks_counted, ticks_by, decided_ticks, SpendingSums}

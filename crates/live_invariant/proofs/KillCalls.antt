@@ -7,7 +7,7 @@ use Rattle.count_invariant.proofs.Common.{state_after, Plan, GoesBy, own_pages, 
 use Rattle.count_invariant.proofs.Common.{KillingAt, Act, Undecided, ActiveCall, StageFits, HasRoom, Core, KnowsUndecided, phase_at}
 use Rattle.count_invariant.proofs.Common.{Invariant}
 use Rattle.state_laws.specs.spk_nums.specs.declared.replies.Reply.TheVariants as reply
-use Rattle.state_laws.specs.kernel_rules.specs.InvocationCalls.{not_live, kills, kill_comp}
+use Rattle.state_laws.specs.kernel_rules.specs.InvocationCalls.{not_live, kill_comp}
 use Rattle.count_invariant.specs.kernel_history.specs.Footprint.{footprint_numbers, number_argument, number_in}
 use Rattle.count_invariant.specs.act_states.specs.declared.kills.Killing.{Killing}
 use Rattle.count_invariant.specs.act_states.specs.Kills.{KillingFits}

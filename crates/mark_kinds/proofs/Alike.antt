@@ -15,10 +15,13 @@ use Rattle.kernel_rules.specs.State.{comp_of, thread_in, thread_of}
 use Rattle.kernel_rules.specs.Relies.{is_node}
 use Rattle.kernel_rules.specs.Rules.{Change, Rule, Judged, Refused, Found}
 use Rattle.kernel_rules.specs.Access.{Named, found}
-use Rattle.kernel_rules.specs.CapabilityCalls.{make_node, makes, cleared, make_rule}
+use Rattle.kernel_rules.specs.CapabilityCalls.{make_node, make_rule}
+use Rattle.kernel_rules.specs.Edits.{cleared}
 use Rattle.kernel_rules.specs.MemoryCalls.{touch_by, translation_of}
-use Rattle.kernel_rules.specs.InvocationCalls.{with_thread, with_stack, running, switch_to}
-use Rattle.kernel_rules.specs.TimeCalls.{tcap_at, with_tcap, with_budget, with_qualities, moved, merged_list}
+use Rattle.kernel_rules.specs.InvocationCalls.{switch_to}
+use Rattle.kernel_rules.specs.Edits.{with_thread, with_stack, running}
+use Rattle.kernel_rules.specs.TimeCalls.{merged_list}
+use Rattle.kernel_rules.specs.Edits.{tcap_at, with_tcap, with_budget, with_qualities, moved}
 use Rattle.kernel_rules.specs.CallRelation.{rule_of, change_of, changed, owed_by, state_by}
 use Rattle.kernel_rules.proofs.Changes.{AllChanges, IfFound, outcome_all}
 use Rattle.kernel_rules.proofs.Within.{put_same, put_other}
@@ -62,11 +65,11 @@ moved_alike s a b m f i v =
 abbrev AllAlike : State → Rule → Type 0
 AllAlike s rule = AllChanges (λ change. ReadAlike s change.next) rule
 
-touch_all : (s : State) (c pages v : ℕ) (o : Option Translation) → AllAlike s (touch_by s c pages v o)
+touch_all : (s : State) (c pages v : ℕ) (o : Option Translation) → AllAlike s (touch_by pages v o)
 touch_all s c pages v None = λ k f i w. refl
 touch_all s c pages v (Some t) = λ f i w. refl
 
-switch_all : (s : State) (c : ℕ) (h : Named) (q : ℕ) (o : Option ℕ) → AllAlike s (switch_to s c h q o)
+switch_all : (s : State) (c : ℕ) (h : Named) (q : ℕ) (o : Option ℕ) → AllAlike s (switch_to h q o)
 switch_all s c h q None = λ f i v.
     running_alike (running s (s.core c).thread None) h.frame (Some c) f i v ∙ running_alike s (s.core c).thread None f i v
 switch_all s c h q (Some e) = λ f i v.

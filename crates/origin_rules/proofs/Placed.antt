@@ -19,8 +19,8 @@ use Rattle.kernel_rules.specs.State.{thread_in}
 use Rattle.kernel_rules.specs.Start.{plain_cap}
 use Rattle.kernel_rules.specs.Access.{Want, Slot, found, any, only, to_copy, to_use, Target, Under, InRoot, own, reached, usable}
 use Rattle.kernel_rules.specs.Rules.{Change, Cause, Found, or_refuse, and_then, of_kind, named, name_of, vacant, held, first_cause}
-use Rattle.kernel_rules.specs.Rules.{fills, removes}
-use Rattle.kernel_rules.specs.CapabilityCalls.{has_frame, outside, not_blank, cleared, make_node, make_rule, not_taken}
+use Rattle.kernel_rules.specs.CapabilityCalls.{has_frame, outside, not_blank, make_node, make_rule, not_taken}
+use Rattle.kernel_rules.specs.Edits.{cleared}
 use Rattle.kernel_rules.specs.MemoryCalls.{touch_by, translation_of, retype_rule}
 use Rattle.kernel_rules.specs.InvocationCalls.{switch_to}
 use Rattle.kernel_rules.specs.CallRelation.{rule_of}
@@ -212,12 +212,12 @@ module _ (s : State) (c : ℕ) where
   retype_placed r f frame_kind.User = λ range e calm. kept_places (call.Retype r f frame_kind.User) _ refl refl
   retype_placed r f frame_kind.Kernel = λ range e calm. kept_places (call.Retype r f frame_kind.Kernel) _ refl refl
 
-  touch_placed : (v pages : ℕ) (t : Option Translation) → ChangesFrom (Placed s c (call.Touch v)) s c (touch_by s c pages v t)
+  touch_placed : (v pages : ℕ) (t : Option Translation) → ChangesFrom (Placed s c (call.Touch v)) s c (touch_by pages v t)
   touch_placed v pages (Some t) = λ calm. kept_places (call.Touch v) _ refl refl
   touch_placed v pages None = λ mapping e calm. kept_places (call.Touch v) _ refl refl
 
   switch_placed : (h q : ℕ) (thread tcap : Capability) (on : Option ℕ)
-      → ChangesFrom (Placed s c (call.Switch h q)) s c (switch_to s c (found thread) tcap.frame on)
+      → ChangesFrom (Placed s c (call.Switch h q)) s c (switch_to (found thread) tcap.frame on)
   switch_placed h q thread tcap None = λ calm. kept_places (call.Switch h q) _ refl refl
   switch_placed h q thread tcap (Some e) = λ calm. kept_places (call.Switch h q) _ refl refl
 

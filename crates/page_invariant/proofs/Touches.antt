@@ -26,7 +26,8 @@ use Rattle.count_invariant.specs.entry_words.specs.declared.entry.Entry.TheVaria
 use Rattle.kernel_laws.specs.kernel_rules.specs.State.{Core as CoreFields}
 use Rattle.kernel_laws.specs.kernel_rules.specs.State.{with_core}
 use Rattle.kernel_laws.specs.kernel_rules.specs.Rules.{mapped}
-use Rattle.kernel_laws.specs.kernel_rules.specs.MemoryCalls.{caching, translated, caches, touch_by}
+use Rattle.kernel_laws.specs.kernel_rules.specs.MemoryCalls.{translated, caches, touch_by}
+use Rattle.kernel_laws.specs.kernel_rules.specs.Edits.{caching}
 use Rattle.kernel_laws.specs.kernel_invariant.proofs.SoundCalls.{IsOpen}
 use Rattle.kernel_laws.proofs.NodeSteps.{IsFitted}
 use Rattle.kernel_laws.proofs.NodesLaw.{runs_fit, mapped_page}
@@ -131,10 +132,10 @@ module _ (setup : Setting) (setting : IsSetting setup) (cores : ℕ → Core) (t
   still fate = ap (holds_counts fate) no_counts ∙ sym (ap (holds_counts None) no_counts) ∙ sym held_is
 
   -- the rule of the touch
-  rule_is : (cached : Option Translation) → m.cached ≡ cached → rule_of s c a.call ≡ touch_by s c m.pages m.page cached
+  rule_is : (cached : Option Translation) → m.cached ≡ cached → rule_of s c a.call ≡ touch_by m.pages m.page cached
   rule_is cached is = ap (rule_of s c) knows.call_is
-      ∙ ap (λ (p : ℕ). touch_by s c p m.page (translation_of (s.core c).cached p m.page)) (sym knows.root)
-      ∙ ap (touch_by s c m.pages m.page) (sym knows.known ∙ is)
+      ∙ ap (λ (p : ℕ). touch_by p m.page (translation_of (s.core c).cached p m.page)) (sym knows.root)
+      ∙ ap (touch_by m.pages m.page) (sym knows.known ∙ is)
 
   -- an entry on its way is loaded
   looks_at : (g i : ℕ) → is_one_of g (footprint_frames s c a.call) ≡ true → OnlyLooks setup t c a.call (LoadOf (EntryAt g i))
@@ -186,8 +187,8 @@ module _ (setup : Setting) (setting : IsSetting setup) (cores : ℕ → Core) (t
     way_is : wide_ways s c (rule_of s c a.call) ≡ wide_way_to s target
     way_is = ap (wide_ways s c) (rule_is None none)
 
-    faults : (g i : ℕ) → is_one_of g (footprint_frames s c a.call) ≡ true → RuleMay s c (touch_by s c m.pages m.page None) reply.Fault
-        → (NobodyWaits s → outcome s c (touch_by s c m.pages m.page None) ≡ Refused reply.Fault)
+    faults : (g i : ℕ) → is_one_of g (footprint_frames s c a.call) ≡ true → RuleMay s c (touch_by m.pages m.page None) reply.Fault
+        → (NobodyWaits s → outcome s c (touch_by m.pages m.page None) ≡ Refused reply.Fault)
         → GoodTook setup cores t c (LoadOf (EntryAt g i)) (landed a (refuse refusal.Fault))
     faults g i footprint may first =
         refuses_fault setup setting cores t stands c here a active opens held_is room (LoadOf (EntryAt g i))

@@ -13,7 +13,7 @@ use Rattle.count_invariant.proofs.Common.{counted_refs, limits_of, SameFor, Read
 use Rattle.quality_lists.specs.spk_nums.specs.declared.replies.Reply.TheVariants as reply
 use Rattle.quality_lists.specs.spk_nums.specs.declared.replies.Value.TheVariants as value
 use Rattle.kernel_laws.specs.kernel_rules.specs.State.{Core as CoreFields}
-use Rattle.kernel_laws.specs.kernel_rules.specs.TimeCalls.{with_tcap, with_budget, with_qualities}
+use Rattle.kernel_laws.specs.kernel_rules.specs.Edits.{with_tcap, with_budget, with_qualities}
 use Rattle.count_invariant.specs.step_ways.proofs.Loads.{inner}
 use Rattle.quality_lists.specs.spk_nums.specs.declared.kinds.Kind.TheVariants.{Tcap as KindTcap}
 

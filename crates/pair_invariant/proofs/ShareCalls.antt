@@ -10,7 +10,8 @@ use Rattle.count_invariant.proofs.Common.{StageFits, HasRoom, Core, holds_counts
 use Rattle.count_invariant.proofs.Common.{SharesBy, holds_share, holds_at, holds_in, Invariant, TcapOf}
 use Rattle.quality_lists.specs.spk_nums.specs.declared.calls.Call.TheVariants as call_as
 use Rattle.quality_lists.specs.spk_nums.specs.declared.kinds.Kind.TheVariants as kind
-use Rattle.kernel_laws.specs.kernel_rules.specs.TimeCalls.{with_qualities, merged_list, are_same}
+use Rattle.kernel_laws.specs.kernel_rules.specs.TimeCalls.{merged_list, are_same}
+use Rattle.kernel_laws.specs.kernel_rules.specs.Edits.{with_qualities}
 use Rattle.kernel_laws.specs.kernel_rules.specs.TimeCalls.{preemption, preempts}
 use Rattle.count_invariant.specs.call_plans.specs.declared.plans.Nth.{Nth}
 use Rattle.count_invariant.proofs.Findings.{found_named}

@@ -35,7 +35,6 @@ use Rattle.kernel_laws.specs.kernel_rules.specs.State.{Free as Vacant, Quiescing
 use Rattle.kernel_laws.specs.kernel_rules.specs.Start.{plain_cap}
 use Rattle.kernel_laws.specs.kernel_rules.specs.MemoryCalls.{is_user, not_user}
 use Rattle.kernel_laws.specs.kernel_rules.specs.Rules.{Vacant as to_be_free}
-use Rattle.kernel_laws.specs.kernel_rules.specs.Rules.{fills}
 use Rattle.count_invariant.specs.kernel_history.specs.Ways.{led_to}
 use Rattle.count_invariant.specs.kernel_history.specs.Stamps.{begins_in as begins_then}
 use Rattle.count_invariant.specs.call_plans.specs.PlanOf.{any_cap}

@@ -19,7 +19,6 @@ use Rattle.std.specs.Prelude.{◌||◌}
 use Rattle.kernel_laws.specs.spk_nums.specs.declared.kinds.FrameKind.TheVariants as kind
 use Rattle.kernel_laws.specs.spk_nums.specs.declared.replies.Reply.TheVariants as reply
 use Rattle.kernel_laws.specs.kernel_rules.specs.MemoryCalls.{is_user, not_user}
-use Rattle.kernel_laws.specs.kernel_rules.specs.Rules.{fills}
 use Rattle.count_invariant.specs.act_states.specs.declared.fills.Fill.{Fill}
 use Rattle.count_invariant.specs.act_states.specs.declared.refusals.Refusal.TheVariants as refusal
 use Rattle.count_invariant.specs.act_states.specs.declared.work.Act.TheVariants.{Fill as fill_act, Map as map_act}

@@ -9,7 +9,7 @@ use Rattle.kernel_laws.specs.spk_nums.specs.declared.kinds.Kind.TheVariants as k
 use Rattle.kernel_laws.specs.spk_nums.specs.declared.calls.Call.TheVariants.{Make as make_call}
 use Rattle.kernel_laws.specs.spk_nums.specs.declared.calls.Make.TheVariants as make
 use Rattle.kernel_laws.specs.kernel_rules.specs.Start.{no_grace}
-use Rattle.kernel_laws.specs.kernel_rules.specs.CapabilityCalls.{is_place_of}
+use Rattle.kernel_laws.specs.kernel_rules.specs.Edits.{is_place_of}
 use Rattle.count_invariant.specs.act_states.specs.declared.objects.NewObject.TheVariants as objects
 use Rattle.count_invariant.specs.act_states.specs.Objects.{one_more}
 

@@ -14,7 +14,6 @@ use Rattle.kernel_laws.specs.spk_nums.specs.declared.calls.Make.TheVariants as m
 use Rattle.place_invariant.proofs.CompMakes.{IsCompMake, comp_make, comp_rest, new_comp}
 use Rattle.kernel_laws.specs.spk_nums.specs.declared.replies.Reply.TheVariants as reply
 use Rattle.kernel_laws.specs.kernel_rules.specs.MemoryCalls.{not_user}
-use Rattle.kernel_laws.specs.kernel_rules.specs.Rules.{fills}
 use Rattle.kernel_laws.specs.kernel_rules.specs.CapabilityCalls.{not_taken}
 use Rattle.count_invariant.specs.core_invariant.specs.Knows.{OutsideBy, OutsideObject, OutsideComp}
 use Rattle.count_invariant.specs.step_ways.proofs.Loads.{step_to, call_is, is_active}

@@ -28,7 +28,6 @@ use Rattle.kernel_laws.specs.spk_nums.specs.declared.replies.Reply.TheVariants a
 use Rattle.kernel_laws.specs.spk_nums.specs.declared.replies.Value.TheVariants as value
 use Rattle.count_invariant.specs.entry_words.specs.declared.entry.Entry.TheVariants as entry
 use Rattle.count_invariant.specs.entry_words.proofs.Spelling.{spelling}
-use Rattle.kernel_laws.specs.kernel_rules.specs.Rules.{removes}
 use Rattle.kernel_laws.specs.kernel_rules.specs.Rules as rules
 use Rattle.kernel_laws.specs.kernel_invariant.proofs.Sums as sums
 use Rattle.count_invariant.specs.kernel_history.specs.Stamps.{begins_in as begins_then}

@@ -85,7 +85,7 @@ module _ (s : State) (c : ℕ) (pages : OwnPages) (target : Target) (k : Capabil
   found_named (name ∷ names) caps (vacant_rule t rest) (j ∷ ks) at goes leads is = absurd goes
   found_named (name ∷ names) caps (held_rule t rest) (j ∷ ks) at goes leads is = absurd goes
   found_named (name ∷ names) caps (mapped_rule t v rest) (j ∷ ks) at goes leads is = absurd goes
-  found_named (name ∷ names) caps (Does causes change) (j ∷ ks) at goes leads is = absurd goes
+  found_named (name ∷ names) caps (Does causes value edits) (j ∷ ks) at goes leads is = absurd goes
 
 pub named_footprint : FoundAreNamed
 named_footprint s c pages plan rule ks goes leads at k is f names_it =

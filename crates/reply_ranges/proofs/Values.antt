@@ -24,7 +24,8 @@ use Rattle.kernel_rules.specs.Rules.{Change, Judged, Refused, Found, IsFoundAnd,
 use Rattle.kernel_rules.specs.CapabilityCalls.{make_rule}
 use Rattle.kernel_rules.specs.MemoryCalls.{retype_rule, touch_by, translation_of}
 use Rattle.kernel_rules.specs.InvocationCalls.{switch_to}
-use Rattle.kernel_rules.specs.TimeCalls.{preemption, preempts, tcap_at}
+use Rattle.kernel_rules.specs.TimeCalls.{preemption, preempts}
+use Rattle.kernel_rules.specs.Edits.{tcap_at}
 use Rattle.kernel_rules.specs.CallRelation.{rule_of}
 use Rattle.kernel_rules.specs.Fitting.{fits, EndsWithin, IsGood}
 use Rattle.kernel_rules.specs.Ranges.{InRanges}
@@ -110,7 +111,7 @@ module _ (s : State) (o : ℕ → Bool) (c : ℕ) (opens : IsOpen s o c) (w : Is
       (small kind.Page f refl (subst (λ (j : Kind). IsTrue (fits j (s.frame f))) is fit), omega arith)
 
   touch_values : (v : ℕ) (t : Option Translation) → translation_of (s.core c).cached (comp_of s c).pages v ≡ t
-      → ChangesFrom Answers s c (touch_by s c (comp_of s c).pages v t)
+      → ChangesFrom Answers s c (touch_by (comp_of s c).pages v t)
   touch_values v None is = λ mapping e calm.
       let at = mapped_at s c (comp_of s c).pages v mapping e in
       let place : s.place at.0.node at.0.index ≡ Holds mapping = held_is s o c opens w (place_at s at.0) mapping at.1 in
@@ -121,7 +122,7 @@ module _ (s : State) (o : ℕ → Bool) (c : ℕ) (opens : IsOpen s o c) (w : Is
       cached_values t (find_is (Stands s c) _ (s.core c).cached t stands is)
       (find_is (λ (t : Translation). t.flags.0 < 4) _ (s.core c).cached t (h.flags c) is)
 
-  switch_values : (q : ℕ) (name : Named) (e : Option ℕ) → ChangesFrom Answers s c (switch_to s c name q e)
+  switch_values : (q : ℕ) (name : Named) (e : Option ℕ) → ChangesFrom Answers s c (switch_to name q e)
   switch_values q name None = λ calm. tt
   switch_values q name (Some e) = λ calm. tt
 

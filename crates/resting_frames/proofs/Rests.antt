@@ -25,11 +25,13 @@ use Rattle.trace_laws.specs.kernel_rules.specs.State.{FrameOf, State, put, with_
 use Rattle.trace_laws.specs.kernel_rules.specs.State.{thread_in, Live}
 use Rattle.trace_laws.specs.kernel_rules.specs.References.{named_by, core_names, times, refs}
 use Rattle.trace_laws.specs.kernel_rules.specs.Access.{Want, to_use, Slot, Named, found, Target, Under, InRoot, reached, usable, only, root}
-use Rattle.trace_laws.specs.kernel_rules.specs.Rules.{Change, Judged, Refused, Found, named, of_kind, vacant, held, fills, removes}
-use Rattle.trace_laws.specs.kernel_rules.specs.CapabilityCalls.{makes, cleared, make_node, make_rule, not_taken, epoch_of}
+use Rattle.trace_laws.specs.kernel_rules.specs.Rules.{Change, Judged, Refused, Found, named, of_kind, vacant, held}
+use Rattle.trace_laws.specs.kernel_rules.specs.CapabilityCalls.{make_node, make_rule, not_taken, epoch_of}
+use Rattle.trace_laws.specs.kernel_rules.specs.Edits.{cleared}
 use Rattle.trace_laws.specs.kernel_rules.specs.MemoryCalls.{retype_rule, touch_by, translation_of}
-use Rattle.trace_laws.specs.kernel_rules.specs.InvocationCalls.{with_thread, running, switch_to}
-use Rattle.trace_laws.specs.kernel_rules.specs.TimeCalls.{with_tcap, with_budget, tcap_at, moved}
+use Rattle.trace_laws.specs.kernel_rules.specs.InvocationCalls.{switch_to}
+use Rattle.trace_laws.specs.kernel_rules.specs.Edits.{with_thread, running}
+use Rattle.trace_laws.specs.kernel_rules.specs.Edits.{with_tcap, with_budget, tcap_at, moved}
 use Rattle.trace_laws.specs.kernel_rules.specs.CallRelation.{rule_of, change_of, changed, owed_by, state_by}
 use Rattle.trace_laws.specs.kernel_rules.specs.Relies.{IsGuarded}
 use Rattle.trace_laws.specs.kernel_rules.proofs.Changes.{IfFound}

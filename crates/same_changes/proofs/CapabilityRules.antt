@@ -15,10 +15,11 @@ use Rattle.kernel_rules.specs.State.{Pleaf, Comp, Thread, Tcap, Frame, Kernel, L
 use Rattle.kernel_rules.specs.State.{NumberOf, Limits, State, put, with_place, with_frame, with_number}
 use Rattle.kernel_rules.specs.Start.{plain_cap, no_grace}
 use Rattle.kernel_rules.specs.Access.{to_use, Slot, Named, capability, Under, InRoot, found, only, root}
-use Rattle.kernel_rules.specs.Rules.{Change, Found, Cause, When, named, refusal_of, fills, removes}
+use Rattle.kernel_rules.specs.Rules.{Change, Found, Cause, When, named, refusal_of}
 use Rattle.kernel_rules.specs.CapabilityCalls.{look_rule, copy_rule, remove_rule, grow_rule, shrink_rule, outside}
-use Rattle.kernel_rules.specs.CapabilityCalls.{is_blank, not_blank, makes, is_place_of, cleared, make_node, make_thread}
-use Rattle.kernel_rules.specs.CapabilityCalls.{make_tcap, is_live, epoch_of, not_taken, makes_comp, make_comp, make_rule}
+use Rattle.kernel_rules.specs.CapabilityCalls.{is_blank, not_blank, make_node, make_thread}
+use Rattle.kernel_rules.specs.Edits.{is_place_of, cleared}
+use Rattle.kernel_rules.specs.CapabilityCalls.{make_tcap, is_live, epoch_of, not_taken, make_comp, make_rule}
 use Rattle.kernel_rules.specs.Fitting.{fits, IsGood}
 use Rattle.kernel_rules.specs.Relies.{is_node}
 use Rattle.kernel_invariant.proofs.Sound.{only_is}

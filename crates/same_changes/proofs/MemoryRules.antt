@@ -17,10 +17,12 @@ use Rattle.kernel_rules.specs.Start.{no_grace}
 use Rattle.kernel_rules.specs.References.{refs, frame_names}
 use Rattle.kernel_rules.specs.Access.{to_use, Named, Under, found, only, held_in}
 use Rattle.kernel_rules.specs.GracePeriods.{same_thing, flushed}
-use Rattle.kernel_rules.specs.Rules.{Change, Cause, Found, named, refusal_of, fills, frames_of}
+use Rattle.kernel_rules.specs.Rules.{Change, Cause, Found, named, refusal_of}
+use Rattle.kernel_rules.specs.Edits.{frames_of}
 use Rattle.kernel_rules.specs.CapabilityCalls.{outside, has_frame}
 use Rattle.kernel_rules.specs.MemoryCalls.{is_untyped, is_user, holds_nothing, is_empty_object, is_empty, not_retyped, retypes, retype_rule}
-use Rattle.kernel_rules.specs.MemoryCalls.{map_rule, unmap_rule, translation_of, caching, caches, touch_by, touch_rule, flush_rule}
+use Rattle.kernel_rules.specs.MemoryCalls.{map_rule, unmap_rule, translation_of, caches, touch_by, touch_rule, flush_rule}
+use Rattle.kernel_rules.specs.Edits.{caching}
 use Rattle.kernel_rules.specs.Fitting.{IsGood, EndsWithin}
 use Rattle.kernel_rules.specs.Relies.{is_node}
 use Rattle.kernel_invariant.proofs.Sound.{only_is}
@@ -183,7 +185,7 @@ unmap_same w p v = (
 )
 
 touched_same : {t s : State} {o : ℕ → Bool} {c : ℕ} → Twins t s o c → (v : ℕ) (tr : Option Translation)
-    → SameRule s c (touch_by t c (comp_of s c).pages v tr) (touch_by s c (comp_of s c).pages v tr)
+    → SameRule s c (touch_by (comp_of s c).pages v tr) (touch_by (comp_of s c).pages v tr)
 touched_same w v (Some tr) = (((refl, λ on. refl), λ calm. tt), λ none. record { value = refl; next = w.same; begins = refl })
 touched_same {t} {s} {o} {c} w v None = (
   refl,
@@ -209,7 +211,7 @@ touch_same {t} {s} {o} {c} w v =
     let pages : (comp_of t c).pages ≡ (comp_of s c).pages = ap (λ (k : CompFields). k.pages) (comp_same w) in
     let tr : translation_of (t.core c).cached (comp_of t c).pages v ≡ translation_of (s.core c).cached (comp_of s c).pages v = λ i.
     translation_of (core_same w i).cached (pages i) v in
-    subst (λ r. SameRule s c r (touch_rule s c v)) (λ i. touch_by t c (sym pages i) v (sym tr i))
+    subst (λ r. SameRule s c r (touch_rule s c v)) (λ i. touch_by (sym pages i) v (sym tr i))
     (touched_same w v (translation_of (s.core c).cached (comp_of s c).pages v))
 
 flushed_same : {t s : State} {o : ℕ → Bool} {c : ℕ} → Twins t s o c → SameState (flushed t c) (flushed s c)

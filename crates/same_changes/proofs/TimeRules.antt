@@ -12,11 +12,13 @@ use Rattle.kernel_rules.specs.State.{Frame, Kernel, Comp, CompFields, ThreadFiel
 use Rattle.kernel_rules.specs.State.{State, with_frame, with_core, with_number, with_place, comp_of, comp_in, thread_in, tcap_in, thread_of}
 use Rattle.kernel_rules.specs.References.{number_names}
 use Rattle.kernel_rules.specs.Access.{to_use, Slot, Named, Under, found, only}
-use Rattle.kernel_rules.specs.Rules.{Change, Cause, Found, named, frames_of, fills}
+use Rattle.kernel_rules.specs.Rules.{Change, Cause, Found, named}
+use Rattle.kernel_rules.specs.Edits.{frames_of}
 use Rattle.kernel_rules.specs.Life.{is_live_in, is_dead_in, asks_life, acts}
-use Rattle.kernel_rules.specs.InvocationCalls.{with_thread, with_stack, kills, pushes, pops, running, switches}
+use Rattle.kernel_rules.specs.Edits.{with_thread, with_stack, running, switched}
 use Rattle.kernel_rules.specs.InvocationCalls.{switch_to, gate_rule, kill_rule, call_rule, ret_rule, switch_rule}
-use Rattle.kernel_rules.specs.TimeCalls.{tcap_at, with_tcap, with_budget, with_qualities, charge, charges, moved, merged_list}
+use Rattle.kernel_rules.specs.TimeCalls.{merged_list}
+use Rattle.kernel_rules.specs.Edits.{tcap_at, with_tcap, with_budget, with_qualities, charge, charging, moved}
 use Rattle.kernel_rules.specs.TimeCalls.{are_alike, preemption, preempts, tick_rule, transfer_rule, delegate_rule, test_rule}
 use Rattle.kernel_rules.specs.Fitting.{fits}
 use Rattle.kernel_rules.specs.Relies.{is_node}
@@ -192,14 +194,14 @@ switch_same {t} {s} {o} {c} w h q = (
     refl,
     λ tcap is_tcap.
         let frame = named_frame w h kind.Thread thread refl is in
-        subst (λ x. SameRule s c (switch_to t c (found thread) tcap.frame (thread_in x).runs_on)
-        (switch_to s c (found thread) tcap.frame (thread_in (s.frame thread.frame)).runs_on)) (sym frame)
+        subst (λ x. SameRule s c (switch_to (found thread) tcap.frame (thread_in x).runs_on)
+        (switch_to (found thread) tcap.frame (thread_in (s.frame thread.frame)).runs_on)) (sym frame)
         (by_core thread tcap (named_below w h kind.Thread thread refl is) (thread_in (s.frame thread.frame)).runs_on),
   ),
 )
   where
     by_core : (thread tcap : Capability) → thread.frame < s.limits.frames → (e : Option ℕ)
-        → SameRule s c (switch_to t c (found thread) tcap.frame e) (switch_to s c (found thread) tcap.frame e)
+        → SameRule s c (switch_to (found thread) tcap.frame e) (switch_to (found thread) tcap.frame e)
     by_core thread tcap below None = (tt, λ none. switches_same w thread.frame tcap.frame below)
     by_core thread tcap below (Some e) = (((refl, λ on. refl), λ calm. tt), λ none. switches_same w thread.frame tcap.frame below)
 

@@ -7,7 +7,7 @@ use Rattle.spk_nums.specs.declared.replies.Value.TheVariants.{Nothing}
 use Rattle.spk_nums.specs.declared.replies.Reply.TheVariants.{Ok as ok}
 use Rattle.kernel_rules.specs.State.{State}
 use Rattle.kernel_rules.specs.Access.{Slot}
-use Rattle.kernel_rules.specs.CapabilityCalls.{makes_comp, epoch_of}
+use Rattle.kernel_rules.specs.CapabilityCalls.{epoch_of}
 use Rattle.kernel_rules.specs.CallRelation.{rule_of}
 use Rattle.seq_state.specs.Maps.{Maps}
 use Rattle.seq_state.specs.Representation.{Represents}

@@ -2,7 +2,7 @@
 
 ghost use Rattle.std.specs.Prelude.{◌≡◌, [], ◌∷◌};
 ghost use Rattle.kernel_rules.specs.GracePeriods.{begun, needs_flush, is_translated, is_paging};
-ghost use Rattle.kernel_rules.specs.Rules.{Found, fills, removes};
+ghost use Rattle.kernel_rules.specs.Rules.{Found};
 ghost use Rattle.kernel_rules.specs.CallRelation.{changed};
 ghost use Rattle.seq_state.specs.Parts.{frame_of, thing_of};
 ghost use Rattle.seq_state.specs.Maps.{state_of};

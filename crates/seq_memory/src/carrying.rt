@@ -7,7 +7,7 @@ ghost use Rattle.spk_nums.specs.declared.calls.Call.TheVariants.{Retype, Map, To
 ghost use Rattle.spk_nums.specs.declared.replies.Value.TheVariants.{Nothing};
 ghost use Rattle.spk_nums.specs.declared.replies.Reply.TheVariants.{Ok as ok};
 ghost use Rattle.kernel_rules.specs.State.{thread_in};
-ghost use Rattle.kernel_rules.specs.Rules.{Found, removes};
+ghost use Rattle.kernel_rules.specs.Rules.{Found};
 ghost use Rattle.kernel_rules.specs.MemoryCalls.{retypes};
 ghost use Rattle.kernel_rules.specs.CallRelation.{rule_of, changed};
 ghost use Rattle.seq_state.specs.Maps.{state_of};

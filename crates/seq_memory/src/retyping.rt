@@ -5,7 +5,8 @@ ghost use Rattle.spk_nums.specs.declared.kinds.FrameKind.TheVariants as frame_ki
 ghost use Rattle.kernel_rules.specs.State.{thread_in};
 ghost use Rattle.kernel_rules.specs.References.{frame_names};
 ghost use Rattle.kernel_rules.specs.GracePeriods.{begun};
-ghost use Rattle.kernel_rules.specs.Rules.{Found, frames_of};
+ghost use Rattle.kernel_rules.specs.Rules.{Found};
+ghost use Rattle.kernel_rules.specs.Edits.{frames_of};
 ghost use Rattle.kernel_rules.specs.MemoryCalls.{retypes};
 ghost use Rattle.kernel_rules.specs.CallRelation.{changed};
 ghost use Rattle.seq_state.specs.Parts.{frame_of};

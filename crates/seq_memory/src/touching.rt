@@ -6,7 +6,8 @@
 ghost use Rattle.std.specs.Prelude.{◌≡◌, ◌<◌};
 ghost use Rattle.spk_nums.specs.declared.kinds.Kind.TheVariants as kind;
 ghost use Rattle.kernel_rules.specs.Rules.{Found};
-ghost use Rattle.kernel_rules.specs.MemoryCalls.{caching, caches};
+ghost use Rattle.kernel_rules.specs.MemoryCalls.{caches};
+ghost use Rattle.kernel_rules.specs.Edits.{caching};
 ghost use Rattle.kernel_rules.specs.CallRelation.{changed};
 ghost use Rattle.seq_state.specs.Maps.{state_of};
 ghost use Rattle.seq_state.specs.Representation.{Represents};

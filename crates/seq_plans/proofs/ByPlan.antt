@@ -165,7 +165,7 @@ module _ (s : State) (c : ℕ) (r : Reply) where
       (subst (λ k. Iff (RuleMay s c (rest k) r) X) (sym next) h)
 
   only : (rule : Rule) → OnlyDoes rule → Iff (RuleMay s c rule r) (OneMay s c (causes_of rule) r)
-  only (Does causes change) done = record { there = λ h. h; back = λ h. h }
+  only (Does causes value edits) done = record { there = λ h. h; back = λ h. h }
   only (name_rule n want rest) done = absurd done
   only (vacant_rule target rest) done = absurd done
   only (held_rule target rest) done = absurd done
@@ -225,7 +225,7 @@ module _ (s : State) (c : ℕ) (r : Reply) where
       → SameEarlier caps ks → GoesTo (own_pages s c) target caps rule
       → Iff (RuleMay s c rule r) (TargetMay s c target ks r ⊎ OneMay s c (causes_of (rest_by rule pad (slot_by Own s c ks target)
       (held_by s target (slot_by Own s c ks target)))) r)
-  target_part Nowhere caps ks pad (Does causes change) e goes = none_in_front _ _ (record { there = λ h. h; back = λ h. h })
+  target_part Nowhere caps ks pad (Does causes value edits) e goes = none_in_front _ _ (record { there = λ h. h; back = λ h. h })
   target_part Nowhere caps ks pad (name_rule n want rest) e goes = absurd goes
   target_part Nowhere caps ks pad (vacant_rule t rest) e goes = absurd goes
   target_part Nowhere caps ks pad (held_rule t rest) e goes = absurd goes
@@ -236,7 +236,7 @@ module _ (s : State) (c : ℕ) (r : Reply) where
       (subst (λ x. Iff (RuleMay s c (rest (slot_of (reached s c x))) r)
       (OneMay s c (causes_of (rest (slot_of (reached s c (place_of_spot ks spot))))) r)) (sym p)
       (only _ (goes.1 _)))
-  target_part (Free spot) caps ks pad (Does causes change) e goes = absurd goes
+  target_part (Free spot) caps ks pad (Does causes value edits) e goes = absurd goes
   target_part (Free spot) caps ks pad (name_rule n want rest) e goes = absurd goes
   target_part (Free spot) caps ks pad (held_rule t rest) e goes = absurd goes
   target_part (Free spot) caps ks pad (mapped_rule table v rest) e goes = absurd goes
@@ -247,7 +247,7 @@ module _ (s : State) (c : ℕ) (r : Reply) where
       (OneMay s c (causes_of (rest_by (held_rule t rest) pad (reached s c (place_of_spot ks spot))
       (option_and_then (λ at. held_in (place_at s at)) (reached s c (place_of_spot ks spot))))) r)) (sym p)
       (held_part t rest pad goes.1 (reached s c (place_of_spot ks spot))))
-  target_part (Held spot) caps ks pad (Does causes change) e goes = absurd goes
+  target_part (Held spot) caps ks pad (Does causes value edits) e goes = absurd goes
   target_part (Held spot) caps ks pad (name_rule n want rest) e goes = absurd goes
   target_part (Held spot) caps ks pad (vacant_rule t rest) e goes = absurd goes
   target_part (Held spot) caps ks pad (mapped_rule table v rest) e goes = absurd goes
@@ -262,7 +262,7 @@ module _ (s : State) (c : ℕ) (r : Reply) where
       (option_and_then (λ at. held_in (place_at s at)) (reached s c (under (root_at (comp_of s c).pages) v))))) r)) (sym goes.1)
       (in_front _ _ _ _ (record { there = λ h. (goes.2, h); back = λ h. h.1 })
       (mapped_part (comp_of s c).pages v rest pad goes.3)))
-  target_part (own_page v) caps ks pad (Does causes change) e goes = record {
+  target_part (own_page v) caps ks pad (Does causes value edits) e goes = record {
     there = λ h. inr h;
     back = λ h. elim h [ inl p ↦ absurd (true≢false (sym goes ∙ p.0)) | inr q ↦ q ];
   }
@@ -282,7 +282,7 @@ module _ (s : State) (c : ℕ) (r : Reply) where
   more target x ns caps l (vacant_rule t rest) F pad at held e goes after = absurd goes
   more target x ns caps l (held_rule t rest) F pad at held e goes after = absurd goes
   more target x ns caps l (mapped_rule table v rest) F pad at held e goes after = absurd goes
-  more target x ns caps l (Does causes change) F pad at held e goes after = absurd goes
+  more target x ns caps l (Does causes value edits) F pad at held e goes after = absurd goes
 
 -- ---- all names
 

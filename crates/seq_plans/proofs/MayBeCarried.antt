@@ -206,7 +206,7 @@ lives_now s c h l e here calm =
     (calm_parts _ _ calm).0))
 
 idle_now : (s : State) (c : ℕ) (h : Named) (q : ℕ) (e : Option ℕ) (ks : List Named) (at : Option Slot) (held : Option Capability)
-    → h.found ≡ true → None ≡ first_cause s c (causes_of (rest_by (switch_to s c h q e) ks at held)) → e ≡ None
+    → h.found ≡ true → None ≡ first_cause s c (causes_of (rest_by (switch_to h q e) ks at held)) → e ≡ None
 idle_now s c h q None ks at held here calm = refl
 idle_now s c h q (Some d) ks at held here calm =
     absurd (true≢false (sym here ∙ calm_when h.found (reply.Running d) (calm_parts _ _ calm).0))

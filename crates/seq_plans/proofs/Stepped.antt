@@ -29,7 +29,7 @@ use Rattle.seq_plans.proofs.MayBeCarried.{may_carry, judged_alike}
 
 left_refused : (s : State) (c : ℕ) (rule : Rule) (r : Reply) → OnlyDoes rule → Some r ≡ first_cause s c (causes_of rule)
     → outcome s c rule ≡ Refused r
-left_refused s c (Does causes change) r done e = ap (λ (o : Option Reply). unless o change) (sym e)
+left_refused s c (Does causes value edits) r done e = ap (λ (o : Option Reply). unless o change) (sym e)
 left_refused s c (name_rule n want rest) r done e = absurd done
 left_refused s c (Vacant target rest) r done e = absurd done
 left_refused s c (held_rule target rest) r done e = absurd done
@@ -37,7 +37,7 @@ left_refused s c (Mapped table v rest) r done e = absurd done
 
 left_carried : (s : State) (c : ℕ) (rule : Rule) → OnlyDoes rule → None ≡ first_cause s c (causes_of rule)
     → outcome s c rule ≡ change_in rule
-left_carried s c (Does causes change) done e = ap (λ (o : Option Reply). unless o change) (sym e)
+left_carried s c (Does causes value edits) done e = ap (λ (o : Option Reply). unless o change) (sym e)
 left_carried s c (name_rule n want rest) done e = absurd done
 left_carried s c (Vacant target rest) done e = absurd done
 left_carried s c (held_rule target rest) done e = absurd done

@@ -26,7 +26,7 @@ use Rattle.seq_plans.specs.Reaches.{named_of}
 
 -- The change of what is left of a rule, where its look-ups have been made.
 abbrev pub change_in : Rule → Judged Change
-change_in (Does causes change) = Carried change
+change_in (Does causes value edits) = Carried change
 change_in (name_rule n want rest) = Refused reply.Raced
 change_in (Vacant target rest) = Refused reply.Raced
 change_in (held_rule target rest) = Refused reply.Raced

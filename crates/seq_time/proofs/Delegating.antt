@@ -4,7 +4,7 @@ use Rattle.std.specs.Prelude.{SomeIff, Option, Some, None, unwrap_or}
 use Rattle.std.proofs.lemmas.Bool.{ne_eqb, eq-eqb}
 use Rattle.kernel_rules.specs.State.{put, Object, Blank, Table, Leaf, Pages, Pleaf, Comp}
 use Rattle.kernel_rules.specs.State.{Thread, Tcap, Frame, Untyped, User, Kernel, State, with_frame, tcap_in}
-use Rattle.kernel_rules.specs.TimeCalls.{with_tcap, tcap_at, moved, with_qualities}
+use Rattle.kernel_rules.specs.Edits.{with_tcap, tcap_at, moved, with_qualities}
 use Rattle.seq_state.specs.Representation.{SameState}
 use Rattle.seq_state.proofs.Same.{same_grace_by, same_then, same_frame}
 

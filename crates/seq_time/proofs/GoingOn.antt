@@ -4,7 +4,7 @@ use Rattle.std.proofs.lemmas.Bool.{eqb-true}
 use Rattle.kernel_rules.specs.State.{put, Object, Blank, Table, Leaf, Pages, Pleaf, Comp, Thread, Tcap, Frame}
 use Rattle.kernel_rules.specs.State.{Untyped, User, Kernel, Core, State, with_frame, with_core, thread_in}
 use Rattle.kernel_rules.specs.GracePeriods.{begun}
-use Rattle.kernel_rules.specs.InvocationCalls.{switches}
+use Rattle.kernel_rules.specs.Edits.{switched}
 use Rattle.seq_state.specs.Representation.{SameState}
 use Rattle.seq_state.proofs.Same.{same_by, same_grace_by, same_then, same_frame, same_core}
 use Rattle.seq_time.specs.Left.{run_by, left_by}

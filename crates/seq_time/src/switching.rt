@@ -2,7 +2,7 @@
 
 ghost use Rattle.std.specs.Prelude.{◌≡◌, ◌<◌, None};
 ghost use Rattle.kernel_rules.specs.State.{thread_in};
-ghost use Rattle.kernel_rules.specs.InvocationCalls.{switches};
+ghost use Rattle.kernel_rules.specs.Edits.{switched};
 ghost use Rattle.kernel_rules.specs.Rules.{Found};
 ghost use Rattle.kernel_rules.specs.CallRelation.{changed};
 ghost use Rattle.seq_state.specs.Maps.{state_of};

@@ -2,7 +2,8 @@
 
 ghost use Rattle.std.specs.Prelude.{◌≡◌, ◌<◌, ◌≤◌, ◌+◌, ◌^◌};
 ghost use Rattle.kernel_rules.specs.Rules.{outcome};
-ghost use Rattle.kernel_rules.specs.TimeCalls.{charge, with_budget, tick_rule, tcap_at, charges};
+ghost use Rattle.kernel_rules.specs.TimeCalls.{tick_rule};
+ghost use Rattle.kernel_rules.specs.Edits.{charge, with_budget, tcap_at, charging};
 ghost use Rattle.seq_state.specs.Maps.{state_of};
 ghost use Rattle.seq_state.specs.Representation.{Represents};
 ghost use Rattle.seq_lookups.specs.Carried.{IsCarriedOut};

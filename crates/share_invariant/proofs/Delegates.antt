@@ -24,7 +24,8 @@ use Rattle.pair_invariant.specs.spk_nums.specs.declared.replies.Value.TheVariant
 use Rattle.pair_invariant.specs.tcap_words.specs.Quality.{QualityFits, word_of_quality}
 use Rattle.pair_invariant.specs.tcap_words.proofs.QualityLemmas as qualities
 use Rattle.pair_invariant.specs.kernel_rules.specs.Access.{found as named_by}
-use Rattle.pair_invariant.specs.kernel_rules.specs.TimeCalls.{with_qualities, merged_list}
+use Rattle.pair_invariant.specs.kernel_rules.specs.TimeCalls.{merged_list}
+use Rattle.pair_invariant.specs.kernel_rules.specs.Edits.{with_qualities}
 use Rattle.pair_invariant.specs.kernel_rules.specs.CallRelation.{begins_in as begun_by}
 use Rattle.pair_invariant.specs.kernel_laws.proofs.Lists.{merged_list_is}
 use Rattle.pair_invariant.specs.kernel_history.specs.Stamps.{begins_in}

@@ -97,11 +97,11 @@ module _ (s : State) (c : ℕ) (h : AllBoth s) where
   retype_both r f frame_kind.Untyped = λ range e calm. h
   retype_both r f _ = λ range e calm. h
 
-  touch_both : (pages v : ℕ) (t : Option Translation) → ChangesFrom Keeps s c (touch_by s c pages v t)
+  touch_both : (pages v : ℕ) (t : Option Translation) → ChangesFrom Keeps s c (touch_by pages v t)
   touch_both pages v None = λ mapping e calm. h
   touch_both pages v (Some t) = λ calm. h
 
-  switch_both : (q : ℕ) (name : Named) (e : Option ℕ) → ChangesFrom Keeps s c (switch_to s c name q e)
+  switch_both : (q : ℕ) (name : Named) (e : Option ℕ) → ChangesFrom Keeps s c (switch_to name q e)
   switch_both q name None = λ calm. h
   switch_both q name (Some e) = λ calm. h
 

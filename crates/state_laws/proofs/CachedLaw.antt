@@ -19,7 +19,7 @@ use Rattle.kernel_rules.specs.Access.{Slot, root_at, Under, place_at, held_in}
 use Rattle.kernel_rules.specs.Access.{usable_in, usable, linked, slot_in, reached, root_slot}
 use Rattle.kernel_rules.specs.GracePeriods.{is_paging, is_translated, needs_flush, entered, returned}
 use Rattle.kernel_rules.specs.Rules.{Found, and_then, or_refuse, unless, mapped}
-use Rattle.kernel_rules.specs.MemoryCalls.{caching}
+use Rattle.kernel_rules.specs.Edits.{caching}
 use Rattle.kernel_rules.specs.CallRelation.{change_of, changed, owed_by, state_by, MayReply, flushes, flushes_by}
 use Rattle.kernel_rules.specs.Fitting.{fits, IsGood}
 use Rattle.kernel_rules.specs.Relies.{IsGuarded}
@@ -32,7 +32,8 @@ use Rattle.kernel_invariant.proofs.SoundCalls.{IsOpen}
 use Rattle.kernel_invariant.proofs.SoundRuns.{opened, open_is, open_limits, inside_is, limits_stay}
 use Rattle.found_stays.proofs.SparesRuns.{core_same_refs}
 use Rattle.kernel_invariant.proofs.Refs.{grace_refs}
-use Rattle.kernel_invariant.specs.Edits.{Edit, Fill, Merge, Switch, Cache, Flush, Charge, edited, after_edits, is_flush, flush_in}
+use Rattle.kernel_invariant.specs.Edits.{is_flush, flush_in}
+use Rattle.kernel_rules.specs.Edits.{Edit, Fill, Merge, Switch, Cache, Flush, Charge, edited, after_edits}
 use Rattle.kernel_invariant.proofs.Edited.{Tested, Each, AreLater, later_core, Calm, after_ok}
 use Rattle.kernel_invariant.proofs.Facts.{then_parts, or_found, some_inj, none_some, found_inj, refused_found}
 use Rattle.found_stays.proofs.Stays.{link_of, fields, pages_relies, usable_guarded, place_named}

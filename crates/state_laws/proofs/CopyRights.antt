@@ -9,7 +9,7 @@ use Rattle.spk_nums.specs.declared.calls.Call.TheVariants.{Copy}
 use Rattle.spk_nums.specs.declared.replies.Value.{Value}
 use Rattle.kernel_rules.specs.State.{Place, Holds, State, put}
 use Rattle.kernel_rules.specs.Access.{Slot, Named, Want, Under, found, place_at, any, only, reached, usable, to_copy, to_use}
-use Rattle.kernel_rules.specs.Rules.{Change, Judged, Refused, Found, IsFoundAnd, fills, named, name_of, vacant, outcome}
+use Rattle.kernel_rules.specs.Rules.{Change, Judged, Refused, Found, IsFoundAnd, named, name_of, vacant, outcome}
 use Rattle.kernel_rules.specs.CapabilityCalls.{copy_rule}
 use Rattle.kernel_rules.specs.CallRelation.{change_of, changed, state_by}
 use Rattle.kernel_rules.proofs.Within.{put_same}

@@ -25,7 +25,8 @@ use Rattle.kernel_invariant.proofs.Facts.{some_none}
 use Rattle.kernel_invariant.proofs.SoundRemovals.{find_not}
 use Rattle.kernel_invariant.proofs.SoundCalls.{IsOpen}
 use Rattle.kernel_invariant.proofs.Refs.{RefsBy, refs_by, grace_refs}
-use Rattle.kernel_invariant.specs.Edits.{Edit, Untype, ends_in, ends_all}
+use Rattle.kernel_invariant.specs.Edits.{ends_in, ends_all}
+use Rattle.kernel_rules.specs.Edits.{Edit, Untype}
 use Rattle.kernel_invariant.proofs.Edited.{Tested, Each, Calm, found_by}
 use Rattle.kernel_invariant.proofs.RefsLaw.{counted_refs}
 use Rattle.found_stays.proofs.SparesRuns.{among, core_same_refs}

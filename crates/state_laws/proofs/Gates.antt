@@ -25,8 +25,9 @@ use Rattle.kernel_rules.specs.Start.{start, no_grace, plain_cap, start_cap, plac
 use Rattle.kernel_rules.specs.References.{named_by, times}
 use Rattle.kernel_rules.specs.Access.{Want, any, to_copy, Slot, Named, found, place_at, held_in, usable_in, usable, only}
 use Rattle.kernel_rules.specs.GracePeriods.{new_grace}
-use Rattle.kernel_rules.specs.Rules.{Change, Judged, Refused, Found, IsFoundAnd, named, fills, removes}
-use Rattle.kernel_rules.specs.CapabilityCalls.{makes, cleared, make_rule}
+use Rattle.kernel_rules.specs.Rules.{Change, Judged, Refused, Found, IsFoundAnd, named}
+use Rattle.kernel_rules.specs.CapabilityCalls.{make_rule}
+use Rattle.kernel_rules.specs.Edits.{cleared}
 use Rattle.kernel_rules.specs.MemoryCalls.{retype_rule, touch_by, translation_of}
 use Rattle.kernel_rules.specs.InvocationCalls.{switch_to}
 use Rattle.kernel_rules.specs.CallRelation.{rule_of, change_of, changed, owed_by, state_by, begins, ends, flushes, MayReply}
@@ -134,11 +135,11 @@ module _ (s : State) (o : ℕ → Bool) (c : ℕ) (h : IsOpen s o c) (w : AreGat
   retype_gates r f frame_kind.Untyped = λ range e calm. stays s _ (λ f i. refl)
   retype_gates r f _ = λ range e calm. stays s _ (λ f i. refl)
 
-  touch_gates : (pages v : ℕ) (t : Option Translation) → ChangesFrom (NewGates s) s c (touch_by s c pages v t)
+  touch_gates : (pages v : ℕ) (t : Option Translation) → ChangesFrom (NewGates s) s c (touch_by pages v t)
   touch_gates pages v None = λ mapping e calm. stays s _ (λ f i. refl)
   touch_gates pages v (Some t) = λ calm. stays s _ (λ f i. refl)
 
-  switch_gates : (q : ℕ) (name : Named) (e : Option ℕ) → ChangesFrom (NewGates s) s c (switch_to s c name q e)
+  switch_gates : (q : ℕ) (name : Named) (e : Option ℕ) → ChangesFrom (NewGates s) s c (switch_to name q e)
   switch_gates q name None = λ calm. stays s _ (λ f i. refl)
   switch_gates q name (Some e) = λ calm. stays s _ (λ f i. refl)
 

@@ -16,15 +16,17 @@ use Rattle.kernel_rules.specs.State.{Thing, PlaceOf, FrameOf, State, put, thread
 use Rattle.kernel_rules.specs.References.{place_names, frame_names, number_names}
 use Rattle.kernel_rules.specs.Access.{held_in}
 use Rattle.kernel_rules.specs.GracePeriods.{same_thing}
-use Rattle.kernel_rules.specs.Rules.{Change, Judged, Refused, Found, IsFoundAnd, frames_of}
-use Rattle.kernel_rules.specs.InvocationCalls.{with_thread, running}
-use Rattle.kernel_rules.specs.TimeCalls.{with_tcap, with_budget, tcap_at, moved}
+use Rattle.kernel_rules.specs.Rules.{Change, Judged, Refused, Found, IsFoundAnd}
+use Rattle.kernel_rules.specs.Edits.{frames_of}
+use Rattle.kernel_rules.specs.Edits.{with_thread, running}
+use Rattle.kernel_rules.specs.Edits.{with_tcap, with_budget, tcap_at, moved}
 use Rattle.kernel_rules.specs.CallRelation.{change_of, changed, owed_by, state_by, begins, ends, ends_by, MayReply}
 use Rattle.kernel_rules.specs.CallRelation.{begins_in as begun_in}
 use Rattle.kernel_rules.proofs.Changes.{IfFound}
-use Rattle.kernel_invariant.specs.Edits.{Edit, Fill, Remove, Node, Become, Untype, Component, Deaden}
-use Rattle.kernel_invariant.specs.Edits.{Push, Pop, Switch, Charge, Move, Merge}
-use Rattle.kernel_invariant.specs.Edits.{edited, after_edits, begins_in, begins_all, ends_in, ends_all}
+use Rattle.kernel_rules.specs.Edits.{Edit, Fill, Remove, Node, Become, Untype, Component, Deaden}
+use Rattle.kernel_rules.specs.Edits.{Push, Pop, Switch, Charge, Move, Merge}
+use Rattle.kernel_invariant.specs.Edits.{ends_in, ends_all}
+use Rattle.kernel_rules.specs.Edits.{edited, after_edits, begins_in, begins_all}
 use Rattle.kernel_invariant.proofs.Sound.{put_all}
 use Rattle.kernel_invariant.proofs.SoundSteps.{place_all, free_quiescing, holds_quiescing, quiescing_inj}
 use Rattle.kernel_invariant.proofs.SoundRemovals.{frames_no_place}

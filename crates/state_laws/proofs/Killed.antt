@@ -13,13 +13,13 @@ use Rattle.kernel_rules.specs.State.{CompFields, Liveness, Unused, Live, Dead, G
 use Rattle.kernel_rules.specs.References.{place_names, frame_names, number_names}
 use Rattle.kernel_rules.specs.GracePeriods.{same_thing, new_grace, begun}
 use Rattle.kernel_rules.specs.Life.{is_live_in, is_dead_in, asks_life}
-use Rattle.kernel_rules.specs.Rules.{frames_of}
+use Rattle.kernel_rules.specs.Edits.{frames_of}
 use Rattle.kernel_rules.specs.CallRelation.{change_of, changed, owed_by, state_by, MayReply}
 use Rattle.kernel_rules.specs.Runs.{Event, Enters, Decides, Returns, Out, after, is_in, phase_of, IsRun}
 use Rattle.kernel_rules.proofs.Within.{put_same, put_other}
 use Rattle.kernel_rules.proofs.AloneLaw.{waits_inside}
-use Rattle.kernel_invariant.specs.Edits.{Edit, Node, Remove, Untype, Component, Deaden, Pop, Switch, edited, after_edits, begins_in}
-use Rattle.kernel_invariant.specs.Edits.{begins_all}
+use Rattle.kernel_rules.specs.Edits.{Edit, Node, Remove, Untype, Component, Deaden, Pop, Switch, edited, after_edits, begins_in}
+use Rattle.kernel_rules.specs.Edits.{begins_all}
 use Rattle.kernel_invariant.proofs.SoundRuns.{inside_is}
 use Rattle.kernel_invariant.proofs.Edited.{Tested, Each, Calm, later_number, after_ok}
 use Rattle.state_laws.specs.Looking.{KilledStop}

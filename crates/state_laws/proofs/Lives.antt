@@ -14,7 +14,7 @@ use Rattle.kernel_rules.specs.Start.{start}
 use Rattle.kernel_rules.specs.References.{number_names, times, refs}
 use Rattle.kernel_rules.specs.CapabilityCalls.{is_live, epoch_of}
 use Rattle.kernel_rules.specs.Life.{is_live_in}
-use Rattle.kernel_rules.specs.TimeCalls.{with_tcap}
+use Rattle.kernel_rules.specs.Edits.{with_tcap}
 use Rattle.kernel_rules.specs.CallRelation.{owed_by, state_by, ends, MayReply}
 use Rattle.kernel_rules.specs.Fitting.{fits}
 use Rattle.kernel_rules.specs.Runs.{Event, Enters, Decides, Returns, after, is_open, IsRun}
@@ -24,7 +24,7 @@ use Rattle.kernel_invariant.proofs.Sound.{IsSound, put_all}
 use Rattle.kernel_invariant.proofs.SoundRemovals.{unnamed}
 use Rattle.kernel_invariant.proofs.SoundCalls.{IsOpen}
 use Rattle.kernel_invariant.proofs.SoundRuns.{opened, open_is}
-use Rattle.kernel_invariant.specs.Edits.{Edit, Fill, Component, Deaden, Merge, edited, after_edits}
+use Rattle.kernel_rules.specs.Edits.{Edit, Fill, Component, Deaden, Merge, edited, after_edits}
 use Rattle.kernel_invariant.proofs.Edited.{Tested, Each, AreLater, later_number, Calm, after_ok}
 use Rattle.kernel_invariant.proofs.Ends.{ends_by_rule}
 use Rattle.state_laws.specs.Lives.{IsCompOf, LiveNumbersFit, DeadStays}

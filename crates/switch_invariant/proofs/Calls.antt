@@ -13,7 +13,8 @@ use Rattle.thread_invariant.proofs.Common.{holds_in, Invariant, HasThread, Switc
 use Rattle.thread_invariant.proofs.Common.{limits_of, at_place, Call}
 use Rattle.thread_invariant.specs.spk_nums.specs.declared.kinds.Kind.TheVariants as kind
 use Rattle.thread_invariant.specs.spk_nums.specs.declared.replies.Reply.TheVariants as reply
-use Rattle.thread_invariant.specs.kernel_rules.specs.InvocationCalls.{switch_to, switches}
+use Rattle.thread_invariant.specs.kernel_rules.specs.InvocationCalls.{switch_to}
+use Rattle.thread_invariant.specs.kernel_rules.specs.Edits.{switched}
 use Rattle.thread_invariant.specs.kernel_history.specs.Footprint.{frames_about}
 use Rattle.thread_invariant.specs.plan_ways.proofs.InFootprint.{named_footprint, one_left, one_right}
 use Rattle.thread_invariant.specs.act_states.specs.Switches.{SwitchingFits, switching_dues}
@@ -130,7 +131,7 @@ module _ (setup : Setting) (setting : IsSetting setup) (cores : ℕ → Core) (t
       (thread_in ((state_after setup t).frame (claimed_by m.at))).runs_on
   left = ap (λ x. rule_after (rule_of s c x) a.found) is_switch.call_is
       ∙ ap (rule_after (rule_of s c (Switch is_switch.name is_switch.other))) is_switch.found_is
-      ∙ ap (λ (g : ℕ). switch_to s c (found is_switch.thread) is_switch.tcap.frame (thread_in (s.frame g)).runs_on)
+      ∙ ap (λ (g : ℕ). switch_to (found is_switch.thread) is_switch.tcap.frame (thread_in (s.frame g)).runs_on)
       (sym is_switch.thread_is)
 
   abbrev pub outcome_by : Option ℕ → Judged Change

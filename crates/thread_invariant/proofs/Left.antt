@@ -22,7 +22,6 @@ use Rattle.live_invariant.specs.spk_nums.specs.declared.replies.Reply.TheVariant
 use Rattle.live_invariant.specs.spk_nums.specs.declared.replies.Value.TheVariants as value
 use Rattle.live_invariant.specs.tcap_words.proofs.StackLemmas as stacks
 use Rattle.live_invariant.specs.tcap_words.proofs.ThreadLemmas as threads
-use Rattle.live_invariant.specs.kernel_rules.specs.InvocationCalls.{pops}
 use Rattle.live_invariant.specs.kernel_history.specs.Stamps.{begins_in as begins_then}
 use Rattle.live_invariant.specs.stage_thread.specs.declared.stack.Pop.TheVariants as pop
 use Rattle.live_invariant.specs.act_states.specs.declared.invocations.Returning.{Returning}

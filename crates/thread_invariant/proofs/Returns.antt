@@ -10,7 +10,6 @@ use Rattle.live_invariant.proofs.Common.{next_work, Undecided, ActiveCall, Stage
 use Rattle.live_invariant.proofs.Common.{holds_counts, due_of, KnowsUndecided, phase_at, holds_at, holds_in, holds, Invariant}
 use Rattle.live_invariant.proofs.Common.{counts_bare, names_on}
 use Rattle.live_invariant.specs.spk_nums.specs.declared.replies.Reply.TheVariants as reply
-use Rattle.live_invariant.specs.kernel_rules.specs.InvocationCalls.{pops}
 use Rattle.live_invariant.specs.act_states.specs.declared.invocations.Returning.{Returning}
 use Rattle.live_invariant.specs.act_states.specs.declared.invocations.ReturningAt.TheVariants.{LoadBelow, LoadTable, LoadPages, Draw}
 use Rattle.live_invariant.specs.act_states.specs.declared.work.Act.{Act as ActOf}

@@ -24,8 +24,10 @@ use Rattle.trace_laws.specs.kernel_rules.specs.Fitting.{fits}
 use Rattle.trace_laws.specs.kernel_rules.specs.Rules.{Change, Judged, Refused, Found}
 use Rattle.trace_laws.specs.kernel_rules.specs.CapabilityCalls.{make_node, make_rule, not_taken}
 use Rattle.trace_laws.specs.kernel_rules.specs.MemoryCalls.{retype_rule, touch_by, translation_of}
-use Rattle.trace_laws.specs.kernel_rules.specs.InvocationCalls.{with_thread, running, switch_to}
-use Rattle.trace_laws.specs.kernel_rules.specs.TimeCalls.{with_tcap, with_budget, with_qualities, tcap_at, moved, merged_list}
+use Rattle.trace_laws.specs.kernel_rules.specs.InvocationCalls.{switch_to}
+use Rattle.trace_laws.specs.kernel_rules.specs.Edits.{with_thread, running}
+use Rattle.trace_laws.specs.kernel_rules.specs.TimeCalls.{merged_list}
+use Rattle.trace_laws.specs.kernel_rules.specs.Edits.{with_tcap, with_budget, with_qualities, tcap_at, moved}
 use Rattle.trace_laws.specs.kernel_rules.specs.CallRelation.{rule_of, change_of, changed, owed_by, state_by, ends, ends_by}
 use Rattle.trace_laws.specs.kernel_invariant.proofs.Sound.{put_all}
 use Rattle.trace_laws.specs.kernel_rules.proofs.Within.{put_same, put_other}

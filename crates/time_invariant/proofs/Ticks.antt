@@ -26,7 +26,8 @@ use Rattle.kernel_laws.specs.spk_nums.specs.declared.replies.Reply.TheVariants a
 use Rattle.kernel_laws.specs.spk_nums.specs.declared.replies.Value.TheVariants.{Amount}
 use Rattle.kernel_laws.specs.kernel_rules.specs.State.{Core as CoreFields}
 use Rattle.kernel_laws.specs.kernel_rules.specs.State.{with_core}
-use Rattle.kernel_laws.specs.kernel_rules.specs.TimeCalls.{owing, with_tcap, charge, charges}
+use Rattle.kernel_laws.specs.kernel_rules.specs.CallRelation.{owing}
+use Rattle.kernel_laws.specs.kernel_rules.specs.Edits.{with_tcap, charge, charging}
 use Rattle.plan_ways.specs.kernel_history.specs.Justified.{IsHeldUp}
 use Rattle.plan_ways.specs.kernel_history.specs.Stamps.{begins_in}
 use Rattle.step_ways.specs.stage_tcap.specs.Heads.{raised}
