@@ -383,8 +383,11 @@ module _ (s : State) (c : ℕ) where
       two call (Node f object) (Fill at (plain_cap k f)) (agrees at) (refl, λ x. refl, tt) (tt, tt) (λ lim. (node, tt))
       (λ o h. node_fresh s c o h r f range object at (plain_cap k f) e poor idle calm
       (fill_known s c o h (Under (found table) b) at (plain_cap k f) tt v))
-      (λ o h. (tt, fresh_good s c o h f (Kernel object) k (Under (found table) b) at
-      (fresh s c o h r f range [] object e poor idle calm).bare fit real tt v))
+      (λ o h. (
+        tt,
+        fresh_good s c o h f (Kernel object) k (Under (found table) b) at
+            (fresh s c o h r f range [] object e poor idle calm).bare fit real tt v,
+      ))
 
   made : (call : Call) (object : Object) (k : Kind) (r f : ℕ) (range : Capability) (target : Target) (at : Slot)
       → is_node (Kernel object) ≡ false → (tcap_in (Kernel object)).budget ≡ 0 → (thread_in (Kernel object)).runs_on ≡ None
@@ -397,8 +400,11 @@ module _ (s : State) (c : ℕ) where
   made call object k r f range target at none poor idle agrees limited good fit real node e v calm =
       two call (Become f (Kernel object)) (Fill at (plain_cap k f)) agrees (refl, λ x. refl, tt) (tt, tt) (λ lim. (limited lim, tt))
       (λ o h. ((none, fresh s c o h r f range [] object e poor idle calm), fill_known s c o h target at (plain_cap k f) node v))
-      (λ o h. (good o h, fresh_good s c o h f (Kernel object) k target at (fresh s c o h r f range [] object e poor idle calm).bare
-      fit real node v))
+      (λ o h. (
+        good o h,
+        fresh_good s c o h f (Kernel object) k target at (fresh s c o h r f range [] object e poor idle calm).bare
+            fit real node v,
+      ))
 
   make_edits : (what : Make) (r f t b : ℕ) → EditsFrom (λ v es. Edits (call.Make what r f t b) c s es) s c (make_rule s what r f t b)
   make_edits make.Table r f t b =

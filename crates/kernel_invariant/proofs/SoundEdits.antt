@@ -28,7 +28,7 @@ use Rattle.kernel_invariant.proofs.Edited.{from_bare, Tested, Limited, Known, Go
 abbrev pub Keeps : State → (ℕ → Bool) → ℕ → Change → Type 0
 Keeps s o c change = IsSound (begun s change.begins change.next) (put o c false)
 
-closed : (o : ℕ → Bool) (c d : ℕ) → put o c false d ≡ true → o d ≡ true
+pub closed : (o : ℕ → Bool) (c d : ℕ) → put o c false d ≡ true → o d ≡ true
 closed o c d q = elim (cases_eq d c) [
   | inl same ↦ absurd (false≢true (sym (put_same o c false d same) ∙ q))
   | inr other ↦ sym (put_other o c false d other) ∙ q

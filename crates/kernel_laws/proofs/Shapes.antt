@@ -11,7 +11,8 @@ use Rattle.spk_nums.specs.declared.translations.Translation.{Translation}
 use Rattle.kernel_rules.specs.State.{ThreadFields, TcapFields, Comp}
 use Rattle.kernel_rules.specs.State.{Thread, Tcap, Frame, Untyped, Kernel, Liveness, Unused, Live, Dead}
 use Rattle.kernel_rules.specs.State.{Core, State, put, thread_in, tcap_in, thread_of}
-use Rattle.kernel_rules.specs.Rules.{Change}
+use Rattle.spk_nums.specs.declared.replies.Value.{Value}
+use Rattle.kernel_rules.specs.Rules.{Change, does}
 use Rattle.kernel_rules.specs.CapabilityCalls.{epoch_of}
 use Rattle.kernel_rules.specs.Edits.{caching}
 use Rattle.kernel_rules.specs.Life.{is_live_in}
@@ -263,8 +264,8 @@ edits_cores c s (e ∷ (x ∷ es)) =
 
 -- Every call that is carried out.
 pub shaped_by : (s : State) (o : ℕ → Bool) (c : ℕ) → IsOpen s o c → Shaped s → (call : Call) → InLimits call
-    → (change : Change) → Edits call c s change → ShapedBy s c change
-shaped_by s o c turn h call lim change e = subst (ShapedBy s c) (sym e.is) (record {
+    → (v : Value) (es : List Edit) → Edits call c s es → ShapedBy s c (does c s v es)
+shaped_by s o c turn h call lim v es e = record {
   frames = f.frames;
   numbers = f.numbers;
   own = record {
@@ -273,13 +274,13 @@ shaped_by s o c turn h call lim change e = subst (ShapedBy s c) (sym e.is) (reco
     cached = k.cached (h.cores c).cached;
   };
   others = k.others;
-})
+}
   where
-    f : Fits s.limits.epochs (after_edits c s e.list).frame (after_edits c s e.list).number
-    f = edits_fit c s e.list e.tested (e.limited lim) (e.known o turn) (record { frames = h.frames; numbers = h.numbers })
+    f : Fits s.limits.epochs (after_edits c s es).frame (after_edits c s es).number
+    f = edits_fit c s es e.tested (e.limited lim) (e.known o turn) (record { frames = h.frames; numbers = h.numbers })
 
-    k : CoresBy s c (charged_all e.list) (after_edits c s e.list).core
-    k = edits_cores c s e.list
+    k : CoresBy s c (charged_all es) (after_edits c s es).core
+    k = edits_cores c s es
 
     small : (call : Call) → InLimits call → charged_by call ≤ 1000000
     small (Tick n) lim = lim

@@ -70,8 +70,8 @@ charged_ticks _ = refl
 -- A decision: the counted ticks of a call by its reply.
 changed_due : (s : State) (c : ℕ) (call : Call) (v : Value) → MayReply s c call (reply.Ok v)
     → Counts s c (ticks_of call) (changed s (change_of s c call)).core
-changed_due s c call v may = after_ok s c call v (λ t. Counts s c (ticks_of call) t.core) may (λ change e.
-    subst (λ n. Counts s c n (after_edits c s e.list).core) (sym e.agrees.3 ∙ charged_ticks call) (edits_due c s e.list))
+changed_due s c call v may = after_ok s c call v (λ t. Counts s c (ticks_of call) t.core) may (λ es e.
+    subst (λ n. Counts s c n (after_edits c s es).core) (sym e.agrees.3 ∙ charged_ticks call) (edits_due c s es))
 
 -- A core is counted.
 counted_due : (s t : State) (c n : ℕ) (k : Core) → due k ≡ due (t.core c) → Counts s c n t.core → Counts s c n (put t.core c k)

@@ -20,7 +20,7 @@ pub comp_made_of : (s : State) (core r f t b x p live : ℕ) (l : Looked) (table
     (g h e : ℕ) → l.third ≡ Some table → l.fourth ≡ Some pages → l.at ≡ Some at
     → g ≡ table.frame → h ≡ pages.frame → e ≡ epoch_of (s.number live) + 1
     → Represents k (makes_comp s f (record { table = g; pages = h; number = live; epoch = e }) at).next
-    → IsCarriedOut s (change_in (left_of (rule_of s core (make_call (make.Comp x p live) r f t b)) l)) (ok Nothing) k
+    → IsCarriedOut s (change_in s core (left_of (rule_of s core (make_call (make.Comp x p live) r f t b)) l)) (ok Nothing) k
 comp_made_of s core r f t b x p live l table pages at k g h e third fourth is_at is_table is_pages is_epoch made =
     let put : Represents k (makes_comp s f (record {
       table = table.frame;

@@ -52,7 +52,7 @@ fn turn_into(k: &mut SeqKernel, frame: FrameNo, kind: FrameKind)
 /// `retype`: a frame of the machine becomes one of this kind.
 fn retype(k: &mut SeqKernel, frame: FrameArg, kind: FrameKind) -> Value
     ensures { (core r : ℕ) (l : Looked) → MayRetype (state_of k.old) frame kind
-        → IsCarriedOut (state_of k.old) (change_in (left_of (rule_of (state_of k.old) core (Retype r frame kind)) l)) (ok result) k.new }
+        → IsCarriedOut (state_of k.old) (change_in (state_of k.old) core (left_of (rule_of (state_of k.old) core (Retype r frame kind)) l)) (ok result) k.new }
 {
     if frame.number() < k.frames() {
         turn_into(k, FrameNo::new(frame.number()), kind);
@@ -65,7 +65,7 @@ fn retype(k: &mut SeqKernel, frame: FrameArg, kind: FrameKind) -> Value
 fn map(k: &mut SeqKernel, looked: &Looked, frame: FrameArg, flags: PageFlags) -> Value
     requires { flags.0 < 4 }
     ensures { (core p v r : ℕ) → MayCarry (state_of k.old) core (Map p v r frame flags) looked.now → IsCarriedOut (state_of k.old)
-        (change_in (left_of (rule_of (state_of k.old) core (Map p v r frame flags)) looked.now)) (ok result) k.new }
+        (change_in (state_of k.old) core (left_of (rule_of (state_of k.old) core (Map p v r frame flags)) looked.now)) (ok result) k.new }
 {
     if let Some(at) = looked.at {
         if frame.number() < k.frames() {
@@ -99,7 +99,7 @@ fn take_away(k: &mut SeqKernel, looked: &Looked) -> Value
 fn touch(k: &mut SeqKernel, core: CoreNo, page: PageNo, looked: &Looked) -> Value
     requires { core < (state_of k.old).limits.cores }
     ensures { MayCarry (state_of k.old) core (Touch page) looked.now → IsCarriedOut (state_of k.old)
-        (change_in (left_of (rule_of (state_of k.old) core (Touch page)) looked.now)) (ok result) k.new }
+        (change_in (state_of k.old) core (left_of (rule_of (state_of k.old) core (Touch page)) looked.now)) (ok result) k.new }
 {
     let pages = comp_of(k, core).pages;
     if let Some(item) = translation_of(&k.core(core).cached, pages, page) {
@@ -133,7 +133,7 @@ pub fn carry_out(k: &mut SeqKernel, core: CoreNo, call: &Call, looked: &Looked) 
     requires limits { InLimits call.now }
     requires core { core < (state_of k.old).limits.cores }
     ensures { MayCarry (state_of k.old) core call.now looked.now → IsCarriedOut (state_of k.old)
-        (change_in (left_of (rule_of (state_of k.old) core call.now) looked.now)) (ok result) k.new }
+        (change_in (state_of k.old) core (left_of (rule_of (state_of k.old) core call.now) looked.now)) (ok result) k.new }
 {
     match *call {
         Call::Retype { r: _, f, k: kind } => retype(k, f, kind),

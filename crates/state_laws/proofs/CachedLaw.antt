@@ -276,8 +276,8 @@ decided_lists : (s : State) (o : ℕ → Bool) (c : ℕ) (call : Call) (r : Repl
     → Lists s (state_by s c call r) c (flushes call r)
 decided_lists s o c call (reply.Ok v) h may w u all =
     same_lists s (changed s (change_of s c call)) c (flushes_by call) _ (h.sound.inside c h.is).1 refl
-    (after_ok s c call v (λ t. Lists s t c (flushes_by call)) may (λ change e.
-    subst (λ b. Caches s c b (after_edits c s e.list).core) (sym e.agrees.1) (edits_cache s o c h w u all e.list e.calm e.tested)))
+    (after_ok s c call v (λ t. Lists s t c (flushes_by call)) may (λ es e.
+    subst (λ b. Caches s c b (after_edits c s es).core) (sym e.agrees.1) (edits_cache s o c h w u all es e.calm e.tested)))
 decided_lists s o c call reply.CallsSpent h may w u all = none_flushed s c all
 decided_lists s o c call reply.Raced h may w u all =
     same_lists s (owed_by s c call) c false _ (h.sound.inside c h.is).1 refl (owed_lists s c call (h.sound.inside c h.is).1 all)

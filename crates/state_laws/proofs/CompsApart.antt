@@ -197,7 +197,7 @@ owed_apart s c _ w = w
 decided_apart : (s : State) (c : ℕ) (call : Call) (r : Reply) → InLimits call → MayReply s c call r → Apart s
     → Apart (state_by s c call r)
 decided_apart s c call (reply.Ok v) lim may w =
-    after_ok s c call v Apart may (λ change e. edits_apart c s e.list e.tested (e.limited lim) w)
+    after_ok s c call v Apart may (λ es e. edits_apart c s es e.tested (e.limited lim) w)
 decided_apart s c call reply.CallsSpent lim may w = w
 decided_apart s c call reply.Raced lim may w = owed_apart s c call w
 decided_apart s c call (reply.Busy e) lim may w = owed_apart s c call w

@@ -66,7 +66,7 @@ frame_ends : (s : State) (d : ℕ) (call : Call) (r : Reply) (f : ℕ) → MayRe
     → AreFlushed s (FrameOf f)
 frame_ends s d call (reply.Ok v) f may is =
     found_fact (change_of s d call) (λ k. k.value ≡ v) (found_by s d call (λ change. AreFlushed s (FrameOf f))
-    (λ change e. edits_flushed d s e.list e.calm e.tested f (sym (e.agrees.0 (FrameOf f)) ∙ is))) may.1.1
+    (λ v es e. edits_flushed d s es e.calm e.tested f (sym (e.agrees.0 (FrameOf f)) ∙ is))) may.1.1
 frame_ends s d call _ f may is = absurd (false≢true is)
 
 pub frame_flushed : (s : State) (d : ℕ) (call : Call) (r : Reply) (f : ℕ) → MayReply s d call r → ends call r (FrameOf f) ≡ true

@@ -16,7 +16,7 @@ use Rattle.kernel_rules.specs.State.{Thing, PlaceOf, FrameOf, State, put, thread
 use Rattle.kernel_rules.specs.References.{place_names, frame_names, number_names}
 use Rattle.kernel_rules.specs.Access.{held_in}
 use Rattle.kernel_rules.specs.GracePeriods.{same_thing}
-use Rattle.kernel_rules.specs.Rules.{Change, Judged, Refused, Found, IsFoundAnd}
+use Rattle.kernel_rules.specs.Rules.{Change, does, Judged, Refused, Found, IsFoundAnd}
 use Rattle.kernel_rules.specs.Edits.{frames_of}
 use Rattle.kernel_rules.specs.Edits.{with_thread, running}
 use Rattle.kernel_rules.specs.Edits.{with_tcap, with_budget, tcap_at, moved}
@@ -250,10 +250,10 @@ edits_keep c s (e ∷ es) calm known = kept_same s (after_edits c s (e ∷ es)) 
 abbrev KeepsBy : State → Call → Change → Type 0
 KeepsBy s call change = KeptBy s change.next (λ x. list_any (same_thing x) change.begins) (ends_by call)
 
-keeps_by : (s : State) (o : ℕ → Bool) (c : ℕ) → IsOpen s o c → (call : Call) (change : Change) → Edits call c s change
-    → KeepsBy s call change
-keeps_by s o c h call change e = subst (KeepsBy s call) (sym e.is)
-    (kept_same s (after_edits c s e.list) _ _ _ _ (λ x. refl) (λ x. sym (e.agrees.0 x)) (edits_keep c s e.list e.calm (e.known o h)))
+keeps_by : (s : State) (o : ℕ → Bool) (c : ℕ) → IsOpen s o c → (call : Call) (v : Value) (es : List Edit) → Edits call c s es
+    → KeepsBy s call (does c s v es)
+keeps_by s o c h call v es e =
+    kept_same s (after_edits c s es) _ _ _ _ (λ x. refl) (λ x. sym (e.agrees.0 x)) (edits_keep c s es e.calm (e.known o h))
 
 found_kept : (s : State) (call : Call) (v : Value) (x : Judged Change) → IfFound x (KeepsBy s call) → IsFoundAnd x (λ k. k.value ≡ v)
     → KeptBy s (changed s x) (begun_in x) (ends_by call)

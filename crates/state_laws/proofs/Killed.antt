@@ -111,7 +111,7 @@ decided_over : (s : State) (d : ℕ) (call : Call) (r : Reply) → MayReply s d 
     → IsOver (state_by s d call r) c l e
 decided_over s d call (reply.Ok v) may c l e h =
     let by : IsOver (changed s (change_of s d call)) c l e =
-    after_ok s d call v (λ t. IsOver t c l e) may (λ change es. edits_over d s es.list es.calm es.tested c l e h) in
+    after_ok s d call v (λ t. IsOver t c l e) may (λ es k. edits_over d s es k.calm k.tested c l e h) in
     record { past = by.past; left = by.left }
 decided_over s d call reply.CallsSpent may c l e h = h
 decided_over s d call reply.Raced may c l e h =

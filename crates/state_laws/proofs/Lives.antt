@@ -128,8 +128,8 @@ owed_number s c _ l = refl
 
 decided_numbers : (s : State) (c : ℕ) (call : Call) (r : Reply) → MayReply s c call r → DecidedNumbers s (state_by s c call r)
 decided_numbers s c call (reply.Ok v) may =
-    let n = after_ok s c call v (DecidedNumbers s) may (λ change e.
-    let n = edits_numbers c s e.list e.calm e.tested in record { live = n.live; past = n.past }) in
+    let n = after_ok s c call v (DecidedNumbers s) may (λ es e.
+    let n = edits_numbers c s es e.calm e.tested in record { live = n.live; past = n.past }) in
     record { live = n.live; past = n.past }
 decided_numbers s c call reply.CallsSpent may = unchanged s _ (λ l. refl)
 decided_numbers s c call reply.Raced may = unchanged s _ (owed_number s c call)

@@ -142,7 +142,7 @@ decided_back : (s : State) (o : ℕ → Bool) (c : ℕ) (call : Call) (r : Reply
     → Back (state_by s c call r)
 decided_back s o c call (reply.Ok v) h may w =
     counted_back (changed s (change_of s c call)) c
-    (after_ok s c call v Back may (λ change e. edits_back c s e.list (e.known o h) w))
+    (after_ok s c call v Back may (λ es e. edits_back c s es (e.known o h) w))
 decided_back s o c call reply.CallsSpent h may w = w
 decided_back s o c call reply.Raced h may w = counted_back (owed_by s c call) c (owed_back s c call w)
 decided_back s o c call (reply.Busy e) h may w = counted_back (owed_by s c call) c (owed_back s c call w)

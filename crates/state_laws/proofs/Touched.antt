@@ -11,7 +11,7 @@ use Rattle.spk_nums.specs.declared.translations.Translation.{Translation}
 use Rattle.spk_nums.specs.declared.replies.Value.TheVariants.{Page}
 use Rattle.spk_nums.specs.declared.replies.Reply.TheVariants as reply
 use Rattle.kernel_rules.specs.State.{Core, State, with_core, comp_of}
-use Rattle.kernel_rules.specs.Rules.{Change, Judged, Refused, Found, Does, IsFoundAnd, and_then, unless, first_of, mapped, outcome}
+use Rattle.kernel_rules.specs.Rules.{Change, does, Judged, Refused, Found, IsFoundAnd, and_then, unless, first_of, mapped, outcome}
 use Rattle.kernel_rules.specs.MemoryCalls.{translation_of, translated, caches, touch_by}
 use Rattle.kernel_rules.specs.Edits.{caching}
 use Rattle.kernel_rules.specs.CallRelation.{changed, counted}
@@ -87,7 +87,7 @@ module _ (s : State) (o : ℕ → Bool) (c : ℕ) (h : IsOpen s o c) (w : IsFitt
   by_some t found_it is = by (nat_lt 4095 v) is
     where
       judged : Bool → Judged Change
-      judged b = unless (first_of (if b then Some reply.NoSlot else None) None) (answers s (translated t))
+      judged b = unless (first_of (if b then Some reply.NoSlot else None) None) (does c s (translated t) [])
 
       by : (b : Bool) → IsFoundAnd (judged b) IsIt → Answers s (after_it (judged b)) c x
       by true is = absurd is
@@ -109,7 +109,7 @@ module _ (s : State) (o : ℕ → Bool) (c : ℕ) (h : IsOpen s o c) (w : IsFitt
       item k = record { pages = pages; page = v; frame = k.frame; flags = record { 0 = k.arg } }
 
       judged : Judged Capability → Judged Change
-      judged j = and_then j λ k. outcome s c (Does [] (caches s c (item k)))
+      judged j = and_then j λ k. outcome s c (caches (item k))
 
       by : (j : Judged Capability) → mapped s c pages v ≡ j → IsFoundAnd (judged j) IsIt → Answers s (after_it (judged j)) c x
       by (Refused r) found_it is = absurd is
