@@ -10,6 +10,7 @@ use Rattle.kernel_rules.specs.State.{Limits, State}
 use Rattle.kernel_rules.specs.CallRelation.{rule_of, change_of}
 use Rattle.kernel_rules.specs.Runs.{Event, after, Open, is_open, phase_of, IsRun}
 use Rattle.kernel_invariant.proofs.SoundRuns.{opened, limits_stay, open_limits, runs_sound}
+use Rattle.kernel_invariant.proofs.Edited.{rule_edits}
 use Rattle.kernel_laws.proofs.NodesLaw.{nodes_hold_what_fits}
 use Rattle.kernel_laws.proofs.RangesLaw.{ranges_hold}
 use Rattle.seq_state.specs.Representation.{SameState}
@@ -59,8 +60,8 @@ twins setting is events run c call opens t same = record {
 pub changes_same : SameChanges
 changes_same setting is events run c call opens t same =
     let w = twins setting is events run c call opens t same in
-    outcome_same w (rule_of t c call) (rule_of (after setting events) c call)
-    (rule_same w call (open_limits setting events c call run opens))
+    outcome_same w call (rule_of t c call) (rule_of (after setting events) c call)
+    (rule_same w call (open_limits setting events c call run opens)) (rule_edits (after setting events) c call)
 
 pub same_acts : SameActs
 same_acts setting is events run c call opens t same = acts_same (twins setting is events run c call opens t same) call

@@ -18,11 +18,9 @@ use Rattle.kernel_rules.specs.References.{refs, frame_names}
 use Rattle.kernel_rules.specs.Access.{to_use, Named, Under, found, only, held_in}
 use Rattle.kernel_rules.specs.GracePeriods.{same_thing, flushed}
 use Rattle.kernel_rules.specs.Rules.{Change, Cause, Found, named, refusal_of}
-use Rattle.kernel_rules.specs.Edits.{frames_of}
 use Rattle.kernel_rules.specs.CapabilityCalls.{outside, has_frame}
 use Rattle.kernel_rules.specs.MemoryCalls.{is_untyped, is_user, holds_nothing, is_empty_object, is_empty, not_retyped, retypes, retype_rule}
 use Rattle.kernel_rules.specs.MemoryCalls.{map_rule, unmap_rule, translation_of, caches, touch_by, touch_rule, flush_rule}
-use Rattle.kernel_rules.specs.Edits.{caching}
 use Rattle.kernel_rules.specs.Fitting.{IsGood, EndsWithin}
 use Rattle.kernel_rules.specs.Relies.{is_node}
 use Rattle.kernel_invariant.proofs.Sound.{only_is}
@@ -32,7 +30,7 @@ use Rattle.seq_state.proofs.Same.{same_by, same_then, same_place, same_frame, sa
 use Rattle.same_changes.specs.Same.{SameChange}
 use Rattle.same_changes.proofs.Reaching.{Twins, pages_node, pages_good, core_same, comp_same}
 use Rattle.same_changes.proofs.Alike.{SameCauses, SameRule}
-use Rattle.same_changes.proofs.CapabilityRules.{frame_test, removes_same}
+use Rattle.same_changes.proofs.CapabilityRules.{frame_test}
 
 pub named_pages : {t s : State} {o : ℕ → Bool} {c : ℕ} → Twins t s o c → (n : ℕ) (k : Capability) → named s c n (to_use (only kind.Pages)) ≡ Found k
     → IsTrue (is_node (s.frame k.frame))
@@ -84,25 +82,6 @@ empty_same w f Untyped below = refl
 empty_same w f User below = refl
 empty_same w f (Kernel x) below = object_empty_same w f x below
 
-emptied_same : (t s : State) (f : ℕ) → SameState t s
-    → SameState (with_grace (with_frame t f Untyped) (λ x. if same_thing x (FrameOf f) then no_grace else t.grace x))
-    (with_grace (with_frame s f Untyped) (λ x. if same_thing x (FrameOf f) then no_grace else s.grace x))
-emptied_same t s f e =
-    let frames = same_frame t s f Untyped e in
-    record {
-      limits = e.limits;
-      place = e.place;
-      frame = frames.frame;
-      number = e.number;
-      core = e.core;
-      grace = λ x is. by_thing (same_thing x (FrameOf f)) x (e.grace x is);
-    }
-  where
-    by_thing : (b : Bool) (x : Thing) → SameGrace s.limits.cores (t.grace x) (s.grace x)
-        → SameGrace s.limits.cores (if b then no_grace else t.grace x) (if b then no_grace else s.grace x)
-    by_thing true x same = same_grace_by s.limits.cores no_grace no_grace refl
-    by_thing false x same = same
-
 pub retype_same : {t s : State} {o : ℕ → Bool} {c : ℕ} → Twins t s o c → (r f : ℕ) (k : FrameKind)
     → SameRule s c (retype_rule t r f k) (retype_rule s r f k)
 retype_same {t} {s} {o} {c} w r f frame_kind.Untyped = (
@@ -127,10 +106,7 @@ retype_same {t} {s} {o} {c} w r f frame_kind.Untyped = (
             ),
           ),
     ),
-    λ none.
-        let below = in_range w r range f is (Rattle.kernel_invariant.proofs.Facts.none_parts (refusal_of s c (outside (found range) f))
-        (Rattle.kernel_rules.specs.Rules.first_cause s c (not_retyped s f frame_kind.Untyped)) none).0 in
-        record { value = refl; next = emptied_same t s f w.same; begins = ap (λ x. frames_of (frame_names x)) (w.same.frame f below) },
+    λ none. (refl, refl),
   ),
 )
 retype_same {t} {s} w r f frame_kind.User = (
@@ -138,7 +114,7 @@ retype_same {t} {s} w r f frame_kind.User = (
   refl,
   λ range is. (
     ((refl, λ on. refl), λ inside. ((frame_test w f (λ x. not (is_untyped x)), λ on. refl), λ calm. tt)),
-    λ none. record { value = refl; next = same_frame t s f User w.same; begins = refl },
+    λ none. (refl, refl),
   ),
 )
 retype_same {t} {s} w r f frame_kind.Kernel = (
@@ -146,7 +122,7 @@ retype_same {t} {s} w r f frame_kind.Kernel = (
   refl,
   λ range is. (
     ((refl, λ on. refl), λ inside. ((frame_test w f (λ x. not (is_untyped x)), λ on. refl), λ calm. tt)),
-    λ none. record { value = refl; next = same_frame t s f (Kernel Blank) w.same; begins = refl },
+    λ none. (refl, refl),
   ),
 )
 
@@ -165,45 +141,28 @@ map_same {t} {s} w p v r f flags = (
       (λ on. named_pages w p pages is_pages),
       λ at is_free. (
         ((refl, λ on. refl), λ inside. ((frame_test w f (λ x. not (is_user x)), λ on. refl), λ calm. tt)),
-        λ none. record {
-          value = refl;
-          next = same_place t s at.node at.index (Holds (cap_of kind.Page f flags.0))
-              w.same;
-          begins = refl;
-        },
+        λ none. (refl, refl),
       ),
     ),
   ),
 )
 
-pub unmap_same : {t s : State} {o : ℕ → Bool} {c : ℕ} → Twins t s o c → (p v : ℕ) → SameRule s c (unmap_rule t p v) (unmap_rule s p v)
+pub unmap_same : {t s : State} {o : ℕ → Bool} {c : ℕ} → Twins t s o c → (p v : ℕ) → SameRule s c (unmap_rule p v) (unmap_rule p v)
 unmap_same w p v = (
   refl,
   refl,
   λ pages is_pages.
-      (refl, (λ on. named_pages w p pages is_pages), λ at mapping is_held. (tt, λ none. removes_same w at mapping)),
+      (refl, (λ on. named_pages w p pages is_pages), λ at mapping is_held. (tt, λ none. (refl, refl))),
 )
 
 touched_same : {t s : State} {o : ℕ → Bool} {c : ℕ} → Twins t s o c → (v : ℕ) (tr : Option Translation)
     → SameRule s c (touch_by (comp_of s c).pages v tr) (touch_by (comp_of s c).pages v tr)
-touched_same w v (Some tr) = (((refl, λ on. refl), λ calm. tt), λ none. record { value = refl; next = w.same; begins = refl })
+touched_same w v (Some tr) = (((refl, λ on. refl), λ calm. tt), λ none. (refl, refl))
 touched_same {t} {s} {o} {c} w v None = (
   refl,
   refl,
   pages_good w,
-  λ mapping is. (
-    tt,
-    λ none.
-        let tr : Translation =
-        record { pages = (comp_of s c).pages; page = v; frame = mapping.frame; flags = record { 0 = mapping.arg } } in
-        record {
-          value = refl;
-          next = same_then _ _ _
-              (same_by _ _ (ap (λ (k : Core). with_core t c (record k { cached = caching k.cached tr })) (core_same w)))
-              (same_core t s c (record (s.core c) { cached = caching (s.core c).cached tr }) w.same);
-          begins = refl;
-        },
-  ),
+  λ mapping is. (tt, λ none. (refl, refl)),
 )
 
 pub touch_same : {t s : State} {o : ℕ → Bool} {c : ℕ} → Twins t s o c → (v : ℕ) → SameRule s c (touch_rule t c v) (touch_rule s c v)
@@ -214,23 +173,5 @@ touch_same {t} {s} {o} {c} w v =
     subst (λ r. SameRule s c r (touch_rule s c v)) (λ i. touch_by (sym pages i) v (sym tr i))
     (touched_same w v (translation_of (s.core c).cached (comp_of s c).pages v))
 
-flushed_same : {t s : State} {o : ℕ → Bool} {c : ℕ} → Twins t s o c → SameState (flushed t c) (flushed s c)
-flushed_same {t} {s} {o} {c} w =
-    let cores = same_then _ _ _ (same_by _ _ (ap (λ (k : Core). with_core t c (record k { cached = [] })) (core_same w)))
-    (same_core t s c (record (s.core c) { cached = [] }) w.same) in
-    record {
-      limits = w.same.limits;
-      place = w.same.place;
-      frame = w.same.frame;
-      number = w.same.number;
-      core = cores.core;
-      grace = λ x is. let g = w.same.grace x is in record {
-        waits = g.waits;
-        not_passed = g.not_passed;
-        unflushed = λ d less. ap (λ b. if d == c then false else b) (g.unflushed d less);
-        flush_unknown = g.flush_unknown;
-      };
-    }
-
-pub flush_same : {t s : State} {o : ℕ → Bool} {c : ℕ} → Twins t s o c → SameRule s c (flush_rule t c) (flush_rule s c)
-flush_same w = (tt, λ none. record { value = refl; next = flushed_same w; begins = refl })
+pub flush_same : {t s : State} {o : ℕ → Bool} {c : ℕ} → Twins t s o c → SameRule s c flush_rule flush_rule
+flush_same w = (tt, λ none. (refl, refl))

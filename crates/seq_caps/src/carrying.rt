@@ -3,19 +3,22 @@
 ghost use Rattle.std.specs.Prelude.{◌≡◌, ◌<◌, ◌≤◌, ◌+◌, ◌^◌, IsSome, [], ◌∷◌, None};
 ghost use Rattle.spk_nums.specs.Limits.{least_arg, end_of_arg};
 ghost use Rattle.spk_nums.specs.CallLimits.{InLimits, MakeInLimits};
+ghost use Rattle.spk_nums.specs.declared.kinds.Kind.TheVariants as kinds;
 ghost use Rattle.spk_nums.specs.declared.calls.Call.TheVariants.{Make as make_call};
 ghost use Rattle.spk_nums.specs.declared.replies.Reply.TheVariants.{Ok as ok};
+ghost use Rattle.kernel_rules.specs.State.{Comp, Live, with_number};
 ghost use Rattle.kernel_rules.specs.CapabilityCalls.{epoch_of};
 ghost use Rattle.kernel_rules.specs.Edits.{cleared};
 ghost use Rattle.kernel_rules.specs.CallRelation.{rule_of};
 ghost use Rattle.seq_state.specs.Parts.{object_of};
 ghost use Rattle.seq_state.specs.Maps.{state_of};
 ghost use Rattle.seq_state.specs.Representation.{Represents};
-ghost use Rattle.seq_lookups.specs.Carried.{IsCarriedOut};
+ghost use Rattle.seq_lookups.specs.Carried.{IsCarriedOut, removed};
 ghost use Rattle.seq_plans.specs.declared.walking.Looked.{Looked};
 ghost use Rattle.seq_plans.specs.Walks.{left_of};
 ghost use Rattle.seq_plans.specs.Carrying.{change_in, MayMake, MayCarry};
 ghost use Rattle.seq_caps.specs.Own.{IsCapCall};
+ghost use Rattle.seq_caps.specs.Holding.{holding};
 
 use crate::frames::{clear, epoch_of, plain_cap, put};
 use seq_lookups::{Slot, fill, remove};
@@ -27,7 +30,7 @@ use spk_nums::{Call, Cap, CoreNo, FrameArg, FrameNo, Kind, Make, Qualities, Righ
 fn hold(k: &mut SeqKernel, frame: FrameNo, object: Object, kind: Kind, at: Slot)
     requires least { least_arg kind ≡ 0 }
     requires end { 0 < end_of_arg kind }
-    ensures { Represents k.new (makes (state_of k.old) frame (object_of object) kind at).next }
+    ensures { Represents k.new (holding (state_of k.old) frame (object_of object) kind at) }
 {
     put(k, frame, object, plain_cap(kind, frame), at);
 }
@@ -36,7 +39,7 @@ fn hold(k: &mut SeqKernel, frame: FrameNo, object: Object, kind: Kind, at: Slot)
 fn hold_node(k: &mut SeqKernel, frame: FrameNo, object: Object, kind: Kind, at: Slot)
     requires least { least_arg kind ≡ 0 }
     requires end { 0 < end_of_arg kind }
-    ensures { Represents k.new (makes (cleared (state_of k.old) frame) frame (object_of object) kind at).next }
+    ensures { Represents k.new (holding (cleared (state_of k.old) frame) frame (object_of object) kind at) }
 {
     clear(k, frame);
     put(k, frame, object, plain_cap(kind, frame), at);
@@ -62,8 +65,8 @@ fn hold_comp(
     at: Slot,
 )
     requires { live < 64 }
-    ensures { Represents k.new (makes_comp (state_of k.old) frame
-        (record { table = table; pages = pages; number = live; epoch = epoch }) at).next }
+    ensures { Represents k.new (holding (with_number (state_of k.old) live (Live epoch frame)) frame
+        (Comp (record { table = table; pages = pages; number = live; epoch = epoch })) kinds.Comp at) }
 {
     let comp = CompFields {
         table,
@@ -182,7 +185,7 @@ fn grow(k: &mut SeqKernel, looked: &Looked) -> Value
 /// `remove` and `shrink`: what the place holds is removed.
 fn take_away(k: &mut SeqKernel, looked: &Looked) -> Value
     ensures { (at : slot) (k' : Capability) → looked.now.at ≡ Some at → looked.now.held ≡ Some k'
-        → (result ≡ Nothing) × Represents k.new (changed (state_of k.old) (Found (removes (state_of k.old) at k'))) }
+        → (result ≡ Nothing) × Represents k.new (removed (state_of k.old) at k') }
 {
     if let Some(at) = looked.at {
         if let Some(cap) = looked.held {
@@ -228,5 +231,3 @@ ghost use Rattle.spk_nums.specs.Capability.{Capability};
 ghost use Rattle.spk_nums.specs.declared.calls.Call.TheVariants.{Copy, Grow};
 ghost use Rattle.spk_nums.specs.declared.replies.Value.TheVariants.{Nothing, Cap as cap_value};
 ghost use Rattle.kernel_rules.specs.Access.{Slot as slot};
-ghost use Rattle.kernel_rules.specs.Rules.{Found};
-ghost use Rattle.kernel_rules.specs.CallRelation.{changed};

@@ -7,16 +7,15 @@ ghost use Rattle.spk_nums.specs.declared.calls.Call.TheVariants.{Retype, Map, To
 ghost use Rattle.spk_nums.specs.declared.replies.Value.TheVariants.{Nothing};
 ghost use Rattle.spk_nums.specs.declared.replies.Reply.TheVariants.{Ok as ok};
 ghost use Rattle.kernel_rules.specs.State.{thread_in};
-ghost use Rattle.kernel_rules.specs.Rules.{Found};
-ghost use Rattle.kernel_rules.specs.MemoryCalls.{retypes};
-ghost use Rattle.kernel_rules.specs.CallRelation.{rule_of, changed};
+ghost use Rattle.kernel_rules.specs.CallRelation.{rule_of};
 ghost use Rattle.seq_state.specs.Maps.{state_of};
 ghost use Rattle.seq_state.specs.Representation.{Represents};
-ghost use Rattle.seq_lookups.specs.Carried.{IsCarriedOut};
+ghost use Rattle.seq_lookups.specs.Carried.{IsCarriedOut, removed};
 ghost use Rattle.seq_plans.specs.declared.walking.Looked.{Looked};
 ghost use Rattle.seq_plans.specs.Walks.{left_of};
 ghost use Rattle.seq_plans.specs.Carrying.{change_in, MayRetype, MayCarry};
 ghost use Rattle.seq_memory.specs.Own.{IsMemoryCall};
+ghost use Rattle.seq_memory.specs.Retyped.{retyped};
 
 use crate::retyping::free;
 use crate::touching::{cache, flags_of};
@@ -30,7 +29,7 @@ use spk_nums::{
 /// Retypes a frame to untyped, unless its thread is in more than one component.
 fn free_few(k: &mut SeqKernel, frame: FrameNo)
     ensures { length (thread_in ((state_of k.old).frame frame)).stack ≤ 1
-        → Represents k.new (changed (state_of k.old) (Found (retypes (state_of k.old) frame frame_kind.Untyped))) }
+        → Represents k.new (retyped (state_of k.old) frame frame_kind.Untyped) }
 {
     if thread_at(k, frame).stack.len() <= 1 {
         free(k, frame);
@@ -40,7 +39,7 @@ fn free_few(k: &mut SeqKernel, frame: FrameNo)
 /// A frame becomes one of this kind.
 fn turn_into(k: &mut SeqKernel, frame: FrameNo, kind: FrameKind)
     ensures { MayRetype (state_of k.old) frame kind
-        → Represents k.new (changed (state_of k.old) (Found (retypes (state_of k.old) frame kind))) }
+        → Represents k.new (retyped (state_of k.old) frame kind) }
 {
     match kind {
         FrameKind::Untyped => free_few(k, frame),
@@ -84,7 +83,7 @@ fn map(k: &mut SeqKernel, looked: &Looked, frame: FrameArg, flags: PageFlags) ->
 /// `unmap`: what the place holds is removed.
 fn take_away(k: &mut SeqKernel, looked: &Looked) -> Value
     ensures { (at : slot) (cap : Capability) → looked.now.at ≡ Some at → looked.now.held ≡ Some cap
-        → (result ≡ Nothing) × Represents k.new (changed (state_of k.old) (Found (removes (state_of k.old) at cap))) }
+        → (result ≡ Nothing) × Represents k.new (removed (state_of k.old) at cap) }
 {
     if let Some(at) = looked.at {
         if let Some(cap) = looked.held {
