@@ -21,7 +21,7 @@ use Rattle.kernel_rules.specs.CallRelation.{MayBeDead, MayReply}
 use Rattle.kernel_rules.specs.Alone.{reply_in}
 use Rattle.kernel_rules.specs.Runs.{Event, Decides as decides, after, Open, phase_of, IsRun}
 use Rattle.kernel_rules.proofs.Agrees.{IsBounded, IsPlain, IfRefused, rule_refused}
-use Rattle.kernel_rules.proofs.AloneLaw.{Waits, rule_waits, rule_plain, waits_inside}
+use Rattle.kernel_rules.proofs.AloneLaw.{Waits, found_waits, rule_plain, waits_inside}
 use Rattle.kernel_rules.proofs.Changes.{IfFound, outcome_all}
 use Rattle.kernel_rules.proofs.Within.{waits_within}
 use Rattle.kernel_invariant.proofs.SoundRuns.{opened, limits_stay, open_limits}
@@ -173,13 +173,13 @@ module _ (setting : Setting) (lim : IsSetting setting) (events : List Event) (ru
   lives_same = ap (λ (x : CompFields). is_live_in (t.number x.number) x.epoch) (comp_same w)
       ∙ ap (λ n. is_live_in n (comp_of s c).epoch) (alive_same w (here s c) (here_fit w))
 
-  limits_of : (j : Judged Change) → IfFound j (Waits (after setting events))
+  limits_of : (j : Judged Change) → IfFound j (λ change. Waits (after setting events) change.next)
       → IfFound j (λ change. change.next.limits ≡ (after setting events).limits)
   limits_of (Refused r) h = tt
   limits_of (Found change) h = h.limits
 
   kept_limits : IfFound (change_of (after setting events) c call) (λ change. change.next.limits ≡ (after setting events).limits)
-  kept_limits = limits_of (change_of s c call) (outcome_all (Waits s) s c (rule_of s c call) (rule_waits s c call))
+  kept_limits = limits_of (change_of s c call) (found_waits s c call)
 
   changed_limits : (j : Judged Change) → IfFound j (λ change. change.next.limits ≡ (after setting events).limits)
       → (changed (after setting events) j).limits ≡ (after setting events).limits

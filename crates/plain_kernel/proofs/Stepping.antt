@@ -15,7 +15,7 @@ use Rattle.kernel_rules.specs.Life.{acts}
 use Rattle.kernel_rules.specs.Alone.{reply_in, first_reply, alone, plain_reply, plain_step}
 use Rattle.kernel_rules.specs.Runs.{Event, Enters, Decides, Returns, after, Phase, Open, Decided, Out, is_decided, phase_of, IsRun}
 use Rattle.kernel_rules.proofs.Agrees.{IsBounded, IsPlain, IfRefused, rule_refused}
-use Rattle.kernel_rules.proofs.AloneLaw.{Waits, rule_waits, rule_plain, waits_inside, first_permitted}
+use Rattle.kernel_rules.proofs.AloneLaw.{Waits, found_waits, rule_plain, waits_inside, first_permitted}
 use Rattle.kernel_rules.proofs.Changes.{IfFound, outcome_all}
 use Rattle.kernel_laws.proofs.RangesLaw.{ranges_hold}
 use Rattle.kernel_rules.proofs.Within.{waits_within}
@@ -95,7 +95,7 @@ over t s r k e (Found x) (Found y) same limits h = record {
 over t s r k e (Refused p) (Found y) same limits h = absurd same
 over t s r k e (Found x) (Refused q) same limits h = absurd same
 
-limits_of : (s : State) (j : Judged Change) → IfFound j (Waits s) → IfFound j (λ change. change.next.limits ≡ s.limits)
+limits_of : (s : State) (j : Judged Change) → IfFound j (λ change. Waits s change.next) → IfFound j (λ change. change.next.limits ≡ s.limits)
 limits_of s (Refused r) h = tt
 limits_of s (Found change) h = h.limits
 
@@ -233,7 +233,7 @@ module _ (setting : Setting) (lim : IsSetting setting) (events : List Event) (ru
       let j = change_of s c call in
       let done : IsCarriedOut s j r k2 = over (state_of k1) s r k2 here (change_of (state_of k1) c call) j
       (changes_same setting lim (Enters c call ∷ events) runs c call opens (state_of k1) here)
-      (limits_of s j (outcome_all (Waits s) s c (rule_of s c call) (rule_waits s c call)))
+      (limits_of s j (found_waits s c call))
       (decides (stays_in_range setting lim (Enters c call ∷ events) runs c call opens (state_of k1) here)) in
       let replied : r ≡ alone s c call = done.reply ∙ ap (λ t. if t then reply_in j else reply.Dead) (sym may)
       ∙ ap (λ t. if t then reply.CallsSpent else first_reply s c call) (sym no) in
@@ -249,7 +249,7 @@ module _ (setting : Setting) (lim : IsSetting setting) (events : List Event) (ru
       (sym (limits_stay setting (Decides c call (alone s c call) ∷ Enters c call ∷ events))) lim.most_calls)) in
       let few : ((changed s j).core c).counted < 4194304 = one_less _ (put_here (changed s j).core c) most in
       let limits : (changed s j).limits ≡ s.limits = changed_limits s j
-      (limits_of s j (outcome_all (Waits s) s c (rule_of s c call) (rule_waits s c call))) in
+      (limits_of s j (found_waits s c call)) in
       let core_there : c < (changed s j).limits.cores = subst (λ (l : Limits). c < l.cores) (sym limits) core_in in
       let core_here : c < (state_of k2).limits.cores = subst (λ (l : Limits). c < l.cores) (sym done.state.limits) core_there in
       let few_here : ((state_of k2).core c).counted < 4194304 = subst (λ (k : Core). k.counted < 4194304)

@@ -52,7 +52,7 @@ pub record Keeps (s new : State) : Type 0 where
 same_keeps : (s : State) → Keeps s s
 same_keeps s = record { budgets = λ g. refl; spent = refl; owed = refl }
 
-switches_keep : (s : State) (h q : ℕ) → Keeps s (switches s 0 (s.core 0) h q).next
+switches_keep : (s : State) (h q : ℕ) → Keeps s (switched s 0 h q)
 switches_keep s h q = record {
   budgets = λ g. ap (λ (x : TcapFields). x.budget)
       (put_thread (running s (s.core 0).thread None).frame h g
@@ -63,10 +63,10 @@ switches_keep s h q = record {
 }
 
 change_keeps : (s : State) (h q : ℕ) → IfFound (change_of s 0 (Switch h q)) (λ change. Keeps s change.next)
-change_keeps s h q = outcome_all (λ change. Keeps s change.next) s 0 (switch_rule s 0 h q)
+change_keeps s h q = outcome_all (λ change. Keeps s change.next) s 0 (switch_rule s h q)
     (λ k l. by_runner k l (thread_in (s.frame k.frame)).runs_on)
   where
-    by_runner : (k l : Capability) (o : Option ℕ) → AllChanges (λ change. Keeps s change.next) (switch_to (found k) l.frame o)
+    by_runner : (k l : Capability) (o : Option ℕ) → AllChanges s 0 (λ change. Keeps s change.next) (switch_to (found k) l.frame o)
     by_runner k l None = switches_keep s k.frame l.frame
     by_runner k l (Some e) = switches_keep s k.frame l.frame
 
