@@ -188,7 +188,7 @@ module _ (s : State) (c r f : ℕ) (q : Reply) (past : nat_lt f s.limits.frames 
       no_flush (reply.Unflushed e) h = false≢true (sym (calm.flushed e) ∙ h.flush_unknown)
       no_flush _ h = h
 
-  beyond : Iff (RuleMay s c (retype_beyond s r f) q) (RuleMay s c (retype_rule s r f frame_kind.Untyped) q)
+  beyond : Iff (RuleMay s c (retype_beyond r f) q) (RuleMay s c (retype_rule s r f frame_kind.Untyped) q)
   beyond = record {
     there = λ h. elim h [ inl name ↦ inl name | inr own ↦ elim own [ inl outside ↦ inr (inl outside) | inr none ↦ absurd none ] ];
     back = λ h. elim h [
@@ -209,7 +209,7 @@ judged_here setting lim events run c (Retype r f frame_kind.Untyped) opens q = b
   where
     by_frame : (b : Bool) → nat_lt f (after setting events).limits.frames ≡ b
         → Iff (RuleMay (after setting events) c (if b then retype_rule (after setting events) r f frame_kind.Untyped
-        else retype_beyond (after setting events) r f) q)
+        else retype_beyond r f) q)
         (RuleMay (after setting events) c (retype_rule (after setting events) r f frame_kind.Untyped) q)
     by_frame true is = same_iff _
     by_frame false is =

@@ -299,12 +299,12 @@ retype_judged : {t s : State} {o : ℕ → Bool} {c : ℕ} (w : Twins t s o c) (
     → SameMayRule w (judged_rule t c (Retype r f frame_kind.Untyped)) (judged_rule s c (Retype r f frame_kind.Untyped))
 retype_judged {t} {s} {o} {c} w r f =
     subst (λ (l : Limits). SameMayRule w
-    (if nat_lt f l.frames then retype_rule t r f frame_kind.Untyped else retype_beyond t r f)
+    (if nat_lt f l.frames then retype_rule t r f frame_kind.Untyped else retype_beyond r f)
     (judged_rule s c (Retype r f frame_kind.Untyped))) (sym w.same.limits) (by_frame (nat_lt f s.limits.frames) refl)
   where
     by_frame : (b : Bool) → nat_lt f s.limits.frames ≡ b
-        → SameMayRule w (if b then retype_rule t r f frame_kind.Untyped else retype_beyond t r f)
-        (if b then retype_rule s r f frame_kind.Untyped else retype_beyond s r f)
+        → SameMayRule w (if b then retype_rule t r f frame_kind.Untyped else retype_beyond r f)
+        (if b then retype_rule s r f frame_kind.Untyped else retype_beyond r f)
     by_frame true below = retype_may w r f (ltb-true f s.limits.frames below)
     by_frame false past = (refl, refl, ((refl, λ on. refl), tt))
 

@@ -22,7 +22,7 @@ use Rattle.seq_plans.proofs.ByPlan.{refused_by_plan}
 
 untyped_goes : (s : State) (c r f : ℕ) (b : Bool)
     → GoesBy (own_pages s c) (plan_for (Retype r f frame_kind.Untyped))
-    (if b then retype_rule s r f frame_kind.Untyped else retype_beyond s r f)
+    (if b then retype_rule s r f frame_kind.Untyped else retype_beyond r f)
 untyped_goes s c r f true = calls_go s c (Retype r f frame_kind.Untyped)
 untyped_goes s c r f false = (refl, refl, λ k. tt)
 

@@ -266,7 +266,7 @@ module _ {t s : State} {o : ℕ → Bool} {c : ℕ} (w : Twins t s o c) where
   SameMayRule (Held x rest) (Held y other) = (x ≡ y) × RootMay s y × ((at : Slot) (k : Capability) → SameMayRule (rest at k) (other at k))
   SameMayRule (Mapped a v rest) (Mapped b u other) =
       (a ≡ b) × (v ≡ u) × IsTrue (is_node (s.frame b)) × ((k : Capability) → SameMayRule (rest k) (other k))
-  SameMayRule (Does xs a) (Does ys b) = SameMayCauses xs ys
+  SameMayRule (Does xs p a) (Does ys q b) = SameMayCauses xs ys
   SameMayRule _ _ = ⊥
 
   held_found : (target : Target) → RootMay s target → held t c target ≡ held s c target
@@ -301,24 +301,24 @@ module _ {t s : State} {o : ℕ → Bool} {c : ℕ} (w : Twins t s o c) where
       (subst (λ z. Iff (MappedMay t c z v r) (MappedMay s c b u r)) (sym h.0)
       (subst (λ z. Iff (MappedMay t c b z r) (MappedMay s c b u r)) (sym h.1) (mapped_iff b u r h.2)))
       (found_iff _ _ _ _ ((λ i. mapped t c (h.0 i) (h.1 i)) ∙ mapped_same w b u h.2) (λ k is. rule_iff (rest k) (other k) r (h.3 k)))
-  rule_iff (Does xs a) (Does ys b) r h = causes_iff xs ys r h
+  rule_iff (Does xs p a) (Does ys q b) r h = causes_iff xs ys r h
   rule_iff (Name n p rest) (Vacant y other) r h = absurd h
   rule_iff (Name n p rest) (Held y other) r h = absurd h
   rule_iff (Name n p rest) (Mapped b u other) r h = absurd h
-  rule_iff (Name n p rest) (Does ys b) r h = absurd h
+  rule_iff (Name n p rest) (Does ys z b) r h = absurd h
   rule_iff (Vacant x rest) (Name m q other) r h = absurd h
   rule_iff (Vacant x rest) (Held y other) r h = absurd h
   rule_iff (Vacant x rest) (Mapped b u other) r h = absurd h
-  rule_iff (Vacant x rest) (Does ys b) r h = absurd h
+  rule_iff (Vacant x rest) (Does ys z b) r h = absurd h
   rule_iff (Held x rest) (Name m q other) r h = absurd h
   rule_iff (Held x rest) (Vacant y other) r h = absurd h
   rule_iff (Held x rest) (Mapped b u other) r h = absurd h
-  rule_iff (Held x rest) (Does ys b) r h = absurd h
+  rule_iff (Held x rest) (Does ys z b) r h = absurd h
   rule_iff (Mapped a v rest) (Name m q other) r h = absurd h
   rule_iff (Mapped a v rest) (Vacant y other) r h = absurd h
   rule_iff (Mapped a v rest) (Held y other) r h = absurd h
-  rule_iff (Mapped a v rest) (Does ys b) r h = absurd h
-  rule_iff (Does xs a) (Name m q other) r h = absurd h
-  rule_iff (Does xs a) (Vacant y other) r h = absurd h
-  rule_iff (Does xs a) (Held y other) r h = absurd h
-  rule_iff (Does xs a) (Mapped b u other) r h = absurd h
+  rule_iff (Mapped a v rest) (Does ys z b) r h = absurd h
+  rule_iff (Does xs z a) (Name m q other) r h = absurd h
+  rule_iff (Does xs z a) (Vacant y other) r h = absurd h
+  rule_iff (Does xs z a) (Held y other) r h = absurd h
+  rule_iff (Does xs z a) (Mapped b u other) r h = absurd h

@@ -24,6 +24,8 @@ use Rattle.scan_invariant.specs.step_ways.proofs.Loads.{OnlyLooks, call_is, core
 use Rattle.scan_invariant.specs.step_ways.proofs.Refusals.{not_spent}
 use Rattle.scan_invariant.specs.count_invariant.proofs.Acquiring.{plan_leads, goes_by}
 use Rattle.scan_invariant.specs.count_invariant.proofs.MakingCounts.{argument_footprint}
+use Rattle.scan_invariant.specs.kernel_rules.specs.Rules.{does}
+use Rattle.scan_invariant.specs.spk_nums.specs.declared.replies.Value.TheVariants.{Nothing as no_value}
 
 -- The call that makes a frame untyped.
 pub record IsUntype (call : Call) (ks : List Capability) (f : ℕ) : Type 0 where
@@ -151,7 +153,7 @@ module _ (setup : Setting) (setting : IsSetting setup) (cores : ℕ → Core) (t
       ∷ []
 
   abbrev pub change : Change
-  change = retypes s f kind.Untyped
+  change = does c s no_value (retypes f kind.Untyped ∷ [])
 
   pub left : rule_after (rule_of s c a.call) a.found ≡ Does causes change
   left = ap (λ x. rule_after (rule_of s c x) a.found) is.call_is

@@ -8,7 +8,7 @@ use Rattle.count_invariant.proofs.Common.{Held, Closing, EntryFits, Word, EntryA
 use Rattle.count_invariant.proofs.Common.{Move, LoadOf, word_of, told_of, PlaceOf, NumberOf, State, Holds, put, thread_in}
 use Rattle.count_invariant.proofs.Common.{comp_in, first_of_stack, thread_of, comp_of, Slot, root_at, Target, Under, place_at, usable_in}
 use Rattle.count_invariant.proofs.Common.{usable, linked, slot_in, root_slot, reached, holds_link, held_in, refs, sum_below, Relies}
-use Rattle.count_invariant.proofs.Common.{Refused, Found, IsFoundAnd, outcome, RuleMay, answers, translation_of, rule_of, change_of}
+use Rattle.count_invariant.proofs.Common.{Refused, Found, IsFoundAnd, outcome, RuleMay, translation_of, rule_of, change_of}
 use Rattle.count_invariant.proofs.Common.{changed, counted, begins, ends, flushes, MayReply, opened, core_same_refs, sum_one}
 use Rattle.count_invariant.proofs.Common.{put_same, put_other, events_of, is_one_of, frames_own, footprint_frames, is_slot_in, HasReached}
 use Rattle.count_invariant.proofs.Common.{IsJustified, marked_by, ends_in, flushes_in, stamp, Step, Trace, Open, phase, state_after}
@@ -60,6 +60,8 @@ use Rattle.page_invariant.proofs.TouchCalls.{empty_first, cached_first, mapped_i
 use Rattle.count_invariant.specs.act_states.specs.Touches.{touched}
 use Rattle.kernel_laws.specs.kernel_rules.specs.CallRelation.{begins_in as begins_in_of_callrelation}
 use Rattle.kernel_laws.specs.spk_nums.specs.Limits.{end_of_arg}
+use Rattle.kernel_laws.specs.kernel_rules.specs.Edits.{Cache as cache_edit}
+use Rattle.kernel_laws.specs.kernel_rules.specs.Rules.{does}
 
 -- What a touch takes from the load of its look-up, where this translation is cached or none.
 abbrev touched_at : Touching → Look → Option Translation → ℕ → WorkStep
@@ -158,7 +160,7 @@ module _ (setup : Setting) (setting : IsSetting setup) (cores : ℕ → Core) (t
 
   -- A translation that is cached is answered.
   module _ (item : Translation) (cached : m.cached ≡ Some item) (within : m.page ≤ 4095) where
-    answers_it : change_of s c a.call ≡ Found (answers s (translated item))
+    answers_it : change_of s c a.call ≡ Found (does c s (translated item) [])
     answers_it = ap (outcome s c) (rule_is (Some item) cached) ∙ cached_first s c m.pages m.page item (le-ltb 4095 m.page within)
 
     answered_may : MayReply s c a.call (reply.Ok (translated item))
@@ -355,7 +357,7 @@ module _ (setup : Setting) (setting : IsSetting setup) (cores : ℕ → Core) (t
         found_it : mapped s c m.pages m.page ≡ Found k
         found_it = mapped_is s c m.pages m.page slot k past reaches holds_it
 
-        caches_it : change_of s c a.call ≡ Found (caches s c item)
+        caches_it : change_of s c a.call ≡ Found (does c s (translated item) (cache_edit item ∷ []))
         caches_it = ap (outcome s c) (rule_is None none) ∙ mapped_first s c m.pages m.page k found_it
 
         abbrev more : CoreFields

@@ -59,6 +59,8 @@ use Rattle.count_invariant.specs.step_ways.proofs.Refusals.{GoodTook, ticks_at, 
 use Rattle.count_invariant.proofs.Lookups.{slot_right, slot_one, footprint_way}
 use Rattle.count_invariant.proofs.Findings.{own_is, found_named, way_gone}
 use Rattle.count_invariant.proofs.Next.{Rest, ANameLeft, NoneLeft, rest_of, next_name}
+use Rattle.kernel_laws.specs.kernel_rules.specs.Edits.{Fill as fill_edit}
+use Rattle.kernel_laws.specs.kernel_rules.specs.Rules.{does}
 
 -- What a call puts at its target: what is left of its rule after its names fills the target with k, where no own cause stands, and it
 -- changes
@@ -66,7 +68,7 @@ use Rattle.count_invariant.proofs.Next.{Rest, ANameLeft, NoneLeft, rest_of, next
 record Puts (s : State) (c : ℕ) (call : Call) (ks : List Capability) (target : Target) (k : Capability) : Type 0 where
   causes : List Cause
   calm : first_cause s c causes ≡ None
-  rule : rule_after (rule_of s c call) ks ≡ to_be_free target (λ at. Does causes (fills s at k))
+  rule : rule_after (rule_of s c call) ks ≡ to_be_free target (λ at. Does causes Nothing (fill_edit at k ∷ []))
   places : changes_places call ≡ true
   ends : (x : Thing) → ends_by call x ≡ false
   flushes : flushes_by call ≡ false
@@ -75,12 +77,12 @@ record Puts (s : State) (c : ℕ) (call : Call) (ks : List Capability) (target :
 puts_it : (s : State) (c : ℕ) (target : Target) (k : Capability) (causes : List Cause) → first_cause s c causes ≡ None → (at : Slot)
     → reached s c target ≡ Some at
     → not_vacant s c (PlaceOf at.node at.index) (place_at s at) ≡ None
-    → outcome s c (to_be_free target (λ at. Does causes (fills s at k))) ≡ Found (fills s at k)
+    → outcome s c (to_be_free target (λ at. Does causes Nothing (fill_edit at k ∷ []))) ≡ Found (does c s Nothing (fill_edit at k ∷ []))
 puts_it s c target k causes calm at reached_at free =
-    ap (λ x. and_then x λ at. outcome s c (Does causes (fills s at k)))
+    ap (λ x. and_then x λ at. outcome s c (Does causes Nothing (fill_edit at k ∷ [])))
     (ap (λ o. and_then (or_refuse o reply.NoSlot) λ at. unless (not_vacant s c (PlaceOf at.node at.index) (place_at s at)) at) reached_at
     ∙ ap (λ o. unless o at) free)
-    ∙ ap (λ o. unless o (fills s at k)) calm
+    ∙ ap (λ o. unless o (does c s Nothing (fill_edit at k ∷ []))) calm
 
 -- A word that says that it is free is that of a free place.
 free_place : (n : ℕ) (p : Place) (r : ℕ) (o : Option Entry) → PlaceIs n p r o → o ≡ Some Free → p ≡ Vacant
@@ -243,7 +245,7 @@ module _ (setup : Setting) (setting : IsSetting setup) (cores : ℕ → Core) (t
     empty : IsVacant s c node index
     empty = vacant_by setup t c node index (ap (λ l. l.cores) (limits_of setup t)) setup.frames (entry_of_word was) unmarked.says may
 
-    change : change_of s c a.call ≡ Found (fills s slot k)
+    change : change_of s c a.call ≡ Found (does c s Nothing (fill_edit slot k ∷ []))
     change = outcome_left s c (own_pages s c) a.plan (rule_of s c a.call) a.found goes_by leads ∙ ap (outcome s c) puts.rule
         ∙ puts_it s c has.knows.knows.target k puts.causes puts.calm slot has.knows.knows.way.reached empty.vacant
 

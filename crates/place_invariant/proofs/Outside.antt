@@ -5,7 +5,7 @@ use Rattle.count_invariant.proofs.Common.{IsSetting, Call, Map, Make, Reply, ent
 use Rattle.count_invariant.proofs.Common.{PlaceOf, Kernel, Leaf, Slot, Target, Under, found, place_at, reached, page_cap, slot_relies}
 use Rattle.count_invariant.proofs.Common.{Cause, Change, Vacant, Does, RuleMay, Refused, Found, and_then, or_refuse, unless}
 use Rattle.count_invariant.proofs.Common.{first_of, first_cause, vacant, not_vacant, outcome, is_node, has_frame, outside, not_blank}
-use Rattle.count_invariant.proofs.Common.{makes, makes_comp, rule_of, change_of, IsAlone, Trace, Open, state_after, last_left}
+use Rattle.count_invariant.proofs.Common.{rule_of, change_of, IsAlone, Trace, Open, state_after, last_left}
 use Rattle.count_invariant.proofs.Common.{own_read, not_changed, Plan, plan_for, GoesBy, own_pages, Leads, LeadsIn, rule_after}
 use Rattle.count_invariant.proofs.Common.{names_after, NextName, NextFree, next_of, left_may, outcome_left, NewObject, object_kind}
 use Rattle.count_invariant.proofs.Common.{object_made, ActiveCall, Core, IsSpot, MayFill, NamesAre, phase_at, Invariant, limits_of}
@@ -23,6 +23,9 @@ use Rattle.count_invariant.proofs.Next.{Rest, ANameLeft, NoneLeft, rest_of, next
 use Rattle.place_invariant.proofs.ObjectMakes.{new_object, readied, make_rest, IsObjectMake, object_make}
 use Rattle.place_invariant.proofs.Starts.{IsRefusedOutside}
 use Rattle.place_invariant.proofs.Vacancy.{in_leaf, IsVacant, vacant_by}
+use Rattle.kernel_laws.specs.kernel_rules.specs.Edits.{Component as component_edit, Fill as fill_edit}
+use Rattle.kernel_laws.specs.kernel_rules.specs.Rules.{does}
+use Rattle.kernel_laws.specs.spk_nums.specs.declared.replies.Value.TheVariants.{Nothing as no_value}
 
 -- A slot that is reached and vacant.
 pub vacant_slot : (s : State) (c : ℕ) (target : Target) (at : Slot) → reached s c target ≡ Some at
@@ -131,7 +134,7 @@ comp_refusable s c (make_call (make_of.Comp x p live) r f u b) (range ∷ second
       range = make.range;
       frame = f;
       causes = not_blank s f ∷ not_taken s live;
-      change = λ at. makes_comp s f (new_comp s make.table.frame make.pages.frame live) at;
+      change = λ at. does c s no_value (component_edit f (new_comp s make.table.frame make.pages.frame live) ∷ fill_edit at (plain_cap kind.Comp f) ∷ []);
       rule = make.rule ∙ ap (λ to. comp_rest s make.range f make.table.frame make.pages.frame live to)
           (target_in _ _ (sym make.next ∙ next));
       is_outside = ap (λ (k : Capability). has_frame (found k) f) (first_same _ _ _ _ (sym make.found_is)) ∙ out;
@@ -158,7 +161,7 @@ refusable s c (Map p v r f w) (k ∷ j ∷ []) target out leads next =
       range = j;
       frame = f;
       causes = not_user s f ∷ [];
-      change = λ at. fills s at (page_cap f w);
+      change = λ at. does c s no_value (fill_edit at (page_cap f w) ∷ []);
       rule = refl;
       is_outside = out;
     })

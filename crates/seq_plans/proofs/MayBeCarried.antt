@@ -306,7 +306,7 @@ pub judged_alike : (s : State) (c : ℕ) (call : Call) (l : Looked) → IsInRang
 judged_alike s c (Retype r f frame_kind.Untyped) l ends is = by_frame (nat_lt f s.limits.frames) refl
   where
     by_frame : (b : Bool) → nat_lt f s.limits.frames ≡ b
-        → first_cause s c (causes_of (left_of (if b then retype_rule s r f frame_kind.Untyped else retype_beyond s r f) l))
+        → first_cause s c (causes_of (left_of (if b then retype_rule s r f frame_kind.Untyped else retype_beyond r f) l))
         ≡ first_cause s c (causes_of (left_of (retype_rule s r f frame_kind.Untyped) l))
     by_frame true within = refl
     by_frame false past =

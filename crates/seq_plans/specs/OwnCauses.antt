@@ -45,11 +45,11 @@ AreFitCauses [] = Unit {0}
 AreFitCauses (cause ∷ causes) = IsFitCause cause × AreFitCauses causes
 
 -- A retype to untyped of a frame that the machine does not have is judged by its range alone.
-abbrev pub retype_beyond : State → ℕ → ℕ → Rule
-retype_beyond s r f = Name r (to_use (only kind.Range)) λ range. Does (outside range f ∷ []) Nothing (Untype f ∷ [])
+abbrev pub retype_beyond : ℕ → ℕ → Rule
+retype_beyond r f = Name r (to_use (only kind.Range)) λ range. Does (outside range f ∷ []) Nothing (Untype f ∷ [])
 
 -- The rule of a call of core c as it is judged.
 abbrev pub judged_rule : State → ℕ → Call → Rule
 judged_rule s c (Retype r f frame_kind.Untyped) =
-    if nat_lt f s.limits.frames then retype_rule s r f frame_kind.Untyped else retype_beyond s r f
+    if nat_lt f s.limits.frames then retype_rule s r f frame_kind.Untyped else retype_beyond r f
 judged_rule s c call = rule_of s c call

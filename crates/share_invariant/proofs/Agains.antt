@@ -3,7 +3,7 @@ use Rattle.pair_invariant.proofs.Common.{◌≡◌, inl, inr, ℕ, ◌<◌, ◌�
 use Rattle.pair_invariant.proofs.Common.{[], ◌∷◌, length, Option, Some, None, arith, refl, sym, ◌∙◌, ap, subst, eq-eqb, eqb-true}
 use Rattle.pair_invariant.proofs.Common.{eqb-false, le-ltb, leb-false, lt-ltb, Setting, IsSetting, Reply, Value, word_of_head, Word}
 use Rattle.pair_invariant.proofs.Common.{EntryAt, LoadOf, State, Found, Refused, Does, RuleMay, IsFoundAnd, unless, first_of, first_cause}
-use Rattle.pair_invariant.proofs.Common.{answers, tcap_at, is_short, are_unlike, are_many, rule_of, change_of, changed, counted, MayReply}
+use Rattle.pair_invariant.proofs.Common.{tcap_at, is_short, are_unlike, are_many, rule_of, change_of, changed, counted, MayReply}
 use Rattle.pair_invariant.proofs.Common.{are_calls_spent, HasRacedHead, IsRaceLost, Step, Trace, state_after, last_left, ok_first}
 use Rattle.pair_invariant.proofs.Common.{refused_first, not_changed, in_order, same_list, again_end, by_alike, by_room, judged, Pair}
 use Rattle.pair_invariant.proofs.Common.{CompareB, AgainB, StoreA, PairWork, Act, took_shared, took_share, Undecided, ActiveCall, landed}
@@ -28,6 +28,7 @@ use Rattle.pair_invariant.proofs.ListsKnown.{AreRead, same_alike, all_gone}
 use Rattle.pair_invariant.proofs.ShareCalls as calls
 use Rattle.pair_invariant.proofs.ShareCalls.{causes_of, change_by}
 use Rattle.pair_invariant.proofs.ShareSteps.{loading, load_decides}
+use Rattle.pair_invariant.specs.kernel_rules.specs.Rules.{does}
 
 -- A list that has no room is one of more than 8.
 no_room : (xs : List (ℕ × ℕ)) → merged_if (nat_le (length xs) 8) xs ≡ None → nat_lt 8 (length xs) ≡ true
@@ -247,11 +248,11 @@ module _ (setup : Setting) (setting : IsSetting setup) (cores : ℕ → Core) (t
       no_cause = ap (λ b. first_of (if b then Some reply.Same else None) None)
           (calls.not_same setup setting cores t stands c here a active now_p stage_is has)
 
-      change_is : change_of s c a.call ≡ Found (answers s v)
+      change_is : change_of s c a.call ≡ Found (does c s v [])
       change_is = calls.change_is setup setting cores t stands c here a active now_p stage_is has
           ∙ ap (λ w. unless (first_cause s c (causes_of s w (named_by is.a) (named_by is.b))) (change_by s w is.a.frame is.b.frame)) what_is
           ∙ ap (λ o. unless o (change_by s Test is.a.frame is.b.frame)) no_cause
-          ∙ ap (λ b. Found (answers s (preemption b))) (sym tells_is)
+          ∙ ap (λ b. Found (does c s (preemption b) [])) (sym tells_is)
 
       permitted : MayReply s c a.call (reply.Ok v)
       permitted = (unspent, (has.acts, subst (λ x. IsFoundAnd x (λ y. y.value ≡ v)) (sym change_is) refl))

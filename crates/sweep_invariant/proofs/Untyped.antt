@@ -65,6 +65,8 @@ use Rattle.sweep_invariant.proofs.FreeEntries.{counts_entry, entry_unmarked, no_
 use Rattle.sweep_invariant.proofs.OwnedFrames.{Differ, OwnedApart, names_differ, owned_apart}
 use Rattle.freeze_invariant.proofs.UntypeCalls as calls
 use Rattle.freeze_invariant.proofs.UntypeCalls.{typed_is}
+use Rattle.freeze_invariant.specs.kernel_rules.specs.Rules.{does}
+use Rattle.freeze_invariant.specs.spk_nums.specs.declared.replies.Value.TheVariants.{Nothing as no_value}
 
 -- A count that falls by one.
 one_less : (m n : ℕ) → n + 1 ≡ m → pos n ≡ pos m +ℤ negsuc 0
@@ -196,7 +198,7 @@ module _ (setup : Setting) (setting : IsSetting setup) (cores : ℕ → Core) (t
 
   -- the change
   abbrev change : Change
-  change = retypes s f kind.Untyped
+  change = does c s no_value (retypes f kind.Untyped ∷ [])
 
   is_change : change_of s c a.call ≡ Found change
   is_change = calls.by_causes setup setting cores t stands c here a active m stage_is has None None None None None

@@ -27,6 +27,9 @@ use Rattle.thread_invariant.specs.count_invariant.proofs.Acquiring.{plan_leads, 
 use Rattle.thread_invariant.specs.count_invariant.proofs.SwitchCounts.{IsSwitch, switch_of, thread_kind, thread_footprint, old_footprint}
 use Rattle.thread_invariant.specs.live_invariant.proofs.Numbers.{one_of_many}
 use Rattle.switch_invariant.proofs.ThreadWords.{thread_is}
+use Rattle.thread_invariant.specs.kernel_rules.specs.Edits.{Switch as switch_edit}
+use Rattle.thread_invariant.specs.kernel_rules.specs.Rules.{does}
+use Rattle.thread_invariant.specs.spk_nums.specs.declared.replies.Value.TheVariants.{Nothing as no_value}
 
 -- The thread to which its first name has led is one of the frames that the call is about.
 thread_about : (s : State) (c : ℕ) (call : Call) (ks : List Capability) (f q : ℕ)
@@ -135,7 +138,7 @@ module _ (setup : Setting) (setting : IsSetting setup) (cores : ℕ → Core) (t
       (sym is_switch.thread_is)
 
   abbrev pub outcome_by : Option ℕ → Judged Change
-  outcome_by None = Found (switches (state_after setup t) c ((state_after setup t).core c) is_switch.thread.frame is_switch.tcap.frame)
+  outcome_by None = Found (does c (state_after setup t) no_value (switch_edit is_switch.thread.frame is_switch.tcap.frame ∷ []))
   outcome_by (Some e) = Refused (reply.Running e)
 
   pub by_runs : (o : Option ℕ) → (thread_in ((state_after setup t).frame (claimed_by m.at))).runs_on ≡ o

@@ -65,6 +65,9 @@ use Rattle.switch_invariant.proofs.Words.{marked_says}
 use Rattle.thread_invariant.specs.act_states.specs.Switches.{SwitchAtFits}
 use Rattle.thread_invariant.specs.kernel_rules.specs.Access.{Want, own as own_of_access}
 use Rattle.thread_invariant.specs.spk_nums.specs.declared.calls.Call.TheVariants.{Switch as CallSwitch}
+use Rattle.thread_invariant.specs.kernel_rules.specs.Edits.{Switch as switch_edit}
+use Rattle.thread_invariant.specs.kernel_rules.specs.Rules.{does}
+use Rattle.thread_invariant.specs.spk_nums.specs.declared.replies.Value.TheVariants.{Nothing as no_value}
 
 comp_no_thread : (k : CompFields) (u : ThreadFields) → Kernel (Comp k) ≡ Kernel (Thread u) → ⊥
 comp_no_thread k u h = cc
@@ -170,13 +173,13 @@ module _ (setup : Setting) (setting : IsSetting setup) (cores : ℕ → Core) (t
       }
 
   -- its change
-  changes_so : change_of s c a.call ≡ Found (switches s c (s.core c) to.thread m.tcap)
+  changes_so : change_of s c a.call ≡ Found (does c s no_value (switch_edit to.thread m.tcap ∷ []))
   changes_so =
       let call = calls.is_switch setup setting cores t stands c here a active m stage_is has in
       calls.by_runs setup setting cores t stands c here a active m stage_is has None
       (ap (λ (g : ℕ). (thread_in (s.frame g)).runs_on) claimed_is ∙ runs_none)
-      ∙ ap (λ (g : ℕ). Found (switches s c (s.core c) g call.tcap.frame)) (sym call.thread_is ∙ claimed_is)
-      ∙ ap (λ (g : ℕ). Found (switches s c (s.core c) to.thread g)) (sym call.tcap_is)
+      ∙ ap (λ (g : ℕ). Found (does c s no_value (switch_edit g call.tcap.frame ∷ []))) (sym call.thread_is ∙ claimed_is)
+      ∙ ap (λ (g : ℕ). Found (does c s no_value (switch_edit to.thread g ∷ []))) (sym call.tcap_is)
 
   abbrev same_tcap : Bool
   same_tcap = m.tcap == (s.core c).tcap
@@ -458,9 +461,9 @@ module _ (setup : Setting) (setting : IsSetting setup) (cores : ℕ → Core) (t
   balance g = ap (λ y. refs y g + times g (releases same_tcap (s.core c).thread (s.core c).tcap)) now
       ∙ by same_tcap (by_rule g)
     where
-      by_rule : (g : ℕ) → refs (switches s c (s.core c) to.thread m.tcap).next
-          g + times g (released (switches s c (s.core c) to.thread m.tcap).begins)
-          ≡ refs s g + times g (switches s c (s.core c) to.thread m.tcap).takes
+      by_rule : (g : ℕ) → refs (edited c s (switch_edit to.thread m.tcap))
+          g + times g (released (does c s no_value (switch_edit to.thread m.tcap ∷ [])).begins)
+          ≡ refs s g + times g (does c s no_value (switch_edit to.thread m.tcap ∷ [])).takes
       by_rule = subst (λ z. IfFound z (RefsBy s)) changes_so
           (outcome_from (RefsBy s) s c (rule_of s c a.call)
           (rule_refs s (opened (events_of t)) c
@@ -470,18 +473,18 @@ module _ (setup : Setting) (setting : IsSetting setup) (cores : ℕ → Core) (t
           }) a.call
           (subst (λ z. InLimits z) (sym call_so) tt)))
 
-      by : (b : Bool) → refs (switches s c (s.core c) to.thread m.tcap).next g + times
+      by : (b : Bool) → refs (edited c s (switch_edit to.thread m.tcap)) g + times
           g (released (frames_of (releases b (s.core c).thread (s.core c).tcap)))
           ≡ refs s g + times g (takes b to.thread m.tcap)
           → refs (switched_to s c to.thread m.tcap graces) g + times g (releases b (s.core c).thread (s.core c).tcap)
           ≡ refs s g + times g (takes b to.thread m.tcap)
       by true moved =
-          let one = counted_refs (begun s things (switches s c (s.core c) to.thread m.tcap).next) c g in
-          let two = grace_refs (switches s c (s.core c) to.thread m.tcap).next graces g in
+          let one = counted_refs (begun s things (edited c s (switch_edit to.thread m.tcap))) c g in
+          let two = grace_refs (edited c s (switch_edit to.thread m.tcap)) graces g in
           omega (arith, moved, one, two)
       by false moved =
-          let one = counted_refs (begun s things (switches s c (s.core c) to.thread m.tcap).next) c g in
-          let two = grace_refs (switches s c (s.core c) to.thread m.tcap).next graces g in
+          let one = counted_refs (begun s things (edited c s (switch_edit to.thread m.tcap))) c g in
+          let two = grace_refs (edited c s (switch_edit to.thread m.tcap)) graces g in
           omega (arith, moved, one, two)
 
   past : (g : ℕ) → stamp setup t (FrameOf g) < x

@@ -3,7 +3,7 @@ use Rattle.comp_invariant.proofs.Common.{◌≡◌, ℕ, nat_le, nat_lt, ◌&&�
 use Rattle.comp_invariant.proofs.Common.{None, refl, sym, ◌∙◌, ap, subst, leb-false, lt-ltb, Capability, Call, Copy, Remove, Shrink}
 use Rattle.comp_invariant.proofs.Common.{Unmap, Retype, Tick, Gate, Kill, Grow, Flush, Map, Touch, Ret, Transfer, Delegate, Test, Switch}
 use Rattle.comp_invariant.proofs.Common.{Make, State, Thing, Holds, PlaceOf, Slot, Named, found, place_at, held_in, reached, own, InRoot}
-use Rattle.comp_invariant.proofs.Common.{Refused, IsFoundAnd, Does, outcome, answers, and_then, or_refuse, unless, not_vacant, named}
+use Rattle.comp_invariant.proofs.Common.{Refused, IsFoundAnd, Does, outcome, and_then, or_refuse, unless, not_vacant, named}
 use Rattle.comp_invariant.proofs.Common.{vacant, change_of, changed, counted, begins_in, some_inj, First, Second, Name, Spot, Nowhere}
 use Rattle.comp_invariant.proofs.Common.{plan_for, names_after, removes_by, act_begun, Own, to_look}
 use Rattle.comp_invariant.specs.spk_nums.specs.declared.calls.Call.TheVariants.{Look as look_call}
@@ -24,6 +24,7 @@ use Rattle.comp_invariant.specs.call_plans.specs.declared.plans.Target.TheVarian
 use Rattle.comp_invariant.specs.call_plans.specs.Plans.{head}
 use Rattle.comp_invariant.specs.call_plans.specs.PlanOf.{plan_of_make}
 use Rattle.comp_invariant.specs.act_states.specs.Acts.{removes_at}
+use Rattle.comp_invariant.specs.kernel_rules.specs.Rules.{does}
 
 -- A target is refused where it has no slot, and one that is to be free where it is held.
 pub vacant_no_slot : (s : State) (c : ℕ) (target : place) → reached s c target ≡ None → vacant s c target ≡ Refused reply.NoSlot
@@ -213,8 +214,8 @@ begins_removal own (Switch x y) spot to ks = absurd (not_held to)
 
 -- A look that has found its capability answers it.
 module _ (s : State) (c a : ℕ) (k : Capability) (is : named s c a (to_look any) ≡ Found_it k) where
-  pub look_change : change_of s c (look_call a) ≡ Found_it (answers s (Cap k))
-  look_change = ap (λ x. and_then x λ k. outcome s c (Does [] (answers s (Cap (capability (found k)))))) is
+  pub look_change : change_of s c (look_call a) ≡ Found_it (does c s (Cap k) [])
+  look_change = ap (λ x. and_then x λ k. outcome s c (Does [] (Cap (capability (found k))) [])) is
 
   pub look_state : counted (changed s (change_of s c (look_call a))) c ≡ counted s c
   look_state = ap (λ x. counted (changed s x) c) look_change
