@@ -155,11 +155,11 @@ module _ (setup : Setting) (setting : IsSetting setup) (cores : ℕ → Core) (t
   abbrev pub change : Change
   change = does c s no_value (retypes f kind.Untyped ∷ [])
 
-  pub left : rule_after (rule_of s c a.call) a.found ≡ Does causes change
+  pub left : rule_after (rule_of s c a.call) a.found ≡ Does causes no_value (retypes f kind.Untyped ∷ [])
   left = ap (λ x. rule_after (rule_of s c x) a.found) is.call_is
       ∙ ap (rule_after (rule_of s c (Retype is.name f kind.Untyped))) is.found_is
 
-  pub may_refuse : (r : Reply) → RuleMay s c (Does causes value edits) r → RuleMay s c (rule_of s c a.call) r
+  pub may_refuse : (r : Reply) → RuleMay s c (Does causes no_value (retypes f kind.Untyped ∷ [])) r → RuleMay s c (rule_of s c a.call) r
   may_refuse r may = left_may s c (own_pages s c) a.plan (rule_of s c a.call) a.found by_plan leads r
       (subst (λ x. RuleMay s c x r) (sym left) may)
 

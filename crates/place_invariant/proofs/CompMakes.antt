@@ -10,6 +10,7 @@ use Rattle.kernel_laws.specs.spk_nums.specs.declared.calls.Make.TheVariants as m
 use Rattle.kernel_laws.specs.kernel_rules.specs.CapabilityCalls.{not_taken}
 use Rattle.kernel_laws.specs.kernel_rules.specs.Edits.{Component as component_edit, Fill as fill_edit}
 use Rattle.kernel_laws.specs.spk_nums.specs.declared.replies.Value.TheVariants.{Nothing as no_value}
+use Rattle.kernel_laws.specs.kernel_rules.specs.Start.{plain_cap}
 
 -- What the component has.
 abbrev pub new_comp : State → ℕ → ℕ → ℕ → CompFields

@@ -20,12 +20,15 @@ use Rattle.count_invariant.specs.step_ways.proofs.Loads.{step_to, call_is, is_ac
 use Rattle.count_invariant.specs.step_ways.proofs.Places.{IsMarked, IsUnmarked, place_reads}
 use Rattle.count_invariant.proofs.Acquiring.{plan_leads, goes_by}
 use Rattle.count_invariant.proofs.Next.{Rest, ANameLeft, NoneLeft, rest_of, next_name}
-use Rattle.place_invariant.proofs.ObjectMakes.{new_object, readied, make_rest, IsObjectMake, object_make}
+use Rattle.place_invariant.proofs.ObjectMakes.{new_object, made_by, readied, make_rest, IsObjectMake, object_make}
 use Rattle.place_invariant.proofs.Starts.{IsRefusedOutside}
 use Rattle.place_invariant.proofs.Vacancy.{in_leaf, IsVacant, vacant_by}
 use Rattle.kernel_laws.specs.kernel_rules.specs.Edits.{Component as component_edit, Fill as fill_edit}
 use Rattle.kernel_laws.specs.kernel_rules.specs.Rules.{does}
 use Rattle.kernel_laws.specs.spk_nums.specs.declared.replies.Value.TheVariants.{Nothing as no_value}
+use Rattle.kernel_laws.specs.spk_nums.specs.declared.kinds.Kind.TheVariants as kind
+use Rattle.kernel_laws.specs.kernel_rules.specs.Start.{plain_cap}
+use Rattle.kernel_laws.specs.kernel_rules.specs.Edits.{Edit}
 
 -- A slot that is reached and vacant.
 pub vacant_slot : (s : State) (c : ℕ) (target : Target) (at : Slot) → reached s c target ≡ Some at
@@ -91,8 +94,8 @@ record IsRefusable (s : State) (c : ℕ) (call : Call) (ks : List Capability) (t
   range : Capability
   frame : ℕ
   causes : List Cause
-  change : Slot → Change
-  rule : rule_after (rule_of s c call) ks ≡ Vacant target (λ at. Does (outside (found range) frame ∷ causes) (change at))
+  edits : Slot → List Edit
+  rule : rule_after (rule_of s c call) ks ≡ Vacant target (λ at. Does (outside (found range) frame ∷ causes) no_value (edits at))
   is_outside : has_frame (found range) frame ≡ false
 
 target_in : (p q : Target) → NextFree p ≡ NextFree q → p ≡ q
@@ -113,7 +116,7 @@ made_refusable s c call ks target is leads next =
       range = make.two.range;
       frame = is.frame;
       causes = not_blank s is.frame ∷ [];
-      change = λ at. makes (readied is.object s is.frame) is.frame (new_object is.object) (object_kind is.object) at;
+      edits = λ at. made_by is.object is.frame ∷ fill_edit at (plain_cap (object_kind is.object) is.frame) ∷ [];
       rule = ap (λ x. rule_after (rule_of s c x) ks) call_is ∙ make.rule
           ∙ ap (λ x. make_rest s make.two.range is.frame is.object x) to;
       is_outside = ap (λ (k : Capability). has_frame (found k) is.frame) (first_same _ _ _ _ (sym make.two.found_is ∙ is.found_is))
@@ -134,7 +137,8 @@ comp_refusable s c (make_call (make_of.Comp x p live) r f u b) (range ∷ second
       range = make.range;
       frame = f;
       causes = not_blank s f ∷ not_taken s live;
-      change = λ at. does c s no_value (component_edit f (new_comp s make.table.frame make.pages.frame live) ∷ fill_edit at (plain_cap kind.Comp f) ∷ []);
+      edits = λ at.
+          component_edit f (new_comp s make.table.frame make.pages.frame live) ∷ fill_edit at (plain_cap kind.Comp f) ∷ [];
       rule = make.rule ∙ ap (λ to. comp_rest s make.range f make.table.frame make.pages.frame live to)
           (target_in _ _ (sym make.next ∙ next));
       is_outside = ap (λ (k : Capability). has_frame (found k) f) (first_same _ _ _ _ (sym make.found_is)) ∙ out;
@@ -161,7 +165,7 @@ refusable s c (Map p v r f w) (k ∷ j ∷ []) target out leads next =
       range = j;
       frame = f;
       causes = not_user s f ∷ [];
-      change = λ at. does c s no_value (fill_edit at (page_cap f w) ∷ []);
+      edits = λ at. fill_edit at (page_cap f w) ∷ [];
       rule = refl;
       is_outside = out;
     })
@@ -204,10 +208,10 @@ module _ (setup : Setting) (setting : IsSetting setup) (cores : ℕ → Core) (t
   first alone =
       outcome_left s c (own_pages s c) a.plan (rule_of s c a.call) a.found by_plan leads ∙ ap (outcome s c) is.rule
       ∙ ap (λ x. and_then x λ at. unless (first_of (if not (has_frame (found is.range) is.frame) then Some reply.OutOfRange else None)
-      (first_cause s c is.causes)) (is.change at))
+      (first_cause s c is.causes)) (does c s no_value (is.edits at)))
       (vacant_slot s c target slot reaches (vacant_alone alone).vacant)
       ∙ ap (λ b. unless (first_of (if not b then Some reply.OutOfRange else None) (first_cause s c is.causes))
-      (is.change slot)) is.is_outside
+      (does c s no_value (is.edits slot))) is.is_outside
 
   pub refused_vacant : IsRefusedOutside setup t c a.call move
   refused_vacant = record {

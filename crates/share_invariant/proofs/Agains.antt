@@ -26,7 +26,7 @@ use Rattle.pair_invariant.proofs.HeadsB.{owes_share}
 use Rattle.pair_invariant.proofs.ListsKnown as known
 use Rattle.pair_invariant.proofs.ListsKnown.{AreRead, same_alike, all_gone}
 use Rattle.pair_invariant.proofs.ShareCalls as calls
-use Rattle.pair_invariant.proofs.ShareCalls.{causes_of, change_by}
+use Rattle.pair_invariant.proofs.ShareCalls.{causes_of, value_by, edits_by, change_by}
 use Rattle.pair_invariant.proofs.ShareSteps.{loading, load_decides}
 use Rattle.pair_invariant.specs.kernel_rules.specs.Rules.{does}
 
@@ -141,20 +141,20 @@ module _ (setup : Setting) (setting : IsSetting setup) (cores : ℕ → Core) (t
           ∙ le-ltb p.head_a.budget m (subst (λ w. amount_of w ≤ p.head_a.budget) what_is both.a.enough)
 
       may_unlike : RuleMay s c
-          (Does (causes_of s (Transfer m) (named_by is.a) (named_by is.b)) (change_by s (Transfer m) is.a.frame is.b.frame))
+          (Does (causes_of s (Transfer m) (named_by is.a) (named_by is.b)) (value_by s (Transfer m) is.a.frame is.b.frame) (edits_by s (Transfer m) is.a.frame is.b.frame))
           reply.Unlike
       may_unlike = inr (inr (inl (ap not unlike_named, refl)))
 
       first_unlike : unless (first_cause s c (causes_of s (Transfer m) (named_by is.a) (named_by is.b)))
-          (change_by s (Transfer m) is.a.frame is.b.frame) ≡ Refused reply.Unlike
+          (change_by c s (Transfer m) is.a.frame is.b.frame) ≡ Refused reply.Unlike
       first_unlike =
           ap (λ b. unless (first_of (if b then Some reply.Same else None)
           (first_cause s c (is_short s (named_by is.a) m ∷ are_unlike s (named_by is.a) (named_by is.b) ∷ [])))
-          (change_by s (Transfer m) is.a.frame is.b.frame))
+          (change_by c s (Transfer m) is.a.frame is.b.frame))
           (calls.not_same setup setting cores t stands c here a active now_p stage_is has)
           ∙ ap (λ b. unless (first_of (if b then Some (reply.Short (tcap_at s is.a.frame).budget) else None)
-          (first_cause s c (are_unlike s (named_by is.a) (named_by is.b) ∷ []))) (change_by s (Transfer m) is.a.frame is.b.frame)) not_short
-          ∙ ap (λ b. unless (first_of (if not b then Some reply.Unlike else None) None) (change_by s (Transfer m) is.a.frame is.b.frame))
+          (first_cause s c (are_unlike s (named_by is.a) (named_by is.b) ∷ []))) (change_by c s (Transfer m) is.a.frame is.b.frame)) not_short
+          ∙ ap (λ b. unless (first_of (if not b then Some reply.Unlike else None) None) (change_by c s (Transfer m) is.a.frame is.b.frame))
           unlike_named
 
       unlike_good : Decides value.Nothing reply.Unlike
@@ -165,12 +165,12 @@ module _ (setup : Setting) (setting : IsSetting setup) (cores : ℕ → Core) (t
             unspent,
             calls.may setup setting cores t stands c here a active now_p stage_is has reply.Unlike
                 (subst (λ w. RuleMay s c
-                (Does (causes_of s w (named_by is.a) (named_by is.b)) (change_by s w is.a.frame is.b.frame)) reply.Unlike)
+                (Does (causes_of s w (named_by is.a) (named_by is.b)) (value_by s w is.a.frame is.b.frame) (edits_by s w is.a.frame is.b.frame)) reply.Unlike)
                 (sym what_is) may_unlike),
           ) tt
           (λ is_alone. refused_first s c a.call reply.Unlike has.acts unspent
           (calls.change_is setup setting cores t stands c here a active now_p stage_is has
-          ∙ ap (λ w. unless (first_cause s c (causes_of s w (named_by is.a) (named_by is.b))) (change_by s w is.a.frame is.b.frame)) what_is
+          ∙ ap (λ w. unless (first_cause s c (causes_of s w (named_by is.a) (named_by is.b))) (change_by c s w is.a.frame is.b.frame)) what_is
           ∙ first_unlike)) lands
 
     -- a delegation of which the merged list has no room
@@ -191,21 +191,21 @@ module _ (setup : Setting) (setting : IsSetting setup) (cores : ℕ → Core) (t
           ∙ le-ltb p.head_a.budget m (subst (λ w. amount_of w ≤ p.head_a.budget) what_is both.a.enough)
 
       may_many : RuleMay s c
-          (Does (causes_of s (Delegate m) (named_by is.a) (named_by is.b)) (change_by s (Delegate m) is.a.frame is.b.frame))
+          (Does (causes_of s (Delegate m) (named_by is.a) (named_by is.b)) (value_by s (Delegate m) is.a.frame is.b.frame) (edits_by s (Delegate m) is.a.frame is.b.frame))
           reply.TooMany
       may_many = inr (inr (inl (many_named, refl)))
 
       first_many : unless (first_cause s c (causes_of s (Delegate m) (named_by is.a) (named_by is.b)))
-          (change_by s (Delegate m) is.a.frame is.b.frame) ≡ Refused reply.TooMany
+          (change_by c s (Delegate m) is.a.frame is.b.frame) ≡ Refused reply.TooMany
       first_many =
           ap (λ b. unless (first_of (if b then Some reply.Same else None)
           (first_cause s c (is_short s (named_by is.a) m ∷ are_many s (named_by is.a) (named_by is.b) ∷ [])))
-          (change_by s (Delegate m) is.a.frame is.b.frame))
+          (change_by c s (Delegate m) is.a.frame is.b.frame))
           (calls.not_same setup setting cores t stands c here a active now_p stage_is has)
           ∙ ap (λ b. unless (first_of (if b then Some (reply.Short (tcap_at s is.a.frame).budget) else None)
-          (first_cause s c (are_many s (named_by is.a) (named_by is.b) ∷ []))) (change_by s (Delegate m) is.a.frame is.b.frame)) is_enough
+          (first_cause s c (are_many s (named_by is.a) (named_by is.b) ∷ []))) (change_by c s (Delegate m) is.a.frame is.b.frame)) is_enough
           ∙ ap (λ b. unless (first_of (if b then Some reply.TooMany else None) None)
-          (change_by s (Delegate m) is.a.frame is.b.frame)) many_named
+          (change_by c s (Delegate m) is.a.frame is.b.frame)) many_named
 
       many_good : Decides value.Nothing reply.TooMany
       many_good lands =
@@ -214,13 +214,13 @@ module _ (setup : Setting) (setting : IsSetting setup) (cores : ℕ → Core) (t
           refl refl (λ x. refl) (λ x. refl) refl (
             unspent,
             calls.may setup setting cores t stands c here a active now_p stage_is has reply.TooMany
-                (subst (λ w. RuleMay s c (Does (causes_of s w (named_by is.a) (named_by is.b)) (change_by s w is.a.frame is.b.frame))
+                (subst (λ w. RuleMay s c (Does (causes_of s w (named_by is.a) (named_by is.b)) (value_by s w is.a.frame is.b.frame) (edits_by s w is.a.frame is.b.frame))
                 reply.TooMany)
                 (sym what_is) may_many),
           ) tt
           (λ is_alone. refused_first s c a.call reply.TooMany has.acts unspent
           (calls.change_is setup setting cores t stands c here a active now_p stage_is has
-          ∙ ap (λ w. unless (first_cause s c (causes_of s w (named_by is.a) (named_by is.b))) (change_by s w is.a.frame is.b.frame)) what_is
+          ∙ ap (λ w. unless (first_cause s c (causes_of s w (named_by is.a) (named_by is.b))) (change_by c s w is.a.frame is.b.frame)) what_is
           ∙ first_many)) lands
 
     -- a test is answered
@@ -250,8 +250,8 @@ module _ (setup : Setting) (setting : IsSetting setup) (cores : ℕ → Core) (t
 
       change_is : change_of s c a.call ≡ Found (does c s v [])
       change_is = calls.change_is setup setting cores t stands c here a active now_p stage_is has
-          ∙ ap (λ w. unless (first_cause s c (causes_of s w (named_by is.a) (named_by is.b))) (change_by s w is.a.frame is.b.frame)) what_is
-          ∙ ap (λ o. unless o (change_by s Test is.a.frame is.b.frame)) no_cause
+          ∙ ap (λ w. unless (first_cause s c (causes_of s w (named_by is.a) (named_by is.b))) (change_by c s w is.a.frame is.b.frame)) what_is
+          ∙ ap (λ o. unless o (change_by c s Test is.a.frame is.b.frame)) no_cause
           ∙ ap (λ b. Found (does c s (preemption b) [])) (sym tells_is)
 
       permitted : MayReply s c a.call (reply.Ok v)

@@ -5,7 +5,7 @@ use Rattle.pair_invariant.proofs.Common.{true, false, if◌then◌else◌, List,
 use Rattle.pair_invariant.proofs.Common.{sym, ◌∙◌, ap, subst, eq-eqb, eqb-true, le-leb, leb-true, le-ltb, Setting, IsSetting, HeadFits}
 use Rattle.pair_invariant.proofs.Common.{word_of_head, head_of_word, quality_of_word, HeadWord, spelling, Word, EntryAt, CountAt}
 use Rattle.pair_invariant.proofs.Common.{same_word, Move, CompareOf, left_of, same_same, Kernel, Tcap, TcapFields, PlaceOf, FrameOf}
-use Rattle.pair_invariant.proofs.Common.{State, put, tcap_in, Found, IsFoundAnd, unless, first_of, first_cause, leaves, tcap_at, moved}
+use Rattle.pair_invariant.proofs.Common.{State, put, tcap_in, Found, IsFoundAnd, unless, first_of, first_cause, tcap_at, moved}
 use Rattle.pair_invariant.proofs.Common.{is_short, are_many, change_of, changed, counted, MayReply, IsInFootprint, mark_of, head_mark}
 use Rattle.pair_invariant.proofs.Common.{marked_by, ends_in, flushes_in, stamp, Step, Trace, Open, phase, state_after, last_left}
 use Rattle.pair_invariant.proofs.Common.{state_decided_in, WasAt, ok_first, was_stays, cases_word, same_word-other, last_left-here}
@@ -52,6 +52,8 @@ use Rattle.pair_invariant.proofs.ShareCalls.{causes_of, change_by}
 use Rattle.pair_invariant.proofs.ShareSteps.{mark_is, list_bare, now_was}
 use Rattle.share_invariant.proofs.Turned as turned
 use Rattle.share_invariant.proofs.Turned.{IsTaken}
+use Rattle.pair_invariant.specs.kernel_rules.specs.Edits.{Move as move_edit, Merge as merge_edit}
+use Rattle.pair_invariant.specs.kernel_rules.specs.Rules.{does}
 
 -- A merged list that has room is kept, and has at most 8 pairs.
 kept_list : (xs ys zs : List (ℕ × ℕ)) → merge_of xs ys ≡ Some zs → (zs ≡ merged xs ys) × (length (merged xs ys) ≤ 8)
@@ -249,12 +251,12 @@ module _ (setup : Setting) (setting : IsSetting setup) (cores : ℕ → Core) (t
         not_short = ap (λ x. nat_lt (tcap_in x).budget m) tcap_a.is
             ∙ le-ltb qa.budget m (compared.enough setup setting cores t stands c here a active what_p stage_is has equal)
 
-    change_is : change_of s c a.call ≡ Found (leaves (with_qualities (moved s p.a p.b m) p.b (merged_list s p.a p.b)))
+    change_is : change_of s c a.call ≡ Found (does c s value.Nothing (move_edit p.a p.b m ∷ merge_edit p.b (merged_list s p.a p.b) ∷ []))
     change_is = calls.change_is setup setting cores t stands c here a active now_p stage_is has
-        ∙ ap (λ o. unless o (change_by s (Delegate m) is.a.frame is.b.frame)) no_cause
-        ∙ ap (λ (f : ℕ). Found (leaves (with_qualities (moved s f is.b.frame m) is.b.frame (merged_list s f is.b.frame))))
+        ∙ ap (λ o. unless o (change_by c s (Delegate m) is.a.frame is.b.frame)) no_cause
+        ∙ ap (λ (f : ℕ). Found (does c s value.Nothing (move_edit f is.b.frame m ∷ merge_edit is.b.frame (merged_list s f is.b.frame) ∷ [])))
         (sym is.shared.first)
-        ∙ ap (λ (f : ℕ). Found (leaves (with_qualities (moved s p.a f m) f (merged_list s p.a f)))) (sym is.shared.second)
+        ∙ ap (λ (f : ℕ). Found (does c s value.Nothing (move_edit p.a f m ∷ merge_edit f (merged_list s p.a f) ∷ []))) (sym is.shared.second)
 
     -- the state after it
     abbrev qa_less : TcapFields

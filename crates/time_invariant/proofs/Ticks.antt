@@ -48,6 +48,10 @@ use Rattle.step_ways.proofs.Writes.{same_marks, room_left}
 use Rattle.time_invariant.proofs.Budgets.{tcap_is, IsTcap, Numbers, numbers_of}
 use Rattle.time_invariant.proofs.TickCalls.{IsTick, tick_of, own_footprint, raced_head}
 
+-- The change of a tick of which so many ticks are charged.
+abbrev charges : State → ℕ → ℕ → ℕ → Change
+charges s c due charged = record { value = Amount charged; next = charging s c due charged; takes = []; begins = [] }
+
 -- A core that has counted one call more.
 abbrev one_more : CoreFields → CoreFields
 one_more k = record k { counted = k.counted + 1 }
