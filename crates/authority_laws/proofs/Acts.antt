@@ -26,7 +26,8 @@ use Rattle.kernel_rules.specs.Rules.{waits_of, flushes_of, WaitedFor, Unflushed,
 use Rattle.kernel_rules.specs.Rules.{first_cause, refusal_of}
 use Rattle.kernel_rules.specs.CapabilityCalls.{has_frame, outside, not_blank, make_node, make_rule, not_taken, is_live, epoch_of}
 use Rattle.kernel_rules.specs.CapabilityCalls.{leaf_of, leaf_for}
-use Rattle.kernel_rules.specs.MemoryCalls.{not_user, not_untyped, not_retyped, retype_rule, touch_by, translation_of, is_empty, is_untyped_now}
+use Rattle.kernel_rules.specs.MemoryCalls.{not_user, not_untyped, not_retyped, retype_rule, touch_by, translation_of, is_empty}
+use Rattle.kernel_rules.specs.MemoryCalls.{is_untyped_now}
 use Rattle.kernel_rules.specs.Life.{is_live_in}
 use Rattle.kernel_rules.specs.InvocationCalls.{not_live, switch_to}
 use Rattle.kernel_rules.specs.TimeCalls.{merged_list, are_same, is_short, are_unlike, are_many}
@@ -37,7 +38,8 @@ use Rattle.kernel_rules.specs.Edits.{Charge, Move, Merge, begins_in}
 use Rattle.kernel_rules.specs.Rules.{does}
 use Rattle.kernel_invariant.proofs.Sound.{only_is}
 use Rattle.kernel_invariant.proofs.SoundCalls.{IsOpen, blank_by, untyped_by}
-use Rattle.kernel_invariant.proofs.Facts.{EditsFrom, Suits, suits, none_some, some_inj, some_none, vacant_facts, held_facts, none_parts, when_not, not_not, first_two}
+use Rattle.kernel_invariant.proofs.Facts.{EditsFrom, Suits, suits, none_some, some_inj, some_none, vacant_facts, held_facts, none_parts}
+use Rattle.kernel_invariant.proofs.Facts.{when_not, not_not, first_two}
 use Rattle.kernel_invariant.proofs.Edited.{is_bare, Calm}
 use Rattle.found_stays.proofs.Stays.{name_parts}
 use Rattle.authority_laws.specs.Authority.{IsUnder, LivesBy, MayUse}
@@ -203,7 +205,8 @@ module _ (s : State) (c : ℕ) where
       }
 
   -- what is reached under a number of a table is in a leaf of it
-  pub under_leaf : (table : Capability) (n : ℕ) (at : Slot) → reached s c (Under (found table) n) ≡ Some at → IsUnder s c table.frame at.node
+  pub under_leaf : (table : Capability) (n : ℕ) (at : Slot) → reached s c (Under (found table) n) ≡ Some at
+      → IsUnder s c table.frame at.node
   under_leaf table n at e = inr (n / 64, by_number (nat_le n 4095) e)
     where
       by_slot : (l : Option ℕ) → slot_in l (n % 64) ≡ Some at → l ≡ Some at.node
@@ -310,7 +313,8 @@ module _ (s : State) (c : ℕ) (o : ℕ → Bool) (h : IsOpen s o c) where
       → IsFresh (Kernel object) → only kind.Range k ≡ false
       → named s c r (to_use (only kind.Range)) ≡ Found range → named s c t (to_use (only kind.Table)) ≡ Found table
       → vacant s c (Under (found table) b) ≡ Found at
-      → first_cause s c (outside (found range) f ∷ not_blank s f ∷ []) ≡ None → Acts call c s (Become f (Kernel object) ∷ Fill at (plain_cap k f) ∷ [])
+      → first_cause s c (outside (found range) f ∷ not_blank s f ∷ []) ≡ None
+      → Acts call c s (Become f (Kernel object) ∷ Fill at (plain_cap k f) ∷ [])
   made_acts call object k r f t b range table at none other e g v calm =
       let within = range_by s c r f range (not_blank s f ∷ []) e calm in
       two call s c (Become f (Kernel object)) (Fill at (plain_cap k f)) (refl, λ x. refl, tt) refl
@@ -318,13 +322,16 @@ module _ (s : State) (c : ℕ) (o : ℕ → Bool) (h : IsOpen s o c) where
       (place_by t b table at g v, made_cap k f other within)
 
   make_acts : (what : Make) (r f t b : ℕ) → EditsFrom (λ x es. Acts (call.Make what r f t b) c s es) s c (make_rule s what r f t b)
-  make_acts make.Table r f t b = node_acts (call.Make make.Table r f t b) Table kind.Table r f t b (record { no_comp = refl; poor = refl }) refl
+  make_acts make.Table r f t b = node_acts (call.Make make.Table r f t b) Table kind.Table r f t b
+      (record { no_comp = refl; poor = refl }) refl
       (λ at. (refl, λ x. refl, tt))
   make_acts make.Leaf r f t b = node_acts (call.Make make.Leaf r f t b) Leaf kind.Leaf r f t b (record { no_comp = refl; poor = refl }) refl
       (λ at. (refl, λ x. refl, tt))
-  make_acts make.Pages r f t b = node_acts (call.Make make.Pages r f t b) Pages kind.Pages r f t b (record { no_comp = refl; poor = refl }) refl
+  make_acts make.Pages r f t b = node_acts (call.Make make.Pages r f t b) Pages kind.Pages r f t b
+      (record { no_comp = refl; poor = refl }) refl
       (λ at. (refl, λ x. refl, tt))
-  make_acts make.Pleaf r f t b = node_acts (call.Make make.Pleaf r f t b) Pleaf kind.Pleaf r f t b (record { no_comp = refl; poor = refl }) refl
+  make_acts make.Pleaf r f t b = node_acts (call.Make make.Pleaf r f t b) Pleaf kind.Pleaf r f t b
+      (record { no_comp = refl; poor = refl }) refl
       (λ at. (refl, λ x. refl, tt))
   make_acts (make.Thread comp) r f t b = λ range e table g k j at v calm.
       made_acts (call.Make (make.Thread comp) r f t b) (Thread (record { stack = k.frame ∷ []; runs_on = None })) kind.Thread r f t b
@@ -445,7 +452,7 @@ module _ (s : State) (c : ℕ) (o : ℕ → Bool) (h : IsOpen s o c) where
       comp_led : (k : ℕ) (comp : Capability) → named s c k (to_use (only kind.Comp)) ≡ Found comp → LedTo s c is_given comp.frame
       comp_led k comp e =
           let p = may_by s c k (only kind.Comp) comp e in
-          record { cap = comp; may = p.0; kind = subst (λ j. IsTrue (is_given j)) (sym (only_is kind.Comp comp.kind p.1)) refl; frame = refl }
+          record { cap = comp; may = p.0; frame = refl; kind = subst (λ j. IsTrue (is_given j)) (sym (only_is kind.Comp comp.kind p.1)) refl }
   rule_acts (call.Kill k) = λ comp e calm.
       let fields = comp_in (s.frame comp.frame) in
       let p = none_parts (refusal_of s c (not_live s (found comp) fields.number fields.epoch)) None calm in

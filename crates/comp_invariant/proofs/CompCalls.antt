@@ -143,7 +143,8 @@ module _ (setup : Setting) (setting : IsSetting setup) (cores : ℕ → Core) (t
 
   -- the change that it makes, and what comes of the call where its target is vacant
   abbrev pub change : Change
-  change = does c s no_value (component_edit m.frame (new_comp s m.table m.pages m.number) ∷ fill_edit slot (plain_cap kind.Comp m.frame) ∷ [])
+  change = does c s no_value (component_edit m.frame (new_comp s m.table m.pages m.number) ∷ fill_edit slot (plain_cap kind.Comp m.frame)
+      ∷ [])
 
   abbrev pub taken : Option Reply
   taken = first_cause s c (not_taken s m.number)
@@ -154,7 +155,8 @@ module _ (setup : Setting) (setting : IsSetting setup) (cores : ℕ → Core) (t
       outcome_left s c (own_pages s c) a.plan (rule_of s c a.call) a.found by_plan leads ∙ ap (outcome s c) left
       ∙ ap (λ x. and_then x λ at. unless (first_of (if not (has_frame (found make.range) m.frame) then Some reply.OutOfRange else None)
       (first_cause s c (not_blank s m.frame ∷ not_taken s m.number)))
-      (does c s no_value (component_edit m.frame (new_comp s m.table m.pages m.number) ∷ fill_edit at (plain_cap kind.Comp m.frame) ∷ []))) free
+      (does c s no_value (component_edit m.frame (new_comp s m.table m.pages m.number) ∷ fill_edit at (plain_cap kind.Comp m.frame)
+      ∷ []))) free
       ∙ ap (λ b. unless (first_of (if not b then Some reply.OutOfRange else None)
       (first_cause s c (not_blank s m.frame ∷ not_taken s m.number))) change) within
       ∙ ap (λ b. unless (first_of (if b && not (is_blank (s.frame m.frame)) then Some reply.FrameKind else None) taken) change)

@@ -329,7 +329,9 @@ module _ (setup : Setting) (setting : IsSetting setup) (cores : ℕ → Core) (t
     change_is = calls.by_taken setup setting cores t stands c here a active m stage_is has
         (vacant_slot s c (calls.target setup setting cores t stands c here a active m stage_is has) slot
         (calls.reached_is setup setting cores t stands c here a active m stage_is has) empty.vacant) blank None taken_none
-        ∙ ap (λ (n : ℕ). Found (does c s Nothing (component_edit f (record { table = m.table; pages = m.pages; number = l; epoch = n + 1 }) ∷ fill_edit slot (plain_cap kind.Comp f) ∷ []))) takes.last_is
+        ∙ ap (λ (n : ℕ). Found (does c s Nothing (component_edit f
+        (record { table = m.table; pages = m.pages; number = l; epoch = n + 1 }) ∷ fill_edit slot (plain_cap kind.Comp f) ∷ [])))
+        takes.last_is
 
     now : s' ≡ counted filled c
     now = ap (λ p. state_decided_in p (reply.Ok Nothing) s c) is_open ∙ ap (λ x. counted (changed s x) c) change_is

@@ -184,7 +184,8 @@ module _ (setup : Setting) (setting : IsSetting setup) (cores : ℕ → Core) (t
         })
         (refused_first (entered s c) c call reply.Bottom (subst (λ x. IsTrue (acts (entered s c) c x)) (sym is) refl) (spent_is ∙ unspent)
         (subst (λ x. change_of (entered s c) c x ≡ Refused reply.Bottom) (sym is)
-        (ap (λ b. unless (first_of (if b then Some reply.Bottom else None) None) (does c (entered s c) no_value (pop_edit ∷ []))) (at_bottom low))))
+        (ap (λ b. unless (first_of (if b then Some reply.Bottom else None) None) (does c (entered s c) no_value (pop_edit ∷ [])))
+        (at_bottom low))))
         tt
 
     returns_on : is_spent (cores c).own ≡ false → nat_le (cores c).own.depth 1 ≡ false

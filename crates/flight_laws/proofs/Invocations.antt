@@ -29,7 +29,8 @@ module _ (s : State) (c n : ℕ) (v : Value) (gate : Capability) where
 
   by_causes : (deep lives : Bool)
       → IsFoundAnd (unless (first_of (if deep then Some reply.Deep else None)
-      (first_of (if true && not lives then Some reply.Dead else None) None)) (does c s no_value (push_edit gate.frame ∷ []))) (λ change. change.value ≡ v)
+      (first_of (if true && not lives then Some reply.Dead else None) None)) (does c s no_value (push_edit gate.frame ∷ [])))
+      (λ change. change.value ≡ v)
       → lives ≡ true
   by_causes deep true is = refl
   by_causes true false is = absurd is

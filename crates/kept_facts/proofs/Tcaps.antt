@@ -111,7 +111,8 @@ KeepsBy s call change = (f : ℕ) → KeepsTcap (ends_by call (FrameOf f)) (s.fr
 keeps_by : (s : State) (o : ℕ → Bool) (d : ℕ) → IsOpen s o d → (call : Call) (v : Value) (es : List Edit) → Edits call d s es
     → KeepsBy s call (does d s v es)
 keeps_by s o d opens call v es e f =
-    subst (λ b. KeepsTcap b (s.frame f) ((after_edits d s es).frame f)) (sym (e.agrees.0 (FrameOf f))) (edits_keep d s es (e.known o opens) f)
+    subst (λ b. KeepsTcap b (s.frame f) ((after_edits d s es).frame f)) (sym (e.agrees.0 (FrameOf f)))
+    (edits_keep d s es (e.known o opens) f)
 
 found_keeps : (s : State) (call : Call) (x : Judged Change) → IfFound x (KeepsBy s call) → (f : ℕ)
     → KeepsTcap (ends_by call (FrameOf f)) (s.frame f) ((changed s x).frame f)

@@ -64,18 +64,22 @@ module _ (setup : Setting) (setting : IsSetting setup) (cores : ℕ → Core) (t
   abbrev causes : List Cause
   causes = not_live s (found is.comp) fields.number fields.epoch ∷ []
 
-  pub left : rule_after (rule_of s c a.call) a.found ≡ Does (not_live s (found is.comp) fields.number fields.epoch ∷ []) no_value (deaden_edit fields.number fields.epoch ∷ [])
+  pub left : rule_after (rule_of s c a.call) a.found ≡ Does (not_live s (found is.comp) fields.number fields.epoch ∷ []) no_value
+      (deaden_edit fields.number fields.epoch ∷ [])
   left = ap (λ x. rule_after (rule_of s c x) a.found) is.call_is ∙ ap (rule_after (rule_of s c (Kill is.name))) is.found_is
       ∙ ap (λ (g : ℕ). kill_comp s (found is.comp) (comp_in (s.frame g))) (sym is.frame)
 
   pub by_life : (lives : Bool) → is_live_in (s.number fields.number) fields.epoch ≡ lives
-      → change_of s c a.call ≡ unless (if not lives then Some reply.Dead else None) (does c s no_value (deaden_edit fields.number fields.epoch ∷ []))
+      → change_of s c a.call ≡ unless (if not lives then Some reply.Dead else None)
+      (does c s no_value (deaden_edit fields.number fields.epoch ∷ []))
   by_life lives so =
       outcome_left s c (own_pages s c) a.plan (rule_of s c a.call) a.found by_plan leads ∙ ap (outcome s c) left
-      ∙ ap (λ b. unless (first_of (if not b then Some reply.Dead else None) None) (does c s no_value (deaden_edit fields.number fields.epoch ∷ []))) so
+      ∙ ap (λ b. unless (first_of (if not b then Some reply.Dead else None) None)
+      (does c s no_value (deaden_edit fields.number fields.epoch ∷ []))) so
       ∙ last lives
     where
-      last : (b : Bool) → unless (first_of (if not b then Some reply.Dead else None) None) (does c s no_value (deaden_edit fields.number fields.epoch ∷ []))
+      last : (b : Bool) → unless (first_of (if not b then Some reply.Dead else None) None)
+          (does c s no_value (deaden_edit fields.number fields.epoch ∷ []))
           ≡ unless (if not b then Some reply.Dead else None) (does c s no_value (deaden_edit fields.number fields.epoch ∷ []))
       last true = refl
       last false = refl

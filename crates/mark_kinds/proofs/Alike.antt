@@ -1,5 +1,6 @@
 -- Few calls change how the words of frames are read for marks.
-use Rattle.std.proofs.Common.{◌≡◌, ◌≢◌, ◌⊎◌, inl, inr, ℕ, ◌-◌, ◌+◌, true, false, List, ◌∷◌, drop, Option, Some, None, IsTrue, refl, sym, ◌∙◌, ap, subst}
+use Rattle.std.proofs.Common.{◌≡◌, ◌≢◌, ◌⊎◌, inl, inr, ℕ, ◌-◌, ◌+◌, true, false, List, ◌∷◌, drop, Option, Some, None, IsTrue, refl, sym}
+use Rattle.std.proofs.Common.{◌∙◌, ap, subst}
 use Rattle.std.proofs.lemmas.Bool.{cases_eq, true≢false, false≢true}
 use Rattle.spk_nums.specs.Capability.{Capability}
 use Rattle.spk_nums.specs.declared.kinds.Kind.{Kind}
@@ -10,7 +11,8 @@ use Rattle.spk_nums.specs.declared.calls.Call.TheVariants as call
 use Rattle.spk_nums.specs.declared.replies.Reply.{Reply}
 use Rattle.spk_nums.specs.declared.replies.Reply.TheVariants as reply
 use Rattle.spk_nums.specs.declared.translations.Translation.{Translation}
-use Rattle.kernel_rules.specs.State.{Place, Free, Holds, Quiescing, ThreadFields, TcapFields, Object, Table, Leaf, Pages, Pleaf, Thread, Tcap, Frame, Kernel, State, put}
+use Rattle.kernel_rules.specs.State.{Place, Free, Holds, Quiescing, ThreadFields, TcapFields, Object, Table, Leaf, Pages, Pleaf, Thread}
+use Rattle.kernel_rules.specs.State.{Tcap, Frame, Kernel, State, put}
 use Rattle.kernel_rules.specs.State.{comp_of, thread_in, thread_of}
 use Rattle.kernel_rules.specs.Relies.{is_node}
 use Rattle.kernel_rules.specs.Rules.{Change, Rule, Judged, Refused, Found}
@@ -45,7 +47,8 @@ put_alike frame f y new g i v = put_all (λ h x. mark_in_frame x i v ≡ mark_in
     (λ same. new i v ∙ ap (λ n. mark_in_frame (frame n) i v) (sym same)) (λ other. refl)
 
 stack_alike : (s : State) (c : ℕ) (stack : List ℕ) → ReadAlike s (with_stack s c stack)
-stack_alike s c stack = put_alike s.frame (s.core c).thread _ (thread_alike (s.frame (s.core c).thread) (record (thread_of s c) { stack = stack }))
+stack_alike s c stack = put_alike s.frame (s.core c).thread _
+    (thread_alike (s.frame (s.core c).thread) (record (thread_of s c) { stack = stack }))
 
 running_alike : (s : State) (f : ℕ) (core : Option ℕ) → ReadAlike s (running s f core)
 running_alike s f core = put_alike s.frame f _ (thread_alike (s.frame f) _)
@@ -175,7 +178,8 @@ changed_nodes s (Found change) h f i k node removed v = h f i k node removed v
 made_nodes : (s : State) (c : ℕ) (what : Make) (r g t b : ℕ) (q : Reply)
     → NodesAlike s.frame (state_by s c (call.Make what r g t b) q).frame (state_by s c (call.Make what r g t b) q).place
 made_nodes s c what r g t b (reply.Ok x) = changed_nodes s (change_of s c (call.Make what r g t b))
-    (outcome_all (λ change. NodesAlike s.frame change.next.frame change.next.place) s c (make_rule s what r g t b) (make_nodes s c what r g t b))
+    (outcome_all (λ change. NodesAlike s.frame change.next.frame change.next.place) s c (make_rule s what r g t b)
+    (make_nodes s c what r g t b))
 made_nodes s c what r g t b _ = λ f i k node removed v. refl
 
 pub nodes_stay : NodesStay

@@ -27,7 +27,8 @@ module _ (s : State) (c pages v : ℕ) where
 
   -- What refuses the page refuses the touch, unless the translation is cached.
   pub refused_first : (r : Reply) → mapped s c pages v ≡ Refused r → outcome s c (touch_by pages v None) ≡ Refused r
-  refused_first r is = ap (λ x. and_then x λ k. outcome s c (Does [] (translated (told_by pages v k)) (cache_edit (told_by pages v k) ∷ []))) is
+  refused_first r is = ap (λ x. and_then x λ k. outcome s c (Does [] (translated (told_by pages v k))
+      (cache_edit (told_by pages v k) ∷ []))) is
 
   pub past_first : (o : Option Translation) → nat_lt 4095 v ≡ true → outcome s c (touch_by pages v o) ≡ Refused reply.NoSlot
   past_first None past = refused_first reply.NoSlot (mapped_past past)
@@ -69,7 +70,8 @@ module _ (s : State) (c pages v : ℕ) where
 
   pub mapped_first : (k : Capability) → mapped s c pages v ≡ Found k
       → outcome s c (touch_by pages v None) ≡ Found (does c s (translated (told_by pages v k)) (cache_edit (told_by pages v k) ∷ []))
-  mapped_first k is = ap (λ x. and_then x λ j. outcome s c (Does [] (translated (told_by pages v j)) (cache_edit (told_by pages v j) ∷ []))) is
+  mapped_first k is = ap (λ x. and_then x λ j. outcome s c (Does [] (translated (told_by pages v j))
+      (cache_edit (told_by pages v j) ∷ []))) is
 
   -- A fault may be answered where the root entry holds no link, and where the page's place is reached and holds nothing.
   pub unlinked_may : nat_le v 4095 ≡ true → holds_link (place_at s (root_slot pages v)) ≡ false

@@ -194,7 +194,8 @@ module _ (setup : Setting) (setting : IsSetting setup) (cores : ℕ → Core) (t
 
     -- what is left of the rule where the budget is less than the ticks
     short_may : (what : PairWork) → nat_lt p.head_a.budget (amount_of what) ≡ true
-        → RuleMay s c (Does (causes_of s what (named_by is.a) (named_by is.b)) (value_by s what is.a.frame is.b.frame) (edits_by s what is.a.frame is.b.frame))
+        → RuleMay s c (Does (causes_of s what (named_by is.a) (named_by is.b)) (value_by s what is.a.frame is.b.frame)
+        (edits_by s what is.a.frame is.b.frame))
         (reply.Short p.head_a.budget)
     short_may (Transfer m) less = inr (inl (ap (λ (n : ℕ). nat_lt n m) (sym budget_is) ∙ less, ap (λ (n : ℕ). reply.Short n) budget_is))
     short_may (Delegate m) less = inr (inl (ap (λ (n : ℕ). nat_lt n m) (sym budget_is) ∙ less, ap (λ (n : ℕ). reply.Short n) budget_is))

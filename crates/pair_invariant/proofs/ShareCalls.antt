@@ -51,7 +51,8 @@ pub record IsShare (s : State) (c : ℕ) (call : Call) (ks : List Capability) (p
   pub b : Capability
   pub found_is : ks ≡ a ∷ b ∷ []
   pub shared : IsShared a b p.what p
-  pub left : rule_after (rule_of s c call) ks ≡ Does (causes_of s p.what (found a) (found b)) (value_by s p.what a.frame b.frame) (edits_by s p.what a.frame b.frame)
+  pub left : rule_after (rule_of s c call) ks ≡ Does (causes_of s p.what (found a) (found b)) (value_by s p.what a.frame b.frame)
+      (edits_by s p.what a.frame b.frame)
   pub budgets : changes_budgets call ≡ true
   pub ends_none : (x : Thing) → ends_by call x ≡ false
   pub flush_none : flushes_by call ≡ false
@@ -190,14 +191,16 @@ module _ (setup : Setting) (setting : IsSetting setup) (cores : ℕ → Core) (t
 
   -- what is left of the rule
   pub left : rule_after (rule_of s c a.call) a.found
-      ≡ Does (causes_of s p.what (found is.a) (found is.b)) (value_by s p.what is.a.frame is.b.frame) (edits_by s p.what is.a.frame is.b.frame)
+      ≡ Does (causes_of s p.what (found is.a) (found is.b)) (value_by s p.what is.a.frame is.b.frame)
+      (edits_by s p.what is.a.frame is.b.frame)
   left = is.left
 
   pub change_is : change_of s c a.call
       ≡ unless (first_cause s c (causes_of s p.what (found is.a) (found is.b))) (change_by c s p.what is.a.frame is.b.frame)
   change_is = outcome_left s c (own_pages s c) a.plan (rule_of s c a.call) a.found by_plan leads ∙ ap (outcome s c) left
 
-  pub may : (r : Reply) → RuleMay s c (Does (causes_of s p.what (found is.a) (found is.b)) (value_by s p.what is.a.frame is.b.frame) (edits_by s p.what is.a.frame is.b.frame)) r
+  pub may : (r : Reply) → RuleMay s c (Does (causes_of s p.what (found is.a) (found is.b)) (value_by s p.what is.a.frame is.b.frame)
+      (edits_by s p.what is.a.frame is.b.frame)) r
       → RuleMay s c (rule_of s c a.call) r
   may r is_may = left_may s c (own_pages s c) a.plan (rule_of s c a.call) a.found by_plan leads r
       (subst (λ x. RuleMay s c x r) (sym left) is_may)

@@ -93,7 +93,8 @@ module _ (setup : Setting) (setting : IsSetting setup) (cores : ℕ → Core) (t
       (shares : (p : Pair) → IsShared j k what p → SharesBy a.call (j ∷ k ∷ []) p) where
     -- the causes of each begin with `same`
     same_may : (w : PairWork) → (j.frame == k.frame) ≡ true
-        → RuleMay s c (Does (causes_of s w (named_by_found j) (named_by_found k)) (value_by s w j.frame k.frame) (edits_by s w j.frame k.frame)) reply.Same
+        → RuleMay s c (Does (causes_of s w (named_by_found j) (named_by_found k)) (value_by s w j.frame k.frame)
+        (edits_by s w j.frame k.frame)) reply.Same
     same_may (share.Transfer m) same = inl (same, refl)
     same_may (share.Delegate m) same = inl (same, refl)
     same_may share.Test same = inl (same, refl)

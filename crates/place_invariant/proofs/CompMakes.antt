@@ -19,7 +19,8 @@ new_comp s x p l = record { table = x; pages = p; number = l; epoch = epoch_of (
 -- What is left of the rule of such a call after its names.
 abbrev pub comp_rest : State → Capability → ℕ → ℕ → ℕ → ℕ → Target → Rule
 comp_rest s range f x p l target =
-    Vacant target λ at. Does (outside (found range) f ∷ not_blank s f ∷ not_taken s l) no_value (component_edit f (new_comp s x p l) ∷ fill_edit at (plain_cap kind.Comp f) ∷ [])
+    Vacant target λ at. Does (outside (found range) f ∷ not_blank s f ∷ not_taken s l) no_value
+    (component_edit f (new_comp s x p l) ∷ fill_edit at (plain_cap kind.Comp f) ∷ [])
 
 -- Its names have led to a range, a table, and the table and the pages of the component.
 pub record IsCompMake (s : State) (c r f u b x p l : ℕ) (ks : List Capability) : Type 0 where

@@ -101,7 +101,8 @@ record MapRule (s : State) (c : ℕ) (call : Call) (ks : List Capability) (f : �
   range : Capability
   flags : PageFlags
   within : has_frame (found range) f ≡ true
-  rule : rule_after (rule_of s c call) ks ≡ Vacant target (λ at. Does (outside (found range) f ∷ not_user s f ∷ []) no_value (fill_edit at (page_cap f flags) ∷ []))
+  rule : rule_after (rule_of s c call) ks ≡ Vacant target (λ at. Does (outside (found range) f ∷ not_user s f ∷ []) no_value
+      (fill_edit at (page_cap f flags) ∷ []))
 
 map_rule_of : (s : State) (c p v r f : ℕ) (w : PageFlags) (ks : List Capability) (k : Capability) (target : Target)
     → Leads (LeadsIn s c) (plan_for (Map p v r f w)).names [] ks → next_of (plan_for (Map p v r f w)) ks ≡ NextFree target
@@ -227,7 +228,8 @@ module _ (setup : Setting) (setting : IsSetting setup) (cores : ℕ → Core) (t
       first : IsAlone t (step_to c None load was (Some reply.FrameKind) None) → change_of s c a.call ≡ Refused reply.FrameKind
       first alone =
           outcome_left s c (own_pages s c) a.plan (rule_of s c a.call) a.found by_plan leads ∙ ap (outcome s c) rest.rule
-          ∙ ap (λ x. and_then x λ at. outcome s c (Does (outside (found rest.range) f ∷ not_user s f ∷ []) no_value (fill_edit at (page_cap f rest.flags) ∷ [])))
+          ∙ ap (λ x. and_then x λ at. outcome s c (Does (outside (found rest.range) f ∷ not_user s f ∷ []) no_value
+          (fill_edit at (page_cap f rest.flags) ∷ [])))
           (vacant_slot s c knows.spot.target (record { node = fill.node; index = fill.entry }) knows.spot.way.reached
           (vacant_node setup setting cores t stands c here a active opens has.names fill.node fill.entry fill.word knows.spot
           fits.0.entry in_node

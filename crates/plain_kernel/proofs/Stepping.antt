@@ -95,7 +95,8 @@ over t s r k e (Found x) (Found y) same limits h = record {
 over t s r k e (Refused p) (Found y) same limits h = absurd same
 over t s r k e (Found x) (Refused q) same limits h = absurd same
 
-limits_of : (s : State) (j : Judged Change) → IfFound j (λ change. Waits s change.next) → IfFound j (λ change. change.next.limits ≡ s.limits)
+limits_of : (s : State) (j : Judged Change) → IfFound j (λ change. Waits s change.next)
+    → IfFound j (λ change. change.next.limits ≡ s.limits)
 limits_of s (Refused r) h = tt
 limits_of s (Found change) h = h.limits
 

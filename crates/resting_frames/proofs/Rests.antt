@@ -13,7 +13,8 @@ use Rattle.trace_laws.specs.spk_nums.specs.declared.kinds.FrameKind.TheVariants 
 use Rattle.trace_laws.specs.spk_nums.specs.declared.calls.Make.{Make}
 use Rattle.trace_laws.specs.spk_nums.specs.declared.calls.Make.TheVariants as make
 use Rattle.trace_laws.specs.spk_nums.specs.declared.calls.Call.{Call}
-use Rattle.trace_laws.specs.spk_nums.specs.declared.calls.Call.TheVariants.{Look, Copy, Remove as remove_call, Grow, Shrink, Retype, Make as make_call}
+use Rattle.trace_laws.specs.spk_nums.specs.declared.calls.Call.TheVariants.{Look, Copy, Remove as remove_call, Grow, Shrink, Retype}
+use Rattle.trace_laws.specs.spk_nums.specs.declared.calls.Call.TheVariants.{Make as make_call}
 use Rattle.trace_laws.specs.spk_nums.specs.declared.calls.Call.TheVariants.{Map, Unmap, Touch, Flush, Gate, Kill, Call as call_gate}
 use Rattle.trace_laws.specs.spk_nums.specs.declared.calls.Call.TheVariants.{Ret, Switch, Tick, Transfer, Delegate, Test}
 use Rattle.trace_laws.specs.spk_nums.specs.declared.translations.Translation.{Translation}
@@ -110,10 +111,12 @@ module _ (s : State) (o : ℕ → Bool) (d : ℕ) (h : IsOpen s o d) (f : ℕ) (
       away k.frame (usable_guarded s o d h.sound h.is parts.0 k names
       (parts.3 ∙ ap (λ (j : Capability). Some j) (suits wanted parts.2 k parts.4).is))
 
-  only_away : (n : ℕ) (wanted : Kind) (k : Capability) → ((g : ℕ) → named_by wanted g ≡ g ∷ []) → named s d n (to_use (only wanted)) ≡ Found k
+  only_away : (n : ℕ) (wanted : Kind) (k : Capability) → ((g : ℕ) → named_by wanted g ≡ g ∷ []) → named s d n (to_use (only wanted))
+      ≡ Found k
       → k.frame ≢ f
   only_away n wanted k names is = named_away n (to_use (only wanted)) k is
-      (ap (λ (j : Kind). named_by j k.frame) (only_is wanted k.kind (named_good s o d n (to_use (only wanted)) k h.sound h.is is).1) ∙ names k.frame)
+      (ap (λ (j : Kind). named_by j k.frame) (only_is wanted k.kind (named_good s o d n (to_use (only wanted)) k h.sound h.is is).1)
+      ∙ names k.frame)
 
   root_away : (n : ℕ) (k : Capability) → named s d n (to_use root) ≡ Found k → k.frame ≢ f
   root_away n k is = named_away n (to_use root) k is (root_names k.kind k.frame (named_good s o d n (to_use root) k h.sound h.is is).1)
@@ -128,11 +131,13 @@ module _ (s : State) (o : ℕ → Bool) (d : ℕ) (h : IsOpen s o d) (f : ℕ) (
       by true is same = other (ap (λ (x : Slot). x.node) (some_inj (record { node = table.frame; index = i }) at is) ∙ same)
       by false is same = none_some at is
 
-  fill_under : (table : Named) (n : ℕ) (at : Slot) (k : Capability) → vacant s d (Under table n) ≡ Found at → RestsBy (does d s Nothing (Fill at k ∷ []))
+  fill_under : (table : Named) (n : ℕ) (at : Slot) (k : Capability) → vacant s d (Under table n) ≡ Found at
+      → RestsBy (does d s Nothing (Fill at k ∷ []))
   fill_under table n at k is =
       inr (place_rests s f at.node at.index (Holds k) (under_away table n at (vacant_facts s d (Under table n) at is).0))
 
-  remove_under : (table : Named) (n : ℕ) (at : Slot) (k : Capability) → held s d (Under table n) ≡ Found (at, k) → RestsBy (does d s Nothing (Remove at k ∷ []))
+  remove_under : (table : Named) (n : ℕ) (at : Slot) (k : Capability) → held s d (Under table n) ≡ Found (at, k)
+      → RestsBy (does d s Nothing (Remove at k ∷ []))
   remove_under table n at k is =
       inr (place_rests s f at.node at.index (Quiescing k) (under_away table n at (held_facts s d (Under table n) at k is).0))
 

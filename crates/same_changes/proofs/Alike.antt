@@ -9,7 +9,8 @@ use Rattle.kernel_rules.specs.State.{Frame, Grace, Thing, PlaceOf, FrameOf, Numb
 use Rattle.kernel_rules.specs.Access.{Slot, found, Target}
 use Rattle.kernel_rules.specs.GracePeriods.{same_thing, needs_flush, is_paging, is_translated, new_grace, begun}
 use Rattle.kernel_rules.specs.Rules.{Change, does, Cause, When, WaitedFor, Unflushed, Rule, Name, Vacant, Held, Mapped, Does, Judged}
-use Rattle.kernel_rules.specs.Rules.{Refused, Found, and_then, unless, named, vacant, held, mapped, first_of, refusal_of, first_cause, outcome}
+use Rattle.kernel_rules.specs.Rules.{Refused, Found, and_then, unless, named, vacant, held, mapped, first_of, refusal_of, first_cause}
+use Rattle.kernel_rules.specs.Rules.{outcome}
 use Rattle.kernel_rules.specs.CallRelation.{changed}
 use Rattle.kernel_rules.specs.Relies.{is_node}
 use Rattle.kernel_invariant.proofs.Sound.{IsSound}

@@ -150,7 +150,7 @@ make_comp_same {t} {s} w r f x b y p l small =
                 λ none. (
                   refl,
                   ap (λ n. Component f (record { table = own_table.frame; pages = own_pages.frame; number = l; epoch = epoch_of n + 1 })
-                  ∷ Fill at (plain_cap kind.Comp f) ∷ []) number,
+                      ∷ Fill at (plain_cap kind.Comp f) ∷ []) number,
                 ),
               ),
             ),

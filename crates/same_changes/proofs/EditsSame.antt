@@ -7,7 +7,8 @@ use Rattle.spk_nums.specs.declared.calls.Call.{Call}
 use Rattle.spk_nums.specs.declared.translations.Translation.{Translation}
 use Rattle.spk_nums.specs.declared.replies.Value.{Value}
 use Rattle.kernel_rules.specs.State.{Free, Holds, Quiescing, CompFields, ThreadFields, Comp, Frame, Untyped, Kernel, Live, Dead}
-use Rattle.kernel_rules.specs.State.{Core, Grace, Thing, FrameOf, NumberOf, State, put, with_frame, with_core, thread_in, tcap_in, thread_of}
+use Rattle.kernel_rules.specs.State.{Core, Grace, Thing, FrameOf, NumberOf, State, put, with_frame, with_core, thread_in, tcap_in}
+use Rattle.kernel_rules.specs.State.{thread_of}
 use Rattle.kernel_rules.specs.Start.{no_grace}
 use Rattle.kernel_rules.specs.References.{frame_names, number_names}
 use Rattle.kernel_rules.specs.GracePeriods.{same_thing, flushed}
@@ -132,7 +133,7 @@ module _ {t s : State} {o : ℕ → Bool} {c : ℕ} (w : Twins t s o c) where
   pub charge_same : (n : ℕ) → charge t c (n + (t.core c).owed) ≡ charge s c (n + (s.core c).owed)
   charge_same n = λ i. min (n + (core_same w i).owed) (tcap_in (tcap_frame_same w i)).budget
 
--- ---- edits
+  -- ---- edits
 
   edit_same : (e : Edit) → Known c s e → SameState (edited c t e) (edited c s e)
   edit_same (Fill at k) known = same_place t s at.node at.index (Holds k) w.same

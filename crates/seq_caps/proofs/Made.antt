@@ -21,7 +21,8 @@ use Rattle.seq_caps.specs.Holding.{holding}
 pub comp_made_of : (s : State) (core r f t b x p live : ℕ) (l : Looked) (table pages : Capability) (at : Slot) (k : Maps)
     (g h e : ℕ) → l.third ≡ Some table → l.fourth ≡ Some pages → l.at ≡ Some at
     → g ≡ table.frame → h ≡ pages.frame → e ≡ epoch_of (s.number live) + 1
-    → Represents k (holding (with_number s live (Live e f)) f (Comp (record { table = g; pages = h; number = live; epoch = e })) kind.Comp at)
+    → Represents k (holding (with_number s live (Live e f)) f (Comp (record { table = g; pages = h; number = live; epoch = e })) kind.Comp
+    at)
     → IsCarriedOut s (change_in s core (left_of (rule_of s core (make_call (make.Comp x p live) r f t b)) l)) (ok Nothing) k
 comp_made_of s core r f t b x p live l table pages at k g h e third fourth is_at is_table is_pages is_epoch made =
     let comp : CompFields =

@@ -88,7 +88,8 @@ fn hold_comp(
 fn make_in(k: &mut SeqKernel, what: &Make, frame: FrameNo, looked: &Looked, at: Slot)
     requires { MakeInLimits what.now }
     ensures { (core r t b : ℕ) → MayMake (state_of k.old) what.now frame looked.now → looked.now.at ≡ Some at
-        → IsCarriedOut (state_of k.old) (change_in (state_of k.old) core (left_of (rule_of (state_of k.old) core (make_call what.now r frame t b)) looked.now))
+        → IsCarriedOut (state_of k.old)
+        (change_in (state_of k.old) core (left_of (rule_of (state_of k.old) core (make_call what.now r frame t b)) looked.now))
         (ok Nothing) k.new }
 {
     match *what {
@@ -131,7 +132,8 @@ fn make_in(k: &mut SeqKernel, what: &Make, frame: FrameNo, looked: &Looked, at: 
 fn make(k: &mut SeqKernel, what: &Make, frame: FrameArg, looked: &Looked) -> Value
     requires { MakeInLimits what.now }
     ensures { (core r t b : ℕ) → MayMake (state_of k.old) what.now frame looked.now
-        → IsCarriedOut (state_of k.old) (change_in (state_of k.old) core (left_of (rule_of (state_of k.old) core (make_call what.now r frame t b)) looked.now))
+        → IsCarriedOut (state_of k.old)
+        (change_in (state_of k.old) core (left_of (rule_of (state_of k.old) core (make_call what.now r frame t b)) looked.now))
         (ok result) k.new }
 {
     if let Some(at) = looked.at {
@@ -156,7 +158,8 @@ fn look(looked: &Looked) -> Value
 /// `copy`: the place holds the capability, with those of its rights that are among these.
 fn copy(k: &mut SeqKernel, looked: &Looked, rights: Rights) -> Value
     ensures { (core a t b : ℕ) → MayCarry (state_of k.old) core (Copy a t b rights) looked.now
-        → IsCarriedOut (state_of k.old) (change_in (state_of k.old) core (left_of (rule_of (state_of k.old) core (Copy a t b rights)) looked.now))
+        → IsCarriedOut (state_of k.old)
+        (change_in (state_of k.old) core (left_of (rule_of (state_of k.old) core (Copy a t b rights)) looked.now))
         (ok result) k.new }
 {
     if let Some(cap) = looked.first {
@@ -171,7 +174,8 @@ fn copy(k: &mut SeqKernel, looked: &Looked, rights: Rights) -> Value
 /// `grow`: the root entry links the leaf.
 fn grow(k: &mut SeqKernel, looked: &Looked) -> Value
     ensures { (core t i l : ℕ) → MayCarry (state_of k.old) core (Grow t i l) looked.now
-        → IsCarriedOut (state_of k.old) (change_in (state_of k.old) core (left_of (rule_of (state_of k.old) core (Grow t i l)) looked.now)) (ok result) k.new }
+        → IsCarriedOut (state_of k.old)
+        (change_in (state_of k.old) core (left_of (rule_of (state_of k.old) core (Grow t i l)) looked.now)) (ok result) k.new }
 {
     if let Some(leaf) = looked.second {
         if let Some(at) = looked.at {

@@ -51,7 +51,8 @@ fn turn_into(k: &mut SeqKernel, frame: FrameNo, kind: FrameKind)
 /// `retype`: a frame of the machine becomes one of this kind.
 fn retype(k: &mut SeqKernel, frame: FrameArg, kind: FrameKind) -> Value
     ensures { (core r : ℕ) (l : Looked) → MayRetype (state_of k.old) frame kind
-        → IsCarriedOut (state_of k.old) (change_in (state_of k.old) core (left_of (rule_of (state_of k.old) core (Retype r frame kind)) l)) (ok result) k.new }
+        → IsCarriedOut (state_of k.old)
+        (change_in (state_of k.old) core (left_of (rule_of (state_of k.old) core (Retype r frame kind)) l)) (ok result) k.new }
 {
     if frame.number() < k.frames() {
         turn_into(k, FrameNo::new(frame.number()), kind);

@@ -141,7 +141,8 @@ module _ (setup : Setting) (setting : IsSetting setup) (cores : ℕ → Core) (t
           ∙ le-ltb p.head_a.budget m (subst (λ w. amount_of w ≤ p.head_a.budget) what_is both.a.enough)
 
       may_unlike : RuleMay s c
-          (Does (causes_of s (Transfer m) (named_by is.a) (named_by is.b)) (value_by s (Transfer m) is.a.frame is.b.frame) (edits_by s (Transfer m) is.a.frame is.b.frame))
+          (Does (causes_of s (Transfer m) (named_by is.a) (named_by is.b)) (value_by s (Transfer m) is.a.frame is.b.frame)
+          (edits_by s (Transfer m) is.a.frame is.b.frame))
           reply.Unlike
       may_unlike = inr (inr (inl (ap not unlike_named, refl)))
 
@@ -153,7 +154,8 @@ module _ (setup : Setting) (setting : IsSetting setup) (cores : ℕ → Core) (t
           (change_by c s (Transfer m) is.a.frame is.b.frame))
           (calls.not_same setup setting cores t stands c here a active now_p stage_is has)
           ∙ ap (λ b. unless (first_of (if b then Some (reply.Short (tcap_at s is.a.frame).budget) else None)
-          (first_cause s c (are_unlike s (named_by is.a) (named_by is.b) ∷ []))) (change_by c s (Transfer m) is.a.frame is.b.frame)) not_short
+          (first_cause s c (are_unlike s (named_by is.a) (named_by is.b) ∷ []))) (change_by c s (Transfer m) is.a.frame is.b.frame))
+          not_short
           ∙ ap (λ b. unless (first_of (if not b then Some reply.Unlike else None) None) (change_by c s (Transfer m) is.a.frame is.b.frame))
           unlike_named
 
@@ -165,12 +167,14 @@ module _ (setup : Setting) (setting : IsSetting setup) (cores : ℕ → Core) (t
             unspent,
             calls.may setup setting cores t stands c here a active now_p stage_is has reply.Unlike
                 (subst (λ w. RuleMay s c
-                (Does (causes_of s w (named_by is.a) (named_by is.b)) (value_by s w is.a.frame is.b.frame) (edits_by s w is.a.frame is.b.frame)) reply.Unlike)
+                (Does (causes_of s w (named_by is.a) (named_by is.b)) (value_by s w is.a.frame is.b.frame)
+                (edits_by s w is.a.frame is.b.frame)) reply.Unlike)
                 (sym what_is) may_unlike),
           ) tt
           (λ is_alone. refused_first s c a.call reply.Unlike has.acts unspent
           (calls.change_is setup setting cores t stands c here a active now_p stage_is has
-          ∙ ap (λ w. unless (first_cause s c (causes_of s w (named_by is.a) (named_by is.b))) (change_by c s w is.a.frame is.b.frame)) what_is
+          ∙ ap (λ w. unless (first_cause s c (causes_of s w (named_by is.a) (named_by is.b))) (change_by c s w is.a.frame is.b.frame))
+          what_is
           ∙ first_unlike)) lands
 
     -- a delegation of which the merged list has no room
@@ -191,7 +195,8 @@ module _ (setup : Setting) (setting : IsSetting setup) (cores : ℕ → Core) (t
           ∙ le-ltb p.head_a.budget m (subst (λ w. amount_of w ≤ p.head_a.budget) what_is both.a.enough)
 
       may_many : RuleMay s c
-          (Does (causes_of s (Delegate m) (named_by is.a) (named_by is.b)) (value_by s (Delegate m) is.a.frame is.b.frame) (edits_by s (Delegate m) is.a.frame is.b.frame))
+          (Does (causes_of s (Delegate m) (named_by is.a) (named_by is.b)) (value_by s (Delegate m) is.a.frame is.b.frame)
+          (edits_by s (Delegate m) is.a.frame is.b.frame))
           reply.TooMany
       may_many = inr (inr (inl (many_named, refl)))
 
@@ -214,13 +219,15 @@ module _ (setup : Setting) (setting : IsSetting setup) (cores : ℕ → Core) (t
           refl refl (λ x. refl) (λ x. refl) refl (
             unspent,
             calls.may setup setting cores t stands c here a active now_p stage_is has reply.TooMany
-                (subst (λ w. RuleMay s c (Does (causes_of s w (named_by is.a) (named_by is.b)) (value_by s w is.a.frame is.b.frame) (edits_by s w is.a.frame is.b.frame))
+                (subst (λ w. RuleMay s c (Does (causes_of s w (named_by is.a) (named_by is.b)) (value_by s w is.a.frame is.b.frame)
+                (edits_by s w is.a.frame is.b.frame))
                 reply.TooMany)
                 (sym what_is) may_many),
           ) tt
           (λ is_alone. refused_first s c a.call reply.TooMany has.acts unspent
           (calls.change_is setup setting cores t stands c here a active now_p stage_is has
-          ∙ ap (λ w. unless (first_cause s c (causes_of s w (named_by is.a) (named_by is.b))) (change_by c s w is.a.frame is.b.frame)) what_is
+          ∙ ap (λ w. unless (first_cause s c (causes_of s w (named_by is.a) (named_by is.b))) (change_by c s w is.a.frame is.b.frame))
+          what_is
           ∙ first_many)) lands
 
     -- a test is answered
@@ -250,7 +257,8 @@ module _ (setup : Setting) (setting : IsSetting setup) (cores : ℕ → Core) (t
 
       change_is : change_of s c a.call ≡ Found (does c s v [])
       change_is = calls.change_is setup setting cores t stands c here a active now_p stage_is has
-          ∙ ap (λ w. unless (first_cause s c (causes_of s w (named_by is.a) (named_by is.b))) (change_by c s w is.a.frame is.b.frame)) what_is
+          ∙ ap (λ w. unless (first_cause s c (causes_of s w (named_by is.a) (named_by is.b))) (change_by c s w is.a.frame is.b.frame))
+          what_is
           ∙ ap (λ o. unless o (change_by c s Test is.a.frame is.b.frame)) no_cause
           ∙ ap (λ b. Found (does c s (preemption b) [])) (sym tells_is)
 

@@ -254,9 +254,11 @@ module _ (setup : Setting) (setting : IsSetting setup) (cores : ℕ → Core) (t
     change_is : change_of s c a.call ≡ Found (does c s value.Nothing (move_edit p.a p.b m ∷ merge_edit p.b (merged_list s p.a p.b) ∷ []))
     change_is = calls.change_is setup setting cores t stands c here a active now_p stage_is has
         ∙ ap (λ o. unless o (change_by c s (Delegate m) is.a.frame is.b.frame)) no_cause
-        ∙ ap (λ (f : ℕ). Found (does c s value.Nothing (move_edit f is.b.frame m ∷ merge_edit is.b.frame (merged_list s f is.b.frame) ∷ [])))
+        ∙ ap (λ (f : ℕ). Found (does c s value.Nothing (move_edit f is.b.frame m ∷ merge_edit is.b.frame (merged_list s f is.b.frame)
+        ∷ [])))
         (sym is.shared.first)
-        ∙ ap (λ (f : ℕ). Found (does c s value.Nothing (move_edit p.a f m ∷ merge_edit f (merged_list s p.a f) ∷ []))) (sym is.shared.second)
+        ∙ ap (λ (f : ℕ). Found (does c s value.Nothing (move_edit p.a f m ∷ merge_edit f (merged_list s p.a f) ∷ [])))
+        (sym is.shared.second)
 
     -- the state after it
     abbrev qa_less : TcapFields

@@ -83,7 +83,8 @@ module _ (setup : Setting) (setting : IsSetting setup) (cores : ℕ → Core) (t
   by_life lives so =
       outcome_left s c (own_pages s c) a.plan (rule_of s c a.call) a.found by_plan leads ∙ ap (outcome s c) left
       ∙ ap (λ b. unless (first_of (if b then Some reply.Deep else None)
-      (first_of (if not (is_live_in (s.number fields.number) m.epoch) then Some reply.Dead else None) None)) (does c s no_value (push_edit m.comp ∷ []))) shallow
+      (first_of (if not (is_live_in (s.number fields.number) m.epoch) then Some reply.Dead else None) None))
+      (does c s no_value (push_edit m.comp ∷ []))) shallow
       ∙ ap (λ b. unless (first_of (if not b then Some reply.Dead else None) None) (does c s no_value (push_edit m.comp ∷ []))) so
       ∙ last lives
     where
