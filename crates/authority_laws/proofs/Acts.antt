@@ -23,7 +23,7 @@ use Rattle.kernel_rules.specs.Access.{linked, slot_in, usable, reached, own, pla
 use Rattle.kernel_rules.specs.Fitting.{fits}
 use Rattle.kernel_rules.specs.References.{refs}
 use Rattle.kernel_rules.specs.Rules.{waits_of, flushes_of, WaitedFor, Unflushed, Change, Cause, When, Found, named, vacant, held}
-use Rattle.kernel_rules.specs.Rules.{first_cause, refusal_of}
+use Rattle.kernel_rules.specs.Rules.{first_cause, refusal_of, does}
 use Rattle.kernel_rules.specs.CapabilityCalls.{has_frame, outside, not_blank, make_node, make_rule, not_taken, is_live, epoch_of}
 use Rattle.kernel_rules.specs.CapabilityCalls.{leaf_of, leaf_for}
 use Rattle.kernel_rules.specs.MemoryCalls.{not_user, not_untyped, not_retyped, retype_rule, touch_by, translation_of, is_empty}
@@ -31,11 +31,9 @@ use Rattle.kernel_rules.specs.MemoryCalls.{is_untyped_now}
 use Rattle.kernel_rules.specs.Life.{is_live_in}
 use Rattle.kernel_rules.specs.InvocationCalls.{not_live, switch_to}
 use Rattle.kernel_rules.specs.TimeCalls.{merged_list, are_same, is_short, are_unlike, are_many}
-use Rattle.kernel_rules.specs.Edits.{tcap_at}
+use Rattle.kernel_rules.specs.Edits.{tcap_at, Edit, Fill, Remove, Node, Become, Untype, Component, Deaden, Push, Pop, Switch, Cache, Flush}
 use Rattle.kernel_rules.specs.CallRelation.{rule_of}
-use Rattle.kernel_rules.specs.Edits.{Edit, Fill, Remove, Node, Become, Untype, Component, Deaden, Push, Pop, Switch, Cache, Flush}
 use Rattle.kernel_rules.specs.Edits.{Charge, Move, Merge, begins_in}
-use Rattle.kernel_rules.specs.Rules.{does}
 use Rattle.kernel_invariant.proofs.Sound.{only_is}
 use Rattle.kernel_invariant.proofs.SoundCalls.{IsOpen, blank_by, untyped_by}
 use Rattle.kernel_invariant.proofs.Facts.{EditsFrom, Suits, suits, none_some, some_inj, some_none, vacant_facts, held_facts, none_parts}

@@ -15,16 +15,14 @@ use Rattle.kernel_rules.specs.Access.{only}
 use Rattle.kernel_rules.specs.Fitting.{fits}
 use Rattle.kernel_rules.specs.GracePeriods.{same_thing, begun}
 use Rattle.kernel_rules.specs.Rules.{Change, Judged, Refused, Found}
-use Rattle.kernel_rules.specs.Edits.{frames_of}
+use Rattle.kernel_rules.specs.Edits.{frames_of, with_thread, Edit, Remove, Untype, Deaden, Pop, Switch, edited, after_edits, begins_in}
 use Rattle.kernel_rules.specs.CapabilityCalls.{is_live}
-use Rattle.kernel_rules.specs.Edits.{with_thread}
+use Rattle.kernel_rules.specs.Edits.{begins_all}
 use Rattle.kernel_rules.specs.Life.{is_live_in}
-use Rattle.kernel_rules.specs.CallRelation.{rule_of, change_of, changed, counted, state_by, begins}
-use Rattle.kernel_rules.specs.CallRelation.{begins_in as begun_in}
+use Rattle.kernel_rules.specs.CallRelation.{rule_of, change_of, changed, counted, state_by, begins, begins_in as begun_in}
 use Rattle.kernel_rules.specs.Runs.{after, is_open}
 use Rattle.kernel_rules.proofs.Changes.{IfFound}
 use Rattle.kernel_rules.proofs.Within.{put_same}
-use Rattle.kernel_rules.specs.Edits.{Edit, Remove, Untype, Deaden, Pop, Switch, edited, after_edits, begins_in, begins_all}
 use Rattle.kernel_invariant.proofs.Sums.{times_cons, times_first}
 use Rattle.kernel_invariant.proofs.Sound.{put_all, only_is}
 use Rattle.kernel_invariant.proofs.SoundRemovals.{frames_no_place}

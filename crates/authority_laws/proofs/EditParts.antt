@@ -9,10 +9,8 @@ use Rattle.kernel_rules.specs.State.{put, with_place, with_frame, with_core, wit
 use Rattle.kernel_rules.specs.Access.{Slot, only}
 use Rattle.kernel_rules.specs.Fitting.{fits}
 use Rattle.kernel_rules.specs.CapabilityCalls.{is_live}
-use Rattle.kernel_rules.specs.Edits.{with_thread, running}
-use Rattle.kernel_rules.specs.Edits.{tcap_at, with_tcap, with_budget, charge}
-use Rattle.kernel_rules.specs.Edits.{Edit, Fill, Remove, Node, Become, Untype, Component, Deaden, Push, Pop, Switch, Cache, Flush}
-use Rattle.kernel_rules.specs.Edits.{Charge, Move, Merge, edited, after_edits}
+use Rattle.kernel_rules.specs.Edits.{with_thread, running, tcap_at, with_tcap, with_budget, charge, Edit, Fill, Remove, Node, Become}
+use Rattle.kernel_rules.specs.Edits.{Untype, Component, Deaden, Push, Pop, Switch, Cache, Flush, Charge, Move, Merge, edited, after_edits}
 use Rattle.kernel_invariant.proofs.Sound.{put_all, only_is}
 use Rattle.kernel_invariant.proofs.SoundSteps.{place_all}
 use Rattle.kernel_invariant.proofs.Edited.{is_bare, AreLater, Calm}

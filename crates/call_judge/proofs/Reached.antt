@@ -14,10 +14,9 @@ use Rattle.kernel_rules.specs.State.{CompFields, Core, Limits, State, comp_of, w
 use Rattle.kernel_rules.specs.GracePeriods.{begun}
 use Rattle.kernel_rules.specs.Laws.{IsRefusal}
 use Rattle.kernel_rules.specs.Rules.{Change, Judged, Refused, Found, IsFoundAnd, RuleMay}
-use Rattle.kernel_rules.specs.CallRelation.{owing}
+use Rattle.kernel_rules.specs.CallRelation.{owing, rule_of, change_of, changed, owed_by, counted, state_by, are_calls_spent, MayBeDead}
 use Rattle.kernel_rules.specs.Life.{is_live_in, lives, asks_life, acts}
-use Rattle.kernel_rules.specs.CallRelation.{rule_of, change_of, changed, owed_by, counted, state_by, are_calls_spent}
-use Rattle.kernel_rules.specs.CallRelation.{MayBeDead, MayReply}
+use Rattle.kernel_rules.specs.CallRelation.{MayReply}
 use Rattle.kernel_rules.specs.Alone.{reply_in}
 use Rattle.kernel_rules.specs.Runs.{Event, Decides as decides, after, Open, phase_of, IsRun}
 use Rattle.kernel_rules.proofs.Agrees.{IsBounded, IsPlain, IfRefused, rule_refused}

@@ -12,9 +12,8 @@ use Rattle.kernel_rules.specs.Access.{reached, root_slot, holds_link, has_no_slo
 use Rattle.kernel_rules.specs.GracePeriods.{MayWait, MayBeUnflushed}
 use Rattle.kernel_rules.specs.Rules.{Cause, When, WaitedFor, Unflushed, Rule, Name, Vacant, Held, Mapped, Does, Judged, Refused, Found}
 use Rattle.kernel_rules.specs.Rules.{and_then, or_refuse, named, held, mapped, IsFoundAnd, ReachesNone, ReachesHeld, ReachesOther}
-use Rattle.kernel_rules.specs.Rules.{ReachesLacking}
-use Rattle.kernel_rules.specs.Rules.{Lacks, NameMay, VacantMay, HeldMay, MappedMay, WaitedMay, UnflushedMay, CauseMay, OneMay}
-use Rattle.kernel_rules.specs.Rules.{name_of, slot_of, RuleMay}
+use Rattle.kernel_rules.specs.Rules.{ReachesLacking, Lacks, NameMay, VacantMay, HeldMay, MappedMay, WaitedMay, UnflushedMay, CauseMay}
+use Rattle.kernel_rules.specs.Rules.{OneMay, name_of, slot_of, RuleMay}
 use Rattle.kernel_rules.specs.Relies.{is_node}
 use Rattle.kernel_invariant.proofs.Sound.{IsSound}
 use Rattle.kernel_invariant.proofs.Facts.{reached_node, RootIsNode}

@@ -17,7 +17,7 @@ use Rattle.state_laws.specs.spk_nums.specs.declared.calls.Make.TheVariants as ma
 use Rattle.state_laws.specs.spk_nums.specs.declared.kinds.Kind.TheVariants as kind
 use Rattle.state_laws.specs.spk_nums.specs.declared.replies.Reply.TheVariants as reply
 use Rattle.state_laws.specs.kernel_rules.specs.CapabilityCalls.{not_taken}
-use Rattle.state_laws.specs.kernel_rules.specs.Rules.{OneMay}
+use Rattle.state_laws.specs.kernel_rules.specs.Rules.{OneMay, does}
 use Rattle.scan_invariant.specs.plan_ways.proofs.Ways.{target_is as target_is_of}
 use Rattle.scan_invariant.specs.plan_ways.specs.Laws.{IsTargetOf}
 use Rattle.scan_invariant.specs.act_states.specs.declared.work.Act.TheVariants.{MakeComp as comp_act}
@@ -30,7 +30,6 @@ use Rattle.scan_invariant.specs.place_invariant.proofs.CompMakes.{IsCompMake, co
 use Rattle.scan_invariant.specs.place_invariant.proofs.Outside.{none_left_of}
 use Rattle.scan_invariant.specs.place_invariant.proofs.Vacancy.{in_leaf}
 use Rattle.state_laws.specs.kernel_rules.specs.Edits.{Component as component_edit, Fill as fill_edit}
-use Rattle.state_laws.specs.kernel_rules.specs.Rules.{does}
 use Rattle.state_laws.specs.spk_nums.specs.declared.replies.Value.TheVariants.{Nothing as no_value}
 
 module _ (setup : Setting) (setting : IsSetting setup) (cores : ℕ → Core) (t : Trace) (stands : Invariant setup cores t) (c : ℕ)

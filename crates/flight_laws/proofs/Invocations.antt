@@ -8,7 +8,7 @@ use Rattle.time_laws.proofs.Common.{state_entered, state_after, state_is, run_of
 use Rattle.time_laws.specs.spk_nums.specs.declared.calls.Call.TheVariants.{Call as call_gate}
 use Rattle.time_laws.specs.spk_nums.specs.declared.kinds.Kind.TheVariants as kind
 use Rattle.time_laws.specs.spk_nums.specs.declared.replies.Reply.TheVariants as reply
-use Rattle.time_laws.specs.kernel_rules.specs.Rules.{RuleAnswers}
+use Rattle.time_laws.specs.kernel_rules.specs.Rules.{RuleAnswers, does}
 use Rattle.time_laws.specs.kernel_rules.specs.InvocationCalls.{call_rule, not_live}
 use Rattle.time_laws.specs.state_laws.proofs.Lives.{dead_stays}
 use Rattle.time_laws.specs.comp_invariant.proofs.LaterEvents.{Later, later_events}
@@ -16,7 +16,6 @@ use Rattle.flight_laws.specs.Invocations.{number_through, EntersTheLiving, Enter
 use Rattle.time_laws.specs.flight.specs.Made.{IsMade, cores_after}
 use Rattle.time_laws.specs.flight.proofs.Made.{made_stands}
 use Rattle.time_laws.specs.kernel_rules.specs.Edits.{Push as push_edit}
-use Rattle.time_laws.specs.kernel_rules.specs.Rules.{does}
 use Rattle.time_laws.specs.spk_nums.specs.declared.replies.Value.TheVariants.{Nothing as no_value}
 
 -- What the rule of a call answers through a gate.

@@ -17,14 +17,13 @@ use Rattle.std.proofs.Common.{lt-ltb}
 use Rattle.scan_invariant.specs.spk_nums.specs.declared.kinds.FrameKind.TheVariants as kind
 use Rattle.scan_invariant.specs.spk_nums.specs.declared.replies.Reply.TheVariants as reply
 use Rattle.scan_invariant.specs.frame_words.proofs.FrameLemmas as frames
-use Rattle.scan_invariant.specs.kernel_rules.specs.Rules.{refusal_of, flushes_of, WaitedFor, Unflushed}
+use Rattle.scan_invariant.specs.kernel_rules.specs.Rules.{refusal_of, flushes_of, WaitedFor, Unflushed, does}
 use Rattle.scan_invariant.specs.kernel_rules.specs.MemoryCalls.{is_untyped_now}
 use Rattle.scan_invariant.specs.act_states.specs.declared.work.Act.TheVariants.{Untype as untype_act}
 use Rattle.scan_invariant.specs.step_ways.proofs.Loads.{OnlyLooks, call_is, core_is, is_active}
 use Rattle.scan_invariant.specs.step_ways.proofs.Refusals.{not_spent}
 use Rattle.scan_invariant.specs.count_invariant.proofs.Acquiring.{plan_leads, goes_by}
 use Rattle.scan_invariant.specs.count_invariant.proofs.MakingCounts.{argument_footprint}
-use Rattle.scan_invariant.specs.kernel_rules.specs.Rules.{does}
 use Rattle.scan_invariant.specs.spk_nums.specs.declared.replies.Value.TheVariants.{Nothing as no_value}
 
 -- The call that makes a frame untyped.

@@ -12,18 +12,15 @@ use Rattle.spk_nums.specs.declared.replies.Reply.{Reply}
 use Rattle.spk_nums.specs.declared.replies.Reply.TheVariants as reply
 use Rattle.spk_nums.specs.declared.translations.Translation.{Translation}
 use Rattle.kernel_rules.specs.State.{Place, Free, Holds, Quiescing, ThreadFields, TcapFields, Object, Table, Leaf, Pages, Pleaf, Thread}
-use Rattle.kernel_rules.specs.State.{Tcap, Frame, Kernel, State, put}
-use Rattle.kernel_rules.specs.State.{comp_of, thread_in, thread_of}
+use Rattle.kernel_rules.specs.State.{Tcap, Frame, Kernel, State, put, comp_of, thread_in, thread_of}
 use Rattle.kernel_rules.specs.Relies.{is_node}
 use Rattle.kernel_rules.specs.Rules.{Change, Rule, Judged, Refused, Found}
 use Rattle.kernel_rules.specs.Access.{Named, found}
 use Rattle.kernel_rules.specs.CapabilityCalls.{make_node, make_rule}
-use Rattle.kernel_rules.specs.Edits.{cleared}
+use Rattle.kernel_rules.specs.Edits.{cleared, with_thread, with_stack, running, tcap_at, with_tcap, with_budget, with_qualities, moved}
 use Rattle.kernel_rules.specs.MemoryCalls.{touch_by, translation_of}
 use Rattle.kernel_rules.specs.InvocationCalls.{switch_to}
-use Rattle.kernel_rules.specs.Edits.{with_thread, with_stack, running}
 use Rattle.kernel_rules.specs.TimeCalls.{merged_list}
-use Rattle.kernel_rules.specs.Edits.{tcap_at, with_tcap, with_budget, with_qualities, moved}
 use Rattle.kernel_rules.specs.CallRelation.{rule_of, change_of, changed, owed_by, state_by}
 use Rattle.kernel_rules.proofs.Changes.{AllChanges, IfFound, outcome_all}
 use Rattle.kernel_rules.proofs.Within.{put_same, put_other}

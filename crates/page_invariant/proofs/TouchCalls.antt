@@ -6,10 +6,9 @@ use Rattle.count_invariant.proofs.Common.{held_in, reached, holds_link, root_slo
 use Rattle.count_invariant.proofs.Common.{or_refuse, first_of, outcome, RuleMay}
 use Rattle.std.proofs.Common.{IsFalse}
 use Rattle.kernel_laws.specs.spk_nums.specs.declared.replies.Reply.TheVariants as reply
-use Rattle.kernel_laws.specs.kernel_rules.specs.Rules.{mapped}
+use Rattle.kernel_laws.specs.kernel_rules.specs.Rules.{mapped, does}
 use Rattle.kernel_laws.specs.kernel_rules.specs.MemoryCalls.{translated, caches, touch_by}
 use Rattle.kernel_laws.specs.kernel_rules.specs.Edits.{Cache as cache_edit}
-use Rattle.kernel_laws.specs.kernel_rules.specs.Rules.{does}
 
 -- The translation that a mapping of a page tells.
 abbrev pub told_by : ℕ → ℕ → Capability → Translation

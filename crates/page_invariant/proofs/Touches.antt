@@ -23,11 +23,10 @@ use Rattle.count_invariant.proofs.Common.{limits_of, sums_keep, SameFor, marks_o
 use Rattle.kernel_laws.specs.spk_nums.specs.declared.kinds.Kind.TheVariants as kind
 use Rattle.kernel_laws.specs.spk_nums.specs.declared.replies.Reply.TheVariants as reply
 use Rattle.count_invariant.specs.entry_words.specs.declared.entry.Entry.TheVariants.{Free, Quiescing}
-use Rattle.kernel_laws.specs.kernel_rules.specs.State.{Core as CoreFields}
-use Rattle.kernel_laws.specs.kernel_rules.specs.State.{with_core}
-use Rattle.kernel_laws.specs.kernel_rules.specs.Rules.{mapped}
+use Rattle.kernel_laws.specs.kernel_rules.specs.State.{Core as CoreFields, with_core}
+use Rattle.kernel_laws.specs.kernel_rules.specs.Rules.{mapped, does}
 use Rattle.kernel_laws.specs.kernel_rules.specs.MemoryCalls.{translated, caches, touch_by}
-use Rattle.kernel_laws.specs.kernel_rules.specs.Edits.{caching}
+use Rattle.kernel_laws.specs.kernel_rules.specs.Edits.{caching, Cache as cache_edit}
 use Rattle.kernel_laws.specs.kernel_invariant.proofs.SoundCalls.{IsOpen}
 use Rattle.kernel_laws.proofs.NodeSteps.{IsFitted}
 use Rattle.kernel_laws.proofs.NodesLaw.{runs_fit, mapped_page}
@@ -60,8 +59,6 @@ use Rattle.page_invariant.proofs.TouchCalls.{empty_first, cached_first, mapped_i
 use Rattle.count_invariant.specs.act_states.specs.Touches.{touched}
 use Rattle.kernel_laws.specs.kernel_rules.specs.CallRelation.{begins_in as begins_in_of_callrelation}
 use Rattle.kernel_laws.specs.spk_nums.specs.Limits.{end_of_arg}
-use Rattle.kernel_laws.specs.kernel_rules.specs.Edits.{Cache as cache_edit}
-use Rattle.kernel_laws.specs.kernel_rules.specs.Rules.{does}
 
 -- What a touch takes from the load of its look-up, where this translation is cached or none.
 abbrev touched_at : Touching → Look → Option Translation → ℕ → WorkStep

@@ -10,9 +10,8 @@ use Rattle.count_invariant.proofs.Common.{StageFits, HasRoom, Core, holds_counts
 use Rattle.count_invariant.proofs.Common.{SharesBy, holds_share, holds_at, holds_in, Invariant, TcapOf}
 use Rattle.quality_lists.specs.spk_nums.specs.declared.calls.Call.TheVariants as call_as
 use Rattle.quality_lists.specs.spk_nums.specs.declared.kinds.Kind.TheVariants as kind
-use Rattle.kernel_laws.specs.kernel_rules.specs.TimeCalls.{merged_list, are_same}
-use Rattle.kernel_laws.specs.kernel_rules.specs.Edits.{with_qualities}
-use Rattle.kernel_laws.specs.kernel_rules.specs.TimeCalls.{preemption, preempts}
+use Rattle.kernel_laws.specs.kernel_rules.specs.TimeCalls.{merged_list, are_same, preemption, preempts}
+use Rattle.kernel_laws.specs.kernel_rules.specs.Edits.{with_qualities, Edit, Move, Merge}
 use Rattle.count_invariant.specs.call_plans.specs.declared.plans.Nth.{Nth}
 use Rattle.count_invariant.proofs.Findings.{found_named}
 use Rattle.count_invariant.specs.plan_ways.proofs.InFootprint.{footprint_found}
@@ -24,7 +23,6 @@ use Rattle.count_invariant.specs.step_ways.proofs.Loads.{call_is, is_active}
 use Rattle.count_invariant.specs.kept_facts.proofs.Tcaps.{tcap_of}
 use Rattle.kernel_laws.specs.spk_nums.specs.declared.replies.Value.{Value}
 use Rattle.kernel_laws.specs.spk_nums.specs.declared.replies.Value.TheVariants.{Nothing}
-use Rattle.kernel_laws.specs.kernel_rules.specs.Edits.{Edit, Move, Merge}
 use Rattle.kernel_laws.specs.kernel_rules.specs.Rules.{does}
 
 -- What refuses such a call after its names, in order, what it answers, and its edits.

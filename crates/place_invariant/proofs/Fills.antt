@@ -34,7 +34,7 @@ use Rattle.count_invariant.specs.entry_words.proofs.Spelling.{spelling}
 use Rattle.kernel_laws.specs.kernel_rules.specs.State.{Free as Vacant, Quiescing as Removed}
 use Rattle.kernel_laws.specs.kernel_rules.specs.Start.{plain_cap}
 use Rattle.kernel_laws.specs.kernel_rules.specs.MemoryCalls.{is_user, not_user}
-use Rattle.kernel_laws.specs.kernel_rules.specs.Rules.{Vacant as to_be_free}
+use Rattle.kernel_laws.specs.kernel_rules.specs.Rules.{Vacant as to_be_free, does}
 use Rattle.count_invariant.specs.kernel_history.specs.Ways.{led_to}
 use Rattle.count_invariant.specs.kernel_history.specs.Stamps.{begins_in as begins_then}
 use Rattle.count_invariant.specs.call_plans.specs.PlanOf.{any_cap}
@@ -60,7 +60,6 @@ use Rattle.count_invariant.proofs.Lookups.{slot_right, slot_one, footprint_way}
 use Rattle.count_invariant.proofs.Findings.{own_is, found_named, way_gone}
 use Rattle.count_invariant.proofs.Next.{Rest, ANameLeft, NoneLeft, rest_of, next_name}
 use Rattle.kernel_laws.specs.kernel_rules.specs.Edits.{Fill as fill_edit}
-use Rattle.kernel_laws.specs.kernel_rules.specs.Rules.{does}
 
 -- What a call puts at its target: what is left of its rule after its names fills the target with k, where no own cause stands, and it
 -- changes

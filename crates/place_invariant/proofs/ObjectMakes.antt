@@ -8,18 +8,16 @@ use Rattle.count_invariant.proofs.Common.{NewObject, object_kind, object_made, o
 use Rattle.kernel_laws.specs.spk_nums.specs.declared.kinds.Kind.TheVariants as kind
 use Rattle.kernel_laws.specs.spk_nums.specs.declared.calls.Call.TheVariants.{Make as make_call}
 use Rattle.kernel_laws.specs.spk_nums.specs.declared.calls.Make.TheVariants as make
-use Rattle.kernel_laws.specs.kernel_rules.specs.Start.{no_grace}
-use Rattle.kernel_laws.specs.kernel_rules.specs.Edits.{is_place_of}
+use Rattle.kernel_laws.specs.kernel_rules.specs.Start.{no_grace, plain_cap}
+use Rattle.kernel_laws.specs.kernel_rules.specs.Edits.{is_place_of, Edit, Fill, Node, Become}
 use Rattle.count_invariant.specs.act_states.specs.declared.objects.NewObject.TheVariants as objects
 use Rattle.count_invariant.specs.act_states.specs.Objects.{one_more}
 use Rattle.std.specs.Prelude.{◌++◌}
 use Rattle.kernel_laws.specs.spk_nums.specs.declared.kinds.Kind.{Kind}
 use Rattle.kernel_laws.specs.spk_nums.specs.declared.replies.Value.TheVariants.{Nothing}
 use Rattle.kernel_laws.specs.kernel_rules.specs.State.{Holds, with_frame, with_place}
-use Rattle.kernel_laws.specs.kernel_rules.specs.Start.{plain_cap}
 use Rattle.kernel_laws.specs.kernel_rules.specs.References.{place_names, frame_names}
 use Rattle.kernel_laws.specs.kernel_rules.specs.Access.{Slot}
-use Rattle.kernel_laws.specs.kernel_rules.specs.Edits.{Edit, Fill, Node, Become}
 use Rattle.kernel_laws.specs.kernel_rules.specs.Rules.{Change, does}
 
 -- The object that is made.

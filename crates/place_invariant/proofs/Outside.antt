@@ -23,12 +23,11 @@ use Rattle.count_invariant.proofs.Next.{Rest, ANameLeft, NoneLeft, rest_of, next
 use Rattle.place_invariant.proofs.ObjectMakes.{new_object, made_by, readied, make_rest, IsObjectMake, object_make}
 use Rattle.place_invariant.proofs.Starts.{IsRefusedOutside}
 use Rattle.place_invariant.proofs.Vacancy.{in_leaf, IsVacant, vacant_by}
-use Rattle.kernel_laws.specs.kernel_rules.specs.Edits.{Component as component_edit, Fill as fill_edit}
+use Rattle.kernel_laws.specs.kernel_rules.specs.Edits.{Component as component_edit, Fill as fill_edit, Edit}
 use Rattle.kernel_laws.specs.kernel_rules.specs.Rules.{does}
 use Rattle.kernel_laws.specs.spk_nums.specs.declared.replies.Value.TheVariants.{Nothing as no_value}
 use Rattle.kernel_laws.specs.spk_nums.specs.declared.kinds.Kind.TheVariants as kind
 use Rattle.kernel_laws.specs.kernel_rules.specs.Start.{plain_cap}
-use Rattle.kernel_laws.specs.kernel_rules.specs.Edits.{Edit}
 
 -- A slot that is reached and vacant.
 pub vacant_slot : (s : State) (c : ℕ) (target : Target) (at : Slot) → reached s c target ≡ Some at

@@ -21,20 +21,17 @@ use Rattle.trace_laws.specs.spk_nums.specs.declared.translations.Translation.{Tr
 use Rattle.trace_laws.specs.spk_nums.specs.declared.replies.Reply.{Reply}
 use Rattle.trace_laws.specs.spk_nums.specs.declared.replies.Reply.TheVariants as reply
 use Rattle.trace_laws.specs.kernel_rules.specs.State.{Place, Free, Holds, Quiescing, Object, Blank, Comp, Thread, Tcap, Frame, Untyped}
-use Rattle.trace_laws.specs.kernel_rules.specs.State.{Kernel}
-use Rattle.trace_laws.specs.kernel_rules.specs.State.{FrameOf, State, put, with_place, with_frame, with_core, with_number, comp_of}
+use Rattle.trace_laws.specs.kernel_rules.specs.State.{Kernel, FrameOf, State, put, with_place, with_frame, with_core, with_number, comp_of}
 use Rattle.trace_laws.specs.kernel_rules.specs.State.{thread_in, Live}
 use Rattle.trace_laws.specs.kernel_rules.specs.References.{named_by, core_names, times, refs}
 use Rattle.trace_laws.specs.kernel_rules.specs.Access.{Want, to_use, Slot, Named, found, Target, Under, InRoot, reached, usable, only, root}
 use Rattle.trace_laws.specs.spk_nums.specs.declared.replies.Value.TheVariants.{Nothing}
 use Rattle.trace_laws.specs.kernel_rules.specs.Rules.{Change, does, Judged, Refused, Found, named, of_kind, vacant, held}
 use Rattle.trace_laws.specs.kernel_rules.specs.CapabilityCalls.{make_node, make_rule, not_taken, epoch_of}
-use Rattle.trace_laws.specs.kernel_rules.specs.Edits.{Fill, Remove, cleared}
+use Rattle.trace_laws.specs.kernel_rules.specs.Edits.{Fill, Remove, cleared, with_thread, running, with_tcap, with_budget, tcap_at, moved}
 use Rattle.trace_laws.specs.kernel_rules.specs.MemoryCalls.{retype_rule, touch_by, translation_of}
 use Rattle.trace_laws.specs.kernel_rules.specs.InvocationCalls.{switch_to}
-use Rattle.trace_laws.specs.kernel_rules.specs.Edits.{with_thread, running}
-use Rattle.trace_laws.specs.kernel_rules.specs.Edits.{with_tcap, with_budget, tcap_at, moved}
-use Rattle.trace_laws.specs.kernel_rules.specs.CallRelation.{rule_of, change_of, changed, owed_by, state_by}
+use Rattle.trace_laws.specs.kernel_rules.specs.CallRelation.{rule_of, change_of, changed, owed_by, state_by, counted}
 use Rattle.trace_laws.specs.kernel_rules.specs.Relies.{IsGuarded}
 use Rattle.trace_laws.specs.kernel_rules.proofs.Changes.{IfFound}
 use Rattle.trace_laws.specs.kernel_rules.proofs.Within.{put_same, put_other}
@@ -53,7 +50,6 @@ use Rattle.trace_laws.specs.kernel_history.specs.Trace.{Step, Trace, Phase, Out,
 use Rattle.trace_laws.specs.kernel_history.specs.Trace.{state_entered, state_decided, state_returned, state_before}
 use Rattle.trace_laws.specs.kernel_history.proofs.Events.{entered_events}
 use Rattle.trace_laws.proofs.Opens.{opens}
-use Rattle.trace_laws.specs.kernel_rules.specs.CallRelation.{counted}
 
 -- From s to t the frame f rests.
 pub record Rests (s t : State) (f : ℕ) : Type 0 where

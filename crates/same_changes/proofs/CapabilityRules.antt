@@ -16,10 +16,9 @@ use Rattle.kernel_rules.specs.State.{NumberOf, Limits, State, put, with_place, w
 use Rattle.kernel_rules.specs.Start.{plain_cap, no_grace}
 use Rattle.kernel_rules.specs.Access.{to_use, Slot, Named, capability, Under, InRoot, found, only, root}
 use Rattle.kernel_rules.specs.Rules.{Change, Found, Cause, When, named, refusal_of}
-use Rattle.kernel_rules.specs.CapabilityCalls.{look_rule, copy_rule, remove_rule, grow_rule, shrink_rule, outside}
-use Rattle.kernel_rules.specs.CapabilityCalls.{is_blank, not_blank, make_node, make_thread}
+use Rattle.kernel_rules.specs.CapabilityCalls.{look_rule, copy_rule, remove_rule, grow_rule, shrink_rule, outside, is_blank, not_blank}
+use Rattle.kernel_rules.specs.CapabilityCalls.{make_node, make_thread, make_tcap, is_live, epoch_of, not_taken, make_comp, make_rule}
 use Rattle.kernel_rules.specs.Edits.{Fill, Component}
-use Rattle.kernel_rules.specs.CapabilityCalls.{make_tcap, is_live, epoch_of, not_taken, make_comp, make_rule}
 use Rattle.kernel_rules.specs.Fitting.{fits, IsGood}
 use Rattle.kernel_rules.specs.Relies.{is_node}
 use Rattle.kernel_invariant.proofs.Sound.{only_is}

@@ -6,9 +6,8 @@ use Rattle.spk_nums.specs.declared.kinds.Kind.TheVariants as kind
 use Rattle.spk_nums.specs.declared.calls.Call.{Call}
 use Rattle.spk_nums.specs.declared.translations.Translation.{Translation}
 use Rattle.spk_nums.specs.declared.replies.Value.{Value}
-use Rattle.kernel_rules.specs.State.{Free, Holds, Quiescing, CompFields, ThreadFields, Comp, Frame, Untyped, Kernel, Live, Dead}
-use Rattle.kernel_rules.specs.State.{Core, Grace, Thing, FrameOf, NumberOf, State, put, with_frame, with_core, thread_in, tcap_in}
-use Rattle.kernel_rules.specs.State.{thread_of}
+use Rattle.kernel_rules.specs.State.{Free, Holds, Quiescing, CompFields, ThreadFields, Comp, Frame, Untyped, Kernel, Live, Dead, Core}
+use Rattle.kernel_rules.specs.State.{Grace, Thing, FrameOf, NumberOf, State, put, with_frame, with_core, thread_in, tcap_in, thread_of}
 use Rattle.kernel_rules.specs.Start.{no_grace}
 use Rattle.kernel_rules.specs.References.{frame_names, number_names}
 use Rattle.kernel_rules.specs.GracePeriods.{same_thing, flushed}

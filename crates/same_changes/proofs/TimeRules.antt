@@ -16,9 +16,8 @@ use Rattle.kernel_rules.specs.Access.{to_use, Slot, Named, Under, found, only}
 use Rattle.kernel_rules.specs.Rules.{Change, Cause, Found, named}
 use Rattle.kernel_rules.specs.Life.{is_live_in, is_dead_in, asks_life, acts}
 use Rattle.kernel_rules.specs.InvocationCalls.{switch_to, gate_rule, kill_rule, call_rule, ret_rule, switch_rule}
-use Rattle.kernel_rules.specs.TimeCalls.{merged_list}
+use Rattle.kernel_rules.specs.TimeCalls.{merged_list, are_alike, preemption, preempts, tick_rule, transfer_rule, delegate_rule, test_rule}
 use Rattle.kernel_rules.specs.Edits.{Fill, Move, Merge, tcap_at}
-use Rattle.kernel_rules.specs.TimeCalls.{are_alike, preemption, preempts, tick_rule, transfer_rule, delegate_rule, test_rule}
 use Rattle.kernel_rules.specs.Fitting.{fits}
 use Rattle.kernel_rules.specs.Relies.{is_node}
 use Rattle.kernel_rules.specs.Ranges.{FrameInRange}

@@ -16,8 +16,7 @@ use Rattle.kernel_rules.specs.GracePeriods.{entered, returned, begun}
 use Rattle.kernel_rules.specs.Life.{acts}
 use Rattle.kernel_rules.specs.Rules.{Change, Judged, Refused, Found, named, of_kind, with_rights, and_then, or_refuse, outcome}
 use Rattle.kernel_rules.specs.InvocationCalls.{switch_to, switch_rule}
-use Rattle.kernel_rules.specs.Edits.{with_thread, running, switched}
-use Rattle.kernel_rules.specs.Edits.{tcap_at, with_tcap, with_budget, charge, charging}
+use Rattle.kernel_rules.specs.Edits.{with_thread, running, switched, tcap_at, with_tcap, with_budget, charge, charging}
 use Rattle.kernel_rules.specs.CallRelation.{are_calls_spent, change_of, changed, counted, state_by}
 use Rattle.kernel_rules.specs.Alone.{reply_in, first_reply, alone, plain_step, plain_reply}
 use Rattle.kernel_rules.proofs.Changes.{IfFound, AllChanges, outcome_all}

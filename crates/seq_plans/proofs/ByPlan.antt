@@ -11,9 +11,8 @@ use Rattle.kernel_rules.specs.State.{State, comp_of}
 use Rattle.kernel_rules.specs.Access.{Slot, Named, not_found, Want, Target as place, Under as under, root_at, place_at, held_in}
 use Rattle.kernel_rules.specs.Access.{usable, reached, own}
 use Rattle.kernel_rules.specs.Rules.{Cause, Rule, Name as name_rule, Vacant as vacant_rule, Held as held_rule, Mapped as mapped_rule, Does}
-use Rattle.kernel_rules.specs.Rules.{Refused, Found, and_then, or_refuse, unless, of_kind, named, held}
-use Rattle.kernel_rules.specs.Rules.{mapped, IsFoundAnd}
-use Rattle.kernel_rules.specs.Rules.{NameMay, VacantMay, HeldMay, MappedMay, OneMay, name_of, slot_of, RuleMay}
+use Rattle.kernel_rules.specs.Rules.{Refused, Found, and_then, or_refuse, unless, of_kind, named, held, mapped, IsFoundAnd, NameMay}
+use Rattle.kernel_rules.specs.Rules.{VacantMay, HeldMay, MappedMay, OneMay, name_of, slot_of, RuleMay}
 use Rattle.call_plans.specs.declared.plans.Nth.{Nth}
 use Rattle.call_plans.specs.declared.plans.Nth.TheVariants.{First, Second, Third, Fourth}
 use Rattle.call_plans.specs.declared.plans.Wanted.{Wanted}

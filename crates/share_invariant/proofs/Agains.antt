@@ -12,8 +12,7 @@ use Rattle.pair_invariant.specs.spk_nums.specs.Merging.{preempts_by}
 use Rattle.pair_invariant.specs.spk_nums.specs.declared.replies.Reply.TheVariants as reply
 use Rattle.pair_invariant.specs.spk_nums.specs.declared.replies.Value.TheVariants as value
 use Rattle.pair_invariant.specs.kernel_rules.specs.Access.{found as named_by}
-use Rattle.pair_invariant.specs.kernel_rules.specs.TimeCalls.{are_alike, merged_list}
-use Rattle.pair_invariant.specs.kernel_rules.specs.TimeCalls.{preemption, preempts}
+use Rattle.pair_invariant.specs.kernel_rules.specs.TimeCalls.{are_alike, merged_list, preemption, preempts}
 use Rattle.pair_invariant.specs.kernel_rules.specs.CallRelation.{begins_in as begun_by}
 use Rattle.pair_invariant.specs.stage_tcap.specs.Lists.{merge_of, merged_if}
 use Rattle.pair_invariant.specs.stage_tcap.specs.Pairs.{again_value, value_of, whole_b}

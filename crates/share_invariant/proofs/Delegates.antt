@@ -25,7 +25,7 @@ use Rattle.pair_invariant.specs.tcap_words.specs.Quality.{QualityFits, word_of_q
 use Rattle.pair_invariant.specs.tcap_words.proofs.QualityLemmas as qualities
 use Rattle.pair_invariant.specs.kernel_rules.specs.Access.{found as named_by}
 use Rattle.pair_invariant.specs.kernel_rules.specs.TimeCalls.{merged_list}
-use Rattle.pair_invariant.specs.kernel_rules.specs.Edits.{with_qualities}
+use Rattle.pair_invariant.specs.kernel_rules.specs.Edits.{with_qualities, Move as move_edit, Merge as merge_edit}
 use Rattle.pair_invariant.specs.kernel_rules.specs.CallRelation.{begins_in as begun_by}
 use Rattle.pair_invariant.specs.kernel_laws.proofs.Lists.{merged_list_is}
 use Rattle.pair_invariant.specs.kernel_history.specs.Stamps.{begins_in}
@@ -52,7 +52,6 @@ use Rattle.pair_invariant.proofs.ShareCalls.{causes_of, change_by}
 use Rattle.pair_invariant.proofs.ShareSteps.{mark_is, list_bare, now_was}
 use Rattle.share_invariant.proofs.Turned as turned
 use Rattle.share_invariant.proofs.Turned.{IsTaken}
-use Rattle.pair_invariant.specs.kernel_rules.specs.Edits.{Move as move_edit, Merge as merge_edit}
 use Rattle.pair_invariant.specs.kernel_rules.specs.Rules.{does}
 
 -- A merged list that has room is kept, and has at most 8 pairs.

@@ -14,7 +14,7 @@ use Rattle.thread_invariant.proofs.Common.{limits_of, at_place, Call}
 use Rattle.thread_invariant.specs.spk_nums.specs.declared.kinds.Kind.TheVariants as kind
 use Rattle.thread_invariant.specs.spk_nums.specs.declared.replies.Reply.TheVariants as reply
 use Rattle.thread_invariant.specs.kernel_rules.specs.InvocationCalls.{switch_to}
-use Rattle.thread_invariant.specs.kernel_rules.specs.Edits.{switched}
+use Rattle.thread_invariant.specs.kernel_rules.specs.Edits.{switched, Switch as switch_edit}
 use Rattle.thread_invariant.specs.kernel_history.specs.Footprint.{frames_about}
 use Rattle.thread_invariant.specs.plan_ways.proofs.InFootprint.{named_footprint, one_left, one_right}
 use Rattle.thread_invariant.specs.act_states.specs.Switches.{SwitchingFits, switching_dues}
@@ -27,7 +27,6 @@ use Rattle.thread_invariant.specs.count_invariant.proofs.Acquiring.{plan_leads, 
 use Rattle.thread_invariant.specs.count_invariant.proofs.SwitchCounts.{IsSwitch, switch_of, thread_kind, thread_footprint, old_footprint}
 use Rattle.thread_invariant.specs.live_invariant.proofs.Numbers.{one_of_many}
 use Rattle.switch_invariant.proofs.ThreadWords.{thread_is}
-use Rattle.thread_invariant.specs.kernel_rules.specs.Edits.{Switch as switch_edit}
 use Rattle.thread_invariant.specs.kernel_rules.specs.Rules.{does}
 use Rattle.thread_invariant.specs.spk_nums.specs.declared.replies.Value.TheVariants.{Nothing as no_value}
 

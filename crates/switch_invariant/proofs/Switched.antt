@@ -27,7 +27,7 @@ use Rattle.thread_invariant.specs.spk_nums.specs.declared.kinds.Kind.TheVariants
 use Rattle.thread_invariant.specs.spk_nums.specs.declared.replies.Reply.TheVariants as reply
 use Rattle.thread_invariant.specs.spk_nums.specs.declared.replies.Value.TheVariants as value
 use Rattle.thread_invariant.specs.tcap_words.proofs.ThreadLemmas as words
-use Rattle.thread_invariant.specs.kernel_rules.specs.Edits.{switched}
+use Rattle.thread_invariant.specs.kernel_rules.specs.Edits.{switched, Switch as switch_edit}
 use Rattle.thread_invariant.specs.kernel_rules.specs.Laws.{released}
 use Rattle.thread_invariant.specs.kernel_rules.specs.GracePeriods.{begun}
 use Rattle.thread_invariant.specs.kernel_rules.proofs.Changes.{IfFound}
@@ -65,7 +65,6 @@ use Rattle.switch_invariant.proofs.Words.{marked_says}
 use Rattle.thread_invariant.specs.act_states.specs.Switches.{SwitchAtFits}
 use Rattle.thread_invariant.specs.kernel_rules.specs.Access.{Want, own as own_of_access}
 use Rattle.thread_invariant.specs.spk_nums.specs.declared.calls.Call.TheVariants.{Switch as CallSwitch}
-use Rattle.thread_invariant.specs.kernel_rules.specs.Edits.{Switch as switch_edit}
 use Rattle.thread_invariant.specs.kernel_rules.specs.Rules.{does}
 use Rattle.thread_invariant.specs.spk_nums.specs.declared.replies.Value.TheVariants.{Nothing as no_value}
 

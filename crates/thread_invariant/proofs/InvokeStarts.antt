@@ -14,7 +14,7 @@ use Rattle.live_invariant.proofs.Common.{due_of, NamesAre, phase_at, holds_in, I
 use Rattle.live_invariant.specs.spk_nums.specs.declared.kinds.Kind.TheVariants as kind
 use Rattle.live_invariant.specs.spk_nums.specs.declared.calls.Call.TheVariants.{Call as call_gate}
 use Rattle.live_invariant.specs.spk_nums.specs.declared.replies.Reply.TheVariants as reply
-use Rattle.live_invariant.specs.kernel_rules.specs.Rules.{of_kind}
+use Rattle.live_invariant.specs.kernel_rules.specs.Rules.{of_kind, does}
 use Rattle.live_invariant.specs.act_states.specs.declared.invocations.InvokingAt.TheVariants.{LoadTable}
 use Rattle.live_invariant.specs.act_states.specs.declared.refusals.Refusal.TheVariants as refusal
 use Rattle.live_invariant.specs.act_states.specs.declared.work.Act.TheVariants.{Invoke as invoke_act}
@@ -24,7 +24,6 @@ use Rattle.live_invariant.specs.step_ways.proofs.Loads.{OnlyLooks, step_to, call
 use Rattle.live_invariant.specs.step_ways.proofs.Refusals.{GoodTook, not_spent}
 use Rattle.thread_invariant.proofs.InvokeCalls.{entering}
 use Rattle.live_invariant.specs.kernel_rules.specs.Edits.{Push as push_edit}
-use Rattle.live_invariant.specs.kernel_rules.specs.Rules.{does}
 use Rattle.live_invariant.specs.spk_nums.specs.declared.replies.Value.TheVariants.{Nothing as no_value}
 
 -- What a name leads to is of a wanted kind, and is what was found.

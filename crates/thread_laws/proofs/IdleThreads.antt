@@ -10,8 +10,7 @@ use Rattle.trace_laws.specs.spk_nums.specs.declared.replies.Value.{Value}
 use Rattle.trace_laws.specs.spk_nums.specs.declared.replies.Reply.{Reply}
 use Rattle.trace_laws.specs.spk_nums.specs.declared.replies.Reply.TheVariants as reply
 use Rattle.trace_laws.specs.kernel_rules.specs.State.{ThreadFields, TcapFields, Object, Blank, Table, Leaf, Pages, Pleaf, Comp, Thread}
-use Rattle.trace_laws.specs.kernel_rules.specs.State.{Tcap}
-use Rattle.trace_laws.specs.kernel_rules.specs.State.{Frame, Untyped, User, Kernel, Thing, FrameOf, State, put, thread_in, thread_of}
+use Rattle.trace_laws.specs.kernel_rules.specs.State.{Tcap, Frame, Untyped, User, Kernel, Thing, FrameOf, State, put, thread_in, thread_of}
 use Rattle.trace_laws.specs.kernel_rules.specs.Fitting.{fits}
 use Rattle.trace_laws.specs.kernel_rules.specs.Edits.{with_thread, running, with_tcap, with_budget, with_qualities, tcap_at, moved}
 use Rattle.trace_laws.specs.kernel_rules.specs.Edits.{Edit, Fill, Node, Become, Untype, Component, Push, Pop, Switch, Charge, Move, Merge}

@@ -24,8 +24,7 @@ use Rattle.step_ways.proofs.Common.{marker_inside, limits_of, sums_keep, SameFor
 use Rattle.step_ways.proofs.Common.{word_stays, carry_marks, carry_words, others_settled}
 use Rattle.kernel_laws.specs.spk_nums.specs.declared.replies.Reply.TheVariants as reply
 use Rattle.kernel_laws.specs.spk_nums.specs.declared.replies.Value.TheVariants.{Amount}
-use Rattle.kernel_laws.specs.kernel_rules.specs.State.{Core as CoreFields}
-use Rattle.kernel_laws.specs.kernel_rules.specs.State.{with_core}
+use Rattle.kernel_laws.specs.kernel_rules.specs.State.{Core as CoreFields, with_core}
 use Rattle.kernel_laws.specs.kernel_rules.specs.CallRelation.{owing}
 use Rattle.kernel_laws.specs.kernel_rules.specs.Edits.{with_tcap, charge, charging}
 use Rattle.plan_ways.specs.kernel_history.specs.Justified.{IsHeldUp}

@@ -13,10 +13,8 @@ use Rattle.comp_invariant.specs.spk_nums.specs.declared.calls.Make.TheVariants a
 use Rattle.comp_invariant.specs.spk_nums.specs.declared.kinds.FrameKind.TheVariants as frame_kind
 use Rattle.comp_invariant.specs.spk_nums.specs.declared.replies.Value.TheVariants.{Cap}
 use Rattle.comp_invariant.specs.spk_nums.specs.declared.replies.Reply.TheVariants as reply
-use Rattle.comp_invariant.specs.kernel_rules.specs.Access.{capability, any}
-use Rattle.comp_invariant.specs.kernel_rules.specs.Access.{Target as place}
-use Rattle.comp_invariant.specs.kernel_rules.specs.Rules.{Found as Found_it}
-use Rattle.comp_invariant.specs.kernel_rules.specs.Rules.{held}
+use Rattle.comp_invariant.specs.kernel_rules.specs.Access.{capability, any, Target as place}
+use Rattle.comp_invariant.specs.kernel_rules.specs.Rules.{Found as Found_it, held, does}
 use Rattle.comp_invariant.specs.kernel_rules.specs.CapabilityCalls.{look_rule}
 use Rattle.comp_invariant.specs.stage_look.specs.declared.look.Found.{Found}
 use Rattle.comp_invariant.specs.call_plans.specs.declared.plans.Spot.TheVariants as spot_of
@@ -24,7 +22,6 @@ use Rattle.comp_invariant.specs.call_plans.specs.declared.plans.Target.TheVarian
 use Rattle.comp_invariant.specs.call_plans.specs.Plans.{head}
 use Rattle.comp_invariant.specs.call_plans.specs.PlanOf.{plan_of_make}
 use Rattle.comp_invariant.specs.act_states.specs.Acts.{removes_at}
-use Rattle.comp_invariant.specs.kernel_rules.specs.Rules.{does}
 
 -- A target is refused where it has no slot, and one that is to be free where it is held.
 pub vacant_no_slot : (s : State) (c : ℕ) (target : place) → reached s c target ≡ None → vacant s c target ≡ Refused reply.NoSlot

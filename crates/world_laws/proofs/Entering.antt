@@ -10,12 +10,10 @@ use Rattle.kernel_rules.specs.State.{Blank, Thread, Tcap, Comp, Frame, Untyped, 
 use Rattle.kernel_rules.specs.State.{put, with_frame, comp_in, thread_in, thread_of, first_of_stack}
 use Rattle.kernel_rules.specs.Fitting.{fits}
 use Rattle.kernel_rules.specs.Life.{is_live_in}
-use Rattle.kernel_rules.specs.Edits.{with_thread}
-use Rattle.kernel_rules.specs.Edits.{tcap_at, with_tcap, charge}
+use Rattle.kernel_rules.specs.Edits.{with_thread, tcap_at, with_tcap, charge, Edit, Fill, Node, Become, Untype, Component, Push, Pop}
+use Rattle.kernel_rules.specs.Edits.{Switch, Cache, Flush, Charge, Move, Merge, edited, after_edits}
 use Rattle.kernel_rules.specs.Runs.{Event, Decides, after, is_open, IsRun}
 use Rattle.kernel_rules.proofs.Within.{put_same}
-use Rattle.kernel_rules.specs.Edits.{Edit, Fill, Node, Become, Untype, Component, Push, Pop, Switch, Cache, Flush}
-use Rattle.kernel_rules.specs.Edits.{Charge, Move, Merge, edited, after_edits}
 use Rattle.kernel_invariant.proofs.Sound.{put_all}
 use Rattle.kernel_invariant.proofs.SoundCalls.{IsOpen}
 use Rattle.kernel_invariant.proofs.SoundRuns.{opened, open_is, runs_sound, limits_stay}

@@ -13,11 +13,9 @@ use Rattle.kernel_rules.specs.Start.{no_grace}
 use Rattle.kernel_rules.specs.Access.{Slot, usable, usable_in, held_in}
 use Rattle.kernel_rules.specs.GracePeriods.{new_grace}
 use Rattle.kernel_rules.specs.Fitting.{fits}
-use Rattle.kernel_rules.specs.Edits.{with_thread, running}
-use Rattle.kernel_rules.specs.Edits.{tcap_at, with_tcap, with_budget, charge}
+use Rattle.kernel_rules.specs.Edits.{with_thread, running, tcap_at, with_tcap, with_budget, charge, Edit, Fill, Remove, Node, Become}
+use Rattle.kernel_rules.specs.Edits.{Untype, Component, Deaden, Push, Pop, Switch, Charge, Move, Merge, edited, after_edits}
 use Rattle.kernel_rules.specs.CallRelation.{begins, ends, flushes, state_by, MayReply}
-use Rattle.kernel_rules.specs.Edits.{Edit, Fill, Remove, Node, Become, Untype, Component, Deaden, Push, Pop, Switch}
-use Rattle.kernel_rules.specs.Edits.{Charge, Move, Merge, edited, after_edits}
 use Rattle.kernel_invariant.proofs.Sound.{put_all}
 use Rattle.kernel_invariant.proofs.SoundSteps.{place_all, free_holds, quiescing_holds, holds_inj}
 use Rattle.kernel_invariant.proofs.SoundCalls.{IsOpen}

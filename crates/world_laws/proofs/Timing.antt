@@ -13,13 +13,11 @@ use Rattle.kernel_rules.specs.State.{ThreadFields, TcapFields, Blank, Comp, Thre
 use Rattle.kernel_rules.specs.State.{put, with_frame, with_core, tcap_in}
 use Rattle.kernel_rules.specs.Access.{only}
 use Rattle.kernel_rules.specs.Fitting.{fits}
-use Rattle.kernel_rules.specs.Edits.{with_thread, running}
-use Rattle.kernel_rules.specs.Edits.{tcap_at, with_tcap, with_budget, charge}
+use Rattle.kernel_rules.specs.Edits.{with_thread, running, tcap_at, with_tcap, with_budget, charge, Edit, Fill, Node, Become, Untype}
+use Rattle.kernel_rules.specs.Edits.{Component, Push, Pop, Switch, Cache, Flush, Charge, Move, Merge, edited, after_edits}
 use Rattle.kernel_rules.specs.CallRelation.{owed_by, state_by, MayReply}
 use Rattle.kernel_rules.specs.Runs.{Event, Enters, Decides, Returns, after, IsRun}
 use Rattle.kernel_rules.proofs.Within.{put_same, put_other}
-use Rattle.kernel_rules.specs.Edits.{Edit, Fill, Node, Become, Untype, Component, Push, Pop, Switch, Cache, Flush}
-use Rattle.kernel_rules.specs.Edits.{Charge, Move, Merge, edited, after_edits}
 use Rattle.kernel_invariant.proofs.Sums.{sum_same, sum_one}
 use Rattle.kernel_invariant.proofs.Sound.{put_all, only_is}
 use Rattle.kernel_invariant.proofs.SoundCalls.{IsOpen, tcap_below}
