@@ -14,7 +14,8 @@ use Rattle.kernel_rules.specs.References.{place_names, frame_names, number_names
 use Rattle.kernel_rules.specs.Access.{only}
 use Rattle.kernel_rules.specs.Fitting.{fits}
 use Rattle.kernel_rules.specs.GracePeriods.{same_thing, begun}
-use Rattle.kernel_rules.specs.Rules.{Change, Judged, Refused, Found}
+use Rattle.spk_nums.specs.declared.replies.Value.{Value}
+use Rattle.kernel_rules.specs.Rules.{Change, does, Judged, Refused, Found}
 use Rattle.kernel_rules.specs.Edits.{frames_of, with_thread, Edit, Remove, Untype, Deaden, Pop, Switch, edited, after_edits, begins_in}
 use Rattle.kernel_rules.specs.CapabilityCalls.{is_live}
 use Rattle.kernel_rules.specs.Edits.{begins_all}
@@ -28,7 +29,7 @@ use Rattle.kernel_invariant.proofs.Sound.{put_all, only_is}
 use Rattle.kernel_invariant.proofs.SoundRemovals.{frames_no_place}
 use Rattle.kernel_invariant.proofs.SoundCalls.{IsOpen}
 use Rattle.kernel_invariant.proofs.SoundRuns.{opened, open_is}
-use Rattle.kernel_invariant.proofs.Facts.{outcome_from, usable_good, none_some}
+use Rattle.kernel_invariant.proofs.Facts.{outcome_from, edits_map, usable_good, none_some}
 use Rattle.kernel_invariant.proofs.Edited.{Calm}
 use Rattle.state_laws.proofs.Threads.{threads_run}
 use Rattle.authority_laws.specs.Authority.{Part, PlaceIs, FrameIs, NumberIs, CoreIs}
@@ -229,18 +230,19 @@ module _ (call : Call) (s : State) (c : ℕ) (o : ℕ → Bool) (h : IsOpen s o 
   edits_cause (e ∷ (y ∷ es)) calm quiet by x is =
       absurd (false≢true (ap (list_any (same_thing x)) (sym (calm.0 ∙ quiet)) ∙ is))
 
-  change_cause : (change : Change) → Acts call c s change → (x : Thing) → list_any (same_thing x) change.begins ≡ true
-      → HasCause s (counted (begun s change.begins change.next) c) x
-  change_cause change acts x = subst
-      (λ (k : Change). list_any (same_thing x) k.begins ≡ true → HasCause s (counted (begun s k.begins k.next) c) x) (sym acts.is)
-      (λ is. cause_on (after_edits c s acts.list) _ x (edits_cause acts.list acts.calm acts.quiet acts.by x is))
+  abbrev CausedBy : Change → Type 0
+  CausedBy change = (x : Thing) → list_any (same_thing x) change.begins ≡ true → HasCause s (counted (begun s change.begins change.next) c) x
+
+  change_cause : (v : Value) (es : List Edit) → Acts call c s es → CausedBy (does c s v es)
+  change_cause v es acts x is = cause_on (after_edits c s es) _ x (edits_cause es acts.calm acts.quiet acts.by x is)
 
   pub ok_cause : (x : Thing) → begun_in (change_of s c call) x ≡ true → HasCause s (counted (changed s (change_of s c call)) c) x
-  ok_cause x = by_found (change_of s c call) (outcome_from (Acts call c s) s c (rule_of s c call) (rule_acts s c o h call))
+  ok_cause x = by_found (change_of s c call) (outcome_from CausedBy s c (rule_of s c call)
+      (edits_map (λ v es. Acts call c s es) (λ v es. CausedBy (does c s v es)) s c (rule_of s c call) change_cause (rule_acts s c o h call)))
     where
-      by_found : (j : Judged Change) → IfFound j (Acts call c s) → begun_in j x ≡ true → HasCause s (counted (changed s j) c) x
-      by_found (Refused r) acts is = absurd (false≢true is)
-      by_found (Found change) acts is = change_cause change acts x is
+      by_found : (j : Judged Change) → IfFound j CausedBy → begun_in j x ≡ true → HasCause s (counted (changed s j) c) x
+      by_found (Refused r) by is = absurd (false≢true is)
+      by_found (Found change) by is = by x is
 
 pub graces_have_cause : GracesHaveCause
 graces_have_cause setting lim events c call r run x is = by_reply r is

@@ -1,5 +1,5 @@
 -- A copy that is carried out puts what its first name leads to, with no right that this lacks.
-use Rattle.std.proofs.Common.{◌≡◌, ℕ, Some, refl, sym, ap, ◌∙◌, subst}
+use Rattle.std.proofs.Common.{◌≡◌, ℕ, [], ◌∷◌, Some, refl, sym, ap, ◌∙◌, subst}
 use Rattle.spk_nums.proofs.KeptRights.{kept_has}
 use Rattle.spk_nums.specs.Capability.{Capability}
 use Rattle.spk_nums.specs.Rights.{kept}

@@ -126,10 +126,10 @@ module _ (setup : Setting) (setting : IsSetting setup) (cores : ℕ → Core) (t
 
   -- what is left of the rule
   abbrev pub left_rule : Option ℕ → Rule
-  left_rule o = switch_to (state_after setup t) c (found is_switch.thread) is_switch.tcap.frame o
+  left_rule o = switch_to (found is_switch.thread) is_switch.tcap.frame o
 
   pub left : rule_after (rule_of (state_after setup t) c a.call) a.found
-      ≡ switch_to (state_after setup t) c (found is_switch.thread) is_switch.tcap.frame
+      ≡ switch_to (found is_switch.thread) is_switch.tcap.frame
       (thread_in ((state_after setup t).frame (claimed_by m.at))).runs_on
   left = ap (λ x. rule_after (rule_of s c x) a.found) is_switch.call_is
       ∙ ap (rule_after (rule_of s c (Switch is_switch.name is_switch.other))) is_switch.found_is

@@ -220,5 +220,5 @@ module _ (s : State) (c a : ℕ) (k : Capability) (is : named s c a (to_look any
   pub look_begins : (x : Thing) → begins_in (change_of s c (look_call a)) x ≡ false
   look_begins x = ap (λ y. begins_in y x) look_change
 
-  pub look_answers : IsFoundAnd (outcome s c (look_rule s a)) (λ change. change.value ≡ Cap k)
+  pub look_answers : IsFoundAnd (outcome s c (look_rule a)) (λ change. change.value ≡ Cap k)
   look_answers = subst (λ x. IsFoundAnd x (λ change. change.value ≡ Cap k)) (sym look_change) refl
