@@ -13,7 +13,6 @@ use Rattle.spk_nums.specs.declared.calls.Make.TheVariants as make
 use Rattle.spk_nums.specs.declared.calls.Call.{Call}
 use Rattle.spk_nums.specs.declared.calls.Call.TheVariants as call
 use Rattle.spk_nums.specs.declared.translations.Translation.{Translation}
-use Rattle.spk_nums.specs.declared.replies.Value.{Value}
 use Rattle.spk_nums.specs.declared.replies.Reply.TheVariants as reply
 use Rattle.kernel_rules.specs.State.{Holds, CompFields, Object, Blank, Table, Leaf, Pages, Pleaf, Thread, Tcap}
 use Rattle.kernel_rules.specs.State.{Frame, User, Kernel, FrameOf, State, tcap_in, comp_in, comp_of, thread_in, thread_of}
@@ -22,8 +21,8 @@ use Rattle.kernel_rules.specs.Access.{Want, to_use, to_copy, any, only, root, fo
 use Rattle.kernel_rules.specs.Access.{linked, slot_in, usable, reached, own, place_at, root_slot}
 use Rattle.kernel_rules.specs.Fitting.{fits}
 use Rattle.kernel_rules.specs.References.{refs}
-use Rattle.kernel_rules.specs.Rules.{waits_of, flushes_of, WaitedFor, Unflushed, Change, Cause, When, Found, named, vacant, held}
-use Rattle.kernel_rules.specs.Rules.{first_cause, refusal_of, does}
+use Rattle.kernel_rules.specs.Rules.{waits_of, flushes_of, WaitedFor, Unflushed, Cause, When, Found, named, vacant, held}
+use Rattle.kernel_rules.specs.Rules.{first_cause, refusal_of}
 use Rattle.kernel_rules.specs.CapabilityCalls.{has_frame, outside, not_blank, make_node, make_rule, not_taken, is_live, epoch_of}
 use Rattle.kernel_rules.specs.CapabilityCalls.{leaf_of, leaf_for}
 use Rattle.kernel_rules.specs.MemoryCalls.{not_user, not_untyped, not_retyped, retype_rule, touch_by, translation_of, is_empty}

@@ -1,5 +1,5 @@
 -- What a decision changes is its core's own, or lies under a capability that it named and that has the right to use.
-use Rattle.std.proofs.Common.{◌≡◌, ◌⊎◌, inl, inr, ℕ, Bool, refl, sym, ap, subst, List}
+use Rattle.std.proofs.Common.{◌≡◌, ◌⊎◌, inl, inr, ℕ, Bool, refl, ap, List}
 use Rattle.spk_nums.specs.declared.calls.Call.{Call}
 use Rattle.spk_nums.specs.declared.calls.Call.TheVariants.{Tick}
 use Rattle.spk_nums.specs.declared.replies.Value.{Value}

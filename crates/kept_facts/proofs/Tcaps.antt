@@ -3,7 +3,6 @@ use Rattle.std.proofs.Common.{◌≡◌, ◌≢◌, ◌⊎◌, ◌<◌, arith, i
 use Rattle.std.proofs.Common.{Option, Some, None, refl, sym, ◌∙◌, ap, subst, IsTrue}
 use Rattle.std.proofs.lemmas.Bool.{false≢true, eq-eqb, or_left, or_right}
 use Rattle.thread_laws.specs.spk_nums.specs.Setting.{Setting, IsSetting}
-use Rattle.thread_laws.specs.spk_nums.specs.declared.kinds.Kind.{Kind}
 use Rattle.thread_laws.specs.spk_nums.specs.declared.kinds.Kind.TheVariants as kind
 use Rattle.thread_laws.specs.spk_nums.specs.declared.calls.Call.{Call}
 use Rattle.thread_laws.specs.spk_nums.specs.declared.calls.Call.TheVariants.{Tick}
@@ -16,7 +15,7 @@ use Rattle.thread_laws.specs.kernel_rules.specs.Fitting.{fits}
 use Rattle.thread_laws.specs.kernel_rules.specs.Edits.{with_thread, running, with_tcap, with_budget, tcap_at, edited, after_edits}
 use Rattle.thread_laws.specs.kernel_rules.specs.Edits.{Edit, Node, Become, Untype, Component, Push, Pop, Switch, Charge, Move, Merge}
 use Rattle.thread_laws.specs.kernel_rules.specs.Rules.{Change, does, Judged, Refused, Found}
-use Rattle.thread_laws.specs.kernel_rules.specs.CallRelation.{rule_of, change_of, changed, owed_by, state_by, ends, ends_by, MayReply}
+use Rattle.thread_laws.specs.kernel_rules.specs.CallRelation.{change_of, changed, owed_by, state_by, ends, ends_by, MayReply}
 use Rattle.thread_laws.specs.kernel_invariant.proofs.Sound.{put_all}
 use Rattle.thread_laws.specs.kernel_invariant.specs.Edits.{ends_in, ends_all}
 use Rattle.thread_laws.specs.kernel_invariant.proofs.SoundCalls.{IsOpen}

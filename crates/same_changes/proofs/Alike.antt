@@ -2,22 +2,18 @@
 use Rattle.std.proofs.Common.{◌≡◌, ℕ, ◌<◌, Bool, true, false, refl, sym, ◌∙◌, ap, subst, if◌then◌else◌, List, [], ◌∷◌, Option, Some, None}
 use Rattle.std.specs.List.{list_any}
 use Rattle.spk_nums.specs.Capability.{Capability}
-use Rattle.spk_nums.specs.declared.kinds.Kind.{Kind}
 use Rattle.spk_nums.specs.declared.calls.Call.{Call}
 use Rattle.spk_nums.specs.declared.replies.Reply.{Reply}
-use Rattle.kernel_rules.specs.State.{Frame, Grace, Thing, PlaceOf, FrameOf, NumberOf, State}
-use Rattle.kernel_rules.specs.Access.{Slot, found, Target}
+use Rattle.kernel_rules.specs.State.{Thing, PlaceOf, FrameOf, NumberOf, State}
+use Rattle.kernel_rules.specs.Access.{Slot, found}
 use Rattle.kernel_rules.specs.GracePeriods.{same_thing, needs_flush, is_paging, is_translated, new_grace, begun}
 use Rattle.kernel_rules.specs.Rules.{Change, does, Cause, When, WaitedFor, Unflushed, Rule, Name, Vacant, Held, Mapped, Does, Judged}
 use Rattle.kernel_rules.specs.Rules.{Refused, Found, and_then, unless, named, vacant, held, mapped, first_of, refusal_of, first_cause}
 use Rattle.kernel_rules.specs.Rules.{outcome}
-use Rattle.kernel_rules.specs.CallRelation.{changed}
 use Rattle.kernel_rules.specs.Relies.{is_node}
-use Rattle.kernel_invariant.proofs.Sound.{IsSound}
 use Rattle.kernel_invariant.proofs.Facts.{EditsFrom}
 use Rattle.kernel_invariant.proofs.Edited.{Edits}
 use Rattle.seq_state.specs.Representation.{IsThing, SameGrace, SameState}
-use Rattle.seq_state.proofs.Same.{same_grace_by}
 use Rattle.same_changes.specs.Same.{SameChange, SameOutcome}
 use Rattle.same_changes.proofs.EditsSame.{does_same}
 use Rattle.same_changes.proofs.Reaching.{Twins, RootGood, named_same, vacant_same, held_same, mapped_same, waits_same, flushes_same}

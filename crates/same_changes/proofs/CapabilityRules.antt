@@ -1,34 +1,29 @@
 -- The calls on capabilities come to the same.
-use Rattle.std.proofs.Common.{◌≡◌, ℕ, ◌+◌, ◌<◌, ◌==◌, Bool, true, false, not, ◌&&◌, ◌||◌, refl, sym, ◌∙◌}
-use Rattle.std.proofs.Common.{ap, subst, nat_le, nat_lt, if◌then◌else◌, List, [], ◌∷◌, Option, None, IsTrue}
-use Rattle.std.proofs.lemmas.Bool.{false≢true, ltb-true}
+use Rattle.std.proofs.Common.{◌≡◌, ℕ, ◌+◌, ◌<◌, ◌==◌, Bool, true, false, not, ◌&&◌, ◌||◌, refl, ◌∙◌}
+use Rattle.std.proofs.Common.{ap, nat_lt, if◌then◌else◌, [], ◌∷◌, IsTrue}
+use Rattle.std.proofs.lemmas.Bool.{ltb-true}
 use Rattle.spk_nums.specs.Capability.{Capability}
-use Rattle.spk_nums.specs.Rights.{kept}
 use Rattle.spk_nums.specs.declared.kinds.Kind.{Kind}
 use Rattle.spk_nums.specs.declared.kinds.Kind.TheVariants as kind
 use Rattle.spk_nums.specs.declared.calls.Make.{Make}
 use Rattle.spk_nums.specs.declared.calls.Make.TheVariants as make
 use Rattle.spk_nums.specs.CallLimits.{MakeInLimits}
 use Rattle.spk_nums.specs.declared.replies.Reply.TheVariants as reply
-use Rattle.kernel_rules.specs.State.{Place, Free, Holds, Quiescing, CompFields, Object, Table, Leaf, Pages}
-use Rattle.kernel_rules.specs.State.{Pleaf, Comp, Thread, Tcap, Frame, Kernel, Liveness, Live, Thing}
-use Rattle.kernel_rules.specs.State.{NumberOf, Limits, State, put, with_place, with_frame, with_number}
-use Rattle.kernel_rules.specs.Start.{plain_cap, no_grace}
-use Rattle.kernel_rules.specs.Access.{to_use, Slot, Named, capability, Under, InRoot, found, only, root}
-use Rattle.kernel_rules.specs.Rules.{Change, Found, Cause, When, named, refusal_of}
-use Rattle.kernel_rules.specs.CapabilityCalls.{look_rule, copy_rule, remove_rule, grow_rule, shrink_rule, outside, is_blank, not_blank}
-use Rattle.kernel_rules.specs.CapabilityCalls.{make_node, make_thread, make_tcap, is_live, epoch_of, not_taken, make_comp, make_rule}
+use Rattle.kernel_rules.specs.State.{Object, Table, Leaf, Pages}
+use Rattle.kernel_rules.specs.State.{Pleaf, Comp, Thread, Tcap, Frame}
+use Rattle.kernel_rules.specs.State.{Limits, State}
+use Rattle.kernel_rules.specs.Start.{plain_cap}
+use Rattle.kernel_rules.specs.Access.{to_use, root}
+use Rattle.kernel_rules.specs.Rules.{Found, named}
+use Rattle.kernel_rules.specs.CapabilityCalls.{look_rule, copy_rule, remove_rule, grow_rule, shrink_rule, is_blank, not_blank}
+use Rattle.kernel_rules.specs.CapabilityCalls.{make_node, is_live, epoch_of, make_comp, make_rule}
 use Rattle.kernel_rules.specs.Edits.{Fill, Component}
-use Rattle.kernel_rules.specs.Fitting.{fits, IsGood}
+use Rattle.kernel_rules.specs.Fitting.{fits}
 use Rattle.kernel_rules.specs.Relies.{is_node}
-use Rattle.kernel_invariant.proofs.Sound.{only_is}
 use Rattle.kernel_invariant.proofs.Facts.{named_good}
 use Rattle.kernel_invariant.proofs.SoundCalls.{root_node}
-use Rattle.seq_state.specs.Representation.{IsThing, SameGrace, SameState}
-use Rattle.seq_state.proofs.Same.{same_by, same_then, same_place, same_frame, same_number, same_grace_by}
-use Rattle.same_changes.specs.Same.{SameChange}
-use Rattle.same_changes.proofs.Reaching.{Twins, table_node, pages_node}
-use Rattle.same_changes.proofs.Alike.{SameCause, SameCauses, SameRule}
+use Rattle.same_changes.proofs.Reaching.{Twins}
+use Rattle.same_changes.proofs.Alike.{SameCause, SameRule}
 use Rattle.same_changes.proofs.TimeRules.{named_table}
 
 -- A named root is a node.

@@ -4,10 +4,9 @@ use Rattle.std.proofs.Common.{if◌then◌else◌, List, [], ◌∷◌, ◌++◌
 use Rattle.std.specs.Prelude.{min}
 use Rattle.spk_nums.specs.declared.kinds.Kind.TheVariants as kind
 use Rattle.spk_nums.specs.declared.calls.Call.{Call}
-use Rattle.spk_nums.specs.declared.translations.Translation.{Translation}
 use Rattle.spk_nums.specs.declared.replies.Value.{Value}
-use Rattle.kernel_rules.specs.State.{Free, Holds, Quiescing, CompFields, ThreadFields, Comp, Frame, Untyped, Kernel, Live, Dead, Core}
-use Rattle.kernel_rules.specs.State.{Grace, Thing, FrameOf, NumberOf, State, put, with_frame, with_core, thread_in, tcap_in, thread_of}
+use Rattle.kernel_rules.specs.State.{Free, Holds, Quiescing, ThreadFields, Comp, Untyped, Kernel, Live, Dead, Core}
+use Rattle.kernel_rules.specs.State.{Thing, FrameOf, NumberOf, State, with_frame, with_core, thread_in, tcap_in, thread_of}
 use Rattle.kernel_rules.specs.Start.{no_grace}
 use Rattle.kernel_rules.specs.References.{frame_names, number_names}
 use Rattle.kernel_rules.specs.GracePeriods.{same_thing, flushed}
@@ -17,7 +16,7 @@ use Rattle.kernel_rules.specs.Edits.{Edit, Fill, Remove, Node, Become, Untype, C
 use Rattle.kernel_rules.specs.Edits.{Charge, Move, Merge, edited, begins_in, after_edits, begins_all}
 use Rattle.kernel_rules.specs.Rules.{does}
 use Rattle.kernel_invariant.proofs.Edited.{Known, Each, AreLater, Edits}
-use Rattle.seq_state.specs.Representation.{IsThing, SameGrace, SameState}
+use Rattle.seq_state.specs.Representation.{SameGrace, SameState}
 use Rattle.seq_state.proofs.Same.{same_by, same_then, same_place, same_frame, same_number, same_core, same_grace_by}
 use Rattle.same_changes.specs.Same.{SameChange}
 use Rattle.same_changes.proofs.Reaching.{Twins, fit_below, core_same, thread_frame_same, thread_same, tcap_frame_same}

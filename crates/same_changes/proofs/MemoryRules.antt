@@ -1,35 +1,29 @@
 -- The calls on memory come to the same.
 use Rattle.std.proofs.Common.{◌≡◌, ℕ, ◌+◌, ◌<◌, ◌≤◌, ◌==◌, Bool, true, false, not, ◌&&◌, refl, sym, ◌∙◌, ap, subst, arith, nat_le}
-use Rattle.std.proofs.Common.{nat_lt, if◌then◌else◌, zero, suc, List, [], ◌∷◌, length, Option, Some, None, is_some, IsTrue}
+use Rattle.std.proofs.Common.{nat_lt, if◌then◌else◌, zero, suc, [], ◌∷◌, Option, Some, None, is_some, IsTrue}
 use Rattle.std.specs.List.{list_any, range_with_len}
 use Rattle.std.proofs.lemmas.Bool.{false≢true, ltb-true}
-use Rattle.spk_nums.specs.Capability.{Capability, cap_of}
+use Rattle.spk_nums.specs.Capability.{Capability}
 use Rattle.spk_nums.specs.declared.kinds.Kind.TheVariants as kind
 use Rattle.spk_nums.specs.declared.kinds.FrameKind.{FrameKind}
 use Rattle.spk_nums.specs.declared.kinds.FrameKind.TheVariants as frame_kind
 use Rattle.spk_nums.specs.declared.kinds.PageFlags.{PageFlags}
 use Rattle.spk_nums.specs.declared.translations.Translation.{Translation}
-use Rattle.spk_nums.specs.declared.replies.Reply.{Reply}
 use Rattle.spk_nums.specs.declared.replies.Reply.TheVariants as reply
-use Rattle.kernel_rules.specs.State.{Holds, Object, Blank, Table, Leaf, Pages, Pleaf, Comp, Thread, Tcap, Frame, Untyped, User, Kernel}
-use Rattle.kernel_rules.specs.State.{Grace, Thing, FrameOf, CompFields, Core, State, put, with_frame, with_core, with_grace, comp_of}
-use Rattle.kernel_rules.specs.Start.{no_grace}
-use Rattle.kernel_rules.specs.References.{refs, frame_names}
-use Rattle.kernel_rules.specs.Access.{to_use, Named, Under, found, only, held_in}
-use Rattle.kernel_rules.specs.GracePeriods.{same_thing, flushed}
-use Rattle.kernel_rules.specs.Rules.{Change, Cause, Found, named, refusal_of}
-use Rattle.kernel_rules.specs.CapabilityCalls.{outside, has_frame}
-use Rattle.kernel_rules.specs.MemoryCalls.{is_untyped, is_user, holds_nothing, is_empty_object, is_empty, not_retyped, retypes, retype_rule}
-use Rattle.kernel_rules.specs.MemoryCalls.{map_rule, unmap_rule, translation_of, caches, touch_by, touch_rule, flush_rule}
-use Rattle.kernel_rules.specs.Fitting.{IsGood, EndsWithin}
+use Rattle.kernel_rules.specs.State.{Object, Blank, Table, Leaf, Pages, Pleaf, Comp, Thread, Tcap, Frame, Untyped, User, Kernel}
+use Rattle.kernel_rules.specs.State.{CompFields, State, comp_of}
+use Rattle.kernel_rules.specs.Access.{to_use, found, only, held_in}
+use Rattle.kernel_rules.specs.Rules.{Found, named, refusal_of}
+use Rattle.kernel_rules.specs.CapabilityCalls.{outside}
+use Rattle.kernel_rules.specs.MemoryCalls.{is_untyped, is_user, holds_nothing, is_empty_object, is_empty, retype_rule}
+use Rattle.kernel_rules.specs.MemoryCalls.{map_rule, unmap_rule, translation_of, touch_by, touch_rule, flush_rule}
+use Rattle.kernel_rules.specs.Fitting.{EndsWithin}
 use Rattle.kernel_rules.specs.Relies.{is_node}
 use Rattle.kernel_invariant.proofs.Sound.{only_is}
 use Rattle.kernel_invariant.proofs.Facts.{named_good, named_fit, when_not, not_not}
-use Rattle.seq_state.specs.Representation.{IsThing, SameGrace, SameState}
-use Rattle.seq_state.proofs.Same.{same_by, same_then, same_place, same_frame, same_core, same_grace_by, same_refs}
-use Rattle.same_changes.specs.Same.{SameChange}
+use Rattle.seq_state.proofs.Same.{same_refs}
 use Rattle.same_changes.proofs.Reaching.{Twins, pages_node, pages_good, core_same, comp_same}
-use Rattle.same_changes.proofs.Alike.{SameCauses, SameRule}
+use Rattle.same_changes.proofs.Alike.{SameRule}
 use Rattle.same_changes.proofs.CapabilityRules.{frame_test}
 
 pub named_pages : {t s : State} {o : ℕ → Bool} {c : ℕ} → Twins t s o c → (n : ℕ) (k : Capability) → named s c n (to_use (only kind.Pages)) ≡ Found k

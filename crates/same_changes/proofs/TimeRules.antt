@@ -1,6 +1,6 @@
 -- The calls of invocation and of time come to the same.
 use Rattle.std.proofs.Common.{◌≡◌, ℕ, ◌+◌, ◌-◌, ◌<◌, ◌==◌, Bool, true, false, not, ◌&&◌, ◌||◌, refl, sym, ◌∙◌, ap, subst}
-use Rattle.std.proofs.Common.{nat_le, nat_lt, List, [], ◌∷◌, length, take, drop, Option, Some, None, IsTrue}
+use Rattle.std.proofs.Common.{nat_le, nat_lt, [], ◌∷◌, length, Option, Some, None, IsTrue}
 use Rattle.std.proofs.lemmas.Bool.{false≢true}
 use Rattle.spk_nums.specs.Merging.{merged}
 use Rattle.spk_nums.specs.Capability.{Capability, cap_of}
@@ -9,11 +9,10 @@ use Rattle.spk_nums.specs.declared.kinds.Kind.TheVariants as kind
 use Rattle.spk_nums.specs.declared.calls.Call.{Call}
 use Rattle.spk_nums.specs.declared.replies.Value.TheVariants.{Amount}
 use Rattle.spk_nums.specs.declared.replies.Reply.TheVariants as reply
-use Rattle.kernel_rules.specs.State.{Frame, Kernel, Comp, CompFields, ThreadFields, TcapFields, Liveness, Dead, NumberOf, Holds, Core}
-use Rattle.kernel_rules.specs.State.{State, with_frame, with_core, with_number, with_place, comp_of, comp_in, thread_in, tcap_in, thread_of}
-use Rattle.kernel_rules.specs.References.{number_names}
-use Rattle.kernel_rules.specs.Access.{to_use, Slot, Named, Under, found, only}
-use Rattle.kernel_rules.specs.Rules.{Change, Cause, Found, named}
+use Rattle.kernel_rules.specs.State.{Frame, Kernel, Comp, CompFields, ThreadFields, TcapFields, NumberOf}
+use Rattle.kernel_rules.specs.State.{State, comp_of, comp_in, thread_in, tcap_in}
+use Rattle.kernel_rules.specs.Access.{to_use, found, only}
+use Rattle.kernel_rules.specs.Rules.{Found, named}
 use Rattle.kernel_rules.specs.Life.{is_live_in, is_dead_in, asks_life, acts}
 use Rattle.kernel_rules.specs.InvocationCalls.{switch_to, gate_rule, kill_rule, call_rule, ret_rule, switch_rule}
 use Rattle.kernel_rules.specs.TimeCalls.{merged_list, are_alike, preemption, preempts, tick_rule, transfer_rule, delegate_rule, test_rule}
@@ -22,11 +21,8 @@ use Rattle.kernel_rules.specs.Fitting.{fits}
 use Rattle.kernel_rules.specs.Relies.{is_node}
 use Rattle.kernel_rules.specs.Ranges.{FrameInRange}
 use Rattle.kernel_invariant.proofs.Facts.{named_fit}
-use Rattle.seq_state.specs.Representation.{SameState}
-use Rattle.seq_state.proofs.Same.{same_by, same_then, same_place, same_frame, same_number, same_core}
-use Rattle.same_changes.specs.Same.{SameChange}
-use Rattle.same_changes.proofs.Reaching.{Twins, is_some_kind, fit_below, frame_same, core_same, core_below, here, here_fit, comp_same}
-use Rattle.same_changes.proofs.Reaching.{thread_frame_same, thread_same, tcap_frame_same, table_node}
+use Rattle.same_changes.proofs.Reaching.{Twins, is_some_kind, fit_below, core_below, here, here_fit, comp_same}
+use Rattle.same_changes.proofs.Reaching.{thread_same, table_node}
 use Rattle.same_changes.proofs.EditsSame.{charge_same}
 use Rattle.same_changes.proofs.Alike.{SameRule}
 

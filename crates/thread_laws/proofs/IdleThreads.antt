@@ -9,14 +9,14 @@ use Rattle.trace_laws.specs.spk_nums.specs.declared.calls.Call.TheVariants.{Tick
 use Rattle.trace_laws.specs.spk_nums.specs.declared.replies.Value.{Value}
 use Rattle.trace_laws.specs.spk_nums.specs.declared.replies.Reply.{Reply}
 use Rattle.trace_laws.specs.spk_nums.specs.declared.replies.Reply.TheVariants as reply
-use Rattle.trace_laws.specs.kernel_rules.specs.State.{ThreadFields, TcapFields, Object, Blank, Table, Leaf, Pages, Pleaf, Comp, Thread}
+use Rattle.trace_laws.specs.kernel_rules.specs.State.{ThreadFields, TcapFields, Blank, Table, Leaf, Pages, Pleaf, Comp, Thread}
 use Rattle.trace_laws.specs.kernel_rules.specs.State.{Tcap, Frame, Untyped, User, Kernel, Thing, FrameOf, State, put, thread_in, thread_of}
 use Rattle.trace_laws.specs.kernel_rules.specs.Fitting.{fits}
 use Rattle.trace_laws.specs.kernel_rules.specs.Edits.{with_thread, running, with_tcap, with_budget, with_qualities, tcap_at, moved}
 use Rattle.trace_laws.specs.kernel_rules.specs.Edits.{Edit, Fill, Node, Become, Untype, Component, Push, Pop, Switch, Charge, Move, Merge}
 use Rattle.trace_laws.specs.kernel_rules.specs.Edits.{edited, after_edits}
 use Rattle.trace_laws.specs.kernel_rules.specs.Rules.{Change, does, Judged, Refused, Found}
-use Rattle.trace_laws.specs.kernel_rules.specs.CallRelation.{rule_of, change_of, changed, owed_by, state_by, ends, ends_by}
+use Rattle.trace_laws.specs.kernel_rules.specs.CallRelation.{change_of, changed, owed_by, state_by, ends, ends_by}
 use Rattle.trace_laws.specs.kernel_invariant.proofs.Sound.{put_all}
 use Rattle.trace_laws.specs.kernel_rules.proofs.Within.{put_same, put_other}
 use Rattle.trace_laws.specs.kernel_invariant.specs.Edits.{ends_in}
