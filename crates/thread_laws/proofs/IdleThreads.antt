@@ -9,8 +9,8 @@ use Rattle.trace_laws.specs.spk_nums.specs.declared.calls.Call.TheVariants.{Tick
 use Rattle.trace_laws.specs.spk_nums.specs.declared.replies.Value.{Value}
 use Rattle.trace_laws.specs.spk_nums.specs.declared.replies.Reply.{Reply}
 use Rattle.trace_laws.specs.spk_nums.specs.declared.replies.Reply.TheVariants as reply
-use Rattle.trace_laws.specs.kernel_rules.specs.State.{ThreadFields, TcapFields, Blank, Table, Leaf, Pages, Pleaf, Comp, Thread}
-use Rattle.trace_laws.specs.kernel_rules.specs.State.{Tcap, Frame, Untyped, User, Kernel, Thing, FrameOf, State, put, thread_in, thread_of}
+use Rattle.trace_laws.specs.kernel_rules.specs.State.{ThreadFields, TcapFields, Blank, Comp, Thread}
+use Rattle.trace_laws.specs.kernel_rules.specs.State.{Frame, Untyped, Kernel, Thing, FrameOf, State, put, thread_in, thread_of}
 use Rattle.trace_laws.specs.kernel_rules.specs.Fitting.{fits}
 use Rattle.trace_laws.specs.kernel_rules.specs.Edits.{with_thread, running, with_tcap, with_budget, with_qualities, tcap_at, moved}
 use Rattle.trace_laws.specs.kernel_rules.specs.Edits.{Edit, Fill, Node, Become, Untype, Component, Push, Pop, Switch, Charge, Move, Merge}
@@ -94,18 +94,6 @@ moved_still s a b m =
 with_thread_is : (x : Frame) (t : ThreadFields) → IsTrue (is_thread x) → with_thread x t ≡ Kernel (Thread t)
 with_thread_is (Kernel (Thread u)) t is = refl
 with_thread_is _ t is = absurd (false≢true is)
-
-with_thread_none : (x : Frame) (t : ThreadFields) → is_thread x ≡ false → with_thread x t ≡ x
-with_thread_none (Kernel (Thread u)) t none = absurd (false≢true (sym none))
-with_thread_none Untyped t none = refl
-with_thread_none User t none = refl
-with_thread_none (Kernel Blank) t none = refl
-with_thread_none (Kernel Table) t none = refl
-with_thread_none (Kernel Leaf) t none = refl
-with_thread_none (Kernel Pages) t none = refl
-with_thread_none (Kernel Pleaf) t none = refl
-with_thread_none (Kernel (Comp k)) t none = refl
-with_thread_none (Kernel (Tcap q)) t none = refl
 
 -- The thread of core d is another: it runs before the change.
 own_rests : (s : State) (d : ℕ) → RunsOn s d → (t : ThreadFields) (f : ℕ)
