@@ -115,7 +115,7 @@ CALL(recv, OWN, (HELD(port), comp), uint16_t comp)
 uint8_t speck_inner_boot(struct held *machine, uint8_t cores, uint16_t frames, uint32_t budget);
 uint8_t speck_inner_deal(struct held *machine, struct held *port);
 uint8_t speck_inner_take_back(struct held *machine, struct held *port);
-uint8_t speck_inner_boot_with(struct held *machine, uint16_t frames, uint32_t calls, uint16_t epochs, const struct speck_grant *grants,
+uint8_t speck_inner_boot_with(struct held *machine, uint16_t frames, uint64_t calls, uint16_t epochs, const struct speck_grant *grants,
     size_t cores);
 uint8_t speck_inner_finish(struct held *machine, struct held *last);
 uint8_t speck_inner_show(struct held *last, struct held *text);
@@ -139,7 +139,7 @@ uint8_t speck_boot(struct speck_machine *machine, uint8_t cores, uint16_t frames
     return booted(GUARD(machine), speck_inner_boot(HELD(machine), cores, frames, budget));
 }
 
-uint8_t speck_boot_with(struct speck_machine *machine, uint16_t frames, uint32_t calls, uint16_t epochs,
+uint8_t speck_boot_with(struct speck_machine *machine, uint16_t frames, uint64_t calls, uint16_t epochs,
     const struct speck_grant *grants, size_t cores) {
     static const struct speck_grant none; /* a slice is never null, also where it is empty */
     if (!machine || (!grants && cores)) return SPECK_NOTHING_HELD;

@@ -185,7 +185,7 @@ int main(void) {
     tell("a quality of 0", speck_boot_with(&other, 32, 1, 1, grants, 1));
     grants[0].quality = 1;
     tell("booted by grants into a full slot", speck_boot_with(&machine, 32, 1, 1, grants, 1));
-    tell("too many calls", speck_boot_with(&other, 32, 4194305, 0, grants, 1));
+    tell("too many calls", speck_boot_with(&other, 32, UINT64_C(1) << 40, 0, grants, 1));
     tell("no epoch", speck_boot_with(&other, 32, 1, 0, grants, 1));
     tell("a send through what is no gate", speck_send(&port[0], 3).code);
     tell("a receive by what is no component", speck_recv(&port[0], 0).code);

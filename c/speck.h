@@ -61,7 +61,13 @@
  * LIMITS. 1 to 8 cores; 4 + 2n to 512 frames, of 64 words; numbers of capabilities and pages 0 to 4,095; a component's name is a liveness
  * number, 0 to 63, of up to 65,535 epochs; a thread is in up to 16 components; a temporal capability's list names up to 8 schedulers of 0
  * to 63; a quality is 1 to 16,777,215, and a smaller one is better; a budget is up to 500,000,000 ticks, a `tick` up to 1,000,000; a core
- * makes up to 4,194,304 calls, after which each answers SPECK_CALLS_SPENT, and up to as many sends and receives, the refused ones too.
+ * makes up to 2^40 - 1 calls (1,099,511,627,775), and up to as many sends and receives, the refused ones too.
+ *
+ * WHEN A MACHINE IS USED UP. A core that has made as many calls as it may is answered SPECK_CALLS_SPENT from then on, and that changes
+ * nothing: at 100,000 calls a second after 127 days, at the full speed of a processor after some 52 hours; sooner only where
+ * speck_boot_with says so. The other cores go on. A liveness number is used up after as many kills as it has epochs, 65,535, all 64 of
+ * them after 4,194,240: then speck_make_comp with it answers SPECK_EPOCHS_SPENT. No call ends either. Finish the machine, once its ports are
+ * back, and boot another; or have each core count its calls, and do so in time.
  *
  * WHAT TO DO ABOUT A REPLY is its `advice` (below). To make a call until it is carried out or refused for good:
  *
@@ -161,7 +167,7 @@ enum {
     SPECK_PORT_OUT = 246,
     SPECK_NO_MEMORY = 247,
     SPECK_OTHER_MACHINE = 248,
-    SPECK_BAD_CALLS = 249,     /* past 4,194,304 */
+    SPECK_BAD_CALLS = 249,     /* past 2^40 - 1 */
     SPECK_BAD_EPOCHS = 250,    /* 0 */
     SPECK_IN_CALL = 253,
     SPECK_NOTHING_HELD = 254,
@@ -223,9 +229,9 @@ uint8_t speck_take_back(struct speck_machine *machine, struct speck_port *port);
 uint8_t speck_finish(struct speck_machine *machine, struct speck_final *last);
 
 /* Boots a machine whose cores are each granted ticks of their own, through a scheduler at a quality, core 0's grant first; each may make so
- * many calls, and a liveness number has so many epochs (1 to 65,535). */
+ * many calls, at most 2^40 - 1, and a liveness number has so many epochs (1 to 65,535). */
 struct speck_grant { uint32_t budget; uint32_t quality; uint8_t sched; };
-uint8_t speck_boot_with(struct speck_machine *machine, uint16_t frames, uint32_t calls, uint16_t epochs,
+uint8_t speck_boot_with(struct speck_machine *machine, uint16_t frames, uint64_t calls, uint16_t epochs,
     const struct speck_grant *grants, size_t cores);
 
 /* Each empties its slot, whatever it holds, and answers SPECK_OK, also where it was empty; or SPECK_NOTHING_HELD of a slot that is null, or
@@ -258,7 +264,8 @@ enum { SPECK_NO_OBJECT = 255 };
 
 uint8_t speck_read_size(struct speck_final *last, struct speck_size *into);
 uint8_t speck_read_frame(struct speck_final *last, uint16_t frame, struct speck_frame *into);
-/* What a core counts of the references to a frame, those made less those released: the references to it are the sum over all cores. */
+/* What a core counts of the references to a frame, those made less those released, modulo 2^16, from -32,768 to 32,767: the references to it
+ * are the sum over all cores, modulo 2^16. One core's count alone says nothing. */
 uint8_t speck_read_count(struct speck_final *last, uint16_t frame, uint8_t core, int32_t *into);
 /* What an entry, 0 to 63, of a node holds: of a root a link, of a leaf a capability or a mapping (SPECK_KIND_PAGE). */
 uint8_t speck_read_entry(struct speck_final *last, uint16_t frame, uint16_t entry, struct speck_capability *into);

@@ -8,7 +8,7 @@ use crate::stage::{Active, Stage, active, root};
 use crate::words::*;
 
 /// A core makes no more calls than this.
-const MOST_CALLS: u32 = 4_194_304;
+const MOST_CALLS: u64 = (1 << 40) - 1;
 
 /// A core: what it has of its own, and its call in progress.
 #[derive(Clone, Debug)]
@@ -27,8 +27,8 @@ struct Own {
     comp: u16,
     table: u16,
     pages: u16,
-    exit: u32,
-    made: u32,
+    exit: u64,
+    made: u64,
     spent: u64,
     owed: u64,
     cached: Vec<Translation>,
@@ -36,7 +36,7 @@ struct Own {
 
 impl Core {
     /// A core of a machine that has just booted, with the stamp of its last exit.
-    pub fn new(me: u8, layout: Layout, exit: u32) -> Core {
+    pub fn new(me: u8, layout: Layout, exit: u64) -> Core {
         let own = Own {
             me,
             layout,
@@ -71,7 +71,7 @@ impl Core {
         match told {
             Told::Going => {}
             Told::Decided(reply) => {
-                self.own.made += u32::from(reply != Reply::CallsSpent);
+                self.own.made += u64::from(reply != Reply::CallsSpent);
                 call.reply = Some(reply);
             }
             Told::Returned(_) => self.active = None,
@@ -222,7 +222,7 @@ impl Own {
             Stage::Fill => call.carried_out(Stage::Settle { at: 0 }),
             Stage::Close if found != call.target_word => call.refuse(Reply::Raced),
             Stage::Close => call.to(Stage::Draw),
-            Stage::Draw => self.drew(call, found as u32),
+            Stage::Draw => self.drew(call, found),
             Stage::Quiesce { .. } => call.settle(0),
             Stage::OwnHead => match Head::unpack(found).mark {
                 Some(core) => self.owes(call, Reply::Busy(core)),
@@ -263,14 +263,14 @@ impl Own {
             Stage::StoreNew { stamp } => call.to(Stage::Rest { stamp }),
             Stage::Rest { .. } | Stage::Unclaim => call.settle(0),
             Stage::Settle { at } => call.settle(at + 1),
-            Stage::Clock => call.to(Stage::Leave { stamp: found as u32 }),
+            Stage::Clock => call.to(Stage::Leave { stamp: found }),
             Stage::Leave { stamp } => {
                 self.exit = stamp;
                 Told::Returned(call.reply.expect("a decision"))
             }
             Stage::FlushClock => {
                 self.cached.clear();
-                call.decide(Reply::Done, Stage::FlushStore { stamp: found as u32 })
+                call.decide(Reply::Done, Stage::FlushStore { stamp: found })
             }
             Stage::FlushStore { .. } => call.to(Stage::Clock),
             _ => call.took_heads(found),
@@ -349,7 +349,7 @@ impl Own {
     }
 
     // The scan goes on with the first other core from this one on.
-    fn scan_from(&self, call: &mut Active, core: u8, stamp: u32) -> Told {
+    fn scan_from(&self, call: &mut Active, core: u8, stamp: u64) -> Told {
         let core = if core == self.me { core + 1 } else { core };
         if core < self.layout.cores {
             return call.to(Stage::ScanCore { core, stamp });
@@ -360,15 +360,15 @@ impl Own {
         }
     }
 
-    fn scanned(&self, call: &mut Active, core: u8, stamp: u32, found: u64) -> Told {
-        if found & 1 == 1 && (found >> 1) as u32 <= stamp {
+    fn scanned(&self, call: &mut Active, core: u8, stamp: u64, found: u64) -> Told {
+        if found & 1 == 1 && found >> 1 <= stamp {
             return call.refuse(Reply::Quiescing(core));
         }
         self.scan_from(call, core + 1, stamp)
     }
 
-    fn scanned_flush(&self, call: &mut Active, core: u8, stamp: u32, found: u64) -> Told {
-        if found as u32 <= stamp {
+    fn scanned_flush(&self, call: &mut Active, core: u8, stamp: u64, found: u64) -> Told {
+        if found <= stamp {
             return call.refuse(Reply::Unflushed(core));
         }
         if core + 1 < self.layout.cores {
@@ -414,7 +414,7 @@ impl Own {
     }
 
     // The call is carried out with this stamp.
-    fn drew(&mut self, call: &mut Active, stamp: u32) -> Told {
+    fn drew(&mut self, call: &mut Active, stamp: u64) -> Told {
         call.stamp = stamp;
         match call.call {
             Call::Ret => {

@@ -12,7 +12,7 @@ use crate::words::*;
 pub struct Port {
     table: Arc<Table>,
     me: u8,
-    exit: u32,
+    exit: u64,
     spent: u64,
     owed: u64,
     counts: usize,
@@ -48,7 +48,7 @@ impl Port {
     pub fn call(&mut self, call: Call) -> Reply {
         self.table.at(self.own).store(core_word(true, self.exit), SeqCst);
         let reply = self.carry_out(call).unwrap_or_else(|refusal| refusal);
-        self.exit = self.load(self.clock) as u32;
+        self.exit = self.load(self.clock);
         self.table.at(self.own).store(core_word(false, self.exit), SeqCst);
         reply
     }
@@ -103,7 +103,7 @@ impl Port {
             self.settle(pinned, 0, 0);
             return Err(Reply::Raced);
         }
-        let stamp = self.table.at(self.clock).fetch_add(1, SeqCst) as u32;
+        let stamp = self.table.at(self.clock).fetch_add(1, SeqCst);
         self.table.at(place).store(Entry::Quiescing(stamp).pack(), SeqCst);
         self.settle(pinned, -1, stamp);
         Ok(Reply::Done)
@@ -167,12 +167,12 @@ impl Port {
         let layout = self.table.layout;
         for core in (0..layout.cores).filter(|core| *core != self.me) {
             let word = self.table.word(layout.core(core)).load(SeqCst);
-            if word & 1 == 1 && (word >> 1) as u32 <= stamp {
+            if word & 1 == 1 && word >> 1 <= stamp {
                 return Err(Reply::Quiescing(core));
             }
         }
         for core in 0..if is_page { layout.cores } else { 0 } {
-            if self.table.word(layout.flush(core)).load(SeqCst) as u32 <= stamp {
+            if self.table.word(layout.flush(core)).load(SeqCst) <= stamp {
                 return Err(Reply::Unflushed(core));
             }
         }
@@ -199,7 +199,7 @@ impl Port {
     }
 
     // Gives a count back with so many references more. Where one is released its stamp is kept.
-    fn settle(&self, pinned: Pinned, change: i64, stamp: u32) {
+    fn settle(&self, pinned: Pinned, change: i64, stamp: u64) {
         if let Some((at, word)) = pinned {
             let count = Count::unpack(word);
             let stamp = if change < 0 { stamp } else { count.stamp };

@@ -1,8 +1,5 @@
 //! The words of the shared table, and where they lie, as docs/FORMATS.md has them. Unproved.
 
-/// How much higher a count stands in its word than it is.
-const COUNT_BASE: i64 = 1 << 30;
-
 #[derive(Clone, Copy, PartialEq, Eq, Debug)]
 pub enum Kind {
     Range,
@@ -53,7 +50,7 @@ pub enum Entry {
     Free,
     Held(Cap),
     Closing(u8),
-    Quiescing(u32),
+    Quiescing(u64),
 }
 
 impl Entry {
@@ -67,7 +64,7 @@ impl Entry {
                 rights: 3 & !(word >> 40) as u8,
             }),
             2 => Entry::Closing((word >> 2 & 7) as u8),
-            _ => Entry::Quiescing((word >> 32) as u32),
+            _ => Entry::Quiescing(word >> 4),
         }
     }
 
@@ -79,7 +76,7 @@ impl Entry {
                 1 | (cap.kind as u64) << 2 | u64::from(cap.frame) << 6 | u64::from(cap.arg) << 16 | withheld << 40
             }
             Entry::Closing(core) => 2 | u64::from(core) << 2,
-            Entry::Quiescing(stamp) => 3 | u64::from(stamp) << 32,
+            Entry::Quiescing(stamp) => 3 | stamp << 4,
         }
     }
 }
@@ -100,10 +97,10 @@ pub fn kernel_frame(object: Kind) -> u64 {
     2 | number << 2
 }
 
-/// The references to a frame that one core counts.
+/// The references to a frame that one core counts, modulo 2^16.
 #[derive(Clone, Copy, PartialEq, Eq, Debug)]
 pub struct Count {
-    pub stamp: u32,
+    pub stamp: u64,
     pub references: i64,
     pub mark: Option<u8>,
     pub closed: bool,
@@ -112,8 +109,8 @@ pub struct Count {
 impl Count {
     pub fn unpack(word: u64) -> Count {
         Count {
-            stamp: (word & 0xfff_ffff) as u32,
-            references: (word >> 28 & 0x7fff_ffff) as i64 - COUNT_BASE,
+            stamp: word & 0x7ff_ffff_ffff,
+            references: i64::from((word >> 43) as i16),
             mark: (word >> 59 & 15).checked_sub(1).map(|core| core as u8),
             closed: word >> 63 == 1,
         }
@@ -121,13 +118,13 @@ impl Count {
 
     pub fn pack(self) -> u64 {
         let mark = self.mark.map_or(0, |core| u64::from(core) + 1);
-        u64::from(self.stamp) | ((self.references + COUNT_BASE) as u64) << 28 | mark << 59 | u64::from(self.closed) << 63
+        self.stamp | u64::from(self.references as u16) << 43 | mark << 59 | u64::from(self.closed) << 63
     }
 }
 
 /// A core's word: whether it is inside a call, and the stamp of its last exit.
-pub fn core_word(inside: bool, stamp: u32) -> u64 {
-    u64::from(inside) | u64::from(stamp) << 1
+pub fn core_word(inside: bool, stamp: u64) -> u64 {
+    u64::from(inside) | stamp << 1
 }
 
 /// A liveness number.

@@ -113,7 +113,7 @@ unsafe extern "C" {
     pub(crate) fn speck_free_note(note: *mut Slot) -> u8;
     pub(crate) fn speck_take_back(machine: *mut Slot, port: *mut Slot) -> u8;
     pub(crate) fn speck_finish(machine: *mut Slot, last: *mut Slot) -> u8;
-    pub(crate) fn speck_boot_with(machine: *mut Slot, frames: u16, calls: u32, epochs: u16, grants: *const Grant, cores: usize) -> u8;
+    pub(crate) fn speck_boot_with(machine: *mut Slot, frames: u16, calls: u64, epochs: u16, grants: *const Grant, cores: usize) -> u8;
     pub(crate) fn speck_free_final(last: *mut Slot) -> u8;
     pub(crate) fn speck_read_size(last: *mut Slot, into: *mut SizePart) -> u8;
     pub(crate) fn speck_read_frame(last: *mut Slot, frame: u16, into: *mut FramePart) -> u8;

@@ -14,7 +14,7 @@ pub enum Fault {
     Frames,
     /// A budget past 500,000,000 ticks, a scheduler past 63, or a quality that is not 1 to 16,777,215.
     Grant,
-    /// More than 4,194,304 calls of a core.
+    /// More than 2^40 - 1 calls of a core.
     Calls,
     /// No epoch of a liveness number.
     Epochs,
@@ -36,7 +36,7 @@ impl fmt::Display for Fault {
             Fault::Cores => "not 1 to 8 cores",
             Fault::Frames => "not 4 + 2 * cores to 512 frames",
             Fault::Grant => "a grant out of range",
-            Fault::Calls => "more than 4,194,304 calls of a core",
+            Fault::Calls => "more than 2^40 - 1 calls of a core",
             Fault::Epochs => "no epoch of a liveness number",
             Fault::AllDealt => "each core has its port",
             Fault::NotItsTurn => "the ports with lower numbers are not all back",
@@ -104,9 +104,9 @@ impl Machine {
         Ok(machine)
     }
 
-    /// A machine of a core for each grant, core 0's first, of so many frames, whose cores may each make so many calls, at most 4,194,304, and
+    /// A machine of a core for each grant, core 0's first, of so many frames, whose cores may each make so many calls, at most 2^40 - 1, and
     /// whose liveness numbers have so many epochs.
-    pub fn boot_with(frames: u16, calls: u32, epochs: u16, grants: &[Grant]) -> Result<Machine, Fault> {
+    pub fn boot_with(frames: u16, calls: u64, epochs: u16, grants: &[Grant]) -> Result<Machine, Fault> {
         let mut machine = Machine { slot: Slot::EMPTY };
         done(unsafe { ffi::speck_boot_with(&mut machine.slot, frames, calls, epochs, grants.as_ptr(), grants.len()) })?;
         Ok(machine)

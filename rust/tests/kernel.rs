@@ -87,7 +87,7 @@ fn two_threads_share_a_kernel() {
 #[test]
 fn each_core_has_its_grant_and_endpoints_count() {
     let grants = [Grant { budget: 500, quality: 3, sched: 7 }, Grant { budget: 20, quality: 9, sched: 63 }];
-    assert_eq!(Machine::boot_with(32, 4_194_305, 1, &grants).err(), Some(Fault::Calls));
+    assert_eq!(Machine::boot_with(32, 1 << 40, 1, &grants).err(), Some(Fault::Calls));
     assert_eq!(Machine::boot_with(32, 9, 0, &grants).err(), Some(Fault::Epochs));
     assert_eq!(Machine::boot_with(32, 9, 1, &[Grant { quality: 0, ..grants[0] }]).err(), Some(Fault::Grant));
     assert_eq!(Machine::boot_with(32, 9, 1, &[]).err(), Some(Fault::Cores));

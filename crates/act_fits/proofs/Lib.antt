@@ -1,6 +1,7 @@
 -- What holds of all acts.
 pub mod NamedFit
 pub mod DuesFit
+pub mod DuesSmall
 pub mod StepsFit
 pub mod LandsFit
 pub mod ScansFit

@@ -1,5 +1,5 @@
 -- The counts that an act changes, in the order in which they are acquired.
-use Rattle.std.specs.Prelude.{ℕ, ℤ, pos, negsuc}
+use Rattle.std.specs.Prelude.{ℕ, ℤ, pos, negsuc, ◌≤◌}
 use Rattle.std.specs.Prelude.{Option, Some, None, List, map, slice_get, [], ◌∷◌}
 use Rattle.spk_nums.specs.Capability.{Capability}
 use Rattle.call_plans.specs.kernel_invariant.specs.kernel_rules.specs.References.{named_by}
@@ -26,6 +26,11 @@ use Rattle.act_states.specs.declared.invocations.ReturningAt.{ReturningAt}
 use Rattle.act_states.specs.declared.invocations.ReturningAt.TheVariants as returning
 use Rattle.act_states.specs.Switches.{switching_dues}
 use Rattle.act_states.specs.Untypings.{untyping_dues}
+
+-- a change of a count is of two references at most
+abbrev pub IsSmallChange : ℤ → Type 0
+IsSmallChange (pos n) = n ≤ 2
+IsSmallChange (negsuc n) = n ≤ 1
 
 -- the counts that change where a capability is put: that of the frame that it names; a range names none
 abbrev pub cap_dues : Capability → ℤ → List Due

@@ -116,6 +116,7 @@ sharing core what a b = record {
   head_b = head 0 0;
   list_a = Some [];
   list_b = Some [];
+  grows = false;
   at = LoadA;
 }
 

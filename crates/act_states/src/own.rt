@@ -18,11 +18,11 @@ pub struct Own {
     /// The root of the table of its component.
     pub table: FrameNo,
     /// The most calls that it may make.
-    pub limit: u32,
+    pub limit: u64,
     /// The most epochs that a liveness number has.
     pub epochs: u16,
     /// The calls that it has made, those answered `calls-spent` excepted.
-    pub made: u32,
+    pub made: u64,
     /// The clock that its last exit loaded.
     pub exit: Stamp,
     /// Its current thread.

@@ -134,13 +134,13 @@ removed_place frames stamp w at Free is h = absurd (no_free w at (spelling.spell
 removed_place frames stamp w at (Holds k) is h = absurd (no_held w at k (spelling.spells w (entry.Held k) h.0).1 is)
 removed_place frames stamp w at (Quiescing k) is h = (k, refl)
 
-removed_here : (frames room stamp i w at : ℕ) (x : Frame) (p : Place) → IsTrue (is_node x) → i < 64 → w ≡ word_of_entry (entry.Quiescing at)
-    → IsFrameWord frames room x p stamp i w → (k : Capability) × (p ≡ Quiescing k)
-removed_here frames room stamp i w at (Kernel Table) p node lt is h = removed_place frames stamp w at p is (h lt)
-removed_here frames room stamp i w at (Kernel Leaf) p node lt is h = removed_place frames stamp w at p is (h lt)
-removed_here frames room stamp i w at (Kernel Pages) p node lt is h = removed_place frames stamp w at p is (h lt)
-removed_here frames room stamp i w at (Kernel Pleaf) p node lt is h = removed_place frames stamp w at p is (h lt)
-removed_here frames room stamp i w at _ p node lt is h = absurd (false≢true node)
+removed_here : (frames stamp i w at : ℕ) (x : Frame) (p : Place) → IsTrue (is_node x) → i < 64 → w ≡ word_of_entry (entry.Quiescing at)
+    → IsFrameWord frames x p stamp i w → (k : Capability) × (p ≡ Quiescing k)
+removed_here frames stamp i w at (Kernel Table) p node lt is h = removed_place frames stamp w at p is (h lt)
+removed_here frames stamp i w at (Kernel Leaf) p node lt is h = removed_place frames stamp w at p is (h lt)
+removed_here frames stamp i w at (Kernel Pages) p node lt is h = removed_place frames stamp w at p is (h lt)
+removed_here frames stamp i w at (Kernel Pleaf) p node lt is h = removed_place frames stamp w at p is (h lt)
+removed_here frames stamp i w at _ p node lt is h = absurd (false≢true node)
 
 -- ---- what a step leaves of the frames
 
@@ -234,7 +234,7 @@ module _ (setup : Setting) (setting : IsSetting setup) (t : Trace) (e : Step) (m
     stored_alike : (h : Holding) (f i : ℕ) → i < 64 → WordIs s' (times_of setup (e ∷ t)) (EntryAt f i) (h.stands (EntryAt f i))
         → Stores setup (e ∷ t) call h f i → (v : ℕ) → mark_in_frame (s'.frame f) i v ≡ mark_in_frame (s.frame f) i v
     stored_alike h f i lt says stores v =
-        let removed = removed_here _ _ _ i (h.stands (EntryAt f i)) stores.at (s'.frame f) (s'.place f i) stores.node lt stores.stands says in
+        let removed = removed_here _ _ i (h.stands (EntryAt f i)) stores.at (s'.frame f) (s'.place f i) stores.node lt stores.stands says in
         reads f i v (nodes_stay before e.core call q stores.places f i removed.0
         (subst (λ (r : ℕ → Frame). IsTrue (is_node (r f))) frames_are stores.node)
         (ap (λ (r : ℕ → ℕ → Place). r f i) (sym places_are) ∙ removed.1) v)

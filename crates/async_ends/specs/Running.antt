@@ -1,5 +1,5 @@
 -- The program of an endpoint call.
-use Rattle.std.specs.Prelude.{ℕ, ◌+◌, ◌<◌, ◌==◌, ◌≡◌, if◌then◌else◌, Option, Some, None, Ok}
+use Rattle.std.specs.Prelude.{ℕ, ◌+◌, ◌-◌, ◌^◌, ◌<◌, ◌==◌, ◌≡◌, if◌then◌else◌, Option, Some, None, Ok}
 use Rattle.spk_nums.specs.declared.steps.WordOp.{WordOp}
 use Rattle.spk_nums.specs.declared.steps.WordOp.TheVariants.{Load, Compare, Add}
 use Rattle.turn_rule.specs.Steps.{Steps}
@@ -43,7 +43,7 @@ StageFits frames (Takes f n) = (f < frames) × (0 < n)
 
 -- How often a core may call.
 abbrev pub most_calls : ℕ
-most_calls = 4194304
+most_calls = 2 ^ 40 - 1
 
 abbrev pub next_at : EndStage → Option WordOp
 next_at Idle = None

@@ -26,7 +26,7 @@ pub enum EndStage {
 pub struct EndRun {
     pub(crate) stage: EndStage,
     pub(crate) frames: u16,
-    pub(crate) begun: u32,
+    pub(crate) begun: u64,
     pub(crate) last: EndAct,
 }
 

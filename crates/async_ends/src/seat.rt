@@ -16,7 +16,7 @@ pub struct EndSeat {
     pub(crate) seat: TurnSeat<EndRun>,
     pub(crate) frames: u16,
     pub(crate) cores: u8,
-    pub(crate) made: u32,
+    pub(crate) made: u64,
 }
 
 impl Model for EndSeat {
@@ -30,10 +30,10 @@ impl Model for EndSeat {
 }
 
 impl EndSeat {
-    /// How many calls were made with the seat, the refused ones too: at most 4,194,304. Its contract also says what holds
+    /// How many calls were made with the seat, the refused ones too: at most 2^40 - 1. Its contract also says what holds
     /// of every seat: the history that it has seen is legal, each receive in it that was raced was crossed by another core
     /// between its two steps, and the seat's core is between calls.
-    pub fn made(&self) -> u32
+    pub fn made(&self) -> u64
         ensures value { result ≡ self.now.made }
         ensures most { self.now.made ≤ most_calls }
         ensures legal { IsLegal (history_of self.now.seen) }

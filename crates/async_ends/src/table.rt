@@ -39,7 +39,7 @@ impl EndTable {
     /// where the look at the gate is, and with `wrong-cap` where that is a capability of another kind; nothing is sent then,
     /// and no step made. The look comes first: the step has it.
     ///
-    /// The seat has made fewer than 4,194,304 calls, and the authority knows no more frames than the table. It takes no
+    /// The seat has made fewer than 2^40 - 1 calls, and the authority knows no more frames than the table. It takes no
     /// memory.
     pub fn send<A: Authority>(&self, seat: &mut EndSeat, who: &mut A, gate: CapId) -> EndReply
         requires table { seat.old.table ≡ self.now }

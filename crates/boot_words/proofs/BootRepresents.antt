@@ -14,12 +14,14 @@ use Rattle.entry_words.specs.EntryWord.{EntryFits, word_of_entry, entry_of_word}
 use Rattle.entry_words.proofs.Spelling as entries
 use Rattle.frame_words.specs.Frame.{FrameFits}
 use Rattle.frame_words.specs.Count.{word_of_count}
+use Rattle.frame_words.specs.Residue.{residue}
 use Rattle.frame_words.specs.Live.{word_of_live, live_of_word}
 use Rattle.frame_words.specs.declared.live_word.LiveWord.TheVariants as live_word
 use Rattle.frame_words.specs.declared.count_word.Hold.TheVariants.{Unheld}
 use Rattle.frame_words.proofs.CompLemmas as comps
 use Rattle.frame_words.proofs.CoreLemmas as core_words
 use Rattle.frame_words.proofs.CountLemmas as counts
+use Rattle.frame_words.proofs.ResidueLemmas.{residue_pos}
 use Rattle.frame_words.proofs.FlushLemmas as flushes
 use Rattle.frame_words.proofs.FrameLemmas as frames
 use Rattle.frame_words.proofs.LiveLemmas as lives
@@ -273,7 +275,8 @@ module _ (setup : Setting) (lim : IsSetting setup) where
     counts = λ f h. record {
       unheld = all_counters (λ c. IsUnheld (count_at (boot_word setup) f c)) setup.cores
           (λ c below. subst IsUnheld (sym (count_reads f c)) refl);
-      sum = sum_of_first (count_at (boot_word setup) f) setup.cores lim.some_core (counts_none f) ∙ ap count_in (count_reads f 0);
+      sum = ap residue (sum_of_first (count_at (boot_word setup) f) setup.cores lim.some_core (counts_none f) ∙ ap count_in (count_reads f 0))
+          ∙ residue_pos (refs (start setup) f) (let m = refs_most setup lim f in omega (arith, m));
     };
   }
 

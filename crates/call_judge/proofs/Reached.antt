@@ -1,5 +1,5 @@
 -- A decision judged in the kernel's own state is judged in every reached state that the kernel represents.
-use Rattle.std.proofs.Common.{◌≡◌, ◌⊎◌, inl, inr, ℕ, ◌+◌, ◌<◌, ◌≤◌, ◌==◌, ◌&&◌, Bool, true, false, not, nat_le, if◌then◌else◌, refl, sym}
+use Rattle.std.proofs.Common.{◌≡◌, ◌⊎◌, inl, inr, ℕ, ◌+◌, ◌-◌, ◌^◌, ◌<◌, ◌≤◌, ◌==◌, ◌&&◌, Bool, true, false, not, nat_le, if◌then◌else◌, refl, sym}
 use Rattle.std.proofs.Common.{◌∙◌, ap, subst}
 use Rattle.std.proofs.Common.{arith, List, ◌∷◌, IsTrue, IsFalse}
 use Rattle.std.proofs.lemmas.Bool.{false≢true, true≢false, eq-eqb}
@@ -220,21 +220,21 @@ module _ (setting : Setting) (lim : IsSetting setting) (events : List Event) (ru
   finish : (r : Reply) (base : State) → MayReply (after setting events) c call r
       → state_by (after setting events) c call r ≡ counted base c → base.limits ≡ (after setting events).limits
       → (k2 k3 : Maps) → Represents k2 base
-      → (c < (state_of k2).limits.cores → ((state_of k2).core c).counted < 4194304 → Represents k3 (counted (state_of k2) c))
+      → (c < (state_of k2).limits.cores → ((state_of k2).core c).counted < 2 ^ 40 - 1 → Represents k3 (counted (state_of k2) c))
       → IsDecided (after setting events) c call r k3
   finish r base may is limits k2 k3 here counts =
       let decided : IsRun setting (decides c call r ∷ events) = (run, record { is_open = opens; permitted = may }) in
       let range = (ranges_hold setting lim (decides c call r ∷ events) decided).cores c
       (subst (λ (l : Limits). c < l.cores) (sym (limits_stay setting (decides c call r ∷ events)))
       (subst (λ (l : Limits). c < l.cores) (limits_stay setting events) below)) in
-      let most : ((counted base c).core c).counted ≤ 4194304 =
-      subst (λ x. (x.core c).counted ≤ 4194304) is
-      (le_then _ _ _ range.counted (subst (λ (l : Limits). l.calls ≤ 4194304)
+      let most : ((counted base c).core c).counted ≤ 2 ^ 40 - 1 =
+      subst (λ x. (x.core c).counted ≤ 2 ^ 40 - 1) is
+      (le_then _ _ _ range.counted (subst (λ (l : Limits). l.calls ≤ 2 ^ 40 - 1)
       (sym (limits_stay setting (decides c call r ∷ events))) lim.most_calls)) in
-      let few : (base.core c).counted < 4194304 = one_less _ (put_here base.core c) most in
+      let few : (base.core c).counted < 2 ^ 40 - 1 = one_less _ (put_here base.core c) most in
       let there : c < base.limits.cores = subst (λ (l : Limits). c < l.cores) (sym limits) below in
       let core_here : c < (state_of k2).limits.cores = subst (λ (l : Limits). c < l.cores) (sym here.limits) there in
-      let few_here : ((state_of k2).core c).counted < 4194304 = subst (λ (k : Core). k.counted < 4194304) (sym (here.core c there)) few in
+      let few_here : ((state_of k2).core c).counted < 2 ^ 40 - 1 = subst (λ (k : Core). k.counted < 2 ^ 40 - 1) (sym (here.core c there)) few in
       record {
         permitted = may;
         state = subst (λ x. SameState (state_of k3) x) (sym is)
@@ -255,7 +255,7 @@ module _ (setting : Setting) (lim : IsSetting setting) (events : List Event) (ru
       (record { there = λ h. (h.0, sym lives_same ∙ h.1); back = λ h. (h.0, lives_same ∙ h.1) }) (may_iff reply.Dead)
 
   pub decided_judged : (r : Reply) (k2 k3 : Maps) → false ≡ are_calls_spent (state_of k) c → DecidesAs (state_of k) c call r true k2
-      → (c < (state_of k2).limits.cores → ((state_of k2).core c).counted < 4194304 → Represents k3 (counted (state_of k2) c))
+      → (c < (state_of k2).limits.cores → ((state_of k2).core c).counted < 2 ^ 40 - 1 → Represents k3 (counted (state_of k2) c))
       → IsJudged (after setting events) c call r true k3
   decided_judged (reply.Ok v) k2 k3 some h counts = by_acts (acts t c call) refl
     where

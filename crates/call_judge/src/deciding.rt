@@ -1,6 +1,6 @@
 //! Deciding a call with a given reply.
 
-ghost use Rattle.std.specs.Prelude.{◌≡◌, ◌<◌, ◌≤◌, IsOk, IfOk};
+ghost use Rattle.std.specs.Prelude.{◌≡◌, ◌<◌, ◌≤◌, ◌-◌, ◌^◌, IsOk, IfOk};
 ghost use Rattle.spk_nums.specs.CallLimits.{InLimits};
 ghost use Rattle.kernel_rules.specs.Life.{lives};
 ghost use Rattle.kernel_rules.specs.Rules.{RuleMay};
@@ -51,7 +51,7 @@ fn sort_of(reply: &Reply) -> Sort
 /// Counts one more call of a core.
 fn count(k: &mut SeqKernel, core: CoreNo)
     requires { core < (state_of k.old).limits.cores }
-    ensures { ((state_of k.old).core core).counted < 4194304 → Represents k.new (counted (state_of k.old) core) }
+    ensures { ((state_of k.old).core core).counted < 2 ^ 40 - 1 → Represents k.new (counted (state_of k.old) core) }
 {
     let now = *k.core(core);
     let next = Core {
@@ -198,7 +198,7 @@ fn says_spent(reply: &Reply) -> bool
 
 /// Counts a call of a core, where it is one of the machine's.
 fn count_decided(k: &mut SeqKernel, core: CoreNo)
-    ensures { core < (state_of k.old).limits.cores → ((state_of k.old).core core).counted < 4194304
+    ensures { core < (state_of k.old).limits.cores → ((state_of k.old).core core).counted < 2 ^ 40 - 1
         → Represents k.new (counted (state_of k.old) core) }
 {
     if core.number() < k.cores() {

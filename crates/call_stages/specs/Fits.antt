@@ -209,7 +209,7 @@ pub record IsOwn (own : Own) : Type 0 where
   pub table : own.table < own.layout.frames
   pub pages : own.pages < own.layout.frames
   pub tcap : own.tcap < own.layout.frames
-  pub most_calls : own.limit ≤ 4194304
+  pub most_calls : own.limit ≤ 2 ^ 40 - 1
   pub most_epochs : own.epochs < 2 ^ 16
   pub made : own.made ≤ own.limit
 

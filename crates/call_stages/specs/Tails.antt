@@ -68,10 +68,10 @@ tail_move r drawn (Release release) (x ∷ xs) = settle_move (commit_of (is_ok r
 
 -- the stamp of a clock; a clock past a stamp's range never comes, and stays at the range's end
 abbrev pub stamp_if : Bool → ℕ → ℕ
-stamp_if fits clock = if fits then clock else 2 ^ 28 - 1
+stamp_if fits clock = if fits then clock else 2 ^ 43 - 1
 
 abbrev pub stamp_of : ℕ → ℕ
-stamp_of clock = stamp_if (nat_lt clock (2 ^ 28)) clock
+stamp_of clock = stamp_if (nat_lt clock (2 ^ 43)) clock
 
 -- where the call stands after that step, and the counts that it has then still to commit
 abbrev pub took_tail : Reply → Option ℕ → Tail → List Acquired → ℕ → Stage

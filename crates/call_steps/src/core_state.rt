@@ -112,7 +112,7 @@ impl CoreState {
 
     /// How many calls the core has counted: those decided, but for those answered `calls-spent`.
     #[inline]
-    pub fn made(&self) -> u32
+    pub fn made(&self) -> u64
         ensures { result ≡ self.now.own.made }
     {
         self.own.made
@@ -240,7 +240,7 @@ fn leave(active: &mut Option<ActiveCall>)
 
 // How many calls a decision with this reply counts.
 #[inline]
-fn calls_counted(reply: &Reply) -> u32
+fn calls_counted(reply: &Reply) -> u64
     ensures value { result ≡ calls_counted reply.now }
     ensures most { result ≤ 1 }
 {

@@ -10,7 +10,7 @@ use Rattle.scan_invariant.proofs.Common.{Open, phase, state_after, Step, last_le
 use Rattle.scan_invariant.proofs.Common.{went_with, went, Core, ActiveCall, Undecided, Decided, names_on, counts_on, spot_on}
 use Rattle.scan_invariant.proofs.Common.{holds_counts, Holding, settled_by, settled, keeps, phase_at, KnowsUndecided, KnowsUnmark}
 use Rattle.scan_invariant.proofs.Common.{KnowsComp, KnowsCompAt, holds_at, holds_in, Invariant, done_by, holds, held_by, holds_comp}
-use Rattle.scan_invariant.proofs.Common.{IsFrameWord, count_room, comp_dues, comp_due_list, CompMakingFits, CompMaking, CompAt}
+use Rattle.scan_invariant.proofs.Common.{IsFrameWord, comp_dues, comp_due_list, CompMakingFits, CompMaking, CompAt}
 use Rattle.scan_invariant.proofs.Common.{live_of_word, LiveFits, word_of_live, LiveWord, as_none, counts_bare, may_keep, not_exclusive_word}
 use Rattle.scan_invariant.proofs.Common.{exclusive_elsewhere}
 use Rattle.std.specs.Prelude.{if◌then◌else◌, ◌==◌, ◌||◌}
@@ -373,7 +373,7 @@ module _ (setup : Setting) (setting : IsSetting setup) (cores : ℕ → Core) (t
       })
       (λ b. refl) (λ h. cc) (λ g b h. cc) lands
       (stored_holds (nat_lt n 2) ∙ sym held_store) (not_exclusive_word setup cores t stands f n (ap may_keep blank)) opens_now
-      (subst (λ x. IsFrameWord now.limits.frames (count_room now) x (now.place f n) (stamp setup t (PlaceOf f n)) n (words n))
+      (subst (λ x. IsFrameWord now.limits.frames x (now.place f n) (stamp setup t (PlaceOf f n)) n (words n))
       (sym blank) tt)
       (spares_blank setup t e f n refl blank own_mark)
       (λ carries. record {

@@ -16,11 +16,11 @@ use Rattle.scan_invariant.proofs.Common.{decided-inside, cases_word, same_word-o
 use Rattle.scan_invariant.proofs.Common.{marked_by, frame_mark, mark_of, entry_mark, mark_in_frame, live_mark, frame_value, stamp}
 use Rattle.scan_invariant.proofs.Common.{ends_in, flushes_in, Trace, Open, phase, state_after, Step, last_left, state_decided_in, way_to}
 use Rattle.scan_invariant.proofs.Common.{ways, leads_by, LeadsIn, own_pages, CapNames, Due, StoreLive, Act, landed, Core, ActiveCall}
-use Rattle.scan_invariant.proofs.Common.{Stage, Undecided, Decided, calm_counted, plain_exit, counted_rises, BeginsNone, room_grows}
-use Rattle.scan_invariant.proofs.Common.{counts, own_kept, counted_refs, limits_of, ReadsAlike, StaysSaid, word_stays, SameFor, IsWithin}
+use Rattle.scan_invariant.proofs.Common.{Stage, Undecided, Decided, calm_counted, plain_exit, counted_rises, BeginsNone}
+use Rattle.scan_invariant.proofs.Common.{counts, own_kept, counted_refs, limits_of, ReadsAlike, StaysSaid, word_stays, SameFor}
 use Rattle.scan_invariant.proofs.Common.{holds_counts, settled_by, settled, keeps, AreDuesApart, HasFound, own_in, phase_at, due_of}
 use Rattle.scan_invariant.proofs.Common.{KnowsUndecided, WorksIn, MayFill, KnowsComp, KnowsCompAt, untypes, holds_at, holds_in, Invariant}
-use Rattle.scan_invariant.proofs.Common.{holds, held_by, times_of, SumIs, counted_in, holds_comp, PlaceIs, count_room, IsFrameWord}
+use Rattle.scan_invariant.proofs.Common.{holds, held_by, times_of, SumIs, counted_in, holds_comp, PlaceIs, IsFrameWord}
 use Rattle.scan_invariant.proofs.Common.{WordIs, NumberIs, later, stamp_of_change, comp_dues, comp_due_list, CompMakingFits, CompMaking}
 use Rattle.scan_invariant.proofs.Common.{CompAt, Quiet, AtCore, AtFlush, quiet_end, quiet_after, quiet_move, live_of_word, LiveFits}
 use Rattle.scan_invariant.proofs.Common.{word_of_live, LiveWord, comp_of_word, cases_bool, counts_bare, may_keep, not_exclusive_value}
@@ -414,10 +414,6 @@ module _ (setup : Setting) (setting : IsSetting setup) (cores : ℕ → Core) (t
     rises : counted_in setup s ≤ counted_in setup s'
     rises = subst (λ y. counted_in setup s ≤ counted_in setup y) (sym now) (counted_rises setup s (counted s c) c (calm_counted s c))
 
-    more_room : count_room s + 4 ≤ count_room s'
-    more_room = subst (λ y. count_room s + 4 ≤ count_room y) (sym now) (room_grows s (counted s c) c (calm_counted s c) core_below
-        (ap (λ j. j.counted) (put_same s.core c (record (s.core c) { counted = (s.core c).counted + 1 }) c refl)))
-
     -- each word reads as before
     kept_left : (g i : ℕ) → g ≡ f → last_left setup (e ∷ t) (EntryAt g i) ≡ last_left setup t (EntryAt f i)
     kept_left g i same = last_left-there setup (EntryAt g i) e t (λ h. apart (sym same ∙ same_node g i node index h))
@@ -446,7 +442,7 @@ module _ (setup : Setting) (setting : IsSetting setup) (cores : ℕ → Core) (t
     -- a word of the frame says what the object is
     made_says : (g i : ℕ) → g ≡ f → StaysSaid setup cores t e (EntryAt g i)
     made_says g i same before =
-        subst (λ x. IsFrameWord s'.limits.frames (count_room s') x (s'.place g i) (stamp setup (e ∷ t) (PlaceOf g i)) i
+        subst (λ x. IsFrameWord s'.limits.frames x (s'.place g i) (stamp setup (e ∷ t) (PlaceOf g i)) i
         (settled setup (held_by cores) t (EntryAt g i))) (sym (frame_here g same))
         (subst (IsCompWord fields i) (sym settled_is) (word_says i))
       where
@@ -463,12 +459,11 @@ module _ (setup : Setting) (setting : IsSetting setup) (cores : ℕ → Core) (t
         frame = frame_there g other;
         place = place_away g i there;
         stamp = stamp_kept (PlaceOf g i);
-        room = (let more = more_room in omega arith);
       })
     ]
     stays (FrameAt g) there free = said (FrameAt g) (frame_there g (λ same. free (ap (λ (x : ℕ). marked_by setup t (FrameAt x)) same
         ∙ own_mark)))
-    stays (CountAt g d) there free = said (CountAt g d) (let more = more_room in omega arith)
+    stays (CountAt g d) there free = said (CountAt g d) tt
     stays (CoreAt d) there free = said (CoreAt d) (record {
       inside = decided-inside (Some (reply.Ok Nothing)) (phase t c) s c d;
       exit = plain_exit t e refl d;
@@ -482,7 +477,7 @@ module _ (setup : Setting) (setting : IsSetting setup) (cores : ℕ → Core) (t
 
     -- the word of the target
     word_now : WordIs s' (times_of setup (e ∷ t)) (EntryAt node index) new
-    word_now = node_word s'.limits.frames (count_room s') (s'.frame node)
+    word_now = node_word s'.limits.frames (s'.frame node)
         (s'.place node index) (stamp setup (e ∷ t) (PlaceOf node index)) index new
         (subst (λ x. IsTrue (is_node x)) (sym (frame_there node (λ h. apart (sym h)))) in_node)
         (subst (λ p. PlaceIs s'.limits.frames p (stamp setup (e ∷ t) (PlaceOf node index)) (entry_of_word new)) (sym place_target) (
@@ -512,17 +507,11 @@ module _ (setup : Setting) (setting : IsSetting setup) (cores : ℕ → Core) (t
     no_count : (g d : ℕ) → CountAt g d ≢ EntryAt node index
     no_count g d h = cc
 
-    none_small : 0 < 2 ^ 28
+    none_small : 0 < 2 ^ 43
     none_small = omega arith
 
     max_zero : (n : ℕ) → n ≡ max n 0
     max_zero n = omega arith
-
-    small_changes : All (λ d. IsWithin d.change 4) (comp_due_list m)
-    small_changes =
-        All-cons (λ d. IsWithin d.change 4) (due_by f 2) (due_by m.table 1 ∷ due_by m.pages 1 ∷ []) (omega arith)
-        (All-cons (λ d. IsWithin d.change 4) (due_by m.table 1) (due_by m.pages 1 ∷ []) (omega arith)
-        (All-cons (λ d. IsWithin d.change 4) (due_by m.pages 1) [] (omega arith) (All-nil (λ d. IsWithin d.change 4))))
 
     commits : (w : Word) → marked_by setup t w ≡ Some c → WordIs s' (times_of setup (e ∷ t)) w ((holds_at stage a.counts).stands w)
     commits w own = elim (cases_word w (LiveAt l)) [
@@ -538,8 +527,8 @@ module _ (setup : Setting) (setting : IsSetting setup) (cores : ℕ → Core) (t
             (same_word-other w (LiveAt l) apart_from)
             ∙ ap (λ b. if b then made_word else (holds_counts (Some None) a.counts).stands w) (same_word-other w (FrameAt f) other)))
             (dues_commit setup setting cores t stands c here a active None none_small (comp_due_list m) dues_are
-            small_changes put_it (reply.Ok Nothing) after still before_count (λ g d. refl) alike
-            unmarked.mark bare_now no_count more_room w
+            put_it (reply.Ok Nothing) after still before_count (λ g d. refl) alike
+            unmarked.mark bare_now no_count w
             (sym (ap (λ h. h.marks w) holds_is
             ∙ ap (λ b. if b then true else (keeps (FrameAt f) word (holds_counts None a.counts)).marks w)
             (same_word-other w (LiveAt l) apart_from)
@@ -630,7 +619,7 @@ module _ (setup : Setting) (setting : IsSetting setup) (cores : ℕ → Core) (t
 
     sums_are : (g : ℕ) → SumIs setup (held_by (put cores c after)) (e ∷ t) g
     sums_are = dues_sum setup setting cores t stands c here a active None none_small (comp_due_list m) dues_are
-        small_changes put_it (reply.Ok Nothing) after still before_count (λ g d. refl) alike unmarked.mark
+        put_it (reply.Ok Nothing) after still before_count (λ g d. refl) alike unmarked.mark
         bare_now no_count (ap (λ l. l.cores) limits)
         (λ g none. (
           (let more = grows g in

@@ -1,6 +1,6 @@
 -- Words and what is said of them.
 pub mod Sounds
-pub mod Ranges
+pub mod Residues
 pub mod Bare
 pub mod Freezing
 pub mod ThreadHolds

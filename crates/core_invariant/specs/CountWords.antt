@@ -1,5 +1,5 @@
--- What the count words of a frame show together beside their counts, and integers within a bound.
-use Rattle.std.specs.Prelude.{ℕ, ℤ, pos, negsuc, ◌+◌, ◌≤◌, max, List, [], ◌∷◌, Option, Some, None}
+-- What the count words of a frame show together beside their counts.
+use Rattle.std.specs.Prelude.{ℕ, max, List, [], ◌∷◌, Option, Some, None}
 use Rattle.kernel_history.specs.frame_words.specs.declared.count_word.CountWord.{CountWord}
 
 -- The stamp of a count word, 0 for none.
@@ -11,8 +11,3 @@ stamp_in (Some v) = v.stamp
 abbrev pub newest_of : (ℕ → Option CountWord) → List ℕ → ℕ
 newest_of shown [] = 0
 newest_of shown (c ∷ cs) = max (stamp_in (shown c)) (newest_of shown cs)
-
--- An integer is at most n, and at least -n.
-abbrev pub IsWithin : ℤ → ℕ → Type 0
-IsWithin (pos k) n = k ≤ n
-IsWithin (negsuc k) n = k + 1 ≤ n

@@ -48,7 +48,7 @@ use Rattle.act_fits.specs.act_states.specs.declared.work.Tail.TheVariants.{Nothi
 use Rattle.act_fits.specs.act_states.specs.declared.work.Tail.TheVariants.{StoreLive, Push, Pop, Share as share_tail, StoreRunning}
 use Rattle.act_fits.specs.act_states.specs.declared.work.Tail.TheVariants.{StoreIdle}
 use Rattle.kernel_history.specs.tcap_words.specs.Head.{word_of_head}
-use Rattle.act_fits.specs.stage_tcap.specs.Heads.{credited}
+use Rattle.act_fits.specs.stage_tcap.specs.Heads.{relisted, credited}
 use Rattle.act_fits.specs.stage_tcap.specs.Lists.{in_order}
 use Rattle.act_fits.specs.stage_tcap.specs.Pairs.{amount_of, left_a, word_of_list}
 use Rattle.act_fits.specs.stage_tcap.specs.declared.pair.Pair.{Pair}
@@ -130,7 +130,7 @@ holds_share p (StoreA moved v) h = h
 
 -- The heads of both, once a delegation is decided: each stands for what is still to be stored, and so do the words of the second's list.
 abbrev pub holds_heads : Pair → Holding → Holding
-holds_heads p h = keeps (EntryAt p.b 0) (word_of_head (credited p.head_b (amount_of p.what))) (holds_head p true h)
+holds_heads p h = keeps (EntryAt p.b 0) (word_of_head (credited (relisted p.grows p.head_b) (amount_of p.what))) (holds_head p true h)
 
 abbrev pub holds_list : Pair → ℕ → Holding → Holding
 holds_list p entry h = keeps_list p.b entry (word_of_list (in_order p.list_b)) (holds_heads p h)

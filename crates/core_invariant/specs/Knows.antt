@@ -3,6 +3,7 @@ use Rattle.act_fits.specs.stage_tcap.specs.declared.charge.Charge.{Charge}
 use Rattle.act_fits.specs.stage_tcap.specs.declared.charge.Charge.TheVariants.{AtLoad as charge_load, AtCompare as charge_compare}
 use Rattle.act_fits.specs.stage_tcap.specs.Heads.{head}
 use Rattle.kernel_history.specs.tcap_words.specs.Head.{HeadFits, word_of_head}
+use Rattle.act_fits.specs.act_states.specs.Dues.{IsSmallChange}
 use Rattle.act_fits.specs.act_states.specs.Ticks.{ticks_due, ticks_of, is_charging}
 use Rattle.kernel_history.specs.Marking.{marked_by}
 use Rattle.kernel_history.specs.Marks.{frame_mark, live_mark}
@@ -333,7 +334,7 @@ pub record KnowsFlush (t : Trace) (c : ℕ) (call : Call) (by at : ℕ) : Type 0
   pub stores : stores_flush call ≡ true
   pub core : by ≡ c
   pub some : 1 ≤ at
-  pub small : at < 2 ^ 28
+  pub small : at < 2 ^ 43
   pub last : flush_of t c ≡ at
 
 -- The number and the frame whose words are still to be stored: the number is in the call's footprint at a moment of it, and both words
@@ -399,12 +400,13 @@ phase_at call (Decided r drawn tail) = history.Decided call r
 phase_at call (Leave r x) = history.Decided call r
 
 -- A count that a call of core c has acquired: it is the core's own, of a frame that is in the call's footprint at a moment of it, and was
--- found within its range; and the call is one that changes references.
+-- found within its range; its change is small, and the call is one that changes references.
 pub record IsCount (setup : Setting) (t : Trace) (c : ℕ) (call : Call) (x : Acquired) : Type 0 where
   pub counts : IsTrue (counts_references call)
   pub core : x.pin.core ≡ c
   pub fits : CountFits (unheld x.pin.word.count x.pin.word.stamp)
   pub footprint : WasAt (IsInFootprint c call (count_of x)) setup t c
+  pub small : IsSmallChange x.change
 
 -- Core c is in this call, has made these steps of it, and has acquired these counts, none twice.
 pub record IsIn (setup : Setting) (t : Trace) (c table : ℕ) (a : ActiveCall) : Type 0 where

@@ -20,7 +20,7 @@ use Rattle.kernel_history.specs.Discipline.{changes_budgets}
 use Rattle.kernel_history.specs.Footprint.{IsInFootprint}
 use Rattle.act_fits.specs.stage_tcap.specs.Heads.{marked}
 use Rattle.act_fits.specs.stage_tcap.specs.Lists.{read_word, in_order}
-use Rattle.act_fits.specs.stage_tcap.specs.Pairs.{amount_of, whole_b, judged}
+use Rattle.act_fits.specs.stage_tcap.specs.Pairs.{amount_of, word_of_list, whole_b, grows_to, judged}
 use Rattle.act_fits.specs.stage_tcap.specs.declared.pair.Pair.{Pair}
 use Rattle.act_fits.specs.stage_tcap.specs.declared.pair.PairAt.{PairAt}
 use Rattle.act_fits.specs.stage_tcap.specs.declared.pair.PairAt.TheVariants.{LoadA, MarkA, ListA, LoadB, ListB, CompareB}
@@ -43,8 +43,8 @@ abbrev pub list_changed : Trace → ℕ → Bool
 list_changed [] f = false
 list_changed (e ∷ t) f = turns_list (word_of e.move) (left_of e.move e.found == e.found) f (list_changed t f)
 
--- A core changes a head that no other core has marked. It raises its version; where it does not, it marks a head that no core had
--- marked, or its list was not changed since the head was.
+-- A core changes a head that no other core has marked. It raises its version; where it does not, no core had marked the head, or its list
+-- was not changed since the head was.
 abbrev pub MayTurn : ℕ → Option ℕ → Type 0
 MayTurn core mark = (mark ≡ None) ⊎ (mark ≡ Some core)
 
@@ -112,6 +112,7 @@ pub record HasBoth (setup : Setting) (t : Trace) (c : ℕ) (p : Pair) (at : Pair
   pub read : Option (List (ℕ × ℕ))
   pub b : HasReadB setup t c p read 8
   pub whole : p.list_b ≡ whole_b p.what (in_order p.list_a) (in_order read)
+  pub grows : p.grows ≡ grows_to p.what p.list_b (in_order read)
   pub judges : judged p.what p ≡ at
 
 -- Nothing of a list is read yet.
@@ -160,10 +161,15 @@ pub record StoresA (setup : Setting) (t : Trace) (p : Pair) : Type 0 where
   pub raw : last_left setup t (EntryAt p.a 0) ≡ word_of_head (marked p.core p.head_a)
   pub fits : HeadFits p.head_a
   pub bare : p.head_a.mark ≡ None
-  pub few : p.head_a.version + 1 < 2 ^ 28
   pub clean : list_changed t p.a ≡ false
 
--- So is the head of B, which carries the core's mark too, and words of its list, each of which is spelled.
+-- The list of B was not changed since its head was, and its words are those that are still to be stored.
+pub record KeepsList (setup : Setting) (t : Trace) (p : Pair) : Type 0 where
+  pub clean : list_changed t p.b ≡ false
+  pub words : (j : ℕ) → j < 8 → list_word setup t p.b j ≡ word_of_list (in_order p.list_b) (suc j)
+
+-- So is the head of B, which carries the core's mark too, and words of its list, each of which is spelled. Its version can be raised, and
+-- where it is not, the list is B's own.
 pub record StoresB (setup : Setting) (t : Trace) (c : ℕ) (call : Call) (p : Pair) : Type 0 where
   pub a : StoresA setup t p
   pub raw : last_left setup t (EntryAt p.b 0) ≡ word_of_head (marked p.core p.head_b)
@@ -174,6 +180,7 @@ pub record StoresB (setup : Setting) (t : Trace) (c : ℕ) (call : Call) (p : Pa
   pub tcap : HasTcap (state_after setup t) c p.b
   pub differ : p.a ≢ p.b
   pub spelled : (i : ℕ) → QualityFits (record { 0 = slice_get (in_order p.list_b) i })
+  pub same : p.grows ≡ false → KeepsList setup t p
 
 abbrev pub KnowsStoresAt : Setting → Trace → ℕ → Call → Pair → PairAt → Type 0
 KnowsStoresAt setup t c call p LoadA = ⊥

@@ -1,6 +1,6 @@
 -- What a call knows that makes a frame untyped: of the frame's word, of the counters that it has frozen, of those who may still use the
 -- frame, and of the object in it.
-use Rattle.std.specs.Prelude.{◌≡◌, ◌≢◌, ◌<◌, ◌≤◌, ◌&&◌, ◌==◌, nat_lt, nat_le, ℕ, pos, Bool, true, false}
+use Rattle.std.specs.Prelude.{◌≡◌, ◌≢◌, ◌<◌, ◌≤◌, ◌&&◌, ◌==◌, nat_lt, nat_le, ℕ, Bool, true, false}
 use Rattle.std.specs.Prelude.{All, List, [], ◌∷◌, ◌++◌, length, Option, Some, None, IsTrue, if◌then◌else◌}
 use Rattle.kernel_invariant.specs.spk_nums.specs.Capability.{Capability}
 use Rattle.kernel_invariant.specs.spk_nums.specs.Setting.{Setting}
@@ -9,6 +9,7 @@ use Rattle.kernel_invariant.specs.spk_nums.specs.declared.calls.Call.TheVariants
 use Rattle.kernel_invariant.specs.spk_nums.specs.declared.kinds.FrameKind.TheVariants.{Untyped}
 use Rattle.kernel_history.specs.frame_words.specs.Count.{CountFits, word_of_count}
 use Rattle.kernel_history.specs.frame_words.specs.Frame.{frame_of_word}
+use Rattle.kernel_history.specs.frame_words.specs.Residue.{residue}
 use Rattle.kernel_history.specs.frame_words.specs.declared.count_word.CountWord.{CountWord}
 use Rattle.kernel_history.specs.frame_words.specs.declared.frame_word.FrameWord.{FrameWord}
 use Rattle.kernel_history.specs.word_map.specs.Word.{CountAt, FrameAt}
@@ -66,10 +67,10 @@ pub record HasReadCount (t : Trace) (c f d : ℕ) (v : CountWord) : Type 0 where
 abbrev pub AreKept : List CountWord → Type 0
 AreKept kept = All (λ v. CountFits (unheld v.count v.stamp)) kept
 
--- All counters of the frame are frozen, and no reference to it stands.
+-- All counters of the frame are frozen, and no reference to it stands: they sum to 0, modulo 2 ^ 16.
 pub record AreFrozen (cores : ℕ) (kept : List CountWord) : Type 0 where
   pub all : length kept ≡ length (counters cores)
-  pub none : sum_of_counts kept ≡ pos 0
+  pub none : residue (sum_of_counts kept) ≡ 0
 
 -- A stamp is past, and while it is the frame's, no core below `upto` waits for the frame, but for c, and none below `flushes` is to flush
 -- it.

@@ -1,11 +1,12 @@
 -- What the settled words say of the state, kind by kind.
-use Rattle.std.specs.Prelude.{◌≡◌, ◌<◌, ◌≤◌, ℕ, zero, suc, ℤ, pos, ◌+◌, ◌*◌, length, slice_get, Option, Some, None}
+use Rattle.std.specs.Prelude.{◌≡◌, ◌<◌, ◌≤◌, ℕ, zero, suc, ℤ, pos, length, slice_get, Option, Some, None}
 use Rattle.kernel_history.specs.entry_words.specs.declared.entry.Entry.{Entry}
 use Rattle.kernel_history.specs.entry_words.specs.declared.entry.Entry.TheVariants as entry
 use Rattle.kernel_history.specs.entry_words.specs.EntryWord.{entry_of_word}
 use Rattle.kernel_history.specs.frame_words.specs.Comp.{comp_of_word}
 use Rattle.kernel_history.specs.frame_words.specs.Frame.{frame_of_word}
 use Rattle.kernel_history.specs.frame_words.specs.Count.{count_of_word}
+use Rattle.kernel_history.specs.frame_words.specs.Residue.{residue}
 use Rattle.kernel_history.specs.frame_words.specs.Core.{core_of_word}
 use Rattle.kernel_history.specs.frame_words.specs.Flush.{flush_of_word}
 use Rattle.kernel_history.specs.frame_words.specs.Live.{live_of_word}
@@ -22,11 +23,12 @@ use Rattle.kernel_history.specs.word_map.specs.Word.{Word, EntryAt, FrameAt, Cou
 use Rattle.kernel_invariant.specs.kernel_rules.specs.State.{Place, Free, Holds, Quiescing, CompFields, ThreadFields, TcapFields, Object}
 use Rattle.kernel_invariant.specs.kernel_rules.specs.State.{Blank, Table, Leaf, Pages, Pleaf, Comp, Thread, Tcap, Frame, Untyped, User}
 use Rattle.kernel_invariant.specs.kernel_rules.specs.State.{Kernel, Liveness, Unused, Live, Dead, Thing, PlaceOf, NumberOf, State}
-use Rattle.kernel_invariant.specs.kernel_rules.specs.References.{sum_below, refs}
+use Rattle.kernel_invariant.specs.kernel_rules.specs.References.{refs}
 use Rattle.kernel_history.specs.Counts.{counters, count_sum}
-use Rattle.core_invariant.specs.CountWords.{IsWithin, newest_of}
+use Rattle.core_invariant.specs.CountWords.{newest_of}
 use Rattle.kernel_history.specs.ObjectWords.{frame_value, thread_value, at_height}
 use Rattle.act_fits.specs.stage_look.specs.Shown.{CapNames}
+use Rattle.act_fits.specs.stage_tcap.specs.quality_lists.specs.Rank.{rank}
 
 -- The stamps that words carry: that of the grace period of a thing, and those of a core's last exit and last flush.
 pub record Times : Type 0 where
@@ -57,51 +59,46 @@ abbrev pub IsThreadWord : ThreadFields → ℕ → ℕ → Type 0
 IsThreadWord t zero x = thread_of_word x ≡ Some (thread_value t.runs_on (length t.stack))
 IsThreadWord t (suc h) x = h < 16 → stack_of_word x ≡ Some (record { 0 = at_height t.stack h })
 
--- The head of a temporal capability: its budget, in a version of at most so much. Its list has at most 8 pairs.
-pub record HeadIs (q : TcapFields) (room : ℕ) (shown : Option HeadWord) : Type 0 where
+-- The head of a temporal capability: its budget, in a version that is at most the rank of its list, which has at most 8 pairs. So a version
+-- stays within its field: it is raised where the list becomes another, and that has a greater rank.
+pub record HeadIs (q : TcapFields) (shown : Option HeadWord) : Type 0 where
   pub version : ℕ
   pub says : shown ≡ Some (record { budget = q.budget; mark = None; version = version })
-  pub within : version ≤ room
+  pub within : version ≤ rank q.qualities
   pub most : length q.qualities ≤ 8
 
 -- The word i of a temporal capability: its head, then its list.
-abbrev pub IsTcapWord : TcapFields → ℕ → ℕ → ℕ → Type 0
-IsTcapWord q room zero x = HeadIs q room (head_of_word x)
-IsTcapWord q room (suc j) x = j < 8 → quality_of_word x ≡ Some (record { 0 = slice_get q.qualities j })
+abbrev pub IsTcapWord : TcapFields → ℕ → ℕ → Type 0
+IsTcapWord q zero x = HeadIs q (head_of_word x)
+IsTcapWord q (suc j) x = j < 8 → quality_of_word x ≡ Some (record { 0 = slice_get q.qualities j })
 
 -- The word i of an object, where its place i is this, with the stamp of that place.
-abbrev pub IsObjectWord : ℕ → ℕ → Object → Place → ℕ → ℕ → ℕ → Type 0
-IsObjectWord frames room Blank place stamp i x = Unit {0}
-IsObjectWord frames room Table place stamp i x = i < 64 → PlaceIs frames place stamp (entry_of_word x)
-IsObjectWord frames room Leaf place stamp i x = i < 64 → PlaceIs frames place stamp (entry_of_word x)
-IsObjectWord frames room Pages place stamp i x = i < 64 → PlaceIs frames place stamp (entry_of_word x)
-IsObjectWord frames room Pleaf place stamp i x = i < 64 → PlaceIs frames place stamp (entry_of_word x)
-IsObjectWord frames room (Comp k) place stamp i x = IsCompWord k i x
-IsObjectWord frames room (Thread t) place stamp i x = IsThreadWord t i x
-IsObjectWord frames room (Tcap q) place stamp i x = IsTcapWord q room i x
+abbrev pub IsObjectWord : ℕ → Object → Place → ℕ → ℕ → ℕ → Type 0
+IsObjectWord frames Blank place stamp i x = Unit {0}
+IsObjectWord frames Table place stamp i x = i < 64 → PlaceIs frames place stamp (entry_of_word x)
+IsObjectWord frames Leaf place stamp i x = i < 64 → PlaceIs frames place stamp (entry_of_word x)
+IsObjectWord frames Pages place stamp i x = i < 64 → PlaceIs frames place stamp (entry_of_word x)
+IsObjectWord frames Pleaf place stamp i x = i < 64 → PlaceIs frames place stamp (entry_of_word x)
+IsObjectWord frames (Comp k) place stamp i x = IsCompWord k i x
+IsObjectWord frames (Thread t) place stamp i x = IsThreadWord t i x
+IsObjectWord frames (Tcap q) place stamp i x = IsTcapWord q i x
 
 -- The word i of a frame; of a frame without an object nothing is said.
-abbrev pub IsFrameWord : ℕ → ℕ → Frame → Place → ℕ → ℕ → ℕ → Type 0
-IsFrameWord frames room Untyped place stamp i x = Unit {0}
-IsFrameWord frames room User place stamp i x = Unit {0}
-IsFrameWord frames room (Kernel object) place stamp i x = IsObjectWord frames room object place stamp i x
+abbrev pub IsFrameWord : ℕ → Frame → Place → ℕ → ℕ → ℕ → Type 0
+IsFrameWord frames Untyped place stamp i x = Unit {0}
+IsFrameWord frames User place stamp i x = Unit {0}
+IsFrameWord frames (Kernel object) place stamp i x = IsObjectWord frames object place stamp i x
 
--- How far a count may be from 0: a call that is counted changes it by 4 at most. No version of a head is greater: such a call raises it by
--- 1.
-abbrev pub count_room : State → ℕ
-count_room s = 16 + 4 * sum_below (λ c. (s.core c).counted) s.limits.cores
-
--- The word of a count, which is held by no core, and is within so much of 0.
-pub record SaysCount (room : ℕ) (shown : Option CountWord) : Type 0 where
+-- The word of a count, which is held by no core.
+pub record SaysCount (shown : Option CountWord) : Type 0 where
   pub count : ℤ
   pub stamp : ℕ
   pub says : shown ≡ Some (record { hold = Unheld; count = count; stamp = stamp })
-  pub within : IsWithin count room
 
--- The counts of a frame, as its count words show them: they sum to the references to the frame, and the greatest of their stamps
--- is that of the last release of a reference to it.
+-- The counts of a frame, as its count words show them: they sum to the references to the frame, modulo 2 ^ 16, and the greatest of their
+-- stamps is that of the last release of a reference to it.
 pub record CountsAre (s : State) (f since : ℕ) (shown : ℕ → Option CountWord) : Type 0 where
-  pub sum : count_sum shown (counters s.limits.cores) ≡ pos (refs s f)
+  pub sum : residue (count_sum shown (counters s.limits.cores)) ≡ residue (pos (refs s f))
   pub newest : newest_of shown (counters s.limits.cores) ≡ since
 
 -- The word of a number that is dead carries the stamp of its grace period.
@@ -117,9 +114,9 @@ NumberIs (Dead epoch) stamp shown = DeadSince epoch stamp shown
 
 -- The settled word of this name says what the state is.
 abbrev pub WordIs : State → Times → Word → ℕ → Type 0
-WordIs s times (EntryAt f i) x = IsFrameWord s.limits.frames (count_room s) (s.frame f) (s.place f i) (times.stamp (PlaceOf f i)) i x
+WordIs s times (EntryAt f i) x = IsFrameWord s.limits.frames (s.frame f) (s.place f i) (times.stamp (PlaceOf f i)) i x
 WordIs s times (FrameAt f) x = frame_of_word x ≡ Some (frame_value (s.frame f))
-WordIs s times (CountAt f c) x = SaysCount (count_room s) (count_of_word x)
+WordIs s times (CountAt f c) x = SaysCount (count_of_word x)
 WordIs s times (CoreAt c) x = core_of_word x ≡ Some (record { inside = (s.core c).inside; stamp = times.exit c })
 WordIs s times (FlushAt c) x = flush_of_word x ≡ Some (record { stamp = times.flush c })
 WordIs s times (LiveAt l) x = NumberIs (s.number l) (times.stamp (NumberOf l)) (live_of_word x)

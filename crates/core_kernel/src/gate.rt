@@ -12,7 +12,7 @@ pub trait Gate: Sync {
     ghost is_free: { Self → Bool };
 
     /// Whether the core may make its next call, where its runner has made so many. A free gate answers true.
-    fn may_go(&self, core: CoreNo, made: u32) -> bool
+    fn may_go(&self, core: CoreNo, made: u64) -> bool
         ensures { is_free self.now ≡ true → IsTrue result };
 }
 
@@ -25,7 +25,7 @@ impl Gate for FreeGate {
 
     ghost is_free = { λ _. true };
 
-    fn may_go(&self, _core: CoreNo, _made: u32) -> bool {
+    fn may_go(&self, _core: CoreNo, _made: u64) -> bool {
         true
     }
 }

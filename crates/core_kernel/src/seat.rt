@@ -47,7 +47,7 @@ pub struct Front {
     /// The core.
     pub core: CoreNo,
     /// How many calls it has counted, at most the setup's: those that it has made, but for those answered `calls-spent`.
-    pub calls: u32,
+    pub calls: u64,
 }
 
 impl CoreSeat {

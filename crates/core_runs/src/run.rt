@@ -30,7 +30,7 @@ fn run<G: Gate>(kernel: &Kernel, gate: &G, runner: &mut Runner)
 {
     let core = runner.seat.front().core;
     for made in 0..runner.calls.len() {
-        if !gate.may_go(core, made as u32) {
+        if !gate.may_go(core, made as u64) {
             runner.held = true;
             return;
         }

@@ -15,7 +15,7 @@ use Rattle.step_ways.proofs.Common.{cases_word, own_read-here, own_read-there, l
 use Rattle.step_ways.proofs.Common.{Pin, AtLoad, Acquired, plan_for, Leads, LeadsIn, Plan, leads_by, GoesBy, own_pages, calls_go, Due}
 use Rattle.step_ways.proofs.Common.{Outside, Nothing, Acquire, Undecided, Decided, ActiveCall, Goes, dues, next_work, removes_by, undo}
 use Rattle.step_ways.proofs.Common.{CountsAt, HasRoom, StageFits, GoesOn, landed, went_with, Core, UntypingAt, Holding, count_of}
-use Rattle.step_ways.proofs.Common.{committed, holds_counts, AreApart, settled_by, settled, SaysCount, count_room, AreDuesApart}
+use Rattle.step_ways.proofs.Common.{committed, holds_counts, AreApart, settled_by, settled, SaysCount, AreDuesApart}
 use Rattle.step_ways.proofs.Common.{own_in, HasFound, NamesAre, due_of, KnowsAct, KnowsWork, KnowsUndecided, IsCount, phase_at, KnowsTail}
 use Rattle.step_ways.proofs.Common.{goes_on, untypes, done_by, holds_act, holds_work, holds_at, holds_in, holds, held_by, Invariant}
 use Rattle.step_ways.proofs.Common.{holds_tail, names_on, counts_on}
@@ -60,6 +60,7 @@ use Rattle.step_ways.specs.act_states.specs.Acts.{acquires}
 use Rattle.step_ways.specs.call_stages.specs.Steps.{took_count, gives_up}
 use Rattle.step_ways.specs.call_stages.specs.Tails.{is_ok}
 use Rattle.step_ways.specs.act_fits.proofs.DuesFit.{few_dues}
+use Rattle.step_ways.specs.act_fits.proofs.DuesSmall.{due_small}
 use Rattle.step_ways.specs.act_states.specs.declared.untypings.UntypingAt.TheVariants as untype
 use Rattle.step_ways.specs.act_states.specs.Untypings.{is_drawing}
 use Rattle.step_ways.specs.core_invariant.specs.Knows.{pin_frame}
@@ -227,8 +228,8 @@ module _ (setup : Setting) (setting : IsSetting setup) (cores : ℕ → Core) (t
   bare_here = ap (λ h. h.marks at) held_is ∙ (act_count act (holds_counts None a.counts) frame d spares).0 ∙ new
 
   -- the word of a count that carries no mark
-  says : marked_by setup t at ≡ None → SaysCount (count_room s) (count_of_word was)
-  says is = subst (λ o. SaysCount (count_room s) (count_of_word (settled_by o (held_by cores) at was))) is (stands.words at)
+  says : marked_by setup t at ≡ None → SaysCount (count_of_word was)
+  says is = subst (λ o. SaysCount (count_of_word (settled_by o (held_by cores) at was))) is (stands.words at)
 
   -- a step on it leaves what was read of entries and of frames' words
   kept : (e : Step) → c ≡ e.core → e.enters ≡ None → word_of e.move ≡ at → (w : Word) → w ≢ at → own_read (e ∷ t) c w ≡ own_read t c w
@@ -320,7 +321,7 @@ module _ (setup : Setting) (setting : IsSetting setup) (cores : ℕ → Core) (t
       Goal o = GoodTook setup cores t c (LoadOf at) (landed a (took_count (cores c).own.core (length a.counts) change act
           (after_load frame d o) (load_end o)))
 
-      none_says : (o : Option CountWord) → SaysCount (count_room s) o → o ≡ None → ⊥
+      none_says : (o : Option CountWord) → SaysCount o → o ≡ None → ⊥
       none_says None says is = absurd (not_some _ says.says)
         where
           not_some : (v : CountWord) → None ≡ Some v → ⊥
@@ -458,6 +459,7 @@ module _ (setup : Setting) (setting : IsSetting setup) (cores : ℕ → Core) (t
             core = own_core;
             fits = loaded.fits;
             footprint = was_now (IsInFootprint c a.call at) setup t e c (footprint d);
+            small = due_small act (map due_of a.counts) (record { frame = pin_frame pin; change = change }) has.knows.rest has.knows.due;
           }) (All-nil (IsCount setup (e ∷ t) c a.call))))
           (counters.more_apart a.counts x (call_is setup setting cores t stands c here a active).apart new)
           (spares_other setup t (inner setup setting cores t stands c here a active compare None None) (λ f i h. cc))
@@ -702,8 +704,8 @@ module _ (setup : Setting) (setting : IsSetting setup) (cores : ℕ → Core) (t
   settles = ap (λ o. settled_by o (held_by cores) (count_of x) (last_left setup t (count_of x))) own_mark
       ∙ ap (λ h. h.stands (count_of x)) holds_is ∙ counters.first_stands (done_by r drawn) x xs ∙ stored_is
 
-  stored_says : SaysCount (count_room (state_after setup t)) (count_of_word stored)
-  stored_says = subst (λ (n : ℕ). SaysCount (count_room (state_after setup t)) (count_of_word n)) settles (stands.words (count_of x))
+  stored_says : SaysCount (count_of_word stored)
+  stored_says = subst (λ (n : ℕ). SaysCount (count_of_word n)) settles (stands.words (count_of x))
 
   apart : AreApart (x ∷ xs)
   apart = subst AreApart counts_are (call_is setup setting cores t stands c here a active).apart

@@ -3,11 +3,10 @@ use Rattle.step_ways.proofs.Common.{◌≡◌, ◌≢◌, ℕ, ℤ, pos, ◌+ℤ
 use Rattle.step_ways.proofs.Common.{Option, Some, None, arith, refl, sym, ◌∙◌, ap, eq-eqb, ne_eqb, All, All-nil, All-cons, All-head}
 use Rattle.step_ways.proofs.Common.{Setting, IsSetting, Reply, Word, CountAt, Move, word_of, left_of, FrameOf, State, put, times, refs}
 use Rattle.step_ways.proofs.Common.{mark_of, marked_by, stamp, Step, Trace, state_after, last_left, later, stamp_of_change, Due}
-use Rattle.step_ways.proofs.Common.{ActiveCall, Core, IsWithin, holds_counts, count_room, WordIs, due_of, holds, held_by, times_of, SumIs}
+use Rattle.step_ways.proofs.Common.{ActiveCall, Core, holds_counts, WordIs, due_of, holds, held_by, times_of, SumIs}
 use Rattle.step_ways.proofs.Common.{Invariant, ReadsAlike}
 use Rattle.plan_ways.specs.kernel_invariant.proofs.Sums as sums
 use Rattle.step_ways.proofs.Loads.{inner}
-use Rattle.step_ways.specs.core_invariant.proofs.Ranges.{within_more}
 use Rattle.count_invariant.proofs.CountChanges.{dues_sum, dues_commit}
 
 -- What a capability has due, by what it names.
@@ -17,16 +16,11 @@ dues_of z fs = map (λ f. record { frame = f; change = z }) fs
 two_named : (z : ℤ) (f g : ℕ) (fs : List ℕ) → length (dues_of z (f ∷ g ∷ fs)) ≤ 1 → ⊥
 two_named z f g fs few = omega arith
 
-each_change : (P : ℤ → Type 0) (z : ℤ) → P z → (fs : List ℕ) → All (λ d. P d.change) (dues_of z fs)
-each_change P z holds [] = All-nil (λ d. P d.change)
-each_change P z holds (f ∷ fs) = All-cons (λ d. P d.change) (record { frame = f; change = z }) (dues_of z fs) holds
-    (each_change P z holds fs)
-
 -- The call has drawn this stamp or none, each count that its act changes is changed by z, and the frames of these are fs.
 module _ (setup : Setting) (setting : IsSetting setup) (cores : ℕ → Core) (t : Trace) (stands : Invariant setup cores t) (c : ℕ)
     (here : c < setup.cores)
-    (a : ActiveCall) (active : (cores c).active ≡ Some a) (z : ℤ) (small_change : IsWithin z 1) (drawn : Option ℕ)
-    (drawn_small : later 0 drawn < 2 ^ 28)
+    (a : ActiveCall) (active : (cores c).active ≡ Some a) (z : ℤ) (drawn : Option ℕ)
+    (drawn_small : later 0 drawn < 2 ^ 43)
     (fs : List ℕ) (few : length (dues_of z fs) ≤ 1) (all : dues_of z fs ≡ map due_of a.counts)
     (move : Move) (r : Reply) (after : Core) (still : (w : Word) → (holds after).marks w ≡ (holds (cores c)).marks w)
     (before_count : (f d : ℕ) → ((holds (cores c)).marks (CountAt f d) ≡ (holds_counts None a.counts).marks (CountAt f d))
@@ -44,9 +38,6 @@ module _ (setup : Setting) (setting : IsSetting setup) (cores : ℕ → Core) (t
 
   abbrev s' : State
   s' = state_after setup (e ∷ t)
-
-  small : All (λ d. IsWithin d.change 4) (dues_of z fs)
-  small = each_change (λ y. IsWithin y 4) z (within_more z 1 4 (omega arith) small_change) fs
 
   -- the references change by z exactly where the frame is named, and its last release is then the stamp drawn
   module _ (cores_same : s'.limits.cores ≡ s.limits.cores) (kept : (f : ℕ) → times f fs ≡ 0 → (refs s' f ≡ refs s f) ×
@@ -71,12 +62,12 @@ module _ (setup : Setting) (setting : IsSetting setup) (cores : ℕ → Core) (t
     named_once (g ∷ h ∷ gs) one each = absurd (two_named z g h gs one)
 
     pub counts_sum : (f : ℕ) → SumIs setup (held_by (put cores c after)) (e ∷ t) f
-    counts_sum = dues_sum setup setting cores t stands c here a active drawn drawn_small (dues_of z fs) all small move r after still
+    counts_sum = dues_sum setup setting cores t stands c here a active drawn drawn_small (dues_of z fs) all move r after still
         before_count after_count alike was now no_count cores_same (λ f apart. kept f (named_not f fs few apart))
         (named_once fs few changes)
 
   -- each count that the call holds says then what its commit will store
-  pub counts_commit : count_room s + 4 ≤ count_room s' → (w : Word) → (holds_counts None a.counts).marks w ≡ true
+  pub counts_commit : (w : Word) → (holds_counts None a.counts).marks w ≡ true
       → WordIs s' (times_of setup (e ∷ t)) w ((holds_counts (Some drawn) a.counts).stands w)
-  counts_commit = dues_commit setup setting cores t stands c here a active drawn drawn_small (dues_of z fs) all small move r after still
+  counts_commit = dues_commit setup setting cores t stands c here a active drawn drawn_small (dues_of z fs) all move r after still
       before_count after_count alike was now no_count

@@ -6,21 +6,20 @@ use Rattle.step_ways.proofs.Common.{false≢true, cases_eq, All, All-nil, All-co
 use Rattle.step_ways.proofs.Common.{CountFits, word_of_count, count_of_word, CountWord, Word, CountAt, same_word, Move}
 use Rattle.step_ways.proofs.Common.{word_of, left_of, FrameOf, State, put, refs, counters, count_in, count_sum, mark_of, marked_by, stamp}
 use Rattle.step_ways.proofs.Common.{Step, Trace, state_after, last_left, cases_word, same_word-other, unheld, later, stamp_of_change}
-use Rattle.step_ways.proofs.Common.{Acquired, Due, ActiveCall, Core, stamp_in, IsWithin, count_of, committed, holds_counts, AreApart}
-use Rattle.step_ways.proofs.Common.{settled_by, settled, SaysCount, count_room, WordIs, due_of, IsCount, holds, held_by, times_of}
+use Rattle.step_ways.proofs.Common.{Acquired, Due, ActiveCall, Core, stamp_in, count_of, committed, holds_counts, AreApart}
+use Rattle.step_ways.proofs.Common.{settled_by, settled, SaysCount, WordIs, due_of, IsCount, holds, held_by, times_of}
 use Rattle.step_ways.proofs.Common.{count_shown, SumIs, Invariant, limits_of, ReadsAlike, others_settled, own_settled}
 use Rattle.std.proofs.lemmas.List.Elements.{All-map, All-weaker}
+use Rattle.plan_ways.specs.frame_words.specs.Residue.{residue}
 use Rattle.plan_ways.specs.frame_words.proofs.CountLemmas as counts
+use Rattle.plan_ways.specs.frame_words.proofs.ResidueLemmas.{wrapped_fits, residue_wrapped}
+use Rattle.step_ways.specs.stage_pins.specs.Counts.{changed}
 use Rattle.step_ways.specs.stage_pins.proofs.PinLemmas.{changed_none}
 use Rattle.step_ways.specs.core_invariant.specs.CountWords.{newest_of}
 use Rattle.step_ways.specs.kept_facts.proofs.CountSums.{counter_once, sum_same, sum_by, newest_same, newest_one}
 use Rattle.step_ways.proofs.Counting.{first_marked, first_stands}
 use Rattle.step_ways.proofs.Loads.{call_is, inner}
-use Rattle.step_ways.specs.core_invariant.proofs.Ranges.{within_more, within_step, within_fits, changed_is}
-use Rattle.step_ways.proofs.Writes.{room_small}
-
-some_word : (v u : CountWord) → Some v ≡ Some u → v ≡ u
-some_word v u h = cc
+use Rattle.step_ways.specs.core_invariant.proofs.Residues.{plus_residue}
 
 same_count : (f d g b : ℕ) → CountAt f d ≡ CountAt g b → (f ≡ g) × (d ≡ b)
 same_count f d g b h = (cc, cc)
@@ -31,7 +30,7 @@ later_max x None = omega arith
 later_max x (Some y) = omega arith
 
 -- The stamp that a change brings is the one that was drawn, or none.
-brought_small : (z : ℤ) (drawn : Option ℕ) → later 0 drawn < 2 ^ 28 → later 0 (stamp_of_change z drawn) < 2 ^ 28
+brought_small : (z : ℤ) (drawn : Option ℕ) → later 0 drawn < 2 ^ 43 → later 0 (stamp_of_change z drawn) < 2 ^ 43
 brought_small (pos n) drawn small = omega arith
 brought_small (negsuc n) drawn small = small
 
@@ -142,8 +141,8 @@ count_word (x ∷ xs) w mark = elim (cases_word w (count_of x)) [
 -- holds no count beside those; the frames of these are spared.
 module _ (setup : Setting) (setting : IsSetting setup) (cores : ℕ → Core) (t : Trace) (stands : Invariant setup cores t) (c : ℕ)
     (here : c < setup.cores)
-    (a : ActiveCall) (active : (cores c).active ≡ Some a) (drawn : Option ℕ) (drawn_small : later 0 drawn < 2 ^ 28)
-    (ds : List Due) (all : ds ≡ map due_of a.counts) (small_changes : All (λ d. IsWithin d.change 4) ds)
+    (a : ActiveCall) (active : (cores c).active ≡ Some a) (drawn : Option ℕ) (drawn_small : later 0 drawn < 2 ^ 43)
+    (ds : List Due) (all : ds ≡ map due_of a.counts)
     (spared : ℕ → Type 0) (all_spared : All (λ x. spared x.pin.frame) a.counts)
     (move : Move) (r : Reply) (after : Core) (still : (w : Word) → (holds after).marks w ≡ (holds (cores c)).marks w)
     (before_count : (f d : ℕ) → spared f → ((holds (cores c)).marks (CountAt f d) ≡ (holds_counts None a.counts).marks (CountAt f d))
@@ -197,9 +196,6 @@ module _ (setup : Setting) (setting : IsSetting setup) (cores : ℕ → Core) (t
     known : IsCount setup t c a.call x
     known = all_at (IsCount setup t c a.call) a.counts has.i x has.at all_known
 
-    small_change : IsWithin x.change 4
-    small_change = due_at (λ d. IsWithin d.change 4) a.counts has.i x has.at (subst (All (λ d. IsWithin d.change 4)) all small_changes)
-
     abbrev frame : ℕ
     frame = x.pin.frame
 
@@ -232,46 +228,24 @@ module _ (setup : Setting) (setting : IsSetting setup) (cores : ℕ → Core) (t
     shows_found : shown frame counter ≡ Some (unheld count old)
     shows_found = ap count_of_word (settled_found ∙ found_word) ∙ counts.spelling.reads (unheld count old) known.fits
 
-    within : IsWithin count (count_room s)
-    within =
-        let says : SaysCount (count_room s) (shown frame counter) = stands.words (count_of x) in
-        subst (λ y. IsWithin y (count_room s)) (sym (ap (λ v. v.count) (some_word _ _ (sym shows_found ∙ says.says)))) says.within
+    -- after it, the count with the change, modulo 2 ^ 16, and the later stamp
+    abbrev made_count : ℤ
+    made_count = changed count x.change
 
-    -- after it, the count with the change, and the later stamp
-    made_word : committed (Some drawn) x ≡ word_of_count (unheld (count +ℤ x.change) new)
-    made_word = ap (λ y. word_of_count (unheld y new)) (changed_is count x.change (count_room s) 4 within small_change
-        (let small = room_small setup setting cores t stands in omega (arith, small)))
-
-    made_within : IsWithin (count +ℤ x.change) (count_room s + 4)
-    made_within = within_step count x.change (count_room s) 4 within small_change
-
-    new_small : new < 2 ^ 28
+    new_small : new < 2 ^ 43
     new_small =
         let a = later_max old brought in
         let b = known.fits.2 in
         let d = brought_small x.change drawn drawn_small in
         omega (arith, a, b, d)
 
-    made_fits : CountFits (unheld (count +ℤ x.change) new)
-    made_fits = (
-      tt,
-      within_fits (count +ℤ x.change) (count_room s + 4) made_within
-          (let small = room_small setup setting cores t stands in omega (arith, small)),
-      new_small,
-    )
+    shows_made : count_of_word (committed (Some drawn) x) ≡ Some (unheld made_count new)
+    shows_made = counts.spelling.reads (unheld made_count new) (tt, wrapped_fits (count +ℤ x.change), new_small)
 
-    shows_made : count_of_word (committed (Some drawn) x) ≡ Some (unheld (count +ℤ x.change) new)
-    shows_made = ap count_of_word made_word ∙ counts.spelling.reads (unheld (count +ℤ x.change) new) made_fits
+    commits_one : SaysCount (count_of_word (committed (Some drawn) x))
+    commits_one = record { count = made_count; stamp = new; says = shows_made }
 
-    commits_one : count_room s + 4 ≤ count_room s' → SaysCount (count_room s') (count_of_word (committed (Some drawn) x))
-    commits_one room = record {
-      count = count +ℤ x.change;
-      stamp = new;
-      says = shows_made;
-      within = within_more (count +ℤ x.change) (count_room s + 4) (count_room s') room made_within;
-    }
-
-    shows_after : shown' frame counter ≡ Some (unheld (count +ℤ x.change) new)
+    shows_after : shown' frame counter ≡ Some (unheld made_count new)
     shows_after = ap count_of_word (own_settled setup cores t e after still alike was now (count_of x) (no_count frame counter) own_mark
         ∙ after_count frame counter ok ∙ has.one.made drawn)
         ∙ shows_made
@@ -286,11 +260,13 @@ module _ (setup : Setting) (setting : IsSetting setup) (cores : ℕ → Core) (t
     there_shown d there = other_shown frame d ok (has.one.bare d there)
 
     -- the sum of the counts of its frame, and the newest of their stamps
-    sum_here : count_sum (shown' frame) (counters s.limits.cores) ≡ count_sum (shown frame) (counters s.limits.cores) +ℤ x.change
+    sum_here : residue (count_sum (shown' frame) (counters s.limits.cores))
+        ≡ residue (count_sum (shown frame) (counters s.limits.cores) +ℤ x.change)
     sum_here = sum_by (shown frame) (shown' frame) (counters s.limits.cores) counter x.change
         (counter_once s.limits.cores x.pin.core core_below)
         there_shown
-        (ap count_in shows_after ∙ sym (ap (λ y. y +ℤ x.change) (ap count_in shows_found)))
+        (ap residue (ap count_in shows_after) ∙ residue_wrapped (count +ℤ x.change)
+        ∙ ap (λ y. residue (y +ℤ x.change)) (sym (ap count_in shows_found)))
 
     newest_here : newest_of (shown' frame) (counters s.limits.cores) ≡ max (newest_of (shown frame) (counters s.limits.cores))
         (later 0 brought)
@@ -316,8 +292,9 @@ module _ (setup : Setting) (setting : IsSetting setup) (cores : ℕ → Core) (t
           let same : (d : ℕ) → shown' f d ≡ shown f d = (λ d. other_shown f d ok (none.bare d)) in
           let stay = kept f ok (subst (All (λ d. f ≢ d.frame)) (sym all) (All-map (λ d. f ≢ d.frame) due_of a.counts none.apart)) in
           record {
-            sum = ap (λ (n : ℕ). count_sum (shown' f) (counters n)) cores_same
-                ∙ sum_same (shown f) (shown' f) (counters s.limits.cores) same ∙ (stands.sums f).sum ∙ ap (λ (n : ℕ). pos n) (sym stay.0);
+            sum = ap (λ (n : ℕ). residue (count_sum (shown' f) (counters n))) cores_same
+                ∙ ap residue (sum_same (shown f) (shown' f) (counters s.limits.cores) same) ∙ (stands.sums f).sum
+                ∙ ap (λ (n : ℕ). residue (pos n)) (sym stay.0);
             newest = ap (λ (n : ℕ). newest_of (shown' f) (counters n)) cores_same
                 ∙ newest_same (shown f) (shown' f) (counters s.limits.cores) (λ d. ap stamp_in (same d)) ∙ (stands.sums f).newest ∙ sym
                 stay.1;
@@ -327,8 +304,11 @@ module _ (setup : Setting) (setting : IsSetting setup) (cores : ℕ → Core) (t
       here_now f has =
           let change : Changes (due_of has.x) = due_at Changes a.counts has.i has.x has.at (subst (All Changes) all changes) in
           record {
-            sum = ap (λ (n : ℕ). count_sum (shown' has.x.pin.frame) (counters n)) cores_same
-                ∙ sum_here f has ∙ ap (λ y. y +ℤ has.x.change) (stands.sums has.x.pin.frame).sum ∙ sym change.0;
+            sum = ap (λ (n : ℕ). residue (count_sum (shown' has.x.pin.frame) (counters n))) cores_same
+                ∙ sum_here f has
+                ∙ plus_residue (count_sum (shown has.x.pin.frame) (counters s.limits.cores)) (pos (refs s has.x.pin.frame)) has.x.change
+                (stands.sums has.x.pin.frame).sum
+                ∙ ap residue (sym change.0);
             newest = ap (λ (n : ℕ). newest_of (shown' has.x.pin.frame) (counters n)) cores_same
                 ∙ newest_here f has ∙ ap (λ (n : ℕ). max n (later 0 (stamp_of_change has.x.change drawn)))
                 (stands.sums has.x.pin.frame).newest
@@ -341,15 +321,15 @@ module _ (setup : Setting) (setting : IsSetting setup) (cores : ℕ → Core) (t
         | inr none ↦ stays f ok none
       ]
 
-  commits_count : count_room s + 4 ≤ count_room s' → (f d : ℕ) → (holds_counts None a.counts).marks (CountAt f d) ≡ true
+  commits_count : (f d : ℕ) → (holds_counts None a.counts).marks (CountAt f d) ≡ true
       → WordIs s' (times_of setup (e ∷ t)) (CountAt f d) ((holds_counts (Some drawn) a.counts).stands (CountAt f d))
-  commits_count room f d mark = elim (which_of f) [
+  commits_count f d mark = elim (which_of f) [
     | inl has ↦ elim (cases_eq d has.x.pin.core) [
       | inl same ↦
           let at : CountAt f d ≡ count_of has.x =
           ap (λ (g : ℕ). CountAt g d) has.frame ∙ ap (λ (b : ℕ). CountAt has.x.pin.frame b) same in
           subst (λ v. WordIs s' (times_of setup (e ∷ t)) v ((holds_counts (Some drawn) a.counts).stands v)) (sym at)
-          (subst (λ (n : ℕ). SaysCount (count_room s') (count_of_word n)) (sym (has.one.made drawn)) (commits_one f has room))
+          (subst (λ (n : ℕ). SaysCount (count_of_word n)) (sym (has.one.made drawn)) (commits_one f has))
       | inr other ↦ absurd (false≢true (sym (ap (λ (g : ℕ). (holds_counts None a.counts).marks (CountAt g d)) has.frame
           ∙ has.one.bare d other) ∙ mark))
     ]
@@ -357,12 +337,12 @@ module _ (setup : Setting) (setting : IsSetting setup) (cores : ℕ → Core) (t
   ]
 
   -- each count that the call holds says then what its commit will store
-  pub spared_commit : count_room s + 4 ≤ count_room s' → (w : Word) → (holds_counts None a.counts).marks w ≡ true
+  pub spared_commit : (w : Word) → (holds_counts None a.counts).marks w ≡ true
       → WordIs s' (times_of setup (e ∷ t)) w ((holds_counts (Some drawn) a.counts).stands w)
-  spared_commit room w mark =
+  spared_commit w mark =
       let is = count_word a.counts w mark in
       subst (λ v. WordIs s' (times_of setup (e ∷ t)) v ((holds_counts (Some drawn) a.counts).stands v)) (sym is.2)
-      (commits_count room is.0 is.1 (subst (λ v. (holds_counts None a.counts).marks v ≡ true) is.2 mark))
+      (commits_count is.0 is.1 (subst (λ v. (holds_counts None a.counts).marks v ≡ true) is.2 mark))
 
 all_unit : (xs : List Acquired) → All (λ x. Unit {0}) xs
 all_unit [] = All-nil (λ x. Unit {0})
@@ -371,8 +351,8 @@ all_unit (x ∷ xs) = All-cons (λ x. Unit {0}) x xs tt (all_unit xs)
 -- The core holds no other count.
 module _ (setup : Setting) (setting : IsSetting setup) (cores : ℕ → Core) (t : Trace) (stands : Invariant setup cores t) (c : ℕ)
     (here : c < setup.cores)
-    (a : ActiveCall) (active : (cores c).active ≡ Some a) (drawn : Option ℕ) (drawn_small : later 0 drawn < 2 ^ 28)
-    (ds : List Due) (all : ds ≡ map due_of a.counts) (small_changes : All (λ d. IsWithin d.change 4) ds)
+    (a : ActiveCall) (active : (cores c).active ≡ Some a) (drawn : Option ℕ) (drawn_small : later 0 drawn < 2 ^ 43)
+    (ds : List Due) (all : ds ≡ map due_of a.counts)
     (move : Move) (r : Reply) (after : Core) (still : (w : Word) → (holds after).marks w ≡ (holds (cores c)).marks w)
     (before_count : (f d : ℕ) → ((holds (cores c)).marks (CountAt f d) ≡ (holds_counts None a.counts).marks (CountAt f d))
     × ((holds (cores c)).stands (CountAt f d) ≡ (holds_counts None a.counts).stands (CountAt f d)))
@@ -396,11 +376,11 @@ module _ (setup : Setting) (setting : IsSetting setup) (cores : ℕ → Core) (t
       → All (λ d. (pos (refs later_state d.frame) ≡ pos (refs before d.frame) +ℤ d.change)
       × (stamp setup (e' ∷ t) (FrameOf d.frame) ≡ max (stamp setup t (FrameOf d.frame)) (later 0 (stamp_of_change d.change drawn)))) ds
       → (f : ℕ) → SumIs setup (held_by (put cores c after)) (e' ∷ t) f
-  dues_sum cores_same kept changes f = spared_sum setup setting cores t stands c here a active drawn drawn_small ds all small_changes
+  dues_sum cores_same kept changes f = spared_sum setup setting cores t stands c here a active drawn drawn_small ds all
       (λ g. Unit {0}) (all_unit a.counts) move r after still (λ g d ok. before_count g d) (λ g d ok. after_count g d) alike was now no_count
       cores_same (λ g ok. kept g) changes f tt
 
-  pub dues_commit : count_room before + 4 ≤ count_room later_state → (w : Word) → (holds_counts None a.counts).marks w ≡ true
+  pub dues_commit : (w : Word) → (holds_counts None a.counts).marks w ≡ true
       → WordIs later_state (times_of setup (e' ∷ t)) w ((holds_counts (Some drawn) a.counts).stands w)
-  dues_commit = spared_commit setup setting cores t stands c here a active drawn drawn_small ds all small_changes
+  dues_commit = spared_commit setup setting cores t stands c here a active drawn drawn_small ds all
       (λ g. Unit {0}) (all_unit a.counts) move r after still (λ g d ok. before_count g d) (λ g d ok. after_count g d) alike was now no_count

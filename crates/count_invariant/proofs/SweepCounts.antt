@@ -143,7 +143,7 @@ module _ (setup : Setting) (setting : IsSetting setup) (cores : ℕ → Core) (t
 
   unreferenced : refs s f ≡ 0
   unreferenced = no_refs setup cores t stands c f drawing.word w.words (holds_release (release_of f drawing.word w false) before) settles
-      (release_swept f drawing.word w before drawing.knows_it.frame) drawing.knows_it.kept drawing.knows_it.swept.frozen
+      (release_swept f drawing.word w before drawing.knows_it.frame) drawing.knows_it.kept drawing.knows_it.swept.frozen setting
 
   -- the object does not name its own frame
   not_own : (g : ℕ) → is_one_of g (frame_names (s.frame f)) ≡ true → g ≢ f

@@ -50,7 +50,7 @@ impl End {
     }
 
     // How many calls were made with the seat.
-    pub(crate) fn made(&self) -> u32
+    pub(crate) fn made(&self) -> u64
         ensures { result ≡ self.now.made }
     {
         self.seat.made()

@@ -105,7 +105,7 @@ impl EndPort {
         ensures asks { self.old.end.made < most_calls → HasAsked op number self.old result self.new }
         ensures spent { most_calls ≤ self.old.end.made → (result ≡ Refused CallsSpent) × (self.new ≡ self.old) }
     {
-        if 4_194_304 <= self.end.made() {
+        if (1 << 40) - 1 <= self.end.made() {
             return EndReply::Refused(Reply::CallsSpent);
         }
         let done = self.end.ask(&mut self.looker, EndAsk { op, number });

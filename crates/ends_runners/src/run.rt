@@ -31,7 +31,7 @@ fn run<G: Gate>(table: &EndTable, gate: &G, runner: &mut EndRunner)
 {
     let core = runner.who.core();
     for made in 0..runner.asks.len() {
-        if !gate.may_go(core, runner.listed + made as u32) {
+        if !gate.may_go(core, u64::from(runner.listed) + made as u64) {
             runner.held = true;
             return;
         }

@@ -99,12 +99,12 @@ reads (Closing by) h =
     let core : w / 2 ^ 2 ≡ by = omega arith in
     rw (ne_eqb w 0 some, tag, core, lt-ltb by 8 h)
 reads (Quiescing s) h =
-    let w : ℕ = 3 + 2 ^ 32 * s in
+    let w : ℕ = 3 + 2 ^ 4 * s in
     let some : w ≢ 0 = omega arith in
     let tag : w % 2 ^ 2 ≡ 3 = omega arith in
-    let low : w % 2 ^ 32 ≡ 3 = omega arith in
-    let stamp : w / 2 ^ 32 ≡ s = omega arith in
-    rw (ne_eqb w 0 some, tag, low, stamp, le-leb 1 s h.0, lt-ltb s (2 ^ 28) h.1)
+    let low : w % 2 ^ 4 ≡ 3 = omega arith in
+    let stamp : w / 2 ^ 4 ≡ s = omega arith in
+    rw (ne_eqb w 0 some, tag, low, stamp, le-leb 1 s h.0, lt-ltb s (2 ^ 43) h.1)
 
 -- an entry within its ranges, whose word is this one
 Spells : ℕ → Entry → Type 0
@@ -155,13 +155,13 @@ spells_closing w v tag h =
     let (core, value) = kept (nat_lt by 8) (Closing by) v h in
     subst (Spells w) value (ltb-true by 8 core, omega arith)
 
-spells_quiescing : (w : ℕ) (v : Entry) → w % 2 ^ 32 ≡ 3 → quiescing_of (w / 2 ^ 32) ≡ Some v → Spells w v
+spells_quiescing : (w : ℕ) (v : Entry) → w % 2 ^ 4 ≡ 3 → quiescing_of (w / 2 ^ 4) ≡ Some v → Spells w v
 unfolding Spells word_of_entry
 spells_quiescing w v tag h =
-    let s : ℕ = w / 2 ^ 32 in
-    let (tests, value) = kept (nat_le 1 s && nat_lt s (2 ^ 28)) (Quiescing s) v h in
+    let s : ℕ = w / 2 ^ 4 in
+    let (tests, value) = kept (nat_le 1 s && nat_lt s (2 ^ 43)) (Quiescing s) v h in
     let (least, last) = and_parts (nat_le 1 s) _ tests in
-    subst (Spells w) value ((leb-true 1 s least, ltb-true s (2 ^ 28) last), omega arith)
+    subst (Spells w) value ((leb-true 1 s least, ltb-true s (2 ^ 43) last), omega arith)
 
 spells : (w : ℕ) (v : Entry) → entry_of_word w ≡ Some v → Spells w v
 unfolding Spells word_of_entry entry_of_word
@@ -172,8 +172,8 @@ spells w v h =
     (λ e f. spells_held _ w v refl (eqb-true (w % 2 ^ 2) 1 e) f)
     (λ _ h2. chosen (w % 2 ^ 2 == 2) _ _ (Some v) h2
     (λ e f. spells_closing w v (eqb-true (w % 2 ^ 2) 2 e) f)
-    (λ _ h3. chosen (w % 2 ^ 32 == 3) _ _ (Some v) h3
-    (λ e f. spells_quiescing w v (eqb-true (w % 2 ^ 32) 3 e) f)
+    (λ _ h3. chosen (w % 2 ^ 4 == 3) _ _ (Some v) h3
+    (λ e f. spells_quiescing w v (eqb-true (w % 2 ^ 4) 3 e) f)
     (λ _ f. absurd (cc)))))
 
 small_held : (k f a n : ℕ) → k < 16 → f < 512 → a < 2 ^ 24 → n ≤ 3

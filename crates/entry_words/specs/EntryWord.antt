@@ -13,7 +13,7 @@ EntryFits Free = Unit {0}
 EntryFits (Held cap) = (cap.frame < 512) × (least_arg cap.kind ≤ cap.arg) × (cap.arg < end_of_arg cap.kind)
     × (least_rights cap.kind ≤ cap.rights) × (cap.rights < 4)
 EntryFits (Closing by) = by < 8
-EntryFits (Quiescing stamp) = (1 ≤ stamp) × (stamp < 2 ^ 28)
+EntryFits (Quiescing stamp) = (1 ≤ stamp) × (stamp < 2 ^ 43)
 
 -- the word of an entry: the power of two before a field is its lowest bit; of a capability, the highest field has the rights withheld
 unfoldable pub word_of_entry : Entry → ℕ
@@ -21,7 +21,7 @@ word_of_entry Free = 0
 word_of_entry (Held cap) =
     1 + 2 ^ 2 * number_of_kind cap.kind + 2 ^ 6 * cap.frame + 2 ^ 16 * cap.arg + 2 ^ 40 * (3 - cap.rights)
 word_of_entry (Closing by) = 2 + 2 ^ 2 * by
-word_of_entry (Quiescing stamp) = 3 + 2 ^ 32 * stamp
+word_of_entry (Quiescing stamp) = 3 + 2 ^ 4 * stamp
 
 -- the entry that holds the capability with these numbers, where each is within its range
 abbrev pub held_of : Option Kind → ℕ → ℕ → ℕ → Option Entry
@@ -37,7 +37,7 @@ closing_of by = if nat_lt by 8 then Some (Closing by) else None
 
 -- the quiescing entry of this stamp, where it is within its range
 abbrev pub quiescing_of : ℕ → Option Entry
-quiescing_of stamp = if nat_le 1 stamp && nat_lt stamp (2 ^ 28) then Some (Quiescing stamp) else None
+quiescing_of stamp = if nat_le 1 stamp && nat_lt stamp (2 ^ 43) then Some (Quiescing stamp) else None
 
 -- the entry of a word: each field as it stands, with the bits above it that no field uses, must be within its range
 unfoldable pub entry_of_word : ℕ → Option Entry
@@ -45,7 +45,7 @@ entry_of_word w =
     if w == 0 then Some Free
     else if w % 2 ^ 2 == 1 then held_of (kind_of_number (w / 2 ^ 2 % 2 ^ 4)) (w / 2 ^ 6 % 2 ^ 10) (w / 2 ^ 16 % 2 ^ 24) (w / 2 ^ 40)
     else if w % 2 ^ 2 == 2 then closing_of (w / 2 ^ 2)
-    else if w % 2 ^ 32 == 3 then quiescing_of (w / 2 ^ 32)
+    else if w % 2 ^ 4 == 3 then quiescing_of (w / 2 ^ 4)
     else None
 
 -- the word of a capability with both rights has its kind, frame and number alone

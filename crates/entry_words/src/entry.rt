@@ -46,7 +46,7 @@ impl Entry {
                 + ((cap.arg() as u64) << 16)
                 + (((3 - cap.rights().number()) as u64) << 40),
             Entry::Closing { by } => 2 + ((by.number() as u64) << 2),
-            Entry::Quiescing { stamp } => 3 + ((stamp.number() as u64) << 32),
+            Entry::Quiescing { stamp } => 3 + (stamp.number() << 4),
         }
     }
 
@@ -76,7 +76,7 @@ fn read(word: u64) -> Option<Entry>
             word >> 40,
         ),
         2 => closing(word >> 2),
-        3 if word & 0xffff_ffff == 3 => quiescing(word >> 32),
+        3 if word & 0xf == 3 => quiescing(word >> 4),
         _ if word == 0 => Some(Entry::Free),
         _ => None,
     }
@@ -121,9 +121,9 @@ fn closing(by: u64) -> Option<Entry>
 fn quiescing(stamp: u64) -> Option<Entry>
     ensures { result ≡ quiescing_of stamp }
 {
-    if 1 <= stamp && stamp < 1 << 28 {
+    if 1 <= stamp && stamp < 1 << 43 {
         Some(Entry::Quiescing {
-            stamp: Stamp::new(stamp as u32),
+            stamp: Stamp::new(stamp),
         })
     } else {
         None

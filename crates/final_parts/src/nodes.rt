@@ -70,7 +70,8 @@ pub fn frame_part(image: &Image<'_>, frame: u16) -> Result<FramePart, NoPart>
     }
 }
 
-/// What a core counts of the references to a frame: those made less those released. The references to it are the sum of what all cores count.
+/// What a core counts of the references to a frame: those made less those released, modulo 2^16, from -2^15 to 2^15 - 1. The references to
+/// it are the sum of what all cores count, modulo 2^16; one core's count alone says nothing.
 pub fn count_part(image: &Image<'_>, frame: u16, core: u8) -> Result<i32, NoPart>
     ensures { result ≡ count_in image.now frame core }
 {

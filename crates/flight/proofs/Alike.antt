@@ -8,6 +8,7 @@ use Rattle.work_invariant.proofs.Common.{count_in, count_sum}
 use Rattle.std.proofs.Common.{get_or}
 use Rattle.std.proofs.lemmas.List.FromFn.{length-range_with_len, get_or-range_with_len}
 use Rattle.boot_words.specs.spk_nums.specs.declared.translations.CoreEnd.{CoreEnd}
+use Rattle.boot_words.specs.frame_words.specs.Residue.{residue}
 use Rattle.boot_words.specs.kernel_history.specs.Counts.{count_at, IsUnheld, RepresentCounts}
 use Rattle.boot_words.specs.kernel_history.specs.FinalWords.{Represent, AreEntries, AreObject, AreFrame, SaysPlace, SaysNumber, SaysOut}
 
@@ -89,7 +90,7 @@ module _ (setup : Setting) (setting : IsSetting setup) (s : State) (word word' :
   pub like_counts : RepresentCounts word s → RepresentCounts word' s
   like_counts is f h = record {
     unheld = λ k d low. subst (λ (w : ℕ). IsUnheld (count_of_word w)) (like_count f k d h low) ((is f h).unheld k d low);
-    sum = sym (like_sum word word' f cs (λ k d low. like_count f k d h low)) ∙ (is f h).sum;
+    sum = ap residue (sym (like_sum word word' f cs (λ k d low. like_count f k d h low))) ∙ (is f h).sum;
   }
 
 -- an element that is there needs no default

@@ -7,7 +7,7 @@ use Rattle.work_invariant.proofs.Common.{FrameAt, CountAt, CoreAt, FlushAt, Live
 use Rattle.work_invariant.proofs.Common.{Table, Leaf, Pages, Pleaf, Comp, Thread, Tcap, TcapFields, Frame, Untyped, User, Kernel, State}
 use Rattle.work_invariant.proofs.Common.{comp_in, thread_in, thread_of, first_of_stack, refs, fits, frame_value, entry_mark, frame_mark}
 use Rattle.work_invariant.proofs.Common.{count_mark, live_mark, thread_mark, head_mark, mark_in_frame, CapNames, marked_by, settled_by}
-use Rattle.work_invariant.proofs.Common.{PlaceIs, IsFrameWord, NumberIs, WordIs, count_room, word_of_head, head_of_word, HeadWord}
+use Rattle.work_invariant.proofs.Common.{PlaceIs, IsFrameWord, NumberIs, WordIs, word_of_head, head_of_word, HeadWord}
 use Rattle.work_invariant.proofs.Common.{held_by, times_of, count_shown, SumIs, stamp_in, count_in, word_of_count, word_of_frame}
 use Rattle.work_invariant.proofs.Common.{word_of_live, at_height, thread_value, quality_of_word, stack_of_word, thread_of_word}
 use Rattle.work_invariant.proofs.Common.{end_of_frames}
@@ -18,6 +18,7 @@ use Rattle.boot_words.specs.entry_words.proofs.Spelling as entries
 use Rattle.boot_words.specs.frame_words.specs.declared.count_word.CountWord.{CountWord}
 use Rattle.boot_words.specs.frame_words.specs.declared.count_word.Hold.TheVariants.{Unheld}
 use Rattle.boot_words.specs.frame_words.specs.declared.live_word.LiveWord.TheVariants as live_word
+use Rattle.boot_words.specs.frame_words.specs.Residue.{residue}
 use Rattle.boot_words.specs.frame_words.proofs.CoreLemmas as core_words
 use Rattle.boot_words.specs.frame_words.proofs.CountLemmas as counts
 use Rattle.boot_words.specs.frame_words.proofs.FlushLemmas as flushes
@@ -118,22 +119,18 @@ next i = omega arith
 -- The head of a temporal capability is in its first version.
 first_version : (q : TcapFields) (version : ℕ)
     → head_of_word (word_of_head (record { budget = q.budget; mark = None; version = 0 }))
-    ≡ Some (record { budget = q.budget; mark = None; version = version }) → version ≤ 16
+    ≡ Some (record { budget = q.budget; mark = None; version = version }) → version ≡ 0
 first_version q version says =
     let fits = (heads.spelling.spells _ (record { budget = q.budget; mark = None; version = version }) says).0 in
     let none : Some (record { budget = q.budget; mark = None; version = 0 })
     ≡ Some (record { budget = q.budget; mark = None; version = version })
     = sym (heads.spelling.reads (record { budget = q.budget; mark = None; version = 0 }) (fits.0, tt, omega arith)) ∙ says in
-    let same = version_of _ _ none in omega (arith, same)
+    sym (version_of _ _ none)
   where
     version_of : (v u : HeadWord) → Some v ≡ Some u → v.version ≡ u.version
     version_of v u h = cc
 
 module _ (setup : Setting) (setting : IsSetting setup) where
-  -- no call is counted
-  abbrev boot_room : ℕ
-  boot_room = count_room (start setup)
-
   parts : Represent (boot_word setup) (λ c. end_of (start setup) c) (start setup)
   parts = (boot_represents setup setting).parts
 
@@ -182,7 +179,7 @@ module _ (setup : Setting) (setting : IsSetting setup) where
       (ap head_mark h.head)
 
   object_says : (f : ℕ) (x : Object) → AreObject x (start_place setup f) (λ i. boot_object x (start_place setup f) i)
-      → (i : ℕ) → IsObjectWord setup.frames boot_room x (start_place setup f i) 0 i (boot_object x (start_place setup f) i)
+      → (i : ℕ) → IsObjectWord setup.frames x (start_place setup f i) 0 i (boot_object x (start_place setup f) i)
   object_says f Blank h i = tt
   object_says f Table h i = node_says f h i
   object_says f Leaf h i = node_says f h i
@@ -200,8 +197,7 @@ module _ (setup : Setting) (setting : IsSetting setup) where
   object_says f (Tcap q) h zero = record {
     version = h.version;
     says = h.head;
-    within =
-        (let few = first_version q h.version h.head in omega (arith, few));
+    within = (let first = first_version q h.version h.head in omega (arith, first));
     most = h.most;
   }
   object_says f (Tcap q) h (suc i) =
@@ -216,7 +212,7 @@ module _ (setup : Setting) (setting : IsSetting setup) where
   frame_marks f (Kernel x) h i = object_marks f x h i
 
   frame_says : (f : ℕ) (x : Frame) → AreFrame x (start_place setup f) (λ i. boot_frame x (start_place setup f) i)
-      → (i : ℕ) → IsFrameWord setup.frames boot_room x (start_place setup f i) 0 i (boot_frame x (start_place setup f) i)
+      → (i : ℕ) → IsFrameWord setup.frames x (start_place setup f i) 0 i (boot_frame x (start_place setup f) i)
   frame_says f Untyped h i = tt
   frame_says f User h i = tt
   frame_says f (Kernel x) h i = object_says f x h i
@@ -281,7 +277,6 @@ module _ (setup : Setting) (setting : IsSetting setup) where
     count = pos (if c == 0 then refs (start setup) f else 0);
     stamp = 0;
     says = count_reads f (if c == 0 then refs (start setup) f else 0) (least c (refs (start setup) f));
-    within = (let few = refs_most setup setting f in let part = least c (refs (start setup) f) in omega arith);
   }
   boot_says (CoreAt c) = core_words.spelling.reads (record { inside = false; stamp = 0 }) (omega arith)
   boot_says (FlushAt c) = flushes.spelling.reads (record { stamp = 0 }) (omega arith)
@@ -291,7 +286,7 @@ module _ (setup : Setting) (setting : IsSetting setup) where
   -- the counts of the start are its references
   boot_sums : (f : ℕ) → SumIs setup (held_by (boot_cores setup)) [] f
   boot_sums f = record {
-    sum = sum_of_first shown_at setup.cores setting.some_core other_none ∙ ap count_in (each 0);
+    sum = ap residue (sum_of_first shown_at setup.cores setting.some_core other_none ∙ ap count_in (each 0));
     newest = newest_none (counters setup.cores);
   }
     where

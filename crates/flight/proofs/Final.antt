@@ -7,11 +7,12 @@ use Rattle.work_invariant.proofs.Common.{LiveAt, Place, Free, Holds, Quiescing, 
 use Rattle.work_invariant.proofs.Common.{Frame, Untyped, User, Kernel, Liveness, Unused, Live, Dead, PlaceOf, NumberOf, State, held_in}
 use Rattle.work_invariant.proofs.Common.{counters, holds_node, at_height, Trace, Phase, Out, Open, phase, state_after, last_left, is_in}
 use Rattle.work_invariant.proofs.Common.{stamp, exit_of, sound_of, Core, marked_by, settled_by, settled, PlaceIs, IsFrameWord, SaysCount}
-use Rattle.work_invariant.proofs.Common.{count_room, NumberIs, WordIs, CallIs, WorksIn, holds_in, held_by, times_of, count_shown}
+use Rattle.work_invariant.proofs.Common.{NumberIs, WordIs, CallIs, WorksIn, holds_in, held_by, times_of, count_shown}
 use Rattle.work_invariant.proofs.Common.{Invariant, limits_of, marker_inside}
 use Rattle.work_invariant.specs.core_invariant.proofs.Bare.{none_value}
 use Rattle.std.proofs.lemmas.Bool.{true≢false}
 use Rattle.boot_words.specs.spk_nums.specs.declared.translations.CoreEnd.{CoreEnd}
+use Rattle.boot_words.specs.frame_words.specs.Residue.{residue}
 use Rattle.boot_words.specs.kernel_rules.specs.Relies.{is_node as is_sound_node}
 use Rattle.boot_words.specs.kernel_rules.specs.Start.{start}
 use Rattle.boot_words.specs.kernel_history.specs.Counts.{count_at, IsUnheld, RepresentCounts}
@@ -22,8 +23,8 @@ use Rattle.boot_words.specs.kernel_history.proofs.Inside.{inside_is}
 use Rattle.call_stages.specs.Cores.{end_of}
 use Rattle.flight.specs.Theorems.{SaysWords, AreBetween, Represents, RepresentsCounts}
 use Rattle.work_invariant.specs.kept_facts.proofs.CountSums.{sum_same}
+use Rattle.work_invariant.specs.kept_facts.proofs.Few.{refs_residue}
 use Rattle.work_invariant.specs.step_ways.proofs.Places.{IsMarked, IsUnmarked, place_reads}
-use Rattle.work_invariant.specs.core_invariant.specs.Words.{count_room as count_room_of_words}
 
 sound_node : (x : Frame) → IsTrue (holds_node x) → IsTrue (is_sound_node x)
 sound_node Untyped h = absurd (false≢true h)
@@ -94,21 +95,21 @@ next : (i : ℕ) → suc i ≡ 1 + i
 next i = omega arith
 
 -- The words of a frame, as those of its object.
-frame_parts : (n m : ℕ) (x : Frame) (p : ℕ → Place) (r word : ℕ → ℕ) → ((i : ℕ) → IsFrameWord n m x (p i) (r i) i (word i))
+frame_parts : (n : ℕ) (x : Frame) (p : ℕ → Place) (r word : ℕ → ℕ) → ((i : ℕ) → IsFrameWord n x (p i) (r i) i (word i))
     → AreFrame x p word
-frame_parts n m Untyped p r word h = tt
-frame_parts n m User p r word h = tt
-frame_parts n m (Kernel Blank) p r word h = tt
-frame_parts n m (Kernel Table) p r word h = λ i below. says_place n (p i) (r i) (entry_of_word (word i)) (h i below)
-frame_parts n m (Kernel Leaf) p r word h = λ i below. says_place n (p i) (r i) (entry_of_word (word i)) (h i below)
-frame_parts n m (Kernel Pages) p r word h = λ i below. says_place n (p i) (r i) (entry_of_word (word i)) (h i below)
-frame_parts n m (Kernel Pleaf) p r word h = λ i below. says_place n (p i) (r i) (entry_of_word (word i)) (h i below)
-frame_parts n m (Kernel (Comp k)) p r word h = record { table = h 0; pages = h 1; live = h 2 }
-frame_parts n m (Kernel (Thread t)) p r word h = record {
+frame_parts n Untyped p r word h = tt
+frame_parts n User p r word h = tt
+frame_parts n (Kernel Blank) p r word h = tt
+frame_parts n (Kernel Table) p r word h = λ i below. says_place n (p i) (r i) (entry_of_word (word i)) (h i below)
+frame_parts n (Kernel Leaf) p r word h = λ i below. says_place n (p i) (r i) (entry_of_word (word i)) (h i below)
+frame_parts n (Kernel Pages) p r word h = λ i below. says_place n (p i) (r i) (entry_of_word (word i)) (h i below)
+frame_parts n (Kernel Pleaf) p r word h = λ i below. says_place n (p i) (r i) (entry_of_word (word i)) (h i below)
+frame_parts n (Kernel (Comp k)) p r word h = record { table = h 0; pages = h 1; live = h 2 }
+frame_parts n (Kernel (Thread t)) p r word h = record {
   runs = h 0;
   stack = λ i below. subst (λ (j : ℕ). stack_of_word (word j) ≡ Some (record { 0 = at_height t.stack i })) (next i) (h (suc i) below);
 }
-frame_parts n m (Kernel (Tcap q)) p r word h = let head = h 0 in record {
+frame_parts n (Kernel (Tcap q)) p r word h = let head = h 0 in record {
   version = head.version;
   head = head.says;
   list = λ i below. subst (λ (j : ℕ). quality_of_word (word j) ≡ Some (record { 0 = slice_get q.qualities i })) (next i)
@@ -174,7 +175,7 @@ module _ (setup : Setting) (setting : IsSetting setup) (cores : ℕ → Core) (t
   words_represent : Represent (last_left setup t) (λ c. end_of (cores c)) (state_after setup t)
   words_represent = record {
     objects = λ f here. frame_parts (state_after setup t).limits.frames
-        (count_room_of_words (state_after setup t)) ((state_after setup t).frame f) ((state_after setup t).place f)
+        ((state_after setup t).frame f) ((state_after setup t).place f)
         (λ i. stamp setup t (PlaceOf f i)) (λ i. last_left setup t (EntryAt f i))
         (λ i. word_is (EntryAt f i));
     bare = λ f here none i below. none_held ((state_after setup t).place f i)
@@ -189,19 +190,20 @@ module _ (setup : Setting) (setting : IsSetting setup) (cores : ℕ → Core) (t
     ends = λ c here. ends_are (cores c) (state_after setup t) c (works c here);
   }
 
-  unheld_is : (o : Option CountWord) (n : ℕ) → SaysCount n o → IsUnheld o
-  unheld_is o n says = subst IsUnheld (sym says.says) refl
+  unheld_is : (o : Option CountWord) → SaysCount o → IsUnheld o
+  unheld_is o says = subst IsUnheld (sym says.says) refl
 
   every : (f : ℕ) (ds : List ℕ) → All (λ d. IsUnheld (count_at (last_left setup t) f d)) ds
   every f [] = All-nil (λ d. IsUnheld (count_at (last_left setup t) f d))
   every f (d ∷ ds) = All-cons (λ d. IsUnheld (count_at (last_left setup t) f d)) d ds
-      (unheld_is (count_at (last_left setup t) f d) (count_room (state_after setup t)) (word_is (CountAt f d))) (every f ds)
+      (unheld_is (count_at (last_left setup t) f d) (word_is (CountAt f d))) (every f ds)
 
   counts_represent : RepresentCounts (last_left setup t) (state_after setup t)
   counts_represent f here = record {
     unheld = every f (counters (state_after setup t).limits.cores);
-    sum = sum_same (count_shown setup (held_by cores) t f) (count_at (last_left setup t) f) (counters (state_after setup t).limits.cores)
-        (λ d. sym (ap count_of_word (settled_is (CountAt f d)))) ∙ (stands.sums f).sum;
+    sum = ap residue (sum_same (count_shown setup (held_by cores) t f) (count_at (last_left setup t) f)
+        (counters (state_after setup t).limits.cores) (λ d. sym (ap count_of_word (settled_is (CountAt f d)))))
+        ∙ (stands.sums f).sum ∙ refs_residue setup setting t stands.legal f;
   }
 
 pub represents : Represents

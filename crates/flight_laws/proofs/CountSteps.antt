@@ -114,7 +114,7 @@ use Rattle.time_laws.specs.core_invariant.specs.Knows.{CallIs, HasLoaded, KnowsA
 use Rattle.time_laws.specs.core_invariant.specs.Knows.{due_of, KnowsUndecided, phase_at, pin_core, pin_frame, untypes}
 use Rattle.time_laws.specs.core_invariant.specs.Sweeps.{KnowsRelease, KnowsSweep, KnowsSweepAt, KnowsUntypingAt, UntypesBy}
 use Rattle.time_laws.specs.core_invariant.specs.Threads.{claimed_by}
-use Rattle.time_laws.specs.core_invariant.specs.Words.{SaysCount, count_room}
+use Rattle.time_laws.specs.core_invariant.specs.Words.{SaysCount}
 use Rattle.time_laws.specs.core_invariant.proofs.Freezing.{is_count, release_away, thaw_here}
 use Rattle.time_laws.specs.step_ways.proofs.Counting.{first_marked, first_stands}
 use Rattle.time_laws.specs.count_invariant.specs.act_fits.proofs.DuesFit.{few_dues}
@@ -486,8 +486,8 @@ module _ (setup : Setting) (setting : IsSetting setup) (cores : ℕ → Core) (t
             ((stands.marks (CountAt g j) c).kept marks)
             ∙ settles
 
-        says : SaysCount (count_room (state_after setup t)) (count_of_word x)
-        says = subst (λ (n : ℕ). SaysCount (count_room (state_after setup t)) (count_of_word n)) settled_is (stands.words (CountAt g j))
+        says : SaysCount (count_of_word x)
+        says = subst (λ (n : ℕ). SaysCount (count_of_word n)) settled_is (stands.words (CountAt g j))
 
     module _ (r : Reply) (drawn : Option ℕ) where
       abbrev fate : Option (Option ℕ)

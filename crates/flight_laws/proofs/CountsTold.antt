@@ -8,6 +8,7 @@ use Rattle.time_laws.specs.spk_nums.specs.Setting.{Setting, IsSetting}
 use Rattle.time_laws.specs.spk_nums.specs.declared.calls.Call.{Call}
 use Rattle.time_laws.specs.spk_nums.specs.declared.replies.Reply.{Reply}
 use Rattle.time_laws.specs.frame_words.specs.Count.{count_of_word}
+use Rattle.time_laws.specs.frame_words.specs.Residue.{residue, wrapped}
 use Rattle.time_laws.specs.frame_words.specs.declared.count_word.CountWord.{CountWord}
 use Rattle.time_laws.specs.frame_words.specs.declared.count_word.Hold.{Hold}
 use Rattle.time_laws.specs.frame_words.specs.declared.count_word.Hold.TheVariants.{Unheld, Pinned, Closed}
@@ -26,6 +27,7 @@ use Rattle.time_laws.specs.stage_pins.specs.Counts.{acquired, unheld}
 use Rattle.time_laws.specs.core_invariant.specs.Holding.{committed, settled_by}
 use Rattle.time_laws.specs.core_invariant.specs.Invariant.{Invariant, holds, holds_in, held_by}
 use Rattle.time_laws.specs.core_invariant.proofs.Sounds.{limits_of}
+use Rattle.time_laws.specs.kept_facts.proofs.Few.{refs_residue}
 use Rattle.time_laws.specs.flight.specs.Made.{core_after, cores_after, stepping_core, IsMade}
 use Rattle.time_laws.specs.flight.proofs.Made.{made_stands}
 use Rattle.flight_laws.specs.Counts.{changed_by, is_carried_out, count_then, sum_then, will_show, CountsTell}
@@ -142,7 +144,7 @@ module _ (setup : Setting) (setting : IsSetting setup) (f k : ℕ) (t : Trace) (
       (before_is setup setting f k t e made mark_now)
 
   abbrev Told : Trace → Type 0
-  Told u = count_in (settled_shows setup setting f u k) ≡ v.count +ℤ changed_by setup u e.core f
+  Told u = count_in (settled_shows setup setting f u k) ≡ wrapped (v.count +ℤ changed_by setup u e.core f)
 
   pub told_own : ((shows setup setting f t k ≡ Some v) → is_carried_out p ≡ true → Told t)
       → is_carried_out (phase (e ∷ t) e.core) ≡ true → Told (e ∷ t)
@@ -152,29 +154,29 @@ module _ (setup : Setting) (setting : IsSetting setup) (f k : ℕ) (t : Trace) (
       by None none may =
           let before : is_carried_out p ≡ true = sym (ap is_carried_out (phase_now ∙ ap (λ o. after_decide o p) none)) ∙ carried in
           ap count_in (settled_own none before) ∙ rest (showed_own none before) before
-          ∙ ap (λ z. v.count +ℤ z) (sym (changed_is ∙ ap change none))
+          ∙ ap (λ z. wrapped (v.count +ℤ z)) (sym (changed_is ∙ ap change none))
       by (Some r) decides may =
           count_changes setup setting f k t e made v is pinned
-          ∙ ap (λ o. count_in o +ℤ (pos refs_now -ℤ pos refs_then))
+          ∙ ap (λ o. wrapped (count_in o +ℤ (pos refs_now -ℤ pos refs_then)))
           (settled_open may.call (sym (entered_is setup setting f k t e made mark_now) ∙ may.is_open))
-          ∙ ap (λ z. v.count +ℤ z) (sym (changed_is ∙ ap change decides))
+          ∙ ap (λ z. wrapped (v.count +ℤ z)) (sym (changed_is ∙ ap change decides))
 
 -- The count that a carried out call has acquired settles to what is owed.
 pub told_along : (setup : Setting) (setting : IsSetting setup) (f k d : ℕ) (v : CountWord) → v.hold ≡ Pinned d → (t : Trace)
     → IsMade setup t → shows setup setting f t k ≡ Some v → is_carried_out (phase t d) ≡ true
-    → count_in (settled_shows setup setting f t k) ≡ v.count +ℤ changed_by setup t d f
+    → count_in (settled_shows setup setting f t k) ≡ wrapped (v.count +ℤ changed_by setup t d f)
 told_along setup setting f k d v pinned [] made is carried = absurd (false≢true carried)
 told_along setup setting f k d v pinned (e ∷ t) made is carried = elim (cases_eq d e.core) [
-  | inl own ↦ subst (λ (c : ℕ). count_in (settled_shows setup setting f (e ∷ t) k) ≡ v.count +ℤ changed_by setup (e ∷ t) c f) (sym own)
+  | inl own ↦ subst (λ (c : ℕ). count_in (settled_shows setup setting f (e ∷ t) k) ≡ wrapped (v.count +ℤ changed_by setup (e ∷ t) c f)) (sym own)
       (told_own setup setting f k t e made v (pinned ∙ ap Pinned own) is
-      (λ before was. subst (λ (c : ℕ). count_in (settled_shows setup setting f t k) ≡ v.count +ℤ changed_by setup t c f) own
+      (λ before was. subst (λ (c : ℕ). count_in (settled_shows setup setting f t k) ≡ wrapped (v.count +ℤ changed_by setup t c f)) own
       (told_along setup setting f k d v pinned t made.0 before (ap (λ (c : ℕ). is_carried_out (phase t c)) own ∙ was)))
       (sym (ap (λ (c : ℕ). is_carried_out (phase (e ∷ t) c)) own) ∙ carried))
   | inr other ↦
       ap count_in (settled_other setup setting f k d v pinned t e made is other)
       ∙ told_along setup setting f k d v pinned t made.0 (showed setup setting f k d v pinned t e made is other)
       (sym (ap is_carried_out (phase-other d e t other)) ∙ carried)
-      ∙ ap (λ z. v.count +ℤ z) (sym (ap (λ b. if b && is_some e.decides then
+      ∙ ap (λ z. wrapped (v.count +ℤ z)) (sym (ap (λ b. if b && is_some e.decides then
       pos (refs (state_after setup (e ∷ t)) f) -ℤ pos (refs (state_before setup t e) f) else changed_by setup t d f)
       (ne_eqb d e.core other)))
 ]
@@ -189,7 +191,7 @@ module _ (setup : Setting) (setting : IsSetting setup) (t : Trace) (made : IsMad
   by_word k (Some v) is = by v.hold refl
     where
       carried_by : (d : ℕ) → v.hold ≡ Pinned d → (b : Bool) → is_carried_out (phase t d) ≡ b
-          → (if b then v.count +ℤ changed_by setup t d f else v.count) ≡ count_in (settled_shows setup setting f t k)
+          → (if b then wrapped (v.count +ℤ changed_by setup t d f) else v.count) ≡ count_in (settled_shows setup setting f t k)
       carried_by d hold true carried = sym (told_along setup setting f k d v hold t made is carried)
       carried_by d hold false carried = sym (ap count_in (pinned_shows setup setting f t made k d v is hold
           (holder_below setup setting t made (CountAt f k) d (ap count_mark is ∙ ap hold_mark hold)) carried))
@@ -216,6 +218,7 @@ module _ (setup : Setting) (setting : IsSetting setup) (t : Trace) (made : IsMad
       ∙ ap (λ z. count_in (settled_shows setup setting f t k) +ℤ z) (sums_tell ks)
 
 pub counts_tell : (setup : Setting) → IsSetting setup → (t : Trace) → IsMade setup t → CountsTell setup t
-counts_tell setup setting t made f = sums_tell setup setting t made f (counters setup.cores)
-    ∙ ap (λ l. count_sum (settled_shows setup setting f t) (counters l.cores)) (sym (limits_of setup t))
+counts_tell setup setting t made f = ap residue (sums_tell setup setting t made f (counters setup.cores)
+    ∙ ap (λ l. count_sum (settled_shows setup setting f t) (counters l.cores)) (sym (limits_of setup t)))
     ∙ ((made_stands setup setting t made).sums f).sum
+    ∙ refs_residue setup setting t (made_stands setup setting t made).legal f

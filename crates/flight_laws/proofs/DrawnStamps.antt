@@ -107,7 +107,7 @@ use Rattle.flight_laws.proofs.HeldCounts.{IsAmong}
 -- A stamp that is within its range, if there is one.
 abbrev pub IsSmall : Option ℕ → Type 0
 IsSmall None = Unit {0}
-IsSmall (Some n) = n < 2 ^ 28
+IsSmall (Some n) = n < 2 ^ 43
 
 -- A step that carries the call out has drawn such a stamp, or none.
 abbrev pub IsDrawn : WorkStep → Type 0

@@ -3,18 +3,19 @@
 use Rattle.std.proofs.Common.{◌≡◌, ◌≢◌, ℕ, ℤ, pos, ◌+ℤ◌, ◌-ℤ◌, ◌<◌, ◌==◌, ◌&&◌, ◌||◌, Bool, true, false}
 use Rattle.std.proofs.Common.{◌∷◌, Option, Some, None, IsTrue, arith, refl, sym, ◌∙◌, ap, subst}
 use Rattle.std.proofs.lemmas.Bool.{false≢true, true≢false, eq-eqb, ne_eqb, eqb-true}
-use Rattle.std.proofs.lemmas.Int.{ints}
 use Rattle.time_laws.specs.spk_nums.specs.Setting.{Setting, IsSetting}
 use Rattle.time_laws.specs.spk_nums.specs.declared.calls.Call.{Call}
 use Rattle.time_laws.specs.spk_nums.specs.declared.calls.Call.TheVariants.{Retype}
 use Rattle.time_laws.specs.spk_nums.specs.declared.kinds.FrameKind.TheVariants as frame_kind
 use Rattle.time_laws.specs.spk_nums.specs.declared.replies.Reply.{Reply}
 use Rattle.time_laws.specs.spk_nums.specs.declared.replies.Reply.TheVariants as reply
-use Rattle.time_laws.specs.frame_words.specs.Count.{count_of_word, word_of_count}
+use Rattle.time_laws.specs.frame_words.specs.Count.{NumberFits, count_of_word, word_of_count}
+use Rattle.time_laws.specs.frame_words.specs.Residue.{residue, wrapped}
 use Rattle.time_laws.specs.frame_words.specs.declared.count_word.CountWord.{CountWord}
 use Rattle.time_laws.specs.frame_words.specs.declared.count_word.Hold.{Hold}
 use Rattle.time_laws.specs.frame_words.specs.declared.count_word.Hold.TheVariants.{Unheld, Pinned, Closed}
 use Rattle.time_laws.specs.frame_words.proofs.CountLemmas as counts
+use Rattle.time_laws.specs.frame_words.proofs.ResidueLemmas.{count_wraps}
 use Rattle.time_laws.specs.word_map.specs.Word.{Word, CountAt}
 use Rattle.time_laws.specs.word_map.specs.Moves.{AddOf, CompareOf, LoadOf, Move, StoreOf, word_of}
 use Rattle.time_laws.specs.kernel_rules.specs.References.{refs}
@@ -38,6 +39,7 @@ use Rattle.time_laws.specs.core_invariant.specs.Holding.{committed, settled_by}
 use Rattle.time_laws.specs.core_invariant.specs.Invariant.{Invariant, count_shown, holds, held_by, is_done}
 use Rattle.time_laws.specs.core_invariant.specs.Knows.{phase_at}
 use Rattle.time_laws.specs.core_invariant.proofs.Sounds.{limits_of}
+use Rattle.time_laws.specs.kept_facts.proofs.Few.{refs_residue}
 use Rattle.time_laws.specs.kept_facts.proofs.CountSums.{counter_once, sum_one}
 use Rattle.time_laws.specs.step_ways.proofs.Loads.{call_is}
 use Rattle.time_laws.specs.flight.specs.Made.{core_after, cores_after, stepping_core, IsMade}
@@ -251,17 +253,21 @@ module _ (setup : Setting) (setting : IsSetting setup) (f k : ℕ) (t : Trace) (
   abbrev refs_now : ℕ
   refs_now = refs (state_after setup (e ∷ t)) f
 
-  -- so its count changes as the references do
+  -- what a word shows is within the range of counts
+  shown_fits : (n : ℕ) (o : Option CountWord) → count_of_word n ≡ o → NumberFits (count_in o)
+  shown_fits n None shows = omega arith
+  shown_fits n (Some w) shows = (counts.spelling.spells n w shows).0.1
+
+  -- so its count changes as the references do, modulo 2 ^ 16
   pub count_changes : count_in (settled_shows setup setting f (e ∷ t) k)
-      ≡ count_in (settled_shows setup setting f t k) +ℤ (pos refs_now -ℤ pos refs_then)
-  count_changes = changes (count_sum (settled_shows setup setting f t) (counters setup.cores))
+      ≡ wrapped (count_in (settled_shows setup setting f t k) +ℤ (pos refs_now -ℤ pos refs_then))
+  count_changes = count_wraps (count_sum (settled_shows setup setting f t) (counters setup.cores))
       (count_sum (settled_shows setup setting f (e ∷ t)) (counters setup.cores))
       (count_in (settled_shows setup setting f t k)) (count_in (settled_shows setup setting f (e ∷ t) k)) refs_then refs_now
       (sum_one (settled_shows setup setting f t) (settled_shows setup setting f (e ∷ t)) (counters setup.cores) k
       (counter_once setup.cores k (let own = its_own.own in let here = made.1.is_core in omega (arith, own, here))) other_same)
-      (ap (λ l. count_sum (settled_shows setup setting f t) (counters l.cores)) (sym (limits_of setup t)) ∙ (stands.sums f).sum)
-      (ap (λ l. count_sum (settled_shows setup setting f (e ∷ t)) (counters l.cores)) (sym (limits_of setup (e ∷ t)))
-      ∙ (later_stands.sums f).sum)
-    where
-      changes : (a b x y : ℤ) (n m : ℕ) → b +ℤ x ≡ a +ℤ y → a ≡ pos n → b ≡ pos m → y ≡ x +ℤ (pos m -ℤ pos n)
-      changes a b x y n m one first second = omega (arith, ints, one, first, second)
+      (ap (λ l. residue (count_sum (settled_shows setup setting f t) (counters l.cores))) (sym (limits_of setup t)) ∙ (stands.sums f).sum
+      ∙ refs_residue setup setting t stands.legal f)
+      (ap (λ l. residue (count_sum (settled_shows setup setting f (e ∷ t)) (counters l.cores))) (sym (limits_of setup (e ∷ t)))
+      ∙ (later_stands.sums f).sum ∙ refs_residue setup setting (e ∷ t) later_stands.legal f)
+      (shown_fits _ (settled_shows setup setting f (e ∷ t) k) refl)

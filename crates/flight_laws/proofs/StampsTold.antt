@@ -1,6 +1,6 @@
 -- What count words tell of stamps while calls hold them: the stamp that a word will show, by the phase of the call that holds it, is that
 -- of what it settles to. So the newest that the count words of a frame will show is that of its last grace period.
-use Rattle.std.proofs.Common.{◌≡◌, ◌≢◌, inl, inr, ℕ, ℤ, pos, negsuc, ◌+ℤ◌, ◌-ℤ◌, ◌-◌, ◌^◌, ◌≤◌, ◌<◌, ◌&&◌, Bool}
+use Rattle.std.proofs.Common.{◌≡◌, ◌≢◌, inl, inr, ℕ, ℤ, pos, negsuc, ◌+ℤ◌, ◌-ℤ◌, ◌+◌, ◌*◌, ◌-◌, ◌^◌, ◌≤◌, ◌<◌, ◌&&◌, Bool}
 use Rattle.std.proofs.Common.{true, false, max, if◌then◌else◌, List, [], ◌∷◌, Option, Some, None, arith, refl, sym, ◌∙◌, ap, subst}
 use Rattle.std.specs.Prelude.{is_some}
 use Rattle.std.specs.Prelude.{All}
@@ -55,16 +55,19 @@ use Rattle.time_laws.specs.call_stages.specs.declared.stages.Absorbed.{Absorbed}
 use Rattle.time_laws.specs.call_stages.specs.declared.stages.Absorbed.TheVariants as told_as
 use Rattle.time_laws.specs.call_stages.specs.declared.stages.ActiveCall.{ActiveCall}
 use Rattle.time_laws.specs.core_invariant.specs.Events.{decided_in}
-use Rattle.time_laws.specs.stage_pins.specs.Counts.{changed, in_field, later, unheld}
+use Rattle.time_laws.specs.stage_pins.specs.Counts.{changed, later, unheld}
 use Rattle.time_laws.specs.stage_pins.specs.Held.{stamp_of_change}
-use Rattle.time_laws.specs.core_invariant.specs.CountWords.{IsWithin, newest_of, stamp_in}
+use Rattle.time_laws.specs.core_invariant.specs.CountWords.{newest_of, stamp_in}
 use Rattle.time_laws.specs.core_invariant.specs.Holding.{committed}
 use Rattle.time_laws.specs.core_invariant.specs.Invariant.{Invariant, is_done}
-use Rattle.time_laws.specs.core_invariant.specs.Words.{count_room}
+use Rattle.time_laws.specs.act_states.specs.Dues.{IsSmallChange}
+use Rattle.time_laws.specs.core_invariant.specs.Knows.{IsCount}
+use Rattle.time_laws.specs.kept_facts.proofs.Few.{few_after}
 use Rattle.time_laws.specs.core_invariant.proofs.Sounds.{limits_of}
 use Rattle.time_laws.specs.kept_facts.proofs.CountSums.{counted_refs, counter_once, newest_most}
-use Rattle.time_laws.specs.step_ways.proofs.Loads.{is_active}
-use Rattle.time_laws.specs.step_ways.proofs.Writes.{room_small}
+use Rattle.time_laws.specs.step_ways.proofs.Loads.{call_is, is_active}
+use Rattle.time_laws.specs.frame_words.specs.Residue.{residue}
+use Rattle.time_laws.specs.frame_words.proofs.ResidueLemmas.{past, residue_wrapped, wrapped_fits}
 use Rattle.time_laws.specs.flight.specs.Made.{cores_after, IsMade}
 use Rattle.time_laws.specs.flight.proofs.Made.{made_stands, made_times}
 use Rattle.flight_laws.specs.Counts.{Untypes, has_cleared, is_carried_out}
@@ -72,6 +75,7 @@ use Rattle.flight_laws.specs.Stamps.{drawn_by, newest_then, stamp_then, will_dat
 use Rattle.flight_laws.proofs.CountHolds.{before_is, entered_is, frozen_say, kept, no_return, pinned_say}
 use Rattle.flight_laws.proofs.AcquiredCounts.{HasCount, active_now, decides_told, entry, found, has_count, settles_to, told}
 use Rattle.flight_laws.proofs.CountsTold.{holder_below, mark_now, phase_now, settled_open, settled_other, settled_own, showed, showed_own}
+use Rattle.flight_laws.proofs.HeldCounts.{all_among}
 use Rattle.flight_laws.proofs.DrawnStamps.{DoneSmall, IsSmall, OkDrawn, acquire_drawn, stage_drawn}
 use Rattle.flight_laws.proofs.FrozenCounts.{cleared_if}
 use Rattle.flight_laws.proofs.SettledCounts.{cleared_is, closed_shows, count_changes, free_shows, other_same, pinned_shows, settled_shows}
@@ -95,24 +99,20 @@ falls_begin : (s : State) (o : ℕ → Bool) (c : ℕ) (call : Call) (v : Value)
 falls_begin s o c call v h lim may f less =
     falls_found s c v (change_of s c call) (found_by s c call (RefsBy s) (refs_by s o c h call lim)) may.1.1 f less
 
--- A count that falls, falls within its field too.
-field_fits : (z : ℤ) → NumberFits (in_field z)
-field_fits (pos n) = omega arith
-field_fits (negsuc n) = omega arith
-
-field_less : (x y : ℤ) (m : ℕ) → y ≡ x +ℤ negsuc m → IsWithin x (2 ^ 28) → (n : ℕ) → in_field y ≡ x +ℤ pos n → ⊥
-field_less (pos k) (pos j) m is within n same = absurd (omega (arith, ints, is, within, same))
-field_less (pos k) (negsuc j) m is within n same = absurd (omega (arith, ints, is, within, same))
-field_less (negsuc k) (pos j) m is within n same = absurd (omega (arith, ints, is, within, same))
-field_less (negsuc k) (negsuc j) m is within n same = absurd (omega (arith, ints, is, within, same))
-
-within_more : (z : ℤ) (n m : ℕ) → n ≤ m → IsWithin z n → IsWithin z m
-within_more (pos k) n m low within = omega (arith, low, within)
-within_more (negsuc k) n m low within = omega (arith, low, within)
+-- A count that falls by two at most is none that rises by as many as the references to a frame, modulo 2 ^ 16.
+less_not : (v : ℤ) (n d : ℕ) → n ≤ 1 → d ≤ 32848 → residue (v +ℤ negsuc n) ≡ residue (v +ℤ pos d) → ⊥
+less_not v n d small few same =
+    let one = past (v +ℤ negsuc n) in
+    let two = past (v +ℤ pos d) in
+    by (residue (v +ℤ negsuc n)) (residue (v +ℤ pos d)) one.up one.down two.up two.down same one.is two.is
+  where
+    by : (r q a b x y : ℕ) → r ≡ q → (v +ℤ negsuc n) +ℤ pos (2 ^ 16 * b) ≡ pos (r + 2 ^ 16 * a)
+        → (v +ℤ pos d) +ℤ pos (2 ^ 16 * y) ≡ pos (q + 2 ^ 16 * x) → ⊥
+    by r q a b x y is one two = absurd (omega (arith, ints, small, few, is, one, two))
 
 -- The stamp that is stored with a count that changes.
-later_small : (stamp : ℕ) (change : ℤ) (drawn : Option ℕ) → stamp < 2 ^ 28 → IsSmall drawn
-    → later stamp (stamp_of_change change drawn) < 2 ^ 28
+later_small : (stamp : ℕ) (change : ℤ) (drawn : Option ℕ) → stamp < 2 ^ 43 → IsSmall drawn
+    → later stamp (stamp_of_change change drawn) < 2 ^ 43
 later_small stamp (pos n) drawn small fits = small
 later_small stamp (negsuc n) None small fits = small
 later_small stamp (negsuc n) (Some x) small fits = omega (arith, small, fits)
@@ -334,15 +334,14 @@ module _ (setup : Setting) (setting : IsSetting setup) (f k : ℕ) (t : Trace) (
         ∙ ap (λ o. committed o has.x) stored.done
         ∙ ap (λ w. word_of_count (unheld (changed w.count change) (later w.stamp (stamp_of_change change stored.drawn_then)))) has.found)
         ∙ counts.spelling.reads (unheld (changed v.count change) (later v.stamp (stamp_of_change change stored.drawn_then)))
-        (tt, field_fits (v.count +ℤ change), later_small v.stamp change stored.drawn_then v_fits.2 stored.small)
+        (tt, wrapped_fits (v.count +ℤ change), later_small v.stamp change stored.drawn_then v_fits.2 stored.small)
 
-    v_within : IsWithin v.count (2 ^ 28)
-    v_within =
-        let says = before.words (CountAt f k) in
-        within_more v.count (count_room (state_after setup t)) (2 ^ 28)
-        (let low = room_small setup setting (cores_after setup t) t before in omega (arith, low))
-        (subst (λ z. IsWithin z (count_room (state_after setup t)))
-        (ap count_in (sym says.says ∙ shown_then)) says.within)
+    small_change : IsSmallChange change
+    small_change = (all_among (IsCount setup (e ∷ t) e.core has.a.call) has.a.counts has.x
+        (call_is setup setting (cores_after setup (e ∷ t)) (e ∷ t) later_on e.core made.1.is_core has.a has.active).counts has.among).small
+
+    few_now : refs (state_after setup (e ∷ t)) f ≤ 32848
+    few_now = few_after setup setting (e ∷ t) legal f
 
     rises_by : (n m : ℕ) → n ≤ m → (pos m -ℤ pos n) ≡ pos (m - n)
     rises_by n m low = omega (arith, ints, low)
@@ -352,11 +351,14 @@ module _ (setup : Setting) (setting : IsSetting setup) (f k : ℕ) (t : Trace) (
       where
         by : (z : ℤ) → change ≡ z → later v.stamp (stamp_of_change z stored.drawn_then) ≡ max v.stamp 0
         by (pos n) at = omega arith
-        by (negsuc n) at = absurd (field_less v.count (v.count +ℤ change) n (ap (λ z. v.count +ℤ z) at) v_within
-            (refs (state_after setup (e ∷ t)) f - refs (state_after setup t) f)
-            (sym (ap count_in shown_now) ∙ count_changes setup setting f k t e made v is pinned
-            ∙ ap (λ o. count_in o +ℤ (pos (refs (state_after setup (e ∷ t)) f) -ℤ pos (refs (state_after setup t) f))) shown_then
-            ∙ ap (λ z. v.count +ℤ z) (rises_by (refs (state_after setup t) f) (refs (state_after setup (e ∷ t)) f) (no_fall none))))
+        by (negsuc n) at = absurd (less_not v.count n (refs (state_after setup (e ∷ t)) f - refs (state_after setup t) f)
+            (subst IsSmallChange at small_change) (let few = few_now in omega (arith, few))
+            (ap (λ z. residue (v.count +ℤ z)) (sym at) ∙ sym (residue_wrapped (v.count +ℤ change)) ∙ sym (ap residue (ap count_in shown_now))
+            ∙ ap residue (count_changes setup setting f k t e made v is pinned)
+            ∙ residue_wrapped (count_in (was k) +ℤ (pos (refs (state_after setup (e ∷ t)) f) -ℤ pos (refs (state_after setup t) f)))
+            ∙ ap (λ o. residue (count_in o +ℤ (pos (refs (state_after setup (e ∷ t)) f) -ℤ pos (refs (state_after setup t) f)))) shown_then
+            ∙ ap (λ z. residue (v.count +ℤ z))
+            (rises_by (refs (state_after setup t) f) (refs (state_after setup (e ∷ t)) f) (no_fall none))))
 
     ok_dated : stamp_in (now k) ≡ max v.stamp (drawn_by setup (e ∷ t) e.core f)
     ok_dated = by begins_now refl ∙ ap (max v.stamp) (sym (drawn_is ∙ ap (λ o. drawn o begins_now) decides))

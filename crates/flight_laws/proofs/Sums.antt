@@ -4,6 +4,7 @@ use Rattle.time_laws.proofs.Common.{false≢true, arith, Setting, IsSetting, Ent
 use Rattle.time_laws.proofs.Common.{last_left, marked_by, Kernel, Tcap, Enter, Living, Undecided, Decided, Leave, ActiveCall, Stage}
 use Rattle.time_laws.proofs.Common.{holds_in, CallIs, KnowsAt, phase_at, Invariant}
 use Rattle.std.specs.Prelude.{pos, ◌+ℤ◌, List, All, if◌then◌else◌}
+use Rattle.time_laws.specs.frame_words.specs.Residue.{residue}
 use Rattle.time_laws.specs.frame_words.specs.declared.count_word.CountWord.{CountWord}
 use Rattle.time_laws.specs.kernel_rules.specs.State.{TcapFields}
 use Rattle.time_laws.specs.kernel_history.specs.Counts.{counters, count_at, count_in, count_sum}
@@ -124,5 +125,5 @@ pub frozen_sums : (setup : Setting) → IsSetting setup → (t : Trace) → IsMa
 frozen_sums setup setting t made f c frozen kept = record {
   alone = λ k d below mark. marks_it c d (count_at (last_left setup t) f k)
       (counter_all (λ i. IsFrozenBy c (count_at (last_left setup t) f i)) setup.cores k below frozen) mark;
-  sum = sym (sums_it setup t f c kept (counters setup.cores) frozen) ∙ counts_tell setup setting t made f;
+  sum = ap residue (sym (sums_it setup t f c kept (counters setup.cores) frozen)) ∙ counts_tell setup setting t made f;
 }

@@ -1,11 +1,12 @@
 -- What the count words of a frame show at each moment, also while calls hold them: with what these calls have still to store, the
--- references to the frame.
+-- references to the frame, modulo 2 ^ 16.
 use Rattle.std.specs.Prelude.{◌≡◌, ℕ, ℤ, pos, ◌+ℤ◌, ◌-ℤ◌, ◌==◌, ◌&&◌, Bool, false, true, List, [], ◌∷◌}
 use Rattle.std.specs.Prelude.{Option, Some, None, is_some, if◌then◌else◌}
 use Rattle.time_laws.specs.spk_nums.specs.Setting.{Setting}
 use Rattle.time_laws.specs.spk_nums.specs.declared.kinds.FrameKind.TheVariants.{Untyped}
 use Rattle.time_laws.specs.spk_nums.specs.declared.calls.Call.TheVariants.{Retype}
 use Rattle.time_laws.specs.spk_nums.specs.declared.replies.Reply.TheVariants.{Ok}
+use Rattle.time_laws.specs.frame_words.specs.Residue.{residue, wrapped}
 use Rattle.time_laws.specs.frame_words.specs.declared.count_word.CountWord.{CountWord}
 use Rattle.time_laws.specs.frame_words.specs.declared.count_word.Hold.{Hold}
 use Rattle.time_laws.specs.frame_words.specs.declared.count_word.Hold.TheVariants.{Unheld, Pinned, Closed}
@@ -34,11 +35,11 @@ has_cleared f (Decided (Retype r g Untyped) (Ok v)) = f == g
 has_cleared f _ = false
 
 -- The count that a word of frame f will show, which shows this hold and this count, once the call that holds it has stored there. A call
--- that has acquired it has still to add what its decision has changed of the references to f, if it is carried out; one that has frozen
--- it has still to clear it, if it has made f untyped.
+-- that has acquired it has still to add what its decision has changed of the references to f, modulo 2 ^ 16, if it is carried out; one
+-- that has frozen it has still to clear it, if it has made f untyped.
 abbrev pub count_then : Setting → Trace → ℕ → Hold → ℤ → ℤ
 count_then setup t f Unheld count = count
-count_then setup t f (Pinned d) count = if is_carried_out (phase t d) then count +ℤ changed_by setup t d f else count
+count_then setup t f (Pinned d) count = if is_carried_out (phase t d) then wrapped (count +ℤ changed_by setup t d f) else count
 count_then setup t f (Closed d) count = if has_cleared f (phase t d) then pos 0 else count
 
 abbrev pub will_show : Setting → Trace → ℕ → Option CountWord → ℤ
@@ -50,9 +51,9 @@ abbrev pub sum_then : Setting → Trace → ℕ → List ℕ → ℤ
 sum_then setup t f [] = pos 0
 sum_then setup t f (k ∷ ks) = will_show setup t f (count_at (last_left setup t) f k) +ℤ sum_then setup t f ks
 
--- At each moment what the count words of a frame will show sums to the references to it.
+-- At each moment what the count words of a frame will show sums to the references to it, modulo 2 ^ 16.
 abbrev pub CountsTell : Setting → Trace → Type 0
-CountsTell setup t = (f : ℕ) → sum_then setup t f (counters setup.cores) ≡ pos (refs (state_after setup t) f)
+CountsTell setup t = (f : ℕ) → residue (sum_then setup t f (counters setup.cores)) ≡ refs (state_after setup t) f
 
 -- A call of this phase is one that makes frame f untyped.
 pub record Untypes (f : ℕ) (p : Phase) : Type 0 where

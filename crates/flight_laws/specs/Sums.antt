@@ -1,7 +1,8 @@
 -- Time and references as sums over words: what words show at a moment, and what the calls in progress have still to store there.
-use Rattle.std.specs.Prelude.{◌≡◌, ◌<◌, ℕ, pos, false, All, Option, Some, None}
+use Rattle.std.specs.Prelude.{◌≡◌, ◌<◌, ℕ, false, All, Option, Some, None}
 use Rattle.time_laws.specs.spk_nums.specs.Setting.{Setting}
 use Rattle.time_laws.specs.tcap_words.specs.Head.{head_of_word}
+use Rattle.time_laws.specs.frame_words.specs.Residue.{residue}
 use Rattle.time_laws.specs.frame_words.specs.declared.count_word.CountWord.{CountWord}
 use Rattle.time_laws.specs.frame_words.specs.declared.count_word.Hold.TheVariants.{Closed}
 use Rattle.time_laws.specs.word_map.specs.Word.{EntryAt, CountAt}
@@ -46,13 +47,13 @@ abbrev pub IsFrozenBy : ℕ → Option CountWord → Type 0
 IsFrozenBy c None = ⊥
 IsFrozenBy c (Some v) = v.hold ≡ Closed c
 
--- No call but core c's holds a count of the frame, and the counts sum to the references to it.
+-- No call but core c's holds a count of the frame, and the counts sum to the references to it, modulo 2 ^ 16.
 pub record IsSummed (setup : Setting) (t : Trace) (f c : ℕ) : Type 0 where
   pub alone : (k d : ℕ) → k < setup.cores → marked_by setup t (CountAt f k) ≡ Some d → d ≡ c
-  pub sum : count_sum (count_at (last_left setup t) f) (counters setup.cores) ≡ pos (refs (state_after setup t) f)
+  pub sum : residue (count_sum (count_at (last_left setup t) f) (counters setup.cores)) ≡ refs (state_after setup t) f
 
 -- From the step by which a core's sweep freezes the last count of a frame, as long as all are frozen and its call has not made the frame
--- untyped: no call has acquired a count of the frame, and the counts sum to the references to it.
+-- untyped: no call has acquired a count of the frame, and the counts sum to the references to it, modulo 2 ^ 16.
 abbrev pub FrozenSums : Setting → Trace → Type 0
 FrozenSums setup t = (f c : ℕ) → All (λ k. IsFrozenBy c (count_at (last_left setup t) f k)) (counters setup.cores)
     → has_cleared f (phase t c) ≡ false → IsSummed setup t f c

@@ -18,11 +18,11 @@ use Rattle.place_invariant.proofs.Common.{mark_of, entry_mark, mark_in_frame, fr
 use Rattle.place_invariant.proofs.Common.{state_after, Step, last_left, state_decided_in, way_to, ways, leads_by, LeadsIn, own_pages}
 use Rattle.place_invariant.proofs.Common.{CapNames, made_dues, object_kind, object_dues, Due, Making, MakingAt, Mark, Store, Unmark, Act}
 use Rattle.place_invariant.proofs.Common.{landed, Core, ActiveCall, Stage, Undecided, Decided, calm_counted, plain_exit, counted_rises}
-use Rattle.place_invariant.proofs.Common.{BeginsNone, room_grows, counts, own_kept, counted_refs, limits_of, ReadsAlike, StaysSaid}
-use Rattle.place_invariant.proofs.Common.{word_stays, SameFor, IsWithin, holds_counts, settled_by, settled, keeps, AreDuesApart, HasFound}
+use Rattle.place_invariant.proofs.Common.{BeginsNone, counts, own_kept, counted_refs, limits_of, ReadsAlike, StaysSaid}
+use Rattle.place_invariant.proofs.Common.{word_stays, SameFor, holds_counts, settled_by, settled, keeps, AreDuesApart, HasFound}
 use Rattle.place_invariant.proofs.Common.{own_in, phase_at, due_of, KnowsUndecided, KnowsMakingAt, KnowsUnmark, WorksIn, MayFill}
 use Rattle.place_invariant.proofs.Common.{holds_at, holds_in, Invariant, holds, held_by, holds_making, times_of, SumIs, counted_in}
-use Rattle.place_invariant.proofs.Common.{PlaceIs, count_room, IsFrameWord, WordIs, later, stamp_of_change}
+use Rattle.place_invariant.proofs.Common.{PlaceIs, IsFrameWord, WordIs, later, stamp_of_change}
 use Rattle.std.specs.Prelude.{if◌then◌else◌, pos}
 use Rattle.place_invariant.specs.spk_nums.specs.declared.kinds.Kind.TheVariants as kind
 use Rattle.place_invariant.specs.spk_nums.specs.declared.replies.Reply.TheVariants as reply
@@ -91,10 +91,6 @@ named_once P (g ∷ fs) apart each =
     (each g (let here = times_here g g fs refl in let none = named_not g fs apart.0 in omega (arith, here, none)))
     (others_each P g fs apart.0 (named_once (λ f. (f ≢ g) → P f) fs apart.1
     (λ f once other. each f (times_there f g fs (λ h. other (sym h)) ∙ once))))
-
-small_changes : (fs : List ℕ) → All (λ d. IsWithin d.change 4) (map due_one fs)
-small_changes [] = All-nil (λ d. IsWithin d.change 4)
-small_changes (f ∷ fs) = All-cons (λ d. IsWithin d.change 4) (due_one f) (map due_one fs) (omega arith) (small_changes fs)
 
 change_is_one : (P : Due → Type 0) (fs : List ℕ) → All (λ d. P (due_one d.frame)) (map due_one fs) → All P (map due_one fs)
 change_is_one P [] all = All-nil P
@@ -340,10 +336,6 @@ module _ (setup : Setting) (setting : IsSetting setup) (cores : ℕ → Core) (t
     rises : counted_in setup s ≤ counted_in setup s'
     rises = subst (λ y. counted_in setup s ≤ counted_in setup y) (sym now) (counted_rises setup s (counted s c) c (calm_counted s c))
 
-    more_room : count_room s + 4 ≤ count_room s'
-    more_room = subst (λ y. count_room s + 4 ≤ count_room y) (sym now) (room_grows s (counted s c) c (calm_counted s c) core_below
-        (ap (λ j. j.counted) (put_same s.core c (record (s.core c) { counted = (s.core c).counted + 1 }) c refl)))
-
     -- each word reads as before
     kept_left : (g i : ℕ) → g ≡ f → last_left setup (e ∷ t) (EntryAt g i) ≡ last_left setup t (EntryAt f i)
     kept_left g i same = last_left-there setup (EntryAt g i) e t (λ h. apart (sym same ∙ same_node g i node index h))
@@ -374,9 +366,9 @@ module _ (setup : Setting) (setting : IsSetting setup) (cores : ℕ → Core) (t
     -- a word of the frame says what the object is
     made_says : (g i : ℕ) → g ≡ f → StaysSaid setup cores t e (EntryAt g i)
     made_says g i same before =
-        subst (λ x. IsFrameWord s'.limits.frames (count_room s') x (s'.place g i) (stamp setup (e ∷ t) (PlaceOf g i)) i
+        subst (λ x. IsFrameWord s'.limits.frames x (s'.place g i) (stamp setup (e ∷ t) (PlaceOf g i)) i
         (settled setup (held_by cores) t (EntryAt g i))) (sym (frame_here g same))
-        (word_new m.object s'.limits.frames (count_room s') (s'.place g i) (stamp setup (e ∷ t) (PlaceOf g i)) i
+        (word_new m.object s'.limits.frames (s'.place g i) (stamp setup (e ∷ t) (PlaceOf g i)) i
         (settled setup (held_by cores) t (EntryAt g i)) (place_made g i same) (subst (SaysNew m.object i) (sym settled_is) (word_says i)))
       where
         settled_is : settled setup (held_by cores) t (EntryAt g i) ≡ last_left setup t (EntryAt f i)
@@ -392,12 +384,11 @@ module _ (setup : Setting) (setting : IsSetting setup) (cores : ℕ → Core) (t
         frame = frame_there g other;
         place = place_kept g i other there;
         stamp = stamp_kept (PlaceOf g i) (ne_eqb g f other);
-        room = (let more = more_room in omega arith);
       })
     ]
     stays (FrameAt g) there free = said (FrameAt g) (frame_there g (λ same. free (ap (λ (x : ℕ). marked_by setup t (FrameAt x)) same
         ∙ own_mark)))
-    stays (CountAt g d) there free = said (CountAt g d) (let more = more_room in omega arith)
+    stays (CountAt g d) there free = said (CountAt g d) tt
     stays (CoreAt d) there free = said (CoreAt d) (record {
       inside = decided-inside (Some (reply.Ok Nothing)) (phase t c) s c d;
       exit = plain_exit t e refl d;
@@ -408,7 +399,7 @@ module _ (setup : Setting) (setting : IsSetting setup) (cores : ℕ → Core) (t
 
     -- the word of the target
     word_now : WordIs s' (times_of setup (e ∷ t)) (EntryAt node index) new
-    word_now = node_word s'.limits.frames (count_room s') (s'.frame node)
+    word_now = node_word s'.limits.frames (s'.frame node)
         (s'.place node index) (stamp setup (e ∷ t) (PlaceOf node index)) index new
         (subst (λ x. IsTrue (is_node x)) (sym (frame_there node (λ h. apart (sym h)))) in_node)
         (subst (λ p. PlaceIs s'.limits.frames p (stamp setup (e ∷ t) (PlaceOf node index)) (entry_of_word new)) (sym place_target) (
@@ -437,7 +428,7 @@ module _ (setup : Setting) (setting : IsSetting setup) (cores : ℕ → Core) (t
     no_count : (g d : ℕ) → CountAt g d ≢ EntryAt node index
     no_count g d h = cc
 
-    none_small : 0 < 2 ^ 28
+    none_small : 0 < 2 ^ 43
     none_small = omega arith
 
     max_zero : (n : ℕ) → n ≡ max n 0
@@ -452,8 +443,8 @@ module _ (setup : Setting) (setting : IsSetting setup) (cores : ℕ → Core) (t
       | inr other ↦ subst (WordIs s' (times_of setup (e ∷ t)) w)
           (sym (ap (λ b. if b then made_word else (holds_counts (Some None) a.counts).stands w) (same_word-other w (FrameAt f) other)))
           (dues_commit setup setting cores t stands c here a active None none_small (object_dues m.object f) dues_are
-          (small_changes (f ∷ object_names m.object)) put_it (reply.Ok Nothing) after still before_count (λ g d. refl) alike
-          unmarked.mark bare_now no_count more_room w
+          put_it (reply.Ok Nothing) after still before_count (λ g d. refl) alike
+          unmarked.mark bare_now no_count w
           (sym (ap (λ h. h.marks w) holds_is
           ∙ ap (λ b. if b then true else (holds_counts None a.counts).marks w) (same_word-other w (FrameAt f) other))
           ∙ (stands.marks w c).owned own))
@@ -492,7 +483,7 @@ module _ (setup : Setting) (setting : IsSetting setup) (cores : ℕ → Core) (t
 
     sums_are : (g : ℕ) → SumIs setup (held_by (put cores c after)) (e ∷ t) g
     sums_are = dues_sum setup setting cores t stands c here a active None none_small (object_dues m.object f) dues_are
-        (small_changes (f ∷ object_names m.object)) put_it (reply.Ok Nothing) after still before_count (λ g d. refl) alike unmarked.mark
+        put_it (reply.Ok Nothing) after still before_count (λ g d. refl) alike unmarked.mark
         bare_now no_count (ap (λ l. l.cores) limits)
         (λ g none. (
           (let more = grows g in let zero_times = named_not g (f ∷ object_names m.object) none in omega (arith, more, zero_times)),

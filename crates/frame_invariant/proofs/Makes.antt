@@ -18,7 +18,7 @@ use Rattle.place_invariant.proofs.Common.{next_work, made_dues, object_dues, New
 use Rattle.place_invariant.proofs.Common.{Unmark, Act, Goes, GoesOn, landed, went_with, Core, ActiveCall, Undecided, Decided, names_on}
 use Rattle.place_invariant.proofs.Common.{counts_on, spot_on, holds_counts, Holding, settled_by, settled, keeps, phase_at, due_of}
 use Rattle.place_invariant.proofs.Common.{KnowsUndecided, MakesBy, KnowsMakingAt, KnowsUnmark, blank_word, holds_at, holds_in, Invariant}
-use Rattle.place_invariant.proofs.Common.{done_by, holds, held_by, holds_making, IsFrameWord, count_room}
+use Rattle.place_invariant.proofs.Common.{done_by, holds, held_by, holds_making, IsFrameWord}
 use Rattle.std.specs.Prelude.{if◌then◌else◌, List}
 use Rattle.std.proofs.Common.{is_some}
 use Rattle.place_invariant.specs.spk_nums.specs.declared.calls.Call.TheVariants.{Make as make_call}
@@ -481,7 +481,7 @@ module _ (setup : Setting) (setting : IsSetting setup) (cores : ℕ → Core) (t
         (λ b. refl) (λ h. cc) (λ g b h. cc) lands
         (stored_holds m.object f word n (holds_counts None a.counts) ∙ sym held_store)
         (not_exclusive_word setup cores t stands f n (ap may_keep blank)) opens
-        (subst (λ x. IsFrameWord s.limits.frames (count_room s) x (s.place f n) (stamp setup t (PlaceOf f n)) n new_word) (sym blank) tt)
+        (subst (λ x. IsFrameWord s.limits.frames x (s.place f n) (stamp setup t (PlaceOf f n)) n new_word) (sym blank) tt)
         (spares_blank setup t e f n refl blank own_mark)
         (λ carries. record {
           acts = has.acts;

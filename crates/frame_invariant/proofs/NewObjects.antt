@@ -25,7 +25,6 @@ use Rattle.place_invariant.specs.act_states.specs.Objects.{object_cap, object_wo
 use Rattle.place_invariant.specs.act_states.specs.Objects.{PairFits, NamesFit}
 use Rattle.place_invariant.specs.act_states.specs.Makings.{made}
 use Rattle.place_invariant.specs.core_invariant.specs.Words.{IsTcapWord}
-use Rattle.place_invariant.specs.kept_facts.proofs.WordFrames.{entry_more}
 use Rattle.place_invariant.proofs.ObjectMakes.{new_object, ready_place, readied}
 
 pub made_value : (o : NewObject) → frame_value (Kernel (new_object o)) ≡ made o
@@ -99,7 +98,7 @@ SaysNew objects.Leaf i x = entry_of_word x ≡ Some Free
 SaysNew objects.Pages i x = entry_of_word x ≡ Some Free
 SaysNew objects.Pleaf i x = entry_of_word x ≡ Some Free
 SaysNew (objects.Thread comp) i x = IsThreadWord (idle_in comp) i x
-SaysNew (objects.Tcap sched quality) i x = IsTcapWord (listed sched quality) 0 i x
+SaysNew (objects.Tcap sched quality) i x = IsTcapWord (listed sched quality) i x
 
 -- The words of a thread above its component, and those of a temporal capability after its pair.
 later_thread : (comp i : ℕ) → 2 ≤ i → thread_word comp i ≡ word_of_stack (record { 0 = None })
@@ -133,7 +132,7 @@ thread_says comp (suc (suc h)) x small stored = λ low. ap stack_of_word (stored
     ∙ ap (λ (o : Option ℕ). Some (record { 0 = o })) (sym (slice_get_past (comp ∷ []) (suc h) (omega arith)))
 
 tcap_says : (sched quality i x : ℕ) → PairFits (objects.Tcap sched quality) → (i ≤ 8 → x ≡ tcap_word sched quality i)
-    → IsTcapWord (listed sched quality) 0 i x
+    → IsTcapWord (listed sched quality) i x
 tcap_says sched quality zero x pair stored = record {
   version = 0;
   says = ap head_of_word (stored (omega arith))
@@ -230,15 +229,14 @@ place_word : (frames : ℕ) (p : Place) (stamp x : ℕ) → p ≡ Vacant → ent
 place_word frames p stamp x free says = subst (λ q. PlaceIs frames q stamp (entry_of_word x)) (sym free) says
 
 -- And so its words say what the frame is.
-pub word_new : (o : NewObject) (frames room : ℕ) (p : Place) (stamp i x : ℕ) → PlaceReady o p → SaysNew o i x
-    → IsFrameWord frames room (Kernel (new_object o)) p stamp i x
-word_new objects.Table frames room p stamp i x ready says = λ low. place_word frames p stamp x ready says
-word_new objects.Leaf frames room p stamp i x ready says = λ low. place_word frames p stamp x ready says
-word_new objects.Pages frames room p stamp i x ready says = λ low. place_word frames p stamp x ready says
-word_new objects.Pleaf frames room p stamp i x ready says = λ low. place_word frames p stamp x ready says
-word_new (objects.Thread comp) frames room p stamp i x ready says = says
-word_new (objects.Tcap sched quality) frames room p stamp i x ready says =
-    entry_more frames 0 room (Kernel (new_object (objects.Tcap sched quality))) p stamp i x (omega arith) says
+pub word_new : (o : NewObject) (frames : ℕ) (p : Place) (stamp i x : ℕ) → PlaceReady o p → SaysNew o i x
+    → IsFrameWord frames (Kernel (new_object o)) p stamp i x
+word_new objects.Table frames p stamp i x ready says = λ low. place_word frames p stamp x ready says
+word_new objects.Leaf frames p stamp i x ready says = λ low. place_word frames p stamp x ready says
+word_new objects.Pages frames p stamp i x ready says = λ low. place_word frames p stamp x ready says
+word_new objects.Pleaf frames p stamp i x ready says = λ low. place_word frames p stamp x ready says
+word_new (objects.Thread comp) frames p stamp i x ready says = says
+word_new (objects.Tcap sched quality) frames p stamp i x ready says = says
 
 -- The references change by what it names.
 ready_refs : (o : NewObject) (s : State) (f g : ℕ) → ((i : ℕ) (k : Capability) → s.place f i ≡ Holds k → ⊥)

@@ -17,7 +17,7 @@ use Rattle.place_invariant.proofs.Common.{changes_frames, looks_at_frames, is_on
 use Rattle.place_invariant.proofs.Common.{footprint_frames, HasReached, way_to, ways, target_of, own_read-here, decided-inside, GoesBy}
 use Rattle.place_invariant.proofs.Common.{own_pages, rule_after, Leads, LeadsIn, leads_by, outcome_left, left_may, Acquired, Load, Act}
 use Rattle.place_invariant.proofs.Common.{Goes, refuse, Undecided, Decided, ActiveCall, StageFits, HasRoom, landed, Core, holds_counts}
-use Rattle.place_invariant.proofs.Common.{settled_by, settled, IsFrameWord, WordIs, count_room, HasFound, own_in, due_of, KnowsUndecided}
+use Rattle.place_invariant.proofs.Common.{settled_by, settled, IsFrameWord, WordIs, HasFound, own_in, due_of, KnowsUndecided}
 use Rattle.place_invariant.proofs.Common.{WorksIn, phase_at, untypes, holds_at, holds_in, holds, held_by, times_of, counted_in, Invariant}
 use Rattle.place_invariant.proofs.Common.{counts, calm_counted, counted_rises, IsUntimed, plain_begins, plain_stamp, plain_flush}
 use Rattle.place_invariant.proofs.Common.{plain_exit, names_on, own_kept, counted_refs, limits_of, sums_keep, SameFor, ReadsAlike}
@@ -38,7 +38,7 @@ use Rattle.place_invariant.specs.act_states.specs.declared.work.Act.TheVariants.
 use Rattle.place_invariant.specs.act_states.specs.declared.work.Tail.TheVariants.{Nothing as no_tail}
 use Rattle.place_invariant.specs.act_states.specs.Typings.{typed, typing_at, meets_kind, meets_frame, meets_word, typed_if, took_typing_at}
 use Rattle.place_invariant.specs.core_invariant.specs.Knows.{TypesBy, HasMet}
-use Rattle.place_invariant.specs.kept_facts.proofs.Calm.{own_works, room_rises}
+use Rattle.place_invariant.specs.kept_facts.proofs.Calm.{own_works}
 use Rattle.place_invariant.specs.step_ways.proofs.Good.{spares_other}
 use Rattle.place_invariant.specs.step_ways.proofs.Loads.{IsOfCall, OnlyLooks, step_to, next_at, core_in_call, inner, call_is, is_active}
 use Rattle.place_invariant.specs.step_ways.proofs.Loads.{loads_on}
@@ -79,10 +79,10 @@ typed_comp kind.Untyped = refl
 typed_comp kind.User = refl
 typed_comp kind.Kernel = refl
 
-typed_says : (k : FrameKind) (n m : ℕ) (p : Place) (r i x : ℕ) → IsFrameWord n m (typed_frame k) p r i x
-typed_says kind.Untyped n m p r i x = tt
-typed_says kind.User n m p r i x = tt
-typed_says kind.Kernel n m p r i x = tt
+typed_says : (k : FrameKind) (n : ℕ) (p : Place) (r i x : ℕ) → IsFrameWord n (typed_frame k) p r i x
+typed_says kind.Untyped n p r i x = tt
+typed_says kind.User n p r i x = tt
+typed_says kind.Kernel n p r i x = tt
 
 typed_mark : (k : FrameKind) (i x : ℕ) → mark_in_frame (typed_frame k) i x ≡ None
 typed_mark kind.Untyped i x = refl
@@ -436,9 +436,6 @@ module _ (setup : Setting) (setting : IsSetting setup) (cores : ℕ → Core) (t
       rises : counted_in setup s ≤ counted_in setup s'
       rises = subst (λ y. counted_in setup s ≤ counted_in setup y) (sym now) (counted_rises setup s (counted s c) c (calm_counted s c))
 
-      more_room : count_room s ≤ count_room s'
-      more_room = subst (λ y. count_room s ≤ count_room y) (sym now) (room_rises s (counted s c) c (calm_counted s c))
-
       plain : IsUntimed setup t e
       plain = record {
         begins = λ x. ap (λ p. begins_then (Some (reply.Ok Nothing)) p s c x) is_open ∙ ap (λ y. begins_in y x) change_is;
@@ -469,20 +466,19 @@ module _ (setup : Setting) (setting : IsSetting setup) (cores : ℕ → Core) (t
 
       stays : (w : Word) → w ≢ FrameAt f → marked_by setup t w ≢ Some c → StaysSaid setup cores t e w
       stays (EntryAt g i) there free = elim (cases_eq g f) [
-        | inl same ↦ λ h. subst (λ x. IsFrameWord s'.limits.frames (count_room s') x (s'.place g i) (stamp setup (e ∷ t) (PlaceOf g i)) i
+        | inl same ↦ λ h. subst (λ x. IsFrameWord s'.limits.frames x (s'.place g i) (stamp setup (e ∷ t) (PlaceOf g i)) i
             (settled setup (held_by cores) t (EntryAt g i))) (sym (frame_here g same))
-            (typed_says k s'.limits.frames (count_room s') (s'.place g i) (stamp setup (e ∷ t) (PlaceOf g i)) i
+            (typed_says k s'.limits.frames (s'.place g i) (stamp setup (e ∷ t) (PlaceOf g i)) i
             (settled setup (held_by cores) t (EntryAt g i)))
         | inr other ↦ said (EntryAt g i) (record {
           frames = ap (λ l. l.frames) limits;
           frame = frame_there g other;
           place = ap (λ x. x.place g i) now;
           stamp = plain_stamp setup t e plain (PlaceOf g i);
-          room = more_room;
         })
       ]
       stays (FrameAt g) there free = said (FrameAt g) (frame_there g (λ same. there (ap (λ (x : ℕ). FrameAt x) same)))
-      stays (CountAt g d) there free = said (CountAt g d) more_room
+      stays (CountAt g d) there free = said (CountAt g d) tt
       stays (CoreAt d) there free = said (CoreAt d) (record {
         inside = decided-inside (Some (reply.Ok Nothing)) (phase t c) s c d;
         exit = plain_exit t e refl d;

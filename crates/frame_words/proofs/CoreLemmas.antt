@@ -8,17 +8,17 @@ use Rattle.spk_nums.specs.Spelling.{IsOneSpelling}
 use Rattle.frame_words.specs.Core.{CoreFits, word_of_core, core_of_word}
 use Rattle.frame_words.specs.declared.core_word.CoreWord.{CoreWord}
 
-reads_bit : (b : Bool) (s : ℕ) → s < 2 ^ 28
+reads_bit : (b : Bool) (s : ℕ) → s < 2 ^ 43
     → core_of_word (word_of_core (record { inside = b; stamp = s })) ≡ Some (record { inside = b; stamp = s })
 unfolding word_of_core core_of_word
 reads_bit true s h =
     let inside : (1 + 2 * s) % 2 ≡ 1 = omega arith in
     let stamp : (1 + 2 * s) / 2 ≡ s = omega arith in
-    rw (inside, stamp, lt-ltb s (2 ^ 28) h)
+    rw (inside, stamp, lt-ltb s (2 ^ 43) h)
 reads_bit false s h =
     let inside : (0 + 2 * s) % 2 ≡ 0 = omega arith in
     let stamp : (0 + 2 * s) / 2 ≡ s = omega arith in
-    rw (inside, stamp, lt-ltb s (2 ^ 28) h)
+    rw (inside, stamp, lt-ltb s (2 ^ 43) h)
 
 reads : (v : CoreWord) → CoreFits v → core_of_word (word_of_core v) ≡ Some v
 reads v h = reads_bit v.inside v.stamp h
@@ -27,7 +27,7 @@ reads v h = reads_bit v.inside v.stamp h
 Spells : ℕ → CoreWord → Type 0
 Spells w v = CoreFits v × (word_of_core v ≡ w)
 
-spells_bit : (b : Bool) (w : ℕ) → (w % 2 == 1) ≡ b → w / 2 < 2 ^ 28 → Spells w (record { inside = b; stamp = w / 2 })
+spells_bit : (b : Bool) (w : ℕ) → (w % 2 == 1) ≡ b → w / 2 < 2 ^ 43 → Spells w (record { inside = b; stamp = w / 2 })
 unfolding Spells word_of_core
 spells_bit true w e h = (h, omega (arith, eqb-true (w % 2) 1 e))
 spells_bit false w e h = (h, omega (arith, eqb-false (w % 2) 1 e))
@@ -35,10 +35,10 @@ spells_bit false w e h = (h, omega (arith, eqb-false (w % 2) 1 e))
 spells : (w : ℕ) (v : CoreWord) → core_of_word w ≡ Some v → Spells w v
 unfolding core_of_word
 spells w v h =
-    let (low, value) = kept (nat_lt (w / 2) (2 ^ 28)) (record { inside = w % 2 == 1; stamp = w / 2 }) v h in
-    subst (Spells w) value (spells_bit (w % 2 == 1) w refl (ltb-true (w / 2) (2 ^ 28) low))
+    let (low, value) = kept (nat_lt (w / 2) (2 ^ 43)) (record { inside = w % 2 == 1; stamp = w / 2 }) v h in
+    subst (Spells w) value (spells_bit (w % 2 == 1) w refl (ltb-true (w / 2) (2 ^ 43) low))
 
-small_bit : (b : Bool) (s : ℕ) → s < 2 ^ 28 → word_of_core (record { inside = b; stamp = s }) < 2 ^ 64
+small_bit : (b : Bool) (s : ℕ) → s < 2 ^ 43 → word_of_core (record { inside = b; stamp = s }) < 2 ^ 64
 unfolding word_of_core
 small_bit true s h = omega arith
 small_bit false s h = omega arith

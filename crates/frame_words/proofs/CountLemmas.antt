@@ -1,16 +1,18 @@
 -- One spelling for each count word.
 use Rattle.std.proofs.Common.{◌≡◌, ◌≢◌, true, ℕ, ◌+◌, ◌-◌, ◌*◌, ◌/◌, ◌%◌, ◌^◌, ◌<◌, ◌≤◌}
 use Rattle.std.proofs.Common.{nat_lt, ◌==◌, Option, Some, None, IfSome, refl, subst, arith}
-use Rattle.std.specs.Prelude.{ℤ, pos, negsuc}
+use Rattle.std.specs.Prelude.{ℤ}
 use Rattle.std.proofs.lemmas.Bool.{ne_eqb, lt-ltb, le-ltb, ltb-true, ltb-false, eqb-true, eqb-false}
 use Rattle.spk_nums.proofs.Choices.{kept, chosen}
 use Rattle.spk_nums.proofs.OneSpelling.{spelling_reads, spelling_spells}
 use Rattle.spk_nums.specs.Spelling.{IsOneSpelling}
-use Rattle.frame_words.specs.Count.{HoldFits, NumberFits, CountFits, number_of_count, count_of_number}
+use Rattle.frame_words.specs.Count.{HoldFits, CountFits}
 use Rattle.frame_words.specs.Count.{number_of_hold, hold_of_number, word_of_count, count_of, count_of_word}
+use Rattle.frame_words.specs.Residue.{residue, signed}
 use Rattle.frame_words.specs.declared.count_word.CountWord.{CountWord}
 use Rattle.frame_words.specs.declared.count_word.Hold.{Hold}
 use Rattle.frame_words.specs.declared.count_word.Hold.TheVariants.{Unheld, Pinned, Closed}
+use Rattle.frame_words.proofs.ResidueLemmas.{IsSigned, signed_is, signed_residue, residue_small}
 
 -- a hold has a number below 2 ^ 5, and is found again from it
 record IsHoldNumber (h : Hold) : Type 0 where
@@ -77,75 +79,35 @@ hold_from n h e =
     closed : 17 ≤ n → nat_lt n 25 ≡ true → Closed (n - 17) ≡ h → HoldFrom n h
     closed high test f = let low : n < 25 = ltb-true n 25 test in hold_is n h (Closed (n - 17)) f (omega arith) (omega arith)
 
--- a count has a number below 2 ^ 31, and is found again from it
-record IsCountNumber (z : ℤ) : Type 0 where
-  below : number_of_count z < 2 ^ 31
-  back : count_of_number (number_of_count z) ≡ z
-
-count_numbered : (z : ℤ) → NumberFits z → IsCountNumber z
-count_numbered (pos n) p = record { below = omega arith; back = back } where
-  big : 2 ^ 30 ≤ n + 2 ^ 30
-  big = omega arith
-
-  less : n + 2 ^ 30 - 2 ^ 30 ≡ n
-  less = omega arith
-
-  back : count_of_number (n + 2 ^ 30) ≡ pos n
-  back = rw (le-ltb (n + 2 ^ 30) (2 ^ 30) big, less)
-count_numbered (negsuc n) p = record { below = omega arith; back = back } where
-  small : 2 ^ 30 - 1 - n < 2 ^ 30
-  small = omega arith
-
-  less : 2 ^ 30 - 1 - (2 ^ 30 - 1 - n) ≡ n
-  less = omega arith
-
-  back : count_of_number (2 ^ 30 - 1 - n) ≡ negsuc n
-  back = rw (lt-ltb (2 ^ 30 - 1 - n) (2 ^ 30) small, less)
-
--- what a count was read from
-record CountFrom (n : ℕ) (z : ℤ) : Type 0 where
-  in_range : NumberFits z
-  number : number_of_count z ≡ n
-
-count_from : (n : ℕ) → n < 2 ^ 31 → CountFrom n (count_of_number n)
-count_from n small = chosen (nat_lt n (2 ^ 30)) _ _ (count_of_number n) refl
-    (λ low f. below (ltb-true n (2 ^ 30) low) f) (λ high f. above (ltb-false n (2 ^ 30) high) f)
-  where
-    below : n < 2 ^ 30 → negsuc (2 ^ 30 - 1 - n) ≡ count_of_number n → CountFrom n (count_of_number n)
-    below low f = subst (CountFrom n) f (record { in_range = omega arith; number = omega arith })
-
-    above : 2 ^ 30 ≤ n → pos (n - 2 ^ 30) ≡ count_of_number n → CountFrom n (count_of_number n)
-    above high f = subst (CountFrom n) f (record { in_range = omega arith; number = omega arith })
-
 reads : (v : CountWord) → CountFits v → count_of_word (word_of_count v) ≡ Some v
 unfolding word_of_count count_of_word
 reads v h =
     let k : ℕ = number_of_hold v.hold in
-    let c : ℕ = number_of_count v.count in
+    let c : ℕ = residue v.count in
     let k_is : IsHoldNumber v.hold = hold_numbered v.hold h.0 in
-    let c_is : IsCountNumber v.count = count_numbered v.count h.1 in
-    let s : v.stamp < 2 ^ 28 = h.2 in
-    let w : ℕ = v.stamp + 2 ^ 28 * c + 2 ^ 59 * k in
+    let below : residue v.count < 2 ^ 16 = residue_small v.count in
+    let s : v.stamp < 2 ^ 43 = h.2 in
+    let w : ℕ = v.stamp + 2 ^ 43 * c + 2 ^ 59 * k in
     let hold : w / 2 ^ 59 ≡ k = omega arith in
-    let count : w / 2 ^ 28 % 2 ^ 31 ≡ c = omega arith in
-    let stamp : w % 2 ^ 28 ≡ v.stamp = omega arith in
-    rw (hold, count, stamp, k_is.back, c_is.back)
+    let count : w / 2 ^ 43 % 2 ^ 16 ≡ c = omega arith in
+    let stamp : w % 2 ^ 43 ≡ v.stamp = omega arith in
+    rw (hold, count, stamp, k_is.back, signed_residue v.count h.1)
 
 -- a count word within its ranges, whose word is this one
 Spells : ℕ → CountWord → Type 0
 Spells w v = CountFits v × (word_of_count v ≡ w)
 
 spells_fields : (o : Option Hold) (w : ℕ) (v : CountWord) → hold_of_number (w / 2 ^ 59) ≡ o
-    → count_of o (count_of_number (w / 2 ^ 28 % 2 ^ 31)) (w % 2 ^ 28) ≡ Some v → Spells w v
+    → count_of o (signed (w / 2 ^ 43 % 2 ^ 16)) (w % 2 ^ 43) ≡ Some v → Spells w v
 unfolding Spells word_of_count
 spells_fields None w v of_hold h = absurd (cc)
 spells_fields (Some k) w v of_hold h =
-    let z : ℤ = count_of_number (w / 2 ^ 28 % 2 ^ 31) in
+    let z : ℤ = signed (w / 2 ^ 43 % 2 ^ 16) in
     let hold : HoldFrom (w / 2 ^ 59) k = hold_from (w / 2 ^ 59) k of_hold in
-    let count : CountFrom (w / 2 ^ 28 % 2 ^ 31) z = count_from (w / 2 ^ 28 % 2 ^ 31) (omega arith) in
-    let of_count : number_of_count z ≡ w / 2 ^ 28 % 2 ^ 31 = count.number in
+    let count : IsSigned (w / 2 ^ 43 % 2 ^ 16) z = signed_is (w / 2 ^ 43 % 2 ^ 16) (omega arith) in
+    let of_count : residue z ≡ w / 2 ^ 43 % 2 ^ 16 = count.number in
     let number : number_of_hold k ≡ w / 2 ^ 59 = hold.number in
-    let u : CountWord = record { hold = k; count = z; stamp = w % 2 ^ 28 } in
+    let u : CountWord = record { hold = k; count = z; stamp = w % 2 ^ 43 } in
     let value : u ≡ v = cc (h) in
     subst (Spells w) value ((hold.in_range, count.in_range, omega arith), omega arith)
 
@@ -157,8 +119,8 @@ small : (v : CountWord) → CountFits v → word_of_count v < 2 ^ 64
 unfolding word_of_count
 small v h =
     let k_is : IsHoldNumber v.hold = hold_numbered v.hold h.0 in
-    let c_is : IsCountNumber v.count = count_numbered v.count h.1 in
-    let s : v.stamp < 2 ^ 28 = h.2 in
+    let below : residue v.count < 2 ^ 16 = residue_small v.count in
+    let s : v.stamp < 2 ^ 43 = h.2 in
     omega arith
 
 pub spelling : IsOneSpelling CountFits word_of_count count_of_word

@@ -9,7 +9,7 @@ use Rattle.frame_words.specs.declared.flush_word.FlushWord.{FlushWord}
 
 reads : (v : FlushWord) → FlushFits v → flush_of_word (word_of_flush v) ≡ Some v
 unfolding word_of_flush flush_of_word
-reads v h = rw (lt-ltb v.stamp (2 ^ 28) h)
+reads v h = rw (lt-ltb v.stamp (2 ^ 43) h)
 
 -- a flush word within its range, whose word is this one
 Spells : ℕ → FlushWord → Type 0
@@ -18,8 +18,8 @@ Spells w v = FlushFits v × (word_of_flush v ≡ w)
 spells : (w : ℕ) (v : FlushWord) → flush_of_word w ≡ Some v → Spells w v
 unfolding Spells word_of_flush flush_of_word
 spells w v h =
-    let (low, value) = kept (nat_lt w (2 ^ 28)) (record { stamp = w }) v h in
-    subst (Spells w) value (ltb-true w (2 ^ 28) low, refl)
+    let (low, value) = kept (nat_lt w (2 ^ 43)) (record { stamp = w }) v h in
+    subst (Spells w) value (ltb-true w (2 ^ 43) low, refl)
 
 small : (v : FlushWord) → FlushFits v → word_of_flush v < 2 ^ 64
 unfolding word_of_flush

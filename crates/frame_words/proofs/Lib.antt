@@ -4,3 +4,4 @@ pub mod CountLemmas
 pub mod FlushLemmas
 pub mod FrameLemmas
 pub mod LiveLemmas
+pub mod ResidueLemmas

@@ -30,14 +30,13 @@ reads (Closing e c) h =
     let by : w / 2 ^ 27 ≡ c = omega arith in
     rw (ne_eqb w 0 some, tag, between, epoch, by, lt-ltb c 8 h.1)
 reads (Dead e s) h =
-    let w : ℕ = 3 + 2 ^ 2 * e + 2 ^ 36 * s in
+    let w : ℕ = 3 + 2 ^ 2 * e + 2 ^ 18 * s in
     let last : e < 2 ^ 16 = h.1 in
     let some : w ≢ 0 = omega arith in
     let tag : w % 2 ^ 2 ≡ 3 = omega arith in
-    let between : w / 2 ^ 18 % 2 ^ 18 ≡ 0 = omega arith in
     let epoch : w / 2 ^ 2 % 2 ^ 16 ≡ e = omega arith in
-    let stamp : w / 2 ^ 36 ≡ s = omega arith in
-    rw (ne_eqb w 0 some, tag, between, epoch, stamp, le-leb 1 e h.0, le-leb 1 s h.2, lt-ltb s (2 ^ 28) h.3)
+    let stamp : w / 2 ^ 18 ≡ s = omega arith in
+    rw (ne_eqb w 0 some, tag, epoch, stamp, le-leb 1 e h.0, le-leb 1 s h.2, lt-ltb s (2 ^ 43) h.3)
 
 -- a liveness word within its ranges, whose word is this one
 Spells : ℕ → LiveWord → Type 0
@@ -67,16 +66,15 @@ spells_closing w v tag between h =
     let (core, value) = kept (nat_lt c 8) (Closing e c) v h in
     subst (Spells w) value ((omega arith, ltb-true c 8 core), omega arith)
 
-spells_dead : (w : ℕ) (v : LiveWord) → w % 2 ^ 2 ≡ 3 → w / 2 ^ 18 % 2 ^ 18 ≡ 0
-    → dead_of (w / 2 ^ 2 % 2 ^ 16) (w / 2 ^ 36) ≡ Some v → Spells w v
+spells_dead : (w : ℕ) (v : LiveWord) → w % 2 ^ 2 ≡ 3 → dead_of (w / 2 ^ 2 % 2 ^ 16) (w / 2 ^ 18) ≡ Some v → Spells w v
 unfolding Spells word_of_live
-spells_dead w v tag between h =
+spells_dead w v tag h =
     let e : ℕ = w / 2 ^ 2 % 2 ^ 16 in
-    let s : ℕ = w / 2 ^ 36 in
-    let (tests, value) = kept (nat_le 1 e && (nat_le 1 s && nat_lt s (2 ^ 28))) (Dead e s) v h in
+    let s : ℕ = w / 2 ^ 18 in
+    let (tests, value) = kept (nat_le 1 e && (nat_le 1 s && nat_lt s (2 ^ 43))) (Dead e s) v h in
     let (epoch, stamps) = and_parts (nat_le 1 e) _ tests in
     let (least, last) = and_parts (nat_le 1 s) _ stamps in
-    subst (Spells w) value ((leb-true 1 e epoch, omega arith, leb-true 1 s least, ltb-true s (2 ^ 28) last), omega arith)
+    subst (Spells w) value ((leb-true 1 e epoch, omega arith, leb-true 1 s least, ltb-true s (2 ^ 43) last), omega arith)
 
 spells : (w : ℕ) (v : LiveWord) → live_of_word w ≡ Some v → Spells w v
 unfolding live_of_word
@@ -88,9 +86,8 @@ spells w v h =
     (λ _ h2. chosen (w % 2 ^ 2 == 2 && w / 2 ^ 18 % 2 ^ 9 == 0) _ _ (Some v) h2
     (λ e f. let p = and_parts (w % 2 ^ 2 == 2) (w / 2 ^ 18 % 2 ^ 9 == 0) e in
     spells_closing w v (eqb-true (w % 2 ^ 2) 2 p.0) (eqb-true (w / 2 ^ 18 % 2 ^ 9) 0 p.1) f)
-    (λ _ h3. chosen (w % 2 ^ 2 == 3 && w / 2 ^ 18 % 2 ^ 18 == 0) _ _ (Some v) h3
-    (λ e f. let p = and_parts (w % 2 ^ 2 == 3) (w / 2 ^ 18 % 2 ^ 18 == 0) e in
-    spells_dead w v (eqb-true (w % 2 ^ 2) 3 p.0) (eqb-true (w / 2 ^ 18 % 2 ^ 18) 0 p.1) f)
+    (λ _ h3. chosen (w % 2 ^ 2 == 3) _ _ (Some v) h3
+    (λ e f. spells_dead w v (eqb-true (w % 2 ^ 2) 3 e) f)
     (λ _ f. absurd (cc)))))
 
 small : (v : LiveWord) → LiveFits v → word_of_live v < 2 ^ 64

@@ -1,4 +1,5 @@
 use Rattle.std.specs.Prelude.{ℕ, ℤ, pos, negsuc, ◌+◌, ◌-◌, ◌*◌, ◌/◌, ◌%◌, ◌^◌, ◌<◌, ◌==◌, nat_lt, Option, Some, None, if◌then◌else◌}
+use Rattle.frame_words.specs.Residue.{residue, signed}
 use Rattle.frame_words.specs.declared.count_word.CountWord.{CountWord}
 use Rattle.frame_words.specs.declared.count_word.Hold.{Hold}
 use Rattle.frame_words.specs.declared.count_word.Hold.TheVariants.{Unheld, Pinned, Closed}
@@ -9,23 +10,14 @@ HoldFits Unheld = Unit {0}
 HoldFits (Pinned by) = by < 8
 HoldFits (Closed by) = by < 8
 
--- a count is from -2 ^ 30 to 2 ^ 30 - 1
+-- a count is from -2 ^ 15 to 2 ^ 15 - 1
 abbrev pub NumberFits : ℤ → Type 0
-NumberFits (pos n) = n < 2 ^ 30
-NumberFits (negsuc n) = n < 2 ^ 30
+NumberFits (pos n) = n < 2 ^ 15
+NumberFits (negsuc n) = n < 2 ^ 15
 
--- a count is within its range, the stamp is below 2 ^ 28, and the core that holds the word is one
+-- a count is within its range, the stamp is below 2 ^ 43, and the core that holds the word is one
 abbrev pub CountFits : CountWord → Type 0
-CountFits v = HoldFits v.hold × NumberFits v.count × (v.stamp < 2 ^ 28)
-
--- a count's number in a word: the count plus 2 ^ 30
-abbrev pub number_of_count : ℤ → ℕ
-number_of_count (pos n) = n + 2 ^ 30
-number_of_count (negsuc n) = 2 ^ 30 - 1 - n
-
--- the count of a number
-abbrev pub count_of_number : ℕ → ℤ
-count_of_number n = if nat_lt n (2 ^ 30) then negsuc (2 ^ 30 - 1 - n) else pos (n - 2 ^ 30)
+CountFits v = HoldFits v.hold × NumberFits v.count × (v.stamp < 2 ^ 43)
 
 -- a hold's number in a word: the mark in the lower 4 bits, and after it whether the word is closed
 abbrev pub number_of_hold : Hold → ℕ
@@ -42,9 +34,9 @@ hold_of_number n =
     else if nat_lt n 25 then Some (Closed (n - 17))
     else None
 
--- the word of a count
+-- the word of a count, which has the count modulo 2 ^ 16
 unfoldable pub word_of_count : CountWord → ℕ
-word_of_count v = v.stamp + 2 ^ 28 * number_of_count v.count + 2 ^ 59 * number_of_hold v.hold
+word_of_count v = v.stamp + 2 ^ 43 * residue v.count + 2 ^ 59 * number_of_hold v.hold
 
 -- the count word of these fields, where there is such a hold
 abbrev pub count_of : Option Hold → ℤ → ℕ → Option CountWord
@@ -53,4 +45,4 @@ count_of (Some hold) count stamp = Some (record { hold = hold; count = count; st
 
 -- the count word of a word
 unfoldable pub count_of_word : ℕ → Option CountWord
-count_of_word w = count_of (hold_of_number (w / 2 ^ 59)) (count_of_number (w / 2 ^ 28 % 2 ^ 31)) (w % 2 ^ 28)
+count_of_word w = count_of (hold_of_number (w / 2 ^ 59)) (signed (w / 2 ^ 43 % 2 ^ 16)) (w % 2 ^ 43)

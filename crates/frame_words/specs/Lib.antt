@@ -5,3 +5,4 @@ pub mod Flush
 pub mod Frame
 pub mod FrameKinds
 pub mod Live
+pub mod Residue

@@ -23,7 +23,7 @@ impl CoreWord {
     pub fn pack(self) -> u64
         ensures { result ≡ word_of_core self }
     {
-        self.inside as u64 + ((self.stamp.number() as u64) << 1)
+        self.inside as u64 + (self.stamp.number() << 1)
     }
 
     /// The core word whose word this is; None exactly where it is the word of none.
@@ -45,10 +45,10 @@ fn read(word: u64) -> Option<CoreWord>
     ensures { result ≡ core_of_word word }
 {
     let stamp = word >> 1;
-    if stamp < 1 << 28 {
+    if stamp < 1 << 43 {
         Some(CoreWord {
             inside: word & 1 == 1,
-            stamp: Stamp::new(stamp as u32),
+            stamp: Stamp::new(stamp),
         })
     } else {
         None

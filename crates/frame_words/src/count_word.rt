@@ -1,11 +1,11 @@
 //! The word that counts the references to a frame.
 
-ghost use Rattle.std.specs.Prelude.{◌≡◌, ◌<◌, ◌^◌, IfSome, Some};
+ghost use Rattle.std.specs.Prelude.{◌≡◌, IfSome, Some};
 ghost use Rattle.spk_nums.specs.Spelling.{IsOneSpelling};
-ghost use Rattle.frame_words.specs.Count.{CountFits, NumberFits, number_of_count, count_of_number};
-ghost use Rattle.frame_words.specs.Count.{number_of_hold, hold_of_number, word_of_count, count_of_word};
+ghost use Rattle.frame_words.specs.Count.{CountFits, number_of_hold, hold_of_number, word_of_count, count_of_word};
 ghost use Rattle.frame_words.specs.declared.count_word.CountWord.{CountWord};
 
+use crate::modulo::{residue, signed};
 use spk_nums::{CoreNo, Stamp};
 
 /// Which core holds a count word.
@@ -25,27 +25,29 @@ pub enum Hold {
     },
 }
 
-/// What a core counts of the references to a frame: those made less those released, so it may be below 0.
+/// What a core counts of the references to a frame: those made less those released, modulo 2^16. Of the counts of one core
+/// nothing is said; those of all cores sum up to the references, modulo 2^16.
 #[derive(Clone, Copy, PartialEq, Eq, Debug)]
 pub struct CountWord {
     /// Which core holds the word.
     pub hold: Hold,
-    /// References made less those released, from -2^30 to 2^30 - 1.
+    /// References made less those released: of the numbers that differ from it by a multiple of 2^16, the one from -2^15
+    /// to 2^15 - 1.
     pub count: i32,
     /// The stamp of the latest release, or 0.
     pub stamp: Stamp,
 }
 
 impl CountWord {
-    /// The count's word. The count is from -2^30 to 2^30 - 1.
+    /// The count's word. The count is from -2^15 to 2^15 - 1.
     #[inline]
     #[tactic(auto, unfolding(crate::specs::Count::word_of_count))]
     pub fn pack(self) -> u64
         requires { CountFits self }
         ensures { result ≡ word_of_count self }
     {
-        self.stamp.number() as u64
-            + (count_number(self.count) << 28)
+        self.stamp.number()
+            + (u64::from(residue(i64::from(self.count))) << 43)
             + (hold_number(self.hold) << 59)
     }
 
@@ -68,27 +70,9 @@ fn read(word: u64) -> Option<CountWord>
     ensures { result ≡ count_of_word word }
 {
     let hold = hold_numbered(word >> 59)?;
-    let count = count_numbered((word >> 28) & 0x7fff_ffff);
-    let stamp = Stamp::new((word & 0xfff_ffff) as u32);
+    let count = signed(((word >> 43) & 0xffff) as u16);
+    let stamp = Stamp::new(word & 0x7ff_ffff_ffff);
     Some(CountWord { hold, count, stamp })
-}
-
-/// A count's number in a word, below 2^31.
-#[inline]
-fn count_number(count: i32) -> u64
-    requires { NumberFits count }
-    ensures { result ≡ number_of_count count }
-{
-    (count + (1 << 30)) as u64
-}
-
-/// The count of this number in a word, which is below 2^31.
-#[inline]
-fn count_numbered(number: u64) -> i32
-    requires { number < 2 ^ 31 }
-    ensures { result ≡ count_of_number number }
-{
-    number as i32 - (1 << 30)
 }
 
 /// A hold's number in a word, below 2^5.

@@ -21,7 +21,7 @@ impl FlushWord {
     pub fn pack(self) -> u64
         ensures { result ≡ word_of_flush self }
     {
-        self.stamp.number() as u64
+        self.stamp.number()
     }
 
     /// The flush word whose word this is; None exactly where it is the word of none.
@@ -42,9 +42,9 @@ impl FlushWord {
 fn read(word: u64) -> Option<FlushWord>
     ensures { result ≡ flush_of_word word }
 {
-    if word < 1 << 28 {
+    if word < 1 << 43 {
         Some(FlushWord {
-            stamp: Stamp::new(word as u32),
+            stamp: Stamp::new(word),
         })
     } else {
         None

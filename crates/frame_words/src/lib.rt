@@ -9,6 +9,7 @@ mod count_word;
 mod flush_word;
 mod frame_word;
 mod live_word;
+mod modulo;
 
 pub use comp_word::{CompWord, comp_spelling};
 pub use core_word::{CoreWord, core_spelling};
@@ -16,3 +17,4 @@ pub use count_word::{CountWord, Hold, count_spelling};
 pub use flush_word::{FlushWord, flush_spelling};
 pub use frame_word::{FrameWord, frame_spelling};
 pub use live_word::{LiveWord, live_spelling};
+pub use modulo::{residue, signed, wrapped};

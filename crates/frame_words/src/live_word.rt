@@ -52,9 +52,7 @@ impl LiveWord {
             LiveWord::Closing { epoch, by } => 2
                 + ((epoch as u64) << 2)
                 + ((by.number() as u64) << 27),
-            LiveWord::Dead { epoch, stamp } => 3
-                + ((epoch as u64) << 2)
-                + ((stamp.number() as u64) << 36),
+            LiveWord::Dead { epoch, stamp } => 3 + ((epoch as u64) << 2) + (stamp.number() << 18),
         }
     }
 
@@ -80,7 +78,7 @@ fn read(word: u64) -> Option<LiveWord>
     match word & 3 {
         1 => live(epoch, word >> 18),
         2 if (word >> 18) & 0x1ff == 0 => closing(epoch, word >> 27),
-        3 if (word >> 18) & 0x3_ffff == 0 => dead(epoch, word >> 36),
+        3 => dead(epoch, word >> 18),
         _ if word == 0 => Some(LiveWord::Free),
         _ => None,
     }
@@ -121,10 +119,10 @@ fn closing(epoch: u16, by: u64) -> Option<LiveWord>
 fn dead(epoch: u16, stamp: u64) -> Option<LiveWord>
     ensures { result ≡ dead_of epoch stamp }
 {
-    if 1 <= epoch && 1 <= stamp && stamp < 1 << 28 {
+    if 1 <= epoch && 1 <= stamp && stamp < 1 << 43 {
         Some(LiveWord::Dead {
             epoch,
-            stamp: Stamp::new(stamp as u32),
+            stamp: Stamp::new(stamp),
         })
     } else {
         None

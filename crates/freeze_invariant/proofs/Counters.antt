@@ -13,7 +13,7 @@ use Rattle.scan_invariant.proofs.Common.{Compare, Swept, took_sweep, release_of,
 use Rattle.scan_invariant.proofs.Common.{Refuses, Undecided, ActiveCall, landed, Core, holds_release, holds_thaw, is_frozen, Holding}
 use Rattle.scan_invariant.proofs.Common.{holds_counts, settled_by, settled, KnowsTail, KnowsUndecided, holds, holds_in}
 use Rattle.scan_invariant.proofs.Common.{held_by, Invariant, AreFrozen, KnowsSweep}
-use Rattle.scan_invariant.proofs.Common.{ThawsFrame, SaysCount, count_room, names_on, thaws_own}
+use Rattle.scan_invariant.proofs.Common.{ThawsFrame, SaysCount, names_on, thaws_own}
 use Rattle.scan_invariant.proofs.Common.{HoldsSwept, release_swept, IsInFootprint}
 use Rattle.std.specs.Prelude.{if◌then◌else◌}
 use Rattle.scan_invariant.specs.frame_words.specs.declared.count_word.Hold.{Hold}
@@ -155,7 +155,8 @@ module _ (setup : Setting) (setting : IsSetting setup) (cores : ℕ → Core) (t
 
   -- where all counters are frozen nothing refers to the frame, and their latest stamp is the frame's
   pub sweep_refs : AreFrozen setup.cores w.kept → refs (state_after setup t) f ≡ 0
-  sweep_refs all = no_refs setup cores t stands c f word w.kept (holds (cores c)) sweep_settles sweep_holds sweep_knows.kept all
+  sweep_refs all =
+      no_refs setup cores t stands c f word w.kept (holds (cores c)) sweep_settles sweep_holds sweep_knows.kept all setting
 
   pub sweep_since : AreFrozen setup.cores w.kept → stamp setup t (FrameOf f) ≡ latest_stamp w.kept
   sweep_since all = stamp_is setup cores t stands c f word w.kept (holds (cores c)) sweep_settles sweep_holds sweep_knows.kept all
@@ -249,8 +250,8 @@ module _ (setup : Setting) (setting : IsSetting setup) (cores : ℕ → Core) (t
           };
         })
 
-    says : marked_by setup t at ≡ None → SaysCount (count_room s) (count_of_word was)
-    says bare = subst (λ x. SaysCount (count_room s) (count_of_word (settled_by x (held_by cores) at was))) bare (stands.words at)
+    says : marked_by setup t at ≡ None → SaysCount (count_of_word was)
+    says bare = subst (λ x. SaysCount (count_of_word (settled_by x (held_by cores) at was))) bare (stands.words at)
 
     pub counter_load_good : Goal (count_of_word was)
     counter_load_good = by_word (count_of_word was) refl

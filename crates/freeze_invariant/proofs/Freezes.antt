@@ -19,17 +19,14 @@ use Rattle.std.proofs.Common.{slice_get, lt-ltb, ◌*◌, ◌≤ℤ◌}
 use Rattle.std.proofs.lemmas.Bool.{cases_eq, ltb-false}
 use Rattle.std.proofs.lemmas.List.Elements.{All-append}
 use Rattle.std.proofs.lemmas.Option.{slice_get_within}
-use Rattle.scan_invariant.proofs.Common.{count_room}
-use Rattle.scan_invariant.specs.core_invariant.specs.CountWords.{IsWithin}
-use Rattle.scan_invariant.specs.core_invariant.proofs.Sounds.{limits_of}
 use Rattle.scan_invariant.specs.core_invariant.proofs.Freezing.{thaw_all, thaw_from, thaw_here, release_bare}
-use Rattle.scan_invariant.specs.kept_facts.proofs.FrozenSums.{counters_length, got_before, got_last, length_more, sum_most}
-use Rattle.scan_invariant.specs.kept_facts.proofs.Swept.{kept_stamp, kept_sum}
-use Rattle.scan_invariant.specs.step_ways.proofs.Writes.{room_small}
+use Rattle.scan_invariant.specs.kept_facts.proofs.FrozenSums.{got_before, got_last, length_more}
+use Rattle.scan_invariant.specs.kept_facts.proofs.Swept.{kept_stamp, kept_refs}
 use Rattle.freeze_invariant.proofs.Counters.{counter_footprint, counters_number, sweep_shows}
 use Rattle.freeze_invariant.proofs.OneMore.{frozen_beside}
 use Rattle.std.proofs.lemmas.Int.{ints}
 use Rattle.scan_invariant.specs.spk_nums.specs.declared.replies.Reply.TheVariants as reply
+use Rattle.scan_invariant.specs.frame_words.specs.Residue.{residue}
 use Rattle.scan_invariant.specs.frame_words.proofs.CountLemmas as counts
 use Rattle.scan_invariant.specs.stage_sweep.specs.Counters.{sum_of_counts}
 use Rattle.scan_invariant.specs.stage_sweep.specs.Freeze.{frozen, frozen_if, kept_with, compare_refuses, compare_next}
@@ -53,10 +50,6 @@ use Rattle.scan_invariant.specs.kernel_rules.specs.Rules.{refusal_of}
 
 none_some : (d : ℕ) → None ≡ Some d → ⊥
 none_some d h = cc
-
--- So many counts of which each is below 2^28 are few references.
-few_refs : (z : ℤ) (n m : ℕ) → z ≤ℤ pos (m * 2 ^ 28) → m ≤ 8 → z ≡ pos n → n ≤ 2 ^ 31
-few_refs z n m most few is = omega (arith, ints, most, few, is)
 
 -- Where no counter more is to be frozen than these, these are all.
 none_more : (n m : ℕ) → n < m → nat_lt (n + 1) m ≡ false → n + 1 ≡ m
@@ -311,10 +304,10 @@ module _ (setup : Setting) (setting : IsSetting setup) (cores : ℕ → Core) (t
           goes = refl;
         })
 
-    -- It was the last: no call holds a count of the frame, and the counts found sum to the references to it.
+    -- It was the last: no call holds a count of the frame, and the counts found sum to the references to it, modulo 2 ^ 16.
     module _ (all : length more ≡ length (counters setup.cores)) where
-      sum_here : sum_of_counts more ≡ pos (refs s f)
-      sum_here = kept_sum setup cores t stands f more all more_shows
+      sum_here : residue (sum_of_counts more) ≡ refs s f
+      sum_here = kept_refs setup cores t stands f more all more_shows setting
 
       since : stamp setup t (FrameOf f) ≡ latest_stamp more
       since = kept_stamp setup cores t stands f more all more_shows
@@ -322,25 +315,10 @@ module _ (setup : Setting) (setting : IsSetting setup) (cores : ℕ → Core) (t
       -- References stand.
       module _ (n : ℕ) (refs_are : refs s f ≡ n) (some : (n == 0) ≡ false) where
         abbrev answer : Reply
-        answer = reply.Referenced (min n (2 ^ 32 - 1))
+        answer = reply.Referenced n
 
-        -- each count that stands there is small, and there are few
-        each_within : (d : ℕ) → IsWithin (count_in (count_shown setup (held_by cores) t f d)) (count_room s)
-        each_within d = let says = stands.words (CountAt f d) in
-            subst (λ y. IsWithin (count_in y) (count_room s)) (sym says.says) says.within
-
-        few_here : length (counters s.limits.cores) ≤ 8
-        few_here = subst (λ (k : ℕ). length (counters k) ≤ 8) (sym (ap (λ l. l.cores) (limits_of setup t)))
-            (let few = setting.most_cores in let same = counters_length setup.cores in omega (arith, few, same))
-
-        small : n ≤ 2 ^ 31
-        small = few_refs (count_sum (count_shown setup (held_by cores) t f) (counters s.limits.cores)) n (length (counters s.limits.cores))
-            (sum_most (count_shown setup (held_by cores) t f) (count_room s) (room_small setup setting cores t stands) each_within
-            (counters s.limits.cores))
-            few_here ((stands.sums f).sum ∙ ap (λ (k : ℕ). pos k) refs_are)
-
-        exact : min n (2 ^ 32 - 1) ≡ refs s f
-        exact = let few = small in let are = refs_are in omega (arith, few, are)
+        exact : n ≡ refs s f
+        exact = sym refs_are
 
         some_refs : nat_lt 0 (refs s f) ≡ true
         some_refs = lt-ltb 0 (refs s f) (let other = eqb-false n 0 some in let are = refs_are in omega (arith, other, are))
@@ -385,8 +363,8 @@ module _ (setup : Setting) (setting : IsSetting setup) (cores : ℕ → Core) (t
 
       -- None stands: the scan begins, or what comes after it.
       module _ (none : refs s f ≡ 0) where
-        sum_none : sum_of_counts more ≡ pos 0
-        sum_none = sum_here ∙ ap (λ (k : ℕ). pos k) none
+        sum_none : residue (sum_of_counts more) ≡ 0
+        sum_none = sum_here ∙ none
 
         all_frozen : AreFrozen setup.cores more
         all_frozen = record { all = all; none = sum_none }
@@ -402,9 +380,9 @@ module _ (setup : Setting) (setting : IsSetting setup) (cores : ℕ → Core) (t
 
       won : Result more (sum_refuses (sum_of_counts more))
           (scan_next v.object (quiet_scan (latest_stamp more) b layout.cores (may_be_cached v.kind v.object)))
-      won = subst (λ z. Result more (sum_refuses z)
+      won = subst (λ (m : ℕ). Result more (some_referenced (m == 0) m)
           (scan_next v.object (quiet_scan (latest_stamp more) b layout.cores (may_be_cached v.kind v.object)))) (sym sum_here)
-          (subst (λ (n : ℕ). Result more (sum_refuses (pos (refs s f)))
+          (subst (λ (n : ℕ). Result more (some_referenced (refs s f == 0) (refs s f))
           (scan_next v.object (quiet_scan (latest_stamp more) b n (may_be_cached v.kind v.object))))
           (sym (ap (λ x. x.cores) (stands.each c here).shape)) (by (refs s f == 0) refl))
         where

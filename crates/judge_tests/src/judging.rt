@@ -97,7 +97,7 @@ pub fn set(alloc: Global, scene: &Scene) -> Result<SeqKernel, Fail> {
 }
 
 // How many calls of a core are counted.
-fn counted(kernel: &SeqKernel, core: u8) -> u32 {
+fn counted(kernel: &SeqKernel, core: u8) -> u64 {
     if core < kernel.cores() {
         kernel.core(CoreNo::new(core)).counted
     } else {

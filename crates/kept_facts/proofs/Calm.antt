@@ -21,7 +21,6 @@ use Rattle.thread_laws.specs.kernel_history.proofs.Steps.{stamp-kept, exit_of-ow
 use Rattle.thread_laws.specs.kernel_history.proofs.Steps.{flush_of-other, flush_stored-own, flush_stored-other}
 use Rattle.thread_laws.specs.kernel_history.specs.Graces.{KeepsTime}
 use Rattle.core_invariant.specs.act_states.specs.declared.own.Own.{Own}
-use Rattle.core_invariant.specs.Words.{count_room}
 use Rattle.core_invariant.specs.Knows.{WorksIn}
 use Rattle.core_invariant.specs.Invariant.{times_of, counted_in}
 use Rattle.kept_facts.proofs.WordFrames.{SameFor}
@@ -133,22 +132,9 @@ calls_rise s s' c calm n = sum_rises (λ d. (s.core d).counted) (λ d. (s'.core 
       | inr other ↦ (let b : (s'.core d).counted ≡ (s.core d).counted = ap (λ k. k.counted) (calm.others d other) in omega arith)
     ]
 
--- the counted calls do not fall, and so the room of counts does not
+-- the counted calls do not fall
 pub counted_rises : (setup : Setting) (s s' : State) (c : ℕ) → IsCalm s s' c → counted_in setup s ≤ counted_in setup s'
 counted_rises setup s s' c calm = calls_rise s s' c calm setup.cores
-
-pub room_rises : (s s' : State) (c : ℕ) → IsCalm s s' c → count_room s ≤ count_room s'
-room_rises s s' c calm =
-    subst (λ (n : ℕ). count_room s ≤ 16 + 4 * sum_below (λ d. (s'.core d).counted) n) (sym (ap (λ l. l.cores) calm.limits))
-    (let a = calls_rise s s' c calm s.limits.cores in omega arith)
-
--- A call that is counted makes room for the changes that it has still to store.
-pub room_grows : (s s' : State) (c : ℕ) → IsCalm s s' c → c < s.limits.cores → (s'.core c).counted ≡ (s.core c).counted + 1
-    → count_room s + 4 ≤ count_room s'
-room_grows s s' c calm below more =
-    subst (λ (n : ℕ). count_room s + 4 ≤ 16 + 4 * sum_below (λ d. (s'.core d).counted) n) (sym (ap (λ l. l.cores) calm.limits))
-    (let a = sum_one (λ d. (s.core d).counted) (λ d. (s'.core d).counted) s.limits.cores c below
-    (λ d other. ap (λ k. k.counted) (calm.others d other)) in omega arith)
 
 pub counted_grows : (setup : Setting) (s s' : State) (c : ℕ) → IsCalm s s' c → c < setup.cores
     → (s'.core c).counted ≡ (s.core c).counted + 1 → counted_in setup s + 1 ≤ counted_in setup s'
@@ -239,10 +225,9 @@ calm_words setup t e calm plain (EntryAt f i) place inside = record {
   frame = calm.frame f;
   place = place f i refl;
   stamp = plain_stamp setup t e plain (PlaceOf f i);
-  room = room_rises (state_after setup t) (state_after setup (e ∷ t)) e.core calm;
 }
 calm_words setup t e calm plain (FrameAt f) place inside = calm.frame f
-calm_words setup t e calm plain (CountAt f c) place inside = room_rises (state_after setup t) (state_after setup (e ∷ t)) e.core calm
+calm_words setup t e calm plain (CountAt f c) place inside = tt
 calm_words setup t e calm plain (CoreAt c) place inside = record { inside = (inside c refl).0; exit = (inside c refl).1 }
 calm_words setup t e calm plain (FlushAt c) place inside = plain_flush setup t e plain c
 calm_words setup t e calm plain (LiveAt l) place inside =

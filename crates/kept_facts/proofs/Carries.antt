@@ -759,6 +759,7 @@ counts_on setup t e c call no_entry (x ∷ xs) has =
       fits = first.fits;
       footprint = was_stays (IsInFootprint c call (count_of x)) setup t e c
           no_entry first.footprint;
+      small = first.small;
     })
     (counts_on setup t e c call no_entry xs (All-tail (IsCount setup t c call) x xs has))
 

@@ -21,7 +21,7 @@ use Rattle.thread_laws.specs.trace_laws.proofs.Stays.{stays_in_other}
 use Rattle.thread_laws.proofs.Steps.{thread_stays, idle_stays}
 use Rattle.core_invariant.specs.call_stages.specs.View.{Core}
 use Rattle.core_invariant.specs.Holding.{MarkIs, settled, settled_by}
-use Rattle.core_invariant.specs.Words.{Times, IsFrameWord, WordIs, count_room}
+use Rattle.core_invariant.specs.Words.{Times, IsFrameWord, WordIs}
 use Rattle.core_invariant.specs.Invariant.{holds, held_by, times_of, Invariant}
 use Rattle.core_invariant.specs.Threads.{HasThread}
 use Rattle.core_invariant.proofs.ThreadHolds.{IsIdleIn}
@@ -60,7 +60,7 @@ module _ (setup : Setting) (setting : IsSetting setup) (cores : ℕ → Core) (t
     rests_in : (u : State) (times : Times) (x : Frame) → u.frame f ≡ x → IsTrue (fits kind.Thread x) → WordIs u times (EntryAt f 0) word
         → (thread_in x).runs_on ≡ None
     rests_in u times (Kernel (Thread k)) is fit says = says_idle idle.depth k.runs_on _
-        (subst (λ y. IsFrameWord u.limits.frames (count_room u) y (u.place f 0) (times.stamp (PlaceOf f 0)) 0 word) is says)
+        (subst (λ y. IsFrameWord u.limits.frames y (u.place f 0) (times.stamp (PlaceOf f 0)) 0 word) is says)
     rests_in u times x is fit says = absurd (false≢true fit)
 
     before : (thread_in (s.frame f)).runs_on ≡ None

@@ -180,7 +180,7 @@ pub use Rattle.core_invariant.specs.stage_sweep.specs.declared.sweep.SweepAt.The
 pub use Rattle.core_invariant.specs.stage_sweep.specs.declared.sweep.Swept.{Swept}
 pub use Rattle.core_invariant.specs.stage_sweep.specs.declared.thaw.Thaw.{Thaw}
 pub use Rattle.core_invariant.specs.stage_tcap.specs.Charging.{head_end}
-pub use Rattle.core_invariant.specs.stage_tcap.specs.Heads.{credited, debited, head, marked}
+pub use Rattle.core_invariant.specs.stage_tcap.specs.Heads.{credited, debited, head, marked, relisted}
 pub use Rattle.core_invariant.specs.stage_tcap.specs.Lists.{in_order, same_list}
 pub use Rattle.core_invariant.specs.stage_tcap.specs.Pairs.{again_end, amount_of, by_alike, by_room, giving_back, judged}
 pub use Rattle.core_invariant.specs.stage_tcap.specs.declared.charge.Charge.{Charge}
@@ -245,7 +245,7 @@ pub use Rattle.core_invariant.proofs.Freezing.{release_entry, thaws_own}
 pub use Rattle.core_invariant.proofs.Markers.{marker_inside}
 pub use Rattle.core_invariant.proofs.Sounds.{limits_of}
 pub use Rattle.core_invariant.specs.Components.{HasComp, InvokesBy, below_of}
-pub use Rattle.core_invariant.specs.CountWords.{IsWithin, stamp_in}
+pub use Rattle.core_invariant.specs.CountWords.{stamp_in}
 pub use Rattle.core_invariant.specs.Events.{decided_in, returned_in}
 pub use Rattle.core_invariant.specs.Frozen.{holds_release, holds_thaw, holds_untyping, is_frozen}
 pub use Rattle.core_invariant.specs.Holding.{AreApart, Holding, MarkIs, committed, count_of, holds_counts, keeps, nothing, settled}
@@ -263,9 +263,9 @@ pub use Rattle.core_invariant.specs.Shares.{StoresA, TurnsHead, list_changed, re
 pub use Rattle.core_invariant.specs.Sweeps.{AreFrozen, AreKept, IsLookedAt, IsQuiet, IsScanning, KnowsSweep, KnowsSweepScan, KnowsSwept}
 pub use Rattle.core_invariant.specs.Sweeps.{KnowsUntyping, KnowsUntypingAt, SaysTyped, ThawsFrame, UntypesBy, names_of}
 pub use Rattle.core_invariant.specs.Threads.{HasThread, SwitchesBy, claimed_by, holds_idle, holds_switching, is_claimed}
-pub use Rattle.core_invariant.specs.Words.{HeadIs, IsFrameWord, IsThreadWord, NumberIs, PlaceIs, SaysCount, WordIs, count_room}
+pub use Rattle.core_invariant.specs.Words.{HeadIs, IsFrameWord, IsThreadWord, NumberIs, PlaceIs, SaysCount, WordIs}
 pub use Rattle.kept_facts.proofs.Calm.{BeginsNone, IsCalm, IsUntimed, calm_counted, calm_words, counted_rises, counts, none_stored}
-pub use Rattle.kept_facts.proofs.Calm.{plain_begins, plain_exit, plain_flush, plain_stamp, plain_time, room_grows}
+pub use Rattle.kept_facts.proofs.Calm.{plain_begins, plain_exit, plain_flush, plain_stamp, plain_time}
 pub use Rattle.kept_facts.proofs.Carries.{counts_on, names_on, own_kept, quiet_frame_on, slot_relies, spot_on}
 pub use Rattle.kept_facts.proofs.CountSums.{counted_refs}
 pub use Rattle.kept_facts.proofs.Exclusive.{SparesExclusive, exclusive_elsewhere, exclusive_free, exclusive_kept}

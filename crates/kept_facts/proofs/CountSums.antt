@@ -1,10 +1,11 @@
 -- How the sum of a frame's counts changes where one count word does, and how references change.
-use Rattle.std.proofs.Common.{◌≡◌, ◌≢◌, inl, inr, ℕ, zero, suc, ℤ, ◌+ℤ◌, ◌+◌, ◌<◌, ◌≤◌, ◌==◌, max}
+use Rattle.std.proofs.Common.{◌≡◌, ◌≢◌, inl, inr, ℕ, zero, suc, ℤ, ◌+ℤ◌, ◌-ℤ◌, ◌+◌, ◌<◌, ◌≤◌, ◌==◌, max}
 use Rattle.std.proofs.Common.{cond, List, [], ◌∷◌, Option, arith, refl, sym, ◌∙◌, ap}
 use Rattle.std.specs.List.{range_with_len}
 use Rattle.std.proofs.lemmas.Bool.{cases_eq, cases_order, eq-eqb, ne_eqb}
 use Rattle.std.proofs.lemmas.Int.{ints}
 use Rattle.thread_laws.specs.spk_nums.specs.Capability.{Capability}
+use Rattle.thread_laws.specs.frame_words.specs.Residue.{residue}
 use Rattle.thread_laws.specs.frame_words.specs.declared.count_word.CountWord.{CountWord}
 use Rattle.thread_laws.specs.kernel_rules.specs.State.{Holds, Quiescing, Grace, Thing, State, with_place, with_grace}
 use Rattle.thread_laws.specs.kernel_rules.specs.References.{named_by, place_names, frame_names, number_names, core_names, sum_below}
@@ -15,6 +16,7 @@ use Rattle.thread_laws.specs.kernel_invariant.proofs.Refs.{place_refs, grace_ref
 use Rattle.thread_laws.specs.kernel_history.specs.Counts.{counters, count_in, count_sum}
 pub use Rattle.thread_laws.specs.kernel_history.proofs.Counters.{counter_all}
 use Rattle.core_invariant.specs.CountWords.{stamp_in, newest_of}
+use Rattle.core_invariant.proofs.Residues.{residue_plus}
 use Rattle.kept_facts.proofs.Calm.{IsCalm, calm_counted}
 
 -- How often a number occurs in a list whose first it is, or is not.
@@ -61,8 +63,11 @@ first_changes a a' x = omega (arith, ints)
 rest_changes : (a x x' y y' : ℤ) → x' +ℤ y ≡ x +ℤ y' → (a +ℤ x') +ℤ y ≡ (a +ℤ x) +ℤ y'
 rest_changes a x x' y y' h = omega (arith, ints)
 
-one_changes : (x x' y a : ℤ) → x' +ℤ a ≡ x +ℤ (a +ℤ y) → x' ≡ x +ℤ y
-one_changes x x' y a h = omega (arith, ints)
+one_changed : (x x' a a' : ℤ) → x' +ℤ a ≡ x +ℤ a' → x' ≡ (x -ℤ a) +ℤ a'
+one_changed x x' a a' h = omega (arith, ints, h)
+
+one_added : (x a y : ℤ) → (x -ℤ a) +ℤ (a +ℤ y) ≡ x +ℤ y
+one_added x a y = omega (arith, ints)
 
 module _ (shown shown' : ℕ → Option CountWord) where
   -- Where no count changes, the sum stays.
@@ -104,13 +109,14 @@ module _ (shown shown' : ℕ → Option CountWord) where
       → count_sum shown' cs +ℤ count_in (shown d) ≡ count_sum shown cs +ℤ count_in (shown' d)
   sum_one cs d once same = counts_one cs d once (λ c there. ap count_in (same c there))
 
-  -- Where one count that occurs once changes by y, so does the sum.
+  -- Where one count that occurs once changes by y, modulo 2 ^ 16, so does the sum.
   pub sum_by : (cs : List ℕ) (d : ℕ) (y : ℤ) → times d cs ≡ 1 → ((c : ℕ) → c ≢ d → shown' c ≡ shown c)
-      → count_in (shown' d) ≡ count_in (shown d) +ℤ y
-      → count_sum shown' cs ≡ count_sum shown cs +ℤ y
+      → residue (count_in (shown' d)) ≡ residue (count_in (shown d) +ℤ y)
+      → residue (count_sum shown' cs) ≡ residue (count_sum shown cs +ℤ y)
   sum_by cs d y once same by =
-      one_changes (count_sum shown cs) (count_sum shown' cs) y (count_in (shown d))
-      (sum_one cs d once same ∙ ap (λ z. count_sum shown cs +ℤ z) by)
+      ap residue (one_changed (count_sum shown cs) (count_sum shown' cs) (count_in (shown d)) (count_in (shown' d)) (sum_one cs d once same))
+      ∙ residue_plus (count_sum shown cs -ℤ count_in (shown d)) (count_in (shown' d)) (count_in (shown d) +ℤ y) by
+      ∙ ap residue (one_added (count_sum shown cs) (count_in (shown d)) y)
 
   -- Where no stamp changes, the newest stays.
   pub newest_same : (cs : List ℕ) → ((c : ℕ) → stamp_in (shown' c) ≡ stamp_in (shown c)) → newest_of shown' cs ≡ newest_of shown cs

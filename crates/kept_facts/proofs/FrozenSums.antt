@@ -1,6 +1,6 @@
 -- The counters of a frame that were frozen in order: where each count word shows the count and the stamp that were found there, the counts
 -- that they show sum to those found, and the newest stamp that they show is the latest found.
-use Rattle.std.proofs.Common.{◌≡◌, ℕ, zero, suc, ℤ, pos, negsuc, ◌≤ℤ◌, ◌+ℤ◌, ◌+◌, ◌*◌, ◌^◌, ◌<◌, max, List, [], ◌∷◌, ◌++◌, fold, length}
+use Rattle.std.proofs.Common.{◌≡◌, ℕ, zero, suc, ℤ, pos, ◌+ℤ◌, ◌+◌, ◌<◌, max, List, [], ◌∷◌, ◌++◌, fold, length}
 use Rattle.std.proofs.Common.{slice_get}
 use Rattle.std.proofs.Common.{Option, Some, arith, refl, sym, ◌∙◌, ap, subst}
 use Rattle.std.specs.Prelude.{All}
@@ -12,7 +12,7 @@ use Rattle.std.proofs.lemmas.Option.{get_or_from_slice_get, slice_get_within}
 use Rattle.thread_laws.specs.frame_words.specs.declared.count_word.CountWord.{CountWord}
 use Rattle.thread_laws.specs.kernel_history.specs.Counts.{counters, count_in, count_sum}
 use Rattle.core_invariant.specs.stage_sweep.specs.Counters.{add_count, sum_of_counts, later_of, latest_stamp}
-use Rattle.core_invariant.specs.CountWords.{IsWithin, stamp_in, newest_of}
+use Rattle.core_invariant.specs.CountWords.{stamp_in, newest_of}
 
 -- An element of a list that is followed by one more is in the list, or is that one.
 pub got_before : {A : Type 0} (xs : List A) (x : A) (d : ℕ) → d < length xs → slice_get (xs ++ x ∷ []) d ≡ slice_get xs d
@@ -93,19 +93,6 @@ module _ (shown : ℕ → Option CountWord) where
     where
       plain : (x : ℤ) → x ≡ pos 0 +ℤ x
       plain x = omega (arith, ints)
-
--- Counts of which each is within a room below 2^28 sum to at most so often 2^28.
-at_most : (z : ℤ) (room : ℕ) → room < 2 ^ 28 → IsWithin z room → z ≤ℤ pos (2 ^ 28)
-at_most (pos k) room small within = omega (arith, ints, small, within)
-at_most (negsuc k) room small within = omega (arith, ints)
-
-pub sum_most : (shown : ℕ → Option CountWord) (room : ℕ) → room < 2 ^ 28 → ((d : ℕ) → IsWithin (count_in (shown d)) room)
-    → (cs : List ℕ) → count_sum shown cs ≤ℤ pos (length cs * 2 ^ 28)
-sum_most shown room small within [] = omega (arith, ints)
-sum_most shown room small within (c ∷ cs) =
-    let first = at_most (count_in (shown c)) room small (within c) in
-    let rest = sum_most shown room small within cs in
-    omega (arith, ints, first, rest)
 
 -- Counters that are cleared sum to 0, and their newest stamp is 0.
 pub cleared_sum : (shown : ℕ → Option CountWord) (cs : List ℕ)

@@ -9,6 +9,7 @@ pub mod Claimed
 -- Sums of counts.
 pub mod CountSums
 pub mod FrozenSums
+pub mod Few
 pub mod Sums
 -- Words kept without a mark, and the words of temporal capabilities.
 pub mod Tcaps

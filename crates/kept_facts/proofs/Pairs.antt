@@ -22,7 +22,7 @@ use Rattle.core_invariant.specs.stage_tcap.specs.declared.pair.PairAt.{PairAt}
 use Rattle.core_invariant.specs.stage_tcap.specs.declared.pair.PairAt.TheVariants.{LoadA, MarkA, ListA, LoadB, ListB, CompareB}
 use Rattle.core_invariant.specs.stage_tcap.specs.declared.pair.PairAt.TheVariants.{AgainB, StoreList, StoreB, StoreA}
 use Rattle.core_invariant.specs.Shares.{turns_list, list_changed, MayTurn, TurnsHead, SparesTcap, list_word, read_up}
-use Rattle.core_invariant.specs.Shares.{ReadsHead, HasMarkedA, HasSeenB, HasReadB, HasBoth, KnowsPairAt, StoresA}
+use Rattle.core_invariant.specs.Shares.{ReadsHead, HasMarkedA, HasSeenB, HasReadB, HasBoth, KnowsPairAt, StoresA, KeepsList}
 use Rattle.thread_laws.specs.tcap_words.specs.Head.{HeadFits}
 
 -- A list is read alike from words that are alike.
@@ -108,8 +108,15 @@ module _ (setup : Setting) (t : Trace) (e : Step) (found_is : e.found ≡ last_l
     raw = left_same (EntryAt p.a 0) (kept 0) ∙ has.raw;
     fits = has.fits;
     bare = has.bare;
-    few = has.few;
     clean = list_same p.a kept ∙ has.clean;
+  }
+
+  -- B's list stays, where the step leaves each of its words.
+  pub keeps_on_b : (p : Pair) → ((i : ℕ) → EntryAt p.b i ≡ word_of e.move → left ≡ e.found) → KeepsList setup t p
+      → KeepsList setup (e ∷ t) p
+  keeps_on_b p kept has = record {
+    clean = list_same p.b kept ∙ has.clean;
+    words = λ j low. left_same (EntryAt p.b (suc j)) (kept (suc j)) ∙ has.words j low;
   }
 
   -- Another core leaves each word of a temporal capability whose head this core has marked.
@@ -325,6 +332,7 @@ module _ (setup : Setting) (t : Trace) (e : Step) (found_is : e.found ≡ last_l
       read = has.read;
       b = b_other has.read 8 has.b;
       whole = has.whole;
+      grows = has.grows;
       judges = has.judges;
     }
 

@@ -21,7 +21,7 @@ use Rattle.core_invariant.specs.stage_tcap.specs.declared.pair.PairAt.{PairAt}
 use Rattle.core_invariant.specs.stage_tcap.specs.declared.pair.PairAt.TheVariants.{LoadA, MarkA, ListA, LoadB, ListB, CompareB}
 use Rattle.core_invariant.specs.stage_tcap.specs.declared.pair.PairAt.TheVariants.{AgainB, StoreList, StoreB, StoreA}
 use Rattle.core_invariant.specs.Shares.{SparesTcap, HasTcap, KnowsShare, StoresA, StoresB, KnowsStoresAt, KnowsShared}
-use Rattle.kept_facts.proofs.Pairs.{tcap_mark, kept_all, left_same, pair_other, stores_on_a}
+use Rattle.kept_facts.proofs.Pairs.{tcap_mark, kept_all, left_same, pair_other, stores_on_a, keeps_on_b}
 use Rattle.kept_facts.proofs.Tcaps.{tcap_of, tcap_stays}
 
 -- What core c knows of them stays known, while its call is undecided and after.
@@ -67,18 +67,19 @@ module _ (setup : Setting) (setting : IsSetting setup) (t : Trace) (legal : IsLe
 
   b_stays : is_in (phase t c) ≡ true → (call : Call) (p : Pair) → HasTcap (state_after setup t) c p.a → p.core ≡ c
       → StoresB setup t c call p → StoresB setup (e ∷ t) c call p
-  b_stays inside call p tcap core has = record {
-    a = a_stays p tcap core has.a;
-    raw = left_same setup t e follows.found (EntryAt p.b 0)
-        (kept p.b p.core p.head_b has.tcap core (few p core) has.fits has.raw 0) ∙ has.raw;
-    fits = has.fits;
-    bare = has.bare;
-    few = has.few;
-    footprint = was_stays (IsInFootprint c call (EntryAt p.b 0)) setup t e c (λ own. absurd (other own)) has.footprint;
-    tcap = tcap_stays setup setting t legal e follows c here other inside p.b has.tcap;
-    differ = has.differ;
-    spelled = has.spelled;
-  }
+  b_stays inside call p tcap core has =
+      let spared = kept p.b p.core p.head_b has.tcap core (few p core) has.fits has.raw in record {
+        a = a_stays p tcap core has.a;
+        raw = left_same setup t e follows.found (EntryAt p.b 0) (spared 0) ∙ has.raw;
+        fits = has.fits;
+        bare = has.bare;
+        few = has.few;
+        footprint = was_stays (IsInFootprint c call (EntryAt p.b 0)) setup t e c (λ own. absurd (other own)) has.footprint;
+        tcap = tcap_stays setup setting t legal e follows c here other inside p.b has.tcap;
+        differ = has.differ;
+        spelled = has.spelled;
+        same = λ is. keeps_on_b setup t e follows.found p spared (has.same is);
+      }
 
   stored_stays : is_in (phase t c) ≡ true → (call : Call) (p : Pair) (at : PairAt) → HasTcap (state_after setup t) c p.a → p.core ≡ c
       → KnowsStoresAt setup t c call p at → KnowsStoresAt setup (e ∷ t) c call p at

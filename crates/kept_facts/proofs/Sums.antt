@@ -2,6 +2,7 @@
 use Rattle.std.proofs.Common.{◌≡◌, ℕ, pos, ◌∷◌, sym, ◌∙◌, ap}
 use Rattle.thread_laws.specs.spk_nums.specs.Setting.{Setting}
 use Rattle.thread_laws.specs.frame_words.specs.Count.{count_of_word}
+use Rattle.thread_laws.specs.frame_words.specs.Residue.{residue}
 use Rattle.thread_laws.specs.word_map.specs.Word.{CountAt}
 use Rattle.thread_laws.specs.kernel_rules.specs.State.{FrameOf}
 use Rattle.thread_laws.specs.kernel_rules.specs.References.{refs}
@@ -25,10 +26,10 @@ module _ (setup : Setting) (t : Trace) (e : Step) (held held' : ℕ → Holding)
       → ((f : ℕ) → refs (state_after setup (e ∷ t)) f ≡ refs (state_after setup t) f)
       → ((f : ℕ) → SumIs setup held t f) → (f : ℕ) → SumIs setup held' (e ∷ t) f
   sums_since since limits kept sums f = record {
-    sum = ap (λ l. count_sum (count_shown setup held' (e ∷ t) f) (counters l.cores)) limits
-        ∙ sum_same (count_shown setup held t f) (count_shown setup held' (e ∷ t) f) (counters (state_after setup t).limits.cores)
-        (shown_same f)
-        ∙ (sums f).sum ∙ ap (λ (n : ℕ). pos n) (sym (kept f));
+    sum = ap (λ l. residue (count_sum (count_shown setup held' (e ∷ t) f) (counters l.cores))) limits
+        ∙ ap residue (sum_same (count_shown setup held t f) (count_shown setup held' (e ∷ t) f)
+        (counters (state_after setup t).limits.cores) (shown_same f))
+        ∙ (sums f).sum ∙ ap (λ (n : ℕ). residue (pos n)) (sym (kept f));
     newest = ap (λ l. newest_of (count_shown setup held' (e ∷ t) f) (counters l.cores)) limits
         ∙ newest_same (count_shown setup held t f) (count_shown setup held' (e ∷ t) f) (counters (state_after setup t).limits.cores)
         (λ d. ap stamp_in (shown_same f d))

@@ -10,6 +10,7 @@ use Rattle.thread_laws.specs.spk_nums.specs.declared.kinds.FrameKind.TheVariants
 use Rattle.thread_laws.specs.spk_nums.specs.declared.kinds.Obj.TheVariants as obj
 use Rattle.thread_laws.specs.frame_words.specs.Count.{CountFits, word_of_count, count_of_word}
 use Rattle.thread_laws.specs.frame_words.specs.Frame.{frame_of_word}
+use Rattle.thread_laws.specs.frame_words.specs.Residue.{residue}
 use Rattle.thread_laws.specs.frame_words.specs.declared.count_word.CountWord.{CountWord}
 use Rattle.thread_laws.specs.frame_words.specs.declared.frame_word.FrameWord.{FrameWord}
 use Rattle.thread_laws.specs.frame_words.proofs.CountLemmas as counts
@@ -41,6 +42,7 @@ use Rattle.core_invariant.specs.Sweeps.{AreFrozen, AreKept, IsLookedAt, IsQuiet,
 use Rattle.core_invariant.proofs.Sounds.{limits_of}
 use Rattle.core_invariant.proofs.Freezing.{release_frame, thaw_all, thaw_from, thaw_here}
 use Rattle.kept_facts.proofs.FrozenSums.{counters_are, frozen_sum, got_all}
+use Rattle.kept_facts.proofs.Few.{refs_residue}
 
 -- A frame of which the word says that it is a blank kernel frame.
 pub kernel_is : (x : Frame) → (frame_value x).kind ≡ frame_kind.Kernel → (frame_value x).object ≡ obj.Blank → x ≡ Kernel Blank
@@ -111,8 +113,8 @@ looked_on s s' f n o rests has = subst (λ x. IsLookedAt s' f x n o) (sym rests.
     by User place has = tt
     by Untyped place has = tt
 
--- Where all count words of a frame show what was found there, the counts found sum to the references to the frame, and the latest stamp
--- found is that of its last release.
+-- Where all count words of a frame show what was found there, the counts found sum to the references to the frame, modulo 2 ^ 16, and the
+-- latest stamp found is that of its last release.
 module _ (setup : Setting) (cores : ℕ → Core) (t : Trace) (stands : Invariant setup cores t) (f : ℕ) (kept : List CountWord)
     (all : length kept ≡ length (counters setup.cores))
     (shows : (d : ℕ) (v : CountWord) → slice_get kept d ≡ Some v
@@ -127,8 +129,12 @@ module _ (setup : Setting) (cores : ℕ → Core) (t : Trace) (stands : Invarian
       × (newest_of its_counts (range_with_len 0 (length kept)) ≡ latest_stamp kept)
   found_here = frozen_sum its_counts kept (λ d v at. (ap count_in (shows d v at), ap stamp_in (shows d v at)))
 
-  pub kept_sum : sum_of_counts kept ≡ pos (refs (state_after setup t) f)
-  kept_sum = sym found_here.0 ∙ ap (count_sum its_counts) (sym counters_here) ∙ (stands.sums f).sum
+  pub kept_sum : residue (sum_of_counts kept) ≡ residue (pos (refs (state_after setup t) f))
+  kept_sum = ap residue (sym found_here.0 ∙ ap (count_sum its_counts) (sym counters_here)) ∙ (stands.sums f).sum
+
+  -- which are fewer than 2 ^ 16, and so are that
+  pub kept_refs : IsSetting setup → residue (sum_of_counts kept) ≡ refs (state_after setup t) f
+  kept_refs setting = kept_sum ∙ refs_residue setup setting t stands.legal f
 
   pub kept_stamp : stamp setup t (FrameOf f) ≡ latest_stamp kept
   kept_stamp = sym (stands.sums f).newest ∙ ap (newest_of its_counts) counters_here ∙ found_here.1
@@ -160,11 +166,8 @@ module _ (setup : Setting) (cores : ℕ → Core) (t : Trace) (stands : Invarian
     s = state_after setup t
 
     -- nothing refers to the frame
-    pub no_refs : refs s f ≡ 0
-    no_refs = zero_is (refs s f) (sym (kept_sum setup cores t stands f kept frozen.all kept_shows) ∙ frozen.none)
-      where
-        zero_is : (n : ℕ) → pos n ≡ pos 0 → n ≡ 0
-        zero_is n h = cc
+    pub no_refs : IsSetting setup → refs s f ≡ 0
+    no_refs setting = sym (kept_refs setup cores t stands f kept frozen.all kept_shows setting) ∙ frozen.none
 
     -- and the latest stamp is the frame's
     pub stamp_is : stamp setup t (FrameOf f) ≡ latest_stamp kept
@@ -192,7 +195,7 @@ module _ (setup : Setting) (cores : ℕ → Core) (t : Trace) (stands : Invarian
       waits_not = none_waits (latest_stamp kept) setup.cores setup.cores refl quiet e.core follows.is_core (λ same. other (sym same))
 
       typed_rests : IsTrue (is_typed (s.frame f)) → LeavesFrame s s' f
-      typed_rests typed = elim (step_rests setup setting t stands.legal e follows f typed no_refs waits_not) [
+      typed_rests typed = elim (step_rests setup setting t stands.legal e follows f typed (no_refs setting) waits_not) [
         | inl untyped ↦ absurd (met.kind (ap (λ x. x.kind) shown ∙ ap (λ x. x.kind) (sym value)
             ∙ ap (λ x. (frame_value x).kind) untyped))
         | inr rests ↦ record { frame = rests.frame; place = λ i node. rests.place i }

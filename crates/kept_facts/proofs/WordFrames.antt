@@ -18,8 +18,7 @@ use Rattle.core_invariant.specs.call_stages.specs.View.{Core}
 use Rattle.thread_laws.specs.kernel_history.specs.Marking.{marked_by}
 use Rattle.thread_laws.specs.kernel_history.specs.Discipline.{MarksOwn}
 use Rattle.core_invariant.specs.Holding.{Holding, bare_value, settled_by, settled, MarkIs}
-use Rattle.core_invariant.specs.Words.{Times, IsTcapWord, IsObjectWord, IsFrameWord, NumberIs, count_room, WordIs}
-use Rattle.core_invariant.proofs.Ranges.{within_more}
+use Rattle.core_invariant.specs.Words.{Times, IsFrameWord, NumberIs, WordIs}
 use Rattle.core_invariant.proofs.Bare.{same_value, core_bare, AsBefore}
 use Rattle.core_invariant.specs.Invariant.{holds, held_by, times_of}
 
@@ -29,7 +28,6 @@ pub record SameEntry (s s' : State) (m m' : Times) (f i : ℕ) : Type 0 where
   pub frame : s'.frame f ≡ s.frame f
   pub place : s'.place f i ≡ s.place f i
   pub stamp : m'.stamp (PlaceOf f i) ≡ m.stamp (PlaceOf f i)
-  pub room : count_room s ≤ count_room s'
 
 pub record SameCore (s s' : State) (m m' : Times) (c : ℕ) : Type 0 where
   pub inside : (s'.core c).inside ≡ (s.core c).inside
@@ -42,50 +40,29 @@ pub record SameNumber (s s' : State) (m m' : Times) (l : ℕ) : Type 0 where
 abbrev pub SameFor : State → State → Times → Times → Word → Type 0
 SameFor s s' m m' (EntryAt f i) = SameEntry s s' m m' f i
 SameFor s s' m m' (FrameAt f) = s'.frame f ≡ s.frame f
-SameFor s s' m m' (CountAt f c) = count_room s ≤ count_room s'
+SameFor s s' m m' (CountAt f c) = Unit {0}
 SameFor s s' m m' (CoreAt c) = SameCore s s' m m' c
 SameFor s s' m m' (FlushAt c) = m'.flush c ≡ m.flush c
 SameFor s s' m m' (LiveAt l) = SameNumber s s' m m' l
 SameFor s s' m m' ClockAt = Unit {0}
 
--- where there is more room, what was said is said still
-tcap_more : (q : TcapFields) (m m' i x : ℕ) → m ≤ m' → IsTcapWord q m i x → IsTcapWord q m' i x
-tcap_more q m m' zero x more h = record { version = h.version; says = h.says; within = (let a = h.within in omega arith); most = h.most }
-tcap_more q m m' (suc j) x more h = h
-
-object_more : (n m m' : ℕ) (a : Object) (p : Place) (r i x : ℕ) → m ≤ m' → IsObjectWord n m a p r i x → IsObjectWord n m' a p r i x
-object_more n m m' Blank p r i x more h = h
-object_more n m m' Table p r i x more h = h
-object_more n m m' Leaf p r i x more h = h
-object_more n m m' Pages p r i x more h = h
-object_more n m m' Pleaf p r i x more h = h
-object_more n m m' (Comp k) p r i x more h = h
-object_more n m m' (Thread u) p r i x more h = h
-object_more n m m' (Tcap q) p r i x more h = tcap_more q m m' i x more h
-
-pub entry_more : (n m m' : ℕ) (a : Frame) (p : Place) (r i x : ℕ) → m ≤ m' → IsFrameWord n m a p r i x → IsFrameWord n m' a p r i x
-entry_more n m m' Untyped p r i x more h = h
-entry_more n m m' User p r i x more h = h
-entry_more n m m' (Kernel object) p r i x more h = object_more n m m' object p r i x more h
-
-entry_same : {n n' m m' : ℕ} {a a' : Frame} {p p' : Place} {r r' : ℕ} (i x : ℕ) → n' ≡ n → m ≤ m' → a' ≡ a → p' ≡ p → r' ≡ r
-    → IsFrameWord n m a p r i x
-    → IsFrameWord n' m' a' p' r' i x
-entry_same {n} {n'} {m} {m'} {a} {a'} {p} {p'} {r} {r'} i x ns more fs ps rs h =
-    subst (λ y. IsFrameWord n' m' a' p' y i x) (sym rs)
-    (subst (λ y. IsFrameWord n' m' a' y r i x) (sym ps)
-    (subst (λ y. IsFrameWord n' m' y p r i x) (sym fs)
-    (subst (λ y. IsFrameWord y m' a p r i x) (sym ns) (entry_more n m m' a p r i x more h))))
+entry_same : {n n' : ℕ} {a a' : Frame} {p p' : Place} {r r' : ℕ} (i x : ℕ) → n' ≡ n → a' ≡ a → p' ≡ p → r' ≡ r
+    → IsFrameWord n a p r i x
+    → IsFrameWord n' a' p' r' i x
+entry_same {n} {n'} {a} {a'} {p} {p'} {r} {r'} i x ns fs ps rs h =
+    subst (λ y. IsFrameWord n' a' p' y i x) (sym rs)
+    (subst (λ y. IsFrameWord n' a' y r i x) (sym ps)
+    (subst (λ y. IsFrameWord n' y p r i x) (sym fs)
+    (subst (λ y. IsFrameWord y a p r i x) (sym ns) h)))
 
 number_same : {a a' : Liveness} {r r' : ℕ} (x : ℕ) → a' ≡ a → r' ≡ r → NumberIs a r (live_of_word x) → NumberIs a' r' (live_of_word x)
 number_same {a} {a'} {r} {r'} x ns rs h =
     subst (λ y. NumberIs a' y (live_of_word x)) (sym rs) (subst (λ y. NumberIs y r (live_of_word x)) (sym ns) h)
 
 pub word_stays : (s s' : State) (m m' : Times) (w : Word) (x : ℕ) → SameFor s s' m m' w → WordIs s m w x → WordIs s' m' w x
-word_stays s s' m m' (EntryAt f i) x same h = entry_same i x same.frames same.room same.frame same.place same.stamp h
+word_stays s s' m m' (EntryAt f i) x same h = entry_same i x same.frames same.frame same.place same.stamp h
 word_stays s s' m m' (FrameAt f) x same h = h ∙ ap (λ y. Some (frame_value y)) (sym same)
-word_stays s s' m m' (CountAt f c) x same h =
-    record { count = h.count; stamp = h.stamp; says = h.says; within = within_more h.count (count_room s) (count_room s') same h.within }
+word_stays s s' m m' (CountAt f c) x same h = h
 word_stays s s' m m' (CoreAt c) x same h =
     h ∙ ap (λ y. Some (record { inside = y; stamp = m.exit c })) (sym same.inside) ∙ ap
     (λ (y : ℕ). Some (record { inside = (s'.core c).inside; stamp = y })) (sym same.exit)

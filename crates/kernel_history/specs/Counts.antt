@@ -1,7 +1,9 @@
--- The counts of references in the words of a machine: a frame has a list of count words, and the references to it are their sum.
+-- The counts of references in the words of a machine: a frame has a list of count words, and the references to it are their sum, modulo
+-- 2 ^ 16.
 use Rattle.std.specs.Prelude.{◌≡◌, ◌<◌, ℕ, List, [], ◌∷◌, All, Option, Some, None, ℤ, pos, ◌+ℤ◌}
 use Rattle.std.specs.List.{range_with_len}
 use Rattle.frame_words.specs.Count.{count_of_word}
+use Rattle.frame_words.specs.Residue.{residue}
 use Rattle.frame_words.specs.declared.count_word.CountWord.{CountWord}
 use Rattle.frame_words.specs.declared.count_word.Hold.TheVariants.{Unheld}
 use Rattle.word_map.specs.Word.{Word, CountAt}
@@ -31,10 +33,10 @@ abbrev pub count_sum : (ℕ → Option CountWord) → List ℕ → ℤ
 count_sum shown [] = pos 0
 count_sum shown (c ∷ cs) = count_in (shown c) +ℤ count_sum shown cs
 
--- The count words of a frame are held by no core, and their counts sum to the references to it.
+-- The count words of a frame are held by no core, and their counts sum to the references to it, modulo 2 ^ 16.
 pub record Counts (word : Word → ℕ) (s : State) (f : ℕ) : Type 0 where
   pub unheld : All (λ c. IsUnheld (count_at word f c)) (counters s.limits.cores)
-  pub sum : count_sum (count_at word f) (counters s.limits.cores) ≡ pos (refs s f)
+  pub sum : residue (count_sum (count_at word f) (counters s.limits.cores)) ≡ refs s f
 
 -- The count words represent the state's references.
 abbrev pub RepresentCounts : (Word → ℕ) → State → Type 0

@@ -3,6 +3,7 @@ pub mod TicksLaw
 pub mod Lists
 pub mod Shapes
 pub mod RangesLaw
+pub mod FewRefs
 pub mod Causes
 pub mod Lacking
 pub mod NodeSteps

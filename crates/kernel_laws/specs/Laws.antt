@@ -1,5 +1,5 @@
 -- Laws of the sequential kernel, each the contract of a function of this crate.
-use Rattle.std.specs.Prelude.{ℕ, ◌≡◌, ◌+◌, ◌==◌, if◌then◌else◌, List, [], ◌∷◌, sum_by, IsFalse}
+use Rattle.std.specs.Prelude.{ℕ, ◌≡◌, ◌≤◌, ◌+◌, ◌==◌, if◌then◌else◌, List, [], ◌∷◌, sum_by, IsFalse}
 use Rattle.spk_nums.specs.Setting.{Setting, IsSetting}
 use Rattle.spk_nums.specs.declared.calls.Call.{Call}
 use Rattle.spk_nums.specs.declared.calls.Call.TheVariants.{Tick}
@@ -11,6 +11,7 @@ use Rattle.kernel_laws.specs.Causes.{HasCause, HasNoRight}
 use Rattle.kernel_rules.specs.Runs.{Event, Enters, Decides, Returns, after, IsRun}
 use Rattle.kernel_rules.specs.Laws.{ticks}
 use Rattle.kernel_rules.specs.Ranges.{InRanges}
+use Rattle.kernel_rules.specs.References.{refs}
 
 -- The sum of the grants.
 abbrev pub grants_sum : Setting → ℕ
@@ -24,6 +25,11 @@ TicksKept = (setting : Setting) → IsSetting setting → (events : List Event) 
 -- In every state that a run reaches, the numbers are in range.
 abbrev pub RangesHold : Type 0
 RangesHold = (setting : Setting) → IsSetting setting → (events : List Event) → IsRun setting events → InRanges (after setting events)
+
+-- In every state that a run reaches, the references to a frame are at most 32,848.
+abbrev pub ReferencesFew : Type 0
+ReferencesFew = (setting : Setting) → IsSetting setting → (events : List Event) → IsRun setting events
+    → (f : ℕ) → refs (after setting events) f ≤ 32848
 
 -- In every state, each reply that the relation permits has its cause.
 abbrev pub CausesStand : Type 0

@@ -4,7 +4,7 @@
 //! See docs/MODEL.md, 'What is proved of these definitions', and docs/PROOF.md, 'The laws of the sequential kernel'.
 #![tactic(auto)]
 
-ghost use Rattle.kernel_laws.specs.Laws.{TicksKept, RangesHold, CausesStand, LackIsRefused, SpendingSums};
+ghost use Rattle.kernel_laws.specs.Laws.{TicksKept, RangesHold, ReferencesFew, CausesStand, LackIsRefused, SpendingSums};
 ghost use Rattle.kernel_laws.specs.Nodes.{NodesHoldWhatFits};
 
 /// In every state that a run reaches, the budgets of all temporal capabilities and the ticks that all cores have spent sum to
@@ -20,6 +20,13 @@ pub fn ticks_kept()
 #[tactic(auto, using(crate::proofs::RangesLaw::ranges_hold))]
 pub fn ranges_hold()
     ensures { RangesHold }
+{}
+
+/// In every state that a run reaches, at most 32,848 references to a frame stand in places, objects, cores and liveness numbers: so
+/// they are known where they are counted modulo 2^16.
+#[tactic(auto, using(crate::proofs::FewRefs::references_few))]
+pub fn references_few()
+    ensures { ReferencesFew }
 {}
 
 /// In every state, each reply that the relation permits has its cause. The causes are said by reply, apart from the rules of

@@ -16,10 +16,10 @@ use Rattle.count_invariant.proofs.Common.{phase, state_after, state_decided_in, 
 use Rattle.count_invariant.proofs.Common.{was_stays, decided-inside, cases_word, same_word-other, stamp-begins, stamp-kept}
 use Rattle.count_invariant.proofs.Common.{flush_stored-own, flush_stored-other, drawn_stamp, later, own_pages, LeadsIn, leads_by}
 use Rattle.count_invariant.proofs.Common.{KillingAt, LoadComp, LoadLive, Act, Nothing, StoreDead, Stage, Undecided, Decided, ActiveCall}
-use Rattle.count_invariant.proofs.Common.{GoesOn, landed, went_with, Core, IsWithin, Holding, holds_counts, settled_by, settled, NumberIs}
-use Rattle.count_invariant.proofs.Common.{WordIs, count_room, HasFound, KnowsUndecided, WorksIn, own_in, phase_at, done_by, holds_at}
+use Rattle.count_invariant.proofs.Common.{GoesOn, landed, went_with, Core, Holding, holds_counts, settled_by, settled, NumberIs}
+use Rattle.count_invariant.proofs.Common.{WordIs, HasFound, KnowsUndecided, WorksIn, own_in, phase_at, done_by, holds_at}
 use Rattle.count_invariant.proofs.Common.{holds_in, holds, held_by, times_of, counted_in, Invariant, counts, calm_counted, plain_exit}
-use Rattle.count_invariant.proofs.Common.{room_grows, own_kept, counts_on, counted_refs, limits_of, SameFor, ReadsAlike, reads_alike}
+use Rattle.count_invariant.proofs.Common.{own_kept, counts_on, counted_refs, limits_of, SameFor, ReadsAlike, reads_alike}
 use Rattle.count_invariant.proofs.Common.{StaysSaid, word_stays}
 use Rattle.std.proofs.Math.IntN.{pos-+ℤ-pos, +ℤ_assoc, +ℤ_invr, +ℤ_idr}
 use Rattle.state_laws.specs.spk_nums.specs.declared.replies.Reply.TheVariants as reply
@@ -244,10 +244,6 @@ module _ (setup : Setting) (setting : IsSetting setup) (cores : ℕ → Core) (t
     core_below : c < s.limits.cores
     core_below = subst (λ (n : ℕ). c < n) (sym (ap (λ l. l.cores) (limits_of setup t))) here
 
-    more_room : count_room s + 4 ≤ count_room s'
-    more_room = subst (λ y. count_room s + 4 ≤ count_room y) (sym now)
-        (room_grows s (counted s c) c (calm_counted s c) core_below one_counted)
-
     -- the number that was killed, and any other
     dead_here : s'.number life.number ≡ Dead life.epoch
     dead_here = ap (λ y. y.number life.number) now ∙ put_same s.number life.number (Dead life.epoch) life.number refl
@@ -280,10 +276,9 @@ module _ (setup : Setting) (setting : IsSetting setup) (cores : ℕ → Core) (t
       frame = frames g;
       place = ap (λ y. y.place g i) now;
       stamp = stamp_stays (PlaceOf g i) refl;
-      room = (let more = more_room in omega arith);
     }
     same (FrameAt g) no_clock bare = frames g
-    same (CountAt g d) no_clock bare = (let more = more_room in omega arith)
+    same (CountAt g d) no_clock bare = tt
     same (CoreAt d) no_clock bare = record { inside = decided-inside (Some r) (phase t c) s c d; exit = plain_exit t e refl d }
     same (FlushAt d) no_clock bare = stored_same d
     same (LiveAt l) no_clock bare = elim (cases_eq l life.number) [
@@ -297,7 +292,7 @@ module _ (setup : Setting) (setting : IsSetting setup) (cores : ℕ → Core) (t
         (same w no_clock bare)
 
     -- the number's word stands for the dead one
-    small : x < 2 ^ 28
+    small : x < 2 ^ 43
     small = clock_small setup setting cores t stands
 
     stored_fits : LiveFits (live_word.Dead life.epoch now_at)
@@ -332,13 +327,10 @@ module _ (setup : Setting) (setting : IsSetting setup) (cores : ℕ → Core) (t
         let four : refs s' g ≡ refs killed g = ap (λ y. refs y g) now in
         omega (arith, names, none, one, two, three, four)
 
-    one_small : IsWithin (negsuc 0) 1
-    one_small = omega arith
-
     few : length (dues_of (negsuc 0) fs) ≤ 1
     few = omega arith
 
-    drawn_small : later 0 (Some now_at) < 2 ^ 28
+    drawn_small : later 0 (Some now_at) < 2 ^ 43
     drawn_small = let low = small in let is = drawn_is in omega arith
 
     no_count : (g d : ℕ) → CountAt g d ≢ ClockAt
@@ -370,9 +362,9 @@ module _ (setup : Setting) (setting : IsSetting setup) (cores : ℕ → Core) (t
 
     commits : (w : Word) → (held_counts None).marks w ≡ true
         → WordIs s' (times_of setup (e ∷ t)) w ((held_counts (Some (Some now_at))).stands w)
-    commits = counts_commit setup setting cores t stands c here a active (negsuc 0) one_small (Some now_at) drawn_small fs few
+    commits = counts_commit setup setting cores t stands c here a active (negsuc 0) (Some now_at) drawn_small fs few
         has.knows.all (AddOf ClockAt 1) r after still
-        (λ g d. before (CountAt g d)) (λ g d. refl) alike refl refl no_count more_room
+        (λ g d. before (CountAt g d)) (λ g d. refl) alike refl refl no_count
 
     held_now : (w : Word) → marked_by setup t w ≡ Some c → WordIs s' (times_of setup (e ∷ t)) w ((holds after).stands w)
     held_now w mark = elim (cases_word w at) [
@@ -419,7 +411,7 @@ module _ (setup : Setting) (setting : IsSetting setup) (cores : ℕ → Core) (t
         (ap holds_in active ∙ ap (λ stage. holds_at stage a.counts) stage_is) ∙ counts_bare None a.counts g i))
         opens refl alike (inl (kill_types a.call a.found f has.knows.knows.kills)) grows works
         no_flush stays held_now
-        (counts_sum setup setting cores t stands c here a active (negsuc 0) one_small (Some now_at) drawn_small fs few has.knows.all
+        (counts_sum setup setting cores t stands c here a active (negsuc 0) (Some now_at) drawn_small fs few has.knows.all
         (AddOf ClockAt 1) r after still
         (λ g d. before (CountAt g d)) (λ g d. refl) alike refl refl no_count (ap (λ l. l.cores) limits) kept changes)
         (record { call = a.call; is_open = is_open; permitted = permitted; justified = gone })

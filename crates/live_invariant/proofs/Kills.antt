@@ -9,7 +9,7 @@ use Rattle.count_invariant.proofs.Common.{Word, EntryAt, LiveAt, Move, LoadOf, C
 use Rattle.count_invariant.proofs.Common.{put, comp_in, is_live_in, put_same, changes_numbers, mark_in_frame, live_mark, marked_by, stamp}
 use Rattle.count_invariant.proofs.Common.{Step, Trace, state_after, last_left, same_word-other, own_read-here, Acquired, LoadComp}
 use Rattle.count_invariant.proofs.Common.{LoadLive, Act, Goes, refuse, dues, next_work, Undecided, ActiveCall, GoesOn, landed, went, Core}
-use Rattle.count_invariant.proofs.Common.{holds_counts, settled_by, IsFrameWord, NumberIs, count_room, due_of, KnowsUndecided, holds_at}
+use Rattle.count_invariant.proofs.Common.{holds_counts, settled_by, IsFrameWord, NumberIs, due_of, KnowsUndecided, holds_at}
 use Rattle.count_invariant.proofs.Common.{holds_in, holds, held_by, Invariant, names_on, counts_on}
 use Rattle.count_invariant.specs.frame_words.specs.declared.live_word.LiveWord.TheVariants as live_word
 use Rattle.count_invariant.specs.frame_words.proofs.LiveLemmas as lives
@@ -54,12 +54,12 @@ module _ (setup : Setting) (setting : IsSetting setup) (cores : ℕ → Core) (t
   unmarked = ap (λ x. mark_in_frame x 2 was) (calls.holds_comp setup setting cores t stands c here a active f by LoadComp stage_is has)
 
   says_life : comp_of_word was ≡ Some life
-  says_life = subst (λ x. IsFrameWord s.limits.frames (count_room s) x (s.place f 2) (stamp setup t (PlaceOf f 2)) 2 was)
+  says_life = subst (λ x. IsFrameWord s.limits.frames x (s.place f 2) (stamp setup t (PlaceOf f 2)) 2 was)
       (calls.holds_comp setup setting cores t stands c here a active f by LoadComp stage_is has)
-      (subst (λ (n : ℕ). IsFrameWord s.limits.frames (count_room s) (s.frame f) (s.place f 2) (stamp setup t (PlaceOf f 2)) 2 n)
+      (subst (λ (n : ℕ). IsFrameWord s.limits.frames (s.frame f) (s.place f 2) (stamp setup t (PlaceOf f 2)) 2 n)
       (not_exclusive_value setup cores t stands f
       (ap may_keep (calls.holds_comp setup setting cores t stands c here a active f by LoadComp stage_is has)) 2 was)
-      (subst (λ o. IsFrameWord s.limits.frames (count_room s) (s.frame f) (s.place f 2) (stamp setup t (PlaceOf f 2)) 2
+      (subst (λ o. IsFrameWord s.limits.frames (s.frame f) (s.place f 2) (stamp setup t (PlaceOf f 2)) 2
       (settled_by o (held_by cores) (EntryAt f 2) was)) unmarked (stands.words (EntryAt f 2))))
 
   loading : OnlyLooks setup t c a.call (LoadOf (EntryAt f 2))

@@ -205,6 +205,7 @@ within_parts x y =
       some_version = omega arith;
       most_versions = omega arith;
       setup = setup_in;
+      limit = omega arith;
       lists = refl;
       calls = lists_in x;
       below = order_in y;

@@ -54,7 +54,7 @@ impl Boot for OneCore {
 impl OneCore {
     /// How many calls the core has counted, at most the setup's. Its contract also says what holds of every such machine: it has one core,
     /// core 0, which is between calls, and what it has seen is a history.
-    pub fn counted(&self) -> u32
+    pub fn counted(&self) -> u64
         ensures counted { result ≡ ((state_after self.now.kernel.setup self.now.seen).core self.now.core).counted }
         ensures one_core { self.now.kernel.setup.cores ≡ 1 }
         ensures core { self.now.core ≡ 0 }

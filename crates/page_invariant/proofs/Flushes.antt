@@ -5,7 +5,7 @@ use Rattle.count_invariant.proofs.Common.{SameFor, marks_own, word_stays, reads_
 use Rattle.count_invariant.proofs.Common.{own_settled, counts_bare, exclusive_none}
 use Rattle.count_invariant.proofs.Common.{exclusive_kept, exclusive_elsewhere, Holding, holds_counts}
 use Rattle.count_invariant.proofs.Common.{settled_by, settled, due_of, KnowsUndecided, WorksIn, CoreIs, phase_at, untypes, is_done}
-use Rattle.count_invariant.proofs.Common.{holds_at, holds_in, holds, held_by, times_of, counted_in, Invariant, WordIs, count_room}
+use Rattle.count_invariant.proofs.Common.{holds_at, holds_in, holds, held_by, times_of, counted_in, Invariant, WordIs}
 use Rattle.count_invariant.proofs.Common.{decided-inside, same_word-other, last_small, phase-own, steps_in_call-own, stamp-kept}
 use Rattle.count_invariant.proofs.Common.{flush_of-own, flush_stored-own, flush_stored-other, IsJustified, HasReached, marked_by, ends_in}
 use Rattle.count_invariant.proofs.Common.{flushes_in, begins_at, ends_at, flushes_at, stamp, clock, flush_of, flush_stored, Step, Trace}
@@ -133,12 +133,6 @@ module _ (setup : Setting) (setting : IsSetting setup) (cores : ℕ → Core) (t
       let more : (s'.core c).counted ≡ (s.core c).counted + 1 = ap (λ k. k.counted) core_now in
       omega arith
 
-  more_room : count_room s ≤ count_room s'
-  more_room =
-      subst (λ (m : ℕ). count_room s ≤ 16 + 4 * sum_below (λ d. (s'.core d).counted) m) (sym (ap (λ l. l.cores) limits))
-      (subst (λ (m : ℕ). 16 + 4 * sum_below (λ d. (s.core d).counted) m ≤ 16 + 4 * sum_below (λ d. (s'.core d).counted) m)
-      (sym (ap (λ l. l.cores) (limits_of setup t))) (let more = rises in omega arith))
-
   -- it begins and ends no grace period, and flushes
   none_begins : (x : Thing) → begins_at setup t e x ≡ false
   none_begins x = ap (λ p. begins_in (Some r) p s c x) is_open ∙ ap (λ y. begins s c y r x) call_is_flush
@@ -209,10 +203,9 @@ module _ (setup : Setting) (setting : IsSetting setup) (cores : ℕ → Core) (t
     frame = frames g;
     place = ap (λ x. x.place g i) now;
     stamp = same_stamp (PlaceOf g i);
-    room = more_room;
   }
   same_words (FrameAt g) = frames g
-  same_words (CountAt g d) = more_room
+  same_words (CountAt g d) = tt
   same_words (CoreAt d) = record { inside = decided-inside (Some r) (phase t c) s c d; exit = plain_exit t e refl d }
   same_words (FlushAt d) = same_stored d
   same_words (LiveAt l) = record { number = ap (λ x. x.number l) now; stamp = same_stamp (NumberOf l) }
@@ -338,9 +331,9 @@ module _ (setup : Setting) (setting : IsSetting setup) (cores : ℕ → Core) (t
 
   said : (w : Word) → w ≢ FlushAt c
       → SameFor (state_after setup t) (state_after setup (storing ∷ t)) (times_of setup t) (times_of setup (storing ∷ t)) w
-  said (EntryAt g i) there = record { frames = refl; frame = refl; place = refl; stamp = refl; room = omega arith }
+  said (EntryAt g i) there = record { frames = refl; frame = refl; place = refl; stamp = refl }
   said (FrameAt g) there = refl
-  said (CountAt g d) there = omega arith
+  said (CountAt g d) there = tt
   said (CoreAt d) there = record { inside = refl; exit = plain_exit t storing refl d }
   said (FlushAt d) there = flush_stored-other d storing t (λ own. there (ap FlushAt own))
   said (LiveAt l) there = record { number = refl; stamp = refl }

@@ -17,7 +17,7 @@ use Rattle.count_invariant.proofs.Common.{Carries, state_is, run_of, decided-ins
 use Rattle.count_invariant.proofs.Common.{Look, AtRoot, AtLeaf, AtEntry, Acquired, Own, Nothing, Act, WorkStep, Goes, own_changed, refuse}
 use Rattle.count_invariant.proofs.Common.{own_decided, ActiveCall, Undecided, Decided, HasRoom, landed, Core, holds_counts}
 use Rattle.count_invariant.proofs.Common.{due_of, LooksUp, KnowsUndecided, WorksIn, phase_at, untypes, holds_at, holds_in, holds, held_by}
-use Rattle.count_invariant.proofs.Common.{times_of, counted_in, Invariant, count_room, counts_bare, exclusive_none, exclusive_kept}
+use Rattle.count_invariant.proofs.Common.{times_of, counted_in, Invariant, counts_bare, exclusive_none, exclusive_kept}
 use Rattle.count_invariant.proofs.Common.{IsUntimed, plain_begins, plain_stamp, plain_flush, plain_exit, names_on, counted_refs}
 use Rattle.count_invariant.proofs.Common.{limits_of, sums_keep, SameFor, marks_own, settled_on, capability_in}
 use Rattle.kernel_laws.specs.spk_nums.specs.declared.kinds.Kind.TheVariants as kind
@@ -384,12 +384,6 @@ module _ (setup : Setting) (setting : IsSetting setup) (cores : ℕ → Core) (t
             let one : (s'.core c).counted ≡ (s.core c).counted + 1 = ap (λ k. k.counted) core_now in
             omega arith
 
-        more_room : count_room s ≤ count_room s'
-        more_room =
-            subst (λ (n : ℕ). count_room s ≤ 16 + 4 * sum_below (λ d. (s'.core d).counted) n) (sym (ap (λ l. l.cores) limits))
-            (subst (λ (n : ℕ). 16 + 4 * sum_below (λ d. (s.core d).counted) n ≤ 16 + 4 * sum_below (λ d. (s'.core d).counted) n)
-            (sym (ap (λ l. l.cores) (limits_of setup t))) (let up = rises in omega arith))
-
         same_holds : holds after ≡ holds (cores c)
         same_holds = still (Some None) ∙ ap holds_in (sym active)
 
@@ -437,10 +431,9 @@ module _ (setup : Setting) (setting : IsSetting setup) (cores : ℕ → Core) (t
           frame = frames g;
           place = ap (λ x. x.place g i) now;
           stamp = plain_stamp setup t e plain (PlaceOf g i);
-          room = more_room;
         }
         same_words (FrameAt g) = frames g
-        same_words (CountAt g d) = more_room
+        same_words (CountAt g d) = tt
         same_words (CoreAt d) = record { inside = decided-inside (Some r) (phase t c) s c d; exit = plain_exit t e refl d }
         same_words (FlushAt d) = plain_flush setup t e plain d
         same_words (LiveAt l) = record { number = ap (λ x. x.number l) now; stamp = plain_stamp setup t e plain (NumberOf l) }

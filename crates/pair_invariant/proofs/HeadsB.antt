@@ -18,7 +18,7 @@ use Rattle.kernel_laws.specs.kernel_rules.specs.CallRelation.{owed_by}
 use Rattle.count_invariant.specs.kernel_history.specs.Justified.{IsHeldUp}
 use Rattle.count_invariant.specs.stage_tcap.specs.Lists.{read_word}
 use Rattle.count_invariant.specs.stage_tcap.specs.Pairs.{at_by_mark, at_by_head, at_read, b_next, b_end, decided_by_mark, noted}
-use Rattle.count_invariant.specs.stage_tcap.specs.Pairs.{list_end, whole_b, read_b}
+use Rattle.count_invariant.specs.stage_tcap.specs.Pairs.{list_end, whole_b, read_b, grows_to, read_grows}
 use Rattle.count_invariant.specs.stage_tcap.specs.declared.pair.PairWork.TheVariants.{Transfer, Delegate, Test}
 use Rattle.count_invariant.specs.act_states.specs.declared.work.Act.TheVariants.{Share as share_act}
 use Rattle.count_invariant.specs.core_invariant.specs.Shares.{list_word, HasSeenB}
@@ -39,9 +39,9 @@ owes_share s c (call_as.Test x y) ks p is = refl
 owes_share s c call ks p is = absurd is
 
 -- What is known of A does not depend on what is known of B.
-pub marked_also : (setup : Setting) (t : Trace) (p : Pair) (n : ℕ) (h : HeadWord) (list : Option (List (ℕ × ℕ))) (at : PairAt)
-    → HasMarkedA setup t p n → HasMarkedA setup t (record p { head_b = h; list_b = list; at = at }) n
-marked_also setup t p n h list at has = record {
+pub marked_also : (setup : Setting) (t : Trace) (p : Pair) (n : ℕ) (h : HeadWord) (list : Option (List (ℕ × ℕ))) (grows : Bool)
+    (at : PairAt) → HasMarkedA setup t p n → HasMarkedA setup t (record p { head_b = h; list_b = list; grows = grows; at = at }) n
+marked_also setup t p n h list grows at has = record {
   raw = has.raw;
   fits = has.fits;
   bare = has.bare;
@@ -124,7 +124,7 @@ module _ (setup : Setting) (setting : IsSetting setup) (cores : ℕ → Core) (t
       load_goes setup setting cores t stands c here a active now_p stage_is has p.b 0
       (calls.footprint_b setup setting cores t stands c here a active now_p stage_is has)
       (record p { head_b = head budget version; at = ListB 1 }) refl refl refl refl refl (
-        marked_also setup (e ∷ t) now_p 8 (head budget version) p.list_b (ListB 1)
+        marked_also setup (e ∷ t) now_p 8 (head budget version) p.list_b p.grows (ListB 1)
             (marked_on setup t e refl now_p 8 (λ i h. refl) has.knows.knows.at.0),
         record {
           head = record {
@@ -275,55 +275,69 @@ module _ (setup : Setting) (setting : IsSetting setup) (cores : ℕ → Core) (t
           index : EntryAt p.b 0 ≡ EntryAt p.b (suc n) → 0 ≡ suc n
           index h = cc
 
-  a_next : (list : Option (List (ℕ × ℕ))) (where_at : PairAt) → HasMarkedA setup (loads ∷ t) (record p { list_b = list; at = where_at }) 8
-  a_next list where_at = marked_also setup (loads ∷ t) list_p 8 p.head_b list where_at
+  a_next : (list : Option (List (ℕ × ℕ))) (grows : Bool) (where_at : PairAt)
+      → HasMarkedA setup (loads ∷ t) (record p { list_b = list; grows = grows; at = where_at }) 8
+  a_next list grows where_at = marked_also setup (loads ∷ t) list_p 8 p.head_b list grows where_at
       (marked_on setup t loads refl list_p 8 (λ i h. refl) has.knows.knows.at.0)
 
-  goes : (list : Option (List (ℕ × ℕ))) (to : PairAt)
-      → holds_share (record p { list_b = list; at = to }) to (holds_counts None a.counts)
+  goes : (list : Option (List (ℕ × ℕ))) (grows : Bool) (to : PairAt)
+      → holds_share (record p { list_b = list; grows = grows; at = to }) to (holds_counts None a.counts)
       ≡ holds_share list_p (ListB (suc n)) (holds_counts None a.counts)
-      → KnowsPairAt setup (loads ∷ t) c (record p { list_b = list; at = to }) to
-      → GoodTook setup cores t c (LoadOf word_at) (landed a (Goes (Act (share_act (record p { list_b = list; at = to })))))
-  goes list to holds_same knows =
+      → KnowsPairAt setup (loads ∷ t) c (record p { list_b = list; grows = grows; at = to }) to
+      → GoodTook setup cores t c (LoadOf word_at) (landed a (Goes (Act (share_act (record p { list_b = list; grows = grows; at = to })))))
+  goes list grows to holds_same knows =
       load_goes setup setting cores t stands c here a active list_p stage_is has p.b (suc n)
-      (calls.footprint_b setup setting cores t stands c here a active list_p stage_is has) (record p { list_b = list; at = to })
+      (calls.footprint_b setup setting cores t stands c here a active list_p stage_is has)
+      (record p { list_b = list; grows = grows; at = to })
       refl refl refl refl holds_same knows
 
   -- the pair with both lists read, before it is judged
+  abbrev given : Option (List (ℕ × ℕ))
+  given = whole_b p.what (in_order p.list_a) (in_order next_list)
+
+  abbrev given_grows : Bool
+  given_grows = grows_to p.what given (in_order next_list)
+
   abbrev both_p : Pair
-  both_p = record p { list_b = whole_b p.what (in_order p.list_a) (in_order next_list); at = ListB (suc n) }
+  both_p = record p { list_b = given; grows = given_grows; at = ListB (suc n) }
 
   abbrev to_at : PairAt
   to_at = judged p.what both_p
 
   abbrev done_p : Pair
-  done_p = record p { list_b = whole_b p.what (in_order p.list_a) (in_order next_list); at = to_at }
+  done_p = record p { list_b = given; grows = given_grows; at = to_at }
 
   by_more : (more : Bool) → nat_lt (suc n) 8 ≡ more
       → GoodTook setup cores t c (LoadOf word_at)
       (landed a (Goes (Act (share_act (record p {
         list_b = read_b more p.what (in_order p.list_a) next_list;
-        at = b_next more (suc n) (record p { list_b = read_b more p.what (in_order p.list_a) next_list; at = ListB (suc n) });
+        grows = read_grows more p.what (in_order p.list_a) (in_order next_list) p.grows;
+        at = b_next more (suc n) (record p {
+          list_b = read_b more p.what (in_order p.list_a) next_list;
+          grows = read_grows more p.what (in_order p.list_a) (in_order next_list) p.grows;
+          at = ListB (suc n);
+        });
       })))))
   by_more true is =
       let same : suc (suc n) ≡ suc n + 1 = omega arith in
-      goes next_list (ListB (suc n + 1)) refl
+      goes next_list p.grows (ListB (suc n + 1)) refl
       (subst (λ (m : ℕ). KnowsPairAt setup (loads ∷ t) c (record p { list_b = next_list; at = ListB (suc n + 1) }) (ListB m)) same
-      (a_next next_list (ListB (suc n + 1)), record { head = head_next; seen = seen_next }))
+      (a_next next_list p.grows (ListB (suc n + 1)), record { head = head_next; seen = seen_next }))
   by_more false is =
       let past = ltb-false (suc n) 8 is in
       let all : suc n ≡ 8 = (let below = low in omega (arith, past, below)) in
       let judge : IsJudged setup (loads ∷ t) c done_p (holds_counts None a.counts) to_at =
       is_judged setup (loads ∷ t) c done_p (holds_counts None a.counts) p.what both_p in
-      goes (whole_b p.what (in_order p.list_a) (in_order next_list)) to_at judge.holds_same
+      goes given given_grows to_at judge.holds_same
       (judge.knows (record {
-        a = a_next (whole_b p.what (in_order p.list_a) (in_order next_list)) to_at;
+        a = a_next given given_grows to_at;
         read = next_list;
         b = record {
           head = head_next;
           seen = subst (λ (m : ℕ). HasSeenB setup (loads ∷ t) p.b p.head_b.version next_list m) all seen_next;
         };
         whole = refl;
+        grows = refl;
         judges = judged_same p.what both_p done_p refl refl refl refl;
       }))
 
@@ -333,11 +347,15 @@ module _ (setup : Setting) (setting : IsSetting setup) (cores : ℕ → Core) (t
   abbrev found_list : Option (List (ℕ × ℕ))
   found_list = read_b (nat_lt (suc n) 8) p.what (in_order p.list_a) next_list
 
+  abbrev found_grows : Bool
+  found_grows = read_grows (nat_lt (suc n) 8) p.what (in_order p.list_a) (in_order next_list) p.grows
+
   by_quality : (o : Option QualityWord) → quality_of_word found ≡ o
       → GoodTook setup cores t c (LoadOf word_at)
       (landed a (took_shared (record p {
         list_b = found_list;
-        at = at_read o (b_next (nat_lt (suc n) 8) (suc n) (record p { list_b = found_list; at = ListB (suc n) }));
+        grows = found_grows;
+        at = at_read o (b_next (nat_lt (suc n) 8) (suc n) (record p { list_b = found_list; grows = found_grows; at = ListB (suc n) }));
       }) (list_end o)))
   by_quality None is = absurd (false≢true (sym (ap is_some is) ∙ has.knows.knows.at.1.seen.valid n low))
   by_quality (Some v) is = by_more (nat_lt (suc n) 8) refl

@@ -1,13 +1,15 @@
 -- What a call on two temporal capabilities knows of both, where the head of the second is as it was read: their budgets and their lists.
 use Rattle.count_invariant.proofs.Common.{Want, ◌≡◌, ◌⊎◌, inl, inr, ℕ, ◌+◌, ◌<◌, ◌≤◌, ◌^◌, ◌==◌, ◌&&◌, true, false, List, [], ◌∷◌, Option}
 use Rattle.count_invariant.proofs.Common.{Some, None, refl, sym, ◌∙◌, ap, subst, false≢true, All-nil, Setting, IsSetting, Capability}
-use Rattle.count_invariant.proofs.Common.{word_of_head, head_of_word, HeadWord, spelling, EntryAt, Slot, own, Kernel, Tcap}
+use Rattle.count_invariant.proofs.Common.{arith, word_of_head, head_of_word, HeadWord, spelling, EntryAt, Slot, own, Kernel, Tcap}
 use Rattle.count_invariant.proofs.Common.{TcapFields, State, tcap_in, comp_of, InRanges, rule_of, tcap_at, events_of, HasReached, IsLegal}
 use Rattle.count_invariant.proofs.Common.{head_mark, marked_by, Step, Trace, state_after, last_left, own_left, way_to, ways, state_is}
 use Rattle.count_invariant.proofs.Common.{run_of, leads_by, LeadsIn, own_pages, same_list, Pair, Act, Undecided, ActiveCall, Core}
 use Rattle.count_invariant.proofs.Common.{holds_counts, HasFound, own_in, KnowsUndecided, list_changed, read_up, HasBoth, holds_in}
-use Rattle.count_invariant.proofs.Common.{holds_head, Invariant, HeadIs, count_room, own_kept, TcapOf}
+use Rattle.count_invariant.proofs.Common.{holds_head, Invariant, HeadIs, own_kept, TcapOf}
 use Rattle.std.proofs.Common.{IsSome, is_some}
+use Rattle.quality_lists.specs.Rank.{rank}
+use Rattle.quality_lists.proofs.Ranks.{rank_small}
 use Rattle.kernel_laws.specs.kernel_rules.specs.Ranges.{TcapInRange, FrameInRange}
 use Rattle.kernel_laws.specs.kernel_rules.specs.TimeCalls.{are_alike}
 use Rattle.kernel_laws.proofs.RangesLaw.{ranges_hold}
@@ -41,8 +43,9 @@ pub record AreRead (s : State) (p : Pair) (read : Option (List (ℕ × ℕ))) : 
   pub list_b : read ≡ Some (tcap_at s p.b).qualities
   pub budget_a : p.head_a.budget ≡ (tcap_at s p.a).budget
   pub budget_b : p.head_b.budget ≡ (tcap_at s p.b).budget
-  pub version_a : p.head_a.version ≤ count_room s
-  pub version_b : p.head_b.version ≤ count_room s
+  pub version_a : p.head_a.version ≤ rank (tcap_at s p.a).qualities
+  pub version_b : p.head_b.version ≤ rank (tcap_at s p.b).qualities
+  pub few_b : p.head_b.version + 1 < 2 ^ 28
   pub sum : (tcap_at s p.a).budget + (tcap_at s p.b).budget < 2 ^ 32
 
 module _ (setup : Setting) (setting : IsSetting setup) (cores : ℕ → Core) (t : Trace) (stands : Invariant setup cores t) (c : ℕ)
@@ -64,7 +67,7 @@ module _ (setup : Setting) (setting : IsSetting setup) (cores : ℕ → Core) (t
   same_head v u h = cc
 
   -- head A
-  says_a : HeadIs tcap_a.fields (count_room s) (Some p.head_a)
+  says_a : HeadIs tcap_a.fields (Some p.head_a)
   unfolding tcap_a
   says_a = a_says setup setting cores t stands c here a active p stage_is has 8 both.a held
 
@@ -84,8 +87,8 @@ module _ (setup : Setting) (setting : IsSetting setup) (cores : ℕ → Core) (t
     bare_b = mark_is setup setting cores t stands p.b tcap_b.fields tcap_b.is (last_left setup t (EntryAt p.b 0))
         ∙ ap head_mark shown_b ∙ both.b.head.bare
 
-    pub says_b : HeadIs tcap_b.fields (count_room s) (Some p.head_b)
-    says_b = subst (HeadIs tcap_b.fields (count_room s)) shown_b (head_says setup setting cores t stands p.b tcap_b.fields tcap_b.is bare_b)
+    pub says_b : HeadIs tcap_b.fields (Some p.head_b)
+    says_b = subst (HeadIs tcap_b.fields) shown_b (head_says setup setting cores t stands p.b tcap_b.fields tcap_b.is bare_b)
 
     now_is : both.b.seen.now ≡ p.head_b
     now_is = same_head _ _ (sym both.b.seen.shown ∙ shown_b)
@@ -113,8 +116,14 @@ module _ (setup : Setting) (setting : IsSetting setup) (cores : ℕ → Core) (t
               ∙ ap (λ x. Some (tcap_in x).qualities) (sym tcap_b.is);
           budget_a = ap (λ v. v.budget) head_a ∙ ap (λ x. (tcap_in x).budget) (sym tcap_a.is);
           budget_b = ap (λ v. v.budget) head_b ∙ ap (λ x. (tcap_in x).budget) (sym tcap_b.is);
-          version_a = subst (λ (m : ℕ). m ≤ count_room s) (sym (ap (λ v. v.version) head_a)) says_a.within;
-          version_b = subst (λ (m : ℕ). m ≤ count_room s) (sym (ap (λ v. v.version) head_b)) says_b.within;
+          version_a = subst (λ (n : ℕ). p.head_a.version ≤ n) (ap (λ x. rank (tcap_in x).qualities) (sym tcap_a.is))
+              (subst (λ (n : ℕ). n ≤ rank tcap_a.fields.qualities) (sym (ap (λ v. v.version) head_a)) says_a.within);
+          version_b = subst (λ (n : ℕ). p.head_b.version ≤ n) (ap (λ x. rank (tcap_in x).qualities) (sym tcap_b.is))
+              (subst (λ (n : ℕ). n ≤ rank tcap_b.fields.qualities) (sym (ap (λ v. v.version) head_b)) says_b.within);
+          few_b =
+              let low : p.head_b.version ≤ rank tcap_b.fields.qualities =
+              subst (λ (n : ℕ). n ≤ rank tcap_b.fields.qualities) (sym (ap (λ v. v.version) head_b)) says_b.within in
+              let small = rank_small tcap_b.fields.qualities range.pairs range.most in omega (arith, low, small);
           sum = (ranges_of setup setting t stands.legal).budgets p.a p.b
               (calls.differ setup setting cores t stands c here a active p stage_is has);
         }

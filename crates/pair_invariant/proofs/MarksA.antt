@@ -8,7 +8,7 @@ use Rattle.count_invariant.proofs.Common.{put_same, changes_in_frame, HasRacedHe
 use Rattle.count_invariant.proofs.Common.{state_after, last_left, state_decided_in, refused_first, same_word-other, last_left-here}
 use Rattle.count_invariant.proofs.Common.{was_stays, marked, amount_of, giving_back, Pair, MarkA, ListA, PairWork, Act, refuse}
 use Rattle.count_invariant.proofs.Common.{took_shared, took_share, Undecided, Decided, ActiveCall, landed, went, GoesOn, Core}
-use Rattle.count_invariant.proofs.Common.{holds_counts, settled_by, HeadIs, count_room, KnowsUndecided, list_changed, TurnsHead}
+use Rattle.count_invariant.proofs.Common.{holds_counts, settled_by, HeadIs, KnowsUndecided, list_changed, TurnsHead}
 use Rattle.count_invariant.proofs.Common.{SparesTcap, HasTcap, holds_in, holds, held_by, Invariant, as_none, counts_bare}
 use Rattle.count_invariant.proofs.Common.{names_on, counts_on, not_exclusive_head_value, not_exclusive_head_word}
 use Rattle.count_invariant.proofs.Common.{exclusive_free, TcapOf, settled, IsInFootprint}
@@ -24,7 +24,6 @@ use Rattle.count_invariant.specs.step_ways.proofs.Counting as counters
 use Rattle.count_invariant.specs.step_ways.proofs.Good.{Spared, SparesBlanks}
 use Rattle.count_invariant.specs.step_ways.proofs.Loads.{IsOfCall, core_in_call, core_is, call_is, inner}
 use Rattle.count_invariant.specs.step_ways.proofs.Refusals.{GoodTook, ticks_at, not_spent, refuses_raced}
-use Rattle.count_invariant.specs.step_ways.proofs.Writes.{room_left}
 use Rattle.pair_invariant.proofs.Marking.{decides_marking}
 use Rattle.pair_invariant.proofs.ShareCalls as calls
 use Rattle.pair_invariant.proofs.ShareCalls.{causes_of, change_by}
@@ -124,8 +123,8 @@ module _ (setup : Setting) (setting : IsSetting setup) (cores : ℕ → Core) (t
     bare : marked_by setup t at ≡ None
     bare = mark_is setup setting cores t stands p.a q tcap.is was ∙ ap head_mark shown ∙ has.knows.knows.at.0.bare
 
-    says : HeadIs q (count_room s) (Some p.head_a)
-    says = subst (HeadIs q (count_room s)) shown (head_says setup setting cores t stands p.a q tcap.is bare)
+    says : HeadIs q (Some p.head_a)
+    says = subst (HeadIs q) shown (head_says setup setting cores t stands p.a q tcap.is bare)
 
     same_head : (v u : HeadWord) → Some v ≡ Some u → v ≡ u
     same_head v u h = cc
@@ -133,12 +132,6 @@ module _ (setup : Setting) (setting : IsSetting setup) (cores : ℕ → Core) (t
     budget_is : p.head_a.budget ≡ (tcap_at s is.a.frame).budget
     budget_is = ap (λ v. v.budget) (same_head _ _ says.says) ∙ ap (λ x. (tcap_in x).budget) (sym tcap.is)
         ∙ ap (λ (f : ℕ). (tcap_at s f).budget) is.shared.first
-
-    few : p.head_a.version + 1 < 2 ^ 28
-    few =
-        let low : p.head_a.version ≤ count_room s =
-        subst (λ (m : ℕ). m ≤ count_room s) (sym (ap (λ v. v.version) (same_head _ _ says.says))) says.within in
-        let most = room_left setup setting cores t stands in omega (arith, low, most)
 
     core_is_c : p.core ≡ c
     core_is_c = has.knows.knows.core
@@ -270,7 +263,6 @@ module _ (setup : Setting) (setting : IsSetting setup) (cores : ℕ → Core) (t
             raw = last_left-here setup at e t refl ∙ leaves;
             fits = has.knows.knows.at.0.fits;
             bare = has.knows.knows.at.0.bare;
-            few = few;
             clean = clean e refl changes;
           };
         })

@@ -8,7 +8,7 @@ use Rattle.count_invariant.proofs.Common.{with_frame, thread_in, comp_in, thread
 use Rattle.count_invariant.proofs.Common.{frame_names, times, IsGuarded, tcap_at, moved, counted, frame_refs, sum_one, put_same}
 use Rattle.count_invariant.proofs.Common.{put_other, mark_in_frame, frame_value, stamp, Step, Trace, phase, state_after, last_left}
 use Rattle.count_invariant.proofs.Common.{decided-inside, ActiveCall, Core, settled, WorksIn, HasTcap, held_by, times_of, counted_in}
-use Rattle.count_invariant.proofs.Common.{Invariant, IsFrameWord, count_room, IsUntimed, plain_stamp, plain_flush, plain_exit}
+use Rattle.count_invariant.proofs.Common.{Invariant, IsFrameWord, IsUntimed, plain_stamp, plain_flush, plain_exit}
 use Rattle.count_invariant.proofs.Common.{counted_refs, limits_of, SameFor, ReadsAlike, StaysSaid, word_stays, fits}
 use Rattle.quality_lists.specs.spk_nums.specs.declared.replies.Reply.TheVariants as reply
 use Rattle.quality_lists.specs.spk_nums.specs.declared.replies.Value.TheVariants as value
@@ -147,15 +147,6 @@ module _ (setup : Setting) (setting : IsSetting setup) (cores : ℕ → Core) (t
   pub rises : counted_in setup s ≤ counted_in setup s'
   rises = let more = rises_more in omega (arith, more)
 
-  pub room_more : 1 + count_room s ≤ count_room s'
-  room_more =
-      subst (λ (n : ℕ). 1 + count_room s ≤ 16 + 4 * sum_below (λ d. (s'.core d).counted) n) (sym (ap (λ l. l.cores) limits))
-      (subst (λ (n : ℕ). 1 + (16 + 4 * sum_below (λ d. (s.core d).counted) n) ≤ 16 + 4 * sum_below (λ d. (s'.core d).counted) n)
-      (sym (ap (λ l. l.cores) (limits_of setup t))) (let more = rises_more in omega (arith, more)))
-
-  room_grows : count_room s ≤ count_room s'
-  room_grows = let more = room_more in omega (arith, more)
-
   whose : thread_of s' c ≡ thread_of s c
   whose = still_so _ thread_in (λ y z. refl) (s'.core c).thread ∙ ap (λ k. thread_in (s.frame k.thread)) core_now
 
@@ -202,18 +193,18 @@ module _ (setup : Setting) (setting : IsSetting setup) (cores : ℕ → Core) (t
   SayAlike y z i = (j : ℕ) → i ≡ suc j → j < 8 → slice_get z.qualities j ≡ slice_get y.qualities j
 
   list_stays : (y z : TcapFields) (h i x : ℕ) → i ≢ 0 → SayAlike y z i
-      → IsFrameWord s.limits.frames (count_room s) (Kernel (Tcap y)) (s.place h i) (stamp setup t (PlaceOf h i)) i x
-      → IsFrameWord s'.limits.frames (count_room s') (Kernel (Tcap z)) (s'.place h i) (stamp setup (e ∷ t) (PlaceOf h i)) i x
+      → IsFrameWord s.limits.frames (Kernel (Tcap y)) (s.place h i) (stamp setup t (PlaceOf h i)) i x
+      → IsFrameWord s'.limits.frames (Kernel (Tcap z)) (s'.place h i) (stamp setup (e ∷ t) (PlaceOf h i)) i x
   list_stays y z h zero x some same before = absurd (some refl)
   list_stays y z h (suc j) x some same before = λ low. before low ∙ ap (λ o. Some (record { 0 = o })) (sym (same j refl low))
 
   entry_stays : (h : ℕ) (y z : TcapFields) → s.frame h ≡ Kernel (Tcap y) → s'.frame h ≡ Kernel (Tcap z) → (i : ℕ) → i ≢ 0 → SayAlike y z i
       → StaysSaid setup cores t e (EntryAt h i)
   entry_stays h y z before now_is i some same said_before =
-      subst (λ x. IsFrameWord s'.limits.frames (count_room s') x (s'.place h i) (stamp setup (e ∷ t) (PlaceOf h i)) i
+      subst (λ x. IsFrameWord s'.limits.frames x (s'.place h i) (stamp setup (e ∷ t) (PlaceOf h i)) i
       (settled setup (held_by cores) t (EntryAt h i))) (sym now_is)
       (list_stays y z h i (settled setup (held_by cores) t (EntryAt h i)) some same
-      (subst (λ x. IsFrameWord s.limits.frames (count_room s) x (s.place h i) (stamp setup t (PlaceOf h i)) i
+      (subst (λ x. IsFrameWord s.limits.frames x (s.place h i) (stamp setup t (PlaceOf h i)) i
       (settled setup (held_by cores) t (EntryAt h i))) before said_before))
 
   -- the first keeps its list, and so does the second where its word says the same
@@ -235,12 +226,11 @@ module _ (setup : Setting) (setting : IsSetting setup) (cores : ℕ → Core) (t
         frame = frame_there h away;
         place = ap (λ x. x.place h i) is.now;
         stamp = plain_stamp setup t e is.plain (PlaceOf h i);
-        room = room_grows;
       })
     ]
   ]
   stays lists (FrameAt h) first second same = λ before. before ∙ sym (ap (λ v. Some v) (still_so _ frame_value (λ y z. refl) h))
-  stays lists (CountAt h d) first second same = said (CountAt h d) room_grows
+  stays lists (CountAt h d) first second same = said (CountAt h d) tt
   stays lists (CoreAt d) first second same = said (CoreAt d) (record {
     inside = decided-inside (Some (reply.Ok value.Nothing)) (phase t c) s c d;
     exit = plain_exit t e refl d;

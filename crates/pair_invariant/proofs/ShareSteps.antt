@@ -9,7 +9,7 @@ use Rattle.count_invariant.proofs.Common.{IsAlone, IsInFootprint, is_one_of, foo
 use Rattle.count_invariant.proofs.Common.{mark_of, mark_in_frame, head_mark, marked_by, stamp, Step, Trace, Open, phase, state_after}
 use Rattle.count_invariant.proofs.Common.{last_left, state_decided_in, WasAt, was_stays, marked, Pair, StoreA, PairWork, Acquired, Act}
 use Rattle.count_invariant.proofs.Common.{Goes, Undecided, Decided, ActiveCall, landed, Core, holds_counts, settled_by, settled, HeadIs}
-use Rattle.count_invariant.proofs.Common.{IsFrameWord, count_room, due_of, KnowsUndecided, phase_at, HasTcap, HasMarkedA, SharesBy}
+use Rattle.count_invariant.proofs.Common.{IsFrameWord, due_of, KnowsUndecided, phase_at, HasTcap, HasMarkedA, SharesBy}
 use Rattle.count_invariant.proofs.Common.{KnowsPairAt, KnowsShared, holds_share, holds_in, held_by, Invariant}
 use Rattle.count_invariant.proofs.Common.{names_on, counted_refs, not_exclusive_head_value, marked_on, done_by, holds_head, holds_shared}
 use Rattle.count_invariant.proofs.Common.{KnowsStoresAt, list_changed}
@@ -22,7 +22,6 @@ use Rattle.count_invariant.specs.core_invariant.proofs.ActBares.{open_bare}
 use Rattle.count_invariant.specs.kept_facts.proofs.Exclusive.{not_exclusive_list_value}
 use Rattle.count_invariant.specs.step_ways.proofs.Loads.{OnlyLooks, Lands, step_to, next_at, core_in_call, inner, loads_on, decides_with}
 use Rattle.count_invariant.specs.step_ways.proofs.Refusals.{GoodTook}
-use Rattle.count_invariant.specs.step_ways.proofs.Writes.{room_left}
 use Rattle.pair_invariant.proofs.ShareCalls as calls
 use Rattle.count_invariant.specs.step_ways.proofs.Good.{IsGood}
 
@@ -68,22 +67,22 @@ module _ (setup : Setting) (setting : IsSetting setup) (cores : ℕ → Core) (t
     mark_is x = ap (λ y. mark_in_frame y 0 x) is
 
     -- the head of one that no core has marked
-    pub head_says : marked_by setup t (EntryAt f 0) ≡ None → HeadIs q (count_room s) (head_of_word (last_left setup t (EntryAt f 0)))
+    pub head_says : marked_by setup t (EntryAt f 0) ≡ None → HeadIs q (head_of_word (last_left setup t (EntryAt f 0)))
     head_says bare =
-        subst (λ (n : ℕ). HeadIs q (count_room s) (head_of_word n))
+        subst (λ (n : ℕ). HeadIs q (head_of_word n))
         (not_exclusive_head_value setup cores t stands f q is (last_left setup t (EntryAt f 0)))
-        (subst (λ o. HeadIs q (count_room s)
+        (subst (λ o. HeadIs q
         (head_of_word (settled_by o (held_by cores) (EntryAt f 0) (last_left setup t (EntryAt f 0))))) bare
-        (subst (λ x. IsFrameWord s.limits.frames (count_room s) x (s.place f 0) (stamp setup t (PlaceOf f 0)) 0
+        (subst (λ x. IsFrameWord s.limits.frames x (s.place f 0) (stamp setup t (PlaceOf f 0)) 0
         (settled setup (held_by cores) t (EntryAt f 0))) is (stands.words (EntryAt f 0))))
 
     -- that of one that core d has marked stands for a head
     pub marked_says : (d : ℕ) → marked_by setup t (EntryAt f 0) ≡ Some d
-        → HeadIs q (count_room s) (head_of_word ((held_by cores d).stands (EntryAt f 0)))
+        → HeadIs q (head_of_word ((held_by cores d).stands (EntryAt f 0)))
     marked_says d mark =
-        subst (λ o. HeadIs q (count_room s)
+        subst (λ o. HeadIs q
         (head_of_word (settled_by o (held_by cores) (EntryAt f 0) (last_left setup t (EntryAt f 0))))) mark
-        (subst (λ x. IsFrameWord s.limits.frames (count_room s) x (s.place f 0) (stamp setup t (PlaceOf f 0)) 0
+        (subst (λ x. IsFrameWord s.limits.frames x (s.place f 0) (stamp setup t (PlaceOf f 0)) 0
         (settled setup (held_by cores) t (EntryAt f 0))) is (stands.words (EntryAt f 0)))
 
     -- the words of its list
@@ -101,7 +100,7 @@ module _ (setup : Setting) (setting : IsSetting setup) (cores : ℕ → Core) (t
         (λ d some mark. marker d mark))
         (subst (λ o. quality_of_word (settled_by o (held_by cores) (EntryAt f (suc j)) (last_left setup t (EntryAt f (suc j))))
         ≡ Some (record { 0 = slice_get q.qualities j })) (list_bare j (last_left setup t (EntryAt f (suc j))))
-        (subst (λ x. IsFrameWord s.limits.frames (count_room s) x (s.place f (suc j)) (stamp setup t (PlaceOf f (suc j))) (suc j)
+        (subst (λ x. IsFrameWord s.limits.frames x (s.place f (suc j)) (stamp setup t (PlaceOf f (suc j))) (suc j)
         (settled setup (held_by cores) t (EntryAt f (suc j)))) is (stands.words (EntryAt f (suc j))) low))
 
     -- so no core has that
@@ -176,8 +175,8 @@ module _ (setup : Setting) (setting : IsSetting setup) (cores : ℕ → Core) (t
     fields_a = (calls.tcap_a setup setting cores t stands c here a active p stage_is has).fields
 
     -- the head that it was found with is A's
-    pub a_says : HeadIs fields_a (count_room before) (Some p.head_a)
-    a_says = subst (HeadIs fields_a (count_room before))
+    pub a_says : HeadIs fields_a (Some p.head_a)
+    a_says = subst (HeadIs fields_a)
         (ap head_of_word stands_it ∙ spelling.reads p.head_a marked_a.fits)
         (marked_says setup setting cores t stands p.a fields_a
         (calls.tcap_a setup setting cores t stands c here a active p stage_is has).is c own_mark)
@@ -200,12 +199,6 @@ module _ (setup : Setting) (setting : IsSetting setup) (cores : ℕ → Core) (t
     pub budget_a : p.head_a.budget ≡ fields_a.budget
     budget_a = ap (λ v. v.budget) (same_head _ _ a_says.says)
 
-    pub version_a : p.head_a.version ≤ count_room before
-    version_a = subst (λ (m : ℕ). m ≤ count_room before) (sym (ap (λ v. v.version) (same_head _ _ a_says.says))) a_says.within
-
-    pub few_a : p.head_a.version + 1 < 2 ^ 28
-    few_a = let low = version_a in let most = room_left setup setting cores t stands in omega (arith, low, most)
-
     -- where the call is decided by a step that leaves A's words, the head of A is still to be stored
     pub stores_a : (e : Step) → e.core ≡ c → e.enters ≡ None → e.found ≡ last_left setup t (word_of e.move)
         → ((i : ℕ) → EntryAt p.a i ≡ word_of e.move → left_of e.move e.found ≡ e.found)
@@ -226,7 +219,6 @@ module _ (setup : Setting) (setting : IsSetting setup) (cores : ℕ → Core) (t
                 ∙ ap (λ (b : ℕ). word_of_head (marked b p.head_a)) (sym core) ∙ ap (λ h. word_of_head (marked q.core h)) (sym head);
             fits = subst HeadFits (sym head) marked_a.fits;
             bare = ap (λ h. h.mark) head ∙ marked_a.bare;
-            few = subst (λ (h : HeadWord). h.version + 1 < 2 ^ 28) (sym head) few_a;
             clean = ap (list_changed (e ∷ t)) first ∙ on.clean;
           });
         }

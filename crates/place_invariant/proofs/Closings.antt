@@ -10,7 +10,7 @@ use Rattle.count_invariant.proofs.Common.{State, put, Slot, rule_of, is_node, pu
 use Rattle.count_invariant.proofs.Common.{wide_ways, target_of, is_slot_in, IsSlot, entry_mark, marked_by, stamp, same_word-other, GoesBy}
 use Rattle.count_invariant.proofs.Common.{own_pages, Leads, LeadsIn, AtCompare, AtDraw, AtStore, Acquired, Act, Nothing, Quiesce}
 use Rattle.count_invariant.proofs.Common.{Undecided, Decided, ActiveCall, StageFits, HasRoom, GoesOn, landed, went, went_with, Core}
-use Rattle.count_invariant.proofs.Common.{Holding, holds_counts, settled_by, settled, PlaceIs, count_room, KnowsUndecided, phase_at}
+use Rattle.count_invariant.proofs.Common.{Holding, holds_counts, settled_by, settled, PlaceIs, KnowsUndecided, phase_at}
 use Rattle.count_invariant.proofs.Common.{done_by, holds_at, holds_in, holds, held_by, times_of, Invariant, names_on, slot_relies}
 use Rattle.count_invariant.proofs.Common.{counts_on, WordIs}
 use Rattle.count_invariant.specs.kept_facts.proofs.Exclusive.{not_exclusive_after}
@@ -250,7 +250,7 @@ module _ (setup : Setting) (setting : IsSetting setup) (cores : ℕ → Core) (t
 
     says : IsSpelled stored
     says = spelled s.limits.frames (s.place node index) (stamp setup t (PlaceOf node index)) stored
-        (node_says s.limits.frames (count_room s) (s.frame node) (s.place node index)
+        (node_says s.limits.frames (s.frame node) (s.place node index)
         (stamp setup t (PlaceOf node index)) index stored has.relies.node
         entry_fits.1
         (subst (λ (n : ℕ). WordIs s (times_of setup t) at n) settles (stands.words at)))

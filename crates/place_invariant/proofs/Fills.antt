@@ -19,9 +19,9 @@ use Rattle.count_invariant.proofs.Common.{wide_ways, target_of, changes_places, 
 use Rattle.count_invariant.proofs.Common.{ok_first, entry_mark, mark_in_frame, mark_of, marked_by, ends_in, flushes_in, stamp}
 use Rattle.count_invariant.proofs.Common.{CapNames, Plan, of_kind, plan_for, GoesBy, own_pages, calls_go, leads_by, outcome_left}
 use Rattle.count_invariant.proofs.Common.{rule_after, names_after, Leads, LeadsIn, NextName, NextFree, next_of, Act, Undecided, Decided}
-use Rattle.count_invariant.proofs.Common.{ActiveCall, put_by, reads_of, page_cap, named_by, times, refs, reads_alike, room_grows, IsCalm}
-use Rattle.count_invariant.proofs.Common.{IsUntimed, plain_stamp, limits_of, holds_counts, IsWithin, landed, Core, StageFits, HasRoom}
-use Rattle.count_invariant.proofs.Common.{PlaceIs, IsFrameWord, WordIs, count_room, HasFound, ReadIs, MayFill, KnowsUndecided, own_in}
+use Rattle.count_invariant.proofs.Common.{ActiveCall, put_by, reads_of, page_cap, named_by, times, refs, reads_alike, IsCalm}
+use Rattle.count_invariant.proofs.Common.{IsUntimed, plain_stamp, limits_of, holds_counts, landed, Core, StageFits, HasRoom}
+use Rattle.count_invariant.proofs.Common.{PlaceIs, IsFrameWord, WordIs, HasFound, ReadIs, MayFill, KnowsUndecided, own_in}
 use Rattle.count_invariant.proofs.Common.{phase_at, holds_at, holds_in, holds, times_of, Invariant, own_kept, slot_relies}
 use Rattle.count_invariant.specs.step_ways.proofs.Good.{spares_node}
 use Rattle.kernel_laws.specs.spk_nums.specs.declared.kinds.Kind.TheVariants as kind
@@ -96,13 +96,13 @@ free_place n (Removed k) r o is free = absurd (not_free r (sym is.says ∙ free)
     not_free r h = cc
 
 -- The word of a place of a node.
-pub node_word : (n m : ℕ) (x : Frame) (p : Place) (r i v : ℕ) → IsTrue (is_node x) → PlaceIs n p r (entry_of_word v)
-    → IsFrameWord n m x p r i v
-node_word n m (Kernel Table) p r i v node h = λ below. h
-node_word n m (Kernel Leaf) p r i v node h = λ below. h
-node_word n m (Kernel Pages) p r i v node h = λ below. h
-node_word n m (Kernel Pleaf) p r i v node h = λ below. h
-node_word n m _ p r i v node h = absurd (false≢true node)
+pub node_word : (n : ℕ) (x : Frame) (p : Place) (r i v : ℕ) → IsTrue (is_node x) → PlaceIs n p r (entry_of_word v)
+    → IsFrameWord n x p r i v
+node_word n (Kernel Table) p r i v node h = λ below. h
+node_word n (Kernel Leaf) p r i v node h = λ below. h
+node_word n (Kernel Pages) p r i v node h = λ below. h
+node_word n (Kernel Pleaf) p r i v node h = λ below. h
+node_word n _ p r i v node h = absurd (false≢true node)
 
 -- A call that changes places changes those of nodes.
 pub changes_node : (call : Call) (x : Frame) → changes_places call ≡ true → IsTrue (is_node x) → IsTrue (changes_in_frame call x)
@@ -295,8 +295,7 @@ module _ (setup : Setting) (setting : IsSetting setup) (cores : ℕ → Core) (t
     new_says = spelling.reads (Held k) fits
 
     word_now : WordIs (state_after setup (e ∷ t)) (times_of setup (e ∷ t)) (EntryAt node index) new
-    word_now = node_word (state_after setup (e ∷ t)).limits.frames
-        (count_room (state_after setup (e ∷ t))) ((state_after setup (e ∷ t)).frame node)
+    word_now = node_word (state_after setup (e ∷ t)).limits.frames ((state_after setup (e ∷ t)).frame node)
         ((state_after setup (e ∷ t)).place node index)
         (stamp setup (e ∷ t) (PlaceOf node index)) index new
         (subst (λ x. IsTrue (is_node x)) (sym (calm.frame node)) in_node)
@@ -362,10 +361,7 @@ module _ (setup : Setting) (setting : IsSetting setup) (cores : ℕ → Core) (t
         let same = counts in
         omega arith
 
-    one_small : IsWithin (pos 1) 1
-    one_small = omega arith
-
-    none_small : 0 < 2 ^ 28
+    none_small : 0 < 2 ^ 43
     none_small = omega arith
 
     max_zero : (n : ℕ) → n ≡ max n 0
@@ -398,11 +394,10 @@ module _ (setup : Setting) (setting : IsSetting setup) (cores : ℕ → Core) (t
         of_call lands opens refl refl (not_exclusive_word setup cores t stands node index (node_keeps_none (s.frame node) in_node))
         calm plain (spares_node setup t e node index refl in_node) counts elsewhere
         (subst (WordIs (state_after setup (e ∷ t)) (times_of setup (e ∷ t)) (EntryAt node index)) (sym leaves) word_now)
-        held_is (λ w own. counts_commit setup setting cores t stands c here a active (pos 1) one_small None none_small
+        held_is (λ w own. counts_commit setup setting cores t stands c here a active (pos 1) None none_small
         (named_by k.kind k.frame) few has.knows.all compare
-        (reply.Ok Nothing) after still before_count (λ f d. refl) (reads_alike setup t e calm.frame) unmarked.mark bare_now no_count
-        (room_grows s (state_after setup (e ∷ t)) c calm core_below one_more) w (own_marked w own))
-        (counts_sum setup setting cores t stands c here a active (pos 1) one_small None none_small (named_by k.kind k.frame) few
+        (reply.Ok Nothing) after still before_count (λ f d. refl) (reads_alike setup t e calm.frame) unmarked.mark bare_now no_count w (own_marked w own))
+        (counts_sum setup setting cores t stands c here a active (pos 1) None none_small (named_by k.kind k.frame) few
         has.knows.all compare
         (reply.Ok Nothing) after still before_count (λ f d. refl) (reads_alike setup t e calm.frame) unmarked.mark bare_now no_count
         (ap (λ l. l.cores) calm.limits)

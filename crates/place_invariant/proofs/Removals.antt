@@ -18,9 +18,9 @@ use Rattle.count_invariant.proofs.Common.{stamp-kept, flush_stored-own, flush_st
 use Rattle.count_invariant.proofs.Common.{drawn_stamp, Plan, of_kind, plan_for, GoesBy, own_pages, rule_after, names_after, Leads}
 use Rattle.count_invariant.proofs.Common.{LeadsIn, NextName, NextHeld, next_of, leads_by, outcome_left, later, Act, Nothing, Quiesce}
 use Rattle.count_invariant.proofs.Common.{Undecided, Decided, ActiveCall, removes_by, StageFits, HasRoom, GoesOn, landed, went_with, Core}
-use Rattle.count_invariant.proofs.Common.{IsWithin, Holding, holds_counts, settled_by, settled, PlaceIs, WordIs, count_room, HasFound}
+use Rattle.count_invariant.proofs.Common.{Holding, holds_counts, settled_by, settled, PlaceIs, WordIs, HasFound}
 use Rattle.count_invariant.proofs.Common.{KnowsUndecided, own_in, phase_at, holds_at, holds_in, holds, held_by, times_of, Invariant}
-use Rattle.count_invariant.proofs.Common.{IsCalm, plain_exit, room_grows, own_kept, slot_relies, limits_of, SameFor, ReadsAlike}
+use Rattle.count_invariant.proofs.Common.{IsCalm, plain_exit, own_kept, slot_relies, limits_of, SameFor, ReadsAlike}
 use Rattle.count_invariant.proofs.Common.{reads_alike, StaysSaid, word_stays, Stage}
 use Rattle.std.proofs.Math.IntN.{pos-+ℤ-pos, +ℤ_assoc, +ℤ_invr, +ℤ_idr}
 use Rattle.kernel_laws.specs.spk_nums.specs.declared.kinds.Kind.TheVariants as kind
@@ -42,7 +42,7 @@ use Rattle.count_invariant.specs.act_states.specs.declared.work.WorkStep.TheVari
 use Rattle.count_invariant.specs.act_states.specs.Acts.{took_close, cap_dues}
 use Rattle.count_invariant.specs.act_fits.proofs.DuesFit.{cap_one}
 use Rattle.count_invariant.specs.core_invariant.specs.Knows.{KnowsStore}
-use Rattle.count_invariant.specs.kept_facts.proofs.Calm.{calm_core, room_rises, counted_grows}
+use Rattle.count_invariant.specs.kept_facts.proofs.Calm.{calm_core, counted_grows}
 use Rattle.count_invariant.specs.kept_facts.proofs.CountSums.{removed_refs}
 use Rattle.count_invariant.specs.step_ways.proofs.Draws as drawing
 use Rattle.count_invariant.specs.step_ways.proofs.Loads.{call_is, inner_works, is_active}
@@ -238,7 +238,7 @@ module _ (setup : Setting) (setting : IsSetting setup) (cores : ℕ → Core) (t
   held_cap : s.place node index ≡ Holds cap
   held_cap = holds_place s.limits.frames (s.place node index) (stamp setup t (PlaceOf node index))
       (entry_of_word (word_of_entry (entry.Held cap))) cap
-      (node_says s.limits.frames (count_room s) (s.frame node) (s.place node index) (stamp setup t (PlaceOf node index)) index
+      (node_says s.limits.frames (s.frame node) (s.place node index) (stamp setup t (PlaceOf node index)) index
       (word_of_entry (entry.Held cap)) relies.node fits.0.1
       (subst (WordIs s (times_of setup t) at) stood_for (stands.words at)))
       (spelling.reads (entry.Held cap) has.knows.knows.fits)
@@ -334,7 +334,6 @@ module _ (setup : Setting) (setting : IsSetting setup) (cores : ℕ → Core) (t
         frame = calm.frame g;
         place = there g i other;
         stamp = stamp_stays (PlaceOf g i) (apart_place g i other);
-        room = room_rises s s' c calm;
       }
     ]
 
@@ -347,7 +346,7 @@ module _ (setup : Setting) (setting : IsSetting setup) (cores : ℕ → Core) (t
     same : (w : Word) → w ≢ ClockAt → marked_by setup t w ≢ Some c → SameFor s s' (times_of setup t) (times_of setup (e ∷ t)) w
     same (EntryAt g i) no_clock bare = same_entry g i bare
     same (FrameAt f) no_clock bare = calm.frame f
-    same (CountAt f d) no_clock bare = room_rises s s' c calm
+    same (CountAt f d) no_clock bare = tt
     same (CoreAt d) no_clock bare = record { inside = decided-inside (Some r) (phase t c) s c d; exit = plain_exit t e refl d }
     same (FlushAt d) no_clock bare = stored_same d
     same (LiveAt l) no_clock bare = record { number = calm.number l; stamp = stamp_stays (NumberOf l) (no_number l fs) }
@@ -358,14 +357,14 @@ module _ (setup : Setting) (setting : IsSetting setup) (cores : ℕ → Core) (t
         (same w no_clock bare)
 
     -- the entry stands for the quiescing one
-    small : x < 2 ^ 28
+    small : x < 2 ^ 43
     small = clock_small setup setting cores t stands
 
     stored_fits : EntryFits (entry.Quiescing now_at)
     stored_fits = let low = small in let is = drawn_is in omega arith
 
     entry_now : WordIs s' (times_of setup (e ∷ t)) at (word_of_entry (entry.Quiescing now_at))
-    entry_now = node_word s'.limits.frames (count_room s') (s'.frame node)
+    entry_now = node_word s'.limits.frames (s'.frame node)
         (s'.place node index) (stamp setup (e ∷ t) (PlaceOf node index)) index
         (word_of_entry (entry.Quiescing now_at))
         (subst (λ y. IsTrue (is_node y)) (sym (calm.frame node)) relies.node)
@@ -394,10 +393,7 @@ module _ (setup : Setting) (setting : IsSetting setup) (cores : ℕ → Core) (t
     falls : (f : ℕ) → refs s' f + times f fs ≡ refs s f
     falls f = ap (λ y. refs y f + times f fs) now ∙ removed_refs s c node index cap graces node_below fits.0.1 held_cap f
 
-    one_small : IsWithin (negsuc 0) 1
-    one_small = omega arith
-
-    drawn_small : later 0 (Some now_at) < 2 ^ 28
+    drawn_small : later 0 (Some now_at) < 2 ^ 43
     drawn_small = let low = small in let is = drawn_is in omega arith
 
     no_count : (f d : ℕ) → CountAt f d ≢ ClockAt
@@ -422,9 +418,9 @@ module _ (setup : Setting) (setting : IsSetting setup) (cores : ℕ → Core) (t
         latest y past = let is = drawn_is in omega arith
 
     commits : (w : Word) → (counts None).marks w ≡ true → WordIs s' (times_of setup (e ∷ t)) w ((counts (Some (Some now_at))).stands w)
-    commits = counts_commit setup setting cores t stands c here a active (negsuc 0) one_small (Some now_at) drawn_small fs few
+    commits = counts_commit setup setting cores t stands c here a active (negsuc 0) (Some now_at) drawn_small fs few
         has.knows.all (AddOf ClockAt 1) r after still
-        (λ f d. before (CountAt f d)) (λ f d. refl) alike refl refl no_count (room_grows s s' c calm core_below one_more)
+        (λ f d. before (CountAt f d)) (λ f d. refl) alike refl refl no_count
 
     held_now : (w : Word) → marked_by setup t w ≡ Some c → WordIs s' (times_of setup (e ∷ t)) w ((holds after).stands w)
     held_now w mark = elim (cases_word w at) [
@@ -498,7 +494,7 @@ module _ (setup : Setting) (setting : IsSetting setup) (cores : ℕ → Core) (t
         (counted_grows setup s s' c calm here one_more)
         (inner_works setup setting cores t stands c here a active (AddOf ClockAt 1) (Some r) None made calm counts_are)
         no_flush stays held_now
-        (counts_sum setup setting cores t stands c here a active (negsuc 0) one_small (Some now_at) drawn_small fs few has.knows.all
+        (counts_sum setup setting cores t stands c here a active (negsuc 0) (Some now_at) drawn_small fs few has.knows.all
         (AddOf ClockAt 1) r after still
         (λ f d. before (CountAt f d)) (λ f d. refl) alike refl refl no_count (ap (λ l. l.cores) calm.limits) kept changes)
         (record { call = a.call; is_open = is_open; permitted = permitted; justified = gone })

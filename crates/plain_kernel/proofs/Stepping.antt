@@ -1,5 +1,5 @@
 -- A call made whole: from the kernel's own state to every reached state that it represents.
-use Rattle.std.proofs.Common.{◌≡◌, ◌≢◌, ℕ, ◌+◌, ◌<◌, ◌≤◌, ◌==◌, Bool, true, false, refl, sym}
+use Rattle.std.proofs.Common.{◌≡◌, ◌≢◌, ℕ, ◌+◌, ◌-◌, ◌^◌, ◌<◌, ◌≤◌, ◌==◌, Bool, true, false, refl, sym}
 use Rattle.std.proofs.Common.{◌∙◌, ap, subst, arith, nat_le, if◌then◌else◌, List, ◌∷◌, IsTrue}
 use Rattle.std.proofs.lemmas.Bool.{eq-eqb, leb-false}
 use Rattle.spk_nums.specs.Setting.{Setting, IsSetting}
@@ -189,7 +189,7 @@ module _ (setting : Setting) (lim : IsSetting setting) (events : List Event) (ru
   -- A call that its core may not make is answered so, counted and returned from.
   pub dead_here : (k k1 k3 : Maps) → Represents k (after setting events) → Represents k1 (entered (state_of k) c)
       → false ≡ are_calls_spent (state_of k1) c → false ≡ acts (state_of k1) c call
-      → (c < (state_of k1).limits.cores → ((state_of k1).core c).counted < 4194304 → Represents k3 (returned (counted (state_of k1) c) c))
+      → (c < (state_of k1).limits.cores → ((state_of k1).core c).counted < 2 ^ 40 - 1 → Represents k3 (returned (counted (state_of k1) c) c))
       → Made (after setting events) c call reply.Dead k3
   dead_here k k1 k3 e is some dead finishes =
       let s = entered (after setting events) c in
@@ -205,13 +205,13 @@ module _ (setting : Setting) (lim : IsSetting setting) (events : List Event) (ru
       let range = (ranges_hold setting lim (Decides c call (alone s c call) ∷ Enters c call ∷ events) decided).cores c
       (subst (λ (l : Limits). c < l.cores) (sym (limits_stay setting (Decides c call (alone s c call) ∷ Enters c call ∷ events)))
       below) in
-      let most : ((counted s c).core c).counted ≤ 4194304 =
-      subst (λ x. (x.core c).counted ≤ 4194304) left
-      (le_then _ _ _ range.counted (subst (λ (l : Limits). l.calls ≤ 4194304)
+      let most : ((counted s c).core c).counted ≤ 2 ^ 40 - 1 =
+      subst (λ x. (x.core c).counted ≤ 2 ^ 40 - 1) left
+      (le_then _ _ _ range.counted (subst (λ (l : Limits). l.calls ≤ 2 ^ 40 - 1)
       (sym (limits_stay setting (Decides c call (alone s c call) ∷ Enters c call ∷ events))) lim.most_calls)) in
-      let few : (s.core c).counted < 4194304 = one_less _ (put_here s.core c) most in
+      let few : (s.core c).counted < 2 ^ 40 - 1 = one_less _ (put_here s.core c) most in
       let core_here : c < (state_of k1).limits.cores = subst (λ (l : Limits). c < l.cores) (sym here.limits) core_in in
-      let few_here : ((state_of k1).core c).counted < 4194304 = subst (λ (k : Core). k.counted < 4194304) (sym (here.core c core_in)) few in
+      let few_here : ((state_of k1).core c).counted < 2 ^ 40 - 1 = subst (λ (k : Core). k.counted < 2 ^ 40 - 1) (sym (here.core c core_in)) few in
       record {
         reply = replied;
         state = subst (λ x. SameState (state_of k3) (returned x c)) (sym left)
@@ -223,7 +223,7 @@ module _ (setting : Setting) (lim : IsSetting setting) (events : List Event) (ru
   pub made_here : (k k1 k2 k3 : Maps) (r : Reply) → Represents k (after setting events) → Represents k1 (entered (state_of k) c)
       → false ≡ are_calls_spent (state_of k1) c → true ≡ acts (state_of k1) c call
       → (IsInRange (state_of k1) c call → IsCarriedOut (state_of k1) (change_of (state_of k1) c call) r k2)
-      → (c < (state_of k2).limits.cores → ((state_of k2).core c).counted < 4194304 → Represents k3 (returned (counted (state_of k2) c) c))
+      → (c < (state_of k2).limits.cores → ((state_of k2).core c).counted < 2 ^ 40 - 1 → Represents k3 (returned (counted (state_of k2) c) c))
       → Made (after setting events) c call r k3
   made_here k k1 k2 k3 r e is some lives decides finishes =
       let s = entered (after setting events) c in
@@ -243,16 +243,16 @@ module _ (setting : Setting) (lim : IsSetting setting) (events : List Event) (ru
       let range = (ranges_hold setting lim (Decides c call (alone s c call) ∷ Enters c call ∷ events) decided).cores c
       (subst (λ (l : Limits). c < l.cores) (sym (limits_stay setting (Decides c call (alone s c call) ∷ Enters c call ∷ events)))
       below) in
-      let most : ((counted (changed s j) c).core c).counted ≤ 4194304 =
-      subst (λ x. (x.core c).counted ≤ 4194304) left
-      (le_then _ _ _ range.counted (subst (λ (l : Limits). l.calls ≤ 4194304)
+      let most : ((counted (changed s j) c).core c).counted ≤ 2 ^ 40 - 1 =
+      subst (λ x. (x.core c).counted ≤ 2 ^ 40 - 1) left
+      (le_then _ _ _ range.counted (subst (λ (l : Limits). l.calls ≤ 2 ^ 40 - 1)
       (sym (limits_stay setting (Decides c call (alone s c call) ∷ Enters c call ∷ events))) lim.most_calls)) in
-      let few : ((changed s j).core c).counted < 4194304 = one_less _ (put_here (changed s j).core c) most in
+      let few : ((changed s j).core c).counted < 2 ^ 40 - 1 = one_less _ (put_here (changed s j).core c) most in
       let limits : (changed s j).limits ≡ s.limits = changed_limits s j
       (limits_of s j (outcome_all (Waits s) s c (rule_of s c call) (rule_waits s c call))) in
       let core_there : c < (changed s j).limits.cores = subst (λ (l : Limits). c < l.cores) (sym limits) core_in in
       let core_here : c < (state_of k2).limits.cores = subst (λ (l : Limits). c < l.cores) (sym done.state.limits) core_there in
-      let few_here : ((state_of k2).core c).counted < 4194304 = subst (λ (k : Core). k.counted < 4194304)
+      let few_here : ((state_of k2).core c).counted < 2 ^ 40 - 1 = subst (λ (k : Core). k.counted < 2 ^ 40 - 1)
       (sym (done.state.core c core_there)) few in
       record {
         reply = replied;

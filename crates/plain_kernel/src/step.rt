@@ -1,6 +1,6 @@
 //! One call, entered, decided and returned from.
 
-ghost use Rattle.std.specs.Prelude.{◌≡◌, ◌<◌, ◌≤◌, IsOk, IfOk};
+ghost use Rattle.std.specs.Prelude.{◌≡◌, ◌<◌, ◌≤◌, ◌-◌, ◌^◌, IsOk, IfOk};
 ghost use Rattle.spk_nums.specs.CallLimits.{InLimits};
 ghost use Rattle.kernel_rules.specs.GracePeriods.{returned};
 ghost use Rattle.kernel_rules.specs.Life.{asks_life, acts};
@@ -19,7 +19,7 @@ use std::alloc::Global;
 pub fn are_spent(k: &SeqKernel, core: CoreNo) -> bool
     requires { core < (state_of k.now).limits.cores }
     ensures value { result ≡ are_calls_spent (state_of k.now) core }
-    ensures limit { (state_of k.now).limits.calls ≤ 4194304 }
+    ensures limit { (state_of k.now).limits.calls ≤ 2 ^ 40 - 1 }
 {
     k.calls() <= k.core(core).counted
 }
@@ -45,7 +45,7 @@ pub fn acts(k: &SeqKernel, core: CoreNo, call: &Call) -> bool
 /// Counts one more call of a core.
 fn count(k: &mut SeqKernel, core: CoreNo)
     requires { core < (state_of k.old).limits.cores }
-    ensures value { ((state_of k.old).core core).counted < 4194304 → state_of k.new ≡ counted (state_of k.old) core }
+    ensures value { ((state_of k.old).core core).counted < 2 ^ 40 - 1 → state_of k.new ≡ counted (state_of k.old) core }
     ensures limits { (state_of k.new).limits ≡ (state_of k.old).limits }
 {
     let now = *k.core(core);
@@ -58,7 +58,7 @@ fn count(k: &mut SeqKernel, core: CoreNo)
 
 /// Counts the call of a core, and returns from it. Of a core that the machine does not have nothing is counted.
 fn finish(k: &mut SeqKernel, core: CoreNo)
-    ensures { core < (state_of k.old).limits.cores → ((state_of k.old).core core).counted < 4194304
+    ensures { core < (state_of k.old).limits.cores → ((state_of k.old).core core).counted < 2 ^ 40 - 1
         → Represents k.new (returned (counted (state_of k.old) core) core) }
 {
     if core.number() < k.cores() {

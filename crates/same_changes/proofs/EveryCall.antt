@@ -1,5 +1,5 @@
 -- Every call comes to the same in two states that are one for the machine, one of them reached.
-use Rattle.std.proofs.Common.{◌≡◌, ℕ, ◌≤◌, sym, ap, subst, List}
+use Rattle.std.proofs.Common.{◌≡◌, ℕ, ◌-◌, ◌^◌, ◌≤◌, sym, ap, subst, List}
 use Rattle.spk_nums.specs.Setting.{Setting, IsSetting}
 use Rattle.spk_nums.specs.CallLimits.{InLimits}
 use Rattle.spk_nums.specs.declared.calls.Call.{Call}
@@ -68,6 +68,6 @@ same_acts setting is events run c call opens t same = acts_same (twins setting i
 pub stays_in_range : StaysInRange
 stays_in_range setting is events run c call opens t same =
     in_range (twins setting is events run c call opens t same)
-    (subst (λ (l : Limits). l.calls ≤ 4194304) (sym (limits_stay setting events)) is.most_calls)
+    (subst (λ (l : Limits). l.calls ≤ 2 ^ 40 - 1) (sym (limits_stay setting events)) is.most_calls)
     (λ v k. (nodes_hold_what_fits setting is events run).pages c v k (ap is_open opens))
     call (open_limits setting events c call run opens)

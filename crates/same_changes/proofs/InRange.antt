@@ -1,5 +1,5 @@
 -- What an open call finds is in range, in every state that is one for the machine with a reached one.
-use Rattle.std.proofs.Common.{◌≡◌, ◌≢◌, ℕ, ◌+◌, ◌<◌, ◌≤◌, ◌^◌, refl, sym, ◌∙◌, ap, subst, arith, true, IsTrue, List}
+use Rattle.std.proofs.Common.{◌≡◌, ◌≢◌, ℕ, ◌+◌, ◌-◌, ◌<◌, ◌≤◌, ◌^◌, refl, sym, ◌∙◌, ap, subst, arith, true, IsTrue, List}
 use Rattle.std.proofs.lemmas.Bool.{false≢true}
 use Rattle.spk_nums.specs.Setting.{Setting, IsSetting}
 use Rattle.spk_nums.specs.Capability.{Capability}
@@ -71,7 +71,7 @@ budgets_fit {t} {s} {o} {c} w a b = wherever (named t c a (to_use (only kind.Tca
     let other = ap (λ f. (tcap_in f).budget) (named_frame w b kind.Tcap y refl (sym (named_same w b (to_use (only kind.Tcap))) ∙ is_other)) in
     omega (arith, one, other, w.ranges.budgets x.frame y.frame apart)))
 
-ticks_fit : {t s : State} {o : ℕ → _} {c : ℕ} → Twins t s o c → s.limits.calls ≤ 4194304 → (n : ℕ) → n ≤ 1000000 → TicksFit t c n
+ticks_fit : {t s : State} {o : ℕ → _} {c : ℕ} → Twins t s o c → s.limits.calls ≤ 2 ^ 40 - 1 → (n : ℕ) → n ≤ 1000000 → TicksFit t c n
 ticks_fit {t} {s} {o} {c} w calls n small =
     let range = w.ranges.cores c (core_below w) in
     let core = core_same w in
@@ -92,7 +92,7 @@ page_found {t} {s} {o} {c} w pages v = wherever (mapped t c (comp_of t c).pages 
     ∙ is in
     pages v k there)
 
-pub in_range : {t s : State} {o : ℕ → _} {c : ℕ} → Twins t s o c → s.limits.calls ≤ 4194304
+pub in_range : {t s : State} {o : ℕ → _} {c : ℕ} → Twins t s o c → s.limits.calls ≤ 2 ^ 40 - 1
     → ((v : ℕ) (k : Capability) → mapped s c (comp_of s c).pages v ≡ Found k → k.kind ≡ kind.Page)
     → (call : Call) → InLimits call → IsInRange t c call
 in_range w calls pages (make_call what range frame x b) fits = (range_ends w range, epoch_fits w what fits)

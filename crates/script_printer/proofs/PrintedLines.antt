@@ -1,5 +1,5 @@
 -- The printed form of a script is its lines of words, and is read as that script.
-use Rattle.std.proofs.Common.{◌≡◌, ℕ, ◌+◌, ◌<◌, ◌≤◌, ◌^◌, true, false, List, [], ◌∷◌, ◌++◌, length}
+use Rattle.std.proofs.Common.{◌≡◌, ℕ, ◌+◌, ◌-◌, ◌<◌, ◌≤◌, ◌^◌, true, false, List, [], ◌∷◌, ◌++◌, length}
 use Rattle.std.proofs.Common.{map, All, None, Ok, refl, ap, subst, ◌∙◌, arith, append_assoc}
 use Rattle.std.specs.Prelude.{codes, decimal, count_by}
 use Rattle.std.specs.List.{flat_map}
@@ -152,7 +152,7 @@ script_are_lines m some most setting n calls_in below =
     let s = m.setup in
     let few : s.cores ≤ 8 = setting.most_cores in
     let frames : s.frames ≤ 512 = setting.most_frames in
-    let calls : s.calls ≤ 4194304 = setting.most_calls in
+    let calls : s.calls ≤ 2 ^ 40 - 1 = setting.most_calls in
     let epochs : s.epochs < 2 ^ 16 = setting.most_epochs in
     let order : are_lines (order_rows m.order) ≡ true = order_lines_are m.order
     (All-weaker (λ (i : Item). i.core < s.cores) (λ (i : Item). i.core < 8) (λ i h. omega arith) m.order below) in
@@ -187,4 +187,4 @@ printed_read m within =
     let same : printed m ≡ lines_onto (script_lines m) [] = printed_onto m in
     let few : line_count (lines_onto (script_lines m) []) ≤ 20000 = subst (λ t. line_count t ≤ 20000) same within.lines in
     ap script_of same ∙ lines_read (script_lines m) m (script_are_lines m within.some_version within.most_versions within.setup within.lists within.calls within.below)
-    few (script_says m within.some_version within.most_versions within.setup within.lists within.calls within.below within.items)
+    few (script_says m within.some_version within.most_versions within.setup within.limit within.lists within.calls within.below within.items)

@@ -486,6 +486,7 @@ record IsInRange (m : Meaning) : Type 0 where
   some_version : 1 ≤ m.version
   most_versions : m.version ≤ 2
   setup : IsSetting m.setup
+  limit : m.setup.calls ≤ 4194304
   lists : length m.lists ≡ m.setup.cores
   calls : All (All (IsCallWithin m.version)) m.lists
   order : IsOrder m.setup.cores m.order
@@ -505,11 +506,11 @@ meaning_in d is whole =
         most_frames = come.0.1;
         granted = come.1;
         grants_fit = is.head.fit;
-        most_calls =
-            is.head.most_calls;
+        most_calls = omega (arith, is.head.most_calls);
         some_epoch = is.head.some_epoch;
         most_epochs = is.head.most_epochs;
       };
+      limit = is.head.most_calls;
       lists = length-take-le d.head.cores d.lists (omega arith);
       calls = All-take (All (IsCallWithin d.head.version)) d.head.cores d.lists is.calls;
       order = is.order;
@@ -541,6 +542,7 @@ read_within source m h few =
       some_version = r.some_version;
       most_versions = r.most_versions;
       setup = r.setup;
+      limit = r.limit;
       lists = r.lists;
       calls = r.calls;
       below = r.order.below;

@@ -291,10 +291,10 @@ limited v s = record {
 }
 
 setup_says : (v : ℕ) (s : Setting) (lists : List (List Call)) (lines : List (List (List ℕ))) (m : Meaning) → 1 ≤ v → v ≤ 2 → IsSetting s
-    → Says (draft (limited v s) lists []) lines m
+    → s.calls ≤ 4194304 → Says (draft (limited v s) lists []) lines m
     → Says (draft no_head lists []) (speck_words v ∷ cores_words s.cores ∷ frames_words s.frames
     ∷ grants_then s.grants (calls_words s.calls ∷ epochs_words s.epochs ∷ lines)) m
-setup_says v s lists lines m some most within more =
+setup_says v s lists lines m some most within limit more =
     let h1 : Head = record no_head { section = section.Cores; version = v } in
     let h2 : Head = record no_head { section = section.Frames; version = v; cores = s.cores } in
     let h3 : Head = sized v s in
@@ -309,7 +309,7 @@ setup_says v s lists lines m some most within more =
     (head_behind h5 h6 lists [] (epochs_words s.epochs) refl (epochs_back h5 s.epochs refl within.some_epoch (omega arith))) more in
     let p5 : Says (draft h4 lists []) (calls_words s.calls ∷ epochs_words s.epochs ∷ lines) m =
     says_line (draft h4 lists []) (draft h5 lists []) (calls_words s.calls) (epochs_words s.epochs ∷ lines) m
-    (head_behind h4 h5 lists [] (calls_words s.calls) refl (calls_back h4 s.calls refl within.most_calls)) p6 in
+    (head_behind h4 h5 lists [] (calls_words s.calls) refl (calls_back h4 s.calls refl limit)) p6 in
     let rest : List (List (List ℕ)) = calls_words s.calls ∷ epochs_words s.epochs ∷ lines in
     let p4 : Says (draft h3 lists []) (grants_then s.grants rest) m =
     grants_all_say s.grants h3 lists rest m refl (omega arith) (omega arith) within.grants_fit p5 in
@@ -330,10 +330,10 @@ meaning_back g m after version same n =
     λ i. record { version = version i; setup = same i; lists = lists i; order = m.order }
 
 -- the lines of a script within the limits say that script
-pub script_says : (m : Meaning) → 1 ≤ m.version → m.version ≤ 2 → IsSetting m.setup → length m.lists ≡ m.setup.cores
-    → All (All (IsCallWithin m.version)) m.lists
+pub script_says : (m : Meaning) → 1 ≤ m.version → m.version ≤ 2 → IsSetting m.setup → m.setup.calls ≤ 4194304
+    → length m.lists ≡ m.setup.cores → All (All (IsCallWithin m.version)) m.lists
     → BelowCores m.setup.cores m.order → length m.order ≤ 200000 → Says no_draft (script_lines m) m
-script_says m some most setup n calls below room =
+script_says m some most setup limit n calls below room =
     let few : m.setup.cores ≤ 8 = setup.most_cores in
     let after : List (List Call) = replicate (8 - length m.lists) [] in
     let blank : emptied m.lists ++ after ≡ replicate 8 [] = empty_lists m.lists (8 - length m.lists) 8 (omega arith) in
@@ -346,4 +346,4 @@ script_says m some most setup n calls below room =
     order_says m.order g (m.lists ++ after) m listing (omega arith) fits room (meaning_back g m after version same n)) in
     let blank_says : Says (draft (limited m.version m.setup) (replicate 8 []) []) (lists_then 0 m.lists lines) m =
     subst (λ (lists : List (List Call)). Says (draft (limited m.version m.setup) lists []) (lists_then 0 m.lists lines) m) blank listed in
-    setup_says m.version m.setup (replicate 8 []) (lists_then 0 m.lists lines) m some most setup blank_says
+    setup_says m.version m.setup (replicate 8 []) (lists_then 0 m.lists lines) m some most setup limit blank_says

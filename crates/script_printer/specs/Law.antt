@@ -50,12 +50,13 @@ IsCallWithin version (Transfer a b m) = IsName a × IsName b × IsAmount m
 IsCallWithin version (Delegate a b m) = IsName a × IsName b × IsAmount m
 IsCallWithin version (Test a b) = IsName a × IsName b
 
--- a script within the limits: its version is 1 or 2, its setup is one, each core has a list, arguments and items are in their ranges,
--- the items are at most 200,000, and its printed form has at most 20,000 lines
+-- a script within the limits: its version is 1 or 2, its setup is one with no more calls than a script may give, each core has a list,
+-- arguments and items are in their ranges, the items are at most 200,000, and its printed form has at most 20,000 lines
 pub record IsWithin (m : Meaning) : Type 0 where
   pub some_version : 1 ≤ m.version
   pub most_versions : m.version ≤ 2
   pub setup : IsSetting m.setup
+  pub limit : m.setup.calls ≤ 4194304
   pub lists : length m.lists ≡ m.setup.cores
   pub calls : All (All (IsCallWithin m.version)) m.lists
   pub below : BelowCores m.setup.cores m.order

@@ -125,7 +125,7 @@ fn setup_of(head: &Head) -> Setup
         head.cores,
         head.frames,
         head.grants,
-        head.calls,
+        u64::from(head.calls),
         head.epochs,
     );
     setup.unwrap()

@@ -1,5 +1,5 @@
 -- The plain kernel as contracts see it: lists by number, and the state that they stand for.
-use Rattle.std.specs.Prelude.{◌≡◌, ◌<◌, ◌≤◌, ◌^◌, ℕ, ◌+◌, ◌*◌, false, nat_lt, if◌then◌else◌, List, [], length, get_or, slice_get, Bool}
+use Rattle.std.specs.Prelude.{◌≡◌, ◌<◌, ◌≤◌, ◌^◌, ℕ, ◌+◌, ◌-◌, ◌*◌, false, nat_lt, if◌then◌else◌, List, [], length, get_or, slice_get, Bool}
 use Rattle.std.specs.Prelude.{Option, Some, None, IsSome, IsSomeAnd}
 use Rattle.kernel_rules.specs.State as state
 use Rattle.kernel_rules.specs.References.{frame_names, refs}
@@ -49,7 +49,7 @@ pub record LimitsFit (l : state.Limits) : Type 0 where
   pub most_cores : l.cores ≤ 8
   pub least_frames : 4 + 2 * l.cores ≤ l.frames
   pub most_frames : l.frames ≤ 512
-  pub most_calls : l.calls ≤ 4194304
+  pub most_calls : l.calls ≤ 2 ^ 40 - 1
   pub some_epoch : 1 ≤ l.epochs
   pub most_epochs : l.epochs < 2 ^ 16
 

@@ -33,7 +33,7 @@ pub struct SeqKernel {
     pub(crate) counts: Vec<u32>,
     pub(crate) core_count: u8,
     pub(crate) frame_count: u16,
-    pub(crate) calls: u32,
+    pub(crate) calls: u64,
     pub(crate) epochs: u16,
 }
 
@@ -95,8 +95,8 @@ impl SeqKernel {
         self.frame_count
     }
 
-    /// The most calls that a core may make, at most 4,194,304. No change sets it.
-    pub fn calls(&self) -> u32
+    /// The most calls that a core may make, at most 2^40 - 1. No change sets it.
+    pub fn calls(&self) -> u64
         ensures value { result ≡ (state_of self.now).limits.calls }
         ensures limits { LimitsFit (state_of self.now).limits }
     {

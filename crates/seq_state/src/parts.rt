@@ -112,7 +112,7 @@ pub struct Core {
     /// The ticks that it owes.
     pub owed: u64,
     /// How many of its calls were counted.
-    pub counted: u32,
+    pub counted: u64,
 }
 
 /// What one core has still to do in the grace period of what was removed.

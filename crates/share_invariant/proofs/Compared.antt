@@ -7,16 +7,16 @@ use Rattle.pair_invariant.proofs.Common.{CountAt, same_word, Move, CompareOf, le
 use Rattle.pair_invariant.proofs.Common.{counted, changes_in_frame, HasRacedHead, IsRaceLost, marked_by, Step, Trace, state_after}
 use Rattle.pair_invariant.proofs.Common.{last_left, not_changed, debited, credited, amount_of, again_end, giving_back, Pair, CompareB}
 use Rattle.pair_invariant.proofs.Common.{Act, took_shared, Undecided, ActiveCall, landed, Core, holds_counts, KnowsUndecided, HasBoth}
-use Rattle.pair_invariant.proofs.Common.{holds_in, holds_head, Invariant, HeadIs, count_room, limits_of, TcapOf}
+use Rattle.pair_invariant.proofs.Common.{holds_in, holds_head, Invariant, HeadIs, limits_of, TcapOf}
 use Rattle.pair_invariant.specs.spk_nums.specs.declared.replies.Reply.TheVariants as reply
 use Rattle.pair_invariant.specs.spk_nums.specs.declared.replies.Value.TheVariants as value
 use Rattle.pair_invariant.specs.word_map.proofs.WordLemmas.{same_word-true}
-use Rattle.pair_invariant.specs.stage_tcap.specs.Heads.{raised}
+use Rattle.pair_invariant.specs.stage_tcap.specs.quality_lists.specs.Rank.{rank}
+use Rattle.pair_invariant.specs.tcap_words.specs.declared.head_word.HeadWord.{HeadWord}
 use Rattle.pair_invariant.specs.stage_tcap.specs.Pairs.{PairFits, next_b}
 use Rattle.pair_invariant.specs.act_states.specs.declared.work.Act.TheVariants.{Share as share_act}
 use Rattle.pair_invariant.specs.step_ways.proofs.Loads.{IsOfCall, core_is, inner}
 use Rattle.pair_invariant.specs.step_ways.proofs.Refusals.{GoodTook, not_spent}
-use Rattle.pair_invariant.specs.step_ways.proofs.Writes.{room_left}
 use Rattle.pair_invariant.proofs.HeadsB.{owes_share}
 use Rattle.pair_invariant.proofs.ListsKnown as known
 use Rattle.pair_invariant.proofs.ListsKnown.{AreRead}
@@ -173,40 +173,37 @@ module _ (setup : Setting) (setting : IsSetting setup) (cores : ℕ → Core) (t
     pub enough : amount_of p.what ≤ qa.budget
     enough = subst (λ (n : ℕ). amount_of p.what ≤ n) budget_a both.a.enough
 
-    pub few_a : p.head_a.version + 1 < 2 ^ 28
-    few_a = let low = read.version_a in let most = room_left setup setting cores t stands in omega (arith, low, most)
-
-    pub few_b : p.head_b.version + 1 < 2 ^ 28
-    few_b = let low = read.version_b in let most = room_left setup setting cores t stands in omega (arith, low, most)
-
     -- what both heads say once the ticks are moved
-    pub debited_is : (more : ℕ) → 1 + count_room s ≤ more
-        → HeadIs (record qa { budget = qa.budget - amount_of p.what }) more
+    pub debited_is : HeadIs (record qa { budget = qa.budget - amount_of p.what })
         (head_of_word (word_of_head (debited p.head_a (amount_of p.what))))
-    debited_is more grows = record {
-      version = raised p.head_a.version;
+    debited_is = record {
+      version = p.head_a.version;
       says = spelling.reads (debited p.head_a (amount_of p.what)) less_fits
-          ∙ ap (λ (n : ℕ). Some (record { budget = n - amount_of p.what; mark = None; version = raised p.head_a.version })) budget_a;
-      within = (let low = read.version_a in omega (arith, low, grows));
+          ∙ ap (λ (n : ℕ). Some (record { budget = n - amount_of p.what; mark = None; version = p.head_a.version })) budget_a;
+      within = subst (λ (n : ℕ). p.head_a.version ≤ n) (ap (λ x. rank (tcap_in x).qualities) tcap_a.is) read.version_a;
       most = (known.range_of setup setting cores t stands p.a qa tcap_a.is).most;
     }
       where
         less_fits : HeadFits (debited p.head_a (amount_of p.what))
-        less_fits = (let low = both.a.fits.0 in omega (arith, low), tt, omega arith)
+        less_fits = (let low = both.a.fits.0 in omega (arith, low), tt, both.a.fits.2)
 
-    pub credited_fits : HeadFits (credited p.head_b (amount_of p.what))
-    credited_fits = (omega arith, tt, omega arith)
+    -- whatever version the second is given
+    pub credited_fits : (h : HeadWord) → h.version < 2 ^ 28 → HeadFits (credited h (amount_of p.what))
+    credited_fits h low = (omega arith, tt, low)
 
-    pub credited_is : (more : ℕ) → 1 + count_room s ≤ more → (list : List (ℕ × ℕ)) → length list ≤ 8
-        → HeadIs (record { budget = qb.budget + amount_of p.what; qualities = list }) more
-        (head_of_word (word_of_head (credited p.head_b (amount_of p.what))))
-    credited_is more grows list few = record {
-      version = raised p.head_b.version;
-      says = spelling.reads (credited p.head_b (amount_of p.what)) credited_fits
-          ∙ ap (λ (n : ℕ). Some (record { budget = n; mark = None; version = raised p.head_b.version })) budget_now;
-      within = (let low = read.version_b in omega (arith, low, grows));
+    pub credited_is : (h : HeadWord) → h.budget ≡ p.head_b.budget → h.version < 2 ^ 28 → (list : List (ℕ × ℕ))
+        → h.version ≤ rank list → length list ≤ 8
+        → HeadIs (record { budget = qb.budget + amount_of p.what; qualities = list })
+        (head_of_word (word_of_head (credited h (amount_of p.what))))
+    credited_is h same_budget low list within few = record {
+      version = h.version;
+      says = spelling.reads (credited h (amount_of p.what)) (credited_fits h low)
+          ∙ ap (λ (n : ℕ). Some (record { budget = n; mark = None; version = h.version })) budget_now;
+      within = within;
       most = few;
     }
       where
-        budget_now : min (p.head_b.budget + amount_of p.what) (2 ^ 32 - 1) ≡ qb.budget + amount_of p.what
-        budget_now = let one = budget_b in let two = enough in let three = sum in omega (arith, one, two, three)
+        budget_now : min (h.budget + amount_of p.what) (2 ^ 32 - 1) ≡ qb.budget + amount_of p.what
+        budget_now =
+            let alike = same_budget in let one = budget_b in let two = enough in let three = sum in
+            omega (arith, alike, one, two, three)

@@ -9,7 +9,7 @@ use Rattle.pair_invariant.proofs.Common.{flushes_in, stamp, Step, Trace, Open, p
 use Rattle.pair_invariant.proofs.Common.{debited, credited, in_order, same_list, again_end, by_alike, Pair, CompareB, AgainB, StoreA, Act}
 use Rattle.pair_invariant.proofs.Common.{took_shared, took_share, Stage, Undecided, Decided, ActiveCall, landed, Core, holds_counts}
 use Rattle.pair_invariant.proofs.Common.{KnowsUndecided, list_changed, TurnsHead, SparesTcap, HasTcap, HasBoth, holds_at, holds_in}
-use Rattle.pair_invariant.proofs.Common.{holds_head, holds, held_by, times_of, Invariant, IsFrameWord, WordIs, count_room, counts_bare}
+use Rattle.pair_invariant.proofs.Common.{holds_head, holds, held_by, times_of, Invariant, IsFrameWord, WordIs, counts_bare}
 use Rattle.pair_invariant.proofs.Common.{IsUntimed, plain_begins, not_exclusive_head_word, sums_keep, TcapOf, ReadsAlike, StaysSaid}
 use Rattle.pair_invariant.proofs.Common.{others_settled, phase_at}
 use Rattle.pair_invariant.specs.spk_nums.specs.declared.replies.Reply.TheVariants as reply
@@ -18,6 +18,7 @@ use Rattle.pair_invariant.specs.kernel_rules.specs.Access.{found as named_by}
 use Rattle.pair_invariant.specs.kernel_rules.specs.TimeCalls.{are_alike}
 use Rattle.pair_invariant.specs.kernel_rules.specs.CallRelation.{begins_in as begun_by}
 use Rattle.pair_invariant.specs.kernel_history.specs.Stamps.{begins_in}
+use Rattle.pair_invariant.specs.stage_tcap.specs.quality_lists.specs.Rank.{rank}
 use Rattle.pair_invariant.specs.stage_tcap.specs.Pairs.{compared_after}
 use Rattle.pair_invariant.specs.stage_tcap.specs.declared.pair.PairWork.TheVariants.{Transfer}
 use Rattle.pair_invariant.specs.act_states.specs.declared.work.Act.TheVariants.{Share as share_act}
@@ -133,11 +134,9 @@ module _ (setup : Setting) (setting : IsSetting setup) (cores : ℕ → Core) (t
     enough : m ≤ qa.budget
     enough = compared.enough setup setting cores t stands c here a active what_p stage_is has equal
 
-    few_b : p.head_b.version + 1 < 2 ^ 28
-    few_b = compared.few_b setup setting cores t stands c here a active what_p stage_is has equal
-
     new_fits : HeadFits new_head
-    new_fits = compared.credited_fits setup setting cores t stands c here a active what_p stage_is has equal
+    new_fits = compared.credited_fits setup setting cores t stands c here a active what_p stage_is has equal p.head_b
+        both.b.head.fits.2
 
     reads_new : head_of_word (word_of_head new_head) ≡ Some new_head
     reads_new = spelling.reads new_head new_fits
@@ -224,9 +223,6 @@ module _ (setup : Setting) (setting : IsSetting setup) (cores : ℕ → Core) (t
     limits : s'.limits ≡ s.limits
     limits = moves.limits setup setting cores t stands c here a active compare p.a p.b qa qb qa_less qb_more is_moved
 
-    room_more : 1 + count_room s ≤ count_room s'
-    room_more = moves.room_more setup setting cores t stands c here a active compare p.a p.b qa qb qa_less qb_more is_moved
-
     alike_now : ReadsAlike setup t e
     alike_now = moves.alike setup setting cores t stands c here a active compare p.a p.b qa qb qa_less qb_more is_moved
 
@@ -244,17 +240,19 @@ module _ (setup : Setting) (setting : IsSetting setup) (cores : ℕ → Core) (t
 
     now_says : WordIs s' (times_of setup (e ∷ t)) at (left_of compare was)
     now_says = subst (WordIs s' (times_of setup (e ∷ t)) at) (sym leaves_it)
-        (subst (λ x. IsFrameWord s'.limits.frames (count_room s') x (s'.place p.b 0)
+        (subst (λ x. IsFrameWord s'.limits.frames x (s'.place p.b 0)
         (stamp setup (e ∷ t) (PlaceOf p.b 0)) 0 (word_of_head new_head))
         (sym frame_b)
-        (compared.credited_is setup setting cores t stands c here a active what_p stage_is has equal (count_room s') room_more qb.qualities
+        (compared.credited_is setup setting cores t stands c here a active what_p stage_is has equal p.head_b refl both.b.head.fits.2
+        qb.qualities
+        (subst (λ (n : ℕ). p.head_b.version ≤ n) (ap (λ x. rank (tcap_in x).qualities) tcap_b.is) read.version_b)
         (known.range_of setup setting cores t stands p.b qb tcap_b.is).most))
 
     debited_says : WordIs s' (times_of setup (e ∷ t)) at_a (word_of_head (debited p.head_a m))
     debited_says =
-        subst (λ x. IsFrameWord s'.limits.frames (count_room s') x (s'.place p.a 0) (stamp setup (e ∷ t) (PlaceOf p.a 0)) 0
+        subst (λ x. IsFrameWord s'.limits.frames x (s'.place p.a 0) (stamp setup (e ∷ t) (PlaceOf p.a 0)) 0
         (word_of_head (debited p.head_a m)))
-        (sym frame_a) (compared.debited_is setup setting cores t stands c here a active what_p stage_is has equal (count_room s') room_more)
+        (sym frame_a) (compared.debited_is setup setting cores t stands c here a active what_p stage_is has equal)
 
     commits : (w : Word) → marked_by setup t w ≡ Some c
         → WordIs s' (times_of setup (e ∷ t)) w ((holds_at stage a.counts).stands w)
@@ -268,7 +266,7 @@ module _ (setup : Setting) (setting : IsSetting setup) (cores : ℕ → Core) (t
     turns = inr (subst (λ o. TurnsHead c (list_changed t p.b) (head_of_word was) o)
         (sym (ap head_of_word leaves_it ∙ reads_new))
         (subst (λ o. TurnsHead c (list_changed t p.b) o (Some new_head)) (sym shown)
-        (inl both.b.head.bare, inl (let few = few_b in omega (arith, few)))))
+        (inl both.b.head.bare, inr (refl, inl both.b.head.bare))))
 
     permitted : MayReply s c a.call (reply.Ok value.Nothing)
     permitted = (

@@ -1,20 +1,20 @@
 -- The compare of the head of the second of two temporal capabilities carries out a delegation: it marks that head, and the call has
 -- still to store the merged list and both heads.
-use Rattle.pair_invariant.proofs.Common.{◌≡◌, ◌≢◌, inl, inr, ℕ, zero, suc, ◌+◌, ◌-◌, ◌<◌, ◌≤◌, ◌^◌, ◌==◌, ◌&&◌, nat_lt, nat_le, Bool}
+use Rattle.pair_invariant.proofs.Common.{◌≡◌, ◌≢◌, inl, inr, ℕ, zero, suc, ◌+◌, ◌-◌, ◌<◌, ◌≤◌, ◌^◌, ◌==◌, ◌&&◌, not, nat_lt, nat_le, Bool}
 use Rattle.pair_invariant.proofs.Common.{true, false, if◌then◌else◌, List, [], ◌∷◌, length, slice_get, Option, Some, None, arith, refl}
-use Rattle.pair_invariant.proofs.Common.{sym, ◌∙◌, ap, subst, eq-eqb, eqb-true, le-leb, leb-true, le-ltb, Setting, IsSetting, HeadFits}
+use Rattle.pair_invariant.proofs.Common.{sym, ◌∙◌, ap, subst, eq-eqb, eqb-true, ne_eqb, false≢true, le-leb, leb-true, le-ltb, Setting, IsSetting, HeadFits}
 use Rattle.pair_invariant.proofs.Common.{word_of_head, head_of_word, quality_of_word, HeadWord, spelling, Word, EntryAt, CountAt}
 use Rattle.pair_invariant.proofs.Common.{same_word, Move, CompareOf, left_of, same_same, Kernel, Tcap, TcapFields, PlaceOf, FrameOf}
 use Rattle.pair_invariant.proofs.Common.{State, put, tcap_in, Found, IsFoundAnd, unless, first_of, first_cause, leaves, tcap_at, moved}
 use Rattle.pair_invariant.proofs.Common.{is_short, are_many, change_of, changed, counted, MayReply, IsInFootprint, mark_of, head_mark}
 use Rattle.pair_invariant.proofs.Common.{marked_by, ends_in, flushes_in, stamp, Step, Trace, Open, phase, state_after, last_left}
 use Rattle.pair_invariant.proofs.Common.{state_decided_in, WasAt, ok_first, was_stays, cases_word, same_word-other, last_left-here}
-use Rattle.pair_invariant.proofs.Common.{last_left-there, marked, debited, credited, in_order, again_end, by_room, Pair, CompareB, AgainB}
+use Rattle.pair_invariant.proofs.Common.{last_left-there, marked, debited, relisted, credited, in_order, same_list, again_end, by_room, Pair, CompareB, AgainB}
 use Rattle.pair_invariant.proofs.Common.{StoreList, Act, took_shared, took_share, Stage, Undecided, Decided, ActiveCall, landed, Core}
 use Rattle.pair_invariant.proofs.Common.{holds_counts, settled, MarkIs, KnowsUndecided, list_changed, TurnsHead, SparesTcap, HasTcap}
 use Rattle.pair_invariant.proofs.Common.{HasBoth, StoresA, KnowsShared, holds_in, holds_head}
 use Rattle.pair_invariant.proofs.Common.{holds, held_by, times_of, IsExclusive, Invariant}
-use Rattle.pair_invariant.proofs.Common.{IsFrameWord, WordIs, count_room, counts_bare, IsUntimed, plain_begins, exclusive_free}
+use Rattle.pair_invariant.proofs.Common.{IsFrameWord, WordIs, counts_bare, IsUntimed, plain_begins, exclusive_free}
 use Rattle.pair_invariant.proofs.Common.{not_exclusive_head_word, marked_on, sums_keep, TcapOf, ReadsAlike, StaysSaid, marks_own, put_same}
 use Rattle.std.proofs.lemmas.Bool.{and_parts, and_from}
 use Rattle.pair_invariant.specs.spk_nums.specs.Merging.{merged}
@@ -28,9 +28,12 @@ use Rattle.pair_invariant.specs.kernel_rules.specs.TimeCalls.{with_qualities, me
 use Rattle.pair_invariant.specs.kernel_rules.specs.CallRelation.{begins_in as begun_by}
 use Rattle.pair_invariant.specs.kernel_laws.proofs.Lists.{merged_list_is}
 use Rattle.pair_invariant.specs.kernel_history.specs.Stamps.{begins_in}
+use Rattle.pair_invariant.specs.stage_tcap.specs.quality_lists.specs.Rank.{rank}
+use Rattle.pair_invariant.specs.stage_tcap.specs.quality_lists.proofs.Ranks.{Rises, merged_rises}
+use Rattle.pair_invariant.specs.core_invariant.specs.Shares.{KeepsList}
 use Rattle.pair_invariant.specs.stage_tcap.specs.Lists.{merged_if, merge_of}
 use Rattle.pair_invariant.specs.stage_tcap.specs.Pairs.{word_of_list, compared_after}
-use Rattle.pair_invariant.specs.stage_tcap.proofs.ListLemmas.{got_pair, pair_in_word}
+use Rattle.pair_invariant.specs.stage_tcap.proofs.ListLemmas.{got_pair, pair_in_word, equal_lists, found_equal}
 use Rattle.pair_invariant.specs.stage_tcap.specs.declared.pair.PairWork.TheVariants.{Delegate}
 use Rattle.pair_invariant.specs.act_states.specs.declared.work.Act.TheVariants.{Share as share_act}
 use Rattle.pair_invariant.specs.act_states.specs.declared.work.Tail.TheVariants.{Share as share_tail}
@@ -48,7 +51,7 @@ use Rattle.pair_invariant.proofs.Moved as moves
 use Rattle.pair_invariant.proofs.Moved.{IsMoved, with_both}
 use Rattle.pair_invariant.proofs.ShareCalls as calls
 use Rattle.pair_invariant.proofs.ShareCalls.{causes_of, change_by}
-use Rattle.pair_invariant.proofs.ShareSteps.{mark_is, list_bare, now_was}
+use Rattle.pair_invariant.proofs.ShareSteps.{mark_is, list_bare, list_plain, now_was}
 use Rattle.share_invariant.proofs.Turned as turned
 use Rattle.share_invariant.proofs.Turned.{IsTaken}
 
@@ -190,6 +193,19 @@ module _ (setup : Setting) (setting : IsSetting setup) (cores : ℕ → Core) (t
     reads_new : head_of_word (word_of_head new_head) ≡ Some new_head
     reads_new = spelling.reads new_head new_fits
 
+    changes : (left_of compare was == was) ≡ false
+    changes = ne_eqb (left_of compare was) was (λ h. absurd (not_same (sym reads_new ∙ ap head_of_word (sym leaves_it ∙ h)
+        ∙ compared.shown setup setting cores t stands c here a active what_p stage_is has equal)))
+      where
+        mark_of_head : (v u : HeadWord) → Some v ≡ Some u → v.mark ≡ u.mark
+        mark_of_head v u h = cc
+
+        some_none : (d : ℕ) → Some d ≡ None → ⊥
+        some_none d h = cc
+
+        not_same : Some new_head ≡ Some p.head_b → ⊥
+        not_same h = some_none p.core (mark_of_head _ _ h ∙ both.b.head.bare)
+
     marked_now : mark_of s at (left_of compare was) ≡ Some c
     marked_now = ap (mark_of s at) leaves_it ∙ mark_is setup setting cores t stands p.b qb tcap_b.is (word_of_head new_head)
         ∙ ap head_mark reads_new ∙ ap (λ (d : ℕ). Some d) has.knows.knows.core
@@ -224,6 +240,44 @@ module _ (setup : Setting) (setting : IsSetting setup) (cores : ℕ → Core) (t
         (known.range_of setup setting cores t stands p.a qa tcap_a.is).pairs)
         (subst (λ x. IsQualityList (tcap_in x).qualities) (sym tcap_b.is)
         (known.range_of setup setting cores t stands p.b qb tcap_b.is).pairs))
+
+    -- which is B's own, or has a greater rank
+    abbrev own_list : List (ℕ × ℕ)
+    own_list = (tcap_at s p.b).qualities
+
+    rises : Rises own_list list
+    rises = subst (Rises own_list) (sym list_is) (merged_rises (tcap_at s p.a).qualities own_list
+        (subst (λ x. IsQualityList (tcap_in x).qualities) (sym tcap_a.is)
+        (known.range_of setup setting cores t stands p.a qa tcap_a.is).pairs))
+
+    grows_is : p.grows ≡ not (same_list list own_list)
+    grows_is = both.grows ∙ ap (λ o. not (same_list list (in_order o))) read.list_b
+
+    not_true : (b : Bool) → not b ≡ false → b ≡ true
+    not_true true is = refl
+    not_true false is = absurd (false≢true (sym is))
+
+    own_same : p.grows ≡ false → list ≡ own_list
+    own_same is = equal_lists list own_list (not_true (same_list list own_list) (sym grows_is ∙ is))
+
+    own_differs : p.grows ≡ true → list ≡ own_list → ⊥
+    own_differs is same = false≢true (ap not (sym (found_equal list own_list same)) ∙ sym grows_is ∙ is)
+
+    few_b : p.head_b.version + 1 < 2 ^ 28
+    few_b = read.few_b
+
+    -- the version that B is given
+    raised_fits : (g : Bool) → (relisted g p.head_b).version < 2 ^ 28
+    raised_fits true = (let low = few_b in omega (arith, low))
+    raised_fits false = both.b.head.fits.2
+
+    raised_within : (g : Bool) → p.grows ≡ g → (relisted g p.head_b).version ≤ rank list
+    raised_within false is = subst (λ xs. p.head_b.version ≤ rank xs) (sym (own_same is)) read.version_b
+    raised_within true is = by rises
+      where
+        by : Rises own_list list → (relisted true p.head_b).version ≤ rank list
+        by (inl same) = absurd (own_differs is same)
+        by (inr less) = (let low = read.version_b in omega (arith, low, less))
 
     spelled : (i : ℕ) → QualityFits (record { 0 = slice_get list i })
     spelled i = pair_in_word (slice_get list i) (got_pair list i fits_list)
@@ -288,9 +342,6 @@ module _ (setup : Setting) (setting : IsSetting setup) (cores : ℕ → Core) (t
       plain = plain;
     }
 
-    room_more : 1 + count_room s ≤ count_room s'
-    room_more = moves.room_more setup setting cores t stands c here a active compare p.a p.b qa qb qa_less qb_more is_moved
-
     alike : ReadsAlike setup t e
     alike = moves.alike setup setting cores t stands c here a active compare p.a p.b qa qb qa_less qb_more is_moved
 
@@ -349,7 +400,7 @@ module _ (setup : Setting) (setting : IsSetting setup) (cores : ℕ → Core) (t
     -- what is said of the words
     list_says : (j : ℕ) → j < 8 → WordIs s' (times_of setup (e ∷ t)) (EntryAt p.b (suc j)) (word_of_list list (suc j))
     list_says j low =
-        subst (λ x. IsFrameWord s'.limits.frames (count_room s') x (s'.place p.b (suc j)) (stamp setup (e ∷ t) (PlaceOf p.b (suc j)))
+        subst (λ x. IsFrameWord s'.limits.frames x (s'.place p.b (suc j)) (stamp setup (e ∷ t) (PlaceOf p.b (suc j)))
         (suc j) (word_of_list list (suc j))) (sym frame_b)
         (λ below. ap (λ (n : ℕ). quality_of_word (word_of_quality (record { 0 = slice_get list n }))) at_pair
         ∙ qualities.spelling.reads (record { 0 = slice_get list j }) (spelled j))
@@ -369,17 +420,17 @@ module _ (setup : Setting) (setting : IsSetting setup) (cores : ℕ → Core) (t
 
     debited_says : WordIs s' (times_of setup (e ∷ t)) at_a (word_of_head (debited p.head_a m))
     debited_says =
-        subst (λ x. IsFrameWord s'.limits.frames (count_room s') x (s'.place p.a 0) (stamp setup (e ∷ t) (PlaceOf p.a 0)) 0
+        subst (λ x. IsFrameWord s'.limits.frames x (s'.place p.a 0) (stamp setup (e ∷ t) (PlaceOf p.a 0)) 0
         (word_of_head (debited p.head_a m)))
-        (sym frame_a) (compared.debited_is setup setting cores t stands c here a active what_p stage_is has equal (count_room s') room_more)
+        (sym frame_a) (compared.debited_is setup setting cores t stands c here a active what_p stage_is has equal)
 
-    credited_says : WordIs s' (times_of setup (e ∷ t)) at (word_of_head (credited p.head_b m))
+    credited_says : WordIs s' (times_of setup (e ∷ t)) at (word_of_head (credited (relisted p.grows p.head_b) m))
     credited_says =
-        subst (λ x. IsFrameWord s'.limits.frames (count_room s') x (s'.place p.b 0) (stamp setup (e ∷ t) (PlaceOf p.b 0)) 0
-        (word_of_head (credited p.head_b m)))
+        subst (λ x. IsFrameWord s'.limits.frames x (s'.place p.b 0) (stamp setup (e ∷ t) (PlaceOf p.b 0)) 0
+        (word_of_head (credited (relisted p.grows p.head_b) m)))
         (sym frame_b)
-        (compared.credited_is setup setting cores t stands c here a active what_p stage_is has equal (count_room s') room_more
-        list few_list)
+        (compared.credited_is setup setting cores t stands c here a active what_p stage_is has equal (relisted p.grows p.head_b) refl
+        (raised_fits p.grows) list (raised_within p.grows refl) few_list)
 
     apart_heads : at_a ≢ at
     apart_heads h = differ (frame_is h)
@@ -391,11 +442,11 @@ module _ (setup : Setting) (setting : IsSetting setup) (cores : ℕ → Core) (t
     own_says w mark = elim (cases_word w at) [
       | inl head ↦ subst (λ (v : Word). WordIs s' (times_of setup (e ∷ t)) v ((holds after).stands v)) (sym head)
           (subst (WordIs s' (times_of setup (e ∷ t)) at)
-          (sym (ap (λ b. if b then word_of_head (credited p.head_b m) else if same_word at at_a then word_of_head (debited p.head_a m)
+          (sym (ap (λ b. if b then word_of_head (credited (relisted p.grows p.head_b) m) else if same_word at at_a then word_of_head (debited p.head_a m)
           else (holds_counts (Some None) a.counts).stands at) (same_same at))) credited_says)
       | inr there ↦ subst (λ (v : Word). WordIs s' (times_of setup (e ∷ t)) v ((holds after).stands v)) (sym (is_a there))
           (subst (WordIs s' (times_of setup (e ∷ t)) at_a)
-          (sym (ap (λ b. if b then word_of_head (credited p.head_b m) else if same_word at_a at_a then word_of_head (debited p.head_a m)
+          (sym (ap (λ b. if b then word_of_head (credited (relisted p.grows p.head_b) m) else if same_word at_a at_a then word_of_head (debited p.head_a m)
           else (holds_counts (Some None) a.counts).stands at_a) (same_word-other at_a at apart_heads)
           ∙ ap (λ b. if b then word_of_head (debited p.head_a m) else (holds_counts (Some None) a.counts).stands at_a) (same_same at_a)))
           debited_says)
@@ -444,7 +495,6 @@ module _ (setup : Setting) (setting : IsSetting setup) (cores : ℕ → Core) (t
           raw = on.raw;
           fits = both.a.fits;
           bare = both.a.bare;
-          few = compared.few_a setup setting cores t stands c here a active what_p stage_is has equal;
           clean = on.clean;
         }
       where
@@ -468,14 +518,40 @@ module _ (setup : Setting) (setting : IsSetting setup) (cores : ℕ → Core) (t
           raw = last_left-here setup at e t refl ∙ leaves_it;
           fits = both.b.head.fits;
           bare = both.b.head.bare;
-          few = compared.few_b setup setting cores t stands c here a active what_p stage_is has equal;
+          few = few_b;
           footprint = footprint p.b (calls.footprint_b setup setting cores t stands c here a active now_p stage_is has);
           tcap = tcap_left p.b qb_more frame_b has.knows.knows.tcap_b;
           differ = differ;
           spelled = spelled;
+          same = keeps;
         },
       );
     }
+      where
+        index : (j : ℕ) → EntryAt p.b (suc j) ≡ EntryAt p.b 0 → suc j ≡ 0
+        index j h = cc
+
+        at_pair : (j : ℕ) → suc j - 1 ≡ j
+        at_pair j = omega arith
+
+        own_fields : own_list ≡ qb.qualities
+        own_fields = ap (λ x. (tcap_in x).qualities) tcap_b.is
+
+        -- the word of B's own list there is the one that is still to be stored
+        own_word : (j : ℕ) → j < 8 → list ≡ qb.qualities → last_left setup t (EntryAt p.b (suc j)) ≡ word_of_list list (suc j)
+        own_word j low same =
+            sym (qualities.spelling.spells (last_left setup t (EntryAt p.b (suc j))) (record { 0 = slice_get qb.qualities j })
+            (list_plain setup setting cores t stands p.b qb tcap_b.is bare j low)).1
+            ∙ ap (λ xs. word_of_quality (record { 0 = slice_get xs j })) (sym same)
+            ∙ ap (λ (n : ℕ). word_of_quality (record { 0 = slice_get list n })) (sym (at_pair j))
+
+        keeps : p.grows ≡ false → KeepsList setup (e ∷ t) left_p
+        keeps is = record {
+          clean = ap (λ b. if b && not (left_of compare was == was) then false else list_changed t p.b) (eq-eqb p.b p.b refl)
+              ∙ ap (λ b. if not b then false else list_changed t p.b) changes;
+          words = λ j low. last_left-there setup (EntryAt p.b (suc j)) e t (λ h. absurd (let zero_is = index j h in omega (arith, zero_is)))
+              ∙ own_word j low (own_same is ∙ own_fields);
+        }
 
     exclusive : (g i v : ℕ) → (holds after).bare g i ≡ Some v → IsExclusive setup (e ∷ t) c g i
     exclusive g i v kept =

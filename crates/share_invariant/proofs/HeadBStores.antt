@@ -1,7 +1,8 @@
--- A delegation, whose list is stored, gives the head of the second of two temporal capabilities back with the ticks.
-use Rattle.pair_invariant.proofs.Common.{◌≡◌, ◌≢◌, inl, ℕ, ◌<◌, true, if◌then◌else◌, Option, Some, None, arith, refl, sym, ◌∙◌, ap}
+-- A delegation, whose list is stored, gives the head of the second of two temporal capabilities back with the ticks, and in the next version
+-- where the list is another.
+use Rattle.pair_invariant.proofs.Common.{◌≡◌, ◌≢◌, ◌⊎◌, inl, inr, ℕ, ◌<◌, Bool, true, false, if◌then◌else◌, Option, Some, None, arith, refl, sym, ◌∙◌, ap}
 use Rattle.pair_invariant.proofs.Common.{Setting, IsSetting, Reply, HeadFits, word_of_head, HeadWord, EntryAt, Move, StoreOf, Step, Trace}
-use Rattle.pair_invariant.proofs.Common.{same_word-other, marked, credited, amount_of, Pair, StoreB, StoreA, Decided, ActiveCall}
+use Rattle.pair_invariant.proofs.Common.{same_word-other, marked, relisted, credited, list_changed, amount_of, Pair, StoreB, StoreA, Decided, ActiveCall}
 use Rattle.pair_invariant.proofs.Common.{went_with, GoesOn, Core, holds_counts, KnowsTail, done_by, Invariant, counts_bare}
 use Rattle.pair_invariant.specs.spk_nums.specs.declared.replies.Value.TheVariants as value
 use Rattle.pair_invariant.specs.act_states.specs.declared.work.Tail.TheVariants.{Share as share_tail}
@@ -16,7 +17,7 @@ module _ (setup : Setting) (setting : IsSetting setup) (cores : ℕ → Core) (t
     (stage_is : a.stage ≡ Decided r drawn (share_tail (record p { at = StoreB })))
     (has : KnowsTail setup t c a.call a.counts (share_tail (record p { at = StoreB }))) where
   abbrev final : HeadWord
-  final = credited p.head_b (amount_of p.what)
+  final = credited (relisted p.grows p.head_b) (amount_of p.what)
 
   abbrev store : Move
   store = StoreOf (EntryAt p.b 0) (word_of_head final)
@@ -28,7 +29,17 @@ module _ (setup : Setting) (setting : IsSetting setup) (cores : ℕ → Core) (t
   knows = has.at
 
   final_fits : HeadFits final
-  final_fits = (omega (arith), tt, (let few = knows.few in omega (arith, few)))
+  final_fits = by p.grows
+    where
+      by : (g : Bool) → HeadFits (credited (relisted g p.head_b) (amount_of p.what))
+      by true = (omega arith, tt, (let few = knows.few in omega (arith, few)))
+      by false = (omega arith, tt, knows.fits.2)
+
+  -- the version rises, or the list is as it was
+  rises : (g : Bool) → p.grows ≡ g → (p.head_b.version < (credited (relisted g p.head_b) (amount_of p.what)).version)
+      ⊎ ((p.head_b.version ≡ (credited (relisted g p.head_b) (amount_of p.what)).version) × (list_changed t p.b ≡ false))
+  rises true is = inl (let few = knows.few in omega (arith, few))
+  rises false is = inr (refl, (knows.same is).clean)
 
   other_word : EntryAt p.b 0 ≢ EntryAt p.a 0
   other_word h = knows.differ (sym (same_frame p.b p.a h))
@@ -48,7 +59,7 @@ module _ (setup : Setting) (setting : IsSetting setup) (cores : ℕ → Core) (t
         fits = knows.fits;
         next_fits = final_fits;
         next_bare = refl;
-        rises = inl (let few = knows.few in omega (arith, few));
+        rises = rises p.grows refl;
         held = refl;
         free = ap (λ b. if b then true else (holds_counts (done_by r drawn) a.counts).marks (EntryAt p.b 0))
             (same_word-other (EntryAt p.b 0) (EntryAt p.a 0) other_word) ∙ counts_free (done_by r drawn) a.counts p.b 0;

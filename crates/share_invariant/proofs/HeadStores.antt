@@ -32,7 +32,6 @@ a_stored setup t e p x i on differ has = record {
   raw = last_left-there setup (EntryAt p.a 0) e t (λ h. differ (same_frame p.a 0 p.b i (h ∙ on))) ∙ has.raw;
   fits = has.fits;
   bare = has.bare;
-  few = has.few;
   clean = ap (λ w. turns_list w (left_of e.move e.found == e.found) p.a (list_changed t p.a)) on
       ∙ other i (left_of e.move e.found == e.found) (list_changed t p.a) ∙ has.clean;
 }

@@ -2,7 +2,7 @@
 use Rattle.pair_invariant.proofs.Common.{◌≡◌, ◌≢◌, inl, inr, ℕ, zero, suc, ◌+◌, ◌-◌, ◌≤◌, ◌<◌, ◌==◌, ◌&&◌, nat_le, nat_lt, Bool, true}
 use Rattle.pair_invariant.proofs.Common.{false, if◌then◌else◌, ◌∷◌, Option, Some, None, slice_get, arith, refl, sym, ◌∙◌, ap, subst}
 use Rattle.pair_invariant.proofs.Common.{cases_eq, cases_lt, eq-eqb, ne_eqb, le-leb, lt-leb, leb-true, ltb-true, ltb-false, Setting}
-use Rattle.pair_invariant.proofs.Common.{IsSetting, Call, Reply, Word, EntryAt, Move, StoreOf, word_of, same_same, State, put, put_same}
+use Rattle.pair_invariant.proofs.Common.{IsSetting, Call, Reply, Word, EntryAt, Move, StoreOf, word_of, left_of, same_same, State, put, put_same}
 use Rattle.pair_invariant.proofs.Common.{put_other, changes_in_frame, IsInFootprint, mark_of}
 use Rattle.pair_invariant.proofs.Common.{marked_by, Step, Trace, state_after, last_left}
 use Rattle.pair_invariant.proofs.Common.{was_stays, same_word-other, last_left-there, in_order, Pair, PairAt, StoreList, StoreB, Tail}
@@ -15,12 +15,13 @@ use Rattle.pair_invariant.specs.tcap_words.specs.Quality.{QualityFits}
 use Rattle.pair_invariant.specs.tcap_words.proofs.QualityLemmas.{spelling}
 use Rattle.pair_invariant.specs.stage_tcap.specs.Pairs.{word_of_list, store_next}
 use Rattle.pair_invariant.specs.act_states.specs.declared.work.Tail.TheVariants.{Share as share_tail}
-use Rattle.pair_invariant.specs.core_invariant.specs.Shares.{StoresB}
+use Rattle.pair_invariant.specs.core_invariant.specs.Shares.{StoresB, KeepsList}
 use Rattle.pair_invariant.specs.core_invariant.specs.Invariant.{holds_list}
 use Rattle.pair_invariant.specs.step_ways.proofs.Counting as counters
 use Rattle.pair_invariant.specs.kept_facts.proofs.Exclusive.{one_keeper, own_value}
 use Rattle.pair_invariant.specs.step_ways.proofs.Loads.{IsOfCall, core_in_call, call_is, inner}
 use Rattle.pair_invariant.specs.step_ways.proofs.Refusals.{GoodTook}
+use Rattle.pair_invariant.specs.kept_facts.proofs.Pairs.{keeps_on_b}
 use Rattle.pair_invariant.specs.kept_facts.proofs.Tcaps.{tcap_of}
 use Rattle.share_invariant.proofs.HeadStores.{counts_free, a_stored, shared_on}
 use Rattle.pair_invariant.proofs.MarksA.{spares_one}
@@ -31,9 +32,10 @@ none_some v h = cc
 
 -- What is known of both after a store of a word of the list.
 pub b_stored : (setup : Setting) (t : Trace) (e : Step) (c j : ℕ) (p : Pair) (x : PairAt) → word_of e.move ≡ EntryAt p.b (suc j)
+    → e.found ≡ last_left setup t (word_of e.move) → left_of e.move e.found ≡ word_of_list (in_order p.list_b) (suc j) → j < 8
     → e.enters ≡ None → state_after setup (e ∷ t) ≡ state_after setup t
     → (call : Call) → StoresB setup t c call p → StoresB setup (e ∷ t) c call (record p { at = x })
-b_stored setup t e c j p x on no_entry still call has = record {
+b_stored setup t e c j p x on found_is leaves low no_entry still call has = record {
   a = a_stored setup t e p x (suc j) on has.differ has.a;
   raw = last_left-there setup (EntryAt p.b 0) e t (λ h. other_index p.b p.b j (h ∙ on)) ∙ has.raw;
   fits = has.fits;
@@ -43,10 +45,16 @@ b_stored setup t e c j p x on no_entry still call has = record {
   tcap = subst (λ s. HasTcap s c p.b) (sym still) has.tcap;
   differ = has.differ;
   spelled = has.spelled;
+  same = λ is. let stay = keeps_on_b setup t e found_is p (λ i at. as_found (has.same is)) (has.same is) in
+      record { clean = stay.clean; words = stay.words };
 }
   where
     other_index : (f g k : ℕ) → EntryAt f 0 ≡ EntryAt g (suc k) → ⊥
     other_index f g k h = cc
+
+    -- a word of B's own list is stored as it is
+    as_found : KeepsList setup t p → left_of e.move e.found ≡ e.found
+    as_found keeps = leaves ∙ sym (keeps.words j low) ∙ ap (last_left setup t) (sym on) ∙ sym found_is
 
 -- What a delegation holds after the store of word n, where more words follow or not: both heads, and the words after it.
 module _ (p : Pair) (rest : Holding) (bare : (g i : ℕ) → rest.bare g i ≡ None) (n : ℕ) (last : n ≤ 8) where
@@ -223,7 +231,8 @@ module _ (setup : Setting) (setting : IsSetting setup) (cores : ℕ → Core) (t
     known = by more more_is
       where
         stored : (x : PairAt) → StoresB setup (e ∷ t) c a.call (record p { at = x })
-        stored x = b_stored setup t e c j (record p { at = StoreList (suc j) }) x refl refl refl a.call knows
+        stored x = b_stored setup t e c j (record p { at = StoreList (suc j) }) x refl refl refl (let most = last in omega (arith, most)) refl refl
+            a.call knows
 
         by : (b : Bool) → nat_lt (suc j) 8 ≡ b
             → KnowsStoresAt setup (e ∷ t) c a.call (record p { at = store_next b (suc j) }) (store_next b (suc j))

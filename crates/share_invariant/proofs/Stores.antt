@@ -23,7 +23,7 @@ module _ (setup : Setting) (setting : IsSetting setup) (cores : ℕ → Core) (t
   final_fits = by moved
     where
       by : (m : Bool) → HeadFits (left_a m p.head_a (amount_of p.what))
-      by true = (let low = knows.fits.0 in omega (arith, low), tt, (let few = knows.few in omega (arith, few)))
+      by true = (let low = knows.fits.0 in omega (arith, low), tt, knows.fits.2)
       by false = knows.fits
 
   final_bare : final.mark ≡ None
@@ -33,10 +33,10 @@ module _ (setup : Setting) (setting : IsSetting setup) (cores : ℕ → Core) (t
       by true = refl
       by false = knows.bare
 
-  -- the version rises with a head that has less, and where it is as it was found the list is too
+  -- the version is as it was found, and so is the list
   rises : (m : Bool) → (p.head_a.version < (left_a m p.head_a (amount_of p.what)).version)
       ⊎ ((p.head_a.version ≡ (left_a m p.head_a (amount_of p.what)).version) × (list_changed t p.a ≡ false))
-  rises true = inl (let few = knows.few in omega (arith, few))
+  rises true = inr (refl, knows.clean)
   rises false = inr (refl, knows.clean)
 
   pub store_a_good : GoodTook setup cores t c (StoreOf (EntryAt p.a 0) (word_of_head final))

@@ -118,7 +118,7 @@ fn setup_fault_code(fault: SetupFault) -> u8
 }
 
 // The setup of as many cores as there are grants, or its first fault.
-fn setup_of(frames: u16, calls: u32, epochs: u16, given: &[SpeckGrant]) -> Result<Setup, SetupFault>
+fn setup_of(frames: u16, calls: u64, epochs: u16, given: &[SpeckGrant]) -> Result<Setup, SetupFault>
     ensures { TellsSetup (setting_of frames calls epochs given.now) result }
 {
     if 8 < given.len() {
@@ -130,14 +130,14 @@ fn setup_of(frames: u16, calls: u32, epochs: u16, given: &[SpeckGrant]) -> Resul
 /// Boots a machine of a core for each grant, core 0's first, of so many frames, whose cores may each make so many calls, and whose liveness
 /// numbers have so many epochs, into an empty slot, and answers 0. Else 240 where the slot is not empty; or the first that holds of these,
 /// with the slot as it was: 241 where there are not 1 to 8 grants; 242 where there are not `4 + 2 * cores` to 512 frames; 243 where a budget
-/// is past 500,000,000, a scheduler past 63, or a quality 0 or past 16,777,215; 249 where there are more than 4,194,304 calls; 250 where
+/// is past 500,000,000, a scheduler past 63, or a quality 0 or past 16,777,215; 249 where there are more than 2^40 - 1 calls; 250 where
 /// there is no epoch; 247 where memory has run out.
 #[unsafe(no_mangle)]
 pub extern "C" fn speck_inner_boot_with(
     alloc: Global,
     machine: &mut Slot,
     frames: u16,
-    calls: u32,
+    calls: u64,
     epochs: u16,
     grants: &[SpeckGrant],
 ) -> u8

@@ -54,7 +54,7 @@ impl Gate for Crossing {
 
     ghost is_free = { λ _. false };
 
-    fn may_go(&self, core: CoreNo, made: u32) -> bool {
+    fn may_go(&self, core: CoreNo, made: u64) -> bool {
         let _asked = self.asked.fetch_add(1, Ordering::SeqCst);
         let goes = match (core.number(), made) {
             (0, 1) => {

@@ -17,13 +17,13 @@ fn granted(cores: u8) -> Grants {
 
 #[test]
 fn setups_end_where_the_machine_does(rt: HostRuntime) {
-    assert!(rt; Setup::new(8, 512, granted(8), 4_194_304, 65535).is_some());
+    assert!(rt; Setup::new(8, 512, granted(8), (1 << 40) - 1, 65535).is_some());
     assert!(rt; Setup::new(1, 6, granted(1), 0, 1).is_some());
     assert!(rt; Setup::new(9, 512, granted(9), 0, 1).is_none());
     assert!(rt; Setup::new(2, 7, granted(2), 0, 1).is_none());
     assert!(rt; Setup::new(2, 32, granted(1), 0, 1).is_none());
     assert!(rt; Setup::new(2, 32, granted(2), 0, 0).is_none());
-    assert!(rt; Setup::new(2, 32, granted(2), 4_194_305, 1).is_none());
+    assert!(rt; Setup::new(2, 32, granted(2), 1 << 40, 1).is_none());
 }
 
 #[test]

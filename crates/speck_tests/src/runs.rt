@@ -83,7 +83,7 @@ impl Gate for Meeting {
 
     ghost is_free = { λ _. false };
 
-    fn may_go(&self, core: CoreNo, made: u32) -> bool {
+    fn may_go(&self, core: CoreNo, made: u64) -> bool {
         let _asked = self.asked.fetch_add(1, Ordering::SeqCst);
         let goes = match (core.number(), made) {
             (0, 0) => {
@@ -112,7 +112,7 @@ impl Gate for Shut {
 
     ghost is_free = { λ _. false };
 
-    fn may_go(&self, _core: CoreNo, _made: u32) -> bool {
+    fn may_go(&self, _core: CoreNo, _made: u64) -> bool {
         false
     }
 }

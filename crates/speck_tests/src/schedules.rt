@@ -45,7 +45,7 @@ struct InOrder {
 }
 
 // How many calls of the order come before the core's next one, where it has made so many. Behind its last one all do.
-fn calls_before(order: &[u8], core: u8, made: u32) -> u64 {
+fn calls_before(order: &[u8], core: u8, made: u64) -> u64 {
     let mut left = made;
     for (at, next) in order.iter().enumerate() {
         if *next == core {
@@ -63,7 +63,7 @@ impl Gate for InOrder {
 
     ghost is_free = { λ _. false };
 
-    fn may_go(&self, core: CoreNo, made: u32) -> bool {
+    fn may_go(&self, core: CoreNo, made: u64) -> bool {
         if made > 0 {
             let _before = self.returned.fetch_add(1, Ordering::SeqCst);
         }

@@ -1,4 +1,4 @@
-use Rattle.std.specs.Prelude.{◌≡◌, ℕ, ◌+◌, ◌*◌, ◌<◌, ◌≤◌, ◌^◌, List, length, All}
+use Rattle.std.specs.Prelude.{◌≡◌, ℕ, ◌+◌, ◌-◌, ◌*◌, ◌<◌, ◌≤◌, ◌^◌, List, length, All}
 use Rattle.spk_nums.specs.declared.grants.Grant.{Grant}
 
 -- a setup as contracts see it: cores, frames, core by core what it is granted, and the limits on calls and epochs
@@ -21,6 +21,6 @@ pub record IsSetting (s : Setting) : Type 0 where
   pub most_frames : s.frames ≤ 512
   pub granted : length s.grants ≡ s.cores
   pub grants_fit : All GrantFits s.grants
-  pub most_calls : s.calls ≤ 4194304
+  pub most_calls : s.calls ≤ 2 ^ 40 - 1
   pub some_epoch : 1 ≤ s.epochs
   pub most_epochs : s.epochs < 2 ^ 16

@@ -1,5 +1,5 @@
 -- Why parts are no setup.
-use Rattle.std.specs.Prelude.{◌≡◌, ◌≢◌, ℕ, ◌+◌, ◌*◌, ◌<◌, ◌≤◌, ◌⊎◌, List, codes, length, replicate, All, Result, Ok, Err}
+use Rattle.std.specs.Prelude.{◌≡◌, ◌≢◌, ℕ, ◌+◌, ◌-◌, ◌*◌, ◌^◌, ◌<◌, ◌≤◌, ◌⊎◌, List, codes, length, replicate, All, Result, Ok, Err}
 use Rattle.spk_nums.specs.declared.grants.Grant.{Grant}
 use Rattle.spk_nums.specs.Setting.{Setting, IsSetting, GrantFits}
 use Rattle.spk_nums.specs.declared.setup_fault.SetupFault.{SetupFault}
@@ -11,7 +11,7 @@ fault_text fault.Cores = codes "not 1 to 8 cores"
 fault_text fault.Frames = codes "not 4 + 2 * cores to 512 frames"
 fault_text fault.GrantCount = codes "not one grant for each core"
 fault_text fault.Grant = codes "a grant out of range"
-fault_text fault.Calls = codes "more than 4194304 calls of a core"
+fault_text fault.Calls = codes "more than 1099511627775 calls of a core"
 fault_text fault.Epochs = codes "no epoch of a liveness number"
 
 -- there are 1 to 8 cores
@@ -32,8 +32,8 @@ FaultOf s fault.Cores = (s.cores < 1) ⊎ (8 < s.cores)
 FaultOf s fault.Frames = CoresFit s × ((s.frames < 4 + 2 * s.cores) ⊎ (512 < s.frames))
 FaultOf s fault.GrantCount = FramesFit s × (length s.grants ≢ s.cores)
 FaultOf s fault.Grant = GrantsFit s × (All GrantFits s.grants → ⊥)
-FaultOf s fault.Calls = GrantsFit s × All GrantFits s.grants × (4194304 < s.calls)
-FaultOf s fault.Epochs = GrantsFit s × All GrantFits s.grants × (s.calls ≤ 4194304) × (s.epochs < 1)
+FaultOf s fault.Calls = GrantsFit s × All GrantFits s.grants × (2 ^ 40 - 1 < s.calls)
+FaultOf s fault.Epochs = GrantsFit s × All GrantFits s.grants × (s.calls ≤ 2 ^ 40 - 1) × (s.epochs < 1)
 
 -- the answer is the setup, where it is within the limits, else its first fault
 abbrev pub TellsSetup : Setting → Result Setting SetupFault → Type 0
@@ -47,4 +47,4 @@ equal_grant budget = record { budget = budget; sched = 0; quality = 1 }
 -- the setup of cores that are granted the same, with the most calls and epochs
 abbrev pub equal_setting : ℕ → ℕ → ℕ → Setting
 equal_setting cores frames budget =
-    record { cores = cores; frames = frames; grants = replicate cores (equal_grant budget); calls = 4194304; epochs = 65535 }
+    record { cores = cores; frames = frames; grants = replicate cores (equal_grant budget); calls = 2 ^ 40 - 1; epochs = 65535 }

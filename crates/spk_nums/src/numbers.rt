@@ -216,10 +216,10 @@ impl FrameArg {
     }
 }
 
-/// A moment of the machine's logical clock, below 2^28; 0 stands for never.
+/// A moment of the machine's logical clock, below 2^43; 0 stands for never.
 #[derive(Clone, Copy, PartialEq, Eq, PartialOrd, Ord, Debug)]
 pub struct Stamp {
-    number: u32,
+    number: u64,
 }
 
 impl Model for Stamp {
@@ -229,26 +229,26 @@ impl Model for Stamp {
 
     ghost view = { λ n. n.number };
 
-    ghost invariant = { λ n. n.number < 2 ^ 28 };
+    ghost invariant = { λ n. n.number < 2 ^ 43 };
 
     ghost inverse = { λ n. record { number = n } };
 }
 
 impl Stamp {
-    /// The stamp of this number, below 2^28.
+    /// The stamp of this number, below 2^43.
     #[inline]
-    pub fn new(number: u32) -> Stamp
-        requires { number < 2 ^ 28 }
+    pub fn new(number: u64) -> Stamp
+        requires { number < 2 ^ 43 }
         ensures { result ≡ number }
     {
         Stamp { number }
     }
 
-    /// The number itself, below 2^28.
+    /// The number itself, below 2^43.
     #[inline]
-    pub fn number(self) -> u32
+    pub fn number(self) -> u64
         ensures value { result ≡ self }
-        ensures range { self < 2 ^ 28 }
+        ensures range { self < 2 ^ 43 }
     {
         self.number
     }

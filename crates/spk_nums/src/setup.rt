@@ -8,13 +8,13 @@ use crate::grants::{Grant, Grants};
 use std::marker::Model;
 
 /// A machine to boot, within the limits: 1 to 8 cores, `4 + 2 * cores` to 512 frames, one grant for each core, at
-/// most 4,194,304 calls of each core, and 1 to 65,535 epochs of each liveness number.
+/// most 2^40 - 1 calls of each core, and 1 to 65,535 epochs of each liveness number.
 #[derive(Clone, Copy, PartialEq, Eq, Debug)]
 pub struct Setup {
     cores: u8,
     frames: u16,
     grants: Grants,
-    calls: u32,
+    calls: u64,
     epochs: u16,
 }
 
@@ -39,12 +39,12 @@ impl Model for Setup {
 impl Setup {
     /// The setup of these parts: None exactly where one of them is outside the limits of a setup, or where the
     /// number of grants is not `cores`.
-    pub fn new(cores: u8, frames: u16, grants: Grants, calls: u32, epochs: u16) -> Option<Setup>
+    pub fn new(cores: u8, frames: u16, grants: Grants, calls: u64, epochs: u16) -> Option<Setup>
         ensures { let setting : Setting = record { cores = cores; frames = frames; grants = grants; calls = calls; epochs = epochs } in
             SomeIff result (IsSetting setting) setting }
     {
         let sized = 1 <= cores && cores <= 8 && 4 + 2 * u16::from(cores) <= frames && frames <= 512;
-        let limited = calls <= 4_194_304 && 1 <= epochs;
+        let limited = calls <= (1 << 40) - 1 && 1 <= epochs;
         let granted = grants.len() == usize::from(cores) && grants_fit(grants.as_slice());
         if sized && limited && granted {
             Some(Setup {
@@ -86,9 +86,9 @@ impl Setup {
         &self.grants
     }
 
-    /// The most calls that a core may make, at most 4,194,304.
+    /// The most calls that a core may make, at most 2^40 - 1.
     #[inline]
-    pub fn calls(&self) -> u32
+    pub fn calls(&self) -> u64
         ensures value { result ≡ self.now.calls }
         ensures limits { IsSetting self.now }
     {

@@ -20,7 +20,7 @@ pub enum SetupFault {
     GrantCount,
     /// A grant has a budget past 500,000,000, a scheduler past 63, or a quality that is 0 or past 16,777,215.
     Grant,
-    /// A core may make more than 4,194,304 calls.
+    /// A core may make more than 2^40 - 1 calls.
     Calls,
     /// A liveness number has no epoch.
     Epochs,
@@ -35,7 +35,7 @@ impl fmt::Display for SetupFault {
             SetupFault::Frames => "not 4 + 2 * cores to 512 frames",
             SetupFault::GrantCount => "not one grant for each core",
             SetupFault::Grant => "a grant out of range",
-            SetupFault::Calls => "more than 4194304 calls of a core",
+            SetupFault::Calls => "more than 1099511627775 calls of a core",
             SetupFault::Epochs => "no epoch of a liveness number",
         })
     }
@@ -49,7 +49,7 @@ impl Setup {
         cores: u8,
         frames: u16,
         grants: Grants,
-        calls: u32,
+        calls: u64,
         epochs: u16,
     ) -> Result<Setup, SetupFault>
         ensures { TellsSetup (record { cores = cores; frames = frames; grants = grants; calls = calls; epochs = epochs }) result }
@@ -66,7 +66,7 @@ impl Setup {
         if !grants_fit(grants.as_slice()) {
             return Err(SetupFault::Grant);
         }
-        if 4_194_304 < calls {
+        if (1 << 40) - 1 < calls {
             return Err(SetupFault::Calls);
         }
         Setup::new(cores, frames, grants, calls, epochs).ok_or(SetupFault::Epochs)
@@ -84,7 +84,7 @@ impl Setup {
             cores,
             frames,
             equal_grants(cores, budget),
-            4_194_304,
+            (1 << 40) - 1,
             65_535,
         )
     }

@@ -6,11 +6,13 @@ use Rattle.frame_words.specs.Count.{NumberFits, word_of_count, count_of_word}
 use Rattle.frame_words.specs.declared.count_word.CountWord.{CountWord}
 use Rattle.frame_words.specs.declared.count_word.Hold.{Hold}
 use Rattle.frame_words.specs.declared.count_word.Hold.TheVariants as hold
+use Rattle.frame_words.specs.Residue.{wrapped}
 use Rattle.frame_words.proofs.CountLemmas as counts
+use Rattle.frame_words.proofs.ResidueLemmas.{wrapped_same}
 use Rattle.word_map.specs.Word.{CountAt}
 use Rattle.word_map.specs.Places.{Shape, IsIn}
 use Rattle.word_map.specs.Moves.{word_of, StoreOf}
-use Rattle.stage_pins.specs.Counts.{unheld, in_field, changed}
+use Rattle.stage_pins.specs.Counts.{unheld, changed}
 use Rattle.stage_pins.specs.Acquire.{PinFits, pinned_at, pin_move, expected_by, pin_after}
 use Rattle.stage_pins.specs.Acquire.{pin_end, load_end, end_by_hold, after_hold, after_load}
 use Rattle.stage_pins.specs.Commit.{SettleFits, settle_move}
@@ -44,11 +46,6 @@ pin_is_in s (AtCompare frame core count stamp) h = (h.0, h.1)
 pub settle_is_in : (s : Shape) (c : Settle) → SettleFits s c → IsIn s (word_of (settle_move c))
 settle_is_in s c h = (h.frame, h.core)
 
--- a count within its field stays what it is
-pub in_field_same : (z : ℤ) → NumberFits z → in_field z ≡ z
-in_field_same (pos n) h = ap pos (omega arith)
-in_field_same (negsuc n) h = ap negsuc (omega arith)
-
 expects_by_hold : (frame core found : ℕ) (v : CountWord) (h : Hold) → v.hold ≡ h → word_of_count v ≡ found → end_by_hold h ≡ Going
     → expected_by (pin_move (after_hold frame core v.count v.stamp h)) ≡ Some found
 expects_by_hold frame core found v hold.Unheld is spells goes =
@@ -73,7 +70,7 @@ plus_none (negsuc n) = grind (arith, ints)
 
 -- a count without a change is what it was
 pub changed_none : (count : ℤ) → NumberFits count → changed count (pos 0) ≡ count
-changed_none count h = ap in_field (plus_none count) ∙ in_field_same count h
+changed_none count h = ap wrapped (plus_none count) ∙ wrapped_same count h
 
 -- with no change and no stamp a commit gives back the word that was found
 pub gives_back : (frame core stamp : ℕ) (count : ℤ) → NumberFits count

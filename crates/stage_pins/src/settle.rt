@@ -15,7 +15,7 @@ ghost use Rattle.stage_pins.specs.Acquire.{pinned_at};
 ghost use Rattle.stage_pins.specs.Commit.{SettleFits, settled_word, settle_move};
 
 use crate::pin::Pinned;
-use frame_words::{CountWord, Hold};
+use frame_words::{CountWord, Hold, wrapped};
 use spk_nums::{StageEnd, Stamp, WordOp};
 use word_map::Layout;
 
@@ -39,8 +39,8 @@ impl Settle {
         Settle { pin, change, stamp }
     }
 
-    /// The step: the store of the count word, held by no core. A count that would leave its field stays at the
-    /// field's end, and a stamp is never replaced by an earlier one. The frame and the core are below the layout's.
+    /// The step: the store of the count word, held by no core. The count is changed modulo 2^16, and a stamp is never
+    /// replaced by an earlier one. The frame and the core are below the layout's.
     #[inline]
     pub fn next(&self, layout: &Layout) -> WordOp
         requires { SettleFits layout.now self.now }
@@ -78,20 +78,13 @@ impl Settle {
     }
 }
 
-// A count after a change; it stays within its field.
+// A count after a change, modulo 2^16.
 #[inline]
 fn changed(count: i32, change: i32) -> i32
     ensures value { result ≡ changed count change }
     ensures range { NumberFits result }
 {
-    let sum = i64::from(count) + i64::from(change);
-    if sum < -(1 << 30) {
-        -(1 << 30)
-    } else if sum < 1 << 30 {
-        sum as i32
-    } else {
-        (1 << 30) - 1
-    }
+    wrapped(i64::from(count) + i64::from(change))
 }
 
 // The later of a word's stamp and one that was drawn, if one was.

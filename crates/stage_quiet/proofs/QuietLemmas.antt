@@ -71,17 +71,17 @@ close_is_in s (close.AtDraw node entry) h = tt
 close_is_in s (close.AtStore node entry stamp) h = (h.0, h.1)
 
 -- a drawn stamp is within its range, and is the clock itself where that is
-pub drawn_in_range : (clock : ℕ) → (1 ≤ drawn_stamp clock) × (drawn_stamp clock < 2 ^ 28)
+pub drawn_in_range : (clock : ℕ) → (1 ≤ drawn_stamp clock) × (drawn_stamp clock < 2 ^ 43)
 drawn_in_range clock = omega arith
 
-pub drawn_same : (clock : ℕ) → 1 ≤ clock → clock < 2 ^ 28 → drawn_stamp clock ≡ clock
+pub drawn_same : (clock : ℕ) → 1 ≤ clock → clock < 2 ^ 43 → drawn_stamp clock ≡ clock
 drawn_same clock some small = omega arith
 
 -- the stamp of a clock is within its range, and is the clock itself where that is
-pub stamp_in_range : (clock : ℕ) → stamp_of_clock clock < 2 ^ 28
+pub stamp_in_range : (clock : ℕ) → stamp_of_clock clock < 2 ^ 43
 stamp_in_range clock = omega arith
 
-pub stamp_same : (clock : ℕ) → clock < 2 ^ 28 → stamp_of_clock clock ≡ clock
+pub stamp_same : (clock : ℕ) → clock < 2 ^ 43 → stamp_of_clock clock ≡ clock
 stamp_same clock small = omega arith
 
 close_compared_fits : (s : Shape) (b : Bool) (node entry word core : ℕ)

@@ -170,10 +170,10 @@ pub fn drawn(clock: u64) -> Stamp
 {
     if clock == 0 {
         Stamp::new(1)
-    } else if clock < 1 << 28 {
-        Stamp::new(clock as u32)
+    } else if clock < 1 << 43 {
+        Stamp::new(clock)
     } else {
-        Stamp::new((1 << 28) - 1)
+        Stamp::new((1 << 43) - 1)
     }
 }
 

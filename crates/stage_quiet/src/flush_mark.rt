@@ -96,9 +96,9 @@ impl FlushMark {
 fn stamp_of(clock: u64) -> Stamp
     ensures { result ≡ stamp_of_clock clock }
 {
-    if clock < 1 << 28 {
-        Stamp::new(clock as u32)
+    if clock < 1 << 43 {
+        Stamp::new(clock)
     } else {
-        Stamp::new((1 << 28) - 1)
+        Stamp::new((1 << 43) - 1)
     }
 }

@@ -1,6 +1,6 @@
 -- The steps of a sweep: it freezes the counters of a frame in order, judges their sum, scans for the latest of their stamps, and looks
 -- whether the object is empty.
-use Rattle.std.specs.Prelude.{ℕ, ℤ, pos, negsuc, ◌+◌, ◌-◌, ◌^◌, ◌<◌, ◌==◌, nat_lt, min, Bool}
+use Rattle.std.specs.Prelude.{ℕ, ℤ, ◌+◌, ◌<◌, ◌==◌, nat_lt, Bool}
 use Rattle.std.specs.Prelude.{Option, Some, None, List, [], ◌∷◌, ◌++◌, length, if◌then◌else◌}
 use Rattle.spk_nums.specs.declared.kinds.Obj.{Obj}
 use Rattle.spk_nums.specs.declared.replies.Reply.{Reply}
@@ -8,6 +8,7 @@ use Rattle.spk_nums.specs.declared.replies.Reply.TheVariants as reply
 use Rattle.spk_nums.specs.declared.steps.StageEnd.{StageEnd}
 use Rattle.spk_nums.specs.declared.steps.StageEnd.TheVariants.{Going, Decided, Done, Refuse}
 use Rattle.frame_words.specs.Count.{NumberFits, word_of_count, count_of_word}
+use Rattle.frame_words.specs.Residue.{residue}
 use Rattle.frame_words.specs.declared.count_word.CountWord.{CountWord}
 use Rattle.frame_words.specs.declared.count_word.Hold.{Hold}
 use Rattle.frame_words.specs.declared.count_word.Hold.TheVariants.{Unheld, Pinned, Closed}
@@ -79,13 +80,12 @@ abbrev pub load_refuses : Option CountWord → Option Reply
 load_refuses None = Some reply.Raced
 load_refuses (Some v) = hold_refuses v.hold
 
--- a sum above 0 is the number of references that stand
+-- a sum that is not 0, modulo 2 ^ 16, is the number of references that stand
 abbrev pub some_referenced : Bool → ℕ → Option Reply
-some_referenced none n = if none then None else Some (reply.Referenced (min n (2 ^ 32 - 1)))
+some_referenced none n = if none then None else Some (reply.Referenced n)
 
 abbrev pub sum_refuses : ℤ → Option Reply
-sum_refuses (pos n) = some_referenced (n == 0) n
-sum_refuses (negsuc n) = None
+sum_refuses sum = some_referenced (residue sum == 0) (residue sum)
 
 -- a compare is lost, or the last counter is frozen and references stand
 abbrev pub compare_refuses : Bool → Bool → ℤ → Option Reply

@@ -9,7 +9,7 @@ use frame_words::{CountWord, Hold};
 use spk_nums::Stamp;
 use std::marker::Model;
 
-/// Up to 8 count words, that of the first counter first, each with a count from -2^30 to 2^30 - 1; contracts see their
+/// Up to 8 count words, that of the first counter first, each with a count from -2^15 to 2^15 - 1; contracts see their
 /// list.
 #[derive(Clone, Copy, PartialEq, Eq, Debug)]
 pub struct CountWords {
@@ -93,7 +93,7 @@ impl CountWords {
         true
     }
 
-    /// The sum of their counts: the references to the frame, where they are all its counters.
+    /// The sum of their counts: the references to the frame, modulo 2^16, where they are all its counters.
     pub fn sum(&self) -> i64
         ensures { result ≡ sum_of_counts self.now }
     {

@@ -31,7 +31,7 @@ ghost use Rattle.stage_sweep.specs.Freeze.{sweep_refuses, sweep_next, at_after, 
 
 use crate::count_words::CountWords;
 use crate::empty::{Owned, empty_refuses, loads_of, may_be_cached, owned_after};
-use frame_words::{CountWord, FrameWord, Hold};
+use frame_words::{CountWord, FrameWord, Hold, residue};
 use spk_nums::{CoreNo, EntryNo, FrameNo, Obj, Reply, StageEnd, Stamp, WordOp};
 use stage_quiet::Quiet;
 use word_map::Layout;
@@ -129,7 +129,7 @@ impl Sweep {
     }
 
     /// Takes the word that the step found. A counter that a core holds is refused with `busy`, and a lost compare with
-    /// `raced`; with `referenced` where the counters, all frozen, sum to more than 0; with `quiescing` or `unflushed`
+    /// `raced`; with `referenced` where the counters, all frozen, do not sum to 0, modulo 2^16; with `quiescing` or `unflushed`
     /// where the latest stamp is still waited for; with `not-empty` where the object holds something, and `busy` where
     /// a core has marked what it holds; a word that is none of its place with `raced`. The last step is else done with
     /// what was found. The frame and the core are below the layout's, and stay so while the sweep goes on.
@@ -375,17 +375,16 @@ fn compare_refuses(same: bool, more: bool, sum: i64) -> Option<Reply>
     }
 }
 
-// A sum above 0 is the number of references that stand.
+// A sum that is not 0, modulo 2^16, is the number of references that stand.
 #[inline]
 fn sum_refuses(sum: i64) -> Option<Reply>
     ensures { result ≡ sum_refuses sum }
 {
-    if sum <= 0 {
+    let references = residue(sum);
+    if references == 0 {
         None
-    } else if sum < 1 << 32 {
-        Some(Reply::Referenced(sum as u32))
     } else {
-        Some(Reply::Referenced(u32::MAX))
+        Some(Reply::Referenced(u32::from(references)))
     }
 }
 

@@ -1,3 +1,6 @@
+-- What the crates above name through this one.
+pub use Rattle.quality_lists
+-- Its own.
 pub mod Heads
 pub mod Lists
 pub mod Charging

@@ -1,5 +1,5 @@
 -- The steps of a call on two temporal capabilities, and what each takes from the word that it finds.
-use Rattle.std.specs.Prelude.{ℕ, ◌+◌, ◌-◌, ◌<◌, ◌≤◌, ◌==◌, ◌&&◌, nat_lt, is_none, Bool, true, false, Option, Some, None, List, slice_get, if◌then◌else◌}
+use Rattle.std.specs.Prelude.{ℕ, ◌+◌, ◌-◌, ◌<◌, ◌≤◌, ◌==◌, ◌&&◌, nat_lt, is_none, not, Bool, true, false, Option, Some, None, List, slice_get, if◌then◌else◌}
 use Rattle.spk_nums.specs.Merging.{preempts_by}
 use Rattle.spk_nums.specs.declared.replies.Reply.{Reply}
 use Rattle.spk_nums.specs.declared.replies.Reply.TheVariants as reply
@@ -14,7 +14,7 @@ use Rattle.tcap_words.specs.declared.quality_word.QualityWord.{QualityWord}
 use Rattle.word_map.specs.Word.{EntryAt}
 use Rattle.word_map.specs.Places.{Shape}
 use Rattle.word_map.specs.Moves.{Move, LoadOf, CompareOf, StoreOf}
-use Rattle.stage_tcap.specs.Heads.{head, marked, debited, credited, VersionFits}
+use Rattle.stage_tcap.specs.Heads.{head, marked, relisted, debited, credited, VersionFits}
 use Rattle.stage_tcap.specs.Lists.{read_word, in_order, same_list, merge_of}
 use Rattle.stage_tcap.specs.Charging.{head_end}
 use Rattle.stage_tcap.specs.declared.pair.Pair.{Pair}
@@ -72,7 +72,7 @@ move_at p (ListB entry) = LoadOf (EntryAt p.b entry)
 move_at p CompareB = CompareOf (EntryAt p.b 0) (word_of_head p.head_b) (word_of_head (next_b p.what p.core p.head_b))
 move_at p (AgainB r) = LoadOf (EntryAt p.b 0)
 move_at p (StoreList entry) = StoreOf (EntryAt p.b entry) (word_of_list (in_order p.list_b) entry)
-move_at p StoreB = StoreOf (EntryAt p.b 0) (word_of_head (credited p.head_b (amount_of p.what)))
+move_at p StoreB = StoreOf (EntryAt p.b 0) (word_of_head (credited (relisted p.grows p.head_b) (amount_of p.what)))
 move_at p (StoreA moved v) = StoreOf (EntryAt p.a 0) (word_of_head (left_a moved p.head_a (amount_of p.what)))
 
 abbrev pub pair_move : Pair → Move
@@ -102,6 +102,12 @@ whole_b (Transfer ticks) xs ys = Some ys
 whole_b (Delegate ticks) xs ys = merge_of xs ys
 whole_b Test xs ys = Some ys
 
+-- whether the list that B is given is another than its own
+abbrev pub grows_to : PairWork → Option (List (ℕ × ℕ)) → List (ℕ × ℕ) → Bool
+grows_to (Transfer ticks) given ys = false
+grows_to (Delegate ticks) given ys = not (same_list (in_order given) ys)
+grows_to Test given ys = false
+
 abbrev pub read_b : Bool → PairWork → List (ℕ × ℕ) → Option (List (ℕ × ℕ)) → Option (List (ℕ × ℕ))
 read_b more what xs ys = if more then ys else whole_b what xs (in_order ys)
 
@@ -109,6 +115,15 @@ read_b more what xs ys = if more then ys else whole_b what xs (in_order ys)
 abbrev pub list_b_after : PairAt → PairWork → Option (List (ℕ × ℕ)) → Option (List (ℕ × ℕ)) → ℕ → Option (List (ℕ × ℕ))
 list_b_after (ListB entry) what xs ys found = read_b (nat_lt entry 8) what (in_order xs) (read_word ys (quality_of_word found))
 list_b_after _ what xs ys found = ys
+
+-- whether it is, once the last word of list B is read
+abbrev pub read_grows : Bool → PairWork → List (ℕ × ℕ) → List (ℕ × ℕ) → Bool → Bool
+read_grows more what xs ys old = if more then old else grows_to what (whole_b what xs ys) ys
+
+abbrev pub grows_after : PairAt → PairWork → Option (List (ℕ × ℕ)) → Option (List (ℕ × ℕ)) → Bool → ℕ → Bool
+grows_after (ListB entry) what xs ys old found =
+    read_grows (nat_lt entry 8) what (in_order xs) (in_order (read_word ys (quality_of_word found))) old
+grows_after _ what xs ys old found = old
 
 -- what is known after a step that finds this word
 abbrev pub noted_by : Pair → ℕ → Pair
@@ -121,6 +136,7 @@ noted_by p found = record {
   head_b = head_b_after p.at p.head_b found;
   list_a = list_a_after p.at p.list_a found;
   list_b = list_b_after p.at p.what p.list_a p.list_b found;
+  grows = grows_after p.at p.what p.list_a p.list_b p.grows found;
   at = p.at;
 }
 
@@ -219,6 +235,7 @@ pair_after p found = record {
   head_b = head_b_after p.at p.head_b found;
   list_a = list_a_after p.at p.list_a found;
   list_b = list_b_after p.at p.what p.list_a p.list_b found;
+  grows = grows_after p.at p.what p.list_a p.list_b p.grows found;
   at = at_after (noted_by p found) p.at found;
 }
 

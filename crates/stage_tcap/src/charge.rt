@@ -1,8 +1,8 @@
 //! Charging ticks to a temporal capability.
 //!
 //! The head is loaded, and a compare puts the charged one in its place: with the ticks less, or with no budget where it has
-//! fewer, and with the next version. So a charge is lost only where another core has changed the head in between, or its
-//! list, whose every change raises the version too.
+//! fewer. So a charge is lost only where another core has changed the head in between: the budget, or the version, which each
+//! change of the list raises.
 
 ghost use Rattle.std.specs.Prelude.{◌≡◌, ◌<◌, ◌==◌, min};
 ghost use Rattle.spk_nums.specs.WordSteps.{place_in};

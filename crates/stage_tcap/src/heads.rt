@@ -2,7 +2,7 @@
 
 ghost use Rattle.std.specs.Prelude.{◌≡◌, ◌<◌, ◌^◌};
 ghost use Rattle.tcap_words.specs.Head.{word_of_head};
-ghost use Rattle.stage_tcap.specs.Heads.{head, marked, raised, debited, credited, VersionFits};
+ghost use Rattle.stage_tcap.specs.Heads.{head, marked, raised, relisted, debited, credited, VersionFits};
 
 use spk_nums::CoreNo;
 use tcap_words::HeadWord;
@@ -45,7 +45,25 @@ fn raised(version: u32) -> u32
     }
 }
 
-// The head with so many ticks less, none where it has fewer, and the next version.
+// The head in the next version where its list is changed, and in its own where not.
+#[inline]
+pub(crate) fn relisted(changed: bool, h: &HeadWord) -> HeadWord
+    requires { VersionFits h.now }
+    ensures value { result ≡ relisted changed h.now }
+    ensures range { VersionFits result }
+{
+    HeadWord {
+        budget: h.budget,
+        mark: h.mark,
+        version: if changed {
+            raised(h.version)
+        } else {
+            h.version
+        },
+    }
+}
+
+// The head with so many ticks less, none where it has fewer.
 #[inline]
 pub(crate) fn debited(h: &HeadWord, ticks: u32) -> HeadWord
     requires { VersionFits h.now }
@@ -55,11 +73,11 @@ pub(crate) fn debited(h: &HeadWord, ticks: u32) -> HeadWord
     HeadWord {
         budget: h.budget.saturating_sub(ticks),
         mark: None,
-        version: raised(h.version),
+        version: h.version,
     }
 }
 
-// The head with so many ticks more, within its field, and the next version.
+// The head with so many ticks more, within its field.
 #[inline]
 pub(crate) fn credited(h: &HeadWord, ticks: u32) -> HeadWord
     requires { VersionFits h.now }
@@ -69,7 +87,7 @@ pub(crate) fn credited(h: &HeadWord, ticks: u32) -> HeadWord
     HeadWord {
         budget: h.budget.saturating_add(ticks),
         mark: None,
-        version: raised(h.version),
+        version: h.version,
     }
 }
 

@@ -1,9 +1,9 @@
 //! A call on two temporal capabilities, A and B.
 //!
 //! **One moment.** Such a call must see both budgets and both lists as they stood at one moment. It marks head A, by which no
-//! other core changes A or its list; then it loads A's list, head B and B's list. Each change of B, also of its list
-//! alone, raises the version in head B. So where head B is found the same again at the deciding step, B's list has stood
-//! unchanged since head B was loaded.
+//! other core changes A or its list; then it loads A's list, head B and B's list. Each change of B's list raises the version
+//! in head B, and the budget stands there too. So where head B is found the same again at the deciding step, B's list has
+//! stood unchanged since head B was loaded. A change of the budget alone leaves the version as it is.
 //!
 //! **Deciding.** A transfer is decided where it compares head B to the one with the ticks; a delegation where it marks head
 //! B, after which it stores the merged list, head B and head A; a test where it loads head B a second time. Lists that
@@ -12,7 +12,7 @@
 //!
 //! **Giving back.** Once head A is marked, a refusal decides the call, and head A is stored as it was.
 
-ghost use Rattle.std.specs.Prelude.{◌≡◌, ◌<◌, ◌≤◌, ◌+◌, ◌==◌, ◌&&◌, nat_lt, [], Some, IsTrue, IsFalse};
+ghost use Rattle.std.specs.Prelude.{◌≡◌, ◌<◌, ◌≤◌, ◌+◌, ◌==◌, ◌&&◌, nat_lt, false, [], Some, IsTrue, IsFalse};
 ghost use Rattle.spk_nums.specs.declared.steps.StageEnd.TheVariants.{Going};
 ghost use Rattle.spk_nums.specs.WordSteps.{place_in};
 ghost use Rattle.spk_nums.specs.Merging.{preempts_by};
@@ -21,10 +21,10 @@ ghost use Rattle.tcap_words.specs.Quality.{quality_of_word};
 ghost use Rattle.word_map.specs.Places.{size_of};
 ghost use Rattle.word_map.specs.Word.{EntryAt};
 ghost use Rattle.word_map.specs.Moves.{LoadOf, op_of};
-ghost use Rattle.stage_tcap.specs.Heads.{head, credited, VersionFits};
+ghost use Rattle.stage_tcap.specs.Heads.{head, relisted, credited, VersionFits};
 ghost use Rattle.stage_tcap.specs.Lists.{in_order};
 ghost use Rattle.stage_tcap.specs.Pairs.{AtFits, PairFits, amount_of, next_b, left_a, move_at, pair_move, noted};
-ghost use Rattle.stage_tcap.specs.Pairs.{whole_b};
+ghost use Rattle.stage_tcap.specs.Pairs.{whole_b, grows_to};
 ghost use Rattle.stage_tcap.specs.Pairs.{noted_by, giving_back, by_alike, by_room, by_preempting, judged, at_by_mark};
 ghost use Rattle.stage_tcap.specs.Pairs.{at_by_head, at_by_budget, at_marked, at_read, a_next, b_next, store_next};
 ghost use Rattle.stage_tcap.specs.Pairs.{at_decided, compared_after, again_value, at_after, pair_after, end_at, pair_end};
@@ -32,7 +32,7 @@ ghost use Rattle.stage_tcap.specs.Pairs.{has_no_pair, is_passed};
 
 use crate::charge::head_end;
 use crate::ends::{again_end, again_value, b_end, list_end, marked_end};
-use crate::heads::{credited, debited, head, marked, word_of};
+use crate::heads::{credited, debited, head, marked, relisted, word_of};
 use crate::lists::{add_word, in_order, merge_of, same_list, word_at};
 use preempt_test::preempts;
 use spk_nums::{CoreNo, EntryNo, FrameNo, Qualities, Reply, StageEnd, Value, WordOp};
@@ -94,6 +94,8 @@ pub struct Pair {
     pub list_a: Option<Qualities>,
     /// List B as far as it is read, None once it is out of order; then the list that B is given.
     pub list_b: Option<Qualities>,
+    /// Whether the list that B is given is another than its own, once that is read.
+    pub grows: bool,
     /// Where the call stands.
     pub at: PairAt,
 }
@@ -110,6 +112,7 @@ impl Pair {
           head_b = head 0 0;
           list_a = Some [];
           list_b = Some [];
+          grows = false;
           at = PairAt.LoadA;
         } }
     {
@@ -122,6 +125,7 @@ impl Pair {
             head_b: head(0, 0),
             list_a: Some(Qualities::empty()),
             list_b: Some(Qualities::empty()),
+            grows: false,
             at: PairAt::LoadA,
         }
     }
@@ -169,7 +173,7 @@ impl Pair {
             },
             PairAt::StoreB => WordOp::Store {
                 at: layout.entry_at(self.b, EntryNo::new(0)),
-                word: word_of(credited(&self.head_b, amount_of(self.what))),
+                word: word_of(self.given_b()),
             },
             PairAt::StoreA { moved, value: _ } => WordOp::Store {
                 at: layout.entry_at(self.a, EntryNo::new(0)),
@@ -248,6 +252,15 @@ impl Pair {
         }
     }
 
+    // What a delegation leaves head B as: with the ticks, and in the next version where its list is another.
+    fn given_b(&self) -> HeadWord
+        requires { VersionFits self.now.head_b }
+        ensures value { result ≡ credited (relisted self.now.grows self.now.head_b) (amount_of self.now.what) }
+        ensures range { VersionFits result }
+    {
+        credited(&relisted(self.grows, &self.head_b), amount_of(self.what))
+    }
+
     // What head A is left as: with the ticks less, or as it was.
     fn left_a(&self, moved: bool) -> HeadWord
         requires { VersionFits self.now.head_a }
@@ -280,14 +293,19 @@ impl Pair {
         }
     }
 
-    // List B, once its last word is read: a delegation keeps the merged list.
+    // List B, once its last word is read: a delegation keeps the merged list, and whether it is another.
     #[inline(never)]
     fn end_list_b(&mut self)
-        ensures { self.new ≡ record self.old { list_b = whole_b self.old.what (in_order self.old.list_a) (in_order self.old.list_b) } }
+        ensures { self.new ≡ record self.old {
+          list_b = whole_b self.old.what (in_order self.old.list_a) (in_order self.old.list_b);
+          grows = grows_to self.old.what (whole_b self.old.what (in_order self.old.list_a) (in_order self.old.list_b)) (in_order self.old.list_b);
+        } }
     {
         let a = in_order(&self.list_a);
         let b = in_order(&self.list_b);
-        self.list_b = whole_b(self.what, &a, &b);
+        let given = whole_b(self.what, &a, &b);
+        self.grows = grows_to(self.what, &given, &b);
+        self.list_b = given;
     }
 
     // What a step leads to that finds this word, once what it tells is kept.
@@ -435,6 +453,18 @@ fn whole_b(what: PairWork, a: &Qualities, b: &Qualities) -> Option<Qualities>
         PairWork::Transfer(_) => Some(*b),
         PairWork::Delegate(_) => merge_of(a, b),
         PairWork::Test => Some(*b),
+    }
+}
+
+// Whether the list that B is given is another than its own.
+#[inline]
+fn grows_to(what: PairWork, given: &Option<Qualities>, b: &Qualities) -> bool
+    ensures { result ≡ grows_to what given.now b.now }
+{
+    match what {
+        PairWork::Transfer(_) => false,
+        PairWork::Delegate(_) => !same_list(&in_order(given), b),
+        PairWork::Test => false,
     }
 }
 

@@ -7,12 +7,12 @@ use spk_nums::{CoreNo, FrameNo, Reply, StageEnd, Value, WordOp};
 use stage_tcap::Charge;
 use word_map::Layout;
 
-// Heads with the budget 100 and the version 1, with the budget 93 and with none, and the version 2, and with core 1's mark.
+// Heads of the version 1 with the budgets 100 and 93, with none, and with 100 and core 1's mark.
 const HEAD_100: u64 = 0x10_0000_0064;
 
-const HEAD_93: u64 = 0x20_0000_005d;
+const HEAD_93: u64 = 0x10_0000_005d;
 
-const HEAD_0: u64 = 0x20_0000_0000;
+const HEAD_0: u64 = 0x10_0000_0000;
 
 const MARKED: u64 = 0x12_0000_0064;
 

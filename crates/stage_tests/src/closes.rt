@@ -13,7 +13,7 @@ const TABLE_0: u64 = 5;
 
 const CLOSING: u64 = 6;
 
-const QUIESCING: u64 = 0x5_0000_0003;
+const QUIESCING: u64 = 0x53;
 
 // A step, the word that it finds, and what that leads to.
 type Row = (WordOp, u64, StageEnd<Stamp>);
@@ -57,7 +57,12 @@ fn closes_draws_and_stores(rt: HostRuntime) {
 
 #[test]
 fn keeps_a_drawn_stamp_in_its_range(rt: HostRuntime) {
-    for (clock, stamp) in [(0, 1), (7, 7), (1 << 40, 0xfff_ffff)] {
+    for (clock, stamp) in [
+        (0, 1),
+        (7, 7),
+        (1 << 42, 1 << 42),
+        (1 << 50, 0x7ff_ffff_ffff),
+    ] {
         assert!(rt; drawn(clock) == Stamp::new(stamp), "at {clock}");
     }
 }

@@ -13,7 +13,7 @@ const TABLE_0: u64 = 5;
 
 const CLOSING: u64 = 6;
 
-const QUIESCING: u64 = 0x5_0000_0003;
+const QUIESCING: u64 = 0x53;
 
 const CLAIMED: u64 = 0x26;
 

@@ -17,7 +17,7 @@ const LIVE_1: u64 = 0xc_0005;
 
 const CLOSING: u64 = 0x800_000a;
 
-const DEAD: u64 = 0x70_0000_000b;
+const DEAD: u64 = 0x1c_000b;
 
 // A step, the word that it finds, and what that leads to.
 type Row = (WordOp, u64, StageEnd<()>);

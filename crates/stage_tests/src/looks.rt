@@ -23,7 +23,7 @@ const RANGE_6_3: u64 = 0x3_0181;
 
 const CLOSING: u64 = 6;
 
-const QUIESCING: u64 = 0x5_0000_0003;
+const QUIESCING: u64 = 0x53;
 
 const FOREIGN: u64 = 4;
 

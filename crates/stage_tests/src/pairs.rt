@@ -8,15 +8,17 @@ use spk_nums::{CoreNo, EntryNo, FrameNo, Reply, StageEnd, Value, WordOp};
 use stage_tcap::{Pair, PairAt, PairWork};
 use word_map::Layout;
 
-// Heads with the budget 100 and the version 1, also with core 0's mark; with 7 ticks less and 7 more, and the version
-// 2. Words of lists with the pairs (0, 1), (0, 2) and (1, 5).
+// Heads of the version 1 with the budget 100, also with core 0's mark; with 7 ticks less and with 7 more, and that in the
+// version 2. Words of lists with the pairs (0, 1), (0, 2) and (1, 5).
 const HEAD: u64 = 0x10_0000_0064;
 
 const MARKED: u64 = 0x11_0000_0064;
 
-const LESS: u64 = 0x20_0000_005d;
+const LESS: u64 = 0x10_0000_005d;
 
-const MORE: u64 = 0x20_0000_006b;
+const MORE: u64 = 0x10_0000_006b;
+
+const MORE_NEXT: u64 = 0x20_0000_006b;
 
 const GOOD: u64 = 1;
 
@@ -113,16 +115,46 @@ fn passes_words_without_a_pair(rt: HostRuntime) {
     }
 }
 
+// Stores a word without a pair.
+fn blank(at: u32) -> Row {
+    (stores(at, 0), 0, StageEnd::Going)
+}
+
 #[test]
-fn delegates_the_merged_list(rt: HostRuntime) {
-    let rows = [
-        (compares(448, HEAD, MARKED), HEAD, ok()),
+fn raises_the_version_with_the_list_alone(rt: HostRuntime) {
+    let compare = (compares(448, HEAD, MARKED), HEAD, ok());
+    let less = (stores(384, LESS), LESS, StageEnd::Done(Value::Nothing));
+    let grown = [
+        compare,
         (stores(449, GOOD), GOOD, StageEnd::Going),
         (stores(450, OTHER), OTHER, StageEnd::Going),
+        blank(451),
+        blank(452),
+        blank(453),
+        blank(454),
+        blank(455),
+        blank(456),
+        (stores(448, MORE_NEXT), MORE_NEXT, StageEnd::Going),
+        less,
+    ];
+    let alike = [
+        compare,
+        (stores(449, WORSE), WORSE, StageEnd::Going),
+        blank(450),
+        blank(451),
+        blank(452),
+        blank(453),
+        blank(454),
+        blank(455),
+        blank(456),
+        (stores(448, MORE), MORE, StageEnd::Going),
+        less,
     ];
     if let Some(layout) = Layout::new(1, 8) {
         let mut pair = read(PairWork::Delegate(7), &layout, GOOD, OTHER);
-        assert!(rt; goes(&mut pair, &layout, &rows));
+        assert!(rt; goes(&mut pair, &layout, &grown));
+        let mut same = read(PairWork::Delegate(7), &layout, GOOD, WORSE);
+        assert!(rt; goes(&mut same, &layout, &alike));
     }
 }
 

@@ -11,11 +11,11 @@ use word_map::Layout;
 
 // Words of counts: 2 references and the stamp 5, held by no core, acquired by core 1 and frozen by core 1, and a
 // word of no count.
-const UNHELD: u64 = 0x0400_0000_2000_0005;
+const UNHELD: u64 = 0x0000_1000_0000_0005;
 
-const PINNED: u64 = 0x1400_0000_2000_0005;
+const PINNED: u64 = 0x1000_1000_0000_0005;
 
-const CLOSED: u64 = 0x9400_0000_2000_0005;
+const CLOSED: u64 = 0x9000_1000_0000_0005;
 
 const FOREIGN: u64 = 0x8000_0000_0000_0000;
 

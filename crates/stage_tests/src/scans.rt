@@ -17,7 +17,7 @@ const INSIDE_5: u64 = 11;
 
 const INSIDE_6: u64 = 13;
 
-const FOREIGN: u64 = 1 << 40;
+const FOREIGN: u64 = 1 << 50;
 
 // A step, the word that it finds, and what that leads to.
 type Row = (WordOp, u64, StageEnd<()>);

@@ -29,11 +29,11 @@ fn pinned(count: i32) -> Pinned
 #[test]
 fn commits_the_change_and_the_later_stamp(rt: HostRuntime) {
     let rows = [
-        (2, 1, None, 0x0400_0000_3000_0005),
-        (2, -3, Some(Stamp::new(9)), 0x03ff_ffff_f000_0009),
-        (2, 0, Some(Stamp::new(4)), 0x0400_0000_2000_0005),
-        (0x3fff_ffff, 1, None, 0x07ff_ffff_f000_0005),
-        (-0x4000_0000, -1, None, 0x0000_0000_0000_0005),
+        (2, 1, None, 0x0000_1800_0000_0005),
+        (2, -3, Some(Stamp::new(9)), 0x07ff_f800_0000_0009),
+        (2, 0, Some(Stamp::new(4)), 0x0000_1000_0000_0005),
+        (0x7fff, 1, None, 0x0400_0000_0000_0005),
+        (-0x8000, -1, None, 0x03ff_f800_0000_0005),
     ];
     if let Some(layout) = Layout::new(2, 8) {
         let at = layout.count_at(FrameNo::new(3), CoreNo::new(1));

@@ -11,20 +11,27 @@ use word_map::Layout;
 
 // A counter with 2 references, one with one less than none, one with none and the stamp 5, and that frozen by core 1;
 // one with none and the stamp 4; the word of a core that is inside a call since an exit at 5.
-const TWO: u64 = 0x0400_0000_2000_0000;
+const TWO: u64 = 0x0000_1000_0000_0000;
 
-const ONE_LESS: u64 = 0x03ff_ffff_f000_0000;
+const ONE_LESS: u64 = 0x07ff_f800_0000_0000;
 
-const NONE: u64 = 0x0400_0000_0000_0005;
+const NONE: u64 = 5;
 
-const FROZEN: u64 = 0x9400_0000_0000_0005;
+const FROZEN: u64 = 0x9000_0000_0000_0005;
 
-const EARLIER: u64 = 0x0400_0000_0000_0004;
+const EARLIER: u64 = 4;
 
 // That of two references, and that of the earlier stamp, frozen by core 1.
-const TWO_FROZEN: u64 = 0x9400_0000_2000_0000;
+const TWO_FROZEN: u64 = 0x9000_1000_0000_0000;
 
-const FROZEN_EARLIER: u64 = 0x9400_0000_0000_0004;
+const FROZEN_EARLIER: u64 = 0x9000_0000_0000_0004;
+
+// Counters at the least count, and one above it; the least frozen by core 1.
+const LEAST: u64 = 0x0400_0000_0000_0000;
+
+const LEAST_FROZEN: u64 = 0x9400_0000_0000_0000;
+
+const NEXT: u64 = 0x0400_0800_0000_0000;
 
 const INSIDE_5: u64 = 11;
 
@@ -81,6 +88,24 @@ fn freezes_then_scans_then_looks_at_the_object(rt: HostRuntime) {
         let end = sweep.take(&layout, 0);
         let kept = sweep.kept();
         assert!(rt; end == StageEnd::Done(kept) && kept.stamp == Stamp::new(5));
+    }
+}
+
+#[test]
+fn sums_counters_modulo_their_field(rt: HostRuntime) {
+    let least = [
+        (loads(523), LEAST),
+        (compares(523, LEAST, LEAST_FROZEN), LEAST),
+    ];
+    let second = (compares(533, LEAST, LEAST_FROZEN), LEAST);
+    if let Some(layout) = Layout::new(2, 8) {
+        let mut one = sweep(&layout, FrameKind::Kernel, Obj::Leaf);
+        assert!(rt; goes(&mut one, &layout, &least));
+        let mut none = one;
+        assert!(rt; goes(&mut one, &layout, &[(loads(533), NEXT)]));
+        let referenced = StageEnd::Refuse(Reply::Referenced(1));
+        assert!(rt; one.take(&layout, NEXT) == referenced);
+        assert!(rt; goes(&mut none, &layout, &[(loads(533), LEAST), second]));
     }
 }
 

@@ -245,9 +245,9 @@ fn popped_on(pop: &Pop) -> Tail
 pub(crate) fn stamp_of(clock: u64) -> Stamp
     ensures { result ≡ stamp_of clock }
 {
-    if clock < 1 << 28 {
-        Stamp::new(clock as u32)
+    if clock < 1 << 43 {
+        Stamp::new(clock)
     } else {
-        Stamp::new((1 << 28) - 1)
+        Stamp::new((1 << 43) - 1)
     }
 }

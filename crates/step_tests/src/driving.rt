@@ -7,7 +7,7 @@ use spk_nums::{Call, CapId, CoreNo, Grant, Grants, Reply, Rights, Setup, Value, 
 
 /// Core 0 of a machine of one core and eight frames, which makes at most so many calls. Its words: the count of frame 0 at 520, the core
 /// word at 528, the word of its component at 194, that of the liveness number 0 at 530, and the clock at 594.
-pub fn core_of(calls: u32) -> Option<CoreState> {
+pub fn core_of(calls: u64) -> Option<CoreState> {
     let mut grants = Grants::empty();
     let _added = grants.add(Grant {
         budget: 100,
@@ -89,11 +89,11 @@ fn stores(at: u32, word: u64, ready: bool) -> Row {
 }
 
 // Counts of frame 0 of two references and of three, held by no core, and of two, which core 0 has acquired; each with the stamp 5.
-const TWO: u64 = 0x0400_0000_2000_0005;
+const TWO: u64 = 0x0000_1000_0000_0005;
 
-const THREE: u64 = 0x0400_0000_3000_0005;
+const THREE: u64 = 0x0000_1800_0000_0005;
 
-const TWO_BY_0: u64 = 0x0c00_0000_2000_0005;
+const TWO_BY_0: u64 = 0x0800_1000_0000_0005;
 
 // A copy of the table in frame 0 into the place 20. The leaf in frame 1 has the table in its entry 1, and nothing in its entry 20.
 #[test]

@@ -15,16 +15,16 @@ const TABLE: u64 = 5;
 const RANGE: u64 = 0x2_0181;
 
 // An entry that quiesces since the stamp 5, one that core 1 closes, and one that is none.
-const QUIESCES: u64 = 0x5_0000_0003;
+const QUIESCES: u64 = 0x53;
 
 const CLOSING: u64 = 6;
 
 const FOREIGN: u64 = 4;
 
 // Counts of two references, with the stamp 5: held by no core, acquired by core 1; and a word of no count.
-const TWO: u64 = 0x0400_0000_2000_0005;
+const TWO: u64 = 0x0000_1000_0000_0005;
 
-const TWO_BY_1: u64 = 0x1400_0000_2000_0005;
+const TWO_BY_1: u64 = 0x1000_1000_0000_0005;
 
 const NO_COUNT: u64 = 0x8000_0000_0000_0000;
 
@@ -60,7 +60,7 @@ fn a_call_asks_whether_its_component_lives_before_all_else(rt: HostRuntime) {
         // Live in another epoch, dead, and closed by core 1.
         asked = asked
             && is_asked(call, 0xc_0009, Reply::Dead)
-            && is_asked(call, 0x50_0000_0007, Reply::Dead)
+            && is_asked(call, 0x14_0007, Reply::Dead)
             && is_asked(call, 0x800_0006, busy());
     }
     assert!(rt; asked);

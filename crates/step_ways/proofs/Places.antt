@@ -2,7 +2,7 @@
 use Rattle.kept_facts.proofs.Common.{◌≡◌, ◌⊎◌, inl, inr, ℕ, ◌<◌, Option, Some, None, refl, sym, ◌∙◌, ap, subst, IsTrue}
 use Rattle.kept_facts.proofs.Common.{false≢true, Setting, Entry, Held, Closing, entry_of_word, EntryAt, Place, Frame, Kernel, Table, Leaf}
 use Rattle.kept_facts.proofs.Common.{Pages, Pleaf, PlaceOf, is_node, entry_mark, mark_in_frame, Trace, state_after, last_left, stamp}
-use Rattle.kept_facts.proofs.Common.{Core, marked_by, settled_by, PlaceIs, IsFrameWord, count_room, held_by, Invariant, limits_of}
+use Rattle.kept_facts.proofs.Common.{Core, marked_by, settled_by, PlaceIs, IsFrameWord, held_by, Invariant, limits_of}
 use Rattle.kept_facts.proofs.Common.{not_exclusive_value, node_keeps_none}
 use Rattle.kept_facts.specs.entry_words.specs.declared.entry.Entry.TheVariants.{Free, Quiescing}
 
@@ -18,13 +18,13 @@ pub record IsUnmarked (setup : Setting) (t : Trace) (f i : ℕ) : Type 0 where
   pub says : PlaceIs setup.frames ((state_after setup t).place f i) (stamp setup t (PlaceOf f i))
       (entry_of_word (last_left setup t (EntryAt f i)))
 
-pub node_says : (n m : ℕ) (x : Frame) (p : Place) (r i v : ℕ) → IsTrue (is_node x) → i < 64 → IsFrameWord n m x p r i v
+pub node_says : (n : ℕ) (x : Frame) (p : Place) (r i v : ℕ) → IsTrue (is_node x) → i < 64 → IsFrameWord n x p r i v
     → PlaceIs n p r (entry_of_word v)
-node_says n m (Kernel Table) p r i v node below h = h below
-node_says n m (Kernel Leaf) p r i v node below h = h below
-node_says n m (Kernel Pages) p r i v node below h = h below
-node_says n m (Kernel Pleaf) p r i v node below h = h below
-node_says n m _ p r i v node below h = absurd (false≢true node)
+node_says n (Kernel Table) p r i v node below h = h below
+node_says n (Kernel Leaf) p r i v node below h = h below
+node_says n (Kernel Pages) p r i v node below h = h below
+node_says n (Kernel Pleaf) p r i v node below h = h below
+node_says n _ p r i v node below h = absurd (false≢true node)
 
 pub node_mark : (x : Frame) (i v : ℕ) → IsTrue (is_node x) → mark_in_frame x i v ≡ entry_mark (entry_of_word v)
 node_mark (Kernel Table) i v node = refl
@@ -52,15 +52,14 @@ place_reads setup cores t stands f i node below = by_mark (marked_by setup t (En
       says = subst (λ n. PlaceIs n ((state_after setup t).place f i) (stamp setup t (PlaceOf f i))
           (entry_of_word (last_left setup t (EntryAt f i))))
           (ap (λ l. l.frames) (limits_of setup t))
-          (node_says (state_after setup t).limits.frames (count_room (state_after setup t))
+          (node_says (state_after setup t).limits.frames
           ((state_after setup t).frame f) ((state_after setup t).place f i)
           (stamp setup t (PlaceOf f i)) i (last_left setup t (EntryAt f i)) node below
-          (subst (λ (n : ℕ). IsFrameWord (state_after setup t).limits.frames
-          (count_room (state_after setup t)) ((state_after setup t).frame f)
+          (subst (λ (n : ℕ). IsFrameWord (state_after setup t).limits.frames ((state_after setup t).frame f)
           ((state_after setup t).place f i) (stamp setup t (PlaceOf f i)) i n)
           (not_exclusive_value setup cores t stands f (node_keeps_none ((state_after setup t).frame f) node) i (last_left setup t
           (EntryAt f i)))
-          (subst (λ o. IsFrameWord (state_after setup t).limits.frames (count_room (state_after setup t))
+          (subst (λ o. IsFrameWord (state_after setup t).limits.frames
           ((state_after setup t).frame f) ((state_after setup t).place f i)
           (stamp setup t (PlaceOf f i)) i
           (settled_by o (held_by cores) (EntryAt f i) (last_left setup t (EntryAt f i)))) is (stands.words (EntryAt f i)))));

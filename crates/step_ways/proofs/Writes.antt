@@ -1,12 +1,12 @@
 -- The ways in which a core makes a step that writes its word: a decided call writes an entry; a call enters or leaves, and the
 -- core's own word is stored.
-use Rattle.kept_facts.proofs.Common.{Carries, ◌≡◌, ◌≢◌, ℕ, zero, suc, ◌+◌, ◌*◌, ◌^◌, ◌<◌, ◌≤◌, Bool, true, false, if◌then◌else◌, List, []}
+use Rattle.kept_facts.proofs.Common.{Carries, ◌≡◌, ◌≢◌, ℕ, zero, suc, ◌+◌, ◌-◌, ◌*◌, ◌^◌, ◌<◌, ◌≤◌, Bool, true, false, if◌then◌else◌, List, []}
 use Rattle.kept_facts.proofs.Common.{◌∷◌, Option, Some, None, arith, refl, sym, ◌∙◌, ap, subst, inl, inr, cases_eq, eq-eqb, Capability}
 use Rattle.kept_facts.proofs.Common.{InLimits, Setting, IsSetting, Call, Reply, core_of_word, Word, EntryAt, CountAt, CoreAt, same_word}
 use Rattle.kept_facts.proofs.Common.{FlushAt, ClockAt, Move, StoreOf, word_of, left_of, FrameOf, put, sum_below, alone, put_same, Step}
 use Rattle.kept_facts.proofs.Common.{Trace, Out, Open, phase, after_decide, state_after, last_left, IsAlone, IsFirst, MayDecide}
 use Rattle.kept_facts.proofs.Common.{MayFollow, mark_of, clock, exit_of, decided-inside, phase-own, steps_in_call-own, last_left-there}
-use Rattle.kept_facts.proofs.Common.{Stage, Decided, Leave, ActiveCall, Core, core_word, fresh, marked_by, count_room, WordIs, limits_of}
+use Rattle.kept_facts.proofs.Common.{Stage, Decided, Leave, ActiveCall, Core, core_word, fresh, marked_by, WordIs, limits_of}
 use Rattle.kept_facts.proofs.Common.{phase_at, KnowsAt, Knows, IsCount, CallIs, WorksIn, CoreIs, is_flushing, flushing_in, is_done}
 use Rattle.kept_facts.proofs.Common.{holds_at, holds_in, holds, held_by, times_of, counted_in, SumIs, Invariant, marks_own, settled_on}
 use Rattle.kept_facts.proofs.Common.{ReadsAlike, reads_alike, StaysSaid, word_stays, carry_marks, carry_words, sums_stay, counts_bare}
@@ -36,13 +36,13 @@ use Rattle.step_ways.proofs.Loads.{inner, inner_within, inner_disciplined, inner
 
 -- The clock fits a stamp: each stamp was drawn by a call that was counted.
 
-sum_most : (f : ℕ → ℕ) (n : ℕ) → ((i : ℕ) → i < n → f i ≤ 4194304) → sum_below f n ≤ n * 4194304
+sum_most : (f : ℕ → ℕ) (n : ℕ) → ((i : ℕ) → i < n → f i ≤ 2 ^ 40 - 1) → sum_below f n ≤ n * (2 ^ 40 - 1)
 unfolding sum_below
 sum_most f zero most = omega arith
 sum_most f (suc n) most = let a = sum_most f n (λ i h. most i (omega arith)) in let b = most n (omega arith) in omega arith
 
 made_most : (setup : Setting) (cores : ℕ → Core) (t : Trace) → Invariant setup cores t → (c : ℕ) → c < setup.cores
-    → ((state_after setup t).core c).counted ≤ 4194304
+    → ((state_after setup t).core c).counted ≤ 2 ^ 40 - 1
 made_most setup cores t stands c here =
     let is = stands.each c here in
     let made = is.works.made in
@@ -50,33 +50,19 @@ made_most setup cores t stands c here =
     let limit = is.fits.own.most_calls in
     omega arith
 
-pub clock_small : (setup : Setting) → IsSetting setup → (cores : ℕ → Core) (t : Trace) → Invariant setup cores t → clock setup t < 2 ^ 28
+pub clock_small : (setup : Setting) → IsSetting setup → (cores : ℕ → Core) (t : Trace) → Invariant setup cores t → clock setup t < 2 ^ 43
 clock_small setup setting cores t stands =
     let most = sum_most (λ c. ((state_after setup t).core c).counted) setup.cores (made_most setup cores t stands) in
     let draws = stands.draws in
     let few = setting.most_cores in
     omega arith
 
--- So few calls leave room in each count's field, and in that of each version.
-pub room_left : (setup : Setting) → IsSetting setup → (cores : ℕ → Core) (t : Trace) → Invariant setup cores t
-    → count_room (state_after setup t) + 1 < 2 ^ 28
-room_left setup setting cores t stands =
-    subst (λ (n : ℕ). 16 + 4 * sum_below (λ c. ((state_after setup t).core c).counted) n + 1 < 2 ^ 28)
-    (sym (ap (λ l. l.cores) (limits_of setup t)))
-    (let most = sum_most (λ c. ((state_after setup t).core c).counted) setup.cores (made_most setup cores t stands) in
-    let few = setting.most_cores in
-    omega arith)
-
-pub room_small : (setup : Setting) → IsSetting setup → (cores : ℕ → Core) (t : Trace) → Invariant setup cores t
-    → count_room (state_after setup t) < 2 ^ 28
-room_small setup setting cores t stands = let more = room_left setup setting cores t stands in omega arith
-
 -- The word of a core reads as what was stored.
-pub core_reads : (inside : Bool) (stamp : ℕ) → stamp < 2 ^ 28
+pub core_reads : (inside : Bool) (stamp : ℕ) → stamp < 2 ^ 43
     → core_of_word (core_word inside stamp) ≡ Some (record { inside = inside; stamp = stamp })
 core_reads inside stamp small = spelling.reads (record { inside = inside; stamp = stamp }) small
 
-pub core_small : (inside : Bool) (stamp : ℕ) → stamp < 2 ^ 28 → core_word inside stamp < 2 ^ 64
+pub core_small : (inside : Bool) (stamp : ℕ) → stamp < 2 ^ 43 → core_word inside stamp < 2 ^ 64
 core_small inside stamp small = spelling.small (record { inside = inside; stamp = stamp }) small
 
 none_some : (d : ℕ) → None ≡ Some d → ⊥

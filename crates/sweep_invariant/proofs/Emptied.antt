@@ -4,7 +4,7 @@ use Rattle.freeze_invariant.proofs.Common.{◌||◌, length, Bool, true, false, 
 use Rattle.freeze_invariant.proofs.Common.{refl, sym, ◌∙◌, ap, false≢true, eq-eqb, ne_eqb, le-leb, All-nil, All-cons}
 use Rattle.freeze_invariant.proofs.Common.{All-head, All-tail, Blank, Table, Leaf, Pages, Pleaf, Comp, Thread, Tcap, Frame, Untyped, User}
 use Rattle.freeze_invariant.proofs.Common.{Kernel, State, held_in, is_empty, times, frame_value, Acquired, loads_of, Owned, released_dues}
-use Rattle.freeze_invariant.proofs.Common.{Due, Word, CountAt, cases_word, same_word-other, IsWithin, count_of, holds_counts, due_of}
+use Rattle.freeze_invariant.proofs.Common.{Due, Word, CountAt, cases_word, same_word-other, count_of, holds_counts, due_of}
 use Rattle.freeze_invariant.proofs.Common.{IsLookedAt, names_of}
 use Rattle.std.specs.Prelude.{if◌then◌else◌, not}
 use Rattle.std.specs.List.{range_with_len}
@@ -83,15 +83,6 @@ due_each P f (Some i) (Some j) differ each =
     All-cons P (released_one i) (released_one j ∷ [])
     (each i (times_first i (j ∷ []) ∙ ap (λ (n : ℕ). 1 + n) (times_other i j [] apart)))
     (All-cons P (released_one j) [] (each j (times_other j i (j ∷ []) (λ same. apart (sym same)) ∙ times_first j [])) (All-nil P))
-
-pub due_small : (a b : Option ℕ) → All (λ (d : Due). IsWithin d.change 4) (released_dues a b)
-due_small None None = All-nil (λ (d : Due). IsWithin d.change 4)
-due_small None (Some i) =
-    All-cons (λ (d : Due). IsWithin d.change 4) (released_one i) [] (omega arith) (All-nil (λ (d : Due). IsWithin d.change 4))
-due_small (Some i) None =
-    All-cons (λ (d : Due). IsWithin d.change 4) (released_one i) [] (omega arith) (All-nil (λ (d : Due). IsWithin d.change 4))
-due_small (Some i) (Some j) = All-cons (λ (d : Due). IsWithin d.change 4) (released_one i) (released_one j ∷ []) (omega arith)
-    (All-cons (λ (d : Due). IsWithin d.change 4) (released_one j) [] (omega arith) (All-nil (λ (d : Due). IsWithin d.change 4)))
 
 -- What holds of the frames of dues holds of the counts that are acquired for them.
 pub acquired_all : (P : ℕ → Type 0) (xs : List Acquired)

@@ -16,7 +16,7 @@ use Rattle.freeze_invariant.proofs.Common.{Undecided, ActiveCall, landed, Core, 
 use Rattle.freeze_invariant.proofs.Common.{KnowsUndecided, holds_in, Invariant, holds}
 use Rattle.freeze_invariant.proofs.Common.{IsQuiet, KnowsSweep, IsLookedAt, names_of, names_on}
 use Rattle.freeze_invariant.proofs.Common.{quiet_frame_on, limits_of, refs, frame_names, opened, events_of, sound_of}
-use Rattle.freeze_invariant.proofs.Common.{IsFrameWord, count_room, release_entry, OwnedBy, IsInFootprint}
+use Rattle.freeze_invariant.proofs.Common.{IsFrameWord, release_entry, OwnedBy, IsInFootprint}
 use Rattle.std.specs.Prelude.{if◌then◌else◌, not}
 use Rattle.freeze_invariant.specs.spk_nums.specs.declared.replies.Reply.TheVariants as reply
 use Rattle.freeze_invariant.specs.act_states.specs.Untypings.{owned_dues}
@@ -94,12 +94,12 @@ module _ (setup : Setting) (setting : IsSetting setup) (cores : ℕ → Core) (t
         ∙ (release_entry (release_of f word (swept_of w) false) (holds_counts None a.counts) f j).0 ∙ counts_entry None a.counts f j
 
     -- the word is what the object is
-    pub object_says : IsFrameWord setup.frames (count_room s) (s.frame f) (s.place f i) (stamp setup t (PlaceOf f i)) i was
-    object_says = subst (λ (n : ℕ). IsFrameWord setup.frames (count_room s) (s.frame f) (s.place f i) (stamp setup t (PlaceOf f i)) i
+    pub object_says : IsFrameWord setup.frames (s.frame f) (s.place f i) (stamp setup t (PlaceOf f i)) i was
+    object_says = subst (λ (n : ℕ). IsFrameWord setup.frames (s.frame f) (s.place f i) (stamp setup t (PlaceOf f i)) i
         (last_left setup t (EntryAt n i))) (sym knows.frame)
-        (subst (λ (n : ℕ). IsFrameWord n (count_room s) (s.frame f) (s.place f i) (stamp setup t (PlaceOf f i)) i
+        (subst (λ (n : ℕ). IsFrameWord n (s.frame f) (s.place f i) (stamp setup t (PlaceOf f i)) i
         (last_left setup t (EntryAt f i))) (ap (λ l. l.frames) (limits_of setup t))
-        (subst (IsFrameWord s.limits.frames (count_room s) (s.frame f) (s.place f i) (stamp setup t (PlaceOf f i)) i)
+        (subst (IsFrameWord s.limits.frames (s.frame f) (s.place f i) (stamp setup t (PlaceOf f i)) i)
         (entry_settles setup setting cores t stands f zero_refs c quiet own_free i) (stands.words (EntryAt f i))))
 
     looks : OnlyLooks setup t c a.call load

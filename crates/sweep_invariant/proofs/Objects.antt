@@ -8,7 +8,7 @@ use Rattle.freeze_invariant.proofs.Common.{ThreadFields, TcapFields, Frame, Unty
 use Rattle.freeze_invariant.proofs.Common.{State, held_in, fits, is_empty, frame_names, IsSound, IsObjectGood, IsStack, opened, events_of}
 use Rattle.freeze_invariant.proofs.Common.{frame_value, thread_value, at_height, stamp, Trace, state_after, last_left}
 use Rattle.freeze_invariant.proofs.Common.{sound_of, shown_in, loads_of, Owned, Empty, OwnedBy, Act, ActiveCall, Undecided, Core}
-use Rattle.freeze_invariant.proofs.Common.{KnowsUndecided, Invariant, IsLookedAt, names_of, HeadIs, IsFrameWord, PlaceIs, count_room}
+use Rattle.freeze_invariant.proofs.Common.{KnowsUndecided, Invariant, IsLookedAt, names_of, HeadIs, IsFrameWord, PlaceIs}
 use Rattle.freeze_invariant.proofs.Common.{limits_of, entry_of_word}
 use Rattle.std.specs.Prelude.{if◌then◌else◌}
 use Rattle.freeze_invariant.specs.spk_nums.specs.declared.kinds.Obj.TheVariants as obj
@@ -80,7 +80,7 @@ module _ (setup : Setting) (setting : IsSetting setup) (cores : ℕ → Core) (t
     looked : IsLookedAt s f (s.frame f) i o
     looked = looked_so_far setup setting cores t stands c here a active f core word g v b kept o i stage_is has
 
-    says : IsFrameWord n (count_room s) (s.frame f) (s.place f i) (stamp setup t (PlaceOf f i)) i was
+    says : IsFrameWord n (s.frame f) (s.place f i) (stamp setup t (PlaceOf f i)) i was
     says = object_says setup setting cores t stands c here a active f core word g v b kept o i stage_is has
 
     field_below : (k : Kind) → fits k Untyped ≡ false → (d : ℕ) → IsTrue (fits k (s.frame d)) → nat_lt d n ≡ true
@@ -139,8 +139,8 @@ module _ (setup : Setting) (setting : IsSetting setup) (cores : ℕ → Core) (t
 
         by : (j : ℕ) → i ≡ j → Judged obj.Comp
         by zero is = within k.table
-            (subst (λ x. IsFrameWord n (count_room s) x (s.place f zero) (stamp setup t (PlaceOf f zero)) zero was) at
-            (subst (λ (j : ℕ). IsFrameWord n (count_room s) (s.frame f) (s.place f j) (stamp setup t (PlaceOf f j)) j was) is says))
+            (subst (λ x. IsFrameWord n x (s.place f zero) (stamp setup t (PlaceOf f zero)) zero was) at
+            (subst (λ (j : ℕ). IsFrameWord n (s.frame f) (s.place f j) (stamp setup t (PlaceOf f j)) j was) is says))
             (field_below kind.Table refl k.table good.0)
             (subst (λ x. Good (owns x (Some k.table) o) None) (sym (ap (λ (j : ℕ). j == 0) is))
             (on (record { first = Some k.table; second = o.second })
@@ -149,8 +149,8 @@ module _ (setup : Setting) (setting : IsSetting setup) (cores : ℕ → Core) (t
             (λ last. absurd (let l : 2 ≤ i + 1 = subst (λ x. loads_of x ≤ i + 1) (object_is (Kernel (Comp k)) at) last in
             omega (arith, l, is)))))
         by (suc zero) is = within k.pages
-            (subst (λ x. IsFrameWord n (count_room s) x (s.place f 1) (stamp setup t (PlaceOf f 1)) 1 was) at
-            (subst (λ (j : ℕ). IsFrameWord n (count_room s) (s.frame f) (s.place f j) (stamp setup t (PlaceOf f j)) j was) is says))
+            (subst (λ x. IsFrameWord n x (s.place f 1) (stamp setup t (PlaceOf f 1)) 1 was) at
+            (subst (λ (j : ℕ). IsFrameWord n (s.frame f) (s.place f j) (stamp setup t (PlaceOf f j)) j was) is says))
             (field_below kind.Pages refl k.pages good.1)
             (subst (λ x. Good (owns x (Some k.pages) o) None) (sym (ap (λ (j : ℕ). j == 0) is))
             (on (record { first = o.first; second = Some k.pages })
@@ -173,9 +173,9 @@ module _ (setup : Setting) (setting : IsSetting setup) (cores : ℕ → Core) (t
         look : (owned : Owned) → NamesBottom k.stack (i + 1) owned → IsLookedAt s f (s.frame f) (i + 1) owned
         look owned named = subst (λ x. IsLookedAt s f x (i + 1) owned) (sym at) named
 
-        word_at : (j : ℕ) → i ≡ j → IsFrameWord n (count_room s) (Kernel (Thread k)) (s.place f j) (stamp setup t (PlaceOf f j)) j was
-        word_at j is = subst (λ x. IsFrameWord n (count_room s) x (s.place f j) (stamp setup t (PlaceOf f j)) j was) at
-            (subst (λ (j : ℕ). IsFrameWord n (count_room s) (s.frame f) (s.place f j) (stamp setup t (PlaceOf f j)) j was) is says)
+        word_at : (j : ℕ) → i ≡ j → IsFrameWord n (Kernel (Thread k)) (s.place f j) (stamp setup t (PlaceOf f j)) j was
+        word_at j is = subst (λ x. IsFrameWord n x (s.place f j) (stamp setup t (PlaceOf f j)) j was) at
+            (subst (λ (j : ℕ). IsFrameWord n (s.frame f) (s.place f j) (stamp setup t (PlaceOf f j)) j was) is says)
 
         some_depth : (fs : List ℕ) → IsStack s fs → 1 ≤ length fs
         some_depth [] is = absurd is
@@ -248,9 +248,9 @@ module _ (setup : Setting) (setting : IsSetting setup) (cores : ℕ → Core) (t
         first : i ≡ 0
         first = let l : i < 1 = subst (λ x. i < loads_of x) (object_is (Kernel (Tcap q)) at) below in omega (arith, l)
 
-        head : HeadIs q (count_room s) (head_of_word was)
-        head = subst (λ x. IsFrameWord n (count_room s) x (s.place f 0) (stamp setup t (PlaceOf f 0)) 0 was) at
-            (subst (λ (j : ℕ). IsFrameWord n (count_room s) (s.frame f) (s.place f j) (stamp setup t (PlaceOf f j)) j was) first says)
+        head : HeadIs q (head_of_word was)
+        head = subst (λ x. IsFrameWord n x (s.place f 0) (stamp setup t (PlaceOf f 0)) 0 was) at
+            (subst (λ (j : ℕ). IsFrameWord n (s.frame f) (s.place f j) (stamp setup t (PlaceOf f j)) j was) first says)
 
         none : (o.first ≡ None) × (o.second ≡ None)
         none = subst (λ x. OwnedBy x o) (object_is (Kernel (Tcap q)) at) owned_are
@@ -275,7 +275,7 @@ module _ (setup : Setting) (setting : IsSetting setup) (cores : ℕ → Core) (t
         let small = small_by obj.Table is refl in
         node_good small (ap (is_empty s f) at) (λ h. subst (λ x. IsLookedAt s f x (i + 1) o) (sym at) h)
         (subst (λ x. IsLookedAt s f x i o) at looked) (none_named obj.Table is (λ x h. h) ∙ sym (ap frame_names at))
-        (subst (λ x. IsFrameWord n (count_room s) x (s.place f i) (stamp setup t (PlaceOf f i)) i was) at says small)
+        (subst (λ x. IsFrameWord n x (s.place f i) (stamp setup t (PlaceOf f i)) i was) at says small)
 
     leaf_good : s.frame f ≡ Kernel Leaf → Judged obj.Leaf
     leaf_good at =
@@ -283,7 +283,7 @@ module _ (setup : Setting) (setting : IsSetting setup) (cores : ℕ → Core) (t
         let small = small_by obj.Leaf is refl in
         node_good small (ap (is_empty s f) at) (λ h. subst (λ x. IsLookedAt s f x (i + 1) o) (sym at) h)
         (subst (λ x. IsLookedAt s f x i o) at looked) (none_named obj.Leaf is (λ x h. h) ∙ sym (ap frame_names at))
-        (subst (λ x. IsFrameWord n (count_room s) x (s.place f i) (stamp setup t (PlaceOf f i)) i was) at says small)
+        (subst (λ x. IsFrameWord n x (s.place f i) (stamp setup t (PlaceOf f i)) i was) at says small)
 
     pages_good : s.frame f ≡ Kernel Pages → Judged obj.Pages
     pages_good at =
@@ -291,7 +291,7 @@ module _ (setup : Setting) (setting : IsSetting setup) (cores : ℕ → Core) (t
         let small = small_by obj.Pages is refl in
         node_good small (ap (is_empty s f) at) (λ h. subst (λ x. IsLookedAt s f x (i + 1) o) (sym at) h)
         (subst (λ x. IsLookedAt s f x i o) at looked) (none_named obj.Pages is (λ x h. h) ∙ sym (ap frame_names at))
-        (subst (λ x. IsFrameWord n (count_room s) x (s.place f i) (stamp setup t (PlaceOf f i)) i was) at says small)
+        (subst (λ x. IsFrameWord n x (s.place f i) (stamp setup t (PlaceOf f i)) i was) at says small)
 
     pleaf_good : s.frame f ≡ Kernel Pleaf → Judged obj.Pleaf
     pleaf_good at =
@@ -299,7 +299,7 @@ module _ (setup : Setting) (setting : IsSetting setup) (cores : ℕ → Core) (t
         let small = small_by obj.Pleaf is refl in
         node_good small (ap (is_empty s f) at) (λ h. subst (λ x. IsLookedAt s f x (i + 1) o) (sym at) h)
         (subst (λ x. IsLookedAt s f x i o) at looked) (none_named obj.Pleaf is (λ x h. h) ∙ sym (ap frame_names at))
-        (subst (λ x. IsFrameWord n (count_room s) x (s.place f i) (stamp setup t (PlaceOf f i)) i was) at says small)
+        (subst (λ x. IsFrameWord n x (s.place f i) (stamp setup t (PlaceOf f i)) i was) at says small)
 
     none_loaded : (x : Frame) → s.frame f ≡ x → loads_of (frame_value x).object ≡ 0 → Judged v.object
     none_loaded x at loads =

@@ -10,7 +10,7 @@ use Rattle.freeze_invariant.proofs.Common.{state_after, last_left, same_word-oth
 use Rattle.freeze_invariant.proofs.Common.{Decided, GoesOn, went_with, Core, holds_release, holds_thaw, AreApart, Holding}
 use Rattle.freeze_invariant.proofs.Common.{committed, count_of, holds_counts, settled, settled_by, IsCount, KnowsTail, KnowsUnmark}
 use Rattle.freeze_invariant.proofs.Common.{phase_at, Invariant, done_by, held_by, holds, holds_at, holds_in, ThawsFrame, SaysCount}
-use Rattle.freeze_invariant.proofs.Common.{count_room, as_none, counts_bare, counts_on, exclusive_elsewhere}
+use Rattle.freeze_invariant.proofs.Common.{as_none, counts_bare, counts_on, exclusive_elsewhere}
 use Rattle.std.specs.Prelude.{if◌then◌else◌, slice_get}
 use Rattle.std.proofs.Common.{All}
 use Rattle.freeze_invariant.specs.spk_nums.specs.declared.replies.Reply.TheVariants as reply
@@ -224,8 +224,8 @@ module _ (setup : Setting) (setting : IsSetting setup) (cores : ℕ → Core) (t
         ∙ ap (λ h. h.stands (count_of x)) was_held ∙ (count_away (holds_counts fate (x ∷ xs))).1
         ∙ counting.first_stands fate x xs ∙ stored_by r drawn x
 
-    stored_says : SaysCount (count_room s) (count_of_word stored)
-    stored_says = subst (λ (k : ℕ). SaysCount (count_room s) (count_of_word k)) settles (stands.words (count_of x))
+    stored_says : SaysCount (count_of_word stored)
+    stored_says = subst (λ (k : ℕ). SaysCount (count_of_word k)) settles (stands.words (count_of x))
 
     apart : AreApart (x ∷ xs)
     apart = subst AreApart counts_are (call_is setup setting cores t stands c here a active).apart
@@ -298,8 +298,8 @@ module _ (setup : Setting) (setting : IsSetting setup) (cores : ℕ → Core) (t
     thaw_settles : settled setup (held_by cores) t at ≡ given
     thaw_settles = ap (λ p. settled_by p (held_by cores) at (last_left setup t at)) thaw_mark ∙ ap (λ h. h.stands at) thaw_held ∙ frozen.1
 
-    given_says : SaysCount (count_room s) (count_of_word given)
-    given_says = subst (λ (k : ℕ). SaysCount (count_room s) (count_of_word k)) thaw_settles (stands.words at)
+    given_says : SaysCount (count_of_word given)
+    given_says = subst (λ (k : ℕ). SaysCount (count_of_word k)) thaw_settles (stands.words at)
 
     abbrev left : Option Thaw
     left = thaw_left_by (thaw_after th) (thaw_end th)

@@ -18,9 +18,9 @@ use Rattle.freeze_invariant.proofs.Common.{stamp-begins, stamp-kept, flush_store
 use Rattle.freeze_invariant.proofs.Common.{later, unheld, Acquired, latest_stamp, thaw_of, Swept, own_pages, LeadsIn}
 use Rattle.freeze_invariant.proofs.Common.{leads_by, release_of, Untyping, Draw, Due, Act, Stage, Undecided, Decided, ActiveCall, landed}
 use Rattle.freeze_invariant.proofs.Common.{Core, stamp_in, holds_release, holds_thaw, is_frozen, Holding, holds_counts, settled_by}
-use Rattle.freeze_invariant.proofs.Common.{settled, WordIs, count_room, HasFound, KnowsUndecided, WorksIn, own_in, holds}
+use Rattle.freeze_invariant.proofs.Common.{settled, WordIs, HasFound, KnowsUndecided, WorksIn, own_in, holds}
 use Rattle.freeze_invariant.proofs.Common.{held_by, times_of, counted_in, count_shown, SumIs, Invariant, KnowsSwept}
-use Rattle.freeze_invariant.proofs.Common.{ThawsFrame, names_of, counts_bare, calm_counted, plain_exit, room_grows, counted_refs}
+use Rattle.freeze_invariant.proofs.Common.{ThawsFrame, names_of, counts_bare, calm_counted, plain_exit, counted_refs}
 use Rattle.freeze_invariant.proofs.Common.{release_entry, thaws_own, limits_of, HoldsSwept, release_swept, ReadsAlike, StaysSaid}
 use Rattle.freeze_invariant.proofs.Common.{own_settled, word_stays, own_kept, phase_at, IsFrameWord, frame_mark, first_of_stack}
 use Rattle.freeze_invariant.proofs.Common.{thread_of, stamp_of_change, loads_of}
@@ -30,6 +30,7 @@ use Rattle.std.proofs.Math.IntN.{pos-+ℤ-pos, +ℤ_assoc, +ℤ_invr, +ℤ_idr}
 use Rattle.freeze_invariant.specs.spk_nums.specs.declared.kinds.FrameKind.TheVariants as kind
 use Rattle.freeze_invariant.specs.spk_nums.specs.declared.replies.Reply.TheVariants as reply
 use Rattle.freeze_invariant.specs.spk_nums.specs.declared.replies.Value.TheVariants as value
+use Rattle.freeze_invariant.specs.frame_words.specs.Residue.{residue}
 use Rattle.freeze_invariant.specs.frame_words.proofs.CountLemmas as counts
 use Rattle.freeze_invariant.specs.frame_words.proofs.FrameLemmas as frames
 use Rattle.freeze_invariant.specs.kernel_rules.specs.Start.{no_grace}
@@ -60,7 +61,7 @@ use Rattle.freeze_invariant.specs.count_invariant.proofs.CountChanges.{spared_co
 use Rattle.freeze_invariant.specs.count_invariant.proofs.Findings.{own_is, found_named, way_gone}
 use Rattle.freeze_invariant.specs.place_invariant.proofs.Removals.{frame_none, frame_some}
 use Rattle.freeze_invariant.specs.place_invariant.proofs.Vacancy.{none_unflushed, none_waits}
-use Rattle.sweep_invariant.proofs.Emptied.{acquired_all, acquired_away, count_word, due_each, due_none, due_small, looked_empty}
+use Rattle.sweep_invariant.proofs.Emptied.{acquired_all, acquired_away, count_word, due_each, due_none, looked_empty}
 use Rattle.sweep_invariant.proofs.FreeEntries.{counts_entry, entry_unmarked, no_thread}
 use Rattle.sweep_invariant.proofs.OwnedFrames.{Differ, OwnedApart, names_differ, owned_apart}
 use Rattle.freeze_invariant.proofs.UntypeCalls as calls
@@ -157,7 +158,8 @@ module _ (setup : Setting) (setting : IsSetting setup) (cores : ℕ → Core) (t
 
   -- nothing refers to the frame, and nobody else waits for it
   zero_refs : refs s f ≡ 0
-  zero_refs = no_refs setup cores t stands c f word w.words (holds (cores c)) settles swept knows.kept knows.swept.frozen
+  zero_refs =
+      no_refs setup cores t stands c f word w.words (holds (cores c)) settles swept knows.kept knows.swept.frozen setting
 
   since : stamp setup t thing ≡ latest_stamp w.words
   since = stamp_is setup cores t stands c f word w.words (holds (cores c)) settles swept knows.kept knows.swept.frozen
@@ -335,10 +337,6 @@ module _ (setup : Setting) (setting : IsSetting setup) (cores : ℕ → Core) (t
     grows = subst (λ y. counted_in setup s + 1 ≤ counted_in setup y) (sym now)
         (counted_grows setup s (counted s c) c (calm_counted s c) here one_counted)
 
-    more_room : count_room s + 4 ≤ count_room s'
-    more_room = subst (λ y. count_room s + 4 ≤ count_room y) (sym now)
-        (room_grows s (counted s c) c (calm_counted s c) core_below one_counted)
-
     stored_same : (d : ℕ) → flush_stored (e ∷ t) d ≡ flush_stored t d
     stored_same d = elim (cases_eq d c) [
       | inl own ↦ flush_stored-own d e t own
@@ -351,7 +349,7 @@ module _ (setup : Setting) (setting : IsSetting setup) (cores : ℕ → Core) (t
 
     stays : (q : Word) → q ≢ ClockAt → marked_by setup t q ≢ Some c → StaysSaid setup cores t e q
     stays (EntryAt g i) no_clock bare = elim (cases_eq g f) [
-      | inl same ↦ λ is. subst (λ y. IsFrameWord s'.limits.frames (count_room s') y (s'.place g i)
+      | inl same ↦ λ is. subst (λ y. IsFrameWord s'.limits.frames y (s'.place g i)
           (stamp setup (e ∷ t) (PlaceOf g i)) i (settled setup (held_by cores) t (EntryAt g i))) (sym (ap s'.frame same ∙ frame_now)) tt
       | inr other ↦ word_stays s s' (times_of setup t) (times_of setup (e ∷ t))
           (EntryAt g i) (settled setup (held_by cores) t (EntryAt g i))
@@ -360,7 +358,6 @@ module _ (setup : Setting) (setting : IsSetting setup) (cores : ℕ → Core) (t
             frame = frames_now g other;
             place = ap (λ y. y.place g i) now;
             stamp = stamp_place g i;
-            room = (let more = more_room in omega arith);
           })
     ]
     stays (FrameAt g) no_clock bare = elim (cases_eq g f) [
@@ -370,7 +367,7 @@ module _ (setup : Setting) (setting : IsSetting setup) (cores : ℕ → Core) (t
     ]
     stays (CountAt g d) no_clock bare =
         word_stays s s' (times_of setup t) (times_of setup (e ∷ t)) (CountAt g d) (settled setup (held_by cores) t (CountAt g d))
-        (let more = more_room in omega arith)
+        tt
     stays (CoreAt d) no_clock bare =
         word_stays s s' (times_of setup t) (times_of setup (e ∷ t)) (CoreAt d) (settled setup (held_by cores) t (CoreAt d))
         (record { inside = decided-inside (Some r) (phase t c) s c d; exit = plain_exit t e refl d })
@@ -428,7 +425,7 @@ module _ (setup : Setting) (setting : IsSetting setup) (cores : ℕ → Core) (t
         let none : times g (frame_names Untyped) ≡ 0 = refl in
         omega (arith, one, two, three, four, five, none)
 
-    drawn_small : later 0 (Some now_at) < 2 ^ 28
+    drawn_small : later 0 (Some now_at) < 2 ^ 43
     drawn_small = let low = clock_small setup setting cores t stands in let is = drawn_is in omega arith
 
     kept : (g : ℕ) → g ≢ f → All (λ (d : Due). g ≢ d.frame) ds
@@ -477,7 +474,7 @@ module _ (setup : Setting) (setting : IsSetting setup) (cores : ℕ → Core) (t
 
     own_sum : SumIs setup (held_by (put cores c after)) (e ∷ t) f
     own_sum = record {
-      sum = ap (count_sum own_counts) counters_now ∙ cleared.0 ∙ ap (λ (n : ℕ). pos n) (sym own_refs);
+      sum = ap residue (ap (count_sum own_counts) counters_now ∙ cleared.0) ∙ ap (λ (n : ℕ). residue (pos n)) (sym own_refs);
       newest = ap (newest_of own_counts) counters_now ∙ cleared.1 ∙ sym stamp_own;
     }
 
@@ -485,8 +482,7 @@ module _ (setup : Setting) (setting : IsSetting setup) (cores : ℕ → Core) (t
     sums g = elim (cases_eq g f) [
       | inl same ↦ subst (SumIs setup (held_by (put cores c after)) (e ∷ t)) (sym same) own_sum
       | inr other ↦ spared_sum setup setting cores t stands c here a active (Some now_at) drawn_small ds has.knows.all
-          (due_small w.owned.first w.owned.second) (λ (n : ℕ). n ≢ f) away
-          (AddOf ClockAt 1) r after still before_count after_count alike refl
+          (λ (n : ℕ). n ≢ f) away (AddOf ClockAt 1) r after still before_count after_count alike refl
           refl no_count (ap (λ l. l.cores) limits) kept changes g other
     ]
 
@@ -500,7 +496,6 @@ module _ (setup : Setting) (setting : IsSetting setup) (cores : ℕ → Core) (t
       count = pos 0;
       stamp = 0;
       says = ap count_of_word (own_counter d below).1 ∙ clear_reads;
-      within = omega arith;
     }
 
     held_now : (q : Word) → marked_by setup t q ≡ Some c → WordIs s' (times_of setup (e ∷ t)) q ((holds after).stands q)
@@ -528,8 +523,8 @@ module _ (setup : Setting) (setting : IsSetting setup) (cores : ℕ → Core) (t
             subst (WordIs s' (times_of setup (e ∷ t)) q)
             (ap (holds_counts (Some (Some now_at)) a.counts).stands at ∙ sym (after_count g d other) ∙ ap (holds after).stands (sym at))
             (spared_commit setup setting cores t stands c here a active (Some now_at) drawn_small ds has.knows.all
-            (due_small w.owned.first w.owned.second) (λ (n : ℕ). n ≢ f) away (AddOf ClockAt 1) r after still before_count after_count alike
-            refl refl no_count more_room q is)
+            (λ (n : ℕ). n ≢ f) away (AddOf ClockAt 1) r after still before_count after_count alike
+            refl refl no_count q is)
 
         not_frame : q ≢ FrameAt f → WordIs s' (times_of setup (e ∷ t)) q ((holds after).stands q)
         not_frame other = by (is_frozen (thaw_from w false) q) refl

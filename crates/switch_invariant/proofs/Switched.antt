@@ -17,8 +17,8 @@ use Rattle.thread_invariant.proofs.Common.{state_decided_in, last_left, own_left
 use Rattle.thread_invariant.proofs.Common.{same_word-other, opened_is, stamp-begins, stamp-kept, flush_of-own, flush_stored-own}
 use Rattle.thread_invariant.proofs.Common.{flush_stored-other, LeadsIn, own_pages, leads_by, later}
 use Rattle.thread_invariant.proofs.Common.{own_changed, tcap_dues, Own, Switching, Due, Tail, StoreRunning, Act, own_decided}
-use Rattle.thread_invariant.proofs.Common.{Stage, Undecided, Decided, ActiveCall, landed, Core, IsWithin, Holding, holds_counts, settled}
-use Rattle.thread_invariant.proofs.Common.{IsFrameWord, IsThreadWord, WordIs, count_room, HasFound, due_of, flushing_in, KnowsUndecided}
+use Rattle.thread_invariant.proofs.Common.{Stage, Undecided, Decided, ActiveCall, landed, Core, Holding, holds_counts, settled}
+use Rattle.thread_invariant.proofs.Common.{IsFrameWord, IsThreadWord, WordIs, HasFound, due_of, flushing_in, KnowsUndecided}
 use Rattle.thread_invariant.proofs.Common.{own_in, WorksIn, holds, holds_in, held_by, times_of, counted_in, SumIs, Invariant}
 use Rattle.thread_invariant.proofs.Common.{claimed_by, is_claimed, counts_bare, plain_exit, decided-inside, own_kept}
 use Rattle.thread_invariant.proofs.Common.{exclusive_elsewhere, exclusive_none, limits_of, ReadsAlike, SameFor, StaysSaid, word_stays}
@@ -278,12 +278,6 @@ module _ (setup : Setting) (setting : IsSetting setup) (cores : ℕ → Core) (t
       let more = one_more in
       omega (arith, sum, more)
 
-  more_room : count_room s + 4 ≤ count_room s'
-  more_room =
-      subst (λ (n : ℕ). count_room s + 4 ≤ 16 + 4 * sum_below (λ d. (s'.core d).counted) n) (sym (ap (λ l. l.cores) limits))
-      (subst (λ (n : ℕ). 16 + 4 * sum_below (λ d. (s.core d).counted) n + 4 ≤ 16 + 4 * sum_below (λ d. (s'.core d).counted) n)
-      (sym (ap (λ l. l.cores) (limits_of setup t))) (let more = grows in omega (arith, more)))
-
   -- what it holds
   abbrev rest : Holding
   rest = holds_counts None a.counts
@@ -349,10 +343,10 @@ module _ (setup : Setting) (setting : IsSetting setup) (cores : ℕ → Core) (t
   said w same = word_stays s s' (times_of setup t) (times_of setup (e ∷ t)) w (settled setup (held_by cores) t w) same
 
   abbrev Says : Frame → ℕ → ℕ → ℕ → Type 0
-  Says y g i v = IsFrameWord s'.limits.frames (count_room s') y (s'.place g i) (stamp setup (e ∷ t) (PlaceOf g i)) i v
+  Says y g i v = IsFrameWord s'.limits.frames y (s'.place g i) (stamp setup (e ∷ t) (PlaceOf g i)) i v
 
   abbrev SaysBefore : Frame → ℕ → ℕ → ℕ → Type 0
-  SaysBefore y g i v = IsFrameWord s.limits.frames (count_room s) y (s.place g i) (stamp setup t (PlaceOf g i)) i v
+  SaysBefore y g i v = IsFrameWord s.limits.frames y (s.place g i) (stamp setup t (PlaceOf g i)) i v
 
   -- a word above the first of a thread shows its stack, which stays
   above : (k : ThreadFields) (o : Option ℕ) (i v : ℕ) → i ≢ 0 → IsThreadWord k i v → IsThreadWord (record k { runs_on = o }) i v
@@ -383,7 +377,6 @@ module _ (setup : Setting) (setting : IsSetting setup) (cores : ℕ → Core) (t
       ∙ ap (λ (n : ℕ). marked_by setup t (EntryAt n 0)) (same ∙ sym old_same) ∙ old_mark))
   entry_stays g i free (inr (inr others)) = said (EntryAt g i) (record {
     frames = ap (λ l. l.frames) limits;
-    room = (let more = more_room in omega (arith, more));
     frame = away_frame g others.0 others.1;
     place = ap (λ y. y.place g i) now;
     stamp = stamp_stays (PlaceOf g i) (no_place same_tcap g i);
@@ -399,7 +392,7 @@ module _ (setup : Setting) (setting : IsSetting setup) (cores : ℕ → Core) (t
   stays : (w : Word) → w ≢ ClockAt → marked_by setup t w ≢ Some c → StaysSaid setup cores t e w
   stays (EntryAt g i) there free = entry_stays g i free (which g)
   stays (FrameAt g) there free = frame_stays g (which g)
-  stays (CountAt g d) there free = said (CountAt g d) (let more = more_room in omega (arith, more))
+  stays (CountAt g d) there free = said (CountAt g d) tt
   stays (CoreAt d) there free = said (CoreAt d) (record {
     inside = decided-inside (Some r) (phase t c) s c d;
     exit = plain_exit t e refl d;
@@ -428,28 +421,7 @@ module _ (setup : Setting) (setting : IsSetting setup) (cores : ℕ → Core) (t
       ∙ ap (λ (g : ℕ). all_dues (m.tcap == m.old_tcap) to.thread g m.tcap m.old_tcap) (sym old_same)
       ∙ calls.dues_at setup setting cores t stands c here a active m stage_is has (Draw to table pages) is
 
-  abbrev IsSmall : Due → Type 0
-  IsSmall d = IsWithin d.change 4
-
-  up_small : IsWithin (pos 1) 4
-  up_small = omega arith
-
-  down_small : IsWithin (negsuc 0) 4
-  down_small = omega arith
-
-  small_tcaps : (b : Bool) → All IsSmall (tcap_dues b m.tcap (s.core c).tcap)
-  small_tcaps true = All-nil IsSmall
-  small_tcaps false = All-cons IsSmall (record { frame = m.tcap; change = pos 1 })
-      (record { frame = (s.core c).tcap; change = negsuc 0 } ∷ []) up_small
-      (All-cons IsSmall (record { frame = (s.core c).tcap; change = negsuc 0 }) [] down_small (All-nil IsSmall))
-
-  small_changes : All IsSmall (all_dues (m.tcap == (s.core c).tcap) to.thread (s.core c).thread m.tcap (s.core c).tcap)
-  small_changes = All-cons IsSmall (record { frame = to.thread; change = pos 1 })
-      (record { frame = (s.core c).thread; change = negsuc 0 } ∷ tcap_dues same_tcap m.tcap (s.core c).tcap) up_small
-      (All-cons IsSmall (record { frame = (s.core c).thread; change = negsuc 0 }) (tcap_dues same_tcap m.tcap (s.core c).tcap) down_small
-      (small_tcaps same_tcap))
-
-  drawn_small : later 0 (Some now_at) < 2 ^ 28
+  drawn_small : later 0 (Some now_at) < 2 ^ 43
   drawn_small = let low = clock_small setup setting cores t stands in let same = drawn_is in omega (arith, low, same)
 
   -- the references
@@ -496,7 +468,7 @@ module _ (setup : Setting) (setting : IsSetting setup) (cores : ℕ → Core) (t
 
   sums_now : (g : ℕ) → SumIs setup (held_by (put cores c after)) (e ∷ t) g
   sums_now = dues_sum setup setting cores t stands c here a active (Some now_at) drawn_small
-      (all_dues (m.tcap == (s.core c).tcap) to.thread (s.core c).thread m.tcap (s.core c).tcap) dues_are small_changes move r after still
+      (all_dues (m.tcap == (s.core c).tcap) to.thread (s.core c).thread m.tcap (s.core c).tcap) dues_are move r after still
       counts_before (λ g d. refl) alike refl refl no_count (ap (λ l. l.cores) limits)
       (frames_kept (refs s) (refs s') (λ g. stamp setup t (FrameOf g))
       (λ g. stamp setup (e ∷ t) (FrameOf g)) x now_at to.thread (s.core c).thread
@@ -510,8 +482,8 @@ module _ (setup : Setting) (setting : IsSetting setup) (cores : ℕ → Core) (t
   commits : (w : Word) → (holds_counts None a.counts).marks w ≡ true
       → WordIs s' (times_of setup (e ∷ t)) w ((holds_counts (Some (Some now_at)) a.counts).stands w)
   commits = dues_commit setup setting cores t stands c here a active (Some now_at) drawn_small
-      (all_dues (m.tcap == (s.core c).tcap) to.thread (s.core c).thread m.tcap (s.core c).tcap) dues_are small_changes move r after still
-      counts_before (λ g d. refl) alike refl refl no_count more_room
+      (all_dues (m.tcap == (s.core c).tcap) to.thread (s.core c).thread m.tcap (s.core c).tcap) dues_are move r after still
+      counts_before (λ g d. refl) alike refl refl no_count
 
   held_now : (w : Word) → marked_by setup t w ≡ Some c → WordIs s' (times_of setup (e ∷ t)) w ((holds after).stands w)
   held_now w mark = elim (cases_word w new_at) [

@@ -4,7 +4,7 @@ use Rattle.thread_invariant.proofs.Common.{refl, sym, ◌∙◌, ap, subst, case
 use Rattle.thread_invariant.proofs.Common.{EntryAt, ThreadFields, Thread, Kernel, PlaceOf, State, first_of_stack, thread_in}
 use Rattle.thread_invariant.proofs.Common.{fits, frame_names, refs, times, IsObjectGood, IsSound, IsStack, opened, events_of, IsLegal}
 use Rattle.thread_invariant.proofs.Common.{marked_by, thread_value, stamp, Trace, state_after, last_left, sound_of, Core, HasComp}
-use Rattle.thread_invariant.proofs.Common.{settled_by, held_by, Invariant, IsFrameWord, IsThreadWord, count_room, none_kept, runs_on_own}
+use Rattle.thread_invariant.proofs.Common.{settled_by, held_by, Invariant, IsFrameWord, IsThreadWord, none_kept, runs_on_own}
 use Rattle.thread_invariant.specs.spk_nums.specs.declared.kinds.Kind.TheVariants as kind
 use Rattle.thread_invariant.specs.found_stays.proofs.Stays.{object_named}
 use Rattle.thread_invariant.specs.kernel_invariant.proofs.Sums.{times_first}
@@ -33,21 +33,21 @@ module _ (setup : Setting) (setting : IsSetting setup) (cores : ℕ → Core) (t
   pub plain_says : (i : ℕ) → marked_by setup t (EntryAt f i) ≡ None → ((d : ℕ) → (held_by cores d).bare f i ≡ None)
       → IsThreadWord (thread_in ((state_after setup t).frame f)) i (last_left setup t (EntryAt f i))
   plain_says i bare none =
-      subst (λ x. IsFrameWord s.limits.frames (count_room s) x (s.place f i)
+      subst (λ x. IsFrameWord s.limits.frames x (s.place f i)
       (stamp setup t (PlaceOf f i)) i (last_left setup t (EntryAt f i)))
       frame_is
-      (subst (λ (n : ℕ). IsFrameWord s.limits.frames (count_room s) (s.frame f) (s.place f i) (stamp setup t (PlaceOf f i)) i n)
+      (subst (λ (n : ℕ). IsFrameWord s.limits.frames (s.frame f) (s.place f i) (stamp setup t (PlaceOf f i)) i n)
       (none_kept 8 (held_by cores) f i (last_left setup t (EntryAt f i)) none)
-      (subst (λ o. IsFrameWord s.limits.frames (count_room s) (s.frame f) (s.place f i) (stamp setup t (PlaceOf f i)) i
+      (subst (λ o. IsFrameWord s.limits.frames (s.frame f) (s.place f i) (stamp setup t (PlaceOf f i)) i
       (settled_by o (held_by cores) (EntryAt f i) (last_left setup t (EntryAt f i)))) bare (stands.words (EntryAt f i))))
 
   -- one that a core has marked says it of what it stands for
   pub marked_says : (i d : ℕ) → marked_by setup t (EntryAt f i) ≡ Some d
       → IsThreadWord (thread_in ((state_after setup t).frame f)) i ((held_by cores d).stands (EntryAt f i))
   marked_says i d mark =
-      subst (λ x. IsFrameWord s.limits.frames (count_room s) x (s.place f i) (stamp setup t (PlaceOf f i)) i
+      subst (λ x. IsFrameWord s.limits.frames x (s.place f i) (stamp setup t (PlaceOf f i)) i
       ((held_by cores d).stands (EntryAt f i))) frame_is
-      (subst (λ o. IsFrameWord s.limits.frames (count_room s) (s.frame f) (s.place f i) (stamp setup t (PlaceOf f i)) i
+      (subst (λ o. IsFrameWord s.limits.frames (s.frame f) (s.place f i) (stamp setup t (PlaceOf f i)) i
       (settled_by o (held_by cores) (EntryAt f i) (last_left setup t (EntryAt f i)))) mark (stands.words (EntryAt f i)))
 
   kept_of_thread : (d i v : ℕ) → (held_by cores d).bare f i ≡ Some v → IsOfThread setup t d f i

@@ -5,6 +5,7 @@ use Rattle.spk_nums.specs.declared.translations.CoreEnd.{CoreEnd}
 use Rattle.entry_words.specs.declared.entry.Entry.{Entry}
 use Rattle.entry_words.specs.EntryWord.{entry_of_word}
 use Rattle.frame_words.specs.Live.{live_of_word}
+use Rattle.frame_words.specs.Residue.{residue}
 use Rattle.frame_words.specs.declared.live_word.LiveWord.{LiveWord}
 use Rattle.word_map.specs.Word.{LiveAt}
 use Rattle.word_map.specs.Places.{Shape}
@@ -20,7 +21,7 @@ use Rattle.kernel_history.specs.Tables.{frame_lines, number_line, core_lines, to
 use Rattle.kernel_history.proofs.Sums.{sum_same}
 use Rattle.table_lines.specs.Ends.{core_shown}
 use Rattle.table_report.specs.Shown.{place_shown, place_in, number_shown, frame_shown, words_of, frame_at, place_at, number_at}
-use Rattle.table_report.specs.Shown.{natural, counted_at, core_shown_at, shown, frames_text, numbers_text, cores_text, tables_shown}
+use Rattle.table_report.specs.Shown.{counted_at, core_shown_at, shown, frames_text, numbers_text, cores_text, tables_shown}
 use Rattle.table_lines.proofs.Lines.{lines_same}
 use Rattle.table_report.proofs.ShownObjects.{told, frame_is}
 
@@ -162,8 +163,8 @@ module _ (shape : Shape) (words : List ℕ) (ends : List CoreEnd) (s : State)
   module _ (represented : RepresentCounts (word_in shape words) s) where
     refs_told : (f : ℕ) → f < shape.frames → counted_at shape words f ≡ refs s f
     refs_told f below =
-        ap (λ n. natural (count_sum (count_at (word_in shape words) f) (counters n))) (sym cores)
-        ∙ ap natural (represented f (within f below)).sum
+        ap (λ n. residue (count_sum (count_at (word_in shape words) f) (counters n))) (sym cores)
+        ∙ (represented f (within f below)).sum
 
     frames_told : frames_text shape words shape.frames ≡ lines_below (λ f. frame_lines f (s.frame f) (s.place f) (refs s f)) s.limits.frames
     frames_told =

@@ -1,6 +1,6 @@
 -- The state that words and ends show, whatever they are: a word that unpacks to nothing, or to a core's mark, shows nothing.
 -- A count word shows its count, whoever holds it.
-use Rattle.std.specs.Prelude.{ℕ, ℤ, pos, negsuc, zero, suc, ◌+◌, Bool, true, false, List, [], ◌++◌, Option, Some, None, option_to_list}
+use Rattle.std.specs.Prelude.{ℕ, zero, suc, ◌+◌, Bool, true, false, List, [], ◌++◌, Option, Some, None, option_to_list}
 use Rattle.spk_nums.specs.declared.kinds.FrameKind.{FrameKind}
 use Rattle.spk_nums.specs.declared.kinds.FrameKind.TheVariants as frame_kind
 use Rattle.spk_nums.specs.declared.kinds.Obj.{Obj}
@@ -12,6 +12,7 @@ use Rattle.entry_words.specs.EntryWord.{entry_of_word}
 use Rattle.frame_words.specs.Comp.{comp_of_word}
 use Rattle.frame_words.specs.Frame.{frame_of_word}
 use Rattle.frame_words.specs.Live.{live_of_word}
+use Rattle.frame_words.specs.Residue.{residue}
 use Rattle.frame_words.specs.declared.comp_word.CompWord.{CompWord}
 use Rattle.frame_words.specs.declared.frame_word.FrameWord.{FrameWord}
 use Rattle.frame_words.specs.declared.live_word.LiveWord.{LiveWord}
@@ -123,14 +124,9 @@ place_at shape words f i = place_in (holds_node (frame_at shape words f)) (words
 abbrev pub number_at : Shape → List ℕ → ℕ → Liveness
 number_at shape words l = number_shown (live_of_word (word_in shape words (LiveAt l)))
 
--- An integer as a natural number: 0 where it is negative.
-abbrev pub natural : ℤ → ℕ
-natural (pos n) = n
-natural (negsuc n) = 0
-
--- The references to frame f that its count words show: the sum of their counts.
+-- The references to frame f that its count words show: the sum of their counts, modulo 2 ^ 16.
 abbrev pub counted_at : Shape → List ℕ → ℕ → ℕ
-counted_at shape words f = natural (count_sum (count_at (word_in shape words) f) (counters shape.cores))
+counted_at shape words f = residue (count_sum (count_at (word_in shape words) f) (counters shape.cores))
 
 -- The core c that the ends show.
 abbrev pub core_shown_at : List CoreEnd → ℕ → Core

@@ -6,7 +6,7 @@ ghost use Rattle.kernel_history.specs.FinalWords.{word_in};
 ghost use Rattle.kernel_history.specs.Counts.{counters, count_at, count_in, count_sum};
 ghost use Rattle.table_report.specs.Shown.{counted_at};
 
-use frame_words::CountWord;
+use frame_words::{CountWord, residue};
 use machine_image::Image;
 use spk_nums::{CoreNo, FrameNo};
 
@@ -32,11 +32,11 @@ fn count_sum(image: &Image<'_>, frame: FrameNo) -> i64
     sum
 }
 
-/// The references to a frame that its count words show: the sum of their counts, 0 where that is negative. The frame is
-/// below the machine's frames.
+/// The references to a frame that its count words show: the sum of their counts, modulo 2^16. The frame is below the
+/// machine's frames.
 pub fn references(image: &Image<'_>, frame: FrameNo) -> u64
     requires frame_in { frame < image.now.shape.frames }
     ensures { result ≡ counted_at image.now.shape image.now.words frame }
 {
-    u64::try_from(count_sum(image, frame)).unwrap_or(0)
+    u64::from(residue(count_sum(image, frame)))
 }

@@ -1,7 +1,7 @@
 //! The acts on two temporal capabilities, A and B: a transfer, a delegation, and a test of preemption.
 //!
 //! **Steps.** Head A is loaded and marked, and its list is read; then head B is loaded and its list is read. Head A's mark keeps A
-//! and its list as they are, and each change of B raises the version in head B. So where head B is found the same again, both
+//! and its list as they are, and each change of B's list raises the version in head B. So where head B is found the same again, both
 //! budgets and both lists have stood together at that moment, and that step decides: it puts the ticks in head B, marks it, or
 //! only loads it.
 //!

@@ -2,7 +2,7 @@
 use Rattle.live_invariant.proofs.Common.{◌≡◌, ◌<◌, ℕ, None, IsTrue, refl, ◌∙◌, ap, subst, Setting, IsSetting}
 use Rattle.live_invariant.proofs.Common.{EntryAt, Kernel, Comp, PlaceOf, State, comp_in, fits, IsSound, IsObjectGood, opened}
 use Rattle.live_invariant.proofs.Common.{events_of, mark_in_frame, marked_by, stamp, Trace, state_after, last_left, sound_of, Core}
-use Rattle.live_invariant.proofs.Common.{settled_by, held_by, Invariant, IsFrameWord, count_room, may_keep, not_exclusive_value, limits_of}
+use Rattle.live_invariant.proofs.Common.{settled_by, held_by, Invariant, IsFrameWord, may_keep, not_exclusive_value, limits_of}
 use Rattle.live_invariant.specs.spk_nums.specs.declared.kinds.Kind.TheVariants as kind
 use Rattle.live_invariant.specs.kernel_invariant.proofs.SoundRemovals.{below_by}
 use Rattle.live_invariant.specs.core_invariant.specs.Words.{IsCompWord}
@@ -18,11 +18,11 @@ module _ (setup : Setting) (setting : IsSetting setup) (cores : ℕ → Core) (t
 
   pub comp_says : (i : ℕ) → IsCompWord (comp_in (s.frame f)) i (last_left setup t (EntryAt f i))
   comp_says i =
-      subst (λ x. IsFrameWord s.limits.frames (count_room s) x (s.place f i) (stamp setup t (PlaceOf f i)) i
+      subst (λ x. IsFrameWord s.limits.frames x (s.place f i) (stamp setup t (PlaceOf f i)) i
       (last_left setup t (EntryAt f i))) holds_comp
-      (subst (λ (n : ℕ). IsFrameWord s.limits.frames (count_room s) (s.frame f) (s.place f i) (stamp setup t (PlaceOf f i)) i n)
+      (subst (λ (n : ℕ). IsFrameWord s.limits.frames (s.frame f) (s.place f i) (stamp setup t (PlaceOf f i)) i n)
       (not_exclusive_value setup cores t stands f (ap may_keep holds_comp) i (last_left setup t (EntryAt f i)))
-      (subst (λ o. IsFrameWord s.limits.frames (count_room s) (s.frame f) (s.place f i) (stamp setup t (PlaceOf f i)) i
+      (subst (λ o. IsFrameWord s.limits.frames (s.frame f) (s.place f i) (stamp setup t (PlaceOf f i)) i
       (settled_by o (held_by cores) (EntryAt f i) (last_left setup t (EntryAt f i)))) unmarked (stands.words (EntryAt f i))))
     where
       unmarked : marked_by setup t (EntryAt f i) ≡ None

@@ -11,7 +11,7 @@ use Rattle.live_invariant.proofs.Common.{counted, begins_in, ends_by, flushes_by
 use Rattle.live_invariant.proofs.Common.{at_height, ends_in, flushes_in, begins_at, ends_at, flushes_at, stamp, Step, Trace, Open, phase}
 use Rattle.live_invariant.proofs.Common.{state_after, state_decided_in, last_left, ok_first, last_left-there, later, stamp_of_change}
 use Rattle.live_invariant.proofs.Common.{Invoking, InvokingAt, Own, Works, Tail, Push, Act, own_changed, own_decided, Stage, Undecided}
-use Rattle.live_invariant.proofs.Common.{Decided, ActiveCall, landed, Core, IsWithin, Holding, holds_counts, WordIs}
+use Rattle.live_invariant.proofs.Common.{Decided, ActiveCall, landed, Core, Holding, holds_counts, WordIs}
 use Rattle.live_invariant.proofs.Common.{KnowsUndecided, WorksIn, holds_at, holds_in, holds, times_of, Invariant, counts_bare}
 use Rattle.live_invariant.proofs.Common.{IsUntimed, plain_begins, plain_stamp, plain_flush}
 use Rattle.live_invariant.proofs.Common.{exclusive_kept, marks_own, carry_marks, word_stays}
@@ -46,7 +46,7 @@ use Rattle.thread_invariant.proofs.Invokes.{knows_at, looking, says, lives_so, d
 use Rattle.thread_invariant.proofs.Invokes.{closing_good, load_table_good, load_pages_good, load_comp_good}
 use Rattle.thread_invariant.proofs.OwnStack.{own_thread}
 use Rattle.thread_invariant.proofs.Restacks.{IsRestack, frame_away, core_now, limits, whose, refs_now}
-use Rattle.thread_invariant.proofs.Restacks.{grows, more_room, alike, restack_words, restack_exclusive}
+use Rattle.thread_invariant.proofs.Restacks.{grows, alike, restack_words, restack_exclusive}
 use Rattle.thread_invariant.proofs.Stacked.{stacked}
 use Rattle.thread_invariant.proofs.Stacks.{kept_here, kept_there, kept_is}
 
@@ -276,13 +276,10 @@ module _ (setup : Setting) (setting : IsSetting setup) (cores : ℕ → Core) (t
       }
 
   -- it takes a reference to the component
-  one_small : IsWithin (pos 1) 1
-  one_small = omega arith
-
   few : length (dues_of (pos 1) (m.comp ∷ [])) ≤ 1
   few = omega arith
 
-  none_drawn : later 0 None < 2 ^ 28
+  none_drawn : later 0 None < 2 ^ 43
   none_drawn = omega arith
 
   dues_are : dues_of (pos 1) (m.comp ∷ []) ≡ Rattle.std.proofs.Common.map due_of a.counts
@@ -310,10 +307,9 @@ module _ (setup : Setting) (setting : IsSetting setup) (cores : ℕ → Core) (t
 
   commits : (w : Word) → (holds_counts None a.counts).marks w ≡ true
       → WordIs s' (times_of setup (e ∷ t)) w ((holds_counts (Some None) a.counts).stands w)
-  commits = counts_commit setup setting cores t stands c here a active (pos 1) one_small None none_drawn (m.comp ∷ []) few dues_are move r
+  commits = counts_commit setup setting cores t stands c here a active (pos 1) None none_drawn (m.comp ∷ []) few dues_are move r
       after still (λ f d. (ap (λ h. h.marks (CountAt f d)) held_before, ap (λ h. h.stands (CountAt f d)) held_before)) (λ f d. refl)
       (alike setup setting cores t stands c here a active move r after fs m.depth graces restack) unmarked unmarked no_count
-      (more_room setup setting cores t stands c here a active move r after fs m.depth graces restack)
 
   held : (w : Word) → marked_by setup t w ≡ Some c → WordIs s' (times_of setup (e ∷ t)) w ((holds after).stands w)
   held w mark = commits w (sym (ap (λ h. h.marks w) held_before) ∙ (stands.marks w c).owned mark)
@@ -352,7 +348,7 @@ module _ (setup : Setting) (setting : IsSetting setup) (cores : ℕ → Core) (t
       unmarked
       unmarked)
       (exclusive_kept cores e refl)
-      (counts_sum setup setting cores t stands c here a active (pos 1) one_small None none_drawn (m.comp ∷ []) few dues_are move r
+      (counts_sum setup setting cores t stands c here a active (pos 1) None none_drawn (m.comp ∷ []) few dues_are move r
       after still
       (λ f d. (ap (λ h. h.marks (CountAt f d)) held_before, ap (λ h. h.stands (CountAt f d)) held_before)) (λ f d. refl)
       (alike setup setting cores t stands c here a active move r after fs m.depth graces restack) unmarked unmarked no_count

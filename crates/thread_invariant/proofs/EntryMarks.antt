@@ -13,7 +13,7 @@ use Rattle.live_invariant.proofs.Common.{Push, Pop, Share, StoreRunning, StoreId
 use Rattle.live_invariant.proofs.Common.{Living}
 use Rattle.live_invariant.proofs.Common.{Undecided, Decided, Leave, ActiveCall, Core, swept_of, holds_release, holds_untyping, Holding}
 use Rattle.live_invariant.proofs.Common.{nothing, keeps, holds_counts, settled_by, holds_idle, holds_switching, IsFrameWord}
-use Rattle.live_invariant.proofs.Common.{count_room, KnowsAct, KnowsWork, KnowsTail, KnowsAt, CallIs, phase_at, KnowsStoresAt, holds_act}
+use Rattle.live_invariant.proofs.Common.{KnowsAct, KnowsWork, KnowsTail, KnowsAt, CallIs, phase_at, KnowsStoresAt, holds_act}
 use Rattle.live_invariant.proofs.Common.{holds_making, holds_killing, holds_comp, holds_share, holds_shared, holds_head, holds_heads}
 use Rattle.live_invariant.proofs.Common.{holds_work, holds_tail, is_done, holds_at, holds_in, holds, held_by, Invariant, slot_relies}
 use Rattle.live_invariant.proofs.Common.{release_entry, runs_on_own}
@@ -295,9 +295,9 @@ module _ (setup : Setting) (setting : IsSetting setup) (cores : ℕ → Core) (t
       → SaysIdle ((holds (cores d)).stands (EntryAt ((state_after setup t).core c).thread 0)) → ⊥
   not_idle d mark idle =
       not_running ((holds (cores d)).stands (EntryAt thread 0)) c (length (thread_of s c).stack) idle
-      (subst (λ x. IsFrameWord s.limits.frames (count_room s) x (s.place thread 0) (stamp setup t (PlaceOf thread 0)) 0
+      (subst (λ x. IsFrameWord s.limits.frames x (s.place thread 0) (stamp setup t (PlaceOf thread 0)) 0
       ((holds (cores d)).stands (EntryAt thread 0))) own
-      (subst (λ o. IsFrameWord s.limits.frames (count_room s) (s.frame thread) (s.place thread 0) (stamp setup t (PlaceOf thread 0)) 0
+      (subst (λ o. IsFrameWord s.limits.frames (s.frame thread) (s.place thread 0) (stamp setup t (PlaceOf thread 0)) 0
       (settled_by o (held_by cores) (EntryAt thread 0) (last_left setup t (EntryAt thread 0)))) mark (stands.words (EntryAt thread 0)))
       ∙ ap (λ o. Some (thread_value o (length (thread_of s c).stack))) (runs_on_own setup setting cores t stands c here))
 

@@ -12,7 +12,7 @@ use Rattle.live_invariant.proofs.Common.{marked_by, at_height, ends_in, flushes_
 use Rattle.live_invariant.proofs.Common.{flush_of, flush_stored, Step, Trace, Open, phase, state_after, state_decided_in, last_left}
 use Rattle.live_invariant.proofs.Common.{ok_first, stamp-begins, stamp-kept, flush_of-own, flush_stored-own, flush_stored-other}
 use Rattle.live_invariant.proofs.Common.{drawn_stamp, later, stamp_of_change, ReturningAt, Own, Works, Tail, Pop, Act, own_changed}
-use Rattle.live_invariant.proofs.Common.{own_decided, Stage, Undecided, Decided, ActiveCall, landed, Core, IsWithin, Holding}
+use Rattle.live_invariant.proofs.Common.{own_decided, Stage, Undecided, Decided, ActiveCall, landed, Core, Holding}
 use Rattle.live_invariant.proofs.Common.{holds_counts, WordIs, due_of, flushing_in, KnowsUndecided, WorksIn, holds_in, holds}
 use Rattle.live_invariant.proofs.Common.{times_of, Invariant, counts_bare, exclusive_elsewhere, marks_own, carry_marks}
 use Rattle.live_invariant.proofs.Common.{returning_dues}
@@ -48,7 +48,7 @@ use Rattle.thread_invariant.proofs.Returns.{opens, is_open, room, return_fits, d
 use Rattle.thread_invariant.proofs.Returns.{return_held, loaded_at, load_below_good, load_table_good, load_pages_good}
 use Rattle.thread_invariant.proofs.OwnStack.{own_thread, split_stack}
 use Rattle.thread_invariant.proofs.Restacks.{IsRestack, frame_away, core_now, limits, whose, refs_now}
-use Rattle.thread_invariant.proofs.Restacks.{grows, more_room, alike, restack_words, restack_exclusive}
+use Rattle.thread_invariant.proofs.Restacks.{grows, alike, restack_words, restack_exclusive}
 use Rattle.thread_invariant.proofs.Stacked.{stacked}
 use Rattle.thread_invariant.proofs.Stacks.{kept_here, kept_there, kept_is}
 
@@ -300,13 +300,10 @@ module _ (setup : Setting) (setting : IsSetting setup) (cores : ℕ → Core) (t
       }
 
   -- it releases the reference to the top
-  one_small : IsWithin (negsuc 0) 1
-  one_small = omega arith
-
   few : length (dues_of (negsuc 0) (m.top ∷ [])) ≤ 1
   few = omega arith
 
-  drawn_small : later 0 (Some now_at) < 2 ^ 28
+  drawn_small : later 0 (Some now_at) < 2 ^ 43
   drawn_small = let low = clock_small setup setting cores t stands in let same = drawn_is in omega arith
 
   dues_are : dues_of (negsuc 0) (m.top ∷ []) ≡ Rattle.std.proofs.Common.map due_of a.counts
@@ -346,11 +343,10 @@ module _ (setup : Setting) (setting : IsSetting setup) (cores : ℕ → Core) (t
 
   commits : (w : Word) → (holds_counts None a.counts).marks w ≡ true
       → WordIs s' (times_of setup (e ∷ t)) w ((holds_counts (Some (Some now_at)) a.counts).stands w)
-  commits = counts_commit setup setting cores t stands c here a active (negsuc 0) one_small (Some now_at) drawn_small (m.top ∷ []) few
+  commits = counts_commit setup setting cores t stands c here a active (negsuc 0) (Some now_at) drawn_small (m.top ∷ []) few
       dues_are move r after still
       (λ f d. (ap (λ h. h.marks (CountAt f d)) held_before, ap (λ h. h.stands (CountAt f d)) held_before)) (λ f d. refl)
       (alike setup setting cores t stands c here a active move r after fs height graces restack) refl refl no_count
-      (more_room setup setting cores t stands c here a active move r after fs height graces restack)
 
   held : (w : Word) → marked_by setup t w ≡ Some c → WordIs s' (times_of setup (e ∷ t)) w ((holds after).stands w)
   held w mark = commits w (sym (ap (λ h. h.marks w) held_before) ∙ (stands.marks w c).owned mark)
@@ -399,7 +395,7 @@ module _ (setup : Setting) (setting : IsSetting setup) (cores : ℕ → Core) (t
       no_entry
       refl refl)
       (exclusive_elsewhere cores e (λ f i h. no_entry f i h))
-      (counts_sum setup setting cores t stands c here a active (negsuc 0) one_small (Some now_at) drawn_small (m.top ∷ []) few dues_are
+      (counts_sum setup setting cores t stands c here a active (negsuc 0) (Some now_at) drawn_small (m.top ∷ []) few dues_are
       move r
       after still (λ f d. (ap (λ h. h.marks (CountAt f d)) held_before, ap (λ h. h.stands (CountAt f d)) held_before)) (λ f d. refl)
       (alike setup setting cores t stands c here a active move r after fs height graces restack) refl refl no_count

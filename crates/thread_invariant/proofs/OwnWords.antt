@@ -1,7 +1,7 @@
 -- What the words of a core's own thread say, while the core has nothing to store there.
 use Rattle.live_invariant.proofs.Common.{◌≡◌, ◌≢◌, ◌<◌, inl, inr, ℕ, false, Option, Some, None, refl, sym, ◌∙◌, ap, subst, cases_eq}
 use Rattle.live_invariant.proofs.Common.{Setting, IsSetting, EntryAt, PlaceOf, State, thread_in, thread_of, stamp, Trace, state_after}
-use Rattle.live_invariant.proofs.Common.{last_left, Core, settled_by, IsFrameWord, IsThreadWord, count_room, holds, held_by, Invariant}
+use Rattle.live_invariant.proofs.Common.{last_left, Core, settled_by, IsFrameWord, IsThreadWord, holds, held_by, Invariant}
 use Rattle.live_invariant.proofs.Common.{none_kept, runs_on_own}
 use Rattle.live_invariant.specs.kept_facts.proofs.Exclusive.{exclusive_thread, runs_no_tcap}
 use Rattle.thread_invariant.proofs.EntryMarks.{thread_unmarked}
@@ -39,12 +39,12 @@ module _ (setup : Setting) (setting : IsSetting setup) (cores : ℕ → Core) (t
 
   pub thread_says : (i : ℕ) → IsThreadWord (thread_of s c) i (last_left setup t (EntryAt ((state_after setup t).core c).thread i))
   thread_says i =
-      subst (λ x. IsFrameWord s.limits.frames (count_room s) x (s.place thread i) (stamp setup t (PlaceOf thread i)) i
+      subst (λ x. IsFrameWord s.limits.frames x (s.place thread i) (stamp setup t (PlaceOf thread i)) i
       (last_left setup t (EntryAt thread i))) (own_thread setup setting t stands.legal c here)
-      (subst (λ (n : ℕ). IsFrameWord s.limits.frames (count_room s) (s.frame thread) (s.place thread i)
+      (subst (λ (n : ℕ). IsFrameWord s.limits.frames (s.frame thread) (s.place thread i)
       (stamp setup t (PlaceOf thread i)) i n)
       (none_kept 8 (held_by cores) thread i (last_left setup t (EntryAt thread i)) (unkept i))
-      (subst (λ o. IsFrameWord s.limits.frames (count_room s) (s.frame thread) (s.place thread i) (stamp setup t (PlaceOf thread i)) i
+      (subst (λ o. IsFrameWord s.limits.frames (s.frame thread) (s.place thread i) (stamp setup t (PlaceOf thread i)) i
       (settled_by o (held_by cores) (EntryAt thread i) (last_left setup t (EntryAt thread i))))
       (thread_unmarked setup setting cores t stands c here i (mine thread i))
       (stands.words (EntryAt thread i))))

@@ -7,7 +7,7 @@ use Rattle.live_invariant.proofs.Common.{ClockAt, Move, word_of, left_of, Grace,
 use Rattle.live_invariant.proofs.Common.{State, thread_of, put, sum_below, times, refs, sum_one, mark_of, mark_in_frame, marked_by}
 use Rattle.live_invariant.proofs.Common.{at_height, thread_value, stamp, flush_stored, Step, Trace, phase, state_after, last_left}
 use Rattle.live_invariant.proofs.Common.{decided-inside, last_left-there, ActiveCall, Core, settled, IsFrameWord, IsThreadWord, WordIs}
-use Rattle.live_invariant.proofs.Common.{count_room, holds, held_by, times_of, counted_in, IsExclusive, Invariant, plain_exit, runs_on_own}
+use Rattle.live_invariant.proofs.Common.{holds, held_by, times_of, counted_in, IsExclusive, Invariant, plain_exit, runs_on_own}
 use Rattle.live_invariant.proofs.Common.{limits_of, ReadsAlike, SameFor, StaysSaid, word_stays, frame_value}
 use Rattle.live_invariant.specs.core_invariant.specs.Invariant.{SaysRunning}
 use Rattle.live_invariant.specs.step_ways.proofs.Keeping.{keeping_words}
@@ -89,12 +89,6 @@ module _ (setup : Setting) (setting : IsSetting setup) (cores : ℕ → Core) (t
       let more : (s'.core c).counted ≡ (s.core c).counted + 1 = ap (λ k. k.counted) core_now in
       omega (arith, sum, more)
 
-  pub more_room : count_room s + 4 ≤ count_room s'
-  more_room =
-      subst (λ (m : ℕ). count_room s + 4 ≤ 16 + 4 * sum_below (λ d. (s'.core d).counted) m) (sym (ap (λ l. l.cores) limits))
-      (subst (λ (m : ℕ). 16 + 4 * sum_below (λ d. (s.core d).counted) m + 4 ≤ 16 + 4 * sum_below (λ d. (s'.core d).counted) m)
-      (sym (ap (λ l. l.cores) (limits_of setup t))) (let more = grows in omega (arith, more)))
-
   pub alike : ReadsAlike setup t e
   alike (EntryAt g i) = elim (cases_eq g (s.core c).thread) [
     | inl same ↦ ap (λ x. mark_in_frame x i (last_left setup (e ∷ t) (EntryAt g i))) (frame_now g same)
@@ -121,7 +115,6 @@ module _ (setup : Setting) (setting : IsSetting setup) (cores : ℕ → Core) (t
   frame_word : (g i : ℕ) → g ≢ (s.core c).thread → StaysSaid setup cores t e (EntryAt g i)
   frame_word g i other = said (EntryAt g i) (record {
     frames = ap (λ l. l.frames) limits;
-    room = (let more = more_room in omega (arith, more));
     frame = frame_away g other;
     place = ap (λ x. x.place g i) r.now;
     stamp = r.places g i;
@@ -129,10 +122,10 @@ module _ (setup : Setting) (setting : IsSetting setup) (cores : ℕ → Core) (t
 
   own_word : (g i : ℕ) → g ≡ (s.core c).thread → (holds after).bare g i ≡ None → StaysSaid setup cores t e (EntryAt g i)
   own_word g i same unkept before =
-      subst (λ x. IsFrameWord s'.limits.frames (count_room s') x (s'.place g i) (stamp setup (e ∷ t) (PlaceOf g i)) i
+      subst (λ x. IsFrameWord s'.limits.frames x (s'.place g i) (stamp setup (e ∷ t) (PlaceOf g i)) i
       (settled setup (held_by cores) t (EntryAt g i))) (sym (frame_now g same))
       (thread_says i first place (settled setup (held_by cores) t (EntryAt g i))
-      (subst (λ x. IsFrameWord s.limits.frames (count_room s) x (s.place g i) (stamp setup t (PlaceOf g i)) i
+      (subst (λ x. IsFrameWord s.limits.frames x (s.place g i) (stamp setup t (PlaceOf g i)) i
       (settled setup (held_by cores) t (EntryAt g i))) (ap s.frame same ∙ own) before))
     where
       at_thread : (holds after).bare g i ≡ (holds after).bare (s.core c).thread i
@@ -157,7 +150,7 @@ module _ (setup : Setting) (setting : IsSetting setup) (cores : ℕ → Core) (t
         ∙ ap (λ x. Some (frame_value x)) (sym (frame_now g same))
     | inr other ↦ said (FrameAt g) (frame_away g other)
   ]
-  stays (CountAt g d) there free unkept = said (CountAt g d) (let more = more_room in omega (arith, more))
+  stays (CountAt g d) there free unkept = said (CountAt g d) tt
   stays (CoreAt d) there free unkept = said (CoreAt d) (record {
     inside = decided-inside (Some reply) (phase t c) s c d;
     exit = plain_exit t e refl d;
@@ -172,14 +165,14 @@ module _ (setup : Setting) (setting : IsSetting setup) (cores : ℕ → Core) (t
 
   keeps_thread : Said (s.core c).thread 0 r.thread_word
   keeps_thread =
-      subst (λ x. IsFrameWord s'.limits.frames (count_room s') x (s'.place (s.core c).thread 0)
+      subst (λ x. IsFrameWord s'.limits.frames x (s'.place (s.core c).thread 0)
       (stamp setup (e ∷ t) (PlaceOf (s.core c).thread 0)) 0
       r.thread_word) (sym (frame_now (s.core c).thread refl))
       (r.says_thread ∙ ap (λ o. Some (thread_value o (length fs))) (sym (runs_on_own setup setting cores t stands c here)))
 
   keeps_place : Said (s.core c).thread (suc height) r.place_word
   keeps_place =
-      subst (λ x. IsFrameWord s'.limits.frames (count_room s') x (s'.place (s.core c).thread (suc height))
+      subst (λ x. IsFrameWord s'.limits.frames x (s'.place (s.core c).thread (suc height))
       (stamp setup (e ∷ t) (PlaceOf (s.core c).thread (suc height))) (suc height)
       r.place_word) (sym (frame_now (s.core c).thread refl)) (λ low. r.says_place)
 

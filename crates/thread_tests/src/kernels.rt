@@ -109,8 +109,8 @@ fn a_core_learns_of_the_calls_of_another(rt: HostRuntime) -> Result<(), Memory> 
     Ok(())
 }
 
-// The count that a core has of a frame in these words, 2^30 more than it is.
-fn raised_count(closed: &Closed, frame: u16, core: u8) -> Option<u64>
+// The count that a core has of a frame in these words, modulo 2^16.
+fn count_modulo(closed: &Closed, frame: u16, core: u8) -> Option<u64>
     requires frame { frame < 512 }
     requires core { core < 8 }
 {
@@ -121,7 +121,7 @@ fn raised_count(closed: &Closed, frame: u16, core: u8) -> Option<u64>
         .layout
         .count_at(FrameNo::new(frame), CoreNo::new(core));
     let word = closed.words.get(place as usize)?;
-    Some((*word >> 28) & 0x7fff_ffff)
+    Some((*word >> 43) & 0xffff)
 }
 
 // Core 0 copies the capability of the table in frame 0, core 1 removes that of the temporal capability in frame 7.
@@ -137,10 +137,9 @@ fn each_core_counts_in_words_of_its_own(rt: HostRuntime) -> Result<(), Memory> {
     let Some(ran) = run_whole(&rt, rt.alloc(), &setup, &lists, &FreeGate)? else {
         return Err(Memory);
     };
-    let none = 1 << 30;
-    assert!(rt; raised_count(&ran.closed, 0, 0) == Some(none + 3));
-    assert!(rt; raised_count(&ran.closed, 0, 1) == Some(none));
-    assert!(rt; raised_count(&ran.closed, 7, 0) == Some(none + 2));
-    assert!(rt; raised_count(&ran.closed, 7, 1) == Some(none - 1));
+    assert!(rt; count_modulo(&ran.closed, 0, 0) == Some(3));
+    assert!(rt; count_modulo(&ran.closed, 0, 1) == Some(0));
+    assert!(rt; count_modulo(&ran.closed, 7, 0) == Some(2));
+    assert!(rt; count_modulo(&ran.closed, 7, 1) == Some(0xffff));
     Ok(())
 }

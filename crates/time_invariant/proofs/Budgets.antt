@@ -1,5 +1,5 @@
 -- The numbers of a core and of temporal capabilities after a legal trace.
-use Rattle.step_ways.proofs.Common.{◌≡◌, ℕ, ◌*◌, ◌^◌, ◌<◌, ◌≤◌, arith, refl, sym, ap, subst, IsTrue, false≢true, Setting, IsSetting, fits}
+use Rattle.step_ways.proofs.Common.{◌≡◌, ℕ, ◌-◌, ◌*◌, ◌^◌, ◌<◌, ◌≤◌, arith, refl, sym, ap, subst, IsTrue, false≢true, Setting, IsSetting, fits}
 use Rattle.step_ways.proofs.Common.{InRanges, Frame, Kernel, Tcap, TcapFields, State, events_of, IsLegal, Trace, state_after, state_is}
 use Rattle.step_ways.proofs.Common.{run_of, sound_of, limits_of}
 use Rattle.kernel_laws.specs.spk_nums.specs.declared.kinds.Kind.TheVariants as kind
@@ -21,7 +21,7 @@ ranges_of setup setting t legal = subst InRanges (sym (state_is setup t)) (range
 -- A core of the machine has counted no more calls than a core may, owes at most 1,000,000 ticks for each, and has spent fewer than 2^32;
 -- and its temporal capability is one.
 pub record Numbers (s : State) (c : ℕ) : Type 0 where
-  pub counted : (s.core c).counted ≤ 4194304
+  pub counted : (s.core c).counted ≤ 2 ^ 40 - 1
   pub owed : (s.core c).owed ≤ 1000000 * (s.core c).counted
   pub spent : (s.core c).spent < 2 ^ 32
   pub tcap : IsTrue (fits kind.Tcap (s.frame (s.core c).tcap))

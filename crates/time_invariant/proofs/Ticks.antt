@@ -17,7 +17,7 @@ use Rattle.step_ways.proofs.Common.{IsJustified, IsRaceLost, ends_in, flushes_in
 use Rattle.step_ways.proofs.Common.{state_decided_in, own_left, ok_first, decided-inside, not_inside, not_changed, last_small}
 use Rattle.step_ways.proofs.Common.{own_read-here, Acquired, head, debited, head_end, Charge, Own, own_changed, Act, Goes, Undecided}
 use Rattle.step_ways.proofs.Common.{Decided, ActiveCall, HasRoom, landed, own_decided, Core, holds_counts, settled_by, settled, HeadIs}
-use Rattle.step_ways.proofs.Common.{IsFrameWord, WordIs, count_room, due_of, ChargesBy, KnowsUndecided, WorksIn, phase_at, untypes}
+use Rattle.step_ways.proofs.Common.{IsFrameWord, WordIs, due_of, ChargesBy, KnowsUndecided, WorksIn, phase_at, untypes}
 use Rattle.step_ways.proofs.Common.{holds_at, holds_in, holds, held_by, times_of, counted_in, Invariant, done_by, IsUntimed, plain_begins}
 use Rattle.step_ways.proofs.Common.{plain_stamp, plain_flush, plain_exit, counted_refs, list_changed, TurnsHead, SparesTcap}
 use Rattle.step_ways.proofs.Common.{marker_inside, limits_of, sums_keep, SameFor, ReadsAlike, StaysSaid, marks_own, settled_on}
@@ -29,7 +29,7 @@ use Rattle.kernel_laws.specs.kernel_rules.specs.State.{with_core}
 use Rattle.kernel_laws.specs.kernel_rules.specs.TimeCalls.{owing, with_tcap, charge, charges}
 use Rattle.plan_ways.specs.kernel_history.specs.Justified.{IsHeldUp}
 use Rattle.plan_ways.specs.kernel_history.specs.Stamps.{begins_in}
-use Rattle.step_ways.specs.stage_tcap.specs.Heads.{raised}
+use Rattle.step_ways.specs.stage_tcap.specs.quality_lists.specs.Rank.{rank}
 use Rattle.step_ways.specs.stage_tcap.specs.Charging.{after_mark, after_head, end_by_mark, charged_end}
 use Rattle.step_ways.specs.stage_tcap.specs.declared.charge.Charge.TheVariants.{AtLoad, AtCompare}
 use Rattle.step_ways.specs.act_states.specs.declared.own.OwnChange.TheVariants.{Ticks}
@@ -43,7 +43,7 @@ use Rattle.step_ways.proofs.OwnChanges.{IsSameCore, decides_changing}
 use Rattle.step_ways.proofs.Refusals.{GoodTook, not_spent}
 use Rattle.step_ways.specs.kept_facts.proofs.WordFrames.{load_keeps}
 use Rattle.step_ways.specs.kept_facts.proofs.WordFrames.{load_marks, load_words}
-use Rattle.step_ways.proofs.Writes.{same_marks, room_left}
+use Rattle.step_ways.proofs.Writes.{same_marks}
 use Rattle.time_invariant.proofs.Budgets.{tcap_is, IsTcap, Numbers, numbers_of}
 use Rattle.time_invariant.proofs.TickCalls.{IsTick, tick_of, own_footprint, raced_head}
 
@@ -117,11 +117,11 @@ module _ (setup : Setting) (setting : IsSetting setup) (cores : ℕ → Core) (t
       all = let low = few in let owed = numbers.owed in let most = numbers.counted in omega arith
 
   -- what the head's word shows, where no core has marked it
-  head_says : marked_by setup t at ≡ None → HeadIs q (count_room s) (head_of_word was)
-  head_says unmarked = subst (λ (n : ℕ). HeadIs q (count_room s) (head_of_word n))
+  head_says : marked_by setup t at ≡ None → HeadIs q (head_of_word was)
+  head_says unmarked = subst (λ (n : ℕ). HeadIs q (head_of_word n))
       (not_exclusive_head_value setup cores t stands f q tcap.is was)
-      (subst (λ o. HeadIs q (count_room s) (head_of_word (settled_by o (held_by cores) at was))) unmarked
-      (subst (λ x. IsFrameWord s.limits.frames (count_room s) x (s.place f 0)
+      (subst (λ o. HeadIs q (head_of_word (settled_by o (held_by cores) at was))) unmarked
+      (subst (λ x. IsFrameWord s.limits.frames x (s.place f 0)
       (stamp setup t (PlaceOf f 0)) 0 (settled setup (held_by cores) t at))
       tcap.is (stands.words at)))
 
@@ -194,12 +194,6 @@ module _ (setup : Setting) (setting : IsSetting setup) (cores : ℕ → Core) (t
         let more : (s'.core c).counted ≡ (s.core c).counted + 1 = ap (λ k. k.counted) core_now in
         omega arith
 
-    more_room : count_room s ≤ count_room s'
-    more_room =
-        subst (λ (m : ℕ). count_room s ≤ 16 + 4 * sum_below (λ d. (s'.core d).counted) m) (sym (ap (λ l. l.cores) limits))
-        (subst (λ (m : ℕ). 16 + 4 * sum_below (λ d. (s.core d).counted) m ≤ 16 + 4 * sum_below (λ d. (s'.core d).counted) m)
-        (sym (ap (λ l. l.cores) (limits_of setup t))) (let more = rises in omega arith))
-
     still : holds after ≡ holds (cores c)
     still = held_after ∙ sym held_is ∙ ap holds_in (sym active)
 
@@ -260,10 +254,9 @@ module _ (setup : Setting) (setting : IsSetting setup) (cores : ℕ → Core) (t
       frame = frames g;
       place = ap (λ x. x.place g i) now;
       stamp = plain_stamp setup t e plain (PlaceOf g i);
-      room = more_room;
     }
     same_words (FrameAt g) = frames g
-    same_words (CountAt g d) = more_room
+    same_words (CountAt g d) = tt
     same_words (CoreAt d) = record { inside = decided-inside (Some r) (phase t c) s c d; exit = plain_exit t e refl d }
     same_words (FlushAt d) = plain_flush setup t e plain d
     same_words (LiveAt l) = record { number = ap (λ x. x.number l) now; stamp = plain_stamp setup t e plain (NumberOf l) }
@@ -454,8 +447,8 @@ module _ (setup : Setting) (setting : IsSetting setup) (cores : ℕ → Core) (t
     budget_is : budget ≡ q.budget
     budget_is = ap (λ v. v.budget) head_is
 
-    version_within : version ≤ count_room s
-    version_within = subst (λ (n : ℕ). n ≤ count_room s) (sym (ap (λ v. v.version) head_is)) (head_says unmarked).within
+    version_within : version ≤ rank q.qualities
+    version_within = subst (λ (n : ℕ). n ≤ rank q.qualities) (sym (ap (λ v. v.version) head_is)) (head_says unmarked).within
 
     ticks_is : ticks ≡ due
     ticks_is = ap ticks_of (sym charge_is) ∙ due_is
@@ -465,7 +458,7 @@ module _ (setup : Setting) (setting : IsSetting setup) (cores : ℕ → Core) (t
         ∙ ap (λ (m : ℕ). min due m) (budget_is ∙ ap (λ x. (tcap_in x).budget) (sym tcap.is))
 
     less_fits : HeadFits less
-    less_fits = (let low = met.fits.0 in omega arith, tt, omega arith)
+    less_fits = (let low = met.fits.0 in omega arith, tt, met.fits.2)
 
     bare_now : mark_of s at (left_of charging was) ≡ None
     bare_now = ap (mark_of s at) leaves_it ∙ mark_is (word_of_head less) ∙ ap head_mark (spelling.reads less less_fits)
@@ -527,15 +520,6 @@ module _ (setup : Setting) (setting : IsSetting setup) (cores : ℕ → Core) (t
 
     rises_won : counted_in setup s ≤ counted_in setup s_won
     rises_won = let more = rises_more in omega arith
-
-    room_more : 1 + count_room s ≤ count_room s_won
-    room_more =
-        subst (λ (m : ℕ). 1 + count_room s ≤ 16 + 4 * sum_below (λ d. (s_won.core d).counted) m) (sym (ap (λ l. l.cores) limits_won))
-        (subst (λ (m : ℕ). 1 + (16 + 4 * sum_below (λ d. (s.core d).counted) m) ≤ 16 + 4 * sum_below (λ d. (s_won.core d).counted) m)
-        (sym (ap (λ l. l.cores) (limits_of setup t))) (let more = rises_more in omega arith))
-
-    room_won : count_room s ≤ count_room s_won
-    room_won = let more = room_more in omega arith
 
     whose_won : thread_of s_won c ≡ thread_of s c
     whose_won = threads_won (s_won.core c).thread ∙ ap (λ k. thread_in (s.frame k.thread)) core_won
@@ -601,8 +585,8 @@ module _ (setup : Setting) (setting : IsSetting setup) (cores : ℕ → Core) (t
     said_won w same = word_stays s s_won (times_of setup t) (times_of setup (e_won ∷ t)) w (settled setup (held_by cores) t w) same
 
     list_stays : (i x : ℕ) → i ≢ 0
-        → IsFrameWord s.limits.frames (count_room s) (Kernel (Tcap q)) (s.place f i) (stamp setup t (PlaceOf f i)) i x
-        → IsFrameWord s_won.limits.frames (count_room s_won) (Kernel (Tcap q_less))
+        → IsFrameWord s.limits.frames (Kernel (Tcap q)) (s.place f i) (stamp setup t (PlaceOf f i)) i x
+        → IsFrameWord s_won.limits.frames (Kernel (Tcap q_less))
         (s_won.place f i) (stamp setup (e_won ∷ t) (PlaceOf f i)) i x
     list_stays zero x some h = absurd (some refl)
     list_stays (suc j) x some h = h
@@ -610,18 +594,17 @@ module _ (setup : Setting) (setting : IsSetting setup) (cores : ℕ → Core) (t
     stays_won : (w : Word) → w ≢ at → marked_by setup t w ≢ Some c → StaysSaid setup cores t e_won w
     stays_won (EntryAt g i) there free = elim (cases_eq g f) [
       | inl same ↦ subst (λ (m : ℕ). StaysSaid setup cores t e_won (EntryAt m i)) (sym same)
-          (λ h. subst (λ x. IsFrameWord s_won.limits.frames (count_room s_won) x (s_won.place f i) (stamp setup (e_won ∷ t) (PlaceOf f i)) i
+          (λ h. subst (λ x. IsFrameWord s_won.limits.frames x (s_won.place f i) (stamp setup (e_won ∷ t) (PlaceOf f i)) i
           (settled setup (held_by cores) t (EntryAt f i))) (sym (frame_here f refl))
           (list_stays i (settled setup (held_by cores) t (EntryAt f i))
           (λ first. there (ap (λ (m : ℕ). EntryAt m i) same ∙ ap (λ (m : ℕ). EntryAt f m) first))
-          (subst (λ x. IsFrameWord s.limits.frames (count_room s) x (s.place f i) (stamp setup t (PlaceOf f i)) i
+          (subst (λ x. IsFrameWord s.limits.frames x (s.place f i) (stamp setup t (PlaceOf f i)) i
           (settled setup (held_by cores) t (EntryAt f i))) tcap.is h)))
       | inr other ↦ said_won (EntryAt g i) (record {
         frames = ap (λ l. l.frames) limits_won;
         frame = frame_there g other;
         place = ap (λ x. x.place g i) now_won;
         stamp = plain_stamp setup t e_won plain_won (PlaceOf g i);
-        room = room_won;
       })
     ]
     stays_won (FrameAt g) there free = elim (cases_eq g f) [
@@ -629,7 +612,7 @@ module _ (setup : Setting) (setting : IsSetting setup) (cores : ℕ → Core) (t
           ∙ ap (λ x. Some (frame_value x)) (sym (frame_here g same))
       | inr other ↦ said_won (FrameAt g) (frame_there g other)
     ]
-    stays_won (CountAt g d) there free = said_won (CountAt g d) room_won
+    stays_won (CountAt g d) there free = said_won (CountAt g d) tt
     stays_won (CoreAt d) there free = said_won (CoreAt d) (record {
       inside = decided-inside (Some (reply.Ok (Amount charged))) (phase t c) s c d;
       exit = plain_exit t e_won refl d;
@@ -643,14 +626,14 @@ module _ (setup : Setting) (setting : IsSetting setup) (cores : ℕ → Core) (t
 
     now_says : WordIs s_won (times_of setup (e_won ∷ t)) at (left_of charging was)
     now_says = subst (WordIs s_won (times_of setup (e_won ∷ t)) at) (sym leaves_it)
-        (subst (λ x. IsFrameWord s_won.limits.frames (count_room s_won) x
+        (subst (λ x. IsFrameWord s_won.limits.frames x
         (s_won.place f 0) (stamp setup (e_won ∷ t) (PlaceOf f 0)) 0 (word_of_head less))
         (sym (frame_here f refl))
         (record {
-          version = raised version;
+          version = version;
           says = spelling.reads less less_fits
-              ∙ ap (λ (m : ℕ). Some (record { budget = m - charged; mark = None; version = raised version })) budget_is;
-          within = (let low = version_within in let more = room_more in omega arith);
+              ∙ ap (λ (m : ℕ). Some (record { budget = m - charged; mark = None; version = version })) budget_is;
+          within = version_within;
           most = (head_says unmarked).most;
         }))
 
@@ -693,13 +676,10 @@ module _ (setup : Setting) (setting : IsSetting setup) (cores : ℕ → Core) (t
         index_is : (g i : ℕ) → at ≡ EntryAt g i → i ≡ 0
         index_is g i h = cc
 
-        rises : version < raised version
-        rises = let low = version_within in let few = room_left setup setting cores t stands in omega arith
-
         turns : SparesTcap setup t e_won f 0
         turns = inr (subst (λ o. TurnsHead c (list_changed t f) (head_of_word was) o)
             (sym (ap head_of_word leaves_it ∙ spelling.reads less less_fits))
-            (subst (λ o. TurnsHead c (list_changed t f) o (Some less)) (sym shown_is) (inl refl, inl rises)))
+            (subst (λ o. TurnsHead c (list_changed t f) o (Some less)) (sym shown_is) (inl refl, inr (refl, inl refl))))
 
     permitted_won : MayReply s c a.call (reply.Ok (Amount charged))
     permitted_won = (

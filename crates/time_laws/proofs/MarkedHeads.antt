@@ -7,7 +7,7 @@ use Rattle.flight.proofs.Common.{same_word-other, AtCompare, AtDraw, AtStore, ma
 use Rattle.flight.proofs.Common.{LoadComp, LoadLive, MakingAt, Mark, Store, Switching, SwitchAt, UntypingAt, release_of, Outside, Work}
 use Rattle.flight.proofs.Common.{Lookup, Read, Scan, Acquire, Act, Stage, Enter, Living, Undecided, Decided, Leave, ActiveCall, Core}
 use Rattle.flight.proofs.Common.{swept_of}
-use Rattle.flight.proofs.Common.{holds_untyping, Holding, nothing, keeps, holds_counts, holds_switching, claimed_by, HeadIs, count_room}
+use Rattle.flight.proofs.Common.{holds_untyping, Holding, nothing, keeps, holds_counts, holds_switching, claimed_by, HeadIs}
 use Rattle.flight.proofs.Common.{KnowsAct, KnowsWork, KnowsAt, CallIs, phase_at, HasMarkedA, KnowsPairAt, holds_act, holds_making}
 use Rattle.flight.proofs.Common.{holds_killing, holds_comp, holds_share, holds_head, holds_work, holds_at, holds_in, holds}
 use Rattle.flight.proofs.Common.{Invariant, slot_relies, release_entry}
@@ -218,8 +218,8 @@ open_heads_say setup setting t made f q d call is mark undecided = record {
     same_head : (v u : HeadWord) → Some v ≡ Some u → v ≡ u
     same_head v u h = cc
 
-    says : HeadIs q (count_room (state_after setup t)) (Some told.head)
-    says = subst (HeadIs q (count_room (state_after setup t))) (ap head_of_word told.stands ∙ spelling.reads told.head told.fits)
+    says : HeadIs q (Some told.head)
+    says = subst (HeadIs q) (ap head_of_word told.stands ∙ spelling.reads told.head told.fits)
         (marked_says setup setting (cores_after setup t) t stands f q is d mark)
 
     budget : told.head.budget ≡ q.budget

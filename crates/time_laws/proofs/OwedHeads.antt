@@ -1,12 +1,12 @@
 -- What the head of a temporal capability shows that a core has marked in a call that is decided: the mark, and the budget but for the ticks
 -- that the call has still to store there.
-use Rattle.flight.proofs.Common.{◌≡◌, inl, inr, ℕ, ◌<◌, true, false, if◌then◌else◌, Option, Some, None, IsTrue, arith, refl, sym, ◌∙◌, ap}
+use Rattle.flight.proofs.Common.{◌≡◌, inl, inr, ℕ, ◌<◌, Bool, true, false, if◌then◌else◌, Option, Some, None, IsTrue, arith, refl, sym, ◌∙◌, ap}
 use Rattle.flight.proofs.Common.{subst, false≢true, same_same, Setting, IsSetting, Call, Reply, HeadFits, word_of_head, head_of_word}
 use Rattle.flight.proofs.Common.{HeadWord, spelling, EntryAt, FrameAt, State, changes_budgets, Trace, phase, state_after, last_left}
-use Rattle.flight.proofs.Common.{cases_word, same_word-other, AtCompare, AtDraw, AtStore, marked, debited, credited, amount_of, Pair}
+use Rattle.flight.proofs.Common.{cases_word, same_word-other, AtCompare, AtDraw, AtStore, marked, debited, relisted, credited, amount_of, Pair}
 use Rattle.flight.proofs.Common.{PairAt, Tail, Nothing, Quiesce, Unmark, StoreDead, StoreFlush, Release, StoreLive, Push, Pop, Share}
 use Rattle.flight.proofs.Common.{StoreRunning, StoreIdle, Stage, Enter, Living, Undecided, Decided, Leave, ActiveCall, Core, holds_release}
-use Rattle.flight.proofs.Common.{Holding, nothing, keeps, holds_counts, holds_idle, HeadIs, count_room, KnowsTail, KnowsAt, CallIs}
+use Rattle.flight.proofs.Common.{Holding, nothing, keeps, holds_counts, holds_idle, HeadIs, KnowsTail, KnowsAt, CallIs}
 use Rattle.flight.proofs.Common.{phase_at, StoresA, KnowsStoresAt, holds_head, holds_heads, holds_shared, holds_tail, is_done, holds_at}
 use Rattle.flight.proofs.Common.{holds_in, holds, Invariant, release_entry}
 use Rattle.flight.specs.kernel_history.specs.Trace as history
@@ -86,10 +86,11 @@ module _ (setup : Setting) (setting : IsSetting setup) (cores : ℕ → Core) (t
   ]
 
   debited_fits : (h : HeadWord) (ticks : ℕ) → HeadFits h → HeadFits (debited h ticks)
-  debited_fits h ticks has = (let low = has.0 in omega (arith, low), tt, omega arith)
+  debited_fits h ticks has = (let low = has.0 in omega (arith, low), tt, has.2)
 
-  credited_fits : (h : HeadWord) (ticks : ℕ) → HeadFits (credited h ticks)
-  credited_fits h ticks = (omega arith, tt, omega arith)
+  credited_fits : (g : Bool) (h : HeadWord) (ticks : ℕ) → HeadFits h → HeadFits (credited (relisted g h) ticks)
+  credited_fits true h ticks has = (omega arith, tt, omega arith)
+  credited_fits false h ticks has = (omega arith, tt, has.2)
 
   -- the head of the first, which is less the ticks or as it was found
   first_less : (r : Reply) (call : Call) (p : Pair) (h : Holding) → StoresA setup t p → p.core ≡ d → OwesFirst decided_in d r call p
@@ -107,8 +108,8 @@ module _ (setup : Setting) (setting : IsSetting setup) (cores : ℕ → Core) (t
   both : (r : Reply) (call : Call) (p : Pair) (h : Holding) → StoresB setup t d call p → p.core ≡ d
       → OwesAt decided_in d r call p pair.StoreB → IsFree h → Tells r call (holds_heads p h)
   both r call p h has core owes free =
-      head_at r call p.b p.core p.head_b (credited p.head_b (amount_of p.what)) (holds_head p true h) core has.raw has.fits
-      (credited_fits p.head_b (amount_of p.what)) owes.1 (first_less r call p h has.a core owes.0 free)
+      head_at r call p.b p.core p.head_b (credited (relisted p.grows p.head_b) (amount_of p.what)) (holds_head p true h) core has.raw has.fits
+      (credited_fits p.grows p.head_b (amount_of p.what) has.fits) owes.1 (first_less r call p h has.a core owes.0 free)
 
   shared : (r : Reply) (call : Call) (p : Pair) (at : PairAt) (h : Holding) → KnowsStoresAt setup t d call p at → p.core ≡ d
       → OwesAt decided_in d r call p at → IsFree h → Tells r call (holds_shared p at h)
@@ -218,8 +219,8 @@ marked_heads_say setup setting t made f q d call r is mark decided = record {
     same_head : (v u : HeadWord) → Some v ≡ Some u → v ≡ u
     same_head v u h = cc
 
-    says : HeadIs q (count_room (state_after setup t)) (Some told.left)
-    says = subst (HeadIs q (count_room (state_after setup t))) (ap head_of_word told.stands ∙ spelling.reads told.left told.left_fits)
+    says : HeadIs q (Some told.left)
+    says = subst (HeadIs q) (ap head_of_word told.stands ∙ spelling.reads told.left told.left_fits)
         (marked_says setup setting (cores_after setup t) t stands f q is d mark)
 
     budget : told.left.budget ≡ q.budget

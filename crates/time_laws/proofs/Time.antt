@@ -2,7 +2,7 @@
 use Rattle.flight.proofs.Common.{to_use, not_exclusive_head_value, ◌≡◌, ℕ, ◌+◌, ◌∷◌, [], ◌&&◌, ◌==◌, Bool, true, false, Some, None}
 use Rattle.flight.proofs.Common.{if◌then◌else◌, refl, sym, ◌∙◌, ap, subst, Setting, IsSetting, head_of_word, EntryAt, PlaceOf, State}
 use Rattle.flight.proofs.Common.{events_of, IsLegal, MayDecide, stamp, Trace, state_after, last_left, Step, Open, phase, after_enter}
-use Rattle.flight.proofs.Common.{state_before, state_is, run_of, settled_by, settled, held_by, Invariant, HeadIs, IsFrameWord, count_room}
+use Rattle.flight.proofs.Common.{state_before, state_is, run_of, settled_by, settled, held_by, Invariant, HeadIs, IsFrameWord}
 use Rattle.flight.proofs.Common.{Capability, Call, Test, Value, only, Judged, Found, Refused, IsFoundAnd, named, and_then, unless}
 use Rattle.flight.proofs.Common.{first_of, answers, tcap_at, change_of, MayReply, Change}
 use Rattle.flight.specs.kernel_rules.specs.Laws.{ticks}
@@ -34,13 +34,13 @@ heads_say setup setting t made f q is unmarked = record { version = says.version
     stands : Invariant setup (cores_after setup t) t
     stands = made_stands setup setting t made
 
-    says : HeadIs q (count_room (state_after setup t)) (head_of_word (last_left setup t (EntryAt f 0)))
-    says = subst (λ (n : ℕ). HeadIs q (count_room (state_after setup t)) (head_of_word n))
+    says : HeadIs q (head_of_word (last_left setup t (EntryAt f 0)))
+    says = subst (λ (n : ℕ). HeadIs q (head_of_word n))
         (not_exclusive_head_value setup (cores_after setup t) t stands f q is (last_left setup t (EntryAt f 0)))
-        (subst (λ o. HeadIs q (count_room (state_after setup t))
+        (subst (λ o. HeadIs q
         (head_of_word (settled_by o (held_by (cores_after setup t)) (EntryAt f 0) (last_left setup t (EntryAt f 0)))))
         unmarked
-        (subst (λ x. IsFrameWord (state_after setup t).limits.frames (count_room (state_after setup t))
+        (subst (λ x. IsFrameWord (state_after setup t).limits.frames
         x ((state_after setup t).place f 0) (stamp setup t (PlaceOf f 0)) 0
         (settled setup (held_by (cores_after setup t)) t (EntryAt f 0))) is (stands.words (EntryAt f 0))))
 

@@ -125,12 +125,12 @@ module _ (v : ℕ) (s : Setting) (some : 1 ≤ v) (most : v ≤ 2) (within : IsS
   headed_by (Ok d) is e = record { draft = d; read = is; head = whole_head d (is_whole d.head.section) refl e }
   headed_by (Err f) is e = absurd cc
 
-  pub headed : Headed
-  headed =
+  pub headed : s.calls ≤ 4194304 → Headed
+  headed limit =
       let says : and_then (draft_from no_draft (rows_from 1 (head_lines v s))) (λ d. meaning_at d (Whole 0)) ≡ Ok (bare v s) =
       ap (λ (ls : List (List (List ℕ))). and_then (draft_from no_draft (rows_from 1 ls)) (λ d. meaning_at d (Whole 0)))
       (sym (bare_lines v s))
-      ∙ (script_says (bare v s) some most within (length-replicate s.cores []) lists_empty no_items (omega arith)).says 1 0 in
+      ∙ (script_says (bare v s) some most within limit (length-replicate s.cores []) lists_empty no_items (omega arith)).says 1 0 in
       headed_by (draft_from no_draft (rows_from 1 (head_lines v s))) refl says
 
 -- ---- the lines of the head in a given history

@@ -89,7 +89,7 @@ module _ (v : ℕ) (setup : Setting) (some : 1 ≤ v) (most : v ≤ 2) (within :
 
 pub marks_read : MarksRead
 marks_read v setup t is all =
-    let whole : Headed v setup is.some_version is.most_versions is.within = headed v setup is.some_version is.most_versions is.within in
+    let whole : Headed v setup is.some_version is.most_versions is.within = headed v setup is.some_version is.most_versions is.within is.limit in
     text_read v setup t is.some_version is.most_versions is.within whole.draft whole.head whole.read
     (all_reverse (MarkReads whole.draft) (marks_of t)
     (marks_are_read v setup is.some_version is.most_versions is.within whole.draft whole.head t all)) is.lines

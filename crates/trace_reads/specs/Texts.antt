@@ -40,9 +40,11 @@ pub record IsStepWithin (version cores : ℕ) (e : Step) : Type 0 where
   pub call : EntersWithin version e.enters
   pub reply : DecidesWithin cores e.decides
 
--- A version and a setup of a script, and a trace whose text has no more lines than a text may have.
+-- A version and a setup of a script, which allows no more calls than a script may, and a trace whose text has no more lines than a text
+-- may have.
 pub record IsTextOf (version : ℕ) (setup : Setting) (t : Trace) : Type 0 where
   pub some_version : 1 ≤ version
   pub most_versions : version ≤ 2
   pub within : IsSetting setup
+  pub limit : setup.calls ≤ 4194304
   pub lines : line_count (trace_text version setup t) ≤ 20000

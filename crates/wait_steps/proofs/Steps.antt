@@ -1,5 +1,5 @@
 -- A step of a call that is decided with a wait for a core is the load of that core's word.
-use Rattle.std.proofs.Common.{length, if◌then◌else◌, pos, negsuc, Bool, true, false, List, Option, Some, None, ℕ, ℤ, ◌==◌, nat_lt}
+use Rattle.std.proofs.Common.{length, if◌then◌else◌, Bool, true, false, List, Option, Some, None, ℕ, ℤ, ◌==◌, nat_lt}
 use Rattle.call_stages.specs.act_states.specs.word_map.specs.Word.{Word, CountAt, LiveAt}
 use Rattle.call_stages.specs.act_states.specs.word_map.specs.Places.{Shape}
 use Rattle.call_stages.specs.act_states.specs.word_map.specs.Moves.{word_of}
@@ -87,6 +87,7 @@ use Rattle.call_stages.specs.act_states.specs.tcap_words.specs.Stack.{stack_of_w
 use Rattle.call_stages.specs.act_states.specs.tcap_words.specs.Head.{head_of_word}
 use Rattle.call_stages.specs.act_states.specs.frame_words.specs.Live.{live_of_word}
 use Rattle.call_stages.specs.act_states.specs.frame_words.specs.Count.{word_of_count}
+use Rattle.call_stages.specs.act_states.specs.frame_words.specs.Residue.{residue}
 use Rattle.call_stages.specs.act_states.specs.stage_pins.specs.Counts.{unheld}
 use Rattle.call_stages.specs.act_states.specs.stage_sweep.specs.Counters.{counters_of}
 use Rattle.call_stages.specs.act_states.specs.stage_sweep.specs.Counters.{sum_of_counts}
@@ -406,8 +407,7 @@ module _ (w : Word) where
   some_at false n = tt
 
   sum_at : (z : ℤ) → MayAt w (sum_refuses z)
-  sum_at (pos n) = some_at _ n
-  sum_at (negsuc n) = tt
+  sum_at z = some_at _ (residue z)
 
   compares_at : (same more : Bool) (z : ℤ) → MayAt w (compare_refuses same more z)
   compares_at true true z = tt

@@ -46,20 +46,14 @@ fn boots_two_cores(rt: HostRuntime) {
     let counts = [
         (
             layout.count_at(FrameNo::new(0), CoreNo::new(0)),
-            0x0400_0000_2000_0000,
+            0x0000_1000_0000_0000,
         ),
-        (
-            layout.count_at(FrameNo::new(0), CoreNo::new(1)),
-            0x0400_0000_0000_0000,
-        ),
+        (layout.count_at(FrameNo::new(0), CoreNo::new(1)), 0),
         (
             layout.count_at(FrameNo::new(3), CoreNo::new(0)),
-            0x0400_0000_4000_0000,
+            0x0000_2000_0000_0000,
         ),
-        (
-            layout.count_at(FrameNo::new(3), CoreNo::new(1)),
-            0x0400_0000_0000_0000,
-        ),
+        (layout.count_at(FrameNo::new(3), CoreNo::new(1)), 0),
     ];
     for (place, word) in counts {
         assert!(rt;

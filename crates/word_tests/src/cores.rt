@@ -36,15 +36,23 @@ fn spells_worked_words_and_ends(rt: HostRuntime) {
         &rt,
         &CoreWord {
             inside: false,
-            stamp: Stamp::new(0xfff_ffff),
+            stamp: Stamp::new(0x7ff_ffff_ffff),
         },
-        0x1fff_fffe,
+        0xfff_ffff_fffe,
+    );
+    spells(
+        &rt,
+        &CoreWord {
+            inside: true,
+            stamp: Stamp::new(0x7ff_ffff_ffff),
+        },
+        0xfff_ffff_ffff,
     );
 }
 
 #[test]
 fn refuses_words_of_no_value(rt: HostRuntime) {
-    for word in [0x2000_0000, 0x8000_0000_0000_0000] {
+    for word in [0x1000_0000_0000, 0x8000_0000_0000_0000] {
         assert_eq!(rt; CoreWord::unpack(word), None, "at {word:#018x}");
     }
 }

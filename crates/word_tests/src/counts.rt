@@ -23,13 +23,13 @@ fn spells_counts_that_no_core_holds(rt: HostRuntime) {
             count: 2,
             stamp: Stamp::new(0),
         },
-        0x0400_0000_2000_0000,
+        0x0000_1000_0000_0000,
     );
     spells(
         &rt,
         &CountWord {
             hold: Hold::Unheld,
-            count: -0x4000_0000,
+            count: 0,
             stamp: Stamp::new(0),
         },
         0,
@@ -38,8 +38,35 @@ fn spells_counts_that_no_core_holds(rt: HostRuntime) {
         &rt,
         &CountWord {
             hold: Hold::Unheld,
-            count: 0x3fff_ffff,
-            stamp: Stamp::new(0xfff_ffff),
+            count: -0x8000,
+            stamp: Stamp::new(0),
+        },
+        0x0400_0000_0000_0000,
+    );
+    spells(
+        &rt,
+        &CountWord {
+            hold: Hold::Unheld,
+            count: -1,
+            stamp: Stamp::new(9),
+        },
+        0x07ff_f800_0000_0009,
+    );
+    spells(
+        &rt,
+        &CountWord {
+            hold: Hold::Unheld,
+            count: 0x7fff,
+            stamp: Stamp::new(0x7ff_ffff_ffff),
+        },
+        0x03ff_ffff_ffff_ffff,
+    );
+    spells(
+        &rt,
+        &CountWord {
+            hold: Hold::Unheld,
+            count: -1,
+            stamp: Stamp::new(0x7ff_ffff_ffff),
         },
         0x07ff_ffff_ffff_ffff,
     );
@@ -54,7 +81,7 @@ fn spells_counts_that_a_core_holds(rt: HostRuntime) {
             count: 0,
             stamp: Stamp::new(0),
         },
-        0x4400_0000_0000_0000,
+        0x4000_0000_0000_0000,
     );
     spells(
         &rt,
@@ -63,7 +90,7 @@ fn spells_counts_that_a_core_holds(rt: HostRuntime) {
             count: -1,
             stamp: Stamp::new(1),
         },
-        0x8bff_ffff_f000_0001,
+        0x8fff_f800_0000_0001,
     );
 }
 

@@ -50,7 +50,7 @@ fn spells_worked_words(rt: HostRuntime) {
         &Entry::Quiescing {
             stamp: Stamp::new(5),
         },
-        0x0000_0005_0000_0003,
+        0x53,
     );
 }
 
@@ -79,14 +79,14 @@ fn spells_the_ends_of_each_field(rt: HostRuntime) {
         &Entry::Quiescing {
             stamp: Stamp::new(1),
         },
-        0x0000_0001_0000_0003,
+        0x13,
     );
     spells(
         &rt,
         &Entry::Quiescing {
-            stamp: Stamp::new(0xfff_ffff),
+            stamp: Stamp::new(0x7ff_ffff_ffff),
         },
-        0x0fff_ffff_0000_0003,
+        0x0000_7fff_ffff_fff3,
     );
 }
 
@@ -104,8 +104,8 @@ fn refuses_words_of_no_entry(rt: HostRuntime) {
         0x19,
         0x0000_0000_0004_0029,
         0x22,
-        0x0000_0005_0000_0007,
-        0x1000_0000_0000_0003,
+        0x57,
+        0x0000_8000_0000_0003,
     ];
     for word in words {
         assert_eq!(rt; Entry::unpack(word), None, "at {word:#018x}");

@@ -26,15 +26,15 @@ fn spells_worked_words_and_ends(rt: HostRuntime) {
     spells(
         &rt,
         &FlushWord {
-            stamp: Stamp::new(0xfff_ffff),
+            stamp: Stamp::new(0x7ff_ffff_ffff),
         },
-        0xfff_ffff,
+        0x7ff_ffff_ffff,
     );
 }
 
 #[test]
 fn refuses_words_of_no_value(rt: HostRuntime) {
-    for word in [0x1000_0000, 0x8000_0000_0000_0000] {
+    for word in [0x800_0000_0000, 0x8000_0000_0000_0000] {
         assert_eq!(rt; FlushWord::unpack(word), None, "at {word:#018x}");
     }
 }

@@ -59,21 +59,30 @@ fn spells_closing_and_dead_numbers(rt: HostRuntime) {
             epoch: 1,
             stamp: Stamp::new(1),
         },
-        0x10_0000_0007,
+        0x4_0007,
     );
     spells(
         &rt,
         &LiveWord::Dead {
             epoch: 0xffff,
-            stamp: Stamp::new(0xfff_ffff),
+            stamp: Stamp::new(0x7ff_ffff_ffff),
         },
-        0xffff_fff0_0003_ffff,
+        0x1fff_ffff_ffff_ffff,
     );
 }
 
 #[test]
 fn refuses_words_of_no_value(rt: HostRuntime) {
-    for word in [1, 4, 7, 0x4_0002, 0x800_0005, 0x4000_0002, 0x10_0000_0003] {
+    for word in [
+        1,
+        4,
+        7,
+        0x4_0002,
+        0x4_0003,
+        0x800_0005,
+        0x4000_0002,
+        0x2000_0000_0000_0007,
+    ] {
         assert_eq!(rt; LiveWord::unpack(word), None, "at {word:#018x}");
     }
 }

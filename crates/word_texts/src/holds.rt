@@ -1,17 +1,18 @@
 //! The values of the words of cores, counts and liveness numbers.
 
-ghost use Rattle.std.specs.Prelude.{◌≡◌, ◌++◌, OnOk, string_bytes};
+ghost use Rattle.std.specs.Prelude.{◌≡◌, ◌++◌, OnOk, string_bytes, codes};
 ghost use Rattle.std.specs.Fmt.{signed_decimal};
 ghost use Rattle.frame_words.specs.Count.{count_of_word};
 ghost use Rattle.frame_words.specs.Core.{core_of_word};
 ghost use Rattle.frame_words.specs.Flush.{flush_of_word};
 ghost use Rattle.frame_words.specs.Live.{live_of_word};
+ghost use Rattle.spk_nums.specs.Texts.{with_one};
 ghost use Rattle.word_texts.specs.Values.{mark_text, hold_text, count_text, core_text, flush_text, read_live, live_text, marked_words};
 ghost use Rattle.word_texts.specs.Values.{pinned_words, closed_words, epoch_words};
 
 use frame_words::{CoreWord, CountWord, FlushWord, Hold, LiveWord};
 use line_texts::{push_number, push_one};
-use spk_nums::CoreNo;
+use spk_nums::{CoreNo, Stamp};
 use std::alloc::AllocError;
 
 #[tactic(auto, unfolding(crate::specs::Values::marked_words))]
@@ -93,13 +94,20 @@ pub fn push_core(text: &mut String, value: u64) -> Result<(), AllocError>
     }
 }
 
+fn push_stamp(text: &mut String, stamp: Stamp) -> Result<(), AllocError>
+    ensures { OnOk result (string_bytes text.new ≡ string_bytes text.old ++ with_one (codes "at") stamp) }
+{
+    let stamp = stamp.number();
+    write!(text, "at {stamp}")
+}
+
 /// Appends a core's last flush.
 pub fn push_flush(text: &mut String, value: u64) -> Result<(), AllocError>
     ensures { OnOk result (string_bytes text.new ≡ string_bytes text.old ++ flush_text (flush_of_word value)) }
 {
     match FlushWord::unpack(value) {
         None => text.push_str("unknown"),
-        Some(word) => push_one(text, "at", word.stamp.number()),
+        Some(word) => push_stamp(text, word.stamp),
     }
 }
 

@@ -8,7 +8,7 @@ use Rattle.comp_invariant.proofs.Common.{NumberOf, PlaceOf, comp_of, thread_of, 
 use Rattle.comp_invariant.proofs.Common.{IsTrue, is_live_in, is_one_of, footprint_frames, Trace, Open, phase, state_after, last_left, stamp}
 use Rattle.comp_invariant.proofs.Common.{marked_by, mark_in_frame, live_mark, live_of_word, comp_of_word, LiveWord, CompWord, Living}
 use Rattle.comp_invariant.proofs.Common.{Undecided, ActiveCall, Core, GoesOn, landed, refuse, went, KnowsAlive, NamesAre, Invariant}
-use Rattle.comp_invariant.proofs.Common.{HasComp, holds_at, holds_in, holds_counts, held_by, settled_by, IsFrameWord, NumberIs, count_room}
+use Rattle.comp_invariant.proofs.Common.{HasComp, holds_at, holds_in, holds_counts, held_by, settled_by, IsFrameWord, NumberIs}
 use Rattle.comp_invariant.proofs.Common.{may_keep, not_exclusive_value, phase_at, HasRoom, CountsAt}
 use Rattle.comp_invariant.proofs.Common.{Acquired, due_of, Alive, AtComp, AtLive}
 use Rattle.comp_invariant.proofs.Common.{plan_for, Plan, Act, translation_of}
@@ -128,10 +128,10 @@ module _ (setup : Setting) (setting : IsSetting setup) (cores : ℕ → Core) (t
   unmarked = ap (λ x. mark_in_frame x 2 was) holds_comp
 
   says_life : comp_of_word was ≡ Some its_life
-  says_life = subst (λ x. IsFrameWord s.limits.frames (count_room s) x (s.place comp 2) (stamp setup t (PlaceOf comp 2)) 2 was) holds_comp
-      (subst (λ (n : ℕ). IsFrameWord s.limits.frames (count_room s) (s.frame comp) (s.place comp 2) (stamp setup t (PlaceOf comp 2)) 2 n)
+  says_life = subst (λ x. IsFrameWord s.limits.frames x (s.place comp 2) (stamp setup t (PlaceOf comp 2)) 2 was) holds_comp
+      (subst (λ (n : ℕ). IsFrameWord s.limits.frames (s.frame comp) (s.place comp 2) (stamp setup t (PlaceOf comp 2)) 2 n)
       (not_exclusive_value setup cores t stands comp (ap may_keep holds_comp) 2 was)
-      (subst (λ o. IsFrameWord s.limits.frames (count_room s) (s.frame comp) (s.place comp 2) (stamp setup t (PlaceOf comp 2)) 2
+      (subst (λ o. IsFrameWord s.limits.frames (s.frame comp) (s.place comp 2) (stamp setup t (PlaceOf comp 2)) 2
       (settled_by o (held_by cores) (EntryAt comp 2) was)) unmarked (stands.words (EntryAt comp 2))))
 
   loading : OnlyLooks setup t c a.call (LoadOf (EntryAt comp 2))

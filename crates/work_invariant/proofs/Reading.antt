@@ -4,7 +4,7 @@ use Rattle.comp_invariant.proofs.Common.{eq-eqb, Capability, Setting, IsSetting,
 use Rattle.comp_invariant.proofs.Common.{LoadOf, State, Kernel, Comp, PlaceOf, comp_in, to_use, only, named_by, only_is, opened, events_of}
 use Rattle.comp_invariant.proofs.Common.{is_one_of, footprint_frames, IsLegal, mark_in_frame, marked_by, stamp, Step, Trace, Open, phase}
 use Rattle.comp_invariant.proofs.Common.{state_after, last_left, sound_of, opened_is, Look, First, Plan, plan_for, Leads, LeadsIn, Next}
-use Rattle.comp_invariant.proofs.Common.{Lookup, Read, reads_of, Undecided, ActiveCall, Core, settled_by, IsFrameWord, count_room}
+use Rattle.comp_invariant.proofs.Common.{Lookup, Read, reads_of, Undecided, ActiveCall, Core, settled_by, IsFrameWord}
 use Rattle.comp_invariant.proofs.Common.{LooksFor, ReadIs, ReadBefore, KnowsUndecided, phase_at, holds_at, held_by, Invariant, names_on}
 use Rattle.comp_invariant.proofs.Common.{may_keep, not_exclusive_value}
 use Rattle.comp_invariant.specs.spk_nums.specs.declared.kinds.Kind.TheVariants as kind
@@ -79,10 +79,10 @@ module _ (setup : Setting) (setting : IsSetting setup) (cores : ℕ → Core) (t
   unmarked = ap (λ x. mark_in_frame x 2 was) holds_comp
 
   says_life : comp_of_word was ≡ Some life
-  says_life = subst (λ x. IsFrameWord s.limits.frames (count_room s) x (s.place f 2) (stamp setup t (PlaceOf f 2)) 2 was) holds_comp
-      (subst (λ (n : ℕ). IsFrameWord s.limits.frames (count_room s) (s.frame f) (s.place f 2) (stamp setup t (PlaceOf f 2)) 2 n)
+  says_life = subst (λ x. IsFrameWord s.limits.frames x (s.place f 2) (stamp setup t (PlaceOf f 2)) 2 was) holds_comp
+      (subst (λ (n : ℕ). IsFrameWord s.limits.frames (s.frame f) (s.place f 2) (stamp setup t (PlaceOf f 2)) 2 n)
       (not_exclusive_value setup cores t stands f (ap may_keep holds_comp) 2 was)
-      (subst (λ o. IsFrameWord s.limits.frames (count_room s) (s.frame f) (s.place f 2) (stamp setup t (PlaceOf f 2)) 2
+      (subst (λ o. IsFrameWord s.limits.frames (s.frame f) (s.place f 2) (stamp setup t (PlaceOf f 2)) 2
       (settled_by o (held_by cores) (EntryAt f 2) was)) unmarked (stands.words (EntryAt f 2))))
 
   life_fits : CompFits life

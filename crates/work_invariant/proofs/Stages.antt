@@ -41,7 +41,7 @@ module _ (setup : Setting) (setting : IsSetting setup) (cores : ℕ → Core) (t
       → a.counts ≡ []
       → GoodTook setup cores t c (LoadOf ClockAt) (GoesOn (went_with a [] (Leave r (stamp_of (clock setup t)))))
   exit_good a r drawn active at none =
-      subst Goal (sym (ap (λ b. stamp_if b (clock setup t)) (lt-ltb (clock setup t) (2 ^ 28) (clock_small setup setting cores t stands))))
+      subst Goal (sym (ap (λ b. stamp_if b (clock setup t)) (lt-ltb (clock setup t) (2 ^ 43) (clock_small setup setting cores t stands))))
       loads
     where
       Goal : ℕ → Type 0

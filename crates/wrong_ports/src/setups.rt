@@ -9,7 +9,7 @@ ghost use Rattle.spk_nums.specs.SetupFaults.{TellsSetup, equal_setting};
 use spk_nums::{Call, Grants, Setup, SetupFault, in_limits};
 
 /// The setup of these parts, where they are one.
-pub fn setup_of(cores: u8, frames: u16, grants: Grants, calls: u32, epochs: u16) -> Option<Setup>
+pub fn setup_of(cores: u8, frames: u16, grants: Grants, calls: u64, epochs: u16) -> Option<Setup>
     ensures { let setting : Setting = record { cores = cores; frames = frames; grants = grants; calls = calls; epochs = epochs } in
         SomeIff result (IsSetting setting) setting }
 {

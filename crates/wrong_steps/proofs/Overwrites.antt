@@ -1,6 +1,5 @@
 -- What the wrong acquisition makes is no history: the counts sum to one reference less than stands.
-use Rattle.std.proofs.Common.{◌≡◌, ◌<◌, inl, inr, refl, ap, arith}
-use Rattle.std.specs.Prelude.{nat_abs}
+use Rattle.std.proofs.Common.{◌≡◌, ◌<◌, inl, inr, refl, arith}
 use Rattle.spk_nums.specs.Rights.{whole_copy}
 use Rattle.spk_nums.specs.declared.kinds.FrameKind.TheVariants as frame_kind
 use Rattle.spk_nums.specs.declared.calls.Make.TheVariants as make
@@ -111,7 +110,7 @@ one_too_few : RepresentCounts (last_left two_cores given_back) (state_after two_
 unfolding two_cores typed made copying frozen_counts copied given_back word_of_entry word_of_count count_of_word sum_below node_refs refs
 one_too_few counts =
     let frame : 8 < 32 = omega arith in
-    let sum : 1 ≡ 2 = ap nat_abs (counts 8 frame).sum in
+    let sum : 1 ≡ 2 = (counts 8 frame).sum in
     omega (arith, sum)
 
 pub acquisitions_overwrite : AcquisitionsOverwrite

@@ -1,6 +1,5 @@
 -- What the wrong return makes is no history: its words do not represent the references.
-use Rattle.std.proofs.Common.{◌≡◌, ◌<◌, refl, ap, arith}
-use Rattle.std.specs.Prelude.{nat_abs}
+use Rattle.std.proofs.Common.{◌≡◌, ◌<◌, refl, arith}
 use Rattle.spk_nums.specs.declared.calls.Call.TheVariants as call
 use Rattle.entry_words.specs.EntryWord.{word_of_entry}
 use Rattle.frame_words.specs.Count.{word_of_count, count_of_word}
@@ -89,7 +88,7 @@ one_too_many : RepresentCounts (last_left two_cores kept) (state_after two_cores
 unfolding two_cores gate_step call_step ret_step kept word_of_entry word_of_count count_of_word sum_below node_refs refs
 one_too_many counts =
     let frame : 3 < 32 = omega arith in
-    let sum : 6 ≡ 5 = ap nat_abs (counts 3 frame).sum in
+    let sum : 6 ≡ 5 = (counts 3 frame).sum in
     omega (arith, sum)
 
 pub returns_keep : ReturnsKeep

@@ -1,5 +1,5 @@
 -- A wrong transfer credits head B before it marks head A, and keeps the credit where that compare is lost.
-use Rattle.std.specs.Prelude.{◌≡◌, ℕ, [], ◌∷◌, Some}
+use Rattle.std.specs.Prelude.{◌≡◌, ℕ, false, [], ◌∷◌, Some}
 use Rattle.spk_nums.specs.declared.calls.Call.TheVariants.{Tick, Transfer}
 use Rattle.spk_nums.specs.declared.replies.Reply.TheVariants.{Ok, Raced}
 use Rattle.spk_nums.specs.declared.replies.Value.TheVariants.{Amount}
@@ -30,6 +30,7 @@ pair = record {
   head_b = head 100 0;
   list_a = Some ((0, 1) ∷ []);
   list_b = Some ((0, 1) ∷ []);
+  grows = false;
   at = MarkA;
 }
 

@@ -29,6 +29,7 @@ returns-clause-fits c =
       list_a =
           c.note.new.self.list_a;
       list_b = c.note.new.self.list_b;
+      grows = c.note.new.self.grows;
       at = c.after-self.result;
     } in
     let after : new ≡ pair_after p c.args.found = search rules in

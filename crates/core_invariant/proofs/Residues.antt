@@ -1,0 +1,18 @@
+-- Sums of integers modulo 2 ^ 16.
+use Rattle.std.proofs.Common.{◌≡◌, ℤ, ◌+ℤ◌, arith, ◌∙◌, ap}
+use Rattle.std.proofs.lemmas.Int.{ints}
+use Rattle.kernel_history.specs.frame_words.specs.Residue.{residue}
+use Rattle.kernel_history.specs.frame_words.proofs.ResidueLemmas.{residue_sum}
+
+turned : (a b : ℤ) → a +ℤ b ≡ b +ℤ a
+turned a b = omega (arith, ints)
+
+-- Integers of one residue have one residue still where the same is added.
+pub residue_plus : (x z y : ℤ) → residue z ≡ residue y → residue (x +ℤ z) ≡ residue (x +ℤ y)
+residue_plus x z y same = ap residue (turned x z) ∙ residue_sum z y x same ∙ ap residue (turned y x)
+
+pub plus_residue : (x z y : ℤ) → residue x ≡ residue z → residue (x +ℤ y) ≡ residue (z +ℤ y)
+plus_residue x z y same = residue_sum x z y same
+
+pub both_residues : (x z y w : ℤ) → residue x ≡ residue z → residue y ≡ residue w → residue (x +ℤ y) ≡ residue (z +ℤ w)
+both_residues x z y w first second = plus_residue x z y first ∙ residue_plus z y w second
