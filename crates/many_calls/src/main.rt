@@ -2,87 +2,29 @@
 //!
 //! Core 0 counts the copies of a capability, core 1 counts their removals, 70,000 of each: so both counts have wrapped, and
 //! the references to the frame are still one. In this folder, `rt try` runs it before any proof, and `rt run` proves and runs it.
+//!
+//! With a number it makes at least so many calls beside the plain kernel, and says of how many the replies were the same:
+//! `bench/lasts` runs it so, for 10^9 calls, of which three in eight draw from the clock.
 #![tactic(auto)]
 
 ghost use Rattle.spk_nums.specs.CallLimits.{InLimits};
 
+mod calls;
+mod long;
+
+use crate::calls::{clear, copy, look, make, prepare, remove};
+use crate::long::{Beside, ROUND};
 use core_machine::{Port, Seats};
-use spk_nums::{
-    Call, CapId, CoreNo, FrameArg, FrameKind, Make, Reply, ReplyLine, Rights, Setup, Value,
-};
+use spk_nums::{Call, CoreNo, Reply, ReplyLine, Setup, Value};
 use std::alloc::Global;
-use std::io;
 use std::process::ExitCode;
+use std::{env, io};
 
 const COPIES: u32 = 70_000;
 
 const LOOKS: u32 = 5_000_000;
 
 const DONE: Reply = Reply::Ok(Value::Nothing);
-
-// Makes frame 8 a kernel frame.
-fn prepare() -> Call
-    ensures { InLimits result }
-{
-    Call::Retype {
-        r: CapId::new(0),
-        f: FrameArg::new(8),
-        k: FrameKind::Kernel,
-    }
-}
-
-// Makes a table in frame 8, whose capability is put into the entry 20.
-fn make() -> Call
-    ensures { InLimits result }
-{
-    Call::Make {
-        what: Make::Table,
-        range: CapId::new(0),
-        frame: FrameArg::new(8),
-        table: CapId::new(1),
-        slot: CapId::new(20),
-    }
-}
-
-// Puts the capability 20 into the entry 21 too.
-fn copy() -> Call
-    ensures { InLimits result }
-{
-    Call::Copy {
-        a: CapId::new(20),
-        t: CapId::new(1),
-        b: CapId::new(21),
-        rights: Rights::both(),
-    }
-}
-
-// Removes an entry.
-fn remove(entry: u16) -> Call
-    ensures { InLimits result }
-{
-    Call::Remove {
-        t: CapId::new(1),
-        b: CapId::new(entry),
-    }
-}
-
-// Makes frame 8 untyped again.
-fn clear() -> Call
-    ensures { InLimits result }
-{
-    Call::Retype {
-        r: CapId::new(0),
-        f: FrameArg::new(8),
-        k: FrameKind::Untyped,
-    }
-}
-
-// Answers the capability 0.
-fn look() -> Call
-    ensures { InLimits result }
-{
-    Call::Look { a: CapId::new(0) }
-}
 
 // A port, and how many calls it has made.
 #[derive(Drop)]
@@ -128,13 +70,13 @@ impl Core {
 fn copies<R: Print>(rt: &R, first: &mut Core, second: &mut Core) -> io::Result<()> {
     let (mut copied, mut removed) = (Reply::Raced, Reply::Raced);
     for _ in 0..COPIES {
-        copied = first.call(copy());
+        copied = first.call(copy(21));
         removed = second.call(remove(21));
         if copied != DONE || removed != DONE {
             break;
         }
     }
-    first.print(rt, &copy(), &copied)?;
+    first.print(rt, &copy(21), &copied)?;
     second.print(rt, &remove(21), &removed)
 }
 
@@ -178,12 +120,52 @@ fn cores(alloc: Global) -> Option<(Core, Core)> {
     Some((first, second))
 }
 
+// Makes at least so many calls beside the plain kernel, and prints of how many the replies were the same.
+fn print_long<R: Print>(rt: &R, alloc: Global, calls: u64) -> Option<()> {
+    let mut both = Beside::boot(alloc)?;
+    let begun = both.begin(alloc);
+    let mut rounds = 0u64;
+    let mut same = begun;
+    for _ in 0..calls / ROUND {
+        if !same {
+            break;
+        }
+        same = both.round(alloc);
+        rounds = rounds.saturating_add(1);
+    }
+    let ended = both.end(alloc);
+    let done = rounds.saturating_mul(ROUND);
+    if same && ended {
+        println!(rt; "{done} calls beside the plain kernel: each reply is the same").ok()
+    } else {
+        println!(rt; "{done} calls beside the plain kernel: another reply at the end of them").ok()
+    }
+}
+
+// The number of calls that is asked for on the command line, none where there is no word; None comes where the word is no number.
+fn asked_by(rt: &HostRuntime) -> Option<Option<u64>> {
+    let mut args = env::args(rt).ok()?;
+    let _name = args.next();
+    match args.next() {
+        Some(word) => Some(Some(word.as_str().parse::<u64>().ok()?)),
+        None => Some(None),
+    }
+}
+
+fn print_few<R: Print>(rt: &R, alloc: Global) -> Option<()> {
+    let (mut first, mut second) = cores(alloc)?;
+    run(rt, &mut first, &mut second).ok()
+}
+
 fn main(rt: HostRuntime) -> ExitCode {
-    let Some((mut first, mut second)) = cores(rt.alloc()) else {
-        return ExitCode::FAILURE
+    let alloc = rt.alloc();
+    let printed = match asked_by(&rt) {
+        Some(Some(calls)) => print_long(&rt, alloc, calls),
+        Some(None) => print_few(&rt, alloc),
+        None => None,
     };
-    match run(&rt, &mut first, &mut second) {
-        Ok(()) => ExitCode::SUCCESS,
-        Err(_) => ExitCode::FAILURE,
+    match printed {
+        Some(()) => ExitCode::SUCCESS,
+        None => ExitCode::FAILURE,
     }
 }
