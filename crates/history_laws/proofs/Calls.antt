@@ -1,8 +1,7 @@
 -- Worked traces that the laws of calls refuse: when they are decided, what they have found, and what scans have shown.
-use Rattle.std.proofs.Common.{◌≡◌, inl, ℕ, ◌<◌, true, false, [], ◌∷◌, refl, arith, Some, None}
+use Rattle.std.proofs.Common.{◌≡◌, inl, ◌<◌, false, [], refl, arith, Some, None}
 use Rattle.std.specs.Prelude.{drop}
 use Rattle.std.proofs.lemmas.Bool.{false≢true, true≢false}
-use Rattle.state_laws.specs.spk_nums.specs.Rights.{whole_copy}
 use Rattle.state_laws.specs.spk_nums.specs.Capability.{cap_of}
 use Rattle.state_laws.specs.spk_nums.specs.declared.kinds.Kind.TheVariants as kind
 use Rattle.state_laws.specs.spk_nums.specs.declared.calls.Call.TheVariants as call

@@ -1,9 +1,8 @@
 -- Worked traces that the laws of counts refuse, and one of which they tell a stamp that is drawn and has still to be stored.
-use Rattle.std.proofs.Common.{◌≡◌, ℕ, ◌<◌, [], ◌∷◌, Some, refl, arith}
+use Rattle.std.proofs.Common.{◌≡◌, ℕ, [], ◌∷◌, Some, refl, arith}
 use Rattle.std.specs.Prelude.{drop, pos}
 use Rattle.std.proofs.lemmas.List.Elements.{All-nil, All-cons}
 use Rattle.state_laws.specs.spk_nums.specs.Rights.{whole_copy}
-use Rattle.state_laws.specs.spk_nums.specs.declared.calls.Call.{Call}
 use Rattle.state_laws.specs.spk_nums.specs.declared.calls.Call.TheVariants as call
 use Rattle.state_laws.specs.spk_nums.specs.declared.kinds.FrameKind.TheVariants as frame_kind
 use Rattle.state_laws.specs.kernel_rules.specs.References.{sum_below, node_refs, refs}

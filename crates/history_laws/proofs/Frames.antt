@@ -1,6 +1,6 @@
 -- Worked traces that the laws of frames refuse: frames that are made untyped though a call has read them, or holds a count of them, or a
 -- capability refers to them.
-use Rattle.std.proofs.Common.{◌≡◌, inl, ℕ, zero, suc, ◌<◌, [], ◌∷◌, refl, arith, None}
+use Rattle.std.proofs.Common.{◌≡◌, inl, zero, suc, ◌<◌, [], ◌∷◌, refl, arith}
 use Rattle.std.specs.Prelude.{take, drop}
 use Rattle.state_laws.specs.spk_nums.specs.declared.kinds.FrameKind.TheVariants as frame_kind
 use Rattle.state_laws.specs.spk_nums.specs.declared.calls.Make.TheVariants as make
@@ -8,7 +8,7 @@ use Rattle.state_laws.specs.spk_nums.specs.declared.calls.Call.TheVariants as ca
 use Rattle.state_laws.specs.spk_nums.specs.declared.replies.Value.TheVariants.{Nothing}
 use Rattle.state_laws.specs.kernel_rules.specs.MemoryCalls.{holds_nothing}
 use Rattle.state_laws.specs.kernel_rules.specs.References.{sum_below, node_refs, refs}
-use Rattle.state_laws.specs.kernel_rules.specs.State.{Blank, Leaf, Frame, Untyped, User, Kernel}
+use Rattle.state_laws.specs.kernel_rules.specs.State.{Blank, Leaf, Untyped, User, Kernel}
 use Rattle.kernel_history.specs.entry_words.specs.EntryWord.{word_of_entry, entry_of_word}
 use Rattle.kernel_history.specs.frame_words.specs.Count.{word_of_count, count_of_word}
 use Rattle.kernel_history.specs.Discipline.{KeepsDiscipline}
@@ -82,16 +82,14 @@ untyped_legal = (
 -- No word of a leaf that has just been made carries a mark.
 made_disciplined : KeepsDiscipline two_cores leaf_made
 unfolding two_cores leaf_made word_of_entry entry_of_word
-made_disciplined = go_disciplined two_cores 1 leaf_made
-    (
-      go_disciplined two_cores 5 (drop 2 leaf_made)
-          (
-            go_disciplined two_cores 2 (drop 8 leaf_made) tt refl,
-            disciplined_by ((8, Kernel Blank) ∷ []) refl refl (tt, (λ i d is. absurd (none_some d is))),
-          )
-          refl,
-      disciplined_by ((8, Kernel Leaf) ∷ []) refl refl (tt, (λ i d is. absurd (none_some d is))),
-    )
+made_disciplined = go_disciplined two_cores 1 leaf_made (
+  go_disciplined two_cores 5 (drop 2 leaf_made) (
+    go_disciplined two_cores 2 (drop 8 leaf_made) tt refl,
+    disciplined_by ((8, Kernel Blank) ∷ []) refl refl (tt, (λ i d is. absurd (none_some d is))),
+  )
+      refl,
+  disciplined_by ((8, Kernel Leaf) ∷ []) refl refl (tt, (λ i d is. absurd (none_some d is))),
+)
     refl
 
 read_disciplined : KeepsDiscipline two_cores leaf_read
@@ -165,11 +163,10 @@ counted_legal = (
 
 acquired_disciplined : KeepsDiscipline two_cores count_acquired
 unfolding two_cores count_acquired count_word word_of_entry entry_of_word word_of_count count_of_word sum_below node_refs refs
-acquired_disciplined = go_disciplined two_cores 3 count_acquired
-    (
-      go_disciplined two_cores 2 (drop 4 count_acquired) tt refl,
-      disciplined_by ((8, User) ∷ []) refl refl (tt, (λ i d is. absurd (none_some d is))),
-    )
+acquired_disciplined = go_disciplined two_cores 3 count_acquired (
+  go_disciplined two_cores 2 (drop 4 count_acquired) tt refl,
+  disciplined_by ((8, User) ∷ []) refl refl (tt, (λ i d is. absurd (none_some d is))),
+)
     refl
 
 counted_disciplined : KeepsDiscipline two_cores counted_untyped

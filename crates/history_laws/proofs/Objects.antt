@@ -1,5 +1,5 @@
 -- Worked traces and states that the laws of translations, components, gates and threads refuse.
-use Rattle.std.proofs.Common.{◌≡◌, ℕ, ◌<◌, ◌++◌, List, [], ◌∷◌, refl, arith}
+use Rattle.std.proofs.Common.{◌≡◌, ◌<◌, ◌++◌, List, [], ◌∷◌, refl, arith}
 use Rattle.std.specs.Prelude.{drop}
 use Rattle.std.proofs.lemmas.Bool.{false≢true, true≢false}
 use Rattle.state_laws.specs.spk_nums.specs.Capability.{cap_of}
@@ -7,6 +7,7 @@ use Rattle.state_laws.specs.spk_nums.specs.declared.kinds.Kind.TheVariants as ki
 use Rattle.state_laws.specs.spk_nums.specs.declared.calls.Call.TheVariants as call
 use Rattle.state_laws.specs.spk_nums.specs.declared.replies.Value.TheVariants.{Nothing, Cap}
 use Rattle.state_laws.specs.spk_nums.specs.declared.translations.Translation.{Translation}
+use Rattle.state_laws.specs.Cached.{Stands}
 use Rattle.state_laws.specs.kernel_rules.specs.Start.{start}
 use Rattle.state_laws.specs.kernel_rules.specs.State.{Untyped, User}
 use Rattle.kernel_history.specs.entry_words.specs.EntryWord.{word_of_entry, entry_of_word}
@@ -33,7 +34,10 @@ use Rattle.history_laws.proofs.Disciplined.{disciplined_by, go_disciplined}
 
 cached_refused : AllStand cached_eight 0 → ⊥
 unfolding two_cores cached_eight
-cached_refused all = let user : Untyped ≡ User = all.0.user in cc
+cached_refused all =
+    let stands : Stands cached_eight 0 to_eight = all.0 in
+    let user : Untyped ≡ User = stands.user in
+    cc
 
 kept_refused : IsKept cached_eight (start two_cores) 0 → ⊥
 unfolding two_cores cached_eight

@@ -10,7 +10,7 @@ use Rattle.state_laws.specs.kernel_rules.specs.TimeCalls.{preemption, preempts, 
 use Rattle.state_laws.specs.spk_nums.specs.Capability.{Capability}
 use Rattle.kernel_history.specs.entry_words.specs.EntryWord.{word_of_entry, entry_of_word}
 use Rattle.kernel_history.specs.tcap_words.specs.Head.{word_of_head, head_of_word}
-use Rattle.kernel_history.specs.tcap_words.specs.Quality.{word_of_quality, quality_of_word}
+use Rattle.kernel_history.specs.tcap_words.specs.Quality.{quality_of_word}
 use Rattle.kernel_history.specs.tcap_words.specs.declared.head_word.HeadWord.{HeadWord}
 use Rattle.kernel_history.specs.tcap_words.specs.declared.quality_word.QualityWord.{QualityWord}
 use Rattle.kernel_history.specs.Discipline.{KeepsDiscipline}
@@ -20,7 +20,7 @@ use Rattle.kernel_history.proofs.Computed.{may_follow}
 use Rattle.kernel_history.proofs.Unjustified.{carried_out}
 use Rattle.history_laws.specs.Moments.{AtEachMoment, AtEachStep}
 use Rattle.history_laws.specs.Sums.{HeadHolds, TimeSums}
-use Rattle.history_laws.specs.Time.{KeepsTicks, TicksAreCounted, ShowsBudget, HeadsSay, ShowsMarked, OpenHeadsSay, ShowsOwed, LeadsTo}
+use Rattle.history_laws.specs.Time.{KeepsTicks, TicksAreCounted, HeadsSay, OpenHeadsSay, ShowsOwed, LeadsTo}
 use Rattle.history_laws.specs.Time.{state_of_decision, MarkedHeadsSay, ListsSay, TellsOf, TestsTell}
 use Rattle.history_laws.specs.Scenes.{head_word, ticks_lost, tick_refused, budget_lost, marked_lost, list_changed, taken_early, added_twice}
 use Rattle.history_laws.specs.Scenes.{tests_nothing}

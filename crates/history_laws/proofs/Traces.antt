@@ -1,8 +1,7 @@
 -- What a law of each moment, each step or each stretch of a trace says of the whole trace, of its newest step and of its newest steps.
-use Rattle.std.proofs.Common.{◌≡◌, ℕ, true, [], ◌∷◌, ◌++◌, refl, sym}
+use Rattle.std.proofs.Common.{◌≡◌, ℕ, true, [], ◌∷◌, refl, sym}
 use Rattle.std.specs.Prelude.{take, drop}
 use Rattle.std.proofs.lemmas.List.{take-append-drop}
-use Rattle.kernel_history.specs.Bounds.{KeepsBounds}
 use Rattle.kernel_history.specs.Discipline.{KeepsDiscipline}
 use Rattle.kernel_history.specs.Legal.{IsLegal}
 use Rattle.kernel_history.specs.Scenes.{two_cores}

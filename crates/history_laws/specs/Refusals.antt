@@ -1,6 +1,6 @@
 -- What each law of a history refuses. Of the laws that say more than that a trace is legal it is a trace that is legal, in the footprints
 -- of its calls, within their bounds and disciplined. Of those that follow from a legal trace it is a trace, or a state, that is none.
-use Rattle.std.specs.Prelude.{◌≡◌, ◌++◌, ℕ, [], ◌∷◌}
+use Rattle.std.specs.Prelude.{◌≡◌}
 use Rattle.state_laws.specs.kernel_rules.specs.Start.{start}
 use Rattle.state_laws.specs.kernel_rules.specs.State.{FrameOf}
 use Rattle.kernel_history.specs.Bounds.{KeepsBounds}

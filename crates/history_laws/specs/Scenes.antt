@@ -1,5 +1,5 @@
 -- Worked traces and states of two cores, at least one for each law of a history: what the laws are seen to refuse.
-use Rattle.std.specs.Prelude.{ℕ, ◌==◌, pos, false, Bool, [], ◌∷◌, Option, Some, None, if◌then◌else◌}
+use Rattle.std.specs.Prelude.{ℕ, pos, false, Bool, [], ◌∷◌, Option, Some, None}
 use Rattle.state_laws.specs.spk_nums.specs.Rights.{whole_copy}
 use Rattle.state_laws.specs.spk_nums.specs.declared.kinds.FrameKind.TheVariants as frame_kind
 use Rattle.state_laws.specs.spk_nums.specs.declared.kinds.PageFlags.{PageFlags}

@@ -1,4 +1,4 @@
-//! The law of marked heads, on which the crate's edits are tried.
+//! The law of marked heads.
 
 ghost use Rattle.std.specs.Prelude.{◌≡◌};
 ghost use Rattle.flight.specs.spk_nums.specs.Setting.{Setting, IsSetting};
