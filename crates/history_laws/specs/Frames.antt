@@ -1,22 +1,21 @@
 -- Frames that are made untyped again: what then held, and which frames stay as they are.
 use Rattle.std.specs.Prelude.{◌≡◌, ◌≢◌, ◌<◌, ◌==◌, ◌⊎◌, ℕ, Bool, true, false, [], ◌∷◌, ◌++◌, Option, Some, None, IsTrue}
-use Rattle.time_laws.specs.spk_nums.specs.Setting.{Setting}
-use Rattle.time_laws.specs.spk_nums.specs.declared.kinds.FrameKind.TheVariants.{Untyped}
-use Rattle.time_laws.specs.spk_nums.specs.declared.calls.Call.{Call}
-use Rattle.time_laws.specs.spk_nums.specs.declared.calls.Call.TheVariants.{Retype}
-use Rattle.time_laws.specs.spk_nums.specs.declared.replies.Value.{Value}
-use Rattle.time_laws.specs.spk_nums.specs.declared.replies.Reply.TheVariants.{Ok}
-use Rattle.time_laws.specs.entry_words.specs.EntryWord.{entry_of_word}
-use Rattle.time_laws.specs.entry_words.specs.declared.entry.Entry.{Entry}
-use Rattle.time_laws.specs.entry_words.specs.declared.entry.Entry.TheVariants.{Held}
-use Rattle.time_laws.specs.word_map.specs.Moves.{word_of}
-use Rattle.time_laws.specs.word_map.specs.Word.{EntryAt, CountAt}
-use Rattle.time_laws.specs.kernel_rules.specs.State.{FrameOf, State}
-use Rattle.time_laws.specs.kernel_rules.specs.References.{refs}
-use Rattle.time_laws.specs.kernel_rules.specs.Relies.{is_node}
-use Rattle.time_laws.specs.kernel_history.specs.Marking.{marked_by}
-use Rattle.time_laws.specs.kernel_history.specs.Trace.{Step, Trace, Open, phase, after_enter, state_after, state_before, own_read, reads}
-use Rattle.time_laws.specs.core_invariant.specs.Knows.{untypes}
+use Rattle.state_laws.specs.spk_nums.specs.Setting.{Setting}
+use Rattle.state_laws.specs.spk_nums.specs.declared.kinds.FrameKind.TheVariants.{Untyped}
+use Rattle.state_laws.specs.spk_nums.specs.declared.calls.Call.{Call}
+use Rattle.state_laws.specs.spk_nums.specs.declared.calls.Call.TheVariants.{Retype}
+use Rattle.state_laws.specs.spk_nums.specs.declared.replies.Value.{Value}
+use Rattle.state_laws.specs.spk_nums.specs.declared.replies.Reply.TheVariants.{Ok}
+use Rattle.kernel_history.specs.entry_words.specs.EntryWord.{entry_of_word}
+use Rattle.kernel_history.specs.entry_words.specs.declared.entry.Entry.{Entry}
+use Rattle.kernel_history.specs.entry_words.specs.declared.entry.Entry.TheVariants.{Held}
+use Rattle.kernel_history.specs.word_map.specs.Moves.{word_of}
+use Rattle.kernel_history.specs.word_map.specs.Word.{EntryAt, CountAt}
+use Rattle.state_laws.specs.kernel_rules.specs.State.{FrameOf, State}
+use Rattle.state_laws.specs.kernel_rules.specs.References.{refs}
+use Rattle.state_laws.specs.kernel_rules.specs.Relies.{is_node}
+use Rattle.kernel_history.specs.Marking.{marked_by}
+use Rattle.kernel_history.specs.Trace.{Step, Trace, Open, phase, after_enter, state_after, state_before, own_read, reads}
 
 -- The step e after t decides `ok` of a retype of the frame to untyped.
 pub record MakesUntyped (t : Trace) (e : Step) (f : ℕ) : Type 0 where
@@ -50,6 +49,11 @@ GoesOn (e ∷ u) t c f = GoesOn u t c f × (e.core ≡ c → (e.returns ≡ None
 abbrev pub is_held : Option Entry → Bool
 is_held (Some (Held k)) = true
 is_held _ = false
+
+-- The call is a retype to untyped.
+abbrev pub untypes : Call → Bool
+untypes (Retype range f Untyped) = true
+untypes call = false
 
 abbrev pub IsLooked : Call → ℕ → Type 0
 IsLooked call w = (untypes call ≡ false) ⊎ (is_held (entry_of_word w) ≡ true)

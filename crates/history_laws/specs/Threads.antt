@@ -1,18 +1,22 @@
 -- The threads that cores run, and what the words of threads say of them.
 use Rattle.std.specs.Prelude.{◌≡◌, ◌≢◌, ◌<◌, ℕ, Some, IsTrue}
-use Rattle.time_laws.specs.spk_nums.specs.Setting.{Setting}
-use Rattle.time_laws.specs.spk_nums.specs.declared.kinds.Kind.TheVariants as kind
-use Rattle.time_laws.specs.tcap_words.specs.Thread.{thread_of_word}
-use Rattle.time_laws.specs.tcap_words.specs.declared.thread_word.ThreadWord.{ThreadWord}
-use Rattle.time_laws.specs.tcap_words.specs.declared.thread_word.ThreadWord.TheVariants.{Idle, Running, Claimed}
-use Rattle.time_laws.specs.word_map.specs.Word.{EntryAt}
-use Rattle.time_laws.specs.kernel_rules.specs.Fitting.{fits}
-use Rattle.time_laws.specs.kernel_history.specs.Trace.{Trace, state_after, last_left}
+use Rattle.state_laws.specs.spk_nums.specs.Setting.{Setting}
+use Rattle.state_laws.specs.spk_nums.specs.declared.kinds.Kind.TheVariants as kind
+use Rattle.kernel_history.specs.tcap_words.specs.Thread.{thread_of_word}
+use Rattle.kernel_history.specs.tcap_words.specs.declared.thread_word.ThreadWord.{ThreadWord}
+use Rattle.kernel_history.specs.tcap_words.specs.declared.thread_word.ThreadWord.TheVariants.{Idle, Running, Claimed}
+use Rattle.kernel_history.specs.word_map.specs.Word.{EntryAt}
+use Rattle.state_laws.specs.kernel_rules.specs.Fitting.{fits}
+use Rattle.state_laws.specs.kernel_rules.specs.State.{State}
+use Rattle.kernel_history.specs.Trace.{Trace, state_after, last_left}
 
--- At each moment no thread is the current one of two cores.
+-- No thread is the current one of two cores of these many.
+abbrev pub RunApart : ℕ → State → Type 0
+RunApart cores s = (c d : ℕ) → c < cores → d < cores → (s.core c).thread ≡ (s.core d).thread → c ≡ d
+
+-- So it is at each moment.
 abbrev pub ThreadsRunApart : Setting → Trace → Type 0
-ThreadsRunApart setup t = (c d : ℕ) → c < setup.cores → d < setup.cores
-    → ((state_after setup t).core c).thread ≡ ((state_after setup t).core d).thread → c ≡ d
+ThreadsRunApart setup t = RunApart setup.cores (state_after setup t)
 
 -- What the first word of the thread in a frame shows is so: it is running on the core whose current thread it is; or it is idle, and no
 -- core's; or a core inside a call has claimed it, which alone may run it.

@@ -1,31 +1,35 @@
 -- The time of a machine: what its temporal capabilities hold and its cores have spent and owe.
 use Rattle.std.specs.Prelude.{◌≡◌, ℕ, suc, ◌+◌, ◌<◌, ◌==◌, ◌&&◌, ◌⊎◌, [], ◌∷◌, slice_get, Option, Some, None, is_some, if◌then◌else◌}
-use Rattle.flight.specs.spk_nums.specs.Setting.{Setting}
-use Rattle.flight.specs.spk_nums.specs.Capability.{Capability}
-use Rattle.flight.specs.spk_nums.specs.declared.kinds.Kind.TheVariants as kind
-use Rattle.flight.specs.spk_nums.specs.declared.calls.Call.{Call}
-use Rattle.flight.specs.spk_nums.specs.declared.calls.Call.TheVariants.{Transfer, Delegate, Test}
-use Rattle.flight.specs.spk_nums.specs.declared.replies.Reply.{Reply}
-use Rattle.flight.specs.spk_nums.specs.declared.replies.Reply.TheVariants.{Ok}
-use Rattle.flight.specs.spk_nums.specs.declared.replies.Value.{Value}
-use Rattle.flight.specs.tcap_words.specs.Quality.{quality_of_word}
-use Rattle.flight.specs.tcap_words.specs.Head.{head_of_word}
-use Rattle.flight.specs.tcap_words.specs.declared.head_word.HeadWord.{HeadWord}
-use Rattle.flight.specs.word_map.specs.Word.{EntryAt}
-use Rattle.flight.specs.kernel_rules.specs.Access.{to_use, only}
-use Rattle.flight.specs.kernel_rules.specs.Laws.{ticks}
-use Rattle.flight.specs.kernel_rules.specs.Rules.{Found, named}
-use Rattle.flight.specs.kernel_rules.specs.Start.{start}
-use Rattle.flight.specs.kernel_rules.specs.State.{Kernel, Tcap, TcapFields, State}
-use Rattle.flight.specs.kernel_rules.specs.TimeCalls.{tcap_at, preemption, preempts}
-use Rattle.flight.specs.kernel_laws.specs.Laws.{grants_sum, decided_ticks}
-use Rattle.flight.specs.kernel_history.specs.Events.{events_of}
-use Rattle.flight.specs.kernel_history.specs.Marking.{marked_by}
-use Rattle.flight.specs.kernel_history.specs.Trace.{Step, Trace, Open, Decided, phase, after_enter, state_after, state_before, last_left}
+use Rattle.state_laws.specs.spk_nums.specs.Setting.{Setting}
+use Rattle.state_laws.specs.spk_nums.specs.Capability.{Capability}
+use Rattle.state_laws.specs.spk_nums.specs.declared.kinds.Kind.TheVariants as kind
+use Rattle.state_laws.specs.spk_nums.specs.declared.calls.Call.{Call}
+use Rattle.state_laws.specs.spk_nums.specs.declared.calls.Call.TheVariants.{Transfer, Delegate, Test}
+use Rattle.state_laws.specs.spk_nums.specs.declared.replies.Reply.{Reply}
+use Rattle.state_laws.specs.spk_nums.specs.declared.replies.Reply.TheVariants.{Ok}
+use Rattle.state_laws.specs.spk_nums.specs.declared.replies.Value.{Value}
+use Rattle.kernel_history.specs.tcap_words.specs.Quality.{quality_of_word}
+use Rattle.kernel_history.specs.tcap_words.specs.Head.{head_of_word}
+use Rattle.kernel_history.specs.tcap_words.specs.declared.head_word.HeadWord.{HeadWord}
+use Rattle.kernel_history.specs.word_map.specs.Word.{EntryAt}
+use Rattle.state_laws.specs.kernel_rules.specs.Access.{to_use, only}
+use Rattle.state_laws.specs.kernel_rules.specs.Laws.{ticks}
+use Rattle.state_laws.specs.kernel_rules.specs.Rules.{Found, named}
+use Rattle.state_laws.specs.kernel_rules.specs.Start.{start}
+use Rattle.state_laws.specs.kernel_rules.specs.State.{Kernel, Tcap, TcapFields, State}
+use Rattle.state_laws.specs.kernel_rules.specs.TimeCalls.{tcap_at, preemption, preempts}
+use Rattle.state_laws.specs.kernel_laws.specs.Laws.{grants_sum, decided_ticks}
+use Rattle.kernel_history.specs.Events.{events_of}
+use Rattle.kernel_history.specs.Marking.{marked_by}
+use Rattle.kernel_history.specs.Trace.{Step, Trace, Open, Decided, phase, after_enter, state_after, state_before, last_left}
 
--- At each moment the budgets of all temporal capabilities and the ticks that all cores have spent sum to the grants.
+-- The budgets of all temporal capabilities and the ticks that all cores have spent sum to the grants.
+abbrev pub KeepsTicks : Setting → State → Type 0
+KeepsTicks setup s = ticks s ≡ grants_sum setup
+
+-- So it is at each moment.
 abbrev pub TimeIsKept : Setting → Trace → Type 0
-TimeIsKept setup t = ticks (state_after setup t) ≡ grants_sum setup
+TimeIsKept setup t = KeepsTicks setup (state_after setup t)
 
 -- At each moment what a core has spent and what it owes sum to the ticks of its decided `tick` calls, but for those answered
 -- `calls-spent`.

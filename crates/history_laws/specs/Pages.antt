@@ -1,21 +1,24 @@
 -- The translations that cores have cached.
 use Rattle.std.specs.Prelude.{◌≡◌, ◌<◌, ◌++◌, ℕ, false, [], ◌∷◌, Some}
 use Rattle.std.specs.List.{AllByRecursion}
-use Rattle.time_laws.specs.spk_nums.specs.Setting.{Setting}
-use Rattle.time_laws.specs.spk_nums.specs.declared.calls.Call.TheVariants.{Touch}
-use Rattle.time_laws.specs.spk_nums.specs.declared.kinds.PageFlags.{PageFlags}
-use Rattle.time_laws.specs.spk_nums.specs.declared.replies.Reply.TheVariants.{Ok}
-use Rattle.time_laws.specs.spk_nums.specs.declared.replies.Value.TheVariants.{Page}
-use Rattle.time_laws.specs.kernel_rules.specs.State.{User, State, comp_of}
-use Rattle.time_laws.specs.state_laws.specs.Cached.{Stands, Begins, Answers}
-use Rattle.time_laws.specs.kernel_history.specs.Stamps.{flushes_at}
-use Rattle.time_laws.specs.kernel_history.specs.Trace.{state_after, state_before, Open, phase, after_enter, Step, Trace}
+use Rattle.state_laws.specs.spk_nums.specs.Setting.{Setting}
+use Rattle.state_laws.specs.spk_nums.specs.declared.calls.Call.TheVariants.{Touch}
+use Rattle.state_laws.specs.spk_nums.specs.declared.kinds.PageFlags.{PageFlags}
+use Rattle.state_laws.specs.spk_nums.specs.declared.replies.Reply.TheVariants.{Ok}
+use Rattle.state_laws.specs.spk_nums.specs.declared.replies.Value.TheVariants.{Page}
+use Rattle.state_laws.specs.kernel_rules.specs.State.{User, State, comp_of}
+use Rattle.state_laws.specs.Cached.{Stands, Begins, Answers}
+use Rattle.kernel_history.specs.Stamps.{flushes_at}
+use Rattle.kernel_history.specs.Trace.{state_after, state_before, Open, phase, after_enter, Step, Trace}
 
--- At each moment each translation that a core has cached names a user frame, and it stands: what it was found by is there still, or the
--- core has decided no flush since it was removed.
+-- Each translation that a core has cached names a user frame, and it stands: what it was found by is there still, or the core has decided
+-- no flush since it was removed.
+abbrev pub AllStand : State → ℕ → Type 0
+AllStand s c = AllByRecursion (Stands s c) (s.core c).cached
+
+-- So it is at each moment.
 abbrev pub CachedFramesStay : Setting → Trace → Type 0
-CachedFramesStay setup t = (c : ℕ) → c < setup.cores
-    → AllByRecursion (Stands (state_after setup t) c) ((state_after setup t).core c).cached
+CachedFramesStay setup t = (c : ℕ) → c < setup.cores → AllStand (state_after setup t) c
 
 -- Core c decides no flush among these steps after a trace.
 abbrev pub FlushesNone : ℕ → Trace → Trace → Type 0

@@ -1,15 +1,15 @@
 -- Liveness numbers and components that were killed.
 use Rattle.std.specs.Prelude.{◌≡◌, ◌<◌, ℕ, [], ◌∷◌, ◌++◌, false, Some}
-use Rattle.time_laws.specs.spk_nums.specs.Setting.{Setting}
-use Rattle.time_laws.specs.spk_nums.specs.declared.calls.Call.{Call}
-use Rattle.time_laws.specs.spk_nums.specs.declared.replies.Reply.TheVariants.{Ok}
-use Rattle.time_laws.specs.spk_nums.specs.declared.replies.Value.{Value}
-use Rattle.time_laws.specs.frame_words.specs.Live.{live_of_word}
-use Rattle.time_laws.specs.frame_words.specs.declared.live_word.LiveWord.TheVariants as live_word
-use Rattle.time_laws.specs.word_map.specs.Word.{LiveAt}
-use Rattle.time_laws.specs.kernel_rules.specs.State.{CompFields, Dead, comp_of}
-use Rattle.time_laws.specs.kernel_rules.specs.Life.{asks_life}
-use Rattle.time_laws.specs.kernel_history.specs.Trace.{Step, Out, Open, phase, after_enter, state_before, state_after, last_left, Trace}
+use Rattle.state_laws.specs.spk_nums.specs.Setting.{Setting}
+use Rattle.state_laws.specs.spk_nums.specs.declared.calls.Call.{Call}
+use Rattle.state_laws.specs.spk_nums.specs.declared.replies.Reply.TheVariants.{Ok}
+use Rattle.state_laws.specs.spk_nums.specs.declared.replies.Value.{Value}
+use Rattle.kernel_history.specs.frame_words.specs.Live.{live_of_word}
+use Rattle.kernel_history.specs.frame_words.specs.declared.live_word.LiveWord.TheVariants as live_word
+use Rattle.kernel_history.specs.word_map.specs.Word.{LiveAt}
+use Rattle.state_laws.specs.kernel_rules.specs.State.{CompFields, Dead, comp_of}
+use Rattle.state_laws.specs.kernel_rules.specs.Life.{asks_life}
+use Rattle.kernel_history.specs.Trace.{Step, Out, Open, phase, after_enter, state_before, state_after, last_left, Trace}
 
 -- Where a number is dead after an epoch, its word shows it live later in higher epochs alone, whatever steps come then.
 abbrev pub DeadForGood : Setting → Trace → Trace → Type 0
