@@ -6,19 +6,21 @@ use Rattle.state_laws.specs.spk_nums.specs.Rights.{whole_copy}
 use Rattle.state_laws.specs.spk_nums.specs.declared.calls.Call.TheVariants as call
 use Rattle.state_laws.specs.spk_nums.specs.declared.kinds.FrameKind.TheVariants as frame_kind
 use Rattle.state_laws.specs.kernel_rules.specs.References.{sum_below, node_refs, refs}
+use Rattle.state_laws.specs.kernel_rules.specs.State.{FrameOf}
 use Rattle.kernel_history.specs.entry_words.specs.EntryWord.{word_of_entry, entry_of_word}
 use Rattle.kernel_history.specs.frame_words.specs.Count.{word_of_count, count_of_word}
 use Rattle.kernel_history.specs.frame_words.specs.declared.count_word.Hold.TheVariants.{Closed}
-use Rattle.kernel_history.specs.Counts.{count_at}
+use Rattle.kernel_history.specs.Counts.{counters, count_at}
 use Rattle.kernel_history.specs.Discipline.{KeepsDiscipline}
 use Rattle.kernel_history.specs.Legal.{IsLegal}
 use Rattle.kernel_history.specs.Scenes.{two_cores}
+use Rattle.kernel_history.specs.Stamps.{stamp}
 use Rattle.kernel_history.specs.Trace.{Open, last_left}
 use Rattle.kernel_history.proofs.Computed.{may_follow}
 use Rattle.kernel_history.proofs.Unjustified.{carried_out}
 use Rattle.history_laws.specs.Moments.{AtEachMoment}
 use Rattle.history_laws.specs.Counts.{Untypes, CountsTell, FrozenSay}
-use Rattle.history_laws.specs.Stamps.{StampsTell}
+use Rattle.history_laws.specs.Stamps.{newest_then, StampsTell}
 use Rattle.history_laws.specs.Sums.{IsFrozenBy, FrozenSums}
 use Rattle.history_laws.specs.Scenes.{count_word, counts_five, dates_early, counts_twice, freezes_one, freezes_both, copy_freezes, draws_held}
 use Rattle.history_laws.specs.Refusals.{CountsRefuse}
@@ -120,6 +122,11 @@ frozen_refused law =
     unlike : (r : ℕ) → Some (whole_copy 1 1 20) ≡ Some (call.Retype r 0 frame_kind.Untyped) → ⊥
     unlike r h = cc
 
+-- A removal is to store the stamp that it has drawn.
+drawn_told : newest_then two_cores draws_held 7 (counters 2) ≡ stamp two_cores draws_held (FrameOf 7)
+unfolding two_cores draws_held count_word word_of_entry word_of_count count_of_word sum_below node_refs refs
+drawn_told = refl
+
 pub counts_refuse : CountsRefuse
 unfolding two_cores counts_five dates_early counts_twice freezes_one freezes_both copy_freezes draws_held count_word word_of_entry
     entry_of_word word_of_count count_of_word sum_below node_refs refs
@@ -128,7 +135,7 @@ counts_refuse = record {
   to_be_added = breaks (AtEachMoment (CountsTell two_cores)) counts_twice twice_legal refl refl twice_disciplined twice_refused;
   frozen_counts = breaks (AtEachMoment (CountsTell two_cores)) freezes_one one_legal refl refl one_disciplined one_refused;
   stamps_tell = breaks (AtEachMoment (StampsTell two_cores)) dates_early early_legal refl refl early_disciplined early_refused;
-  drawn = refl;
+  drawn = drawn_told;
   frozen_say = breaks (AtEachMoment (FrozenSay two_cores)) copy_freezes frozen_legal refl refl frozen_disciplined frozen_refused;
   frozen_sums = breaks (AtEachMoment (FrozenSums two_cores)) freezes_both both_legal refl refl both_disciplined both_refused;
 }
