@@ -120,12 +120,20 @@ fn blank(at: u32) -> Row {
     (stores(at, 0), 0, StageEnd::Going)
 }
 
+// Marks head B.
+fn marks_b() -> Row {
+    (compares(448, HEAD, MARKED), HEAD, ok())
+}
+
+// Stores head A with 7 ticks less, and is done.
+fn takes_from_a() -> Row {
+    (stores(384, LESS), LESS, StageEnd::Done(Value::Nothing))
+}
+
 #[test]
 fn raises_the_version_with_the_list_alone(rt: HostRuntime) {
-    let compare = (compares(448, HEAD, MARKED), HEAD, ok());
-    let less = (stores(384, LESS), LESS, StageEnd::Done(Value::Nothing));
     let grown = [
-        compare,
+        marks_b(),
         (stores(449, GOOD), GOOD, StageEnd::Going),
         (stores(450, OTHER), OTHER, StageEnd::Going),
         blank(451),
@@ -135,10 +143,10 @@ fn raises_the_version_with_the_list_alone(rt: HostRuntime) {
         blank(455),
         blank(456),
         (stores(448, MORE_NEXT), MORE_NEXT, StageEnd::Going),
-        less,
+        takes_from_a(),
     ];
     let alike = [
-        compare,
+        marks_b(),
         (stores(449, WORSE), WORSE, StageEnd::Going),
         blank(450),
         blank(451),
@@ -148,7 +156,7 @@ fn raises_the_version_with_the_list_alone(rt: HostRuntime) {
         blank(455),
         blank(456),
         (stores(448, MORE), MORE, StageEnd::Going),
-        less,
+        takes_from_a(),
     ];
     if let Some(layout) = Layout::new(1, 8) {
         let mut pair = read(PairWork::Delegate(7), &layout, GOOD, OTHER);
