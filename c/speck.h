@@ -305,6 +305,11 @@ struct speck_reply speck_remove(struct speck_port *port, uint16_t table, uint16_
 struct speck_reply speck_grow(struct speck_port *port, uint16_t root, uint16_t entry, uint16_t leaf);
 struct speck_reply speck_shrink(struct speck_port *port, uint16_t root, uint16_t entry);
 
+/* A part of a range: the range of the `count` frames from `frame` on, all of `range`, which has both rights; it goes, with both rights too, under
+ * the number `slot`, which holds nothing, of `table`. So memory is handed out; what is removed of the parts comes back to nobody: the whole
+ * range still has all its frames. */
+struct speck_reply speck_part(struct speck_port *port, uint16_t range, uint16_t frame, uint16_t count, uint16_t table, uint16_t slot);
+
 /* Memory. A frame of a range is untyped at first. As SPECK_FRAME_USER it can be mapped, as SPECK_FRAME_KERNEL an object can be made in it; and
  * it can be made untyped again once nothing refers to it, or SPECK_REFERENCED. */
 struct speck_reply speck_retype(struct speck_port *port, uint16_t range, uint16_t frame, uint8_t kind);

@@ -15,7 +15,7 @@ use Rattle.kernel_invariant.proofs.Facts.{none_some, some_inj}
 use Rattle.call_judge.specs.same_changes.proofs.Reaching.{Twins, IsSlot, RootGood, own_good, own_same, reached_same, named_same, slot_good}
 use Rattle.call_judge.specs.same_changes.proofs.TimeRules.{named_table}
 use Rattle.origin_rules.specs.declared.chains.Step.{Step}
-use Rattle.origin_rules.specs.declared.chains.Step.TheVariants.{Copied, Made, Gated}
+use Rattle.origin_rules.specs.declared.chains.Step.TheVariants.{Copied, Made, Gated, Parted}
 use Rattle.origin_rules.specs.Chains.{Put, slot_named, slot_under, put_from, puts, puts_by}
 
 -- ---- the parts of a put

@@ -19,7 +19,7 @@ use Rattle.kernel_rules.specs.CallRelation.{rule_of}
 use Rattle.kernel_rules.specs.Runs.{Event, Enters, Decides, Returns, after}
 use Rattle.call_names.specs.Names.{IsName}
 use Rattle.origin_rules.specs.declared.chains.Step.{Step}
-use Rattle.origin_rules.specs.declared.chains.Step.TheVariants.{Copied, Made, Gated}
+use Rattle.origin_rules.specs.declared.chains.Step.TheVariants.{Copied, Made, Gated, Parted}
 use Rattle.origin_rules.specs.declared.chains.ChainLink.{ChainLink}
 use Rattle.origin_rules.specs.Chains.{decided, origin_of}
 use Rattle.origin_rules.specs.Derived.{kind_of, Gives, HasChain}

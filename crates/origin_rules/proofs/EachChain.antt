@@ -20,7 +20,7 @@ use Rattle.kernel_rules.proofs.Changes.{IfFound}
 use Rattle.kernel_rules.specs.State.{PlaceOf}
 use Rattle.kernel_invariant.proofs.Facts.{outcome_from, none_some, some_inj}
 use Rattle.origin_rules.specs.declared.chains.Step.{Step}
-use Rattle.origin_rules.specs.declared.chains.Step.TheVariants.{Copied, Made, Gated}
+use Rattle.origin_rules.specs.declared.chains.Step.TheVariants.{Copied, Made, Gated, Parted}
 use Rattle.origin_rules.specs.declared.chains.ChainLink.{ChainLink}
 use Rattle.origin_rules.specs.Chains.{Origin, Put, puts, puts_by, with_put, decided, origin_of, is_own}
 use Rattle.origin_rules.specs.Derived.{Falls, HasChain, ChainsAreReal}

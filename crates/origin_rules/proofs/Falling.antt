@@ -10,7 +10,7 @@ use Rattle.spk_nums.specs.declared.kinds.Kind.TheVariants as kind
 use Rattle.spk_nums.specs.declared.calls.Call.TheVariants as call
 use Rattle.kernel_rules.specs.Access.{any, only, to_copy, to_use}
 use Rattle.kernel_invariant.proofs.Sound.{only_is}
-use Rattle.origin_rules.specs.declared.chains.Step.TheVariants.{Copied, Made, Gated}
+use Rattle.origin_rules.specs.declared.chains.Step.TheVariants.{Copied, Made, Gated, Parted}
 use Rattle.origin_rules.specs.Derived.{RightsOnlyFall}
 use Rattle.origin_rules.proofs.Placed.{named_at}
 

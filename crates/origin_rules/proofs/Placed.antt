@@ -28,7 +28,7 @@ use Rattle.kernel_rules.proofs.Within.{put_same, put_other, either}
 use Rattle.kernel_invariant.proofs.Facts.{ChangesFrom, none_some, some_inj, then_parts, or_found, Suits, suits, vacant_facts, held_facts}
 use Rattle.kernel_invariant.proofs.Facts.{none_parts, when_not, not_not}
 use Rattle.origin_rules.specs.declared.chains.Step.{Step}
-use Rattle.origin_rules.specs.declared.chains.Step.TheVariants.{Copied, Made, Gated}
+use Rattle.origin_rules.specs.declared.chains.Step.TheVariants.{Copied, Made, Gated, Parted}
 use Rattle.origin_rules.specs.Chains.{Put, put_from, slot_named, slot_under, puts, is_own}
 use Rattle.origin_rules.specs.Derived.{kind_of, Gives}
 

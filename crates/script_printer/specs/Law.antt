@@ -5,7 +5,7 @@ use Rattle.spk_nums.specs.declared.calls.Make.TheVariants.{Thread, Tcap, Comp}
 use Rattle.spk_nums.specs.declared.calls.Call.{Call}
 use Rattle.spk_nums.specs.declared.calls.Call.TheVariants.{Look, Copy, Remove, Grow, Shrink, Retype, Make as make_call}
 use Rattle.spk_nums.specs.declared.calls.Call.TheVariants.{Map, Unmap, Touch, Flush, Gate, Kill, Call as call_gate}
-use Rattle.spk_nums.specs.declared.calls.Call.TheVariants.{Ret, Switch, Tick, Transfer, Delegate, Test}
+use Rattle.spk_nums.specs.declared.calls.Call.TheVariants.{Ret, Switch, Tick, Transfer, Delegate, Test, Part}
 use Rattle.spk_nums.specs.Rights.{both}
 use Rattle.spk_nums.specs.Setting.{IsSetting}
 use Rattle.script_tokens.specs.Words.{line_count}
@@ -49,14 +49,15 @@ IsCallWithin version (Tick n) = n ≤ 1000000
 IsCallWithin version (Transfer a b m) = IsName a × IsName b × IsAmount m
 IsCallWithin version (Delegate a b m) = IsName a × IsName b × IsAmount m
 IsCallWithin version (Test a b) = IsName a × IsName b
+IsCallWithin version (Part r f n t b) = (3 ≤ version) × IsName r × IsName f × IsName n × IsName t × IsName b
 
--- a script within the limits: its version is 1 or 2, its setup is one with no more calls than a script may give, each core has a list,
+-- a script within the limits: its version is 1 to 3, its setup is one with no more calls than a script may give, each core has a list,
 -- arguments and items are in their ranges, the items are at most 200,000, and its printed form has at most 20,000 lines
 pub record IsWithin (m : Meaning) : Type 0 where
   pub some_version : 1 ≤ m.version
-  pub most_versions : m.version ≤ 2
+  pub most_versions : m.version ≤ 3
   pub setup : IsSetting m.setup
-  pub limit : m.setup.calls ≤ 4194304
+  pub limit : m.setup.calls ≤ most_calls m.version
   pub lists : length m.lists ≡ m.setup.cores
   pub calls : All (All (IsCallWithin m.version)) m.lists
   pub below : BelowCores m.setup.cores m.order

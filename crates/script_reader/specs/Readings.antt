@@ -62,7 +62,7 @@ behind_line d words = line_of d.head words >>= λ line. Ok (with_line d line)
 unfoldable pub draft_behind : Draft_of → List (List ℕ) → Result Draft_of Cause
 draft_behind d words =
     if is_order d.head.section
-    then (items_of d.head.cores d.order words >>= λ order. Ok (record d { order = order }))
+    then (items_of d.head.version d.head.cores d.order words >>= λ order. Ok (record d { order = order }))
     else behind_line d words
 
 -- the draft after a line of this number, or its fault
