@@ -112,6 +112,7 @@ parent_own : (what : Step) (parent k : Capability) → is_own k.kind ≡ true �
 parent_own Copied parent k own falls = ap is_own (sym falls.kind) ∙ own
 parent_own Made parent k own falls = ap is_own falls.kind
 parent_own Gated parent k own falls = ap is_own falls.kind
+parent_own Parted parent k own falls = ap is_own falls.parent_kind
 
 abbrev pub EachHas : Setting → List Event → Type 0
 EachHas setting events = (f i : ℕ) (k : Capability) → shown ((after setting events).place f i) ≡ Some k → is_own k.kind ≡ true

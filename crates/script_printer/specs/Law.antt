@@ -11,6 +11,7 @@ use Rattle.spk_nums.specs.Setting.{IsSetting}
 use Rattle.script_tokens.specs.Words.{line_count}
 use Rattle.script_reader.specs.Readings.{Meaning, BelowCores, script_of}
 use Rattle.script_printer.specs.Printing.{printed}
+use Rattle.call_reader.specs.Versions.{most_calls}
 
 -- the number of a capability, a page, a root entry or a frame
 abbrev pub IsName : ℕ → Type 0
@@ -83,5 +84,5 @@ most_lines m = 7 + length m.setup.grants + most_list_lines m.lists + length m.or
 
 -- a script whose parts are within the limits has at most so many lines in its printed form
 abbrev pub HasFewLines : Meaning → Type 0
-HasFewLines m = 1 ≤ m.version → m.version ≤ 2 → IsSetting m.setup → length m.lists ≡ m.setup.cores → All (All (IsCallWithin m.version)) m.lists
+HasFewLines m = 1 ≤ m.version → m.version ≤ 3 → IsSetting m.setup → length m.lists ≡ m.setup.cores → All (All (IsCallWithin m.version)) m.lists
     → BelowCores m.setup.cores m.order → line_count (printed m) ≤ most_lines m

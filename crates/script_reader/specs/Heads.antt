@@ -1,5 +1,5 @@
 -- What comes before the calls, and where each line may stand.
-use Rattle.std.specs.Prelude.{◌≡◌, ◌<◌, ◌≤◌, ◌^◌, All, ℕ, List, [], ◌∷◌, ◌++◌, Bool, true, false}
+use Rattle.std.specs.Prelude.{◌≡◌, ◌<◌, ◌≤◌, ◌^◌, ◌-◌, All, ℕ, List, [], ◌∷◌, ◌++◌, Bool, true, false}
 use Rattle.std.specs.Prelude.{Result, Ok, Err, length, slice_get, ◌+◌, ◌*◌, ◌==◌, if◌then◌else◌}
 use Rattle.std.specs.Option.{ok_or, option_and_then}
 use Rattle.spk_nums.specs.declared.grants.Grant.{Grant}
@@ -168,6 +168,7 @@ pub record IsHead (h : Head) : Type 0 where
   pub most_cores : h.cores ≤ 8
   pub fit : All GrantFits h.grants
   pub most_calls : h.calls ≤ most_calls h.version
+  pub machine_calls : h.calls ≤ 2 ^ 40 - 1
   pub some_epoch : 1 ≤ h.epochs
   pub most_epochs : h.epochs < 2 ^ 16
   pub come : HasCome h.section h
