@@ -20,9 +20,9 @@ use act_counts::stage_tcap::PairWork;
 use spk_nums::{Call, Cap, FrameNo, Kind, Rights, Value};
 
 /// What a call of a core does whose names have led to these, which has read this, and whose target, if it has one, was found: a look
-/// answers at once, a copy, a grow, a map, a gate and a part begin to fill their target, a remove, a shrink and an unmap to remove what their
-/// target holds, a retype to type its frame, a make to make its object, a flush to drop its translations, a tick to charge its ticks, a
-/// call to enter its gate's component, a ret to leave its own. The core is one of the layout's at most 8.
+/// answers at once, a copy, a grow, a map, a gate and a part begin to fill their target, a remove, a shrink and an unmap to remove what
+/// their target holds, a retype to type its frame, a make to make its object, a flush to drop its translations, a tick to charge its
+/// ticks, a call to enter its gate's component, a ret to leave its own. The core is one of the layout's at most 8.
 #[inline]
 pub fn begin_act(
     own: &Own,

@@ -69,12 +69,11 @@ part_same w r f n x b = (
   λ range is. (
     refl,
     refl,
-    λ table is_table.
-        (
-          refl,
-          (λ on. named_table w x table is_table),
-          λ at is_free. (((refl, λ on. refl), λ calm. tt), λ none. fills_same w at (part_of range f n)),
-        ),
+    λ table is_table. (
+      refl,
+      (λ on. named_table w x table is_table),
+      λ at is_free. (((refl, λ on. refl), λ calm. tt), λ none. fills_same w at (part_of range f n)),
+    ),
   ),
 )
 

@@ -67,7 +67,7 @@ module _ (version : ℕ) (word : List ℕ) where
       (lands verb.Tick verb.Tick (is_word word (codes "tick")) _
       (passes verb.Tick verb.Transfer (is_word word (codes "transfer")) _ (λ e. absurd (cc))
       (passes verb.Tick verb.Delegate (is_word word (codes "delegate")) _ (λ e. absurd (cc))
-      (passes verb.Tick verb.Test (is_word word (codes "test")) _ (λ e. absurd (cc)) (no_part (is_word word (codes "part")))))))))))))
+      (passes verb.Tick verb.Test (is_word word (codes "test")) _ (λ e. absurd (cc)) (no_part (is_word word (codes "part"))))))))))))
 
   verb_tick : verb_of version word ≡ Some verb.Tick → IsTick
   unfolding verb_of
