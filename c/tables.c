@@ -33,8 +33,8 @@ int main(void) {
     const struct speck_grant grants[2] = {{ .budget = 1000, .quality = 1, .sched = 0 }, { .budget = 40, .quality = 9, .sched = 63 }};
     uint8_t bad = speck_boot_with(&machine, 24, 100, 10, grants, 2);
     for (int core = 0; core < 2; core++) bad |= speck_deal(&machine, &port[core]);
-    /* a leaf of the page table, with a frame mapped; a part of the range; a component, a gate to it, and a thread; a temporal capability with ticks; then the core
-     * enters the component, which is killed */
+    /* a leaf of the page table, with a frame mapped; a part of the range; a component, a gate to it, and a thread; a temporal capability with
+     * ticks; then the core enters the component, which is killed */
     for (uint16_t frame = 8; frame < 15; frame++) bad |= speck_retype(&port[0], 0, frame, SPECK_FRAME_KERNEL).code;
     bad |= speck_make_pleaf(&port[0], 0, 8, 1, 20).code;
     bad |= speck_grow(&port[0], 2, 3, 20).code;
