@@ -178,9 +178,9 @@ impl Head {
         u64::from(self.budget) | mark << 32 | u64::from(self.version) << 36
     }
 
-    /// The head with this budget, unmarked, in the next version.
+    /// The head with this budget, unmarked. Its version rises where its list changes, and here all lists are alike.
     pub fn changed(self, budget: u32) -> Head {
-        Head { budget, mark: None, version: self.version + 1 & 0xfff_ffff }
+        Head { budget, mark: None, version: self.version }
     }
 }
 
