@@ -1,20 +1,21 @@
--- Two rules come to the same where what they look up is the same, and so are their causes and their changes.
+-- Two rules come to the same where what they look up is the same, and so are their causes, their values and their edits.
 use Rattle.std.proofs.Common.{◌≡◌, ℕ, ◌<◌, Bool, true, false, refl, sym, ◌∙◌, ap, subst, if◌then◌else◌, List, [], ◌∷◌, Option, Some, None}
 use Rattle.std.specs.List.{list_any}
 use Rattle.spk_nums.specs.Capability.{Capability}
-use Rattle.spk_nums.specs.declared.kinds.Kind.{Kind}
+use Rattle.spk_nums.specs.declared.calls.Call.{Call}
 use Rattle.spk_nums.specs.declared.replies.Reply.{Reply}
-use Rattle.kernel_rules.specs.State.{Frame, Grace, Thing, PlaceOf, FrameOf, NumberOf, State}
-use Rattle.kernel_rules.specs.Access.{Slot, found, Target}
+use Rattle.kernel_rules.specs.State.{Thing, PlaceOf, FrameOf, NumberOf, State}
+use Rattle.kernel_rules.specs.Access.{Slot, found}
 use Rattle.kernel_rules.specs.GracePeriods.{same_thing, needs_flush, is_paging, is_translated, new_grace, begun}
-use Rattle.kernel_rules.specs.Rules.{Change, Cause, When, WaitedFor, Unflushed, Rule, Name, Vacant, Held, Mapped, Does, Judged, Refused}
-use Rattle.kernel_rules.specs.Rules.{Found, and_then, unless, named, vacant, held, mapped, first_of, refusal_of, first_cause, outcome}
-use Rattle.kernel_rules.specs.CallRelation.{changed}
+use Rattle.kernel_rules.specs.Rules.{Change, does, Cause, When, WaitedFor, Unflushed, Rule, Name, Vacant, Held, Mapped, Does, Judged}
+use Rattle.kernel_rules.specs.Rules.{Refused, Found, and_then, unless, named, vacant, held, mapped, first_of, refusal_of, first_cause}
+use Rattle.kernel_rules.specs.Rules.{outcome}
 use Rattle.kernel_rules.specs.Relies.{is_node}
-use Rattle.kernel_invariant.proofs.Sound.{IsSound}
+use Rattle.kernel_invariant.proofs.Facts.{EditsFrom}
+use Rattle.kernel_invariant.proofs.Edited.{Edits}
 use Rattle.seq_state.specs.Representation.{IsThing, SameGrace, SameState}
-use Rattle.seq_state.proofs.Same.{same_grace_by}
 use Rattle.same_changes.specs.Same.{SameChange, SameOutcome}
+use Rattle.same_changes.proofs.EditsSame.{does_same}
 use Rattle.same_changes.proofs.Reaching.{Twins, RootGood, named_same, vacant_same, held_same, mapped_same, waits_same, flushes_same}
 
 -- Two causes are one: one condition with one reply, or one thing of the machine.
@@ -30,7 +31,7 @@ SameCauses s c [] [] = Unit {0}
 SameCauses s c (x ∷ xs) (y ∷ ys) = SameCause s x y × (refusal_of s c y ≡ None → SameCauses s c xs ys)
 SameCauses s c _ _ = ⊥
 
--- Two rules are one in step: what they name, where they look, their causes, and their changes where no cause stands.
+-- Two rules are one in step: what they name, where they look, their causes, and their values and edits where no cause stands.
 abbrev pub SameRule : State → ℕ → Rule → Rule → Type 0
 SameRule s c (Name n p rest) (Name m q other) = (n ≡ m) × (p ≡ q)
     × ((k : Capability) → named s c m q ≡ Found k → SameRule s c (rest (found k)) (other (found k)))
@@ -40,7 +41,7 @@ SameRule s c (Held x rest) (Held y other) = (x ≡ y) × RootGood s y
     × ((at : Slot) (k : Capability) → held s c y ≡ Found (at, k) → SameRule s c (rest at k) (other at k))
 SameRule s c (Mapped a v rest) (Mapped b w other) =
     (a ≡ b) × (v ≡ w) × (is_node (s.frame b) ≡ true) × ((k : Capability) → mapped s c b w ≡ Found k → SameRule s c (rest k) (other k))
-SameRule s c (Does xs a) (Does ys b) = SameCauses s c xs ys × (first_cause s c ys ≡ None → SameChange a b)
+SameRule s c (Does xs v a) (Does ys u b) = SameCauses s c xs ys × (first_cause s c ys ≡ None → (v ≡ u) × (a ≡ b))
 SameRule s c _ _ = ⊥
 
 -- ---- causes
@@ -93,42 +94,45 @@ unless_alike p q a b e same = subst (λ r. SameOutcome (unless r a) (unless q b)
     by_cause None is = same is
     by_cause (Some r) is = refl
 
-pub outcome_same : {t s : State} {o : ℕ → Bool} {c : ℕ} → Twins t s o c → (x y : Rule) → SameRule s c x y
-    → SameOutcome (outcome t c x) (outcome s c y)
-outcome_same {t} {s} {o} {c} w (Name n p rest) (Name m q other) h =
+pub outcome_same : {t s : State} {o : ℕ → Bool} {c : ℕ} → Twins t s o c → (call : Call) (x y : Rule) → SameRule s c x y
+    → EditsFrom (λ v es. Edits call c s es) s c y → SameOutcome (outcome t c x) (outcome s c y)
+outcome_same {t} {s} {o} {c} w call (Name n p rest) (Name m q other) h known =
     then_alike (named t c n p) (named s c m q) _ _ ((λ i. named t c (h.0 i) (h.1 i)) ∙ named_same w m q)
-    (λ k is. outcome_same w (rest (found k)) (other (found k)) (h.2 k is))
-outcome_same {t} {s} {o} {c} w (Vacant x rest) (Vacant y other) h =
+    (λ k is. outcome_same w call (rest (found k)) (other (found k)) (h.2 k is) (known k is))
+outcome_same {t} {s} {o} {c} w call (Vacant x rest) (Vacant y other) h known =
     then_alike (vacant t c x) (vacant s c y) _ _ (ap (vacant t c) h.0 ∙ vacant_same w y h.1)
-    (λ at is. outcome_same w (rest at) (other at) (h.2 at is))
-outcome_same {t} {s} {o} {c} w (Held x rest) (Held y other) h =
+    (λ at is. outcome_same w call (rest at) (other at) (h.2 at is) (known at is))
+outcome_same {t} {s} {o} {c} w call (Held x rest) (Held y other) h known =
     then_alike (held t c x) (held s c y) _ _ (ap (held t c) h.0 ∙ held_same w y h.1)
-    (λ p is. outcome_same w (rest p.0 p.1) (other p.0 p.1) (h.2 p.0 p.1 is))
-outcome_same {t} {s} {o} {c} w (Mapped a v rest) (Mapped b u other) h =
+    (λ p is. outcome_same w call (rest p.0 p.1) (other p.0 p.1) (h.2 p.0 p.1 is) (known p.0 p.1 is))
+outcome_same {t} {s} {o} {c} w call (Mapped a v rest) (Mapped b u other) h known =
     then_alike (mapped t c a v) (mapped s c b u) _ _ ((λ i. mapped t c (h.0 i) (h.1 i)) ∙ mapped_same w b u h.2)
-    (λ k is. outcome_same w (rest k) (other k) (h.3 k is))
-outcome_same {t} {s} {o} {c} w (Does xs a) (Does ys b) h = unless_alike (first_cause t c xs) (first_cause s c ys) a b
-    (causes_same w xs ys h.0) h.1
-outcome_same w (Name n p rest) (Vacant y other) h = absurd h
-outcome_same w (Name n p rest) (Held y other) h = absurd h
-outcome_same w (Name n p rest) (Mapped b u other) h = absurd h
-outcome_same w (Name n p rest) (Does ys b) h = absurd h
-outcome_same w (Vacant x rest) (Name m q other) h = absurd h
-outcome_same w (Vacant x rest) (Held y other) h = absurd h
-outcome_same w (Vacant x rest) (Mapped b u other) h = absurd h
-outcome_same w (Vacant x rest) (Does ys b) h = absurd h
-outcome_same w (Held x rest) (Name m q other) h = absurd h
-outcome_same w (Held x rest) (Vacant y other) h = absurd h
-outcome_same w (Held x rest) (Mapped b u other) h = absurd h
-outcome_same w (Held x rest) (Does ys b) h = absurd h
-outcome_same w (Mapped a v rest) (Name m q other) h = absurd h
-outcome_same w (Mapped a v rest) (Vacant y other) h = absurd h
-outcome_same w (Mapped a v rest) (Held y other) h = absurd h
-outcome_same w (Mapped a v rest) (Does ys b) h = absurd h
-outcome_same w (Does xs a) (Name m q other) h = absurd h
-outcome_same w (Does xs a) (Vacant y other) h = absurd h
-outcome_same w (Does xs a) (Held y other) h = absurd h
-outcome_same w (Does xs a) (Mapped b u other) h = absurd h
+    (λ k is. outcome_same w call (rest k) (other k) (h.3 k is) (known k is))
+outcome_same {t} {s} {o} {c} w call (Does xs v a) (Does ys u b) h known =
+    unless_alike (first_cause t c xs) (first_cause s c ys) (does c t v a) (does c s u b) (causes_same w xs ys h.0) λ calm.
+    let is = h.1 calm in
+    subst (λ v. SameChange (does c t v a) (does c s u b)) (sym is.0)
+    (subst (λ a. SameChange (does c t u a) (does c s u b)) (sym is.1) (does_same w call u b (known calm)))
+outcome_same w call (Name n p rest) (Vacant y other) h known = absurd h
+outcome_same w call (Name n p rest) (Held y other) h known = absurd h
+outcome_same w call (Name n p rest) (Mapped b u other) h known = absurd h
+outcome_same w call (Name n p rest) (Does ys v b) h known = absurd h
+outcome_same w call (Vacant x rest) (Name m q other) h known = absurd h
+outcome_same w call (Vacant x rest) (Held y other) h known = absurd h
+outcome_same w call (Vacant x rest) (Mapped b u other) h known = absurd h
+outcome_same w call (Vacant x rest) (Does ys v b) h known = absurd h
+outcome_same w call (Held x rest) (Name m q other) h known = absurd h
+outcome_same w call (Held x rest) (Vacant y other) h known = absurd h
+outcome_same w call (Held x rest) (Mapped b u other) h known = absurd h
+outcome_same w call (Held x rest) (Does ys v b) h known = absurd h
+outcome_same w call (Mapped a v rest) (Name m q other) h known = absurd h
+outcome_same w call (Mapped a v rest) (Vacant y other) h known = absurd h
+outcome_same w call (Mapped a v rest) (Held y other) h known = absurd h
+outcome_same w call (Mapped a v rest) (Does ys u b) h known = absurd h
+outcome_same w call (Does xs v a) (Name m q other) h known = absurd h
+outcome_same w call (Does xs v a) (Vacant y other) h known = absurd h
+outcome_same w call (Does xs v a) (Held y other) h known = absurd h
+outcome_same w call (Does xs v a) (Mapped b u other) h known = absurd h
 
 -- ---- beginning grace periods
 

@@ -7,13 +7,14 @@ use Rattle.spk_nums.specs.declared.calls.Call.TheVariants.{Look, Copy, Remove, G
 use Rattle.spk_nums.specs.declared.calls.Call.TheVariants.{Map, Unmap, Touch, Flush, Gate, Kill, Call as call_gate}
 use Rattle.spk_nums.specs.declared.calls.Call.TheVariants.{Ret, Switch, Tick, Transfer, Delegate, Test}
 use Rattle.kernel_rules.specs.State.{Limits, State}
-use Rattle.kernel_rules.specs.CallRelation.{rule_of, change_of}
+use Rattle.kernel_rules.specs.CallRelation.{rule_of}
 use Rattle.kernel_rules.specs.Runs.{Event, after, Open, is_open, phase_of, IsRun}
 use Rattle.kernel_invariant.proofs.SoundRuns.{opened, limits_stay, open_limits, runs_sound}
+use Rattle.kernel_invariant.proofs.Edited.{rule_edits}
 use Rattle.kernel_laws.proofs.NodesLaw.{nodes_hold_what_fits}
 use Rattle.kernel_laws.proofs.RangesLaw.{ranges_hold}
 use Rattle.seq_state.specs.Representation.{SameState}
-use Rattle.same_changes.specs.Same.{SameOutcome, SameChanges, SameActs, StaysInRange}
+use Rattle.same_changes.specs.Same.{SameChanges, SameActs, StaysInRange}
 use Rattle.same_changes.proofs.Reaching.{Twins}
 use Rattle.same_changes.proofs.InRange.{in_range}
 use Rattle.same_changes.proofs.Alike.{SameRule, outcome_same}
@@ -59,8 +60,8 @@ twins setting is events run c call opens t same = record {
 pub changes_same : SameChanges
 changes_same setting is events run c call opens t same =
     let w = twins setting is events run c call opens t same in
-    outcome_same w (rule_of t c call) (rule_of (after setting events) c call)
-    (rule_same w call (open_limits setting events c call run opens))
+    outcome_same w call (rule_of t c call) (rule_of (after setting events) c call)
+    (rule_same w call (open_limits setting events c call run opens)) (rule_edits (after setting events) c call)
 
 pub same_acts : SameActs
 same_acts setting is events run c call opens t same = acts_same (twins setting is events run c call opens t same) call

@@ -1,4 +1,5 @@
 pub mod Reaching
+pub mod EditsSame
 pub mod Alike
 pub mod TimeRules
 pub mod CapabilityRules

@@ -1,43 +1,39 @@
 -- The calls on memory come to the same.
 use Rattle.std.proofs.Common.{◌≡◌, ℕ, ◌+◌, ◌<◌, ◌≤◌, ◌==◌, Bool, true, false, not, ◌&&◌, refl, sym, ◌∙◌, ap, subst, arith, nat_le}
-use Rattle.std.proofs.Common.{nat_lt, if◌then◌else◌, zero, suc, List, [], ◌∷◌, length, Option, Some, None, is_some, IsTrue}
+use Rattle.std.proofs.Common.{nat_lt, if◌then◌else◌, zero, suc, [], ◌∷◌, Option, Some, None, is_some, IsTrue}
 use Rattle.std.specs.List.{list_any, range_with_len}
 use Rattle.std.proofs.lemmas.Bool.{false≢true, ltb-true}
-use Rattle.spk_nums.specs.Capability.{Capability, cap_of}
+use Rattle.spk_nums.specs.Capability.{Capability}
 use Rattle.spk_nums.specs.declared.kinds.Kind.TheVariants as kind
 use Rattle.spk_nums.specs.declared.kinds.FrameKind.{FrameKind}
 use Rattle.spk_nums.specs.declared.kinds.FrameKind.TheVariants as frame_kind
 use Rattle.spk_nums.specs.declared.kinds.PageFlags.{PageFlags}
 use Rattle.spk_nums.specs.declared.translations.Translation.{Translation}
-use Rattle.spk_nums.specs.declared.replies.Reply.{Reply}
 use Rattle.spk_nums.specs.declared.replies.Reply.TheVariants as reply
-use Rattle.kernel_rules.specs.State.{Holds, Object, Blank, Table, Leaf, Pages, Pleaf, Comp, Thread, Tcap, Frame, Untyped, User, Kernel}
-use Rattle.kernel_rules.specs.State.{Grace, Thing, FrameOf, CompFields, Core, State, put, with_frame, with_core, with_grace, comp_of}
-use Rattle.kernel_rules.specs.Start.{no_grace}
-use Rattle.kernel_rules.specs.References.{refs, frame_names}
-use Rattle.kernel_rules.specs.Access.{to_use, Named, Under, found, only, held_in}
-use Rattle.kernel_rules.specs.GracePeriods.{same_thing, flushed}
-use Rattle.kernel_rules.specs.Rules.{Change, Cause, Found, named, refusal_of, fills, frames_of}
-use Rattle.kernel_rules.specs.CapabilityCalls.{outside, has_frame}
-use Rattle.kernel_rules.specs.MemoryCalls.{is_untyped, is_user, holds_nothing, is_empty_object, is_empty, not_retyped, retypes, retype_rule}
-use Rattle.kernel_rules.specs.MemoryCalls.{map_rule, unmap_rule, translation_of, caching, caches, touch_by, touch_rule, flush_rule}
-use Rattle.kernel_rules.specs.Fitting.{IsGood, EndsWithin}
+use Rattle.kernel_rules.specs.State.{Object, Blank, Table, Leaf, Pages, Pleaf, Comp, Thread, Tcap, Frame, Untyped, User, Kernel}
+use Rattle.kernel_rules.specs.State.{CompFields, State, comp_of}
+use Rattle.kernel_rules.specs.Access.{to_use, found, only, held_in}
+use Rattle.kernel_rules.specs.Rules.{Found, named, refusal_of}
+use Rattle.kernel_rules.specs.CapabilityCalls.{outside}
+use Rattle.kernel_rules.specs.MemoryCalls.{is_untyped, is_user, holds_nothing, is_empty_object, is_empty, retype_rule}
+use Rattle.kernel_rules.specs.MemoryCalls.{map_rule, unmap_rule, translation_of, touch_by, touch_rule, flush_rule}
+use Rattle.kernel_rules.specs.Fitting.{EndsWithin}
 use Rattle.kernel_rules.specs.Relies.{is_node}
 use Rattle.kernel_invariant.proofs.Sound.{only_is}
 use Rattle.kernel_invariant.proofs.Facts.{named_good, named_fit, when_not, not_not}
-use Rattle.seq_state.specs.Representation.{IsThing, SameGrace, SameState}
-use Rattle.seq_state.proofs.Same.{same_by, same_then, same_place, same_frame, same_core, same_grace_by, same_refs}
-use Rattle.same_changes.specs.Same.{SameChange}
+use Rattle.seq_state.proofs.Same.{same_refs}
 use Rattle.same_changes.proofs.Reaching.{Twins, pages_node, pages_good, core_same, comp_same}
-use Rattle.same_changes.proofs.Alike.{SameCauses, SameRule}
-use Rattle.same_changes.proofs.CapabilityRules.{frame_test, removes_same}
+use Rattle.same_changes.proofs.Alike.{SameRule}
+use Rattle.same_changes.proofs.CapabilityRules.{frame_test}
 
-pub named_pages : {t s : State} {o : ℕ → Bool} {c : ℕ} → Twins t s o c → (n : ℕ) (k : Capability) → named s c n (to_use (only kind.Pages)) ≡ Found k
+pub named_pages : {t s : State} {o : ℕ → Bool} {c : ℕ} → Twins t s o c → (n : ℕ) (k : Capability)
+    → named s c n (to_use (only kind.Pages)) ≡ Found k
     → IsTrue (is_node (s.frame k.frame))
 named_pages {s = s} {o = o} {c = c} w n k is = pages_node (s.frame k.frame) (named_fit s o c n kind.Pages k w.sound w.is_open is)
 
 -- A frame of a named range is one of the machine's.
-in_range : {t s : State} {o : ℕ → Bool} {c : ℕ} → Twins t s o c → (n : ℕ) (k : Capability) (f : ℕ) → named s c n (to_use (only kind.Range)) ≡ Found k
+in_range : {t s : State} {o : ℕ → Bool} {c : ℕ} → Twins t s o c → (n : ℕ) (k : Capability) (f : ℕ)
+    → named s c n (to_use (only kind.Range)) ≡ Found k
     → refusal_of s c (outside (found k) f) ≡ None → f < s.limits.frames
 in_range {s = s} {o = o} {c = c} w n k f is calm =
     let good = named_good s o c n (to_use (only kind.Range)) k w.sound w.is_open is in
@@ -68,38 +64,17 @@ nothing_same {t} {s} w f below = ap not (any_same (λ i. is_some (held_in (t.pla
 object_empty_same : {t s : State} {o : ℕ → Bool} {c : ℕ} → Twins t s o c → (f : ℕ) (x : Object) → f < s.limits.frames
     → is_empty_object t f x ≡ is_empty_object s f x
 object_empty_same w f Blank below = refl
-object_empty_same w f (Comp k) below = refl
-object_empty_same w f (Thread k) below = refl
-object_empty_same w f (Tcap q) below = refl
 object_empty_same w f Table below = nothing_same w f below
 object_empty_same w f Leaf below = nothing_same w f below
 object_empty_same w f Pages below = nothing_same w f below
 object_empty_same w f Pleaf below = nothing_same w f below
+object_empty_same w f _ below = refl
 
 pub empty_same : {t s : State} {o : ℕ → Bool} {c : ℕ} → Twins t s o c → (f : ℕ) (x : Frame) → f < s.limits.frames
     → is_empty t f x ≡ is_empty s f x
 empty_same w f Untyped below = refl
 empty_same w f User below = refl
 empty_same w f (Kernel x) below = object_empty_same w f x below
-
-emptied_same : (t s : State) (f : ℕ) → SameState t s
-    → SameState (with_grace (with_frame t f Untyped) (λ x. if same_thing x (FrameOf f) then no_grace else t.grace x))
-    (with_grace (with_frame s f Untyped) (λ x. if same_thing x (FrameOf f) then no_grace else s.grace x))
-emptied_same t s f e =
-    let frames = same_frame t s f Untyped e in
-    record {
-      limits = e.limits;
-      place = e.place;
-      frame = frames.frame;
-      number = e.number;
-      core = e.core;
-      grace = λ x is. by_thing (same_thing x (FrameOf f)) x (e.grace x is);
-    }
-  where
-    by_thing : (b : Bool) (x : Thing) → SameGrace s.limits.cores (t.grace x) (s.grace x)
-        → SameGrace s.limits.cores (if b then no_grace else t.grace x) (if b then no_grace else s.grace x)
-    by_thing true x same = same_grace_by s.limits.cores no_grace no_grace refl
-    by_thing false x same = same
 
 pub retype_same : {t s : State} {o : ℕ → Bool} {c : ℕ} → Twins t s o c → (r f : ℕ) (k : FrameKind)
     → SameRule s c (retype_rule t r f k) (retype_rule s r f k)
@@ -125,10 +100,7 @@ retype_same {t} {s} {o} {c} w r f frame_kind.Untyped = (
             ),
           ),
     ),
-    λ none.
-        let below = in_range w r range f is (Rattle.kernel_invariant.proofs.Facts.none_parts (refusal_of s c (outside (found range) f))
-        (Rattle.kernel_rules.specs.Rules.first_cause s c (not_retyped s f frame_kind.Untyped)) none).0 in
-        record { value = refl; next = emptied_same t s f w.same; begins = ap (λ x. frames_of (frame_names x)) (w.same.frame f below) },
+    λ none. (refl, refl),
   ),
 )
 retype_same {t} {s} w r f frame_kind.User = (
@@ -136,7 +108,7 @@ retype_same {t} {s} w r f frame_kind.User = (
   refl,
   λ range is. (
     ((refl, λ on. refl), λ inside. ((frame_test w f (λ x. not (is_untyped x)), λ on. refl), λ calm. tt)),
-    λ none. record { value = refl; next = same_frame t s f User w.same; begins = refl },
+    λ none. (refl, refl),
   ),
 )
 retype_same {t} {s} w r f frame_kind.Kernel = (
@@ -144,7 +116,7 @@ retype_same {t} {s} w r f frame_kind.Kernel = (
   refl,
   λ range is. (
     ((refl, λ on. refl), λ inside. ((frame_test w f (λ x. not (is_untyped x)), λ on. refl), λ calm. tt)),
-    λ none. record { value = refl; next = same_frame t s f (Kernel Blank) w.same; begins = refl },
+    λ none. (refl, refl),
   ),
 )
 
@@ -163,45 +135,28 @@ map_same {t} {s} w p v r f flags = (
       (λ on. named_pages w p pages is_pages),
       λ at is_free. (
         ((refl, λ on. refl), λ inside. ((frame_test w f (λ x. not (is_user x)), λ on. refl), λ calm. tt)),
-        λ none. record {
-          value = refl;
-          next = same_place t s at.node at.index (Holds (cap_of kind.Page f flags.0))
-              w.same;
-          begins = refl;
-        },
+        λ none. (refl, refl),
       ),
     ),
   ),
 )
 
-pub unmap_same : {t s : State} {o : ℕ → Bool} {c : ℕ} → Twins t s o c → (p v : ℕ) → SameRule s c (unmap_rule t p v) (unmap_rule s p v)
+pub unmap_same : {t s : State} {o : ℕ → Bool} {c : ℕ} → Twins t s o c → (p v : ℕ) → SameRule s c (unmap_rule p v) (unmap_rule p v)
 unmap_same w p v = (
   refl,
   refl,
   λ pages is_pages.
-      (refl, (λ on. named_pages w p pages is_pages), λ at mapping is_held. (tt, λ none. removes_same w at mapping)),
+      (refl, (λ on. named_pages w p pages is_pages), λ at mapping is_held. (tt, λ none. (refl, refl))),
 )
 
 touched_same : {t s : State} {o : ℕ → Bool} {c : ℕ} → Twins t s o c → (v : ℕ) (tr : Option Translation)
-    → SameRule s c (touch_by t c (comp_of s c).pages v tr) (touch_by s c (comp_of s c).pages v tr)
-touched_same w v (Some tr) = (((refl, λ on. refl), λ calm. tt), λ none. record { value = refl; next = w.same; begins = refl })
+    → SameRule s c (touch_by (comp_of s c).pages v tr) (touch_by (comp_of s c).pages v tr)
+touched_same w v (Some tr) = (((refl, λ on. refl), λ calm. tt), λ none. (refl, refl))
 touched_same {t} {s} {o} {c} w v None = (
   refl,
   refl,
   pages_good w,
-  λ mapping is. (
-    tt,
-    λ none.
-        let tr : Translation =
-        record { pages = (comp_of s c).pages; page = v; frame = mapping.frame; flags = record { 0 = mapping.arg } } in
-        record {
-          value = refl;
-          next = same_then _ _ _
-              (same_by _ _ (ap (λ (k : Core). with_core t c (record k { cached = caching k.cached tr })) (core_same w)))
-              (same_core t s c (record (s.core c) { cached = caching (s.core c).cached tr }) w.same);
-          begins = refl;
-        },
-  ),
+  λ mapping is. (tt, λ none. (refl, refl)),
 )
 
 pub touch_same : {t s : State} {o : ℕ → Bool} {c : ℕ} → Twins t s o c → (v : ℕ) → SameRule s c (touch_rule t c v) (touch_rule s c v)
@@ -209,26 +164,8 @@ touch_same {t} {s} {o} {c} w v =
     let pages : (comp_of t c).pages ≡ (comp_of s c).pages = ap (λ (k : CompFields). k.pages) (comp_same w) in
     let tr : translation_of (t.core c).cached (comp_of t c).pages v ≡ translation_of (s.core c).cached (comp_of s c).pages v = λ i.
     translation_of (core_same w i).cached (pages i) v in
-    subst (λ r. SameRule s c r (touch_rule s c v)) (λ i. touch_by t c (sym pages i) v (sym tr i))
+    subst (λ r. SameRule s c r (touch_rule s c v)) (λ i. touch_by (sym pages i) v (sym tr i))
     (touched_same w v (translation_of (s.core c).cached (comp_of s c).pages v))
 
-flushed_same : {t s : State} {o : ℕ → Bool} {c : ℕ} → Twins t s o c → SameState (flushed t c) (flushed s c)
-flushed_same {t} {s} {o} {c} w =
-    let cores = same_then _ _ _ (same_by _ _ (ap (λ (k : Core). with_core t c (record k { cached = [] })) (core_same w)))
-    (same_core t s c (record (s.core c) { cached = [] }) w.same) in
-    record {
-      limits = w.same.limits;
-      place = w.same.place;
-      frame = w.same.frame;
-      number = w.same.number;
-      core = cores.core;
-      grace = λ x is. let g = w.same.grace x is in record {
-        waits = g.waits;
-        not_passed = g.not_passed;
-        unflushed = λ d less. ap (λ b. if d == c then false else b) (g.unflushed d less);
-        flush_unknown = g.flush_unknown;
-      };
-    }
-
-pub flush_same : {t s : State} {o : ℕ → Bool} {c : ℕ} → Twins t s o c → SameRule s c (flush_rule t c) (flush_rule s c)
-flush_same w = (tt, λ none. record { value = refl; next = flushed_same w; begins = refl })
+pub flush_same : {t s : State} {o : ℕ → Bool} {c : ℕ} → Twins t s o c → SameRule s c flush_rule flush_rule
+flush_same w = (tt, λ none. (refl, refl))

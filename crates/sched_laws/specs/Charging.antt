@@ -1,7 +1,7 @@
 -- What the turns of a schedule charge, and to which temporal capability.
 use Rattle.std.specs.Prelude.{◌≡◌, ◌≢◌, ℕ, ◌+◌, List, [], ◌∷◌, Some}
 use Rattle.kernel_rules.specs.State.{State}
-use Rattle.kernel_rules.specs.TimeCalls.{tcap_at}
+use Rattle.kernel_rules.specs.Edits.{tcap_at}
 use Rattle.sched_rules.specs.declared.tasks.Rule.{Rule}
 use Rattle.sched_rules.specs.declared.tasks.Choice.{Choice}
 use Rattle.sched_rules.specs.declared.turns.Turn.{Turn}
