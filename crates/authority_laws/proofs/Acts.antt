@@ -35,7 +35,7 @@ use Rattle.state_laws.specs.kernel_rules.specs.CallRelation.{rule_of}
 use Rattle.state_laws.specs.kernel_rules.specs.Edits.{Switch, Cache, Flush, Charge, Move, Merge, begins_in}
 use Rattle.state_laws.specs.kernel_invariant.proofs.Sound.{only_is}
 use Rattle.state_laws.specs.kernel_invariant.proofs.SoundCalls.{IsOpen, blank_by, untyped_by}
-use Rattle.state_laws.specs.kernel_invariant.proofs.Facts.{Suits, suits, none_some, some_inj, some_none, vacant_facts}
+use Rattle.state_laws.specs.kernel_invariant.proofs.Facts.{EditsFrom, Suits, suits, none_some, some_inj, some_none, vacant_facts}
 use Rattle.state_laws.specs.kernel_invariant.proofs.Facts.{held_facts, none_parts, when_not, not_not, first_two}
 use Rattle.state_laws.specs.kernel_invariant.proofs.Edited.{is_bare, Calm}
 use Rattle.state_laws.specs.found_stays.proofs.Stays.{name_parts}

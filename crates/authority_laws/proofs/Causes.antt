@@ -6,6 +6,7 @@ use Rattle.std.specs.List.{list_any}
 use Rattle.state_laws.specs.spk_nums.specs.declared.kinds.Kind.{Kind}
 use Rattle.state_laws.specs.spk_nums.specs.declared.kinds.Kind.TheVariants as kind
 use Rattle.state_laws.specs.spk_nums.specs.declared.calls.Call.{Call}
+use Rattle.state_laws.specs.spk_nums.specs.declared.replies.Value.{Value}
 use Rattle.state_laws.specs.spk_nums.specs.declared.replies.Reply.{Reply}
 use Rattle.state_laws.specs.spk_nums.specs.declared.replies.Reply.TheVariants as reply
 use Rattle.state_laws.specs.kernel_rules.specs.State.{Place, Holds, Quiescing, Thread, Frame, Untyped, Kernel, Liveness, Unused, Live, Dead}
@@ -15,7 +16,7 @@ use Rattle.state_laws.specs.kernel_rules.specs.References.{place_names, frame_na
 use Rattle.state_laws.specs.kernel_rules.specs.Access.{only, to_use}
 use Rattle.state_laws.specs.kernel_rules.specs.Fitting.{fits}
 use Rattle.state_laws.specs.kernel_rules.specs.GracePeriods.{same_thing, begun}
-use Rattle.state_laws.specs.kernel_rules.specs.Rules.{Change, Judged, Refused, Found}
+use Rattle.state_laws.specs.kernel_rules.specs.Rules.{Change, does, Judged, Refused, Found}
 use Rattle.state_laws.specs.kernel_rules.specs.Edits.{frames_of, with_thread, Edit, Remove, Untype, Deaden, Pop, Switch, edited}
 use Rattle.state_laws.specs.kernel_rules.specs.CapabilityCalls.{is_live}
 use Rattle.state_laws.specs.kernel_rules.specs.Edits.{after_edits, begins_in, begins_all}
@@ -29,7 +30,7 @@ use Rattle.state_laws.specs.kernel_invariant.proofs.Sound.{put_all, only_is}
 use Rattle.state_laws.specs.kernel_invariant.proofs.SoundRemovals.{frames_no_place}
 use Rattle.state_laws.specs.kernel_invariant.proofs.SoundCalls.{IsOpen}
 use Rattle.state_laws.specs.kernel_invariant.proofs.SoundRuns.{opened, open_is}
-use Rattle.state_laws.specs.kernel_invariant.proofs.Facts.{outcome_from, usable_good, none_some}
+use Rattle.state_laws.specs.kernel_invariant.proofs.Facts.{outcome_from, edits_map, usable_good, none_some}
 use Rattle.state_laws.specs.kernel_invariant.proofs.Edited.{Calm}
 use Rattle.state_laws.proofs.Threads.{threads_run}
 use Rattle.authority_laws.specs.Authority.{Part, PlaceIs, FrameIs, NumberIs, CoreIs}

@@ -7,12 +7,12 @@ use Rattle.state_laws.specs.spk_nums.specs.declared.replies.Reply.{Reply}
 use Rattle.state_laws.specs.spk_nums.specs.declared.replies.Reply.TheVariants as reply
 use Rattle.state_laws.specs.kernel_rules.specs.State.{Core, Grace, Thing, State, with_core, with_grace}
 use Rattle.state_laws.specs.kernel_rules.specs.GracePeriods.{begun}
-use Rattle.state_laws.specs.kernel_rules.specs.Rules.{Change, Judged, Refused, Found, IsFoundAnd}
+use Rattle.state_laws.specs.kernel_rules.specs.Rules.{Change, does, Judged, Refused, Found, IsFoundAnd}
 use Rattle.state_laws.specs.kernel_rules.specs.CallRelation.{MayReply, rule_of, change_of, changed, owed_by, state_by}
 use Rattle.state_laws.specs.kernel_rules.specs.Runs.{is_open, after}
 use Rattle.state_laws.specs.kernel_rules.proofs.Changes.{IfFound}
 use Rattle.state_laws.specs.kernel_rules.specs.Edits.{Edit, after_edits, begins_all}
-use Rattle.state_laws.specs.kernel_invariant.proofs.Facts.{outcome_from}
+use Rattle.state_laws.specs.kernel_invariant.proofs.Facts.{outcome_from, edits_map}
 use Rattle.state_laws.specs.kernel_invariant.proofs.SoundCalls.{IsOpen}
 use Rattle.state_laws.specs.kernel_invariant.proofs.SoundRuns.{opened, open_is}
 use Rattle.state_laws.specs.kernel_invariant.proofs.Edited.{Calm}

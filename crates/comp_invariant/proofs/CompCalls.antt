@@ -29,6 +29,7 @@ use Rattle.scan_invariant.specs.count_invariant.proofs.CompCounts.{IsCompCall, c
 use Rattle.scan_invariant.specs.place_invariant.proofs.CompMakes.{IsCompMake, comp_make, comp_rest, new_comp, comp_dues_apart}
 use Rattle.scan_invariant.specs.place_invariant.proofs.Outside.{none_left_of}
 use Rattle.scan_invariant.specs.place_invariant.proofs.Vacancy.{in_leaf}
+use Rattle.state_laws.specs.kernel_rules.specs.Start.{plain_cap}
 use Rattle.state_laws.specs.kernel_rules.specs.Edits.{Component as component_edit, Fill as fill_edit}
 use Rattle.state_laws.specs.spk_nums.specs.declared.replies.Value.TheVariants.{Nothing as no_value}
 

@@ -77,6 +77,7 @@ use Rattle.comp_invariant.proofs.CompStores.{held_fill, at_fill, frame_marked, f
 use Rattle.comp_invariant.proofs.CompStores.{number_stands, put_of_call, put_lost, close_good, store_good}
 use Rattle.comp_invariant.proofs.CompMarks.{load_good, mark_good}
 use Rattle.scan_invariant.specs.frame_words.proofs.LiveLemmas as lives_words
+use Rattle.state_laws.specs.kernel_rules.specs.Start.{plain_cap}
 use Rattle.state_laws.specs.kernel_rules.specs.Edits.{Component as component_edit, Fill as fill_edit}
 use Rattle.state_laws.specs.kernel_rules.specs.Rules.{does}
 

@@ -24,6 +24,7 @@ use Rattle.trace_laws.specs.kernel_rules.specs.State.{Place, Free, Holds, Quiesc
 use Rattle.trace_laws.specs.kernel_rules.specs.State.{Kernel, FrameOf, State, put, with_place, with_frame, with_number, comp_of}
 use Rattle.trace_laws.specs.kernel_rules.specs.State.{thread_in, Live}
 use Rattle.trace_laws.specs.kernel_rules.specs.References.{named_by, core_names, times, refs}
+use Rattle.trace_laws.specs.kernel_rules.specs.Start.{plain_cap}
 use Rattle.trace_laws.specs.kernel_rules.specs.Access.{Want, to_use, Slot, Named, found, Under, InRoot, reached, only, root}
 use Rattle.trace_laws.specs.spk_nums.specs.declared.replies.Value.TheVariants.{Nothing}
 use Rattle.trace_laws.specs.kernel_rules.specs.Rules.{Change, does, Judged, Refused, Found, named, vacant, held}

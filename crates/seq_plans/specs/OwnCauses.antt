@@ -4,6 +4,7 @@ use Rattle.spk_nums.specs.declared.kinds.Kind.TheVariants as kind
 use Rattle.spk_nums.specs.declared.kinds.FrameKind.TheVariants as frame_kind
 use Rattle.spk_nums.specs.declared.calls.Call.{Call}
 use Rattle.spk_nums.specs.declared.calls.Call.TheVariants.{Retype}
+use Rattle.spk_nums.specs.declared.replies.Value.TheVariants.{Nothing}
 use Rattle.kernel_rules.specs.State.{State}
 use Rattle.kernel_rules.specs.Laws.{IsRefusal}
 use Rattle.kernel_rules.specs.Access.{only, to_use}

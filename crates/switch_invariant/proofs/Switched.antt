@@ -27,7 +27,7 @@ use Rattle.thread_invariant.specs.spk_nums.specs.declared.kinds.Kind.TheVariants
 use Rattle.thread_invariant.specs.spk_nums.specs.declared.replies.Reply.TheVariants as reply
 use Rattle.thread_invariant.specs.spk_nums.specs.declared.replies.Value.TheVariants as value
 use Rattle.thread_invariant.specs.tcap_words.proofs.ThreadLemmas as words
-use Rattle.thread_invariant.specs.kernel_rules.specs.Edits.{switched, Switch as switch_edit}
+use Rattle.thread_invariant.specs.kernel_rules.specs.Edits.{edited, Switch as switch_edit}
 use Rattle.thread_invariant.specs.kernel_rules.specs.Laws.{released}
 use Rattle.thread_invariant.specs.kernel_rules.specs.GracePeriods.{begun}
 use Rattle.thread_invariant.specs.kernel_rules.proofs.Changes.{IfFound}
