@@ -10,7 +10,7 @@ use Rattle.spk_nums.specs.declared.kinds.FrameKind.TheVariants as frame_kind
 use Rattle.spk_nums.specs.declared.kinds.PageFlags.{PageFlags}
 use Rattle.spk_nums.specs.declared.translations.Translation.{Translation}
 use Rattle.spk_nums.specs.declared.replies.Reply.TheVariants as reply
-use Rattle.kernel_rules.specs.State.{Object, Blank, Table, Leaf, Pages, Pleaf, Comp, Thread, Tcap, Frame, Untyped, User, Kernel}
+use Rattle.kernel_rules.specs.State.{Object, Blank, Table, Leaf, Pages, Pleaf, Frame, Untyped, User, Kernel}
 use Rattle.kernel_rules.specs.State.{CompFields, State, comp_of}
 use Rattle.kernel_rules.specs.Access.{to_use, found, only, held_in}
 use Rattle.kernel_rules.specs.Rules.{Found, named, refusal_of}

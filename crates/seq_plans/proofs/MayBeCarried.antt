@@ -16,7 +16,7 @@ use Rattle.spk_nums.specs.declared.calls.Call.TheVariants.{Map, Unmap, Touch, Fl
 use Rattle.spk_nums.specs.declared.calls.Call.TheVariants.{Ret, Switch, Tick, Transfer, Delegate, Test}
 use Rattle.spk_nums.specs.declared.replies.Reply.{Reply}
 use Rattle.spk_nums.specs.declared.replies.Reply.TheVariants as reply
-use Rattle.kernel_rules.specs.State.{Blank, Table, Leaf, Pages, Pleaf, Comp, Thread, Tcap, Frame, Untyped, User, Kernel}
+use Rattle.kernel_rules.specs.State.{Table, Leaf, Pages, Pleaf, Comp, Thread, Tcap, Frame, Untyped, User, Kernel}
 use Rattle.kernel_rules.specs.State.{State, comp_in, comp_of, thread_in, thread_of}
 use Rattle.kernel_rules.specs.Access.{Slot, Named, found, only, to_use}
 use Rattle.kernel_rules.specs.Rules.{Cause, Found, named, mapped, first_of, refusal_of, first_cause}

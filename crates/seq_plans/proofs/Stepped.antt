@@ -5,7 +5,7 @@ use Rattle.spk_nums.specs.declared.replies.Value.{Value}
 use Rattle.spk_nums.specs.declared.replies.Reply.{Reply}
 use Rattle.spk_nums.specs.declared.replies.Reply.TheVariants as reply
 use Rattle.kernel_rules.specs.State.{State}
-use Rattle.kernel_rules.specs.Rules.{does, Cause, Rule, Name as name_rule, Vacant, Held as held_rule, Mapped, Does}
+use Rattle.kernel_rules.specs.Rules.{does, Cause, Rule, Name as name_rule, Does}
 use Rattle.kernel_rules.specs.Rules.{Change, Judged, Refused, Found, unless, first_cause, outcome}
 use Rattle.kernel_rules.specs.CallRelation.{rule_of, change_of}
 use Rattle.call_plans.specs.declared.plans.Plan.{Plan}

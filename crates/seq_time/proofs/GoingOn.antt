@@ -1,7 +1,7 @@
 -- Going on as another thread: the two frames are written from what stood there before.
 use Rattle.std.proofs.Common.{◌≡◌, ℕ, ◌==◌, Bool, true, false, if◌then◌else◌, refl, sym, ap, ◌∙◌, Some, None}
 use Rattle.std.proofs.lemmas.Bool.{eqb-true}
-use Rattle.kernel_rules.specs.State.{put, Object, Blank, Table, Leaf, Pages, Pleaf, Comp, Thread, Tcap, Frame}
+use Rattle.kernel_rules.specs.State.{put, Object, Blank, Thread, Frame}
 use Rattle.kernel_rules.specs.State.{Untyped, User, Kernel, Core, State, with_frame, with_core, thread_in}
 use Rattle.kernel_rules.specs.GracePeriods.{begun}
 use Rattle.kernel_rules.specs.Edits.{switched}
