@@ -108,7 +108,7 @@
 extern "C" {
 #endif
 
-#define SPECK_VERSION 100 /* 10,000 for the first number, 100 for the second, 1 for the third; docs/CHANGES.md has what each changed */
+#define SPECK_VERSION 200 /* 10,000 for the first number, 100 for the second, 1 for the third; docs/CHANGES.md has what each changed */
 
 struct speck_machine { uint64_t own[4]; };
 struct speck_port { uint64_t own[4]; };

@@ -45,7 +45,7 @@ use Rattle.time_laws.specs.step_ways.proofs.Loads.{call_is, is_active}
 use Rattle.time_laws.specs.flight.specs.Made.{cores_after, stepping_core, turned, IsMade}
 use Rattle.time_laws.specs.flight.specs.Made as made_of
 use Rattle.time_laws.specs.flight.proofs.Made.{made_stands}
-use Rattle.flight_laws.specs.Counts.{Untypes}
+use Rattle.time_laws.specs.history_laws.specs.Counts.{Untypes}
 use Rattle.flight_laws.proofs.CountSteps as steps
 use Rattle.flight_laws.proofs.CountSteps.{Acquiring}
 use Rattle.flight_laws.proofs.CountHolds.{kept, no_entry, no_return, pinned_say, raw_other}

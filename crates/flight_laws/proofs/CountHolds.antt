@@ -29,7 +29,7 @@ use Rattle.time_laws.specs.core_invariant.specs.Invariant.{Invariant}
 use Rattle.time_laws.specs.core_invariant.proofs.Markers.{marker_inside}
 use Rattle.time_laws.specs.flight.specs.Made.{cores_after, IsMade}
 use Rattle.time_laws.specs.flight.proofs.Made.{made_stands}
-use Rattle.flight_laws.specs.Counts.{Untypes, FrozenSay}
+use Rattle.time_laws.specs.history_laws.specs.Counts.{Untypes, FrozenSay}
 use Rattle.flight_laws.proofs.CountSteps.{Takes, IsOwnCount, IsSweptCount, LeavesCount, count_step}
 
 none_some : (d : ℕ) → None ≡ Some d → ⊥

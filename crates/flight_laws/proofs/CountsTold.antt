@@ -30,7 +30,7 @@ use Rattle.time_laws.specs.core_invariant.proofs.Sounds.{limits_of}
 use Rattle.time_laws.specs.kept_facts.proofs.Few.{refs_residue}
 use Rattle.time_laws.specs.flight.specs.Made.{core_after, cores_after, stepping_core, IsMade}
 use Rattle.time_laws.specs.flight.proofs.Made.{made_stands}
-use Rattle.flight_laws.specs.Counts.{changed_by, is_carried_out, count_then, sum_then, will_show, CountsTell}
+use Rattle.time_laws.specs.history_laws.specs.Counts.{changed_by, is_carried_out, count_then, sum_then, will_show, CountsTell}
 use Rattle.flight_laws.proofs.CountHolds.{before_is, entered_is, frozen_say, held_before, kept, phase_is, raw_other}
 use Rattle.flight_laws.proofs.AcquiredCounts.{count_stays, decides_told, entry, has_count, settles_to, told}
 use Rattle.flight_laws.proofs.FrozenCounts.{cleared_if}

@@ -29,8 +29,8 @@ use Rattle.time_laws.specs.kernel_history.proofs.Steps.{own_read-other}
 use Rattle.time_laws.specs.state_laws.proofs.Flushes.{frame_flushed}
 use Rattle.time_laws.specs.state_laws.proofs.Relied.{own_frame, own_relies}
 use Rattle.time_laws.specs.kept_facts.proofs.CountSums.{counter_all}
-use Rattle.flight_laws.specs.Frames.{MakesUntyped, UntypedFramesAreUnused, CountedFramesStay, GoesOn, IsLooked, LookedNodesStay}
-use Rattle.flight_laws.specs.Frames.{asks_untyped, ReadsNode, ReadNodesStay}
+use Rattle.time_laws.specs.history_laws.specs.Frames.{MakesUntyped, UntypedFramesAreUnused, CountedFramesStay, GoesOn, IsLooked, LookedNodesStay}
+use Rattle.time_laws.specs.history_laws.specs.Frames.{asks_untyped, ReadsNode, ReadNodesStay}
 use Rattle.time_laws.specs.flight.specs.Made.{turned, cores_after, IsMade}
 use Rattle.time_laws.specs.flight.proofs.Made.{made_stands, made_counted}
 use Rattle.flight_laws.proofs.Places.{IsNoEntry, IsBeside, beside_other, beside_own, beside_no_node}

@@ -69,7 +69,7 @@ use Rattle.time_laws.specs.step_ways.proofs.Loads.{call_is, is_active}
 use Rattle.time_laws.specs.flight.specs.Made.{cores_after, stepping_core, IsMade}
 use Rattle.time_laws.specs.flight.specs.Made as made_of
 use Rattle.time_laws.specs.flight.proofs.Made.{made_stands}
-use Rattle.flight_laws.specs.Counts.{is_carried_out}
+use Rattle.time_laws.specs.history_laws.specs.Counts.{is_carried_out}
 use Rattle.flight_laws.proofs.CountSteps as steps
 use Rattle.flight_laws.proofs.CountSteps.{Freezing}
 use Rattle.flight_laws.proofs.CountHolds.{kept, no_entry, raw_other}

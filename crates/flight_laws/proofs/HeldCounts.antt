@@ -52,7 +52,7 @@ use Rattle.time_laws.specs.step_ways.proofs.Counting.{first_marked, first_stands
 use Rattle.time_laws.specs.step_ways.proofs.Loads.{call_is}
 use Rattle.time_laws.specs.step_ways.proofs.Writes.{same_marks}
 use Rattle.time_laws.specs.count_invariant.proofs.ActHolds.{SparesAt, SparesSwept, act_count}
-use Rattle.flight_laws.specs.Counts.{Untypes}
+use Rattle.time_laws.specs.history_laws.specs.Counts.{Untypes}
 use Rattle.flight_laws.proofs.CountSteps.{UntypesFrame, untypes_frame}
 
 -- A count is one of those that a call has acquired.

@@ -4,11 +4,11 @@ use Rattle.time_laws.specs.kernel_history.specs.Moments.{WordsSayAlong}
 use Rattle.time_laws.specs.flight.specs.Made.{cores_after, IsMade}
 use Rattle.time_laws.specs.flight.proofs.Final.{says_words}
 use Rattle.time_laws.specs.flight.proofs.Made.{made_stands}
-use Rattle.flight_laws.specs.Moments.{AtEachMoment, AtEachStep, OfEachStretch}
+use Rattle.time_laws.specs.history_laws.specs.Moments.{AtEachMoment, AtEachStep, OfEachStretch}
 use Rattle.flight_laws.specs.Histories.{MadeHistories}
-use Rattle.flight_laws.specs.Places.{ScannedCores}
-use Rattle.flight_laws.specs.Lives.{KilledStop}
-use Rattle.flight_laws.specs.Invocations.{EntersNoneKilled}
+use Rattle.time_laws.specs.history_laws.specs.Places.{ScannedCores}
+use Rattle.time_laws.specs.history_laws.specs.Lives.{KilledStop}
+use Rattle.time_laws.specs.history_laws.specs.Invocations.{EntersNoneKilled}
 use Rattle.flight_laws.proofs.Places.{places_found, scanned_cores}
 use Rattle.flight_laws.proofs.Frames.{counted_frames_stay, looked_nodes_stay, read_nodes_stay, untyped_unused}
 use Rattle.flight_laws.proofs.CountHolds.{frozen_say}

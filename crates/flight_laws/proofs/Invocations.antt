@@ -12,7 +12,7 @@ use Rattle.time_laws.specs.kernel_rules.specs.Rules.{RuleAnswers, does}
 use Rattle.time_laws.specs.kernel_rules.specs.InvocationCalls.{call_rule, not_live}
 use Rattle.time_laws.specs.state_laws.proofs.Lives.{dead_stays}
 use Rattle.time_laws.specs.comp_invariant.proofs.LaterEvents.{Later, later_events}
-use Rattle.flight_laws.specs.Invocations.{number_through, EntersTheLiving, EntersNoneKilled}
+use Rattle.time_laws.specs.history_laws.specs.Invocations.{number_through, EntersTheLiving, EntersNoneKilled}
 use Rattle.time_laws.specs.flight.specs.Made.{IsMade, cores_after}
 use Rattle.time_laws.specs.flight.proofs.Made.{made_stands}
 use Rattle.time_laws.specs.kernel_rules.specs.Edits.{Push as push_edit}

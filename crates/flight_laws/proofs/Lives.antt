@@ -13,7 +13,7 @@ use Rattle.time_laws.specs.state_laws.proofs.Lives.{dead_stays}
 use Rattle.time_laws.specs.state_laws.proofs.Killed.{killed_stop as killed_in_runs}
 use Rattle.time_laws.specs.comp_invariant.proofs.LaterEvents.{Later, entry_later, later_events}
 use Rattle.time_laws.specs.live_invariant.proofs.Numbers.{number_is}
-use Rattle.flight_laws.specs.Lives.{DeadForGood, KilledStop}
+use Rattle.time_laws.specs.history_laws.specs.Lives.{DeadForGood, KilledStop}
 use Rattle.time_laws.specs.flight.specs.Made.{cores_after, IsMade}
 use Rattle.time_laws.specs.flight.proofs.Made.{made_stands}
 

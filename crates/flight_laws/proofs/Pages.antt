@@ -20,7 +20,7 @@ use Rattle.time_laws.specs.kernel_history.specs.Events.{with_decision}
 use Rattle.time_laws.specs.kernel_history.specs.Trace.{Decided}
 use Rattle.time_laws.specs.kernel_history.proofs.Events.{entered_events, before_is, decided_run}
 use Rattle.time_laws.specs.flight.specs.Made.{IsMade}
-use Rattle.flight_laws.specs.Pages.{CachedFramesStay, FlushesNone, CachedTillFlush, TouchesCache}
+use Rattle.time_laws.specs.history_laws.specs.Pages.{CachedFramesStay, FlushesNone, CachedTillFlush, TouchesCache}
 use Rattle.time_laws.specs.flight.proofs.Made.{made_stands}
 
 pub cached_frames_stay : (setup : Setting) → IsSetting setup → (t : Trace) → IsMade setup t → CachedFramesStay setup t

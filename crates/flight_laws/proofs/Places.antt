@@ -69,9 +69,9 @@ use Rattle.time_laws.specs.kept_facts.proofs.Tcaps.{tcap_stays}
 use Rattle.time_laws.specs.step_ways.proofs.Places.{IsMarked, IsUnmarked, place_reads}
 use Rattle.time_laws.specs.count_invariant.proofs.Lookups.{leaf_reached}
 use Rattle.time_laws.specs.place_invariant.proofs.Removals.{holds_place}
-use Rattle.flight_laws.specs.Frames.{IsLooked, is_held}
+use Rattle.time_laws.specs.history_laws.specs.Frames.{IsLooked, is_held}
 use Rattle.time_laws.specs.flight.specs.Made.{turned, MayStep, core_after, cores_after, stepping_core, IsMadeStep, IsMade}
-use Rattle.flight_laws.specs.Places.{MayUse, PlacesFound, ShowsPassed, ScannedCores}
+use Rattle.time_laws.specs.history_laws.specs.Places.{MayUse, PlacesFound, ShowsPassed, ScannedCores}
 use Rattle.time_laws.specs.flight.proofs.Made.{made_stands, made_times}
 use Rattle.time_laws.specs.flight.proofs.Spelling.{moves_are_words}
 use Rattle.flight_laws.proofs.Sweeping.{untyping_in, untyping_of, untyping_now, IsSwept}

@@ -20,10 +20,10 @@ use Rattle.time_laws.specs.call_stages.specs.View.{Core}
 use Rattle.time_laws.specs.call_stages.proofs.Decisions as decisions
 use Rattle.time_laws.specs.core_invariant.specs.Events.{decided_in}
 use Rattle.time_laws.specs.core_invariant.specs.Knows.{CallIs, CoreIs, phase_at}
-use Rattle.time_laws.specs.flight.specs.Made.{turned, MayStep, cores_after, IsMade}
+use Rattle.time_laws.specs.flight.specs.Made.{turned, MayStep, cores_after, IsMade, ready_after}
 use Rattle.time_laws.specs.flight.proofs.CoreFits.{begun_fits}
 use Rattle.time_laws.specs.flight.proofs.Made.{made_stands}
-use Rattle.flight_laws.specs.Ready.{ReadyDecides, UnreadyRefuses}
+use Rattle.time_laws.specs.history_laws.specs.Ready.{ReadyDecides, UnreadyRefuses}
 
 -- What a core tells of a step that led to this.
 decision_told : (k : Took) → IsDecision k → IsSome (decided_in (told_by k))
@@ -82,7 +82,7 @@ module _ (setup : Setting) (setting : IsSetting setup) (t : Trace) (e : Step) (m
   unready_told own (Some a) found r fits unready told =
       refusal_told (took own a found) r (decisions.unready_refuses own a found fits unready) told
 
-  pub ready_decides : ReadyDecides setup t e
+  pub ready_decides : ReadyDecides (ready_after setup) t e
   ready_decides call is_open ready = subst IsSome (sym decides) (by e.enters made.1.may)
     where
       -- a core that is ready is in a call, and begins none
@@ -94,7 +94,7 @@ module _ (setup : Setting) (setting : IsSetting setup) (t : Trace) (e : Step) (m
       by None may = ready_told core.own core.active (told_of (move_of core) e.found) call is.fits.active is.active is_open ready
       by (Some next) may = absurd (begins_none core.active may.between ready)
 
-  pub unready_refuses : UnreadyRefuses setup t e
+  pub unready_refuses : UnreadyRefuses (ready_after setup) t e
   unready_refuses r unready decided = by e.enters made.1.may (sym decides ∙ decided)
     where
       by : (o : Option Call) → MayStep o core → Told o ≡ Some r → IsRefusal r

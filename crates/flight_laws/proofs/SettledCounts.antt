@@ -44,7 +44,7 @@ use Rattle.time_laws.specs.kept_facts.proofs.CountSums.{counter_once, sum_one}
 use Rattle.time_laws.specs.step_ways.proofs.Loads.{call_is}
 use Rattle.time_laws.specs.flight.specs.Made.{core_after, cores_after, stepping_core, IsMade}
 use Rattle.time_laws.specs.flight.proofs.Made.{made_stands}
-use Rattle.flight_laws.specs.Counts.{is_carried_out, has_cleared, Untypes}
+use Rattle.time_laws.specs.history_laws.specs.Counts.{is_carried_out, has_cleared, Untypes}
 use Rattle.flight_laws.proofs.CountHolds.{SparesOwn, entered_is, frozen_say, phase_is, pinned_say}
 use Rattle.flight_laws.proofs.HeldCounts.{NotOk}
 use Rattle.flight_laws.proofs.AcquiredCounts.{HasCount, has_count, settles_to}

@@ -70,8 +70,8 @@ use Rattle.time_laws.specs.frame_words.specs.Residue.{residue}
 use Rattle.time_laws.specs.frame_words.proofs.ResidueLemmas.{past, residue_wrapped, wrapped_fits}
 use Rattle.time_laws.specs.flight.specs.Made.{cores_after, IsMade}
 use Rattle.time_laws.specs.flight.proofs.Made.{made_stands, made_times}
-use Rattle.flight_laws.specs.Counts.{Untypes, has_cleared, is_carried_out}
-use Rattle.flight_laws.specs.Stamps.{drawn_by, newest_then, stamp_then, will_date, StampsTell}
+use Rattle.time_laws.specs.history_laws.specs.Counts.{Untypes, has_cleared, is_carried_out}
+use Rattle.time_laws.specs.history_laws.specs.Stamps.{drawn_by, newest_then, stamp_then, will_date, StampsTell}
 use Rattle.flight_laws.proofs.CountHolds.{before_is, entered_is, frozen_say, kept, no_return, pinned_say}
 use Rattle.flight_laws.proofs.AcquiredCounts.{HasCount, active_now, decides_told, entry, found, has_count, settles_to, told}
 use Rattle.flight_laws.proofs.CountsTold.{holder_below, mark_now, phase_now, settled_open, settled_other, settled_own, showed, showed_own}

@@ -14,12 +14,12 @@ use Rattle.time_laws.specs.kept_facts.proofs.CountSums.{counter_all}
 use Rattle.time_laws.specs.thread_invariant.proofs.EntryMarks.{holder_below}
 use Rattle.time_laws.specs.flight.specs.Made.{cores_after, IsMade}
 use Rattle.time_laws.specs.flight.proofs.Made.{made_stands}
-use Rattle.time_laws.specs.Time.{state_of_decision}
+use Rattle.time_laws.specs.history_laws.specs.Time.{state_of_decision}
 use Rattle.time_laws.proofs.Time.{time_kept, heads_say}
 use Rattle.time_laws.proofs.MarkedHeads.{open_heads_say}
 use Rattle.time_laws.proofs.OwedHeads.{marked_heads_say}
-use Rattle.flight_laws.specs.Counts.{has_cleared, count_then, will_show, sum_then}
-use Rattle.flight_laws.specs.Sums.{HoldsOf, HoldsBy, HeadHolds, TimeSums, IsFrozenBy, FrozenSums}
+use Rattle.time_laws.specs.history_laws.specs.Counts.{has_cleared, count_then, will_show, sum_then}
+use Rattle.time_laws.specs.history_laws.specs.Sums.{HoldsOf, HoldsBy, HeadHolds, TimeSums, IsFrozenBy, FrozenSums}
 use Rattle.flight_laws.proofs.CountsTold.{counts_tell}
 
 -- ---- time

@@ -11,7 +11,7 @@ use Rattle.time_laws.proofs.Common.{told_in}
 use Rattle.time_laws.proofs.Common.{landed, stage_move, Core, ActiveCall, Stage, Enter, Living, Undecided, Decided, Leave, holds_untyping}
 use Rattle.time_laws.proofs.Common.{Holding}
 use Rattle.time_laws.proofs.Common.{holds_counts, settled, settled_by, Invariant, held_by, holds_act, holds_at, holds_in, CallIs, KnowsAt}
-use Rattle.time_laws.proofs.Common.{phase_at, untypes, KnowsSweep, KnowsUntypingAt, UntypesBy}
+use Rattle.time_laws.proofs.Common.{phase_at, KnowsSweep, KnowsUntypingAt, UntypesBy}
 use Rattle.time_laws.specs.spk_nums.specs.declared.kinds.FrameKind.TheVariants as frame_kind
 use Rattle.time_laws.specs.spk_nums.specs.declared.kinds.Obj.TheVariants as obj
 use Rattle.time_laws.specs.spk_nums.specs.declared.steps.StageEnd.TheVariants as ends
@@ -33,7 +33,7 @@ use Rattle.time_laws.specs.call_stages.specs.Cores.{move_in, told_of_step}
 use Rattle.time_laws.specs.call_stages.specs.Steps.{took_at, took_count}
 use Rattle.time_laws.specs.call_stages.specs.declared.stages.Absorbed.TheVariants as told_as
 use Rattle.time_laws.specs.core_invariant.proofs.Freezing.{release_frame}
-use Rattle.flight_laws.specs.Frames.{asks_untyped}
+use Rattle.time_laws.specs.history_laws.specs.Frames.{untypes, asks_untyped}
 
 -- Whether an object is a node, and whether a frame's word says so.
 abbrev is_node_object : Obj → Bool

@@ -9,7 +9,7 @@ use Rattle.time_laws.specs.switch_invariant.proofs.ThreadWords.{first_mark, none
 use Rattle.time_laws.specs.switch_invariant.proofs.Words.{ShowsRun, shows}
 use Rattle.time_laws.specs.thread_invariant.proofs.EntryMarks.{thread_unmarked}
 use Rattle.time_laws.specs.flight.specs.Made.{cores_after, IsMade}
-use Rattle.flight_laws.specs.Threads.{IsShown, ThreadsRunApart, ThreadWordsSay}
+use Rattle.time_laws.specs.history_laws.specs.Threads.{IsShown, ThreadsRunApart, ThreadWordsSay}
 use Rattle.time_laws.specs.flight.proofs.Made.{made_stands}
 
 pub threads_apart : (setup : Setting) → IsSetting setup → (t : Trace) → IsMade setup t → ThreadsRunApart setup t

@@ -7,21 +7,21 @@ use Rattle.time_laws.specs.kernel_history.specs.Discipline.{KeepsDiscipline}
 use Rattle.time_laws.specs.kernel_history.specs.Footprint.{KeepsFootprints}
 use Rattle.time_laws.specs.kernel_history.specs.Alone.{KeepsFirst}
 use Rattle.time_laws.specs.kernel_history.specs.Moments.{WordsSayAlong}
-use Rattle.time_laws.specs.flight.specs.Made.{IsMade}
-use Rattle.flight_laws.specs.Moments.{AtEachMoment, AtEachStep, OfEachStretch}
-use Rattle.flight_laws.specs.Places.{PlacesFound, ScannedCores}
-use Rattle.flight_laws.specs.Frames.{LookedNodesStay, ReadNodesStay, CountedFramesStay, UntypedFramesAreUnused}
-use Rattle.flight_laws.specs.Counts.{CountsTell, FrozenSay}
-use Rattle.flight_laws.specs.Sums.{FrozenSums, TimeSums}
-use Rattle.flight_laws.specs.Stamps.{StampsTell}
-use Rattle.flight_laws.specs.Ready.{ReadyDecides, UnreadyRefuses}
-use Rattle.flight_laws.specs.Pages.{CachedFramesStay, CachedTillFlush, TouchesCache}
-use Rattle.flight_laws.specs.Lives.{DeadForGood, KilledStop}
-use Rattle.flight_laws.specs.Invocations.{EntersTheLiving, EntersNoneKilled}
-use Rattle.flight_laws.specs.Threads.{ThreadsRunApart, ThreadWordsSay}
+use Rattle.time_laws.specs.flight.specs.Made.{IsMade, ready_after}
+use Rattle.time_laws.specs.history_laws.specs.Moments.{AtEachMoment, AtEachStep, OfEachStretch}
+use Rattle.time_laws.specs.history_laws.specs.Places.{PlacesFound, ScannedCores}
+use Rattle.time_laws.specs.history_laws.specs.Frames.{LookedNodesStay, ReadNodesStay, CountedFramesStay, UntypedFramesAreUnused}
+use Rattle.time_laws.specs.history_laws.specs.Counts.{CountsTell, FrozenSay}
+use Rattle.time_laws.specs.history_laws.specs.Sums.{FrozenSums, TimeSums}
+use Rattle.time_laws.specs.history_laws.specs.Stamps.{StampsTell}
+use Rattle.time_laws.specs.history_laws.specs.Ready.{ReadyDecides, UnreadyRefuses}
+use Rattle.time_laws.specs.history_laws.specs.Pages.{CachedFramesStay, CachedTillFlush, TouchesCache}
+use Rattle.time_laws.specs.history_laws.specs.Lives.{DeadForGood, KilledStop}
+use Rattle.time_laws.specs.history_laws.specs.Invocations.{EntersTheLiving, EntersNoneKilled}
+use Rattle.time_laws.specs.history_laws.specs.Threads.{ThreadsRunApart, ThreadWordsSay}
 use Rattle.isolation_laws.specs.Authority.{HasAuthority}
 use Rattle.isolation_laws.specs.Worlds.{SparesWorlds, EntersWorlds, WorldsStay}
-use Rattle.time_laws.specs.Time.{TimeIsKept, TicksAreCounted, HeadsSay, OpenHeadsSay, MarkedHeadsSay, ListsSay, TestsTell}
+use Rattle.time_laws.specs.history_laws.specs.Time.{TimeIsKept, TicksAreCounted, HeadsSay, OpenHeadsSay, MarkedHeadsSay, ListsSay, TestsTell}
 
 -- The trace is the machine's, and is a legal history: its replies are those of the sequential kernel, each at a step of its call,
 -- and justified. Its calls keep within their bounds of steps, each step keeps the discipline of words and is in the footprint of its
@@ -37,8 +37,8 @@ pub record IsHistory (setup : Setting) (t : Trace) : Type 0 where
   pub words : WordsSayAlong setup t
   pub alone : KeepsFirst setup t
   -- when calls are decided: at the next step of a core that is ready, and with a refusal at one of a core that is not
-  pub ready_decides : AtEachStep (ReadyDecides setup) t
-  pub unready_refuses : AtEachStep (UnreadyRefuses setup) t
+  pub ready_decides : AtEachStep (ReadyDecides (ready_after setup)) t
+  pub unready_refuses : AtEachStep (UnreadyRefuses (ready_after setup)) t
   -- what calls have found, and what scans have shown
   pub places_found : AtEachMoment (PlacesFound setup) t
   pub looked_nodes_stay : OfEachStretch (LookedNodesStay setup) t

@@ -7,8 +7,8 @@ use Rattle.world_laws.specs.kernel_rules.specs.State.{State}
 use Rattle.kernel_history.specs.Trace.{Step, Trace, state_before}
 use Rattle.world_laws.specs.Time.{RunsAcross}
 use Rattle.isolation_laws.specs.Carried.{CarriedOutBy}
-use Rattle.isolation_laws.specs.Worlds.{WorksInside}
-use Rattle.isolation_laws.specs.Uses.{UndecidedChangeNothing, SparedPlacesStay, NoneOf, WorldsStayAlone}
+use Rattle.isolation_laws.specs.Worlds.{ComesIn, WorksInside}
+use Rattle.isolation_laws.specs.Uses.{UndecidedChangeNothing, SparedPlacesStay, UndecidedStayOut, NoneOf, WorldsStayAlone}
 
 none_some : (r : Reply) → None ≡ Some r → ⊥
 none_some r q = cc
@@ -22,6 +22,11 @@ undecided_change_nothing setup t e law none x other = elim (law x) [
 
 pub spared_places_stay : SparedPlacesStay
 spared_places_stay setup t e law w sealed out f i of = (law w sealed out).alone.place f i of
+
+pub undecided_stay_out : UndecidedStayOut
+undecided_stay_out setup t e law none w out inside =
+    let comes : ComesIn setup w t e = law w out inside in
+    none_some (reply.Ok comes.done.value) (sym none ∙ comes.done.decides)
 
 -- None of the steps is one that is of such a core.
 none_at : (P : State → ℕ → Type 0) (setup : Setting) (more since t : Trace) (e : Step) → NoneOf P setup (more ++ (e ∷ since)) t

@@ -8,7 +8,7 @@ use Rattle.world_laws.specs.authority_laws.specs.Authority.{Part, CoreIs, SamePa
 use Rattle.world_laws.specs.Worlds.{works_in, lives_at, gates, OnlyGates, IsSealed, AreApart}
 use Rattle.world_laws.specs.Time.{ticks_in, RunsAcross}
 use Rattle.isolation_laws.specs.Authority.{HasAuthority}
-use Rattle.isolation_laws.specs.Worlds.{SparesWorlds, WorksInside, WorldsStay}
+use Rattle.isolation_laws.specs.Worlds.{SparesWorlds, EntersWorlds, WorksInside, WorldsStay}
 
 -- A step that has authority and decides nothing changes no part but its core.
 abbrev pub UndecidedChangeNothing : Type 0
@@ -20,6 +20,11 @@ abbrev pub SparedPlacesStay : Type 0
 SparedPlacesStay = (setup : Setting) (t : Trace) (e : Step) → SparesWorlds setup t e
     → (w : ℕ → Bool) → IsSealed w gates (state_after setup t) → w (works_in (state_after setup t) e.core) ≡ false
     → (f i : ℕ) → w f ≡ true → (state_after setup (e ∷ t)).place f i ≡ (state_after setup t).place f i
+
+-- A step that enters worlds as the law says, and decides nothing, brings its core into no set of frames.
+abbrev pub UndecidedStayOut : Type 0
+UndecidedStayOut = (setup : Setting) (t : Trace) (e : Step) → EntersWorlds setup t e → e.decides ≡ None
+    → (w : ℕ → Bool) → w (works_in (state_after setup t) e.core) ≡ false → w (works_in (state_after setup (e ∷ t)) e.core) ≡ true → ⊥
 
 -- Of none of the steps u, made after t, this is so: of the state in which the step decides, if it does, and of its core.
 abbrev pub NoneOf : (State → ℕ → Type 0) → Setting → Trace → Trace → Type 0

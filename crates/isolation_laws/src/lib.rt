@@ -9,7 +9,7 @@
 
 ghost use Rattle.isolation_laws.specs.Authority.{StepsHaveAuthority};
 ghost use Rattle.isolation_laws.specs.Origins.{StepsPutFalling, StretchesConfine, TracesHaveChains};
-ghost use Rattle.isolation_laws.specs.Uses.{SparedPlacesStay, UndecidedChangeNothing, WorldsStayAlone};
+ghost use Rattle.isolation_laws.specs.Uses.{SparedPlacesStay, UndecidedChangeNothing, UndecidedStayOut, WorldsStayAlone};
 ghost use Rattle.isolation_laws.specs.Worlds.{StepsEnterWorlds, StepsSpareWorlds, StretchesKeepWorlds};
 
 /// In every legal trace, each part of the state that a step changes is its core itself, or its core's own by a call that is for it, or lies
@@ -66,6 +66,12 @@ pub fn undecided_change_nothing()
 #[tactic(auto, using(crate::proofs::Uses::spared_places_stay))]
 pub fn spared_places_stay()
     ensures { SparedPlacesStay }
+{}
+
+/// A step that enters worlds as the law says, and decides nothing, brings its core into no set of frames.
+#[tactic(auto, using(crate::proofs::Uses::undecided_stay_out))]
+pub fn undecided_stay_out()
+    ensures { UndecidedStayOut }
 {}
 
 /// Where worlds stay over some steps, and no core that makes one of them works inside a sealed world, it is sealed after them, and its

@@ -3,9 +3,7 @@
 //! Two cores take turns, each call whole, so the plain kernel answers the same. A round is eight calls, three of which begin a grace
 //! period and so draw from the clock.
 
-ghost use Rattle.std.specs.Prelude.{◌≡◌, ◌<◌};
 ghost use Rattle.spk_nums.specs.CallLimits.{InLimits};
-ghost use Rattle.seq_state.specs.State.{state_of};
 
 use crate::calls::{clear, copy, flush, look, make, prepare, remove};
 use core_machine::{Port, Seats};

@@ -7,7 +7,7 @@ use Rattle.core_kernel.specs.Kernel.{KernelValue, CoreSeatValue}
 use Rattle.core_kernel.specs.kernel_history.specs.BootWords.{shape_of}
 use Rattle.core_kernel.specs.kernel_history.specs.FinalWords.{Represent, word_in, end_in}
 use Rattle.core_kernel.specs.kernel_history.specs.Trace.{Trace, state_after}
-use Rattle.core_kernel.specs.flight_laws.specs.Moments.{AtEachStep, OfEachStretch}
+use Rattle.core_kernel.specs.flight_laws.specs.history_laws.specs.Moments.{AtEachStep, OfEachStretch}
 use Rattle.core_kernel.specs.flight_laws.specs.isolation_laws.specs.Authority.{HasAuthority}
 use Rattle.core_kernel.specs.flight_laws.specs.isolation_laws.specs.Carried.{CarriedOutBy}
 use Rattle.core_kernel.specs.flight_laws.specs.isolation_laws.specs.Worlds.{SparesWorlds, EntersWorlds, WorksInside, WorldsStay}

@@ -8,9 +8,9 @@
 ghost use Rattle.std.specs.Prelude.{◌≡◌, IfOk};
 ghost use Rattle.spk_nums.specs.CallLimits.{InLimits};
 ghost use Rattle.core_kernel.specs.Calls.{MakesCall};
-ghost use Rattle.core_kernel.specs.flight_laws.specs.Pages.{CachedFramesStay};
-ghost use Rattle.core_kernel.specs.flight_laws.specs.Threads.{ThreadsRunApart};
-ghost use Rattle.core_kernel.specs.flight_laws.specs.Time.{TimeIsKept};
+ghost use Rattle.core_kernel.specs.flight_laws.specs.history_laws.specs.Pages.{CachedFramesStay};
+ghost use Rattle.core_kernel.specs.flight_laws.specs.history_laws.specs.Threads.{ThreadsRunApart};
+ghost use Rattle.core_kernel.specs.flight_laws.specs.history_laws.specs.Time.{TimeIsKept};
 ghost use Rattle.seat_laws.specs.Ports.{EndsInWorlds, StaySince, TellsOfWorlds};
 
 use core_kernel::{CoreSeat, Kernel};

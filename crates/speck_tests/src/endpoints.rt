@@ -83,7 +83,7 @@ impl Gate for Once {
 
     ghost is_free = { λ _. false };
 
-    fn may_go(&self, _core: CoreNo, made: u32) -> bool {
+    fn may_go(&self, _core: CoreNo, made: u64) -> bool {
         made < 1
     }
 }

@@ -31,7 +31,7 @@ use Rattle.flight.specs.pair_invariant.proofs.ShareSteps.{marked_says}
 use Rattle.flight.specs.thread_invariant.proofs.EntryMarks.{counts_apart, holder_below}
 use Rattle.flight.specs.thread_invariant.proofs.OwnStack.{own_thread}
 use Rattle.flight.specs.Made.{cores_after, IsMade}
-use Rattle.time_laws.specs.Time.{OpenHeadsSay}
+use Rattle.history_laws.specs.Time.{OpenHeadsSay}
 use Rattle.flight.proofs.Made.{made_stands}
 
 pub node_no_tcap : (x : Frame) → IsTrue (is_node x) → is_tcap x ≡ false

@@ -19,7 +19,7 @@ use Rattle.flight.specs.pair_invariant.proofs.ShareSteps.{marked_says}
 use Rattle.flight.specs.thread_invariant.proofs.EntryMarks.{counts_apart, holder_below}
 use Rattle.flight.specs.thread_invariant.proofs.OwnStack.{own_thread}
 use Rattle.flight.specs.Made.{cores_after, IsMade}
-use Rattle.time_laws.specs.Time.{Owes, state_of_decision, MarkedHeadsSay}
+use Rattle.history_laws.specs.Time.{Owes, state_of_decision, MarkedHeadsSay}
 use Rattle.flight.proofs.Made.{made_stands}
 use Rattle.time_laws.proofs.MarkedHeads.{node_no_tcap, thread_no_tcap, same_frame}
 use Rattle.time_laws.proofs.ShareTails.{OwesFirst, OwesAt, OwesTail, OwesStage, OwesIn}

@@ -48,7 +48,7 @@ use Rattle.flight.specs.pair_invariant.proofs.ShareCalls as calls
 use Rattle.flight.specs.pair_invariant.proofs.ShareSteps.{shares_same}
 use Rattle.flight.specs.Made.{turned, MayStep, core_after, cores_after, stepping_core, IsMadeStep, IsMade}
 use Rattle.flight.specs.Theorems.{found_by}
-use Rattle.time_laws.specs.Time.{Owes, state_of_decision}
+use Rattle.history_laws.specs.Time.{Owes, state_of_decision}
 use Rattle.flight.proofs.Made.{made_stands, finds}
 use Rattle.time_laws.proofs.ShareTails.{OwesAt, OwesStage, OwesIn, OwesTook, StoresNone, LeavesNone}
 use Rattle.time_laws.proofs.ShareTails.{tail_on, landed_none, enter_none, alive_none, end_none, reading_none, scan_none}

@@ -32,7 +32,7 @@ use Rattle.flight.specs.call_stages.specs.Steps.{next_by}
 use Rattle.flight.specs.stage_thread.specs.declared.alive.Alive.{Alive}
 use Rattle.flight.specs.call_stages.specs.Steps.{read_more, took_first, took_enter, took_alive, named_one, took_found, took_end, took_read}
 use Rattle.flight.specs.call_stages.specs.Tails.{took_tail}
-use Rattle.time_laws.specs.Time.{Owes}
+use Rattle.history_laws.specs.Time.{Owes}
 
 -- The head of the first, which a call decided so in state s has still to store with the ticks less; and that of the second, with them more.
 abbrev pub OwesFirst : State → ℕ → Reply → Call → Pair → Type 0

@@ -9,7 +9,7 @@ use Rattle.flight.specs.kernel_rules.specs.Laws.{ticks}
 use Rattle.flight.specs.kernel_laws.proofs.TicksLaw.{ticks_kept}
 use Rattle.flight.specs.kernel_laws.proofs.Spending.{spending_sums}
 use Rattle.flight.specs.Made.{IsMade, cores_after}
-use Rattle.time_laws.specs.Time.{TimeIsKept, TicksAreCounted, HeadsSay, ListsSay, TellsOf, TestsTell}
+use Rattle.history_laws.specs.Time.{TimeIsKept, TicksAreCounted, HeadsSay, ListsSay, TellsOf, TestsTell}
 use Rattle.flight.proofs.Made.{made_stands}
 use Rattle.flight.specs.pair_invariant.proofs.ShareSteps.{list_plain}
 use Rattle.flight.specs.spk_nums.specs.declared.kinds.Kind.TheVariants as kind

@@ -29,5 +29,4 @@ pub use Rattle.flight.specs.thread_invariant
 pub use Rattle.flight.specs.trace_laws
 pub use Rattle.flight.specs.word_map
 pub use Rattle.flight
--- Its own.
-pub mod Time
+pub use Rattle.history_laws

@@ -1,10 +1,10 @@
-//! The law of marked heads, on which the crate's edits are tried.
+//! The law of marked heads.
 
 ghost use Rattle.std.specs.Prelude.{◌≡◌};
 ghost use Rattle.flight.specs.spk_nums.specs.Setting.{Setting, IsSetting};
 ghost use Rattle.flight.specs.kernel_history.specs.Trace.{Trace};
 ghost use Rattle.flight.specs.Made.{IsMade};
-ghost use Rattle.time_laws.specs.Time.{MarkedHeadsSay};
+ghost use Rattle.history_laws.specs.Time.{MarkedHeadsSay};
 
 /// At each moment a head that a core has marked, in a call that is decided, shows that core's mark and the budget but for the ticks that
 /// the call has still to store there.
