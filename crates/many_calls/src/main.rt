@@ -3,8 +3,8 @@
 //! Core 0 counts the copies of a capability, core 1 counts their removals, 70,000 of each: so both counts have wrapped, and
 //! the references to the frame are still one. In this folder, `rt try` runs it before any proof, and `rt run` proves and runs it.
 //!
-//! With a number it makes at least so many calls beside the plain kernel, and says of how many the replies were the same:
-//! `bench/lasts` runs it so, for 10^9 calls, of which three in eight draw from the clock.
+//! With a number it makes so many calls beside the plain kernel, in whole rounds, says of how many the replies were the same,
+//! and fails where one was not: `bench/lasts` runs it so, for 10^9 calls, of which three in eight draw from the clock.
 #![tactic(auto)]
 
 ghost use Rattle.spk_nums.specs.CallLimits.{InLimits};
@@ -120,7 +120,8 @@ fn cores(alloc: Global) -> Option<(Core, Core)> {
     Some((first, second))
 }
 
-// Makes at least so many calls beside the plain kernel, and prints of how many the replies were the same.
+// Makes so many calls beside the plain kernel, in whole rounds, and prints of how many the replies were the same; None comes where one was
+// not, where memory runs out, or where nothing can be printed.
 fn print_long<R: Print>(rt: &R, alloc: Global, calls: u64) -> Option<()> {
     let mut both = Beside::boot(alloc)?;
     let begun = both.begin(alloc);
@@ -138,7 +139,10 @@ fn print_long<R: Print>(rt: &R, alloc: Global, calls: u64) -> Option<()> {
     if same && ended {
         println!(rt; "{done} calls beside the plain kernel: each reply is the same").ok()
     } else {
-        println!(rt; "{done} calls beside the plain kernel: another reply at the end of them").ok()
+        println!(rt;
+            "{done} calls beside the plain kernel: another reply at the end of them"
+        ).ok()?;
+        None
     }
 }
 
