@@ -28,7 +28,7 @@ use Rattle.kernel_history.specs.Legal.{DecidesBy, MayDecide, IsLegal}
 use Rattle.kernel_history.specs.Order.{AreOf, MakesOne, GoesThrough, GoesUntilReady, Stretch, FollowsCores, IsIdle, Follows}
 use Rattle.kernel_history.specs.Trace.{Step, Trace, Phase, Open, phase, state_before, WasBefore}
 use Rattle.kernel_history.specs.Scenes.{two_cores, there, decides, goes, range_word, mark_word, done, named, half_named, marked_beside}
-use Rattle.kernel_history.specs.Scenes.{name_removed, other_enters, clock_raised, removed, filled, fills_again}
+use Rattle.kernel_history.specs.Scenes.{name_removed, other_enters, clock_raised, target_read, removed, filled, fills_again}
 use Rattle.kernel_history.specs.Scenes.{between, both_look, ready_to_look}
 use Rattle.kernel_history.specs.Refusals.{deciding, Unjustified, JustificationRefuses, OrderRefuses}
 use Rattle.kernel_history.proofs.Computed.{neither, none, may_follow, is_within, keeps_bounds, is_in_it, keeps_footprints}
@@ -105,6 +105,16 @@ clock_legal : IsLegal two_cores clock_raised
 unfolding two_cores named clock_raised word_of_entry
 clock_legal = (((named_legal, may_follow refl refl tt tt tt), may_follow refl refl (refl, tt) tt tt), may_follow refl refl tt tt tt)
 
+target_legal : IsLegal two_cores target_read
+unfolding two_cores target_read word_of_entry
+target_legal = (
+  (
+    (((tt, may_follow refl refl (refl, omega arith) tt tt), may_follow refl refl tt tt tt), may_follow refl refl tt tt tt),
+    may_follow refl refl tt tt tt,
+  ),
+  may_follow refl refl tt tt tt,
+)
+
 removed_legal : IsLegal two_cores removed
 unfolding two_cores removed word_of_entry
 removed_legal = (
@@ -179,6 +189,15 @@ ok_off_target : IsJustified two_cores named (deciding 0 (LoadOf (EntryAt 0 0)) d
 unfolding two_cores named
 ok_off_target reached = let inside : 5 < 6 = omega arith in false≢true (reached 5 (slot 0 0) inside)
 
+-- A `raced` for a place that core 1 finds free, as it has read it.
+
+free_read : (own : ℕ) → Some 0 ≡ Some own → 0 ≡ own
+free_read own h = cc
+
+no_race : IsJustified two_cores target_read (deciding 1 (LoadOf (EntryAt 1 20)) reply.Raced target_read) (whole_copy 0 1 20) reply.Raced → ⊥
+unfolding two_cores target_read word_of_entry
+no_race lost = let same : 0 ≡ lost.own = free_read lost.own lost.has_read in lost.changed same
+
 -- A `quiescing` for a place that was not removed at a moment of its call: it waits for no place that it asks for.
 
 again_waits : Step
@@ -206,8 +225,8 @@ unfolding two_cores range_word removed filled fills_again again_waits word_of_en
 no_waiting waits = never_removed waits.thing waits.asked waits.was_removed
 
 pub justification_refuses : JustificationRefuses
-unfolding two_cores range_word mark_word named half_named marked_beside name_removed other_enters clock_raised removed filled fills_again
-    again_waits word_of_entry entry_of_word word_of_core
+unfolding two_cores range_word mark_word named half_named marked_beside name_removed other_enters clock_raised target_read removed filled
+    fills_again again_waits word_of_entry entry_of_word word_of_core
 justification_refuses = record {
   ok_off_the_way = unjustified 0 (CompareOf (EntryAt 1 20) 0 range_word) (whole_copy 0 1 20) done half_named
       (half_legal, may_follow refl refl tt tt tt) refl refl refl (refl, (refl, refl)) ok_off;
@@ -222,6 +241,8 @@ justification_refuses = record {
       (other_legal, may_follow refl refl tt tt tt) refl refl refl (refl, tt) (λ lost. lost.at);
   raced_for_the_clock = unjustified 0 (LoadOf ClockAt) (whole_copy 0 1 20) reply.Raced clock_raised
       (clock_legal, may_follow refl refl tt tt tt) refl refl refl (refl, tt) (λ lost. lost.at);
+  raced_for_nothing = unjustified 1 (LoadOf (EntryAt 1 20)) (whole_copy 0 1 20) reply.Raced target_read
+      (target_legal, may_follow refl refl tt tt tt) refl refl refl (refl, tt) no_race;
   waits_for_nothing = unjustified 0 (LoadOf (EntryAt 1 13)) (whole_copy 0 1 13) (reply.Quiescing 1) fills_again
       (again_legal, may_follow refl refl tt tt tt) refl refl refl
       (refl, inr (inr (inl (record { is_core = omega arith; other = λ e. omega (arith, e); is_inside = refl; not_passed = refl }))))

@@ -22,7 +22,8 @@ use Rattle.kernel_history.specs.Discipline.{KeepsDiscipline}
 use Rattle.kernel_history.specs.Moments.{WordsSayAlong}
 use Rattle.kernel_history.specs.Order.{IsIdle, Follows}
 use Rattle.kernel_history.specs.Scenes.{two_cores, there, enters, goes, decides, loads, one_step, range_word, mark_word, done, retyped}
-use Rattle.kernel_history.specs.Scenes.{named, half_named, marked_beside, name_removed, other_enters, clock_raised, fills_again}
+use Rattle.kernel_history.specs.Scenes.{named, half_named, marked_beside, name_removed, other_enters, clock_raised, target_read}
+use Rattle.kernel_history.specs.Scenes.{fills_again}
 use Rattle.kernel_history.specs.Scenes.{between, both_look, ready_to_look}
 
 -- The trace is legal, on words in the footprints of its calls and within their bounds, but steps out of the discipline.
@@ -131,6 +132,8 @@ pub record JustificationRefuses : Type 0 where
   pub raced_for_a_name : Unjustified 0 (LoadOf (EntryAt 1 0)) (whole_copy 0 1 20) reply.Raced name_removed
   pub raced_for_a_core : Unjustified 0 (LoadOf (CoreAt 1)) (whole_copy 0 1 20) reply.Raced other_enters
   pub raced_for_the_clock : Unjustified 0 (LoadOf ClockAt) (whole_copy 0 1 20) reply.Raced clock_raised
+  -- a copy loses a race for its target, which it has read, and which nobody has changed since
+  pub raced_for_nothing : Unjustified 1 (LoadOf (EntryAt 1 20)) (whole_copy 0 1 20) reply.Raced target_read
   -- a copy waits for a core that entered after the place, long removed, was filled again
   pub waits_for_nothing : Unjustified 0 (LoadOf (EntryAt 1 13)) (whole_copy 0 1 13) (reply.Quiescing 1) fills_again
 

@@ -98,6 +98,10 @@ other_enters = enters 1 (call.Look 0) (goes 0 (LoadOf (CoreAt 1)) named)
 unfoldable pub clock_raised : Trace
 clock_raised = goes 1 (AddOf ClockAt 1) (enters 1 (call.Remove 1 0) (goes 0 (LoadOf ClockAt) named))
 
+-- Core 1 copies to place 20, which it has read.
+unfoldable pub target_read : Trace
+target_read = loads 1 1 20 (loads 1 1 1 (loads 1 1 0 (loads 1 0 0 (enters 1 (whole_copy 0 1 20) []))))
+
 -- Core 0 removes what place 13 holds.
 unfoldable pub removed : Trace
 removed = decides 0 (AddOf ClockAt 1) done (loads 0 1 13 (loads 0 1 1 (loads 0 0 0 (enters 0 (call.Remove 1 13) []))))
